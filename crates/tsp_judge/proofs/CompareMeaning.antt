@@ -54,7 +54,7 @@ bounded_in by instance solution certificate length bound problem type v =
     some_same : (x y : ℤ) → Some x ≡ Some y → y ≡ x
     some_same x y e = cc
 
--- plan: by what is accepted: a tour is of a TYPE whose problem has tours; no tour is a verdict on routes
+-- plan: by the solution that is accepted: a tour is of a TYPE whose problem has tours; no tour is a verdict on routes
 bounded_tour : (by : Certificate) (instance solution certificate : Fields) (length bound : ℤ) (report : List ℕ) → IsProblem instance
     → IsCertifiedVerdict by instance solution certificate (verdicts.Tour length (Some bound))
     → IsAccepted (Some (by, certificate)) None instance solution report → IsBoundedTour instance solution length bound

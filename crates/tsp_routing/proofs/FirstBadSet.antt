@@ -17,7 +17,7 @@ use Rattle.tsp_cases.specs.FamiliesOfSets.{comb_with, family_with, families_with
 use Rattle.tsp_cases.specs.GoodFamilies.{HasEachOnce}
 use Rattle.tsp_routing.specs.Cuts.{IsCutFamily}
 use Rattle.tsp_routing.specs.GoodSets.{IsGoodSet, IsFirstBadSet, AreCapacityCuts}
-use Rattle.tsp_routing.specs.states.Demands.{problem_of}
+use Rattle.tsp_routing.specs.states.Demands.{routing_by}
 use Rattle.tsp_routing.specs.states.JudgedCuts.{IsFewCrossed, AreCutNumbers}
 use Rattle.tsp_routing.specs.declared.demands.Demands.{Demands}
 use Rattle.tsp_routing.proofs.CutNeeds.{no_depot}
@@ -51,7 +51,7 @@ good_so_far demands place families crossed many have other lt = (have other zero
 
 cuts_all : (demands : Demands) (cost : ℕ → ℕ → ℤ) (crossed : List Crossings) (families : List (List (List ℕ)))
     → length crossed ≡ length families → HaveCuts demands families crossed
-    → AllByRecursion (IsCutFamily (problem_of demands cost)) (families_with crossed families)
+    → AllByRecursion (IsCutFamily (routing_by demands cost)) (families_with crossed families)
 cuts_all demands cost [] families many h = tt
 cuts_all demands cost (own ∷ crossed) [] many h = absurd (omega (arith, many))
 cuts_all demands cost (own ∷ crossed) (sets ∷ families) many h = (
@@ -60,11 +60,11 @@ cuts_all demands cost (own ∷ crossed) (sets ∷ families) many h = (
 )
 
 pub all_cuts : (demands : Demands) (families : List (List (List ℕ))) (crossed : List Crossings) → length crossed ≡ length families
-    → HaveCuts demands families crossed → (cost : ℕ → ℕ → ℤ) → AreCapacityCuts (problem_of demands cost) families crossed
+    → HaveCuts demands families crossed → (cost : ℕ → ℕ → ℤ) → AreCapacityCuts (routing_by demands cost) families crossed
 all_cuts demands families crossed many have cost = record {
   many = many;
   good = good_so_far demands (length families) families crossed many have;
-  are = All-from_recursion (IsCutFamily (problem_of demands cost)) (families_with crossed families)
+  are = All-from_recursion (IsCutFamily (routing_by demands cost)) (families_with crossed families)
       (cuts_all demands cost crossed families many have);
 }
 

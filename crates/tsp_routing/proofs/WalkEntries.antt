@@ -4,7 +4,7 @@ use Rattle.std.specs.Prelude.{◌⊎◌, ℤ, pos, ◌+ℤ◌}
 use Rattle.std.proofs.lemmas.Int.{ints}
 use Rattle.std.proofs.lemmas.Bool.{cases_eq}
 use Rattle.tsp_theory.specs.Routing.{IsCustomer}
-use Rattle.tsp_routing.specs.WalkTables.{Entry, IsAtMost, least_from, IsEntryBelowTo, IsLow, IsReal, IsStepTo, IsEntryMetTo}
+use Rattle.tsp_routing.specs.WalkTables.{WalkEntry, IsAtMost, least_from, IsEntryBelowTo, IsLow, IsReal, IsStepTo, IsEntryMetTo}
 use Rattle.tsp_routing.specs.states.Onwards.{IsChosen}
 use Rattle.tsp_routing.proofs.Places.{get_append_left, get_append_last}
 use Rattle.tsp_routing.proofs.WalkRests.{entry_low}
@@ -26,16 +26,16 @@ entry_pushed {X} C P entries own last long all here k d is high = elim (cases_eq
 
 -- ---- entries
 
-module _ (half n depot : ℕ) (w : ℕ → ℕ → ℤ) (known : ℕ → Entry) (node : ℕ) where
+module _ (half n depot : ℕ) (w : ℕ → ℕ → ℤ) (known : ℕ → WalkEntry) (node : ℕ) where
   -- at first there is the way back
-  pub back_only : (entry : Entry) → depot ≡ entry.next → entry.least ≡ w node depot
+  pub back_only : (entry : WalkEntry) → depot ≡ entry.next → entry.least ≡ w node depot
       → IsEntryBelowTo n depot w known node 0 entry
   back_only entry here is = record {
     back = (omega (arith, ints, is), λ other. absurd (other here));
     on = λ next customer other few. absurd (omega (arith, customer.0.0, few));
   }
 
-  pub below_more : (next : ℕ) (best new : Entry) → 1 ≤ next → ((key : ℕ) (z : ℤ) → IsAtMost best key z → IsAtMost new key z)
+  pub below_more : (next : ℕ) (best new : WalkEntry) → 1 ≤ next → ((key : ℕ) (z : ℤ) → IsAtMost best key z → IsAtMost new key z)
       → IsAtMost new next (w node next +ℤ least_from (known next) node)
       → IsEntryBelowTo n depot w known node (next - 1) best → IsEntryBelowTo n depot w known node next new
   below_more next best new some keeps own so_far = record {
@@ -47,7 +47,7 @@ module _ (half n depot : ℕ) (w : ℕ → ℕ → ℤ) (known : ℕ → Entry) 
     ];
   }
 
-  pub below_skip : (next : ℕ) (best : Entry) → (IsCustomer n depot next → node ≢ next → ⊥)
+  pub below_skip : (next : ℕ) (best : WalkEntry) → (IsCustomer n depot next → node ≢ next → ⊥)
       → IsEntryBelowTo n depot w known node (next - 1) best → IsEntryBelowTo n depot w known node next best
   below_skip next best none so_far = record {
     back = so_far.back;
@@ -64,11 +64,11 @@ module _ (half n depot : ℕ) (w : ℕ → ℕ → ℤ) (known : ℕ → Entry) 
       subst (λ (k : ℕ). IsStepTo half n depot w known node k value) (sym first)
       (subst (IsStepTo half n depot w known node next) (sym second) step)
 
-  pub met_first : (entry : Entry) → entry.next ≡ depot → entry.least ≡ w node depot → entry.other ≡ pos (2 * half)
+  pub met_first : (entry : WalkEntry) → entry.next ≡ depot → entry.least ≡ w node depot → entry.other ≡ pos (2 * half)
       → IsEntryMetTo half n depot w known node 0 entry
   met_first entry here is none = record { least = inl (here, is); other = inl none; tried = inl here }
 
-  pub met_skip : (next : ℕ) (best : Entry) → IsEntryMetTo half n depot w known node (next - 1) best
+  pub met_skip : (next : ℕ) (best : WalkEntry) → IsEntryMetTo half n depot w known node (next - 1) best
       → IsEntryMetTo half n depot w known node next best
   met_skip next best met = record {
     least = met.least;
@@ -79,7 +79,7 @@ module _ (half n depot : ℕ) (w : ℕ → ℕ → ℤ) (known : ℕ → Entry) 
     ];
   }
 
-  pub met_more : (next : ℕ) (weight : ℤ) (best new : Entry) → IsCustomer n depot next → node ≢ next
+  pub met_more : (next : ℕ) (weight : ℤ) (best new : WalkEntry) → IsCustomer n depot next → node ≢ next
       → weight ≡ w node next +ℤ least_from (known next) node → (IsReal half weight → IsReal half (least_from (known next) node))
       → IsChosen best next weight new → IsEntryMetTo half n depot w known node (next - 1) best
       → IsEntryMetTo half n depot w known node next new
@@ -132,8 +132,8 @@ module _ (half n depot : ℕ) (w : ℕ → ℕ → ℤ) (known : ℕ → Entry) 
         | inr le ↦ inr (omega (arith, le, same))
       ]
 
--- a load that there is no room for
-pub nowhere_low : (n depot : ℕ) (w : ℕ → ℕ → ℤ) (load : ℕ → ℕ) (left node : ℕ) (entry : Entry) → (load node ≤ left → ⊥)
+-- a load above the capacity that is left
+pub nowhere_low : (n depot : ℕ) (w : ℕ → ℕ → ℤ) (load : ℕ → ℕ) (left node : ℕ) (entry : WalkEntry) → (load node ≤ left → ⊥)
     → IsLow n depot w load left node entry
 nowhere_low n depot w load left node entry more =
     entry_low n depot w load left node (λ next. entry) entry (λ le. absurd (more le)) (λ le. absurd (more le))

@@ -9,38 +9,38 @@ use Rattle.tsp_theory.specs.Length.{sum_int_by, length_of}
 use Rattle.tsp_theory.specs.Routing.{IsCustomer}
 use Rattle.tsp_routing.specs.LeastOf.{IsLeastAmong}
 use Rattle.tsp_routing.specs.Walks.{BeginsOther, IsWalk, IsBelowWalks}
-use Rattle.tsp_routing.specs.WalkTables.{onward_weight, IsWalkRest, first_of, Entry, least_from, IsAtMost, IsEntryBelowTo, IsStartBelow, IsLow, IsReal, IsStepTo, IsEntryMetTo, IsMet, IsStartMet}
+use Rattle.tsp_routing.specs.WalkTables.{onward_weight, IsWalkRest, first_stop_of, WalkEntry, least_from, IsAtMost, IsEntryBelowTo, IsStartBelow, IsLow, IsReal, IsStepTo, IsEntryMetTo, IsMet, IsStartMet}
 use Rattle.tsp_routing.specs.states.Onwards.{AreLinks}
 
 loads_low : (load : ℕ → ℕ) (nodes : List ℕ) → pos 0 ≤ℤ sum_int_by (λ node. pos (load node)) nodes
 loads_low load [] = omega (arith, ints)
 loads_low load (x ∷ nodes) = omega (arith, ints, loads_low load nodes)
 
-not_back : (n depot node : ℕ) (rest : List ℕ) → IsCustomer n depot node → BeginsOther node rest → first_of depot rest ≢ node
+not_back : (n depot node : ℕ) (rest : List ℕ) → IsCustomer n depot node → BeginsOther node rest → first_stop_of depot rest ≢ node
 not_back n depot node [] customer other = λ same. customer.1 (sym same)
 not_back n depot node (next ∷ rest) customer other = λ same. other (sym same)
 
 -- what a walk from a node weighs on from the next one
-from_low : (entry : Entry) (from next : ℕ) (weight : ℤ) → IsAtMost entry next weight → next ≢ from → least_from entry from ≤ℤ weight
+from_low : (entry : WalkEntry) (from next : ℕ) (weight : ℤ) → IsAtMost entry next weight → next ≢ from → least_from entry from ≤ℤ weight
 from_low entry from next weight low other = elim (cases_Bool (entry.next == from)) [
   | inl t ↦ rw t (low.1 (λ same. other (same ∙ eqb-true entry.next from t)))
   | inr f ↦ rw f low.0
 ]
 
-more_than : (entry : Entry) (next : ℕ) (a b : ℤ) → IsAtMost entry next a → a ≤ℤ b → IsAtMost entry next b
+more_than : (entry : WalkEntry) (next : ℕ) (a b : ℤ) → IsAtMost entry next a → a ≤ℤ b → IsAtMost entry next b
 more_than entry next a b low le = (
   let first = low.0 in omega (arith, ints, first, le),
   λ other. let second = low.1 other in omega (arith, ints, second, le),
 )
 
 -- one entry: the rests of the walks from the next nodes are known
-pub entry_low : (n depot : ℕ) (w : ℕ → ℕ → ℤ) (load : ℕ → ℕ) (left node : ℕ) (known : ℕ → Entry) (entry : Entry)
+pub entry_low : (n depot : ℕ) (w : ℕ → ℕ → ℤ) (load : ℕ → ℕ) (left node : ℕ) (known : ℕ → WalkEntry) (entry : WalkEntry)
     → (load node ≤ left → (next : ℕ) → IsCustomer n depot next → IsLow n depot w load (left - load node) next (known next))
     → (load node ≤ left → IsEntryBelowTo n depot w known node n entry) → IsLow n depot w load left node entry
 entry_low n depot w load left node known entry lows below = λ rest is. at rest is
   where
     at : (rest : List ℕ) → IsWalkRest n depot load left node rest
-        → IsAtMost entry (first_of depot rest) (onward_weight w depot node rest)
+        → IsAtMost entry (first_stop_of depot rest) (onward_weight w depot node rest)
     at [] is =
         let fits = is.within in
         more_than entry depot (w node depot) (onward_weight w depot node []) (below (omega (arith, ints, fits))).back
@@ -51,13 +51,13 @@ entry_low n depot w load left node known entry lows below = λ rest is. at rest 
         let here : load node ≤ left = omega (arith, ints, fits, low) in
         let after = lows here next is.customers.1.0 rest
         (record { customers = is.customers.1; within = omega (arith, ints, fits, here); straight = is.straight.1 }) in
-        let on = from_low (known next) node (first_of depot rest) (onward_weight w depot next rest) after
+        let on = from_low (known next) node (first_stop_of depot rest) (onward_weight w depot next rest) after
         (not_back n depot node rest is.customers.0 is.straight.0.1) in
         more_than entry next (w node next +ℤ least_from (known next) node) (onward_weight w depot node (next ∷ rest))
         ((below here).on next is.customers.1.0 is.straight.0.0 is.customers.1.0.0.1) (omega (arith, ints, on))
 
 -- the start of a walk
-pub start_low : (n depot : ℕ) (w : ℕ → ℕ → ℤ) (load : ℕ → ℕ) (room : ℕ) (known : ℕ → Entry) (each : ℤ)
+pub start_low : (n depot : ℕ) (w : ℕ → ℕ → ℤ) (load : ℕ → ℕ) (room : ℕ) (known : ℕ → WalkEntry) (each : ℤ)
     → ((node : ℕ) → IsCustomer n depot node → IsLow n depot w load room node (known node))
     → IsStartBelow n depot w known each → IsBelowWalks n depot load room w each
 start_low n depot w load room known each low starts = λ nodes walk. at nodes walk
@@ -72,16 +72,16 @@ start_low n depot w load room known each low starts = λ nodes walk. at nodes wa
 
 -- ---- what walks have
 
-begins_at : (depot node : ℕ) (rest : List ℕ) → first_of depot rest ≢ node → BeginsOther node rest
+begins_at : (depot node : ℕ) (rest : List ℕ) → first_stop_of depot rest ≢ node → BeginsOther node rest
 begins_at depot node [] other = tt
 begins_at depot node (next ∷ rest) other = λ same. other (sym same)
 
-module _ (half n depot : ℕ) (w : ℕ → ℕ → ℤ) (load : ℕ → ℕ) (left node : ℕ) (known : ℕ → Entry)
+module _ (half n depot : ℕ) (w : ℕ → ℕ → ℤ) (load : ℕ → ℕ) (left node : ℕ) (known : ℕ → WalkEntry)
     (here : load node ≤ left) (customer : IsCustomer n depot node)
     (mets : (next : ℕ) → IsCustomer n depot next → IsMet half n depot w load (left - load node) next (known next))
     (some : 1 ≤ half) where
   from_met : (next : ℕ) → IsCustomer n depot next → IsReal half (least_from (known next) node)
-      → (rest : List ℕ) × IsWalkRest n depot load (left - load node) next rest × (first_of depot rest ≢ node)
+      → (rest : List ℕ) × IsWalkRest n depot load (left - load node) next rest × (first_stop_of depot rest ≢ node)
       × (least_from (known next) node ≡ onward_weight w depot next rest)
   from_met next other real = elim (cases_Bool ((known next).next == node)) [
     | inl t ↦
@@ -105,7 +105,7 @@ module _ (half n depot : ℕ) (w : ℕ → ℕ → ℤ) (load : ℕ → ℕ) (le
   ]
 
   step_walk : (next : ℕ) (number : ℤ) → IsStepTo half n depot w known node next number → IsReal half number
-      → (rest : List ℕ) × IsWalkRest n depot load left node rest × (first_of depot rest ≡ next)
+      → (rest : List ℕ) × IsWalkRest n depot load left node rest × (first_stop_of depot rest ≡ next)
       × (number ≡ onward_weight w depot node rest)
   step_walk next number (inl back) real = (
     [],
@@ -125,7 +125,7 @@ module _ (half n depot : ℕ) (w : ℕ → ℕ → ℤ) (load : ℕ → ℕ) (le
         (let is = on.2 in let weight = walk.3 in omega (arith, ints, is, weight)),
       )
 
-  pub entry_met : (entry : Entry) (last : ℕ) → IsEntryMetTo half n depot w known node last entry → IsMet half n depot w load left node entry
+  pub entry_met : (entry : WalkEntry) (last : ℕ) → IsEntryMetTo half n depot w known node last entry → IsMet half n depot w load left node entry
   entry_met entry last met = record {
     least = λ real. step_walk entry.next entry.least met.least real;
     other = λ real. elim met.other [
@@ -136,7 +136,7 @@ module _ (half n depot : ℕ) (w : ℕ → ℕ → ℤ) (load : ℕ → ℕ) (le
     ];
   }
 
-pub nowhere_met : (half n depot : ℕ) (w : ℕ → ℕ → ℤ) (load : ℕ → ℕ) (left node : ℕ) (entry : Entry) → 1 ≤ half
+pub nowhere_met : (half n depot : ℕ) (w : ℕ → ℕ → ℤ) (load : ℕ → ℕ) (left node : ℕ) (entry : WalkEntry) → 1 ≤ half
     → entry.least ≡ pos (2 * half)
     → entry.other ≡ pos (2 * half) → IsMet half n depot w load left node entry
 nowhere_met half n depot w load left node entry some least other = record {
@@ -145,7 +145,7 @@ nowhere_met half n depot w load left node entry some least other = record {
 }
 
 -- the least walk
-pub start_exact : (half n depot : ℕ) (w : ℕ → ℕ → ℤ) (load : ℕ → ℕ) (room : ℕ) (known : ℕ → Entry) (each : ℤ)
+pub start_exact : (half n depot : ℕ) (w : ℕ → ℕ → ℤ) (load : ℕ → ℕ) (room : ℕ) (known : ℕ → WalkEntry) (each : ℤ)
     → 1 ≤ half → IsBelowWalks n depot load room w each
     → ((node : ℕ) → IsCustomer n depot node → IsMet half n depot w load room node (known node))
     → IsStartMet half n depot w known each → IsReal half each

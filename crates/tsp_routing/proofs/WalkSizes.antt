@@ -5,9 +5,9 @@ use Rattle.std.proofs.lemmas.Int.{ints}
 use Rattle.std.proofs.Math.Nat.{suc-mul, mul-le-mul_right}
 use Rattle.tsp_format.specs.Nodes.{IsNode}
 use Rattle.tsp_format.specs.Ranges.{IsFromTo}
-use Rattle.tsp_routing.specs.WalkTables.{Entry, IsReal}
+use Rattle.tsp_routing.specs.WalkTables.{WalkEntry, IsReal}
 use Rattle.tsp_routing.specs.declared.onward.Onward.{Onward}
-use Rattle.tsp_routing.specs.states.Onwards.{entry_of, entry_at, IsNearOrFar, IsEntryNumber, IsEntrySized, IsRowSized}
+use Rattle.tsp_routing.specs.states.Onwards.{walk_entry_of, entry_at, IsNearOrFar, IsEntryNumber, IsEntrySized, IsRowSized}
 
 pub get_same : {X : Type 0} (xs : List X) (k : ℕ) (d e : X) → k < length xs → get_or xs k d ≡ get_or xs k e
 get_same [] k d e lt = absurd (omega (arith, lt))
@@ -35,7 +35,7 @@ number_up half size most z few own = (
   ],
 )
 
-pub entry_up : (half size most : ℕ) (entry : Entry) → size ≤ most → IsEntrySized half size entry → IsEntrySized half most entry
+pub entry_up : (half size most : ℕ) (entry : WalkEntry) → size ≤ most → IsEntrySized half size entry → IsEntrySized half most entry
 entry_up half size most entry few own = record {
   least = number_up half size most entry.least few own.least;
   other = number_up half size most entry.other few own.other;

@@ -28,7 +28,7 @@ routing_with n cost depot demands capacity = record {
 abbrev pub most_entries : ℕ
 most_entries = 10000000
 
--- a table of all loads up to what a route has room for has too many entries, or not
+-- a table of all loads up to the capacity of a route has too many entries, or not
 pub record HasTooManyLoads (problem : RoutingProblem) (unit : ℕ) : Type 0 where
   pub light : ℕ
   pub units : AreUnits problem unit light
@@ -52,8 +52,8 @@ pub record IsBoundFound (problem : RoutingProblem) (scale : ℤ) (unit : ℕ) (f
   pub bound : IsPlanTreeBound problem scale unit light (families_with crossed families)
       (listed_steps problem.nodes (length families) steps) found
 
--- the first bad family; where all are good, the first bad branch; where all of these are, the first bad leaf; then whether there are
--- too many loads; and else the bound
+-- the first bad family; where all are good, the first bad branch; where all of these are, the first bad leaf; then whether
+-- there are too many loads; and else the bound
 abbrev pub IsPlanVerdict : RoutingProblem → ℤ → ℕ → List (List (List ℕ)) → List Step → PlanVerdict → Type 0
 IsPlanVerdict problem scale unit families steps (verdict.BadFamily family) = IsFirstBadSet problem.nodes problem.depot families family
 IsPlanVerdict problem scale unit families steps (verdict.BadBranch branch) =

@@ -5,7 +5,7 @@ use Rattle.std.specs.Prelude.{ℕ, ◌+◌, ◌^◌}
 abbrev pub most_link : ℕ
 most_link = 1302000000000000000
 
--- what a walk has room for at the most, where a table of two nodes or more has 10,000,000 entries
+-- the most that the capacity of a walk is, in parts of units, where a table of two nodes or more has 10,000,000 entries
 abbrev pub most_room : ℕ
 most_room = 5000000
 

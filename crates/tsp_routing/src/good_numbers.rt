@@ -31,7 +31,12 @@ pub(crate) fn judge_numbers(
     if !copy_within(of_nodes, -MOST_POTENTIAL, MOST_POTENTIAL, potentials) {
         return false;
     }
-    if !copy_within(of_families, -MOST_MULTIPLIERS, MOST_MULTIPLIERS, multipliers) {
+    if !copy_within(
+        of_families,
+        -MOST_MULTIPLIERS,
+        MOST_MULTIPLIERS,
+        multipliers,
+    ) {
         return false;
     }
     sizes_total(multipliers) <= i128::from(MOST_MULTIPLIERS)

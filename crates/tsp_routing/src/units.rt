@@ -1,8 +1,8 @@
-//! Loads in units, and what a route has room for.
+//! Loads and the capacity of a route, in units.
 
 ghost use Rattle.std.specs.Prelude.{◌≡◌, ◌≤◌, ◌<◌, ◌+◌, ◌*◌, ◌/◌, ◌==◌, ◌^◌, ℕ, ℤ, if◌then◌else◌, length, pos, nat_abs, ◌≤ℤ◌, IfOk};
 ghost use Rattle.tsp_format.specs.Nodes.{IsNode};
-ghost use Rattle.tsp_routing.specs.states.Demands.{problem_of, AreDemands};
+ghost use Rattle.tsp_routing.specs.states.Demands.{routing_by, AreDemands};
 ghost use Rattle.tsp_routing.specs.Loads.{units_of, AreUnits, load_in, room_in};
 ghost use Rattle.tsp_routing.specs.states.Onwards.{load_at};
 ghost use Rattle.tsp_routing.specs.states.Units.{AreUnitLoads, light_in};
@@ -11,7 +11,7 @@ use crate::demands::Demands;
 use std::alloc::Global;
 use tsp_memory::{Refused, filled};
 
-/// The load of each node, at its place, and what a route has room for; and how many customers
+/// The load of each node, at its place, and the capacity of a route; and how many customers
 /// demand less than a unit.
 #[derive(Drop)]
 pub(crate) struct UnitLoads {
@@ -25,11 +25,7 @@ pub(crate) struct UnitLoads {
 /// # Errors
 ///
 /// Out of memory, of which it takes some for each node.
-pub(crate) fn unit_loads(
-    alloc: Global,
-    demands: &Demands,
-    unit: u64,
-) -> Result<UnitLoads, Refused>
+pub(crate) fn unit_loads(alloc: Global, demands: &Demands, unit: u64) -> Result<UnitLoads, Refused>
     requires demands { AreDemands demands.now }
     requires unit { 1 ≤ unit }
     ensures { IfOk result (λ units. AreUnitLoads demands.now unit units) }
@@ -48,7 +44,7 @@ pub(crate) fn unit_loads(
 fn count_light(demands: &Demands, unit: u64) -> u64
     requires demands { AreDemands demands.now }
     requires unit { 1 ≤ unit }
-    ensures units { (cost : ℕ → ℕ → ℤ) → AreUnits (problem_of demands.now cost) unit result }
+    ensures units { (cost : ℕ → ℕ → ℤ) → AreUnits (routing_by demands.now cost) unit result }
     ensures few { result ≤ 100000 }
 {
     let mut count = 0;
@@ -63,7 +59,7 @@ fn light(demands: &Demands, unit: u64, node: u32) -> u64
     requires demands { AreDemands demands.now }
     requires unit { 1 ≤ unit }
     requires node { IsNode demands.now.nodes node }
-    ensures value { (cost : ℕ → ℕ → ℤ) → pos result ≡ light_in (problem_of demands.now cost) unit node }
+    ensures value { (cost : ℕ → ℕ → ℤ) → pos result ≡ light_in (routing_by demands.now cost) unit node }
     ensures few { result ≤ 1 }
 {
     if node == demands.depot {
@@ -80,13 +76,13 @@ fn whole_units(demands: &Demands, unit: u64, node: u32) -> u64
     requires demands { AreDemands demands.now }
     requires unit { 1 ≤ unit }
     requires node { IsNode demands.now.nodes node }
-    ensures value { (cost : ℕ → ℕ → ℤ) → result ≡ units_of (problem_of demands.now cost) unit node }
+    ensures value { (cost : ℕ → ℕ → ℤ) → result ≡ units_of (routing_by demands.now cost) unit node }
     ensures size { result ≤ 1000000000 }
 {
     demands.demand(node) as u64 / unit
 }
 
-/// The load of so many units, of which each has some parts: one part where there is no unit.
+/// The load of this number of units, of which each has some parts: one part where there is no unit.
 fn load_of(units: u64, parts: u64) -> u64
     requires units { units ≤ 1000000000 }
     requires parts { parts ≤ 100001 }

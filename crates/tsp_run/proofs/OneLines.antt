@@ -71,6 +71,7 @@ of_field fields.OtherKey = one _ refl
 of_field fields.DimensionKey = one _ refl
 of_field fields.CapacityKey = one _ refl
 of_field fields.ScaleKey = one _ refl
+of_field fields.LoadUnitKey = one _ refl
 of_field fields.EdgeWeightTypeKey = one _ refl
 of_field fields.EdgeWeightFormatKey = one _ refl
 of_field fields.NodeCoordTypeKey = one _ refl

@@ -5,7 +5,7 @@ use Rattle.std.specs.Global.{Vec}
 use Rattle.tsp_format.specs.Nodes.{IsNode}
 use Rattle.tsp_format.specs.Ranges.{IsFromTo}
 use Rattle.tsp_theory.specs.Routing.{IsCustomer}
-use Rattle.tsp_routing.specs.WalkTables.{Entry, IsLow, IsMet}
+use Rattle.tsp_routing.specs.WalkTables.{WalkEntry, IsLow, IsMet}
 use Rattle.tsp_routing.specs.declared.onward.Onward.{Onward}
 
 abbrev pub load_at : List ℕ → ℕ → ℕ
@@ -16,11 +16,11 @@ abbrev pub AreLinks : ℕ → ℕ → (ℕ → ℕ → ℤ) → Type 0
 AreLinks link n w = (i j : ℕ) → IsNode n i → IsNode n j → IsFromTo (neg_ℤ (pos link)) (pos link) (w i j)
 
 -- an entry by the values of its sums; that of a node
-abbrev pub entry_of : {S : Type 0} → (S → ℤ) → Onward S → Entry
-entry_of value onward = record { least = value onward.least; next = onward.next; other = value onward.other }
+abbrev pub walk_entry_of : {S : Type 0} → (S → ℤ) → Onward S → WalkEntry
+walk_entry_of value onward = record { least = value onward.least; next = onward.next; other = value onward.other }
 
-abbrev pub entry_at : {S : Type 0} → (S → ℤ) → List (Onward S) → Onward S → ℕ → Entry
-entry_at value row default node = entry_of value (slice_index_or row node default)
+abbrev pub entry_at : {S : Type 0} → (S → ℤ) → List (Onward S) → Onward S → ℕ → WalkEntry
+entry_at value row default node = walk_entry_of value (slice_index_or row node default)
 
 -- how large the numbers of an entry are: those of no walk are far from those of walks
 abbrev pub IsNearOrFar : ℕ → ℕ → ℤ → Type 0
@@ -30,13 +30,13 @@ abbrev pub IsEntryNumber : ℕ → ℕ → ℤ → Type 0
 IsEntryNumber half size number =
     (neg_ℤ (pos size) ≤ℤ number) × (number ≤ℤ pos (2 * half)) × IsNearOrFar half size number
 
-pub record IsEntrySized (half size : ℕ) (entry : Entry) : Type 0 where
+pub record IsEntrySized (half size : ℕ) (entry : WalkEntry) : Type 0 where
   pub least : IsEntryNumber half size entry.least
   pub other : IsEntryNumber half size entry.other
 
 pub record IsRowSized {S : Type 0} (value : S → ℤ) (half nodes size : ℕ) (row : List (Onward S)) : Type 0 where
   pub places : length row ≡ nodes + 1
-  pub sizes : All (λ onward. IsEntrySized half size (entry_of value onward)) row
+  pub sizes : All (λ onward. IsEntrySized half size (walk_entry_of value onward)) row
 
 abbrev pub AreRowsSized : {S : Type 0} → (S → ℤ) → ℕ → ℕ → ℕ → List (Vec (Onward S)) → Type 0
 AreRowsSized {S} value half link nodes table = (load : ℕ) (default : Vec (Onward S)) → load < length table
@@ -61,7 +61,7 @@ AreRowsMet {S} value half n depot w load table = (left : ℕ) (default : Vec (On
     → IsRowMet value half n depot w load left (slice_index_or table left default).items
 
 -- an entry with one next node more: it comes first, or second, or not at all
-abbrev pub IsChosen : Entry → ℕ → ℤ → Entry → Type 0
+abbrev pub IsChosen : WalkEntry → ℕ → ℤ → WalkEntry → Type 0
 IsChosen best next weight new =
     ((new.least ≡ weight) × (new.next ≡ next) × (new.other ≡ best.least))
     ⊎ (((new.least ≡ best.least) × (new.next ≡ best.next) × (new.other ≡ weight))

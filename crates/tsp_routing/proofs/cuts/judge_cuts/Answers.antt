@@ -18,6 +18,8 @@ use Rattle.tsp_routing.specs.states.JudgedCuts.{IsFewCrossed, AreCutNumbers}
 use Rattle.tsp_routing.proofs.FirstBadSet.{HaveCuts, cuts_more, good_so_far, all_cuts, first_bad, lone_numbers, lone_hold, all_lone, all_once, few_sets}
 use Rattle.tsp_routing.proofs.cuts.judge_cuts.Goals as goal
 
+-- plan: the families so far are good ones (`good_so_far`, `cuts_more`); the first other one is the first bad one (`first_bad`),
+-- and at the end all are good (`all_cuts`)
 pub families-preserved : goal.families-preserved
 families-preserved c =
     let h = c.families.invariant in
@@ -92,6 +94,9 @@ returns c =
     let so_far = c.families.invariant.many in
     let many : length c.families.crossed.items ≡ length c.args.lent.now =
     omega (arith, so_far, c.families-test.false, c.families.auto.number-end) in
-    let long = length-map c.args.lent.now (λ (f : Vec (Vec ℕ)). lists_of f.items) in
-    (refl, refl, c.families.invariant.few,
-    all_cuts c.args.demands.now (families_in c.args.lent.now) c.families.crossed.items (omega (arith, many, long)) c.families.invariant.have)
+    let long = length-map c.args.lent.now (λ (f : Vec (Vec ℕ)). lists_of f.items) in (
+      refl,
+      refl,
+      c.families.invariant.few,
+      all_cuts c.args.demands.now (families_in c.args.lent.now) c.families.crossed.items (omega (arith, many, long)) c.families.invariant.have,
+    )

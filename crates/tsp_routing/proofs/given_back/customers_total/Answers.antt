@@ -10,6 +10,7 @@ use Rattle.tsp_routing.specs.states.Demands.{of_others}
 use Rattle.tsp_routing.proofs.CutNeeds.{others_sum, nodes_more, nodes_none}
 use Rattle.tsp_routing.proofs.given_back.customers_total.Goals as goal
 
+-- plan: the sum so far grows by one node (`nodes_more`), and that of all nodes but the depot is the result (`others_sum`)
 pub nodes-init : goal.nodes-init
 nodes-init c = record {
   size = (omega (arith, ints), omega (arith, ints));

@@ -12,6 +12,8 @@ use Rattle.tsp_routing.proofs.OwnLimits.{low_own, high_own}
 use Rattle.tsp_routing.proofs.SetProducts.{below_zero, from_zero}
 use Rattle.tsp_routing.proofs.given_back.given_by.Goals as goal
 
+-- plan: a multiplier below 0 takes the upper limit (`below_zero`, `high_own`), another one the lower limit (`from_zero`,
+-- `low_own`)
 pub returns-then-multiplier-lt0-clause-value : goal.returns-then-multiplier-lt0-clause-value
 returns-then-multiplier-lt0-clause-value c =
     let case : List Decision = decisions_in c.args.case.now in

@@ -48,6 +48,7 @@ computed c =
     (fits_signed_from_abs w128 (to_z w128 c.families.sum-bits +ℤ c.given_by-sum.result)
     (let less = size_of (2 ^ 92) (to_z w128 c.families.sum-bits +ℤ c.given_by-sum.result) size in omega (arith, less)))
 
+-- plan: the sum grows by one family, and stays as small as the multipliers together are (`sizes_low`, `sizes_left`)
 pub overflow_add-sum : goal.overflow_add-sum
 overflow_add-sum c =
     let whole : FitsSigned w128 c.given_by-sum.result = search rules in

@@ -8,6 +8,7 @@ use Rattle.tsp_routing.specs.GoodLeaves.{most_of_multipliers}
 use Rattle.tsp_routing.proofs.MultiplierSizes.{each_small}
 use Rattle.tsp_routing.proofs.good_numbers.judge_numbers.Goals as goal
 
+-- plan: where the sizes of the multipliers sum to no more than is allowed, each is small (`each_small`)
 pub returns-then-not-copy_within-2-clause-good : goal.returns-then-not-copy_within-2-clause-good
 returns-then-not-copy_within-2-clause-good c = (
   λ none. absurd (both_ways false refl none),

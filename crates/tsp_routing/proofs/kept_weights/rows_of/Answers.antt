@@ -7,6 +7,7 @@ use Rattle.tsp_routing.specs.states.KeptWeights.{AreFirstRows}
 use Rattle.tsp_routing.proofs.WeightRows.{weights_more}
 use Rattle.tsp_routing.proofs.kept_weights.rows_of.Goals as goal
 
+-- plan: a row more has the weights between its node and all others (`weights_more`)
 pub rows-preserved : goal.rows-preserved
 rows-preserved g c =
     let s = c.args.weights.now in

@@ -11,6 +11,7 @@ use Rattle.tsp_routing.proofs.WalkSizes.{links_more, real_sized}
 use Rattle.tsp_routing.proofs.WalkRests.{start_low, start_exact}
 use Rattle.tsp_routing.proofs.least_walk.start.Goals as goal
 
+-- plan: the least over the first customers is below each walk (`start_low`) and is the weight of one (`start_exact`)
 pub start_by-requires-clause-links : goal.start_by-requires-clause-links
 start_by-requires-clause-links g c = λ next there.
     let links = IsFromTo (neg_ℤ (pos g.S.Sum.link)) (pos g.S.Sum.link) in
@@ -29,9 +30,11 @@ start_by-requires-clause-sizes g c =
     let left : ℕ = length c.args.table.now - 1 in
     let lt : left < length c.args.table.now = omega (arith, c.requires.some) in
     let is : c.as_slice.result.now ≡ (get_or c.args.table.now left c.index-table-table.result).items =
-    c.as_slice.ensures.value ∙ ap (λ (v : Vec (Onward g.row.S.Denot)). v.items) c.index-table-table.is in
-    ((left + 1) * link, g.met.S.Sum.fits (left + 1) (omega (arith, lt, c.requires.few)),
-    subst (IsRowSized value half n ((left + 1) * link)) (sym is) (c.requires.sizes left c.index-table-table.result lt))
+    c.as_slice.ensures.value ∙ ap (λ (v : Vec (Onward g.row.S.Denot)). v.items) c.index-table-table.is in (
+      (left + 1) * link,
+      g.met.S.Sum.fits (left + 1) (omega (arith, lt, c.requires.few)),
+      subst (IsRowSized value half n ((left + 1) * link)) (sym is) (c.requires.sizes left c.index-table-table.result lt),
+    )
 
 pub returns-clause-below : goal.returns-clause-below
 returns-clause-below g c = λ lows.

@@ -7,6 +7,7 @@ use Rattle.tsp_theory.specs.states.Nearest.{least_at}
 use Rattle.tsp_routing.specs.states.Onwards.{entry_at}
 use Rattle.tsp_routing.proofs.least_walk.start_by.Goals as goal
 
+-- plan: one first customer more, and the number is at most its walks' too
 pub nodes-preserved : goal.nodes-preserved
 nodes-preserved g c =
     let value = g.S.Sum.value in

@@ -7,6 +7,7 @@ use Rattle.tsp_routing.specs.declared.onward.Onward.{Onward}
 use Rattle.tsp_routing.proofs.WalkSizes.{get_same, known_sized, sum_low, sum_near, sum_real}
 use Rattle.tsp_routing.proofs.least_walk.start_with.Goals as goal
 
+-- plan: the sum of a link and an entry stays in its range (`sum_near`, `sum_real`), and is met where it is the lower one
 pub returns-then-is_below-clause-met : goal.returns-then-is_below-clause-met
 returns-then-is_below-clause-met g c = λ w default row so_far.
     let value = g.S.Sum.value in
@@ -39,8 +40,7 @@ returns-then-is_below-clause-size g c = λ size fits rows best.
     let sized = known_sized value g.S.Sum.half c.args.walks.now.nodes size c.args.next c.args.known.now own c.requires.next rows in
     let half : ℕ = g.S.Sum.half in
     let link : ℕ = g.S.Sum.link in
-    let a : ℤ = least_at c.args.row.now c.args.next in
-    (
+    let a : ℤ = least_at c.args.row.now c.args.next in (
       sum_low half link size a b (value c.plus-weight.result) is c.requires.link sized.least,
       omega (arith, ints, best.1, c.is_below.ensures, c.if-is_below.true),
       sum_near half link size a b (value c.plus-weight.result) is c.requires.link sized.least,

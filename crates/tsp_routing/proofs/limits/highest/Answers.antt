@@ -11,15 +11,16 @@ use Rattle.tsp_routing.proofs.limits.highest.Goals as goal
 abbrev zero_limit : Decision
 zero_limit = record { pair = (0, 0); taken = false }
 
+-- plan: a decision more is the top of the stack (`stack_more`), and may lower the limit
 pub limits-preserved : goal.limits-preserved
 limits-preserved c =
     let all : List Decision = c.args.decisions.now in
     let index : ℕ = c.limits.limit-index in
     record {
       value = c.lowered-high.ensures.value ∙ ap (λ z. high_of c.args.place (get_or all index zero_limit ∷ []) z) c.limits.invariant.value
-    ∙ ap (λ (xs : List Decision). high_of c.args.place xs c.args.own)
-    (sym (ap stack_of (take_more all index zero_limit c.limits-test.true)
-    ∙ stack_more (take index all) (get_or all index zero_limit)));
+          ∙ ap (λ (xs : List Decision). high_of c.args.place xs c.args.own)
+          (sym (ap stack_of (take_more all index zero_limit c.limits-test.true)
+          ∙ stack_more (take index all) (get_or all index zero_limit)));
       most = omega (arith, c.lowered-high.ensures.most, c.limits.invariant.most);
     }
 

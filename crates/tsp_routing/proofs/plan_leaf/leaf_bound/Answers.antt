@@ -14,10 +14,11 @@ use Rattle.tsp_cases.specs.states.OpenCases.{decisions_in}
 use Rattle.tsp_routing.specs.PlanBounds.{limits_total, IsPlanBound}
 use Rattle.tsp_routing.specs.PlanLinks.{sum_of_customers}
 use Rattle.tsp_routing.specs.PlanTrees.{IsLeastWalk}
-use Rattle.tsp_routing.specs.states.Demands.{problem_of}
+use Rattle.tsp_routing.specs.states.Demands.{routing_by}
 use Rattle.tsp_routing.proofs.SetProducts.{numbers_of_families}
 use Rattle.tsp_routing.proofs.plan_leaf.leaf_bound.Goals as goal
 
+-- plan: the sum given back is in its range, so the bound is that of the definition (`numbers_of_families`)
 pub invariant_of-sum : goal.invariant_of-sum
 invariant_of-sum g c =
     let leaf = c.args.leaf.now in
@@ -34,9 +35,9 @@ invariant_of-sum g c =
       some = omega (arith, some);
       few_nodes = s.are.few;
       back_size = (
-          omega (arith, ints, limits.0, limits.1, customers.0, customers.1),
-          omega (arith, ints, limits.0, limits.1, customers.0, customers.1),
-        );
+        omega (arith, ints, limits.0, limits.1, customers.0, customers.1),
+        omega (arith, ints, limits.0, limits.1, customers.0, customers.1),
+      );
       own_size = (omega (arith, ints, own.0, own.1), omega (arith, ints, own.0, own.1));
       few = c.fewest.ensures.size;
     }
@@ -47,7 +48,7 @@ returns-clause-found g c =
     let s = leaf.setting.now in
     let n : ℕ = s.demands.nodes in
     let cost = g.C.Costs.at s.costs.now in
-    let problem = problem_of s.demands cost in
+    let problem = routing_by s.demands cost in
     let lists : List (List (List ℕ)) = lent_in s.families.now in
     let ps : List ℤ = leaf.potentials.now in
     let ms : List ℤ = leaf.multipliers.now in

@@ -17,6 +17,7 @@ use Rattle.tsp_routing.specs.GoodLeaves.{most_of_multipliers}
 use Rattle.tsp_routing.proofs.MultiplierSizes.{each_small}
 use Rattle.tsp_routing.proofs.plan_leaf.moved_of.Goals as goal
 
+-- plan: potentials less the multipliers of the sets of each node (`moved_from_ends`), whose sums don't wrap (`wrapped_by`)
 pub invariant_of-multiplied : goal.invariant_of-multiplied
 invariant_of-multiplied g c =
     let each = All-from_recursion (IsFromTo (neg_ℤ (pos most_of_multipliers)) (pos most_of_multipliers)) c.args.multipliers.now

@@ -9,6 +9,7 @@ use Rattle.tsp_routing.specs.PlanVerdicts.{routing_with}
 use Rattle.tsp_routing.proofs.PlanJudging.{verdict_bounds, no_demand_below}
 use Rattle.tsp_routing.proofs.verdict.judge_plans.Goals as goal
 
+-- plan: a verdict with a bound says that no plan is shorter (`verdict_bounds`), since no demand is below 0 (`no_demand_below`)
 pub returns-clause-plans : goal.returns-clause-plans
 returns-clause-plans g c =
     let tree = c.args.tree.now in

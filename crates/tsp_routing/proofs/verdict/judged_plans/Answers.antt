@@ -24,13 +24,15 @@ use Rattle.tsp_routing.specs.GoodSets.{AreCapacityCuts}
 use Rattle.tsp_routing.specs.Loads.{AreUnits}
 use Rattle.tsp_routing.specs.PlanVerdicts.{routing_with}
 use Rattle.tsp_routing.specs.declared.demands.Demands.{Demands}
-use Rattle.tsp_routing.specs.states.Demands.{problem_of}
+use Rattle.tsp_routing.specs.states.Demands.{routing_by}
 use Rattle.tsp_routing.specs.states.JudgedCuts.{IsFewCrossed, AreCutsJudged}
 use Rattle.tsp_routing.specs.states.PlanRooms.{IsLeafVerdict}
 use Rattle.tsp_routing.specs.states.Trees.{IsPlanStep}
 use Rattle.tsp_routing.proofs.PlanJudging.{single_sets, steps_on_families, verdict_of_leaves}
 use Rattle.tsp_routing.proofs.verdict.judged_plans.Goals as goal
 
+-- plan: good families are single sets (`single_sets`) and good branches are on them (`steps_on_families`), so the verdict is
+-- that of the leaves (`verdict_of_leaves`)
 pub returns-in-Some-clause-verdict : goal.returns-in-Some-clause-verdict
 returns-in-Some-clause-verdict g c =
     let tree = c.args.tree.now in
@@ -41,11 +43,13 @@ returns-in-Some-clause-verdict g c =
     let demands : Demands = record { nodes = c.count-nodes.result; depot = tree.depot; demands = tree.demands; capacity = to_z w64 (of_z w64 tree.capacity) } in
     let is = subst (AreCutsJudged demands tree.families.now) c.in-Good.is c.in_ok-families.ensures in
     let count : c.count-nodes.result ≡ n = c.count-nodes.ensures.value in
-    let problem_is : problem_of demands cost ≡ routing_with n cost tree.depot tree.demands.now tree.capacity =
+    let problem_is : routing_by demands cost ≡ routing_with n cost tree.depot tree.demands.now tree.capacity =
     ap₂ (λ (k : ℕ) (z : ℤ). routing_with k cost tree.depot tree.demands.now z) count (to_z-of_z w64 tree.capacity capable) in
     let long = length-map tree.families.now (λ (f : Vec (Vec ℕ)). lists_of f.items) in (
-      (c.in-Good.crossed.items,
-          subst (λ (p : RoutingProblem). AreCapacityCuts p (families_in tree.families.now) c.in-Good.crossed.items) problem_is (is.3 cost)),
+      (
+        c.in-Good.crossed.items,
+        subst (λ (p : RoutingProblem). AreCapacityCuts p (families_in tree.families.now) c.in-Good.crossed.items) problem_is (is.3 cost),
+      ),
       subst₂ (λ (least most : ℕ). IsFirstBadBranch least most steps c.in-Some.branch) (ap (λ (k : ℕ). k + 1) count)
           (ap₂ (λ (k m : ℕ). k + m) count (sym long)) c.in-Some.ensures,
     )
@@ -103,8 +107,8 @@ leaf_verdict-requires-clause-steps g c =
     let many : length c.deref.result.now ≡ length tree.families.now =
     ap (λ (xs : List Crossings). length xs) c.deref.ensures.value ∙ cuts.many ∙ long in
     ∥∥₁_elim tree.steps_are (hlevel props) (λ each. ∣ subst (λ (k : ℕ). All (IsStepOf (c.count-nodes.result + k)) steps) (sym many)
-        (steps_on_families c.count-nodes.result (length tree.families.now) steps
-        (subst (λ (k : ℕ). All (IsPlanStep k) steps) (sym count) each) c.in_default.ensures.1) ∣₁)
+    (steps_on_families c.count-nodes.result (length tree.families.now) steps
+    (subst (λ (k : ℕ). All (IsPlanStep k) steps) (sym count) each) c.in_default.ensures.1) ∣₁)
 
 pub returns-clause-verdict : goal.returns-clause-verdict
 returns-clause-verdict g c =
@@ -120,7 +124,7 @@ returns-clause-verdict g c =
     let is = subst (AreCutsJudged demands tree.families.now) c.in-Good.is c.in_ok-families.ensures in
     let count : c.count-nodes.result ≡ n = c.count-nodes.ensures.value in
     let problem : RoutingProblem = routing_with n cost tree.depot tree.demands.now tree.capacity in
-    let problem_is : problem_of demands cost ≡ problem =
+    let problem_is : routing_by demands cost ≡ problem =
     ap₂ (λ (k : ℕ) (z : ℤ). routing_with k cost tree.depot tree.demands.now z) count (to_z-of_z w64 tree.capacity capable) in
     let scale_is : to_z w64 (of_z w64 tree.scale) ≡ tree.scale = to_z-of_z w64 tree.scale scalable in
     let unit_is : nat_abs (to_z w64 (of_z w64 tree.unit)) ≡ nat_abs tree.unit = ap nat_abs (to_z-of_z w64 tree.unit unitable) in

@@ -8,6 +8,7 @@ use Rattle.tsp_cases.specs.states.Combed.{set_weight}
 use Rattle.tsp_routing.specs.Weights.{most_link}
 use Rattle.tsp_routing.proofs.kept_weights.KeptWeights.are_narrow.Goals as goal
 
+-- plan: a row more is narrow, or the answer is no
 pub nodes-preserved : goal.nodes-preserved
 nodes-preserved g c =
     let s = c.args.self.now.weights.now in

@@ -16,6 +16,8 @@ use Rattle.tsp_cases.proofs.SetAlgebra.{places_inside}
 use Rattle.tsp_routing.proofs.SignedValues.{signed_at}
 use Rattle.tsp_routing.proofs.leaf_weights.LeafWeights.fill_row.Goals as goal
 
+-- plan: a row that is kept, with the multipliers of the sets of its node, is the row of the weights of the leaf
+-- (`signed_at`)
 pub add_sets-requires-clause-places : goal.add_sets-requires-clause-places
 add_sets-requires-clause-places g c =
     let p = c.args.self.now in

@@ -17,6 +17,7 @@ use Rattle.tsp_routing.proofs.MultiplierSizes.{each_small}
 use Rattle.tsp_routing.proofs.SignedSets.{signed_crossings}
 use Rattle.tsp_routing.proofs.leaf_weights.LeafWeights.of.Goals as goal
 
+-- plan: sets tell which families a link crosses (`sets_tell_combs`), also by multipliers below 0 (`signed_crossings`)
 pub invariant_of-result : goal.invariant_of-result
 invariant_of-result g c =
     let leaf = c.args.leaf.now in
