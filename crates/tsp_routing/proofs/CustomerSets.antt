@@ -1,23 +1,19 @@
 -- Sets of customers as families.
-use Rattle.std.proofs.Common.{◌≡◌, ◌≢◌, ℕ, zero, suc, ◌+◌, ◌≤◌, ◌<◌, ◌==◌, Bool, true, false, List, [], ◌∷◌, length, map, get_or, refl, sym, ap, ◌∙◌, subst, arith, inl, inr}
+use Rattle.std.proofs.Common.{◌≡◌, ◌≢◌, ℕ, zero, suc, ◌+◌, ◌≤◌, ◌<◌, ◌==◌, Bool, true, false, List, [], ◌∷◌, length, get_or, refl, sym, ap, ◌∙◌, subst, arith, inl, inr}
 use Rattle.std.specs.Prelude.{ℤ, pos, if◌then◌else◌, ◌≤ℤ◌}
 use Rattle.std.specs.Global.{Vec}
-use Rattle.std.specs.List.{All, AllPairs, AllByRecursion, range_with_len}
+use Rattle.std.specs.List.{All, range_with_len}
 use Rattle.std.proofs.lemmas.Bool.{cases_Bool, both_ways, or_left, or_right, eq-eqb}
 use Rattle.std.proofs.lemmas.Int.{ints}
 use Rattle.std.proofs.lemmas.List.Elements.{recursion_from_All}
 use Rattle.tsp_format.specs.Nodes.{IsNode, nodes_to}
 use Rattle.tsp_theory.specs.Length.{sum_int_by}
-use Rattle.tsp_theory.specs.Routing.{RoutingProblem, IsCustomer}
+use Rattle.tsp_theory.specs.Routing.{IsCustomer}
 use Rattle.tsp_families.specs.Crossed.{has}
 use Rattle.tsp_families.specs.FamilySets.{AreSetsOf, lists_of}
-use Rattle.tsp_families.specs.declared.family.Crossings.{Crossings}
-use Rattle.tsp_cases.specs.Families.{IsFamily}
-use Rattle.tsp_cases.specs.FamiliesOfSets.{family_with, families_with}
 use Rattle.tsp_cases.specs.GoodFamilies.{HasEachOnce}
-use Rattle.tsp_routing.specs.Cuts.{IsCutFamily}
 use Rattle.tsp_routing.specs.GoodSets.{IsGoodSet}
-use Rattle.tsp_routing.proofs.CutNeeds.{Apart, apart_from_pairs, held, no_depot, nodes_of}
+use Rattle.tsp_routing.proofs.CutNeeds.{apart_from_pairs, held, no_depot}
 
 -- ---- how many customers a set has
 

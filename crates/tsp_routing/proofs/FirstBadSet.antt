@@ -1,6 +1,6 @@
 -- Sets of customers one after the other: their numbers, and the first family that isn't one.
-use Rattle.std.proofs.Common.{◌≡◌, ◌≢◌, ℕ, zero, suc, ◌+◌, ◌<◌, ◌*◌, ◌^◌, List, [], ◌∷◌, ◌++◌, length, get_or, inl, inr, refl, ap, sym, subst, arith, length-append}
-use Rattle.std.specs.Prelude.{Some, ℤ, true, false, replicate, ◌||◌, ◌==◌}
+use Rattle.std.proofs.Common.{◌≡◌, ◌≢◌, ℕ, zero, suc, ◌+◌, ◌<◌, ◌^◌, List, [], ◌∷◌, ◌++◌, length, get_or, inl, inr, refl, ap, sym, subst, arith, length-append}
+use Rattle.std.specs.Prelude.{Some, ℤ, replicate, ◌==◌}
 use Rattle.std.specs.List.{All, AllByRecursion}
 use Rattle.std.proofs.lemmas.Bool.{cases_lt, eq-eqb, or_left}
 use Rattle.std.proofs.lemmas.List.{get_or_append_left, get_or_push, get_or_default, get_or-map, length-map}
@@ -11,14 +11,13 @@ use Rattle.tsp_families.specs.Crossed.{has}
 use Rattle.std.specs.Global.{Vec}
 use Rattle.tsp_families.specs.FamilySets.{lists_of, families_in}
 use Rattle.tsp_families.specs.declared.family.Crossings.{Crossings}
-use Rattle.tsp_cases.specs.Combs.{comb_of}
-use Rattle.tsp_cases.specs.Families.{IsFamily, IsLoneSet}
-use Rattle.tsp_cases.specs.FamiliesOfSets.{comb_with, family_with, families_with}
+use Rattle.tsp_cases.specs.Families.{IsFamily}
+use Rattle.tsp_cases.specs.FamiliesOfSets.{family_with, families_with}
 use Rattle.tsp_cases.specs.GoodFamilies.{HasEachOnce}
 use Rattle.tsp_routing.specs.Cuts.{IsCutFamily}
 use Rattle.tsp_routing.specs.GoodSets.{IsGoodSet, IsFirstBadSet, AreCapacityCuts}
-use Rattle.tsp_routing.specs.states.Demands.{routing_by}
-use Rattle.tsp_routing.specs.states.JudgedCuts.{IsFewCrossed, AreCutNumbers}
+use Rattle.tsp_routing.specs.states.Demands.{loads_problem}
+use Rattle.tsp_routing.specs.states.JudgedCuts.{AreCutNumbers}
 use Rattle.tsp_routing.specs.declared.demands.Demands.{Demands}
 use Rattle.tsp_routing.proofs.CutNeeds.{no_depot}
 
@@ -51,7 +50,7 @@ good_so_far demands place families crossed many have other lt = (have other zero
 
 cuts_all : (demands : Demands) (cost : ℕ → ℕ → ℤ) (crossed : List Crossings) (families : List (List (List ℕ)))
     → length crossed ≡ length families → HaveCuts demands families crossed
-    → AllByRecursion (IsCutFamily (routing_by demands cost)) (families_with crossed families)
+    → AllByRecursion (IsCutFamily (loads_problem demands cost)) (families_with crossed families)
 cuts_all demands cost [] families many h = tt
 cuts_all demands cost (own ∷ crossed) [] many h = absurd (omega (arith, many))
 cuts_all demands cost (own ∷ crossed) (sets ∷ families) many h = (
@@ -60,11 +59,11 @@ cuts_all demands cost (own ∷ crossed) (sets ∷ families) many h = (
 )
 
 pub all_cuts : (demands : Demands) (families : List (List (List ℕ))) (crossed : List Crossings) → length crossed ≡ length families
-    → HaveCuts demands families crossed → (cost : ℕ → ℕ → ℤ) → AreCapacityCuts (routing_by demands cost) families crossed
+    → HaveCuts demands families crossed → (cost : ℕ → ℕ → ℤ) → AreCapacityCuts (loads_problem demands cost) families crossed
 all_cuts demands families crossed many have cost = record {
   many = many;
   good = good_so_far demands (length families) families crossed many have;
-  are = All-from_recursion (IsCutFamily (routing_by demands cost)) (families_with crossed families)
+  are = All-from_recursion (IsCutFamily (loads_problem demands cost)) (families_with crossed families)
       (cuts_all demands cost crossed families many have);
 }
 

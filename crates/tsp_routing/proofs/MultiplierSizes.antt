@@ -1,6 +1,6 @@
 -- Multipliers whose sizes sum to no more than a number are each no larger.
-use Rattle.std.proofs.Common.{ℕ, ◌≤◌, List, [], ◌∷◌, ℤ, ◌≤ℤ◌, arith}
-use Rattle.std.specs.Prelude.{pos, neg_ℤ, unsigned_abs}
+use Rattle.std.proofs.Common.{ℕ, List, [], ◌∷◌, ℤ, ◌≤ℤ◌, arith}
+use Rattle.std.specs.Prelude.{pos, neg_ℤ}
 use Rattle.std.specs.List.{AllByRecursion}
 use Rattle.std.proofs.lemmas.Int.{ints}
 use Rattle.tsp_format.specs.Ranges.{IsFromTo}

@@ -1,6 +1,5 @@
 -- A certificate for routes has one bound, or none: how often plans cross its cuts, and loads, are determined.
-use Rattle.std.proofs.Common.{◌≡◌, ℕ, ◌*◌, List, [], ◌∷◌, length, ℤ, refl, sym, ap, ap₂, subst, arith}
-use Rattle.std.specs.Prelude.{Option, pos}
+use Rattle.std.proofs.Common.{◌≡◌, ℕ, List, [], ◌∷◌, length, refl, ap₂, subst, arith}
 use Rattle.std.specs.List.{AllByRecursion}
 use Rattle.std.proofs.lemmas.Int.{ints}
 use Rattle.std.proofs.lemmas.List.Elements.{recursion_from_All}

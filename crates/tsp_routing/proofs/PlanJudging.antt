@@ -1,7 +1,7 @@
 -- The judge of leaves for routes: numbers that are good, what is found of a leaf, and what that says of the whole.
-use Rattle.std.proofs.Common.{◌≡◌, ◌∙◌, ℕ, ◌+◌, ◌-◌, ◌*◌, ◌^◌, ◌<◌, ◌≤◌, Bool, true, false, List, [], ◌∷◌, length, take, drop, get_or, ℤ, ◌≤ℤ◌, inl, inr, refl, sym, ap, subst, arith}
+use Rattle.std.proofs.Common.{◌≡◌, ◌∙◌, ℕ, ◌+◌, ◌-◌, ◌^◌, ◌<◌, true, List, [], ◌∷◌, length, take, drop, get_or, ℤ, ◌≤ℤ◌, inl, inr, sym, ap, subst, arith}
 use Rattle.std.specs.Prelude.{Option, None, Some, pos, neg_ℤ}
-use Rattle.std.specs.List.{All, AllByRecursion, Any}
+use Rattle.std.specs.List.{All, AllByRecursion}
 use Rattle.std.proofs.lemmas.Int.{ints}
 use Rattle.std.proofs.lemmas.List.{take-append-drop, get_or_default}
 use Rattle.std.proofs.lemmas.List.Elements.{All-append, All-weaker, All-from_recursion, recursion_from_All}
@@ -14,7 +14,6 @@ use Rattle.tsp_theory.specs.CertificateNumbers.{IsFromTo, IsScale}
 use Rattle.tsp_theory.specs.Routing.{RoutingProblem, demand_of}
 use Rattle.tsp_families.specs.declared.family.Crossings.{Crossings}
 use Rattle.tsp_cases.specs.BadBranches.{BeginsWithin, branch_pairs}
-use Rattle.tsp_cases.specs.Families.{Family}
 use Rattle.tsp_cases.specs.FamiliesOfSets.{families_with}
 use Rattle.tsp_cases.specs.declared.decision.Decision.{Decision}
 use Rattle.tsp_cases.specs.declared.judged.JudgedLeaf.TheVariants as leaves

@@ -9,14 +9,14 @@ use Rattle.tsp_theory.specs.Length.{sum_int_by, length_of}
 use Rattle.tsp_theory.specs.Routing.{IsCustomer}
 use Rattle.tsp_routing.specs.LeastOf.{IsLeastAmong}
 use Rattle.tsp_routing.specs.Walks.{BeginsOther, IsWalk, IsBelowWalks}
-use Rattle.tsp_routing.specs.WalkTables.{onward_weight, IsWalkRest, first_stop_of, WalkEntry, least_from, IsAtMost, IsEntryBelowTo, IsStartBelow, IsLow, IsReal, IsStepTo, IsEntryMetTo, IsMet, IsStartMet}
+use Rattle.tsp_routing.specs.WalkTables.{onward_weight, IsWalkRest, first_or_depot, WalkEntry, least_from, IsAtMost, IsEntryBelowTo, IsStartBelow, IsLow, IsReal, IsStepTo, IsEntryMetTo, IsMet, IsStartMet}
 use Rattle.tsp_routing.specs.states.Onwards.{AreLinks}
 
 loads_low : (load : ℕ → ℕ) (nodes : List ℕ) → pos 0 ≤ℤ sum_int_by (λ node. pos (load node)) nodes
 loads_low load [] = omega (arith, ints)
 loads_low load (x ∷ nodes) = omega (arith, ints, loads_low load nodes)
 
-not_back : (n depot node : ℕ) (rest : List ℕ) → IsCustomer n depot node → BeginsOther node rest → first_stop_of depot rest ≢ node
+not_back : (n depot node : ℕ) (rest : List ℕ) → IsCustomer n depot node → BeginsOther node rest → first_or_depot depot rest ≢ node
 not_back n depot node [] customer other = λ same. customer.1 (sym same)
 not_back n depot node (next ∷ rest) customer other = λ same. other (sym same)
 
@@ -40,7 +40,7 @@ pub entry_low : (n depot : ℕ) (w : ℕ → ℕ → ℤ) (load : ℕ → ℕ) (
 entry_low n depot w load left node known entry lows below = λ rest is. at rest is
   where
     at : (rest : List ℕ) → IsWalkRest n depot load left node rest
-        → IsAtMost entry (first_stop_of depot rest) (onward_weight w depot node rest)
+        → IsAtMost entry (first_or_depot depot rest) (onward_weight w depot node rest)
     at [] is =
         let fits = is.within in
         more_than entry depot (w node depot) (onward_weight w depot node []) (below (omega (arith, ints, fits))).back
@@ -51,7 +51,7 @@ entry_low n depot w load left node known entry lows below = λ rest is. at rest 
         let here : load node ≤ left = omega (arith, ints, fits, low) in
         let after = lows here next is.customers.1.0 rest
         (record { customers = is.customers.1; within = omega (arith, ints, fits, here); straight = is.straight.1 }) in
-        let on = from_low (known next) node (first_stop_of depot rest) (onward_weight w depot next rest) after
+        let on = from_low (known next) node (first_or_depot depot rest) (onward_weight w depot next rest) after
         (not_back n depot node rest is.customers.0 is.straight.0.1) in
         more_than entry next (w node next +ℤ least_from (known next) node) (onward_weight w depot node (next ∷ rest))
         ((below here).on next is.customers.1.0 is.straight.0.0 is.customers.1.0.0.1) (omega (arith, ints, on))
@@ -72,7 +72,7 @@ start_low n depot w load room known each low starts = λ nodes walk. at nodes wa
 
 -- ---- what walks have
 
-begins_at : (depot node : ℕ) (rest : List ℕ) → first_stop_of depot rest ≢ node → BeginsOther node rest
+begins_at : (depot node : ℕ) (rest : List ℕ) → first_or_depot depot rest ≢ node → BeginsOther node rest
 begins_at depot node [] other = tt
 begins_at depot node (next ∷ rest) other = λ same. other (sym same)
 
@@ -81,7 +81,7 @@ module _ (half n depot : ℕ) (w : ℕ → ℕ → ℤ) (load : ℕ → ℕ) (le
     (mets : (next : ℕ) → IsCustomer n depot next → IsMet half n depot w load (left - load node) next (known next))
     (some : 1 ≤ half) where
   from_met : (next : ℕ) → IsCustomer n depot next → IsReal half (least_from (known next) node)
-      → (rest : List ℕ) × IsWalkRest n depot load (left - load node) next rest × (first_stop_of depot rest ≢ node)
+      → (rest : List ℕ) × IsWalkRest n depot load (left - load node) next rest × (first_or_depot depot rest ≢ node)
       × (least_from (known next) node ≡ onward_weight w depot next rest)
   from_met next other real = elim (cases_Bool ((known next).next == node)) [
     | inl t ↦
@@ -105,7 +105,7 @@ module _ (half n depot : ℕ) (w : ℕ → ℕ → ℤ) (load : ℕ → ℕ) (le
   ]
 
   step_walk : (next : ℕ) (number : ℤ) → IsStepTo half n depot w known node next number → IsReal half number
-      → (rest : List ℕ) × IsWalkRest n depot load left node rest × (first_stop_of depot rest ≡ next)
+      → (rest : List ℕ) × IsWalkRest n depot load left node rest × (first_or_depot depot rest ≡ next)
       × (number ≡ onward_weight w depot node rest)
   step_walk next number (inl back) real = (
     [],

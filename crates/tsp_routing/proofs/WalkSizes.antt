@@ -7,7 +7,7 @@ use Rattle.tsp_format.specs.Nodes.{IsNode}
 use Rattle.tsp_format.specs.Ranges.{IsFromTo}
 use Rattle.tsp_routing.specs.WalkTables.{WalkEntry, IsReal}
 use Rattle.tsp_routing.specs.declared.onward.Onward.{Onward}
-use Rattle.tsp_routing.specs.states.Onwards.{walk_entry_of, entry_at, IsNearOrFar, IsEntryNumber, IsEntrySized, IsRowSized}
+use Rattle.tsp_routing.specs.states.Onwards.{entry_at, IsNearOrFar, IsEntryNumber, IsEntrySized, IsRowSized}
 
 pub get_same : {X : Type 0} (xs : List X) (k : ℕ) (d e : X) → k < length xs → get_or xs k d ≡ get_or xs k e
 get_same [] k d e lt = absurd (omega (arith, lt))

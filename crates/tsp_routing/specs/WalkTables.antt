@@ -1,6 +1,6 @@
 -- Tables of what the rest of a walk weighs at the least, by what it still may carry and by the node that it goes on from.
 -- Source: N. Christofides, A. Mingozzi and P. Toth, Exact algorithms for the vehicle routing problem, 1981.
-use Rattle.std.specs.Prelude.{◌≡◌, ◌≢◌, ◌⊎◌, ℕ, ◌-◌, ◌*◌, ◌≤◌, ◌==◌, if◌then◌else◌, List, [], ◌∷◌, ℤ, pos, ◌+ℤ◌, ◌≤ℤ◌}
+use Rattle.std.specs.Prelude.{◌≡◌, ◌≢◌, ◌⊎◌, ℕ, ◌*◌, ◌≤◌, ◌==◌, if◌then◌else◌, List, [], ◌∷◌, ℤ, pos, ◌+ℤ◌, ◌≤ℤ◌}
 use Rattle.std.specs.List.{AllByRecursion}
 use Rattle.tsp_theory.specs.Cycle.{links_to}
 use Rattle.tsp_theory.specs.Length.{sum_int_by}
@@ -18,9 +18,9 @@ pub record IsWalkRest (n depot : ℕ) (load : ℕ → ℕ) (left node : ℕ) (re
   pub within : sum_int_by (λ other. pos (load other)) (node ∷ rest) ≤ℤ pos left
   pub straight : IsStraight (node ∷ rest)
 
-abbrev pub first_stop_of : ℕ → List ℕ → ℕ
-first_stop_of depot [] = depot
-first_stop_of depot (next ∷ rest) = next
+abbrev pub first_or_depot : ℕ → List ℕ → ℕ
+first_or_depot depot [] = depot
+first_or_depot depot (next ∷ rest) = next
 
 -- An entry has the least weight of the rests of walks from a node, with the node that comes next then, and the least of those
 -- on to another next node.
@@ -51,7 +51,7 @@ IsStartBelow n depot w known each = (next : ℕ) → IsCustomer n depot next →
 -- an entry is at most the weight of each rest of a walk from a node
 abbrev pub IsLow : ℕ → ℕ → (ℕ → ℕ → ℤ) → (ℕ → ℕ) → ℕ → ℕ → WalkEntry → Type 0
 IsLow n depot w load left node entry = (rest : List ℕ) → IsWalkRest n depot load left node rest
-    → IsAtMost entry (first_stop_of depot rest) (onward_weight w depot node rest)
+    → IsAtMost entry (first_or_depot depot rest) (onward_weight w depot node rest)
 
 -- ---- entries that walks have
 
@@ -76,9 +76,9 @@ pub record IsEntryMetTo (half n depot : ℕ) (w : ℕ → ℕ → ℤ) (known : 
 -- some rest of a walk weighs the least, with the node that comes next, and some weighs the other number, with another one
 pub record IsMet (half n depot : ℕ) (w : ℕ → ℕ → ℤ) (load : ℕ → ℕ) (left node : ℕ) (entry : WalkEntry) : Type 0 where
   pub least : IsReal half entry.least → (rest : List ℕ) × IsWalkRest n depot load left node rest
-      × (first_stop_of depot rest ≡ entry.next) × (entry.least ≡ onward_weight w depot node rest)
+      × (first_or_depot depot rest ≡ entry.next) × (entry.least ≡ onward_weight w depot node rest)
   pub other : IsReal half entry.other → (rest : List ℕ) × IsWalkRest n depot load left node rest
-      × (first_stop_of depot rest ≢ entry.next) × (entry.other ≡ onward_weight w depot node rest)
+      × (first_or_depot depot rest ≢ entry.next) × (entry.other ≡ onward_weight w depot node rest)
 
 -- a number is that of a step from the depot
 abbrev pub IsStartMet : ℕ → ℕ → ℕ → (ℕ → ℕ → ℤ) → (ℕ → WalkEntry) → ℤ → Type 0

@@ -7,7 +7,7 @@ ghost use Rattle.tsp_cases.specs.FamiliesOfSets.{family_with};
 ghost use Rattle.tsp_cases.specs.states.Marked.{AreUnmarked, AddsNoOther};
 ghost use Rattle.tsp_routing.specs.Cuts.{IsCutFamily};
 ghost use Rattle.tsp_routing.specs.GoodSets.{IsGoodSet};
-ghost use Rattle.tsp_routing.specs.states.Demands.{routing_by, AreDemands};
+ghost use Rattle.tsp_routing.specs.states.Demands.{loads_problem, AreDemands};
 ghost use Rattle.tsp_routing.specs.states.JudgedCuts.{AreCutsJudged, AreCutNumbers};
 
 use crate::demands::Demands;

@@ -11,7 +11,7 @@ ghost use Rattle.tsp_routing.specs.LeastOf.{IsLeastAmong};
 ghost use Rattle.tsp_routing.specs.Walks.{IsWalk, IsBelowWalks};
 ghost use Rattle.tsp_routing.specs.WalkTables.{IsLow, IsMet, IsReal, IsEntryBelowTo, IsEntryMetTo, IsStartMet, IsStartBelow};
 ghost use Rattle.tsp_routing.specs.Weights.{most_room};
-ghost use Rattle.tsp_routing.specs.states.Onwards.{load_at, AreLinks, walk_entry_of, entry_at, IsEntryNumber, IsEntrySized, IsRowSized, AreRowsSized, IsRowLow, AreRowsLow, IsRowMet, AreRowsMet};
+ghost use Rattle.tsp_routing.specs.states.Onwards.{load_at, AreLinks, onward_entry, entry_at, IsEntryNumber, IsEntrySized, IsRowSized, AreRowsSized, IsRowLow, AreRowsLow, IsRowMet, AreRowsMet};
 
 use crate::onward::{Onward, improved, least_onward, nowhere};
 use crate::sums::Sum;
@@ -113,12 +113,12 @@ fn entry<S: Sum, W: Weights>(
     ensures low { AreRowsLow S.value walks.now.nodes walks.now.depot (W.at walks.now.weights.now)
         (load_at walks.now.loads.now) table.now → IsCustomer walks.now.nodes walks.now.depot node
         → IsLow walks.now.nodes walks.now.depot (W.at walks.now.weights.now) (load_at walks.now.loads.now)
-        (length table.now) node (walk_entry_of S.value result) }
+        (length table.now) node (onward_entry S.value result) }
     ensures met { AreRowsMet S.value S.half walks.now.nodes walks.now.depot (W.at walks.now.weights.now)
         (load_at walks.now.loads.now) table.now → IsCustomer walks.now.nodes walks.now.depot node
         → IsMet S.half walks.now.nodes walks.now.depot (W.at walks.now.weights.now) (load_at walks.now.loads.now)
-        (length table.now) node (walk_entry_of S.value result) }
-    ensures size { IsEntrySized S.half ((length table.now + 1) * S.link) (walk_entry_of S.value result) }
+        (length table.now) node (onward_entry S.value result) }
+    ensures size { IsEntrySized S.half ((length table.now + 1) * S.link) (onward_entry S.value result) }
     ensures room { length row.new ≡ length row.old }
 {
     let load = walks.loads[node as usize];
@@ -148,13 +148,13 @@ fn best_entry<S: Sum, W: Weights>(
     ensures below { (w : ℕ → ℕ → ℤ) (default : Onward S)
         → ((next : ℕ) → IsNode walks.now.nodes next → least_at row.now next ≡ w node next)
         → IsEntryBelowTo walks.now.nodes walks.now.depot w (entry_at S.value known.now default) node walks.now.nodes
-        (walk_entry_of S.value result) }
+        (onward_entry S.value result) }
     ensures met { (w : ℕ → ℕ → ℤ) (default : Onward S)
         → ((next : ℕ) → IsNode walks.now.nodes next → least_at row.now next ≡ w node next)
         → IsEntryMetTo S.half walks.now.nodes walks.now.depot w (entry_at S.value known.now default) node walks.now.nodes
-        (walk_entry_of S.value result) }
+        (onward_entry S.value result) }
     ensures size { (size : ℕ) → size + S.link < S.half → IsRowSized S.value S.half walks.now.nodes size known.now
-        → IsEntrySized S.half (size + S.link) (walk_entry_of S.value result) }
+        → IsEntrySized S.half (size + S.link) (onward_entry S.value result) }
 {
     let mut best = Onward {
         least: S::of(weight_in(row, walks.depot)),
@@ -183,17 +183,17 @@ fn entry_by<S: Sum, W: Weights>(
     requires sizes { (size : ℕ) × (size + S.link < S.half) × IsRowSized S.value S.half walks.now.nodes size known.now }
     ensures below { (w : ℕ → ℕ → ℤ) (default : Onward S) → least_at row.now next ≡ w node next
         → IsEntryBelowTo walks.now.nodes walks.now.depot w (entry_at S.value known.now default) node (next - 1)
-        (walk_entry_of S.value best)
+        (onward_entry S.value best)
         → IsEntryBelowTo walks.now.nodes walks.now.depot w (entry_at S.value known.now default) node next
-        (walk_entry_of S.value result) }
+        (onward_entry S.value result) }
     ensures met { (w : ℕ → ℕ → ℤ) (default : Onward S) → least_at row.now next ≡ w node next
         → IsEntryMetTo S.half walks.now.nodes walks.now.depot w (entry_at S.value known.now default) node (next - 1)
-        (walk_entry_of S.value best)
+        (onward_entry S.value best)
         → IsEntryMetTo S.half walks.now.nodes walks.now.depot w (entry_at S.value known.now default) node next
-        (walk_entry_of S.value result) }
+        (onward_entry S.value result) }
     ensures size { (size : ℕ) → size + S.link < S.half → IsRowSized S.value S.half walks.now.nodes size known.now
-        → IsEntrySized S.half (size + S.link) (walk_entry_of S.value best)
-        → IsEntrySized S.half (size + S.link) (walk_entry_of S.value result) }
+        → IsEntrySized S.half (size + S.link) (onward_entry S.value best)
+        → IsEntrySized S.half (size + S.link) (onward_entry S.value result) }
 {
     if next == walks.depot || next == node {
         return best;

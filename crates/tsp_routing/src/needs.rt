@@ -17,7 +17,7 @@ impl Demands<'_> {
     ghost use Rattle.tsp_routing.specs.PlanLinks.{sum_of_customers};
     ghost use Rattle.tsp_routing.specs.Cuts.{IsFewest};
     ghost use Rattle.tsp_routing.specs.Cuts.{IsCapacityCut};
-    ghost use Rattle.tsp_routing.specs.states.Demands.{routing_by, AreDemands, of_others};
+    ghost use Rattle.tsp_routing.specs.states.Demands.{loads_problem, AreDemands, of_others};
 
     /// How many routes a cut of these customers needs: as many as carry what they demand, and one
     /// at least. More than 100,000 aren't counted.
@@ -31,7 +31,7 @@ impl Demands<'_> {
         requires once { AllPairs (λ a b. a ≢ b) customers.now }
         requires some { customers.now ≢ [] }
         requires few { length customers.now ≤ most_nodes }
-        ensures cut { (cost : ℕ → ℕ → ℤ) → IsCapacityCut (routing_by self.now cost) (has customers.now) result }
+        ensures cut { (cost : ℕ → ℕ → ℤ) → IsCapacityCut (loads_problem self.now cost) (has customers.now) result }
         ensures size { result ≤ most_nodes }
     {
         counted(self.least_routes(customers))
@@ -41,7 +41,7 @@ impl Demands<'_> {
     /// least. More than 100,000 aren't counted.
     pub(crate) fn fewest(&self) -> u32
         requires demands { AreDemands self.now }
-        ensures fewest { (cost : ℕ → ℕ → ℤ) → IsFewest (routing_by self.now cost) result }
+        ensures fewest { (cost : ℕ → ℕ → ℤ) → IsFewest (loads_problem self.now cost) result }
         ensures size { result ≤ most_nodes }
     {
         counted(self.routes_of(self.all()))

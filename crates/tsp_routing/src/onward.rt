@@ -3,7 +3,7 @@
 ghost use Rattle.std.specs.Prelude.{◌≡◌, ◌≤◌, ◌<◌, ◌+◌, ◌*◌, ℕ, ℤ, pos, neg_ℤ, ◌≤ℤ◌};
 ghost use Rattle.tsp_format.specs.Ranges.{IsFromTo};
 ghost use Rattle.tsp_routing.specs.WalkTables.{IsAtMost, least_from};
-ghost use Rattle.tsp_routing.specs.states.Onwards.{walk_entry_of, IsNearOrFar, IsEntryNumber, IsEntrySized, IsChosen};
+ghost use Rattle.tsp_routing.specs.states.Onwards.{onward_entry, IsNearOrFar, IsEntryNumber, IsEntrySized, IsChosen};
 
 use crate::sums::Sum;
 
@@ -18,7 +18,7 @@ pub(crate) struct Onward<S> {
 
 /// An entry of no walk.
 pub(crate) fn nowhere<S: Sum>() -> Onward<S>
-    ensures size { (size : ℕ) → IsEntrySized S.half size (walk_entry_of S.value result) }
+    ensures size { (size : ℕ) → IsEntrySized S.half size (onward_entry S.value result) }
     ensures least { S.value result.least ≡ pos (2 * S.half) }
     ensures other { S.value result.other ≡ pos (2 * S.half) }
 {
@@ -32,8 +32,8 @@ pub(crate) fn nowhere<S: Sum>() -> Onward<S>
 /// What a walk that comes from a node weighs on from the next one at the least.
 #[inline]
 pub(crate) fn least_onward<S: Sum>(entry: Onward<S>, from: u32) -> S
-    ensures value { S.value result ≡ least_from (walk_entry_of S.value entry) from }
-    ensures size { (size : ℕ) → IsEntrySized S.half size (walk_entry_of S.value entry)
+    ensures value { S.value result ≡ least_from (onward_entry S.value entry) from }
+    ensures size { (size : ℕ) → IsEntrySized S.half size (onward_entry S.value entry)
         → IsEntryNumber S.half size (S.value result) }
 {
     if entry.next == from {
@@ -46,11 +46,11 @@ pub(crate) fn least_onward<S: Sum>(entry: Onward<S>, from: u32) -> S
 /// An entry with one next node more.
 #[inline]
 pub(crate) fn improved<S: Sum>(best: Onward<S>, next: u32, weight: S) -> Onward<S>
-    ensures keeps { (key : ℕ) (z : ℤ) → IsAtMost (walk_entry_of S.value best) key z → IsAtMost (walk_entry_of S.value result) key z }
-    ensures own { (z : ℤ) → S.value weight ≤ℤ z → IsAtMost (walk_entry_of S.value result) next z }
-    ensures size { (size : ℕ) → IsEntrySized S.half size (walk_entry_of S.value best) → neg_ℤ (pos size) ≤ℤ S.value weight
-        → IsNearOrFar S.half size (S.value weight) → IsEntrySized S.half size (walk_entry_of S.value result) }
-    ensures chosen { IsChosen (walk_entry_of S.value best) next (S.value weight) (walk_entry_of S.value result) }
+    ensures keeps { (key : ℕ) (z : ℤ) → IsAtMost (onward_entry S.value best) key z → IsAtMost (onward_entry S.value result) key z }
+    ensures own { (z : ℤ) → S.value weight ≤ℤ z → IsAtMost (onward_entry S.value result) next z }
+    ensures size { (size : ℕ) → IsEntrySized S.half size (onward_entry S.value best) → neg_ℤ (pos size) ≤ℤ S.value weight
+        → IsNearOrFar S.half size (S.value weight) → IsEntrySized S.half size (onward_entry S.value result) }
+    ensures chosen { IsChosen (onward_entry S.value best) next (S.value weight) (onward_entry S.value result) }
 {
     if weight.is_below(best.least) {
         return Onward {

@@ -7,7 +7,7 @@ ghost use Rattle.tsp_cases.specs.states.Lent.{lent_in};
 ghost use Rattle.tsp_cases.specs.states.OpenCases.{IsOpenCase, decisions_in};
 ghost use Rattle.tsp_routing.specs.GoodLeaves.{ArePlanNumbers};
 ghost use Rattle.tsp_routing.specs.Weights.{most_room};
-ghost use Rattle.tsp_routing.specs.states.Demands.{routing_by};
+ghost use Rattle.tsp_routing.specs.states.Demands.{loads_problem};
 ghost use Rattle.tsp_routing.specs.states.PlanRooms.{IsPlanRoom, IsFoundOfFew};
 
 use crate::good_numbers::judge_numbers;
@@ -39,7 +39,7 @@ impl<C: Costs> LeafJudge for PlanJudge<'_, C> {
     ghost use Rattle.tsp_cases.specs.FamiliesOfSets.{families_with};
     ghost use Rattle.tsp_cases.specs.states.Lent.{lent_in};
     ghost use Rattle.tsp_routing.specs.GoodLeaves.{ArePlanNumbers};
-    ghost use Rattle.tsp_routing.specs.states.Demands.{routing_by};
+    ghost use Rattle.tsp_routing.specs.states.Demands.{loads_problem};
     ghost use Rattle.tsp_routing.specs.states.PlanRooms.{IsPlanRoom, IsFoundOfFew};
 
     type Memory = PlanRoom;
@@ -58,7 +58,7 @@ impl<C: Costs> LeafJudge for PlanJudge<'_, C> {
         numbers };
 
     ghost found = { λ judge. IsFoundOfFew judge.few
-        (routing_by judge.setting.now.demands (C.at judge.setting.now.costs.now)) judge.setting.now.scale
+        (loads_problem judge.setting.now.demands (C.at judge.setting.now.costs.now)) judge.setting.now.scale
         judge.setting.now.unit judge.setting.now.units.now.light
         (families_with judge.setting.now.crossed.now (lent_in judge.setting.now.families.now)) };
 
@@ -100,7 +100,7 @@ fn judge_leaf<C: Costs>(
     requires numbers { length numbers.now ≡ setting.now.demands.nodes + length setting.now.crossed.now }
     requires room { IsPlanRoom setting.now.demands.nodes (length setting.now.crossed.now) room.old }
     ensures judged { IfOk result (IsFoundOfCase (IsFoundOfFew few
-        (routing_by setting.now.demands (C.at setting.now.costs.now)) setting.now.scale
+        (loads_problem setting.now.demands (C.at setting.now.costs.now)) setting.now.scale
         setting.now.unit setting.now.units.now.light
         (families_with setting.now.crossed.now (lent_in setting.now.families.now)))
         (ArePlanNumbers setting.now.demands.nodes (length setting.now.crossed.now))

@@ -12,7 +12,7 @@ ghost use Rattle.tsp_routing.specs.GoodLeaves.{ArePlanNumbers};
 ghost use Rattle.tsp_routing.specs.PlanLinks.{sum_of_customers};
 ghost use Rattle.tsp_routing.specs.PlanTrees.{IsFoundByWalks, IsLeastWalk};
 ghost use Rattle.tsp_routing.specs.Weights.{most_room};
-ghost use Rattle.tsp_routing.specs.states.Demands.{routing_by};
+ghost use Rattle.tsp_routing.specs.states.Demands.{loads_problem};
 ghost use Rattle.tsp_routing.specs.states.GivenBack.{numbers_total};
 
 use crate::given_back::{customers_total, limits_total};
@@ -58,7 +58,7 @@ pub(crate) fn leaf_bound<C: Costs>(
     requires row { length row.old ≡ leaf.now.setting.now.demands.nodes + 1 }
     requires few { leaf.now.setting.now.units.now.room ≤ most_room }
     ensures found { IfOk result (IsFoundByWalks
-        (routing_by leaf.now.setting.now.demands (C.at leaf.now.setting.now.costs.now)) leaf.now.setting.now.scale
+        (loads_problem leaf.now.setting.now.demands (C.at leaf.now.setting.now.costs.now)) leaf.now.setting.now.scale
         leaf.now.setting.now.unit leaf.now.setting.now.units.now.light
         (families_with leaf.now.setting.now.crossed.now (lent_in leaf.now.setting.now.families.now))
         (decisions_in case.now, as_leaf_numbers leaf.now.potentials.now leaf.now.multipliers.now)) }
@@ -96,7 +96,7 @@ fn least_of_walks<C: Costs>(
     requires row { length row.old ≡ leaf.now.setting.now.demands.nodes + 1 }
     requires few { leaf.now.setting.now.units.now.room ≤ most_room }
     ensures least { IfOk result (IsLeastWalk
-        (routing_by leaf.now.setting.now.demands (C.at leaf.now.setting.now.costs.now)) leaf.now.setting.now.scale
+        (loads_problem leaf.now.setting.now.demands (C.at leaf.now.setting.now.costs.now)) leaf.now.setting.now.scale
         leaf.now.setting.now.unit leaf.now.setting.now.units.now.light
         (families_with leaf.now.setting.now.crossed.now (lent_in leaf.now.setting.now.families.now))
         (as_leaf_numbers leaf.now.potentials.now leaf.now.multipliers.now)) }

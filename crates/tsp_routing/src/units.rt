@@ -2,7 +2,7 @@
 
 ghost use Rattle.std.specs.Prelude.{◌≡◌, ◌≤◌, ◌<◌, ◌+◌, ◌*◌, ◌/◌, ◌==◌, ◌^◌, ℕ, ℤ, if◌then◌else◌, length, pos, nat_abs, ◌≤ℤ◌, IfOk};
 ghost use Rattle.tsp_format.specs.Nodes.{IsNode};
-ghost use Rattle.tsp_routing.specs.states.Demands.{routing_by, AreDemands};
+ghost use Rattle.tsp_routing.specs.states.Demands.{loads_problem, AreDemands};
 ghost use Rattle.tsp_routing.specs.Loads.{units_of, AreUnits, load_in, room_in};
 ghost use Rattle.tsp_routing.specs.states.Onwards.{load_at};
 ghost use Rattle.tsp_routing.specs.states.Units.{AreUnitLoads, light_in};
@@ -44,7 +44,7 @@ pub(crate) fn unit_loads(alloc: Global, demands: &Demands, unit: u64) -> Result<
 fn count_light(demands: &Demands, unit: u64) -> u64
     requires demands { AreDemands demands.now }
     requires unit { 1 ≤ unit }
-    ensures units { (cost : ℕ → ℕ → ℤ) → AreUnits (routing_by demands.now cost) unit result }
+    ensures units { (cost : ℕ → ℕ → ℤ) → AreUnits (loads_problem demands.now cost) unit result }
     ensures few { result ≤ 100000 }
 {
     let mut count = 0;
@@ -59,7 +59,7 @@ fn light(demands: &Demands, unit: u64, node: u32) -> u64
     requires demands { AreDemands demands.now }
     requires unit { 1 ≤ unit }
     requires node { IsNode demands.now.nodes node }
-    ensures value { (cost : ℕ → ℕ → ℤ) → pos result ≡ light_in (routing_by demands.now cost) unit node }
+    ensures value { (cost : ℕ → ℕ → ℤ) → pos result ≡ light_in (loads_problem demands.now cost) unit node }
     ensures few { result ≤ 1 }
 {
     if node == demands.depot {
@@ -76,7 +76,7 @@ fn whole_units(demands: &Demands, unit: u64, node: u32) -> u64
     requires demands { AreDemands demands.now }
     requires unit { 1 ≤ unit }
     requires node { IsNode demands.now.nodes node }
-    ensures value { (cost : ℕ → ℕ → ℤ) → result ≡ units_of (routing_by demands.now cost) unit node }
+    ensures value { (cost : ℕ → ℕ → ℤ) → result ≡ units_of (loads_problem demands.now cost) unit node }
     ensures size { result ≤ 1000000000 }
 {
     demands.demand(node) as u64 / unit

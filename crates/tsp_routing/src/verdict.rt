@@ -12,7 +12,7 @@ ghost use Rattle.tsp_cases.specs.states.Lent.{lent_in};
 ghost use Rattle.tsp_routing.specs.GoodLeaves.{ArePlanNumbers};
 ghost use Rattle.tsp_routing.specs.Weights.{most_room};
 ghost use Rattle.tsp_routing.specs.PlanVerdicts.{routing_with, IsPlanVerdict, VerdictBoundsPlans, IsSizedPlanVerdict};
-ghost use Rattle.tsp_routing.specs.states.Demands.{routing_by};
+ghost use Rattle.tsp_routing.specs.states.Demands.{loads_problem};
 ghost use Rattle.tsp_routing.specs.states.PlanRooms.{IsFoundOfFew, IsLeafVerdict};
 
 use crate::cuts::{JudgedCuts, judge_cuts};
@@ -109,7 +109,7 @@ fn leaf_verdict<C: Costs>(
     requires few { length steps.now < 2 ^ 32 }
     requires steps { ∥ All (IsStepOf (setting.now.demands.nodes + length setting.now.crossed.now)) (steps_of steps.now) ∥₁ }
     requires whole { are_whole 1 (steps_of steps.now) ≡ true }
-    ensures verdict { IfOk result (IsLeafVerdict (routing_by setting.now.demands (C.at setting.now.costs.now))
+    ensures verdict { IfOk result (IsLeafVerdict (loads_problem setting.now.demands (C.at setting.now.costs.now))
         setting.now.scale setting.now.unit setting.now.units.now.light (length setting.now.crossed.now)
         (families_with setting.now.crossed.now (lent_in setting.now.families.now)) (steps_of steps.now)) }
     ensures size { IfOk result IsSizedPlanVerdict }
@@ -149,7 +149,7 @@ fn judge_all<C: Costs>(
     requires steps { ∥ All (IsStepOf (setting.now.demands.nodes + length setting.now.crossed.now)) (steps_of steps.now) ∥₁ }
     requires whole { are_whole 1 (steps_of steps.now) ≡ true }
     ensures judged { IfOk result (AreJudgedBy (IsFoundOfFew few
-        (routing_by setting.now.demands (C.at setting.now.costs.now)) setting.now.scale
+        (loads_problem setting.now.demands (C.at setting.now.costs.now)) setting.now.scale
         setting.now.unit setting.now.units.now.light
         (families_with setting.now.crossed.now (lent_in setting.now.families.now)))
         (ArePlanNumbers setting.now.demands.nodes (length setting.now.crossed.now))

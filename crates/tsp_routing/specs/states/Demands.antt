@@ -7,8 +7,8 @@ use Rattle.tsp_format.specs.Ranges.{IsFromTo}
 use Rattle.tsp_theory.specs.Routing.{RoutingProblem, demand_of}
 use Rattle.tsp_routing.specs.declared.demands.Demands.{Demands}
 
-abbrev pub routing_by : Demands → (ℕ → ℕ → ℤ) → RoutingProblem
-routing_by loads cost = record {
+abbrev pub loads_problem : Demands → (ℕ → ℕ → ℤ) → RoutingProblem
+loads_problem loads cost = record {
   nodes = loads.nodes;
   cost = cost;
   depot = loads.depot;

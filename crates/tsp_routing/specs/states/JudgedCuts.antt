@@ -1,5 +1,5 @@
 -- The judgement on families as code finds it.
-use Rattle.std.specs.Prelude.{◌≡◌, ℕ, ◌≤◌, List, length, Option, Some, None, ℤ}
+use Rattle.std.specs.Prelude.{◌≡◌, ℕ, ◌≤◌, List, Option, Some, None, ℤ}
 use Rattle.std.specs.List.{All}
 use Rattle.std.specs.Global.{Vec}
 use Rattle.tsp_families.specs.FamilySets.{families_in}
@@ -7,7 +7,7 @@ use Rattle.tsp_families.specs.declared.family.Crossings.{Crossings}
 use Rattle.tsp_cases.specs.FamiliesOfSets.{family_with}
 use Rattle.tsp_routing.specs.Cuts.{IsCutFamily}
 use Rattle.tsp_routing.specs.GoodSets.{IsGoodSet, IsFirstBadSet, AreCapacityCuts}
-use Rattle.tsp_routing.specs.states.Demands.{routing_by}
+use Rattle.tsp_routing.specs.states.Demands.{loads_problem}
 use Rattle.tsp_routing.specs.declared.demands.Demands.{Demands}
 use Rattle.tsp_routing.specs.declared.cuts.JudgedCuts.{JudgedCuts}
 use Rattle.tsp_routing.specs.declared.cuts.JudgedCuts.TheVariants as judged
@@ -20,10 +20,10 @@ IsFewCrossed own = own.least ≤ 200000
 abbrev pub AreCutNumbers : Demands → List (List ℕ) → Option Crossings → Type 0
 AreCutNumbers demands sets None = IsGoodSet demands.nodes demands.depot sets → ⊥
 AreCutNumbers demands sets (Some own) = IsGoodSet demands.nodes demands.depot sets × IsFewCrossed own
-    × ((cost : ℕ → ℕ → ℤ) → IsCutFamily (routing_by demands cost) (family_with own sets))
+    × ((cost : ℕ → ℕ → ℤ) → IsCutFamily (loads_problem demands cost) (family_with own sets))
 
 abbrev pub AreCutsJudged : Demands → List (Vec (Vec ℕ)) → JudgedCuts → Type 0
 AreCutsJudged demands lent (judged.Good families crossed) = (families.nodes ≡ demands.nodes) × (families.lent.now ≡ lent)
     × All IsFewCrossed crossed.items
-    × ((cost : ℕ → ℕ → ℤ) → AreCapacityCuts (routing_by demands cost) (families_in lent) crossed.items)
+    × ((cost : ℕ → ℕ → ℤ) → AreCapacityCuts (loads_problem demands cost) (families_in lent) crossed.items)
 AreCutsJudged demands lent (judged.Bad first) = IsFirstBadSet demands.nodes demands.depot (families_in lent) first

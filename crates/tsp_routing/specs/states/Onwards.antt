@@ -16,11 +16,11 @@ abbrev pub AreLinks : ℕ → ℕ → (ℕ → ℕ → ℤ) → Type 0
 AreLinks link n w = (i j : ℕ) → IsNode n i → IsNode n j → IsFromTo (neg_ℤ (pos link)) (pos link) (w i j)
 
 -- an entry by the values of its sums; that of a node
-abbrev pub walk_entry_of : {S : Type 0} → (S → ℤ) → Onward S → WalkEntry
-walk_entry_of value onward = record { least = value onward.least; next = onward.next; other = value onward.other }
+abbrev pub onward_entry : {S : Type 0} → (S → ℤ) → Onward S → WalkEntry
+onward_entry value onward = record { least = value onward.least; next = onward.next; other = value onward.other }
 
 abbrev pub entry_at : {S : Type 0} → (S → ℤ) → List (Onward S) → Onward S → ℕ → WalkEntry
-entry_at value row default node = walk_entry_of value (slice_index_or row node default)
+entry_at value row default node = onward_entry value (slice_index_or row node default)
 
 -- how large the numbers of an entry are: those of no walk are far from those of walks
 abbrev pub IsNearOrFar : ℕ → ℕ → ℤ → Type 0
@@ -36,7 +36,7 @@ pub record IsEntrySized (half size : ℕ) (entry : WalkEntry) : Type 0 where
 
 pub record IsRowSized {S : Type 0} (value : S → ℤ) (half nodes size : ℕ) (row : List (Onward S)) : Type 0 where
   pub places : length row ≡ nodes + 1
-  pub sizes : All (λ onward. IsEntrySized half size (walk_entry_of value onward)) row
+  pub sizes : All (λ onward. IsEntrySized half size (onward_entry value onward)) row
 
 abbrev pub AreRowsSized : {S : Type 0} → (S → ℤ) → ℕ → ℕ → ℕ → List (Vec (Onward S)) → Type 0
 AreRowsSized {S} value half link nodes table = (load : ℕ) (default : Vec (Onward S)) → load < length table

@@ -1,5 +1,5 @@
 -- The memory of leaves for routes, and what is found of them.
-use Rattle.std.specs.Prelude.{◌≡◌, ℕ, ◌+◌, ◌*◌, ◌≤◌, ◌<◌, Bool, true, List, [], length, Option, ℤ}
+use Rattle.std.specs.Prelude.{◌≡◌, ℕ, ◌+◌, ◌*◌, ◌≤◌, ◌<◌, Bool, true, List, length, Option, ℤ}
 use Rattle.tsp_format.specs.Steps.{Step}
 use Rattle.tsp_theory.specs.Routing.{RoutingProblem}
 use Rattle.tsp_cases.specs.Families.{Family}

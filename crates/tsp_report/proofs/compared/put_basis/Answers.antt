@@ -6,7 +6,7 @@ use Rattle.tsp_stream.proofs.Carrying.{carried_then}
 use Rattle.tsp_report.specs.ComparisonText.{basis_bound}
 use Rattle.tsp_report.proofs.compared.put_basis.Goals as goal
 
--- plan: by cases of the basis: its line is one text after the other (`carried_then`)
+-- plan: by the basis: the text of each is put, of routes two lines after each other
 pub returns-in-Tours : goal.returns-in-Tours
 returns-in-Tours g c = rw c.in-Tours.is c.put_bound_line.ensures
 

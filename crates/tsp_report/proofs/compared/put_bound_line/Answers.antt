@@ -8,7 +8,7 @@ use Rattle.tsp_stream.specs.states.WriteProgress.{way_of}
 use Rattle.tsp_stream.proofs.Carrying.{carried_none, carried_then}
 use Rattle.tsp_report.proofs.compared.put_bound_line.Goals as goal
 
--- plan: with a bound one text after the other (`carried_then`), without one nothing (`carried_none`)
+-- plan: without a bound nothing is put, else three parts after each other
 pub returns-in-Some : goal.returns-in-Some
 returns-in-Some g c =
     let start = way_of g.W.Write.contents c.args.out.now c.args.piece.now.items in

@@ -9,7 +9,7 @@ use Rattle.tsp_stream.proofs.Carrying.{carried_then}
 use Rattle.tsp_report.specs.Report.{bound_lines}
 use Rattle.tsp_report.proofs.report.put_accepted.Goals as goal
 
--- plan: the lines of an accepted solution, one text after the other (`carried_then`)
+-- plan: the line of the length, then those of the bound where there is one, then the line yes, after each other
 pub returns : goal.returns
 returns g c =
     let start = way_of g.W.Write.contents c.args.out.now c.args.piece.now.items in

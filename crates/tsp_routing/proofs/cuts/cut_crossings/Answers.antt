@@ -1,7 +1,6 @@
 -- The goals of `cut_crossings` in src/cuts.rt: what its call requires and what it ensures.
-use Rattle.std.proofs.Common.{◌≡◌, ◌≢◌, ◌∙◌, ◌*◌, ℕ, List, [], ◌∷◌, length, get_or, true, false, refl, ap, sym, subst, arith}
-use Rattle.std.specs.Prelude.{◌||◌, ◌==◌, ℤ}
-use Rattle.std.specs.Global.{Vec}
+use Rattle.std.proofs.Common.{◌≡◌, ◌≢◌, ◌∙◌, ◌*◌, ℕ, List, [], ◌∷◌, length, get_or, true, refl, ap, sym, subst, arith}
+use Rattle.std.specs.Prelude.{◌||◌, ◌==◌}
 use Rattle.std.specs.List.{All}
 use Rattle.std.proofs.lemmas.Bool.{eq-eqb, ne_eqb, both_ways}
 use Rattle.tsp_format.specs.Nodes.{IsNode}
@@ -13,12 +12,11 @@ use Rattle.tsp_cases.specs.GoodFamilies.{HasEachOnce}
 use Rattle.tsp_cases.specs.states.Marked.{AreUnmarked, AreMarked}
 use Rattle.tsp_routing.specs.Cuts.{IsCutFamily}
 use Rattle.tsp_routing.specs.GoodSets.{IsGoodSet}
-use Rattle.tsp_routing.specs.states.Demands.{routing_by}
+use Rattle.tsp_routing.specs.states.Demands.{loads_problem}
 use Rattle.tsp_routing.proofs.CustomerSets.{few_customers, one_list, nodes_inside, depot_inside, is_one_set, customers_of}
 use Rattle.tsp_routing.proofs.cuts.cut_crossings.Goals as goal
 
--- plan: a family that is one set without a node twice or the depot is a good one (`is_one_set`, `customers_of`), and `need`
--- counts its routes; else it is bad
+-- plan: marks that are new say that no node comes twice, and the mark of the depot whether the set has it; the rest is `good`
 pub returns-then-marks-demands-clause-found : goal.returns-then-marks-demands-clause-found
 returns-then-marks-demands-clause-found c =
     let nodes : List ℕ = c.as_slice-customers.result.now in
@@ -73,7 +71,7 @@ returns-clause-found c =
           (c.if-not-mark_nodes.ensures.new.0 refl).once c.requires.fresh (c.if-not-mark_nodes.ensures.marked refl)
           c.if-marks-demands.false (lists_of c.args.sets.now) is,
       omega (arith, c.need.ensures.size, c.from.ensures),
-      λ cost. subst (λ (ss : List (List ℕ)). IsCutFamily (routing_by c.args.demands.now cost) (family_with own ss)) (sym is) (record {
+      λ cost. subst (λ (ss : List (List ℕ)). IsCutFamily (loads_problem c.args.demands.now cost) (family_with own ss)) (sym is) (record {
         alone = refl;
         need = c.need.result;
         cut = c.need.ensures.cut cost;

@@ -1,25 +1,24 @@
 -- The goals of `judge_cuts` in src/cuts.rt: its loop and what it ensures.
-use Rattle.std.proofs.Common.{◌≡◌, ◌∙◌, ◌+◌, ◌≤◌, ℕ, List, [], ◌∷◌, ◌++◌, length, get_or, refl, ap, sym, subst, arith, length-append}
+use Rattle.std.proofs.Common.{◌≡◌, ◌∙◌, ◌≤◌, ℕ, List, [], ◌∷◌, ◌++◌, length, get_or, refl, ap, sym, subst, arith, length-append}
 use Rattle.std.specs.Prelude.{Some, Option, replicate}
 use Rattle.std.specs.Global.{Vec}
 use Rattle.std.specs.List.{All}
-use Rattle.std.proofs.lemmas.List.{length-map, length-replicate, get_or-replicate}
+use Rattle.std.proofs.lemmas.List.{length-map, length-replicate}
 use Rattle.std.proofs.lemmas.List.Elements.{All-push}
-use Rattle.tsp_families.specs.FamilySets.{AreSetsOf, lists_of, families_in}
+use Rattle.tsp_families.specs.FamilySets.{lists_of, families_in}
 use Rattle.tsp_families.specs.declared.family.Crossings.{Crossings}
 use Rattle.tsp_cases.specs.Families.{IsFamily}
 use Rattle.tsp_cases.specs.FamiliesOfSets.{families_with}
 use Rattle.tsp_cases.specs.states.FamilyNumbers.{IsSmall}
 use Rattle.tsp_cases.specs.states.Marked.{AreUnmarked}
 use Rattle.tsp_cases.proofs.ListPlaces.{written}
-use Rattle.tsp_cases.proofs.FirstBad.{sets_here, holds_here}
+use Rattle.tsp_cases.proofs.FirstBad.{sets_here}
 use Rattle.tsp_routing.specs.GoodSets.{IsGoodSet}
 use Rattle.tsp_routing.specs.states.JudgedCuts.{IsFewCrossed, AreCutNumbers}
 use Rattle.tsp_routing.proofs.FirstBadSet.{HaveCuts, cuts_more, good_so_far, all_cuts, first_bad, lone_numbers, lone_hold, all_lone, all_once, few_sets}
 use Rattle.tsp_routing.proofs.cuts.judge_cuts.Goals as goal
 
--- plan: the families so far are good ones (`good_so_far`, `cuts_more`); the first other one is the first bad one (`first_bad`),
--- and at the end all are good (`all_cuts`)
+-- plan: the loop has the numbers of the families before; at its end these are all families, and a bad one is the first
 pub families-preserved : goal.families-preserved
 families-preserved c =
     let h = c.families.invariant in

@@ -1,5 +1,5 @@
 -- The goals of `customers_total` in src/given_back.rt: its loop and what it ensures.
-use Rattle.std.proofs.Common.{◌≡◌, ◌∙◌, ◌+◌, ◌-◌, ℕ, ℤ, List, length, get_or, ap, arith, rules, to_z, of_z, FitsSigned, ◌==◌}
+use Rattle.std.proofs.Common.{◌≡◌, ◌∙◌, ◌+◌, ◌-◌, ℕ, ℤ, length, get_or, ap, arith, rules, to_z, of_z, FitsSigned, ◌==◌}
 use Rattle.std.specs.Prelude.{pos, ◌+ℤ◌, if◌then◌else◌}
 use Rattle.std.specs.Int.{w64, w128}
 use Rattle.std.proofs.lemmas.Int.{ints, to_z-of_z}
@@ -10,7 +10,7 @@ use Rattle.tsp_routing.specs.states.Demands.{of_others}
 use Rattle.tsp_routing.proofs.CutNeeds.{others_sum, nodes_more, nodes_none}
 use Rattle.tsp_routing.proofs.given_back.customers_total.Goals as goal
 
--- plan: the sum so far grows by one node (`nodes_more`), and that of all nodes but the depot is the result (`others_sum`)
+-- plan: the sum so far is that of the nodes so far, the depot left out
 pub nodes-init : goal.nodes-init
 nodes-init c = record {
   size = (omega (arith, ints), omega (arith, ints));

@@ -7,13 +7,12 @@ use Rattle.std.proofs.lemmas.Int.{to_z-of_z}
 use Rattle.tsp_cases.specs.declared.decision.Decision.{Decision}
 use Rattle.tsp_cases.specs.states.Decided.{stack_of}
 use Rattle.tsp_cases.specs.states.OpenCases.{bears_on, decisions_in}
-use Rattle.tsp_routing.specs.PlanBounds.{low_of, high_of, least_times}
+use Rattle.tsp_routing.specs.PlanBounds.{low_of, high_of}
 use Rattle.tsp_routing.proofs.OwnLimits.{low_own, high_own}
 use Rattle.tsp_routing.proofs.SetProducts.{below_zero, from_zero}
 use Rattle.tsp_routing.proofs.given_back.given_by.Goals as goal
 
--- plan: a multiplier below 0 takes the upper limit (`below_zero`, `high_own`), another one the lower limit (`from_zero`,
--- `low_own`)
+-- plan: by the sign of the multiplier: it times the least or the most number of crossings
 pub returns-then-multiplier-lt0-clause-value : goal.returns-then-multiplier-lt0-clause-value
 returns-then-multiplier-lt0-clause-value c =
     let case : List Decision = decisions_in c.args.case.now in

@@ -1,5 +1,5 @@
 -- The goals of `limits_total` in src/given_back.rt: its loop.
-use Rattle.std.proofs.Common.{◌≡◌, ◌∙◌, ◌+◌, ◌-◌, ◌*◌, ◌^◌, ◌<◌, ℕ, ℤ, List, drop, length, get_or, ap, ap₂, subst, sym, arith, rules, to_z, of_z, FitsSigned}
+use Rattle.std.proofs.Common.{◌≡◌, ◌∙◌, ◌+◌, ◌-◌, ◌*◌, ◌^◌, ◌<◌, ℕ, ℤ, List, drop, length, get_or, ap, ap₂, subst, arith, rules, to_z, of_z, FitsSigned}
 use Rattle.std.specs.Prelude.{pos, neg_ℤ, unsigned_abs, ◌+ℤ◌}
 use Rattle.std.specs.Int.{w64, w128}
 use Rattle.std.proofs.lemmas.Int.{ints, to_z-of_z, fits_signed_from_abs}
@@ -8,13 +8,13 @@ use Rattle.tsp_theory.proofs.Sizes.{size_of}
 use Rattle.tsp_families.specs.declared.family.Crossings.{Crossings}
 use Rattle.tsp_cases.specs.declared.decision.Decision.{Decision}
 use Rattle.tsp_cases.specs.states.OpenCases.{decisions_in}
-use Rattle.tsp_routing.specs.GoodLeaves.{sizes_total}
 use Rattle.tsp_routing.specs.PlanBounds.{low_of, high_of, least_times}
 use Rattle.tsp_routing.specs.states.GivenBack.{numbers_total}
 use Rattle.tsp_routing.proofs.MultiplierSizes.{sizes_low}
 use Rattle.tsp_routing.proofs.SetProducts.{sizes_left, numbers_left}
 use Rattle.tsp_routing.proofs.given_back.limits_total.Goals as goal
 
+-- plan: the sum and what is left to be summed is the whole; sizes of multipliers bound it
 abbrev zero_crossed : Crossings
 zero_crossed = record { least = 0; most = 0 }
 
@@ -48,7 +48,6 @@ computed c =
     (fits_signed_from_abs w128 (to_z w128 c.families.sum-bits +ℤ c.given_by-sum.result)
     (let less = size_of (2 ^ 92) (to_z w128 c.families.sum-bits +ℤ c.given_by-sum.result) size in omega (arith, less)))
 
--- plan: the sum grows by one family, and stays as small as the multipliers together are (`sizes_low`, `sizes_left`)
 pub overflow_add-sum : goal.overflow_add-sum
 overflow_add-sum c =
     let whole : FitsSigned w128 c.given_by-sum.result = search rules in

@@ -5,7 +5,7 @@ use Rattle.std.proofs.lemmas.Int.{to_z-of_z}
 use Rattle.tsp_routing.proofs.SetProducts.{set_product}
 use Rattle.tsp_routing.proofs.given_back.times.Goals as goal
 
--- plan: a product of a multiplier and a limit is small enough (`set_product`)
+-- plan: the size of a product is the product of the sizes
 pub returns-clause-size : goal.returns-clause-size
 returns-clause-size c =
     let fits : FitsSigned w64 c.args.number = search rules in

@@ -1,5 +1,5 @@
 -- The goals of `judge_numbers` in src/good_numbers.rt: what it ensures.
-use Rattle.std.proofs.Common.{false, refl, length, drop, ℤ, List}
+use Rattle.std.proofs.Common.{false, refl, length, drop}
 use Rattle.std.specs.Prelude.{pos, neg_ℤ}
 use Rattle.std.proofs.lemmas.Bool.{both_ways}
 use Rattle.std.proofs.lemmas.List.Elements.{All-from_recursion}
@@ -8,7 +8,7 @@ use Rattle.tsp_routing.specs.GoodLeaves.{most_of_multipliers}
 use Rattle.tsp_routing.proofs.MultiplierSizes.{each_small}
 use Rattle.tsp_routing.proofs.good_numbers.judge_numbers.Goals as goal
 
--- plan: where the sizes of the multipliers sum to no more than is allowed, each is small (`each_small`)
+-- plan: each part is within its limits or not, and then the sizes of the multipliers sum to few enough or not
 pub returns-then-not-copy_within-2-clause-good : goal.returns-then-not-copy_within-2-clause-good
 returns-then-not-copy_within-2-clause-good c = (
   λ none. absurd (both_ways false refl none),

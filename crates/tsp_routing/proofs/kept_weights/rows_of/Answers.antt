@@ -1,13 +1,12 @@
 -- The goals of `rows_of` in src/kept_weights.rt: its loop.
-use Rattle.std.proofs.Common.{◌≡◌, ◌+◌, ◌++◌, [], ◌∷◌, ℕ, ℤ, List, subst, sym}
-use Rattle.std.specs.Global.{Vec}
+use Rattle.std.proofs.Common.{◌≡◌, ◌+◌, ◌++◌, [], ◌∷◌, ℕ, subst, sym}
 use Rattle.tsp_cases.specs.states.Lent.{lent_in}
 use Rattle.tsp_cases.specs.states.Combed.{set_weight}
 use Rattle.tsp_routing.specs.states.KeptWeights.{AreFirstRows}
 use Rattle.tsp_routing.proofs.WeightRows.{weights_more}
 use Rattle.tsp_routing.proofs.kept_weights.rows_of.Goals as goal
 
--- plan: a row more has the weights between its node and all others (`weights_more`)
+-- plan: the rows so far with the next one are one row more
 pub rows-preserved : goal.rows-preserved
 rows-preserved g c =
     let s = c.args.weights.now in

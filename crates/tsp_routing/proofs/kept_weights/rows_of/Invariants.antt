@@ -1,5 +1,4 @@
 -- The loop of `rows_of` in src/kept_weights.rt.
-use Rattle.std.proofs.Common.{ℕ}
 use Rattle.tsp_cases.specs.states.Lent.{lent_in}
 use Rattle.tsp_cases.specs.states.Combed.{set_weight}
 use Rattle.tsp_routing.specs.states.KeptWeights.{AreFirstRows}

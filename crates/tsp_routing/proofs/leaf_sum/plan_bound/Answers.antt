@@ -9,8 +9,7 @@ use Rattle.tsp_routing.specs.PlanBounds.{least_product, surplus}
 use Rattle.tsp_routing.proofs.RouteProducts.{surplus_is}
 use Rattle.tsp_routing.proofs.leaf_sum.plan_bound.Goals as goal
 
--- plan: the sum that is rounded up is that of the definition: the surplus of a route as often as there are routes, and the sum
--- given back (`surplus_is`)
+-- plan: no sum overflows, so the quotient that is rounded up is the least bound
 pub returns-clause-bound : goal.returns-clause-bound
 returns-clause-bound c = λ problem potentials families multipliers case nodes fewest back own. record {
   fewest = c.args.sum.fewest;

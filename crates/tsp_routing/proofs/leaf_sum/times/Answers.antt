@@ -2,7 +2,7 @@
 use Rattle.tsp_routing.proofs.RouteProducts.{product_fits, product_is}
 use Rattle.tsp_routing.proofs.leaf_sum.times.Goals as goal
 
--- plan: the product fits 128 bits (`product_fits`), so it is that of whole numbers (`product_is`)
+-- plan: the size of a product is the product of the sizes
 pub overflow_mul-result : goal.overflow_mul-result
 overflow_mul-result c = product_fits c.args.count c.args.number c.from.result c.requires.count c.requires.number c.from.ensures
 

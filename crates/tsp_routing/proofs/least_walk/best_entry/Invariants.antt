@@ -5,7 +5,7 @@ use Rattle.tsp_format.specs.Nodes.{IsNode}
 use Rattle.tsp_theory.specs.states.Nearest.{least_at}
 use Rattle.tsp_routing.specs.WalkTables.{IsEntryBelowTo, IsEntryMetTo}
 use Rattle.tsp_routing.specs.declared.onward.Onward.{Onward}
-use Rattle.tsp_routing.specs.states.Onwards.{walk_entry_of, entry_at, IsEntrySized, IsRowSized}
+use Rattle.tsp_routing.specs.states.Onwards.{onward_entry, entry_at, IsEntrySized, IsRowSized}
 use Rattle.tsp_routing.proofs.least_walk.best_entry.Given as goal
 
 abbrev pub invariant-nodes : goal.invariant-nodes
@@ -16,10 +16,10 @@ invariant-nodes g l =
     record {
       below : (w : ℕ → ℕ → ℤ) (default : Onward g.row.S.Denot)
           → ((next : ℕ) → IsNode l.walks.nodes next → least_at l.row next ≡ w l.node next)
-          → IsEntryBelowTo l.walks.nodes l.walks.depot w (entry_at value l.known default) l.node l.index (walk_entry_of value l.best);
+          → IsEntryBelowTo l.walks.nodes l.walks.depot w (entry_at value l.known default) l.node l.index (onward_entry value l.best);
       met : (w : ℕ → ℕ → ℤ) (default : Onward g.row.S.Denot)
           → ((next : ℕ) → IsNode l.walks.nodes next → least_at l.row next ≡ w l.node next)
-          → IsEntryMetTo half l.walks.nodes l.walks.depot w (entry_at value l.known default) l.node l.index (walk_entry_of value l.best);
+          → IsEntryMetTo half l.walks.nodes l.walks.depot w (entry_at value l.known default) l.node l.index (onward_entry value l.best);
       size : (size : ℕ) → size + link < half → IsRowSized value half l.walks.nodes size l.known
-          → IsEntrySized half (size + link) (walk_entry_of value l.best);
+          → IsEntrySized half (size + link) (onward_entry value l.best);
     }

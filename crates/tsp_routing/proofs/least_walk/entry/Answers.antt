@@ -1,19 +1,18 @@
 -- The goals of `entry` in src/least_walk.rt: what it ensures.
-use Rattle.std.proofs.Common.{◌≡◌, ◌+◌, ◌-◌, ◌*◌, ◌<◌, ◌≤◌, ◌∙◌, ℕ, ℤ, List, length, get_or, ap, subst, sym, arith}
+use Rattle.std.proofs.Common.{◌≡◌, ◌+◌, ◌-◌, ◌*◌, ◌<◌, ◌∙◌, ℕ, length, get_or, ap, subst, sym, arith}
 use Rattle.std.specs.Prelude.{pos, neg_ℤ}
 use Rattle.std.specs.Global.{Vec}
 use Rattle.tsp_format.specs.Nodes.{IsNode}
 use Rattle.tsp_format.specs.Ranges.{IsFromTo}
 use Rattle.tsp_theory.specs.states.Nearest.{least_at}
 use Rattle.tsp_routing.specs.declared.onward.Onward.{Onward}
-use Rattle.tsp_routing.specs.states.Onwards.{load_at, walk_entry_of, entry_at, IsRowSized, IsRowLow, IsRowMet}
+use Rattle.tsp_routing.specs.states.Onwards.{load_at, onward_entry, entry_at, IsRowSized, IsRowLow, IsRowMet}
 use Rattle.tsp_routing.proofs.WalkSizes.{links_more, links_up, entry_up}
 use Rattle.tsp_routing.proofs.WalkEntries.{nowhere_low}
 use Rattle.tsp_routing.proofs.WalkRests.{entry_low, entry_met, nowhere_met}
 use Rattle.tsp_routing.proofs.least_walk.entry.Goals as goal
 
--- plan: no walk begins at the depot or with more than there is left (`nowhere_low`, `nowhere_met`); else the entry is that of
--- the next nodes, whose row is of a lower load (`entry_low`, `entry_met`)
+-- plan: a node without a load left, or the depot, has no walk; else the best entry by those of the next nodes
 pub returns-then-node-walks-clause-low : goal.returns-then-node-walks-clause-low
 returns-then-node-walks-clause-low g c = λ rows customer. absurd (customer.1 c.if-node-walks.true)
 
@@ -24,14 +23,14 @@ pub returns-then-load-table-clause-low : goal.returns-then-load-table-clause-low
 returns-then-load-table-clause-low g c = λ rows customer.
     nowhere_low c.args.walks.now.nodes c.args.walks.now.depot (g.W.Weights.at c.args.walks.now.weights.now)
     (load_at c.args.walks.now.loads.now) (length c.args.table.now) c.args.node
-    (walk_entry_of g.S.Sum.value c.nowhere-then-load-table.result) (λ le. omega (arith, le, c.if-load-table.true))
+    (onward_entry g.S.Sum.value c.nowhere-then-load-table.result) (λ le. omega (arith, le, c.if-load-table.true))
 
 pub returns-then-load-table-clause-met : goal.returns-then-load-table-clause-met
 returns-then-load-table-clause-met g c = λ rows customer.
     let fits = g.met.S.Sum.fits 0 (omega arith) in
     nowhere_met g.S.Sum.half c.args.walks.now.nodes c.args.walks.now.depot (g.W.Weights.at c.args.walks.now.weights.now)
     (load_at c.args.walks.now.loads.now) (length c.args.table.now) c.args.node
-    (walk_entry_of g.S.Sum.value c.nowhere-then-load-table.result) (omega (arith, fits)) c.nowhere-then-load-table.ensures.least
+    (onward_entry g.S.Sum.value c.nowhere-then-load-table.result) (omega (arith, fits)) c.nowhere-then-load-table.ensures.least
     c.nowhere-then-load-table.ensures.other
 
 pub bounds-table-table : goal.bounds-table-table
@@ -83,7 +82,7 @@ returns-clause-low g c = λ rows customer.
     c.fill.ensures.values next (subst (λ (k : ℕ). IsNode k next) (sym c.args.walks.now.same) there) in
     let zero : Onward g.row.S.Denot = c.best_entry.result in
     entry_low n depot w load (length c.args.table.now) c.args.node (entry_at value c.as_slice-known.result.now zero)
-    (walk_entry_of value c.best_entry.result) (λ le next other. low next zero other) (λ le. c.best_entry.ensures.below w zero row)
+    (onward_entry value c.best_entry.result) (λ le next other. low next zero other) (λ le. c.best_entry.ensures.below w zero row)
 
 pub returns-clause-met : goal.returns-clause-met
 returns-clause-met g c = λ rows customer.
@@ -106,7 +105,7 @@ returns-clause-met g c = λ rows customer.
     let zero : Onward g.row.S.Denot = c.best_entry.result in
     let fits = g.met.S.Sum.fits 0 (omega arith) in
     entry_met half n depot w load (length c.args.table.now) c.args.node (entry_at value c.as_slice-known.result.now zero)
-    c.if-load-table.false customer (λ next other. low next zero other) (omega (arith, fits)) (walk_entry_of value c.best_entry.result) n
+    c.if-load-table.false customer (λ next other. low next zero other) (omega (arith, fits)) (onward_entry value c.best_entry.result) n
     (c.best_entry.ensures.met w zero row)
 
 pub returns-clause-size : goal.returns-clause-size
@@ -125,7 +124,7 @@ returns-clause-size g c =
     c.as_slice-known.ensures.value ∙ ap (λ (v : Vec (Onward g.row.S.Denot)). v.items) c.index-table-table.is in
     let more = links_more (left + 1) link in
     let up = links_up (left + 1 + 1) (length c.args.table.now + 1) link (omega (arith, lt)) in
-    entry_up half ((left + 1) * link + link) ((length c.args.table.now + 1) * link) (walk_entry_of value c.best_entry.result)
+    entry_up half ((left + 1) * link + link) ((length c.args.table.now + 1) * link) (onward_entry value c.best_entry.result)
     (omega (arith, more, up))
     (c.best_entry.ensures.size ((left + 1) * link) (g.met.S.Sum.fits (left + 1) (omega (arith, lt, c.requires.few)))
     (subst (IsRowSized value half n ((left + 1) * link)) (sym is) (c.requires.sizes left c.index-table-table.result lt)))

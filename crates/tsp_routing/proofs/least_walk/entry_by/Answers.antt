@@ -1,17 +1,16 @@
 -- The goals of `entry_by` in src/least_walk.rt: what it ensures.
-use Rattle.std.proofs.Common.{◌≡◌, ◌+◌, ◌<◌, ◌∙◌, ℕ, length, get_or, ap, sym, subst, arith}
+use Rattle.std.proofs.Common.{◌≡◌, ◌+◌, ◌<◌, ◌∙◌, ℕ, length, ap, sym, subst, arith}
 use Rattle.std.specs.Prelude.{ℤ, ◌+ℤ◌}
 use Rattle.std.proofs.lemmas.Int.{ints}
 use Rattle.tsp_theory.specs.states.Nearest.{least_at}
 use Rattle.tsp_routing.specs.declared.onward.Onward.{Onward}
 use Rattle.tsp_routing.specs.WalkTables.{WalkEntry, least_from, IsReal}
-use Rattle.tsp_routing.specs.states.Onwards.{walk_entry_of, entry_at, IsEntrySized}
+use Rattle.tsp_routing.specs.states.Onwards.{onward_entry, entry_at, IsEntrySized}
 use Rattle.tsp_routing.proofs.WalkSizes.{get_same, known_sized, sum_low, sum_near, sum_real}
 use Rattle.tsp_routing.proofs.WalkEntries.{below_more, met_more}
 use Rattle.tsp_routing.proofs.least_walk.entry_by.Goals as goal
 
--- plan: one next node more is at most and at least what the entry says (`below_more`, `met_more`), and sums stay in their range
--- (`sum_near`, `sum_real`)
+-- plan: the entry of a next node, or its other one where that comes back to this node
 pub returns-clause-below : goal.returns-clause-below
 returns-clause-below g c = λ w default row so_far.
     let value = g.S.Sum.value in
@@ -22,9 +21,9 @@ returns-clause-below g c = λ w default row so_far.
     let same = c.index-known-next.is ∙ get_same c.args.known.now c.args.next own default long in
     let second : value c.least_onward-onward.result ≡ least_from (known c.args.next) c.args.node =
     c.least_onward-onward.ensures.value
-    ∙ ap (λ (e : Onward g.row.S.Denot). least_from (walk_entry_of value e) c.args.node) same in
+    ∙ ap (λ (e : Onward g.row.S.Denot). least_from (onward_entry value e) c.args.node) same in
     below_more g.S.Sum.half c.args.walks.now.nodes c.args.walks.now.depot w known c.args.node c.args.next
-    (walk_entry_of value c.args.best) (walk_entry_of value c.improved.result) c.requires.next.0 c.improved.ensures.keeps
+    (onward_entry value c.args.best) (onward_entry value c.improved.result) c.requires.next.0 c.improved.ensures.keeps
     (c.improved.ensures.own (w c.args.node c.args.next +ℤ least_from (known c.args.next) c.args.node)
     (omega (arith, ints, c.plus.ensures, c.weight_in.ensures, second, row))) so_far
 
@@ -41,14 +40,14 @@ returns-clause-met g c = λ w default row so_far.
     let same = c.index-known-next.is ∙ get_same c.args.known.now c.args.next own default long in
     let second : value c.least_onward-onward.result ≡ least_from (known c.args.next) c.args.node =
     c.least_onward-onward.ensures.value
-    ∙ ap (λ (e : Onward g.row.S.Denot). least_from (walk_entry_of value e) c.args.node) same in
-    let sized : IsEntrySized half sizes.0 (walk_entry_of value own) =
-    subst (λ (e : Onward g.row.S.Denot). IsEntrySized half sizes.0 (walk_entry_of value e)) (sym c.index-known-next.is)
+    ∙ ap (λ (e : Onward g.row.S.Denot). least_from (onward_entry value e) c.args.node) same in
+    let sized : IsEntrySized half sizes.0 (onward_entry value own) =
+    subst (λ (e : Onward g.row.S.Denot). IsEntrySized half sizes.0 (onward_entry value e)) (sym c.index-known-next.is)
     (known_sized value half n sizes.0 c.args.next c.args.known.now own c.requires.next sizes.2) in
     let is : value c.plus.result ≡ value c.least_onward-onward.result +ℤ least_at c.args.row.now c.args.next =
     omega (arith, ints, c.plus.ensures, c.weight_in.ensures) in
-    met_more half n c.args.walks.now.depot w known c.args.node c.args.next (value c.plus.result) (walk_entry_of value c.args.best)
-    (walk_entry_of value c.improved.result) (c.requires.next, c.if-next-walks.false) (λ at. c.if-next-node.false (sym at))
+    met_more half n c.args.walks.now.depot w known c.args.node c.args.next (value c.plus.result) (onward_entry value c.args.best)
+    (onward_entry value c.improved.result) (c.requires.next, c.if-next-walks.false) (λ at. c.if-next-node.false (sym at))
     (omega (arith, ints, is, second, row))
     (λ real. subst (IsReal half) second
     (sum_real half link sizes.0 (least_at c.args.row.now c.args.next) (value c.least_onward-onward.result) (value c.plus.result) is
@@ -61,8 +60,8 @@ returns-clause-size g c = λ size fits rows best.
     let half : ℕ = g.S.Sum.half in
     let link : ℕ = g.S.Sum.link in
     let own = c.index-known-next.result in
-    let sized : IsEntrySized half size (walk_entry_of value own) =
-    subst (λ (e : Onward g.row.S.Denot). IsEntrySized half size (walk_entry_of value e)) (sym c.index-known-next.is)
+    let sized : IsEntrySized half size (onward_entry value own) =
+    subst (λ (e : Onward g.row.S.Denot). IsEntrySized half size (onward_entry value e)) (sym c.index-known-next.is)
     (known_sized value half c.args.walks.now.nodes size c.args.next c.args.known.now own c.requires.next rows) in
     let number = c.least_onward-onward.ensures.size size sized in
     let a : ℤ = least_at c.args.row.now c.args.next in

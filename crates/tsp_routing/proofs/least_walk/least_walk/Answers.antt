@@ -11,8 +11,7 @@ use Rattle.tsp_routing.proofs.Places.{places_push}
 use Rattle.tsp_routing.proofs.WalkRests.{no_number_no_walk, found_least}
 use Rattle.tsp_routing.proofs.least_walk.least_walk.Goals as goal
 
--- plan: a row for a load more is added (`places_push`); a number of the last row that is no walk says that there is none
--- (`no_number_no_walk`), another one is the least weight (`found_least`)
+-- plan: the loop has the rows of the loads so far; the start by the last row is the least walk
 pub loads-preserved : goal.loads-preserved
 loads-preserved g c =
     let value = g.S.Sum.value in

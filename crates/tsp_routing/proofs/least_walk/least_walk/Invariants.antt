@@ -1,5 +1,5 @@
 -- The loop of `least_walk` in src/least_walk.rt.
-use Rattle.std.proofs.Common.{◌≡◌, ℕ, ◌+◌, length}
+use Rattle.std.proofs.Common.{◌≡◌, ◌+◌, length}
 use Rattle.tsp_routing.specs.states.Onwards.{load_at, AreRowsSized, AreRowsLow, AreRowsMet}
 use Rattle.tsp_routing.proofs.least_walk.least_walk.Given as goal
 

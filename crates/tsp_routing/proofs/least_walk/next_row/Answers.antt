@@ -5,16 +5,16 @@ use Rattle.std.proofs.lemmas.List.Elements.{All-push, All-from_recursion}
 use Rattle.tsp_theory.specs.Routing.{IsCustomer}
 use Rattle.tsp_routing.specs.WalkTables.{IsLow, IsMet}
 use Rattle.tsp_routing.specs.declared.onward.Onward.{Onward}
-use Rattle.tsp_routing.specs.states.Onwards.{load_at, walk_entry_of, entry_at, IsEntrySized}
+use Rattle.tsp_routing.specs.states.Onwards.{load_at, onward_entry, entry_at, IsEntrySized}
 use Rattle.tsp_routing.proofs.WalkEntries.{entry_pushed}
 use Rattle.tsp_routing.proofs.least_walk.next_row.Goals as goal
 
--- plan: an entry more is that of its node (`entry_pushed`)
+-- plan: the loop has the entries of the nodes so far
 pub nodes-init : goal.nodes-init
 nodes-init g c =
     let value = g.S.Sum.value in
     let size : ℕ = (length c.args.table.now + 1) * g.S.Sum.link in
-    let P : Onward g.row.S.Denot → Type 0 = λ onward. IsEntrySized g.S.Sum.half size (walk_entry_of value onward) in
+    let P : Onward g.row.S.Denot → Type 0 = λ onward. IsEntrySized g.S.Sum.half size (onward_entry value onward) in
     let is : c.push.new.list.items ≡ c.nowhere.result ∷ [] =
     c.in_ok-push.ensures.items ∙ ap (λ xs. xs ++ c.nowhere.result ∷ []) c.new-next.ensures.items in
     record {
@@ -38,18 +38,18 @@ nodes-preserved g c =
     let own : Onward g.row.S.Denot = c.entry-entry.result in
     let pushed : c.push-in-nodes.new.list.items ≡ entries ++ own ∷ [] = c.in_ok-push-2.ensures.items in
     let long = length-append entries (own ∷ []) in
-    let P : Onward g.row.S.Denot → Type 0 = λ onward. IsEntrySized half ((left + 1) * g.S.Sum.link) (walk_entry_of value onward) in
+    let P : Onward g.row.S.Denot → Type 0 = λ onward. IsEntrySized half ((left + 1) * g.S.Sum.link) (onward_entry value onward) in
     let h = c.nodes.invariant in
     record {
       long = ap (λ xs. length xs) pushed ∙ omega (arith, long, h.long);
       room = c.entry-entry.ensures.room ∙ h.room;
       low = λ rows node default customer high.
           subst (λ (xs : List (Onward g.row.S.Denot)). IsLow n depot w load left node (entry_at value xs default node)) (sym pushed)
-          (entry_pushed (IsCustomer n depot) (λ k onward. IsLow n depot w load left k (walk_entry_of value onward)) entries own
+          (entry_pushed (IsCustomer n depot) (λ k onward. IsLow n depot w load left k (onward_entry value onward)) entries own
           c.nodes.index h.long (h.low rows) (λ other. c.entry-entry.ensures.low rows other) node default customer high);
       met = λ rows node default customer high.
           subst (λ (xs : List (Onward g.row.S.Denot)). IsMet half n depot w load left node (entry_at value xs default node)) (sym pushed)
-          (entry_pushed (IsCustomer n depot) (λ k onward. IsMet half n depot w load left k (walk_entry_of value onward)) entries own
+          (entry_pushed (IsCustomer n depot) (λ k onward. IsMet half n depot w load left k (onward_entry value onward)) entries own
           c.nodes.index h.long (h.met rows) (λ other. c.entry-entry.ensures.met rows other) node default customer high);
       sizes = subst (All P) (sym pushed) (All-push P entries own h.sizes c.entry-entry.ensures.size);
     }

@@ -4,7 +4,7 @@ use Rattle.std.specs.List.{All}
 use Rattle.tsp_theory.specs.Routing.{IsCustomer}
 use Rattle.tsp_routing.specs.WalkTables.{IsLow, IsMet}
 use Rattle.tsp_routing.specs.declared.onward.Onward.{Onward}
-use Rattle.tsp_routing.specs.states.Onwards.{load_at, walk_entry_of, entry_at, IsEntrySized, AreRowsLow, AreRowsMet}
+use Rattle.tsp_routing.specs.states.Onwards.{load_at, onward_entry, entry_at, IsEntrySized, AreRowsLow, AreRowsMet}
 use Rattle.tsp_routing.proofs.least_walk.next_row.Given as goal
 
 abbrev pub invariant-nodes : goal.invariant-nodes
@@ -22,5 +22,5 @@ invariant-nodes g l =
           → IsLow n depot w load (length l.table) node (entry_at value l.next.items default node);
       met : AreRowsMet value half n depot w load l.table → (node : ℕ) (default : Onward g.row.S.Denot) → IsCustomer n depot node
           → node ≤ l.index → IsMet half n depot w load (length l.table) node (entry_at value l.next.items default node);
-      sizes : All (λ onward. IsEntrySized half ((length l.table + 1) * g.S.Sum.link) (walk_entry_of value onward)) l.next.items;
+      sizes : All (λ onward. IsEntrySized half ((length l.table + 1) * g.S.Sum.link) (onward_entry value onward)) l.next.items;
     }

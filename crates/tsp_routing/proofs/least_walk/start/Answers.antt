@@ -1,5 +1,5 @@
 -- The goals of `start` in src/least_walk.rt: what its call requires and what it ensures.
-use Rattle.std.proofs.Common.{◌≡◌, ◌+◌, ◌-◌, ◌*◌, ◌<◌, ◌∙◌, ℕ, ℤ, List, length, get_or, ap, subst, sym, arith}
+use Rattle.std.proofs.Common.{◌≡◌, ◌+◌, ◌-◌, ◌*◌, ◌<◌, ◌∙◌, ℕ, length, get_or, ap, subst, sym, arith}
 use Rattle.std.specs.Prelude.{pos, neg_ℤ}
 use Rattle.std.specs.Global.{Vec}
 use Rattle.tsp_format.specs.Nodes.{IsNode}
@@ -7,11 +7,11 @@ use Rattle.tsp_format.specs.Ranges.{IsFromTo}
 use Rattle.tsp_theory.specs.states.Nearest.{least_at}
 use Rattle.tsp_routing.specs.declared.onward.Onward.{Onward}
 use Rattle.tsp_routing.specs.states.Onwards.{load_at, entry_at, IsRowSized, IsRowLow, IsRowMet}
-use Rattle.tsp_routing.proofs.WalkSizes.{links_more, real_sized}
+use Rattle.tsp_routing.proofs.WalkSizes.{real_sized}
 use Rattle.tsp_routing.proofs.WalkRests.{start_low, start_exact}
 use Rattle.tsp_routing.proofs.least_walk.start.Goals as goal
 
--- plan: the least over the first customers is below each walk (`start_low`) and is the weight of one (`start_exact`)
+-- plan: the last row has all that there is a load left for
 pub start_by-requires-clause-links : goal.start_by-requires-clause-links
 start_by-requires-clause-links g c = λ next there.
     let links = IsFromTo (neg_ℤ (pos g.S.Sum.link)) (pos g.S.Sum.link) in

@@ -1,5 +1,5 @@
 -- The goals of `start_by` in src/least_walk.rt: its loop and what it ensures.
-use Rattle.std.proofs.Common.{◌≡◌, ◌≢◌, ◌+◌, ℕ, subst, ap, arith, inl, inr}
+use Rattle.std.proofs.Common.{◌≢◌, ◌+◌, ℕ, subst, ap, arith, inl, inr}
 use Rattle.std.specs.Prelude.{◌+ℤ◌}
 use Rattle.std.proofs.lemmas.Int.{ints}
 use Rattle.std.proofs.lemmas.Bool.{cases_eq}
@@ -7,7 +7,7 @@ use Rattle.tsp_theory.specs.states.Nearest.{least_at}
 use Rattle.tsp_routing.specs.states.Onwards.{entry_at}
 use Rattle.tsp_routing.proofs.least_walk.start_by.Goals as goal
 
--- plan: one first customer more, and the number is at most its walks' too
+-- plan: the loop has the least start of the nodes so far
 pub nodes-preserved : goal.nodes-preserved
 nodes-preserved g c =
     let value = g.S.Sum.value in

@@ -1,5 +1,5 @@
 -- The goals of `start_with` in src/least_walk.rt: what it ensures.
-use Rattle.std.proofs.Common.{◌≡◌, ◌<◌, ◌∙◌, ℕ, length, get_or, ap, sym, subst, arith, inr}
+use Rattle.std.proofs.Common.{◌≡◌, ◌<◌, ℕ, length, get_or, ap, arith, inr}
 use Rattle.std.specs.Prelude.{ℤ, ◌+ℤ◌}
 use Rattle.std.proofs.lemmas.Int.{ints}
 use Rattle.tsp_theory.specs.states.Nearest.{least_at}
@@ -7,7 +7,7 @@ use Rattle.tsp_routing.specs.declared.onward.Onward.{Onward}
 use Rattle.tsp_routing.proofs.WalkSizes.{get_same, known_sized, sum_low, sum_near, sum_real}
 use Rattle.tsp_routing.proofs.least_walk.start_with.Goals as goal
 
--- plan: the sum of a link and an entry stays in its range (`sum_near`, `sum_real`), and is met where it is the lower one
+-- plan: the lower one of the start so far and that by this node
 pub returns-then-is_below-clause-met : goal.returns-then-is_below-clause-met
 returns-then-is_below-clause-met g c = λ w default row so_far.
     let value = g.S.Sum.value in

@@ -1,5 +1,5 @@
 -- The goals of `highest` in src/limits.rt: its loop and what it ensures.
-use Rattle.std.proofs.Common.{◌≡◌, ◌∙◌, ℕ, List, [], ◌∷◌, take, length, get_or, false, sym, ap, arith}
+use Rattle.std.proofs.Common.{◌∙◌, ℕ, List, [], ◌∷◌, take, get_or, false, sym, ap, arith}
 use Rattle.std.proofs.lemmas.List.{take_more}
 use Rattle.tsp_cases.specs.declared.decision.Decision.{Decision}
 use Rattle.tsp_cases.specs.states.Decided.{stack_of}
@@ -8,10 +8,10 @@ use Rattle.tsp_routing.specs.PlanBounds.{high_of}
 use Rattle.tsp_routing.proofs.TakenLimits.{taken_all}
 use Rattle.tsp_routing.proofs.limits.highest.Goals as goal
 
+-- plan: the decisions so far lower the number as far as they do, the last one first
 abbrev zero_limit : Decision
 zero_limit = record { pair = (0, 0); taken = false }
 
--- plan: a decision more is the top of the stack (`stack_more`), and may lower the limit
 pub limits-preserved : goal.limits-preserved
 limits-preserved c =
     let all : List Decision = c.args.decisions.now in

@@ -9,12 +9,12 @@ use Rattle.tsp_cases.specs.states.Kept.{AreMoved}
 use Rattle.tsp_cases.specs.states.Lent.{lent_in}
 use Rattle.tsp_cases.specs.states.OpenCases.{decisions_in}
 use Rattle.tsp_cases.proofs.ListPlaces.{written}
-use Rattle.tsp_routing.specs.states.Demands.{routing_by}
+use Rattle.tsp_routing.specs.states.Demands.{loads_problem}
 use Rattle.tsp_routing.specs.states.PlanRooms.{IsFoundOfFew}
 use Rattle.tsp_routing.proofs.PlanJudging.{found_of_plan_leaf, plan_numbers_read, plan_numbers_kept}
 use Rattle.tsp_routing.proofs.plan_judge.judge_leaf.Goals as goal
 
--- plan: the numbers that were read are those of the leaf (`plan_numbers_read`), so what is found of it is its bound
+-- plan: the numbers that were judged are those that are kept, so what is found of the leaf with these is found of the case
 -- (`found_of_plan_leaf`)
 pub returns-then-not-few-clause-judged : goal.returns-then-not-few-clause-judged
 returns-then-not-few-clause-judged g c =
@@ -25,7 +25,7 @@ returns-then-not-few-clause-judged g c =
     let at : length c.deref_mut.result.now ≡ n = ap length c.deref_mut.ensures.value ∙ c.requires.room.potentials in
     let many : length c.deref_mut-2.result.now ≡ families = ap length c.deref_mut-2.ensures.value ∙ c.requires.room.multipliers in
     let good = plan_numbers_read n _ families _ read at many (c.if-not-judge_numbers.ensures.good.0 refl) in
-    let found : List Decision × LeafNumbers → Option ℤ → Type 0 = IsFoundOfFew c.args.few (routing_by s.demands (g.C.Costs.at s.costs.now))
+    let found : List Decision × LeafNumbers → Option ℤ → Type 0 = IsFoundOfFew c.args.few (loads_problem s.demands (g.C.Costs.at s.costs.now))
     s.scale s.unit s.units.now.light (families_with s.crossed.now (lent_in s.families.now)) in
     let many_loads : c.args.few ≡ true → ⊥ = λ few. false≢true (sym c.if-not-few.true ∙ few) in
     found_of_plan_leaf found n families (decisions_in c.args.case.now) read (take n read) (drop n read) None good refl refl
@@ -71,7 +71,7 @@ returns-clause-judged g c =
     ∙ c.if-not-judge_numbers.ensures.potentials refl in
     let of_families = c.deref-4.ensures.value ∙ written room.multipliers.len c.judge_numbers.new.multipliers _ (c.judge_numbers.ensures.multipliers_len ∙ c.deref_mut-2.ensures.len)
     ∙ c.if-not-judge_numbers.ensures.multipliers refl in
-    let found : List Decision × LeafNumbers → Option ℤ → Type 0 = IsFoundOfFew c.args.few (routing_by s.demands (g.C.Costs.at s.costs.now))
+    let found : List Decision × LeafNumbers → Option ℤ → Type 0 = IsFoundOfFew c.args.few (loads_problem s.demands (g.C.Costs.at s.costs.now))
     s.scale s.unit s.units.now.light (families_with s.crossed.now (lent_in s.families.now)) in
     found_of_plan_leaf found n families (decisions_in c.args.case.now) read c.deref-3.result.now c.deref-4.result.now c.in_ok-bound.bound good
     (of_nodes ∙ ap (λ (k : ℕ). take k read) at) (of_families ∙ ap (λ (k : ℕ). drop k read) at) (λ few. c.in_ok-bound.ensures.found)

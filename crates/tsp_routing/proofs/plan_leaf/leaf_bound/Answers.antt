@@ -1,5 +1,5 @@
 -- The goals of `leaf_bound` in src/plan_leaf.rt: the sum of the leaf, and what it ensures.
-use Rattle.std.proofs.Common.{◌≡◌, ◌∙◌, ◌+◌, ◌-◌, ◌*◌, ℕ, ℤ, List, Option, length, refl, ap, ap₂, sym, subst, arith, rules, to_z, of_z, FitsSigned}
+use Rattle.std.proofs.Common.{◌≡◌, ◌∙◌, ◌+◌, ◌-◌, ◌*◌, ℕ, ℤ, List, length, refl, ap, ap₂, sym, subst, arith, rules, to_z, of_z, FitsSigned}
 use Rattle.std.specs.Prelude.{pos, ◌-ℤ◌, ◌*ℤ◌}
 use Rattle.std.specs.Global.{Vec}
 use Rattle.std.specs.Int.{w64, w128}
@@ -14,11 +14,11 @@ use Rattle.tsp_cases.specs.states.OpenCases.{decisions_in}
 use Rattle.tsp_routing.specs.PlanBounds.{limits_total, IsPlanBound}
 use Rattle.tsp_routing.specs.PlanLinks.{sum_of_customers}
 use Rattle.tsp_routing.specs.PlanTrees.{IsLeastWalk}
-use Rattle.tsp_routing.specs.states.Demands.{routing_by}
+use Rattle.tsp_routing.specs.states.Demands.{loads_problem}
 use Rattle.tsp_routing.proofs.SetProducts.{numbers_of_families}
 use Rattle.tsp_routing.proofs.plan_leaf.leaf_bound.Goals as goal
 
--- plan: the sum given back is in its range, so the bound is that of the definition (`numbers_of_families`)
+-- plan: the sum that is given back fits 128 bits, and is that of the families (`numbers_of_families`)
 pub invariant_of-sum : goal.invariant_of-sum
 invariant_of-sum g c =
     let leaf = c.args.leaf.now in
@@ -48,7 +48,7 @@ returns-clause-found g c =
     let s = leaf.setting.now in
     let n : ℕ = s.demands.nodes in
     let cost = g.C.Costs.at s.costs.now in
-    let problem = routing_by s.demands cost in
+    let problem = loads_problem s.demands cost in
     let lists : List (List (List ℕ)) = lent_in s.families.now in
     let ps : List ℤ = leaf.potentials.now in
     let ms : List ℤ = leaf.multipliers.now in

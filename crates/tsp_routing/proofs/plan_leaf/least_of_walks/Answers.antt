@@ -1,5 +1,5 @@
 -- The goals of `least_of_walks` in src/plan_leaf.rt: the walks of the leaf, and what it ensures.
-use Rattle.std.proofs.Common.{◌≡◌, ◌∙◌, ◌≤◌, ℕ, ℤ, List, Option, length, ap, sym, subst}
+use Rattle.std.proofs.Common.{◌≡◌, ◌∙◌, ◌≤◌, ℕ, ℤ, List, length, ap, sym, subst}
 use Rattle.std.specs.Prelude.{◌-ℤ◌}
 use Rattle.std.proofs.lemmas.List.{length-map}
 use Rattle.std.proofs.lemmas.Result.{IfOk-weaker}
@@ -12,14 +12,13 @@ use Rattle.tsp_cases.specs.FamiliesOfSets.{families_with}
 use Rattle.tsp_cases.proofs.CombsBySets.{sets_tell_combs}
 use Rattle.tsp_routing.specs.Loads.{load_in, room_in}
 use Rattle.tsp_routing.specs.PlanBounds.{walk_weight}
-use Rattle.tsp_routing.specs.states.Demands.{routing_by}
+use Rattle.tsp_routing.specs.states.Demands.{loads_problem}
 use Rattle.tsp_routing.specs.states.Onwards.{load_at}
 use Rattle.tsp_routing.proofs.SignedSets.{least_same}
 use Rattle.tsp_routing.proofs.UnitLoads.{loads_are_some}
 use Rattle.tsp_routing.proofs.plan_leaf.least_of_walks.Goals as goal
 
--- plan: the weights of the code are those of the definition (`sets_tell_combs`), so the least walk under the ones is the least
--- under the others (`least_same`); each load is some (`loads_are_some`)
+-- plan: loads and weights of the code are those of the problem (`least_same`), for narrow sums and for others
 pub invariant_of-walks : goal.invariant_of-walks
 invariant_of-walks g c =
     let s = c.args.leaf.now.setting.now in
@@ -32,7 +31,7 @@ invariant_of-walks g c =
       by_node = ap length loads ∙ s.loads.places;
       some = λ node inside.
           subst (λ (k : ℕ). 1 ≤ k) (sym (ap (λ (ks : List ℕ). load_at ks node) loads ∙ s.loads.loads_are cost node inside.0))
-          (loads_are_some (routing_by s.demands cost) s.unit s.units.now.light node);
+          (loads_are_some (loads_problem s.demands cost) s.unit s.units.now.light node);
       same = c.of-weights.ensures.nodes ∙ s.same;
     }
 
@@ -48,7 +47,7 @@ invariant_of-walks-2 g c =
       by_node = ap length loads ∙ s.loads.places;
       some = λ node inside.
           subst (λ (k : ℕ). 1 ≤ k) (sym (ap (λ (ks : List ℕ). load_at ks node) loads ∙ s.loads.loads_are cost node inside.0))
-          (loads_are_some (routing_by s.demands cost) s.unit s.units.now.light node);
+          (loads_are_some (loads_problem s.demands cost) s.unit s.units.now.light node);
       same = c.of-weights.ensures.nodes ∙ s.same;
     }
 
@@ -70,7 +69,7 @@ returns-then-are_narrow-clause-least g c =
     ≡ walk_weight s.scale ps (families_with s.crossed.now lists) ms cost i j = λ i j. c.of-weights.ensures.weights i j
     ∙ ap (λ (z : ℤ). weight_between s.scale ps cost i j -ℤ z) (sym (sets_tell_combs s.crossed.now ms lists i j many long)) in
     IfOk-weaker c.least_walk.result _ _ (λ found least. least_same n s.demands.depot (load_at c.deref-2.result.now)
-    (load_in (routing_by s.demands cost) s.unit s.units.now.light) s.units.now.room (room_in (routing_by s.demands cost) s.unit s.units.now.light) _
+    (load_in (loads_problem s.demands cost) s.unit s.units.now.light) s.units.now.room (room_in (loads_problem s.demands cost) s.unit s.units.now.light) _
     (walk_weight s.scale ps (families_with s.crossed.now lists) ms cost) found
     (λ x x_in. ap (λ (ks : List ℕ). load_at ks x) loads ∙ s.loads.loads_are cost x x_in) (s.loads.room_is cost) weights least)
     c.least_walk.ensures.exact
@@ -93,7 +92,7 @@ returns-clause-least g c =
     ≡ walk_weight s.scale ps (families_with s.crossed.now lists) ms cost i j = λ i j. c.of-weights.ensures.weights i j
     ∙ ap (λ (z : ℤ). weight_between s.scale ps cost i j -ℤ z) (sym (sets_tell_combs s.crossed.now ms lists i j many long)) in
     IfOk-weaker c.least_walk-2.result _ _ (λ found least. least_same n s.demands.depot (load_at c.deref-2.result.now)
-    (load_in (routing_by s.demands cost) s.unit s.units.now.light) s.units.now.room (room_in (routing_by s.demands cost) s.unit s.units.now.light) _
+    (load_in (loads_problem s.demands cost) s.unit s.units.now.light) s.units.now.room (room_in (loads_problem s.demands cost) s.unit s.units.now.light) _
     (walk_weight s.scale ps (families_with s.crossed.now lists) ms cost) found
     (λ x x_in. ap (λ (ks : List ℕ). load_at ks x) loads ∙ s.loads.loads_are cost x x_in) (s.loads.room_is cost) weights least)
     c.least_walk-2.ensures.exact

@@ -1,5 +1,5 @@
 -- The goals of `moved_of` in src/plan_leaf.rt: what it ensures.
-use Rattle.std.proofs.Common.{◌≡◌, ◌∙◌, ◌+◌, ◌<◌, ℕ, ℤ, List, length, replicate, get_or, refl, ap, sym, arith}
+use Rattle.std.proofs.Common.{◌≡◌, ◌∙◌, ◌+◌, ℕ, ℤ, List, replicate, ap, arith}
 use Rattle.std.specs.Prelude.{pos, neg_ℤ, ◌+ℤ◌}
 use Rattle.std.specs.Int.{w64, int_wrap}
 use Rattle.std.proofs.lemmas.Int.{ints}
@@ -17,7 +17,7 @@ use Rattle.tsp_routing.specs.GoodLeaves.{most_of_multipliers}
 use Rattle.tsp_routing.proofs.MultiplierSizes.{each_small}
 use Rattle.tsp_routing.proofs.plan_leaf.moved_of.Goals as goal
 
--- plan: potentials less the multipliers of the sets of each node (`moved_from_ends`), whose sums don't wrap (`wrapped_by`)
+-- plan: what the multipliers take off each node, then its potential
 pub invariant_of-multiplied : goal.invariant_of-multiplied
 invariant_of-multiplied g c =
     let each = All-from_recursion (IsFromTo (neg_ℤ (pos most_of_multipliers)) (pos most_of_multipliers)) c.args.multipliers.now

@@ -4,16 +4,16 @@ use Rattle.std.proofs.lemmas.Int.{ints}
 use Rattle.tsp_format.specs.Nodes.{nodes_to}
 use Rattle.tsp_theory.specs.Length.{sum_int_by}
 use Rattle.tsp_routing.specs.Loads.{is_light}
-use Rattle.tsp_routing.specs.states.Demands.{routing_by}
+use Rattle.tsp_routing.specs.states.Demands.{loads_problem}
 use Rattle.tsp_routing.specs.states.Units.{light_in}
 use Rattle.tsp_routing.proofs.CutNeeds.{others_sum, nodes_more, nodes_none}
 use Rattle.tsp_routing.proofs.units.count_light.Goals as goal
 
--- plan: the count so far grows by one node (`nodes_more`), and that of all nodes but the depot is the result (`others_sum`)
+-- plan: the count so far is that of the nodes so far
 pub nodes-init : goal.nodes-init
 nodes-init c = record {
   few = omega arith;
-  sum = λ cost. nodes_none (light_in (routing_by c.args.demands.now cost) c.args.unit);
+  sum = λ cost. nodes_none (light_in (loads_problem c.args.demands.now cost) c.args.unit);
 }
 
 pub nodes-preserved : goal.nodes-preserved
@@ -25,13 +25,13 @@ nodes-preserved c =
       sum = λ cost.
           let own = c.light-count.ensures.value cost in
           let sum = c.nodes.invariant.sum cost in
-          let more = nodes_more (light_in (routing_by c.args.demands.now cost) c.args.unit) c.nodes.index in
+          let more = nodes_more (light_in (loads_problem c.args.demands.now cost) c.args.unit) c.nodes.index in
           omega (arith, ints, own, sum, more, few, before);
     }
 
 pub returns-clause-units : goal.returns-clause-units
 returns-clause-units c = λ cost.
-    let problem = routing_by c.args.demands.now cost in
+    let problem = loads_problem c.args.demands.now cost in
     let last : c.nodes.index ≡ c.args.demands.now.nodes = omega (arith, c.nodes-test.false, c.nodes.auto.index-end) in
     record {
       some = c.requires.unit;

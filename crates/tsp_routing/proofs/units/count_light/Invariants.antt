@@ -3,12 +3,12 @@ use Rattle.std.proofs.Common.{◌≡◌, ◌≤◌, ℕ}
 use Rattle.std.specs.Prelude.{ℤ, pos}
 use Rattle.tsp_format.specs.Nodes.{nodes_to}
 use Rattle.tsp_theory.specs.Length.{sum_int_by}
-use Rattle.tsp_routing.specs.states.Demands.{routing_by}
+use Rattle.tsp_routing.specs.states.Demands.{loads_problem}
 use Rattle.tsp_routing.specs.states.Units.{light_in}
 use Rattle.tsp_routing.proofs.units.count_light.Given as goal
 
 abbrev pub invariant-nodes : goal.invariant-nodes
 invariant-nodes l = record {
   few : l.count ≤ l.index;
-  sum : (cost : ℕ → ℕ → ℤ) → pos l.count ≡ sum_int_by (light_in (routing_by l.demands cost) l.unit) (nodes_to l.index);
+  sum : (cost : ℕ → ℕ → ℤ) → pos l.count ≡ sum_int_by (light_in (loads_problem l.demands cost) l.unit) (nodes_to l.index);
 }

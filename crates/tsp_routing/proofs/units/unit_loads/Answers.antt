@@ -7,12 +7,12 @@ use Rattle.std.proofs.Math.ListN.{set}
 use Rattle.std.proofs.lemmas.Bool.{cases_eq}
 use Rattle.std.proofs.lemmas.List.{get_or-set_same, get_or-set_other, length-set}
 use Rattle.tsp_routing.specs.Loads.{load_in}
-use Rattle.tsp_routing.specs.states.Demands.{routing_by}
+use Rattle.tsp_routing.specs.states.Demands.{loads_problem}
 use Rattle.tsp_routing.specs.states.Onwards.{load_at}
 use Rattle.tsp_routing.proofs.LightNodes.{load_is}
 use Rattle.tsp_routing.proofs.units.unit_loads.Goals as goal
 
--- plan: one node more has its load in units (`load_is`)
+-- plan: the loop has the loads of the nodes so far
 pub nodes-preserved : goal.nodes-preserved
 nodes-preserved c =
     let loads : List ℕ = c.nodes.loads.items in
@@ -22,7 +22,7 @@ nodes-preserved c =
       places = length-set loads c.nodes.node _ ∙ h.places;
       loads_are = λ cost light node parts there below. elim (cases_eq node c.nodes.node) [
         | inl same ↦
-            let problem = routing_by c.args.demands.now cost in
+            let problem = loads_problem c.args.demands.now cost in
             let units = c.whole_units.ensures.value cost in
             subst (λ (k : ℕ). load_at (set loads c.nodes.node c.load_of.result) k ≡ load_in problem c.args.unit light k)
             (sym same)

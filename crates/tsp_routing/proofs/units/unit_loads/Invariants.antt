@@ -3,7 +3,7 @@ use Rattle.std.proofs.Common.{◌≡◌, ◌<◌, ℕ, ◌+◌, length}
 use Rattle.std.specs.Prelude.{ℤ}
 use Rattle.tsp_format.specs.Nodes.{IsNode}
 use Rattle.tsp_routing.specs.Loads.{load_in}
-use Rattle.tsp_routing.specs.states.Demands.{routing_by}
+use Rattle.tsp_routing.specs.states.Demands.{loads_problem}
 use Rattle.tsp_routing.specs.states.Onwards.{load_at}
 use Rattle.tsp_routing.proofs.units.unit_loads.Given as goal
 
@@ -11,5 +11,5 @@ abbrev pub invariant-nodes : goal.invariant-nodes
 invariant-nodes l = record {
   places : length l.loads.items ≡ l.demands.nodes + 1;
   loads_are : (cost : ℕ → ℕ → ℤ) (light node : ℕ) → light + 1 ≡ l.parts → IsNode l.demands.nodes node → node < l.node
-      → load_at l.loads.items node ≡ load_in (routing_by l.demands cost) l.unit light node;
+      → load_at l.loads.items node ≡ load_in (loads_problem l.demands cost) l.unit light node;
 }

@@ -1,5 +1,5 @@
 -- The goals of `judge_plans` in src/verdict.rt: what it ensures.
-use Rattle.std.proofs.Common.{ℕ, ℤ}
+use Rattle.std.proofs.Common.{ℕ}
 use Rattle.std.specs.Prelude.{nat_abs}
 use Rattle.std.proofs.lemmas.Result.{IfOk-weaker}
 use Rattle.tsp_format.specs.states.TreeSteps.{steps_of}
@@ -9,7 +9,8 @@ use Rattle.tsp_routing.specs.PlanVerdicts.{routing_with}
 use Rattle.tsp_routing.proofs.PlanJudging.{verdict_bounds, no_demand_below}
 use Rattle.tsp_routing.proofs.verdict.judge_plans.Goals as goal
 
--- plan: a verdict with a bound says that no plan is shorter (`verdict_bounds`), since no demand is below 0 (`no_demand_below`)
+-- plan: the problem of a file has a depot, a customer, and no demand below 0, so the verdict bounds its plans
+-- (`verdict_bounds`)
 pub returns-clause-plans : goal.returns-clause-plans
 returns-clause-plans g c =
     let tree = c.args.tree.now in

@@ -1,5 +1,5 @@
 -- The goals of `judged_plans` in src/verdict.rt: what its call requires and what it ensures.
-use Rattle.std.proofs.Common.{◌≡◌, ◌∙◌, ◌+◌, ◌≤◌, ℕ, ℤ, List, length, ap, ap₂, sym, subst, subst₂, arith, rules, to_z, of_z, FitsSigned}
+use Rattle.std.proofs.Common.{◌≡◌, ◌∙◌, ◌+◌, ℕ, ℤ, List, length, ap, ap₂, sym, subst, subst₂, arith, rules, to_z, of_z, FitsSigned}
 use Rattle.std.specs.Prelude.{nat_abs}
 use Rattle.std.specs.Global.{Vec}
 use Rattle.std.specs.Int.{w64}
@@ -24,15 +24,14 @@ use Rattle.tsp_routing.specs.GoodSets.{AreCapacityCuts}
 use Rattle.tsp_routing.specs.Loads.{AreUnits}
 use Rattle.tsp_routing.specs.PlanVerdicts.{routing_with}
 use Rattle.tsp_routing.specs.declared.demands.Demands.{Demands}
-use Rattle.tsp_routing.specs.states.Demands.{routing_by}
+use Rattle.tsp_routing.specs.states.Demands.{loads_problem}
 use Rattle.tsp_routing.specs.states.JudgedCuts.{IsFewCrossed, AreCutsJudged}
 use Rattle.tsp_routing.specs.states.PlanRooms.{IsLeafVerdict}
 use Rattle.tsp_routing.specs.states.Trees.{IsPlanStep}
 use Rattle.tsp_routing.proofs.PlanJudging.{single_sets, steps_on_families, verdict_of_leaves}
 use Rattle.tsp_routing.proofs.verdict.judged_plans.Goals as goal
 
--- plan: good families are single sets (`single_sets`) and good branches are on them (`steps_on_families`), so the verdict is
--- that of the leaves (`verdict_of_leaves`)
+-- plan: the parts of the certificate are those of the setting, field by field; then `verdict_of_leaves`
 pub returns-in-Some-clause-verdict : goal.returns-in-Some-clause-verdict
 returns-in-Some-clause-verdict g c =
     let tree = c.args.tree.now in
@@ -43,7 +42,7 @@ returns-in-Some-clause-verdict g c =
     let demands : Demands = record { nodes = c.count-nodes.result; depot = tree.depot; demands = tree.demands; capacity = to_z w64 (of_z w64 tree.capacity) } in
     let is = subst (AreCutsJudged demands tree.families.now) c.in-Good.is c.in_ok-families.ensures in
     let count : c.count-nodes.result ≡ n = c.count-nodes.ensures.value in
-    let problem_is : routing_by demands cost ≡ routing_with n cost tree.depot tree.demands.now tree.capacity =
+    let problem_is : loads_problem demands cost ≡ routing_with n cost tree.depot tree.demands.now tree.capacity =
     ap₂ (λ (k : ℕ) (z : ℤ). routing_with k cost tree.depot tree.demands.now z) count (to_z-of_z w64 tree.capacity capable) in
     let long = length-map tree.families.now (λ (f : Vec (Vec ℕ)). lists_of f.items) in (
       (
@@ -124,7 +123,7 @@ returns-clause-verdict g c =
     let is = subst (AreCutsJudged demands tree.families.now) c.in-Good.is c.in_ok-families.ensures in
     let count : c.count-nodes.result ≡ n = c.count-nodes.ensures.value in
     let problem : RoutingProblem = routing_with n cost tree.depot tree.demands.now tree.capacity in
-    let problem_is : routing_by demands cost ≡ problem =
+    let problem_is : loads_problem demands cost ≡ problem =
     ap₂ (λ (k : ℕ) (z : ℤ). routing_with k cost tree.depot tree.demands.now z) count (to_z-of_z w64 tree.capacity capable) in
     let scale_is : to_z w64 (of_z w64 tree.scale) ≡ tree.scale = to_z-of_z w64 tree.scale scalable in
     let unit_is : nat_abs (to_z w64 (of_z w64 tree.unit)) ≡ nat_abs tree.unit = ap nat_abs (to_z-of_z w64 tree.unit unitable) in

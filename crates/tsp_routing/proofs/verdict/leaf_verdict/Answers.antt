@@ -11,12 +11,12 @@ use Rattle.tsp_cases.specs.states.Lent.{lent_in}
 use Rattle.tsp_routing.specs.GoodLeaves.{ArePlanNumbers}
 use Rattle.tsp_routing.specs.PlanTrees.{IsFoundByWalks}
 use Rattle.tsp_routing.specs.PlanVerdicts.{most_entries}
-use Rattle.tsp_routing.specs.states.Demands.{routing_by}
+use Rattle.tsp_routing.specs.states.Demands.{loads_problem}
 use Rattle.tsp_routing.specs.states.PlanRooms.{IsFoundOfFew}
 use Rattle.tsp_routing.proofs.PlanJudging.{least_if}
 use Rattle.tsp_routing.proofs.verdict.leaf_verdict.Goals as goal
 
--- plan: where loads are few the least of the leaves is the bound, or there is none (`least_if`); else there are too many
+-- plan: the entries of the table are counted, and where they are few each leaf has a bound by walks (`least_if`)
 pub returns-then-few-clause-verdict : goal.returns-then-few-clause-verdict
 returns-then-few-clause-verdict g c =
     let s = c.args.setting.now in
@@ -25,8 +25,8 @@ returns-then-few-clause-verdict g c =
     let cost = g.C.Costs.at s.costs.now in
     let steps = steps_of c.args.steps.now in
     let entries : ℕ = c.entries-few.result in
-    let found = IsFoundByWalks (routing_by s.demands cost) s.scale s.unit s.units.now.light (families_with s.crossed.now (lent_in s.families.now)) in
-    let is = subst (AreJudgedBy (IsFoundOfFew (nat_le entries 10000000) (routing_by s.demands cost) s.scale s.unit s.units.now.light
+    let found = IsFoundByWalks (loads_problem s.demands cost) s.scale s.unit s.units.now.light (families_with s.crossed.now (lent_in s.families.now)) in
+    let is = subst (AreJudgedBy (IsFoundOfFew (nat_le entries 10000000) (loads_problem s.demands cost) s.scale s.unit s.units.now.light
     (families_with s.crossed.now (lent_in s.families.now))) (ArePlanNumbers n families) n families [] steps)
     c.in-Bound.is c.in_ok-leaf.ensures.judged in (
       is.2,
@@ -42,7 +42,7 @@ returns-else-few-clause-verdict g c =
     let families : ℕ = length s.crossed.now in
     let cost = g.C.Costs.at s.costs.now in
     let steps = steps_of c.args.steps.now in
-    let is = subst (AreJudgedBy (IsFoundOfFew (nat_le c.entries-few.result 10000000) (routing_by s.demands cost) s.scale s.unit s.units.now.light
+    let is = subst (AreJudgedBy (IsFoundOfFew (nat_le c.entries-few.result 10000000) (loads_problem s.demands cost) s.scale s.unit s.units.now.light
     (families_with s.crossed.now (lent_in s.families.now))) (ArePlanNumbers n families) n families [] steps)
     c.in-Bound.is c.in_ok-leaf.ensures.judged in (
       is.2,

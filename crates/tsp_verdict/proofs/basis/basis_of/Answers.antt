@@ -3,7 +3,7 @@ use Rattle.std.proofs.Common.{rules, sym}
 use Rattle.tsp_verdict.proofs.ByType.{routes_for, other_basis}
 use Rattle.tsp_verdict.proofs.basis.basis_of.Goals as goal
 
--- plan: by the TYPE of the instance: routes (`routes_for`), or any other (`other_basis`)
+-- plan: by the kind of the instance and what was found of the certificate
 pub returns-in-Cvrp : goal.returns-in-Cvrp
 returns-in-Cvrp c = λ by certificate found.
     routes_for by c.args.instance.now certificate c.routes_basis_of.result (sym c.in-Cvrp.ensures.value)

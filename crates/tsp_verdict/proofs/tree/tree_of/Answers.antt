@@ -5,7 +5,7 @@ use Rattle.tsp_draft.specs.Rules.{is_branches_file}
 use Rattle.tsp_verdict.proofs.TreeReasons.{no_branches, other_dimension}
 use Rattle.tsp_verdict.proofs.tree.tree_of.Goals as goal
 
--- plan: a file of another TYPE has no branches (`no_branches`), or another number of nodes (`other_dimension`)
+-- plan: each field of the tree is one of the file, whose facts its rules give
 pub returns-then-ne : goal.returns-then-ne
 returns-then-ne c =
     let sort : is_branches_file c.args.branches.now.kind ≡ true = search rules in

@@ -20,8 +20,7 @@ use Rattle.tsp_verdict.proofs.TreeReasons.{pairs_few}
 use Rattle.tsp_verdict.proofs.WalkReasons.{leaves_few, plan_steps, of_files, told_of_routes, bounds_of_routes, set_first, branch_first, plan_leaf_first, loads_first, plans_bounded, plans_missing}
 use Rattle.tsp_verdict.proofs.walks.judge_walks.Goals as goal
 
--- plan: by cases of the verdict on the tree: each reason is the first one (`set_first`, `branch_first`, `plan_leaf_first`,
--- `loads_first`), and a bound holds of all plans (`plans_bounded`), or there are none (`plans_missing`)
+-- plan: each verdict on plans is reported in the words of the files: a reason, a bound, or that there is no solution
 pub invariant_of-plans : goal.invariant_of-plans
 invariant_of-plans c =
     let tree = c.args.tree.now in

@@ -1,9 +1,9 @@
 -- The goals of `Demands::need` in src/needs.rt: what it ensures.
-use Rattle.tsp_routing.specs.states.Demands.{routing_by}
+use Rattle.tsp_routing.specs.states.Demands.{loads_problem}
 use Rattle.tsp_routing.proofs.CutNeeds.{cut_of}
 use Rattle.tsp_routing.proofs.demands.Demands.need.Goals as goal
 
 pub returns-clause-cut : goal.returns-clause-cut
 returns-clause-cut c = λ cost.
-    cut_of (routing_by c.args.self.now cost) c.args.customers.now c.least_routes.result c.counted.result c.requires.customers
+    cut_of (loads_problem c.args.self.now cost) c.args.customers.now c.least_routes.result c.counted.result c.requires.customers
     c.requires.once c.requires.some c.least_routes.ensures c.counted.ensures.value

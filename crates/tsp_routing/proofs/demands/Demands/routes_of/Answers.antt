@@ -5,7 +5,7 @@ use Rattle.std.proofs.lemmas.Int.{to_z-of_z}
 use Rattle.tsp_routing.proofs.CutNeeds.{least_of}
 use Rattle.tsp_routing.proofs.demands.Demands.routes_of.Goals as goal
 
--- plan: a quotient that is rounded up is the least number of routes (`least_of`)
+-- plan: the quotient that is rounded up is enough, and no lower number is
 pub returns : goal.returns
 returns c =
     let total_fits : FitsSigned w64 c.args.total = search rules in

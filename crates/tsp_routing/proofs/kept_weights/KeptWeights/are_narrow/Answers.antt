@@ -1,5 +1,5 @@
 -- The goals of `KeptWeights::are_narrow` in src/kept_weights.rt: its loop.
-use Rattle.std.proofs.Common.{◌≡◌, ◌+◌, ◌≤◌, ◌^◌, ℕ, ℤ, subst, sym, arith, inl, inr}
+use Rattle.std.proofs.Common.{◌+◌, ◌^◌, ℕ, ℤ, subst, sym, arith, inl, inr}
 use Rattle.std.specs.Prelude.{pos, neg_ℤ}
 use Rattle.std.proofs.lemmas.Bool.{cases_eq}
 use Rattle.tsp_format.specs.Ranges.{IsFromTo}
@@ -8,7 +8,7 @@ use Rattle.tsp_cases.specs.states.Combed.{set_weight}
 use Rattle.tsp_routing.specs.Weights.{most_link}
 use Rattle.tsp_routing.proofs.kept_weights.KeptWeights.are_narrow.Goals as goal
 
--- plan: a row more is narrow, or the answer is no
+-- plan: all rows so far have links of weights, and narrow ones where all of them were
 pub nodes-preserved : goal.nodes-preserved
 nodes-preserved g c =
     let s = c.args.self.now.weights.now in

@@ -1,8 +1,7 @@
 -- The goals of `LeafWeights::fill_row` in src/leaf_weights.rt: what its calls require and what it ensures.
-use Rattle.std.proofs.Common.{◌≡◌, ℕ, ℤ, List, arith, sym, subst, ◌∙◌}
+use Rattle.std.proofs.Common.{◌≡◌, ℕ, ℤ, List, sym, subst, ◌∙◌}
 use Rattle.std.specs.Prelude.{pos, neg_ℤ}
 use Rattle.std.specs.List.{All}
-use Rattle.std.proofs.lemmas.Int.{ints}
 use Rattle.tsp_format.specs.Nodes.{IsNode}
 use Rattle.tsp_theory.specs.CertificateNumbers.{IsFromTo}
 use Rattle.tsp_theory.specs.states.Nearest.{least_at}
@@ -16,8 +15,7 @@ use Rattle.tsp_cases.proofs.SetAlgebra.{places_inside}
 use Rattle.tsp_routing.proofs.SignedValues.{signed_at}
 use Rattle.tsp_routing.proofs.leaf_weights.LeafWeights.fill_row.Goals as goal
 
--- plan: a row that is kept, with the multipliers of the sets of its node, is the row of the weights of the leaf
--- (`signed_at`)
+-- plan: a row without sets of two nodes, and what these add, are the weights, whose remainders in 64 bits are themselves
 pub add_sets-requires-clause-places : goal.add_sets-requires-clause-places
 add_sets-requires-clause-places g c =
     let p = c.args.self.now in

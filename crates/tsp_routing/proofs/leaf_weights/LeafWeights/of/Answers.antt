@@ -1,5 +1,5 @@
 -- The goals of `LeafWeights::of` in src/leaf_weights.rt: what its value keeps.
-use Rattle.std.proofs.Common.{◌≡◌, ◌∙◌, ℕ, ℤ, List, length, subst, sym, arith, rules, FitsSigned, to_z, of_z}
+use Rattle.std.proofs.Common.{◌≡◌, ◌∙◌, ℕ, ℤ, List, length, subst, sym, arith, rules, FitsSigned}
 use Rattle.std.specs.Prelude.{pos, neg_ℤ}
 use Rattle.std.specs.Global.{Vec}
 use Rattle.std.specs.Int.{w64}
@@ -17,7 +17,7 @@ use Rattle.tsp_routing.proofs.MultiplierSizes.{each_small}
 use Rattle.tsp_routing.proofs.SignedSets.{signed_crossings}
 use Rattle.tsp_routing.proofs.leaf_weights.LeafWeights.of.Goals as goal
 
--- plan: sets tell which families a link crosses (`sets_tell_combs`), also by multipliers below 0 (`signed_crossings`)
+-- plan: each fact is one of the leaf or of its setting; single sets are crossed no more often than multipliers sum to
 pub invariant_of-result : goal.invariant_of-result
 invariant_of-result g c =
     let leaf = c.args.leaf.now in

@@ -9,7 +9,7 @@ use Rattle.tsp_verdict.specs.states.Sources.{IsVerdictGiven}
 use Rattle.tsp_verdict.proofs.Bases.{routes_subject_rejected, routes_subject_judged}
 use Rattle.tsp_verdict.proofs.subject.Subject.verdict_on_plan.Goals as goal
 
--- plan: routes that are rejected stay so (`routes_subject_rejected`); others have what the basis says (`routes_subject_judged`)
+-- plan: the routes first, then the certificate, whose bound is carried to the verdict
 pub returns-in_default : goal.returns-in_default
 returns-in_default c =
     let s = c.args.self.now in
