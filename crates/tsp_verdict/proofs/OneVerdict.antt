@@ -96,7 +96,7 @@ one_routes inst sol (Routes length routes least bound) (No b) one other = absurd
 one_routes inst sol (Routes length routes least bound) (Routes found count fewest same) one other =
     one_planned inst (tours_of sol) length found routes count least fewest bound one.1 other.1
     ∙ ap (λ b. Routes found count fewest b) (one.2 ∙ sym other.2)
-one_routes inst sol (Routes length routes least bound) (Tour found none) one other = absurd other
+one_routes inst sol (Routes length routes least bound) (Tour found alone) one other = absurd other
 one_routes inst sol (Tour length bound) other is none = absurd is
 
 one_by_kind : (kind : Option Kind) (inst sol : Fields) (one other : Verdict) → IsVerdictBy kind inst sol one
@@ -261,7 +261,7 @@ one_certified_routes laws by inst sol cert (Routes length routes least bound) (R
     let lower = one_bound_by laws by inst.kind inst cert one.1.least other.1.least one.1.of_certificate other.1.of_certificate in
     one_planned inst (tours_of sol) length found routes count least fewest bound one.1.planned other.1.planned
     ∙ ap (λ b. Routes found count fewest b) (one.1.bound_is ∙ ap Some lower ∙ sym other.1.bound_is)
-one_certified_routes laws by inst sol cert (Routes length routes least bound) (Tour found none) one other = absurd other
+one_certified_routes laws by inst sol cert (Routes length routes least bound) (Tour found alone) one other = absurd other
 one_certified_routes laws by inst sol cert (Tour length bound) other is none = absurd is
 
 one_certified_by : Laws → (kind : Option Kind) (by : Certificate) (inst sol cert : Fields) (one other : Verdict)

@@ -66,6 +66,6 @@ verdict_by (bases.No reason) length = verdicts.No reason
 
 -- the verdict on routes that are accepted on their own; a basis of an instance that has routes is none of the others
 abbrev pub verdict_with : Basis → Verdict → Verdict
-verdict_with (bases.Routes least bound) (verdicts.Routes length routes own none) = verdicts.Routes length routes least bound
+verdict_with (bases.Routes least bound) (verdicts.Routes length routes own alone) = verdicts.Routes length routes least bound
 verdict_with (bases.No reason) verdict = verdicts.No reason
 verdict_with basis verdict = verdict
