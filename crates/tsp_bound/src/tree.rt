@@ -84,7 +84,7 @@ pub fn one_tree<C: Symmetric>(
 /// # Errors
 ///
 /// Out of memory, of which it takes some for each node and for each multiplier.
-pub fn one_tree_in_space<C: Grouped>(
+pub fn one_tree_in_space<C: Grouped + Symmetric>(
     alloc: Global,
     c: &C,
     p: &Potentials,
@@ -128,7 +128,7 @@ struct Weighed {
 }
 
 /// The edges of a least 1-tree, in a vector with capacity for all of them, and their weight.
-fn least_edges<'a, C: Grouped>(
+fn least_edges<'a, C: Grouped + Symmetric>(
     alloc: Global,
     c: &'a C,
     p: &'a Potentials<'a>,

@@ -19,12 +19,11 @@ use crate::case_leaf::CaseLeaf;
 use crate::decided::change_between;
 use crate::leaf::{leaf_bound, leaf_bound_in_space};
 use crate::leaf_sum::LeafSum;
-use crate::placed_costs::PlacedCosts;
 use std::alloc::Global;
 use tsp_bound::{BoxedWeights, Spot};
 use tsp_cases::{Multipliers, sum_left};
 use tsp_memory::Refused;
-use tsp_theory::{Region, Site};
+use tsp_theory::{Grouped, Region, Site};
 use tsp_tree::{Weights, weight_in};
 
 /// The weights of a leaf, of which each node's potential less the multipliers of its sets isn't too
@@ -33,7 +32,7 @@ use tsp_tree::{Weights, weight_in};
 /// What the sets of both nodes add is never negative, and avoided pairs only add: so each weight is
 /// at least the cost at the scale and the numbers of both nodes, but for those of taken pairs.
 #[derive(Drop)]
-pub(crate) struct BoxedLeaf<'a, C: PlacedCosts> {
+pub(crate) struct BoxedLeaf<'a, C: Grouped> {
     pub(crate) leaf: &'a CaseLeaf<'a, C>,
     ghost undirected: { leaf.now.setting.now.cases.now.directed ≡ false },
     ghost once: { AreFewChanges (decisions_in leaf.now.case.now) },
@@ -41,7 +40,7 @@ pub(crate) struct BoxedLeaf<'a, C: PlacedCosts> {
         leaf.now.multipliers.now (lent_in leaf.now.setting.now.families.now) leaf.now.moved.now },
 }
 
-impl<C: PlacedCosts> BoxedLeaf<'_, C> {
+impl<C: Grouped> BoxedLeaf<'_, C> {
     /// The cost at the scale and the numbers of both nodes, where the caller passes the cost.
     #[inline]
     fn base(&self, cost: i64, from: u32, to: u32) -> i64
@@ -115,7 +114,7 @@ impl<C: PlacedCosts> BoxedLeaf<'_, C> {
     }
 }
 
-impl<C: PlacedCosts> Weights for BoxedLeaf<'_, C> {
+impl<C: Grouped> Weights for BoxedLeaf<'_, C> {
     ghost nodes = { λ w. C.nodes w.leaf.now.setting.now.costs.now };
 
     ghost at = { λ w. decided (decisions_in w.leaf.now.case.now) (set_weight w.leaf.now.setting.now.cases.now.scale
@@ -137,7 +136,7 @@ impl<C: PlacedCosts> Weights for BoxedLeaf<'_, C> {
     }
 }
 
-impl<C: PlacedCosts> BoxedWeights for BoxedLeaf<'_, C> {
+impl<C: Grouped> BoxedWeights for BoxedLeaf<'_, C> {
     ghost use Rattle.tsp_branch.specs.states.Shared.{raised, others_of};
 
     ghost place_of = { λ w. C.place w.leaf.now.setting.now.costs.now };
@@ -214,7 +213,7 @@ impl<C: PlacedCosts> BoxedWeights for BoxedLeaf<'_, C> {
 /// # Errors
 ///
 /// Out of memory.
-pub(crate) fn bound_of_trees<C: PlacedCosts>(
+pub(crate) fn bound_of_trees<C: Grouped>(
     alloc: Global,
     leaf: &CaseLeaf<C>,
     row: &mut [i64],

@@ -7,11 +7,10 @@ ghost use Rattle.tsp_branch.specs.BranchVerdicts.{IsBranchVerdict, VerdictBounds
 
 use crate::branch::branch_bound;
 use crate::judged::BranchVerdict;
-use crate::placed_costs::{OutOfSpace, PlacedCosts};
 use std::alloc::Global;
 use tsp_cases::{CaseTree, JudgedCases, JudgedFamilies, JudgedLeaves, judge_cases, judge_families};
 use tsp_memory::Refused;
-use tsp_theory::Costs;
+use tsp_theory::Grouped;
 
 /// The verdict on a certificate by branching: the first family that isn't good, or the first branch
 /// that isn't on two nodes, or the first branch on a pair that is decided above it or given, or the
@@ -20,39 +19,15 @@ use tsp_theory::Costs;
 /// leaf has a bound, no cycle keeps them.
 ///
 /// Where pairs have no direction the bound of a leaf is that of a least 1-tree, else that of the
-/// least link from each node.
+/// least link from each node. Where nodes have places, regions of them take the place of most
+/// pairs.
 ///
 /// # Errors
 ///
 /// Out of memory, of which it takes some for each node, each comb, each node of a set, and
 /// each decision of a case. For trees of several leaves it also takes some for each pair of up to
 /// 2,000 nodes, where there is any.
-pub fn judge_branches<C: Costs>(alloc: Global, tree: &CaseTree<C>) -> Result<BranchVerdict, Refused>
-    ensures verdict { IfOk result (IsBranchVerdict tree.now.directed (C.nodes tree.now.costs.now) (C.at tree.now.costs.now)
-        tree.now.scale (families_in tree.now.families.now) tree.now.given.now (steps_of tree.now.steps.now)) }
-    ensures cycles { IfOk result (VerdictBoundsCycles tree.now.directed (C.nodes tree.now.costs.now) (C.at tree.now.costs.now)
-        tree.now.given.now) }
-    ensures size { IfOk result IsSizedVerdict }
-{
-    let costs = OutOfSpace { costs: tree.costs };
-    let placed = CaseTree {
-        costs: &costs,
-        directed: tree.directed,
-        scale: tree.scale,
-        families: tree.families,
-        given: tree.given,
-        steps: tree.steps,
-    };
-    judge_branches_in_space(alloc, &placed)
-}
-
-/// What [`judge_branches`] returns, over costs whose nodes may have places in space: regions of
-/// them then take the place of most pairs, so that it asks for far fewer costs.
-///
-/// # Errors
-///
-/// Out of memory, as [`judge_branches`].
-pub fn judge_branches_in_space<C: PlacedCosts>(
+pub fn judge_branches<C: Grouped>(
     alloc: Global,
     tree: &CaseTree<C>,
 ) -> Result<BranchVerdict, Refused>

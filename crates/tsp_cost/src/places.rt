@@ -1,7 +1,7 @@
 //! The places of nodes: those of points, whose distances grow with the ways along the axes.
 
 use crate::halves::by_halves;
-use crate::matrix::EvenMatrix;
+use crate::matrix::{EvenMatrix, Matrix};
 use crate::metric::Metric;
 use crate::points::Points;
 use crate::triangle::Triangle;
@@ -62,6 +62,12 @@ impl<P: InSpace> Points<'_, P> {
         monotone_laws();
         metric.is_at_least(from.place, region.nearest(&from.place), least)
     }
+}
+
+impl Grouped for Matrix<'_> {
+    ghost use Rattle.tsp_draft.specs.Coords.{origin};
+
+    ghost place = { λ _ _. origin };
 }
 
 impl Grouped for EvenMatrix<'_> {

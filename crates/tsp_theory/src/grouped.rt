@@ -7,7 +7,7 @@ ghost use Rattle.tsp_format.specs.Nodes.{IsNode};
 ghost use Rattle.tsp_format.specs.Limits.{most_weight};
 ghost use Rattle.tsp_theory.specs.Regions.{IsIn, IsSite};
 
-use crate::costs::Symmetric;
+use crate::costs::Costs;
 use crate::region::Region;
 use crate::site::Site;
 use std::alloc::Global;
@@ -15,8 +15,8 @@ use tsp_memory::Refused;
 
 /// Costs whose nodes may have places in space, so that a region says of all nodes in it at once
 /// that they are far. By itself no node has a place, nothing is known of a region, and the order is
-/// empty.
-pub trait Grouped: Symmetric {
+/// empty. They needn't be symmetric.
+pub trait Grouped: Costs {
     ghost place: { Self → ℕ → Point };
 
     /// The nodes 2..n in an order in which neighbours are near each other, as a help alone: nothing

@@ -28,7 +28,7 @@ use tsp_bound::{
     Duals, Infeasible, Multipliers, Potentials, adjusted_bounds_bound_cycles, dual_bound,
     duals_bound_cycles, one_tree_in_space,
 };
-use tsp_cost::{Costs, EvenView, Grouped, Instance, View};
+use tsp_cost::{Costs, EvenView, Grouped, Instance, Symmetric, View};
 use tsp_file::File;
 use tsp_format::Kind;
 use tsp_memory::Refused;
@@ -264,7 +264,7 @@ fn bound_of_potentials(
 }
 
 /// The same over the costs of a view.
-fn tree_bound<C: Grouped>(
+fn tree_bound<C: Grouped + Symmetric>(
     alloc: Global,
     inst: &Instance,
     c: &C,
