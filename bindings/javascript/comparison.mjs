@@ -41,10 +41,9 @@ export function basisOf(library, judge, instance) {
     if (judge.bound !== null && judge.bound.reason !== 0) {
         return { ...basis, ...reasonOf(judge.bound) };
     }
-    if (type === "CVRP") {
-        return { ...basis, least: leastOf(new TextDecoder().decode(library.convert(instance).bytes)) };
-    }
-    return judge.bound === null ? basis : { ...basis, bound: judge.bound.bound, noTour: judge.bound.verdict === Verdict.NO_TOUR };
+    const least = type === "CVRP" ? leastOf(new TextDecoder().decode(library.convert(instance).bytes)) : null;
+    const known = { ...basis, least };
+    return judge.bound === null ? known : { ...known, bound: judge.bound.bound, noTour: judge.bound.verdict === Verdict.NO_TOUR };
 }
 
 /**
@@ -79,10 +78,10 @@ export class Comparison {
         const lines = [`type ${type}`, `nodes ${nodes}`, ...notJudged.map((it) => `not judged ${it}`)];
         if (reason !== null) {
             lines.push(["no", reason, ...numbers].join(" "));
-        } else if (least !== null) {
-            lines.push(`least ${least}`);
-        } else if (noTour || bound !== null) {
-            lines.push(`bound ${noTour ? "none" : bound}`);
+        } else if (noTour) {
+            lines.push("bound none");
+        } else {
+            lines.push(...(least === null ? [] : [`least ${least}`]), ...(bound === null ? [] : [`bound ${bound}`]));
         }
         return [...lines, ...this.outcomes.map((outcome, at) => lineOf(this.names[at], outcome)), ""].join("\n");
     }
@@ -124,8 +123,6 @@ function lineOf(name, outcome) {
     if (!yes) {
         return ["no", reason, ...numbers, name].join(" ");
     }
-    if (routes !== null) {
-        return `${length} routes ${routes} ${name}`;
-    }
-    return [length, ...(optimal ? ["optimal"] : gap === null ? [] : ["gap", gap]), name].join(" ");
+    const words = routes === null ? [length] : [length, "routes", routes];
+    return [...words, ...(optimal ? ["optimal"] : gap === null ? [] : ["gap", gap]), name].join(" ");
 }

@@ -82,10 +82,10 @@ class Basis:
         lines = [f"type {self.type}", f"nodes {self.nodes}", *(f"not judged {it}" for it in self.not_judged)]
         if self.reason is not None:
             lines.append(_words("no", self.reason, *self.numbers))
-        elif self.least is not None:
-            lines.append(f"least {self.least}")
-        elif self.no_tour or self.bound is not None:
-            lines.append("bound none" if self.no_tour else f"bound {self.bound}")
+        elif self.no_tour:
+            lines.append("bound none")
+        else:
+            lines += [f"{name} {it}" for name, it in (("least", self.least), ("bound", self.bound)) if it is not None]
         return "".join(f"{line}\n" for line in lines)
 
 
@@ -173,10 +173,11 @@ class Judge:
         elif bound is not None and bound.reason:
             reason, count = REASONS[bound.reason - 1]
             known.update(reason=reason, numbers=(bound.first, bound.second)[:count])
-        elif report.type == "CVRP":
-            known.update(least=_least(parse(self.instance)))
-        elif bound is not None:
-            known.update(bound=bound.bound, no_tour=bound.verdict == _library.NO_TOUR)
+        else:
+            if report.type == "CVRP":
+                known.update(least=_least(parse(self.instance)))
+            if bound is not None:
+                known.update(bound=bound.bound, no_tour=bound.verdict == _library.NO_TOUR)
         return Basis(report.type, report.nodes, report.not_judged, **known)
 
     def outcome(self, solution: Solution, explain: bool = False, path: Optional[str] = None) -> Outcome:
@@ -234,11 +235,9 @@ def line_of(name: str, outcome: Outcome) -> str:
         return _words(_fault(outcome), name)
     if not outcome.yes:
         return _words("no", outcome.reason, *outcome.numbers, name)
-    if outcome.routes is not None:
-        return _words(outcome.length, "routes", outcome.routes, name)
-    if outcome.optimal:
-        return _words(outcome.length, "optimal", name)
-    return _words(outcome.length, *(() if outcome.gap is None else ("gap", outcome.gap)), name)
+    routes = () if outcome.routes is None else ("routes", outcome.routes)
+    gap = ("optimal",) if outcome.optimal else () if outcome.gap is None else ("gap", outcome.gap)
+    return _words(outcome.length, *routes, *gap, name)
 
 
 def _fault(fault: Exception) -> str:
