@@ -13,6 +13,8 @@ from yokecairn._claims import claim_of
 from yokecairn._forms import is_marked
 
 FORMS = json.loads((ROOT / "tests/support/forms.json").read_text())
+# The recipes of the forms that show themselves by their words.
+MARKED = ("cvrplib-sol.awk", "ortools-routes.awk", "json-tour.jq")
 SOLVERS = EXAMPLES / "solvers"
 COUNTED = "Customer k of CVRPLIB is node k + 1"
 HARBOUR = [1, 2, 3, 4, 8, 5, 6, 7]
@@ -21,9 +23,9 @@ HARBOUR = [1, 2, 3, 4, 8, 5, 6, 7]
 class Shared(unittest.TestCase):
     """The forms that recipes, scripts and the page read by the same rules."""
 
-    def read(self, form):
+    def read(self, form, ends="\n"):
         options = {name: form[name] for name in ("first", "routes") if name in form}
-        return read_solution(form["text"].encode(), dimension=form.get("nodes"), **options)
+        return read_solution(form["text"].replace("\n", ends).encode(), dimension=form.get("nodes"), **options)
 
     def test_forms(self):
         for form in FORMS:
@@ -40,13 +42,11 @@ class Shared(unittest.TestCase):
                     said += [f"Customer k of {form['customers']} is node k + 1"] if form["customers"] else []
                     self.assertEqual((read.tours, read.claimed_length), (form["wanted"], form["claim"]))
                     self.assertEqual(read.comment, "\n".join(said) or None)
+                    self.assertEqual(self.read(form, "\r\n").tours, form["wanted"])
 
     def test_marked_forms_are_read_directly(self):
         for form in FORMS:
-            if form["name"].startswith(("CVRPLIB", "OR-Tools", "JSON", "VRPLIB", "a JSON")):
-                self.assertTrue(is_marked(form["text"].encode()), form["name"])
-            else:
-                self.assertFalse(is_marked(form["text"].encode()), form["name"])
+            self.assertEqual(is_marked(form["text"].encode()), form.get("recipe") in MARKED, form["name"])
 
 
 class Claims(unittest.TestCase):

@@ -129,6 +129,8 @@ test("the forms that Python and recipes read by the same rules", () => {
             continue;
         }
         const { bytes } = read();
+        const crossed = converted(bytesOf(form.text.replaceAll("\n", "\r\n")), form.nodes, form.routes);
+        assert.deepEqual(toursOf(new TextDecoder().decode(crossed.bytes)), form.wanted, `${form.name}, with bytes 13`);
         const words = new TextDecoder().decode(bytes);
         assert.deepEqual(toursOf(words), form.wanted, form.name);
         const said = [form.cost && `Cost ${form.cost}`, form.customers && `Customer k of ${form.customers} is node k + 1`];
