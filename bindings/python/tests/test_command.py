@@ -136,6 +136,12 @@ class Command(unittest.TestCase):
         self.assertEqual(run("check", "--foreign", EXAMPLES / "dairy.vrp", sol), (0, report, b""))
         self.assertEqual(run("check", EXAMPLES / "dairy.vrp", sol), (0, report, b""))
         self.assertEqual(run("check", "--no-foreign", EXAMPLES / "dairy.vrp", sol)[0], 2)
+        words = ("check", EXAMPLES / "harbour.tsp", "-")
+        line = b"file 2: line 1 word 1: StrayNumber: standard input: 1\n"
+        said = b"standard input has another program's form: --foreign reads it\n"
+        self.assertEqual(run(*words, stdin=b"1 2 3 4\n"), (2, b"", line + said))
+        self.assertEqual(run(*words, stdin=b"1 x\n"), (2, b"", line))
+        self.assertEqual(run(*words, "--no-foreign", stdin=b"1 2 3 4\n"), (2, b"", line))
         false = sol.read_bytes().replace(b"231", b"230")
         rejected = b"type CVRP\nnodes 8\nno LengthClaimed 231\n"
         self.assertEqual(run("check", EXAMPLES / "dairy.vrp", "-", stdin=false), (1, rejected, b""))

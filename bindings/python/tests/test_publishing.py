@@ -52,6 +52,10 @@ class Published(unittest.TestCase):
         self.assertTrue((self.folder / "dairy.cvrplib.sol.tour").read_text().startswith("COMMENT : Cost 231\n"))
         self.assertEqual(self.steps(), [("SHA256SUMS", True), ("this", True), ("libtsp", True), ("recheck.py", None)])
         self.assertTrue(yokecairn.verify(self.folder).yes)
+        shutil.rmtree(self.folder)
+        yokecairn.publish(self.folder, EXAMPLES / "dairy.vrp", EXAMPLES / "solvers/dairy.cvrplib.sol", branches=EXAMPLES / "dairy.branches")
+        said = "their length is 231. No plan with a customer in each route is shorter.\n"
+        self.assertIn(said, (self.folder / "README").read_text())
         (self.folder / "dairy.cvrplib.sol").write_text("Route #1: 5 4 3 6\nRoute #2: 1 7 2\nCost 231\n")
         self.seal()
         self.assertIn(("this", False), self.steps())
@@ -77,6 +81,20 @@ class Published(unittest.TestCase):
         sums = self.folder / "SHA256SUMS"
         sums.write_text("".join(line for line in sums.read_text().splitlines(True) if "harbour.tour" not in line))
         self.assertEqual(self.steps()[0], ("SHA256SUMS", False))
+
+    def test_what_is_missing_or_strange(self):
+        self.publish()
+        sums = self.folder / "SHA256SUMS"
+        whole = sums.read_text()
+        for more, said in (("x\n", "this line is no sum with a name: x"), (whole.splitlines(True)[0], "it lists a file twice")):
+            sums.write_text(whole + more)
+            self.assertEqual(yokecairn.verify(self.folder)[0][1:], (False, said))
+        sums.write_text(whole)
+        (self.folder / "harbour.tsp").unlink()
+        self.assertEqual(run("verify", self.folder), (1, b"SHA256SUMS: FAILS: there is no harbour.tsp\nno\n", b""))
+        (self.folder / "README").unlink()
+        said = f"{self.folder / 'README'}: No such file or directory: publish made no such folder\n"
+        self.assertEqual(run("verify", self.folder), (5, b"", said.encode()))
 
     def test_names_of_other_folders(self):
         self.publish()

@@ -158,6 +158,8 @@ class Run:
         names = ["standard input" if path == "-" else path for path in task.paths]
         fault = error_of(_library.FAULT, told, paths=names, texts=texts)
         self.explain(located(fault) if isinstance(fault, Fault) and not self.explains else told.decode().rstrip("\n"))
+        if isinstance(fault, Fault) and fault.file == 2 and task.is_foreign(texts):
+            self.explain(f"{names[1]} has another program's form: --foreign reads it")
         return _library.FAULT
 
     def tell(self, status: int, told: bytes) -> int:

@@ -5,8 +5,8 @@ from typing import Any, Dict, List, NoReturn, Optional, Sequence, Tuple
 
 from . import LAYOUTS, __version__, _library
 from ._claims import length_of
-from ._forms import shape_of, solution_text, told_by
-from .faults import explained
+from ._forms import is_tsplib, shape_of, solution_text, told_by
+from .faults import SolutionError, explained, text_of
 
 # What is said of each verb, its files, and its options.
 _VERBS: Dict[str, Tuple[str, Tuple[str, ...], Tuple[str, ...]]] = {
@@ -37,18 +37,25 @@ _VERBS: Dict[str, Tuple[str, Tuple[str, ...], Tuple[str, ...]]] = {
     "solution": ("write a solution of another program as a file of TYPE TOUR", ("file",), ("--dimension", "--first", "--routes")),
 }
 _FILES: Dict[str, Dict[str, Any]] = {
-    "file": {"metavar": "F", "help": "the file, or the instance; - is standard input"},
+    "file": {"metavar": "F", "help": "the instance; - is standard input"},
     "solution": {"metavar": "T", "help": "the solution"},
     "folder": {"metavar": "FOLDER", "help": "the folder of the result"},
     "folders": {"metavar": "FOLDER", "nargs": "+", "help": "instances, and a folder of solutions for each solver; or a list"},
     "solutions": {"metavar": "T", "nargs": "+", "help": "the solutions"},
+}
+# The file of verbs without an instance, and of one that reads no standard input.
+_OTHERS: Dict[str, str] = {
+    "show": "the file; - is standard input",
+    "convert": "the file; - is standard input",
+    "solution": "the other program's file; - is standard input",
+    "publish": "the instance",
 }
 _OPTIONS: Dict[str, Dict[str, Any]] = {
     "--explain": {"action": "store_true", "help": "explain a fault or a no"},
     "--layout": {"metavar": "L", "help": "the layout's word"},
     "--potentials": {"metavar": "P", "help": "a file of potentials"},
     "--branches": {"metavar": "B", "help": "a file of branches"},
-    "--length": {"metavar": "L", "help": "a no where the length isn't L"},
+    "--length": {"metavar": "L", "help": "claim the length L; another one is a no"},
     "--no-foreign": {"dest": "foreign", "action": "store_false", "help": "T has to be of TYPE TOUR, as for tsp"},
     "--foreign": {"action": "store_true", "default": None, "help": "T may have any form of another program, as a list of nodes"},
     "--first": {"metavar": "0|1", "type": int, "choices": (0, 1), "help": "the number of a list's first node; of routes in JSON 0 reads customers"},
@@ -100,7 +107,8 @@ def _parser() -> argparse.ArgumentParser:
     for name, (told, files, options) in _VERBS.items():
         verb = verbs.add_parser(name, help=told, description=told)
         for word in ("--explain", *files, *options):
-            verb.add_argument(word, **(_FILES.get(word) or _OPTIONS[word]))
+            said = {"help": _OTHERS[name]} if word == "file" and name in _OTHERS else {}
+            verb.add_argument(word, **{**(_FILES.get(word) or _OPTIONS[word]), **said})
     return parser
 
 
@@ -168,6 +176,16 @@ class Task:
         )
         if self.claimed is None:
             self.claimed, self.is_own_claim = claim, claim is not None
+
+    def is_foreign(self, texts: Sequence[bytes]) -> bool:
+        """Whether a solution that has a fault would be read with --foreign."""
+        if self.verb != "check" or self.foreign is not None or len(texts) < 2 or is_tsplib(text_of(texts[1])):
+            return False
+        try:
+            solution_text(texts[1], *shape_of(texts[0]), first=self.first)
+        except SolutionError:
+            return False
+        return True
 
     def done(self, texts: Sequence[bytes]) -> Tuple[int, bytes]:
         """The status of the verb on these texts, and what it writes."""

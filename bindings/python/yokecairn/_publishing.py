@@ -1,11 +1,12 @@
 """The verbs `publish` and `verify` of the command line."""
 
+import os
 from typing import Any
 
 from . import _library
 from ._grammar import Task
 from .faults import Error
-from .publishing import publish, verify
+from .publishing import README, publish, verify
 
 DEVICE = 5
 
@@ -23,7 +24,8 @@ def published(run: Any, task: Task) -> int:
         run.write(report.text.encode("utf-8", "surrogateescape"))
         return _library.DONE
     except OSError as fault:
-        run.explain(f"{fault.filename}: {fault.strerror}")
+        is_none = task.verb == "verify" and os.path.basename(str(fault.filename)) == README
+        run.explain(f"{fault.filename}: {fault.strerror}{': publish made no such folder' if is_none else ''}")
         return DEVICE
     except (Error, ValueError) as fault:
         run.explain(str(fault))

@@ -79,12 +79,14 @@ def _rechecked(names: Dict[str, str], folder: _Path) -> Tuple[Optional[str], str
 
 def _claims(report: Report) -> str:
     """What a report says, in a sentence."""
-    if report.routes is not None:
-        return f"The {report.routes} routes serve every customer once, within capacity, and their length is {report.length}."
     told = f"The tour visits each of the {report.nodes} nodes once, and its length is {report.length}."
+    others = "No tour"
+    if report.routes is not None:
+        told = f"The {report.routes} routes serve every customer once, within capacity, and their length is {report.length}."
+        others = "No plan with a customer in each route"
     if report.optimal:
-        return f"{told} No tour is shorter."
-    return told if report.bound is None else f"{told} No tour is shorter than {report.bound}."
+        return f"{told} {others} is shorter."
+    return told if report.bound is None else f"{told} {others} is shorter than {report.bound}."
 
 
 def _readme(names: Dict[str, str], report: Report) -> str:
@@ -179,6 +181,9 @@ def verify(folder: Path) -> Verification:
     """
     top = _Path(folder)
     names = _names_in(text_of((top / README).read_bytes()))
+    missing = [name for name in (*names.values(), REPORT, SUMS) if not (top / name).is_file()]
+    if missing:
+        return Verification([Step(SUMS, False, f"there is no {', no '.join(missing)}")])
     report = text_of((top / REPORT).read_bytes())
     return Verification([_of_sums(top, names), *_of_original(top, names), _of_library(top, names, report), _of_script(top, names, report)])
 
@@ -199,13 +204,15 @@ def _of_sums(top: _Path, names: Dict[str, str]) -> Step:
     """Whether each file has the sum that is listed."""
     lines = text_of((top / SUMS).read_bytes()).splitlines()
     listed = {name: told for told, _, name in (line.partition("  ") for line in lines)}
+    if strange := [line for line in lines if not line.partition("  ")[2]]:
+        return Step(SUMS, False, f"this line is no sum with a name: {strange[0]:.60}")
     wanted = {*names.values(), REPORT, RECHECKED, VERSIONS, README}
     if wanted - listed.keys():
         return Step(SUMS, False, f"it doesn't list {', '.join(sorted(wanted - listed.keys()))}")
     inside = (name for name in listed if os.path.basename(name) == name)
     others = [name for name in inside if not (top / name).is_file() or _sum_of(top / name) != listed[name]]
     if others or len(lines) != len(listed):
-        return Step(SUMS, False, f"another sum has {', '.join(others)}")
+        return Step(SUMS, False, f"it has another sum for {', '.join(others)}" if others else "it lists a file twice")
     return Step(SUMS, True, f"{len(listed)} files have their sums")
 
 
