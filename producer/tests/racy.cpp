@@ -1,12 +1,12 @@
-// Races that the thread sanitizer has to report, so that its suppressions hide none of this program: racy LOOP, where
-// LOOP is steps or pipeline.
+// Races that the thread sanitizer has to report, so that its suppressions hide none of this program: racy
+// LOOP, where LOOP is steps or pipeline.
 #include <oneapi/tbb/parallel_pipeline.h>
 
 #include <cmath>
 #include <iostream>
 #include <string_view>
 
-#include "threads.h"
+#include "running/threads.h"
 
 using namespace certify;
 

@@ -8,9 +8,9 @@
 #pragma once
 #include <set>
 
-#include "random.h"
+#include "cuts/support.h"
 #include "routes/customer_sets.h"
-#include "support.h"
+#include "running/random.h"
 
 namespace certify::routes {
 struct CapacityCut {

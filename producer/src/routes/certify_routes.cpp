@@ -3,10 +3,10 @@
 #include <iostream>
 #include <utility>
 
-#include "report.h"
+#include "certify/report.h"
+#include "reading/tsp_program.h"
 #include "routes/route_search.h"
 #include "routes/string_removals.h"
-#include "tsp_program.h"
 
 namespace certify::routes {
 namespace {

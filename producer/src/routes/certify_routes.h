@@ -2,8 +2,8 @@
 #pragma once
 #include <memory>
 
-#include "canonical.h"
-#include "options.h"
+#include "certify/options.h"
+#include "reading/canonical.h"
 
 namespace certify::routes {
 // Writes the files. The exit status.

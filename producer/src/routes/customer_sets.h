@@ -3,8 +3,8 @@
 #include <map>
 #include <optional>
 
-#include "certificate.h"
 #include "routes/cvrp.h"
+#include "tree/certificate.h"
 
 namespace certify::routes {
 // Sorted sets by their numbers. Number 0 is the set of all customers.

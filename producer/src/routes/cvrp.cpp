@@ -4,10 +4,10 @@
 #include <numeric>
 #include <sstream>
 
-#include "distances.h"
-#include "instance.h"
-#include "tsp_program.h"
-#include "writing.h"
+#include "points/distances.h"
+#include "reading/instance.h"
+#include "reading/tsp_program.h"
+#include "running/writing.h"
 
 namespace certify::routes {
 namespace {

@@ -3,7 +3,7 @@
 #include <algorithm>
 #include <numeric>
 
-#include "tsp_program.h"
+#include "reading/tsp_program.h"
 
 namespace certify::routes {
 std::optional<Loads> loads_in(const CvrpInstance& instance, Weight unit, Weight most) {

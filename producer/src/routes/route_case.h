@@ -4,9 +4,9 @@
 #pragma once
 #include <memory>
 
-#include "clock.h"
 #include "routes/column_generation.h"
 #include "routes/set_branching.h"
+#include "running/clock.h"
 
 namespace certify::routes {
 // What all cases have in common.

@@ -2,7 +2,7 @@
 
 #include <algorithm>
 
-#include "tsp_program.h"
+#include "reading/tsp_program.h"
 
 namespace certify::routes {
 RouteCertificates::RouteCertificates(const CvrpInstance& instance)

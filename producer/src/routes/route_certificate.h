@@ -2,8 +2,8 @@
 //
 // Nodes have the file's numbers in a certificate, and those of the instance here.
 #pragma once
-#include "certificate.h"
 #include "routes/walk_bound.h"
+#include "tree/certificate.h"
 
 namespace certify::routes {
 class RouteCertificates {

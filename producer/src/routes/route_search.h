@@ -9,11 +9,11 @@
 
 #include <set>
 
-#include "job_window.h"
-#include "progress.h"
 #include "routes/route_case.h"
 #include "routes/route_certificate.h"
-#include "search.h"
+#include "running/job_window.h"
+#include "running/progress.h"
+#include "tree/search.h"
 
 namespace certify::routes {
 // What a search begins with.

@@ -4,7 +4,7 @@
 #include <cmath>
 
 #include "routes/route_parameters.h"
-#include "threads.h"
+#include "running/threads.h"
 
 namespace certify::routes {
 namespace {

@@ -3,7 +3,7 @@
 #include <algorithm>
 #include <cmath>
 
-#include "threads.h"
+#include "running/threads.h"
 
 namespace certify::routes {
 StringRemovals::StringRemovals(const CvrpInstance& instance, std::uint64_t seed)

@@ -8,9 +8,9 @@
 #include <functional>
 #include <optional>
 
-#include "random.h"
 #include "routes/cvrp.h"
 #include "routes/route_parameters.h"
+#include "running/random.h"
 
 namespace certify::routes {
 class StringRemovals {

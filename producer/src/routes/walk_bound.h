@@ -2,9 +2,9 @@
 //
 // docs/format.md says what the numbers are.
 #pragma once
-#include "exact_bound.h"
 #include "routes/customer_sets.h"
 #include "routes/loads.h"
+#include "tree/exact_bound.h"
 
 namespace certify::routes {
 // Potentials of nodes, and multipliers of sets: duals, or numbers of a leaf by the sets themselves.

@@ -10,8 +10,8 @@
 #include <coin/ClpSimplex.hpp>
 #include <set>
 
+#include "cuts/support.h"
 #include "routes/walk_bound.h"
-#include "support.h"
 
 namespace certify::routes {
 class WalkProgram {

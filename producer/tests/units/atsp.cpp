@@ -1,13 +1,13 @@
 #include <algorithm>
 #include <numeric>
 
-#include "arc_search.h"
-#include "arc_tours.h"
-#include "assignment.h"
 #include "fixtures.h"
-#include "row_bound.h"
-#include "search.h"
-#include "tsp_program.h"
+#include "reading/tsp_program.h"
+#include "tours/arc_search.h"
+#include "tours/arc_tours.h"
+#include "tours/assignment.h"
+#include "tree/row_bound.h"
+#include "tree/search.h"
 
 using namespace certify;
 

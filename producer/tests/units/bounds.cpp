@@ -1,8 +1,8 @@
 #include <algorithm>
 
 #include "fixtures.h"
-#include "leaves.h"
-#include "tree_bound.h"
+#include "tree/leaves.h"
+#include "tree/tree_bound.h"
 
 using namespace certify;
 

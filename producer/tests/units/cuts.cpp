@@ -1,9 +1,9 @@
 #include <algorithm>
 #include <map>
 
-#include "combs.h"
+#include "cuts/combs.h"
+#include "cuts/subtours.h"
 #include "fixtures.h"
-#include "subtours.h"
 
 using namespace certify;
 

@@ -1,15 +1,15 @@
-#include "families.h"
+#include "cuts/families.h"
 
 #include <algorithm>
 #include <cmath>
 #include <numeric>
 
-#include "atom_tours.h"
-#include "bonds.h"
+#include "cuts/atom_tours.h"
+#include "cuts/bonds.h"
+#include "cuts/quotient_simplex.h"
+#include "cuts/quotients.h"
+#include "cuts/tightening.h"
 #include "fixtures.h"
-#include "quotient_simplex.h"
-#include "quotients.h"
-#include "tightening.h"
 
 using namespace certify;
 

@@ -1,7 +1,7 @@
-#include "instance.h"
+#include "reading/instance.h"
 
-#include "canonical.h"
 #include "fixtures.h"
+#include "reading/canonical.h"
 
 using namespace certify;
 

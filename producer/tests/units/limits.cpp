@@ -1,8 +1,8 @@
-#include "certificate.h"
+#include "cuts/named_cuts.h"
 #include "fixtures.h"
-#include "leaves.h"
-#include "named_cuts.h"
-#include "tree_bound.h"
+#include "tree/certificate.h"
+#include "tree/leaves.h"
+#include "tree/tree_bound.h"
 
 using namespace certify;
 

@@ -2,10 +2,10 @@
 #include <cmath>
 #include <numeric>
 
-#include "block_tour.h"
-#include "chained_search.h"
 #include "fixtures.h"
-#include "tours.h"
+#include "tours/block_tour.h"
+#include "tours/chained_search.h"
+#include "tours/tours.h"
 
 using certify::Pair;
 using certify::Random;

@@ -4,15 +4,15 @@
 #include <numeric>
 #include <set>
 
-#include "ascent.h"
-#include "assignment.h"
-#include "candidates.h"
-#include "exact_tree.h"
 #include "fixtures.h"
-#include "kd_tree.h"
-#include "node_potentials.h"
-#include "tours.h"
-#include "tsp_program.h"
+#include "points/candidates.h"
+#include "points/kd_tree.h"
+#include "potentials/ascent.h"
+#include "potentials/node_potentials.h"
+#include "reading/tsp_program.h"
+#include "spanning/exact_tree.h"
+#include "tours/assignment.h"
+#include "tours/tours.h"
 
 using certify::Matrix;
 using certify::Pair;

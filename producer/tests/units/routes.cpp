@@ -3,12 +3,12 @@
 #include <numeric>
 
 #include "fixtures.h"
-#include "job_window.h"
 #include "routes/capacity_cuts.h"
 #include "routes/column_generation.h"
 #include "routes/route_certificate.h"
 #include "routes/set_branching.h"
 #include "routes/string_removals.h"
+#include "running/job_window.h"
 
 using namespace certify;
 using namespace certify::routes;

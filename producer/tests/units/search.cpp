@@ -1,12 +1,12 @@
-#include "search.h"
+#include "tree/search.h"
 
 #include <algorithm>
 #include <cmath>
 
-#include "certificate.h"
+#include "cuts/subtours.h"
 #include "fixtures.h"
-#include "local_search.h"
-#include "subtours.h"
+#include "tours/local_search.h"
+#include "tree/certificate.h"
 
 using namespace certify;
 

@@ -2,18 +2,18 @@
 #include <cmath>
 #include <numeric>
 
-#include "ascent.h"
-#include "eax.h"
-#include "exact_tree.h"
+#include "cuts/separation.h"
 #include "fixtures.h"
-#include "region_search.h"
-#include "scan_cuts.h"
-#include "separation.h"
-#include "sparse_leaf.h"
-#include "sparse_parameters.h"
-#include "sparse_search.h"
-#include "tours.h"
-#include "tree_bound.h"
+#include "potentials/ascent.h"
+#include "spanning/exact_tree.h"
+#include "sparse/region_search.h"
+#include "sparse/scan_cuts.h"
+#include "sparse/sparse_leaf.h"
+#include "sparse/sparse_parameters.h"
+#include "sparse/sparse_search.h"
+#include "tours/eax.h"
+#include "tours/tours.h"
+#include "tree/tree_bound.h"
 
 using certify::CutPool;
 using certify::Graph;

@@ -1,4 +1,4 @@
-#include "steepest_edge.h"
+#include "tree/steepest_edge.h"
 
 #include <cmath>
 #include <numeric>

@@ -1,10 +1,10 @@
 #include <algorithm>
 #include <numeric>
 
-#include "eax.h"
 #include "fixtures.h"
-#include "local_search.h"
-#include "tsp_program.h"
+#include "reading/tsp_program.h"
+#include "tours/eax.h"
+#include "tours/local_search.h"
 
 using namespace certify;
 

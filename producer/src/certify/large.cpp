@@ -1,0 +1,61 @@
+#include "certify/large.h"
+
+#include <algorithm>
+#include <cmath>
+#include <utility>
+
+#include "certify/report.h"
+#include "reading/instance.h"
+#include "reading/reading.h"
+#include "reading/tsp_program.h"
+#include "running/writing.h"
+#include "sparse/sparse_search.h"
+
+namespace certify {
+namespace {
+constexpr int kLeastNodes = 9;  // of fewer the search for tours tries all orders
+
+// A length that says little: where distances of points are rounded away.
+bool is_rounded_away(const potentials::Problem& problem, const Tour& tour) {
+  const potentials::Points& points = problem.points();
+  const auto one = [](const std::vector<double>& values) {
+    return std::all_of(values.begin(), values.end(), [&](double value) { return value == values[0]; });
+  };
+  if (one(points.x) && one(points.y) && one(points.z)) return false;
+  const std::vector<Pair> arcs = arcs_of(tour);
+  return std::all_of(arcs.begin(), arcs.end(),
+                     [&](const Pair& arc) { return problem.cost(arc.first, arc.second) <= 1; });
+}
+}  // namespace
+
+bool is_large(const Options& options, const Canonical& file) {
+  if (file.value("TYPE") != "TSP" || file.value("EDGE_WEIGHT_TYPE") == "EXPLICIT") return false;
+  return file.nodes() > kMostNodes || (options.sparse && file.nodes() >= kLeastNodes);
+}
+
+int certify_large(const Options& options, const std::string& tsp, std::unique_ptr<Canonical> file) {
+  if (options.tree || options.split > 0) {
+    throw Refusal(options.instance + ": the certificate of so many nodes has one leaf, and none to share");
+  }
+  const std::unique_ptr<potentials::Problem> problem = potentials::read_problem(tsp, options.instance, *file);
+  file.reset();
+  std::optional<Tour> given;
+  if (options.tour) {
+    given = problem->inward(read_order(tsp, *options.tour, problem->nodes()));
+    if (!problem->allows(*given)) throw Refusal(*options.tour + ": the tour doesn't use all fixed edges");
+  }
+  Progress progress(options.log);
+  Clock::catch_signals();
+  const Clock clock(options.seconds);
+  sparse::SparseSearch search(*problem, {given, options.seed, options.upper}, clock, progress);
+  search.run();
+  write_certificate(options.certificate, search.certificate(), false);
+  if (options.tour_out) write_tour(*options.tour_out, problem->outward(search.tour()));
+  progress.end();
+  Ending ending{search.length(), search.bound()};
+  if (given) ending.given = std::llround(problem->length(*given));
+  ending.rounded_away = is_rounded_away(*problem, search.tour());
+  report(options, ending);
+  return Clock::signal() ? 128 + *Clock::signal() : 0;
+}
+}  // namespace certify

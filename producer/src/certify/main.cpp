@@ -1,0 +1,155 @@
+// tsp-certify: from an instance to a certificate of TYPE BRANCHES, and to a tour.
+//
+// Nothing here is proved, and nothing has to be trusted: `tsp check` decides what a certificate is worth.
+#include <oneapi/tbb/global_control.h>
+#include <oneapi/tbb/info.h>
+#include <oneapi/tbb/task_arena.h>
+
+#include <algorithm>
+#include <iostream>
+#include <memory>
+#include <utility>
+
+#include "certify/large.h"
+#include "certify/options.h"
+#include "certify/report.h"
+#include "reading/tsp_program.h"
+#include "routes/certify_routes.h"
+#include "running/parameters.h"
+#include "running/writing.h"
+#include "tours/arc_tours.h"
+#include "tours/eax.h"
+#include "tree/search.h"
+
+namespace certify {
+namespace {
+// The shortest tour of up to eight nodes, by all orders.
+Tour shortest_by_orders(const Matrix& costs) {
+  Tour order(costs.nodes()), best;
+  for (int v = 0; v < costs.nodes(); v++) order[v] = v;
+  best = order;
+  while (std::next_permutation(order.begin() + 1, order.end())) {
+    if (length_of(costs, order) < length_of(costs, best)) best = order;
+  }
+  return best;
+}
+
+Start find_arcs(const Instance& instance, const Options& options, const Clock& clock, Start start) {
+  const auto late = [&] { return clock.over(kTours.part_of_time); };
+  ArcTours found = find_arc_tours(instance, kArcTours.runs, kArcTours.patience, options.seed, late);
+  start.tour = std::move(found.best);
+  start.further = std::move(found.further);
+  start.edges = std::move(found.arcs);
+  return start;
+}
+
+Start find_tours(const Instance& instance, const Options& options, const Clock& clock, Progress& progress) {
+  Start start;
+  start.seed = options.seed;
+  start.upper = options.upper;
+  start.named = options.tour.has_value();
+  start.families = options.families && !instance.directed;  // of an ATSP their gain was never measured
+  if (instance.directed) return find_arcs(instance, options, clock, std::move(start));
+  const Matrix costs = with_fixed_lowered(instance.weights, instance.fixed);
+  paths_of(instance.fixed, instance.nodes());
+  if (instance.nodes() <= kTours.few_nodes) {
+    start.tour = shortest_by_orders(costs);
+    return start;
+  }
+  Eax eax(costs, instance, options.tour ? kTours.small_population : kTours.population, options.seed);
+  start.tour = eax.run([&] { return clock.over(kTours.part_of_time); },
+                       [&](Weight) {
+                         std::string line = "seconds " + std::to_string(static_cast<int>(Clock::now()));
+                         progress.show(line.append(" looking for a tour"));
+                       });
+  start.further = eax.snapshots();
+  start.edges = eax.edges();
+  return start;
+}
+
+// A length that says little: where distances of points are rounded away.
+bool is_rounded_away(const Instance& instance, const Tour& tour) {
+  const std::vector<Pair> arcs = arcs_of(tour);
+  const auto tiny = [&](const Pair& arc) {
+    const Weight weight = instance.weights(arc.first, arc.second);
+    return weight == 0 || weight == 1;
+  };
+  return instance.rounded && std::all_of(arcs.begin(), arcs.end(), tiny);
+}
+
+Certificate read_tree(const std::string& tsp, const std::string& path, const Instance& instance) {
+  Certificate tree = read_certificate(tsp, path);
+  if (tree.nodes != instance.nodes() || has_family_branches(tree)) {
+    throw Refusal(path + ": this is of another instance");
+  }
+  return tree;
+}
+
+int certify_instance(const Options& options) {
+  const std::string tsp = find_tsp(options.tsp);
+  auto file = std::make_unique<Canonical>(canonical_text(tsp, options.instance, {}));
+  if (file->value("TYPE") == "CVRP") return routes::certify_routes(options, tsp, std::move(file));
+  refuse_other_kinds(*file, options.instance);
+  if (is_large(options, *file)) return certify_large(options, tsp, std::move(file));
+  const Instance instance = read_instance(tsp, options.instance, *file);
+  file.reset();  // the text of a matrix is large
+  const Tour given = options.tour ? read_tour(tsp, *options.tour, instance) : Tour{};
+  Progress progress(options.log);
+  Clock::catch_signals();
+  const Clock clock(options.seconds);
+  Start start = find_tours(instance, options, clock, progress);
+  if (!instance.allows(start.tour)) throw Refusal("no tour uses all fixed edges");
+  if (!given.empty() && length_of(instance.weights, given) <= length_of(instance.weights, start.tour)) {
+    start.tour = given;
+  }
+  if (options.tree) start.tree = read_tree(tsp, *options.tree, instance);
+  start.leaf = options.leaf;
+  Search search(instance, start, clock, progress, {options.window, options.split, options.limits});
+  search.run();
+  write_certificate(options.certificate, search.certificate(), options.split > 0, options.limits);
+  if (options.tour_out) write_tour(*options.tour_out, search.tour());
+  progress.end();
+  if (options.split > 0) {
+    for (const int leaf : search.open_leaves()) std::cout << leaf << "\n";
+  }
+  Ending ending{length_of(instance.weights, search.tour()), search.bound(), search.leaves()};
+  if (!given.empty()) ending.given = length_of(instance.weights, given);
+  ending.rounded_away = is_rounded_away(instance, search.tour());
+  ending.limited = search.is_limited();
+  report(options, ending);
+  return Clock::signal() ? 128 + *Clock::signal() : 0;
+}
+
+// Leaves whose parts are missing stay as they are, so that what is joined is always a certificate.
+int join(const Options& options) {
+  const std::string tsp = find_tsp(options.tsp);
+  std::vector<Certificate> parts;
+  for (const std::string& path : options.parts) parts.push_back(read_certificate(tsp, path));
+  const Joined joined = certify::joined(read_certificate(tsp, *options.tree), parts, options.limits);
+  write_certificate(options.certificate, joined.whole, is_open(joined.whole), options.limits);
+  report_left_out(options, joined.left_out);
+  return 0;
+}
+
+// All loops run in an arena of as many threads.
+int run(const Options& options) {
+  if (!options.parts.empty()) return join(options);
+  const int threads = options.threads > 0 ? options.threads : oneapi::tbb::info::default_concurrency();
+  const oneapi::tbb::global_control most(oneapi::tbb::global_control::max_allowed_parallelism,
+                                         static_cast<std::size_t>(threads));
+  oneapi::tbb::task_arena arena(threads);
+  return arena.execute([&] { return certify_instance(options); });
+}
+}  // namespace
+}  // namespace certify
+
+int main(int count, char** words) {
+  return certify::ended("tsp-certify", [&] {
+    const auto asked = certify::parse_options(count, words);
+    if (const auto* help = std::get_if<certify::Help>(&asked)) {
+      std::cout << help->text;
+      return 0;
+    }
+    return certify::run(std::get<certify::Options>(asked));
+  });
+}

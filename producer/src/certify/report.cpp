@@ -1,0 +1,54 @@
+#include "certify/report.h"
+
+#include <algorithm>
+#include <iomanip>
+#include <iostream>
+
+#include "running/clock.h"
+
+namespace certify {
+namespace {
+std::string limits_of(const Extent& limits) {
+  return std::to_string(limits.families) + " families with " + std::to_string(limits.nodes) + " nodes, " +
+         std::to_string(limits.differences) + " differences, " + std::to_string(limits.branches) +
+         " branches";
+}
+}  // namespace
+
+void report_left_out(const Options& options, const std::vector<std::size_t>& parts) {
+  if (parts.empty()) return;
+  std::cerr << "tsp-certify: left out, since a file has at most " << limits_of(options.limits) << ":";
+  for (const std::size_t part : parts) std::cerr << " " << options.parts[part];
+  std::cerr << "\ntsp-certify: their leaves are open, and this goes on with them: tsp-certify "
+            << options.instance << " TOUR --tree " << options.certificate << " -o CERTIFICATE\n";
+}
+
+void report(const Options& options, const Ending& ending) {
+  const Weight bound = std::min(ending.bound, ending.length);
+  std::cerr << "tsp-certify: length " << ending.length << ", bound " << bound << " as reckoned here, leaves "
+            << ending.leaves << ", seconds " << std::fixed << std::setprecision(1) << Clock::now()
+            << ", processor seconds " << Clock::processor() << "\n";
+  if (bound < ending.length) std::cerr << "tsp-certify: a gap of " << ending.length - bound << " is left\n";
+  if (ending.limited) {
+    std::cerr << "tsp-certify: leaves are left open, since a file has at most " << limits_of(options.limits)
+              << "\n";
+  }
+  if (ending.given && ending.length < *ending.given) {
+    std::cerr << "tsp-certify: a shorter tour than the named one was found"
+              << (options.tour_out ? "" : "; --tour-out says where it goes") << "\n";
+  }
+  if (ending.rounded_away) {
+    std::cerr
+        << "tsp-certify: distances are rounded to whole numbers, and each of this tour is 0 or 1: multiply "
+           "the coordinates by a power of ten, and say so where the length is published\n";
+  }
+  if (options.leaf) {
+    std::cerr << "tsp-certify: this is a part: tsp-certify " << options.instance << " --tree "
+              << *options.tree << " --join PART.. -o CERTIFICATE puts parts together\n";
+    return;
+  }
+  const std::string tour = options.tour_out.value_or(options.tour.value_or("TOUR"));
+  std::cerr << "tsp-certify: this decides: tsp check " << options.instance << " " << tour << " --branches "
+            << options.certificate << "\n";
+}
+}  // namespace certify

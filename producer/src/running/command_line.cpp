@@ -1,0 +1,56 @@
+#include "running/command_line.h"
+
+#include <CLI/CLI.hpp>
+#include <exception>
+#include <iostream>
+#include <new>
+
+#include "reading/tsp_program.h"
+
+namespace certify {
+void declare_files(CLI::App& app, CommonOptions& options, const char* why) {
+  app.set_help_flag("-h,--help", "this text");
+  app.add_option("INSTANCE", options.instance, "a file of TYPE TSP or ATSP")->required();
+  app.add_option("TOUR", options.tour, why);
+}
+
+void declare_common(CLI::App& app, CommonOptions& options) {
+  app.add_option("--tour-out", options.tour_out, "where the shortest tour that was found is written")
+      ->type_name("TOUR");
+  app.add_option("--seed", options.seed, "of the choices by chance")->type_name("N")->capture_default_str();
+  app.add_option(
+         "--tsp", options.tsp,
+         "the program tsp: a path, or a name that is looked for on PATH; else it is tsp on PATH, then in the "
+         "folders above")
+      ->type_name("PROGRAM");
+  app.add_option("--log", options.log, "where each event is written as a line of JSON")->type_name("FILE");
+}
+
+std::optional<Help> take_words(CLI::App& app, int count, const char* const* words) {
+  try {
+    app.parse(count, words);
+  } catch (const CLI::CallForHelp&) {
+    return Help{app.help()};
+  } catch (const CLI::ParseError& fault) {
+    throw Refusal(std::string(fault.what()) + "; --help tells of all words");
+  }
+  return std::nullopt;
+}
+
+std::vector<std::string> files_read(const CommonOptions& options) {
+  std::vector<std::string> files{options.instance};
+  if (options.tour) files.push_back(*options.tour);
+  return files;
+}
+
+int ended(std::string_view program, const std::function<int()>& run) {
+  try {
+    return run();
+  } catch (const std::bad_alloc&) {
+    std::cerr << program << ": out of memory\n";
+  } catch (const std::exception& fault) {
+    std::cerr << program << ": " << fault.what() << "\n";
+  }
+  return 2;
+}
+}  // namespace certify

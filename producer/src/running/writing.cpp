@@ -1,0 +1,56 @@
+#include "running/writing.h"
+
+#include <algorithm>
+#include <cerrno>
+#include <cstring>
+#include <filesystem>
+#include <fstream>
+#include <sstream>
+
+#include "reading/tsp_program.h"
+
+namespace certify {
+namespace fs = std::filesystem;
+namespace {
+// Whether two paths lead to one file. Of files that aren't there yet the paths decide. Devices may be named
+// twice.
+bool same_file(const std::string& one, const std::string& other) {
+  std::error_code error;
+  if (fs::exists(one, error) && !fs::is_regular_file(one, error)) return false;
+  if (fs::equivalent(one, other, error)) return true;
+  const auto whole = [&](const std::string& path) {
+    return fs::weakly_canonical(fs::absolute(path, error), error);
+  };
+  return whole(one) == whole(other);
+}
+}  // namespace
+
+void write_text(const std::string& path, const std::string& text) {
+  std::ofstream file(path, std::ios::binary);
+  file << text;
+  file.close();
+  if (!file) throw Refusal(path + ": " + std::strerror(errno));
+}
+
+void write_tour(const std::string& path, const Tour& tour) {
+  std::ostringstream text;
+  text << "TYPE : TOUR\nDIMENSION : " << tour.size() << "\nTOUR_SECTION\n";
+  Tour from_first = tour;
+  std::rotate(from_first.begin(), std::find(from_first.begin(), from_first.end(), 0), from_first.end());
+  for (const int v : from_first) text << v + 1 << '\n';
+  text << "-1\nEOF\n";
+  write_text(path, text.str());
+}
+
+void refuse_overwriting(std::vector<std::string> read,
+                        const std::vector<std::optional<std::string>>& written) {
+  for (const std::optional<std::string>& path : written) {
+    if (!path) continue;
+    for (const std::string& taken : read) {
+      if (same_file(taken, *path))
+        throw Refusal(*path + ": this is " + taken + ", which would be overwritten");
+    }
+    read.push_back(*path);
+  }
+}
+}  // namespace certify

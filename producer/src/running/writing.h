@@ -1,0 +1,16 @@
+// Writes files whole, or throws Refusal.
+#pragma once
+#include <optional>
+#include <string>
+#include <vector>
+
+#include "tours/tour.h"
+
+namespace certify {
+void write_text(const std::string& path, const std::string& text);
+// A file of TYPE TOUR. docs/format.md says what is in it.
+void write_tour(const std::string& path, const Tour& tour);
+// Throws Refusal where a file that is written is one that is read, or is written twice.
+void refuse_overwriting(std::vector<std::string> read,
+                        const std::vector<std::optional<std::string>>& written);
+}  // namespace certify

@@ -1,0 +1,108 @@
+// The linear program of a large instance of points, which holds no matrix: degrees of 2, and the rows of
+// cuts. It has the edges of a tour, so that it is always feasible, and others that join by pricing candidate
+// edges. Edges that no candidate is are found by a leaf's least 1-tree, see sparse_leaf.h.
+//
+// Each set of a cut counts either the edges inside or those that cross it, whatever are fewer, so that rows
+// of large sets are short. Duals are told as if all sets counted the edges inside. Clp solves it.
+// Source: D. Applegate, R. Bixby, V. Chvatal and W. Cook, The Traveling Salesman Problem (2006).
+#pragma once
+#include <coin/ClpSimplex.hpp>
+#include <unordered_map>
+
+#include "cuts/cut_pool.h"
+#include "points/problem.h"
+#include "running/clock.h"
+#include "tree/steepest_edge.h"
+
+namespace sparse {
+using certify::CutPool;
+using certify::Graph;
+using certify::NodeSet;
+using certify::Pair;
+using certify::Tour;
+using certify::Weight;
+using potentials::Problem;
+
+class SparseProgram {
+ public:
+  // The clock ends a solution early. What the program then says of duals is valid, but not the best.
+  SparseProgram(const Problem& problem, const CutPool& pool, const Tour& tour, const certify::Clock& clock);
+  SparseProgram(const SparseProgram&) = delete;  // Clp has a pointer to the weights of this one
+  SparseProgram& operator=(const SparseProgram&) = delete;
+  void add_edges(const std::vector<Pair>& edges);
+  // Edges that pricing looks at from here on, besides those before.
+  void add_candidates(const std::vector<Pair>& edges);
+  void add_cuts(const std::vector<int>& cuts);
+  // Drops the slack rows that were slack in more solutions than this in a row.
+  void purge(int age);
+  // Drops edges at 0 whose reduced cost is large. They are candidates from here on.
+  void drop_edges();
+  // Whether the solution is the best one over all candidates: it isn't where the time is over.
+  bool solve();
+
+  double value() const { return value_; }
+  const Graph& support() const { return support_; }
+  bool has(int cut) const { return row_of_.count(cut) > 0; }
+  const std::vector<int>& cuts() const { return cuts_; }
+  int columns() const { return static_cast<int>(edges_.size()); }
+  std::size_t nonzeros() const { return static_cast<std::size_t>(program_.getNumElements()); }
+  // Duals at the weights' own unit: of degrees, and of the cuts in their order, from 0 on.
+  double node_dual(int node) const { return node_duals_[node] * unit_; }
+  double cut_dual(std::size_t row) const { return cut_duals_[row] * unit_; }
+  double average() const { return average_; }
+  // The edges of the program.
+  const std::vector<Pair>& edges() const { return edges_; }
+
+ private:
+  struct Place {
+    int node, column;
+  };
+  // A set of a row that a node is in.
+  struct Member {
+    int row, set;
+    bool crossing;  // the row counts the edges that cross the set
+    bool operator<(const Member& other) const { return row != other.row ? row < other.row : set < other.set; }
+  };
+  void begin();
+  void index_columns();
+  bool failed() const;
+  bool optimize();
+  int price();
+  void read_duals();
+  void read_solution();
+  std::vector<std::vector<Member>> memberships() const;
+  void list_entries(const std::vector<Member>& of_one, const std::vector<Member>& of_other,
+                    std::vector<int>& rows, std::vector<double>& elements) const;
+  bool count_edges(const NodeSet& set, std::vector<int>& touched);
+  void list_row(int cut, std::vector<char>& crossing, std::vector<int>& columns,
+                std::vector<double>& elements);
+  double reduced_cost(const Pair& edge, const std::vector<std::vector<Member>>& members) const;
+  void drop_rows(const std::vector<char>& dropped);
+
+  static Pair sorted(const Pair& edge) { return std::minmax(edge.first, edge.second); }
+  static std::uint64_t key_of(const Pair& edge) {
+    return static_cast<std::uint64_t>(edge.first) << 32 | static_cast<std::uint32_t>(edge.second);
+  }
+
+  const Problem& problem_;
+  const CutPool& pool_;
+  const certify::Clock& clock_;
+  int nodes_;
+  double unit_ = 1, average_ = 1;  // average_: of an edge of the tour
+  certify::EdgeWeights edge_weights_;
+  ClpSimplex program_;
+  std::vector<Pair> edges_, candidates_;
+  std::unordered_map<std::uint64_t, int> column_of_;
+  std::vector<char> kept_;  // of each edge: it is the tour's or fixed
+  std::vector<std::vector<Place>> adjacent_;
+  std::vector<int> cuts_, ages_;
+  std::vector<std::vector<char>> crossing_;  // of each row's sets
+  std::unordered_map<int, int> row_of_;
+  std::vector<double> solution_, node_duals_, cut_duals_;
+  std::vector<char> mark_;            // of the nodes of a set that is looked at
+  std::vector<int> inside_, across_;  // the columns of its edges
+  std::vector<double> counts_;        // of the edges in a row that is made
+  Graph support_;
+  double value_ = 0;
+};
+}  // namespace sparse

@@ -1,0 +1,181 @@
+#include "sparse/sparse_search.h"
+
+#include <algorithm>
+#include <cmath>
+#include <numeric>
+#include <utility>
+
+#include "points/candidates.h"
+#include "sparse/sparse_parameters.h"
+#include "tours/tours.h"
+
+namespace sparse {
+namespace {
+std::vector<Pair> pairs_of(const std::vector<potentials::Edge>& edges) {
+  std::vector<Pair> pairs;
+  pairs.reserve(edges.size());
+  for (const potentials::Edge& edge : edges) pairs.emplace_back(edge.a, edge.b);
+  return pairs;
+}
+}  // namespace
+
+Weight SparseSearch::length() const { return std::llround(problem_.length(tours_[0])); }
+
+// What the program is worth, before its numbers are whole; 0 while there is none.
+Weight SparseSearch::value_so_far() const {
+  if (!program_) return 0;
+  return static_cast<Weight>(std::max(0.0, std::min(program_->value(), static_cast<double>(target()))));
+}
+
+void SparseSearch::note(std::string_view event, Weight bound) {
+  certify::Standing standing{length(), bound};
+  for (const int cut : program_->cuts()) {
+    (pool_[cut].kind == certify::CutKind::kSubtour ? standing.subtours : standing.combs)++;
+  }
+  standing.open = 1;
+  progress_.show(standing);
+  progress_.log(event, standing);
+}
+
+void SparseSearch::ascend() {
+  potentials::Ascent ascent(problem_);
+  duals_ = ascent.run(kSparse.steps, [&](int, double) { return !clock_.over(kSparse.part_for_tours / 2); });
+  support_ = ascent.support();
+}
+
+Tour SparseSearch::looked_for() {
+  potentials::TourSearch search;
+  search.seed = start_.seed;
+  search.kicks = kSparse.kicks_of_node * problem_.nodes();
+  search.watch = [&](long, double) { return !clock_.over(kSparse.part_for_tours / 2); };
+  return potentials::shorten(problem_, potentials::first_tour(problem_), duals_, support_, search).tour;
+}
+
+// One pass over all regions, and one over the nodes at long edges. Whether it shortens the tour.
+bool SparseSearch::pass_regions(double part) {
+  const Weight before = length();
+  const auto late = [&] { return clock_.over(part); };
+  NodeSet all(problem_.nodes());
+  std::iota(all.begin(), all.end(), 0);
+  regions_->pass_over(regions_of(problem_, std::move(all), kSparse.region, passes_), late);
+  const auto count = static_cast<std::size_t>(kSparse.at_long_edges * problem_.nodes());
+  NodeSet ends = nodes_at_long_edges(problem_, regions_->tour(), support_, count);
+  regions_->pass_over(regions_of(problem_, std::move(ends), kSparse.long_region, passes_), late);
+  passes_++;
+  tours_[0] = regions_->tour();
+  progress_.log("tour", length(), value_so_far(), "\"pass\": " + std::to_string(passes_));
+  return length() < before;
+}
+
+// The best tour, and one whose runs are teeth too.
+void SparseSearch::find_tours() {
+  Tour tour = looked_for();
+  const Tour further = tour;
+  if (start_.tour && problem_.length(*start_.tour) < problem_.length(tour)) tour = *start_.tour;
+  regions_.emplace(problem_, duals_, tour, start_.seed);
+  tours_ = {std::move(tour), further};
+  for (int pass = 0; pass < kSparse.passes && !clock_.over(kSparse.part_for_tours); pass++) {
+    pass_regions(kSparse.part_for_tours);
+  }
+}
+
+// What is left of the time, or passes until they gain nothing.
+void SparseSearch::shorten_tour() {
+  for (int misses = 0; misses < kSparse.most_misses && !clock_.over() && bound() < target();) {
+    misses = pass_regions(1) ? 0 : misses + 1;
+  }
+}
+
+void SparseSearch::begin_program() {
+  program_.emplace(problem_, pool_, tours_[0], clock_);
+  for (const Tour& tour : tours_) program_->add_edges(certify::edges_of(tour));
+  program_->add_edges(pairs_of(support_));
+  program_->add_edges(pairs_of(potentials::light_edges(problem_, duals_, kSparse.light)));
+  program_->add_candidates(
+      pairs_of(potentials::near_edges(problem_, kSparse.near, kSparse.near_in_quadrant)));
+  separation_.emplace(problem_, pool_, *program_, start_.seed);
+  separation_->set_tours(tours_);
+  leaf_.emplace(problem_, pool_, program_->average());
+  take(leaf_->alone(duals_));  // a program that has little time may be worth less
+}
+
+// Takes numbers where they are better.
+void SparseSearch::take(Numbers numbers) {
+  const Value value = leaf_->value(numbers, program_->edges());
+  if (value <= value_) return;
+  numbers_ = std::move(numbers);
+  value_ = value;
+}
+
+// Takes the numbers of the last solution. How many edges of their 1-tree joined.
+int SparseSearch::judge() {
+  take(leaf_->extract(*program_));
+  const int before = program_->columns();
+  program_->add_edges(pairs_of(leaf_->tree()));
+  return program_->columns() - before;
+}
+
+bool SparseSearch::stalled() const {
+  if (values_.size() <= kSparse.window) return false;
+  const double gained = values_.back() - values_[values_.size() - 1 - kSparse.window];
+  return gained < kSparse.least_gain * (static_cast<double>(target()) - values_.back());
+}
+
+void SparseSearch::cut_subtours() {
+  while (program_->solve()) {
+    note("round", value_so_far());
+    if (reaches() || separation_->add_subtours() == 0) return;
+  }
+}
+
+// What a solution is worth before cuts join it: edges and rows that aren't needed are dropped, and edges of
+// least 1-trees join.
+void SparseSearch::tidy(int round) {
+  if (round % kSparse.rounds_of_edges == 0) program_->drop_edges();
+  if (round % kSparse.rounds_of_purge == 0) program_->purge(kSparse.slack);
+  if (round % kSparse.rounds_of_trees == 0) judge();
+}
+
+// What is tried where cuts stop to help: a shorter tour, whose runs are other teeth; with it larger sets
+// where the gap is large, then twice as many climbs.
+bool SparseSearch::goes_further() {
+  values_.clear();
+  for (int k = 0; k < kSparse.passes_between; k++) pass_regions(kSparse.part_of_time);
+  program_->add_edges(certify::edges_of(tours_[0]));
+  separation_->set_tours(tours_);
+  const double gap = static_cast<double>(target()) - program_->value();
+  if (!far_ && gap > certify::kCutting.large_gap * static_cast<double>(length())) {
+    far_ = true;
+    return true;
+  }
+  return ++level_ <= kSparse.levels;
+}
+
+// Rounds of cuts until they stop to help.
+void SparseSearch::cut() {
+  for (int round = 1; program_->solve(); round++) {
+    note("round", value_so_far());
+    if (reaches()) return;
+    values_.push_back(program_->value());
+    tidy(round);
+    if (!stalled() && separation_->add_cuts(level_, far_) > 0) continue;
+    do {
+      if (!goes_further()) return;
+    } while (separation_->add_cuts(level_, far_) == 0);
+  }
+}
+
+void SparseSearch::run() {
+  ascend();
+  find_tours();
+  begin_program();
+  cut_subtours();
+  if (!reaches()) cut();
+  for (int k = 0; k < kSparse.trees; k++) {
+    if (judge() == 0 || clock_.over() || bound() >= target()) break;
+    if (!program_->solve()) break;
+  }
+  shorten_tour();
+  note("end", std::max<Weight>(0, bound()));
+}
+}  // namespace sparse
