@@ -15,16 +15,12 @@ namespace certify {
 namespace {
 constexpr int kLeastNodes = 9;  // of fewer the search for tours tries all orders
 
-// A length that says little: where distances of points are rounded away.
-bool is_rounded_away(const potentials::Problem& problem, const Tour& tour) {
-  const potentials::Points& points = problem.points();
-  const auto one = [](const std::vector<double>& values) {
-    return std::all_of(values.begin(), values.end(), [&](double value) { return value == values[0]; });
+// Whether points aren't all the same.
+bool are_apart(const potentials::Points& points) {
+  const auto differ = [](const std::vector<double>& values) {
+    return std::any_of(values.begin(), values.end(), [&](double value) { return value != values[0]; });
   };
-  if (one(points.x) && one(points.y) && one(points.z)) return false;
-  const std::vector<Pair> arcs = arcs_of(tour);
-  return std::all_of(arcs.begin(), arcs.end(),
-                     [&](const Pair& arc) { return problem.cost(arc.first, arc.second) <= 1; });
+  return differ(points.x) || differ(points.y) || differ(points.z);
 }
 }  // namespace
 
@@ -54,7 +50,8 @@ int certify_large(const Options& options, const std::string& tsp, std::unique_pt
   progress.end();
   Ending ending{search.length(), search.bound()};
   if (given) ending.given = std::llround(problem->length(*given));
-  ending.rounded_away = is_rounded_away(*problem, search.tour());
+  ending.rounded_away = are_apart(problem->points()) &&
+                        is_rounded_away(search.tour(), [&](int i, int j) { return problem->cost(i, j); });
   report(options, ending);
   return Clock::signal() ? 128 + *Clock::signal() : 0;
 }

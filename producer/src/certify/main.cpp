@@ -17,23 +17,13 @@
 #include "routes/certify_routes.h"
 #include "running/parameters.h"
 #include "running/writing.h"
+#include "tours/all_orders.h"
 #include "tours/arc_tours.h"
 #include "tours/eax.h"
 #include "tree/search.h"
 
 namespace certify {
 namespace {
-// The shortest tour of up to eight nodes, by all orders.
-Tour shortest_by_orders(const Matrix& costs) {
-  Tour order(costs.nodes()), best;
-  for (int v = 0; v < costs.nodes(); v++) order[v] = v;
-  best = order;
-  while (std::next_permutation(order.begin() + 1, order.end())) {
-    if (length_of(costs, order) < length_of(costs, best)) best = order;
-  }
-  return best;
-}
-
 Start find_arcs(const Instance& instance, const Options& options, const Clock& clock, Start start) {
   const auto late = [&] { return clock.over(kTours.part_of_time); };
   ArcTours found = find_arc_tours(instance, kArcTours.runs, kArcTours.patience, options.seed, late);
@@ -53,7 +43,7 @@ Start find_tours(const Instance& instance, const Options& options, const Clock& 
   const Matrix costs = with_fixed_lowered(instance.weights, instance.fixed);
   paths_of(instance.fixed, instance.nodes());
   if (instance.nodes() <= kTours.few_nodes) {
-    start.tour = shortest_by_orders(costs);
+    start.tour = shortest_by_orders(costs.nodes(), [&](const Tour& tour) { return length_of(costs, tour); });
     return start;
   }
   Eax eax(costs, instance, options.tour ? kTours.small_population : kTours.population, options.seed);
@@ -65,16 +55,6 @@ Start find_tours(const Instance& instance, const Options& options, const Clock& 
   start.further = eax.snapshots();
   start.edges = eax.edges();
   return start;
-}
-
-// A length that says little: where distances of points are rounded away.
-bool is_rounded_away(const Instance& instance, const Tour& tour) {
-  const std::vector<Pair> arcs = arcs_of(tour);
-  const auto tiny = [&](const Pair& arc) {
-    const Weight weight = instance.weights(arc.first, arc.second);
-    return weight == 0 || weight == 1;
-  };
-  return instance.rounded && std::all_of(arcs.begin(), arcs.end(), tiny);
 }
 
 Certificate read_tree(const std::string& tsp, const std::string& path, const Instance& instance) {
@@ -114,7 +94,8 @@ int certify_instance(const Options& options) {
   }
   Ending ending{length_of(instance.weights, search.tour()), search.bound(), search.leaves()};
   if (!given.empty()) ending.given = length_of(instance.weights, given);
-  ending.rounded_away = is_rounded_away(instance, search.tour());
+  ending.rounded_away = instance.rounded &&
+                        is_rounded_away(search.tour(), [&](int i, int j) { return instance.weights(i, j); });
   ending.limited = search.is_limited();
   report(options, ending);
   return Clock::signal() ? 128 + *Clock::signal() : 0;

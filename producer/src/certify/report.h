@@ -1,6 +1,9 @@
 // What a run tells at its end: the files, and the gap by its own reckoning.
 #pragma once
+#include <algorithm>
+
 #include "certify/options.h"
+#include "tours/tour.h"
 
 namespace certify {
 struct Ending {
@@ -10,6 +13,16 @@ struct Ending {
   bool limited = false;           // leaves are open because of the limits of a file
   bool rounded_away = false;      // distances are rounded, and each of the tour is 0 or 1: they say little
 };
+
+// A length that says little: where distances of points are rounded away.
+template <class CostOf>
+bool is_rounded_away(const Tour& tour, const CostOf& cost_of) {
+  const std::vector<Pair> arcs = arcs_of(tour);
+  return std::all_of(arcs.begin(), arcs.end(), [&](const Pair& arc) {
+    const auto cost = cost_of(arc.first, arc.second);
+    return cost == 0 || cost == 1;
+  });
+}
 
 void report(const Options& options, const Ending& ending);
 // Of the parts that aren't joined, by their places on the command line.

@@ -12,13 +12,6 @@ namespace potentials {
 using certify::Pair;
 using certify::Refusal;
 
-Metric metric_of(std::string_view kind) {
-  if (kind.starts_with("MAN")) return Metric::kManhattan;
-  if (kind.starts_with("MAX")) return Metric::kMaximum;
-  if (kind == "ATT") return Metric::kAtt;
-  return kind == "CEIL_2D" ? Metric::kCeil : Metric::kEuclid;
-}
-
 Problem::Problem(Points points, const std::vector<Pair>& fixed) : points_(std::move(points)) {
   auto tree = std::make_unique<KdTree>(points_);
   original_ = tree->order();

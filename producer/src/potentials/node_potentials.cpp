@@ -10,7 +10,6 @@
 
 namespace potentials {
 namespace {
-__extension__ typedef __int128 Wide;
 constexpr Weight kFinest = 1000000;               // the limits of the format: of a scale,
 constexpr double kMostNumber = 1000000000000000;  // and of a number
 
@@ -54,19 +53,16 @@ NodePotentials rounded(const Problem& problem, std::vector<double> numbers) {
 }
 
 Weight bound_of(const Problem& problem, const NodePotentials& potentials, const std::vector<Edge>& edges) {
-  const auto number_of = [&](int i) { return potentials.numbers[problem.original()[i]]; };
-  std::vector<double> numbers(problem.nodes());
-  Wide sum = 0;
-  for (int i = 0; i < problem.nodes(); i++) {
-    numbers[i] = static_cast<double>(number_of(i)) / static_cast<double>(potentials.scale);
-    sum -= 2 * static_cast<Wide>(number_of(i));
+  std::vector<double> numbers;
+  std::vector<Weight> whole;
+  certify::Value sum = 0;
+  for (const int node : problem.original()) {
+    whole.push_back(potentials.numbers[node]);
+    numbers.push_back(static_cast<double>(whole.back()) / static_cast<double>(potentials.scale));
+    sum -= 2 * static_cast<certify::Value>(whole.back());
   }
-  for (const Edge& edge : exact_tree(problem, numbers, edges)) {
-    const Wide cost = std::llround(problem.cost(edge.a, edge.b));
-    sum += cost * potentials.scale + number_of(edge.a) + number_of(edge.b);
-  }
-  const Wide whole = sum / potentials.scale;
-  return static_cast<Weight>(whole * potentials.scale < sum ? whole + 1 : whole);
+  sum += whole_sum(problem, exact_tree(problem, numbers, edges), whole, potentials.scale);
+  return certify::rounded_up(sum, potentials.scale);
 }
 
 void write_potentials(const std::string& path, const NodePotentials& potentials) {

@@ -1,8 +1,6 @@
 #include "reading/instance.h"
 
 #include <algorithm>
-#include <cmath>
-#include <cstdlib>
 #include <set>
 
 #include "points/distances.h"
@@ -11,21 +9,10 @@
 
 namespace certify {
 namespace {
-__extension__ typedef unsigned __int128 Wide;
-constexpr Weight kUnit = 1000000000;
-
-// The largest whole number whose square is at most this one.
-Wide square_root(Wide square) {
-  Wide root = static_cast<Wide>(std::sqrt(static_cast<long double>(square)));
-  while (root * root > square) root--;
-  while ((root + 1) * (root + 1) <= square) root++;
-  return root;
-}
-
 // Takes the distances of points.
 void measure(const Canonical& file, Instance& instance) {
   const std::vector<Point> points = points_of(file);
-  instance.weights = distances_of(file);
+  instance.weights = distances_of(file.value("EDGE_WEIGHT_TYPE"), points);
   if (!file.value("EDGE_WEIGHT_TYPE").ends_with("_3D")) {
     for (const auto& point : points) instance.points.emplace_back(point[0], point[1]);
   }
@@ -53,16 +40,6 @@ bool Instance::allows(const Tour& tour) const {
   const std::vector<Pair> links = links_of(tour);
   const std::set<Pair> used(links.begin(), links.end());
   return std::all_of(fixed.begin(), fixed.end(), [&](const Pair& pair) { return used.contains(pair); });
-}
-
-Weight distance_of(const std::string& kind, Weight x, Weight y, Weight z) {
-  const Wide a = std::abs(x), b = std::abs(y), c = std::abs(z);
-  if (kind.rfind("MAN", 0) == 0) return static_cast<Weight>((2 * (a + b + c) + kUnit) / (2 * kUnit));
-  if (kind.rfind("MAX", 0) == 0) return static_cast<Weight>((2 * std::max({a, b, c}) + kUnit) / (2 * kUnit));
-  const Wide square = a * a + b * b + c * c;
-  if (kind.rfind("EUC", 0) == 0) return static_cast<Weight>((square_root(4 * square) + kUnit) / (2 * kUnit));
-  if (square == 0) return 0;
-  return static_cast<Weight>(square_root((square - 1) / (kind == "ATT" ? 10 : 1)) / kUnit + 1);
 }
 
 void refuse_other_kinds(const Canonical& file, const std::string& path) {

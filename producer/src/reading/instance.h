@@ -1,7 +1,4 @@
 // Instances and tours, read from the canonical text that `tsp convert` prints.
-//
-// Distances are whole numbers by exact arithmetic over the decimals as they are written. Their
-// definitions are those of TSPLIB 95 (G. Reinelt, 1995), with the coordinates as counts of 10^-9.
 #pragma once
 #include <algorithm>
 #include <string>
@@ -40,6 +37,4 @@ Matrix read_matrix(const std::string& tsp, const std::string& path, const Canoni
 Tour read_tour(const std::string& tsp, const std::string& path, const Instance& instance);
 // A tour of this many nodes, whatever the instance says of them.
 Tour read_order(const std::string& tsp, const std::string& path, int nodes);
-// The distance of points that are this far apart along the axes, in counts of 10^-9.
-Weight distance_of(const std::string& kind, Weight x, Weight y, Weight z);
 }  // namespace certify

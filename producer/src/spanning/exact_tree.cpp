@@ -2,8 +2,10 @@
 
 #include <algorithm>
 #include <limits>
+#include <utility>
 
 #include "spanning/components.h"
+#include "spanning/least_tree.h"
 
 namespace potentials {
 namespace {
@@ -13,7 +15,7 @@ constexpr double kLifted = 1e200;  // the number of the special node, so that no
 class Boruvka {
  public:
   Boruvka(const Problem& problem, const std::vector<double>& numbers, std::vector<Edge> some,
-          Surcharges* surcharges)
+          PairSurcharges* surcharges)
       : problem_(problem),
         numbers_(numbers),
         surcharges_(surcharges),
@@ -84,7 +86,7 @@ class Boruvka {
 
   const Problem& problem_;
   const std::vector<double>& numbers_;
-  Surcharges* const surcharges_;
+  PairSurcharges* const surcharges_;
   std::vector<Edge> open_, tree_;
   Components components_;
   std::vector<int> labels_;
@@ -93,55 +95,28 @@ class Boruvka {
   std::vector<double> floors_;
 };
 
-class Prim {
- public:
-  Prim(const Problem& problem, const std::vector<double>& numbers)
-      : problem_(problem), numbers_(numbers), ends_(problem.nodes(), -1), near_(problem.nodes(), kInfinite) {}
-
-  std::vector<Edge> find() {
-    std::vector<Edge> tree;
-    for (int i = 0; i < problem_.nodes(); i++) {
-      if (i != problem_.special()) outside_.push_back(i);
-    }
-    int last = outside_.back();
-    outside_.pop_back();
-    while (!outside_.empty()) {
-      const std::size_t place = look_from(last);
-      last = outside_[place];
-      outside_[place] = outside_.back();
-      outside_.pop_back();
-      tree.push_back(problem_.edge(ends_[last], last));
-    }
-    return tree;
+// Of a matrix.
+std::vector<Edge> tree_of_rows(const Problem& problem, const std::vector<double>& numbers) {
+  std::vector<int> outside;
+  for (int i = 0; i < problem.nodes(); i++) {
+    if (i != problem.special()) outside.push_back(i);
   }
-
- private:
-  // Returns the place of the nearest node outside the tree.
-  std::size_t look_from(int last) {
-    const certify::Weight* row = problem_.matrix()->row(last);
-    std::size_t nearest = 0;
-    for (std::size_t k = 0; k < outside_.size(); k++) {
-      const int node = outside_[k];
-      double weight = static_cast<double>(row[node]) + numbers_[last] + numbers_[node];
-      if (problem_.is_fixed(last, node)) weight = -kInfinite;
-      if (weight < near_[node]) {
-        near_[node] = weight;
-        ends_[node] = last;
-      }
-      if (near_[node] < near_[outside_[nearest]]) nearest = k;
-    }
-    return nearest;
-  }
-
-  const Problem& problem_;
-  const std::vector<double>& numbers_;
-  std::vector<int> outside_,
-      ends_;  // of each node outside the tree the nearest one in it, and how near it is
-  std::vector<double> near_;
-};
+  const int start = outside.back();
+  outside.pop_back();
+  std::vector<Edge> tree;
+  const auto row_of = [&](int from) {
+    return [&, from, row = problem.matrix()->row(from)](int node) {
+      if (problem.is_fixed(from, node)) return -kInfinite;
+      return static_cast<double>(row[node]) + numbers[from] + numbers[node];
+    };
+  };
+  grow_least_tree<double>(problem.nodes(), start, std::move(outside), row_of,
+                          [&](int from, int to, double) { tree.push_back(problem.edge(from, to)); });
+  return tree;
+}
 
 // The two edges at the special node: fixed ones first.
-void close(const Problem& problem, const std::vector<double>& numbers, Surcharges* surcharges,
+void close(const Problem& problem, const std::vector<double>& numbers, PairSurcharges* surcharges,
            std::vector<Edge>& tree) {
   const int special = problem.special();
   const std::size_t whole = static_cast<std::size_t>(problem.nodes());
@@ -160,8 +135,8 @@ void close(const Problem& problem, const std::vector<double>& numbers, Surcharge
 }  // namespace
 
 std::vector<Edge> exact_tree(const Problem& problem, const std::vector<double>& numbers,
-                             const std::vector<Edge>& some, Surcharges* surcharges) {
-  std::vector<Edge> tree = problem.matrix() != nullptr ? Prim(problem, numbers).find()
+                             const std::vector<Edge>& some, PairSurcharges* surcharges) {
+  std::vector<Edge> tree = problem.matrix() != nullptr ? tree_of_rows(problem, numbers)
                                                        : Boruvka(problem, numbers, some, surcharges).find();
   close(problem, numbers, surcharges, tree);
   return tree;
@@ -172,6 +147,16 @@ double bound_of(const Problem& problem, const std::vector<Edge>& one_tree,
   double sum = 0;
   for (const Edge& edge : one_tree) sum += problem.cost(edge.a, edge.b) + numbers[edge.a] + numbers[edge.b];
   for (const double number : numbers) sum -= 2 * number;
+  return sum;
+}
+
+certify::Value whole_sum(const Problem& problem, const std::vector<Edge>& edges,
+                         const std::vector<certify::Weight>& numbers, certify::Weight scale) {
+  certify::Value sum = 0;
+  for (const Edge& edge : edges) {
+    const certify::Value cost = std::llround(problem.cost(edge.a, edge.b));
+    sum += cost * scale + numbers[edge.a] + numbers[edge.b];
+  }
   return sum;
 }
 }  // namespace potentials

@@ -6,13 +6,19 @@
 #pragma once
 #include "points/problem.h"
 #include "spanning/surcharges.h"
+#include "spanning/value.h"
 
 namespace potentials {
+using PairSurcharges = Surcharges<double>;
+
 // `some` are edges that limit the searches: those of a good candidate graph, or none. The last two edges are
 // those at the special node.
 std::vector<Edge> exact_tree(const Problem& problem, const std::vector<double>& numbers,
-                             const std::vector<Edge>& some, Surcharges* surcharges = nullptr);
+                             const std::vector<Edge>& some, PairSurcharges* surcharges = nullptr);
 // The bound that a least 1-tree gives.
 double bound_of(const Problem& problem, const std::vector<Edge>& one_tree,
                 const std::vector<double>& numbers);
+// What edges weigh in all by whole costs and numbers: scale * cost(i, j) + p(i) + p(j).
+certify::Value whole_sum(const Problem& problem, const std::vector<Edge>& edges,
+                         const std::vector<certify::Weight>& numbers, certify::Weight scale);
 }  // namespace potentials

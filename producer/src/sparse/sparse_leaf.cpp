@@ -77,29 +77,20 @@ Numbers SparseLeaf::extract(const SparseProgram& program) const {
 }
 
 Value SparseLeaf::value(const Numbers& numbers, const std::vector<Pair>& likely) {
-  std::vector<Weight> own = numbers.potentials;
-  potentials::Surcharges surcharges(problem_.nodes());
-  Value sum = 0;
-  for (const Weight potential : own) sum -= 2 * static_cast<Value>(potential);
   const auto scale = static_cast<double>(scale_);
-  for (const auto& [cut, multiplier] : numbers.multipliers) {
-    sum += static_cast<Value>(multiplier) * pool_[cut].crossings;
-    for (const NodeSet& set : pool_[cut].sets) {
-      for (const int v : set) own[v] -= multiplier;
-      surcharges.add(set, 2 * static_cast<double>(multiplier) / scale);
-    }
-  }
+  potentials::PairSurcharges surcharges(problem_.nodes());
+  const certify::Weighed weighed = certify::weigh(numbers, pool_, [&](const NodeSet& set, Weight weight) {
+    surcharges.add(set, static_cast<double>(weight) / scale);
+  });
   std::vector<double> unscaled;
-  unscaled.reserve(own.size());
-  for (const Weight number : own) unscaled.push_back(static_cast<double>(number) / scale);
+  unscaled.reserve(weighed.own.size());
+  for (const Weight number : weighed.own) unscaled.push_back(static_cast<double>(number) / scale);
   std::vector<potentials::Edge> edges;
   edges.reserve(likely.size());
   for (const auto& [i, j] : likely) edges.push_back(problem_.edge(i, j));
   tree_ = potentials::exact_tree(problem_, unscaled, edges, &surcharges);
-  for (const potentials::Edge& edge : tree_) {
-    sum += static_cast<Value>(std::llround(problem_.cost(edge.a, edge.b))) * scale_ + own[edge.a] +
-           own[edge.b] + std::llround(surcharges.between(edge.a, edge.b) * scale);
-  }
+  Value sum = weighed.back + potentials::whole_sum(problem_, tree_, weighed.own, scale_);
+  for (const potentials::Edge& edge : tree_) sum += std::llround(surcharges.between(edge.a, edge.b) * scale);
   return sum;
 }
 

@@ -7,6 +7,7 @@
 
 #include "reading/tsp_program.h"
 #include "running/parameters.h"
+#include "tours/all_orders.h"
 #include "tours/arc_search.h"
 #include "tours/assignment.h"
 
@@ -52,16 +53,6 @@ Neighbours nearest_by_duals(const Matrix& costs, const Assignment& assignment) {
     }
   }
   return nearest(reduced, kArcTours.near);
-}
-
-Tour shortest_of_all(const Matrix& costs) {
-  Tour order(costs.nodes());
-  std::iota(order.begin(), order.end(), 0);
-  Tour best = order;
-  while (std::next_permutation(order.begin() + 1, order.end())) {
-    if (length_of(costs, order) < length_of(costs, best)) best = order;
-  }
-  return best;
 }
 
 std::vector<Tour> good_tours(const Matrix& costs, const Assignment& assignment, int runs, int patience,
@@ -140,9 +131,10 @@ ArcTours find_arc_tours(const Instance& instance, int runs, int patience, std::u
   const std::vector<std::vector<int>> paths = arc_paths_of(instance.fixed, instance.nodes());
   if (paths.size() == 1) return {paths[0], {}, {}};
   const Matrix costs = costs_between(instance.weights, paths);
+  const auto length = [&](const Tour& tour) { return length_of(costs, tour); };
   ArcTours found;
   if (costs.nodes() <= kTours.few_nodes) {
-    found.best = spelled_out(shortest_of_all(costs), paths);
+    found.best = spelled_out(shortest_by_orders(costs.nodes(), length), paths);
     return found;
   }
   const Assignment assignment = cheapest_assignment(costs);

@@ -1,10 +1,11 @@
 #include "tours/tours.h"
 
 #include <algorithm>
-#include <numeric>
+#include <limits>
 #include <utility>
 
 #include "running/clock.h"
+#include "tours/all_orders.h"
 #include "tours/chained_search.h"
 
 namespace potentials {
@@ -15,24 +16,17 @@ constexpr int kLightest = 5;         // of the search
 constexpr double kTimedPart = 0.05;  // of a kick for each node: those that are timed
 constexpr double kReserve = 0.97;    // of the time is meant to be used
 
-Tour shortest_by_orders(const Problem& problem) {
-  Tour order(problem.nodes());
-  std::iota(order.begin(), order.end(), 0);
-  Tour best;
-  do {
-    if (!problem.allows(order)) continue;
-    if (best.empty() || problem.length(order) < problem.length(best)) best = order;
-  } while (std::next_permutation(order.begin() + 1, order.end()));
-  return best;
-}
-
 Tour shorter_one(const Problem& problem, const Tour& one, const Tour& other) {
   return problem.length(other) < problem.length(one) ? other : one;
 }
 }  // namespace
 
 Tour first_tour(const Problem& problem) {
-  if (problem.nodes() <= kFewNodes) return shortest_by_orders(problem);
+  if (problem.nodes() <= kFewNodes) {
+    return certify::shortest_by_orders(problem.nodes(), [&](const Tour& tour) {
+      return problem.allows(tour) ? problem.length(tour) : std::numeric_limits<double>::infinity();
+    });
+  }
   const std::vector<double> none(problem.nodes());
   return greedy_tour(problem, none, neighbours_of(problem, none, kNearest, {}));
 }

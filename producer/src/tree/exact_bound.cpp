@@ -1,6 +1,8 @@
 #include "tree/exact_bound.h"
 
 #include <algorithm>
+#include <iterator>
+#include <utility>
 
 namespace certify {
 namespace {
@@ -9,44 +11,31 @@ constexpr Value kMostMultipliers = 900000000000000000;  // each as often as two 
 }  // namespace
 
 ExactBound::ExactBound(const Matrix& weights, const CutPool& pool, Weight scale)
-    : weights_(weights), pool_(pool), scale_(scale), sets_of_(weights.nodes()), extra_(weights.nodes(), 0) {}
+    : weights_(weights), pool_(pool), scale_(scale), surcharges_(weights.nodes()) {}
 
-Weight rounded_up(Value value, Weight scale) {
-  return static_cast<Weight>(value >= 0 ? (value + scale - 1) / scale : -(-value / scale));
-}
-
-Value ExactBound::prepare(const Numbers& numbers) {
-  own_ = numbers.potentials;
-  sets_.clear();
-  for (std::vector<int>& sets : sets_of_) sets.clear();
-  Value back = 0;
-  Value sum = 0;
-  for (const Weight potential : own_) {
-    if (potential > kMostPotential || potential < -kMostPotential) return nothing();
-    back -= 2 * potential;
+// Whether numbers keep the limits of a file.
+bool ExactBound::keep_limits(const Numbers& numbers) const {
+  for (const Weight potential : numbers.potentials) {
+    if (potential > kMostPotential || potential < -kMostPotential) return false;
   }
+  Value sum = 0;
   for (const auto& [cut, multiplier] : numbers.multipliers) {
-    if (multiplier < 0) return nothing();
+    if (multiplier < 0) return false;
     const Cut& own = pool_[cut];
     sum += static_cast<Value>(multiplier) *
            (own.kind == CutKind::kFamily ? static_cast<int>(own.sets.size()) : 3);
-    back += static_cast<Value>(multiplier) * own.crossings;
-    for (const NodeSet& set : own.sets) {
-      for (const int v : set) {
-        own_[v] -= multiplier;
-        sets_of_[v].push_back(static_cast<int>(sets_.size()));
-      }
-      sets_.push_back({&set, cut, 2 * multiplier});
-    }
   }
-  return sum > kMostMultipliers ? nothing() : back;
+  return sum <= kMostMultipliers;
 }
 
-void ExactBound::load_sets(int node, Weight times) {
-  for (const int set : sets_of_[node]) {
-    const Weight weight = times * sets_[set].weight;
-    for (const int v : *sets_[set].nodes) extra_[v] += weight;
-  }
+Value ExactBound::prepare(const Numbers& numbers) {
+  if (!keep_limits(numbers)) return nothing();
+  surcharges_.clear();
+  Weighed weighed =
+      weigh(numbers, pool_, [&](const NodeSet& set, Weight weight) { surcharges_.add(set, weight); });
+  own_ = std::move(weighed.own);
+  cuts_ = std::move(weighed.cuts);
+  return weighed.back;
 }
 
 bool ExactBound::reaches(const Numbers& numbers, const std::vector<Decision>& decisions, Value goal) {
@@ -55,13 +44,15 @@ bool ExactBound::reaches(const Numbers& numbers, const std::vector<Decision>& de
 
 std::map<int, int> ExactBound::crossings() const {
   std::map<int, int> crossings;
-  for (const WeightedSet& set : sets_) crossings.emplace(set.cut, 0);
+  for (const int cut : cuts_) crossings.emplace(cut, 0);
   std::vector<int> crossed;
   for (const auto& [i, j] : links_) {
+    const std::vector<int>& of_i = surcharges_.sets_of(i);
+    const std::vector<int>& of_j = surcharges_.sets_of(j);
     crossed.clear();
-    std::set_symmetric_difference(sets_of_[i].begin(), sets_of_[i].end(), sets_of_[j].begin(),
-                                  sets_of_[j].end(), std::back_inserter(crossed));
-    for (const int set : crossed) crossings[sets_[set].cut]++;
+    std::set_symmetric_difference(of_i.begin(), of_i.end(), of_j.begin(), of_j.end(),
+                                  std::back_inserter(crossed));
+    for (const int set : crossed) crossings[cuts_[set]]++;
   }
   return crossings;
 }

@@ -4,19 +4,39 @@
 #include <map>
 #include <optional>
 
+#include "spanning/surcharges.h"
+#include "spanning/value.h"
 #include "tree/relaxation.h"
 
 namespace certify {
-__extension__ typedef __int128 Value;  // a bound times the scale
-
-// The least bound that a value gives.
-Weight rounded_up(Value value, Weight scale);
-
 // The numbers of a leaf.
 struct Numbers {
   std::vector<Weight> potentials;
   std::map<int, Weight> multipliers;  // by the number of the cut
 };
+
+// Numbers as weights: of each node, of the pairs inside each set of their cuts, and what a relaxation's
+// weight is short of the bound by.
+struct Weighed {
+  std::vector<Weight> own;
+  std::vector<int> cuts;  // that of each set
+  Value back = 0;
+};
+// `add(set, weight)` takes each set with a multiplier, and the weight of each pair inside.
+template <class Add>
+Weighed weigh(const Numbers& numbers, const CutPool& pool, const Add& add) {
+  Weighed weighed{numbers.potentials, {}, 0};
+  for (const Weight potential : numbers.potentials) weighed.back -= 2 * static_cast<Value>(potential);
+  for (const auto& [cut, multiplier] : numbers.multipliers) {
+    weighed.back += static_cast<Value>(multiplier) * pool[cut].crossings;
+    for (const NodeSet& set : pool[cut].sets) {
+      for (const int v : set) weighed.own[v] -= multiplier;
+      weighed.cuts.push_back(cut);
+      add(set, 2 * multiplier);
+    }
+  }
+  return weighed;
+}
 
 class ExactBound {
  public:
@@ -41,19 +61,15 @@ class ExactBound {
   static Value nothing() { return -(static_cast<Value>(1) << 120); }
 
  protected:
-  struct WeightedSet {
-    const NodeSet* nodes;
-    int cut;
-    Weight weight;  // on each edge inside
-  };
   int nodes() const { return weights_.nodes(); }
+  bool keep_limits(const Numbers& numbers) const;
   // Takes numbers. Returns the sum that is added to the weight of the relaxation.
   Value prepare(const Numbers& numbers);
-  // Adds what sets put on the edges of a node, as often as this.
-  void load_sets(int node, Weight times);
-  // The weight of an edge at a node whose sets are loaded.
-  Weight weight_of(int node, int to) const {
-    return scale_ * weights_(node, to) + own_[node] + own_[to] + extra_[to];
+  // The weights of the edges at a node, by the other node, until the next call.
+  auto row_of(int node) {
+    return [this, node, &extra = surcharges_.of(node)](int to) {
+      return scale_ * weights_(node, to) + own_[node] + own_[to] + extra[to];
+    };
   }
 
   const Matrix& weights_;
@@ -62,8 +78,7 @@ class ExactBound {
   std::vector<Pair> links_;
   // of the numbers at hand
   std::vector<Weight> own_;
-  std::vector<WeightedSet> sets_;
-  std::vector<std::vector<int>> sets_of_;  // of each node, places in sets_
-  std::vector<Weight> extra_;              // on the edges of the row at hand
+  std::vector<int> cuts_;  // that of each set
+  potentials::Surcharges<Weight> surcharges_;
 };
 }  // namespace certify

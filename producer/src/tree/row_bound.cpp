@@ -30,14 +30,13 @@ bool RowBound::allowed(int from, int to) const {
 // The weight of the least allowed arc from a node, and where it leads to.
 std::optional<std::pair<Weight, int>> RowBound::least_arc(int from) {
   std::optional<std::pair<Weight, int>> least;
-  load_sets(from, 1);
+  const auto weight_of = row_of(from);
   for (int to = 0; to < nodes(); to++) {
     if (to == from) continue;
-    const Weight weight = weight_of(from, to);
+    const Weight weight = weight_of(to);
     if (least && weight >= least->first) continue;
     if (allowed(from, to)) least.emplace(weight, to);
   }
-  load_sets(from, -1);
   return least;
 }
 

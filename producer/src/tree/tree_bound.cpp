@@ -1,8 +1,10 @@
 #include "tree/tree_bound.h"
 
 #include <algorithm>
-#include <limits>
 #include <numeric>
+#include <utility>
+
+#include "spanning/least_tree.h"
 
 namespace certify {
 namespace {
@@ -12,67 +14,44 @@ constexpr Weight kMark = 4000000000000000000;  // on and off the weights of deci
 // Takes decisions. Returns the sum that is added to the weight of a tree.
 Value TreeBound::decide(const std::vector<Decision>& decisions) {
   Value back = 0;
-  for (auto& decided : decided_) decided.clear();
   for (const Decision& decision : decisions) {
     const auto [i, j] = decision.pair;
-    const Weight mark = decision.used ? -kMark : kMark;
-    decided_[i].emplace_back(j, mark);
-    decided_[j].emplace_back(i, mark);
+    surcharges_.add_pair(i, j, decision.used ? -kMark : kMark);
     if (decision.used) back += kMark;
   }
   return back;
 }
 
-// Adds what sets and decisions put on the edges of a node, as often as this.
-void TreeBound::load_row(int node, Weight times) {
-  load_sets(node, times);
-  for (const auto& [v, mark] : decided_[node]) extra_[v] += times * mark;
+// Links node 0 by its two least edges. Returns what they weigh.
+Value TreeBound::close() {
+  const auto weight_of = row_of(0);
+  std::vector<std::pair<Weight, int>> least;
+  for (int j = 1; j < nodes(); j++) {
+    const std::pair<Weight, int> edge(weight_of(j), j);
+    if (least.size() == 2 && edge >= least[1]) continue;
+    if (least.size() == 2) least.pop_back();
+    least.insert(std::upper_bound(least.begin(), least.end(), edge), edge);
+  }
+  Value sum = 0;
+  for (const auto& [weight, j] : least) {
+    sum += weight;
+    links_.emplace_back(0, j);
+  }
+  return sum;
 }
 
 // The weight of a least 1-tree: a tree over the nodes 1.. and two edges at node 0.
 Value TreeBound::grow_tree() {
-  const int nodes = this->nodes();
-  constexpr Weight most = std::numeric_limits<Weight>::max();
-  load_row(0, 1);
-  int a = -1, b = -1;
-  Weight least = most, second = most;
-  for (int j = 1; j < nodes; j++) {
-    const Weight weight = weight_of(0, j);
-    if (a < 0 || weight < least) {
-      b = a;
-      second = least;
-      a = j;
-      least = weight;
-    } else if (b < 0 || weight < second) {
-      b = j;
-      second = weight;
-    }
-  }
-  load_row(0, -1);
-  links_ = {Pair(0, a), Pair(0, b)};
-  Value sum = static_cast<Value>(least) + second;
-  std::vector<int> rest(nodes - 2), from(nodes, 1);
-  std::iota(rest.begin(), rest.end(), 2);
-  std::vector<Weight> key(nodes, most);
-  for (int v = 1; !rest.empty();) {
-    load_row(v, 1);
-    std::size_t best = 0;
-    for (std::size_t k = 0; k < rest.size(); k++) {
-      const int w = rest[k];
-      const Weight weight = weight_of(v, w);
-      if (weight < key[w]) {
-        key[w] = weight;
-        from[w] = v;
-      }
-      if (key[w] < key[rest[best]]) best = k;
-    }
-    load_row(v, -1);
-    v = rest[best];
-    rest[best] = rest.back();
-    rest.pop_back();
-    sum += key[v];
-    links_.emplace_back(from[v], v);
-  }
+  links_.clear();
+  Value sum = close();
+  std::vector<int> outside(nodes() - 2);
+  std::iota(outside.begin(), outside.end(), 2);
+  potentials::grow_least_tree<Weight>(
+      nodes(), 1, std::move(outside), [&](int node) { return row_of(node); },
+      [&](int from, int to, Weight weight) {
+        sum += weight;
+        links_.emplace_back(from, to);
+      });
   return sum;
 }
 
@@ -93,24 +72,7 @@ void TreeBound::add_likely(const std::vector<Pair>& edges) {
 
 Weight TreeBound::likely_weight(const Pair& edge) const {
   const auto [i, j] = edge;
-  Weight weight = scale_ * weights_(i, j) + own_[i] + own_[j];
-  auto a = sets_of_[i].begin(), b = sets_of_[j].begin();
-  while (a != sets_of_[i].end() && b != sets_of_[j].end()) {
-    if (*a == *b) {
-      weight += sets_[*a].weight;
-      ++a;
-      ++b;
-    } else {
-      ++(*a < *b ? a : b);
-    }
-  }
-  for (const auto& [v, mark] : decided_[i]) weight += v == j ? mark : 0;
-  return weight;
-}
-
-int TreeBound::root_of(int node) {
-  while (roots_[node] != node) node = roots_[node] = roots_[roots_[node]];
-  return node;
+  return scale_ * weights_(i, j) + own_[i] + own_[j] + surcharges_.between(i, j);
 }
 
 // The same over the likely edges. Very high where they have no such tree.
@@ -121,7 +83,7 @@ Value TreeBound::grow_likely_tree() {
     sorted_.emplace_back(likely_weight(likely_[k]), static_cast<int>(k));
   }
   std::sort(sorted_.begin(), sorted_.end());
-  std::iota(roots_.begin(), roots_.end(), 0);
+  components_.reset();
   links_.clear();
   Value sum = 0;
   int at_first = 0;
@@ -130,10 +92,8 @@ Value TreeBound::grow_likely_tree() {
     if (i == 0) {
       if (at_first == 2) continue;
       at_first++;
-    } else {
-      const int a = root_of(i), b = root_of(j);
-      if (a == b) continue;
-      roots_[a] = b;
+    } else if (!components_.join(i, j)) {
+      continue;
     }
     sum += weight;
     links_.emplace_back(i, j);

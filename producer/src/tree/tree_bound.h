@@ -3,30 +3,29 @@
 #pragma once
 #include <set>
 
+#include "spanning/components.h"
 #include "tree/exact_bound.h"
 
 namespace certify {
 class TreeBound : public ExactBound {
  public:
   TreeBound(const Matrix& weights, const CutPool& pool, Weight scale)
-      : ExactBound(weights, pool, scale), decided_(weights.nodes()), roots_(weights.nodes()) {}
+      : ExactBound(weights, pool, scale), components_(weights.nodes()) {}
   Value value(const Numbers& numbers, const std::vector<Decision>& decisions) override;
   Value likely_value(const Numbers& numbers, const std::vector<Decision>& decisions) override;
   void add_likely(const std::vector<Pair>& edges) override;
 
  private:
   Value decide(const std::vector<Decision>& decisions);
-  void load_row(int node, Weight times);
+  Value close();
   Value grow_tree();
   Value grow_likely_tree();
   Weight likely_weight(const Pair& edge) const;
-  int root_of(int node);
 
-  std::vector<std::vector<std::pair<int, Weight>>> decided_;
   // the likely edges
   std::vector<Pair> likely_;
   std::set<Pair> known_;
   std::vector<std::pair<Weight, int>> sorted_;
-  std::vector<int> roots_;
+  potentials::Components components_;
 };
 }  // namespace certify

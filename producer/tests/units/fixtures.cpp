@@ -53,7 +53,7 @@ Tour in_order(int nodes) {
 }
 
 double least_tree(const potentials::Problem& problem, const std::vector<double>& numbers,
-                  const potentials::Surcharges& surcharges) {
+                  const potentials::PairSurcharges& surcharges) {
   using Order = std::pair<int, double>;  // fixed edges first, then by weight
   const auto order_of = [&](int i, int j) {
     return Order(problem.is_fixed(i, j) ? 0 : 1,

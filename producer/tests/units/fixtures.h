@@ -8,7 +8,7 @@
 
 #include "points/problem.h"
 #include "running/random.h"
-#include "spanning/surcharges.h"
+#include "spanning/exact_tree.h"
 #include "tours/tour.h"
 
 // Symmetric weights from 0 to 999.
@@ -25,4 +25,4 @@ certify::Tour in_order(int nodes);
 // The least weight of a 1-tree under cost(i, j) + p(i) + p(j) + the surcharge, with all fixed edges in it, by
 // Prim's method.
 double least_tree(const potentials::Problem& problem, const std::vector<double>& numbers,
-                  const potentials::Surcharges& surcharges);
+                  const potentials::PairSurcharges& surcharges);

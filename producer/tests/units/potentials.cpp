@@ -32,7 +32,7 @@ std::vector<double> random_numbers(int count, Random& random) {
 }
 
 double bound_by_definition(const Problem& problem, const std::vector<double>& numbers) {
-  return least_tree(problem, numbers, Surcharges(problem.nodes())) -
+  return least_tree(problem, numbers, PairSurcharges(problem.nodes())) -
          2 * std::accumulate(numbers.begin(), numbers.end(), 0.0);
 }
 

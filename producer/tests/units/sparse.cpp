@@ -111,7 +111,7 @@ TEST_CASE("least 1-trees with surcharges are those of all pairs") {
     const Problem problem(points_in_plane(nodes, random), fixed);
     std::vector<double> numbers(nodes);
     for (double& number : numbers) number = random.below(400) - 300;
-    potentials::Surcharges surcharges(nodes);
+    potentials::PairSurcharges surcharges(nodes);
     std::vector<NodeSet> sets(8);
     for (NodeSet& set : sets) {
       const int first = random.below(nodes - 8);
@@ -352,5 +352,5 @@ TEST_CASE("the median of a leaf's potentials is 0, which changes no bound") {
   CHECK(sorted[nodes / 2] == 0);
   const double sum = 2 * std::accumulate(potentials.begin(), potentials.end(), 0.0);
   CHECK(static_cast<double>(leaf.value(numbers, {})) / static_cast<double>(leaf.scale()) ==
-        Approx(least_tree(problem, potentials, potentials::Surcharges(nodes)) - sum));
+        Approx(least_tree(problem, potentials, potentials::PairSurcharges(nodes)) - sum));
 }
