@@ -195,7 +195,12 @@ def named_tour():
     need("optimal" in report, f"not optimal: {report}")
     need(bad["bound"] == report["length"] and int(bad["gap"]) > 0, f"no bound of the bad tour: {bad}")
     said = certify("a.tsp", "bad.tour", "-o", "out.branches")
-    need("a shorter tour" in said, f"nothing is said of the shorter tour: {said}")
+    need("found: out.branches.tour" in said, f"nothing is said of the shorter tour: {said}")
+    need("optimal" in judged("a.tsp", "out.branches.tour"), "the tour beside the certificate isn't the shorter one")
+    Path("out.branches.tour").write_text("kept")
+    said = certify("a.tsp", "bad.tour", "-o", "out.branches")
+    need("--tour-out says" in said, f"nothing is said of the shorter tour that isn't written: {said}")
+    need(Path("out.branches.tour").read_text() == "kept", "a file that no word names is overwritten")
     certify("a.tsp", "out.tour", "-o", "again.branches")
     need("optimal" in judged("a.tsp", "out.tour", "again.branches"), "the optimal tour isn't kept")
 
@@ -258,7 +263,8 @@ def split():
     """Leaves of a tree are gone on with alone, and parts are joined. A part that is missing leaves a gap."""
     leaves = split_tree()
     for leaf in leaves:
-        certify("a.tsp", "out.tour", "--tree", "tree", "--leaf", leaf, "-o", f"part-{leaf}", "--threads", "1")
+        said = certify("a.tsp", "out.tour", "--tree", "tree", "--leaf", leaf, "-o", f"part-{leaf}", "--threads", "1")
+        need("kept by --tour-out alone" in said, f"a shorter tour of a part would be lost: {said}")
     parts = [f"part-{leaf}" for leaf in leaves]
     for given, whole in ((parts, True), (parts[1:], False), (parts[::-1], True)):
         certify("a.tsp", "--tree", "tree", "-o", "out.branches", "--join", *given)
@@ -477,17 +483,18 @@ def overwriting():
     os.symlink("a.tsp", "soft")
     os.link("a.tsp", "hard")
     os.mkdir("here")
-    for words in (
-        ["a.tsp", "-o", "a.tsp", "--tour-out", "b.tour"],
-        ["a.tsp", "-o", "./here/../a.tsp", "--tour-out", "b.tour"],
-        ["a.tsp", "-o", "soft", "--tour-out", "b.tour"],
-        ["soft", "-o", "hard", "--tour-out", "b.tour"],
-        ["a.tsp", "-o", "b.branches", "--tour-out", "hard"],
-        ["a.tsp", "out.tour", "-o", "out.tour"],
-        ["a.tsp", "-o", "same", "--tour-out", "./same"],
-        ["a.tsp", "-o", "b.branches", "--tour-out", "b.tour", "--log", "soft"],
+    read, twice = "this file is read, and would be overwritten", "this file is written already, and would be overwritten"
+    for words, said in (
+        (["a.tsp", "-o", "a.tsp", "--tour-out", "b.tour"], f"a.tsp: {read}: choose another name"),
+        (["a.tsp", "-o", "./here/../a.tsp", "--tour-out", "b.tour"], f"{read} (it is a.tsp): choose another name"),
+        (["a.tsp", "-o", "soft", "--tour-out", "b.tour"], read),
+        (["soft", "-o", "hard", "--tour-out", "b.tour"], read),
+        (["a.tsp", "-o", "b.branches", "--tour-out", "hard"], read),
+        (["a.tsp", "out.tour", "-o", "out.tour"], read),
+        (["a.tsp", "-o", "same", "--tour-out", "./same"], twice),
+        (["a.tsp", "-o", "b.branches", "--tour-out", "b.tour", "--log", "soft"], read),
     ):
-        need("overwritten" in certify(*words, status=2), f"{words}: a file would be overwritten")
+        need(said in certify(*words, status=2), f"{words}: a file would be overwritten")
         need(kept == (Path("a.tsp").read_bytes(), Path("out.tour").read_bytes()), f"{words}: a file is changed")
     certify("a.tsp", "out.tour", "-o", "again.branches", "--tour-out", "again.tour")
     certify("a.tsp", "out.tour", "-o", "again.branches", "--tour-out", "again.tour")  # these may be written anew
@@ -632,6 +639,7 @@ def bad_input():
     Path("ring.tsp").write_text(text.replace("EOF", "FIXED_EDGES_SECTION\n1 2\n2 3\n3 1\n-1\nEOF"))
     Path("two.tsp").write_text("TYPE:TSP\nDIMENSION:2\nEDGE_WEIGHT_TYPE:EUC_2D\nNODE_COORD_SECTION\n1 0 0\n2 1 1\nEOF\n")
     Path("short.tour").write_text("TYPE : TOUR\nTOUR_SECTION\n1 2 3 -1\nEOF\n")
+    Path("long.tour").write_text("TYPE : TOUR\nTOUR_SECTION\n1 2 3 4 5 6 7 8 9 10 11 12 13 -1\nEOF\n")
     Path("geo.tsp").write_text(text.replace("EUC_2D", "GEO"))
     out = ["-o", "out.branches"]
     both = [*out, "--tour-out", "out.tour"]
@@ -642,11 +650,13 @@ def bad_input():
         (["one.atsp", *both], "three nodes"),
         (["odd.tsp", *both], "symmetric"),
         (["cut.tsp", *both], "convert"),
-        (["none.tsp", *both], "convert"),
+        (["none.tsp", *both], "none.tsp: No such file or directory"),
+        (["a.tsp", "none.tour", *out], "none.tour: No such file or directory"),
         (["star.tsp", *both], "no tour uses all fixed edges"),
         (["ring.tsp", *both], "no tour uses all fixed edges"),
         (["two.tsp", *both], "three nodes"),
-        (["a.tsp", "short.tour", *out], "no tour of the instance"),
+        (["a.tsp", "short.tour", *out], "no tour of the instance, since node 4 isn't in it"),
+        (["a.tsp", "long.tour", *out], "no tour of the instance, since the instance has no node 13"),
         (["a.tsp", "a.tsp", *out], "TYPE TOUR"),
         (["a.tsp", *out], "--tour-out"),
         (["a.tsp"], "-o"),

@@ -10,53 +10,18 @@
 #include <memory>
 #include <utility>
 
+#include "certify/first_tours.h"
 #include "certify/large.h"
 #include "certify/options.h"
 #include "certify/report.h"
+#include "reading/reading.h"
 #include "reading/tsp_program.h"
 #include "routes/certify_routes.h"
-#include "running/parameters.h"
 #include "running/writing.h"
-#include "tours/all_orders.h"
-#include "tours/arc_tours.h"
-#include "tours/eax.h"
 #include "tree/search.h"
 
 namespace certify {
 namespace {
-Start find_arcs(const Instance& instance, const Options& options, const Clock& clock, Start start) {
-  const auto late = [&] { return clock.over(kTours.part_of_time); };
-  ArcTours found = find_arc_tours(instance, kArcTours.runs, kArcTours.patience, options.seed, late);
-  start.tour = std::move(found.best);
-  start.further = std::move(found.further);
-  start.edges = std::move(found.arcs);
-  return start;
-}
-
-Start find_tours(const Instance& instance, const Options& options, const Clock& clock, Progress& progress) {
-  Start start;
-  start.seed = options.seed;
-  start.upper = options.upper;
-  start.named = options.tour.has_value();
-  start.families = options.families && !instance.directed;  // of an ATSP their gain was never measured
-  if (instance.directed) return find_arcs(instance, options, clock, std::move(start));
-  const Matrix costs = with_fixed_lowered(instance.weights, instance.fixed);
-  paths_of(instance.fixed, instance.nodes());
-  if (instance.nodes() <= kTours.few_nodes) {
-    start.tour = shortest_by_orders(costs.nodes(), [&](const Tour& tour) { return length_of(costs, tour); });
-    return start;
-  }
-  Eax eax(costs, instance, options.tour ? kTours.small_population : kTours.population, options.seed);
-  start.tour = eax.run([&] { return clock.over(kTours.part_of_time); },
-                       [&](Weight) {
-                         std::string line = "seconds " + std::to_string(static_cast<int>(Clock::now()));
-                         progress.show(line.append(" looking for a tour"));
-                       });
-  start.further = eax.snapshots();
-  start.edges = eax.edges();
-  return start;
-}
-
 Certificate read_tree(const std::string& tsp, const std::string& path, const Instance& instance) {
   Certificate tree = read_certificate(tsp, path);
   if (tree.nodes != instance.nodes() || has_family_branches(tree)) {
@@ -72,12 +37,15 @@ int certify_instance(const Options& options) {
   refuse_other_kinds(*file, options.instance);
   if (is_large(options, *file)) return certify_large(options, tsp, std::move(file));
   const Instance instance = read_instance(tsp, options.instance, *file);
-  file.reset();  // the text of a matrix is large
   const Tour given = options.tour ? read_tour(tsp, *options.tour, instance) : Tour{};
+  warn_of_lost_tour(options);
   Progress progress(options.log);
   Clock::catch_signals();
   const Clock clock(options.seconds);
-  Start start = find_tours(instance, options, clock, progress);
+  FirstTours first(options, instance, clock, progress);
+  if (first.are_hurried()) first.kick(*potentials::read_problem(tsp, options.instance, *file));
+  file.reset();  // the text of a matrix is large
+  Start start = first.find();
   if (!instance.allows(start.tour)) throw Refusal("no tour uses all fixed edges");
   if (!given.empty() && length_of(instance.weights, given) <= length_of(instance.weights, start.tour)) {
     start.tour = given;
@@ -97,6 +65,7 @@ int certify_instance(const Options& options) {
   ending.rounded_away = instance.rounded &&
                         is_rounded_away(search.tour(), [&](int i, int j) { return instance.weights(i, j); });
   ending.limited = search.is_limited();
+  keep_shorter(options, search.tour(), ending);
   report(options, ending);
   return Clock::signal() ? 128 + *Clock::signal() : 0;
 }

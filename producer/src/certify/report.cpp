@@ -1,10 +1,12 @@
 #include "certify/report.h"
 
 #include <algorithm>
+#include <filesystem>
 #include <iomanip>
 #include <iostream>
 
 #include "running/clock.h"
+#include "running/writing.h"
 
 namespace certify {
 namespace {
@@ -23,6 +25,21 @@ void report_left_out(const Options& options, const std::vector<std::size_t>& par
             << options.instance << " TOUR --tree " << options.certificate << " -o CERTIFICATE\n";
 }
 
+void keep_shorter(const Options& options, const Tour& tour, Ending& ending) {
+  if (!ending.given || ending.length >= *ending.given || options.tour_out || options.leaf) return;
+  const std::string path = options.certificate + ".tour";
+  std::error_code error;
+  if (!std::filesystem::is_regular_file(options.certificate, error)) return;
+  if (std::filesystem::exists(std::filesystem::symlink_status(path, error))) return;
+  write_tour(path, tour);
+  ending.kept = path;
+}
+
+void warn_of_lost_tour(const Options& options) {
+  if (!options.leaf || !options.tour || options.tour_out) return;
+  std::cerr << "tsp-certify: a shorter tour that a part finds is kept by --tour-out alone\n";
+}
+
 void report(const Options& options, const Ending& ending) {
   const Weight bound = std::min(ending.bound, ending.length);
   std::cerr << "tsp-certify: length " << ending.length << ", bound " << bound << " as reckoned here, leaves "
@@ -35,7 +52,10 @@ void report(const Options& options, const Ending& ending) {
   }
   if (ending.given && ending.length < *ending.given) {
     std::cerr << "tsp-certify: a shorter tour than the named one was found"
-              << (options.tour_out ? "" : "; --tour-out says where it goes") << "\n";
+              << (ending.kept        ? ": " + *ending.kept
+                  : options.tour_out ? ""
+                                     : "; --tour-out says where it goes")
+              << "\n";
   }
   if (ending.rounded_away) {
     std::cerr
@@ -47,7 +67,8 @@ void report(const Options& options, const Ending& ending) {
               << *options.tree << " --join PART.. -o CERTIFICATE puts parts together\n";
     return;
   }
-  const std::string tour = options.tour_out.value_or(options.tour.value_or("TOUR"));
+  const std::string tour =
+      ending.kept ? *ending.kept : options.tour_out.value_or(options.tour.value_or("TOUR"));
   std::cerr << "tsp-certify: this decides: tsp check " << options.instance << " " << tour << " --branches "
             << options.certificate << "\n";
 }

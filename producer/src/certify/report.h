@@ -9,9 +9,10 @@ namespace certify {
 struct Ending {
   Weight length, bound;
   int leaves = 1;
-  std::optional<Weight> given{};  // the length of the named tour
-  bool limited = false;           // leaves are open because of the limits of a file
-  bool rounded_away = false;      // distances are rounded, and each of the tour is 0 or 1: they say little
+  std::optional<Weight> given{};      // the length of the named tour
+  std::optional<std::string> kept{};  // where a shorter tour is, which no word says
+  bool limited = false;               // leaves are open because of the limits of a file
+  bool rounded_away = false;  // distances are rounded, and each of the tour is 0 or 1: they say little
 };
 
 // A length that says little: where distances of points are rounded away.
@@ -24,6 +25,11 @@ bool is_rounded_away(const Tour& tour, const CostOf& cost_of) {
   });
 }
 
+// Writes a tour where it is shorter than the named one and --tour-out is missing: beside the certificate, as
+// CERTIFICATE.tour, unless there is such a file. That of a part isn't: names of parts are often a pattern.
+void keep_shorter(const Options& options, const Tour& tour, Ending& ending);
+// Says so at the start, where a shorter tour would be lost.
+void warn_of_lost_tour(const Options& options);
 void report(const Options& options, const Ending& ending);
 // Of the parts that aren't joined, by their places on the command line.
 void report_left_out(const Options& options, const std::vector<std::size_t>& parts);

@@ -27,11 +27,17 @@ std::vector<Pair> fixed_links(const Canonical& file, const Instance& instance) {
 }
 
 void refuse_other_tours(const Tour& tour, int nodes, const std::string& path) {
-  Tour sorted = tour;
-  std::sort(sorted.begin(), sorted.end());
-  bool all = static_cast<int>(sorted.size()) == nodes;
-  for (int k = 0; k < nodes && all; k++) all = sorted[k] == k;
-  if (!all) throw Refusal(path + ": this is no tour of the instance");
+  const auto refuse = [&](const std::string& why) {
+    throw Refusal(path + ": this is no tour of the instance, since " + why);
+  };
+  std::vector<char> seen(nodes, 0);
+  for (const int v : tour) {
+    if (v < 0 || v >= nodes) refuse("the instance has no node " + std::to_string(v + 1));
+    if (seen[v] != 0) refuse("node " + std::to_string(v + 1) + " is in it twice");
+    seen[v] = 1;
+  }
+  const auto missing = std::find(seen.begin(), seen.end(), 0) - seen.begin();
+  if (missing < nodes) refuse("node " + std::to_string(missing + 1) + " isn't in it");
 }
 
 }  // namespace

@@ -1,11 +1,13 @@
 #include "reading/tsp_program.h"
 
+#include <fcntl.h>
 #include <sys/wait.h>
 #include <unistd.h>
 
 #include <cctype>
 #include <cerrno>
 #include <cstdlib>
+#include <cstring>
 #include <filesystem>
 #include <fstream>
 #include <sstream>
@@ -93,6 +95,14 @@ bool is_geographic(const std::string& path) {
   }
   return false;
 }
+// Throws Refusal where a file can't be opened, with the system's reason. A pipe isn't opened twice.
+void refuse_unreadable(const std::string& path) {
+  std::error_code error;
+  if (path == "-" || (fs::exists(path, error) && !fs::is_regular_file(path, error))) return;
+  const int file = open(path.c_str(), O_RDONLY | O_CLOEXEC);
+  if (file < 0) throw Refusal(path + ": " + std::strerror(errno));
+  close(file);
+}
 }  // namespace
 
 // Debian's task-spooler is called tsp too.
@@ -109,6 +119,7 @@ std::string find_tsp(const std::optional<std::string>& named) {
 
 std::string canonical_text(const std::string& tsp, const std::string& path,
                            const std::vector<std::string>& words) {
+  refuse_unreadable(path);
   std::vector<std::string> all{tsp, "convert"};
   all.insert(all.end(), words.begin(), words.end());
   all.insert(all.end(), {"--", path});

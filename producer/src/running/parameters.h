@@ -22,6 +22,9 @@ struct TourParameters {
   double part_of_time = 0.4;    // that the first search may take
   double part_of_later_time = 0.5;  // by which a later one has to end
   int few_nodes = 8;                // of which all orders are tried
+  double seconds_of_member = 4e-5;  // for each of its nodes, until a population is alike
+  int steps_before_kicks = 400;     // of potentials, where the time is too short for a population
+  long kicks_of_node = 5;           // then
 };
 inline constexpr TourParameters kTours{};
 

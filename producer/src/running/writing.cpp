@@ -11,9 +11,7 @@
 
 namespace certify {
 namespace fs = std::filesystem;
-namespace {
-// Whether two paths lead to one file. Of files that aren't there yet the paths decide. Devices may be named
-// twice.
+// Of files that aren't there yet the paths decide.
 bool same_file(const std::string& one, const std::string& other) {
   std::error_code error;
   if (fs::exists(one, error) && !fs::is_regular_file(one, error)) return false;
@@ -23,7 +21,6 @@ bool same_file(const std::string& one, const std::string& other) {
   };
   return whole(one) == whole(other);
 }
-}  // namespace
 
 void write_text(const std::string& path, const std::string& text) {
   std::ofstream file(path, std::ios::binary);
@@ -44,11 +41,14 @@ void write_tour(const std::string& path, const Tour& tour) {
 
 void refuse_overwriting(std::vector<std::string> read,
                         const std::vector<std::optional<std::string>>& written) {
+  const std::size_t first = read.size();
   for (const std::optional<std::string>& path : written) {
     if (!path) continue;
-    for (const std::string& taken : read) {
-      if (same_file(taken, *path))
-        throw Refusal(*path + ": this is " + taken + ", which would be overwritten");
+    for (std::size_t k = 0; k < read.size(); k++) {
+      if (!same_file(read[k], *path)) continue;
+      const std::string what = read[k] == *path ? "" : " (it is " + read[k] + ")";
+      throw Refusal(*path + ": this file " + (k < first ? "is read" : "is written already") +
+                    ", and would be overwritten" + what + ": choose another name");
     }
     read.push_back(*path);
   }

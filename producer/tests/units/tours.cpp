@@ -1,6 +1,8 @@
 #include <algorithm>
+#include <cmath>
 #include <numeric>
 
+#include "certify/first_tours.h"
 #include "fixtures.h"
 #include "reading/tsp_program.h"
 #include "tours/eax.h"
@@ -77,4 +79,40 @@ TEST_CASE("neighbours of each quadrant lead to other clusters") {
   std::sort(lists[4].begin(), lists[4].end());
   CHECK(lists[4] == std::vector<int>{0, 1, 2, 3, 5, 7});  // the left corners of the other cluster join
   CHECK(std::count_if(lists[5].begin(), lists[5].end(), [](int v) { return v < 5; }) >= 2);
+}
+
+// The clock has no limit here, so that the tours are the same on each machine.
+TEST_CASE("in a short time kicks give the tour to begin with") {
+  Random random(21);
+  const int nodes = 60;
+  const potentials::Problem problem(random_points(nodes, 2, potentials::Metric::kEuclid, random),
+                                    {{0, 1}, {1, 5}});
+  Instance instance{Matrix(nodes), {{0, 1}, {1, 5}}};
+  const std::vector<int>& original = problem.original();
+  for (int i = 0; i < nodes; i++) {
+    for (int j = 0; j < i; j++)
+      instance.weights.set(original[i], original[j], std::llround(problem.cost(i, j)));
+  }
+  Options options;
+  const Clock clock(0);
+  Progress progress(std::nullopt);
+  FirstTours first(options, instance, clock, progress);
+  for (const double seconds : {0.0, 300.0}) {
+    options.seconds = seconds;
+    CHECK(!first.are_hurried());  // without a limit, and with a long one
+  }
+  options.seconds = 0.01;
+  CHECK(first.are_hurried());
+  options.tour = "named";
+  CHECK(!first.are_hurried());  // a tour is there
+  options.tour.reset();
+  first.kick(problem);
+  const Start start = first.find();
+  CHECK(instance.allows(start.tour));
+  for (const Tour& tour : start.further) {
+    CHECK(length_of(instance.weights, start.tour) <=
+          length_of(instance.weights, tour));  // it is the shortest of all
+  }
+  CHECK(start.further.size() >= 2);  // that of the population, and that of kicks
+  CHECK(!start.named);               // so that further tours are looked for
 }

@@ -1,0 +1,32 @@
+// The tours that a search begins with.
+#pragma once
+#include "certify/options.h"
+#include "points/problem.h"
+#include "running/clock.h"
+#include "running/progress.h"
+#include "tree/case_solver.h"
+
+namespace certify {
+// Tours by edge assembly, and of an ATSP by exchanges of arcs. Where the time is too short for a population,
+// it is a small one, and the tour is the one that tsp-potentials finds, where that is shorter.
+class FirstTours {
+ public:
+  FirstTours(const Options& options, const Instance& instance, const Clock& clock, Progress& progress)
+      : options_(options), instance_(instance), clock_(clock), progress_(progress) {}
+  // Whether kicks are needed, which begin with points where there are some.
+  bool are_hurried() const;
+  // The tour by kicks, of a problem of this instance.
+  void kick(const potentials::Problem& problem);
+  Start find();
+
+ private:
+  void find_arcs(Start& start) const;
+  void cross(Start& start, int population) const;
+
+  const Options& options_;
+  const Instance& instance_;
+  const Clock& clock_;
+  Progress& progress_;
+  Tour kicked_;
+};
+}  // namespace certify
