@@ -30,7 +30,7 @@ use tsp_tree::Grown;
 /// # Errors
 ///
 /// Out of memory.
-pub(crate) fn grow<W: BoxedWeights>(alloc: Global, w: &W, row: &mut [i64]) -> Result<Grown, Refused>
+pub fn grow<W: BoxedWeights>(alloc: Global, w: &W, row: &mut [i64]) -> Result<Grown, Refused>
     requires some { 3 ≤ W.nodes w.now }
     requires room { length row.old ≡ W.nodes w.now + 1 }
     requires even { (i j : ℕ) → W.at w.now i j ≡ W.at w.now j i }

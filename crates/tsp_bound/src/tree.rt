@@ -16,11 +16,10 @@ use crate::multipliers::Multipliers;
 use crate::numbers::{least_bound, total, total_of};
 use crate::part::grow;
 use crate::potentials::Potentials;
-use crate::unplaced::Unplaced;
 use crate::weights::Weights;
 use std::alloc::{AllocError, Global};
 use tsp_memory::{Refused, filled, push, with_capacity};
-use tsp_theory::{Costs, Grouped, Symmetric, adjusted_bounds_bound_cycles};
+use tsp_theory::{Costs, Symmetric, adjusted_bounds_bound_cycles};
 use tsp_tree::two_spokes;
 
 /// A least 1-tree, its weight, and the bound on the length of every cycle.
@@ -43,7 +42,8 @@ pub struct OneTree {
 /// ones is returned, and the order of its edges, is free. With no multipliers the bound is that of
 /// the potentials alone, and no cycle is shorter. Source: M. Held and R. M. Karp, The
 /// traveling-salesman problem and minimum spanning trees, 1970; the tree is joined in rounds as
-/// O. Boruvka's, 1926, or grown as R. C. Prim's, 1957.
+/// O. Boruvka's, 1926, or grown as R. C. Prim's, 1957. Where nodes have places in space, regions of
+/// them take the place of most pairs, so that it asks for far fewer costs.
 ///
 /// # Requires
 ///
@@ -75,16 +75,15 @@ pub fn one_tree<C: Symmetric>(
     ensures cycles { IfOk result (λ found. (nodes : List ℕ) → IsCycle (C.nodes c.now) nodes
         → UsesEach (triples_of m.now) nodes → found.bound ≤ℤ length_of (C.at c.now) nodes) }
 {
-    Ok(one_tree_in_space(alloc, &Unplaced { costs: c }, p, m)?)
+    Ok(least_one_tree(alloc, c, p, m)?)
 }
 
-/// What [`one_tree`] returns, over costs whose nodes may have places in space: regions of them then
-/// take the place of most pairs, so that it asks for far fewer costs.
+/// What [`one_tree`] returns, with the token of a refused request as its error.
 ///
 /// # Errors
 ///
 /// Out of memory, of which it takes some for each node and for each multiplier.
-pub fn one_tree_in_space<C: Grouped>(
+pub fn least_one_tree<C: Symmetric>(
     alloc: Global,
     c: &C,
     p: &Potentials,
@@ -128,7 +127,7 @@ struct Weighed {
 }
 
 /// The edges of a least 1-tree, in a vector with capacity for all of them, and their weight.
-fn least_edges<'a, C: Grouped>(
+fn least_edges<'a, C: Symmetric>(
     alloc: Global,
     c: &'a C,
     p: &'a Potentials<'a>,

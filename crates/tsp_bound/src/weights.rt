@@ -19,7 +19,7 @@ use crate::scaled::scaled;
 use crate::spot::Spot;
 use std::alloc::Global;
 use tsp_memory::Refused;
-use tsp_theory::{Costs, Grouped, Region, Site};
+use tsp_theory::{Costs, Region, Site};
 use tsp_tree::add_at;
 
 /// Costs of three or more nodes, and the potentials and the multipliers of these.
@@ -107,7 +107,7 @@ fn lower(row: &mut [i64], lowerings: &[(u32, i64)])
     }
 }
 
-impl<C: Grouped> BoxedWeights for Weights<'_, C> {
+impl<C: Costs> BoxedWeights for Weights<'_, C> {
     ghost use Rattle.std.specs.Prelude.{map};
     ghost use Rattle.tsp_theory.specs.CertificateNumbers.{entry};
     ghost use Rattle.tsp_bound.specs.states.ByNode.{all_said_of};

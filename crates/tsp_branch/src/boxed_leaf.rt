@@ -17,15 +17,14 @@ ghost use Rattle.tsp_branch.specs.states.Shared.{AreExact};
 use crate::both_sets::shared_by;
 use crate::case_leaf::CaseLeaf;
 use crate::decided::change_between;
-use crate::leaf::{leaf_bound, leaf_bound_in_space};
+use crate::leaf::leaf_bound;
 use crate::leaf_sum::LeafSum;
-use crate::placed_costs::PlacedCosts;
 use std::alloc::Global;
-use tsp_bound::{BoxedWeights, Spot};
+use tsp_bound::{BoxedWeights, Spot, grow};
 use tsp_cases::{Multipliers, sum_left};
 use tsp_memory::Refused;
-use tsp_theory::{Region, Site};
-use tsp_tree::{Weights, weight_in};
+use tsp_theory::{Costs, Region, Site};
+use tsp_tree::{Growing, Grown, Weights, weight_in};
 
 /// The weights of a leaf, of which each node's potential less the multipliers of its sets isn't too
 /// large.
@@ -33,7 +32,7 @@ use tsp_tree::{Weights, weight_in};
 /// What the sets of both nodes add is never negative, and avoided pairs only add: so each weight is
 /// at least the cost at the scale and the numbers of both nodes, but for those of taken pairs.
 #[derive(Drop)]
-pub(crate) struct BoxedLeaf<'a, C: PlacedCosts> {
+pub(crate) struct BoxedLeaf<'a, C: Costs> {
     pub(crate) leaf: &'a CaseLeaf<'a, C>,
     ghost undirected: { leaf.now.setting.now.cases.now.directed ≡ false },
     ghost once: { AreFewChanges (decisions_in leaf.now.case.now) },
@@ -41,7 +40,7 @@ pub(crate) struct BoxedLeaf<'a, C: PlacedCosts> {
         leaf.now.multipliers.now (lent_in leaf.now.setting.now.families.now) leaf.now.moved.now },
 }
 
-impl<C: PlacedCosts> BoxedLeaf<'_, C> {
+impl<C: Costs> BoxedLeaf<'_, C> {
     /// The cost at the scale and the numbers of both nodes, where the caller passes the cost.
     #[inline]
     fn base(&self, cost: i64, from: u32, to: u32) -> i64
@@ -115,7 +114,7 @@ impl<C: PlacedCosts> BoxedLeaf<'_, C> {
     }
 }
 
-impl<C: PlacedCosts> Weights for BoxedLeaf<'_, C> {
+impl<C: Costs> Weights for BoxedLeaf<'_, C> {
     ghost nodes = { λ w. C.nodes w.leaf.now.setting.now.costs.now };
 
     ghost at = { λ w. decided (decisions_in w.leaf.now.case.now) (set_weight w.leaf.now.setting.now.cases.now.scale
@@ -137,7 +136,13 @@ impl<C: PlacedCosts> Weights for BoxedLeaf<'_, C> {
     }
 }
 
-impl<C: PlacedCosts> BoxedWeights for BoxedLeaf<'_, C> {
+impl<C: Costs> Growing for BoxedLeaf<'_, C> {
+    fn grow(&self, alloc: Global, row: &mut [i64]) -> Result<Grown, Refused> {
+        grow(alloc, self, row)
+    }
+}
+
+impl<C: Costs> BoxedWeights for BoxedLeaf<'_, C> {
     ghost use Rattle.tsp_branch.specs.states.Shared.{raised, others_of};
 
     ghost place_of = { λ w. C.place w.leaf.now.setting.now.costs.now };
@@ -214,7 +219,7 @@ impl<C: PlacedCosts> BoxedWeights for BoxedLeaf<'_, C> {
 /// # Errors
 ///
 /// Out of memory.
-pub(crate) fn bound_of_trees<C: PlacedCosts>(
+pub(crate) fn bound_of_trees<C: Costs>(
     alloc: Global,
     leaf: &CaseLeaf<C>,
     row: &mut [i64],
@@ -230,7 +235,7 @@ pub(crate) fn bound_of_trees<C: PlacedCosts>(
 {
     if leaf.kept.is_empty() && leaf.suit_boxes() && leaf.are_exact() {
         let boxed = BoxedLeaf { leaf: &*leaf };
-        return leaf_bound_in_space(alloc, &boxed, row, sum.scale, sum.given_back);
+        return leaf_bound(alloc, &boxed, row, sum.scale, sum.given_back);
     }
     leaf_bound(alloc, leaf, row, sum.scale, sum.given_back)
 }

@@ -10,7 +10,6 @@ ghost use Rattle.tsp_cases.specs.states.Lent.{good_in};
 ghost use Rattle.tsp_branch.specs.JudgedLeaves.{AreJudgedLeaves, BoundsCycles};
 
 use crate::cycle_judge::CycleJudge;
-use crate::placed_costs::PlacedCosts;
 use crate::steps::keeps_rows;
 use std::alloc::Global;
 use tsp_cases::{
@@ -18,6 +17,7 @@ use tsp_cases::{
     sets_by_node,
 };
 use tsp_memory::Refused;
+use tsp_theory::Costs;
 
 /// The bound of cases: the least of the bounds of the leaves, which is at most the length of every
 /// cycle that keeps the given decisions, or none where no leaf has one. Or the first leaf that is
@@ -38,7 +38,7 @@ use tsp_memory::Refused;
 /// Out of memory, of which it takes some for each node, each comb, each node of a set, and
 /// each decision of a case. For trees of several leaves it also takes some for each pair of up to
 /// 2,000 nodes, where there is any.
-pub fn branch_bound<C: PlacedCosts>(
+pub fn branch_bound<C: Costs>(
     alloc: Global,
     costs: &C,
     families: &Families,
@@ -71,10 +71,7 @@ pub fn branch_bound<C: PlacedCosts>(
 /// # Errors
 ///
 /// Out of memory.
-fn judge_setting<C: PlacedCosts>(
-    alloc: Global,
-    setting: &Setting<C>,
-) -> Result<JudgedLeaves, Refused>
+fn judge_setting<C: Costs>(alloc: Global, setting: &Setting<C>) -> Result<JudgedLeaves, Refused>
     ensures judged { IfOk result (λ judged. All (IsFamily (C.nodes setting.now.costs.now)) (good_in setting.now.families.now)
         → AreJudgedLeaves setting.now.cases.now.directed (C.nodes setting.now.costs.now) (C.at setting.now.costs.now)
         setting.now.cases.now.scale (good_in setting.now.families.now) setting.now.families.now.crossed.items

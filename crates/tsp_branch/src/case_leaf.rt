@@ -12,7 +12,6 @@ ghost use Rattle.tsp_cases.specs.states.Kept.{AreMoved, AreRowsIfAny, kept_weigh
 use crate::boxed_leaf::bound_of_trees;
 use crate::given_back::{given_back, taken_back};
 use crate::leaf_sum::LeafSum;
-use crate::placed_costs::PlacedCosts;
 use crate::rows::AllowedRows;
 use std::alloc::Global;
 use tsp_cases::{OpenCase, Setting};
@@ -45,7 +44,7 @@ pub(crate) struct CaseLeaf<'a, C: Costs> {
         (marks_in setting.now.cases.now.directed (decisions_in case.now)) multipliers.now) kept.now },
 }
 
-impl<C: PlacedCosts> CaseLeaf<'_, C> {
+impl<C: Costs> CaseLeaf<'_, C> {
     ghost use Rattle.std.specs.Prelude.{◌≡◌, ◌+◌, true, false, length, Some, IfOk, IfSome};
     ghost use Rattle.tsp_theory.specs.CertificateNumbers.{IsBoundSized};
     ghost use Rattle.tsp_cases.specs.Decisions.{decided_number};

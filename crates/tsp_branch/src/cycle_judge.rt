@@ -12,21 +12,21 @@ ghost use Rattle.tsp_cases.specs.states.Kept.{HoldsRows};
 ghost use Rattle.tsp_cases.specs.states.Rooms.{IsRoom};
 
 use crate::case_leaf::CaseLeaf;
-use crate::placed_costs::PlacedCosts;
 use std::alloc::Global;
 use tsp_cases::{
     Decision, JudgedLeaf, LeafJudge, Multipliers, OpenCase, Room, Setting, fill_moved,
     judge_numbers,
 };
 use tsp_memory::Refused;
+use tsp_theory::Costs;
 
 /// Judges leaves by least 1-trees, or by the least links where pairs have a direction.
 #[derive(Drop)]
-pub(crate) struct CycleJudge<'a, C: PlacedCosts> {
+pub(crate) struct CycleJudge<'a, C: Costs> {
     pub(crate) setting: &'a Setting<'a, C>,
 }
 
-impl<C: PlacedCosts> LeafJudge for CycleJudge<'_, C> {
+impl<C: Costs> LeafJudge for CycleJudge<'_, C> {
     ghost use Rattle.std.specs.Prelude.{length};
     ghost use Rattle.tsp_cases.specs.Decisions.{DecideOnce, decided_number};
     ghost use Rattle.tsp_cases.specs.GoodNumbers.{AreGoodNumbers};
@@ -86,7 +86,7 @@ impl<C: PlacedCosts> LeafJudge for CycleJudge<'_, C> {
 /// # Errors
 ///
 /// Out of memory.
-fn judge_leaf<C: PlacedCosts>(
+fn judge_leaf<C: Costs>(
     alloc: Global,
     setting: &Setting<C>,
     case: &OpenCase,

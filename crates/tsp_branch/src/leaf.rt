@@ -5,12 +5,11 @@ ghost use Rattle.tsp_theory.specs.CertificateNumbers.{IsFromTo, IsScale, IsLeast
 ghost use Rattle.tsp_branch.specs.LeafWeight.{IsBoundOfWeights, BoundsEachLeaf};
 
 use std::alloc::Global;
-use tsp_bound::{BoxedWeights, least_weight_in_space};
 use tsp_memory::Refused;
-use tsp_tree::{Weights, least_weight};
+use tsp_tree::{Growing, least_weight};
 
-/// The bound of a leaf whose weights are given by rows: the least whole number that at the scale is
-/// no less than the weight of a least 1-tree plus a sum.
+/// The bound of a leaf that has these weights: the least whole number that at the scale is no less
+/// than the weight of a least 1-tree plus a sum.
 ///
 /// The sum has the numbers of the taken pairs and the least crossings of the combs, each times its
 /// multiplier, less each potential twice; with these it is the bound of each leaf that has these
@@ -24,7 +23,7 @@ use tsp_tree::{Weights, least_weight};
 /// # Errors
 ///
 /// Out of memory, of which it takes some for each node.
-pub fn leaf_bound<W: Weights>(
+pub fn leaf_bound<W: Growing>(
     alloc: Global,
     w: &W,
     row: &mut [i64],
@@ -43,33 +42,6 @@ pub fn leaf_bound<W: Weights>(
     ensures size { IfOk result (λ bound. IsBoundSized bound) }
 {
     let weight = least_weight(alloc, w, row)?;
-    Ok(rounded_up(scale, weight + given_back))
-}
-
-/// What [`leaf_bound`] returns, under weights that boxes bound.
-///
-/// # Errors
-///
-/// Out of memory, of which it takes some for each node.
-pub fn leaf_bound_in_space<W: BoxedWeights>(
-    alloc: Global,
-    w: &W,
-    row: &mut [i64],
-    scale: i64,
-    given_back: i128,
-) -> Result<i128, Refused>
-    requires some { 3 ≤ W.nodes w.now }
-    requires room { length row.old ≡ W.nodes w.now + 1 }
-    requires even { (i j : ℕ) → W.at w.now i j ≡ W.at w.now j i }
-    requires scale { IsScale scale }
-    requires given_back { IsFromTo (neg_ℤ (pos (2 ^ 99))) (pos (2 ^ 99)) given_back }
-    ensures weights { IfOk result (λ bound.
-        IsBoundOfWeights (W.nodes w.now) (W.at w.now) scale given_back bound) }
-    ensures leaf { IfOk result (λ bound.
-        BoundsEachLeaf (W.nodes w.now) (W.at w.now) scale given_back bound) }
-    ensures size { IfOk result (λ bound. IsBoundSized bound) }
-{
-    let weight = least_weight_in_space(alloc, w, row)?;
     Ok(rounded_up(scale, weight + given_back))
 }
 

@@ -12,11 +12,13 @@ use crate::both_sets::are_few;
 use crate::case_leaf::CaseLeaf;
 use crate::decided::change_row;
 use crate::steps::suit_boxes;
+use std::alloc::Global;
 use tsp_cases::{
     MultipliedFamilies, Multipliers, add_sets, fill_shifted, scale_row, shift_row, sum_left,
 };
+use tsp_memory::Refused;
 use tsp_theory::Costs;
-use tsp_tree::{Weights, weight_in};
+use tsp_tree::{Growing, Grown, Weights, grow, weight_in};
 
 /// The most that a number of a node may be where boxes bound its weights.
 pub(crate) const MOST_NUMBER: i64 = 4_000_000_000_000_000_000;
@@ -212,5 +214,11 @@ impl<C: Costs> Weights for CaseLeaf<'_, C> {
         if !self.setting.cases.directed {
             change_row(row, self.case.at(from), from);
         }
+    }
+}
+
+impl<C: Costs> Growing for CaseLeaf<'_, C> {
+    fn grow(&self, alloc: Global, row: &mut [i64]) -> Result<Grown, Refused> {
+        grow(alloc, self, row)
     }
 }

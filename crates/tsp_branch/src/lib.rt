@@ -22,7 +22,6 @@ mod judged;
 mod leaf;
 mod leaf_rows;
 mod leaf_sum;
-mod placed_costs;
 mod rows;
 mod steps;
 mod verdict;
@@ -30,8 +29,7 @@ mod verdict;
 pub use branch::branch_bound;
 pub use examples::examples_of_numbers;
 pub use judged::BranchVerdict;
-pub use leaf::{leaf_bound, leaf_bound_in_space};
-pub use placed_costs::{InSpace, OutOfSpace, PlacedCosts};
+pub use leaf::leaf_bound;
 pub use tsp_cases::{
     CaseTree, Cases, Crossings, Decision, Families, JudgedCases, JudgedFamilies, JudgedLeaves,
     case_tree_bounds_are_unique, case_trees_bound_cycles, cases_bound_cycles, cases_have_no_cycle,
@@ -40,4 +38,4 @@ pub use tsp_cases::{
     links_are_allowed, numbers_are_unique, row_leaf_bounds_bound_cycles, sets_tell_combs,
     stacks_hold_cases, steps_leave_cases, sums_are_below_cycles,
 };
-pub use verdict::{judge_branches, judge_branches_in_space};
+pub use verdict::judge_branches;

@@ -2,8 +2,8 @@
 //!
 //! Times are nanoseconds of the proved program, by a core of a Xeon at 2.5 GHz.
 
-use crate::placed_costs::PlacedCosts;
 use tsp_cases::{SetPlace, Setting};
+use tsp_theory::Costs;
 
 // 20 leaves over 2,001 random points, without sets.
 const NODE_BY_BOXES: u64 = 1_900;
@@ -22,7 +22,7 @@ const PAIR_BY_ROWS: u64 = 9;
 
 /// Whether a tree of cases keeps rows: where it has several leaves, unless all of them seem to take
 /// less time by boxes.
-pub(crate) fn keeps_rows<C: PlacedCosts>(setting: &Setting<C>) -> bool {
+pub(crate) fn keeps_rows<C: Costs>(setting: &Setting<C>) -> bool {
     let steps = setting.cases.steps.len() as u64;
     if steps <= 1 {
         return false;

@@ -7,7 +7,6 @@ ghost use Rattle.tsp_branch.specs.BranchVerdicts.{IsBranchVerdict, VerdictBounds
 
 use crate::branch::branch_bound;
 use crate::judged::BranchVerdict;
-use crate::placed_costs::{OutOfSpace, PlacedCosts};
 use std::alloc::Global;
 use tsp_cases::{CaseTree, JudgedCases, JudgedFamilies, JudgedLeaves, judge_cases, judge_families};
 use tsp_memory::Refused;
@@ -20,7 +19,8 @@ use tsp_theory::Costs;
 /// leaf has a bound, no cycle keeps them.
 ///
 /// Where pairs have no direction the bound of a leaf is that of a least 1-tree, else that of the
-/// least link from each node.
+/// least link from each node. Where nodes have places, regions of them take the place of most
+/// pairs.
 ///
 /// # Errors
 ///
@@ -28,34 +28,6 @@ use tsp_theory::Costs;
 /// each decision of a case. For trees of several leaves it also takes some for each pair of up to
 /// 2,000 nodes, where there is any.
 pub fn judge_branches<C: Costs>(alloc: Global, tree: &CaseTree<C>) -> Result<BranchVerdict, Refused>
-    ensures verdict { IfOk result (IsBranchVerdict tree.now.directed (C.nodes tree.now.costs.now) (C.at tree.now.costs.now)
-        tree.now.scale (families_in tree.now.families.now) tree.now.given.now (steps_of tree.now.steps.now)) }
-    ensures cycles { IfOk result (VerdictBoundsCycles tree.now.directed (C.nodes tree.now.costs.now) (C.at tree.now.costs.now)
-        tree.now.given.now) }
-    ensures size { IfOk result IsSizedVerdict }
-{
-    let costs = OutOfSpace { costs: tree.costs };
-    let placed = CaseTree {
-        costs: &costs,
-        directed: tree.directed,
-        scale: tree.scale,
-        families: tree.families,
-        given: tree.given,
-        steps: tree.steps,
-    };
-    judge_branches_in_space(alloc, &placed)
-}
-
-/// What [`judge_branches`] returns, over costs whose nodes may have places in space: regions of
-/// them then take the place of most pairs, so that it asks for far fewer costs.
-///
-/// # Errors
-///
-/// Out of memory, as [`judge_branches`].
-pub fn judge_branches_in_space<C: PlacedCosts>(
-    alloc: Global,
-    tree: &CaseTree<C>,
-) -> Result<BranchVerdict, Refused>
     ensures verdict { IfOk result (IsBranchVerdict tree.now.directed (C.nodes tree.now.costs.now) (C.at tree.now.costs.now)
         tree.now.scale (families_in tree.now.families.now) tree.now.given.now (steps_of tree.now.steps.now)) }
     ensures cycles { IfOk result (VerdictBoundsCycles tree.now.directed (C.nodes tree.now.costs.now) (C.at tree.now.costs.now)

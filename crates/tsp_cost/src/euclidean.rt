@@ -8,7 +8,7 @@ use crate::points::Points;
 use std::alloc::Global;
 use tsp_distance::PlanePoint;
 use tsp_memory::Refused;
-use tsp_theory::{Costs, Grouped, Region, Site, Symmetric};
+use tsp_theory::{Costs, Region, Site, Symmetric};
 
 /// Points of the plane whose distance is EUC_2D.
 ///
@@ -37,11 +37,13 @@ impl<'a> Points<'a, PlanePoint> {
 
 impl Costs for Euclidean<'_> {
     ghost use Rattle.tsp_distance.specs.Distances.{on_plane};
-    ghost use Rattle.tsp_cost.specs.states.Views.{points_nodes, points_cost};
+    ghost use Rattle.tsp_cost.specs.states.Views.{points_nodes, points_cost, points_place};
 
     ghost nodes = { λ e. points_nodes e.points };
 
     ghost at = { λ e. points_cost (λ point. on_plane point.x point.y) e.points };
+
+    ghost place = { λ e. points_place (λ point. on_plane point.x point.y) e.points };
 
     #[inline]
     fn count(&self) -> u32 {
@@ -52,17 +54,6 @@ impl Costs for Euclidean<'_> {
     fn cost(&self, i: u32, j: u32) -> i64 {
         self.points.with(Metric::Euc2d).cost(i, j)
     }
-}
-
-impl Symmetric for Euclidean<'_> {
-    ghost even = { λ e i j different. e.points.symmetric _ _ };
-}
-
-impl Grouped for Euclidean<'_> {
-    ghost use Rattle.tsp_distance.specs.Distances.{on_plane};
-    ghost use Rattle.tsp_cost.specs.states.Views.{points_place};
-
-    ghost place = { λ e. points_place (λ point. on_plane point.x point.y) e.points };
 
     fn order(&self, alloc: Global) -> Result<Vec<u32>, Refused> {
         self.points.order(alloc)
@@ -83,4 +74,8 @@ impl Grouped for Euclidean<'_> {
     fn is_beyond(&self, from: &Site, region: &Region, least: i64) -> bool {
         self.points.is_beyond_by(Metric::Euc2d, from, region, least)
     }
+}
+
+impl Symmetric for Euclidean<'_> {
+    ghost even = { λ e i j different. e.points.symmetric _ _ };
 }

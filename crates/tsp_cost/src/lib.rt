@@ -35,7 +35,5 @@ pub use laws::instances_are_problems;
 pub use matrix::{EvenMatrix, Matrix};
 pub use points::Points;
 pub use triangle::Triangle;
-pub use tsp_theory::{
-    Costs, Grouped, Region, Site, Symmetric, canonical_length, tour_length, trace_tours,
-};
+pub use tsp_theory::{Costs, Region, Site, Symmetric, canonical_length, tour_length, trace_tours};
 pub use view::{EvenView, View};

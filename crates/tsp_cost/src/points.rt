@@ -6,10 +6,12 @@ ghost use Rattle.tsp_format.specs.Limits.{most_nodes};
 ghost use Rattle.tsp_file.specs.Cost.{distance, point_of};
 ghost use Rattle.tsp_cost.specs.states.Metrics.{weight_kind_of};
 
+use crate::halves::by_halves;
 use crate::metric::Metric;
-use std::alloc::AllocError;
+use std::alloc::{AllocError, Global};
 use tsp_distance::{InSpace, Point, distance_laws};
-use tsp_theory::{Costs, Symmetric};
+use tsp_memory::Refused;
+use tsp_theory::{Costs, Region, Site, Symmetric};
 
 /// How many points are looked up before the first of their distances.
 const BLOCK: usize = 32;
@@ -147,11 +149,13 @@ impl<P> Clone for Points<'_, P> {
 impl<P> Copy for Points<'_, P> {}
 
 impl<P: InSpace> Costs for Points<'_, P> {
-    ghost use Rattle.tsp_cost.specs.states.Views.{points_nodes, points_cost};
+    ghost use Rattle.tsp_cost.specs.states.Views.{points_nodes, points_cost, points_place};
 
     ghost nodes = { points_nodes };
 
     ghost at = { points_cost P.place };
+
+    ghost place = { points_place P.place };
 
     #[inline]
     fn count(&self) -> u32 {
@@ -170,6 +174,27 @@ impl<P: InSpace> Costs for Points<'_, P> {
             Metric::Euc2d => self.with(Metric::Euc2d).along(tour),
             _ => self.along(tour),
         }
+    }
+
+    fn order(&self, alloc: Global) -> Result<Vec<u32>, Refused> {
+        by_halves(alloc, self.points)
+    }
+
+    #[inline]
+    fn site(&self, node: u32) -> Option<Site> {
+        let place = self.place(node);
+        Some(Site { node, place })
+    }
+
+    #[inline(always)]
+    fn cost_between(&self, from: &Site, to: &Site) -> i64 {
+        self.metric.between(from.place, to.place)
+    }
+
+    // (as a separate call it cost a tenth more instructions)
+    #[inline(always)]
+    fn is_beyond(&self, from: &Site, region: &Region, least: i64) -> bool {
+        self.is_beyond_by(self.metric, from, region, least)
     }
 }
 

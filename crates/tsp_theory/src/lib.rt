@@ -13,7 +13,6 @@ mod costs;
 mod cycle_examples;
 mod cycle_laws;
 mod examples;
-mod grouped;
 mod laws;
 mod length;
 mod region;
@@ -26,7 +25,6 @@ pub use examples::{
     examples_of_duals, examples_of_forests, examples_of_multipliers, examples_of_numbers,
     examples_of_trees,
 };
-pub use grouped::Grouped;
 pub use laws::{
     adjusted_bounds_bound_cycles, bounds_are_unique, duals_bound_cycles,
     least_trees_are_below_cycles, node_bounds_bound_cycles,

@@ -1,21 +1,20 @@
-//! Least 1-trees under weights that are given by rows.
+//! Least 1-trees, however their trees grow.
 
 ghost use Rattle.std.specs.Prelude.{◌≡◌, ◌≤◌, ◌+◌, ◌*◌, ◌^◌, ℕ, length, pos, neg_ℤ, IfOk};
 ghost use Rattle.tsp_format.specs.Limits.{most_nodes};
 ghost use Rattle.tsp_theory.specs.CertificateNumbers.{IsFromTo};
 ghost use Rattle.tsp_tree.specs.Weighed.{IsLeastWeight};
 
-use crate::growth::grow;
+use crate::growing::Growing;
 use crate::spokes::two_spokes;
-use crate::weights::Weights;
 use std::alloc::Global;
 use tsp_memory::Refused;
 
 /// The weight of a 1-tree than which none weighs less, under symmetric weights.
 ///
 /// A 1-tree is a tree over the nodes 2..n and two different edges at node 1. Source: M. Held and R.
-/// M. Karp, The traveling-salesman problem and minimum spanning trees, 1970; the tree is grown as
-/// R. C. Prim's, 1957.
+/// M. Karp, The traveling-salesman problem and minimum spanning trees, 1970. The tree grows as its
+/// weights do it: row by row, as R. C. Prim's, 1957, or by rounds, as O. Boruvka's, 1926.
 ///
 /// # Requires
 ///
@@ -24,7 +23,7 @@ use tsp_memory::Refused;
 /// # Errors
 ///
 /// Out of memory, of which it takes some for each node.
-pub fn least_weight<W: Weights>(alloc: Global, w: &W, row: &mut [i64]) -> Result<i128, Refused>
+pub fn least_weight<W: Growing>(alloc: Global, w: &W, row: &mut [i64]) -> Result<i128, Refused>
     requires some { 3 ≤ W.nodes w.now }
     requires room { length row.old ≡ W.nodes w.now + 1 }
     requires even { (i j : ℕ) → W.at w.now i j ≡ W.at w.now j i }
@@ -35,7 +34,7 @@ pub fn least_weight<W: Weights>(alloc: Global, w: &W, row: &mut [i64]) -> Result
     // The count shows that there are at most 100,000 nodes.
     w.count();
     let (first, second) = two_spokes(w, row);
-    let grown = grow(alloc, w, row)?;
+    let grown = w.grow(alloc, row)?;
     let spokes = i128::from(first.weight) + i128::from(second.weight);
     Ok(spokes + grown.weight)
 }

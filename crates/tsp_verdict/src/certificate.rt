@@ -26,9 +26,9 @@ use crate::multiplied::{first_repeated_pair, first_unlisted};
 use std::alloc::Global;
 use tsp_bound::{
     Duals, Infeasible, Multipliers, Potentials, adjusted_bounds_bound_cycles, dual_bound,
-    duals_bound_cycles, one_tree_in_space,
+    duals_bound_cycles, least_one_tree,
 };
-use tsp_cost::{Costs, EvenView, Grouped, Instance, View};
+use tsp_cost::{Costs, EvenView, Instance, Symmetric, View};
 use tsp_file::File;
 use tsp_format::Kind;
 use tsp_memory::Refused;
@@ -264,7 +264,7 @@ fn bound_of_potentials(
 }
 
 /// The same over the costs of a view.
-fn tree_bound<C: Grouped>(
+fn tree_bound<C: Symmetric>(
     alloc: Global,
     inst: &Instance,
     c: &C,
@@ -283,7 +283,7 @@ fn tree_bound<C: Grouped>(
     ensures { IfOk result (λ bound. IsCertified certificates.Potentials inst.now pot.now bound) }
 {
     adjusted_bounds_bound_cycles();
-    match one_tree_in_space(alloc, c, &numbers.potentials, &numbers.multipliers) {
+    match least_one_tree(alloc, c, &numbers.potentials, &numbers.multipliers) {
         Ok(found) => Ok(found.bound),
         Err(refused) => Err(refused),
     }

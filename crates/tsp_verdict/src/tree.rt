@@ -17,8 +17,7 @@ use crate::decided::taken_once;
 use crate::tour::is_directed;
 use std::alloc::Global;
 use tsp_branch::{
-    BranchVerdict, CaseTree, InSpace, OutOfSpace, PlacedCosts, case_trees_bound_cycles,
-    judge_branches_in_space, numbers_are_unique,
+    BranchVerdict, CaseTree, case_trees_bound_cycles, judge_branches, numbers_are_unique,
 };
 use tsp_cost::{Costs, Instance, View};
 use tsp_file::{File, TreeData};
@@ -52,27 +51,12 @@ pub(crate) fn bound_of_tree(
     // A view has found once and for all where the costs are.
     match instance.view() {
         View::Plane(points) => match points.euclidean() {
-            Some(euclidean) => {
-                let costs = InSpace { costs: &euclidean };
-                judge_tree(alloc, instance, branches, &tree, &costs)
-            }
-            None => {
-                let costs = InSpace { costs: &points };
-                judge_tree(alloc, instance, branches, &tree, &costs)
-            }
+            Some(euclidean) => judge_tree(alloc, instance, branches, &tree, &euclidean),
+            None => judge_tree(alloc, instance, branches, &tree, &points),
         },
-        View::Space(points) => {
-            let costs = InSpace { costs: &points };
-            judge_tree(alloc, instance, branches, &tree, &costs)
-        }
-        View::Triangle(triangle) => {
-            let costs = OutOfSpace { costs: &triangle };
-            judge_tree(alloc, instance, branches, &tree, &costs)
-        }
-        View::Matrix(matrix) => {
-            let costs = OutOfSpace { costs: &matrix };
-            judge_tree(alloc, instance, branches, &tree, &costs)
-        }
+        View::Space(points) => judge_tree(alloc, instance, branches, &tree, &points),
+        View::Triangle(triangle) => judge_tree(alloc, instance, branches, &tree, &triangle),
+        View::Matrix(matrix) => judge_tree(alloc, instance, branches, &tree, &matrix),
     }
 }
 
@@ -100,7 +84,7 @@ pub(crate) fn tree_of<'a>(instance: &Instance, branches: &'a File) -> Result<Tre
 /// # Errors
 ///
 /// Out of memory.
-fn judge_tree<C: PlacedCosts>(
+fn judge_tree<C: Costs>(
     alloc: Global,
     instance: &Instance,
     branches: &File,
@@ -130,7 +114,7 @@ fn judge_tree<C: PlacedCosts>(
         given: &given,
         steps: tree.steps,
     };
-    match judge_branches_in_space(alloc, &cases)? {
+    match judge_branches(alloc, &cases)? {
         BranchVerdict::Bound(Some(bound)) => Ok(BoundVerdict::Bound(bound)),
         BranchVerdict::Bound(None) => Ok(BoundVerdict::NoSolution),
         BranchVerdict::BadFamily(index) => Ok(BoundVerdict::No(Reason::BadComb {

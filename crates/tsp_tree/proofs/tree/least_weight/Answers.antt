@@ -4,7 +4,7 @@ use Rattle.std.specs.Prelude.{◌+ℤ◌}
 use Rattle.std.specs.Int.{w64}
 use Rattle.tsp_theory.specs.Tree.{weight_of}
 use Rattle.tsp_theory.specs.Growth.{tree_of}
-use Rattle.tsp_theory.proofs.OneTrees.{least_from_growth}
+use Rattle.tsp_theory.proofs.OneTrees.{least_from_forest}
 use Rattle.tsp_theory.proofs.Weights.{tree_fits, tree_size, tree_computed, weight_of_tree}
 use Rattle.tsp_tree.proofs.tree.least_weight.Goals as goal
 
@@ -14,7 +14,7 @@ overflow_add-result g c =
     let second : FitsSigned w64 c.two_spokes.result.1.weight = search rules in
     tree_fits c.two_spokes.result.0.weight c.two_spokes.result.1.weight c.in_ok-grown.grown.weight c.from.result c.from-2.result first second c.from.ensures c.from-2.ensures c.in_ok-grown.ensures.size
 
--- plan: the tree that grew, with both spokes, is a least 1-tree (`least_from_growth`), whose weight fits 128 bits
+-- plan: the joined pairs with both spokes are a least 1-tree (`least_from_forest`), whose weight fits 128 bits
 pub returns : goal.returns
 returns g c =
     let n = g.W.Weights.nodes c.args.w.now in
@@ -30,7 +30,7 @@ returns g c =
     record {
       least = record {
         tree = tree_of two.0.node two.1.node added;
-        least = least_from_growth n w two.0.node two.1.node added added (tree_of two.0.node two.1.node added) c.requires.some c.requires.even c.two_spokes.ensures.nearest
+        least = least_from_forest n w two.0.node two.1.node added added (tree_of two.0.node two.1.node added) c.requires.some c.requires.even c.two_spokes.ensures.nearest
             c.in_ok-grown.ensures.whole refl refl;
         weight_is = computed ∙ sums ∙ sym (weight_of_tree w c.requires.even two.0.node two.1.node added);
       };

@@ -1,4 +1,4 @@
--- The goals of `one_tree_in_space` in src/tree.rt: what its calls require and what it ensures.
+-- The goals of `least_one_tree` in src/tree.rt: what its calls require and what it ensures.
 use Rattle.std.proofs.Common.{◌≡◌, ℕ, List, [], subst, ◌∙◌, arith, rules, FitsSigned, to_z, of_z}
 use Rattle.std.specs.Prelude.{ℤ}
 use Rattle.std.specs.Int.{w128}
@@ -8,7 +8,7 @@ use Rattle.tsp_theory.specs.Tree.{weight_of, IsLeastOneTree}
 use Rattle.tsp_theory.specs.Adjusted.{triples_total, IsAdjustedBoundOf, IsAdjustedBound}
 use Rattle.tsp_bound.specs.states.Multipliers.{weight_less}
 use Rattle.tsp_theory.proofs.Weights.{sum_of_bound, bound_of_weight, tree_same}
-use Rattle.tsp_bound.proofs.tree.one_tree_in_space.Goals as goal
+use Rattle.tsp_bound.proofs.tree.least_one_tree.Goals as goal
 
 pub least_bound-bound-requires-clause-size : goal.least_bound-bound-requires-clause-size
 least_bound-bound-requires-clause-size g c =

@@ -1,4 +1,4 @@
--- The goals of `judge_branches_in_space` in src/verdict.rt: what its calls require and what it ensures.
+-- The goals of `judge_branches` in src/verdict.rt: what its calls require and what it ensures.
 use Rattle.std.proofs.Common.{◌∙◌, ℕ, List, sym, subst}
 use Rattle.std.specs.List.{All}
 use Rattle.std.specs.Global.{Vec}
@@ -12,7 +12,7 @@ use Rattle.tsp_cases.specs.JudgedTrees.{AreCasesJudged}
 use Rattle.tsp_cases.specs.states.Lent.{good_in}
 use Rattle.tsp_cases.specs.declared.judged.JudgedLeaves.TheVariants as judged
 use Rattle.tsp_branch.proofs.Judging.{judged_of, cycles_of_cases}
-use Rattle.tsp_branch.proofs.verdict.judge_branches_in_space.Goals as goal
+use Rattle.tsp_branch.proofs.verdict.judge_branches.Goals as goal
 
 -- plan: by what is found first: a bad family, a pair decided twice, a bad leaf; else the least bound (`judged_of`)
 pub branch_bound-requires-clause-families : goal.branch_bound-requires-clause-families

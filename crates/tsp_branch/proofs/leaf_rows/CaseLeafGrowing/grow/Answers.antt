@@ -1,0 +1,21 @@
+-- The goals of `CaseLeafGrowing::grow` in src/leaf_rows.rt: what it ensures.
+use Rattle.std.proofs.Common.{arith, ℕ, ℤ}
+use Rattle.std.proofs.lemmas.Result.{IfOk-weaker}
+use Rattle.tsp_theory.proofs.Forests.{growth_is_forest}
+use Rattle.tsp_cases.specs.states.Lent.{lent_in}
+use Rattle.tsp_cases.specs.states.Combed.{set_weight}
+use Rattle.tsp_cases.specs.states.OpenCases.{decisions_in}
+use Rattle.tsp_branch.specs.states.Shared.{decided_by}
+use Rattle.tsp_tree.specs.declared.growth.Grown.{Grown}
+use Rattle.tsp_branch.proofs.leaf_rows.CaseLeafGrowing.grow.Goals as goal
+
+-- plan: the tree that grows is a forest of least joins (`growth_is_forest`)
+pub returns-clause-whole : goal.returns-clause-whole
+returns-clause-whole g c =
+    let leaf = c.args.self.now in
+    let s = leaf.setting.now in
+    let n : ℕ = g.C.Costs.nodes s.costs.now in
+    let w : ℕ → ℕ → ℤ = decided_by s.cases.now.directed (decisions_in leaf.case.now)
+    (set_weight s.cases.now.scale leaf.potentials.now leaf.multipliers.now (lent_in s.families.now) (g.C.Costs.at s.costs.now)) in
+    IfOk-weaker c.grow.result _ _
+    (λ (grown : Grown) growth. growth_is_forest n w grown.pairs.items (omega (arith, c.requires.some)) growth) c.grow.ensures.whole
