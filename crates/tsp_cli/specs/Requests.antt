@@ -166,6 +166,11 @@ abbrev pub input : Place → ℕ
 input Input = 1
 input (Path path) = 0
 
+-- the same of one file, where there is one
+abbrev pub input_at : Option (Option Role × Place) → ℕ
+input_at None = 0
+input_at (Some file) = input file.1
+
 abbrev pub inputs_in : List (Option Role × Place) → ℕ
 inputs_in files = sum_by (λ file. input file.1) files
 

@@ -12,13 +12,11 @@
 mod examples;
 mod grammar;
 mod line_examples;
-mod once;
 mod request;
 mod words;
 
 pub use examples::examples_of_verbs;
 pub use grammar::VERSION;
 pub use line_examples::{examples_of_lines, examples_of_two_certificates, examples_of_versions};
-pub use once::request_of;
-pub use request::{Place, RequestFault, place_at};
+pub use request::{Place, RequestFault, place_at, request_of};
 pub use words::{Job, JobFault, Verb, job_of, unread};

@@ -1,8 +1,10 @@
 //! What a job asks for, of which files.
 
-ghost use Rattle.std.specs.Prelude.{◌≡◌, Some, option_map};
+ghost use Rattle.std.specs.Prelude.{◌≡◌, ◌≤◌, Some, option_map};
 ghost use Rattle.std.specs.String.{string_bytes};
+ghost use Rattle.tsp_task.specs.Files.{files_of_request, numbered};
 ghost use Rattle.tsp_cli.specs.Requests.{GivesPlace, GivesLayout, GivesClaim, GivesCertificate, IsPlaceAt, any_line_end, has_line_end, NamesRequest, NamesCheck, NamesComparison, NamesBound};
+ghost use Rattle.tsp_cli.specs.Requests.{GivesRequest, input_at, inputs_at, inputs_of_request};
 
 use crate::words::{Job, Verb};
 use tsp_format::Layout;
@@ -38,6 +40,63 @@ pub enum RequestFault {
     LineEndInPath,
 }
 
+/// What a job asks for. A path `-` is standard input, which one file at most can be. With no verb,
+/// standard input is shown.
+///
+/// # Errors
+///
+/// `InputTwice` where two files are standard input; `UnknownLayout` where no layout has the given
+/// word; `NotALength` where the word of a length isn't one; `TwoCertificates` where both potentials
+/// and branches are named; `NoCertificate` where a bound has neither; `LineEndInPath` where the
+/// path of a solution that is compared contains byte 10; `MissingPath` where a path is missing, as
+/// in no job that words ask for.
+pub fn request_of(job: &Job) -> Result<Request<'_, Place<'_>>, RequestFault>
+    ensures { GivesRequest job.now result }
+{
+    let request = named_request(job)?;
+    if inputs_of_request(&request) > 1 {
+        return Err(RequestFault::InputTwice);
+    }
+    Ok(request)
+}
+
+/// How many files of a request are standard input. Three at most have a number; solutions that are
+/// compared have none.
+fn inputs_of_request(request: &Request<'_, Place<'_>>) -> u128
+    ensures { result ≡ inputs_of_request request.now }
+{
+    let solutions = match request {
+        Request::Task(_) => 0,
+        Request::Compare(comparison) => inputs_at(comparison.solutions),
+    };
+    let files = input_at(request, 1) + input_at(request, 2) + input_at(request, 3);
+    u128::from(files) + u128::from(solutions)
+}
+
+/// 1 where the file of a request with this number is standard input, and else 0.
+fn input_at(request: &Request<'_, Place<'_>>, number: u32) -> u32
+    ensures value { result ≡ input_at (numbered number (files_of_request request.now)) }
+    ensures most { result ≤ 1 }
+{
+    match request.file(number) {
+        Some((_, Place::Input)) => 1,
+        Some((_, Place::Path(_))) | None => 0,
+    }
+}
+
+/// How many of these paths are standard input.
+fn inputs_at(paths: &[String]) -> u64
+    ensures { result ≡ inputs_at paths.now }
+{
+    let mut count = 0u64;
+    'paths: for path in paths {
+        if path.as_str() == "-" {
+            count += 1;
+        }
+    }
+    count
+}
+
 /// What a job asks for, of files that may be standard input several times. With no verb, standard
 /// input is shown.
 ///
@@ -47,7 +106,7 @@ pub enum RequestFault {
 /// isn't one; `TwoCertificates` where both potentials and branches are named; `NoCertificate` where
 /// a bound has neither; `LineEndInPath` where the path of a solution that is compared contains byte
 /// 10; `MissingPath` where a path is missing, as in no job that words ask for.
-pub(crate) fn named_request(job: &Job) -> Result<Request<'_, Place<'_>>, RequestFault>
+fn named_request(job: &Job) -> Result<Request<'_, Place<'_>>, RequestFault>
     ensures { NamesRequest job.now result }
 {
     let Some(verb) = job.verb else {

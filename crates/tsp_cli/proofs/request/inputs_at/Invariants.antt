@@ -1,7 +1,7 @@
--- The loop of `inputs_at` in src/once.rt.
+-- The loop of `inputs_at` in src/request.rt.
 use Rattle.std.proofs.Common.{◌≡◌, ◌≤◌, take}
 use Rattle.tsp_cli.specs.Requests.{inputs_at}
-use Rattle.tsp_cli.proofs.once.inputs_at.Given as goal
+use Rattle.tsp_cli.proofs.request.inputs_at.Given as goal
 
 abbrev pub invariant-paths : goal.invariant-paths
 invariant-paths l = (l.count ≡ inputs_at (take l.path-index l.paths)) × (l.count ≤ l.path-index)
