@@ -11,11 +11,11 @@ use crate::place::place;
 use crate::told::Told;
 use std::alloc::Global;
 use std::marker::Model;
-use tsp_judge::{Early, ReadFault, RunFault, Status, Watched, WriteFault, status_of};
+use tsp_judge::{ReadFault, RunError, RunFault, Status, Watched, WriteFault, status_of};
 
 /// The status of a call on texts, and its text. Contracts see a pair.
 ///
-/// Only the calls of this file make one: out of memory comes from an [`Early`] or a [`NoLine`].
+/// Only the calls of this file make one: out of memory comes from a [`RunError`] or a [`NoLine`].
 #[derive(Drop)]
 pub(crate) struct Answer {
     status: u8,
@@ -59,7 +59,7 @@ impl Answer {
 
 /// The status with which a run on texts ends, and the text that goes to the caller: what the run
 /// wrote, or the line of its fault. Where there is no memory for a line, the text is empty.
-pub(crate) fn ended(answer: Result<bool, Early>, report: Watched<Vec<u8>>) -> Answer
+pub(crate) fn ended(answer: Result<bool, RunError>, report: Watched<Vec<u8>>) -> Answer
     ensures { EndsOnTexts answer (watched report).items result.0 result.1 }
 {
     match printed(answer, report) {
@@ -76,7 +76,7 @@ pub(crate) fn ended(answer: Result<bool, Early>, report: Watched<Vec<u8>>) -> An
 /// # Errors
 ///
 /// Out of memory for the line of a fault.
-fn printed(answer: Result<bool, Early>, report: Watched<Vec<u8>>) -> Result<Answer, NoLine>
+fn printed(answer: Result<bool, RunError>, report: Watched<Vec<u8>>) -> Result<Answer, NoLine>
     ensures { MatchResult result
         (λ printed. IsPrinted answer (watched report).items printed.0 printed.1)
         (λ no_line. IsErr answer) }
@@ -87,8 +87,8 @@ fn printed(answer: Result<bool, Early>, report: Watched<Vec<u8>>) -> Result<Answ
             status: status_of(&Ok(accepts)),
             text,
         }),
-        Err(early) => {
-            let fault = without_devices(early.fault());
+        Err(error) => {
+            let fault = without_devices(error.fault());
             let line = line_of(text, fault)?;
             Ok(Answer {
                 status: status_of(&Err(fault)),

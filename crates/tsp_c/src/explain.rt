@@ -101,7 +101,8 @@ fn explain(alloc: Global, text: &mut Vec<u8>, task: Task<Named<'_>>) -> Result<(
     let names = request.map(|file| file.name);
     match ended {
         Ok(outcome) => explain_outcome(alloc, text, &names, &outcome),
-        Err(fault) => {
+        Err(error) => {
+            let fault = error.fault();
             let again = again(&request, fault)?;
             explain_fault(alloc, text, &names, again, None, fault)
         }

@@ -5,7 +5,7 @@ ghost use Rattle.tsp_c.specs.NumberCalls.{FillsCount, FindsInstance};
 use crate::status::Ending;
 use std::alloc::Global;
 use tsp_cost::{Costs, Instance};
-use tsp_judge::{Early, read_text};
+use tsp_judge::{RunError, read_text};
 
 /// The instance that a text parses to.
 ///
@@ -13,7 +13,7 @@ use tsp_judge::{Early, read_text};
 ///
 /// `File` with the number 1 where the text parses to no file; `WrongKind` where the file is no
 /// instance.
-pub(crate) fn instance_of(alloc: Global, text: &[u8]) -> Result<Instance, Early>
+pub(crate) fn instance_of(alloc: Global, text: &[u8]) -> Result<Instance, RunError>
     ensures { FindsInstance text.now result }
 {
     let file = read_text(alloc, 1, text)?;
@@ -21,7 +21,7 @@ pub(crate) fn instance_of(alloc: Global, text: &[u8]) -> Result<Instance, Early>
         Ok(instance) => Ok(instance),
         Err((_, other)) => {
             drop(other);
-            Err(Early::wrong_kind())
+            Err(RunError::wrong_kind())
         }
     }
 }
@@ -31,7 +31,7 @@ pub(crate) fn fill_count(alloc: Global, text: &[u8], count: &mut u32) -> Ending
     ensures { FillsCount text.now count.old count.new result }
 {
     match instance_of(alloc, text) {
-        Err(early) => Ending::of_fault(early),
+        Err(error) => Ending::of_fault(error),
         Ok(instance) => {
             *count = instance.count();
             drop(instance);

@@ -19,7 +19,7 @@ pub(crate) fn fill_lengths(alloc: Global, text: &[u8], nodes: &[u32], out: &mut 
     ensures { FillsLengths text.now nodes.now out.old out.new result }
 {
     match instance_of(alloc, text) {
-        Err(early) => Ending::of_fault(early),
+        Err(error) => Ending::of_fault(error),
         Ok(instance) => {
             let status = lengths_of(&instance, nodes, out);
             drop(instance);

@@ -26,7 +26,7 @@ use std::alloc::Global;
 use std::boxed::Box;
 use std::io::Write;
 use tsp_cost::{Costs, Instance};
-use tsp_judge::{Certificate, Early, Opened, Verdict, Watched, verdicts_mean_reports};
+use tsp_judge::{Certificate, Opened, RunError, Verdict, Watched, verdicts_mean_reports};
 use tsp_report::write_report;
 
 /// Opens a handle on the instance that a text is; the status. What it was open on before is freed
@@ -36,7 +36,7 @@ pub(crate) fn open_text(alloc: Global, text: &[u8], handle: &mut Handle, told: &
 {
     drop(handle.take(alloc));
     match boxed(alloc, text) {
-        Err(early) => tell_fault(early, told),
+        Err(error) => tell_fault(error, told),
         Ok(Err(no_box)) => tell_no_box(no_box, told),
         Ok(Ok(opened)) => {
             *told = Told::of_instance(opened.instance());
@@ -47,12 +47,12 @@ pub(crate) fn open_text(alloc: Global, text: &[u8], handle: &mut Handle, told: &
 }
 
 /// Tells the numbers of a fault; its status.
-fn tell_fault(early: Early, told: &mut Told) -> Ending
-    ensures told { told.new ≡ told_of_fault early }
-    ensures status { result ≡ status_of_fault early }
+fn tell_fault(error: RunError, told: &mut Told) -> Ending
+    ensures told { told.new ≡ told_of_fault error }
+    ensures status { result ≡ status_of_fault error }
 {
-    *told = Told::of_early(early);
-    Ending::of_fault(early)
+    *told = Told::of_error(error);
+    Ending::of_fault(error)
 }
 
 /// Tells that there was no memory for a box; the status.
@@ -69,7 +69,7 @@ fn tell_no_box(no_box: NoBox, told: &mut Told) -> Ending
 /// # Errors
 ///
 /// Why the text is no instance; out of memory for the box is no such fault.
-fn boxed(alloc: Global, text: &[u8]) -> Result<Result<Box<Opened, Global>, NoBox>, Early>
+fn boxed(alloc: Global, text: &[u8]) -> Result<Result<Box<Opened, Global>, NoBox>, RunError>
     ensures { MatchResult result
         (λ held. MatchResult held (λ opened. IsOpened text.now opened.value) (λ no_box. (opened : Open) × IsOpened text.now opened))
         (λ fault. IsUnopened text.now fault) }
@@ -124,7 +124,7 @@ fn bind_opened(
     ensures { BindsOpen by text.now opened.old (Some opened.new) told.new result }
 {
     match opened.bind(alloc, by, text) {
-        Err(early) => tell_fault(early, told),
+        Err(error) => tell_fault(error, told),
         Ok(found) => {
             *told = Told::of_bound(opened.instance(), found);
             Ending::of_answer(found.is_yes())
@@ -171,9 +171,9 @@ fn check_opened(
     verdicts_mean_reports();
     let mut report = Watched::new(Vec::new(alloc));
     match opened.judge(alloc, solution, claimed) {
-        Err(early) => {
-            let answer = ended(Err(early), report);
-            let told = answer.numbers(Told::of_early(early));
+        Err(error) => {
+            let answer = ended(Err(error), report);
+            let told = answer.numbers(Told::of_error(error));
             (answer, told)
         }
         Ok(verdict) => {
@@ -191,13 +191,13 @@ fn reported<W: Write>(
     instance: &Instance,
     verdict: Verdict,
     out: &mut Watched<W>,
-) -> Result<bool, Early>
+) -> Result<bool, RunError>
     requires { IsSized verdict }
     ensures { Reports (sink_of W.contents out.old out.new) (report_of instance.now verdict) (is_yes verdict) result }
 {
     match write_report(instance.file(), verdict, out) {
         Ok(()) => Ok(verdict.is_yes()),
-        Err(fault) => Err(Early::unwritten(fault)),
+        Err(fault) => Err(RunError::unwritten(fault)),
     }
 }
 

@@ -21,7 +21,7 @@ pub(crate) fn fill_points(alloc: Global, text: &[u8], section: u32, out: &mut [i
         return Ending::refused();
     }
     match read_text(alloc, 1, text) {
-        Err(early) => Ending::of_fault(early),
+        Err(error) => Ending::of_fault(error),
         Ok(file) => {
             let status = points_of_file(&file, section, out);
             drop(file);

@@ -6,14 +6,14 @@ ghost use Rattle.tsp_judge.specs.declared.fault.RunFault.TheVariants.{OutOfMemor
 
 use crate::in_box::NoBox;
 use std::marker::Model;
-use tsp_judge::{Early, Status, status_of};
+use tsp_judge::{RunError, Status, status_of};
 
 /// The buffer has too few places.
 pub(crate) const TOO_SMALL: u32 = Status::TooSmall as u32;
 
 /// The status of a call on numbers. Contracts see its number.
 ///
-/// Only the calls of this file make one: out of memory comes from an [`Early`] or a [`NoBox`].
+/// Only the calls of this file make one: out of memory comes from a [`RunError`] or a [`NoBox`].
 #[derive(Clone, Copy, Drop)]
 pub(crate) struct Ending {
     number: u32,
@@ -81,11 +81,11 @@ impl Ending {
     }
 
     /// Of a fault: 2 of a text, 3 out of memory.
-    pub(crate) fn of_fault(early: Early) -> Ending
-        ensures { result ≡ status_of_fault early }
+    pub(crate) fn of_fault(error: RunError) -> Ending
+        ensures { result ≡ status_of_fault error }
     {
         Ending {
-            number: u32::from(status_of(&Err(early.fault()))),
+            number: u32::from(status_of(&Err(error.fault()))),
         }
     }
 

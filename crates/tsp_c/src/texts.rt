@@ -10,8 +10,8 @@ use crate::ended::{Answer, ended};
 use crate::told::Told;
 use std::alloc::Global;
 use tsp_judge::{
-    Bounded, Certificate, Early, Judged, Layout, Watched, run_bound_with_cause,
-    run_convert_with_cause, run_show_with_cause, run_with_cause, verdicts_mean_reports,
+    Bounded, Certificate, Judged, Layout, RunError, Watched, convert_file, run, run_bound,
+    show_file, verdicts_mean_reports,
 };
 
 /// The text of `show` for a text, with its status.
@@ -20,7 +20,7 @@ pub(crate) fn shown(alloc: Global, file: &[u8]) -> Answer
 {
     let mut reader = Watched::new(file);
     let mut report = Watched::new(Vec::new(alloc));
-    let answer = done(run_show_with_cause(alloc, &mut reader, &mut report));
+    let answer = done(show_file(alloc, &mut reader, &mut report));
     ended(answer, report)
 }
 
@@ -30,7 +30,7 @@ pub(crate) fn converted(alloc: Global, file: &[u8], to: Option<Layout>) -> Answe
 {
     let mut reader = Watched::new(file);
     let mut report = Watched::new(Vec::new(alloc));
-    let answer = done(run_convert_with_cause(alloc, &mut reader, to, &mut report));
+    let answer = done(convert_file(alloc, &mut reader, to, &mut report));
     ended(answer, report)
 }
 
@@ -52,7 +52,7 @@ pub(crate) fn checked(
     let mut second = Watched::new(solution);
     let mut third = Watched::new(certificate);
     let mut report = Watched::new(Vec::new(alloc));
-    let judged = run_with_cause(
+    let judged = run(
         alloc,
         &mut first,
         &mut second,
@@ -81,7 +81,7 @@ pub(crate) fn bounded(
     let mut first = Watched::new(instance);
     let mut second = Watched::new(certificate);
     let mut report = Watched::new(Vec::new(alloc));
-    let found = run_bound_with_cause(alloc, &mut first, by, &mut second, &mut report);
+    let found = run_bound(alloc, &mut first, by, &mut second, &mut report);
     let numbers = Told::of_bound_run(&found);
     let answer = ended(bound_answer(found), report);
     let told = answer.numbers(numbers);
@@ -89,7 +89,7 @@ pub(crate) fn bounded(
 }
 
 /// What is done is no no.
-fn done(ended: Result<(), Early>) -> Result<bool, Early>
+fn done(ended: Result<(), RunError>) -> Result<bool, RunError>
     ensures { result ≡ done ended }
 {
     ended?;
@@ -97,7 +97,7 @@ fn done(ended: Result<(), Early>) -> Result<bool, Early>
 }
 
 /// Whether the solution is accepted, where there is a verdict.
-fn told(ended: Result<Judged, Early>) -> Result<bool, Early>
+fn told(ended: Result<Judged, RunError>) -> Result<bool, RunError>
     ensures { result ≡ told ended }
 {
     let judged = ended?;
@@ -107,7 +107,7 @@ fn told(ended: Result<Judged, Early>) -> Result<bool, Early>
 }
 
 /// Whether there is no reason against the files, where they were read.
-fn bound_answer(ended: Result<Bounded, Early>) -> Result<bool, Early>
+fn bound_answer(ended: Result<Bounded, RunError>) -> Result<bool, RunError>
     ensures { result ≡ bound_answer ended }
 {
     let bounded = ended?;

@@ -7,7 +7,7 @@ ghost use Rattle.tsp_c.specs.Told.{IsSizedBound, blank_told, told_field, field_n
 
 use tsp_cost::{Costs, Instance};
 use tsp_format::{Field, Kind};
-use tsp_judge::{Bounded, Early, EndFault, Judged, LineFault, ReadFault, RunFault, Status};
+use tsp_judge::{Bounded, EndFault, Judged, LineFault, ReadFault, RunError, RunFault, Status};
 use tsp_number::NumberFault;
 use tsp_reason::{BoundVerdict, Reason, Verdict};
 
@@ -174,32 +174,32 @@ impl Told {
     }
 
     /// What a check has come to.
-    pub(crate) fn of_run(ended: &Result<Judged, Early>) -> Told
+    pub(crate) fn of_run(ended: &Result<Judged, RunError>) -> Told
         requires { IfOk ended.now (λ judged. IsSized judged.verdict) }
         ensures { result ≡ told_of_run ended.now }
     {
         match ended {
             Ok(judged) => Told::of_verdict(&judged.instance, judged.verdict),
-            Err(early) => Told::of_early(*early),
+            Err(error) => Told::of_error(*error),
         }
     }
 
     /// What a bound without a solution has come to.
-    pub(crate) fn of_bound_run(ended: &Result<Bounded, Early>) -> Told
+    pub(crate) fn of_bound_run(ended: &Result<Bounded, RunError>) -> Told
         requires { IfOk ended.now (λ bounded. IsSizedBound bounded.found) }
         ensures { result ≡ told_of_bound_run ended.now }
     {
         match ended {
             Ok(bounded) => Told::of_bound(&bounded.instance, bounded.found),
-            Err(early) => Told::of_early(*early),
+            Err(error) => Told::of_error(*error),
         }
     }
 
     /// Why a run ended early.
-    pub(crate) fn of_early(early: Early) -> Told
-        ensures { result ≡ told_of_fault early }
+    pub(crate) fn of_error(error: RunError) -> Told
+        ensures { result ≡ told_of_fault error }
     {
-        Told::of_fault(early.fault())
+        Told::of_fault(error.fault())
     }
 
     /// A fault.

@@ -17,7 +17,7 @@ pub(crate) fn fill_weights(alloc: Global, text: &[u8], pairs: &[u32], out: &mut 
     ensures { FillsWeights text.now pairs.now out.old out.new result }
 {
     match instance_of(alloc, text) {
-        Err(early) => Ending::of_fault(early),
+        Err(error) => Ending::of_fault(error),
         Ok(instance) => {
             let status = weights_of(&instance, pairs, out);
             drop(instance);
@@ -70,7 +70,7 @@ pub(crate) fn fill_matrix(alloc: Global, text: &[u8], first_row: u32, out: &mut 
     ensures { FillsMatrix text.now first_row out.old out.new result }
 {
     match instance_of(alloc, text) {
-        Err(early) => Ending::of_fault(early),
+        Err(error) => Ending::of_fault(error),
         Ok(instance) => {
             let status = rows_of(&instance, first_row, out);
             drop(instance);

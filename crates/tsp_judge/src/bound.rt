@@ -7,17 +7,15 @@ ghost use Rattle.tsp_read.specs.Asked.{IsReadOn};
 ghost use Rattle.tsp_read.specs.Reads.{IsFile, most_taken};
 ghost use Rattle.tsp_judge.specs.BoundRun.{BoundsFiles, IsBoundRunOf};
 
-use crate::early::{Early, promised};
-use crate::fault::RunFault;
 use crate::file::read_file;
-use crate::undecided::bound_of;
+use crate::run_error::RunError;
 use std::alloc::Global;
 use std::io::Write;
 use tsp_cost::Instance;
 use tsp_file::File;
 use tsp_report::write_bound;
 use tsp_stream::{Gives, Watched};
-use tsp_verdict::{BoundVerdict, Certificate, is_bounded};
+use tsp_verdict::{BoundVerdict, Certificate, is_bounded, judge_bound};
 
 /// The files that a run has read, and the bound that it found.
 #[derive(Drop)]
@@ -54,27 +52,7 @@ pub fn run_bound<I: Gives, C: Gives, W: Write>(
     by: Certificate,
     cert: &mut Watched<C>,
     out: &mut Watched<W>,
-) -> Result<Bounded, RunFault>
-    ensures answer { TakesAtMost most_taken (turn_of I.remaining inst.old inst.new) (λ first.
-        TakesAtMost most_taken (turn_of C.remaining cert.old cert.new) (λ second.
-        IsBoundRunOf by first second (sink_of W.contents out.old out.new) result)) }
-    ensures asked { IsReadOn I.gives inst.old inst.new × IsReadOn C.gives cert.old cert.new }
-{
-    promised(run_bound_with_cause(alloc, inst, by, cert, out))
-}
-
-/// [`run_bound`] with a cause where memory is refused.
-///
-/// # Errors
-///
-/// Those of [`run_bound`].
-pub fn run_bound_with_cause<I: Gives, C: Gives, W: Write>(
-    alloc: Global,
-    inst: &mut Watched<I>,
-    by: Certificate,
-    cert: &mut Watched<C>,
-    out: &mut Watched<W>,
-) -> Result<Bounded, Early>
+) -> Result<Bounded, RunError>
     ensures answer { TakesAtMost most_taken (turn_of I.remaining inst.old inst.new) (λ first.
         TakesAtMost most_taken (turn_of C.remaining cert.old cert.new) (λ second.
         IsBoundRunOf by first second (sink_of W.contents out.old out.new) result)) }
@@ -92,12 +70,12 @@ fn bound_read<W: Write>(
     instance: File,
     certificate: File,
     out: &mut Watched<W>,
-) -> Result<Bounded, Early>
+) -> Result<Bounded, RunError>
     ensures { (first second : Turn) → IsFile first instance → IsFile second certificate
         → IsBoundRunOf by first second (sink_of W.contents out.old out.new) result }
 {
     let Ok(instance) = Instance::of(instance) else {
-        return Err(Early::wrong_kind());
+        return Err(RunError::wrong_kind());
     };
     match bound_files(alloc, by, &instance, &certificate, out) {
         Ok(found) => Ok(Bounded {
@@ -105,7 +83,7 @@ fn bound_read<W: Write>(
             instance,
             certificate,
         }),
-        Err(early) => Err(early),
+        Err(error) => Err(error),
     }
 }
 
@@ -116,18 +94,18 @@ fn bound_files<W: Write>(
     instance: &Instance,
     certificate: &File,
     out: &mut Watched<W>,
-) -> Result<BoundVerdict, Early>
+) -> Result<BoundVerdict, RunError>
     ensures { BoundsFiles by instance.now certificate.now (sink_of W.contents out.old out.new) result }
 {
     if !is_bounded(by, instance.kind()) {
-        return Err(Early::wrong_kind());
+        return Err(RunError::wrong_kind());
     }
-    let found = match bound_of(alloc, by, instance, certificate) {
+    let found = match judge_bound(alloc, by, instance, certificate) {
         Ok(found) => found,
-        Err(undecided) => return Err(Early::undecided(undecided)),
+        Err(refused) => return Err(RunError::refused(refused)),
     };
     match write_bound(instance.file(), found, out) {
         Ok(()) => Ok(found),
-        Err(fault) => Err(Early::unwritten(fault)),
+        Err(fault) => Err(RunError::unwritten(fault)),
     }
 }

@@ -8,10 +8,9 @@ ghost use Rattle.tsp_read.specs.Reads.{IsFile, most_taken};
 ghost use Rattle.tsp_judge.specs.CheckRun.{Given, given_by, IsFileIn, ReadsGiven};
 ghost use Rattle.tsp_judge.specs.Yes.{IsRunOf};
 
-use crate::early::{Early, promised};
-use crate::fault::RunFault;
 use crate::file::read_file;
 use crate::judging::{Judged, judge_files};
+use crate::run_error::RunError;
 use std::alloc::Global;
 use std::io::Write;
 use tsp_cost::Instance;
@@ -45,32 +44,7 @@ pub fn run<I: Gives, S: Gives, C: Gives, W: Write>(
     cert: &mut Watched<C>,
     claimed: Option<i64>,
     out: &mut Watched<W>,
-) -> Result<Judged, RunFault>
-    ensures answer { TakesAtMost most_taken (turn_of I.remaining inst.old inst.new) (λ first.
-        TakesAtMost most_taken (turn_of S.remaining sol.old sol.new) (λ second.
-        TakesAtMost most_taken (turn_of C.remaining cert.old cert.new) (λ third.
-        (by ≡ None → IsUnread third)
-        × IsRunOf (given_by by third) claimed first second (sink_of W.contents out.old out.new) result))) }
-    ensures asked { IsReadOn I.gives inst.old inst.new × IsReadOn S.gives sol.old sol.new
-        × IsReadOn C.gives cert.old cert.new }
-{
-    promised(run_with_cause(alloc, inst, sol, by, cert, claimed, out))
-}
-
-/// [`run`] with a cause where memory is refused.
-///
-/// # Errors
-///
-/// Those of [`run`].
-pub fn run_with_cause<I: Gives, S: Gives, C: Gives, W: Write>(
-    alloc: Global,
-    inst: &mut Watched<I>,
-    sol: &mut Watched<S>,
-    by: Option<Certificate>,
-    cert: &mut Watched<C>,
-    claimed: Option<i64>,
-    out: &mut Watched<W>,
-) -> Result<Judged, Early>
+) -> Result<Judged, RunError>
     ensures answer { TakesAtMost most_taken (turn_of I.remaining inst.old inst.new) (λ first.
         TakesAtMost most_taken (turn_of S.remaining sol.old sol.new) (λ second.
         TakesAtMost most_taken (turn_of C.remaining cert.old cert.new) (λ third.
@@ -91,7 +65,7 @@ pub(crate) fn read_certificate<C: Gives>(
     number: u32,
     by: Option<Certificate>,
     cert: &mut Watched<C>,
-) -> Result<Option<(Certificate, File)>, Early>
+) -> Result<Option<(Certificate, File)>, RunError>
     ensures answer { TakesAtMost most_taken (turn_of C.remaining cert.old cert.new) (λ third.
         (by ≡ None → IsUnread third) × ReadsGiven number (given_by by third) result) }
     ensures asked { IsReadOn C.gives cert.old cert.new }
@@ -111,13 +85,13 @@ pub(crate) fn judge_read<W: Write>(
     certificate: Option<(Certificate, File)>,
     claimed: Option<i64>,
     out: &mut Watched<W>,
-) -> Result<Judged, Early>
+) -> Result<Judged, RunError>
     ensures { (given : Given) (first second : Turn) → IsFile first instance → IsFile second solution
         → IsFileIn given certificate
         → IsRunOf given claimed first second (sink_of W.contents out.old out.new) result }
 {
     let Ok(instance) = Instance::of(instance) else {
-        return Err(Early::wrong_kind());
+        return Err(RunError::wrong_kind());
     };
     match judge_files(alloc, &instance, &solution, &certificate, claimed, out) {
         Ok(verdict) => Ok(Judged {
@@ -126,6 +100,6 @@ pub(crate) fn judge_read<W: Write>(
             solution,
             certificate,
         }),
-        Err(early) => Err(early),
+        Err(error) => Err(error),
     }
 }

@@ -9,17 +9,16 @@ ghost use Rattle.tsp_cost.specs.ProblemLaws.{IsProblem};
 ghost use Rattle.tsp_verdict.specs.Basis.{IsBasis};
 ghost use Rattle.tsp_judge.specs.CompareRun.{LacksBasis, Finds, result_of, status_of_found};
 
-use crate::early::Early;
 use crate::fault::RunFault;
 use crate::judging::{is_judged, lent};
+use crate::run_error::RunError;
 use crate::status::status_of;
-use crate::undecided::{basis_by, next_verdict};
 use std::alloc::Global;
 use tsp_cost::Instance;
 use tsp_file::File;
 use tsp_read::{ReadFault, file_of_reader};
 use tsp_stream::{Gives, Watched};
-use tsp_verdict::{Basis, Certificate, Verdict};
+use tsp_verdict::{Basis, Certificate, Verdict, judge_basis, judge_next};
 
 /// What all solutions of a comparison are judged by.
 #[derive(Drop)]
@@ -73,22 +72,22 @@ pub(crate) fn common_of(
     alloc: Global,
     instance: Instance,
     certificate: Option<(Certificate, File)>,
-) -> Result<Common, Early>
+) -> Result<Common, RunError>
     ensures { MatchResult result
         (λ common. (common.instance ≡ instance) × (common.certificate ≡ certificate)
         × IsBasis common.certificate common.instance common.basis)
         (λ fault. LacksBasis certificate instance fault) }
 {
     if !is_judged(&certificate, &instance) {
-        return Err(Early::wrong_kind());
+        return Err(RunError::wrong_kind());
     }
-    match basis_by(alloc, &instance, lent(&certificate)) {
+    match judge_basis(alloc, &instance, lent(&certificate)) {
         Ok(basis) => Ok(Common {
             basis,
             instance,
             certificate,
         }),
-        Err(undecided) => Err(Early::undecided(undecided)),
+        Err(refused) => Err(RunError::refused(refused)),
     }
 }
 
@@ -101,7 +100,7 @@ pub(crate) fn find<R: Gives>(
     alloc: Global,
     common: &Common,
     reader: &mut Watched<R>,
-) -> Result<Found, Early>
+) -> Result<Found, RunError>
     requires basis { IsBasis common.now.certificate common.now.instance common.now.basis }
     requires problem { IsProblem common.now.instance }
     ensures found { TakesAtMost most_taken (turn_of R.remaining reader.old reader.new) (λ turn. Finds common.now turn result) }
@@ -111,13 +110,13 @@ pub(crate) fn find<R: Gives>(
         Ok(solution) => solution,
         Err(unread) => {
             return match unread.fault() {
-                ReadFault::OutOfMemory => Err(Early::unread_solution(unread)),
+                ReadFault::OutOfMemory => Err(RunError::unread_solution(unread)),
                 fault => Ok(Found::Fault(fault)),
             };
         }
     };
-    match next_verdict(alloc, &common.instance, common.basis, &solution, None) {
+    match judge_next(alloc, &common.instance, common.basis, &solution, None) {
         Ok(verdict) => Ok(Found::Solution { verdict, solution }),
-        Err(undecided) => Err(Early::undecided(undecided)),
+        Err(refused) => Err(RunError::refused(refused)),
     }
 }

@@ -15,9 +15,8 @@ ghost use Rattle.tsp_judge.specs.Following.{IsFollowedBy, IsFollowed};
 
 use crate::checked::read_certificate;
 use crate::common::{Common, Found, common_of, find, status_of_found};
-use crate::early::{Early, promised};
-use crate::fault::RunFault;
 use crate::file::read_file;
+use crate::run_error::RunError;
 use crate::solutions::{Follow, Solutions};
 use crate::status::Status;
 use std::alloc::Global;
@@ -64,35 +63,7 @@ pub fn run_compare<I: Gives, C: Gives, R: Gives + Drop, E, S: Solutions<R> + Fol
     solutions: &S,
     out: &mut Watched<W>,
     to: &mut E,
-) -> Result<Compared, RunFault>
-    ensures text { TakesAtMost most_taken (turn_of I.remaining inst.old inst.new) (λ first.
-        TakesAtMost most_taken (turn_of C.remaining cert.old cert.new) (λ second.
-        (by ≡ None → IsUnread second)
-        × IsCompareRun R.remaining R.gives (S.opens solutions.now) (S.names solutions.now) (given_by by second) first
-        (sink_of W.contents out.old out.new) result)) }
-    ensures asked { IsReadOn I.gives inst.old inst.new × IsReadOn C.gives cert.old cert.new }
-    ensures told { IsFollowed (S.tells solutions.now) (length (S.names solutions.now)) to.old to.new result }
-{
-    promised(run_compare_with_cause(alloc, inst, by, cert, solutions, out, to))
-}
-
-/// [`run_compare`] with a cause where memory is refused.
-fn run_compare_with_cause<
-    I: Gives,
-    C: Gives,
-    R: Gives + Drop,
-    E,
-    S: Solutions<R> + Follow<E>,
-    W: Write,
->(
-    alloc: Global,
-    inst: &mut Watched<I>,
-    by: Option<Certificate>,
-    cert: &mut Watched<C>,
-    solutions: &S,
-    out: &mut Watched<W>,
-    to: &mut E,
-) -> Result<Compared, Early>
+) -> Result<Compared, RunError>
     ensures text { TakesAtMost most_taken (turn_of I.remaining inst.old inst.new) (λ first.
         TakesAtMost most_taken (turn_of C.remaining cert.old cert.new) (λ second.
         (by ≡ None → IsUnread second)
@@ -114,19 +85,19 @@ pub(crate) fn compare_read<R: Gives + Drop, E, S: Solutions<R> + Follow<E>, W: W
     solutions: &S,
     out: &mut Watched<W>,
     to: &mut E,
-) -> Result<Compared, Early>
+) -> Result<Compared, RunError>
     ensures text { (given : Given) (first : Turn) → IsFile first instance → IsFileIn given certificate
         → IsCompareRun R.remaining R.gives (S.opens solutions.now) (S.names solutions.now) given first
         (sink_of W.contents out.old out.new) result }
     ensures told { IsFollowed (S.tells solutions.now) (length (S.names solutions.now)) to.old to.new result }
 {
     let Ok(instance) = Instance::of(instance) else {
-        return Err(Early::wrong_kind());
+        return Err(RunError::wrong_kind());
     };
     let common = common_of(alloc, instance, certificate)?;
     match compare_with(alloc, &common, solutions, out, to) {
         Ok(status) => Ok(Compared { common, status }),
-        Err(early) => Err(early),
+        Err(error) => Err(error),
     }
 }
 
@@ -137,7 +108,7 @@ fn compare_with<R: Gives + Drop, E, S: Solutions<R> + Follow<E>, W: Write>(
     solutions: &S,
     out: &mut Watched<W>,
     to: &mut E,
-) -> Result<u8, Early>
+) -> Result<u8, RunError>
     requires basis { IsBasis common.now.certificate common.now.instance common.now.basis }
     requires problem { IsProblem common.now.instance }
     ensures text { ComparesBy (is_clear common.now.basis) (IsTurnAt R.remaining R.gives (S.opens solutions.now))
@@ -147,7 +118,7 @@ fn compare_with<R: Gives + Drop, E, S: Solutions<R> + Follow<E>, W: Write>(
 {
     match write_head(common.instance.file(), common.basis, out) {
         Ok(()) => {}
-        Err(fault) => return Err(Early::unwritten(fault)),
+        Err(fault) => return Err(RunError::unwritten(fault)),
     }
     if !common.basis.is_clear() {
         return Ok(Status::No as u8);
@@ -162,7 +133,7 @@ fn compare_all<R: Gives + Drop, E, S: Solutions<R> + Follow<E>, W: Write>(
     solutions: &S,
     out: &mut Watched<W>,
     to: &mut E,
-) -> Result<u8, Early>
+) -> Result<u8, RunError>
     requires basis { IsBasis common.now.certificate common.now.instance common.now.basis }
     requires problem { IsProblem common.now.instance }
     requires sound { has_failed out.old ≡ false }
@@ -193,7 +164,7 @@ fn compare_one<R: Gives + Drop, S: Solutions<R>, W: Write>(
     solutions: &S,
     index: usize,
     out: &mut Watched<W>,
-) -> Result<Found, Early>
+) -> Result<Found, RunError>
     requires basis { IsBasis common.now.certificate common.now.instance common.now.basis }
     requires problem { IsProblem common.now.instance }
     requires index { index < length (S.names solutions.now) }
@@ -204,6 +175,6 @@ fn compare_one<R: Gives + Drop, S: Solutions<R>, W: Write>(
     let found = find(alloc, common, &mut reader)?;
     match write_line(found.result(), solutions.name(index), out) {
         Ok(()) => Ok(found),
-        Err(fault) => Err(Early::unwritten(fault)),
+        Err(fault) => Err(RunError::unwritten(fault)),
     }
 }

@@ -6,63 +6,38 @@ ghost use Rattle.tsp_read.specs.Asked.{IsReadOn};
 ghost use Rattle.tsp_read.specs.Reads.{most_taken};
 ghost use Rattle.tsp_judge.specs.ConvertRun.{Becomes, IsConvertRun};
 
-use crate::early::{Early, promised};
-use crate::fault::RunFault;
 use crate::file::read_file;
+use crate::run_error::RunError;
 use std::alloc::Global;
 use std::io::Write;
 use tsp_file::{File, RelayoutFault, write_file};
 use tsp_format::Layout;
 use tsp_stream::{Gives, Watched};
 
-/// Writes the canonical text of a file, with its weights in the layout `to` where one is given.
-///
-/// The file is read whole, and the weights are in their layout, before anything is written. The
-/// text isn't held in memory as a whole.
+/// Converts a file, as `run_convert` says.
 ///
 /// # Errors
 ///
-/// `File` where the bytes are no file, or can't be read; `Relayout` where the weights can't
-/// go into the layout, or there is no memory for that; `Write` where the writer fails.
-/// `OutOfMemory` is never returned. Nothing is written but at `Write`. At most 4,096 bytes past
-/// `MOST_FILE_BYTES` are read.
-pub fn run_convert<R: Gives, W: Write>(
+/// Those of `run_convert`.
+pub fn convert_file<R: Gives, W: Write>(
     alloc: Global,
     r: &mut Watched<R>,
     to: Option<Layout>,
     out: &mut Watched<W>,
-) -> Result<(), RunFault>
-    ensures answer { TakesAtMost most_taken (turn_of R.remaining r.old r.new) (λ turn.
-        IsConvertRun to turn (sink_of W.contents out.old out.new) result) }
-    ensures asked { IsReadOn R.gives r.old r.new }
-{
-    promised(run_convert_with_cause(alloc, r, to, out))
-}
-
-/// [`run_convert`] with a cause where memory is refused.
-///
-/// # Errors
-///
-/// Those of [`run_convert`].
-pub fn run_convert_with_cause<R: Gives, W: Write>(
-    alloc: Global,
-    r: &mut Watched<R>,
-    to: Option<Layout>,
-    out: &mut Watched<W>,
-) -> Result<(), Early>
+) -> Result<(), RunError>
     ensures answer { TakesAtMost most_taken (turn_of R.remaining r.old r.new) (λ turn.
         IsConvertRun to turn (sink_of W.contents out.old out.new) result) }
     ensures asked { IsReadOn R.gives r.old r.new }
 {
     let file = read_file(alloc, 1, r)?;
     let converted = match in_layout(alloc, file, to) {
-        Err(fault) => return Err(Early::not_relaid(fault)),
+        Err(fault) => return Err(RunError::not_relaid(fault)),
         Ok(converted) => converted,
     };
     let written = write_file(alloc, &converted, out);
     drop(converted);
     match written {
-        Err(fault) => Err(Early::unwritten(fault)),
+        Err(fault) => Err(RunError::unwritten(fault)),
         Ok(()) => Ok(()),
     }
 }

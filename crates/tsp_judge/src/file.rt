@@ -6,7 +6,7 @@ ghost use Rattle.tsp_read.specs.Asked.{IsReadOn};
 ghost use Rattle.tsp_read.specs.Reads.{most_taken};
 ghost use Rattle.tsp_judge.specs.CheckRun.{ReadsFile};
 
-use crate::early::Early;
+use crate::run_error::RunError;
 use std::alloc::Global;
 use tsp_file::File;
 use tsp_read::file_of_reader;
@@ -21,13 +21,13 @@ pub(crate) fn read_file<R: Gives>(
     alloc: Global,
     number: u32,
     reader: &mut Watched<R>,
-) -> Result<File, Early>
+) -> Result<File, RunError>
     ensures answer { TakesAtMost most_taken (turn_of R.remaining reader.old reader.new) (λ turn.
         ReadsFile number turn result) }
     ensures asked { IsReadOn R.gives reader.old reader.new }
 {
     match file_of_reader(alloc, reader) {
         Ok(file) => Ok(file),
-        Err(unread) => Err(Early::unread(number, unread)),
+        Err(unread) => Err(RunError::unread(number, unread)),
     }
 }

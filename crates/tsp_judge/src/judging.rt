@@ -3,18 +3,16 @@
 ghost use Rattle.std.specs.Prelude.{◌≡◌, option_map};
 ghost use Rattle.tsp_stream.specs.states.Watched.{sink_of};
 ghost use Rattle.tsp_verdict.specs.SolutionVerdict.{is_judged};
-ghost use Rattle.tsp_judge.specs.CheckRun.{told, JudgesFiles};
+ghost use Rattle.tsp_judge.specs.CheckRun.{JudgesFiles};
 
-use crate::early::Early;
-use crate::fault::RunFault;
-use crate::undecided::verdict_on;
+use crate::run_error::RunError;
 use std::alloc::Global;
 use std::io::Write;
 use tsp_cost::Instance;
 use tsp_file::File;
 use tsp_report::write_report;
 use tsp_stream::Watched;
-use tsp_verdict::{Certificate, Verdict, is_bounded};
+use tsp_verdict::{Certificate, Verdict, is_bounded, judge};
 
 /// The files that a run has read, and the verdict on them.
 #[derive(Drop)]
@@ -37,19 +35,19 @@ pub(crate) fn judge_files<W: Write>(
     certificate: &Option<(Certificate, File)>,
     claimed: Option<i64>,
     out: &mut Watched<W>,
-) -> Result<Verdict, Early>
+) -> Result<Verdict, RunError>
     ensures { JudgesFiles certificate.now claimed instance.now solution.now (sink_of W.contents out.old out.new) result }
 {
     if !is_judged(certificate, instance) {
-        return Err(Early::wrong_kind());
+        return Err(RunError::wrong_kind());
     }
-    let verdict = match verdict_on(alloc, instance, solution, lent(certificate), claimed) {
+    let verdict = match judge(alloc, instance, solution, lent(certificate), claimed) {
         Ok(verdict) => verdict,
-        Err(undecided) => return Err(Early::undecided(undecided)),
+        Err(refused) => return Err(RunError::refused(refused)),
     };
     match write_report(instance.file(), verdict, out) {
         Ok(()) => Ok(verdict),
-        Err(fault) => Err(Early::unwritten(fault)),
+        Err(fault) => Err(RunError::unwritten(fault)),
     }
 }
 
@@ -72,14 +70,4 @@ pub(crate) fn lent(certificate: &Option<(Certificate, File)>) -> Option<(Certifi
         None => None,
         Some((by, file)) => Some((*by, file)),
     }
-}
-
-/// Whether the solution is accepted, where there is a verdict.
-pub(crate) fn told(ended: Result<Judged, RunFault>) -> Result<bool, RunFault>
-    ensures { result ≡ told ended }
-{
-    let judged = ended?;
-    let answer = judged.verdict.is_yes();
-    drop(judged);
-    Ok(answer)
 }

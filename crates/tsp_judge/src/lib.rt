@@ -13,31 +13,30 @@
 //! ```
 #![tactic(auto)]
 
+mod asked_runs;
 mod bound;
-mod check;
 mod checked;
 mod common;
 mod compare_examples;
 mod compare_laws;
 mod compared;
 mod convert;
-mod early;
 mod examples;
 mod fault;
 mod file;
 mod judging;
 mod laws;
 mod opened;
+mod run_error;
 mod run_examples;
 mod show;
 mod solutions;
 mod status;
 mod uncertified;
-mod undecided;
 
-pub use bound::{Bounded, run_bound, run_bound_with_cause};
-pub use check::{run_bound_check, run_branch_check, run_check};
-pub use checked::{run, run_with_cause};
+pub use asked_runs::{run_bound_check, run_branch_check, run_check, run_convert, run_show};
+pub use bound::{Bounded, run_bound};
+pub use checked::run;
 pub use common::{Common, Found};
 pub use compare_examples::{
     examples_of_bases, examples_of_faulty_files_of_comparisons, examples_of_largest_statuses,
@@ -45,8 +44,7 @@ pub use compare_examples::{
 };
 pub use compare_laws::{lines_of_bounded_tours, lines_of_checks, solutions_without_a_basis};
 pub use compared::{Compared, run_compare};
-pub use convert::{run_convert, run_convert_with_cause};
-pub use early::Early;
+pub use convert::convert_file;
 pub use examples::{
     examples_of_answers, examples_of_certificates, examples_of_fault_texts,
     examples_of_faulty_files, examples_of_faulty_files_of_bounds, examples_of_numbers_of_statuses,
@@ -55,8 +53,9 @@ pub use fault::RunFault;
 pub use judging::Judged;
 pub use laws::verdicts_mean_reports;
 pub use opened::{Opened, read_text};
+pub use run_error::RunError;
 pub use run_examples::{examples_of_runs_over_one_file, examples_of_wrong_kinds};
-pub use show::{run_show, run_show_with_cause};
+pub use show::show_file;
 pub use solutions::{Follow, Solutions};
 pub use status::{Status, status_of};
 pub use tsp_draft::EndFault;

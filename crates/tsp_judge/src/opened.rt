@@ -2,15 +2,14 @@
 
 ghost use Rattle.tsp_judge.specs.Open.{ReadsText};
 
-use crate::early::Early;
-use crate::undecided::{bound_of, next_verdict};
+use crate::run_error::RunError;
 use std::alloc::Global;
 use std::marker::Model;
 use tsp_cost::Instance;
 use tsp_file::File;
 use tsp_read::file_of_bytes;
 use tsp_reason::{Basis, BoundVerdict, Certificate, Verdict};
-use tsp_verdict::{basis_alone, basis_of, is_bounded};
+use tsp_verdict::{basis_alone, basis_of, is_bounded, judge_bound, judge_next};
 
 /// An instance, the certificate that is bound to it, where one is, and what is known of all
 /// solutions by the two: that is found once, when the certificate is bound or the instance is
@@ -44,7 +43,7 @@ impl Opened {
     ///
     /// `File` with the number 1 where the text is no file; `WrongKind` where the file is no
     /// instance.
-    pub fn of(alloc: Global, text: &[u8]) -> Result<Opened, Early>
+    pub fn of(alloc: Global, text: &[u8]) -> Result<Opened, RunError>
         ensures { MatchResult result
             (λ opened. IsOpened text.now opened) (λ fault. IsUnopened text.now fault) }
     {
@@ -57,7 +56,7 @@ impl Opened {
             }),
             Err((_, other)) => {
                 drop(other);
-                Err(Early::wrong_kind())
+                Err(RunError::wrong_kind())
             }
         }
     }
@@ -82,18 +81,18 @@ impl Opened {
         alloc: Global,
         by: Certificate,
         text: &[u8],
-    ) -> Result<BoundVerdict, Early>
+    ) -> Result<BoundVerdict, RunError>
         ensures { MatchResult result
             (λ found. IsBoundTo by text.now self.old self.new found)
             (λ fault. (self.new ≡ self.old) × IsUnbound by text.now self.old fault) }
     {
         let file = read_text(alloc, 2, text)?;
         if !is_bounded(by, self.instance.kind()) {
-            return Err(Early::wrong_kind());
+            return Err(RunError::wrong_kind());
         }
-        let found = match bound_of(alloc, by, &self.instance, &file) {
+        let found = match judge_bound(alloc, by, &self.instance, &file) {
             Ok(found) => found,
-            Err(undecided) => return Err(Early::undecided(undecided)),
+            Err(refused) => return Err(RunError::refused(refused)),
         };
         self.basis = basis_of(&self.instance, found);
         self.certificate = Some((by, file));
@@ -106,15 +105,20 @@ impl Opened {
     /// # Errors
     ///
     /// `File` with the number 2 where the text is no file; `OutOfMemory`.
-    pub fn judge(&self, alloc: Global, text: &[u8], claimed: Option<i64>) -> Result<Verdict, Early>
+    pub fn judge(
+        &self,
+        alloc: Global,
+        text: &[u8],
+        claimed: Option<i64>,
+    ) -> Result<Verdict, RunError>
         ensures { MatchResult result
             (λ verdict. IsHeldVerdict text.now claimed self.now verdict)
             (λ fault. IsNotJudged text.now self.now fault) }
     {
         let solution = read_text(alloc, 2, text)?;
-        match next_verdict(alloc, &self.instance, self.basis, &solution, claimed) {
+        match judge_next(alloc, &self.instance, self.basis, &solution, claimed) {
             Ok(verdict) => Ok(verdict),
-            Err(undecided) => Err(Early::undecided(undecided)),
+            Err(refused) => Err(RunError::refused(refused)),
         }
     }
 }
@@ -124,11 +128,11 @@ impl Opened {
 /// # Errors
 ///
 /// `File` with the number where the text is none.
-pub fn read_text(alloc: Global, number: u32, text: &[u8]) -> Result<File, Early>
+pub fn read_text(alloc: Global, number: u32, text: &[u8]) -> Result<File, RunError>
     ensures { ReadsText number text.now result }
 {
     match file_of_bytes(alloc, text) {
         Ok(file) => Ok(file),
-        Err(unread) => Err(Early::unread(number, unread)),
+        Err(unread) => Err(RunError::unread(number, unread)),
     }
 }

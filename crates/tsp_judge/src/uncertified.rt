@@ -11,10 +11,9 @@ ghost use Rattle.tsp_judge.specs.Yes.{IsRunOf};
 
 use crate::checked::judge_read;
 use crate::compared::{Compared, compare_read};
-use crate::early::{Early, promised};
-use crate::fault::RunFault;
 use crate::file::read_file;
 use crate::judging::Judged;
+use crate::run_error::RunError;
 use crate::solutions::{Follow, Solutions};
 use std::alloc::Global;
 use std::io::Write;
@@ -32,23 +31,7 @@ pub fn run_uncertified<I: Gives, S: Gives, W: Write>(
     sol: &mut Watched<S>,
     claimed: Option<i64>,
     out: &mut Watched<W>,
-) -> Result<Judged, RunFault>
-    ensures answer { TakesAtMost most_taken (turn_of I.remaining inst.old inst.new) (λ first.
-        TakesAtMost most_taken (turn_of S.remaining sol.old sol.new) (λ second.
-        IsRunOf None claimed first second (sink_of W.contents out.old out.new) result)) }
-    ensures asked { IsReadOn I.gives inst.old inst.new × IsReadOn S.gives sol.old sol.new }
-{
-    promised(run_uncertified_with_cause(alloc, inst, sol, claimed, out))
-}
-
-/// [`run_uncertified`] with a cause where memory is refused.
-fn run_uncertified_with_cause<I: Gives, S: Gives, W: Write>(
-    alloc: Global,
-    inst: &mut Watched<I>,
-    sol: &mut Watched<S>,
-    claimed: Option<i64>,
-    out: &mut Watched<W>,
-) -> Result<Judged, Early>
+) -> Result<Judged, RunError>
     ensures answer { TakesAtMost most_taken (turn_of I.remaining inst.old inst.new) (λ first.
         TakesAtMost most_taken (turn_of S.remaining sol.old sol.new) (λ second.
         IsRunOf None claimed first second (sink_of W.contents out.old out.new) result)) }
@@ -71,30 +54,7 @@ pub fn run_compare_uncertified<I: Gives, R: Gives + Drop, E, S: Solutions<R> + F
     solutions: &S,
     out: &mut Watched<W>,
     to: &mut E,
-) -> Result<Compared, RunFault>
-    ensures text { TakesAtMost most_taken (turn_of I.remaining inst.old inst.new) (λ first.
-        IsCompareRun R.remaining R.gives (S.opens solutions.now) (S.names solutions.now) None first
-        (sink_of W.contents out.old out.new) result) }
-    ensures asked { IsReadOn I.gives inst.old inst.new }
-    ensures told { IsFollowed (S.tells solutions.now) (length (S.names solutions.now)) to.old to.new result }
-{
-    promised(run_compare_uncertified_with_cause(alloc, inst, solutions, out, to))
-}
-
-/// [`run_compare_uncertified`] with a cause where memory is refused.
-fn run_compare_uncertified_with_cause<
-    I: Gives,
-    R: Gives + Drop,
-    E,
-    S: Solutions<R> + Follow<E>,
-    W: Write,
->(
-    alloc: Global,
-    inst: &mut Watched<I>,
-    solutions: &S,
-    out: &mut Watched<W>,
-    to: &mut E,
-) -> Result<Compared, Early>
+) -> Result<Compared, RunError>
     ensures text { TakesAtMost most_taken (turn_of I.remaining inst.old inst.new) (λ first.
         IsCompareRun R.remaining R.gives (S.opens solutions.now) (S.names solutions.now) None first
         (sink_of W.contents out.old out.new) result) }

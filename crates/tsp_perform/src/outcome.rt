@@ -12,8 +12,8 @@ ghost use Rattle.tsp_perform.specs.Outcomes.{AreComparedOn, AreReadOn, IsCompare
 use std::alloc::Global;
 use std::io::Write;
 use tsp_judge::{
-    Bounded, Compared, Follow, Judged, RunFault, Solutions, Watched, run, run_bound, run_compare,
-    run_compare_uncertified, run_convert, run_show, run_uncertified,
+    Bounded, Compared, Follow, Judged, RunError, Solutions, Watched, convert_file, run, run_bound,
+    run_compare, run_compare_uncertified, run_uncertified, show_file,
 };
 use tsp_reason::Certificate;
 use tsp_stream::Gives;
@@ -51,13 +51,13 @@ pub fn perform<R: Gives, W: Write>(
     alloc: Global,
     task: &mut Task<Watched<R>>,
     out: &mut Watched<W>,
-) -> Result<Outcome, RunFault>
+) -> Result<Outcome, RunError>
     ensures done { IsDone R.remaining task.old task.new (sink_of W.contents out.old out.new) result }
     ensures asked { AreReadOn R.gives task.old task.new }
 {
     match task {
-        Task::Show { file } => done(run_show(alloc, file, out)),
-        Task::Convert { file, layout } => done(run_convert(alloc, file, *layout, out)),
+        Task::Show { file } => done(show_file(alloc, file, out)),
+        Task::Convert { file, layout } => done(convert_file(alloc, file, *layout, out)),
         Task::Check {
             instance,
             solution,
@@ -82,7 +82,7 @@ fn check<R: Gives, W: Write>(
     certificate: &mut Option<(Certificate, Watched<R>)>,
     claimed: Option<i64>,
     out: &mut Watched<W>,
-) -> Result<Judged, RunFault>
+) -> Result<Judged, RunError>
     ensures answer { TakesAtMost most_taken (turn_of R.remaining instance.old instance.new) (λ first.
         TakesAtMost most_taken (turn_of R.remaining solution.old solution.new) (λ second.
         TakesNamed R.remaining certificate.old certificate.new (λ given.
@@ -111,7 +111,7 @@ pub fn compare<R: Gives + Drop, E, S: Solutions<R> + Follow<E>, W: Write>(
     solutions: &S,
     out: &mut Watched<W>,
     to: &mut E,
-) -> Result<Compared, RunFault>
+) -> Result<Compared, RunError>
     ensures text { IsCompared R.remaining R.gives (S.opens solutions.now) (S.names solutions.now)
         comparison.old comparison.new (sink_of W.contents out.old out.new) result }
     ensures asked { AreComparedOn R.gives comparison.old comparison.new }
@@ -132,7 +132,7 @@ pub fn compare<R: Gives + Drop, E, S: Solutions<R> + Follow<E>, W: Write>(
 }
 
 /// A file was shown or converted.
-fn done(ended: Result<(), RunFault>) -> Result<Outcome, RunFault>
+fn done(ended: Result<(), RunError>) -> Result<Outcome, RunError>
     ensures { result ≡ outcome_of_writing ended }
 {
     ended?;
@@ -140,14 +140,14 @@ fn done(ended: Result<(), RunFault>) -> Result<Outcome, RunFault>
 }
 
 /// A solution was judged.
-fn judged(ended: Result<Judged, RunFault>) -> Result<Outcome, RunFault>
+fn judged(ended: Result<Judged, RunError>) -> Result<Outcome, RunError>
     ensures { result ≡ outcome_of_check ended }
 {
     Ok(Outcome::Judged(ended?))
 }
 
 /// Tours were bounded.
-fn bounded(ended: Result<Bounded, RunFault>) -> Result<Outcome, RunFault>
+fn bounded(ended: Result<Bounded, RunError>) -> Result<Outcome, RunError>
     ensures { result ≡ outcome_of_bound ended }
 {
     Ok(Outcome::Bounded(ended?))

@@ -12,7 +12,7 @@ use std::fmt::{Display, Formatter, Write as _};
 use std::io::Write;
 use std::{fmt, io};
 use tsp_cli::{JobFault, RequestFault};
-use tsp_judge::{Compared, RunFault, Status, WriteFault, status_of};
+use tsp_judge::{Compared, RunError, RunFault, Status, WriteFault, status_of};
 use tsp_perform::{Outcome, is_yes_outcome};
 
 /// How many bytes of a fault's line are written at once.
@@ -28,9 +28,9 @@ pub enum Ending {
     /// What they ask for can't be begun.
     NoRequest(RequestFault),
     /// A task was done, or ended with a fault.
-    Ended(Result<Outcome, RunFault>),
+    Ended(Result<Outcome, RunError>),
     /// Solutions were compared, or that ended with a fault.
-    Compared(Result<Compared, RunFault>),
+    Compared(Result<Compared, RunError>),
 }
 
 /// What goes to standard error.
@@ -85,7 +85,7 @@ pub fn status_of_ending(ending: &Ending) -> u8
         Ending::Printed(Err(fault)) => status_of(&Err(RunFault::Write(*fault))),
         Ending::Ended(Ok(outcome)) => status_of(&Ok(is_yes_outcome(outcome))),
         Ending::Compared(Ok(compared)) => compared.status,
-        Ending::Ended(Err(fault)) | Ending::Compared(Err(fault)) => status_of(&Err(*fault)),
+        Ending::Ended(Err(error)) | Ending::Compared(Err(error)) => status_of(&Err(error.fault())),
     }
 }
 
@@ -99,7 +99,9 @@ pub fn line_of(ending: &Ending) -> Option<Line<'_>>
         Ending::NoRequest(fault) => Some(Line::NoRequest(*fault)),
         Ending::Printed(Ok(())) | Ending::Ended(Ok(_)) | Ending::Compared(Ok(_)) => None,
         Ending::Printed(Err(fault)) => Some(Line::Fault(RunFault::Write(*fault))),
-        Ending::Ended(Err(fault)) | Ending::Compared(Err(fault)) => Some(Line::Fault(*fault)),
+        Ending::Ended(Err(error)) | Ending::Compared(Err(error)) => Some(Line::Fault(
+            error.fault(),
+        )),
     }
 }
 

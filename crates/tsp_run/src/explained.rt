@@ -94,15 +94,16 @@ pub(crate) fn explanation<F: Read + Drop, O: Open<F>>(
     let _ = match ending {
         Ending::Ended(Ok(outcome)) => explain_outcome(alloc, &mut text, &names, outcome),
         Ending::Compared(Ok(compared)) => explain_basis(alloc, &mut text, &names, &compared.common),
-        Ending::Ended(Err(fault)) | Ending::Compared(Err(fault)) => {
-            let again = match *fault {
+        Ending::Ended(Err(run_error)) | Ending::Compared(Err(run_error)) => {
+            let fault = run_error.fault();
+            let again = match fault {
                 RunFault::File { file, fault: _ } => asked.again(file),
                 RunFault::WrongKind
                 | RunFault::Write(_)
                 | RunFault::OutOfMemory
                 | RunFault::Relayout(_) => None,
             };
-            explain_fault(alloc, &mut text, &names, again, error, *fault)
+            explain_fault(alloc, &mut text, &names, again, error, fault)
         }
         Ending::NoJob(_) | Ending::Printed(_) | Ending::NoRequest(_) => Ok(()),
     };

@@ -15,10 +15,11 @@ use crate::bounded::{costs_of_tours, judge_bound};
 use crate::files::routing;
 use crate::loads::least_routes;
 use crate::routes::{FEWEST_NODES, the_depot};
-use std::alloc::{AllocError, Global};
+use std::alloc::Global;
 use tsp_cost::{Costs, Instance};
 use tsp_file::File;
 use tsp_format::Kind;
+use tsp_memory::Refused;
 use tsp_reason::{Basis, BoundVerdict, Certificate, Reason};
 
 /// What is known of all solutions of an instance, before any is read.
@@ -39,7 +40,7 @@ pub fn judge_basis(
     alloc: Global,
     instance: &Instance,
     certificate: Option<(Certificate, &File)>,
-) -> Result<Basis, AllocError>
+) -> Result<Basis, Refused>
     requires { IsTrue
         (is_judged (option_map (λ given. (given.0, given.1.now)) certificate) instance.now.kind) }
     ensures { MatchResult result (λ basis. IsBasis (option_map (λ given. (given.0, given.1.now))

@@ -13,7 +13,7 @@ use crate::certified::bound_of;
 use crate::routes::depot_of_routes;
 use crate::tour::{FEWEST_NODES, TourCosts, tour_costs};
 use crate::walks::bound_of_walks;
-use std::alloc::{AllocError, Global};
+use std::alloc::Global;
 use tsp_cost::{Costs, Instance};
 use tsp_file::File;
 use tsp_format::Kind;
@@ -42,7 +42,7 @@ pub fn judge_bound(
     by: Certificate,
     instance: &Instance,
     certificate: &File,
-) -> Result<BoundVerdict, AllocError>
+) -> Result<BoundVerdict, Refused>
     requires { IsTrue (is_bounded by instance.now.kind) }
     ensures { MatchResult result
         (λ found. IsBoundVerdict by instance.now certificate.now found)
@@ -50,8 +50,8 @@ pub fn judge_bound(
         × NoneWithoutMemory by instance.now certificate.now) }
 {
     match instance.kind() {
-        Kind::Cvrp => Ok(routes_bound(alloc, instance, certificate)?),
-        _ => Ok(tours_bound(alloc, by, instance, certificate)?),
+        Kind::Cvrp => routes_bound(alloc, instance, certificate),
+        _ => tours_bound(alloc, by, instance, certificate),
     }
 }
 

@@ -9,9 +9,10 @@ ghost use Rattle.tsp_verdict.specs.SolutionVerdict.{is_judged, NoneBeforeRepeats
 
 use crate::source::Given;
 use crate::subject::Subject;
-use std::alloc::{AllocError, Global};
+use std::alloc::Global;
 use tsp_cost::Instance;
 use tsp_file::File;
+use tsp_memory::Refused;
 use tsp_reason::{Basis, Certificate, Verdict};
 
 /// The verdict on a solution of an instance: on a tour, or for TYPE CVRP on routes.
@@ -33,7 +34,7 @@ pub fn judge(
     solution: &File,
     certificate: Option<(Certificate, &File)>,
     claimed: Option<i64>,
-) -> Result<Verdict, AllocError>
+) -> Result<Verdict, Refused>
     requires { IsTrue
         (is_judged (option_map (λ given. (given.0, given.1.now)) certificate) instance.now.kind) }
     ensures { MatchResult result (λ verdict. IsVerdictWith
@@ -64,7 +65,7 @@ pub fn judge_next(
     basis: Basis,
     solution: &File,
     claimed: Option<i64>,
-) -> Result<Verdict, AllocError>
+) -> Result<Verdict, Refused>
     requires { (given : Option (Certificate × Fields)) × IsBasis given instance.now basis }
     ensures { MatchResult result
         (λ verdict. IsVerdictFrom basis claimed instance.now solution.now verdict)

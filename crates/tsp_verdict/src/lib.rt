@@ -11,6 +11,7 @@
 //! ```
 #![tactic(auto)]
 
+mod asked_verdicts;
 mod basis;
 mod bounded;
 mod certificate;
@@ -28,7 +29,6 @@ mod multiplied;
 mod one_verdict;
 mod pairs;
 mod places;
-mod promised;
 mod routes;
 mod source;
 mod subject;
@@ -38,6 +38,7 @@ mod verdict_examples;
 mod visits;
 mod walks;
 
+pub use asked_verdicts::{judge_routes, judge_tour, judge_tour_bound, judge_tour_branches};
 pub use basis::{basis_alone, basis_of, judge_basis};
 pub use bounded::judge_bound;
 pub use certified::is_bounded;
@@ -52,7 +53,6 @@ pub use examples::{
 };
 pub use judged::{judge, judge_next};
 pub use one_verdict::files_have_one_verdict;
-pub use promised::{judge_routes, judge_tour, judge_tour_bound, judge_tour_branches};
 pub use tsp_reason::{Basis, BoundVerdict, Certificate, Reason, Verdict};
 pub use verdict_examples::{
     examples_against_routing, examples_of_accepted, examples_of_bounds, examples_of_depots,

@@ -8,7 +8,7 @@ use crate::files::solution_tours;
 use crate::routes::verdict_on_routes;
 use crate::source::{Given, Source, verdict_by, verdict_with};
 use crate::tour::length_after_files;
-use std::alloc::{AllocError, Global};
+use std::alloc::Global;
 use tsp_cost::{Costs, Instance};
 use tsp_file::File;
 use tsp_format::Kind;
@@ -48,7 +48,7 @@ impl<'a> Subject<'a> {
         alloc: Global,
         solution: &File,
         claimed: Option<i64>,
-    ) -> Result<Verdict, AllocError>
+    ) -> Result<Verdict, Refused>
         requires { IsSubject self.now.instance.now self.now.given }
         ensures { MatchResult result
             (λ verdict. IsVerdictGiven self.now.given claimed self.now.instance.now solution.now verdict)
@@ -56,7 +56,7 @@ impl<'a> Subject<'a> {
     {
         match self.instance.kind() {
             Kind::Cvrp => self.verdict_on_plan(alloc, solution, claimed),
-            _ => Ok(self.verdict_on_tour(alloc, solution, claimed)?),
+            _ => self.verdict_on_tour(alloc, solution, claimed),
         }
     }
 
@@ -66,7 +66,7 @@ impl<'a> Subject<'a> {
         alloc: Global,
         solution: &File,
         claimed: Option<i64>,
-    ) -> Result<Verdict, AllocError>
+    ) -> Result<Verdict, Refused>
         requires sound { IsSubject self.now.instance.now self.now.given }
         requires kind { self.now.instance.now.kind ≡ Some kinds.Cvrp }
         ensures { MatchResult result
@@ -85,7 +85,7 @@ impl<'a> Subject<'a> {
     }
 
     /// What is known of all solutions, or is now found.
-    fn basis_of_all(&self, alloc: Global) -> Result<Basis, AllocError>
+    fn basis_of_all(&self, alloc: Global) -> Result<Basis, Refused>
         requires sound { IsSubject self.now.instance.now self.now.given }
         ensures { IfOk result (λ basis. IsBasisGiven self.now.given self.now.instance.now basis) }
     {

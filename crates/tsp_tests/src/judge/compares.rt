@@ -94,7 +94,7 @@ fn compared(alloc: Global, writer: Drip) -> (Result<u8, RunFault>, Counts, Drip)
     );
     let status = match ended {
         Ok(compared) => Ok(compared.status),
-        Err(fault) => Err(fault),
+        Err(error) => Err(error.fault()),
     };
     (status, counts, out.into_inner())
 }

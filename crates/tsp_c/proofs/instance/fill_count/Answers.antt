@@ -4,7 +4,7 @@ use Rattle.tsp_c.proofs.Counted.{some_count}
 use Rattle.tsp_c.proofs.instance.fill_count.Goals as goal
 
 pub returns-in-Err : goal.returns-in-Err
-returns-in-Err c = inr (c.in-Err.early, c.in-Err.ensures, (c.of_fault.ensures, refl))
+returns-in-Err c = inr (c.in-Err.error, c.in-Err.ensures, (c.of_fault.ensures, refl))
 
 -- plan: by whether the text is an instance (`some_count`)
 pub returns-in-Ok : goal.returns-in-Ok

@@ -13,12 +13,12 @@ use Rattle.tsp_c.proofs.opened.check_opened.Goals as goal
 
 -- plan: by how the check ends: a fault (`fault_as_texts`, `fault_told`), or a verdict (`reported_as_texts`, `reported_told`)
 pub returns-in-Err-clause-texts : goal.returns-in-Err-clause-texts
-returns-in-Err-clause-texts c = fault_as_texts c.args.opened.now c.args.claimed c.args.solution.now c.in-Err.early []
+returns-in-Err-clause-texts c = fault_as_texts c.args.opened.now c.args.claimed c.args.solution.now c.in-Err.error []
     c.ended-answer.result.0 c.ended-answer.result.1 c.in-Err.ensures c.ended-answer.ensures
 
 pub returns-in-Err-clause-numbers : goal.returns-in-Err-clause-numbers
-returns-in-Err-clause-numbers c = fault_told c.args.opened.now c.args.claimed c.args.solution.now c.in-Err.early []
-    c.ended-answer.result.0 c.ended-answer.result.1 c.of_early.result c.numbers-told.result c.in-Err.ensures c.of_early.ensures
+returns-in-Err-clause-numbers c = fault_told c.args.opened.now c.args.claimed c.args.solution.now c.in-Err.error []
+    c.ended-answer.result.0 c.ended-answer.result.1 c.of_error.result c.numbers-told.result c.in-Err.ensures c.of_error.ensures
     c.numbers-told.ensures.kept c.numbers-told.ensures.none c.ended-answer.ensures
 
 pub returns-in-Ok-clause-texts : goal.returns-in-Ok-clause-texts

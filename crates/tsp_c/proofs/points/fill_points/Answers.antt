@@ -7,7 +7,7 @@ use Rattle.tsp_c.proofs.points.fill_points.Goals as goal
 pub returns-in-Err : goal.returns-in-Err
 returns-in-Err c =
     let section : IsSection c.args.section = search rules in
-    inr (inl (section, (c.in-Err.early, c.in-Err.ensures, (c.of_fault.ensures, refl))))
+    inr (inl (section, (c.in-Err.error, c.in-Err.ensures, (c.of_fault.ensures, refl))))
 
 pub returns-in-Ok : goal.returns-in-Ok
 returns-in-Ok c =

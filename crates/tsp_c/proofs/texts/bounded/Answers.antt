@@ -10,15 +10,15 @@ use Rattle.tsp_c.proofs.texts.bounded.Goals as goal
 
 -- plan: the run is over readers of the texts (`sized_bound_run`), so its end is the call's (`tells_bound`, `bounds_texts`)
 pub of_bound_run-numbers-requires : goal.of_bound_run-numbers-requires
-of_bound_run-numbers-requires c = let first = c.run_bound_with_cause-found.ensures.answer in let second = first.2 in
-    let one : Turn = turn_of (λ s. Some s.now) c.new-first.result c.run_bound_with_cause-found.new.inst first.0 in
-    let two : Turn = turn_of (λ s. Some s.now) c.new-second.result c.run_bound_with_cause-found.new.cert second.0 in
-    let sink : Sink = sink_of (λ v. Some v.items) c.new-report.result c.run_bound_with_cause-found.new.out in
-    sized_bound_run c.args.by one two sink c.run_bound_with_cause-found.result second.2.0
+of_bound_run-numbers-requires c = let first = c.run_bound-found.ensures.answer in let second = first.2 in
+    let one : Turn = turn_of (λ s. Some s.now) c.new-first.result c.run_bound-found.new.inst first.0 in
+    let two : Turn = turn_of (λ s. Some s.now) c.new-second.result c.run_bound-found.new.cert second.0 in
+    let sink : Sink = sink_of (λ v. Some v.items) c.new-report.result c.run_bound-found.new.out in
+    sized_bound_run c.args.by one two sink c.run_bound-found.result second.2.0
 
 pub returns-clause-texts : goal.returns-clause-texts
-returns-clause-texts c = let first = c.run_bound_with_cause-found.ensures.answer in let second = first.2 in
-    bounds_texts c.args.by _ _ _ c.run_bound_with_cause-found.result _ _ _ _ _
+returns-clause-texts c = let first = c.run_bound-found.ensures.answer in let second = first.2 in
+    bounds_texts c.args.by _ _ _ c.run_bound-found.result _ _ _ _ _
     (record {
       first_is = ap (λ s. Some s.now) c.new-first.ensures.inner;
       second_is = ap (λ s. Some s.now) c.new-second.ensures.inner;
@@ -27,11 +27,11 @@ returns-clause-texts c = let first = c.run_bound_with_cause-found.ensures.answer
     second.2 (rw c.bound_answer.ensures at c.ended-answer.ensures)
 
 pub returns-clause-numbers : goal.returns-clause-numbers
-returns-clause-numbers c = let first = c.run_bound_with_cause-found.ensures.answer in let second = first.2 in
-    let one : Turn = turn_of (λ s. Some s.now) c.new-first.result c.run_bound_with_cause-found.new.inst first.0 in
-    let two : Turn = turn_of (λ s. Some s.now) c.new-second.result c.run_bound_with_cause-found.new.cert second.0 in
-    let sink : Sink = sink_of (λ v. Some v.items) c.new-report.result c.run_bound_with_cause-found.new.out in
-    tells_bound c.args.by one two sink c.run_bound_with_cause-found.result _ _ _ _ _ _ _
+returns-clause-numbers c = let first = c.run_bound-found.ensures.answer in let second = first.2 in
+    let one : Turn = turn_of (λ s. Some s.now) c.new-first.result c.run_bound-found.new.inst first.0 in
+    let two : Turn = turn_of (λ s. Some s.now) c.new-second.result c.run_bound-found.new.cert second.0 in
+    let sink : Sink = sink_of (λ v. Some v.items) c.new-report.result c.run_bound-found.new.out in
+    tells_bound c.args.by one two sink c.run_bound-found.result _ _ _ _ _ _ _
     (record {
       first_is = ap (λ s. Some s.now) c.new-first.ensures.inner;
       second_is = ap (λ s. Some s.now) c.new-second.ensures.inner;

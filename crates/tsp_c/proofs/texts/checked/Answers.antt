@@ -8,11 +8,11 @@ use Rattle.tsp_c.proofs.texts.checked.Goals as goal
 
 -- plan: the run is over readers of the texts (`sized_run`), so its end is the call's (`tells_texts`, `checks`)
 pub of_run-numbers-requires : goal.of_run-numbers-requires
-of_run-numbers-requires c = let first = c.run_with_cause-judged.ensures.answer in let second = first.2 in let third = second.2 in let says = third.2 in
-    sized_run _ c.args.claimed _ _ (sink_of (λ v. Some v.items) c.new-report.result c.run_with_cause-judged.new.out) c.run_with_cause-judged.result c.verdicts_mean_reports.ensures.sized says.1.0
+of_run-numbers-requires c = let first = c.run-judged.ensures.answer in let second = first.2 in let third = second.2 in let says = third.2 in
+    sized_run _ c.args.claimed _ _ (sink_of (λ v. Some v.items) c.new-report.result c.run-judged.new.out) c.run-judged.result c.verdicts_mean_reports.ensures.sized says.1.0
 
 pub returns-clause-texts : goal.returns-clause-texts
-returns-clause-texts c = let first = c.run_with_cause-judged.ensures.answer in let second = first.2 in let third = second.2 in let says = third.2 in
+returns-clause-texts c = let first = c.run-judged.ensures.answer in let second = first.2 in let third = second.2 in let says = third.2 in
     checks c.args.by c.args.claimed _ _ _ _ _ _ _ _ _ _ _
     (record {
       first_is = ap (λ s. Some s.now) c.new-first.ensures.inner;
@@ -23,8 +23,8 @@ returns-clause-texts c = let first = c.run_with_cause-judged.ensures.answer in l
     says.1.1 (rw c.told.ensures at c.ended-answer.ensures)
 
 pub returns-clause-numbers : goal.returns-clause-numbers
-returns-clause-numbers c = let first = c.run_with_cause-judged.ensures.answer in let second = first.2 in let third = second.2 in let says = third.2 in
-    tells_texts c.args.by c.args.claimed _ _ _ (sink_of (λ v. Some v.items) c.new-report.result c.run_with_cause-judged.new.out) c.run_with_cause-judged.result _ _ _ _ _ _ _ _
+returns-clause-numbers c = let first = c.run-judged.ensures.answer in let second = first.2 in let third = second.2 in let says = third.2 in
+    tells_texts c.args.by c.args.claimed _ _ _ (sink_of (λ v. Some v.items) c.new-report.result c.run-judged.new.out) c.run-judged.result _ _ _ _ _ _ _ _
     (record {
       first_is = ap (λ s. Some s.now) c.new-first.ensures.inner;
       second_is = ap (λ s. Some s.now) c.new-second.ensures.inner;

@@ -6,7 +6,7 @@ use Rattle.tsp_c.proofs.texts.converted.Goals as goal
 
 -- plan: the run is over a reader of the text, so its end is the call's (`converts`)
 pub returns : goal.returns
-returns c = let run = c.run_convert_with_cause.ensures.answer in
-    converts _ _ _ c.run_convert_with_cause.result _ _ _ _ (ap (λ s. Some s.now) c.new-reader.ensures.inner)
+returns c = let run = c.convert_file.ensures.answer in
+    converts _ _ _ c.convert_file.result _ _ _ _ (ap (λ s. Some s.now) c.new-reader.ensures.inner)
     (record { held = ap (λ v. Some v.items) c.new-report.ensures.inner ∙ ap Some c.new.ensures.items; holds = refl }) run.2
     (rw c.done-answer.ensures at c.ended.ensures)

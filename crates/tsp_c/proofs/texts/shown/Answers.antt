@@ -10,9 +10,9 @@ use Rattle.tsp_c.proofs.texts.shown.Goals as goal
 -- plan: the run is over a reader of the text, so its end is the call's (`shows`)
 pub returns : goal.returns
 returns c =
-    let run = c.run_show_with_cause.ensures.answer in
-    let turn : Turn = turn_of (λ s. Some s.now) c.new-reader.result c.run_show_with_cause.new.r run.0 in
-    let sink : Sink = sink_of (λ v. Some v.items) c.new-report.result c.run_show_with_cause.new.out in
-    shows turn sink c.run_show_with_cause.result _ _ _ _ run.2 (ap (λ s. Some s.now) c.new-reader.ensures.inner)
+    let run = c.show_file.ensures.answer in
+    let turn : Turn = turn_of (λ s. Some s.now) c.new-reader.result c.show_file.new.r run.0 in
+    let sink : Sink = sink_of (λ v. Some v.items) c.new-report.result c.show_file.new.out in
+    shows turn sink c.show_file.result _ _ _ _ run.2 (ap (λ s. Some s.now) c.new-reader.ensures.inner)
     (record { held = ap (λ v. Some v.items) c.new-report.ensures.inner ∙ ap Some c.new.ensures.items; holds = refl })
     (rw c.done-answer.ensures at c.ended.ensures)

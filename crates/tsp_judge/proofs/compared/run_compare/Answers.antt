@@ -1,8 +1,64 @@
 -- The goals of `run_compare` in src/compared.rt: what it ensures.
+use Rattle.std.proofs.Common.{◌≡◌, Err, [], arith, refl}
+use Rattle.std.proofs.KnownBytes.{Keeps-refl}
+use Rattle.tsp_stream.specs.states.Watched.{turn_of}
+use Rattle.tsp_read.proofs.Asking.{read_none}
+use Rattle.tsp_judge.proofs.HandedOn.{handed_on}
+use Rattle.tsp_judge.proofs.Runs.{none_taken, unread_in}
+use Rattle.tsp_judge.proofs.Comparing.{compare_first_stops, compare_second_stops}
 use Rattle.tsp_judge.proofs.compared.run_compare.Goals as goal
 
-pub returns-clause-text : goal.returns-clause-text
-returns-clause-text g c = rw c.promised.ensures c.run_compare_with_cause.ensures.text
+-- plan: by the first file that is none (`compare_first_stops`, `compare_second_stops`); else both are files
+pub returns-in_err-instance-clause-text : goal.returns-in_err-instance-clause-text
+returns-in_err-instance-clause-text g c =
+    let same : c.from_residual.result ≡ Err c.in_err-instance.field-0.0 = handed_on _ _ c.from_residual.ensures.1 in
+    let one = c.in_err-instance.ensures.answer in
+    rw same (
+      one.0,
+      one.1,
+      (
+        [],
+        none_taken,
+        (
+          λ none. (Keeps-refl _, refl),
+          compare_first_stops _ _ _ (turn_of g.I.Read.remaining c.args.inst.now c.read_file.new.reader one.0) _ _ one.2
+              (unread_in c.args.by _ (Keeps-refl _, refl)) (Keeps-refl _, refl),
+        ),
+      ),
+    )
 
-pub returns-clause-told : goal.returns-clause-told
-returns-clause-told g c = rw c.promised.ensures c.run_compare_with_cause.ensures.told
+pub returns-in_err-certificate-clause-text : goal.returns-in_err-certificate-clause-text
+returns-in_err-certificate-clause-text g c =
+    let same : c.from_residual-in_err-certificate.result ≡ Err c.in_err-certificate.field-0.0 = handed_on _ _ c.from_residual-in_err-certificate.ensures.1 in
+    let one = c.in_ok-instance.ensures.answer in
+    let two = c.in_err-certificate.ensures.answer in
+    rw same (
+      one.0,
+      one.1,
+      (two.0, two.1, (two.2.0, compare_second_stops _ _ _ _ c.in_ok-instance.instance _ _ one.2 two.2.1 (Keeps-refl _, refl))),
+    )
+
+pub returns-clause-text : goal.returns-clause-text
+returns-clause-text g c =
+    let one = c.in_ok-instance.ensures.answer in
+    let two = c.in_ok-certificate.ensures.answer in
+    (one.0, one.1, (two.0, two.1, (two.2.0, c.compare_read.ensures.text _ _ one.2 two.2.1)))
+
+pub returns-in_err-instance-clause-told : goal.returns-in_err-instance-clause-told
+returns-in_err-instance-clause-told g c =
+    let same : c.from_residual.result ≡ Err c.in_err-instance.field-0.0 = handed_on _ _ c.from_residual.ensures.1 in
+    rw same (0, omega arith, refl)
+
+pub returns-in_err-certificate-clause-told : goal.returns-in_err-certificate-clause-told
+returns-in_err-certificate-clause-told g c =
+    let same : c.from_residual-in_err-certificate.result ≡ Err c.in_err-certificate.field-0.0 = handed_on _ _ c.from_residual-in_err-certificate.ensures.1 in
+    rw same (0, omega arith, refl)
+
+pub returns-in_err-instance-clause-asked : goal.returns-in_err-instance-clause-asked
+returns-in_err-instance-clause-asked g c = (c.in_err-instance.ensures.asked, read_none g.C.Gives.gives c.args.cert.now)
+
+pub returns-in_err-certificate-clause-asked : goal.returns-in_err-certificate-clause-asked
+returns-in_err-certificate-clause-asked g c = (c.in_ok-instance.ensures.asked, c.in_err-certificate.ensures.asked)
+
+pub returns-clause-asked : goal.returns-clause-asked
+returns-clause-asked g c = (c.in_ok-instance.ensures.asked, c.in_ok-certificate.ensures.asked)

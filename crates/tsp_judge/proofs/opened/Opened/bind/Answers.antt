@@ -23,7 +23,7 @@ returns-in_err-file c =
 pub returns-in-Err : goal.returns-in-Err
 returns-in-Err c =
     let bounded : IsTrue (is_bounded c.args.by c.self.inside.instance.kind) = search rules in
-    rw c.undecided.ensures (
+    rw c.refused.ensures (
       refl,
       subst (λ (o : Open). IsUnbound c.args.by c.args.text.now o OutOfMemory) c.self.view_is
           (c.in_ok-file.file, c.in_ok-file.ensures, bounded, c.in-Err.ensures.0, c.in-Err.ensures.1),

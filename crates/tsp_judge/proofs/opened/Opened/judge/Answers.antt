@@ -5,8 +5,8 @@ use Rattle.tsp_judge.proofs.HandedOn.{handed_on}
 use Rattle.tsp_judge.proofs.Openings.{not_judged}
 use Rattle.tsp_judge.proofs.opened.Opened.judge.Goals as goal
 
-pub next_verdict-requires : goal.next_verdict-requires
-next_verdict-requires c = (c.self.inside.certificate, c.self.invariant.1)
+pub judge_next-requires : goal.judge_next-requires
+judge_next-requires c = (c.self.inside.certificate, c.self.invariant.1)
 
 pub returns-in_err-solution : goal.returns-in_err-solution
 returns-in_err-solution c =

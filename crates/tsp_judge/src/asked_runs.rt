@@ -1,19 +1,28 @@
-//! The checks of an instance and a solution: without a certificate, with potentials, and with a
-//! tree of cases.
+//! The checks of an instance and a solution, without a certificate, with potentials, and with a
+//! tree of cases; showing and converting a file. Each call is one of a run, whose fault it returns
+//! without the token of a refusal.
 
+ghost use Rattle.std.specs.Prelude.{◌≡◌};
 ghost use Rattle.tsp_stream.specs.states.Watched.{sink_of, turn_of};
 ghost use Rattle.tsp_stream.specs.Turn.{TakesAtMost};
 ghost use Rattle.tsp_read.specs.Asked.{IsReadOn};
 ghost use Rattle.tsp_read.specs.Reads.{most_taken};
 ghost use Rattle.tsp_reason.specs.declared.certificate.Certificate.TheVariants as certificates;
+ghost use Rattle.tsp_judge.specs.CheckRun.{told};
+ghost use Rattle.tsp_judge.specs.ConvertRun.{IsConvertRun};
+ghost use Rattle.tsp_judge.specs.ShowRun.{IsShowRun};
 ghost use Rattle.tsp_judge.specs.Yes.{IsCheck, IsCheckBy};
 
 use crate::checked::run;
+use crate::convert::convert_file;
 use crate::fault::RunFault;
-use crate::judging::told;
+use crate::judging::Judged;
+use crate::run_error::RunError;
+use crate::show::show_file;
 use crate::uncertified::run_uncertified;
 use std::alloc::Global;
 use std::io::Write;
+use tsp_format::Layout;
 use tsp_stream::{Gives, Watched};
 use tsp_verdict::Certificate;
 
@@ -118,4 +127,61 @@ pub fn run_branch_check<I: Gives, S: Gives, B: Gives, W: Write>(
 {
     let by = Some(Certificate::Branches);
     told(run(alloc, inst, sol, by, tree, None, out))
+}
+
+/// Writes what a file is: its name, its TYPE and number of nodes, of an instance the weight type,
+/// the length of the list 1, 2, .., n and the number of fixed pairs, of tours how many nodes each
+/// has, of potentials their scale, of a tree of cases its scale and how many combs and leaves it
+/// has, and the unknown keywords.
+///
+/// The file is read whole before anything is written, and writing takes no memory.
+///
+/// # Errors
+///
+/// `File` where the bytes are no file, or can't be read; `Write` where the writer fails. Nothing
+/// is written but at `Write`. At most 4,096 bytes past `MOST_FILE_BYTES` are read.
+pub fn run_show<R: Gives, W: Write>(
+    alloc: Global,
+    r: &mut Watched<R>,
+    out: &mut Watched<W>,
+) -> Result<(), RunFault>
+    ensures answer { TakesAtMost most_taken (turn_of R.remaining r.old r.new) (λ turn.
+        IsShowRun turn (sink_of W.contents out.old out.new) result) }
+    ensures asked { IsReadOn R.gives r.old r.new }
+{
+    Ok(show_file(alloc, r, out)?)
+}
+
+/// Writes the canonical text of a file, with its weights in the layout `to` where one is given.
+///
+/// The file is read whole, and the weights are in their layout, before anything is written. The
+/// text isn't held in memory as a whole.
+///
+/// # Errors
+///
+/// `File` where the bytes are no file, or can't be read; `Relayout` where the weights can't
+/// go into the layout, or there is no memory for that; `Write` where the writer fails.
+/// `OutOfMemory` is never returned. Nothing is written but at `Write`. At most 4,096 bytes past
+/// `MOST_FILE_BYTES` are read.
+pub fn run_convert<R: Gives, W: Write>(
+    alloc: Global,
+    r: &mut Watched<R>,
+    to: Option<Layout>,
+    out: &mut Watched<W>,
+) -> Result<(), RunFault>
+    ensures answer { TakesAtMost most_taken (turn_of R.remaining r.old r.new) (λ turn.
+        IsConvertRun to turn (sink_of W.contents out.old out.new) result) }
+    ensures asked { IsReadOn R.gives r.old r.new }
+{
+    Ok(convert_file(alloc, r, to, out)?)
+}
+
+/// Whether the solution is accepted, where there is a verdict.
+fn told(ended: Result<Judged, RunError>) -> Result<bool, RunFault>
+    ensures { result ≡ told ended }
+{
+    let judged = ended?;
+    let answer = judged.verdict.is_yes();
+    drop(judged);
+    Ok(answer)
 }

@@ -1,4 +1,5 @@
-//! The verdict by the calls that were promised, each a case of the general one.
+//! The verdict on a tour, and on routes: each call is a case of the general one, whose refusal it
+//! returns as std's `AllocError`.
 
 ghost use Rattle.std.specs.Prelude.{◌≡◌, ◌⊎◌, Some, MatchResult};
 ghost use Rattle.tsp_format.specs.declared.kinds.Kind.TheVariants as kinds;
@@ -34,7 +35,7 @@ pub fn judge_tour(alloc: Global, inst: &Instance, sol: &File) -> Result<Verdict,
         (λ verdict. IsTourVerdict inst.now sol.now verdict)
         (λ refused. NoneOfTourBeforeRepeats inst.now sol.now) }
 {
-    judge(alloc, inst, sol, None, None)
+    Ok(judge(alloc, inst, sol, None, None)?)
 }
 
 /// The verdict on a solution of an instance of TYPE CVRP: rejected with the first reason against
@@ -59,7 +60,7 @@ pub fn judge_routes(alloc: Global, inst: &Instance, sol: &File) -> Result<Verdic
         (λ verdict. IsRoutesVerdict inst.now sol.now verdict)
         (λ refused. NoneOfRoutesBeforeRepeats inst.now sol.now) }
 {
-    judge(alloc, inst, sol, None, None)
+    Ok(judge(alloc, inst, sol, None, None)?)
 }
 
 /// The verdict on a solution of an instance of TYPE TSP or ATSP with a file of potentials: rejected
@@ -88,7 +89,8 @@ pub fn judge_tour_bound(
         (λ verdict. IsCertifiedVerdict certificates.Potentials inst.now sol.now pot.now verdict)
         (λ refused. NoneOfTourBeforeRepeats inst.now sol.now) }
 {
-    judge(alloc, inst, sol, Some((Certificate::Potentials, pot)), None)
+    let by = Some((Certificate::Potentials, pot));
+    Ok(judge(alloc, inst, sol, by, None)?)
 }
 
 /// The verdict on a solution of an instance of TYPE TSP or ATSP with a file of branches, as of
@@ -119,5 +121,5 @@ pub fn judge_tour_branches(
         branches.now verdict) (λ refused. NoneOfTourBeforeRepeats instance.now solution.now) }
 {
     let by = Some((Certificate::Branches, branches));
-    judge(alloc, instance, solution, by, None)
+    Ok(judge(alloc, instance, solution, by, None)?)
 }

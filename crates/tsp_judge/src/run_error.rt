@@ -5,32 +5,32 @@ ghost use Rattle.tsp_text.specs.declared.fault.ReadFault.TheVariants as read_fau
 ghost use Rattle.tsp_judge.specs.declared.fault.RunFault.TheVariants.{File, WrongKind, Write, OutOfMemory, Relayout};
 
 use crate::fault::RunFault;
-use crate::undecided::Undecided;
 use std::marker::Model;
 use tsp_file::RelayoutFault;
+use tsp_memory::Refused;
 use tsp_read::Unread;
 use tsp_stream::WriteFault;
 
 /// Why a run ends early. Contracts see the fault.
 ///
-/// Out of memory has a cause: an [`Unread`] or an [`Undecided`], which only a call that was refused
+/// Out of memory has a cause: an [`Unread`] or a [`Refused`], which only a call that was refused
 /// memory makes.
 #[derive(Clone, Copy, Debug, Drop)]
-pub struct Early {
+pub struct RunError {
     ending: RunFault,
 }
 
-impl Model for Early {
+impl Model for RunError {
     ghost use Rattle.tsp_judge.specs.declared.fault.RunFault.{RunFault};
 
     ghost Value = { RunFault };
 
-    ghost view = { λ early. early.ending };
+    ghost view = { λ error. error.ending };
 
     ghost inverse = { λ fault. record { ending = fault } };
 }
 
-impl Early {
+impl RunError {
     /// Why the run ended, without the token of a refusal.
     pub fn fault(self) -> RunFault
         ensures { result ≡ self }
@@ -39,10 +39,10 @@ impl Early {
     }
 
     /// The file with this number wasn't read.
-    pub(crate) fn unread(file: u32, unread: Unread) -> Early
+    pub(crate) fn unread(file: u32, unread: Unread) -> RunError
         ensures { result ≡ File file unread }
     {
-        Early {
+        RunError {
             ending: RunFault::File {
                 file,
                 fault: unread.fault(),
@@ -51,58 +51,56 @@ impl Early {
     }
 
     /// Memory was refused to read a solution of a comparison.
-    pub(crate) fn unread_solution(_unread: Unread) -> Early
+    pub(crate) fn unread_solution(_unread: Unread) -> RunError
         requires { _unread ≡ read_faults.OutOfMemory }
         ensures { result ≡ OutOfMemory }
     {
-        Early {
+        RunError {
             ending: RunFault::OutOfMemory,
         }
     }
 
     /// Memory was refused for the judgement.
-    pub(crate) fn undecided(_undecided: Undecided) -> Early
+    pub(crate) fn refused(_refused: Refused) -> RunError
         ensures { result ≡ OutOfMemory }
     {
-        Early {
+        RunError {
             ending: RunFault::OutOfMemory,
         }
     }
 
     /// The files aren't judged so.
-    pub fn wrong_kind() -> Early
+    pub fn wrong_kind() -> RunError
         ensures { result ≡ WrongKind }
     {
-        Early {
+        RunError {
             ending: RunFault::WrongKind,
         }
     }
 
     /// The output wasn't written.
-    pub fn unwritten(fault: WriteFault) -> Early
+    pub fn unwritten(fault: WriteFault) -> RunError
         ensures { result ≡ Write fault }
     {
-        Early {
+        RunError {
             ending: RunFault::Write(fault),
         }
     }
 
     /// The weights don't go into the layout.
-    pub(crate) fn not_relaid(fault: RelayoutFault) -> Early
+    pub(crate) fn not_relaid(fault: RelayoutFault) -> RunError
         ensures { result ≡ Relayout fault }
     {
-        Early {
+        RunError {
             ending: RunFault::Relayout(fault),
         }
     }
 }
 
-/// What a run came to, as the promised calls return it.
-pub(crate) fn promised<T: Drop>(ended: Result<T, Early>) -> Result<T, RunFault>
-    ensures { result ≡ ended }
-{
-    match ended {
-        Ok(done) => Ok(done),
-        Err(early) => Err(early.fault()),
+impl From<RunError> for RunFault {
+    ghost from_gives = { λ error fault. fault ≡ error };
+
+    fn from(error: RunError) -> RunFault {
+        error.fault()
     }
 }

@@ -1,10 +1,10 @@
--- The goals of `run_show_with_cause` in src/show.rt: what it ensures.
+-- The goals of `show_file` in src/show.rt: what it ensures.
 use Rattle.std.proofs.Common.{◌≡◌, Err, refl}
 use Rattle.std.proofs.KnownBytes.{Keeps-refl}
 use Rattle.tsp_stream.specs.states.Watched.{turn_of, sink_of}
 use Rattle.tsp_judge.proofs.HandedOn.{handed_on}
 use Rattle.tsp_judge.proofs.Shows.{show_stopped, show_stops}
-use Rattle.tsp_judge.proofs.show.run_show_with_cause.Goals as goal
+use Rattle.tsp_judge.proofs.show.show_file.Goals as goal
 
 pub returns-in_err-file-clause-answer : goal.returns-in_err-file-clause-answer
 returns-in_err-file-clause-answer g c =

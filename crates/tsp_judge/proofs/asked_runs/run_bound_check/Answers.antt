@@ -1,7 +1,7 @@
--- The goals of `run_bound_check` in src/check.rt: what it ensures.
+-- The goals of `run_bound_check` in src/asked_runs.rt: what it ensures.
 use Rattle.std.proofs.Common.{sym, subst}
 use Rattle.tsp_judge.specs.Yes.{IsCheckBy}
-use Rattle.tsp_judge.proofs.check.run_bound_check.Goals as goal
+use Rattle.tsp_judge.proofs.asked_runs.run_bound_check.Goals as goal
 
 -- plan: both clauses are those of the run, told as true or false
 pub returns-clause-answer : goal.returns-clause-answer
