@@ -137,3 +137,19 @@ pub nowhere_low : (n depot : ℕ) (w : ℕ → ℕ → ℤ) (load : ℕ → ℕ)
     → IsLow n depot w load left node entry
 nowhere_low n depot w load left node entry more =
     entry_low n depot w load left node (λ next. entry) entry (λ le. absurd (more le)) (λ le. absurd (more le))
+
+-- ---- the two nodes that no walk goes on to from a node: itself and the depot
+
+-- another node than these is neither
+pub apart_from : (depot node first last next : ℕ) → ((first ≡ node) × (last ≡ depot)) ⊎ ((first ≡ depot) × (last ≡ node))
+    → next ≢ first → next ≢ last → (next ≢ depot) × (node ≢ next)
+apart_from depot node first last next (inl are) low high =
+    (λ same. high (same ∙ sym are.1), λ same. low (sym (are.0 ∙ same)))
+apart_from depot node first last next (inr are) low high =
+    (λ same. low (same ∙ sym are.0), λ same. high (sym (are.1 ∙ same)))
+
+-- neither of them is a next customer
+pub no_way : (n depot node first last : ℕ) → ((first ≡ node) × (last ≡ depot)) ⊎ ((first ≡ depot) × (last ≡ node))
+    → (IsCustomer n depot first → node ≢ first → ⊥) × (IsCustomer n depot last → node ≢ last → ⊥)
+no_way n depot node first last (inl are) = (λ customer other. other (sym are.0), λ customer other. customer.1 are.1)
+no_way n depot node first last (inr are) = (λ customer other. customer.1 are.0, λ customer other. other (sym are.1))

@@ -1,6 +1,6 @@
 //! The least weight of a walk.
 
-ghost use Rattle.std.specs.Prelude.{◌≡◌, ◌≢◌, ◌≤◌, ◌<◌, ◌+◌, ◌-◌, ◌*◌, ◌^◌, ℕ, ℤ, ◌∷◌, length, pos, neg_ℤ, ◌+ℤ◌, ◌≤ℤ◌, Some, IfOk, IfSome};
+ghost use Rattle.std.specs.Prelude.{◌≡◌, ◌≢◌, ◌⊎◌, ◌≤◌, ◌<◌, ◌+◌, ◌-◌, ◌*◌, ◌^◌, ℕ, ℤ, ◌∷◌, length, pos, neg_ℤ, ◌+ℤ◌, ◌≤ℤ◌, Some, IfOk, IfSome};
 ghost use Rattle.tsp_format.specs.Nodes.{IsNode};
 ghost use Rattle.tsp_format.specs.Limits.{most_nodes};
 ghost use Rattle.tsp_format.specs.Ranges.{IsFromTo};
@@ -9,7 +9,7 @@ ghost use Rattle.tsp_theory.specs.Routing.{IsCustomer};
 ghost use Rattle.tsp_theory.specs.states.Nearest.{least_at};
 ghost use Rattle.tsp_routing.specs.LeastOf.{IsLeastAmong};
 ghost use Rattle.tsp_routing.specs.Walks.{IsWalk, IsBelowWalks};
-ghost use Rattle.tsp_routing.specs.WalkTables.{IsLow, IsMet, IsReal, IsEntryBelowTo, IsEntryMetTo, IsStartMet, IsStartBelow};
+ghost use Rattle.tsp_routing.specs.WalkTables.{WalkEntry, IsLow, IsMet, IsReal, IsEntryBelowTo, IsEntryMetTo, IsStartMet, IsStartBelow};
 ghost use Rattle.tsp_routing.specs.Weights.{most_room};
 ghost use Rattle.tsp_routing.specs.states.Onwards.{load_at, AreLinks, onward_entry, entry_at, IsEntryNumber, IsEntrySized, IsRowSized, AreRowsSized, IsRowLow, AreRowsLow, IsRowMet, AreRowsMet};
 
@@ -140,7 +140,7 @@ fn best_entry<S: Sum, W: Weights>(
     known: &[Onward<S>],
     row: &[i64],
 ) -> Onward<S>
-    requires node { IsNode walks.now.nodes node }
+    requires node { IsCustomer walks.now.nodes walks.now.depot node }
     requires room { length row.now ≡ walks.now.nodes + 1 }
     requires links { (next : ℕ) → IsNode walks.now.nodes next
         → IsFromTo (neg_ℤ (pos S.link)) (pos S.link) (least_at row.now next) }
@@ -156,18 +156,116 @@ fn best_entry<S: Sum, W: Weights>(
     ensures size { (size : ℕ) → size + S.link < S.half → IsRowSized S.value S.half walks.now.nodes size known.now
         → IsEntrySized S.half (size + S.link) (onward_entry S.value result) }
 {
-    let mut best = Onward {
+    let back = only_back(walks, node, row);
+    if node < walks.depot {
+        return entry_around(walks, back, node, node, walks.depot, known, row);
+    }
+    entry_around(walks, back, node, walks.depot, node, known, row)
+}
+
+/// The entry with the way back to the depot alone.
+fn only_back<S: Sum, W: Weights>(walks: &Walks<W>, node: u32, row: &[i64]) -> Onward<S>
+    requires room { length row.now ≡ walks.now.nodes + 1 }
+    requires link { IsFromTo (neg_ℤ (pos S.link)) (pos S.link) (least_at row.now walks.now.depot) }
+    ensures below { (w : ℕ → ℕ → ℤ) (known : ℕ → WalkEntry) → least_at row.now walks.now.depot ≡ w node walks.now.depot
+        → IsEntryBelowTo walks.now.nodes walks.now.depot w known node 0 (onward_entry S.value result) }
+    ensures met { (w : ℕ → ℕ → ℤ) (known : ℕ → WalkEntry) → least_at row.now walks.now.depot ≡ w node walks.now.depot
+        → IsEntryMetTo S.half walks.now.nodes walks.now.depot w known node 0 (onward_entry S.value result) }
+    ensures size { (size : ℕ) → size + S.link < S.half → IsEntrySized S.half (size + S.link) (onward_entry S.value result) }
+    ensures order { S.value result.least ≤ℤ S.value result.other }
+{
+    Onward {
         least: S::of(weight_in(row, walks.depot)),
         next: walks.depot,
         other: S::none(),
-    };
-    'nodes: for index in 0..walks.nodes {
+    }
+}
+
+/// The entry with all next nodes but two, the lower one first: the node itself and the depot. So no
+/// loop has to look for them.
+fn entry_around<S: Sum, W: Weights>(
+    walks: &Walks<W>,
+    back: Onward<S>,
+    node: u32,
+    first: u32,
+    last: u32,
+    known: &[Onward<S>],
+    row: &[i64],
+) -> Onward<S>
+    requires first { IsNode walks.now.nodes first }
+    requires last { IsNode walks.now.nodes last }
+    requires apart { first < last }
+    requires are { ((first ≡ node) × (last ≡ walks.now.depot)) ⊎ ((first ≡ walks.now.depot) × (last ≡ node)) }
+    requires room { length row.now ≡ walks.now.nodes + 1 }
+    requires links { (next : ℕ) → IsNode walks.now.nodes next
+        → IsFromTo (neg_ℤ (pos S.link)) (pos S.link) (least_at row.now next) }
+    requires sizes { (size : ℕ) × (size + S.link < S.half) × IsRowSized S.value S.half walks.now.nodes size known.now }
+    requires order { S.value back.least ≤ℤ S.value back.other }
+    ensures below { (w : ℕ → ℕ → ℤ) (default : Onward S)
+        → ((next : ℕ) → IsNode walks.now.nodes next → least_at row.now next ≡ w node next)
+        → IsEntryBelowTo walks.now.nodes walks.now.depot w (entry_at S.value known.now default) node 0
+        (onward_entry S.value back)
+        → IsEntryBelowTo walks.now.nodes walks.now.depot w (entry_at S.value known.now default) node walks.now.nodes
+        (onward_entry S.value result) }
+    ensures met { (w : ℕ → ℕ → ℤ) (default : Onward S)
+        → ((next : ℕ) → IsNode walks.now.nodes next → least_at row.now next ≡ w node next)
+        → IsEntryMetTo S.half walks.now.nodes walks.now.depot w (entry_at S.value known.now default) node 0
+        (onward_entry S.value back)
+        → IsEntryMetTo S.half walks.now.nodes walks.now.depot w (entry_at S.value known.now default) node walks.now.nodes
+        (onward_entry S.value result) }
+    ensures size { (size : ℕ) → size + S.link < S.half → IsRowSized S.value S.half walks.now.nodes size known.now
+        → IsEntrySized S.half (size + S.link) (onward_entry S.value back)
+        → IsEntrySized S.half (size + S.link) (onward_entry S.value result) }
+{
+    let low = entry_with(walks, back, node, 0, first - 1, known, row);
+    let middle = entry_with(walks, low, node, first, last - 1, known, row);
+    entry_with(walks, middle, node, last, walks.nodes, known, row)
+}
+
+/// The entry with the next nodes after one and up to another, which are other customers.
+#[inline]
+fn entry_with<S: Sum, W: Weights>(
+    walks: &Walks<W>,
+    begun: Onward<S>,
+    node: u32,
+    after: u32,
+    to: u32,
+    known: &[Onward<S>],
+    row: &[i64],
+) -> Onward<S>
+    requires after { after ≤ to }
+    requires to { to ≤ walks.now.nodes }
+    requires others { (next : ℕ) → after < next → next ≤ to → (next ≢ walks.now.depot) × (node ≢ next) }
+    requires room { length row.now ≡ walks.now.nodes + 1 }
+    requires links { (next : ℕ) → IsNode walks.now.nodes next
+        → IsFromTo (neg_ℤ (pos S.link)) (pos S.link) (least_at row.now next) }
+    requires sizes { (size : ℕ) × (size + S.link < S.half) × IsRowSized S.value S.half walks.now.nodes size known.now }
+    requires order { S.value begun.least ≤ℤ S.value begun.other }
+    ensures below { (w : ℕ → ℕ → ℤ) (default : Onward S)
+        → ((next : ℕ) → IsNode walks.now.nodes next → least_at row.now next ≡ w node next)
+        → IsEntryBelowTo walks.now.nodes walks.now.depot w (entry_at S.value known.now default) node after
+        (onward_entry S.value begun)
+        → IsEntryBelowTo walks.now.nodes walks.now.depot w (entry_at S.value known.now default) node to
+        (onward_entry S.value result) }
+    ensures met { (w : ℕ → ℕ → ℤ) (default : Onward S)
+        → ((next : ℕ) → IsNode walks.now.nodes next → least_at row.now next ≡ w node next)
+        → IsEntryMetTo S.half walks.now.nodes walks.now.depot w (entry_at S.value known.now default) node after
+        (onward_entry S.value begun)
+        → IsEntryMetTo S.half walks.now.nodes walks.now.depot w (entry_at S.value known.now default) node to
+        (onward_entry S.value result) }
+    ensures size { (size : ℕ) → size + S.link < S.half → IsRowSized S.value S.half walks.now.nodes size known.now
+        → IsEntrySized S.half (size + S.link) (onward_entry S.value begun)
+        → IsEntrySized S.half (size + S.link) (onward_entry S.value result) }
+    ensures order { S.value result.least ≤ℤ S.value result.other }
+{
+    let mut best = begun;
+    'nodes: for index in after..to {
         best = entry_by(walks, best, node, index + 1, known, row);
     }
     best
 }
 
-/// The entry with one next node more.
+/// The entry with one next node more, another customer.
 #[inline]
 fn entry_by<S: Sum, W: Weights>(
     walks: &Walks<W>,
@@ -177,10 +275,12 @@ fn entry_by<S: Sum, W: Weights>(
     known: &[Onward<S>],
     row: &[i64],
 ) -> Onward<S>
-    requires next { IsNode walks.now.nodes next }
+    requires next { IsCustomer walks.now.nodes walks.now.depot next }
+    requires other { node ≢ next }
     requires room { length row.now ≡ walks.now.nodes + 1 }
     requires link { IsFromTo (neg_ℤ (pos S.link)) (pos S.link) (least_at row.now next) }
     requires sizes { (size : ℕ) × (size + S.link < S.half) × IsRowSized S.value S.half walks.now.nodes size known.now }
+    requires order { S.value best.least ≤ℤ S.value best.other }
     ensures below { (w : ℕ → ℕ → ℤ) (default : Onward S) → least_at row.now next ≡ w node next
         → IsEntryBelowTo walks.now.nodes walks.now.depot w (entry_at S.value known.now default) node (next - 1)
         (onward_entry S.value best)
@@ -194,10 +294,8 @@ fn entry_by<S: Sum, W: Weights>(
     ensures size { (size : ℕ) → size + S.link < S.half → IsRowSized S.value S.half walks.now.nodes size known.now
         → IsEntrySized S.half (size + S.link) (onward_entry S.value best)
         → IsEntrySized S.half (size + S.link) (onward_entry S.value result) }
+    ensures order { S.value result.least ≤ℤ S.value result.other }
 {
-    if next == walks.depot || next == node {
-        return best;
-    }
     let onward = least_onward(known[next as usize], node);
     improved(best, next, onward.plus(weight_in(row, next)))
 }

@@ -43,15 +43,24 @@ pub(crate) fn least_onward<S: Sum>(entry: Onward<S>, from: u32) -> S
     }
 }
 
-/// An entry with one next node more.
+/// An entry with one next node more. Most nodes change nothing, which one comparison says.
+///
+/// # Requires
+///
+/// The other number is no less than the least.
 #[inline]
 pub(crate) fn improved<S: Sum>(best: Onward<S>, next: u32, weight: S) -> Onward<S>
+    requires order { S.value best.least ≤ℤ S.value best.other }
     ensures keeps { (key : ℕ) (z : ℤ) → IsAtMost (onward_entry S.value best) key z → IsAtMost (onward_entry S.value result) key z }
     ensures own { (z : ℤ) → S.value weight ≤ℤ z → IsAtMost (onward_entry S.value result) next z }
     ensures size { (size : ℕ) → IsEntrySized S.half size (onward_entry S.value best) → neg_ℤ (pos size) ≤ℤ S.value weight
         → IsNearOrFar S.half size (S.value weight) → IsEntrySized S.half size (onward_entry S.value result) }
     ensures chosen { IsChosen (onward_entry S.value best) next (S.value weight) (onward_entry S.value result) }
+    ensures order { S.value result.least ≤ℤ S.value result.other }
 {
+    if !weight.is_below(best.other) {
+        return best;
+    }
     if weight.is_below(best.least) {
         return Onward {
             least: weight,
@@ -59,12 +68,9 @@ pub(crate) fn improved<S: Sum>(best: Onward<S>, next: u32, weight: S) -> Onward<
             other: best.least,
         };
     }
-    if weight.is_below(best.other) {
-        return Onward {
-            least: best.least,
-            next: best.next,
-            other: weight,
-        };
+    Onward {
+        least: best.least,
+        next: best.next,
+        other: weight,
     }
-    best
 }

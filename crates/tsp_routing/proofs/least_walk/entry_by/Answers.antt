@@ -16,14 +16,14 @@ returns-clause-below g c = λ w default row so_far.
     let value = g.S.Sum.value in
     let sizes = c.requires.sizes in
     let own = c.index-known-next.result in
-    let long : c.args.next < length c.args.known.now = omega (arith, c.requires.next.1, sizes.2.places) in
+    let long : c.args.next < length c.args.known.now = omega (arith, c.requires.next.0.1, sizes.2.places) in
     let known : ℕ → WalkEntry = entry_at value c.args.known.now default in
     let same = c.index-known-next.is ∙ get_same c.args.known.now c.args.next own default long in
     let second : value c.least_onward-onward.result ≡ least_from (known c.args.next) c.args.node =
     c.least_onward-onward.ensures.value
     ∙ ap (λ (e : Onward g.row.S.Denot). least_from (onward_entry value e) c.args.node) same in
     below_more g.S.Sum.half c.args.walks.now.nodes c.args.walks.now.depot w known c.args.node c.args.next
-    (onward_entry value c.args.best) (onward_entry value c.improved.result) c.requires.next.0 c.improved.ensures.keeps
+    (onward_entry value c.args.best) (onward_entry value c.improved.result) c.requires.next.0.0 c.improved.ensures.keeps
     (c.improved.ensures.own (w c.args.node c.args.next +ℤ least_from (known c.args.next) c.args.node)
     (omega (arith, ints, c.plus.ensures, c.weight_in.ensures, second, row))) so_far
 
@@ -35,7 +35,7 @@ returns-clause-met g c = λ w default row so_far.
     let sizes = c.requires.sizes in
     let own = c.index-known-next.result in
     let n : ℕ = c.args.walks.now.nodes in
-    let long : c.args.next < length c.args.known.now = omega (arith, c.requires.next.1, sizes.2.places) in
+    let long : c.args.next < length c.args.known.now = omega (arith, c.requires.next.0.1, sizes.2.places) in
     let known : ℕ → WalkEntry = entry_at value c.args.known.now default in
     let same = c.index-known-next.is ∙ get_same c.args.known.now c.args.next own default long in
     let second : value c.least_onward-onward.result ≡ least_from (known c.args.next) c.args.node =
@@ -43,11 +43,11 @@ returns-clause-met g c = λ w default row so_far.
     ∙ ap (λ (e : Onward g.row.S.Denot). least_from (onward_entry value e) c.args.node) same in
     let sized : IsEntrySized half sizes.0 (onward_entry value own) =
     subst (λ (e : Onward g.row.S.Denot). IsEntrySized half sizes.0 (onward_entry value e)) (sym c.index-known-next.is)
-    (known_sized value half n sizes.0 c.args.next c.args.known.now own c.requires.next sizes.2) in
+    (known_sized value half n sizes.0 c.args.next c.args.known.now own c.requires.next.0 sizes.2) in
     let is : value c.plus.result ≡ value c.least_onward-onward.result +ℤ least_at c.args.row.now c.args.next =
     omega (arith, ints, c.plus.ensures, c.weight_in.ensures) in
     met_more half n c.args.walks.now.depot w known c.args.node c.args.next (value c.plus.result) (onward_entry value c.args.best)
-    (onward_entry value c.improved.result) (c.requires.next, c.if-next-walks.false) (λ at. c.if-next-node.false (sym at))
+    (onward_entry value c.improved.result) c.requires.next c.requires.other
     (omega (arith, ints, is, second, row))
     (λ real. subst (IsReal half) second
     (sum_real half link sizes.0 (least_at c.args.row.now c.args.next) (value c.least_onward-onward.result) (value c.plus.result) is
@@ -62,7 +62,7 @@ returns-clause-size g c = λ size fits rows best.
     let own = c.index-known-next.result in
     let sized : IsEntrySized half size (onward_entry value own) =
     subst (λ (e : Onward g.row.S.Denot). IsEntrySized half size (onward_entry value e)) (sym c.index-known-next.is)
-    (known_sized value half c.args.walks.now.nodes size c.args.next c.args.known.now own c.requires.next rows) in
+    (known_sized value half c.args.walks.now.nodes size c.args.next c.args.known.now own c.requires.next.0 rows) in
     let number = c.least_onward-onward.ensures.size size sized in
     let a : ℤ = least_at c.args.row.now c.args.next in
     let is : value c.plus.result ≡ value c.least_onward-onward.result +ℤ a = omega (arith, ints, c.plus.ensures, c.weight_in.ensures) in
