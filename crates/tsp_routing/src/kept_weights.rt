@@ -1,6 +1,6 @@
 //! The weights of a leaf, by rows that are kept.
 
-ghost use Rattle.std.specs.Prelude.{◌≡◌, ◌≤◌, ◌<◌, ◌+◌, ◌^◌, ℕ, length, true, pos, neg_ℤ, IfOk};
+ghost use Rattle.std.specs.Prelude.{◌≡◌, ◌≤◌, ◌<◌, ◌+◌, ◌^◌, ℕ, length, true, pos, neg_ℤ, IfOk, IfSome};
 ghost use Rattle.tsp_format.specs.Nodes.{IsNode};
 ghost use Rattle.tsp_format.specs.Ranges.{IsFromTo};
 ghost use Rattle.tsp_theory.specs.states.Nearest.{least_at};
@@ -17,6 +17,14 @@ use tsp_tree::Weights;
 
 /// The most nodes of which rows are kept, in 200 MB.
 const MOST_KEPT: u32 = 5_000;
+
+/// Weights of which rows may be kept.
+pub(crate) trait KeptRows: Weights {
+    /// The row of a node, where it is kept.
+    fn kept_row(&self, from: u32) -> Option<&[i64]>
+        requires { IsNode (Self.nodes self.now) from }
+        ensures { IfSome result (λ row. IsWeightRow (Self.nodes self.now) (Self.at self.now from) row.now) };
+}
 
 /// The weights of a leaf, and rows of them, if any are kept: each is asked for once for each load.
 #[derive(Drop)]
@@ -175,5 +183,14 @@ impl<C: Costs> Weights for KeptWeights<'_, C> {
 
     fn fill(&self, from: u32, row: &mut [i64]) {
         self.fill_kept(from, row);
+    }
+}
+
+impl<C: Costs> KeptRows for KeptWeights<'_, C> {
+    fn kept_row(&self, from: u32) -> Option<&[i64]> {
+        if self.rows.is_empty() {
+            return None;
+        }
+        Some(self.rows[from as usize - 1].as_slice())
     }
 }

@@ -1,10 +1,6 @@
 -- The goals of `entry` in src/least_walk.rt: what it ensures.
 use Rattle.std.proofs.Common.{◌≡◌, ◌+◌, ◌-◌, ◌*◌, ◌<◌, ◌∙◌, ℕ, length, get_or, ap, subst, sym, arith}
-use Rattle.std.specs.Prelude.{pos, neg_ℤ}
 use Rattle.std.specs.Global.{Vec}
-use Rattle.tsp_format.specs.Nodes.{IsNode}
-use Rattle.tsp_format.specs.Ranges.{IsFromTo}
-use Rattle.tsp_theory.specs.states.Nearest.{least_at}
 use Rattle.tsp_routing.specs.declared.onward.Onward.{Onward}
 use Rattle.tsp_routing.specs.states.Onwards.{load_at, onward_entry, entry_at, IsRowSized, IsRowLow, IsRowMet}
 use Rattle.tsp_routing.proofs.WalkSizes.{links_more, links_up, entry_up}
@@ -38,13 +34,8 @@ bounds-table-table g c =
     let some = c.args.walks.now.some c.args.node (c.requires.node, c.if-node-walks.false) in
     omega (arith, some, c.if-load-table.false)
 
-pub best_entry-requires-clause-links : goal.best_entry-requires-clause-links
-best_entry-requires-clause-links g c = λ next there.
-    subst (IsFromTo (neg_ℤ (pos g.S.Sum.link)) (pos g.S.Sum.link)) (sym (c.fill.ensures.values next (subst (λ (k : ℕ). IsNode k next) (sym c.args.walks.now.same) there)))
-    (c.requires.links c.args.node next c.requires.node there)
-
-pub best_entry-requires-clause-sizes : goal.best_entry-requires-clause-sizes
-best_entry-requires-clause-sizes g c =
+pub weighed_entry-requires-clause-sizes : goal.weighed_entry-requires-clause-sizes
+weighed_entry-requires-clause-sizes g c =
     let value = g.S.Sum.value in
     let half : ℕ = g.S.Sum.half in
     let link : ℕ = g.S.Sum.link in
@@ -78,11 +69,9 @@ returns-clause-low g c = λ rows customer.
     c.as_slice-known.ensures.value ∙ ap (λ (v : Vec (Onward g.row.S.Denot)). v.items) c.index-table-table.is in
     let low : IsRowLow value n depot w load left c.as_slice-known.result.now =
     subst (IsRowLow value n depot w load left) (sym is) (rows left c.index-table-table.result lt) in
-    let row : (next : ℕ) → IsNode n next → least_at c.fill.new.row next ≡ w c.args.node next = λ next there.
-    c.fill.ensures.values next (subst (λ (k : ℕ). IsNode k next) (sym c.args.walks.now.same) there) in
-    let zero : Onward g.row.S.Denot = c.best_entry.result in
+    let zero : Onward g.row.S.Denot = c.weighed_entry.result in
     entry_low n depot w load (length c.args.table.now) c.args.node (entry_at value c.as_slice-known.result.now zero)
-    (onward_entry value c.best_entry.result) (λ le next other. low next zero other) (λ le. c.best_entry.ensures.below w zero row)
+    (onward_entry value c.weighed_entry.result) (λ le next other. low next zero other) (λ le. c.weighed_entry.ensures.below zero)
 
 pub returns-clause-met : goal.returns-clause-met
 returns-clause-met g c = λ rows customer.
@@ -100,13 +89,11 @@ returns-clause-met g c = λ rows customer.
     c.as_slice-known.ensures.value ∙ ap (λ (v : Vec (Onward g.row.S.Denot)). v.items) c.index-table-table.is in
     let low : IsRowMet value half n depot w load left c.as_slice-known.result.now =
     subst (IsRowMet value half n depot w load left) (sym is) (rows left c.index-table-table.result lt) in
-    let row : (next : ℕ) → IsNode n next → least_at c.fill.new.row next ≡ w c.args.node next = λ next there.
-    c.fill.ensures.values next (subst (λ (k : ℕ). IsNode k next) (sym c.args.walks.now.same) there) in
-    let zero : Onward g.row.S.Denot = c.best_entry.result in
+    let zero : Onward g.row.S.Denot = c.weighed_entry.result in
     let fits = g.met.S.Sum.fits 0 (omega arith) in
     entry_met half n depot w load (length c.args.table.now) c.args.node (entry_at value c.as_slice-known.result.now zero)
-    c.if-load-table.false customer (λ next other. low next zero other) (omega (arith, fits)) (onward_entry value c.best_entry.result) n
-    (c.best_entry.ensures.met w zero row)
+    c.if-load-table.false customer (λ next other. low next zero other) (omega (arith, fits)) (onward_entry value c.weighed_entry.result) n
+    (c.weighed_entry.ensures.met zero)
 
 pub returns-clause-size : goal.returns-clause-size
 returns-clause-size g c =
@@ -124,7 +111,7 @@ returns-clause-size g c =
     c.as_slice-known.ensures.value ∙ ap (λ (v : Vec (Onward g.row.S.Denot)). v.items) c.index-table-table.is in
     let more = links_more (left + 1) link in
     let up = links_up (left + 1 + 1) (length c.args.table.now + 1) link (omega (arith, lt)) in
-    entry_up half ((left + 1) * link + link) ((length c.args.table.now + 1) * link) (onward_entry value c.best_entry.result)
+    entry_up half ((left + 1) * link + link) ((length c.args.table.now + 1) * link) (onward_entry value c.weighed_entry.result)
     (omega (arith, more, up))
-    (c.best_entry.ensures.size ((left + 1) * link) (g.met.S.Sum.fits (left + 1) (omega (arith, lt, c.requires.few)))
+    (c.weighed_entry.ensures.size ((left + 1) * link) (g.met.S.Sum.fits (left + 1) (omega (arith, lt, c.requires.few)))
     (subst (IsRowSized value half n ((left + 1) * link)) (sym is) (c.requires.sizes left c.index-table-table.result lt)))
