@@ -1,7 +1,7 @@
 #!/usr/bin/env python3
-"""Checks a tour anew, without the program: recheck.py F T [--potentials P | --branches B]
+"""Checks a tour or routes anew, without the program: recheck.py F T [--potentials P | --branches B]
 
-It reads an instance of TYPE TSP or ATSP, a tour, and a certificate, and prints the report that
+It reads an instance of TYPE TSP, ATSP or CVRP, a tour or routes, and a certificate, and prints the report that
 `tsp check` prints. Status 0 means `yes`, 1 `no`, 2 a file that isn't read here. It needs Python 3.9 and
 its standard library alone, and computes in whole numbers. Trees of cases take a tenth of the time where
 numpy is installed, and all numbers have 64 bits. It follows docs/format.md, which defines
@@ -35,10 +35,11 @@ DECIDED = 4 * BILLION**2
 MOST_KEPT = 5_000_000  # distances
 MOST_EXACT = 2**53  # whole numbers below are exact as floats
 MOST_NODES = 100_000
+MOST_LOADS = 10**7  # nodes times loads of routes
 PLAIN = re.compile("[+-]?[0-9]+")
 HALF, MOST_QUICK = DECIDED, 3000  # of numpy: a weight without decisions is less, and tables have so many nodes
 # Sections and keywords whose words are whole numbers, but those of points.
-READ = {"DIMENSION", "SCALE", "TOUR_SECTION", "COMB_SECTION", "BRANCH_SECTION", "FIXED_EDGE_POTENTIAL_SECTION"} | {
+READ = {"DIMENSION", "SCALE", "LOAD_UNIT", "TOUR_SECTION", "COMB_SECTION", "BRANCH_SECTION", "FIXED_EDGE_POTENTIAL_SECTION"} | {
     f"{it}_POTENTIAL_SECTION" for it in ("NODE", "ROW", "COLUMN")
 }
 
@@ -167,6 +168,20 @@ def scale_of(file: Fields) -> int:
     return scale
 
 
+def capacity_of(instance: Fields) -> int:
+    capacity = (wholes(instance, "CAPACITY") or [0])[0]
+    if capacity < 1:
+        raise instance.faulty("CAPACITY", "a number from 1 on is wanted")
+    return capacity
+
+
+def unit_of(file: Fields) -> int:
+    unit = (wholes(file, "LOAD_UNIT") or [1])[0]
+    if not 1 <= unit <= 10**12:
+        raise file.faulty("LOAD_UNIT", f"{unit} isn't 1 to 1000000000000")
+    return unit
+
+
 def ended(numbers: list[int], group: int) -> list[tuple[int, ...]]:
     """The groups of a list that -1 in the place of a group's first number ends."""
     starts = range(0, len(numbers), group)
@@ -282,6 +297,29 @@ def points_of(fields: Fields, kind: str, count: int) -> list[list[int]]:
     return [points[node] for node in range(count + 1)]
 
 
+def tours_in(solution: Fields) -> list[list[int]]:
+    """The tours of a solution, each behind a -1 or the section's start."""
+    tours: list[list[int]] = [[]]
+    for node in wholes(solution, "TOUR_SECTION"):
+        if node == -1:
+            tours.append([])
+        else:
+            tours[-1].append(node)
+    return [tour for tour in tours if tour]
+
+
+def see_places(nodes: list[int], count: int) -> None:
+    """Sees that all are nodes of the instance, each once."""
+    for place, node in enumerate(nodes, 1):
+        if node > count:
+            raise No(f"NodeOutOfRange {place}")
+    seen: set[int] = set()
+    for place, node in enumerate(nodes, 1):
+        if node in seen:
+            raise No(f"RepeatedNode {place}")
+        seen.add(node)
+
+
 def tour_of(instance: Fields, solution: Fields, cost: Costs, count: int) -> list[int]:
     """The tour, if no reason is against it."""
     if solution.get("TYPE", [""])[0] != "TOUR":
@@ -295,21 +333,13 @@ def tour_of(instance: Fields, solution: Fields, cost: Costs, count: int) -> list
                 raise No(f"NotSymmetric {i} {j}")
     if "DIMENSION" in solution and dimension_of(solution) != count:
         raise No("Dimension")
-    text = " ".join(map(str, wholes(solution, "TOUR_SECTION")))
-    tours = [run.split() for run in re.split(r"(?<!\S)-1(?!\S)", text) if run.strip()]
+    tours = tours_in(solution)
     if len(tours) != 1:
         raise No("TourCount")
-    tour = [int(word) for word in tours[0]]
+    tour = tours[0]
     if len(tour) != count:
         raise No("TourLength")
-    for place, node in enumerate(tour, 1):
-        if node > count:
-            raise No(f"NodeOutOfRange {place}")
-    seen: set[int] = set()
-    for place, node in enumerate(tour, 1):
-        if node in seen:
-            raise No(f"RepeatedNode {place}")
-        seen.add(node)
+    see_places(tour, count)
     used = set(zip(tour, tour[1:] + tour[:1]))
     for number, (i, j) in enumerate(ended(wholes(instance, "FIXED_EDGES_SECTION"), 2), 1):
         if (i, j) not in used and (directed or (j, i) not in used):
@@ -538,27 +568,44 @@ def least_links(count: int, row: Row, case: Case) -> Optional[int]:
     return total
 
 
-def on_nodes(file: Fields, count: int, branches: list[list[int]]) -> None:
-    """Sees that each branch is on two nodes. One on a family, whose number comes after those of the nodes, is for routes."""
+def on_branches(file: Fields, count: int, branches: list[list[int]], allowed: range) -> None:
+    """Sees that each branch is on nodes, or on families, whose numbers come after those of the nodes: these are for routes."""
     for number, (first, second) in enumerate(branches, 1):
         if first == second or not (1 <= first <= count + 10_000 and 1 <= second <= count):
             raise file.faulty("BRANCH_SECTION", f"branch {number} has to be on two nodes from 1 to {count}")
     for number, (first, _) in enumerate(branches, 1):
-        if first > count:
+        if first not in allowed:
             raise No(f"BadBranch {number}")
 
 
-def bound_by_branches(instance: Fields, file: Fields, cost: Costs, count: int) -> int:
-    """The least of the bounds of the leaves, if no reason is against the tree."""
+def tree_in(file: Fields, count: int) -> tuple[list[list[list[int]]], list[list[int]]]:
+    """The families and the steps of a tree of cases."""
     if file.get("TYPE", [""])[0] != "BRANCHES":
         raise No("NotBranches")
     if dimension_of(file) != count:
         raise No("BranchesDimension")
     combs = combs_of(wholes(file, "COMB_SECTION"))
-    crossed: list[tuple[int, int]] = []
     for number, comb in enumerate(combs, 1):
         if not all(1 <= node <= count for nodes in comb for node in nodes):
             raise file.faulty("COMB_SECTION", f"nodes are 1 to {count}, and those of comb {number} aren't")
+    return combs, list(steps_of(file))
+
+
+def add_step(file: Fields, numbers: list[int], leaf: int, step: list[int]) -> None:
+    """Adds the differences of a leaf to the numbers of the leaf before it."""
+    for index, difference in zip(step[1::2], step[2::2]):
+        if index < 1:
+            raise file.faulty("BRANCH_SECTION", f"an index of leaf {leaf} is below 1")
+        if index >= len(numbers):
+            raise No(f"BadLeaf {leaf}")
+        numbers[index] += difference
+
+
+def bound_by_branches(instance: Fields, file: Fields, cost: Costs, count: int) -> int:
+    """The least of the bounds of the leaves, if no reason is against the tree."""
+    combs, steps = tree_in(file, count)
+    crossed: list[tuple[int, int]] = []
+    for number, comb in enumerate(combs, 1):
         found = crossings_of(count, comb)
         if found is None:
             raise No(f"BadComb {number}")
@@ -567,8 +614,7 @@ def bound_by_branches(instance: Fields, file: Fields, cost: Costs, count: int) -
     fixed = ended(wholes(instance, "FIXED_EDGES_SECTION"), 2)
     open_cases: list[Case] = [{pair_of(directed, i, j): True for i, j in fixed}]
     leaves: list[tuple[list[int], Case]] = []
-    steps = list(steps_of(file))
-    on_nodes(file, count, [step for step in steps if step[0] != 0])
+    on_branches(file, count, [step for step in steps if step[0] != 0], range(1, count + 1))
     branches = 0
     for step in steps:
         case = open_cases.pop()
@@ -586,12 +632,7 @@ def bound_by_branches(instance: Fields, file: Fields, cost: Costs, count: int) -
     for leaf, (step, case) in enumerate(leaves, 1):
         stage = f"leaf {leaf} of {len(leaves)}: "
         show(stage)
-        for index, difference in zip(step[1::2], step[2::2]):
-            if index < 1:
-                raise file.faulty("BRANCH_SECTION", f"an index of leaf {leaf} is below 1")
-            if index >= len(numbers):
-                raise No(f"BadLeaf {leaf}")
-            numbers[index] += difference
+        add_step(file, numbers, leaf, step)
         p, m = numbers[: count + 1], numbers[count + 1 :]
         most = sum(number * own for number, (_, own) in zip(m, crossed))
         if max(map(abs, p)) > 10**15 or min(m, default=0) < 0 or most > 9 * 10**17:
@@ -642,6 +683,139 @@ def weights_of(
     return row
 
 
+class Fleet:
+    """An instance of routes, if no reason is against it: its depot, what each node demands, and the capacity."""
+
+    def __init__(self, instance: Fields, count: int) -> None:
+        depots = ended(wholes(instance, "DEPOT_SECTION"), 1)
+        if len(depots) != 1:
+            raise No("DepotCount")
+        self.count, (self.depot,) = count, depots[0]
+        self.demands, self.capacity = by_node(instance, "DEMAND_SECTION", count), capacity_of(instance)
+        if self.demands[self.depot]:
+            raise No("DepotDemand")
+        if ended(wholes(instance, "FIXED_EDGES_SECTION"), 2):
+            raise No("FixedEdgesInRoutes")
+        self.customers = [node for node in range(1, count + 1) if node != self.depot]
+
+    def load(self, nodes: list[int]) -> int:
+        return sum(self.demands[node] for node in nodes)
+
+    def need(self, nodes: list[int]) -> int:
+        """How many routes at least have one of these customers."""
+        return min(max(1, -(-self.load(nodes) // self.capacity)), MOST_NODES)
+
+    def length(self, cost: Costs, routes: list[list[int]]) -> int:
+        return sum(cost(i, j) for route in routes for i, j in zip([self.depot, *route], [*route, self.depot]))
+
+    def loads(self, unit: int) -> tuple[list[int], int]:
+        """What each customer loads, in whole units, and what a route has room for."""
+        whole = [demand // unit for demand in self.demands]
+        light = sum(whole[node] == 0 for node in self.customers)
+        return [load * (light + 1) or 1 for load in whole], self.capacity // unit * (light + 1) + light
+
+    def least_walk(self, row: Row, loads: list[int], room: int) -> Optional[int]:
+        """The least weight of a walk from the depot and back, in which no customer comes again at once, nor right after
+        the next one. A table has the rests of walks by the load that is left and by the node that they go on from: the
+        least weight, the node that comes next then, and the least weight by another one."""
+        rows, table = [row(max(1, node)) for node in range(self.count + 1)], []  # type: list[list[int]], list[Rests]
+        for left in range(room + 1):
+            rests: Rests = {}
+            for node in self.customers:
+                if loads[node] > left:
+                    continue
+                weights, best, other = rows[node], self.depot, None
+                least = weights[best]
+                for to, (own, after, second) in table[left - loads[node]].items():
+                    onward = second if after == node else own
+                    if to == node or onward is None:
+                        continue
+                    weight = weights[to] + onward
+                    if weight < least:
+                        least, best, other = weight, to, least
+                    elif other is None or weight < other:
+                        other = weight
+                rests[node] = (least, best, other)
+            table.append(rests)
+        return min((rows[self.depot][node] + rest[0] for node, rest in table[room].items()), default=None)
+
+
+Rests = dict[int, tuple[int, int, Optional[int]]]
+
+
+def routes_of(instance: Fields, solution: Fields, count: int) -> tuple[Fleet, list[list[int]]]:
+    """The routes, if no reason is against them."""
+    if solution.get("TYPE", [""])[0] != "TOUR":
+        raise No("NotASolution")
+    if count < 2:
+        raise No("TooFewNodes")
+    if "DIMENSION" in solution and dimension_of(solution) != count:
+        raise No("Dimension")
+    fleet, routes = Fleet(instance, count), tours_in(solution)
+    places = [node for route in routes for node in route]
+    if fleet.depot in places:
+        raise No(f"DepotInRoute {places.index(fleet.depot) + 1}")
+    see_places(places, count)
+    missing = set(fleet.customers) - set(places)
+    if missing:
+        raise No(f"Unserved {min(missing)}")
+    for number, route in enumerate(routes, 1):
+        if fleet.load(route) > fleet.capacity:
+            raise No(f"Overload {number}")
+    return fleet, routes
+
+
+Limited = tuple[list[int], list[int], list[int]]
+
+
+def plan_cases(steps: list[list[int]], low: list[int], high: list[int], count: int) -> Iterator[Limited]:
+    """The leaves, each with how often plans of its case cross each family at the least and at the most."""
+    open_cases = [(low, high)]
+    for step in steps:
+        low, high = open_cases.pop()
+        if step[0] == 0:
+            yield step, low, high
+            continue
+        family, times = step[0] - count - 1, step[1]
+        more, fewer = list(low), list(high)
+        more[family], fewer[family] = max(low[family], 2 * times + 2), min(high[family], 2 * times)
+        open_cases += [(more, high), (low, fewer)]
+
+
+def bound_of_routes(instance: Fields, file: Fields, cost: Costs, count: int) -> int:
+    """The least of the bounds of the leaves on routes, if no reason is against the tree."""
+    combs, steps = tree_in(file, count)
+    fleet = Fleet(instance, count)
+    for number, comb in enumerate(combs, 1):
+        if len(comb) != 1 or len(set(comb[0])) < len(comb[0]) or fleet.depot in comb[0]:
+            raise No(f"BadComb {number}")
+    sets = [set(comb[0]) for comb in combs]
+    on_branches(file, count, [step for step in steps if step[0] != 0], range(count + 1, count + len(sets) + 1))
+    scale, (loads, room) = scale_of(file), fleet.loads(unit_of(file))
+    numbers = [0] * (count + len(sets) + 1)
+    for leaf, step in enumerate((step for step in steps if step[0] == 0), 1):
+        add_step(file, numbers, leaf, step)
+        if max(map(abs, numbers[: count + 1])) > 10**15 or sum(map(abs, numbers[count + 1 :])) > 3 * 10**17:
+            raise No(f"BadLeaf {leaf}")
+    if count * (room + 1) > MOST_LOADS:
+        raise No("TooManyLoads")
+    numbers, bounds, leaves = [0] * len(numbers), [], sum(step[0] == 0 for step in steps)
+    needs = [2 * fleet.need(list(nodes)) for nodes in sets]
+    for leaf, (step, low, high) in enumerate(plan_cases(steps, needs, [2 * (count - 1)] * len(sets), count), 1):
+        show(f"leaf {leaf} of {leaves}")
+        add_step(file, numbers, leaf, step)
+        p, m = numbers[: count + 1], numbers[count + 1 :]
+        active = [(number, nodes) for number, nodes in zip(m, sets) if number]
+        least = fleet.least_walk(weights_of(scale, cost, p, active, []), loads, room)
+        if least is not None:
+            each = least - 2 * p[fleet.depot]
+            value = min(fleet.need(fleet.customers) * each, len(fleet.customers) * each)
+            value -= 2 * sum(p[node] for node in fleet.customers)
+            value += sum(number * (a if number > 0 else b) for number, a, b in zip(m, low, high))
+            bounds.append(-(-value // scale))
+    return min(bounds)
+
+
 def look_at(file: Fields) -> None:
     """Looks for faults of a solution or a certificate, which come before any reason."""
     for name in READ.intersection(file):
@@ -662,13 +836,18 @@ def report(instance: Fields, solution: Fields, kind: str, certificate: Optional[
     lines = [f"type {instance['TYPE'][0]}", f"nodes {count}", *(f"not judged {keyword}" for keyword in instance["not judged"])]
     for fields in filter(None, (solution, certificate)):
         look_at(fields)
+    bounds = {"potentials": bound_by_potentials, "branches": bound_by_branches, "routes": bound_of_routes}
     try:
         cost = costs_of(instance, count)
-        tour = tour_of(instance, solution, cost, count)
-        length = sum(cost(i, j) for i, j in zip(tour, tour[1:] + tour[:1]))
-        found = [f"length {length}"]
+        if kind == "routes":
+            fleet, routes = routes_of(instance, solution, count)
+            length = fleet.length(cost, routes)
+            found = [f"routes {len(routes)}", f"least {-(-fleet.load(fleet.customers) // fleet.capacity)}"]
+        else:
+            tour = tour_of(instance, solution, cost, count)
+            length, found = sum(cost(i, j) for i, j in zip(tour, tour[1:] + tour[:1])), []
+        found.append(f"length {length}")
         if certificate is not None:
-            bounds = {"potentials": bound_by_potentials, "branches": bound_by_branches}
             bound = bounds[kind](instance, certificate, cost, count)
             show("")
             found += [f"bound {bound}", "optimal" if bound == length else f"gap {length - bound}"]
@@ -682,15 +861,15 @@ def report(instance: Fields, solution: Fields, kind: str, certificate: Optional[
 TIMES = (
     "How long it takes: with potentials n * n steps, 3 seconds for 1,000 nodes. With branches as many for each"
     " leaf, 1 to 2 seconds a leaf for 1,000 nodes, and a tenth of that where numpy is installed. The tour alone"
-    " takes n steps."
+    " takes n steps. With branches for routes a leaf takes n * n steps for each load, 1 second for 100 nodes and 100 loads."
 )
 
 
 def main() -> int:
     words = argparse.ArgumentParser(
-        description="Checks a tour anew, in Python and whole numbers.", epilog=TIMES
+        description="Checks a tour or routes anew, in Python and whole numbers.", epilog=TIMES
     )
-    words.add_argument("instance", metavar="F", help="a file of TYPE TSP or ATSP")
+    words.add_argument("instance", metavar="F", help="a file of TYPE TSP, ATSP or CVRP")
     words.add_argument("solution", metavar="T", help="a file of TYPE TOUR")
     kinds = words.add_mutually_exclusive_group()
     kinds.add_argument("--potentials", metavar="P", help="a file of TYPE POTENTIALS")
@@ -700,8 +879,12 @@ def main() -> int:
     path = given.branches or given.potentials
     try:
         files = [fields_of(name) for name in (given.instance, given.solution)]
-        if files[0].get("TYPE", [""])[0] not in ("TSP", "ATSP"):
-            refuse(f"{given.instance}: its TYPE has to be TSP or ATSP")
+        name = files[0].get("TYPE", [""])[0]
+        if name not in ("TSP", "ATSP", "CVRP"):
+            refuse(f"{given.instance}: its TYPE has to be TSP, ATSP or CVRP")
+        if name == "CVRP" and given.potentials:
+            refuse(f"{path}: potentials bound no routes")
+        kind = "routes" if name == "CVRP" else kind
         return report(*files, kind, fields_of(path) if path else None)
     except OSError as fault:
         refuse(f"{fault.filename}: {fault.strerror}")

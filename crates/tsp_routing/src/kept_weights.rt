@@ -19,7 +19,7 @@ use tsp_tree::Weights;
 const MOST_KEPT: u32 = 5_000;
 
 /// Weights of which rows may be kept.
-pub(crate) trait KeptRows: Weights {
+pub(crate) trait LentRows: Weights {
     /// The row of a node, where it is kept.
     fn kept_row(&self, from: u32) -> Option<&[i64]>
         requires { IsNode (Self.nodes self.now) from }
@@ -186,7 +186,7 @@ impl<C: Costs> Weights for KeptWeights<'_, C> {
     }
 }
 
-impl<C: Costs> KeptRows for KeptWeights<'_, C> {
+impl<C: Costs> LentRows for KeptWeights<'_, C> {
     fn kept_row(&self, from: u32) -> Option<&[i64]> {
         if self.rows.is_empty() {
             return None;

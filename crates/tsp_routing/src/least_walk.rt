@@ -13,7 +13,7 @@ ghost use Rattle.tsp_routing.specs.WalkTables.{WalkEntry, IsLow, IsMet, IsReal, 
 ghost use Rattle.tsp_routing.specs.Weights.{most_room};
 ghost use Rattle.tsp_routing.specs.states.Onwards.{load_at, AreLinks, onward_entry, entry_at, IsEntryNumber, IsEntrySized, IsRowSized, AreRowsSized, IsRowLow, AreRowsLow, IsRowMet, AreRowsMet};
 
-use crate::kept_weights::KeptRows;
+use crate::kept_weights::LentRows;
 use crate::onward::{Onward, improved, least_onward, nowhere};
 use crate::sums::Sum;
 use std::alloc::Global;
@@ -23,7 +23,7 @@ use tsp_tree::weight_in;
 /// The nodes 1 to `nodes`, one of them the depot, and for each a load, with a place 0 that isn't
 /// read; and the weights between them.
 #[derive(Drop)]
-pub(crate) struct Walks<'a, W: KeptRows> {
+pub(crate) struct Walks<'a, W: LentRows> {
     pub(crate) nodes: u32,
     pub(crate) depot: u32,
     pub(crate) loads: &'a [u64],
@@ -40,7 +40,7 @@ pub(crate) struct Walks<'a, W: KeptRows> {
 /// # Errors
 ///
 /// Out of memory, of which it takes some for each node and each load up to the capacity.
-pub(crate) fn least_walk<S: Sum, W: KeptRows>(
+pub(crate) fn least_walk<S: Sum, W: LentRows>(
     alloc: Global,
     walks: &Walks<W>,
     room: usize,
@@ -68,7 +68,7 @@ pub(crate) fn least_walk<S: Sum, W: KeptRows>(
 /// # Errors
 ///
 /// Out of memory, of which it takes some for each node.
-fn next_row<S: Sum, W: KeptRows>(
+fn next_row<S: Sum, W: LentRows>(
     alloc: Global,
     walks: &Walks<W>,
     table: &[Vec<Onward<S>>],
@@ -100,7 +100,7 @@ fn next_row<S: Sum, W: KeptRows>(
 }
 
 /// The entry of a node for the load that comes next in a table.
-fn entry<S: Sum, W: KeptRows>(
+fn entry<S: Sum, W: LentRows>(
     walks: &Walks<W>,
     node: u32,
     table: &[Vec<Onward<S>>],
@@ -135,7 +135,7 @@ fn entry<S: Sum, W: KeptRows>(
 
 /// The entry of a node by the entries of the next ones, and by the row of the node, which is filled
 /// where it isn't kept.
-fn weighed_entry<S: Sum, W: KeptRows>(
+fn weighed_entry<S: Sum, W: LentRows>(
     walks: &Walks<W>,
     node: u32,
     known: &[Onward<S>],
@@ -161,7 +161,7 @@ fn weighed_entry<S: Sum, W: KeptRows>(
 }
 
 /// The entry of a node by the entries of the next ones and the weights to them.
-fn best_entry<S: Sum, W: KeptRows>(
+fn best_entry<S: Sum, W: LentRows>(
     walks: &Walks<W>,
     node: u32,
     known: &[Onward<S>],
@@ -191,7 +191,7 @@ fn best_entry<S: Sum, W: KeptRows>(
 }
 
 /// The entry with the way back to the depot alone.
-fn only_back<S: Sum, W: KeptRows>(walks: &Walks<W>, node: u32, row: &[i64]) -> Onward<S>
+fn only_back<S: Sum, W: LentRows>(walks: &Walks<W>, node: u32, row: &[i64]) -> Onward<S>
     requires room { length row.now ≡ walks.now.nodes + 1 }
     requires link { IsFromTo (neg_ℤ (pos S.link)) (pos S.link) (least_at row.now walks.now.depot) }
     ensures below { (w : ℕ → ℕ → ℤ) (known : ℕ → WalkEntry) → least_at row.now walks.now.depot ≡ w node walks.now.depot
@@ -210,7 +210,7 @@ fn only_back<S: Sum, W: KeptRows>(walks: &Walks<W>, node: u32, row: &[i64]) -> O
 
 /// The entry with all next nodes but two, the lower one first: the node itself and the depot. So no
 /// loop has to look for them.
-fn entry_around<S: Sum, W: KeptRows>(
+fn entry_around<S: Sum, W: LentRows>(
     walks: &Walks<W>,
     back: Onward<S>,
     node: u32,
@@ -251,7 +251,7 @@ fn entry_around<S: Sum, W: KeptRows>(
 
 /// The entry with the next nodes after one and up to another, which are other customers.
 #[inline]
-fn entry_with<S: Sum, W: KeptRows>(
+fn entry_with<S: Sum, W: LentRows>(
     walks: &Walks<W>,
     begun: Onward<S>,
     node: u32,
@@ -294,7 +294,7 @@ fn entry_with<S: Sum, W: KeptRows>(
 
 /// The entry with one next node more, another customer.
 #[inline]
-fn entry_by<S: Sum, W: KeptRows>(
+fn entry_by<S: Sum, W: LentRows>(
     walks: &Walks<W>,
     best: Onward<S>,
     node: u32,
@@ -328,7 +328,7 @@ fn entry_by<S: Sum, W: KeptRows>(
 }
 
 /// The least weight of a walk by the last row, or the sum of none.
-fn start<S: Sum, W: KeptRows>(walks: &Walks<W>, table: &[Vec<Onward<S>>], row: &mut [i64]) -> S
+fn start<S: Sum, W: LentRows>(walks: &Walks<W>, table: &[Vec<Onward<S>>], row: &mut [i64]) -> S
     requires some { 1 ≤ length table.now }
     requires few { length table.now ≤ most_room + 1 }
     requires links { AreLinks S.link walks.now.nodes (W.at walks.now.weights.now) }
@@ -352,7 +352,7 @@ fn start<S: Sum, W: KeptRows>(walks: &Walks<W>, table: &[Vec<Onward<S>>], row: &
 }
 
 /// The same by the entries of the last row and the weights from the depot.
-fn start_by<S: Sum, W: KeptRows>(walks: &Walks<W>, known: &[Onward<S>], row: &[i64]) -> S
+fn start_by<S: Sum, W: LentRows>(walks: &Walks<W>, known: &[Onward<S>], row: &[i64]) -> S
     requires room { length row.now ≡ walks.now.nodes + 1 }
     requires links { (next : ℕ) → IsNode walks.now.nodes next
         → IsFromTo (neg_ℤ (pos S.link)) (pos S.link) (least_at row.now next) }
@@ -374,7 +374,7 @@ fn start_by<S: Sum, W: KeptRows>(walks: &Walks<W>, known: &[Onward<S>], row: &[i
 }
 
 /// The lower one of this and the way to one customer and on.
-fn start_with<S: Sum, W: KeptRows>(
+fn start_with<S: Sum, W: LentRows>(
     walks: &Walks<W>,
     least: S,
     next: u32,
