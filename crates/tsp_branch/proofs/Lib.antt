@@ -7,3 +7,4 @@ pub mod GivenBack
 pub mod Closed
 pub mod OpenRows
 pub mod Sums
+pub mod MarkedRows

@@ -19,10 +19,13 @@ mod decided;
 mod examples;
 mod given_back;
 mod judged;
+mod kept;
 mod leaf;
 mod leaf_rows;
 mod leaf_sum;
+mod room;
 mod rows;
+mod setting;
 mod steps;
 mod verdict;
 

@@ -30,7 +30,6 @@ pub mod SmallCases
 pub mod SmallFamilies
 pub mod SmallRows
 pub mod RowsKept
-pub mod MarkedRows
 pub mod Links
 pub mod LeastLinks
 pub mod FamilyLaws

@@ -1,4 +1,4 @@
-pub mod Rooms
+pub mod SmallNumbers
 pub mod FamilyNumbers
 pub mod Marked
 pub mod Kept
