@@ -84,6 +84,17 @@ int ColumnGeneration::price(const Duals& duals, Duals mixed) {
   return added;
 }
 
+double ColumnGeneration::estimate(int rounds) {
+  program_.solve();
+  for (int k = 0; k < rounds; k++) {
+    const Duals duals = program_.duals();
+    table_.least_of_few(links_under(instance_, duals, 1 / program_.unit()), kColumns.few_links);
+    if (add_walks(duals) == 0) break;
+    program_.solve();
+  }
+  return program_.value();
+}
+
 double ColumnGeneration::run(const Ending& ending) {
   program_.solve();
   bool first = bound_ == kNoBound && !best_.potentials.empty();

@@ -26,6 +26,8 @@ class ColumnGeneration {
   void set_best(const Duals& duals) { best_ = duals; }
   // The bound of the best duals.
   double run(const Ending& ending);
+  // The program's value after as many rounds of walks over few links. It tends to be above the bound.
+  double estimate(int rounds);
   const Duals& best() const { return best_; }
   double bound() const { return bound_; }
   // Whether walks were priced yet.

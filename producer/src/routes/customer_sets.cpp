@@ -3,10 +3,10 @@
 #include <algorithm>
 
 namespace certify::routes {
-int SetPool::add(const NodeSet& set) {
-  const auto [place, fresh] = numbers_.emplace(set, size());
-  if (fresh) sets_.push_back(set);
-  return place->second;
+std::vector<char> marks_of(const NodeSet& set, int nodes) {
+  std::vector<char> marks(nodes, 0);
+  for (const int v : set) marks[v] = 1;
+  return marks;
 }
 
 Crossings free_crossings(const CvrpInstance& instance, const NodeSet& set) {

@@ -7,19 +7,8 @@
 #include "tree/certificate.h"
 
 namespace certify::routes {
-// Sorted sets by their numbers. Number 0 is the set of all customers.
-class SetPool {
- public:
-  explicit SetPool(const CvrpInstance& instance) { add(instance.customers()); }
-  // The number of the set, which joins where it isn't known.
-  int add(const NodeSet& set);
-  const NodeSet& operator[](int number) const { return sets_[number]; }
-  int size() const { return static_cast<int>(sets_.size()); }
-
- private:
-  std::vector<NodeSet> sets_;
-  std::map<NodeSet, int> numbers_;
-};
+// 1 of each node that is in the set, and 0 of the others.
+std::vector<char> marks_of(const NodeSet& set, int nodes);
 
 // A set is crossed at least and at most as often.
 struct Crossings {

@@ -4,6 +4,7 @@
 #include <numeric>
 
 #include "reading/tsp_program.h"
+#include "routes/route_parameters.h"
 
 namespace certify::routes {
 std::optional<Loads> loads_in(const CvrpInstance& instance, Weight unit, Weight most) {
@@ -33,77 +34,87 @@ Loads finest_loads(const CvrpInstance& instance, Weight most) {
 }
 
 template <typename W>
-void WalkTable<W>::begin(const Links<W>& links) {
+void WalkTable<W>::begin(const Links<W>& links, int count) {
   const std::size_t cells = static_cast<std::size_t>(loads_.cells());
   first_.assign(cells, none());
   second_.assign(cells, none());
   from_first_.assign(cells, 0);
   from_second_.assign(cells, 0);
-  reached_.assign(loads_.room + 1, 0);
+  least_.assign(loads_.room + 1, none());
   ends_.assign(nodes_, {none(), 0});
   into_.resize(links.size());
   for (int i = 0; i < nodes_; i++) {
     for (int j = 0; j < nodes_; j++) into_[cell(j, i)] = i == j || i == 0 ? none() : links[cell(i, j)];
   }
+  light_.resize(nodes_);
+  for (int v = 1; v < nodes_; v++) list_light(v, count);
 }
 
 template <typename W>
-void WalkTable<W>::put(std::size_t cell, const Best& best) {
-  first_[cell] = best.first;
-  second_[cell] = best.second;
-  from_first_[cell] = static_cast<std::int16_t>(best.from_first);
-  from_second_[cell] = static_cast<std::int16_t>(best.from_second);
-}
-
-// From all walks with a load to this customer. One that came from the customer goes on from elsewhere.
-template <typename W>
-typename WalkTable<W>::Best WalkTable<W>::from_all(int load, int customer) const {
-  const W* const first = &first_[cell(load, 0)];
-  const W* const second = &second_[cell(load, 0)];
-  const std::int16_t* const from = &from_first_[cell(load, 0)];
-  const W* const into = &into_[cell(customer, 0)];
-  Best best{none(), none(), 0, 0};
+void WalkTable<W>::list_light(int customer, int count) {
+  std::vector<Link>& light = light_[customer];
+  light.clear();
   for (int i = 1; i < nodes_; i++) {
-    const W weight = (from[i] == customer ? second[i] : first[i]) + into[i];
-    if (weight >= best.second) continue;
-    if (weight < best.first) {
-      best = {weight, best.first, i, best.from_first};
-    } else {
-      best.second = weight;
-      best.from_second = i;
-    }
+    if (i != customer) light.push_back({into_[cell(customer, i)], i});
   }
-  return best;
+  const std::size_t most = std::min(light.size(), static_cast<std::size_t>(count));
+  const auto end = light.begin() + static_cast<std::ptrdiff_t>(most);
+  if (end != light.end()) std::nth_element(light.begin(), end, light.end());
+  light.erase(end, light.end());
+  std::sort(light.begin(), light.end());
 }
 
 template <typename W>
-typename WalkTable<W>::Best WalkTable<W>::from_few(int load, int customer) const {
+void WalkTable<W>::put(int load, int customer, const Best& best) {
+  const std::size_t at = cell(load, customer);
+  first_[at] = best.first;
+  second_[at] = best.second;
+  from_first_[at] = static_cast<std::int16_t>(best.from_first);
+  from_second_[at] = static_cast<std::int16_t>(best.from_second);
+  least_[load] = std::min(least_[load], best.first);
+}
+
+// A walk that came from the customer goes on from elsewhere.
+template <typename W>
+void WalkTable<W>::try_from(int load, int customer, int from, W link, Best& best) const {
+  const std::size_t at = cell(load, from);
+  const W weight = (from_first_[at] == customer ? second_[at] : first_[at]) + link;
+  if (weight >= best.second) return;
+  if (weight < best.first) {
+    best = {weight, best.first, from, best.from_first};
+  } else {
+    best.second = weight;
+    best.from_second = from;
+  }
+}
+
+// The best walks with a load to this customer, over its light links. Where a link and the least walk with the
+// load weigh too much, so do all heavier links. Where none does, all links are tried.
+template <typename W>
+typename WalkTable<W>::Best WalkTable<W>::from_light(int load, int customer, bool all) const {
   Best best{none(), none(), 0, 0};
-  for (const auto& [link, i] : few_[customer]) {
-    const std::size_t at = cell(load, i);
-    const W weight = (from_first_[at] == customer ? second_[at] : first_[at]) + link;
-    if (weight >= best.second) continue;
-    if (weight < best.first) {
-      best = {weight, best.first, i, best.from_first};
-    } else {
-      best.second = weight;
-      best.from_second = i;
-    }
+  const W least = least_[load];
+  for (const Link& link : light_[customer]) {
+    if (least + link.weight >= best.second) return best;
+    try_from(load, customer, link.from, link.weight, best);
   }
+  if (!all) return best;
+  const W* const into = &into_[cell(customer, 0)];
+  best = {none(), none(), 0, 0};
+  for (int i = 1; i < nodes_; i++) try_from(load, customer, i, into[i], best);
   return best;
 }
 
 template <typename W>
-void WalkTable<W>::fill(const Links<W>& links, bool few) {
+void WalkTable<W>::fill(const Links<W>& links, bool all) {
   for (int load = 1; load <= loads_.room; load++) {
     for (int v = 1; v < nodes_; v++) {
       const int before = load - loads_.of[v];
-      if (before < 0 || (before > 0 && reached_[before] == 0)) continue;
+      if (before < 0 || (before > 0 && least_[before] >= none() / 2)) continue;
       Best best{links[v], none(), 0, 0};
-      if (before > 0) best = few ? from_few(before, v) : from_all(before, v);
+      if (before > 0) best = from_light(before, v, all);
       if (best.first >= none() / 2) continue;
-      put(cell(load, v), best);
-      reached_[load] = 1;
+      put(load, v, best);
       const W back = best.first + links[cell(v, 0)];
       if (back < ends_[v].weight) ends_[v] = {back, load};
     }
@@ -111,32 +122,22 @@ void WalkTable<W>::fill(const Links<W>& links, bool few) {
 }
 
 template <typename W>
-W WalkTable<W>::least(const Links<W>& links) {
-  begin(links);
-  fill(links, false);
+W WalkTable<W>::least_over(const Links<W>& links, int count, bool all) {
+  begin(links, count);
+  fill(links, all && count < nodes_ - 2);
   W least = none();
   for (const End& end : ends_) least = std::min(least, end.weight);
   return least;
 }
 
 template <typename W>
+W WalkTable<W>::least(const Links<W>& links) {
+  return least_over(links, kColumns.light_links, true);
+}
+
+template <typename W>
 W WalkTable<W>::least_of_few(const Links<W>& links, int count) {
-  begin(links);
-  few_.resize(nodes_);
-  for (int v = 1; v < nodes_; v++) {
-    std::vector<std::pair<W, int>>& few = few_[v];
-    few.clear();
-    for (int i = 1; i < nodes_; i++) {
-      if (i != v) few.emplace_back(into_[cell(v, i)], i);
-    }
-    const auto end = few.begin() + std::min<std::ptrdiff_t>(count, static_cast<std::ptrdiff_t>(few.size()));
-    std::nth_element(few.begin(), end == few.end() ? few.begin() : end, few.end());
-    few.erase(end, few.end());
-  }
-  fill(links, true);
-  W least = none();
-  for (const End& end : ends_) least = std::min(least, end.weight);
-  return least;
+  return least_over(links, count, false);
 }
 
 template <typename W>

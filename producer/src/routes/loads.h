@@ -63,11 +63,18 @@ class WalkTable {
     W weight;
     int load;
   };
-  void begin(const Links<W>& links);
-  void fill(const Links<W>& links, bool few);
-  void put(std::size_t cell, const Best& best);
-  Best from_all(int load, int customer) const;
-  Best from_few(int load, int customer) const;
+  struct Link {
+    W weight;
+    int from;
+    auto operator<=>(const Link&) const = default;
+  };
+  W least_over(const Links<W>& links, int count, bool all);
+  void begin(const Links<W>& links, int count);
+  void list_light(int customer, int count);
+  void fill(const Links<W>& links, bool all);
+  void put(int load, int customer, const Best& best);
+  void try_from(int load, int customer, int from, W link, Best& best) const;
+  Best from_light(int load, int customer, bool all) const;
   Route walk_to(int customer) const;
   std::size_t cell(int load, int customer) const {
     return static_cast<std::size_t>(load) * nodes_ + customer;
@@ -78,8 +85,8 @@ class WalkTable {
   std::vector<W> first_, second_;                       // of each load and customer
   std::vector<std::int16_t> from_first_, from_second_;  // the customer before, or the depot
   std::vector<W> into_;                                 // links into each node, row by row
-  std::vector<std::vector<std::pair<W, int>>> few_;     // the lightest links into each customer
-  std::vector<char> reached_;                           // loads with a walk
+  std::vector<std::vector<Link>> light_;                // the lightest links into each customer, in order
+  std::vector<W> least_;                                // of each load, over its walks
   std::vector<End> ends_;                               // of each customer, the way back included
 };
 

@@ -44,6 +44,7 @@ struct RouteCaseSolver::Rounds {
   WalkProgram& program;
   ColumnGeneration generation;
   CapacityCuts cuts;
+  const std::vector<Limit>& limits;
   RouteGoal goal;
   const Note& note;
   bool whole;
@@ -128,7 +129,8 @@ void RouteCaseSolver::cut(Rounds& rounds) {
 void RouteCaseSolver::branch(Rounds& rounds, RouteOutcome& outcome) const {
   rounds.cuts.violated(rounds.program.support(), true, kCapacityCuts.least_violation);
   outcome.branch =
-      choose_branch(problem_.instance, rounds.program, rounds.cuts.between(), rounds.goal_value());
+      choose_branch({problem_.instance, problem_.loads, rounds.program, rounds.limits, rounds.goal_value()},
+                    rounds.cuts.between());
   if (!outcome.branch) return;
   RouteStart start{rounds.program.sets(), rounds.program.best_walks(kRouteTree.walks),
                    rounds.generation.best()};
@@ -155,6 +157,7 @@ RouteOutcome RouteCaseSolver::solve(const RouteCase& here, const Note& note) {
   Rounds rounds{program,
                 ColumnGeneration(problem_.instance, problem_.loads, program, here.limits),
                 CapacityCuts(problem_.instance, here.seed),
+                here.limits,
                 here.goal,
                 note,
                 here.whole};

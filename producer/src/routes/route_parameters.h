@@ -11,7 +11,7 @@ namespace certify::routes {
 // Plans by string removals: most numbers are those of the source.
 struct RemovalParameters {
   int runs = 4;               // at once, since one alone may miss the shortest plan
-  std::int64_t steps = 3000;  // of each, for each customer
+  std::int64_t steps = 8000;  // of each, for each customer
   std::int64_t few_steps = 20000;
   int near = 40;        // customers beside which another one is put back
   double removed = 10;  // customers of a step, on the average
@@ -29,9 +29,10 @@ struct ColumnParameters {
   double largest_cost = 1e7;  // in units of the program
   double step = 0.25;         // of the mix from the best duals toward the program's
   std::size_t fewest_at_once = 20, most_at_once = 150;
-  std::size_t walks = 600, walks_of_node = 30;  // of more, those that cost too much are dropped
+  std::size_t walks = 300, walks_of_node = 10;  // of more, those that cost too much are dropped
   double far = 0.1;                             // so much too much, in parts of the average link
   double small_table = 4e6;                     // steps of a table that is always filled whole
+  int light_links = 64;                         // into each customer, that are tried in order
   int few_links = 12;                           // into each customer, of a table that isn't
   int enough_of_few = 5;                        // walks of such a table; of fewer the whole one is next
   int few_in_a_row = 8;
@@ -61,16 +62,18 @@ inline constexpr CutRounds kTreeRounds{2e-4, 2e-5, 2, 3e-4};
 
 // Trials of branches.
 struct SetBranchingParameters {
-  std::size_t pairs = 6, sets = 9;
+  std::size_t pairs = 12, sets = 16;
   double margin = 0.05, least_margin = 1e-4;  // from an even number of crossings, in pairs of them
-  int iterations = 60;
+  int iterations = 40;
+  std::size_t priced = 6;  // the best ones by the program alone, that are tried once more with new walks
+  int rounds = 4;          // of walks
 };
 inline constexpr SetBranchingParameters kSetBranching{};
 
 // The tree.
 struct RouteTreeParameters {
   double part_of_time = 0.96;
-  std::size_t walks = 1500;     // that a case leaves to those below
+  std::size_t walks = 600;      // that a case leaves to those below
   Weight most_loads = 1500000;  // in cells: the table of more takes long, and too much memory by each thread
 };
 inline constexpr RouteTreeParameters kRouteTree{};

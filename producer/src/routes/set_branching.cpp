@@ -52,8 +52,7 @@ class Candidates {
 
  private:
   double crossings(const NodeSet& set) const {
-    std::vector<char> inside(instance_.nodes(), 0);
-    for (const int v : set) inside[v] = 1;
+    const std::vector<char> inside = marks_of(set, instance_.nodes());
     double sum = 0;
     for (const int v : set) {
       for (const Edge& edge : support_[v]) sum += inside[edge.to] != 0 ? 0 : edge.value;
@@ -65,27 +64,50 @@ class Candidates {
   std::set<NodeSet> met_;
   std::vector<Candidate> list_;
 };
+
+// What both cases of a branch gain, in parts of what is missing.
+double score_of(const std::array<double, 2>& gains, double gap) {
+  return std::clamp(gains[0] / gap, 1e-3, 1.0) * std::clamp(gains[1] / gap, 1e-3, 1.0);
+}
+
+void keep_best(std::vector<Candidate>& list, std::size_t count) {
+  std::stable_sort(list.begin(), list.end(),
+                   [](const Candidate& a, const Candidate& b) { return a.score > b.score; });
+  list.resize(std::min(list.size(), count));
+}
+
+// The program's value in one case of a branch, after a few rounds of new walks.
+double value_below(const SolvedCase& here, const SetBranch& branch, bool first) {
+  std::vector<Limit> limits = here.limits;
+  limits.push_back({branch.set, first, branch.t});
+  WalkProgram program(here.program);
+  program.limit(branch.set, limited_crossings(here.instance, limits).at(branch.set));
+  return ColumnGeneration(here.instance, here.loads, program, limits).estimate(kSetBranching.rounds);
+}
 }  // namespace
 
-std::optional<SetBranch> choose_branch(const CvrpInstance& instance, const WalkProgram& program,
-                                       const std::vector<CapacityCut>& between, double goal) {
-  const Graph support = program.support();
-  Candidates candidates(instance, support);
-  candidates.offer(instance.customers(), kSetBranching.margin);
+std::optional<SetBranch> choose_branch(const SolvedCase& here, const std::vector<CapacityCut>& between) {
+  const Graph support = here.program.support();
+  Candidates candidates(here.instance, support);
+  candidates.offer(here.instance.customers(), kSetBranching.margin);
   candidates.offer_pairs(kSetBranching.pairs, kSetBranching.margin);
   candidates.offer_sets(between, kSetBranching.sets, kSetBranching.margin);
   std::vector<Candidate>& list = candidates.list();
   if (list.empty()) candidates.offer_pairs(kSetBranching.pairs, kSetBranching.least_margin);
   if (list.empty()) return std::nullopt;
-  const double gap = std::max(goal - program.value(), 1e-3);
-  if (list.size() > 1) {
-    for_each_at_once(list.size(), [&](std::size_t k) {
-      const auto gains = program.gains(list[k].branch.set, list[k].branch.t, kSetBranching.iterations);
-      list[k].score = std::clamp(gains[0] / gap, 1e-3, 1.0) * std::clamp(gains[1] / gap, 1e-3, 1.0);
-    });
-  }
-  return std::max_element(list.begin(), list.end(),
-                          [](const Candidate& a, const Candidate& b) { return a.score < b.score; })
-      ->branch;
+  if (list.size() == 1) return list[0].branch;
+  const double value = here.program.value(), gap = std::max(here.goal - value, 1e-3);
+  for_each_at_once(list.size(), [&](std::size_t k) {
+    const SetBranch& branch = list[k].branch;
+    list[k].score = score_of(here.program.gains(branch.set, branch.t, kSetBranching.iterations), gap);
+  });
+  keep_best(list, kSetBranching.priced);
+  std::vector<std::array<double, 2>> gains(list.size());
+  for_each_at_once(2 * list.size(), [&](std::size_t k) {
+    gains[k / 2][k % 2] = value_below(here, list[k / 2].branch, k % 2 == 0) - value;
+  });
+  for (std::size_t k = 0; k < list.size(); k++) list[k].score = score_of(gains[k], gap);
+  keep_best(list, 1);
+  return list[0].branch;
 }
 }  // namespace certify::routes

@@ -1,11 +1,12 @@
 // Strong branching on sets that a solution crosses between two even numbers of times.
 //
-// They are pairs, all customers, and sets that the search for cuts met. Source: J. Lysgaard, A. Letchford and
+// They are pairs, all customers, and sets that the search for cuts met. Those that promise most by the program
+// alone are tried once more with a few rounds of new walks. Source: J. Lysgaard, A. Letchford and
 // R. Eglese, A new branch-and-cut algorithm for the capacitated vehicle routing problem, Mathematical
 // Programming 100 (2004).
 #pragma once
 #include "routes/capacity_cuts.h"
-#include "routes/walk_program.h"
+#include "routes/column_generation.h"
 
 namespace certify::routes {
 // First the plans that cross the set at most 2 t times, then those that cross it at least 2 t + 2 times.
@@ -14,7 +15,16 @@ struct SetBranch {
   int t;
 };
 
-// Nothing where the solution crosses each such set an even number of times.
-std::optional<SetBranch> choose_branch(const CvrpInstance& instance, const WalkProgram& program,
-                                       const std::vector<CapacityCut>& between, double goal);
+// A case whose program is solved, and the value that is enough.
+struct SolvedCase {
+  const CvrpInstance& instance;
+  const Loads& loads;
+  const WalkProgram& program;
+  const std::vector<Limit>& limits;
+  double goal;
+};
+
+// Of those sets, of pairs and of all customers. Nothing where the solution crosses each such set an even number
+// of times.
+std::optional<SetBranch> choose_branch(const SolvedCase& here, const std::vector<CapacityCut>& between);
 }  // namespace certify::routes

@@ -30,6 +30,13 @@ Weight floor_to(double number, Weight grid) {
   return static_cast<Weight>(std::floor(number / static_cast<double>(grid))) * grid;
 }
 
+template <typename W>
+struct MarkedSet {
+  const NodeSet& set;
+  std::vector<char> inside;  // of each node
+  W multiplier;
+};
+
 Weight halved_down(Weight number) { return (number - (number % 2 != 0 && number < 0 ? 1 : 0)) / 2; }
 }  // namespace
 
@@ -48,28 +55,28 @@ Duals duals_of(const CvrpInstance& instance, const LeafNumbers& numbers, Weight 
   return duals;
 }
 
+// Row by row: a node has the multipliers of the sets around it on all its links, less those of sets that both
+// ends are in.
 template <typename W>
 Links<W> links_under(const CvrpInstance& instance, const SetNumbers<W>& numbers, W scale) {
   const int nodes = instance.nodes();
+  std::vector<MarkedSet<W>> sets;
+  for (const auto& [set, multiplier] : numbers.multipliers) {
+    if (multiplier != 0) sets.push_back({set, marks_of(set, nodes), multiplier});
+  }
   Links<W> links(static_cast<std::size_t>(nodes) * nodes);
   for (int i = 0; i < nodes; i++) {
     W* const row = &links[static_cast<std::size_t>(i) * nodes];
+    W around = 0;
     for (int j = 0; j < nodes; j++) {
       row[j] = scale * static_cast<W>(instance.costs(i, j)) + numbers.potentials[i] + numbers.potentials[j];
     }
-  }
-  std::vector<char> inside(nodes);
-  for (const auto& [set, multiplier] : numbers.multipliers) {
-    if (multiplier == 0) continue;
-    std::fill(inside.begin(), inside.end(), 0);
-    for (const int v : set) inside[v] = 1;
-    for (const int v : set) {
-      for (int j = 0; j < nodes; j++) {
-        if (inside[j] != 0) continue;
-        links[static_cast<std::size_t>(v) * nodes + j] -= multiplier;
-        links[static_cast<std::size_t>(j) * nodes + v] -= multiplier;
-      }
+    for (const MarkedSet<W>& marked : sets) {
+      const W less = marked.inside[i] != 0 ? -marked.multiplier : marked.multiplier;
+      if (marked.inside[i] != 0) around += marked.multiplier;
+      for (const int v : marked.set) row[v] -= less;
     }
+    for (int j = 0; j < nodes; j++) row[j] -= around;
   }
   return links;
 }

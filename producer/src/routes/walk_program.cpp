@@ -8,12 +8,6 @@
 namespace certify::routes {
 namespace {
 constexpr double kTiny = 1e-7;
-
-std::vector<char> marks_of(const NodeSet& set, int nodes) {
-  std::vector<char> marks(nodes, 0);
-  for (const int v : set) marks[v] = 1;
-  return marks;
-}
 }  // namespace
 
 int crossings_of(const Route& walk, const std::vector<char>& inside) {
