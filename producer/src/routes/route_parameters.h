@@ -65,8 +65,8 @@ struct SetBranchingParameters {
   std::size_t pairs = 12, sets = 16;
   double margin = 0.05, least_margin = 1e-4;  // from an even number of crossings, in pairs of them
   int iterations = 40;
-  std::size_t priced = 6;  // the best ones by the program alone, that are tried once more with new walks
-  int rounds = 4;          // of walks
+  std::size_t priced = 4;  // the best ones by the program alone, that are tried once more with new walks
+  int rounds = 3;          // of walks
 };
 inline constexpr SetBranchingParameters kSetBranching{};
 

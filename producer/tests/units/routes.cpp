@@ -154,6 +154,21 @@ TEST_CASE("The least walk is that of all walks") {
   }
 }
 
+TEST_CASE("The least walk may have heavy links") {
+  Random random(6);
+  for (int k = 0; k < 4; k++) {
+    const CvrpInstance instance = random_instance(90, 12, random);
+    const Loads loads = *loads_in(instance, 2);
+    Links<Weight> links;
+    const std::size_t range = k % 2 == 0 ? 3 : 1000;  // of almost equal links no light ones are enough
+    for (int link = 0; link < 90 * 90; link++) links.push_back(random.below(range) - 40);
+    WalkTable<Weight> table(loads);
+    const Weight least = table.least(links);
+    CHECK(table.least_of_few(links, 90) == least);
+    CHECK(table.least_of_few(links, 2) >= least);
+  }
+}
+
 TEST_CASE("Without a walk the bound is above all") {
   const CvrpInstance instance{Matrix(2), {0, 2}, 3, {1, 2}, true};
   Loads loads = *loads_in(instance, 1);
@@ -312,6 +327,41 @@ TEST_CASE("Column generation ends at the program's value, below the shortest pla
     CHECK(static_cast<double>(reached) >= bound - 0.01);
     CHECK(reached <= least);
   }
+}
+
+TEST_CASE("A branch is on a set that the solution crosses between two even numbers of times") {
+  Random random(7);
+  int branches = 0;
+  for (int k = 0; k < 12; k++) {
+    const CvrpInstance instance = random_instance(9, 11, random);
+    const Loads loads = *loads_in(instance, 1);
+    WalkProgram program(instance, 400);
+    ColumnGeneration generation(instance, loads, program, {});
+    const std::function<bool()> late = [] { return false; };
+    const double bound = generation.run({1e9, 1e-6, true, late});
+    const auto branch = choose_branch({instance, loads, program, {}, bound + 10}, {});
+    if (!branch) continue;
+    branches++;
+    const Graph support = program.support();
+    double crossed = 0;
+    for (const int v : branch->set) {
+      for (const Edge& edge : support[v]) {
+        if (std::find(branch->set.begin(), branch->set.end(), edge.to) == branch->set.end()) crossed += edge.value;
+      }
+    }
+    CHECK(crossed > 2 * branch->t);
+    CHECK(crossed < 2 * branch->t + 2);
+    for (const bool first : {true, false}) {  // what is reckoned of a case isn't below its bound
+      const std::vector<Limit> limits{{branch->set, first, branch->t}};
+      WalkProgram below(program);
+      below.limit(branch->set, limited_crossings(instance, limits).at(branch->set));
+      ColumnGeneration more(instance, loads, below, limits);
+      const double reckoned = more.estimate(2);
+      CHECK(reckoned >= bound - 1e-4);
+      CHECK(more.run({1e9, 1e-6, true, late}) <= reckoned + 1e-4);
+    }
+  }
+  CHECK(branches > 3);
 }
 
 TEST_CASE("String removals find shortest plans of few customers") {
