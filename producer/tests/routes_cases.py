@@ -188,12 +188,14 @@ def large_numbers():
 
 
 def plan():
-    """A bad plan that is named is made shorter, and without --tour-out it is bounded."""
+    """A bad plan that is named is made shorter, and without --tour-out it is bounded, and the shorter one kept."""
     write_uniform("a.vrp", 16, random.Random(8))
     write_routes(" ".join(f"{v} -1" for v in range(2, 17)), "bad.routes")
     said = certify("a.vrp", "bad.routes", "-o", "out.branches")
     need("a shorter tour" in said, f"nothing is said of the shorter plan: {said}")
     need(int(judged("a.vrp", "bad.routes")["gap"]) > 0, "no bound of the bad plan")
+    kept = judged("a.vrp", "out.branches.tour")
+    need("optimal" in kept, f"the shorter plan isn't beside the certificate: {kept}")
     length = need_optimal("a.vrp")
     certify("a.vrp", "out.routes", "-o", "out.branches", "--upper", str(length - 5))
     need(length - 5 <= int(judged("a.vrp")["bound"]) <= length, "the bound that was asked for isn't reached")

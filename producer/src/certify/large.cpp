@@ -52,7 +52,8 @@ int certify_large(const Options& options, const std::string& tsp, std::unique_pt
   if (given) ending.given = std::llround(problem->length(*given));
   ending.rounded_away = are_apart(problem->points()) &&
                         is_rounded_away(search.tour(), [&](int i, int j) { return problem->cost(i, j); });
-  keep_shorter(options, problem->outward(search.tour()), ending);
+  const auto write = [&](const std::string& path) { write_tour(path, problem->outward(search.tour())); };
+  keep_shorter(options, write, ending);
   report(options, ending);
   return Clock::signal() ? 128 + *Clock::signal() : 0;
 }

@@ -65,7 +65,8 @@ int certify_instance(const Options& options) {
   ending.rounded_away = instance.rounded &&
                         is_rounded_away(search.tour(), [&](int i, int j) { return instance.weights(i, j); });
   ending.limited = search.is_limited();
-  keep_shorter(options, search.tour(), ending);
+  keep_shorter(
+      options, [&](const std::string& path) { write_tour(path, search.tour()); }, ending);
   report(options, ending);
   return Clock::signal() ? 128 + *Clock::signal() : 0;
 }

@@ -25,13 +25,14 @@ void report_left_out(const Options& options, const std::vector<std::size_t>& par
             << options.instance << " TOUR --tree " << options.certificate << " -o CERTIFICATE\n";
 }
 
-void keep_shorter(const Options& options, const Tour& tour, Ending& ending) {
+void keep_shorter(const Options& options, const std::function<void(const std::string& path)>& write,
+                  Ending& ending) {
   if (!ending.given || ending.length >= *ending.given || options.tour_out || options.leaf) return;
   const std::string path = options.certificate + ".tour";
   std::error_code error;
   if (!std::filesystem::is_regular_file(options.certificate, error)) return;
   if (std::filesystem::exists(std::filesystem::symlink_status(path, error))) return;
-  write_tour(path, tour);
+  write(path);
   ending.kept = path;
 }
 

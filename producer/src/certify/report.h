@@ -1,6 +1,7 @@
 // What a run tells at its end: the files, and the gap by its own reckoning.
 #pragma once
 #include <algorithm>
+#include <functional>
 
 #include "certify/options.h"
 #include "tours/tour.h"
@@ -27,7 +28,8 @@ bool is_rounded_away(const Tour& tour, const CostOf& cost_of) {
 
 // Writes a tour where it is shorter than the named one and --tour-out is missing: beside the certificate, as
 // CERTIFICATE.tour, unless there is such a file. That of a part isn't: names of parts are often a pattern.
-void keep_shorter(const Options& options, const Tour& tour, Ending& ending);
+void keep_shorter(const Options& options, const std::function<void(const std::string& path)>& write,
+                  Ending& ending);
 // Says so at the start, where a shorter tour would be lost.
 void warn_of_lost_tour(const Options& options);
 void report(const Options& options, const Ending& ending);

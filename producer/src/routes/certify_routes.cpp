@@ -45,6 +45,8 @@ int certify_routes(const Options& options, const std::string& tsp, std::unique_p
   }
   Ending ending{length_of(instance, search.routes()), search.bound(), search.leaves()};
   if (given) ending.given = length_of(instance, *given);
+  const auto write = [&](const std::string& path) { write_routes(path, instance, search.routes()); };
+  keep_shorter(options, write, ending);
   ending.limited = search.is_limited();
   report(options, ending);
   return Clock::signal() ? 128 + *Clock::signal() : 0;

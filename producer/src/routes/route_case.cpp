@@ -126,6 +126,15 @@ void RouteCaseSolver::cut(Rounds& rounds) {
   }
 }
 
+// Where the bound is above the target, it becomes higher by the cuts that are there.
+void RouteCaseSolver::spare(Rounds& rounds) const {
+  if (rounds.generation.bound() <= rounds.goal_value()) return;
+  const double length = static_cast<double>(std::abs(rounds.goal.length)) + 1;
+  const std::function<bool()> late = [&] { return clock_.over(kRouteTree.part_of_time); };
+  const double more = rounds.goal_value() + kRouteLeaves.spare / rounds.program.unit();
+  rounds.generation.run({more, kTreeRounds.first_tolerance * length / rounds.program.unit(), false, late});
+}
+
 void RouteCaseSolver::branch(Rounds& rounds, RouteOutcome& outcome) const {
   rounds.cuts.violated(rounds.program.support(), true, kCapacityCuts.least_violation);
   outcome.branch =
@@ -167,6 +176,7 @@ RouteOutcome RouteCaseSolver::solve(const RouteCase& here, const Note& note) {
     rounds.generation.set_best(duals_of(problem_.instance, here.numbers, problem_.scale));
   }
   cut(rounds);
+  spare(rounds);
   RouteOutcome outcome = settled(here, rounds.generation.best());
   // Rounding may lose what the bound has above the target. Then it has to have more.
   while (outcome.value < aim(rounds.goal) && rounds.generation.bound() > rounds.goal_value() &&

@@ -61,6 +61,7 @@ class RouteCaseSolver {
   void cut(Rounds& rounds);
   bool add_cuts(Rounds& rounds, bool thorough);
   void look_for_plan(Rounds& rounds) const;
+  void spare(Rounds& rounds) const;
   RouteOutcome settled(const RouteCase& here, const Duals& duals);
   void branch(Rounds& rounds, RouteOutcome& outcome) const;
   Value aim(const RouteGoal& goal) const {

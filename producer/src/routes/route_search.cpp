@@ -16,6 +16,46 @@ Weight common_scale(const CvrpInstance& instance, const RouteBegin& begin) {
   const Weight common = std::lcm(scale, begin.tree->scale);
   return common <= kRouteLeaves.most_common_scale ? common : begin.tree->scale;
 }
+
+// A number that another leaf has otherwise: the potential of a node, or the multiplier of a set.
+struct Change {
+  Weight size;
+  int node;  // 0 for a set
+  NodeSet set;
+  Weight number;  // of the other leaf
+};
+
+// The least one first.
+std::vector<Change> changes_between(const LeafNumbers& own, const LeafNumbers& other) {
+  std::vector<Change> changes;
+  for (int v = 1; v < static_cast<int>(own.potentials.size()); v++) {
+    changes.push_back({std::abs(own.potentials[v] - other.potentials[v]), v, {}, other.potentials[v]});
+  }
+  std::map<NodeSet, Weight> multipliers = other.multipliers;
+  for (const auto& [set, multiplier] : own.multipliers) multipliers.emplace(set, 0);
+  for (const auto& [set, multiplier] : multipliers) {
+    const auto found = own.multipliers.find(set);
+    const Weight before = found == own.multipliers.end() ? 0 : found->second;
+    changes.push_back({std::abs(before - multiplier), 0, set, multiplier});
+  }
+  std::erase_if(changes, [](const Change& change) { return change.size == 0; });
+  std::stable_sort(changes.begin(), changes.end(),
+                   [](const Change& a, const Change& b) { return a.size < b.size; });
+  return changes;
+}
+
+LeafNumbers with_changes(LeafNumbers numbers, const std::vector<Change>& changes, std::size_t count) {
+  for (std::size_t k = 0; k < count; k++) {
+    const Change& change = changes[k];
+    if (change.node > 0) {
+      numbers.potentials[change.node] = change.number;
+    } else {
+      numbers.multipliers[change.set] = change.number;
+    }
+  }
+  std::erase_if(numbers.multipliers, [](const auto& entry) { return entry.second == 0; });
+  return numbers;
+}
 }  // namespace
 
 RouteSearch::RouteSearch(const CvrpInstance& instance, const Loads& loads, const RouteBegin& begin,
@@ -272,14 +312,37 @@ void RouteSearch::coarsen() {
   Weight tried = 0;
   for (Weight parts = 1; parts < problem_.scale && !clock_.over(); parts++) {
     if (problem_.scale % parts != 0 || parts < 2 * tried) continue;
-    if (coarsen_to(problem_.scale / parts, leaves)) return;
+    if (coarsen_to(problem_.scale / parts, leaves)) {
+      grid_ = problem_.scale / parts;
+      return;
+    }
     tried = parts;
   }
 }
 
+// The numbers of a leaf, of which as many are those of the leaf before as still reach the target, and those
+// that differ least first. That makes a short file.
+LeafNumbers RouteSearch::near_last(const LeafNumbers& own, const std::vector<Limit>& limits) {
+  if (!grid_ || last_numbers_.potentials.empty()) return own;
+  const std::vector<Change> changes = changes_between(own, last_numbers_);
+  LeafNumbers best = own;
+  std::size_t low = 0, high = changes.size() + 1;
+  while (high - low > 1 && !clock_.over()) {
+    const std::size_t count = (low + high) / 2;
+    LeafNumbers numbers = bound_.balanced(with_changes(own, changes, count), *grid_);
+    if (bound_.value(numbers, limits) < aim()) {
+      high = count;
+    } else {
+      low = count;
+      best = std::move(numbers);
+    }
+  }
+  return best;
+}
+
 // A leaf whose differences are past their limit gets the numbers of the leaf before.
 void RouteSearch::add_leaf(const Place& leaf, const std::vector<Limit>& limits) {
-  LeafNumbers numbers = leaf.numbers;
+  LeafNumbers numbers = near_last(leaf.numbers, limits);
   if (numbers.potentials.empty()) numbers.potentials.assign(instance_.nodes(), 0);
   made_.add_leaf(numbers);
   TreeStep& step = made_.certificate().steps.back();
@@ -293,6 +356,7 @@ void RouteSearch::add_leaf(const Place& leaf, const std::vector<Limit>& limits) 
     differences_ += count;
     last_ = std::get<Numbers>(step);
   }
+  last_numbers_ = numbers;
   const Value value = bound_.value(numbers, limits);
   least_ = std::min(least_, value);
   if (!leaf.done || value < aim()) open_leaves_.push_back(leaves_);

@@ -85,6 +85,7 @@ class RouteSearch {
   void coarsen();
   bool coarsen_to(Weight grid, std::vector<int>& leaves);
   void list_steps();
+  LeafNumbers near_last(const LeafNumbers& own, const std::vector<Limit>& limits);
   void add_leaf(const Place& leaf, const std::vector<Limit>& limits);
   void log(std::string_view event, Weight bound);
   Weight least_bound() const;
@@ -111,6 +112,8 @@ class RouteSearch {
   std::vector<int> open_leaves_;
   Value least_ = -WalkBound::nothing();
   Numbers last_{};  // of the last leaf of the file
+  LeafNumbers last_numbers_{};
+  std::optional<Weight> grid_{};  // all numbers are multiples of it, where all leaves are done
   std::size_t branches_ = 0, differences_ = 0;
   int leaves_ = 0, sets_ = 0, walks_ = 0;  // sets_ and walks_: of the last program
   bool limited_ = false;

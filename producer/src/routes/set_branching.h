@@ -1,8 +1,8 @@
 // Strong branching on sets that a solution crosses between two even numbers of times.
 //
-// They are pairs, all customers, and sets that the search for cuts met. Those that promise most by the program
-// alone are tried once more with a few rounds of new walks. Source: J. Lysgaard, A. Letchford and
-// R. Eglese, A new branch-and-cut algorithm for the capacitated vehicle routing problem, Mathematical
+// They are pairs, all customers, and sets that the search for cuts met. Those that promise most by the
+// program alone are tried once more with a few rounds of new walks. Source: J. Lysgaard, A. Letchford and R.
+// Eglese, A new branch-and-cut algorithm for the capacitated vehicle routing problem, Mathematical
 // Programming 100 (2004).
 #pragma once
 #include "routes/capacity_cuts.h"
@@ -24,7 +24,7 @@ struct SolvedCase {
   double goal;
 };
 
-// Of those sets, of pairs and of all customers. Nothing where the solution crosses each such set an even number
-// of times.
+// Of those sets, of pairs and of all customers. Nothing where the solution crosses each such set an even
+// number of times.
 std::optional<SetBranch> choose_branch(const SolvedCase& here, const std::vector<CapacityCut>& between);
 }  // namespace certify::routes

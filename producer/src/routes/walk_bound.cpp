@@ -2,6 +2,7 @@
 
 #include <algorithm>
 #include <cmath>
+#include <utility>
 
 #include "routes/route_parameters.h"
 
@@ -128,6 +129,10 @@ LeafNumbers WalkBound::rounded(const Duals& duals, Weight grid) {
     const Weight whole = floor_to(multiplier * scale, grid);
     if (std::abs(multiplier) > kRouteLeaves.least_multiplier && whole != 0) numbers.multipliers[set] = whole;
   }
+  return balanced(std::move(numbers), grid);
+}
+
+LeafNumbers WalkBound::balanced(LeafNumbers numbers, Weight grid) {
   const std::optional<Weight> least = least_walk(numbers);
   if (least && *least < WalkTable<Weight>::none() / 2) {
     const Weight shift = halved_down(*least) / grid * grid - (halved_down(*least) % grid < 0 ? grid : 0);

@@ -34,6 +34,8 @@ class WalkBound {
   // Duals as multiples of a grid: weights are rounded up, and then the multiplier of all customers takes what
   // the least walk weighs above 0 or below.
   LeafNumbers rounded(const Duals& duals, Weight grid);
+  // The same numbers, but for that multiplier.
+  LeafNumbers balanced(LeafNumbers numbers, Weight grid);
   Weight bound_of(Value value) const { return rounded_up(value, scale_); }
   static Value nothing() { return -(static_cast<Value>(1) << 120); }
 

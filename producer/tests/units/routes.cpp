@@ -333,7 +333,7 @@ TEST_CASE("A branch is on a set that the solution crosses between two even numbe
   Random random(7);
   int branches = 0;
   for (int k = 0; k < 12; k++) {
-    const CvrpInstance instance = random_instance(9, 11, random);
+    const CvrpInstance instance = random_instance(14, 14, random);
     const Loads loads = *loads_in(instance, 1);
     WalkProgram program(instance, 400);
     ColumnGeneration generation(instance, loads, program, {});
@@ -346,7 +346,8 @@ TEST_CASE("A branch is on a set that the solution crosses between two even numbe
     double crossed = 0;
     for (const int v : branch->set) {
       for (const Edge& edge : support[v]) {
-        if (std::find(branch->set.begin(), branch->set.end(), edge.to) == branch->set.end()) crossed += edge.value;
+        if (std::find(branch->set.begin(), branch->set.end(), edge.to) == branch->set.end())
+          crossed += edge.value;
       }
     }
     CHECK(crossed > 2 * branch->t);
@@ -361,7 +362,7 @@ TEST_CASE("A branch is on a set that the solution crosses between two even numbe
       CHECK(more.run({1e9, 1e-6, true, late}) <= reckoned + 1e-4);
     }
   }
-  CHECK(branches > 3);
+  CHECK(branches > 2);
 }
 
 TEST_CASE("String removals find shortest plans of few customers") {
