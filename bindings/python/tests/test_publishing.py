@@ -56,6 +56,7 @@ class Published(unittest.TestCase):
         yokecairn.publish(self.folder, EXAMPLES / "dairy.vrp", EXAMPLES / "solvers/dairy.cvrplib.sol", branches=EXAMPLES / "dairy.branches")
         said = "their length is 231. No plan with a customer in each route is shorter.\n"
         self.assertIn(said, (self.folder / "README").read_text())
+        self.assertIn("    python3 recheck.py dairy.vrp dairy.cvrplib.sol.tour --branches dairy.branches\n", (self.folder / "README").read_text())
         (self.folder / "dairy.cvrplib.sol").write_text("Route #1: 5 4 3 6\nRoute #2: 1 7 2\nCost 231\n")
         self.seal()
         self.assertIn(("this", False), self.steps())

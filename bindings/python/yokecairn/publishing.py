@@ -94,7 +94,6 @@ def _readme(names: Dict[str, str], report: Report) -> str:
     words = " ".join([names["instance"], names["solution"], *(f"--{it} {names[it]}" for it in _ROLES[2:] if it in names)])
     named = [f"{role}: {name}" for role, name in names.items()]
     unjudged = [f"Lines of the instance with these keywords aren't judged: {', '.join(report.not_judged)}."] * bool(report.not_judged)
-    own = "" if report.routes is not None else f"\n    python3 {SCRIPT} {words}"
     return "\n".join([
         _claims(report), *unjudged, "",
         _FILES, *named,
@@ -105,7 +104,8 @@ def _readme(names: Dict[str, str], report: Report) -> str:
         "Each of these lines checks it again. The first needs Yokecairn's package for Python, the second its program, and the"
         " last ones nothing but Python 3.9 and sha256sum:", "",
         "    python3 -m yokecairn verify .",
-        f"    tsp check {words}{own}",
+        f"    tsp check {words}",
+        f"    python3 {SCRIPT} {words}",
         f"    sha256sum -c {SUMS}", "",
     ])
 
@@ -246,8 +246,6 @@ def _of_library(top: _Path, names: Dict[str, str], report: str) -> Step:
 
 def _of_script(top: _Path, names: Dict[str, str], report: str) -> Step:
     """Whether the script prints the same report."""
-    if report.startswith("type CVRP\n"):
-        return Step(SCRIPT, None, "it doesn't check routes")
     found, why = _rechecked(names, top)
     if found is None:
         return Step(SCRIPT, None if _script() is None else False, why)
