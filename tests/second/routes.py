@@ -12,6 +12,7 @@ from reader import File
 MOST_POTENTIAL = 10**15
 MOST_MULTIPLIERS = 3 * 10**17
 MOST_LOADS = 10**7
+MOST_ROUTES = 100_000  # that are counted
 Cost = Callable[[int, int], int]
 Limit = tuple[int, int, bool]  # a family, t, and whether it is crossed at most 2t times
 
@@ -35,7 +36,7 @@ class Fleet:
 
     def need(self, nodes) -> int:
         """How many routes at least have one of these customers."""
-        return max(1, up(sum(self.demand[node] for node in nodes), self.capacity))
+        return min(max(1, up(sum(self.demand[node] for node in nodes), self.capacity)), MOST_ROUTES)
 
     def shortest_plan(self) -> int | None:
         """The length of a shortest plan whose routes each have a customer; None where there is no plan."""
