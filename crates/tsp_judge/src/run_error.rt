@@ -8,12 +8,12 @@ use crate::fault::RunFault;
 use std::marker::Model;
 use tsp_file::RelayoutFault;
 use tsp_memory::Refused;
-use tsp_read::Unread;
+use tsp_read::ReadError;
 use tsp_stream::WriteFault;
 
 /// Why a run ends early. Contracts see the fault.
 ///
-/// Out of memory has a cause: an [`Unread`] or a [`Refused`], which only a call that was refused
+/// Out of memory has a cause: a [`ReadError`] or a [`Refused`], which only a call that was refused
 /// memory makes.
 #[derive(Clone, Copy, Debug, Drop)]
 pub struct RunError {
@@ -39,7 +39,7 @@ impl RunError {
     }
 
     /// The file with this number wasn't read.
-    pub(crate) fn unread(file: u32, unread: Unread) -> RunError
+    pub(crate) fn unread(file: u32, unread: ReadError) -> RunError
         ensures { result ≡ File file unread }
     {
         RunError {
@@ -51,7 +51,7 @@ impl RunError {
     }
 
     /// Memory was refused to read a solution of a comparison.
-    pub(crate) fn unread_solution(_unread: Unread) -> RunError
+    pub(crate) fn unread_solution(_unread: ReadError) -> RunError
         requires { _unread ≡ read_faults.OutOfMemory }
         ensures { result ≡ OutOfMemory }
     {

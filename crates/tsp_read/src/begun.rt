@@ -8,8 +8,8 @@ ghost use Rattle.tsp_read.specs.states.Intake.{ReadsOn};
 
 use crate::cut::{Next, without_start};
 use crate::intake::Intake;
+use crate::read_error::ReadError;
 use crate::token::Token;
-use crate::unread::Unread;
 use arrayvec::ArrayVec;
 use std::alloc::Global;
 use tsp_format::MOST_LINE_BYTES;
@@ -60,7 +60,7 @@ impl Begun {
         intake: &mut Intake,
         alloc: Global,
         piece: &'a [u8],
-    ) -> Result<Option<&'a [u8]>, Unread>
+    ) -> Result<Option<&'a [u8]>, ReadError>
         requires lines { most_lines intake.old self.old (length piece.now) ≤ most_file_bytes + 1 }
         requires words { most_words intake.old self.old (length piece.now) ≤ most_file_bytes }
         ensures joined { (bytes : List ℕ)
@@ -90,7 +90,7 @@ impl Begun {
 
     /// Takes what has begun as the last item of the text, if anything has. Returns whether it is
     /// an end line.
-    pub(crate) fn take_last(&self, intake: &mut Intake, alloc: Global) -> Result<bool, Unread>
+    pub(crate) fn take_last(&self, intake: &mut Intake, alloc: Global) -> Result<bool, ReadError>
         requires lines { most_lines intake.old self.now 0 ≤ most_file_bytes + 1 }
         requires words { most_words intake.old self.now 0 ≤ most_file_bytes }
         ensures { (bytes : List ℕ) → IsPaused intake.old self.now bytes

@@ -8,14 +8,13 @@ ghost use Rattle.tsp_read.specs.states.Paused.{FeedsOn, HasRoom, HasBytes, stage
 
 use crate::begun::Begun;
 use crate::intake::Intake;
+use crate::read_error::ReadError;
 use crate::stage::Stage;
 use crate::state::finish::completed;
 use crate::state::reading::Reading;
-use crate::unread::{Unread, promised};
 use std::alloc::Global;
 use tsp_file::File;
 use tsp_format::MOST_FILE_BYTES;
-use tsp_text::ReadFault;
 
 /// Reads on with a piece that the limit of a file's bytes doesn't cut: all that what follows can't
 /// change. What hasn't ended in it is kept. Returns whether an end line was taken.
@@ -24,7 +23,7 @@ fn read_on(
     begun: &mut Begun,
     alloc: Global,
     piece: &[u8],
-) -> Result<bool, Unread>
+) -> Result<bool, ReadError>
     requires lines { most_lines intake.old begun.old (length piece.now) ≤ most_file_bytes + 1 }
     requires words { most_words intake.old begun.old (length piece.now) ≤ most_file_bytes }
     ensures read { (bytes : List ℕ) → IsFedTo intake.old begun.old bytes piece.now
@@ -62,19 +61,19 @@ fn split_at_most(text: &[u8], most: usize) -> (&[u8], &[u8])
 }
 
 /// How far a text is after a piece, by whether all of it could be read.
-fn stage_after(all: bool, read: Result<bool, Unread>) -> Stage
+fn stage_after(all: bool, read: Result<bool, ReadError>) -> Stage
     ensures { result ≡ stage_after all read }
 {
     match read {
         Ok(true) => Stage::Ended,
         Ok(false) if all => Stage::Going,
-        Ok(false) => Stage::Refused(Unread::too_long()),
+        Ok(false) => Stage::Refused(ReadError::too_long()),
         Err(fault) => Stage::Refused(fault),
     }
 }
 
 /// The answer at a stage.
-fn outcome(stage: Stage) -> Result<(), Unread>
+fn outcome(stage: Stage) -> Result<(), ReadError>
     ensures { result ≡ outcome_of stage }
 {
     match stage {
@@ -164,30 +163,12 @@ impl Feed {
         matches!(self.stage, Stage::Going)
     }
 
-    /// Takes the next piece. After an end line everything is taken, and nothing is looked at.
+    /// Takes the next piece, as `feed` does.
     ///
     /// # Errors
     ///
-    /// After a refusal every later call returns the same, and no bytes are those so far.
-    ///
-    /// - `Line`: a line or a word that has come whole, or is too long already, has the first fault.
-    /// - `TooLong`: there are more bytes than a file may have, and those that it may have decide
-    ///   nothing.
-    /// - `OutOfMemory`: memory was refused.
-    pub fn feed(&mut self, piece: &[u8]) -> Result<(), ReadFault>
-        ensures taken { (bytes : List ℕ) → HasTaken self.old bytes
-            → Feeds (bytes ++ piece.now) self.new result }
-        ensures again { (found : ReadFault) → refusal self.old ≡ Some found
-            → (result ≡ Err found) × (refusal self.new ≡ Some found) }
-        ensures refused { IfErr result (λ found. refusal self.new ≡ Some found) }
-        ensures ended { (bytes : List ℕ) → HasTaken self.old bytes → settled_fault bytes ≡ None
-            → has_end_line (settled_part bytes) ≡ true → result ≡ Ok tt }
-    {
-        promised(self.take(piece))
-    }
-
-    /// Takes the next piece, as `feed` does.
-    pub(crate) fn take(&mut self, piece: &[u8]) -> Result<(), Unread>
+    /// Those of `feed`.
+    pub(crate) fn take(&mut self, piece: &[u8]) -> Result<(), ReadError>
         ensures taken { (bytes : List ℕ) → HasTaken self.old bytes
             → Feeds (bytes ++ piece.now) self.new result }
         ensures again { (found : ReadFault) → refusal self.old ≡ Some found
@@ -208,7 +189,7 @@ impl Feed {
     }
 
     /// All that was read, once the line or word that has begun is taken as the last.
-    fn end(self) -> Result<Reading, Unread>
+    fn end(self) -> Result<Reading, ReadError>
         ensures ends { (bytes : List ℕ) → HasTaken self bytes → EndsReading bytes result }
         ensures again { (found : ReadFault) → refusal self ≡ Some found → result ≡ Err found }
         ensures ended { (bytes : List ℕ) → HasTaken self bytes → settled_fault bytes ≡ None
@@ -238,28 +219,12 @@ impl Feed {
         }
     }
 
-    /// The file that the bytes so far parse to, or why they don't.
+    /// The file that the bytes so far parse to, as `finish` gives it.
     ///
     /// # Errors
     ///
-    /// A refusal of `feed` is returned again. Else:
-    ///
-    /// - `Line`: the last line, or its last word, has the first fault.
-    /// - `End`: no line has a fault, and the lines together are no file.
-    /// - `OutOfMemory`: memory was refused. Where a line EOF is settled none is wanted.
-    pub fn finish(self) -> Result<File, ReadFault>
-        ensures read { (bytes : List ℕ) → HasTaken self bytes → Reads bytes result }
-        ensures memory { (bytes : List ℕ) → HasTaken self bytes → result ≡ Err OutOfMemory
-            → is_bare bytes ≡ false }
-        ensures again { (found : ReadFault) → refusal self ≡ Some found → result ≡ Err found }
-        ensures ended { (bytes : List ℕ) → HasTaken self bytes → settled_fault bytes ≡ None
-            → has_end_line (settled_part bytes) ≡ true → result ≢ Err OutOfMemory }
-    {
-        promised(self.into_file())
-    }
-
-    /// The file that the bytes so far parse to, as `finish` gives it.
-    pub(crate) fn into_file(self) -> Result<File, Unread>
+    /// Those of `finish`.
+    pub(crate) fn into_file(self) -> Result<File, ReadError>
         ensures read { (bytes : List ℕ) → HasTaken self bytes → Reads bytes result }
         ensures memory { (bytes : List ℕ) → HasTaken self bytes → result ≡ Err OutOfMemory
             → is_bare bytes ≡ false }

@@ -7,7 +7,7 @@ ghost use Rattle.tsp_read.specs.Feed.{HasTaken};
 ghost use Rattle.tsp_read.specs.Timely.{FeedsAll};
 
 use crate::feed::Feed;
-use crate::unread::Unread;
+use crate::read_error::ReadError;
 use std::io::Read;
 use tsp_format::MOST_FILE_BYTES;
 use tsp_stream::{Gives, Watched};
@@ -17,7 +17,7 @@ const MOST_AT_ONCE: usize = 4_096;
 
 /// Feeds the bytes of a reader: up to its end, to an end line, to a fault, or past the most bytes
 /// that a file may have.
-pub(crate) fn feed_all<R: Gives>(feed: &mut Feed, reader: &mut Watched<R>) -> Result<(), Unread>
+pub(crate) fn feed_all<R: Gives>(feed: &mut Feed, reader: &mut Watched<R>) -> Result<(), ReadError>
     requires start { HasTaken feed.old [] }
     requires sound { has_failed reader.old ≡ false }
     ensures fed { FeedsAll (turn_of R.remaining reader.old reader.new) feed.new result }
@@ -30,7 +30,7 @@ pub(crate) fn feed_all<R: Gives>(feed: &mut Feed, reader: &mut Watched<R>) -> Re
             return Ok(());
         }
         let Ok(count) = reader.read(&mut piece) else {
-            return Err(Unread::by_device());
+            return Err(ReadError::by_device());
         };
         if count == 0 {
             return Ok(());

@@ -9,9 +9,9 @@ ghost use Rattle.tsp_read.specs.states.Onward.{is_over_long};
 
 use crate::cut::{Next, next_item};
 use crate::item::{line_after, take, word_of};
+use crate::read_error::ReadError;
 use crate::state::reading::Reading;
 use crate::token::Token;
-use crate::unread::Unread;
 use std::alloc::Global;
 use tsp_format::MOST_WORD_BYTES;
 use tsp_number::NumberFault;
@@ -65,7 +65,7 @@ impl Intake {
     }
 
     /// Takes the next item. Returns whether it is an end line.
-    pub(crate) fn take_next(&mut self, alloc: Global, next: &Next<'_>) -> Result<bool, Unread>
+    pub(crate) fn take_next(&mut self, alloc: Global, next: &Next<'_>) -> Result<bool, ReadError>
         requires line { self.old.line ≤ most_file_bytes }
         requires words { self.old.words < most_file_bytes }
         ensures item { (earlier : List Item) → HasTakenItems self.old earlier
@@ -81,22 +81,22 @@ impl Intake {
                 self.inside = next.is_inside();
                 Ok(ended)
             }
-            Err(StepFault::Memory(refused)) => Err(Unread::refused(refused)),
-            Err(StepFault::Fault(fault)) => Err(Unread::at(self.line, self.words, fault)),
+            Err(StepFault::Memory(refused)) => Err(ReadError::refused(refused)),
+            Err(StepFault::Fault(fault)) => Err(ReadError::at(self.line, self.words, fault)),
         }
     }
 
     /// The fault of a word line that is too long.
-    fn long_line(&self) -> Unread
+    fn long_line(&self) -> ReadError
         ensures { (earlier : List Item) → HasTakenItems self.now earlier → (text : List ℕ)
             → is_over_long (line_item text) ≡ true
             → TakesNext earlier (line_item text) self.now (Err result) }
     {
-        Unread::at(self.line, 0, LineFault::LongLine)
+        ReadError::at(self.line, 0, LineFault::LongLine)
     }
 
     /// The fault of a word that is too long, whatever its bytes are.
-    fn long_word(&mut self, alloc: Global) -> Unread
+    fn long_word(&mut self, alloc: Global) -> ReadError
         requires line { self.old.line ≤ most_file_bytes }
         requires words { self.old.words < most_file_bytes }
         ensures { (earlier : List Item) → HasTakenItems self.old earlier → (word : List ℕ)
@@ -108,13 +108,13 @@ impl Intake {
             // No such word is taken.
             Ok(_) => {
                 let fault = LineFault::Number(NumberFault::LongWord);
-                Unread::at(self.line, self.words, fault)
+                ReadError::at(self.line, self.words, fault)
             }
         }
     }
 
     /// The fault of a line or a word that is too long, whatever its bytes are.
-    pub(crate) fn too_long(&mut self, alloc: Global, token: Token) -> Unread
+    pub(crate) fn too_long(&mut self, alloc: Global, token: Token) -> ReadError
         requires line { self.old.line ≤ most_file_bytes }
         requires words { self.old.words < most_file_bytes }
         ensures { (earlier : List Item) → HasTakenItems self.old earlier → (text : List ℕ)
@@ -133,7 +133,7 @@ impl Intake {
         &mut self,
         alloc: Global,
         piece: &'a [u8],
-    ) -> Result<Option<&'a [u8]>, Unread>
+    ) -> Result<Option<&'a [u8]>, ReadError>
         requires line { self.old.line + length piece.now ≤ most_file_bytes + 1 }
         requires words { self.old.words + length piece.now ≤ most_file_bytes }
         ensures items { (bytes : List ℕ) → IsReadTo self.old bytes piece.now

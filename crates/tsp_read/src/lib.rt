@@ -10,6 +10,7 @@
 //! ```
 #![tactic(auto)]
 
+mod asked_reads;
 mod begun;
 mod count;
 mod cut;
@@ -18,16 +19,17 @@ mod feed;
 mod input;
 mod intake;
 mod item;
-mod read;
+mod read_error;
+mod read_whole;
 mod run;
 mod stage;
 mod state;
 mod token;
-mod unread;
 
+pub use asked_reads::{read_bytes, read_from};
 pub use examples::examples_of_reading;
 pub use feed::Feed;
-pub use read::{read_bytes, read_from};
+pub use read_error::ReadError;
+pub use read_whole::{file_of_bytes, file_of_reader};
 pub use tsp_draft::EndFault;
 pub use tsp_text::{LineFault, ReadFault};
-pub use unread::{Unread, file_of_bytes, file_of_reader};

@@ -1,11 +1,11 @@
 //! How far a text is that comes in pieces.
 
-use crate::unread::Unread;
+use crate::read_error::ReadError;
 
 /// How far a text is: it goes on, its end line was taken, or it was refused.
 #[derive(Clone, Copy)]
 pub(crate) enum Stage {
     Going,
     Ended,
-    Refused(Unread),
+    Refused(ReadError),
 }

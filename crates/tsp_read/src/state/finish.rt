@@ -10,8 +10,8 @@ ghost use Rattle.tsp_draft.specs.states.Drafts.{fields_of};
 ghost use Rattle.tsp_draft.specs.Rules.{standing_of, end_fault, fault_of};
 ghost use Rattle.tsp_read.specs.states.Finishes.{FileOf};
 
+use crate::read_error::ReadError;
 use crate::state::reading::Reading;
-use crate::unread::Unread;
 use std::alloc::Global;
 use tsp_draft::{Draft, EndFault, end_fault};
 use tsp_file::File;
@@ -75,7 +75,7 @@ impl Reading {
 }
 
 /// The file of all that was read.
-pub(crate) fn completed(reading: Reading, alloc: Global) -> Result<File, Unread>
+pub(crate) fn completed(reading: Reading, alloc: Global) -> Result<File, ReadError>
     requires { IsReadFrom reading }
     ensures file { (earlier : List Item) → Holds reading earlier → AreCut earlier
         → Completes earlier result }
@@ -83,7 +83,7 @@ pub(crate) fn completed(reading: Reading, alloc: Global) -> Result<File, Unread>
 {
     match reading.finish(alloc) {
         Ok(file) => Ok(file),
-        Err(FinishFault::Memory(refused)) => Err(Unread::refused(refused)),
-        Err(FinishFault::End(fault)) => Err(Unread::at_end(fault)),
+        Err(FinishFault::Memory(refused)) => Err(ReadError::refused(refused)),
+        Err(FinishFault::End(fault)) => Err(ReadError::at_end(fault)),
     }
 }

@@ -1,7 +1,7 @@
--- The goals of `file_of_bytes` in src/unread.rt: what it ensures.
+-- The goals of `file_of_bytes` in src/read_whole.rt: what it ensures.
 use Rattle.std.proofs.Common.{[], refl}
 use Rattle.tsp_read.proofs.InTime.{bytes_fault, bytes_memory}
-use Rattle.tsp_read.proofs.unread.file_of_bytes.Goals as goal
+use Rattle.tsp_read.proofs.read_whole.file_of_bytes.Goals as goal
 
 -- plan: the bytes are one piece: a fault of it (`bytes_fault`), or the file at its end
 pub returns-in-Err-clause-answer : goal.returns-in-Err-clause-answer

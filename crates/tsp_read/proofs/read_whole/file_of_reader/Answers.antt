@@ -1,8 +1,8 @@
--- The goals of `file_of_reader` in src/unread.rt: what it ensures.
+-- The goals of `file_of_reader` in src/read_whole.rt: what it ensures.
 use Rattle.tsp_stream.specs.states.Watched.{turn_of}
 use Rattle.tsp_read.proofs.Asking.{read_none}
 use Rattle.tsp_read.proofs.InTime.{in_time, answer_of}
-use Rattle.tsp_read.proofs.unread.file_of_reader.Goals as goal
+use Rattle.tsp_read.proofs.read_whole.file_of_reader.Goals as goal
 
 -- plan: the pieces are the bytes that were given, so the answer is that of all of them (`answer_of`)
 pub returns-in-Ok-clause-in_time : goal.returns-in-Ok-clause-in_time

@@ -1,0 +1,109 @@
+//! Reading a text, a reader, or pieces. Each call returns the fault of another one without the
+//! token of a refusal.
+
+ghost use Rattle.std.specs.Prelude.{◌≡◌, Err, false};
+ghost use Rattle.tsp_stream.specs.states.Watched.{turn_of};
+ghost use Rattle.tsp_text.specs.declared.fault.ReadFault.TheVariants.{OutOfMemory};
+ghost use Rattle.tsp_read.specs.states.Onward.{is_bare};
+ghost use Rattle.tsp_read.specs.Asked.{IsReadOn};
+ghost use Rattle.tsp_read.specs.Reads.{Reads, ReadsFrom};
+ghost use Rattle.tsp_read.specs.Timely.{ReadsInTime};
+
+use crate::feed::Feed;
+use crate::read_whole::{file_of_bytes, file_of_reader};
+use std::alloc::Global;
+use tsp_file::File;
+use tsp_stream::{Gives, Watched};
+use tsp_text::ReadFault;
+
+/// Reads a file from the bytes of a text.
+///
+/// # Errors
+///
+/// - `Line`: the first line that has a fault, in a number line its first word with one.
+/// - `TooLong`: there are more bytes than a file may have, and those that it may have decide
+///   nothing.
+/// - `End`: no line has a fault, and the lines together are no file.
+/// - `OutOfMemory`: memory was refused. It may come in place of any answer, but for a text of
+///   blanks and bytes 10 alone.
+pub fn read_bytes(alloc: Global, bytes: &[u8]) -> Result<File, ReadFault>
+    ensures answer { Reads bytes.now result }
+    ensures memory { result ≡ Err OutOfMemory → is_bare bytes.now ≡ false }
+{
+    Ok(file_of_bytes(alloc, bytes)?)
+}
+
+/// Reads a file from a reader, in pieces of at most 4,096 bytes: up to an end, to an end line, to a
+/// fault, or past the most bytes that a file may have.
+///
+/// The answer is that of `read_bytes` for the bytes that the reader delivered, and for all that it
+/// has. At most 4,096 bytes are taken past 1,073,741,824, or past an end line or a fault that is
+/// settled. A reader that had failed before is not read, and it fails by an error of a read alone,
+/// which is the last one.
+///
+/// # Errors
+///
+/// - `Line`, `End` and `TooLong`: as `read_bytes` says.
+/// - `Device`: a read failed, or had failed before.
+/// - `OutOfMemory`: memory was refused. It may come in place of any answer but `Device`, where the
+///   reader delivered more than blanks and bytes 10.
+pub fn read_from<R: Gives>(alloc: Global, reader: &mut Watched<R>) -> Result<File, ReadFault>
+    ensures answer { ReadsFrom (turn_of R.remaining reader.old reader.new) result }
+    ensures asked { IsReadOn R.gives reader.old reader.new }
+    ensures in_time { ReadsInTime (turn_of R.remaining reader.old reader.new) result }
+{
+    Ok(file_of_reader(alloc, reader)?)
+}
+
+impl Feed {
+    ghost use Rattle.std.specs.Prelude.{◌≡◌, ◌≢◌, ◌++◌, List, ℕ, Some, None, Ok, Err, IfErr, true, false};
+    ghost use Rattle.tsp_text.specs.declared.fault.ReadFault.{ReadFault};
+    ghost use Rattle.tsp_text.specs.declared.fault.ReadFault.TheVariants.{OutOfMemory};
+    ghost use Rattle.tsp_text.specs.Items.{has_end_line};
+    ghost use Rattle.tsp_text.specs.Text.{settled_part, settled_fault};
+    ghost use Rattle.tsp_read.specs.states.Onward.{is_bare};
+    ghost use Rattle.tsp_read.specs.Reads.{Reads};
+    ghost use Rattle.tsp_read.specs.Feed.{HasTaken, refusal, Feeds};
+
+    /// Takes the next piece. After an end line everything is taken, and nothing is looked at.
+    ///
+    /// # Errors
+    ///
+    /// After a refusal every later call returns the same, and no bytes are those so far.
+    ///
+    /// - `Line`: a line or a word that has come whole, or is too long already, has the first fault.
+    /// - `TooLong`: there are more bytes than a file may have, and those that it may have decide
+    ///   nothing.
+    /// - `OutOfMemory`: memory was refused.
+    pub fn feed(&mut self, piece: &[u8]) -> Result<(), ReadFault>
+        ensures taken { (bytes : List ℕ) → HasTaken self.old bytes
+            → Feeds (bytes ++ piece.now) self.new result }
+        ensures again { (found : ReadFault) → refusal self.old ≡ Some found
+            → (result ≡ Err found) × (refusal self.new ≡ Some found) }
+        ensures refused { IfErr result (λ found. refusal self.new ≡ Some found) }
+        ensures ended { (bytes : List ℕ) → HasTaken self.old bytes → settled_fault bytes ≡ None
+            → has_end_line (settled_part bytes) ≡ true → result ≡ Ok tt }
+    {
+        Ok(self.take(piece)?)
+    }
+
+    /// The file that the bytes so far parse to, or why they don't.
+    ///
+    /// # Errors
+    ///
+    /// A refusal of `feed` is returned again. Else:
+    ///
+    /// - `Line`: the last line, or its last word, has the first fault.
+    /// - `End`: no line has a fault, and the lines together are no file.
+    /// - `OutOfMemory`: memory was refused. Where a line EOF is settled none is wanted.
+    pub fn finish(self) -> Result<File, ReadFault>
+        ensures read { (bytes : List ℕ) → HasTaken self bytes → Reads bytes result }
+        ensures memory { (bytes : List ℕ) → HasTaken self bytes → result ≡ Err OutOfMemory
+            → is_bare bytes ≡ false }
+        ensures again { (found : ReadFault) → refusal self ≡ Some found → result ≡ Err found }
+        ensures ended { (bytes : List ℕ) → HasTaken self bytes → settled_fault bytes ≡ None
+            → has_end_line (settled_part bytes) ≡ true → result ≢ Err OutOfMemory }
+    {
+        Ok(self.into_file()?)
+    }
+}
