@@ -7,8 +7,7 @@ ghost use Rattle.tsp_format.specs.Nodes.{IsNode};
 ghost use Rattle.tsp_verdict.specs.Plan.{demand_of, depot_of, AreCustomers};
 ghost use Rattle.tsp_draft.specs.Fields.{nodes_of};
 ghost use Rattle.tsp_cost.specs.ComputedProblems.{demands_of, depots_of};
-ghost use Rattle.tsp_verdict.specs.Routes.{NoneOfRoutesBefore, NoneOfRoutesBeforePlaces, IsFirstAgainstRoutes, IsRoutesVerdict, NoneOfRoutesBeforeRepeats};
-ghost use Rattle.tsp_reason.specs.declared.verdict.Reason.TheVariants.{DepotCount};
+ghost use Rattle.tsp_verdict.specs.Routes.{NoneOfRoutesBeforePlaces, IsFirstAgainstRoutes, IsRoutesVerdict, NoneOfRoutesBeforeRepeats};
 ghost use Rattle.tsp_verdict.specs.Bounded.{StandsAgainstRouting, NoneAgainstRouting};
 ghost use Rattle.tsp_verdict.specs.Reasons.{IsFirstReason};
 ghost use Rattle.tsp_verdict.specs.states.RouteLists.{AreToursOf};
@@ -26,8 +25,8 @@ use tsp_reason::{Reason, Verdict};
 /// The fewest nodes of an instance whose routes are judged.
 pub(crate) const FEWEST_NODES: u32 = 2;
 
-/// The first reason against the routes of a CVRP; or their number, the least number, and their
-/// length.
+/// The first reason against the routes of a CVRP, in the order that [`Reason`] says; or their
+/// number, the least number, and their length.
 ///
 /// # Errors
 ///
@@ -43,10 +42,22 @@ pub(crate) fn verdict_on_routes(
         (λ refused. NoneOfRoutesBeforeRepeats inst.now sol.now) }
 {
     let routing = routing(inst);
-    let (depot, routes) = match depot_and_routes(inst, &routing, sol) {
-        Ok(found) => found,
+    let Some(routes) = solution_tours(sol) else {
+        return Ok(Verdict::No(Reason::NotASolution));
+    };
+    let nodes = inst.count();
+    if nodes < FEWEST_NODES {
+        return Ok(Verdict::No(Reason::TooFewNodes));
+    }
+    if sol.dimension().is_some_and(|stated| stated != nodes) {
+        return Ok(Verdict::No(Reason::Dimension));
+    }
+    // `DepotCount`, `DepotDemand`, `FixedEdgesInRoutes`
+    let depot = match the_depot(inst, &routing) {
+        Ok(depot) => depot,
         Err(reason) => return Ok(Verdict::No(reason)),
     };
+    // `DepotInRoute`, `NodeOutOfRange`
     if let Some(reason) = first_against_places(inst, sol, depot, routes) {
         return Ok(Verdict::No(reason));
     }
@@ -107,51 +118,6 @@ pub(crate) fn the_depot(inst: &Instance, routing: &RoutingData<'_>) -> Result<u3
         return Err(Reason::FixedEdgesInRoutes);
     }
     Ok(*depot)
-}
-
-/// The only depot of an instance and the routes of a solution, or the first reason that needs no
-/// look at the routes.
-fn depot_and_routes<'a>(
-    inst: &Instance,
-    routing: &RoutingData<'_>,
-    sol: &'a File,
-) -> Result<(u32, &'a [Vec<u32>]), Reason>
-    requires demands { routing.now.demands.now ≡ demands_of inst.now }
-    requires each { length routing.now.demands.now ≡ nodes_of inst.now }
-    requires depots { routing.now.depots.now ≡ depots_of inst.now }
-    requires each_depot { All (IsNode (nodes_of inst.now)) routing.now.depots.now }
-    ensures { MatchResult result (λ found. (found.0 ≡ depot_of inst.now)
-        × IsNode (nodes_of inst.now) found.0 × (demand_of (demands_of inst.now) found.0 ≡ pos 0)
-        × NoneOfRoutesBeforePlaces inst.now sol.now
-        × AreToursOf sol.now found.1.now) (λ reason. IsFirstAgainstRoutes inst.now sol.now reason) }
-{
-    let routes = match first_against_files(inst, sol) {
-        Ok(routes) => routes,
-        Err(reason) => return Err(reason),
-    };
-    match the_depot(inst, routing) {
-        Ok(depot) => Ok((depot, routes)),
-        Err(reason) => Err(reason),
-    }
-}
-
-/// The routes of a solution, or the first reason that needs no look at the depot.
-fn first_against_files<'a>(inst: &Instance, sol: &'a File) -> Result<&'a [Vec<u32>], Reason>
-    ensures { MatchResult result (λ routes. AreToursOf sol.now routes.now
-        × (2 ≤ nodes_of inst.now) × NoneOfRoutesBefore inst.now sol.now DepotCount)
-        (λ reason. IsFirstAgainstRoutes inst.now sol.now reason) }
-{
-    let nodes = inst.count();
-    let Some(routes) = solution_tours(sol) else {
-        return Err(Reason::NotASolution);
-    };
-    if nodes < FEWEST_NODES {
-        return Err(Reason::TooFewNodes);
-    }
-    if sol.dimension().is_some_and(|stated| stated != nodes) {
-        return Err(Reason::Dimension);
-    }
-    Ok(routes)
 }
 
 /// The first reason that one node alone shows: the depot, or a node that is too large.

@@ -5,11 +5,12 @@ use crate::bounded::costs_of_tours;
 use crate::certified::bound_of;
 use crate::claimed::{is_other, length_in};
 use crate::files::solution_tours;
+use crate::fixed::first_unused_by;
 use crate::routes::verdict_on_routes;
 use crate::source::{Given, Source, verdict_by, verdict_with};
-use crate::tour::length_after_files;
+use crate::tour::{first_against_nodes, is_directed, the_tour};
 use std::alloc::Global;
-use tsp_cost::{Costs, Instance};
+use tsp_cost::{Costs, Instance, tour_length};
 use tsp_file::File;
 use tsp_format::Kind;
 use tsp_memory::Refused;
@@ -34,7 +35,7 @@ impl<'a> Subject<'a> {
     ghost use Rattle.tsp_verdict.specs.Reasons.{IsFirstReason};
     ghost use Rattle.tsp_verdict.specs.Routes.{NoneOfRoutesBeforeRepeats};
     ghost use Rattle.tsp_verdict.specs.Tours.{NoneOfTourBeforeRepeats};
-    ghost use Rattle.tsp_verdict.specs.states.Sources.{IsSubject, IsVerdictGiven, IsBasisGiven, IsSource, FindsLength};
+    ghost use Rattle.tsp_verdict.specs.states.Sources.{IsSubject, IsVerdictGiven, IsBasisGiven, IsSource};
 
     /// The verdict on a solution: on a tour, or for TYPE CVRP on routes. Where a length is claimed,
     /// a solution of another length is rejected with `LengthClaimed`: after all other reasons
@@ -95,7 +96,8 @@ impl<'a> Subject<'a> {
         }
     }
 
-    /// The verdict on a solution that should be a tour.
+    /// The verdict on a solution that should be a tour. The reasons are judged in the order of
+    /// [`Reason`].
     fn verdict_on_tour(
         &self,
         alloc: Global,
@@ -109,48 +111,39 @@ impl<'a> Subject<'a> {
             (λ verdict. IsVerdictGiven self.now.given claimed self.now.instance.now solution.now verdict)
             (λ refused. NoneOfTourBeforeRepeats self.now.instance.now solution.now) }
     {
-        let (length, source) = match self.length_of_tour(alloc, solution)? {
-            Ok(found) => found,
+        let inst = self.instance;
+        let Some(tours) = solution_tours(solution) else {
+            return Ok(Verdict::No(Reason::NotASolution));
+        };
+        // `TooFewNodes`, `NotSymmetric`
+        let source = match self.source() {
+            Ok(source) => source,
             Err(reason) => return Ok(Verdict::No(reason)),
         };
+        let nodes = inst.count();
+        if solution.dimension().is_some_and(|stated| stated != nodes) {
+            return Ok(Verdict::No(Reason::Dimension));
+        }
+        // `TourCount`, `TourLength`
+        let tour = match the_tour(inst, solution, tours) {
+            Ok(tour) => tour,
+            Err(reason) => return Ok(Verdict::No(reason)),
+        };
+        // `NodeOutOfRange`, `RepeatedNode`
+        if let Some(reason) = first_against_nodes(alloc, inst, solution, tour)? {
+            return Ok(Verdict::No(reason));
+        }
+        let directed = is_directed(inst.kind());
+        if let Some(index) = first_unused_by(alloc, tour, nodes, inst.fixed(), directed)? {
+            return Ok(Verdict::No(Reason::FixedEdgeUnused { index }));
+        }
+        let length = tour_length(inst, tour);
         if is_other(claimed, length) {
             return Ok(Verdict::No(Reason::LengthClaimed { length }));
         }
+        // those against the certificate
         let basis = self.basis_on(alloc, source)?;
         Ok(verdict_by(basis, length))
-    }
-
-    /// The length of a solution's one tour and what the instance was judged by, or the first
-    /// reason against the instance or the solution.
-    fn length_of_tour(
-        &self,
-        alloc: Global,
-        sol: &File,
-    ) -> Result<Result<(i64, Source<'a>), Reason>, Refused>
-        requires sound { IsSubject self.now.instance.now self.now.given }
-        requires kind { (self.now.instance.now.kind ≡ Some kinds.Tsp)
-            ⊎ (self.now.instance.now.kind ≡ Some kinds.Atsp) }
-        ensures { MatchResult result
-            (λ found. FindsLength self.now.instance.now sol.now self.now.given found)
-            (λ refused. NoneOfTourBeforeRepeats self.now.instance.now sol.now) }
-    {
-        let Some(tours) = solution_tours(sol) else {
-            return Ok(Err(Reason::NotASolution));
-        };
-        let source = match self.source() {
-            Ok(source) => source,
-            Err(reason) => return Ok(Err(reason)),
-        };
-        if sol
-            .dimension()
-            .is_some_and(|stated| stated != self.instance.count())
-        {
-            return Ok(Err(Reason::Dimension));
-        }
-        match length_after_files(alloc, self.instance, sol, tours)? {
-            Ok(length) => Ok(Ok((length, source))),
-            Err(reason) => Ok(Err(reason)),
-        }
     }
 
     /// What the instance is judged by, or the first reason against it, whatever the tour.

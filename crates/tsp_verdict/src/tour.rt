@@ -1,4 +1,4 @@
-//! The verdict on a tour.
+//! The tour of a solution, its nodes, and the costs of an instance of tours.
 
 ghost use Rattle.std.specs.Prelude.{◌≡◌, ◌⊎◌, ◌<◌, ◌≤◌, [], ◌∷◌, length, Some, MatchOption, MatchResult};
 ghost use Rattle.std.specs.List.{All};
@@ -11,13 +11,12 @@ ghost use Rattle.tsp_verdict.specs.Tours.{NoneOfTourBefore, NoneOfTourBeforeNode
 ghost use Rattle.tsp_file.specs.Cost.{cost};
 ghost use Rattle.tsp_theory.specs.Costs.{IsFirstAsymmetric};
 ghost use Rattle.tsp_theory.specs.Cycle.{IsCycle};
-ghost use Rattle.tsp_verdict.specs.states.TourCosts.{AreTourCosts, IsLengthOf};
+ghost use Rattle.tsp_verdict.specs.states.TourCosts.{AreTourCosts};
 ghost use Rattle.tsp_verdict.specs.states.RouteLists.{AreToursOf};
 
-use crate::fixed::first_unused_by;
 use crate::places::{are_different, first_larger, first_repeated};
 use std::alloc::Global;
-use tsp_cost::{Costs, EvenView, Instance, View, even_view, tour_length};
+use tsp_cost::{Costs, EvenView, Instance, View, even_view};
 use tsp_file::File;
 use tsp_format::Kind;
 use tsp_memory::Refused;
@@ -35,39 +34,13 @@ pub(crate) enum TourCosts<'a> {
     Directed(View<'a>),
 }
 
-/// The length of a solution's one tour, or the first reason against it, where none applies that
-/// needs no look at the tours.
-pub(crate) fn length_after_files(
-    alloc: Global,
-    inst: &Instance,
-    sol: &File,
-    tours: &[Vec<u32>],
-) -> Result<Result<i64, Reason>, Refused>
-    requires kind { (inst.now.kind ≡ Some kinds.Tsp) ⊎ (inst.now.kind ≡ Some kinds.Atsp) }
-    requires tours { AreToursOf sol.now tours.now }
-    requires before { NoneOfTourBefore inst.now sol.now TourCount }
-    ensures { MatchResult result
-        (λ found. IsLengthOf inst.now sol.now found)
-        (λ refused. NoneOfTourBeforeRepeats inst.now sol.now) }
-{
-    let tour = match the_tour(inst, sol, tours) {
-        Ok(tour) => tour,
-        Err(reason) => return Ok(Err(reason)),
-    };
-    if let Some(reason) = first_against_nodes(alloc, inst, sol, tour)? {
-        return Ok(Err(reason));
-    }
-    let (nodes, fixed) = (inst.count(), inst.fixed());
-    let directed = is_directed(inst.kind());
-    if let Some(index) = first_unused_by(alloc, tour, nodes, fixed, directed)? {
-        return Ok(Err(Reason::FixedEdgeUnused { index }));
-    }
-    Ok(Ok(tour_length(inst, tour)))
-}
-
 /// The one tour of a solution, with as many nodes as the instance, or the first reason against it
 /// that is judged before its nodes are looked at.
-fn the_tour<'a>(inst: &Instance, sol: &File, tours: &'a [Vec<u32>]) -> Result<&'a [u32], Reason>
+pub(crate) fn the_tour<'a>(
+    inst: &Instance,
+    sol: &File,
+    tours: &'a [Vec<u32>],
+) -> Result<&'a [u32], Reason>
     requires tours { AreToursOf sol.now tours.now }
     requires before { NoneOfTourBefore inst.now sol.now TourCount }
     ensures { MatchResult result
@@ -89,7 +62,7 @@ fn the_tour<'a>(inst: &Instance, sol: &File, tours: &'a [Vec<u32>]) -> Result<&'
 /// # Errors
 ///
 /// Out of memory for a mark for each node.
-fn first_against_nodes(
+pub(crate) fn first_against_nodes(
     alloc: Global,
     inst: &Instance,
     sol: &File,

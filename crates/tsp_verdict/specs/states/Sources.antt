@@ -1,17 +1,14 @@
 -- What the bound of a verdict is taken from, what an instance of tours was judged by, and the verdict on a tour by what is known
 -- of all.
-use Rattle.std.specs.Prelude.{◌≡◌, ◌≤◌, Option, None, Result, Ok, Err, ℤ, IsTrue, option_map}
+use Rattle.std.specs.Prelude.{◌≡◌, ◌≤◌, Option, None, ℤ, IsTrue, option_map}
 use Rattle.tsp_draft.specs.Fields.{Fields, nodes_of}
 use Rattle.tsp_reason.specs.declared.basis.Basis.{Basis}
 use Rattle.tsp_reason.specs.declared.basis.Basis.TheVariants as bases
 use Rattle.tsp_reason.specs.declared.certificate.Certificate.{Certificate}
-use Rattle.tsp_reason.specs.declared.verdict.Reason.{Reason}
 use Rattle.tsp_reason.specs.declared.verdict.Verdict.{Verdict}
 use Rattle.tsp_reason.specs.declared.verdict.Verdict.TheVariants as verdicts
 use Rattle.tsp_verdict.specs.Basis.{IsBasis, IsVerdictFrom}
-use Rattle.tsp_verdict.specs.Bounded.{NoneAgainstTouring}
 use Rattle.tsp_verdict.specs.SolutionVerdict.{is_judged, IsVerdictWith}
-use Rattle.tsp_verdict.specs.Tours.{IsTourVerdict, IsFirstAgainstTour}
 use Rattle.tsp_verdict.specs.declared.source.Given.{Given}
 use Rattle.tsp_verdict.specs.declared.source.Given.TheVariants as givens
 use Rattle.tsp_verdict.specs.declared.source.Source.{Source}
@@ -45,13 +42,6 @@ abbrev pub IsSource : Fields → Given → Source → Type 0
 IsSource instance given (sources.Costs costs certificate) = (given ≡ givens.Certificate certificate) × (3 ≤ nodes_of instance)
     × AreTourCosts instance costs
 IsSource instance given (sources.Basis basis) = given ≡ givens.Basis basis
-
--- the length of the one tour, where no reason applies to the instance or to it; or the first reason
-abbrev pub FindsLength : Fields → Fields → Given → Result (ℤ × Source) Reason → Type 0
-FindsLength instance solution given (Ok found) = IsTourVerdict instance solution (verdicts.Tour found.0 None)
-    × NoneAgainstTouring instance
-    × IsSource instance given found.1
-FindsLength instance solution given (Err reason) = IsFirstAgainstTour instance solution reason
 
 -- ---- a tour
 

@@ -1,15 +1,12 @@
 -- What the costs of an instance are taken from while a tour is judged.
-use Rattle.std.specs.Prelude.{◌≡◌, None, Some, Result, Ok, Err, ℤ}
+use Rattle.std.specs.Prelude.{◌≡◌, Some}
 use Rattle.tsp_format.specs.declared.kinds.Kind.TheVariants as kinds
 use Rattle.tsp_draft.specs.Fields.{Fields}
 use Rattle.tsp_file.specs.Cost.{cost}
 use Rattle.tsp_theory.specs.Costs.{IsSymmetric}
 use Rattle.tsp_cost.specs.states.Views.{IsViewOf, ShowsEven}
-use Rattle.tsp_reason.specs.declared.verdict.Reason.{Reason}
-use Rattle.tsp_reason.specs.declared.verdict.Verdict.TheVariants as verdicts
 use Rattle.tsp_verdict.specs.declared.tour.TourCosts.{TourCosts}
 use Rattle.tsp_verdict.specs.declared.tour.TourCosts.TheVariants.{Undirected, Directed}
-use Rattle.tsp_verdict.specs.Tours.{IsTourVerdict, IsFirstAgainstTour}
 
 -- those of the instance, by its TYPE; under TYPE TSP they are the same in both directions
 abbrev pub AreTourCosts : Fields → TourCosts → Type 0
@@ -19,8 +16,3 @@ AreTourCosts instance (Directed view) = (instance.kind ≡ Some kinds.Atsp) × I
 -- under TYPE TSP the costs are the same in both directions
 abbrev pub IsSymmetricTsp : Fields → Type 0
 IsSymmetricTsp instance = instance.kind ≡ Some kinds.Tsp → IsSymmetric (cost instance)
-
--- the length of the one tour, where no reason applies; or the first reason
-abbrev pub IsLengthOf : Fields → Fields → Result ℤ Reason → Type 0
-IsLengthOf instance solution (Ok length) = IsTourVerdict instance solution (verdicts.Tour length None)
-IsLengthOf instance solution (Err reason) = IsFirstAgainstTour instance solution reason
