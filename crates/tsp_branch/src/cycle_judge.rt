@@ -12,12 +12,11 @@ ghost use Rattle.tsp_branch.specs.states.HeldRows.{HoldsRows};
 ghost use Rattle.tsp_branch.specs.states.HeldRows.{IsRoom};
 
 use crate::case_leaf::CaseLeaf;
+use crate::good_numbers::judge_numbers;
 use crate::room::Room;
 use crate::setting::Setting;
 use std::alloc::Global;
-use tsp_cases::{
-    Decision, JudgedLeaf, LeafJudge, Multipliers, OpenCase, fill_moved, judge_numbers,
-};
+use tsp_cases::{Decision, JudgedLeaf, LeafJudge, Multipliers, OpenCase, fill_moved};
 use tsp_memory::Refused;
 use tsp_theory::Costs;
 

@@ -18,6 +18,7 @@ mod cycle_judge;
 mod decided;
 mod examples;
 mod given_back;
+mod good_numbers;
 mod judged;
 mod kept;
 mod leaf;

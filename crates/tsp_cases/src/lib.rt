@@ -1,10 +1,9 @@
 //! Families of sets of nodes and trees of cases, as theorems on lower bounds, and their judges.
 //! There are two relaxations: least 1-trees, and the least arc from each node.
 //!
-//! [`judge_families`] finds the first family of a certificate that isn't good, [`judge_cases`] the
-//! first branch that is bad or comes twice, and [`judge_numbers`] whether the numbers of a leaf are
-//! good. [`judge_leaves`] is one pass over the leaves, for any [`LeafJudge`]. The bound of a leaf
-//! is tsp_branch's, or tsp_routing's.
+//! [`judge_families`] finds the first family of a certificate that isn't good, and [`judge_cases`]
+//! the first branch that is bad or comes twice. [`judge_leaves`] is one pass over the leaves, for
+//! any [`LeafJudge`]. The bound of a leaf is tsp_branch's, or tsp_routing's.
 //!
 //! ```text
 //! let families = judge_families(alloc, &tree)?;
@@ -20,7 +19,6 @@ mod examples;
 mod families;
 mod family_examples;
 mod good_families;
-mod good_numbers;
 mod judged;
 mod laws;
 mod leaf_judge;
@@ -56,7 +54,6 @@ pub use examples::{
 pub use families::Families;
 pub use family_examples::examples_of_families;
 pub use good_families::judge_families;
-pub use good_numbers::{judge_numbers, sum_with};
 pub use judged::{JudgedCases, JudgedFamilies, JudgedLeaf, JudgedLeaves};
 pub use laws::{
     case_tree_bounds_are_unique, case_trees_bound_cycles, cases_bound_cycles, cases_have_no_cycle,

@@ -2,7 +2,7 @@
 use Rattle.std.proofs.Common.{false, refl, length, take, drop, ℤ, List}
 use Rattle.std.proofs.lemmas.Bool.{both_ways}
 use Rattle.tsp_cases.proofs.CaseWeights.{small_multipliers}
-use Rattle.tsp_cases.proofs.good_numbers.judge_numbers.Goals as goal
+use Rattle.tsp_branch.proofs.good_numbers.judge_numbers.Goals as goal
 
 -- plan: both parts of the numbers are within their limits, so the multipliers are small (`small_multipliers`)
 pub returns-then-not-copy_within-2-clause-good : goal.returns-then-not-copy_within-2-clause-good

@@ -3,7 +3,7 @@ use Rattle.std.proofs.Common.{◌≡◌, ◌*◌, ◌^◌, drop}
 use Rattle.std.specs.Prelude.{pos, ◌+ℤ◌}
 use Rattle.tsp_theory.specs.CertificateNumbers.{IsFromTo}
 use Rattle.tsp_cases.specs.FamiliesOfSets.{sum_with}
-use Rattle.tsp_cases.proofs.good_numbers.sum_with.Given as goal
+use Rattle.tsp_branch.proofs.good_numbers.sum_with.Given as goal
 
 abbrev pub invariant-families : goal.invariant-families
 invariant-families l = record {

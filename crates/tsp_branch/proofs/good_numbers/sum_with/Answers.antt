@@ -7,7 +7,7 @@ use Rattle.std.proofs.lemmas.Int.{to_z-of_z}
 use Rattle.tsp_families.specs.declared.family.Crossings.{Crossings}
 use Rattle.tsp_cases.specs.FamiliesOfSets.{most_or_least, sum_with}
 use Rattle.tsp_cases.proofs.FamilySums.{sum_left, number_small, AddsFamily, adds_family}
-use Rattle.tsp_cases.proofs.good_numbers.sum_with.Goals as goal
+use Rattle.tsp_branch.proofs.good_numbers.sum_with.Goals as goal
 
 -- the number of the family that is next
 abbrev own : (c : goal.After-from-in-families) → ℕ

@@ -4,10 +4,7 @@ ghost use Rattle.std.specs.Prelude.{◌≡◌, ◌+◌, ◌↔◌, IsTrue, lengt
 ghost use Rattle.tsp_cases.specs.GoodNumbers.{AreGoodNumbers, as_leaf_numbers};
 ghost use Rattle.tsp_cases.specs.FamiliesOfSets.{most_or_least, sum_with};
 
-use crate::families::Families;
-use crate::multipliers::Multipliers;
-use crate::numbers::copy_within;
-use tsp_families::Crossings;
+use tsp_cases::{Crossings, Families, Multipliers, copy_within};
 use tsp_format::MOST_POTENTIAL;
 
 /// How often two nodes cross the sets of all families at most, each as often as its multiplier
@@ -17,7 +14,7 @@ const MOST_CROSSED: i64 = 900_000_000_000_000_000;
 /// Whether the numbers, of the nodes and then of the families, are good: no potential is above
 /// 10^15 in size, no multiplier is negative, and these, each times the most that two nodes cross of
 /// its family, sum to at most 9 * 10^17. Then they are copied.
-pub fn judge_numbers(
+pub(crate) fn judge_numbers(
     numbers: &[i128],
     families: &Families,
     potentials: &mut [i64],
@@ -48,7 +45,7 @@ pub fn judge_numbers(
 
 /// The most that two nodes cross of families, or the least that a cycle does, each times its
 /// multiplier.
-pub fn sum_with(is_most: bool, multipliers: &Multipliers) -> i128
+pub(crate) fn sum_with(is_most: bool, multipliers: &Multipliers) -> i128
     ensures { result ≡ sum_with is_most multipliers.now.families.now.crossed.items multipliers.now.numbers.now }
 {
     let mut sum = 0;
