@@ -8,27 +8,27 @@ use Rattle.tsp_routing.proofs.least_walk.weighed_entry.Goals as goal
 pub returns-in-Some-clause-below : goal.returns-in-Some-clause-below
 returns-in-Some-clause-below g c = λ default.
     let row : (next : ℕ) → IsNode c.args.walks.now.nodes next
-        → least_at c.in-Some.kept.now next ≡ g.W.Weights.at c.args.walks.now.weights.now c.args.node next = λ next there.
+    → least_at c.in-Some.kept.now next ≡ g.W.Weights.at c.args.walks.now.weights.now c.args.node next = λ next there.
     c.in-Some.ensures.values next (subst (λ (k : ℕ). IsNode k next) (sym c.args.walks.now.same) there) in
     c.best_entry.ensures.below (g.W.Weights.at c.args.walks.now.weights.now) default row
 
 pub returns-in-Some-clause-met : goal.returns-in-Some-clause-met
 returns-in-Some-clause-met g c = λ default.
     let row : (next : ℕ) → IsNode c.args.walks.now.nodes next
-        → least_at c.in-Some.kept.now next ≡ g.W.Weights.at c.args.walks.now.weights.now c.args.node next = λ next there.
+    → least_at c.in-Some.kept.now next ≡ g.W.Weights.at c.args.walks.now.weights.now c.args.node next = λ next there.
     c.in-Some.ensures.values next (subst (λ (k : ℕ). IsNode k next) (sym c.args.walks.now.same) there) in
     c.best_entry.ensures.met (g.W.Weights.at c.args.walks.now.weights.now) default row
 
 pub returns-clause-below : goal.returns-clause-below
 returns-clause-below g c = λ default.
     let row : (next : ℕ) → IsNode c.args.walks.now.nodes next
-        → least_at c.fill.new.row next ≡ g.W.Weights.at c.args.walks.now.weights.now c.args.node next = λ next there.
+    → least_at c.fill.new.row next ≡ g.W.Weights.at c.args.walks.now.weights.now c.args.node next = λ next there.
     c.fill.ensures.values next (subst (λ (k : ℕ). IsNode k next) (sym c.args.walks.now.same) there) in
     c.best_entry-2.ensures.below (g.W.Weights.at c.args.walks.now.weights.now) default row
 
 pub returns-clause-met : goal.returns-clause-met
 returns-clause-met g c = λ default.
     let row : (next : ℕ) → IsNode c.args.walks.now.nodes next
-        → least_at c.fill.new.row next ≡ g.W.Weights.at c.args.walks.now.weights.now c.args.node next = λ next there.
+    → least_at c.fill.new.row next ≡ g.W.Weights.at c.args.walks.now.weights.now c.args.node next = λ next there.
     c.fill.ensures.values next (subst (λ (k : ℕ). IsNode k next) (sym c.args.walks.now.same) there) in
     c.best_entry-2.ensures.met (g.W.Weights.at c.args.walks.now.weights.now) default row
