@@ -17,7 +17,7 @@ use crate::kept_weights::LentRows;
 use crate::onward::{Onward, improved, least_onward, nowhere};
 use crate::sums::Sum;
 use std::alloc::Global;
-use tsp_memory::{Refused, push};
+use tsp_memory::{Refused, push, with_capacity};
 use tsp_tree::weight_in;
 
 /// The nodes 1 to `nodes`, one of them the depot, and for each a load, with a place 0 that isn't
@@ -90,7 +90,7 @@ fn next_row<S: Sum, W: LentRows>(
         IsRowSized S.value S.half walks.now.nodes ((length table.now + 1) * S.link) next.items) }
     ensures room { length row.new ≡ length row.old }
 {
-    let mut next = Vec::new(alloc);
+    let mut next = with_capacity(alloc, walks.nodes as usize + 1)?;
     push(&mut next, nowhere())?;
     'nodes: for index in 0..walks.nodes {
         let entry = entry(walks, index + 1, table, row);

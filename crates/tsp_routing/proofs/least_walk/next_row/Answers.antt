@@ -16,7 +16,7 @@ nodes-init g c =
     let size : ℕ = (length c.args.table.now + 1) * g.S.Sum.link in
     let P : Onward g.row.S.Denot → Type 0 = λ onward. IsEntrySized g.S.Sum.half size (onward_entry value onward) in
     let is : c.push.new.list.items ≡ c.nowhere.result ∷ [] =
-    c.in_ok-push.ensures.items ∙ ap (λ xs. xs ++ c.nowhere.result ∷ []) c.new-next.ensures.items in
+    c.in_ok-push.ensures.items ∙ ap (λ xs. xs ++ c.nowhere.result ∷ []) c.in_ok-next.ensures.items in
     record {
       long = ap (λ xs. length xs) is;
       room = c.requires.room;
