@@ -10,11 +10,13 @@
 
 namespace potentials {
 namespace {
-constexpr int kNearest = 5, kQuadrant = 1, kLight = 6;  // candidates of a node
-constexpr int kLengthsOf = 4;                           // neighbours whose distances are a node's length
-constexpr double kFirstStep = 0.3;                      // in lengths
-constexpr double kKept = 0.9;                           // of the last direction
-constexpr double kReach = 0.1;                          // of the steps of groups
+// Candidates of a node. In space the nearest ones of eight octants would be many, and gain nothing.
+constexpr int kNearest = 5, kQuadrant = 1, kLight = 6;
+constexpr int kNearestInSpace = 6, kOctant = 0, kLightInSpace = 5;
+constexpr int kLengthsOf = 4;       // neighbours whose distances are a node's length
+constexpr double kFirstStep = 0.3;  // in lengths
+constexpr double kKept = 0.9;       // of the last direction
+constexpr double kReach = 0.1;      // of the steps of groups
 constexpr int kRenewals = 6;
 constexpr double kCompletions[] = {0.85, 0.93, 0.98};  // when edges of the exact tree join the candidates
 constexpr int kSamples = 16;                           // of trees
@@ -37,9 +39,10 @@ Ascent::Ascent(const Problem& problem)
       numbers_(problem.nodes(), 0.0),
       speeds_(problem.nodes(), 0.0) {
   measure_lengths();
-  near_ = near_edges(problem, kNearest, kQuadrant);
+  near_ =
+      in_space() ? near_edges(problem, kNearestInSpace, kOctant) : near_edges(problem, kNearest, kQuadrant);
   const double begin = certify::Clock::processor();
-  edges_ = joined(near_, light_edges(problem, numbers_, kLight));
+  edges_ = joined(near_, light());
   const std::vector<Edge> tree = exact_tree(problem, numbers_, edges_);
   edges_ = joined(edges_, tree);
   search_seconds_ = certify::Clock::processor() - begin;
@@ -66,6 +69,12 @@ void Ascent::measure_lengths() {
   for (double& length : lengths_) length = std::max({length, mean / 20, 1e-3});
 }
 
+bool Ascent::in_space() const { return problem_.matrix() == nullptr && problem_.points().axes == 3; }
+
+std::vector<Edge> Ascent::light() const {
+  return light_edges(problem_, numbers_, in_space() ? kLightInSpace : kLight);
+}
+
 double Ascent::seconds_for(int steps) {
   constexpr int kTimed = 3;
   const double begin = certify::Clock::processor();
@@ -87,7 +96,7 @@ void Ascent::renew(double share) {
   const int due = renewals_until(share);
   if (due == renewed_) return;
   renewed_ = due;
-  edges_ = joined(near_, light_edges(problem_, numbers_, kLight));
+  edges_ = joined(near_, light());
   add_exact();
 }
 

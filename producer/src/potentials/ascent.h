@@ -27,6 +27,8 @@ class Ascent {
   const std::vector<Edge>& support() const { return support_; }
 
  private:
+  bool in_space() const;
+  std::vector<Edge> light() const;
   void measure_lengths();
   void renew(double share);
   void add_exact();

@@ -11,8 +11,9 @@ namespace {
 constexpr int kNodeBits = 17, kKeyBits = 30, kDigitBits = 10, kDigits = 3;
 constexpr std::uint64_t kNodeMask = (1U << kNodeBits) - 1;
 constexpr std::size_t kValues = 1U << kDigitBits;
-constexpr double kPartOfLight = 0.99;  // of the edges of a tree
-constexpr std::size_t kSampled = 16;   // one edge of so many
+constexpr double kPartOfLight = 0.99;                        // of the edges of a tree
+constexpr std::size_t kSampled = 16;                         // one edge of so many
+constexpr std::ptrdiff_t kPartsOfHeavy = 8, kFewHeavy = 64;  // edges that are sorted at once
 constexpr double kInfinite = std::numeric_limits<double>::infinity();
 }  // namespace
 
@@ -93,14 +94,22 @@ void OneTree::join(int a, int b) {
   if (components_.join(a, b)) tree_.emplace_back(a, b);
 }
 
+// The lightest part is sorted and joined first. After it most of the others are within one component.
 void OneTree::join_heavy() {
-  const auto end = std::remove_if(heavy_.begin(), heavy_.begin() + static_cast<std::ptrdiff_t>(heavies_),
-                                  [&](const Heavy& heavy) {
-                                    const Edge& edge = edges_[heavy.edge];
-                                    return components_.root(edge.a) == components_.root(edge.b);
-                                  });
-  std::sort(heavy_.begin(), end);
-  for (auto heavy = heavy_.begin(); heavy != end; ++heavy) join(edges_[heavy->edge].a, edges_[heavy->edge].b);
+  const auto within = [&](const Heavy& heavy) {
+    const Edge& edge = edges_[heavy.edge];
+    return components_.root(edge.a) == components_.root(edge.b);
+  };
+  const std::size_t whole = problem_.nodes() - 2;
+  auto first = heavy_.begin();
+  auto end = first + static_cast<std::ptrdiff_t>(heavies_);
+  while (first != end && tree_.size() < whole) {
+    end = std::remove_if(first, end, within);
+    const auto part = first + std::max((end - first) / kPartsOfHeavy, std::min(end - first, kFewHeavy));
+    std::nth_element(first, part, end);
+    std::sort(first, part);
+    for (; first != part; ++first) join(edges_[first->edge].a, edges_[first->edge].b);
+  }
 }
 
 // The range for the next call: nearly all edges of this tree are light in it.
