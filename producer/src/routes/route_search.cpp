@@ -6,6 +6,7 @@
 #include <utility>
 
 #include "routes/route_parameters.h"
+#include "tree/tree_steps.h"
 
 namespace certify::routes {
 namespace {
@@ -249,15 +250,10 @@ void RouteSearch::finish_reached() {
   }
 }
 
-bool RouteSearch::waits_for_none() const {
-  return std::all_of(window_.running().begin(), window_.running().end(),
-                     [](const Window::Begun& slot) { return slot->job.place < 0; });
-}
-
 // Begins the next case, or none until another one has ended. False where all are done or the time is over.
 bool RouteSearch::begin(Job& job) {
   finish_reached();
-  if ((open_.empty() && waits_for_none()) || clock_.over(kRouteTree.part_of_time)) return false;
+  if ((open_.empty() && waits_for_none(window_)) || clock_.over(kRouteTree.part_of_time)) return false;
   const std::size_t running = window_.running().size() - 1;  // (without this one)
   if (plan_.split > 0 && open_.size() + running >= plan_.split) return false;
   if (branches_ >= plan_.limits.branches) {
@@ -280,44 +276,25 @@ void RouteSearch::solve(Window::Slot& slot) {
   slot.job.here = {};
 }
 
-std::vector<int> RouteSearch::leaf_places() const {
-  std::vector<int> leaves;
-  for (std::size_t place = 0; place < places_.size(); place++) {
-    if (!places_[place].branch) leaves.push_back(static_cast<int>(place));
-  }
-  return leaves;
-}
-
-// Whether each leaf reaches the target by multiples of a grid, which all then have. One that doesn't is the
-// first that is tried next time.
+// Whether each leaf reaches the target by multiples of a grid, which all then have.
 bool RouteSearch::coarsen_to(Weight grid, std::vector<int>& leaves) {
-  std::vector<LeafNumbers> coarse;
-  coarse.reserve(leaves.size());
-  for (auto leaf = leaves.begin(); leaf != leaves.end(); ++leaf) {
-    coarse.push_back(bound_.rounded(duals_of(instance_, places_[*leaf].numbers, problem_.scale), grid));
-    if (clock_.over() || bound_.value(coarse.back(), limits_of(*leaf)) < aim()) {
-      std::rotate(leaves.begin(), leaf, leaf + 1);
-      return false;
-    }
-  }
-  for (std::size_t k = 0; k < leaves.size(); k++) places_[leaves[k]].numbers = std::move(coarse[k]);
+  const auto numbers_of = [&](int leaf) -> std::optional<LeafNumbers> {
+    const Duals duals = duals_of(instance_, places_[leaf].numbers, problem_.scale);
+    LeafNumbers numbers = bound_.rounded(duals, grid);
+    if (clock_.over() || bound_.value(numbers, limits_of(leaf)) < aim()) return std::nullopt;
+    return numbers;
+  };
+  auto coarse = numbers_of_all<LeafNumbers>(leaves, numbers_of);
+  if (!coarse) return false;
+  for (std::size_t k = 0; k < leaves.size(); k++) places_[leaves[k]].numbers = std::move((*coarse)[k]);
   return true;
 }
 
-// Where all leaves are done, their numbers become multiples of a large divisor of the scale that lets them
-// reach the target. A file has them divided by it, which makes it short.
+// Where all leaves are done, their numbers become multiples of a large divisor of the scale.
 void RouteSearch::coarsen() {
-  std::vector<int> leaves = leaf_places();
+  std::vector<int> leaves = leaf_places(places_);
   if (std::any_of(leaves.begin(), leaves.end(), [&](int place) { return !places_[place].done; })) return;
-  Weight tried = 0;
-  for (Weight parts = 1; parts < problem_.scale && !clock_.over(); parts++) {
-    if (problem_.scale % parts != 0 || parts < 2 * tried) continue;
-    if (coarsen_to(problem_.scale / parts, leaves)) {
-      grid_ = problem_.scale / parts;
-      return;
-    }
-    tried = parts;
-  }
+  grid_ = coarsest_grid(problem_.scale, clock_, [&](Weight grid) { return coarsen_to(grid, leaves); });
 }
 
 // The numbers of a leaf, of which as many are those of the leaf before as still reach the target, and those

@@ -80,8 +80,6 @@ class RouteSearch {
   void finish(int place);
   void finish_reached();
   RouteCaseSolver& own_solver();
-  bool waits_for_none() const;
-  std::vector<int> leaf_places() const;
   void coarsen();
   bool coarsen_to(Weight grid, std::vector<int>& leaves);
   void list_steps();

@@ -5,6 +5,7 @@
 #include <utility>
 
 #include "tree/bound_for.h"
+#include "tree/tree_steps.h"
 
 namespace certify {
 namespace {
@@ -323,15 +324,10 @@ void Search::finish_reached() {
   }
 }
 
-bool Search::waits_for_none() const {
-  return std::all_of(window_.running().begin(), window_.running().end(),
-                     [](const Window::Begun& slot) { return slot->job.place < 0; });
-}
-
 // Begins the next case, or none until another one has ended. False where all are done or the time is over.
 bool Search::begin(Job& job) {
   finish_reached();
-  if ((open_.empty() && waits_for_none()) || clock_.over(kTree.part_of_time)) return false;
+  if ((open_.empty() && waits_for_none(window_)) || clock_.over(kTree.part_of_time)) return false;
   const std::size_t running = window_.running().size() - 1;  // (without this one)
   if (plan_.split > 0 && open_.size() + running >= plan_.split) return false;
   if (branches_ >= plan_.limits.branches) {
@@ -390,18 +386,10 @@ bool Search::add_leaf(const Place& leaf, const std::vector<Decision>& decisions)
   return leaf.done && value >= aim();
 }
 
-std::vector<int> Search::leaf_places() const {
-  std::vector<int> leaves;
-  for (std::size_t place = 0; place < places_.size(); place++) {
-    if (!places_[place].branch) leaves.push_back(static_cast<int>(place));
-  }
-  return leaves;
-}
-
 // Drops the cuts of open leaves that a file can't have, those with the least multipliers. What leaves that
 // are done name is in the file.
 void Search::drop_surplus() {
-  std::vector<int> open = leaf_places();
+  std::vector<int> open = leaf_places(places_);
   std::erase_if(open, [&](int place) { return places_[place].done; });
   std::map<int, Value> sums;
   for (const int place : open) {
@@ -416,34 +404,22 @@ void Search::drop_surplus() {
   }
 }
 
-// Whether each leaf reaches the target by multiples of a grid, which all then have. One that doesn't is the
-// first that is tried next time.
+// Whether each leaf reaches the target by multiples of a grid, which all then have.
 bool Search::coarsen_to(Weight grid, std::vector<int>& leaves) {
-  std::vector<Numbers> coarse;
-  coarse.reserve(leaves.size());
-  for (auto leaf = leaves.begin(); leaf != leaves.end(); ++leaf) {
-    auto numbers = made_.coarse(places_[*leaf].numbers, decisions_of(*leaf), goal_.target, grid);
-    if (!numbers) {
-      std::rotate(leaves.begin(), leaf, leaf + 1);
-      return false;
-    }
-    coarse.push_back(std::move(*numbers));
-  }
-  for (std::size_t k = 0; k < leaves.size(); k++) places_[leaves[k]].numbers = std::move(coarse[k]);
+  auto coarse = numbers_of_all<Numbers>(leaves, [&](int leaf) {
+    return made_.coarse(places_[leaf].numbers, decisions_of(leaf), goal_.target, grid);
+  });
+  if (!coarse) return false;
+  for (std::size_t k = 0; k < leaves.size(); k++) places_[leaves[k]].numbers = std::move((*coarse)[k]);
   return true;
 }
 
 // Where all leaves are done, their numbers become multiples of a large divisor of the scale that lets them
-// reach the target. A file has them divided by it, which makes it short.
+// reach the target.
 void Search::coarsen() {
-  std::vector<int> leaves = leaf_places();
+  std::vector<int> leaves = leaf_places(places_);
   if (std::any_of(leaves.begin(), leaves.end(), [&](int place) { return !places_[place].done; })) return;
-  Weight tried = 0;
-  for (Weight parts = 1; parts < scale() && !clock_.over(); parts++) {
-    if (scale() % parts != 0 || parts < 2 * tried) continue;
-    if (coarsen_to(scale() / parts, leaves)) return;
-    tried = parts;
-  }
+  coarsest_grid(scale(), clock_, [&](Weight grid) { return coarsen_to(grid, leaves); });
 }
 
 // The tree from the root on, a branch before its cases.

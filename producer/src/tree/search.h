@@ -95,10 +95,8 @@ class Search {
   int next_place();
   Case case_of(int place);
   CaseSolver& own_solver();
-  bool waits_for_none() const;
   bool coarsen_to(Weight grid, std::vector<int>& leaves);
   void coarsen();
-  std::vector<int> leaf_places() const;
   void drop_surplus();
   void list_steps();
   Numbers numbers_for_file(const Place& leaf, const std::vector<Decision>& decisions);
