@@ -27,7 +27,7 @@ use Rattle.tsp_cases.specs.GoodNumbers.{AreGoodNumbers, as_leaf_numbers, most_cr
 use Rattle.tsp_cases.specs.Listed.{split_at, no_numbers_of, listed_steps}
 use Rattle.tsp_cases.specs.JudgedTrees.{AreCasesOf}
 use Rattle.tsp_cases.specs.declared.tree_cases.Cases.{Cases}
-use Rattle.tsp_cases.specs.states.SmallNumbers.{AreSmall}
+use Rattle.tsp_cases.specs.states.Rooms.{AreSmall}
 use Rattle.tsp_cases.specs.JudgedLeaves.{AreJudgedBy, IsFoundOfCase}
 use Rattle.tsp_cases.proofs.CaseWeights.{small_multipliers}
 use Rattle.tsp_cases.proofs.LeafPasses.{whole_trees}

@@ -7,4 +7,3 @@ pub mod GivenBack
 pub mod Closed
 pub mod OpenRows
 pub mod Sums
-pub mod MarkedRows

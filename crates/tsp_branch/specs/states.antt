@@ -1,3 +1,2 @@
 pub mod Closed
 pub mod Shared
-pub mod HeldRows

@@ -10,12 +10,11 @@ ghost use Rattle.tsp_cases.specs.states.Lent.{good_in};
 ghost use Rattle.tsp_branch.specs.JudgedLeaves.{AreJudgedLeaves, BoundsCycles};
 
 use crate::cycle_judge::CycleJudge;
-use crate::room::Room;
-use crate::setting::Setting;
 use crate::steps::keeps_rows;
 use std::alloc::Global;
 use tsp_cases::{
-    CaseSteps, Cases, Families, JudgedLeaves, case_trees_bound_cycles, judge_leaves, sets_by_node,
+    CaseSteps, Cases, Families, JudgedLeaves, Room, Setting, case_trees_bound_cycles, judge_leaves,
+    sets_by_node,
 };
 use tsp_memory::Refused;
 use tsp_theory::Costs;

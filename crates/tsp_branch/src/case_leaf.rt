@@ -13,9 +13,8 @@ use crate::boxed_leaf::bound_of_trees;
 use crate::given_back::{given_back, taken_back};
 use crate::leaf_sum::LeafSum;
 use crate::rows::AllowedRows;
-use crate::setting::Setting;
 use std::alloc::Global;
-use tsp_cases::OpenCase;
+use tsp_cases::{OpenCase, Setting};
 use tsp_memory::Refused;
 use tsp_theory::Costs;
 

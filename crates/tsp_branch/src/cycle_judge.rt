@@ -8,15 +8,15 @@ ghost use Rattle.tsp_cases.specs.JudgedLeaves.{IsFoundOfCase, IsSizedLeaf};
 ghost use Rattle.tsp_cases.specs.states.Lent.{lent_in, good_in};
 ghost use Rattle.tsp_cases.specs.states.Decided.{marks_in};
 ghost use Rattle.tsp_cases.specs.states.OpenCases.{IsOpenCase, decisions_in};
-ghost use Rattle.tsp_branch.specs.states.HeldRows.{HoldsRows};
-ghost use Rattle.tsp_branch.specs.states.HeldRows.{IsRoom};
+ghost use Rattle.tsp_cases.specs.states.Kept.{HoldsRows};
+ghost use Rattle.tsp_cases.specs.states.Rooms.{IsRoom};
 
 use crate::case_leaf::CaseLeaf;
-use crate::good_numbers::judge_numbers;
-use crate::room::Room;
-use crate::setting::Setting;
 use std::alloc::Global;
-use tsp_cases::{Decision, JudgedLeaf, LeafJudge, Multipliers, OpenCase, fill_moved};
+use tsp_cases::{
+    Decision, JudgedLeaf, LeafJudge, Multipliers, OpenCase, Room, Setting, fill_moved,
+    judge_numbers,
+};
 use tsp_memory::Refused;
 use tsp_theory::Costs;
 
@@ -33,8 +33,8 @@ impl<C: Costs> LeafJudge for CycleJudge<'_, C> {
     ghost use Rattle.tsp_cases.specs.CaseTrees.{IsFoundAt};
     ghost use Rattle.tsp_cases.specs.states.Lent.{lent_in, good_in};
     ghost use Rattle.tsp_cases.specs.states.Decided.{marks_in};
-    ghost use Rattle.tsp_branch.specs.states.HeldRows.{HoldsRows};
-    ghost use Rattle.tsp_branch.specs.states.HeldRows.{IsRoom};
+    ghost use Rattle.tsp_cases.specs.states.Kept.{HoldsRows};
+    ghost use Rattle.tsp_cases.specs.states.Rooms.{IsRoom};
 
     type Memory = Room;
 

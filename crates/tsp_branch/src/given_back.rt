@@ -9,8 +9,7 @@ ghost use Rattle.tsp_cases.specs.LeafBound.{least_of};
 ghost use Rattle.tsp_cases.specs.states.Lent.{good_in};
 
 use crate::case_leaf::CaseLeaf;
-use crate::good_numbers::sum_with;
-use tsp_cases::{DECIDED, Decision, Multipliers};
+use tsp_cases::{DECIDED, Decision, Multipliers, sum_with};
 use tsp_theory::Costs;
 
 /// The least crossings of a leaf's families, each times its multiplier, less each potential twice:

@@ -18,15 +18,11 @@ mod cycle_judge;
 mod decided;
 mod examples;
 mod given_back;
-mod good_numbers;
 mod judged;
-mod kept;
 mod leaf;
 mod leaf_rows;
 mod leaf_sum;
-mod room;
 mod rows;
-mod setting;
 mod steps;
 mod verdict;
 

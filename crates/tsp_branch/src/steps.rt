@@ -2,8 +2,7 @@
 //!
 //! Times are nanoseconds of the proved program, by a core of a Xeon at 2.5 GHz.
 
-use crate::setting::Setting;
-use tsp_cases::SetPlace;
+use tsp_cases::{SetPlace, Setting};
 use tsp_theory::Costs;
 
 // 20 leaves over 2,001 random points, without sets.

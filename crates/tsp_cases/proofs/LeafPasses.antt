@@ -14,7 +14,7 @@ use Rattle.tsp_cases.specs.declared.judged.JudgedLeaves.TheVariants as judged
 use Rattle.tsp_cases.specs.declared.decision.Decision.{Decision}
 use Rattle.tsp_cases.specs.Cases.{LeafNumbers, are_case_trees, next_stack}
 use Rattle.tsp_cases.specs.states.Decided.{stack_of, IsNextStack}
-use Rattle.tsp_cases.specs.states.SmallNumbers.{AreSmall}
+use Rattle.tsp_cases.specs.states.Rooms.{AreSmall}
 use Rattle.tsp_cases.specs.Listed.{all_grown, steps_from, IsFirstBadLeafBy}
 use Rattle.tsp_cases.specs.LeafBounds.{IsLowest}
 use Rattle.tsp_cases.specs.JudgedLeaves.{AreJudgedBy, IsJudgedLeaf, IsSizedLeaf}

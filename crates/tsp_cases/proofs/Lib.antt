@@ -30,6 +30,7 @@ pub mod SmallCases
 pub mod SmallFamilies
 pub mod SmallRows
 pub mod RowsKept
+pub mod MarkedRows
 pub mod Links
 pub mod LeastLinks
 pub mod FamilyLaws

@@ -11,7 +11,7 @@ use Rattle.tsp_cases.specs.declared.judged.JudgedLeaf.TheVariants as leaves
 use Rattle.tsp_cases.specs.Cases.{LeafNumbers, leaves_of}
 use Rattle.tsp_cases.specs.CaseTrees.{IsLeastFound}
 use Rattle.tsp_cases.specs.Listed.{listed_steps, all_grown, split_at, IsGoodLeafBy, AreGoodLeavesBy, IsFirstBadLeafBy}
-use Rattle.tsp_cases.specs.states.SmallNumbers.{AreSmall}
+use Rattle.tsp_cases.specs.states.Rooms.{AreSmall}
 
 -- Where the numbers of all leaves are good, the least of what is found of the leaves, or none where nothing is found of any; else
 -- the first leaf that isn't good.

@@ -1,4 +1,4 @@
-pub mod SmallNumbers
+pub mod Rooms
 pub mod FamilyNumbers
 pub mod Marked
 pub mod Kept

@@ -6,7 +6,7 @@ ghost use Rattle.tsp_format.specs.states.TreeSteps.{steps_of};
 ghost use Rattle.tsp_cases.specs.Cases.{cases_of, leaves_of};
 ghost use Rattle.tsp_cases.specs.Listed.{listed_steps};
 ghost use Rattle.tsp_cases.specs.states.OpenCases.{IsOpenCase, decisions_in};
-ghost use Rattle.tsp_cases.specs.states.SmallNumbers.{AreSmall};
+ghost use Rattle.tsp_cases.specs.states.Rooms.{AreSmall};
 ghost use Rattle.tsp_cases.specs.JudgedLeaves.{AreJudgedBy, AreSizedLeaves, IsJudgedLeaf, IsSizedLeaf};
 
 use crate::case_steps::CaseSteps;

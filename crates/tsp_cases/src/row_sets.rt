@@ -29,7 +29,7 @@ pub fn add_sets(row: &mut [i64], places: &[SetPlace], multiplied: &MultipliedFam
 }
 
 /// The same to a row of a list of rows.
-pub fn add_to_row(row: &mut Vec<i64>, places: &[SetPlace], multiplied: &MultipliedFamilies)
+pub(crate) fn add_to_row(row: &mut Vec<i64>, places: &[SetPlace], multiplied: &MultipliedFamilies)
     requires places { All (IsPlaceIn (lent_in multiplied.now.families.now)) places.now }
     requires row { length row.old.items ≡ multiplied.now.families.now.nodes + 1 }
     ensures moved { (x : ℕ) → IsMoved (inside_both multiplied.now.numbers.now (lent_in multiplied.now.families.now) places.now x)

@@ -22,7 +22,7 @@ use Rattle.tsp_cases.specs.CaseTrees.{IsAbove, IsLeastFound}
 use Rattle.tsp_cases.specs.GoodNumbers.{as_leaf_numbers}
 use Rattle.tsp_cases.specs.Listed.{IsStepOf, split_at, no_numbers_of, listed_steps}
 use Rattle.tsp_cases.specs.JudgedLeaves.{IsFoundOfCase}
-use Rattle.tsp_cases.specs.states.SmallNumbers.{AreSmall}
+use Rattle.tsp_cases.specs.states.Rooms.{AreSmall}
 use Rattle.tsp_cases.proofs.LeafPasses.{whole_trees}
 use Rattle.tsp_routing.specs.GoodLeaves.{most_of_multipliers, ArePlanNumbers}
 use Rattle.tsp_routing.specs.GoodBranches.{AreGoodBranches}

@@ -9,7 +9,8 @@ use Rattle.tsp_theory.specs.states.Nearest.{least_at}
 use Rattle.tsp_theory.specs.Adjusted.{is_same_pair}
 use Rattle.tsp_cases.specs.declared.set_place.SetPlace.{SetPlace}
 use Rattle.tsp_cases.specs.states.Sets.{IsMoved, places_with}
-use Rattle.tsp_cases.specs.states.Combed.{inside_both, multipliers_at}
+use Rattle.tsp_cases.specs.states.Combed.{inside_both, multipliers_at, AreSmallMultipliers}
+use Rattle.tsp_cases.specs.declared.kept.KeptRows.{KeptRows}
 
 -- the cost of two nodes at the scale, what the sets of both add, and the mark between the two
 abbrev pub kept_weight : ℤ → List (List (List ℕ)) → (ℕ → ℕ → ℤ) → (ℕ → ℕ → ℤ) → List ℤ → ℕ → ℕ → ℤ
@@ -72,6 +73,15 @@ pub record AreEnds (n : ℕ) (multipliers : List ℤ) (families : List (List (Li
   pub places : length ends ≡ n + 1
   pub taken : (x : ℕ) → IsNode n x
       → int_wrap w64 (least_at ends x) ≡ int_wrap w64 (neg_ℤ (multipliers_at multipliers families x))
+
+-- rows and ends, the multipliers that they have been brought to, and the marks in the rows
+pub record HoldsRows (n combs : ℕ) (scale : ℤ) (families : List (List (List ℕ))) (cost marks : ℕ → ℕ → ℤ)
+    (kept : KeptRows) : Type 0 where
+  pub multipliers : length kept.multipliers.items ≡ combs
+  pub differences : length kept.differences.items ≡ combs
+  pub small : AreSmallMultipliers kept.multipliers.items
+  pub ends : AreEnds n kept.multipliers.items families kept.ends.items
+  pub rows : AreRowsIfAny n cost (kept_weight scale families cost marks kept.multipliers.items) kept.rows.items
 
 -- what is left in 64 bits of each node's potential less the multipliers of its sets
 abbrev pub AreMoved : ℕ → List ℤ → List ℤ → List (List (List ℕ)) → List ℤ → Type 0

@@ -8,8 +8,7 @@ use Rattle.tsp_theory.specs.states.Nearest.{least_at}
 use Rattle.tsp_cases.specs.Families.{IsFamily}
 use Rattle.tsp_cases.specs.states.Lent.{lent_in, good_in}
 use Rattle.tsp_cases.specs.states.Combed.{AreSmallMultipliers, multipliers_at}
-use Rattle.tsp_cases.specs.states.Kept.{kept_weight, AreRowsIfAny, AreEnds}
-use Rattle.tsp_branch.specs.states.HeldRows.{HoldsRows}
+use Rattle.tsp_cases.specs.states.Kept.{kept_weight, AreRowsIfAny, AreEnds, HoldsRows}
 use Rattle.tsp_cases.specs.Cases.{LeafNumbers}
 use Rattle.tsp_cases.specs.CaseTrees.{IsFoundAt}
 use Rattle.tsp_cases.specs.declared.decision.Decision.{Decision}

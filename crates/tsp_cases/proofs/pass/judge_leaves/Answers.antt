@@ -15,7 +15,7 @@ use Rattle.tsp_cases.specs.Listed.{no_numbers_of}
 use Rattle.tsp_cases.specs.declared.decision.Decision.{Decision}
 use Rattle.tsp_cases.specs.states.Decided.{IsDecision, IsNextStack, stack_of}
 use Rattle.tsp_cases.specs.states.OpenCases.{IsOpenCase, decisions_in}
-use Rattle.tsp_cases.specs.states.SmallNumbers.{AreSmall}
+use Rattle.tsp_cases.specs.states.Rooms.{AreSmall}
 use Rattle.tsp_cases.specs.JudgedLeaves.{IsJudgedLeaf}
 use Rattle.tsp_cases.proofs.Passes.{IsAtStep, IsPassing, at_start, at_branch}
 use Rattle.tsp_cases.proofs.LeafPasses.{few_decided, whole_trees, at_next, all_passed, bad_here, after_found, small_found, fits_here, low_sized}

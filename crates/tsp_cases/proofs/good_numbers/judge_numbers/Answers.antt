@@ -1,0 +1,16 @@
+-- The goals of `judge_numbers` in src/good_numbers.rt: what it ensures.
+use Rattle.std.proofs.Common.{false, refl, length, take, drop, ℤ, List}
+use Rattle.std.proofs.lemmas.Bool.{both_ways}
+use Rattle.tsp_cases.proofs.CaseWeights.{small_multipliers}
+use Rattle.tsp_cases.proofs.good_numbers.judge_numbers.Goals as goal
+
+-- plan: both parts of the numbers are within their limits, so the multipliers are small (`small_multipliers`)
+pub returns-then-not-copy_within-2-clause-good : goal.returns-then-not-copy_within-2-clause-good
+returns-then-not-copy_within-2-clause-good c =
+    let n = length c.args.potentials.now in
+    let families = c.args.families.now in
+    let numbers : List ℤ = c.args.numbers.now in (
+      λ none. absurd (both_ways false refl none),
+      λ good. c.if-not-copy_within-2.ensures.inside.1
+          (rw c.split_at.ensures.back (small_multipliers n families.crossed.items (take n numbers) (drop n numbers) families.some good)),
+    )

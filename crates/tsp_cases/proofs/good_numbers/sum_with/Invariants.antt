@@ -1,0 +1,13 @@
+-- The loop of `sum_with` in src/good_numbers.rt.
+use Rattle.std.proofs.Common.{◌≡◌, ◌*◌, ◌^◌, drop}
+use Rattle.std.specs.Prelude.{pos, ◌+ℤ◌}
+use Rattle.tsp_theory.specs.CertificateNumbers.{IsFromTo}
+use Rattle.tsp_cases.specs.FamiliesOfSets.{sum_with}
+use Rattle.tsp_cases.proofs.good_numbers.sum_with.Given as goal
+
+abbrev pub invariant-families : goal.invariant-families
+invariant-families l = record {
+  size : IsFromTo (pos 0) (pos (l.index * 2 ^ 94)) l.sum;
+  so_far : (l.sum +ℤ sum_with l.is_most (drop l.index l.multipliers.families.now.crossed.items) (drop l.index l.multipliers.numbers.now))
+      ≡ sum_with l.is_most l.multipliers.families.now.crossed.items l.multipliers.numbers.now;
+}

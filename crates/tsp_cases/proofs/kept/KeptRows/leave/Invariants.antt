@@ -1,0 +1,22 @@
+-- The loop of `KeptRows::leave` in src/kept.rt.
+use Rattle.std.proofs.Common.{◌≡◌, ◌≤◌, ◌++◌, ℕ, List, false, take, length}
+use Rattle.std.specs.Prelude.{ℤ}
+use Rattle.std.specs.List.{All}
+use Rattle.tsp_cases.specs.declared.decision.Decision.{Decision}
+use Rattle.tsp_cases.specs.Cases.{next_stack}
+use Rattle.tsp_cases.specs.states.Decided.{IsDecision, marks_in, stack_of}
+use Rattle.tsp_cases.specs.states.Kept.{HoldsRows}
+use Rattle.tsp_cases.proofs.kept.KeptRows.leave.Given as goal
+
+abbrev pub invariant-leave : goal.invariant-leave
+invariant-leave l = record {
+  most : l.left ≤ length l.stack;
+  same : next_stack (stack_of l.stack) ≡ next_stack (stack_of (take l.left l.stack));
+  pairs : (n : ℕ) (given : List Decision) → All (IsDecision n) (stack_of l.stack ++ given) → All (IsDecision n) (stack_of (take l.left l.stack) ++ given);
+  kept : (n combs : ℕ) (scale : ℤ) (families : List (List (List ℕ))) (cost : ℕ → ℕ → ℤ) (given : List Decision)
+      → HoldsRows n combs scale families cost (marks_in false (stack_of l.stack ++ given)) l.fn.self → All (IsDecision n) (stack_of l.stack ++ given)
+      → HoldsRows n combs scale families cost (marks_in false (stack_of (take l.left l.stack) ++ given)) l.self;
+}
+
+abbrev pub decreases-leave : goal.decreases-leave
+decreases-leave l = l.left

@@ -1,0 +1,22 @@
+-- The goals of `KeptRows::unmark` in src/kept.rt: what its calls require and what it ensures.
+use Rattle.std.proofs.Common.{◌≡◌, ◌∷◌, ℤ, false, arith, to_z, of_z}
+use Rattle.std.specs.Int.{w64}
+use Rattle.std.specs.Prelude.{pos, neg_ℤ, ◌-ℤ◌}
+use Rattle.std.proofs.lemmas.Int.{ints}
+use Rattle.tsp_cases.specs.states.Decided.{marks_in, signed}
+use Rattle.tsp_cases.proofs.MarkedRows.{same_marks, decision_less}
+use Rattle.tsp_cases.proofs.kept.KeptRows.unmark.Goals as goal
+
+pub add_between-requires : goal.add_between-requires
+add_between-requires c =
+    let r = c.requires in
+    (r.0, r.1, r.2, r.3, r.4, marks_in false (c.args.decision ∷ r.5), r.6, r.7)
+
+-- plan: one decision less is one number less in the rows (`decision_less`)
+pub returns : goal.returns
+returns c = λ n combs scale families cost case held pair.
+    let own = c.number_of.ensures in
+    let number : ℤ = to_z w64 (of_z w64 (pos 0 -ℤ to_z w64 (of_z w64 c.number_of.result))) in
+    let is : number ≡ neg_ℤ (signed c.args.decision.taken) = omega (arith, ints, own.value, own.size.0, own.size.1) in
+    same_marks n combs scale families cost _ _ _ (λ i x. decision_less c.args.decision case number i x is)
+    (c.add_between.ensures n combs scale families cost (marks_in false (c.args.decision ∷ case)) held pair)

@@ -1,0 +1,12 @@
+-- The goals of `add_to_rows` in src/kept.rt: what its calls require.
+use Rattle.std.proofs.Common.{◌∙◌, ◌<◌, arith, length}
+use Rattle.std.specs.Global.{Vec}
+use Rattle.std.specs.Prelude.{ℤ}
+use Rattle.tsp_cases.proofs.kept.add_to_rows.Goals as goal
+
+-- plan: each row is inside the table
+pub add_to_row-requires-clause-row : goal.add_to_row-requires-clause-row
+add_to_row-requires-clause-row c =
+    let slot : Vec ℤ = c.index-rows-index.result in
+    let inside : c.rows.index < length c.args.rows.now = omega (arith, c.rows-test.true, c.rows.auto.rows) in
+    c.rows.invariant.long c.rows.index slot slot inside ∙ c.requires.rows c.rows.index slot inside

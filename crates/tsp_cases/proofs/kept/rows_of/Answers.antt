@@ -1,0 +1,15 @@
+-- The goals of `rows_of` in src/kept.rt: what it ensures.
+use Rattle.std.proofs.Common.{◌≡◌, ℕ, subst, arith}
+use Rattle.std.specs.Prelude.{◌*ℤ◌}
+use Rattle.tsp_cases.specs.states.Kept.{AreRows}
+use Rattle.tsp_cases.proofs.kept.rows_of.Goals as goal
+
+-- plan: there are as many rows as nodes, or none
+pub returns : goal.returns
+returns g c =
+    let s = c.args.setting.now in
+    let n : ℕ = g.C.Costs.nodes s.costs.now in
+    let cost = g.C.Costs.at s.costs.now in
+    let whole : c.rows.index ≡ n = omega (arith, c.rows-test.false, c.rows.auto.index-end, c.count-count.ensures.value) in
+    subst (λ (k : ℕ). AreRows n cost (λ i x. s.cases.now.scale *ℤ cost i x) k c.rows.rows.items) whole
+    (record { many = c.rows.invariant.many; each = c.rows.invariant.each })

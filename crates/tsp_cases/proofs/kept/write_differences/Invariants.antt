@@ -1,0 +1,14 @@
+-- The loop of `write_differences` in src/kept.rt.
+use Rattle.std.proofs.Common.{◌≡◌, ◌<◌, ℕ, length}
+use Rattle.std.specs.Prelude.{pos, neg_ℤ, ◌+ℤ◌}
+use Rattle.tsp_theory.specs.CertificateNumbers.{IsFromTo}
+use Rattle.tsp_theory.specs.states.Nearest.{least_at}
+use Rattle.tsp_cases.specs.GoodNumbers.{most_crossed}
+use Rattle.tsp_cases.proofs.kept.write_differences.Given as goal
+
+abbrev pub invariant-numbers : goal.invariant-numbers
+invariant-numbers l = record {
+  long : length l.differences ≡ length l.new.numbers.now;
+  done : (k : ℕ) → k < l.index → (least_at l.new.numbers.now k ≡ least_at l.old.numbers.now k +ℤ least_at l.differences k)
+      × IsFromTo (neg_ℤ (pos most_crossed)) (pos most_crossed) (least_at l.differences k);
+}

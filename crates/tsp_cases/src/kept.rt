@@ -1,0 +1,305 @@
+//! Rows that are kept for all nodes while leaves change.
+
+ghost use Rattle.std.specs.Prelude.{◌≡◌, ◌≤◌, ◌<◌, ◌+◌, ◌-◌, ◌≢◌, ℕ, ℤ, length, slice_index_or, IfOk, neg_ℤ, ◌+ℤ◌, ◌*ℤ◌};
+ghost use Rattle.std.specs.Int.{w64, int_wrap};
+ghost use Rattle.std.specs.Global.{Vec};
+ghost use Rattle.std.specs.List.{All};
+ghost use Rattle.tsp_format.specs.Nodes.{IsNode};
+ghost use Rattle.tsp_theory.specs.CertificateNumbers.{IsFromTo};
+ghost use Rattle.tsp_theory.specs.states.Nearest.{least_at};
+ghost use Rattle.tsp_cases.specs.Decisions.{decided_number};
+ghost use Rattle.tsp_cases.specs.states.Places.{IsPlaceIn};
+ghost use Rattle.tsp_cases.specs.states.Lent.{lent_in};
+ghost use Rattle.tsp_cases.specs.states.Combed.{AreSmallDifferences};
+ghost use Rattle.tsp_cases.specs.states.Decided.{signed};
+ghost use Rattle.tsp_cases.specs.states.Kept.{IsKeptRow, AreRows, AreRowsIfAny, AreAdded, IsAddedAt, AreDifferences};
+
+use crate::decision::{DECIDED, Decision};
+use crate::moved::take_multipliers;
+use crate::multiplied::MultipliedFamilies;
+use crate::multipliers::Multipliers;
+use crate::row_sets::add_to_row;
+use crate::scaled::scale_row;
+use crate::set_place::SetPlace;
+use crate::setting::Setting;
+use crate::tree_cases::Cases;
+use std::alloc::Global;
+use tsp_memory::{Refused, filled, push, with_capacity};
+use tsp_theory::Costs;
+use tsp_tree::add_at;
+
+/// The most nodes of which rows are kept, in 32 MB.
+const MOST_KEPT: u32 = 2_000;
+
+/// For each node a row: its costs at the scale, each with what the sets of both nodes add, and
+/// where pairs have no direction with the number of a decision on both. Leaves share them, since a
+/// leaf mostly changes potentials alone, of which nothing is in the rows. A decision is marked
+/// once, at its branch, and taken back where its case ends. There are none where
+/// boxes take less time, or there are too many nodes. And by node what the multipliers of its sets
+/// take off its potential.
+#[derive(Drop)]
+pub struct KeptRows {
+    pub rows: Vec<Vec<i64>>,
+    pub ends: Vec<i64>,
+    pub multipliers: Vec<i64>,
+    pub differences: Vec<i64>,
+}
+
+impl KeptRows {
+    ghost use Rattle.std.specs.Prelude.{◌≡◌, ◌+ℤ◌, ◌++◌, ◌∷◌, [], ℕ, ℤ, Bool, false, List, length, IfOk};
+    ghost use Rattle.std.specs.List.{All};
+    ghost use Rattle.tsp_cases.specs.states.Sets.{IsSetTable};
+    ghost use Rattle.tsp_cases.specs.states.Lent.{lent_in};
+    ghost use Rattle.tsp_cases.specs.declared.decision.Decision.{Decision};
+    ghost use Rattle.tsp_cases.specs.states.Decided.{IsDecision, IsNextStack, marks_in, stack_of};
+    ghost use Rattle.tsp_cases.specs.states.Kept.{HoldsRows, AreTwoNodes, added_between};
+
+    /// The rows where all multipliers are 0, under the given decisions, if they are to be kept.
+    ///
+    /// # Errors
+    ///
+    /// Out of memory, where there is none for a number of each comb and each node.
+    pub(crate) fn new<C: Costs>(
+        alloc: Global,
+        setting: &Setting<C>,
+        are_kept: bool,
+    ) -> Result<KeptRows, Refused>
+        ensures { IfOk result (HoldsRows (C.nodes setting.now.costs.now) (length setting.now.families.now.crossed.items)
+            setting.now.cases.now.scale (lent_in setting.now.families.now) (C.at setting.now.costs.now)
+            (marks_in setting.now.cases.now.directed setting.now.cases.now.given.now)) }
+    {
+        let combs = setting.families.crossed.len();
+        let multipliers = filled(alloc, 0, combs)?;
+        let differences = filled(alloc, 0, combs)?;
+        let ends = filled(alloc, 0, setting.costs.count() as usize + 1)?;
+        let mut kept = KeptRows {
+            rows: rows_if_any(alloc, setting, are_kept),
+            ends,
+            multipliers,
+            differences,
+        };
+        kept.mark_given(setting.cases);
+        Ok(kept)
+    }
+
+    /// Marks the decisions that are given for all cases.
+    fn mark_given(&mut self, cases: &Cases)
+        requires { (n : ℕ) × (combs : ℕ) × (scale : ℤ) × (families : List (List (List ℕ))) × (cost : ℕ → ℕ → ℤ)
+            × HoldsRows n combs scale families cost (marks_in cases.now.directed []) self.old
+            × All (IsDecision n) cases.now.given.now }
+        ensures { (n combs : ℕ) (scale : ℤ) (families : List (List (List ℕ))) (cost : ℕ → ℕ → ℤ)
+            → HoldsRows n combs scale families cost (marks_in cases.now.directed []) self.old
+            → All (IsDecision n) cases.now.given.now
+            → HoldsRows n combs scale families cost (marks_in cases.now.directed cases.now.given.now) self.new }
+    {
+        let mut left = cases.given.len();
+        'given: while left > 0 {
+            left -= 1;
+            self.mark(cases.directed, cases.given[left]);
+        }
+    }
+
+    /// Marks a decision, where pairs have no direction: adds its number between both nodes.
+    pub fn mark(&mut self, directed: bool, decision: Decision)
+        requires { (n : ℕ) × (combs : ℕ) × (scale : ℤ) × (families : List (List (List ℕ))) × (cost : ℕ → ℕ → ℤ)
+            × (case : List Decision) × HoldsRows n combs scale families cost (marks_in directed case) self.old
+            × IsDecision n decision }
+        ensures { (n combs : ℕ) (scale : ℤ) (families : List (List (List ℕ))) (cost : ℕ → ℕ → ℤ) (case : List Decision)
+            → HoldsRows n combs scale families cost (marks_in directed case) self.old → IsDecision n decision
+            → HoldsRows n combs scale families cost (marks_in directed (decision ∷ case)) self.new }
+    {
+        if directed {
+            return;
+        }
+        self.add_between(decision.pair, number_of(decision));
+    }
+
+    /// Takes the mark of a decision back.
+    fn unmark(&mut self, decision: Decision)
+        requires { (n : ℕ) × (combs : ℕ) × (scale : ℤ) × (families : List (List (List ℕ))) × (cost : ℕ → ℕ → ℤ)
+            × (case : List Decision) × HoldsRows n combs scale families cost (marks_in false (decision ∷ case)) self.old
+            × IsDecision n decision }
+        ensures { (n combs : ℕ) (scale : ℤ) (families : List (List (List ℕ))) (cost : ℕ → ℕ → ℤ) (case : List Decision)
+            → HoldsRows n combs scale families cost (marks_in false (decision ∷ case)) self.old → IsDecision n decision
+            → HoldsRows n combs scale families cost (marks_in false case) self.new }
+    {
+        self.add_between(decision.pair, -number_of(decision));
+    }
+
+    /// Leaves a leaf for the next open case, as the stack of decisions does: the marks after the
+    /// last taken pair are taken back, and that pair is marked as avoided.
+    pub fn leave(&mut self, directed: bool, stack: &[Decision])
+        requires { (n : ℕ) × (combs : ℕ) × (scale : ℤ) × (families : List (List (List ℕ))) × (cost : ℕ → ℕ → ℤ)
+            × (given : List Decision)
+            × HoldsRows n combs scale families cost (marks_in directed (stack_of stack.now ++ given)) self.old
+            × All (IsDecision n) (stack_of stack.now ++ given) }
+        ensures { (n combs : ℕ) (scale : ℤ) (families : List (List (List ℕ))) (cost : ℕ → ℕ → ℤ) (given : List Decision)
+            (is_open : Bool) (next : List Decision)
+            → HoldsRows n combs scale families cost (marks_in directed (stack_of stack.now ++ given)) self.old
+            → All (IsDecision n) (stack_of stack.now ++ given) → IsNextStack stack.now is_open next
+            → HoldsRows n combs scale families cost (marks_in directed (stack_of next ++ given)) self.new }
+    {
+        if directed {
+            return;
+        }
+        let mut left = stack.len();
+        'leave: while left > 0 {
+            left -= 1;
+            let last = stack[left];
+            self.unmark(last);
+            if last.taken {
+                let turned = Decision {
+                    pair: last.pair,
+                    taken: false,
+                };
+                self.mark(directed, turned);
+                return;
+            }
+        }
+    }
+
+    /// Adds a number to the rows of two nodes, in each at the place of the other node.
+    fn add_between(&mut self, pair: (u32, u32), number: i64)
+        requires { (n : ℕ) × (combs : ℕ) × (scale : ℤ) × (families : List (List (List ℕ))) × (cost : ℕ → ℕ → ℤ)
+            × (marks : ℕ → ℕ → ℤ) × HoldsRows n combs scale families cost marks self.old × AreTwoNodes n pair }
+        ensures { (n combs : ℕ) (scale : ℤ) (families : List (List (List ℕ))) (cost marks : ℕ → ℕ → ℤ)
+            → HoldsRows n combs scale families cost marks self.old → AreTwoNodes n pair
+            → HoldsRows n combs scale families cost (λ i x. added_between pair number i x +ℤ marks i x) self.new }
+    {
+        if self.rows.is_empty() {
+            return;
+        }
+        let (first, second) = pair;
+        add_in_row(&mut self.rows, first, second, number);
+        add_in_row(&mut self.rows, second, first, number);
+    }
+
+    /// Brings the rows to other multipliers.
+    pub fn bring_to(&mut self, multipliers: &Multipliers, by_node: &[Vec<SetPlace>])
+        requires kept { (n : ℕ) × (scale : ℤ) × (cost : ℕ → ℕ → ℤ) × (marks : ℕ → ℕ → ℤ)
+            × HoldsRows n (length multipliers.now.numbers.now) scale (lent_in multipliers.now.families.now) cost marks self.old
+            × (multipliers.now.families.now.nodes ≡ n) × IsSetTable n (lent_in multipliers.now.families.now) by_node.now }
+        ensures kept { (n : ℕ) (scale : ℤ) (cost marks : ℕ → ℕ → ℤ)
+            → HoldsRows n (length multipliers.now.numbers.now) scale (lent_in multipliers.now.families.now) cost marks self.old
+            → IsSetTable n (lent_in multipliers.now.families.now) by_node.now
+            → HoldsRows n (length multipliers.now.numbers.now) scale (lent_in multipliers.now.families.now) cost marks self.new }
+        ensures multipliers { self.new.multipliers.items ≡ multipliers.now.numbers.now }
+    {
+        if self.multipliers.as_slice() == multipliers.numbers {
+            return;
+        }
+        let old = Multipliers {
+            families: multipliers.families,
+            numbers: &self.multipliers,
+        };
+        write_differences(&mut self.differences, &old, multipliers);
+        self.multipliers.copy_from_slice(multipliers.numbers);
+        let changed = MultipliedFamilies {
+            families: multipliers.families,
+            numbers: &self.differences,
+        };
+        take_multipliers(&mut self.ends, &changed);
+        add_to_rows(&mut self.rows, by_node, &changed);
+    }
+}
+
+/// The rows of all nodes without combs; none where they aren't to be kept, there are too many
+/// nodes, or no memory is left.
+fn rows_if_any<C: Costs>(alloc: Global, setting: &Setting<C>, are_kept: bool) -> Vec<Vec<i64>>
+    ensures { AreRowsIfAny (C.nodes setting.now.costs.now) (C.at setting.now.costs.now)
+        (λ i x. setting.now.cases.now.scale *ℤ C.at setting.now.costs.now i x) result.items }
+{
+    if !are_kept || setting.costs.count() > MOST_KEPT {
+        return Vec::new(alloc);
+    }
+    match rows_of(alloc, setting) {
+        Ok(rows) => rows,
+        Err(_) => Vec::new(alloc),
+    }
+}
+
+/// The rows of all nodes without combs.
+///
+/// # Errors
+///
+/// Out of memory.
+#[tactic(auto, using(crate::proofs::RowsKept::rows_more))]
+fn rows_of<C: Costs>(alloc: Global, setting: &Setting<C>) -> Result<Vec<Vec<i64>>, Refused>
+    ensures { IfOk result (λ rows. AreRows (C.nodes setting.now.costs.now) (C.at setting.now.costs.now)
+        (λ i x. setting.now.cases.now.scale *ℤ C.at setting.now.costs.now i x) (C.nodes setting.now.costs.now) rows.items) }
+{
+    let count = setting.costs.count();
+    let mut rows = with_capacity(alloc, count as usize)?;
+    'rows: for index in 0..count {
+        push(&mut rows, row_of(alloc, setting, index + 1)?)?;
+    }
+    Ok(rows)
+}
+
+/// The costs from a node to each at the scale, each at the place of its node.
+///
+/// # Errors
+///
+/// Out of memory.
+fn row_of<C: Costs>(alloc: Global, setting: &Setting<C>, from: u32) -> Result<Vec<i64>, Refused>
+    requires { IsNode (C.nodes setting.now.costs.now) from }
+    ensures { IfOk result (λ row. IsKeptRow (C.nodes setting.now.costs.now) (C.at setting.now.costs.now from)
+        (λ x. setting.now.cases.now.scale *ℤ C.at setting.now.costs.now from x) row.items) }
+{
+    let mut row = filled(alloc, 0, setting.costs.count() as usize + 1)?;
+    setting.costs.costs_from(from, &mut row);
+    scale_row(&mut row, setting.cases.scale);
+    Ok(row)
+}
+
+/// Writes how much each number has grown.
+fn write_differences(differences: &mut [i64], old: &Multipliers, new: &Multipliers)
+    requires differences { length differences.old ≡ length new.now.numbers.now }
+    requires old { length old.now.numbers.now ≡ length new.now.numbers.now }
+    ensures differences { AreDifferences old.now.numbers.now new.now.numbers.now differences.new }
+    ensures small { AreSmallDifferences differences.new }
+{
+    'numbers: for index in 0..new.numbers.len() {
+        differences[index] = new.numbers[index] - old.numbers[index];
+    }
+}
+
+/// Adds to each row, at each node of the sets of its node, the number of the set's family twice.
+fn add_to_rows(rows: &mut [Vec<i64>], by_node: &[Vec<SetPlace>], multiplied: &MultipliedFamilies)
+    requires table { length rows.old < length by_node.now }
+    requires places { All (λ list. All (IsPlaceIn (lent_in multiplied.now.families.now)) list.items) by_node.now }
+    requires rows { All (λ row. length row.items ≡ multiplied.now.families.now.nodes + 1) rows.old }
+    ensures { AreAdded multiplied.now.numbers.now (lent_in multiplied.now.families.now) by_node.now rows.old rows.new }
+{
+    'rows: for index in 0..rows.len() {
+        add_to_row(&mut rows[index], &by_node[index + 1], multiplied);
+    }
+}
+
+/// What a decision adds to the weight of its pair.
+fn number_of(decision: Decision) -> i64
+    ensures value { result ≡ signed decision.taken }
+    ensures size { IsFromTo (neg_ℤ decided_number) decided_number result }
+{
+    if decision.taken { -DECIDED } else { DECIDED }
+}
+
+/// Adds a number to the row of a node, at the place of another.
+fn add_in_row(rows: &mut Vec<Vec<i64>>, of: u32, place: u32, number: i64)
+    requires of { 1 ≤ of }
+    requires row { of - 1 < length rows.old.items }
+    requires place { (row : Vec ℤ) → place < length (slice_index_or rows.old.items (of - 1) row).items }
+    ensures { IsAddedAt (of - 1) place number rows.old.items rows.new.items }
+{
+    add_to_place(&mut rows[of as usize - 1], place, number);
+}
+
+/// Adds a number to a row at a place.
+fn add_to_place(row: &mut Vec<i64>, place: u32, number: i64)
+    requires { place < length row.old.items }
+    ensures here { least_at row.new.items place ≡ int_wrap w64 (least_at row.old.items place +ℤ number) }
+    ensures others { (x : ℕ) → x ≢ place → least_at row.new.items x ≡ least_at row.old.items x }
+    ensures long { length row.new.items ≡ length row.old.items }
+{
+    add_at(row, place, number);
+}
