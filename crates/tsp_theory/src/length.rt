@@ -8,6 +8,7 @@ ghost use Rattle.tsp_theory.specs.Length.{length_of};
 
 use crate::costs::Costs;
 use std::alloc::{AllocError, Global};
+use tsp_memory::{Refused, push, with_capacity};
 
 /// The length of a list of nodes: the sum of the costs from each node to the next, and from the
 /// last to the first.
@@ -52,7 +53,7 @@ pub fn trace_tours<C: Costs>(
     ensures { IfOk result (λ lengths. lengths.items
         ≡ map (λ tour. length_of (C.at c.now) tour.items) tours.now) }
 {
-    let mut lengths = Vec::with_capacity(alloc, tours.len())?;
+    let mut lengths = with_capacity(alloc, tours.len())?;
     'tours: for tour in tours {
         push_length(c, tour, &mut lengths)?;
     }
@@ -64,12 +65,11 @@ pub fn trace_tours<C: Costs>(
 /// # Errors
 ///
 /// Out of memory.
-fn push_length<C: Costs>(c: &C, tour: &[u32], lengths: &mut Vec<i64>) -> Result<(), AllocError>
+fn push_length<C: Costs>(c: &C, tour: &[u32], lengths: &mut Vec<i64>) -> Result<(), Refused>
     requires range { All (IsNode (C.nodes c.now)) tour.now }
     requires size { length tour.now ≤ most_tour_nodes }
     ensures { OnOk result (lengths.new.items
         ≡ lengths.old.items ++ length_of (C.at c.now) tour.now ∷ []) }
 {
-    lengths.push(tour_length(c, tour))?;
-    Ok(())
+    push(lengths, tour_length(c, tour))
 }
