@@ -85,7 +85,8 @@ enum { TSP_TYPE_TSP = 1, TSP_TYPE_ATSP = 2, TSP_TYPE_CVRP = 3 };
 
 /* Judges a solution of an instance, and gives the report. by is TSP_BY_NONE without a certificate, and then
  * certificate_len may be 0. If has_claim is 1, a solution of another length than claimed is a no; if it is 0,
- * claimed counts for nothing. TSP_YES comes only if the report ends in "yes". */
+ * claimed counts for nothing. If it is 2, an instance with an unknown keyword is a no, after all other reasons; 3 is
+ * both. TSP_YES comes only if the report ends in "yes". */
 uint32_t tsp_check(const uint8_t *instance, size_t instance_len, const uint8_t *solution, size_t solution_len,
                    const uint8_t *certificate, size_t certificate_len, uint32_t by, int64_t claimed,
                    uint32_t has_claim, uint8_t *out, size_t out_len, size_t *written);
@@ -206,7 +207,8 @@ enum {
     TSP_BAD_BRANCH = 26,
     TSP_BRANCH_TWICE = 27,
     TSP_BAD_LEAF = 28,
-    TSP_TOO_MANY_LOADS = 29
+    TSP_TOO_MANY_LOADS = 29,
+    TSP_NOT_JUDGED = 30
 };
 
 /* Faults. Those up to TSP_LATE_SPACE are of a line, those up to TSP_WRONG_COUNT of the end of a text. */

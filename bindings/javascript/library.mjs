@@ -165,11 +165,12 @@ export class Library {
      * @param {Uint8Array} certificate
      * @param {number} by
      * @param {bigint | null} claimed
+     * @param {boolean} [strict] whether unknown keywords of the instance are a reason
      * @returns {Judged}
      */
-    check(instance, solution, certificate, by, claimed) {
+    check(instance, solution, certificate, by, claimed, strict = false) {
         return judgedOf(this.exports, [instance, solution, certificate], (slices, out) =>
-            this.exports.tsp_check_result(...slices, by, ...claim(claimed), ...out),
+            this.exports.tsp_check_result(...slices, by, ...claim(claimed, strict), ...out),
         );
     }
 
@@ -192,12 +193,13 @@ export class Library {
      * @param {string[]} names
      * @param {number} number how the call gets its bound, or its layout
      * @param {bigint | null} claimed
+     * @param {boolean} [strict] whether unknown keywords of the instance are a reason
      * @returns {Answer}
      */
-    explain(call, texts, names, number, claimed) {
+    explain(call, texts, names, number, claimed, strict = false) {
         const joined = new TextEncoder().encode(names.map((name) => name.replaceAll("\0", "")).join("\0"));
         return textBy(this.exports, [...texts, joined], (slices, out) =>
-            this.exports.tsp_explain(call, ...slices, number, ...claim(claimed), ...out),
+            this.exports.tsp_explain(call, ...slices, number, ...claim(claimed, strict), ...out),
         );
     }
 
@@ -447,13 +449,14 @@ function withBlocks(exports, use, without) {
 }
 
 /**
- * A claimed length, and whether there is one, as a call takes them.
+ * A claimed length, and whether there is one, with 2 more where unknown keywords are a reason, as a call takes them.
  *
  * @param {bigint | null} claimed
+ * @param {boolean} [strict]
  * @returns {[bigint, number]}
  */
-function claim(claimed) {
-    return claimed === null ? [0n, 0] : [claimed, 1];
+function claim(claimed, strict = false) {
+    return [claimed ?? 0n, Number(claimed !== null) + 2 * Number(strict)];
 }
 
 /** @type {Result} */

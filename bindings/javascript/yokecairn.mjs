@@ -101,6 +101,7 @@ export class Report {
  * @property {[Given, Given, Given]} files of the instance, the solution and the certificate
  * @property {number} number how it gets its bound, or its layout
  * @property {bigint | null} claimed
+ * @property {boolean} [strict] whether unknown keywords of the instance are a reason
  */
 
 /** @type {Given} */
@@ -112,9 +113,9 @@ const NO_FILE = { bytes: NOTHING, path: "" };
  * @param {Asked} asked
  * @returns {string}
  */
-function explained({ call, files, number, claimed }) {
-    const names = files.map(({ path }) => path);
-    return textOf(opened().explain(call, files.map(({ bytes }) => bytes), names, number, claimed).bytes).trimEnd();
+function explained({ call, files, number, claimed, strict }) {
+    const [names, texts] = [files.map(({ path }) => path), files.map(({ bytes }) => bytes)];
+    return textOf(opened().explain(call, texts, names, number, claimed, strict).bytes).trimEnd();
 }
 
 /**
@@ -178,11 +179,12 @@ function claimOf(length) {
  */
 export function check(instance, solution, options = {}) {
     const { by, certificate } = certificateOf(options);
-    const claimed = claimOf(options.length);
+    const [claimed, strict] = [claimOf(options.length), options.strict ?? false];
     const [first, second] = [given(instance), solutionOf(solution)];
     /** @type {Asked} */
-    const asked = { call: Call.CHECK, files: [first, second, certificate], number: by, claimed };
-    return reported(asked, opened().check(first.bytes, second.bytes, certificate.bytes, by, claimed), options.explain);
+    const asked = { call: Call.CHECK, files: [first, second, certificate], number: by, claimed, strict };
+    const judged = opened().check(first.bytes, second.bytes, certificate.bytes, by, claimed, strict);
+    return reported(asked, judged, options.explain);
 }
 
 /**

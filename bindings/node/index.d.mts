@@ -26,6 +26,7 @@ export interface CertificateOptions {
 /** Also the length that the solution is said to have. */
 export interface CheckOptions extends CertificateOptions {
     length?: bigint | number;
+    strict?: boolean;
 }
 
 /** Also whether solutions may have the form of another program. */

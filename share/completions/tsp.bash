@@ -14,9 +14,9 @@ _tsp() {
         case $verb in
         show) words='--explain -h --help -V --version' ;;
         convert) words='--layout --explain -h --help -V --version' ;;
-        check) words='--potentials --branches --length --explain -h --help -V --version' ;;
-        compare) words='--potentials --branches --explain -h --help -V --version' ;;
-        bound) words='--potentials --branches --explain -h --help -V --version' ;;
+        check) words='--potentials --branches --length --strict --explain -h --help -V --version' ;;
+        compare) words='--potentials --branches --strict --explain -h --help -V --version' ;;
+        bound) words='--potentials --branches --strict --explain -h --help -V --version' ;;
         esac
     fi
     # No word fits: bash completes the names of files.

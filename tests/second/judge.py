@@ -128,6 +128,11 @@ class Judge:
             raise No(f"LengthClaimed {found}")
         return found, count
 
+    def against_keywords(self, strict: bool) -> None:
+        """With `strict`, raises the reason against an instance with an unknown keyword."""
+        for keyword, _ in self.instance.others if strict else []:
+            raise No(f"NotJudged {keyword.decode('latin-1')}")
+
     def least(self) -> int:
         """The least number of vehicles that carry all demands."""
         return -(-sum(map(self.demand, range(1, self.nodes + 1))) // self.instance.values["CAPACITY"])
@@ -179,8 +184,10 @@ def judge_of(texts: list[bytes], kind: str, place: int) -> tuple[Judge, list[Fil
     return Judge(files[0], files[place] if kind else None, kind), files
 
 
-def check(instance: bytes, solution: bytes, certificate: bytes = b"", kind: str = "", word: bytes = b"") -> Result:
-    """A check, with a word for the length that is claimed, or none."""
+def check(
+    instance: bytes, solution: bytes, certificate: bytes = b"", kind: str = "", word: bytes = b"", strict: bool = False
+) -> Result:
+    """A check, with a word for the length that is claimed, or none, and with unknown keywords as a reason or not."""
     try:
         claim = whole(word, -(2**63), 2**63 - 1) if word else None
     except Wrong:
@@ -192,6 +199,7 @@ def check(instance: bytes, solution: bytes, certificate: bytes = b"", kind: str 
     try:
         measured, routes = judge.measured(files[1], claim)
         judge.against_certificate()
+        judge.against_keywords(strict)
     except No as reason:
         return 1, told(judge.head(), f"no {reason}"), b""
     lines = [f"routes {routes}", f"least {judge.least()}"] if judge.routes else []
@@ -202,7 +210,7 @@ def check(instance: bytes, solution: bytes, certificate: bytes = b"", kind: str 
     return 0, told(judge.head(), *lines, "yes"), b""
 
 
-def bound(instance: bytes, certificate: bytes, kind: str) -> Result:
+def bound(instance: bytes, certificate: bytes, kind: str, strict: bool = False) -> Result:
     found = judge_of([instance, certificate], kind, 1)
     if len(found) == 3:
         return found
@@ -212,13 +220,16 @@ def bound(instance: bytes, certificate: bytes, kind: str) -> Result:
         if judge.routes:
             judge.against_depot()
         judge.against_certificate()
+        judge.against_keywords(strict)
     except No as reason:
         return 1, told(judge.head(), f"no {reason}"), b""
     least = judge.bound()
     return 0, told(judge.head(), f"bound {'none' if least is None else least}", "yes"), b""
 
 
-def compare(instance: bytes, solutions: list[tuple[str, bytes]], certificate: bytes = b"", kind: str = "") -> Result:
+def compare(
+    instance: bytes, solutions: list[tuple[str, bytes]], certificate: bytes = b"", kind: str = "", strict: bool = False
+) -> Result:
     """A comparison of solutions, each with its path."""
     found = judge_of([instance, *([certificate] if kind else [])], kind, 1)
     if len(found) == 3:
@@ -229,6 +240,7 @@ def compare(instance: bytes, solutions: list[tuple[str, bytes]], certificate: by
         if judge.routes:
             judge.against_depot()
         judge.against_certificate()
+        judge.against_keywords(strict)
     except No as reason:
         return 1, told(judge.head(), f"no {reason}"), b""
     least = judge.bound() if kind else None

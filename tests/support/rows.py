@@ -17,7 +17,7 @@ STATUSES = {"relayout": 1, "unknown layout": 4, "not a length": 4}
 STATUS_OF_EXPLAINED = {"explain-fault": 2, "explain-fault-branches": 2, "explain-yes": 0}
 LETTERS = {"n": "\n", "r": "\r", "t": "\t", "0": "\0", "\\": "\\", '"': '"'}
 # The parts of the names of runs that judge: of a check, or of a bound.
-JUDGED = {"check", "branches", "length", "bound", "explain"}
+JUDGED = {"check", "branches", "length", "strict", "bound", "explain"}
 
 
 def unescaped(text):
@@ -160,13 +160,13 @@ def filled(text, cells):
 
 class Runner(Counts):
     """The program, the folder in which its files lie, and how many rows have passed. `run` runs it as
-    `subprocess.run` does. Runs that have a word of `without` in their name are left out, and rows without the word
-    `only` in their file, their table's name or a cell."""
+    `subprocess.run` does. Runs whose name has all parts of one of `without` are left out, as `compare` or
+    `bound-strict`, and rows without the word `only` in their file, their table's name or a cell."""
 
     def __init__(self, program, folder, run=subprocess.run, without=(), only="", each=1):
         super().__init__()
         self.each, self.rows = each, 0
-        self.without = set(without)
+        self.without = [set(name.split("-")) for name in without]
         self.only = only
         self.program = program
         self.folder = folder
@@ -191,6 +191,8 @@ class Runner(Counts):
             paths += ["--layout", layout]
         if "length" in parts:
             paths.append(f"--length={claim}")
+        if "strict" in parts:
+            paths.append("--strict")
         if "explain" in parts:
             paths.append("--explain")
         if parts & {"bound", "compare"}:
@@ -241,7 +243,7 @@ class Runner(Counts):
             return
         wanted = filled(table.out, cells)
         for verb, *texts in table.runs:
-            if self.without & set(verb.split("-")):
+            if any(parts <= set(verb.split("-")) for parts in self.without):
                 continue
             texts = [filled(text, cells) for text in texts]
             if table.swap:

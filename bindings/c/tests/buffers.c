@@ -56,8 +56,25 @@ static void answers(void) {
                && written == sizeof OTHER - 1 && memcmp(out, OTHER, written) == 0, "another length than the claimed one");
     expect(tsp_check(TEXT(SQUARE), TEXT(TOUR), TEXT(""), 0, 14, 0, out, sizeof out, &written) == TSP_YES,
            "no length is claimed");
-    expect(tsp_check(TEXT(SQUARE), TEXT(TOUR), TEXT(""), 0, 15, 2, out, sizeof out, &written) == TSP_REFUSED
-               && written == 0, "has_claim is 0 or 1");
+    static const char LIMITED[] = "TYPE : TSP\nDISTANCE : 9\nDIMENSION : 4\nEDGE_WEIGHT_TYPE : EUC_2D\n"
+                                  "NODE_COORD_SECTION\n1 0 0\n2 3 0\n3 3 4\n4 0 4\nEOF\n";
+    static const char UNJUDGED[] = "type TSP\nnodes 4\nnot judged DISTANCE\nno NotJudged DISTANCE\n";
+    static const char CLAIMED[] = "type TSP\nnodes 4\nnot judged DISTANCE\nno LengthClaimed 14\n";
+    static const char AROUND[] = "TYPE : TOUR\nTOUR_SECTION\n1 2 3 4 -1\nEOF\n";
+    struct tsp_result told;
+    expect(tsp_check_result(TEXT(LIMITED), TEXT(AROUND), TEXT(""), 0, 99, 2, &told, out, sizeof out, &written) == TSP_NO
+               && written == sizeof UNJUDGED - 1 && memcmp(out, UNJUDGED, written) == 0 && told.reason == TSP_NOT_JUDGED,
+           "an unknown keyword as a reason");
+    expect(tsp_check(TEXT(LIMITED), TEXT(AROUND), TEXT(""), 0, 14, 3, out, sizeof out, &written) == TSP_NO
+               && written == sizeof UNJUDGED - 1 && memcmp(out, UNJUDGED, written) == 0, "beside the claimed length");
+    expect(tsp_check(TEXT(LIMITED), TEXT(AROUND), TEXT(""), 0, 15, 3, out, sizeof out, &written) == TSP_NO
+               && written == sizeof CLAIMED - 1 && memcmp(out, CLAIMED, written) == 0, "after another length");
+    expect(tsp_check(TEXT(LIMITED), TEXT(AROUND), TEXT(""), 0, 14, 1, out, sizeof out, &written) == TSP_YES,
+           "an unknown keyword that is no reason");
+    expect(tsp_check(TEXT(SQUARE), TEXT(TOUR), TEXT(""), 0, 15, 3, out, sizeof out, &written) == TSP_YES
+               && written == sizeof REPORT - 1 && memcmp(out, REPORT, written) == 0, "no unknown keyword");
+    expect(tsp_check(TEXT(SQUARE), TEXT(TOUR), TEXT(""), 0, 15, 4, out, sizeof out, &written) == TSP_REFUSED
+               && written == 0, "has_claim is 0 to 3");
 
     expect(tsp_bound(TEXT(SQUARE), TEXT(ZEROS), TSP_BY_POTENTIALS, out, sizeof BOUND - 2, &written) == TSP_TOO_SMALL
                && written == sizeof BOUND - 1, "a bound's report that is one byte too long");

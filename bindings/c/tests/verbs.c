@@ -96,7 +96,9 @@ static struct call call_of(int count, char **words) {
             call.number = TSP_BY_BRANCHES;
         } else if (strncmp(words[k], "--length=", 9) == 0) {
             call.claimed = length_of(words[k] + 9);
-            call.has_claim = 1;
+            call.has_claim += 1;
+        } else if (strcmp(words[k], "--strict") == 0) {
+            call.has_claim += 2;
         } else if (strcmp(words[k], "--explain") == 0) {
             call.explains = 1;
         } else if (paths < 2) {

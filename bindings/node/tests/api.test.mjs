@@ -64,6 +64,11 @@ test("claims, reasons and explanations", () => {
     const claimed = check({ text: RECTANGLE }, [1, 2, 3, 4], { length: 15 });
     assert.deepEqual([claimed.yes, claimed.reason, claimed.numbers], [false, "LengthClaimed", [14]]);
     assert.equal(check({ text: RECTANGLE }, [1, 2, 3, 4], { length: 14n }).yes, true);
+    const limited = RECTANGLE.replace("DIMENSION", "DISTANCE : 9\nDIMENSION");
+    const strict = check({ text: limited }, [1, 2, 3, 4], { strict: true, length: 14 });
+    assert.deepEqual([strict.yes, strict.reason, strict.numbers, strict.notJudged], [false, "NotJudged", [], ["DISTANCE"]]);
+    assert.equal(check({ text: limited }, [1, 2, 3, 4]).yes, true);
+    assert.equal(check({ text: RECTANGLE }, [1, 2, 3, 4], { strict: true }).yes, true);
     const twice = check({ text: RECTANGLE }, [1, 2, 3, 3], { explain: true });
     assert.deepEqual([twice.reason, twice.numbers, twice.length], ["RepeatedNode", [4], null]);
     assert.match(twice.explanation, /Node 4 is missing/);

@@ -19,7 +19,8 @@ function judged(verb, [first, ...others], options, explain) {
         return { status: isYes ? 0 : compared.basis.reason === null ? worst : 1, out: String(compared), err: "" };
     }
     const claimed = options.has("length") ? { length: lengthOf(options.get("length")) } : {};
-    const report = verb === "bound" ? api.bound(first, { ...certificate, explain }) : api.check(first, others[0], { ...certificate, ...claimed, explain });
+    const asked = { ...certificate, ...claimed, explain, strict: options.has("strict") };
+    const report = verb === "bound" ? api.bound(first, { ...certificate, explain }) : api.check(first, others[0], asked);
     return { status: Number(!report.yes), out: report.text, err: report.explanation && `${report.explanation}\n` };
 }
 

@@ -119,6 +119,17 @@ class Claims(unittest.TestCase):
         self.assertEqual((report.yes, report.reason, report.numbers), (False, "LengthClaimed", (14,)))
         self.assertEqual(yokecairn.check(RECTANGLE.encode(), [1, 2, 3, 4], length=0).reason, "LengthClaimed")
 
+    def test_strict(self):
+        limited = RECTANGLE.replace("DIMENSION", "DISTANCE : 9\nDIMENSION", 1).encode()
+        self.assertTrue(yokecairn.check(limited, [1, 2, 3, 4]))
+        report = yokecairn.check(limited, [1, 2, 3, 4], length=14, strict=True, explain=True)
+        self.assertEqual((report.yes, report.reason, report.numbers), (False, "NotJudged", ()))
+        self.assertTrue(report.text.endswith("not judged DISTANCE\nno NotJudged DISTANCE\n"))
+        self.assertIn("--strict", report.explanation)
+        self.assertEqual(yokecairn.check(limited, [1, 2, 3, 4], length=13, strict=True).reason, "LengthClaimed")
+        self.assertEqual(yokecairn.check(limited, [1, 2, 3, 3], strict=True).reason, "RepeatedNode")
+        self.assertTrue(yokecairn.check(RECTANGLE.encode(), [1, 2, 3, 4], strict=True))
+
     def test_lengths_that_do_not_fit(self):
         for length in (2**63, -(2**63) - 1, 2**64 + 14):
             with self.assertRaises(ValueError):

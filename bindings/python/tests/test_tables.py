@@ -56,7 +56,9 @@ def by_calls(program_and_words, cwd, **_):
     options, names, texts = {}, [], []
     while words:
         word, _, value = words.pop(0).partition("=")
-        if word.startswith("--"):
+        if word == "--strict":
+            options["strict"] = True
+        elif word.startswith("--"):
             options[word[2:]] = value or words.pop(0)
         else:
             names.append(word)
@@ -110,6 +112,8 @@ class Rows(unittest.TestCase):
 
     def run_by(self, kind, without=()):
         with tempfile.TemporaryDirectory() as scratch:
+            # (of the package only a check is strict)
+            without = [*without, "bound-strict", "compare-strict"]
             runner = rows.Runner("tsp", scratch, run=kind, without=without)
             runner.all()
         Rows.passed += runner.passed

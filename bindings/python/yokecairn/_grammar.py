@@ -15,7 +15,7 @@ _VERBS: Dict[str, Tuple[str, Tuple[str, ...], Tuple[str, ...]]] = {
     "check": (
         "judge a tour, or routes, of an instance",
         ("file", "solution"),
-        ("--potentials", "--branches", "--length", "--foreign", "--no-foreign", "--first", "--no-claims"),
+        ("--potentials", "--branches", "--length", "--strict", "--foreign", "--no-foreign", "--first", "--no-claims"),
     ),
     "bound": ("bound all tours of an instance by a certificate", ("file",), ("--potentials", "--branches")),
     "compare": (
@@ -56,6 +56,7 @@ _OPTIONS: Dict[str, Dict[str, Any]] = {
     "--potentials": {"metavar": "P", "help": "a file of potentials"},
     "--branches": {"metavar": "B", "help": "a file of branches"},
     "--length": {"metavar": "L", "help": "claim the length L; another one is a no"},
+    "--strict": {"action": "store_true", "help": "a no where the instance has an unknown keyword, after all other reasons"},
     "--no-foreign": {"dest": "foreign", "action": "store_false", "help": "T has to be of TYPE TOUR, as for tsp"},
     "--foreign": {"action": "store_true", "default": None, "help": "T may have any form of another program, as a list of nodes"},
     "--first": {"metavar": "0|1", "type": int, "choices": (0, 1), "help": "the number of a list's first node; of routes in JSON 0 reads customers"},
@@ -137,6 +138,7 @@ class Task:
                 self.claimed = length_of(given.length)
             except (ValueError, ArithmeticError):
                 raise Refused("not a length\n") from None
+        self.strict: bool = getattr(given, "strict", False)
         certificate = potentials if branches is None else branches
         self.foreign: Optional[bool] = getattr(given, "foreign", None)
         self.claims: bool = not getattr(given, "no_claims", False)
@@ -193,7 +195,7 @@ class Task:
             return _library.DONE, solution_text(texts[0], self.dimension, self.routes, self.first)
         if self.verb == "check":
             certificate = texts[2] if self.by else b""
-            return _library.check(texts[0], texts[1], certificate, self.by, self.claimed)
+            return _library.check(texts[0], texts[1], certificate, self.by, self.claimed, self.strict)
         if self.verb == "bound":
             return _library.bound(texts[0], texts[1], self.by)
         if self.verb == "convert":
@@ -207,7 +209,7 @@ class Task:
             texts, names = (texts[0], b"", texts[1]), [names[0], "", names[1]]
         call = getattr(_library, self.verb.upper()) if self.verb else _library.SHOW
         layout = _library.LAYOUTS[self.layout] if self.layout else 0
-        told = explained(call, texts, names, self.by or layout, self.claimed)
+        told = explained(call, texts, names, self.by or layout, self.claimed, self.strict)
         if self.is_own_claim and "--length" in told:
             return f"{told}\n  The file itself claims {self.claimed}. --no-claims leaves that."
         return told

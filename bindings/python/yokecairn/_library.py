@@ -175,25 +175,25 @@ _NOTHING = c_int64()
 
 
 def check(
-    instance: bytes, solution: bytes, certificate: bytes, by: int, claimed: Optional[int]
+    instance: bytes, solution: bytes, certificate: bytes, by: int, claimed: Optional[int], strict: bool = False
 ) -> Tuple[int, bytes]:
     """The status of a check, and its report or the line of a fault."""
-    return check_result(instance, solution, certificate, by, claimed)[:2]
+    return check_result(instance, solution, certificate, by, claimed, strict)[:2]
 
 
 def check_result(
-    instance: bytes, solution: bytes, certificate: bytes, by: int, claimed: Optional[int]
+    instance: bytes, solution: bytes, certificate: bytes, by: int, claimed: Optional[int], strict: bool = False
 ) -> Tuple[int, bytes, Result]:
     """The same with the result in numbers."""
     words = (instance, len(instance), solution, len(solution), certificate, len(certificate), by)
     result = Result()
-    status, told = _written(_check, *words, *_claim(claimed), byref(result), capacity=REPORT)
+    status, told = _written(_check, *words, *_claim(claimed, strict), byref(result), capacity=REPORT)
     return status, told, result
 
 
-def _claim(claimed: Optional[int]) -> Tuple[int, int]:
-    """A claimed length, and whether there is one."""
-    return (0, 0) if claimed is None else (claimed, 1)
+def _claim(claimed: Optional[int], strict: bool = False) -> Tuple[int, int]:
+    """A claimed length, and whether there is one, with 2 more where unknown keywords are a reason."""
+    return claimed or 0, int(claimed is not None) + 2 * strict
 
 
 def bound(instance: bytes, certificate: bytes, by: int) -> Tuple[int, bytes]:
@@ -293,6 +293,7 @@ def explain(
     names: Sequence[bytes],
     number: int,
     claimed: Optional[int],
+    strict: bool = False,
 ) -> bytes:
     """What explains the answer of a call, for a person; it is empty where there is no memory for it.
 
@@ -300,7 +301,7 @@ def explain(
     certificate or the layout.
     """
     words = [word for text in (*texts, b"\0".join(names)) for word in (text, len(text))]
-    status, told = _written(_explain, call, *words, number, *_claim(claimed), capacity=REPORT)
+    status, told = _written(_explain, call, *words, number, *_claim(claimed, strict), capacity=REPORT)
     return told if status == DONE else b""
 
 

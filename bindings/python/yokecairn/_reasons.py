@@ -33,6 +33,7 @@ REASONS = (
     ("BranchTwice", 1),
     ("BadLeaf", 1),
     ("TooManyLoads", 0),
+    ("NotJudged", 0),
 )
 
 
@@ -69,3 +70,4 @@ class Reason(str, Enum):
     BRANCH_TWICE = "BranchTwice"
     BAD_LEAF = "BadLeaf"
     TOO_MANY_LOADS = "TooManyLoads"
+    NOT_JUDGED = "NotJudged"

@@ -171,6 +171,7 @@ def explained(
     paths: Sequence[Optional[str]] = (),
     number: int = 0,
     claimed: Optional[int] = None,
+    strict: bool = False,
 ) -> str:
     """What `tsp --explain` tells of the answer of a call of the library.
 
@@ -178,7 +179,7 @@ def explained(
     """
     whole = [*texts, b"", b""][:3]
     names = [os.fsencode(path or "") for path in paths]
-    return text_of(_library.explain(call, whole, names, number, claimed)).rstrip("\n")
+    return text_of(_library.explain(call, whole, names, number, claimed, strict)).rstrip("\n")
 
 
 def error_of(

@@ -240,13 +240,15 @@ def check(
     explain: bool = False,
     foreign: Optional[bool] = None,
     claims: bool = True,
+    strict: bool = False,
 ) -> Report:
     """Judges a tour, or routes, of an instance.
 
     Each file is a path, the bytes of its text, or a `Problem`. The solution may also be a list of nodes,
     or for routes a list of such lists. With a certificate, `potentials` or `branches`, the report has a
     bound. With `length`, another length than this is a no. With `explain`, a no is explained, and a
-    yes whose solution has a comment with another length.
+    yes whose solution has a comment with another length. With `strict`, an instance with an unknown keyword, one of
+    `Report.not_judged`, is a no after all other reasons: `NotJudged`.
 
     A solution of CVRPLIB (`.sol`), OR-Tools or in JSON is read as `read_solution` reads it; with `foreign` each form
     is, and with `foreign=False` none. Then the length that it claims is taken as `length`, where none is named;
@@ -262,7 +264,7 @@ def check(
     second, solution_path, claim = solution_of(solution, lambda: shape_of(first), foreign, claims)
     by, third, certificate_path = certificate_of(potentials, branches)
     paths = (path, solution_path, certificate_path)
-    return report_of((first, second, third), paths, by, claim if length is None else _length(length), explain)
+    return report_of((first, second, third), paths, by, claim if length is None else _length(length), explain, strict=strict)
 
 
 def solution_of(
@@ -292,16 +294,17 @@ def report_of(
     length: Optional[int] = None,
     explain: bool = False,
     handle: Optional[_library.Handle] = None,
+    strict: bool = False,
 ) -> Report:
     """The report of a check of these texts: of the instance, the solution and the certificate. A handle has the
     first and the third, where it is given."""
     if handle is None:
-        status, told, result = _library.check_result(*texts, by, length)
+        status, told, result = _library.check_result(*texts, by, length, strict)
     else:
         status, told, result = handle.check(texts[1], length)
 
     def more() -> str:
-        return explained(_library.CHECK, texts, paths, by, length)
+        return explained(_library.CHECK, texts, paths, by, length, strict)
 
     if status not in (_library.DONE, _library.NO):
         raise error_of(status, told, more, paths, texts)

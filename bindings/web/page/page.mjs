@@ -211,7 +211,7 @@ function judge() {
     if (length === undefined || best === undefined) {
         return;
     }
-    const job = { ...given, by: isBranches ? By.BRANCHES : By.POTENTIALS, claimed: length, best, tours, foreign: true, claims: isOn("claims") };
+    const job = { ...given, by: isBranches ? By.BRANCHES : By.POTENTIALS, claimed: length, best, tours, foreign: true, claims: isOn("claims"), strict: isOn("strict") };
     if (verbOf(job) === null) {
         const isEmpty = SLOTS.every((slot) => given[slot] === null);
         tell("none", isEmpty ? "" : "No instance", isEmpty ? "" : "Choose the instance too.");
@@ -586,7 +586,7 @@ function listenToPage() {
         document.body.classList.add("over");
     });
     document.addEventListener("dragleave", () => document.body.classList.remove("over"));
-    for (const id of ["by-potentials", "by-branches", "claimed", "claims", "best"]) {
+    for (const id of ["by-potentials", "by-branches", "claimed", "claims", "strict", "best"]) {
         find(id).addEventListener("change", judge);
     }
     for (const button of document.querySelectorAll("button[data-example]")) {

@@ -23,6 +23,7 @@ import { NoSolution, claimOf, converted } from "../../javascript/solutions.mjs";
  * @property {Given[]} [tours] all solutions, where there are several
  * @property {boolean} [foreign] whether a solution may have the form of another program
  * @property {boolean} [claims] whether the length that a solution claims itself counts, where none is claimed otherwise
+ * @property {boolean} [strict] whether an unknown keyword of the instance is a reason against a solution
  *
  * @typedef {object} Row what comes of one of several solutions
  * @property {string} name
@@ -160,7 +161,7 @@ function rowsOfTours(library, job) {
     const judge = new Judge(library, job.instance.bytes, job.certificate?.bytes ?? NOTHING, byOf(job));
     const rows = tours.map((solution) => {
         const { bytes } = readOf(library, { ...job, solution })?.given ?? solution;
-        return rowOf(solution.name, judge.check(bytes, job.claimed ?? ownClaimOf(job, bytes)), job.best ?? null);
+        return rowOf(solution.name, judge.check(bytes, job.claimed ?? ownClaimOf(job, bytes), job.strict), job.best ?? null);
     });
     judge.close();
     return rows;
@@ -248,7 +249,7 @@ function answerOf(library, job, verb) {
 function judgedBy(library, job, verb) {
     const [instance, solution, certificate] = textsOf(job);
     if (verb === "check") {
-        return library.check(instance, solution, certificate, byOf(job), job.claimed);
+        return library.check(instance, solution, certificate, byOf(job), job.claimed, job.strict);
     }
     return library.bound(instance, certificate, byOf(job));
 }
@@ -266,7 +267,7 @@ function explanationOf(library, job, verb) {
         return library.explain(Call.SHOW, [one.bytes, NOTHING, NOTHING], [one.name, "", ""], 0, null).bytes;
     }
     const call = verb === "check" ? Call.CHECK : Call.BOUND;
-    return library.explain(call, textsOf(job), names, byOf(job), job.claimed).bytes;
+    return library.explain(call, textsOf(job), names, byOf(job), job.claimed, verb === "check" && job.strict).bytes;
 }
 
 /**
@@ -283,6 +284,9 @@ function commandOf(job, verb) {
     }
     if (job.claimed !== null && verb === "check") {
         words.push(`--length=${job.claimed}`);
+    }
+    if (job.strict && verb === "check") {
+        words.push("--strict");
     }
     return ["tsp", verb, ...(verb === "show" ? [quoted(oneOf(job).name)] : words)].join(" ");
 }

@@ -44,7 +44,7 @@ function called(library, words, folder) {
     }
     const by = options.has("branches") ? By.BRANCHES : By.POTENTIALS;
     const certificate = given(options.get("branches") ?? options.get("potentials"));
-    const job = { instance: given(paths[0]), solution: given(paths[1]), certificate, by, claimed };
+    const job = { instance: given(paths[0]), solution: given(paths[1]), certificate, by, claimed, strict: options.has("strict") };
     return judged(library, job, options.has("explain"));
 }
 

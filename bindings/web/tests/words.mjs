@@ -13,7 +13,7 @@ export function sorted(words) {
         const [, name, value] = /^--([a-z]+)(?:=(.*))?$/s.exec(words[at]) ?? [];
         if (!name) {
             paths.push(words[at]);
-        } else if (value !== undefined || name === "explain") {
+        } else if (value !== undefined || ["explain", "strict"].includes(name)) {
             options.set(name, value ?? "");
         } else {
             options.set(name, words[++at]);

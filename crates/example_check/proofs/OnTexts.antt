@@ -33,7 +33,7 @@ alone (Some given) instance solution report is accepted = absurd is
 
 -- plan: both files are those of the texts (`spelled`), and the report is the one that was written (`printed`)
 pub accepted_on : (first second : Turn) (sink : Sink) (one two written : List ℕ) → first.known ≡ Some one → second.known ≡ Some two
-    → sink.held ≡ Some [] → sink.holds ≡ Some written → SaysYes None None first second sink → IsAcceptedOnTexts one two written
+    → sink.held ≡ Some [] → sink.holds ≡ Some written → SaysYes None None false first second sink → IsAcceptedOnTexts one two written
 accepted_on first second sink one two written first_is second_is held holds says = record {
   instance = says.instance;
   solution = says.solution;

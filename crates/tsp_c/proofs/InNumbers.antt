@@ -1,5 +1,5 @@
 -- What the numbers of a run on texts say.
-use Rattle.std.proofs.Common.{◌≡◌, ◌≢◌, ℕ, ◌≤◌, ◌^◌, List, Result, Ok, Err, inl, inr, sym, ◌∙◌, arith}
+use Rattle.std.proofs.Common.{◌≡◌, ◌≢◌, ℕ, ◌≤◌, ◌^◌, List, Bool, true, false, Result, Ok, Err, inl, inr, sym, subst, ◌∙◌, arith}
 use Rattle.std.specs.Prelude.{Option, Some, ℤ, pos, negsuc, IfOk, unsigned_abs}
 use Rattle.std.proofs.lemmas.Int.{ints}
 use Rattle.tsp_stream.specs.Turn.{Turn}
@@ -26,7 +26,9 @@ use Rattle.tsp_c.specs.Texts.{with_certificate}
 use Rattle.tsp_c.specs.Told.{IsSizedBound, blank_told, told_of_run, told_of_bound_run, TellsTexts, TellsBound}
 use Rattle.tsp_c.proofs.StatusMeanings.{fault_status}
 use Rattle.tsp_c.proofs.OnHandles.{not_two}
-use Rattle.tsp_c.proofs.OnTexts.{Reads2, Reads3, are_spelled, unchecked, no_relayout, unbounded, not_relaid, spelled}
+use Rattle.tsp_c.proofs.OnTexts.{Reads2, Reads3, are_spelled, unchecked, no_relayout, unbounded, not_relaid, spelled, unasked}
+use Rattle.tsp_verdict.specs.Strict.{is_unjudged, strict_verdict}
+use Rattle.tsp_reason.specs.declared.verdict.Verdict.TheVariants as verdicts
 
 -- ---- bounds that fit
 
@@ -41,8 +43,9 @@ sized_bound by instance certificate bounds.NoSolution is = tt
 sized_bound by instance certificate (bounds.No reason) is = tt
 
 pub sized_bound_run : (by : Certificate) (first second : Turn) (sink : Sink) (ended : Result Bounded RunFault)
-    → IsBoundRun by first second sink ended → IfOk ended (λ bounded. IsSizedBound bounded.found)
-sized_bound_run by first second sink (Ok bounded) run = sized_bound by bounded.instance bounded.certificate bounded.found run.2.1
+    → IsBoundRun by false first second sink ended → IfOk ended (λ bounded. IsSizedBound bounded.found)
+sized_bound_run by first second sink (Ok bounded) run = sized_bound by bounded.instance bounded.certificate bounded.found
+    (unasked by bounded.instance bounded.certificate bounded.found run.2.1)
 sized_bound_run by first second sink (Err fault) run = tt
 
 -- what a law says of each verdict
@@ -50,11 +53,20 @@ abbrev AreSized : Type 0
 AreSized = (given : Option (Certificate × Fields)) (claimed : Option ℤ) (instance solution : Fields) (verdict : Verdict)
     → IsVerdictWith given claimed instance solution verdict → IsSized verdict
 
-pub sized_run : (given : Given) (claimed : Option ℤ) (first second : Turn) (sink : Sink) (ended : Result Judged RunFault)
-    → AreSized → IsRun given claimed first second sink ended → IfOk ended (λ judged. IsSized judged.verdict)
-sized_run given claimed first second sink (Ok judged) sized run =
-    sized judged.certificate claimed judged.instance judged.solution judged.verdict run.1.1
-sized_run given claimed first second sink (Err fault) sized run = tt
+-- a reason has no bound
+sized_kept : (refused : Bool) (plain : Verdict) → IsSized plain → IsSized (strict_verdict refused plain)
+sized_kept false plain is = is
+sized_kept true (verdicts.Tour length_is bound) is = tt
+sized_kept true (verdicts.Routes length_is routes least bound) is = tt
+sized_kept true (verdicts.No reason) is = tt
+
+pub sized_run : (given : Given) (claimed : Option ℤ) (strict : Bool) (first second : Turn) (sink : Sink) (ended : Result Judged RunFault)
+    → AreSized → IsRun given claimed strict first second sink ended → IfOk ended (λ judged. IsSized judged.verdict)
+sized_run given claimed strict first second sink (Ok judged) sized run =
+    let asked = run.1.1 in
+    subst IsSized (sym asked.2)
+    (sized_kept (is_unjudged strict judged.instance) asked.0 (sized judged.certificate claimed judged.instance judged.solution asked.0 asked.1))
+sized_run given claimed strict first second sink (Err fault) sized run = tt
 
 -- ---- a fault
 
@@ -76,11 +88,11 @@ fault_is fault written status text (inr e) two = let three : status ≡ 3 = e.0 
 -- ---- the runs
 
 -- plan: by the end of the run: a verdict, over the files of the texts (`are_spelled`); or a fault, by its status (`unchecked`)
-pub tells_texts : (by : Option Certificate) (claimed : Option ℤ) (first second third : Turn) (sink : Sink) (ended : Result Judged RunFault)
+pub tells_texts : (by : Option Certificate) (claimed : Option ℤ) (strict : Bool) (first second third : Turn) (sink : Sink) (ended : Result Judged RunFault)
     (one two three written : List ℕ) (status : ℕ) (text : List ℕ) (made numbers : Told) → Reads3 first second third one two three
-    → IsRun (given_by by third) claimed first second sink ended → made ≡ told_of_run ended
-    → (status ≢ 3 → numbers ≡ made) → (status ≡ 3 → numbers ≡ blank_told) → EndsOnTexts (told ended) written status text → TellsTexts (with_certificate by three) claimed one two status numbers
-tells_texts by claimed first second third sink (Ok judged) one two three written status text made numbers reads run is kept none e = record {
+    → IsRun (given_by by third) claimed strict first second sink ended → made ≡ told_of_run ended
+    → (status ≢ 3 → numbers ≡ made) → (status ≡ 3 → numbers ≡ blank_told) → EndsOnTexts (told ended) written status text → TellsTexts (with_certificate by three) claimed strict one two status numbers
+tells_texts by claimed strict first second third sink (Ok judged) one two three written status text made numbers reads run is kept none e = record {
   judged = λ low. record {
     instance = judged.instance;
     solution = judged.solution;
@@ -95,19 +107,19 @@ tells_texts by claimed first second third sink (Ok judged) one two three written
   faulty = λ two_is. absurd (not_two (is_yes judged.verdict) status e.0 two_is);
   refused = none;
 }
-tells_texts by claimed first second third sink (Err fault) one two three written status text made numbers reads run is kept none e = record {
+tells_texts by claimed strict first second third sink (Err fault) one two three written status text made numbers reads run is kept none e = record {
   judged = λ low.
       let refused = (fault_status fault).relayout (low_status fault written status text e low) in
-      absurd (no_relayout by claimed first second third sink fault refused.0 refused.1 run);
+      absurd (no_relayout by claimed strict first second third sink fault refused.0 refused.1 run);
   faulty = λ two_is.
-      (fault, unchecked by claimed first second third sink one two three fault reads run (fault_is fault written status text e two_is), kept (λ three. absurd (omega (arith, three, two_is))) ∙ is);
+      (fault, unchecked by claimed strict first second third sink one two three fault reads run (fault_is fault written status text e two_is), kept (λ three. absurd (omega (arith, three, two_is))) ∙ is);
   refused = none;
 }
 
 -- plan: by the end of the run: a bound, over the files of the texts (`spelled`); or a fault, by its status (`unbounded`)
 pub tells_bound : (by : Certificate) (first second : Turn) (sink : Sink) (ended : Result Bounded RunFault)
     (one two written : List ℕ) (status : ℕ) (text : List ℕ) (made numbers : Told) → Reads2 first second one two
-    → IsBoundRun by first second sink ended → made ≡ told_of_bound_run ended
+    → IsBoundRun by false first second sink ended → made ≡ told_of_bound_run ended
     → (status ≢ 3 → numbers ≡ made) → (status ≡ 3 → numbers ≡ blank_told) → EndsOnTexts (bound_answer ended) written status text → TellsBound by one two status numbers
 tells_bound by first second sink (Ok bounded) one two written status text made numbers reads run is kept none e = record {
   bounded = λ low. record {
@@ -117,7 +129,7 @@ tells_bound by first second sink (Ok bounded) one two written status text made n
     first_file = spelled first one bounded.instance reads.first_is run.0;
     second_file = spelled second two bounded.certificate reads.second_is run.1;
     of_type = run.2.0;
-    judged = run.2.1;
+    judged = unasked by bounded.instance bounded.certificate bounded.found run.2.1;
     numbers = kept (λ three. absurd (omega (arith, three, low))) ∙ is;
     status_is = e.0;
   };

@@ -1,6 +1,7 @@
 -- From the verdict on a solution of an open instance to what is said of the texts that are open.
 use Rattle.std.proofs.Common.{◌≡◌, ◌≢◌, ℕ, ◌≤◌, List, Bool, true, false, Result, Ok, Err, inl, inr, refl, sym, ap, subst, ◌∙◌, arith}
 use Rattle.std.specs.Prelude.{Option, ℤ}
+use Rattle.std.proofs.lemmas.Bool.{false≢true}
 use Rattle.tsp_stream.specs.declared.output.WriteFault.TheVariants as write_faults
 use Rattle.tsp_stream.specs.Sink.{Sink}
 use Rattle.tsp_draft.specs.Fields.{Fields}
@@ -26,7 +27,7 @@ use Rattle.tsp_c.proofs.OnTexts.{Collects, printed_is}
 -- ---- a solution that isn't judged
 
 stops_held : (opened : Open) (claimed : Option ℤ) (two : List ℕ) (one : List ℕ) (given : GivenText) (fault : RunFault)
-    → IsOpenOn one given opened → IsNotJudged two opened fault → StopsCheck given claimed one two (without_devices fault)
+    → IsOpenOn one given opened → IsNotJudged two opened fault → StopsCheck given claimed false one two (without_devices fault)
 stops_held opened claimed two one given (File file (read_faults.Line line word found)) is ends =
     inr (inl ((opened.instance, is.0), (ends.0, ends.1)))
 stops_held opened claimed two one given (File file (read_faults.End found)) is ends =
@@ -121,19 +122,20 @@ Means opened claimed solution verdict = true ≡ is_yes verdict
 
 accepted : (opened : Open) (claimed : Option ℤ) (one two written : List ℕ) (given : GivenText) (verdict : Verdict)
     (is : IsHeldVerdict two claimed opened verdict) → Means opened claimed is.solution verdict → written ≡ report_of opened.instance verdict
-    → IsOpenOn one given opened → true ≡ is_yes verdict → IsAcceptedText given claimed one two written
+    → IsOpenOn one given opened → true ≡ is_yes verdict → IsAcceptedText given claimed false one two written
 accepted opened claimed one two written given verdict is means printed texts_are agrees = record {
   instance = opened.instance;
   solution = is.solution;
   certificate = opened.certificate;
   spelled = are_spelled opened claimed one two given verdict is texts_are;
   meaning = subst (IsAccepted opened.certificate claimed opened.instance is.solution) (sym printed) (means agrees);
+  all_judged = λ is_strict. absurd (false≢true is_strict);
 }
 
 verdict_as_texts : (opened : Open) (claimed : Option ℤ) (one two written : List ℕ) (given : GivenText) (verdict : Verdict)
     (status : ℕ) (text : List ℕ) (is : IsHeldVerdict two claimed opened verdict) → Means opened claimed is.solution verdict
     → written ≡ report_of opened.instance verdict → IsOpenOn one given opened → EndsOnTexts (Ok (is_yes verdict)) written status text
-    → ChecksTexts given claimed one two status text
+    → ChecksTexts given claimed false one two status text
 verdict_as_texts opened claimed one two written given (Tour length_is bound) status text is means printed texts_are e =
     yes_ends written status text (accepted opened claimed one two written given (Tour length_is bound) is means printed texts_are refl) e
 verdict_as_texts opened claimed one two written given (Routes length_is routes least bound) status text is means printed texts_are e =
@@ -146,7 +148,7 @@ verdict_as_texts opened claimed one two written given (No reason) status text is
       spelled = are_spelled opened claimed one two given (No reason) is texts_are;
       of_type = is.of_type;
       reason = reason;
-      judged = is.judged;
+      judged = (No reason, is.judged, refl);
       printed = printed;
     }) e
 
@@ -166,7 +168,7 @@ reported_as_texts opened claimed two verdict sink (Ok answer) written status tex
     (subst (λ (b : Bool). EndsOnTexts (Ok b) written status text) reports.1 e)
 reported_as_texts opened claimed two verdict sink (Err fault) written status text is means collects reports e one given texts_are =
     fault_ends fault written status text
-    (subst (λ (f : RunFault). StopsCheck given claimed one two (without_devices f)) (sym reports) (
+    (subst (λ (f : RunFault). StopsCheck given claimed false one two (without_devices f)) (sym reports) (
       verdict,
       (
         opened.instance,
@@ -174,7 +176,7 @@ reported_as_texts opened claimed two verdict sink (Err fault) written status tex
         opened.certificate,
         are_spelled opened claimed one two given verdict is texts_are,
         is.of_type,
-        is.judged,
+        (verdict, is.judged, refl),
       ),
     )) e
 

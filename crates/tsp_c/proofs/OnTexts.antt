@@ -23,6 +23,8 @@ use Rattle.tsp_judge.specs.declared.bound.Bounded.{Bounded}
 use Rattle.tsp_judge.specs.declared.fault.RunFault.{RunFault}
 use Rattle.tsp_judge.specs.declared.fault.RunFault.TheVariants.{File, WrongKind, Write, OutOfMemory, Relayout}
 use Rattle.tsp_judge.specs.Status.{status_of_fault}
+use Rattle.tsp_verdict.specs.Bounded.{IsBoundVerdict}
+use Rattle.tsp_verdict.specs.Strict.{IsBoundAsked}
 use Rattle.tsp_judge.specs.CheckRun.{given_by, IsSomeFile, IsFileIn, AreRead, JudgesFiles, IsFaultOfRun, EndsWithout}
 use Rattle.tsp_judge.specs.Accepted.{IsAccepted, IsAcceptedAlone}
 use Rattle.tsp_judge.specs.Yes.{SaysYes, IsCheckOf}
@@ -148,29 +150,30 @@ are_spelled by first second third one two three instance solution certificate re
   third_file = spelled_given by third three certificate reads.third_is read.third_file;
 }
 
-accepted : (by : Option Certificate) (claimed : Option ℤ) (first second third : Turn) (sink : Sink) (one two three written : List ℕ)
-    → Reads3 first second third one two three → Collects sink written → SaysYes (given_by by third) claimed first second sink
-    → IsAcceptedText (with_certificate by three) claimed one two written
-accepted by claimed first second third sink one two three written reads collects says = record {
+accepted : (by : Option Certificate) (claimed : Option ℤ) (strict : Bool) (first second third : Turn) (sink : Sink) (one two three written : List ℕ)
+    → Reads3 first second third one two three → Collects sink written → SaysYes (given_by by third) claimed strict first second sink
+    → IsAcceptedText (with_certificate by three) claimed strict one two written
+accepted by claimed strict first second third sink one two three written reads collects says = record {
   instance = says.instance;
   solution = says.solution;
   certificate = says.certificate;
   spelled = are_spelled by first second third one two three says.instance says.solution says.certificate reads says.read;
   meaning = subst (IsAccepted says.certificate claimed says.instance says.solution)
       (sym (printed_is sink written says.report collects says.written)) says.meaning;
+  all_judged = says.all_judged;
 }
 
-rejected : (by : Option Certificate) (claimed : Option ℤ) (first second third : Turn) (sink : Sink) (one two three written : List ℕ)
+rejected : (by : Option Certificate) (claimed : Option ℤ) (strict : Bool) (first second third : Turn) (sink : Sink) (one two three written : List ℕ)
     (instance solution : Fields) (certificate : Option (Certificate × Fields)) (verdict : Verdict)
     → Reads3 first second third one two three → Collects sink written
     → AreRead (given_by by third) first second instance solution certificate
-    → JudgesFiles certificate claimed instance solution sink (Ok verdict) → false ≡ is_yes verdict
-    → IsRejected (with_certificate by three) claimed one two written
-rejected by claimed first second third sink one two three written instance solution certificate (Tour length_is bound) reads collects read judged e =
+    → JudgesFiles certificate claimed strict instance solution sink (Ok verdict) → false ≡ is_yes verdict
+    → IsRejected (with_certificate by three) claimed strict one two written
+rejected by claimed strict first second third sink one two three written instance solution certificate (Tour length_is bound) reads collects read judged e =
     absurd (false≢true e)
-rejected by claimed first second third sink one two three written instance solution certificate (Routes length_is routes least bound) reads collects read judged e =
+rejected by claimed strict first second third sink one two three written instance solution certificate (Routes length_is routes least bound) reads collects read judged e =
     absurd (false≢true e)
-rejected by claimed first second third sink one two three written instance solution certificate (No reason) reads collects read judged e = record {
+rejected by claimed strict first second third sink one two three written instance solution certificate (No reason) reads collects read judged e = record {
   instance = instance;
   solution = solution;
   certificate = certificate;
@@ -193,11 +196,11 @@ stopped_given (Some by) third three given file found is known stops two =
     some_is : (a b : Certificate × Turn) → Some a ≡ Some b → a ≡ b
     some_is a b e = cc
 
-pub unchecked : (by : Option Certificate) (claimed : Option ℤ) (first second third : Turn) (sink : Sink) (one two three : List ℕ)
+pub unchecked : (by : Option Certificate) (claimed : Option ℤ) (strict : Bool) (first second third : Turn) (sink : Sink) (one two three : List ℕ)
     (fault : RunFault) → Reads3 first second third one two three
-    → EndsWithout (given_by by third) claimed first second sink fault
+    → EndsWithout (given_by by third) claimed strict first second sink fault
     → status_of_fault (without_devices fault) ≡ 2 → IsUnchecked (with_certificate by three) one two fault
-unchecked by claimed first second third sink one two three (File file found) reads run s = elim run.1 [
+unchecked by claimed strict first second third sink one two three (File file found) reads run s = elim run.1 [
   | inl a ↦ inl (a.0, stopped first one file found reads.first_is a.1 s)
   | inr rest ↦ elim rest [
     | inl b ↦ inr (inl (some_file first one reads.first_is b.1, (b.0, stopped second two file found reads.second_is b.2 s)))
@@ -210,19 +213,19 @@ unchecked by claimed first second third sink one two three (File file found) rea
     ))
   ]
 ]
-unchecked by claimed first second third sink one two three WrongKind reads run s =
+unchecked by claimed strict first second third sink one two three WrongKind reads run s =
     (run.0, run.1, run.2, are_spelled by first second third one two three run.0 run.1 run.2 reads run.3, run.4.0)
-unchecked by claimed first second third sink one two three OutOfMemory reads run s = let n : 3 ≡ 2 = s in absurd (omega arith)
-unchecked by claimed first second third sink one two three (Relayout refused) reads run s = absurd run.4
-unchecked by claimed first second third sink one two three (Write write_faults.OutOfMemory) reads run s = absurd run.4
-unchecked by claimed first second third sink one two three (Write write_faults.Device) reads run s = let n : 3 ≡ 2 = s in absurd (omega arith)
+unchecked by claimed strict first second third sink one two three OutOfMemory reads run s = let n : 3 ≡ 2 = s in absurd (omega arith)
+unchecked by claimed strict first second third sink one two three (Relayout refused) reads run s = absurd run.4
+unchecked by claimed strict first second third sink one two three (Write write_faults.OutOfMemory) reads run s = absurd run.4
+unchecked by claimed strict first second third sink one two three (Write write_faults.Device) reads run s = let n : 3 ≡ 2 = s in absurd (omega arith)
 
-pub no_relayout : (by : Option Certificate) (claimed : Option ℤ) (first second third : Turn) (sink : Sink) (fault : RunFault)
-    (refused : RelayoutFault) → fault ≡ Relayout refused → EndsWithout (given_by by third) claimed first second sink fault → ⊥
-no_relayout by claimed first second third sink fault refused is run =
-    none (subst (λ (f : RunFault). EndsWithout (given_by by third) claimed first second sink f) is run)
+pub no_relayout : (by : Option Certificate) (claimed : Option ℤ) (strict : Bool) (first second third : Turn) (sink : Sink) (fault : RunFault)
+    (refused : RelayoutFault) → fault ≡ Relayout refused → EndsWithout (given_by by third) claimed strict first second sink fault → ⊥
+no_relayout by claimed strict first second third sink fault refused is run =
+    none (subst (λ (f : RunFault). EndsWithout (given_by by third) claimed strict first second sink f) is run)
   where
-    none : EndsWithout (given_by by third) claimed first second sink (Relayout refused) → ⊥
+    none : EndsWithout (given_by by third) claimed strict first second sink (Relayout refused) → ⊥
     none ended = ended.4
 
 -- the texts before the one at which a run stops are files
@@ -249,26 +252,26 @@ reached by first second third one two three file found reads run = elim run [
     given_is (Some by) third three given is = ((by, three), refl)
 
 -- plan: by the fault: each case is the one of the run, with the texts for the readers (`reached`, `are_spelled`)
-stops_check : (by : Option Certificate) (claimed : Option ℤ) (first second third : Turn) (sink : Sink) (one two three : List ℕ)
-    (fault : RunFault) → Reads3 first second third one two three → EndsWithout (given_by by third) claimed first second sink fault
-    → StopsCheck (with_certificate by three) claimed one two (without_devices fault)
-stops_check by claimed first second third sink one two three (File file (read_faults.Line line word found)) reads run =
-    unchecked by claimed first second third sink one two three (File file (read_faults.Line line word found)) reads run refl
-stops_check by claimed first second third sink one two three (File file (read_faults.End found)) reads run =
-    unchecked by claimed first second third sink one two three (File file (read_faults.End found)) reads run refl
-stops_check by claimed first second third sink one two three (File file read_faults.TooLong) reads run =
-    unchecked by claimed first second third sink one two three (File file read_faults.TooLong) reads run refl
-stops_check by claimed first second third sink one two three (File file read_faults.OutOfMemory) reads run =
+stops_check : (by : Option Certificate) (claimed : Option ℤ) (strict : Bool) (first second third : Turn) (sink : Sink) (one two three : List ℕ)
+    (fault : RunFault) → Reads3 first second third one two three → EndsWithout (given_by by third) claimed strict first second sink fault
+    → StopsCheck (with_certificate by three) claimed strict one two (without_devices fault)
+stops_check by claimed strict first second third sink one two three (File file (read_faults.Line line word found)) reads run =
+    unchecked by claimed strict first second third sink one two three (File file (read_faults.Line line word found)) reads run refl
+stops_check by claimed strict first second third sink one two three (File file (read_faults.End found)) reads run =
+    unchecked by claimed strict first second third sink one two three (File file (read_faults.End found)) reads run refl
+stops_check by claimed strict first second third sink one two three (File file read_faults.TooLong) reads run =
+    unchecked by claimed strict first second third sink one two three (File file read_faults.TooLong) reads run refl
+stops_check by claimed strict first second third sink one two three (File file read_faults.OutOfMemory) reads run =
     reached by first second third one two three file read_faults.OutOfMemory reads run.1
-stops_check by claimed first second third sink one two three (File file read_faults.Device) reads run =
+stops_check by claimed strict first second third sink one two three (File file read_faults.Device) reads run =
     reached by first second third one two three file read_faults.Device reads run.1
-stops_check by claimed first second third sink one two three WrongKind reads run =
-    unchecked by claimed first second third sink one two three WrongKind reads run refl
-stops_check by claimed first second third sink one two three OutOfMemory reads run =
+stops_check by claimed strict first second third sink one two three WrongKind reads run =
+    unchecked by claimed strict first second third sink one two three WrongKind reads run refl
+stops_check by claimed strict first second third sink one two three OutOfMemory reads run =
     (run.0, run.1, run.2, are_spelled by first second third one two three run.0 run.1 run.2 reads run.3, run.4.1)
-stops_check by claimed first second third sink one two three (Relayout refused) reads run = absurd run.4
-stops_check by claimed first second third sink one two three (Write write_faults.OutOfMemory) reads run = absurd run.4
-stops_check by claimed first second third sink one two three (Write write_faults.Device) reads run = (
+stops_check by claimed strict first second third sink one two three (Relayout refused) reads run = absurd run.4
+stops_check by claimed strict first second third sink one two three (Write write_faults.OutOfMemory) reads run = absurd run.4
+stops_check by claimed strict first second third sink one two three (Write write_faults.Device) reads run = (
   run.4.1.0,
   (
     run.0,
@@ -280,17 +283,17 @@ stops_check by claimed first second third sink one two three (Write write_faults
   ),
 )
 
-pub checks : (by : Option Certificate) (claimed : Option ℤ) (first second third : Turn) (sink : Sink) (answer : Result Bool RunFault)
+pub checks : (by : Option Certificate) (claimed : Option ℤ) (strict : Bool) (first second third : Turn) (sink : Sink) (answer : Result Bool RunFault)
     (one two three written : List ℕ) (status : ℕ) (text : List ℕ) → Reads3 first second third one two three → Collects sink written
-    → IsCheckOf (given_by by third) claimed first second sink answer → EndsOnTexts answer written status text
-    → ChecksTexts (with_certificate by three) claimed one two status text
-checks by claimed first second third sink (Ok true) one two three written status text reads collects check e =
-    yes_ends written status text (accepted by claimed first second third sink one two three written reads collects (check.1 refl)) e
-checks by claimed first second third sink (Ok false) one two three written status text reads collects check e =
+    → IsCheckOf (given_by by third) claimed strict first second sink answer → EndsOnTexts answer written status text
+    → ChecksTexts (with_certificate by three) claimed strict one two status text
+checks by claimed strict first second third sink (Ok true) one two three written status text reads collects check e =
+    yes_ends written status text (accepted by claimed strict first second third sink one two three written reads collects (check.1 refl)) e
+checks by claimed strict first second third sink (Ok false) one two three written status text reads collects check e =
     let run = check.0 in no_ends written status text
-    (rejected by claimed first second third sink one two three written run.0 run.1 run.2 run.3 reads collects run.4 run.5 run.6) e
-checks by claimed first second third sink (Err fault) one two three written status text reads collects check e =
-    fault_ends fault written status text (stops_check by claimed first second third sink one two three fault reads check.0) e
+    (rejected by claimed strict first second third sink one two three written run.0 run.1 run.2 run.3 reads collects run.4 run.5 run.6) e
+checks by claimed strict first second third sink (Err fault) one two three written status text reads collects check e =
+    fault_ends fault written status text (stops_check by claimed strict first second third sink one two three fault reads check.0) e
 
 -- ---- a bound
 
@@ -300,7 +303,7 @@ pub record Reads2 (first second : Turn) (one two : List ℕ) : Type 0 where
   pub second_is : second.known ≡ Some two
 
 bound_says : (by : Certificate) (first second : Turn) (sink : Sink) (one two written : List ℕ) (found : BoundVerdict)
-    → Reads2 first second one two → Collects sink written → SaysBound by first second sink found → IsBoundText by one two written
+    → Reads2 first second one two → Collects sink written → SaysBound by false first second sink found → IsBoundText by one two written
 bound_says by first second sink one two written found reads collects says = record {
   instance = says.instance;
   certificate = says.certificate;
@@ -311,10 +314,15 @@ bound_says by first second sink one two written found reads collects says = reco
       (sym (printed_is sink written says.report collects says.written)) says.meaning;
 }
 
+-- where unknown keywords are no reason
+pub unasked : (by : Certificate) (instance certificate : Fields) (found : BoundVerdict) → IsBoundAsked false by instance certificate found
+    → IsBoundVerdict by instance certificate found
+unasked by instance certificate found asked = subst (IsBoundVerdict by instance certificate) (sym asked.2) asked.1
+
 bound_found : (by : Certificate) (first second : Turn) (sink : Sink) (one two written : List ℕ) (status : ℕ) (text : List ℕ)
     (instance certificate : Fields) (found : BoundVerdict) → Reads2 first second one two → Collects sink written
-    → IsFile first instance → IsFile second certificate → BoundsFiles by instance certificate sink (Ok found)
-    → (is_bound_yes found ≡ true → SaysBound by first second sink found)
+    → IsFile first instance → IsFile second certificate → BoundsFiles by false instance certificate sink (Ok found)
+    → (is_bound_yes found ≡ true → SaysBound by false first second sink found)
     → EndsOnTexts (Ok (is_bound_yes found)) written status text → BoundsTexts by one two status text
 bound_found by first second sink one two written status text instance certificate (bounds.Bound bound) reads collects first_file second_file judged says e =
     yes_ends written status text (bound_says by first second sink one two written (bounds.Bound bound) reads collects (says refl)) e
@@ -328,12 +336,12 @@ bound_found by first second sink one two written status text instance certificat
       second_file = spelled second two certificate reads.second_is second_file;
       bounded = judged.0;
       reason = reason;
-      judged = judged.1;
+      judged = unasked by instance certificate (bounds.No reason) judged.1;
       printed = printed_is sink written _ collects judged.2;
     }) e
 
 pub unbounded : (by : Certificate) (first second : Turn) (sink : Sink) (one two : List ℕ) (fault : RunFault)
-    → Reads2 first second one two → EndsUnbounded by first second sink fault
+    → Reads2 first second one two → EndsUnbounded by false first second sink fault
     → status_of_fault (without_devices fault) ≡ 2 → IsUnbounded by one two fault
 unbounded by first second sink one two (File file found) reads run s = elim run.1 [
   | inl a ↦ inl (a.0, stopped first one file found reads.first_is a.1 s)
@@ -352,15 +360,15 @@ unbounded by first second sink one two (Write write_faults.OutOfMemory) reads ru
 unbounded by first second sink one two (Write write_faults.Device) reads run s = let n : 3 ≡ 2 = s in absurd (omega arith)
 
 pub not_relaid : (by : Certificate) (first second : Turn) (sink : Sink) (fault : RunFault) (refused : RelayoutFault)
-    → fault ≡ Relayout refused → EndsUnbounded by first second sink fault → ⊥
-not_relaid by first second sink fault refused is run = none (subst (λ (f : RunFault). EndsUnbounded by first second sink f) is run)
+    → fault ≡ Relayout refused → EndsUnbounded by false first second sink fault → ⊥
+not_relaid by first second sink fault refused is run = none (subst (λ (f : RunFault). EndsUnbounded by false first second sink f) is run)
   where
-    none : EndsUnbounded by first second sink (Relayout refused) → ⊥
+    none : EndsUnbounded by false first second sink (Relayout refused) → ⊥
     none ended = ended.4
 
 -- plan: by the fault: each case is the one of the run, with the texts for the readers (`some_file`, `spelled`)
 stops_bound : (by : Certificate) (first second : Turn) (sink : Sink) (one two : List ℕ) (fault : RunFault)
-    → Reads2 first second one two → EndsUnbounded by first second sink fault → StopsBound by one two (without_devices fault)
+    → Reads2 first second one two → EndsUnbounded by false first second sink fault → StopsBound by one two (without_devices fault)
 stops_bound by first second sink one two (File file (read_faults.Line line word found)) reads run =
     unbounded by first second sink one two (File file (read_faults.Line line word found)) reads run refl
 stops_bound by first second sink one two (File file (read_faults.End found)) reads run =
@@ -395,12 +403,12 @@ stops_bound by first second sink one two (Write write_faults.Device) reads run =
     spelled first one run.0 reads.first_is run.2,
     spelled second two run.1 reads.second_is run.3,
     run.4.0,
-    run.4.1.1,
+    unasked by run.0 run.1 run.4.1.0 run.4.1.1,
   ),
 )
 
 pub bounds_texts : (by : Certificate) (first second : Turn) (sink : Sink) (ended : Result Bounded RunFault) (one two written : List ℕ)
-    (status : ℕ) (text : List ℕ) → Reads2 first second one two → Collects sink written → IsBoundRunOf by first second sink ended
+    (status : ℕ) (text : List ℕ) → Reads2 first second one two → Collects sink written → IsBoundRunOf by false first second sink ended
     → EndsOnTexts (bound_answer ended) written status text → BoundsTexts by one two status text
 bounds_texts by first second sink (Ok bounded) one two written status text reads collects run e =
     let is = run.0 in bound_found by first second sink one two written status text bounded.instance bounded.certificate bounded.found

@@ -1,5 +1,5 @@
 -- The results of the calls on a handle, over the instance on which it is open, and the certificate that is bound to it.
-use Rattle.std.specs.Prelude.{◌≡◌, ◌⊎◌, ℕ, ◌≤◌, ◌<◌, List, Option, None, Some, Ok, ℤ}
+use Rattle.std.specs.Prelude.{◌≡◌, ◌⊎◌, ℕ, ◌≤◌, ◌<◌, false, List, Option, None, Some, Ok, ℤ}
 use Rattle.tsp_draft.specs.Fields.{Fields}
 use Rattle.tsp_text.specs.Text.{Spells}
 use Rattle.tsp_reason.specs.declared.certificate.Certificate.{Certificate}
@@ -62,7 +62,7 @@ IsOpenOn one given opened = Spells one opened.instance × SpellsGiven given open
 -- the status and the text are those of the check of these texts, whichever texts are open
 abbrev pub ChecksAsTexts : Open → Option ℤ → List ℕ → ℕ → List ℕ → Type 0
 ChecksAsTexts opened claimed two status text = (one : List ℕ) (given : GivenText) → IsOpenOn one given opened
-    → ChecksTexts given claimed one two status text
+    → ChecksTexts given claimed false one two status text
 
 -- the numbers are those of the verdict, at 0 and 1, and of the fault, at 2, which is one with this status; at 3 all are 0
 pub record TellsJudged (opened : Open) (claimed : Option ℤ) (two : List ℕ) (status : ℕ) (told : Told) : Type 0 where

@@ -1,5 +1,5 @@
 -- The results of the calls on texts, over the bytes of these texts alone.
-use Rattle.std.specs.Prelude.{◌≡◌, ◌⊎◌, ℕ, zero, suc, ◌≤◌, ◌<◌, false, List, [], ◌∷◌, Option, None, Some, Ok, Err, IsTrue, ℤ}
+use Rattle.std.specs.Prelude.{◌≡◌, ◌⊎◌, ℕ, ◌==◌, ◌||◌, if◌then◌else◌, ◌≤◌, ◌<◌, Bool, true, false, List, [], ◌∷◌, Option, None, Some, Ok, Err, IsTrue, ℤ}
 use Rattle.tsp_format.specs.declared.layout.Layout.{Layout}
 use Rattle.tsp_format.specs.Words.{layouts}
 use Rattle.tsp_draft.specs.Fields.{Fields}
@@ -17,7 +17,8 @@ use Rattle.tsp_reason.specs.declared.verdict.Verdict.{Verdict}
 use Rattle.tsp_reason.specs.declared.verdict.Verdict.TheVariants.{No}
 use Rattle.tsp_verdict.specs.Bounded.{NoneAgainstInstance, IsBoundVerdict}
 use Rattle.tsp_verdict.specs.Certified.{is_bounded, NoneWithoutMemory}
-use Rattle.tsp_verdict.specs.SolutionVerdict.{is_judged, NoneBeforeRepeatsOn, IsVerdictWith}
+use Rattle.tsp_verdict.specs.SolutionVerdict.{is_judged, NoneBeforeRepeatsOn}
+use Rattle.tsp_verdict.specs.Strict.{IsVerdictAsked}
 use Rattle.tsp_report.specs.Report.{report_of, bound_report_of}
 use Rattle.tsp_report.specs.Show.{shown}
 use Rattle.tsp_judge.specs.Accepted.{IsAccepted, IsAcceptedAlone}
@@ -100,10 +101,14 @@ SpellsGiven None (Some certificate) = ⊥
 SpellsGiven (Some given) None = ⊥
 SpellsGiven (Some given) (Some certificate) = (certificate.0 ≡ given.0) × Spells given.1 certificate.1
 
--- the length that is claimed, where one is
+-- A check by 0 asks nothing more, by 1 for a length, by 2 that unknown keywords be a reason, by 3 for both. This is the claimed
+-- length, where one is.
 abbrev pub claim_of : ℕ → ℤ → Option ℤ
-claim_of zero claimed = None
-claim_of (suc has) claimed = Some claimed
+claim_of has claimed = if has == 1 || has == 3 then Some claimed else None
+
+-- and this is whether unknown keywords are a reason
+abbrev pub strict_of : ℕ → Bool
+strict_of has = has == 2 || has == 3
 
 -- these are the files that the texts parse to
 pub record AreSpelled (given : GivenText) (one two : List ℕ) (instance solution : Fields)
@@ -114,22 +119,23 @@ pub record AreSpelled (given : GivenText) (one two : List ℕ) (instance solutio
 
 -- ---- a solution that is accepted, and one that isn't
 
-pub record IsAcceptedText (given : GivenText) (claimed : Option ℤ) (one two text : List ℕ) : Type 0 where
+pub record IsAcceptedText (given : GivenText) (claimed : Option ℤ) (strict : Bool) (one two text : List ℕ) : Type 0 where
   pub instance : Fields
   pub solution : Fields
   pub certificate : Option (Certificate × Fields)
   pub spelled : AreSpelled given one two instance solution certificate
   pub meaning : IsAccepted certificate claimed instance solution text
+  pub all_judged : strict ≡ true → instance.others ≡ []
 
 -- the first reason against the solution or the certificate is printed
-pub record IsRejected (given : GivenText) (claimed : Option ℤ) (one two text : List ℕ) : Type 0 where
+pub record IsRejected (given : GivenText) (claimed : Option ℤ) (strict : Bool) (one two text : List ℕ) : Type 0 where
   pub instance : Fields
   pub solution : Fields
   pub certificate : Option (Certificate × Fields)
   pub spelled : AreSpelled given one two instance solution certificate
   pub of_type : IsTrue (is_judged certificate instance.kind)
   pub reason : Reason
-  pub judged : IsVerdictWith certificate claimed instance solution (No reason)
+  pub judged : IsVerdictAsked strict certificate claimed instance solution (No reason)
   pub printed : text ≡ report_of instance (No reason)
 
 -- all texts are files, and solutions of the first one's TYPE aren't judged so
@@ -156,32 +162,32 @@ IsUndecided given one two = (instance solution : Fields) × (certificate : Optio
     × AreSpelled given one two instance solution certificate × NoneBeforeRepeatsOn instance solution
 
 -- all texts are files, with this verdict
-abbrev pub HasVerdict : GivenText → Option ℤ → List ℕ → List ℕ → Verdict → Type 0
-HasVerdict given claimed one two verdict = (instance solution : Fields) × (certificate : Option (Certificate × Fields))
+abbrev pub HasVerdict : GivenText → Option ℤ → Bool → List ℕ → List ℕ → Verdict → Type 0
+HasVerdict given claimed strict one two verdict = (instance solution : Fields) × (certificate : Option (Certificate × Fields))
     × AreSpelled given one two instance solution certificate
-    × IsTrue (is_judged certificate instance.kind) × IsVerdictWith certificate claimed instance solution verdict
+    × IsTrue (is_judged certificate instance.kind) × IsVerdictAsked strict certificate claimed instance solution verdict
 
 -- Why a check has no result: out of memory for a file, for the verdict or for the report; or a text.
-abbrev pub StopsCheck : GivenText → Option ℤ → List ℕ → List ℕ → RunFault → Type 0
-StopsCheck given claimed one two (File number read_faults.OutOfMemory) = IsReached given one two number
-StopsCheck given claimed one two OutOfMemory = IsUndecided given one two
-StopsCheck given claimed one two (Write write_faults.OutOfMemory) = (verdict : Verdict) × HasVerdict given claimed one two verdict
-StopsCheck given claimed one two fault = IsUnchecked given one two fault
+abbrev pub StopsCheck : GivenText → Option ℤ → Bool → List ℕ → List ℕ → RunFault → Type 0
+StopsCheck given claimed strict one two (File number read_faults.OutOfMemory) = IsReached given one two number
+StopsCheck given claimed strict one two OutOfMemory = IsUndecided given one two
+StopsCheck given claimed strict one two (Write write_faults.OutOfMemory) = (verdict : Verdict) × HasVerdict given claimed strict one two verdict
+StopsCheck given claimed strict one two fault = IsUnchecked given one two fault
 
-abbrev pub ChecksTexts : GivenText → Option ℤ → List ℕ → List ℕ → ℕ → List ℕ → Type 0
-ChecksTexts given claimed one two status text = EndsWithText
-    (IsAcceptedText given claimed one two)
-    (IsRejected given claimed one two)
-    (StopsCheck given claimed one two) status text
+abbrev pub ChecksTexts : GivenText → Option ℤ → Bool → List ℕ → List ℕ → ℕ → List ℕ → Type 0
+ChecksTexts given claimed strict one two status text = EndsWithText
+    (IsAcceptedText given claimed strict one two)
+    (IsRejected given claimed strict one two)
+    (StopsCheck given claimed strict one two) status text
 
--- By 0 without a certificate, by 1 with potentials, by 2 with branches; without a claimed length by has_claim 0, with one by 1.
--- Other numbers are refused.
+-- By 0 without a certificate, by 1 with potentials, by 2 with branches; with what has_claim asks. Other numbers are refused.
 abbrev pub ChecksBy : ℕ → ℕ → ℤ → List ℕ → List ℕ → List ℕ → ℕ → List ℕ → Type 0
 ChecksBy by has_claim claimed one two three status text =
-    (by ≤ 2 → has_claim ≤ 1
-    → ChecksTexts (with_certificate (nth by certificates) three) (claim_of has_claim claimed) one two status text)
+    (by ≤ 2 → has_claim ≤ 3
+    → ChecksTexts (with_certificate (nth by certificates) three) (claim_of has_claim claimed) (strict_of has_claim) one two status
+    text)
     × (2 < by → IsRefusedNumber status text)
-    × (1 < has_claim → IsRefusedNumber status text)
+    × (3 < has_claim → IsRefusedNumber status text)
 
 -- ---- a bound without a solution
 
@@ -245,7 +251,7 @@ BoundsBy (Some by) one two status text = BoundsTexts by one two status text
 abbrev pub IsExplained : ℕ → ℕ → ℕ → Type 0
 IsExplained call number has_claim = (call ≡ 0)
     ⊎ ((call ≡ 1) × (number ≤ 9))
-    ⊎ ((call ≡ 2) × (number ≤ 2) × (has_claim ≤ 1))
+    ⊎ ((call ≡ 2) × (number ≤ 2) × (has_claim ≤ 3))
     ⊎ ((call ≡ 3) × (1 ≤ number) × (number ≤ 2))
 
 -- What an explanation says has no contract. Out of memory there is none; and a call that isn't explained is refused.

@@ -1,5 +1,5 @@
 -- The result of a call in numbers. A number that it doesn't have is 0.
-use Rattle.std.specs.Prelude.{◌≡◌, ℕ, ◌≤◌, ◌<◌, ◌^◌, List, Option, None, Some, Result, Ok, Err, IsTrue, ℤ, pos, unsigned_abs}
+use Rattle.std.specs.Prelude.{◌≡◌, ℕ, ◌≤◌, ◌<◌, ◌^◌, Bool, List, Option, None, Some, Result, Ok, Err, IsTrue, ℤ, pos, unsigned_abs}
 use Rattle.std.specs.Int.{int_div_euclid, int_rem_euclid}
 use Rattle.tsp_format.specs.declared.kinds.Kind.{Kind}
 use Rattle.tsp_format.specs.declared.kinds.Kind.TheVariants as kinds
@@ -25,7 +25,8 @@ use Rattle.tsp_reason.specs.Verdicts.{is_yes, is_bound_yes}
 use Rattle.tsp_report.specs.Report.{IsGapSized}
 use Rattle.tsp_verdict.specs.Bounded.{IsBoundVerdict}
 use Rattle.tsp_verdict.specs.Certified.{is_bounded}
-use Rattle.tsp_verdict.specs.SolutionVerdict.{is_judged, IsVerdictWith}
+use Rattle.tsp_verdict.specs.SolutionVerdict.{is_judged}
+use Rattle.tsp_verdict.specs.Strict.{IsVerdictAsked}
 use Rattle.tsp_verdict.specs.Reasons.{rank_of}
 use Rattle.tsp_judge.specs.declared.bound.Bounded.{Bounded}
 use Rattle.tsp_judge.specs.declared.judging.Judged.{Judged}
@@ -34,7 +35,7 @@ use Rattle.tsp_judge.specs.declared.fault.RunFault.TheVariants.{File, WrongKind}
 use Rattle.tsp_judge.specs.Status.{status_of}
 use Rattle.tsp_c.specs.declared.told.Told.{Told}
 use Rattle.tsp_c.specs.Ended.{nth}
-use Rattle.tsp_c.specs.Texts.{GivenText, AreSpelled, IsUnchecked, IsUnbounded, with_certificate, certificates, claim_of}
+use Rattle.tsp_c.specs.Texts.{GivenText, AreSpelled, IsUnchecked, IsUnbounded, with_certificate, certificates, claim_of, strict_of}
 
 abbrev pub blank_told : Told
 blank_told = record {
@@ -247,28 +248,28 @@ told_of_bound_run (Err fault) = told_of_fault fault
 -- ---- what the numbers of a call on texts say: at 0 and 1 they are those of the verdict, at 2 those of the fault, at 3 all are 0
 
 -- the verdict on the files that the texts parse to
-pub record IsTextVerdict (given : GivenText) (claimed : Option ℤ) (one two : List ℕ) (status : ℕ) (told : Told) : Type 0 where
+pub record IsTextVerdict (given : GivenText) (claimed : Option ℤ) (strict : Bool) (one two : List ℕ) (status : ℕ) (told : Told) : Type 0 where
   pub instance : Fields
   pub solution : Fields
   pub certificate : Option (Certificate × Fields)
   pub verdict : Verdict
   pub spelled : AreSpelled given one two instance solution certificate
   pub of_type : IsTrue (is_judged certificate instance.kind)
-  pub judged : IsVerdictWith certificate claimed instance solution verdict
+  pub judged : IsVerdictAsked strict certificate claimed instance solution verdict
   pub numbers : told ≡ told_of_verdict instance verdict
   pub status_is : status ≡ status_of (Ok (is_yes verdict))
 
-pub record TellsTexts (given : GivenText) (claimed : Option ℤ) (one two : List ℕ) (status : ℕ) (told : Told) : Type 0 where
-  pub judged : status ≤ 1 → IsTextVerdict given claimed one two status told
+pub record TellsTexts (given : GivenText) (claimed : Option ℤ) (strict : Bool) (one two : List ℕ) (status : ℕ) (told : Told) : Type 0 where
+  pub judged : status ≤ 1 → IsTextVerdict given claimed strict one two status told
   pub faulty : status ≡ 2 → (fault : RunFault) × IsUnchecked given one two fault × (told ≡ told_of_fault fault)
   pub refused : status ≡ 3 → told ≡ blank_told
 
 abbrev pub TellsBy : ℕ → ℕ → ℤ → List ℕ → List ℕ → List ℕ → ℕ → Told → Type 0
 TellsBy by has_claim claimed one two three status told =
-    (by ≤ 2 → has_claim ≤ 1
-    → TellsTexts (with_certificate (nth by certificates) three) (claim_of has_claim claimed) one two status told)
+    (by ≤ 2 → has_claim ≤ 3
+    → TellsTexts (with_certificate (nth by certificates) three) (claim_of has_claim claimed) (strict_of has_claim) one two status told)
     × (2 < by → told ≡ blank_told)
-    × (1 < has_claim → told ≡ blank_told)
+    × (3 < has_claim → told ≡ blank_told)
 
 -- what was found of the files that the texts parse to
 pub record IsTextBound (by : Certificate) (one two : List ℕ) (status : ℕ) (told : Told) : Type 0 where

@@ -20,7 +20,9 @@ pub fn examples_of_explained_calls()
     ensures no_layout { ¬ IsExplained 1 10 0 }
     ensures check { IsExplained 2 2 1 }
     ensures no_certificate { ¬ IsExplained 2 3 0 }
-    ensures no_claim { ¬ IsExplained 2 0 2 }
+    ensures strict { IsExplained 2 0 2 }
+    ensures strict_claim { IsExplained 2 0 3 }
+    ensures no_claim { ¬ IsExplained 2 0 4 }
     ensures bound { IsExplained 3 2 0 }
     ensures no_bound_alone { ¬ IsExplained 3 0 0 }
     ensures no_bound { ¬ IsExplained 3 3 0 }

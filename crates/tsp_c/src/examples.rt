@@ -1,7 +1,7 @@
 //! The numbers of the calls for C, worked out by hand. No body is looked at here: a definition that
 //! is changed together with its code is refused by its examples.
 
-ghost use Rattle.std.specs.Prelude.{◌≡◌, ◌∷◌, ◌++◌, ◌+◌, ◌-◌, ◌^◌, ℤ, pos, negsuc, [], None, Some, codes};
+ghost use Rattle.std.specs.Prelude.{◌≡◌, ◌∷◌, ◌++◌, ◌+◌, ◌-◌, ◌^◌, true, false, ℤ, pos, negsuc, [], None, Some, codes};
 ghost use Rattle.tsp_draft.specs.declared.fault.EndFault.TheVariants as end_faults;
 ghost use Rattle.tsp_draft.specs.Fields.{Fields, nodes_of};
 ghost use Rattle.tsp_file.specs.Cost.{cost};
@@ -21,7 +21,7 @@ ghost use Rattle.tsp_text.specs.declared.fault.ReadFault.TheVariants as read_fau
 ghost use Rattle.tsp_c.specs.declared.told.Told.{Told};
 ghost use Rattle.tsp_c.specs.Ended.{IsPlaced, fault_line, nth, without_devices};
 ghost use Rattle.tsp_c.specs.NumberCalls.{distance_kinds, lists_in, pair_cost, row_cost, row_count};
-ghost use Rattle.tsp_c.specs.Texts.{certificates, claim_of};
+ghost use Rattle.tsp_c.specs.Texts.{certificates, claim_of, strict_of};
 ghost use Rattle.tsp_c.specs.Told.{blank_told, high_half, low_half, told_of_bound, told_of_fault, told_of_verdict};
 
 /// What a number picks, counted from 1: 0 and a number past the last pick nothing.
@@ -40,6 +40,11 @@ pub fn examples_of_picked_numbers()
     ensures ninth { nth 9 distance_kinds ≡ None }
     ensures unclaimed { (claimed : ℤ) → claim_of 0 claimed ≡ None }
     ensures claimed { (claimed : ℤ) → claim_of 1 claimed ≡ Some claimed }
+    ensures strict_alone { (claimed : ℤ) → claim_of 2 claimed ≡ None }
+    ensures claimed_too { (claimed : ℤ) → claim_of 3 claimed ≡ Some claimed }
+    ensures not_strict { strict_of 1 ≡ false }
+    ensures strict { strict_of 2 ≡ true }
+    ensures strict_too { strict_of 3 ≡ true }
 {}
 
 /// Which cost, list or row a place is for.

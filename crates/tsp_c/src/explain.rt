@@ -3,7 +3,7 @@
 ghost use Rattle.std.specs.Prelude.{◌↔◌, IsSome};
 ghost use Rattle.tsp_c.specs.Texts.{ExplainsTexts, IsExplained};
 
-use crate::refused::{certificate_of, claim_of, layout_of};
+use crate::refused::{certificate_of, claim_of, layout_of, strict_of};
 use std::alloc::{AllocError, Global};
 use std::str;
 use tsp_judge::{ReadFault, RunFault, Status, Watched};
@@ -74,7 +74,7 @@ fn task_of<'a>(numbers: Numbers, texts: Texts<'a>) -> Option<Task<Named<'a>>>
             file: instance,
             layout: layout_of(number),
         }),
-        CHECK if number <= 2 && numbers.has_claim <= 1 => Some(Task::Check {
+        CHECK if number <= 2 && numbers.has_claim <= 3 => Some(Task::Check {
             instance,
             solution,
             certificate: match certificate_of(number) {
@@ -82,10 +82,12 @@ fn task_of<'a>(numbers: Numbers, texts: Texts<'a>) -> Option<Task<Named<'a>>>
                 None => None,
             },
             claimed: claim_of(numbers.has_claim, numbers.claimed),
+            strict: strict_of(numbers.has_claim),
         }),
         BOUND => Some(Task::Bound {
             instance,
             certificate: (certificate_of(number)?, certificate),
+            strict: false,
         }),
         _ => None,
     }

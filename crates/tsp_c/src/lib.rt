@@ -60,7 +60,8 @@ use std::alloc::Global;
 const VERSION: u32 = 10100;
 
 /// Judges a solution of an instance: by 0 alone, by 1 with potentials, by 2 with branches. Where
-/// `has_claim` is 1, its length has to be the claimed one.
+/// `has_claim` is 1, its length has to be the claimed one; where it is 2, an instance with an
+/// unknown keyword is rejected, after all other reasons; where it is 3, both.
 #[unsafe(no_mangle)]
 pub extern "C" fn tsp_check(
     alloc: Global,

@@ -60,8 +60,8 @@ pub fn examples_of_reason_numbers()
         ∷ reasons.Unserved 7 ∷ reasons.Overload 7 ∷ reasons.LengthClaimed (pos 7) ∷ reasons.NotPotentials
         ∷ reasons.PotentialsDimension ∷ reasons.PotentialsKind ∷ reasons.MultiplierNotFixed 7 ∷ reasons.MultiplierRepeated 7
         ∷ reasons.DualInfeasible 7 8 ∷ reasons.NotBranches ∷ reasons.BranchesDimension ∷ reasons.BadComb 7
-        ∷ reasons.BadBranch 7 ∷ reasons.BranchTwice 7 ∷ reasons.BadLeaf 7 ∷ reasons.TooManyLoads ∷ []) ≡ 1 ∷ 2 ∷ 3 ∷ 4 ∷ 5 ∷ 6 ∷ 7 ∷ 8 ∷ 9 ∷ 10 ∷ 11 ∷ 12 ∷ 13
-        ∷ 14 ∷ 15 ∷ 16 ∷ 17 ∷ 18 ∷ 19 ∷ 20 ∷ 21 ∷ 22 ∷ 23 ∷ 24 ∷ 25 ∷ 26 ∷ 27 ∷ 28 ∷ 29 ∷ [] }
+        ∷ reasons.BadBranch 7 ∷ reasons.BranchTwice 7 ∷ reasons.BadLeaf 7 ∷ reasons.TooManyLoads ∷ reasons.NotJudged ∷ []) ≡ 1 ∷ 2 ∷ 3 ∷ 4 ∷ 5 ∷ 6 ∷ 7 ∷ 8 ∷ 9 ∷ 10 ∷ 11 ∷ 12 ∷ 13
+        ∷ 14 ∷ 15 ∷ 16 ∷ 17 ∷ 18 ∷ 19 ∷ 20 ∷ 21 ∷ 22 ∷ 23 ∷ 24 ∷ 25 ∷ 26 ∷ 27 ∷ 28 ∷ 29 ∷ 30 ∷ [] }
     ensures first { map first_number (reasons.NotSymmetric 1 20 ∷ reasons.DepotInRoute 2 ∷ reasons.NodeOutOfRange 3
         ∷ reasons.RepeatedNode 4 ∷ reasons.FixedEdgeUnused 5 ∷ reasons.Unserved 6 ∷ reasons.Overload 7
         ∷ reasons.MultiplierNotFixed 8 ∷ reasons.MultiplierRepeated 9 ∷ reasons.DualInfeasible 10 20 ∷ reasons.BadComb 11

@@ -3,7 +3,7 @@
 ghost use Rattle.std.specs.Prelude.{◌≡◌, ◌≤◌};
 ghost use Rattle.tsp_format.specs.Words.{layouts};
 ghost use Rattle.tsp_c.specs.Ended.{nth};
-ghost use Rattle.tsp_c.specs.Texts.{BoundsBy, ChecksBy, ConvertsBy, certificates, claim_of};
+ghost use Rattle.tsp_c.specs.Texts.{BoundsBy, ChecksBy, ConvertsBy, certificates, claim_of, strict_of};
 ghost use Rattle.tsp_c.specs.Told.{TellsBoundBy, TellsBy};
 
 use crate::ended::Answer;
@@ -12,15 +12,16 @@ use crate::told::Told;
 use std::alloc::Global;
 use tsp_judge::{Certificate, Layout};
 
-/// A claimed length by its numbers: it counts where `has_claim` is 1, and not where that is 0.
+/// What a check asks for beside: nothing where `has_claim` is 0; a length where that is 1; that
+/// unknown keywords of the instance be a reason where it is 2; both where it is 3.
 #[derive(Clone, Copy)]
 pub(crate) struct Claim {
     pub(crate) claimed: i64,
     pub(crate) has_claim: u32,
 }
 
-/// The check by 0 alone, by 1 with potentials, by 2 with branches, and with a claimed length, where
-/// there is one; with its status, and in numbers.
+/// The check by 0 alone, by 1 with potentials, by 2 with branches, and with what else it asks for;
+/// with its status, and in numbers.
 pub(crate) fn check_by(
     alloc: Global,
     instance: &[u8],
@@ -37,12 +38,13 @@ pub(crate) fn check_by(
     if by > 2 {
         return (Answer::refused(alloc), Told::blank());
     }
-    if claim.has_claim > 1 {
+    if claim.has_claim > 3 {
         return (Answer::refused(alloc), Told::blank());
     }
     let by = certificate_of(by);
+    let strict = strict_of(claim.has_claim);
     let claim = claim_of(claim.has_claim, claim.claimed);
-    checked(alloc, instance, solution, by, certificate, claim)
+    checked(alloc, instance, solution, by, certificate, claim, strict)
 }
 
 /// The bound by 1 with potentials, by 2 with branches, with its status, and in numbers.
@@ -76,10 +78,18 @@ pub(crate) fn certificate_of(number: u32) -> Option<Certificate>
 pub(crate) fn claim_of(has_claim: u32, claimed: i64) -> Option<i64>
     ensures { result ≡ claim_of has_claim claimed }
 {
-    match has_claim {
-        0 => None,
-        _ => Some(claimed),
+    if has_claim == 1 || has_claim == 3 {
+        Some(claimed)
+    } else {
+        None
     }
+}
+
+/// Whether unknown keywords are a reason.
+pub(crate) fn strict_of(has_claim: u32) -> bool
+    ensures { result ≡ strict_of has_claim }
+{
+    has_claim == 2 || has_claim == 3
 }
 
 /// A text written anew in the layout with this number, with its status.

@@ -35,7 +35,8 @@ pub(crate) fn converted(alloc: Global, file: &[u8], to: Option<Layout>) -> Answe
 }
 
 /// The check of two texts, with the certificate that a third one is, where one is asked for, and
-/// with the length that is claimed, where one is; with its status, and in numbers.
+/// with the length that is claimed, where one is, and with unknown keywords as a reason, where that
+/// is asked; with its status, and in numbers.
 pub(crate) fn checked(
     alloc: Global,
     instance: &[u8],
@@ -43,9 +44,10 @@ pub(crate) fn checked(
     by: Option<Certificate>,
     certificate: &[u8],
     claimed: Option<i64>,
+    strict: bool,
 ) -> (Answer, Told)
-    ensures texts { ChecksTexts (with_certificate by certificate.now) claimed instance.now solution.now result.0.0 result.0.1 }
-    ensures numbers { TellsTexts (with_certificate by certificate.now) claimed instance.now solution.now result.0.0 result.1 }
+    ensures texts { ChecksTexts (with_certificate by certificate.now) claimed strict instance.now solution.now result.0.0 result.0.1 }
+    ensures numbers { TellsTexts (with_certificate by certificate.now) claimed strict instance.now solution.now result.0.0 result.1 }
 {
     verdicts_mean_reports();
     let mut first = Watched::new(instance);
@@ -59,6 +61,7 @@ pub(crate) fn checked(
         by,
         &mut third,
         claimed,
+        strict,
         &mut report,
     );
     let numbers = Told::of_run(&judged);
@@ -81,7 +84,7 @@ pub(crate) fn bounded(
     let mut first = Watched::new(instance);
     let mut second = Watched::new(certificate);
     let mut report = Watched::new(Vec::new(alloc));
-    let found = run_bound(alloc, &mut first, by, &mut second, &mut report);
+    let found = run_bound(alloc, &mut first, by, &mut second, false, &mut report);
     let numbers = Told::of_bound_run(&found);
     let answer = ended(bound_answer(found), report);
     let told = answer.numbers(numbers);

@@ -321,6 +321,7 @@ fn reason_number(reason: Reason) -> u32
         Reason::BranchTwice { .. } => 27,
         Reason::BadLeaf { .. } => 28,
         Reason::TooManyLoads => 29,
+        Reason::NotJudged => 30,
     }
 }
 

@@ -32,13 +32,15 @@ text_in = option_map string_bytes
 abbrev pub values_of : Text → List Row → List Text
 values_of id rows = unwrap_or (all_of id rows) []
 
--- the job has the values of F, T, L, P, B and N, where they were found, and all of S, and is to be explained where E was given
+-- the job has the values of F, T, L, P, B and N, where they were found, and all of S; it is strict where U was given, and
+-- explained where E was
 abbrev pub HasValues : List Row → Job → Type 0
 HasValues rows job = (text_in job.file ≡ first_of (codes "F") rows)
     × (text_in job.solution ≡ first_of (codes "T") rows)
     × (map string_bytes job.solutions.items ≡ values_of (codes "S") rows)
     × (text_in job.layout ≡ first_of (codes "L") rows) × (text_in job.potentials ≡ first_of (codes "P") rows)
     × (text_in job.branches ≡ first_of (codes "B") rows) × (text_in job.length ≡ first_of (codes "N") rows)
+    × (IsTrue job.strict ↔ (first_of (codes "U") rows ≡ Some (codes "true")))
     × (IsTrue job.explain ↔ (first_of (codes "E") rows ≡ Some (codes "true")))
 
 -- the job is that of a subcommand with its values, or of none

@@ -26,6 +26,10 @@ flag id long = record (new_rule id) { long = Some long; action = Some SetTrue }
 abbrev pub explain : Rule
 explain = flag (codes "E") (codes "explain")
 
+-- [--strict], which the three verbs have that judge
+abbrev pub strict : Rule
+strict = flag (codes "U") (codes "strict")
+
 -- show F [--explain]
 abbrev pub show : App
 show = with_rule (with_rule (new_app (codes "show")) (path (codes "F"))) explain
@@ -50,9 +54,9 @@ check_files = with_rule (with_rule (new_app (codes "check")) (path (codes "F")))
 abbrev pub check_certified : App
 check_certified = with_rule (with_rule check_files of_potentials) of_branches
 
--- check F T [--potentials P] [--branches B] [--length N] [--explain]
+-- check F T [--potentials P] [--branches B] [--length N] [--strict] [--explain]
 abbrev pub check : App
-check = with_rule (with_rule check_certified (option (codes "N") (codes "length"))) explain
+check = with_rule (with_rule (with_rule check_certified (option (codes "N") (codes "length"))) strict) explain
 
 -- compare F S..
 abbrev pub compare_files : App
@@ -62,17 +66,21 @@ compare_files = with_rule (with_rule (new_app (codes "compare")) (path (codes "F
 abbrev pub compare_certified : App
 compare_certified = with_rule (with_rule compare_files of_potentials) of_branches
 
--- compare F S.. [--potentials P] [--branches B] [--explain]
+-- compare F S.. [--potentials P] [--branches B] [--strict] [--explain]
 abbrev pub compare : App
-compare = with_rule compare_certified explain
+compare = with_rule (with_rule compare_certified strict) explain
 
 -- bound F
 abbrev pub bound_files : App
 bound_files = with_rule (new_app (codes "bound")) (path (codes "F"))
 
--- bound F [--potentials P] [--branches B] [--explain]
+-- bound F [--potentials P] [--branches B]
+abbrev pub bound_certified : App
+bound_certified = with_rule (with_rule bound_files of_potentials) of_branches
+
+-- bound F [--potentials P] [--branches B] [--strict] [--explain]
 abbrev pub bound : App
-bound = with_rule (with_rule (with_rule bound_files of_potentials) of_branches) explain
+bound = with_rule (with_rule bound_certified strict) explain
 
 -- the program, whose words don't begin with its own name, and which knows its version, at each verb too
 abbrev pub start : App

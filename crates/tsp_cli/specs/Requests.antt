@@ -93,11 +93,11 @@ abbrev pub IsTask : Job → Task Place → Type 0
 IsTask job (Show Input) = (job.verb ≡ None) ⊎ ((job.verb ≡ Some verbs.Show) × IsPlaceOf (text_in job.file) Input)
 IsTask job (Show (Path path)) = (job.verb ≡ Some verbs.Show) × IsPlaceOf (text_in job.file) (Path path)
 IsTask job (Convert file to) = (job.verb ≡ Some verbs.Convert) × IsPlaceOf (text_in job.file) file × IsLayout job.layout to
-IsTask job (Check instance solution certificate claimed) = (job.verb ≡ Some verbs.Check)
+IsTask job (Check instance solution certificate claimed strict) = (job.verb ≡ Some verbs.Check)
     × IsPlaceOf (text_in job.file) instance × IsPlaceOf (text_in job.solution) solution × IsClaim job.length claimed
-    × GivesCertificate job (Ok certificate)
-IsTask job (Bound instance certificate) = (job.verb ≡ Some verbs.Bound) × IsPlaceOf (text_in job.file) instance
-    × IsNamed job certificate.0 certificate.1
+    × GivesCertificate job (Ok certificate) × (strict ≡ job.strict)
+IsTask job (Bound instance certificate strict) = (job.verb ≡ Some verbs.Bound) × IsPlaceOf (text_in job.file) instance
+    × IsNamed job certificate.0 certificate.1 × (strict ≡ job.strict)
 
 -- a path contains byte 10, which ends a line
 abbrev pub has_line_end : Text → Bool
@@ -111,7 +111,7 @@ any_line_end paths = list_any (λ path. has_line_end (string_bytes path)) paths
 abbrev pub IsComparisonOf : Job → Comparison Place → Type 0
 IsComparisonOf job comparison = (job.verb ≡ Some verbs.Compare) × IsPlaceOf (text_in job.file) comparison.instance
     × GivesCertificate job (Ok comparison.certificate) × (comparison.solutions.now ≡ job.solutions.items)
-    × (job.solutions.items ≢ []) × (any_line_end job.solutions.items ≡ false)
+    × (job.solutions.items ≢ []) × (any_line_end job.solutions.items ≡ false) × (comparison.strict ≡ job.strict)
 
 abbrev pub IsRequest : Job → Request Place → Type 0
 IsRequest job (requests.Task task) = IsTask job task
@@ -136,8 +136,9 @@ NamesRequest job (Err InputTwice) = ⊥
 -- ---- what one verb asks for, with the instance at this place
 
 abbrev pub NamesCheck : Job → Place → Result (Task Place) RequestFault → Type 0
-NamesCheck job at (Ok (Check instance solution certificate claimed)) = (instance ≡ at)
+NamesCheck job at (Ok (Check instance solution certificate claimed strict)) = (instance ≡ at)
     × IsPlaceOf (text_in job.solution) solution × IsClaim job.length claimed × GivesCertificate job (Ok certificate)
+    × (strict ≡ job.strict)
 NamesCheck job at (Ok other) = ⊥
 NamesCheck job at (Err MissingPath) = job.solution ≡ None
 NamesCheck job at (Err NotALength) = IsNoLength job.length
@@ -147,13 +148,15 @@ NamesCheck job at (Err other) = ⊥
 abbrev pub NamesComparison : Job → Place → Result (Comparison Place) RequestFault → Type 0
 NamesComparison job at (Ok comparison) = (comparison.instance ≡ at) × GivesCertificate job (Ok comparison.certificate)
     × (comparison.solutions.now ≡ job.solutions.items) × (job.solutions.items ≢ []) × (any_line_end job.solutions.items ≡ false)
+    × (comparison.strict ≡ job.strict)
 NamesComparison job at (Err MissingPath) = job.solutions.items ≡ []
 NamesComparison job at (Err LineEndInPath) = any_line_end job.solutions.items ≡ true
 NamesComparison job at (Err TwoCertificates) = NamesBoth job
 NamesComparison job at (Err other) = ⊥
 
 abbrev pub NamesBound : Job → Place → Result (Task Place) RequestFault → Type 0
-NamesBound job at (Ok (Bound instance certificate)) = (instance ≡ at) × IsNamed job certificate.0 certificate.1
+NamesBound job at (Ok (Bound instance certificate strict)) = (instance ≡ at) × IsNamed job certificate.0 certificate.1
+    × (strict ≡ job.strict)
 NamesBound job at (Ok other) = ⊥
 NamesBound job at (Err NoCertificate) = NamesNone job
 NamesBound job at (Err TwoCertificates) = NamesBoth job

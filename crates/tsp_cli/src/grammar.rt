@@ -2,7 +2,7 @@
 
 ghost use Rattle.std.specs.Prelude.{◌≡◌, IfOk, false};
 ghost use Rattle.clap.specs.Words.{App, Rule, new_app, rule_of, with_rule, with_subcommand};
-ghost use Rattle.tsp_cli.specs.Grammar.{IsCommandOf, has_globals, path, several_paths, option, flag, explain, show, convert, check_files, check_certified, check, compare_files, compare_certified, compare, bound_files, bound, start, tsp};
+ghost use Rattle.tsp_cli.specs.Grammar.{IsCommandOf, has_globals, path, several_paths, option, flag, explain, strict, show, convert, check_files, check_certified, check, compare_files, compare_certified, compare, bound_files, bound_certified, bound, start, tsp};
 
 use clap::{Arg, ArgAction, Command};
 use std::alloc::{AllocError, Global};
@@ -70,7 +70,8 @@ const CHECK_NOTES: &str = "\
 Prints yes with the length, or no with the first reason. With potentials or
 branches there is a bound too: no tour is shorter than that. With a length
 that is claimed, a solution of another length is rejected; one below 0 is
-written --length=-34.
+written --length=-34. With --strict, an instance with an unknown keyword is
+rejected, after all other reasons.
 
 Exit status: 0 yes, 1 no, 2 a fault of a file or the wrong kind,
 3 out of memory, 4 both potentials and branches or no length, 5 a device.
@@ -79,14 +80,16 @@ Examples:
   tsp check a.tsp a.tour
   tsp check a.tsp a.tour --potentials a.potentials
   tsp check a.tsp a.tour --branches a.branches
-  tsp check a.tsp a.tour --length 426";
+  tsp check a.tsp a.tour --length 426
+  tsp check a.tsp a.tour --strict";
 
 /// The end of the help of `compare`.
 const COMPARE_NOTES: &str = "\
 Reads the instance and the certificate once, then each solution in turn, and
 prints a line for each: its length and path, or why it is rejected or isn't
 read. With potentials or branches there is a bound too, and a line says
-optimal or the gap to it.
+optimal or the gap to it. With --strict, an instance with an unknown keyword
+is rejected, and no solution is read.
 
 Exit status: the largest of 0 all accepted, 1 a no, 2 a fault of a file or
 the wrong kind, 5 a device. 3 out of memory, 4 both potentials and branches.
@@ -99,7 +102,8 @@ Examples:
 /// The end of the help of `bound`.
 const BOUND_NOTES: &str = "\
 Prints yes with the bound, or no with the first reason against the instance
-or the certificate. No tour of the instance is shorter than the bound.
+or the certificate. No tour of the instance is shorter than the bound. With
+--strict, an instance with an unknown keyword is rejected, after all others.
 
 Exit status: 0 yes, 1 no, 2 a fault of a file or the wrong kind,
 3 out of memory, 4 not one of potentials and branches, 5 a device.
@@ -152,7 +156,7 @@ fn convert<'a>(alloc: Global) -> Result<Command<'a>, AllocError>
     then(two, explain(alloc))
 }
 
-/// `check F T [--potentials P] [--branches B] [--length N] [--explain]`.
+/// `check F T [--potentials P] [--branches B] [--length N] [--strict] [--explain]`.
 fn check<'a>(alloc: Global) -> Result<Command<'a>, AllocError>
     ensures { IfOk result (IsCommandOf check) }
 {
@@ -164,7 +168,8 @@ fn check<'a>(alloc: Global) -> Result<Command<'a>, AllocError>
         "The length that the solution has to have",
     );
     let two = then(one, length);
-    then(two, explain(alloc))
+    let three = then(two, strict(alloc));
+    then(three, explain(alloc))
 }
 
 /// `check F T [--potentials P] [--branches B]`.
@@ -187,11 +192,12 @@ fn check_files<'a>(alloc: Global) -> Result<Command<'a>, AllocError>
     then(one, path(alloc, "T", "The path of the solution: TYPE TOUR"))
 }
 
-/// `compare F T.. [--potentials P] [--branches B] [--explain]`.
+/// `compare F T.. [--potentials P] [--branches B] [--strict] [--explain]`.
 fn compare<'a>(alloc: Global) -> Result<Command<'a>, AllocError>
     ensures { IfOk result (IsCommandOf compare) }
 {
-    then(compare_certified(alloc), explain(alloc))
+    let one = then(compare_certified(alloc), strict(alloc));
+    then(one, explain(alloc))
 }
 
 /// `compare F T.. [--potentials P] [--branches B]`.
@@ -217,14 +223,21 @@ fn compare_files<'a>(alloc: Global) -> Result<Command<'a>, AllocError>
     )
 }
 
-/// `bound F [--potentials P] [--branches B] [--explain]`.
+/// `bound F [--potentials P] [--branches B] [--strict] [--explain]`.
 fn bound<'a>(alloc: Global) -> Result<Command<'a>, AllocError>
     ensures { IfOk result (IsCommandOf bound) }
 {
+    let one = then(bound_certified(alloc), strict(alloc));
+    then(one, explain(alloc))
+}
+
+/// `bound F [--potentials P] [--branches B]`.
+fn bound_certified<'a>(alloc: Global) -> Result<Command<'a>, AllocError>
+    ensures { IfOk result (IsCommandOf bound_certified) }
+{
     let files = bound_files(alloc);
     let one = then(files, option(alloc, "P", "potentials", POTENTIALS));
-    let two = then(one, option(alloc, "B", "branches", BRANCHES));
-    then(two, explain(alloc))
+    then(one, option(alloc, "B", "branches", BRANCHES))
 }
 
 /// `bound F`, which has the file.
@@ -321,5 +334,18 @@ fn explain<'a>(alloc: Global) -> Arg<'a>
         "E",
         "explain",
         "Explain a fault, or the line no, on standard error",
+    )
+}
+
+/// `--strict`, which the three verbs that judge have.
+fn strict<'a>(alloc: Global) -> Arg<'a>
+    ensures rule { rule_of result ≡ strict }
+    ensures local { result.global ≡ false }
+{
+    flag(
+        alloc,
+        "U",
+        "strict",
+        "Reject an instance with an unknown keyword, after all other reasons",
     )
 }

@@ -17,6 +17,9 @@ mod words;
 
 pub use examples::examples_of_verbs;
 pub use grammar::VERSION;
-pub use line_examples::{examples_of_lines, examples_of_two_certificates, examples_of_versions};
+pub use line_examples::{
+    examples_of_lines, examples_of_strict_requests, examples_of_two_certificates,
+    examples_of_versions,
+};
 pub use request::{Place, RequestFault, place_at, request_of};
 pub use words::{Job, JobFault, Verb, job_of, unread};

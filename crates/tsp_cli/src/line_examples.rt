@@ -2,7 +2,7 @@
 //! body is looked at here: a definition that is changed together with its code is refused by its
 //! examples.
 
-ghost use Rattle.std.specs.Prelude.{◌≡◌, ◌≢◌, [], ◌∷◌, Option, None, Some, ℤ, codes};
+ghost use Rattle.std.specs.Prelude.{◌≡◌, ◌≢◌, Bool, [], ◌∷◌, Option, None, Some, ℤ, codes};
 ghost use Rattle.clap.specs.Words.{fault_of};
 ghost use Rattle.clap.specs.declared.error.kind.ErrorKind.TheVariants as kinds;
 ghost use Rattle.tsp_cli.specs.Grammar.{tsp};
@@ -45,6 +45,15 @@ pub fn examples_of_lines()
         (codes "check" ∷ codes "a" ∷ codes "b" ∷ codes "--potentials" ∷ codes "c" ∷ []) ≡ None }
     ensures length { found_value (codes "N") (codes "check"
         ∷ codes "a" ∷ codes "b" ∷ codes "--length" ∷ codes "9" ∷ []) ≡ Some (codes "9") }
+    ensures strict { IsWholeLine (codes "check") (codes "check" ∷ codes "a" ∷ codes "b" ∷ codes "--strict" ∷ []) }
+    ensures is_strict { found_value (codes "U") (codes "check" ∷ codes "a" ∷ codes "b" ∷ codes "--strict" ∷ [])
+        ≡ Some (codes "true") }
+    ensures is_not_strict { found_value (codes "U") (codes "check" ∷ codes "a" ∷ codes "b" ∷ []) ≢ Some (codes "true") }
+    ensures strict_comparison { found_value (codes "U") (codes "compare" ∷ codes "a" ∷ codes "--strict" ∷ codes "b" ∷ [])
+        ≡ Some (codes "true") }
+    ensures strict_bound { found_value (codes "U") (codes "bound" ∷ codes "a" ∷ codes "--strict" ∷ [])
+        ≡ Some (codes "true") }
+    ensures nothing_to_judge { fault_of tsp (codes "show" ∷ codes "a" ∷ codes "--strict" ∷ []) ≢ [] }
     ensures compare { IsWholeLine (codes "compare")
         (codes "compare" ∷ codes "a" ∷ codes "b" ∷ codes "c" ∷ []) }
     ensures solutions { all_values (codes "S")
@@ -77,23 +86,32 @@ pub fn examples_of_versions()
     ensures help { fault_of tsp (codes "help" ∷ []) ≡ kinds.DisplayHelp ∷ kinds.InvalidSubcommand ∷ [] }
 {}
 
+/// A request is strict exactly where its job is.
+pub fn examples_of_strict_requests()
+    ensures check { (job : Job) (a b : Place) (claimed : Option ℤ) (strict : Bool) → IsTask job (tasks.Check a b None claimed strict)
+        → strict ≡ job.strict }
+    ensures bound { (job : Job) (a c : Place) (strict : Bool) → IsTask job (tasks.Bound a (certificates.Branches, c) strict)
+        → strict ≡ job.strict }
+    ensures compare { (job : Job) (c : Comparison Place) → IsRequest job (requests.Compare c) → c.strict ≡ job.strict }
+{}
+
 /// With both certificates nothing is checked, compared or bounded: with either one it is
 /// without the other, and the plain check is without both. A bound has one of them.
 pub fn examples_of_two_certificates()
-    ensures plain_with_potentials { (job : Job) (a b : Place) (claimed : Option ℤ)
-        → job.potentials ≢ None → ¬ IsTask job (tasks.Check a b None claimed) }
-    ensures plain_with_branches { (job : Job) (a b : Place) (claimed : Option ℤ)
-        → job.branches ≢ None → ¬ IsTask job (tasks.Check a b None claimed) }
-    ensures potentials_with_branches { (job : Job) (a b c : Place) (claimed : Option ℤ)
+    ensures plain_with_potentials { (job : Job) (a b : Place) (claimed : Option ℤ) (strict : Bool)
+        → job.potentials ≢ None → ¬ IsTask job (tasks.Check a b None claimed strict) }
+    ensures plain_with_branches { (job : Job) (a b : Place) (claimed : Option ℤ) (strict : Bool)
+        → job.branches ≢ None → ¬ IsTask job (tasks.Check a b None claimed strict) }
+    ensures potentials_with_branches { (job : Job) (a b c : Place) (claimed : Option ℤ) (strict : Bool)
         → job.branches ≢ None
-        → ¬ IsTask job (tasks.Check a b (Some (certificates.Potentials, c)) claimed) }
-    ensures branches_with_potentials { (job : Job) (a b c : Place) (claimed : Option ℤ)
+        → ¬ IsTask job (tasks.Check a b (Some (certificates.Potentials, c)) claimed strict) }
+    ensures branches_with_potentials { (job : Job) (a b c : Place) (claimed : Option ℤ) (strict : Bool)
         → job.potentials ≢ None
-        → ¬ IsTask job (tasks.Check a b (Some (certificates.Branches, c)) claimed) }
-    ensures bound_with_branches { (job : Job) (a b : Place) → job.branches ≢ None
-        → ¬ IsTask job (tasks.Bound a (certificates.Potentials, b)) }
-    ensures bound_with_potentials { (job : Job) (a b : Place) → job.potentials ≢ None
-        → ¬ IsTask job (tasks.Bound a (certificates.Branches, b)) }
+        → ¬ IsTask job (tasks.Check a b (Some (certificates.Branches, c)) claimed strict) }
+    ensures bound_with_branches { (job : Job) (a b : Place) (strict : Bool) → job.branches ≢ None
+        → ¬ IsTask job (tasks.Bound a (certificates.Potentials, b) strict) }
+    ensures bound_with_potentials { (job : Job) (a b : Place) (strict : Bool) → job.potentials ≢ None
+        → ¬ IsTask job (tasks.Bound a (certificates.Branches, b) strict) }
     ensures compared_by_potentials { (job : Job) (c : Comparison Place) (a : Place) → job.branches ≢ None
         → c.certificate ≡ Some (certificates.Potentials, a) → ¬ IsRequest job (requests.Compare c) }
     ensures compared_by_branches { (job : Job) (c : Comparison Place) (a : Place) → job.potentials ≢ None

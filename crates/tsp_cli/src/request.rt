@@ -138,6 +138,7 @@ fn check_of<'a>(job: &'a Job, instance: Place<'a>) -> Result<Task<Place<'a>>, Re
         solution,
         certificate,
         claimed,
+        strict: job.strict,
     })
 }
 
@@ -159,6 +160,7 @@ fn comparison_of<'a>(
         instance,
         certificate,
         solutions: &job.solutions,
+        strict: job.strict,
     })
 }
 
@@ -193,6 +195,7 @@ fn bound_of<'a>(job: &'a Job, instance: Place<'a>) -> Result<Task<Place<'a>>, Re
         Some(certificate) => Ok(Task::Bound {
             instance,
             certificate,
+            strict: job.strict,
         }),
     }
 }

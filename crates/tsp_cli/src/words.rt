@@ -63,6 +63,8 @@ pub struct Job {
     pub branches: Option<String>,
     /// The word of the length that is claimed.
     pub length: Option<String>,
+    /// Whether unknown keywords of the instance are a reason.
+    pub strict: bool,
     /// Whether a fault, or the line `no`, is to be explained.
     pub explain: bool,
 }
@@ -88,9 +90,10 @@ impl JobFault {
 }
 
 /// Reads the words of a command line, those after the program's own name: `show F`,
-/// `convert F [--layout L]`, `check F T [--potentials P] [--branches B] [--length N]`,
-/// `compare F T.. [--potentials P] [--branches B]`, `bound F [--potentials P] [--branches B]`, each
-/// with `--explain` or without, or no words at all.
+/// `convert F [--layout L]`, `check F T [--potentials P] [--branches B] [--length N] [--strict]`,
+/// `compare F T.. [--potentials P] [--branches B] [--strict]`,
+/// `bound F [--potentials P] [--branches B] [--strict]`, each with `--explain` or without, or no
+/// words at all.
 ///
 /// # Errors
 ///
@@ -115,6 +118,7 @@ pub fn job_of(alloc: Global, words: &[&str]) -> Result<Job, JobFault>
             potentials: None,
             branches: None,
             length: None,
+            strict: false,
             explain: false,
         });
     };
@@ -163,6 +167,7 @@ fn job_with(alloc: Global, verb: Option<Verb>, found: &ArgMatches<'_>) -> Result
         potentials: value(alloc, found, "P")?,
         branches: value(alloc, found, "B")?,
         length: value(alloc, found, "N")?,
+        strict: is_given(found, "U"),
         explain: is_given(found, "E"),
     })
 }

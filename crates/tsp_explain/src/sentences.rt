@@ -151,6 +151,7 @@ pub(crate) fn reason_sentence(reason: Reason) -> &'static str {
         Reason::BranchTwice { .. } => BRANCH_TWICE,
         Reason::BadLeaf { .. } => BAD_LEAF,
         Reason::TooManyLoads => TOO_MANY_LOADS,
+        Reason::NotJudged => NOT_JUDGED,
     }
 }
 
@@ -242,3 +243,7 @@ const BAD_LEAF: &str =
 const TOO_MANY_LOADS: &str =
     "DIMENSION times one more than the capacity, counted in loads, is more than 10,000,000.\n\
     A larger LOAD_UNIT makes fewer loads. The bound may be lower then.";
+
+const NOT_JUDGED: &str =
+    "No other reason applies, but a line of the instance has a keyword that tsp doesn't know, and --strict rejects that.\n\
+    What the line asks for is not judged: a yes would not mean that the solution keeps to it.";

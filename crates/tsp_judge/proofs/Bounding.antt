@@ -1,6 +1,6 @@
 -- A run that bounds the tours of an instance, put together from its parts.
 use Rattle.std.specs.Prelude.{IsTrue, ℤ}
-use Rattle.std.proofs.Common.{◌≡◌, length, Some, sym, true, Result, Ok, Err, refl, subst, inl, inr}
+use Rattle.std.proofs.Common.{◌≡◌, ◌∙◌, length, Some, sym, Bool, true, false, Result, Ok, Err, refl, subst, inl, inr}
 use Rattle.std.proofs.lemmas.Bool.{false≢true}
 use Rattle.tsp_stream.specs.Turn.{Turn, IsUnread}
 use Rattle.tsp_stream.specs.Sink.{Sink, IsUnwritten}
@@ -25,32 +25,33 @@ use Rattle.tsp_cost.specs.ComputedProblems.{problem_of, routing_of, depots_of}
 use Rattle.tsp_judge.specs.Accepted.{BoundsAll, HasNone, IsAcceptedAlone}
 use Rattle.tsp_judge.specs.CheckRun.{ReadsFile}
 use Rattle.tsp_judge.proofs.HandedOn.{one_value}
-use Rattle.tsp_judge.proofs.Yeses.{IsBoundedType, of_type, types_bounded, one_depot}
+use Rattle.tsp_judge.proofs.Yeses.{IsBoundedType, of_type, types_bounded, one_depot, none_unknown}
+use Rattle.tsp_verdict.specs.Strict.{is_unjudged, strict_bound}
 
-pub bound_first_stops : (by : Certificate) (first second : Turn) (sink : Sink) (fault : RunFault) → ReadsFile 1 first (Err fault) → IsUnread second → IsUnwritten sink
-    → EndsUnbounded by first second sink fault
-bound_first_stops by first second sink (File place fault) stops two unwritten = (unwritten, inl (stops.0, stops.1, two))
-bound_first_stops by first second sink WrongKind stops two unwritten = absurd stops
-bound_first_stops by first second sink (Write fault) stops two unwritten = absurd stops
-bound_first_stops by first second sink OutOfMemory stops two unwritten = absurd stops
-bound_first_stops by first second sink (Relayout fault) stops two unwritten = absurd stops
+pub bound_first_stops : (strict : Bool) (by : Certificate) (first second : Turn) (sink : Sink) (fault : RunFault) → ReadsFile 1 first (Err fault) → IsUnread second → IsUnwritten sink
+    → EndsUnbounded by strict first second sink fault
+bound_first_stops strict by first second sink (File place fault) stops two unwritten = (unwritten, inl (stops.0, stops.1, two))
+bound_first_stops strict by first second sink WrongKind stops two unwritten = absurd stops
+bound_first_stops strict by first second sink (Write fault) stops two unwritten = absurd stops
+bound_first_stops strict by first second sink OutOfMemory stops two unwritten = absurd stops
+bound_first_stops strict by first second sink (Relayout fault) stops two unwritten = absurd stops
 
-pub bound_second_stops : (by : Certificate) (first second : Turn) (instance : Fields) (sink : Sink) (fault : RunFault) → IsFile first instance → ReadsFile 2 second (Err fault)
-    → IsUnwritten sink → EndsUnbounded by first second sink fault
-bound_second_stops by first second instance sink (File place fault) one stops unwritten = (unwritten, inr (stops.0, (instance, one), stops.1))
-bound_second_stops by first second instance sink WrongKind one stops unwritten = absurd stops
-bound_second_stops by first second instance sink (Write fault) one stops unwritten = absurd stops
-bound_second_stops by first second instance sink OutOfMemory one stops unwritten = absurd stops
-bound_second_stops by first second instance sink (Relayout fault) one stops unwritten = absurd stops
+pub bound_second_stops : (strict : Bool) (by : Certificate) (first second : Turn) (instance : Fields) (sink : Sink) (fault : RunFault) → IsFile first instance → ReadsFile 2 second (Err fault)
+    → IsUnwritten sink → EndsUnbounded by strict first second sink fault
+bound_second_stops strict by first second instance sink (File place fault) one stops unwritten = (unwritten, inr (stops.0, (instance, one), stops.1))
+bound_second_stops strict by first second instance sink WrongKind one stops unwritten = absurd stops
+bound_second_stops strict by first second instance sink (Write fault) one stops unwritten = absurd stops
+bound_second_stops strict by first second instance sink OutOfMemory one stops unwritten = absurd stops
+bound_second_stops strict by first second instance sink (Relayout fault) one stops unwritten = absurd stops
 
 -- a run of which no bound comes
-pub ends_unbounded : (by : Certificate) (first second : Turn) (instance certificate : Fields) (sink : Sink) (fault : RunFault) → IsFile first instance → IsFile second certificate
-    → BoundsFiles by instance certificate sink (Err fault) → EndsUnbounded by first second sink fault
-ends_unbounded by first second instance certificate sink (File place fault) one two bounds = absurd bounds
-ends_unbounded by first second instance certificate sink WrongKind one two bounds = (instance, certificate, one, two, bounds)
-ends_unbounded by first second instance certificate sink (Write fault) one two bounds = (instance, certificate, one, two, bounds)
-ends_unbounded by first second instance certificate sink OutOfMemory one two bounds = (instance, certificate, one, two, bounds)
-ends_unbounded by first second instance certificate sink (Relayout fault) one two bounds = (instance, certificate, one, two, bounds)
+pub ends_unbounded : (strict : Bool) (by : Certificate) (first second : Turn) (instance certificate : Fields) (sink : Sink) (fault : RunFault) → IsFile first instance → IsFile second certificate
+    → BoundsFiles by strict instance certificate sink (Err fault) → EndsUnbounded by strict first second sink fault
+ends_unbounded strict by first second instance certificate sink (File place fault) one two bounds = absurd bounds
+ends_unbounded strict by first second instance certificate sink WrongKind one two bounds = (instance, certificate, one, two, bounds)
+ends_unbounded strict by first second instance certificate sink (Write fault) one two bounds = (instance, certificate, one, two, bounds)
+ends_unbounded strict by first second instance certificate sink OutOfMemory one two bounds = (instance, certificate, one, two, bounds)
+ends_unbounded strict by first second instance certificate sink (Relayout fault) one two bounds = (instance, certificate, one, two, bounds)
 
 -- ---- what an accepted bound says
 
@@ -93,10 +94,19 @@ bound_accepted by instance certificate bounds.NoSolution problem type v is = rec
 }
 bound_accepted by instance certificate (bounds.No reason) problem type v is = absurd (false≢true is)
 
-says_bound : (by : Certificate) (first second : Turn) (sink : Sink) (bounded : Bounded) → IsProblem bounded.instance
-    → IsBoundRun by first second sink (Ok bounded) → is_bound_yes bounded.found ≡ true → SaysBound by first second sink bounded.found
-says_bound by first second sink bounded problem run is =
+-- an accepted one was accepted before, and unknown keywords are no reason
+kept_bound : (refused : Bool) (plain : BoundVerdict) → is_bound_yes (strict_bound refused plain) ≡ true → (strict_bound refused plain ≡ plain) × (refused ≡ false)
+kept_bound false plain is = (refl, refl)
+kept_bound true (bounds.Bound bound) is = absurd (false≢true is)
+kept_bound true bounds.NoSolution is = absurd (false≢true is)
+kept_bound true (bounds.No reason) is = absurd (false≢true is)
+
+says_bound : (by : Certificate) (strict : Bool) (first second : Turn) (sink : Sink) (bounded : Bounded) → IsProblem bounded.instance
+    → IsBoundRun by strict first second sink (Ok bounded) → is_bound_yes bounded.found ≡ true → SaysBound by strict first second sink bounded.found
+says_bound by strict first second sink bounded problem run is =
     let b = run.2 in
+    let asked = b.1 in
+    let same = kept_bound (is_unjudged strict bounded.instance) asked.0 (subst (λ v. is_bound_yes v ≡ true) asked.2 is) in
     record {
       instance = bounded.instance;
       certificate = bounded.certificate;
@@ -104,19 +114,21 @@ says_bound by first second sink bounded problem run is =
       first_file = run.0;
       second_file = run.1;
       written = b.2;
-      meaning = bound_accepted by bounded.instance bounded.certificate bounded.found problem b.0 b.1 is;
+      meaning = bound_accepted by bounded.instance bounded.certificate bounded.found problem b.0
+          (subst (IsBoundVerdict by bounded.instance bounded.certificate) (sym (asked.2 ∙ same.0)) asked.1) is;
+      all_judged = none_unknown strict bounded.instance.others same.1;
     }
 
 -- the whole contract of a run with a bound, or a reason, and of one without either
-pub bound_run_of : (by : Certificate) (first second : Turn) (sink : Sink) (bounded : Bounded) → IsProblem bounded.instance
-    → IsBoundRun by first second sink (Ok bounded) → IsBoundRunOf by first second sink (Ok bounded)
-bound_run_of by first second sink bounded problem run = (
+pub bound_run_of : (strict : Bool) (by : Certificate) (first second : Turn) (sink : Sink) (bounded : Bounded) → IsProblem bounded.instance
+    → IsBoundRun by strict first second sink (Ok bounded) → IsBoundRunOf by strict first second sink (Ok bounded)
+bound_run_of strict by first second sink bounded problem run = (
   run,
   λ other ended is.
       let same : bounded ≡ other = one_value {T = Bounded} {E = RunFault} (Ok bounded) bounded other refl ended in
-      subst (λ (b : Bounded). is_bound_yes b.found ≡ true → SaysBound by first second sink b.found) same (says_bound by first second sink bounded problem run) is,
+      subst (λ (b : Bounded). is_bound_yes b.found ≡ true → SaysBound by strict first second sink b.found) same (says_bound by strict first second sink bounded problem run) is,
 )
 
-pub bound_fault_of : (by : Certificate) (first second : Turn) (sink : Sink) (fault : RunFault) → EndsUnbounded by first second sink fault
-    → IsBoundRunOf by first second sink (Err fault)
-bound_fault_of by first second sink fault ends = (ends, λ other ended is. absurd cc)
+pub bound_fault_of : (strict : Bool) (by : Certificate) (first second : Turn) (sink : Sink) (fault : RunFault) → EndsUnbounded by strict first second sink fault
+    → IsBoundRunOf by strict first second sink (Err fault)
+bound_fault_of strict by first second sink fault ends = (ends, λ other ended is. absurd cc)

@@ -19,6 +19,10 @@ use Rattle.tsp_cost.specs.ProblemLaws.{IsProblem}
 use Rattle.tsp_reason.specs.declared.certificate.Certificate.{Certificate}
 use Rattle.tsp_reason.specs.declared.verdict.Verdict.{Verdict}
 use Rattle.tsp_verdict.specs.Basis.{IsBasis, IsVerdictFrom}
+use Rattle.tsp_verdict.specs.Strict.{is_unjudged, strict_basis, IsBasisAsked}
+use Rattle.tsp_reason.specs.declared.basis.Basis.{Basis}
+use Rattle.tsp_reason.specs.declared.basis.Basis.TheVariants as bases
+use Rattle.tsp_reason.specs.Verdicts.{is_clear}
 use Rattle.tsp_judge.specs.declared.common.Common.{Common}
 use Rattle.tsp_judge.specs.declared.common.Found.{Found}
 use Rattle.tsp_judge.specs.declared.fault.RunFault.{RunFault}
@@ -218,43 +222,56 @@ head_stopped opened IsTurn paths common sink write_faults.OutOfMemory h = absurd
 
 -- ---- the files that are read once
 
-pub compare_first_stops : (IsTurn : ℕ → Turn → Type 0) (paths : List (List ℕ)) (given : Given) (first : Turn) (sink : Sink) (fault : RunFault) → ReadsFile 1 first (Err fault)
-    → IsUnreadIn given → IsUnwritten sink → EndsCompare IsTurn paths given first sink fault
-compare_first_stops IsTurn paths given first sink (File place fault) stops two unwritten = (unwritten, inl (stops.0, stops.1, two))
-compare_first_stops IsTurn paths given first sink WrongKind stops two unwritten = absurd stops
-compare_first_stops IsTurn paths given first sink (Write fault) stops two unwritten = absurd stops
-compare_first_stops IsTurn paths given first sink OutOfMemory stops two unwritten = absurd stops
-compare_first_stops IsTurn paths given first sink (Relayout fault) stops two unwritten = absurd stops
+pub compare_first_stops : (strict : Bool) (IsTurn : ℕ → Turn → Type 0) (paths : List (List ℕ)) (given : Given) (first : Turn) (sink : Sink) (fault : RunFault) → ReadsFile 1 first (Err fault)
+    → IsUnreadIn given → IsUnwritten sink → EndsCompare strict IsTurn paths given first sink fault
+compare_first_stops strict IsTurn paths given first sink (File place fault) stops two unwritten = (unwritten, inl (stops.0, stops.1, two))
+compare_first_stops strict IsTurn paths given first sink WrongKind stops two unwritten = absurd stops
+compare_first_stops strict IsTurn paths given first sink (Write fault) stops two unwritten = absurd stops
+compare_first_stops strict IsTurn paths given first sink OutOfMemory stops two unwritten = absurd stops
+compare_first_stops strict IsTurn paths given first sink (Relayout fault) stops two unwritten = absurd stops
 
-pub compare_second_stops : (IsTurn : ℕ → Turn → Type 0) (paths : List (List ℕ)) (given : Given) (first : Turn) (instance : Fields) (sink : Sink) (fault : RunFault) → IsFile first instance
-    → ReadsGiven 2 given (Err fault) → IsUnwritten sink → EndsCompare IsTurn paths given first sink fault
-compare_second_stops IsTurn paths None first instance sink fault one stops unwritten = absurd stops
-compare_second_stops IsTurn paths (Some second) first instance sink (File place fault) one stops unwritten =
+pub compare_second_stops : (strict : Bool) (IsTurn : ℕ → Turn → Type 0) (paths : List (List ℕ)) (given : Given) (first : Turn) (instance : Fields) (sink : Sink) (fault : RunFault) → IsFile first instance
+    → ReadsGiven 2 given (Err fault) → IsUnwritten sink → EndsCompare strict IsTurn paths given first sink fault
+compare_second_stops strict IsTurn paths None first instance sink fault one stops unwritten = absurd stops
+compare_second_stops strict IsTurn paths (Some second) first instance sink (File place fault) one stops unwritten =
     (unwritten, inr (second, refl, stops.0, (instance, one), stops.1))
-compare_second_stops IsTurn paths (Some second) first instance sink WrongKind one stops unwritten = absurd stops
-compare_second_stops IsTurn paths (Some second) first instance sink (Write fault) one stops unwritten = absurd stops
-compare_second_stops IsTurn paths (Some second) first instance sink OutOfMemory one stops unwritten = absurd stops
-compare_second_stops IsTurn paths (Some second) first instance sink (Relayout fault) one stops unwritten = absurd stops
+compare_second_stops strict IsTurn paths (Some second) first instance sink WrongKind one stops unwritten = absurd stops
+compare_second_stops strict IsTurn paths (Some second) first instance sink (Write fault) one stops unwritten = absurd stops
+compare_second_stops strict IsTurn paths (Some second) first instance sink OutOfMemory one stops unwritten = absurd stops
+compare_second_stops strict IsTurn paths (Some second) first instance sink (Relayout fault) one stops unwritten = absurd stops
 
 -- ---- a comparison that ends early
 
-pub ends_lacking : (IsTurn : ℕ → Turn → Type 0) (paths : List (List ℕ)) (given : Given) (first : Turn) (instance : Fields) (certificate : Option (Certificate × Fields)) (sink : Sink)
-    (fault : RunFault) → IsFile first instance → IsFileIn given certificate → LacksBasis certificate instance fault → IsUnwritten sink → EndsCompare IsTurn paths given first sink fault
-ends_lacking IsTurn paths given first instance certificate sink (File place fault) one two lacks unwritten = absurd lacks
-ends_lacking IsTurn paths given first instance certificate sink WrongKind one two lacks unwritten = inl (instance, certificate, one, two, lacks, unwritten)
-ends_lacking IsTurn paths given first instance certificate sink (Write fault) one two lacks unwritten = absurd lacks
-ends_lacking IsTurn paths given first instance certificate sink OutOfMemory one two lacks unwritten = inl (instance, certificate, one, two, lacks, unwritten)
-ends_lacking IsTurn paths given first instance certificate sink (Relayout fault) one two lacks unwritten = absurd lacks
+pub ends_lacking : (strict : Bool) (IsTurn : ℕ → Turn → Type 0) (paths : List (List ℕ)) (given : Given) (first : Turn) (instance : Fields) (certificate : Option (Certificate × Fields)) (sink : Sink)
+    (fault : RunFault) → IsFile first instance → IsFileIn given certificate → LacksBasis certificate instance fault → IsUnwritten sink → EndsCompare strict IsTurn paths given first sink fault
+ends_lacking strict IsTurn paths given first instance certificate sink (File place fault) one two lacks unwritten = absurd lacks
+ends_lacking strict IsTurn paths given first instance certificate sink WrongKind one two lacks unwritten = inl (instance, certificate, one, two, lacks, unwritten)
+ends_lacking strict IsTurn paths given first instance certificate sink (Write fault) one two lacks unwritten = absurd lacks
+ends_lacking strict IsTurn paths given first instance certificate sink OutOfMemory one two lacks unwritten = inl (instance, certificate, one, two, lacks, unwritten)
+ends_lacking strict IsTurn paths given first instance certificate sink (Relayout fault) one two lacks unwritten = absurd lacks
 
 no_file : (opened : Bool) (IsTurn : ℕ → Turn → Type 0) (paths : List (List ℕ)) (common : Common) (sink : Sink) (place : ℕ) (fault : ReadFault)
     → ComparesBy opened IsTurn paths common sink (Err (File place fault)) → ⊥
 no_file true IsTurn paths common sink place fault c = c
 no_file false IsTurn paths common sink place fault c = c
 
-pub ends_comparing : (IsTurn : ℕ → Turn → Type 0) (paths : List (List ℕ)) (given : Given) (first : Turn) (common : Common) (sink : Sink) (fault : RunFault) → AreReadOnce given first common
-    → ComparesOn IsTurn paths common sink (Err fault) → EndsCompare IsTurn paths given first sink fault
-ends_comparing IsTurn paths given first common sink (File place fault) read c = absurd (no_file _ IsTurn paths common sink place fault c.1)
-ends_comparing IsTurn paths given first common sink WrongKind read c = inr (common, read, c)
-ends_comparing IsTurn paths given first common sink (Write fault) read c = inr (common, read, c)
-ends_comparing IsTurn paths given first common sink OutOfMemory read c = inr (common, read, c)
-ends_comparing IsTurn paths given first common sink (Relayout fault) read c = inr (common, read, c)
+pub ends_comparing : (strict : Bool) (IsTurn : ℕ → Turn → Type 0) (paths : List (List ℕ)) (given : Given) (first : Turn) (common : Common) (sink : Sink) (fault : RunFault) → AreReadOnce given first common
+    → ComparesOn strict IsTurn paths common sink (Err fault) → EndsCompare strict IsTurn paths given first sink fault
+ends_comparing strict IsTurn paths given first common sink (File place fault) read c = absurd (no_file _ IsTurn paths common sink place fault c.1)
+ends_comparing strict IsTurn paths given first common sink WrongKind read c = inr (common, read, c)
+ends_comparing strict IsTurn paths given first common sink (Write fault) read c = inr (common, read, c)
+ends_comparing strict IsTurn paths given first common sink OutOfMemory read c = inr (common, read, c)
+ends_comparing strict IsTurn paths given first common sink (Relayout fault) read c = inr (common, read, c)
+
+-- where solutions are judged one by one, the basis is the one without a look at unknown keywords
+pub clear_basis : (strict : Bool) (given : Option (Certificate × Fields)) (instance : Fields) (basis : Basis) → IsBasisAsked strict given instance basis
+    → is_clear basis ≡ true → IsBasis given instance basis
+clear_basis strict given instance basis asked clear =
+    subst (IsBasis given instance) (sym (asked.2 ∙ kept_basis (is_unjudged strict instance) asked.0 (subst (λ b. is_clear b ≡ true) asked.2 clear))) asked.1
+  where
+    kept_basis : (refused : Bool) (plain : Basis) → is_clear (strict_basis refused plain) ≡ true → strict_basis refused plain ≡ plain
+    kept_basis false plain is = refl
+    kept_basis true (bases.Tours bound) is = absurd (false≢true is)
+    kept_basis true bases.NoSolution is = absurd (false≢true is)
+    kept_basis true (bases.Routes least bound) is = absurd (false≢true is)
+    kept_basis true (bases.No reason) is = absurd (false≢true is)

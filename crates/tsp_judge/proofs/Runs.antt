@@ -1,6 +1,6 @@
 -- A run, put together from its parts.
 use Rattle.std.specs.Prelude.{ℤ, pos, negsuc, ◌≤◌, ◌^◌, unsigned_abs}
-use Rattle.std.proofs.Common.{◌≡◌, ℕ, [], length, false, Option, Some, None, Err, refl, sym, subst, inl, inr, arith}
+use Rattle.std.proofs.Common.{◌≡◌, ℕ, [], length, Bool, true, false, Option, Some, None, Err, refl, sym, subst, inl, inr, arith}
 use Rattle.std.proofs.lemmas.Int.{ints}
 use Rattle.std.proofs.lemmas.Bool.{false≢true}
 use Rattle.tsp_format.specs.declared.kinds.Kind.{Kind}
@@ -15,6 +15,7 @@ use Rattle.tsp_reason.specs.declared.verdict.Verdict.{Verdict}
 use Rattle.tsp_reason.specs.declared.verdict.Verdict.TheVariants as verdicts
 use Rattle.tsp_verdict.specs.Certified.{is_bounded, IsBoundFitting, IsCertifiedTourVerdict, IsCertifiedRoutesVerdict, IsCertifiedVerdictBy}
 use Rattle.tsp_verdict.specs.SolutionVerdict.{is_judged, IsVerdictBy, IsUnclaimedVerdict, IsVerdictWith}
+use Rattle.tsp_verdict.specs.Strict.{is_unjudged, strict_verdict, IsVerdictAsked}
 use Rattle.tsp_judge.specs.declared.fault.RunFault.{RunFault}
 use Rattle.tsp_judge.specs.declared.fault.RunFault.TheVariants.{File, WrongKind, Write, OutOfMemory, Relayout}
 use Rattle.tsp_report.specs.Report.{IsGapSized, IsSized}
@@ -79,6 +80,18 @@ sized certificate (Some claim) instance solution (verdicts.Tour length bound) v 
 sized certificate (Some claim) instance solution (verdicts.Routes length routes least bound) v = unclaimed certificate instance solution (verdicts.Routes length routes least bound) v.0
 sized certificate (Some claim) instance solution (verdicts.No reason) v = tt
 
+-- where unknown keywords are a reason too
+pub asked_sized : (strict : Bool) (certificate : Option (Certificate × Fields)) (claimed : Option ℤ) (instance solution : Fields) (verdict : Verdict)
+    → IsVerdictAsked strict certificate claimed instance solution verdict → IsSized verdict
+asked_sized strict certificate claimed instance solution verdict asked =
+    subst IsSized (sym asked.2) (kept (is_unjudged strict instance) asked.0 (sized certificate claimed instance solution asked.0 asked.1))
+  where
+    kept : (refused : Bool) (plain : Verdict) → IsSized plain → IsSized (strict_verdict refused plain)
+    kept false plain is = is
+    kept true (verdicts.Tour length bound) is = tt
+    kept true (verdicts.Routes length routes least bound) is = tt
+    kept true (verdicts.No reason) is = tt
+
 -- ---- the TYPE
 
 bounded_none : (by : Certificate) (kind : Option Kind) → is_instance kind ≡ false → is_bounded by kind ≡ false
@@ -99,32 +112,32 @@ none_judged (Some given) kind none = none_bounded given.0 kind none
 
 -- ---- the files
 
-pub first_stops : (given : Given) (claimed : Option ℤ) (first second : Turn) (sink : Sink) (fault : RunFault) → ReadsFile 1 first (Err fault) → IsUnread second → IsUnreadIn given
-    → IsUnwritten sink → EndsWithout given claimed first second sink fault
-first_stops given claimed first second sink (File place fault) stops two three unwritten = (unwritten, inl (stops.0, stops.1, two, three))
-first_stops given claimed first second sink WrongKind stops two three unwritten = absurd stops
-first_stops given claimed first second sink (Write fault) stops two three unwritten = absurd stops
-first_stops given claimed first second sink OutOfMemory stops two three unwritten = absurd stops
-first_stops given claimed first second sink (Relayout fault) stops two three unwritten = absurd stops
+pub first_stops : (strict : Bool) (given : Given) (claimed : Option ℤ) (first second : Turn) (sink : Sink) (fault : RunFault) → ReadsFile 1 first (Err fault) → IsUnread second → IsUnreadIn given
+    → IsUnwritten sink → EndsWithout given claimed strict first second sink fault
+first_stops strict given claimed first second sink (File place fault) stops two three unwritten = (unwritten, inl (stops.0, stops.1, two, three))
+first_stops strict given claimed first second sink WrongKind stops two three unwritten = absurd stops
+first_stops strict given claimed first second sink (Write fault) stops two three unwritten = absurd stops
+first_stops strict given claimed first second sink OutOfMemory stops two three unwritten = absurd stops
+first_stops strict given claimed first second sink (Relayout fault) stops two three unwritten = absurd stops
 
-pub second_stops : (given : Given) (claimed : Option ℤ) (first second : Turn) (instance : Fields) (sink : Sink) (fault : RunFault) → IsFile first instance
-    → ReadsFile 2 second (Err fault) → IsUnreadIn given → IsUnwritten sink → EndsWithout given claimed first second sink fault
-second_stops given claimed first second instance sink (File place fault) one stops three unwritten =
+pub second_stops : (strict : Bool) (given : Given) (claimed : Option ℤ) (first second : Turn) (instance : Fields) (sink : Sink) (fault : RunFault) → IsFile first instance
+    → ReadsFile 2 second (Err fault) → IsUnreadIn given → IsUnwritten sink → EndsWithout given claimed strict first second sink fault
+second_stops strict given claimed first second instance sink (File place fault) one stops three unwritten =
     (unwritten, inr (inl (stops.0, (instance, one), stops.1, three)))
-second_stops given claimed first second instance sink WrongKind one stops three unwritten = absurd stops
-second_stops given claimed first second instance sink (Write fault) one stops three unwritten = absurd stops
-second_stops given claimed first second instance sink OutOfMemory one stops three unwritten = absurd stops
-second_stops given claimed first second instance sink (Relayout fault) one stops three unwritten = absurd stops
+second_stops strict given claimed first second instance sink WrongKind one stops three unwritten = absurd stops
+second_stops strict given claimed first second instance sink (Write fault) one stops three unwritten = absurd stops
+second_stops strict given claimed first second instance sink OutOfMemory one stops three unwritten = absurd stops
+second_stops strict given claimed first second instance sink (Relayout fault) one stops three unwritten = absurd stops
 
-pub third_stops : (given : Given) (claimed : Option ℤ) (first second : Turn) (instance solution : Fields) (sink : Sink) (fault : RunFault) → IsFile first instance
-    → IsFile second solution → ReadsGiven 3 given (Err fault) → IsUnwritten sink → EndsWithout given claimed first second sink fault
-third_stops None claimed first second instance solution sink fault one two stops unwritten = absurd stops
-third_stops (Some third) claimed first second instance solution sink (File place fault) one two stops unwritten =
+pub third_stops : (strict : Bool) (given : Given) (claimed : Option ℤ) (first second : Turn) (instance solution : Fields) (sink : Sink) (fault : RunFault) → IsFile first instance
+    → IsFile second solution → ReadsGiven 3 given (Err fault) → IsUnwritten sink → EndsWithout given claimed strict first second sink fault
+third_stops strict None claimed first second instance solution sink fault one two stops unwritten = absurd stops
+third_stops strict (Some third) claimed first second instance solution sink (File place fault) one two stops unwritten =
     (unwritten, inr (inr (third, refl, stops.0, (instance, one), (solution, two), stops.1)))
-third_stops (Some third) claimed first second instance solution sink WrongKind one two stops unwritten = absurd stops
-third_stops (Some third) claimed first second instance solution sink (Write fault) one two stops unwritten = absurd stops
-third_stops (Some third) claimed first second instance solution sink OutOfMemory one two stops unwritten = absurd stops
-third_stops (Some third) claimed first second instance solution sink (Relayout fault) one two stops unwritten = absurd stops
+third_stops strict (Some third) claimed first second instance solution sink WrongKind one two stops unwritten = absurd stops
+third_stops strict (Some third) claimed first second instance solution sink (Write fault) one two stops unwritten = absurd stops
+third_stops strict (Some third) claimed first second instance solution sink OutOfMemory one two stops unwritten = absurd stops
+third_stops strict (Some third) claimed first second instance solution sink (Relayout fault) one two stops unwritten = absurd stops
 
 -- ---- files that were read
 
@@ -133,14 +146,14 @@ pub are_read : (given : Given) (first second : Turn) (instance solution : Fields
 are_read given first second instance solution certificate one two three = record { first_file = one; second_file = two; third_file = three }
 
 -- a run of which no verdict comes
-pub ends_without : (given : Given) (claimed : Option ℤ) (first second : Turn) (instance solution : Fields) (certificate : Option (Certificate × Fields)) (sink : Sink) (fault : RunFault)
-    → AreRead given first second instance solution certificate → JudgesFiles certificate claimed instance solution sink (Err fault)
-    → EndsWithout given claimed first second sink fault
-ends_without given claimed first second instance solution certificate sink (File place fault) read judges = absurd judges
-ends_without given claimed first second instance solution certificate sink WrongKind read judges = (instance, solution, certificate, read, judges)
-ends_without given claimed first second instance solution certificate sink (Write fault) read judges = (instance, solution, certificate, read, judges)
-ends_without given claimed first second instance solution certificate sink OutOfMemory read judges = (instance, solution, certificate, read, judges)
-ends_without given claimed first second instance solution certificate sink (Relayout fault) read judges = (instance, solution, certificate, read, judges)
+pub ends_without : (strict : Bool) (given : Given) (claimed : Option ℤ) (first second : Turn) (instance solution : Fields) (certificate : Option (Certificate × Fields)) (sink : Sink) (fault : RunFault)
+    → AreRead given first second instance solution certificate → JudgesFiles certificate claimed strict instance solution sink (Err fault)
+    → EndsWithout given claimed strict first second sink fault
+ends_without strict given claimed first second instance solution certificate sink (File place fault) read judges = absurd judges
+ends_without strict given claimed first second instance solution certificate sink WrongKind read judges = (instance, solution, certificate, read, judges)
+ends_without strict given claimed first second instance solution certificate sink (Write fault) read judges = (instance, solution, certificate, read, judges)
+ends_without strict given claimed first second instance solution certificate sink OutOfMemory read judges = (instance, solution, certificate, read, judges)
+ends_without strict given claimed first second instance solution certificate sink (Relayout fault) read judges = (instance, solution, certificate, read, judges)
 
 -- ---- the third reader
 

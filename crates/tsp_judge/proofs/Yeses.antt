@@ -23,6 +23,7 @@ use Rattle.tsp_reason.specs.declared.verdict.Verdict.{Verdict}
 use Rattle.tsp_reason.specs.declared.verdict.Verdict.TheVariants as verdicts
 use Rattle.tsp_verdict.specs.Certified.{kind_of, is_bounded, StandsAgainstCertificateBy, StandsAgainstCertificate, IsCertifiedTourVerdict, IsCertifiedRoutesVerdict, IsCertifiedVerdictBy, IsCertifiedVerdict}
 use Rattle.tsp_verdict.specs.SolutionVerdict.{is_judged, IsVerdictBy, IsUnclaimedVerdict, HasLength, IsAsClaimed, IsVerdictWith}
+use Rattle.tsp_verdict.specs.Strict.{refuses, is_unjudged, strict_verdict}
 use Rattle.tsp_verdict.specs.Routes.{StandsAgainstRoutes, IsPlanned, IsRoutesVerdict}
 use Rattle.tsp_verdict.specs.Tours.{IsTourVerdict}
 use Rattle.tsp_verdict.specs.Plan.{plan_length, depot_of}
@@ -321,29 +322,51 @@ accepted (Some given) claimed instance solution (verdicts.Routes length count le
     bounded_by_type given.0 claimed instance solution given.1 (verdicts.Routes length count least bound) length problem (types_bounded given.0 instance.kind type) c.0 refl c.1
 accepted certificate claimed instance solution (verdicts.No reason) problem type v is = absurd (false≢true (sym is))
 
-says_yes : (given : Given) (claimed : Option ℤ) (first second : Turn) (sink : Sink) (judged : Judged) → IsProblem judged.instance
-    → IsRun given claimed first second sink (Ok judged) → true ≡ is_yes judged.verdict → SaysYes given claimed first second sink
-says_yes given claimed first second sink judged problem run is = record {
-  instance = judged.instance;
-  solution = judged.solution;
-  certificate = judged.certificate;
-  report = report_of judged.instance judged.verdict;
-  read = run.0;
-  written = run.1.2;
-  meaning = accepted judged.certificate claimed judged.instance judged.solution judged.verdict problem run.1.0 run.1.1 is;
-}
+-- ---- unknown keywords as a reason
+
+-- an accepted verdict was accepted before, and unknown keywords are no reason
+pub kept : (refused : Bool) (plain : Verdict) → is_yes (strict_verdict refused plain) ≡ true → (strict_verdict refused plain ≡ plain) × (refused ≡ false)
+kept false plain is = (refl, refl)
+kept true (verdicts.Tour length bound) is = absurd (false≢true is)
+kept true (verdicts.Routes length routes least bound) is = absurd (false≢true is)
+kept true (verdicts.No reason) is = absurd (false≢true is)
+
+-- so that there are none, where it is asked that they be a reason
+pub none_unknown : (strict : Bool) (lines : List (List ℕ × List ℕ)) → refuses strict lines ≡ false → strict ≡ true → lines ≡ []
+none_unknown false lines refused is = absurd (false≢true is)
+none_unknown true [] refused is = refl
+none_unknown true (line ∷ lines) refused is = absurd (false≢true (sym refused))
+
+-- ---- the run
+
+says_yes : (given : Given) (claimed : Option ℤ) (strict : Bool) (first second : Turn) (sink : Sink) (judged : Judged) → IsProblem judged.instance
+    → IsRun given claimed strict first second sink (Ok judged) → true ≡ is_yes judged.verdict → SaysYes given claimed strict first second sink
+says_yes given claimed strict first second sink judged problem run is =
+    let asked = run.1.1 in
+    let same = kept (is_unjudged strict judged.instance) asked.0 (subst (λ v. is_yes v ≡ true) asked.2 (sym is)) in
+    record {
+      instance = judged.instance;
+      solution = judged.solution;
+      certificate = judged.certificate;
+      report = report_of judged.instance judged.verdict;
+      read = run.0;
+      written = run.1.2;
+      meaning = accepted judged.certificate claimed judged.instance judged.solution judged.verdict problem run.1.0
+          (subst (IsVerdictWith judged.certificate claimed judged.instance judged.solution) (sym (asked.2 ∙ same.0)) asked.1) is;
+      all_judged = none_unknown strict judged.instance.others same.1;
+    }
 
 -- the whole contract of a run with a verdict, and of one without
-pub run_of : (given : Given) (claimed : Option ℤ) (first second : Turn) (sink : Sink) (judged : Judged) → IsProblem judged.instance
-    → IsRun given claimed first second sink (Ok judged) → IsRunOf given claimed first second sink (Ok judged)
-run_of given claimed first second sink judged problem run = (
+pub run_of : (strict : Bool) (given : Given) (claimed : Option ℤ) (first second : Turn) (sink : Sink) (judged : Judged) → IsProblem judged.instance
+    → IsRun given claimed strict first second sink (Ok judged) → IsRunOf given claimed strict first second sink (Ok judged)
+run_of strict given claimed first second sink judged problem run = (
   run,
   (
     (judged.instance, judged.solution, judged.certificate, judged.verdict, run.0, run.1, refl),
-    λ is. says_yes given claimed first second sink judged problem run (sym (one_value (told (Ok judged)) _ _ refl is)),
+    λ is. says_yes given claimed strict first second sink judged problem run (sym (one_value (told (Ok judged)) _ _ refl is)),
   ),
 )
 
-pub fault_of_run : (given : Given) (claimed : Option ℤ) (first second : Turn) (sink : Sink) (fault : RunFault) → EndsWithout given claimed first second sink fault
-    → IsRunOf given claimed first second sink (Err fault)
-fault_of_run given claimed first second sink fault ends = (ends, (ends, λ is. absurd cc))
+pub fault_of_run : (strict : Bool) (given : Given) (claimed : Option ℤ) (first second : Turn) (sink : Sink) (fault : RunFault) → EndsWithout given claimed strict first second sink fault
+    → IsRunOf given claimed strict first second sink (Err fault)
+fault_of_run strict given claimed first second sink fault ends = (ends, (ends, λ is. absurd cc))

@@ -1,5 +1,5 @@
 -- What bounding the tours of an instance, without a solution, does to its readers and its writer, and its result.
-use Rattle.std.specs.Prelude.{◌≡◌, ◌⊎◌, ℕ, true, false, List, Result, Ok, Err, IsTrue}
+use Rattle.std.specs.Prelude.{◌≡◌, ◌⊎◌, ℕ, Bool, true, false, List, [], Result, Ok, Err, IsTrue}
 use Rattle.tsp_stream.specs.declared.output.WriteFault.TheVariants as write_faults
 use Rattle.tsp_stream.specs.Turn.{Turn, IsUnread}
 use Rattle.tsp_stream.specs.Sink.{Sink, IsUnwritten, HasWritten, HasStopped}
@@ -8,8 +8,9 @@ use Rattle.tsp_read.specs.Reads.{IsFile, StopsAt}
 use Rattle.tsp_reason.specs.declared.certificate.Certificate.{Certificate}
 use Rattle.tsp_reason.specs.declared.verdict.BoundVerdict.{BoundVerdict}
 use Rattle.tsp_reason.specs.Verdicts.{is_bound_yes}
-use Rattle.tsp_verdict.specs.Bounded.{NoneAgainstInstance, IsBoundVerdict}
+use Rattle.tsp_verdict.specs.Bounded.{NoneAgainstInstance}
 use Rattle.tsp_verdict.specs.Certified.{is_bounded, NoneWithoutMemory}
+use Rattle.tsp_verdict.specs.Strict.{IsBoundAsked}
 use Rattle.tsp_judge.specs.declared.bound.Bounded.{Bounded}
 use Rattle.tsp_judge.specs.declared.fault.RunFault.{RunFault}
 use Rattle.tsp_judge.specs.declared.fault.RunFault.TheVariants.{File, WrongKind, Write, OutOfMemory}
@@ -21,34 +22,35 @@ use Rattle.tsp_report.specs.Report.{bound_report_of}
 -- whole report on it was written. Nothing is written where the first file is of a TYPE whose tours have no bound by the
 -- certificate, nor out of memory: then no reason applies to the instance, nor one to the certificate that is found without
 -- memory. Where the writer fails a prefix of the report was written.
-abbrev pub BoundsFiles : Certificate → Fields → Fields → Sink → Result BoundVerdict RunFault → Type 0
-BoundsFiles by instance certificate sink (Ok found) = IsTrue (is_bounded by instance.kind)
-    × IsBoundVerdict by instance certificate found
+abbrev pub BoundsFiles : Certificate → Bool → Fields → Fields → Sink → Result BoundVerdict RunFault → Type 0
+BoundsFiles by strict instance certificate sink (Ok found) = IsTrue (is_bounded by instance.kind)
+    × IsBoundAsked strict by instance certificate found
     × HasWritten sink (bound_report_of instance found)
-BoundsFiles by instance certificate sink (Err WrongKind) = (is_bounded by instance.kind ≡ false) × IsUnwritten sink
-BoundsFiles by instance certificate sink (Err OutOfMemory) = IsTrue (is_bounded by instance.kind) × NoneAgainstInstance instance
+BoundsFiles by strict instance certificate sink (Err WrongKind) = (is_bounded by instance.kind ≡ false) × IsUnwritten sink
+BoundsFiles by strict instance certificate sink (Err OutOfMemory) = IsTrue (is_bounded by instance.kind) × NoneAgainstInstance instance
     × NoneWithoutMemory by instance certificate × IsUnwritten sink
-BoundsFiles by instance certificate sink (Err (Write write_faults.Device)) = IsTrue (is_bounded by instance.kind)
-    × ((found : BoundVerdict) × IsBoundVerdict by instance certificate found
+BoundsFiles by strict instance certificate sink (Err (Write write_faults.Device)) = IsTrue (is_bounded by instance.kind)
+    × ((found : BoundVerdict) × IsBoundAsked strict by instance certificate found
     × HasStopped sink (bound_report_of instance found))
-BoundsFiles by instance certificate sink (Err other) = ⊥
+BoundsFiles by strict instance certificate sink (Err other) = ⊥
 
 -- Why a run has no bound and no reason. The first file, in order, that is none decides, and then nothing is written.
-abbrev pub EndsUnbounded : Certificate → Turn → Turn → Sink → RunFault → Type 0
-EndsUnbounded by first second sink (File file fault) = IsUnwritten sink
+abbrev pub EndsUnbounded : Certificate → Bool → Turn → Turn → Sink → RunFault → Type 0
+EndsUnbounded by strict first second sink (File file fault) = IsUnwritten sink
     × (((file ≡ 1) × StopsAt fault first × IsUnread second)
     ⊎ ((file ≡ 2) × IsSomeFile first × StopsAt fault second))
-EndsUnbounded by first second sink fault = (instance certificate : Fields) × IsFile first instance × IsFile second certificate
-    × BoundsFiles by instance certificate sink (Err fault)
+EndsUnbounded by strict first second sink fault = (instance certificate : Fields) × IsFile first instance × IsFile second certificate
+    × BoundsFiles by strict instance certificate sink (Err fault)
 
 -- The result of a run: the files that were read, and the bound, or the first reason against them.
-abbrev pub IsBoundRun : Certificate → Turn → Turn → Sink → Result Bounded RunFault → Type 0
-IsBoundRun by first second sink (Ok bounded) = IsFile first bounded.instance × IsFile second bounded.certificate
-    × BoundsFiles by bounded.instance bounded.certificate sink (Ok bounded.found)
-IsBoundRun by first second sink (Err fault) = EndsUnbounded by first second sink fault
+abbrev pub IsBoundRun : Certificate → Bool → Turn → Turn → Sink → Result Bounded RunFault → Type 0
+IsBoundRun by strict first second sink (Ok bounded) = IsFile first bounded.instance × IsFile second bounded.certificate
+    × BoundsFiles by strict bounded.instance bounded.certificate sink (Ok bounded.found)
+IsBoundRun by strict first second sink (Err fault) = EndsUnbounded by strict first second sink fault
 
 -- With `yes` the bytes that were read parse to these files, the whole report was written, and it means that the bound is one.
-pub record SaysBound (by : Certificate) (first second : Turn) (sink : Sink) (found : BoundVerdict) : Type 0 where
+-- Where unknown keywords are a reason the instance has none.
+pub record SaysBound (by : Certificate) (strict : Bool) (first second : Turn) (sink : Sink) (found : BoundVerdict) : Type 0 where
   pub instance : Fields
   pub certificate : Fields
   pub report : List ℕ
@@ -56,9 +58,10 @@ pub record SaysBound (by : Certificate) (first second : Turn) (sink : Sink) (fou
   pub second_file : IsFile second certificate
   pub written : HasWritten sink report
   pub meaning : IsAcceptedAlone by instance certificate found report
+  pub all_judged : strict ≡ true → instance.others ≡ []
 
 -- what the run does, and what its line `yes` means
-abbrev pub IsBoundRunOf : Certificate → Turn → Turn → Sink → Result Bounded RunFault → Type 0
-IsBoundRunOf by first second sink result = IsBoundRun by first second sink result
+abbrev pub IsBoundRunOf : Certificate → Bool → Turn → Turn → Sink → Result Bounded RunFault → Type 0
+IsBoundRunOf by strict first second sink result = IsBoundRun by strict first second sink result
     × ((bounded : Bounded) → result ≡ Ok bounded → is_bound_yes bounded.found ≡ true
-    → SaysBound by first second sink bounded.found)
+    → SaysBound by strict first second sink bounded.found)

@@ -1,5 +1,5 @@
 -- What a check does to its readers and its writer, and its result: with a certificate of a bound or without one, and with a
--- length that is claimed or without.
+-- length that is claimed or without, and with unknown keywords as a reason or not.
 use Rattle.std.specs.Prelude.{◌≡◌, ℕ, ◌⊎◌, Bool, false, Option, None, Some, Result, Ok, Err, IsTrue, ℤ}
 use Rattle.tsp_stream.specs.declared.output.WriteFault.TheVariants as write_faults
 use Rattle.tsp_stream.specs.Turn.{Turn, IsUnread}
@@ -10,7 +10,8 @@ use Rattle.tsp_read.specs.Reads.{IsFile, StopsAt}
 use Rattle.tsp_reason.specs.declared.certificate.Certificate.{Certificate}
 use Rattle.tsp_reason.specs.declared.verdict.Verdict.{Verdict}
 use Rattle.tsp_reason.specs.Verdicts.{is_yes}
-use Rattle.tsp_verdict.specs.SolutionVerdict.{is_judged, NoneBeforeRepeatsOn, IsVerdictWith}
+use Rattle.tsp_verdict.specs.SolutionVerdict.{is_judged, NoneBeforeRepeatsOn}
+use Rattle.tsp_verdict.specs.Strict.{IsVerdictAsked}
 use Rattle.tsp_judge.specs.declared.judging.Judged.{Judged}
 use Rattle.tsp_judge.specs.declared.fault.RunFault.{RunFault}
 use Rattle.tsp_judge.specs.declared.fault.RunFault.TheVariants.{File, WrongKind, Write, OutOfMemory}
@@ -73,42 +74,43 @@ IsFaultOfRun given first second file fault = ((file ≡ 1) × StopsAt fault firs
 -- What comes of files that were read. At Ok this is the verdict on them, and the whole report on it was written. Nothing is
 -- written where the first file is of a TYPE that isn't judged so, nor out of memory: then none of the reasons applies that
 -- are found without memory. Writing takes none. Where the writer fails a prefix of the report was written.
-abbrev pub JudgesFiles : Option (Certificate × Fields) → Option ℤ → Fields → Fields → Sink → Result Verdict RunFault → Type 0
-JudgesFiles certificate claimed instance solution sink (Ok verdict) = IsTrue (is_judged certificate instance.kind)
-    × IsVerdictWith certificate claimed instance solution verdict × HasWritten sink (report_of instance verdict)
-JudgesFiles certificate claimed instance solution sink (Err WrongKind) = (is_judged certificate instance.kind ≡ false)
+abbrev pub JudgesFiles : Option (Certificate × Fields) → Option ℤ → Bool → Fields → Fields → Sink → Result Verdict RunFault
+    → Type 0
+JudgesFiles certificate claimed strict instance solution sink (Ok verdict) = IsTrue (is_judged certificate instance.kind)
+    × IsVerdictAsked strict certificate claimed instance solution verdict × HasWritten sink (report_of instance verdict)
+JudgesFiles certificate claimed strict instance solution sink (Err WrongKind) = (is_judged certificate instance.kind ≡ false)
     × IsUnwritten sink
-JudgesFiles certificate claimed instance solution sink (Err OutOfMemory) = IsTrue (is_judged certificate instance.kind)
+JudgesFiles certificate claimed strict instance solution sink (Err OutOfMemory) = IsTrue (is_judged certificate instance.kind)
     × NoneBeforeRepeatsOn instance solution × IsUnwritten sink
-JudgesFiles certificate claimed instance solution sink (Err (Write write_faults.Device)) =
+JudgesFiles certificate claimed strict instance solution sink (Err (Write write_faults.Device)) =
     IsTrue (is_judged certificate instance.kind)
-    × ((verdict : Verdict) × IsVerdictWith certificate claimed instance solution verdict
+    × ((verdict : Verdict) × IsVerdictAsked strict certificate claimed instance solution verdict
     × HasStopped sink (report_of instance verdict))
-JudgesFiles certificate claimed instance solution sink (Err other) = ⊥
+JudgesFiles certificate claimed strict instance solution sink (Err other) = ⊥
 
 -- ---- the run
 
 -- Why a run has no verdict. The first file, in order, that is none decides, and then nothing is written.
-abbrev pub EndsWithout : Given → Option ℤ → Turn → Turn → Sink → RunFault → Type 0
-EndsWithout given claimed first second sink (File file fault) = IsUnwritten sink × IsFaultOfRun given first second file fault
-EndsWithout given claimed first second sink fault = (instance solution : Fields) × (certificate : Option (Certificate × Fields))
+abbrev pub EndsWithout : Given → Option ℤ → Bool → Turn → Turn → Sink → RunFault → Type 0
+EndsWithout given claimed strict first second sink (File file fault) = IsUnwritten sink × IsFaultOfRun given first second file fault
+EndsWithout given claimed strict first second sink fault = (instance solution : Fields) × (certificate : Option (Certificate × Fields))
     × AreRead given first second instance solution certificate
-    × JudgesFiles certificate claimed instance solution sink (Err fault)
+    × JudgesFiles certificate claimed strict instance solution sink (Err fault)
 
 -- The result of a run: the files that were read, and the verdict on them.
-abbrev pub IsRun : Given → Option ℤ → Turn → Turn → Sink → Result Judged RunFault → Type 0
-IsRun given claimed first second sink (Ok judged) =
+abbrev pub IsRun : Given → Option ℤ → Bool → Turn → Turn → Sink → Result Judged RunFault → Type 0
+IsRun given claimed strict first second sink (Ok judged) =
     AreRead given first second judged.instance judged.solution judged.certificate
-    × JudgesFiles judged.certificate claimed judged.instance judged.solution sink (Ok judged.verdict)
-IsRun given claimed first second sink (Err fault) = EndsWithout given claimed first second sink fault
+    × JudgesFiles judged.certificate claimed strict judged.instance judged.solution sink (Ok judged.verdict)
+IsRun given claimed strict first second sink (Err fault) = EndsWithout given claimed strict first second sink fault
 
 -- The result of a check: whether the solution is accepted.
-abbrev pub IsCheckAnswer : Given → Option ℤ → Turn → Turn → Sink → Result Bool RunFault → Type 0
-IsCheckAnswer given claimed first second sink (Ok answer) = (instance solution : Fields)
+abbrev pub IsCheckAnswer : Given → Option ℤ → Bool → Turn → Turn → Sink → Result Bool RunFault → Type 0
+IsCheckAnswer given claimed strict first second sink (Ok answer) = (instance solution : Fields)
     × (certificate : Option (Certificate × Fields))
     × (verdict : Verdict) × AreRead given first second instance solution certificate
-    × JudgesFiles certificate claimed instance solution sink (Ok verdict) × (answer ≡ is_yes verdict)
-IsCheckAnswer given claimed first second sink (Err fault) = EndsWithout given claimed first second sink fault
+    × JudgesFiles certificate claimed strict instance solution sink (Ok verdict) × (answer ≡ is_yes verdict)
+IsCheckAnswer given claimed strict first second sink (Err fault) = EndsWithout given claimed strict first second sink fault
 
 -- whether the solution is accepted, where there is a verdict
 abbrev pub told : Result Judged RunFault → Result Bool RunFault

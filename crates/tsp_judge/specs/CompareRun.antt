@@ -14,8 +14,9 @@ use Rattle.tsp_cost.specs.ProblemLaws.{IsProblem}
 use Rattle.tsp_reason.specs.declared.certificate.Certificate.{Certificate}
 use Rattle.tsp_reason.specs.declared.verdict.Verdict.{Verdict}
 use Rattle.tsp_reason.specs.Verdicts.{is_yes, is_clear}
-use Rattle.tsp_verdict.specs.Basis.{IsBasis, NoneOfBasisWithoutMemory, HasBasis}
+use Rattle.tsp_verdict.specs.Basis.{NoneOfBasisWithoutMemory, HasBasis}
 use Rattle.tsp_verdict.specs.SolutionVerdict.{is_judged, NoneBeforeRepeatsOn, IsVerdictWith}
+use Rattle.tsp_verdict.specs.Strict.{IsBasisAsked}
 use Rattle.tsp_judge.specs.declared.common.Common.{Common}
 use Rattle.tsp_judge.specs.declared.common.Found.{Found}
 use Rattle.tsp_judge.specs.declared.common.Found.TheVariants as founds
@@ -135,9 +136,9 @@ ComparesBy true IsTurn paths common sink ended =
     ComparesAll IsTurn paths common (head_of common.instance common.basis) sink ended
 ComparesBy false IsTurn paths common sink ended = ComparesNone (head_of common.instance common.basis) sink ended
 
--- what comes of them after a basis that is that of the instance and the certificate
-abbrev pub ComparesOn : (ℕ → Turn → Type 0) → List (List ℕ) → Common → Sink → Result ℕ RunFault → Type 0
-ComparesOn IsTurn paths common sink ended = IsBasis common.certificate common.instance common.basis
+-- what comes of them after a basis that is that of the instance and the certificate, with unknown keywords as a reason or not
+abbrev pub ComparesOn : Bool → (ℕ → Turn → Type 0) → List (List ℕ) → Common → Sink → Result ℕ RunFault → Type 0
+ComparesOn strict IsTurn paths common sink ended = IsBasisAsked strict common.certificate common.instance common.basis
     × ComparesBy (is_clear common.basis) IsTurn paths common sink ended
 
 -- ---- the run
@@ -159,18 +160,18 @@ EndsLacking given first sink fault = (instance : Fields) × (certificate : Optio
     × IsFile first instance × IsFileIn given certificate × LacksBasis certificate instance fault × IsUnwritten sink
 
 -- why a comparison ends early
-abbrev pub EndsCompare : (ℕ → Turn → Type 0) → List (List ℕ) → Given → Turn → Sink → RunFault → Type 0
-EndsCompare IsTurn paths given first sink (File file fault) = IsUnwritten sink × IsFaultOfCompare given first file fault
-EndsCompare IsTurn paths given first sink fault = EndsLacking given first sink fault
-    ⊎ ((common : Common) × AreReadOnce given first common × ComparesOn IsTurn paths common sink (Err fault))
+abbrev pub EndsCompare : Bool → (ℕ → Turn → Type 0) → List (List ℕ) → Given → Turn → Sink → RunFault → Type 0
+EndsCompare strict IsTurn paths given first sink (File file fault) = IsUnwritten sink × IsFaultOfCompare given first file fault
+EndsCompare strict IsTurn paths given first sink fault = EndsLacking given first sink fault
+    ⊎ ((common : Common) × AreReadOnce given first common × ComparesOn strict IsTurn paths common sink (Err fault))
 
 -- The result of a comparison of the solutions with these paths, each of a reader that was opened for its place.
-abbrev pub IsComparison : (ℕ → Turn → Type 0) → List (List ℕ) → Given → Turn → Sink → Result Compared RunFault → Type 0
-IsComparison IsTurn paths given first sink (Ok compared) = AreReadOnce given first compared.common
-    × ComparesOn IsTurn paths compared.common sink (Ok compared.status)
-IsComparison IsTurn paths given first sink (Err fault) = EndsCompare IsTurn paths given first sink fault
+abbrev pub IsComparison : Bool → (ℕ → Turn → Type 0) → List (List ℕ) → Given → Turn → Sink → Result Compared RunFault → Type 0
+IsComparison strict IsTurn paths given first sink (Ok compared) = AreReadOnce given first compared.common
+    × ComparesOn strict IsTurn paths compared.common sink (Ok compared.status)
+IsComparison strict IsTurn paths given first sink (Err fault) = EndsCompare strict IsTurn paths given first sink fault
 
-abbrev pub IsCompareRun : {R : Type 0} → (R → Option (List ℕ)) → (R → List ℕ → Result ℕ Error → List ℕ → R → Type 0)
+abbrev pub IsCompareRun : {R : Type 0} → Bool → (R → Option (List ℕ)) → (R → List ℕ → Result ℕ Error → List ℕ → R → Type 0)
     → (ℕ → R → Type 0) → List (List ℕ) → Given → Turn → Sink → Result Compared RunFault → Type 0
-IsCompareRun remaining gives opens paths given first sink result =
-    IsComparison (IsTurnAt remaining gives opens) paths given first sink result
+IsCompareRun strict remaining gives opens paths given first sink result =
+    IsComparison strict (IsTurnAt remaining gives opens) paths given first sink result

@@ -1,5 +1,5 @@
 -- What a check does, and what its line `yes` means, from the bytes read to the bytes written.
-use Rattle.std.specs.Prelude.{◌≡◌, ℕ, Bool, true, List, Option, None, Some, Result, Ok, ℤ}
+use Rattle.std.specs.Prelude.{◌≡◌, ℕ, Bool, true, false, List, [], Option, None, Some, Result, Ok, ℤ}
 use Rattle.tsp_stream.specs.Turn.{Turn}
 use Rattle.tsp_stream.specs.Sink.{Sink, HasWritten}
 use Rattle.tsp_draft.specs.Fields.{Fields}
@@ -10,8 +10,8 @@ use Rattle.tsp_judge.specs.Accepted.{IsAccepted}
 use Rattle.tsp_judge.specs.CheckRun.{Given, AreRead, IsRun, IsCheckAnswer, told}
 
 -- With `yes` the bytes that were read parse to these files, the whole report was written, and it means that the solution is
--- accepted.
-pub record SaysYes (given : Given) (claimed : Option ℤ) (first second : Turn) (sink : Sink) : Type 0 where
+-- accepted. Where unknown keywords are a reason the instance has none.
+pub record SaysYes (given : Given) (claimed : Option ℤ) (strict : Bool) (first second : Turn) (sink : Sink) : Type 0 where
   pub instance : Fields
   pub solution : Fields
   pub certificate : Option (Certificate × Fields)
@@ -19,21 +19,22 @@ pub record SaysYes (given : Given) (claimed : Option ℤ) (first second : Turn) 
   pub read : AreRead given first second instance solution certificate
   pub written : HasWritten sink report
   pub meaning : IsAccepted certificate claimed instance solution report
+  pub all_judged : strict ≡ true → instance.others ≡ []
 
 -- what a check does, and what its line `yes` means; its result is whether the solution is accepted
-abbrev pub IsCheckOf : Given → Option ℤ → Turn → Turn → Sink → Result Bool RunFault → Type 0
-IsCheckOf given claimed first second sink result = IsCheckAnswer given claimed first second sink result
-    × (result ≡ Ok true → SaysYes given claimed first second sink)
+abbrev pub IsCheckOf : Given → Option ℤ → Bool → Turn → Turn → Sink → Result Bool RunFault → Type 0
+IsCheckOf given claimed strict first second sink result = IsCheckAnswer given claimed strict first second sink result
+    × (result ≡ Ok true → SaysYes given claimed strict first second sink)
 
 -- of an instance and a solution
 abbrev pub IsCheck : Turn → Turn → Sink → Result Bool RunFault → Type 0
-IsCheck first second sink result = IsCheckOf None None first second sink result
+IsCheck first second sink result = IsCheckOf None None false first second sink result
 
 -- with a certificate, whose file is the third one
 abbrev pub IsCheckBy : Certificate → Turn → Turn → Turn → Sink → Result Bool RunFault → Type 0
-IsCheckBy by first second third sink result = IsCheckOf (Some (by, third)) None first second sink result
+IsCheckBy by first second third sink result = IsCheckOf (Some (by, third)) None false first second sink result
 
 -- the same with the files and the verdict as the result
-abbrev pub IsRunOf : Given → Option ℤ → Turn → Turn → Sink → Result Judged RunFault → Type 0
-IsRunOf given claimed first second sink result = IsRun given claimed first second sink result
-    × IsCheckOf given claimed first second sink (told result)
+abbrev pub IsRunOf : Given → Option ℤ → Bool → Turn → Turn → Sink → Result Judged RunFault → Type 0
+IsRunOf given claimed strict first second sink result = IsRun given claimed strict first second sink result
+    × IsCheckOf given claimed strict first second sink (told result)

@@ -50,7 +50,7 @@ pub fn run_check<I: Gives, S: Gives, W: Write>(
         IsCheck first second (sink_of W.contents out.old out.new) result)) }
     ensures asked { IsReadOn I.gives inst.old inst.new × IsReadOn S.gives sol.old sol.new }
 {
-    told(run_uncertified(alloc, inst, sol, None, out))
+    told(run_uncertified(alloc, inst, sol, None, false, out))
 }
 
 /// Judges a tour of an instance of TYPE TSP or ATSP with a certificate of a bound, and writes the
@@ -88,7 +88,7 @@ pub fn run_bound_check<I: Gives, S: Gives, P: Gives, W: Write>(
         × IsReadOn P.gives pot.old pot.new }
 {
     let by = Some(Certificate::Potentials);
-    told(run(alloc, inst, sol, by, pot, None, out))
+    told(run(alloc, inst, sol, by, pot, None, false, out))
 }
 
 /// Judges a tour of an instance of TYPE TSP or ATSP with a tree of cases, and writes the report.
@@ -126,7 +126,7 @@ pub fn run_branch_check<I: Gives, S: Gives, B: Gives, W: Write>(
         × IsReadOn B.gives tree.old tree.new }
 {
     let by = Some(Certificate::Branches);
-    told(run(alloc, inst, sol, by, tree, None, out))
+    told(run(alloc, inst, sol, by, tree, None, false, out))
 }
 
 /// Writes what a file is: its name, its TYPE and number of nodes, of an instance the weight type,

@@ -15,7 +15,7 @@ use tsp_cost::Instance;
 use tsp_file::File;
 use tsp_report::write_bound;
 use tsp_stream::{Gives, Watched};
-use tsp_verdict::{BoundVerdict, Certificate, is_bounded, judge_bound};
+use tsp_verdict::{BoundVerdict, Certificate, is_bounded, judge_bound, strict_bound};
 
 /// The files that a run has read, and the bound that it found.
 #[derive(Drop)]
@@ -34,7 +34,8 @@ pub struct Bounded {
 ///
 /// Every tour of the instance is at least as long as the bound. Where the instance has no tour,
 /// which a tree of cases may show, there is none. Where the report has the line `no`, the result
-/// has its reason: `TooFewNodes`, `NotSymmetric`, or one against the certificate, in this order.
+/// has its reason: `TooFewNodes`, `NotSymmetric`, or one against the certificate, in this order;
+/// with `strict` then `NotJudged`, where the instance has an unknown keyword.
 ///
 /// Each file is read whole before the next, and the first file that is none decides. Nothing is
 /// written before the bound exists.
@@ -51,16 +52,17 @@ pub fn run_bound<I: Gives, C: Gives, W: Write>(
     inst: &mut Watched<I>,
     by: Certificate,
     cert: &mut Watched<C>,
+    strict: bool,
     out: &mut Watched<W>,
 ) -> Result<Bounded, RunError>
     ensures answer { TakesAtMost most_taken (turn_of I.remaining inst.old inst.new) (λ first.
         TakesAtMost most_taken (turn_of C.remaining cert.old cert.new) (λ second.
-        IsBoundRunOf by first second (sink_of W.contents out.old out.new) result)) }
+        IsBoundRunOf by strict first second (sink_of W.contents out.old out.new) result)) }
     ensures asked { IsReadOn I.gives inst.old inst.new × IsReadOn C.gives cert.old cert.new }
 {
     let instance = read_file(alloc, 1, inst)?;
     let certificate = read_file(alloc, 2, cert)?;
-    bound_read(alloc, by, instance, certificate, out)
+    bound_read(alloc, by, instance, certificate, strict, out)
 }
 
 /// The run on these files, whatever readers they came from.
@@ -69,15 +71,16 @@ fn bound_read<W: Write>(
     by: Certificate,
     instance: File,
     certificate: File,
+    strict: bool,
     out: &mut Watched<W>,
 ) -> Result<Bounded, RunError>
     ensures { (first second : Turn) → IsFile first instance → IsFile second certificate
-        → IsBoundRunOf by first second (sink_of W.contents out.old out.new) result }
+        → IsBoundRunOf by strict first second (sink_of W.contents out.old out.new) result }
 {
     let Ok(instance) = Instance::of(instance) else {
         return Err(RunError::wrong_kind());
     };
-    match bound_files(alloc, by, &instance, &certificate, out) {
+    match bound_files(alloc, by, &instance, &certificate, strict, out) {
         Ok(found) => Ok(Bounded {
             found,
             instance,
@@ -93,15 +96,16 @@ fn bound_files<W: Write>(
     by: Certificate,
     instance: &Instance,
     certificate: &File,
+    strict: bool,
     out: &mut Watched<W>,
 ) -> Result<BoundVerdict, RunError>
-    ensures { BoundsFiles by instance.now certificate.now (sink_of W.contents out.old out.new) result }
+    ensures { BoundsFiles by strict instance.now certificate.now (sink_of W.contents out.old out.new) result }
 {
     if !is_bounded(by, instance.kind()) {
         return Err(RunError::wrong_kind());
     }
     let found = match judge_bound(alloc, by, instance, certificate) {
-        Ok(found) => found,
+        Ok(plain) => strict_bound(strict, instance, plain),
         Err(refused) => return Err(RunError::refused(refused)),
     };
     match write_bound(instance.file(), found, out) {

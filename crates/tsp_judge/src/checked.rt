@@ -24,7 +24,8 @@ use tsp_verdict::Certificate;
 /// Where a certificate of a bound is asked for, it is the file of the third reader, and no tour of
 /// the instance is shorter than the bound of an accepted tour. Where it isn't, that reader isn't
 /// read. Where a length is claimed, a solution of another length is rejected with `LengthClaimed`:
-/// after all other reasons against the solution, and before those against the certificate.
+/// after all other reasons against the solution, and before those against the certificate. With
+/// `strict`, an instance with an unknown keyword is rejected with `NotJudged`, after all reasons.
 ///
 /// Each file is read whole before the next, and the first file that is none decides. Nothing is
 /// written before the verdict exists.
@@ -43,20 +44,21 @@ pub fn run<I: Gives, S: Gives, C: Gives, W: Write>(
     by: Option<Certificate>,
     cert: &mut Watched<C>,
     claimed: Option<i64>,
+    strict: bool,
     out: &mut Watched<W>,
 ) -> Result<Judged, RunError>
     ensures answer { TakesAtMost most_taken (turn_of I.remaining inst.old inst.new) (λ first.
         TakesAtMost most_taken (turn_of S.remaining sol.old sol.new) (λ second.
         TakesAtMost most_taken (turn_of C.remaining cert.old cert.new) (λ third.
         (by ≡ None → IsUnread third)
-        × IsRunOf (given_by by third) claimed first second (sink_of W.contents out.old out.new) result))) }
+        × IsRunOf (given_by by third) claimed strict first second (sink_of W.contents out.old out.new) result))) }
     ensures asked { IsReadOn I.gives inst.old inst.new × IsReadOn S.gives sol.old sol.new
         × IsReadOn C.gives cert.old cert.new }
 {
     let instance = read_file(alloc, 1, inst)?;
     let solution = read_file(alloc, 2, sol)?;
     let certificate = read_certificate(alloc, 3, by, cert)?;
-    judge_read(alloc, instance, solution, certificate, claimed, out)
+    judge_read(alloc, instance, solution, certificate, claimed, strict, out)
 }
 
 /// Reads the file of the certificate that is asked for, where one is, which has this number.
@@ -84,16 +86,25 @@ pub(crate) fn judge_read<W: Write>(
     solution: File,
     certificate: Option<(Certificate, File)>,
     claimed: Option<i64>,
+    strict: bool,
     out: &mut Watched<W>,
 ) -> Result<Judged, RunError>
     ensures { (given : Given) (first second : Turn) → IsFile first instance → IsFile second solution
         → IsFileIn given certificate
-        → IsRunOf given claimed first second (sink_of W.contents out.old out.new) result }
+        → IsRunOf given claimed strict first second (sink_of W.contents out.old out.new) result }
 {
     let Ok(instance) = Instance::of(instance) else {
         return Err(RunError::wrong_kind());
     };
-    match judge_files(alloc, &instance, &solution, &certificate, claimed, out) {
+    match judge_files(
+        alloc,
+        &instance,
+        &solution,
+        &certificate,
+        claimed,
+        strict,
+        out,
+    ) {
         Ok(verdict) => Ok(Judged {
             verdict,
             instance,

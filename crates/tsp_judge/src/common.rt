@@ -7,6 +7,7 @@ ghost use Rattle.tsp_read.specs.Asked.{IsReadOn};
 ghost use Rattle.tsp_read.specs.Reads.{most_taken};
 ghost use Rattle.tsp_cost.specs.ProblemLaws.{IsProblem};
 ghost use Rattle.tsp_verdict.specs.Basis.{IsBasis};
+ghost use Rattle.tsp_verdict.specs.Strict.{IsBasisAsked};
 ghost use Rattle.tsp_judge.specs.CompareRun.{LacksBasis, Finds, result_of, status_of_found};
 
 use crate::fault::RunFault;
@@ -18,7 +19,7 @@ use tsp_cost::Instance;
 use tsp_file::File;
 use tsp_read::{ReadFault, file_of_reader};
 use tsp_stream::{Gives, Watched};
-use tsp_verdict::{Basis, Certificate, Verdict, judge_basis, judge_next};
+use tsp_verdict::{Basis, Certificate, Verdict, judge_basis, judge_next, strict_basis};
 
 /// What all solutions of a comparison are judged by.
 #[derive(Drop)]
@@ -63,7 +64,8 @@ pub(crate) fn status_of_found(found: Result<Verdict, ReadFault>) -> u8
     }
 }
 
-/// What all solutions of an instance are judged by.
+/// What all solutions of an instance are judged by. With `strict`, unknown keywords of it are a
+/// reason against all of them.
 ///
 /// # Errors
 ///
@@ -72,18 +74,19 @@ pub(crate) fn common_of(
     alloc: Global,
     instance: Instance,
     certificate: Option<(Certificate, File)>,
+    strict: bool,
 ) -> Result<Common, RunError>
     ensures { MatchResult result
         (λ common. (common.instance ≡ instance) × (common.certificate ≡ certificate)
-        × IsBasis common.certificate common.instance common.basis)
+        × IsBasisAsked strict common.certificate common.instance common.basis)
         (λ fault. LacksBasis certificate instance fault) }
 {
     if !is_judged(&certificate, &instance) {
         return Err(RunError::wrong_kind());
     }
     match judge_basis(alloc, &instance, lent(&certificate)) {
-        Ok(basis) => Ok(Common {
-            basis,
+        Ok(plain) => Ok(Common {
+            basis: strict_basis(strict, &instance, plain),
             instance,
             certificate,
         }),

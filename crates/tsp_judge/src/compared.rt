@@ -47,6 +47,9 @@ pub struct Compared {
 /// Only a read that returns an error makes a line with `device`.
 /// The follower tells of each line once, in order.
 ///
+/// With `strict`, an instance with an unknown keyword has the reason `NotJudged`, after all others
+/// that apply to it or to the certificate.
+///
 /// # Errors
 ///
 /// `File` where the instance (1) or the certificate (2) is none, or can't be read; `WrongKind`
@@ -61,20 +64,21 @@ pub fn run_compare<I: Gives, C: Gives, R: Gives + Drop, E, S: Solutions<R> + Fol
     by: Option<Certificate>,
     cert: &mut Watched<C>,
     solutions: &S,
+    strict: bool,
     out: &mut Watched<W>,
     to: &mut E,
 ) -> Result<Compared, RunError>
     ensures text { TakesAtMost most_taken (turn_of I.remaining inst.old inst.new) (λ first.
         TakesAtMost most_taken (turn_of C.remaining cert.old cert.new) (λ second.
         (by ≡ None → IsUnread second)
-        × IsCompareRun R.remaining R.gives (S.opens solutions.now) (S.names solutions.now) (given_by by second) first
+        × IsCompareRun strict R.remaining R.gives (S.opens solutions.now) (S.names solutions.now) (given_by by second) first
         (sink_of W.contents out.old out.new) result)) }
     ensures asked { IsReadOn I.gives inst.old inst.new × IsReadOn C.gives cert.old cert.new }
     ensures told { IsFollowed (S.tells solutions.now) (length (S.names solutions.now)) to.old to.new result }
 {
     let instance = read_file(alloc, 1, inst)?;
     let certificate = read_certificate(alloc, 2, by, cert)?;
-    compare_read(alloc, instance, certificate, solutions, out, to)
+    compare_read(alloc, instance, certificate, solutions, strict, out, to)
 }
 
 /// The run on these files, whatever readers they came from.
@@ -83,18 +87,19 @@ pub(crate) fn compare_read<R: Gives + Drop, E, S: Solutions<R> + Follow<E>, W: W
     instance: File,
     certificate: Option<(Certificate, File)>,
     solutions: &S,
+    strict: bool,
     out: &mut Watched<W>,
     to: &mut E,
 ) -> Result<Compared, RunError>
     ensures text { (given : Given) (first : Turn) → IsFile first instance → IsFileIn given certificate
-        → IsCompareRun R.remaining R.gives (S.opens solutions.now) (S.names solutions.now) given first
+        → IsCompareRun strict R.remaining R.gives (S.opens solutions.now) (S.names solutions.now) given first
         (sink_of W.contents out.old out.new) result }
     ensures told { IsFollowed (S.tells solutions.now) (length (S.names solutions.now)) to.old to.new result }
 {
     let Ok(instance) = Instance::of(instance) else {
         return Err(RunError::wrong_kind());
     };
-    let common = common_of(alloc, instance, certificate)?;
+    let common = common_of(alloc, instance, certificate, strict)?;
     match compare_with(alloc, &common, solutions, out, to) {
         Ok(status) => Ok(Compared { common, status }),
         Err(error) => Err(error),
@@ -109,7 +114,8 @@ fn compare_with<R: Gives + Drop, E, S: Solutions<R> + Follow<E>, W: Write>(
     out: &mut Watched<W>,
     to: &mut E,
 ) -> Result<u8, RunError>
-    requires basis { IsBasis common.now.certificate common.now.instance common.now.basis }
+    requires basis { is_clear common.now.basis ≡ true
+        → IsBasis common.now.certificate common.now.instance common.now.basis }
     requires problem { IsProblem common.now.instance }
     ensures text { ComparesBy (is_clear common.now.basis) (IsTurnAt R.remaining R.gives (S.opens solutions.now))
         (S.names solutions.now) common.now (sink_of W.contents out.old out.new) result }

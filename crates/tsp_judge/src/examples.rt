@@ -2,7 +2,7 @@
 //! of. No body is looked at here: a definition that is changed together with its code is refused by
 //! its examples.
 
-ghost use Rattle.std.specs.Prelude.{◌≡◌, ◌++◌, true, false, Option, None, Some, Err, ℤ, pos, codes, decimal};
+ghost use Rattle.std.specs.Prelude.{◌≡◌, ◌++◌, Bool, true, false, Option, None, Some, Err, ℤ, pos, codes, decimal};
 ghost use Rattle.tsp_format.specs.declared.kinds.Kind.TheVariants as kinds;
 ghost use Rattle.tsp_reason.specs.declared.verdict.Reason.TheVariants as reasons;
 ghost use Rattle.tsp_reason.specs.declared.verdict.Verdict.TheVariants as verdicts;
@@ -71,31 +71,31 @@ pub fn examples_of_fault_texts()
 /// Which file a fault of a check is of, with a certificate or without: the first that is none, and
 /// no later one is read.
 pub fn examples_of_faulty_files()
-    ensures first { (given : Given) (claimed : Option ℤ) (fault : ReadFault) (first second : Turn) (sink : Sink)
+    ensures first { (given : Given) (claimed : Option ℤ) (strict : Bool) (fault : ReadFault) (first second : Turn) (sink : Sink)
         → IsUnwritten sink → StopsAt fault first → IsUnread second → IsUnreadIn given
-        → IsRun given claimed first second sink (Err (run_faults.File 1 fault)) }
-    ensures second { (given : Given) (claimed : Option ℤ) (fault : ReadFault) (first second : Turn) (sink : Sink)
+        → IsRun given claimed strict first second sink (Err (run_faults.File 1 fault)) }
+    ensures second { (given : Given) (claimed : Option ℤ) (strict : Bool) (fault : ReadFault) (first second : Turn) (sink : Sink)
         → IsUnwritten sink → IsSomeFile first → StopsAt fault second → IsUnreadIn given
-        → IsRun given claimed first second sink (Err (run_faults.File 2 fault)) }
-    ensures third { (by : Certificate) (claimed : Option ℤ) (fault : ReadFault) (first second third : Turn) (sink : Sink)
+        → IsRun given claimed strict first second sink (Err (run_faults.File 2 fault)) }
+    ensures third { (by : Certificate) (claimed : Option ℤ) (strict : Bool) (fault : ReadFault) (first second third : Turn) (sink : Sink)
         → IsUnwritten sink → IsSomeFile first → IsSomeFile second → StopsAt fault third
-        → IsRun (Some (by, third)) claimed first second sink (Err (run_faults.File 3 fault)) }
-    ensures unread { (given : Given) (claimed : Option ℤ) (fault : ReadFault) (first second : Turn) (sink : Sink)
-        → IsRun given claimed first second sink (Err (run_faults.File 2 fault)) → StopsAt fault second × IsUnreadIn given }
-    ensures no_third { (claimed : Option ℤ) (fault : ReadFault) (first second : Turn) (sink : Sink)
-        → ¬ IsRun None claimed first second sink (Err (run_faults.File 3 fault)) }
-    ensures no_fourth { (given : Given) (claimed : Option ℤ) (fault : ReadFault) (first second : Turn) (sink : Sink)
-        → ¬ IsRun given claimed first second sink (Err (run_faults.File 4 fault)) }
-    ensures no_other { (given : Given) (claimed : Option ℤ) (fault : ReadFault) (first second : Turn) (sink : Sink)
-        → ¬ IsRun given claimed first second sink (Err (run_faults.File 0 fault)) }
+        → IsRun (Some (by, third)) claimed strict first second sink (Err (run_faults.File 3 fault)) }
+    ensures unread { (given : Given) (claimed : Option ℤ) (strict : Bool) (fault : ReadFault) (first second : Turn) (sink : Sink)
+        → IsRun given claimed strict first second sink (Err (run_faults.File 2 fault)) → StopsAt fault second × IsUnreadIn given }
+    ensures no_third { (claimed : Option ℤ) (strict : Bool) (fault : ReadFault) (first second : Turn) (sink : Sink)
+        → ¬ IsRun None claimed strict first second sink (Err (run_faults.File 3 fault)) }
+    ensures no_fourth { (given : Given) (claimed : Option ℤ) (strict : Bool) (fault : ReadFault) (first second : Turn) (sink : Sink)
+        → ¬ IsRun given claimed strict first second sink (Err (run_faults.File 4 fault)) }
+    ensures no_other { (given : Given) (claimed : Option ℤ) (strict : Bool) (fault : ReadFault) (first second : Turn) (sink : Sink)
+        → ¬ IsRun given claimed strict first second sink (Err (run_faults.File 0 fault)) }
 {}
 
 /// The same where tours are bounded: the certificate is the second file.
 pub fn examples_of_faulty_files_of_bounds()
-    ensures first { (by : Certificate) (fault : ReadFault) (first second : Turn) (sink : Sink) → IsUnwritten sink
-        → StopsAt fault first → IsUnread second → IsBoundRun by first second sink (Err (run_faults.File 1 fault)) }
-    ensures second { (by : Certificate) (fault : ReadFault) (first second : Turn) (sink : Sink) → IsUnwritten sink
-        → IsSomeFile first → StopsAt fault second → IsBoundRun by first second sink (Err (run_faults.File 2 fault)) }
-    ensures no_third { (by : Certificate) (fault : ReadFault) (first second : Turn) (sink : Sink)
-        → ¬ IsBoundRun by first second sink (Err (run_faults.File 3 fault)) }
+    ensures first { (by : Certificate) (strict : Bool) (fault : ReadFault) (first second : Turn) (sink : Sink) → IsUnwritten sink
+        → StopsAt fault first → IsUnread second → IsBoundRun by strict first second sink (Err (run_faults.File 1 fault)) }
+    ensures second { (by : Certificate) (strict : Bool) (fault : ReadFault) (first second : Turn) (sink : Sink) → IsUnwritten sink
+        → IsSomeFile first → StopsAt fault second → IsBoundRun by strict first second sink (Err (run_faults.File 2 fault)) }
+    ensures no_third { (by : Certificate) (strict : Bool) (fault : ReadFault) (first second : Turn) (sink : Sink)
+        → ¬ IsBoundRun by strict first second sink (Err (run_faults.File 3 fault)) }
 {}

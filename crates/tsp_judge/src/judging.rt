@@ -12,7 +12,7 @@ use tsp_cost::Instance;
 use tsp_file::File;
 use tsp_report::write_report;
 use tsp_stream::Watched;
-use tsp_verdict::{Certificate, Verdict, is_bounded, judge};
+use tsp_verdict::{Certificate, Verdict, is_bounded, judge, strict_verdict};
 
 /// The files that a run has read, and the verdict on them.
 #[derive(Drop)]
@@ -34,15 +34,16 @@ pub(crate) fn judge_files<W: Write>(
     solution: &File,
     certificate: &Option<(Certificate, File)>,
     claimed: Option<i64>,
+    strict: bool,
     out: &mut Watched<W>,
 ) -> Result<Verdict, RunError>
-    ensures { JudgesFiles certificate.now claimed instance.now solution.now (sink_of W.contents out.old out.new) result }
+    ensures { JudgesFiles certificate.now claimed strict instance.now solution.now (sink_of W.contents out.old out.new) result }
 {
     if !is_judged(certificate, instance) {
         return Err(RunError::wrong_kind());
     }
     let verdict = match judge(alloc, instance, solution, lent(certificate), claimed) {
-        Ok(verdict) => verdict,
+        Ok(plain) => strict_verdict(strict, instance, plain),
         Err(refused) => return Err(RunError::refused(refused)),
     };
     match write_report(instance.file(), verdict, out) {

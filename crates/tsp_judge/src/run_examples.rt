@@ -2,7 +2,7 @@
 //! body is looked at here: a definition that is changed together with its code is refused by its
 //! examples.
 
-ghost use Rattle.std.specs.Prelude.{[], Option, None, Some, Ok, Err, ℤ};
+ghost use Rattle.std.specs.Prelude.{Bool, [], Option, None, Some, Ok, Err, ℤ};
 ghost use Rattle.tsp_draft.specs.Fields.{Fields};
 ghost use Rattle.tsp_format.specs.declared.kinds.Kind.TheVariants as kinds;
 ghost use Rattle.tsp_format.specs.declared.layout.Layout.{Layout};
@@ -39,23 +39,23 @@ pub fn examples_of_runs_over_one_file()
 /// A first file that can't be judged is of the wrong kind, which is no reason of a line `no`. One
 /// that can be judged isn't.
 pub fn examples_of_wrong_kinds()
-    ensures tours { (claimed : Option ℤ) (solution : Fields) (sink : Sink) → IsUnwritten sink
-        → JudgesFiles None claimed (instance_with kinds.Tour 4 []) solution sink (Err run_faults.WrongKind) }
-    ensures tours_are_no_no { (claimed : Option ℤ) (solution : Fields) (sink : Sink) (reason : Reason)
-        → ¬ JudgesFiles None claimed (instance_with kinds.Tour 4 []) solution sink (Ok (verdicts.No reason)) }
-    ensures routes { (claimed : Option ℤ) (solution certificate : Fields) (sink : Sink) → IsUnwritten sink
-        → JudgesFiles (Some (certificates.Potentials, certificate)) claimed (instance_with kinds.Cvrp 4 []) solution sink (Err run_faults.WrongKind) }
-    ensures routes_are_no_no { (claimed : Option ℤ) (solution certificate : Fields) (sink : Sink)
+    ensures tours { (claimed : Option ℤ) (strict : Bool) (solution : Fields) (sink : Sink) → IsUnwritten sink
+        → JudgesFiles None claimed strict (instance_with kinds.Tour 4 []) solution sink (Err run_faults.WrongKind) }
+    ensures tours_are_no_no { (claimed : Option ℤ) (strict : Bool) (solution : Fields) (sink : Sink) (reason : Reason)
+        → ¬ JudgesFiles None claimed strict (instance_with kinds.Tour 4 []) solution sink (Ok (verdicts.No reason)) }
+    ensures routes { (claimed : Option ℤ) (strict : Bool) (solution certificate : Fields) (sink : Sink) → IsUnwritten sink
+        → JudgesFiles (Some (certificates.Potentials, certificate)) claimed strict (instance_with kinds.Cvrp 4 []) solution sink (Err run_faults.WrongKind) }
+    ensures routes_are_no_no { (claimed : Option ℤ) (strict : Bool) (solution certificate : Fields) (sink : Sink)
         (reason : Reason)
-        → ¬ JudgesFiles (Some (certificates.Potentials, certificate)) claimed (instance_with kinds.Cvrp 4 []) solution sink (Ok (verdicts.No reason)) }
-    ensures instance { (claimed : Option ℤ) (solution : Fields) (sink : Sink)
-        → ¬ JudgesFiles None claimed (instance_with kinds.Cvrp 4 []) solution sink (Err run_faults.WrongKind) }
-    ensures branches_of_routes { (claimed : Option ℤ) (solution certificate : Fields) (sink : Sink)
-        → ¬ JudgesFiles (Some (certificates.Branches, certificate)) claimed (instance_with kinds.Cvrp 4 []) solution sink (Err run_faults.WrongKind) }
-    ensures bound_by_branches { (certificate : Fields) (sink : Sink)
-        → ¬ BoundsFiles certificates.Branches (instance_with kinds.Cvrp 4 []) certificate sink (Err run_faults.WrongKind) }
-    ensures bound_of_routes { (certificate : Fields) (sink : Sink) → IsUnwritten sink
-        → BoundsFiles certificates.Potentials (instance_with kinds.Cvrp 4 []) certificate sink (Err run_faults.WrongKind) }
-    ensures bound_is_no_no { (certificate : Fields) (sink : Sink) (reason : Reason)
-        → ¬ BoundsFiles certificates.Potentials (instance_with kinds.Cvrp 4 []) certificate sink (Ok (bounds.No reason)) }
+        → ¬ JudgesFiles (Some (certificates.Potentials, certificate)) claimed strict (instance_with kinds.Cvrp 4 []) solution sink (Ok (verdicts.No reason)) }
+    ensures instance { (claimed : Option ℤ) (strict : Bool) (solution : Fields) (sink : Sink)
+        → ¬ JudgesFiles None claimed strict (instance_with kinds.Cvrp 4 []) solution sink (Err run_faults.WrongKind) }
+    ensures branches_of_routes { (claimed : Option ℤ) (strict : Bool) (solution certificate : Fields) (sink : Sink)
+        → ¬ JudgesFiles (Some (certificates.Branches, certificate)) claimed strict (instance_with kinds.Cvrp 4 []) solution sink (Err run_faults.WrongKind) }
+    ensures bound_by_branches { (strict : Bool) (certificate : Fields) (sink : Sink)
+        → ¬ BoundsFiles certificates.Branches strict (instance_with kinds.Cvrp 4 []) certificate sink (Err run_faults.WrongKind) }
+    ensures bound_of_routes { (strict : Bool) (certificate : Fields) (sink : Sink) → IsUnwritten sink
+        → BoundsFiles certificates.Potentials strict (instance_with kinds.Cvrp 4 []) certificate sink (Err run_faults.WrongKind) }
+    ensures bound_is_no_no { (strict : Bool) (certificate : Fields) (sink : Sink) (reason : Reason)
+        → ¬ BoundsFiles certificates.Potentials strict (instance_with kinds.Cvrp 4 []) certificate sink (Ok (bounds.No reason)) }
 {}

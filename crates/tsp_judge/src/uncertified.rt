@@ -30,16 +30,17 @@ pub fn run_uncertified<I: Gives, S: Gives, W: Write>(
     inst: &mut Watched<I>,
     sol: &mut Watched<S>,
     claimed: Option<i64>,
+    strict: bool,
     out: &mut Watched<W>,
 ) -> Result<Judged, RunError>
     ensures answer { TakesAtMost most_taken (turn_of I.remaining inst.old inst.new) (λ first.
         TakesAtMost most_taken (turn_of S.remaining sol.old sol.new) (λ second.
-        IsRunOf None claimed first second (sink_of W.contents out.old out.new) result)) }
+        IsRunOf None claimed strict first second (sink_of W.contents out.old out.new) result)) }
     ensures asked { IsReadOn I.gives inst.old inst.new × IsReadOn S.gives sol.old sol.new }
 {
     let instance = read_file(alloc, 1, inst)?;
     let solution = read_file(alloc, 2, sol)?;
-    judge_read(alloc, instance, solution, None, claimed, out)
+    judge_read(alloc, instance, solution, None, claimed, strict, out)
 }
 
 /// Judges solutions of an instance, writes a line for each, and returns the largest of their
@@ -52,15 +53,16 @@ pub fn run_compare_uncertified<I: Gives, R: Gives + Drop, E, S: Solutions<R> + F
     alloc: Global,
     inst: &mut Watched<I>,
     solutions: &S,
+    strict: bool,
     out: &mut Watched<W>,
     to: &mut E,
 ) -> Result<Compared, RunError>
     ensures text { TakesAtMost most_taken (turn_of I.remaining inst.old inst.new) (λ first.
-        IsCompareRun R.remaining R.gives (S.opens solutions.now) (S.names solutions.now) None first
+        IsCompareRun strict R.remaining R.gives (S.opens solutions.now) (S.names solutions.now) None first
         (sink_of W.contents out.old out.new) result) }
     ensures asked { IsReadOn I.gives inst.old inst.new }
     ensures told { IsFollowed (S.tells solutions.now) (length (S.names solutions.now)) to.old to.new result }
 {
     let instance = read_file(alloc, 1, inst)?;
-    compare_read(alloc, instance, None, solutions, out, to)
+    compare_read(alloc, instance, None, solutions, strict, out, to)
 }

@@ -60,17 +60,17 @@ IsDone remaining (Show file) (Show left) sink outcome = TakesAtMost most_taken (
 IsDone remaining (Convert file to) (Convert left same) sink outcome = TakesAtMost most_taken (turn_of remaining file left)
     (λ turn.
     (ended : Result (Unit {0}) RunFault) × (outcome ≡ outcome_of_writing ended) × IsConvertRun to turn sink ended)
-IsDone remaining (Check instance solution certificate claimed) (Check instance_left solution_left certificate_left same)
+IsDone remaining (Check instance solution certificate claimed strict) (Check instance_left solution_left certificate_left same also)
     sink outcome =
     TakesAtMost most_taken (turn_of remaining instance instance_left) (λ first.
     TakesAtMost most_taken (turn_of remaining solution solution_left) (λ second.
     TakesNamed remaining certificate certificate_left (λ given.
-    (ended : Result Judged RunFault) × (outcome ≡ outcome_of_check ended) × IsRunOf given claimed first second sink ended)))
-IsDone remaining (Bound instance certificate) (Bound instance_left certificate_left) sink outcome =
+    (ended : Result Judged RunFault) × (outcome ≡ outcome_of_check ended) × IsRunOf given claimed strict first second sink ended)))
+IsDone remaining (Bound instance certificate strict) (Bound instance_left certificate_left same) sink outcome =
     TakesAtMost most_taken (turn_of remaining instance instance_left) (λ first.
     TakesAtMost most_taken (turn_of remaining certificate.1 certificate_left.1) (λ second.
     (ended : Result Bounded RunFault) × (outcome ≡ outcome_of_bound ended)
-    × IsBoundRunOf certificate.0 first second sink ended))
+    × IsBoundRunOf certificate.0 strict first second sink ended))
 IsDone remaining _ _ sink outcome = ⊥
 
 -- The named file's reader was asked so, as it was and as it is left, where one is named: it has failed where its last read has.
@@ -84,10 +84,11 @@ IsNamedReadOn gives _ _ = ⊥
 abbrev pub AreReadOn : {R : Type 0} → (R → List ℕ → Result ℕ Error → List ℕ → R → Type 0) → Task (Watched R) → Task (Watched R) → Type 0
 AreReadOn gives (Show file) (Show left) = IsReadOn gives file left
 AreReadOn gives (Convert file to) (Convert left same) = IsReadOn gives file left
-AreReadOn gives (Check instance solution certificate claimed) (Check instance_left solution_left certificate_left same) =
+AreReadOn gives (Check instance solution certificate claimed strict)
+    (Check instance_left solution_left certificate_left same also) =
     IsReadOn gives instance instance_left × IsReadOn gives solution solution_left
     × IsNamedReadOn gives certificate certificate_left
-AreReadOn gives (Bound instance certificate) (Bound instance_left certificate_left) = IsReadOn gives instance instance_left
+AreReadOn gives (Bound instance certificate strict) (Bound instance_left certificate_left same) = IsReadOn gives instance instance_left
     × IsReadOn gives certificate.1 certificate_left.1
 AreReadOn gives _ _ = ⊥
 
@@ -102,4 +103,4 @@ abbrev pub IsCompared : {R : Type 0} → (R → Option (List ℕ)) → (R → Li
     → (ℕ → R → Type 0) → List (List ℕ) → Comparison (Watched R) → Comparison (Watched R) → Sink → Result Compared RunFault → Type 0
 IsCompared remaining gives opens names old new sink answer = TakesAtMost most_taken (turn_of remaining old.instance new.instance)
     (λ first. TakesNamed remaining old.certificate new.certificate (λ given.
-    IsCompareRun remaining gives opens names given first sink answer))
+    IsCompareRun old.strict remaining gives opens names given first sink answer))

@@ -2,7 +2,7 @@
 //! is claimed and of the certificate. No body is looked at here: a definition that is changed
 //! together with its code is refused by its examples.
 
-ghost use Rattle.std.specs.Prelude.{◌≡◌, ℕ, ℤ, List, true, false, Option, None, Some, Result, Err};
+ghost use Rattle.std.specs.Prelude.{◌≡◌, ℕ, ℤ, List, Bool, true, false, Option, None, Some, Result, Err};
 ghost use Rattle.tsp_file.specs.declared.fault.RelayoutFault.{RelayoutFault};
 ghost use Rattle.tsp_format.specs.declared.layout.Layout.{Layout};
 ghost use Rattle.tsp_judge.specs.declared.Watched.{Watched};
@@ -50,23 +50,24 @@ pub fn examples_of_outcomes()
 /// A check that is done is a run with the claim and the certificate of its task, and a bound one by
 /// its certificate.
 pub fn examples_of_done_tasks<R: Read>()
-    ensures claimed { (instance solution instance_left solution_left : Watched R) (claimed : Option ℤ) (sink : Sink)
+    ensures claimed { (instance solution instance_left solution_left : Watched R) (claimed : Option ℤ) (strict : Bool) (sink : Sink)
         (outcome : Result Outcome RunFault)
-        → IsDone R.remaining (tasks.Check instance solution None claimed)
-        (tasks.Check instance_left solution_left None claimed) sink outcome
+        → IsDone R.remaining (tasks.Check instance solution None claimed strict)
+        (tasks.Check instance_left solution_left None claimed strict) sink outcome
         → (first second : Turn) × (ended : Result Judged RunFault) × (outcome ≡ outcome_of_check ended)
-        × IsRunOf None claimed first second sink ended }
+        × IsRunOf None claimed strict first second sink ended }
     ensures certified { (by : Certificate) (instance solution certificate instance_left solution_left certificate_left : Watched R)
-        (claimed : Option ℤ) (sink : Sink) (outcome : Result Outcome RunFault)
-        → IsDone R.remaining (tasks.Check instance solution (Some (by, certificate)) claimed)
-        (tasks.Check instance_left solution_left (Some (by, certificate_left)) claimed) sink outcome
+        (claimed : Option ℤ) (strict : Bool) (sink : Sink) (outcome : Result Outcome RunFault)
+        → IsDone R.remaining (tasks.Check instance solution (Some (by, certificate)) claimed strict)
+        (tasks.Check instance_left solution_left (Some (by, certificate_left)) claimed strict) sink outcome
         → (first second third : Turn) × (ended : Result Judged RunFault) × (outcome ≡ outcome_of_check ended)
-        × IsRunOf (Some (by, third)) claimed first second sink ended }
-    ensures bounded { (by : Certificate) (instance certificate instance_left certificate_left : Watched R) (sink : Sink)
+        × IsRunOf (Some (by, third)) claimed strict first second sink ended }
+    ensures bounded { (by : Certificate) (instance certificate instance_left certificate_left : Watched R) (strict : Bool) (sink : Sink)
         (outcome : Result Outcome RunFault)
-        → IsDone R.remaining (tasks.Bound instance (by, certificate)) (tasks.Bound instance_left (by, certificate_left)) sink outcome
+        → IsDone R.remaining (tasks.Bound instance (by, certificate) strict)
+        (tasks.Bound instance_left (by, certificate_left) strict) sink outcome
         → (first second : Turn) × (ended : Result Bounded RunFault) × (outcome ≡ outcome_of_bound ended)
-        × IsBoundRunOf by first second sink ended }
+        × IsBoundRunOf by strict first second sink ended }
 {}
 
 /// Which reader has which file: a fault of the instance's is one of file 1, and of the certificate
@@ -75,7 +76,8 @@ pub fn examples_of_readers<R: Gives>()
     ensures instance { (instance solution instance_left solution_left : Watched R) (sink : Sink) (fault : ReadFault)
         → TakesAtMost most_taken (turn_of R.remaining instance instance_left) (StopsAt fault)
         → TakesAtMost most_taken (turn_of R.remaining solution solution_left) IsUnread → IsUnwritten sink
-        → IsDone R.remaining (tasks.Check instance solution None None) (tasks.Check instance_left solution_left None None)
+        → IsDone R.remaining (tasks.Check instance solution None None false)
+        (tasks.Check instance_left solution_left None None false)
         sink (Err (run_faults.File 1 fault)) }
     ensures layout { (file left : Watched R) (to : Layout) (sink : Sink) (fault : RelayoutFault)
         → TakesAtMost most_taken (turn_of R.remaining file left) (λ turn.
@@ -93,14 +95,14 @@ pub fn examples_of_readers<R: Gives>()
 /// Each reader of a task or a comparison is asked, that of the certificate too. Files aren't taken
 /// for each other's.
 pub fn examples_of_asked_readers<R: Gives>()
-    ensures solution { (instance solution instance_left solution_left : Watched R) (claimed same : Option ℤ)
-        → AreReadOn R.gives (tasks.Check instance solution None claimed) (tasks.Check instance_left solution_left None same)
+    ensures solution { (instance solution instance_left solution_left : Watched R) (claimed same : Option ℤ) (strict also : Bool)
+        → AreReadOn R.gives (tasks.Check instance solution None claimed strict) (tasks.Check instance_left solution_left None same also)
         → IsReadOn R.gives solution solution_left }
-    ensures certificate { (by kept : Certificate) (a b c x y z : Watched R) (claimed same : Option ℤ)
-        → AreReadOn R.gives (tasks.Check a b (Some (by, c)) claimed) (tasks.Check x y (Some (kept, z)) same)
+    ensures certificate { (by kept : Certificate) (a b c x y z : Watched R) (claimed same : Option ℤ) (strict also : Bool)
+        → AreReadOn R.gives (tasks.Check a b (Some (by, c)) claimed strict) (tasks.Check x y (Some (kept, z)) same also)
         → IsReadOn R.gives c z }
-    ensures bound { (by kept : Certificate) (a c x z : Watched R)
-        → AreReadOn R.gives (tasks.Bound a (by, c)) (tasks.Bound x (kept, z)) → IsReadOn R.gives c z }
+    ensures bound { (by kept : Certificate) (a c x z : Watched R) (strict also : Bool)
+        → AreReadOn R.gives (tasks.Bound a (by, c) strict) (tasks.Bound x (kept, z) also) → IsReadOn R.gives c z }
     ensures compared { (by : Certificate) (old new : Comparison (Watched R)) (c z : Watched R)
         → old.certificate ≡ Some (by, c) → new.certificate ≡ Some (by, z) → AreComparedOn R.gives old new
         → IsReadOn R.gives c z }

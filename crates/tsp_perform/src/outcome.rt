@@ -63,14 +63,24 @@ pub fn perform<R: Gives, W: Write>(
             solution,
             certificate,
             claimed,
+            strict,
         } => {
-            let ended = check(alloc, instance, solution, certificate, *claimed, out);
+            let ended = check(
+                alloc,
+                instance,
+                solution,
+                certificate,
+                *claimed,
+                *strict,
+                out,
+            );
             judged(ended)
         }
         Task::Bound {
             instance,
             certificate: (by, file),
-        } => bounded(run_bound(alloc, instance, *by, file, out)),
+            strict,
+        } => bounded(run_bound(alloc, instance, *by, file, *strict, out)),
     }
 }
 
@@ -81,20 +91,21 @@ fn check<R: Gives, W: Write>(
     solution: &mut Watched<R>,
     certificate: &mut Option<(Certificate, Watched<R>)>,
     claimed: Option<i64>,
+    strict: bool,
     out: &mut Watched<W>,
 ) -> Result<Judged, RunError>
     ensures answer { TakesAtMost most_taken (turn_of R.remaining instance.old instance.new) (λ first.
         TakesAtMost most_taken (turn_of R.remaining solution.old solution.new) (λ second.
         TakesNamed R.remaining certificate.old certificate.new (λ given.
-        IsRunOf given claimed first second (sink_of W.contents out.old out.new) result))) }
+        IsRunOf given claimed strict first second (sink_of W.contents out.old out.new) result))) }
     ensures asked { IsReadOn R.gives instance.old instance.new × IsReadOn R.gives solution.old solution.new
         × IsNamedReadOn R.gives certificate.old certificate.new }
 {
     match certificate {
-        None => run_uncertified(alloc, instance, solution, claimed, out),
+        None => run_uncertified(alloc, instance, solution, claimed, strict, out),
         Some((by, file)) => {
             let by = Some(*by);
-            run(alloc, instance, solution, by, file, claimed, out)
+            run(alloc, instance, solution, by, file, claimed, strict, out)
         }
     }
 }
@@ -121,12 +132,13 @@ pub fn compare<R: Gives + Drop, E, S: Solutions<R> + Follow<E>, W: Write>(
         instance,
         certificate,
         solutions: _,
+        strict,
     } = comparison;
     match certificate {
-        None => run_compare_uncertified(alloc, instance, solutions, out, to),
+        None => run_compare_uncertified(alloc, instance, solutions, *strict, out, to),
         Some((by, file)) => {
             let by = Some(*by);
-            run_compare(alloc, instance, by, file, solutions, out, to)
+            run_compare(alloc, instance, by, file, solutions, *strict, out, to)
         }
     }
 }

@@ -4,7 +4,7 @@ use Rattle.tsp_reason.specs.declared.certificate.Certificate.TheVariants as cert
 use Rattle.tsp_reason.specs.declared.role.Role.{Role}
 use Rattle.tsp_reason.specs.declared.role.Role.TheVariants.{Instance, Solution, Potentials, Branches}
 use Rattle.tsp_reason.specs.declared.verdict.Reason.{Reason}
-use Rattle.tsp_reason.specs.declared.verdict.Reason.TheVariants.{NotASolution, TooFewNodes, NotSymmetric, Dimension, TourCount, TourLength, NodeOutOfRange, RepeatedNode, FixedEdgeUnused, NotPotentials, PotentialsDimension, PotentialsKind, MultiplierNotFixed, MultiplierRepeated, DualInfeasible, DepotCount, DepotDemand, FixedEdgesInRoutes, DepotInRoute, Unserved, Overload, NotBranches, BranchesDimension, BadComb, BadBranch, BranchTwice, BadLeaf, TooManyLoads, LengthClaimed}
+use Rattle.tsp_reason.specs.declared.verdict.Reason.TheVariants.{NotASolution, TooFewNodes, NotSymmetric, Dimension, TourCount, TourLength, NodeOutOfRange, RepeatedNode, FixedEdgeUnused, NotPotentials, PotentialsDimension, PotentialsKind, MultiplierNotFixed, MultiplierRepeated, DualInfeasible, DepotCount, DepotDemand, FixedEdgesInRoutes, DepotInRoute, Unserved, Overload, NotBranches, BranchesDimension, BadComb, BadBranch, BranchTwice, BadLeaf, TooManyLoads, LengthClaimed, NotJudged}
 
 -- what the file of a certificate is given for
 abbrev pub role_by : Certificate → Role
@@ -18,6 +18,7 @@ role_of (NotSymmetric i j) = Instance
 role_of DepotCount = Instance
 role_of DepotDemand = Instance
 role_of FixedEdgesInRoutes = Instance
+role_of NotJudged = Instance
 role_of NotASolution = Solution
 role_of Dimension = Solution
 role_of TourCount = Solution

@@ -38,7 +38,8 @@ pub fn blamed(reason: Reason) -> Role
         | Reason::NotSymmetric { .. }
         | Reason::DepotCount
         | Reason::DepotDemand
-        | Reason::FixedEdgesInRoutes => Role::Instance,
+        | Reason::FixedEdgesInRoutes
+        | Reason::NotJudged => Role::Instance,
         Reason::NotASolution
         | Reason::Dimension
         | Reason::TourCount

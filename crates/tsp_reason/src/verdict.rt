@@ -9,6 +9,7 @@
 /// of routes in the order `NotASolution`, `TooFewNodes`, `Dimension`, `DepotCount`, `DepotDemand`,
 /// `FixedEdgesInRoutes`, `DepotInRoute`, `NodeOutOfRange`, `RepeatedNode`, `Unserved`, `Overload`.
 /// `LengthClaimed` is judged after those against the solution, and before those of a certificate.
+/// `NotJudged` is judged after all others.
 #[derive(Clone, Copy, Debug, PartialEq, Eq)]
 pub enum Reason {
     /// The solution is not a file of TYPE TOUR.
@@ -83,6 +84,9 @@ pub enum Reason {
     /// No other reason applies to the solution, and its length, which is this one, isn't the
     /// length that is claimed.
     LengthClaimed { length: i64 },
+    /// No other reason applies, a line of the instance has an unknown keyword, and the check asked
+    /// for this reason. The report names the first such keyword.
+    NotJudged,
 }
 
 /// The verdict on a solution: accepted with its length, or rejected with the first reason that

@@ -20,14 +20,14 @@ basis_bound (Some bound) = codes "bound " ++ signed_decimal bound ++ codes "\n"
 
 -- the bound, or `none` where the instance has no solution, after the least number of routes; or the first reason against the
 -- instance or the certificate
-abbrev pub basis_lines : Basis → List ℕ
-basis_lines (bases.Tours bound) = basis_bound bound
-basis_lines bases.NoSolution = codes "bound none\n"
-basis_lines (bases.Routes least bound) = codes "least " ++ decimal least ++ codes "\n" ++ basis_bound bound
-basis_lines (bases.No reason) = no_line reason
+abbrev pub basis_lines : Fields → Basis → List ℕ
+basis_lines instance (bases.Tours bound) = basis_bound bound
+basis_lines instance bases.NoSolution = codes "bound none\n"
+basis_lines instance (bases.Routes least bound) = codes "least " ++ decimal least ++ codes "\n" ++ basis_bound bound
+basis_lines instance (bases.No reason) = no_line instance reason
 
 abbrev pub head_of : Fields → Basis → List ℕ
-head_of instance basis = instance_lines instance ++ basis_lines basis
+head_of instance basis = instance_lines instance ++ basis_lines instance basis
 
 -- ---- a solution
 

@@ -1,5 +1,5 @@
 -- The report of a check, line by line. Each line ends with byte 10, and one blank is between words.
-use Rattle.std.specs.Prelude.{ℕ, List, ◌++◌, map, codes, decimal, cond, ℤ, pos, ◌-ℤ◌, Option, None, Some, [], IfSome, unsigned_abs, ◌≤◌, ◌^◌}
+use Rattle.std.specs.Prelude.{ℕ, List, ◌∷◌, ◌++◌, map, codes, decimal, cond, ℤ, pos, ◌-ℤ◌, Option, None, Some, [], IfSome, unsigned_abs, ◌≤◌, ◌^◌}
 use Rattle.std.specs.List.{concat}
 use Rattle.std.specs.Option.{option_map_or}
 use Rattle.std.specs.Ordering.{int_eq}
@@ -10,7 +10,7 @@ use Rattle.tsp_draft.specs.Fields.{Fields, nodes_of}
 use Rattle.tsp_reason.specs.declared.verdict.BoundVerdict.{BoundVerdict}
 use Rattle.tsp_reason.specs.declared.verdict.BoundVerdict.TheVariants as bounds
 use Rattle.tsp_reason.specs.declared.verdict.Reason.{Reason}
-use Rattle.tsp_reason.specs.declared.verdict.Reason.TheVariants.{NotASolution, TooFewNodes, NotSymmetric, Dimension, TourCount, TourLength, NodeOutOfRange, RepeatedNode, FixedEdgeUnused, NotPotentials, PotentialsDimension, PotentialsKind, MultiplierNotFixed, MultiplierRepeated, DualInfeasible, DepotCount, DepotDemand, FixedEdgesInRoutes, DepotInRoute, Unserved, Overload, NotBranches, BranchesDimension, BadComb, BadBranch, BranchTwice, BadLeaf, TooManyLoads, LengthClaimed}
+use Rattle.tsp_reason.specs.declared.verdict.Reason.TheVariants.{NotASolution, TooFewNodes, NotSymmetric, Dimension, TourCount, TourLength, NodeOutOfRange, RepeatedNode, FixedEdgeUnused, NotPotentials, PotentialsDimension, PotentialsKind, MultiplierNotFixed, MultiplierRepeated, DualInfeasible, DepotCount, DepotDemand, FixedEdgesInRoutes, DepotInRoute, Unserved, Overload, NotBranches, BranchesDimension, BadComb, BadBranch, BranchTwice, BadLeaf, TooManyLoads, LengthClaimed, NotJudged}
 use Rattle.tsp_reason.specs.declared.verdict.Verdict.{Verdict}
 use Rattle.tsp_reason.specs.declared.verdict.Verdict.TheVariants.{Tour, Routes, No}
 
@@ -61,6 +61,7 @@ reason_name (BranchTwice index) = codes "BranchTwice"
 reason_name (BadLeaf index) = codes "BadLeaf"
 reason_name TooManyLoads = codes "TooManyLoads"
 reason_name (LengthClaimed length) = codes "LengthClaimed"
+reason_name NotJudged = codes "NotJudged"
 
 -- its numbers, of which it has two at most
 abbrev pub reason_numbers : Reason → Option ℕ × Option ℕ
@@ -93,6 +94,7 @@ reason_numbers (BranchTwice index) = (Some index, None)
 reason_numbers (BadLeaf index) = (Some index, None)
 reason_numbers TooManyLoads = (None, None)
 reason_numbers (LengthClaimed length) = (None, None)
+reason_numbers NotJudged = (None, None)
 
 -- the length that it states, which may be below 0
 abbrev pub reason_length : Reason → Option ℤ
@@ -120,19 +122,29 @@ abbrev pub bound_lines : ℤ → Option ℤ → List ℕ
 bound_lines length None = []
 bound_lines length (Some bound) = codes "bound " ++ signed_decimal bound ++ gap_lines (length -ℤ bound)
 
-abbrev pub no_line : Reason → List ℕ
-no_line reason = codes "no " ++ reason_text reason ++ codes "\n"
+-- the first unknown keyword of the instance
+abbrev pub first_keyword : List (List ℕ × List ℕ) → List ℕ
+first_keyword [] = []
+first_keyword (other ∷ others) = codes " " ++ other.0
+
+-- the same where it is the reason
+abbrev pub keyword_after_blank : Fields → Reason → List ℕ
+keyword_after_blank instance NotJudged = first_keyword instance.others
+keyword_after_blank instance reason = []
+
+abbrev pub no_line : Fields → Reason → List ℕ
+no_line instance reason = codes "no " ++ reason_text reason ++ keyword_after_blank instance reason ++ codes "\n"
 
 -- the length of an accepted solution, and the bound, where there is one
 abbrev pub accepted_lines : ℤ → Option ℤ → List ℕ
 accepted_lines length bound = codes "length " ++ signed_decimal length ++ codes "\n" ++ bound_lines length bound
     ++ codes "yes\n"
 
-abbrev pub verdict_lines : Verdict → List ℕ
-verdict_lines (Tour length bound) = accepted_lines length bound
-verdict_lines (Routes length routes least bound) = codes "routes " ++ decimal routes ++ codes "\nleast " ++ decimal least
+abbrev pub verdict_lines : Fields → Verdict → List ℕ
+verdict_lines instance (Tour length bound) = accepted_lines length bound
+verdict_lines instance (Routes length routes least bound) = codes "routes " ++ decimal routes ++ codes "\nleast " ++ decimal least
     ++ codes "\n" ++ accepted_lines length bound
-verdict_lines (No reason) = no_line reason
+verdict_lines instance (No reason) = no_line instance reason
 
 -- a bound of which the gap to a length fits
 abbrev pub IsGapSized : Option ℤ → Type 0
@@ -145,16 +157,16 @@ IsSized (No reason) = Unit {0}
 
 -- the report on an instance
 abbrev pub report_of : Fields → Verdict → List ℕ
-report_of instance verdict = instance_lines instance ++ verdict_lines verdict
+report_of instance verdict = instance_lines instance ++ verdict_lines instance verdict
 
 -- ---- a bound without a solution
 
 -- the bound, or `none` where the instance has no solution; or the first reason against the instance or the certificate
-abbrev pub bound_found_lines : BoundVerdict → List ℕ
-bound_found_lines (bounds.Bound bound) = codes "bound " ++ signed_decimal bound ++ codes "\nyes\n"
-bound_found_lines bounds.NoSolution = codes "bound none\nyes\n"
-bound_found_lines (bounds.No reason) = no_line reason
+abbrev pub bound_found_lines : Fields → BoundVerdict → List ℕ
+bound_found_lines instance (bounds.Bound bound) = codes "bound " ++ signed_decimal bound ++ codes "\nyes\n"
+bound_found_lines instance bounds.NoSolution = codes "bound none\nyes\n"
+bound_found_lines instance (bounds.No reason) = no_line instance reason
 
 -- the report on an instance whose solutions are bounded
 abbrev pub bound_report_of : Fields → BoundVerdict → List ℕ
-bound_report_of instance found = instance_lines instance ++ bound_found_lines found
+bound_report_of instance found = instance_lines instance ++ bound_found_lines instance found

@@ -32,7 +32,7 @@ pub fn write_bound<W: Write>(
     }
     let mut piece = Piece::new();
     put_instance(&mut piece, out, instance);
-    put_found(&mut piece, out, found);
+    put_found(&mut piece, out, instance, found);
     hand_over(&mut piece, out);
     if out.failed() {
         Err(WriteFault::Device)
@@ -42,8 +42,13 @@ pub fn write_bound<W: Write>(
 }
 
 /// Adds the line of a bound and the line `yes`, or the line `no`.
-fn put_found<W: Write>(piece: &mut Piece, out: &mut Watched<W>, found: BoundVerdict)
-    ensures { Puts W.contents out.old piece.old out.new piece.new (bound_found_lines found) }
+fn put_found<W: Write>(
+    piece: &mut Piece,
+    out: &mut Watched<W>,
+    instance: &File,
+    found: BoundVerdict,
+)
+    ensures { Puts W.contents out.old piece.old out.new piece.new (bound_found_lines instance.now found) }
 {
     match found {
         BoundVerdict::Bound(bound) => {
@@ -51,6 +56,6 @@ fn put_found<W: Write>(piece: &mut Piece, out: &mut Watched<W>, found: BoundVerd
             put(piece, out, b"\nyes\n");
         }
         BoundVerdict::NoSolution => put(piece, out, b"bound none\nyes\n"),
-        BoundVerdict::No(reason) => put_no(piece, out, reason),
+        BoundVerdict::No(reason) => put_no(piece, out, instance, reason),
     }
 }

@@ -26,6 +26,8 @@ pub fn examples_of_heads()
         ≡ codes "type CVRP\nnodes 2\nleast 3\nbound 12\n" }
     ensures no { head_of matrix (bases.No reasons.TooFewNodes)
         ≡ codes "type TSP\nnodes 2\nnot judged FOO\nnot judged BAR\nno TooFewNodes\n" }
+    ensures unjudged { head_of matrix (bases.No reasons.NotJudged)
+        ≡ codes "type TSP\nnodes 2\nnot judged FOO\nnot judged BAR\nno NotJudged FOO\n" }
 {}
 
 /// A line of each kind. The path is at its end, with its blanks.

@@ -36,7 +36,7 @@ pub fn write_head<W: Write>(
     }
     let mut piece = Piece::new();
     put_instance(&mut piece, out, instance);
-    put_basis(&mut piece, out, basis);
+    put_basis(&mut piece, out, instance, basis);
     hand_over(&mut piece, out);
     if out.failed() {
         Err(WriteFault::Device)
@@ -78,8 +78,8 @@ pub fn write_line<W: Write>(
 }
 
 /// Adds the lines on what all solutions have in common.
-fn put_basis<W: Write>(piece: &mut Piece, out: &mut Watched<W>, basis: Basis)
-    ensures { Puts W.contents out.old piece.old out.new piece.new (basis_lines basis) }
+fn put_basis<W: Write>(piece: &mut Piece, out: &mut Watched<W>, instance: &File, basis: Basis)
+    ensures { Puts W.contents out.old piece.old out.new piece.new (basis_lines instance.now basis) }
 {
     match basis {
         Basis::Tours { bound } => put_bound_line(piece, out, bound),
@@ -89,7 +89,7 @@ fn put_basis<W: Write>(piece: &mut Piece, out: &mut Watched<W>, basis: Basis)
             put(piece, out, b"\n");
             put_bound_line(piece, out, bound);
         }
-        Basis::No(reason) => put_no(piece, out, reason),
+        Basis::No(reason) => put_no(piece, out, instance, reason),
     }
 }
 

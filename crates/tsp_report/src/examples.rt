@@ -11,6 +11,7 @@ ghost use Rattle.tsp_format.specs.Steps.{Branch, Leaf};
 ghost use Rattle.tsp_reason.specs.declared.verdict.BoundVerdict.TheVariants as bounds;
 ghost use Rattle.tsp_reason.specs.declared.verdict.Reason.TheVariants as reasons;
 ghost use Rattle.tsp_reason.specs.declared.verdict.Verdict.TheVariants as verdicts;
+ghost use Rattle.tsp_report.specs.Examples.{matrix};
 ghost use Rattle.tsp_report.specs.Report.{not_judged, type_line, nodes_line, gap_lines, bound_lines, reason_text, verdict_lines, bound_found_lines};
 ghost use Rattle.tsp_report.specs.Show.{name_line, weights_line, canonical_line, fixed_line, all_tour_lines, scale_line, load_unit_line, combs_line, leaves_line};
 
@@ -30,16 +31,16 @@ pub fn examples_of_reports()
         ≡ codes "bound " ++ signed_decimal (pos 14) ++ gap_lines (pos 4) }
     ensures below_zero { bound_lines (negsuc 33) (Some (negsuc 34))
         ≡ codes "bound " ++ signed_decimal (negsuc 34) ++ gap_lines (pos 1) }
-    ensures tour { verdict_lines (verdicts.Tour (pos 14) None)
+    ensures tour { verdict_lines matrix (verdicts.Tour (pos 14) None)
         ≡ codes "length " ++ signed_decimal (pos 14) ++ codes "\nyes\n" }
-    ensures routes { verdict_lines (verdicts.Routes (pos 20) 3 2 None)
+    ensures routes { verdict_lines matrix (verdicts.Routes (pos 20) 3 2 None)
         ≡ codes "routes " ++ decimal 3 ++ codes "\nleast "
         ++ decimal 2 ++ codes "\n" ++ (codes "length " ++ signed_decimal (pos 20) ++ codes "\nyes\n") }
-    ensures no { verdict_lines (verdicts.No reasons.TourCount) ≡ codes "no TourCount\n" }
-    ensures bound_alone { bound_found_lines (bounds.Bound (pos 14))
+    ensures no { verdict_lines matrix (verdicts.No reasons.TourCount) ≡ codes "no TourCount\n" }
+    ensures bound_alone { bound_found_lines matrix (bounds.Bound (pos 14))
         ≡ codes "bound " ++ signed_decimal (pos 14) ++ codes "\nyes\n" }
-    ensures no_tour { bound_found_lines bounds.NoSolution ≡ codes "bound none\nyes\n" }
-    ensures no_bound_alone { bound_found_lines (bounds.No reasons.TooFewNodes)
+    ensures no_tour { bound_found_lines matrix bounds.NoSolution ≡ codes "bound none\nyes\n" }
+    ensures no_bound_alone { bound_found_lines matrix (bounds.No reasons.TooFewNodes)
         ≡ codes "no TooFewNodes\n" }
 {}
 
@@ -79,6 +80,7 @@ pub fn examples_of_reasons()
     ensures twice { reason_text (reasons.BranchTwice 2) ≡ codes "BranchTwice " ++ decimal 2 }
     ensures leaf { reason_text (reasons.BadLeaf 1) ≡ codes "BadLeaf " ++ decimal 1 }
     ensures loads { reason_text reasons.TooManyLoads ≡ codes "TooManyLoads" }
+    ensures unjudged { reason_text reasons.NotJudged ≡ codes "NotJudged" }
     ensures claimed { reason_text (reasons.LengthClaimed (pos 14))
         ≡ codes "LengthClaimed " ++ signed_decimal (pos 14) }
     ensures claimed_below_zero { reason_text (reasons.LengthClaimed (negsuc 33))

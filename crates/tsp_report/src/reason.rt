@@ -82,6 +82,7 @@ fn name_of(reason: Reason) -> &'static str
         Reason::BadLeaf { .. } => "BadLeaf",
         Reason::TooManyLoads => "TooManyLoads",
         Reason::LengthClaimed { .. } => "LengthClaimed",
+        Reason::NotJudged => "NotJudged",
     }
 }
 
@@ -117,6 +118,7 @@ fn numbers_of(reason: Reason) -> (Option<u32>, Option<u32>)
         | Reason::NotBranches
         | Reason::BranchesDimension
         | Reason::TooManyLoads
-        | Reason::LengthClaimed { .. } => (None, None),
+        | Reason::LengthClaimed { .. }
+        | Reason::NotJudged => (None, None),
     }
 }

@@ -4,7 +4,7 @@ ghost use Rattle.std.specs.Prelude.{◌≡◌, ◌++◌, ◌≤◌, ◌^◌, ◌
 ghost use Rattle.tsp_stream.specs.states.Watched.{sink_of};
 ghost use Rattle.tsp_stream.specs.Sink.{Writes};
 ghost use Rattle.tsp_stream.specs.states.WriteProgress.{Puts};
-ghost use Rattle.tsp_report.specs.Report.{report_of, instance_lines, type_line, nodes_line, not_judged, no_line, verdict_lines, accepted_lines, bound_lines, gap_lines, IsGapSized, IsSized};
+ghost use Rattle.tsp_report.specs.Report.{report_of, instance_lines, type_line, nodes_line, not_judged, first_keyword, keyword_after_blank, no_line, verdict_lines, accepted_lines, bound_lines, gap_lines, IsGapSized, IsSized};
 
 use crate::reason::put_reason;
 use itoa::Integer;
@@ -37,7 +37,7 @@ pub fn write_report<W: Write>(
     }
     let mut piece = Piece::new();
     put_instance(&mut piece, out, instance);
-    put_verdict(&mut piece, out, verdict);
+    put_verdict(&mut piece, out, instance, verdict);
     hand_over(&mut piece, out);
     if out.failed() {
         Err(WriteFault::Device)
@@ -110,9 +110,9 @@ pub(crate) fn put_named<W: Write, N: Integer>(
 }
 
 /// Adds the lines on a verdict.
-fn put_verdict<W: Write>(piece: &mut Piece, out: &mut Watched<W>, verdict: Verdict)
+fn put_verdict<W: Write>(piece: &mut Piece, out: &mut Watched<W>, instance: &File, verdict: Verdict)
     requires { IsSized verdict }
-    ensures { Puts W.contents out.old piece.old out.new piece.new (verdict_lines verdict) }
+    ensures { Puts W.contents out.old piece.old out.new piece.new (verdict_lines instance.now verdict) }
 {
     match verdict {
         Verdict::Tour { length, bound } => put_accepted(piece, out, length, bound),
@@ -127,7 +127,7 @@ fn put_verdict<W: Write>(piece: &mut Piece, out: &mut Watched<W>, verdict: Verdi
             put(piece, out, b"\n");
             put_accepted(piece, out, length, bound);
         }
-        Verdict::No(reason) => put_no(piece, out, reason),
+        Verdict::No(reason) => put_no(piece, out, instance, reason),
     }
 }
 
@@ -142,13 +142,41 @@ fn put_accepted<W: Write>(piece: &mut Piece, out: &mut Watched<W>, length: i64, 
     put(piece, out, b"yes\n");
 }
 
-/// Adds the line `no` with its reason.
-pub(crate) fn put_no<W: Write>(piece: &mut Piece, out: &mut Watched<W>, reason: Reason)
-    ensures { Puts W.contents out.old piece.old out.new piece.new (no_line reason) }
+/// Adds the line `no` with its reason, which for `NotJudged` names a keyword of the instance.
+pub(crate) fn put_no<W: Write>(
+    piece: &mut Piece,
+    out: &mut Watched<W>,
+    instance: &File,
+    reason: Reason,
+)
+    ensures { Puts W.contents out.old piece.old out.new piece.new (no_line instance.now reason) }
 {
     put(piece, out, b"no ");
     put_reason(piece, out, reason);
+    put_keyword(piece, out, instance, reason);
     put(piece, out, b"\n");
+}
+
+/// Adds a blank and the first unknown keyword of the instance, where that is the reason.
+fn put_keyword<W: Write>(piece: &mut Piece, out: &mut Watched<W>, instance: &File, reason: Reason)
+    ensures { Puts W.contents out.old piece.old out.new piece.new
+        (keyword_after_blank instance.now reason) }
+{
+    match reason {
+        Reason::NotJudged => put_first(piece, out, instance.others()),
+        _ => {}
+    }
+}
+
+/// Adds a blank and the first keyword, where there is one.
+fn put_first<W: Write>(piece: &mut Piece, out: &mut Watched<W>, others: &[(Vec<u8>, Vec<u8>)])
+    ensures { Puts W.contents out.old piece.old out.new piece.new
+        (first_keyword (map (λ line. (line.0.items, line.1.items)) others.now)) }
+{
+    if let [(keyword, _), ..] = others {
+        put(piece, out, b" ");
+        put(piece, out, keyword);
+    }
 }
 
 /// Adds the line of a bound and the line after it, where there is one.

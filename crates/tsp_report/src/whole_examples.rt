@@ -15,6 +15,8 @@ pub fn examples_of_whole_reports()
         "type TSP\nnodes 2\nnot judged FOO\nnot judged BAR\nlength 14\nbound 12\ngap 2\nyes\n" }
     ensures no { report_of matrix (verdicts.No reasons.TourCount)
         ≡ codes "type TSP\nnodes 2\nnot judged FOO\nnot judged BAR\nno TourCount\n" }
+    ensures unjudged { report_of matrix (verdicts.No reasons.NotJudged)
+        ≡ codes "type TSP\nnodes 2\nnot judged FOO\nnot judged BAR\nno NotJudged FOO\n" }
     ensures routes { report_of shown_routes (verdicts.Routes (pos 20) 3 2 None)
         ≡ codes "type CVRP\nnodes 2\nroutes 3\nleast 2\nlength 20\nyes\n" }
     ensures optimal_routes { report_of shown_routes (verdicts.Routes (pos 20) 3 2 (Some (pos 20)))
@@ -31,6 +33,8 @@ pub fn examples_of_bound_reports()
         ≡ codes "type TSP\nnodes 2\nnot judged FOO\nnot judged BAR\nbound none\nyes\n" }
     ensures no { bound_report_of matrix (bounds.No reasons.TooFewNodes)
         ≡ codes "type TSP\nnodes 2\nnot judged FOO\nnot judged BAR\nno TooFewNodes\n" }
+    ensures unjudged { bound_report_of matrix (bounds.No reasons.NotJudged)
+        ≡ codes "type TSP\nnodes 2\nnot judged FOO\nnot judged BAR\nno NotJudged FOO\n" }
 {}
 
 /// All that is shown of a file of each TYPE.

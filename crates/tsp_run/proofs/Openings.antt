@@ -16,21 +16,21 @@ certificate_by P Q implies (Some a) (Some x) same = (same.0, implies a.1 x.1 sam
 pub task_by : {F G : Type 0} (P Q : F → G → Type 0) → ((a : F) (x : G) → P a x → Q a x) → (old : Task F) (new : Task G) → IsMapped P old new → IsMapped Q old new
 task_by P Q implies (Show a) (Show x) same = implies a x same
 task_by P Q implies (Show a) (Convert x to) same = absurd same
-task_by P Q implies (Show a) (Check x y z claimed) same = absurd same
-task_by P Q implies (Show a) (Bound x z) same = absurd same
+task_by P Q implies (Show a) (Check x y z claimed strict) same = absurd same
+task_by P Q implies (Show a) (Bound x z strict) same = absurd same
 task_by P Q implies (Convert a to) (Show x) same = absurd same
 task_by P Q implies (Convert a to) (Convert x kept) same = (implies a x same.0, same.1)
-task_by P Q implies (Convert a to) (Check x y z claimed) same = absurd same
-task_by P Q implies (Convert a to) (Bound x z) same = absurd same
-task_by P Q implies (Check a b c claimed) (Show x) same = absurd same
-task_by P Q implies (Check a b c claimed) (Convert x to) same = absurd same
-task_by P Q implies (Check a b c claimed) (Check x y z kept) same = (implies a x same.0, implies b y same.1, certificate_by P Q implies c z same.2, same.3)
-task_by P Q implies (Check a b c claimed) (Bound x z) same = absurd same
-task_by P Q implies (Bound a c) (Show x) same = absurd same
-task_by P Q implies (Bound a c) (Convert x to) same = absurd same
-task_by P Q implies (Bound a c) (Check x y z claimed) same = absurd same
-task_by P Q implies (Bound a c) (Bound x z) same = (implies a x same.0, same.1, implies c.1 z.1 same.2)
+task_by P Q implies (Convert a to) (Check x y z claimed strict) same = absurd same
+task_by P Q implies (Convert a to) (Bound x z strict) same = absurd same
+task_by P Q implies (Check a b c claimed strict) (Show x) same = absurd same
+task_by P Q implies (Check a b c claimed strict) (Convert x to) same = absurd same
+task_by P Q implies (Check a b c claimed strict) (Check x y z kept also) same = (implies a x same.0, implies b y same.1, certificate_by P Q implies c z same.2, same.3, same.4)
+task_by P Q implies (Check a b c claimed strict) (Bound x z kept) same = absurd same
+task_by P Q implies (Bound a c strict) (Show x) same = absurd same
+task_by P Q implies (Bound a c strict) (Convert x to) same = absurd same
+task_by P Q implies (Bound a c strict) (Check x y z claimed kept) same = absurd same
+task_by P Q implies (Bound a c strict) (Bound x z kept) same = (implies a x same.0, same.1, implies c.1 z.1 same.2, same.3)
 
 pub comparison_by : {F G : Type 0} (P Q : F → G → Type 0) → ((a : F) (x : G) → P a x → Q a x) → (old : Comparison F) (new : Comparison G)
     → IsMappedComparison P old new → IsMappedComparison Q old new
-comparison_by P Q implies old new same = (implies old.instance new.instance same.0, certificate_by P Q implies old.certificate new.certificate same.1, same.2)
+comparison_by P Q implies old new same = (implies old.instance new.instance same.0, certificate_by P Q implies old.certificate new.certificate same.1, same.2, same.3)

@@ -1,7 +1,7 @@
 //! The exit status of each ending, each line, and the files of a task. No body is looked at here: a
 //! definition that is changed together with its code is refused by its examples.
 
-ghost use Rattle.std.specs.Prelude.{◌≡◌, ◌++◌, ◌∷◌, ℤ, [], length, true, false, Option, None, Some, Ok, Err, codes, decimal};
+ghost use Rattle.std.specs.Prelude.{◌≡◌, ◌++◌, ◌∷◌, ℤ, [], length, Bool, true, false, Option, None, Some, Ok, Err, codes, decimal};
 ghost use Rattle.clap.specs.declared.error.Error.{Error};
 ghost use Rattle.tsp_judge.specs.declared.EndFault.TheVariants as end_faults;
 ghost use Rattle.tsp_judge.specs.declared.LineFault.TheVariants as line_faults;
@@ -107,25 +107,25 @@ pub fn examples_of_help()
 
 /// Each file of a task is the one that is opened in its place.
 pub fn examples_of_opened_files()
-    ensures check { (a b : Place) (claimed same : Option ℤ) (x y : Watched Place)
-        → AreFresh (λ place file. file ≡ place) (tasks.Check a b None claimed) (tasks.Check x y None same)
-        → (watched x ≡ a) × (watched y ≡ b) × (same ≡ claimed) }
-    ensures certified { (by kept : Certificate) (a b c : Place) (claimed same : Option ℤ) (x y z : Watched Place)
-        → AreFresh (λ place file. file ≡ place) (tasks.Check a b (Some (by, c)) claimed)
-        (tasks.Check x y (Some (kept, z)) same)
-        → (kept ≡ by) × (watched x ≡ a) × (watched y ≡ b) × (watched z ≡ c) × (same ≡ claimed) }
-    ensures bound { (by kept : Certificate) (a c : Place) (x z : Watched Place)
-        → AreFresh (λ place file. file ≡ place) (tasks.Bound a (by, c)) (tasks.Bound x (kept, z))
-        → (kept ≡ by) × (watched x ≡ a) × (watched z ≡ c) }
-    ensures another_task { (by kept : Certificate) (a b c : Place) (claimed : Option ℤ) (x z : Watched Place)
-        → ¬ AreFresh (λ place file. file ≡ place) (tasks.Check a b (Some (by, c)) claimed)
-        (tasks.Bound x (kept, z)) }
+    ensures check { (a b : Place) (claimed same : Option ℤ) (strict also : Bool) (x y : Watched Place)
+        → AreFresh (λ place file. file ≡ place) (tasks.Check a b None claimed strict) (tasks.Check x y None same also)
+        → (watched x ≡ a) × (watched y ≡ b) × (same ≡ claimed) × (also ≡ strict) }
+    ensures certified { (by kept : Certificate) (a b c : Place) (claimed same : Option ℤ) (strict also : Bool) (x y z : Watched Place)
+        → AreFresh (λ place file. file ≡ place) (tasks.Check a b (Some (by, c)) claimed strict)
+        (tasks.Check x y (Some (kept, z)) same also)
+        → (kept ≡ by) × (watched x ≡ a) × (watched y ≡ b) × (watched z ≡ c) × (same ≡ claimed) × (also ≡ strict) }
+    ensures bound { (by kept : Certificate) (a c : Place) (strict also : Bool) (x z : Watched Place)
+        → AreFresh (λ place file. file ≡ place) (tasks.Bound a (by, c) strict) (tasks.Bound x (kept, z) also)
+        → (kept ≡ by) × (watched x ≡ a) × (watched z ≡ c) × (also ≡ strict) }
+    ensures another_task { (by kept : Certificate) (a b c : Place) (claimed : Option ℤ) (strict also : Bool) (x z : Watched Place)
+        → ¬ AreFresh (λ place file. file ≡ place) (tasks.Check a b (Some (by, c)) claimed strict)
+        (tasks.Bound x (kept, z) also) }
     ensures first_solution { (file : Place) → IsOpenedAt (λ place file. file ≡ place) (codes "a" ∷ codes "b" ∷ []) 0 file
         → (place : Place) × IsPlaceAt (codes "a") place × (file ≡ place) }
     ensures second_solution { (file : Place) → IsOpenedAt (λ place file. file ≡ place) (codes "a" ∷ codes "b" ∷ []) 1 file
         → (place : Place) × IsPlaceAt (codes "b") place × (file ≡ place) }
     ensures each_solution { (comparison : Comparison Place)
         → length (paths_of comparison) ≡ length comparison.solutions.now }
-    ensures certificate_dropped { (by : Certificate) (a b c : Place) (claimed same : Option ℤ) (x y : Watched Place)
-        → ¬ AreFresh (λ place file. file ≡ place) (tasks.Check a b (Some (by, c)) claimed) (tasks.Check x y None same) }
+    ensures certificate_dropped { (by : Certificate) (a b c : Place) (claimed same : Option ℤ) (strict also : Bool) (x y : Watched Place)
+        → ¬ AreFresh (λ place file. file ≡ place) (tasks.Check a b (Some (by, c)) claimed strict) (tasks.Check x y None same also) }
 {}

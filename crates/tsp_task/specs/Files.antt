@@ -19,9 +19,9 @@ file_named (Some named) = (Some (role_by named.0), named.1) ∷ []
 abbrev pub files_of : {F : Type 0} → Task F → List (Option Role × F)
 files_of (Show file) = (None, file) ∷ []
 files_of (Convert file to) = (None, file) ∷ []
-files_of (Check instance solution certificate claimed) = (Some Instance, instance) ∷ (Some Solution, solution)
+files_of (Check instance solution certificate claimed strict) = (Some Instance, instance) ∷ (Some Solution, solution)
     ∷ file_named certificate
-files_of (Bound instance certificate) = (Some Instance, instance) ∷ (Some (role_by certificate.0), certificate.1) ∷ []
+files_of (Bound instance certificate strict) = (Some Instance, instance) ∷ (Some (role_by certificate.0), certificate.1) ∷ []
 
 -- the files of a comparison but its solutions
 abbrev pub files_compared : {F : Type 0} → Comparison F → List (Option Role × F)

@@ -17,14 +17,15 @@ IsMappedCertificate gives _ _ = ⊥
 abbrev pub IsMapped : {F G : Type 0} → (F → G → Type 0) → Task F → Task G → Type 0
 IsMapped gives (Show a) (Show x) = gives a x
 IsMapped gives (Convert a to) (Convert x same) = gives a x × (same ≡ to)
-IsMapped gives (Check a b c claimed) (Check x y z same) = gives a x × gives b y × IsMappedCertificate gives c z × (same ≡ claimed)
-IsMapped gives (Bound a c) (Bound x z) = gives a x × (z.0 ≡ c.0) × gives c.1 z.1
+IsMapped gives (Check a b c claimed strict) (Check x y z same also) = gives a x × gives b y × IsMappedCertificate gives c z
+    × (same ≡ claimed) × (also ≡ strict)
+IsMapped gives (Bound a c strict) (Bound x z same) = gives a x × (z.0 ≡ c.0) × gives c.1 z.1 × (same ≡ strict)
 IsMapped gives _ _ = ⊥
 
 -- the same comparison, its instance and certificate files that the relation gives for them
 abbrev pub IsMappedComparison : {F G : Type 0} → (F → G → Type 0) → Comparison F → Comparison G → Type 0
 IsMappedComparison gives old new = gives old.instance new.instance × IsMappedCertificate gives old.certificate new.certificate
-    × (new.solutions.now ≡ old.solutions.now)
+    × (new.solutions.now ≡ old.solutions.now) × (new.strict ≡ old.strict)
 
 abbrev pub IsMappedRequest : {F G : Type 0} → (F → G → Type 0) → Request F → Request G → Type 0
 IsMappedRequest gives (requests.Task a) (requests.Task x) = IsMapped gives a x

@@ -1,7 +1,7 @@
 //! The files of requests, and requests whose files are mapped. No body is looked at here: a
 //! definition that is changed together with its code is refused by its examples.
 
-ghost use Rattle.std.specs.Prelude.{◌≡◌, ◌+◌, ℕ, ℤ, Option, None, Some, pos};
+ghost use Rattle.std.specs.Prelude.{◌≡◌, ◌+◌, Bool, true, false, ℕ, ℤ, Option, None, Some, pos};
 ghost use Rattle.tsp_format.specs.declared.layout.Layout.{Layout};
 ghost use Rattle.tsp_format.specs.declared.layout.Layout.TheVariants as layouts;
 ghost use Rattle.tsp_reason.specs.declared.certificate.Certificate.{Certificate};
@@ -18,14 +18,14 @@ ghost use Rattle.tsp_task.specs.Mapped.{IsMapped, IsMappedRequest};
 pub fn examples_of_files()
     ensures shown { (a : ℕ) → numbered 1 (files_of (tasks.Show a)) ≡ Some (None, a) }
     ensures converted { (a : ℕ) (to : Option Layout) → numbered 1 (files_of (tasks.Convert a to)) ≡ Some (None, a) }
-    ensures instance { (a b : ℕ) (c : Option (Certificate × ℕ)) (claimed : Option ℤ)
-        → numbered 1 (files_of (tasks.Check a b c claimed)) ≡ Some (Some roles.Instance, a) }
-    ensures solution { (a b : ℕ) (c : Option (Certificate × ℕ)) (claimed : Option ℤ)
-        → numbered 2 (files_of (tasks.Check a b c claimed)) ≡ Some (Some roles.Solution, b) }
-    ensures certificate { (a b c : ℕ) (claimed : Option ℤ)
-        → numbered 3 (files_of (tasks.Check a b (Some (certificates.Branches, c)) claimed)) ≡ Some (Some roles.Branches, c) }
-    ensures no_certificate { (a b : ℕ) (claimed : Option ℤ) → numbered 3 (files_of (tasks.Check a b None claimed)) ≡ None }
-    ensures bound { (a c : ℕ) → numbered 2 (files_of (tasks.Bound a (certificates.Potentials, c)))
+    ensures instance { (a b : ℕ) (c : Option (Certificate × ℕ)) (claimed : Option ℤ) (strict : Bool)
+        → numbered 1 (files_of (tasks.Check a b c claimed strict)) ≡ Some (Some roles.Instance, a) }
+    ensures solution { (a b : ℕ) (c : Option (Certificate × ℕ)) (claimed : Option ℤ) (strict : Bool)
+        → numbered 2 (files_of (tasks.Check a b c claimed strict)) ≡ Some (Some roles.Solution, b) }
+    ensures certificate { (a b c : ℕ) (claimed : Option ℤ) (strict : Bool)
+        → numbered 3 (files_of (tasks.Check a b (Some (certificates.Branches, c)) claimed strict)) ≡ Some (Some roles.Branches, c) }
+    ensures no_certificate { (a b : ℕ) (claimed : Option ℤ) (strict : Bool) → numbered 3 (files_of (tasks.Check a b None claimed strict)) ≡ None }
+    ensures bound { (a c : ℕ) (strict : Bool) → numbered 2 (files_of (tasks.Bound a (certificates.Potentials, c) strict))
         ≡ Some (Some roles.Potentials, c) }
     ensures compared { (c : Comparison ℕ) → c.certificate ≡ Some (certificates.Potentials, 9)
         → numbered 2 (files_of_request (requests.Compare c)) ≡ Some (Some roles.Potentials, 9) }
@@ -39,14 +39,19 @@ pub fn examples_of_mapped_requests()
     ensures converted { IsMapped (λ a x. x ≡ a + 1) (tasks.Convert 1 (Some layouts.UpperRow))
         (tasks.Convert 2 (Some layouts.UpperRow)) }
     ensures other_layout { ¬ IsMapped (λ a x. x ≡ a + 1) (tasks.Convert 1 (Some layouts.UpperRow)) (tasks.Convert 2 None) }
-    ensures checked { IsMapped (λ a x. x ≡ a + 1) (tasks.Check 1 2 (Some (certificates.Branches, 3)) (Some (pos 14)))
-        (tasks.Check 2 3 (Some (certificates.Branches, 4)) (Some (pos 14))) }
-    ensures exchanged { ¬ IsMapped (λ a x. x ≡ a + 1) (tasks.Check 1 2 None None) (tasks.Check 3 2 None None) }
-    ensures unclaimed { ¬ IsMapped (λ a x. x ≡ a + 1) (tasks.Check 1 2 None (Some (pos 14))) (tasks.Check 2 3 None None) }
-    ensures dropped { ¬ IsMapped (λ a x. x ≡ a + 1) (tasks.Check 1 2 (Some (certificates.Branches, 3)) None)
-        (tasks.Check 2 3 None None) }
-    ensures other_kind { ¬ IsMapped (λ a x. x ≡ a + 1) (tasks.Bound 1 (certificates.Branches, 2))
-        (tasks.Bound 2 (certificates.Potentials, 3)) }
+    ensures checked { IsMapped (λ a x. x ≡ a + 1) (tasks.Check 1 2 (Some (certificates.Branches, 3)) (Some (pos 14)) true)
+        (tasks.Check 2 3 (Some (certificates.Branches, 4)) (Some (pos 14)) true) }
+    ensures exchanged { ¬ IsMapped (λ a x. x ≡ a + 1) (tasks.Check 1 2 None None true) (tasks.Check 3 2 None None true) }
+    ensures unclaimed { ¬ IsMapped (λ a x. x ≡ a + 1) (tasks.Check 1 2 None (Some (pos 14)) true) (tasks.Check 2 3 None None true) }
+    ensures dropped { ¬ IsMapped (λ a x. x ≡ a + 1) (tasks.Check 1 2 (Some (certificates.Branches, 3)) None true)
+        (tasks.Check 2 3 None None true) }
+    ensures other_kind { ¬ IsMapped (λ a x. x ≡ a + 1) (tasks.Bound 1 (certificates.Branches, 2) true)
+        (tasks.Bound 2 (certificates.Potentials, 3) true) }
+    ensures not_strict { ¬ IsMapped (λ a x. x ≡ a + 1) (tasks.Check 1 2 None None true) (tasks.Check 2 3 None None false) }
+    ensures not_strict_bound { ¬ IsMapped (λ a x. x ≡ a + 1) (tasks.Bound 1 (certificates.Branches, 2) true)
+        (tasks.Bound 2 (certificates.Branches, 3) false) }
+    ensures strictly_compared { (c d : Comparison ℕ) → c.strict ≡ true
+        → IsMappedRequest (λ a x. x ≡ a + 1) (requests.Compare c) (requests.Compare d) → d.strict ≡ true }
     ensures compared { (c d : Comparison ℕ) → c.instance ≡ 1
         → IsMappedRequest (λ a x. x ≡ a + 1) (requests.Compare c) (requests.Compare d) → d.instance ≡ 2 }
     ensures compared_by { (c d : Comparison ℕ) → c.certificate ≡ Some (certificates.Branches, 3)

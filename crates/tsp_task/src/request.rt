@@ -31,17 +31,21 @@ pub enum Task<F> {
         layout: Option<Layout>,
     },
     /// Judge the solution of an instance, with this length where one is claimed, and bound every
-    /// tour by the certificate where one is named.
+    /// tour by the certificate where one is named. With `strict`, unknown keywords of the instance
+    /// are a reason.
     Check {
         instance: F,
         solution: F,
         certificate: Option<(Certificate, F)>,
         claimed: Option<i64>,
+        strict: bool,
     },
-    /// Bound every tour of an instance by a certificate.
+    /// Bound every tour of an instance by a certificate. With `strict`, unknown keywords of the
+    /// instance are a reason.
     Bound {
         instance: F,
         certificate: (Certificate, F),
+        strict: bool,
     },
 }
 
@@ -55,6 +59,8 @@ pub struct Comparison<'a, F> {
     pub certificate: Option<(Certificate, F)>,
     /// The paths of the solutions, one at least, in the order in which they are judged.
     pub solutions: &'a [String],
+    /// Whether unknown keywords of the instance are a reason.
+    pub strict: bool,
 }
 
 impl<'a, F> Request<'a, F> {
@@ -132,18 +138,22 @@ impl<F> Task<F> {
                 solution,
                 certificate,
                 claimed,
+                strict,
             } => Task::Check {
                 instance: applied(&map, instance),
                 solution: applied(&map, solution),
                 certificate: mapped(certificate, map),
                 claimed: *claimed,
+                strict: *strict,
             },
             Task::Bound {
                 instance,
                 certificate: (by, file),
+                strict,
             } => Task::Bound {
                 instance: applied(&map, instance),
                 certificate: (*by, applied(&map, file)),
+                strict: *strict,
             },
         }
     }
@@ -172,6 +182,7 @@ impl<'a, F> Comparison<'a, F> {
             instance: applied(&map, &self.instance),
             certificate: mapped(&self.certificate, map),
             solutions: self.solutions,
+            strict: self.strict,
         }
     }
 }

@@ -24,7 +24,7 @@ use Rattle.tsp_verdict.specs.PotentialsCertificate.{StandsAgainstPotentials, IsB
 use Rattle.tsp_verdict.specs.Certified.{IsBoundBy, BoundsSolutionsBy, IsBoundFitting, IsCertified}
 use Rattle.tsp_reason.specs.declared.certificate.Certificate.TheVariants.{Potentials}
 
--- the bounds of tours are smaller
+-- the bounds of the crates below are as large at most
 pub fitting : (bound : ℤ) → IsBoundSized bound → IsBoundFitting bound
 fitting bound sized = (omega (arith, ints, sized.0), omega (arith, ints, sized.1))
 

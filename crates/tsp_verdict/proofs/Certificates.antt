@@ -11,7 +11,7 @@ use Rattle.tsp_draft.specs.Fields.{Fields, nodes_of}
 use Rattle.tsp_draft.specs.Rules.{is_potentials_file}
 use Rattle.tsp_theory.specs.Adjusted.{pair_of, is_same_pair, AreOnPairs}
 use Rattle.tsp_reason.specs.declared.verdict.Reason.{Reason}
-use Rattle.tsp_reason.specs.declared.verdict.Reason.TheVariants.{NotASolution, TooFewNodes, Dimension, NodeOutOfRange, RepeatedNode, NotPotentials, PotentialsDimension, PotentialsKind, MultiplierNotFixed, MultiplierRepeated, DualInfeasible, DepotCount, DepotDemand, FixedEdgesInRoutes, DepotInRoute, Unserved, Overload, NotBranches, BranchesDimension, BadComb, BadBranch, BranchTwice, BadLeaf, TooManyLoads, LengthClaimed}
+use Rattle.tsp_reason.specs.declared.verdict.Reason.TheVariants.{NotASolution, TooFewNodes, Dimension, NodeOutOfRange, RepeatedNode, NotPotentials, PotentialsDimension, PotentialsKind, MultiplierNotFixed, MultiplierRepeated, DualInfeasible, DepotCount, DepotDemand, FixedEdgesInRoutes, DepotInRoute, Unserved, Overload, NotBranches, BranchesDimension, BadComb, BadBranch, BranchTwice, BadLeaf, TooManyLoads, LengthClaimed, NotJudged}
 use Rattle.tsp_verdict.specs.Multiplied.{AreListed, IsUnlisted, IsPairRepeated, pair_at}
 use Rattle.tsp_verdict.specs.Places.{IsFirstPlace}
 use Rattle.tsp_verdict.specs.Reasons.{rank_of, NoneBefore, IsFirstReason}
@@ -215,6 +215,7 @@ tour_rank inst sol (BranchTwice index) stands = absurd stands
 tour_rank inst sol (BadLeaf index) stands = absurd stands
 tour_rank inst sol TooManyLoads stands = absurd stands
 tour_rank inst sol (LengthClaimed length) stands = absurd stands
+tour_rank inst sol NotJudged stands = absurd stands
 tour_rank inst sol reason stands = omega arith
 
 pub routes_rank : (inst sol : Fields) (reason : Reason) → StandsAgainstRoutes inst sol reason

@@ -4,7 +4,7 @@ use Rattle.std.specs.Prelude.{ℤ, pos}
 use Rattle.std.proofs.lemmas.Bool.{cases_order}
 use Rattle.tsp_theory.specs.Costs.{IsBefore}
 use Rattle.tsp_reason.specs.declared.verdict.Reason.{Reason}
-use Rattle.tsp_reason.specs.declared.verdict.Reason.TheVariants.{NotASolution, TooFewNodes, NotSymmetric, Dimension, TourCount, TourLength, DepotCount, DepotDemand, FixedEdgesInRoutes, DepotInRoute, NodeOutOfRange, RepeatedNode, FixedEdgeUnused, Unserved, Overload, LengthClaimed, NotPotentials, PotentialsDimension, PotentialsKind, MultiplierNotFixed, MultiplierRepeated, DualInfeasible, NotBranches, BranchesDimension, BadComb, BadBranch, BranchTwice, BadLeaf, TooManyLoads}
+use Rattle.tsp_reason.specs.declared.verdict.Reason.TheVariants.{NotASolution, TooFewNodes, NotSymmetric, Dimension, TourCount, TourLength, DepotCount, DepotDemand, FixedEdgesInRoutes, DepotInRoute, NodeOutOfRange, RepeatedNode, FixedEdgeUnused, Unserved, Overload, LengthClaimed, NotPotentials, PotentialsDimension, PotentialsKind, MultiplierNotFixed, MultiplierRepeated, DualInfeasible, NotBranches, BranchesDimension, BadComb, BadBranch, BranchTwice, BadLeaf, TooManyLoads, NotJudged}
 use Rattle.tsp_verdict.specs.Places.{IsFirstPlace}
 use Rattle.tsp_verdict.specs.Reasons.{rank_of, IsFirstReason}
 
@@ -42,6 +42,7 @@ carried_of (BadBranch i) = (i, 0, pos 0)
 carried_of (BranchTwice i) = (i, 0, pos 0)
 carried_of (BadLeaf i) = (i, 0, pos 0)
 carried_of TooManyLoads = (0, 0, pos 0)
+carried_of NotJudged = (0, 0, pos 0)
 
 -- the reasons by their ranks
 abbrev reasons : List (Carried → Reason)
@@ -75,6 +76,7 @@ reasons =
     (λ carried. BranchTwice carried.0) ∷
     (λ carried. BadLeaf carried.0) ∷
     (λ carried. TooManyLoads) ∷
+    (λ carried. NotJudged) ∷
     []
 
 -- the one of a rank, from 1 on
@@ -118,6 +120,7 @@ is_of_rank (BadBranch i) = refl
 is_of_rank (BranchTwice i) = refl
 is_of_rank (BadLeaf i) = refl
 is_of_rank TooManyLoads = refl
+is_of_rank NotJudged = refl
 
 -- of two reasons of one rank that apply the numbers are the same
 abbrev pub IsOneByRank : (Reason → Type 0) → Type 0

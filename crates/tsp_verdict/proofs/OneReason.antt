@@ -20,7 +20,7 @@ use Rattle.tsp_file.specs.Defaults.{scale_in, families_listed}
 use Rattle.tsp_reason.specs.declared.certificate.Certificate.{Certificate}
 use Rattle.tsp_reason.specs.declared.certificate.Certificate.TheVariants.{Potentials, Branches}
 use Rattle.tsp_reason.specs.declared.verdict.Reason.{Reason}
-use Rattle.tsp_reason.specs.declared.verdict.Reason.TheVariants.{NotASolution, TooFewNodes, NotSymmetric, Dimension, TourCount, TourLength, DepotCount, DepotDemand, FixedEdgesInRoutes, DepotInRoute, NodeOutOfRange, RepeatedNode, FixedEdgeUnused, Unserved, Overload, LengthClaimed, NotPotentials, PotentialsDimension, PotentialsKind, MultiplierNotFixed, MultiplierRepeated, DualInfeasible, NotBranches, BranchesDimension, BadComb, BadBranch, BranchTwice, BadLeaf, TooManyLoads}
+use Rattle.tsp_reason.specs.declared.verdict.Reason.TheVariants.{NotASolution, TooFewNodes, NotSymmetric, Dimension, TourCount, TourLength, DepotCount, DepotDemand, FixedEdgesInRoutes, DepotInRoute, NodeOutOfRange, RepeatedNode, FixedEdgeUnused, Unserved, Overload, LengthClaimed, NotPotentials, PotentialsDimension, PotentialsKind, MultiplierNotFixed, MultiplierRepeated, DualInfeasible, NotBranches, BranchesDimension, BadComb, BadBranch, BranchTwice, BadLeaf, TooManyLoads, NotJudged}
 use Rattle.tsp_routing.specs.GoodSets.{IsFirstBadSet}
 use Rattle.tsp_routing.specs.GoodBranches.{IsFirstBadPlanBranch}
 use Rattle.tsp_routing.specs.GoodLeaves.{IsFirstBadPlanLeaf}
@@ -90,6 +90,7 @@ tours_by_rank inst sol (BadBranch i) carried one other = absurd one
 tours_by_rank inst sol (BranchTwice i) carried one other = absurd one
 tours_by_rank inst sol (BadLeaf i) carried one other = absurd one
 tours_by_rank inst sol TooManyLoads carried one other = absurd one
+tours_by_rank inst sol NotJudged carried one other = absurd one
 
 -- ---- against an instance, whatever the solution
 
@@ -125,6 +126,7 @@ instances_by_rank inst (BadBranch i) carried one other = absurd one
 instances_by_rank inst (BranchTwice i) carried one other = absurd one
 instances_by_rank inst (BadLeaf i) carried one other = absurd one
 instances_by_rank inst TooManyLoads carried one other = absurd one
+instances_by_rank inst NotJudged carried one other = absurd one
 
 -- plan: by the reason: one without numbers is equal to itself, and of one with numbers the files have one first place or pair
 pub routings_by_rank : (inst : Fields) → IsOneByRank (StandsAgainstRouting inst)
@@ -157,6 +159,7 @@ routings_by_rank inst (BadBranch i) carried one other = absurd one
 routings_by_rank inst (BranchTwice i) carried one other = absurd one
 routings_by_rank inst (BadLeaf i) carried one other = absurd one
 routings_by_rank inst TooManyLoads carried one other = absurd one
+routings_by_rank inst NotJudged carried one other = absurd one
 
 -- ---- against routes
 
@@ -199,6 +202,7 @@ routes_by_rank inst sol (BadBranch i) carried one other = absurd one
 routes_by_rank inst sol (BranchTwice i) carried one other = absurd one
 routes_by_rank inst sol (BadLeaf i) carried one other = absurd one
 routes_by_rank inst sol TooManyLoads carried one other = absurd one
+routes_by_rank inst sol NotJudged carried one other = absurd one
 
 -- ---- against a certificate by potentials
 
@@ -258,6 +262,7 @@ potentials_by_rank inst pot (BadBranch i) carried one other = absurd one
 potentials_by_rank inst pot (BranchTwice i) carried one other = absurd one
 potentials_by_rank inst pot (BadLeaf i) carried one other = absurd one
 potentials_by_rank inst pot TooManyLoads carried one other = absurd one
+potentials_by_rank inst pot NotJudged carried one other = absurd one
 
 -- ---- against a certificate by branching
 
@@ -347,6 +352,7 @@ trees_by_rank unique inst tree (BranchTwice i) carried one other = ap BranchTwic
 trees_by_rank unique inst tree (BadLeaf i) carried one other =
     ap BadLeaf (bad_leaf_by_rank unique inst tree i carried.0 one other)
 trees_by_rank unique inst tree TooManyLoads carried one other = absurd one
+trees_by_rank unique inst tree NotJudged carried one other = absurd one
 
 -- ---- against a certificate for routes
 
@@ -411,6 +417,7 @@ walks_by_rank inst tree (BadBranch i) carried one other = ap BadBranch (bad_bran
 walks_by_rank inst tree (BranchTwice i) carried one other = absurd one
 walks_by_rank inst tree (BadLeaf i) carried one other = ap BadLeaf (bad_plan_leaf_by_rank inst tree i carried.0 one other)
 walks_by_rank inst tree TooManyLoads carried one other = refl
+walks_by_rank inst tree NotJudged carried one other = absurd one
 
 -- ---- against either of two: a reason of one rank applies to one of them alone
 
@@ -451,6 +458,7 @@ same_rank (BadBranch i) carried = refl
 same_rank (BranchTwice i) carried = refl
 same_rank (BadLeaf i) carried = refl
 same_rank TooManyLoads carried = refl
+same_rank NotJudged carried = refl
 
 -- reasons against a solution or an instance come before those against a certificate, whatever they carry
 either_by_rank : NumbersAreUnique → (Own : Reason → Type 0) (by : Certificate) (inst cert : Fields) → AreOwn Own → IsOneByRank Own

@@ -2,7 +2,7 @@
 use Rattle.std.proofs.Common.{ℕ, ◌≤◌, arith}
 use Rattle.tsp_draft.specs.Fields.{Fields, nodes_of}
 use Rattle.tsp_reason.specs.declared.verdict.Reason.{Reason}
-use Rattle.tsp_reason.specs.declared.verdict.Reason.TheVariants.{TooFewNodes, DepotCount, DepotDemand, FixedEdgesInRoutes, NotPotentials, PotentialsDimension, PotentialsKind, MultiplierNotFixed, MultiplierRepeated, DualInfeasible, NotSymmetric, TourCount, TourLength, NodeOutOfRange, RepeatedNode, FixedEdgeUnused, DepotInRoute, Unserved, Overload, NotBranches, BranchesDimension, BadComb, BadBranch, BranchTwice, BadLeaf, TooManyLoads, LengthClaimed}
+use Rattle.tsp_reason.specs.declared.verdict.Reason.TheVariants.{TooFewNodes, DepotCount, DepotDemand, FixedEdgesInRoutes, NotPotentials, PotentialsDimension, PotentialsKind, MultiplierNotFixed, MultiplierRepeated, DualInfeasible, NotSymmetric, TourCount, TourLength, NodeOutOfRange, RepeatedNode, FixedEdgeUnused, DepotInRoute, Unserved, Overload, NotBranches, BranchesDimension, BadComb, BadBranch, BranchTwice, BadLeaf, TooManyLoads, LengthClaimed, NotJudged}
 use Rattle.tsp_verdict.specs.Places.{IsFirstPlace, IsLarger, IsAt, IsAtEarlierPlace}
 use Rattle.tsp_verdict.specs.Plan.{depot_of}
 use Rattle.tsp_cost.specs.ComputedProblems.{demands_of, capacity_of}
@@ -99,4 +99,5 @@ after_loads inst sol before carried (BranchTwice index) stands = stands
 after_loads inst sol before carried (BadLeaf index) stands = stands
 after_loads inst sol before carried TooManyLoads stands = stands
 after_loads inst sol before carried (LengthClaimed length) stands = stands
+after_loads inst sol before carried NotJudged stands = stands
 after_loads inst sol before carried reason stands = before reason (omega arith) stands

@@ -8,7 +8,7 @@ use Rattle.tsp_file.specs.Cost.{cost}
 use Rattle.tsp_theory.specs.Costs.{IsFirstAsymmetric}
 use Rattle.tsp_cost.specs.ComputedProblems.{is_directed}
 use Rattle.tsp_reason.specs.declared.verdict.Reason.{Reason}
-use Rattle.tsp_reason.specs.declared.verdict.Reason.TheVariants.{NotASolution, TooFewNodes, NotSymmetric, Dimension, TourCount, TourLength, NodeOutOfRange, RepeatedNode, FixedEdgeUnused, NotPotentials, PotentialsDimension, PotentialsKind, MultiplierNotFixed, MultiplierRepeated, DualInfeasible, DepotCount, DepotDemand, FixedEdgesInRoutes, DepotInRoute, Unserved, Overload, NotBranches, BranchesDimension, BadComb, BadBranch, BranchTwice, BadLeaf, TooManyLoads, LengthClaimed}
+use Rattle.tsp_reason.specs.declared.verdict.Reason.TheVariants.{NotASolution, TooFewNodes, NotSymmetric, Dimension, TourCount, TourLength, NodeOutOfRange, RepeatedNode, FixedEdgeUnused, NotPotentials, PotentialsDimension, PotentialsKind, MultiplierNotFixed, MultiplierRepeated, DualInfeasible, DepotCount, DepotDemand, FixedEdgesInRoutes, DepotInRoute, Unserved, Overload, NotBranches, BranchesDimension, BadComb, BadBranch, BranchTwice, BadLeaf, TooManyLoads, LengthClaimed, NotJudged}
 use Rattle.tsp_verdict.specs.Places.{IsFirstPlace, IsLarger, IsAtEarlierPlace, IsUnused}
 use Rattle.tsp_file.specs.Defaults.{fixed_of}
 use Rattle.tsp_verdict.specs.Solution.{visited, tours_of}
@@ -85,4 +85,5 @@ after_fixed inst sol before used (BranchTwice index) stands = stands
 after_fixed inst sol before used (BadLeaf index) stands = stands
 after_fixed inst sol before used TooManyLoads stands = stands
 after_fixed inst sol before used (LengthClaimed length) stands = stands
+after_fixed inst sol before used NotJudged stands = stands
 after_fixed inst sol before used reason stands = before reason (omega arith) stands

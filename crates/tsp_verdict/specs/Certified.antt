@@ -103,7 +103,7 @@ NoneWithoutMemory by instance certificate = NoneBefore (StandsAgainstCertificate
 
 -- how large a bound is at most: sums with it fit 128 bits
 abbrev pub IsBoundFitting : ℤ → Type 0
-IsBoundFitting bound = IsFromTo (neg_ℤ (pos (2 ^ 110))) (pos (2 ^ 110)) bound
+IsBoundFitting bound = IsFromTo (neg_ℤ (pos (2 ^ 100))) (pos (2 ^ 100)) bound
 
 -- the bound that the certificate gives, which no solution is below, and sums with which fit 128 bits
 abbrev pub IsCertified : Certificate → Fields → Fields → ℤ → Type 0

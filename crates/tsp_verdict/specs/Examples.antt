@@ -1,5 +1,5 @@
 -- Small instances and solutions on which the definitions are evaluated.
-use Rattle.std.specs.Prelude.{ℕ, ◌<◌, List, [], ◌∷◌, Option, None, Some, ℤ, pos}
+use Rattle.std.specs.Prelude.{codes, ℕ, ◌<◌, List, [], ◌∷◌, Option, None, Some, ℤ, pos}
 use Rattle.tsp_format.specs.declared.kinds.Kind.{Kind}
 use Rattle.tsp_format.specs.declared.kinds.Kind.TheVariants as kinds
 use Rattle.tsp_format.specs.Steps.{Step, Branch, Leaf}
@@ -11,6 +11,10 @@ use Rattle.tsp_verdict.specs.Reasons.{rank_of}
 -- an instance with this many nodes and these fixed pairs
 abbrev pub instance_with : Kind → ℕ → List (ℕ × ℕ) → Fields
 instance_with kind n fixed = record blank_fields { kind = Some kind; dimension = Some n; fixed = Some fixed }
+
+-- one with a line of an unknown keyword
+abbrev pub with_unknown : Kind → ℕ → Fields
+with_unknown kind n = record (instance_with kind n []) { others = (codes "VEHICLES", codes "5") ∷ [] }
 
 -- one of routes, with these depots, this demand of node 1 and of each of the nodes 2, 3 and 4, and a capacity
 abbrev pub vehicles : List ℕ → ℤ → ℤ → ℤ → Fields

@@ -14,4 +14,5 @@ pub mod SolutionVerdict
 pub mod Bounded
 pub mod Examples
 pub mod Basis
+pub mod Strict
 pub mod OneVerdict

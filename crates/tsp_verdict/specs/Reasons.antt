@@ -1,11 +1,11 @@
 -- The first of several reasons, by the order in which they are judged.
 use Rattle.std.specs.Prelude.{ℕ, ◌<◌}
 use Rattle.tsp_reason.specs.declared.verdict.Reason.{Reason}
-use Rattle.tsp_reason.specs.declared.verdict.Reason.TheVariants.{NotASolution, TooFewNodes, NotSymmetric, Dimension, TourCount, TourLength, DepotCount, DepotDemand, FixedEdgesInRoutes, DepotInRoute, NodeOutOfRange, RepeatedNode, FixedEdgeUnused, Unserved, Overload, NotPotentials, PotentialsDimension, PotentialsKind, MultiplierNotFixed, MultiplierRepeated, DualInfeasible, NotBranches, BranchesDimension, BadComb, BadBranch, BranchTwice, BadLeaf, TooManyLoads, LengthClaimed}
+use Rattle.tsp_reason.specs.declared.verdict.Reason.TheVariants.{NotASolution, TooFewNodes, NotSymmetric, Dimension, TourCount, TourLength, DepotCount, DepotDemand, FixedEdgesInRoutes, DepotInRoute, NodeOutOfRange, RepeatedNode, FixedEdgeUnused, Unserved, Overload, NotPotentials, PotentialsDimension, PotentialsKind, MultiplierNotFixed, MultiplierRepeated, DualInfeasible, NotBranches, BranchesDimension, BadComb, BadBranch, BranchTwice, BadLeaf, TooManyLoads, LengthClaimed, NotJudged}
 
 -- The order in which reasons are judged: those against the files, the tours, their nodes and what these use or carry, then that
--- of a claimed length, then those against a certificate. Which of them can apply is said where they are defined, against tours,
--- routes, potentials and trees of cases, and where a length may be claimed.
+-- of a claimed length, then those against a certificate, then that of an unknown keyword. Which of them can apply is said where
+-- they are defined, against tours, routes, potentials and trees of cases, and where more is asked.
 abbrev pub rank_of : Reason → ℕ
 rank_of NotASolution = 1
 rank_of TooFewNodes = 2
@@ -36,6 +36,7 @@ rank_of (BadBranch index) = 26
 rank_of (BranchTwice index) = 27
 rank_of (BadLeaf index) = 28
 rank_of TooManyLoads = 29
+rank_of NotJudged = 30
 
 -- none of the reasons applies that are judged before this rank
 abbrev pub NoneBefore : (Reason → Type 0) → ℕ → Type 0

@@ -46,6 +46,7 @@ pub fn examples_of_order()
     ensures decided_twice { IsJudgedBefore (reasons.BadBranch 9) (reasons.BranchTwice 1) }
     ensures leaves { IsJudgedBefore (reasons.BranchTwice 9) (reasons.BadLeaf 1) }
     ensures loads { IsJudgedBefore (reasons.BadLeaf 9) reasons.TooManyLoads }
+    ensures unjudged { IsJudgedBefore reasons.TooManyLoads reasons.NotJudged }
 {}
 
 /// The order in which reasons against routes are judged: each pair of neighbours.

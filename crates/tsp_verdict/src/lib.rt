@@ -31,6 +31,7 @@ mod pairs;
 mod places;
 mod routes;
 mod source;
+mod strict;
 mod subject;
 mod tour;
 mod tree;
@@ -53,6 +54,10 @@ pub use examples::{
 };
 pub use judged::{judge, judge_next};
 pub use one_verdict::files_have_one_verdict;
+pub use strict::{
+    examples_of_strictness, strict_basis, strict_bound, strict_verdict,
+    strict_yes_leaves_nothing_unjudged,
+};
 pub use tsp_reason::{Basis, BoundVerdict, Certificate, Reason, Verdict};
 pub use verdict_examples::{
     examples_against_routing, examples_of_accepted, examples_of_bounds, examples_of_depots,

@@ -89,6 +89,7 @@ fn compared(alloc: Global, writer: Drip) -> (Result<u8, RunFault>, Counts, Drip)
         by,
         &mut cert,
         &Four,
+        false,
         &mut out,
         &mut counts,
     );

@@ -9,11 +9,11 @@ use Rattle.tsp_c.proofs.texts.checked.Goals as goal
 -- plan: the run is over readers of the texts (`sized_run`), so its end is the call's (`tells_texts`, `checks`)
 pub of_run-numbers-requires : goal.of_run-numbers-requires
 of_run-numbers-requires c = let first = c.run-judged.ensures.answer in let second = first.2 in let third = second.2 in let says = third.2 in
-    sized_run _ c.args.claimed _ _ (sink_of (λ v. Some v.items) c.new-report.result c.run-judged.new.out) c.run-judged.result c.verdicts_mean_reports.ensures.sized says.1.0
+    sized_run _ c.args.claimed c.args.strict _ _ (sink_of (λ v. Some v.items) c.new-report.result c.run-judged.new.out) c.run-judged.result c.verdicts_mean_reports.ensures.sized says.1.0
 
 pub returns-clause-texts : goal.returns-clause-texts
 returns-clause-texts c = let first = c.run-judged.ensures.answer in let second = first.2 in let third = second.2 in let says = third.2 in
-    checks c.args.by c.args.claimed _ _ _ _ _ _ _ _ _ _ _
+    checks c.args.by c.args.claimed c.args.strict _ _ _ _ _ _ _ _ _ _ _
     (record {
       first_is = ap (λ s. Some s.now) c.new-first.ensures.inner;
       second_is = ap (λ s. Some s.now) c.new-second.ensures.inner;
@@ -24,7 +24,7 @@ returns-clause-texts c = let first = c.run-judged.ensures.answer in let second =
 
 pub returns-clause-numbers : goal.returns-clause-numbers
 returns-clause-numbers c = let first = c.run-judged.ensures.answer in let second = first.2 in let third = second.2 in let says = third.2 in
-    tells_texts c.args.by c.args.claimed _ _ _ (sink_of (λ v. Some v.items) c.new-report.result c.run-judged.new.out) c.run-judged.result _ _ _ _ _ _ _ _
+    tells_texts c.args.by c.args.claimed c.args.strict _ _ _ (sink_of (λ v. Some v.items) c.new-report.result c.run-judged.new.out) c.run-judged.result _ _ _ _ _ _ _ _
     (record {
       first_is = ap (λ s. Some s.now) c.new-first.ensures.inner;
       second_is = ap (λ s. Some s.now) c.new-second.ensures.inner;

@@ -1,7 +1,7 @@
 -- The goals of `check` in src/grammar.rt: what the calls require, and what it ensures.
 use Rattle.std.proofs.Common.{codes}
 use Rattle.clap.specs.Words.{with_rule}
-use Rattle.tsp_cli.specs.Grammar.{check_certified, explain, option}
+use Rattle.tsp_cli.specs.Grammar.{check_certified, explain, option, strict}
 use Rattle.tsp_cli.proofs.Commands.{free}
 use Rattle.tsp_cli.proofs.grammar.check.Goals as goal
 
@@ -10,12 +10,21 @@ pub then-two-requires-clause-globals : goal.then-two-requires-clause-globals
 then-two-requires-clause-globals c = free check_certified c.check_certified-one.result
     c.check_certified-one.ensures
 
-pub then-requires-clause-globals : goal.then-requires-clause-globals
-then-requires-clause-globals c = free (with_rule check_certified (option (codes "N") (codes "length"))) c.then-two.result
+pub then-three-requires-clause-globals : goal.then-three-requires-clause-globals
+then-three-requires-clause-globals c = free (with_rule check_certified (option (codes "N") (codes "length"))) c.then-two.result
     (c.then-two.ensures check_certified (option (codes "N") (codes "length")) c.check_certified-one.ensures c.option-length.ensures.rule)
+
+pub then-requires-clause-globals : goal.then-requires-clause-globals
+then-requires-clause-globals c =
+    free (with_rule (with_rule check_certified (option (codes "N") (codes "length"))) strict) c.then-three.result
+    (c.then-three.ensures (with_rule check_certified (option (codes "N") (codes "length"))) strict
+    (c.then-two.ensures check_certified (option (codes "N") (codes "length")) c.check_certified-one.ensures c.option-length.ensures.rule)
+    c.strict.ensures.rule)
 
 pub returns : goal.returns
 returns c =
-    c.then.ensures (with_rule check_certified (option (codes "N") (codes "length"))) explain
+    c.then.ensures (with_rule (with_rule check_certified (option (codes "N") (codes "length"))) strict) explain
+    (c.then-three.ensures (with_rule check_certified (option (codes "N") (codes "length"))) strict
     (c.then-two.ensures check_certified (option (codes "N") (codes "length")) c.check_certified-one.ensures c.option-length.ensures.rule)
+    c.strict.ensures.rule)
     c.explain.ensures.rule

@@ -19,8 +19,8 @@ returns-in_err-instance-clause-answer g c =
       (
         [],
         none_taken,
-        bound_fault_of _ _ _ _ _
-            (bound_first_stops _ (turn_of g.I.Read.remaining c.args.inst.now c.read_file.new.reader one.0) _ _ _ one.2 (Keeps-refl _, refl) (Keeps-refl _, refl)),
+        bound_fault_of c.args.strict _ _ _ _ _
+            (bound_first_stops c.args.strict _ (turn_of g.I.Read.remaining c.args.inst.now c.read_file.new.reader one.0) _ _ _ one.2 (Keeps-refl _, refl) (Keeps-refl _, refl)),
       ),
     )
 
@@ -35,8 +35,8 @@ returns-in_err-certificate-clause-answer g c =
       (
         two.0,
         two.1,
-        bound_fault_of _ _ _ _ _
-            (bound_second_stops _ _ (turn_of g.C.Read.remaining c.args.cert.now c.read_file-2.new.reader two.0) c.in_ok-instance.instance _ _ one.2 two.2 (Keeps-refl _, refl)),
+        bound_fault_of c.args.strict _ _ _ _ _
+            (bound_second_stops c.args.strict _ _ (turn_of g.C.Read.remaining c.args.cert.now c.read_file-2.new.reader two.0) c.in_ok-instance.instance _ _ one.2 two.2 (Keeps-refl _, refl)),
       ),
     )
 

@@ -9,7 +9,7 @@ use Rattle.tsp_judge.proofs.checked.judge_read.Goals as goal
 
 -- plan: by how it ends: of the wrong kind, out of memory, or with a report (`run_of`)
 pub returns-in_default : goal.returns-in_default
-returns-in_default g c = λ given first second one two three. rw c.wrong_kind.ensures (fault_of_run given _ first second _ _ (
+returns-in_default g c = λ given first second one two three. rw c.wrong_kind.ensures (fault_of_run c.args.strict given _ first second _ _ (
   c.args.instance,
   c.args.solution,
   c.args.certificate,
@@ -19,10 +19,10 @@ returns-in_default g c = λ given first second one two three. rw c.wrong_kind.en
 
 pub returns-in-Err : goal.returns-in-Err
 returns-in-Err g c = λ given first second one two three.
-    fault_of_run given _ first second _ _ (ends_without given _ first second c.in-Ok.instance c.args.solution c.args.certificate _ _
+    fault_of_run c.args.strict given _ first second _ _ (ends_without c.args.strict given _ first second c.in-Ok.instance c.args.solution c.args.certificate _ _
     (are_read given first second c.in-Ok.instance c.args.solution c.args.certificate (subst (IsFile first) (sym c.in-Ok.ensures.0) one) two three) c.in-Err.ensures)
 
 pub returns-in-Ok-judge_files : goal.returns-in-Ok-judge_files
 returns-in-Ok-judge_files g c = λ given first second one two three.
-    run_of given _ first second _ _ (subst IsProblem (sym c.in-Ok.ensures.0) c.in-Ok.ensures.2)
+    run_of c.args.strict given _ first second _ _ (subst IsProblem (sym c.in-Ok.ensures.0) c.in-Ok.ensures.2)
     (are_read given first second c.in-Ok.instance c.args.solution c.args.certificate (subst (IsFile first) (sym c.in-Ok.ensures.0) one) two three, c.in-Ok-judge_files.ensures)

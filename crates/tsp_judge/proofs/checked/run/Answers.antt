@@ -24,8 +24,8 @@ returns-in_err-instance-clause-answer g c =
           none_taken,
           (
             λ none. (Keeps-refl _, refl),
-            fault_of_run _ _ _ _ _ _
-                (first_stops _ _ (turn_of g.I.Read.remaining c.args.inst.now c.read_file.new.reader one.0) _ _ _ one.2 (Keeps-refl _, refl)
+            fault_of_run c.args.strict _ _ _ _ _ _
+                (first_stops c.args.strict _ _ (turn_of g.I.Read.remaining c.args.inst.now c.read_file.new.reader one.0) _ _ _ one.2 (Keeps-refl _, refl)
                 (unread_in c.args.by _ (Keeps-refl _, refl)) (Keeps-refl _, refl)),
           ),
         ),
@@ -48,8 +48,8 @@ returns-in_err-solution-clause-answer g c =
           none_taken,
           (
             λ none. (Keeps-refl _, refl),
-            fault_of_run _ _ _ _ _ _
-                (second_stops _ _ _ (turn_of g.S.Read.remaining c.args.sol.now c.read_file-2.new.reader two.0) c.in_ok-instance.instance _ _ one.2 two.2
+            fault_of_run c.args.strict _ _ _ _ _ _
+                (second_stops c.args.strict _ _ _ (turn_of g.S.Read.remaining c.args.sol.now c.read_file-2.new.reader two.0) c.in_ok-instance.instance _ _ one.2 two.2
                 (unread_in c.args.by _ (Keeps-refl _, refl)) (Keeps-refl _, refl)),
           ),
         ),
@@ -73,8 +73,8 @@ returns-in_err-certificate-clause-answer g c =
           three.1,
           (
             three.2.0,
-            fault_of_run _ _ _ _ _ _
-                (third_stops _ _ _ _ c.in_ok-instance.instance c.in_ok-solution.solution _ _ one.2 two.2 three.2.1 (Keeps-refl _, refl)),
+            fault_of_run c.args.strict _ _ _ _ _ _
+                (third_stops c.args.strict _ _ _ _ c.in_ok-instance.instance c.in_ok-solution.solution _ _ one.2 two.2 three.2.1 (Keeps-refl _, refl)),
           ),
         ),
       ),

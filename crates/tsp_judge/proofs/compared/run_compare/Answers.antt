@@ -21,7 +21,7 @@ returns-in_err-instance-clause-text g c =
         none_taken,
         (
           λ none. (Keeps-refl _, refl),
-          compare_first_stops _ _ _ (turn_of g.I.Read.remaining c.args.inst.now c.read_file.new.reader one.0) _ _ one.2
+          compare_first_stops c.args.strict _ _ _ (turn_of g.I.Read.remaining c.args.inst.now c.read_file.new.reader one.0) _ _ one.2
               (unread_in c.args.by _ (Keeps-refl _, refl)) (Keeps-refl _, refl),
         ),
       ),
@@ -35,7 +35,7 @@ returns-in_err-certificate-clause-text g c =
     rw same (
       one.0,
       one.1,
-      (two.0, two.1, (two.2.0, compare_second_stops _ _ _ _ c.in_ok-instance.instance _ _ one.2 two.2.1 (Keeps-refl _, refl))),
+      (two.0, two.1, (two.2.0, compare_second_stops c.args.strict _ _ _ _ c.in_ok-instance.instance _ _ one.2 two.2.1 (Keeps-refl _, refl))),
     )
 
 pub returns-clause-text : goal.returns-clause-text

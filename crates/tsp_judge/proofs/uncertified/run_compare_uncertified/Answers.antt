@@ -14,7 +14,7 @@ returns-in_err-instance-clause-text g c =
     rw same (
       one.0,
       one.1,
-      compare_first_stops _ _ None (turn_of g.I.Read.remaining c.args.inst.now c.read_file.new.reader one.0) _ _ one.2
+      compare_first_stops c.args.strict _ _ None (turn_of g.I.Read.remaining c.args.inst.now c.read_file.new.reader one.0) _ _ one.2
           tt (Keeps-refl _, refl),
     )
 

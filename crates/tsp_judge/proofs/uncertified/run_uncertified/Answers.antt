@@ -19,8 +19,8 @@ returns-in_err-instance-clause-answer g c =
       (
         [],
         none_taken,
-        fault_of_run None _ _ _ _ _
-            (first_stops None _ (turn_of g.I.Read.remaining c.args.inst.now c.read_file.new.reader one.0) _ _ _ one.2 (Keeps-refl _, refl)
+        fault_of_run c.args.strict None _ _ _ _ _
+            (first_stops c.args.strict None _ (turn_of g.I.Read.remaining c.args.inst.now c.read_file.new.reader one.0) _ _ _ one.2 (Keeps-refl _, refl)
             tt (Keeps-refl _, refl)),
       ),
     )
@@ -36,8 +36,8 @@ returns-in_err-solution-clause-answer g c =
       (
         two.0,
         two.1,
-        fault_of_run None _ _ _ _ _
-            (second_stops None _ _ (turn_of g.S.Read.remaining c.args.sol.now c.read_file-2.new.reader two.0) c.in_ok-instance.instance _ _ one.2 two.2
+        fault_of_run c.args.strict None _ _ _ _ _
+            (second_stops c.args.strict None _ _ (turn_of g.S.Read.remaining c.args.sol.now c.read_file-2.new.reader two.0) c.in_ok-instance.instance _ _ one.2 two.2
             tt (Keeps-refl _, refl)),
       ),
     )

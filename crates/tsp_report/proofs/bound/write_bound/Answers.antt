@@ -13,7 +13,7 @@ returns-then-failed-2 g c =
     let after_instance = way_of g.W.Write.contents c.put_instance.new.out c.put_instance.new.piece.items in
     let after_found = way_of g.W.Write.contents c.put_found.new.out c.put_found.new.piece.items in
     let last = way_of g.W.Write.contents c.hand_over.new.out c.hand_over.new.piece.items in
-    let whole = two_parts start after_instance after_found last (instance_lines c.args.instance.now) (bound_found_lines c.args.found)
+    let whole = two_parts start after_instance after_found last (instance_lines c.args.instance.now) (bound_found_lines c.args.instance.now c.args.found)
     c.put_instance.ensures c.put_found.ensures c.hand_over.ensures.carried in
     text_stopped start last (bound_report_of c.args.instance.now c.args.found) c.new-piece.ensures (sym c.failed.ensures ∙ c.if-failed.false) whole
     (sym c.failed-2.ensures ∙ c.if-failed-2.true)
@@ -24,7 +24,7 @@ returns-else-failed-2 g c =
     let after_instance = way_of g.W.Write.contents c.put_instance.new.out c.put_instance.new.piece.items in
     let after_found = way_of g.W.Write.contents c.put_found.new.out c.put_found.new.piece.items in
     let last = way_of g.W.Write.contents c.hand_over.new.out c.hand_over.new.piece.items in
-    let whole = two_parts start after_instance after_found last (instance_lines c.args.instance.now) (bound_found_lines c.args.found)
+    let whole = two_parts start after_instance after_found last (instance_lines c.args.instance.now) (bound_found_lines c.args.instance.now c.args.found)
     c.put_instance.ensures c.put_found.ensures c.hand_over.ensures.carried in
     text_written start last (bound_report_of c.args.instance.now c.args.found) c.new-piece.ensures (sym c.failed.ensures ∙ c.if-failed.false) whole
     c.hand_over.ensures.empty (sym c.failed-2.ensures ∙ c.if-failed-2.false)

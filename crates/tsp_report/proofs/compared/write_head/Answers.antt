@@ -14,7 +14,7 @@ returns-then-failed-2 g c =
     let after_instance = way_of g.W.Write.contents c.put_instance.new.out c.put_instance.new.piece.items in
     let after_basis = way_of g.W.Write.contents c.put_basis.new.out c.put_basis.new.piece.items in
     let last = way_of g.W.Write.contents c.hand_over.new.out c.hand_over.new.piece.items in
-    let whole = two_parts start after_instance after_basis last (instance_lines c.args.instance.now) (basis_lines c.args.basis)
+    let whole = two_parts start after_instance after_basis last (instance_lines c.args.instance.now) (basis_lines c.args.instance.now c.args.basis)
     c.put_instance.ensures c.put_basis.ensures c.hand_over.ensures.carried in
     text_stopped start last (head_of c.args.instance.now c.args.basis) c.new-piece.ensures (sym c.failed.ensures ∙ c.if-failed.false) whole
     (sym c.failed-2.ensures ∙ c.if-failed-2.true)
@@ -25,7 +25,7 @@ returns-else-failed-2 g c =
     let after_instance = way_of g.W.Write.contents c.put_instance.new.out c.put_instance.new.piece.items in
     let after_basis = way_of g.W.Write.contents c.put_basis.new.out c.put_basis.new.piece.items in
     let last = way_of g.W.Write.contents c.hand_over.new.out c.hand_over.new.piece.items in
-    let whole = two_parts start after_instance after_basis last (instance_lines c.args.instance.now) (basis_lines c.args.basis)
+    let whole = two_parts start after_instance after_basis last (instance_lines c.args.instance.now) (basis_lines c.args.instance.now c.args.basis)
     c.put_instance.ensures c.put_basis.ensures c.hand_over.ensures.carried in
     text_written start last (head_of c.args.instance.now c.args.basis) c.new-piece.ensures (sym c.failed.ensures ∙ c.if-failed.false) whole
     c.hand_over.ensures.empty (sym c.failed-2.ensures ∙ c.if-failed-2.false)

@@ -13,7 +13,7 @@ returns-then-failed-2 g c =
     let after_instance = way_of g.W.Write.contents c.put_instance.new.out c.put_instance.new.piece.items in
     let after_verdict = way_of g.W.Write.contents c.put_verdict.new.out c.put_verdict.new.piece.items in
     let last = way_of g.W.Write.contents c.hand_over.new.out c.hand_over.new.piece.items in
-    let whole = two_parts start after_instance after_verdict last (instance_lines c.args.instance.now) (verdict_lines c.args.verdict)
+    let whole = two_parts start after_instance after_verdict last (instance_lines c.args.instance.now) (verdict_lines c.args.instance.now c.args.verdict)
     c.put_instance.ensures c.put_verdict.ensures c.hand_over.ensures.carried in
     text_stopped start last (report_of c.args.instance.now c.args.verdict) c.new-piece.ensures (sym c.failed.ensures ∙ c.if-failed.false) whole
     (sym c.failed-2.ensures ∙ c.if-failed-2.true)
@@ -24,7 +24,7 @@ returns-else-failed-2 g c =
     let after_instance = way_of g.W.Write.contents c.put_instance.new.out c.put_instance.new.piece.items in
     let after_verdict = way_of g.W.Write.contents c.put_verdict.new.out c.put_verdict.new.piece.items in
     let last = way_of g.W.Write.contents c.hand_over.new.out c.hand_over.new.piece.items in
-    let whole = two_parts start after_instance after_verdict last (instance_lines c.args.instance.now) (verdict_lines c.args.verdict)
+    let whole = two_parts start after_instance after_verdict last (instance_lines c.args.instance.now) (verdict_lines c.args.instance.now c.args.verdict)
     c.put_instance.ensures c.put_verdict.ensures c.hand_over.ensures.carried in
     text_written start last (report_of c.args.instance.now c.args.verdict) c.new-piece.ensures (sym c.failed.ensures ∙ c.if-failed.false) whole
     c.hand_over.ensures.empty (sym c.failed-2.ensures ∙ c.if-failed-2.false)

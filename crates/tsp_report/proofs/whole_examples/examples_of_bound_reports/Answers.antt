@@ -15,3 +15,7 @@ returns-clause-no_tour c = refl
 pub returns-clause-no : goal.returns-clause-no
 unfolding digits
 returns-clause-no c = refl
+
+pub returns-clause-unjudged : goal.returns-clause-unjudged
+unfolding digits
+returns-clause-unjudged c = refl

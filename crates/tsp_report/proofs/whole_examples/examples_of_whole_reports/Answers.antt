@@ -23,3 +23,7 @@ returns-clause-optimal_routes c = refl
 pub returns-clause-bounded_routes : goal.returns-clause-bounded_routes
 unfolding digits
 returns-clause-bounded_routes c = refl
+
+pub returns-clause-unjudged : goal.returns-clause-unjudged
+unfolding digits
+returns-clause-unjudged c = refl

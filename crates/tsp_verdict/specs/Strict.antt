@@ -1,0 +1,58 @@
+-- Unknown keywords as a reason, where it is asked that they be one: after all other reasons, whatever those are against.
+use Rattle.std.specs.Prelude.{◌≡◌, Bool, true, false, ℤ, List, [], ◌∷◌, ℕ, Option}
+use Rattle.tsp_draft.specs.Fields.{Fields}
+use Rattle.tsp_reason.specs.declared.basis.Basis.{Basis}
+use Rattle.tsp_reason.specs.declared.basis.Basis.TheVariants as bases
+use Rattle.tsp_reason.specs.declared.certificate.Certificate.{Certificate}
+use Rattle.tsp_reason.specs.declared.verdict.BoundVerdict.{BoundVerdict}
+use Rattle.tsp_reason.specs.declared.verdict.BoundVerdict.TheVariants as bounds
+use Rattle.tsp_reason.specs.declared.verdict.Reason.TheVariants.{NotJudged}
+use Rattle.tsp_reason.specs.declared.verdict.Verdict.{Verdict}
+use Rattle.tsp_reason.specs.declared.verdict.Verdict.TheVariants.{Tour, Routes, No}
+use Rattle.tsp_verdict.specs.Basis.{IsBasis}
+use Rattle.tsp_verdict.specs.Bounded.{IsBoundVerdict}
+use Rattle.tsp_verdict.specs.SolutionVerdict.{IsVerdictWith}
+
+-- it is asked that unknown keywords be a reason, and a line has one
+abbrev pub refuses : Bool → List (List ℕ × List ℕ) → Bool
+refuses false lines = false
+refuses true [] = false
+refuses true (line ∷ lines) = true
+
+abbrev pub is_unjudged : Bool → Fields → Bool
+is_unjudged strict instance = refuses strict instance.others
+
+-- an accepted solution is rejected where unknown keywords are a reason, and a rejected one keeps its own
+abbrev pub strict_verdict : Bool → Verdict → Verdict
+strict_verdict false verdict = verdict
+strict_verdict true (Tour length bound) = No NotJudged
+strict_verdict true (Routes length routes least bound) = No NotJudged
+strict_verdict true (No reason) = No reason
+
+abbrev pub strict_bound : Bool → BoundVerdict → BoundVerdict
+strict_bound false found = found
+strict_bound true (bounds.Bound bound) = bounds.No NotJudged
+strict_bound true bounds.NoSolution = bounds.No NotJudged
+strict_bound true (bounds.No reason) = bounds.No reason
+
+abbrev pub strict_basis : Bool → Basis → Basis
+strict_basis false basis = basis
+strict_basis true (bases.Tours bound) = bases.No NotJudged
+strict_basis true bases.NoSolution = bases.No NotJudged
+strict_basis true (bases.Routes least bound) = bases.No NotJudged
+strict_basis true (bases.No reason) = bases.No reason
+
+-- the verdict on a solution, where it is asked that unknown keywords be a reason, or isn't
+abbrev pub IsVerdictAsked : Bool → Option (Certificate × Fields) → Option ℤ → Fields → Fields → Verdict → Type 0
+IsVerdictAsked strict given claimed instance solution verdict = (plain : Verdict)
+    × IsVerdictWith given claimed instance solution plain × (verdict ≡ strict_verdict (is_unjudged strict instance) plain)
+
+-- the same without a solution
+abbrev pub IsBoundAsked : Bool → Certificate → Fields → Fields → BoundVerdict → Type 0
+IsBoundAsked strict by instance certificate found = (plain : BoundVerdict)
+    × IsBoundVerdict by instance certificate plain × (found ≡ strict_bound (is_unjudged strict instance) plain)
+
+-- and of what is known of all solutions
+abbrev pub IsBasisAsked : Bool → Option (Certificate × Fields) → Fields → Basis → Type 0
+IsBasisAsked strict given instance basis = (plain : Basis)
+    × IsBasis given instance plain × (basis ≡ strict_basis (is_unjudged strict instance) plain)
