@@ -86,7 +86,8 @@ returns-clause-size c =
 
 pub returns-then-places-eq0-clause-end : goal.returns-then-places-eq0-clause-end
 returns-then-places-eq0-clause-end c =
-    no_end_at_point c.args.bytes.now c.front_sign-negative.result.1 c.front_digits-whole.result.1 c.front_digits-part.result.1 c.if-point-bytes.true c.if-bytes-point-eq46.true (rw take_rest at c.front_digits-part.ensures.count)
+    no_end_at_point c.args.bytes.now c.front_sign-negative.result.1 c.front_digits-whole.result.1 c.front_digits-part.result.1
+    c.if-point-bytes.true c.if-bytes-point-eq46.true (rw take_rest at c.front_digits-part.ensures.count)
     c.if-count-eq0.true c.if-places-eq0.true
     ∙ decimal_ends c.args.bytes.now c.front_sign-negative.result.1 c.front_digits-whole.result.1 c.front_sign-negative.ensures.count (rw take_rest at c.front_digits-whole.ensures.count)
 
@@ -96,7 +97,8 @@ returns-then-bytes-point-eq46-clause-end c =
       | else-count-eq0-via-then-count-eq0+else-places-eq0 w ↦ omega (arith, w.if-places-eq0.false)
       | else-count-eq0-via-else-count-eq0 w ↦ omega (arith, w.if-count-eq0.false)
     ] in
-    ends_past_point c.args.bytes.now c.front_sign-negative.result.1 c.front_digits-whole.result.1 c.front_digits-part.result.1 c.if-point-bytes.true c.if-bytes-point-eq46.true (rw take_rest at c.front_digits-part.ensures.count) some
+    ends_past_point c.args.bytes.now c.front_sign-negative.result.1 c.front_digits-whole.result.1 c.front_digits-part.result.1
+    c.if-point-bytes.true c.if-bytes-point-eq46.true (rw take_rest at c.front_digits-part.ensures.count) some
     ∙ decimal_ends c.args.bytes.now c.front_sign-negative.result.1 c.front_digits-whole.result.1 c.front_sign-negative.ensures.count (rw take_rest at c.front_digits-whole.ensures.count)
 
 pub returns-then-count-eq0-2-clause-end : goal.returns-then-count-eq0-2-clause-end
