@@ -1,1 +1,2 @@
+-- The files of lemmas of this crate. Crates above may import them.
 pub mod OnTexts

@@ -1,4 +1,5 @@
--- Orders on numbers of 64 bits as code shows them, and the weights that a box bounds.
+-- Orders on numbers of 64 bits as code shows them, and the weights that a box bounds. For `Search::is_left_alone` in
+-- src/search.rt and others.
 use Rattle.std.proofs.Common.{◌≡◌, Bool, true, false, ℤ, pos, negsuc, neg_ℤ, ◌+ℤ◌, ◌-ℤ◌, ◌*ℤ◌, ◌≤ℤ◌, ◌<ℤ◌, w64, to_z, of_z, SFits, subst, arith}
 use Rattle.std.specs.Bool.{OnTrue}
 use Rattle.std.specs.Int.Signed.{lt_z, le_z}

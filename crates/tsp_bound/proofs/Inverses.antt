@@ -1,4 +1,4 @@
--- A division by the inverse of the divisor.
+-- A division by the inverse of the divisor. For `cost_of` in src/search.rt.
 use Rattle.std.proofs.Common.{◌≡◌, ℕ, zero, suc, ◌+◌, ◌*◌, ◌-◌, ◌/◌, ◌^◌, ◌<◌, ◌≤◌, arith}
 use Rattle.std.proofs.Common.{ℤ, pos, negsuc, ◌+ℤ◌, ◌*ℤ◌, ◌≤ℤ◌, ◌≢◌, w64, to_z, of_z, SFits}
 use Rattle.std.specs.Prelude.{nat_abs}

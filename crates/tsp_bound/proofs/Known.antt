@@ -1,4 +1,4 @@
--- The links that are known of nodes, and the best ones of components.
+-- The links that are known of nodes, and the best ones of components. For `search_again` in src/rounds.rt and others.
 use Rattle.std.proofs.Common.{◌≡◌, ◌≢◌, ℕ, ◌+◌, ◌<◌, not, List, Option, None, Some, ℤ, ◌≤ℤ◌, inl, inr, arith, ap, sym, ◌∙◌, subst, get_or, set, length, IfSome}
 use Rattle.std.specs.Prelude.{MatchOption}
 use Rattle.std.proofs.Math.ListN.{length-set}

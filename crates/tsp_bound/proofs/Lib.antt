@@ -1,3 +1,4 @@
+-- The files of lemmas of this crate. Crates above may import them.
 pub mod Boxed
 pub mod Joining
 pub mod Known

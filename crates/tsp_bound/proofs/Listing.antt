@@ -1,4 +1,5 @@
--- The links that a pass keeps of each place: what one more does, and what they say of those that aren't kept.
+-- The links that a pass keeps of each place: what one more does, and what they say of those that aren't kept. For
+-- `Listed::best_kept` in src/listed.rt and others.
 use Rattle.std.proofs.Common.{◌≡◌, ◌≢◌, ℕ, ◌+◌, ◌*◌, ◌<◌, ◌≤◌, List, Option, None, Some, length, set, drop, take, get_or, ℤ, pos, ◌≤ℤ◌, ◌<ℤ◌, ◌⊎◌, inl, inr, refl, arith, ap, sym, subst, ◌∙◌, IfSome, w64, to_z, of_z, SFits}
 use Rattle.std.proofs.lemmas.Bool.{cases_eq, cases_lt}
 use Rattle.std.proofs.lemmas.Int.{ints, to_z-of_z}

@@ -1,4 +1,5 @@
--- What multipliers take off the weights of a node's pairs.
+-- What multipliers take off the weights of a node's pairs. For `WeightsBoxedWeights::count_lowered` in src/weights.rt and
+-- others.
 use Rattle.std.proofs.Common.{◌≡◌, ◌≢◌, ℕ, zero, suc, ◌+◌, ◌<◌, ◌==◌, List, [], ◌∷◌, drop, length, map, get_or, ℤ, FitsSigned, inl, inr, refl, arith, ap, sym, ◌∙◌, drop-cons, add-one}
 use Rattle.std.specs.Int.{w64}
 use Rattle.std.specs.Prelude.{pos, neg_ℤ, ◌+ℤ◌, ◌-ℤ◌, ◌<ℤ◌, if◌then◌else◌}

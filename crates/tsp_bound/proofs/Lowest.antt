@@ -1,4 +1,5 @@
--- The best of the nodes outside, where the weights to some of them are lowered.
+-- The best of the nodes outside, where the weights to some of them are lowered. For `Placed::lowered` and `Placed::nearest` in
+-- src/placed.rt.
 use Rattle.std.proofs.Common.{◌≡◌, ◌≢◌, ℕ, zero, suc, ◌+◌, ◌<◌, Bool, true, List, [], ◌∷◌, length, ℤ, ◌≤ℤ◌, ◌⊎◌, inl, inr, refl, arith, ap, sym, subst, ◌∙◌}
 use Rattle.std.specs.Int.{w64}
 use Rattle.std.specs.Prelude.{slice_index_or, FitsSigned}

@@ -1,4 +1,4 @@
--- Least joins over the places of an order are some over its nodes, and their weight.
+-- Least joins over the places of an order are some over its nodes, and their weight. For `grow` in src/part.rt and others.
 use Rattle.std.proofs.Common.{◌≡◌, ℕ, ◌+◌, ◌*◌, ◌^◌, ◌<◌, ◌≤◌, List, [], ◌∷◌, ◌++◌, map, take, length, get_or, ℤ, refl, arith, ap, sym, ◌∙◌, subst, Option, Result, Ok, Err, IfOk, IfSome}
 use Rattle.std.specs.Prelude.{pos, neg_ℤ, ◌-ℤ◌, slice_index_or}
 use Rattle.std.specs.Global.{Vec}

@@ -1,4 +1,4 @@
--- What holds of all rows or columns that a loop has passed.
+-- What holds of all rows or columns that a loop has passed. For `first_broken_of_row` and `dual_bound` in src/assignment.rt.
 use Rattle.std.proofs.Common.{◌≢◌, ℕ, ◌+◌, ◌<◌, ◌≤◌, below_more, arith}
 use Rattle.std.specs.Prelude.{ℤ, ◌≤ℤ◌, ◌<ℤ◌}
 use Rattle.std.proofs.lemmas.Int.{ints}

@@ -1,4 +1,4 @@
--- Least joins over places are least joins over nodes.
+-- Least joins over places are least joins over nodes. For `grow` in src/part.rt and others.
 use Rattle.std.proofs.Common.{◌≡◌, ℕ, ◌<◌, not, Bool, false, List, [], ◌∷◌, ◌++◌, get_or, map, ℤ, ◌≤ℤ◌, ap, ap₂, ◌∙◌, subst}
 use Rattle.std.specs.Prelude.{if◌then◌else◌}
 use Rattle.std.specs.List.{All, AllByRecursion}

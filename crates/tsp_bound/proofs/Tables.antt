@@ -1,4 +1,5 @@
--- The numbers on pairs, by node: the table that the code makes, and what it says of one node.
+-- The numbers on pairs, by node: the table that the code makes, and what it says of one node. For `ByNode::at` and `lists_of`
+-- in src/by_node.rt.
 use Rattle.std.proofs.Common.{◌≡◌, ◌≢◌, ℕ, zero, suc, ◌+◌, ◌<◌, ◌≤◌, ◌==◌, ◌&&◌, ◌||◌, Bool, true, false, List, [], ◌∷◌, ◌++◌, length, take, get_or, ℤ, ◌+ℤ◌, inl, inr, refl, arith, ap, ap₂, sym, subst, ◌∙◌}
 use Rattle.std.specs.Prelude.{pos, if◌then◌else◌}
 use Rattle.std.specs.Global.{Vec}

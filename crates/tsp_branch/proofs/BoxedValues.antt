@@ -1,4 +1,5 @@
--- The weights of a leaf beside what boxes bound: the cost at the scale and the numbers of both nodes.
+-- The weights of a leaf beside what boxes bound: the cost at the scale and the numbers of both nodes. For
+-- `BoxedLeafBoxedWeights::count_lowered` in src/boxed_leaf.rt and others.
 use Rattle.std.proofs.Common.{◌≡◌, ◌≢◌, ◌∙◌, ℕ, zero, suc, ◌<◌, ◌==◌, ◌&&◌, Bool, true, false, List, [], ◌∷◌, length, map, get_or, ℤ, ◌≤ℤ◌, inl, inr, refl, ap, sym, subst, arith}
 use Rattle.std.specs.Int.{w64, int_wrap}
 use Rattle.std.specs.Prelude.{pos, negsuc, neg_ℤ, ◌+ℤ◌, ◌*ℤ◌, ◌<ℤ◌, reverse}

@@ -1,4 +1,4 @@
--- Values that decisions close one after the other.
+-- Values that decisions close one after the other. For `close_all` in src/closing.rt.
 use Rattle.std.proofs.Common.{ℕ, ◌+◌, ◌<◌, List, get_or, length, inl, inr, refl, ◌∙◌, arith}
 use Rattle.std.specs.Prelude.{ℤ}
 use Rattle.std.proofs.lemmas.Bool.{cases_eq}

@@ -1,4 +1,4 @@
--- The weights of a leaf under the decisions of its case.
+-- The weights of a leaf under the decisions of its case. For `CaseLeafWeights::fill` in src/leaf_rows.rt and others.
 use Rattle.std.proofs.Common.{◌≡◌, ◌∙◌, ℕ, ℤ, Bool, true, false, List, refl, inr, sym, subst, arith}
 use Rattle.std.specs.Int.{w64, int_wrap}
 use Rattle.std.specs.Prelude.{pos, neg_ℤ, ◌+ℤ◌, ◌<ℤ◌}

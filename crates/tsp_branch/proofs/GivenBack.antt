@@ -1,4 +1,4 @@
--- What a leaf gives back, in the order in which code sums it.
+-- What a leaf gives back, in the order in which code sums it. For `given_back` in src/given_back.rt and others.
 use Rattle.std.proofs.Common.{◌≡◌, ◌∙◌, ℕ, Bool, false, ◌+◌, ◌*◌, ◌<◌, ◌^◌, List, [], ◌∷◌, ◌++◌, drop, length, get_or, ℤ, FitsSigned, inl, inr, refl, ap, sym, arith, to_z, of_z, drop-cons, add-one}
 use Rattle.std.specs.Prelude.{pos, neg_ℤ, ◌+ℤ◌, ◌-ℤ◌, ◌*ℤ◌, reverse}
 use Rattle.std.specs.Int.{w64, w128}

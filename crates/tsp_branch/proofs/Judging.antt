@@ -1,4 +1,4 @@
--- The findings of a leaf, from the numbers in the code's memory.
+-- The findings of a leaf, from the numbers in the code's memory. For `judge_leaf` in src/cycle_judge.rt and others.
 use Rattle.std.proofs.Common.{◌≡◌, ◌∙◌, ℕ, ◌^◌, ◌≤◌, Bool, true, false, List, [], ◌∷◌, length, take, drop, ℤ, refl, sym, subst, arith}
 use Rattle.std.specs.Prelude.{Option, None, Some, pos, neg_ℤ}
 use Rattle.std.specs.List.{All}

@@ -1,4 +1,5 @@
--- Weights that agree have the same least 1-trees, so the bound of a leaf's weights is that of the leaf.
+-- Weights that agree have the same least 1-trees, so the bound of a leaf's weights is that of the leaf. For `leaf_bound` in
+-- src/leaf.rt and others.
 use Rattle.std.proofs.Common.{◌≡◌, ℕ, ◌+◌, ◌*◌, ◌^◌, List, [], ◌∷◌, length, ap₂, refl, sym, arith, ◌∙◌, to_z, of_z, subst}
 use Rattle.std.specs.Int.{w128}
 use Rattle.std.specs.Prelude.{ℤ, pos, neg_ℤ, ◌+ℤ◌, ◌-ℤ◌, ◌*ℤ◌}

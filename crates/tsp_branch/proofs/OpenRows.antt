@@ -1,4 +1,5 @@
--- Rows in which all decisions of a case have closed what they don't allow, and their least numbers.
+-- Rows in which all decisions of a case have closed what they don't allow, and their least numbers. For
+-- `AllowedRows::least_from` in src/rows.rt and others.
 use Rattle.std.proofs.Common.{◌≡◌, ◌≢◌, ℕ, ◌+◌, ◌<◌, Bool, true, false, List, [], ◌∷◌, reverse, get_or, inl, inr, sym, ◌∙◌, subst, arith}
 use Rattle.std.specs.Prelude.{ℤ, ◌↔◌, ◌≤ℤ◌, ◌<ℤ◌}
 use Rattle.std.specs.List.{All, AllByRecursion, Contains, filter}

@@ -1,4 +1,5 @@
--- The sets that two nodes are both in, by the places of each node's sets.
+-- The sets that two nodes are both in, by the places of each node's sets. For `CaseLeaf::are_exact` in src/leaf_rows.rt and
+-- others.
 use Rattle.std.proofs.Common.{◌≡◌, ◌≢◌, ℕ, zero, suc, ◌+◌, ◌<◌, ◌==◌, ◌&&◌, ◌||◌, Bool, true, false, List, [], ◌∷◌, ◌++◌, length, drop, drop-cons, add-one, get_or, inl, inr, refl, ap, sym, ◌∙◌, arith}
 use Rattle.std.specs.Prelude.{ℤ, pos, ◌+ℤ◌, ◌*ℤ◌, ◌≤ℤ◌, if◌then◌else◌}
 use Rattle.std.specs.List.{All, AllByRecursion}

@@ -1,4 +1,4 @@
--- Sums of least weights, node by node.
+-- Sums of least weights, node by node. For `AllowedRows::sum_of_least` and `AllowedRows::bound` in src/rows.rt.
 use Rattle.std.proofs.Common.{◌≡◌, ◌≢◌, ℕ, zero, suc, ◌+◌, ◌^◌, ◌<◌, ◌≤◌, ◌==◌, List, inl, inr, refl, sym, ap, subst, ◌∙◌, arith, add-one, FitsSigned, to_z, of_z}
 use Rattle.std.specs.Prelude.{ℤ, pos, neg_ℤ, ◌+ℤ◌, if◌then◌else◌}
 use Rattle.std.specs.Int.{w64, w128}

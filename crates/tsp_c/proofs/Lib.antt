@@ -1,3 +1,4 @@
+-- The files of lemmas of this crate. Crates above may import those that are public.
 pub mod AsBox
 mod Counted
 mod Distances

@@ -1,4 +1,4 @@
--- What the status of a run on texts says.
+-- What the status of a run on texts says. For `ended` in src/ended.rt.
 use Rattle.std.proofs.Common.{◌≡◌, ℕ, ◌≤◌, List, [], Bool, true, false, Result, Ok, Err, inl, inr, refl, sym, subst, arith}
 use Rattle.std.specs.Prelude.{IsErr}
 use Rattle.tsp_stream.specs.declared.output.WriteFault.TheVariants as write_faults

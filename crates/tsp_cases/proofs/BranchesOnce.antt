@@ -1,4 +1,4 @@
--- One pass over the steps that finds the first branch on a pair decided above it.
+-- One pass over the steps that finds the first branch on a pair decided above it. For `first_twice` in src/twice.rt.
 use Rattle.std.proofs.Common.{◌≡◌, ◌∙◌, ℕ, suc, ◌+◌, ◌<◌, ◌≤◌, Bool, true, false, List, [], ◌∷◌, ◌++◌, drop, length, get_or, ℤ, inl, inr, refl, ap, ap₂, sym, subst, add-one}
 use Rattle.std.specs.Prelude.{None, Some}
 use Rattle.std.specs.List.{All, AllByRecursion}

@@ -1,4 +1,5 @@
--- One pass over the steps that finds the first branch that doesn't begin where it may.
+-- One pass over the steps that finds the first branch that doesn't begin where it may. For `first_bad_branch` in
+-- src/bad_branch.rt and others.
 use Rattle.std.proofs.Common.{◌≡◌, ◌∙◌, ℕ, ◌+◌, ◌-◌, ◌<◌, ◌≤◌, List, [], ◌∷◌, ◌++◌, drop, length, get_or, ℤ, refl, ap, sym, subst, arith}
 use Rattle.std.specs.Prelude.{None}
 use Rattle.std.specs.List.{All, AllByRecursion}

@@ -1,4 +1,5 @@
--- A cycle uses a pair or not, so it keeps the decisions of an open case until that is closed.
+-- A cycle uses a pair or not, so it keeps the decisions of an open case until that is closed. For the law `steps_leave_cases`
+-- in src/laws.rt and others.
 use Rattle.std.proofs.Common.{◌≡◌, ℕ, ◌==◌, ◌&&◌, Bool, true, false, List, [], ◌∷◌, length, ℤ, ◌≤ℤ◌, ◌⊎◌, inl, inr, refl, sym, ap, ◌∙◌, subst, arith}
 use Rattle.std.specs.List.{All, AllByRecursion, Contains, list_any}
 use Rattle.std.proofs.lemmas.Bool.{cases_Bool, both_ways, and_parts, and_from, eqb-true, eq-eqb}

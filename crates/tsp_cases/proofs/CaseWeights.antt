@@ -1,4 +1,4 @@
--- The weights of code at a leaf are those of its case.
+-- The weights of code at a leaf are those of its case. For `judge_numbers` in src/good_numbers.rt.
 use Rattle.std.proofs.Common.{◌≡◌, ℕ, ◌≤◌, List, [], ◌∷◌, length, Option, None, Some, true, ℤ, ◌≤ℤ◌, ◌∙◌, ap, sym, subst, arith}
 use Rattle.std.specs.Prelude.{pos, ◌+ℤ◌, ◌-ℤ◌, ◌*ℤ◌, MatchOption}
 use Rattle.std.specs.List.{All, AllByRecursion}

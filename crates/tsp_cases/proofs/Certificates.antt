@@ -1,4 +1,5 @@
--- What a certificate's leaves show holds of every cycle that keeps the given decisions.
+-- What a certificate's leaves show holds of every cycle that keeps the given decisions. For the laws `case_trees_bound_cycles`
+-- and `case_tree_bounds_are_unique` in src/laws.rt.
 use Rattle.std.proofs.Common.{◌≡◌, ℕ, Bool, true, false, List, [], ◌∷◌, Option, None, Some, ℤ, ◌≤ℤ◌, inl, inr, refl, ap, arith}
 use Rattle.std.specs.Prelude.{pos}
 use Rattle.std.specs.List.{All, AllByRecursion}

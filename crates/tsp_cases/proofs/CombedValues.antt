@@ -1,4 +1,5 @@
--- A weight under combs, once the sets of a node are added to what is there as if no set had two nodes.
+-- A weight under combs, once the sets of a node are added to what is there as if no set had two nodes. For
+-- `CaseLeaf::fill_combed` and `CaseLeaf::fill_combed_at` in src/leaf_rows.rt of tsp_branch.
 use Rattle.std.proofs.Common.{◌≡◌, ℕ, ℤ, List, arith, sym, subst}
 use Rattle.std.specs.Prelude.{pos, neg_ℤ}
 use Rattle.std.specs.List.{All}

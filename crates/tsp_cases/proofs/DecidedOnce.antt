@@ -1,4 +1,5 @@
--- Where no two decisions are on the same nodes, a weight changes by no more than one decision does.
+-- Where no two decisions are on the same nodes, a weight changes by no more than one decision does. For
+-- `CaseLeaf::bound_by_trees` in src/case_leaf.rt of tsp_branch and others.
 use Rattle.std.proofs.Common.{◌≡◌, ◌∙◌, ℕ, zero, suc, ◌==◌, ◌&&◌, Bool, true, false, List, [], ◌∷◌, ◌++◌, ◌⊎◌, inl, inr, refl, ap, sym, arith}
 use Rattle.std.specs.Prelude.{pos, neg_ℤ, ◌+ℤ◌, reverse}
 use Rattle.std.specs.List.{AllByRecursion}

@@ -1,4 +1,5 @@
--- A cycle that keeps decisions uses the taken pairs and none of the avoided.
+-- A cycle that keeps decisions uses the taken pairs and none of the avoided. For the laws `decided_bounds_bound_cycles` and
+-- `fixed_bounds_bound_tours` in src/laws.rt.
 use Rattle.std.proofs.Common.{ℕ, Bool, true, false, List, [], ◌∷◌, map, ℤ, sym, subst}
 use Rattle.std.specs.Prelude.{if◌then◌else◌}
 use Rattle.std.specs.List.{All, AllByRecursion}

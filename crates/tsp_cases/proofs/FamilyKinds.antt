@@ -1,4 +1,4 @@
--- Sets as a family: a lone set or a comb, others, and none.
+-- Sets as a family: a lone set or a comb, others, and none. For `have_each_once` in src/other_families.rt and others.
 use Rattle.std.proofs.Common.{◌≡◌, ◌∙◌, ℕ, suc, ◌+◌, ◌-◌, ◌<◌, ◌≤◌, false, List, [], ◌∷◌, length, get_or, inl, inr, refl, ap, sym, subst, arith}
 use Rattle.std.specs.Prelude.{pos, Some}
 use Rattle.std.specs.List.{All}

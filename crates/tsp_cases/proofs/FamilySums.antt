@@ -1,4 +1,5 @@
--- Sums of the numbers of families, each times its multiplier, in the order in which code takes them.
+-- Sums of the numbers of families, each times its multiplier, in the order in which code takes them. For `sum_with` in
+-- src/good_numbers.rt.
 use Rattle.std.proofs.Common.{◌≡◌, ◌∙◌, ℕ, suc, Bool, true, false, ◌+◌, ◌*◌, ◌<◌, ◌^◌, List, [], ◌∷◌, drop, length, get_or, ℤ, ◌≤ℤ◌, FitsSigned, refl, ap, arith, to_z, of_z, drop-cons, add-one}
 use Rattle.std.specs.Prelude.{pos, ◌+ℤ◌, ◌*ℤ◌}
 use Rattle.std.specs.Int.{w128}

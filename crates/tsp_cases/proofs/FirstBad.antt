@@ -1,4 +1,4 @@
--- Families one after the other: their numbers, and the first one that isn't good.
+-- Families one after the other: their numbers, and the first one that isn't good. For `judge_families` in src/good_families.rt.
 use Rattle.std.proofs.Common.{◌≡◌, ◌∙◌, ℕ, suc, ◌+◌, ◌<◌, ◌≤◌, List, [], ◌∷◌, ◌++◌, length, get_or, inl, inr, ap, sym, subst, arith, length-append}
 use Rattle.std.specs.Prelude.{Some}
 use Rattle.std.specs.Global.{Vec}

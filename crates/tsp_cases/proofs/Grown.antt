@@ -1,4 +1,4 @@
--- The numbers of a leaf, difference by difference.
+-- The numbers of a leaf, difference by difference. For `add_differences` in src/numbers.rt.
 use Rattle.std.proofs.Common.{◌≡◌, ◌∙◌, ℕ, ◌+◌, ◌*◌, ◌<◌, ◌^◌, List, drop, length, get_or, ℤ, FitsSigned, inl, inr, refl, ap, arith, to_z, of_z, drop-cons, add-one}
 use Rattle.std.specs.Prelude.{pos, neg_ℤ, ◌+ℤ◌}
 use Rattle.std.specs.Int.{w64, w128}

@@ -1,4 +1,5 @@
--- The bound of a least 1-tree under weights less the crossings of families.
+-- The bound of a least 1-tree under weights less the crossings of families. For the law `leaf_bounds_bound_cycles` in
+-- src/laws.rt.
 use Rattle.std.proofs.Common.{◌≡◌, ℕ, zero, suc, List, [], ◌∷◌, ℤ, ◌≤ℤ◌, refl, arith, ap, ap₂, subst₂}
 use Rattle.std.specs.Prelude.{pos, negsuc, ◌*ℤ◌, ◌-ℤ◌, ◌+ℤ◌, Bool}
 use Rattle.std.specs.List.{AllByRecursion}

@@ -1,4 +1,4 @@
--- One pass over the leaves: what its code finds at a step settles the whole.
+-- One pass over the leaves: what its code finds at a step settles the whole. For `judge_leaves` in src/pass.rt.
 use Rattle.std.proofs.Common.{◌≡◌, ◌∙◌, ℕ, zero, suc, ◌+◌, ◌^◌, ◌<◌, ◌≤◌, Bool, true, false, List, [], ◌∷◌, ◌++◌, length, drop, get_or, ℤ, inl, inr, refl, sym, ap, subst, arith, add-one, length-append}
 use Rattle.std.specs.Prelude.{Option, None, Some, IfSome}
 use Rattle.std.specs.List.{All}

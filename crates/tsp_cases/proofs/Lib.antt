@@ -1,3 +1,4 @@
+-- The files of lemmas of this crate. Crates above may import them.
 pub mod CaseLaws
 pub mod Certificates
 pub mod Combs

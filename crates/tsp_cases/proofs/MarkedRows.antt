@@ -1,4 +1,5 @@
--- The marks in rows that are kept: a number between two nodes, and the decisions of a case.
+-- The marks in rows that are kept: a number between two nodes, and the decisions of a case. For `KeptRows::leave` in
+-- src/kept.rt and others.
 use Rattle.std.proofs.Common.{◌≡◌, ◌≢◌, ℕ, zero, suc, ◌+◌, ◌-◌, ◌<◌, ◌≤◌, ◌==◌, ◌&&◌, Bool, true, false, Option, None, List, [], ◌∷◌, ◌++◌, length, replicate, take, inl, inr, refl, sym, ap, subst, ◌∙◌, arith}
 use Rattle.std.specs.Prelude.{ℤ, pos, neg_ℤ, ◌+ℤ◌, ◌*ℤ◌, if◌then◌else◌, slice_index_or as get_or}
 use Rattle.std.specs.Int.{w64, int_wrap}

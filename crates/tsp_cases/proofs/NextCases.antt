@@ -1,4 +1,4 @@
--- The stack of a cycle over the steps, whose last decision is at the end of a list.
+-- The stack of a cycle over the steps, whose last decision is at the end of a list. For `OpenCase::next` in src/open_case.rt.
 use Rattle.std.proofs.Common.{◌≡◌, ◌+◌, false, List, [], ◌∷◌, ◌++◌, refl, ap, ◌∙◌}
 use Rattle.std.proofs.lemmas.List.{reverse-append}
 use Rattle.tsp_cases.specs.declared.decision.Decision.{Decision}

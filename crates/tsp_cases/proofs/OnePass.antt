@@ -1,5 +1,5 @@
--- The first bad leaf, and the first branch that comes twice, as one pass over the steps finds them, and that each is the first by
--- places.
+-- The first bad leaf, and the first branch that comes twice, as one pass over the steps finds them, and that each is the first
+-- by places. For the law `examples_of_verdicts` in src/examples.rt.
 use Rattle.std.proofs.Common.{◌≡◌, ℕ, zero, suc, ◌+◌, ◌-◌, ◌<◌, Bool, true, false, List, [], ◌∷◌, get_or, take, length, ℤ, inl, inr, subst, arith}
 use Rattle.std.specs.Prelude.{◌⊎◌}
 use Rattle.tsp_format.specs.Steps as listed

@@ -1,4 +1,4 @@
--- The decisions of a case by node, as decisions come and go.
+-- The decisions of a case by node, as decisions come and go. For `NodeDecisions::add` in src/node_decisions.rt and others.
 use Rattle.std.proofs.Common.{◌≡◌, ◌≢◌, ℕ, suc, ◌+◌, ◌-◌, ◌<◌, ◌≤◌, ◌==◌, Bool, true, false, List, [], ◌∷◌, ◌++◌, get_or, length, take, drop, inl, inr, refl, ap, sym, subst, ap₂, ◌∙◌, arith}
 use Rattle.std.specs.Prelude.{◌⊎◌, pos}
 use Rattle.std.specs.Global.{Vec}

@@ -1,5 +1,5 @@
 -- One pass over the steps, with a stack of decisions: what the leaves that are left make of the lowest bound so far is what all
--- leaves have.
+-- leaves have. For `judge_leaves` in src/pass.rt.
 use Rattle.std.proofs.Common.{◌≡◌, ◌∙◌, ℕ, suc, Bool, true, false, List, [], ◌∷◌, ◌++◌, length, ℤ, ◌≤ℤ◌, inl, inr, refl, ap, sym, subst, arith}
 use Rattle.std.specs.Prelude.{◌⊎◌, Option, Some, None, IfSome}
 use Rattle.std.specs.List.{All, Any, AllByRecursion}

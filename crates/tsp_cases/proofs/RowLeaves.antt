@@ -1,4 +1,4 @@
--- The bound of a leaf by the least links from each node.
+-- The bound of a leaf by the least links from each node. For the law `row_leaf_bounds_bound_cycles` in src/laws.rt.
 use Rattle.std.proofs.Common.{◌≡◌, ℕ, List, get_or, ℤ, ◌+ℤ◌, ◌≤ℤ◌, arith, subst}
 use Rattle.std.specs.Prelude.{pos, ◌*ℤ◌}
 use Rattle.std.specs.List.{All}

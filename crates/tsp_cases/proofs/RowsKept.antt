@@ -1,4 +1,5 @@
--- Rows that are kept: one row more, other multipliers, and the weights that they give.
+-- Rows that are kept: one row more, other multipliers, and the weights that they give. For `KeptRows::bring_to` in src/kept.rt
+-- and others.
 use Rattle.std.proofs.Common.{◌≡◌, ℕ, zero, suc, ◌+◌, ◌<◌, ◌==◌, List, [], ◌∷◌, ◌++◌, length, replicate, inl, inr, refl, sym, ap, subst, ◌∙◌, arith}
 use Rattle.std.specs.Prelude.{◌⊎◌, ℤ, pos, neg_ℤ, ◌+ℤ◌, ◌*ℤ◌, slice_index_or as get_or}
 use Rattle.std.specs.Int.{w64, int_wrap}

@@ -1,4 +1,5 @@
 -- What the rows of code come to: each set takes its multiplier off the two nodes, and gives it back twice where it has both.
+-- For `KeptRows::bring_to` in src/kept.rt.
 use Rattle.std.proofs.Common.{◌≡◌, ◌≢◌, ℕ, suc, ◌+◌, ◌<◌, ◌==◌, Bool, true, false, not, List, [], ◌∷◌, ◌++◌, length, get_or, inl, inr, refl, ap, sym, subst, ◌∙◌, arith}
 use Rattle.std.specs.Prelude.{ℤ, pos, neg_ℤ, ◌+ℤ◌, ◌*ℤ◌, if◌then◌else◌}
 use Rattle.std.specs.List.{All, AllByRecursion}

@@ -1,4 +1,4 @@
--- Additions to rows and lists, one node or one set after the other.
+-- Additions to rows and lists, one node or one set after the other. For `add_to_nodes` in src/sets.rt and others.
 use Rattle.std.proofs.Common.{◌≡◌, ℕ, suc, ◌+◌, ◌<◌, ◌==◌, List, [], ◌∷◌, ◌++◌, drop, length, get_or, inl, inr, refl, ap, sym, subst, ◌∙◌, drop-cons, add-one}
 use Rattle.std.specs.Prelude.{ℤ, pos, ◌+ℤ◌, if◌then◌else◌}
 use Rattle.std.specs.Global.{Vec}

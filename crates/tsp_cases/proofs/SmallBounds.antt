@@ -1,4 +1,4 @@
--- The bounds of small certificates.
+-- The bounds of small certificates. For the law `examples_of_bounds` in src/examples.rt.
 use Rattle.std.proofs.Common.{◌≡◌, ℕ, ◌+◌, ◌≤◌, ◌==◌, ◌||◌, true, false, List, [], ◌∷◌, length, ℤ, ◌≤ℤ◌, inl, inr, refl, arith, ap₂, subst}
 use Rattle.std.specs.Prelude.{pos, ◌*ℤ◌, replicate, ◌-◌, slice_index, slice_index_or}
 use Rattle.std.specs.Int.Signed.{le_z_yes}

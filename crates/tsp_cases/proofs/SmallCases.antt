@@ -1,4 +1,5 @@
--- Small trees of cases: some that decide each pair once, and some that don't.
+-- Small trees of cases: some that decide each pair once, and some that don't. For the law `examples_of_cases` in
+-- src/examples.rt.
 use Rattle.std.proofs.Common.{◌≡◌, ℕ, Bool, true, false, List, [], ◌∷◌, refl, arith}
 use Rattle.std.proofs.lemmas.Bool.{both_ways}
 use Rattle.std.proofs.lemmas.List.Elements.{All-from_recursion, recursion_from_All}

@@ -1,4 +1,5 @@
--- Links between three nodes, and the bounds of their least weights.
+-- Links between three nodes, and the bounds of their least weights. For the law `examples_of_rows` in src/row_examples.rt and
+-- others.
 use Rattle.std.proofs.Common.{◌≡◌, ◌≢◌, ℕ, ◌-◌, List, [], ◌∷◌, ℤ, ◌≤ℤ◌, inl, inr, refl, sym, subst, arith}
 use Rattle.std.specs.Prelude.{pos, ◌*ℤ◌, ◌+ℤ◌, slice_index_or}
 use Rattle.std.specs.Int.Signed.{le_z_yes}

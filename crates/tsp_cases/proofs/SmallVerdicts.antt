@@ -1,4 +1,5 @@
--- Small combs that are bad, and small trees with a branch that comes twice.
+-- Small combs that are bad, and small trees with a branch that comes twice. For the law `examples_of_verdicts` in
+-- src/examples.rt.
 use Rattle.std.proofs.Common.{◌≡◌, ◌≢◌, ℕ, true, false, [], ◌∷◌, refl, sym, subst, inl, inr, arith}
 use Rattle.std.proofs.lemmas.Bool.{both_ways, cases_eq}
 use Rattle.std.proofs.lemmas.List.Elements.{All-from_recursion}

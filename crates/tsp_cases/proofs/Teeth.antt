@@ -1,4 +1,4 @@
--- Teeth of a handle, set by set, and that they are those of a comb.
+-- Teeth of a handle, set by set, and that they are those of a comb. For `is_comb` in src/good_families.rt and others.
 use Rattle.std.proofs.Common.{◌≡◌, ◌∙◌, ℕ, zero, suc, ◌+◌, ◌*◌, ◌<◌, ◌≤◌, ◌==◌, ◌||◌, Bool, true, false, List, [], ◌∷◌, map, drop, length, get_or, inl, inr, refl, ap, sym, subst, arith, drop-cons, add-one}
 use Rattle.std.specs.Prelude.{◌↔◌}
 use Rattle.std.specs.List.{All, Any, AllPairs, AllByRecursion}

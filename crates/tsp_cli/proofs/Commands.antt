@@ -1,4 +1,4 @@
--- A command that is put together part by part.
+-- A command that is put together part by part. For `bound` in src/grammar.rt and others.
 use Rattle.std.proofs.Common.{◌≡◌, false, IfOk, Result, Ok, Err}
 use Rattle.clap.specs.Words.{App}
 use Rattle.clap.specs.declared.builder.command.Command.{Command}

@@ -1,3 +1,4 @@
+-- The files of lemmas of this crate. No other crate imports them.
 mod Subcommands
 mod Refusals
 mod Commands

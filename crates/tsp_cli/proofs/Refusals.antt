@@ -1,4 +1,4 @@
--- Words that are refused.
+-- Words that are refused. For `job_of` in src/words.rt.
 use Rattle.std.proofs.Common.{◌≡◌, ◌⊎◌, ◌∙◌, inl, inr, List, Err, sym, subst}
 use Rattle.clap.specs.Words.{HasKind, IsAmong, Text, fault_of, kind_of}
 use Rattle.clap.specs.declared.error.Error.{Error}

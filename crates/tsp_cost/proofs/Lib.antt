@@ -1,3 +1,4 @@
+-- The files of lemmas of this crate. Crates above may import them.
 pub mod CoarseRoots
 pub mod Growing
 pub mod Instances

@@ -1,4 +1,4 @@
--- What the costs of an instance are by where they come from.
+-- What the costs of an instance are by where they come from. For `Instance::distance_view` in src/instance.rt and others.
 use Rattle.std.proofs.Common.{◌≡◌, ◌≢◌, ℕ, true, false, List, length, Some, refl, sym, ap, subst, ◌∙◌}
 use Rattle.std.specs.Prelude.{unwrap_or, ℤ}
 use Rattle.std.specs.List.{All}

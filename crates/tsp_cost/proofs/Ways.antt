@@ -1,4 +1,4 @@
--- Sums of costs along nodes, step by step.
+-- Sums of costs along nodes, step by step. For `Points::along` and `Points::through` in src/points.rt.
 use Rattle.std.proofs.Common.{◌≡◌, ℕ, suc, ◌+◌, ◌-◌, ◌*◌, ◌<◌, ◌≤◌, List, [], ◌∷◌, ◌++◌, take, drop, length, refl, sym, ap, subst, ◌∙◌, arith, to_z, of_z, drop-cons, take-append-drop, append_assoc}
 use Rattle.std.specs.Prelude.{ℤ, pos, neg_ℤ, ◌+ℤ◌, ◌≤ℤ◌, slice_index_or}
 use Rattle.std.specs.Int.{w64}

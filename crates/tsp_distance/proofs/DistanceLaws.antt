@@ -1,4 +1,4 @@
--- The laws of the five distances.
+-- The laws of the five distances. For the law `distance_laws` in src/laws.rt and others.
 use Rattle.std.proofs.Common.{◌≡◌, ℕ, ◌+◌, ◌*◌, ◌-◌, ◌<◌, ◌≤◌, Bool, true, false, ℤ, pos, negsuc, ◌-ℤ◌, unsigned_abs, neg_ℤ, ◌+ℤ◌, ◌≤ℤ◌, ◌^◌, nat_lt, nat_le, if◌then◌else◌, max, zero, suc, refl, sym, ap, ◌∙◌, arith, inl, inr}
 use Rattle.std.proofs.lemmas.Bool.{cases_lt}
 use Rattle.std.proofs.lemmas.Bool.Decides.{nat_tests}

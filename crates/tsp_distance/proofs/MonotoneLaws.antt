@@ -1,4 +1,5 @@
--- Each distance grows with the ways along the axes: a number that covers the larger covers the smaller.
+-- Each distance grows with the ways along the axes: a number that covers the larger covers the smaller. For the law
+-- `monotone_laws` in src/monotone.rt.
 use Rattle.std.proofs.Common.{ℕ, ◌+◌, ◌*◌, ◌-◌, ◌<◌, ◌≤◌, max, arith}
 use Rattle.tsp_distance.specs.declared.decimal.Point.{Point}
 use Rattle.tsp_distance.specs.Decimal.{unit}

@@ -1,4 +1,4 @@
--- From the tests on whole numbers to the distances that are rounded upward.
+-- From the tests on whole numbers to the distances that are rounded upward. For `straight` in src/distance.rt and others.
 use Rattle.std.proofs.Common.{◌≡◌, ℕ, ◌+◌, ◌*◌, ◌-◌, ◌<◌, ◌≤◌, ◌^◌, ℤ, pos, negsuc, ◌*ℤ◌, ◌-ℤ◌, unsigned_abs, w64, Bool, true, false, nat_lt, zero, suc, refl, inl, inr, ap, ◌∙◌, FitsSigned, to_z, of_z, rules, arith}
 use Rattle.std.proofs.lemmas.Bool.{cases_lt}
 use Rattle.std.proofs.lemmas.Bool.Decides.{nat_tests}

@@ -1,4 +1,4 @@
--- The laws of the three distances in space.
+-- The laws of the three distances in space. For the law `distance_laws` in src/laws.rt and others.
 use Rattle.std.proofs.Common.{◌≡◌, ℕ, ◌+◌, ◌*◌, ◌<◌, ◌≤◌, ◌^◌, nat_lt, refl, sym, ap, arith}
 use Rattle.tsp_distance.specs.declared.decimal.Point.{Point}
 use Rattle.tsp_distance.specs.Decimal.{unit, most_count}

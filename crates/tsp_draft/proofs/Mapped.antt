@@ -1,4 +1,4 @@
--- Tests of a list, seen through what its elements hold.
+-- Tests of a list, seen through what its elements hold. For `are_combs` in src/validity.rt and others.
 use Rattle.std.proofs.Common.{◌≡◌, ℕ, zero, suc, ◌+◌, [], ◌∷◌, ◌≤◌, Bool, true, false, List, length, map, refl, sym, ap, ◌∙◌, arith}
 use Rattle.std.specs.Prelude.{◌&&◌, nat_le, replicate}
 use Rattle.std.specs.Global.{Vec}

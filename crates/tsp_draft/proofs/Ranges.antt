@@ -1,4 +1,4 @@
--- What the bits of numbers tell of their range.
+-- What the bits of numbers tell of their range. For `all_bits` and `are_from_to` in src/range.rt.
 use Rattle.std.proofs.Common.{◌≡◌, ℕ, ◌<◌, ◌^◌, ℤ, pos, ◌≤ℤ◌, to_z, of_z, FitsSigned, true, List, arith, rules}
 use Rattle.std.proofs.lemmas.Int.{ints, to_z-of_z}
 use Rattle.std.proofs.lemmas.List.Elements.{All-weaker}

@@ -1,4 +1,4 @@
--- Steps one after the other: how many trees are still to come.
+-- Steps one after the other: how many trees are still to come. For `is_whole_tree` in src/validity.rt.
 use Rattle.std.proofs.Common.{◌≡◌, ℕ, zero, suc, ◌+◌, ◌<◌, List, ◌∷◌, length, drop, refl, sym, ap, ◌∙◌, arith}
 use Rattle.std.specs.Prelude.{ℤ, slice_index_or as get_or}
 use Rattle.std.specs.Global.{Vec}

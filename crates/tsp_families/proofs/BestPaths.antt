@@ -1,4 +1,4 @@
--- Sets of nodes as numbers, and the best paths through them.
+-- Sets of nodes as numbers, and the best paths through them. For `best_path` in src/paths.rt.
 use Rattle.std.proofs.Common.{◌≡◌, ◌≢◌, ℕ, zero, suc, ◌+◌, ◌-◌, ◌*◌, ◌/◌, ◌%◌, ◌^◌, ◌<◌, ◌≤◌, ◌⊎◌, List, [], ◌∷◌, length, inl, inr, refl, arith, ap, sym, ◌∙◌, subst, pow-suc, mul_comm}
 use Rattle.std.specs.Prelude.{slice_index}
 use Rattle.std.specs.Int.{bit_at}

@@ -1,4 +1,4 @@
--- Parts that are given by a number for each node.
+-- Parts that are given by a number for each node. For the law `divisions_bound_cycles` in src/laws.rt.
 use Rattle.std.proofs.Common.{◌≡◌, ℕ, zero, suc, ◌-◌, ◌≤◌, Bool, List, [], ◌∷◌, ◌++◌, map, length, ◌≤ℤ◌, arith, ap, sym, ◌∙◌, subst, inl, inr, length-append}
 use Rattle.std.specs.Prelude.{slice_index}
 use Rattle.std.specs.List.{AllZip, AllByRecursion}

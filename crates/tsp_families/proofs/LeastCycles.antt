@@ -1,4 +1,5 @@
--- The least length of a cycle, from the best paths through all its nodes but node 1.
+-- The least length of a cycle, from the best paths through all its nodes but node 1. For `least_cycle` in src/cycles.rt and
+-- others.
 use Rattle.std.proofs.Common.{◌≡◌, ◌≢◌, ℕ, ◌+◌, ◌-◌, ◌*◌, ◌%◌, ◌^◌, ◌<◌, ◌≤◌, ◌⊎◌, eqb, false, List, [], ◌∷◌, ◌++◌, length, inl, inr, arith, ap, sym, ◌∙◌, subst, ◌≤ℤ◌}
 use Rattle.std.specs.Prelude.{slice_index, pos}
 use Rattle.std.specs.Int.{bit_at}

@@ -1,3 +1,4 @@
+-- The files of lemmas of this crate. Crates above may import them.
 pub mod Lists
 pub mod Tables
 pub mod Walks

@@ -1,4 +1,4 @@
--- Lists of different numbers, and which numbers they have.
+-- Lists of different numbers, and which numbers they have. For `best_path` in src/paths.rt and others.
 use Rattle.std.proofs.Common.{◌≡◌, ◌≢◌, ℕ, zero, suc, ◌+◌, ◌<◌, ◌≤◌, ◌==◌, ◌⊎◌, cond, List, [], ◌∷◌, length, inl, inr, refl, arith, ap, sym, ◌∙◌, subst}
 use Rattle.std.specs.List.{AllPairs, AllByRecursion, range_with_len}
 use Rattle.std.proofs.lemmas.Bool.{cases_eq, eq-eqb, ne_eqb}

@@ -1,4 +1,4 @@
--- The memberships of nodes, and the parts that they tell.
+-- The memberships of nodes, and the parts that they tell. For `family_crossings` in src/family.rt and others.
 use Rattle.std.proofs.Common.{◌≡◌, ◌≢◌, ℕ, ◌+◌, ◌-◌, ◌*◌, ◌/◌, ◌%◌, ◌^◌, ◌<◌, ◌≤◌, ◌⊎◌, Bool, true, false, zero, not, cond, List, [], ◌∷◌, ◌++◌, length, get_or, drop, ℤ, ◌+ℤ◌, ◌≤ℤ◌, inl, inr, refl, arith, ap, ap₂, sym, ◌∙◌, subst, pow-suc, bit_xor, length-append}
 use Rattle.std.specs.Int.RustNames.{count_ones}
 use lib.Count.{ones, ones_in}

@@ -1,4 +1,4 @@
--- Tables that are listed row by row, and least sums.
+-- Tables that are listed row by row, and least sums. For `crossings_between` in src/differences.rt and others.
 use Rattle.std.proofs.Common.{◌≡◌, ℕ, ◌+◌, ◌*◌, ◌<◌, List, [], ◌∷◌, ◌++◌, length, inl, inr, arith, sym, ◌∙◌, subst, length-append}
 use Rattle.std.specs.Prelude.{slice_index}
 use Rattle.std.proofs.lemmas.Bool.{cases_lt}

@@ -1,5 +1,5 @@
 -- A cyclic order of parts is widened to a cycle that crosses the sets no more often: each node is put in after the first one of
--- its part.
+-- its part. For the law `parts_tell_cycles` in src/laws.rt.
 use Rattle.std.proofs.Common.{◌≡◌, ◌≢◌, ℕ, zero, suc, ◌-◌, ◌≤◌, ◌==◌, ◌⊎◌, Bool, true, false, not, cond, List, [], ◌∷◌, map, length, ℤ, ◌+ℤ◌, inl, inr, refl, arith, ap, sym, ◌∙◌, subst}
 use Rattle.std.specs.Prelude.{pos, slice_index}
 use Rattle.std.specs.List.{AllByRecursion}

@@ -1,5 +1,5 @@
 -- What passes for all of a list passes for each value that the list has; so each field of a file with no fault is valid on its
--- own.
+-- own. For the law `a_valid_text_is_short` in src/laws.rt.
 use Rattle.std.proofs.Common.{◌≡◌, Bool, true, false, cond, List, [], ◌∷◌, Option, None, Some, refl, sym, subst}
 use Rattle.std.specs.Prelude.{◌&&◌, not}
 use Rattle.std.specs.List.{find, list_all}

@@ -1,4 +1,5 @@
--- The distance by each weight type is the one number with its inequalities.
+-- The distance by each weight type is the one number with its inequalities. For the law `costs_are_by_inequalities` in
+-- src/laws.rt.
 use Rattle.std.proofs.Common.{◌≡◌, ◌≢◌, ◌∙◌, ℕ, refl, sym, ap, subst}
 use Rattle.std.specs.Prelude.{pos, unsigned_abs, Some, Option, unwrap_or, []}
 use Rattle.tsp_distance.specs.declared.decimal.Point.{Point}

@@ -1,4 +1,5 @@
--- How long the text of each field of a valid file is at most, and all of it.
+-- How long the text of each field of a valid file is at most, and all of it. For the law `a_valid_text_is_short` in
+-- src/laws.rt.
 use Rattle.std.proofs.Common.{sym, ◌≡◌, ℕ, ◌+◌, ◌*◌, ◌<◌, ◌≤◌, Bool, true, false, cond, List, [], ◌∷◌, ◌++◌, length, Option, None, Some, arith, refl, ℤ, pos, length-append}
 use Rattle.std.specs.Prelude.{not, ◌==◌, ◌&&◌, nat_le, neg_ℤ, unsigned_abs, codes}
 use Rattle.std.specs.List.{flat_map, list_all, sum_by}

@@ -1,4 +1,4 @@
--- The lines of a layout in a full matrix, moved to its front.
+-- The lines of a layout in a full matrix, moved to its front. For `keep_half` in src/halves.rt and others.
 use Rattle.std.proofs.Common.{◌≡◌, ◌≢◌, ℕ, suc, zero, ◌+◌, ◌-◌, ◌*◌, ◌<◌, ◌≤◌, List, ◌++◌, length, map, take, Some, None, refl, sym, ap, subst, ◌∙◌, ⊎_elim, arith}
 use Rattle.std.specs.Prelude.{slice_index_or as get_or, ℤ, pos}
 use Rattle.std.specs.List.{All, flat_map, CopiedTo, SameBelow, SameFrom}

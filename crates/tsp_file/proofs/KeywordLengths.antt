@@ -1,4 +1,4 @@
--- How long the lines of keywords and values are at most.
+-- How long the lines of keywords and values are at most. For the law `a_valid_text_is_short` in src/laws.rt.
 use Rattle.std.proofs.Common.{◌≡◌, ℕ, ◌+◌, ◌≤◌, Bool, true, false, List, [], ◌∷◌, ◌++◌, length, refl, arith, length-append}
 use Rattle.std.specs.Prelude.{not, slice_index, ◌-◌, ◌&&◌, ◌==◌, nat_le, codes}
 use Rattle.std.specs.List.{list_all}

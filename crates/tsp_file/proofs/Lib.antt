@@ -1,9 +1,9 @@
+-- The files of lemmas of this crate. Crates above may import them.
 pub mod Distances
 pub mod Fronts
 pub mod Listed
 pub mod Relaid
 pub mod TypedFields
-pub mod Types
 pub mod WithWeights
 pub mod Spread
 pub mod AllFit

@@ -1,4 +1,4 @@
--- The costs of weights that are listed.
+-- The costs of weights that are listed. For `ListedWeights::cost` in src/weights.rt and others.
 use Rattle.std.proofs.Common.{◌≡◌, ◌≢◌, ℕ, ◌<◌, false, List, [], length, Option, Some, None, refl, sym, ap, ◌∙◌, inl, inr, ⊎_elim, arith, to_z, of_z}
 use Rattle.std.specs.Prelude.{nat_lt, nat_le, unwrap_or, slice_index_or, ◌⊎◌, ◌↔◌, IsTrue, ℤ, pos}
 use Rattle.std.specs.Option.{option_map, option_or}

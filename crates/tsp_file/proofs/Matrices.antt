@@ -1,4 +1,4 @@
--- The lines of a matrix of weights, one after the other.
+-- The lines of a matrix of weights, one after the other. For `put_lines` and `put_more_weights` in src/writer/matrix.rt.
 use Rattle.std.proofs.Common.{◌≡◌, ℕ, ◌+◌, ◌-◌, ◌<◌, ◌≤◌, ◌==◌, suc, List, [], ◌∷◌, ◌++◌, length, take, drop, map, min, true, refl, sym, ap, subst, ◌∙◌, append_assoc, arith}
 use Rattle.std.specs.Prelude.{ℤ}
 use Rattle.std.specs.List.{range_with_len, flat_map}

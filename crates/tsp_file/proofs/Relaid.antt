@@ -1,4 +1,4 @@
--- Weights in another layout.
+-- Weights that are listed anew in another layout, with the same costs. For `File::way` in src/relayout.rt and others.
 use Rattle.std.proofs.Common.{◌≡◌, ◌≢◌, ℕ, ◌+◌, ◌-◌, ◌<◌, ◌≤◌, Bool, true, false, List, [], ◌∷◌, ◌++◌, length, map, take, Option, Some, None, refl, sym, ap, subst, ◌∙◌, inl, inr, ⊎_elim, arith}
 use Rattle.std.specs.Prelude.{is_some, unwrap_or, slice_index_or as get_or, ◌⊎◌, ℤ, pos}
 use Rattle.std.specs.Option.{option_map, option_or}

@@ -1,4 +1,5 @@
--- The lines of half a matrix, moved to their rows of the full one, and the costs across the diagonal.
+-- The lines of half a matrix, moved to their rows of the full one, and the costs across the diagonal. For `spread_lines` in
+-- src/whole.rt and others.
 use Rattle.std.proofs.Common.{◌≡◌, ◌≢◌, ℕ, suc, zero, ◌+◌, ◌-◌, ◌*◌, ◌<◌, ◌≤◌, Bool, true, false, List, ◌++◌, length, map, take, Some, refl, sym, ap, subst, ◌∙◌, inl, inr, ⊎_elim, arith}
 use Rattle.std.specs.Prelude.{slice_index_or as get_or, slice_set, unwrap_or, ◌⊎◌, nat_le, ℤ, pos}
 use Rattle.std.specs.List.{flat_map, CopiedTo, SameBelow, SameFrom}

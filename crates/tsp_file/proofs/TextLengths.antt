@@ -1,4 +1,4 @@
--- How long the lines and the sections of a text are at most.
+-- How long the lines and the sections of a text are at most. For the law `a_valid_text_is_short` in src/laws.rt and others.
 use Rattle.std.proofs.Common.{◌≡◌, ℕ, ◌+◌, ◌*◌, ◌^◌, ◌<◌, ◌≤◌, Bool, true, false, List, [], ◌∷◌, ◌++◌, length, take, drop, map, refl, ap, sym, ◌∙◌, subst, arith, ℤ, pos, unsigned_abs, length-append}
 use Rattle.std.specs.Prelude.{◌&&◌, nat_le, codes}
 use Rattle.std.specs.List.{flat_map, list_all, enumerate_from, sum_by}

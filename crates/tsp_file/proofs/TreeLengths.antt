@@ -1,4 +1,4 @@
--- How long the lines of combs and of the steps of a tree are at most.
+-- How long the lines of combs and of the steps of a tree are at most. For `put_changes` in src/writer/tree.rt.
 use Rattle.std.proofs.Common.{◌≡◌, ℕ, zero, suc, ◌+◌, ◌*◌, ◌≤◌, true, List, [], ◌∷◌, ◌++◌, length, map, refl, ap, ◌∙◌, arith, ℤ, length-append}
 use Rattle.std.specs.Prelude.{◌&&◌, not, ◌==◌, nat_le, codes}
 use Rattle.std.specs.List.{flat_map, list_all, sum_by}

@@ -1,4 +1,4 @@
--- A valid file stays valid where its format and its weights change together.
+-- A valid file stays valid where its format and its weights change together. For `make_whole` in src/whole.rt and others.
 use Rattle.std.proofs.Common.{◌≡◌, ℕ, suc, zero, ◌+◌, ◌-◌, ◌*◌, ◌/◌, ◌≤◌, Bool, true, false, cond, List, [], ◌∷◌, length, Option, None, Some, refl, sym, ap, subst, ◌∙◌, arith}
 use Rattle.std.specs.Prelude.{IsSome, unwrap_or, not, ◌&&◌, nat_le, ℤ, pos, neg_ℤ, int_le}
 use Rattle.std.specs.Option.{option_map, option_or}

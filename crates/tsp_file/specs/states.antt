@@ -1,3 +1,4 @@
+-- The files of definitions that look into structs of the code.
 pub mod Halves
 pub mod Side
 pub mod Way

@@ -1,4 +1,4 @@
--- The value with a word, found in the list of all values.
+-- The value with a word, found in the list of all values. For `value_of` in src/word.rt.
 use Rattle.std.proofs.Common.{◌≡◌, ◌≢◌, ℕ, Bool, true, false, cond, List, [], ◌∷◌, Option, None, Some, refl, sym, subst, ◌∙◌}
 use Rattle.std.specs.Prelude.{◌↔◌, IsNone}
 use Rattle.std.specs.List.{find}

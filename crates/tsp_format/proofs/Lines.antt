@@ -1,4 +1,4 @@
--- The cells of a layout are those of its lines.
+-- The cells of a layout are those of its lines. For the law `cells_go_line_by_line` in src/layout.rt.
 use Rattle.std.proofs.Common.{◌≡◌, ℕ, Bool, List, [], ◌∷◌, ◌++◌, refl, ap, ◌∙◌}
 use Rattle.std.specs.List.{filter, flat_map}
 use Rattle.std.proofs.lemmas.List.Elements.{filter-append}

@@ -1,4 +1,4 @@
--- What the lines of a comparison mean.
+-- What the lines of a comparison mean. For the law `solutions_without_a_basis` in src/compare_laws.rt and others.
 use Rattle.std.proofs.Common.{◌≡◌, ◌⊎◌, inl, inr, true, false, Option, Some, None, refl, sym, ap, subst, ◌∙◌, ℕ, List, [], ◌∷◌, arith, ◌<◌}
 use Rattle.std.specs.Prelude.{ℤ, IsTrue, Ok}
 use Rattle.std.proofs.lemmas.Bool.{false≢true}

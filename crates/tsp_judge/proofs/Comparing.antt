@@ -1,4 +1,4 @@
--- A comparison, put together from the lines of its solutions.
+-- A comparison, put together from the lines of its solutions. For `compare_all` in src/compared.rt and others.
 use Rattle.std.proofs.Common.{◌≡◌, ◌||◌, ℕ, suc, ◌+◌, ◌<◌, ◌≤◌, List, [], ◌∷◌, ◌++◌, length, take, Option, true, false, Bool, refl, sym, ap, subst, ◌∙◌, append_assoc, append-nil, arith, inl, inr}
 use Rattle.std.specs.Prelude.{max, Result, Ok, Err, IfOk, slice_index_or, Some, None}
 use Rattle.std.specs.declared.io.Error.{Error}

@@ -1,4 +1,4 @@
--- Converting a file, put together from its parts.
+-- Converting a file, put together from its parts. For `convert_file` in src/convert.rt.
 use Rattle.std.proofs.Common.{◌≡◌, Option, None, Ok, Err}
 use Rattle.tsp_format.specs.declared.layout.Layout.{Layout}
 use Rattle.tsp_stream.specs.declared.output.WriteFault.{WriteFault}

@@ -1,4 +1,4 @@
--- The errors that `?` returns, and values.
+-- The errors that `?` returns, and values. For `Opened::bind` in src/opened.rt and others.
 use Rattle.std.proofs.Common.{◌≡◌, ap, Result, Ok, Err}
 use Rattle.std.specs.Result.{IsErrAnd}
 

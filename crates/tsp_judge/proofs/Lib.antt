@@ -1,3 +1,4 @@
+-- The files of lemmas of this crate. Crates above may import them.
 pub mod Bounding
 pub mod Comparing
 pub mod CompareMeaning

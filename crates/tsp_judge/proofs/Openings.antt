@@ -1,4 +1,4 @@
--- The fault of a text that a call on an open instance reads.
+-- The fault of a text that a call on an open instance reads. For `Opened::bind` in src/opened.rt and others.
 use Rattle.std.proofs.Common.{ℕ, List, Err}
 use Rattle.tsp_reason.specs.declared.certificate.Certificate.{Certificate}
 use Rattle.tsp_judge.specs.declared.fault.RunFault.{RunFault}

@@ -1,4 +1,4 @@
--- A run, put together from its parts.
+-- A run, put together from its parts. For `run` in src/checked.rt and others.
 use Rattle.std.specs.Prelude.{ℤ, pos, negsuc, ◌≤◌, ◌^◌, unsigned_abs}
 use Rattle.std.proofs.Common.{◌≡◌, ℕ, [], length, Bool, true, false, Option, Some, None, Err, refl, sym, subst, inl, inr, arith}
 use Rattle.std.proofs.lemmas.Int.{ints}

@@ -1,4 +1,4 @@
--- Showing a file, put together from its parts.
+-- Showing a file, put together from its parts. For `show_file` in src/show.rt.
 use Rattle.std.proofs.Common.{Err}
 use Rattle.tsp_stream.specs.declared.output.WriteFault.{WriteFault}
 use Rattle.tsp_stream.specs.declared.output.WriteFault.TheVariants as faults

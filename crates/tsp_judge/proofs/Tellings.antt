@@ -1,4 +1,4 @@
--- The follower of a comparison got some lines, and then the next one.
+-- The follower of a comparison got some lines, and then the next one. For `compare_all` in src/compared.rt.
 use Rattle.std.proofs.Common.{ℕ, ◌+◌, ◌<◌, ◌≤◌, List, add-one, arith}
 use Rattle.std.specs.Prelude.{Err}
 use Rattle.tsp_stream.specs.Turn.{Turn}

@@ -1,3 +1,4 @@
+-- The files of definitions of this crate. Crates above may import them.
 pub use Rattle.tsp_read.specs.Reads
 pub use Rattle.tsp_read.specs.Asked
 pub use Rattle.tsp_stream.specs.Sink

@@ -1,4 +1,5 @@
--- The answer for a reader that was read in pieces, and for a text.
+-- The answer for a reader that was read in pieces, and for a text. For `file_of_bytes` and `file_of_reader` in
+-- src/read_whole.rt.
 use Rattle.std.proofs.Common.{◌≡◌, ℕ, false, List, [], ◌++◌, refl, sym, ap, subst, ◌∙◌, inl, inr, Option, Some, None, Result, Ok, Err, append-nil}
 use Rattle.std.specs.Prelude.{◌⊎◌, IfSome}
 use Rattle.std.specs.Io.KnownBytes.{Consumes, IsAtEnd}

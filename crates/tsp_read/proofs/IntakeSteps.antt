@@ -1,4 +1,5 @@
--- A text that is read while it comes: one item more, and where it stops.
+-- A text that is read while it comes: one item more, and where it stops. For `Intake::take_items` and `Intake::long_word` in
+-- src/intake.rt.
 use Rattle.std.proofs.Common.{◌≡◌, ℕ, Bool, true, false, List, [], ◌∷◌, ◌++◌, reverse, refl, sym, ap, subst, ◌∙◌, Option, Some, None, MatchOption, Ok, Err, append-nil, append_assoc}
 use Rattle.std.specs.List.{list_all}
 use Rattle.std.specs.Prelude.{◌&&◌, ◌||◌}

@@ -1,4 +1,4 @@
--- The end of a text that came in pieces.
+-- The end of a text that came in pieces. For `Feed::end` in src/feed.rt and others.
 use Rattle.std.proofs.Common.{◌≡◌, ℕ, Bool, true, false, List, [], ◌∷◌, ◌++◌, length, take, drop, take-append-drop, reverse, refl, sym, ap, subst, ◌∙◌, Option, Some, None, Result, Ok, Err, append-nil}
 use Rattle.std.specs.Prelude.{not, ◌&&◌, ◌||◌, ◌==◌, is_some}
 use Rattle.std.proofs.Math.Logic.{∥∥₁_map}

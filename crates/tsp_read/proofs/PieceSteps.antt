@@ -1,4 +1,4 @@
--- A reader that is read in pieces.
+-- A reader that is read in pieces. For `feed_all` in src/input.rt.
 use Rattle.std.proofs.Common.{◌≡◌, ℕ, ◌+◌, ◌-◌, ◌≤◌, ◌<◌, Bool, true, false, List, [], ◌∷◌, ◌++◌, length, take, drop, take-append-drop, refl, sym, ap, subst, ◌∙◌, arith, Option, Some, None, Ok, Err, append-nil, length-append}
 use Rattle.std.specs.Prelude.{◌⊎◌, IfSome, not, ◌&&◌}
 use Rattle.std.specs.Io.KnownBytes.{Consumes, Keeps, IsAtEnd}

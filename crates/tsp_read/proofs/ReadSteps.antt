@@ -1,4 +1,4 @@
--- Reading a text: item by item, and the answer for the whole.
+-- Reading a text: item by item, and the answer for the whole. For `take` in src/item.rt and others.
 use Rattle.std.proofs.Common.{◌≡◌, ℕ, Bool, false, List, ◌∷◌, refl, sym, subst, Option, Some, None, Ok, Err}
 use Rattle.tsp_section.specs.declared.fault.StepFault.{StepFault}
 use Rattle.tsp_section.specs.declared.fault.StepFault.TheVariants as steps

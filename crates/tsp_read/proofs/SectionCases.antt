@@ -1,4 +1,5 @@
--- What the state has of each section: each is one row, and so is each of its cases.
+-- What the state has of each section: each is one row, and so is each of its cases. For `Reading::close` in
+-- src/state/reading.rt and others.
 use Rattle.std.proofs.Common.{◌≡◌, Bool, true, false, cond, List, ◌∷◌, refl, ap, ◌∙◌, Some}
 use Rattle.std.specs.Prelude.{ℕ}
 use Rattle.std.specs.List.{find}

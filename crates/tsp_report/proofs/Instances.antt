@@ -1,4 +1,4 @@
--- The lines of `show` after the head: for an instance, and for another file.
+-- The lines of `show` after the head: for an instance, and for another file. For `put_rest` in src/shown.rt.
 use Rattle.std.proofs.Common.{◌≡◌, ℕ, List, ◌++◌, Option, Some, None, refl, sym, ap, subst, ◌∙◌}
 use Rattle.std.specs.Prelude.{IsTrue}
 use Rattle.std.proofs.lemmas.Bool.{false≢true}

@@ -1,4 +1,5 @@
--- The way of a text in two parts, and lines that are listed.
+-- A text in two parts, and lines that are listed, as they are written one after the other. For `put_others` in src/report.rt
+-- and others.
 use Rattle.std.proofs.Common.{◌≡◌, ℕ, ◌+◌, ◌<◌, List, [], ◌∷◌, ◌++◌, length, take, map, get_or, false, Some, refl, sym, ap, subst, ◌∙◌, append-nil, append_assoc, arith}
 use Rattle.std.proofs.lemmas.List.{length-map, get_or-map}
 use Rattle.std.specs.Prelude.{codes, ◌==◌}

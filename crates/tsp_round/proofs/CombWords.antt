@@ -1,4 +1,5 @@
--- Combs as they are written: each word is taken at its place, and they are read back.
+-- Combs as they are written: each word is taken at its place, and they are read back. For the law
+-- `canonical_texts_are_read_back` in src/round_trip.rt.
 use Rattle.std.proofs.Common.{◌≡◌, ℕ, suc, ◌+◌, ◌^◌, ◌<◌, ◌≤◌, Bool, true, false, cond, List, [], ◌∷◌, ◌++◌, length, map, refl, sym, ap, subst, ◌∙◌, append_assoc, append-nil, arith, None, Result}
 use Rattle.std.specs.Prelude.{ℤ, not, ◌&&◌, ◌||◌, nat_le, nat_abs, codes}
 use Rattle.std.specs.Result.{result_err}

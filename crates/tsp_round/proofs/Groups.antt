@@ -1,4 +1,5 @@
--- Numbers and points by node as they are written: each word is taken at its place, and they are read back.
+-- Numbers and points by node as they are written: each word is taken at its place, and they are read back. For the law
+-- `canonical_texts_are_read_back` in src/round_trip.rt.
 use Rattle.std.proofs.Common.{◌≡◌, ℕ, suc, zero, ◌+◌, ◌*◌, ◌^◌, ◌<◌, ◌≤◌, true, false, cond, List, [], ◌∷◌, ◌++◌, length, map, refl, sym, ap, ◌∙◌, arith, Some, Result}
 use Rattle.std.specs.Prelude.{ℤ, pos, nat_le, unwrap_or, unsigned_abs}
 use Rattle.std.specs.Result.{result_err}

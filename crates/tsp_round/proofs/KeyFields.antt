@@ -1,4 +1,5 @@
--- The texts of the keywords: each field's own condition says that no row applies to its lines.
+-- The texts of the keywords: each field's own condition says that no row applies to its lines. For the law
+-- `canonical_texts_are_read_back` in src/round_trip.rt.
 use Rattle.tsp_round.proofs.Onto.{has_value}
 use Rattle.std.proofs.Common.{◌≡◌, ℕ, ◌-◌, ◌^◌, ◌<◌, ◌≤◌, Bool, true, false, cond, List, [], ◌∷◌, ◌++◌, length, refl, sym, ap, ◌∙◌, arith, Option, Some, None, Result}
 use Rattle.std.specs.Prelude.{ℤ, pos, nat_le, nat_lt, slice_index, unsigned_abs, is_some}

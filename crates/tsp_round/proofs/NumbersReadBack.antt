@@ -1,4 +1,5 @@
--- A number that is written is read back: words of the canonical text are plain, and each means its number.
+-- A number that is written is read back: words of the canonical text are plain, and each means its number. For the laws
+-- `written_numbers_are_read_back` and `canonical_texts_are_read_back` in src/round_trip.rt.
 use Rattle.std.proofs.Common.{◌≡◌, ℕ, suc, zero, ◌+◌, ◌/◌, ◌%◌, ◌^◌, ◌<◌, ◌≤◌, Bool, true, false, cond, List, [], ◌∷◌, ◌++◌, length, refl, sym, ap, ◌∙◌, arith, append-nil, inl, inr, Result, Ok, Err}
 use Rattle.std.specs.Prelude.{ℤ, pos, negsuc, neg_ℤ, ◌*ℤ◌, ◌≤ℤ◌, ◌==◌, nat_le, int_le, unsigned_abs, codes}
 use Rattle.std.specs.List.{list_all}

@@ -1,4 +1,5 @@
--- The text of one field: a field that is missing, a keyword's line, and a section with its words.
+-- The text of one field: a field that is missing, a keyword's line, and a section with its words. For the law
+-- `canonical_texts_are_read_back` in src/round_trip.rt.
 use Rattle.std.proofs.Common.{◌≡◌, ℕ, Bool, true, false, cond, List, [], ◌∷◌, ◌++◌, refl, sym, ap, ◌∙◌, Option, Some, None}
 use Rattle.tsp_format.specs.declared.field.Field.{Field}
 use Rattle.tsp_format.specs.declared.field.Field.TheVariants.{CommentKey, OtherKey}

@@ -1,4 +1,5 @@
--- Tours as they are written: each word is taken at its place, and they are read back.
+-- Tours as they are written: each word is taken at its place, and they are read back. For the law
+-- `canonical_texts_are_read_back` in src/round_trip.rt.
 use Rattle.std.proofs.Common.{◌≡◌, ℕ, ◌+◌, ◌≤◌, true, false, cond, List, [], ◌∷◌, ◌++◌, length, map, refl, sym, ap, ◌∙◌, arith, append_assoc, Result}
 use Rattle.std.specs.Prelude.{ℤ, not, ◌&&◌, nat_le, nat_abs, codes}
 use Rattle.std.specs.Result.{result_err}

@@ -1,4 +1,5 @@
--- The lines of combs and of the steps of a tree as they are written, and their words.
+-- The lines of combs and of the steps of a tree as they are written, and their words. For the law
+-- `canonical_texts_are_read_back` in src/round_trip.rt.
 use Rattle.std.proofs.Common.{◌≡◌, ℕ, ◌+◌, ◌^◌, ◌<◌, true, List, [], ◌∷◌, ◌++◌, length, map, refl, sym, ap, subst, ◌∙◌, append_assoc, arith}
 use Rattle.std.specs.Prelude.{ℤ, ◌&&◌, nat_le, codes}
 use Rattle.std.specs.List.{list_all, flat_map, sum_by}

@@ -1,4 +1,5 @@
--- Multipliers of fixed edges as they are written: each word is taken at its place, and they are read back.
+-- Multipliers of fixed edges as they are written: each word is taken at its place, and they are read back. For the law
+-- `canonical_texts_are_read_back` in src/round_trip.rt.
 use Rattle.std.proofs.Common.{◌≡◌, ℕ, ◌+◌, ◌^◌, ◌<◌, ◌≤◌, true, false, cond, List, [], ◌∷◌, ◌++◌, length, map, refl, ap, ◌∙◌, arith, None, Result, Ok}
 use Rattle.std.specs.Prelude.{ℤ, pos, ◌||◌, nat_abs, codes}
 use Rattle.std.specs.Result.{result_err}

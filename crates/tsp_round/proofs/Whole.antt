@@ -1,4 +1,4 @@
--- The items of a whole text parse to its file.
+-- The items of a whole text parse to its file. For the law `canonical_texts_are_read_back` in src/round_trip.rt.
 use Rattle.std.proofs.Common.{◌≡◌, ℕ, Bool, true, false, cond, List, [], refl, ap, ◌∙◌, Option, Some, None}
 use Rattle.std.specs.Prelude.{ℤ, nat_abs, is_some}
 use Rattle.std.specs.Option.{option_map, option_and_then}

@@ -1,4 +1,4 @@
--- A plan has at most as many routes as customers.
+-- A plan has at most as many routes as customers. For the law `plan_links_add_up` in src/laws.rt.
 use Rattle.std.proofs.Common.{◌≢◌, ℕ, ◌≤◌, List, [], ◌∷◌, ◌++◌, length, refl, arith}
 use Rattle.std.specs.List.{AllByRecursion, concat}
 use Rattle.std.proofs.lemmas.List.Elements.{recursion_from_All}

@@ -1,3 +1,4 @@
+-- The files of lemmas of this crate. Crates above may import them.
 pub mod Plans
 pub mod FewRoutes
 pub mod LeftCuts

@@ -1,4 +1,5 @@
--- The least of some is one, and so is the least of what leaves have.
+-- The least of some numbers is one number, and so is the least bound of the leaves. For the law `plan_trees_bound_plans` in
+-- src/laws.rt.
 use Rattle.std.proofs.Common.{◌≡◌, ℕ, List, Option, None, Some, ℤ, ◌≤ℤ◌, inl, inr, refl, ap, subst, arith}
 use Rattle.std.proofs.lemmas.Int.{ints}
 use Rattle.std.proofs.lemmas.List.Elements.{All-contains}

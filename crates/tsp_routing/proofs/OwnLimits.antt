@@ -1,4 +1,4 @@
--- The decisions on one set, among those of a case.
+-- The decisions on one set, among those of a case. For `given_by` in src/given_back.rt.
 use Rattle.std.proofs.Common.{◌≡◌, ◌∙◌, ℕ, ◌+◌, ◌*◌, ◌==◌, ◌&&◌, ◌||◌, Bool, true, false, not, cond, List, [], ◌∷◌, refl, sym, ap}
 use Rattle.std.specs.Prelude.{max, min, if◌then◌else◌}
 use Rattle.std.specs.List.{filter}

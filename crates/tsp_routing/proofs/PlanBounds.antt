@@ -1,4 +1,5 @@
--- What the limits of a case and the multipliers of the sets give back is at most what they take off a plan.
+-- What the limits of a case and the multipliers of the sets give back is at most what they take off a plan. For the law
+-- `plan_bounds_bound_plans` in src/laws.rt.
 use Rattle.std.proofs.Common.{◌≡◌, ℕ, zero, suc, ◌+◌, ◌-◌, ◌*◌, ◌==◌, ◌&&◌, Bool, true, false, not, cond, List, [], ◌∷◌, length, refl, sym, ap, ap₂, ◌∙◌, subst, arith, inl, inr}
 use Rattle.std.specs.Prelude.{max, min, ℤ, pos, negsuc, ◌+ℤ◌, ◌*ℤ◌, ◌≤ℤ◌}
 use Rattle.std.specs.List.{AllByRecursion, concat}

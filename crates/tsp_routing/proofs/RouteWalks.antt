@@ -1,4 +1,4 @@
--- Each route of a plan is a walk.
+-- Each route of a plan is a walk. For the law `routes_are_walks` in src/laws.rt.
 use Rattle.std.proofs.Common.{◌≢◌, ℕ, List, [], ◌∷◌, ◌++◌}
 use Rattle.std.specs.Prelude.{pos, ◌≤ℤ◌}
 use Rattle.std.specs.List.{AllByRecursion, concat}

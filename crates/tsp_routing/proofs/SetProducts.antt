@@ -1,4 +1,5 @@
--- A number times a count of crossings, and the sums of such products as the code takes them.
+-- A number times a count of crossings, and the sums of such products as the code takes them. For `given_by` in
+-- src/given_back.rt and others.
 use Rattle.std.proofs.Common.{◌≡◌, ℕ, ◌+◌, ◌*◌, ◌^◌, ◌≤◌, ◌<◌, true, false, List, [], ◌∷◌, drop, length, get_or, refl, ap, ap₂, ◌∙◌, arith, to_z, of_z, FitsSigned, drop-cons, add-one}
 use Rattle.std.specs.Prelude.{ℤ, pos, negsuc, neg_ℤ, ◌+ℤ◌, ◌*ℤ◌, int_lt, unsigned_abs}
 use Rattle.std.specs.Int.{w64, w128}

@@ -1,4 +1,4 @@
--- A list that is taken whole.
+-- A list of which at least all elements are taken. For `highest` and `lowest` in src/limits.rt.
 use Rattle.std.proofs.Common.{◌≡◌, ◌≤◌, ℕ, zero, suc, List, [], ◌∷◌, take, length, refl, ap, arith}
 
 pub taken_all : {X : Type 0} (xs : List X) (k : ℕ) → length xs ≤ k → take k xs ≡ xs

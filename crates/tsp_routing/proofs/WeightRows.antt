@@ -1,4 +1,4 @@
--- Rows of weights, one more at a time.
+-- Rows of weights, one more at a time. For `rows_of` in src/kept_weights.rt.
 use Rattle.std.proofs.Common.{◌≡◌, ℕ, ◌+◌, List, [], ◌∷◌, ◌++◌, get_or, ℤ, inl, inr, sym, subst, arith, length-append}
 use Rattle.std.specs.Global.{Vec}
 use Rattle.std.proofs.lemmas.Bool.{cases_lt}

@@ -1,3 +1,4 @@
+-- The files of lemmas of this crate. No other crate imports them.
 mod OneLines
 mod Openings
 mod Tellings

@@ -1,4 +1,4 @@
--- The lines of standard error on solutions, one by one.
+-- The lines of standard error on solutions, one by one. For `run_comparison` in src/running.rt.
 use Rattle.std.proofs.Common.{ℕ, zero, suc, Bool, true, false, List, [], ◌++◌, Option, refl, sym, subst, ◌∙◌}
 use Rattle.std.specs.Prelude.{Result, Ok, Err}
 use Rattle.std.proofs.KnownBytes.{Appends-nil, Appends-trans}

@@ -1,4 +1,5 @@
--- One word more of a by-node section with a point for each node, of the plane or in space.
+-- One word more of a by-node section with a point for each node, of the plane or in space. For `PointList::push` in
+-- src/parts/points.rt and others.
 use Rattle.std.proofs.Common.{◌≡◌, ℕ, ◌-◌, ◌<◌, Bool, true, false, List, [], ◌∷◌, ◌++◌, set, Option, None, Some, Ok, Err, sym}
 use Rattle.std.specs.Prelude.{ℤ, nat_lt, replicate}
 use Rattle.std.proofs.lemmas.Bool.{false≢true}

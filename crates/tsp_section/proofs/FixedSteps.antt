@@ -1,4 +1,4 @@
--- One word more of the fixed pairs.
+-- One word more of the fixed pairs. For `FixedList::push_first` in src/parts/fixed.rt and others.
 use Rattle.std.proofs.Common.{◌≡◌, ◌≢◌, ℕ, ◌+◌, ◌<◌, ◌≤◌, Bool, true, false, List, [], ◌∷◌, ◌++◌, length, map, refl, sym, ap, ◌∙◌, Option, None, Some, Ok, Err, arith}
 use Rattle.std.specs.Prelude.{pos, negsuc, nat_abs, nat_le, is_some}
 use Rattle.std.specs.List.{list_any}

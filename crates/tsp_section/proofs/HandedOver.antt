@@ -1,4 +1,5 @@
--- What follows once a list has moved to the end of others.
+-- What a result says of its value may be weakened, once a list has moved to the end of others. For `CombList::end_comb` and
+-- `CombList::end_set` in src/parts/combs.rt.
 use Rattle.std.proofs.Common.{Result, Ok, Err}
 use Rattle.std.specs.Prelude.{MatchResult, OnOk}
 

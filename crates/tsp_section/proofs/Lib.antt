@@ -1,3 +1,4 @@
+-- The files of lemmas of this crate. Crates above may import them.
 pub mod DepotSteps
 pub mod FixedSteps
 pub mod WeightSteps

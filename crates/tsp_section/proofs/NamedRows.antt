@@ -1,4 +1,4 @@
--- The rows of a line that names a value.
+-- The rows of a line that names a value. For `set_named` in src/slots.rt.
 use Rattle.std.proofs.Common.{◌≡◌, Bool, true, false, Some, [], ◌∷◌}
 use Rattle.tsp_text.specs.declared.fault.LineFault.{LineFault}
 use Rattle.tsp_text.specs.declared.fault.LineFault.TheVariants as row

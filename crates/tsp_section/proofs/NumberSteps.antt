@@ -1,4 +1,5 @@
--- One word more of a by-node section with a whole number for each node.
+-- One word more of a by-node section with a whole number for each node. For `NumberList::push` in src/parts/numbers.rt and
+-- others.
 use Rattle.std.proofs.Common.{◌≡◌, ℕ, zero, suc, ◌+◌, ◌-◌, ◌*◌, ◌<◌, ◌≤◌, Bool, true, false, List, [], ◌∷◌, ◌++◌, length, map, set, refl, sym, ap, ◌∙◌, Option, None, Some, Ok, Err, arith}
 use Rattle.std.specs.Prelude.{ℤ, pos, nat_le, nat_lt, replicate}
 use Rattle.std.proofs.lemmas.List.{map_push, length_push, length-map, take_all, take-append-le}

@@ -1,4 +1,4 @@
--- One word more of a by-node section with a point for each node.
+-- One word more of a by-node section with a point for each node. For `PointList::put` in src/parts/points.rt.
 use Rattle.std.proofs.Common.{◌≡◌, ℕ, zero, suc, ◌+◌, ◌-◌, ◌*◌, ◌<◌, ◌≤◌, Bool, true, false, List, [], ◌∷◌, ◌++◌, length, map, set, refl, sym, ap, ◌∙◌, Option, None, Some, Ok, Err, arith}
 use Rattle.std.specs.Prelude.{ℤ, pos, nat_le, nat_lt, replicate}
 use Rattle.std.proofs.lemmas.List.{map_push, length_push, length-map, take_all, take-append-le}

@@ -1,4 +1,5 @@
--- The words of a group or a pair that has begun, by what they are read as.
+-- The words of a group or a pair that has begun, by what they are read as. For `NumberList::push` in src/parts/numbers.rt and
+-- others.
 use Rattle.std.proofs.Common.{◌≡◌, List, [], ◌∷◌, map, refl}
 
 -- none

@@ -1,4 +1,4 @@
--- One word more of a tree.
+-- One word more of a tree. For `TreeList::push_difference` in src/parts/tree.rt.
 use Rattle.std.proofs.Common.{◌≡◌, ◌≢◌, ℕ, true, false, List, [], ◌∷◌, ◌++◌, refl, sym, ap, ◌∙◌, None, Some, Ok, arith}
 use Rattle.std.specs.Prelude.{◌==◌, ℤ, pos, neg_ℤ}
 use Rattle.std.proofs.lemmas.List.Sums.{fold-append}

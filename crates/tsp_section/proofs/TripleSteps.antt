@@ -1,4 +1,4 @@
--- One word more of the multipliers of fixed edges.
+-- One word more of the multipliers of fixed edges. For `TripleList::push_first` in src/parts/triples.rt and others.
 use Rattle.std.proofs.Common.{◌≡◌, ◌≢◌, ℕ, ◌+◌, ◌<◌, ◌≤◌, Bool, true, false, List, [], ◌∷◌, ◌++◌, length, map, refl, sym, ap, ◌∙◌, Option, None, Some, Ok, Err, arith}
 use Rattle.std.specs.Prelude.{ℤ, pos, negsuc, nat_le, is_some}
 use Rattle.std.specs.List.{list_any}

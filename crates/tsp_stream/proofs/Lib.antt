@@ -1,2 +1,3 @@
+-- The files of lemmas of this crate. Crates above may import them.
 pub mod Carrying
 pub mod Sinks

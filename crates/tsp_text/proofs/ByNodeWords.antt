@@ -1,4 +1,4 @@
--- A section by node that isn't incomplete has one group for each node.
+-- A section by node that isn't incomplete has one group for each node. For the law `each_node_has_one_group` in src/by_node.rt.
 use Rattle.std.proofs.Common.{◌≡◌, ℕ, ◌*◌, Bool, true, false, cond, List, [], ◌∷◌, ◌++◌, length, map, refl, sym, ap, subst, ◌∙◌, arith, inl, inr, None}
 use Rattle.std.specs.Prelude.{◌⊎◌, ◌&&◌, nat_le, ℤ, pos, neg_ℤ}
 use Rattle.std.specs.Option.{option_map}

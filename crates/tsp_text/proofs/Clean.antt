@@ -1,4 +1,4 @@
--- One item more without a fault.
+-- One item more without a fault. For the law `first_faults` in src/answers.rt.
 use Rattle.std.proofs.Common.{◌≡◌, List, ◌∷◌, None, ap, ◌∙◌}
 use Rattle.std.specs.Option.{option_or, option_map}
 use Rattle.tsp_text.specs.Items.{Item}

@@ -1,4 +1,5 @@
--- Lists that the first element which passes a test ends: one element more.
+-- Lists that the first element which passes a test ends: one element more. For `FixedList::push_first` in src/parts/fixed.rt of
+-- tsp_section and others.
 use Rattle.std.proofs.Common.{◌≡◌, Bool, true, false, ◌||◌, ◌&&◌, cond, List, [], ◌∷◌, ◌++◌, refl, ap, ◌∙◌}
 use Rattle.std.specs.List.{list_any}
 use Rattle.std.proofs.lemmas.List.Folds.{list_any-append}

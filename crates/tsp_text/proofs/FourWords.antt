@@ -1,4 +1,4 @@
--- Words in groups of four: one word more.
+-- Words in groups of four: one word more. For the law `each_node_has_one_group` in src/by_node.rt.
 use Rattle.std.proofs.Common.{◌≡◌, ◌+◌, ◌*◌, List, [], ◌∷◌, ◌++◌, length, refl, ap, arith}
 use Rattle.tsp_text.specs.Groups.{fours_in, begun_four}
 

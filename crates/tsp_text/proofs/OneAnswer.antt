@@ -1,4 +1,4 @@
--- Every text has exactly one answer.
+-- Every text has exactly one answer. For the law `texts_have_one_answer` in src/answers.rt.
 use Rattle.std.proofs.Common.{◌≡◌, ◌≢◌, ℕ, Bool, true, false, List, [], ◌∷◌, refl, sym, ap, ◌∙◌, Option, Some, None, Result, Ok, Err}
 use Rattle.std.specs.Option.{option_or, option_map}
 use Rattle.std.proofs.lemmas.Option.{none-some, same_Some}

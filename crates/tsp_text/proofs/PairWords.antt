@@ -1,4 +1,4 @@
--- Words in groups of two: one word more.
+-- Words in groups of two: one word more. For `NumberList::push` in src/parts/numbers.rt of tsp_section and others.
 use Rattle.std.proofs.Common.{◌≡◌, ◌+◌, ◌*◌, Bool, true, false, List, [], ◌∷◌, ◌++◌, length, refl, ap, arith}
 use Rattle.std.specs.List.{list_any}
 use Rattle.tsp_text.specs.Groups.{pairs_in, begun_pair}

@@ -1,4 +1,5 @@
--- Groups of two words, of three and of four: their first words, with one word more.
+-- Groups of two words, of three and of four: their first words, with one word more. For the law `each_node_has_one_group` in
+-- src/by_node.rt.
 use Rattle.std.proofs.Common.{◌≡◌, ℕ, ◌-◌, ◌*◌, List, [], ◌∷◌, ◌++◌, length, map, refl, ap, ◌∙◌, arith, inl, inr}
 use Rattle.std.specs.Prelude.{◌⊎◌}
 use Rattle.std.proofs.lemmas.List.{map_push}

@@ -1,4 +1,4 @@
--- Words in groups of three: one word more.
+-- Words in groups of three: one word more. For `TripleList::push_first` in src/parts/triples.rt of tsp_section and others.
 use Rattle.std.proofs.Common.{◌≡◌, ◌+◌, ◌*◌, Bool, true, false, List, [], ◌∷◌, ◌++◌, length, refl, ap, arith}
 use Rattle.std.specs.List.{list_any}
 use Rattle.tsp_text.specs.Groups.{threes_in, begun_triple}

@@ -1,4 +1,5 @@
--- The fixed pairs of a section without a fault: no more than may be, each of two different nodes.
+-- The fixed pairs of a section without a fault: no more than may be, each of two different nodes. For the laws
+-- `spelled_files_are_valid` and `clean_fields_are_valid` in src/validity.rt.
 use Rattle.std.proofs.Common.{◌≡◌, ℕ, Bool, true, false, cond, List, [], ◌∷◌, ◌++◌, length, map, refl, sym, ap, subst, ◌∙◌, None}
 use Rattle.std.specs.Prelude.{not, ◌&&◌, ◌==◌, nat_le, nat_abs}
 use Rattle.std.specs.List.{list_any}

@@ -1,4 +1,5 @@
--- Lists below their limit, and words by twos, with one more.
+-- Lists below their limit, and words by twos, with one more. For the law `clean_fields_are_valid` in src/validity.rt and
+-- others.
 use Rattle.std.proofs.Common.{◌≡◌, ℕ, Bool, true, false, List, [], ◌∷◌, ◌++◌, length, refl, ap, ◌∙◌, arith}
 use Rattle.std.specs.Prelude.{not, ◌&&◌, nat_le}
 use Rattle.std.specs.List.{list_all}

@@ -1,4 +1,5 @@
--- A section other than the tours comes after DIMENSION, and its value is judged with that number of nodes.
+-- A section other than the tours comes after DIMENSION, and its value is judged with that number of nodes. For the laws
+-- `spelled_files_are_valid` and `clean_fields_are_valid` in src/validity.rt.
 use Rattle.std.proofs.Common.{◌≡◌, ℕ, Bool, true, false, cond, List, [], ◌∷◌, refl, sym, ap, subst, ◌∙◌, Option, Some, None}
 use Rattle.std.proofs.lemmas.Bool.{false≢true}
 use Rattle.tsp_format.specs.declared.field.Field.{Field}

@@ -1,4 +1,4 @@
--- The bound of a least 1-tree under adjusted weights.
+-- The bound of a least 1-tree under adjusted weights. For the law `adjusted_bounds_bound_cycles` in src/laws.rt.
 use Rattle.std.proofs.Common.{◌≡◌, ℕ, ◌≤◌, ◌==◌, ◌&&◌, ◌||◌, Bool, true, false, List, [], ◌∷◌, length, ℤ, ◌+ℤ◌, ◌≤ℤ◌, refl, arith, ap, ap₂, subst₂, ◌∙◌}
 use Rattle.std.specs.Prelude.{pos, ◌-ℤ◌, ◌*ℤ◌, if◌then◌else◌}
 use Rattle.std.specs.List.{AllByRecursion}

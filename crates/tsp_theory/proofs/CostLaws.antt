@@ -1,4 +1,5 @@
--- The laws of cycles and of lengths that the crate of costs promises.
+-- The laws of cycles and of lengths that the crate of costs promises. For the law `adjusted_bounds_bound_cycles` in src/laws.rt
+-- and others.
 use Rattle.std.proofs.Common.{◌≡◌, ◌≢◌, ℕ, ◌≤◌, ◌<◌, suc, ◌+◌, List, [], ◌∷◌, length, get_or, refl, sym, ap, subst, ◌∙◌, arith}
 use Rattle.std.specs.Prelude.{ℤ, pos, ◌+ℤ◌, ◌*ℤ◌, ◌≤ℤ◌}
 use Rattle.std.specs.List.{range_with_len}

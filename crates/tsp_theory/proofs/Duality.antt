@@ -1,4 +1,5 @@
--- Weak duality: good duals bound the length of every cycle.
+-- Weak duality: good duals bound the length of every cycle. For the laws `bounds_are_unique` and `duals_bound_cycles` in
+-- src/laws.rt.
 use Rattle.std.proofs.Common.{◌≡◌, ℕ, List, subst, arith}
 use Rattle.std.specs.Prelude.{ℤ, pos, negsuc, ◌+ℤ◌, ◌-ℤ◌, ◌*ℤ◌}
 use Rattle.std.proofs.lemmas.Int.{ints}

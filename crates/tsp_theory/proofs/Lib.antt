@@ -1,3 +1,4 @@
+-- The files of lemmas of this crate. Crates above may import them.
 pub mod Adjustments
 pub mod CostLaws
 pub mod Crossings

@@ -1,4 +1,4 @@
--- Sums of whole numbers over lists.
+-- Sums of whole numbers over lists. For the law `lengths_add_up` in src/cycle_laws.rt and others.
 use Rattle.std.proofs.Common.{◌≡◌, ℕ, zero, suc, List, [], ◌∷◌, refl, arith}
 use Rattle.std.specs.Prelude.{ℤ, pos, negsuc, ◌+ℤ◌, ◌*ℤ◌, ◌≤ℤ◌}
 use Rattle.std.specs.List.{sum_by, AllByRecursion}

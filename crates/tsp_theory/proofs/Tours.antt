@@ -1,4 +1,5 @@
--- A cycle from node 1 on is a 1-tree, so a least 1-tree weighs no more.
+-- A cycle from node 1 on is a 1-tree, so a least 1-tree weighs no more. For the laws `least_trees_are_below_cycles` and
+-- `node_bounds_bound_cycles` in src/laws.rt.
 use Rattle.std.proofs.Common.{◌≡◌, ◌≢◌, ℕ, suc, ◌+◌, ◌<◌, ◌≤◌, Bool, true, false, not, eqb, cond, List, [], ◌∷◌, length, map, ℤ, ◌+ℤ◌, ◌≤ℤ◌, inl, inr, refl, arith, ap, sym, ◌∙◌, subst}
 use Rattle.std.proofs.lemmas.Bool.{cases_Bool, or_parts, or_cases, both_ways, ne_eqb, eqb-true, eqb-false}
 use Rattle.std.proofs.lemmas.Int.{ints}

@@ -1,4 +1,4 @@
--- Additions to a number, one after the other.
+-- Additions to a number, one after the other. For `lower` in src/weights.rt of tsp_bound.
 use Rattle.std.proofs.Common.{◌≡◌, ◌≢◌, ℕ, ◌==◌, List, FitsSigned, inl, inr, refl, ap, sym, subst, ◌∙◌, arith}
 use Rattle.std.specs.Int.{w64, int_wrap}
 use Rattle.std.specs.Prelude.{ℤ, pos, ◌+ℤ◌, if◌then◌else◌}

@@ -1,4 +1,4 @@
--- The reasons against routes, ruled out one by one.
+-- The reasons against routes, ruled out one by one. For `verdict_on_routes` in src/routes.rt.
 use Rattle.std.proofs.Common.{ℕ, ◌≤◌, arith}
 use Rattle.tsp_draft.specs.Fields.{Fields, nodes_of}
 use Rattle.tsp_reason.specs.declared.verdict.Reason.{Reason}

@@ -1,4 +1,4 @@
--- The customers of four nodes whose depot is node 1.
+-- The customers of four nodes whose depot is node 1. For the law `examples_against_routes` in src/examples.rt and others.
 use Rattle.std.proofs.Common.{ℕ, zero, suc, arith, refl}
 use Rattle.tsp_verdict.specs.Plan.{IsCustomer}
 

@@ -1,4 +1,4 @@
--- Reasons against a certificate for routes, ruled out one by one, and its bound.
+-- Reasons against a certificate for routes, ruled out one by one, and its bound. For `judge_walks` in src/walks.rt.
 use Rattle.std.proofs.Common.{◌≡◌, ◌∙◌, ℕ, ◌+◌, ◌-◌, ◌*◌, ◌<◌, ◌≤◌, true, List, [], ◌∷◌, length, refl, sym, ap, subst, arith, to_z, of_z}
 use Rattle.std.specs.Prelude.{FitsSigned, ◌^◌, unwrap_or, nat_abs, Option, None, Some, ℤ, pos}
 use Rattle.std.specs.List.{All, AllByRecursion}

@@ -2,5 +2,6 @@
 use Rattle.tsp_cases.proofs.CaseLaws.{cases_bound_cycles}
 use Rattle.tsp_cases.proofs.laws.cases_bound_cycles.Goals as goal
 
+-- plan: by the lemma `cases_bound_cycles`
 pub returns : goal.returns
 returns c = cases_bound_cycles

@@ -2,5 +2,6 @@
 use Rattle.tsp_cases.proofs.CaseLaws.{cycles_keep_leaves}
 use Rattle.tsp_cases.proofs.laws.cycles_keep_leaves.Goals as goal
 
+-- plan: by the lemma `cycles_keep_leaves`
 pub returns : goal.returns
 returns c = cycles_keep_leaves

@@ -2,5 +2,6 @@
 use Rattle.tsp_cases.proofs.Decisions.{decided_bounds_bound_cycles}
 use Rattle.tsp_cases.proofs.laws.decided_bounds_bound_cycles.Goals as goal
 
+-- plan: by the lemma `decided_bounds_bound_cycles`
 pub returns : goal.returns
 returns c = decided_bounds_bound_cycles c.adjusted_bounds_bound_cycles.ensures.cycles

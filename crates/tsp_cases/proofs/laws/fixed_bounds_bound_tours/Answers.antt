@@ -2,5 +2,6 @@
 use Rattle.tsp_cases.proofs.Decisions.{fixed_bounds_bound_tours}
 use Rattle.tsp_cases.proofs.laws.fixed_bounds_bound_tours.Goals as goal
 
+-- plan: by the lemma `fixed_bounds_bound_tours`
 pub returns : goal.returns
 returns c = fixed_bounds_bound_tours c.adjusted_bounds_bound_cycles.ensures.cycles

@@ -2,6 +2,7 @@
 use Rattle.tsp_cases.proofs.SmallRows.{leaf_alone, leaf_with_arc}
 use Rattle.tsp_cases.proofs.row_examples.examples_of_leaves.Goals as goal
 
+-- plan: by the lemmas `leaf_alone` and `leaf_with_arc`
 pub returns-clause-alone : goal.returns-clause-alone
 returns-clause-alone c = leaf_alone
 

@@ -2,5 +2,6 @@
 use Rattle.tsp_cases.proofs.CombsBySets.{sets_tell_combs, sets_give_leaves}
 use Rattle.tsp_cases.proofs.set_laws.sets_tell_combs.Goals as goal
 
+-- plan: by the lemmas `sets_tell_combs` and `sets_give_leaves`
 pub returns : goal.returns
 returns c = record { combs = sets_tell_combs; leaves = sets_give_leaves }

@@ -2,6 +2,7 @@
 use Rattle.tsp_distance.proofs.Roots.{least-most}
 use Rattle.tsp_distance.proofs.root.settled_root.Goals as goal
 
+-- plan: by the lemma `least-most`
 pub returns-then-is_least_cover-clause-most : goal.returns-then-is_least_cover-clause-most
 returns-then-is_least_cover-clause-most c =
     least-most c.args.rounding c.args.square c.args.most _ c.requires.covered c.if-is_least_cover.ensures.least

@@ -2,5 +2,6 @@
 use Rattle.tsp_draft.proofs.ValidFields.{in_range}
 use Rattle.tsp_draft.proofs.laws.valid_fields_are_in_range.Goals as goal
 
+-- plan: by the lemma `in_range`
 pub returns : goal.returns
 returns c = in_range

@@ -2,5 +2,6 @@
 use Rattle.tsp_families.proofs.Divisions.{divisions_bound_cycles}
 use Rattle.tsp_families.proofs.laws.divisions_bound_cycles.Goals as goal
 
+-- plan: by the lemma `divisions_bound_cycles`
 pub returns : goal.returns
 returns c = divisions_bound_cycles

@@ -2,5 +2,6 @@
 use Rattle.tsp_families.proofs.PartWalks.{least_lengths_are_unique}
 use Rattle.tsp_families.proofs.laws.least_lengths_are_unique.Goals as goal
 
+-- plan: by the lemma `least_lengths_are_unique`
 pub returns : goal.returns
 returns c = least_lengths_are_unique

@@ -2,5 +2,6 @@
 use Rattle.tsp_families.proofs.PartWalks.{parts_bound_cycles}
 use Rattle.tsp_families.proofs.laws.parts_bound_cycles.Goals as goal
 
+-- plan: by the lemma `parts_bound_cycles`
 pub returns : goal.returns
 returns c = parts_bound_cycles

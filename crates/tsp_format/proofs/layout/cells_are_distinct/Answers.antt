@@ -2,5 +2,6 @@
 use Rattle.tsp_format.proofs.Pairs.{cells_differ}
 use Rattle.tsp_format.proofs.layout.cells_are_distinct.Goals as goal
 
+-- plan: by the lemma `cells_differ`
 pub returns : goal.returns
 returns c = cells_differ

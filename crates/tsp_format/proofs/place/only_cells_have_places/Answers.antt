@@ -2,5 +2,6 @@
 use Rattle.tsp_format.proofs.Places.{no_place}
 use Rattle.tsp_format.proofs.place.only_cells_have_places.Goals as goal
 
+-- plan: by the lemma `no_place`
 pub returns : goal.returns
 returns c = no_place

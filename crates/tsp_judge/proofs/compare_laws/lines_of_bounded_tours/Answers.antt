@@ -2,6 +2,7 @@
 use Rattle.tsp_judge.proofs.CompareMeaning.{bounded_line}
 use Rattle.tsp_judge.proofs.compare_laws.lines_of_bounded_tours.Goals as goal
 
+-- plan: by the lemma `bounded_line`
 pub returns-clause-optimal : goal.returns-clause-optimal
 returns-clause-optimal c = λ common turn by certificate length. bounded_line common turn by certificate length length
 

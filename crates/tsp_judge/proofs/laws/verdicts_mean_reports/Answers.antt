@@ -3,6 +3,7 @@ use Rattle.tsp_judge.proofs.Runs.{sized}
 use Rattle.tsp_judge.proofs.Yeses.{accepted}
 use Rattle.tsp_judge.proofs.laws.verdicts_mean_reports.Goals as goal
 
+-- plan: by the lemmas `sized` and `accepted`
 pub returns-clause-accepted : goal.returns-clause-accepted
 returns-clause-accepted c = accepted
 

@@ -2,5 +2,6 @@
 use Rattle.tsp_read.proofs.RunSteps.{step_then}
 use Rattle.tsp_read.proofs.run.take_one.Goals as goal
 
+-- plan: by the lemma `step_then`
 pub returns-in-None : goal.returns-in-None
 returns-in-None g c = step_then _ _ _ _ _ _ _ _ c.in-None.ensures c.take_other.ensures

@@ -2,5 +2,6 @@
 use Rattle.tsp_routing.proofs.OneVerdict.{one_plan_bound_found}
 use Rattle.tsp_routing.proofs.laws.plan_bounds_are_unique.Goals as goal
 
+-- plan: by the lemma `one_plan_bound_found`
 pub returns : goal.returns
 returns c = one_plan_bound_found

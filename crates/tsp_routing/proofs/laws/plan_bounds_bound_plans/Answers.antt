@@ -2,5 +2,6 @@
 use Rattle.tsp_routing.proofs.PlanBounds.{plan_bounds_bound_plans}
 use Rattle.tsp_routing.proofs.laws.plan_bounds_bound_plans.Goals as goal
 
+-- plan: by the lemma `plan_bounds_bound_plans`
 pub returns : goal.returns
 returns c = plan_bounds_bound_plans

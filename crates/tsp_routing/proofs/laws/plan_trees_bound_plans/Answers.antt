@@ -2,5 +2,6 @@
 use Rattle.tsp_routing.proofs.PlanTrees.{plan_trees_bound_plans, plan_tree_bounds_are_unique}
 use Rattle.tsp_routing.proofs.laws.plan_trees_bound_plans.Goals as goal
 
+-- plan: by the lemmas `plan_trees_bound_plans` and `plan_tree_bounds_are_unique`
 pub returns : goal.returns
 returns c = record { plans = plan_trees_bound_plans; one = plan_tree_bounds_are_unique }

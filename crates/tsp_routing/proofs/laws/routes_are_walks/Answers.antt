@@ -3,5 +3,6 @@ use Rattle.tsp_routing.proofs.UnitLoads.{routes_have_room, loads_are_some}
 use Rattle.tsp_routing.proofs.RouteWalks.{routes_are_walks}
 use Rattle.tsp_routing.proofs.laws.routes_are_walks.Goals as goal
 
+-- plan: by the lemmas `routes_have_room`, `loads_are_some` and `routes_are_walks`
 pub returns : goal.returns
 returns c = record { room = routes_have_room; some = loads_are_some; walks = routes_are_walks }

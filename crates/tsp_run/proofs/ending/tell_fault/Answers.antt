@@ -1,4 +1,4 @@
--- The buffer holds the text and its end.
+-- The goals of `tell_fault` in src/ending.rt. The buffer holds the text and its end.
 use Rattle.std.proofs.Common.{◌≡◌, ◌∙◌, ap, subst, ℕ, List, [], ◌∷◌, ◌++◌}
 use Rattle.std.specs.Prelude.{OnOk}
 use Rattle.std.specs.Io.KnownBytes.{Appends}

@@ -4,6 +4,7 @@ use Rattle.tsp_run.specs.ComparisonRun.{IsFresh}
 use Rattle.tsp_run.proofs.Openings.{comparison_by}
 use Rattle.tsp_run.proofs.opened.opened_to_compare.Goals as goal
 
+-- plan: by the lemma `comparison_by`
 pub returns : goal.returns
 returns g c =
     let opens = g.O.Open.opens c.args.files.now in

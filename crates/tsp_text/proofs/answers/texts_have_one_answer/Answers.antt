@@ -1,4 +1,4 @@
--- Every text has exactly one answer.
+-- The goals of `texts_have_one_answer` in src/answers.rt. Every text has exactly one answer.
 use Rattle.tsp_text.proofs.OneAnswer.{one_answer, never_both, one_file, fault_of_text}
 use Rattle.tsp_text.proofs.answers.texts_have_one_answer.Goals as goal
 

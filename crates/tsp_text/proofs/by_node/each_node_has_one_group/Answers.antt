@@ -1,6 +1,8 @@
--- A section by node that isn't incomplete has one group for each node.
+-- The goals of `each_node_has_one_group` in src/by_node.rt. A section by node that isn't incomplete has one group for each
+-- node.
 use Rattle.tsp_text.proofs.ByNodeWords.{each_once}
 use Rattle.tsp_text.proofs.by_node.each_node_has_one_group.Goals as goal
 
+-- plan: by the lemma `each_once`
 pub returns : goal.returns
 returns c = λ items field clean by_node stands whole. each_once items field clean by_node stands whole

@@ -1,7 +1,8 @@
--- A settled end line ends every longer text.
+-- The goals of `settled_ends_stay` in src/settled.rt. A settled end line ends every longer text.
 use Rattle.tsp_text.proofs.SettledFaults.{part_kept, ended_kept}
 use Rattle.tsp_text.proofs.settled.settled_ends_stay.Goals as goal
 
+-- plan: by the lemmas `part_kept` and `ended_kept`
 pub returns-clause-part : goal.returns-clause-part
 returns-clause-part c = λ bytes more clean ended. part_kept bytes more clean ended
 

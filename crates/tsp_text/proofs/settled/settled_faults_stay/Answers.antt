@@ -1,7 +1,8 @@
--- A settled fault stays the fault of every longer text.
+-- The goals of `settled_faults_stay` in src/settled.rt. A settled fault stays the fault of every longer text.
 use Rattle.tsp_text.proofs.SettledFaults.{fault_kept, settled_kept}
 use Rattle.tsp_text.proofs.settled.settled_faults_stay.Goals as goal
 
+-- plan: by the lemmas `fault_kept` and `settled_kept`
 pub returns-clause-stays : goal.returns-clause-stays
 returns-clause-stays c = λ bytes more found e. fault_kept bytes more found e
 

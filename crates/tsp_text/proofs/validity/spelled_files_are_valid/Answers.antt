@@ -1,7 +1,8 @@
--- The fields of a text are a file.
+-- The goals of `spelled_files_are_valid` in src/validity.rt. The fields of a text are a file.
 use Rattle.tsp_text.proofs.ValidItems.{is_file, spelled_file}
 use Rattle.tsp_text.proofs.validity.spelled_files_are_valid.Goals as goal
 
+-- plan: by the lemmas `is_file` and `spelled_file`
 pub returns-clause-of_items : goal.returns-clause-of_items
 returns-clause-of_items c = λ items cut clean ended. is_file items cut clean ended
 

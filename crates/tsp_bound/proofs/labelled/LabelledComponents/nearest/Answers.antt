@@ -1,4 +1,4 @@
--- The goals of `Components::nearest` for `Labelled` in src/labelled.rt: what it ensures.
+-- The goals of `Components::nearest` for `Labelled::nearest` in src/labelled.rt: what it ensures.
 use Rattle.std.proofs.Common.{◌≡◌, ℕ, ℤ, List, length, IfSome, arith, subst}
 use Rattle.std.proofs.lemmas.List.{get_or_read}
 use Rattle.tsp_bound.specs.states.Boxes.{node_of}

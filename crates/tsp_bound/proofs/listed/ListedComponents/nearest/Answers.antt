@@ -1,4 +1,4 @@
--- The goals of `Components::nearest` for `Listed` in src/listed.rt: what it ensures.
+-- The goals of `Components::nearest` for `Listed::nearest` in src/listed.rt: what it ensures.
 use Rattle.std.proofs.Common.{◌≡◌, ◌≢◌, ◌≤ℤ◌, ◌∙◌, ℕ, pos, length, arith, rules, ap, sym, subst, w64, to_z, of_z, SFits}
 use Rattle.std.proofs.lemmas.Int.{ints, to_z-of_z}
 use Rattle.std.proofs.lemmas.List.{get_or_read}

@@ -1,4 +1,4 @@
--- `into_parts` moves two fields, and what they own goes with them.
+-- The proof of `Loose::into_parts` in src/loose.rt. It moves two fields, and what they own goes with them.
 use mathlib.Core.Path.{refl, sym, subst}
 use mathlib.Core.List.{List, [], ◌∷◌, ◌++◌}
 use Rattle.std.specs.Prelude.{◌≡◌, ℤ, Option, Some}

@@ -1,4 +1,4 @@
--- `of_parts` moves two fields, and what they own goes with them.
+-- The proof of `Loose::of_parts` in src/loose.rt. It moves two fields, and what they own goes with them.
 use mathlib.Core.Path.{refl, sym, subst}
 use mathlib.Core.List.{List, [], ◌∷◌, ◌++◌}
 use Rattle.std.specs.Prelude.{Some}

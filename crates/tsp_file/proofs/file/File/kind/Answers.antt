@@ -3,5 +3,6 @@ use Rattle.tsp_draft.proofs.ValidFields.{has_kind}
 use Rattle.tsp_draft.specs.states.Drafts.{fields_of}
 use Rattle.tsp_file.proofs.file.File.kind.Goals as goal
 
+-- plan: by the lemma `has_kind`
 pub unwrap-requires : goal.unwrap-requires
 unwrap-requires c = has_kind (fields_of c.self.inside.draft) c.self.invariant

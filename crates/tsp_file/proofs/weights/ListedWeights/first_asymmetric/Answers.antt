@@ -3,6 +3,7 @@ use Rattle.tsp_file.proofs.Listed.{even_between_nodes}
 use Rattle.tsp_file.proofs.Relaid.{outside}
 use Rattle.tsp_file.proofs.weights.ListedWeights.first_asymmetric.Goals as goal
 
+-- plan: by the lemmas `even_between_nodes` and `outside`
 pub returns-then-is_symmetric : goal.returns-then-is_symmetric
 returns-then-is_symmetric c =
     let w = c.args.self.now in

@@ -3,6 +3,7 @@ use Rattle.std.proofs.Common.{◌≡◌, length, rules, arith}
 use Rattle.tsp_file.proofs.Blocks.{block_begins}
 use Rattle.tsp_file.proofs.writer.block.fill.Goals as goal
 
+-- plan: by the lemma `block_begins`
 pub weights-init : goal.weights-init
 weights-init c =
     let long : length c.args.block.now ≡ 576 = search rules in

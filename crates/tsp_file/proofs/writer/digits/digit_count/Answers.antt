@@ -3,6 +3,7 @@ use Rattle.std.proofs.Common.{arith}
 use Rattle.tsp_file.proofs.Digits.{counted}
 use Rattle.tsp_file.proofs.writer.digits.digit_count.Goals as goal
 
+-- plan: by the lemma `counted`
 pub returns : goal.returns
 returns c =
     let fits = c.ranges.number.fits in

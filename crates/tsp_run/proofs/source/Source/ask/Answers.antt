@@ -1,4 +1,4 @@
--- One call, and what it returns.
+-- The goals of `Source::ask` in src/source.rt. One call, and what it returns.
 use Rattle.std.proofs.Common.{refl, sym, subst}
 use Rattle.tsp_run.specs.declared.source.Source.{Source}
 use Rattle.tsp_run.specs.declared.source.Source.TheVariants.{Input, Opened}

@@ -3,6 +3,7 @@ use Rattle.std.proofs.Common.{◌∙◌}
 use Rattle.tsp_section.proofs.FixedSteps.{pair_cut_short}
 use Rattle.tsp_section.proofs.parts.fixed.FixedList.finish.Goals as goal
 
+-- plan: by the lemma `pair_cut_short`
 pub returns : goal.returns
 returns c = λ n words h.
     let s = c.args.self in

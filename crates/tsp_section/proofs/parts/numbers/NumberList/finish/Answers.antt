@@ -2,6 +2,7 @@
 use Rattle.tsp_section.proofs.NumberSteps.{numbers_finish, numbers_to_come}
 use Rattle.tsp_section.proofs.parts.numbers.NumberList.finish.Goals as goal
 
+-- plan: by the lemmas `numbers_finish` and `numbers_to_come`
 pub returns : goal.returns
 returns c = λ low high n words h.
     let s = c.args.self in (

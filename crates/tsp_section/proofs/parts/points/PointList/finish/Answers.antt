@@ -3,6 +3,7 @@ use Rattle.tsp_draft.specs.states.Drafts.{points_of}
 use Rattle.tsp_section.proofs.CoordSteps.{all_taken}
 use Rattle.tsp_section.proofs.parts.points.PointList.finish.Goals as goal
 
+-- plan: by the lemma `all_taken`
 pub returns : goal.returns
 returns c = λ in_space n words h.
     let s = c.args.self in

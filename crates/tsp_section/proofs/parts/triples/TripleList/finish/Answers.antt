@@ -3,6 +3,7 @@ use Rattle.std.proofs.Common.{◌∙◌}
 use Rattle.tsp_section.proofs.TripleSteps.{triple_cut_short}
 use Rattle.tsp_section.proofs.parts.triples.TripleList.finish.Goals as goal
 
+-- plan: by the lemma `triple_cut_short`
 pub returns : goal.returns
 returns c = λ n words h.
     let s = c.args.self in

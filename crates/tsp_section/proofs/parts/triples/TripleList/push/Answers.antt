@@ -3,6 +3,7 @@ use Rattle.std.proofs.Common.{◌∙◌, sym}
 use Rattle.tsp_section.proofs.TripleSteps.{triple_past_end}
 use Rattle.tsp_section.proofs.parts.triples.TripleList.push.Goals as goal
 
+-- plan: by the lemma `triple_past_end`
 pub returns-then-is_minus_one-clause-takes : goal.returns-then-is_minus_one-clause-takes
 returns-then-is_minus_one-clause-takes c = λ n words h.
     let s = c.args.self.now in
