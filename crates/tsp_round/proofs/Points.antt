@@ -117,7 +117,8 @@ groups_back laws n few i (p ∷ xs) room all =
     let both = and_parts (is_point false p) (list_all (is_point false) xs) all in
     let flat = and_parts (is_within most_coordinate p.x && is_within most_coordinate p.y) (int_eq p.z (pos 0)) both.0 in
     let inside = and_parts (is_within most_coordinate p.x) (is_within most_coordinate p.y) flat.0 in
-    let rest : List (ℤ × Point) = map (λ (group : List ℕ × List ℕ × List ℕ). (number (node n group.0), point_in_words group.1 group.2)) (threes_in (flat_map point_entry (enumerate_from (i + 1 + 1) xs))) in
+    let rest : List (ℤ × Point) = map (λ (group : List ℕ × List ℕ × List ℕ). (number (node n group.0), point_in_words group.1 group.2))
+    (threes_in (flat_map point_entry (enumerate_from (i + 1 + 1) xs))) in
     ap (λ r. (number r, point_in_words (spelling p.x) (spelling p.y)) ∷ rest) (node_back laws n (i + 1) few (one_node n i (omega arith)))
     ∙ ap (λ (q : Point). (pos (i + 1), q) ∷ rest) (same_point p (number (decimal_of (spelling p.x))) (number (decimal_of (spelling p.y)))
     (ap number (coordinate_back laws p.x inside.0)) (ap number (coordinate_back laws p.y inside.1)) ((Decides-int_eq p.z (pos 0)).0 flat.1))
