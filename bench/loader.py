@@ -1,6 +1,6 @@
 """A loader in pure Python, in the style of the package tsplib95: values in dicts, a function for each weight.
 
-It reads what bench/compare makes, and measures tours: it checks neither the file nor that a tour is one.
+bench/compare runs it beside the program. It reads what that makes, and measures tours: it checks neither the file nor that a tour is one.
 """
 import math
 import re

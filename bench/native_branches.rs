@@ -5,6 +5,8 @@
 //! It prints what the check of a tour prints below the type and the nodes. With ROUNDS the last line
 //! is the nanoseconds that the verdict of files in memory took, the mean of all rounds.
 //!
+//! bench/trees builds it by rustc, and ends where it prints another bound than the program.
+//!
 //! The weights without the potentials are in one matrix through all leaves: a branch marks two cells
 //! of it, and a multiplier that changes changes the pairs inside a set of its family. The crossings of a
 //! set by a pair are 1 at each end inside, less 2 where both are, so the ends go to the potentials.

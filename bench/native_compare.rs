@@ -3,6 +3,8 @@
 //! An instance has TYPE TSP or CVRP and EUC_2D, with at most nine decimals. Each file is read in pieces, and each
 //! word is checked. Each node of a solution is marked, and its length is the exact sum of the rounded distances, added
 //! up as its nodes come. For CVRP each route's load is compared with the capacity. A file with a fault ends the program.
+//!
+//! bench/compare builds it by rustc, and ends where its lengths aren't those of the program.
 
 use std::env;
 use std::fs::File;

@@ -4,6 +4,8 @@
 //!
 //! It prints what the check of routes prints from their length on, of files without a reason against them.
 //!
+//! bench/trees builds it by rustc, and ends where it prints another bound than the program.
+//!
 //! The weights without the potentials are in one matrix through all leaves, by where a link ends, so that
 //! the steps to a customer read one row. A table has, for each load and customer, the least weight of a walk
 //! from the depot to there, the customer before, and the least over all others before.

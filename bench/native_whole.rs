@@ -3,6 +3,8 @@
 //! usage: native_whole check INSTANCE SOLUTION
 //!        native_whole bound INSTANCE --potentials FILE
 //!
+//! bench/whole builds it by rustc, and ends where its report isn't that of the program.
+//!
 //! It reads each file in pieces, in one pass, and keeps what the program keeps: weights in 8 bytes, points in
 //! billionths. It is for files without faults, with plain numbers, and solutions and certificates that are
 //! accepted. All else ends it with status 2.

@@ -1,4 +1,7 @@
-"""What `rt try` lowers without a proof, compiled in parts by the toolchain's clang on all cores."""
+"""What `rt try` lowers without a proof, compiled in parts by the toolchain's clang on all cores.
+
+scripts/quick makes the quick program of it, on which ./check runs the suites `cases` and `tables`.
+"""
 from __future__ import annotations
 
 import os

@@ -1,4 +1,7 @@
-"""What a release has for other systems: their tools, what is made of the toolchain's modules, the files, the licences."""
+"""What a release has for other systems: their tools, what is made of the toolchain's modules, the files, the licences.
+
+`./release --systems` uses it, and tests/systems/releases tries what that makes.
+"""
 from __future__ import annotations
 
 import shutil

@@ -1,4 +1,6 @@
 //! The files of the native checks of certificates by branching: fields, costs and families.
+//!
+//! A module of bench/native_branches.rs and bench/native_routes.rs, which bench/trees builds and compares with the program.
 
 use std::collections::HashMap;
 use std::fs;

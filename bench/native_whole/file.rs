@@ -1,4 +1,5 @@
 //! The fields of a file that the rows of bench/whole need. Another keyword, section or type ends the program.
+//! A module of bench/native_whole.rs, which bench/whole builds.
 
 use crate::fail;
 use crate::text::Source;

@@ -4,6 +4,8 @@ The script recheck.py is put beside it: YOKECAIRN_RECHECK names it, where this f
 YOKECAIRN_SYSTEM names the system of the library, one of SYSTEMS, where it isn't Linux on x86-64; then YOKECAIRN_VERSION
 is the library's version, which else the library is asked for. Any Python 3 calls the library over ctypes. For Linux it
 needs no glibc above 2.17.
+
+./release runs it. tests/test_wheel.py builds a wheel twice and compares the bytes.
 """
 
 import ctypes

@@ -1,4 +1,5 @@
-/* The heap of the proved code, over malloc. A block of no bytes has one byte, so that each block has an address. */
+/* The heap of the proved code, over malloc. A block of no bytes has one byte, so that each block has an address.
+ * bindings/systems/build compiles it, and tests/systems/systems tests what that makes. */
 #include <stdint.h>
 #include <stdlib.h>
 

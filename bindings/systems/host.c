@@ -1,5 +1,5 @@
 /* What the program asks of the system beside the C library, for Linux: its words, its variables, and the number of the
- * last error. */
+ * last error. bindings/systems/build compiles it, and tests/systems/systems tests what that makes. */
 #include <errno.h>
 #include <stdint.h>
 #include <stdlib.h>

@@ -2,6 +2,8 @@
 """Runs one case of the producer's tests: cases.py CASE TSP_CERTIFY TSP
 
 The proved program TSP judges each certificate. A wrong answer ends the case with status 1.
+producer/tests/CMakeLists.txt lists the cases, each as a test of ctest: a new case has to be named there too.
+tests/libraries/producer runs them all, as the suite `producer` of ./check.
 """
 
 import json

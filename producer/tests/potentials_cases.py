@@ -2,6 +2,8 @@
 """Runs one case of the tests of tsp-potentials: potentials_cases.py CASE TSP_POTENTIALS TSP
 
 The proved program TSP judges each file. A wrong answer ends the case with status 1.
+CMakeLists.txt lists the cases, each as the test potentials_CASE of ctest: a new case has to be named there too.
+tests/libraries/producer runs them all, as the suite `producer` of ./check. What they share is in cases.py.
 """
 
 import json

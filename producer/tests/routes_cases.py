@@ -2,7 +2,8 @@
 """Runs one case of the tests of tsp-certify for routes: routes_cases.py CASE TSP_CERTIFY TSP
 
 Where the program TSP judges certificates of routes it does, else judge_routes.py. A wrong answer ends the case with
-status 1.
+status 1. CMakeLists.txt lists the cases, each as the test routes_CASE of ctest: a new case has to be named there too.
+tests/libraries/producer runs them all, as the suite `producer` of ./check. What they share is in cases.py.
 """
 
 import json

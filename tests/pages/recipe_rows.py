@@ -1,4 +1,7 @@
-"""What the recipes of examples/recipes have to write, and what they have to refuse. Worked out by hand."""
+"""What the recipes of examples/recipes have to write, and what they have to refuse. Worked out by hand.
+
+tests/pages/recipes runs them, as the suite `recipes` of ./check.
+"""
 from __future__ import annotations
 
 from typing import NamedTuple

@@ -1,4 +1,5 @@
-/* Streams as they are on Windows too: the tests in C write lines that end in one byte. */
+/* Streams as they are on Windows too: the tests in C write lines that end in one byte.
+ * bindings/c/test links it to each of them for Windows. */
 #include <fcntl.h>
 #include <io.h>
 

@@ -1,5 +1,6 @@
 /* Buffers that are too small by one byte or number and more, what stays as it was, and numbers that are
- * refused. Prints a line for each check that fails, and exits with 1 then. */
+ * refused. Prints a line for each check that fails, and exits with 1 then.
+ * bindings/c/test builds and runs it, in the suite `bindings` of ./check. */
 #include "expect.h"
 
 static const char MATRIX[] = "TYPE : ATSP\nDIMENSION : 2\nEDGE_WEIGHT_TYPE : EXPLICIT\nEDGE_WEIGHT_FORMAT : FULL_MATRIX\n"

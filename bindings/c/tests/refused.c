@@ -1,6 +1,7 @@
 /* refused INSTANCE TOUR CERTIFICATE BY: each request for memory of each call is refused in turn. The status is
  * then that of out of memory, or the one of the call without a refusal, with the same text or numbers; and all
- * that was taken is freed. Prints a line for each call, and exits with 1 where one fails. */
+ * that was taken is freed. Prints a line for each call, and exits with 1 where one fails.
+ * bindings/c/test builds and runs it, in the suite `bindings` of ./check. */
 #define _GNU_SOURCE
 #include "../tsp.h"
 #include "files.h"

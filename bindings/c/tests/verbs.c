@@ -1,5 +1,6 @@
 /* The program's verbs over the library, so that tests/program/run-tables can run it on its rows: the report or the
- * text goes to standard output, the line of a fault to standard error, and the status is the exit status. */
+ * text goes to standard output, the line of a fault to standard error, and the status is the exit status.
+ * bindings/c/test builds it, in the suite `bindings` of ./check. */
 #include "../tsp.h"
 #include "files.h"
 

@@ -1,5 +1,6 @@
 // The calls of the package, on the repository's examples: PACKAGE=FOLDER node --test. Expected values are worked out by
 // hand, or come from the pages.
+// bindings/node/test runs it, in the suite `node` of ./check.
 
 import assert from "node:assert/strict";
 import { readFileSync, readdirSync } from "node:fs";

@@ -1,4 +1,5 @@
 // The program's verbs by the package's calls: node by-calls.mjs PACKAGE
+// bindings/node/test runs it, in the suite `node` of ./check.
 
 import { join } from "node:path";
 import { pathToFileURL } from "node:url";

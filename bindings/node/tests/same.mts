@@ -1,4 +1,5 @@
 // What the package's modules are, by the comments in them, is what index.d.mts declares.
+// bindings/node/test compiles it by TypeScript's tsc where it is installed, in the suite `node` of ./check.
 
 import type * as declared from "../index.mjs";
 import * as made from "../../javascript/yokecairn.mjs";

@@ -1,5 +1,6 @@
 // Runs in one process of Node. Each line of standard input is a run, {"words": [..], "folder": PATH}, and for each one
 // line is written, {"status": N, "out": TEXT, "err": TEXT}, with texts in base64.
+// bindings/node/test runs the two programs that use it, in the suite `node` of ./check.
 
 import { createInterface } from "node:readline";
 

@@ -1,4 +1,5 @@
 // A program that uses the package, for tsc: its types are those that index.d.mts declares.
+// bindings/node/test compiles it by TypeScript's tsc where it is installed, in the suite `node` of ./check.
 
 import { check, checkMany, compare, Fault, Problem, Report, type Job } from "yokecairn";
 

@@ -1,4 +1,8 @@
-"""The reasons for the line `no`. tests/repository/reasons writes this file from bindings/reasons.tsv."""
+"""The reasons for the line `no`.
+
+This file is made of bindings/reasons.tsv by `tests/repository/reasons --write`: change that one. The suite `reasons`
+of ./check compares the two.
+"""
 
 from enum import Enum
 

@@ -2,6 +2,7 @@
 //
 // Each example has to end in its verdict, and files that are chosen too. Nothing may be said on the console, and
 // the page may ask for nothing but itself. FOLDER gets pictures. The last line is 'N passed, M failed'.
+// bindings/web/test runs it, in the suite `bindings` of ./check.
 
 import assert from "node:assert/strict";
 import { spawn } from "node:child_process";

@@ -1,4 +1,5 @@
 // The parts of the page, and the library in it: PAGE=PATH node --test page.test.mjs
+// bindings/web/test runs it, in the suite `bindings` of ./check.
 
 import assert from "node:assert/strict";
 import { readFileSync } from "node:fs";

@@ -2,6 +2,7 @@
 //
 // Each line of standard input is a run, {"words": [..], "folder": PATH}, and for each one line is written,
 // {"status": N, "out": TEXT, "err": TEXT}, with texts in base64.
+// bindings/web/test runs it, in the suite `bindings` of ./check.
 
 import { existsSync, readFileSync } from "node:fs";
 import { join } from "node:path";
