@@ -304,7 +304,7 @@ uint32_t tsp_bind(struct tsp_instance *handle, const uint8_t *certificate, size_
                   struct tsp_result *result);
 
 /* Judges a solution, as tsp_check_result does of the texts that are open: the status, the report and the result are
- * the same. */
+ * the same. has_claim is 0 or 1; a handle has no strict check, and refuses 2 and 3. */
 uint32_t tsp_instance_check(struct tsp_instance *handle, const uint8_t *solution, size_t solution_len,
                             int64_t claimed, uint32_t has_claim, struct tsp_result *result, uint8_t *out,
                             size_t out_len, size_t *written);
