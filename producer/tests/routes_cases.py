@@ -246,7 +246,8 @@ def split():
     need(done.returncode == 0 and len(leaves) >= 2, f"no split: {leaves} {done.stderr}")
     need("gap" in judged("a.vrp", certificate="tree"), "the tree has no gap")
     for leaf in leaves:
-        certify("a.vrp", "out.routes", "--tree", "tree", "--leaf", leaf, "-o", f"part-{leaf}", "--seconds", "0")
+        said = certify("a.vrp", "out.routes", "--tree", "tree", "--leaf", leaf, "-o", f"part-{leaf}", "--seconds", "0")
+        need("kept by --tour-out alone" in said, f"shorter routes of a part would be lost: {said}")
     parts = [f"part-{leaf}" for leaf in leaves]
     for given, whole in ((parts, True), (parts[1:], False), (parts[::-1], True)):
         certify("a.vrp", "--tree", "tree", "-o", "out.branches", "--join", *given)

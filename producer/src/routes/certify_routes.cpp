@@ -29,6 +29,7 @@ int certify_routes(const Options& options, const std::string& tsp, std::unique_p
     RouteCertificates(instance).check(*begin.tree, *options.tree);
   }
   const Loads loads = loads_for(instance, begin.tree);
+  warn_of_lost_tour(options);
   Progress progress(options.log);
   Clock::catch_signals();
   const Clock clock(options.seconds);
