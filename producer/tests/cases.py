@@ -201,8 +201,11 @@ def named_tour():
     need("optimal" in judged("a.tsp", "out.branches.tour"), "the tour beside the certificate isn't the shorter one")
     Path("out.branches.tour").write_text("kept")
     said = certify("a.tsp", "bad.tour", "-o", "out.branches")
-    need("--tour-out says" in said, f"nothing is said of the shorter tour that isn't written: {said}")
+    told = "out.branches.tour: this file is there" in said and "--tour-out says" in said
+    need(told, f"nothing is said of the shorter tour that isn't written: {said}")
     need(Path("out.branches.tour").read_text() == "kept", "a file that no word names is overwritten")
+    said = certify("a.tsp", "bad.tour", "-o", "x" * 255)  # with .tour the name is too long
+    need("File name too long" in said and "this decides" in said, f"a tour that can't be kept ends the run: {said}")
     certify("a.tsp", "out.tour", "-o", "again.branches")
     need("optimal" in judged("a.tsp", "out.tour", "again.branches"), "the optimal tour isn't kept")
 

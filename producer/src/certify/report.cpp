@@ -5,8 +5,8 @@
 #include <iomanip>
 #include <iostream>
 
+#include "reading/tsp_program.h"
 #include "running/clock.h"
-#include "running/writing.h"
 
 namespace certify {
 namespace {
@@ -31,9 +31,16 @@ void keep_shorter(const Options& options, const std::function<void(const std::st
   const std::string path = options.certificate + ".tour";
   std::error_code error;
   if (!std::filesystem::is_regular_file(options.certificate, error)) return;
-  if (std::filesystem::exists(std::filesystem::symlink_status(path, error))) return;
-  write(path);
-  ending.kept = path;
+  if (std::filesystem::exists(std::filesystem::symlink_status(path, error))) {
+    std::cerr << "tsp-certify: " << path << ": this file is there, and isn't overwritten\n";
+    return;
+  }
+  try {
+    write(path);
+    ending.kept = path;
+  } catch (const Refusal& fault) {
+    std::cerr << "tsp-certify: " << fault.what() << "\n";
+  }
 }
 
 void warn_of_lost_tour(const Options& options) {

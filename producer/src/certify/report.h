@@ -27,7 +27,8 @@ bool is_rounded_away(const Tour& tour, const CostOf& cost_of) {
 }
 
 // Writes a tour where it is shorter than the named one and --tour-out is missing: beside the certificate, as
-// CERTIFICATE.tour, unless there is such a file. That of a part isn't: names of parts are often a pattern.
+// CERTIFICATE.tour, unless there is such a file. Where it can't be written, a line says why, and the run has
+// no fault: no word asks for it. That of a part isn't written: names of parts are often a pattern.
 void keep_shorter(const Options& options, const std::function<void(const std::string& path)>& write,
                   Ending& ending);
 // Says so at the start, where a shorter tour would be lost.
