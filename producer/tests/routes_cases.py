@@ -222,6 +222,10 @@ def time_limit():
     report = judged("a.vrp")
     need("a gap of" in said and report.get("gap", "0") in said, f"the gap isn't told: {said}")
     need(f"bound {report['bound']} as reckoned" in said, f"another bound was reckoned: {said}")
+    # A tree by other hands, whose scale has no common multiple with ours that a file may have.
+    write_certificate(150, "", "0 -1", "SCALE : 11", name="eleven")
+    certify("a.vrp", "out.routes", "--tree", "eleven", "-o", "out.branches", "--seconds", "2")
+    need("gap" in judged("a.vrp"), "a certificate at another scale has no gap")
 
 
 def interrupt():

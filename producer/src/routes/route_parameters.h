@@ -84,7 +84,7 @@ struct RouteLeafParameters {
   double margin = 0.005;  // of a bound over the target, which rounding mostly leaves above it
   double spare = 0.3;     // more than that where it takes no other cuts, since it makes files short
   Weight most_scaled_cost = 10000000000000;  // so that potentials stay within their limit
-  Weight most_common_scale = 1000000000;     // with that of a certificate that is gone on with
+  Weight most_common_scale = 1000000;        // of a file, with that of a certificate that is gone on with
   double least_multiplier = 1e-7;
 };
 inline constexpr RouteLeafParameters kRouteLeaves{};

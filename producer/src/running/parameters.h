@@ -160,6 +160,7 @@ struct LeafParameters {
   Weight fine_scale = 2520, coarse_scale = 840;  // multiples of many fractions
   Weight long_length = 2000000;  // tours from here on have the coarse one: their numbers are long as they are
   Weight most_scaled_weight = 20000000000000;  // so that potentials stay within their limit
+  Weight most_scale = 1000000;                 // of a file
   Weight largest_grid = 1000000;
   double least_surplus = 0.005;     // of the program's value over the goal, with which numbers are tried
   int steps = 20, many_steps = 60;  // along trees; many where the surplus is below the next one

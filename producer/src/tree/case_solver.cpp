@@ -13,13 +13,13 @@
 
 namespace certify {
 namespace {
-// The largest scale by which all weights stay within their limit.
+// The largest scale of a file by which all weights stay within their limit.
 Weight most_scale(const Matrix& weights) {
   Weight most = 1;
   for (int i = 0; i < weights.nodes(); i++) {
     for (int j = 0; j < weights.nodes(); j++) most = std::max(most, std::abs(weights(i, j)));
   }
-  return std::max<Weight>(1, kLeaves.most_scaled_weight / most);
+  return std::clamp<Weight>(kLeaves.most_scaled_weight / most, 1, kLeaves.most_scale);
 }
 
 // A multiple of the scale of a certificate that is gone on with, so that its numbers are whole.
