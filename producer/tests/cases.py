@@ -306,6 +306,10 @@ def resume():
     Path("seven").write_text("TYPE : BRANCHES\nDIMENSION : 200\nSCALE : 11\nBRANCH_SECTION\n0 1 5 2 -5 -1\nEOF\n")
     certify("a.tsp", "out.tour", "--tree", "seven", "-o", "out.branches", "--seconds", "0")
     need("optimal" in judged("a.tsp"), "a leaf at another scale isn't gone on with")
+    Path("more").write_text("TYPE : BRANCHES\nDIMENSION : 200\nBRANCH_SECTION\n0 205 1 -1\nEOF\n")
+    for words in (["out.tour", "--tree", "more"], ["--tree", "tree", "--join", "more"]):
+        said = certify("a.tsp", *words, "-o", "b", status=2)
+        need("a family that isn't there" in said, f"{words}: a multiplier of no family: {said}")
     write_points("b.tsp", "EUC_2D", 20, random.Random(6))
     need("another instance" in certify("b.tsp", "--tour-out", "b.tour", "--tree", "tree", "-o", "b", status=2), "a tree")
 

@@ -307,6 +307,7 @@ def bad_input():
     write_certificate(5, "", "0 -1", name="other")
     write_certificate(4, "1 2 -1 -1 -1", "0 -1", name="depot")
     write_certificate(4, "", "2 3 0 -1 0 -1", name="pair")
+    write_certificate(4, "", "5 1 0 -1 0 -1", name="family")
     faults = [
         (["heavy.vrp", *BOTH], "more than the capacity"),
         (["depot.vrp", *BOTH], "the depot's demand"),
@@ -319,6 +320,7 @@ def bad_input():
         (["a.vrp", *BOTH, "--tree", "other"], "another instance"),
         (["a.vrp", *BOTH, "--tree", "depot"], "one set of customers"),
         (["a.vrp", *BOTH, "--tree", "pair"], "on a pair"),
+        (["a.vrp", *BOTH, "--tree", "family"], "a family that isn't there"),
     ]
     for words, part in faults:
         said = certify(*words, status=2)

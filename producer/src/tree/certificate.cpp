@@ -55,6 +55,17 @@ void read_tree(std::istream& words, Certificate& certificate) {
   }
 }
 
+// Whether each family that a step is on is there.
+bool has_all_families(const Certificate& certificate) {
+  const int families = static_cast<int>(certificate.families.size());
+  return std::all_of(certificate.steps.begin(), certificate.steps.end(), [&](const TreeStep& step) {
+    if (const auto* branch = std::get_if<FamilyBranch>(&step)) return branch->family < families;
+    const auto* numbers = std::get_if<Numbers>(&step);
+    return numbers == nullptr || numbers->multipliers.empty() ||
+           numbers->multipliers.rbegin()->first < families;
+  });
+}
+
 std::vector<const Numbers*> leaves_of(const Certificate& certificate) {
   std::vector<const Numbers*> leaves;
   for (const TreeStep& step : certificate.steps) {
@@ -171,6 +182,7 @@ Certificate read_certificate(const std::string& tsp, const std::string& path) {
     if (keyword == "BRANCH_SECTION") read_tree(text, certificate);
   }
   if (certificate.steps.empty()) throw Refusal(path + ": this is no file of TYPE BRANCHES");
+  if (!has_all_families(certificate)) throw Refusal(path + ": a step is on a family that isn't there");
   return certificate;
 }
 

@@ -47,7 +47,7 @@ struct OpenLeaf {
   Numbers numbers;  // the multipliers by the place of a family
 };
 
-// Throws Refusal where the file isn't of TYPE BRANCHES.
+// Throws Refusal where the file isn't of TYPE BRANCHES, or a step is on a family that isn't there.
 Certificate read_certificate(const std::string& tsp, const std::string& path);
 // Divides by a common divisor. With `all` the families that no leaf names follow the others, up to half of
 // the limits; else they are left out.
