@@ -13,7 +13,7 @@
 #include "tours/tours.h"
 
 namespace certify {
-// By the words alone, so that it doesn't depend on the clock.
+// By the words and the number of threads, so that it doesn't depend on the clock.
 bool FirstTours::are_hurried() const {
   if (instance_.directed || options_.tour || options_.seconds == 0) return false;
   if (instance_.nodes() <= kTours.few_nodes) return false;
@@ -65,6 +65,7 @@ Start FirstTours::find() {
   start.seed = options_.seed;
   start.upper = options_.upper;
   start.named = options_.tour.has_value();
+  start.leaf = options_.leaf;
   start.families = options_.families && !instance_.directed;  // of an ATSP their gain was never measured
   if (instance_.directed) {
     find_arcs(start);

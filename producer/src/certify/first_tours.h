@@ -17,6 +17,7 @@ class FirstTours {
   bool are_hurried() const;
   // The tour by kicks, of a problem of this instance.
   void kick(const potentials::Problem& problem);
+  // The tours, and what the words say of the search.
   Start find();
 
  private:

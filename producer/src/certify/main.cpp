@@ -8,6 +8,7 @@
 #include <algorithm>
 #include <iostream>
 #include <memory>
+#include <optional>
 #include <utility>
 
 #include "certify/first_tours.h"
@@ -22,10 +23,13 @@
 
 namespace certify {
 namespace {
-Certificate read_tree(const std::string& tsp, const std::string& path, const Instance& instance) {
-  Certificate tree = read_certificate(tsp, path);
+// The certificate that is gone on with, where one is named.
+std::optional<Certificate> read_tree(const Options& options, const std::string& tsp,
+                                     const Instance& instance) {
+  if (!options.tree) return std::nullopt;
+  Certificate tree = read_certificate(tsp, *options.tree);
   if (tree.nodes != instance.nodes() || has_family_branches(tree)) {
-    throw Refusal(path + ": this is of another instance");
+    throw Refusal(*options.tree + ": this is of another instance");
   }
   return tree;
 }
@@ -38,6 +42,7 @@ int certify_instance(const Options& options) {
   if (is_large(options, *file)) return certify_large(options, tsp, std::move(file));
   const Instance instance = read_instance(tsp, options.instance, *file);
   const Tour given = options.tour ? read_tour(tsp, *options.tour, instance) : Tour{};
+  std::optional<Certificate> tree = read_tree(options, tsp, instance);
   warn_of_lost_tour(options);
   Progress progress(options.log);
   Clock::catch_signals();
@@ -50,8 +55,7 @@ int certify_instance(const Options& options) {
   if (!given.empty() && length_of(instance.weights, given) <= length_of(instance.weights, start.tour)) {
     start.tour = given;
   }
-  if (options.tree) start.tree = read_tree(tsp, *options.tree, instance);
-  start.leaf = options.leaf;
+  start.tree = std::move(tree);
   Search search(instance, start, clock, progress, {options.window, options.split, options.limits});
   search.run();
   write_certificate(options.certificate, search.certificate(), options.split > 0, options.limits);
