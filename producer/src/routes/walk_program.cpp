@@ -173,18 +173,6 @@ Graph WalkProgram::support() const {
   return support;
 }
 
-std::optional<Routes> WalkProgram::whole_solution() const {
-  Routes routes;
-  const double* const solution = program_.primalColumnSolution();
-  for (std::size_t column = 0; column < walks_.size(); column++) {
-    const double value = solution[column];
-    if (value < 1e-5) continue;
-    if (value < 1 - 1e-5 || walks_[column].empty()) return std::nullopt;
-    routes.push_back(walks_[column]);
-  }
-  return routes;
-}
-
 void WalkProgram::drop_sets(int age) {
   std::vector<int> dropped;
   std::vector<Row> left;

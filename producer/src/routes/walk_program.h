@@ -34,8 +34,6 @@ class WalkProgram {
   Duals duals() const;
   // How much each link is used, in both directions together.
   Graph support() const;
-  // The walks of the solution, where each is used once.
-  std::optional<Routes> whole_solution() const;
   // Drops the sets that were slack in more solutions than this in a row.
   void drop_sets(int age);
   // Where there are very many walks, drops those whose reduced cost is more.
