@@ -10,6 +10,7 @@ namespace certify::routes {
 namespace {
 constexpr Weight kMostPotential = 1000000000000000;
 constexpr Weight kMostMultipliers = 300000000000000000;
+constexpr double kMostNumber = 1e18;  // past both
 
 bool is_within_limits(const LeafNumbers& numbers) {
   Value sum = 0;
@@ -27,8 +28,10 @@ Weight largest_cost(const CvrpInstance& instance) {
   return most;
 }
 
+// What is past all limits stays past them.
 Weight floor_to(double number, Weight grid) {
-  return static_cast<Weight>(std::floor(number / static_cast<double>(grid))) * grid;
+  const double within = std::clamp(number, -kMostNumber, kMostNumber);
+  return static_cast<Weight>(std::floor(within / static_cast<double>(grid))) * grid;
 }
 
 template <typename W>
@@ -91,8 +94,9 @@ Weight scale_for(const CvrpInstance& instance) {
 WalkBound::WalkBound(const CvrpInstance& instance, const Loads& loads, Weight scale)
     : instance_(instance), loads_(loads), scale_(scale), unit_(unit_of_costs(instance)), table_(loads_) {}
 
-// Nothing where sums might be too large for their type.
+// Nothing where the numbers are past their limits, or sums might be too large for their type.
 std::optional<Weight> WalkBound::least_walk(const LeafNumbers& numbers) {
+  if (!is_within_limits(numbers)) return std::nullopt;
   const Links<Weight> links = links_under<Weight>(instance_, numbers, scale_);
   Weight most = 1;
   for (const Weight link : links) most = std::max(most, std::abs(link));
@@ -101,7 +105,6 @@ std::optional<Weight> WalkBound::least_walk(const LeafNumbers& numbers) {
 }
 
 Value WalkBound::value(const LeafNumbers& numbers, const std::vector<Limit>& limits) {
-  if (!is_within_limits(numbers)) return nothing();
   const std::optional<Weight> least = least_walk(numbers);
   if (!least) return nothing();
   if (*least >= WalkTable<Weight>::none() / 2) return -nothing();

@@ -203,6 +203,10 @@ TEST_CASE("Numbers past their limits have no bound") {
   const Loads loads = *loads_in(instance, 1);
   WalkBound bound(instance, loads, 1);
   CHECK(bound.value({{0, 1000000000000001, 0, 0}, {}}, {}) == WalkBound::nothing());
+  for (const double past : {1e300, -1e20}) {
+    CHECK(bound.value(bound.rounded({{0, past, 0, 0}, {}}, 1), {}) == WalkBound::nothing());
+    CHECK(bound.value(bound.rounded({{0, 0, 0, 0}, {{{1, 2}, past}}}, 1), {}) == WalkBound::nothing());
+  }
   CHECK(bound.value({{0, 0, 0, 0}, {{{1, 2}, -200000000000000000}, {{3}, 100000000000000001}}}, {}) ==
         WalkBound::nothing());
 }
