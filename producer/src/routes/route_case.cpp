@@ -21,14 +21,14 @@ std::optional<Routes> routes_along(const CvrpInstance& instance, const Graph& su
   Routes routes;
   std::vector<char> served(instance.nodes(), 0);
   for (const Edge& begin : support[0]) {
-    if (served[begin.to] != 0) continue;
+    if (served[begin.to] != 0 || begin.value < 0.5) continue;
     Route route;
     for (int v = begin.to, last = 0; v != 0;) {
       if (served[v] != 0) return std::nullopt;
       served[v] = 1;
       route.push_back(v);
       const auto on = std::find_if(support[v].begin(), support[v].end(),
-                                   [&](const Edge& edge) { return edge.to != last; });
+                                   [&](const Edge& edge) { return edge.to != last && edge.value > 0.5; });
       last = v;
       v = on == support[v].end() ? 0 : on->to;
     }
