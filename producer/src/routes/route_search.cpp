@@ -281,10 +281,10 @@ bool RouteSearch::coarsen_to(Weight grid, std::vector<int>& leaves) {
   const auto numbers_of = [&](int leaf) -> std::optional<LeafNumbers> {
     const Duals duals = duals_of(instance_, places_[leaf].numbers, problem_.scale);
     LeafNumbers numbers = bound_.rounded(duals, grid);
-    if (clock_.over() || bound_.value(numbers, limits_of(leaf)) < aim()) return std::nullopt;
+    if (bound_.value(numbers, limits_of(leaf)) < aim()) return std::nullopt;
     return numbers;
   };
-  auto coarse = numbers_of_all<LeafNumbers>(leaves, numbers_of);
+  auto coarse = numbers_of_all<LeafNumbers>(leaves, clock_, numbers_of);
   if (!coarse) return false;
   for (std::size_t k = 0; k < leaves.size(); k++) places_[leaves[k]].numbers = std::move((*coarse)[k]);
   return true;

@@ -406,7 +406,7 @@ void Search::drop_surplus() {
 
 // Whether each leaf reaches the target by multiples of a grid, which all then have.
 bool Search::coarsen_to(Weight grid, std::vector<int>& leaves) {
-  auto coarse = numbers_of_all<Numbers>(leaves, [&](int leaf) {
+  auto coarse = numbers_of_all<Numbers>(leaves, clock_, [&](int leaf) {
     return made_.coarse(places_[leaf].numbers, decisions_of(leaf), goal_.target, grid);
   });
   if (!coarse) return false;

@@ -2,6 +2,7 @@
 #pragma once
 #include <algorithm>
 #include <optional>
+#include <utility>
 #include <vector>
 
 #include "running/clock.h"
@@ -25,12 +26,15 @@ bool waits_for_none(const Window& window) {
                      [](const auto& slot) { return slot->job.place < 0; });
 }
 
-// The numbers of all leaves by numbers_of(leaf). Nothing where one has none, which is then the first leaf.
+// The numbers of all leaves by numbers_of(leaf). Nothing where the time is over, or one has none, which is
+// then the first leaf.
 template <typename Numbers, typename NumbersOf>
-std::optional<std::vector<Numbers>> numbers_of_all(std::vector<int>& leaves, const NumbersOf& numbers_of) {
+std::optional<std::vector<Numbers>> numbers_of_all(std::vector<int>& leaves, const Clock& clock,
+                                                   const NumbersOf& numbers_of) {
   std::vector<Numbers> all;
   all.reserve(leaves.size());
   for (auto leaf = leaves.begin(); leaf != leaves.end(); ++leaf) {
+    if (clock.over()) return std::nullopt;
     std::optional<Numbers> numbers = numbers_of(*leaf);
     if (!numbers) {
       std::rotate(leaves.begin(), leaf, leaf + 1);
