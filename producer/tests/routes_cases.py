@@ -217,10 +217,12 @@ def time_limit():
     """Two seconds are too short, and the file has a bound all the same, which is the reckoned one."""
     write_uniform("a.vrp", 150, random.Random(10), side=1000)
     begun = time.monotonic()
-    said = certify("a.vrp", *BOTH, "--seconds", "2")
+    said = certify("a.vrp", *BOTH, "--seconds", "2", "--log", "out.log")
     need(time.monotonic() - begun < 100, "the limit isn't kept")
     report = judged("a.vrp")
     need("a gap of" in said and report.get("gap", "0") in said, f"the gap isn't told: {said}")
+    bounds = [json.loads(line)["bound"] for line in Path("out.log").read_text().splitlines()]
+    need(max(bounds) == bounds[-1] == int(report["bound"]), f"a bound is lower at the end: {bounds}")
     need(f"bound {report['bound']} as reckoned" in said, f"another bound was reckoned: {said}")
     # A tree by other hands, whose scale has no common multiple with ours that a file may have.
     write_certificate(150, "", "0 -1", "SCALE : 11", name="eleven")

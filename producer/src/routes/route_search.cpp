@@ -125,7 +125,7 @@ RouteCaseSolver& RouteSearch::own_solver() {
 }
 
 Weight RouteSearch::least_bound() const {
-  Value least = open_.empty() ? -WalkBound::nothing() : open_.begin()->first;
+  Value least = open_.empty() ? left_ : std::min(left_, open_.begin()->first);
   for (const Window::Begun& slot : window_.running()) {
     if (slot->job.place >= 0) least = std::min(least, places_[slot->job.place].value);
   }
@@ -212,29 +212,38 @@ void RouteSearch::finish(int place) {
   log("leaf", least_bound());
 }
 
+// Branches on a case, where a file can have the branch.
+void RouteSearch::go_on(int place, const RouteOutcome& outcome) {
+  LeafNumbers named;
+  if (outcome.branch) named.multipliers[outcome.branch->set] = 1;
+  name_sets(named);
+  if (!named.multipliers.empty() && branches_ < plan_.limits.branches) {
+    branch(place, outcome);
+  } else {
+    left_ = std::min(left_, places_[place].value);
+  }
+  log("branch", least_bound());
+}
+
 // Takes what came of a case.
 void RouteSearch::take(int place, RouteOutcome& outcome) {
   sets_ = outcome.sets;
   walks_ = outcome.walks;
-  if (outcome.routes) {
-    const Weight length = length_of(instance_, *outcome.routes);
-    if (length < goal_.length) {
-      goal_ = {*outcome.routes, length, std::min(goal_.target, length)};
-      log("tour", least_bound());
-    }
-  }
+  const Weight length = outcome.routes ? length_of(instance_, *outcome.routes) : goal_.length;
+  const bool shorter = length < goal_.length;
+  if (shorter) goal_ = {*outcome.routes, length, std::min(goal_.target, length)};
   Place& here = places_[place];
   const std::size_t before = outcome.numbers.multipliers.size();
   name_sets(outcome.numbers);
   here.numbers = std::move(outcome.numbers);
   here.value = here.numbers.multipliers.size() == before ? outcome.value
                                                          : bound_.value(here.numbers, limits_of(place));
-  if (here.value >= aim()) return finish(place);
-  LeafNumbers named;
-  if (outcome.branch) named.multipliers[outcome.branch->set] = 1;
-  name_sets(named);
-  if (!named.multipliers.empty() && branches_ < plan_.limits.branches) branch(place, outcome);
-  log("branch", least_bound());
+  if (here.value >= aim()) {
+    finish(place);
+  } else {
+    go_on(place, outcome);
+  }
+  if (shorter) log("tour", least_bound());
 }
 
 void RouteSearch::take(Job& job) {

@@ -77,6 +77,7 @@ class RouteSearch {
   void take(int place, RouteOutcome& outcome);
   void name_sets(LeafNumbers& numbers);
   void branch(int place, const RouteOutcome& outcome);
+  void go_on(int place, const RouteOutcome& outcome);
   void finish(int place);
   void finish_reached();
   RouteCaseSolver& own_solver();
@@ -108,6 +109,7 @@ class RouteSearch {
   std::size_t named_nodes_ = 0;
   CertificateMaker made_;
   std::vector<int> open_leaves_;
+  Value left_ = -WalkBound::nothing();  // the least value of the cases without a branch that are left open
   Value least_ = -WalkBound::nothing();
   Numbers last_{};  // of the last leaf of the file
   LeafNumbers last_numbers_{};

@@ -116,7 +116,7 @@ Case Search::first_case() {
 }
 
 Standing Search::standing() const {
-  Value least = open_.empty() ? -ExactBound::nothing() : open_.begin()->first;
+  Value least = open_.empty() ? left_ : std::min(left_, open_.begin()->first);
   std::size_t running = 0;
   for (const Window::Begun& slot : window_.running()) {
     if (slot->job.place < 0) continue;
@@ -217,31 +217,38 @@ void Search::take_done(int place) {
     finish(place);
   } else if (problem_.instance.directed) {
     limited_ = true;
+    left_ = std::min(left_, places_[place].value);
   } else {
     open_.emplace(places_[place].value, -place);
   }
+}
+
+// Branches on a case, where a file can have the branch.
+void Search::go_on(int place, const Outcome& outcome) {
+  if (outcome.pair && branches_ < plan_.limits.branches) {
+    branch(place, outcome);
+  } else {
+    left_ = std::min(left_, places_[place].value);
+  }
+  log("branch");
 }
 
 // Takes what came of a case.
 void Search::take(int place, Outcome& outcome) {
   renumber(outcome);
   rows_ = outcome.rows;
-  if (outcome.tour) {
-    const Weight length = length_of(problem_.instance.weights, *outcome.tour);
-    if (length < goal_.length) {
-      goal_ = {*outcome.tour, length, std::min(goal_.target, length)};
-      log("tour");
-    }
-  }
+  const Weight length = outcome.tour ? length_of(problem_.instance.weights, *outcome.tour) : goal_.length;
+  const bool shorter = length < goal_.length;
+  if (shorter) goal_ = {*outcome.tour, length, std::min(goal_.target, length)};
   places_[place].numbers = std::move(outcome.numbers);
   places_[place].value = outcome.value;
   places_[place].warm = nullptr;
   if (outcome.done) {
     take_done(place);
-    return;
+  } else {
+    go_on(place, outcome);
   }
-  if (outcome.pair && branches_ < plan_.limits.branches) branch(place, outcome);
-  log("branch");
+  if (shorter) log("tour");
 }
 
 void Search::solve_first() {

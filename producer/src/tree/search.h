@@ -89,6 +89,7 @@ class Search {
   void take_done(int place);
   void renumber(Outcome& outcome);
   void branch(int place, const Outcome& outcome);
+  void go_on(int place, const Outcome& outcome);
   bool settle(int place);
   void finish(int place);
   void finish_reached();
@@ -124,6 +125,7 @@ class Search {
   std::shared_ptr<const History> history_;
   std::vector<TreeStep> steps_;
   std::vector<int> open_leaves_;
+  Value left_ = -ExactBound::nothing();  // the least value of the cases without a branch that are left open
   Value least_;
   int leaves_ = 0;
   std::size_t branches_ = 0, differences_ = 0;
