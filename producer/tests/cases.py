@@ -678,7 +678,8 @@ def bad_input():
         (["a.tsp", *both, "--split", "0"], "--split"),
         (["a.tsp", "out.tour", "more", *out], "more"),
         (["a.tsp", *both, "--wrong"], "--wrong"),
-        (["a.tsp", "-o", "no/folder/out", "--tour-out", "out.tour"], "no/folder/out"),
+        (["none.tsp", "-o", "no/folder/out", "--tour-out", "out.tour"], "no/folder/out: No such file or directory"),
+        (["none.tsp", "-o", ".", "--tour-out", "out.tour"], ".: Is a directory"),
     ]
     for words, part in faults:
         need(part in certify(*words, status=2), f"{words}: the fault doesn't tell of {part}")

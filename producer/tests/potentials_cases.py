@@ -236,7 +236,7 @@ def bad_input():
         (["a.tsp", *OUT, "--steps", "0"], "--steps"),
         (["a.tsp", *OUT, "--kicks", "-1"], "--kicks"),
         (["a.tsp", *OUT, "--wrong"], "--wrong"),
-        (["a.tsp", "-o", "no/folder/out"], "no/folder/out"),
+        (["none.tsp", "-o", "no/folder/out"], "no/folder/out: No such file or directory"),
     ]
     for words, part in faults:
         need(part in certify(*words, status=2), f"{words}: the fault doesn't tell of {part}")

@@ -91,7 +91,9 @@ std::variant<Options, Help> parse_options(int count, const char* const* words) {
   std::vector<std::string> read = files_read(options);
   if (options.tree) read.push_back(*options.tree);
   read.insert(read.end(), options.parts.begin(), options.parts.end());
-  refuse_overwriting(std::move(read), {options.certificate, options.tour_out, options.log});
+  const std::vector<std::optional<std::string>> written{options.certificate, options.tour_out, options.log};
+  refuse_overwriting(std::move(read), written);
+  refuse_unwritable(written);
   return options;
 }
 }  // namespace certify

@@ -38,8 +38,9 @@ std::variant<Options, Help> parse_options(int count, const char* const* words) {
   CLI::App app("Makes potentials of a TSP, or duals of an ATSP, and a tour of a TSP", "tsp-potentials");
   declare(app, options);
   if (const std::optional<Help> help = certify::take_words(app, count, words)) return *help;
-  certify::refuse_overwriting(certify::files_read(options),
-                              {options.potentials, options.tour_out, options.log});
+  const std::vector<std::optional<std::string>> written{options.potentials, options.tour_out, options.log};
+  certify::refuse_overwriting(certify::files_read(options), written);
+  certify::refuse_unwritable(written);
   return options;
 }
 }  // namespace potentials

@@ -1,5 +1,7 @@
 #include "running/writing.h"
 
+#include <unistd.h>
+
 #include <algorithm>
 #include <cerrno>
 #include <cstring>
@@ -51,6 +53,18 @@ void refuse_overwriting(std::vector<std::string> read,
                     ", and would be overwritten" + what + ": choose another name");
     }
     read.push_back(*path);
+  }
+}
+
+// Of a file that isn't there yet its folder decides.
+void refuse_unwritable(const std::vector<std::optional<std::string>>& written) {
+  std::error_code error;
+  for (const std::optional<std::string>& path : written) {
+    if (!path) continue;
+    if (fs::is_directory(*path, error)) throw Refusal(*path + ": " + std::strerror(EISDIR));
+    const fs::path folder = fs::path(*path).has_parent_path() ? fs::path(*path).parent_path() : ".";
+    const fs::path place = fs::exists(*path, error) ? fs::path(*path) : folder;
+    if (access(place.c_str(), W_OK) != 0) throw Refusal(*path + ": " + std::strerror(errno));
   }
 }
 }  // namespace certify

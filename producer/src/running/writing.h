@@ -15,4 +15,6 @@ bool same_file(const std::string& one, const std::string& other);
 // Throws Refusal where a file that is written is one that is read, or is written twice.
 void refuse_overwriting(std::vector<std::string> read,
                         const std::vector<std::optional<std::string>>& written);
+// Throws Refusal where a file can't be written: before the search for what goes into it.
+void refuse_unwritable(const std::vector<std::optional<std::string>>& written);
 }  // namespace certify
