@@ -33,8 +33,7 @@ double ColumnGeneration::bound_of(Duals& duals, double least_walk) const {
   double sum = 0;
   for (const double potential : duals.potentials) sum -= 2 * potential;
   for (const auto& [set, multiplier] : duals.multipliers) {
-    const auto found = limited_.find(set);
-    const Crossings own = found == limited_.end() ? free_crossings(instance_, set) : found->second;
+    const Crossings own = crossings_under(limited_, instance_, set);
     sum += multiplier * (multiplier > 0 ? own.low : own.high);
   }
   return sum;

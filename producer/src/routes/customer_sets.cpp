@@ -26,4 +26,10 @@ std::map<NodeSet, Crossings> limited_crossings(const CvrpInstance& instance,
   }
   return crossings;
 }
+
+Crossings crossings_under(const std::map<NodeSet, Crossings>& limited, const CvrpInstance& instance,
+                          const NodeSet& set) {
+  const auto found = limited.find(set);
+  return found == limited.end() ? free_crossings(instance, set) : found->second;
+}
 }  // namespace certify::routes

@@ -29,4 +29,7 @@ Crossings free_crossings(const CvrpInstance& instance, const NodeSet& set);
 // The crossings that decisions leave to their sets.
 std::map<NodeSet, Crossings> limited_crossings(const CvrpInstance& instance,
                                                const std::vector<Limit>& limits);
+// Those of any set under such decisions.
+Crossings crossings_under(const std::map<NodeSet, Crossings>& limited, const CvrpInstance& instance,
+                          const NodeSet& set);
 }  // namespace certify::routes

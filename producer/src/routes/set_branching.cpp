@@ -16,12 +16,19 @@ struct Candidate {
 // Sets to try, each once.
 class Candidates {
  public:
-  Candidates(const CvrpInstance& instance, const Graph& support) : instance_(instance), support_(support) {}
-  // Adds the set unless its crossings are within the margin of an even number.
+  Candidates(const SolvedCase& here, const Graph& support)
+      : instance_(here.instance),
+        support_(support),
+        limited_(limited_crossings(here.instance, here.limits)) {}
+  // Adds the set unless its crossings are within the margin of an even number, or one of the two cases is
+  // decided already: a solution may break decisions.
   void offer(const NodeSet& set, double margin) {
     if (!met_.insert(set).second) return;
     const double routes = crossings(set) / 2, part = routes - std::floor(routes);
-    if (part > margin && part < 1 - margin) list_.push_back({{set, static_cast<int>(std::floor(routes))}});
+    if (part <= margin || part >= 1 - margin) return;
+    const int t = static_cast<int>(std::floor(routes));
+    const Crossings own = crossings_under(limited_, instance_, set);
+    if (2 * t >= own.low && 2 * t + 2 <= own.high) list_.push_back({{set, t}});
   }
   // Pairs by how near the use of their link is to a half.
   void offer_pairs(std::size_t most, double margin) {
@@ -61,6 +68,7 @@ class Candidates {
   }
   const CvrpInstance& instance_;
   const Graph& support_;
+  const std::map<NodeSet, Crossings> limited_;
   std::set<NodeSet> met_;
   std::vector<Candidate> list_;
 };
@@ -88,7 +96,7 @@ double value_below(const SolvedCase& here, const SetBranch& branch, bool first) 
 
 std::optional<SetBranch> choose_branch(const SolvedCase& here, const std::vector<CapacityCut>& between) {
   const Graph support = here.program.support();
-  Candidates candidates(here.instance, support);
+  Candidates candidates(here, support);
   candidates.offer(here.instance.customers(), kSetBranching.margin);
   candidates.offer_pairs(kSetBranching.pairs, kSetBranching.margin);
   candidates.offer_sets(between, kSetBranching.sets, kSetBranching.margin);

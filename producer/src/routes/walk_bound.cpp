@@ -112,8 +112,7 @@ Value WalkBound::value(const LeafNumbers& numbers, const std::vector<Limit>& lim
   for (const int v : instance_.customers()) sum -= 2 * static_cast<Value>(numbers.potentials[v]);
   const std::map<NodeSet, Crossings> limited = limited_crossings(instance_, limits);
   for (const auto& [set, multiplier] : numbers.multipliers) {
-    const auto found = limited.find(set);
-    const Crossings own = found == limited.end() ? free_crossings(instance_, set) : found->second;
+    const Crossings own = crossings_under(limited, instance_, set);
     sum += static_cast<Value>(multiplier) * (multiplier > 0 ? own.low : own.high);
   }
   const Value route = static_cast<Value>(*least) - 2 * static_cast<Value>(numbers.potentials[0]);

@@ -356,6 +356,9 @@ TEST_CASE("A branch is on a set that the solution crosses between two even numbe
     }
     CHECK(crossed > 2 * branch->t);
     CHECK(crossed < 2 * branch->t + 2);
+    const std::vector<Limit> broken{{branch->set, true, branch->t}};  // by this solution
+    const auto other = choose_branch({instance, loads, program, broken, bound + 10}, {});
+    CHECK((!other || other->set != branch->set));
     for (const bool first : {true, false}) {  // what is reckoned of a case isn't below its bound
       const std::vector<Limit> limits{{branch->set, first, branch->t}};
       WalkProgram below(program);
