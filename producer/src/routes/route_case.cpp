@@ -111,13 +111,15 @@ void RouteCaseSolver::cut(Rounds& rounds) {
     past.push_back(bound);
     const bool stalls =
         past.size() > plan.window && bound - past[past.size() - 1 - plan.window] < plan.least_gain * length;
-    if (stalls && last) return;
+    const bool broken = last && raises < 4 && rounds.program.is_broken();
+    if (stalls && last && !broken) return;
     if (!stalls && (add_cuts(rounds, false) || add_cuts(rounds, true))) {
       if (round % 4 == 0) rounds.program.drop_sets(kCapacityCuts.slack_solutions);
       continue;
     }
-    if (last && rounds.program.is_broken() && raises++ < 4) {
+    if (broken) {
       rounds.program.raise_penalty();
+      raises++;
     } else if (last) {
       return;
     }

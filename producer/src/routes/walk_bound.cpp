@@ -20,14 +20,6 @@ bool is_within_limits(const LeafNumbers& numbers) {
                      [](Weight potential) { return std::abs(potential) <= kMostPotential; });
 }
 
-Weight largest_cost(const CvrpInstance& instance) {
-  Weight most = 1;
-  for (int i = 0; i < instance.nodes(); i++) {
-    for (int j = 0; j < instance.nodes(); j++) most = std::max(most, std::abs(instance.costs(i, j)));
-  }
-  return most;
-}
-
 // What is past all limits stays past them.
 Weight floor_to(double number, Weight grid) {
   const double within = std::clamp(number, -kMostNumber, kMostNumber);
@@ -43,6 +35,14 @@ struct MarkedSet {
 
 Weight halved_down(Weight number) { return (number - (number % 2 != 0 && number < 0 ? 1 : 0)) / 2; }
 }  // namespace
+
+Weight largest_cost(const CvrpInstance& instance) {
+  Weight most = 1;
+  for (int i = 0; i < instance.nodes(); i++) {
+    for (int j = 0; j < instance.nodes(); j++) most = std::max(most, std::abs(instance.costs(i, j)));
+  }
+  return most;
+}
 
 double unit_of_costs(const CvrpInstance& instance) {
   return std::max(1.0, static_cast<double>(largest_cost(instance)) / kColumns.largest_cost);

@@ -16,6 +16,8 @@ struct SetNumbers {
 using Duals = SetNumbers<double>;
 using LeafNumbers = SetNumbers<Weight>;
 
+// The largest absolute value of a cost, at least 1.
+Weight largest_cost(const CvrpInstance& instance);
 // Duals are in a unit, in which no cost is too large for the tolerance of Clp.
 double unit_of_costs(const CvrpInstance& instance);
 Duals duals_of(const CvrpInstance& instance, const LeafNumbers& numbers, Weight scale);

@@ -22,7 +22,8 @@ int crossings_of(const Route& walk, const std::vector<char>& inside) {
 WalkProgram::WalkProgram(const CvrpInstance& instance, Weight length)
     : instance_(instance),
       unit_(unit_of_costs(instance)),
-      penalty_(std::max<double>(10, static_cast<double>(std::abs(length)) / unit_)) {
+      penalty_(std::max<double>(
+          10, static_cast<double>(std::max(std::abs(length), largest_cost(instance))) / unit_)) {
   program_.setLogLevel(0);
   program_.scaling(0);
   program_.resize(customers(), 0);

@@ -16,8 +16,8 @@
 namespace certify::routes {
 class WalkProgram {
  public:
-  // Begins with a walk to each customer, and the row of all customers. The length sets the penalty. Costs,
-  // values and duals are in the unit of costs.
+  // Begins with a walk to each customer, and the row of all customers. The length sets the penalty, or the
+  // largest cost where costs below 0 make it short. Costs, values and duals are in the unit of costs.
   WalkProgram(const CvrpInstance& instance, Weight length);
   // Sets that join may be crossed as each plan does. How many weren't there yet.
   int add_sets(const std::vector<NodeSet>& sets);
