@@ -56,9 +56,10 @@ Value TreeBound::grow_tree() {
 }
 
 Value TreeBound::value(const Numbers& numbers, const std::vector<Decision>& decisions) {
-  const Value back = prepare(numbers);
-  if (back == nothing()) return back;
-  const Value sum = back + decide(decisions) + grow_tree();
+  Value sum = prepare(numbers);
+  if (sum == nothing()) return sum;
+  sum += decide(decisions);
+  sum += grow_tree();
   add_likely(links_);
   return sum;
 }
@@ -104,7 +105,9 @@ Value TreeBound::grow_likely_tree() {
 
 Value TreeBound::likely_value(const Numbers& numbers, const std::vector<Decision>& decisions) {
   for (const Decision& decision : decisions) add_likely({decision.pair});
-  const Value back = prepare(numbers);
-  return back == nothing() ? back : back + decide(decisions) + grow_likely_tree();
+  Value sum = prepare(numbers);
+  if (sum == nothing()) return sum;
+  sum += decide(decisions);
+  return sum + grow_likely_tree();
 }
 }  // namespace certify
