@@ -1,12 +1,16 @@
 // Bounds in whole numbers, before they are divided by their scale.
 #pragma once
+#include <algorithm>
+
 #include "tours/tour.h"
 
 namespace certify {
 __extension__ typedef __int128 Value;  // a bound times the scale
 
-// The least bound that a value gives.
+// The least bound that a value gives. One that is past all lengths stays past them.
 inline Weight rounded_up(Value value, Weight scale) {
-  return static_cast<Weight>(value >= 0 ? (value + scale - 1) / scale : -(-value / scale));
+  constexpr Value kMost = 4000000000000000000;
+  const Value bound = value >= 0 ? (value + scale - 1) / scale : -(-value / scale);
+  return static_cast<Weight>(std::clamp(bound, -kMost, kMost));
 }
 }  // namespace certify

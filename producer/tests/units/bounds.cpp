@@ -48,6 +48,8 @@ TEST_CASE("any numbers bound every tour") {
   TreeBound bound(weights, pool, 10);
   CHECK((bound.bound_of(21) == 3 && bound.bound_of(20) == 2));      // bounds are rounded up
   CHECK((bound.bound_of(-21) == -2 && bound.bound_of(-20) == -2));  // bounds below 0 too
+  const Value least = ExactBound::nothing();
+  CHECK((bound.bound_of(least) < 0 && bound.bound_of(-least) > 0));  // past all lengths
 }
 
 // A rectangle of 3 by 4, whose tours have the lengths 14, 16 and 18. At the scale 10, multiples of 10 near
