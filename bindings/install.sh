@@ -91,11 +91,24 @@ named share/zsh/site-functions/_tsp "share/zsh/site-functions/_$name"
 named share/fish/vendor_completions.d/tsp.fish "share/fish/vendor_completions.d/$name.fish"
 echo "../../bin/$name" >"$prefix/share/yokecairn/PROGRAM"
 
+# A path as pkg-config reads it, with a backslash before each blank, quote and backslash. Only coreutils are needed.
+escaped() {
+    rest=$1
+    while [ -n "$rest" ]; do
+        next=${rest#?}
+        case $rest in
+            [\\\"\ ]*) printf '\\%s' "${rest%"$next"}" ;;
+            *) printf '%s' "${rest%"$next"}" ;;
+        esac
+        rest=$next
+    done
+}
+
 mkdir -p "$prefix/lib/pkgconfig"
 version=$(cat "$here/VERSION")
 while IFS= read -r line; do
     case $line in
-        prefix=*) printf 'prefix=%s\n' "$(printf '%s' "$prefix" | sed 's/[\\" ]/\\&/g')" ;; # (as pkg-config reads it)
+        prefix=*) printf 'prefix=%s\n' "$(escaped "$prefix")" ;;
         Version:*) echo "Version: $version" ;;
         *) printf '%s\n' "$line" ;;
     esac
