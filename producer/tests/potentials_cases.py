@@ -155,8 +155,12 @@ def same_bytes():
         texts.append((Path("out.potentials").read_bytes(), Path("out.tour").read_bytes()))
     need(texts[0] == texts[1], f"{words}: other files than those of a run by seconds")
     need(texts[1] == texts[2], f"{words}: the files differ")
-    certify("a.tsp", *BOTH, *words, "--seed", "2")
-    need(Path("out.tour").read_bytes() != texts[0][1], "another seed gives the same tour")
+    tours = []
+    for seed in ("1", "2"):
+        # Few kicks: after many, both seeds may come to one tour.
+        certify("a.tsp", *BOTH, "--steps", "20", "--kicks", "2000", "--seed", seed)
+        tours.append(Path("out.tour").read_bytes())
+    need(tours[0] != tours[1], "another seed gives the same tour")
 
 
 def interrupt():
