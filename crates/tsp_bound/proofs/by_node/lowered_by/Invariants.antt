@@ -3,5 +3,6 @@ use Rattle.std.proofs.Common.{◌≢◌, ◌<◌, ℕ, get_or}
 use Rattle.std.specs.Prelude.{ℤ}
 use Rattle.tsp_bound.proofs.by_node.lowered_by.Given as goal
 
+-- none of the entries before this one is for the node
 abbrev pub invariant-lowerings : goal.invariant-lowerings
 invariant-lowerings l = (k : ℕ) (d : ℕ × ℤ) → k < l.lowering-index → (get_or l.lowerings k d).0 ≢ l.node

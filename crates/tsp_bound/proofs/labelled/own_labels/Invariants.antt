@@ -3,6 +3,7 @@ use Rattle.std.proofs.Common.{◌≡◌, ◌<◌, ℕ, length}
 use Rattle.tsp_bound.specs.states.Components.{label_at}
 use Rattle.tsp_bound.proofs.labelled.own_labels.Given as goal
 
+-- each label so far is its own place
 abbrev pub invariant-labels : goal.invariant-labels
 invariant-labels l = record {
   len : length l.labels.items ≡ l.label;

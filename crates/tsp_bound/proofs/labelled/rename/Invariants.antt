@@ -3,6 +3,7 @@ use Rattle.std.proofs.Common.{◌≡◌, ◌≤◌, ◌<◌, ℕ, length}
 use Rattle.tsp_bound.specs.states.Components.{label_at}
 use Rattle.tsp_bound.proofs.labelled.rename.Given as goal
 
+-- the labels before this one are renamed, and the others are as they were
 abbrev pub invariant-labels : goal.invariant-labels
 invariant-labels l = record {
   len : length l.labels ≡ length l.fn.labels;

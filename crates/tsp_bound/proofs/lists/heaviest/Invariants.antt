@@ -2,6 +2,7 @@
 use Rattle.std.proofs.Common.{◌≤◌, ◌<◌, ◌+◌}
 use Rattle.tsp_bound.proofs.lists.heaviest.Given as goal
 
+-- `found` is one of the twelve places
 abbrev pub invariant-links : goal.invariant-links
 invariant-links l = record {
   low : l.first ≤ l.found;

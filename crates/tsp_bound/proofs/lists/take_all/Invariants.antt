@@ -3,11 +3,13 @@ use Rattle.std.proofs.Common.{◌≤◌, ◌-◌, length}
 use Rattle.tsp_bound.specs.states.Lists.{weight_over, AreOffered}
 use Rattle.tsp_bound.proofs.lists.take_all.Given as goal
 
+-- all pairs whose later place is before `first` are taken
 abbrev pub invariant-columns : goal.invariant-columns
 invariant-columns g l = record {
   few : l.first ≤ length l.placed.order.now;
   listed : AreOffered (length l.placed.order.now) (weight_over (g.W.Weights.at l.placed.w.now) l.placed.order.now) l.first 0 0 0 l.links l.bounds;
 }
 
+-- fewer places are left from `first` on
 abbrev pub decreases-columns : goal.decreases-columns
 decreases-columns g l = length l.placed.order.now - l.first

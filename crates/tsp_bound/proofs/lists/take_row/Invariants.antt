@@ -3,6 +3,7 @@ use Rattle.std.proofs.Common.{length}
 use Rattle.tsp_bound.specs.states.Lists.{weight_over, AreOffered}
 use Rattle.tsp_bound.proofs.lists.take_row.Given as goal
 
+-- of this row the pairs with the places before this one are taken, and all of the rows before it
 abbrev pub invariant-places : goal.invariant-places
 invariant-places g l = AreOffered (length l.placed.order.now) (weight_over (g.W.Weights.at l.placed.w.now) l.placed.order.now)
     l.fn.columns.first l.fn.columns.last l.from l.place l.links l.bounds

@@ -6,6 +6,7 @@ use Rattle.tsp_theory.specs.CertificateNumbers.{IsFromTo}
 use Rattle.tsp_theory.specs.Adjusted.{triples_total}
 use Rattle.tsp_bound.proofs.numbers.total_of.Given as goal
 
+-- the sum so far and the triples left make the whole; it is no larger than as many multipliers can make it
 abbrev pub invariant-triples : goal.invariant-triples
 invariant-triples l = record {
   size : IsFromTo (pos 0) (pos (l.triple-index * most_multiplier)) l.sum;

@@ -6,6 +6,7 @@ use Rattle.tsp_theory.specs.CertificateNumbers.{IsSumSized}
 use Rattle.tsp_theory.specs.Tree.{weight_of}
 use Rattle.tsp_bound.proofs.part.weighed.Given as goal
 
+-- the pairs so far are listed by their nodes, and `weight` is the sum of their weights
 abbrev pub invariant-pairs : goal.invariant-pairs
 invariant-pairs g l = record {
   pairs : l.named.items ≡ map (on_both (node_of l.order)) (take l.pair-index l.pairs);

@@ -5,6 +5,7 @@ use Rattle.tsp_bound.specs.declared.link.Link.{Link}
 use Rattle.tsp_bound.specs.states.Components.{IsKeptLink}
 use Rattle.tsp_bound.proofs.rounds.first_links.Given as goal
 
+-- each node before this one has a link that weighs no more than any that leaves its component; `near` is a node
 abbrev pub invariant-nodes : goal.invariant-nodes
 invariant-nodes g l =
     let n = g.P.Components.count_of l.nodes in

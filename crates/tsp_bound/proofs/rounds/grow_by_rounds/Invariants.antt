@@ -3,6 +3,8 @@ use Rattle.std.proofs.Common.{◌≡◌}
 use Rattle.tsp_bound.specs.states.Components.{AreKept, IsForest}
 use Rattle.tsp_bound.proofs.rounds.grow_by_rounds.Given as goal
 
+-- the added pairs are least joins, each inside one component, and each node's known link weighs no more than any that
+-- leaves its component
 abbrev pub invariant-rounds : goal.invariant-rounds
 invariant-rounds g l =
     let n = g.P.Components.count_of l.fn.nodes in

@@ -3,6 +3,7 @@ use Rattle.tsp_bound.specs.states.Components.{AreKept, AreLeaving}
 use Rattle.tsp_bound.proofs.Known.{AreReached}
 use Rattle.tsp_bound.proofs.rounds.search_again.Given as goal
 
+-- the best link of each component weighs no more than the known link of each of its nodes before this one
 abbrev pub invariant-nodes : goal.invariant-nodes
 invariant-nodes g l =
     let n = g.P.Components.count_of l.nodes in

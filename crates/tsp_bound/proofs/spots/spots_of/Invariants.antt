@@ -6,6 +6,7 @@ use Rattle.tsp_bound.specs.states.Boxes.{node_of}
 use Rattle.tsp_bound.specs.states.Spots.{IsSpotOf}
 use Rattle.tsp_bound.proofs.spots.spots_of.Given as goal
 
+-- each spot so far has the node at its place, with the node's point and number
 abbrev pub invariant-places : goal.invariant-places
 invariant-places g l = record {
   len : length l.spots.items ≡ l.place;

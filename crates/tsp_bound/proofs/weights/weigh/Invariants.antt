@@ -7,6 +7,7 @@ use Rattle.tsp_theory.specs.states.Nearest.{least_at}
 use Rattle.tsp_bound.specs.states.Potentials.{weight_under}
 use Rattle.tsp_bound.proofs.weights.weigh.Given as goal
 
+-- the row has the weight to each node before this place, at most `most_between` in size
 abbrev pub invariant-places : goal.invariant-places
 invariant-places g l = (k : ℕ) → k < length l.to → k < l.place
     → (least_at l.row (slice_index l.to k) ≡ weight_under l.w.p.now (g.C.Costs.at l.w.c.now) l.from (slice_index l.to k))

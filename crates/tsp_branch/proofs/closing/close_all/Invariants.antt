@@ -6,6 +6,7 @@ use Rattle.tsp_branch.specs.states.Closed.{IsShut}
 use Rattle.tsp_branch.proofs.Closed.{AllBelow}
 use Rattle.tsp_branch.proofs.closing.close_all.Given as goal
 
+-- a link that a decision before this one doesn't allow is closed, and each other one is as it was
 abbrev pub invariant-decisions : goal.invariant-decisions
 invariant-decisions l = (x : ℕ) → x < length l.fn.row
     → IsShut (AllBelow (Allows l.from x) l.decisions l.decision-index) (least_at l.fn.row x) (least_at l.row x)

@@ -5,6 +5,7 @@ use Rattle.tsp_theory.specs.states.Nearest.{least_at}
 use Rattle.tsp_branch.specs.states.Closed.{no_link}
 use Rattle.tsp_branch.proofs.rows.least_in.Given as goal
 
+-- no number from place 1 to the one before this is below `least`, which is one of them or means no link
 abbrev pub invariant-places : goal.invariant-places
 invariant-places l = record {
   below : (x : ℕ) → 1 ≤ x → x < l.place → l.least ≤ℤ least_at l.row x;

@@ -5,6 +5,7 @@ use Rattle.tsp_c.specs.NumberCalls.{IsFilled, list_length, lists_in}
 use Rattle.tsp_draft.specs.Fields.{nodes_of}
 use Rattle.tsp_c.proofs.lengths.put_lengths.Given as goal
 
+-- the lengths of the lists before `rest` are in the buffer, and its other numbers are as they were
 abbrev pub invariant-lists : goal.invariant-lists
 invariant-lists l = record {
   left : drop l.place (lists_in l.nodes) ≡ lists_in l.rest;
@@ -14,5 +15,6 @@ invariant-lists l = record {
   filled : IsFilled l.place (list_length l.nodes l.instance) l.fn.out l.out;
 }
 
+-- each round takes a list and the number that ends it off `rest`
 abbrev pub decreases-lists : goal.decreases-lists
 decreases-lists l = length l.rest

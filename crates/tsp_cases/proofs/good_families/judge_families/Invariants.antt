@@ -6,6 +6,7 @@ use Rattle.tsp_cases.specs.states.Marked.{AreUnmarked}
 use Rattle.tsp_cases.proofs.FirstBad.{HaveNumbers}
 use Rattle.tsp_cases.proofs.good_families.judge_families.Given as goal
 
+-- each family before this one is good and has its numbers; no node has the mark of a later one
 abbrev pub invariant-families : goal.invariant-families
 invariant-families g l =
     let n : ℕ = g.C.Costs.nodes l.tree.costs.now in

@@ -6,6 +6,7 @@ use Rattle.tsp_theory.specs.states.Nearest.{least_at}
 use Rattle.tsp_cases.specs.GoodNumbers.{most_crossed}
 use Rattle.tsp_cases.proofs.kept.write_differences.Given as goal
 
+-- each difference before this one is how much its number has grown, and as small as one of multipliers
 abbrev pub invariant-numbers : goal.invariant-numbers
 invariant-numbers l = record {
   long : length l.differences ≡ length l.new.numbers.now;

@@ -3,5 +3,6 @@ use Rattle.std.proofs.Common.{◌≡◌, ◌≤◌, ◌<◌, ℕ, true}
 use Rattle.tsp_cases.specs.states.Marked.{is_marked}
 use Rattle.tsp_cases.proofs.marks.leaves_one_out.Given as goal
 
+-- each node before this one has the mark
 abbrev pub invariant-places : goal.invariant-places
 invariant-places l = (node : ℕ) → 1 ≤ node → node < l.place → is_marked l.marks l.mark node ≡ true

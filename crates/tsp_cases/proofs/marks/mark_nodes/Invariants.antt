@@ -4,6 +4,7 @@ use Rattle.tsp_families.specs.Crossed.{has}
 use Rattle.tsp_cases.specs.states.Marked.{is_marked, AreNew, AddsNoOther}
 use Rattle.tsp_cases.proofs.marks.mark_nodes.Given as goal
 
+-- the nodes before this one have been marked: they are different, and none of them had the mark
 abbrev pub invariant-nodes : goal.invariant-nodes
 invariant-nodes l = record {
   long : length l.marks ≡ length l.fn.marks;

@@ -6,6 +6,7 @@ use Rattle.tsp_theory.specs.CertificateNumbers.{entry}
 use Rattle.tsp_theory.specs.states.Nearest.{least_at}
 use Rattle.tsp_cases.proofs.moved.fill_moved.Given as goal
 
+-- each node up to `index` has the sum of its potential and its other number, in 64 bits
 abbrev pub invariant-nodes : goal.invariant-nodes
 invariant-nodes l = record {
   room : length l.row ≡ length l.potentials + 1;

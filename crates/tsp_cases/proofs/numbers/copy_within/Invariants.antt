@@ -3,6 +3,7 @@ use Rattle.std.proofs.Common.{◌≡◌, ◌<◌, ℕ, ℤ, take, length, get_or
 use Rattle.tsp_theory.specs.CertificateNumbers.{IsFromTo}
 use Rattle.tsp_cases.proofs.numbers.copy_within.Given as goal
 
+-- the numbers before this one are from `least` to `most`, and they are copied
 abbrev pub invariant-numbers : goal.invariant-numbers
 invariant-numbers l = record {
   long : length l.copy ≡ length l.numbers;

@@ -5,6 +5,7 @@ use Rattle.tsp_cases.specs.GoodFamilies.{HasEachOnce}
 use Rattle.tsp_cases.specs.states.Marked.{AreUnmarked}
 use Rattle.tsp_cases.proofs.other_families.have_each_once.Given as goal
 
+-- no set before this one has a node twice, and no node has the mark of a later one
 abbrev pub invariant-sets : goal.invariant-sets
 invariant-sets l = record {
   long : length l.marks.items ≡ l.family.nodes + 1;

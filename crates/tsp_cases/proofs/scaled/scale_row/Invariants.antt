@@ -4,6 +4,7 @@ use Rattle.std.specs.Prelude.{◌*ℤ◌}
 use Rattle.tsp_theory.specs.states.Nearest.{least_at}
 use Rattle.tsp_cases.proofs.scaled.scale_row.Given as goal
 
+-- the costs from place 1 to the one before this are scaled, and the others are as they were
 abbrev pub invariant-places : goal.invariant-places
 invariant-places l = record {
   done : (x : ℕ) → 1 ≤ x → x < l.place → least_at l.row x ≡ l.scale *ℤ least_at l.fn.row x;

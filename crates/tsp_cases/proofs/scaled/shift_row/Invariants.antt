@@ -5,6 +5,7 @@ use Rattle.std.specs.Prelude.{◌+ℤ◌}
 use Rattle.tsp_theory.specs.states.Nearest.{least_at}
 use Rattle.tsp_cases.proofs.scaled.shift_row.Given as goal
 
+-- each number before this place has its sum, in 64 bits, and the others are as they were
 abbrev pub invariant-places : goal.invariant-places
 invariant-places l = record {
   done : (x : ℕ) → x < l.place → least_at l.row x ≡ int_wrap w64 (least_at l.fn.row x +ℤ int_wrap w64 (l.number +ℤ least_at l.moved x));

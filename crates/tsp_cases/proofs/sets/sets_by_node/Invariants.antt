@@ -7,6 +7,7 @@ use Rattle.tsp_cases.specs.states.Sets.{places_with}
 use Rattle.tsp_cases.specs.states.Lent.{lent_in}
 use Rattle.tsp_cases.proofs.sets.sets_by_node.Given as goal
 
+-- each node's list, with the places of the families left, has the places of all families
 abbrev pub invariant-families : goal.invariant-families
 invariant-families l = record {
   count : length l.lists.items ≡ l.families.nodes + 1;

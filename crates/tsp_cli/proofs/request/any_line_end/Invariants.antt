@@ -3,5 +3,6 @@ use Rattle.std.proofs.Common.{◌≡◌, take}
 use Rattle.tsp_cli.specs.Requests.{any_line_end}
 use Rattle.tsp_cli.proofs.request.any_line_end.Given as goal
 
+-- `found` says whether a path before this one contains the end of a line
 abbrev pub invariant-paths : goal.invariant-paths
 invariant-paths l = l.found ≡ any_line_end (take l.path-index l.paths)

@@ -11,5 +11,6 @@ invariant-loop-low l =
     × Covers l.rounding l.square l.high
     × (0 < l.low → ¬ Covers l.rounding l.square (l.low - 1))
 
+-- each round makes the range from `low` to `high` smaller
 abbrev pub decreases-loop-low : goal.decreases-loop-low
 decreases-loop-low l = l.high - l.low

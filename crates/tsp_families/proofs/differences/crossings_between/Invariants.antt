@@ -4,6 +4,7 @@ use Rattle.std.specs.List.{All}
 use Rattle.tsp_families.proofs.Tables.{HoldsByRows}
 use Rattle.tsp_families.proofs.differences.crossings_between.Given as goal
 
+-- the rows before this one are written: in how many bits two memberships differ, at most 64
 abbrev pub invariant-rows : goal.invariant-rows
 invariant-rows l = record {
   long : length l.costs.items ≡ l.a * length l.firsts;
@@ -11,6 +12,7 @@ invariant-rows l = record {
   values : HoldsByRows (length l.firsts) (λ a b z. z ≡ count_ones (bit_xor (get_or l.memberships (get_or l.firsts a 0) 0) (get_or l.memberships (get_or l.firsts b 0) 0))) l.costs.items;
 }
 
+-- the rows before this one are written, and this row up to the column before this one
 abbrev pub invariant-columns : goal.invariant-columns
 invariant-columns l = record {
   long : length l.costs.items ≡ l.a * length l.firsts + l.b;

@@ -2,6 +2,7 @@
 use Rattle.std.proofs.Common.{◌≡◌, ◌<◌, ◌≤◌, ◌⊎◌, ℕ, get_or}
 use Rattle.tsp_families.proofs.family.largest.Given as goal
 
+-- no number so far is larger than `largest`, which is 0 or one of the numbers
 abbrev pub invariant-numbers : goal.invariant-numbers
 invariant-numbers l = record {
   above : (k : ℕ) → k < l.number-index → get_or l.numbers k 0 ≤ l.largest;

@@ -5,6 +5,7 @@ use Rattle.tsp_families.specs.FamilySets.{lists_of}
 use Rattle.tsp_families.proofs.NodeMembers.{IsSoFar}
 use Rattle.tsp_families.proofs.members.memberships_of.Given as goal
 
+-- each node's number has the bit of each set before this one that has the node, and no other bit
 abbrev pub invariant-sets : goal.invariant-sets
 invariant-sets l = record {
   long : length l.memberships.items ≡ l.family.nodes + 1;

@@ -4,6 +4,7 @@ use Rattle.std.specs.List.{All, Any}
 use Rattle.tsp_families.specs.Memberships.{IsNodePlace, AreDifferent}
 use Rattle.tsp_families.proofs.parts.firsts_of.Given as goal
 
+-- each node before this one has the membership of one of `firsts`, whose memberships differ
 abbrev pub invariant-nodes : goal.invariant-nodes
 invariant-nodes l = record {
   places : All (IsNodePlace l.memberships) l.firsts.items;

@@ -4,6 +4,7 @@ use Rattle.std.specs.List.{All}
 use Rattle.tsp_families.specs.Paths.{cost_by_rows, no_path, AreBestPaths}
 use Rattle.tsp_families.proofs.paths.best_paths.Given as goal
 
+-- the table has the best paths of the sets before this one
 abbrev pub invariant-sets : goal.invariant-sets
 invariant-sets l = record {
   long : length l.paths.items ≡ l.set * (l.between.nodes - 1);
@@ -11,6 +12,7 @@ invariant-sets l = record {
   best : AreBestPaths l.between.nodes (cost_by_rows l.between.nodes l.between.costs.now) l.paths.items;
 }
 
+-- the table has the best paths of the sets before this one, and of this set those of the nodes before this one
 abbrev pub invariant-nodes : goal.invariant-nodes
 invariant-nodes l = record {
   long : length l.paths.items ≡ l.set * (l.between.nodes - 1) + l.other;

@@ -4,6 +4,7 @@ use Rattle.std.specs.Prelude.{ℤ, pos}
 use Rattle.tsp_file.specs.states.Whole.{Fills}
 use Rattle.tsp_file.proofs.whole.clear_diagonal.Given as goal
 
+-- the diagonal is 0 before this node, and each cell that had its cost still has it
 abbrev pub invariant-nodes : goal.invariant-nodes
 invariant-nodes l = record {
   size : length l.weights.items ≡ l.nodes * l.nodes;

@@ -5,6 +5,7 @@ use Rattle.tsp_format.specs.Symmetry.{IsSymmetric}
 use Rattle.tsp_file.specs.states.Whole.{HasSide, Fills}
 use Rattle.tsp_file.proofs.whole.fill_across.Given as goal
 
+-- each cell in a column before this band has its cost, and so has each that had it
 abbrev pub invariant-bands : goal.invariant-bands
 invariant-bands l = record {
   size : length l.weights.items ≡ l.nodes * l.nodes;

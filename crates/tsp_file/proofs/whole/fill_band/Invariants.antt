@@ -5,6 +5,7 @@ use Rattle.tsp_format.specs.Symmetry.{IsSymmetric}
 use Rattle.tsp_file.specs.states.Whole.{HasSide, Fills}
 use Rattle.tsp_file.proofs.whole.fill_band.Given as goal
 
+-- each cell of this band in a row before this one has its cost, and so has each that had it
 abbrev pub invariant-rows : goal.invariant-rows
 invariant-rows l = record {
   size : length l.weights.items ≡ l.nodes * l.nodes;

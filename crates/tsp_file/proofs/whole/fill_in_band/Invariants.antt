@@ -5,6 +5,7 @@ use Rattle.tsp_format.specs.Symmetry.{IsSymmetric}
 use Rattle.tsp_file.specs.states.Whole.{HasSide, Fills}
 use Rattle.tsp_file.proofs.whole.fill_in_band.Given as goal
 
+-- each cell of this row from `first` up to the one before this has its cost, and so has each that had it
 abbrev pub invariant-columns : goal.invariant-columns
 invariant-columns l = record {
   size : length l.weights.items ≡ l.nodes * l.nodes;

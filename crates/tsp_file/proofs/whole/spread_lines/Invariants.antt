@@ -4,6 +4,7 @@ use Rattle.std.specs.Prelude.{ℤ}
 use Rattle.tsp_file.proofs.Spread.{before, SpreadTo}
 use Rattle.tsp_file.proofs.whole.spread_lines.Given as goal
 
+-- the lines after `line` are in their rows, and the others are still at the beginning, one after the other
 abbrev pub invariant-lines : goal.invariant-lines
 invariant-lines l = record {
   size : length l.weights.items ≡ l.nodes * l.nodes;
@@ -13,5 +14,6 @@ invariant-lines l = record {
       → SpreadTo l.from l.nodes l.line l.kept half l.weights.items;
 }
 
+-- `line` gets smaller by one
 abbrev pub decreases-lines : goal.decreases-lines
 decreases-lines l = l.line

@@ -6,6 +6,7 @@ use Rattle.tsp_file.specs.CanonicalText.{text_of_field}
 use Rattle.tsp_stream.specs.states.WriteProgress.{way_of, Carried}
 use Rattle.tsp_file.proofs.writer.put_fields.Given as goal
 
+-- the bytes added so far are the texts of the fields before this one
 abbrev pub invariant-loop-field : goal.invariant-loop-field
 invariant-loop-field g l =
     Carried (way_of g.W.Write.contents l.initial.out l.initial.piece.items) (way_of g.W.Write.contents l.out l.piece.items)

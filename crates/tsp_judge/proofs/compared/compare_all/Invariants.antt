@@ -5,6 +5,7 @@ use Rattle.tsp_judge.specs.Following.{AreTold}
 use Rattle.tsp_judge.proofs.Comparing.{HasCompared}
 use Rattle.tsp_judge.proofs.compared.compare_all.Given as goal
 
+-- the lines of the solutions before this one are written; each was followed once, and `status` is the largest of theirs
 abbrev pub invariant-solutions : goal.invariant-solutions
 invariant-solutions g l = record {
   compared : HasCompared (IsTurnAt g.R.Read.remaining g.R.Gives.gives (g.S.Solutions.opens l.solutions)) (g.S.Solutions.names l.solutions) l.common

@@ -5,8 +5,10 @@ use Rattle.std.specs.List.{prefix_len}
 use Rattle.tsp_number.proofs.FrontNumbers.{ReadsFront}
 use Rattle.tsp_number.proofs.front.single_digits.Given as goal
 
+-- the first `count` bytes are digits, and `value` is their number
 abbrev pub invariant-loop-count : goal.invariant-loop-count
 invariant-loop-count l = (l.count ≤ l.end) × ReadsFront l.bytes l.count l.value × (l.count ≤ prefix_len is_ascii_digit l.bytes)
 
+-- each round reads one more of the bytes before `end`
 abbrev pub decreases-loop-count : goal.decreases-loop-count
 decreases-loop-count l = l.end - l.count

@@ -5,6 +5,7 @@ use Rattle.tsp_stream.specs.states.WriteProgress.{way_of, Carried}
 use Rattle.tsp_report.proofs.Texts.{unknown_line}
 use Rattle.tsp_report.proofs.report.put_others.Given as goal
 
+-- the bytes added so far are the lines of the unknown keywords before this one
 abbrev pub invariant-lines : goal.invariant-lines
 invariant-lines g l =
     Carried (way_of g.W.Write.contents l.initial.out l.initial.piece.items) (way_of g.W.Write.contents l.out l.piece.items)

@@ -5,6 +5,7 @@ use Rattle.tsp_stream.specs.states.WriteProgress.{way_of, Carried}
 use Rattle.tsp_report.specs.Show.{tour_line}
 use Rattle.tsp_report.proofs.shown.put_each_tour.Given as goal
 
+-- the bytes added so far are the lines of the tours before this one, counted from 1 on
 abbrev pub invariant-tours : goal.invariant-tours
 invariant-tours g l =
     Carried (way_of g.W.Write.contents l.initial.out l.initial.piece.items) (way_of g.W.Write.contents l.out l.piece.items)

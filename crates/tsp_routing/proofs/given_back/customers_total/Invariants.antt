@@ -9,6 +9,7 @@ use Rattle.tsp_theory.specs.CertificateNumbers.{entry}
 use Rattle.tsp_routing.specs.states.Demands.{of_others}
 use Rattle.tsp_routing.proofs.given_back.customers_total.Given as goal
 
+-- `sum` is that of the potentials of the customers up to `index`
 abbrev pub invariant-nodes : goal.invariant-nodes
 invariant-nodes l = record {
   size : IsFromTo (neg_ℤ (pos (l.index * most_potential))) (pos (l.index * most_potential)) l.sum;

@@ -4,6 +4,7 @@ use Rattle.tsp_cases.specs.states.Combed.{set_weight}
 use Rattle.tsp_routing.specs.states.KeptWeights.{AreFirstRows}
 use Rattle.tsp_routing.proofs.kept_weights.rows_of.Given as goal
 
+-- there are the rows of the first nodes, as many as `index`, with their weights
 abbrev pub invariant-rows : goal.invariant-rows
 invariant-rows g l =
     AreFirstRows (g.C.Costs.nodes l.weights.costs.now) (set_weight l.weights.scale l.weights.potentials.now l.weights.multipliers.now

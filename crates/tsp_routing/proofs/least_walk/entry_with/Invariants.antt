@@ -8,6 +8,7 @@ use Rattle.tsp_routing.specs.declared.onward.Onward.{Onward}
 use Rattle.tsp_routing.specs.states.Onwards.{onward_entry, entry_at, IsEntrySized, IsRowSized}
 use Rattle.tsp_routing.proofs.least_walk.entry_with.Given as goal
 
+-- if `begun` is the entry by steps to the depot and to customers up to `after`, `best` is that by steps up to `index`
 abbrev pub invariant-nodes : goal.invariant-nodes
 invariant-nodes g l =
     let value = g.S.Sum.value in

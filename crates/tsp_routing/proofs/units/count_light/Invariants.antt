@@ -7,6 +7,7 @@ use Rattle.tsp_routing.specs.states.Demands.{loads_problem}
 use Rattle.tsp_routing.specs.states.Units.{light_in}
 use Rattle.tsp_routing.proofs.units.count_light.Given as goal
 
+-- `count` is how many customers up to `index` demand less than a unit
 abbrev pub invariant-nodes : goal.invariant-nodes
 invariant-nodes l = record {
   few : l.count ≤ l.index;

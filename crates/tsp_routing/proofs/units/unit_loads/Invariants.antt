@@ -7,6 +7,7 @@ use Rattle.tsp_routing.specs.states.Demands.{loads_problem}
 use Rattle.tsp_routing.specs.states.Onwards.{load_at}
 use Rattle.tsp_routing.proofs.units.unit_loads.Given as goal
 
+-- each node before this one has its load in units
 abbrev pub invariant-nodes : goal.invariant-nodes
 invariant-nodes l = record {
   places : length l.loads.items ≡ l.demands.nodes + 1;

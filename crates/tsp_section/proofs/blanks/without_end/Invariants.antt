@@ -3,8 +3,10 @@ use Rattle.std.proofs.Common.{◌≡◌, length}
 use Rattle.tsp_text.specs.Lines.{without_end}
 use Rattle.tsp_section.proofs.blanks.without_end.Given as goal
 
+-- `front` without its blanks at the end is the text without its own
 abbrev pub invariant-loop-last : goal.invariant-loop-last
 invariant-loop-last l = without_end l.front ≡ without_end l.text
 
+-- each round takes the last byte off `front`
 abbrev pub decreases-loop-last : goal.decreases-loop-last
 decreases-loop-last l = length l.front

@@ -3,6 +3,7 @@ use Rattle.std.proofs.Common.{◌≡◌, ◌+◌, length}
 use Rattle.tsp_tree.proofs.Outside.{AreCounted}
 use Rattle.tsp_tree.proofs.growth.nodes_from_three.Given as goal
 
+-- the list is 3, 4, .. up to the node before this one
 abbrev pub invariant-nodes : goal.invariant-nodes
 invariant-nodes l = record {
   count : length l.nodes.items + 3 ≡ l.node;

@@ -5,6 +5,7 @@ use Rattle.tsp_theory.specs.Cycle.{Uses}
 use Rattle.tsp_verdict.specs.states.Next.{AreNext}
 use Rattle.tsp_verdict.proofs.fixed.first_unused.Given as goal
 
+-- the cycle uses each pair before this one, and `index` is how many these are
 abbrev pub invariant-pairs : goal.invariant-pairs
 invariant-pairs l = record {
   counted : l.index ≡ l.pair-index;

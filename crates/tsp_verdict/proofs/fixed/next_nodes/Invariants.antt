@@ -4,6 +4,7 @@ use Rattle.std.specs.Prelude.{vec_len}
 use Rattle.tsp_verdict.proofs.Links.{SetUpTo}
 use Rattle.tsp_verdict.proofs.fixed.next_nodes.Given as goal
 
+-- the table has the next node of each node before `from`, and nothing else
 abbrev pub invariant-nodes : goal.invariant-nodes
 invariant-nodes l = record {
   wide : vec_len l.next ≡ l.n + 1;

@@ -7,6 +7,7 @@ use Rattle.tsp_verdict.specs.states.RouteLists.{nodes_in}
 use Rattle.tsp_verdict.specs.states.Sums.{IsSumOf}
 use Rattle.tsp_verdict.proofs.lengths.plan_length.Given as goal
 
+-- the length so far and that of the routes left make the whole
 abbrev pub invariant-routes : goal.invariant-routes
 invariant-routes l = record {
   size : IsSumOf (length (nodes_in (take l.route-index l.routes)) + l.route-index) l.length;

@@ -4,6 +4,7 @@ use Rattle.std.specs.Prelude.{slice_index_or, ◌≤ℤ◌}
 use Rattle.tsp_verdict.specs.Plan.{load_of}
 use Rattle.tsp_verdict.proofs.loads.first_overload.Given as goal
 
+-- no route before this one demands more than the capacity, and `index` is how many these are
 abbrev pub invariant-routes : goal.invariant-routes
 invariant-routes l = record {
   counted : l.index ≡ l.route-index;

@@ -6,6 +6,7 @@ use Rattle.tsp_theory.specs.Adjusted.{pair_of}
 use Rattle.tsp_verdict.specs.states.PairSets.{undirected, pair_cmp}
 use Rattle.tsp_verdict.proofs.multiplied.first_outside.Given as goal
 
+-- the pair of each triple before this one is in the set, and `index` is how many these are
 abbrev pub invariant-triples : goal.invariant-triples
 invariant-triples l = record {
   counted : l.index ≡ l.triple-index;

@@ -5,6 +5,7 @@ use Rattle.tsp_theory.specs.Adjusted.{pair_of, is_same_pair}
 use Rattle.tsp_verdict.specs.states.PairSets.{HasPairs}
 use Rattle.tsp_verdict.proofs.multiplied.first_repeated_pair.Given as goal
 
+-- no two triples before this one have the same pair, in either direction, and `seen` has their pairs
 abbrev pub invariant-triples : goal.invariant-triples
 invariant-triples l = record {
   counted : l.index ≡ l.triple-index;

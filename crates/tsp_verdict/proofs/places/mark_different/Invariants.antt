@@ -3,6 +3,7 @@ use Rattle.std.proofs.Common.{◌≡◌, ◌+◌, ◌≤◌, ◌<◌, ℕ, lengt
 use Rattle.tsp_verdict.specs.states.Marks.{Marked}
 use Rattle.tsp_verdict.proofs.places.mark_different.Given as goal
 
+-- the nodes before this one are marked, and no others; they are different and at most n
 abbrev pub invariant-nodes : goal.invariant-nodes
 invariant-nodes l = record {
   wide : length l.taken ≡ l.n + 1;

@@ -4,6 +4,7 @@ use Rattle.std.specs.Prelude.{slice_index_or}
 use Rattle.tsp_verdict.specs.states.RouteLists.{nodes_in}
 use Rattle.tsp_verdict.proofs.visits.first_of_in.Given as goal
 
+-- no node of the routes before this one is the one sought, and `before` is how many these are
 abbrev pub invariant-routes : goal.invariant-routes
 invariant-routes l = record {
   counted : l.before ≡ length (nodes_in (take l.route-index l.routes));

@@ -2,6 +2,7 @@
 use Rattle.tsp_bound.proofs.Lowest.{IsLowest}
 use Rattle.tsp_bound.proofs.placed.Placed.lowered.Given as goal
 
+-- `best` is no worse than the best of before, nor than a node outside among the listed ones before this
 abbrev pub invariant-lowered : goal.invariant-lowered
 invariant-lowered g l =
     let s = l.self in

@@ -2,5 +2,6 @@
 use Rattle.std.proofs.Common.{◌-◌, ◌*◌, length}
 use Rattle.tsp_bound.proofs.search.Search.+below.Given as goal
 
+-- a half of a box has a higher number than the box, and the last leaf has the highest
 abbrev pub decreases-below : goal.decreases-below
 decreases-below g l = 2 * length l.self.now.order.now - l.v

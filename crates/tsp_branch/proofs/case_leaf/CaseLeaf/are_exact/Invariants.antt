@@ -8,6 +8,7 @@ use Rattle.tsp_cases.specs.states.Lent.{lent_in}
 use Rattle.tsp_cases.specs.states.Combed.{multipliers_at}
 use Rattle.tsp_branch.proofs.case_leaf.CaseLeaf.are_exact.Given as goal
 
+-- for each node before this one `moved` has the potential less the node's multipliers, at most 4 * 10^18 in size
 abbrev pub invariant-nodes : goal.invariant-nodes
 invariant-nodes g l = (x : ℕ) → 1 ≤ x → x < l.node
     → (least_at l.self.moved.now x ≡ entry l.self.potentials.now x +ℤ neg_ℤ (multipliers_at l.self.multipliers.now (lent_in l.self.setting.now.families.now) x))

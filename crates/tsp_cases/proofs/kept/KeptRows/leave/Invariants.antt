@@ -8,6 +8,7 @@ use Rattle.tsp_cases.specs.states.Decided.{IsDecision, marks_in, stack_of}
 use Rattle.tsp_cases.specs.states.Kept.{HoldsRows}
 use Rattle.tsp_cases.proofs.kept.KeptRows.leave.Given as goal
 
+-- the rows have the marks of the first `left` decisions alone, and the next open case is the one that follows those
 abbrev pub invariant-leave : goal.invariant-leave
 invariant-leave l = record {
   most : l.left ≤ length l.stack;
@@ -18,5 +19,6 @@ invariant-leave l = record {
       → HoldsRows n combs scale families cost (marks_in false (stack_of (take l.left l.stack) ++ given)) l.self;
 }
 
+-- `left` gets smaller by one
 abbrev pub decreases-leave : goal.decreases-leave
 decreases-leave l = l.left

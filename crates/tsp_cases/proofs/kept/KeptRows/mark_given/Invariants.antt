@@ -6,6 +6,7 @@ use Rattle.tsp_cases.specs.states.Decided.{IsDecision, marks_in}
 use Rattle.tsp_cases.specs.states.Kept.{HoldsRows}
 use Rattle.tsp_cases.proofs.kept.KeptRows.mark_given.Given as goal
 
+-- the rows have the marks of the given decisions from `left` on
 abbrev pub invariant-given : goal.invariant-given
 invariant-given l = record {
   most : l.left ≤ length l.cases.given.now;
@@ -14,5 +15,6 @@ invariant-given l = record {
       → HoldsRows n combs scale families cost (marks_in l.cases.directed (drop l.left l.cases.given.now)) l.self;
 }
 
+-- `left` gets smaller by one
 abbrev pub decreases-given : goal.decreases-given
 decreases-given l = l.left

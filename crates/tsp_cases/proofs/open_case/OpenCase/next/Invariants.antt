@@ -5,6 +5,7 @@ use Rattle.tsp_cases.specs.states.Decided.{stack_of}
 use Rattle.tsp_cases.specs.states.OpenCases.{IsOpenCase}
 use Rattle.tsp_cases.proofs.open_case.OpenCase.next.Given as goal
 
+-- the shorter stack is that of an open case too, and the same case comes next after it
 abbrev pub invariant-leave : goal.invariant-leave
 invariant-leave l = record {
   case : (n : ℕ) → IsOpenCase n l.fn.self → IsOpenCase n l.self;
@@ -14,5 +15,6 @@ invariant-leave l = record {
   directed : l.self.by_node.directed ≡ l.fn.self.by_node.directed;
 }
 
+-- each round takes a decision off the stack
 abbrev pub decreases-leave : goal.decreases-leave
 decreases-leave l = length l.self.stack.items

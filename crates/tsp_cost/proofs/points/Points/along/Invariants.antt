@@ -8,6 +8,7 @@ use Rattle.tsp_cost.specs.states.Views.{points_nodes, points_cost}
 use Rattle.tsp_cost.specs.states.Ways.{length_to, IsSumOfCosts}
 use Rattle.tsp_cost.proofs.points.Points.along.Given as goal
 
+-- the length so far, and that from `from` through `rest` back to the first node, make the whole
 abbrev pub invariant-parts : goal.invariant-parts
 invariant-parts g l = record {
   node : IsNode (points_nodes l.self) l.from;
@@ -18,5 +19,6 @@ invariant-parts g l = record {
       ≡ length_of (points_cost g.P.InSpace.place l.self) l.tour;
 }
 
+-- each round takes a block off `rest`
 abbrev pub decreases-parts : goal.decreases-parts
 decreases-parts g l = length l.rest

@@ -5,5 +5,6 @@ use Rattle.tsp_format.specs.Nodes.{IsNode}
 use Rattle.tsp_file.specs.states.Weights.{costs_of}
 use Rattle.tsp_file.proofs.weights.ListedWeights.first_on_diagonal.Given as goal
 
+-- each node before this one costs 0 to itself
 abbrev pub invariant-nodes : goal.invariant-nodes
 invariant-nodes l = (k : ℕ) → IsNode l.self.nodes k → k < l.i → costs_of l.self k k ≡ pos 0

@@ -5,6 +5,7 @@ use Rattle.std.specs.Fmt.{signed_decimal}
 use Rattle.tsp_stream.specs.states.WriteProgress.{way_of, Carried}
 use Rattle.tsp_file.proofs.writer.block.put_each.Given as goal
 
+-- the bytes added so far are the weights before this one, each after a blank
 abbrev pub invariant-weights : goal.invariant-weights
 invariant-weights g l =
     Carried (way_of g.W.Write.contents l.initial.out l.initial.piece.items) (way_of g.W.Write.contents l.out l.piece.items)

@@ -6,6 +6,7 @@ use Rattle.tsp_file.specs.CanonicalText.{keyword_line}
 use Rattle.tsp_stream.specs.states.WriteProgress.{way_of, Carried}
 use Rattle.tsp_file.proofs.writer.keywords.put_comments.Given as goal
 
+-- the bytes added so far are the lines of the comments before this one
 abbrev pub invariant-loop-comment : goal.invariant-loop-comment
 invariant-loop-comment g l =
     Carried (way_of g.W.Write.contents l.initial.out l.initial.piece.items) (way_of g.W.Write.contents l.out l.piece.items)

@@ -5,6 +5,7 @@ use Rattle.tsp_file.specs.CanonicalText.{value_line}
 use Rattle.tsp_stream.specs.states.WriteProgress.{way_of, Carried}
 use Rattle.tsp_file.proofs.writer.keywords.put_others.Given as goal
 
+-- the bytes added so far are the lines of the unknown keywords before this one
 abbrev pub invariant-loop-keyword : goal.invariant-loop-keyword
 invariant-loop-keyword g l =
     Carried (way_of g.W.Write.contents l.initial.out l.initial.piece.items) (way_of g.W.Write.contents l.out l.piece.items)

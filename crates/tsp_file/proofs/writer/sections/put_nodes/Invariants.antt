@@ -6,6 +6,7 @@ use Rattle.tsp_file.specs.CanonicalText.{number_line}
 use Rattle.tsp_stream.specs.states.WriteProgress.{way_of, Carried}
 use Rattle.tsp_file.proofs.writer.sections.put_nodes.Given as goal
 
+-- the bytes added so far are the lines of the nodes before this one
 abbrev pub invariant-nodes : goal.invariant-nodes
 invariant-nodes g l =
     Carried (way_of g.W.Write.contents l.initial.out l.initial.piece.items) (way_of g.W.Write.contents l.out l.piece.items)

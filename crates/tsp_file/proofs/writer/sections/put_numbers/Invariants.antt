@@ -6,6 +6,7 @@ use Rattle.tsp_file.specs.CanonicalText.{number_line, whole_number}
 use Rattle.tsp_stream.specs.states.WriteProgress.{way_of, Carried}
 use Rattle.tsp_file.proofs.writer.sections.put_numbers.Given as goal
 
+-- the bytes added so far are the lines of the numbers before this one, counted from 1 on
 abbrev pub invariant-nodes : goal.invariant-nodes
 invariant-nodes g l =
     Carried (way_of g.W.Write.contents l.initial.out l.initial.piece.items) (way_of g.W.Write.contents l.out l.piece.items)

@@ -5,6 +5,7 @@ use Rattle.tsp_file.specs.CanonicalText.{node_list}
 use Rattle.tsp_stream.specs.states.WriteProgress.{way_of, Carried}
 use Rattle.tsp_file.proofs.writer.sections.put_tours.Given as goal
 
+-- the bytes added so far are the tours before this one, each with its line -1
 abbrev pub invariant-tours : goal.invariant-tours
 invariant-tours g l =
     Carried (way_of g.W.Write.contents l.initial.out l.initial.piece.items) (way_of g.W.Write.contents l.out l.piece.items)

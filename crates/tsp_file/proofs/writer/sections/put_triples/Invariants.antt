@@ -6,6 +6,7 @@ use Rattle.tsp_file.specs.CanonicalText.{number_line}
 use Rattle.tsp_stream.specs.states.WriteProgress.{way_of, Carried}
 use Rattle.tsp_file.proofs.writer.sections.put_triples.Given as goal
 
+-- the bytes added so far are the lines of the triples before this one
 abbrev pub invariant-triples : goal.invariant-triples
 invariant-triples g l =
     Carried (way_of g.W.Write.contents l.initial.out l.initial.piece.items) (way_of g.W.Write.contents l.out l.piece.items)

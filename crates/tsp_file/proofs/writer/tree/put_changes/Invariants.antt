@@ -5,6 +5,7 @@ use Rattle.tsp_file.specs.CanonicalText.{before_blank, change_words}
 use Rattle.tsp_stream.specs.states.WriteProgress.{way_of, Carried}
 use Rattle.tsp_file.proofs.writer.tree.put_changes.Given as goal
 
+-- the bytes added so far are the changes before this one, each word before a blank
 abbrev pub invariant-changes : goal.invariant-changes
 invariant-changes g l =
     Carried (way_of g.W.Write.contents l.initial.out l.initial.piece.items) (way_of g.W.Write.contents l.out l.piece.items)

@@ -5,6 +5,7 @@ use Rattle.tsp_file.specs.CanonicalText.{comb_lines}
 use Rattle.tsp_stream.specs.states.WriteProgress.{way_of, Carried}
 use Rattle.tsp_file.proofs.writer.tree.put_combs.Given as goal
 
+-- the bytes added so far are the lines of the combs before this one
 abbrev pub invariant-combs : goal.invariant-combs
 invariant-combs g l =
     Carried (way_of g.W.Write.contents l.initial.out l.initial.piece.items) (way_of g.W.Write.contents l.out l.piece.items)

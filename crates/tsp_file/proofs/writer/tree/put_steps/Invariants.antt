@@ -6,6 +6,7 @@ use Rattle.tsp_file.specs.CanonicalText.{step_line}
 use Rattle.tsp_stream.specs.states.WriteProgress.{way_of, Carried}
 use Rattle.tsp_file.proofs.writer.tree.put_steps.Given as goal
 
+-- the bytes added so far are the lines of the steps before this one
 abbrev pub invariant-steps : goal.invariant-steps
 invariant-steps g l =
     Carried (way_of g.W.Write.contents l.initial.out l.initial.piece.items) (way_of g.W.Write.contents l.out l.piece.items)

@@ -7,6 +7,7 @@ use Rattle.tsp_routing.specs.states.Demands.{of_others}
 use Rattle.tsp_routing.proofs.CutNeeds.{IsLoadOf}
 use Rattle.tsp_routing.proofs.demands.Demands.all.Given as goal
 
+-- `sum` is what the customers up to `index` demand
 abbrev pub invariant-nodes : goal.invariant-nodes
 invariant-nodes l = record {
   size : IsLoadOf l.index l.sum;

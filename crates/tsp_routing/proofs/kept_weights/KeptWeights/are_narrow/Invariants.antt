@@ -8,6 +8,7 @@ use Rattle.tsp_cases.specs.states.Combed.{set_weight}
 use Rattle.tsp_routing.specs.Weights.{most_link}
 use Rattle.tsp_routing.proofs.kept_weights.KeptWeights.are_narrow.Given as goal
 
+-- the weights from the nodes up to `index` are at most `most_link` in size, and where `narrow` holds at most 2^38
 abbrev pub invariant-nodes : goal.invariant-nodes
 invariant-nodes g l =
     let s = l.self.weights.now in
