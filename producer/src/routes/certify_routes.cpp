@@ -33,8 +33,11 @@ int certify_routes(const Options& options, const std::string& tsp, std::unique_p
   Progress progress(options.log);
   Clock::catch_signals();
   const Clock clock(options.seconds);
-  begin.routes = find_routes(instance, given, options.seed,
-                             [&] { return Clock::signal() ? 1.0 : clock.used() / kRemovals.part_of_time; });
+  FoundRoutes found = find_routes(instance, given, options.seed, [&] {
+    return Clock::signal() ? 1.0 : clock.used() / kRemovals.part_of_time;
+  });
+  begin.routes = std::move(found.best);
+  begin.met = std::move(found.met);
   RouteSearch search(instance, loads, begin, clock, progress,
                      {options.window, options.split, options.limits});
   search.run();

@@ -2,6 +2,7 @@
 
 #include <algorithm>
 #include <cmath>
+#include <numeric>
 
 #include "routes/route_parameters.h"
 
@@ -15,6 +16,23 @@ double weight_of(const Route& walk, const Links<double>& links, int nodes) {
     last = v;
   }
   return sum + links[static_cast<std::size_t>(last) * nodes];
+}
+
+// How much each customer of a route makes it longer: by its detour, and by its part of the load on the way
+// from the depot and back.
+std::vector<double> shares_of(const CvrpInstance& instance, const Route& route) {
+  const Matrix& costs = instance.costs;
+  const auto load = static_cast<double>(std::max<Weight>(1, instance.demand_of(route)));
+  std::vector<double> shares;
+  for (std::size_t k = 0; k < route.size(); k++) {
+    const int v = route[k], before = k > 0 ? route[k - 1] : 0;
+    const int behind = k + 1 < route.size() ? route[k + 1] : 0;
+    const Weight detour = costs(before, v) + costs(v, behind) - costs(before, behind);
+    const double way = static_cast<double>(costs(0, v) + costs(v, 0));
+    const double part = static_cast<double>(instance.demands[v]) / load;
+    shares.push_back(std::max(0.0, static_cast<double>(detour)) + std::max(0.0, way * part));
+  }
+  return shares;
 }
 }  // namespace
 
@@ -81,6 +99,32 @@ int ColumnGeneration::price(const Duals& duals, Duals mixed) {
     best_ = std::move(mixed);
   }
   return added;
+}
+
+// The sum over a route is what it costs.
+Duals ColumnGeneration::duals_by(const Routes& plan) const {
+  Duals duals{std::vector<double>(instance_.nodes(), 0), {}};
+  for (const Route& route : plan) {
+    const std::vector<double> shares = shares_of(instance_, route);
+    const double sum = std::accumulate(shares.begin(), shares.end(), 0.0);
+    const double cost = static_cast<double>(length_of(instance_, route)) / program_.unit();
+    for (std::size_t k = 0; k < route.size(); k++) {
+      duals.potentials[route[k]] = -cost / 2 * (sum > 0 ? shares[k] / sum : 0);
+    }
+  }
+  return duals;
+}
+
+void ColumnGeneration::begin_with(const Routes& plan, const std::function<bool()>& late) {
+  const Duals whole = duals_by(plan);
+  double before = kNoBound;
+  for (double factor = 1; factor > 0; factor -= kColumns.step_of_plan) {
+    Duals duals = whole;
+    for (double& potential : duals.potentials) potential *= factor;
+    price(duals, duals);
+    if (bound_ <= before || late()) return;
+    before = bound_;
+  }
 }
 
 double ColumnGeneration::estimate(int rounds) {

@@ -24,6 +24,9 @@ class ColumnGeneration {
                    const std::vector<Limit>& limits);
   // Duals to begin with, which are the best ones until others are better.
   void set_best(const Duals& duals) { best_ = duals; }
+  // Duals to begin with, where there are no better ones: each route of the plan pays for its customers. They
+  // are scaled so that the bound is best.
+  void begin_with(const Routes& plan, const std::function<bool()>& late);
   // The bound of the best duals.
   double run(const Ending& ending);
   // The program's value after as many rounds of walks over few links. It tends to be above the bound.
@@ -37,6 +40,7 @@ class ColumnGeneration {
   static constexpr double kNoBound = -1e30;
   double bound_of(Duals& duals, double least_walk) const;
   Duals mixed(const Duals& duals, double part) const;
+  Duals duals_by(const Routes& plan) const;
   int add_walks(const Duals& duals);
   bool price_few(const Duals& duals, const Duals& mixed);
   int price(const Duals& duals, Duals mixed);

@@ -73,6 +73,17 @@ void RouteCaseSolver::load(const RouteCase& here, WalkProgram& program) const {
   program.add_walks(here.goal.routes);
 }
 
+// Good duals to begin with: those from above, else those of the shortest plan.
+void RouteCaseSolver::begin(const RouteCase& here, ColumnGeneration& generation) const {
+  if (here.start && !here.start->duals.potentials.empty()) {
+    generation.set_best(here.start->duals);
+  } else if (!here.numbers.potentials.empty()) {
+    generation.set_best(duals_of(problem_.instance, here.numbers, problem_.scale));
+  } else {
+    generation.begin_with(here.goal.routes, [&] { return clock_.over(kRouteTree.part_of_time); });
+  }
+}
+
 void RouteCaseSolver::look_for_plan(Rounds& rounds) const {
   const auto routes = routes_along(problem_.instance, rounds.program.support());
   if (!routes || !is_plan(problem_.instance, *routes)) return;
@@ -172,11 +183,7 @@ RouteOutcome RouteCaseSolver::solve(const RouteCase& here, const Note& note) {
                 here.goal,
                 note,
                 here.whole};
-  if (here.start) {
-    rounds.generation.set_best(here.start->duals);
-  } else if (!here.numbers.potentials.empty()) {
-    rounds.generation.set_best(duals_of(problem_.instance, here.numbers, problem_.scale));
-  }
+  begin(here, rounds.generation);
   cut(rounds);
   spare(rounds);
   RouteOutcome outcome = settled(here, rounds.generation.best());

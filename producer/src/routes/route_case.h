@@ -58,6 +58,7 @@ class RouteCaseSolver {
  private:
   struct Rounds;
   void load(const RouteCase& here, WalkProgram& program) const;
+  void begin(const RouteCase& here, ColumnGeneration& generation) const;
   void cut(Rounds& rounds);
   bool add_cuts(Rounds& rounds, bool thorough);
   void look_for_plan(Rounds& rounds) const;

@@ -21,6 +21,8 @@ struct RemovalParameters {
   int overlooked = 128;        // one of as many places is
   double first_temperature = 2, last_temperature = 0.02;  // in average costs to a near customer
   double part_of_time = 0.2;
+  double met_from = 0.3;  // of the run: routes of as many plans from then on join the linear program
+  int met_plans = 100;
 };
 inline constexpr RemovalParameters kRemovals{};
 
@@ -28,6 +30,7 @@ inline constexpr RemovalParameters kRemovals{};
 struct ColumnParameters {
   double largest_cost = 1e7;  // in units of the program
   double step = 0.25;         // of the mix from the best duals toward the program's
+  double step_of_plan = 0.1;  // of the factors by which duals of a plan are tried
   std::size_t fewest_at_once = 20, most_at_once = 150;
   std::size_t walks = 300, walks_of_node = 10;  // of more, those that cost too much are dropped
   double far = 0.1;                             // so much too much, in parts of the average link

@@ -158,6 +158,7 @@ void RouteSearch::solve_first() {
   }
   RouteCase first = case_of(0);
   first.whole = true;
+  if (!begin_.tree) first.start = std::make_shared<const RouteStart>(RouteStart{{}, begin_.met, {}});
   const auto note = [&](Weight length, Weight bound, int sets, int walks) {
     sets_ = sets;
     walks_ = walks;

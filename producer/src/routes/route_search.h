@@ -19,6 +19,7 @@ namespace certify::routes {
 // What a search begins with.
 struct RouteBegin {
   Routes routes;
+  std::vector<Route> met{};  // routes that join the first linear program
   std::optional<Weight> upper{};
   std::uint64_t seed = 1;
   std::optional<Certificate> tree{};  // that is gone on with

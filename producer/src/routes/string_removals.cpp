@@ -225,11 +225,15 @@ Routes StringRemovals::run(const Routes& first, std::int64_t steps, const std::f
   take(first);
   Routes best = listed();
   Weight least = length_;
-  double temperature = first_temperature_;
+  double temperature = first_temperature_, next_met = kRemovals.met_from;
   for (std::int64_t k = 0; k < steps; k++, step_++) {
     if (k % 256 == 0) {
       const double part = std::max(static_cast<double>(k) / static_cast<double>(steps), used());
       if (part >= 1) break;
+      if (part >= next_met) {
+        for (const Route& route : listed()) met_.insert(route);
+        next_met += (1 - kRemovals.met_from) / kRemovals.met_plans;
+      }
       temperature = first_temperature_ * std::pow(last_temperature_ / first_temperature_, part);
     }
     const Weight before = length_;
@@ -250,19 +254,24 @@ Routes StringRemovals::run(const Routes& first, std::int64_t steps, const std::f
   return best;
 }
 
-Routes find_routes(const CvrpInstance& instance, const std::optional<Routes>& given, std::uint64_t seed,
-                   const std::function<double()>& used) {
+FoundRoutes find_routes(const CvrpInstance& instance, const std::optional<Routes>& given, std::uint64_t seed,
+                        const std::function<double()>& used) {
   Routes first;
   for (const int v : instance.customers()) first.push_back({v});
   if (given) first = *given;
   const std::int64_t steps =
       std::max(kRemovals.few_steps, kRemovals.steps * static_cast<std::int64_t>(instance.nodes()));
   std::vector<Routes> found(kRemovals.runs);
+  std::vector<std::set<Route>> met(kRemovals.runs);
   for_each_at_once(found.size(), [&](std::size_t k) {
-    found[k] = StringRemovals(instance, seed * 1000 + k).run(first, steps, used);
+    StringRemovals removals(instance, seed * 1000 + k);
+    found[k] = removals.run(first, steps, used);
+    met[k] = removals.met();
   });
-  return *std::min_element(found.begin(), found.end(), [&](const Routes& a, const Routes& b) {
+  for (std::size_t k = 1; k < met.size(); k++) met[0].merge(met[k]);
+  const auto best = std::min_element(found.begin(), found.end(), [&](const Routes& a, const Routes& b) {
     return length_of(instance, a) < length_of(instance, b);
   });
+  return {*best, {met[0].begin(), met[0].end()}};
 }
 }  // namespace certify::routes

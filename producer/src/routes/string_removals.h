@@ -7,6 +7,7 @@
 #pragma once
 #include <functional>
 #include <optional>
+#include <set>
 
 #include "routes/cvrp.h"
 #include "routes/route_parameters.h"
@@ -19,6 +20,8 @@ class StringRemovals {
   // Begins with these routes, else with a route for each customer. The best plan of as many steps; of fewer
   // where used() tells that more of the time is over than of the steps.
   Routes run(const Routes& first, std::int64_t steps, const std::function<double()>& used);
+  // Routes of plans that it met late.
+  const std::set<Route>& met() const { return met_; }
 
  private:
   struct Saved {
@@ -63,9 +66,15 @@ class StringRemovals {
   std::vector<int> saved_in_;  // the step in which a route was saved last
   int step_ = 0;
   std::vector<int> removed_;
+  std::set<Route> met_;
+};
+
+struct FoundRoutes {
+  Routes best;
+  std::vector<Route> met;  // routes of good plans
 };
 
 // The best of several runs, which depend on the seed alone where there is time.
-Routes find_routes(const CvrpInstance& instance, const std::optional<Routes>& given, std::uint64_t seed,
-                   const std::function<double()>& used);
+FoundRoutes find_routes(const CvrpInstance& instance, const std::optional<Routes>& given, std::uint64_t seed,
+                        const std::function<double()>& used);
 }  // namespace certify::routes

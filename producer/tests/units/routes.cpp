@@ -333,6 +333,25 @@ TEST_CASE("Column generation ends at the program's value, below the shortest pla
   }
 }
 
+TEST_CASE("Column generation that begins with a plan has a bound at once, and ends as without it") {
+  Random random(6);
+  const std::function<bool()> late = [] { return false; };
+  for (int k = 0; k < 8; k++) {
+    const CvrpInstance instance = random_instance(8 + k, 8, random, k % 2 == 0 ? 0 : -10);
+    const Loads loads = *loads_in(instance, 1);
+    const Routes plan = find_routes(instance, std::nullopt, 1, [] { return 0.0; }).best;
+    WalkProgram program(instance, length_of(instance, plan)), other(program);
+    ColumnGeneration begun(instance, loads, program, {}), generation(instance, loads, other, {});
+    begun.begin_with(plan, late);
+    CHECK(begun.has_bound());
+    CHECK(begun.bound() <= static_cast<double>(length_of(instance, plan)) + 1e-6);
+    WalkBound exact(instance, loads, 100000);
+    const Weight reached = exact.bound_of(exact.value(exact.rounded(begun.best(), 1), {}));
+    CHECK(static_cast<double>(reached) >= begun.bound() - 0.01);
+    CHECK(begun.run({1e9, 1e-6, true, late}) == Approx(generation.run({1e9, 1e-6, true, late})).margin(1e-4));
+  }
+}
+
 TEST_CASE("A branch is on a set that the solution crosses between two even numbers of times") {
   Random random(7);
   int branches = 0;
@@ -379,9 +398,10 @@ TEST_CASE("String removals find shortest plans of few customers") {
     const std::vector<Routes> plans = all_plans(instance);
     Weight least = length_of(instance, plans[0]);
     for (const Routes& plan : plans) least = std::min(least, length_of(instance, plan));
-    const Routes found = find_routes(instance, std::nullopt, 1, [] { return 0.0; });
-    CHECK(is_plan(instance, found));
-    CHECK(length_of(instance, found) == least);
+    const FoundRoutes found = find_routes(instance, std::nullopt, 1, [] { return 0.0; });
+    CHECK(is_plan(instance, found.best));
+    CHECK(length_of(instance, found.best) == least);
+    for (const Route& route : found.met) CHECK(instance.demand_of(route) <= instance.capacity);
   }
 }
 
