@@ -11,7 +11,7 @@ use Rattle.tsp_bound.specs.states.Boxes.{node_of}
 use Rattle.tsp_bound.specs.states.Spots.{IsSpotOf}
 use Rattle.tsp_bound.proofs.spots.spots_of.Goals as goal
 
--- plan: one place more has its own node and number
+-- plan: the pushed spot has the node's own point and number (`own`); those before it are as they were (`get_or_append_left`)
 pub places-preserved : goal.places-preserved
 places-preserved g c =
     let placed = c.args.placed.now in

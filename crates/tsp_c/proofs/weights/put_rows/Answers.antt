@@ -5,7 +5,7 @@ use Rattle.tsp_file.specs.Cost.{cost}
 use Rattle.tsp_c.specs.NumberCalls.{row_cost}
 use Rattle.tsp_c.proofs.weights.put_rows.Goals as goal
 
--- plan: one cost more, at its row and column
+-- plan: the cost at row k / n and column k % n fits 64 bits, so `put` writes it as it is, behind those before
 pub places-preserved : goal.places-preserved
 places-preserved c =
     let fits : FitsSigned w64 c.cost.result = search rules in

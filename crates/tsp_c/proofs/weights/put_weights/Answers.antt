@@ -4,7 +4,7 @@ use Rattle.std.proofs.lemmas.Int.{to_z-of_z}
 use Rattle.tsp_c.specs.NumberCalls.{pair_cost}
 use Rattle.tsp_c.proofs.weights.put_weights.Goals as goal
 
--- plan: one cost more, of the next pair
+-- plan: the cost of the next pair fits 64 bits, so `put` writes it as it is, behind those before
 pub pairs-preserved : goal.pairs-preserved
 pairs-preserved c =
     let fits : FitsSigned w64 c.cost.result = search rules in

@@ -6,7 +6,7 @@ use Rattle.std.specs.Int.{w128}
 use Rattle.std.proofs.lemmas.Int.{ints, to_z-of_z}
 use Rattle.tsp_report.proofs.compared.put_gap_words.Goals as goal
 
--- plan: the word and the number are one text
+-- plan: a gap other than 0 is written as its word and number, which `put_named` adds as one text
 pub returns : goal.returns
 returns g c =
     let fits : FitsSigned w128 c.args.gap = search rules in

@@ -7,7 +7,8 @@ use Rattle.tsp_theory.specs.states.Nearest.{least_at}
 use Rattle.tsp_routing.specs.states.Onwards.{entry_at}
 use Rattle.tsp_routing.proofs.least_walk.start_by.Goals as goal
 
--- plan: the loop has the least start of the nodes so far
+-- plan: by whether a customer is the one just tried, whose start `own` bounds, or an earlier one, which the start before
+-- bounded
 pub nodes-preserved : goal.nodes-preserved
 nodes-preserved g c =
     let value = g.S.Sum.value in

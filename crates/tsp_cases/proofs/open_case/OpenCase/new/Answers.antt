@@ -13,7 +13,7 @@ add-requires c =
     let long = st.invariant.by_node.places in
     (omega (arith, pair.0.1, long), omega (arith, pair.1.1, long), pair.2)
 
--- plan: one given pair more is one decision more
+-- plan: the given decisions from `left` on are one more at the beginning (`drop-cons`), which `add` puts before the others
 pub given-preserved : goal.given-preserved
 given-preserved c =
     let st = c.given in
