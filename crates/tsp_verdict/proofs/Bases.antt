@@ -25,9 +25,9 @@ use Rattle.tsp_verdict.specs.Reasons.{rank_of, NoneBefore, IsFirstReason}
 use Rattle.tsp_verdict.specs.Routes.{IsFirstAgainstRoutes, IsRoutesVerdict, NoneOfRoutesBeforeRepeats}
 use Rattle.tsp_verdict.specs.Solution.{tours_of}
 use Rattle.tsp_verdict.specs.Tours.{NoneOfTourBefore, IsFirstAgainstTour, IsTourVerdict, StandsAgainstTour}
-use Rattle.tsp_verdict.specs.states.Sources.{verdict_by, verdict_with, IsSubject, IsVerdictGiven, IsBasisGiven}
-use Rattle.tsp_verdict.specs.declared.source.Given.{Given}
-use Rattle.tsp_verdict.specs.declared.source.Given.TheVariants as givens
+use Rattle.tsp_verdict.specs.states.TourBases.{verdict_by, verdict_with, IsSubject, IsVerdictGiven, IsBasisGiven}
+use Rattle.tsp_verdict.specs.declared.tour_basis.BoundOrigin.{BoundOrigin}
+use Rattle.tsp_verdict.specs.declared.tour_basis.BoundOrigin.TheVariants as origins
 use Rattle.tsp_verdict.specs.states.Known.{against_instance, KnowsInstance}
 use Rattle.tsp_verdict.proofs.Certificates.{certificate_rank}
 use Rattle.tsp_verdict.proofs.Claims.{refused_alone, other_alone, accepted_alone, tour_refused, tour_of_another_length, certificate_refused, tour_bounded, on_routes, routes_refused, routes_of_another_length, routes_uncertified, routes_bounded}
@@ -246,19 +246,19 @@ bounded_so by inst (inr atsp) = subst (λ kind. IsTrue (is_bounded by kind)) (sy
 
 -- ---- a subject of tours
 
-pub subject_rejected : (given : Given) (inst sol : Fields) (claimed : Option ℤ) (reason : Reason) → HasTours inst
+pub subject_rejected : (given : BoundOrigin) (inst sol : Fields) (claimed : Option ℤ) (reason : Reason) → HasTours inst
     → IsSubject inst given → IsFirstAgainstTour inst sol reason → IsVerdictGiven given claimed inst sol (verdicts.No reason)
-subject_rejected (givens.Certificate certificate) inst sol claimed reason kind s first =
+subject_rejected (origins.Certificate certificate) inst sol claimed reason kind s first =
     tour_rejected (option_map (λ it. (it.0, it.1.now)) certificate) inst sol claimed reason kind first
-subject_rejected (givens.Basis basis) inst sol claimed reason kind s first =
+subject_rejected (origins.Basis basis) inst sol claimed reason kind s first =
     (tt, λ other b. tour_rejected other inst sol claimed reason kind first)
 
-pub subject_disclaimed : (given : Given) (inst sol : Fields) (claimed : Option ℤ) (found : ℤ) → HasTours inst
+pub subject_disclaimed : (given : BoundOrigin) (inst sol : Fields) (claimed : Option ℤ) (found : ℤ) → HasTours inst
     → IsSubject inst given → IsTourVerdict inst sol (verdicts.Tour found None) → IsOtherClaimed claimed found
     → IsVerdictGiven given claimed inst sol (verdicts.No (LengthClaimed found))
-subject_disclaimed (givens.Certificate certificate) inst sol claimed found kind s v other =
+subject_disclaimed (origins.Certificate certificate) inst sol claimed found kind s v other =
     tour_disclaimed (option_map (λ it. (it.0, it.1.now)) certificate) inst sol claimed found kind v other
-subject_disclaimed (givens.Basis basis) inst sol claimed found kind s v other =
+subject_disclaimed (origins.Basis basis) inst sol claimed found kind s v other =
     (tt, λ any b. tour_disclaimed any inst sol claimed found kind v other)
 
 from_basis : (inst sol : Fields) (basis known : Basis) (claimed : Option ℤ) (found : ℤ) → HasTours inst → basis ≡ known
@@ -270,12 +270,12 @@ from_basis inst sol basis known claimed found kind is s v claims =
       λ given b. (tour_judged given inst sol known claimed found kind b v claims).0,
     )
 
-pub subject_judged : (given : Given) (inst sol : Fields) (basis : Basis) (claimed : Option ℤ) (found : ℤ) → HasTours inst
+pub subject_judged : (given : BoundOrigin) (inst sol : Fields) (basis : Basis) (claimed : Option ℤ) (found : ℤ) → HasTours inst
     → IsSubject inst given → IsBasisGiven given inst basis → IsTourVerdict inst sol (verdicts.Tour found None)
     → IsAsClaimed claimed found → IsVerdictGiven given claimed inst sol (verdict_by basis found)
-subject_judged (givens.Certificate certificate) inst sol basis claimed found kind s b v claims =
+subject_judged (origins.Certificate certificate) inst sol basis claimed found kind s b v claims =
     (tour_judged (option_map (λ it. (it.0, it.1.now)) certificate) inst sol basis claimed found kind b v claims).0
-subject_judged (givens.Basis known) inst sol basis claimed found kind s is v claims =
+subject_judged (origins.Basis known) inst sol basis claimed found kind s is v claims =
     from_basis inst sol basis known claimed found kind is s v claims
 
 -- ---- routes
@@ -368,14 +368,14 @@ routes_by_basis (Some given) inst sol basis claimed found count fewest cvrp b v 
 -- ---- a subject of routes
 
 -- plan: by the verdict: a tour is none, and a reason is the first against the routes
-pub routes_subject_rejected : (given : Given) (inst sol : Fields) (claimed : Option ℤ) (verdict : Verdict)
+pub routes_subject_rejected : (given : BoundOrigin) (inst sol : Fields) (claimed : Option ℤ) (verdict : Verdict)
     → inst.kind ≡ Some kinds.Cvrp → IsRoutesVerdict inst sol verdict → HasNoLength verdict
     → IsVerdictGiven given claimed inst sol verdict
 routes_subject_rejected given inst sol claimed (verdicts.Tour found bound) cvrp v none = absurd none
 routes_subject_rejected given inst sol claimed (verdicts.Routes found count fewest bound) cvrp v none = absurd none
-routes_subject_rejected (givens.Certificate certificate) inst sol claimed (verdicts.No reason) cvrp first none =
+routes_subject_rejected (origins.Certificate certificate) inst sol claimed (verdicts.No reason) cvrp first none =
     routes_rejected (option_map (λ it. (it.0, it.1.now)) certificate) inst sol claimed reason cvrp first
-routes_subject_rejected (givens.Basis basis) inst sol claimed (verdicts.No reason) cvrp first none =
+routes_subject_rejected (origins.Basis basis) inst sol claimed (verdicts.No reason) cvrp first none =
     (tt, λ other b. routes_rejected other inst sol claimed reason cvrp first)
 
 -- an accepted verdict is one on routes without a bound
@@ -400,13 +400,13 @@ pub none_of_accepted : (inst sol : Fields) (verdict : Verdict) (length : ℤ) �
 none_of_accepted inst sol verdict length v has place reason low stands =
     (own_routes inst sol verdict length v has).own.0 reason stands
 
-pub routes_subject_disclaimed : (given : Given) (inst sol : Fields) (claimed : Option ℤ) (verdict : Verdict) (length : ℤ)
+pub routes_subject_disclaimed : (given : BoundOrigin) (inst sol : Fields) (claimed : Option ℤ) (verdict : Verdict) (length : ℤ)
     → inst.kind ≡ Some kinds.Cvrp → IsRoutesVerdict inst sol verdict → HasLength verdict length
     → IsOtherClaimed claimed length → IsVerdictGiven given claimed inst sol (verdicts.No (LengthClaimed length))
-routes_subject_disclaimed (givens.Certificate certificate) inst sol claimed verdict length cvrp v has other =
+routes_subject_disclaimed (origins.Certificate certificate) inst sol claimed verdict length cvrp v has other =
     let r = own_routes inst sol verdict length v has in
     routes_disclaimed (option_map (λ it. (it.0, it.1.now)) certificate) inst sol claimed length r.count r.fewest cvrp r.own other
-routes_subject_disclaimed (givens.Basis basis) inst sol claimed verdict length cvrp v has other =
+routes_subject_disclaimed (origins.Basis basis) inst sol claimed verdict length cvrp v has other =
     let r = own_routes inst sol verdict length v has in
     (tt, λ any b. routes_disclaimed any inst sol claimed length r.count r.fewest cvrp r.own other)
 
@@ -421,16 +421,16 @@ routes_from_basis inst sol basis known claimed found count fewest cvrp is s v cl
       λ given b. (routes_by_basis given inst sol known claimed found count fewest cvrp b v claims).0,
     )
 
-routes_given : (given : Given) (inst sol : Fields) (basis : Basis) (claimed : Option ℤ) (found : ℤ)
+routes_given : (given : BoundOrigin) (inst sol : Fields) (basis : Basis) (claimed : Option ℤ) (found : ℤ)
     (count fewest : ℕ) → inst.kind ≡ Some kinds.Cvrp → IsSubject inst given → IsBasisGiven given inst basis
     → IsRoutesVerdict inst sol (verdicts.Routes found count fewest None) → IsAsClaimed claimed found
     → IsVerdictGiven given claimed inst sol (verdict_with basis (verdicts.Routes found count fewest None))
-routes_given (givens.Certificate certificate) inst sol basis claimed found count fewest cvrp s b v claims =
+routes_given (origins.Certificate certificate) inst sol basis claimed found count fewest cvrp s b v claims =
     (routes_by_basis (option_map (λ it. (it.0, it.1.now)) certificate) inst sol basis claimed found count fewest cvrp b v claims).0
-routes_given (givens.Basis known) inst sol basis claimed found count fewest cvrp s is v claims =
+routes_given (origins.Basis known) inst sol basis claimed found count fewest cvrp s is v claims =
     routes_from_basis inst sol basis known claimed found count fewest cvrp is s v claims
 
-pub routes_subject_judged : (given : Given) (inst sol : Fields) (basis : Basis) (claimed : Option ℤ) (verdict : Verdict)
+pub routes_subject_judged : (given : BoundOrigin) (inst sol : Fields) (basis : Basis) (claimed : Option ℤ) (verdict : Verdict)
     (length : ℤ) → inst.kind ≡ Some kinds.Cvrp → IsSubject inst given → IsBasisGiven given inst basis
     → IsRoutesVerdict inst sol verdict → HasLength verdict length → IsAsClaimed claimed length
     → IsVerdictGiven given claimed inst sol (verdict_with basis verdict)

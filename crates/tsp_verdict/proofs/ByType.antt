@@ -1,4 +1,5 @@
--- What is said by the TYPE of an instance, for its tours and for its routes. For `basis_of` in src/basis.rt and others.
+-- What is said by the TYPE of an instance, for its tours and for its routes. For `basis_of` in src/comparison_basis.rt
+-- and others.
 use Rattle.std.proofs.Common.{◌≡◌, ◌≢◌, ◌⊎◌, inl, inr, Option, Some, None, refl, sym, subst}
 use Rattle.tsp_format.specs.declared.kinds.Kind.{Kind}
 use Rattle.tsp_format.specs.declared.kinds.Kind.TheVariants as kinds

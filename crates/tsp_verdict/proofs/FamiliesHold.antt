@@ -1,4 +1,5 @@
--- The families that a valid file lends, and that they have one list of numbers. For `judge_tree` in src/tree.rt and others.
+-- The families that a valid file lends, and that they have one list of numbers. For `judge_tree` in
+-- src/branching_bound.rt and others.
 use Rattle.std.proofs.Common.{◌≡◌, ℕ, ◌<◌, ◌≤◌, List, [], ◌∷◌, length, refl, ap₂, arith}
 use Rattle.std.specs.Prelude.{◌^◌}
 use Rattle.std.specs.Global.{Vec}

@@ -1,4 +1,4 @@
--- The numbers that certificates hold. For `assignment_bound` and `tree_bound` in src/certificate.rt.
+-- The numbers that certificates hold. For `assignment_bound` and `tree_bound` in src/potentials_bound.rt.
 use Rattle.std.proofs.Common.{◌≡◌, ℕ, false, List, [], length, Option, None, Some, refl, sym, ap, ◌∙◌}
 use Rattle.std.specs.Prelude.{ℤ, pos, is_some, IsSome, unwrap_or}
 use Rattle.std.specs.List.{All}

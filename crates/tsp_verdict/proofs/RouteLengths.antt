@@ -1,4 +1,4 @@
--- The lengths of routes, step by step. For `route_length` and `plan_length` in src/lengths.rt.
+-- The lengths of routes, step by step. For `route_length` and `plan_length` in src/route_lengths.rt.
 use Rattle.std.proofs.Common.{◌≡◌, ℕ, suc, ◌+◌, ◌<◌, ◌≤◌, List, [], ◌∷◌, length, get_or, drop, map, sym, ap, subst, ◌∙◌, arith, to_z, of_z, drop-cons, add-one}
 use Rattle.std.specs.Prelude.{ℤ, pos, neg_ℤ, ◌+ℤ◌, ◌≤ℤ◌}
 use Rattle.std.specs.Int.{w64}

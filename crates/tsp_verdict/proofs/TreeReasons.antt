@@ -1,4 +1,5 @@
--- Reasons against a certificate by branching, ruled out one by one, and its bound. For `judge_tree` in src/tree.rt and others.
+-- Reasons against a certificate by branching, ruled out one by one, and its bound. For `judge_tree` in
+-- src/branching_bound.rt and others.
 use Rattle.std.proofs.Common.{◌≡◌, ◌≢◌, ◌∙◌, ℕ, ◌-◌, ◌<◌, ◌≤◌, Bool, true, false, List, [], ◌∷◌, get_or, length, inl, inr, refl, sym, ap, subst, subst₂, arith}
 use Rattle.std.specs.Prelude.{◌⊎◌, Option, None, Some, unwrap_or, ℤ}
 use Rattle.std.specs.Global.{Vec}

@@ -6,4 +6,4 @@ pub mod Next
 pub mod PairSets
 pub mod Sums
 pub mod RouteLists
-pub mod Sources
+pub mod TourBases

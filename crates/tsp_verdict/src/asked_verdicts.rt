@@ -8,7 +8,7 @@ ghost use Rattle.tsp_verdict.specs.Certified.{IsCertifiedVerdict};
 ghost use Rattle.tsp_verdict.specs.Routes.{IsRoutesVerdict, NoneOfRoutesBeforeRepeats};
 ghost use Rattle.tsp_verdict.specs.Tours.{IsTourVerdict, NoneOfTourBeforeRepeats};
 
-use crate::judged::judge;
+use crate::solution_verdict::judge;
 use std::alloc::{AllocError, Global};
 use tsp_cost::Instance;
 use tsp_file::File;

@@ -12,48 +12,48 @@
 #![tactic(auto)]
 
 mod asked_verdicts;
-mod basis;
-mod bounded;
-mod certificate;
-mod certified;
+mod bound_verdict;
+mod branching_bound;
+mod certificate_bound;
 mod claim_examples;
-mod claimed;
-mod decided;
+mod comparison_basis;
 mod examples;
 mod files;
+mod first_places;
 mod fixed;
-mod judged;
-mod lengths;
+mod fixed_decisions;
+mod length_claim;
 mod loads;
-mod multiplied;
+mod multiplier_pairs;
 mod one_verdict;
 mod pairs;
-mod places;
+mod potentials_bound;
+mod route_lengths;
 mod routes;
-mod source;
+mod solution_verdict;
 mod strict;
 mod subject;
 mod tour;
-mod tree;
+mod tour_basis;
 mod verdict_examples;
 mod visits;
 mod walks;
 
 pub use asked_verdicts::{judge_routes, judge_tour, judge_tour_bound, judge_tour_branches};
-pub use basis::{basis_alone, basis_of, judge_basis};
-pub use bounded::judge_bound;
-pub use certified::is_bounded;
+pub use bound_verdict::judge_bound;
+pub use certificate_bound::is_bounded;
 pub use claim_examples::{
     examples_of_claimed_verdicts, examples_of_fixed_arcs, examples_of_other_claims,
 };
+pub use comparison_basis::{basis_alone, basis_of, judge_basis};
 pub use examples::{
     examples_against_certificates, examples_against_instances, examples_against_routes,
     examples_against_tours, examples_against_trees, examples_of_claims,
     examples_of_dimensions_of_routes, examples_of_multipliers, examples_of_order,
     examples_of_order_of_routes, examples_of_plans, examples_of_reasons_before_memory,
 };
-pub use judged::{judge, judge_next};
 pub use one_verdict::files_have_one_verdict;
+pub use solution_verdict::{judge, judge_next};
 pub use strict::{
     examples_of_strictness, strict_basis, strict_bound, strict_verdict,
     strict_yes_leaves_nothing_unjudged,

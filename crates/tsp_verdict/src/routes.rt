@@ -13,8 +13,8 @@ ghost use Rattle.tsp_verdict.specs.Reasons.{IsFirstReason};
 ghost use Rattle.tsp_verdict.specs.states.RouteLists.{AreToursOf};
 
 use crate::files::{routing, solution_tours};
-use crate::lengths::plan_length;
 use crate::loads::{first_overload, least_routes};
+use crate::route_lengths::plan_length;
 use crate::visits::{first_larger_in, first_of_in, first_unmarked, mark_all};
 use std::alloc::Global;
 use tsp_cost::{Costs, Instance};
@@ -23,7 +23,7 @@ use tsp_memory::{Refused, filled};
 use tsp_reason::{Reason, Verdict};
 
 /// The fewest nodes of an instance whose routes are judged.
-pub(crate) const FEWEST_NODES: u32 = 2;
+pub(crate) const FEWEST_NODES_OF_ROUTES: u32 = 2;
 
 /// The first reason against the routes of a CVRP, in the order that [`Reason`] says; or their
 /// number, the least number, and their length.
@@ -46,7 +46,7 @@ pub(crate) fn verdict_on_routes(
         return Ok(Verdict::No(Reason::NotASolution));
     };
     let nodes = inst.count();
-    if nodes < FEWEST_NODES {
+    if nodes < FEWEST_NODES_OF_ROUTES {
         return Ok(Verdict::No(Reason::TooFewNodes));
     }
     if sol.dimension().is_some_and(|stated| stated != nodes) {
@@ -86,7 +86,7 @@ pub(crate) fn depot_of_routes(inst: &Instance) -> Result<u32, Reason>
         × IsNode (nodes_of inst.now) depot × NoneAgainstRouting inst.now)
         (λ reason. IsFirstReason (StandsAgainstRouting inst.now) reason) }
 {
-    if inst.count() < FEWEST_NODES {
+    if inst.count() < FEWEST_NODES_OF_ROUTES {
         return Err(Reason::TooFewNodes);
     }
     match the_depot(inst, &routing(inst)) {

@@ -1,14 +1,14 @@
 //! What solutions are judged by, and the verdict on one of them.
 
-use crate::basis::{against_instance, basis_of, judge_basis};
-use crate::bounded::costs_of_tours;
-use crate::certified::bound_of;
-use crate::claimed::{is_other, length_in};
+use crate::bound_verdict::costs_of_tours;
+use crate::certificate_bound::bound_by;
+use crate::comparison_basis::{against_instance, basis_of, judge_basis};
 use crate::files::solution_tours;
 use crate::fixed::first_unused_by;
+use crate::length_claim::{is_other, length_in};
 use crate::routes::verdict_on_routes;
-use crate::source::{Given, Source, verdict_by, verdict_with};
 use crate::tour::{first_against_nodes, is_directed, the_tour};
+use crate::tour_basis::{BoundOrigin, TourBasis, verdict_by, verdict_with};
 use std::alloc::Global;
 use tsp_cost::{Costs, Instance, tour_length};
 use tsp_file::File;
@@ -24,7 +24,7 @@ use tsp_reason::{Basis, Certificate, Reason, Verdict};
 #[derive(Clone, Copy)]
 pub(crate) struct Subject<'a> {
     pub(crate) instance: &'a Instance,
-    pub(crate) given: Given<'a>,
+    pub(crate) given: BoundOrigin<'a>,
 }
 
 impl<'a> Subject<'a> {
@@ -35,7 +35,7 @@ impl<'a> Subject<'a> {
     ghost use Rattle.tsp_verdict.specs.Reasons.{IsFirstReason};
     ghost use Rattle.tsp_verdict.specs.Routes.{NoneOfRoutesBeforeRepeats};
     ghost use Rattle.tsp_verdict.specs.Tours.{NoneOfTourBeforeRepeats};
-    ghost use Rattle.tsp_verdict.specs.states.Sources.{IsSubject, IsVerdictGiven, IsBasisGiven, IsSource};
+    ghost use Rattle.tsp_verdict.specs.states.TourBases.{IsSubject, IsVerdictGiven, IsBasisGiven, IsTourBasis};
 
     /// The verdict on a solution: on a tour, or for TYPE CVRP on routes. Where a length is claimed,
     /// a solution of another length is rejected with `LengthClaimed`: after all other reasons
@@ -91,8 +91,8 @@ impl<'a> Subject<'a> {
         ensures { IfOk result (λ basis. IsBasisGiven self.now.given self.now.instance.now basis) }
     {
         match self.given {
-            Given::Certificate(certificate) => judge_basis(alloc, self.instance, certificate),
-            Given::Basis(basis) => Ok(basis),
+            BoundOrigin::Certificate(certificate) => judge_basis(alloc, self.instance, certificate),
+            BoundOrigin::Basis(basis) => Ok(basis),
         }
     }
 
@@ -116,8 +116,8 @@ impl<'a> Subject<'a> {
             return Ok(Verdict::No(Reason::NotASolution));
         };
         // `TooFewNodes`, `NotSymmetric`
-        let source = match self.source() {
-            Ok(source) => source,
+        let tour_basis = match self.tour_basis() {
+            Ok(tour_basis) => tour_basis,
             Err(reason) => return Ok(Verdict::No(reason)),
         };
         let nodes = inst.count();
@@ -142,27 +142,27 @@ impl<'a> Subject<'a> {
             return Ok(Verdict::No(Reason::LengthClaimed { length }));
         }
         // those against the certificate
-        let basis = self.basis_on(alloc, source)?;
+        let basis = self.basis_on(alloc, tour_basis)?;
         Ok(verdict_by(basis, length))
     }
 
     /// What the instance is judged by, or the first reason against it, whatever the tour.
-    fn source(&self) -> Result<Source<'a>, Reason>
+    fn tour_basis(&self) -> Result<TourBasis<'a>, Reason>
         requires sound { IsSubject self.now.instance.now self.now.given }
         requires kind { (self.now.instance.now.kind ≡ Some kinds.Tsp)
             ⊎ (self.now.instance.now.kind ≡ Some kinds.Atsp) }
         ensures { MatchResult result
-            (λ source. NoneAgainstTouring self.now.instance.now
-            × IsSource self.now.instance.now self.now.given source)
+            (λ tour_basis. NoneAgainstTouring self.now.instance.now
+            × IsTourBasis self.now.instance.now self.now.given tour_basis)
             (λ reason. IsFirstReason (StandsAgainstTouring self.now.instance.now) reason) }
     {
         match self.given {
-            Given::Certificate(certificate) => match costs_of_tours(self.instance) {
-                Ok(costs) => Ok(Source::Costs(costs, certificate)),
+            BoundOrigin::Certificate(certificate) => match costs_of_tours(self.instance) {
+                Ok(costs) => Ok(TourBasis::Costs(costs, certificate)),
                 Err(reason) => Err(reason),
             },
-            Given::Basis(basis) => match against_instance(basis) {
-                None => Ok(Source::Basis(basis)),
+            BoundOrigin::Basis(basis) => match against_instance(basis) {
+                None => Ok(TourBasis::Basis(basis)),
                 Some(reason) => Err(reason),
             },
         }
@@ -170,22 +170,22 @@ impl<'a> Subject<'a> {
 
     /// What is known of all solutions, or is now found: a certificate that wasn't judged before is
     /// judged here.
-    fn basis_on(&self, alloc: Global, source: Source<'_>) -> Result<Basis, Refused>
+    fn basis_on(&self, alloc: Global, tour_basis: TourBasis<'_>) -> Result<Basis, Refused>
         requires sound { IsSubject self.now.instance.now self.now.given }
         requires kind { (self.now.instance.now.kind ≡ Some kinds.Tsp)
             ⊎ (self.now.instance.now.kind ≡ Some kinds.Atsp) }
         requires none { NoneAgainstTouring self.now.instance.now }
-        requires source { IsSource self.now.instance.now self.now.given source }
+        requires tour_basis { IsTourBasis self.now.instance.now self.now.given tour_basis }
         ensures { IfOk result (λ basis. IsBasisGiven self.now.given self.now.instance.now basis) }
     {
-        let (costs, certificate) = match source {
-            Source::Costs(costs, certificate) => (costs, certificate),
-            Source::Basis(basis) => return Ok(basis),
+        let (costs, certificate) = match tour_basis {
+            TourBasis::Costs(costs, certificate) => (costs, certificate),
+            TourBasis::Basis(basis) => return Ok(basis),
         };
         let Some((by, file)) = certificate else {
             return Ok(Basis::Tours { bound: None });
         };
-        let found = bound_of(alloc, by, self.instance, costs, file)?;
+        let found = bound_by(alloc, by, self.instance, costs, file)?;
         Ok(basis_of(self.instance, found))
     }
 }

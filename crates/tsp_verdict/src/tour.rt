@@ -14,7 +14,7 @@ ghost use Rattle.tsp_theory.specs.Cycle.{IsCycle};
 ghost use Rattle.tsp_verdict.specs.states.TourCosts.{AreTourCosts};
 ghost use Rattle.tsp_verdict.specs.states.RouteLists.{AreToursOf};
 
-use crate::places::{are_different, first_larger, first_repeated};
+use crate::first_places::{are_different, first_larger, first_repeated};
 use std::alloc::Global;
 use tsp_cost::{Costs, EvenView, Instance, View, even_view};
 use tsp_file::File;
@@ -23,7 +23,7 @@ use tsp_memory::Refused;
 use tsp_reason::Reason;
 
 /// The fewest nodes of an instance whose tours are judged.
-pub(crate) const FEWEST_NODES: u32 = 3;
+pub(crate) const FEWEST_NODES_OF_TOURS: u32 = 3;
 
 /// What the costs of an instance are taken from, by its TYPE.
 #[derive(Clone, Copy)]

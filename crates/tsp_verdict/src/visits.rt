@@ -6,7 +6,7 @@ ghost use Rattle.tsp_verdict.specs.states.Marks.{Marked};
 ghost use Rattle.tsp_verdict.specs.Places.{IsFirstPlace, IsLarger, IsAt, IsAtEarlierPlace};
 ghost use Rattle.tsp_verdict.specs.states.RouteLists.{nodes_in};
 
-use crate::places::{first_larger, first_of, mark};
+use crate::first_places::{first_larger, first_of, mark};
 
 /// The first place whose node is larger than n.
 pub(crate) fn first_larger_in(routes: &[Vec<u32>], n: u32) -> Option<u32>

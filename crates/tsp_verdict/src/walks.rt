@@ -12,8 +12,8 @@ ghost use Rattle.tsp_verdict.specs.Plan.{depot_of};
 ghost use Rattle.tsp_reason.specs.declared.certificate.Certificate.TheVariants as certificates;
 ghost use Rattle.tsp_verdict.specs.Certified.{FindsBound, NoneWithoutMemory};
 
+use crate::branching_bound::tree_of;
 use crate::files::routing;
-use crate::tree::tree_of;
 use std::alloc::Global;
 use tsp_cost::Instance;
 use tsp_file::{File, TreeData};

@@ -1,7 +1,7 @@
 -- The goals of `Subject::basis_on` in src/subject.rt: what it ensures.
 use Rattle.std.proofs.Common.{subst}
-use Rattle.tsp_verdict.specs.declared.source.Source.{Source}
-use Rattle.tsp_verdict.specs.states.Sources.{IsSource}
+use Rattle.tsp_verdict.specs.declared.tour_basis.TourBasis.{TourBasis}
+use Rattle.tsp_verdict.specs.states.TourBases.{IsTourBasis}
 use Rattle.tsp_verdict.proofs.Bases.{bounded_so}
 use Rattle.tsp_verdict.proofs.Bounds.{certificate_decides}
 use Rattle.tsp_verdict.proofs.ByType.{none_for_tours}
@@ -13,7 +13,7 @@ returns c =
     let inst = c.args.self.now.instance.now in
     let by = c.in-Some.by in
     let cert = c.in-Some.file.now in
-    let source = subst (λ (source : Source). IsSource inst c.args.self.now.given source) c.in-Costs.is c.requires.source in
+    let tour_basis = subst (λ (tour_basis : TourBasis). IsTourBasis inst c.args.self.now.given tour_basis) c.in-Costs.is c.requires.tour_basis in
     let decides = certificate_decides by inst cert c.in_ok-found.found (none_for_tours inst c.requires.kind c.requires.none)
     c.in_ok-found.ensures.found in
-    rw source.0 (rw c.in-Some.is (bounded_so by inst c.requires.kind, c.basis_of.ensures by cert decides))
+    rw tour_basis.0 (rw c.in-Some.is (bounded_so by inst c.requires.kind, c.basis_of.ensures by cert decides))

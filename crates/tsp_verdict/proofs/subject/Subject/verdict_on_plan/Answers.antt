@@ -5,7 +5,7 @@ use Rattle.std.specs.Prelude.{FitsSigned}
 use Rattle.std.proofs.lemmas.Int.{to_z-of_z}
 use Rattle.tsp_reason.specs.declared.verdict.Verdict.{Verdict}
 use Rattle.tsp_verdict.specs.SolutionVerdict.{IsAsClaimed}
-use Rattle.tsp_verdict.specs.states.Sources.{IsVerdictGiven}
+use Rattle.tsp_verdict.specs.states.TourBases.{IsVerdictGiven}
 use Rattle.tsp_verdict.proofs.Bases.{routes_subject_rejected, routes_subject_judged}
 use Rattle.tsp_verdict.proofs.subject.Subject.verdict_on_plan.Goals as goal
 

@@ -10,7 +10,7 @@ use Rattle.tsp_reason.specs.declared.verdict.Reason.TheVariants.{NotASolution, D
 use Rattle.tsp_reason.specs.declared.verdict.Verdict.{Verdict}
 use Rattle.tsp_verdict.specs.SolutionVerdict.{IsAsClaimed, IsOtherClaimed}
 use Rattle.tsp_verdict.specs.Tours.{IsFirstAgainstTour}
-use Rattle.tsp_verdict.specs.states.Sources.{IsVerdictGiven, verdict_by}
+use Rattle.tsp_verdict.specs.states.TourBases.{IsVerdictGiven, verdict_by}
 use Rattle.tsp_verdict.proofs.Bases.{up_to_dimension, subject_rejected, subject_disclaimed, subject_judged}
 use Rattle.tsp_verdict.proofs.TourReasons.{after_dimension}
 use Rattle.tsp_verdict.proofs.TourVerdicts.{unused_first, is_yes}

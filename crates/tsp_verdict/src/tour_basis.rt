@@ -1,0 +1,67 @@
+//! What the bound of a verdict is taken from, what an instance of tours was judged by, and the
+//! verdict on a tour by what is known of all.
+
+ghost use Rattle.std.specs.Prelude.{◌≡◌};
+ghost use Rattle.tsp_verdict.specs.states.TourBases.{verdict_by, verdict_with};
+
+use crate::tour::TourCosts;
+use tsp_file::File;
+use tsp_reason::{Basis, Certificate, Verdict};
+
+/// What the bound of a verdict is taken from.
+#[derive(Clone, Copy)]
+pub(crate) enum BoundOrigin<'a> {
+    /// A certificate, where there is one. It is judged after the solution.
+    Certificate(Option<(Certificate, &'a File)>),
+    /// What is known of all solutions, which was found before.
+    Basis(Basis),
+}
+
+/// What shows that no reason applies to an instance of tours.
+#[derive(Clone, Copy)]
+pub(crate) enum TourBasis<'a> {
+    /// The costs, which were found for this solution; and the certificate, which is to be judged.
+    Costs(TourCosts<'a>, Option<(Certificate, &'a File)>),
+    /// What is known of all solutions.
+    Basis(Basis),
+}
+
+/// The verdict on routes that are accepted on their own, by what is known of all solutions.
+pub(crate) fn verdict_with(basis: Basis, verdict: Verdict) -> Verdict
+    ensures { result ≡ verdict_with basis verdict }
+{
+    match (basis, verdict) {
+        (
+            Basis::Routes { least, bound },
+            Verdict::Routes {
+                length,
+                routes,
+                least: _,
+                bound: _,
+            },
+        ) => Verdict::Routes {
+            length,
+            routes,
+            least,
+            bound,
+        },
+        (Basis::No(reason), _) => Verdict::No(reason),
+        // A basis of an instance that has routes is none of the others.
+        (_, verdict) => verdict,
+    }
+}
+
+/// The verdict on a tour of this length, by what is known of all solutions.
+pub(crate) fn verdict_by(basis: Basis, length: i64) -> Verdict
+    ensures { result ≡ verdict_by basis length }
+{
+    match basis {
+        Basis::Tours { bound } => Verdict::Tour { length, bound },
+        Basis::No(reason) => Verdict::No(reason),
+        // A basis of an instance that has a tour is neither of these.
+        Basis::NoSolution | Basis::Routes { .. } => Verdict::Tour {
+            length,
+            bound: None,
+        },
+    }
+}
