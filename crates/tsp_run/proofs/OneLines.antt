@@ -27,7 +27,7 @@ use Rattle.tsp_draft.specs.DraftFaultText.{end_fault_text}
 use Rattle.tsp_text.specs.ReadFaultText.{line_fault_text, read_fault_text}
 use Rattle.tsp_stream.specs.WriteFaultText.{write_fault_text}
 use Rattle.tsp_file.specs.RelayoutFaultText.{relayout_fault_text}
-use Rattle.tsp_run.specs.Ending.{is_one_line}
+use Rattle.tsp_run.specs.RunEnd.{is_one_line}
 
 pub is_one : List ℕ → Type 0
 is_one text = is_one_line text ≡ true

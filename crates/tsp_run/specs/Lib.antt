@@ -1,6 +1,6 @@
 -- The files of definitions of this crate. Crates above may import them.
 pub mod states
-pub mod Ending
+pub mod RunEnd
 pub mod ComparisonRun
 pub mod ProgramRun
 pub mod Printing

@@ -9,9 +9,9 @@ use Rattle.clap.specs.declared.error.Error.{Error as Refusal}
 use Rattle.clap.specs.declared.error.kind.ErrorKind.TheVariants as kinds
 use Rattle.tsp_judge.specs.declared.Watched.{Watched}
 use Rattle.tsp_judge.specs.Sink.{Sink, IsUnwritten}
-use Rattle.tsp_run.specs.declared.ending.Ending.{Ending}
-use Rattle.tsp_run.specs.declared.ending.Ending.TheVariants.{NoJob, Printed, NoRequest, Ended}
-use Rattle.tsp_run.specs.declared.ending.Ending.TheVariants as endings
+use Rattle.tsp_run.specs.declared.run_end.RunEnd.{RunEnd}
+use Rattle.tsp_run.specs.declared.run_end.RunEnd.TheVariants.{NoJob, Printed, NoRequest, Ended}
+use Rattle.tsp_run.specs.declared.run_end.RunEnd.TheVariants as run_ends
 use Rattle.tsp_perform.specs.declared.outcome.Outcome.{Outcome}
 use Rattle.tsp_judge.specs.declared.compared.Compared.{Compared}
 use Rattle.tsp_judge.specs.declared.fault.RunFault.{RunFault}
@@ -28,7 +28,7 @@ use Rattle.tsp_cli.specs.Requests.{GivesRequest}
 use Rattle.tsp_run.specs.ComparisonRun.{IsComparedAs, IsFresh}
 use Rattle.tsp_perform.specs.Outcomes.{AreReadOn, IsDone}
 use Rattle.tsp_stream.specs.declared.output.WriteFault.{WriteFault}
-use Rattle.tsp_run.specs.Ending.{status_of_ending, TellsAll}
+use Rattle.tsp_run.specs.RunEnd.{status_of_run_end, TellsAll}
 use Rattle.tsp_run.specs.Printing.{Prints, PrintsSome, version_text}
 
 -- the same task, each of its files opened in its place
@@ -44,13 +44,13 @@ IsDoneAs {F = F} remaining gives opens task sink answer = (old new : Task (Watch
 -- How a run ends that has this job: it asks for nothing, and then nothing is written; or the task was done on its files,
 -- opened in their places; or the solutions were compared.
 abbrev pub EndsWith : {F : Type 0} → (F → Option (List ℕ)) → (F → List ℕ → Result ℕ Error → List ℕ → F → Type 0)
-    → (Place → F → Type 0) → Job → Sink → Ending → Type 0
+    → (Place → F → Type 0) → Job → Sink → RunEnd → Type 0
 EndsWith remaining gives opens job sink (NoJob fault) = ⊥
 EndsWith remaining gives opens job sink (Printed printed) = ⊥
 EndsWith remaining gives opens job sink (NoRequest fault) = GivesRequest job (Err fault) × IsUnwritten sink
 EndsWith remaining gives opens job sink (Ended answer) = (task : Task Place) × GivesRequest job (Ok (requests.Task task))
     × IsDoneAs remaining gives opens task sink answer
-EndsWith remaining gives opens job sink (endings.Compared answer) = (comparison : Comparison Place) × GivesRequest job
+EndsWith remaining gives opens job sink (run_ends.Compared answer) = (comparison : Comparison Place) × GivesRequest job
     (Ok (requests.Compare comparison))
     × IsComparedAs remaining gives opens comparison sink answer
 
@@ -75,7 +75,7 @@ PrintsAsked build words fault sink printed = (AsksVersion fault × Prints sink (
     ⊎ (AsksHelp words fault × PrintsSome sink printed)
 
 -- the end of words that are refused in these words of clap: the version or help is printed, or nothing is written
-abbrev pub EndsRefused : Text → List Text → Sink → Refusal → Ending → Type 0
+abbrev pub EndsRefused : Text → List Text → Sink → Refusal → RunEnd → Type 0
 EndsRefused build words sink refusal (NoJob fault) = (fault ≡ Refused refusal) × (AsksVersion (Refused refusal) → ⊥)
     × (AsksHelp words (Refused refusal) → ⊥) × IsUnwritten sink
 EndsRefused build words sink refusal (Printed printed) = PrintsAsked build words (Refused refusal) sink printed
@@ -85,7 +85,7 @@ EndsRefused build words sink refusal other = ⊥
 -- nothing is written; or they ask for the version, or for help by the verb `help`, and that is printed. Or the run ends with the
 -- job that they ask for. That is explained where the job says so, and on a terminal; nothing else is.
 abbrev pub EndsProgram : {F : Type 0} → (F → Option (List ℕ)) → (F → List ℕ → Result ℕ Error → List ℕ → F → Type 0)
-    → (Place → F → Type 0) → Bool → Text → List Text → Sink → Bool → Ending → Type 0
+    → (Place → F → Type 0) → Bool → Text → List Text → Sink → Bool → RunEnd → Type 0
 EndsProgram remaining gives opens on_terminal build words sink explained (NoJob fault) = GivesJob (drop 1 words) (Err fault)
     × (AsksVersion fault → ⊥) × (AsksHelp (drop 1 words) fault → ⊥) × IsUnwritten sink × (explained ≡ false)
 EndsProgram remaining gives opens on_terminal build words sink explained (Printed printed) = (fault : JobFault)
@@ -97,27 +97,27 @@ EndsProgram remaining gives opens on_terminal build words sink explained (NoRequ
 EndsProgram remaining gives opens on_terminal build words sink explained (Ended answer) = (job : Job)
     × GivesJob (drop 1 words) (Ok job)
     × EndsWith remaining gives opens job sink (Ended answer) × (explained ≡ (job.explain || on_terminal))
-EndsProgram remaining gives opens on_terminal build words sink explained (endings.Compared answer) = (job : Job)
+EndsProgram remaining gives opens on_terminal build words sink explained (run_ends.Compared answer) = (job : Job)
     × GivesJob (drop 1 words)
     (Ok job)
-    × EndsWith remaining gives opens job sink (endings.Compared answer) × (explained ≡ (job.explain || on_terminal))
+    × EndsWith remaining gives opens job sink (run_ends.Compared answer) × (explained ≡ (job.explain || on_terminal))
 
 -- the end where the words can't be had: out of memory, or a word is no text, which is reported as refused words are
-abbrev pub HasNoWords : ErrorKind → Bool → Ending → Type 0
+abbrev pub HasNoWords : ErrorKind → Bool → RunEnd → Type 0
 HasNoWords kind explained (NoJob fault) = (kind ≡ io_kinds.OutOfMemory → fault ≡ OutOfMemory)
     × (kind ≢ io_kinds.OutOfMemory → IsOtherRefusal fault) × (explained ≡ false)
 HasNoWords kind explained (Printed printed) = ⊥
 HasNoWords kind explained (NoRequest fault) = ⊥
 HasNoWords kind explained (Ended answer) = ⊥
-HasNoWords kind explained (endings.Compared answer) = ⊥
+HasNoWords kind explained (run_ends.Compared answer) = ⊥
 
--- the exit status is that of the ending, and its line is written, where that succeeded, and more where it is explained
-abbrev pub IsTold : Bool → Ending → Option (List ℕ) → Option (List ℕ) → ℕ × Result (Unit {0}) Error → Type 0
-IsTold explained ending old new answer = (answer.0 ≡ status_of_ending ending) × OnOk answer.1 (TellsAll explained ending old new)
+-- the exit status is that of the run's end, and its line is written, where that succeeded, and more where it is explained
+abbrev pub IsTold : Bool → RunEnd → Option (List ℕ) → Option (List ℕ) → ℕ × Result (Unit {0}) Error → Type 0
+IsTold explained run_end old new answer = (answer.0 ≡ status_of_run_end run_end) × OnOk answer.1 (TellsAll explained run_end old new)
 
--- the run tells some ending with Q, of a job, of a task, or of a comparison
-abbrev pub RunsJob : (Ending → Type 0) → Bool → Option (List ℕ) → Option (List ℕ) → ℕ × Result (Unit {0}) Error → Type 0
-RunsJob Q explained old new answer = (ending : Ending) × Q ending × IsTold explained ending old new answer
+-- the run tells some end with Q, of a job, of a task, or of a comparison
+abbrev pub RunsJob : (RunEnd → Type 0) → Bool → Option (List ℕ) → Option (List ℕ) → ℕ × Result (Unit {0}) Error → Type 0
+RunsJob Q explained old new answer = (run_end : RunEnd) × Q run_end × IsTold explained run_end old new answer
 
 abbrev pub RunsTask : (Result Outcome RunFault → Type 0) → Bool → Option (List ℕ) → Option (List ℕ)
     → ℕ × Result (Unit {0}) Error → Type 0
@@ -126,9 +126,9 @@ RunsTask Q explained old new answer = (done : Result Outcome RunFault) × Q done
 abbrev pub RunsComparison : (Result Compared RunFault → Type 0) → Bool → Option (List ℕ) → Option (List ℕ)
     → ℕ × Result (Unit {0}) Error → Type 0
 RunsComparison Q explained old new answer = (found : Result Compared RunFault) × Q found
-    × IsTold explained (endings.Compared found) old new answer
+    × IsTold explained (run_ends.Compared found) old new answer
 
--- the exit status is that of an ending with Q, and its line is written, where that succeeded; more follows the line where the
+-- the exit status is that of a run's end with Q, and its line is written, where that succeeded; more follows the line where the
 -- ending is explained
-abbrev pub Runs : (Bool → Ending → Type 0) → Option (List ℕ) → Option (List ℕ) → ℕ × Result (Unit {0}) Error → Type 0
-Runs Q old new answer = (explained : Bool) × (ending : Ending) × Q explained ending × IsTold explained ending old new answer
+abbrev pub Runs : (Bool → RunEnd → Type 0) → Option (List ℕ) → Option (List ℕ) → ℕ × Result (Unit {0}) Error → Type 0
+Runs Q old new answer = (explained : Bool) × (run_end : RunEnd) × Q explained run_end × IsTold explained run_end old new answer

@@ -1,2 +1,2 @@
 -- The files of definitions that look into structs of the code.
-pub mod Source
+pub mod InputFile

@@ -1,5 +1,5 @@
-//! The exit status of each ending, each line, and the files of a task. No body is looked at here: a
-//! definition that is changed together with its code is refused by its examples.
+//! The exit status of each end of a run, each line, and the files of a task. No body is looked at
+//! here: a definition that is changed together with its code is refused by its examples.
 
 ghost use Rattle.std.specs.Prelude.{◌≡◌, ◌++◌, ◌∷◌, ℤ, [], length, Bool, true, false, Option, None, Some, Ok, Err, codes, decimal};
 ghost use Rattle.clap.specs.declared.error.Error.{Error};
@@ -11,8 +11,8 @@ ghost use Rattle.tsp_judge.specs.declared.RelayoutFault.TheVariants as relayout_
 ghost use Rattle.tsp_judge.specs.declared.fault.RunFault.TheVariants as run_faults;
 ghost use Rattle.tsp_cli.specs.declared.words.JobFault.TheVariants as job_faults;
 ghost use Rattle.tsp_cli.specs.declared.request.RequestFault.TheVariants as request_faults;
-ghost use Rattle.tsp_run.specs.declared.ending.Ending.TheVariants as endings;
-ghost use Rattle.tsp_run.specs.declared.ending.Line.TheVariants as lines;
+ghost use Rattle.tsp_run.specs.declared.run_end.RunEnd.TheVariants as run_ends;
+ghost use Rattle.tsp_run.specs.declared.run_end.ErrorLine.TheVariants as error_lines;
 ghost use Rattle.tsp_perform.specs.declared.outcome.Outcome.{Outcome};
 ghost use Rattle.tsp_perform.specs.declared.outcome.Outcome.TheVariants as outcomes;
 ghost use Rattle.tsp_perform.specs.Outcomes.{is_yes_outcome};
@@ -29,14 +29,14 @@ ghost use Rattle.tsp_task.specs.declared.request.Task.TheVariants as tasks;
 ghost use Rattle.tsp_run.specs.ComparisonRun.{IsOpenedAt, paths_of};
 ghost use Rattle.tsp_run.specs.Printing.{version_text};
 ghost use Rattle.tsp_run.specs.ProgramRun.{AreFresh, begins_with_help};
-ghost use Rattle.tsp_run.specs.Ending.{status_of_ending, line_text, ended, IsWritten};
+ghost use Rattle.tsp_run.specs.RunEnd.{status_of_run_end, line_text, ended, IsWritten};
 
-/// The exit status of each ending.
+/// The exit status of each end of a run.
 pub fn examples_of_statuses()
-    ensures done { status_of_ending (endings.Ended (Ok outcomes.Done)) ≡ 0 }
+    ensures done { status_of_run_end (run_ends.Ended (Ok outcomes.Done)) ≡ 0 }
     ensures yes { status_of (Ok true) ≡ 0 }
     ensures no { status_of (Ok false) ≡ 1 }
-    ensures of_outcome { (outcome : Outcome) → status_of_ending (endings.Ended (Ok outcome)) ≡ status_of
+    ensures of_outcome { (outcome : Outcome) → status_of_run_end (run_ends.Ended (Ok outcome)) ≡ status_of
         (Ok (is_yes_outcome outcome)) }
     ensures not_explicit { status_of_fault (run_faults.Relayout relayout_faults.NotExplicit) ≡ 1 }
     ensures not_symmetric { status_of_fault (run_faults.Relayout (relayout_faults.NotSymmetric 1 2)) ≡ 1 }
@@ -45,52 +45,52 @@ pub fn examples_of_statuses()
     ensures end_fault { status_of_fault (run_faults.File 1 (read_faults.End end_faults.WrongCount)) ≡ 2 }
     ensures too_long { status_of_fault (run_faults.File 1 read_faults.TooLong) ≡ 2 }
     ensures wrong_kind { status_of_fault run_faults.WrongKind ≡ 2 }
-    ensures memory_for_words { status_of_ending (endings.NoJob job_faults.OutOfMemory) ≡ 3 }
+    ensures memory_for_words { status_of_run_end (run_ends.NoJob job_faults.OutOfMemory) ≡ 3 }
     ensures memory_for_a_file { status_of_fault (run_faults.File 1 read_faults.OutOfMemory) ≡ 3 }
     ensures memory_for_a_verdict { status_of_fault run_faults.OutOfMemory ≡ 3 }
     ensures memory_for_a_text { status_of_fault (run_faults.Write write_faults.OutOfMemory) ≡ 3 }
     ensures memory_for_a_layout { status_of_fault (run_faults.Relayout relayout_faults.OutOfMemory) ≡ 3 }
-    ensures refused { (refusal : Error) → status_of_ending (endings.NoJob (job_faults.Refused refusal)) ≡ 4 }
-    ensures printed { status_of_ending (endings.Printed (Ok tt)) ≡ 0 }
-    ensures unprinted { status_of_ending (endings.Printed (Err write_faults.Device)) ≡ 5 }
-    ensures no_memory_to_print { status_of_ending (endings.Printed (Err write_faults.OutOfMemory)) ≡ 3 }
-    ensures input_twice { status_of_ending (endings.NoRequest request_faults.InputTwice) ≡ 4 }
-    ensures unknown_layout { status_of_ending (endings.NoRequest request_faults.UnknownLayout) ≡ 4 }
-    ensures missing_path { status_of_ending (endings.NoRequest request_faults.MissingPath) ≡ 4 }
-    ensures no_certificate { status_of_ending (endings.NoRequest request_faults.NoCertificate) ≡ 4 }
-    ensures no_length { status_of_ending (endings.NoRequest request_faults.NotALength) ≡ 4 }
-    ensures line_end { status_of_ending (endings.NoRequest request_faults.LineEndInPath) ≡ 4 }
-    ensures two_certificates { status_of_ending (endings.NoRequest request_faults.TwoCertificates) ≡ 4 }
+    ensures refused { (refusal : Error) → status_of_run_end (run_ends.NoJob (job_faults.Refused refusal)) ≡ 4 }
+    ensures printed { status_of_run_end (run_ends.Printed (Ok tt)) ≡ 0 }
+    ensures unprinted { status_of_run_end (run_ends.Printed (Err write_faults.Device)) ≡ 5 }
+    ensures no_memory_to_print { status_of_run_end (run_ends.Printed (Err write_faults.OutOfMemory)) ≡ 3 }
+    ensures input_twice { status_of_run_end (run_ends.NoRequest request_faults.InputTwice) ≡ 4 }
+    ensures unknown_layout { status_of_run_end (run_ends.NoRequest request_faults.UnknownLayout) ≡ 4 }
+    ensures missing_path { status_of_run_end (run_ends.NoRequest request_faults.MissingPath) ≡ 4 }
+    ensures no_certificate { status_of_run_end (run_ends.NoRequest request_faults.NoCertificate) ≡ 4 }
+    ensures no_length { status_of_run_end (run_ends.NoRequest request_faults.NotALength) ≡ 4 }
+    ensures line_end { status_of_run_end (run_ends.NoRequest request_faults.LineEndInPath) ≡ 4 }
+    ensures two_certificates { status_of_run_end (run_ends.NoRequest request_faults.TwoCertificates) ≡ 4 }
     ensures device_in { status_of_fault (run_faults.File 2 read_faults.Device) ≡ 5 }
     ensures device_out { status_of_fault (run_faults.Write write_faults.Device) ≡ 5 }
-    ensures of_fault { status_of_ending (endings.Ended (Err run_faults.WrongKind)) ≡ 2 }
-    ensures compared { (compared : Compared) → status_of_ending (endings.Compared (Ok compared)) ≡ compared.status }
-    ensures not_compared { status_of_ending (endings.Compared (Err run_faults.WrongKind)) ≡ 2 }
-    ensures memory_while_compared { status_of_ending (endings.Compared (Err run_faults.OutOfMemory)) ≡ 3 }
+    ensures of_fault { status_of_run_end (run_ends.Ended (Err run_faults.WrongKind)) ≡ 2 }
+    ensures compared { (compared : Compared) → status_of_run_end (run_ends.Compared (Ok compared)) ≡ compared.status }
+    ensures not_compared { status_of_run_end (run_ends.Compared (Err run_faults.WrongKind)) ≡ 2 }
+    ensures memory_while_compared { status_of_run_end (run_ends.Compared (Err run_faults.OutOfMemory)) ≡ 3 }
     ensures line { ended (codes "missing path") ≡ Some (codes "missing path\n") }
 {}
 
 /// The lines of this program's own, and of faults. Digits are as `decimal` writes them.
 pub fn examples_of_lines()
-    ensures memory { line_text lines.OutOfMemory ≡ Some (codes "out of memory\n") }
-    ensures unknown_layout { line_text (lines.NoRequest request_faults.UnknownLayout) ≡ Some (codes "unknown layout\n") }
-    ensures missing_path { line_text (lines.NoRequest request_faults.MissingPath) ≡ Some (codes "missing path\n") }
-    ensures two_certificates { line_text (lines.NoRequest request_faults.TwoCertificates)
+    ensures memory { line_text error_lines.OutOfMemory ≡ Some (codes "out of memory\n") }
+    ensures unknown_layout { line_text (error_lines.NoRequest request_faults.UnknownLayout) ≡ Some (codes "unknown layout\n") }
+    ensures missing_path { line_text (error_lines.NoRequest request_faults.MissingPath) ≡ Some (codes "missing path\n") }
+    ensures two_certificates { line_text (error_lines.NoRequest request_faults.TwoCertificates)
         ≡ Some (codes "both potentials and branches\n") }
-    ensures no_certificate { line_text (lines.NoRequest request_faults.NoCertificate)
+    ensures no_certificate { line_text (error_lines.NoRequest request_faults.NoCertificate)
         ≡ Some (codes "neither potentials nor branches\n") }
-    ensures no_length { line_text (lines.NoRequest request_faults.NotALength) ≡ Some (codes "not a length\n") }
-    ensures line_end { line_text (lines.NoRequest request_faults.LineEndInPath) ≡ Some (codes "line end in a path\n") }
-    ensures input_twice { line_text (lines.NoRequest request_faults.InputTwice) ≡ Some (codes "standard input twice\n") }
+    ensures no_length { line_text (error_lines.NoRequest request_faults.NotALength) ≡ Some (codes "not a length\n") }
+    ensures line_end { line_text (error_lines.NoRequest request_faults.LineEndInPath) ≡ Some (codes "line end in a path\n") }
+    ensures input_twice { line_text (error_lines.NoRequest request_faults.InputTwice) ≡ Some (codes "standard input twice\n") }
     ensures version { version_text (codes "a build") ≡ codes "tsp 1.1.0 (a build)\n" }
-    ensures file { line_text (lines.Fault (run_faults.File 2 read_faults.TooLong))
+    ensures file { line_text (error_lines.Fault (run_faults.File 2 read_faults.TooLong))
         ≡ ended (codes "file " ++ (decimal 2 ++ codes ": too long")) }
-    ensures wrong_kind { line_text (lines.Fault run_faults.WrongKind) ≡ Some (codes "file 1: wrong kind\n") }
-    ensures device { line_text (lines.Fault (run_faults.Write write_faults.Device)) ≡ Some (codes "output: device\n") }
-    ensures relayout { line_text (lines.Fault (run_faults.Relayout relayout_faults.NotExplicit))
+    ensures wrong_kind { line_text (error_lines.Fault run_faults.WrongKind) ≡ Some (codes "file 1: wrong kind\n") }
+    ensures device { line_text (error_lines.Fault (run_faults.Write write_faults.Device)) ≡ Some (codes "output: device\n") }
+    ensures relayout { line_text (error_lines.Fault (run_faults.Relayout relayout_faults.NotExplicit))
         ≡ Some (codes "relayout: NotExplicit\n") }
-    ensures fault_told { IsWritten (Some (lines.Fault run_faults.OutOfMemory)) (Some []) (Some (codes "out of memory\n")) }
-    ensures fault_untold { ¬ IsWritten (Some (lines.Fault run_faults.OutOfMemory)) (Some []) (Some []) }
+    ensures fault_told { IsWritten (Some (error_lines.Fault run_faults.OutOfMemory)) (Some []) (Some (codes "out of memory\n")) }
+    ensures fault_untold { ¬ IsWritten (Some (error_lines.Fault run_faults.OutOfMemory)) (Some []) (Some []) }
     ensures nothing_told { IsWritten None (Some []) (Some []) }
     ensures untold_unless_explained { ¬ MayTell false (Some []) (Some (codes "x\n")) }
     ensures told_at_the_end { ¬ MayTell true (Some (codes "x\n")) (Some []) }

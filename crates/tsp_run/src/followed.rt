@@ -6,8 +6,8 @@ ghost use Rattle.std.specs.String.{string_bytes};
 ghost use Rattle.tsp_run.specs.ComparisonRun.{IsOpenedAt};
 ghost use Rattle.tsp_run.specs.Telling.{MayTell};
 
-use crate::explained::{Asked, again, name_of};
-use crate::source::Open;
+use crate::explanation::{TaskRun, again, name_of};
+use crate::input_file::Open;
 use std::alloc::AllocError;
 use std::io::{Read, Write};
 use tsp_cli::{Place, place_at};
@@ -19,7 +19,7 @@ use tsp_reason::Role;
 /// The solutions of a comparison that is asked for, and how standard error tells of them.
 #[derive(Drop)]
 pub(crate) struct Followed<'a, F, O> {
-    pub(crate) asked: &'a Asked<'a, F, O>,
+    pub(crate) task_run: &'a TaskRun<'a, F, O>,
     /// Their paths.
     pub(crate) solutions: &'a [String],
 }
@@ -27,7 +27,7 @@ pub(crate) struct Followed<'a, F, O> {
 impl<F: Read + Drop, O: Open<F>> Solutions<F> for Followed<'_, F, O> {
     ghost names = { λ followed. map string_bytes followed.solutions.now };
 
-    ghost opens = { λ followed. IsOpenedAt (O.opens followed.asked.now.files.now) (map string_bytes followed.solutions.now) };
+    ghost opens = { λ followed. IsOpenedAt (O.opens followed.task_run.now.files.now) (map string_bytes followed.solutions.now) };
 
     fn count(&self) -> usize {
         self.solutions.len()
@@ -38,18 +38,18 @@ impl<F: Read + Drop, O: Open<F>> Solutions<F> for Followed<'_, F, O> {
     }
 
     fn open(&self, index: usize) -> F {
-        self.asked.files.open(place_at(&self.solutions[index]))
+        self.task_run.files.open(place_at(&self.solutions[index]))
     }
 }
 
 impl<F: Read + Drop, O: Open<F>, E: Write> Follow<E> for Followed<'_, F, O> {
-    ghost tells = { λ followed _ old new. MayTell followed.asked.now.explain (E.contents old) (E.contents new) };
+    ghost tells = { λ followed _ old new. MayTell followed.task_run.now.explain (E.contents old) (E.contents new) };
 
     fn written(&self, to: &mut E, common: &Common, index: usize, found: &Found) {
-        if !self.asked.explain {
+        if !self.task_run.explain {
             return;
         }
-        let mut text = Vec::new(self.asked.alloc);
+        let mut text = Vec::new(self.task_run.alloc);
         let _ = self.push_told(&mut text, common, index, found);
         send_what_goes(to, &text);
         drop(text);
@@ -71,7 +71,7 @@ impl<F: Read + Drop, O: Open<F>> Followed<'_, F, O> {
         let Some(path) = self.solutions.get(index) else {
             return Ok(());
         };
-        if !self.asked.counts {
+        if !self.task_run.counts {
             return self.push_found(text, common, place_at(path), found);
         }
         text.extend_from_slice(ANEW)?;
@@ -89,7 +89,7 @@ impl<F: Read + Drop, O: Open<F>> Followed<'_, F, O> {
         place: Place<'_>,
         found: &Found,
     ) -> Result<(), AllocError> {
-        let alloc = self.asked.alloc;
+        let alloc = self.task_run.alloc;
         let name = name_of(place);
         match found {
             Found::Solution {
@@ -102,10 +102,10 @@ impl<F: Read + Drop, O: Open<F>> Followed<'_, F, O> {
                     file: solution,
                     verdict: *verdict,
                 };
-                explain_solution(alloc, text, &self.asked.names(), common, solution)
+                explain_solution(alloc, text, &self.task_run.names(), common, solution)
             }
             Found::Fault(fault) => {
-                let again = again(place, self.asked.files);
+                let again = again(place, self.task_run.files);
                 explain_file(alloc, text, name, Some(Role::Solution), again, *fault)
             }
         }
@@ -113,13 +113,13 @@ impl<F: Read + Drop, O: Open<F>> Followed<'_, F, O> {
 }
 
 /// Ends the line that counts, where there is one.
-pub(crate) fn end_count<F, O, E: Write>(asked: &Asked<'_, F, O>, to: &mut E)
-    ensures { MayTell asked.now.explain (E.contents to.old) (E.contents to.new) }
+pub(crate) fn end_count<F, O, E: Write>(task_run: &TaskRun<'_, F, O>, to: &mut E)
+    ensures { MayTell task_run.now.explain (E.contents to.old) (E.contents to.new) }
 {
-    if !asked.explain {
+    if !task_run.explain {
         return;
     }
-    if asked.counts {
+    if task_run.counts {
         send_what_goes(to, ANEW);
     } else {
         send_what_goes(to, &[]);

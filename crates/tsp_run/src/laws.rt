@@ -7,23 +7,23 @@ ghost use Rattle.tsp_judge.specs.Sink.{Sink};
 ghost use Rattle.tsp_judge.specs.RunFaultText.{run_fault_text};
 ghost use Rattle.tsp_judge.specs.declared.fault.RunFault.{RunFault};
 ghost use Rattle.tsp_judge.specs.declared.compared.Compared.{Compared};
-ghost use Rattle.tsp_run.specs.declared.ending.Line.TheVariants as lines;
+ghost use Rattle.tsp_run.specs.declared.run_end.ErrorLine.TheVariants as error_lines;
 ghost use Rattle.tsp_cli.specs.declared.request.RequestFault.{RequestFault};
 ghost use Rattle.tsp_cli.specs.declared.words.Job.{Job};
 ghost use Rattle.tsp_cli.specs.declared.words.JobFault.{JobFault};
 ghost use Rattle.tsp_cli.specs.CommandWords.{GivesJob};
-ghost use Rattle.tsp_run.specs.declared.ending.Ending.TheVariants as endings;
+ghost use Rattle.tsp_run.specs.declared.run_end.RunEnd.TheVariants as run_ends;
 ghost use Rattle.tsp_perform.specs.declared.outcome.Outcome.{Outcome};
-ghost use Rattle.tsp_run.specs.Ending.{is_one_line, IsWritten, WritesLine};
+ghost use Rattle.tsp_run.specs.RunEnd.{is_one_line, IsWritten, WritesLine};
 ghost use Rattle.tsp_run.specs.ProgramRun.{EndsProgram};
 
-use crate::source::Open;
+use crate::input_file::Open;
 use tsp_stream::Gives;
 
 /// The text of a fault is one line, and it is written with its end.
 pub fn faults_are_told_on_one_line()
     ensures one { (fault : RunFault) → is_one_line (run_fault_text fault) ≡ true }
-    ensures ended { (fault : RunFault) (old new : Option (List ℕ)) → IsWritten (Some (lines.Fault fault)) old new
+    ensures ended { (fault : RunFault) (old new : Option (List ℕ)) → IsWritten (Some (error_lines.Fault fault)) old new
         → WritesLine old new }
 {}
 
@@ -31,14 +31,14 @@ pub fn faults_are_told_on_one_line()
 /// job says so. No words are explained that ask for no job.
 pub fn explained_on_a_terminal<F: Gives + Drop, O: Open<F>>(files: &O)
     ensures answer { (build : Text) (words : List Text) (sink : Sink) (explained : Bool) (answer : Result Outcome RunFault)
-        → EndsProgram F.remaining F.gives (O.opens files.now) true build words sink explained (endings.Ended answer) → explained ≡ true }
+        → EndsProgram F.remaining F.gives (O.opens files.now) true build words sink explained (run_ends.Ended answer) → explained ≡ true }
     ensures comparison { (build : Text) (words : List Text) (sink : Sink) (explained : Bool) (answer : Result Compared RunFault)
-        → EndsProgram F.remaining F.gives (O.opens files.now) true build words sink explained (endings.Compared answer) → explained ≡ true }
+        → EndsProgram F.remaining F.gives (O.opens files.now) true build words sink explained (run_ends.Compared answer) → explained ≡ true }
     ensures task { (build : Text) (words : List Text) (sink : Sink) (explained : Bool) (fault : RequestFault)
-        → EndsProgram F.remaining F.gives (O.opens files.now) true build words sink explained (endings.NoRequest fault) → explained ≡ true }
+        → EndsProgram F.remaining F.gives (O.opens files.now) true build words sink explained (run_ends.NoRequest fault) → explained ≡ true }
     ensures no_job { (build : Text) (words : List Text) (sink : Sink) (explained : Bool) (fault : JobFault)
-        → EndsProgram F.remaining F.gives (O.opens files.now) true build words sink explained (endings.NoJob fault) → explained ≡ false }
+        → EndsProgram F.remaining F.gives (O.opens files.now) true build words sink explained (run_ends.NoJob fault) → explained ≡ false }
     ensures elsewhere { (build : Text) (words : List Text) (sink : Sink) (explained : Bool) (answer : Result Outcome RunFault)
-        → EndsProgram F.remaining F.gives (O.opens files.now) false build words sink explained (endings.Ended answer)
+        → EndsProgram F.remaining F.gives (O.opens files.now) false build words sink explained (run_ends.Ended answer)
         → (job : Job) × GivesJob (drop 1 words) (Ok job) × (explained ≡ job.explain) }
 {}

@@ -7,28 +7,28 @@
 //! (`printed`). The calls of the host are tsp_tool's.
 //!
 //! ```text
-//! let (status, written) = run(alloc, &words, &files, &mut out, &mut errors, setting);
+//! let (status, written) = run(alloc, &words, &files, &mut out, &mut errors, surroundings);
 //! ```
 #![tactic(auto)]
 
-mod ending;
 mod examples;
-mod explained;
+mod explanation;
 mod followed;
+mod input_file;
 mod laws;
-mod opened;
+mod opened_files;
 mod printed;
+mod run_end;
 mod running;
-mod source;
 mod waiting;
 
-pub use ending::{Ending, Line, line_of, status_of_ending, tell};
 pub use examples::{
     examples_of_help, examples_of_lines, examples_of_opened_files, examples_of_statuses,
 };
+pub use input_file::{InputFile, Open};
 pub use laws::{explained_on_a_terminal, faults_are_told_on_one_line};
-pub use running::{Setting, run, tell_unread};
-pub use source::{Open, Source};
+pub use run_end::{ErrorLine, RunEnd, line_of, status_of_run_end, tell};
+pub use running::{Surroundings, run, tell_unread};
 pub use tsp_cli::{JobFault, Place, RequestFault};
 pub use tsp_judge::{Watched, WriteFault};
 pub use tsp_perform::{Outcome, perform};

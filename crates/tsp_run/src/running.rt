@@ -6,15 +6,15 @@ ghost use Rattle.std.specs.String.{string_bytes};
 ghost use Rattle.std.specs.Io.KnownBytes.{Appends};
 ghost use Rattle.tsp_judge.specs.Watched.{sink_of};
 ghost use Rattle.tsp_run.specs.ComparisonRun.{IsComparedAs};
-ghost use Rattle.tsp_run.specs.Ending.{status_of_ending, Tells, TellsAfter, TellsAll};
+ghost use Rattle.tsp_run.specs.RunEnd.{status_of_run_end, Tells, TellsAfter, TellsAll};
 ghost use Rattle.tsp_run.specs.ProgramRun.{EndsProgram, EndsRefused, EndsWith, HasNoWords, IsDoneAs, Runs, RunsComparison, RunsJob, RunsTask, begins_with_help};
 
-use crate::ending::{Ending, status_of_ending, tell};
-use crate::explained::{Asked, explanation, fault_explanation};
+use crate::explanation::{TaskRun, explanation, fault_explanation};
 use crate::followed::{Followed, end_count};
-use crate::opened::{opened, opened_to_compare};
+use crate::input_file::Open;
+use crate::opened_files::{opened, opened_to_compare};
 use crate::printed::{print_help, print_version};
-use crate::source::Open;
+use crate::run_end::{RunEnd, status_of_run_end, tell};
 use clap::Error as Refusal;
 use clap::error::ErrorKind;
 use std::alloc::{AllocError, Global};
@@ -29,7 +29,7 @@ use tsp_task::{Comparison, Request, Task};
 
 /// What a run knows of its surroundings.
 #[derive(Clone, Copy)]
-pub struct Setting {
+pub struct Surroundings {
     /// Whether standard error is a terminal: then every outcome but the line `yes` is explained.
     pub on_terminal: bool,
     /// Whether a comparison counts there: it is a terminal, and standard output is another place.
@@ -53,22 +53,22 @@ pub fn run<F: Gives + Drop, O: Open<F>, W: Write, E: Write>(
     files: &O,
     out: &mut Watched<W>,
     errors: &mut E,
-    setting: Setting,
+    surroundings: Surroundings,
 ) -> (u8, io::Result<()>)
-    ensures { Runs (EndsProgram F.remaining F.gives (O.opens files.now) setting.on_terminal setting.build.now (map string_bytes line.now)
+    ensures { Runs (EndsProgram F.remaining F.gives (O.opens files.now) surroundings.on_terminal surroundings.build.now (map string_bytes line.now)
         (sink_of W.contents out.old out.new)) (E.contents errors.old) (E.contents errors.new) result }
 {
     let Ok(words) = words_after_first(alloc, line) else {
-        return end(&Ending::NoJob(JobFault::OutOfMemory), errors);
+        return end(&RunEnd::NoJob(JobFault::OutOfMemory), errors);
     };
     match job_of(alloc, &words) {
-        Err(JobFault::OutOfMemory) => end(&Ending::NoJob(JobFault::OutOfMemory), errors),
+        Err(JobFault::OutOfMemory) => end(&RunEnd::NoJob(JobFault::OutOfMemory), errors),
         Err(JobFault::Refused(refusal)) => {
-            let ending = end_of_refusal(alloc, refusal, &words, setting.build, out);
-            end(&ending, errors)
+            let run_end = end_of_refusal(alloc, refusal, &words, surroundings.build, out);
+            end(&run_end, errors)
         }
         Ok(job) => {
-            let answer = run_job(alloc, &job, files, out, errors, setting);
+            let answer = run_job(alloc, &job, files, out, errors, surroundings);
             drop(job);
             answer
         }
@@ -82,15 +82,15 @@ fn end_of_refusal<W: Write>(
     words: &[&str],
     build: &str,
     out: &mut Watched<W>,
-) -> Ending
+) -> RunEnd
     ensures { EndsRefused build.now (map (λ word. word.now) words.now) (sink_of W.contents out.old out.new) refusal result }
 {
     match refusal.kind() {
-        ErrorKind::DisplayVersion => Ending::Printed(print_version(alloc, build, out)),
+        ErrorKind::DisplayVersion => RunEnd::Printed(print_version(alloc, build, out)),
         ErrorKind::DisplayHelp if begins_with_help(words) => {
-            Ending::Printed(print_help(alloc, &refusal, out))
+            RunEnd::Printed(print_help(alloc, &refusal, out))
         }
-        _ => Ending::NoJob(JobFault::Refused(refusal)),
+        _ => RunEnd::NoJob(JobFault::Refused(refusal)),
     }
 }
 
@@ -112,16 +112,16 @@ pub fn tell_unread<E: Write>(
 ) -> (u8, io::Result<()>)
     ensures { Runs (HasNoWords (error_kind error.now)) (E.contents errors.old) (E.contents errors.new) result }
 {
-    end(&Ending::NoJob(unread(alloc, error)), errors)
+    end(&RunEnd::NoJob(unread(alloc, error)), errors)
 }
 
-/// The exit status of an ending, and whether its line could be told.
-fn end<E: Write>(ending: &Ending, errors: &mut E) -> (u8, io::Result<()>)
-    ensures status { result.0 ≡ status_of_ending ending.now }
-    ensures told { OnOk result.1 (Tells ending.now (E.contents errors.old) (E.contents errors.new)) }
+/// The exit status of a run's end, and whether its line could be told.
+fn end<E: Write>(run_end: &RunEnd, errors: &mut E) -> (u8, io::Result<()>)
+    ensures status { result.0 ≡ status_of_run_end run_end.now }
+    ensures told { OnOk result.1 (Tells run_end.now (E.contents errors.old) (E.contents errors.new)) }
 {
-    let told = tell(ending, errors);
-    (status_of_ending(ending), told)
+    let told = tell(run_end, errors);
+    (status_of_run_end(run_end), told)
 }
 
 /// Does the job, and tells how that ended, with its explanation where that is wanted. The result is
@@ -132,38 +132,38 @@ fn run_job<F: Gives + Drop, O: Open<F>, W: Write, E: Write>(
     files: &O,
     out: &mut Watched<W>,
     errors: &mut E,
-    setting: Setting,
+    surroundings: Surroundings,
 ) -> (u8, io::Result<()>)
     ensures { RunsJob (EndsWith F.remaining F.gives (O.opens files.now) job.now (sink_of W.contents out.old out.new))
-        (job.now.explain || setting.on_terminal) (E.contents errors.old) (E.contents errors.new) result }
+        (job.now.explain || surroundings.on_terminal) (E.contents errors.old) (E.contents errors.new) result }
 {
-    let explain = is_explained(job, setting);
+    let explain = is_explained(job, surroundings);
     let request = match request_of(job) {
         Ok(request) => request,
         Err(fault) => {
             let told = tell_fault_of_job(alloc, fault, errors, explain);
-            return (status_of_ending(&Ending::NoRequest(fault)), told);
+            return (status_of_run_end(&RunEnd::NoRequest(fault)), told);
         }
     };
-    let asked = Asked {
+    let task_run = TaskRun {
         alloc,
         request: &request,
         files,
         explain,
-        counts: setting.counts,
+        counts: surroundings.counts,
         file: PhantomData,
     };
     match &request {
-        Request::Task(task) => run_task(&asked, task, out, errors),
-        Request::Compare(comparison) => run_comparison(&asked, comparison, out, errors),
+        Request::Task(task) => run_task(&task_run, task, out, errors),
+        Request::Compare(comparison) => run_comparison(&task_run, comparison, out, errors),
     }
 }
 
 /// Whether the job's end is explained.
-fn is_explained(job: &Job, setting: Setting) -> bool
-    ensures { result ≡ (job.now.explain || setting.on_terminal) }
+fn is_explained(job: &Job, surroundings: Surroundings) -> bool
+    ensures { result ≡ (job.now.explain || surroundings.on_terminal) }
 {
-    job.explain || setting.on_terminal
+    job.explain || surroundings.on_terminal
 }
 
 /// Tells why a job asks for nothing, and explains it where that is wanted.
@@ -173,9 +173,9 @@ fn tell_fault_of_job<E: Write>(
     errors: &mut E,
     explain: bool,
 ) -> io::Result<()>
-    ensures { OnOk result (TellsAll explain (Ending.NoRequest fault) (E.contents errors.old) (E.contents errors.new)) }
+    ensures { OnOk result (TellsAll explain (RunEnd.NoRequest fault) (E.contents errors.old) (E.contents errors.new)) }
 {
-    tell(&Ending::NoRequest(fault), errors)?;
+    tell(&RunEnd::NoRequest(fault), errors)?;
     if !explain {
         return Ok(());
     }
@@ -184,56 +184,59 @@ fn tell_fault_of_job<E: Write>(
 
 /// Does a task on its files, each opened in its place, and tells how that ended.
 fn run_task<F: Gives + Drop, O: Open<F>, W: Write, E: Write>(
-    asked: &Asked<'_, F, O>,
+    task_run: &TaskRun<'_, F, O>,
     task: &Task<Place<'_>>,
     out: &mut Watched<W>,
     errors: &mut E,
 ) -> (u8, io::Result<()>)
-    ensures { RunsTask (IsDoneAs F.remaining F.gives (O.opens asked.now.files.now) task.now (sink_of W.contents out.old out.new))
-        asked.now.explain (E.contents errors.old) (E.contents errors.new) result }
+    ensures { RunsTask (IsDoneAs F.remaining F.gives (O.opens task_run.now.files.now) task.now (sink_of W.contents out.old out.new))
+        task_run.now.explain (E.contents errors.old) (E.contents errors.new) result }
 {
-    let mut readers = opened(task, asked.files);
-    let ending = Ending::Ended(perform(asked.alloc, &mut readers, out));
-    let told = tell_end(asked, &ending, out.error(), errors);
-    (status_of_ending(&ending), told)
+    let mut readers = opened(task, task_run.files);
+    let run_end = RunEnd::Ended(perform(task_run.alloc, &mut readers, out));
+    let told = tell_end(task_run, &run_end, out.error(), errors);
+    (status_of_run_end(&run_end), told)
 }
 
 /// Compares solutions, and tells how that ended. The instance is opened in its place, and the
 /// certificate where one is named, and after them each solution in its own place.
 fn run_comparison<F: Gives + Drop, O: Open<F>, W: Write, E: Write>(
-    asked: &Asked<'_, F, O>,
+    task_run: &TaskRun<'_, F, O>,
     comparison: &Comparison<'_, Place<'_>>,
     out: &mut Watched<W>,
     errors: &mut E,
 ) -> (u8, io::Result<()>)
-    ensures { RunsComparison (IsComparedAs F.remaining F.gives (O.opens asked.now.files.now) comparison.now
-        (sink_of W.contents out.old out.new)) asked.now.explain (E.contents errors.old) (E.contents errors.new) result }
+    ensures { RunsComparison (IsComparedAs F.remaining F.gives (O.opens task_run.now.files.now) comparison.now
+        (sink_of W.contents out.old out.new)) task_run.now.explain (E.contents errors.old) (E.contents errors.new) result }
 {
-    let mut readers = opened_to_compare(comparison, asked.files);
+    let mut readers = opened_to_compare(comparison, task_run.files);
     let solutions = comparison.solutions;
-    let followed = Followed { asked, solutions };
-    let found = compare(asked.alloc, &mut readers, &followed, out, errors);
-    let ending = Ending::Compared(found);
-    end_count(asked, errors);
-    let told = tell_end(asked, &ending, out.error(), errors);
-    (status_of_ending(&ending), told)
+    let followed = Followed {
+        task_run,
+        solutions,
+    };
+    let found = compare(task_run.alloc, &mut readers, &followed, out, errors);
+    let run_end = RunEnd::Compared(found);
+    end_count(task_run, errors);
+    let told = tell_end(task_run, &run_end, out.error(), errors);
+    (status_of_run_end(&run_end), told)
 }
 
 /// Reports how a request ended, and explains it where that is wanted, with the system's words on a
 /// write that failed. Where there is no memory for the explanation, it is left out.
 fn tell_end<F: Read + Drop, O: Open<F>, E: Write>(
-    asked: &Asked<'_, F, O>,
-    ending: &Ending,
+    task_run: &TaskRun<'_, F, O>,
+    run_end: &RunEnd,
     error: Option<&io::Error>,
     errors: &mut E,
 ) -> io::Result<()>
-    ensures { OnOk result (TellsAfter asked.now.explain ending.now (E.contents errors.old) (E.contents errors.new)) }
+    ensures { OnOk result (TellsAfter task_run.now.explain run_end.now (E.contents errors.old) (E.contents errors.new)) }
 {
-    tell(ending, errors)?;
-    if !asked.explain {
+    tell(run_end, errors)?;
+    if !task_run.explain {
         return Ok(());
     }
-    append(errors, explanation(asked, ending, error))
+    append(errors, explanation(task_run, run_end, error))
 }
 
 /// Writes a text.

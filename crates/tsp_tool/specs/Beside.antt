@@ -2,15 +2,15 @@
 use Rattle.std.specs.Prelude.{ℤ, pos, ◌<ℤ◌}
 use Rattle.std.specs.Fd.{file_raw_fd}
 use Rattle.std.specs.declared.fs.File.{File}
-use Rattle.tsp_run.specs.declared.source.Source.{Source}
-use Rattle.tsp_run.specs.declared.source.Source.TheVariants.{Input, Opened, Missing}
+use Rattle.tsp_run.specs.declared.input_file.InputFile.{InputFile}
+use Rattle.tsp_run.specs.declared.input_file.InputFile.TheVariants.{Input, Opened, Missing}
 
 -- the number of the file's descriptor is above 2, the number of standard error
 abbrev pub IsBesideStreams : File → Type 0
 IsBesideStreams file = pos 2 <ℤ file_raw_fd file
 
 -- a file that was opened isn't a standard stream
-abbrev pub IsBeside : {I : Type 0} → Source I File → Type 0
+abbrev pub IsBeside : {I : Type 0} → InputFile I File → Type 0
 IsBeside (Input input) = Unit {0}
 IsBeside (Opened file) = IsBesideStreams file
 IsBeside (Missing error) = Unit {0}

@@ -7,7 +7,7 @@
 mod build;
 
 ghost use Rattle.std.specs.Prelude.{◌↔◌, IfOk, IsTrue};
-ghost use Rattle.tsp_run.specs.states.Source.{IsSourceOf};
+ghost use Rattle.tsp_run.specs.states.InputFile.{IsInputFileOf};
 ghost use Rattle.tsp_tool.specs.Beside.{IsBesideStreams, IsBeside};
 
 use crate::build::BUILD;
@@ -17,12 +17,12 @@ use std::os::fd::AsRawFd;
 use std::process::ExitCode;
 use std::rt::Stdin;
 use std::{env, fs, io};
-use tsp_run::{Open, Place, Setting, Source, Watched, run, tell_unread, tell_waiting};
+use tsp_run::{InputFile, Open, Place, Surroundings, Watched, run, tell_unread, tell_waiting};
 
 fn main(rt: HostRuntime) -> ExitCode {
     let mut out = Watched::new(rt.stdout());
     let mut errors = rt.stderr();
-    let setting = Setting {
+    let surroundings = Surroundings {
         on_terminal: errors.is_terminal(),
         counts: errors.is_terminal() && !rt.stdout().is_terminal(),
         build: BUILD,
@@ -37,7 +37,7 @@ fn main(rt: HostRuntime) -> ExitCode {
                 &Host { rt: &rt },
                 &mut out,
                 &mut errors,
-                setting,
+                surroundings,
             )
         }
         Err(error) => tell_unread(rt.alloc(), &error, &mut errors),
@@ -58,24 +58,24 @@ struct Host<'a> {
     rt: &'a HostRuntime,
 }
 
-impl Open<Source<Stdin, File>> for Host<'_> {
-    ghost opens = { λ host place source. IsSourceOf place source × IsBeside source };
+impl Open<InputFile<Stdin, File>> for Host<'_> {
+    ghost opens = { λ host place file. IsInputFileOf place file × IsBeside file };
 
-    fn open(&self, place: Place<'_>) -> Source<Stdin, File> {
+    fn open(&self, place: Place<'_>) -> InputFile<Stdin, File> {
         match place {
-            Place::Input => Source::Input(self.rt.stdin()),
-            Place::Path(path) => Source::of(opened(self.rt, path)),
+            Place::Input => InputFile::Input(self.rt.stdin()),
+            Place::Path(path) => InputFile::of(opened(self.rt, path)),
         }
     }
 
     /// A pipe or a device gives its bytes once, and to open one could wait for ever.
-    fn open_again(&self, path: &str) -> Option<Source<Stdin, File>> {
+    fn open_again(&self, path: &str) -> Option<InputFile<Stdin, File>> {
         match fs::metadata(self.rt, path) {
             Ok(found) if found.is_file() || found.is_dir() => {
-                Some(Source::of(opened(self.rt, path)))
+                Some(InputFile::of(opened(self.rt, path)))
             }
             Ok(_) => None,
-            Err(error) => Some(Source::Missing(error)),
+            Err(error) => Some(InputFile::Missing(error)),
         }
     }
 }

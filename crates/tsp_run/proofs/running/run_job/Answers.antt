@@ -2,13 +2,13 @@
 use Rattle.std.proofs.Common.{◌≡◌, refl, subst, Ok}
 use Rattle.std.proofs.KnownBytes.{Keeps-refl}
 use Rattle.tsp_cli.specs.Requests.{GivesRequest}
-use Rattle.tsp_run.specs.declared.ending.Ending.TheVariants.{NoRequest, Ended, Compared}
+use Rattle.tsp_run.specs.declared.run_end.RunEnd.TheVariants.{NoRequest, Ended, Compared}
 use Rattle.tsp_run.proofs.running.run_job.Goals as goal
 
 -- plan: by the job: no request, a task, or a comparison
 pub returns-in-Err : goal.returns-in-Err
 returns-in-Err g c =
-    (NoRequest c.in-Err.fault, (c.in-Err.ensures, (Keeps-refl _, refl)), (c.status_of_ending.ensures, rw (← c.is_explained-explain.ensures) c.tell_fault_of_job-told.ensures))
+    (NoRequest c.in-Err.fault, (c.in-Err.ensures, (Keeps-refl _, refl)), (c.status_of_run_end.ensures, rw (← c.is_explained-explain.ensures) c.tell_fault_of_job-told.ensures))
 
 pub returns-in-Task : goal.returns-in-Task
 returns-in-Task g c =

@@ -1,6 +1,6 @@
 -- The goals of `tell_unread` in src/running.rt: what it ensures.
 use Rattle.std.proofs.Common.{false, refl}
-use Rattle.tsp_run.specs.declared.ending.Ending.TheVariants.{NoJob}
+use Rattle.tsp_run.specs.declared.run_end.RunEnd.TheVariants.{NoJob}
 use Rattle.tsp_run.proofs.running.tell_unread.Goals as goal
 
 pub returns : goal.returns

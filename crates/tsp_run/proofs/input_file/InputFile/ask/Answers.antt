@@ -1,14 +1,14 @@
--- The goals of `Source::ask` in src/source.rt. One call, and what it returns.
+-- The goals of `InputFile::ask` in src/input_file.rt. One call, and what it returns.
 use Rattle.std.proofs.Common.{refl, sym, subst}
-use Rattle.tsp_run.specs.declared.source.Source.{Source}
-use Rattle.tsp_run.specs.declared.source.Source.TheVariants.{Input, Opened}
-use Rattle.tsp_run.specs.states.Source.{IsAskedOnce}
-use Rattle.tsp_run.proofs.source.Source.ask.Goals as goal
+use Rattle.tsp_run.specs.declared.input_file.InputFile.{InputFile}
+use Rattle.tsp_run.specs.declared.input_file.InputFile.TheVariants.{Input, Opened}
+use Rattle.tsp_run.specs.states.InputFile.{IsAskedOnce}
+use Rattle.tsp_run.proofs.input_file.InputFile.ask.Goals as goal
 
 -- plan: by the source: standard input or an opened file, whose call it is
 pub returns-in-Input : goal.returns-in-Input
 returns-in-Input g c = record {
-  asked = subst (λ (old : Source _ _). IsAskedOnce g.OfInput.FnOnce c.args.of_input g.OfFile.FnOnce c.args.of_file
+  asked = subst (λ (old : InputFile _ _). IsAskedOnce g.OfInput.FnOnce c.args.of_input g.OfFile.FnOnce c.args.of_file
       old c.args.room.now c.of_input.result (Input c.of_input.new.arg2) c.of_input.new.arg3) (sym c.in-Input.is)
       (record {
         first = _;
@@ -23,7 +23,7 @@ returns-in-Input g c = record {
 
 pub returns-in-Opened : goal.returns-in-Opened
 returns-in-Opened g c = record {
-  asked = subst (λ (old : Source _ _). IsAskedOnce g.OfInput.FnOnce c.args.of_input g.OfFile.FnOnce c.args.of_file
+  asked = subst (λ (old : InputFile _ _). IsAskedOnce g.OfInput.FnOnce c.args.of_input g.OfFile.FnOnce c.args.of_file
       old c.args.room.now c.of_file.result (Opened c.of_file.new.arg2) c.of_file.new.arg3) (sym c.in-Opened.is)
       (record {
         first = _;

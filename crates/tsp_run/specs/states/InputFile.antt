@@ -7,28 +7,28 @@ use denote.Param.Members.{Once}
 use Rattle.tsp_stream.specs.states.Watched.{Calls}
 use Rattle.tsp_cli.specs.declared.request.Place.{Place}
 use Rattle.tsp_cli.specs.declared.request.Place.TheVariants as places
-use Rattle.tsp_run.specs.declared.source.Source.{Source}
-use Rattle.tsp_run.specs.declared.source.Source.TheVariants.{Input, Opened, Missing}
+use Rattle.tsp_run.specs.declared.input_file.InputFile.{InputFile}
+use Rattle.tsp_run.specs.declared.input_file.InputFile.TheVariants.{Input, Opened, Missing}
 
-abbrev pub is_missing : {I F : Type 0} → Source I F → Bool
+abbrev pub is_missing : {I F : Type 0} → InputFile I F → Bool
 is_missing (Input input) = false
 is_missing (Opened file) = false
 is_missing (Missing error) = true
 
 -- the bytes that are left to read, where they are known
-abbrev pub remaining_of : {I F : Type 0} → (I → Option (List ℕ)) → (F → Option (List ℕ)) → Source I F → Option (List ℕ)
+abbrev pub remaining_of : {I F : Type 0} → (I → Option (List ℕ)) → (F → Option (List ℕ)) → InputFile I F → Option (List ℕ)
 remaining_of of_input of_file (Input input) = of_input input
 remaining_of of_input of_file (Opened file) = of_file file
 remaining_of of_input of_file (Missing error) = None
 
 -- standard input is given for itself, and at a path a file that was opened, or one that is missing
-abbrev pub IsSourceOf : {I F : Type 0} → Place → Source I F → Type 0
-IsSourceOf places.Input (Input input) = Unit {0}
-IsSourceOf places.Input (Opened file) = ⊥
-IsSourceOf places.Input (Missing error) = ⊥
-IsSourceOf (places.Path path) (Input input) = ⊥
-IsSourceOf (places.Path path) (Opened file) = Unit {0}
-IsSourceOf (places.Path path) (Missing error) = Unit {0}
+abbrev pub IsInputFileOf : {I F : Type 0} → Place → InputFile I F → Type 0
+IsInputFileOf places.Input (Input input) = Unit {0}
+IsInputFileOf places.Input (Opened file) = ⊥
+IsInputFileOf places.Input (Missing error) = ⊥
+IsInputFileOf (places.Path path) (Input input) = ⊥
+IsInputFileOf (places.Path path) (Opened file) = Unit {0}
+IsInputFileOf (places.Path path) (Missing error) = Unit {0}
 
 -- ---- what a read does
 
@@ -47,7 +47,7 @@ Asking Call T B R = Once Call (MutBor T × (MutBor B × Unit {0})) (R × (MutBor
 -- Standard input or the file is asked by its call, once, and this is its result, as it is. A missing file returns an error
 -- that is the same as its own.
 abbrev pub IsAskedOnce : {I F B A OfInput OfFile : Type 0} → Asking OfInput I B (Result A Error) → OfInput
-    → Asking OfFile F B (Result A Error) → OfFile → Source I F → B → Result A Error → Source I F → B → Type 0
+    → Asking OfFile F B (Result A Error) → OfFile → InputFile I F → B → Result A Error → InputFile I F → B → Type 0
 IsAskedOnce asks_input of_input asks_file of_file (Input old) room answer (Input new) filled =
     Calls asks_input of_input old room answer new filled
 IsAskedOnce asks_input of_input asks_file of_file (Opened old) room answer (Opened new) filled =
@@ -61,7 +61,7 @@ abbrev pub Giving : Type 0 → Type 1
 Giving R = R → List ℕ → Result ℕ Error → List ℕ → R → Type 0
 
 -- A read is one of standard input or of the file, and returns what that returns. A missing file returns its own error.
-abbrev pub GivesOnce : {I F : Type 0} → Giving I → Giving F → Source I F → List ℕ → Result ℕ Error → List ℕ → Source I F → Type 0
+abbrev pub GivesOnce : {I F : Type 0} → Giving I → Giving F → InputFile I F → List ℕ → Result ℕ Error → List ℕ → InputFile I F → Type 0
 GivesOnce of_input of_file (Input old) room answer filled (Input new) = of_input old room answer filled new
 GivesOnce of_input of_file (Opened old) room answer filled (Opened new) = of_file old room answer filled new
 GivesOnce of_input of_file (Missing error) room (Err found) filled (Missing left) = IsSameError error found × (left ≡ error)

@@ -1,10 +1,10 @@
--- The goals of `tell_fault` in src/ending.rt. The buffer holds the text and its end.
+-- The goals of `tell_fault` in src/run_end.rt. The buffer holds the text and its end.
 use Rattle.std.proofs.Common.{◌≡◌, ◌∙◌, ap, subst, ℕ, List, [], ◌∷◌, ◌++◌}
 use Rattle.std.specs.Prelude.{OnOk}
 use Rattle.std.specs.Io.KnownBytes.{Appends}
 use Rattle.std.proofs.lemmas.Fmt.{contents_after_writes}
 use Rattle.tsp_judge.specs.RunFaultText.{run_fault_text}
-use Rattle.tsp_run.proofs.ending.tell_fault.Goals as goal
+use Rattle.tsp_run.proofs.run_end.tell_fault.Goals as goal
 
 -- plan: the text fits the buffer, which is written with its end
 pub returns-in-Ok : goal.returns-in-Ok

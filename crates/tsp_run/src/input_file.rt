@@ -4,7 +4,7 @@ ghost use Rattle.std.specs.Prelude.{◌≡◌, IsTrue, IsErr, MatchResult};
 ghost use Rattle.std.specs.Io.{ReadsAtMost};
 ghost use Rattle.std.specs.Io.KnownBytes.{ReadConsumes};
 ghost use Rattle.tsp_cli.specs.declared.request.Place.{Place};
-ghost use Rattle.tsp_run.specs.states.Source.{remaining_of, is_missing, IsAskedOnce, GivesOnce, IsSameError};
+ghost use Rattle.tsp_run.specs.states.InputFile.{remaining_of, is_missing, IsAskedOnce, GivesOnce, IsSameError};
 
 use std::io;
 use std::io::Read;
@@ -27,25 +27,25 @@ pub trait Open<F> {
 /// Standard input, a file that was opened, or why one couldn't be. Each read of a missing one fails
 /// with that error, so the task reports it when it comes to that file.
 #[derive(Drop)]
-pub enum Source<I, F> {
+pub enum InputFile<I, F> {
     Input(I),
     Opened(F),
     Missing(io::Error),
 }
 
-impl<I, F> Source<I, F> {
+impl<I, F> InputFile<I, F> {
     /// The source that the opening of a file gives.
-    pub fn of(opened: io::Result<F>) -> Source<I, F>
-        ensures { MatchResult opened (λ file. result ≡ Source.Opened file) (λ error. result ≡ Source.Missing error) }
+    pub fn of(opened: io::Result<F>) -> InputFile<I, F>
+        ensures { MatchResult opened (λ file. result ≡ InputFile.Opened file) (λ error. result ≡ InputFile.Missing error) }
     {
         match opened {
-            Ok(file) => Source::Opened(file),
-            Err(error) => Source::Missing(error),
+            Ok(file) => InputFile::Opened(file),
+            Err(error) => InputFile::Missing(error),
         }
     }
 }
 
-impl<I, F> Source<I, F> {
+impl<I, F> InputFile<I, F> {
     /// Asks standard input or the file once, with a buffer for its bytes, and returns its result as
     /// it is. A missing file returns its error, and nothing is asked.
     fn ask<A, OfInput, OfFile>(
@@ -62,14 +62,14 @@ impl<I, F> Source<I, F> {
         ensures asked { IsAskedOnce OfInput.FnOnce of_input OfFile.FnOnce of_file self.old room.old result self.new room.new }
     {
         match self {
-            Source::Input(input) => of_input(input, room),
-            Source::Opened(file) => of_file(file, room),
-            Source::Missing(error) => Err(same_error(error)),
+            InputFile::Input(input) => of_input(input, room),
+            InputFile::Opened(file) => of_file(file, room),
+            InputFile::Missing(error) => Err(same_error(error)),
         }
     }
 }
 
-impl<I: Gives, F: Gives> Read for Source<I, F> {
+impl<I: Gives, F: Gives> Read for InputFile<I, F> {
     ghost remaining = { remaining_of I.remaining F.remaining };
 
     fn read(&mut self, buf: &mut [u8]) -> io::Result<usize>

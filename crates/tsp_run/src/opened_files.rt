@@ -3,7 +3,7 @@
 ghost use Rattle.tsp_run.specs.ComparisonRun.{AreOpened, IsFresh};
 ghost use Rattle.tsp_run.specs.ProgramRun.{AreFresh};
 
-use crate::source::Open;
+use crate::input_file::Open;
 use std::io::Read;
 use tsp_cli::Place;
 use tsp_judge::Watched;

@@ -1,7 +1,7 @@
 //! What a run's end means, for a person.
 
-use crate::ending::Ending;
-use crate::source::Open;
+use crate::input_file::Open;
+use crate::run_end::RunEnd;
 use std::alloc::Global;
 use std::io;
 use std::io::Read;
@@ -56,7 +56,7 @@ const LENGTHS: &str =
 
 /// A request, of files that `files` opens, and how its end is reported.
 #[derive(Drop)]
-pub(crate) struct Asked<'a, F, O> {
+pub(crate) struct TaskRun<'a, F, O> {
     pub(crate) alloc: Global,
     pub(crate) request: &'a Request<'a, Place<'a>>,
     pub(crate) files: &'a O,
@@ -67,7 +67,7 @@ pub(crate) struct Asked<'a, F, O> {
     pub(crate) file: PhantomData<F>,
 }
 
-impl<'a, F: Read + Drop, O: Open<F>> Asked<'a, F, O> {
+impl<'a, F: Read + Drop, O: Open<F>> TaskRun<'a, F, O> {
     /// What the user calls the files.
     pub(crate) fn names(&self) -> Request<'a, &'a str> {
         self.request.map(|place| name_of(*place))
@@ -84,20 +84,20 @@ impl<'a, F: Read + Drop, O: Open<F>> Asked<'a, F, O> {
 /// its line. Files that can be are looked at once more for it. `error` is what the system said of a
 /// write that failed. It is cut short where there is no memory for more.
 pub(crate) fn explanation<F: Read + Drop, O: Open<F>>(
-    asked: &Asked<'_, F, O>,
-    ending: &Ending,
+    task_run: &TaskRun<'_, F, O>,
+    run_end: &RunEnd,
     error: Option<&io::Error>,
 ) -> Vec<u8> {
-    let alloc = asked.alloc;
-    let names = asked.names();
+    let alloc = task_run.alloc;
+    let names = task_run.names();
     let mut text = Vec::new(alloc);
-    let _ = match ending {
-        Ending::Ended(Ok(outcome)) => explain_outcome(alloc, &mut text, &names, outcome),
-        Ending::Compared(Ok(compared)) => explain_basis(alloc, &mut text, &names, &compared.common),
-        Ending::Ended(Err(run_error)) | Ending::Compared(Err(run_error)) => {
+    let _ = match run_end {
+        RunEnd::Ended(Ok(outcome)) => explain_outcome(alloc, &mut text, &names, outcome),
+        RunEnd::Compared(Ok(compared)) => explain_basis(alloc, &mut text, &names, &compared.common),
+        RunEnd::Ended(Err(run_error)) | RunEnd::Compared(Err(run_error)) => {
             let fault = run_error.fault();
             let again = match fault {
-                RunFault::File { file, fault: _ } => asked.again(file),
+                RunFault::File { file, fault: _ } => task_run.again(file),
                 RunFault::WrongKind
                 | RunFault::Write(_)
                 | RunFault::OutOfMemory
@@ -105,7 +105,7 @@ pub(crate) fn explanation<F: Read + Drop, O: Open<F>>(
             };
             explain_fault(alloc, &mut text, &names, again, error, fault)
         }
-        Ending::NoJob(_) | Ending::Printed(_) | Ending::NoRequest(_) => Ok(()),
+        RunEnd::NoJob(_) | RunEnd::Printed(_) | RunEnd::NoRequest(_) => Ok(()),
     };
     text
 }

@@ -4,7 +4,7 @@ ghost use Rattle.std.specs.Prelude.{◌≡◌, ◌++◌, ◌∷◌, [], OnOk};
 ghost use Rattle.std.specs.Io.KnownBytes.{Appends};
 ghost use Rattle.tsp_judge.specs.RunFaultText.{run_fault_text};
 ghost use Rattle.tsp_judge.specs.Status.{status_of};
-ghost use Rattle.tsp_run.specs.Ending.{IsLineOf, Tells, status_of_ending};
+ghost use Rattle.tsp_run.specs.RunEnd.{IsLineOf, Tells, status_of_run_end};
 
 use arrayvec::ArrayString;
 use clap::Error as Refusal;
@@ -20,7 +20,7 @@ const MOST_TEXT: usize = 256;
 
 /// How a run of the program ends.
 #[derive(Drop)]
-pub enum Ending {
+pub enum RunEnd {
     /// The words of the command line ask for nothing.
     NoJob(JobFault),
     /// They ask for the version, or by the verb `help` for help: that was printed, or couldn't be.
@@ -35,7 +35,7 @@ pub enum Ending {
 
 /// What goes to standard error.
 #[derive(Drop)]
-pub enum Line<'a> {
+pub enum ErrorLine<'a> {
     /// Why `clap` refuses the words, or the help that they ask for.
     Refusal(&'a Refusal),
     /// Out of memory for the words of the command line.
@@ -46,27 +46,29 @@ pub enum Line<'a> {
     Fault(RunFault),
 }
 
-impl Display for Line<'_> {
-    ghost use Rattle.tsp_run.specs.Ending.{line_text};
+impl Display for ErrorLine<'_> {
+    ghost use Rattle.tsp_run.specs.RunEnd.{line_text};
 
     ghost output = { line_text };
 
     fn fmt<W: fmt::Write>(&self, f: &mut Formatter<W>) -> fmt::Result {
         match self {
-            Line::Refusal(refusal) => f.write(*refusal),
-            Line::OutOfMemory => f.write_str("out of memory\n"),
-            Line::NoRequest(RequestFault::UnknownLayout) => f.write_str("unknown layout\n"),
-            Line::NoRequest(RequestFault::MissingPath) => f.write_str("missing path\n"),
-            Line::NoRequest(RequestFault::TwoCertificates) => {
+            ErrorLine::Refusal(refusal) => f.write(*refusal),
+            ErrorLine::OutOfMemory => f.write_str("out of memory\n"),
+            ErrorLine::NoRequest(RequestFault::UnknownLayout) => f.write_str("unknown layout\n"),
+            ErrorLine::NoRequest(RequestFault::MissingPath) => f.write_str("missing path\n"),
+            ErrorLine::NoRequest(RequestFault::TwoCertificates) => {
                 f.write_str("both potentials and branches\n")
             }
-            Line::NoRequest(RequestFault::NoCertificate) => {
+            ErrorLine::NoRequest(RequestFault::NoCertificate) => {
                 f.write_str("neither potentials nor branches\n")
             }
-            Line::NoRequest(RequestFault::NotALength) => f.write_str("not a length\n"),
-            Line::NoRequest(RequestFault::InputTwice) => f.write_str("standard input twice\n"),
-            Line::NoRequest(RequestFault::LineEndInPath) => f.write_str("line end in a path\n"),
-            Line::Fault(fault) => {
+            ErrorLine::NoRequest(RequestFault::NotALength) => f.write_str("not a length\n"),
+            ErrorLine::NoRequest(RequestFault::InputTwice) => f.write_str("standard input twice\n"),
+            ErrorLine::NoRequest(RequestFault::LineEndInPath) => f.write_str(
+                "line end in a path\n",
+            ),
+            ErrorLine::Fault(fault) => {
                 f.write(fault)?;
                 f.write_str("\n")
             }
@@ -75,42 +77,42 @@ impl Display for Line<'_> {
 }
 
 /// The exit status of a run of the program.
-pub fn status_of_ending(ending: &Ending) -> u8
-    ensures { result ≡ status_of_ending ending.now }
+pub fn status_of_run_end(run_end: &RunEnd) -> u8
+    ensures { result ≡ status_of_run_end run_end.now }
 {
-    match ending {
-        Ending::NoJob(JobFault::Refused(_)) | Ending::NoRequest(_) => Status::Refused as u8,
-        Ending::NoJob(JobFault::OutOfMemory) => Status::OutOfMemory as u8,
-        Ending::Printed(Ok(())) => Status::Yes as u8,
-        Ending::Printed(Err(fault)) => status_of(&Err(RunFault::Write(*fault))),
-        Ending::Ended(Ok(outcome)) => status_of(&Ok(is_yes_outcome(outcome))),
-        Ending::Compared(Ok(compared)) => compared.status,
-        Ending::Ended(Err(error)) | Ending::Compared(Err(error)) => status_of(&Err(error.fault())),
+    match run_end {
+        RunEnd::NoJob(JobFault::Refused(_)) | RunEnd::NoRequest(_) => Status::Refused as u8,
+        RunEnd::NoJob(JobFault::OutOfMemory) => Status::OutOfMemory as u8,
+        RunEnd::Printed(Ok(())) => Status::Yes as u8,
+        RunEnd::Printed(Err(fault)) => status_of(&Err(RunFault::Write(*fault))),
+        RunEnd::Ended(Ok(outcome)) => status_of(&Ok(is_yes_outcome(outcome))),
+        RunEnd::Compared(Ok(compared)) => compared.status,
+        RunEnd::Ended(Err(error)) | RunEnd::Compared(Err(error)) => status_of(&Err(error.fault())),
     }
 }
 
 /// What goes to standard error, or `None` where nothing goes there.
-pub fn line_of(ending: &Ending) -> Option<Line<'_>>
-    ensures { IsLineOf ending.now result }
+pub fn line_of(run_end: &RunEnd) -> Option<ErrorLine<'_>>
+    ensures { IsLineOf run_end.now result }
 {
-    match ending {
-        Ending::NoJob(JobFault::Refused(refusal)) => Some(Line::Refusal(refusal)),
-        Ending::NoJob(JobFault::OutOfMemory) => Some(Line::OutOfMemory),
-        Ending::NoRequest(fault) => Some(Line::NoRequest(*fault)),
-        Ending::Printed(Ok(())) | Ending::Ended(Ok(_)) | Ending::Compared(Ok(_)) => None,
-        Ending::Printed(Err(fault)) => Some(Line::Fault(RunFault::Write(*fault))),
-        Ending::Ended(Err(error)) | Ending::Compared(Err(error)) => Some(Line::Fault(
+    match run_end {
+        RunEnd::NoJob(JobFault::Refused(refusal)) => Some(ErrorLine::Refusal(refusal)),
+        RunEnd::NoJob(JobFault::OutOfMemory) => Some(ErrorLine::OutOfMemory),
+        RunEnd::NoRequest(fault) => Some(ErrorLine::NoRequest(*fault)),
+        RunEnd::Printed(Ok(())) | RunEnd::Ended(Ok(_)) | RunEnd::Compared(Ok(_)) => None,
+        RunEnd::Printed(Err(fault)) => Some(ErrorLine::Fault(RunFault::Write(*fault))),
+        RunEnd::Ended(Err(error)) | RunEnd::Compared(Err(error)) => Some(ErrorLine::Fault(
             error.fault(),
         )),
     }
 }
 
 /// Tells how a run ended, where that wants a line.
-pub fn tell<W: Write>(ending: &Ending, errors: &mut W) -> io::Result<()>
-    ensures { OnOk result (Tells ending.now (W.contents errors.old) (W.contents errors.new)) }
+pub fn tell<W: Write>(run_end: &RunEnd, errors: &mut W) -> io::Result<()>
+    ensures { OnOk result (Tells run_end.now (W.contents errors.old) (W.contents errors.new)) }
 {
-    match line_of(ending) {
-        Some(Line::Fault(fault)) => tell_fault(fault, errors),
+    match line_of(run_end) {
+        Some(ErrorLine::Fault(fault)) => tell_fault(fault, errors),
         Some(line) => write!(errors, "{line}"),
         None => Ok(()),
     }

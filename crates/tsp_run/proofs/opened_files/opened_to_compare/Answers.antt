@@ -1,8 +1,8 @@
--- The goals of `opened_to_compare` in src/opened.rt: what it ensures.
+-- The goals of `opened_to_compare` in src/opened_files.rt: what it ensures.
 use Rattle.std.proofs.Common.{rules}
 use Rattle.tsp_run.specs.ComparisonRun.{IsFresh}
 use Rattle.tsp_run.proofs.Openings.{comparison_by}
-use Rattle.tsp_run.proofs.opened.opened_to_compare.Goals as goal
+use Rattle.tsp_run.proofs.opened_files.opened_to_compare.Goals as goal
 
 -- plan: by the lemma `comparison_by`
 pub returns : goal.returns

@@ -1,0 +1,86 @@
+-- How a run of the program ends: its exit status, and what goes to standard error.
+use Rattle.std.specs.Prelude.{◌≡◌, ℕ, Bool, List, [], ◌++◌, ◌∷◌, true, false, Option, None, Some, Ok, Err, IfSome, codes, not, ◌==◌}
+use Rattle.std.specs.List.{list_all}
+use Rattle.std.specs.Io.KnownBytes.{Appends, Keeps}
+use Rattle.tsp_judge.specs.RunFaultText.{run_fault_text}
+use Rattle.tsp_judge.specs.declared.fault.RunFault.TheVariants.{Write}
+use Rattle.tsp_judge.specs.Status.{status_of}
+use Rattle.tsp_cli.specs.declared.words.JobFault.TheVariants as job_faults
+use Rattle.tsp_cli.specs.declared.request.RequestFault.TheVariants.{UnknownLayout, MissingPath, TwoCertificates, NoCertificate, NotALength, InputTwice, LineEndInPath}
+use Rattle.tsp_perform.specs.Outcomes.{is_yes_outcome}
+use Rattle.tsp_run.specs.Telling.{MayTell}
+use Rattle.tsp_run.specs.declared.run_end.RunEnd.{RunEnd}
+use Rattle.tsp_run.specs.declared.run_end.RunEnd.TheVariants.{NoJob, Printed, NoRequest, Ended, Compared}
+use Rattle.tsp_run.specs.declared.run_end.ErrorLine.{ErrorLine}
+use Rattle.tsp_run.specs.declared.run_end.ErrorLine.TheVariants as error_lines
+
+-- 3 is out of memory for the words, 4 a command line that is refused; 0 is a version or help that was printed, and one that
+-- couldn't be has the status of a fault; a task has the status of its answer, and a comparison the largest of its solutions'
+abbrev pub status_of_run_end : RunEnd → ℕ
+status_of_run_end (NoJob (job_faults.Refused refusal)) = 4
+status_of_run_end (NoJob job_faults.OutOfMemory) = 3
+status_of_run_end (Printed (Ok done)) = 0
+status_of_run_end (Printed (Err fault)) = status_of (Err (Write fault))
+status_of_run_end (NoRequest fault) = 4
+status_of_run_end (Ended (Ok outcome)) = status_of (Ok (is_yes_outcome outcome))
+status_of_run_end (Ended (Err fault)) = status_of (Err fault)
+status_of_run_end (Compared (Ok compared)) = compared.status
+status_of_run_end (Compared (Err fault)) = status_of (Err fault)
+
+-- the line of a run's end; an answer has none, nor has a printed text, since that is on standard output
+abbrev pub IsLineOf : RunEnd → Option ErrorLine → Type 0
+IsLineOf (NoJob (job_faults.Refused refusal)) (Some (error_lines.Refusal told)) = told.now ≡ refusal
+IsLineOf (NoJob job_faults.OutOfMemory) line = line ≡ Some error_lines.OutOfMemory
+IsLineOf (Printed (Ok done)) line = line ≡ None
+IsLineOf (Printed (Err fault)) line = line ≡ Some (error_lines.Fault (Write fault))
+IsLineOf (NoRequest fault) line = line ≡ Some (error_lines.NoRequest fault)
+IsLineOf (Ended (Ok answer)) line = line ≡ None
+IsLineOf (Ended (Err fault)) line = line ≡ Some (error_lines.Fault fault)
+IsLineOf (Compared (Ok compared)) line = line ≡ None
+IsLineOf (Compared (Err fault)) line = line ≡ Some (error_lines.Fault fault)
+IsLineOf (NoJob (job_faults.Refused refusal)) _ = ⊥
+
+-- a line of this program's own, with its end
+abbrev pub ended : List ℕ → Option (List ℕ)
+ended text = Some (text ++ 10 ∷ [])
+
+-- the bytes of the line, where they are this program's own
+abbrev pub line_text : ErrorLine → Option (List ℕ)
+line_text (error_lines.Refusal refusal) = None
+line_text error_lines.OutOfMemory = ended (codes "out of memory")
+line_text (error_lines.NoRequest UnknownLayout) = ended (codes "unknown layout")
+line_text (error_lines.NoRequest MissingPath) = ended (codes "missing path")
+line_text (error_lines.NoRequest TwoCertificates) = ended (codes "both potentials and branches")
+line_text (error_lines.NoRequest NoCertificate) = ended (codes "neither potentials nor branches")
+line_text (error_lines.NoRequest NotALength) = ended (codes "not a length")
+line_text (error_lines.NoRequest InputTwice) = ended (codes "standard input twice")
+line_text (error_lines.NoRequest LineEndInPath) = ended (codes "line end in a path")
+line_text (error_lines.Fault fault) = ended (run_fault_text fault)
+
+-- no byte ends a line
+abbrev pub is_one_line : List ℕ → Bool
+is_one_line text = list_all (λ b. not (b == 10)) text
+
+-- one line is written, some text with its end
+abbrev pub WritesLine : Option (List ℕ) → Option (List ℕ) → Type 0
+WritesLine old new = (text : List ℕ) × (is_one_line text ≡ true) × Appends old new (text ++ 10 ∷ [])
+
+-- the line of the run's end is written, where it has one
+abbrev pub IsWritten : Option ErrorLine → Option (List ℕ) → Option (List ℕ) → Type 0
+IsWritten None old new = Keeps old new
+IsWritten (Some line) old new = IfSome (line_text line) (Appends old new)
+
+abbrev pub Tells : RunEnd → Option (List ℕ) → Option (List ℕ) → Type 0
+Tells run_end old new = (line : Option ErrorLine) × IsLineOf run_end line × IsWritten line old new
+
+-- the same, and after the line a text and nothing else, where the run's end is explained
+abbrev pub TellsAfter : Bool → RunEnd → Option (List ℕ) → Option (List ℕ) → Type 0
+TellsAfter false run_end old new = Tells run_end old new
+TellsAfter true run_end old new = (between : Option (List ℕ)) × (text : List ℕ) × Tells run_end old between
+    × Appends between new text
+
+-- A comparison may tell of its solutions before, each when its own line was written.
+abbrev pub TellsAll : Bool → RunEnd → Option (List ℕ) → Option (List ℕ) → Type 0
+TellsAll explained (Compared answer) old new = (first : Option (List ℕ)) × MayTell explained old first
+    × TellsAfter explained (Compared answer) first new
+TellsAll explained run_end old new = TellsAfter explained run_end old new
