@@ -14,9 +14,9 @@ use Rattle.tsp_file.specs.CanonicalText.{number_line, ended_by_mark, node_list, 
 use Rattle.tsp_round.proofs.Text.{is_plain_word, WritesWords, no_words_written, both_words, number_line_written}
 use Rattle.tsp_round.proofs.NumbersReadBack.{decimal_plain, signed_plain, spelling_plain, size_in, size_from}
 use Rattle.tsp_round.proofs.Groups.{AreSmall, number_entry}
-use Rattle.tsp_round.proofs.Points.{point_entry}
-use Rattle.tsp_round.proofs.SpacePoints.{space_point_entry}
-use Rattle.tsp_round.proofs.Lists.{pair_words, are_pair}
+use Rattle.tsp_round.proofs.Points.{point_entry, space_point_entry}
+use Rattle.tsp_round.proofs.Lists.{are_pair}
+use Rattle.tsp_round.proofs.Listed.{pair_words}
 use Rattle.tsp_round.proofs.Triples.{triple_words, are_triple}
 use Rattle.tsp_round.proofs.Tours.{tour_words}
 

@@ -1,27 +1,27 @@
--- Numbers and points by node as they are written: each word is taken at its place, and they are read back. For the law
+-- By-node sections as they are written: each word is taken at its place, and they are read back. For the law
 -- `canonical_texts_are_read_back` in src/round_trip.rt.
-use Rattle.std.proofs.Common.{◌≡◌, ℕ, suc, zero, ◌+◌, ◌*◌, ◌^◌, ◌<◌, ◌≤◌, true, false, cond, List, [], ◌∷◌, ◌++◌, length, map, refl, sym, ap, ◌∙◌, arith, Some, Result}
-use Rattle.std.specs.Prelude.{ℤ, pos, nat_le, unwrap_or, unsigned_abs}
+use Rattle.std.proofs.Common.{◌≡◌, ℕ, suc, zero, ◌+◌, ◌*◌, ◌^◌, ◌<◌, ◌≤◌, Bool, true, false, cond, List, [], ◌∷◌, ◌++◌, length, map, refl, sym, ap, ◌∙◌, arith, Some, None, Result}
+use Rattle.std.specs.Prelude.{ℤ, pos, ◌==◌, nat_le, unwrap_or, unsigned_abs}
 use Rattle.std.specs.Result.{result_err}
 use Rattle.std.specs.List.{list_all, list_any, flat_map, enumerate_from, range_with_len}
 use Rattle.std.specs.Fmt.{decimal, signed_decimal}
 use Rattle.std.specs.Ordering.{int_eq}
-use Rattle.std.proofs.Math.ListN.{take}
-use Rattle.std.proofs.lemmas.Bool.{and_from, and_parts, le-leb, lt-leb, or_from, false_from_ne_true}
+use Rattle.std.proofs.lemmas.Bool.{and_from, and_parts, le-leb, lt-leb, or_from, ne_eqb, false_from_ne_true}
 use Rattle.std.proofs.lemmas.Bool.Decides.{Decides-int_eq}
-use Rattle.std.proofs.lemmas.List.{length_push, take_all, map-append}
+use Rattle.std.proofs.lemmas.List.{length_push, length-append, map_push}
 use Rattle.std.proofs.lemmas.List.FromFn.{map-range_with_len_more}
 use Rattle.tsp_number.specs.declared.fault.NumberFault.{NumberFault}
 use Rattle.tsp_number.specs.Reading.{whole_of}
 use Rattle.tsp_format.specs.Nodes.{nodes_to}
 use Rattle.tsp_draft.specs.Validity.{is_from_to, is_node}
 use Rattle.tsp_text.specs.SectionNumbers.{number, node, reads_as}
-use Rattle.tsp_text.specs.WordPlaces.{NodeAfter, Amount, PastGroups}
-use Rattle.tsp_text.specs.Groups.{pairs_in, begun_pair, number_groups, entry_of, by_node, numbers_by_node, place_in_group, nodes_of_groups, place_of_number}
+use Rattle.tsp_text.specs.WordPlaces.{Place, NodeAfter, Amount, PastGroups}
+use Rattle.tsp_text.specs.Groups.{groups_in, begun_in, word_at, node_groups, number_value, entry_of, by_node, place_in_group, place_by_node, nodes_of_groups}
+use Rattle.tsp_text.specs.Spells.{wants_more}
 use Rattle.tsp_text.specs.FaultRows.{word_fault}
-use Rattle.tsp_text.proofs.PairWords.{pairs_begin, begun_begin, pairs_end, begun_end}
+use Rattle.tsp_text.proofs.GroupWords.{Words, goes_on, all_groups, nodes_read, groups_append, begun_append}
 use Rattle.tsp_round.proofs.NumbersReadBack.{NumberLaws, node_back}
-use Rattle.tsp_round.proofs.Taken.{AllTaken}
+use Rattle.tsp_round.proofs.Taken.{AllTaken, taken-append}
 use Rattle.tsp_round.proofs.Lists.{no_rows}
 
 -- ---- numbers apart
@@ -73,88 +73,138 @@ by_node_back {X} missing n xs groups count are =
     ap (λ (gs : List (ℤ × X)). by_node missing n gs) are
     ∙ ap (λ m. map (λ i. unwrap_or (entry_of (map tagged (enumerate_from 1 xs)) (pos i)) missing) (range_with_len 1 m)) (sym count) ∙ entries_back missing 1 xs
 
-pub fused : {A B C : Type 0} (f : B → C) (g : A → B) (xs : List A) → map f (map g xs) ≡ map (λ x. f (g x)) xs
-fused f g [] = refl
-fused {A} {B} {C} f g (x ∷ xs) = ap (λ (ys : List C). f (g x) ∷ ys) (fused f g xs)
+-- ---- words of values
+
+abbrev pub entry_words : {X : Type 0} → (X → Words) → ℕ × X → Words
+entry_words spell entry = decimal entry.0 ∷ spell entry.1
+
+-- words without a fault at this place
+abbrev pub AreClean : ℕ → Place → Words → Type 0
+AreClean n place [] = Unit {0}
+AreClean n place (word ∷ words) = (word_fault n place word ≡ None) × AreClean n place words
+
+-- what the words of a value are, in a section of groups of this size
+pub record AreSpelled {X : Type 0} (size : ℕ) (value : Words → X) (number_place : Place) (n : ℕ) (fits : X → Bool) (spell : X → Words) : Type 0 where
+  pub some : (x : X) → 0 < length (spell x)
+  pub sized : (x : X) → 1 + length (spell x) ≡ size
+  pub one : (first : List ℕ) (x : X) → (groups_in size (first ∷ spell x) ≡ (first ∷ spell x) ∷ []) × (begun_in size (first ∷ spell x) ≡ [])
+  pub clean : (x : X) → fits x ≡ true → AreClean n number_place (spell x)
+  pub back : (first : List ℕ) (x : X) → fits x ≡ true → value (first ∷ spell x) ≡ x
+
+pub one_node : (n i : ℕ) → i + 1 ≤ n → is_node n (i + 1) ≡ true
+one_node n i room = and_from (nat_le 1 (i + 1)) (nat_le (i + 1) n) (le-leb 1 (i + 1) (omega arith)) (le-leb (i + 1) n room)
+
+le_times : (size a b : ℕ) → a ≤ b → size * a ≤ size * b
+le_times size a b le = grind arith
+
+module _ {X : Type 0} {size : ℕ} {value : Words → X} {number_place : Place} {n : ℕ} {fits : X → Bool} {spell : X → Words} (spelled : AreSpelled size value number_place n fits spell)
+    (laws : NumberLaws) (few : n < 2 ^ 32) where
+  place_here : (words begun : Words) → length words < size * n → begun_in size words ≡ begun
+      → place_by_node size number_place (node_groups size value n words) n words ≡ place_in_group number_place (nodes_of_groups (node_groups size value n words)) begun
+  place_here words begun room is = rw (lt-leb (size * n) (length words) room, is) refl
+
+  -- the words of a value, in a group that has begun
+  value_taken : (earlier : Words) (first : List ℕ) (rest words : Words) → begun_in size earlier ≡ first ∷ rest → length (first ∷ rest) + length words ≡ size
+      → length earlier + length words ≤ size * n → AreClean n number_place words
+      → AllTaken n (λ ws. place_by_node size number_place (node_groups size value n ws) n ws) earlier words
+  value_taken earlier first rest [] begun whole room clean = tt
+  value_taken earlier first rest (word ∷ []) begun whole room clean =
+      (ap (λ p. word_fault n p word) (place_here earlier (first ∷ rest) (omega (arith, room)) begun) ∙ clean.0, tt)
+  value_taken earlier first rest (word ∷ other ∷ words) begun whole room clean =
+      let on : (length (first ∷ rest) + 1 == size) ≡ false = ne_eqb (length (first ∷ rest) + 1) size (λ e. absurd (omega (arith, e, whole))) in
+      let next = (goes_on size earlier (first ∷ rest) word begun on).1 in (
+        ap (λ p. word_fault n p word) (place_here earlier (first ∷ rest) (omega (arith, room)) begun) ∙ clean.0,
+        value_taken (earlier ++ word ∷ []) first (rest ++ word ∷ []) (other ∷ words) next (omega (arith, length_push rest word, whole)) (omega (arith, length_push earlier word, room)) clean.1,
+      )
+
+  -- plan: by induction over the values: each node is a new one (`new_node`), and the words of its value are taken (`value_taken`)
+  pub values_taken : (earlier : Words) (i : ℕ) (xs : List X) → begun_in size earlier ≡ []
+      → map (λ group. number (node n (word_at group 0))) (groups_in size earlier) ≡ map pos (range_with_len 1 i) → length earlier ≡ size * i
+      → i + length xs ≤ n → list_all fits xs ≡ true
+      → AllTaken n (λ ws. place_by_node size number_place (node_groups size value n ws) n ws) earlier (flat_map (entry_words spell) (enumerate_from (i + 1) xs))
+  values_taken earlier i [] whole nodes count room all = tt
+  values_taken earlier i (x ∷ xs) whole nodes count room all =
+      let both = and_parts (fits x) (list_all fits xs) all in
+      let a = decimal (i + 1) in
+      let words = a ∷ spell x in
+      let is = one_node n i (omega arith) in
+      let read = node_back laws n (i + 1) few is in
+      let sized = spelled.sized x in
+      let more = le_times size (i + 1) n (omega arith) in
+      let short : length earlier < size * n = omega (arith, sized, count, more) in
+      let place_is : place_by_node size number_place (node_groups size value n earlier) n earlier ≡ NodeAfter (map pos (range_with_len 1 i)) =
+      place_here earlier [] short whole
+      ∙ ap (λ nodes_so_far. NodeAfter nodes_so_far) (ap nodes_of_groups (all_groups size value n earlier (omega (arith, short))) ∙ nodes_read value n (groups_in size earlier) ∙ nodes) in
+      let begun = (goes_on size earlier [] a whole (ne_eqb 1 size (λ e. absurd (omega (arith, e, sized, spelled.some x))))).1 in
+      let f : Words → ℤ = λ group. number (node n (word_at group 0)) in
+      let groups : groups_in size (earlier ++ words) ≡ groups_in size earlier ++ words ∷ [] =
+      groups_append size earlier words whole ∙ ap (λ (gs : List Words). groups_in size earlier ++ gs) (spelled.one a x).0 in
+      let nodes_more : map f (groups_in size (earlier ++ words)) ≡ map pos (range_with_len 1 (i + 1)) =
+      ap (map f) groups ∙ map_push f (groups_in size earlier) words ∙ ap (λ (zs : List ℤ). zs ++ number (node n a) ∷ []) nodes
+      ∙ ap (λ r. map pos (range_with_len 1 i) ++ number r ∷ []) read ∙ sym (map-range_with_len_more pos 1 i (i + 1) (omega arith)) in
+      taken-append n (λ ws. place_by_node size number_place (node_groups size value n ws) n ws) earlier words (flat_map (entry_words spell) (enumerate_from (i + 1 + 1) xs)) (
+        ap (λ p. word_fault n p a) place_is
+            ∙ no_rows (result_err (node n a)) (list_any (λ e. reads_as e (node n a)) (map pos (range_with_len 1 i))) false false false (ap (λ (r : Result ℤ NumberFault). result_err r) read)
+            (ap (λ (r : Result ℤ NumberFault). list_any (λ e. reads_as e r) (map pos (range_with_len 1 i))) read ∙ new_node (i + 1) 1 i (omega arith)) refl refl refl,
+        value_taken (earlier ++ a ∷ []) a [] (spell x) begun sized (omega (arith, length_push earlier a, sized, count, more)) (spelled.clean x both.0),
+      ) (values_taken (earlier ++ words) (i + 1) xs (begun_append size earlier words whole ∙ (spelled.one a x).1) nodes_more
+      (omega (arith, length-append earlier words, sized, count)) (omega arith) both.1)
+
+  values_read : (i : ℕ) (xs : List X) → i + length xs ≤ n → list_all fits xs ≡ true
+      → map (λ group. (number (node n (word_at group 0)), value group)) (groups_in size (flat_map (entry_words spell) (enumerate_from (i + 1) xs))) ≡ map tagged (enumerate_from (i + 1) xs)
+  values_read i [] room all = refl
+  values_read i (x ∷ xs) room all =
+      let both = and_parts (fits x) (list_all fits xs) all in
+      let a = decimal (i + 1) in
+      let f : Words → ℤ × X = λ group. (number (node n (word_at group 0)), value group) in
+      let rest = flat_map (entry_words spell) (enumerate_from (i + 1 + 1) xs) in
+      ap (map f) (groups_append size (a ∷ spell x) rest (spelled.one a x).1 ∙ ap (λ (gs : List Words). gs ++ groups_in size rest) (spelled.one a x).0)
+      ∙ ap (λ (z : ℤ). (z, value (a ∷ spell x)) ∷ map f (groups_in size rest)) (ap number (node_back laws n (i + 1) few (one_node n i (omega arith))))
+      ∙ ap (λ (y : X). (pos (i + 1), y) ∷ map f (groups_in size rest)) (spelled.back a x both.0)
+      ∙ ap (λ (gs : List (ℤ × X)). (pos (i + 1), x) ∷ gs) (values_read (i + 1) xs (omega arith) both.1)
+
+  count_of_words : (k : ℕ) (xs : List X) → length (flat_map (entry_words spell) (enumerate_from k xs)) ≡ size * length xs
+  count_of_words k [] = omega arith
+  count_of_words k (x ∷ xs) =
+      omega (arith, length-append (decimal k ∷ spell x) (flat_map (entry_words spell) (enumerate_from (k + 1) xs)), count_of_words (k + 1) xs, spelled.sized x)
+
+  pub values_back : (missing : X) (xs : List X) → length xs ≡ n → list_all fits xs ≡ true
+      → by_node missing n (node_groups size value n (flat_map (entry_words spell) (enumerate_from 1 xs))) ≡ xs
+  values_back missing xs count all =
+      let words = flat_map (entry_words spell) (enumerate_from 1 xs) in
+      by_node_back missing n xs (node_groups size value n words) count
+      (all_groups size value n words (omega (arith, count_of_words 1 xs, le_times size (length xs) n (omega (arith, count)))) ∙ values_read 0 xs (omega arith) all)
+
+  -- no group is left to come
+  pub values_done : (xs : List X) → length xs ≡ n
+      → (let words : Words = flat_map (entry_words spell) (enumerate_from 1 xs) in wants_more (place_by_node size number_place (node_groups size value n words) n words) ≡ false)
+  values_done xs count =
+      let words = flat_map (entry_words spell) (enumerate_from 1 xs) in
+      ap (λ b. wants_more (cond b PastGroups (place_in_group number_place (nodes_of_groups (node_groups size value n words)) (begun_in size words))))
+      (le-leb (size * n) (length words) (omega (arith, count_of_words 1 xs, le_times size n (length xs) (omega (arith, count)))))
 
 -- ---- numbers
 
-abbrev pub number_entry : ℕ × ℤ → List (List ℕ)
-number_entry entry = decimal entry.0 ∷ signed_decimal entry.1 ∷ []
+abbrev pub number_words : ℤ → Words
+number_words z = signed_decimal z ∷ []
+
+abbrev pub number_entry : ℕ × ℤ → Words
+number_entry entry = entry_words number_words entry
 
 -- all numbers of the range can be written
 abbrev pub AreSmall : ℤ → ℤ → Type 0
 AreSmall low high = (z : ℤ) → is_from_to low high z ≡ true → unsigned_abs z < 2 ^ 63
 
-nodes_are : (low high : ℤ) (n : ℕ) (words : List (List ℕ)) → length words ≤ 2 * n
-    → nodes_of_groups (number_groups low high n words) ≡ map (λ pair. number (node n pair.0)) (pairs_in words)
-nodes_are low high n words few =
-    fused (λ group. group.0) (λ group. (number (node n group.0), number (whole_of group.1 low high))) (pairs_in (take (2 * n) words))
-    ∙ ap (λ (ws : List (List ℕ)). map (λ (pair : List ℕ × List ℕ). number (node n pair.0)) (pairs_in ws)) (take_all (2 * n) words few)
-
-pub one_node : (n i : ℕ) → i + 1 ≤ n → is_node n (i + 1) ≡ true
-one_node n i room = and_from (nat_le 1 (i + 1)) (nat_le (i + 1) n) (le-leb 1 (i + 1) (omega arith)) (le-leb (i + 1) n room)
-
--- plan: by induction over the numbers: each node is a new one (`new_node`), and each word is read back as its number
-pub numbers_taken : NumberLaws → (low high : ℤ) → AreSmall low high → (n : ℕ) → n < 2 ^ 32
-    → (earlier : List (List ℕ)) (i : ℕ) (xs : List ℤ) → begun_pair earlier ≡ []
-    → map (λ pair. number (node n pair.0)) (pairs_in earlier) ≡ map pos (range_with_len 1 i) → length earlier ≡ 2 * i
-    → i + length xs ≤ n → list_all (is_from_to low high) xs ≡ true
-    → AllTaken n (place_of_number low high n) earlier (flat_map number_entry (enumerate_from (i + 1) xs))
-numbers_taken laws low high small n few earlier i [] whole nodes count room all = tt
-numbers_taken laws low high small n few earlier i (z ∷ xs) whole nodes count room all =
-    let both = and_parts (is_from_to low high z) (list_all (is_from_to low high) xs) all in
-    let a = decimal (i + 1) in
-    let b = signed_decimal z in
-    let is = one_node n i (omega arith) in
-    let here : place_of_number low high n earlier ≡ NodeAfter (map pos (range_with_len 1 i)) =
-    ap (λ t. cond t PastGroups (place_in_group (Amount low high) (nodes_of_groups (number_groups low high n earlier)) (begun_pair earlier))) (lt-leb (2 * n) (length earlier) (omega arith))
-    ∙ ap (place_in_group (Amount low high) (nodes_of_groups (number_groups low high n earlier))) whole ∙ ap NodeAfter (nodes_are low high n earlier (omega arith) ∙ nodes) in
-    let first = begun_begin earlier a whole in
-    let one = length_push earlier a in
-    let two = length_push (earlier ++ a ∷ []) b in
-    let next : place_of_number low high n (earlier ++ a ∷ []) ≡ Amount low high =
-    ap (λ t. cond t PastGroups (place_in_group (Amount low high) (nodes_of_groups (number_groups low high n (earlier ++ a ∷ []))) (begun_pair (earlier ++ a ∷ []))))
-    (lt-leb (2 * n) (length (earlier ++ a ∷ [])) (omega arith))
-    ∙ ap (place_in_group (Amount low high) (nodes_of_groups (number_groups low high n (earlier ++ a ∷ [])))) first in
-    let f : List ℕ × List ℕ → ℤ = λ pair. number (node n pair.0) in
-    let nodes_more : map f (pairs_in ((earlier ++ a ∷ []) ++ b ∷ [])) ≡ map pos (range_with_len 1 (i + 1)) =
-    ap (map f) (pairs_end (earlier ++ a ∷ []) a b first ∙ ap (λ (ps : List (List ℕ × List ℕ)). ps ++ (a, b) ∷ []) (pairs_begin earlier a whole)) ∙ map-append f (pairs_in earlier) ((a, b) ∷ [])
-    ∙ ap (λ (zs : List ℤ). zs ++ number (node n a) ∷ []) nodes ∙ ap (λ r. map pos (range_with_len 1 i) ++ number r ∷ []) (node_back laws n (i + 1) few is)
-    ∙ sym (map-range_with_len_more pos 1 i (i + 1) (omega arith)) in (
-      ap (λ p. word_fault n p a) here
-          ∙ no_rows (result_err (node n a)) (list_any (λ e. reads_as e (node n a)) (map pos (range_with_len 1 i))) false false false
-          (ap (λ (r : Result ℤ NumberFault). result_err r) (node_back laws n (i + 1) few is))
-          (ap (λ (r : Result ℤ NumberFault). list_any (λ e. reads_as e r) (map pos (range_with_len 1 i))) (node_back laws n (i + 1) few is) ∙ new_node (i + 1) 1 i (omega arith)) refl refl refl,
-      (
-        ap (λ p. word_fault n p b) next
-            ∙ no_rows (result_err (whole_of b low high)) false false false false
-            (ap (λ (r : Result ℤ NumberFault). result_err r) (laws.whole_back z low high (small z both.0) both.0)) refl refl refl refl,
-        numbers_taken laws low high small n few ((earlier ++ a ∷ []) ++ b ∷ []) (i + 1) xs (begun_end (earlier ++ a ∷ []) a b first) nodes_more (omega arith) (omega arith) both.1,
-      ),
-    )
-
-pub count_of_numbers : (k : ℕ) (xs : List ℤ) → length (flat_map number_entry (enumerate_from k xs)) ≡ 2 * length xs
-count_of_numbers k [] = refl
-count_of_numbers k (x ∷ xs) = omega (arith, count_of_numbers (k + 1) xs)
-
-groups_back : NumberLaws → (low high : ℤ) → AreSmall low high → (n : ℕ) → n < 2 ^ 32 → (i : ℕ) (xs : List ℤ) → i + length xs ≤ n
-    → list_all (is_from_to low high) xs ≡ true
-    → map (λ group. (number (node n group.0), number (whole_of group.1 low high))) (pairs_in (flat_map number_entry (enumerate_from (i + 1) xs))) ≡ map tagged (enumerate_from (i + 1) xs)
-groups_back laws low high small n few i [] room all = refl
-groups_back laws low high small n few i (z ∷ xs) room all =
-    let both = and_parts (is_from_to low high z) (list_all (is_from_to low high) xs) all in
-    let rest : List (ℤ × ℤ) = map (λ (group : List ℕ × List ℕ). (number (node n group.0), number (whole_of group.1 low high))) (pairs_in (flat_map number_entry (enumerate_from (i + 1 + 1) xs))) in
-    ap (λ r. (number r, number (whole_of (signed_decimal z) low high)) ∷ rest) (node_back laws n (i + 1) few (one_node n i (omega arith)))
-    ∙ ap (λ r. (pos (i + 1), number r) ∷ rest) (laws.whole_back z low high (small z both.0) both.0)
-    ∙ ap (λ (gs : List (ℤ × ℤ)). (pos (i + 1), z) ∷ gs) (groups_back laws low high small n few (i + 1) xs (omega arith) both.1)
-
-pub numbers_back : NumberLaws → (low high : ℤ) → AreSmall low high → (n : ℕ) → n < 2 ^ 32 → (xs : List ℤ) → length xs ≡ n
-    → list_all (is_from_to low high) xs ≡ true
-    → numbers_by_node low high n (flat_map number_entry (enumerate_from 1 xs)) ≡ xs
-numbers_back laws low high small n few xs count all =
-    let words = flat_map number_entry (enumerate_from 1 xs) in
-    by_node_back (pos 0) n xs (number_groups low high n words) count
-    (ap (λ (ws : List (List ℕ)). map (λ (group : List ℕ × List ℕ). (number (node n group.0), number (whole_of group.1 low high))) (pairs_in ws))
-    (take_all (2 * n) words (omega (arith, count_of_numbers 1 xs)))
-    ∙ groups_back laws low high small n few 0 xs (omega arith) all)
+pub numbers_spelled : NumberLaws → (low high : ℤ) → AreSmall low high → (n : ℕ)
+    → AreSpelled 2 (number_value low high) (Amount low high) n (is_from_to low high) number_words
+numbers_spelled laws low high small n = record {
+  some = λ z. omega arith;
+  sized = λ z. refl;
+  one = λ first z. (refl, refl);
+  clean = λ z inside. (
+    no_rows (result_err (whole_of (signed_decimal z) low high)) false false false false
+        (ap (λ (r : Result ℤ NumberFault). result_err r) (laws.whole_back z low high (small z inside) inside)) refl refl refl refl,
+    tt,
+  );
+  back = λ first z inside. ap number (laws.whole_back z low high (small z inside) inside);
+}

@@ -5,10 +5,10 @@ pub mod Onto
 pub mod Lines
 pub mod NumbersReadBack
 pub mod Lists
+pub mod Listed
 pub mod Triples
 pub mod Groups
 pub mod Points
-pub mod SpacePoints
 pub mod Space
 pub mod Tours
 pub mod CombWords

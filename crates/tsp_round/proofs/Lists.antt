@@ -1,13 +1,13 @@
--- Depots, fixed pairs and weights as they are written: each word is taken at its place, and they are read back. For the law
+-- Depots and weights as they are written: each word is taken at its place, and they are read back. For the law
 -- `canonical_texts_are_read_back` in src/round_trip.rt.
 use Rattle.std.proofs.Common.{◌≡◌, ℕ, suc, ◌+◌, ◌*◌, ◌^◌, ◌<◌, ◌≤◌, Bool, true, false, cond, List, [], ◌∷◌, ◌++◌, length, map, refl, sym, ap, ◌∙◌, arith, Option, None, Result, Ok}
-use Rattle.std.specs.Prelude.{ℤ, pos, not, ◌&&◌, ◌||◌, ◌==◌, nat_le, nat_abs, codes}
+use Rattle.std.specs.Prelude.{ℤ, pos, not, ◌&&◌, ◌==◌, nat_le, nat_abs, codes}
 use Rattle.std.specs.Option.{option_map}
 use Rattle.std.specs.Result.{result_err}
-use Rattle.std.specs.List.{list_all, list_any, flat_map}
+use Rattle.std.specs.List.{list_all, list_any}
 use Rattle.std.specs.Fmt.{decimal, signed_decimal}
 use Rattle.std.specs.Ordering.{int_eq}
-use Rattle.std.proofs.lemmas.Bool.{true≢false, and_parts, lt-leb, eq-eqb, or_right, and_right, and_left, not_from_true, not-true, false_from_ne_true}
+use Rattle.std.proofs.lemmas.Bool.{true≢false, and_parts, lt-leb, eq-eqb, and_right, and_left, not_from_true, not-true, false_from_ne_true}
 use Rattle.std.proofs.lemmas.Bool.Decides.{Decides-int_eq}
 use Rattle.std.proofs.lemmas.List.{length_push}
 use Rattle.tsp_number.specs.declared.fault.NumberFault.{NumberFault}
@@ -16,12 +16,10 @@ use Rattle.tsp_draft.specs.Validity.{is_within, is_node, is_pair_of, is_branch_o
 use Rattle.tsp_text.specs.declared.fault.LineFault.TheVariants as row
 use Rattle.tsp_text.specs.SectionNumbers.{number, node, node_or_end, is_end, whole_of_size, reads_as}
 use Rattle.tsp_text.specs.WordPlaces.{DepotAfter, FirstAfter, SecondOf, PastEnd, Weight, PastWeights}
-use Rattle.tsp_text.specs.Groups.{pairs_in, begun_pair}
-use Rattle.tsp_text.specs.Lists.{before, firsts_in, depots_in, place_of_depot, fixed_in, place_in_pair, place_of_fixed}
+use Rattle.tsp_text.specs.Lists.{before, depots_in, place_of_depot}
 use Rattle.tsp_text.specs.WeightSection.{weights_in, place_of_weight}
 use Rattle.tsp_text.specs.FaultRows.{when, first_row, word_fault}
 use Rattle.tsp_text.proofs.Ended.{any_push}
-use Rattle.tsp_text.proofs.PairWords.{pairs_begin, begun_begin, firsts_begin, pairs_end, begun_end, firsts_end}
 use Rattle.tsp_round.proofs.NumbersReadBack.{NumberLaws, node_back, listed_back, node_goes_on, end_read, end_ends, size_in}
 use Rattle.tsp_round.proofs.Taken.{AllTaken}
 
@@ -71,10 +69,7 @@ depots_back laws n few (k ∷ nodes) all =
     ∙ ap (λ r. nat_abs (number r) ∷ depots_in n (map decimal nodes ++ codes "-1" ∷ [])) (listed_back laws n k few both.0)
     ∙ ap (λ (ks : List ℕ). k ∷ ks) (depots_back laws n few nodes both.1)
 
--- ---- fixed pairs
-
-abbrev pub pair_words : ℕ × ℕ → List (List ℕ)
-pair_words pair = decimal pair.0 ∷ decimal pair.1 ∷ []
+-- ---- nodes of pairs and of triples
 
 no_self : (a b : ℕ) → (a == b) ≡ false → int_eq (pos b) (pos a) ≡ false
 no_self a b differ = false_from_ne_true (int_eq (pos b) (pos a)) (λ e.
@@ -132,55 +127,6 @@ are_branch n branch fits =
 pub still_open : NumberLaws → (n k : ℕ) (firsts : List (List ℕ)) → n < 2 ^ 32 → is_node n k ≡ true
     → list_any (is_end n) firsts ≡ false → list_any (is_end n) (firsts ++ decimal k ∷ []) ≡ false
 still_open laws n k firsts few is unended = any_push (is_end n) firsts (decimal k) unended ∙ node_goes_on laws n k few is
-
--- the place of the next word of pairs, before the -1
-pair_place : (n : ℕ) (words begun : List (List ℕ)) → list_any (is_end n) (firsts_in words) ≡ false → begun_pair words ≡ begun
-    → place_of_fixed n words ≡ place_in_pair n (length (pairs_in words)) begun
-pair_place n words begun unended whole = rw (unended, whole) refl
-
-pub fixed_taken : NumberLaws → (n : ℕ) → n < 2 ^ 32 → (earlier : List (List ℕ)) (pairs : List (ℕ × ℕ))
-    → list_any (is_end n) (firsts_in earlier) ≡ false → begun_pair earlier ≡ []
-    → length (pairs_in earlier) + length pairs ≤ most_fixed → list_all (is_pair_of n) pairs ≡ true
-    → AllTaken n (place_of_fixed n) earlier (flat_map pair_words pairs ++ codes "-1" ∷ [])
-fixed_taken laws n few earlier [] unended whole room all =
-    (ap (λ p. word_fault n p (codes "-1")) (pair_place n earlier [] unended whole) ∙ end_taken laws n (length (pairs_in earlier)), tt)
-fixed_taken laws n few earlier (pair ∷ pairs) unended whole room all =
-    let both = and_parts (is_pair_of n pair) (list_all (is_pair_of n) pairs) all in
-    let are = are_pair n pair both.0 in
-    let a = decimal pair.0 in
-    let b = decimal pair.1 in
-    let w1 = earlier ++ a ∷ [] in
-    let w2 = w1 ++ b ∷ [] in
-    let begun = begun_begin earlier a whole in
-    let unended_first : list_any (is_end n) (firsts_in w1) ≡ false = ap (list_any (is_end n)) (firsts_begin earlier a whole) ∙ still_open laws n pair.0 (firsts_in earlier) few are.first unended in
-    let count : length (pairs_in w2) ≡ length (pairs_in earlier) + 1 =
-    ap length (pairs_end w1 a b begun) ∙ length_push (pairs_in w1) (a, b) ∙ ap (λ (ps : List (List ℕ × List ℕ)). length ps + 1) (pairs_begin earlier a whole) in (
-      ap (λ p. word_fault n p a) (pair_place n earlier [] unended whole) ∙ first_taken laws n (length (pairs_in earlier)) (length pairs) pair.0 few room are.first,
-      (
-        ap (λ p. word_fault n p b) (pair_place n w1 (a ∷ []) unended_first begun ∙ ap (λ r. SecondOf (number r)) (listed_back laws n pair.0 few are.first))
-            ∙ second_taken laws n pair.0 pair.1 few are.second are.differ,
-        fixed_taken laws n few w2 pairs (ap (list_any (is_end n)) (firsts_end w1 a b begun) ∙ unended_first) (begun_end w1 a b begun) (omega (arith, count)) both.1,
-      ),
-    )
-
-pub fixed_back : NumberLaws → (n : ℕ) → n < 2 ^ 32 → (pairs : List (ℕ × ℕ)) → list_all (is_pair_of n) pairs ≡ true
-    → fixed_in n (flat_map pair_words pairs ++ codes "-1" ∷ []) ≡ pairs
-fixed_back laws n few [] all = refl
-fixed_back laws n few (pair ∷ pairs) all =
-    let both = and_parts (is_pair_of n pair) (list_all (is_pair_of n) pairs) all in
-    let are = are_pair n pair both.0 in
-    let more = flat_map pair_words pairs ++ codes "-1" ∷ [] in
-    let read : List ℕ × List ℕ → ℕ × ℕ = λ p. (nat_abs (number (node_or_end n p.0)), nat_abs (number (node n p.1))) in
-    ap (λ t. map read (cond t [] ((decimal pair.0, decimal pair.1) ∷ before (λ p. is_end n p.0) (pairs_in more)))) (node_goes_on laws n pair.0 few are.first)
-    ∙ ap (λ r. (nat_abs (number r), nat_abs (number (node n (decimal pair.1)))) ∷ fixed_in n more) (listed_back laws n pair.0 few are.first)
-    ∙ ap (λ r. (pair.0, nat_abs (number r)) ∷ fixed_in n more) (node_back laws n pair.1 few are.second)
-    ∙ ap (λ (ps : List (ℕ × ℕ)). pair ∷ ps) (fixed_back laws n few pairs both.1)
-
-pub fixed_ended : NumberLaws → (n : ℕ) → (pairs : List (ℕ × ℕ))
-    → list_any (is_end n) (firsts_in (flat_map pair_words pairs ++ codes "-1" ∷ [])) ≡ true
-fixed_ended laws n [] = ap (λ b. b || false) (end_ends laws n)
-fixed_ended laws n (pair ∷ pairs) =
-    or_right (is_end n (decimal pair.0)) (list_any (is_end n) (firsts_in (flat_map pair_words pairs ++ codes "-1" ∷ []))) (fixed_ended laws n pairs)
 
 -- ---- weights
 

@@ -1,10 +1,10 @@
 -- Sections by their shape: their entries as they are written are read back, each word is taken at its place, and none is left
 -- to come. For the law `canonical_texts_are_read_back` in src/round_trip.rt.
 use Rattle.std.proofs.Common.{◌≡◌, ℕ, ◌+◌, ◌*◌, ◌^◌, ◌<◌, ◌≤◌, Bool, true, false, cond, List, [], ◌∷◌, ◌++◌, length, map, refl, ap, arith, Option}
-use Rattle.std.specs.Prelude.{ℤ, ◌&&◌, ◌||◌, ◌==◌, nat_le, nat_lt, unsigned_abs, codes}
+use Rattle.std.specs.Prelude.{ℤ, pos, ◌&&◌, ◌||◌, ◌==◌, nat_le, nat_lt, unsigned_abs, codes}
 use Rattle.std.specs.List.{list_all, list_any, flat_map, enumerate_from, sum_by}
 use Rattle.std.specs.Fmt.{decimal, signed_decimal}
-use Rattle.std.proofs.lemmas.Bool.{false≢true, and_parts, or_right, leb-true, ltb-true, eqb-true, le-leb, le-ltb}
+use Rattle.std.proofs.lemmas.Bool.{false≢true, and_parts, or_right, leb-true, ltb-true, eqb-true, le-ltb}
 use Rattle.std.proofs.lemmas.Int.{ints}
 use Rattle.tsp_distance.specs.declared.decimal.Point.{Point}
 use Rattle.tsp_format.specs.declared.field.Field.{Field}
@@ -16,9 +16,10 @@ use Rattle.tsp_draft.specs.Fields.{Fields, numbers_in, points_in}
 use Rattle.tsp_draft.specs.Validity.{if_there, is_by_node, is_point, is_within, is_from_to, is_node, is_pair_of, is_triple_of, are_depots, are_fixed, are_triples, fit_matrix, is_node_list, are_tours, are_combs, are_tree_steps, with_dimension, section_fits}
 use Rattle.tsp_file.specs.CanonicalText.{section_text, lines_by_node, node_list, pair_list, triple_list, comb_list, case_tree_lines, coordinate_words, whole_number, line_lens, matrix_lines, optional, text_of_section}
 use Rattle.tsp_text.specs.SectionNumbers.{is_end}
-use Rattle.tsp_text.specs.WordPlaces.{PastGroups, PastEnd, Weight, PastWeights, Coordinate, Amount, DepotAfter}
-use Rattle.tsp_text.specs.Groups.{numbers_by_node, points_by_node, space_points_by_node, begun_pair, begun_triple, begun_four, number_groups, point_groups, space_point_groups, nodes_of_groups, place_in_group, pairs_in, threes_in}
-use Rattle.tsp_text.specs.Lists.{depots_in, fixed_in, fixed_triples_in, place_in_pair, place_in_triple}
+use Rattle.tsp_text.specs.WordPlaces.{PastEnd, Weight, PastWeights, DepotAfter}
+use Rattle.tsp_draft.specs.Coords.{origin}
+use Rattle.tsp_text.specs.Groups.{numbers_by_node, points_by_node, space_points_by_node}
+use Rattle.tsp_text.specs.Lists.{depots_in, fixed_in, fixed_triples_in}
 use Rattle.tsp_text.specs.WeightSection.{weights_in}
 use Rattle.tsp_text.specs.TourSection.{tours_in}
 use Rattle.tsp_text.specs.CombSection.{whole_combs}
@@ -29,11 +30,13 @@ use Rattle.tsp_text.specs.Opening.{needs_nodes, is_matrix}
 use Rattle.tsp_round.proofs.Text.{WritesWords}
 use Rattle.tsp_round.proofs.NumbersReadBack.{NumberLaws, end_ends}
 use Rattle.tsp_round.proofs.Taken.{AllTaken}
-use Rattle.tsp_round.proofs.Lists.{pair_words, depots_taken, depots_back, fixed_taken, fixed_back, fixed_ended, weights_taken, weights_back}
-use Rattle.tsp_round.proofs.Triples.{triple_words, triples_taken, triples_back, triples_ended}
-use Rattle.tsp_round.proofs.Groups.{AreSmall, number_entry, numbers_taken, numbers_back, count_of_numbers}
-use Rattle.tsp_round.proofs.Points.{point_entry, points_taken, points_back, count_of_points}
-use Rattle.tsp_round.proofs.SpacePoints.{space_point_entry, space_points_taken, space_points_back, count_of_space_points}
+use Rattle.tsp_round.proofs.Lists.{depots_taken, depots_back, weights_taken, weights_back}
+use Rattle.tsp_round.proofs.Listed as listed
+use Rattle.tsp_round.proofs.Listed.{pair_words, pairs_listed}
+use Rattle.tsp_round.proofs.Triples.{triple_words, triples_listed}
+use Rattle.tsp_round.proofs.Groups as by_node
+use Rattle.tsp_round.proofs.Groups.{AreSmall, number_entry, numbers_spelled}
+use Rattle.tsp_round.proofs.Points.{point_entry, space_point_entry, points_spelled, space_points_spelled}
 use Rattle.tsp_round.proofs.Tours.{tour_words, tours_taken, tours_back}
 use Rattle.tsp_round.proofs.CombWords.{combs_words, combs_taken, combs_back, combs_done}
 use Rattle.tsp_round.proofs.TreeWords.{step_words, steps_taken, steps_back, steps_done}
@@ -206,39 +209,34 @@ body laws lens (Numbers low high) writable n few xs fit =
     let count = eqb-true (length xs) n both.0 in
     let most = few_nodes n (few refl) in
     let small = small_range low high writable in
-    let words = flat_map number_entry (enumerate_from 1 xs) in
+    let spelled = numbers_spelled laws low high small n in
     record {
       written = numbers_written low high small n most 0 xs (omega (arith, count)) both.1;
-      taken = numbers_taken laws low high small n most [] 0 xs refl refl refl (omega (arith, count)) both.1;
-      back = numbers_back laws low high small n most xs count both.1;
-      done = ap (λ b. wants_more (cond b PastGroups (place_in_group (Amount low high) (nodes_of_groups (number_groups low high n words)) (begun_pair words))))
-          (le-leb (2 * n) (length words) (omega (arith, count, count_of_numbers 1 xs)));
+      taken = by_node.values_taken spelled laws most [] 0 xs refl refl refl (omega (arith, count)) both.1;
+      back = by_node.values_back spelled laws most (pos 0) xs count both.1;
+      done = by_node.values_done spelled laws most xs count;
       few = λ e. absurd (false≢true e);
     }
 body laws lens Points writable n few xs fit =
     let both = and_parts (length xs == n) (list_all (is_point false) xs) fit in
     let count = eqb-true (length xs) n both.0 in
     let most = few_nodes n (few refl) in
-    let words = flat_map point_entry (enumerate_from 1 xs) in
     record {
       written = points_written n most 0 xs (omega (arith, count)) both.1;
-      taken = points_taken laws n most [] 0 xs refl refl refl (omega (arith, count)) both.1;
-      back = points_back laws n most xs count both.1;
-      done = ap (λ b. wants_more (cond b PastGroups (place_in_group Coordinate (nodes_of_groups (point_groups n words)) (begun_triple words))))
-          (le-leb (3 * n) (length words) (omega (arith, count, count_of_points 1 xs)));
+      taken = by_node.values_taken (points_spelled laws n) laws most [] 0 xs refl refl refl (omega (arith, count)) both.1;
+      back = by_node.values_back (points_spelled laws n) laws most origin xs count both.1;
+      done = by_node.values_done (points_spelled laws n) laws most xs count;
       few = λ e. absurd (false≢true e);
     }
 body laws lens SpacePoints writable n few xs fit =
     let both = and_parts (length xs == n) (list_all (is_point true) xs) fit in
     let count = eqb-true (length xs) n both.0 in
     let most = few_nodes n (few refl) in
-    let words = flat_map space_point_entry (enumerate_from 1 xs) in
     record {
       written = space_points_written n most 0 xs (omega (arith, count)) both.1;
-      taken = space_points_taken laws n most [] 0 xs refl refl refl (omega (arith, count)) both.1;
-      back = space_points_back laws n most xs count both.1;
-      done = ap (λ b. wants_more (cond b PastGroups (place_in_group Coordinate (nodes_of_groups (space_point_groups n words)) (begun_four words))))
-          (le-leb (4 * n) (length words) (omega (arith, count, count_of_space_points 1 xs)));
+      taken = by_node.values_taken (space_points_spelled laws n) laws most [] 0 xs refl refl refl (omega (arith, count)) both.1;
+      back = by_node.values_back (space_points_spelled laws n) laws most origin xs count both.1;
+      done = by_node.values_done (space_points_spelled laws n) laws most xs count;
       few = λ e. absurd (false≢true e);
     }
 body laws lens Depots writable n few xs fit =
@@ -254,12 +252,11 @@ body laws lens Depots writable n few xs fit =
 body laws lens Pairs writable n few xs fit =
     let both = and_parts (nat_le (length xs) most_fixed) (list_all (is_pair_of n) xs) fit in
     let most = few_nodes n (few refl) in
-    let words = flat_map pair_words xs ++ codes "-1" ∷ [] in
     record {
       written = pair_lines_written n most xs both.1;
-      taken = fixed_taken laws n most [] xs refl refl (omega (arith, leb-true (length xs) most_fixed both.0)) both.1;
-      back = fixed_back laws n most xs both.1;
-      done = ap (λ b. wants_more (cond b PastEnd (place_in_pair n (length (pairs_in words)) (begun_pair words)))) (fixed_ended laws n xs);
+      taken = listed.values_taken (pairs_listed laws n most) laws [] xs refl refl (omega (arith, leb-true (length xs) most_fixed both.0)) both.1;
+      back = listed.values_back (pairs_listed laws n most) laws xs both.1;
+      done = listed.values_done (pairs_listed laws n most) laws xs;
       few = λ e. absurd (false≢true e);
     }
 body laws lens Weights writable n few xs fit =
@@ -284,12 +281,11 @@ body laws lens Tours writable n few xs fit =
 body laws lens Triples writable n few xs fit =
     let both = and_parts (nat_le (length xs) most_triples) (list_all (is_triple_of n) xs) fit in
     let most = few_nodes n (few refl) in
-    let words = flat_map triple_words xs ++ codes "-1" ∷ [] in
     record {
       written = triple_lines_written n most xs both.1;
-      taken = triples_taken laws n most [] xs refl refl (omega (arith, leb-true (length xs) most_triples both.0)) both.1;
-      back = triples_back laws n most xs both.1;
-      done = ap (λ b. wants_more (cond b PastEnd (place_in_triple n (length (threes_in words)) (begun_triple words)))) (triples_ended laws n xs);
+      taken = listed.values_taken (triples_listed laws n most) laws [] xs refl refl (omega (arith, leb-true (length xs) most_triples both.0)) both.1;
+      back = listed.values_back (triples_listed laws n most) laws xs both.1;
+      done = listed.values_done (triples_listed laws n most) laws xs;
       few = λ e. absurd (false≢true e);
     }
 body laws lens Combs writable n few xs fit =

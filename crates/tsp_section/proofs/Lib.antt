@@ -1,17 +1,17 @@
 -- The files of lemmas of this crate. Crates above may import them.
 pub mod DepotSteps
+pub mod KeptWords
+pub mod ListSteps
 pub mod FixedSteps
 pub mod WeightSteps
 pub mod NodeGroups
+pub mod GroupSteps
 pub mod NumberSteps
-pub mod PointSteps
-pub mod SpacePointSteps
 pub mod CoordSteps
 pub mod TripleSteps
 pub mod Pieces
 pub mod TourSteps
 pub mod TreeSteps
-pub mod Readings
 pub mod Taken
 pub mod PartSteps
 pub mod HandedOver

@@ -1,9 +1,8 @@
 -- The files of lemmas of this crate. Crates above may import them.
 pub mod Ended
-pub mod FourWords
+pub mod GroupWords
+pub mod SameGroups
 pub mod NoBlanks
-pub mod PairWords
-pub mod TripleWords
 pub mod Clean
 pub mod ItemRows
 pub mod Opened
@@ -16,6 +15,7 @@ pub mod ValidNumbers
 pub mod ValidStanding
 pub mod ValidWeights
 pub mod ValidLists
+pub mod ValidGroups
 pub mod ValidDepots
 pub mod ValidTours
 pub mod ValidFixed
@@ -30,5 +30,4 @@ pub mod OneAnswer
 pub mod SettledItems
 pub mod SettledFaults
 pub mod EachOnce
-pub mod Shapes
 pub mod ByNodeWords

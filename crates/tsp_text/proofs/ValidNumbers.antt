@@ -12,7 +12,6 @@ use Rattle.std.proofs.lemmas.List.Folds.{list_all-map}
 use Rattle.std.proofs.lemmas.List.FromFn.{length-range_with_len}
 use Rattle.tsp_number.specs.declared.fault.NumberFault.{NumberFault}
 use Rattle.tsp_number.specs.declared.fault.NumberFault.TheVariants.{LongWord, OutOfRange}
-use Rattle.tsp_distance.specs.declared.decimal.Point.{Point}
 use Rattle.tsp_distance.specs.Decimal.{most_count}
 use Rattle.tsp_number.specs.NumberWord.{Numeral}
 use Rattle.tsp_number.specs.Scan.{numeral_in}
@@ -22,7 +21,7 @@ use Rattle.tsp_format.specs.Limits.{most_coordinate}
 use Rattle.tsp_draft.specs.Coords.{origin}
 use Rattle.tsp_draft.specs.Validity.{is_from_to, is_within, is_node, is_by_node, is_point}
 use Rattle.tsp_text.specs.SectionNumbers.{number, reads_as, node, not_zero, node_or_end, is_end}
-use Rattle.tsp_text.specs.Groups.{pairs_in, threes_in, number_groups, point_in_words, point_groups, entry_of, by_node, numbers_by_node, points_by_node, fours_in, space_point_of, space_point_groups, space_points_by_node, coords_by_node}
+use Rattle.tsp_text.specs.Groups.{groups_in, word_at, node_groups, number_value, coordinate_at, point_in, space_point_in, entry_of, by_node, numbers_by_node, points_by_node, space_points_by_node, coords_by_node}
 use Rattle.std.proofs.Math.ListN.{take}
 
 -- ---- tests of lists
@@ -119,37 +118,34 @@ by_node_fits {X} fits missing n groups none all =
     (eq-eqb (length (map entry (nodes_to n))) n (length-map (nodes_to n) entry ∙ length-range_with_len 1 n))
     (list_all-map fits entry (nodes_to n) ∙ all_pass (λ i. fits (entry i)) (nodes_to n) (λ i. entry_fits fits missing groups (pos i) none all))
 
+-- the values of groups, which all pass
+groups_fit : {X : Type 0} (fits : X → Bool) (missing : X) (size : ℕ) (value : List (List ℕ) → X) (n : ℕ) (words : List (List ℕ))
+    → fits missing ≡ true → ((group : List (List ℕ)) → fits (value group) ≡ true)
+    → is_by_node fits n (by_node missing n (node_groups size value n words)) ≡ true
+groups_fit {X} fits missing size value n words none each =
+    let groups = groups_in size (take (size * n) words) in
+    by_node_fits fits missing n (node_groups size value n words) none
+    (list_all-map (λ (group : ℤ × X). fits group.1) (λ (group : List (List ℕ)). (number (node n (word_at group 0)), value group)) groups
+    ∙ all_pass (λ (group : List (List ℕ)). fits (value group)) groups each)
+
 pub numbers_fit : (low high : ℤ) (n : ℕ) (words : List (List ℕ)) → is_from_to low high (pos 0) ≡ true
     → is_by_node (is_from_to low high) n (numbers_by_node low high n words) ≡ true
 numbers_fit low high n words zero_passes =
-    by_node_fits (is_from_to low high) (pos 0) n (number_groups low high n words) zero_passes
-    (list_all-map (λ (group : ℤ × ℤ). is_from_to low high group.1) (λ (group : List ℕ × List ℕ). (number (node n group.0), number (whole_of group.1 low high))) (pairs_in (take (2 * n) words))
-    ∙ all_pass (λ (group : List ℕ × List ℕ). is_from_to low high (number (whole_of group.1 low high))) (pairs_in (take (2 * n) words)) (λ group. whole_passes low high group.1 zero_passes))
+    groups_fit (is_from_to low high) (pos 0) 2 (number_value low high) n words zero_passes (λ group. whole_passes low high (word_at group 1) zero_passes)
 
-point_fits : (x y : List ℕ) → is_point false (point_in_words x y) ≡ true
-point_fits x y =
-    and_from (is_within most_coordinate (number (decimal_of x)) && is_within most_coordinate (number (decimal_of y))) true
-    (and_from (is_within most_coordinate (number (decimal_of x))) (is_within most_coordinate (number (decimal_of y))) (decimal_passes x) (decimal_passes y)) refl
+two_fit : (group : List (List ℕ)) → (is_within most_coordinate (coordinate_at group 1) && is_within most_coordinate (coordinate_at group 2)) ≡ true
+two_fit group =
+    and_from (is_within most_coordinate (coordinate_at group 1)) (is_within most_coordinate (coordinate_at group 2)) (decimal_passes (word_at group 1)) (decimal_passes (word_at group 2))
 
 pub points_fit : (n : ℕ) (words : List (List ℕ)) → is_by_node (is_point false) n (points_by_node n words) ≡ true
-points_fit n words = by_node_fits (is_point false) origin n (point_groups n words) refl
-    (list_all-map (λ (group : ℤ × Point). is_point false group.1) (λ (group : List ℕ × List ℕ × List ℕ). (number (node n group.0), point_in_words group.1 group.2)) (threes_in (take (3 * n) words))
-    ∙ all_pass (λ (group : List ℕ × List ℕ × List ℕ). is_point false (point_in_words group.1 group.2)) (threes_in (take (3 * n) words)) (λ group. point_fits group.1 group.2))
+points_fit n words = groups_fit (is_point false) origin 3 point_in n words refl (λ group.
+    and_from (is_within most_coordinate (coordinate_at group 1) && is_within most_coordinate (coordinate_at group 2)) true (two_fit group) refl)
 
 -- with three coordinates each
-space_point_fits : (x y z : List ℕ) → is_point true (space_point_of x y z) ≡ true
-space_point_fits x y z =
-    and_from (is_within most_coordinate (number (decimal_of x)) && is_within most_coordinate (number (decimal_of y)))
-    (is_within most_coordinate (number (decimal_of z)))
-    (and_from (is_within most_coordinate (number (decimal_of x))) (is_within most_coordinate (number (decimal_of y))) (decimal_passes x) (decimal_passes y))
-    (decimal_passes z)
-
 space_points_fit : (n : ℕ) (words : List (List ℕ)) → is_by_node (is_point true) n (space_points_by_node n words) ≡ true
-space_points_fit n words = by_node_fits (is_point true) origin n (space_point_groups n words) refl
-    (list_all-map (λ (group : ℤ × Point). is_point true group.1)
-    (λ (group : List ℕ × List ℕ × List ℕ × List ℕ). (number (node n group.0), space_point_of group.1 group.2 group.3)) (fours_in (take (4 * n) words))
-    ∙ all_pass (λ (group : List ℕ × List ℕ × List ℕ × List ℕ). is_point true (space_point_of group.1 group.2 group.3)) (fours_in (take (4 * n) words))
-    (λ group. space_point_fits group.1 group.2 group.3))
+space_points_fit n words = groups_fit (is_point true) origin 4 space_point_in n words refl (λ group.
+    and_from (is_within most_coordinate (coordinate_at group 1) && is_within most_coordinate (coordinate_at group 2))
+    (is_within most_coordinate (coordinate_at group 3)) (two_fit group) (decimal_passes (word_at group 3)))
 
 pub coords_fit : (in_space : Bool) (n : ℕ) (words : List (List ℕ))
     → is_by_node (is_point in_space) n (coords_by_node in_space n words) ≡ true

@@ -1,6 +1,6 @@
 -- By-node sections. TSPLIB 95 (G. Reinelt): NODE_COORD_SECTION, DISPLAY_DATA_SECTION and DEMAND_SECTION list each node once,
 -- in any order, each with its numbers. This project's profile adds the sections of potentials.
-use Rattle.std.specs.Prelude.{ℕ, ◌*◌, Bool, cond, nat_le, List, [], ◌∷◌, length, map, take, Option, None, Some, ℤ, pos, unwrap_or}
+use Rattle.std.specs.Prelude.{ℕ, ◌+◌, ◌*◌, ◌==◌, Bool, cond, nat_le, List, [], ◌∷◌, ◌++◌, length, map, take, get_or, Option, None, Some, ℤ, pos, unwrap_or}
 use Rattle.std.specs.Ordering.{int_eq}
 use Rattle.tsp_distance.specs.declared.decimal.Point.{Point}
 use Rattle.tsp_distance.specs.Distances.{on_plane}
@@ -10,67 +10,57 @@ use Rattle.tsp_format.specs.Nodes.{nodes_to}
 use Rattle.tsp_text.specs.SectionNumbers.{number, node}
 use Rattle.tsp_text.specs.WordPlaces.{Place, NodeAfter, Coordinate, Amount, PastGroups}
 
--- ---- words in groups of two, of three and of four
+-- ---- words in groups
 
--- the groups that are whole
-abbrev pub pairs_in : {A : Type 0} → List A → List (A × A)
-pairs_in [] = []
-pairs_in (a ∷ []) = []
-pairs_in (a ∷ b ∷ words) = (a, b) ∷ pairs_in words
+-- the whole groups of `size` words each, where `begun` has the words of the one that has begun
+abbrev pub groups_after : {A : Type 0} → ℕ → List A → List A → List (List A)
+groups_after size begun [] = []
+groups_after size begun (word ∷ words) = cond (length begun + 1 == size)
+    ((begun ++ word ∷ []) ∷ groups_after size [] words) (groups_after size (begun ++ word ∷ []) words)
 
-abbrev pub threes_in : {A : Type 0} → List A → List (A × A × A)
-threes_in [] = []
-threes_in (a ∷ []) = []
-threes_in (a ∷ b ∷ []) = []
-threes_in (a ∷ b ∷ c ∷ words) = (a, b, c) ∷ threes_in words
+-- the words of the group that has begun after them
+abbrev pub begun_after : {A : Type 0} → ℕ → List A → List A → List A
+begun_after size begun [] = begun
+begun_after size begun (word ∷ words) = begun_after size (cond (length begun + 1 == size) [] (begun ++ word ∷ [])) words
 
-abbrev pub fours_in : {A : Type 0} → List A → List (A × A × A × A)
-fours_in [] = []
-fours_in (a ∷ []) = []
-fours_in (a ∷ b ∷ []) = []
-fours_in (a ∷ b ∷ c ∷ []) = []
-fours_in (a ∷ b ∷ c ∷ d ∷ words) = (a, b, c, d) ∷ fours_in words
+-- both from the first word on
+abbrev pub groups_in : {A : Type 0} → ℕ → List A → List (List A)
+groups_in size words = groups_after size [] words
 
--- the words of a group that has begun
-abbrev pub begun_pair : {A : Type 0} → List A → List A
-begun_pair [] = []
-begun_pair (a ∷ []) = a ∷ []
-begun_pair (a ∷ b ∷ words) = begun_pair words
+abbrev pub begun_in : {A : Type 0} → ℕ → List A → List A
+begun_in size words = begun_after size [] words
 
-abbrev pub begun_triple : {A : Type 0} → List A → List A
-begun_triple [] = []
-begun_triple (a ∷ []) = a ∷ []
-begun_triple (a ∷ b ∷ []) = a ∷ b ∷ []
-begun_triple (a ∷ b ∷ c ∷ words) = begun_triple words
-
-abbrev pub begun_four : {A : Type 0} → List A → List A
-begun_four [] = []
-begun_four (a ∷ []) = a ∷ []
-begun_four (a ∷ b ∷ []) = a ∷ b ∷ []
-begun_four (a ∷ b ∷ c ∷ []) = a ∷ b ∷ c ∷ []
-begun_four (a ∷ b ∷ c ∷ d ∷ words) = begun_four words
+-- the word at this place of a group, from 0 on
+abbrev pub word_at : List (List ℕ) → ℕ → List ℕ
+word_at group i = get_or group i []
 
 -- ---- groups as numbers: a node with its value
 
--- the n groups of a node and a whole number; words past them are in no group
+-- the n groups of a node and the words of its value; words past them are in no group
+abbrev pub node_groups : {X : Type 0} → ℕ → (List (List ℕ) → X) → ℕ → List (List ℕ) → List (ℤ × X)
+node_groups size value n words =
+    map (λ group. (number (node n (word_at group 0)), value group)) (groups_in size (take (size * n) words))
+
+abbrev pub number_value : ℤ → ℤ → List (List ℕ) → ℤ
+number_value low high group = number (whole_of (word_at group 1) low high)
+
 abbrev pub number_groups : ℤ → ℤ → ℕ → List (List ℕ) → List (ℤ × ℤ)
-number_groups low high n words =
-    map (λ group. (number (node n group.0), number (whole_of group.1 low high))) (pairs_in (take (2 * n) words))
+number_groups low high n words = node_groups 2 (number_value low high) n words
 
-abbrev pub point_in_words : List ℕ → List ℕ → Point
-point_in_words x y = on_plane (number (decimal_of x)) (number (decimal_of y))
+abbrev pub coordinate_at : List (List ℕ) → ℕ → ℤ
+coordinate_at group i = number (decimal_of (word_at group i))
 
--- the n groups of a node and its coordinates
+abbrev pub point_in : List (List ℕ) → Point
+point_in group = on_plane (coordinate_at group 1) (coordinate_at group 2)
+
 abbrev pub point_groups : ℕ → List (List ℕ) → List (ℤ × Point)
-point_groups n words = map (λ group. (number (node n group.0), point_in_words group.1 group.2)) (threes_in (take (3 * n) words))
+point_groups n words = node_groups 3 point_in n words
 
-abbrev pub space_point_of : List ℕ → List ℕ → List ℕ → Point
-space_point_of x y z = record { x = number (decimal_of x); y = number (decimal_of y); z = number (decimal_of z) }
+abbrev pub space_point_in : List (List ℕ) → Point
+space_point_in group = record { x = coordinate_at group 1; y = coordinate_at group 2; z = coordinate_at group 3 }
 
--- the n groups of a node and its three coordinates
 abbrev pub space_point_groups : ℕ → List (List ℕ) → List (ℤ × Point)
-space_point_groups n words =
-    map (λ group. (number (node n group.0), space_point_of group.1 group.2 group.3)) (fours_in (take (4 * n) words))
+space_point_groups n words = node_groups 4 space_point_in n words
 
 -- the value of a node: the entry of its group
 abbrev pub entry_of : {X : Type 0} → List (ℤ × X) → ℤ → Option X
@@ -105,14 +95,16 @@ place_in_group number_place nodes (word ∷ begun) = number_place
 abbrev pub nodes_of_groups : {X : Type 0} → List (ℤ × X) → List ℤ
 nodes_of_groups groups = map (λ group. group.0) groups
 
+-- after these of the n groups, with their words
+abbrev pub place_by_node : {X : Type 0} → ℕ → Place → List (ℤ × X) → ℕ → List (List ℕ) → Place
+place_by_node size number_place groups n words = cond (nat_le (size * n) (length words)) PastGroups
+    (place_in_group number_place (nodes_of_groups groups) (begun_in size words))
+
 abbrev pub place_of_number : ℤ → ℤ → ℕ → List (List ℕ) → Place
-place_of_number low high n words = cond (nat_le (2 * n) (length words)) PastGroups
-    (place_in_group (Amount low high) (nodes_of_groups (number_groups low high n words)) (begun_pair words))
+place_of_number low high n words = place_by_node 2 (Amount low high) (number_groups low high n words) n words
 
 abbrev pub place_of_point : ℕ → List (List ℕ) → Place
-place_of_point n words = cond (nat_le (3 * n) (length words)) PastGroups
-    (place_in_group Coordinate (nodes_of_groups (point_groups n words)) (begun_triple words))
+place_of_point n words = place_by_node 3 Coordinate (point_groups n words) n words
 
 abbrev pub place_of_space_point : ℕ → List (List ℕ) → Place
-place_of_space_point n words = cond (nat_le (4 * n) (length words)) PastGroups
-    (place_in_group Coordinate (nodes_of_groups (space_point_groups n words)) (begun_four words))
+place_of_space_point n words = place_by_node 4 Coordinate (space_point_groups n words) n words

@@ -1,5 +1,6 @@
 -- What the part of the reader that takes a section's words holds of them, section by section, and how it takes the next word.
 use Rattle.std.specs.Prelude.{◌≡◌, ℕ, ◌+◌, ◌*◌, ◌<◌, ◌≤◌, ◌-◌, ℤ, pos, negsuc, Bool, true, false, not, List, [], ◌∷◌, ◌++◌, length, map, slice_index_or, Option, None, Some, is_some, unwrap_or, Result, Ok, Err}
+use Rattle.std.specs.Option.{option_map}
 use Rattle.std.specs.List.{filter, slice_split, list_any}
 use Rattle.tsp_distance.specs.declared.decimal.Point.{Point}
 use Rattle.tsp_number.specs.declared.fault.NumberFault.{NumberFault}
@@ -14,8 +15,8 @@ use Rattle.tsp_section.specs.declared.fault.StepFault.TheVariants as steps
 use Rattle.tsp_text.specs.Lines.{is_not_empty}
 use Rattle.tsp_text.specs.SectionNumbers.{node, node_or_end, is_end}
 use Rattle.tsp_text.specs.WordPlaces.{Place}
-use Rattle.tsp_text.specs.Groups.{pairs_in, threes_in, begun_pair, begun_triple, begun_four, number_groups, point_groups, space_point_groups, entry_of}
-use Rattle.tsp_text.specs.Lists.{depots_in, fixed_in, firsts_in, fixed_triples_in, triple_firsts_in}
+use Rattle.tsp_text.specs.Groups.{groups_in, begun_in, node_groups, number_value, point_in, space_point_in, entry_of}
+use Rattle.tsp_text.specs.Lists.{depots_in, listed_in, firsts_in, fixed_pair, fixed_triple}
 use Rattle.tsp_text.specs.WeightSection.{weights_in}
 use Rattle.tsp_text.specs.TourSection.{ends_tour, tour_node, tours_in}
 use Rattle.tsp_text.specs.FaultRows.{word_fault}
@@ -47,10 +48,12 @@ as_index_or_leaf (Ok (Some k)) = Ok (pos k)
 as_index_or_leaf (Ok None) = Ok (pos 0)
 as_index_or_leaf (Err fault) = Err fault
 
--- the readings of the node of a group or pair that has begun
-abbrev pub readings : Option ℕ → List (Result ℤ NumberFault)
-readings None = []
-readings (Some k) = Ok (pos k) ∷ []
+-- the words of a group that has begun are read as the numbers that are kept, one after the other, and no other number is kept
+abbrev pub AreReadAs : List (List ℕ → Result ℤ NumberFault) → List (Option ℤ) → List (List ℕ) → Type 0
+AreReadAs [] [] [] = Unit {0}
+AreReadAs (read ∷ reads) (None ∷ kept) [] = AreReadAs reads kept []
+AreReadAs (read ∷ reads) (Some z ∷ kept) (word ∷ words) = (read word ≡ Ok z) × AreReadAs reads kept words
+AreReadAs reads kept words = ⊥
 
 abbrev pub IsNodeOf : ℕ → ℕ → Type 0
 IsNodeOf n k = (1 ≤ k) × (k ≤ n)
@@ -78,42 +81,27 @@ IsNewNode seen word (Err row.RepeatedNode) = (k : ℕ) × (node (length seen) wo
     × (slice_index_or seen (k - 1) false ≡ true)
 IsNewNode seen word (Err fault) = ⊥
 
-pub record NumbersHold (seen : List Bool) (entries : List ℤ) (left : ℕ) (begun : Option ℕ) (low high : ℤ) (n : ℕ)
+-- The same against the words of a section: groups of this size, with a node and the words of its value. Of a group that has
+-- begun the node is kept, and what the words after it are read as.
+pub record GroupsHold {X : Type 0} (size : ℕ) (value : List (List ℕ) → X) (missing : X) (reads : List (List ℕ → Result ℤ NumberFault))
+    (seen : List Bool) (entries : List X) (left : ℕ) (begun : Option ℕ) (kept : List (Option ℤ)) (n : ℕ)
     (words : List (List ℕ)) : Type 0 where
-  pub nodes : NodesHold (pos 0) seen entries left begun n (number_groups low high n words)
-  pub cut : 0 < left → map (node n) (begun_pair words) ≡ readings begun
-  pub open_ended : 0 < left → length words < 2 * n
-  pub full : left ≡ 0 → 2 * n ≤ length words
+  pub nodes : NodesHold missing seen entries left begun n (node_groups size value n words)
+  pub cut : 0 < left → AreReadAs (node n ∷ reads) (option_map pos begun ∷ kept) (begun_in size words)
+  pub open_ended : 0 < left → length words < size * n
+  pub full : left ≡ 0 → size * n ≤ length words
 
--- the coordinate of a group that has begun
-abbrev pub BeginsPoint : ℕ → Option ℕ → Option ℤ → List (List ℕ) → Type 0
-BeginsPoint n None x [] = x ≡ None
-BeginsPoint n (Some k) None (word ∷ []) = node n word ≡ Ok (pos k)
-BeginsPoint n (Some k) (Some x) (word ∷ other ∷ []) = (node n word ≡ Ok (pos k)) × (decimal_of other ≡ Ok x)
-BeginsPoint n begun x words = ⊥
+abbrev pub NumbersHold : List Bool → List ℤ → ℕ → Option ℕ → ℤ → ℤ → ℕ → List (List ℕ) → Type 0
+NumbersHold seen entries left begun low high n words =
+    GroupsHold 2 (number_value low high) (pos 0) [] seen entries left begun [] n words
 
-pub record PointsHold (seen : List Bool) (entries : List Point) (left : ℕ) (begun : Option ℕ) (x : Option ℤ) (n : ℕ)
-    (words : List (List ℕ)) : Type 0 where
-  pub nodes : NodesHold origin seen entries left begun n (point_groups n words)
-  pub cut : 0 < left → BeginsPoint n begun x (begun_triple words)
-  pub open_ended : 0 < left → length words < 3 * n
-  pub full : left ≡ 0 → 3 * n ≤ length words
+abbrev pub PointsHold : List Bool → List Point → ℕ → Option ℕ → Option ℤ → ℕ → List (List ℕ) → Type 0
+PointsHold seen entries left begun x n words =
+    GroupsHold 3 point_in origin (decimal_of ∷ []) seen entries left begun (x ∷ []) n words
 
--- the first two coordinates of a group that has begun
-abbrev pub BeginsSpacePoint : ℕ → Option ℕ → Option ℤ → Option ℤ → List (List ℕ) → Type 0
-BeginsSpacePoint n None x y [] = (x ≡ None) × (y ≡ None)
-BeginsSpacePoint n (Some k) None None (word ∷ []) = node n word ≡ Ok (pos k)
-BeginsSpacePoint n (Some k) (Some x) None (word ∷ first ∷ []) = (node n word ≡ Ok (pos k)) × (decimal_of first ≡ Ok x)
-BeginsSpacePoint n (Some k) (Some x) (Some y) (word ∷ first ∷ second ∷ []) =
-    (node n word ≡ Ok (pos k)) × (decimal_of first ≡ Ok x) × (decimal_of second ≡ Ok y)
-BeginsSpacePoint n begun x y words = ⊥
-
-pub record SpacePointsHold (seen : List Bool) (entries : List Point) (left : ℕ) (begun : Option ℕ) (x y : Option ℤ) (n : ℕ)
-    (words : List (List ℕ)) : Type 0 where
-  pub nodes : NodesHold origin seen entries left begun n (space_point_groups n words)
-  pub cut : 0 < left → BeginsSpacePoint n begun x y (begun_four words)
-  pub open_ended : 0 < left → length words < 4 * n
-  pub full : left ≡ 0 → 4 * n ≤ length words
+abbrev pub SpacePointsHold : List Bool → List Point → ℕ → Option ℕ → Option ℤ → Option ℤ → ℕ → List (List ℕ) → Type 0
+SpacePointsHold seen entries left begun x y n words =
+    GroupsHold 4 space_point_in origin (decimal_of ∷ decimal_of ∷ []) seen entries left begun (x ∷ y ∷ []) n words
 
 -- groups of points in space, or of points of the plane, which have no third coordinate
 abbrev pub CoordsHold : Bool → List Bool → List Point → ℕ → Option ℕ → Option ℤ → Option ℤ → ℕ → List (List ℕ) → Type 0
@@ -132,27 +120,22 @@ pub record DepotsHold (depots : List ℕ) (ended : Bool) (n : ℕ) (words : List
   pub closed : ended ≡ list_any (is_end n) words
   pub count : ended ≡ false → length depots ≡ length words
 
-pub record PairsHold (pairs : List (ℕ × ℕ)) (first : Option ℕ) (ended : Bool) (n : ℕ) (words : List (List ℕ)) : Type 0 where
-  pub list : pairs ≡ fixed_in n words
-  pub closed : ended ≡ list_any (is_end n) (firsts_in words)
-  pub cut : ended ≡ false → map (node_or_end n) (begun_pair words) ≡ readings first
-  pub count : ended ≡ false → length pairs ≡ length (pairs_in words)
+-- What was read of groups of this size, against the words of their section, up to a first word that means -1. Of a group that
+-- has begun its first node is kept, and what the words after it are read as.
+pub record ListHolds {X : Type 0} (size : ℕ) (value : List (List ℕ) → X) (reads : List (List ℕ → Result ℤ NumberFault))
+    (groups : List X) (first : Option ℕ) (kept : List (Option ℤ)) (ended : Bool) (n : ℕ) (words : List (List ℕ)) : Type 0 where
+  pub list : groups ≡ map value (listed_in size n words)
+  pub closed : ended ≡ list_any (is_end n) (firsts_in size words)
+  pub cut : ended ≡ false → AreReadAs (node_or_end n ∷ reads) (option_map pos first ∷ kept) (begun_in size words)
+  pub count : ended ≡ false → length groups ≡ length (groups_in size words)
   pub whole : ended ≡ true → first ≡ None
 
--- the nodes of a triple that has begun
-abbrev pub BeginsTriple : ℕ → Option ℕ → Option ℕ → List (List ℕ) → Type 0
-BeginsTriple n None second [] = second ≡ None
-BeginsTriple n (Some i) None (word ∷ []) = node_or_end n word ≡ Ok (pos i)
-BeginsTriple n (Some i) (Some j) (word ∷ other ∷ []) = (node_or_end n word ≡ Ok (pos i)) × (node n other ≡ Ok (pos j))
-BeginsTriple n first second words = ⊥
+abbrev pub PairsHold : List (ℕ × ℕ) → Option ℕ → Bool → ℕ → List (List ℕ) → Type 0
+PairsHold pairs first ended n words = ListHolds 2 (fixed_pair n) [] pairs first [] ended n words
 
-pub record TriplesHold (triples : List (ℕ × ℕ × ℤ)) (first second : Option ℕ) (ended : Bool) (n : ℕ)
-    (words : List (List ℕ)) : Type 0 where
-  pub list : triples ≡ fixed_triples_in n words
-  pub closed : ended ≡ list_any (is_end n) (triple_firsts_in words)
-  pub cut : ended ≡ false → BeginsTriple n first second (begun_triple words)
-  pub count : ended ≡ false → length triples ≡ length (threes_in words)
-  pub whole : ended ≡ true → first ≡ None
+abbrev pub TriplesHold : List (ℕ × ℕ × ℤ) → Option ℕ → Option ℕ → Bool → ℕ → List (List ℕ) → Type 0
+TriplesHold triples first second ended n words =
+    ListHolds 3 (fixed_triple n) (node n ∷ []) triples first (option_map pos second ∷ []) ended n words
 
 -- ---- weights
 

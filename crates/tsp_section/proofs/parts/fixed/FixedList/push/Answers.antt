@@ -1,13 +1,13 @@
 -- The goals of `FixedList::push` in src/parts/fixed.rt: what it ensures.
 use Rattle.std.proofs.Common.{◌∙◌, sym}
-use Rattle.tsp_section.proofs.FixedSteps.{pair_past_end}
+use Rattle.tsp_section.proofs.ListSteps.{past_end}
+use Rattle.tsp_section.proofs.FixedSteps.{pair_places}
 use Rattle.tsp_section.proofs.parts.fixed.FixedList.push.Goals as goal
 
--- plan: past the end a -1 is left out (`pair_past_end`); else it is the first or the second word of a pair
+-- plan: past the end a -1 is left out (`past_end`); else it is the first or the second word of a pair
 pub returns-then-is_minus_one-clause-takes : goal.returns-then-is_minus_one-clause-takes
 returns-then-is_minus_one-clause-takes c = λ n words h.
-    let s = c.args.self.now in
-    let next = pair_past_end s.pairs.items s.first s.ended n words c.args.word.now c.if-self.true (sym c.is_minus_one.ensures ∙ c.if-is_minus_one.true) h.read in
+    let next = past_end (pair_places n) h.read c.args.word.now c.if-self.true (sym c.is_minus_one.ensures ∙ c.if-is_minus_one.true) in
     (next.0, record { nodes = h.nodes; read = next.1 })
 
 pub returns-in-None-clause-takes : goal.returns-in-None-clause-takes

@@ -7,4 +7,4 @@ use Rattle.tsp_section.proofs.parts.points.PointList.finish.Goals as goal
 pub returns : goal.returns
 returns c = λ in_space n words h.
     let s = c.args.self in
-    all_taken in_space s.seen.items (points_of s.entries) s.left s.begun s.x s.y n words h.read
+    all_taken s.seen.items (points_of s.entries) s.left s.begun s.x s.y n words in_space h.read

@@ -11,5 +11,5 @@ returns-in-Some-clause-taken c = λ taken in_space n words word whole h.
     let s = c.args.self.now in
     let fits : FitsSigned w64 c.args.number = search rules in
     let new = rw c.as_slice.ensures.value at (c.in-Some.ensures.new word (rw (to_z-of_z w64 c.args.number fits) whole)) in
-    let next = node_taken in_space s.seen.items (points_of s.entries) s.left s.begun s.x s.y n words word c.in-Some.node (omega arith) c.in-None.is new h.read in
+    let next = node_taken s.seen.items (points_of s.entries) s.left s.begun s.x s.y n words in_space h.read word c.in-Some.node (omega arith) c.in-None.is new in
     (next.0, record { kind = h.kind; read = next.1 })

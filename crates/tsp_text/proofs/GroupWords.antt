@@ -1,0 +1,198 @@
+-- Words in groups: one word more. For `NumberList::push` in src/parts/numbers.rt of tsp_section and others.
+use Rattle.std.proofs.Common.{◌≡◌, ℕ, suc, ◌+◌, ◌*◌, ◌<◌, ◌≤◌, Bool, true, false, cond, ◌||◌, List, [], ◌∷◌, ◌++◌, length, map, refl, sym, ap, ◌∙◌, append_assoc, append-nil, arith}
+use Rattle.std.specs.Prelude.{◌==◌, ℤ, take}
+use Rattle.std.specs.List.{list_any}
+use Rattle.std.proofs.lemmas.Bool.{eqb-true, eqb-false}
+use Rattle.std.proofs.lemmas.List.{length_push, map_push, take_all}
+use Rattle.std.proofs.lemmas.List.Folds.{list_any-append}
+use Rattle.tsp_text.specs.SectionNumbers.{number, node}
+use Rattle.tsp_text.specs.Groups.{groups_after, begun_after, groups_in, begun_in, word_at, node_groups, nodes_of_groups}
+use Rattle.tsp_text.specs.Lists.{before, firsts_in}
+use Rattle.tsp_text.proofs.Ended.{any_kept, before_kept, before_none, before_end}
+
+abbrev pub Words : Type 0
+Words = List (List ℕ)
+
+-- ---- from words that have begun a group on
+
+-- the group that a word ends, if it ends one, and the words that have begun one then
+abbrev ended_by : {A : Type 0} → ℕ → List A → A → List (List A)
+ended_by size begun word = cond (length begun + 1 == size) ((begun ++ word ∷ []) ∷ []) []
+
+abbrev begun_with : {A : Type 0} → ℕ → List A → A → List A
+begun_with size begun word = cond (length begun + 1 == size) [] (begun ++ word ∷ [])
+
+first_word : {A : Type 0} (size : ℕ) (begun : List A) (x : A) (xs : List A)
+    → groups_after size begun (x ∷ xs) ≡ ended_by size begun x ++ groups_after size (begun_with size begun x) xs
+first_word {A} size begun x xs = by_case (length begun + 1 == size)
+  where
+    by_case : (ends : Bool) → cond ends ((begun ++ x ∷ []) ∷ groups_after size [] xs) (groups_after size (begun ++ x ∷ []) xs)
+        ≡ cond ends ((begun ++ x ∷ []) ∷ []) [] ++ groups_after size (cond ends [] (begun ++ x ∷ [])) xs
+    by_case true = refl
+    by_case false = refl
+
+append_after : {A : Type 0} (size : ℕ) (begun xs ys : List A)
+    → groups_after size begun (xs ++ ys) ≡ groups_after size begun xs ++ groups_after size (begun_after size begun xs) ys
+append_after size begun [] ys = refl
+append_after {A} size begun (x ∷ xs) ys =
+    let next = begun_with size begun x in
+    first_word size begun x (xs ++ ys) ∙ ap (λ (gs : List (List A)). ended_by size begun x ++ gs) (append_after size next xs ys)
+    ∙ sym (append_assoc (ended_by size begun x) (groups_after size next xs) (groups_after size (begun_after size next xs) ys))
+    ∙ ap (λ (gs : List (List A)). gs ++ groups_after size (begun_after size next xs) ys) (sym (first_word size begun x xs))
+
+begun_both : {A : Type 0} (size : ℕ) (begun xs ys : List A) → begun_after size begun (xs ++ ys) ≡ begun_after size (begun_after size begun xs) ys
+begun_both size begun [] ys = refl
+begun_both size begun (x ∷ xs) ys = begun_both size (begun_with size begun x) xs ys
+
+groups_push : {A : Type 0} (size : ℕ) (begun xs : List A) (x : A)
+    → groups_after size begun (xs ++ x ∷ []) ≡ groups_after size begun xs ++ ended_by size (begun_after size begun xs) x
+groups_push {A} size begun xs x =
+    append_after size begun xs (x ∷ []) ∙ ap (λ (gs : List (List A)). groups_after size begun xs ++ gs) (first_word size (begun_after size begun xs) x [] ∙ append-nil (ended_by size (begun_after size begun xs) x))
+
+count_after : {A : Type 0} (size : ℕ) (begun xs : List A)
+    → length begun + length xs ≡ size * length (groups_after size begun xs) + length (begun_after size begun xs)
+count_after size begun [] = omega arith
+count_after {A} size begun (x ∷ xs) = by_case (length begun + 1 == size) refl (count_after size [] xs) (count_after size (begun ++ x ∷ []) xs)
+  where
+    by_case : (ends : Bool) → (length begun + 1 == size) ≡ ends
+        → 0 + length xs ≡ size * length (groups_after size [] xs) + length (begun_after size [] xs)
+        → length (begun ++ x ∷ []) + length xs ≡ size * length (groups_after size (begun ++ x ∷ []) xs) + length (begun_after size (begun ++ x ∷ []) xs)
+        → length begun + suc (length xs) ≡ size * length (cond ends ((begun ++ x ∷ []) ∷ groups_after size [] xs) (groups_after size (begun ++ x ∷ []) xs))
+        + length (begun_after size (cond ends [] (begun ++ x ∷ [])) xs)
+    by_case true is ended on = omega (arith, eqb-true (length begun + 1) size is, ended)
+    by_case false is ended on = omega (arith, length_push begun x, on)
+
+short_after : {A : Type 0} (size : ℕ) (begun xs : List A) → length begun < size → length (begun_after size begun xs) < size
+short_after size begun [] short = short
+short_after {A} size begun (x ∷ xs) short = by_case (length begun + 1 == size) refl (short_after size [] xs) (short_after size (begun ++ x ∷ []) xs)
+  where
+    by_case : (ends : Bool) → (length begun + 1 == size) ≡ ends → (0 < size → length (begun_after size [] xs) < size)
+        → (length (begun ++ x ∷ []) < size → length (begun_after size (begun ++ x ∷ []) xs) < size)
+        → length (begun_after size (cond ends [] (begun ++ x ∷ [])) xs) < size
+    by_case true is ended on = ended (omega (arith, short))
+    by_case false is ended on = on (omega (arith, length_push begun x, short, eqb-false (length begun + 1) size is))
+
+-- ---- from the first word on
+
+-- how many words there are
+pub length_groups : {A : Type 0} (size : ℕ) (xs : List A) → length xs ≡ size * length (groups_in size xs) + length (begun_in size xs)
+length_groups size xs = omega (arith, count_after size [] xs)
+
+pub begun_short : {A : Type 0} (size : ℕ) (xs : List A) → 0 < size → length (begun_in size xs) < size
+begun_short size xs some = short_after size [] xs some
+
+-- a word that doesn't end its group
+pub goes_on : {A : Type 0} (size : ℕ) (xs begun : List A) (x : A) → begun_in size xs ≡ begun → (length begun + 1 == size) ≡ false
+    → (groups_in size (xs ++ x ∷ []) ≡ groups_in size xs) × (begun_in size (xs ++ x ∷ []) ≡ begun ++ x ∷ [])
+goes_on {A} size xs begun x is on = (
+  groups_push size [] xs x ∙ ap (λ (b : List A). groups_in size xs ++ ended_by size b x) is
+      ∙ ap (λ ends. groups_in size xs ++ cond ends ((begun ++ x ∷ []) ∷ []) []) on ∙ append-nil (groups_in size xs),
+  begun_both size [] xs (x ∷ []) ∙ ap (λ (b : List A). begun_with size b x) is ∙ ap (λ ends. cond ends [] (begun ++ x ∷ [])) on,
+)
+
+-- a word that ends it
+pub group_ends : {A : Type 0} (size : ℕ) (xs begun : List A) (x : A) → begun_in size xs ≡ begun → (length begun + 1 == size) ≡ true
+    → (groups_in size (xs ++ x ∷ []) ≡ groups_in size xs ++ (begun ++ x ∷ []) ∷ []) × (begun_in size (xs ++ x ∷ []) ≡ [])
+group_ends {A} size xs begun x is ends = (
+  groups_push size [] xs x ∙ ap (λ (b : List A). groups_in size xs ++ ended_by size b x) is
+      ∙ ap (λ t. groups_in size xs ++ cond t ((begun ++ x ∷ []) ∷ []) []) ends,
+  begun_both size [] xs (x ∷ []) ∙ ap (λ (b : List A). begun_with size b x) is ∙ ap (λ t. cond t [] (begun ++ x ∷ [])) ends,
+)
+
+-- words after whole groups
+pub groups_append : {A : Type 0} (size : ℕ) (xs ys : List A) → begun_in size xs ≡ [] → groups_in size (xs ++ ys) ≡ groups_in size xs ++ groups_in size ys
+groups_append {A} size xs ys is = append_after size [] xs ys ∙ ap (λ (b : List A). groups_in size xs ++ groups_after size b ys) is
+
+pub begun_append : {A : Type 0} (size : ℕ) (xs ys : List A) → begun_in size xs ≡ [] → begun_in size (xs ++ ys) ≡ begun_in size ys
+begun_append {A} size xs ys is = begun_both size [] xs ys ∙ ap (λ (b : List A). begun_after size b ys) is
+
+-- ---- the first words of groups
+
+abbrev pub first_of : Words → List ℕ
+first_of group = word_at group 0
+
+-- a first word more, or another word
+pub firsts_begin : (size : ℕ) (xs : Words) (x : List ℕ) → begun_in size xs ≡ [] → firsts_in size (xs ++ x ∷ []) ≡ firsts_in size xs ++ x ∷ []
+firsts_begin size xs x is =
+    ap (λ (gs : List Words). map first_of gs ++ take 1 (begun_in size (xs ++ x ∷ []))) (groups_push size [] xs x ∙ ap (λ (b : Words). groups_in size xs ++ ended_by size b x) is)
+    ∙ ap (λ (b : Words). map first_of (groups_in size xs ++ ended_by size [] x) ++ take 1 b) (begun_both size [] xs (x ∷ []) ∙ ap (λ (b : Words). begun_with size b x) is)
+    ∙ by_case (1 == size) ∙ ap (λ (b : Words). (map first_of (groups_in size xs) ++ take 1 b) ++ x ∷ []) (sym is)
+  where
+    by_case : (ends : Bool) → map first_of (groups_in size xs ++ cond ends ((x ∷ []) ∷ []) []) ++ take 1 (cond ends [] (x ∷ [])) ≡ (map first_of (groups_in size xs) ++ []) ++ x ∷ []
+    by_case true = ap (λ (ws : Words). ws ++ []) (map_push first_of (groups_in size xs) (x ∷ [])) ∙ append-nil (map first_of (groups_in size xs) ++ x ∷ [])
+        ∙ ap (λ (ws : Words). ws ++ x ∷ []) (sym (append-nil (map first_of (groups_in size xs))))
+    by_case false = ap (λ (gs : List Words). map first_of gs ++ x ∷ []) (append-nil (groups_in size xs)) ∙ ap (λ (ws : Words). ws ++ x ∷ []) (sym (append-nil (map first_of (groups_in size xs))))
+
+pub firsts_on : (size : ℕ) (xs : Words) (first : List ℕ) (rest : Words) (x : List ℕ) → begun_in size xs ≡ first ∷ rest
+    → firsts_in size (xs ++ x ∷ []) ≡ firsts_in size xs
+firsts_on size xs first rest x is =
+    ap (λ (gs : List Words). map first_of gs ++ take 1 (begun_in size (xs ++ x ∷ []))) (groups_push size [] xs x ∙ ap (λ (b : Words). groups_in size xs ++ ended_by size b x) is)
+    ∙ ap (λ (b : Words). map first_of (groups_in size xs ++ ended_by size (first ∷ rest) x) ++ take 1 b) (begun_both size [] xs (x ∷ []) ∙ ap (λ (b : Words). begun_with size b x) is)
+    ∙ by_case (length (first ∷ rest) + 1 == size) ∙ ap (λ (b : Words). map first_of (groups_in size xs) ++ take 1 b) (sym is)
+  where
+    by_case : (ends : Bool) → map first_of (groups_in size xs ++ cond ends ((first ∷ (rest ++ x ∷ [])) ∷ []) []) ++ take 1 (cond ends [] (first ∷ (rest ++ x ∷ []))) ≡ map first_of (groups_in size xs) ++ first ∷ []
+    by_case true = ap (λ (ws : Words). ws ++ []) (map_push first_of (groups_in size xs) (first ∷ (rest ++ x ∷ []))) ∙ append-nil (map first_of (groups_in size xs) ++ first ∷ [])
+    by_case false = ap (λ (gs : List Words). map first_of gs ++ first ∷ []) (append-nil (groups_in size xs))
+
+-- ---- a first word that ends the list
+
+any_first : (p : List ℕ → Bool) (groups : List Words) → list_any p (map first_of groups) ≡ list_any (λ group. p (first_of group)) groups
+any_first p [] = refl
+any_first p (group ∷ groups) = ap (λ any. p (first_of group) || any) (any_first p groups)
+
+pub firsts_kept : (p : List ℕ → Bool) (size : ℕ) (xs : Words) (x : List ℕ) → list_any p (firsts_in size xs) ≡ true
+    → list_any p (firsts_in size (xs ++ x ∷ [])) ≡ true
+firsts_kept p size xs x any = by_begun (begun_in size xs) refl
+  where
+    by_begun : (begun : Words) → begun_in size xs ≡ begun → list_any p (firsts_in size (xs ++ x ∷ [])) ≡ true
+    by_begun [] is = ap (list_any p) (firsts_begin size xs x is) ∙ any_kept p (firsts_in size xs) x any
+    by_begun (first ∷ rest) is = ap (list_any p) (firsts_on size xs first rest x is) ∙ any
+
+-- past it no group counts
+pub groups_kept : (p : List ℕ → Bool) (size : ℕ) (xs : Words) (x : List ℕ) → list_any p (firsts_in size xs) ≡ true
+    → before (λ group. p (word_at group 0)) (groups_in size (xs ++ x ∷ [])) ≡ before (λ group. p (word_at group 0)) (groups_in size xs)
+groups_kept p size xs x any =
+    ap (before q) (groups_push size [] xs x) ∙ by_ends (length (begun_in size xs) + 1 == size) (list_any q groups) refl
+    (begun_in size xs) (ap (λ some. some || list_any p (take 1 (begun_in size xs))) (sym (any_first p groups)) ∙ sym (list_any-append p (map first_of groups) (take 1 (begun_in size xs))) ∙ any)
+  where
+    q : Words → Bool
+    q group = p (word_at group 0)
+
+    groups : List Words
+    groups = groups_in size xs
+
+    or_none : (b : Bool) → (b || false) ≡ true → b ≡ true
+    or_none true e = refl
+    or_none false e = e
+
+    by_ends : (ends some : Bool) → list_any q groups ≡ some → (begun : Words) → (some || list_any p (take 1 begun)) ≡ true
+        → before q (groups ++ cond ends ((begun ++ x ∷ []) ∷ []) []) ≡ before q groups
+    by_ends false some is begun one = ap (before q) (append-nil groups)
+    by_ends true true is begun one = before_kept q groups (begun ++ x ∷ []) is
+    by_ends true false is [] one = cc
+    by_ends true false is (first ∷ rest) one = before_end q groups (first ∷ (rest ++ x ∷ [])) (or_none (p first) one) is ∙ sym (before_none q groups is)
+
+-- without one all groups count
+pub groups_none : (p : List ℕ → Bool) (size : ℕ) (xs : Words) → list_any p (firsts_in size xs) ≡ false
+    → before (λ group. p (word_at group 0)) (groups_in size xs) ≡ groups_in size xs
+groups_none p size xs any =
+    before_none (λ group. p (word_at group 0)) (groups_in size xs) (first_none (list_any (λ group. p (word_at group 0)) (groups_in size xs)) (list_any p (take 1 (begun_in size xs)))
+    (ap (λ some. some || list_any p (take 1 (begun_in size xs))) (sym (any_first p (groups_in size xs))) ∙ sym (list_any-append p (map first_of (groups_in size xs)) (take 1 (begun_in size xs))) ∙ any))
+  where
+    first_none : (a b : Bool) → (a || b) ≡ false → a ≡ false
+    first_none true b e = e
+    first_none false b e = refl
+
+-- ---- sections by node
+
+-- the groups, where no words come past them
+pub all_groups : {X : Type 0} (size : ℕ) (value : Words → X) (n : ℕ) (words : Words) → length words ≤ size * n
+    → node_groups size value n words ≡ map (λ group. (number (node n (word_at group 0)), value group)) (groups_in size words)
+all_groups size value n words few =
+    ap (λ (ws : Words). map (λ group. (number (node n (word_at group 0)), value group)) (groups_in size ws)) (take_all (size * n) words few)
+
+-- their nodes
+pub nodes_read : {X : Type 0} (value : Words → X) (n : ℕ) (groups : List Words)
+    → nodes_of_groups (map (λ group. (number (node n (word_at group 0)), value group)) groups) ≡ map (λ group. number (node n (word_at group 0))) groups
+nodes_read value n [] = refl
+nodes_read value n (group ∷ groups) = ap (λ (nodes : List ℤ). number (node n (word_at group 0)) ∷ nodes) (nodes_read value n groups)
