@@ -1,7 +1,6 @@
 -- The files of lemmas of this crate. Crates above may import them.
 pub mod Ended
 pub mod GroupWords
-pub mod SameGroups
 pub mod NoBlanks
 pub mod Clean
 pub mod ItemRows
