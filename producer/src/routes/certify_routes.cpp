@@ -38,6 +38,7 @@ int certify_routes(const Options& options, const std::string& tsp, std::unique_p
   });
   begin.routes = std::move(found.best);
   begin.met = std::move(found.met);
+  begin.named = given.has_value();
   RouteSearch search(instance, loads, begin, clock, progress,
                      {options.window, options.split, options.limits});
   search.run();

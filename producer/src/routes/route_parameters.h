@@ -76,7 +76,8 @@ inline constexpr SetBranchingParameters kSetBranching{};
 // The tree.
 struct RouteTreeParameters {
   double part_of_time = 0.96;
-  std::size_t walks = 600;      // that a case leaves to those below
+  double large_gap = 0.01, part_of_second_search = 0.1;  // of the length, of the time
+  std::size_t walks = 600;                               // that a case leaves to those below
   Weight most_loads = 1500000;  // in cells: the table of more takes long, and too much memory by each thread
 };
 inline constexpr RouteTreeParameters kRouteTree{};

@@ -6,6 +6,7 @@
 #include <utility>
 
 #include "routes/route_parameters.h"
+#include "routes/string_removals.h"
 #include "tree/tree_steps.h"
 
 namespace certify::routes {
@@ -169,6 +170,23 @@ void RouteSearch::solve_first() {
   };
   RouteOutcome outcome = own_solver().solve(first, note);
   take(0, outcome);
+  look_again();
+}
+
+// Looks for a plan once more where the whole problem has a large gap, unless a plan was named.
+void RouteSearch::look_again() {
+  const Weight gap = goal_.length - least_bound();
+  const double large = kRouteTree.large_gap * static_cast<double>(std::abs(goal_.length));
+  if (begin_.named || begin_.tree || static_cast<double>(gap) <= large) return;
+  const double begun = clock_.used();
+  const FoundRoutes found = find_routes(instance_, std::nullopt, begin_.seed + 1, [&] {
+    const bool late = clock_.over(kRouteTree.part_of_time);
+    return late ? 1.0 : (clock_.used() - begun) / kRouteTree.part_of_second_search;
+  });
+  const Weight length = length_of(instance_, found.best);
+  if (length >= goal_.length) return;
+  goal_ = {found.best, length, std::min(goal_.target, length)};
+  log("tour", least_bound());
 }
 
 // Sets that a file has to have are named. Where it can't have all, the numbers lose those that aren't named

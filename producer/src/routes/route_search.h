@@ -20,6 +20,7 @@ namespace certify::routes {
 struct RouteBegin {
   Routes routes;
   std::vector<Route> met{};  // routes that join the first linear program
+  bool named = false;        // the plan is one that was named
   std::optional<Weight> upper{};
   std::uint64_t seed = 1;
   std::optional<Certificate> tree{};  // that is gone on with
@@ -72,6 +73,7 @@ class RouteSearch {
   void take_step(const Certificate& tree, const TreeStep& step, std::vector<Origin>& rest);
   RouteCase case_of(int place);
   void solve_first();
+  void look_again();
   bool begin(Job& job);
   void solve(Window::Slot& slot);
   void take(Job& job);
