@@ -39,6 +39,8 @@ pub(crate) enum Form {
     RTour,
     /// Routes of OR-Tools.
     OrTools,
+    /// Routes of LKH-3.
+    LkhRoutes,
     /// Routes of CVRPLIB.
     Routes,
 }
@@ -70,6 +72,8 @@ fn form_of_words(look: &Look, line: u32) -> Option<Form> {
         Some(Form::OrTools)
     } else if text.starts_with(b"Route") || text.starts_with(b"Cost") {
         Some(Form::Routes)
+    } else if line == 1 && has_part(text, b", Cost:") {
+        Some(Form::LkhRoutes)
     } else if line == 1 && has_mark(text) {
         Some(Form::Csv)
     } else {
@@ -83,8 +87,11 @@ fn form_of_numbers(look: &Look, given: Option<Role>, line: u32) -> Option<Form> 
         return Some(Form::LkhPotentials);
     }
     let word = look.excerpt.marked();
-    if word.starts_with(b"->") || look.excerpt.after().starts_with(b" ->") {
+    if word.starts_with(b"->") || (is_number(word) && look.has_arrow) {
         return Some(Form::OrTools);
+    }
+    if is_number(word) && look.has_count {
+        return Some(Form::LkhRoutes);
     }
     if word.starts_with(b"#") {
         return Some(Form::Hash);
@@ -92,6 +99,11 @@ fn form_of_numbers(look: &Look, given: Option<Role>, line: u32) -> Option<Form> 
     if line > 1 {
         return None;
     }
+    form_of_first_line(look, given, word)
+}
+
+/// The form of a file whose first line has a number, or a sign.
+fn form_of_first_line(look: &Look, given: Option<Role>, word: &[u8]) -> Option<Form> {
     match form_of_sign(word) {
         Some(form) => Some(form),
         None if has_mark(word) && given != Some(Role::Solution) => Some(Form::Csv),
@@ -156,6 +168,16 @@ fn words_in(text: &[u8]) -> u32 {
     count
 }
 
+/// Whether a text has these bytes, one after the other.
+fn has_part(text: &[u8], part: &[u8]) -> bool {
+    'bytes: for index in 0..text.len() {
+        if text[index..].starts_with(part) {
+            return true;
+        }
+    }
+    false
+}
+
 /// Whether a text has a comma or a semicolon.
 fn has_mark(text: &[u8]) -> bool {
     'bytes: for byte in text {
@@ -206,6 +228,7 @@ fn push_command<'a>(
     let (program, rest) = match form {
         Form::JsonList | Form::Json => ("  jq -r -f ", " | tsp check INSTANCE -"),
         Form::LkhPotentials => ("  awk -f ", " > NEW.potentials"),
+        Form::LkhRoutes => ("  awk -v dimension=N -f ", " | tsp check INSTANCE -"),
         _ => ("  awk -f ", " | tsp check INSTANCE -"),
     };
     push_line(
@@ -251,6 +274,8 @@ fn looks_like(form: Form) -> &'static str {
         Form::RTour => "This looks like a tour that R printed.",
         Form::OrTools =>
             "This looks like routes of OR-Tools, whose nodes count from 0. Here they count from 1.",
+        Form::LkhRoutes =>
+            "This looks like routes of LKH-3. Its recipe asks for the instance's DIMENSION, here N.",
         Form::Routes => {
             "This looks like routes of CVRPLIB (.sol), which leave the depot out and count customers from 1."
         }
@@ -269,6 +294,7 @@ fn recipe(form: Form, given: Option<Role>) -> Option<&'static str> {
         (Some(Role::Solution) | None, Form::RTour) => Some("r-tour.awk"),
         (Some(Role::Solution) | None, Form::Routes) => Some("cvrplib-sol.awk"),
         (Some(Role::Solution) | None, Form::OrTools) => Some("ortools-routes.awk"),
+        (Some(Role::Solution) | None, Form::LkhRoutes) => Some("lkh-routes.awk"),
         _ => None,
     }
 }

@@ -62,6 +62,10 @@ pub(crate) struct Look {
     pub(crate) shift: Option<Shift>,
     /// How many words the line after the one that was looked for has, as far as they are counted.
     pub(crate) next_words: u32,
+    /// Whether the line that was looked for has `->`, as a route of OR-Tools.
+    pub(crate) has_arrow: bool,
+    /// Whether that line has `(#`, as a route of LKH-3.
+    pub(crate) has_count: bool,
     /// The value of DIMENSION, where such a line was seen.
     pub(crate) dimension: Option<i64>,
     /// Whether a line says that each node has three coordinates.
@@ -129,6 +133,8 @@ impl Look {
             groups: Groups::none(),
             shift: None,
             next_words: 0,
+            has_arrow: false,
+            has_count: false,
             dimension: None,
             is_spatial: false,
             words: 0,
@@ -156,6 +162,7 @@ impl Look {
         let _ = self.head.try_push(byte);
         self.has_returns = self.has_returns || (self.last == 13 && byte != b'\n' && byte != 13);
         self.has_controls = self.has_controls || is_control(byte);
+        let before = self.last;
         self.last = byte;
         if byte == b'\n' {
             self.end_line();
@@ -168,6 +175,8 @@ impl Look {
             && line == self.line.number
         {
             self.excerpt.take(byte, self.line.is_in(word));
+            self.has_arrow = self.has_arrow || (before == b'-' && byte == b'>');
+            self.has_count = self.has_count || (before == b'(' && byte == b'#');
         }
         if self.is_past() && (self.line.words >= MOST_NEXT_WORDS || self.line.front.is_full()) {
             self.end_line();
