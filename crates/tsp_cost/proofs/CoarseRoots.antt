@@ -4,7 +4,7 @@ use Rattle.std.specs.Prelude.{IfSome}
 use Rattle.std.proofs.lemmas.Int.{to_z-of_z, unsigned_abs-mul}
 use Rattle.tsp_distance.specs.declared.decimal.Point.{Point}
 use Rattle.tsp_distance.specs.Decimal.{unit}
-use Rattle.tsp_distance.specs.Distances.{squared, across, along, square_apart, euc_2d_of, IsEuc2d, IsNearestRoot, IsDistance}
+use Rattle.tsp_distance.specs.Distances.{squared, dx, dy, square_apart, euc_2d_of, IsEuc2d, IsNearestRoot, IsDistance}
 use Rattle.tsp_cost.specs.states.Coarse.{RoundsTo}
 
 -- the sum of both squares, in counts of 10^-9
@@ -39,8 +39,8 @@ pub coarse_is : IsDistance IsEuc2d euc_2d_of → (a b : Point) (w h : ℤ) (root
     → IfSome root (λ k. k ≡ euc_2d_of a b)
 coarse_is law a b w h None wide high is = tt
 coarse_is law a b w h (Some k) wide high is =
-    let first : across a b ≡ unsigned_abs w * 1953125 = ap unsigned_abs (sym wide.0) ∙ unsigned_abs-mul w (pos 1953125) in
-    let second : along a b ≡ unsigned_abs h * 1953125 = ap unsigned_abs (sym high.0) ∙ unsigned_abs-mul h (pos 1953125) in
+    let first : dx a b ≡ unsigned_abs w * 1953125 = ap unsigned_abs (sym wide.0) ∙ unsigned_abs-mul w (pos 1953125) in
+    let second : dy a b ≡ unsigned_abs h * 1953125 = ap unsigned_abs (sym high.0) ∙ unsigned_abs-mul h (pos 1953125) in
     let apart : square_apart a b ≡ (squared (unsigned_abs w) + squared (unsigned_abs h)) * 3814697265625 =
     rw (first, second) (square_is (unsigned_abs w) (unsigned_abs h)) in
     let rounds : RoundsTo (squared (unsigned_abs w) + squared (unsigned_abs h)) k =

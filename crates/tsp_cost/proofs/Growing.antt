@@ -4,7 +4,7 @@ use Rattle.std.specs.Prelude.{pos, IsTrue}
 use Rattle.std.specs.Bool.{OnTrue}
 use Rattle.std.proofs.lemmas.Int.{ints}
 use Rattle.tsp_distance.specs.declared.decimal.Point.{Point}
-use Rattle.tsp_distance.specs.Distances.{across, along, above, euc_2d_of, ceil_2d_of, man_2d_of, max_2d_of, att_of, euc_3d_of, man_3d_of, max_3d_of}
+use Rattle.tsp_distance.specs.Distances.{dx, dy, dz, euc_2d_of, ceil_2d_of, man_2d_of, max_2d_of, att_of, euc_3d_of, man_3d_of, max_3d_of}
 use Rattle.tsp_distance.specs.Monotone.{IsMonotone}
 use Rattle.tsp_format.specs.declared.kinds.WeightKind.{WeightKind}
 use Rattle.tsp_format.specs.declared.kinds.WeightKind.TheVariants.{Explicit, Euc2d, Euc3d, Ceil2d, Man2d, Man3d, Max2d, Max3d, Att}
@@ -16,7 +16,7 @@ whole-le m n le = omega (arith, ints, le)
 pub distance_grows : IsMonotone euc_2d_of → IsMonotone ceil_2d_of → IsMonotone man_2d_of → IsMonotone max_2d_of
     → IsMonotone att_of
     → IsMonotone euc_3d_of → IsMonotone man_3d_of → IsMonotone max_3d_of
-    → (kind : WeightKind) (a b c d : Point) → across a b ≤ across c d → along a b ≤ along c d → above a b ≤ above c d
+    → (kind : WeightKind) (a b c d : Point) → dx a b ≤ dx c d → dy a b ≤ dy c d → dz a b ≤ dz c d
     → distance kind a b ≤ℤ distance kind c d
 unfolding distance
 distance_grows euc ceil man max att euc' man' max' Explicit a b c d x y z = whole-le 0 0 (omega arith)

@@ -81,10 +81,10 @@ fn coarse_euc_2d(a: Point, b: Point) -> Option<u32>
     ensures { IfSome result (λ root. root ≡ euc_2d_of a b) }
 {
     distance_laws();
-    let (Some(across), Some(along)) = (steps_between(a.x, b.x), steps_between(a.y, b.y)) else {
+    let (Some(dx), Some(dy)) = (steps_between(a.x, b.x), steps_between(a.y, b.y)) else {
         return None;
     };
-    nearest_root(square_of(across) + square_of(along))
+    nearest_root(square_of(dx) + square_of(dy))
 }
 
 /// The distance EUC_2D.

@@ -83,12 +83,12 @@ fn part(items: &mut [Item], middle: usize)
     ensures { length items.new ≡ length items.old }
 {
     let Region { low, high } = region_of(items);
-    let across = gap(low.x, high.x);
-    let along = gap(low.y, high.y);
-    let above = gap(low.z, high.z);
-    if across >= along && across >= above {
+    let dx = gap(low.x, high.x);
+    let dy = gap(low.y, high.y);
+    let dz = gap(low.z, high.z);
+    if dx >= dy && dx >= dz {
         items.select_nth_unstable_by_key(middle, |item| item.point.x.nanos());
-    } else if along >= above {
+    } else if dy >= dz {
         items.select_nth_unstable_by_key(middle, |item| item.point.y.nanos());
     } else {
         items.select_nth_unstable_by_key(middle, |item| item.point.z.nanos());

@@ -2,7 +2,7 @@
 use Rattle.std.proofs.Common.{◌≡◌, ℕ, ◌+◌, ◌*◌, ◌-◌, ◌<◌, ◌≤◌, arith}
 use Rattle.tsp_distance.specs.declared.decimal.Point.{Point}
 use Rattle.tsp_distance.specs.Decimal.{unit}
-use Rattle.tsp_distance.specs.Distances.{squared, across, along, above, square_apart, square_apart_in_space, euc_2d_of, ceil_2d_of, att_of, euc_3d_of}
+use Rattle.tsp_distance.specs.Distances.{squared, dx, dy, dz, square_apart, square_apart_in_space, euc_2d_of, ceil_2d_of, att_of, euc_3d_of}
 use Rattle.tsp_distance.specs.declared.root.Rounding.TheVariants.{Nearest, Up, TenthUp}
 use Rattle.tsp_distance.specs.states.Rounding.{IsLeastCover}
 use Rattle.tsp_distance.proofs.DistanceLaws.{euc_2d_laws, ceil_2d_laws, att_laws}
@@ -47,5 +47,5 @@ att_cover a b =
     record { enough = is.enough; least = λ some. not_within _ _ (is.none_smaller (k - 1) (before_less k some)) }
 
 -- the squares of the three ways are that of the straight distance in space
-pub space_is : (a b : Point) (w h u : ℕ) → w ≡ across a b → h ≡ along a b → u ≡ above a b → squared w + squared h + squared u ≡ square_apart_in_space a b
+pub space_is : (a b : Point) (w h u : ℕ) → w ≡ dx a b → h ≡ dy a b → u ≡ dz a b → squared w + squared h + squared u ≡ square_apart_in_space a b
 space_is a b w h u wide high up = cc

@@ -6,7 +6,7 @@ use Rattle.std.proofs.lemmas.Int.{ints}
 use Rattle.std.proofs.lemmas.Nat.{mul-le}
 use Rattle.tsp_distance.specs.declared.decimal.Point.{Point}
 use Rattle.tsp_distance.specs.Decimal.{unit, most_count}
-use Rattle.tsp_distance.specs.Distances.{squared, across, along, square_apart, IsEuc2d, IsCeil2d, IsMan2d, IsMax2d, IsAtt, least, euc_2d_of, ceil_2d_of, man_2d_of, max_2d_of, att_of, IsOnPlane, IsDistance}
+use Rattle.tsp_distance.specs.Distances.{squared, dx, dy, square_apart, IsEuc2d, IsCeil2d, IsMan2d, IsMax2d, IsAtt, least, euc_2d_of, ceil_2d_of, man_2d_of, max_2d_of, att_of, IsOnPlane, IsDistance}
 
 -- ---- the least number that passes a test
 
@@ -123,12 +123,12 @@ rounded t k is =
 
 man_2d-defined : (a b : Point) → IsMan2d a b (man_2d_of a b)
 man_2d-defined a b =
-    let parts = rounded (across a b + along a b) (man_2d_of a b) refl in
+    let parts = rounded (dx a b + dy a b) (man_2d_of a b) refl in
     record { below_next_half = parts.0; from_last_half = parts.1 }
 
 max_2d-defined : (a b : Point) → IsMax2d a b (max_2d_of a b)
 max_2d-defined a b =
-    let parts = rounded (max (across a b) (along a b)) (max_2d_of a b) refl in
+    let parts = rounded (max (dx a b) (dy a b)) (max_2d_of a b) refl in
     record { below_next_half = parts.0; from_last_half = parts.1 }
 
 -- ---- and only once
@@ -157,10 +157,10 @@ rounded_apart t j k high low less =
     omega arith
 
 man_2d_apart : (a b : Point) (j k : ℕ) → IsMan2d a b j → IsMan2d a b k → ¬ (j < k)
-man_2d_apart a b j k first second = rounded_apart (across a b + along a b) j k first.below_next_half second.from_last_half
+man_2d_apart a b j k first second = rounded_apart (dx a b + dy a b) j k first.below_next_half second.from_last_half
 
 max_2d_apart : (a b : Point) (j k : ℕ) → IsMax2d a b j → IsMax2d a b k → ¬ (j < k)
-max_2d_apart a b j k first second = rounded_apart (max (across a b) (along a b)) j k first.below_next_half second.from_last_half
+max_2d_apart a b j k first second = rounded_apart (max (dx a b) (dy a b)) j k first.below_next_half second.from_last_half
 
 same_from : (j k : ℕ) → ¬ (j < k) → ¬ (k < j) → j ≡ k
 same_from j k first second = omega arith
@@ -202,22 +202,22 @@ unsigned_abs-most x y left right =
     let y' = within y most_count right in
     from_within (x -ℤ y) (2 * most_count) (omega (arith, ints, x', y')) (omega (arith, ints, x', y'))
 
-pub across-comm : (a b : Point) → across a b ≡ across b a
-across-comm a b = unsigned_abs-sub a.x b.x
+pub dx-comm : (a b : Point) → dx a b ≡ dx b a
+dx-comm a b = unsigned_abs-sub a.x b.x
 
-pub along-comm : (a b : Point) → along a b ≡ along b a
-along-comm a b = unsigned_abs-sub a.y b.y
+pub dy-comm : (a b : Point) → dy a b ≡ dy b a
+dy-comm a b = unsigned_abs-sub a.y b.y
 
 square_apart-comm : (a b : Point) → square_apart a b ≡ square_apart b a
-square_apart-comm a b = rw (across-comm a b, along-comm a b) refl
+square_apart-comm a b = rw (dx-comm a b, dy-comm a b) refl
 
 square_apart-self : (a : Point) → square_apart a a ≡ 0
 square_apart-self a = rw (unsigned_abs-self a.x, unsigned_abs-self a.y) refl
 
 square_apart-most : (a b : Point) → IsOnPlane a → IsOnPlane b → square_apart a b ≤ 8 * 10 ^ 36
 square_apart-most a b on on' =
-    let first = squared-le (across a b) (2 * most_count) (unsigned_abs-most a.x b.x on.x on'.x) in
-    let second = squared-le (along a b) (2 * most_count) (unsigned_abs-most a.y b.y on.y on'.y) in
+    let first = squared-le (dx a b) (2 * most_count) (unsigned_abs-most a.x b.x on.x on'.x) in
+    let second = squared-le (dy a b) (2 * most_count) (unsigned_abs-most a.y b.y on.y on'.y) in
     omega arith
 
 -- ---- no distance is long
@@ -252,14 +252,14 @@ rounded-most t most k small low =
       | inr short ↦ short
     ]
 
-ways-most : (a b : Point) → IsOnPlane a → IsOnPlane b → (across a b ≤ 2 * 10 ^ 18) × (along a b ≤ 2 * 10 ^ 18)
+ways-most : (a b : Point) → IsOnPlane a → IsOnPlane b → (dx a b ≤ 2 * 10 ^ 18) × (dy a b ≤ 2 * 10 ^ 18)
 ways-most a b on on' = (unsigned_abs-most a.x b.x on.x on'.x, unsigned_abs-most a.y b.y on.y on'.y)
 
 man_2d-most : (a b : Point) (k : ℕ) → IsOnPlane a → IsOnPlane b → IsMan2d a b k → k ≤ 4000000000
-man_2d-most a b k on on' is = rounded-most (across a b + along a b) 4000000000 k (omega (arith, ways-most a b on on')) is.from_last_half
+man_2d-most a b k on on' is = rounded-most (dx a b + dy a b) 4000000000 k (omega (arith, ways-most a b on on')) is.from_last_half
 
 max_2d-most : (a b : Point) (k : ℕ) → IsOnPlane a → IsOnPlane b → IsMax2d a b k → k ≤ 4000000000
-max_2d-most a b k on on' is = rounded-most (max (across a b) (along a b)) 4000000000 k (omega (arith, ways-most a b on on')) is.from_last_half
+max_2d-most a b k on on' is = rounded-most (max (dx a b) (dy a b)) 4000000000 k (omega (arith, ways-most a b on on')) is.from_last_half
 
 -- ---- the laws
 
@@ -313,8 +313,8 @@ att_laws = record {
       omega arith;
 }
 
-sum-comm : (a b : Point) → across a b + along a b ≡ across b a + along b a
-sum-comm a b = rw (across-comm a b, along-comm a b) refl
+sum-comm : (a b : Point) → dx a b + dy a b ≡ dx b a + dy b a
+sum-comm a b = rw (dx-comm a b, dy-comm a b) refl
 
 pub man_2d_laws : IsDistance IsMan2d man_2d_of
 man_2d_laws = record {
@@ -328,8 +328,8 @@ man_2d_laws = record {
   most = λ a b on on'. man_2d-most a b (man_2d_of a b) on on' (man_2d-defined a b);
 }
 
-longer-comm : (a b : Point) → max (across a b) (along a b) ≡ max (across b a) (along b a)
-longer-comm a b = rw (across-comm a b, along-comm a b) refl
+longer-comm : (a b : Point) → max (dx a b) (dy a b) ≡ max (dx b a) (dy b a)
+longer-comm a b = rw (dx-comm a b, dy-comm a b) refl
 
 pub max_2d_laws : IsDistance IsMax2d max_2d_of
 max_2d_laws = record {

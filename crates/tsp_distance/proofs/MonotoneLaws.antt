@@ -3,7 +3,7 @@
 use Rattle.std.proofs.Common.{ℕ, ◌+◌, ◌*◌, ◌-◌, ◌<◌, ◌≤◌, max, arith}
 use Rattle.tsp_distance.specs.declared.decimal.Point.{Point}
 use Rattle.tsp_distance.specs.Decimal.{unit}
-use Rattle.tsp_distance.specs.Distances.{squared, across, along, above, square_apart, square_apart_in_space, longest_way, euc_2d_of, ceil_2d_of, man_2d_of, max_2d_of, att_of, euc_3d_of, man_3d_of, max_3d_of}
+use Rattle.tsp_distance.specs.Distances.{squared, dx, dy, dz, square_apart, square_apart_in_space, longest_way, euc_2d_of, ceil_2d_of, man_2d_of, max_2d_of, att_of, euc_3d_of, man_3d_of, max_3d_of}
 use Rattle.tsp_distance.specs.Monotone.{IsMonotone}
 use Rattle.tsp_distance.proofs.DistanceLaws.{squared-le, rounded_square_apart, rounded_apart, covered_apart, euc_2d_laws, ceil_2d_laws, man_2d_laws, max_2d_laws, att_laws}
 use Rattle.tsp_distance.proofs.SpaceLaws.{euc_3d_laws, man_3d_laws, max_3d_laws}
@@ -11,31 +11,31 @@ use Rattle.tsp_distance.proofs.SpaceLaws.{euc_3d_laws, man_3d_laws, max_3d_laws}
 -- ---- what the distances are taken of
 
 abbrev IsWay : (Point → Point → ℕ) → Type 0
-IsWay way = (a b c d : Point) → across a b ≤ across c d → along a b ≤ along c d → above a b ≤ above c d → way a b ≤ way c d
+IsWay way = (a b c d : Point) → dx a b ≤ dx c d → dy a b ≤ dy c d → dz a b ≤ dz c d → way a b ≤ way c d
 
 square-grows : IsWay square_apart
 square-grows a b c d x y z =
-    omega (arith, squared-le (across a b) (across c d) x, squared-le (along a b) (along c d) y)
+    omega (arith, squared-le (dx a b) (dx c d) x, squared-le (dy a b) (dy c d) y)
 
 square_in_space-grows : IsWay square_apart_in_space
 square_in_space-grows a b c d x y z =
-    omega (arith, squared-le (across a b) (across c d) x, squared-le (along a b) (along c d) y, squared-le (above a b) (above c d) z)
+    omega (arith, squared-le (dx a b) (dx c d) x, squared-le (dy a b) (dy c d) y, squared-le (dz a b) (dz c d) z)
 
-sum-grows : IsWay (λ a b. across a b + along a b)
+sum-grows : IsWay (λ a b. dx a b + dy a b)
 sum-grows a b c d x y z = omega (arith, x, y)
 
-sum_in_space-grows : IsWay (λ a b. across a b + along a b + above a b)
+sum_in_space-grows : IsWay (λ a b. dx a b + dy a b + dz a b)
 sum_in_space-grows a b c d x y z = omega (arith, x, y, z)
 
 max-le : (a b c d : ℕ) → a ≤ c → b ≤ d → max a b ≤ max c d
 max-le a b c d first second = omega arith
 
-longest-grows : IsWay (λ a b. max (across a b) (along a b))
-longest-grows a b c d x y z = max-le (across a b) (along a b) (across c d) (along c d) x y
+longest-grows : IsWay (λ a b. max (dx a b) (dy a b))
+longest-grows a b c d x y z = max-le (dx a b) (dy a b) (dx c d) (dy c d) x y
 
 longest_in_space-grows : IsWay longest_way
 longest_in_space-grows a b c d x y z =
-    max-le (max (across a b) (along a b)) (above a b) (max (across c d) (along c d)) (above c d) (longest-grows a b c d x y z) z
+    max-le (max (dx a b) (dy a b)) (dz a b) (max (dx c d) (dy c d)) (dz c d) (longest-grows a b c d x y z) z
 
 -- ---- a rounding of what grows
 
@@ -78,16 +78,16 @@ pub att-grows : IsMonotone att_of
 att-grows = upward square_apart att_of (λ k. 10 * squared (k * unit)) square-grows (λ a b. (att_laws.defined a b).enough) (λ a b. (att_laws.defined a b).none_smaller)
 
 pub man_2d-grows : IsMonotone man_2d_of
-man_2d-grows = nearest (λ a b. across a b + along a b) man_2d_of sum-grows (λ a b. (man_2d_laws.defined a b).below_next_half) (λ a b. (man_2d_laws.defined a b).from_last_half)
+man_2d-grows = nearest (λ a b. dx a b + dy a b) man_2d_of sum-grows (λ a b. (man_2d_laws.defined a b).below_next_half) (λ a b. (man_2d_laws.defined a b).from_last_half)
 
 pub max_2d-grows : IsMonotone max_2d_of
-max_2d-grows = nearest (λ a b. max (across a b) (along a b)) max_2d_of longest-grows (λ a b. (max_2d_laws.defined a b).below_next_half) (λ a b. (max_2d_laws.defined a b).from_last_half)
+max_2d-grows = nearest (λ a b. max (dx a b) (dy a b)) max_2d_of longest-grows (λ a b. (max_2d_laws.defined a b).below_next_half) (λ a b. (max_2d_laws.defined a b).from_last_half)
 
 pub euc_3d-grows : IsMonotone euc_3d_of
 euc_3d-grows = nearest_root square_apart_in_space euc_3d_of square_in_space-grows (λ a b. (euc_3d_laws.defined a b).below_next_half) (λ a b. (euc_3d_laws.defined a b).from_last_half)
 
 pub man_3d-grows : IsMonotone man_3d_of
-man_3d-grows = nearest (λ a b. across a b + along a b + above a b) man_3d_of sum_in_space-grows (λ a b. (man_3d_laws.defined a b).below_next_half) (λ a b. (man_3d_laws.defined a b).from_last_half)
+man_3d-grows = nearest (λ a b. dx a b + dy a b + dz a b) man_3d_of sum_in_space-grows (λ a b. (man_3d_laws.defined a b).below_next_half) (λ a b. (man_3d_laws.defined a b).from_last_half)
 
 pub max_3d-grows : IsMonotone max_3d_of
 max_3d-grows = nearest longest_way max_3d_of longest_in_space-grows (λ a b. (max_3d_laws.defined a b).below_next_half) (λ a b. (max_3d_laws.defined a b).from_last_half)

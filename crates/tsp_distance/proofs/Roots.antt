@@ -8,7 +8,7 @@ use Rattle.std.specs.Int.{w128}
 use Rattle.std.specs.Bool.{OnTrue}
 use Rattle.tsp_distance.specs.declared.decimal.Point.{Point}
 use Rattle.tsp_distance.specs.Decimal.{unit}
-use Rattle.tsp_distance.specs.Distances.{squared, across, along, above, square_apart, square_apart_in_space, IsEuc2d, IsEuc3d, IsCeil2d, IsAtt}
+use Rattle.tsp_distance.specs.Distances.{squared, dx, dy, dz, square_apart, square_apart_in_space, IsEuc2d, IsEuc3d, IsCeil2d, IsAtt}
 use Rattle.tsp_distance.specs.declared.root.Rounding.{Rounding}
 use Rattle.tsp_distance.specs.declared.root.Rounding.TheVariants.{Nearest, Up, TenthUp}
 use Rattle.tsp_distance.specs.states.Rounding.{Covers, IsLeastCover}
@@ -20,7 +20,7 @@ squared-below j k below =
     mul-le (j * unit) (j * unit) ((k - 1) * unit) ((k - 1) * unit) sides sides
 
 -- the squares of both differences are that of the straight distance
-pub apart_is : (a b : Point) (w h : ℕ) → w ≡ across a b → h ≡ along a b → squared w + squared h ≡ square_apart a b
+pub apart_is : (a b : Point) (w h : ℕ) → w ≡ dx a b → h ≡ dy a b → squared w + squared h ≡ square_apart a b
 apart_is a b w h wide high = cc
 
 pub is_euc_2d : (a b : Point) (k : ℕ) → IsLeastCover Nearest (square_apart a b) k → IsEuc2d a b k
@@ -33,7 +33,7 @@ is_euc_2d a b k is = record {
       omega arith;
 }
 
-pub is_euc_3d : (a b : Point) (w h u k : ℕ) → w ≡ across a b → h ≡ along a b → u ≡ above a b
+pub is_euc_3d : (a b : Point) (w h u k : ℕ) → w ≡ dx a b → h ≡ dy a b → u ≡ dz a b
     → 4 * (squared w + squared h + squared u) < squared ((2 * k + 1) * unit)
     → (0 < k → ¬ (4 * (squared w + squared h + squared u) < squared ((2 * (k - 1) + 1) * unit)))
     → IsEuc3d a b k
@@ -93,9 +93,9 @@ way_is way x y is small = ap unsigned_abs (to_z-of_z w64 way (near_fits way smal
 pub apart-most : (a b : Point) (w h : ℤ) → w ≡ a.x -ℤ b.x → h ≡ a.y -ℤ b.y → unsigned_abs w ≤ 2 * 10 ^ 18 → unsigned_abs h ≤ 2 * 10 ^ 18
     → square_apart a b ≤ 8 * 10 ^ 36
 apart-most a b w h wide high small small' =
-    let first : across a b ≤ 2 * 10 ^ 18 = rw wide at small in
-    let second : along a b ≤ 2 * 10 ^ 18 = rw high at small' in
-    omega (arith, square-most (across a b) first, square-most (along a b) second)
+    let first : dx a b ≤ 2 * 10 ^ 18 = rw wide at small in
+    let second : dy a b ≤ 2 * 10 ^ 18 = rw high at small' in
+    omega (arith, square-most (dx a b) first, square-most (dy a b) second)
 
 -- the square of a way as the code computes it, in 128 bits
 pub wide_square : (wide way : ℤ) → wide ≡ way → unsigned_abs way ≤ 2 * 10 ^ 18

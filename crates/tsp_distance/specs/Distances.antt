@@ -12,22 +12,22 @@ abbrev pub squared : ℕ → ℕ
 squared n = n * n
 
 -- how far apart the points are along each axis, in counts of 10^-9
-abbrev pub across : Point → Point → ℕ
-across a b = unsigned_abs (a.x -ℤ b.x)
+abbrev pub dx : Point → Point → ℕ
+dx a b = unsigned_abs (a.x -ℤ b.x)
 
-abbrev pub along : Point → Point → ℕ
-along a b = unsigned_abs (a.y -ℤ b.y)
+abbrev pub dy : Point → Point → ℕ
+dy a b = unsigned_abs (a.y -ℤ b.y)
 
-abbrev pub above : Point → Point → ℕ
-above a b = unsigned_abs (a.z -ℤ b.z)
+abbrev pub dz : Point → Point → ℕ
+dz a b = unsigned_abs (a.z -ℤ b.z)
 
 -- the square of the straight distance in the plane, by Pythagoras
 abbrev pub square_apart : Point → Point → ℕ
-square_apart a b = squared (across a b) + squared (along a b)
+square_apart a b = squared (dx a b) + squared (dy a b)
 
 -- and in space
 abbrev pub square_apart_in_space : Point → Point → ℕ
-square_apart_in_space a b = squared (across a b) + squared (along a b) + squared (above a b)
+square_apart_in_space a b = squared (dx a b) + squared (dy a b) + squared (dz a b)
 
 -- k is the root of a square of counts, rounded to the nearest whole number, a half upward
 pub record IsNearestRoot (square k : ℕ) : Type 0 where
@@ -56,11 +56,11 @@ IsCeil2d a b k = IsFirstEnough (square_apart a b) (λ j. squared (j * unit)) k
 
 -- MAN_2D: the sum of both differences rounded to the nearest whole number, a half upward
 abbrev pub IsMan2d : Point → Point → ℕ → Type 0
-IsMan2d a b k = IsNearestWhole (across a b + along a b) k
+IsMan2d a b k = IsNearestWhole (dx a b + dy a b) k
 
 -- MAX_2D: the larger of both differences rounded to the nearest whole number, a half upward
 abbrev pub IsMax2d : Point → Point → ℕ → Type 0
-IsMax2d a b k = IsNearestWhole (max (across a b) (along a b)) k
+IsMax2d a b k = IsNearestWhole (max (dx a b) (dy a b)) k
 
 -- ATT: the root of a tenth of the square rounded up
 abbrev pub IsAtt : Point → Point → ℕ → Type 0
@@ -72,11 +72,11 @@ IsEuc3d a b k = IsNearestRoot (square_apart_in_space a b) k
 
 -- MAN_3D: the sum of the three ways rounded to the nearest whole number, a half upward
 abbrev pub IsMan3d : Point → Point → ℕ → Type 0
-IsMan3d a b k = IsNearestWhole (across a b + along a b + above a b) k
+IsMan3d a b k = IsNearestWhole (dx a b + dy a b + dz a b) k
 
 -- the longest of the three ways
 abbrev pub longest_way : Point → Point → ℕ
-longest_way a b = max (max (across a b) (along a b)) (above a b)
+longest_way a b = max (max (dx a b) (dy a b)) (dz a b)
 
 -- MAX_3D: the longest of the three ways rounded to the nearest whole number, a half upward
 abbrev pub IsMax3d : Point → Point → ℕ → Type 0
@@ -95,10 +95,10 @@ abbrev pub ceil_2d_of : Point → Point → ℕ
 ceil_2d_of a b = least (λ k. nat_le (square_apart a b) (squared (k * unit))) (square_apart a b)
 
 abbrev pub man_2d_of : Point → Point → ℕ
-man_2d_of a b = least (λ k. nat_lt (2 * (across a b + along a b)) ((2 * k + 1) * unit)) (across a b + along a b)
+man_2d_of a b = least (λ k. nat_lt (2 * (dx a b + dy a b)) ((2 * k + 1) * unit)) (dx a b + dy a b)
 
 abbrev pub max_2d_of : Point → Point → ℕ
-max_2d_of a b = least (λ k. nat_lt (2 * max (across a b) (along a b)) ((2 * k + 1) * unit)) (max (across a b) (along a b))
+max_2d_of a b = least (λ k. nat_lt (2 * max (dx a b) (dy a b)) ((2 * k + 1) * unit)) (max (dx a b) (dy a b))
 
 abbrev pub att_of : Point → Point → ℕ
 att_of a b = least (λ k. nat_le (square_apart a b) (10 * squared (k * unit))) (square_apart a b)
@@ -108,7 +108,7 @@ euc_3d_of a b = least (λ k. nat_lt (4 * square_apart_in_space a b) (squared ((2
 
 abbrev pub man_3d_of : Point → Point → ℕ
 man_3d_of a b =
-    least (λ k. nat_lt (2 * (across a b + along a b + above a b)) ((2 * k + 1) * unit)) (across a b + along a b + above a b)
+    least (λ k. nat_lt (2 * (dx a b + dy a b + dz a b)) ((2 * k + 1) * unit)) (dx a b + dy a b + dz a b)
 
 abbrev pub max_3d_of : Point → Point → ℕ
 max_3d_of a b = least (λ k. nat_lt (2 * longest_way a b) ((2 * k + 1) * unit)) (longest_way a b)

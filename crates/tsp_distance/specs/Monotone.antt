@@ -1,9 +1,9 @@
 -- Distances that don't shrink where two points move apart along the axes.
 use Rattle.std.specs.Prelude.{ℕ, ◌≤◌}
 use Rattle.tsp_distance.specs.declared.decimal.Point.{Point}
-use Rattle.tsp_distance.specs.Distances.{across, along, above}
+use Rattle.tsp_distance.specs.Distances.{dx, dy, dz}
 
 -- points that are no farther apart along each axis are no farther apart
 abbrev pub IsMonotone : (Point → Point → ℕ) → Type 0
 IsMonotone distance =
-    (a b c d : Point) → across a b ≤ across c d → along a b ≤ along c d → above a b ≤ above c d → distance a b ≤ distance c d
+    (a b c d : Point) → dx a b ≤ dx c d → dy a b ≤ dy c d → dz a b ≤ dz c d → distance a b ≤ distance c d

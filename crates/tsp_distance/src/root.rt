@@ -201,36 +201,36 @@ fn settled_root(rounding: Rounding, square: u128, near: u32, most: u32) -> u32
 /// The rounded root of the square of a distance in the plane, whose ways along both axes count
 /// 10^-9.
 #[inline(always)]
-pub(crate) fn rounded_root(rounding: Rounding, across: i64, along: i64) -> u32
-    requires across { unsigned_abs across ≤ 2 * 10 ^ 18 }
-    requires along { unsigned_abs along ≤ 2 * 10 ^ 18 }
-    ensures enough { Covers rounding (squared (unsigned_abs across) + squared (unsigned_abs along)) result }
+pub(crate) fn rounded_root(rounding: Rounding, dx: i64, dy: i64) -> u32
+    requires dx { unsigned_abs dx ≤ 2 * 10 ^ 18 }
+    requires dy { unsigned_abs dy ≤ 2 * 10 ^ 18 }
+    ensures enough { Covers rounding (squared (unsigned_abs dx) + squared (unsigned_abs dy)) result }
     ensures least { 0 < result
-        → ¬ Covers rounding (squared (unsigned_abs across) + squared (unsigned_abs along)) (result - 1) }
+        → ¬ Covers rounding (squared (unsigned_abs dx) + squared (unsigned_abs dy)) (result - 1) }
     ensures most { result ≤ 2828427125 }
 {
-    let square = square_of(across) + square_of(along);
-    let near = estimate(rounding, coarse_square(across) + coarse_square(along));
+    let square = square_of(dx) + square_of(dy);
+    let near = estimate(rounding, coarse_square(dx) + coarse_square(dy));
     settled_root(rounding, square, near, MOST_ROOT)
 }
 
 /// The root of the square of a distance in space, whose ways along the axes count 10^-9, to the
 /// nearest whole number, a half upward.
 #[inline(always)]
-pub(crate) fn nearest_root_in_space(across: i64, along: i64, above: i64) -> u32
-    requires across { unsigned_abs across ≤ 2 * 10 ^ 18 }
-    requires along { unsigned_abs along ≤ 2 * 10 ^ 18 }
-    requires above { unsigned_abs above ≤ 2 * 10 ^ 18 }
-    ensures enough { Covers Nearest (squared (unsigned_abs across) + squared (unsigned_abs along)
-        + squared (unsigned_abs above)) result }
-    ensures least { 0 < result → ¬ Covers Nearest (squared (unsigned_abs across)
-        + squared (unsigned_abs along) + squared (unsigned_abs above)) (result - 1) }
+pub(crate) fn nearest_root_in_space(dx: i64, dy: i64, dz: i64) -> u32
+    requires dx { unsigned_abs dx ≤ 2 * 10 ^ 18 }
+    requires dy { unsigned_abs dy ≤ 2 * 10 ^ 18 }
+    requires dz { unsigned_abs dz ≤ 2 * 10 ^ 18 }
+    ensures enough { Covers Nearest (squared (unsigned_abs dx) + squared (unsigned_abs dy)
+        + squared (unsigned_abs dz)) result }
+    ensures least { 0 < result → ¬ Covers Nearest (squared (unsigned_abs dx)
+        + squared (unsigned_abs dy) + squared (unsigned_abs dz)) (result - 1) }
     ensures most { result ≤ 3464101615 }
 {
     // Each square is at most 4 * 10^36, so that their sum is at most 12 * 10^36, and 4 times the
     // sum at most 4.8 * 10^37: far below 2^128, which is above 3.4 * 10^38.
-    let square = square_of(across) + square_of(along) + square_of(above);
-    let coarse = coarse_square(across) + coarse_square(along) + coarse_square(above);
+    let square = square_of(dx) + square_of(dy) + square_of(dz);
+    let coarse = coarse_square(dx) + coarse_square(dy) + coarse_square(dz);
     let near = estimate(Rounding::Nearest, coarse);
     settled_root(Rounding::Nearest, square, near, MOST_ROOT_IN_SPACE)
 }

@@ -15,7 +15,7 @@ pub struct Region {
 
 impl Region {
     ghost use Rattle.tsp_distance.specs.declared.decimal.Point.{Point};
-    ghost use Rattle.tsp_distance.specs.Distances.{across, along, above};
+    ghost use Rattle.tsp_distance.specs.Distances.{dx, dy, dz};
     ghost use Rattle.tsp_theory.specs.Regions.{IsIn};
 
     /// The region of a single point.
@@ -50,9 +50,9 @@ impl Region {
     /// The point of the region that is nearest to a point, along each axis.
     #[inline]
     pub fn nearest(self, from: &Point) -> Point
-        ensures across { (p : Point) → IsIn self p → across from.now result ≤ across from.now p }
-        ensures along { (p : Point) → IsIn self p → along from.now result ≤ along from.now p }
-        ensures above { (p : Point) → IsIn self p → above from.now result ≤ above from.now p }
+        ensures dx { (p : Point) → IsIn self p → dx from.now result ≤ dx from.now p }
+        ensures dy { (p : Point) → IsIn self p → dy from.now result ≤ dy from.now p }
+        ensures dz { (p : Point) → IsIn self p → dz from.now result ≤ dz from.now p }
         ensures inside { (p : Point) → IsIn self p → IsIn self result }
     {
         let Region { low, high } = self;

@@ -8,4 +8,4 @@ returns c =
     let wide = rw c.in-Some-Some.is-0 at c.steps_between.ensures in
     let high = rw c.in-Some-Some.is-1 at c.steps_between-2.ensures in
     let square = rw (c.square_of.ensures.value, c.square_of-2.ensures.value) at c.nearest_root.ensures in
-    coarse_is c.distance_laws.ensures.euc_2d c.args.a c.args.b c.in-Some-Some.across c.in-Some-Some.along c.nearest_root.result wide high square
+    coarse_is c.distance_laws.ensures.euc_2d c.args.a c.args.b c.in-Some-Some.dx c.in-Some-Some.dy c.nearest_root.result wide high square

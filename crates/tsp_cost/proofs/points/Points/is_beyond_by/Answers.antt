@@ -21,7 +21,7 @@ returns g c = known_true c.is_at_least.result _ (λ true_is to node inside.
     let grows : distance kind here nearest ≤ℤ distance kind here there =
     distance_grows laws.euc_2d laws.ceil_2d laws.man_2d laws.max_2d laws.att laws.euc_3d laws.man_3d laws.max_3d kind here nearest
     here there
-    (c.nearest.ensures.across there inside) (c.nearest.ensures.along there inside) (c.nearest.ensures.above there inside) in
+    (c.nearest.ensures.dx there inside) (c.nearest.ensures.dy there inside) (c.nearest.ensures.dz there inside) in
     subst (λ (metric : Metric). c.args.least ≤ℤ distance (weight_kind_of metric) own there) c.requires.metric
     (subst (λ (p : Point). c.args.least ≤ℤ distance kind p there) c.requires.from.there
     (at_least_further c.args.least (distance kind here nearest) (distance kind here there)
