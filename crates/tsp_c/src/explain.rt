@@ -8,7 +8,7 @@ use std::alloc::{AllocError, Global};
 use std::str;
 use tsp_judge::{ReadFault, RunFault, Status, Watched};
 use tsp_perform::{explain_fault, explain_outcome, perform};
-use tsp_task::{Request, Task};
+use tsp_task::{FileTask, Task};
 
 /// The calls that are explained, by their numbers.
 const SHOW: u32 = 0;
@@ -63,18 +63,18 @@ pub(crate) fn explained(alloc: Global, numbers: Numbers, texts: Texts<'_>) -> (u
 }
 
 /// The task of a call, or `None` where a number is refused.
-fn task_of<'a>(numbers: Numbers, texts: Texts<'a>) -> Option<Task<Named<'a>>>
+fn task_of<'a>(numbers: Numbers, texts: Texts<'a>) -> Option<FileTask<Named<'a>>>
     ensures { IsSome result ↔ IsExplained numbers.call numbers.number numbers.has_claim }
 {
     let (instance, solution, certificate) = texts_with_names(texts);
     let number = numbers.number;
     match numbers.call {
-        SHOW => Some(Task::Show { file: instance }),
-        CONVERT if number <= 9 => Some(Task::Convert {
+        SHOW => Some(FileTask::Show { file: instance }),
+        CONVERT if number <= 9 => Some(FileTask::Convert {
             file: instance,
             layout: layout_of(number),
         }),
-        CHECK if number <= 2 && numbers.has_claim <= 3 => Some(Task::Check {
+        CHECK if number <= 2 && numbers.has_claim <= 3 => Some(FileTask::Check {
             instance,
             solution,
             certificate: match certificate_of(number) {
@@ -84,7 +84,7 @@ fn task_of<'a>(numbers: Numbers, texts: Texts<'a>) -> Option<Task<Named<'a>>>
             claimed: claim_of(numbers.has_claim, numbers.claimed),
             strict: strict_of(numbers.has_claim),
         }),
-        BOUND => Some(Task::Bound {
+        BOUND => Some(FileTask::Bound {
             instance,
             certificate: (certificate_of(number)?, certificate),
             strict: false,
@@ -94,18 +94,18 @@ fn task_of<'a>(numbers: Numbers, texts: Texts<'a>) -> Option<Task<Named<'a>>>
 }
 
 /// Appends the explanation of the result of a task on texts.
-fn explain(alloc: Global, text: &mut Vec<u8>, task: Task<Named<'_>>) -> Result<(), AllocError> {
+fn explain(alloc: Global, text: &mut Vec<u8>, task: FileTask<Named<'_>>) -> Result<(), AllocError> {
     let mut readers = task.map(|file| Watched::new(file.bytes));
     let mut report = Watched::new(Vec::new(alloc));
     let ended = perform(alloc, &mut readers, &mut report);
     drop(report);
-    let request = Request::Task(task);
-    let names = request.map(|file| file.name);
+    let task = Task::Files(task);
+    let names = task.map(|file| file.name);
     match ended {
         Ok(outcome) => explain_outcome(alloc, text, &names, &outcome),
         Err(error) => {
             let fault = error.fault();
-            let again = again(&request, fault)?;
+            let again = again(&task, fault)?;
             explain_fault(alloc, text, &names, again, None, fault)
         }
     }
@@ -116,10 +116,7 @@ fn explain(alloc: Global, text: &mut Vec<u8>, task: Task<Named<'_>>) -> Result<(
 /// # Errors
 ///
 /// Out of memory, since a fault for which there was no memory can't be explained.
-fn again<'a>(
-    request: &Request<'_, Named<'a>>,
-    fault: RunFault,
-) -> Result<Option<&'a [u8]>, AllocError> {
+fn again<'a>(task: &Task<'_, Named<'a>>, fault: RunFault) -> Result<Option<&'a [u8]>, AllocError> {
     match fault {
         RunFault::File {
             file: _,
@@ -127,7 +124,7 @@ fn again<'a>(
         }
         | RunFault::OutOfMemory
         | RunFault::Write(_) => Err(AllocError),
-        RunFault::File { file, fault: _ } => match request.file(file) {
+        RunFault::File { file, fault: _ } => match task.file(file) {
             Some((_, file)) => Ok(Some(file.bytes)),
             None => Ok(None),
         },

@@ -1,5 +1,5 @@
 -- The files of definitions of this crate. Crates above may import them.
 pub mod Examples
 pub mod Grammar
-pub mod Requests
+pub mod Tasks
 pub mod CommandWords

@@ -1,18 +1,18 @@
 //! The words of the command line of the program `tsp`, as what they ask for of files.
 //!
 //! The words are a job (`words`), by the commands that the program has (`grammar`). A job asks for
-//! a task on files, or to compare solutions (`request`). It opens no files and runs nothing.
+//! a task on files, or to compare solutions (`task_of_job`). It opens no files and runs nothing.
 //!
 //! ```text
 //! let job = job_of(alloc, &["check", "a.tsp", "a.tour"])?;
-//! let request = request_of(&job)?;
+//! let task = task_of(&job)?;
 //! ```
 #![tactic(auto)]
 
 mod examples;
 mod grammar;
 mod line_examples;
-mod request;
+mod task_of_job;
 mod words;
 
 pub use examples::examples_of_verbs;
@@ -21,5 +21,5 @@ pub use line_examples::{
     examples_of_lines, examples_of_strict_requests, examples_of_two_certificates,
     examples_of_versions,
 };
-pub use request::{Place, RequestFault, place_at, request_of};
+pub use task_of_job::{InputPath, TaskFault, input_path_at, task_of};
 pub use words::{Job, JobFault, Verb, job_of, unread};

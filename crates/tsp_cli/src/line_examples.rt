@@ -9,12 +9,12 @@ ghost use Rattle.tsp_cli.specs.Grammar.{tsp};
 ghost use Rattle.tsp_format.specs.declared.layout.Layout.{Layout};
 ghost use Rattle.tsp_cli.specs.declared.words.Job.{Job};
 ghost use Rattle.tsp_cli.specs.declared.words.Verb.TheVariants as verbs;
-ghost use Rattle.tsp_cli.specs.declared.request.Place.{Place};
-ghost use Rattle.tsp_task.specs.declared.request.Task.TheVariants as tasks;
-ghost use Rattle.tsp_task.specs.declared.request.Comparison.{Comparison};
-ghost use Rattle.tsp_task.specs.declared.request.Request.TheVariants as requests;
+ghost use Rattle.tsp_cli.specs.declared.task_of_job.InputPath.{InputPath};
+ghost use Rattle.tsp_task.specs.declared.task.FileTask.TheVariants as file_tasks;
+ghost use Rattle.tsp_task.specs.declared.task.Comparison.{Comparison};
+ghost use Rattle.tsp_task.specs.declared.task.Task.TheVariants as tasks;
 ghost use Rattle.tsp_reason.specs.declared.certificate.Certificate.TheVariants as certificates;
-ghost use Rattle.tsp_cli.specs.Requests.{IsTask, IsRequest};
+ghost use Rattle.tsp_cli.specs.Tasks.{IsFileTask, IsTask};
 ghost use Rattle.tsp_cli.specs.Examples.{IsWholeLine, found_value, all_values};
 
 /// A whole line of each verb, with each of its options.
@@ -86,42 +86,42 @@ pub fn examples_of_versions()
     ensures help { fault_of tsp (codes "help" ∷ []) ≡ kinds.DisplayHelp ∷ kinds.InvalidSubcommand ∷ [] }
 {}
 
-/// A request is strict exactly where its job is.
+/// A task is strict exactly where its job is.
 pub fn examples_of_strict_requests()
-    ensures check { (job : Job) (a b : Place) (claimed : Option ℤ) (strict : Bool) → IsTask job (tasks.Check a b None claimed strict)
+    ensures check { (job : Job) (a b : InputPath) (claimed : Option ℤ) (strict : Bool) → IsFileTask job (file_tasks.Check a b None claimed strict)
         → strict ≡ job.strict }
-    ensures bound { (job : Job) (a c : Place) (strict : Bool) → IsTask job (tasks.Bound a (certificates.Branches, c) strict)
+    ensures bound { (job : Job) (a c : InputPath) (strict : Bool) → IsFileTask job (file_tasks.Bound a (certificates.Branches, c) strict)
         → strict ≡ job.strict }
-    ensures compare { (job : Job) (c : Comparison Place) → IsRequest job (requests.Compare c) → c.strict ≡ job.strict }
+    ensures compare { (job : Job) (c : Comparison InputPath) → IsTask job (tasks.Compare c) → c.strict ≡ job.strict }
 {}
 
 /// With both certificates nothing is checked, compared or bounded: with either one it is
 /// without the other, and the plain check is without both. A bound has one of them.
 pub fn examples_of_two_certificates()
-    ensures plain_with_potentials { (job : Job) (a b : Place) (claimed : Option ℤ) (strict : Bool)
-        → job.potentials ≢ None → ¬ IsTask job (tasks.Check a b None claimed strict) }
-    ensures plain_with_branches { (job : Job) (a b : Place) (claimed : Option ℤ) (strict : Bool)
-        → job.branches ≢ None → ¬ IsTask job (tasks.Check a b None claimed strict) }
-    ensures potentials_with_branches { (job : Job) (a b c : Place) (claimed : Option ℤ) (strict : Bool)
+    ensures plain_with_potentials { (job : Job) (a b : InputPath) (claimed : Option ℤ) (strict : Bool)
+        → job.potentials ≢ None → ¬ IsFileTask job (file_tasks.Check a b None claimed strict) }
+    ensures plain_with_branches { (job : Job) (a b : InputPath) (claimed : Option ℤ) (strict : Bool)
+        → job.branches ≢ None → ¬ IsFileTask job (file_tasks.Check a b None claimed strict) }
+    ensures potentials_with_branches { (job : Job) (a b c : InputPath) (claimed : Option ℤ) (strict : Bool)
         → job.branches ≢ None
-        → ¬ IsTask job (tasks.Check a b (Some (certificates.Potentials, c)) claimed strict) }
-    ensures branches_with_potentials { (job : Job) (a b c : Place) (claimed : Option ℤ) (strict : Bool)
+        → ¬ IsFileTask job (file_tasks.Check a b (Some (certificates.Potentials, c)) claimed strict) }
+    ensures branches_with_potentials { (job : Job) (a b c : InputPath) (claimed : Option ℤ) (strict : Bool)
         → job.potentials ≢ None
-        → ¬ IsTask job (tasks.Check a b (Some (certificates.Branches, c)) claimed strict) }
-    ensures bound_with_branches { (job : Job) (a b : Place) (strict : Bool) → job.branches ≢ None
-        → ¬ IsTask job (tasks.Bound a (certificates.Potentials, b) strict) }
-    ensures bound_with_potentials { (job : Job) (a b : Place) (strict : Bool) → job.potentials ≢ None
-        → ¬ IsTask job (tasks.Bound a (certificates.Branches, b) strict) }
-    ensures compared_by_potentials { (job : Job) (c : Comparison Place) (a : Place) → job.branches ≢ None
-        → c.certificate ≡ Some (certificates.Potentials, a) → ¬ IsRequest job (requests.Compare c) }
-    ensures compared_by_branches { (job : Job) (c : Comparison Place) (a : Place) → job.potentials ≢ None
-        → c.certificate ≡ Some (certificates.Branches, a) → ¬ IsRequest job (requests.Compare c) }
-    ensures compared_by_none { (job : Job) (c : Comparison Place)
-        → job.potentials ≢ None → c.certificate ≡ None → ¬ IsRequest job (requests.Compare c) }
-    ensures another_verb { (job : Job) (c : Comparison Place)
-        → job.verb ≡ Some verbs.Check → ¬ IsRequest job (requests.Compare c) }
-    ensures shown { (job : Job) (a : Place)
-        → job.verb ≡ Some verbs.Check → ¬ IsTask job (tasks.Show a) }
-    ensures converted { (job : Job) (a : Place) (to : Option Layout) → job.verb ≡ Some verbs.Check
-        → ¬ IsTask job (tasks.Convert a to) }
+        → ¬ IsFileTask job (file_tasks.Check a b (Some (certificates.Branches, c)) claimed strict) }
+    ensures bound_with_branches { (job : Job) (a b : InputPath) (strict : Bool) → job.branches ≢ None
+        → ¬ IsFileTask job (file_tasks.Bound a (certificates.Potentials, b) strict) }
+    ensures bound_with_potentials { (job : Job) (a b : InputPath) (strict : Bool) → job.potentials ≢ None
+        → ¬ IsFileTask job (file_tasks.Bound a (certificates.Branches, b) strict) }
+    ensures compared_by_potentials { (job : Job) (c : Comparison InputPath) (a : InputPath) → job.branches ≢ None
+        → c.certificate ≡ Some (certificates.Potentials, a) → ¬ IsTask job (tasks.Compare c) }
+    ensures compared_by_branches { (job : Job) (c : Comparison InputPath) (a : InputPath) → job.potentials ≢ None
+        → c.certificate ≡ Some (certificates.Branches, a) → ¬ IsTask job (tasks.Compare c) }
+    ensures compared_by_none { (job : Job) (c : Comparison InputPath)
+        → job.potentials ≢ None → c.certificate ≡ None → ¬ IsTask job (tasks.Compare c) }
+    ensures another_verb { (job : Job) (c : Comparison InputPath)
+        → job.verb ≡ Some verbs.Check → ¬ IsTask job (tasks.Compare c) }
+    ensures shown { (job : Job) (a : InputPath)
+        → job.verb ≡ Some verbs.Check → ¬ IsFileTask job (file_tasks.Show a) }
+    ensures converted { (job : Job) (a : InputPath) (to : Option Layout) → job.verb ≡ Some verbs.Check
+        → ¬ IsFileTask job (file_tasks.Convert a to) }
 {}

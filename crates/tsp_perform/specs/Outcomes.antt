@@ -19,9 +19,9 @@ use Rattle.tsp_judge.specs.declared.compared.Compared.{Compared}
 use Rattle.tsp_judge.specs.BoundRun.{IsBoundRunOf}
 use Rattle.tsp_read.specs.Asked.{IsReadOn}
 use Rattle.tsp_reason.specs.declared.certificate.Certificate.{Certificate}
-use Rattle.tsp_task.specs.declared.request.Comparison.{Comparison}
-use Rattle.tsp_task.specs.declared.request.Task.{Task}
-use Rattle.tsp_task.specs.declared.request.Task.TheVariants.{Show, Convert, Check, Bound}
+use Rattle.tsp_task.specs.declared.task.Comparison.{Comparison}
+use Rattle.tsp_task.specs.declared.task.FileTask.{FileTask}
+use Rattle.tsp_task.specs.declared.task.FileTask.TheVariants.{Show, Convert, Check, Bound}
 use Rattle.tsp_perform.specs.declared.outcome.Outcome.{Outcome}
 use Rattle.tsp_perform.specs.declared.outcome.Outcome.TheVariants as outcomes
 
@@ -53,7 +53,7 @@ TakesNamed remaining (Some named) (Some left) Q = TakesAtMost most_taken (turn_o
 TakesNamed remaining _ _ Q = ⊥
 
 -- The task is done on these readers, as they were and as they are left, in the order in which it has them.
-abbrev pub IsDone : {R : Type 0} → (R → Option (List ℕ)) → Task (Watched R) → Task (Watched R) → Sink
+abbrev pub IsDone : {R : Type 0} → (R → Option (List ℕ)) → FileTask (Watched R) → FileTask (Watched R) → Sink
     → Result Outcome RunFault → Type 0
 IsDone remaining (Show file) (Show left) sink outcome = TakesAtMost most_taken (turn_of remaining file left) (λ turn.
     (ended : Result (Unit {0}) RunFault) × (outcome ≡ outcome_of_writing ended) × IsShowRun turn sink ended)
@@ -81,7 +81,7 @@ IsNamedReadOn gives (Some named) (Some left) = IsReadOn gives named.1 left.1
 IsNamedReadOn gives _ _ = ⊥
 
 -- the same of each reader of a task
-abbrev pub AreReadOn : {R : Type 0} → (R → List ℕ → Result ℕ Error → List ℕ → R → Type 0) → Task (Watched R) → Task (Watched R) → Type 0
+abbrev pub AreReadOn : {R : Type 0} → (R → List ℕ → Result ℕ Error → List ℕ → R → Type 0) → FileTask (Watched R) → FileTask (Watched R) → Type 0
 AreReadOn gives (Show file) (Show left) = IsReadOn gives file left
 AreReadOn gives (Convert file to) (Convert left same) = IsReadOn gives file left
 AreReadOn gives (Check instance solution certificate claimed strict)

@@ -27,8 +27,8 @@ ghost use Rattle.tsp_reason.specs.declared.verdict.Reason.{Reason};
 ghost use Rattle.tsp_reason.specs.declared.verdict.Verdict.TheVariants as verdicts;
 ghost use Rattle.tsp_perform.specs.declared.outcome.Outcome.{Outcome};
 ghost use Rattle.tsp_perform.specs.declared.outcome.Outcome.TheVariants as outcomes;
-ghost use Rattle.tsp_task.specs.declared.request.Comparison.{Comparison};
-ghost use Rattle.tsp_task.specs.declared.request.Task.TheVariants as tasks;
+ghost use Rattle.tsp_task.specs.declared.task.Comparison.{Comparison};
+ghost use Rattle.tsp_task.specs.declared.task.FileTask.TheVariants as file_tasks;
 ghost use Rattle.tsp_perform.specs.Outcomes.{AreComparedOn, AreReadOn, IsCompared, IsDone, is_yes_outcome, outcome_of_bound, outcome_of_check};
 
 use std::io::Read;
@@ -52,20 +52,20 @@ pub fn examples_of_outcomes()
 pub fn examples_of_done_tasks<R: Read>()
     ensures claimed { (instance solution instance_left solution_left : Watched R) (claimed : Option ℤ) (strict : Bool) (sink : Sink)
         (outcome : Result Outcome RunFault)
-        → IsDone R.remaining (tasks.Check instance solution None claimed strict)
-        (tasks.Check instance_left solution_left None claimed strict) sink outcome
+        → IsDone R.remaining (file_tasks.Check instance solution None claimed strict)
+        (file_tasks.Check instance_left solution_left None claimed strict) sink outcome
         → (first second : Turn) × (ended : Result Judged RunFault) × (outcome ≡ outcome_of_check ended)
         × IsRunOf None claimed strict first second sink ended }
     ensures certified { (by : Certificate) (instance solution certificate instance_left solution_left certificate_left : Watched R)
         (claimed : Option ℤ) (strict : Bool) (sink : Sink) (outcome : Result Outcome RunFault)
-        → IsDone R.remaining (tasks.Check instance solution (Some (by, certificate)) claimed strict)
-        (tasks.Check instance_left solution_left (Some (by, certificate_left)) claimed strict) sink outcome
+        → IsDone R.remaining (file_tasks.Check instance solution (Some (by, certificate)) claimed strict)
+        (file_tasks.Check instance_left solution_left (Some (by, certificate_left)) claimed strict) sink outcome
         → (first second third : Turn) × (ended : Result Judged RunFault) × (outcome ≡ outcome_of_check ended)
         × IsRunOf (Some (by, third)) claimed strict first second sink ended }
     ensures bounded { (by : Certificate) (instance certificate instance_left certificate_left : Watched R) (strict : Bool) (sink : Sink)
         (outcome : Result Outcome RunFault)
-        → IsDone R.remaining (tasks.Bound instance (by, certificate) strict)
-        (tasks.Bound instance_left (by, certificate_left) strict) sink outcome
+        → IsDone R.remaining (file_tasks.Bound instance (by, certificate) strict)
+        (file_tasks.Bound instance_left (by, certificate_left) strict) sink outcome
         → (first second : Turn) × (ended : Result Bounded RunFault) × (outcome ≡ outcome_of_bound ended)
         × IsBoundRunOf by strict first second sink ended }
 {}
@@ -76,13 +76,13 @@ pub fn examples_of_readers<R: Gives>()
     ensures instance { (instance solution instance_left solution_left : Watched R) (sink : Sink) (fault : ReadFault)
         → TakesAtMost most_taken (turn_of R.remaining instance instance_left) (StopsAt fault)
         → TakesAtMost most_taken (turn_of R.remaining solution solution_left) IsUnread → IsUnwritten sink
-        → IsDone R.remaining (tasks.Check instance solution None None false)
-        (tasks.Check instance_left solution_left None None false)
+        → IsDone R.remaining (file_tasks.Check instance solution None None false)
+        (file_tasks.Check instance_left solution_left None None false)
         sink (Err (run_faults.File 1 fault)) }
     ensures layout { (file left : Watched R) (to : Layout) (sink : Sink) (fault : RelayoutFault)
         → TakesAtMost most_taken (turn_of R.remaining file left) (λ turn.
         IsConvertRun (Some to) turn sink (Err (run_faults.Relayout fault)))
-        → IsDone R.remaining (tasks.Convert file (Some to)) (tasks.Convert left (Some to)) sink
+        → IsDone R.remaining (file_tasks.Convert file (Some to)) (file_tasks.Convert left (Some to)) sink
         (Err (run_faults.Relayout fault)) }
     ensures compared { (by : Certificate) (old new : Comparison (Watched R)) (certificate left : Watched R)
         (names : List (List ℕ)) (sink : Sink) (fault : ReadFault)
@@ -96,13 +96,13 @@ pub fn examples_of_readers<R: Gives>()
 /// for each other's.
 pub fn examples_of_asked_readers<R: Gives>()
     ensures solution { (instance solution instance_left solution_left : Watched R) (claimed same : Option ℤ) (strict also : Bool)
-        → AreReadOn R.gives (tasks.Check instance solution None claimed strict) (tasks.Check instance_left solution_left None same also)
+        → AreReadOn R.gives (file_tasks.Check instance solution None claimed strict) (file_tasks.Check instance_left solution_left None same also)
         → IsReadOn R.gives solution solution_left }
     ensures certificate { (by kept : Certificate) (a b c x y z : Watched R) (claimed same : Option ℤ) (strict also : Bool)
-        → AreReadOn R.gives (tasks.Check a b (Some (by, c)) claimed strict) (tasks.Check x y (Some (kept, z)) same also)
+        → AreReadOn R.gives (file_tasks.Check a b (Some (by, c)) claimed strict) (file_tasks.Check x y (Some (kept, z)) same also)
         → IsReadOn R.gives c z }
     ensures bound { (by kept : Certificate) (a c x z : Watched R) (strict also : Bool)
-        → AreReadOn R.gives (tasks.Bound a (by, c) strict) (tasks.Bound x (kept, z) also) → IsReadOn R.gives c z }
+        → AreReadOn R.gives (file_tasks.Bound a (by, c) strict) (file_tasks.Bound x (kept, z) also) → IsReadOn R.gives c z }
     ensures compared { (by : Certificate) (old new : Comparison (Watched R)) (c z : Watched R)
         → old.certificate ≡ Some (by, c) → new.certificate ≡ Some (by, z) → AreComparedOn R.gives old new
         → IsReadOn R.gives c z }

@@ -1,4 +1,4 @@
-//! What the outcome or the fault of a request means, for a person. A request of names has what the
+//! What the outcome or the fault of a task means, for a person. A task of names has what the
 //! user calls each of its files.
 
 ghost use Rattle.std.specs.Io.{StartsWith};
@@ -14,7 +14,7 @@ use tsp_explain::{
 use tsp_file::File;
 use tsp_judge::{Basis, BoundVerdict, Common, RunFault, Verdict, WriteFault};
 use tsp_reason::{Certificate, Role};
-use tsp_task::{Request, Task};
+use tsp_task::{FileTask, Task};
 
 /// Appends what explains the line `no`, from the files that were judged, and after `yes` whether a
 /// comment of the solution claims another length.
@@ -25,7 +25,7 @@ use tsp_task::{Request, Task};
 pub fn explain_outcome<'a>(
     alloc: Global,
     text: &mut Vec<u8>,
-    names: &Request<'_, &'a str>,
+    names: &Task<'_, &'a str>,
     outcome: &'a Outcome,
 ) -> Result<(), AllocError>
     ensures { StartsWith text.new.items text.old.items }
@@ -61,7 +61,7 @@ pub fn explain_outcome<'a>(
 pub fn explain_basis<'a>(
     alloc: Global,
     text: &mut Vec<u8>,
-    names: &Request<'_, &'a str>,
+    names: &Task<'_, &'a str>,
     common: &'a Common,
 ) -> Result<(), AllocError>
     ensures { StartsWith text.new.items text.old.items }
@@ -95,7 +95,7 @@ pub struct Solution<'a> {
 pub fn explain_solution<'a>(
     alloc: Global,
     text: &mut Vec<u8>,
-    names: &Request<'_, &'a str>,
+    names: &Task<'_, &'a str>,
     common: &'a Common,
     solution: Solution<'a>,
 ) -> Result<(), AllocError>
@@ -119,7 +119,7 @@ pub fn explain_solution<'a>(
 pub fn explain_fault<R: Read + Drop>(
     alloc: Global,
     text: &mut Vec<u8>,
-    names: &Request<'_, &str>,
+    names: &Task<'_, &str>,
     again: Option<R>,
     error: Option<&io::Error>,
     fault: RunFault,
@@ -160,7 +160,7 @@ fn explain_write(
 }
 
 /// What the file with this number is given for, and what it is called.
-fn named<'a>(names: &Request<'_, &'a str>, number: u32) -> (Option<Role>, &'a str) {
+fn named<'a>(names: &Task<'_, &'a str>, number: u32) -> (Option<Role>, &'a str) {
     match names.file(number) {
         Some((given, name)) => (given, *name),
         None => (None, ""),
@@ -168,7 +168,7 @@ fn named<'a>(names: &Request<'_, &'a str>, number: u32) -> (Option<Role>, &'a st
 }
 
 /// What the files are called by what they are given for. `solution` is the one that is compared.
-fn names_of<'a>(names: &Request<'_, &'a str>, solution: &'a str) -> Names<'a> {
+fn names_of<'a>(names: &Task<'_, &'a str>, solution: &'a str) -> Names<'a> {
     let mut all = Names {
         instance: "",
         solution,
@@ -194,6 +194,6 @@ fn file_of(certificate: &Option<(Certificate, File)>) -> Option<&File> {
 }
 
 /// Whether tours are bounded, and no solution is judged.
-fn is_bound<F>(request: &Request<'_, F>) -> bool {
-    matches!(request, Request::Task(Task::Bound { .. }))
+fn is_bound<F>(task: &Task<'_, F>) -> bool {
+    matches!(task, Task::Files(FileTask::Bound { .. }))
 }

@@ -1,4 +1,4 @@
-//! A request on readers of its files, done by the call of its verb, and explained to a person.
+//! A task on readers of its files, done by the call of its verb, and explained to a person.
 //!
 //! ```text
 //! let outcome = perform(alloc, &mut task, &mut out)?;

@@ -17,7 +17,7 @@ use tsp_judge::{
 };
 use tsp_reason::Certificate;
 use tsp_stream::Gives;
-use tsp_task::{Comparison, Task};
+use tsp_task::{Comparison, FileTask};
 
 /// What a task comes to.
 #[derive(Drop)]
@@ -49,16 +49,16 @@ pub fn is_yes_outcome(outcome: &Outcome) -> bool
 /// Those of the call of the task's verb.
 pub fn perform<R: Gives, W: Write>(
     alloc: Global,
-    task: &mut Task<Watched<R>>,
+    task: &mut FileTask<Watched<R>>,
     out: &mut Watched<W>,
 ) -> Result<Outcome, RunError>
     ensures done { IsDone R.remaining task.old task.new (sink_of W.contents out.old out.new) result }
     ensures asked { AreReadOn R.gives task.old task.new }
 {
     match task {
-        Task::Show { file } => done(show_file(alloc, file, out)),
-        Task::Convert { file, layout } => done(convert_file(alloc, file, *layout, out)),
-        Task::Check {
+        FileTask::Show { file } => done(show_file(alloc, file, out)),
+        FileTask::Convert { file, layout } => done(convert_file(alloc, file, *layout, out)),
+        FileTask::Check {
             instance,
             solution,
             certificate,
@@ -76,7 +76,7 @@ pub fn perform<R: Gives, W: Write>(
             );
             judged(ended)
         }
-        Task::Bound {
+        FileTask::Bound {
             instance,
             certificate: (by, file),
             strict,

@@ -1,11 +1,11 @@
--- The same request of other files, by a relation that another one implies. For `opened` and `opened_to_compare` in
+-- The same task of other files, by a relation that another one implies. For `opened` and `opened_to_compare` in
 -- src/opened_files.rt.
 use Rattle.std.proofs.Common.{Option, None, Some}
 use Rattle.tsp_reason.specs.declared.certificate.Certificate.{Certificate}
 use Rattle.tsp_task.specs.Mapped.{IsMapped, IsMappedCertificate, IsMappedComparison}
-use Rattle.tsp_task.specs.declared.request.Comparison.{Comparison}
-use Rattle.tsp_task.specs.declared.request.Task.{Task}
-use Rattle.tsp_task.specs.declared.request.Task.TheVariants.{Show, Convert, Check, Bound}
+use Rattle.tsp_task.specs.declared.task.Comparison.{Comparison}
+use Rattle.tsp_task.specs.declared.task.FileTask.{FileTask}
+use Rattle.tsp_task.specs.declared.task.FileTask.TheVariants.{Show, Convert, Check, Bound}
 
 certificate_by : {F G : Type 0} (P Q : F → G → Type 0) → ((a : F) (x : G) → P a x → Q a x) → (old : Option (Certificate × F)) (new : Option (Certificate × G))
     → IsMappedCertificate P old new → IsMappedCertificate Q old new
@@ -14,7 +14,7 @@ certificate_by P Q implies None (Some x) same = absurd same
 certificate_by P Q implies (Some a) None same = absurd same
 certificate_by P Q implies (Some a) (Some x) same = (same.0, implies a.1 x.1 same.1)
 
-pub task_by : {F G : Type 0} (P Q : F → G → Type 0) → ((a : F) (x : G) → P a x → Q a x) → (old : Task F) (new : Task G) → IsMapped P old new → IsMapped Q old new
+pub task_by : {F G : Type 0} (P Q : F → G → Type 0) → ((a : F) (x : G) → P a x → Q a x) → (old : FileTask F) (new : FileTask G) → IsMapped P old new → IsMapped Q old new
 task_by P Q implies (Show a) (Show x) same = implies a x same
 task_by P Q implies (Show a) (Convert x to) same = absurd same
 task_by P Q implies (Show a) (Check x y z claimed strict) same = absurd same

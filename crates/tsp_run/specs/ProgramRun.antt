@@ -10,21 +10,21 @@ use Rattle.clap.specs.declared.error.kind.ErrorKind.TheVariants as kinds
 use Rattle.tsp_judge.specs.declared.Watched.{Watched}
 use Rattle.tsp_judge.specs.Sink.{Sink, IsUnwritten}
 use Rattle.tsp_run.specs.declared.run_end.RunEnd.{RunEnd}
-use Rattle.tsp_run.specs.declared.run_end.RunEnd.TheVariants.{NoJob, Printed, NoRequest, Ended}
+use Rattle.tsp_run.specs.declared.run_end.RunEnd.TheVariants.{NoJob, Printed, NoTask, Ended}
 use Rattle.tsp_run.specs.declared.run_end.RunEnd.TheVariants as run_ends
 use Rattle.tsp_perform.specs.declared.outcome.Outcome.{Outcome}
 use Rattle.tsp_judge.specs.declared.compared.Compared.{Compared}
 use Rattle.tsp_judge.specs.declared.fault.RunFault.{RunFault}
 use Rattle.tsp_cli.specs.declared.words.Job.{Job}
 use Rattle.tsp_cli.specs.declared.words.JobFault.{JobFault}
-use Rattle.tsp_cli.specs.declared.request.Place.{Place}
-use Rattle.tsp_task.specs.declared.request.Task.{Task}
+use Rattle.tsp_cli.specs.declared.task_of_job.InputPath.{InputPath}
+use Rattle.tsp_task.specs.declared.task.FileTask.{FileTask}
 use Rattle.tsp_task.specs.Mapped.{IsMapped}
 use Rattle.tsp_cli.specs.declared.words.JobFault.TheVariants.{OutOfMemory, Refused}
 use Rattle.tsp_cli.specs.CommandWords.{GivesJob, IsOtherRefusal}
-use Rattle.tsp_task.specs.declared.request.Comparison.{Comparison}
-use Rattle.tsp_task.specs.declared.request.Request.TheVariants as requests
-use Rattle.tsp_cli.specs.Requests.{GivesRequest}
+use Rattle.tsp_task.specs.declared.task.Comparison.{Comparison}
+use Rattle.tsp_task.specs.declared.task.Task.TheVariants as tasks
+use Rattle.tsp_cli.specs.Tasks.{GivesTask}
 use Rattle.tsp_run.specs.ComparisonRun.{IsComparedAs, IsFresh}
 use Rattle.tsp_perform.specs.Outcomes.{AreReadOn, IsDone}
 use Rattle.tsp_stream.specs.declared.output.WriteFault.{WriteFault}
@@ -32,26 +32,26 @@ use Rattle.tsp_run.specs.RunEnd.{status_of_run_end, TellsAll}
 use Rattle.tsp_run.specs.Printing.{Prints, PrintsSome, version_text}
 
 -- the same task, each of its files opened in its place
-abbrev pub AreFresh : {F : Type 0} → (Place → F → Type 0) → Task Place → Task (Watched F) → Type 0
+abbrev pub AreFresh : {F : Type 0} → (InputPath → F → Type 0) → FileTask InputPath → FileTask (Watched F) → Type 0
 AreFresh opens = IsMapped (IsFresh opens)
 
 -- the task is done on its files, opened in their places; each has failed where its last read has
 abbrev pub IsDoneAs : {F : Type 0} → (F → Option (List ℕ)) → (F → List ℕ → Result ℕ Error → List ℕ → F → Type 0)
-    → (Place → F → Type 0) → Task Place → Sink → Result Outcome RunFault → Type 0
-IsDoneAs {F = F} remaining gives opens task sink answer = (old new : Task (Watched F)) × AreFresh opens task old
+    → (InputPath → F → Type 0) → FileTask InputPath → Sink → Result Outcome RunFault → Type 0
+IsDoneAs {F = F} remaining gives opens task sink answer = (old new : FileTask (Watched F)) × AreFresh opens task old
     × IsDone remaining old new sink answer × AreReadOn gives old new
 
 -- How a run ends that has this job: it asks for nothing, and then nothing is written; or the task was done on its files,
 -- opened in their places; or the solutions were compared.
 abbrev pub EndsWith : {F : Type 0} → (F → Option (List ℕ)) → (F → List ℕ → Result ℕ Error → List ℕ → F → Type 0)
-    → (Place → F → Type 0) → Job → Sink → RunEnd → Type 0
+    → (InputPath → F → Type 0) → Job → Sink → RunEnd → Type 0
 EndsWith remaining gives opens job sink (NoJob fault) = ⊥
 EndsWith remaining gives opens job sink (Printed printed) = ⊥
-EndsWith remaining gives opens job sink (NoRequest fault) = GivesRequest job (Err fault) × IsUnwritten sink
-EndsWith remaining gives opens job sink (Ended answer) = (task : Task Place) × GivesRequest job (Ok (requests.Task task))
+EndsWith remaining gives opens job sink (NoTask fault) = GivesTask job (Err fault) × IsUnwritten sink
+EndsWith remaining gives opens job sink (Ended answer) = (task : FileTask InputPath) × GivesTask job (Ok (tasks.Files task))
     × IsDoneAs remaining gives opens task sink answer
-EndsWith remaining gives opens job sink (run_ends.Compared answer) = (comparison : Comparison Place) × GivesRequest job
-    (Ok (requests.Compare comparison))
+EndsWith remaining gives opens job sink (run_ends.Compared answer) = (comparison : Comparison InputPath) × GivesTask job
+    (Ok (tasks.Compare comparison))
     × IsComparedAs remaining gives opens comparison sink answer
 
 -- the words ask for the version
@@ -85,15 +85,15 @@ EndsRefused build words sink refusal other = ⊥
 -- nothing is written; or they ask for the version, or for help by the verb `help`, and that is printed. Or the run ends with the
 -- job that they ask for. That is explained where the job says so, and on a terminal; nothing else is.
 abbrev pub EndsProgram : {F : Type 0} → (F → Option (List ℕ)) → (F → List ℕ → Result ℕ Error → List ℕ → F → Type 0)
-    → (Place → F → Type 0) → Bool → Text → List Text → Sink → Bool → RunEnd → Type 0
+    → (InputPath → F → Type 0) → Bool → Text → List Text → Sink → Bool → RunEnd → Type 0
 EndsProgram remaining gives opens on_terminal build words sink explained (NoJob fault) = GivesJob (drop 1 words) (Err fault)
     × (AsksVersion fault → ⊥) × (AsksHelp (drop 1 words) fault → ⊥) × IsUnwritten sink × (explained ≡ false)
 EndsProgram remaining gives opens on_terminal build words sink explained (Printed printed) = (fault : JobFault)
     × GivesJob (drop 1 words) (Err fault)
     × PrintsAsked build (drop 1 words) fault sink printed × (explained ≡ false)
-EndsProgram remaining gives opens on_terminal build words sink explained (NoRequest fault) = (job : Job)
+EndsProgram remaining gives opens on_terminal build words sink explained (NoTask fault) = (job : Job)
     × GivesJob (drop 1 words) (Ok job)
-    × EndsWith remaining gives opens job sink (NoRequest fault) × (explained ≡ (job.explain || on_terminal))
+    × EndsWith remaining gives opens job sink (NoTask fault) × (explained ≡ (job.explain || on_terminal))
 EndsProgram remaining gives opens on_terminal build words sink explained (Ended answer) = (job : Job)
     × GivesJob (drop 1 words) (Ok job)
     × EndsWith remaining gives opens job sink (Ended answer) × (explained ≡ (job.explain || on_terminal))
@@ -107,7 +107,7 @@ abbrev pub HasNoWords : ErrorKind → Bool → RunEnd → Type 0
 HasNoWords kind explained (NoJob fault) = (kind ≡ io_kinds.OutOfMemory → fault ≡ OutOfMemory)
     × (kind ≢ io_kinds.OutOfMemory → IsOtherRefusal fault) × (explained ≡ false)
 HasNoWords kind explained (Printed printed) = ⊥
-HasNoWords kind explained (NoRequest fault) = ⊥
+HasNoWords kind explained (NoTask fault) = ⊥
 HasNoWords kind explained (Ended answer) = ⊥
 HasNoWords kind explained (run_ends.Compared answer) = ⊥
 
@@ -119,9 +119,9 @@ IsTold explained run_end old new answer = (answer.0 ≡ status_of_run_end run_en
 abbrev pub RunsJob : (RunEnd → Type 0) → Bool → Option (List ℕ) → Option (List ℕ) → ℕ × Result (Unit {0}) Error → Type 0
 RunsJob Q explained old new answer = (run_end : RunEnd) × Q run_end × IsTold explained run_end old new answer
 
-abbrev pub RunsTask : (Result Outcome RunFault → Type 0) → Bool → Option (List ℕ) → Option (List ℕ)
+abbrev pub RunsFileTask : (Result Outcome RunFault → Type 0) → Bool → Option (List ℕ) → Option (List ℕ)
     → ℕ × Result (Unit {0}) Error → Type 0
-RunsTask Q explained old new answer = (done : Result Outcome RunFault) × Q done × IsTold explained (Ended done) old new answer
+RunsFileTask Q explained old new answer = (done : Result Outcome RunFault) × Q done × IsTold explained (Ended done) old new answer
 
 abbrev pub RunsComparison : (Result Compared RunFault → Type 0) → Bool → Option (List ℕ) → Option (List ℕ)
     → ℕ × Result (Unit {0}) Error → Type 0

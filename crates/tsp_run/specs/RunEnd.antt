@@ -6,11 +6,11 @@ use Rattle.tsp_judge.specs.RunFaultText.{run_fault_text}
 use Rattle.tsp_judge.specs.declared.fault.RunFault.TheVariants.{Write}
 use Rattle.tsp_judge.specs.Status.{status_of}
 use Rattle.tsp_cli.specs.declared.words.JobFault.TheVariants as job_faults
-use Rattle.tsp_cli.specs.declared.request.RequestFault.TheVariants.{UnknownLayout, MissingPath, TwoCertificates, NoCertificate, NotALength, InputTwice, LineEndInPath}
+use Rattle.tsp_cli.specs.declared.task_of_job.TaskFault.TheVariants.{UnknownLayout, MissingPath, TwoCertificates, NoCertificate, NotALength, InputTwice, LineEndInPath}
 use Rattle.tsp_perform.specs.Outcomes.{is_yes_outcome}
 use Rattle.tsp_run.specs.Telling.{MayTell}
 use Rattle.tsp_run.specs.declared.run_end.RunEnd.{RunEnd}
-use Rattle.tsp_run.specs.declared.run_end.RunEnd.TheVariants.{NoJob, Printed, NoRequest, Ended, Compared}
+use Rattle.tsp_run.specs.declared.run_end.RunEnd.TheVariants.{NoJob, Printed, NoTask, Ended, Compared}
 use Rattle.tsp_run.specs.declared.run_end.ErrorLine.{ErrorLine}
 use Rattle.tsp_run.specs.declared.run_end.ErrorLine.TheVariants as error_lines
 
@@ -21,7 +21,7 @@ status_of_run_end (NoJob (job_faults.Refused refusal)) = 4
 status_of_run_end (NoJob job_faults.OutOfMemory) = 3
 status_of_run_end (Printed (Ok done)) = 0
 status_of_run_end (Printed (Err fault)) = status_of (Err (Write fault))
-status_of_run_end (NoRequest fault) = 4
+status_of_run_end (NoTask fault) = 4
 status_of_run_end (Ended (Ok outcome)) = status_of (Ok (is_yes_outcome outcome))
 status_of_run_end (Ended (Err fault)) = status_of (Err fault)
 status_of_run_end (Compared (Ok compared)) = compared.status
@@ -33,7 +33,7 @@ IsLineOf (NoJob (job_faults.Refused refusal)) (Some (error_lines.Refusal told)) 
 IsLineOf (NoJob job_faults.OutOfMemory) line = line ≡ Some error_lines.OutOfMemory
 IsLineOf (Printed (Ok done)) line = line ≡ None
 IsLineOf (Printed (Err fault)) line = line ≡ Some (error_lines.Fault (Write fault))
-IsLineOf (NoRequest fault) line = line ≡ Some (error_lines.NoRequest fault)
+IsLineOf (NoTask fault) line = line ≡ Some (error_lines.NoTask fault)
 IsLineOf (Ended (Ok answer)) line = line ≡ None
 IsLineOf (Ended (Err fault)) line = line ≡ Some (error_lines.Fault fault)
 IsLineOf (Compared (Ok compared)) line = line ≡ None
@@ -48,13 +48,13 @@ ended text = Some (text ++ 10 ∷ [])
 abbrev pub line_text : ErrorLine → Option (List ℕ)
 line_text (error_lines.Refusal refusal) = None
 line_text error_lines.OutOfMemory = ended (codes "out of memory")
-line_text (error_lines.NoRequest UnknownLayout) = ended (codes "unknown layout")
-line_text (error_lines.NoRequest MissingPath) = ended (codes "missing path")
-line_text (error_lines.NoRequest TwoCertificates) = ended (codes "both potentials and branches")
-line_text (error_lines.NoRequest NoCertificate) = ended (codes "neither potentials nor branches")
-line_text (error_lines.NoRequest NotALength) = ended (codes "not a length")
-line_text (error_lines.NoRequest InputTwice) = ended (codes "standard input twice")
-line_text (error_lines.NoRequest LineEndInPath) = ended (codes "line end in a path")
+line_text (error_lines.NoTask UnknownLayout) = ended (codes "unknown layout")
+line_text (error_lines.NoTask MissingPath) = ended (codes "missing path")
+line_text (error_lines.NoTask TwoCertificates) = ended (codes "both potentials and branches")
+line_text (error_lines.NoTask NoCertificate) = ended (codes "neither potentials nor branches")
+line_text (error_lines.NoTask NotALength) = ended (codes "not a length")
+line_text (error_lines.NoTask InputTwice) = ended (codes "standard input twice")
+line_text (error_lines.NoTask LineEndInPath) = ended (codes "line end in a path")
 line_text (error_lines.Fault fault) = ended (run_fault_text fault)
 
 -- no byte ends a line

@@ -10,7 +10,7 @@ ghost use Rattle.tsp_judge.specs.declared.WriteFault.TheVariants as write_faults
 ghost use Rattle.tsp_judge.specs.declared.RelayoutFault.TheVariants as relayout_faults;
 ghost use Rattle.tsp_judge.specs.declared.fault.RunFault.TheVariants as run_faults;
 ghost use Rattle.tsp_cli.specs.declared.words.JobFault.TheVariants as job_faults;
-ghost use Rattle.tsp_cli.specs.declared.request.RequestFault.TheVariants as request_faults;
+ghost use Rattle.tsp_cli.specs.declared.task_of_job.TaskFault.TheVariants as task_faults;
 ghost use Rattle.tsp_run.specs.declared.run_end.RunEnd.TheVariants as run_ends;
 ghost use Rattle.tsp_run.specs.declared.run_end.ErrorLine.TheVariants as error_lines;
 ghost use Rattle.tsp_perform.specs.declared.outcome.Outcome.{Outcome};
@@ -22,10 +22,10 @@ ghost use Rattle.tsp_run.specs.Telling.{MayTell};
 ghost use Rattle.tsp_judge.specs.declared.Watched.{Watched};
 ghost use Rattle.tsp_judge.specs.Watched.{watched};
 ghost use Rattle.tsp_judge.specs.declared.Certificate.{Certificate};
-ghost use Rattle.tsp_cli.specs.declared.request.Place.{Place};
-ghost use Rattle.tsp_cli.specs.Requests.{IsPlaceAt};
-ghost use Rattle.tsp_task.specs.declared.request.Comparison.{Comparison};
-ghost use Rattle.tsp_task.specs.declared.request.Task.TheVariants as tasks;
+ghost use Rattle.tsp_cli.specs.declared.task_of_job.InputPath.{InputPath};
+ghost use Rattle.tsp_cli.specs.Tasks.{IsInputPathAt};
+ghost use Rattle.tsp_task.specs.declared.task.Comparison.{Comparison};
+ghost use Rattle.tsp_task.specs.declared.task.FileTask.TheVariants as file_tasks;
 ghost use Rattle.tsp_run.specs.ComparisonRun.{IsOpenedAt, paths_of};
 ghost use Rattle.tsp_run.specs.Printing.{version_text};
 ghost use Rattle.tsp_run.specs.ProgramRun.{AreFresh, begins_with_help};
@@ -54,13 +54,13 @@ pub fn examples_of_statuses()
     ensures printed { status_of_run_end (run_ends.Printed (Ok tt)) ≡ 0 }
     ensures unprinted { status_of_run_end (run_ends.Printed (Err write_faults.Device)) ≡ 5 }
     ensures no_memory_to_print { status_of_run_end (run_ends.Printed (Err write_faults.OutOfMemory)) ≡ 3 }
-    ensures input_twice { status_of_run_end (run_ends.NoRequest request_faults.InputTwice) ≡ 4 }
-    ensures unknown_layout { status_of_run_end (run_ends.NoRequest request_faults.UnknownLayout) ≡ 4 }
-    ensures missing_path { status_of_run_end (run_ends.NoRequest request_faults.MissingPath) ≡ 4 }
-    ensures no_certificate { status_of_run_end (run_ends.NoRequest request_faults.NoCertificate) ≡ 4 }
-    ensures no_length { status_of_run_end (run_ends.NoRequest request_faults.NotALength) ≡ 4 }
-    ensures line_end { status_of_run_end (run_ends.NoRequest request_faults.LineEndInPath) ≡ 4 }
-    ensures two_certificates { status_of_run_end (run_ends.NoRequest request_faults.TwoCertificates) ≡ 4 }
+    ensures input_twice { status_of_run_end (run_ends.NoTask task_faults.InputTwice) ≡ 4 }
+    ensures unknown_layout { status_of_run_end (run_ends.NoTask task_faults.UnknownLayout) ≡ 4 }
+    ensures missing_path { status_of_run_end (run_ends.NoTask task_faults.MissingPath) ≡ 4 }
+    ensures no_certificate { status_of_run_end (run_ends.NoTask task_faults.NoCertificate) ≡ 4 }
+    ensures no_length { status_of_run_end (run_ends.NoTask task_faults.NotALength) ≡ 4 }
+    ensures line_end { status_of_run_end (run_ends.NoTask task_faults.LineEndInPath) ≡ 4 }
+    ensures two_certificates { status_of_run_end (run_ends.NoTask task_faults.TwoCertificates) ≡ 4 }
     ensures device_in { status_of_fault (run_faults.File 2 read_faults.Device) ≡ 5 }
     ensures device_out { status_of_fault (run_faults.Write write_faults.Device) ≡ 5 }
     ensures of_fault { status_of_run_end (run_ends.Ended (Err run_faults.WrongKind)) ≡ 2 }
@@ -73,15 +73,15 @@ pub fn examples_of_statuses()
 /// The lines of this program's own, and of faults. Digits are as `decimal` writes them.
 pub fn examples_of_lines()
     ensures memory { line_text error_lines.OutOfMemory ≡ Some (codes "out of memory\n") }
-    ensures unknown_layout { line_text (error_lines.NoRequest request_faults.UnknownLayout) ≡ Some (codes "unknown layout\n") }
-    ensures missing_path { line_text (error_lines.NoRequest request_faults.MissingPath) ≡ Some (codes "missing path\n") }
-    ensures two_certificates { line_text (error_lines.NoRequest request_faults.TwoCertificates)
+    ensures unknown_layout { line_text (error_lines.NoTask task_faults.UnknownLayout) ≡ Some (codes "unknown layout\n") }
+    ensures missing_path { line_text (error_lines.NoTask task_faults.MissingPath) ≡ Some (codes "missing path\n") }
+    ensures two_certificates { line_text (error_lines.NoTask task_faults.TwoCertificates)
         ≡ Some (codes "both potentials and branches\n") }
-    ensures no_certificate { line_text (error_lines.NoRequest request_faults.NoCertificate)
+    ensures no_certificate { line_text (error_lines.NoTask task_faults.NoCertificate)
         ≡ Some (codes "neither potentials nor branches\n") }
-    ensures no_length { line_text (error_lines.NoRequest request_faults.NotALength) ≡ Some (codes "not a length\n") }
-    ensures line_end { line_text (error_lines.NoRequest request_faults.LineEndInPath) ≡ Some (codes "line end in a path\n") }
-    ensures input_twice { line_text (error_lines.NoRequest request_faults.InputTwice) ≡ Some (codes "standard input twice\n") }
+    ensures no_length { line_text (error_lines.NoTask task_faults.NotALength) ≡ Some (codes "not a length\n") }
+    ensures line_end { line_text (error_lines.NoTask task_faults.LineEndInPath) ≡ Some (codes "line end in a path\n") }
+    ensures input_twice { line_text (error_lines.NoTask task_faults.InputTwice) ≡ Some (codes "standard input twice\n") }
     ensures version { version_text (codes "a build") ≡ codes "tsp 1.1.0 (a build)\n" }
     ensures file { line_text (error_lines.Fault (run_faults.File 2 read_faults.TooLong))
         ≡ ended (codes "file " ++ (decimal 2 ++ codes ": too long")) }
@@ -107,25 +107,25 @@ pub fn examples_of_help()
 
 /// Each file of a task is the one that is opened in its place.
 pub fn examples_of_opened_files()
-    ensures check { (a b : Place) (claimed same : Option ℤ) (strict also : Bool) (x y : Watched Place)
-        → AreFresh (λ place file. file ≡ place) (tasks.Check a b None claimed strict) (tasks.Check x y None same also)
+    ensures check { (a b : InputPath) (claimed same : Option ℤ) (strict also : Bool) (x y : Watched InputPath)
+        → AreFresh (λ place file. file ≡ place) (file_tasks.Check a b None claimed strict) (file_tasks.Check x y None same also)
         → (watched x ≡ a) × (watched y ≡ b) × (same ≡ claimed) × (also ≡ strict) }
-    ensures certified { (by kept : Certificate) (a b c : Place) (claimed same : Option ℤ) (strict also : Bool) (x y z : Watched Place)
-        → AreFresh (λ place file. file ≡ place) (tasks.Check a b (Some (by, c)) claimed strict)
-        (tasks.Check x y (Some (kept, z)) same also)
+    ensures certified { (by kept : Certificate) (a b c : InputPath) (claimed same : Option ℤ) (strict also : Bool) (x y z : Watched InputPath)
+        → AreFresh (λ place file. file ≡ place) (file_tasks.Check a b (Some (by, c)) claimed strict)
+        (file_tasks.Check x y (Some (kept, z)) same also)
         → (kept ≡ by) × (watched x ≡ a) × (watched y ≡ b) × (watched z ≡ c) × (same ≡ claimed) × (also ≡ strict) }
-    ensures bound { (by kept : Certificate) (a c : Place) (strict also : Bool) (x z : Watched Place)
-        → AreFresh (λ place file. file ≡ place) (tasks.Bound a (by, c) strict) (tasks.Bound x (kept, z) also)
+    ensures bound { (by kept : Certificate) (a c : InputPath) (strict also : Bool) (x z : Watched InputPath)
+        → AreFresh (λ place file. file ≡ place) (file_tasks.Bound a (by, c) strict) (file_tasks.Bound x (kept, z) also)
         → (kept ≡ by) × (watched x ≡ a) × (watched z ≡ c) × (also ≡ strict) }
-    ensures another_task { (by kept : Certificate) (a b c : Place) (claimed : Option ℤ) (strict also : Bool) (x z : Watched Place)
-        → ¬ AreFresh (λ place file. file ≡ place) (tasks.Check a b (Some (by, c)) claimed strict)
-        (tasks.Bound x (kept, z) also) }
-    ensures first_solution { (file : Place) → IsOpenedAt (λ place file. file ≡ place) (codes "a" ∷ codes "b" ∷ []) 0 file
-        → (place : Place) × IsPlaceAt (codes "a") place × (file ≡ place) }
-    ensures second_solution { (file : Place) → IsOpenedAt (λ place file. file ≡ place) (codes "a" ∷ codes "b" ∷ []) 1 file
-        → (place : Place) × IsPlaceAt (codes "b") place × (file ≡ place) }
-    ensures each_solution { (comparison : Comparison Place)
+    ensures another_task { (by kept : Certificate) (a b c : InputPath) (claimed : Option ℤ) (strict also : Bool) (x z : Watched InputPath)
+        → ¬ AreFresh (λ place file. file ≡ place) (file_tasks.Check a b (Some (by, c)) claimed strict)
+        (file_tasks.Bound x (kept, z) also) }
+    ensures first_solution { (file : InputPath) → IsOpenedAt (λ place file. file ≡ place) (codes "a" ∷ codes "b" ∷ []) 0 file
+        → (place : InputPath) × IsInputPathAt (codes "a") place × (file ≡ place) }
+    ensures second_solution { (file : InputPath) → IsOpenedAt (λ place file. file ≡ place) (codes "a" ∷ codes "b" ∷ []) 1 file
+        → (place : InputPath) × IsInputPathAt (codes "b") place × (file ≡ place) }
+    ensures each_solution { (comparison : Comparison InputPath)
         → length (paths_of comparison) ≡ length comparison.solutions.now }
-    ensures certificate_dropped { (by : Certificate) (a b c : Place) (claimed same : Option ℤ) (strict also : Bool) (x y : Watched Place)
-        → ¬ AreFresh (λ place file. file ≡ place) (tasks.Check a b (Some (by, c)) claimed strict) (tasks.Check x y None same also) }
+    ensures certificate_dropped { (by : Certificate) (a b c : InputPath) (claimed same : Option ℤ) (strict also : Bool) (x y : Watched InputPath)
+        → ¬ AreFresh (λ place file. file ≡ place) (file_tasks.Check a b (Some (by, c)) claimed strict) (file_tasks.Check x y None same also) }
 {}

@@ -6,24 +6,24 @@ use std::alloc::Global;
 use std::io;
 use std::io::Read;
 use std::marker::PhantomData;
-use tsp_cli::{Place, RequestFault};
+use tsp_cli::{InputPath, TaskFault};
 use tsp_explain::push_lines;
 use tsp_judge::RunFault;
 use tsp_perform::{explain_basis, explain_fault, explain_outcome};
-use tsp_task::Request;
+use tsp_task::Task;
 
 /// What explains why a job asks for nothing, line by line. It is cut short where there is no memory
 /// for more.
-pub(crate) fn fault_explanation(alloc: Global, fault: RequestFault) -> Vec<u8> {
+pub(crate) fn fault_explanation(alloc: Global, fault: TaskFault) -> Vec<u8> {
     let mut text = Vec::new(alloc);
     let _ = match fault {
-        RequestFault::MissingPath => Ok(()),
-        RequestFault::UnknownLayout => push_lines(&mut text, LAYOUTS),
-        RequestFault::TwoCertificates => push_lines(&mut text, CERTIFICATES),
-        RequestFault::InputTwice => push_lines(&mut text, INPUT),
-        RequestFault::NoCertificate => push_lines(&mut text, NO_CERTIFICATE),
-        RequestFault::NotALength => push_lines(&mut text, LENGTHS),
-        RequestFault::LineEndInPath => push_lines(&mut text, LINE_ENDS),
+        TaskFault::MissingPath => Ok(()),
+        TaskFault::UnknownLayout => push_lines(&mut text, LAYOUTS),
+        TaskFault::TwoCertificates => push_lines(&mut text, CERTIFICATES),
+        TaskFault::InputTwice => push_lines(&mut text, INPUT),
+        TaskFault::NoCertificate => push_lines(&mut text, NO_CERTIFICATE),
+        TaskFault::NotALength => push_lines(&mut text, LENGTHS),
+        TaskFault::LineEndInPath => push_lines(&mut text, LINE_ENDS),
     };
     text
 }
@@ -54,11 +54,11 @@ const LENGTHS: &str =
     "A length is a whole number that fits 64 bits, as 426 or 12.0. One below 0 is written --length=-34.\n\
     Lengths of TSPLIB are whole. A cost in real numbers, as 524.61, can't be compared with them.";
 
-/// A request, of files that `files` opens, and how its end is reported.
+/// A task, of files that `files` opens, and how its end is reported.
 #[derive(Drop)]
 pub(crate) struct TaskRun<'a, F, O> {
     pub(crate) alloc: Global,
-    pub(crate) request: &'a Request<'a, Place<'a>>,
+    pub(crate) task: &'a Task<'a, InputPath<'a>>,
     pub(crate) files: &'a O,
     /// Whether the end is explained, and each line of a comparison that accepts no solution.
     pub(crate) explain: bool,
@@ -69,18 +69,18 @@ pub(crate) struct TaskRun<'a, F, O> {
 
 impl<'a, F: Read + Drop, O: Open<F>> TaskRun<'a, F, O> {
     /// What the user calls the files.
-    pub(crate) fn names(&self) -> Request<'a, &'a str> {
-        self.request.map(|place| name_of(*place))
+    pub(crate) fn names(&self) -> Task<'a, &'a str> {
+        self.task.map(|place| name_of(*place))
     }
 
     /// The file with this number opened once more, where it can be.
     fn again(&self, number: u32) -> Option<F> {
-        let (_, place) = self.request.file(number)?;
+        let (_, place) = self.task.file(number)?;
         again(*place, self.files)
     }
 }
 
-/// What explains how a request ended, line by line; of a comparison, each solution was explained at
+/// What explains how a task ended, line by line; of a comparison, each solution was explained at
 /// its line. Files that can be are looked at once more for it. `error` is what the system said of a
 /// write that failed. It is cut short where there is no memory for more.
 pub(crate) fn explanation<F: Read + Drop, O: Open<F>>(
@@ -105,23 +105,23 @@ pub(crate) fn explanation<F: Read + Drop, O: Open<F>>(
             };
             explain_fault(alloc, &mut text, &names, again, error, fault)
         }
-        RunEnd::NoJob(_) | RunEnd::Printed(_) | RunEnd::NoRequest(_) => Ok(()),
+        RunEnd::NoJob(_) | RunEnd::Printed(_) | RunEnd::NoTask(_) => Ok(()),
     };
     text
 }
 
 /// What a file is called.
-pub(crate) fn name_of(place: Place<'_>) -> &str {
+pub(crate) fn name_of(place: InputPath<'_>) -> &str {
     match place {
-        Place::Path(path) => path,
-        Place::Input => "standard input",
+        InputPath::Path(path) => path,
+        InputPath::Input => "standard input",
     }
 }
 
 /// The file at a place opened once more, where it can be.
-pub(crate) fn again<F: Read, O: Open<F>>(place: Place<'_>, files: &O) -> Option<F> {
+pub(crate) fn again<F: Read, O: Open<F>>(place: InputPath<'_>, files: &O) -> Option<F> {
     match place {
-        Place::Path(path) => files.open_again(path),
-        Place::Input => None,
+        InputPath::Path(path) => files.open_again(path),
+        InputPath::Input => None,
     }
 }

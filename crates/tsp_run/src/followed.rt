@@ -10,7 +10,7 @@ use crate::explanation::{TaskRun, again, name_of};
 use crate::input_file::Open;
 use std::alloc::AllocError;
 use std::io::{Read, Write};
-use tsp_cli::{Place, place_at};
+use tsp_cli::{InputPath, input_path_at};
 use tsp_explain::explain_file;
 use tsp_judge::{Common, Follow, Found, Solutions};
 use tsp_perform::{Solution, explain_solution};
@@ -38,7 +38,9 @@ impl<F: Read + Drop, O: Open<F>> Solutions<F> for Followed<'_, F, O> {
     }
 
     fn open(&self, index: usize) -> F {
-        self.task_run.files.open(place_at(&self.solutions[index]))
+        self.task_run
+            .files
+            .open(input_path_at(&self.solutions[index]))
     }
 }
 
@@ -72,10 +74,10 @@ impl<F: Read + Drop, O: Open<F>> Followed<'_, F, O> {
             return Ok(());
         };
         if !self.task_run.counts {
-            return self.push_found(text, common, place_at(path), found);
+            return self.push_found(text, common, input_path_at(path), found);
         }
         text.extend_from_slice(ANEW)?;
-        self.push_found(text, common, place_at(path), found)?;
+        self.push_found(text, common, input_path_at(path), found)?;
         let done = index.saturating_add(1);
         let _ = write!(text, "{} of {}", done, self.solutions.len());
         Ok(())
@@ -86,7 +88,7 @@ impl<F: Read + Drop, O: Open<F>> Followed<'_, F, O> {
         &self,
         text: &mut Vec<u8>,
         common: &Common,
-        place: Place<'_>,
+        place: InputPath<'_>,
         found: &Found,
     ) -> Result<(), AllocError> {
         let alloc = self.task_run.alloc;

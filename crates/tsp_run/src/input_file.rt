@@ -3,21 +3,21 @@
 ghost use Rattle.std.specs.Prelude.{◌≡◌, IsTrue, IsErr, MatchResult};
 ghost use Rattle.std.specs.Io.{ReadsAtMost};
 ghost use Rattle.std.specs.Io.KnownBytes.{ReadConsumes};
-ghost use Rattle.tsp_cli.specs.declared.request.Place.{Place};
+ghost use Rattle.tsp_cli.specs.declared.task_of_job.InputPath.{InputPath};
 ghost use Rattle.tsp_run.specs.states.InputFile.{remaining_of, is_missing, IsAskedOnce, GivesOnce, IsSameError};
 
 use std::io;
 use std::io::Read;
-use tsp_cli::Place;
+use tsp_cli::InputPath;
 use tsp_stream::Gives;
 
 /// What opens files.
 pub trait Open<F> {
     /// Whether this is what opening the file at a place may give.
-    ghost opens: { Self → Place → F → Type 0 };
+    ghost opens: { Self → InputPath → F → Type 0 };
 
     /// The file at a place, opened to be read.
-    fn open(&self, place: Place<'_>) -> F
+    fn open(&self, place: InputPath<'_>) -> F
         ensures { opens self.now place.entry result };
 
     /// The file at a path, opened once more, or `None` where it can't be read twice.

@@ -8,7 +8,7 @@ ghost use Rattle.tsp_judge.specs.RunFaultText.{run_fault_text};
 ghost use Rattle.tsp_judge.specs.declared.fault.RunFault.{RunFault};
 ghost use Rattle.tsp_judge.specs.declared.compared.Compared.{Compared};
 ghost use Rattle.tsp_run.specs.declared.run_end.ErrorLine.TheVariants as error_lines;
-ghost use Rattle.tsp_cli.specs.declared.request.RequestFault.{RequestFault};
+ghost use Rattle.tsp_cli.specs.declared.task_of_job.TaskFault.{TaskFault};
 ghost use Rattle.tsp_cli.specs.declared.words.Job.{Job};
 ghost use Rattle.tsp_cli.specs.declared.words.JobFault.{JobFault};
 ghost use Rattle.tsp_cli.specs.CommandWords.{GivesJob};
@@ -34,8 +34,8 @@ pub fn explained_on_a_terminal<F: Gives + Drop, O: Open<F>>(files: &O)
         → EndsProgram F.remaining F.gives (O.opens files.now) true build words sink explained (run_ends.Ended answer) → explained ≡ true }
     ensures comparison { (build : Text) (words : List Text) (sink : Sink) (explained : Bool) (answer : Result Compared RunFault)
         → EndsProgram F.remaining F.gives (O.opens files.now) true build words sink explained (run_ends.Compared answer) → explained ≡ true }
-    ensures task { (build : Text) (words : List Text) (sink : Sink) (explained : Bool) (fault : RequestFault)
-        → EndsProgram F.remaining F.gives (O.opens files.now) true build words sink explained (run_ends.NoRequest fault) → explained ≡ true }
+    ensures task { (build : Text) (words : List Text) (sink : Sink) (explained : Bool) (fault : TaskFault)
+        → EndsProgram F.remaining F.gives (O.opens files.now) true build words sink explained (run_ends.NoTask fault) → explained ≡ true }
     ensures no_job { (build : Text) (words : List Text) (sink : Sink) (explained : Bool) (fault : JobFault)
         → EndsProgram F.remaining F.gives (O.opens files.now) true build words sink explained (run_ends.NoJob fault) → explained ≡ false }
     ensures elsewhere { (build : Text) (words : List Text) (sink : Sink) (explained : Bool) (answer : Result Outcome RunFault)

@@ -11,7 +11,7 @@ use clap::Error as Refusal;
 use std::fmt::{Display, Formatter, Write as _};
 use std::io::Write;
 use std::{fmt, io};
-use tsp_cli::{JobFault, RequestFault};
+use tsp_cli::{JobFault, TaskFault};
 use tsp_judge::{Compared, RunError, RunFault, Status, WriteFault, status_of};
 use tsp_perform::{Outcome, is_yes_outcome};
 
@@ -26,7 +26,7 @@ pub enum RunEnd {
     /// They ask for the version, or by the verb `help` for help: that was printed, or couldn't be.
     Printed(Result<(), WriteFault>),
     /// What they ask for can't be begun.
-    NoRequest(RequestFault),
+    NoTask(TaskFault),
     /// A task was done, or ended with a fault.
     Ended(Result<Outcome, RunError>),
     /// Solutions were compared, or that ended with a fault.
@@ -41,7 +41,7 @@ pub enum ErrorLine<'a> {
     /// Out of memory for the words of the command line.
     OutOfMemory,
     /// Why no task was begun.
-    NoRequest(RequestFault),
+    NoTask(TaskFault),
     /// Why a task gave no answer.
     Fault(RunFault),
 }
@@ -55,19 +55,17 @@ impl Display for ErrorLine<'_> {
         match self {
             ErrorLine::Refusal(refusal) => f.write(*refusal),
             ErrorLine::OutOfMemory => f.write_str("out of memory\n"),
-            ErrorLine::NoRequest(RequestFault::UnknownLayout) => f.write_str("unknown layout\n"),
-            ErrorLine::NoRequest(RequestFault::MissingPath) => f.write_str("missing path\n"),
-            ErrorLine::NoRequest(RequestFault::TwoCertificates) => {
+            ErrorLine::NoTask(TaskFault::UnknownLayout) => f.write_str("unknown layout\n"),
+            ErrorLine::NoTask(TaskFault::MissingPath) => f.write_str("missing path\n"),
+            ErrorLine::NoTask(TaskFault::TwoCertificates) => {
                 f.write_str("both potentials and branches\n")
             }
-            ErrorLine::NoRequest(RequestFault::NoCertificate) => {
+            ErrorLine::NoTask(TaskFault::NoCertificate) => {
                 f.write_str("neither potentials nor branches\n")
             }
-            ErrorLine::NoRequest(RequestFault::NotALength) => f.write_str("not a length\n"),
-            ErrorLine::NoRequest(RequestFault::InputTwice) => f.write_str("standard input twice\n"),
-            ErrorLine::NoRequest(RequestFault::LineEndInPath) => f.write_str(
-                "line end in a path\n",
-            ),
+            ErrorLine::NoTask(TaskFault::NotALength) => f.write_str("not a length\n"),
+            ErrorLine::NoTask(TaskFault::InputTwice) => f.write_str("standard input twice\n"),
+            ErrorLine::NoTask(TaskFault::LineEndInPath) => f.write_str("line end in a path\n"),
             ErrorLine::Fault(fault) => {
                 f.write(fault)?;
                 f.write_str("\n")
@@ -81,7 +79,7 @@ pub fn status_of_run_end(run_end: &RunEnd) -> u8
     ensures { result ≡ status_of_run_end run_end.now }
 {
     match run_end {
-        RunEnd::NoJob(JobFault::Refused(_)) | RunEnd::NoRequest(_) => Status::Refused as u8,
+        RunEnd::NoJob(JobFault::Refused(_)) | RunEnd::NoTask(_) => Status::Refused as u8,
         RunEnd::NoJob(JobFault::OutOfMemory) => Status::OutOfMemory as u8,
         RunEnd::Printed(Ok(())) => Status::Yes as u8,
         RunEnd::Printed(Err(fault)) => status_of(&Err(RunFault::Write(*fault))),
@@ -98,7 +96,7 @@ pub fn line_of(run_end: &RunEnd) -> Option<ErrorLine<'_>>
     match run_end {
         RunEnd::NoJob(JobFault::Refused(refusal)) => Some(ErrorLine::Refusal(refusal)),
         RunEnd::NoJob(JobFault::OutOfMemory) => Some(ErrorLine::OutOfMemory),
-        RunEnd::NoRequest(fault) => Some(ErrorLine::NoRequest(*fault)),
+        RunEnd::NoTask(fault) => Some(ErrorLine::NoTask(*fault)),
         RunEnd::Printed(Ok(())) | RunEnd::Ended(Ok(_)) | RunEnd::Compared(Ok(_)) => None,
         RunEnd::Printed(Err(fault)) => Some(ErrorLine::Fault(RunFault::Write(*fault))),
         RunEnd::Ended(Err(error)) | RunEnd::Compared(Err(error)) => Some(ErrorLine::Fault(

@@ -7,7 +7,7 @@ ghost use Rattle.std.specs.Io.KnownBytes.{Appends};
 ghost use Rattle.tsp_judge.specs.Watched.{sink_of};
 ghost use Rattle.tsp_run.specs.ComparisonRun.{IsComparedAs};
 ghost use Rattle.tsp_run.specs.RunEnd.{status_of_run_end, Tells, TellsAfter, TellsAll};
-ghost use Rattle.tsp_run.specs.ProgramRun.{EndsProgram, EndsRefused, EndsWith, HasNoWords, IsDoneAs, Runs, RunsComparison, RunsJob, RunsTask, begins_with_help};
+ghost use Rattle.tsp_run.specs.ProgramRun.{EndsProgram, EndsRefused, EndsWith, HasNoWords, IsDoneAs, Runs, RunsComparison, RunsJob, RunsFileTask, begins_with_help};
 
 use crate::explanation::{TaskRun, explanation, fault_explanation};
 use crate::followed::{Followed, end_count};
@@ -21,11 +21,11 @@ use std::alloc::{AllocError, Global};
 use std::io;
 use std::io::{Read, Write};
 use std::marker::PhantomData;
-use tsp_cli::{Job, JobFault, Place, RequestFault, job_of, request_of, unread};
+use tsp_cli::{InputPath, Job, JobFault, TaskFault, job_of, task_of, unread};
 use tsp_judge::Watched;
 use tsp_perform::{compare, perform};
 use tsp_stream::Gives;
-use tsp_task::{Comparison, Request, Task};
+use tsp_task::{Comparison, FileTask, Task};
 
 /// What a run knows of its surroundings.
 #[derive(Clone, Copy)]
@@ -138,24 +138,24 @@ fn run_job<F: Gives + Drop, O: Open<F>, W: Write, E: Write>(
         (job.now.explain || surroundings.on_terminal) (E.contents errors.old) (E.contents errors.new) result }
 {
     let explain = is_explained(job, surroundings);
-    let request = match request_of(job) {
-        Ok(request) => request,
+    let task = match task_of(job) {
+        Ok(task) => task,
         Err(fault) => {
             let told = tell_fault_of_job(alloc, fault, errors, explain);
-            return (status_of_run_end(&RunEnd::NoRequest(fault)), told);
+            return (status_of_run_end(&RunEnd::NoTask(fault)), told);
         }
     };
     let task_run = TaskRun {
         alloc,
-        request: &request,
+        task: &task,
         files,
         explain,
         counts: surroundings.counts,
         file: PhantomData,
     };
-    match &request {
-        Request::Task(task) => run_task(&task_run, task, out, errors),
-        Request::Compare(comparison) => run_comparison(&task_run, comparison, out, errors),
+    match &task {
+        Task::Files(files) => run_file_task(&task_run, files, out, errors),
+        Task::Compare(comparison) => run_comparison(&task_run, comparison, out, errors),
     }
 }
 
@@ -169,13 +169,13 @@ fn is_explained(job: &Job, surroundings: Surroundings) -> bool
 /// Tells why a job asks for nothing, and explains it where that is wanted.
 fn tell_fault_of_job<E: Write>(
     alloc: Global,
-    fault: RequestFault,
+    fault: TaskFault,
     errors: &mut E,
     explain: bool,
 ) -> io::Result<()>
-    ensures { OnOk result (TellsAll explain (RunEnd.NoRequest fault) (E.contents errors.old) (E.contents errors.new)) }
+    ensures { OnOk result (TellsAll explain (RunEnd.NoTask fault) (E.contents errors.old) (E.contents errors.new)) }
 {
-    tell(&RunEnd::NoRequest(fault), errors)?;
+    tell(&RunEnd::NoTask(fault), errors)?;
     if !explain {
         return Ok(());
     }
@@ -183,13 +183,13 @@ fn tell_fault_of_job<E: Write>(
 }
 
 /// Does a task on its files, each opened in its place, and tells how that ended.
-fn run_task<F: Gives + Drop, O: Open<F>, W: Write, E: Write>(
+fn run_file_task<F: Gives + Drop, O: Open<F>, W: Write, E: Write>(
     task_run: &TaskRun<'_, F, O>,
-    task: &Task<Place<'_>>,
+    task: &FileTask<InputPath<'_>>,
     out: &mut Watched<W>,
     errors: &mut E,
 ) -> (u8, io::Result<()>)
-    ensures { RunsTask (IsDoneAs F.remaining F.gives (O.opens task_run.now.files.now) task.now (sink_of W.contents out.old out.new))
+    ensures { RunsFileTask (IsDoneAs F.remaining F.gives (O.opens task_run.now.files.now) task.now (sink_of W.contents out.old out.new))
         task_run.now.explain (E.contents errors.old) (E.contents errors.new) result }
 {
     let mut readers = opened(task, task_run.files);
@@ -202,7 +202,7 @@ fn run_task<F: Gives + Drop, O: Open<F>, W: Write, E: Write>(
 /// certificate where one is named, and after them each solution in its own place.
 fn run_comparison<F: Gives + Drop, O: Open<F>, W: Write, E: Write>(
     task_run: &TaskRun<'_, F, O>,
-    comparison: &Comparison<'_, Place<'_>>,
+    comparison: &Comparison<'_, InputPath<'_>>,
     out: &mut Watched<W>,
     errors: &mut E,
 ) -> (u8, io::Result<()>)
@@ -222,7 +222,7 @@ fn run_comparison<F: Gives + Drop, O: Open<F>, W: Write, E: Write>(
     (status_of_run_end(&run_end), told)
 }
 
-/// Reports how a request ended, and explains it where that is wanted, with the system's words on a
+/// Reports how a task ended, and explains it where that is wanted, with the system's words on a
 /// write that failed. Where there is no memory for the explanation, it is left out.
 fn tell_end<F: Read + Drop, O: Open<F>, E: Write>(
     task_run: &TaskRun<'_, F, O>,

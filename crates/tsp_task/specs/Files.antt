@@ -1,14 +1,14 @@
--- The files of a request.
+-- The files of a task.
 use Rattle.std.specs.Prelude.{ℕ, List, [], ◌∷◌, ◌-◌, ◌==◌, Option, None, Some, cond, slice_get}
 use Rattle.tsp_reason.specs.Roles.{role_by}
 use Rattle.tsp_reason.specs.declared.certificate.Certificate.{Certificate}
 use Rattle.tsp_reason.specs.declared.role.Role.{Role}
 use Rattle.tsp_reason.specs.declared.role.Role.TheVariants.{Instance, Solution}
-use Rattle.tsp_task.specs.declared.request.Comparison.{Comparison}
-use Rattle.tsp_task.specs.declared.request.Request.{Request}
-use Rattle.tsp_task.specs.declared.request.Request.TheVariants as requests
-use Rattle.tsp_task.specs.declared.request.Task.{Task}
-use Rattle.tsp_task.specs.declared.request.Task.TheVariants.{Show, Convert, Check, Bound}
+use Rattle.tsp_task.specs.declared.task.Comparison.{Comparison}
+use Rattle.tsp_task.specs.declared.task.Task.{Task}
+use Rattle.tsp_task.specs.declared.task.Task.TheVariants as tasks
+use Rattle.tsp_task.specs.declared.task.FileTask.{FileTask}
+use Rattle.tsp_task.specs.declared.task.FileTask.TheVariants.{Show, Convert, Check, Bound}
 
 -- the file of a certificate, where one is named
 abbrev pub file_named : {F : Type 0} → Option (Certificate × F) → List (Option Role × F)
@@ -16,7 +16,7 @@ file_named None = []
 file_named (Some named) = (Some (role_by named.0), named.1) ∷ []
 
 -- the files in the order in which they are read, each with what it is given for; one that is shown or converted may be any
-abbrev pub files_of : {F : Type 0} → Task F → List (Option Role × F)
+abbrev pub files_of : {F : Type 0} → FileTask F → List (Option Role × F)
 files_of (Show file) = (None, file) ∷ []
 files_of (Convert file to) = (None, file) ∷ []
 files_of (Check instance solution certificate claimed strict) = (Some Instance, instance) ∷ (Some Solution, solution)
@@ -27,9 +27,9 @@ files_of (Bound instance certificate strict) = (Some Instance, instance) ∷ (So
 abbrev pub files_compared : {F : Type 0} → Comparison F → List (Option Role × F)
 files_compared comparison = (Some Instance, comparison.instance) ∷ file_named comparison.certificate
 
-abbrev pub files_of_request : {F : Type 0} → Request F → List (Option Role × F)
-files_of_request (requests.Task task) = files_of task
-files_of_request (requests.Compare comparison) = files_compared comparison
+abbrev pub files_of_task : {F : Type 0} → Task F → List (Option Role × F)
+files_of_task (tasks.Files task) = files_of task
+files_of_task (tasks.Compare comparison) = files_compared comparison
 
 -- the element with this number, counted from 1
 abbrev pub numbered : {X : Type 0} → ℕ → List X → Option X

@@ -1,11 +1,11 @@
--- The same request of other files.
+-- The same task of other files.
 use Rattle.std.specs.Prelude.{◌≡◌, Option, None, Some}
 use Rattle.tsp_reason.specs.declared.certificate.Certificate.{Certificate}
-use Rattle.tsp_task.specs.declared.request.Comparison.{Comparison}
-use Rattle.tsp_task.specs.declared.request.Request.{Request}
-use Rattle.tsp_task.specs.declared.request.Request.TheVariants as requests
-use Rattle.tsp_task.specs.declared.request.Task.{Task}
-use Rattle.tsp_task.specs.declared.request.Task.TheVariants.{Show, Convert, Check, Bound}
+use Rattle.tsp_task.specs.declared.task.Comparison.{Comparison}
+use Rattle.tsp_task.specs.declared.task.Task.{Task}
+use Rattle.tsp_task.specs.declared.task.Task.TheVariants as tasks
+use Rattle.tsp_task.specs.declared.task.FileTask.{FileTask}
+use Rattle.tsp_task.specs.declared.task.FileTask.TheVariants.{Show, Convert, Check, Bound}
 
 -- the same certificate, or none, of a file that the relation gives for its file
 abbrev pub IsMappedCertificate : {F G : Type 0} → (F → G → Type 0) → Option (Certificate × F) → Option (Certificate × G) → Type 0
@@ -14,7 +14,7 @@ IsMappedCertificate gives (Some a) (Some x) = (x.0 ≡ a.0) × gives a.1 x.1
 IsMappedCertificate gives _ _ = ⊥
 
 -- the same task, each of its files one that the relation gives for it
-abbrev pub IsMapped : {F G : Type 0} → (F → G → Type 0) → Task F → Task G → Type 0
+abbrev pub IsMapped : {F G : Type 0} → (F → G → Type 0) → FileTask F → FileTask G → Type 0
 IsMapped gives (Show a) (Show x) = gives a x
 IsMapped gives (Convert a to) (Convert x same) = gives a x × (same ≡ to)
 IsMapped gives (Check a b c claimed strict) (Check x y z same also) = gives a x × gives b y × IsMappedCertificate gives c z
@@ -27,7 +27,7 @@ abbrev pub IsMappedComparison : {F G : Type 0} → (F → G → Type 0) → Comp
 IsMappedComparison gives old new = gives old.instance new.instance × IsMappedCertificate gives old.certificate new.certificate
     × (new.solutions.now ≡ old.solutions.now) × (new.strict ≡ old.strict)
 
-abbrev pub IsMappedRequest : {F G : Type 0} → (F → G → Type 0) → Request F → Request G → Type 0
-IsMappedRequest gives (requests.Task a) (requests.Task x) = IsMapped gives a x
-IsMappedRequest gives (requests.Compare a) (requests.Compare x) = IsMappedComparison gives a x
-IsMappedRequest gives _ _ = ⊥
+abbrev pub IsMappedTask : {F G : Type 0} → (F → G → Type 0) → Task F → Task G → Type 0
+IsMappedTask gives (tasks.Files a) (tasks.Files x) = IsMapped gives a x
+IsMappedTask gives (tasks.Compare a) (tasks.Compare x) = IsMappedComparison gives a x
+IsMappedTask gives _ _ = ⊥

@@ -17,7 +17,7 @@ use std::os::fd::AsRawFd;
 use std::process::ExitCode;
 use std::rt::Stdin;
 use std::{env, fs, io};
-use tsp_run::{InputFile, Open, Place, Surroundings, Watched, run, tell_unread, tell_waiting};
+use tsp_run::{InputFile, InputPath, Open, Surroundings, Watched, run, tell_unread, tell_waiting};
 
 fn main(rt: HostRuntime) -> ExitCode {
     let mut out = Watched::new(rt.stdout());
@@ -61,10 +61,10 @@ struct Host<'a> {
 impl Open<InputFile<Stdin, File>> for Host<'_> {
     ghost opens = { λ host place file. IsInputFileOf place file × IsBeside file };
 
-    fn open(&self, place: Place<'_>) -> InputFile<Stdin, File> {
+    fn open(&self, place: InputPath<'_>) -> InputFile<Stdin, File> {
         match place {
-            Place::Input => InputFile::Input(self.rt.stdin()),
-            Place::Path(path) => InputFile::of(opened(self.rt, path)),
+            InputPath::Input => InputFile::Input(self.rt.stdin()),
+            InputPath::Path(path) => InputFile::of(opened(self.rt, path)),
         }
     }
 

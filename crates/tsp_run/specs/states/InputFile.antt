@@ -5,8 +5,8 @@ use Rattle.std.specs.declared.io.Error.{Error}
 use denote.Ref.{MutBor}
 use denote.Param.Members.{Once}
 use Rattle.tsp_stream.specs.states.Watched.{Calls}
-use Rattle.tsp_cli.specs.declared.request.Place.{Place}
-use Rattle.tsp_cli.specs.declared.request.Place.TheVariants as places
+use Rattle.tsp_cli.specs.declared.task_of_job.InputPath.{InputPath}
+use Rattle.tsp_cli.specs.declared.task_of_job.InputPath.TheVariants as input_paths
 use Rattle.tsp_run.specs.declared.input_file.InputFile.{InputFile}
 use Rattle.tsp_run.specs.declared.input_file.InputFile.TheVariants.{Input, Opened, Missing}
 
@@ -22,13 +22,13 @@ remaining_of of_input of_file (Opened file) = of_file file
 remaining_of of_input of_file (Missing error) = None
 
 -- standard input is given for itself, and at a path a file that was opened, or one that is missing
-abbrev pub IsInputFileOf : {I F : Type 0} → Place → InputFile I F → Type 0
-IsInputFileOf places.Input (Input input) = Unit {0}
-IsInputFileOf places.Input (Opened file) = ⊥
-IsInputFileOf places.Input (Missing error) = ⊥
-IsInputFileOf (places.Path path) (Input input) = ⊥
-IsInputFileOf (places.Path path) (Opened file) = Unit {0}
-IsInputFileOf (places.Path path) (Missing error) = Unit {0}
+abbrev pub IsInputFileOf : {I F : Type 0} → InputPath → InputFile I F → Type 0
+IsInputFileOf input_paths.Input (Input input) = Unit {0}
+IsInputFileOf input_paths.Input (Opened file) = ⊥
+IsInputFileOf input_paths.Input (Missing error) = ⊥
+IsInputFileOf (input_paths.Path path) (Input input) = ⊥
+IsInputFileOf (input_paths.Path path) (Opened file) = Unit {0}
+IsInputFileOf (input_paths.Path path) (Missing error) = Unit {0}
 
 -- ---- what a read does
 

@@ -6,11 +6,11 @@ use Rattle.clap.specs.Words.{Text}
 use Rattle.clap.specs.declared.error.Error.{Error as Refusal}
 use Rattle.tsp_judge.specs.Sink.{Sink}
 use Rattle.tsp_cli.specs.CommandWords.{GivesJob}
-use Rattle.tsp_cli.specs.declared.request.Place.{Place}
+use Rattle.tsp_cli.specs.declared.task_of_job.InputPath.{InputPath}
 use Rattle.tsp_cli.specs.declared.words.Job.{Job}
 use Rattle.tsp_cli.specs.declared.words.JobFault.TheVariants.{OutOfMemory, Refused}
 use Rattle.tsp_run.specs.declared.run_end.RunEnd.{RunEnd}
-use Rattle.tsp_run.specs.declared.run_end.RunEnd.TheVariants.{NoJob, Printed, NoRequest, Ended, Compared}
+use Rattle.tsp_run.specs.declared.run_end.RunEnd.TheVariants.{NoJob, Printed, NoTask, Ended, Compared}
 use Rattle.std.specs.String.{string_bytes}
 use Rattle.tsp_judge.specs.Watched.{sink_of}
 use Rattle.tsp_run.specs.RunEnd.{Tells, TellsAll}
@@ -30,12 +30,12 @@ returns-in-Err-OutOfMemory g c = (
 )
 
 -- a run ends as refused words do
-ends_refused : {F : Type 0} (remaining : F → Option (List ℕ)) (reads : F → List ℕ → Result ℕ Error → List ℕ → F → Type 0) (opens : Place → F → Type 0) (on_terminal : Bool) (build : Text)
+ends_refused : {F : Type 0} (remaining : F → Option (List ℕ)) (reads : F → List ℕ → Result ℕ Error → List ℕ → F → Type 0) (opens : InputPath → F → Type 0) (on_terminal : Bool) (build : Text)
     (words : List Text) (sink : Sink) (refusal : Refusal) → GivesJob (drop 1 words) (Err (Refused refusal)) → (run_end : RunEnd)
     → EndsRefused build (drop 1 words) sink refusal run_end → EndsProgram remaining reads opens on_terminal build words sink false run_end
 ends_refused remaining reads opens on_terminal build words sink refusal gives (NoJob fault) ends = rw ends.0 (gives, ends.1, ends.2, ends.3, refl)
 ends_refused remaining reads opens on_terminal build words sink refusal gives (Printed printed) ends = (Refused refusal, gives, ends, refl)
-ends_refused remaining reads opens on_terminal build words sink refusal gives (NoRequest fault) ends = absurd ends
+ends_refused remaining reads opens on_terminal build words sink refusal gives (NoTask fault) ends = absurd ends
 ends_refused remaining reads opens on_terminal build words sink refusal gives (Ended answer) ends = absurd ends
 ends_refused remaining reads opens on_terminal build words sink refusal gives (Compared answer) ends = absurd ends
 
@@ -44,7 +44,7 @@ tells_refused : (build : Text) (words : List Text) (sink : Sink) (refusal : Refu
     → (old new : Option (List ℕ)) → Tells run_end old new → TellsAll false run_end old new
 tells_refused build words sink refusal (NoJob fault) ends old new told = told
 tells_refused build words sink refusal (Printed printed) ends old new told = told
-tells_refused build words sink refusal (NoRequest fault) ends old new told = absurd ends
+tells_refused build words sink refusal (NoTask fault) ends old new told = absurd ends
 tells_refused build words sink refusal (Ended answer) ends old new told = absurd ends
 tells_refused build words sink refusal (Compared answer) ends old new told = absurd ends
 
@@ -75,12 +75,12 @@ returns-in-Err-Refused g c =
     )
 
 -- a run ends as its job does
-ends_as_its_job : {F : Type 0} (remaining : F → Option (List ℕ)) (reads : F → List ℕ → Result ℕ Error → List ℕ → F → Type 0) (opens : Place → F → Type 0) (on_terminal : Bool) (build : Text)
+ends_as_its_job : {F : Type 0} (remaining : F → Option (List ℕ)) (reads : F → List ℕ → Result ℕ Error → List ℕ → F → Type 0) (opens : InputPath → F → Type 0) (on_terminal : Bool) (build : Text)
     (words : List Text) (sink : Sink) (job : Job) → GivesJob (drop 1 words) (Ok job) → (run_end : RunEnd)
     → EndsWith remaining reads opens job sink run_end → EndsProgram remaining reads opens on_terminal build words sink (job.explain || on_terminal) run_end
 ends_as_its_job remaining reads opens on_terminal build words sink job gives (NoJob fault) ends = absurd ends
 ends_as_its_job remaining reads opens on_terminal build words sink job gives (Printed printed) ends = absurd ends
-ends_as_its_job remaining reads opens on_terminal build words sink job gives (NoRequest fault) ends = (job, gives, ends, refl)
+ends_as_its_job remaining reads opens on_terminal build words sink job gives (NoTask fault) ends = (job, gives, ends, refl)
 ends_as_its_job remaining reads opens on_terminal build words sink job gives (Ended answer) ends = (job, gives, ends, refl)
 ends_as_its_job remaining reads opens on_terminal build words sink job gives (Compared answer) ends = (job, gives, ends, refl)
 

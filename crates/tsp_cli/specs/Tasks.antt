@@ -15,24 +15,24 @@ use Rattle.tsp_task.specs.Files.{files_of, files_compared}
 use Rattle.tsp_cli.specs.CommandWords.{text_in}
 use Rattle.tsp_cli.specs.declared.words.Job.{Job}
 use Rattle.tsp_cli.specs.declared.words.Verb.TheVariants as verbs
-use Rattle.tsp_cli.specs.declared.request.Place.{Place}
-use Rattle.tsp_cli.specs.declared.request.Place.TheVariants.{Input, Path}
-use Rattle.tsp_task.specs.declared.request.Task.{Task}
-use Rattle.tsp_task.specs.declared.request.Task.TheVariants.{Show, Convert, Check, Bound}
-use Rattle.tsp_task.specs.declared.request.Comparison.{Comparison}
-use Rattle.tsp_task.specs.declared.request.Request.{Request}
-use Rattle.tsp_task.specs.declared.request.Request.TheVariants as requests
-use Rattle.tsp_cli.specs.declared.request.RequestFault.{RequestFault}
-use Rattle.tsp_cli.specs.declared.request.RequestFault.TheVariants.{UnknownLayout, MissingPath, TwoCertificates, NoCertificate, NotALength, InputTwice, LineEndInPath}
+use Rattle.tsp_cli.specs.declared.task_of_job.InputPath.{InputPath}
+use Rattle.tsp_cli.specs.declared.task_of_job.InputPath.TheVariants.{Input, Path}
+use Rattle.tsp_task.specs.declared.task.FileTask.{FileTask}
+use Rattle.tsp_task.specs.declared.task.FileTask.TheVariants.{Show, Convert, Check, Bound}
+use Rattle.tsp_task.specs.declared.task.Comparison.{Comparison}
+use Rattle.tsp_task.specs.declared.task.Task.{Task}
+use Rattle.tsp_task.specs.declared.task.Task.TheVariants as tasks
+use Rattle.tsp_cli.specs.declared.task_of_job.TaskFault.{TaskFault}
+use Rattle.tsp_cli.specs.declared.task_of_job.TaskFault.TheVariants.{UnknownLayout, MissingPath, TwoCertificates, NoCertificate, NotALength, InputTwice, LineEndInPath}
 
 -- a path names this place: `-` is standard input
-abbrev pub IsPlaceAt : Text → Place → Type 0
-IsPlaceAt path Input = path ≡ codes "-"
-IsPlaceAt path (Path text) = (text.now ≡ path) × (path ≢ codes "-")
+abbrev pub IsInputPathAt : Text → InputPath → Type 0
+IsInputPathAt path Input = path ≡ codes "-"
+IsInputPathAt path (Path text) = (text.now ≡ path) × (path ≢ codes "-")
 
 -- the text is there, and names this place
-abbrev pub IsPlaceOf : Option Text → Place → Type 0
-IsPlaceOf path place = (text : Text) × (path ≡ Some text) × IsPlaceAt text place
+abbrev pub IsInputPathOf : Option Text → InputPath → Type 0
+IsInputPathOf path place = (text : Text) × (path ≡ Some text) × IsInputPathAt text place
 
 -- the text is that of this layout; no layout where there is no text
 abbrev pub IsLayout : {Z : Type 0} → Option (String Z) → Option Layout → Type 0
@@ -61,9 +61,9 @@ IsNoLength word = (text : Text) × (text_in word ≡ Some text)
     × ((fault : NumberFault) × ReadsWhole text least_length most_length (Err fault))
 
 -- potentials or branches are named, and this is their place
-abbrev pub IsNamed : Job → Certificate → Place → Type 0
-IsNamed job Potentials place = IsPlaceOf (text_in job.potentials) place × (job.branches ≡ None)
-IsNamed job Branches place = (job.potentials ≡ None) × IsPlaceOf (text_in job.branches) place
+abbrev pub IsNamed : Job → Certificate → InputPath → Type 0
+IsNamed job Potentials place = IsInputPathOf (text_in job.potentials) place × (job.branches ≡ None)
+IsNamed job Branches place = (job.potentials ≡ None) × IsInputPathOf (text_in job.branches) place
 
 abbrev pub NamesNone : Job → Type 0
 NamesNone job = (job.potentials ≡ None) × (job.branches ≡ None)
@@ -71,32 +71,32 @@ NamesNone job = (job.potentials ≡ None) × (job.branches ≡ None)
 abbrev pub NamesBoth : Job → Type 0
 NamesBoth job = (job.potentials ≢ None) × (job.branches ≢ None)
 
-abbrev pub GivesPlace : Option Text → Result Place RequestFault → Type 0
-GivesPlace path (Ok place) = IsPlaceOf path place
-GivesPlace path (Err fault) = (fault ≡ MissingPath) × (path ≡ None)
+abbrev pub GivesInputPath : Option Text → Result InputPath TaskFault → Type 0
+GivesInputPath path (Ok place) = IsInputPathOf path place
+GivesInputPath path (Err fault) = (fault ≡ MissingPath) × (path ≡ None)
 
-abbrev pub GivesLayout : {Z : Type 0} → Option (String Z) → Result (Option Layout) RequestFault → Type 0
+abbrev pub GivesLayout : {Z : Type 0} → Option (String Z) → Result (Option Layout) TaskFault → Type 0
 GivesLayout word (Ok layout) = IsLayout word layout
 GivesLayout word (Err fault) = (fault ≡ UnknownLayout) × IsNoLayout word
 
-abbrev pub GivesClaim : {Z : Type 0} → Option (String Z) → Result (Option ℤ) RequestFault → Type 0
+abbrev pub GivesClaim : {Z : Type 0} → Option (String Z) → Result (Option ℤ) TaskFault → Type 0
 GivesClaim word (Ok claimed) = IsClaim word claimed
 GivesClaim word (Err fault) = (fault ≡ NotALength) × IsNoLength word
 
-abbrev pub GivesCertificate : Job → Result (Option (Certificate × Place)) RequestFault → Type 0
+abbrev pub GivesCertificate : Job → Result (Option (Certificate × InputPath)) TaskFault → Type 0
 GivesCertificate job (Ok None) = NamesNone job
 GivesCertificate job (Ok (Some named)) = IsNamed job named.0 named.1
 GivesCertificate job (Err fault) = (fault ≡ TwoCertificates) × NamesBoth job
 
 -- the verb's task, with the files in the order F, T, and P or B; standard input is shown where there is no verb
-abbrev pub IsTask : Job → Task Place → Type 0
-IsTask job (Show Input) = (job.verb ≡ None) ⊎ ((job.verb ≡ Some verbs.Show) × IsPlaceOf (text_in job.file) Input)
-IsTask job (Show (Path path)) = (job.verb ≡ Some verbs.Show) × IsPlaceOf (text_in job.file) (Path path)
-IsTask job (Convert file to) = (job.verb ≡ Some verbs.Convert) × IsPlaceOf (text_in job.file) file × IsLayout job.layout to
-IsTask job (Check instance solution certificate claimed strict) = (job.verb ≡ Some verbs.Check)
-    × IsPlaceOf (text_in job.file) instance × IsPlaceOf (text_in job.solution) solution × IsClaim job.length claimed
+abbrev pub IsFileTask : Job → FileTask InputPath → Type 0
+IsFileTask job (Show Input) = (job.verb ≡ None) ⊎ ((job.verb ≡ Some verbs.Show) × IsInputPathOf (text_in job.file) Input)
+IsFileTask job (Show (Path path)) = (job.verb ≡ Some verbs.Show) × IsInputPathOf (text_in job.file) (Path path)
+IsFileTask job (Convert file to) = (job.verb ≡ Some verbs.Convert) × IsInputPathOf (text_in job.file) file × IsLayout job.layout to
+IsFileTask job (Check instance solution certificate claimed strict) = (job.verb ≡ Some verbs.Check)
+    × IsInputPathOf (text_in job.file) instance × IsInputPathOf (text_in job.solution) solution × IsClaim job.length claimed
     × GivesCertificate job (Ok certificate) × (strict ≡ job.strict)
-IsTask job (Bound instance certificate strict) = (job.verb ≡ Some verbs.Bound) × IsPlaceOf (text_in job.file) instance
+IsFileTask job (Bound instance certificate strict) = (job.verb ≡ Some verbs.Bound) × IsInputPathOf (text_in job.file) instance
     × IsNamed job certificate.0 certificate.1 × (strict ≡ job.strict)
 
 -- a path contains byte 10, which ends a line
@@ -108,36 +108,36 @@ any_line_end paths = list_any (λ path. has_line_end (string_bytes path)) paths
 
 -- The comparison of these solutions, all those of the job in their order, and one at least. No path has a line end, since the
 -- line of its solution ends with it.
-abbrev pub IsComparisonOf : Job → Comparison Place → Type 0
-IsComparisonOf job comparison = (job.verb ≡ Some verbs.Compare) × IsPlaceOf (text_in job.file) comparison.instance
+abbrev pub IsComparisonOf : Job → Comparison InputPath → Type 0
+IsComparisonOf job comparison = (job.verb ≡ Some verbs.Compare) × IsInputPathOf (text_in job.file) comparison.instance
     × GivesCertificate job (Ok comparison.certificate) × (comparison.solutions.now ≡ job.solutions.items)
     × (job.solutions.items ≢ []) × (any_line_end job.solutions.items ≡ false) × (comparison.strict ≡ job.strict)
 
-abbrev pub IsRequest : Job → Request Place → Type 0
-IsRequest job (requests.Task task) = IsTask job task
-IsRequest job (requests.Compare comparison) = IsComparisonOf job comparison
+abbrev pub IsTask : Job → Task InputPath → Type 0
+IsTask job (tasks.Files task) = IsFileTask job task
+IsTask job (tasks.Compare comparison) = IsComparisonOf job comparison
 
 -- the verb takes one certificate at most
 abbrev pub TakesCertificate : Job → Type 0
 TakesCertificate job = (job.verb ≡ Some verbs.Check) ⊎ ((job.verb ≡ Some verbs.Compare) ⊎ (job.verb ≡ Some verbs.Bound))
 
--- the request, whose files may be standard input several times
-abbrev pub NamesRequest : Job → Result (Request Place) RequestFault → Type 0
-NamesRequest job (Ok request) = IsRequest job request
-NamesRequest job (Err UnknownLayout) = (job.verb ≡ Some verbs.Convert) × IsNoLayout job.layout
-NamesRequest job (Err NotALength) = (job.verb ≡ Some verbs.Check) × IsNoLength job.length
-NamesRequest job (Err TwoCertificates) = TakesCertificate job × NamesBoth job
-NamesRequest job (Err NoCertificate) = (job.verb ≡ Some verbs.Bound) × NamesNone job
-NamesRequest job (Err MissingPath) = (job.verb ≢ None) × ((job.file ≡ None)
+-- the task, whose files may be standard input several times
+abbrev pub NamesTask : Job → Result (Task InputPath) TaskFault → Type 0
+NamesTask job (Ok task) = IsTask job task
+NamesTask job (Err UnknownLayout) = (job.verb ≡ Some verbs.Convert) × IsNoLayout job.layout
+NamesTask job (Err NotALength) = (job.verb ≡ Some verbs.Check) × IsNoLength job.length
+NamesTask job (Err TwoCertificates) = TakesCertificate job × NamesBoth job
+NamesTask job (Err NoCertificate) = (job.verb ≡ Some verbs.Bound) × NamesNone job
+NamesTask job (Err MissingPath) = (job.verb ≢ None) × ((job.file ≡ None)
     ⊎ ((job.verb ≡ Some verbs.Check) × (job.solution ≡ None)) ⊎ ((job.verb ≡ Some verbs.Compare) × (job.solutions.items ≡ [])))
-NamesRequest job (Err LineEndInPath) = (job.verb ≡ Some verbs.Compare) × (any_line_end job.solutions.items ≡ true)
-NamesRequest job (Err InputTwice) = ⊥
+NamesTask job (Err LineEndInPath) = (job.verb ≡ Some verbs.Compare) × (any_line_end job.solutions.items ≡ true)
+NamesTask job (Err InputTwice) = ⊥
 
 -- ---- what one verb asks for, with the instance at this place
 
-abbrev pub NamesCheck : Job → Place → Result (Task Place) RequestFault → Type 0
+abbrev pub NamesCheck : Job → InputPath → Result (FileTask InputPath) TaskFault → Type 0
 NamesCheck job at (Ok (Check instance solution certificate claimed strict)) = (instance ≡ at)
-    × IsPlaceOf (text_in job.solution) solution × IsClaim job.length claimed × GivesCertificate job (Ok certificate)
+    × IsInputPathOf (text_in job.solution) solution × IsClaim job.length claimed × GivesCertificate job (Ok certificate)
     × (strict ≡ job.strict)
 NamesCheck job at (Ok other) = ⊥
 NamesCheck job at (Err MissingPath) = job.solution ≡ None
@@ -145,7 +145,7 @@ NamesCheck job at (Err NotALength) = IsNoLength job.length
 NamesCheck job at (Err TwoCertificates) = NamesBoth job
 NamesCheck job at (Err other) = ⊥
 
-abbrev pub NamesComparison : Job → Place → Result (Comparison Place) RequestFault → Type 0
+abbrev pub NamesComparison : Job → InputPath → Result (Comparison InputPath) TaskFault → Type 0
 NamesComparison job at (Ok comparison) = (comparison.instance ≡ at) × GivesCertificate job (Ok comparison.certificate)
     × (comparison.solutions.now ≡ job.solutions.items) × (job.solutions.items ≢ []) × (any_line_end job.solutions.items ≡ false)
     × (comparison.strict ≡ job.strict)
@@ -154,7 +154,7 @@ NamesComparison job at (Err LineEndInPath) = any_line_end job.solutions.items �
 NamesComparison job at (Err TwoCertificates) = NamesBoth job
 NamesComparison job at (Err other) = ⊥
 
-abbrev pub NamesBound : Job → Place → Result (Task Place) RequestFault → Type 0
+abbrev pub NamesBound : Job → InputPath → Result (FileTask InputPath) TaskFault → Type 0
 NamesBound job at (Ok (Bound instance certificate strict)) = (instance ≡ at) × IsNamed job certificate.0 certificate.1
     × (strict ≡ job.strict)
 NamesBound job at (Ok other) = ⊥
@@ -165,19 +165,19 @@ NamesBound job at (Err other) = ⊥
 -- ---- standard input
 
 -- how many files are standard input
-abbrev pub input : Place → ℕ
+abbrev pub input : InputPath → ℕ
 input Input = 1
 input (Path path) = 0
 
 -- the same of one file, where there is one
-abbrev pub input_at : Option (Option Role × Place) → ℕ
+abbrev pub input_at : Option (Option Role × InputPath) → ℕ
 input_at None = 0
 input_at (Some file) = input file.1
 
-abbrev pub inputs_in : List (Option Role × Place) → ℕ
+abbrev pub inputs_in : List (Option Role × InputPath) → ℕ
 inputs_in files = sum_by (λ file. input file.1) files
 
-abbrev pub inputs_of : Task Place → ℕ
+abbrev pub inputs_of : FileTask InputPath → ℕ
 inputs_of task = inputs_in (files_of task)
 
 -- how many of the paths are `-`
@@ -187,17 +187,17 @@ is_dash path = bytes_eq path (codes "-")
 abbrev pub inputs_at : {Z : Type 0} → List (String Z) → ℕ
 inputs_at paths = count_by (λ path. is_dash (string_bytes path)) paths
 
-abbrev pub inputs_of_request : Request Place → ℕ
-inputs_of_request (requests.Task task) = inputs_of task
-inputs_of_request (requests.Compare comparison) = inputs_in (files_compared comparison) + inputs_at comparison.solutions.now
+abbrev pub inputs_of_task : Task InputPath → ℕ
+inputs_of_task (tasks.Files task) = inputs_of task
+inputs_of_task (tasks.Compare comparison) = inputs_in (files_compared comparison) + inputs_at comparison.solutions.now
 
--- the request, of whose files one at most is standard input, since that gives its bytes once
-abbrev pub GivesRequest : Job → Result (Request Place) RequestFault → Type 0
-GivesRequest job (Ok request) = IsRequest job request × (inputs_of_request request ≤ 1)
-GivesRequest job (Err InputTwice) = (request : Request Place) × IsRequest job request × (2 ≤ inputs_of_request request)
-GivesRequest job (Err UnknownLayout) = NamesRequest job (Err UnknownLayout)
-GivesRequest job (Err NotALength) = NamesRequest job (Err NotALength)
-GivesRequest job (Err TwoCertificates) = NamesRequest job (Err TwoCertificates)
-GivesRequest job (Err NoCertificate) = NamesRequest job (Err NoCertificate)
-GivesRequest job (Err MissingPath) = NamesRequest job (Err MissingPath)
-GivesRequest job (Err LineEndInPath) = NamesRequest job (Err LineEndInPath)
+-- the task, of whose files one at most is standard input, since that gives its bytes once
+abbrev pub GivesTask : Job → Result (Task InputPath) TaskFault → Type 0
+GivesTask job (Ok task) = IsTask job task × (inputs_of_task task ≤ 1)
+GivesTask job (Err InputTwice) = (task : Task InputPath) × IsTask job task × (2 ≤ inputs_of_task task)
+GivesTask job (Err UnknownLayout) = NamesTask job (Err UnknownLayout)
+GivesTask job (Err NotALength) = NamesTask job (Err NotALength)
+GivesTask job (Err TwoCertificates) = NamesTask job (Err TwoCertificates)
+GivesTask job (Err NoCertificate) = NamesTask job (Err NoCertificate)
+GivesTask job (Err MissingPath) = NamesTask job (Err MissingPath)
+GivesTask job (Err LineEndInPath) = NamesTask job (Err LineEndInPath)

@@ -1,26 +1,26 @@
-//! A request, and its files.
+//! A task, and its files.
 
 ghost use Rattle.std.specs.Prelude.{◌≡◌, option_map};
 ghost use Rattle.std.specs.Fn.{FnReturnsAt};
-ghost use Rattle.tsp_task.specs.Files.{files_of, files_compared, files_of_request, numbered};
-ghost use Rattle.tsp_task.specs.Mapped.{IsMapped, IsMappedCertificate, IsMappedComparison, IsMappedRequest};
+ghost use Rattle.tsp_task.specs.Files.{files_of, files_compared, files_of_task, numbered};
+ghost use Rattle.tsp_task.specs.Mapped.{IsMapped, IsMappedCertificate, IsMappedComparison, IsMappedTask};
 
 use tsp_format::Layout;
 use tsp_reason::{Certificate, Role, role_by};
 
-/// A request. `F` is what is known of a file: its place, a reader, its text, or what a user calls
+/// A task. `F` is what is known of a file: its place, a reader, its text, or what a user calls
 /// it.
 #[derive(Drop)]
-pub enum Request<'a, F> {
-    /// A task on files.
-    Task(Task<F>),
+pub enum Task<'a, F> {
+    /// A task on files that are all known when it begins.
+    Files(FileTask<F>),
     /// To compare solutions.
     Compare(Comparison<'a, F>),
 }
 
 /// An action on files that are all known when it begins.
 #[derive(Drop)]
-pub enum Task<F> {
+pub enum FileTask<F> {
     /// Show the contents of a file.
     Show {
         file: F,
@@ -63,33 +63,33 @@ pub struct Comparison<'a, F> {
     pub strict: bool,
 }
 
-impl<'a, F> Request<'a, F> {
+impl<'a, F> Task<'a, F> {
     /// The file with this number, counted from 1 in the order in which they are read, and what it
     /// is given for where that matters; or `None` where fewer are read. Solutions that are compared
     /// have no number.
     pub fn file(&self, number: u32) -> Option<(Option<Role>, &F)>
         ensures { option_map (λ file. (file.0, file.1.now)) result
-            ≡ numbered number (files_of_request self.now) }
+            ≡ numbered number (files_of_task self.now) }
     {
         match self {
-            Request::Task(task) => task.file(number),
-            Request::Compare(comparison) => comparison.file(number),
+            Task::Files(task) => task.file(number),
+            Task::Compare(comparison) => comparison.file(number),
         }
     }
 
-    /// The same request of what `map` gives for each file.
-    pub fn map<G, M: Fn(&F) -> G>(&self, map: M) -> Request<'a, G>
+    /// The same task of what `map` gives for each file.
+    pub fn map<G, M: Fn(&F) -> G>(&self, map: M) -> Task<'a, G>
         requires { M.IsAlwaysCallable map }
-        ensures { IsMappedRequest (FnReturnsAt M.Fn map) self.now result }
+        ensures { IsMappedTask (FnReturnsAt M.Fn map) self.now result }
     {
         match self {
-            Request::Task(task) => Request::Task(task.map(map)),
-            Request::Compare(comparison) => Request::Compare(comparison.map(map)),
+            Task::Files(task) => Task::Files(task.map(map)),
+            Task::Compare(comparison) => Task::Compare(comparison.map(map)),
         }
     }
 }
 
-impl<F> Task<F> {
+impl<F> FileTask<F> {
     /// The file with this number, counted from 1 in the order in which they are read, and what it
     /// is given for where that matters; or `None` where the task reads fewer.
     pub fn file(&self, number: u32) -> Option<(Option<Role>, &F)>
@@ -97,20 +97,20 @@ impl<F> Task<F> {
             ≡ numbered number (files_of self.now) }
     {
         match (self, number) {
-            (Task::Show { file } | Task::Convert { file, .. }, 1) => Some((None, file)),
-            (Task::Check { instance, .. } | Task::Bound { instance, .. }, 1) => {
+            (FileTask::Show { file } | FileTask::Convert { file, .. }, 1) => Some((None, file)),
+            (FileTask::Check { instance, .. } | FileTask::Bound { instance, .. }, 1) => {
                 Some((Some(Role::Instance), instance))
             }
-            (Task::Check { solution, .. }, 2) => Some((Some(Role::Solution), solution)),
+            (FileTask::Check { solution, .. }, 2) => Some((Some(Role::Solution), solution)),
             (
-                Task::Check {
+                FileTask::Check {
                     certificate: Some((by, file)),
                     ..
                 },
                 3,
             )
             | (
-                Task::Bound {
+                FileTask::Bound {
                     certificate: (by, file),
                     ..
                 },
@@ -121,36 +121,36 @@ impl<F> Task<F> {
     }
 
     /// The same task on what `map` gives for each file.
-    pub fn map<G, M: Fn(&F) -> G>(&self, map: M) -> Task<G>
+    pub fn map<G, M: Fn(&F) -> G>(&self, map: M) -> FileTask<G>
         requires { M.IsAlwaysCallable map }
         ensures { IsMapped (FnReturnsAt M.Fn map) self.now result }
     {
         match self {
-            Task::Show { file } => Task::Show {
+            FileTask::Show { file } => FileTask::Show {
                 file: applied(&map, file),
             },
-            Task::Convert { file, layout } => Task::Convert {
+            FileTask::Convert { file, layout } => FileTask::Convert {
                 file: applied(&map, file),
                 layout: *layout,
             },
-            Task::Check {
+            FileTask::Check {
                 instance,
                 solution,
                 certificate,
                 claimed,
                 strict,
-            } => Task::Check {
+            } => FileTask::Check {
                 instance: applied(&map, instance),
                 solution: applied(&map, solution),
                 certificate: mapped(certificate, map),
                 claimed: *claimed,
                 strict: *strict,
             },
-            Task::Bound {
+            FileTask::Bound {
                 instance,
                 certificate: (by, file),
                 strict,
-            } => Task::Bound {
+            } => FileTask::Bound {
                 instance: applied(&map, instance),
                 certificate: (*by, applied(&map, file)),
                 strict: *strict,

@@ -1,5 +1,5 @@
--- The goals of `run_task` in src/running.rt: what it ensures.
-use Rattle.tsp_run.proofs.running.run_task.Goals as goal
+-- The goals of `run_file_task` in src/running.rt: what it ensures.
+use Rattle.tsp_run.proofs.running.run_file_task.Goals as goal
 
 pub returns : goal.returns
 returns g c = (

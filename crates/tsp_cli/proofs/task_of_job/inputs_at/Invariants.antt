@@ -1,7 +1,7 @@
--- The loop of `inputs_at` in src/request.rt.
+-- The loop of `inputs_at` in src/task_of_job.rt.
 use Rattle.std.proofs.Common.{◌≡◌, ◌≤◌, take}
-use Rattle.tsp_cli.specs.Requests.{inputs_at}
-use Rattle.tsp_cli.proofs.request.inputs_at.Given as goal
+use Rattle.tsp_cli.specs.Tasks.{inputs_at}
+use Rattle.tsp_cli.proofs.task_of_job.inputs_at.Given as goal
 
 -- `count` is how many of the paths before this one are standard input
 abbrev pub invariant-paths : goal.invariant-paths

@@ -2,19 +2,19 @@
 
 ghost use Rattle.std.specs.Prelude.{◌≡◌, ◌≤◌, Some, option_map};
 ghost use Rattle.std.specs.String.{string_bytes};
-ghost use Rattle.tsp_task.specs.Files.{files_of_request, numbered};
-ghost use Rattle.tsp_cli.specs.Requests.{GivesPlace, GivesLayout, GivesClaim, GivesCertificate, IsPlaceAt, any_line_end, has_line_end, NamesRequest, NamesCheck, NamesComparison, NamesBound};
-ghost use Rattle.tsp_cli.specs.Requests.{GivesRequest, input_at, inputs_at, inputs_of_request};
+ghost use Rattle.tsp_task.specs.Files.{files_of_task, numbered};
+ghost use Rattle.tsp_cli.specs.Tasks.{GivesInputPath, GivesLayout, GivesClaim, GivesCertificate, IsInputPathAt, any_line_end, has_line_end, NamesTask, NamesCheck, NamesComparison, NamesBound};
+ghost use Rattle.tsp_cli.specs.Tasks.{GivesTask, input_at, inputs_at, inputs_of_task};
 
 use crate::words::{Job, Verb};
 use tsp_format::Layout;
 use tsp_number::parse_whole;
 use tsp_reason::Certificate;
-use tsp_task::{Comparison, Request, Task};
+use tsp_task::{Comparison, FileTask, Task};
 
 /// Where a file is.
 #[derive(Clone, Copy)]
-pub enum Place<'a> {
+pub enum InputPath<'a> {
     /// Standard input.
     Input,
     /// At a path, which isn't `-`.
@@ -23,7 +23,7 @@ pub enum Place<'a> {
 
 /// Why a job asks for nothing that can be done.
 #[derive(Clone, Copy)]
-pub enum RequestFault {
+pub enum TaskFault {
     /// No layout has the word.
     UnknownLayout,
     /// A path that the job requires is missing.
@@ -50,37 +50,37 @@ pub enum RequestFault {
 /// and branches are named; `NoCertificate` where a bound has neither; `LineEndInPath` where the
 /// path of a solution that is compared contains byte 10; `MissingPath` where a path is missing, as
 /// in no job that words ask for.
-pub fn request_of(job: &Job) -> Result<Request<'_, Place<'_>>, RequestFault>
-    ensures { GivesRequest job.now result }
+pub fn task_of(job: &Job) -> Result<Task<'_, InputPath<'_>>, TaskFault>
+    ensures { GivesTask job.now result }
 {
-    let request = named_request(job)?;
-    if inputs_of_request(&request) > 1 {
-        return Err(RequestFault::InputTwice);
+    let task = named_task(job)?;
+    if inputs_of_task(&task) > 1 {
+        return Err(TaskFault::InputTwice);
     }
-    Ok(request)
+    Ok(task)
 }
 
-/// How many files of a request are standard input. Three at most have a number; solutions that are
+/// How many files of a task are standard input. Three at most have a number; solutions that are
 /// compared have none.
-fn inputs_of_request(request: &Request<'_, Place<'_>>) -> u128
-    ensures { result ≡ inputs_of_request request.now }
+fn inputs_of_task(task: &Task<'_, InputPath<'_>>) -> u128
+    ensures { result ≡ inputs_of_task task.now }
 {
-    let solutions = match request {
-        Request::Task(_) => 0,
-        Request::Compare(comparison) => inputs_at(comparison.solutions),
+    let solutions = match task {
+        Task::Files(_) => 0,
+        Task::Compare(comparison) => inputs_at(comparison.solutions),
     };
-    let files = input_at(request, 1) + input_at(request, 2) + input_at(request, 3);
+    let files = input_at(task, 1) + input_at(task, 2) + input_at(task, 3);
     u128::from(files) + u128::from(solutions)
 }
 
-/// 1 where the file of a request with this number is standard input, and else 0.
-fn input_at(request: &Request<'_, Place<'_>>, number: u32) -> u32
-    ensures value { result ≡ input_at (numbered number (files_of_request request.now)) }
+/// 1 where the file of a task with this number is standard input, and else 0.
+fn input_at(task: &Task<'_, InputPath<'_>>, number: u32) -> u32
+    ensures value { result ≡ input_at (numbered number (files_of_task task.now)) }
     ensures most { result ≤ 1 }
 {
-    match request.file(number) {
-        Some((_, Place::Input)) => 1,
-        Some((_, Place::Path(_))) | None => 0,
+    match task.file(number) {
+        Some((_, InputPath::Input)) => 1,
+        Some((_, InputPath::Path(_))) | None => 0,
     }
 }
 
@@ -106,34 +106,34 @@ fn inputs_at(paths: &[String]) -> u64
 /// isn't one; `TwoCertificates` where both potentials and branches are named; `NoCertificate` where
 /// a bound has neither; `LineEndInPath` where the path of a solution that is compared contains byte
 /// 10; `MissingPath` where a path is missing, as in no job that words ask for.
-fn named_request(job: &Job) -> Result<Request<'_, Place<'_>>, RequestFault>
-    ensures { NamesRequest job.now result }
+fn named_task(job: &Job) -> Result<Task<'_, InputPath<'_>>, TaskFault>
+    ensures { NamesTask job.now result }
 {
     let Some(verb) = job.verb else {
-        let file = Place::Input;
-        return Ok(Request::Task(Task::Show { file }));
+        let file = InputPath::Input;
+        return Ok(Task::Files(FileTask::Show { file }));
     };
-    let file = place_of(job.file.as_ref())?;
+    let file = input_path_of(job.file.as_ref())?;
     match verb {
-        Verb::Show => Ok(Request::Task(Task::Show { file })),
+        Verb::Show => Ok(Task::Files(FileTask::Show { file })),
         Verb::Convert => {
             let layout = layout_of(&job.layout)?;
-            Ok(Request::Task(Task::Convert { file, layout }))
+            Ok(Task::Files(FileTask::Convert { file, layout }))
         }
-        Verb::Check => Ok(Request::Task(check_of(job, file)?)),
-        Verb::Compare => Ok(Request::Compare(comparison_of(job, file)?)),
-        Verb::Bound => Ok(Request::Task(bound_of(job, file)?)),
+        Verb::Check => Ok(Task::Files(check_of(job, file)?)),
+        Verb::Compare => Ok(Task::Compare(comparison_of(job, file)?)),
+        Verb::Bound => Ok(Task::Files(bound_of(job, file)?)),
     }
 }
 
 /// The check of a job with this instance.
-fn check_of<'a>(job: &'a Job, instance: Place<'a>) -> Result<Task<Place<'a>>, RequestFault>
+fn check_of<'a>(job: &'a Job, instance: InputPath<'a>) -> Result<FileTask<InputPath<'a>>, TaskFault>
     ensures { NamesCheck job.now instance.entry result }
 {
-    let solution = place_of(job.solution.as_ref())?;
+    let solution = input_path_of(job.solution.as_ref())?;
     let claimed = length_of(&job.length)?;
     let certificate = certificate_of(job)?;
-    Ok(Task::Check {
+    Ok(FileTask::Check {
         instance,
         solution,
         certificate,
@@ -145,16 +145,16 @@ fn check_of<'a>(job: &'a Job, instance: Place<'a>) -> Result<Task<Place<'a>>, Re
 /// The comparison of a job with this instance.
 fn comparison_of<'a>(
     job: &'a Job,
-    instance: Place<'a>,
-) -> Result<Comparison<'a, Place<'a>>, RequestFault>
+    instance: InputPath<'a>,
+) -> Result<Comparison<'a, InputPath<'a>>, TaskFault>
     ensures { NamesComparison job.now instance.entry result }
 {
     if job.solutions.is_empty() {
-        return Err(RequestFault::MissingPath);
+        return Err(TaskFault::MissingPath);
     }
     let certificate = certificate_of(job)?;
     if any_line_end(&job.solutions) {
-        return Err(RequestFault::LineEndInPath);
+        return Err(TaskFault::LineEndInPath);
     }
     Ok(Comparison {
         instance,
@@ -187,12 +187,12 @@ fn has_line_end(path: &[u8]) -> bool
 }
 
 /// The bound of a job with this instance.
-fn bound_of<'a>(job: &'a Job, instance: Place<'a>) -> Result<Task<Place<'a>>, RequestFault>
+fn bound_of<'a>(job: &'a Job, instance: InputPath<'a>) -> Result<FileTask<InputPath<'a>>, TaskFault>
     ensures { NamesBound job.now instance.entry result }
 {
     match certificate_of(job)? {
-        None => Err(RequestFault::NoCertificate),
-        Some(certificate) => Ok(Task::Bound {
+        None => Err(TaskFault::NoCertificate),
+        Some(certificate) => Ok(FileTask::Bound {
             instance,
             certificate,
             strict: job.strict,
@@ -201,27 +201,27 @@ fn bound_of<'a>(job: &'a Job, instance: Place<'a>) -> Result<Task<Place<'a>>, Re
 }
 
 /// The place of a path that has to be there.
-fn place_of(path: Option<&String>) -> Result<Place<'_>, RequestFault>
-    ensures { GivesPlace (option_map (λ text. string_bytes text.now) path.entry) result }
+fn input_path_of(path: Option<&String>) -> Result<InputPath<'_>, TaskFault>
+    ensures { GivesInputPath (option_map (λ text. string_bytes text.now) path.entry) result }
 {
     match path {
-        Some(path) => Ok(place_at(path)),
-        None => Err(RequestFault::MissingPath),
+        Some(path) => Ok(input_path_at(path)),
+        None => Err(TaskFault::MissingPath),
     }
 }
 
 /// The place that a path names. `-` is standard input.
-pub fn place_at(path: &str) -> Place<'_>
-    ensures { IsPlaceAt path.now result }
+pub fn input_path_at(path: &str) -> InputPath<'_>
+    ensures { IsInputPathAt path.now result }
 {
     match path {
-        "-" => Place::Input,
-        _ => Place::Path(path),
+        "-" => InputPath::Input,
+        _ => InputPath::Path(path),
     }
 }
 
 /// The layout with a word, where there is a word.
-fn layout_of(word: &Option<String>) -> Result<Option<Layout>, RequestFault>
+fn layout_of(word: &Option<String>) -> Result<Option<Layout>, TaskFault>
     ensures { GivesLayout word.now result }
 {
     let Some(word) = word else {
@@ -229,12 +229,12 @@ fn layout_of(word: &Option<String>) -> Result<Option<Layout>, RequestFault>
     };
     match Layout::of_word(word) {
         Some(layout) => Ok(Some(layout)),
-        None => Err(RequestFault::UnknownLayout),
+        None => Err(TaskFault::UnknownLayout),
     }
 }
 
 /// The length that a word is read as, where there is a word.
-fn length_of(word: &Option<String>) -> Result<Option<i64>, RequestFault>
+fn length_of(word: &Option<String>) -> Result<Option<i64>, TaskFault>
     ensures { GivesClaim word.now result }
 {
     let Some(word) = word else {
@@ -242,18 +242,18 @@ fn length_of(word: &Option<String>) -> Result<Option<i64>, RequestFault>
     };
     match parse_whole(word.as_bytes(), i64::MIN, i64::MAX) {
         Ok(length) => Ok(Some(length)),
-        Err(_) => Err(RequestFault::NotALength),
+        Err(_) => Err(TaskFault::NotALength),
     }
 }
 
 /// The certificate that is named, with the place of its file, where one is.
-fn certificate_of(job: &Job) -> Result<Option<(Certificate, Place<'_>)>, RequestFault>
+fn certificate_of(job: &Job) -> Result<Option<(Certificate, InputPath<'_>)>, TaskFault>
     ensures { GivesCertificate job.now result }
 {
     match (&job.potentials, &job.branches) {
         (None, None) => Ok(None),
-        (Some(path), None) => Ok(Some((Certificate::Potentials, place_at(path)))),
-        (None, Some(path)) => Ok(Some((Certificate::Branches, place_at(path)))),
-        (Some(_), Some(_)) => Err(RequestFault::TwoCertificates),
+        (Some(path), None) => Ok(Some((Certificate::Potentials, input_path_at(path)))),
+        (None, Some(path)) => Ok(Some((Certificate::Branches, input_path_at(path)))),
+        (Some(_), Some(_)) => Err(TaskFault::TwoCertificates),
     }
 }
