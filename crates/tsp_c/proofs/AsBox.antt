@@ -8,14 +8,14 @@ use Rattle.std_heap.specs.contracts.GlobalAllocator.TheImpl.{ghosts, dict}
 use Rattle.std_heap.proofs.Global.TheLaws as heap
 use Rattle.tsp_judge.specs.contracts.opened.Opened as Opened
 use Rattle.tsp_judge.proofs.opened.Opened.TheLaws as opened
-use Rattle.tsp_c.specs.contracts.parts.Parts as Parts
+use Rattle.tsp_c.specs.contracts.box_parts.BoxParts as BoxParts
 use Rattle.tsp_c.specs.contracts.loose.Loose as Loose
 
 abbrev pub E : Bx
 E = record { row = Opened.the_row; laws = opened.the_row_laws; al = record { row = Heap.the_row; laws = heap.the_row_laws; g = ghosts; d = dict; drops = impl [] tnil dnil } }
 
 abbrev pub FromParts : Slot 0
-FromParts = plain (λ _. Parts.the_row Opened.the_row Heap.the_row ghosts)
+FromParts = plain (λ _. BoxParts.the_row Opened.the_row Heap.the_row ghosts)
 
 abbrev pub FromLoose : Slot 0
 FromLoose = plain (λ _. Loose.the_row)

@@ -1,4 +1,4 @@
--- The count of nodes of an open instance is that of its text. For `count_held` in src/opened.rt and others.
+-- The count of nodes of an open instance is that of its text. For `count_held` in src/handle_calls.rt and others.
 use Rattle.std.proofs.Common.{◌≡◌, ℕ, ◌≤◌, sym, ap, arith}
 use Rattle.std.specs.Prelude.{Option, Some, None, unwrap_or}
 

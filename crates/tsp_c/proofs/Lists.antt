@@ -1,4 +1,4 @@
--- Lists of nodes, each of which a 0 ends. For `put_lengths` and `lengths_of` in src/lengths.rt.
+-- Lists of nodes, each of which a 0 ends. For `put_lengths` and `lengths_of` in src/list_lengths.rt.
 use Rattle.std.proofs.Common.{◌≡◌, ◌≤◌, ℕ, zero, suc, ◌+◌, ◌<◌, Bool, true, false, cond, List, [], ◌∷◌, length, take, drop, length-drop, drop-cons, add-one, ltb-true, ltb-false, refl, sym, ap, subst, ◌∙◌, arith}
 use Rattle.std.specs.Prelude.{◌==◌, not, nat_lt, Some, None, unwrap_or, slice_index_or as get_or}
 use Rattle.std.specs.List.{All, count_by, position, prefix_len}

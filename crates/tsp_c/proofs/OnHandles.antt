@@ -1,5 +1,5 @@
 -- From the verdict on a solution of an open instance to what is said of the texts that are open. For `check_opened` in
--- src/opened.rt.
+-- src/handle_calls.rt.
 use Rattle.std.proofs.Common.{◌≡◌, ◌≢◌, ℕ, ◌≤◌, List, Bool, true, false, Result, Ok, Err, inl, inr, refl, sym, ap, subst, ◌∙◌, arith}
 use Rattle.std.specs.Prelude.{Option, ℤ}
 use Rattle.std.proofs.lemmas.Bool.{false≢true}

@@ -6,8 +6,8 @@ ghost use Rattle.tsp_c.specs.Ended.{EndsOnTexts, IsPlaced, IsPrinted, without_de
 ghost use Rattle.tsp_c.specs.Texts.{IsRefusedNumber};
 ghost use Rattle.tsp_c.specs.Told.{blank_told};
 
-use crate::line::{NoLine, line_of};
-use crate::place::place;
+use crate::fault_line::{NoLine, line_of};
+use crate::text_buffer::place;
 use crate::told::Told;
 use std::alloc::Global;
 use std::marker::Model;

@@ -3,7 +3,7 @@
 ghost use Rattle.std.specs.Prelude.{◌↔◌, IsSome};
 ghost use Rattle.tsp_c.specs.Texts.{ExplainsTexts, IsExplained};
 
-use crate::refused::{certificate_of, claim_of, layout_of, strict_of};
+use crate::picked_runs::{certificate_of, claim_of, layout_of, strict_of};
 use std::alloc::{AllocError, Global};
 use std::str;
 use tsp_judge::{ReadFault, RunFault, Status, Watched};

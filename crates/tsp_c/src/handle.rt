@@ -3,8 +3,8 @@
 ghost use Rattle.std.specs.Prelude.{◌≡◌, None, Some, is_some};
 ghost use Rattle.std.specs.Option.{option_map};
 
+use crate::box_parts::BoxParts;
 use crate::loose::Loose;
-use crate::parts::Parts;
 use std::alloc::Global;
 use std::boxed::Box;
 use std::mem::replace;
@@ -35,7 +35,7 @@ impl Handle {
     {
         Handle {
             is_open: true,
-            loose: Loose::of_parts(Parts::of(opened)),
+            loose: Loose::of_parts(BoxParts::of(opened)),
         }
     }
 

@@ -16,48 +16,48 @@ ghost use Rattle.tsp_c.specs.Opened.{BindsText, ChecksHeld, EndsSection, OfHeld,
 ghost use Rattle.tsp_c.specs.NumberCalls.{EndsCount, EndsLengths, EndsMatrix, EndsWeights, FillsCount, FillsLengths, FillsMatrix, FillsPoints, FillsWeights, GivesDistance};
 ghost use Rattle.tsp_c.specs.Texts.{BoundsBy, ChecksBy, ConvertsBy, ExplainsTexts, ShowsText, certificates};
 
+mod box_parts;
+mod call_end;
 mod call_examples;
-mod distance;
+mod distance_call;
 mod ended;
 mod examples;
 mod explain;
+mod fault_line;
 mod fill;
 mod handle;
+mod handle_calls;
 mod in_box;
-mod instance;
-mod lengths;
-mod line;
+mod list_lengths;
 mod loose;
 mod number_examples;
-mod opened;
-mod parts;
-mod place;
-mod points;
-mod refused;
-mod status;
+mod pair_costs;
+mod picked_runs;
+mod section_points;
+mod text_buffer;
+mod text_instance;
 mod texts;
 mod told;
-mod weights;
 
-use crate::distance::{Counts, distance_of};
+use crate::distance_call::{Counts, distance_of};
 use crate::explain::{Numbers, Texts, explained};
 use crate::handle::Handle;
-use crate::instance::fill_count;
-use crate::lengths::fill_lengths;
-use crate::opened::{
+use crate::handle_calls::{
     bind_text, check_held, close, count_held, lengths_held, open_text, points_held, rows_held,
     weights_held,
 };
-use crate::place::place;
-use crate::points::fill_points;
-use crate::refused::{Claim, bound_by, check_by, convert_by};
+use crate::list_lengths::fill_lengths;
+use crate::pair_costs::{fill_matrix, fill_weights};
+use crate::picked_runs::{Claim, bound_by, check_by, convert_by};
+use crate::section_points::fill_points;
+use crate::text_buffer::place;
+use crate::text_instance::fill_count;
 use crate::texts::shown;
 use crate::told::Told;
-use crate::weights::{fill_matrix, fill_weights};
 use std::alloc::Global;
 
 /// The version, as 10,000 times the first number, 100 times the second, and the third.
-const VERSION: u32 = 10100;
+const VERSION_NUMBER: u32 = 10100;
 
 /// Judges a solution of an instance: by 0 alone, by 1 with potentials, by 2 with branches. Where
 /// `has_claim` is 1, its length has to be the claimed one; where it is 2, an instance with an
@@ -421,5 +421,5 @@ pub extern "C" fn tsp_distance(
 pub extern "C" fn tsp_version() -> u32
     ensures { result ≡ 10100 }
 {
-    VERSION
+    VERSION_NUMBER
 }

@@ -4,7 +4,7 @@ ghost use Rattle.std.specs.Prelude.{◌≡◌, Option, None, Some};
 ghost use Rattle.tsp_judge.specs.Open.{Open};
 ghost use Rattle.tsp_c.specs.Held.{held_coded, open_of};
 
-use crate::parts::Parts;
+use crate::box_parts::BoxParts;
 use std::alloc::Global;
 use std::marker::Model;
 use tsp_judge::Opened;
@@ -43,10 +43,10 @@ impl Loose {
     }
 
     /// The pointer of a box that was taken apart.
-    pub(crate) fn of_parts(parts: Parts<Opened, Global>) -> Loose
+    pub(crate) fn of_parts(parts: BoxParts<Opened, Global>) -> Loose
         ensures { result.value ≡ Some parts.value }
     {
-        let Parts { ptr, alloc } = parts;
+        let BoxParts { ptr, alloc } = parts;
         Loose {
             at: ptr as *mut u8,
             alloc,
@@ -54,12 +54,12 @@ impl Loose {
     }
 
     /// The parts of the box whose pointer this is.
-    pub(crate) fn into_parts(self) -> Parts<Opened, Global>
+    pub(crate) fn into_parts(self) -> BoxParts<Opened, Global>
         requires { self.value ≡ Some (open_of self.value) }
         ensures { result.value ≡ open_of self.value }
     {
         let Loose { at, alloc } = self;
-        Parts {
+        BoxParts {
             ptr: at as *mut Opened,
             alloc,
         }

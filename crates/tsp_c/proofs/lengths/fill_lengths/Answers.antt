@@ -1,9 +1,0 @@
--- The goals of `fill_lengths` in src/lengths.rt: what it ensures.
-use Rattle.std.proofs.Common.{inl, inr, refl}
-use Rattle.tsp_c.proofs.lengths.fill_lengths.Goals as goal
-
-pub returns-in-Err : goal.returns-in-Err
-returns-in-Err c = inr (c.in-Err.error, c.in-Err.ensures, (c.of_fault.ensures, refl))
-
-pub returns-in-Ok : goal.returns-in-Ok
-returns-in-Ok c = inl (c.in-Ok.instance, c.in-Ok.ensures, c.lengths_of-status.ensures)

@@ -1,0 +1,9 @@
+-- The goals of `fill_matrix` in src/pair_costs.rt: what it ensures.
+use Rattle.std.proofs.Common.{inl, inr, refl}
+use Rattle.tsp_c.proofs.pair_costs.fill_matrix.Goals as goal
+
+pub returns-in-Err : goal.returns-in-Err
+returns-in-Err c = inr (c.in-Err.error, c.in-Err.ensures, (c.of_fault.ensures, refl))
+
+pub returns-in-Ok : goal.returns-in-Ok
+returns-in-Ok c = inl (c.in-Ok.instance, c.in-Ok.ensures, c.rows_of-status.ensures)

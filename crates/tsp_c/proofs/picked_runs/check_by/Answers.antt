@@ -1,0 +1,49 @@
+-- The goals of `check_by` in src/picked_runs.rt: what it ensures.
+use Rattle.std.proofs.Common.{◌≡◌, ◌∙◌, ap, subst, subst₂, Bool, arith, rules, FitsSigned, w64}
+use Rattle.std.specs.Prelude.{Option, ℤ}
+use Rattle.std.proofs.lemmas.Int.{to_z-of_z}
+use Rattle.tsp_reason.specs.declared.certificate.Certificate.{Certificate}
+use Rattle.tsp_c.specs.Texts.{ChecksTexts, claim_of, strict_of, with_certificate}
+use Rattle.tsp_c.specs.Told.{TellsTexts}
+use Rattle.tsp_c.proofs.picked_runs.check_by.Goals as goal
+
+-- plan: the numbers name a certificate and a claim, as the code has tested, so the answer is that of the call
+pub returns-clause-texts : goal.returns-clause-texts
+returns-clause-texts c =
+    let one = c.args.instance.now in
+    let two = c.args.solution.now in
+    let three = c.args.certificate.now in
+    let made = c.checked.result in
+    let low = c.if-by-gt2.false in
+    let few = c.if-claim-gt3.false in
+    let by = c.certificate_of-by in
+    let claim = c.claim_of-claim in
+    let fits : FitsSigned w64 c.args.claim.claimed = search rules in
+    let claim_is : claim.result ≡ claim_of c.args.claim.has_claim c.args.claim.claimed =
+    claim.ensures ∙ ap (λ (z : ℤ). claim_of c.args.claim.has_claim z) (to_z-of_z w64 c.args.claim.claimed fits) in (
+      λ known claims. subst (λ (b : Option Certificate). ChecksTexts (with_certificate b three) (claim_of c.args.claim.has_claim c.args.claim.claimed) (strict_of c.args.claim.has_claim) one two made.0.0 made.0.1)
+          by.ensures
+          (subst₂ (λ (k : Option ℤ) (s : Bool). ChecksTexts (with_certificate by.result three) k s one two made.0.0 made.0.1) claim_is c.strict_of-strict.ensures c.checked.ensures.texts),
+      λ many. absurd (omega (arith, low, many)),
+      λ many. absurd (omega (arith, few, many)),
+    )
+
+pub returns-clause-numbers : goal.returns-clause-numbers
+returns-clause-numbers c =
+    let one = c.args.instance.now in
+    let two = c.args.solution.now in
+    let three = c.args.certificate.now in
+    let made = c.checked.result in
+    let low = c.if-by-gt2.false in
+    let few = c.if-claim-gt3.false in
+    let by = c.certificate_of-by in
+    let claim = c.claim_of-claim in
+    let fits : FitsSigned w64 c.args.claim.claimed = search rules in
+    let claim_is : claim.result ≡ claim_of c.args.claim.has_claim c.args.claim.claimed =
+    claim.ensures ∙ ap (λ (z : ℤ). claim_of c.args.claim.has_claim z) (to_z-of_z w64 c.args.claim.claimed fits) in (
+      λ known claims. subst (λ (b : Option Certificate). TellsTexts (with_certificate b three) (claim_of c.args.claim.has_claim c.args.claim.claimed) (strict_of c.args.claim.has_claim) one two made.0.0 made.1)
+          by.ensures
+          (subst₂ (λ (k : Option ℤ) (s : Bool). TellsTexts (with_certificate by.result three) k s one two made.0.0 made.1) claim_is c.strict_of-strict.ensures c.checked.ensures.numbers),
+      λ many. absurd (omega (arith, low, many)),
+      λ many. absurd (omega (arith, few, many)),
+    )

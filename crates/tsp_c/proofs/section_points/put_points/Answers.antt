@@ -1,0 +1,19 @@
+-- The goals of `put_points` in src/section_points.rt: its loop.
+use Rattle.std.proofs.Common.{◌≡◌, ℕ, ◌+◌, ◌-◌, ◌/◌, ◌%◌, ◌∙◌, ap, arith, rules, FitsSigned, w64}
+use Rattle.std.specs.Prelude.{slice_index_or}
+use Rattle.std.proofs.lemmas.Int.{to_z-of_z}
+use Rattle.tsp_draft.specs.states.Drafts.{points_of}
+use Rattle.tsp_draft.specs.Coords.{origin}
+use Rattle.tsp_c.specs.NumberCalls.{point_number, coordinate}
+use Rattle.tsp_c.proofs.section_points.put_points.Goals as goal
+
+-- plan: one place more is its two or three coordinates more
+pub places-preserved : goal.places-preserved
+places-preserved c =
+    let fits : FitsSigned w64 c.coordinate.result = search rules in
+    let k : ℕ = c.places.k in
+    let back : k / 3 ≡ k / 3 + 1 - 1 = omega arith in
+    c.put.ensures (point_number (points_of c.args.points.now)) c.args.out.now
+    (to_z-of_z w64 c.coordinate.result fits ∙ c.coordinate.ensures ∙ ap (coordinate (k % 3)) c.point_at.ensures
+    ∙ ap (λ (i : ℕ). coordinate (k % 3) (slice_index_or (points_of c.args.points.now) i origin)) back)
+    c.places.invariant

@@ -1,9 +1,0 @@
--- The goals of `fill_weights` in src/weights.rt: what it ensures.
-use Rattle.std.proofs.Common.{inl, inr, refl}
-use Rattle.tsp_c.proofs.weights.fill_weights.Goals as goal
-
-pub returns-in-Err : goal.returns-in-Err
-returns-in-Err c = inr (c.in-Err.error, c.in-Err.ensures, (c.of_fault.ensures, refl))
-
-pub returns-in-Ok : goal.returns-in-Ok
-returns-in-Ok c = inl (c.in-Ok.instance, c.in-Ok.ensures, c.weights_of-status.ensures)

@@ -1,7 +1,0 @@
--- The loop of `put_rows` in src/weights.rt.
-use Rattle.tsp_c.specs.NumberCalls.{IsFilled, row_cost}
-use Rattle.tsp_c.proofs.weights.put_rows.Given as goal
-
--- the costs before this place are in the buffer, row by row, and its other numbers are as they were
-abbrev pub invariant-places : goal.invariant-places
-invariant-places l = IsFilled l.k (row_cost l.first_row l.instance) l.fn.out l.out

@@ -1,0 +1,101 @@
+//! The statuses of the calls on numbers.
+
+ghost use Rattle.std.specs.Prelude.{◌≡◌, Ok};
+ghost use Rattle.tsp_judge.specs.Status.{status_of, status_of_fault};
+ghost use Rattle.tsp_judge.specs.declared.fault.RunFault.TheVariants.{OutOfMemory};
+
+use crate::in_box::NoBox;
+use std::marker::Model;
+use tsp_judge::{RunError, Status, status_of};
+
+/// The buffer has too few places.
+pub(crate) const TOO_SMALL: u32 = Status::TooSmall as u32;
+
+/// The status of a call on numbers. Contracts see its number.
+///
+/// Only the calls of this file make one: out of memory comes from a [`RunError`] or a [`NoBox`].
+#[derive(Clone, Copy, Drop)]
+pub(crate) struct CallEnd {
+    number: u32,
+}
+
+impl Model for CallEnd {
+    ghost use Rattle.std.specs.Prelude.{ℕ};
+
+    ghost Value = { ℕ };
+
+    ghost view = { λ ending. ending.number };
+
+    ghost inverse = { λ number. record { number = number } };
+}
+
+impl CallEnd {
+    /// The number of the status.
+    pub(crate) fn number(self) -> u32
+        ensures { result ≡ self }
+    {
+        self.number
+    }
+
+    /// The ending of a call that succeeded: status 0.
+    pub(crate) fn done() -> CallEnd
+        ensures { result ≡ 0 }
+    {
+        CallEnd {
+            number: Status::Yes as u32,
+        }
+    }
+
+    /// The file has no such section.
+    pub(crate) fn no() -> CallEnd
+        ensures { result ≡ 1 }
+    {
+        CallEnd {
+            number: Status::No as u32,
+        }
+    }
+
+    /// The instance doesn't have it.
+    pub(crate) fn refused() -> CallEnd
+        ensures { result ≡ 4 }
+    {
+        CallEnd {
+            number: Status::Refused as u32,
+        }
+    }
+
+    /// The buffer has too few places.
+    pub(crate) fn too_small() -> CallEnd
+        ensures { result ≡ 6 }
+    {
+        CallEnd { number: TOO_SMALL }
+    }
+
+    /// Of a call with a verdict: 0 where it accepts, else 1.
+    pub(crate) fn of_answer(accepts: bool) -> CallEnd
+        ensures { result ≡ status_of (Ok accepts) }
+    {
+        CallEnd {
+            number: u32::from(status_of(&Ok(accepts))),
+        }
+    }
+
+    /// Of a fault: 2 of a text, 3 out of memory.
+    pub(crate) fn of_fault(error: RunError) -> CallEnd
+        ensures { result ≡ status_of_fault error }
+    {
+        CallEnd {
+            number: u32::from(status_of(&Err(error.fault()))),
+        }
+    }
+
+    /// There was no memory for a box.
+    pub(crate) fn without_box(no_box: NoBox) -> CallEnd
+        ensures { result ≡ status_of_fault OutOfMemory }
+    {
+        drop(no_box);
+        CallEnd {
+            number: Status::OutOfMemory as u32,
+        }
+    }
+}

@@ -1,0 +1,305 @@
+//! The calls on a handle.
+
+ghost use Rattle.std.specs.Prelude.{◌≡◌, None, Some, MatchResult};
+ghost use Rattle.tsp_stream.specs.states.Watched.{sink_of};
+ghost use Rattle.tsp_reason.specs.Verdicts.{is_yes};
+ghost use Rattle.tsp_report.specs.Report.{report_of, IsSized};
+ghost use Rattle.tsp_c.specs.Ended.{Reports, nth};
+ghost use Rattle.tsp_c.specs.NumberCalls.{EndsCount, EndsLengths, EndsMatrix, EndsWeights};
+ghost use Rattle.tsp_c.specs.Opened.{BindsOpen, BindsText, ChecksAsTexts, ChecksHeld, EndsSection, OfHeld, OpensText, TellsJudged};
+ghost use Rattle.tsp_c.specs.Texts.{certificates};
+ghost use Rattle.tsp_c.specs.Told.{told_of_fault};
+ghost use Rattle.tsp_judge.specs.Status.{status_of_fault};
+ghost use Rattle.tsp_judge.specs.declared.fault.RunFault.TheVariants.{OutOfMemory};
+ghost use Rattle.tsp_judge.specs.Open.{Open, IsOpened, IsUnopened};
+
+use crate::call_end::CallEnd;
+use crate::ended::{Answer, ended};
+use crate::handle::Handle;
+use crate::in_box::{NoBox, in_box};
+use crate::list_lengths::lengths_of;
+use crate::pair_costs::{rows_of, weights_of};
+use crate::picked_runs::{certificate_of, claim_of};
+use crate::section_points::points_of_file;
+use crate::told::Told;
+use std::alloc::Global;
+use std::boxed::Box;
+use std::io::Write;
+use tsp_cost::{Costs, Instance};
+use tsp_judge::{Certificate, Opened, RunError, Verdict, Watched, verdicts_mean_reports};
+use tsp_report::write_report;
+
+/// Opens a handle on the instance that a text is; the status. What it was open on before is freed
+/// first.
+pub(crate) fn open_text(alloc: Global, text: &[u8], handle: &mut Handle, told: &mut Told) -> CallEnd
+    ensures { OpensText text.now handle.new.loose.value told.new result }
+{
+    drop(handle.take(alloc));
+    match boxed(alloc, text) {
+        Err(error) => tell_fault(error, told),
+        Ok(Err(no_box)) => tell_no_box(no_box, told),
+        Ok(Ok(opened)) => {
+            *told = Told::of_instance(opened.instance());
+            handle.put(opened);
+            CallEnd::done()
+        }
+    }
+}
+
+/// Tells the numbers of a fault; its status.
+fn tell_fault(error: RunError, told: &mut Told) -> CallEnd
+    ensures told { told.new ≡ told_of_fault error }
+    ensures status { result ≡ status_of_fault error }
+{
+    *told = Told::of_error(error);
+    CallEnd::of_fault(error)
+}
+
+/// Tells that there was no memory for a box; the status.
+fn tell_no_box(no_box: NoBox, told: &mut Told) -> CallEnd
+    ensures told { told.new ≡ told_of_fault OutOfMemory }
+    ensures status { result ≡ status_of_fault OutOfMemory }
+{
+    *told = Told::blank();
+    CallEnd::without_box(no_box)
+}
+
+/// The instance that a text is, in a box, where there was memory for it.
+///
+/// # Errors
+///
+/// Why the text is no instance; out of memory for the box is no such fault.
+fn boxed(alloc: Global, text: &[u8]) -> Result<Result<Box<Opened, Global>, NoBox>, RunError>
+    ensures { MatchResult result
+        (λ held. MatchResult held (λ opened. IsOpened text.now opened.value) (λ no_box. (opened : Open) × IsOpened text.now opened))
+        (λ fault. IsUnopened text.now fault) }
+{
+    let opened = Opened::of(alloc, text)?;
+    match in_box(alloc, opened) {
+        Ok(opened) => Ok(Ok(opened)),
+        Err(no_box) => Ok(Err(no_box)),
+    }
+}
+
+/// Closes a handle, and frees what it was open on.
+pub(crate) fn close(alloc: Global, handle: &mut Handle)
+    ensures { handle.new.loose.value ≡ None }
+{
+    drop(handle.take(alloc));
+}
+
+/// Binds the certificate that a text is to the instance of a handle, by 1 potentials, by 2
+/// branches; the status.
+pub(crate) fn bind_text(
+    alloc: Global,
+    handle: &mut Handle,
+    text: &[u8],
+    by: u32,
+    told: &mut Told,
+) -> CallEnd
+    ensures { BindsText (nth by certificates) text.now handle.old.loose.value handle.new.loose.value told.new result }
+{
+    *told = Told::blank();
+    let Some(by) = certificate_of(by) else {
+        return CallEnd::refused();
+    };
+    match handle.take(alloc) {
+        None => CallEnd::refused(),
+        Some(mut opened) => {
+            let status = bind_opened(alloc, &mut opened, by, text, told);
+            handle.put(opened);
+            status
+        }
+    }
+}
+
+/// Binds the certificate that a text is to an instance that is open; the status.
+fn bind_opened(
+    alloc: Global,
+    opened: &mut Opened,
+    by: Certificate,
+    text: &[u8],
+    told: &mut Told,
+) -> CallEnd
+    ensures { BindsOpen by text.now opened.old (Some opened.new) told.new result }
+{
+    match opened.bind(alloc, by, text) {
+        Err(error) => tell_fault(error, told),
+        Ok(found) => {
+            *told = Told::of_bound(opened.instance(), found);
+            CallEnd::of_answer(found.is_yes())
+        }
+    }
+}
+
+/// The check of the solution that a text is, of the instance of a handle, with the certificate that
+/// is bound, where one is, and with a claimed length where `has_claim` is 1; with its status, and
+/// in numbers.
+pub(crate) fn check_held(
+    alloc: Global,
+    handle: &mut Handle,
+    solution: &[u8],
+    claimed: i64,
+    has_claim: u32,
+) -> (Answer, Told)
+    ensures same { handle.new.loose.value ≡ handle.old.loose.value }
+    ensures checks { ChecksHeld handle.old.loose.value has_claim claimed solution.now result.0.0 result.0.1 result.1 }
+{
+    if has_claim > 1 {
+        return (Answer::refused(alloc), Told::blank());
+    }
+    match handle.take(alloc) {
+        None => (Answer::refused(alloc), Told::blank()),
+        Some(opened) => {
+            let answer = check_opened(alloc, &opened, solution, claim_of(has_claim, claimed));
+            handle.put(opened);
+            answer
+        }
+    }
+}
+
+/// The check of the solution that a text is, of an instance that is open.
+fn check_opened(
+    alloc: Global,
+    opened: &Opened,
+    solution: &[u8],
+    claimed: Option<i64>,
+) -> (Answer, Told)
+    ensures texts { ChecksAsTexts opened.now claimed solution.now result.0.0 result.0.1 }
+    ensures numbers { TellsJudged opened.now claimed solution.now result.0.0 result.1 }
+{
+    verdicts_mean_reports();
+    let mut report = Watched::new(Vec::new(alloc));
+    match opened.judge(alloc, solution, claimed) {
+        Err(error) => {
+            let answer = ended(Err(error), report);
+            let told = answer.numbers(Told::of_error(error));
+            (answer, told)
+        }
+        Ok(verdict) => {
+            let told = Told::of_verdict(opened.instance(), verdict);
+            let written = reported(opened.instance(), verdict, &mut report);
+            let answer = ended(written, report);
+            let told = answer.numbers(told);
+            (answer, told)
+        }
+    }
+}
+
+/// Writes the report on a verdict, and returns whether it accepts.
+fn reported<W: Write>(
+    instance: &Instance,
+    verdict: Verdict,
+    out: &mut Watched<W>,
+) -> Result<bool, RunError>
+    requires { IsSized verdict }
+    ensures { Reports (sink_of W.contents out.old out.new) (report_of instance.now verdict) (is_yes verdict) result }
+{
+    match write_report(instance.file(), verdict, out) {
+        Ok(()) => Ok(verdict.is_yes()),
+        Err(fault) => Err(RunError::unwritten(fault)),
+    }
+}
+
+/// Fills in the costs of pairs of nodes of the instance of a handle; the status.
+pub(crate) fn weights_held(
+    alloc: Global,
+    handle: &mut Handle,
+    pairs: &[u32],
+    out: &mut [i64],
+) -> CallEnd
+    ensures same { handle.new.loose.value ≡ handle.old.loose.value }
+    ensures fills { OfHeld handle.old.loose.value (λ instance. EndsWeights instance pairs.now out.old out.new result)
+        out.old out.new result }
+{
+    match handle.take(alloc) {
+        None => CallEnd::refused(),
+        Some(opened) => {
+            let status = weights_of(opened.instance(), pairs, out);
+            handle.put(opened);
+            status
+        }
+    }
+}
+
+/// Fills in rows of the matrix of the instance of a handle; the status.
+pub(crate) fn rows_held(
+    alloc: Global,
+    handle: &mut Handle,
+    first_row: u32,
+    out: &mut [i64],
+) -> CallEnd
+    ensures same { handle.new.loose.value ≡ handle.old.loose.value }
+    ensures fills { OfHeld handle.old.loose.value (λ instance. EndsMatrix instance first_row out.old out.new result)
+        out.old out.new result }
+{
+    match handle.take(alloc) {
+        None => CallEnd::refused(),
+        Some(opened) => {
+            let status = rows_of(opened.instance(), first_row, out);
+            handle.put(opened);
+            status
+        }
+    }
+}
+
+/// Fills in the lengths of lists of nodes of the instance of a handle; the status.
+pub(crate) fn lengths_held(
+    alloc: Global,
+    handle: &mut Handle,
+    nodes: &[u32],
+    out: &mut [i64],
+) -> CallEnd
+    ensures same { handle.new.loose.value ≡ handle.old.loose.value }
+    ensures fills { OfHeld handle.old.loose.value (λ instance. EndsLengths instance nodes.now out.old out.new result)
+        out.old out.new result }
+{
+    match handle.take(alloc) {
+        None => CallEnd::refused(),
+        Some(opened) => {
+            let status = lengths_of(opened.instance(), nodes, out);
+            handle.put(opened);
+            status
+        }
+    }
+}
+
+/// Fills in the coordinates of the points of a section of the instance of a handle; the status.
+pub(crate) fn points_held(
+    alloc: Global,
+    handle: &mut Handle,
+    section: u32,
+    out: &mut [i64],
+) -> CallEnd
+    ensures same { handle.new.loose.value ≡ handle.old.loose.value }
+    ensures fills { OfHeld handle.old.loose.value (λ instance. EndsSection instance section out.old out.new result)
+        out.old out.new result }
+{
+    if section < 1 || section > 2 {
+        return CallEnd::refused();
+    }
+    match handle.take(alloc) {
+        None => CallEnd::refused(),
+        Some(opened) => {
+            let status = points_of_file(opened.instance().file(), section, out);
+            handle.put(opened);
+            status
+        }
+    }
+}
+
+/// How many nodes the instance of a handle has; the status.
+pub(crate) fn count_held(alloc: Global, handle: &mut Handle, count: &mut u32) -> CallEnd
+    ensures same { handle.new.loose.value ≡ handle.old.loose.value }
+    ensures fills { OfHeld handle.old.loose.value (λ instance. EndsCount instance count.new result)
+        count.old count.new result }
+{
+    match handle.take(alloc) {
+        None => CallEnd::refused(),
+        Some(opened) => {
+            *count = opened.instance().count();
+            handle.put(opened);
+            CallEnd::done()
+        }
+    }
+}

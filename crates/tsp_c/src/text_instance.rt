@@ -1,0 +1,41 @@
+//! The instance of a text.
+
+ghost use Rattle.tsp_c.specs.NumberCalls.{FillsCount, FindsInstance};
+
+use crate::call_end::CallEnd;
+use std::alloc::Global;
+use tsp_cost::{Costs, Instance};
+use tsp_judge::{RunError, read_text};
+
+/// The instance that a text parses to.
+///
+/// # Errors
+///
+/// `File` with the number 1 where the text parses to no file; `WrongKind` where the file is no
+/// instance.
+pub(crate) fn instance_of(alloc: Global, text: &[u8]) -> Result<Instance, RunError>
+    ensures { FindsInstance text.now result }
+{
+    let file = read_text(alloc, 1, text)?;
+    match Instance::of(file) {
+        Ok(instance) => Ok(instance),
+        Err((_, other)) => {
+            drop(other);
+            Err(RunError::wrong_kind())
+        }
+    }
+}
+
+/// Fills in how many nodes the instance of a text has; the status.
+pub(crate) fn fill_count(alloc: Global, text: &[u8], count: &mut u32) -> CallEnd
+    ensures { FillsCount text.now count.old count.new result }
+{
+    match instance_of(alloc, text) {
+        Err(error) => CallEnd::of_fault(error),
+        Ok(instance) => {
+            *count = instance.count();
+            drop(instance);
+            CallEnd::done()
+        }
+    }
+}
