@@ -1,20 +1,18 @@
 -- The number lines of sections as they are written, and their words. For the law `canonical_texts_are_read_back` in
 -- src/round_trip.rt.
-use Rattle.std.proofs.Common.{◌≡◌, ℕ, ◌+◌, ◌^◌, ◌<◌, ◌≤◌, true, List, [], ◌∷◌, ◌++◌, length, map, refl, arith, Bool, false}
-use Rattle.std.specs.Prelude.{ℤ, pos, nat_le, codes, ◌&&◌}
+use Rattle.std.proofs.Common.{◌≡◌, ℕ, ◌+◌, ◌^◌, ◌<◌, ◌≤◌, true, List, [], ◌∷◌, ◌++◌, length, map, refl, arith, Bool}
+use Rattle.std.specs.Prelude.{ℤ, nat_le, codes}
 use Rattle.std.specs.List.{list_all, flat_map, enumerate_from}
-use Rattle.std.specs.Ordering.{int_eq}
 use Rattle.std.specs.Fmt.{decimal, signed_decimal}
 use Rattle.std.proofs.lemmas.Bool.{and_from, and_parts, leb-true}
-use Rattle.tsp_distance.specs.declared.decimal.Point.{Point}
-use Rattle.tsp_number.specs.Spelling.{spelling}
-use Rattle.tsp_format.specs.Limits.{most_nodes, most_weight, most_multiplier, most_coordinate}
-use Rattle.tsp_draft.specs.Validity.{is_from_to, is_within, is_node, is_pair_of, is_triple_of, is_point, is_node_list}
+use Rattle.tsp_format.specs.Limits.{most_nodes, most_weight, most_multiplier}
+use Rattle.tsp_draft.specs.Validity.{is_within, is_node, is_pair_of, is_triple_of, is_node_list}
 use Rattle.tsp_file.specs.CanonicalText.{number_line, ended_by_mark, node_list, pair_list, triple_list}
 use Rattle.tsp_round.proofs.Text.{is_plain_word, WritesWords, no_words_written, both_words, number_line_written}
-use Rattle.tsp_round.proofs.NumbersReadBack.{decimal_plain, signed_plain, spelling_plain, size_in, size_from}
-use Rattle.tsp_round.proofs.Groups.{AreSmall, number_entry}
-use Rattle.tsp_round.proofs.Points.{point_entry, space_point_entry}
+use Rattle.tsp_round.proofs.NumbersReadBack.{decimal_plain, signed_plain, size_in, size_from}
+use Rattle.tsp_text.specs.WordPlaces.{Place}
+use Rattle.tsp_text.proofs.GroupWords.{Words}
+use Rattle.tsp_round.proofs.Groups.{AreSpelled, entry_words}
 use Rattle.tsp_round.proofs.Lists.{are_pair}
 use Rattle.tsp_round.proofs.Listed.{pair_words}
 use Rattle.tsp_round.proofs.Triples.{triple_words, are_triple}
@@ -25,56 +23,16 @@ one_plain word plain = and_from (is_plain_word word) true plain refl
 
 -- ---- by node
 
-pub numbers_written : (low high : ℤ) → AreSmall low high → (n : ℕ) → n < 2 ^ 32 → (i : ℕ) (xs : List ℤ) → i + length xs ≤ n
-    → list_all (is_from_to low high) xs ≡ true
-    → WritesWords (flat_map (λ (entry : ℕ × ℤ). number_line (decimal entry.0) (signed_decimal entry.1 ∷ [])) (enumerate_from (i + 1) xs)) (flat_map number_entry (enumerate_from (i + 1) xs))
-numbers_written low high small n few i [] room all = no_words_written
-numbers_written low high small n few i (z ∷ xs) room all =
-    let both = and_parts (is_from_to low high z) (list_all (is_from_to low high) xs) all in
-    let fits = small z both.0 in
-    both_words (number_line (decimal (i + 1)) (signed_decimal z ∷ [])) (flat_map (λ (entry : ℕ × ℤ). number_line (decimal entry.0) (signed_decimal entry.1 ∷ [])) (enumerate_from (i + 1 + 1) xs))
-    (number_entry (i + 1, z)) (flat_map number_entry (enumerate_from (i + 1 + 1) xs))
-    (number_line_written (decimal (i + 1)) (signed_decimal z ∷ []) (decimal_plain (i + 1) (omega arith)) (one_plain (signed_decimal z) (signed_plain z (omega (arith, fits)))))
-    (numbers_written low high small n few (i + 1) xs (omega arith) both.1)
-
-coordinate_plain : (z : ℤ) → is_within most_coordinate z ≡ true → is_plain_word (spelling z) ≡ true
-coordinate_plain z inside =
-    let small = size_in most_coordinate z inside in
-    spelling_plain z (omega (arith, small))
-
-pub points_written : (n : ℕ) → n < 2 ^ 32 → (i : ℕ) (xs : List Point) → i + length xs ≤ n → list_all (is_point false) xs ≡ true
-    → WritesWords (flat_map (λ (entry : ℕ × Point). number_line (decimal entry.0) (spelling entry.1.x ∷ spelling entry.1.y ∷ [])) (enumerate_from (i + 1) xs))
-    (flat_map point_entry (enumerate_from (i + 1) xs))
-points_written n few i [] room all = no_words_written
-points_written n few i (p ∷ xs) room all =
-    let both = and_parts (is_point false p) (list_all (is_point false) xs) all in
-    let flat = and_parts (is_within most_coordinate p.x && is_within most_coordinate p.y) (int_eq p.z (pos 0)) both.0 in
-    let inside = and_parts (is_within most_coordinate p.x) (is_within most_coordinate p.y) flat.0 in
-    both_words (number_line (decimal (i + 1)) (spelling p.x ∷ spelling p.y ∷ []))
-    (flat_map (λ (entry : ℕ × Point). number_line (decimal entry.0) (spelling entry.1.x ∷ spelling entry.1.y ∷ [])) (enumerate_from (i + 1 + 1) xs))
-    (point_entry (i + 1, p)) (flat_map point_entry (enumerate_from (i + 1 + 1) xs))
-    (number_line_written (decimal (i + 1)) (spelling p.x ∷ spelling p.y ∷ []) (decimal_plain (i + 1) (omega arith))
-    (and_from (is_plain_word (spelling p.x)) (list_all is_plain_word (spelling p.y ∷ [])) (coordinate_plain p.x inside.0) (one_plain (spelling p.y) (coordinate_plain p.y inside.1))))
-    (points_written n few (i + 1) xs (omega arith) both.1)
-
-pub space_points_written : (n : ℕ) → n < 2 ^ 32 → (i : ℕ) (xs : List Point) → i + length xs ≤ n
-    → list_all (is_point true) xs ≡ true
-    → WritesWords (flat_map (λ (entry : ℕ × Point). number_line (decimal entry.0) (spelling entry.1.x ∷ spelling entry.1.y ∷ spelling entry.1.z ∷ []))
-    (enumerate_from (i + 1) xs)) (flat_map space_point_entry (enumerate_from (i + 1) xs))
-space_points_written n few i [] room all = no_words_written
-space_points_written n few i (p ∷ xs) room all =
-    let both = and_parts (is_point true p) (list_all (is_point true) xs) all in
-    let flat = and_parts (is_within most_coordinate p.x && is_within most_coordinate p.y) (is_within most_coordinate p.z) both.0 in
-    let inside = and_parts (is_within most_coordinate p.x) (is_within most_coordinate p.y) flat.0 in
-    let words = spelling p.x ∷ spelling p.y ∷ spelling p.z ∷ [] in
-    both_words (number_line (decimal (i + 1)) words)
-    (flat_map (λ (entry : ℕ × Point). number_line (decimal entry.0) (spelling entry.1.x ∷ spelling entry.1.y ∷ spelling entry.1.z ∷ [])) (enumerate_from (i + 1 + 1) xs))
-    (space_point_entry (i + 1, p)) (flat_map space_point_entry (enumerate_from (i + 1 + 1) xs))
-    (number_line_written (decimal (i + 1)) words (decimal_plain (i + 1) (omega arith))
-    (and_from (is_plain_word (spelling p.x)) (list_all is_plain_word (spelling p.y ∷ spelling p.z ∷ [])) (coordinate_plain p.x inside.0)
-    (and_from (is_plain_word (spelling p.y)) (list_all is_plain_word (spelling p.z ∷ [])) (coordinate_plain p.y inside.1)
-    (one_plain (spelling p.z) (coordinate_plain p.z flat.1)))))
-    (space_points_written n few (i + 1) xs (omega arith) both.1)
+pub values_written : {X : Type 0} {size : ℕ} {value : Words → X} {number_place : Place} {n : ℕ} {fits : X → Bool} {spell : X → Words}
+    → AreSpelled size value number_place n fits spell → n < 2 ^ 32 → (i : ℕ) (xs : List X) → i + length xs ≤ n → list_all fits xs ≡ true
+    → WritesWords (flat_map (λ (entry : ℕ × X). number_line (decimal entry.0) (spell entry.1)) (enumerate_from (i + 1) xs)) (flat_map (entry_words spell) (enumerate_from (i + 1) xs))
+values_written spelled few i [] room all = no_words_written
+values_written {X} {n = n} {fits = fits} {spell = spell} spelled few i (x ∷ xs) room all =
+    let both = and_parts (fits x) (list_all fits xs) all in
+    both_words (number_line (decimal (i + 1)) (spell x)) (flat_map (λ (entry : ℕ × X). number_line (decimal entry.0) (spell entry.1)) (enumerate_from (i + 1 + 1) xs))
+    (entry_words spell (i + 1, x)) (flat_map (entry_words spell) (enumerate_from (i + 1 + 1) xs))
+    (number_line_written (decimal (i + 1)) (spell x) (decimal_plain (i + 1) (omega arith)) (spelled.plain x both.0))
+    (values_written spelled few (i + 1) xs (omega arith) both.1)
 
 -- ---- lists that -1 ends
 

@@ -20,7 +20,8 @@ use Rattle.tsp_text.specs.Groups.{groups_in, begun_in, word_at, node_groups, num
 use Rattle.tsp_text.specs.Spells.{wants_more}
 use Rattle.tsp_text.specs.FaultRows.{word_fault}
 use Rattle.tsp_text.proofs.GroupWords.{Words, goes_on, all_groups, nodes_read, groups_append, begun_append}
-use Rattle.tsp_round.proofs.NumbersReadBack.{NumberLaws, node_back}
+use Rattle.tsp_round.proofs.Text.{is_plain_word}
+use Rattle.tsp_round.proofs.NumbersReadBack.{NumberLaws, node_back, signed_plain}
 use Rattle.tsp_round.proofs.Taken.{AllTaken, taken-append}
 use Rattle.tsp_round.proofs.Lists.{no_rows}
 
@@ -90,6 +91,7 @@ pub record AreSpelled {X : Type 0} (size : ℕ) (value : Words → X) (number_pl
   pub one : (first : List ℕ) (x : X) → (groups_in size (first ∷ spell x) ≡ (first ∷ spell x) ∷ []) × (begun_in size (first ∷ spell x) ≡ [])
   pub clean : (x : X) → fits x ≡ true → AreClean n number_place (spell x)
   pub back : (first : List ℕ) (x : X) → fits x ≡ true → value (first ∷ spell x) ≡ x
+  pub plain : (x : X) → fits x ≡ true → list_all is_plain_word (spell x) ≡ true
 
 pub one_node : (n i : ℕ) → i + 1 ≤ n → is_node n (i + 1) ≡ true
 one_node n i room = and_from (nat_le 1 (i + 1)) (nat_le (i + 1) n) (le-leb 1 (i + 1) (omega arith)) (le-leb (i + 1) n room)
@@ -188,9 +190,6 @@ module _ {X : Type 0} {size : ℕ} {value : Words → X} {number_place : Place} 
 abbrev pub number_words : ℤ → Words
 number_words z = signed_decimal z ∷ []
 
-abbrev pub number_entry : ℕ × ℤ → Words
-number_entry entry = entry_words number_words entry
-
 -- all numbers of the range can be written
 abbrev pub AreSmall : ℤ → ℤ → Type 0
 AreSmall low high = (z : ℤ) → is_from_to low high z ≡ true → unsigned_abs z < 2 ^ 63
@@ -207,4 +206,5 @@ numbers_spelled laws low high small n = record {
     tt,
   );
   back = λ first z inside. ap number (laws.whole_back z low high (small z inside) inside);
+  plain = λ z inside. let fits = small z inside in and_from (is_plain_word (signed_decimal z)) true (signed_plain z (omega (arith, fits))) refl;
 }

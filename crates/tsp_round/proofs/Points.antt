@@ -4,7 +4,8 @@ use Rattle.std.proofs.Common.{◌≡◌, ℕ, true, false, [], ◌∷◌, refl, 
 use Rattle.std.specs.Prelude.{ℤ, pos, ◌&&◌}
 use Rattle.std.specs.Ordering.{int_eq}
 use Rattle.std.specs.Result.{result_err}
-use Rattle.std.proofs.lemmas.Bool.{and_parts}
+use Rattle.std.specs.List.{list_all}
+use Rattle.std.proofs.lemmas.Bool.{and_from, and_parts}
 use Rattle.std.proofs.lemmas.Bool.Decides.{Decides-int_eq}
 use Rattle.tsp_number.specs.declared.fault.NumberFault.{NumberFault}
 use Rattle.tsp_distance.specs.declared.decimal.Point.{Point}
@@ -17,21 +18,16 @@ use Rattle.tsp_text.specs.WordPlaces.{Coordinate}
 use Rattle.tsp_text.specs.Groups.{point_in, space_point_in}
 use Rattle.tsp_text.specs.FaultRows.{word_fault}
 use Rattle.tsp_text.proofs.GroupWords.{Words}
-use Rattle.tsp_round.proofs.Groups.{entry_words, AreSpelled}
-use Rattle.tsp_round.proofs.NumbersReadBack.{NumberLaws, size_in}
+use Rattle.tsp_round.proofs.Groups.{AreSpelled}
+use Rattle.tsp_round.proofs.Text.{is_plain_word}
+use Rattle.tsp_round.proofs.NumbersReadBack.{NumberLaws, size_in, spelling_plain}
 use Rattle.tsp_round.proofs.Lists.{no_rows}
 
 abbrev pub point_words : Point → Words
 point_words p = spelling p.x ∷ spelling p.y ∷ []
 
-abbrev pub point_entry : ℕ × Point → Words
-point_entry entry = entry_words point_words entry
-
 abbrev pub space_point_words : Point → Words
 space_point_words p = spelling p.x ∷ spelling p.y ∷ spelling p.z ∷ []
-
-abbrev pub space_point_entry : ℕ × Point → Words
-space_point_entry entry = entry_words space_point_words entry
 
 -- ---- a coordinate
 
@@ -41,6 +37,17 @@ coordinate_back laws z inside = laws.decimal_back z (size_in most_coordinate z i
 coordinate_clean : NumberLaws → (n : ℕ) (z : ℤ) → is_within most_coordinate z ≡ true → word_fault n Coordinate (spelling z) ≡ None
 coordinate_clean laws n z inside =
     no_rows (result_err (decimal_of (spelling z))) false false false false (ap (λ (r : Result ℤ NumberFault). result_err r) (coordinate_back laws z inside)) refl refl refl refl
+
+coordinate_plain : (z : ℤ) → is_within most_coordinate z ≡ true → is_plain_word (spelling z) ≡ true
+coordinate_plain z inside =
+    let small = size_in most_coordinate z inside in
+    spelling_plain z (omega (arith, small))
+
+both_plain : (x y : ℤ) (more : Words) → is_within most_coordinate x ≡ true → is_within most_coordinate y ≡ true → list_all is_plain_word more ≡ true
+    → list_all is_plain_word (spelling x ∷ spelling y ∷ more) ≡ true
+both_plain x y more first second plain =
+    and_from (is_plain_word (spelling x)) (list_all is_plain_word (spelling y ∷ more)) (coordinate_plain x first)
+    (and_from (is_plain_word (spelling y)) (list_all is_plain_word more) (coordinate_plain y second) plain)
 
 -- ---- points
 
@@ -79,6 +86,7 @@ points_spelled laws n = record {
   back = λ first p fits.
       let is = is_flat p fits in
       ap₂ (λ a b. made a b (pos 0)) (ap number (coordinate_back laws p.x is.first)) (ap number (coordinate_back laws p.y is.second)) ∙ ap (made p.x p.y) (sym is.third);
+  plain = λ p fits. let is = is_flat p fits in both_plain p.x p.y [] is.first is.second refl;
 }
 
 pub space_points_spelled : NumberLaws → (n : ℕ) → AreSpelled 4 space_point_in Coordinate n (is_point true) space_point_words
@@ -94,4 +102,7 @@ space_points_spelled laws n = record {
       let is = is_in_space p fits in
       ap₂ (λ a b. made a b (number (decimal_of (spelling p.z)))) (ap number (coordinate_back laws p.x is.first)) (ap number (coordinate_back laws p.y is.second))
       ∙ ap (made p.x p.y) (ap number (coordinate_back laws p.z is.third));
+  plain = λ p fits.
+      let is = is_in_space p fits in
+      both_plain p.x p.y (spelling p.z ∷ []) is.first is.second (and_from (is_plain_word (spelling p.z)) true (coordinate_plain p.z is.third) refl);
 }

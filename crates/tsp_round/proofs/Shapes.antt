@@ -35,13 +35,13 @@ use Rattle.tsp_round.proofs.Listed as listed
 use Rattle.tsp_round.proofs.Listed.{pair_words, pairs_listed}
 use Rattle.tsp_round.proofs.Triples.{triple_words, triples_listed}
 use Rattle.tsp_round.proofs.Groups as by_node
-use Rattle.tsp_round.proofs.Groups.{AreSmall, number_entry, numbers_spelled}
-use Rattle.tsp_round.proofs.Points.{point_entry, space_point_entry, points_spelled, space_points_spelled}
+use Rattle.tsp_round.proofs.Groups.{AreSmall, entry_words, number_words, numbers_spelled}
+use Rattle.tsp_round.proofs.Points.{point_words, space_point_words, points_spelled, space_points_spelled}
 use Rattle.tsp_round.proofs.Tours.{tour_words, tours_taken, tours_back}
 use Rattle.tsp_round.proofs.CombWords.{combs_words, combs_taken, combs_back, combs_done}
 use Rattle.tsp_round.proofs.TreeWords.{step_words, steps_taken, steps_back, steps_done}
 use Rattle.tsp_round.proofs.TreeLines.{combs_written, steps_written}
-use Rattle.tsp_round.proofs.Bodies.{numbers_written, points_written, space_points_written, node_lines_written, tour_lines_written, pair_lines_written, triple_lines_written}
+use Rattle.tsp_round.proofs.Bodies.{values_written, node_lines_written, tour_lines_written, pair_lines_written, triple_lines_written}
 use Rattle.tsp_round.proofs.Matrix.{matrix_lines_written}
 
 -- ---- what a section of a shape has
@@ -99,9 +99,9 @@ lines_for lens Steps xs = case_tree_lines xs
 
 -- the words of the lines
 abbrev pub words_for : (shape : Shape) → Entries shape → List (List ℕ)
-words_for (Numbers low high) xs = flat_map number_entry (enumerate_from 1 xs)
-words_for Points xs = flat_map point_entry (enumerate_from 1 xs)
-words_for SpacePoints xs = flat_map space_point_entry (enumerate_from 1 xs)
+words_for (Numbers low high) xs = flat_map (entry_words number_words) (enumerate_from 1 xs)
+words_for Points xs = flat_map (entry_words point_words) (enumerate_from 1 xs)
+words_for SpacePoints xs = flat_map (entry_words space_point_words) (enumerate_from 1 xs)
 words_for Depots xs = map decimal xs ++ codes "-1" ∷ []
 words_for Pairs xs = flat_map pair_words xs ++ codes "-1" ∷ []
 words_for Weights xs = map signed_decimal xs
@@ -211,7 +211,7 @@ body laws lens (Numbers low high) writable n few xs fit =
     let small = small_range low high writable in
     let spelled = numbers_spelled laws low high small n in
     record {
-      written = numbers_written low high small n most 0 xs (omega (arith, count)) both.1;
+      written = values_written spelled most 0 xs (omega (arith, count)) both.1;
       taken = by_node.values_taken spelled laws most [] 0 xs refl refl refl (omega (arith, count)) both.1;
       back = by_node.values_back spelled laws most (pos 0) xs count both.1;
       done = by_node.values_done spelled laws most xs count;
@@ -222,7 +222,7 @@ body laws lens Points writable n few xs fit =
     let count = eqb-true (length xs) n both.0 in
     let most = few_nodes n (few refl) in
     record {
-      written = points_written n most 0 xs (omega (arith, count)) both.1;
+      written = values_written (points_spelled laws n) most 0 xs (omega (arith, count)) both.1;
       taken = by_node.values_taken (points_spelled laws n) laws most [] 0 xs refl refl refl (omega (arith, count)) both.1;
       back = by_node.values_back (points_spelled laws n) laws most origin xs count both.1;
       done = by_node.values_done (points_spelled laws n) laws most xs count;
@@ -233,7 +233,7 @@ body laws lens SpacePoints writable n few xs fit =
     let count = eqb-true (length xs) n both.0 in
     let most = few_nodes n (few refl) in
     record {
-      written = space_points_written n most 0 xs (omega (arith, count)) both.1;
+      written = values_written (space_points_spelled laws n) most 0 xs (omega (arith, count)) both.1;
       taken = by_node.values_taken (space_points_spelled laws n) laws most [] 0 xs refl refl refl (omega (arith, count)) both.1;
       back = by_node.values_back (space_points_spelled laws n) laws most origin xs count both.1;
       done = by_node.values_done (space_points_spelled laws n) laws most xs count;
