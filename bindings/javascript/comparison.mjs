@@ -21,9 +21,10 @@ const OF_INSTANCE = ["TooFewNodes", "NotSymmetric", "DepotCount", "DepotDemand",
  * @param {import("./library.mjs").Library} library
  * @param {import("./judge.mjs").Judge} judge
  * @param {Uint8Array} instance
+ * @param {boolean} [strict] whether an unknown keyword of the instance is a reason
  * @returns {Basis | null}
  */
-export function basisOf(library, judge, instance) {
+export function basisOf(library, judge, instance, strict = false) {
     if (!judge.isRead) {
         return null;
     }
@@ -40,6 +41,9 @@ export function basisOf(library, judge, instance) {
     }
     if (judge.bound !== null && judge.bound.reason !== 0) {
         return { ...basis, ...reasonOf(judge.bound) };
+    }
+    if (strict && notJudged.length > 0) {
+        return { ...basis, reason: "NotJudged" };
     }
     const least = type === "CVRP" ? leastOf(new TextDecoder().decode(library.convert(instance).bytes)) : null;
     const known = { ...basis, least };
@@ -77,7 +81,7 @@ export class Comparison {
         const { type, nodes, notJudged, least, bound, noTour, reason, numbers } = this.basis;
         const lines = [`type ${type}`, `nodes ${nodes}`, ...notJudged.map((it) => `not judged ${it}`)];
         if (reason !== null) {
-            lines.push(["no", reason, ...numbers].join(" "));
+            lines.push(["no", reason, ...numbers, ...(reason === "NotJudged" ? notJudged.slice(0, 1) : [])].join(" "));
         } else if (noTour) {
             lines.push("bound none");
         } else {

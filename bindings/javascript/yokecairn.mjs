@@ -215,7 +215,7 @@ export function compare(instance, solutions, options = {}) {
     const library = opened();
     const judge = new Judge(library, first.bytes, certificate.bytes, by);
     try {
-        const basis = basisOf(library, judge, first.bytes);
+        const basis = basisOf(library, judge, first.bytes, options.strict);
         if (basis === null) {
             // (this says why)
             by === By.NOTHING ? check(instance, []) : bound(instance, options);

@@ -32,6 +32,7 @@ export interface CheckOptions extends CertificateOptions {
 /** Also whether solutions may have the form of another program. */
 export interface CompareOptions extends CertificateOptions {
     foreign?: boolean;
+    strict?: boolean;
 }
 
 /** How points become an instance: `scale` multiplies coordinates exactly, `decimals` rounds them, half to even. */

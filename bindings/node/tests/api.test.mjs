@@ -70,6 +70,9 @@ test("claims, reasons and explanations", () => {
     assert.deepEqual([strict.yes, strict.reason, strict.numbers, strict.notJudged], [false, "NotJudged", [], ["DISTANCE"]]);
     assert.equal(check({ text: limited }, [1, 2, 3, 4]).yes, true);
     assert.equal(check({ text: RECTANGLE }, [1, 2, 3, 4], { strict: true }).yes, true);
+    const compared = [true, false].map((strict) => compare({ text: limited }, [[1, 2, 3, 4]], { strict }));
+    assert.deepEqual(compared.map((it) => [it.basis.reason, it.outcomes.length]), [["NotJudged", 0], [null, 1]]);
+    assert.match(String(compared[0]), /\nno NotJudged DISTANCE\n$/);
     const twice = check({ text: RECTANGLE }, [1, 2, 3, 3], { explain: true });
     assert.deepEqual([twice.reason, twice.numbers, twice.length], ["RepeatedNode", [4], null]);
     assert.match(twice.explanation, /Node 4 is missing/);

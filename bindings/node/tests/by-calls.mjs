@@ -14,7 +14,7 @@ const REFUSED = 4;
 function judged(verb, [first, ...others], options, explain) {
     const certificate = Object.fromEntries(["potentials", "branches"].flatMap((name) => (options.has(name) ? [[name, options.get(name)]] : [])));
     if (verb === "compare") {
-        const compared = api.compare(first, others, certificate);
+        const compared = api.compare(first, others, { ...certificate, strict: options.has("strict") });
         const isYes = compared.basis.reason === null && compared.outcomes.every((it) => it.yes);
         const worst = compared.outcomes.reduce((most, it) => Math.max(most, it instanceof api.Report ? Number(!it.yes) : 2), 0);
         return { status: isYes ? 0 : compared.basis.reason === null ? worst : 1, out: String(compared), err: "" };

@@ -130,6 +130,14 @@ class Claims(unittest.TestCase):
         self.assertEqual(yokecairn.check(limited, [1, 2, 3, 3], strict=True).reason, "RepeatedNode")
         self.assertTrue(yokecairn.check(RECTANGLE.encode(), [1, 2, 3, 4], strict=True))
 
+    def test_strict_comparisons(self):
+        limited = RECTANGLE.replace("DIMENSION", "DISTANCE : 9\nDIMENSION", 1).encode()
+        found = yokecairn.compare(limited, [[1, 2, 3, 4]], strict=True)
+        self.assertEqual((found.basis.reason, found.status, len(found)), ("NotJudged", 1, 0))
+        self.assertTrue(found.basis.text.endswith("not judged DISTANCE\nno NotJudged DISTANCE\n"))
+        self.assertEqual(yokecairn.compare(limited, [[1, 2, 3, 4]]).status, 0)
+        self.assertEqual(yokecairn.compare(RECTANGLE.encode(), [[1, 2, 3, 4]], strict=True).status, 0)
+
     def test_lengths_that_do_not_fit(self):
         for length in (2**63, -(2**63) - 1, 2**64 + 14):
             with self.assertRaises(ValueError):

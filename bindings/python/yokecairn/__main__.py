@@ -104,7 +104,8 @@ class Run:
     def compare(self, task: Task, texts: Sequence[bytes]) -> int:
         """Judges each solution, and writes what comes of it when that is known; the exit status."""
         names = ["standard input" if path == "-" else path for path in task.paths]
-        judge = Judge((texts[0], texts[1] if task.by else b""), (names[0], names[-1]), task.by, task.foreign, task.claims)
+        given, paths = (texts[0], texts[1] if task.by else b""), (names[0], names[-1])
+        judge = Judge(given, paths, task.by, task.foreign, task.claims, task.strict)
         try:
             return Lines(self, judge, task).written()
         except (Fault, OutOfMemory) as fault:

@@ -21,7 +21,7 @@ _VERBS: Dict[str, Tuple[str, Tuple[str, ...], Tuple[str, ...]]] = {
     "compare": (
         "judge many solutions of an instance, a line for each",
         ("file", "solutions"),
-        ("--potentials", "--branches", "--best", "--tsv", "--json", "--summary", "--foreign", "--no-foreign", "--no-claims"),
+        ("--potentials", "--branches", "--strict", "--best", "--tsv", "--json", "--summary", "--foreign", "--no-foreign", "--no-claims"),
     ),
     "table": (
         "judge solvers on many instances, and put them beside each other",

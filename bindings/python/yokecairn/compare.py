@@ -81,7 +81,8 @@ class Basis:
         """The first lines of `tsp compare`, each with its line end."""
         lines = [f"type {self.type}", f"nodes {self.nodes}", *(f"not judged {it}" for it in self.not_judged)]
         if self.reason is not None:
-            lines.append(_words("no", self.reason, *self.numbers))
+            unknown = self.not_judged[:1] if self.reason == "NotJudged" else ()
+            lines.append(_words("no", self.reason, *self.numbers, *unknown))
         elif self.no_tour:
             lines.append("bound none")
         else:
@@ -107,11 +108,12 @@ class Judge:
         by: int,
         foreign: Optional[bool] = None,
         claims: bool = True,
+        strict: bool = False,
     ) -> None:
         self.instance, self.certificate = texts
         self.paths = paths
         self.by = by
-        self.is_foreign, self.claims = foreign, claims
+        self.is_foreign, self.claims, self.is_strict = foreign, claims, strict
         self._bound: Optional[_library.Result] = None
 
     @classmethod
@@ -122,11 +124,12 @@ class Judge:
         branches: Optional[Source],
         foreign: Optional[bool] = None,
         claims: bool = True,
+        strict: bool = False,
     ) -> "Judge":
         """What judges the solutions of these files."""
         first, path = text_and_path(instance)
         by, certificate, certificate_path = certificate_of(potentials, branches)
-        return cls((first, certificate), (path, certificate_path), by, foreign, claims)
+        return cls((first, certificate), (path, certificate_path), by, foreign, claims, strict)
 
     @cached_property
     def name(self) -> str:
@@ -173,6 +176,8 @@ class Judge:
         elif bound is not None and bound.reason:
             reason, count = REASONS[bound.reason - 1]
             known.update(reason=reason, numbers=(bound.first, bound.second)[:count])
+        elif self.is_strict and report.not_judged:
+            known.update(reason="NotJudged")
         else:
             if report.type == "CVRP":
                 known.update(least=_least(parse(self.instance)))
@@ -515,6 +520,7 @@ def compare(
     best: Optional[Best] = None,
     foreign: Optional[bool] = None,
     claims: bool = True,
+    strict: bool = False,
     explain: bool = False,
     progress: Optional[Progress] = None,
 ) -> Comparison:
@@ -524,6 +530,7 @@ def compare(
     routes a list of such lists. `solutions` may map names to them. The instance and the certificate,
     `potentials` or `branches`, are read once. `best` is the best-known length, or where it is found: lengths
     by the NAME of instances, or a file of lines `NAME LENGTH`. `foreign` and `claims` are as in `check`.
+    With `strict`, an instance with an unknown keyword is the reason against all solutions, and none is read.
 
     `progress(done, name, outcome)` is called after each solution, in order.
 
@@ -534,7 +541,7 @@ def compare(
         ValueError: there is no best-known length of the instance.
         MemoryError: out of memory.
     """
-    judge = Judge.of(instance, potentials, branches, foreign, claims)
+    judge = Judge.of(instance, potentials, branches, foreign, claims, strict)
     found = Comparison(judge.basis, judge.paths[0] or judge.name, judge.best(best))
     if judge.basis.reason is not None:
         return found
