@@ -1,8 +1,7 @@
 //! Regions with nodes in them, and the least number there.
 
 ghost use Rattle.std.specs.Prelude.{pos, neg_ℤ};
-ghost use Rattle.tsp_theory.specs.CertificateNumbers.{IsFromTo};
-ghost use Rattle.tsp_bound.specs.states.NodeNumbers.{most_number};
+ghost use Rattle.tsp_theory.specs.CertificateNumbers.{IsFromTo, most_number};
 
 use tsp_theory::Region;
 

@@ -5,8 +5,8 @@ ghost use Rattle.std.specs.Bool.{OnTrue};
 ghost use Rattle.tsp_distance.specs.declared.decimal.Point.{Point};
 ghost use Rattle.tsp_format.specs.Nodes.{IsNode};
 ghost use Rattle.tsp_theory.specs.Regions.{IsIn, IsSite};
-ghost use Rattle.tsp_theory.specs.CertificateNumbers.{IsFromTo, IsScale};
-ghost use Rattle.tsp_bound.specs.states.NodeNumbers.{most_number, node_in};
+ghost use Rattle.tsp_theory.specs.CertificateNumbers.{IsFromTo, IsScale, most_number};
+ghost use Rattle.tsp_bound.specs.states.NodeNumbers.{node_in};
 ghost use Rattle.tsp_bound.specs.states.Spots.{IsSpot};
 
 use crate::spot::Spot;

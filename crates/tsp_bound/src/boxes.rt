@@ -2,8 +2,7 @@
 
 ghost use Rattle.std.specs.Prelude.{◌≡◌, ◌⊎◌, ◌≤◌, ◌<◌, ◌+◌, ◌*◌, ◌≤ℤ◌, ℕ, ℤ, length, List, Bool, None, Some, IfOk, pos, neg_ℤ};
 ghost use Rattle.tsp_distance.specs.declared.decimal.Point.{Point};
-ghost use Rattle.tsp_theory.specs.CertificateNumbers.{IsFromTo};
-ghost use Rattle.tsp_bound.specs.states.NodeNumbers.{most_number};
+ghost use Rattle.tsp_theory.specs.CertificateNumbers.{IsFromTo, most_number};
 ghost use Rattle.tsp_bound.specs.states.Boxes.{HoldsNode, AreHeld, IsRefit, area_at};
 ghost use Rattle.tsp_bound.specs.states.Spots.{IsSpot, AreSpots};
 

@@ -5,8 +5,7 @@
 //! only the sets that hold its node.
 
 ghost use Rattle.std.specs.Prelude.{◌≡◌, true, pos, neg_ℤ};
-ghost use Rattle.tsp_bound.specs.states.NodeNumbers.{most_number};
-ghost use Rattle.tsp_theory.specs.CertificateNumbers.{IsFromTo};
+ghost use Rattle.tsp_theory.specs.CertificateNumbers.{IsFromTo, most_number};
 
 use crate::both_sets::are_few;
 use crate::case_leaf::CaseLeaf;
@@ -14,20 +13,19 @@ use crate::decided::change_row;
 use crate::steps::suit_boxes;
 use std::alloc::Global;
 use tsp_cases::{
-    MultipliedFamilies, Multipliers, add_sets, fill_shifted, scale_row, shift_row, sum_left,
+    DECIDED, MultipliedFamilies, Multipliers, add_sets, fill_shifted, scale_row, shift_row,
+    sum_left,
 };
 use tsp_memory::Refused;
 use tsp_theory::Costs;
 use tsp_tree::{Growing, Grown, Weights, grow, weight_in};
 
-/// The most that a number of a node may be where boxes bound its weights.
-pub(crate) const MOST_NUMBER: i64 = 4_000_000_000_000_000_000;
-
-/// Whether a number is at most 4 * 10^18 in size.
+/// Whether a number of a node is at most as large as that on a decided pair, as it has to be where
+/// boxes bound the weights.
 fn is_number(number: i64) -> bool
     ensures { result ≡ true → IsFromTo (neg_ℤ (pos most_number)) (pos most_number) number }
 {
-    -MOST_NUMBER <= number && number <= MOST_NUMBER
+    -DECIDED <= number && number <= DECIDED
 }
 
 impl<C: Costs> CaseLeaf<'_, C> {

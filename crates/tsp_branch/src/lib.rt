@@ -16,7 +16,6 @@ mod case_leaf;
 mod closing;
 mod cycle_judge;
 mod decided;
-mod examples;
 mod given_back;
 mod judged;
 mod leaf;
@@ -27,7 +26,6 @@ mod steps;
 mod verdict;
 
 pub use branch::branch_bound;
-pub use examples::examples_of_numbers;
 pub use judged::BranchVerdict;
 pub use leaf::leaf_bound;
 pub use tsp_cases::{

@@ -5,7 +5,7 @@ use Rattle.tsp_theory.specs.Costs.{IsSymmetric}
 use Rattle.tsp_theory.specs.Cycle.{IsCycle, Uses}
 use Rattle.tsp_theory.specs.Length.{length_of}
 use Rattle.tsp_theory.specs.Tour.{Problem, BoundsTours}
-use Rattle.tsp_theory.specs.CertificateNumbers.{IsScale}
+use Rattle.tsp_theory.specs.CertificateNumbers.{IsScale, most_number}
 use Rattle.tsp_theory.specs.Adjusted.{pair_of, is_same_pair, IsAdjustedBound}
 use Rattle.tsp_cases.specs.declared.decision.Decision.{Decision}
 
@@ -52,7 +52,7 @@ on_avoided number (decision ∷ decisions) =
 
 -- the number on each decided pair
 abbrev pub decided_number : ℤ
-decided_number = pos 4000000000000000000
+decided_number = pos most_number
 
 -- ---- the theorems, which are those of tsp_theory
 

@@ -12,6 +12,8 @@ ghost use Rattle.tsp_cases.specs.Listed.{IsListedStep};
 ghost use Rattle.tsp_cases.specs.CaseExamples.{AreOnce, AreNotOnce, branched};
 ghost use Rattle.tsp_cases.specs.VerdictExamples.{IsNotGood, IsGood, three_teeth, TwiceAt, branches, branches_apart, on_both_sides};
 
+use crate::decision::DECIDED;
+
 /// How often some nodes cross the parts of a comb, and how often two cycles do: the first one as
 /// often as each cycle does at the least.
 pub fn examples_of_crossings()
@@ -31,9 +33,11 @@ pub fn examples_of_crossings()
     ensures other_cycle { CrossesInAll (1 ∷ 2 ∷ 3 ∷ 4 ∷ 5 ∷ 6 ∷ []) 14 }
 {}
 
-/// What some pairs weigh at the leaves of two certificates.
+/// The number on each decided pair, in the code too; and what some pairs weigh at the leaves of two
+/// certificates.
 pub fn examples_of_weights()
     ensures number { decided_number ≡ large }
+    ensures code { DECIDED ≡ decided_number }
     ensures taken { WeighsAt (with_pair 1 2 ∷ []) 1 2 (pos 2 -ℤ large) }
     ensures taken_turned { WeighsAt (with_pair 2 1 ∷ []) 1 2 (pos 2 -ℤ large) }
     ensures avoided { WeighsAt (without_pair 1 2 ∷ []) 1 2 (pos 2 +ℤ large) }

@@ -26,6 +26,10 @@ pub record IsLeastBound (scale sum bound : ℤ) : Type 0 where
   pub above : sum ≤ℤ (scale *ℤ bound)
   pub least : (other : ℤ) → sum ≤ℤ (scale *ℤ other) → bound ≤ℤ other
 
+-- how large the number of a node is at most, and the number on a decided pair: two of them and any cost at a scale fit 64 bits
+abbrev pub most_number : ℕ
+most_number = 4000000000000000000
+
 -- how large a bound is at most: sums with it fit 128 bits
 abbrev pub IsBoundSized : ℤ → Type 0
 IsBoundSized bound = IsFromTo (neg_ℤ (pos (2 ^ 100))) (pos (2 ^ 100)) bound

@@ -2,9 +2,8 @@
 use Rattle.std.specs.Prelude.{◌≡◌, ℕ, ◌<◌, List, length, slice_index_or, ℤ, pos, neg_ℤ}
 use Rattle.tsp_distance.specs.declared.decimal.Point.{Point}
 use Rattle.tsp_theory.specs.Regions.{IsSite}
-use Rattle.tsp_theory.specs.CertificateNumbers.{IsFromTo}
+use Rattle.tsp_theory.specs.CertificateNumbers.{IsFromTo, most_number}
 use Rattle.tsp_bound.specs.declared.spot.Spot.{Spot}
-use Rattle.tsp_bound.specs.states.NodeNumbers.{most_number}
 use Rattle.tsp_bound.specs.states.Boxes.{node_of}
 
 -- a node with its place and its number

@@ -1,7 +1,7 @@
 -- The loop of `taken_back` in src/given_back.rt.
 use Rattle.std.proofs.Common.{◌≡◌, ◌*◌, drop}
 use Rattle.std.specs.Prelude.{pos, ◌+ℤ◌}
-use Rattle.tsp_theory.specs.CertificateNumbers.{IsFromTo}
+use Rattle.tsp_theory.specs.CertificateNumbers.{IsFromTo, most_number}
 use Rattle.tsp_theory.specs.Adjusted.{triples_total}
 use Rattle.tsp_cases.specs.Decisions.{on_taken, decided_number}
 use Rattle.tsp_branch.proofs.given_back.taken_back.Given as goal
@@ -9,6 +9,6 @@ use Rattle.tsp_branch.proofs.given_back.taken_back.Given as goal
 -- the sum so far and the numbers of the taken pairs left make the whole, with at most 4 * 10^18 for each pair so far
 abbrev pub invariant-decisions : goal.invariant-decisions
 invariant-decisions l = record {
-  size : IsFromTo (pos 0) (pos (l.decision-index * 4000000000000000000)) l.sum;
+  size : IsFromTo (pos 0) (pos (l.decision-index * most_number)) l.sum;
   so_far : (l.sum +ℤ triples_total (on_taken decided_number (drop l.decision-index l.taken))) ≡ triples_total (on_taken decided_number l.taken);
 }

@@ -1,9 +1,8 @@
 -- The loop of `CaseLeaf::are_exact` in src/leaf_rows.rt.
 use Rattle.std.proofs.Common.{◌≡◌, ◌≤◌, ◌<◌, ℕ}
 use Rattle.std.specs.Prelude.{pos, neg_ℤ, ◌+ℤ◌}
-use Rattle.tsp_theory.specs.CertificateNumbers.{IsFromTo, entry}
+use Rattle.tsp_theory.specs.CertificateNumbers.{IsFromTo, entry, most_number}
 use Rattle.tsp_theory.specs.states.Nearest.{least_at}
-use Rattle.tsp_bound.specs.states.NodeNumbers.{most_number}
 use Rattle.tsp_cases.specs.states.Lent.{lent_in}
 use Rattle.tsp_cases.specs.states.Combed.{multipliers_at}
 use Rattle.tsp_branch.proofs.case_leaf.CaseLeaf.are_exact.Given as goal
