@@ -7,7 +7,7 @@ its standard library alone, and computes in whole numbers. Trees of cases take a
 numpy is installed, and all numbers have 64 bits. It follows docs/format.md, which defines
 the numbers, and docs/proof.md, which says why they are bounds. It isn't proved, and it is lenient
 with files that the program refuses. A faulty file is named, with a line of it. On a terminal it shows
-how far it is.
+how far it is. It is one file, since it is put beside published results, and has to run there alone.
 """
 from __future__ import annotations
 

@@ -99,7 +99,8 @@ inner_left n outside new_outside place next inside is inner = λ k below.
 -- ---- the step: the nearest of the nodes outside comes inside
 
 -- plan: the nearest node comes in (`grows_more`), the last one takes its place; each has its old nearest or the new node
-pub state_more : (n : ℕ) (w : ℕ → ℕ → ℤ) (outside new_outside near near_left new_near : List ℕ) (least left new_least : List ℤ) (pairs pushed : List (ℕ × ℕ)) (weight : ℤ) (place next joint : ℕ) (here : ℤ)
+pub state_more : (n : ℕ) (w : ℕ → ℕ → ℤ) (outside new_outside near near_left new_near : List ℕ)
+    (least left new_least : List ℤ) (pairs pushed : List (ℕ × ℕ)) (weight : ℤ) (place next joint : ℕ) (here : ℤ)
     → IsState n w outside near least pairs weight → IsLeastPlace least place → next ≡ slice_index outside place
     → joint ≡ slice_index near place → here ≡ least_at least place
     → new_outside ≡ swap_remove outside place next → near_left ≡ swap_remove near place joint
@@ -107,7 +108,8 @@ pub state_more : (n : ℕ) (w : ℕ → ℕ → ℤ) (outside new_outside near n
     → AreBroughtNearer next (w next) new_outside near_left left new_near new_least → length new_near ≡ length near_left
     → length new_least ≡ length left → pushed ≡ pairs ++ (joint, next) ∷ []
     → IsState n w new_outside new_near new_least pushed (weight +ℤ here)
-state_more n w outside new_outside near near_left new_near least left new_least pairs pushed weight place next joint here s is_least next_is joint_is here_is outside_is near_is left_is nearer near_same same pushed_is =
+state_more n w outside new_outside near near_left new_near least left new_least pairs pushed weight place next joint here s
+    is_least next_is joint_is here_is outside_is near_is left_is nearer near_same same pushed_is =
     rw pushed_is (record {
       grows = grows_more (IsInner n) w pairs (λ x. x == 2) (joint, next) s.grows leaving;
       weight_is = ap (λ z. z +ℤ here) s.weight_is ∙ ap (λ z. weight_of w pairs +ℤ z) joins ∙ sym (weight_added w pairs (joint, next));

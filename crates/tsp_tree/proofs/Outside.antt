@@ -44,14 +44,16 @@ pub passed_more : (next : ℕ) (weight : ℕ → ℤ) (nodes : List ℕ) (place 
     → IsPassed next weight nodes (place + 1) old_near old (set near place own_near) (set new place own)
 passed_more next weight nodes place old_near old near new own_near own p near_in inside nearer = record {
   done = λ k below in_nodes. elim (cases_eq k place) [
-    | inl same ↦ subst (λ (i : ℕ). IsNearer (weight (slice_index nodes i)) next (slice_index old_near i) (least_at old i) (slice_index (set near place own_near) i) (least_at (set new place own) i)) (sym same)
+    | inl same ↦ subst (λ (i : ℕ). IsNearer (weight (slice_index nodes i)) next (slice_index old_near i) (least_at old i)
+        (slice_index (set near place own_near) i) (least_at (set new place own) i)) (sym same)
         (subst (λ (m : ℕ). IsNearer (weight (slice_index nodes place)) next (slice_index old_near place) (least_at old place) m (least_at (set new place own) place))
         (sym (get_or-set_same near place own_near 0 near_in))
         (subst (λ (z : ℤ). IsNearer (weight (slice_index nodes place)) next (slice_index old_near place) (least_at old place) own_near z) (sym (get_or-set_same new place own (pos 0) inside))
         (subst (λ (z : ℤ). IsNearer (weight (slice_index nodes place)) next (slice_index old_near place) z own_near own) (p.rest place (omega arith))
         (subst (λ (m : ℕ). IsNearer (weight (slice_index nodes place)) next m (least_at new place) own_near own) (p.near_rest place (omega arith)) nearer))))
     | inr other ↦
-        subst (λ (m : ℕ). IsNearer (weight (slice_index nodes k)) next (slice_index old_near k) (least_at old k) m (least_at (set new place own) k)) (sym (get_or-set_other near place k own_near 0 other))
+        subst (λ (m : ℕ). IsNearer (weight (slice_index nodes k)) next (slice_index old_near k) (least_at old k) m
+        (least_at (set new place own) k)) (sym (get_or-set_other near place k own_near 0 other))
         (subst (λ (z : ℤ). IsNearer (weight (slice_index nodes k)) next (slice_index old_near k) (least_at old k) (slice_index near k) z) (sym (get_or-set_other new place k own (pos 0) other))
         (p.done k (omega (arith, below, other)) in_nodes))
   ];
