@@ -3,13 +3,13 @@
 ghost use Rattle.std.specs.Prelude.{◌≡◌};
 ghost use Rattle.std.specs.Io.{StartsWith};
 
-use crate::text::{Part, append, push_parts};
+use crate::text::{LinePart, append, push_parts};
 use std::alloc::{AllocError, Global};
 use tsp_number::{NumberFault, parse_whole};
 
 /// A length that a comment claims.
 #[derive(Clone, Copy)]
-enum Claim<'a> {
+enum CommentClaim<'a> {
     Whole(i64),
     /// A number that isn't whole, as it is written.
     Real(&'a [u8]),
@@ -34,8 +34,8 @@ pub fn push_claim(
     let mut told = Vec::new(alloc);
     let answer = match other_claim(comments, length) {
         None => Ok(()),
-        Some(Claim::Whole(claim)) => push_sentence(&mut told, name, claim, length),
-        Some(Claim::Real(claim)) => push_real(&mut told, name, claim),
+        Some(CommentClaim::Whole(claim)) => push_sentence(&mut told, name, claim, length),
+        Some(CommentClaim::Real(claim)) => push_real(&mut told, name, claim),
     };
     append(text, told, answer)
 }
@@ -50,12 +50,12 @@ fn push_sentence(
     push_parts(
         text,
         &[
-            Part::Name(name),
-            Part::Words(": a COMMENT claims the length "),
-            Part::Number(claim),
-            Part::Words(", and the length is "),
-            Part::Number(length),
-            Part::Words(".\n"),
+            LinePart::Name(name),
+            LinePart::Words(": a COMMENT claims the length "),
+            LinePart::Number(claim),
+            LinePart::Words(", and the length is "),
+            LinePart::Number(length),
+            LinePart::Words(".\n"),
         ],
     )
 }
@@ -65,10 +65,10 @@ fn push_real<'a>(text: &mut Vec<u8>, name: &'a str, claim: &'a [u8]) -> Result<(
     push_parts(
         text,
         &[
-            Part::Name(name),
-            Part::Words(": a COMMENT claims the length "),
-            Part::Shown(claim),
-            Part::Words(
+            LinePart::Name(name),
+            LinePart::Words(": a COMMENT claims the length "),
+            LinePart::Shown(claim),
+            LinePart::Words(
                 ". Lengths of TSPLIB are whole, and one in real numbers can't be compared with them.\n",
             ),
         ],
@@ -76,10 +76,10 @@ fn push_real<'a>(text: &mut Vec<u8>, name: &'a str, claim: &'a [u8]) -> Result<(
 }
 
 /// The first length that a comment claims and that isn't this one.
-fn other_claim(comments: &[Vec<u8>], length: i64) -> Option<Claim<'_>> {
+fn other_claim(comments: &[Vec<u8>], length: i64) -> Option<CommentClaim<'_>> {
     'comments: for comment in comments {
         match claim_in(comment) {
-            Some(Claim::Whole(claim)) if claim == length => {}
+            Some(CommentClaim::Whole(claim)) if claim == length => {}
             Some(claim) => return Some(claim),
             None => {}
         }
@@ -88,7 +88,7 @@ fn other_claim(comments: &[Vec<u8>], length: i64) -> Option<Claim<'_>> {
 }
 
 /// The length that a comment claims at its end.
-fn claim_in(comment: &[u8]) -> Option<Claim<'_>> {
+fn claim_in(comment: &[u8]) -> Option<CommentClaim<'_>> {
     let text = comment.trim_ascii_end();
     if let Some(inner) = text.strip_suffix(b")") {
         let (before, number) = split_number(inner);
@@ -126,10 +126,10 @@ fn split_number(text: &[u8]) -> (&[u8], &[u8]) {
 }
 
 /// The length that a word is.
-fn length_of(word: &[u8]) -> Option<Claim<'_>> {
+fn length_of(word: &[u8]) -> Option<CommentClaim<'_>> {
     match parse_whole(word, i64::MIN, i64::MAX) {
-        Ok(length) => Some(Claim::Whole(length)),
-        Err(NumberFault::NotWhole) => Some(Claim::Real(word)),
+        Ok(length) => Some(CommentClaim::Whole(length)),
+        Err(NumberFault::NotWhole) => Some(CommentClaim::Real(word)),
         Err(_) => None,
     }
 }

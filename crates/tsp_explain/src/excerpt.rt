@@ -1,6 +1,6 @@
 //! The part of a line that is shown.
 
-use crate::text::{Part, begin, end, push, push_line};
+use crate::text::{LinePart, begin, end, push, push_line};
 use arrayvec::ArrayVec;
 use std::alloc::AllocError;
 
@@ -61,13 +61,13 @@ impl Excerpt {
         push_line(
             text,
             &[
-                Part::Words("  "),
-                Part::Words(dots(self.cuts.0)),
-                Part::Shown(self.before.as_slice()),
-                Part::Shown(self.marked.as_slice()),
-                Part::Words(dots(self.cuts.1)),
-                Part::Shown(self.after.as_slice()),
-                Part::Words(dots(self.cuts.2)),
+                LinePart::Words("  "),
+                LinePart::Words(dots(self.cuts.0)),
+                LinePart::Shown(self.before.as_slice()),
+                LinePart::Shown(self.marked.as_slice()),
+                LinePart::Words(dots(self.cuts.1)),
+                LinePart::Shown(self.after.as_slice()),
+                LinePart::Words(dots(self.cuts.2)),
             ],
         )?;
         if is_word {

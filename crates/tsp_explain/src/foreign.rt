@@ -2,7 +2,7 @@
 //! place.
 
 use crate::look::Look;
-use crate::text::{Part, push_line, push_lines};
+use crate::text::{LinePart, push_line, push_lines};
 use std::alloc::AllocError;
 use tsp_format::is_blank;
 use tsp_reason::Role;
@@ -209,9 +209,9 @@ fn push_recipe(text: &mut Vec<u8>, name: &str) -> Result<(), AllocError> {
     push_line(
         text,
         &[
-            Part::Words("The recipe "),
-            Part::Words(name),
-            Part::Words(
+            LinePart::Words("The recipe "),
+            LinePart::Words(name),
+            LinePart::Words(
                 " converts it: see the guide \"Certificates from solvers\", which is published with tsp.",
             ),
         ],
@@ -234,12 +234,12 @@ fn push_command<'a>(
     push_line(
         text,
         &[
-            Part::Words(program),
-            Part::Words("examples/recipes/"),
-            Part::Words(recipe),
-            Part::Words(" "),
-            Part::Words(if is_plain(name) { name } else { "FILE" }),
-            Part::Words(rest),
+            LinePart::Words(program),
+            LinePart::Words("examples/recipes/"),
+            LinePart::Words(recipe),
+            LinePart::Words(" "),
+            LinePart::Words(if is_plain(name) { name } else { "FILE" }),
+            LinePart::Words(rest),
         ],
     )
 }

@@ -1,6 +1,6 @@
 //! Sections with a group of words for each node: which line has others than whole groups.
 
-use crate::text::{Part, push_line, push_lines};
+use crate::text::{LinePart, push_line, push_lines};
 use crate::wanted::group;
 use std::alloc::AllocError;
 use tsp_format::{Field, Word};
@@ -115,15 +115,15 @@ pub(crate) fn push_uneven(
     push_line(
         text,
         &[
-            Part::Words("A group of "),
-            Part::Words(field.word()),
-            Part::Words(" has "),
-            Part::Number(i64::try_from(shift.size).unwrap_or(i64::MAX)),
-            Part::Words(" words, and line "),
-            Part::Number(i64::from(shift.line)),
-            Part::Words(" has "),
-            Part::Number(i64::from(shift.words)),
-            Part::Words("."),
+            LinePart::Words("A group of "),
+            LinePart::Words(field.word()),
+            LinePart::Words(" has "),
+            LinePart::Number(i64::try_from(shift.size).unwrap_or(i64::MAX)),
+            LinePart::Words(" words, and line "),
+            LinePart::Number(i64::from(shift.line)),
+            LinePart::Words(" has "),
+            LinePart::Number(i64::from(shift.words)),
+            LinePart::Words("."),
         ],
     )
 }
@@ -137,9 +137,9 @@ pub(crate) fn push_shift(text: &mut Vec<u8>, field: Field, shift: Shift) -> Resu
     push_line(
         text,
         &[
-            Part::Words("So this word is read as word "),
-            Part::Number(i64::from(shift.before).saturating_add(1)),
-            Part::Words(" of a group."),
+            LinePart::Words("So this word is read as word "),
+            LinePart::Number(i64::from(shift.before).saturating_add(1)),
+            LinePart::Words(" of a group."),
         ],
     )
 }

@@ -4,7 +4,7 @@ use crate::groups::{Shift, push_shift};
 use crate::look::{Look, first_run};
 use crate::near::{in_capitals, keyword_in_capitals, nearest, nearest_keyword};
 use crate::sentences::line_sentence;
-use crate::text::{Part, push_line, push_lines};
+use crate::text::{LinePart, push_line, push_lines};
 use crate::wanted::{group, wanted};
 use std::alloc::AllocError;
 use tsp_format::{CoordKind, DisplayKind, Field, Kind, WeightFormat, WeightKind, Word, is_blank};
@@ -236,7 +236,11 @@ fn push_with<'a>(
 ) -> Result<(), AllocError> {
     push_line(
         text,
-        &[Part::Words(before), Part::Words(word), Part::Words(after)],
+        &[
+            LinePart::Words(before),
+            LinePart::Words(word),
+            LinePart::Words(after),
+        ],
     )
 }
 
@@ -250,9 +254,9 @@ fn push_number_in<'a>(
     push_line(
         text,
         &[
-            Part::Words(before),
-            Part::Number(number),
-            Part::Words(after),
+            LinePart::Words(before),
+            LinePart::Number(number),
+            LinePart::Words(after),
         ],
     )
 }
@@ -263,8 +267,8 @@ fn push_unread(text: &mut Vec<u8>, look: &Look) -> Result<(), AllocError> {
     push_line(
         text,
         &[
-            Part::Shown(word),
-            Part::Words(" is a section that isn't read."),
+            LinePart::Shown(word),
+            LinePart::Words(" is a section that isn't read."),
         ],
     )
 }
@@ -283,11 +287,11 @@ fn push_open(text: &mut Vec<u8>, field: Field, nodes: Option<i64>) -> Result<(),
         (_, Some(nodes)) => push_line(
             text,
             &[
-                Part::Words(section),
-                Part::Words(OPEN_FOR_NODES),
-                Part::Words(" ("),
-                Part::Number(nodes),
-                Part::Words(")."),
+                LinePart::Words(section),
+                LinePart::Words(OPEN_FOR_NODES),
+                LinePart::Words(" ("),
+                LinePart::Number(nodes),
+                LinePart::Words(")."),
             ],
         ),
     }
@@ -298,11 +302,11 @@ fn push_surplus(text: &mut Vec<u8>, nodes: i64) -> Result<(), AllocError> {
     push_line(
         text,
         &[
-            Part::Words("DIMENSION is "),
-            Part::Number(nodes),
-            Part::Words(", and this begins group "),
-            Part::Number(nodes.saturating_add(1)),
-            Part::Words("."),
+            LinePart::Words("DIMENSION is "),
+            LinePart::Number(nodes),
+            LinePart::Words(", and this begins group "),
+            LinePart::Number(nodes.saturating_add(1)),
+            LinePart::Words("."),
         ],
     )
 }

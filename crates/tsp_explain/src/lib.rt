@@ -9,15 +9,14 @@
 #![tactic(auto)]
 
 mod cause;
-mod certificate;
+mod certificate_reasons;
 mod claims;
 mod examples;
 mod excerpt;
-mod file;
+mod file_fault;
 mod foreign;
 mod groups;
 mod guess;
-mod judged;
 mod look;
 mod near;
 mod refusal;
@@ -25,10 +24,11 @@ mod rounding;
 mod sentences;
 mod solution;
 mod text;
+mod verdict_reasons;
 mod wanted;
 
 pub use examples::{examples_of_shown_bytes, examples_of_shown_names};
-pub use file::{explain_file, push_error};
-pub use judged::{Files, Names, explain_bound, explain_verdict, explain_wrong_kind};
+pub use file_fault::{explain_file, push_error};
 pub use sentences::{relayout_sentence, write_sentence};
 pub use text::{explain_lines, push_lines};
+pub use verdict_reasons::{Files, Names, explain_bound, explain_verdict, explain_wrong_kind};

@@ -15,7 +15,7 @@ use tsp_format::{
 use tsp_number::parse_whole;
 
 /// The most bytes that the reader is asked for at once.
-const MOST_AT_ONCE: usize = 4_096;
+const MOST_SEEN_AT_ONCE: usize = 4_096;
 
 /// The line and word that a look seeks in a file.
 #[derive(Clone, Copy)]
@@ -99,7 +99,7 @@ const MOST_NEXT_WORDS: u32 = 4;
 pub(crate) fn look_for<R: Read>(reader: &mut R, sought: Sought) -> io::Result<Look> {
     let mut look = Look::new(sought);
     let mut taken = 0usize;
-    let mut piece = [0u8; MOST_AT_ONCE];
+    let mut piece = [0u8; MOST_SEEN_AT_ONCE];
     'pieces: while taken <= MOST_FILE_BYTES {
         if look.is_done {
             return Ok(look);

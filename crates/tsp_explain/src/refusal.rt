@@ -2,12 +2,12 @@
 
 ghost use Rattle.std.specs.Io.{StartsWith};
 
-use crate::certificate::push_certificate;
+use crate::certificate_reasons::push_certificate;
 use crate::sentences::reason_sentence;
 use crate::solution::{
     count_at_place, first_place_of, first_repeated, least_missing, node_at, sum_of,
 };
-use crate::text::{Part, append, begin, push, push_line, push_lines, push_parts};
+use crate::text::{LinePart, append, begin, push, push_line, push_lines, push_parts};
 use std::alloc::{AllocError, Global};
 use tsp_cost::{Costs, Instance};
 use tsp_file::File;
@@ -37,7 +37,7 @@ pub fn explain_reason(
 
 /// Appends the file that is to blame, and the rule of the reason.
 fn push_reason(text: &mut Vec<u8>, name: &str, reason: Reason) -> Result<(), AllocError> {
-    push_line(text, &[Part::Name(name), Part::Words(":")])?;
+    push_line(text, &[LinePart::Name(name), LinePart::Words(":")])?;
     push_lines(text, reason_sentence(reason))
 }
 
@@ -163,7 +163,7 @@ fn is_converted(comments: &[Vec<u8>]) -> bool {
 pub(crate) fn say(text: &mut Vec<u8>, parts: &[(&str, i64)]) -> Result<(), AllocError> {
     begin(text)?;
     'parts: for (words, number) in parts {
-        push_parts(text, &[Part::Words(words), Part::Number(*number)])?;
+        push_parts(text, &[LinePart::Words(words), LinePart::Number(*number)])?;
     }
     push(text, ".\n")
 }
@@ -194,9 +194,9 @@ pub(crate) fn push_type(text: &mut Vec<u8>, file: &File) -> Result<(), AllocErro
     push_line(
         text,
         &[
-            Part::Words("It is of TYPE "),
-            Part::Words(file.kind().word()),
-            Part::Words("."),
+            LinePart::Words("It is of TYPE "),
+            LinePart::Words(file.kind().word()),
+            LinePart::Words("."),
         ],
     )
 }
@@ -231,12 +231,12 @@ pub(crate) fn push_dimensions(
     push_line(
         text,
         &[
-            Part::Words("In the instance it is "),
-            Part::Number(nodes_of(instance)),
-            Part::Words(", and in the "),
-            Part::Words(role),
-            Part::Number(nodes_of(other)),
-            Part::Words("."),
+            LinePart::Words("In the instance it is "),
+            LinePart::Number(nodes_of(instance)),
+            LinePart::Words(", and in the "),
+            LinePart::Words(role),
+            LinePart::Number(nodes_of(other)),
+            LinePart::Words("."),
         ],
     )
 }
@@ -311,9 +311,9 @@ fn push_of_node(text: &mut Vec<u8>, node: u32, words: &str) -> Result<(), AllocE
     push_line(
         text,
         &[
-            Part::Words("Node "),
-            Part::Number(i64::from(node)),
-            Part::Words(words),
+            LinePart::Words("Node "),
+            LinePart::Number(i64::from(node)),
+            LinePart::Words(words),
         ],
     )
 }

@@ -43,7 +43,7 @@ pub(crate) fn end(text: &mut Vec<u8>) -> Result<(), AllocError>
 
 /// A part of a line.
 #[derive(Clone, Copy)]
-pub(crate) enum Part<'a> {
+pub(crate) enum LinePart<'a> {
     /// Words as they are.
     Words(&'a str),
     /// The digits of a number.
@@ -55,14 +55,14 @@ pub(crate) enum Part<'a> {
 }
 
 /// Appends a line of these parts.
-pub(crate) fn push_line(text: &mut Vec<u8>, parts: &[Part<'_>]) -> Result<(), AllocError> {
+pub(crate) fn push_line(text: &mut Vec<u8>, parts: &[LinePart<'_>]) -> Result<(), AllocError> {
     begin(text)?;
     push_parts(text, parts)?;
     end(text)
 }
 
 /// Appends parts one after the other.
-pub(crate) fn push_parts(text: &mut Vec<u8>, parts: &[Part<'_>]) -> Result<(), AllocError> {
+pub(crate) fn push_parts(text: &mut Vec<u8>, parts: &[LinePart<'_>]) -> Result<(), AllocError> {
     'parts: for part in parts {
         push_part(text, *part)?;
     }
@@ -70,12 +70,12 @@ pub(crate) fn push_parts(text: &mut Vec<u8>, parts: &[Part<'_>]) -> Result<(), A
 }
 
 /// Appends a part.
-fn push_part(text: &mut Vec<u8>, part: Part<'_>) -> Result<(), AllocError> {
+fn push_part(text: &mut Vec<u8>, part: LinePart<'_>) -> Result<(), AllocError> {
     match part {
-        Part::Words(words) => push(text, words),
-        Part::Number(number) => push_number(text, number),
-        Part::Shown(bytes) => push_shown(text, bytes),
-        Part::Name(name) => push_name(text, name),
+        LinePart::Words(words) => push(text, words),
+        LinePart::Number(number) => push_number(text, number),
+        LinePart::Shown(bytes) => push_shown(text, bytes),
+        LinePart::Name(name) => push_name(text, name),
     }
 }
 

@@ -9,7 +9,7 @@ pub(crate) fn wanted(field: Field) -> &'static str {
         Field::CommentKey => COMMENT,
         Field::OtherKey => OTHER,
         Field::TypeKey => TYPE,
-        Field::DimensionKey => DIMENSION,
+        Field::DimensionKey => DIMENSION_RANGE,
         Field::CapacityKey => CAPACITY,
         Field::ScaleKey => SCALE,
         Field::LoadUnitKey => LOAD_UNIT,
@@ -23,7 +23,7 @@ pub(crate) fn wanted(field: Field) -> &'static str {
         Field::DepotPart => DEPOT,
         Field::FixedEdgesPart => FIXED_EDGES,
         Field::EdgeWeightPart => EDGE_WEIGHT,
-        Field::TourPart => TOUR,
+        Field::TourPart => TOUR_NODES,
         Field::NodePotentialPart => NODE_POTENTIAL,
         Field::RowPotentialPart => ROW_POTENTIAL,
         Field::ColumnPotentialPart => COLUMN_POTENTIAL,
@@ -44,7 +44,7 @@ const OTHER: &str =
 const TYPE: &str =
     "TYPE is TSP, ATSP, CVRP, TOUR, POTENTIALS or BRANCHES. Of TSPLIB 95's, tsp doesn't read HCP and SOP.";
 
-const DIMENSION: &str = "DIMENSION is the number of nodes: a whole number from 1 to 100,000.";
+const DIMENSION_RANGE: &str = "DIMENSION is the number of nodes: a whole number from 1 to 100,000.";
 
 const CAPACITY: &str = "CAPACITY is a whole number from 1 to 1,000,000,000,000.";
 
@@ -88,7 +88,7 @@ const EDGE_WEIGHT: &str =
     "EDGE_WEIGHT_SECTION lists whole numbers from -1,000,000,000,000 to 1,000,000,000,000,\n\
     at most DIMENSION * DIMENSION of them.";
 
-const TOUR: &str =
+const TOUR_NODES: &str =
     "TOUR_SECTION lists nodes from 1 to 100,000, at most 1,000,000, and -1 at the end of each tour.";
 
 const NODE_POTENTIAL: &str =

@@ -8,7 +8,7 @@ use crate::groups::push_uneven;
 use crate::guess::{UNKNOWN, guess_at, push_guess};
 use crate::look::{Look, Sought, look_for};
 use crate::sentences::{end_sentence, line_sentence};
-use crate::text::{Part, append, push_line, push_lines, push_parts};
+use crate::text::{LinePart, append, push_line, push_lines, push_parts};
 use crate::wanted::{asked, group, wanted};
 use std::alloc::{AllocError, Global};
 use std::io;
@@ -200,13 +200,13 @@ fn push_near(text: &mut Vec<u8>, seen: &Look, fault: ReadFault) -> Result<(), Al
     push_line(
         text,
         &[
-            Part::Words("Line "),
-            Part::Number(i64::from(seen.near_line)),
-            Part::Words(" has "),
-            Part::Shown(seen.near.as_slice()),
-            Part::Words(": did you mean "),
-            Part::Words(field.word()),
-            Part::Words("?"),
+            LinePart::Words("Line "),
+            LinePart::Number(i64::from(seen.near_line)),
+            LinePart::Words(" has "),
+            LinePart::Shown(seen.near.as_slice()),
+            LinePart::Words(": did you mean "),
+            LinePart::Words(field.word()),
+            LinePart::Words("?"),
         ],
     )
 }
@@ -252,8 +252,8 @@ fn push_system(alloc: Global, text: &mut Vec<u8>, error: &io::Error) -> Result<(
     push_line(
         text,
         &[
-            Part::Words("The system says: "),
-            Part::Words(words.as_str()),
+            LinePart::Words("The system says: "),
+            LinePart::Words(words.as_str()),
         ],
     )
 }
@@ -273,10 +273,10 @@ fn push_after<'a>(
     push_parts(
         text,
         &[
-            Part::Name(name),
-            Part::Words(mark),
-            Part::Words(words),
-            Part::Words("\n"),
+            LinePart::Name(name),
+            LinePart::Words(mark),
+            LinePart::Words(words),
+            LinePart::Words("\n"),
         ],
     )
 }
@@ -404,11 +404,11 @@ fn push_weights(text: &mut Vec<u8>, weights: i64, nodes: i64) -> Result<(), Allo
     push_line(
         text,
         &[
-            Part::Words("There are "),
-            Part::Number(weights),
-            Part::Words(" weights, and n is "),
-            Part::Number(nodes),
-            Part::Words("."),
+            LinePart::Words("There are "),
+            LinePart::Number(weights),
+            LinePart::Words(" weights, and n is "),
+            LinePart::Number(nodes),
+            LinePart::Words("."),
         ],
     )?;
     match layouts_with(weights, nodes) {
@@ -448,11 +448,11 @@ fn push_groups(
     push_line(
         text,
         &[
-            Part::Words("The section has "),
-            Part::Number(count_of(groups)),
-            Part::Words(" whole groups, and DIMENSION is "),
-            Part::Number(nodes),
-            Part::Words("."),
+            LinePart::Words("The section has "),
+            LinePart::Number(count_of(groups)),
+            LinePart::Words(" whole groups, and DIMENSION is "),
+            LinePart::Number(nodes),
+            LinePart::Words("."),
         ],
     )
 }

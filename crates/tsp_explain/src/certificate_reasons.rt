@@ -2,7 +2,7 @@
 
 use crate::refusal::{push_dimensions, push_type, say};
 use crate::solution::{count_at_place, first_repeated};
-use crate::text::{Part, push_line, push_lines};
+use crate::text::{LinePart, push_line, push_lines};
 use std::alloc::AllocError;
 use tsp_file::File;
 use tsp_format::{Kind, TreeStep, Word};
@@ -63,9 +63,9 @@ fn push_sections(
     push_line(
         text,
         &[
-            Part::Words("The instance is of TYPE "),
-            Part::Words(instance.kind().word()),
-            Part::Words(potentials),
+            LinePart::Words("The instance is of TYPE "),
+            LinePart::Words(instance.kind().word()),
+            LinePart::Words(potentials),
         ],
     )
 }

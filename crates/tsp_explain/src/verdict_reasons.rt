@@ -5,7 +5,7 @@ ghost use Rattle.std.specs.Io.{StartsWith};
 use crate::claims::push_claim;
 use crate::refusal::{explain_reason, push_details};
 use crate::rounding::push_rounding;
-use crate::text::{Part, append, push_lines, push_parts};
+use crate::text::{LinePart, append, push_lines, push_parts};
 use std::alloc::{AllocError, Global};
 use tsp_cost::Instance;
 use tsp_file::File;
@@ -40,7 +40,7 @@ const BOUND_KINDS: &str =
     The certificate is the file of the option.";
 
 /// What it means that a certificate gives no bound.
-const NO_TOUR: &str =
+const WITHOUT_TOURS: &str =
     "The instance has no tour: at each leaf of the tree its decisions and the fixed arcs leave some node no arc.";
 
 /// The same of routes.
@@ -143,13 +143,16 @@ pub fn explain_wrong_kind(
 fn none_of(kind: Kind) -> &'static str {
     match kind {
         Kind::Cvrp => NO_ROUTES,
-        _ => NO_TOUR,
+        _ => WITHOUT_TOURS,
     }
 }
 
 /// Appends that a file is of the wrong kind, and what the files are.
 fn push_wrong_kind(text: &mut Vec<u8>, name: &str, kinds: &str) -> Result<(), AllocError> {
-    push_parts(text, &[Part::Name(name), Part::Words(": wrong kind\n")])?;
+    push_parts(
+        text,
+        &[LinePart::Name(name), LinePart::Words(": wrong kind\n")],
+    )?;
     push_lines(text, kinds)
 }
 
