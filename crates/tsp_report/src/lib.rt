@@ -7,9 +7,9 @@
 //! ```
 #![tactic(auto)]
 
-mod bound;
-mod compare_examples;
-mod compared;
+mod bound_text;
+mod comparison_text;
+mod comparison_text_examples;
 mod examples;
 mod fault;
 mod leaves;
@@ -18,9 +18,9 @@ mod report;
 mod shown;
 mod whole_examples;
 
-pub use bound::write_bound;
-pub use compare_examples::{examples_of_heads, examples_of_lines};
-pub use compared::{write_head, write_line};
+pub use bound_text::write_bound;
+pub use comparison_text::{write_head, write_line};
+pub use comparison_text_examples::{examples_of_heads, examples_of_lines};
 pub use examples::{examples_of_reasons, examples_of_reports, examples_of_shown_lines};
 pub use report::write_report;
 pub use shown::write_shown;

@@ -1,4 +1,4 @@
--- The goals of `put_bound_line` in src/compared.rt: what it ensures.
+-- The goals of `put_bound_line` in src/comparison_text.rt: what it ensures.
 use Rattle.std.proofs.Common.{◌++◌, rules}
 use Rattle.std.specs.Prelude.{codes, FitsSigned}
 use Rattle.std.specs.Fmt.{signed_decimal}
@@ -6,7 +6,7 @@ use Rattle.std.specs.Int.{w128}
 use Rattle.std.proofs.lemmas.Int.{to_z-of_z}
 use Rattle.tsp_stream.specs.states.WriteProgress.{way_of}
 use Rattle.tsp_stream.proofs.Carrying.{carried_none, carried_then}
-use Rattle.tsp_report.proofs.compared.put_bound_line.Goals as goal
+use Rattle.tsp_report.proofs.comparison_text.put_bound_line.Goals as goal
 
 -- plan: without a bound nothing is put, else three parts after each other
 pub returns-in-Some : goal.returns-in-Some

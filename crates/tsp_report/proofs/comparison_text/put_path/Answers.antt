@@ -1,9 +1,9 @@
--- The goals of `put_path` in src/compared.rt: what it ensures.
+-- The goals of `put_path` in src/comparison_text.rt: what it ensures.
 use Rattle.std.proofs.Common.{◌++◌}
 use Rattle.std.specs.Prelude.{codes}
 use Rattle.tsp_stream.specs.states.WriteProgress.{way_of}
 use Rattle.tsp_stream.proofs.Carrying.{carried_then}
-use Rattle.tsp_report.proofs.compared.put_path.Goals as goal
+use Rattle.tsp_report.proofs.comparison_text.put_path.Goals as goal
 
 -- plan: a blank, the path and the line's end (`carried_then`)
 pub returns : goal.returns

@@ -1,11 +1,11 @@
--- The goals of `write_head` in src/compared.rt: what it ensures.
+-- The goals of `write_head` in src/comparison_text.rt: what it ensures.
 use Rattle.std.proofs.Common.{◌∙◌, sym}
 use Rattle.tsp_stream.specs.states.WriteProgress.{way_of}
 use Rattle.tsp_stream.proofs.Carrying.{text_stopped, text_written}
 use Rattle.tsp_report.proofs.Texts.{two_parts}
 use Rattle.tsp_report.specs.Report.{instance_lines}
 use Rattle.tsp_report.specs.ComparisonText.{head_of, basis_lines}
-use Rattle.tsp_report.proofs.compared.write_head.Goals as goal
+use Rattle.tsp_report.proofs.comparison_text.write_head.Goals as goal
 
 -- plan: by whether the writer fails: the whole head was written (`text_written`), or a prefix (`text_stopped`)
 pub returns-then-failed-2 : goal.returns-then-failed-2

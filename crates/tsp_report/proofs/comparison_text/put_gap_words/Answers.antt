@@ -1,10 +1,10 @@
--- The goals of `put_gap_words` in src/compared.rt: what it ensures.
+-- The goals of `put_gap_words` in src/comparison_text.rt: what it ensures.
 use Rattle.std.proofs.Common.{◌≡◌, rules, true, false, arith}
 use Rattle.std.specs.Prelude.{FitsSigned, pos}
 use Rattle.std.specs.Ordering.{int_eq}
 use Rattle.std.specs.Int.{w128}
 use Rattle.std.proofs.lemmas.Int.{ints, to_z-of_z}
-use Rattle.tsp_report.proofs.compared.put_gap_words.Goals as goal
+use Rattle.tsp_report.proofs.comparison_text.put_gap_words.Goals as goal
 
 -- plan: a gap other than 0 is written as its word and number, which `put_named` adds as one text
 pub returns : goal.returns

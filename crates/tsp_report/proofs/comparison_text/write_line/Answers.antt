@@ -1,11 +1,11 @@
--- The goals of `write_line` in src/compared.rt: what it ensures.
+-- The goals of `write_line` in src/comparison_text.rt: what it ensures.
 use Rattle.std.proofs.Common.{◌∙◌, ◌++◌, sym}
 use Rattle.std.specs.Prelude.{codes}
 use Rattle.tsp_stream.specs.states.WriteProgress.{way_of}
 use Rattle.tsp_stream.proofs.Carrying.{text_stopped, text_written}
 use Rattle.tsp_report.proofs.Texts.{with_path}
 use Rattle.tsp_report.specs.ComparisonText.{solution_line, found_words}
-use Rattle.tsp_report.proofs.compared.write_line.Goals as goal
+use Rattle.tsp_report.proofs.comparison_text.write_line.Goals as goal
 
 -- plan: by whether the writer fails: the whole line was written (`text_written`), or a prefix (`text_stopped`)
 pub returns-then-failed-2 : goal.returns-then-failed-2

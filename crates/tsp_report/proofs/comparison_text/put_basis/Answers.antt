@@ -1,10 +1,10 @@
--- The goals of `put_basis` in src/compared.rt: what it ensures.
+-- The goals of `put_basis` in src/comparison_text.rt: what it ensures.
 use Rattle.std.proofs.Common.{◌++◌}
 use Rattle.std.specs.Prelude.{codes, decimal}
 use Rattle.tsp_stream.specs.states.WriteProgress.{way_of}
 use Rattle.tsp_stream.proofs.Carrying.{carried_then}
 use Rattle.tsp_report.specs.ComparisonText.{basis_bound}
-use Rattle.tsp_report.proofs.compared.put_basis.Goals as goal
+use Rattle.tsp_report.proofs.comparison_text.put_basis.Goals as goal
 
 -- plan: by the basis: the text of each is put, of routes two lines after each other
 pub returns-in-Tours : goal.returns-in-Tours

@@ -1,10 +1,10 @@
--- The goals of `write_bound` in src/bound.rt: what it ensures.
+-- The goals of `write_bound` in src/bound_text.rt: what it ensures.
 use Rattle.std.proofs.Common.{◌∙◌, sym}
 use Rattle.tsp_stream.specs.states.WriteProgress.{way_of}
 use Rattle.tsp_stream.proofs.Carrying.{text_stopped, text_written}
 use Rattle.tsp_report.proofs.Texts.{two_parts}
 use Rattle.tsp_report.specs.Report.{bound_report_of, instance_lines, bound_found_lines}
-use Rattle.tsp_report.proofs.bound.write_bound.Goals as goal
+use Rattle.tsp_report.proofs.bound_text.write_bound.Goals as goal
 
 -- plan: by whether the writer fails: the whole report was written (`text_written`), or a prefix (`text_stopped`)
 pub returns-then-failed-2 : goal.returns-then-failed-2

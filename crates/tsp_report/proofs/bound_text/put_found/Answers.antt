@@ -1,4 +1,4 @@
--- The goals of `put_found` in src/bound.rt: what it ensures.
+-- The goals of `put_found` in src/bound_text.rt: what it ensures.
 use Rattle.std.proofs.Common.{◌++◌, rules}
 use Rattle.std.specs.Prelude.{codes, FitsSigned}
 use Rattle.std.specs.Int.{w128}
@@ -6,7 +6,7 @@ use Rattle.std.proofs.lemmas.Int.{to_z-of_z}
 use Rattle.std.specs.Fmt.{signed_decimal}
 use Rattle.tsp_stream.specs.states.WriteProgress.{way_of}
 use Rattle.tsp_stream.proofs.Carrying.{carried_then}
-use Rattle.tsp_report.proofs.bound.put_found.Goals as goal
+use Rattle.tsp_report.proofs.bound_text.put_found.Goals as goal
 
 -- plan: by what was found: a bound, no tour, or a reason (`carried_then`)
 pub returns-in-Bound : goal.returns-in-Bound

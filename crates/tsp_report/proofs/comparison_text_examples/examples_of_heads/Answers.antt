@@ -1,7 +1,7 @@
--- The goals of `examples_of_heads` in src/compare_examples.rt: what it ensures.
+-- The goals of `examples_of_heads` in src/comparison_text_examples.rt: what it ensures.
 use Rattle.std.proofs.Common.{refl}
 use Rattle.std.specs.Fmt.{digits}
-use Rattle.tsp_report.proofs.compare_examples.examples_of_heads.Goals as goal
+use Rattle.tsp_report.proofs.comparison_text_examples.examples_of_heads.Goals as goal
 
 -- plan: each example is computed
 pub returns-clause-alone : goal.returns-clause-alone

@@ -1,4 +1,4 @@
--- The goals of `put_words` in src/compared.rt: what it ensures.
+-- The goals of `put_words` in src/comparison_text.rt: what it ensures.
 use Rattle.std.proofs.Common.{◌++◌, rules}
 use Rattle.std.specs.Prelude.{codes, decimal, FitsSigned}
 use Rattle.std.specs.Fmt.{signed_decimal}
@@ -9,7 +9,7 @@ use Rattle.tsp_stream.proofs.Carrying.{carried_then}
 use Rattle.tsp_report.specs.ComparisonText.{bound_words}
 use Rattle.tsp_report.specs.Report.{reason_text}
 use Rattle.tsp_report.proofs.Texts.{then_named}
-use Rattle.tsp_report.proofs.compared.put_words.Goals as goal
+use Rattle.tsp_report.proofs.comparison_text.put_words.Goals as goal
 
 -- plan: by the verdict: a length with its gap or its routes, or a reason (`then_named`)
 pub returns-in-Tour : goal.returns-in-Tour
