@@ -111,7 +111,7 @@ impl<'a> Subject<'a> {
             (λ verdict. IsVerdictGiven self.now.given claimed self.now.instance.now solution.now verdict)
             (λ refused. NoneOfTourBeforeRepeats self.now.instance.now solution.now) }
     {
-        let inst = self.instance;
+        let instance = self.instance;
         let Some(tours) = solution_tours(solution) else {
             return Ok(Verdict::No(Reason::NotASolution));
         };
@@ -120,24 +120,24 @@ impl<'a> Subject<'a> {
             Ok(tour_basis) => tour_basis,
             Err(reason) => return Ok(Verdict::No(reason)),
         };
-        let nodes = inst.count();
+        let nodes = instance.count();
         if solution.dimension().is_some_and(|stated| stated != nodes) {
             return Ok(Verdict::No(Reason::Dimension));
         }
         // `TourCount`, `TourLength`
-        let tour = match the_tour(inst, solution, tours) {
+        let tour = match the_tour(instance, solution, tours) {
             Ok(tour) => tour,
             Err(reason) => return Ok(Verdict::No(reason)),
         };
         // `NodeOutOfRange`, `RepeatedNode`
-        if let Some(reason) = first_against_nodes(alloc, inst, solution, tour)? {
+        if let Some(reason) = first_against_nodes(alloc, instance, solution, tour)? {
             return Ok(Verdict::No(reason));
         }
-        let directed = is_directed(inst.kind());
-        if let Some(index) = first_unused_by(alloc, tour, nodes, inst.fixed(), directed)? {
+        let directed = is_directed(instance.kind());
+        if let Some(index) = first_unused_by(alloc, tour, nodes, instance.fixed(), directed)? {
             return Ok(Verdict::No(Reason::FixedEdgeUnused { index }));
         }
-        let length = tour_length(inst, tour);
+        let length = tour_length(instance, tour);
         if is_other(claimed, length) {
             return Ok(Verdict::No(Reason::LengthClaimed { length }));
         }

@@ -58,7 +58,7 @@ invariant_of-cases g c =
 pub returns-in-Bound-Some : goal.returns-in-Bound-Some
 returns-in-Bound-Some g c =
     let whole = c.in-Bound-Some.is ∙ ap (λ (o : Option ℤ). found.Bound o) c.in-Bound-Some.field-0-is in
-    let inst = c.args.instance.now in
+    let instance = c.args.instance.now in
     let tree = c.args.branches.now in
     let n : ℕ = g.C.Costs.nodes c.args.costs.now in
     let costs = g.C.Costs.at c.args.costs.now in
@@ -67,9 +67,9 @@ returns-in-Bound-Some g c =
     let given = c.deref.result.now in
     let steps = steps_of c.args.tree.now.steps.now in
     let scaled : FitsSigned w64 c.args.tree.now.scale = search rules in
-    let are = are_of inst tree c.is_directed-directed.result n (to_z w64 (of_z w64 c.args.tree.now.scale)) combs
+    let are = are_of instance tree c.is_directed-directed.result n (to_z w64 (of_z w64 c.args.tree.now.scale)) combs
     c.fixed.result.now given steps
-    (directed_is c.is_directed-directed.result inst c.kind.result c.is_directed-directed.ensures c.kind.ensures.value)
+    (directed_is c.is_directed-directed.result instance c.kind.result c.is_directed-directed.ensures c.kind.ensures.value)
     c.requires.keeps.count
     (to_z-of_z w64 c.args.tree.now.scale scaled ∙ c.requires.held.scale_is) c.requires.held.combs_are c.fixed.ensures.value
     (c.deref.ensures.value ∙ c.in_ok-given.ensures) c.requires.held.steps_are in
@@ -77,11 +77,11 @@ returns-in-Bound-Some g c =
     let is = subst (IsBranchVerdict c.is_directed-directed.result n costs (to_z w64 (of_z w64 c.args.tree.now.scale)) families
     given steps) whole c.in_ok-bound.ensures.verdict in
     let fits : FitsSigned w128 bound = search rules in
-    let all_told = told inst tree c.is_directed-directed.result n costs _ families given steps (found.Bound (Some bound)) are
+    let all_told = told instance tree c.is_directed-directed.result n costs _ families given steps (found.Bound (Some bound)) are
     is in
     rw (to_z-of_z w128 bound fits) (
-      none_stands c.numbers_are_unique.ensures inst tree costs (Some bound) c.requires.kind c.requires.sort c.requires.count all_told,
-      certified inst tree costs bound c.case_trees_bound_cycles.ensures.cycles c.requires.kind c.requires.some c.requires.even
+      none_stands c.numbers_are_unique.ensures instance tree costs (Some bound) c.requires.kind c.requires.sort c.requires.count all_told,
+      certified instance tree costs bound c.case_trees_bound_cycles.ensures.cycles c.requires.kind c.requires.some c.requires.even
           (subst IsScale c.requires.held.scale_is c.requires.held.scaled) c.requires.keeps.every
           (subst IsSizedVerdict whole c.in_ok-bound.ensures.size) all_told,
     )
@@ -89,7 +89,7 @@ returns-in-Bound-Some g c =
 pub returns-in-Bound-None : goal.returns-in-Bound-None
 returns-in-Bound-None g c =
     let whole = c.in-Bound-None.is ∙ ap (λ (o : Option ℤ). found.Bound o) c.in-Bound-None.field-0-is in
-    let inst = c.args.instance.now in
+    let instance = c.args.instance.now in
     let tree = c.args.branches.now in
     let n : ℕ = g.C.Costs.nodes c.args.costs.now in
     let costs = g.C.Costs.at c.args.costs.now in
@@ -98,22 +98,22 @@ returns-in-Bound-None g c =
     let given = c.deref.result.now in
     let steps = steps_of c.args.tree.now.steps.now in
     let scaled : FitsSigned w64 c.args.tree.now.scale = search rules in
-    let are = are_of inst tree c.is_directed-directed.result n (to_z w64 (of_z w64 c.args.tree.now.scale)) combs
+    let are = are_of instance tree c.is_directed-directed.result n (to_z w64 (of_z w64 c.args.tree.now.scale)) combs
     c.fixed.result.now given steps
-    (directed_is c.is_directed-directed.result inst c.kind.result c.is_directed-directed.ensures c.kind.ensures.value)
+    (directed_is c.is_directed-directed.result instance c.kind.result c.is_directed-directed.ensures c.kind.ensures.value)
     c.requires.keeps.count
     (to_z-of_z w64 c.args.tree.now.scale scaled ∙ c.requires.held.scale_is) c.requires.held.combs_are c.fixed.ensures.value
     (c.deref.ensures.value ∙ c.in_ok-given.ensures) c.requires.held.steps_are in
     let is = subst (IsBranchVerdict c.is_directed-directed.result n costs (to_z w64 (of_z w64 c.args.tree.now.scale)) families
     given steps) whole c.in_ok-bound.ensures.verdict in
-    let all_told = told inst tree c.is_directed-directed.result n costs _ families given steps (found.Bound None) are is in
-    let gone = no_tour inst tree costs c.case_trees_bound_cycles.ensures.cycles c.requires.kind c.requires.some c.requires.even
+    let all_told = told instance tree c.is_directed-directed.result n costs _ families given steps (found.Bound None) are is in
+    let gone = no_tour instance tree costs c.case_trees_bound_cycles.ensures.cycles c.requires.kind c.requires.some c.requires.even
     (subst IsScale c.requires.held.scale_is c.requires.held.scaled) c.requires.keeps.every all_told in
-    (none_stands c.numbers_are_unique.ensures inst tree costs None c.requires.kind c.requires.sort c.requires.count all_told, gone.0, gone.1)
+    (none_stands c.numbers_are_unique.ensures instance tree costs None c.requires.kind c.requires.sort c.requires.count all_told, gone.0, gone.1)
 
 pub returns-in-BadFamily : goal.returns-in-BadFamily
 returns-in-BadFamily g c =
-    let inst = c.args.instance.now in
+    let instance = c.args.instance.now in
     let tree = c.args.branches.now in
     let n : ℕ = g.C.Costs.nodes c.args.costs.now in
     let costs = g.C.Costs.at c.args.costs.now in
@@ -122,16 +122,16 @@ returns-in-BadFamily g c =
     let given = c.deref.result.now in
     let steps = steps_of c.args.tree.now.steps.now in
     let scaled : FitsSigned w64 c.args.tree.now.scale = search rules in
-    let are = are_of inst tree c.is_directed-directed.result n (to_z w64 (of_z w64 c.args.tree.now.scale)) combs
+    let are = are_of instance tree c.is_directed-directed.result n (to_z w64 (of_z w64 c.args.tree.now.scale)) combs
     c.fixed.result.now given steps
-    (directed_is c.is_directed-directed.result inst c.kind.result c.is_directed-directed.ensures c.kind.ensures.value)
+    (directed_is c.is_directed-directed.result instance c.kind.result c.is_directed-directed.ensures c.kind.ensures.value)
     c.requires.keeps.count
     (to_z-of_z w64 c.args.tree.now.scale scaled ∙ c.requires.held.scale_is) c.requires.held.combs_are c.fixed.ensures.value
     (c.deref.ensures.value ∙ c.in_ok-given.ensures) c.requires.held.steps_are in
     let is = subst (IsBranchVerdict c.is_directed-directed.result n costs (to_z w64 (of_z w64 c.args.tree.now.scale)) families
     given steps) c.in-BadFamily.is c.in_ok-bound.ensures.verdict in
-    comb_first inst tree costs c.in-BadFamily.index c.requires.kind c.requires.sort c.requires.count
-    (told inst tree c.is_directed-directed.result n costs _ families given steps (found.BadFamily c.in-BadFamily.index) are is)
+    comb_first instance tree costs c.in-BadFamily.index c.requires.kind c.requires.sort c.requires.count
+    (told instance tree c.is_directed-directed.result n costs _ families given steps (found.BadFamily c.in-BadFamily.index) are is)
 
 pub overflow_cast-result-in-BadBranch : goal.overflow_cast-result-in-BadBranch
 overflow_cast-result-in-BadBranch g c =
@@ -149,7 +149,7 @@ overflow_cast-result-in-BadBranch g c =
 
 pub returns-in-BadBranch : goal.returns-in-BadBranch
 returns-in-BadBranch g c =
-    let inst = c.args.instance.now in
+    let instance = c.args.instance.now in
     let tree = c.args.branches.now in
     let n : ℕ = g.C.Costs.nodes c.args.costs.now in
     let costs = g.C.Costs.at c.args.costs.now in
@@ -158,16 +158,16 @@ returns-in-BadBranch g c =
     let given = c.deref.result.now in
     let steps = steps_of c.args.tree.now.steps.now in
     let scaled : FitsSigned w64 c.args.tree.now.scale = search rules in
-    let are = are_of inst tree c.is_directed-directed.result n (to_z w64 (of_z w64 c.args.tree.now.scale)) combs
+    let are = are_of instance tree c.is_directed-directed.result n (to_z w64 (of_z w64 c.args.tree.now.scale)) combs
     c.fixed.result.now given steps
-    (directed_is c.is_directed-directed.result inst c.kind.result c.is_directed-directed.ensures c.kind.ensures.value)
+    (directed_is c.is_directed-directed.result instance c.kind.result c.is_directed-directed.ensures c.kind.ensures.value)
     c.requires.keeps.count
     (to_z-of_z w64 c.args.tree.now.scale scaled ∙ c.requires.held.scale_is) c.requires.held.combs_are c.fixed.ensures.value
     (c.deref.ensures.value ∙ c.in_ok-given.ensures) c.requires.held.steps_are in
     let is = subst (IsBranchVerdict c.is_directed-directed.result n costs (to_z w64 (of_z w64 c.args.tree.now.scale)) families
     given steps) c.in-BadBranch.is c.in_ok-bound.ensures.verdict in
-    pair_first inst tree costs c.in-BadBranch.index c.requires.kind c.requires.sort c.requires.count
-    (told inst tree c.is_directed-directed.result n costs _ families given steps (found.BadBranch c.in-BadBranch.index) are
+    pair_first instance tree costs c.in-BadBranch.index c.requires.kind c.requires.sort c.requires.count
+    (told instance tree c.is_directed-directed.result n costs _ families given steps (found.BadBranch c.in-BadBranch.index) are
     is)
 
 pub overflow_cast-result-in-BranchTwice : goal.overflow_cast-result-in-BranchTwice
@@ -185,7 +185,7 @@ overflow_cast-result-in-BranchTwice g c =
 
 pub returns-in-BranchTwice : goal.returns-in-BranchTwice
 returns-in-BranchTwice g c =
-    let inst = c.args.instance.now in
+    let instance = c.args.instance.now in
     let tree = c.args.branches.now in
     let n : ℕ = g.C.Costs.nodes c.args.costs.now in
     let costs = g.C.Costs.at c.args.costs.now in
@@ -194,16 +194,16 @@ returns-in-BranchTwice g c =
     let given = c.deref.result.now in
     let steps = steps_of c.args.tree.now.steps.now in
     let scaled : FitsSigned w64 c.args.tree.now.scale = search rules in
-    let are = are_of inst tree c.is_directed-directed.result n (to_z w64 (of_z w64 c.args.tree.now.scale)) combs
+    let are = are_of instance tree c.is_directed-directed.result n (to_z w64 (of_z w64 c.args.tree.now.scale)) combs
     c.fixed.result.now given steps
-    (directed_is c.is_directed-directed.result inst c.kind.result c.is_directed-directed.ensures c.kind.ensures.value)
+    (directed_is c.is_directed-directed.result instance c.kind.result c.is_directed-directed.ensures c.kind.ensures.value)
     c.requires.keeps.count
     (to_z-of_z w64 c.args.tree.now.scale scaled ∙ c.requires.held.scale_is) c.requires.held.combs_are c.fixed.ensures.value
     (c.deref.ensures.value ∙ c.in_ok-given.ensures) c.requires.held.steps_are in
     let is = subst (IsBranchVerdict c.is_directed-directed.result n costs (to_z w64 (of_z w64 c.args.tree.now.scale)) families
     given steps) c.in-BranchTwice.is c.in_ok-bound.ensures.verdict in
-    twice_first inst tree costs c.in-BranchTwice.index c.requires.kind c.requires.sort c.requires.count
-    (told inst tree c.is_directed-directed.result n costs _ families given steps (found.BranchTwice c.in-BranchTwice.index) are
+    twice_first instance tree costs c.in-BranchTwice.index c.requires.kind c.requires.sort c.requires.count
+    (told instance tree c.is_directed-directed.result n costs _ families given steps (found.BranchTwice c.in-BranchTwice.index) are
     is)
 
 pub overflow_cast-result-in-BadLeaf : goal.overflow_cast-result-in-BadLeaf
@@ -221,7 +221,7 @@ overflow_cast-result-in-BadLeaf g c =
 
 pub returns : goal.returns
 returns g c =
-    let inst = c.args.instance.now in
+    let instance = c.args.instance.now in
     let tree = c.args.branches.now in
     let n : ℕ = g.C.Costs.nodes c.args.costs.now in
     let costs = g.C.Costs.at c.args.costs.now in
@@ -230,13 +230,13 @@ returns g c =
     let given = c.deref.result.now in
     let steps = steps_of c.args.tree.now.steps.now in
     let scaled : FitsSigned w64 c.args.tree.now.scale = search rules in
-    let are = are_of inst tree c.is_directed-directed.result n (to_z w64 (of_z w64 c.args.tree.now.scale)) combs
+    let are = are_of instance tree c.is_directed-directed.result n (to_z w64 (of_z w64 c.args.tree.now.scale)) combs
     c.fixed.result.now given steps
-    (directed_is c.is_directed-directed.result inst c.kind.result c.is_directed-directed.ensures c.kind.ensures.value)
+    (directed_is c.is_directed-directed.result instance c.kind.result c.is_directed-directed.ensures c.kind.ensures.value)
     c.requires.keeps.count
     (to_z-of_z w64 c.args.tree.now.scale scaled ∙ c.requires.held.scale_is) c.requires.held.combs_are c.fixed.ensures.value
     (c.deref.ensures.value ∙ c.in_ok-given.ensures) c.requires.held.steps_are in
     let is = subst (IsBranchVerdict c.is_directed-directed.result n costs (to_z w64 (of_z w64 c.args.tree.now.scale)) families
     given steps) c.in-BadLeaf.is c.in_ok-bound.ensures.verdict in
-    leaf_first inst tree costs c.in-BadLeaf.index c.requires.kind c.requires.sort c.requires.count
-    (told inst tree c.is_directed-directed.result n costs _ families given steps (found.BadLeaf c.in-BadLeaf.index) are is)
+    leaf_first instance tree costs c.in-BadLeaf.index c.requires.kind c.requires.sort c.requires.count
+    (told instance tree c.is_directed-directed.result n costs _ families given steps (found.BadLeaf c.in-BadLeaf.index) are is)

@@ -48,63 +48,63 @@ invariant_of-plans c =
 
 pub returns-in-BadFamily : goal.returns-in-BadFamily
 returns-in-BadFamily c =
-    let inst = c.args.instance.now in
+    let instance = c.args.instance.now in
     let tree = c.args.branches.now in
     let combs = c.args.tree.now.combs.now in
     let steps = steps_of c.args.tree.now.steps.now in
     let demands = c.routing-routing.result.demands.now in
-    let are = of_files inst tree c.args.depot demands c.routing-routing.result.capacity c.args.tree.now.scale c.args.tree.now.load_unit
+    let are = of_files instance tree c.args.depot demands c.routing-routing.result.capacity c.args.tree.now.scale c.args.tree.now.load_unit
     combs steps (search rules) (search rules) (search rules) c.requires.depot c.routing-routing.ensures.demands
     c.routing-routing.ensures.capacity c.requires.held in
-    let is = subst (IsPlanVerdict (routing_with (nodes_of inst) (cost inst) c.args.depot demands _) _ _ (combs_of combs) steps)
+    let is = subst (IsPlanVerdict (routing_with (nodes_of instance) (cost instance) c.args.depot demands _) _ _ (combs_of combs) steps)
     c.in-BadFamily.is c.in_ok-bound.ensures.verdict in
-    set_first inst tree c.in-BadFamily.index c.requires.kind c.requires.sort c.requires.count
-    (told_of_routes inst tree _ _ _ _ _ _ _ _ are is)
+    set_first instance tree c.in-BadFamily.index c.requires.kind c.requires.sort c.requires.count
+    (told_of_routes instance tree _ _ _ _ _ _ _ _ are is)
 
 pub returns-in-BadBranch : goal.returns-in-BadBranch
 returns-in-BadBranch c =
-    let inst = c.args.instance.now in
+    let instance = c.args.instance.now in
     let tree = c.args.branches.now in
     let combs = c.args.tree.now.combs.now in
     let steps = steps_of c.args.tree.now.steps.now in
     let demands = c.routing-routing.result.demands.now in
-    let are = of_files inst tree c.args.depot demands c.routing-routing.result.capacity c.args.tree.now.scale c.args.tree.now.load_unit
+    let are = of_files instance tree c.args.depot demands c.routing-routing.result.capacity c.args.tree.now.scale c.args.tree.now.load_unit
     combs steps (search rules) (search rules) (search rules) c.requires.depot c.routing-routing.ensures.demands
     c.routing-routing.ensures.capacity c.requires.held in
-    let is = subst (IsPlanVerdict (routing_with (nodes_of inst) (cost inst) c.args.depot demands _) _ _ (combs_of combs) steps)
+    let is = subst (IsPlanVerdict (routing_with (nodes_of instance) (cost instance) c.args.depot demands _) _ _ (combs_of combs) steps)
     c.in-BadBranch.is c.in_ok-bound.ensures.verdict in
-    branch_first inst tree c.in-BadBranch.index c.requires.kind c.requires.sort c.requires.count
-    (told_of_routes inst tree _ _ _ _ _ _ _ _ are is)
+    branch_first instance tree c.in-BadBranch.index c.requires.kind c.requires.sort c.requires.count
+    (told_of_routes instance tree _ _ _ _ _ _ _ _ are is)
 
 pub returns-in-BadLeaf : goal.returns-in-BadLeaf
 returns-in-BadLeaf c =
-    let inst = c.args.instance.now in
+    let instance = c.args.instance.now in
     let tree = c.args.branches.now in
     let combs = c.args.tree.now.combs.now in
     let steps = steps_of c.args.tree.now.steps.now in
     let demands = c.routing-routing.result.demands.now in
-    let are = of_files inst tree c.args.depot demands c.routing-routing.result.capacity c.args.tree.now.scale c.args.tree.now.load_unit
+    let are = of_files instance tree c.args.depot demands c.routing-routing.result.capacity c.args.tree.now.scale c.args.tree.now.load_unit
     combs steps (search rules) (search rules) (search rules) c.requires.depot c.routing-routing.ensures.demands
     c.routing-routing.ensures.capacity c.requires.held in
-    let is = subst (IsPlanVerdict (routing_with (nodes_of inst) (cost inst) c.args.depot demands _) _ _ (combs_of combs) steps)
+    let is = subst (IsPlanVerdict (routing_with (nodes_of instance) (cost instance) c.args.depot demands _) _ _ (combs_of combs) steps)
     c.in-BadLeaf.is c.in_ok-bound.ensures.verdict in
-    plan_leaf_first inst tree c.in-BadLeaf.index c.requires.kind c.requires.sort c.requires.count
-    (told_of_routes inst tree _ _ _ _ _ _ _ _ are is)
+    plan_leaf_first instance tree c.in-BadLeaf.index c.requires.kind c.requires.sort c.requires.count
+    (told_of_routes instance tree _ _ _ _ _ _ _ _ are is)
 
 pub returns-in-TooManyLoads : goal.returns-in-TooManyLoads
 returns-in-TooManyLoads c =
-    let inst = c.args.instance.now in
+    let instance = c.args.instance.now in
     let tree = c.args.branches.now in
     let combs = c.args.tree.now.combs.now in
     let steps = steps_of c.args.tree.now.steps.now in
     let demands = c.routing-routing.result.demands.now in
-    let are = of_files inst tree c.args.depot demands c.routing-routing.result.capacity c.args.tree.now.scale c.args.tree.now.load_unit
+    let are = of_files instance tree c.args.depot demands c.routing-routing.result.capacity c.args.tree.now.scale c.args.tree.now.load_unit
     combs steps (search rules) (search rules) (search rules) c.requires.depot c.routing-routing.ensures.demands
     c.routing-routing.ensures.capacity c.requires.held in
-    let is = subst (IsPlanVerdict (routing_with (nodes_of inst) (cost inst) c.args.depot demands _) _ _ (combs_of combs) steps)
+    let is = subst (IsPlanVerdict (routing_with (nodes_of instance) (cost instance) c.args.depot demands _) _ _ (combs_of combs) steps)
     c.in-TooManyLoads.is c.in_ok-bound.ensures.verdict in
-    loads_first inst tree c.requires.kind c.requires.sort c.requires.count
-    (told_of_routes inst tree _ _ _ _ _ _ _ _ are is)
+    loads_first instance tree c.requires.kind c.requires.sort c.requires.count
+    (told_of_routes instance tree _ _ _ _ _ _ _ _ are is)
 
 pub overflow_cast-result-in-BadBranch : goal.overflow_cast-result-in-BadBranch
 overflow_cast-result-in-BadBranch c =
@@ -132,37 +132,37 @@ overflow_cast-result-in-BadLeaf c =
 
 pub returns-in-Bound-Some : goal.returns-in-Bound-Some
 returns-in-Bound-Some c =
-    let inst = c.args.instance.now in
+    let instance = c.args.instance.now in
     let tree = c.args.branches.now in
     let combs = c.args.tree.now.combs.now in
     let steps = steps_of c.args.tree.now.steps.now in
     let demands = c.routing-routing.result.demands.now in
-    let are = of_files inst tree c.args.depot demands c.routing-routing.result.capacity c.args.tree.now.scale c.args.tree.now.load_unit
+    let are = of_files instance tree c.args.depot demands c.routing-routing.result.capacity c.args.tree.now.scale c.args.tree.now.load_unit
     combs steps (search rules) (search rules) (search rules) c.requires.depot c.routing-routing.ensures.demands
     c.routing-routing.ensures.capacity c.requires.held in
-    let problem = routing_with (nodes_of inst) (cost inst) c.args.depot demands _ in
+    let problem = routing_with (nodes_of instance) (cost instance) c.args.depot demands _ in
     let bound = c.in-Bound-Some.bound in
     let whole = c.in-Bound-Some.is ∙ ap (λ (o : Option ℤ). found.Bound o) c.in-Bound-Some.field-0-is in
     let is = subst (IsPlanVerdict problem _ _ (combs_of combs) steps) whole c.in_ok-bound.ensures.verdict in
     let below = subst (VerdictBoundsPlans problem) whole c.in_ok-bound.ensures.plans in
     let sized = subst IsSizedPlanVerdict whole c.in_ok-bound.ensures.size in
     let fits : FitsSigned w128 bound = search rules in
-    rw (to_z-of_z w128 bound fits) (plans_bounded inst tree bound c.requires.kind c.requires.sort c.requires.count
-    (told_of_routes inst tree _ _ _ _ _ _ _ _ are is) (bounds_of_routes inst tree _ _ _ _ _ _ _ (found.Bound (Some bound)) are below) sized)
+    rw (to_z-of_z w128 bound fits) (plans_bounded instance tree bound c.requires.kind c.requires.sort c.requires.count
+    (told_of_routes instance tree _ _ _ _ _ _ _ _ are is) (bounds_of_routes instance tree _ _ _ _ _ _ _ (found.Bound (Some bound)) are below) sized)
 
 pub returns-in-Bound-None : goal.returns-in-Bound-None
 returns-in-Bound-None c =
-    let inst = c.args.instance.now in
+    let instance = c.args.instance.now in
     let tree = c.args.branches.now in
     let combs = c.args.tree.now.combs.now in
     let steps = steps_of c.args.tree.now.steps.now in
     let demands = c.routing-routing.result.demands.now in
-    let are = of_files inst tree c.args.depot demands c.routing-routing.result.capacity c.args.tree.now.scale c.args.tree.now.load_unit
+    let are = of_files instance tree c.args.depot demands c.routing-routing.result.capacity c.args.tree.now.scale c.args.tree.now.load_unit
     combs steps (search rules) (search rules) (search rules) c.requires.depot c.routing-routing.ensures.demands
     c.routing-routing.ensures.capacity c.requires.held in
-    let problem = routing_with (nodes_of inst) (cost inst) c.args.depot demands _ in
+    let problem = routing_with (nodes_of instance) (cost instance) c.args.depot demands _ in
     let whole = c.in-Bound-None.is ∙ ap (λ (o : Option ℤ). found.Bound o) c.in-Bound-None.field-0-is in
     let is = subst (IsPlanVerdict problem _ _ (combs_of combs) steps) whole c.in_ok-bound.ensures.verdict in
     let below = subst (VerdictBoundsPlans problem) whole c.in_ok-bound.ensures.plans in
-    plans_missing inst tree c.requires.kind c.requires.sort c.requires.count
-    (told_of_routes inst tree _ _ _ _ _ _ _ _ are is) (bounds_of_routes inst tree _ _ _ _ _ _ _ (found.Bound None) are below)
+    plans_missing instance tree c.requires.kind c.requires.sort c.requires.count
+    (told_of_routes instance tree _ _ _ _ _ _ _ _ are is) (bounds_of_routes instance tree _ _ _ _ _ _ _ (found.Bound None) are below)

@@ -10,10 +10,10 @@ use Rattle.tsp_verdict.proofs.subject.Subject.basis_on.Goals as goal
 -- plan: where no reason is against the instance, the certificate decides (`certificate_decides`)
 pub returns : goal.returns
 returns c =
-    let inst = c.args.self.now.instance.now in
+    let instance = c.args.self.now.instance.now in
     let by = c.in-Some.by in
     let cert = c.in-Some.file.now in
-    let tour_basis = subst (λ (tour_basis : TourBasis). IsTourBasis inst c.args.self.now.given tour_basis) c.in-Costs.is c.requires.tour_basis in
-    let decides = certificate_decides by inst cert c.in_ok-found.found (none_for_tours inst c.requires.kind c.requires.none)
+    let tour_basis = subst (λ (tour_basis : TourBasis). IsTourBasis instance c.args.self.now.given tour_basis) c.in-Costs.is c.requires.tour_basis in
+    let decides = certificate_decides by instance cert c.in_ok-found.found (none_for_tours instance c.requires.kind c.requires.none)
     c.in_ok-found.ensures.found in
-    rw tour_basis.0 (rw c.in-Some.is (bounded_so by inst c.requires.kind, c.basis_of.ensures by cert decides))
+    rw tour_basis.0 (rw c.in-Some.is (bounded_so by instance c.requires.kind, c.basis_of.ensures by cert decides))

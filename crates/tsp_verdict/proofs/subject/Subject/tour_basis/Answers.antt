@@ -8,16 +8,16 @@ use Rattle.tsp_verdict.proofs.subject.Subject.tour_basis.Goals as goal
 -- plan: a basis of tours has the reason against the instance (`knows_instance`), which is the first (`first_known`)
 pub returns-in-Some : goal.returns-in-Some
 returns-in-Some c =
-    let inst = c.args.self.now.instance.now in
-    let sound = subst (λ (given : BoundOrigin). IsSubject inst given) c.in-Basis.is c.requires.sound in
-    first_known inst c.in-Basis.basis c.against_instance.result c.in-Some.reason c.against_instance.ensures c.in-Some.is
-    (knows_instance sound.0 inst c.in-Basis.basis c.requires.kind sound.1)
+    let instance = c.args.self.now.instance.now in
+    let sound = subst (λ (given : BoundOrigin). IsSubject instance given) c.in-Basis.is c.requires.sound in
+    first_known instance c.in-Basis.basis c.against_instance.result c.in-Some.reason c.against_instance.ensures c.in-Some.is
+    (knows_instance sound.0 instance c.in-Basis.basis c.requires.kind sound.1)
 
 pub returns-in-None : goal.returns-in-None
 returns-in-None c =
-    let inst = c.args.self.now.instance.now in
-    let sound = subst (λ (given : BoundOrigin). IsSubject inst given) c.in-Basis.is c.requires.sound in (
-      none_known inst c.in-Basis.basis c.against_instance.result c.against_instance.ensures c.in-None.is
-          (knows_instance sound.0 inst c.in-Basis.basis c.requires.kind sound.1),
+    let instance = c.args.self.now.instance.now in
+    let sound = subst (λ (given : BoundOrigin). IsSubject instance given) c.in-Basis.is c.requires.sound in (
+      none_known instance c.in-Basis.basis c.against_instance.result c.against_instance.ensures c.in-None.is
+          (knows_instance sound.0 instance c.in-Basis.basis c.requires.kind sound.1),
       c.in-Basis.is,
     )

@@ -42,10 +42,10 @@ returns-then-is_some_and c =
 
 pub the_tour-requires-clause-before : goal.the_tour-requires-clause-before
 the_tour-requires-clause-before c =
-    let inst = c.args.self.now.instance.now in
+    let instance = c.args.self.now.instance.now in
     let is : is_tour_file c.args.solution.now.kind ≡ true = search rules in
-    let same : (n : ℕ) → c.args.solution.now.dimension ≡ Some n → n ≡ nodes_of inst = search rules in
-    after_dimension inst c.args.solution.now (up_to_dimension inst c.args.solution.now is c.in-Ok.ensures.0) same
+    let same : (n : ℕ) → c.args.solution.now.dimension ≡ Some n → n ≡ nodes_of instance = search rules in
+    after_dimension instance c.args.solution.now (up_to_dimension instance c.args.solution.now is c.in-Ok.ensures.0) same
 
 pub returns-in-Err-the_tour : goal.returns-in-Err-the_tour
 returns-in-Err-the_tour c =
