@@ -178,7 +178,8 @@ kept_at_start n combs scale held families cost marks rows same empty all some =
             long = row.long;
             costs = row.costs;
             weights = λ x x_in. row.weights x x_in ∙ ap (int_wrap w64)
-                (let none = inside_none combs families (places_with 0 families (k + 1)) x in let whole = ap (λ (z : ℤ). z *ℤ cost (k + 1) x) same in let mark = empty (k + 1) x in omega (arith, ints, none, whole, mark));
+                (let none = inside_none combs families (places_with 0 families (k + 1)) x in let whole = ap
+                (λ (z : ℤ). z *ℤ cost (k + 1) x) same in let mark = empty (k + 1) x in omega (arith, ints, none, whole, mark));
           };
     }
 

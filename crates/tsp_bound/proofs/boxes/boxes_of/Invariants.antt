@@ -7,7 +7,9 @@ use Rattle.tsp_bound.proofs.boxes.boxes_of.Given as goal
 abbrev pub invariant-leaves : goal.invariant-leaves
 invariant-leaves g l = record {
   len : length l.areas.items ≡ 2 * length l.placed.order.now;
-  done : (j : ℕ) → j < l.place → HoldsNode (g.W.BoxedWeights.place_of l.placed.w.now) (g.W.BoxedWeights.number_of l.placed.w.now) (area_at l.areas.items (length l.placed.order.now + j)) (node_of l.placed.order.now j);
+  done : (j : ℕ) → j < l.place → HoldsNode (g.W.BoxedWeights.place_of l.placed.w.now)
+      (g.W.BoxedWeights.number_of l.placed.w.now) (area_at l.areas.items (length l.placed.order.now + j))
+      (node_of l.placed.order.now j);
 }
 
 -- each box from `v` on holds all nodes below it, whichever are outside

@@ -13,7 +13,8 @@ returns-then-not-is_outside g c =
     let s = c.args.self.now in
     let w = g.W.BoxedWeights.unlowered s.w.now in
     searched_none w s.order.now (g.S.Seen.outside_of s.seen.now) s.from.site.node (length s.order.now + c.args.place) c.args.best
-    (leaf_below w s.order.now (g.S.Seen.outside_of s.seen.now) s.from.site.node c.args.place c.args.best.weight (λ mine. absurd (false≢true (sym c.if-not-is_outside.true ∙ (c.is_outside.ensures ∙ mine)))))
+    (leaf_below w s.order.now (g.S.Seen.outside_of s.seen.now) s.from.site.node c.args.place c.args.best.weight
+    (λ mine. absurd (false≢true (sym c.if-not-is_outside.true ∙ (c.is_outside.ensures ∙ mine)))))
 
 pub returns-else-weight-best : goal.returns-else-weight-best
 returns-else-weight-best g c =

@@ -33,4 +33,5 @@ returns-in-Some-checked_sub g c = on_true_still c.is_beyond.result _ _ (λ far t
     let further : cost ≤ℤ other = subst (λ (z : ℤ). z ≤ℤ other) (to_z-of_z w64 cost cost_fits) (far to node held.0) in
     best_below c.args.best left scale cost other s.from.number area.least (number to) (g.W.BoxedWeights.unlowered s.w.now s.from.site.node to) s.scaled
     (left_is c.args.best s.from.number area.least left c.ranges.best s.own.size area.size c.in-Some-checked_sub.ensures.1) enough further held.1
-    (subst (λ (z : ℤ). ((scale *ℤ other) +ℤ (z +ℤ number to)) ≤ℤ g.W.BoxedWeights.unlowered s.w.now s.from.site.node to) (sym s.own.value) (c.is_beyond.ensures.above to node))) c.is_beyond.ensures.beyond
+    (subst (λ (z : ℤ). ((scale *ℤ other) +ℤ (z +ℤ number to)) ≤ℤ g.W.BoxedWeights.unlowered s.w.now s.from.site.node to)
+    (sym s.own.value) (c.is_beyond.ensures.above to node))) c.is_beyond.ensures.beyond
