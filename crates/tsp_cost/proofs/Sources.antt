@@ -14,8 +14,8 @@ use Rattle.tsp_file.specs.ListedWeights.{ListsWeights}
 use Rattle.tsp_file.proofs.Listed.{lists, cost_of_listed}
 use Rattle.tsp_cost.specs.declared.metric.Metric.{Metric}
 use Rattle.tsp_cost.specs.declared.metric.Metric.TheVariants as metrics
-use Rattle.tsp_cost.specs.declared.source.Source.{Source}
-use Rattle.tsp_cost.specs.declared.source.Source.TheVariants.{Distances, Weights}
+use Rattle.tsp_cost.specs.declared.cost_source.CostSource.{CostSource}
+use Rattle.tsp_cost.specs.declared.cost_source.CostSource.TheVariants.{Distances, Weights}
 use Rattle.tsp_cost.specs.states.Metrics.{weight_kind_of}
 use Rattle.tsp_cost.specs.states.Sources.{ComesFrom, HasFound}
 use Rattle.tsp_cost.proofs.Instances.{cost_of_points}
@@ -39,7 +39,7 @@ pub record AreOfPoints (f : Fields) (metric : Metric) (points : List Point) : Ty
   pub count : f.dimension ≡ Some (length points)
   pub every : (i j : ℕ) → distance (weight_kind_of metric) (point_of points i) (point_of points j) ≡ cost f i j
 
-pub of_points : (f : Fields) (nodes : ℕ) (source : Source) (metric : Metric) (points : List Point) → HasFound f nodes source
+pub of_points : (f : Fields) (nodes : ℕ) (source : CostSource) (metric : Metric) (points : List Point) → HasFound f nodes source
     → ComesFrom f (Distances metric)
     → f.coords ≡ Some points → AreOfPoints f metric points
 of_points f nodes source metric points found comes stand = record {
@@ -54,7 +54,7 @@ pub record AreOfWeights (f : Fields) (layout : Layout) (nodes : ℕ) (weights : 
   pub lists : ListsWeights f layout nodes weights
   pub every : (i j : ℕ) → listed_cost layout nodes weights i j ≡ cost f i j
 
-pub of_weights : (f : Fields) (nodes : ℕ) (source : Source) (layout : Layout) (weights : List ℤ) → HasFound f nodes source
+pub of_weights : (f : Fields) (nodes : ℕ) (source : CostSource) (layout : Layout) (weights : List ℤ) → HasFound f nodes source
     → ComesFrom f (Weights layout)
     → f.weights ≡ Some weights → AreOfWeights f layout nodes weights
 of_weights f nodes source layout weights found comes stand =

@@ -10,12 +10,12 @@ ghost use Rattle.tsp_theory.specs.Costs.{IsSymmetric, IsFirstAsymmetric, FindsAs
 ghost use Rattle.tsp_cost.specs.states.Sources.{HasFound};
 ghost use Rattle.tsp_cost.specs.states.Views.{ShowsEven};
 
+use crate::cost_source::CostSource;
 use crate::fault::CostFault;
 use crate::laws::instances_are_problems;
 use crate::matrix::Matrix;
 use crate::metric::Metric;
 use crate::points::Points;
-use crate::source::Source;
 use crate::triangle::Triangle;
 use crate::view::{EvenView, View};
 use std::marker::Model;
@@ -31,7 +31,7 @@ use tsp_theory::Costs;
 pub struct Instance {
     file: File,
     nodes: u32,
-    source: Source,
+    source: CostSource,
 }
 
 impl Model for Instance {
@@ -53,7 +53,7 @@ impl Instance {
     ghost use Rattle.tsp_format.specs.declared.kinds.Kind.TheVariants as kinds;
     ghost use Rattle.tsp_format.specs.Limits.{most_fixed};
     ghost use Rattle.tsp_cost.specs.declared.fault.CostFault.TheVariants.{NotInstance};
-    ghost use Rattle.tsp_cost.specs.declared.source.Source.TheVariants.{Distances, Weights};
+    ghost use Rattle.tsp_cost.specs.declared.cost_source.CostSource.TheVariants.{Distances, Weights};
     ghost use Rattle.tsp_draft.specs.Fields.{nodes_of};
     ghost use Rattle.tsp_file.specs.Defaults.{fixed_of};
     ghost use Rattle.tsp_file.specs.Typed.{HoldsRouting};
@@ -144,8 +144,8 @@ impl Instance {
         ensures { IsViewOf self.now result }
     {
         match self.source {
-            Source::Distances(metric) => self.distance_view(metric),
-            Source::Weights(layout) => self.listed_view(layout),
+            CostSource::Distances(metric) => self.distance_view(metric),
+            CostSource::Weights(layout) => self.listed_view(layout),
         }
     }
 
@@ -176,14 +176,14 @@ impl Instance {
 }
 
 /// How many nodes an instance has, and where its costs come from.
-fn found(f: &File) -> (u32, Source)
+fn found(f: &File) -> (u32, CostSource)
     requires { IsTrue (is_instance f.now.kind) }
     ensures { HasFound f.now result.0 result.1 }
 {
     let fields = f.fields();
     let source = match Metric::of(fields.weight_kind.unwrap()) {
-        Some(metric) => Source::Distances(metric),
-        None => Source::Weights(f.as_matrix().unwrap().layout),
+        Some(metric) => CostSource::Distances(metric),
+        None => CostSource::Weights(f.as_matrix().unwrap().layout),
     };
     (fields.dimension.unwrap(), source)
 }
@@ -221,11 +221,11 @@ impl Costs for Instance {
     #[inline]
     fn cost(&self, i: u32, j: u32) -> i64 {
         match self.source {
-            Source::Weights(layout) => match self.listed_view(layout) {
+            CostSource::Weights(layout) => match self.listed_view(layout) {
                 View::Matrix(matrix) => matrix.cost(i, j),
                 _ => viewed_cost(self, i, j),
             },
-            Source::Distances(_) => viewed_cost(self, i, j),
+            CostSource::Distances(_) => viewed_cost(self, i, j),
         }
     }
 

@@ -13,6 +13,7 @@
 #![tactic(auto)]
 
 mod coarse;
+mod cost_source;
 mod euclidean;
 mod examples;
 mod fault;
@@ -23,7 +24,6 @@ mod matrix;
 mod metric;
 mod places;
 mod points;
-mod source;
 mod triangle;
 mod view;
 

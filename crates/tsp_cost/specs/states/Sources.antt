@@ -6,16 +6,16 @@ use Rattle.tsp_format.specs.declared.kinds.WeightKind.TheVariants.{Explicit}
 use Rattle.tsp_draft.specs.Fields.{Fields}
 use Rattle.tsp_draft.specs.Rules.{is_instance}
 use Rattle.tsp_draft.specs.Valid.{IsInRange, HasRouting}
-use Rattle.tsp_cost.specs.declared.source.Source.{Source}
-use Rattle.tsp_cost.specs.declared.source.Source.TheVariants.{Distances, Weights}
+use Rattle.tsp_cost.specs.declared.cost_source.CostSource.{CostSource}
+use Rattle.tsp_cost.specs.declared.cost_source.CostSource.TheVariants.{Distances, Weights}
 use Rattle.tsp_cost.specs.states.Metrics.{weight_kind_of}
 
 -- the costs are distances of its points, or weights that it lists in a layout
-abbrev pub ComesFrom : Fields → Source → Type 0
+abbrev pub ComesFrom : Fields → CostSource → Type 0
 ComesFrom f (Distances metric) = (f.weight_kind ≡ Some (weight_kind_of metric)) × IsSome f.coords
 ComesFrom f (Weights layout) = (f.weight_kind ≡ Some Explicit) × (f.weight_format ≡ Some (Listed layout)) × IsSome f.weights
 
-pub record HasFound (f : Fields) (nodes : ℕ) (source : Source) : Type 0 where
+pub record HasFound (f : Fields) (nodes : ℕ) (source : CostSource) : Type 0 where
   pub instance : IsTrue (is_instance f.kind)
   pub range : IsInRange f
   pub dimension : f.dimension ≡ Some nodes
