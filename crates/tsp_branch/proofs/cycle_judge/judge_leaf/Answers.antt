@@ -47,7 +47,9 @@ fill_moved-requires-clause-ends g c =
     let ms_len : length c.deref.result.now ≡ length s.families.now.crossed.items =
     ap length (c.deref.ensures.value ∙ written room.multipliers.len c.judge_numbers.new.multipliers _ (c.judge_numbers.ensures.multipliers_len ∙ c.deref_mut-2.ensures.len))
     ∙ c.judge_numbers.ensures.multipliers_len ∙ ap length c.deref_mut-2.ensures.value ∙ c.requires.room.multipliers in
-    let brought = c.bring_to.ensures.kept n s.cases.now.scale cost marks (subst (λ (k : ℕ). HoldsRows n k s.cases.now.scale (lent_in s.families.now) cost marks room.kept) (sym ms_len) c.requires.kept) s.table in
+    let brought = c.bring_to.ensures.kept n s.cases.now.scale cost marks
+    (subst (λ (k : ℕ). HoldsRows n k s.cases.now.scale (lent_in s.families.now) cost marks room.kept)
+    (sym ms_len) c.requires.kept) s.table in
     let places = ap length c.deref-3.ensures.value ∙ brought.ends.places in
     omega (arith, places, ps_len)
 
@@ -110,7 +112,9 @@ returns-clause-kept g c =
     let ms_len : length c.deref.result.now ≡ length s.families.now.crossed.items =
     ap length (c.deref.ensures.value ∙ written room.multipliers.len c.judge_numbers.new.multipliers _ (c.judge_numbers.ensures.multipliers_len ∙ c.deref_mut-2.ensures.len))
     ∙ c.judge_numbers.ensures.multipliers_len ∙ ap length c.deref_mut-2.ensures.value ∙ c.requires.room.multipliers in
-    let brought = c.bring_to.ensures.kept n s.cases.now.scale cost marks (subst (λ (k : ℕ). HoldsRows n k s.cases.now.scale (lent_in s.families.now) cost marks room.kept) (sym ms_len) c.requires.kept) s.table in
+    let brought = c.bring_to.ensures.kept n s.cases.now.scale cost marks
+    (subst (λ (k : ℕ). HoldsRows n k s.cases.now.scale (lent_in s.families.now) cost marks room.kept)
+    (sym ms_len) c.requires.kept) s.table in
     subst (λ (k : ℕ). HoldsRows n k s.cases.now.scale (lent_in s.families.now) cost marks c.bring_to.new.self) ms_len brought
 
 pub returns-clause-judged : goal.returns-clause-judged

@@ -43,5 +43,6 @@ returns g c =
       value = omega (arith, ints, product, size.0, size.1, first.0, first.1, second.0, second.1, c.weight_in.ensures, c.weight_in-2.ensures, cost);
       size = between_size (q.setting.now.cases.now.scale *ℤ cost_at) (entry q.potentials.now c.args.from) (entry q.potentials.now c.args.to)
           (subst (λ (z : ℤ). IsFromTo (neg_ℤ (pos (most_scale * most_weight))) (pos (most_scale * most_weight)) (q.setting.now.cases.now.scale *ℤ z)) c.requires.cost size)
-          (q.numbers.potentials_are (c.args.from - 1) (pos 0) (omega (arith, c.requires.from, q.numbers.each_node))) (q.numbers.potentials_are (c.args.to - 1) (pos 0) (omega (arith, c.requires.to, q.numbers.each_node)));
+          (q.numbers.potentials_are (c.args.from - 1) (pos 0) (omega (arith, c.requires.from, q.numbers.each_node)))
+          (q.numbers.potentials_are (c.args.to - 1) (pos 0) (omega (arith, c.requires.to, q.numbers.each_node)));
     }

@@ -54,7 +54,9 @@ returns g c =
     let value_is : to_z w64 (of_z w64 c.sum_left.result) ≡ int_wrap w64 (c.args.base +ℤ c.shared_by-shared.result) =
     to_z-of_z w64 c.sum_left.result fits ∙ c.sum_left.ensures
     ∙ ap₂ (λ (a b : ℤ). int_wrap w64 (a +ℤ b)) (to_z-of_z w64 c.args.base base_fits) (to_z-of_z w64 c.shared_by-shared.result shared_fits) in
-    let both = boxed_at q.setting.now.cases.now.scale q.potentials.now ms families (g.C.Costs.at q.setting.now.costs.now) from to (least_at q.moved.now from) (least_at q.moved.now to) c.args.base q.setting.now.families.now.once
+    let both = boxed_at q.setting.now.cases.now.scale q.potentials.now ms families
+    (g.C.Costs.at q.setting.now.costs.now) from to (least_at q.moved.now from)
+    (least_at q.moved.now to) c.args.base q.setting.now.families.now.once
     (p.exact from c.requires.from).0 (p.exact to c.requires.to).0 c.requires.base c.shared_by-shared.result (to_z w64 (of_z w64 c.sum_left.result)) c.requires.size
     (q.crossed from to c.requires.from c.requires.to) shared value_is in
     record { value = both.0; size = both.1 }

@@ -24,9 +24,13 @@ returns-clause-value g c =
 pub returns-clause-no_more : goal.returns-clause-no_more
 returns-clause-no_more g c = λ to node.
     let q = c.args.self.now.leaf.now in
-    lowered_no_more (decisions_in c.args.self.now.leaf.now.case.now) (set_weight q.setting.now.cases.now.scale q.potentials.now q.multipliers.now (lent_in q.setting.now.families.now) (g.C.Costs.at q.setting.now.costs.now)) c.args.from to
+    lowered_no_more (decisions_in c.args.self.now.leaf.now.case.now)
+    (set_weight q.setting.now.cases.now.scale q.potentials.now q.multipliers.now (lent_in q.setting.now.families.now)
+    (g.C.Costs.at q.setting.now.costs.now)) c.args.from to
 
 pub returns-clause-others : goal.returns-clause-others
 returns-clause-others g c = λ to node none.
     let q = c.args.self.now.leaf.now in
-    others_same (decisions_in c.args.self.now.leaf.now.case.now) (set_weight q.setting.now.cases.now.scale q.potentials.now q.multipliers.now (lent_in q.setting.now.families.now) (g.C.Costs.at q.setting.now.costs.now)) c.args.from to none
+    others_same (decisions_in c.args.self.now.leaf.now.case.now)
+    (set_weight q.setting.now.cases.now.scale q.potentials.now q.multipliers.now (lent_in q.setting.now.families.now)
+    (g.C.Costs.at q.setting.now.costs.now)) c.args.from to none

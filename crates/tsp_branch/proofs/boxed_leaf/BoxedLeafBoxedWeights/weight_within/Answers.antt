@@ -23,8 +23,13 @@ returns-then-base-most-clause-no_less g c = λ above.
     let case : List Decision = decisions_in p.leaf.now.case.now in
     let fits : FitsSigned w64 c.base-base.result = search rules in
     let back = to_z-of_z w64 c.base-base.result fits in
-    let below = base_below q.setting.now.cases.now.scale q.potentials.now q.multipliers.now (lent_in q.setting.now.families.now) (g.C.Costs.at q.setting.now.costs.now) c.args.from.now.site.node c.args.to.now.site.node (least_at q.moved.now c.args.from.now.site.node)
-    (least_at q.moved.now c.args.to.now.site.node) c.base-base.result q.setting.now.families.now.once (p.exact c.args.from.now.site.node c.requires.from.site.node_in).0 (p.exact c.args.to.now.site.node c.requires.to.site.node_in).0 c.base-base.ensures.value case (small_multipliers _ q.setting.now.families.now.crossed.items _ _ q.setting.now.families.now.some q.numbers)
+    let below = base_below q.setting.now.cases.now.scale q.potentials.now q.multipliers.now
+    (lent_in q.setting.now.families.now) (g.C.Costs.at q.setting.now.costs.now) c.args.from.now.site.node
+    c.args.to.now.site.node (least_at q.moved.now c.args.from.now.site.node)
+    (least_at q.moved.now c.args.to.now.site.node) c.base-base.result q.setting.now.families.now.once
+    (p.exact c.args.from.now.site.node c.requires.from.site.node_in).0
+    (p.exact c.args.to.now.site.node c.requires.to.site.node_in).0 c.base-base.ensures.value case
+    (small_multipliers _ q.setting.now.families.now.crossed.items _ _ q.setting.now.families.now.some q.numbers)
     (q.numbers.each_comb ∙ q.setting.now.families.now.as_many) q.setting.now.families.now.many q.setting.now.families.now.as_many in
     omega (arith, ints, above, back, below)
 

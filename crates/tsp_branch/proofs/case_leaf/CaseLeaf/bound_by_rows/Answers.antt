@@ -53,7 +53,9 @@ returns-clause-bound g c =
     let sets : ℕ → ℕ → ℤ = set_weight p.cases.now.scale ps ms (lent_in families) cost in
     let w : ℕ → ℕ → ℤ = decided_by p.cases.now.directed case sets in
     let agree : (i j : ℕ) → w i j ≡ combed combs (weight_between p.cases.now.scale ps cost) i j = λ i j.
-    ap (λ (d : Bool). decided_by d case sets i j) c.requires.directed ∙ row_weight families.crossed.items p.cases.now.scale ps ms (lent_in families) cost i j families.many (good.each_comb ∙ families.many) in
+    ap (λ (d : Bool). decided_by d case sets i j) c.requires.directed
+    ∙ row_weight families.crossed.items p.cases.now.scale ps ms (lent_in families) cost i j families.many
+    (good.each_comb ∙ families.many) in
     let back : ℤ = c.given_back.result in
     let fits : FitsSigned w128 c.given_back.result = search rules in
     let back_is : to_z w128 (of_z w128 back) ≡ least_of combs -ℤ (pos 2 *ℤ total ps) =

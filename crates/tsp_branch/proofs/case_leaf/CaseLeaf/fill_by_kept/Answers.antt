@@ -50,7 +50,8 @@ returns g c =
     let size = between_size (q.setting.now.cases.now.scale *ℤ cost from x) (entry ps from) (entry ps x) (scaled_size q.setting.now.cases.now.scale _ q.setting.now.cases.now.scaled small.0 small.1)
     (q.numbers.potentials_are (from - 1) (pos 0) (omega (arith, c.requires.from, q.numbers.each_node))) (q.numbers.potentials_are (x - 1) (pos 0) (omega (arith, x_in, q.numbers.each_node))) in
     let value_is = c.fill_shifted.ensures x (omega (arith, x_in, c.requires.room)) in
-    let is = marked_at q.setting.now.cases.now.scale ps ms families cost (marks_in directed case) from x (to_z w64 (of_z w64 m)) (least_at q.moved.now x) (least_at c.deref.result.now x) (least_at row x)
+    let is = marked_at q.setting.now.cases.now.scale ps ms families cost (marks_in directed case) from x
+    (to_z w64 (of_z w64 m)) (least_at q.moved.now x) (least_at c.deref.result.now x) (least_at row x)
     q.setting.now.families.now.once (q.crossed from x c.requires.from x_in) size m_is (q.are_moved x x_in) (kept.weights x x_in) value_is in
     marked_is case w from x directed (least_at row x) q.once is.0 is.1 in
     record {

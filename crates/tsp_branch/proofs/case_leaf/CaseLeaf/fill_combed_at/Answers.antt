@@ -46,7 +46,8 @@ returns g c =
     subst (λ (ps : List SetPlace). IsMoved (inside_both multipliers families ps x) (least_at old x) (least_at row x)) places_are (c.add_sets.ensures x) in
     let node : ℕ → ℕ = slice_index c.args.to.now in
     let both : (k : ℕ) → k < length c.args.to.now
-    → (least_at row (node k) ≡ set_weight p.setting.now.cases.now.scale p.potentials.now multipliers families cost from (node k)) × IsFromTo (neg_ℤ (pos most_combed)) (pos most_combed) (least_at row (node k)) = λ k h.
+    → (least_at row (node k) ≡ set_weight p.setting.now.cases.now.scale p.potentials.now multipliers families cost from
+    (node k)) × IsFromTo (neg_ℤ (pos most_combed)) (pos most_combed) (least_at row (node k)) = λ k h.
     combed_at p.setting.now.cases.now.scale p.potentials.now multipliers families cost from (node k) (least_at old (node k)) (least_at row (node k)) p.setting.now.families.now.once
     (p.crossed from (node k) c.requires.from (c.requires.to k h)) (c.fill_apart_at.ensures k h) (gained (node k)) in
     record {

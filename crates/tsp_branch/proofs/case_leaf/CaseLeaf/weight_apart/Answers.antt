@@ -31,7 +31,8 @@ returns g c =
     let moved_in : FitsSigned w64 c.weight_in.result = search rules in
     let inner_in : FitsSigned w64 c.sum_left.result = search rules in
     let value_in : FitsSigned w64 c.sum_left-2.result = search rules in
-    let product = product_is p.setting.now.cases.now.scale c.cost.result p.setting.now.cases.now.scaled c.cost.ensures.low c.cost.ensures.high ∙ ap (λ z. p.setting.now.cases.now.scale *ℤ z) c.cost.ensures.value in
+    let product = product_is p.setting.now.cases.now.scale c.cost.result p.setting.now.cases.now.scaled c.cost.ensures.low
+    c.cost.ensures.high ∙ ap (λ z. p.setting.now.cases.now.scale *ℤ z) c.cost.ensures.value in
     let inner_is : inner ≡ int_wrap w64 (own +ℤ k) =
     ap₂ (λ (a b : ℤ). int_wrap w64 (a +ℤ b)) (to_z-of_z w64 own own_in) (to_z-of_z w64 c.weight_in.result moved_in ∙ c.weight_in.ensures) in
     let value_is : value ≡ int_wrap w64 ((p.setting.now.cases.now.scale *ℤ cost) +ℤ inner) =
@@ -44,5 +45,6 @@ returns g c =
       size = between_size (p.setting.now.cases.now.scale *ℤ cost) (entry p.potentials.now from) (entry p.potentials.now x)
           (subst (λ (z : ℤ). IsFromTo (neg_ℤ (pos (most_scale * most_weight))) (pos (most_scale * most_weight)) (p.setting.now.cases.now.scale *ℤ z)) c.cost.ensures.value
           (scaled_size p.setting.now.cases.now.scale c.cost.result p.setting.now.cases.now.scaled c.cost.ensures.low c.cost.ensures.high))
-          (p.numbers.potentials_are (from - 1) (pos 0) (omega (arith, c.requires.from, p.numbers.each_node))) (p.numbers.potentials_are (x - 1) (pos 0) (omega (arith, c.requires.to, p.numbers.each_node)));
+          (p.numbers.potentials_are (from - 1) (pos 0) (omega (arith, c.requires.from, p.numbers.each_node)))
+          (p.numbers.potentials_are (x - 1) (pos 0) (omega (arith, c.requires.to, p.numbers.each_node)));
     }

@@ -34,7 +34,9 @@ returns-then-not-self-clause-values g c = λ k h.
     let w : ℕ → ℕ → ℤ = set_weight q.setting.now.cases.now.scale q.potentials.now q.multipliers.now (lent_in q.setting.now.families.now) (g.C.Costs.at q.setting.now.costs.now) in
     let own_is = subst (λ (d : Bool). stack_of c.at.result.now ≡ filter (bears_on d from) case) (q.direction ∙ c.if-not-self.true)
     (c.at.ensures (g.C.Costs.nodes q.setting.now.costs.now) q.is_case c.requires.from.1) in
-    (changed_is case w from (slice_index c.args.to.now k) q.setting.now.cases.now.directed c.at.result.now (least_at c.fill_combed_at.new.row (slice_index c.args.to.now k)) (least_at c.change_row.new.row (slice_index c.args.to.now k))
+    (changed_is case w from (slice_index c.args.to.now k) q.setting.now.cases.now.directed c.at.result.now
+    (least_at c.fill_combed_at.new.row (slice_index c.args.to.now k))
+    (least_at c.change_row.new.row (slice_index c.args.to.now k))
     c.if-not-self.true q.once own_is (c.fill_combed_at.ensures.values k h) (c.fill_combed_at.ensures.sizes k h) (c.change_row.ensures (slice_index c.args.to.now k))).0
 
 pub returns-then-not-self-clause-small : goal.returns-then-not-self-clause-small
@@ -45,5 +47,7 @@ returns-then-not-self-clause-small g c = λ k h.
     let w : ℕ → ℕ → ℤ = set_weight q.setting.now.cases.now.scale q.potentials.now q.multipliers.now (lent_in q.setting.now.families.now) (g.C.Costs.at q.setting.now.costs.now) in
     let own_is = subst (λ (d : Bool). stack_of c.at.result.now ≡ filter (bears_on d from) case) (q.direction ∙ c.if-not-self.true)
     (c.at.ensures (g.C.Costs.nodes q.setting.now.costs.now) q.is_case c.requires.from.1) in
-    (changed_is case w from (slice_index c.args.to.now k) q.setting.now.cases.now.directed c.at.result.now (least_at c.fill_combed_at.new.row (slice_index c.args.to.now k)) (least_at c.change_row.new.row (slice_index c.args.to.now k))
+    (changed_is case w from (slice_index c.args.to.now k) q.setting.now.cases.now.directed c.at.result.now
+    (least_at c.fill_combed_at.new.row (slice_index c.args.to.now k))
+    (least_at c.change_row.new.row (slice_index c.args.to.now k))
     c.if-not-self.true q.once own_is (c.fill_combed_at.ensures.values k h) (c.fill_combed_at.ensures.sizes k h) (c.change_row.ensures (slice_index c.args.to.now k))).1
