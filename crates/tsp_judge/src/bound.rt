@@ -7,8 +7,8 @@ ghost use Rattle.tsp_read.specs.Asked.{IsReadOn};
 ghost use Rattle.tsp_read.specs.Reads.{IsFile, most_taken};
 ghost use Rattle.tsp_judge.specs.BoundRun.{BoundsFiles, IsBoundRunOf};
 
-use crate::file::read_file;
 use crate::run_error::RunError;
+use crate::run_file::read_file;
 use std::alloc::Global;
 use std::io::Write;
 use tsp_cost::Instance;

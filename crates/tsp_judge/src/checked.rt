@@ -8,9 +8,9 @@ ghost use Rattle.tsp_read.specs.Reads.{IsFile, most_taken};
 ghost use Rattle.tsp_judge.specs.CheckRun.{Given, given_by, IsFileIn, ReadsGiven};
 ghost use Rattle.tsp_judge.specs.Yes.{IsRunOf};
 
-use crate::file::read_file;
 use crate::judging::{Judged, judge_files};
 use crate::run_error::RunError;
+use crate::run_file::read_file;
 use std::alloc::Global;
 use std::io::Write;
 use tsp_cost::Instance;

@@ -15,8 +15,8 @@ ghost use Rattle.tsp_judge.specs.Following.{IsFollowedBy, IsFollowed};
 
 use crate::checked::read_certificate;
 use crate::common::{Common, Found, common_of, find, status_of_found};
-use crate::file::read_file;
 use crate::run_error::RunError;
+use crate::run_file::read_file;
 use crate::solutions::{Follow, Solutions};
 use crate::status::Status;
 use std::alloc::Global;

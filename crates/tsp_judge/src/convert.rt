@@ -6,8 +6,8 @@ ghost use Rattle.tsp_read.specs.Asked.{IsReadOn};
 ghost use Rattle.tsp_read.specs.Reads.{most_taken};
 ghost use Rattle.tsp_judge.specs.ConvertRun.{Becomes, IsConvertRun};
 
-use crate::file::read_file;
 use crate::run_error::RunError;
+use crate::run_file::read_file;
 use std::alloc::Global;
 use std::io::Write;
 use tsp_file::{File, RelayoutFault, write_file};

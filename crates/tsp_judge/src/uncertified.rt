@@ -11,9 +11,9 @@ ghost use Rattle.tsp_judge.specs.Yes.{IsRunOf};
 
 use crate::checked::judge_read;
 use crate::compared::{Compared, compare_read};
-use crate::file::read_file;
 use crate::judging::Judged;
 use crate::run_error::RunError;
+use crate::run_file::read_file;
 use crate::solutions::{Follow, Solutions};
 use std::alloc::Global;
 use std::io::Write;
