@@ -1,5 +1,5 @@
 -- The result of a call in numbers. A number that it doesn't have is 0.
-use Rattle.std.specs.Prelude.{◌≡◌, ℕ, ◌≤◌, ◌<◌, ◌^◌, Bool, List, Option, None, Some, Result, Ok, Err, IsTrue, ℤ, pos, unsigned_abs}
+use Rattle.std.specs.Prelude.{◌≡◌, ℕ, ◌≤◌, ◌<◌, ◌^◌, Bool, List, Option, None, Some, Result, Ok, Err, IsTrue, unwrap_or, ℤ, pos, unsigned_abs}
 use Rattle.std.specs.Int.{int_div_euclid, int_rem_euclid}
 use Rattle.tsp_format.specs.declared.kinds.Kind.{Kind}
 use Rattle.tsp_format.specs.declared.kinds.Kind.TheVariants as kinds
@@ -18,16 +18,15 @@ use Rattle.tsp_reason.specs.declared.certificate.Certificate.{Certificate}
 use Rattle.tsp_reason.specs.declared.verdict.BoundVerdict.{BoundVerdict}
 use Rattle.tsp_reason.specs.declared.verdict.BoundVerdict.TheVariants as bounds
 use Rattle.tsp_reason.specs.declared.verdict.Reason.{Reason}
-use Rattle.tsp_reason.specs.declared.verdict.Reason.TheVariants.{NotSymmetric, DepotInRoute, NodeOutOfRange, RepeatedNode, FixedEdgeUnused, Unserved, Overload, LengthClaimed, MultiplierNotFixed, MultiplierRepeated, DualInfeasible, BadComb, BadBranch, BranchTwice, BadLeaf}
 use Rattle.tsp_reason.specs.declared.verdict.Verdict.{Verdict}
 use Rattle.tsp_reason.specs.declared.verdict.Verdict.TheVariants as verdicts
+use Rattle.tsp_reason.specs.ReasonRows.{rank_of, row_of_reason}
 use Rattle.tsp_reason.specs.Verdicts.{is_yes, is_bound_yes}
 use Rattle.tsp_report.specs.Report.{IsGapSized}
 use Rattle.tsp_verdict.specs.Bounded.{IsBoundVerdict}
 use Rattle.tsp_verdict.specs.Certified.{is_bounded}
 use Rattle.tsp_verdict.specs.SolutionVerdict.{is_judged}
 use Rattle.tsp_verdict.specs.Strict.{IsVerdictAsked}
-use Rattle.tsp_verdict.specs.Reasons.{rank_of}
 use Rattle.tsp_judge.specs.declared.bound.Bounded.{Bounded}
 use Rattle.tsp_judge.specs.declared.judging.Judged.{Judged}
 use Rattle.tsp_judge.specs.declared.fault.RunFault.{RunFault}
@@ -87,27 +86,10 @@ with_bound told bound = record told { bound_high = high_half bound; bound_low = 
 -- ---- a reason: its place in the order in which reasons are judged, and its numbers
 
 abbrev pub first_number : Reason → ℤ
-first_number (NotSymmetric i j) = pos i
-first_number (DepotInRoute place) = pos place
-first_number (NodeOutOfRange place) = pos place
-first_number (RepeatedNode place) = pos place
-first_number (FixedEdgeUnused index) = pos index
-first_number (Unserved node) = pos node
-first_number (Overload route) = pos route
-first_number (LengthClaimed length) = length
-first_number (MultiplierNotFixed index) = pos index
-first_number (MultiplierRepeated index) = pos index
-first_number (DualInfeasible i j) = pos i
-first_number (BadComb index) = pos index
-first_number (BadBranch index) = pos index
-first_number (BranchTwice index) = pos index
-first_number (BadLeaf index) = pos index
-first_number reason = pos 0
+first_number reason = unwrap_or (row_of_reason reason).numbers.0 (pos 0)
 
 abbrev pub second_number : Reason → ℤ
-second_number (NotSymmetric i j) = pos j
-second_number (DualInfeasible i j) = pos j
-second_number reason = pos 0
+second_number reason = unwrap_or (row_of_reason reason).numbers.1 (pos 0)
 
 abbrev pub with_reason : Told → Reason → Told
 with_reason told reason = record told {

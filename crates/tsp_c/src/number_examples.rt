@@ -16,7 +16,6 @@ ghost use Rattle.tsp_reason.specs.declared.verdict.Reason.TheVariants as reasons
 ghost use Rattle.tsp_reason.specs.declared.verdict.Verdict.TheVariants as verdicts;
 ghost use Rattle.tsp_text.specs.declared.fault.LineFault.TheVariants as line_faults;
 ghost use Rattle.tsp_text.specs.declared.fault.ReadFault.TheVariants as read_faults;
-ghost use Rattle.tsp_verdict.specs.Reasons.{rank_of};
 ghost use Rattle.tsp_c.specs.declared.told.Told.{Told};
 ghost use Rattle.tsp_c.specs.Ended.{nth};
 ghost use Rattle.tsp_c.specs.NumberCalls.{EndsPoints, coordinate, distance_kinds, section_points};
@@ -54,22 +53,10 @@ pub fn examples_of_sections()
 
 /// A reason, and its numbers. A length that is claimed may be below 0.
 pub fn examples_of_reason_numbers()
-    ensures ranks { map rank_of (reasons.NotASolution ∷ reasons.TooFewNodes ∷ reasons.NotSymmetric 7 8 ∷ reasons.Dimension
-        ∷ reasons.TourCount ∷ reasons.TourLength ∷ reasons.DepotCount ∷ reasons.DepotDemand ∷ reasons.FixedEdgesInRoutes
-        ∷ reasons.DepotInRoute 7 ∷ reasons.NodeOutOfRange 7 ∷ reasons.RepeatedNode 7 ∷ reasons.FixedEdgeUnused 7
-        ∷ reasons.Unserved 7 ∷ reasons.Overload 7 ∷ reasons.LengthClaimed (pos 7) ∷ reasons.NotPotentials
-        ∷ reasons.PotentialsDimension ∷ reasons.PotentialsKind ∷ reasons.MultiplierNotFixed 7 ∷ reasons.MultiplierRepeated 7
-        ∷ reasons.DualInfeasible 7 8 ∷ reasons.NotBranches ∷ reasons.BranchesDimension ∷ reasons.BadComb 7
-        ∷ reasons.BadBranch 7 ∷ reasons.BranchTwice 7 ∷ reasons.BadLeaf 7 ∷ reasons.TooManyLoads ∷ reasons.NotJudged ∷ []) ≡ 1 ∷ 2 ∷ 3 ∷ 4 ∷ 5 ∷ 6 ∷ 7 ∷ 8 ∷ 9 ∷ 10 ∷ 11 ∷ 12 ∷ 13
-        ∷ 14 ∷ 15 ∷ 16 ∷ 17 ∷ 18 ∷ 19 ∷ 20 ∷ 21 ∷ 22 ∷ 23 ∷ 24 ∷ 25 ∷ 26 ∷ 27 ∷ 28 ∷ 29 ∷ 30 ∷ [] }
-    ensures first { map first_number (reasons.NotSymmetric 1 20 ∷ reasons.DepotInRoute 2 ∷ reasons.NodeOutOfRange 3
-        ∷ reasons.RepeatedNode 4 ∷ reasons.FixedEdgeUnused 5 ∷ reasons.Unserved 6 ∷ reasons.Overload 7
-        ∷ reasons.MultiplierNotFixed 8 ∷ reasons.MultiplierRepeated 9 ∷ reasons.DualInfeasible 10 20 ∷ reasons.BadComb 11
-        ∷ reasons.BranchTwice 12 ∷ reasons.BadLeaf 13 ∷ reasons.BadBranch 14 ∷ reasons.TourCount ∷ reasons.TooManyLoads ∷ []) ≡ pos 1 ∷ pos 2 ∷ pos 3 ∷ pos 4 ∷ pos 5
-        ∷ pos 6 ∷ pos 7 ∷ pos 8 ∷ pos 9 ∷ pos 10 ∷ pos 11 ∷ pos 12 ∷ pos 13 ∷ pos 14 ∷ pos 0 ∷ pos 0 ∷ [] }
+    ensures one { first_number (reasons.Unserved 6) ≡ pos 6 }
+    ensures none { first_number reasons.TourCount ≡ pos 0 }
     ensures claimed { first_number (reasons.LengthClaimed (negsuc 4)) ≡ negsuc 4 }
-    ensures second { map second_number (reasons.NotSymmetric 1 20 ∷ reasons.DualInfeasible 1 30 ∷ reasons.Unserved 6 ∷ [])
-        ≡ pos 20 ∷ pos 30 ∷ pos 0 ∷ [] }
+    ensures second { second_number (reasons.Unserved 6) ≡ pos 0 }
     ensures told { (instance : Fields) → let told : Told = told_of_verdict instance (verdicts.No (reasons.DualInfeasible 7 8)) in
         (told.reason ≡ 22) × (told.first ≡ pos 7) × (told.second ≡ pos 8) }
 {}

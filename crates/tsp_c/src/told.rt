@@ -2,14 +2,13 @@
 
 ghost use Rattle.std.specs.Prelude.{◌≡◌, ◌≢◌, Some, IfOk};
 ghost use Rattle.tsp_report.specs.Report.{IsGapSized, IsSized};
-ghost use Rattle.tsp_verdict.specs.Reasons.{rank_of};
-ghost use Rattle.tsp_c.specs.Told.{IsSizedBound, blank_told, told_field, field_number, first_number, kind_number, line_fault_number, number_fault_number, told_number, read_fault_number, second_number, told_of_bound, told_of_bound_run, told_of_fault, told_of_instance, told_of_run, told_of_verdict, with_bound, with_reason};
+ghost use Rattle.tsp_c.specs.Told.{IsSizedBound, blank_told, told_field, field_number, kind_number, line_fault_number, number_fault_number, told_number, read_fault_number, told_of_bound, told_of_bound_run, told_of_fault, told_of_instance, told_of_run, told_of_verdict, with_bound, with_reason};
 
 use tsp_cost::{Costs, Instance};
 use tsp_format::{Field, Kind};
 use tsp_judge::{Bounded, EndFault, Judged, LineFault, ReadFault, RunError, RunFault, Status};
 use tsp_number::NumberFault;
-use tsp_reason::{BoundVerdict, Reason, Verdict};
+use tsp_reason::{BoundVerdict, Reason, Verdict, row_of_reason};
 
 /// The verdicts by their numbers.
 const TOUR: u32 = 1;
@@ -265,11 +264,12 @@ impl Told {
     fn with_reason(self, reason: Reason) -> Told
         ensures { result ≡ with_reason self reason }
     {
+        let row = row_of_reason(reason);
         Told {
             verdict: REJECTED,
-            reason: reason_number(reason),
-            first: first_number(reason),
-            second: second_number(reason),
+            reason: row.rank,
+            first: row.numbers.0.unwrap_or(0),
+            second: row.numbers.1.unwrap_or(0),
             ..self
         }
     }
@@ -284,77 +284,6 @@ fn kind_number(kind: Kind) -> u32
         Kind::Atsp => 2,
         Kind::Cvrp => 3,
         Kind::Tour | Kind::Potentials | Kind::Branches => 0,
-    }
-}
-
-/// The number of a reason: its place in the order in which reasons are judged.
-fn reason_number(reason: Reason) -> u32
-    ensures { result ≡ rank_of reason }
-{
-    match reason {
-        Reason::NotASolution => 1,
-        Reason::TooFewNodes => 2,
-        Reason::NotSymmetric { .. } => 3,
-        Reason::Dimension => 4,
-        Reason::TourCount => 5,
-        Reason::TourLength => 6,
-        Reason::DepotCount => 7,
-        Reason::DepotDemand => 8,
-        Reason::FixedEdgesInRoutes => 9,
-        Reason::DepotInRoute { .. } => 10,
-        Reason::NodeOutOfRange { .. } => 11,
-        Reason::RepeatedNode { .. } => 12,
-        Reason::FixedEdgeUnused { .. } => 13,
-        Reason::Unserved { .. } => 14,
-        Reason::Overload { .. } => 15,
-        Reason::LengthClaimed { .. } => 16,
-        Reason::NotPotentials => 17,
-        Reason::PotentialsDimension => 18,
-        Reason::PotentialsKind => 19,
-        Reason::MultiplierNotFixed { .. } => 20,
-        Reason::MultiplierRepeated { .. } => 21,
-        Reason::DualInfeasible { .. } => 22,
-        Reason::NotBranches => 23,
-        Reason::BranchesDimension => 24,
-        Reason::BadComb { .. } => 25,
-        Reason::BadBranch { .. } => 26,
-        Reason::BranchTwice { .. } => 27,
-        Reason::BadLeaf { .. } => 28,
-        Reason::TooManyLoads => 29,
-        Reason::NotJudged => 30,
-    }
-}
-
-/// The first number of a reason, or 0.
-fn first_number(reason: Reason) -> i64
-    ensures { result ≡ first_number reason }
-{
-    match reason {
-        Reason::NotSymmetric { i, .. } | Reason::DualInfeasible { i, .. } => i64::from(i),
-        Reason::DepotInRoute { place }
-        | Reason::NodeOutOfRange { place }
-        | Reason::RepeatedNode { place } => i64::from(place),
-        Reason::FixedEdgeUnused { index }
-        | Reason::MultiplierNotFixed { index }
-        | Reason::MultiplierRepeated { index }
-        | Reason::BadComb { index }
-        | Reason::BadBranch { index }
-        | Reason::BranchTwice { index }
-        | Reason::BadLeaf { index } => i64::from(index),
-        Reason::Unserved { node } => i64::from(node),
-        Reason::Overload { route } => i64::from(route),
-        Reason::LengthClaimed { length } => length,
-        _ => 0,
-    }
-}
-
-/// The second number of a reason, or 0.
-fn second_number(reason: Reason) -> i64
-    ensures { result ≡ second_number reason }
-{
-    match reason {
-        Reason::NotSymmetric { j, .. } | Reason::DualInfeasible { j, .. } => i64::from(j),
-        _ => 0,
     }
 }
 

@@ -11,10 +11,13 @@
 
 mod basis;
 mod certificate;
+mod examples;
+mod reason_table;
 mod role;
 mod verdict;
 
 pub use basis::Basis;
 pub use certificate::Certificate;
+pub use reason_table::{ReasonRow, row_of_reason};
 pub use role::{Role, blamed, role_by};
 pub use verdict::{BoundVerdict, Reason, Verdict};

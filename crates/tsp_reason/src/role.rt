@@ -1,9 +1,11 @@
 //! What a file is given for, and which file a reason is about.
 
 ghost use Rattle.std.specs.Prelude.{◌≡◌};
-ghost use Rattle.tsp_reason.specs.Roles.{role_by, role_of};
+ghost use Rattle.tsp_reason.specs.ReasonRows.{role_of};
+ghost use Rattle.tsp_reason.specs.Roles.{role_by};
 
 use crate::certificate::Certificate;
+use crate::reason_table::row_of_reason;
 use crate::verdict::Reason;
 
 /// What a file of a task is given for.
@@ -33,36 +35,5 @@ pub fn role_by(by: Certificate) -> Role
 pub fn blamed(reason: Reason) -> Role
     ensures { result ≡ role_of reason }
 {
-    match reason {
-        Reason::TooFewNodes
-        | Reason::NotSymmetric { .. }
-        | Reason::DepotCount
-        | Reason::DepotDemand
-        | Reason::FixedEdgesInRoutes
-        | Reason::NotJudged => Role::Instance,
-        Reason::NotASolution
-        | Reason::Dimension
-        | Reason::TourCount
-        | Reason::TourLength
-        | Reason::NodeOutOfRange { .. }
-        | Reason::RepeatedNode { .. }
-        | Reason::FixedEdgeUnused { .. }
-        | Reason::DepotInRoute { .. }
-        | Reason::Unserved { .. }
-        | Reason::Overload { .. }
-        | Reason::LengthClaimed { .. } => Role::Solution,
-        Reason::NotPotentials
-        | Reason::PotentialsDimension
-        | Reason::PotentialsKind
-        | Reason::MultiplierNotFixed { .. }
-        | Reason::MultiplierRepeated { .. }
-        | Reason::DualInfeasible { .. } => Role::Potentials,
-        Reason::NotBranches
-        | Reason::BranchesDimension
-        | Reason::BadComb { .. }
-        | Reason::BadBranch { .. }
-        | Reason::BranchTwice { .. }
-        | Reason::BadLeaf { .. }
-        | Reason::TooManyLoads => Role::Branches,
-    }
+    row_of_reason(reason).role
 }

@@ -1,15 +1,10 @@
 //! What is said of a solution of an instance.
 
-/// Why a solution is refused. Places, routes, fixed pairs, multipliers, combs, branches and leaves
-/// count from 1: places through all tours of the solution, one after the other, branches and leaves
-/// through their section.
+/// Why a solution is refused, in the order in which reasons are judged.
 ///
-/// The reasons of a tour are judged in the order in which they are listed here, up to
-/// `FixedEdgeUnused`, and then those of a certificate by potentials or of one by branching; those
-/// of routes in the order `NotASolution`, `TooFewNodes`, `Dimension`, `DepotCount`, `DepotDemand`,
-/// `FixedEdgesInRoutes`, `DepotInRoute`, `NodeOutOfRange`, `RepeatedNode`, `Unserved`, `Overload`.
-/// `LengthClaimed` is judged after those against the solution, and before those of a certificate.
-/// `NotJudged` is judged after all others.
+/// Places, routes, fixed pairs, multipliers, combs, branches and leaves count from 1: places
+/// through all tours of the solution, one after the other, branches and leaves through their
+/// section.
 #[derive(Clone, Copy, Debug, PartialEq, Eq)]
 pub enum Reason {
     /// The solution is not a file of TYPE TOUR.
@@ -25,6 +20,14 @@ pub enum Reason {
     TourCount,
     /// The tour does not have as many nodes as the instance.
     TourLength,
+    /// The instance does not list exactly one depot.
+    DepotCount,
+    /// The depot has a demand other than 0.
+    DepotDemand,
+    /// The instance lists a fixed pair.
+    FixedEdgesInRoutes,
+    /// The node at this place is the first one that is the depot.
+    DepotInRoute { place: u32 },
     /// The node at this place is the first one larger than the number of nodes.
     NodeOutOfRange { place: u32 },
     /// The node at this place is the first one that is at an earlier place too.
@@ -32,6 +35,13 @@ pub enum Reason {
     /// This fixed pair is the first one that the tour does not use: as neighbours in either
     /// direction, and under TYPE ATSP from its first to its second node alone.
     FixedEdgeUnused { index: u32 },
+    /// This node is the least one, the depot aside, that is in no route.
+    Unserved { node: u32 },
+    /// This route is the first one whose demands sum to more than the capacity.
+    Overload { route: u32 },
+    /// No other reason applies to the solution, and its length, which is this one, isn't the
+    /// length that is claimed.
+    LengthClaimed { length: i64 },
     /// The certificate is not a file of TYPE POTENTIALS.
     NotPotentials,
     /// The certificate has a DIMENSION other than that of the instance.
@@ -48,18 +58,6 @@ pub enum Reason {
     /// The instance is of TYPE ATSP, and this is the first pair of different nodes, by rows, whose
     /// potentials of row and column sum to more than the cost at the scale.
     DualInfeasible { i: u32, j: u32 },
-    /// The instance does not list exactly one depot.
-    DepotCount,
-    /// The depot has a demand other than 0.
-    DepotDemand,
-    /// The instance lists a fixed pair.
-    FixedEdgesInRoutes,
-    /// The node at this place is the first one that is the depot.
-    DepotInRoute { place: u32 },
-    /// This node is the least one, the depot aside, that is in no route.
-    Unserved { node: u32 },
-    /// This route is the first one whose demands sum to more than the capacity.
-    Overload { route: u32 },
     /// The certificate is not a file of TYPE BRANCHES.
     NotBranches,
     /// The certificate by branching has a DIMENSION other than that of the instance.
@@ -81,9 +79,6 @@ pub enum Reason {
     /// Routes are judged, and the number of nodes times one more than the capacity, which is
     /// counted in loads, is more than 10^7.
     TooManyLoads,
-    /// No other reason applies to the solution, and its length, which is this one, isn't the
-    /// length that is claimed.
-    LengthClaimed { length: i64 },
     /// No other reason applies, a line of the instance has an unknown keyword, and the check asked
     /// for this reason. The report names the first such keyword.
     NotJudged,

@@ -10,9 +10,10 @@ use Rattle.tsp_draft.specs.Fields.{Fields, nodes_of}
 use Rattle.tsp_reason.specs.declared.verdict.BoundVerdict.{BoundVerdict}
 use Rattle.tsp_reason.specs.declared.verdict.BoundVerdict.TheVariants as bounds
 use Rattle.tsp_reason.specs.declared.verdict.Reason.{Reason}
-use Rattle.tsp_reason.specs.declared.verdict.Reason.TheVariants.{NotASolution, TooFewNodes, NotSymmetric, Dimension, TourCount, TourLength, NodeOutOfRange, RepeatedNode, FixedEdgeUnused, NotPotentials, PotentialsDimension, PotentialsKind, MultiplierNotFixed, MultiplierRepeated, DualInfeasible, DepotCount, DepotDemand, FixedEdgesInRoutes, DepotInRoute, Unserved, Overload, NotBranches, BranchesDimension, BadComb, BadBranch, BranchTwice, BadLeaf, TooManyLoads, LengthClaimed, NotJudged}
+use Rattle.tsp_reason.specs.declared.verdict.Reason.TheVariants.{NotJudged}
 use Rattle.tsp_reason.specs.declared.verdict.Verdict.{Verdict}
 use Rattle.tsp_reason.specs.declared.verdict.Verdict.TheVariants.{Tour, Routes, No}
+use Rattle.tsp_reason.specs.ReasonRows.{ReasonRow, row_of_reason}
 
 -- ---- the instance
 
@@ -31,88 +32,16 @@ instance_lines f = type_line f.kind ++ nodes_line (nodes_of f) ++ not_judged f.o
 
 -- ---- the verdict
 
-abbrev pub reason_name : Reason → List ℕ
-reason_name NotASolution = codes "NotASolution"
-reason_name TooFewNodes = codes "TooFewNodes"
-reason_name (NotSymmetric i j) = codes "NotSymmetric"
-reason_name Dimension = codes "Dimension"
-reason_name TourCount = codes "TourCount"
-reason_name TourLength = codes "TourLength"
-reason_name (NodeOutOfRange place) = codes "NodeOutOfRange"
-reason_name (RepeatedNode place) = codes "RepeatedNode"
-reason_name (FixedEdgeUnused index) = codes "FixedEdgeUnused"
-reason_name NotPotentials = codes "NotPotentials"
-reason_name PotentialsDimension = codes "PotentialsDimension"
-reason_name PotentialsKind = codes "PotentialsKind"
-reason_name (MultiplierNotFixed index) = codes "MultiplierNotFixed"
-reason_name (MultiplierRepeated index) = codes "MultiplierRepeated"
-reason_name (DualInfeasible i j) = codes "DualInfeasible"
-reason_name DepotCount = codes "DepotCount"
-reason_name DepotDemand = codes "DepotDemand"
-reason_name FixedEdgesInRoutes = codes "FixedEdgesInRoutes"
-reason_name (DepotInRoute place) = codes "DepotInRoute"
-reason_name (Unserved node) = codes "Unserved"
-reason_name (Overload route) = codes "Overload"
-reason_name NotBranches = codes "NotBranches"
-reason_name BranchesDimension = codes "BranchesDimension"
-reason_name (BadComb index) = codes "BadComb"
-reason_name (BadBranch index) = codes "BadBranch"
-reason_name (BranchTwice index) = codes "BranchTwice"
-reason_name (BadLeaf index) = codes "BadLeaf"
-reason_name TooManyLoads = codes "TooManyLoads"
-reason_name (LengthClaimed length) = codes "LengthClaimed"
-reason_name NotJudged = codes "NotJudged"
-
--- its numbers, of which it has two at most
-abbrev pub reason_numbers : Reason → Option ℕ × Option ℕ
-reason_numbers NotASolution = (None, None)
-reason_numbers TooFewNodes = (None, None)
-reason_numbers (NotSymmetric i j) = (Some i, Some j)
-reason_numbers Dimension = (None, None)
-reason_numbers TourCount = (None, None)
-reason_numbers TourLength = (None, None)
-reason_numbers (NodeOutOfRange place) = (Some place, None)
-reason_numbers (RepeatedNode place) = (Some place, None)
-reason_numbers (FixedEdgeUnused index) = (Some index, None)
-reason_numbers NotPotentials = (None, None)
-reason_numbers PotentialsDimension = (None, None)
-reason_numbers PotentialsKind = (None, None)
-reason_numbers (MultiplierNotFixed index) = (Some index, None)
-reason_numbers (MultiplierRepeated index) = (Some index, None)
-reason_numbers (DualInfeasible i j) = (Some i, Some j)
-reason_numbers DepotCount = (None, None)
-reason_numbers DepotDemand = (None, None)
-reason_numbers FixedEdgesInRoutes = (None, None)
-reason_numbers (DepotInRoute place) = (Some place, None)
-reason_numbers (Unserved node) = (Some node, None)
-reason_numbers (Overload route) = (Some route, None)
-reason_numbers NotBranches = (None, None)
-reason_numbers BranchesDimension = (None, None)
-reason_numbers (BadComb index) = (Some index, None)
-reason_numbers (BadBranch index) = (Some index, None)
-reason_numbers (BranchTwice index) = (Some index, None)
-reason_numbers (BadLeaf index) = (Some index, None)
-reason_numbers TooManyLoads = (None, None)
-reason_numbers (LengthClaimed length) = (None, None)
-reason_numbers NotJudged = (None, None)
-
--- the length that it states, which may be below 0
-abbrev pub reason_length : Reason → Option ℤ
-reason_length (LengthClaimed length) = Some length
-reason_length reason = None
-
-abbrev pub after_blank : Option ℕ → List ℕ
+abbrev pub after_blank : Option ℤ → List ℕ
 after_blank None = []
-after_blank (Some number) = codes " " ++ decimal number
-
-abbrev pub length_after_blank : Option ℤ → List ℕ
-length_after_blank None = []
-length_after_blank (Some length) = codes " " ++ signed_decimal length
+after_blank (Some number) = codes " " ++ signed_decimal number
 
 -- the name of a reason, and its numbers
+abbrev pub row_text : ReasonRow → List ℕ
+row_text row = row.name ++ after_blank row.numbers.0 ++ after_blank row.numbers.1
+
 abbrev pub reason_text : Reason → List ℕ
-reason_text reason = reason_name reason ++ after_blank (reason_numbers reason).0 ++ after_blank (reason_numbers reason).1
-    ++ length_after_blank (reason_length reason)
+reason_text reason = row_text (row_of_reason reason)
 
 -- by how much a length is more than a bound; it is optimal where they are equal
 abbrev pub gap_lines : ℤ → List ℕ

@@ -44,43 +44,12 @@ pub fn examples_of_reports()
         ≡ codes "no TooFewNodes\n" }
 {}
 
-/// The words of each reason.
+/// The words of a reason: its name and its numbers, of which a length may be below 0.
 pub fn examples_of_reasons()
-    ensures no_solution { reason_text reasons.NotASolution ≡ codes "NotASolution" }
-    ensures few_nodes { reason_text reasons.TooFewNodes ≡ codes "TooFewNodes" }
-    ensures uneven { reason_text (reasons.NotSymmetric 1 2)
+    ensures no_number { reason_text reasons.NotASolution ≡ codes "NotASolution" }
+    ensures number { reason_text (reasons.NodeOutOfRange 3) ≡ codes "NodeOutOfRange " ++ decimal 3 }
+    ensures numbers { reason_text (reasons.NotSymmetric 1 2)
         ≡ codes "NotSymmetric " ++ decimal 1 ++ codes " " ++ decimal 2 }
-    ensures dimension { reason_text reasons.Dimension ≡ codes "Dimension" }
-    ensures count { reason_text reasons.TourCount ≡ codes "TourCount" }
-    ensures length { reason_text reasons.TourLength ≡ codes "TourLength" }
-    ensures range { reason_text (reasons.NodeOutOfRange 3) ≡ codes "NodeOutOfRange " ++ decimal 3 }
-    ensures repeated { reason_text (reasons.RepeatedNode 3) ≡ codes "RepeatedNode " ++ decimal 3 }
-    ensures fixed { reason_text (reasons.FixedEdgeUnused 1)
-        ≡ codes "FixedEdgeUnused " ++ decimal 1 }
-    ensures no_potentials { reason_text reasons.NotPotentials ≡ codes "NotPotentials" }
-    ensures their_dimension { reason_text reasons.PotentialsDimension
-        ≡ codes "PotentialsDimension" }
-    ensures their_kind { reason_text reasons.PotentialsKind ≡ codes "PotentialsKind" }
-    ensures not_fixed { reason_text (reasons.MultiplierNotFixed 2)
-        ≡ codes "MultiplierNotFixed " ++ decimal 2 }
-    ensures fixed_twice { reason_text (reasons.MultiplierRepeated 3)
-        ≡ codes "MultiplierRepeated " ++ decimal 3 }
-    ensures duals { reason_text (reasons.DualInfeasible 1 2)
-        ≡ codes "DualInfeasible " ++ decimal 1 ++ codes " " ++ decimal 2 }
-    ensures depots { reason_text reasons.DepotCount ≡ codes "DepotCount" }
-    ensures demand { reason_text reasons.DepotDemand ≡ codes "DepotDemand" }
-    ensures pairs { reason_text reasons.FixedEdgesInRoutes ≡ codes "FixedEdgesInRoutes" }
-    ensures depot { reason_text (reasons.DepotInRoute 1) ≡ codes "DepotInRoute " ++ decimal 1 }
-    ensures unserved { reason_text (reasons.Unserved 4) ≡ codes "Unserved " ++ decimal 4 }
-    ensures overload { reason_text (reasons.Overload 1) ≡ codes "Overload " ++ decimal 1 }
-    ensures no_tree { reason_text reasons.NotBranches ≡ codes "NotBranches" }
-    ensures its_dimension { reason_text reasons.BranchesDimension ≡ codes "BranchesDimension" }
-    ensures comb { reason_text (reasons.BadComb 1) ≡ codes "BadComb " ++ decimal 1 }
-    ensures of_a_family { reason_text (reasons.BadBranch 3) ≡ codes "BadBranch " ++ decimal 3 }
-    ensures twice { reason_text (reasons.BranchTwice 2) ≡ codes "BranchTwice " ++ decimal 2 }
-    ensures leaf { reason_text (reasons.BadLeaf 1) ≡ codes "BadLeaf " ++ decimal 1 }
-    ensures loads { reason_text reasons.TooManyLoads ≡ codes "TooManyLoads" }
-    ensures unjudged { reason_text reasons.NotJudged ≡ codes "NotJudged" }
     ensures claimed { reason_text (reasons.LengthClaimed (pos 14))
         ≡ codes "LengthClaimed " ++ signed_decimal (pos 14) }
     ensures claimed_below_zero { reason_text (reasons.LengthClaimed (negsuc 33))
