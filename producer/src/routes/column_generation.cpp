@@ -118,7 +118,8 @@ Duals ColumnGeneration::duals_by(const Routes& plan) const {
 void ColumnGeneration::begin_with(const Routes& plan, const std::function<bool()>& late) {
   const Duals whole = duals_by(plan);
   double before = kNoBound;
-  for (double factor = 1; factor > 0; factor -= kColumns.step_of_plan) {
+  for (int part = kColumns.parts_of_plan; part > 0; part--) {
+    const double factor = static_cast<double>(part) / kColumns.parts_of_plan;
     Duals duals = whole;
     for (double& potential : duals.potentials) potential *= factor;
     price(duals, duals);

@@ -30,7 +30,7 @@ inline constexpr RemovalParameters kRemovals{};
 struct ColumnParameters {
   double largest_cost = 1e7;  // in units of the program
   double step = 0.25;         // of the mix from the best duals toward the program's
-  double step_of_plan = 0.1;  // of the factors by which duals of a plan are tried
+  int parts_of_plan = 10;     // duals of a plan are tried whole, then with fewer of as many parts
   std::size_t fewest_at_once = 20, most_at_once = 150;
   std::size_t walks = 300, walks_of_node = 10;  // of more, those that cost too much are dropped
   double far = 0.1;                             // so much too much, in parts of the average link
