@@ -65,9 +65,7 @@ class RouteCaseSolver {
   void spare(Rounds& rounds) const;
   RouteOutcome settled(const RouteCase& here, const Duals& duals);
   void branch(Rounds& rounds, RouteOutcome& outcome) const;
-  Value aim(const RouteGoal& goal) const {
-    return static_cast<Value>(problem_.scale) * (goal.target - 1) + 1;
-  }
+  Value aim(const RouteGoal& goal) const { return value_to_reach(goal.target, problem_.scale); }
 
   const RouteProblem& problem_;
   const Clock& clock_;

@@ -7,7 +7,6 @@
 
 #include "routes/route_parameters.h"
 #include "routes/string_removals.h"
-#include "tree/tree_steps.h"
 
 namespace certify::routes {
 namespace {
@@ -78,43 +77,34 @@ RouteSearch::RouteSearch(const CvrpInstance& instance, const Loads& loads, const
 
 std::vector<Limit> RouteSearch::limits_of(int place) const {
   std::vector<Limit> limits = above_;
-  for (auto origin = places_[place].origin; origin; origin = places_[origin->parent].origin) {
-    const SetBranch& branch = places_[origin->parent].branch->set;
-    limits.push_back({branch.set, origin->first, branch.t});
-  }
+  tree_.list_above(place, [&](const SetBranch& branch, bool first) {
+    limits.push_back({branch.set, first, branch.t});
+  });
   return limits;
 }
 
 // Takes the next step: a branch, or a leaf, which is open where its numbers don't reach the target.
-void RouteSearch::take_step(const Certificate& tree, const TreeStep& step, std::vector<Origin>& rest) {
-  const int place = static_cast<int>(places_.size());
-  Place& here = places_.emplace_back();
-  if (place > 0) {
-    here.origin = rest.back();
-    rest.pop_back();
-    places_[here.origin->parent].branch->cases[here.origin->first ? 0 : 1] = place;
-  }
+void RouteSearch::take_step(const Certificate& tree, const TreeStep& step) {
+  const int place = tree_.add_next();
   if (const auto* branch = std::get_if<FamilyBranch>(&step)) {
-    here.branch = Branch{{certificates_.customers_of(tree, branch->family), branch->t}, {-1, -1}};
-    branches_++;
-    for (const bool first : {false, true}) rest.push_back({place, first});
+    tree_.expect_cases(place, {certificates_.customers_of(tree, branch->family), branch->t});
     return;
   }
+  Tree::Place& here = tree_[place];
   here.numbers = certificates_.numbers_of(tree, std::get<Numbers>(step), problem_.scale / tree.scale);
   here.value = bound_.value(here.numbers, limits_of(place));
-  open_.emplace(here.value, -place);
+  tree_.reopen(place);
 }
 
 void RouteSearch::take_tree(const Certificate& tree) {
-  std::vector<Origin> rest;
-  for (const TreeStep& step : tree.steps) take_step(tree, step, rest);
+  for (const TreeStep& step : tree.steps) take_step(tree, step);
   finish_reached();
 }
 
 RouteCase RouteSearch::case_of(int place) {
   return {.limits = limits_of(place),
-          .start = std::exchange(places_[place].start, nullptr),
-          .numbers = places_[place].numbers,
+          .start = std::exchange(tree_[place].start, nullptr),
+          .numbers = tree_[place].numbers,
           .goal = goal_,
           .seed = begin_.seed + 0x9E3779B97F4A7C15ull * ++begun_cases_};
 }
@@ -126,38 +116,29 @@ RouteCaseSolver& RouteSearch::own_solver() {
 }
 
 Weight RouteSearch::least_bound() const {
-  Value least = open_.empty() ? left_ : std::min(left_, open_.begin()->first);
-  for (const Window::Begun& slot : window_.running()) {
-    if (slot->job.place >= 0) least = std::min(least, places_[slot->job.place].value);
-  }
-  return least == -WalkBound::nothing() ? goal_.target : std::min(bound_.bound_of(least), goal_.target);
-}
-
-std::size_t RouteSearch::open_cases() const {
-  return open_.size() +
-         static_cast<std::size_t>(std::count_if(window_.running().begin(), window_.running().end(),
-                                                [](auto& slot) { return slot->job.place >= 0; }));
+  const Value least = tree_.least(window_);
+  return least == -kNoValue ? goal_.target : std::min(bound_.bound_of(least), goal_.target);
 }
 
 void RouteSearch::log(std::string_view event, Weight bound) {
   std::ostringstream more;
-  more << R"("leaves": )" << leaves_ << R"(, "open": )" << open_cases() << R"(, "cuts": {"sets": )" << sets_
-       << R"(}, "walks": )" << walks_;
+  more << R"("leaves": )" << leaves_ << R"(, "open": )" << tree_.unfinished(window_)
+       << R"(, "cuts": {"sets": )" << sets_ << R"(}, "walks": )" << walks_;
   progress_.log(event, goal_.length, bound, more.str());
 }
 
 // The root: the whole problem, or one leaf of a certificate.
 void RouteSearch::solve_first() {
-  places_.emplace_back();
+  const int root = tree_.add_next();
   if (begin_.tree) {
     const int number = begin_.leaf.value_or(1);
     const OpenLeaf leaf = leaf_of(*begin_.tree, number);
     above_ = certificates_.limits_of(*begin_.tree, leaf);
-    places_[0].numbers =
+    tree_[root].numbers =
         certificates_.numbers_of(*begin_.tree, leaf.numbers, problem_.scale / begin_.tree->scale);
     made_.certificate().notes = {{"tree", identity_of(*begin_.tree)}, {"leaf", std::to_string(number)}};
   }
-  RouteCase first = case_of(0);
+  RouteCase first = case_of(root);
   first.whole = true;
   if (!begin_.tree) first.start = std::make_shared<const RouteStart>(RouteStart{{}, begin_.met, {}});
   const auto note = [&](Weight length, Weight bound, int sets, int walks) {
@@ -169,7 +150,7 @@ void RouteSearch::solve_first() {
     progress_.log("round", length, std::min(bound, length), more.str());
   };
   RouteOutcome outcome = own_solver().solve(first, note);
-  take(0, outcome);
+  take(root, outcome);
   look_again();
 }
 
@@ -208,25 +189,9 @@ void RouteSearch::name_sets(LeafNumbers& numbers) {
   named_nodes_ = nodes;
 }
 
-void RouteSearch::branch(int place, const RouteOutcome& outcome) {
-  branches_++;
-  const int next = static_cast<int>(places_.size());
-  places_[place].branch = Branch{*outcome.branch, {next + 1, next}};
-  for (const bool first : {false, true}) {
-    Place below;
-    below.origin = Origin{place, first};
-    below.start = outcome.start;
-    below.numbers = places_[place].numbers;
-    below.value = places_[place].value;
-    open_.emplace(below.value, -static_cast<int>(places_.size()));
-    places_.push_back(std::move(below));
-  }
-  places_[place].numbers = {};
-}
-
 void RouteSearch::finish(int place) {
-  places_[place].done = true;
-  places_[place].start = nullptr;
+  tree_[place].done = true;
+  tree_[place].start = nullptr;
   leaves_++;
   log("leaf", least_bound());
 }
@@ -236,10 +201,10 @@ void RouteSearch::go_on(int place, const RouteOutcome& outcome) {
   LeafNumbers named;
   if (outcome.branch) named.multipliers[outcome.branch->set] = 1;
   name_sets(named);
-  if (!named.multipliers.empty() && branches_ < plan_.limits.branches) {
-    branch(place, outcome);
+  if (!named.multipliers.empty() && tree_.branches() < plan_.limits.branches) {
+    tree_.branch(place, *outcome.branch, outcome.start);
   } else {
-    left_ = std::min(left_, places_[place].value);
+    tree_.leave(place);
   }
   log("branch", least_bound());
 }
@@ -251,7 +216,7 @@ void RouteSearch::take(int place, RouteOutcome& outcome) {
   const Weight length = outcome.routes ? length_of(instance_, *outcome.routes) : goal_.length;
   const bool shorter = length < goal_.length;
   if (shorter) goal_ = {*outcome.routes, length, std::min(goal_.target, length)};
-  Place& here = places_[place];
+  Tree::Place& here = tree_[place];
   const std::size_t before = outcome.numbers.multipliers.size();
   name_sets(outcome.numbers);
   here.numbers = std::move(outcome.numbers);
@@ -271,29 +236,23 @@ void RouteSearch::take(Job& job) {
 
 // Finishes the open cases that reach the target: where a shorter plan was found meanwhile.
 void RouteSearch::finish_reached() {
-  while (!open_.empty() && open_.rbegin()->first >= aim()) {
-    const int place = -open_.rbegin()->second;
-    open_.erase(std::prev(open_.end()));
-    finish(place);
-  }
+  while (const std::optional<int> place = tree_.take_reaching(aim())) finish(*place);
 }
 
 // Begins the next case, or none until another one has ended. False where all are done or the time is over.
 bool RouteSearch::begin(Job& job) {
   finish_reached();
-  if ((open_.empty() && waits_for_none(window_)) || clock_.over(kRouteTree.part_of_time)) return false;
-  const std::size_t running = window_.running().size() - 1;  // (without this one)
-  if (plan_.split > 0 && open_.size() + running >= plan_.split) return false;
-  if (branches_ >= plan_.limits.branches) {
+  if (tree_.ends(window_, plan_.split) || clock_.over(kRouteTree.part_of_time)) return false;
+  if (tree_.branches() >= plan_.limits.branches) {
     limited_ = true;
     return false;
   }
-  if (!open_.empty()) {
-    job.place = -open_.begin()->second;
-    open_.erase(open_.begin());
+  if (!tree_.open().empty()) {
+    job.place = tree_.take_least();
     job.here = case_of(job.place);
   }
-  progress_.show(Standing{goal_.length, least_bound(), leaves_, static_cast<int>(open_cases())});
+  const auto open = static_cast<int>(tree_.unfinished(window_));
+  progress_.show(Standing{goal_.length, least_bound(), leaves_, open});
   return true;
 }
 
@@ -304,25 +263,14 @@ void RouteSearch::solve(Window::Slot& slot) {
   slot.job.here = {};
 }
 
-// Whether each leaf reaches the target by multiples of a grid, which all then have.
-bool RouteSearch::coarsen_to(Weight grid, std::vector<int>& leaves) {
-  const auto numbers_of = [&](int leaf) -> std::optional<LeafNumbers> {
-    const Duals duals = duals_of(instance_, places_[leaf].numbers, problem_.scale);
+void RouteSearch::coarsen() {
+  const auto numbers_of = [&](int leaf, Weight grid) -> std::optional<LeafNumbers> {
+    const Duals duals = duals_of(instance_, tree_[leaf].numbers, problem_.scale);
     LeafNumbers numbers = bound_.rounded(duals, grid);
     if (bound_.value(numbers, limits_of(leaf)) < aim()) return std::nullopt;
     return numbers;
   };
-  auto coarse = numbers_of_all<LeafNumbers>(leaves, clock_, numbers_of);
-  if (!coarse) return false;
-  for (std::size_t k = 0; k < leaves.size(); k++) places_[leaves[k]].numbers = std::move((*coarse)[k]);
-  return true;
-}
-
-// Where all leaves are done, their numbers become multiples of a large divisor of the scale.
-void RouteSearch::coarsen() {
-  std::vector<int> leaves = leaf_places(places_);
-  if (std::any_of(leaves.begin(), leaves.end(), [&](int place) { return !places_[place].done; })) return;
-  grid_ = coarsest_grid(problem_.scale, clock_, [&](Weight grid) { return coarsen_to(grid, leaves); });
+  grid_ = tree_.coarsen(problem_.scale, clock_, numbers_of);
 }
 
 // The numbers of a leaf, of which as many are those of the leaf before as still reach the target, and those
@@ -346,7 +294,7 @@ LeafNumbers RouteSearch::near_last(const LeafNumbers& own, const std::vector<Lim
 }
 
 // A leaf whose differences are past their limit gets the numbers of the leaf before.
-void RouteSearch::add_leaf(const Place& leaf, const std::vector<Limit>& limits) {
+void RouteSearch::add_leaf(const Tree::Place& leaf, const std::vector<Limit>& limits) {
   LeafNumbers numbers = near_last(leaf.numbers, limits);
   if (numbers.potentials.empty()) numbers.potentials.assign(instance_.nodes(), 0);
   made_.add_leaf(numbers);
@@ -367,31 +315,21 @@ void RouteSearch::add_leaf(const Place& leaf, const std::vector<Limit>& limits) 
   if (!leaf.done || value < aim()) open_leaves_.push_back(leaves_);
 }
 
-// The tree from the root on, a branch before its cases.
 void RouteSearch::list_steps() {
   leaves_ = 0;
-  std::vector<int> rest{0};
-  while (!rest.empty()) {
-    const int place = rest.back();
-    const Place& here = places_[place];
-    rest.pop_back();
-    if (!here.branch) {
-      leaves_++;
-      add_leaf(here, limits_of(place));
-      continue;
-    }
-    made_.add_branch(here.branch->set.set, here.branch->set.t);
-    rest.push_back(here.branch->cases[1]);
-    rest.push_back(here.branch->cases[0]);
-  }
+  const auto add = [&](int place) {
+    leaves_++;
+    add_leaf(tree_[place], limits_of(place));
+  };
+  tree_.list([&](const SetBranch& branch) { made_.add_branch(branch.set, branch.t); }, add);
 }
 
 Certificate RouteSearch::certificate() {
   if (!open_leaves_.empty()) made_.certificate().notes["open"] = std::to_string(open_leaves_.size());
   if (plan_.split > 0) {
-    for (const auto& [value, place] : open_) {
-      if (!places_[-place].start) continue;
-      for (const NodeSet& set : places_[-place].start->sets) made_.add_set(set);
+    for (const auto& [value, place] : tree_.open()) {
+      if (!tree_[-place].start) continue;
+      for (const NodeSet& set : tree_[-place].start->sets) made_.add_set(set);
     }
   }
   return made_.certificate();

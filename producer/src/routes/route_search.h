@@ -13,6 +13,7 @@
 #include "routes/route_certificate.h"
 #include "running/job_window.h"
 #include "running/progress.h"
+#include "tree/case_tree.h"
 #include "tree/search.h"
 
 namespace certify::routes {
@@ -44,33 +45,17 @@ class RouteSearch {
   bool is_limited() const { return limited_; }
 
  private:
-  struct Origin {
-    int parent;
-    bool first;  // of the two cases of the branch
-  };
-  struct Branch {
-    SetBranch set;
-    std::array<int, 2> cases;  // below
-  };
-  // A case's place in the tree, and the best numbers for it.
-  struct Place {
-    std::optional<Origin> origin{};  // nothing at the root
-    std::shared_ptr<const RouteStart> start{};
-    LeafNumbers numbers{};
-    Value value = WalkBound::nothing();
-    bool done = false;  // its numbers reach the target
-    std::optional<Branch> branch{};
-  };
+  using Tree = CaseTree<SetBranch, LeafNumbers, RouteStart>;
   struct Job {
     int place = -1;
     RouteCase here{};
     RouteOutcome outcome{};
   };
   using Window = JobWindow<Job>;
-  Value aim() const { return static_cast<Value>(problem_.scale) * (goal_.target - 1) + 1; }
+  Value aim() const { return value_to_reach(goal_.target, problem_.scale); }
   std::vector<Limit> limits_of(int place) const;
   void take_tree(const Certificate& tree);
-  void take_step(const Certificate& tree, const TreeStep& step, std::vector<Origin>& rest);
+  void take_step(const Certificate& tree, const TreeStep& step);
   RouteCase case_of(int place);
   void solve_first();
   void look_again();
@@ -79,19 +64,16 @@ class RouteSearch {
   void take(Job& job);
   void take(int place, RouteOutcome& outcome);
   void name_sets(LeafNumbers& numbers);
-  void branch(int place, const RouteOutcome& outcome);
   void go_on(int place, const RouteOutcome& outcome);
   void finish(int place);
   void finish_reached();
   RouteCaseSolver& own_solver();
   void coarsen();
-  bool coarsen_to(Weight grid, std::vector<int>& leaves);
   void list_steps();
   LeafNumbers near_last(const LeafNumbers& own, const std::vector<Limit>& limits);
-  void add_leaf(const Place& leaf, const std::vector<Limit>& limits);
+  void add_leaf(const Tree::Place& leaf, const std::vector<Limit>& limits);
   void log(std::string_view event, Weight bound);
   Weight least_bound() const;
-  std::size_t open_cases() const;
 
   const CvrpInstance& instance_;
   const RouteProblem problem_;
@@ -103,8 +85,7 @@ class RouteSearch {
   std::vector<Limit> above_{};  // what is decided at the root
   RouteGoal goal_;
   WalkBound bound_;
-  std::vector<Place> places_;
-  std::set<std::pair<Value, int>> open_;  // places by value, and of the same value the newest first
+  Tree tree_;
   oneapi::tbb::enumerable_thread_specific<std::unique_ptr<RouteCaseSolver>> solvers_;
   Window window_;
   std::uint64_t begun_cases_ = 0;
@@ -112,12 +93,11 @@ class RouteSearch {
   std::size_t named_nodes_ = 0;
   CertificateMaker made_;
   std::vector<int> open_leaves_;
-  Value left_ = -WalkBound::nothing();  // the least value of the cases without a branch that are left open
-  Value least_ = -WalkBound::nothing();
+  Value least_ = -kNoValue;
   Numbers last_{};  // of the last leaf of the file
   LeafNumbers last_numbers_{};
   std::optional<Weight> grid_{};  // all numbers are multiples of it, where all leaves are done
-  std::size_t branches_ = 0, differences_ = 0;
+  std::size_t differences_ = 0;
   int leaves_ = 0, sets_ = 0, walks_ = 0;  // sets_ and walks_: of the last program
   bool limited_ = false;
 };

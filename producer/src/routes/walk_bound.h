@@ -39,7 +39,7 @@ class WalkBound {
   // The same numbers, but for that multiplier.
   LeafNumbers balanced(LeafNumbers numbers, Weight grid);
   Weight bound_of(Value value) const { return rounded_up(value, scale_); }
-  static Value nothing() { return -(static_cast<Value>(1) << 120); }
+  static Value nothing() { return kNoValue; }
 
  private:
   std::optional<Weight> least_walk(const LeafNumbers& numbers);

@@ -58,7 +58,7 @@ class ExactBound {
   // with a multiplier.
   const std::vector<Pair>& links() const { return links_; }
   std::map<int, int> crossings() const;
-  static Value nothing() { return -(static_cast<Value>(1) << 120); }
+  static Value nothing() { return kNoValue; }
 
  protected:
   int nodes() const { return weights_.nodes(); }

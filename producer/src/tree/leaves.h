@@ -25,7 +25,7 @@ class Leaves {
   // reach it, or else the best ones.
   Numbers restricted(const Numbers& numbers, const Marks& cuts, const std::vector<Decision>& decisions,
                      Value goal, int steps);
-  Value goal(Weight target) const { return static_cast<Value>(bound_.scale()) * (target - 1) + 1; }
+  Value goal(Weight target) const { return value_to_reach(target, bound_.scale()); }
   const Numbers& last() const { return last_; }
   void set_last(const Numbers& numbers) { last_ = numbers; }
 

@@ -124,15 +124,32 @@ std::vector<std::vector<Pair>> Relaxation::memberships() const {
   return sets;
 }
 
+// The entries of an edge in the rows of cuts: in how many sets of each both of its nodes are.
+void Relaxation::list_entries(const std::vector<Pair>& of_one, const std::vector<Pair>& of_other,
+                              std::vector<int>& rows, std::vector<double>& elements) const {
+  std::vector<Pair> common;
+  std::set_intersection(of_one.begin(), of_one.end(), of_other.begin(), of_other.end(),
+                        std::back_inserter(common));
+  int last = -1;
+  for (const auto& [row, set] : common) {
+    if (row == last) {
+      elements.back() += 1;
+      continue;
+    }
+    rows.push_back(degrees() + row);
+    elements.push_back(1);
+    last = row;
+  }
+}
+
 void Relaxation::add_edges(const std::vector<Pair>& edges) {
-  std::vector<CoinBigIndex> starts{0};
-  std::vector<int> rows;
-  std::vector<double> elements, objective;
   const bool any =
       std::any_of(edges.begin(), edges.end(), [&](const Pair& edge) { return column_of(edge) < 0; });
   if (!any) return;
+  std::vector<CoinBigIndex> starts{0};
+  std::vector<int> rows;
+  std::vector<double> elements, objective;
   const std::vector<std::vector<Pair>> sets = memberships();
-  std::vector<Pair> common;
   for (const Pair& edge : edges) {
     const auto [i, j] = instance_.link(edge.first, edge.second);
     char& present = present_[static_cast<std::size_t>(i) * nodes_ + j];
@@ -145,54 +162,47 @@ void Relaxation::add_edges(const std::vector<Pair>& edges) {
     adjacent_[j].push_back({i, column});
     rows.insert(rows.end(), {i, entering_row(j)});
     elements.insert(elements.end(), {1, 1});
-    common.clear();
-    std::set_intersection(sets[i].begin(), sets[i].end(), sets[j].begin(), sets[j].end(),
-                          std::back_inserter(common));
-    int last = -1;
-    for (const Pair& set : common) {
-      if (set.first == last) {
-        elements.back() += 1;
-        continue;
-      }
-      rows.push_back(degrees() + set.first);
-      elements.push_back(1);
-      last = set.first;
-    }
+    list_entries(sets[i], sets[j], rows, elements);
     starts.push_back(static_cast<CoinBigIndex>(rows.size()));
     objective.push_back(static_cast<double>(weights_(i, j) - least_) / unit_);
   }
   const std::vector<double> low(objective.size(), 0), high(objective.size(), 1);
-  if (objective.empty()) return;
   program_.addColumns(static_cast<int>(objective.size()), low.data(), high.data(), objective.data(),
                       starts.data(), rows.data(), elements.data());
 }
 
+// The row of a cut: in how many of its sets both nodes of each edge are. The counts are 0 before and after.
+void Relaxation::list_row(int cut, std::vector<double>& inside, std::vector<int>& columns,
+                          std::vector<double>& elements) const {
+  std::vector<char> mark(nodes_, 0);
+  std::vector<int> touched;
+  for (const NodeSet& set : pool_[cut].sets) {
+    for (const int v : set) mark[v] = 1;
+    for (const int v : set) {
+      for (const Place& place : adjacent_[v]) {
+        if (place.node < v || !mark[place.node]) continue;
+        if (inside[place.column] == 0) touched.push_back(place.column);
+        inside[place.column] += 1;
+      }
+    }
+    for (const int v : set) mark[v] = 0;
+  }
+  columns.push_back(0);
+  elements.push_back(-1);
+  for (const int column : touched) {
+    columns.push_back(column + kElastic);
+    elements.push_back(inside[column]);
+    inside[column] = 0;
+  }
+}
+
 void Relaxation::add_cuts(const std::vector<int>& cuts) {
   std::vector<CoinBigIndex> starts{0};
-  std::vector<int> columns, touched;
+  std::vector<int> columns;
   std::vector<double> elements, low, high, inside(edges_.size(), 0);
-  std::vector<char> mark(nodes_, 0);
   for (const int cut : cuts) {
     if (has(cut)) continue;
-    touched.clear();
-    for (const NodeSet& set : pool_[cut].sets) {
-      for (const int v : set) mark[v] = 1;
-      for (const int v : set) {
-        for (const Place& place : adjacent_[v]) {
-          if (place.node < v || !mark[place.node]) continue;
-          if (inside[place.column] == 0) touched.push_back(place.column);
-          inside[place.column] += 1;
-        }
-      }
-      for (const int v : set) mark[v] = 0;
-    }
-    columns.push_back(0);
-    elements.push_back(-1);
-    for (const int column : touched) {
-      columns.push_back(column + kElastic);
-      elements.push_back(inside[column]);
-      inside[column] = 0;
-    }
+    list_row(cut, inside, columns, elements);
     starts.push_back(static_cast<CoinBigIndex>(columns.size()));
     low.push_back(-COIN_DBL_MAX);
     high.push_back(pool_[cut].most_inside);

@@ -94,6 +94,10 @@ class Relaxation {
   int column_of(const Pair& pair) const;
   void set_bounds(const Pair& pair, double low, double high);
   std::vector<std::vector<Pair>> memberships() const;
+  void list_entries(const std::vector<Pair>& of_one, const std::vector<Pair>& of_other,
+                    std::vector<int>& rows, std::vector<double>& elements) const;
+  void list_row(int cut, std::vector<double>& inside, std::vector<int>& columns,
+                std::vector<double>& elements) const;
   std::vector<Pair> missing_edges(const std::vector<std::vector<std::pair<int, double>>>& sets) const;
 
   const Instance& instance_;

@@ -1,11 +1,9 @@
 #include "tree/search.h"
 
 #include <algorithm>
-#include <cmath>
 #include <utility>
 
 #include "tree/bound_for.h"
-#include "tree/tree_steps.h"
 
 namespace certify {
 namespace {
@@ -60,33 +58,23 @@ Numbers Search::numbers_of(const Numbers& numbers, const std::vector<int>& cuts)
 }
 
 // Takes the next step: a branch, or a leaf, which is open where its numbers don't reach the target.
-void Search::take_step(const TreeStep& step, std::vector<Origin>& rest, const std::vector<int>& cuts) {
-  const int place = static_cast<int>(places_.size());
-  Place& here = places_.emplace_back();
-  if (place > 0) {
-    here.origin = rest.back();
-    rest.pop_back();
-    Branch& above = *places_[here.origin->parent].branch;
-    (here.origin->decision.used ? above.used : above.unused) = place;
-  }
+void Search::take_step(const TreeStep& step, const std::vector<int>& cuts) {
+  const int place = tree_.add_next();
   if (const auto* pair = std::get_if<Pair>(&step)) {
-    here.branch = Branch{*pair, -1, -1};
-    branches_++;
-    for (const bool used : {false, true}) rest.push_back({place, {*pair, used}});
+    tree_.expect_cases(place, *pair);
     return;
   }
-  here.numbers = numbers_of(std::get<Numbers>(step), cuts);
-  here.value = bound_->value(here.numbers, decisions_of(place));
-  open_.emplace(here.value, -place);
+  tree_[place].numbers = numbers_of(std::get<Numbers>(step), cuts);
+  tree_[place].value = bound_->value(tree_[place].numbers, decisions_of(place));
+  tree_.reopen(place);
 }
 
 void Search::take_tree(const Certificate& tree) {
   const std::vector<int> cuts = take_families(tree);
-  std::vector<Origin> rest;
-  for (const TreeStep& step : tree.steps) take_step(step, rest, cuts);
+  for (const TreeStep& step : tree.steps) take_step(step, cuts);
   finish_reached();
-  if (root_gap_ == 0 && !open_.empty())
-    root_gap_ = static_cast<double>(goal_.target - bound_->bound_of(open_.begin()->first));
+  if (root_gap_ == 0 && !tree_.open().empty())
+    root_gap_ = static_cast<double>(goal_.target - bound_->bound_of(tree_.open().begin()->first));
 }
 
 // The whole problem, or one leaf of a certificate.
@@ -116,28 +104,17 @@ Case Search::first_case() {
 }
 
 Standing Search::standing() const {
-  Value least = open_.empty() ? left_ : std::min(left_, open_.begin()->first);
-  std::size_t running = 0;
-  for (const Window::Begun& slot : window_.running()) {
-    if (slot->job.place < 0) continue;
-    least = std::min(least, places_[slot->job.place].value);
-    running++;
-  }
-  const Weight reached = least == -ExactBound::nothing() ? goal_.target : bound_->bound_of(least);
-  const auto open = open_.size() + running;
-  return {goal_.length,   std::min(reached, goal_.target),
-          leaves_,        static_cast<int>(open),
-          rows_.subtours, rows_.combs,
+  const Value least = tree_.least(window_);
+  const Weight reached = least == -kNoValue ? goal_.target : bound_->bound_of(least);
+  const auto open = static_cast<int>(tree_.unfinished(window_));
+  return {goal_.length,  std::min(reached, goal_.target), leaves_, open, rows_.subtours, rows_.combs,
           rows_.families};
 }
 
 std::vector<Decision> Search::decisions_of(int place) const {
   std::vector<Decision> decisions = above_;
-  const auto fixed = static_cast<std::ptrdiff_t>(decisions.size());
-  for (auto origin = places_[place].origin; origin; origin = places_[origin->parent].origin) {
-    decisions.push_back(origin->decision);
-  }
-  std::reverse(decisions.begin() + fixed, decisions.end());
+  tree_.list_above(place, [&](const Pair& pair, bool used) { decisions.push_back({pair, used}); });
+  std::reverse(decisions.begin() + static_cast<std::ptrdiff_t>(above_.size()), decisions.end());
   return decisions;
 }
 
@@ -166,33 +143,10 @@ void Search::renumber(Outcome& outcome) {
   outcome.warm = std::make_shared<const WarmStart>(std::move(warm));
 }
 
-// A case's numbers hold for the cases of its branch too.
-void Search::branch(int place, const Outcome& outcome) {
-  branches_++;
-  const int next = static_cast<int>(places_.size());
-  places_[place].branch = Branch{*outcome.pair, next + 1, next};
-  for (const bool used : {false, true}) {
-    Place below;
-    below.origin = Origin{place, {*outcome.pair, used}};
-    below.warm = outcome.warm;
-    below.numbers = places_[place].numbers;
-    below.value = places_[place].value;
-    open_.emplace(below.value, -static_cast<int>(places_.size()));
-    places_.push_back(std::move(below));
-  }
-  places_[place].numbers = {};
-}
-
-int Search::depth_of(int place) const {
-  int depth = 0;
-  for (auto origin = places_[place].origin; origin; origin = places_[origin->parent].origin) depth++;
-  return depth;
-}
-
 // Whether a leaf whose numbers reach the target does so in a file. Where it names too many cuts, the largest
 // multipliers stay as far as cuts fit, and the numbers are mended.
 bool Search::settle(int place) {
-  Place& here = places_[place];
+  Tree::Place& here = tree_[place];
   if (named_.fit(here.numbers)) return true;
   named_.close();
   named_.fill({here.numbers.multipliers.begin(), here.numbers.multipliers.end()});
@@ -203,10 +157,10 @@ bool Search::settle(int place) {
 }
 
 void Search::finish(int place) {
-  places_[place].done = true;
-  named_.add(places_[place].numbers);
+  tree_[place].done = true;
+  named_.add(tree_[place].numbers);
   leaves_++;
-  done_ += std::ldexp(1.0, -depth_of(place));
+  done_ += tree_.part_of(place);
   log("leaf");
 }
 
@@ -217,18 +171,18 @@ void Search::take_done(int place) {
     finish(place);
   } else if (problem_.instance.directed) {
     limited_ = true;
-    left_ = std::min(left_, places_[place].value);
+    tree_.leave(place);
   } else {
-    open_.emplace(places_[place].value, -place);
+    tree_.reopen(place);
   }
 }
 
 // Branches on a case, where a file can have the branch.
 void Search::go_on(int place, const Outcome& outcome) {
-  if (outcome.pair && branches_ < plan_.limits.branches) {
-    branch(place, outcome);
+  if (outcome.pair && tree_.branches() < plan_.limits.branches) {
+    tree_.branch(place, *outcome.pair, outcome.warm);
   } else {
-    left_ = std::min(left_, places_[place].value);
+    tree_.leave(place);
   }
   log("branch");
 }
@@ -240,9 +194,9 @@ void Search::take(int place, Outcome& outcome) {
   const Weight length = outcome.tour ? length_of(problem_.instance.weights, *outcome.tour) : goal_.length;
   const bool shorter = length < goal_.length;
   if (shorter) goal_ = {*outcome.tour, length, std::min(goal_.target, length)};
-  places_[place].numbers = std::move(outcome.numbers);
-  places_[place].value = outcome.value;
-  places_[place].warm = nullptr;
+  tree_[place].numbers = std::move(outcome.numbers);
+  tree_[place].value = outcome.value;
+  tree_[place].start = nullptr;
   if (outcome.done) {
     take_done(place);
   } else {
@@ -252,7 +206,7 @@ void Search::take(int place, Outcome& outcome) {
 }
 
 void Search::solve_first() {
-  places_.emplace_back();
+  const int root = tree_.add_next();
   const auto note = [&](std::string_view event, const Standing& standing) {
     event.empty() ? progress_.show(standing) : progress_.log(event, standing);
   };
@@ -262,7 +216,7 @@ void Search::solve_first() {
   large_tree_ = large_tree_ || outcome.large_tree;
   if (root_gap_ == 0) root_gap_ = outcome.gap;
   history_ = std::make_shared<const History>(std::move(outcome.history));
-  take(0, outcome);
+  take(root, outcome);
 }
 
 bool ends_in_time(double done, double begun, double used) {
@@ -273,21 +227,17 @@ bool ends_in_time(double done, double begun, double used) {
 // The newest case where the tree may end in time, since the pool has cuts from near it. Else that
 // with the least bound, so that the bound grows until the time is over.
 int Search::next_place() {
-  auto next = open_.begin();
-  if (plan_.split == 0 && ends_in_time(done_, begun_, clock_.used())) {
-    next = std::min_element(open_.begin(), open_.end(), [](auto& a, auto& b) { return a.second < b.second; });
-  }
-  const int place = -next->second;
-  open_.erase(next);
-  return place;
+  const bool ends = plan_.split == 0 && ends_in_time(done_, begun_, clock_.used());
+  return ends ? tree_.take_newest() : tree_.take_least();
 }
 
 Case Search::case_of(int place) {
+  Tree::Place& at = tree_[place];
   Case here{.decisions = decisions_of(place),
-            .warm = std::exchange(places_[place].warm, nullptr),
-            .rows = rows_of(places_[place].numbers),
-            .numbers = places_[place].numbers,
-            .value = places_[place].value,
+            .warm = std::exchange(at.start, nullptr),
+            .rows = rows_of(at.numbers),
+            .numbers = at.numbers,
+            .value = at.value,
             .goal = goal_,
             .seed = problem_.start.seed + 0x9E3779B97F4A7C15ull * ++begun_cases_,
             .known = pool_.size(),
@@ -320,13 +270,11 @@ void Search::take(Job& job) {
 
 // Finishes the open cases that reach the target: where a shorter tour was found meanwhile.
 void Search::finish_reached() {
-  while (!open_.empty() && open_.rbegin()->first >= aim()) {
-    const int place = -open_.rbegin()->second;
-    open_.erase(std::prev(open_.end()));
-    if (settle(place)) {
-      finish(place);
+  while (const std::optional<int> place = tree_.take_reaching(aim())) {
+    if (settle(*place)) {
+      finish(*place);
     } else {
-      open_.emplace(places_[place].value, -place);
+      tree_.reopen(*place);
     }
   }
 }
@@ -334,14 +282,12 @@ void Search::finish_reached() {
 // Begins the next case, or none until another one has ended. False where all are done or the time is over.
 bool Search::begin(Job& job) {
   finish_reached();
-  if ((open_.empty() && waits_for_none(window_)) || clock_.over(kTree.part_of_time)) return false;
-  const std::size_t running = window_.running().size() - 1;  // (without this one)
-  if (plan_.split > 0 && open_.size() + running >= plan_.split) return false;
-  if (branches_ >= plan_.limits.branches) {
+  if (tree_.ends(window_, plan_.split) || clock_.over(kTree.part_of_time)) return false;
+  if (tree_.branches() >= plan_.limits.branches) {
     limited_ = true;
     return false;
   }
-  if (!open_.empty()) {
+  if (!tree_.open().empty()) {
     job.place = next_place();
     job.here = case_of(job.place);
   }
@@ -369,7 +315,7 @@ void Search::grow_tree() {
 
 // A leaf that is done gets numbers near those of the leaf before, which makes a short file. Where differences
 // are past their limit it gets the same numbers as the leaf before.
-Numbers Search::numbers_for_file(const Place& leaf, const std::vector<Decision>& decisions) {
+Numbers Search::numbers_for_file(const Tree::Place& leaf, const std::vector<Decision>& decisions) {
   const bool time = !clock_.over();
   Numbers numbers = leaf.done && time ? made_.near_last(leaf.numbers, decisions, goal_.target) : leaf.numbers;
   const Numbers& last = made_.last();
@@ -383,7 +329,7 @@ Numbers Search::numbers_for_file(const Place& leaf, const std::vector<Decision>&
 }
 
 // Whether the leaf reaches the target.
-bool Search::add_leaf(const Place& leaf, const std::vector<Decision>& decisions) {
+bool Search::add_leaf(const Tree::Place& leaf, const std::vector<Decision>& decisions) {
   const Numbers numbers = numbers_for_file(leaf, decisions);
   const Value value = bound_->value(numbers, decisions);
   least_ = std::min(least_, value);
@@ -396,56 +342,34 @@ bool Search::add_leaf(const Place& leaf, const std::vector<Decision>& decisions)
 // Drops the cuts of open leaves that a file can't have, those with the least multipliers. What leaves that
 // are done name is in the file.
 void Search::drop_surplus() {
-  std::vector<int> open = leaf_places(places_);
-  std::erase_if(open, [&](int place) { return places_[place].done; });
+  std::vector<int> open = tree_.leaves();
+  std::erase_if(open, [&](int place) { return tree_[place].done; });
   std::map<int, Value> sums;
   for (const int place : open) {
-    for (const auto& [cut, multiplier] : places_[place].numbers.multipliers) sums[cut] += multiplier;
+    for (const auto& [cut, multiplier] : tree_[place].numbers.multipliers) sums[cut] += multiplier;
   }
   named_.fill(sums);
   for (const int place : open) {
-    Place& here = places_[place];
+    Tree::Place& here = tree_[place];
     if (here.numbers.potentials.empty() || named_.fit(here.numbers)) continue;
     const int steps = clock_.over() ? 0 : kLeaves.mending_steps;
     here.numbers = made_.restricted(here.numbers, *named_.marks(), decisions_of(place), here.value, steps);
   }
 }
 
-// Whether each leaf reaches the target by multiples of a grid, which all then have.
-bool Search::coarsen_to(Weight grid, std::vector<int>& leaves) {
-  auto coarse = numbers_of_all<Numbers>(leaves, clock_, [&](int leaf) {
-    return made_.coarse(places_[leaf].numbers, decisions_of(leaf), goal_.target, grid);
-  });
-  if (!coarse) return false;
-  for (std::size_t k = 0; k < leaves.size(); k++) places_[leaves[k]].numbers = std::move((*coarse)[k]);
-  return true;
-}
-
-// Where all leaves are done, their numbers become multiples of a large divisor of the scale that lets them
-// reach the target.
 void Search::coarsen() {
-  std::vector<int> leaves = leaf_places(places_);
-  if (std::any_of(leaves.begin(), leaves.end(), [&](int place) { return !places_[place].done; })) return;
-  coarsest_grid(scale(), clock_, [&](Weight grid) { return coarsen_to(grid, leaves); });
+  tree_.coarsen(scale(), clock_, [&](int leaf, Weight grid) {
+    return made_.coarse(tree_[leaf].numbers, decisions_of(leaf), goal_.target, grid);
+  });
 }
 
-// The tree from the root on, a branch before its cases.
 void Search::list_steps() {
   leaves_ = 0;
-  std::vector<int> rest{0};
-  while (!rest.empty()) {
-    const int place = rest.back();
-    const Place& here = places_[place];
-    rest.pop_back();
-    if (!here.branch) {
-      leaves_++;
-      if (!add_leaf(here, decisions_of(place))) open_leaves_.push_back(leaves_);
-      continue;
-    }
-    steps_.emplace_back(here.branch->pair);
-    rest.push_back(here.branch->unused);
-    rest.push_back(here.branch->used);
-  }
+  const auto add = [&](int place) {
+    leaves_++;
+    if (!add_leaf(tree_[place], decisions_of(place))) open_leaves_.push_back(leaves_);
+  };
+  tree_.list([&](const Pair& pair) { steps_.emplace_back(pair); }, add);
 }
 
 // Cuts get new numbers, in the order of their first leaf.
@@ -472,8 +396,8 @@ Certificate Search::certificate() const {
   certificate.notes["root-gap"] = std::to_string(root_gap_);
   certificate.notes["large-tree"] = large_tree_ || leaves_ >= kCutting.many_leaves ? "1" : "0";
   if (plan_.split == 0) return certificate;
-  for (const auto& [value, place] : open_) {
-    const std::shared_ptr<const WarmStart>& warm = places_[-place].warm;
+  for (const auto& [value, place] : tree_.open()) {
+    const std::shared_ptr<const WarmStart>& warm = tree_[-place].start;
     if (!warm) continue;
     for (const int cut : warm->basis.cuts) number(cut);
   }

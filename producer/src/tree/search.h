@@ -8,12 +8,11 @@
 #pragma once
 #include <oneapi/tbb/enumerable_thread_specific.h>
 
-#include <set>
-
 #include "cuts/named_cuts.h"
 #include "running/job_window.h"
 #include "running/parameters.h"
 #include "tree/case_solver.h"
+#include "tree/case_tree.h"
 #include "tree/certificate.h"
 
 namespace certify {
@@ -46,24 +45,7 @@ class Search {
   int leaves() const { return leaves_; }
 
  private:
-  // What leads to a case from the one above it.
-  struct Origin {
-    int parent;
-    Decision decision;
-  };
-  struct Branch {
-    Pair pair;
-    int used, unused;  // the cases below
-  };
-  // A case's place in the tree, and the best numbers for it.
-  struct Place {
-    std::optional<Origin> origin{};           // nothing at the root
-    std::shared_ptr<const WarmStart> warm{};  // of the parent
-    Numbers numbers{};
-    Value value = ExactBound::nothing();
-    bool done = false;  // its numbers reach the target
-    std::optional<Branch> branch{};
-  };
+  using Tree = CaseTree<Pair, Numbers, WarmStart>;  // first come the cycles that use the pair
   // A case that is solved, or was; nothing where there was none to begin.
   struct Job {
     int place = -1;
@@ -71,15 +53,14 @@ class Search {
     Outcome outcome{};
   };
   using Window = JobWindow<Job>;
-  Value aim() const { return static_cast<Value>(problem_.scale) * (goal_.target - 1) + 1; }
+  Value aim() const { return value_to_reach(goal_.target, problem_.scale); }
   std::vector<Decision> decisions_of(int place) const;
   Numbers numbers_of(const Numbers& numbers, const std::vector<int>& cuts) const;
   std::vector<int> take_families(const Certificate& tree);
   void take_tree(const Certificate& tree);
-  void take_step(const TreeStep& step, std::vector<Origin>& rest, const std::vector<int>& cuts);
+  void take_step(const TreeStep& step, const std::vector<int>& cuts);
   Case first_case();
   void solve_first();
-  int depth_of(int place) const;
   void grow_tree();
   bool begin(Job& job);
   void solve(Window::Slot& slot);
@@ -88,7 +69,6 @@ class Search {
   void take(int place, Outcome& outcome);
   void take_done(int place);
   void renumber(Outcome& outcome);
-  void branch(int place, const Outcome& outcome);
   void go_on(int place, const Outcome& outcome);
   bool settle(int place);
   void finish(int place);
@@ -96,12 +76,11 @@ class Search {
   int next_place();
   Case case_of(int place);
   CaseSolver& own_solver();
-  bool coarsen_to(Weight grid, std::vector<int>& leaves);
   void coarsen();
   void drop_surplus();
   void list_steps();
-  Numbers numbers_for_file(const Place& leaf, const std::vector<Decision>& decisions);
-  bool add_leaf(const Place& leaf, const std::vector<Decision>& decisions);
+  Numbers numbers_for_file(const Tree::Place& leaf, const std::vector<Decision>& decisions);
+  bool add_leaf(const Tree::Place& leaf, const std::vector<Decision>& decisions);
   Standing standing() const;
   void log(std::string_view event) { progress_.log(event, standing()); }
 
@@ -117,18 +96,16 @@ class Search {
   const std::unique_ptr<ExactBound> bound_;
   std::optional<Weight> shift_;
   Leaves made_;
-  std::vector<Place> places_;
-  std::set<std::pair<Value, int>> open_;  // places by value, and of the same value the newest first
+  Tree tree_;
   oneapi::tbb::enumerable_thread_specific<std::unique_ptr<CaseSolver>> solvers_;
   Window window_;
   std::uint64_t begun_cases_ = 0;
   std::shared_ptr<const History> history_;
   std::vector<TreeStep> steps_;
   std::vector<int> open_leaves_;
-  Value left_ = -ExactBound::nothing();  // the least value of the cases without a branch that are left open
   Value least_;
   int leaves_ = 0;
-  std::size_t branches_ = 0, differences_ = 0;
+  std::size_t differences_ = 0;
   bool limited_ = false;
   bool large_tree_ = false;  // the tree seems to be large, so that families are worth their time
   double root_gap_ = 0;
