@@ -165,6 +165,10 @@ struct LeafParameters {
   double least_surplus = 0.005;     // of the program's value over the goal, with which numbers are tried
   int steps = 20, many_steps = 60;  // along trees; many where the surplus is below the next one
   double small_surplus = 0.02;
+  int most_near_nodes = 1000;  // of which numbers are found near those of the leaf before
+  double first_penalty = 0.016, most_penalty = 0.5, least_penalty = 0.001;  // of a change
+  double penalty_step = 3, least_step = 2;                                  // between penalties
+  int near_rounds = 40;         // of edges and sets of such a program
   int trials = 20, checks = 2;  // of bounds for a leaf that is made like the last, and of what they made
   int coarse_steps = 150;       // of a coarser grid, on which the size of the file depends
   int mending_steps = 30;       // of numbers whose families the file hasn't

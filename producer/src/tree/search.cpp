@@ -313,11 +313,25 @@ void Search::grow_tree() {
               [this](Job& job) { take(job); });
 }
 
+// The numbers of a leaf that is done, near those of the leaf before.
+Numbers Search::near_last(const Tree::Place& leaf, const std::vector<Decision>& decisions) {
+  const Numbers& last = made_.last();
+  if (last.potentials.empty()) return leaf.numbers;
+  if (bound_->reaches(last, decisions, aim())) return last;
+  const Numbers near = made_.near_last(leaf.numbers, decisions, goal_.target);
+  if (problem_.instance.directed || problem_.instance.nodes() > kLeaves.most_near_nodes) return near;
+  if (!near_) near_.emplace(problem_, pool_, *bound_, clock_);
+  const std::optional<Numbers> found = near_->find({last, leaf.numbers, decisions, aim(), grid_.value_or(1)});
+  if (!found) return near;
+  Numbers nearer = made_.near_last(*found, decisions, goal_.target);
+  return differences(nearer, last) < differences(near, last) ? nearer : near;
+}
+
 // A leaf that is done gets numbers near those of the leaf before, which makes a short file. Where differences
 // are past their limit it gets the same numbers as the leaf before.
 Numbers Search::numbers_for_file(const Tree::Place& leaf, const std::vector<Decision>& decisions) {
   const bool time = !clock_.over();
-  Numbers numbers = leaf.done && time ? made_.near_last(leaf.numbers, decisions, goal_.target) : leaf.numbers;
+  Numbers numbers = leaf.done && time ? near_last(leaf, decisions) : leaf.numbers;
   const Numbers& last = made_.last();
   const std::size_t count = differences(numbers, last);
   if (differences_ + count > plan_.limits.differences) {
@@ -358,7 +372,7 @@ void Search::drop_surplus() {
 }
 
 void Search::coarsen() {
-  tree_.coarsen(scale(), clock_, [&](int leaf, Weight grid) {
+  grid_ = tree_.coarsen(scale(), clock_, [&](int leaf, Weight grid) {
     return made_.coarse(tree_[leaf].numbers, decisions_of(leaf), goal_.target, grid);
   });
 }
@@ -394,7 +408,7 @@ Certificate Search::certificate() const {
   if (open_leaves_.empty()) return certificate;
   certificate.notes["open"] = std::to_string(open_leaves_.size());
   certificate.notes["root-gap"] = std::to_string(root_gap_);
-  certificate.notes["large-tree"] = large_tree_ || leaves_ >= kCutting.many_leaves ? "1" : "0";
+  certificate.notes["large-tree"] = std::to_string(large_tree_ || leaves_ >= kCutting.many_leaves ? 1 : 0);
   if (plan_.split == 0) return certificate;
   for (const auto& [value, place] : tree_.open()) {
     const std::shared_ptr<const WarmStart>& warm = tree_[-place].start;

@@ -14,6 +14,7 @@
 #include "tree/case_solver.h"
 #include "tree/case_tree.h"
 #include "tree/certificate.h"
+#include "tree/near_program.h"
 
 namespace certify {
 // Whether a tree may end in time: this part of it is done, which took the time from begun to used. The guess
@@ -77,6 +78,7 @@ class Search {
   Case case_of(int place);
   CaseSolver& own_solver();
   void coarsen();
+  Numbers near_last(const Tree::Place& leaf, const std::vector<Decision>& decisions);
   void drop_surplus();
   void list_steps();
   Numbers numbers_for_file(const Tree::Place& leaf, const std::vector<Decision>& decisions);
@@ -96,6 +98,8 @@ class Search {
   const std::unique_ptr<ExactBound> bound_;
   std::optional<Weight> shift_;
   Leaves made_;
+  std::optional<NearProgram> near_;  // of the leaves of a TSP
+  std::optional<Weight> grid_;       // all numbers are multiples of it, where all leaves are done
   Tree tree_;
   oneapi::tbb::enumerable_thread_specific<std::unique_ptr<CaseSolver>> solvers_;
   Window window_;

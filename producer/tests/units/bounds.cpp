@@ -2,6 +2,7 @@
 
 #include "fixtures.h"
 #include "tree/leaves.h"
+#include "tree/near_program.h"
 #include "tree/tree_bound.h"
 
 using namespace certify;
@@ -73,4 +74,39 @@ TEST_CASE("numbers become multiples of a grid") {
   CHECK(bound.bound_of(bound.value(*coarse, {})) == 14);
   for (const Weight potential : coarse->potentials) CHECK(potential % 10 == 0);
   CHECK(!leaves.coarse(numbers, {}, 15, 10));  // no numbers bound a tour of 14 by 15
+}
+
+// A leaf whose own numbers differ from the last ones at most nodes. The last ones with fewer changes reach
+// most of what it gains.
+TEST_CASE("numbers are near those of the leaf before") {
+  Random random(5);
+  for (int trial = 0; trial < 5; trial++) {
+    const Matrix weights = random_matrix(40, random);
+    const Instance instance{weights, {}, false};
+    const Start start{.tour = in_order(40)};
+    const Problem problem(instance, start);
+    CutPool pool(40);
+    const int comb = pool.add_comb({{0, 1, 2}, {0, 3}, {1, 4}, {2, 5}});
+    TreeBound bound(weights, pool, problem.scale);
+    bound.add_likely(problem.edges);
+    Leaves leaves(bound, pool, false);
+    const auto best = [&](const Numbers& numbers, const std::vector<Decision>& decisions) {
+      return leaves.restricted(numbers, {1}, decisions, leaves.goal(40000), 300);
+    };
+    const Numbers last = best({std::vector<Weight>(40, 0), {{comb, problem.scale}}}, {});
+    bound.value(last, {});
+    const std::vector<Decision> decisions{{bound.links()[7], false}, {bound.links()[20], true}};
+    const Numbers own = best(last, decisions);
+    const Value before = bound.value(last, decisions), most = bound.value(own, decisions);
+    REQUIRE(most > before);
+    const Value goal = before + (most - before) * 4 / 5;
+    const Clock clock(0);
+    NearProgram program(problem, pool, bound, clock);
+    const auto near = program.find({last, own, decisions, goal, 2});
+    REQUIRE(near);
+    CHECK(bound.value(*near, decisions) >= goal);
+    CHECK(differences(*near, last) < differences(own, last));
+    for (int v = 0; v < 40; v++) CHECK((near->potentials[v] - last.potentials[v]) % 2 == 0);
+    CHECK(!program.find({last, own, decisions, leaves.goal(1000000), 1}));  // longer than each tour
+  }
 }

@@ -1,0 +1,375 @@
+#include "tree/near_program.h"
+
+#include <algorithm>
+#include <cmath>
+#include <iterator>
+#include <numeric>
+#include <tuple>
+#include <utility>
+
+#include "cuts/subtours.h"
+#include "running/parameters.h"
+
+namespace certify {
+namespace {
+constexpr double kTiny = 1e-6;
+constexpr double kLeastViolation = 1e-3;
+constexpr double kTie = 1e-3;  // of reduced costs
+
+bool has(const NodeSet& set, int node) { return std::binary_search(set.begin(), set.end(), node); }
+
+// Sets that Kruskal's method meets, with more edges of a solution than a tree has.
+class Merging {
+ public:
+  explicit Merging(const Graph& support)
+      : support_(support), component_(support.size()), members_(support.size()), inside_(support.size(), 0) {
+    std::iota(component_.begin(), component_.end(), 0);
+    for (std::size_t v = 0; v < support.size(); v++) members_[v] = {static_cast<int>(v)};
+  }
+  // The next edge.
+  void take(const Pair& edge) {
+    int a = component_[edge.first], b = component_[edge.second];
+    if (a == b) return;
+    if (members_[a].size() < members_[b].size()) std::swap(a, b);
+    double between = 0;
+    for (const int v : members_[b]) {
+      for (const auto& [to, value] : support_[v]) between += component_[to] == a ? value : 0;
+    }
+    for (const int v : members_[b]) component_[v] = a;
+    inside_[a] += inside_[b] + between;
+    members_[a].insert(members_[a].end(), members_[b].begin(), members_[b].end());
+    members_[b].clear();
+    if (inside_[a] > static_cast<double>(members_[a].size()) - 1 + kLeastViolation)
+      sets_.push_back(members_[a]);
+  }
+  std::vector<NodeSet>& sets() { return sets_; }
+
+ private:
+  const Graph& support_;
+  std::vector<int> component_;
+  std::vector<NodeSet> members_;
+  std::vector<double> inside_;
+  std::vector<NodeSet> sets_;
+};
+
+NodeSet complement(const NodeSet& set, int nodes) {
+  NodeSet rest;
+  for (int v = 0; v < nodes; v++) {
+    if (!has(set, v)) rest.push_back(v);
+  }
+  return rest;
+}
+
+// Whether the edges inside are worth more than those of a tree.
+bool has_many_edges(const Graph& support, const NodeSet& set) {
+  double inside = 0;
+  for (const int v : set) {
+    for (const auto& [to, value] : support[v]) inside += to > v && has(set, to) ? value : 0;
+  }
+  return inside > static_cast<double>(set.size()) - 1 + kLeastViolation;
+}
+}  // namespace
+
+// The rows of edges that aren't at node 0, of those that are, and of the other nodes.
+NearProgram::NearProgram(const Problem& problem, const CutPool& pool, ExactBound& bound, const Clock& clock)
+    : weights_(problem.instance.weights),
+      pool_(pool),
+      bound_(bound),
+      clock_(clock),
+      penalty_(kLeaves.first_penalty) {
+  const auto length = static_cast<double>(length_of(weights_, problem.start.tour));
+  unit_ = static_cast<double>(bound_.scale()) * std::max(1.0, length / nodes() / 1000);
+  program_.setLogLevel(0);
+  program_.scaling(0);
+  program_.resize(0, 0);
+  std::vector<double> edges(first_row(), 2);
+  edges[0] = nodes() - 2;
+  const std::vector<CoinBigIndex> starts(first_row() + 1, 0);
+  program_.addRows(first_row(), edges.data(), edges.data(), starts.data(), nullptr, nullptr);
+  add_edges(problem.edges);
+}
+
+// How often an edge crosses the sets of a cut, or whether it is inside a set.
+double NearProgram::entry(const Row& row, const Pair& edge) const {
+  if (row.cut < 0) return has(row.set, edge.first) && has(row.set, edge.second) ? 1 : 0;
+  double crossings = 0;
+  for (const NodeSet& set : pool_[row.cut].sets) crossings += has(set, edge.first) != has(set, edge.second);
+  return crossings;
+}
+
+void NearProgram::add_edges(const std::vector<Pair>& edges) {
+  std::vector<CoinBigIndex> starts{0};
+  std::vector<int> places;
+  std::vector<double> elements;
+  int count = 0;
+  for (const Pair& each : edges) {
+    const Pair edge = std::minmax(each.first, each.second);
+    if (!column_of_.emplace(edge, static_cast<int>(columns_.size())).second) continue;
+    columns_.push_back({edge, -1});
+    places.push_back(edge.first == 0 ? 1 : 0);
+    elements.push_back(1);
+    for (const int v : {edge.first, edge.second}) {
+      if (v == 0) continue;
+      places.push_back(1 + v);
+      elements.push_back(1);
+    }
+    for (std::size_t row = 0; row < rows_.size(); row++) {
+      const double element = entry(rows_[row], edge);
+      if (element == 0) continue;
+      places.push_back(first_row() + static_cast<int>(row));
+      elements.push_back(element);
+    }
+    starts.push_back(static_cast<CoinBigIndex>(places.size()));
+    count++;
+  }
+  if (count == 0) return;
+  const std::vector<double> low(count, 0), high(count, 1), costs(count, 0);
+  program_.addColumns(count, low.data(), high.data(), costs.data(), starts.data(), places.data(),
+                      elements.data());
+}
+
+// Rows join all at once, since each time costs a copy of the program. Those of cuts have bounds by a penalty.
+void NearProgram::add_rows(std::vector<Row> rows) {
+  if (rows.empty()) return;
+  std::vector<CoinBigIndex> starts{0};
+  std::vector<int> places;
+  std::vector<double> elements, high;
+  for (const Row& row : rows) {
+    for (std::size_t column = 0; column < columns_.size(); column++) {
+      if (!is_edge(column)) continue;
+      const double element = entry(row, columns_[column].edge);
+      if (element == 0) continue;
+      places.push_back(static_cast<int>(column));
+      elements.push_back(element);
+    }
+    starts.push_back(static_cast<CoinBigIndex>(places.size()));
+    high.push_back(static_cast<double>(row.set.size()) - 1);
+  }
+  const std::vector<double> low(rows.size(), -COIN_DBL_MAX);
+  program_.addRows(static_cast<int>(rows.size()), low.data(), high.data(), starts.data(), places.data(),
+                   elements.data());
+  std::move(rows.begin(), rows.end(), std::back_inserter(rows_));
+}
+
+void NearProgram::add_cuts(const Numbers& numbers) {
+  std::vector<Row> rows;
+  std::vector<int> places;
+  for (const auto& [cut, multiplier] : numbers.multipliers) {
+    const auto row = static_cast<int>(rows_.size() + rows.size());
+    if (!row_of_.emplace(cut, row).second) continue;
+    rows.push_back({cut, {}});
+    places.push_back(row);
+  }
+  add_rows(std::move(rows));
+  const std::vector<double> elements(places.size(), -1), low(places.size(), 0), costs(places.size(), 0);
+  const std::vector<double> high(places.size(), COIN_DBL_MAX);
+  std::vector<CoinBigIndex> starts(places.size() + 1);
+  std::iota(starts.begin(), starts.end(), 0);
+  for (int& place : places) {
+    columns_.push_back({{-1, -1}, place});
+    place += first_row();
+  }
+  if (places.empty()) return;
+  program_.addColumns(static_cast<int>(places.size()), low.data(), high.data(), costs.data(), starts.data(),
+                      places.data(), elements.data());
+}
+
+// The sets that no solution needs any more.
+void NearProgram::drop_slack_sets() {
+  std::vector<int> places;
+  std::vector<Row> kept;
+  std::vector<int> moved(rows_.size(), -1);
+  for (std::size_t row = 0; row < rows_.size(); row++) {
+    const int place = first_row() + static_cast<int>(row);
+    if (rows_[row].cut < 0 && program_.getRowStatus(place) == ClpSimplex::basic) {
+      places.push_back(place);
+      continue;
+    }
+    moved[row] = static_cast<int>(kept.size());
+    kept.push_back(std::move(rows_[row]));
+  }
+  if (!places.empty()) program_.deleteRows(static_cast<int>(places.size()), places.data());
+  rows_ = std::move(kept);
+  for (auto& [cut, row] : row_of_) row = moved[row];
+  for (Column& column : columns_) {
+    if (column.surplus_of >= 0) column.surplus_of = moved[column.surplus_of];
+  }
+}
+
+// What edges weigh by the last numbers, and surpluses by the multipliers.
+void NearProgram::set_costs() {
+  potentials::Surcharges<Weight> surcharges(nodes());
+  const Weighed weighed =
+      weigh(last_, pool_, [&](const NodeSet& set, Weight weight) { surcharges.add(set, weight); });
+  for (std::size_t column = 0; column < columns_.size(); column++) {
+    const auto& [edge, row] = columns_[column];
+    Weight weight = 0;
+    if (row >= 0) {
+      const auto found = last_.multipliers.find(rows_[row].cut);
+      weight = found == last_.multipliers.end() ? 0 : found->second;
+    } else {
+      const auto [i, j] = edge;
+      weight = bound_.scale() * weights_(i, j) + weighed.own[i] + weighed.own[j] + surcharges.between(i, j);
+    }
+    program_.setObjectiveCoefficient(static_cast<int>(column), static_cast<double>(weight) / unit_);
+  }
+}
+
+void NearProgram::decide(const std::vector<Decision>& decisions) {
+  for (const Pair& edge : decided_) program_.setColumnBounds(column_of_.at(edge), 0, 1);
+  decided_.clear();
+  for (const Decision& decision : decisions) {
+    const Pair edge = std::minmax(decision.pair.first, decision.pair.second);
+    add_edges({edge});
+    const double value = decision.used ? 1 : 0;
+    program_.setColumnBounds(column_of_.at(edge), value, value);
+    decided_.push_back(edge);
+  }
+}
+
+void NearProgram::set_penalty(double penalty) {
+  for (int v = 1; v < nodes(); v++) program_.setRowBounds(1 + v, 2 - penalty, 2 + penalty);
+  for (const auto& [cut, row] : row_of_) {
+    const double crossings = pool_[cut].crossings;
+    program_.setRowBounds(first_row() + row, crossings - penalty, crossings + penalty);
+  }
+}
+
+bool NearProgram::solve() {
+  program_.dual(0);
+  if (program_.status() != 0) program_.primal(0);
+  return program_.status() == 0;
+}
+
+// Of edges, by the last numbers and their changes.
+std::vector<double> NearProgram::reduced_costs() const {
+  const CoinPackedMatrix& matrix = *program_.matrix();
+  const double* duals = program_.getRowPrice();
+  const double* costs = program_.getObjCoefficients();
+  std::vector<double> reduced(columns_.size());
+  for (std::size_t column = 0; column < columns_.size(); column++) {
+    double cost = costs[column];
+    const CoinBigIndex first = matrix.getVectorStarts()[column];
+    for (CoinBigIndex k = first; k < first + matrix.getVectorLengths()[column]; k++) {
+      const int row = matrix.getIndices()[k];
+      if (row < 2 || (row >= first_row() && rows_[row - first_row()].cut < 0)) continue;
+      cost -= duals[row] * matrix.getElements()[k];
+    }
+    reduced[column] = cost;
+  }
+  return reduced;
+}
+
+// Edges of the solution, of which those at node 0 are in no set.
+Graph NearProgram::support() const {
+  Graph support(nodes());
+  const double* solution = program_.getColSolution();
+  for (std::size_t column = 0; column < columns_.size(); column++) {
+    const Pair& edge = columns_[column].edge;
+    if (!is_edge(column) || solution[column] < kTiny) continue;
+    support[edge.first].push_back({edge.second, solution[column]});
+    support[edge.second].push_back({edge.first, solution[column]});
+  }
+  return support;
+}
+
+// Edges by their reduced costs, as Kruskal's method takes them, and of about the same those that the solution
+// uses most come first.
+std::vector<int> NearProgram::edges_in_order() const {
+  const double* solution = program_.getColSolution();
+  const std::vector<double> costs = reduced_costs();
+  std::vector<std::tuple<double, double, int>> order;
+  for (std::size_t column = 0; column < columns_.size(); column++) {
+    if (!is_edge(column) || columns_[column].edge.first == 0 || program_.getColUpper()[column] < 0.5)
+      continue;
+    const bool used = program_.getColLower()[column] > 0.5;
+    order.emplace_back(used ? -COIN_DBL_MAX : std::floor(costs[column] / kTie), -solution[column], column);
+  }
+  std::sort(order.begin(), order.end());
+  std::vector<int> edges;
+  edges.reserve(order.size());
+  for (const auto& [cost, value, column] : order) edges.push_back(column);
+  return edges;
+}
+
+// How many joined: those that Kruskal's method meets, or else those that are crossed too little.
+int NearProgram::add_violated_sets() {
+  const Graph graph = support();
+  Merging merging(graph);
+  for (const int column : edges_in_order()) merging.take(columns_[column].edge);
+  std::vector<Row> rows;
+  for (NodeSet& set : merging.sets()) {
+    std::sort(set.begin(), set.end());
+    rows.push_back({-1, std::move(set)});
+  }
+  if (rows.empty()) {
+    for (NodeSet& set : crossed_too_little(graph, kTiny)) {
+      std::sort(set.begin(), set.end());
+      if (set[0] == 0) set = complement(set, nodes());
+      if (has_many_edges(graph, set)) rows.push_back({-1, std::move(set)});
+    }
+  }
+  const int count = static_cast<int>(rows.size());
+  add_rows(std::move(rows));
+  return count;
+}
+
+Numbers NearProgram::numbers(Weight grid) const {
+  const double* duals = program_.getRowPrice();
+  const auto change = [&](int row) {
+    return static_cast<Weight>(std::llround(duals[row] * unit_ / static_cast<double>(grid))) * grid;
+  };
+  Numbers numbers = last_;
+  for (int v = 1; v < nodes(); v++) numbers.potentials[v] -= change(1 + v);
+  for (const auto& [cut, row] : row_of_) {
+    const auto found = last_.multipliers.find(cut);
+    const Weight before = found == last_.multipliers.end() ? 0 : found->second;
+    const Weight multiplier = std::max<Weight>(0, before + change(first_row() + row));
+    if (multiplier > 0) {
+      numbers.multipliers[cut] = multiplier;
+    } else {
+      numbers.multipliers.erase(cut);
+    }
+  }
+  return numbers;
+}
+
+// Numbers under a penalty that reach the goal. Nothing where they don't.
+std::optional<Numbers> NearProgram::reach(double penalty, const NearLeaf& leaf) {
+  set_penalty(penalty);
+  for (int round = 0; round < kLeaves.near_rounds && !clock_.over(); round++) {
+    if (!solve()) return std::nullopt;
+    if (add_violated_sets() > 0) continue;
+    Numbers near = numbers(leaf.grid);
+    if (bound_.value(near, leaf.decisions) >= leaf.goal) return near;
+    const std::size_t before = columns_.size();
+    add_edges(bound_.links());
+    if (columns_.size() == before) return std::nullopt;
+    set_costs();
+  }
+  return std::nullopt;
+}
+
+// The larger the penalty, the nearer the numbers.
+std::optional<Numbers> NearProgram::find(const NearLeaf& leaf) {
+  drop_slack_sets();
+  last_ = leaf.last;
+  decide(leaf.decisions);
+  for (const Numbers* numbers : {&leaf.last, &leaf.own}) add_cuts(*numbers);
+  set_costs();
+  std::optional<Numbers> near = reach(penalty_, leaf);
+  double above = kLeaves.most_penalty;  // one that isn't reached, or isn't tried
+  while (!near && penalty_ > kLeaves.least_penalty && !clock_.over()) {
+    above = penalty_;
+    penalty_ /= kLeaves.penalty_step;
+    near = reach(penalty_, leaf);
+  }
+  while (near && penalty_ * kLeaves.least_step < above) {
+    const double trial = std::min(penalty_ * kLeaves.penalty_step, std::sqrt(penalty_ * above));
+    std::optional<Numbers> nearer = reach(trial, leaf);
+    (nearer ? penalty_ : above) = trial;
+    if (nearer) near = std::move(nearer);
+  }
+  return near;
+}
+}  // namespace certify
