@@ -7,7 +7,7 @@ use Rattle.tsp_stream.specs.Sink.{Sink, HasWritten}
 use Rattle.tsp_draft.specs.Fields.{Fields}
 use Rattle.tsp_text.specs.Text.{Spells}
 use Rattle.tsp_read.specs.Reads.{IsFile}
-use Rattle.tsp_reason.specs.declared.certificate.Certificate.{Certificate}
+use Rattle.tsp_task.specs.declared.certificate.Certificate.{Certificate}
 use Rattle.tsp_judge.specs.CheckRun.{IsFileIn}
 use Rattle.tsp_judge.specs.Accepted.{IsAccepted, IsAcceptedTour, AreAcceptedRoutes}
 use Rattle.tsp_judge.specs.Yes.{SaysYes}

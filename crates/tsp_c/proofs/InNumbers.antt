@@ -5,11 +5,11 @@ use Rattle.std.proofs.lemmas.Int.{ints}
 use Rattle.tsp_stream.specs.Turn.{Turn}
 use Rattle.tsp_stream.specs.Sink.{Sink}
 use Rattle.tsp_draft.specs.Fields.{Fields}
-use Rattle.tsp_reason.specs.declared.certificate.Certificate.{Certificate}
-use Rattle.tsp_reason.specs.declared.verdict.BoundVerdict.{BoundVerdict}
-use Rattle.tsp_reason.specs.declared.verdict.BoundVerdict.TheVariants as bounds
-use Rattle.tsp_reason.specs.declared.verdict.Verdict.{Verdict}
-use Rattle.tsp_reason.specs.Verdicts.{is_yes, is_bound_yes}
+use Rattle.tsp_task.specs.declared.certificate.Certificate.{Certificate}
+use Rattle.tsp_task.specs.declared.verdict.BoundVerdict.{BoundVerdict}
+use Rattle.tsp_task.specs.declared.verdict.BoundVerdict.TheVariants as bounds
+use Rattle.tsp_task.specs.declared.verdict.Verdict.{Verdict}
+use Rattle.tsp_task.specs.Verdicts.{is_yes, is_bound_yes}
 use Rattle.tsp_report.specs.Report.{IsSized}
 use Rattle.tsp_verdict.specs.Bounded.{IsBoundVerdict}
 use Rattle.tsp_verdict.specs.Certified.{IsBoundFitting}
@@ -28,7 +28,7 @@ use Rattle.tsp_c.proofs.StatusMeanings.{fault_status}
 use Rattle.tsp_c.proofs.OnHandles.{not_two}
 use Rattle.tsp_c.proofs.OnTexts.{Reads2, Reads3, are_spelled, unchecked, no_relayout, unbounded, not_relaid, spelled, unasked}
 use Rattle.tsp_verdict.specs.Strict.{is_unjudged, strict_verdict}
-use Rattle.tsp_reason.specs.declared.verdict.Verdict.TheVariants as verdicts
+use Rattle.tsp_task.specs.declared.verdict.Verdict.TheVariants as verdicts
 
 -- ---- bounds that fit
 

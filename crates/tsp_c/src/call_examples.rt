@@ -5,7 +5,7 @@
 ghost use Rattle.std.specs.Prelude.{ℕ, ℤ, pos, List, [], ◌∷◌, Err};
 ghost use Rattle.tsp_draft.specs.Fields.{Fields};
 ghost use Rattle.tsp_read.specs.Reads.{Reads};
-ghost use Rattle.tsp_reason.specs.declared.certificate.Certificate.{Certificate};
+ghost use Rattle.tsp_task.specs.declared.certificate.Certificate.{Certificate};
 ghost use Rattle.tsp_text.specs.declared.fault.ReadFault.{ReadFault};
 ghost use Rattle.tsp_judge.specs.declared.fault.RunFault.TheVariants as run_faults;
 ghost use Rattle.tsp_judge.specs.Open.{IsNotJudged, IsUnbound, IsUnopened, Open};

@@ -2,7 +2,7 @@
 
 ghost use Rattle.std.specs.Prelude.{◌≡◌, None, Some, MatchResult};
 ghost use Rattle.tsp_stream.specs.states.Watched.{sink_of};
-ghost use Rattle.tsp_reason.specs.Verdicts.{is_yes};
+ghost use Rattle.tsp_task.specs.Verdicts.{is_yes};
 ghost use Rattle.tsp_report.specs.Report.{report_of, IsSized};
 ghost use Rattle.tsp_c.specs.Ended.{Reports, nth};
 ghost use Rattle.tsp_c.specs.NumberCalls.{EndsCount, EndsLengths, EndsMatrix, EndsWeights};

@@ -8,9 +8,9 @@ use Rattle.tsp_number.specs.declared.fault.NumberFault.{NumberFault}
 use Rattle.tsp_number.specs.NumberWord.{ReadsWhole}
 use Rattle.tsp_format.specs.declared.layout.Layout.{Layout}
 use Rattle.tsp_format.specs.Layout.{layout_word}
-use Rattle.tsp_reason.specs.declared.certificate.Certificate.{Certificate}
-use Rattle.tsp_reason.specs.declared.certificate.Certificate.TheVariants.{Potentials, Branches}
-use Rattle.tsp_reason.specs.declared.role.Role.{Role}
+use Rattle.tsp_task.specs.declared.certificate.Certificate.{Certificate}
+use Rattle.tsp_task.specs.declared.certificate.Certificate.TheVariants.{Potentials, Branches}
+use Rattle.tsp_task.specs.declared.role.Role.{Role}
 use Rattle.tsp_task.specs.Files.{files_of, files_compared}
 use Rattle.tsp_cli.specs.CommandWords.{text_in}
 use Rattle.tsp_cli.specs.declared.words.Job.{Job}

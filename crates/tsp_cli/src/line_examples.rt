@@ -13,7 +13,7 @@ ghost use Rattle.tsp_cli.specs.declared.task_of_job.InputPath.{InputPath};
 ghost use Rattle.tsp_task.specs.declared.task.FileTask.TheVariants as file_tasks;
 ghost use Rattle.tsp_task.specs.declared.task.Comparison.{Comparison};
 ghost use Rattle.tsp_task.specs.declared.task.Task.TheVariants as tasks;
-ghost use Rattle.tsp_reason.specs.declared.certificate.Certificate.TheVariants as certificates;
+ghost use Rattle.tsp_task.specs.declared.certificate.Certificate.TheVariants as certificates;
 ghost use Rattle.tsp_cli.specs.Tasks.{IsFileTask, IsTask};
 ghost use Rattle.tsp_cli.specs.Examples.{IsWholeLine, found_value, all_values};
 

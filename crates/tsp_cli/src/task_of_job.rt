@@ -9,8 +9,7 @@ ghost use Rattle.tsp_cli.specs.Tasks.{GivesTask, input_at, inputs_at, inputs_of_
 use crate::words::{Job, Verb};
 use tsp_format::Layout;
 use tsp_number::parse_whole;
-use tsp_reason::Certificate;
-use tsp_task::{Comparison, FileTask, Task};
+use tsp_task::{Certificate, Comparison, FileTask, Task};
 
 /// Where a file is.
 #[derive(Clone, Copy)]

@@ -15,7 +15,7 @@ use std::io;
 use std::io::Read;
 use tsp_draft::EndFault;
 use tsp_format::{Field, Word};
-use tsp_reason::Role;
+use tsp_task::Role;
 use tsp_text::{LineFault, ReadFault};
 
 /// Appends why a file isn't read. `name` is what the user calls it, `given` what it is given for in

@@ -7,8 +7,8 @@ ghost use Rattle.std.specs.Prelude.{◌≤◌, length};
 use tsp_draft::EndFault;
 use tsp_file::RelayoutFault;
 use tsp_number::NumberFault;
-use tsp_reason::Reason;
 use tsp_stream::WriteFault;
+use tsp_task::Reason;
 use tsp_text::LineFault;
 
 /// What is wrong with a line.

@@ -10,7 +10,7 @@ use std::alloc::{AllocError, Global};
 use tsp_cost::Instance;
 use tsp_file::File;
 use tsp_format::Kind;
-use tsp_reason::{BoundVerdict, Reason, Role, Verdict, blamed};
+use tsp_task::{BoundVerdict, Reason, Role, Verdict, blamed};
 
 /// What a user calls the files of a check, or of a bound.
 #[derive(Clone, Copy)]

@@ -10,14 +10,14 @@ use Rattle.tsp_cost.specs.ProblemLaws.{IsProblem}
 use Rattle.tsp_theory.specs.Tour.{BoundsTours, HasNoTour}
 use Rattle.tsp_cost.specs.ComputedProblems.{problem_of, routing_of}
 use Rattle.tsp_read.specs.Reads.{IsFile}
-use Rattle.tsp_reason.specs.declared.basis.Basis.TheVariants as bases
-use Rattle.tsp_reason.specs.declared.verdict.BoundVerdict.TheVariants as bounds
-use Rattle.tsp_reason.specs.declared.certificate.Certificate.{Certificate}
-use Rattle.tsp_reason.specs.declared.verdict.Reason.{Reason}
-use Rattle.tsp_reason.specs.declared.verdict.Reason.TheVariants.{TooFewNodes, NotSymmetric, DepotCount, DepotDemand, FixedEdgesInRoutes}
-use Rattle.tsp_reason.specs.declared.verdict.Verdict.{Verdict}
-use Rattle.tsp_reason.specs.declared.verdict.Verdict.TheVariants as verdicts
-use Rattle.tsp_reason.specs.Verdicts.{is_yes}
+use Rattle.tsp_task.specs.declared.basis.Basis.TheVariants as bases
+use Rattle.tsp_task.specs.declared.verdict.BoundVerdict.TheVariants as bounds
+use Rattle.tsp_task.specs.declared.certificate.Certificate.{Certificate}
+use Rattle.tsp_task.specs.declared.verdict.Reason.{Reason}
+use Rattle.tsp_task.specs.declared.verdict.Reason.TheVariants.{TooFewNodes, NotSymmetric, DepotCount, DepotDemand, FixedEdgesInRoutes}
+use Rattle.tsp_task.specs.declared.verdict.Verdict.{Verdict}
+use Rattle.tsp_task.specs.declared.verdict.Verdict.TheVariants as verdicts
+use Rattle.tsp_task.specs.Verdicts.{is_yes}
 use Rattle.tsp_verdict.specs.Basis.{IsBasisAlone, IsBasisBy, IsBasis}
 use Rattle.tsp_verdict.specs.Bounded.{StandsAgainstTouring, StandsAgainstRouting, StandsAgainstInstanceBy, StandsAgainstBounded, IsBoundVerdict}
 use Rattle.tsp_verdict.specs.Certified.{StandsAgainstCertificate, HasNoSolutionBy, IsCertifiedTourVerdict, IsCertifiedRoutesVerdict, IsCertifiedVerdictBy, IsCertifiedVerdict}

@@ -16,13 +16,13 @@ use Rattle.tsp_read.specs.declared.ReadFault.{ReadFault}
 use Rattle.tsp_read.specs.Asked.{HasReads, IsReadOn}
 use Rattle.tsp_read.specs.Reads.{IsFile, most_taken}
 use Rattle.tsp_cost.specs.ProblemLaws.{IsProblem}
-use Rattle.tsp_reason.specs.declared.certificate.Certificate.{Certificate}
-use Rattle.tsp_reason.specs.declared.verdict.Verdict.{Verdict}
+use Rattle.tsp_task.specs.declared.certificate.Certificate.{Certificate}
+use Rattle.tsp_task.specs.declared.verdict.Verdict.{Verdict}
 use Rattle.tsp_verdict.specs.Basis.{IsBasis, IsVerdictFrom}
 use Rattle.tsp_verdict.specs.Strict.{is_unjudged, strict_basis, IsBasisAsked}
-use Rattle.tsp_reason.specs.declared.basis.Basis.{Basis}
-use Rattle.tsp_reason.specs.declared.basis.Basis.TheVariants as bases
-use Rattle.tsp_reason.specs.Verdicts.{is_clear}
+use Rattle.tsp_task.specs.declared.basis.Basis.{Basis}
+use Rattle.tsp_task.specs.declared.basis.Basis.TheVariants as bases
+use Rattle.tsp_task.specs.Verdicts.{is_clear}
 use Rattle.tsp_judge.specs.declared.common.Common.{Common}
 use Rattle.tsp_judge.specs.declared.common.Found.{Found}
 use Rattle.tsp_judge.specs.declared.fault.RunFault.{RunFault}

@@ -1,6 +1,6 @@
 -- The fault of a text that a call on an open instance reads. For `Opened::bind` in src/opened.rt and others.
 use Rattle.std.proofs.Common.{ℕ, List, Err}
-use Rattle.tsp_reason.specs.declared.certificate.Certificate.{Certificate}
+use Rattle.tsp_task.specs.declared.certificate.Certificate.{Certificate}
 use Rattle.tsp_judge.specs.declared.fault.RunFault.{RunFault}
 use Rattle.tsp_judge.specs.declared.fault.RunFault.TheVariants.{File, WrongKind, Write, OutOfMemory, Relayout}
 use Rattle.tsp_judge.specs.Open.{Open, ReadsText, IsUnopened, IsUnbound, IsNotJudged}

@@ -10,9 +10,9 @@ use Rattle.tsp_stream.specs.Sink.{Sink, IsUnwritten}
 use Rattle.tsp_draft.specs.Fields.{Fields}
 use Rattle.tsp_draft.specs.Rules.{is_instance}
 use Rattle.tsp_read.specs.Reads.{IsFile, most_taken}
-use Rattle.tsp_reason.specs.declared.certificate.Certificate.{Certificate}
-use Rattle.tsp_reason.specs.declared.verdict.Verdict.{Verdict}
-use Rattle.tsp_reason.specs.declared.verdict.Verdict.TheVariants as verdicts
+use Rattle.tsp_task.specs.declared.certificate.Certificate.{Certificate}
+use Rattle.tsp_task.specs.declared.verdict.Verdict.{Verdict}
+use Rattle.tsp_task.specs.declared.verdict.Verdict.TheVariants as verdicts
 use Rattle.tsp_verdict.specs.Certified.{is_bounded, IsBoundFitting, IsCertifiedTourVerdict, IsCertifiedRoutesVerdict, IsCertifiedVerdictBy}
 use Rattle.tsp_verdict.specs.SolutionVerdict.{is_judged, IsVerdictBy, IsUnclaimedVerdict, IsVerdictWith}
 use Rattle.tsp_verdict.specs.Strict.{is_unjudged, strict_verdict, IsVerdictAsked}

@@ -15,12 +15,12 @@ use Rattle.tsp_theory.specs.Length.{length_of}
 use Rattle.tsp_theory.specs.Routing.{RoutingProblem, IsPlan, IsCustomer, plan_length}
 use Rattle.tsp_cost.specs.ProblemLaws.{IsProblem}
 use Rattle.tsp_cost.specs.ComputedProblems.{depot_of, problem_of, routing_of, depots_of}
-use Rattle.tsp_reason.specs.declared.certificate.Certificate.{Certificate}
-use Rattle.tsp_reason.specs.declared.certificate.Certificate.TheVariants.{Potentials, Branches}
-use Rattle.tsp_reason.specs.declared.verdict.Reason.{Reason}
-use Rattle.tsp_reason.specs.declared.verdict.Reason.TheVariants.{NotASolution, TooFewNodes, DepotCount, NotPotentials, NotBranches}
-use Rattle.tsp_reason.specs.declared.verdict.Verdict.{Verdict}
-use Rattle.tsp_reason.specs.declared.verdict.Verdict.TheVariants as verdicts
+use Rattle.tsp_task.specs.declared.certificate.Certificate.{Certificate}
+use Rattle.tsp_task.specs.declared.certificate.Certificate.TheVariants.{Potentials, Branches}
+use Rattle.tsp_task.specs.declared.verdict.Reason.{Reason}
+use Rattle.tsp_task.specs.declared.verdict.Reason.TheVariants.{NotASolution, TooFewNodes, DepotCount, NotPotentials, NotBranches}
+use Rattle.tsp_task.specs.declared.verdict.Verdict.{Verdict}
+use Rattle.tsp_task.specs.declared.verdict.Verdict.TheVariants as verdicts
 use Rattle.tsp_verdict.specs.Certified.{kind_of, is_bounded, StandsAgainstCertificateBy, StandsAgainstCertificate, IsCertifiedTourVerdict, IsCertifiedRoutesVerdict, IsCertifiedVerdictBy, IsCertifiedVerdict}
 use Rattle.tsp_verdict.specs.SolutionVerdict.{is_judged, IsVerdictBy, IsUnclaimedVerdict, HasLength, IsAsClaimed, IsVerdictWith}
 use Rattle.tsp_verdict.specs.Strict.{refuses, is_unjudged, strict_verdict}
@@ -30,7 +30,7 @@ use Rattle.tsp_verdict.specs.Plan.{plan_length, depot_of}
 use Rattle.tsp_report.specs.Report.{report_of}
 use Rattle.tsp_judge.specs.declared.fault.RunFault.{RunFault}
 use Rattle.tsp_judge.specs.declared.judging.Judged.{Judged}
-use Rattle.tsp_reason.specs.Verdicts.{is_yes}
+use Rattle.tsp_task.specs.Verdicts.{is_yes}
 use Rattle.tsp_judge.specs.CheckRun.{Given, EndsWithout, IsRun, told}
 use Rattle.tsp_judge.proofs.HandedOn.{one_value}
 use Rattle.tsp_judge.specs.Accepted.{IsAcceptedTour, AreOnlyRoutes, AreAcceptedRoutes, IsTourWithBound, AreRoutesWithBound, IsAccepted}

@@ -9,10 +9,10 @@ use Rattle.tsp_theory.specs.Routing.{RoutingProblem, IsPlan, plan_length, IsLeas
 use Rattle.tsp_theory.specs.Tour.{Problem, IsTour, BoundsTours, HasNoTour}
 use Rattle.tsp_routing.specs.PlanLinks.{IsFilledPlan, BoundsPlans, HasNoPlan}
 use Rattle.tsp_cost.specs.Problems.{IsProblemOf, IsRoutingOf}
-use Rattle.tsp_reason.specs.declared.certificate.Certificate.{Certificate}
-use Rattle.tsp_reason.specs.declared.verdict.BoundVerdict.{BoundVerdict}
-use Rattle.tsp_reason.specs.declared.verdict.BoundVerdict.TheVariants.{Bound, NoSolution, No}
-use Rattle.tsp_reason.specs.declared.verdict.Verdict.TheVariants.{Tour, Routes}
+use Rattle.tsp_task.specs.declared.certificate.Certificate.{Certificate}
+use Rattle.tsp_task.specs.declared.verdict.BoundVerdict.{BoundVerdict}
+use Rattle.tsp_task.specs.declared.verdict.BoundVerdict.TheVariants.{Bound, NoSolution, No}
+use Rattle.tsp_task.specs.declared.verdict.Verdict.TheVariants.{Tour, Routes}
 use Rattle.tsp_verdict.specs.Certified.{kind_of, IsBoundOf}
 use Rattle.tsp_report.specs.Report.{report_of, bound_report_of}
 

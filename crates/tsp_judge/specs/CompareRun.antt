@@ -11,9 +11,9 @@ use Rattle.tsp_read.specs.declared.ReadFault.TheVariants as read_faults
 use Rattle.tsp_read.specs.Asked.{HasReads}
 use Rattle.tsp_read.specs.Reads.{IsFile, StopsAt, most_taken}
 use Rattle.tsp_cost.specs.ProblemLaws.{IsProblem}
-use Rattle.tsp_reason.specs.declared.certificate.Certificate.{Certificate}
-use Rattle.tsp_reason.specs.declared.verdict.Verdict.{Verdict}
-use Rattle.tsp_reason.specs.Verdicts.{is_yes, is_clear}
+use Rattle.tsp_task.specs.declared.certificate.Certificate.{Certificate}
+use Rattle.tsp_task.specs.declared.verdict.Verdict.{Verdict}
+use Rattle.tsp_task.specs.Verdicts.{is_yes, is_clear}
 use Rattle.tsp_verdict.specs.Basis.{NoneOfBasisWithoutMemory, HasBasis}
 use Rattle.tsp_verdict.specs.SolutionVerdict.{is_judged, NoneBeforeRepeatsOn, IsVerdictWith}
 use Rattle.tsp_verdict.specs.Strict.{IsBasisAsked}

@@ -1,6 +1,6 @@
 -- Which lines of a comparison its follower gets.
 use Rattle.std.specs.Prelude.{◌≡◌, ℕ, zero, suc, ◌-◌, ◌≤◌, Bool, true, false, Result, Ok, Err}
-use Rattle.tsp_reason.specs.Verdicts.{is_clear}
+use Rattle.tsp_task.specs.Verdicts.{is_clear}
 use Rattle.tsp_judge.specs.declared.compared.Compared.{Compared}
 use Rattle.tsp_judge.specs.declared.fault.RunFault.{RunFault}
 use Rattle.tsp_judge.specs.declared.fault.RunFault.TheVariants.{Write, OutOfMemory}

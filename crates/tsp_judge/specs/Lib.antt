@@ -5,7 +5,7 @@ pub use Rattle.tsp_stream.specs.Sink
 pub use Rattle.tsp_stream.specs.Turn
 pub use Rattle.tsp_stream.specs.states.Watched
 pub use Rattle.tsp_format.specs.Layout
-pub use Rattle.tsp_reason.specs.Verdicts
+pub use Rattle.tsp_task.specs.Verdicts
 pub mod Accepted
 pub mod BoundRun
 pub mod CompareRun

@@ -7,7 +7,7 @@ ghost use Rattle.tsp_stream.specs.states.Watched.{sink_of, turn_of};
 ghost use Rattle.tsp_stream.specs.Turn.{TakesAtMost};
 ghost use Rattle.tsp_read.specs.Asked.{IsReadOn};
 ghost use Rattle.tsp_read.specs.Reads.{most_taken};
-ghost use Rattle.tsp_reason.specs.declared.certificate.Certificate.TheVariants as certificates;
+ghost use Rattle.tsp_task.specs.declared.certificate.Certificate.TheVariants as certificates;
 ghost use Rattle.tsp_judge.specs.CheckRun.{told};
 ghost use Rattle.tsp_judge.specs.ConvertRun.{IsConvertRun};
 ghost use Rattle.tsp_judge.specs.ShowRun.{IsShowRun};

@@ -2,12 +2,12 @@
 //! here: a definition that is changed together with its code is refused by its examples.
 
 ghost use Rattle.std.specs.Prelude.{◌≡◌, ℕ, List, [], ◌∷◌, true, false, None, Some, Ok, Err, pos, codes};
-ghost use Rattle.tsp_reason.specs.declared.basis.Basis.TheVariants as bases;
-ghost use Rattle.tsp_reason.specs.declared.certificate.Certificate.{Certificate};
-ghost use Rattle.tsp_reason.specs.declared.verdict.Reason.TheVariants as reasons;
-ghost use Rattle.tsp_reason.specs.declared.verdict.Verdict.TheVariants as verdicts;
-ghost use Rattle.tsp_reason.specs.Verdicts.{is_bound_yes, is_clear, is_yes};
-ghost use Rattle.tsp_reason.specs.declared.verdict.BoundVerdict.TheVariants as bounds;
+ghost use Rattle.tsp_task.specs.declared.basis.Basis.TheVariants as bases;
+ghost use Rattle.tsp_task.specs.declared.certificate.Certificate.{Certificate};
+ghost use Rattle.tsp_task.specs.declared.verdict.Reason.TheVariants as reasons;
+ghost use Rattle.tsp_task.specs.declared.verdict.Verdict.TheVariants as verdicts;
+ghost use Rattle.tsp_task.specs.Verdicts.{is_bound_yes, is_clear, is_yes};
+ghost use Rattle.tsp_task.specs.declared.verdict.BoundVerdict.TheVariants as bounds;
 ghost use Rattle.tsp_read.specs.declared.ReadFault.{ReadFault};
 ghost use Rattle.tsp_read.specs.declared.ReadFault.TheVariants as read_faults;
 ghost use Rattle.tsp_read.specs.Reads.{StopsAt};

@@ -7,7 +7,7 @@ ghost use Rattle.tsp_stream.specs.Turn.{Turn, IsUnread, TakesAtMost};
 ghost use Rattle.tsp_read.specs.Asked.{IsReadOn};
 ghost use Rattle.tsp_read.specs.Reads.{IsFile, most_taken};
 ghost use Rattle.tsp_cost.specs.ProblemLaws.{IsProblem};
-ghost use Rattle.tsp_reason.specs.Verdicts.{is_clear};
+ghost use Rattle.tsp_task.specs.Verdicts.{is_clear};
 ghost use Rattle.tsp_verdict.specs.Basis.{IsBasis};
 ghost use Rattle.tsp_judge.specs.CheckRun.{Given, given_by, IsFileIn};
 ghost use Rattle.tsp_judge.specs.CompareRun.{IsTurnAt, ComparesOne, ComparesAll, ComparesBy, IsCompareRun};

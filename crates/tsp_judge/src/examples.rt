@@ -4,10 +4,10 @@
 
 ghost use Rattle.std.specs.Prelude.{◌≡◌, ◌++◌, Bool, true, false, Option, None, Some, Err, ℤ, pos, codes, decimal};
 ghost use Rattle.tsp_format.specs.declared.kinds.Kind.TheVariants as kinds;
-ghost use Rattle.tsp_reason.specs.declared.verdict.Reason.TheVariants as reasons;
-ghost use Rattle.tsp_reason.specs.declared.verdict.Verdict.TheVariants as verdicts;
-ghost use Rattle.tsp_reason.specs.declared.certificate.Certificate.TheVariants as certificates;
-ghost use Rattle.tsp_reason.specs.declared.certificate.Certificate.{Certificate};
+ghost use Rattle.tsp_task.specs.declared.verdict.Reason.TheVariants as reasons;
+ghost use Rattle.tsp_task.specs.declared.verdict.Verdict.TheVariants as verdicts;
+ghost use Rattle.tsp_task.specs.declared.certificate.Certificate.TheVariants as certificates;
+ghost use Rattle.tsp_task.specs.declared.certificate.Certificate.{Certificate};
 ghost use Rattle.tsp_read.specs.declared.ReadFault.{ReadFault};
 ghost use Rattle.tsp_read.specs.declared.ReadFault.TheVariants as read_faults;
 ghost use Rattle.tsp_read.specs.Reads.{StopsAt};
@@ -19,7 +19,7 @@ ghost use Rattle.tsp_judge.specs.declared.fault.RunFault.TheVariants as run_faul
 ghost use Rattle.tsp_judge.specs.declared.status.Status.TheVariants as statuses;
 ghost use Rattle.tsp_judge.specs.RunFaultText.{run_fault_text};
 ghost use Rattle.tsp_judge.specs.Status.{status_number};
-ghost use Rattle.tsp_reason.specs.Verdicts.{is_yes};
+ghost use Rattle.tsp_task.specs.Verdicts.{is_yes};
 ghost use Rattle.tsp_judge.specs.CheckRun.{Given, IsUnreadIn, IsRun, IsSomeFile};
 ghost use Rattle.tsp_judge.specs.BoundRun.{IsBoundRun};
 ghost use Rattle.tsp_verdict.specs.Certified.{kind_of, is_bounded};

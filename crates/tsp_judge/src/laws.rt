@@ -3,9 +3,9 @@
 ghost use Rattle.std.specs.Prelude.{◌≡◌, true, Option, ℤ, IsTrue};
 ghost use Rattle.tsp_draft.specs.Fields.{Fields};
 ghost use Rattle.tsp_cost.specs.ProblemLaws.{IsProblem};
-ghost use Rattle.tsp_reason.specs.declared.certificate.Certificate.{Certificate};
-ghost use Rattle.tsp_reason.specs.declared.verdict.Verdict.{Verdict};
-ghost use Rattle.tsp_reason.specs.Verdicts.{is_yes};
+ghost use Rattle.tsp_task.specs.declared.certificate.Certificate.{Certificate};
+ghost use Rattle.tsp_task.specs.declared.verdict.Verdict.{Verdict};
+ghost use Rattle.tsp_task.specs.Verdicts.{is_yes};
 ghost use Rattle.tsp_report.specs.Report.{report_of, IsSized};
 ghost use Rattle.tsp_verdict.specs.SolutionVerdict.{is_judged, IsVerdictWith};
 ghost use Rattle.tsp_judge.specs.Accepted.{IsAccepted};

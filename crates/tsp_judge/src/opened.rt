@@ -8,7 +8,7 @@ use std::marker::Model;
 use tsp_cost::Instance;
 use tsp_file::File;
 use tsp_read::file_of_bytes;
-use tsp_reason::{Basis, BoundVerdict, Certificate, Verdict};
+use tsp_task::{Basis, BoundVerdict, Certificate, Verdict};
 use tsp_verdict::{basis_alone, basis_of, is_bounded, judge_bound, judge_next};
 
 /// An instance, the certificate that is bound to it, where one is, and what is known of all

@@ -18,7 +18,7 @@ use Rattle.tsp_judge.specs.CompareRun.{IsCompareRun}
 use Rattle.tsp_judge.specs.declared.compared.Compared.{Compared}
 use Rattle.tsp_judge.specs.BoundRun.{IsBoundRunOf}
 use Rattle.tsp_read.specs.Asked.{IsReadOn}
-use Rattle.tsp_reason.specs.declared.certificate.Certificate.{Certificate}
+use Rattle.tsp_task.specs.declared.certificate.Certificate.{Certificate}
 use Rattle.tsp_task.specs.declared.task.Comparison.{Comparison}
 use Rattle.tsp_task.specs.declared.task.FileTask.{FileTask}
 use Rattle.tsp_task.specs.declared.task.FileTask.TheVariants.{Show, Convert, Check, Bound}

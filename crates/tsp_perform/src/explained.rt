@@ -13,8 +13,7 @@ use tsp_explain::{
 };
 use tsp_file::File;
 use tsp_judge::{Basis, BoundVerdict, Common, RunFault, Verdict, WriteFault};
-use tsp_reason::{Certificate, Role};
-use tsp_task::{FileTask, Task};
+use tsp_task::{Certificate, FileTask, Role, Task};
 
 /// Appends what explains the line `no`, from the files that were judged, and after `yes` whether a
 /// comment of the solution claims another length.

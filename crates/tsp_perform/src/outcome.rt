@@ -15,9 +15,8 @@ use tsp_judge::{
     Bounded, Compared, Follow, Judged, RunError, Solutions, Watched, convert_file, run, run_bound,
     run_compare, run_compare_uncertified, run_uncertified, show_file,
 };
-use tsp_reason::Certificate;
 use tsp_stream::Gives;
-use tsp_task::{Comparison, FileTask};
+use tsp_task::{Certificate, Comparison, FileTask};
 
 /// What a task comes to.
 #[derive(Drop)]

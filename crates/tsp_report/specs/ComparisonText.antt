@@ -5,10 +5,10 @@ use Rattle.std.specs.Fmt.{signed_decimal}
 use Rattle.tsp_draft.specs.Fields.{Fields}
 use Rattle.tsp_text.specs.declared.fault.ReadFault.{ReadFault}
 use Rattle.tsp_text.specs.ReadFaultText.{read_fault_text}
-use Rattle.tsp_reason.specs.declared.basis.Basis.{Basis}
-use Rattle.tsp_reason.specs.declared.basis.Basis.TheVariants as bases
-use Rattle.tsp_reason.specs.declared.verdict.Verdict.{Verdict}
-use Rattle.tsp_reason.specs.declared.verdict.Verdict.TheVariants.{Tour, Routes, No}
+use Rattle.tsp_task.specs.declared.basis.Basis.{Basis}
+use Rattle.tsp_task.specs.declared.basis.Basis.TheVariants as bases
+use Rattle.tsp_task.specs.declared.verdict.Verdict.{Verdict}
+use Rattle.tsp_task.specs.declared.verdict.Verdict.TheVariants.{Tour, Routes, No}
 use Rattle.tsp_report.specs.Report.{instance_lines, no_line, reason_text}
 
 -- ---- the head

@@ -7,13 +7,13 @@ use Rattle.std.specs.Fmt.{signed_decimal}
 use Rattle.tsp_format.specs.declared.kinds.Kind.{Kind}
 use Rattle.tsp_format.specs.Words.{kind_word}
 use Rattle.tsp_draft.specs.Fields.{Fields, nodes_of}
-use Rattle.tsp_reason.specs.declared.verdict.BoundVerdict.{BoundVerdict}
-use Rattle.tsp_reason.specs.declared.verdict.BoundVerdict.TheVariants as bounds
-use Rattle.tsp_reason.specs.declared.verdict.Reason.{Reason}
-use Rattle.tsp_reason.specs.declared.verdict.Reason.TheVariants.{NotJudged}
-use Rattle.tsp_reason.specs.declared.verdict.Verdict.{Verdict}
-use Rattle.tsp_reason.specs.declared.verdict.Verdict.TheVariants.{Tour, Routes, No}
-use Rattle.tsp_reason.specs.ReasonRows.{ReasonRow, row_of_reason}
+use Rattle.tsp_task.specs.declared.verdict.BoundVerdict.{BoundVerdict}
+use Rattle.tsp_task.specs.declared.verdict.BoundVerdict.TheVariants as bounds
+use Rattle.tsp_task.specs.declared.verdict.Reason.{Reason}
+use Rattle.tsp_task.specs.declared.verdict.Reason.TheVariants.{NotJudged}
+use Rattle.tsp_task.specs.declared.verdict.Verdict.{Verdict}
+use Rattle.tsp_task.specs.declared.verdict.Verdict.TheVariants.{Tour, Routes, No}
+use Rattle.tsp_task.specs.ReasonRows.{ReasonRow, row_of_reason}
 
 -- ---- the instance
 

@@ -8,8 +8,8 @@ ghost use Rattle.tsp_report.specs.Report.{bound_report_of, bound_found_lines};
 use crate::report::{put_instance, put_named, put_no};
 use std::io::Write;
 use tsp_file::File;
-use tsp_reason::BoundVerdict;
 use tsp_stream::{Piece, Watched, WriteFault, hand_over, put};
+use tsp_task::BoundVerdict;
 
 /// Writes the report on the bound of an instance, line by line: the lines on the instance; the
 /// bound, or `none` where the instance has no solution, and `yes`; or `no` with the first reason

@@ -12,8 +12,8 @@ use crate::reason::put_reason;
 use crate::report::{gap_of, put_instance, put_named, put_no};
 use std::io::Write;
 use tsp_file::File;
-use tsp_reason::{Basis, Verdict};
 use tsp_stream::{Piece, Watched, WriteFault, hand_over, put, put_number};
+use tsp_task::{Basis, Verdict};
 use tsp_text::ReadFault;
 
 /// Writes the head of a comparison of solutions of an instance: the lines on the instance; the

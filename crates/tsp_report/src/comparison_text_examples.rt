@@ -7,9 +7,9 @@ ghost use Rattle.tsp_format.specs.declared.field.Field.TheVariants as fields;
 ghost use Rattle.tsp_text.specs.declared.fault.LineFault.TheVariants as line_faults;
 ghost use Rattle.tsp_text.specs.declared.fault.ReadFault.TheVariants as read_faults;
 ghost use Rattle.tsp_number.specs.declared.fault.NumberFault.TheVariants as number_faults;
-ghost use Rattle.tsp_reason.specs.declared.basis.Basis.TheVariants as bases;
-ghost use Rattle.tsp_reason.specs.declared.verdict.Reason.TheVariants as reasons;
-ghost use Rattle.tsp_reason.specs.declared.verdict.Verdict.TheVariants as verdicts;
+ghost use Rattle.tsp_task.specs.declared.basis.Basis.TheVariants as bases;
+ghost use Rattle.tsp_task.specs.declared.verdict.Reason.TheVariants as reasons;
+ghost use Rattle.tsp_task.specs.declared.verdict.Verdict.TheVariants as verdicts;
 ghost use Rattle.tsp_report.specs.ComparisonText.{head_of, solution_line};
 ghost use Rattle.tsp_report.specs.Examples.{matrix, shown_routes};
 

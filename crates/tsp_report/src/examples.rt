@@ -8,9 +8,9 @@ ghost use Rattle.tsp_format.specs.declared.kinds.WeightKind.TheVariants as weigh
 ghost use Rattle.tsp_format.specs.declared.kinds.WeightFormat.TheVariants as formats;
 ghost use Rattle.tsp_format.specs.declared.layout.Layout.TheVariants as layouts;
 ghost use Rattle.tsp_format.specs.Steps.{Branch, Leaf};
-ghost use Rattle.tsp_reason.specs.declared.verdict.BoundVerdict.TheVariants as bounds;
-ghost use Rattle.tsp_reason.specs.declared.verdict.Reason.TheVariants as reasons;
-ghost use Rattle.tsp_reason.specs.declared.verdict.Verdict.TheVariants as verdicts;
+ghost use Rattle.tsp_task.specs.declared.verdict.BoundVerdict.TheVariants as bounds;
+ghost use Rattle.tsp_task.specs.declared.verdict.Reason.TheVariants as reasons;
+ghost use Rattle.tsp_task.specs.declared.verdict.Verdict.TheVariants as verdicts;
 ghost use Rattle.tsp_report.specs.Examples.{matrix};
 ghost use Rattle.tsp_report.specs.Report.{not_judged, type_line, nodes_line, gap_lines, bound_lines, reason_text, verdict_lines, bound_found_lines};
 ghost use Rattle.tsp_report.specs.Show.{name_line, weights_line, canonical_line, fixed_line, all_tour_lines, scale_line, load_unit_line, combs_line, leaves_line};

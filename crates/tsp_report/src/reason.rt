@@ -5,8 +5,8 @@ ghost use Rattle.tsp_stream.specs.states.WriteProgress.{Puts};
 ghost use Rattle.tsp_report.specs.Report.{after_blank, reason_text};
 
 use std::io::Write;
-use tsp_reason::{Reason, row_of_reason};
 use tsp_stream::{Piece, Watched, put, put_next_number};
+use tsp_task::{Reason, row_of_reason};
 
 /// Adds the name of a reason, and its numbers.
 pub(crate) fn put_reason<W: Write>(piece: &mut Piece, out: &mut Watched<W>, reason: Reason)

@@ -11,8 +11,8 @@ use itoa::Integer;
 use std::io::Write;
 use tsp_file::File;
 use tsp_format::{Kind, Word};
-use tsp_reason::{Reason, Verdict};
 use tsp_stream::{Piece, Watched, WriteFault, hand_over, put, put_number};
+use tsp_task::{Reason, Verdict};
 
 /// Writes the report on a solution of an instance, line by line, by the verdict on it: the lines on
 /// the instance, those on the verdict, `yes` or `no`.

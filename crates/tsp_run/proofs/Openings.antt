@@ -1,7 +1,7 @@
 -- The same task of other files, by a relation that another one implies. For `opened` and `opened_to_compare` in
 -- src/opened_files.rt.
 use Rattle.std.proofs.Common.{Option, None, Some}
-use Rattle.tsp_reason.specs.declared.certificate.Certificate.{Certificate}
+use Rattle.tsp_task.specs.declared.certificate.Certificate.{Certificate}
 use Rattle.tsp_task.specs.Mapped.{IsMapped, IsMappedCertificate, IsMappedComparison}
 use Rattle.tsp_task.specs.declared.task.Comparison.{Comparison}
 use Rattle.tsp_task.specs.declared.task.FileTask.{FileTask}

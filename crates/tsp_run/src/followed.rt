@@ -14,7 +14,7 @@ use tsp_cli::{InputPath, input_path_at};
 use tsp_explain::explain_file;
 use tsp_judge::{Common, Follow, Found, Solutions};
 use tsp_perform::{Solution, explain_solution};
-use tsp_reason::Role;
+use tsp_task::Role;
 
 /// The solutions of a comparison that is asked for, and how standard error tells of them.
 #[derive(Drop)]

@@ -1,9 +1,9 @@
 -- The files of a task.
 use Rattle.std.specs.Prelude.{ℕ, List, [], ◌∷◌, ◌-◌, ◌==◌, Option, None, Some, cond, slice_get}
-use Rattle.tsp_reason.specs.Roles.{role_by}
-use Rattle.tsp_reason.specs.declared.certificate.Certificate.{Certificate}
-use Rattle.tsp_reason.specs.declared.role.Role.{Role}
-use Rattle.tsp_reason.specs.declared.role.Role.TheVariants.{Instance, Solution}
+use Rattle.tsp_task.specs.Roles.{role_by}
+use Rattle.tsp_task.specs.declared.certificate.Certificate.{Certificate}
+use Rattle.tsp_task.specs.declared.role.Role.{Role}
+use Rattle.tsp_task.specs.declared.role.Role.TheVariants.{Instance, Solution}
 use Rattle.tsp_task.specs.declared.task.Comparison.{Comparison}
 use Rattle.tsp_task.specs.declared.task.Task.{Task}
 use Rattle.tsp_task.specs.declared.task.Task.TheVariants as tasks

@@ -1,6 +1,6 @@
 -- The same task of other files.
 use Rattle.std.specs.Prelude.{◌≡◌, Option, None, Some}
-use Rattle.tsp_reason.specs.declared.certificate.Certificate.{Certificate}
+use Rattle.tsp_task.specs.declared.certificate.Certificate.{Certificate}
 use Rattle.tsp_task.specs.declared.task.Comparison.{Comparison}
 use Rattle.tsp_task.specs.declared.task.Task.{Task}
 use Rattle.tsp_task.specs.declared.task.Task.TheVariants as tasks

@@ -4,9 +4,9 @@
 ghost use Rattle.std.specs.Prelude.{◌≡◌, ◌+◌, Bool, true, false, ℕ, ℤ, Option, None, Some, pos};
 ghost use Rattle.tsp_format.specs.declared.layout.Layout.{Layout};
 ghost use Rattle.tsp_format.specs.declared.layout.Layout.TheVariants as layouts;
-ghost use Rattle.tsp_reason.specs.declared.certificate.Certificate.{Certificate};
-ghost use Rattle.tsp_reason.specs.declared.certificate.Certificate.TheVariants as certificates;
-ghost use Rattle.tsp_reason.specs.declared.role.Role.TheVariants as roles;
+ghost use Rattle.tsp_task.specs.declared.certificate.Certificate.{Certificate};
+ghost use Rattle.tsp_task.specs.declared.certificate.Certificate.TheVariants as certificates;
+ghost use Rattle.tsp_task.specs.declared.role.Role.TheVariants as roles;
 ghost use Rattle.tsp_task.specs.declared.task.Comparison.{Comparison};
 ghost use Rattle.tsp_task.specs.declared.task.Task.TheVariants as tasks;
 ghost use Rattle.tsp_task.specs.declared.task.FileTask.{FileTask};

@@ -5,8 +5,9 @@ ghost use Rattle.std.specs.Fn.{FnReturnsAt};
 ghost use Rattle.tsp_task.specs.Files.{files_of, files_compared, files_of_task, numbered};
 ghost use Rattle.tsp_task.specs.Mapped.{IsMapped, IsMappedCertificate, IsMappedComparison, IsMappedTask};
 
+use crate::certificate::Certificate;
+use crate::role::{Role, role_by};
 use tsp_format::Layout;
-use tsp_reason::{Certificate, Role, role_by};
 
 /// A task. `F` is what is known of a file: its place, a reader, its text, or what a user calls
 /// it.

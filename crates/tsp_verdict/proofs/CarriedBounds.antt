@@ -18,12 +18,12 @@ use Rattle.tsp_theory.specs.Tree.{weight_of, IsLeastOneTree}
 use Rattle.tsp_theory.specs.NodeBound.{weight_between}
 use Rattle.tsp_theory.specs.Adjusted.{pair_of, numbers_on, adjusted, UsesEach, IsAdjustedBoundOf, IsAdjustedBound, AdjustedBoundsBoundCycles}
 use Rattle.tsp_theory.specs.Assignment.{AreGood, IsFirstBroken, IsDualBound, DualsBoundCycles}
-use Rattle.tsp_reason.specs.declared.verdict.Reason.TheVariants.{DualInfeasible}
+use Rattle.tsp_task.specs.declared.verdict.Reason.TheVariants.{DualInfeasible}
 use Rattle.tsp_verdict.specs.Multiplied.{AreListed}
 use Rattle.tsp_file.specs.Defaults.{fixed_of, scale_in, multipliers_in}
 use Rattle.tsp_verdict.specs.PotentialsCertificate.{StandsAgainstPotentials, IsBoundByNodes, IsBoundByDuals}
 use Rattle.tsp_verdict.specs.Certified.{IsBoundBy, BoundsSolutionsBy, IsBoundFitting, IsCertified}
-use Rattle.tsp_reason.specs.declared.certificate.Certificate.TheVariants.{Potentials}
+use Rattle.tsp_task.specs.declared.certificate.Certificate.TheVariants.{Potentials}
 
 -- the bounds of the crates below are as large at most
 pub fitting : (bound : ℤ) → IsBoundSized bound → IsBoundFitting bound

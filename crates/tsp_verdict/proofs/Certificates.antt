@@ -11,8 +11,8 @@ use Rattle.tsp_format.specs.declared.kinds.Kind.TheVariants as kinds
 use Rattle.tsp_draft.specs.Fields.{Fields, nodes_of}
 use Rattle.tsp_draft.specs.Rules.{is_potentials_file}
 use Rattle.tsp_theory.specs.Adjusted.{pair_of, is_same_pair, AreOnPairs}
-use Rattle.tsp_reason.specs.declared.verdict.Reason.{Reason}
-use Rattle.tsp_reason.specs.declared.verdict.Reason.TheVariants.{NotASolution, TooFewNodes, Dimension, NodeOutOfRange, RepeatedNode, NotPotentials, PotentialsDimension, PotentialsKind, MultiplierNotFixed, MultiplierRepeated, DualInfeasible, DepotCount, DepotDemand, FixedEdgesInRoutes, DepotInRoute, Unserved, Overload, NotBranches, BranchesDimension, BadComb, BadBranch, BranchTwice, BadLeaf, TooManyLoads, LengthClaimed, NotJudged}
+use Rattle.tsp_task.specs.declared.verdict.Reason.{Reason}
+use Rattle.tsp_task.specs.declared.verdict.Reason.TheVariants.{NotASolution, TooFewNodes, Dimension, NodeOutOfRange, RepeatedNode, NotPotentials, PotentialsDimension, PotentialsKind, MultiplierNotFixed, MultiplierRepeated, DualInfeasible, DepotCount, DepotDemand, FixedEdgesInRoutes, DepotInRoute, Unserved, Overload, NotBranches, BranchesDimension, BadComb, BadBranch, BranchTwice, BadLeaf, TooManyLoads, LengthClaimed, NotJudged}
 use Rattle.tsp_verdict.specs.Multiplied.{AreListed, IsUnlisted, IsPairRepeated, pair_at}
 use Rattle.tsp_verdict.specs.Places.{IsFirstPlace}
 use Rattle.tsp_verdict.specs.Reasons.{rank_of, NoneBefore, IsFirstReason}
@@ -29,8 +29,8 @@ use Rattle.tsp_verdict.proofs.ByType.{tree_either}
 use Rattle.tsp_verdict.specs.declared.tour.TourCosts.{TourCosts}
 use Rattle.tsp_verdict.specs.declared.tour.TourCosts.TheVariants.{Undirected, Directed}
 use Rattle.tsp_verdict.specs.states.TourCosts.{AreTourCosts, IsSymmetricTsp}
-use Rattle.tsp_reason.specs.declared.certificate.Certificate.{Certificate}
-use Rattle.tsp_reason.specs.declared.certificate.Certificate.TheVariants.{Potentials, Branches}
+use Rattle.tsp_task.specs.declared.certificate.Certificate.{Certificate}
+use Rattle.tsp_task.specs.declared.certificate.Certificate.TheVariants.{Potentials, Branches}
 use Rattle.tsp_format.specs.declared.kinds.Kind.{Kind}
 
 -- ---- against the certificate alone

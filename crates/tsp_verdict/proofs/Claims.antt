@@ -6,12 +6,12 @@ use Rattle.tsp_format.specs.declared.kinds.Kind.TheVariants as kinds
 use Rattle.tsp_draft.specs.Fields.{Fields}
 use Rattle.tsp_theory.specs.Tour.{BoundsTours}
 use Rattle.tsp_cost.specs.ComputedProblems.{problem_of}
-use Rattle.tsp_reason.specs.declared.certificate.Certificate.{Certificate}
-use Rattle.tsp_reason.specs.declared.verdict.Reason.{Reason}
-use Rattle.tsp_reason.specs.declared.verdict.Reason.TheVariants.{LengthClaimed}
-use Rattle.tsp_reason.specs.declared.verdict.Verdict.{Verdict}
-use Rattle.tsp_reason.specs.declared.verdict.Verdict.TheVariants as verdicts
-use Rattle.tsp_reason.specs.declared.verdict.BoundVerdict.TheVariants as bounds
+use Rattle.tsp_task.specs.declared.certificate.Certificate.{Certificate}
+use Rattle.tsp_task.specs.declared.verdict.Reason.{Reason}
+use Rattle.tsp_task.specs.declared.verdict.Reason.TheVariants.{LengthClaimed}
+use Rattle.tsp_task.specs.declared.verdict.Verdict.{Verdict}
+use Rattle.tsp_task.specs.declared.verdict.Verdict.TheVariants as verdicts
+use Rattle.tsp_task.specs.declared.verdict.BoundVerdict.TheVariants as bounds
 use Rattle.tsp_verdict.specs.Certified.{FindsBound, BoundsSolutionsBy, BoundsSolutions, IsCertifiedVerdict}
 use Rattle.tsp_verdict.specs.Routes.{StandsAgainstRoutes, IsFirstAgainstRoutes, IsRoutesVerdict, NoneOfRoutesBeforeRepeats}
 use Rattle.tsp_verdict.specs.SolutionVerdict.{IsVerdictBy, IsVerdictOn, NoneBeforeRepeatsOn, NoneBeforeRepeatsBy, IsAsClaimed, IsOtherClaimed, HasLength, HasNoLength, IsVerdictWith}

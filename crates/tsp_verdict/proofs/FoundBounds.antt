@@ -4,11 +4,11 @@ use Rattle.std.proofs.Common.{◌≡◌, Some, inl, inr}
 use Rattle.std.specs.Prelude.{◌⊎◌}
 use Rattle.tsp_format.specs.declared.kinds.Kind.TheVariants as kinds
 use Rattle.tsp_draft.specs.Fields.{Fields}
-use Rattle.tsp_reason.specs.declared.certificate.Certificate.{Certificate}
-use Rattle.tsp_reason.specs.declared.verdict.BoundVerdict.{BoundVerdict}
-use Rattle.tsp_reason.specs.declared.verdict.BoundVerdict.TheVariants as bounds
-use Rattle.tsp_reason.specs.declared.verdict.Reason.{Reason}
-use Rattle.tsp_reason.specs.declared.verdict.Reason.TheVariants.{TooFewNodes, NotSymmetric, DepotCount, DepotDemand, FixedEdgesInRoutes}
+use Rattle.tsp_task.specs.declared.certificate.Certificate.{Certificate}
+use Rattle.tsp_task.specs.declared.verdict.BoundVerdict.{BoundVerdict}
+use Rattle.tsp_task.specs.declared.verdict.BoundVerdict.TheVariants as bounds
+use Rattle.tsp_task.specs.declared.verdict.Reason.{Reason}
+use Rattle.tsp_task.specs.declared.verdict.Reason.TheVariants.{TooFewNodes, NotSymmetric, DepotCount, DepotDemand, FixedEdgesInRoutes}
 use Rattle.tsp_verdict.specs.Bounded.{StandsAgainstTouring, StandsAgainstRouting, StandsAgainstInstance, NoneAgainstInstance, StandsAgainstBounded, IsBoundVerdict}
 use Rattle.tsp_verdict.specs.Certified.{StandsAgainstCertificate, FindsBound}
 use Rattle.tsp_verdict.specs.Reasons.{IsFirstReason}

@@ -1,8 +1,8 @@
 -- The reasons against routes, ruled out one by one. For `verdict_on_routes` in src/routes.rt.
 use Rattle.std.proofs.Common.{ℕ, ◌≤◌, arith}
 use Rattle.tsp_draft.specs.Fields.{Fields, nodes_of}
-use Rattle.tsp_reason.specs.declared.verdict.Reason.{Reason}
-use Rattle.tsp_reason.specs.declared.verdict.Reason.TheVariants.{TooFewNodes, DepotCount, DepotDemand, FixedEdgesInRoutes, NotPotentials, PotentialsDimension, PotentialsKind, MultiplierNotFixed, MultiplierRepeated, DualInfeasible, NotSymmetric, TourCount, TourLength, NodeOutOfRange, RepeatedNode, FixedEdgeUnused, DepotInRoute, Unserved, Overload, NotBranches, BranchesDimension, BadComb, BadBranch, BranchTwice, BadLeaf, TooManyLoads, LengthClaimed, NotJudged}
+use Rattle.tsp_task.specs.declared.verdict.Reason.{Reason}
+use Rattle.tsp_task.specs.declared.verdict.Reason.TheVariants.{TooFewNodes, DepotCount, DepotDemand, FixedEdgesInRoutes, NotPotentials, PotentialsDimension, PotentialsKind, MultiplierNotFixed, MultiplierRepeated, DualInfeasible, NotSymmetric, TourCount, TourLength, NodeOutOfRange, RepeatedNode, FixedEdgeUnused, DepotInRoute, Unserved, Overload, NotBranches, BranchesDimension, BadComb, BadBranch, BranchTwice, BadLeaf, TooManyLoads, LengthClaimed, NotJudged}
 use Rattle.tsp_verdict.specs.Places.{IsFirstPlace, IsLarger, IsAt, IsAtEarlierPlace}
 use Rattle.tsp_verdict.specs.Plan.{depot_of}
 use Rattle.tsp_cost.specs.ComputedProblems.{demands_of, capacity_of}

@@ -32,8 +32,8 @@ use Rattle.tsp_cases.specs.Decisions.{KeepsAll, take_pairs, decided_number}
 use Rattle.tsp_cases.specs.GoodFamilies.{IsGoodFamily, IsFirstBadFamily, AreFamilies}
 use Rattle.tsp_cases.specs.Listed.{leaf_changes, listed_steps, AreGoodLeaves, IsFirstBadLeaf}
 use Rattle.tsp_cases.specs.Twice.{branches_of_cases, IsFirstTwice}
-use Rattle.tsp_reason.specs.declared.verdict.Reason.{Reason}
-use Rattle.tsp_reason.specs.declared.verdict.Reason.TheVariants.{NotBranches, BranchesDimension, BadComb, BadBranch, BranchTwice, BadLeaf, TooManyLoads}
+use Rattle.tsp_task.specs.declared.verdict.Reason.{Reason}
+use Rattle.tsp_task.specs.declared.verdict.Reason.TheVariants.{NotBranches, BranchesDimension, BadComb, BadBranch, BranchTwice, BadLeaf, TooManyLoads}
 use Rattle.tsp_file.specs.Defaults.{scale_in, fixed_of, families_listed}
 use Rattle.tsp_verdict.specs.Places.{IsFirstPlace}
 use Rattle.tsp_verdict.specs.Reasons.{NoneBefore, IsFirstReason, rank_of}
@@ -42,7 +42,7 @@ use Rattle.tsp_verdict.specs.BranchesCertificate.{each_once, given_in, case_step
 use Rattle.tsp_verdict.specs.Certified.{IsBoundBy, HasNoBoundBy, HasNoBound, StandsAgainstCertificateBy, StandsAgainstCertificate, BoundsSolutionsBy, BoundsSolutions, HasNoSolutionBy, HasNoSolution, IsCertified, NoneWithoutMemory}
 use Rattle.tsp_verdict.specs.WalksCertificate.{StandsAgainstWalks}
 use Rattle.tsp_verdict.proofs.ByType.{tree_either}
-use Rattle.tsp_reason.specs.declared.certificate.Certificate.TheVariants.{Branches}
+use Rattle.tsp_task.specs.declared.certificate.Certificate.TheVariants.{Branches}
 use Rattle.tsp_verdict.proofs.CarriedBounds.{Same, fitting}
 use Rattle.tsp_verdict.proofs.GivenPairs.{keeps_given}
 use Rattle.tsp_verdict.proofs.FamiliesHold.{one_numbers}

@@ -30,10 +30,10 @@ use Rattle.tsp_routing.specs.GoodLeaves.{AreGoodPlanLeaves, IsFirstBadPlanLeaf}
 use Rattle.tsp_routing.specs.states.Trees.{IsPlanStep}
 use Rattle.tsp_routing.specs.Loads.{AreUnits, room_in}
 use Rattle.tsp_routing.specs.PlanVerdicts.{routing_with, most_entries, HasTooManyLoads, IsBoundFound, IsPlanVerdict, VerdictBoundsPlans}
-use Rattle.tsp_reason.specs.declared.certificate.Certificate.TheVariants.{Branches}
-use Rattle.tsp_reason.specs.declared.verdict.BoundVerdict.TheVariants as bounds
-use Rattle.tsp_reason.specs.declared.verdict.Reason.{Reason}
-use Rattle.tsp_reason.specs.declared.verdict.Reason.TheVariants.{NotBranches, BranchesDimension, BadComb, BadBranch, BadLeaf, TooManyLoads}
+use Rattle.tsp_task.specs.declared.certificate.Certificate.TheVariants.{Branches}
+use Rattle.tsp_task.specs.declared.verdict.BoundVerdict.TheVariants as bounds
+use Rattle.tsp_task.specs.declared.verdict.Reason.{Reason}
+use Rattle.tsp_task.specs.declared.verdict.Reason.TheVariants.{NotBranches, BranchesDimension, BadComb, BadBranch, BadLeaf, TooManyLoads}
 use Rattle.tsp_verdict.specs.Certified.{IsBoundBy, HasNoBoundBy, BoundsSolutionsBy, HasNoSolutionBy, StandsAgainstCertificateBy, StandsAgainstCertificate, FindsBound}
 use Rattle.tsp_verdict.specs.Reasons.{rank_of, NoneBefore, IsFirstReason}
 use Rattle.tsp_verdict.specs.WalksCertificate.{unit_in, StandsAgainstWalks, HasBoundByWalks}

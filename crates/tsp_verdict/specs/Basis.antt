@@ -5,13 +5,13 @@ use Rattle.tsp_format.specs.declared.kinds.Kind.{Kind}
 use Rattle.tsp_format.specs.declared.kinds.Kind.TheVariants as kinds
 use Rattle.tsp_draft.specs.Fields.{Fields}
 use Rattle.tsp_cost.specs.ComputedProblems.{capacity_of}
-use Rattle.tsp_reason.specs.declared.basis.Basis.{Basis}
-use Rattle.tsp_reason.specs.declared.basis.Basis.TheVariants as bases
-use Rattle.tsp_reason.specs.declared.certificate.Certificate.{Certificate}
-use Rattle.tsp_reason.specs.declared.verdict.BoundVerdict.TheVariants as bounds
-use Rattle.tsp_reason.specs.declared.verdict.Reason.{Reason}
-use Rattle.tsp_reason.specs.declared.verdict.Verdict.{Verdict}
-use Rattle.tsp_reason.specs.declared.verdict.Verdict.TheVariants.{Tour, Routes, No}
+use Rattle.tsp_task.specs.declared.basis.Basis.{Basis}
+use Rattle.tsp_task.specs.declared.basis.Basis.TheVariants as bases
+use Rattle.tsp_task.specs.declared.certificate.Certificate.{Certificate}
+use Rattle.tsp_task.specs.declared.verdict.BoundVerdict.TheVariants as bounds
+use Rattle.tsp_task.specs.declared.verdict.Reason.{Reason}
+use Rattle.tsp_task.specs.declared.verdict.Verdict.{Verdict}
+use Rattle.tsp_task.specs.declared.verdict.Verdict.TheVariants.{Tour, Routes, No}
 use Rattle.tsp_verdict.specs.Bounded.{StandsAgainstTouring, NoneAgainstTouring, StandsAgainstRouting, NoneAgainstRouting, NoneAgainstInstance, IsBoundVerdict}
 use Rattle.tsp_verdict.specs.Certified.{NoneWithoutMemory}
 use Rattle.tsp_verdict.specs.SolutionVerdict.{is_judged, IsVerdictWith}

@@ -8,11 +8,11 @@ use Rattle.tsp_file.specs.Cost.{cost}
 use Rattle.tsp_theory.specs.Costs.{IsFirstAsymmetric}
 use Rattle.tsp_file.specs.Defaults.{fixed_of}
 use Rattle.tsp_cost.specs.ComputedProblems.{depots_of, demands_of}
-use Rattle.tsp_reason.specs.declared.certificate.Certificate.{Certificate}
-use Rattle.tsp_reason.specs.declared.verdict.BoundVerdict.{BoundVerdict}
-use Rattle.tsp_reason.specs.declared.verdict.BoundVerdict.TheVariants as bounds
-use Rattle.tsp_reason.specs.declared.verdict.Reason.{Reason}
-use Rattle.tsp_reason.specs.declared.verdict.Reason.TheVariants.{TooFewNodes, NotSymmetric, DepotCount, DepotDemand, FixedEdgesInRoutes}
+use Rattle.tsp_task.specs.declared.certificate.Certificate.{Certificate}
+use Rattle.tsp_task.specs.declared.verdict.BoundVerdict.{BoundVerdict}
+use Rattle.tsp_task.specs.declared.verdict.BoundVerdict.TheVariants as bounds
+use Rattle.tsp_task.specs.declared.verdict.Reason.{Reason}
+use Rattle.tsp_task.specs.declared.verdict.Reason.TheVariants.{TooFewNodes, NotSymmetric, DepotCount, DepotDemand, FixedEdgesInRoutes}
 use Rattle.tsp_verdict.specs.Certified.{StandsAgainstCertificate, IsCertified, HasNoBound, HasNoSolution}
 use Rattle.tsp_verdict.specs.Plan.{demand_of, depot_of}
 use Rattle.tsp_verdict.specs.Reasons.{IsFirstReason}

@@ -18,8 +18,8 @@ use Rattle.tsp_cases.specs.Decisions.{take_pairs, is_same, decided_number}
 use Rattle.tsp_cases.specs.GoodFamilies.{IsGoodFamily}
 use Rattle.tsp_cases.specs.Listed.{listed_steps, IsFirstBadLeaf}
 use Rattle.tsp_cases.specs.Twice.{IsFirstTwice}
-use Rattle.tsp_reason.specs.declared.verdict.Reason.{Reason}
-use Rattle.tsp_reason.specs.declared.verdict.Reason.TheVariants.{NotBranches, BranchesDimension, BadComb, BadBranch, BranchTwice, BadLeaf}
+use Rattle.tsp_task.specs.declared.verdict.Reason.{Reason}
+use Rattle.tsp_task.specs.declared.verdict.Reason.TheVariants.{NotBranches, BranchesDimension, BadComb, BadBranch, BranchTwice, BadLeaf}
 use Rattle.tsp_verdict.specs.Places.{IsFirstPlace}
 
 -- ---- what is read of it, and of the instance

@@ -5,7 +5,7 @@ use Rattle.tsp_format.specs.declared.kinds.Kind.TheVariants as kinds
 use Rattle.tsp_format.specs.Steps.{Step, Branch, Leaf}
 use Rattle.tsp_draft.specs.Fields.{Fields, blank_fields}
 pub use Rattle.tsp_theory.specs.CycleExamples.{two, three, four}
-use Rattle.tsp_reason.specs.declared.verdict.Reason.{Reason}
+use Rattle.tsp_task.specs.declared.verdict.Reason.{Reason}
 use Rattle.tsp_verdict.specs.Reasons.{rank_of}
 
 -- an instance with this many nodes and these fixed pairs

@@ -8,8 +8,8 @@ use Rattle.tsp_file.specs.Defaults.{fixed_of, scale_in, multipliers_in}
 use Rattle.tsp_file.specs.Cost.{cost}
 use Rattle.tsp_theory.specs.Assignment.{AreGood, IsFirstBroken, IsDualBound}
 use Rattle.tsp_theory.specs.Adjusted.{IsAdjustedBound}
-use Rattle.tsp_reason.specs.declared.verdict.Reason.{Reason}
-use Rattle.tsp_reason.specs.declared.verdict.Reason.TheVariants.{NotPotentials, PotentialsDimension, PotentialsKind, MultiplierNotFixed, MultiplierRepeated, DualInfeasible}
+use Rattle.tsp_task.specs.declared.verdict.Reason.{Reason}
+use Rattle.tsp_task.specs.declared.verdict.Reason.TheVariants.{NotPotentials, PotentialsDimension, PotentialsKind, MultiplierNotFixed, MultiplierRepeated, DualInfeasible}
 use Rattle.tsp_verdict.specs.Multiplied.{IsUnlisted, IsPairRepeated}
 use Rattle.tsp_verdict.specs.Places.{IsFirstPlace}
 

@@ -1,7 +1,7 @@
 -- The first of several reasons, by the order in which they are judged.
 use Rattle.std.specs.Prelude.{ℕ, ◌<◌}
-use Rattle.tsp_reason.specs.declared.verdict.Reason.{Reason}
-pub use Rattle.tsp_reason.specs.ReasonRows.{rank_of}
+use Rattle.tsp_task.specs.declared.verdict.Reason.{Reason}
+pub use Rattle.tsp_task.specs.ReasonRows.{rank_of}
 
 -- none of the reasons applies that are judged before this rank
 abbrev pub NoneBefore : (Reason → Type 0) → ℕ → Type 0

@@ -5,8 +5,8 @@ use Rattle.tsp_draft.specs.Fields.{Fields, nodes_of}
 use Rattle.tsp_draft.specs.Rules.{is_branches_file}
 use Rattle.tsp_file.specs.Defaults.{scale_in, load_unit_in, families_listed}
 use Rattle.tsp_cost.specs.ComputedProblems.{depot_of, routing_of}
-use Rattle.tsp_reason.specs.declared.verdict.Reason.{Reason}
-use Rattle.tsp_reason.specs.declared.verdict.Reason.TheVariants.{NotBranches, BranchesDimension, BadComb, BadBranch, BadLeaf, TooManyLoads}
+use Rattle.tsp_task.specs.declared.verdict.Reason.{Reason}
+use Rattle.tsp_task.specs.declared.verdict.Reason.TheVariants.{NotBranches, BranchesDimension, BadComb, BadBranch, BadLeaf, TooManyLoads}
 use Rattle.tsp_routing.specs.GoodSets.{IsFirstBadSet}
 use Rattle.tsp_routing.specs.GoodBranches.{IsFirstBadPlanBranch}
 use Rattle.tsp_routing.specs.GoodLeaves.{IsFirstBadPlanLeaf}

@@ -2,7 +2,7 @@
 
 ghost use Rattle.std.specs.Prelude.{◌≡◌, ◌⊎◌, ◌≤◌, IsTrue, Some, MatchResult};
 ghost use Rattle.tsp_format.specs.declared.kinds.Kind.TheVariants as kinds;
-ghost use Rattle.tsp_reason.specs.declared.certificate.Certificate.TheVariants as certificates;
+ghost use Rattle.tsp_task.specs.declared.certificate.Certificate.TheVariants as certificates;
 ghost use Rattle.tsp_verdict.specs.Bounded.{StandsAgainstTouring, NoneAgainstTouring, NoneAgainstInstance, IsBoundVerdict};
 ghost use Rattle.tsp_verdict.specs.Certified.{is_bounded, NoneWithoutMemory};
 ghost use Rattle.tsp_verdict.specs.Reasons.{IsFirstReason};
@@ -18,7 +18,7 @@ use tsp_cost::{Costs, Instance};
 use tsp_file::File;
 use tsp_format::Kind;
 use tsp_memory::Refused;
-use tsp_reason::{BoundVerdict, Certificate, Reason};
+use tsp_task::{BoundVerdict, Certificate, Reason};
 
 /// The bound that a certificate gives the tours or the routes of an instance, or the first reason
 /// against either. No tour of the instance is shorter than the bound, or no plan whose routes each

@@ -10,7 +10,7 @@ ghost use Rattle.tsp_cost.specs.states.Views.{HasCosts};
 ghost use Rattle.tsp_verdict.specs.Reasons.{IsFirstReason};
 ghost use Rattle.tsp_draft.specs.Fields.{nodes_of};
 ghost use Rattle.tsp_verdict.specs.states.TourCosts.{IsSymmetricTsp};
-ghost use Rattle.tsp_reason.specs.declared.certificate.Certificate.TheVariants as certificates;
+ghost use Rattle.tsp_task.specs.declared.certificate.Certificate.TheVariants as certificates;
 ghost use Rattle.tsp_verdict.specs.Certified.{StandsAgainstCertificate, FindsBound, NoneWithoutMemory};
 
 use crate::fixed_decisions::taken_once;
@@ -22,7 +22,7 @@ use tsp_branch::{
 use tsp_cost::{Costs, Instance, View};
 use tsp_file::{File, TreeData};
 use tsp_memory::Refused;
-use tsp_reason::{BoundVerdict, Reason};
+use tsp_task::{BoundVerdict, Reason};
 
 /// The bound that a certificate by branching gives an instance of TYPE TSP or ATSP, or that it has
 /// no tour; or the first reason against the certificate.

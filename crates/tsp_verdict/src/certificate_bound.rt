@@ -3,7 +3,7 @@
 ghost use Rattle.std.specs.Prelude.{◌≡◌, ◌⊎◌, ◌≤◌, Some, IfOk, IsOk, IsErr};
 ghost use Rattle.tsp_format.specs.declared.kinds.Kind.TheVariants as kinds;
 ghost use Rattle.tsp_draft.specs.Fields.{nodes_of};
-ghost use Rattle.tsp_reason.specs.declared.certificate.Certificate.TheVariants as certificates;
+ghost use Rattle.tsp_task.specs.declared.certificate.Certificate.TheVariants as certificates;
 ghost use Rattle.tsp_verdict.specs.states.TourCosts.{AreTourCosts, IsSymmetricTsp};
 ghost use Rattle.tsp_verdict.specs.Certified.{is_bounded, FindsBound, NoneWithoutMemory};
 
@@ -15,7 +15,7 @@ use tsp_cost::Instance;
 use tsp_file::File;
 use tsp_format::Kind;
 use tsp_memory::Refused;
-use tsp_reason::{BoundVerdict, Certificate};
+use tsp_task::{BoundVerdict, Certificate};
 
 /// Whether tours or routes of instances of this TYPE have a bound by a certificate.
 pub fn is_bounded(by: Certificate, kind: Kind) -> bool

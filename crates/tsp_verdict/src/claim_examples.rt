@@ -5,8 +5,8 @@ ghost use Rattle.std.specs.Prelude.{◌≡◌, ◌∷◌, [], None, Some, pos, n
 ghost use Rattle.tsp_draft.specs.Fields.{Fields};
 ghost use Rattle.tsp_format.specs.declared.kinds.Kind.TheVariants as kinds;
 ghost use Rattle.tsp_cases.specs.Examples.{with_pair};
-ghost use Rattle.tsp_reason.specs.declared.verdict.Reason.TheVariants as reasons;
-ghost use Rattle.tsp_reason.specs.declared.verdict.Verdict.TheVariants as verdicts;
+ghost use Rattle.tsp_task.specs.declared.verdict.Reason.TheVariants as reasons;
+ghost use Rattle.tsp_task.specs.declared.verdict.Verdict.TheVariants as verdicts;
 ghost use Rattle.tsp_verdict.specs.Examples.{instance_with};
 ghost use Rattle.tsp_verdict.specs.SolutionVerdict.{IsAsClaimed, IsOtherClaimed, IsOfLength, IsVerdictOn, IsVerdictWith};
 ghost use Rattle.tsp_verdict.specs.BranchesCertificate.{given_in};

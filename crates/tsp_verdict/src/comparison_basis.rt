@@ -3,7 +3,7 @@
 ghost use Rattle.std.specs.Prelude.{◌≡◌, IsTrue, None, Some, MatchResult, option_map};
 ghost use Rattle.tsp_format.specs.declared.kinds.Kind.TheVariants as kinds;
 ghost use Rattle.tsp_draft.specs.Fields.{Fields};
-ghost use Rattle.tsp_reason.specs.declared.certificate.Certificate.{Certificate};
+ghost use Rattle.tsp_task.specs.declared.certificate.Certificate.{Certificate};
 ghost use Rattle.tsp_verdict.specs.Basis.{IsBasis, IsBasisBy, IsBasisOfToursBy, IsBasisOfRoutesBy, IsBasisOfRoutes, NoneOfBasisWithoutMemory};
 ghost use Rattle.tsp_verdict.specs.Bounded.{IsBoundVerdict};
 ghost use Rattle.tsp_cost.specs.ComputedProblems.{capacity_of};
@@ -20,7 +20,7 @@ use tsp_cost::{Costs, Instance};
 use tsp_file::File;
 use tsp_format::Kind;
 use tsp_memory::Refused;
-use tsp_reason::{Basis, BoundVerdict, Certificate, Reason};
+use tsp_task::{Basis, BoundVerdict, Certificate, Reason};
 
 /// What is known of all solutions of an instance, before any is read.
 ///

@@ -3,7 +3,7 @@
 ghost use Rattle.std.specs.Prelude.{◌≡◌, true, false, MatchOption};
 ghost use Rattle.tsp_verdict.specs.SolutionVerdict.{HasLength, HasNoLength, IsAsClaimed, IsOtherClaimed};
 
-use tsp_reason::Verdict;
+use tsp_task::Verdict;
 
 /// The length of an accepted solution, or `None` where it is rejected.
 pub(crate) fn length_in(verdict: Verdict) -> Option<i64>

@@ -58,7 +58,7 @@ pub use strict::{
     examples_of_strictness, strict_basis, strict_bound, strict_verdict,
     strict_yes_leaves_nothing_unjudged,
 };
-pub use tsp_reason::{Basis, BoundVerdict, Certificate, Reason, Verdict};
+pub use tsp_task::{Basis, BoundVerdict, Certificate, Reason, Verdict};
 pub use verdict_examples::{
     examples_against_routing, examples_of_accepted, examples_of_bounds, examples_of_depots,
     examples_of_first_reasons, examples_of_pairs,

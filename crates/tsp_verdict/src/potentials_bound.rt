@@ -18,7 +18,7 @@ ghost use Rattle.tsp_verdict.specs.Reasons.{IsFirstReason};
 ghost use Rattle.tsp_draft.specs.Fields.{nodes_of};
 ghost use Rattle.tsp_file.specs.Defaults.{fixed_of, multipliers_in};
 ghost use Rattle.tsp_verdict.specs.PotentialsCertificate.{has_wanted, BreaksDuals, StandsAgainstPotentials};
-ghost use Rattle.tsp_reason.specs.declared.certificate.Certificate.TheVariants as certificates;
+ghost use Rattle.tsp_task.specs.declared.certificate.Certificate.TheVariants as certificates;
 ghost use Rattle.tsp_verdict.specs.Certified.{IsCertified, FindsBound, NoneWithoutMemory};
 ghost use Rattle.tsp_verdict.specs.Multiplied.{AreListed};
 
@@ -32,7 +32,7 @@ use tsp_cost::{Costs, EvenView, Instance, Symmetric, View};
 use tsp_file::File;
 use tsp_format::Kind;
 use tsp_memory::Refused;
-use tsp_reason::{BoundVerdict, Reason};
+use tsp_task::{BoundVerdict, Reason};
 
 /// The potentials of nodes that a certificate holds, and its multipliers of fixed pairs.
 #[derive(Clone, Copy)]

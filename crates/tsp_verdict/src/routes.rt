@@ -20,7 +20,7 @@ use std::alloc::Global;
 use tsp_cost::{Costs, Instance};
 use tsp_file::{File, RoutingData};
 use tsp_memory::{Refused, filled};
-use tsp_reason::{Reason, Verdict};
+use tsp_task::{Reason, Verdict};
 
 /// The fewest nodes of an instance whose routes are judged.
 pub(crate) const FEWEST_NODES_OF_ROUTES: u32 = 2;

@@ -3,7 +3,7 @@
 
 ghost use Rattle.std.specs.Prelude.{IsTrue, MatchResult, Option, option_map};
 ghost use Rattle.tsp_draft.specs.Fields.{Fields};
-ghost use Rattle.tsp_reason.specs.declared.certificate.Certificate.{Certificate};
+ghost use Rattle.tsp_task.specs.declared.certificate.Certificate.{Certificate};
 ghost use Rattle.tsp_verdict.specs.Basis.{IsBasis, IsVerdictFrom};
 ghost use Rattle.tsp_verdict.specs.SolutionVerdict.{is_judged, NoneBeforeRepeatsOn, IsVerdictWith};
 
@@ -13,7 +13,7 @@ use std::alloc::Global;
 use tsp_cost::Instance;
 use tsp_file::File;
 use tsp_memory::Refused;
-use tsp_reason::{Basis, Certificate, Verdict};
+use tsp_task::{Basis, Certificate, Verdict};
 
 /// The verdict on a solution of an instance: on a tour, or for TYPE CVRP on routes.
 ///

@@ -3,19 +3,19 @@
 ghost use Rattle.std.specs.Prelude.{◌≡◌, true, false, [], ◌∷◌, None, Some, pos};
 ghost use Rattle.tsp_draft.specs.Fields.{Fields};
 ghost use Rattle.tsp_format.specs.declared.kinds.Kind.TheVariants as kinds;
-ghost use Rattle.tsp_reason.specs.Verdicts.{is_yes, is_bound_yes, is_clear};
-ghost use Rattle.tsp_reason.specs.declared.basis.Basis.{Basis};
-ghost use Rattle.tsp_reason.specs.declared.basis.Basis.TheVariants as bases;
-ghost use Rattle.tsp_reason.specs.declared.verdict.BoundVerdict.{BoundVerdict};
-ghost use Rattle.tsp_reason.specs.declared.verdict.BoundVerdict.TheVariants as bounds;
-ghost use Rattle.tsp_reason.specs.declared.verdict.Reason.TheVariants as reasons;
-ghost use Rattle.tsp_reason.specs.declared.verdict.Verdict.{Verdict};
-ghost use Rattle.tsp_reason.specs.declared.verdict.Verdict.TheVariants as verdicts;
+ghost use Rattle.tsp_task.specs.Verdicts.{is_yes, is_bound_yes, is_clear};
+ghost use Rattle.tsp_task.specs.declared.basis.Basis.{Basis};
+ghost use Rattle.tsp_task.specs.declared.basis.Basis.TheVariants as bases;
+ghost use Rattle.tsp_task.specs.declared.verdict.BoundVerdict.{BoundVerdict};
+ghost use Rattle.tsp_task.specs.declared.verdict.BoundVerdict.TheVariants as bounds;
+ghost use Rattle.tsp_task.specs.declared.verdict.Reason.TheVariants as reasons;
+ghost use Rattle.tsp_task.specs.declared.verdict.Verdict.{Verdict};
+ghost use Rattle.tsp_task.specs.declared.verdict.Verdict.TheVariants as verdicts;
 ghost use Rattle.tsp_verdict.specs.Examples.{instance_with, with_unknown};
 ghost use Rattle.tsp_verdict.specs.Strict.{is_unjudged, strict_verdict, strict_bound, strict_basis};
 
 use tsp_cost::Instance;
-use tsp_reason::{Basis, BoundVerdict, Reason, Verdict};
+use tsp_task::{Basis, BoundVerdict, Reason, Verdict};
 
 /// The verdict on a solution of an instance, which is this one, unless `strict` asks that unknown
 /// keywords of the instance be a reason: then an accepted solution of an instance with one is

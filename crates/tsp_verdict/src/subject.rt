@@ -14,7 +14,7 @@ use tsp_cost::{Costs, Instance, tour_length};
 use tsp_file::File;
 use tsp_format::Kind;
 use tsp_memory::Refused;
-use tsp_reason::{Basis, Certificate, Reason, Verdict};
+use tsp_task::{Basis, Certificate, Reason, Verdict};
 
 /// What solutions are judged by: an instance, and a certificate of a bound, where one is given, or
 /// what is known of all solutions by the two.

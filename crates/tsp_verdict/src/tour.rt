@@ -4,7 +4,7 @@ ghost use Rattle.std.specs.Prelude.{◌≡◌, ◌⊎◌, ◌<◌, ◌≤◌, []
 ghost use Rattle.std.specs.List.{All};
 ghost use Rattle.tsp_format.specs.declared.kinds.Kind.TheVariants as kinds;
 ghost use Rattle.tsp_cost.specs.ComputedProblems.{is_directed};
-ghost use Rattle.tsp_reason.specs.declared.verdict.Reason.TheVariants.{FixedEdgeUnused, TourCount};
+ghost use Rattle.tsp_task.specs.declared.verdict.Reason.TheVariants.{FixedEdgeUnused, TourCount};
 ghost use Rattle.tsp_draft.specs.Fields.{nodes_of};
 ghost use Rattle.tsp_verdict.specs.Solution.{tours_of};
 ghost use Rattle.tsp_verdict.specs.Tours.{NoneOfTourBefore, NoneOfTourBeforeNodes, IsFirstAgainstTour, NoneOfTourBeforeRepeats};
@@ -20,7 +20,7 @@ use tsp_cost::{Costs, EvenView, Instance, View, even_view};
 use tsp_file::File;
 use tsp_format::Kind;
 use tsp_memory::Refused;
-use tsp_reason::Reason;
+use tsp_task::Reason;
 
 /// The fewest nodes of an instance whose tours are judged.
 pub(crate) const FEWEST_NODES_OF_TOURS: u32 = 3;

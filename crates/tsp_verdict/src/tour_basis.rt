@@ -6,7 +6,7 @@ ghost use Rattle.tsp_verdict.specs.states.TourBases.{verdict_by, verdict_with};
 
 use crate::tour::TourCosts;
 use tsp_file::File;
-use tsp_reason::{Basis, Certificate, Verdict};
+use tsp_task::{Basis, Certificate, Verdict};
 
 /// What the bound of a verdict is taken from.
 #[derive(Clone, Copy)]

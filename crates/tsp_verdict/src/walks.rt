@@ -9,7 +9,7 @@ ghost use Rattle.tsp_format.specs.states.TreeSteps.{steps_of};
 ghost use Rattle.tsp_draft.specs.states.Drafts.{combs_of};
 ghost use Rattle.tsp_file.specs.Typed.{HoldsCases};
 ghost use Rattle.tsp_verdict.specs.Plan.{depot_of};
-ghost use Rattle.tsp_reason.specs.declared.certificate.Certificate.TheVariants as certificates;
+ghost use Rattle.tsp_task.specs.declared.certificate.Certificate.TheVariants as certificates;
 ghost use Rattle.tsp_verdict.specs.Certified.{FindsBound, NoneWithoutMemory};
 
 use crate::branching_bound::tree_of;
@@ -18,8 +18,8 @@ use std::alloc::Global;
 use tsp_cost::Instance;
 use tsp_file::{File, TreeData};
 use tsp_memory::Refused;
-use tsp_reason::{BoundVerdict, Reason};
 use tsp_routing::{PlanTree, PlanVerdict, judge_plans};
+use tsp_task::{BoundVerdict, Reason};
 
 /// The bound that a certificate by branching gives an instance of TYPE CVRP, or that it has no plan
 /// whose routes each have a customer; or the first reason against the certificate.

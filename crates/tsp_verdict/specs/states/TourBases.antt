@@ -2,11 +2,11 @@
 -- of all.
 use Rattle.std.specs.Prelude.{◌≡◌, ◌≤◌, Option, None, ℤ, IsTrue, option_map}
 use Rattle.tsp_draft.specs.Fields.{Fields, nodes_of}
-use Rattle.tsp_reason.specs.declared.basis.Basis.{Basis}
-use Rattle.tsp_reason.specs.declared.basis.Basis.TheVariants as bases
-use Rattle.tsp_reason.specs.declared.certificate.Certificate.{Certificate}
-use Rattle.tsp_reason.specs.declared.verdict.Verdict.{Verdict}
-use Rattle.tsp_reason.specs.declared.verdict.Verdict.TheVariants as verdicts
+use Rattle.tsp_task.specs.declared.basis.Basis.{Basis}
+use Rattle.tsp_task.specs.declared.basis.Basis.TheVariants as bases
+use Rattle.tsp_task.specs.declared.certificate.Certificate.{Certificate}
+use Rattle.tsp_task.specs.declared.verdict.Verdict.{Verdict}
+use Rattle.tsp_task.specs.declared.verdict.Verdict.TheVariants as verdicts
 use Rattle.tsp_verdict.specs.Basis.{IsBasis, IsVerdictFrom}
 use Rattle.tsp_verdict.specs.SolutionVerdict.{is_judged, IsVerdictWith}
 use Rattle.tsp_verdict.specs.declared.tour_basis.BoundOrigin.{BoundOrigin}

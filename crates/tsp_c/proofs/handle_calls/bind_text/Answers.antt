@@ -1,7 +1,7 @@
 -- The goals of `bind_text` in src/handle_calls.rt: what it ensures.
 use Rattle.std.proofs.Common.{◌≡◌, subst, rules}
 use Rattle.std.specs.Prelude.{Option, Some}
-use Rattle.tsp_reason.specs.declared.certificate.Certificate.{Certificate}
+use Rattle.tsp_task.specs.declared.certificate.Certificate.{Certificate}
 use Rattle.tsp_judge.specs.Open.{Open}
 use Rattle.tsp_c.specs.Ended.{nth}
 use Rattle.tsp_c.specs.Opened.{Held, BindsOpen, BindsText}

@@ -4,7 +4,7 @@ use Rattle.std.specs.Prelude.{Some}
 use Rattle.tsp_stream.specs.Sink.{Sink}
 use Rattle.tsp_stream.specs.states.Watched.{sink_of}
 use Rattle.tsp_draft.specs.Fields.{Fields}
-use Rattle.tsp_reason.specs.Verdicts.{is_yes}
+use Rattle.tsp_task.specs.Verdicts.{is_yes}
 use Rattle.tsp_report.specs.Report.{report_of}
 use Rattle.tsp_c.specs.Ended.{Reports}
 use Rattle.tsp_c.specs.Told.{told_of_verdict}

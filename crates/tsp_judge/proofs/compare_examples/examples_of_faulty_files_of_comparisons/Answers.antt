@@ -3,7 +3,7 @@ use Rattle.std.proofs.Common.{◌≡◌, ◌⊎◌, ℕ, None, Some, refl, inl, 
 use Rattle.tsp_stream.specs.Turn.{Turn}
 use Rattle.tsp_read.specs.Reads.{StopsAt}
 use Rattle.tsp_read.specs.declared.ReadFault.{ReadFault}
-use Rattle.tsp_reason.specs.declared.certificate.Certificate.{Certificate}
+use Rattle.tsp_task.specs.declared.certificate.Certificate.{Certificate}
 use Rattle.tsp_judge.specs.CheckRun.{Given, IsUnreadIn, IsSomeFile}
 use Rattle.tsp_judge.proofs.compare_examples.examples_of_faulty_files_of_comparisons.Goals as goal
 

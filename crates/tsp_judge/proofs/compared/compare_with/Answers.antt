@@ -3,7 +3,7 @@ use Rattle.std.proofs.Common.{◌≡◌, true, false, length, refl, arith, rules
 use Rattle.tsp_stream.specs.states.Watched.{sink_of}
 use Rattle.tsp_stream.specs.Sink.{HasWritten}
 use Rattle.tsp_draft.specs.Fields.{Fields}
-use Rattle.tsp_reason.specs.Verdicts.{is_clear}
+use Rattle.tsp_task.specs.Verdicts.{is_clear}
 use Rattle.tsp_judge.proofs.Comparing.{after_head}
 use Rattle.tsp_judge.specs.CompareRun.{IsTurnAt, ComparesBy}
 use Rattle.tsp_judge.specs.Following.{AreAllTold, IsFollowedBy}

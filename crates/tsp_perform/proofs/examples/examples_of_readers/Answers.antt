@@ -6,7 +6,7 @@ use Rattle.tsp_judge.specs.declared.fault.RunFault.TheVariants as run_faults
 use Rattle.tsp_judge.specs.CheckRun.{Given}
 use Rattle.tsp_judge.specs.CompareRun.{IsCompareRun}
 use Rattle.tsp_judge.specs.Watched.{turn_of}
-use Rattle.tsp_reason.specs.declared.certificate.Certificate.{Certificate}
+use Rattle.tsp_task.specs.declared.certificate.Certificate.{Certificate}
 use Rattle.tsp_perform.specs.Outcomes.{TakesNamed}
 use Rattle.tsp_perform.proofs.examples.examples_of_readers.Goals as goal
 

@@ -4,7 +4,7 @@ use Rattle.tsp_judge.specs.CheckRun.{Given}
 use Rattle.tsp_judge.specs.Watched.{sink_of}
 use Rattle.tsp_judge.specs.declared.Watched.{Watched}
 use Rattle.tsp_perform.specs.Outcomes.{AreReadOn, IsDone, TakesNamed}
-use Rattle.tsp_reason.specs.declared.certificate.Certificate.{Certificate}
+use Rattle.tsp_task.specs.declared.certificate.Certificate.{Certificate}
 use Rattle.tsp_task.specs.declared.task.FileTask.TheVariants.{Check, Bound}
 use Rattle.tsp_perform.proofs.outcome.perform.Goals as goal
 

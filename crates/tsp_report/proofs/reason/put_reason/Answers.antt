@@ -3,7 +3,7 @@ use Rattle.std.proofs.Common.{◌++◌, Option, subst}
 use Rattle.std.specs.Prelude.{ℤ}
 use Rattle.tsp_stream.specs.states.WriteProgress.{Carried, way_of}
 use Rattle.tsp_stream.proofs.Carrying.{carried_then}
-use Rattle.tsp_reason.specs.ReasonRows.{row_of_reason}
+use Rattle.tsp_task.specs.ReasonRows.{row_of_reason}
 use Rattle.tsp_report.specs.Report.{after_blank}
 use Rattle.tsp_report.proofs.reason.put_reason.Goals as goal
 

@@ -2,7 +2,7 @@
 use Rattle.std.proofs.Common.{◌∙◌, rules, subst, sym, FitsSigned}
 use Rattle.std.specs.Int.{w128}
 use Rattle.std.proofs.lemmas.Int.{to_z-of_z}
-use Rattle.tsp_reason.specs.declared.certificate.Certificate.TheVariants.{Potentials}
+use Rattle.tsp_task.specs.declared.certificate.Certificate.TheVariants.{Potentials}
 use Rattle.tsp_verdict.specs.Certified.{IsCertified}
 use Rattle.tsp_verdict.proofs.CarriedBounds.{certified}
 use Rattle.tsp_verdict.proofs.HeldNumbers.{numbers_counted}

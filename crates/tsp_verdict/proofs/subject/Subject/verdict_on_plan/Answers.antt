@@ -3,7 +3,7 @@ use Rattle.std.proofs.Common.{rules, subst, sym}
 use Rattle.std.specs.Int.{w64}
 use Rattle.std.specs.Prelude.{FitsSigned}
 use Rattle.std.proofs.lemmas.Int.{to_z-of_z}
-use Rattle.tsp_reason.specs.declared.verdict.Verdict.{Verdict}
+use Rattle.tsp_task.specs.declared.verdict.Verdict.{Verdict}
 use Rattle.tsp_verdict.specs.SolutionVerdict.{IsAsClaimed}
 use Rattle.tsp_verdict.specs.states.TourBases.{IsVerdictGiven}
 use Rattle.tsp_verdict.proofs.Bases.{routes_subject_rejected, routes_subject_judged}

@@ -6,8 +6,8 @@ use Rattle.std.proofs.lemmas.Int.{to_z-of_z}
 use Rattle.tsp_draft.specs.Fields.{nodes_of}
 use Rattle.tsp_draft.specs.Rules.{is_tour_file}
 use Rattle.tsp_cost.specs.ComputedProblems.{is_directed}
-use Rattle.tsp_reason.specs.declared.verdict.Reason.TheVariants.{NotASolution, Dimension, FixedEdgeUnused}
-use Rattle.tsp_reason.specs.declared.verdict.Verdict.{Verdict}
+use Rattle.tsp_task.specs.declared.verdict.Reason.TheVariants.{NotASolution, Dimension, FixedEdgeUnused}
+use Rattle.tsp_task.specs.declared.verdict.Verdict.{Verdict}
 use Rattle.tsp_verdict.specs.SolutionVerdict.{IsAsClaimed, IsOtherClaimed}
 use Rattle.tsp_verdict.specs.Tours.{IsFirstAgainstTour}
 use Rattle.tsp_verdict.specs.states.TourBases.{IsVerdictGiven, verdict_by}

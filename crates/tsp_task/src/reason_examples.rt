@@ -3,10 +3,10 @@
 
 ghost use Rattle.std.specs.Prelude.{◌≡◌, ◌∷◌, [], None, Some, codes, map, pos, negsuc};
 ghost use Rattle.std.specs.List.{All};
-ghost use Rattle.tsp_reason.specs.declared.role.Role.TheVariants.{Instance, Solution, Potentials, Branches};
-ghost use Rattle.tsp_reason.specs.declared.verdict.Reason.TheVariants as reasons;
-ghost use Rattle.tsp_reason.specs.Examples.{each_reason};
-ghost use Rattle.tsp_reason.specs.ReasonRows.{rank_of, row_of_reason, role_of};
+ghost use Rattle.tsp_task.specs.declared.role.Role.TheVariants.{Instance, Solution, Potentials, Branches};
+ghost use Rattle.tsp_task.specs.declared.verdict.Reason.TheVariants as reasons;
+ghost use Rattle.tsp_task.specs.Examples.{each_reason};
+ghost use Rattle.tsp_task.specs.ReasonRows.{rank_of, row_of_reason, role_of};
 
 /// The names and the order of the reasons.
 pub fn examples_of_names()

@@ -1,8 +1,8 @@
 //! What a file is given for, and which file a reason is about.
 
 ghost use Rattle.std.specs.Prelude.{◌≡◌};
-ghost use Rattle.tsp_reason.specs.ReasonRows.{role_of};
-ghost use Rattle.tsp_reason.specs.Roles.{role_by};
+ghost use Rattle.tsp_task.specs.ReasonRows.{role_of};
+ghost use Rattle.tsp_task.specs.Roles.{role_by};
 
 use crate::certificate::Certificate;
 use crate::reason_table::row_of_reason;

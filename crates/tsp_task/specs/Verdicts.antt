@@ -1,11 +1,11 @@
 -- Which verdicts are accepted.
 use Rattle.std.specs.Prelude.{Bool, true, false}
-use Rattle.tsp_reason.specs.declared.basis.Basis.{Basis}
-use Rattle.tsp_reason.specs.declared.basis.Basis.TheVariants as bases
-use Rattle.tsp_reason.specs.declared.verdict.BoundVerdict.{BoundVerdict}
-use Rattle.tsp_reason.specs.declared.verdict.BoundVerdict.TheVariants as bounds
-use Rattle.tsp_reason.specs.declared.verdict.Verdict.{Verdict}
-use Rattle.tsp_reason.specs.declared.verdict.Verdict.TheVariants.{Tour, Routes, No}
+use Rattle.tsp_task.specs.declared.basis.Basis.{Basis}
+use Rattle.tsp_task.specs.declared.basis.Basis.TheVariants as bases
+use Rattle.tsp_task.specs.declared.verdict.BoundVerdict.{BoundVerdict}
+use Rattle.tsp_task.specs.declared.verdict.BoundVerdict.TheVariants as bounds
+use Rattle.tsp_task.specs.declared.verdict.Verdict.{Verdict}
+use Rattle.tsp_task.specs.declared.verdict.Verdict.TheVariants.{Tour, Routes, No}
 
 abbrev pub is_yes : Verdict → Bool
 is_yes (Tour length bound) = true

@@ -109,7 +109,7 @@ pub enum Verdict {
 
 impl Verdict {
     ghost use Rattle.std.specs.Prelude.{◌≡◌};
-    ghost use Rattle.tsp_reason.specs.Verdicts.{is_yes};
+    ghost use Rattle.tsp_task.specs.Verdicts.{is_yes};
 
     /// Whether the solution is accepted.
     pub fn is_yes(self) -> bool
@@ -135,7 +135,7 @@ pub enum BoundVerdict {
 
 impl BoundVerdict {
     ghost use Rattle.std.specs.Prelude.{◌≡◌};
-    ghost use Rattle.tsp_reason.specs.Verdicts.{is_bound_yes};
+    ghost use Rattle.tsp_task.specs.Verdicts.{is_bound_yes};
 
     /// Whether there is no reason against the instance and the certificate.
     pub fn is_yes(self) -> bool

@@ -1,10 +1,10 @@
 -- The table of reasons, one row each. Its name in a report, its number for C and its place in the tables of docs/format.md are
 -- fields of the row.
 use Rattle.std.specs.Prelude.{ℕ, List, Option, None, Some, codes, ℤ, pos}
-use Rattle.tsp_reason.specs.declared.role.Role.{Role}
-use Rattle.tsp_reason.specs.declared.role.Role.TheVariants.{Instance, Solution, Potentials, Branches}
-use Rattle.tsp_reason.specs.declared.verdict.Reason.{Reason}
-use Rattle.tsp_reason.specs.declared.verdict.Reason.TheVariants.{NotASolution, TooFewNodes, NotSymmetric, Dimension, TourCount, TourLength, DepotCount, DepotDemand, FixedEdgesInRoutes, DepotInRoute, NodeOutOfRange, RepeatedNode, FixedEdgeUnused, Unserved, Overload, LengthClaimed, NotPotentials, PotentialsDimension, PotentialsKind, MultiplierNotFixed, MultiplierRepeated, DualInfeasible, NotBranches, BranchesDimension, BadComb, BadBranch, BranchTwice, BadLeaf, TooManyLoads, NotJudged}
+use Rattle.tsp_task.specs.declared.role.Role.{Role}
+use Rattle.tsp_task.specs.declared.role.Role.TheVariants.{Instance, Solution, Potentials, Branches}
+use Rattle.tsp_task.specs.declared.verdict.Reason.{Reason}
+use Rattle.tsp_task.specs.declared.verdict.Reason.TheVariants.{NotASolution, TooFewNodes, NotSymmetric, Dimension, TourCount, TourLength, DepotCount, DepotDemand, FixedEdgesInRoutes, DepotInRoute, NodeOutOfRange, RepeatedNode, FixedEdgeUnused, Unserved, Overload, LengthClaimed, NotPotentials, PotentialsDimension, PotentialsKind, MultiplierNotFixed, MultiplierRepeated, DualInfeasible, NotBranches, BranchesDimension, BadComb, BadBranch, BranchTwice, BadLeaf, TooManyLoads, NotJudged}
 
 -- its name, its place in the order in which reasons are judged, the file that it is about, and its numbers, of which it has two
 -- at most

@@ -19,7 +19,7 @@ pub enum Basis {
 
 impl Basis {
     ghost use Rattle.std.specs.Prelude.{◌≡◌};
-    ghost use Rattle.tsp_reason.specs.Verdicts.{is_clear};
+    ghost use Rattle.tsp_task.specs.Verdicts.{is_clear};
 
     /// Whether solutions are judged one by one: no reason applies to the instance or the
     /// certificate.

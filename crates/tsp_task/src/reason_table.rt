@@ -1,7 +1,7 @@
 //! The table of reasons, one row each.
 
 ghost use Rattle.std.specs.Prelude.{◌≡◌, None, Some, pos};
-ghost use Rattle.tsp_reason.specs.ReasonRows.{row_of_reason};
+ghost use Rattle.tsp_task.specs.ReasonRows.{row_of_reason};
 
 use crate::role::Role::{self, Branches, Instance, Potentials, Solution};
 use crate::verdict::Reason;

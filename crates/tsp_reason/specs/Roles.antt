@@ -1,9 +1,0 @@
--- What the file of a certificate is given for.
-use Rattle.tsp_reason.specs.declared.certificate.Certificate.{Certificate}
-use Rattle.tsp_reason.specs.declared.certificate.Certificate.TheVariants as certificates
-use Rattle.tsp_reason.specs.declared.role.Role.{Role}
-use Rattle.tsp_reason.specs.declared.role.Role.TheVariants.{Potentials, Branches}
-
-abbrev pub role_by : Certificate → Role
-role_by certificates.Potentials = Potentials
-role_by certificates.Branches = Branches
