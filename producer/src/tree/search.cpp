@@ -318,7 +318,7 @@ Numbers Search::near_last(const Tree::Place& leaf, const std::vector<Decision>& 
   const Numbers& last = made_.last();
   if (last.potentials.empty()) return leaf.numbers;
   if (bound_->reaches(last, decisions, aim())) return last;
-  const Numbers near = made_.near_last(leaf.numbers, decisions, goal_.target);
+  Numbers near = made_.near_last(leaf.numbers, decisions, goal_.target);
   if (problem_.instance.directed || problem_.instance.nodes() > kLeaves.most_near_nodes) return near;
   if (!near_) near_.emplace(problem_, pool_, *bound_, clock_);
   const std::optional<Numbers> found = near_->find({last, leaf.numbers, decisions, aim(), grid_.value_or(1)});
