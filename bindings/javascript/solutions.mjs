@@ -1,6 +1,9 @@
 // Solutions in the forms of other programs, as files of TYPE TOUR: Concorde's tour and edges, CVRPLIB's routes, routes
 // of OR-Tools, LKH-3's routes, a tour that R prints, lists and tables of nodes, JSON. Nothing here has to be trusted: what
 // comes of it is judged.
+// The page and the package for Node import it. It imports nothing, and runs in browsers and in Node. Recipes,
+// examples/check-many, bindings/python and `--explain` read the same forms. So a change begins with a row of
+// tests/support/forms.json, and is made in each of them.
 
 /** A solution that has no known form, or breaks it. */
 export class NoSolution extends Error {}

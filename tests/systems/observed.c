@@ -1,7 +1,8 @@
 /* What the calls do by which the program and the library ask for memory, words, variables and the last error, seen from
  * outside. The toolchain's own calls and those of bindings/systems have to print the same lines.
  *
- * It is run as: observed word long-word "", with the variable FOO=bar. */
+ * It is run as: observed word long-word "", with the variable FOO=bar. tests/systems/systems compiles it over each, and
+ * has the lines that it wants: after a change run `tests/systems/systems calls`. */
 #include <stdint.h>
 #include <stdio.h>
 #include <string.h>

@@ -1,6 +1,6 @@
 /* Runs PROGRAM by RUNNER, both known when this is compiled, with the words and streams that this is given, and with at
  * most MEMORY bytes of addresses, where that isn't 0. (A shell would open files of its own, in the place of a stream
- * that is closed.) */
+ * that is closed.) tests/systems/systems compiles and runs it for each system: run that after a change. */
 #include <stdio.h>
 #include <sys/resource.h>
 #include <unistd.h>

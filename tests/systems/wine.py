@@ -1,4 +1,5 @@
-"""Wine, which runs programs for Windows."""
+"""Wine, which runs programs for Windows. tests/systems/systems and tests/systems/releases import it: run both after a
+change."""
 from __future__ import annotations
 
 import os

@@ -1,3 +1,5 @@
+// tests/units/potentials.cpp compares its searches with a look at all pairs. If ties go otherwise, a seed gives
+// other files, and figures of pages change.
 #include "points/kd_tree.h"
 
 #include <limits>
@@ -93,6 +95,7 @@ void KdTree::set_labels(const std::vector<int>& labels) {
   }
 }
 
+// It leaves out extra(j), which is at least 0.
 double KdTree::least(int box, int i) const {
   const Box& b = boxes_[box];
   const auto apart = [](double at, double low, double high) { return std::max({low - at, at - high, 0.0}); };
