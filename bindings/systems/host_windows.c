@@ -1,6 +1,7 @@
 /* What the program asks of the system, for Windows, over the C library of mingw. Inside, paths and words are UTF-8 and
  * errors have Linux's numbers; the system has UTF-16 and numbers of its own. The calls are named host_NAME, since the
- * C library has other ones of these names. */
+ * C library has other ones of these names. bindings/systems/build compiles it, and tests/systems/systems tests what
+ * that makes. */
 #define WIN32_LEAN_AND_MEAN
 #include <errno.h>
 #include <fcntl.h>

@@ -1,5 +1,5 @@
-// tests/units/potentials.cpp compares its searches with a look at all pairs. If ties go otherwise, a seed gives
-// other files, and figures of pages change.
+// tests/units/potentials.cpp compares its searches with a look at all pairs. If ties go otherwise, a seed
+// gives other files, and figures of pages change.
 #include "points/kd_tree.h"
 
 #include <limits>

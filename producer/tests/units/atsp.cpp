@@ -1,3 +1,4 @@
+// Tests of an ATSP: lengths, assignments, tours, and the bound of rows.
 #include <algorithm>
 #include <numeric>
 

@@ -1,3 +1,4 @@
+// Tests of the numbers of leaves: their bounds, their grid, and the numbers of the leaf before.
 #include <algorithm>
 
 #include "fixtures.h"

@@ -1,3 +1,4 @@
+// Tests of subtours, of combs, and of the table of handles.
 #include <algorithm>
 #include <map>
 

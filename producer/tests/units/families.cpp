@@ -1,3 +1,4 @@
+// Tests of families and quotient cuts: crossings, bonds, tours of atoms, and their linear program.
 #include "cuts/families.h"
 
 #include <algorithm>

@@ -1,3 +1,4 @@
+// Tests of distances.
 #include "reading/instance.h"
 
 #include "fixtures.h"

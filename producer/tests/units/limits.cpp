@@ -1,3 +1,4 @@
+// Tests of the limits of the format: what is counted, and what is left out.
 #include "cuts/named_cuts.h"
 #include "fixtures.h"
 #include "tree/certificate.h"

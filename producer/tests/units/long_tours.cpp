@@ -1,3 +1,4 @@
+// Tests of tours as blocks, and of the chained search.
 #include <algorithm>
 #include <cmath>
 #include <numeric>

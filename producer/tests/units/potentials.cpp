@@ -1,3 +1,4 @@
+// Tests of tsp-potentials: the k-d tree, 1-trees, the ascent, and duals.
 #include <algorithm>
 #include <cmath>
 #include <limits>

@@ -1,3 +1,4 @@
+// Tests of the tree of cases: its linear program, its pool of cuts, and parts that take a leaf's place.
 #include "tree/search.h"
 
 #include <algorithm>

@@ -1,3 +1,4 @@
+// Tests of the search without a matrix: surcharges, scans, programs, leaves, and regions.
 #include <algorithm>
 #include <cmath>
 #include <numeric>

@@ -1,3 +1,4 @@
+// Tests that the weights of steepest edge are kept.
 #include "tree/steepest_edge.h"
 
 #include <cmath>

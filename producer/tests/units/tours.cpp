@@ -1,3 +1,4 @@
+// Tests of tours, of paths of fixed edges, and of neighbours.
 #include <algorithm>
 #include <cmath>
 #include <numeric>
