@@ -92,7 +92,8 @@ uint32_t tsp_check(const uint8_t *instance, size_t instance_len, const uint8_t *
                    uint32_t has_claim, uint8_t *out, size_t out_len, size_t *written);
 
 /* Bounds the tours or the routes of an instance by a certificate, and gives the report: by is TSP_BY_POTENTIALS or
- * TSP_BY_BRANCHES. In the line of a fault the certificate is file 2. */
+ * TSP_BY_BRANCHES. With 2 more, 3 or 4, an instance with an unknown keyword is a no, after all other reasons. In the
+ * line of a fault the certificate is file 2. */
 uint32_t tsp_bound(const uint8_t *instance, size_t instance_len, const uint8_t *certificate,
                    size_t certificate_len, uint32_t by, uint8_t *out, size_t out_len, size_t *written);
 
@@ -304,7 +305,7 @@ uint32_t tsp_bind(struct tsp_instance *handle, const uint8_t *certificate, size_
                   struct tsp_result *result);
 
 /* Judges a solution, as tsp_check_result does of the texts that are open: the status, the report and the result are
- * the same. has_claim is 0 or 1; a handle has no strict check, and refuses 2 and 3. */
+ * the same, and so is what has_claim asks. */
 uint32_t tsp_instance_check(struct tsp_instance *handle, const uint8_t *solution, size_t solution_len,
                             int64_t claimed, uint32_t has_claim, struct tsp_result *result, uint8_t *out,
                             size_t out_len, size_t *written);

@@ -37,13 +37,12 @@ export class Judge {
      *
      * @param {Uint8Array} solution
      * @param {bigint | null} claimed
-     * @param {boolean} [strict] whether unknown keywords of the instance are a reason: then it is read again
+     * @param {boolean} [strict] whether unknown keywords of the instance are a reason
      * @returns {import("./library.mjs").Judged}
      */
     check(solution, claimed, strict = false) {
         const { instance, certificate, by } = this.texts;
-        const handle = strict ? null : this.#handle;
-        return handle?.check(solution, claimed) ?? this.library.check(instance, solution, certificate, by, claimed, strict);
+        return this.#handle?.check(solution, claimed, strict) ?? this.library.check(instance, solution, certificate, by, claimed, strict);
     }
 
     /** Frees what was read. */

@@ -178,10 +178,12 @@ export class Library {
      * @param {Uint8Array} instance
      * @param {Uint8Array} certificate
      * @param {number} by
+     * @param {boolean} [strict] whether unknown keywords of the instance are a reason
      * @returns {Judged}
      */
-    bound(instance, certificate, by) {
-        return judgedOf(this.exports, [instance, certificate], (slices, out) => this.exports.tsp_bound_result(...slices, by, ...out));
+    bound(instance, certificate, by, strict = false) {
+        const asked = by + 2 * Number(strict);
+        return judgedOf(this.exports, [instance, certificate], (slices, out) => this.exports.tsp_bound_result(...slices, asked, ...out));
     }
 
     /**
@@ -198,8 +200,9 @@ export class Library {
      */
     explain(call, texts, names, number, claimed, strict = false) {
         const joined = new TextEncoder().encode(names.map((name) => name.replaceAll("\0", "")).join("\0"));
+        const asked = number + 2 * Number(strict && call === Call.BOUND);
         return textBy(this.exports, [...texts, joined], (slices, out) =>
-            this.exports.tsp_explain(call, ...slices, number, ...claim(claimed, strict), ...out),
+            this.exports.tsp_explain(call, ...slices, asked, ...claim(claimed, strict), ...out),
         );
     }
 
@@ -277,14 +280,15 @@ export class Handle {
      *
      * @param {Uint8Array} solution
      * @param {bigint | null} claimed
+     * @param {boolean} [strict] whether unknown keywords of the instance are a reason
      * @returns {Judged}
      */
-    check(solution, claimed) {
+    check(solution, claimed, strict = false) {
         if (this.#at === 0n) {
             return { status: Status.REFUSED, bytes: new Uint8Array(), result: NO_RESULT };
         }
         return judgedOf(this.exports, [solution], (slices, out) =>
-            this.exports.tsp_instance_check(this.#at, ...slices, ...claim(claimed), ...out),
+            this.exports.tsp_instance_check(this.#at, ...slices, ...claim(claimed, strict), ...out),
         );
     }
 

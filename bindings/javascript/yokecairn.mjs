@@ -199,8 +199,8 @@ export function bound(instance, options) {
     }
     const first = given(instance);
     /** @type {Asked} */
-    const asked = { call: Call.BOUND, files: [first, NO_FILE, certificate], number: by, claimed: null };
-    return reported(asked, opened().bound(first.bytes, certificate.bytes, by), options.explain);
+    const asked = { call: Call.BOUND, files: [first, NO_FILE, certificate], number: by, claimed: null, strict: options.strict };
+    return reported(asked, opened().bound(first.bytes, certificate.bytes, by, options.strict), options.explain);
 }
 
 /**

@@ -18,23 +18,25 @@ export type Layout =
 /** How distances of points are made. */
 export type EdgeWeightType = "EUC_2D" | "CEIL_2D" | "MAN_2D" | "MAX_2D" | "ATT" | "EUC_3D" | "MAN_3D" | "MAX_3D";
 
-/** A certificate, of which there is at most one, and whether the report is explained. */
+/**
+ * A certificate, of which there is at most one, whether the report is explained, and whether an unknown keyword of the
+ * instance is a reason.
+ */
 export interface CertificateOptions {
     potentials?: Source;
     branches?: Source;
     explain?: boolean;
+    strict?: boolean;
 }
 
 /** Also the length that the solution is said to have. */
 export interface CheckOptions extends CertificateOptions {
     length?: bigint | number;
-    strict?: boolean;
 }
 
 /** Also whether solutions may have the form of another program. */
 export interface CompareOptions extends CertificateOptions {
     foreign?: boolean;
-    strict?: boolean;
 }
 
 /** How points become an instance: `scale` multiplies coordinates exactly, `decimals` rounds them, half to even. */

@@ -85,8 +85,12 @@ static void answers(void) {
     expect(tsp_bound(TEXT(SQUARE), TEXT(ZEROS), TSP_BY_BRANCHES, out, sizeof out, &written) == TSP_NO
                && written == sizeof REFUSED - 1 && memcmp(out, REFUSED, written) == 0, "potentials are no branches");
     expect(tsp_bound(TEXT(SQUARE), TEXT(ZEROS), 0, out, sizeof out, &written) == TSP_REFUSED && written == 0
-               && tsp_bound(TEXT(SQUARE), TEXT(ZEROS), 3, out, sizeof out, &written) == TSP_REFUSED,
-           "a bound is by 1 or by 2");
+               && tsp_bound(TEXT(SQUARE), TEXT(ZEROS), 5, out, sizeof out, &written) == TSP_REFUSED,
+           "a bound is by 1 to 4");
+    expect(tsp_bound(TEXT(LIMITED), TEXT(ZEROS), TSP_BY_POTENTIALS + 2, out, sizeof out, &written) == TSP_NO
+               && written == sizeof UNJUDGED - 1 && memcmp(out, UNJUDGED, written) == 0, "a bound with an unknown keyword");
+    expect(tsp_bound(TEXT(SQUARE), TEXT(ZEROS), TSP_BY_POTENTIALS + 2, out, sizeof out, &written) == TSP_YES
+               && written == sizeof BOUND - 1 && memcmp(out, BOUND, written) == 0, "a bound without one");
     static const char FAULT[] = "file 2: end: Missing TYPE\n";
     expect(tsp_bound(TEXT(SQUARE), TEXT(""), TSP_BY_POTENTIALS, out, sizeof out, &written) == TSP_FAULT
                && written == sizeof FAULT - 1 && memcmp(out, FAULT, written) == 0, "a certificate is file 2 of a bound");

@@ -18,6 +18,9 @@ static const char PAIR[] = "TYPE : TSP\nDIMENSION : 2\nEDGE_WEIGHT_TYPE : EUC_2D
 static const char LOADED[] = "TYPE : CVRP\nDIMENSION : 3\nCAPACITY : 5\nEDGE_WEIGHT_TYPE : EUC_2D\nNODE_COORD_SECTION\n"
                              "1 0 0\n2 3 0\n3 3 4\nDEMAND_SECTION\n1 1\n2 4\n3 4\nDEPOT_SECTION\n1 -1\nEOF\n";
 static const char OF_FOUR[] = "TYPE : TOUR\nDIMENSION : 4\nTOUR_SECTION\n2 3 -1\nEOF\n";
+static const char LIMITED[] = "TYPE : TSP\nDISTANCE : 9\nDIMENSION : 4\nEDGE_WEIGHT_TYPE : EUC_2D\n"
+                              "NODE_COORD_SECTION\n1 0 0\n2 3 0\n3 3 4\n4 0 4\nEOF\n";
+static const char AROUND[] = "TYPE : TOUR\nTOUR_SECTION\n1 2 3 4 -1\nEOF\n";
 static const char NO_FILE[] = "TYPE : TSP\nDIMENSION : 4\n7\n";
 
 static uint8_t out[512];
@@ -85,8 +88,10 @@ static void checks(void) {
     expect(tsp_instance_check(&handle, TEXT(TOUR), 14, 1, &r, out, sizeof out, &written) == TSP_NO
                && says("type TSP\nnodes 4\nno LengthClaimed 15\n") && r.reason == TSP_LENGTH_CLAIMED && r.first == 15,
            "another length than the claimed one");
-    expect(tsp_instance_check(&handle, TEXT(TOUR), 15, 2, &r, out, sizeof out, &written) == TSP_REFUSED && written == 0
-               && r.verdict == 0, "has_claim is 0 or 1");
+    expect(tsp_instance_check(&handle, TEXT(TOUR), 15, 4, &r, out, sizeof out, &written) == TSP_REFUSED && written == 0
+               && r.verdict == 0, "has_claim is 0 to 3");
+    expect(tsp_instance_check(&handle, TEXT(TOUR), 15, 3, &r, out, sizeof out, &written) == TSP_YES
+               && says("type TSP\nnodes 4\nlength 15\nyes\n"), "no unknown keyword");
     out[0] = '#';
     expect(tsp_instance_check(&handle, TEXT(TOUR), 0, 0, &r, out, 5, &written) == TSP_TOO_SMALL && written == 31 && out[0] == '#'
                && r.verdict == TSP_TOUR && r.length == 15, "numbers need no buffer");
@@ -150,6 +155,11 @@ static void known(void) {
                && r.reason == TSP_LENGTH_CLAIMED && r.first == 15, "a claimed length comes before the certificate");
     expect(tsp_instance_check(&handle, TEXT(TOUR), 15, 1, &r, out, sizeof out, &written) == TSP_NO
                && r.reason == TSP_NOT_BRANCHES, "which comes last");
+
+    tsp_open(TEXT(LIMITED), &handle, &r);
+    expect(tsp_instance_check(&handle, TEXT(AROUND), 0, 2, &r, out, sizeof out, &written) == TSP_NO
+               && says("type TSP\nnodes 4\nnot judged DISTANCE\nno NotJudged DISTANCE\n") && r.reason == TSP_NOT_JUDGED, "an unknown keyword");
+    expect(check(&handle, AROUND, &r) == TSP_YES && r.length == 14, "which is no reason where that isn't asked");
     tsp_close(&handle);
 }
 

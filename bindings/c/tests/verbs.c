@@ -111,13 +111,18 @@ static struct call call_of(int count, char **words) {
     return call;
 }
 
+/* A strict bound is 2 more. */
+static uint32_t number_of(const struct call *call) {
+    return call->number + (call->verb == TSP_OF_BOUND ? (call->has_claim & 2) : 0);
+}
+
 static uint32_t run(const struct call *call, const struct text *texts, uint8_t *out, size_t room, size_t *written) {
     switch (call->verb) {
     case TSP_OF_CHECK:
         return tsp_check(texts[0].bytes, texts[0].len, texts[1].bytes, texts[1].len, texts[2].bytes, texts[2].len,
                          call->number, call->claimed, call->has_claim, out, room, written);
     case TSP_OF_BOUND:
-        return tsp_bound(texts[0].bytes, texts[0].len, texts[2].bytes, texts[2].len, call->number, out, room, written);
+        return tsp_bound(texts[0].bytes, texts[0].len, texts[2].bytes, texts[2].len, number_of(call), out, room, written);
     case TSP_OF_CONVERT:
         return tsp_convert(texts[0].bytes, texts[0].len, call->number, out, room, written);
     default:
@@ -131,7 +136,7 @@ static uint32_t explain(const struct call *call, const struct text *texts, uint8
     for (int k = 0; k < 3; k++)
         len += snprintf(names + len, sizeof names / 3, "%s", call->paths[k] == NULL ? "" : call->paths[k]) + 1;
     return tsp_explain(call->verb, texts[0].bytes, texts[0].len, texts[1].bytes, texts[1].len, texts[2].bytes,
-                       texts[2].len, (const uint8_t *)names, (size_t)len, call->number, call->claimed,
+                       texts[2].len, (const uint8_t *)names, (size_t)len, number_of(call), call->claimed,
                        call->has_claim, out, room, written);
 }
 

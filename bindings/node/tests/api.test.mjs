@@ -70,6 +70,8 @@ test("claims, reasons and explanations", () => {
     assert.deepEqual([strict.yes, strict.reason, strict.numbers, strict.notJudged], [false, "NotJudged", [], ["DISTANCE"]]);
     assert.equal(check({ text: limited }, [1, 2, 3, 4]).yes, true);
     assert.equal(check({ text: RECTANGLE }, [1, 2, 3, 4], { strict: true }).yes, true);
+    const zeros = { text: "TYPE : POTENTIALS\nDIMENSION : 4\nNODE_POTENTIAL_SECTION\n1 0\n2 0\n3 0\n4 0\nEOF\n" };
+    assert.deepEqual([true, false].map((strict) => bound({ text: limited }, { potentials: zeros, strict }).reason), ["NotJudged", null]);
     const compared = [true, false].map((strict) => compare({ text: limited }, [[1, 2, 3, 4]], { strict }));
     assert.deepEqual(compared.map((it) => [it.basis.reason, it.outcomes.length]), [["NotJudged", 0], [null, 1]]);
     assert.match(String(compared[0]), /\nno NotJudged DISTANCE\n$/);

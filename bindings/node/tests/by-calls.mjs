@@ -13,15 +13,16 @@ const REFUSED = 4;
 /** What the calls of a verb write, and the status. */
 function judged(verb, [first, ...others], options, explain) {
     const certificate = Object.fromEntries(["potentials", "branches"].flatMap((name) => (options.has(name) ? [[name, options.get(name)]] : [])));
+    const strict = options.has("strict");
     if (verb === "compare") {
-        const compared = api.compare(first, others, { ...certificate, strict: options.has("strict") });
+        const compared = api.compare(first, others, { ...certificate, strict });
         const isYes = compared.basis.reason === null && compared.outcomes.every((it) => it.yes);
         const worst = compared.outcomes.reduce((most, it) => Math.max(most, it instanceof api.Report ? Number(!it.yes) : 2), 0);
         return { status: isYes ? 0 : compared.basis.reason === null ? worst : 1, out: String(compared), err: "" };
     }
     const claimed = options.has("length") ? { length: lengthOf(options.get("length")) } : {};
-    const asked = { ...certificate, ...claimed, explain, strict: options.has("strict") };
-    const report = verb === "bound" ? api.bound(first, { ...certificate, explain }) : api.check(first, others[0], asked);
+    const asked = { ...certificate, ...claimed, explain, strict };
+    const report = verb === "bound" ? api.bound(first, { ...certificate, explain, strict }) : api.check(first, others[0], asked);
     return { status: Number(!report.yes), out: report.text, err: report.explanation && `${report.explanation}\n` };
 }
 

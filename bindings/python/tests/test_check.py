@@ -130,6 +130,15 @@ class Claims(unittest.TestCase):
         self.assertEqual(yokecairn.check(limited, [1, 2, 3, 3], strict=True).reason, "RepeatedNode")
         self.assertTrue(yokecairn.check(RECTANGLE.encode(), [1, 2, 3, 4], strict=True))
 
+    def test_strict_bounds(self):
+        zeros = b"TYPE : POTENTIALS\nDIMENSION : 4\nNODE_POTENTIAL_SECTION\n1 0\n2 0\n3 0\n4 0\nEOF\n"
+        limited = RECTANGLE.replace("DIMENSION", "DISTANCE : 9\nDIMENSION", 1).encode()
+        self.assertTrue(yokecairn.bound(limited, zeros))
+        report = yokecairn.bound(limited, zeros, strict=True, explain=True)
+        self.assertEqual((report.yes, report.reason, report.bound), (False, "NotJudged", None))
+        self.assertIn("--strict", report.explanation)
+        self.assertTrue(yokecairn.bound(RECTANGLE.encode(), zeros, strict=True))
+
     def test_strict_comparisons(self):
         limited = RECTANGLE.replace("DIMENSION", "DISTANCE : 9\nDIMENSION", 1).encode()
         found = yokecairn.compare(limited, [[1, 2, 3, 4]], strict=True)

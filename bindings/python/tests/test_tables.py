@@ -112,8 +112,6 @@ class Rows(unittest.TestCase):
 
     def run_by(self, kind, without=()):
         with tempfile.TemporaryDirectory() as scratch:
-            # (of the package no bound is strict)
-            without = [*without, "bound-strict"]
             runner = rows.Runner("tsp", scratch, run=kind, without=without)
             runner.all()
         Rows.passed += runner.passed

@@ -17,7 +17,7 @@ _VERBS: Dict[str, Tuple[str, Tuple[str, ...], Tuple[str, ...]]] = {
         ("file", "solution"),
         ("--potentials", "--branches", "--length", "--strict", "--foreign", "--no-foreign", "--first", "--no-claims"),
     ),
-    "bound": ("bound all tours of an instance by a certificate", ("file",), ("--potentials", "--branches")),
+    "bound": ("bound all tours of an instance by a certificate", ("file",), ("--potentials", "--branches", "--strict")),
     "compare": (
         "judge many solutions of an instance, a line for each",
         ("file", "solutions"),
@@ -197,7 +197,7 @@ class Task:
             certificate = texts[2] if self.by else b""
             return _library.check(texts[0], texts[1], certificate, self.by, self.claimed, self.strict)
         if self.verb == "bound":
-            return _library.bound(texts[0], texts[1], self.by)
+            return _library.bound(texts[0], texts[1], self.by, self.strict)
         if self.verb == "convert":
             return _library.convert(texts[0], _library.LAYOUTS[self.layout] if self.layout else 0)
         return _library.show(texts[0])

@@ -196,15 +196,15 @@ def _claim(claimed: Optional[int], strict: bool = False) -> Tuple[int, int]:
     return claimed or 0, int(claimed is not None) + 2 * strict
 
 
-def bound(instance: bytes, certificate: bytes, by: int) -> Tuple[int, bytes]:
+def bound(instance: bytes, certificate: bytes, by: int, strict: bool = False) -> Tuple[int, bytes]:
     """The status of a bound without a tour, and its report or the line of a fault."""
-    return bound_result(instance, certificate, by)[:2]
+    return bound_result(instance, certificate, by, strict)[:2]
 
 
-def bound_result(instance: bytes, certificate: bytes, by: int) -> Tuple[int, bytes, Result]:
+def bound_result(instance: bytes, certificate: bytes, by: int, strict: bool = False) -> Tuple[int, bytes, Result]:
     """The same with the result in numbers."""
     result = Result()
-    words = (instance, len(instance), certificate, len(certificate), by, byref(result))
+    words = (instance, len(instance), certificate, len(certificate), by + 2 * strict, byref(result))
     status, told = _written(_bound, *words, capacity=REPORT)
     return status, told, result
 
@@ -254,10 +254,10 @@ class Handle:
         with self._lock:
             return _bind(self._at, certificate, len(certificate), by, byref(result)), result
 
-    def check(self, solution: bytes, claimed: Optional[int]) -> Tuple[int, bytes, Result]:
+    def check(self, solution: bytes, claimed: Optional[int], strict: bool = False) -> Tuple[int, bytes, Result]:
         """The status of a check, its report or the line of a fault, and the result in numbers."""
         result = Result()
-        words = (self._at, solution, len(solution), *_claim(claimed), byref(result))
+        words = (self._at, solution, len(solution), *_claim(claimed, strict), byref(result))
         with self._lock:
             status, told = _written(_check_held, *words, capacity=REPORT)
         return status, told, result
@@ -300,6 +300,7 @@ def explain(
     `texts` and `names` are those of the instance, the solution and the certificate, `number` is the kind of
     certificate or the layout.
     """
+    number += 2 * (strict and call == BOUND)
     words = [word for text in (*texts, b"\0".join(names)) for word in (text, len(text))]
     status, told = _written(_explain, call, *words, number, *_claim(claimed, strict), capacity=REPORT)
     return told if status == DONE else b""

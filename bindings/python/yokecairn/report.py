@@ -301,7 +301,7 @@ def report_of(
     if handle is None:
         status, told, result = _library.check_result(*texts, by, length, strict)
     else:
-        status, told, result = handle.check(texts[1], length)
+        status, told, result = handle.check(texts[1], length, strict)
 
     def more() -> str:
         return explained(_library.CHECK, texts, paths, by, length, strict)
@@ -338,10 +338,11 @@ def bound(
     branches: Optional[Source] = None,
     *,
     explain: bool = False,
+    strict: bool = False,
 ) -> Report:
     """The bound that a certificate gives to the tours or the routes of an instance.
 
-    Each file is a path, the bytes of its text, or a `Problem`.
+    Each file is a path, the bytes of its text, or a `Problem`. `strict` is as in `check`.
 
     Raises:
         Fault: a text is no file, or the first is of the wrong kind. The certificate is file 2.
@@ -353,17 +354,17 @@ def bound(
     by, second, certificate_path = certificate_of(potentials, branches)
     if by == _library.ALONE:
         raise TypeError("neither potentials nor branches")
-    return bound_of((first, second), (path, certificate_path), by, explain)
+    return bound_of((first, second), (path, certificate_path), by, explain, strict)
 
 
 def bound_of(
-    texts: Tuple[bytes, bytes], paths: Sequence[Optional[str]], by: int, explain: bool = False
+    texts: Tuple[bytes, bytes], paths: Sequence[Optional[str]], by: int, explain: bool = False, strict: bool = False
 ) -> Report:
     """The report of a bound by these texts: of the instance and the certificate."""
-    status, told, result = _library.bound_result(*texts, by)
+    status, told, result = _library.bound_result(*texts, by, strict)
 
     def more() -> str:
-        return explained(_library.BOUND, (texts[0], b"", texts[1]), (paths[0], None, paths[1]), by)
+        return explained(_library.BOUND, (texts[0], b"", texts[1]), (paths[0], None, paths[1]), by, strict=strict)
 
     if status not in (_library.DONE, _library.NO):
         raise error_of(status, told, more, paths, texts)

@@ -23,7 +23,7 @@ import { NoSolution, claimOf, converted } from "../../javascript/solutions.mjs";
  * @property {Given[]} [tours] all solutions, where there are several
  * @property {boolean} [foreign] whether a solution may have the form of another program
  * @property {boolean} [claims] whether the length that a solution claims itself counts, where none is claimed otherwise
- * @property {boolean} [strict] whether an unknown keyword of the instance is a reason against a solution
+ * @property {boolean} [strict] whether an unknown keyword of the instance is a reason
  *
  * @typedef {object} Row what comes of one of several solutions
  * @property {string} name
@@ -251,7 +251,7 @@ function judgedBy(library, job, verb) {
     if (verb === "check") {
         return library.check(instance, solution, certificate, byOf(job), job.claimed, job.strict);
     }
-    return library.bound(instance, certificate, byOf(job));
+    return library.bound(instance, certificate, byOf(job), job.strict);
 }
 
 /**
@@ -267,7 +267,7 @@ function explanationOf(library, job, verb) {
         return library.explain(Call.SHOW, [one.bytes, NOTHING, NOTHING], [one.name, "", ""], 0, null).bytes;
     }
     const call = verb === "check" ? Call.CHECK : Call.BOUND;
-    return library.explain(call, textsOf(job), names, byOf(job), job.claimed, verb === "check" && job.strict).bytes;
+    return library.explain(call, textsOf(job), names, byOf(job), job.claimed, (verb === "check" || verb === "bound") && job.strict).bytes;
 }
 
 /**
@@ -285,7 +285,7 @@ function commandOf(job, verb) {
     if (job.claimed !== null && verb === "check") {
         words.push(`--length=${job.claimed}`);
     }
-    if (job.strict && verb === "check") {
+    if (job.strict && (verb === "check" || verb === "bound")) {
         words.push("--strict");
     }
     return ["tsp", verb, ...(verb === "show" ? [quoted(oneOf(job).name)] : words)].join(" ");

@@ -26,8 +26,8 @@ use Rattle.tsp_c.specs.Texts.{with_certificate}
 use Rattle.tsp_c.specs.Told.{IsSizedBound, blank_told, told_of_run, told_of_bound_run, TellsTexts, TellsBound}
 use Rattle.tsp_c.proofs.StatusMeanings.{fault_status}
 use Rattle.tsp_c.proofs.OnHandles.{not_two}
-use Rattle.tsp_c.proofs.OnTexts.{Reads2, Reads3, are_spelled, unchecked, no_relayout, unbounded, not_relaid, spelled, unasked}
-use Rattle.tsp_verdict.specs.Strict.{is_unjudged, strict_verdict}
+use Rattle.tsp_c.proofs.OnTexts.{Reads2, Reads3, are_spelled, unchecked, no_relayout, unbounded, not_relaid, spelled}
+use Rattle.tsp_verdict.specs.Strict.{is_unjudged, strict_bound, strict_verdict}
 use Rattle.tsp_task.specs.declared.verdict.Verdict.TheVariants as verdicts
 
 -- ---- bounds that fit
@@ -42,11 +42,19 @@ sized_bound by instance certificate (bounds.Bound bound) is = small bound is.1.2
 sized_bound by instance certificate bounds.NoSolution is = tt
 sized_bound by instance certificate (bounds.No reason) is = tt
 
-pub sized_bound_run : (by : Certificate) (first second : Turn) (sink : Sink) (ended : Result Bounded RunFault)
-    → IsBoundRun by false first second sink ended → IfOk ended (λ bounded. IsSizedBound bounded.found)
-sized_bound_run by first second sink (Ok bounded) run = sized_bound by bounded.instance bounded.certificate bounded.found
-    (unasked by bounded.instance bounded.certificate bounded.found run.2.1)
-sized_bound_run by first second sink (Err fault) run = tt
+sized_bound_kept : (refused : Bool) (plain : BoundVerdict) → IsSizedBound plain → IsSizedBound (strict_bound refused plain)
+sized_bound_kept false plain is = is
+sized_bound_kept true (bounds.Bound bound) is = tt
+sized_bound_kept true bounds.NoSolution is = tt
+sized_bound_kept true (bounds.No reason) is = tt
+
+pub sized_bound_run : (by : Certificate) (strict : Bool) (first second : Turn) (sink : Sink) (ended : Result Bounded RunFault)
+    → IsBoundRun by strict first second sink ended → IfOk ended (λ bounded. IsSizedBound bounded.found)
+sized_bound_run by strict first second sink (Ok bounded) run =
+    let asked = run.2.1 in
+    subst IsSizedBound (sym asked.2)
+    (sized_bound_kept (is_unjudged strict bounded.instance) asked.0 (sized_bound by bounded.instance bounded.certificate asked.0 asked.1))
+sized_bound_run by strict first second sink (Err fault) run = tt
 
 -- what a law says of each verdict
 abbrev AreSized : Type 0
@@ -117,11 +125,11 @@ tells_texts by claimed strict first second third sink (Err fault) one two three 
 }
 
 -- plan: by the end of the run: a bound, over the files of the texts (`spelled`); or a fault, by its status (`unbounded`)
-pub tells_bound : (by : Certificate) (first second : Turn) (sink : Sink) (ended : Result Bounded RunFault)
+pub tells_bound : (by : Certificate) (strict : Bool) (first second : Turn) (sink : Sink) (ended : Result Bounded RunFault)
     (one two written : List ℕ) (status : ℕ) (text : List ℕ) (made numbers : Told) → Reads2 first second one two
-    → IsBoundRun by false first second sink ended → made ≡ told_of_bound_run ended
-    → (status ≢ 3 → numbers ≡ made) → (status ≡ 3 → numbers ≡ blank_told) → EndsOnTexts (bound_answer ended) written status text → TellsBound by one two status numbers
-tells_bound by first second sink (Ok bounded) one two written status text made numbers reads run is kept none e = record {
+    → IsBoundRun by strict first second sink ended → made ≡ told_of_bound_run ended
+    → (status ≢ 3 → numbers ≡ made) → (status ≡ 3 → numbers ≡ blank_told) → EndsOnTexts (bound_answer ended) written status text → TellsBound by strict one two status numbers
+tells_bound by strict first second sink (Ok bounded) one two written status text made numbers reads run is kept none e = record {
   bounded = λ low. record {
     instance = bounded.instance;
     certificate = bounded.certificate;
@@ -129,18 +137,18 @@ tells_bound by first second sink (Ok bounded) one two written status text made n
     first_file = spelled first one bounded.instance reads.first_is run.0;
     second_file = spelled second two bounded.certificate reads.second_is run.1;
     of_type = run.2.0;
-    judged = unasked by bounded.instance bounded.certificate bounded.found run.2.1;
+    judged = run.2.1;
     numbers = kept (λ three. absurd (omega (arith, three, low))) ∙ is;
     status_is = e.0;
   };
   faulty = λ two_is. absurd (not_two (is_bound_yes bounded.found) status e.0 two_is);
   refused = none;
 }
-tells_bound by first second sink (Err fault) one two written status text made numbers reads run is kept none e = record {
+tells_bound by strict first second sink (Err fault) one two written status text made numbers reads run is kept none e = record {
   bounded = λ low.
       let refused = (fault_status fault).relayout (low_status fault written status text e low) in
-      absurd (not_relaid by first second sink fault refused.0 refused.1 run);
+      absurd (not_relaid by strict first second sink fault refused.0 refused.1 run);
   faulty = λ two_is.
-      (fault, unbounded by first second sink one two fault reads run (fault_is fault written status text e two_is), kept (λ three. absurd (omega (arith, three, two_is))) ∙ is);
+      (fault, unbounded by strict first second sink one two fault reads run (fault_is fault written status text e two_is), kept (λ three. absurd (omega (arith, three, two_is))) ∙ is);
   refused = none;
 }

@@ -23,8 +23,6 @@ use Rattle.tsp_judge.specs.declared.bound.Bounded.{Bounded}
 use Rattle.tsp_judge.specs.declared.fault.RunFault.{RunFault}
 use Rattle.tsp_judge.specs.declared.fault.RunFault.TheVariants.{File, WrongKind, Write, OutOfMemory, Relayout}
 use Rattle.tsp_judge.specs.Status.{status_of_fault}
-use Rattle.tsp_verdict.specs.Bounded.{IsBoundVerdict}
-use Rattle.tsp_verdict.specs.Strict.{IsBoundAsked}
 use Rattle.tsp_judge.specs.CheckRun.{given_by, IsSomeFile, IsFileIn, AreRead, JudgesFiles, IsFaultOfRun, EndsWithout}
 use Rattle.tsp_judge.specs.Accepted.{IsAccepted, IsAcceptedAlone}
 use Rattle.tsp_judge.specs.Yes.{SaysYes, IsCheckOf}
@@ -302,9 +300,9 @@ pub record Reads2 (first second : Turn) (one two : List ℕ) : Type 0 where
   pub first_is : first.known ≡ Some one
   pub second_is : second.known ≡ Some two
 
-bound_says : (by : Certificate) (first second : Turn) (sink : Sink) (one two written : List ℕ) (found : BoundVerdict)
-    → Reads2 first second one two → Collects sink written → SaysBound by false first second sink found → IsBoundText by one two written
-bound_says by first second sink one two written found reads collects says = record {
+bound_says : (by : Certificate) (strict : Bool) (first second : Turn) (sink : Sink) (one two written : List ℕ) (found : BoundVerdict)
+    → Reads2 first second one two → Collects sink written → SaysBound by strict first second sink found → IsBoundText by strict one two written
+bound_says by strict first second sink one two written found reads collects says = record {
   instance = says.instance;
   certificate = says.certificate;
   found = found;
@@ -312,23 +310,19 @@ bound_says by first second sink one two written found reads collects says = reco
   second_file = spelled second two says.certificate reads.second_is says.second_file;
   meaning = subst (IsAcceptedAlone by says.instance says.certificate found)
       (sym (printed_is sink written says.report collects says.written)) says.meaning;
+  all_judged = says.all_judged;
 }
 
--- where unknown keywords are no reason
-pub unasked : (by : Certificate) (instance certificate : Fields) (found : BoundVerdict) → IsBoundAsked false by instance certificate found
-    → IsBoundVerdict by instance certificate found
-unasked by instance certificate found asked = subst (IsBoundVerdict by instance certificate) (sym asked.2) asked.1
-
-bound_found : (by : Certificate) (first second : Turn) (sink : Sink) (one two written : List ℕ) (status : ℕ) (text : List ℕ)
+bound_found : (by : Certificate) (strict : Bool) (first second : Turn) (sink : Sink) (one two written : List ℕ) (status : ℕ) (text : List ℕ)
     (instance certificate : Fields) (found : BoundVerdict) → Reads2 first second one two → Collects sink written
-    → IsFile first instance → IsFile second certificate → BoundsFiles by false instance certificate sink (Ok found)
-    → (is_bound_yes found ≡ true → SaysBound by false first second sink found)
-    → EndsOnTexts (Ok (is_bound_yes found)) written status text → BoundsTexts by one two status text
-bound_found by first second sink one two written status text instance certificate (bounds.Bound bound) reads collects first_file second_file judged says e =
-    yes_ends written status text (bound_says by first second sink one two written (bounds.Bound bound) reads collects (says refl)) e
-bound_found by first second sink one two written status text instance certificate bounds.NoSolution reads collects first_file second_file judged says e =
-    yes_ends written status text (bound_says by first second sink one two written bounds.NoSolution reads collects (says refl)) e
-bound_found by first second sink one two written status text instance certificate (bounds.No reason) reads collects first_file second_file judged says e =
+    → IsFile first instance → IsFile second certificate → BoundsFiles by strict instance certificate sink (Ok found)
+    → (is_bound_yes found ≡ true → SaysBound by strict first second sink found)
+    → EndsOnTexts (Ok (is_bound_yes found)) written status text → BoundsTexts by strict one two status text
+bound_found by strict first second sink one two written status text instance certificate (bounds.Bound bound) reads collects first_file second_file judged says e =
+    yes_ends written status text (bound_says by strict first second sink one two written (bounds.Bound bound) reads collects (says refl)) e
+bound_found by strict first second sink one two written status text instance certificate bounds.NoSolution reads collects first_file second_file judged says e =
+    yes_ends written status text (bound_says by strict first second sink one two written bounds.NoSolution reads collects (says refl)) e
+bound_found by strict first second sink one two written status text instance certificate (bounds.No reason) reads collects first_file second_file judged says e =
     no_ends written status text (record {
       instance = instance;
       certificate = certificate;
@@ -336,55 +330,55 @@ bound_found by first second sink one two written status text instance certificat
       second_file = spelled second two certificate reads.second_is second_file;
       bounded = judged.0;
       reason = reason;
-      judged = unasked by instance certificate (bounds.No reason) judged.1;
+      judged = judged.1;
       printed = printed_is sink written _ collects judged.2;
     }) e
 
-pub unbounded : (by : Certificate) (first second : Turn) (sink : Sink) (one two : List ℕ) (fault : RunFault)
-    → Reads2 first second one two → EndsUnbounded by false first second sink fault
+pub unbounded : (by : Certificate) (strict : Bool) (first second : Turn) (sink : Sink) (one two : List ℕ) (fault : RunFault)
+    → Reads2 first second one two → EndsUnbounded by strict first second sink fault
     → status_of_fault (without_devices fault) ≡ 2 → IsUnbounded by one two fault
-unbounded by first second sink one two (File file found) reads run s = elim run.1 [
+unbounded by strict first second sink one two (File file found) reads run s = elim run.1 [
   | inl a ↦ inl (a.0, stopped first one file found reads.first_is a.1 s)
   | inr b ↦ inr (some_file first one reads.first_is b.1, (b.0, stopped second two file found reads.second_is b.2 s))
 ]
-unbounded by first second sink one two WrongKind reads run s = (
+unbounded by strict first second sink one two WrongKind reads run s = (
   run.0,
   run.1,
   spelled first one run.0 reads.first_is run.2,
   spelled second two run.1 reads.second_is run.3,
   run.4.0,
 )
-unbounded by first second sink one two OutOfMemory reads run s = let n : 3 ≡ 2 = s in absurd (omega arith)
-unbounded by first second sink one two (Relayout refused) reads run s = absurd run.4
-unbounded by first second sink one two (Write write_faults.OutOfMemory) reads run s = absurd run.4
-unbounded by first second sink one two (Write write_faults.Device) reads run s = let n : 3 ≡ 2 = s in absurd (omega arith)
+unbounded by strict first second sink one two OutOfMemory reads run s = let n : 3 ≡ 2 = s in absurd (omega arith)
+unbounded by strict first second sink one two (Relayout refused) reads run s = absurd run.4
+unbounded by strict first second sink one two (Write write_faults.OutOfMemory) reads run s = absurd run.4
+unbounded by strict first second sink one two (Write write_faults.Device) reads run s = let n : 3 ≡ 2 = s in absurd (omega arith)
 
-pub not_relaid : (by : Certificate) (first second : Turn) (sink : Sink) (fault : RunFault) (refused : RelayoutFault)
-    → fault ≡ Relayout refused → EndsUnbounded by false first second sink fault → ⊥
-not_relaid by first second sink fault refused is run = none (subst (λ (f : RunFault). EndsUnbounded by false first second sink f) is run)
+pub not_relaid : (by : Certificate) (strict : Bool) (first second : Turn) (sink : Sink) (fault : RunFault) (refused : RelayoutFault)
+    → fault ≡ Relayout refused → EndsUnbounded by strict first second sink fault → ⊥
+not_relaid by strict first second sink fault refused is run = none (subst (λ (f : RunFault). EndsUnbounded by strict first second sink f) is run)
   where
-    none : EndsUnbounded by false first second sink (Relayout refused) → ⊥
+    none : EndsUnbounded by strict first second sink (Relayout refused) → ⊥
     none ended = ended.4
 
 -- plan: by the fault: each case is the one of the run, with the texts for the readers (`some_file`, `spelled`)
-stops_bound : (by : Certificate) (first second : Turn) (sink : Sink) (one two : List ℕ) (fault : RunFault)
-    → Reads2 first second one two → EndsUnbounded by false first second sink fault → StopsBound by one two (without_devices fault)
-stops_bound by first second sink one two (File file (read_faults.Line line word found)) reads run =
-    unbounded by first second sink one two (File file (read_faults.Line line word found)) reads run refl
-stops_bound by first second sink one two (File file (read_faults.End found)) reads run =
-    unbounded by first second sink one two (File file (read_faults.End found)) reads run refl
-stops_bound by first second sink one two (File file read_faults.TooLong) reads run =
-    unbounded by first second sink one two (File file read_faults.TooLong) reads run refl
-stops_bound by first second sink one two (File file read_faults.OutOfMemory) reads run = elim run.1 [
+stops_bound : (by : Certificate) (strict : Bool) (first second : Turn) (sink : Sink) (one two : List ℕ) (fault : RunFault)
+    → Reads2 first second one two → EndsUnbounded by strict first second sink fault → StopsBound by strict one two (without_devices fault)
+stops_bound by strict first second sink one two (File file (read_faults.Line line word found)) reads run =
+    unbounded by strict first second sink one two (File file (read_faults.Line line word found)) reads run refl
+stops_bound by strict first second sink one two (File file (read_faults.End found)) reads run =
+    unbounded by strict first second sink one two (File file (read_faults.End found)) reads run refl
+stops_bound by strict first second sink one two (File file read_faults.TooLong) reads run =
+    unbounded by strict first second sink one two (File file read_faults.TooLong) reads run refl
+stops_bound by strict first second sink one two (File file read_faults.OutOfMemory) reads run = elim run.1 [
   | inl a ↦ inl a.0
   | inr b ↦ inr (b.0, some_file first one reads.first_is b.1)
 ]
-stops_bound by first second sink one two (File file read_faults.Device) reads run = elim run.1 [
+stops_bound by strict first second sink one two (File file read_faults.Device) reads run = elim run.1 [
   | inl a ↦ inl a.0
   | inr b ↦ inr (b.0, some_file first one reads.first_is b.1)
 ]
-stops_bound by first second sink one two WrongKind reads run = unbounded by first second sink one two WrongKind reads run refl
-stops_bound by first second sink one two OutOfMemory reads run = (
+stops_bound by strict first second sink one two WrongKind reads run = unbounded by strict first second sink one two WrongKind reads run refl
+stops_bound by strict first second sink one two OutOfMemory reads run = (
   run.0,
   run.1,
   spelled first one run.0 reads.first_is run.2,
@@ -393,9 +387,9 @@ stops_bound by first second sink one two OutOfMemory reads run = (
   run.4.1,
   run.4.2,
 )
-stops_bound by first second sink one two (Relayout refused) reads run = absurd run.4
-stops_bound by first second sink one two (Write write_faults.OutOfMemory) reads run = absurd run.4
-stops_bound by first second sink one two (Write write_faults.Device) reads run = (
+stops_bound by strict first second sink one two (Relayout refused) reads run = absurd run.4
+stops_bound by strict first second sink one two (Write write_faults.OutOfMemory) reads run = absurd run.4
+stops_bound by strict first second sink one two (Write write_faults.Device) reads run = (
   run.4.1.0,
   (
     run.0,
@@ -403,15 +397,15 @@ stops_bound by first second sink one two (Write write_faults.Device) reads run =
     spelled first one run.0 reads.first_is run.2,
     spelled second two run.1 reads.second_is run.3,
     run.4.0,
-    unasked by run.0 run.1 run.4.1.0 run.4.1.1,
+    run.4.1.1,
   ),
 )
 
-pub bounds_texts : (by : Certificate) (first second : Turn) (sink : Sink) (ended : Result Bounded RunFault) (one two written : List ℕ)
-    (status : ℕ) (text : List ℕ) → Reads2 first second one two → Collects sink written → IsBoundRunOf by false first second sink ended
-    → EndsOnTexts (bound_answer ended) written status text → BoundsTexts by one two status text
-bounds_texts by first second sink (Ok bounded) one two written status text reads collects run e =
-    let is = run.0 in bound_found by first second sink one two written status text bounded.instance bounded.certificate bounded.found
+pub bounds_texts : (by : Certificate) (strict : Bool) (first second : Turn) (sink : Sink) (ended : Result Bounded RunFault) (one two written : List ℕ)
+    (status : ℕ) (text : List ℕ) → Reads2 first second one two → Collects sink written → IsBoundRunOf by strict first second sink ended
+    → EndsOnTexts (bound_answer ended) written status text → BoundsTexts by strict one two status text
+bounds_texts by strict first second sink (Ok bounded) one two written status text reads collects run e =
+    let is = run.0 in bound_found by strict first second sink one two written status text bounded.instance bounded.certificate bounded.found
     reads collects is.0 is.1 is.2 (λ yes. run.1 bounded refl yes) e
-bounds_texts by first second sink (Err fault) one two written status text reads collects run e =
-    fault_ends fault written status text (stops_bound by first second sink one two fault reads run.0) e
+bounds_texts by strict first second sink (Err fault) one two written status text reads collects run e =
+    fault_ends fault written status text (stops_bound by strict first second sink one two fault reads run.0) e

@@ -1,11 +1,12 @@
 -- The results of the calls on a handle, over the instance on which it is open, and the certificate that is bound to it.
-use Rattle.std.specs.Prelude.{◌≡◌, ◌⊎◌, ℕ, ◌≤◌, ◌<◌, false, List, Option, None, Some, Ok, ℤ}
+use Rattle.std.specs.Prelude.{◌≡◌, ◌⊎◌, ℕ, ◌≤◌, ◌<◌, Bool, List, Option, None, Some, Ok, ℤ}
 use Rattle.tsp_draft.specs.Fields.{Fields}
 use Rattle.tsp_text.specs.Text.{Spells}
 use Rattle.tsp_task.specs.declared.certificate.Certificate.{Certificate}
 use Rattle.tsp_task.specs.declared.verdict.BoundVerdict.{BoundVerdict}
 use Rattle.tsp_task.specs.declared.verdict.Verdict.{Verdict}
 use Rattle.tsp_task.specs.Verdicts.{is_yes, is_bound_yes}
+use Rattle.tsp_verdict.specs.Strict.{is_unjudged, strict_verdict}
 use Rattle.tsp_judge.specs.declared.fault.RunFault.{RunFault}
 use Rattle.tsp_judge.specs.declared.fault.RunFault.TheVariants.{OutOfMemory}
 use Rattle.tsp_judge.specs.Status.{status_of, status_of_fault}
@@ -13,7 +14,7 @@ use Rattle.tsp_judge.specs.Open.{Open, IsOpened, IsUnopened, IsBoundTo, IsUnboun
 use Rattle.tsp_c.specs.declared.told.Told.{Told}
 use Rattle.tsp_c.specs.Told.{blank_told, told_of_instance, told_of_verdict, told_of_bound, told_of_fault}
 use Rattle.tsp_c.specs.NumberCalls.{section_points, IsSection, EndsPoints}
-use Rattle.tsp_c.specs.Texts.{GivenText, SpellsGiven, ChecksTexts, IsRefusedNumber, claim_of}
+use Rattle.tsp_c.specs.Texts.{GivenText, SpellsGiven, ChecksTexts, IsRefusedNumber, claim_of, strict_of}
 
 -- what a handle is open on
 abbrev pub Held : Type 0
@@ -60,28 +61,33 @@ abbrev pub IsOpenOn : List ℕ → GivenText → Open → Type 0
 IsOpenOn one given opened = Spells one opened.instance × SpellsGiven given opened.certificate
 
 -- the status and the text are those of the check of these texts, whichever texts are open
-abbrev pub ChecksAsTexts : Open → Option ℤ → List ℕ → ℕ → List ℕ → Type 0
-ChecksAsTexts opened claimed two status text = (one : List ℕ) (given : GivenText) → IsOpenOn one given opened
-    → ChecksTexts given claimed false one two status text
+abbrev pub ChecksAsTexts : Open → Option ℤ → Bool → List ℕ → ℕ → List ℕ → Type 0
+ChecksAsTexts opened claimed strict two status text = (one : List ℕ) (given : GivenText) → IsOpenOn one given opened
+    → ChecksTexts given claimed strict one two status text
+
+-- the verdict on the solution that the text is, where it is asked that unknown keywords be a reason, or isn't
+abbrev pub IsHeldAsked : List ℕ → Option ℤ → Bool → Open → Verdict → Type 0
+IsHeldAsked two claimed strict opened verdict = (plain : Verdict) × IsHeldVerdict two claimed opened plain
+    × (verdict ≡ strict_verdict (is_unjudged strict opened.instance) plain)
 
 -- the numbers are those of the verdict, at 0 and 1, and of the fault, at 2, which is one with this status; at 3 all are 0
-pub record TellsJudged (opened : Open) (claimed : Option ℤ) (two : List ℕ) (status : ℕ) (told : Told) : Type 0 where
-  pub judged : status ≤ 1 → (verdict : Verdict) × IsHeldVerdict two claimed opened verdict
+pub record TellsJudged (opened : Open) (claimed : Option ℤ) (strict : Bool) (two : List ℕ) (status : ℕ) (told : Told) : Type 0 where
+  pub judged : status ≤ 1 → (verdict : Verdict) × IsHeldAsked two claimed strict opened verdict
       × (told ≡ told_of_verdict opened.instance verdict) × (status ≡ status_of (Ok (is_yes verdict)))
   pub faulty : status ≡ 2 → (fault : RunFault) × IsNotJudged two opened fault × (told ≡ told_of_fault fault)
       × (status ≡ status_of_fault fault)
   pub refused : status ≡ 3 → told ≡ blank_told
 
-abbrev pub ChecksOpen : Open → Option ℤ → List ℕ → ℕ → List ℕ → Told → Type 0
-ChecksOpen opened claimed two status text told = ChecksAsTexts opened claimed two status text
-    × TellsJudged opened claimed two status told
+abbrev pub ChecksOpen : Open → Option ℤ → Bool → List ℕ → ℕ → List ℕ → Told → Type 0
+ChecksOpen opened claimed strict two status text told = ChecksAsTexts opened claimed strict two status text
+    × TellsJudged opened claimed strict two status told
 
--- with a claimed length by has_claim 1, without one by 0; other numbers are refused, and so is a closed handle
+-- with what has_claim asks, as of texts; numbers above 3 are refused, and so is a closed handle
 abbrev pub ChecksHeld : Held → ℕ → ℤ → List ℕ → ℕ → List ℕ → Told → Type 0
 ChecksHeld None has_claim claimed two status text told = IsRefusedNumber status text × (told ≡ blank_told)
 ChecksHeld (Some opened) has_claim claimed two status text told =
-    (has_claim ≤ 1 → ChecksOpen opened (claim_of has_claim claimed) two status text told)
-    × (1 < has_claim → IsRefusedNumber status text × (told ≡ blank_told))
+    (has_claim ≤ 3 → ChecksOpen opened (claim_of has_claim claimed) (strict_of has_claim) two status text told)
+    × (3 < has_claim → IsRefusedNumber status text × (told ≡ blank_told))
 
 -- ---- numbers of the instance
 

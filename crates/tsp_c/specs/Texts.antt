@@ -15,10 +15,10 @@ use Rattle.tsp_task.specs.declared.verdict.BoundVerdict.TheVariants as bounds
 use Rattle.tsp_task.specs.declared.verdict.Reason.{Reason}
 use Rattle.tsp_task.specs.declared.verdict.Verdict.{Verdict}
 use Rattle.tsp_task.specs.declared.verdict.Verdict.TheVariants.{No}
-use Rattle.tsp_verdict.specs.Bounded.{NoneAgainstInstance, IsBoundVerdict}
+use Rattle.tsp_verdict.specs.Bounded.{NoneAgainstInstance}
 use Rattle.tsp_verdict.specs.Certified.{is_bounded, NoneWithoutMemory}
 use Rattle.tsp_verdict.specs.SolutionVerdict.{is_judged, NoneBeforeRepeatsOn}
-use Rattle.tsp_verdict.specs.Strict.{IsVerdictAsked}
+use Rattle.tsp_verdict.specs.Strict.{IsBoundAsked, IsVerdictAsked}
 use Rattle.tsp_report.specs.Report.{report_of, bound_report_of}
 use Rattle.tsp_report.specs.Show.{shown}
 use Rattle.tsp_judge.specs.Accepted.{IsAccepted, IsAcceptedAlone}
@@ -191,23 +191,28 @@ ChecksBy by has_claim claimed one two three status text =
 
 -- ---- a bound without a solution
 
-pub record IsBoundText (by : Certificate) (one two text : List ℕ) : Type 0 where
+-- By 1 and 2 the certificate alone is asked for, by 3 and 4 also that unknown keywords be a reason.
+abbrev pub bounds_asked : List (Certificate × Bool)
+bounds_asked = (Potentials, false) ∷ (Branches, false) ∷ (Potentials, true) ∷ (Branches, true) ∷ []
+
+pub record IsBoundText (by : Certificate) (strict : Bool) (one two text : List ℕ) : Type 0 where
   pub instance : Fields
   pub certificate : Fields
   pub found : BoundVerdict
   pub first_file : Spells one instance
   pub second_file : Spells two certificate
   pub meaning : IsAcceptedAlone by instance certificate found text
+  pub all_judged : strict ≡ true → instance.others ≡ []
 
 -- the first reason against the instance or the certificate is printed
-pub record IsBoundRejected (by : Certificate) (one two text : List ℕ) : Type 0 where
+pub record IsBoundRejected (by : Certificate) (strict : Bool) (one two text : List ℕ) : Type 0 where
   pub instance : Fields
   pub certificate : Fields
   pub first_file : Spells one instance
   pub second_file : Spells two certificate
   pub bounded : IsTrue (is_bounded by instance.kind)
   pub reason : Reason
-  pub judged : IsBoundVerdict by instance certificate (bounds.No reason)
+  pub judged : IsBoundAsked strict by instance certificate (bounds.No reason)
   pub printed : text ≡ bound_report_of instance (bounds.No reason)
 
 -- the first text, in order, that is no file decides, with its fault; or both are files, and tours of the first one's TYPE have no
@@ -223,27 +228,27 @@ IsUndecidedBound by one two = (instance certificate : Fields) × Spells one inst
     × IsTrue (is_bounded by instance.kind) × NoneAgainstInstance instance × NoneWithoutMemory by instance certificate
 
 -- both texts are files, of which this is found
-abbrev pub HasBound : Certificate → List ℕ → List ℕ → BoundVerdict → Type 0
-HasBound by one two found = (instance certificate : Fields) × Spells one instance × Spells two certificate
-    × IsTrue (is_bounded by instance.kind) × IsBoundVerdict by instance certificate found
+abbrev pub HasBound : Certificate → Bool → List ℕ → List ℕ → BoundVerdict → Type 0
+HasBound by strict one two found = (instance certificate : Fields) × Spells one instance × Spells two certificate
+    × IsTrue (is_bounded by instance.kind) × IsBoundAsked strict by instance certificate found
 
 -- Why there is no bound and no reason: out of memory for a file, for the bound or for the report; or a text.
-abbrev pub StopsBound : Certificate → List ℕ → List ℕ → RunFault → Type 0
-StopsBound by one two (File number read_faults.OutOfMemory) = (number ≡ 1) ⊎ ((number ≡ 2) × IsFileText one)
-StopsBound by one two OutOfMemory = IsUndecidedBound by one two
-StopsBound by one two (Write write_faults.OutOfMemory) = (found : BoundVerdict) × HasBound by one two found
-StopsBound by one two fault = IsUnbounded by one two fault
+abbrev pub StopsBound : Certificate → Bool → List ℕ → List ℕ → RunFault → Type 0
+StopsBound by strict one two (File number read_faults.OutOfMemory) = (number ≡ 1) ⊎ ((number ≡ 2) × IsFileText one)
+StopsBound by strict one two OutOfMemory = IsUndecidedBound by one two
+StopsBound by strict one two (Write write_faults.OutOfMemory) = (found : BoundVerdict) × HasBound by strict one two found
+StopsBound by strict one two fault = IsUnbounded by one two fault
 
-abbrev pub BoundsTexts : Certificate → List ℕ → List ℕ → ℕ → List ℕ → Type 0
-BoundsTexts by one two status text = EndsWithText
-    (IsBoundText by one two)
-    (IsBoundRejected by one two)
-    (StopsBound by one two) status text
+abbrev pub BoundsTexts : Certificate → Bool → List ℕ → List ℕ → ℕ → List ℕ → Type 0
+BoundsTexts by strict one two status text = EndsWithText
+    (IsBoundText by strict one two)
+    (IsBoundRejected by strict one two)
+    (StopsBound by strict one two) status text
 
--- by this certificate; where the number has none, it is refused
-abbrev pub BoundsBy : Option Certificate → List ℕ → List ℕ → ℕ → List ℕ → Type 0
+-- with what a number asks; where it asks nothing, it is refused
+abbrev pub BoundsBy : Option (Certificate × Bool) → List ℕ → List ℕ → ℕ → List ℕ → Type 0
 BoundsBy None one two status text = IsRefusedNumber status text
-BoundsBy (Some by) one two status text = BoundsTexts by one two status text
+BoundsBy (Some asked) one two status text = BoundsTexts asked.0 asked.1 one two status text
 
 -- ---- an explanation
 
@@ -252,7 +257,7 @@ abbrev pub IsExplained : ℕ → ℕ → ℕ → Type 0
 IsExplained call number has_claim = (call ≡ 0)
     ⊎ ((call ≡ 1) × (number ≤ 9))
     ⊎ ((call ≡ 2) × (number ≤ 2) × (has_claim ≤ 3))
-    ⊎ ((call ≡ 3) × (1 ≤ number) × (number ≤ 2))
+    ⊎ ((call ≡ 3) × (1 ≤ number) × (number ≤ 4))
 
 -- What an explanation says has no contract. Out of memory there is none; and a call that isn't explained is refused.
 abbrev pub ExplainsTexts : ℕ → ℕ → ℕ → ℕ → List ℕ → Type 0

@@ -23,10 +23,9 @@ use Rattle.tsp_task.specs.declared.verdict.Verdict.TheVariants as verdicts
 use Rattle.tsp_task.specs.ReasonRows.{rank_of, row_of_reason}
 use Rattle.tsp_task.specs.Verdicts.{is_yes, is_bound_yes}
 use Rattle.tsp_report.specs.Report.{IsGapSized}
-use Rattle.tsp_verdict.specs.Bounded.{IsBoundVerdict}
 use Rattle.tsp_verdict.specs.Certified.{is_bounded}
 use Rattle.tsp_verdict.specs.SolutionVerdict.{is_judged}
-use Rattle.tsp_verdict.specs.Strict.{IsVerdictAsked}
+use Rattle.tsp_verdict.specs.Strict.{IsBoundAsked, IsVerdictAsked}
 use Rattle.tsp_judge.specs.declared.bound.Bounded.{Bounded}
 use Rattle.tsp_judge.specs.declared.judging.Judged.{Judged}
 use Rattle.tsp_judge.specs.declared.fault.RunFault.{RunFault}
@@ -254,22 +253,22 @@ TellsBy by has_claim claimed one two three status told =
     × (3 < has_claim → told ≡ blank_told)
 
 -- what was found of the files that the texts parse to
-pub record IsTextBound (by : Certificate) (one two : List ℕ) (status : ℕ) (told : Told) : Type 0 where
+pub record IsTextBound (by : Certificate) (strict : Bool) (one two : List ℕ) (status : ℕ) (told : Told) : Type 0 where
   pub instance : Fields
   pub certificate : Fields
   pub found : BoundVerdict
   pub first_file : Spells one instance
   pub second_file : Spells two certificate
   pub of_type : IsTrue (is_bounded by instance.kind)
-  pub judged : IsBoundVerdict by instance certificate found
+  pub judged : IsBoundAsked strict by instance certificate found
   pub numbers : told ≡ told_of_bound instance found
   pub status_is : status ≡ status_of (Ok (is_bound_yes found))
 
-pub record TellsBound (by : Certificate) (one two : List ℕ) (status : ℕ) (told : Told) : Type 0 where
-  pub bounded : status ≤ 1 → IsTextBound by one two status told
+pub record TellsBound (by : Certificate) (strict : Bool) (one two : List ℕ) (status : ℕ) (told : Told) : Type 0 where
+  pub bounded : status ≤ 1 → IsTextBound by strict one two status told
   pub faulty : status ≡ 2 → (fault : RunFault) × IsUnbounded by one two fault × (told ≡ told_of_fault fault)
   pub refused : status ≡ 3 → told ≡ blank_told
 
-abbrev pub TellsBoundBy : Option Certificate → List ℕ → List ℕ → ℕ → Told → Type 0
+abbrev pub TellsBoundBy : Option (Certificate × Bool) → List ℕ → List ℕ → ℕ → Told → Type 0
 TellsBoundBy None one two status told = told ≡ blank_told
-TellsBoundBy (Some by) one two status told = TellsBound by one two status told
+TellsBoundBy (Some asked) one two status told = TellsBound asked.0 asked.1 one two status told

@@ -25,7 +25,8 @@ pub fn examples_of_explained_calls()
     ensures no_claim { ¬ IsExplained 2 0 4 }
     ensures bound { IsExplained 3 2 0 }
     ensures no_bound_alone { ¬ IsExplained 3 0 0 }
-    ensures no_bound { ¬ IsExplained 3 3 0 }
+    ensures strict_bound { IsExplained 3 4 0 }
+    ensures no_bound { ¬ IsExplained 3 5 0 }
     ensures no_call { ¬ IsExplained 4 1 0 }
 {}
 

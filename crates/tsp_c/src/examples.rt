@@ -21,7 +21,7 @@ ghost use Rattle.tsp_text.specs.declared.fault.ReadFault.TheVariants as read_fau
 ghost use Rattle.tsp_c.specs.declared.told.Told.{Told};
 ghost use Rattle.tsp_c.specs.Ended.{IsPlaced, fault_line, nth, without_devices};
 ghost use Rattle.tsp_c.specs.NumberCalls.{distance_kinds, lists_in, pair_cost, row_cost, row_count};
-ghost use Rattle.tsp_c.specs.Texts.{certificates, claim_of, strict_of};
+ghost use Rattle.tsp_c.specs.Texts.{bounds_asked, certificates, claim_of, strict_of};
 ghost use Rattle.tsp_c.specs.Told.{blank_told, high_half, low_half, told_of_bound, told_of_fault, told_of_verdict};
 
 /// What a number picks, counted from 1: 0 and a number past the last pick nothing.
@@ -30,6 +30,11 @@ pub fn examples_of_picked_numbers()
     ensures potentials { nth 1 certificates ≡ Some certificate.Potentials }
     ensures branches { nth 2 certificates ≡ Some certificate.Branches }
     ensures third { nth 3 certificates ≡ None }
+    ensures bound { nth 1 bounds_asked ≡ Some (certificate.Potentials, false) }
+    ensures bound_by_branches { nth 2 bounds_asked ≡ Some (certificate.Branches, false) }
+    ensures strict_bound { nth 3 bounds_asked ≡ Some (certificate.Potentials, true) }
+    ensures strict_bound_by_branches { nth 4 bounds_asked ≡ Some (certificate.Branches, true) }
+    ensures no_bound { nth 5 bounds_asked ≡ None }
     ensures own_layout { nth 0 layouts ≡ None }
     ensures first_layout { nth 1 layouts ≡ Some layout.FullMatrix }
     ensures last_layout { nth 9 layouts ≡ Some layout.LowerDiagCol }

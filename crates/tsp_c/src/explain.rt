@@ -3,7 +3,7 @@
 ghost use Rattle.std.specs.Prelude.{◌↔◌, IsSome};
 ghost use Rattle.tsp_c.specs.Texts.{ExplainsTexts, IsExplained};
 
-use crate::picked_runs::{certificate_of, claim_of, layout_of, strict_of};
+use crate::picked_runs::{bound_asked, certificate_of, claim_of, layout_of, strict_of};
 use std::alloc::{AllocError, Global};
 use std::str;
 use tsp_judge::{ReadFault, RunFault, Status, Watched};
@@ -84,11 +84,14 @@ fn task_of<'a>(numbers: Numbers, texts: Texts<'a>) -> Option<FileTask<Named<'a>>
             claimed: claim_of(numbers.has_claim, numbers.claimed),
             strict: strict_of(numbers.has_claim),
         }),
-        BOUND => Some(FileTask::Bound {
-            instance,
-            certificate: (certificate_of(number)?, certificate),
-            strict: false,
-        }),
+        BOUND => {
+            let (by, strict) = bound_asked(number)?;
+            Some(FileTask::Bound {
+                instance,
+                certificate: (by, certificate),
+                strict,
+            })
+        }
         _ => None,
     }
 }

@@ -19,7 +19,7 @@ use crate::handle::Handle;
 use crate::in_box::{NoBox, in_box};
 use crate::list_lengths::lengths_of;
 use crate::pair_costs::{rows_of, weights_of};
-use crate::picked_runs::{certificate_of, claim_of};
+use crate::picked_runs::{certificate_of, claim_of, strict_of};
 use crate::section_points::points_of_file;
 use crate::told::Told;
 use std::alloc::Global;
@@ -28,6 +28,7 @@ use std::io::Write;
 use tsp_cost::{Costs, Instance};
 use tsp_judge::{Certificate, Opened, RunError, Verdict, Watched, verdicts_mean_reports};
 use tsp_report::write_report;
+use tsp_verdict::strict_verdict;
 
 /// Opens a handle on the instance that a text is; the status. What it was open on before is freed
 /// first.
@@ -133,8 +134,7 @@ fn bind_opened(
 }
 
 /// The check of the solution that a text is, of the instance of a handle, with the certificate that
-/// is bound, where one is, and with a claimed length where `has_claim` is 1; with its status, and
-/// in numbers.
+/// is bound, where one is, and with what `has_claim` asks; with its status, and in numbers.
 pub(crate) fn check_held(
     alloc: Global,
     handle: &mut Handle,
@@ -145,13 +145,14 @@ pub(crate) fn check_held(
     ensures same { handle.new.loose.value ≡ handle.old.loose.value }
     ensures checks { ChecksHeld handle.old.loose.value has_claim claimed solution.now result.0.0 result.0.1 result.1 }
 {
-    if has_claim > 1 {
+    if has_claim > 3 {
         return (Answer::refused(alloc), Told::blank());
     }
     match handle.take(alloc) {
         None => (Answer::refused(alloc), Told::blank()),
         Some(opened) => {
-            let answer = check_opened(alloc, &opened, solution, claim_of(has_claim, claimed));
+            let claim = claim_of(has_claim, claimed);
+            let answer = check_opened(alloc, &opened, solution, claim, strict_of(has_claim));
             handle.put(opened);
             answer
         }
@@ -164,9 +165,10 @@ fn check_opened(
     opened: &Opened,
     solution: &[u8],
     claimed: Option<i64>,
+    strict: bool,
 ) -> (Answer, Told)
-    ensures texts { ChecksAsTexts opened.now claimed solution.now result.0.0 result.0.1 }
-    ensures numbers { TellsJudged opened.now claimed solution.now result.0.0 result.1 }
+    ensures texts { ChecksAsTexts opened.now claimed strict solution.now result.0.0 result.0.1 }
+    ensures numbers { TellsJudged opened.now claimed strict solution.now result.0.0 result.1 }
 {
     verdicts_mean_reports();
     let mut report = Watched::new(Vec::new(alloc));
@@ -176,9 +178,11 @@ fn check_opened(
             let told = answer.numbers(Told::of_error(error));
             (answer, told)
         }
-        Ok(verdict) => {
-            let told = Told::of_verdict(opened.instance(), verdict);
-            let written = reported(opened.instance(), verdict, &mut report);
+        Ok(plain) => {
+            let instance = opened.instance();
+            let verdict = strict_verdict(strict, instance, plain);
+            let told = Told::of_verdict(instance, verdict);
+            let written = reported(instance, verdict, &mut report);
             let answer = ended(written, report);
             let told = answer.numbers(told);
             (answer, told)

@@ -14,7 +14,7 @@ ghost use Rattle.std.specs.Prelude.{◌≡◌, None};
 ghost use Rattle.tsp_c.specs.Told.{TellsBoundBy, TellsBy};
 ghost use Rattle.tsp_c.specs.Opened.{BindsText, ChecksHeld, EndsSection, OfHeld, OpensText};
 ghost use Rattle.tsp_c.specs.NumberCalls.{EndsCount, EndsLengths, EndsMatrix, EndsWeights, FillsCount, FillsLengths, FillsMatrix, FillsPoints, FillsWeights, GivesDistance};
-ghost use Rattle.tsp_c.specs.Texts.{BoundsBy, ChecksBy, ConvertsBy, ExplainsTexts, ShowsText, certificates};
+ghost use Rattle.tsp_c.specs.Texts.{BoundsBy, ChecksBy, ConvertsBy, ExplainsTexts, ShowsText, bounds_asked, certificates};
 
 mod box_parts;
 mod call_end;
@@ -110,7 +110,8 @@ pub extern "C" fn tsp_check_result(
     status
 }
 
-/// Bounds the tours of an instance: by 1 with potentials, by 2 with branches.
+/// Bounds the tours of an instance: by 1 with potentials, by 2 with branches, and by 3 and 4 with
+/// unknown keywords as a reason too.
 #[unsafe(no_mangle)]
 pub extern "C" fn tsp_bound(
     alloc: Global,
@@ -120,7 +121,7 @@ pub extern "C" fn tsp_bound(
     out: &mut [u8],
     written: &mut usize,
 ) -> u32
-    ensures { PlacesText (BoundsBy (nth by certificates) instance.now certificate.now) out.old out.new written.new result }
+    ensures { PlacesText (BoundsBy (nth by bounds_asked) instance.now certificate.now) out.old out.new written.new result }
 {
     let (answer, _) = bound_by(alloc, instance, certificate, by);
     let status = answer.place(out, written);
@@ -139,8 +140,8 @@ pub extern "C" fn tsp_bound_result(
     out: &mut [u8],
     written: &mut usize,
 ) -> u32
-    ensures { PlacesText (λ status text. BoundsBy (nth by certificates) instance.now certificate.now status text
-        × TellsBoundBy (nth by certificates) instance.now certificate.now status told.new)
+    ensures { PlacesText (λ status text. BoundsBy (nth by bounds_asked) instance.now certificate.now status text
+        × TellsBoundBy (nth by bounds_asked) instance.now certificate.now status told.new)
         out.old out.new written.new result }
 {
     let (answer, numbers) = bound_by(alloc, instance, certificate, by);

@@ -3,7 +3,7 @@
 ghost use Rattle.std.specs.Prelude.{◌≡◌, ◌≤◌};
 ghost use Rattle.tsp_format.specs.Words.{layouts};
 ghost use Rattle.tsp_c.specs.Ended.{nth};
-ghost use Rattle.tsp_c.specs.Texts.{BoundsBy, ChecksBy, ConvertsBy, certificates, claim_of, strict_of};
+ghost use Rattle.tsp_c.specs.Texts.{BoundsBy, ChecksBy, ConvertsBy, bounds_asked, certificates, claim_of, strict_of};
 ghost use Rattle.tsp_c.specs.Told.{TellsBoundBy, TellsBy};
 
 use crate::ended::Answer;
@@ -47,19 +47,33 @@ pub(crate) fn check_by(
     checked(alloc, instance, solution, by, certificate, claim, strict)
 }
 
-/// The bound by 1 with potentials, by 2 with branches, with its status, and in numbers.
+/// The bound by 1 with potentials, by 2 with branches, and by 3 and 4 with unknown keywords as a
+/// reason too; with its status, and in numbers.
 pub(crate) fn bound_by(
     alloc: Global,
     instance: &[u8],
     certificate: &[u8],
     by: u32,
 ) -> (Answer, Told)
-    ensures texts { BoundsBy (nth by certificates) instance.now certificate.now result.0.0 result.0.1 }
-    ensures numbers { TellsBoundBy (nth by certificates) instance.now certificate.now result.0.0 result.1 }
+    ensures texts { BoundsBy (nth by bounds_asked) instance.now certificate.now result.0.0 result.0.1 }
+    ensures numbers { TellsBoundBy (nth by bounds_asked) instance.now certificate.now result.0.0 result.1 }
 {
-    match certificate_of(by) {
+    match bound_asked(by) {
         None => (Answer::refused(alloc), Told::blank()),
-        Some(by) => bounded(alloc, by, instance, certificate),
+        Some((by, strict)) => bounded(alloc, by, instance, certificate, strict),
+    }
+}
+
+/// What a number asks of a bound: the certificate, and whether unknown keywords are a reason.
+pub(crate) fn bound_asked(number: u32) -> Option<(Certificate, bool)>
+    ensures { result ≡ nth number bounds_asked }
+{
+    match number {
+        1 => Some((Certificate::Potentials, false)),
+        2 => Some((Certificate::Branches, false)),
+        3 => Some((Certificate::Potentials, true)),
+        4 => Some((Certificate::Branches, true)),
+        _ => None,
     }
 }
 

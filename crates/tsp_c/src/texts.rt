@@ -70,21 +70,22 @@ pub(crate) fn checked(
     (answer, told)
 }
 
-/// The bound of the tours of the instance that a text is, by the certificate that another one is;
-/// with its status, and in numbers.
+/// The bound of the tours of the instance that a text is, by the certificate that another one is,
+/// and with unknown keywords as a reason, where that is asked; with its status, and in numbers.
 pub(crate) fn bounded(
     alloc: Global,
     by: Certificate,
     instance: &[u8],
     certificate: &[u8],
+    strict: bool,
 ) -> (Answer, Told)
-    ensures texts { BoundsTexts by instance.now certificate.now result.0.0 result.0.1 }
-    ensures numbers { TellsBound by instance.now certificate.now result.0.0 result.1 }
+    ensures texts { BoundsTexts by strict instance.now certificate.now result.0.0 result.0.1 }
+    ensures numbers { TellsBound by strict instance.now certificate.now result.0.0 result.1 }
 {
     let mut first = Watched::new(instance);
     let mut second = Watched::new(certificate);
     let mut report = Watched::new(Vec::new(alloc));
-    let found = run_bound(alloc, &mut first, by, &mut second, false, &mut report);
+    let found = run_bound(alloc, &mut first, by, &mut second, strict, &mut report);
     let numbers = Told::of_bound_run(&found);
     let answer = ended(bound_answer(found), report);
     let told = answer.numbers(numbers);

@@ -1,10 +1,10 @@
 -- The goals of `check_held` in src/handle_calls.rt: what it ensures.
-use Rattle.std.proofs.Common.{◌≡◌, ◌∙◌, ap, subst, arith, rules, FitsSigned, w64}
+use Rattle.std.proofs.Common.{◌≡◌, ◌∙◌, Bool, ap, subst, arith, rules, FitsSigned, w64}
 use Rattle.std.specs.Prelude.{Option, Some, ℤ}
 use Rattle.std.proofs.lemmas.Int.{to_z-of_z}
 use Rattle.tsp_judge.specs.Open.{Open}
 use Rattle.tsp_c.specs.Opened.{Held, ChecksOpen, ChecksHeld}
-use Rattle.tsp_c.specs.Texts.{claim_of}
+use Rattle.tsp_c.specs.Texts.{claim_of, strict_of}
 use Rattle.tsp_c.proofs.handle_calls.check_held.Goals as goal
 
 -- plan: the handle is there, and the answer is that of the call on what it holds, with the claim as 64 bits
@@ -12,17 +12,21 @@ pub returns-in-Some-clause-checks : goal.returns-in-Some-clause-checks
 returns-in-Some-clause-checks c =
     let two = c.args.solution.now in
     let made = c.check_opened-answer.result in
-    let few = c.if-has_claim-gt1.false in
+    let few = c.if-has_claim-gt3.false in
     let held : Open = c.in-Some.opened.value in
     let claim : Option ℤ = claim_of c.args.has_claim c.args.claimed in
     let fits : FitsSigned w64 c.args.claimed = c.ranges.claimed in
-    let claim_is : c.claim_of.result ≡ claim =
-    c.claim_of.ensures ∙ ap (λ (z : ℤ). claim_of c.args.has_claim z) (to_z-of_z w64 c.args.claimed fits) in
-    let checked : ChecksOpen c.deref.result.now c.claim_of.result two made.0.0 made.0.1 made.1 =
+    let claim_is : c.claim_of-claim.result ≡ claim =
+    c.claim_of-claim.ensures ∙ ap (λ (z : ℤ). claim_of c.args.has_claim z) (to_z-of_z w64 c.args.claimed fits) in
+    let strict : Bool = strict_of c.args.has_claim in
+    let strict_is : c.strict_of.result ≡ strict = c.strict_of.ensures in
+    let checked : ChecksOpen c.deref.result.now c.claim_of-claim.result c.strict_of.result two made.0.0 made.0.1 made.1 =
     (c.check_opened-answer.ensures.texts, c.check_opened-answer.ensures.numbers) in
     let old : Some held ≡ c.args.handle.now.loose.value = search rules in
     subst (λ (h : Held). ChecksHeld h c.args.has_claim c.args.claimed two made.0.0 made.0.1 made.1) old (
-      λ low. subst (λ (k : Option ℤ). ChecksOpen held k two made.0.0 made.0.1 made.1) claim_is
-          (subst (λ (o : Open). ChecksOpen o c.claim_of.result two made.0.0 made.0.1 made.1) c.deref.ensures checked),
+      λ low. subst (λ (b : Bool). ChecksOpen held claim b two made.0.0 made.0.1 made.1) strict_is
+          (subst (λ (k : Option ℤ). ChecksOpen held k c.strict_of.result two made.0.0 made.0.1 made.1) claim_is
+          (subst (λ (o : Open). ChecksOpen o c.claim_of-claim.result c.strict_of.result two made.0.0 made.0.1 made.1)
+          c.deref.ensures checked)),
       λ many. absurd (omega (arith, few, many)),
     )

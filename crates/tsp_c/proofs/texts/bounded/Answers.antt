@@ -14,11 +14,11 @@ of_bound_run-numbers-requires c = let first = c.run_bound-found.ensures.answer i
     let one : Turn = turn_of (λ s. Some s.now) c.new-first.result c.run_bound-found.new.inst first.0 in
     let two : Turn = turn_of (λ s. Some s.now) c.new-second.result c.run_bound-found.new.cert second.0 in
     let sink : Sink = sink_of (λ v. Some v.items) c.new-report.result c.run_bound-found.new.out in
-    sized_bound_run c.args.by one two sink c.run_bound-found.result second.2.0
+    sized_bound_run c.args.by c.args.strict one two sink c.run_bound-found.result second.2.0
 
 pub returns-clause-texts : goal.returns-clause-texts
 returns-clause-texts c = let first = c.run_bound-found.ensures.answer in let second = first.2 in
-    bounds_texts c.args.by _ _ _ c.run_bound-found.result _ _ _ _ _
+    bounds_texts c.args.by c.args.strict _ _ _ c.run_bound-found.result _ _ _ _ _
     (record {
       first_is = ap (λ s. Some s.now) c.new-first.ensures.inner;
       second_is = ap (λ s. Some s.now) c.new-second.ensures.inner;
@@ -31,7 +31,7 @@ returns-clause-numbers c = let first = c.run_bound-found.ensures.answer in let s
     let one : Turn = turn_of (λ s. Some s.now) c.new-first.result c.run_bound-found.new.inst first.0 in
     let two : Turn = turn_of (λ s. Some s.now) c.new-second.result c.run_bound-found.new.cert second.0 in
     let sink : Sink = sink_of (λ v. Some v.items) c.new-report.result c.run_bound-found.new.out in
-    tells_bound c.args.by one two sink c.run_bound-found.result _ _ _ _ _ _ _
+    tells_bound c.args.by c.args.strict one two sink c.run_bound-found.result _ _ _ _ _ _ _
     (record {
       first_is = ap (λ s. Some s.now) c.new-first.ensures.inner;
       second_is = ap (λ s. Some s.now) c.new-second.ensures.inner;
