@@ -55,7 +55,7 @@ impl<'a> ByNode<'a> {
         ensures said { result.now ≡ all_said_of node (triples_in self.now) }
         ensures sums { (x : ℕ) → lowered_by result.now x ≡ numbers_on (triples_in self.now) node x }
     {
-        // (a search over points then waits for no node's list)
+        // Without multipliers all lists are empty. A search over points then reads none of them.
         if self.triples.is_empty() {
             return &[];
         }

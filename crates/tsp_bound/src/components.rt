@@ -1,4 +1,7 @@
 //! The components of a forest, and the search for the nearest place in another component.
+//!
+//! `Labelled` implements it for nodes that have points, and `Listed` for others. See placed.rt for
+//! `steps`.
 
 ghost use Rattle.std.specs.Prelude.{◌≡◌, ◌<◌, ℕ, ℤ, length, IfSome};
 ghost use Rattle.tsp_bound.specs.states.Components.{label_at, IsKeptLink};

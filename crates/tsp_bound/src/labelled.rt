@@ -1,4 +1,5 @@
-//! Nodes in an order, each with the label of its component.
+//! Nodes in an order, each with the label of its component. It is for nodes that have points,
+//! listed.rt for others.
 
 ghost use Rattle.std.specs.Prelude.{◌≡◌, ◌<◌, ◌*◌, ℕ, true, length, IfOk};
 ghost use Rattle.tsp_bound.specs.states.Boxes.{HoldsNode, AreHeld, AreHeld-prop, area_at, node_of};

@@ -1,4 +1,5 @@
-//! Nodes in an order, each with the label of its component and the least links from it.
+//! Nodes in an order, each with the label of its component and the least links from it. It is for
+//! nodes without points, labelled.rt for others.
 
 ghost use Rattle.std.specs.Prelude.{◌≡◌, ◌<◌, ◌+◌, ◌*◌, ℕ, length};
 ghost use Rattle.tsp_bound.specs.states.Components.{label_at};

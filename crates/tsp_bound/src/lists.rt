@@ -1,4 +1,5 @@
-//! The least links of each place, by one pass over all pairs.
+//! The least links of each place, by one pass over all pairs. They serve `Listed`, for costs
+//! without points whose rows aren't near in memory (`pairs_over` in part.rt).
 
 ghost use Rattle.std.specs.Prelude.{◌≡◌, ◌≤◌, ◌<◌, ◌+◌, ◌*◌, ◌^◌, ℕ, length};
 ghost use Rattle.tsp_bound.specs.states.Lists.{weight_over, AreOffered, IsPut, IsTaken};
@@ -9,7 +10,8 @@ use crate::link::Link;
 use crate::placed::Placed;
 use tsp_tree::weight_in;
 
-/// How many links of each place are kept.
+/// How many links of each place are kept. Clauses here and in listed.rt, specs/states/Lists.antt
+/// and proofs say 12: change all of these.
 pub(crate) const KEPT: usize = 12;
 
 /// How many columns of the rows are passed at a time.

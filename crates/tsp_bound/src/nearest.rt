@@ -1,4 +1,6 @@
 //! The search for the nearest node outside, by a tree of boxes.
+//!
+//! Outside: in another component than the node that the search is from. See placed.rt for `steps`.
 
 ghost use Rattle.std.specs.Prelude.{◌<◌, length};
 ghost use Rattle.tsp_bound.specs.states.Boxes.{IsSearched, no_best};

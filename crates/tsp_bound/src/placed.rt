@@ -1,4 +1,8 @@
 //! Nodes in an order, and the search for the nearest one outside.
+//!
+//! A place is the index of a node in the order. Outside: in another component than the node that
+//! the search is from. `steps` counts the boxes and nodes that a search looks at. Past a budget the
+//! tree grows pair by pair instead (part.rt), so `steps` affects speed alone.
 
 ghost use Rattle.std.specs.Prelude.{◌≡◌, ◌<◌, ◌+◌, ◌^◌, ℕ, length, slice_index_or};
 ghost use Rattle.tsp_format.specs.Nodes.{IsNode};

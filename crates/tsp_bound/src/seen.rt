@@ -1,4 +1,6 @@
 //! A tree of boxes over places, as a search sees it.
+//!
+//! Outside: in another component than the node that the search is from (`Apart` in labelled.rt).
 
 ghost use Rattle.std.specs.Prelude.{◌≡◌, ◌<◌, ◌*◌, ℕ, Bool, Option, None, Some, MatchOption};
 ghost use Rattle.tsp_bound.specs.declared.area.Area.{Area};

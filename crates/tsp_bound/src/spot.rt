@@ -1,4 +1,5 @@
-//! Nodes with their places and their numbers.
+//! Nodes with their places and their numbers. Here a place is a point. The number is what the node
+//! adds to the weights of its pairs.
 
 use tsp_theory::Site;
 

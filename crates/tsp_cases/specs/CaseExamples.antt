@@ -1,4 +1,4 @@
--- Small trees of cases: some that decide each pair once, and some that don't.
+-- Small trees of cases: some that decide each pair once, and some that don't. For the laws in src/examples.rt.
 use Rattle.std.specs.Prelude.{ℕ, Bool, List, [], ◌∷◌}
 use Rattle.std.specs.List.{All}
 use Rattle.tsp_format.specs.Steps as listed

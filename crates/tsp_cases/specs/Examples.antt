@@ -1,4 +1,5 @@
--- A small comb, small costs and small trees on which the definitions are evaluated.
+-- A small comb, small costs and small trees on which the definitions are evaluated. For the laws in src/examples.rt and
+-- src/row_examples.rt, and for those in src/examples.rt and src/claim_examples.rt of tsp_verdict.
 use Rattle.std.specs.Prelude.{◌≡◌, ℕ, ◌-◌, true, false, List, [], ◌∷◌, Some, replicate, min, max, slice_index, slice_index_or, ℤ, pos}
 use Rattle.tsp_theory.specs.Length.{length_of}
 use Rattle.tsp_cases.specs.Combs.{Comb, comb_of, family_crossings}

@@ -1,4 +1,5 @@
--- Small combs that are bad, and small trees with a branch that comes twice.
+-- Small combs that are bad, and small trees with a branch that comes twice. For the laws in src/examples.rt and
+-- src/row_examples.rt.
 use Rattle.std.specs.Prelude.{ℕ, Bool, List, [], ◌∷◌, ℤ}
 use Rattle.tsp_format.specs.Steps as listed
 use Rattle.tsp_cases.specs.declared.decision.Decision.{Decision}

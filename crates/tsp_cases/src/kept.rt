@@ -39,9 +39,13 @@ const MOST_KEPT: u32 = 2_000;
 /// take off its potential.
 #[derive(Drop)]
 pub struct KeptRows {
+    /// A row for each node, or none at all.
     pub rows: Vec<Vec<i64>>,
+    /// By node what the multipliers of its sets take off its potential.
     pub ends: Vec<i64>,
+    /// The multipliers that the rows and ends were brought to.
     pub multipliers: Vec<i64>,
+    /// Memory for how far the multipliers of the next leaf are from these.
     pub differences: Vec<i64>,
 }
 

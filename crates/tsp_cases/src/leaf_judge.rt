@@ -1,4 +1,5 @@
-//! The judge of the leaves of a tree of cases.
+//! The judge of the leaves of a tree of cases. There are two: `CycleJudge` of tsp_branch, and
+//! `PlanJudge` of tsp_routing.
 
 ghost use Rattle.std.specs.Prelude.{◌≡◌, ◌+◌, ◌<◌, ◌^◌, ◌++◌, ◌∷◌, ℕ, ℤ, Bool, List, Option, length, IfOk};
 ghost use Rattle.std.specs.List.{All};

@@ -1,4 +1,7 @@
-//! Numbers of families.
+//! Numbers of families. They are multipliers, or how far these are from those of the leaf before.
+//!
+//! Whoever makes such a value proves its `ghost` facts, and whoever has one may use them. It is
+//! made in kept.rt, and in tsp_branch and tsp_routing.
 
 ghost use Rattle.std.specs.Prelude.{◌≡◌, length};
 ghost use Rattle.tsp_cases.specs.states.Combed.{AreSmallDifferences};

@@ -1,4 +1,5 @@
-//! One pass over the steps of a tree of cases.
+//! One pass over the steps of a tree of cases. What judges a leaf is `CycleJudge` of tsp_branch, or
+//! `PlanJudge` of tsp_routing.
 
 ghost use Rattle.std.specs.Prelude.{◌≡◌, ◌+◌, ◌<◌, ◌^◌, [], ◌∷◌, length, IfOk};
 ghost use Rattle.std.specs.List.{All};

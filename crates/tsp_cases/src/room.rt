@@ -10,10 +10,15 @@ use tsp_theory::Costs;
 /// leaf and for two rows of its weights.
 #[derive(Drop)]
 pub struct Room {
+    /// The number of each node.
     pub potentials: Vec<i64>,
+    /// The number of each family.
     pub multipliers: Vec<i64>,
+    /// A row of weights.
     pub row: Vec<i64>,
+    /// Of each node its potential less the multipliers of its sets, as `fill_moved` writes it.
     pub moved: Vec<i64>,
+    /// The rows that leaves share.
     pub kept: KeptRows,
 }
 

@@ -1,4 +1,4 @@
-//! What the sets of a node add to its row.
+//! What the sets of a node add to its row. It serves the rows of kept.rt and those of leaves.
 
 ghost use Rattle.std.specs.Prelude.{◌≡◌, ◌<◌, ◌+◌, ◌+ℤ◌, ℕ, length};
 ghost use Rattle.std.specs.Int.{w64, int_wrap};

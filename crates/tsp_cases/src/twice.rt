@@ -1,4 +1,4 @@
-//! Which branch comes twice.
+//! Which branch comes twice. This is judged before any leaf is (pass.rt).
 
 ghost use Rattle.std.specs.Prelude.{IfOk};
 ghost use Rattle.std.specs.List.{All};

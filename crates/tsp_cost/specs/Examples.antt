@@ -1,4 +1,4 @@
--- Small instances on which the definitions are evaluated.
+-- Small instances on which the definitions are evaluated. For the laws in src/examples.rt.
 use Rattle.std.specs.Prelude.{ℕ, List, Some}
 use Rattle.tsp_format.specs.declared.kinds.Kind.{Kind}
 use Rattle.tsp_draft.specs.Fields.{Fields, blank_fields}

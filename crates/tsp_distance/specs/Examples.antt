@@ -1,4 +1,4 @@
--- Small points on which the definitions are evaluated.
+-- Small points on which the definitions are evaluated. For the laws in src/examples.rt.
 use Rattle.std.specs.Prelude.{ℕ, ℤ, pos, negsuc, ◌*ℤ◌}
 use Rattle.tsp_distance.specs.declared.decimal.Point.{Point}
 use Rattle.tsp_distance.specs.Distances.{on_plane}

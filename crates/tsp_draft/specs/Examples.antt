@@ -1,4 +1,5 @@
--- Small files on which the definitions are evaluated.
+-- Small files on which the definitions are evaluated. For the laws in src/examples.rt, and for those in src/examples.rt of
+-- tsp_file.
 use Rattle.std.specs.Prelude.{[], ◌∷◌, Some, pos}
 use Rattle.tsp_format.specs.declared.kinds.Kind.TheVariants.{Tsp, Atsp, Cvrp, Tour, Potentials, Branches}
 use Rattle.tsp_format.specs.declared.kinds.WeightKind.TheVariants.{Explicit, Euc2d}

@@ -1,4 +1,4 @@
-//! A second look at a file that has a fault: the text at its place.
+//! A second look at a file that has a fault: the text at its place. For file_fault.rt.
 
 ghost use Rattle.std.specs.Prelude.{◌≤◌, length};
 

@@ -1,4 +1,4 @@
--- Sets of which there are as many as there may be, and one more.
+-- Sets of which there are as many as there may be, and one more. For the laws in src/examples.rt.
 use Rattle.std.specs.Prelude.{ℕ, Bool, List, [], ◌∷◌, map}
 use Rattle.std.specs.List.{range_with_len}
 use Rattle.tsp_families.specs.Crossed.{has}

@@ -1,4 +1,4 @@
-//! How many sets are crossed between parts.
+//! How many sets are crossed between parts. For `family_crossings` in family.rt.
 
 ghost use Rattle.std.specs.Prelude.{◌≡◌, ◌≤◌, ◌<◌, ◌+◌, ◌*◌, ℕ, IfOk, length, count_ones, bit_xor, slice_index};
 ghost use Rattle.std.specs.List.{All};

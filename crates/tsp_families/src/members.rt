@@ -1,4 +1,5 @@
-//! Of each node a number whose bits say which sets have it.
+//! Of each node a number whose bits say which sets have it. They divide the nodes into parts
+//! (parts.rt).
 
 ghost use Rattle.std.specs.Prelude.{◌≡◌, ℕ, ◌+◌, ◌<◌, ◌≤◌, ◌^◌, if◌then◌else◌, length, slice_index, IfOk};
 ghost use Rattle.std.specs.List.{All};

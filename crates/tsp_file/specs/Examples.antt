@@ -1,4 +1,4 @@
--- Small matrices on which the definitions are evaluated.
+-- Small matrices on which the definitions are evaluated. For the laws in src/examples.rt.
 use Rattle.std.specs.Prelude.{◌≡◌, ℕ, List, [], ◌∷◌, ℤ, pos}
 use Rattle.tsp_format.specs.declared.layout.Layout.{Layout}
 use Rattle.tsp_file.specs.Cost.{listed_cost}

@@ -1,4 +1,5 @@
--- A small file with all sorts of fields, on which the definitions are evaluated. No valid file has all of them.
+-- A small file with all sorts of fields, on which the definitions are evaluated. No valid file has all of them. For the laws in
+-- src/text_examples.rt.
 use Rattle.std.specs.Prelude.{◌≡◌, ℕ, List, [], ◌∷◌, ◌++◌, Some, pos, negsuc, codes}
 use Rattle.tsp_format.specs.declared.kinds.Kind.TheVariants as kinds
 use Rattle.tsp_format.specs.declared.kinds.WeightKind.TheVariants as weight_kinds

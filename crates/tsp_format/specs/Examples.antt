@@ -1,4 +1,4 @@
--- Small cases on which the definitions are evaluated.
+-- Small cases on which the definitions are evaluated. For the laws in src/examples.rt.
 use Rattle.std.specs.Prelude.{◌≡◌, ℕ, ◌+◌, ◌-◌, ◌*◌, List, map, slice_index_or, ℤ, pos}
 use Rattle.tsp_format.specs.declared.field.Field.{Field}
 use Rattle.tsp_format.specs.declared.field.Field.TheVariants.{OtherKey}

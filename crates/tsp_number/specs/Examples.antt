@@ -1,4 +1,4 @@
--- Small words on which the definitions are evaluated.
+-- Small words on which the definitions are evaluated. For the laws in src/examples.rt.
 use Rattle.std.specs.Prelude.{◌≡◌, ℕ, List, Ok, Err, ℤ, pos, negsuc, ◌*ℤ◌}
 use Rattle.tsp_number.specs.declared.fault.NumberFault.{NumberFault}
 use Rattle.tsp_number.specs.Reading.{decimal_of, whole_of}

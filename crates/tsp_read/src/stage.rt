@@ -1,4 +1,4 @@
-//! How far a text is that comes in pieces.
+//! How far a text is that comes in pieces. `Feed` keeps it from one piece to the next (feed.rt).
 
 use crate::read_error::ReadError;
 

@@ -1,4 +1,5 @@
--- Small files on which whole reports are evaluated.
+-- Small files on which whole reports are evaluated. For the laws in src/examples.rt, src/whole_examples.rt and
+-- src/comparison_text_examples.rt.
 use Rattle.std.specs.Prelude.{List, ℕ, [], ◌∷◌, Some, pos, codes}
 use Rattle.tsp_format.specs.declared.kinds.Kind.TheVariants.{Tsp, Cvrp, Tour, Potentials, Branches}
 use Rattle.tsp_format.specs.declared.kinds.WeightKind.TheVariants.{Explicit}

@@ -1,4 +1,4 @@
--- A reason of each kind, on which the table of reasons is evaluated.
+-- A reason of each kind, on which the table of reasons is evaluated. For the laws in src/reason_examples.rt.
 use Rattle.std.specs.Prelude.{List, [], ◌∷◌, negsuc}
 use Rattle.tsp_task.specs.declared.verdict.Reason.{Reason}
 use Rattle.tsp_task.specs.declared.verdict.Reason.TheVariants.{NotASolution, TooFewNodes, NotSymmetric, Dimension, TourCount, TourLength, DepotCount, DepotDemand, FixedEdgesInRoutes, DepotInRoute, NodeOutOfRange, RepeatedNode, FixedEdgeUnused, Unserved, Overload, LengthClaimed, NotPotentials, PotentialsDimension, PotentialsKind, MultiplierNotFixed, MultiplierRepeated, DualInfeasible, NotBranches, BranchesDimension, BadComb, BadBranch, BranchTwice, BadLeaf, TooManyLoads, NotJudged}

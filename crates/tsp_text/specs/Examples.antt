@@ -1,4 +1,4 @@
--- Small texts on which the definitions are evaluated. In them `/` means byte 10.
+-- Small texts on which the definitions are evaluated. In them `/` means byte 10. For the laws in src/examples.rt.
 use Rattle.std.specs.Prelude.{◌≡◌, ℕ, ◌==◌, true, false, cond, List, [], ◌∷◌, ◌++◌, map, replicate, None, Some, codes, pos, negsuc}
 use Rattle.tsp_format.specs.declared.field.Field.{Field}
 use Rattle.tsp_format.specs.Steps.{Branch, Leaf}

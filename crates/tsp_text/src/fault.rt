@@ -1,4 +1,7 @@
 //! Why bytes are no file.
+//!
+//! A variant is also in specs/FaultRows.antt and specs/ReadFaultText.antt. tsp_report, tsp_explain
+//! and tsp_c name each, too.
 
 use std::fmt;
 use thiserror::Error;

@@ -1,4 +1,4 @@
-//! What always holds of the fields of a text.
+//! What always holds of the fields of a text. These are laws: tsp_round calls the second one.
 
 ghost use Rattle.std.specs.Prelude.{◌≡◌, ℕ, List, None, false};
 ghost use Rattle.tsp_format.specs.declared.field.Field.TheVariants.{BranchPart};

@@ -1,4 +1,5 @@
--- Small lists of nodes on which the definitions are evaluated.
+-- Small lists of nodes on which the definitions are evaluated. For the laws in src/cycle_examples.rt, and for those in
+-- src/examples.rt of tsp_cost. specs/Examples.antt of tsp_verdict re-exports some.
 use Rattle.std.specs.Prelude.{◌≡◌, ℕ, List, [], ◌∷◌, ℤ}
 use Rattle.tsp_theory.specs.Examples.{directed}
 use Rattle.tsp_theory.specs.Length.{length_of}

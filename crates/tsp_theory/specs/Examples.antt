@@ -1,4 +1,5 @@
--- Small costs, trees and duals on which the definitions are evaluated.
+-- Small costs, trees and duals on which the definitions are evaluated. For the laws in src/examples.rt; specs/CycleExamples.antt
+-- imports one.
 use Rattle.std.specs.Prelude.{ℕ, ◌+◌, ◌-◌, ◌*◌, ◌/◌, ◌==◌, if◌then◌else◌, min, max, List, [], ◌∷◌, slice_index_or, ℤ, pos, negsuc}
 
 -- symmetric costs, from those between 2 and 1, 3 and 1, 3 and 2, 4 and 1, 4 and 2, 4 and 3

@@ -1,4 +1,5 @@
--- Small instances and solutions on which the definitions are evaluated.
+-- Small instances and solutions on which the definitions are evaluated. For the laws in src/examples.rt, src/verdict_examples.rt,
+-- src/claim_examples.rt and src/strict.rt, and for those in src/run_examples.rt of tsp_judge.
 use Rattle.std.specs.Prelude.{codes, ℕ, ◌<◌, List, [], ◌∷◌, Option, None, Some, ℤ, pos}
 use Rattle.tsp_format.specs.declared.kinds.Kind.{Kind}
 use Rattle.tsp_format.specs.declared.kinds.Kind.TheVariants as kinds

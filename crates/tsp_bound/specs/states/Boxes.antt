@@ -1,4 +1,6 @@
--- A tree of boxes over nodes in an order, its leaves one node each, and what a search of it finds.
+-- A tree of boxes over nodes in an order, its leaves one node each, and what a search of it finds. For `Search` (src/search.rt)
+-- and `Best` (src/nearest.rt), which it finds. `outside j`: the node at the place j of the order is in another component, so it
+-- may be found.
 use Rattle.std.specs.Prelude.{◌≡◌, ℕ, zero, suc, ◌+◌, ◌*◌, ◌/◌, ◌<◌, ◌≤◌, Bool, true, List, Option, None, Some, length, slice_index_or, slice_set, ℤ, pos, ◌≤ℤ◌, ◌⊎◌}
 use denote.Struct.Props as logic
 use mathlib.Core.HLevel.{Π_prop, ⊥_prop}

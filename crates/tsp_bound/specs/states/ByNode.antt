@@ -1,4 +1,5 @@
--- Numbers on pairs of nodes, by node.
+-- Numbers on pairs of nodes, by node. Of `ByNode` (src/by_node.rt). A triple (a, b, number) is a multiplier of the pair of a and
+-- b.
 use Rattle.std.specs.Prelude.{◌≡◌, ◌≢◌, ℕ, ◌+◌, ◌≤◌, ◌==◌, if◌then◌else◌, List, [], ◌∷◌, ◌++◌, length, slice_index_or, ℤ, pos}
 use Rattle.std.specs.Global.{Vec}
 use Rattle.std.specs.List.{All, AllPairs}

@@ -1,4 +1,5 @@
--- The components of a forest over places 0..n-1, each with a label, and the links between them.
+-- The components of a forest over places 0..n-1, each with a label, and the links between them. Of `Labelled` (src/labelled.rt)
+-- and `Listed` (src/listed.rt), which grow in the rounds of src/rounds.rt.
 use Rattle.std.specs.Prelude.{◌≡◌, ◌≢◌, ℕ, ◌+◌, ◌*◌, ◌^◌, ◌==◌, ◌<◌, Bool, true, not, if◌then◌else◌, List, [], length, slice_index_or, Option, None, Some, ℤ, pos, neg_ℤ, ◌≤ℤ◌, IfSome, ◌⊎◌}
 use Rattle.std.specs.List.{All}
 use Rattle.tsp_bound.specs.declared.area.Area.{Area}

@@ -1,4 +1,4 @@
--- What duals hold.
+-- What duals hold. Of `Duals` (src/duals.rt): a number for each row and one for each column, at a scale.
 use Rattle.std.specs.Prelude.{ℕ, List, ℤ, ◌+ℤ◌, ◌*ℤ◌}
 use Rattle.tsp_bound.specs.declared.duals.Duals.{Duals}
 use Rattle.tsp_theory.specs.CertificateNumbers.{entry}

@@ -1,4 +1,5 @@
--- Of each place 0..n-1 twelve links, beside each other in a list, and a number that none of its other links is below.
+-- Of each place 0..n-1 twelve links, beside each other in a list, and a number that none of its other links is below. Of `Listed`
+-- (src/listed.rt). The 12 is `KEPT` of src/lists.rt, which says what else to change.
 use Rattle.std.specs.Prelude.{◌≡◌, ◌≢◌, ℕ, ◌+◌, ◌*◌, ◌<◌, List, slice_index_or, slice_set, ℤ, pos, ◌≤ℤ◌, ◌⊎◌}
 use Rattle.tsp_bound.specs.declared.link.Link.{Link}
 use Rattle.tsp_bound.specs.states.Boxes.{node_of}

@@ -1,4 +1,5 @@
--- What multipliers hold, and the weights that they give.
+-- What multipliers hold, and the weights that they give. Of `Multipliers` (src/multipliers.rt) and `ByNode` (src/by_node.rt). Of
+-- a triple (a, b, number) the number lowers the weight of the pair.
 use Rattle.std.specs.Prelude.{ℕ, List, [], ℤ}
 use Rattle.tsp_bound.specs.declared.by_node.ByNode.{ByNode}
 use Rattle.tsp_bound.specs.declared.multipliers.Multipliers.{Multipliers}

@@ -1,4 +1,5 @@
--- Each place of a list means a node.
+-- Each place of a list means a node. For `places_in` (src/numbering.rt) and `Placed` (src/placed.rt). A place is the index of a
+-- node in a list.
 use Rattle.std.specs.Prelude.{◌≡◌, ℕ, ◌<◌}
 
 -- `node` and `place` are inverse to each other, between 0..n-1 and the nodes

@@ -1,4 +1,5 @@
--- What potentials hold.
+-- What potentials hold. Of `Potentials` (src/potentials.rt): a number for each node, at a scale. `IsInverse` is for `inverse_of`
+-- (src/search.rt).
 use Rattle.std.specs.Prelude.{ℕ, ◌≢◌, ◌*◌, ◌^◌, ◌≤◌, List, ℤ, pos, nat_abs}
 use Rattle.tsp_bound.specs.declared.potentials.Potentials.{Potentials}
 use Rattle.tsp_theory.specs.NodeBound.{weight_between}

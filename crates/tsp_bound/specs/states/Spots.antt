@@ -1,4 +1,5 @@
--- Nodes with their places and their numbers.
+-- Nodes with their places and their numbers. Of `Spot` (src/spot.rt). Here a place is a point, not an index. The number is what
+-- the node adds to the weights of its pairs.
 use Rattle.std.specs.Prelude.{◌≡◌, ℕ, ◌<◌, List, length, slice_index_or, ℤ, pos, neg_ℤ}
 use Rattle.tsp_distance.specs.declared.decimal.Point.{Point}
 use Rattle.tsp_theory.specs.Regions.{IsSite}

@@ -1,4 +1,5 @@
--- What two nodes have in common: the sets of both, by the places of each node's sets; and what decisions do to a weight.
+-- What two nodes have in common: the sets of both, by the places of each node's sets; and what decisions do to a weight. For the
+-- weights of `CaseLeaf`, in src/leaf_rows.rt, src/boxed_leaf.rt and src/both_sets.rt. `moved` is its field (src/case_leaf.rt).
 use Rattle.std.specs.Prelude.{◌≡◌, ℕ, ◌==◌, ◌&&◌, Bool, true, false, if◌then◌else◌, List, map, reverse, slice_index_or, ℤ, pos, negsuc, neg_ℤ, ◌+ℤ◌, ◌*ℤ◌}
 use Rattle.std.specs.List.{list_any, filter}
 use Rattle.tsp_format.specs.Nodes.{IsNode}

@@ -1,4 +1,5 @@
--- Weights under families as code finds them: by their sets, each with the multiplier of its family.
+-- Weights under families as code finds them: by their sets, each with the multiplier of its family. For `MultipliedFamilies`
+-- (src/multiplied.rt) and all code that finds weights by it. `families` has the sets of each family, and a set its nodes.
 use Rattle.std.specs.Prelude.{◌≡◌, ℕ, suc, List, [], ◌∷◌, length, slice_index_or, ℤ, pos, neg_ℤ, ◌+ℤ◌, ◌-ℤ◌, ◌*ℤ◌}
 use Rattle.std.specs.List.{All}
 use Rattle.tsp_theory.specs.Length.{sum_int_by}

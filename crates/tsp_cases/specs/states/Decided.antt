@@ -1,4 +1,5 @@
--- What decisions change: each the weight of its pair, by the same number. And the stack of decisions of code.
+-- What decisions change: each the weight of its pair, by the same number. And the stack of decisions of code. Of `Decision`
+-- (src/decision.rt), and of the stack of `OpenCase` (src/open_case.rt).
 use Rattle.std.specs.Prelude.{◌≡◌, ◌≢◌, ◌<◌, ℕ, Bool, true, false, if◌then◌else◌, List, [], reverse, Some, None, ℤ, pos, neg_ℤ, ◌+ℤ◌, ◌⊎◌}
 use Rattle.std.specs.Int.{w64, int_wrap}
 use Rattle.tsp_format.specs.Nodes.{IsNode}

@@ -1,4 +1,5 @@
--- The numbers of families as code finds them.
+-- The numbers of families as code finds them. Of `Crossings` of tsp_families, for src/good_families.rt: `least` and `most` are
+-- how often the sets are crossed.
 use Rattle.std.specs.Prelude.{◌<◌, ◌^◌, ℕ, List, Option, Some, None}
 use Rattle.std.specs.List.{All}
 use Rattle.tsp_families.specs.declared.family.Crossings.{Crossings}

@@ -1,4 +1,4 @@
--- Rows that are kept for all nodes while leaves change: of each two nodes what no potential changes.
+-- Rows that are kept for all nodes while leaves change: of each two nodes what no potential changes. Of `KeptRows` (src/kept.rt).
 use Rattle.std.specs.Prelude.{◌≡◌, ◌≢◌, ℕ, ◌+◌, ◌<◌, ◌≤◌, if◌then◌else◌, List, length, slice_index_or, ℤ, pos, neg_ℤ, ◌+ℤ◌, ◌*ℤ◌}
 use Rattle.std.specs.Int.{w64, int_wrap}
 use Rattle.std.specs.Global.{Vec}
@@ -74,7 +74,8 @@ pub record AreEnds (n : ℕ) (multipliers : List ℤ) (families : List (List (Li
   pub taken : (x : ℕ) → IsNode n x
       → int_wrap w64 (least_at ends x) ≡ int_wrap w64 (neg_ℤ (multipliers_at multipliers families x))
 
--- rows and ends, the multipliers that they have been brought to, and the marks in the rows
+-- rows and ends, the multipliers that they have been brought to, and the marks in the rows; `differences` is memory for the
+-- changes of multipliers
 pub record HoldsRows (n combs : ℕ) (scale : ℤ) (families : List (List (List ℕ))) (cost marks : ℕ → ℕ → ℤ)
     (kept : KeptRows) : Type 0 where
   pub multipliers : length kept.multipliers.items ≡ combs

@@ -1,4 +1,4 @@
--- The families that code has: their sets as lists, and the families that they are.
+-- The families that code has: their sets as lists, and the families that they are. Of `Families` (src/families.rt).
 use Rattle.std.specs.Prelude.{ℕ, List}
 use Rattle.tsp_families.specs.FamilySets.{families_in}
 use Rattle.tsp_cases.specs.declared.families.Families.{Families}

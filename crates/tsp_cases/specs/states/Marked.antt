@@ -1,4 +1,5 @@
--- Nodes of sets as code finds out that no two of them are the same: each gets a mark, by which it is known again.
+-- Nodes of sets as code finds out that no two of them are the same: each gets a mark, by which it is known again. For
+-- src/marks.rt and src/good_families.rt, and for src/cuts.rt of tsp_routing. `marks` has the mark of each node at its index.
 use Rattle.std.specs.Prelude.{◌≡◌, ◌≢◌, ℕ, ◌==◌, ◌||◌, ◌<◌, length, Bool, false, List, [], ◌∷◌, slice_index}
 use Rattle.std.specs.List.{All}
 use Rattle.tsp_families.specs.Crossed.{has}

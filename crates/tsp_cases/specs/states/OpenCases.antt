@@ -1,4 +1,5 @@
--- The decisions of the open case as code has them: a stack above those that are given, and by node.
+-- The decisions of the open case as code has them: a stack above those that are given, and by node. Of `OpenCase`
+-- (src/open_case.rt) and `NodeDecisions` (src/node_decisions.rt).
 use Rattle.std.specs.Prelude.{◌≡◌, ◌≢◌, ℕ, ◌==◌, ◌||◌, ◌&&◌, not, ◌+◌, ◌<◌, ◌≤◌, Bool, List, ◌∷◌, ◌++◌, length, slice_index_or}
 use Rattle.std.specs.Global.{Vec}
 use Rattle.std.specs.List.{All, filter}

@@ -1,4 +1,5 @@
--- The place of a set among families.
+-- The place of a set among families. Of `SetPlace` (src/set_place.rt): the number of its family, and its own in the family, both
+-- from 0 on.
 use Rattle.std.specs.Prelude.{ℕ, ◌<◌, List, [], length, slice_index_or}
 use Rattle.tsp_cases.specs.declared.set_place.SetPlace.{SetPlace}
 

@@ -1,4 +1,5 @@
--- The sets of families by the nodes that they have, as code lists them, and what a set adds to a row of numbers by node.
+-- The sets of families by the nodes that they have, as code lists them, and what a set adds to a row of numbers by node. For
+-- `sets_by_node` and `add_to_nodes` (src/sets.rt). `SetPlace` says which set of which family.
 use Rattle.std.specs.Prelude.{◌≡◌, ℕ, suc, ◌==◌, ◌+◌, ◌++◌, ◌<◌, ◌≤◌, if◌then◌else◌, List, [], ◌∷◌, length, slice_index_or, ℤ, pos}
 use Rattle.std.specs.Global.{Vec}
 use Rattle.tsp_theory.specs.Length.{sum_int_by}

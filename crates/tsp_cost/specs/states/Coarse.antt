@@ -1,4 +1,4 @@
--- Roots of squares of steps, which are 512ths.
+-- Roots of squares of steps, which are 512ths. For src/coarse.rt.
 use Rattle.std.specs.Prelude.{ℕ, ◌+◌, ◌-◌, ◌*◌, ◌<◌, ◌≤◌}
 use Rattle.tsp_distance.specs.Distances.{squared}
 

@@ -1,4 +1,4 @@
--- Weight types that are distances.
+-- Weight types that are distances. Of `Metric` (src/metric.rt).
 use Rattle.tsp_format.specs.declared.kinds.WeightKind.{WeightKind}
 use Rattle.tsp_format.specs.declared.kinds.WeightKind.TheVariants as kinds
 use Rattle.tsp_cost.specs.declared.metric.Metric.{Metric}

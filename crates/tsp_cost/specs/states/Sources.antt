@@ -1,4 +1,5 @@
--- What an instance has found of its file, once and for all.
+-- What an instance has found of its file, once and for all. Of `CostSource` (src/cost_source.rt), for `Instance`
+-- (src/instance.rt).
 use Rattle.std.specs.Prelude.{◌≡◌, ℕ, Some, IsSome, IsTrue}
 use Rattle.tsp_format.specs.declared.kinds.Kind.TheVariants as kinds
 use Rattle.tsp_format.specs.declared.kinds.WeightFormat.TheVariants.{Listed}

@@ -1,4 +1,5 @@
--- What the views of an instance say of it.
+-- What the views of an instance say of it. Of `View` and `EvenView` (src/view.rt), and of the structs in them. An `EvenView` has
+-- costs that are the same in both directions.
 use Rattle.std.specs.Prelude.{◌≡◌, ◌≢◌, ℕ, true, false, length, map, Some, ℤ}
 use Rattle.tsp_distance.specs.declared.decimal.Point.{Point}
 use Rattle.tsp_distance.specs.Distances.{on_plane}

@@ -1,4 +1,5 @@
--- Sums of costs along nodes, as a loop over parts of a list keeps them.
+-- Sums of costs along nodes, as a loop over parts of a list keeps them. For src/points.rt, which takes 32 nodes at a time: the 33
+-- below is `BLOCK` there, and one more.
 use Rattle.std.specs.Prelude.{◌≡◌, ℕ, ◌+◌, ◌*◌, ◌<◌, ◌≤◌, List, ◌∷◌, ◌++◌, length, slice_index_or, ℤ, pos, ◌+ℤ◌, ◌≤ℤ◌}
 use Rattle.tsp_distance.specs.declared.decimal.Point.{Point}
 use Rattle.tsp_theory.specs.Cycle.{links_to}

@@ -1,4 +1,5 @@
--- When a whole number is large enough to be a rounded root: what the search for it tests.
+-- When a whole number is large enough to be a rounded root: what the search for it tests. Of `Rounding` (src/root.rt). `TenthUp`
+-- is for ATT: the root of a tenth of the square, rounded up.
 use Rattle.std.specs.Prelude.{ℕ, ◌+◌, ◌-◌, ◌*◌, ◌^◌, ◌<◌, ◌≤◌}
 use Rattle.tsp_distance.specs.declared.root.Rounding.{Rounding}
 use Rattle.tsp_distance.specs.declared.root.Rounding.TheVariants.{Nearest, Up, TenthUp}

@@ -1,4 +1,4 @@
--- What a draft holds, as lists.
+-- What a draft holds, as lists. Of `Draft` (src/draft.rt) and `Coords` (src/coords.rt).
 use Rattle.std.specs.Prelude.{ℕ, List, map}
 use Rattle.std.specs.Option.{option_map}
 use Rattle.std.specs.Global.{Vec}

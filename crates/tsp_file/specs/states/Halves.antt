@@ -1,4 +1,4 @@
--- Where the lines of a layout are in a full matrix with symmetric costs.
+-- Where the lines of a layout are in a full matrix with symmetric costs. For src/halves.rt.
 use Rattle.std.specs.Prelude.{ℕ, ◌+◌, ◌-◌, ◌*◌}
 use Rattle.tsp_format.specs.declared.layout.Layout.{Layout}
 use Rattle.tsp_format.specs.declared.layout.Layout.TheVariants.{FullMatrix, UpperRow, LowerRow, UpperDiagRow, LowerDiagRow, UpperCol, LowerCol, UpperDiagCol, LowerDiagCol}

@@ -1,4 +1,5 @@
--- Which costs of a row are side by side among the weights of a layout. It is no part of the meaning.
+-- Which costs of a row are side by side among the weights of a layout. It is no part of the meaning. For the lemmas in
+-- proofs/Spread.antt.
 use Rattle.std.specs.Prelude.{ℕ, ◌+◌}
 use Rattle.tsp_format.specs.declared.layout.Layout.{Layout}
 use Rattle.tsp_format.specs.declared.layout.Layout.TheVariants.{FullMatrix, UpperRow, LowerRow, UpperDiagRow, LowerDiagRow, UpperCol, LowerCol, UpperDiagCol, LowerDiagCol}

@@ -1,4 +1,4 @@
--- How the weights of a file get into another layout.
+-- How the weights of a file get into another layout. Of `Way` (src/way.rt), for src/relayout.rt.
 use Rattle.std.specs.Prelude.{◌≡◌, ◌≢◌, Some}
 use Rattle.std.specs.List.{All}
 use Rattle.tsp_format.specs.declared.layout.Layout.{Layout}

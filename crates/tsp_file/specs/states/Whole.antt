@@ -1,4 +1,4 @@
--- What a full matrix holds while it is made of half of one. It is no part of the meaning.
+-- What a full matrix holds while it is made of half of one. It is no part of the meaning. For src/whole.rt.
 use Rattle.std.specs.Prelude.{◌≡◌, ℕ, ◌+◌, ◌-◌, ◌*◌, ◌<◌, ◌≤◌, Bool, true, false, nat_le, List, slice_index_or, ℤ, pos}
 use Rattle.tsp_format.specs.declared.layout.Layout.{Layout}
 use Rattle.tsp_format.specs.declared.layout.Layout.TheVariants.{FullMatrix, UpperRow, LowerRow, UpperDiagRow, LowerDiagRow, UpperCol, LowerCol, UpperDiagCol, LowerDiagCol}

@@ -1,4 +1,4 @@
--- Steps of a tree of cases as code has them.
+-- Steps of a tree of cases as code has them. Of `TreeStep` (src/steps.rt).
 use Rattle.std.specs.Prelude.{List, map}
 use Rattle.tsp_format.specs.declared.steps.TreeStep.{TreeStep}
 use Rattle.tsp_format.specs.declared.steps.TreeStep.TheVariants as listed

@@ -1,4 +1,4 @@
--- Number words at the beginning of some bytes.
+-- Number words at the beginning of some bytes. For src/front.rt.
 use Rattle.std.specs.Prelude.{ℕ, ◌≤◌, ◌+◌, ◌==◌, ◌||◌, ◌&&◌, cond, nat_le, nat_lt, min, List, [], ◌∷◌, length, take, drop, slice_index, Option, None, Some, ℤ}
 use Rattle.std.specs.Char.{is_ascii_digit}
 use Rattle.std.specs.List.{prefix_len}

@@ -1,4 +1,5 @@
--- What the code keeps of a number word, and what it makes of it.
+-- What the code keeps of a number word, and what it makes of it. Of `Written` (src/scan.rt): `size` is all digits of `whole` and
+-- `fraction` as one number.
 use Rattle.std.specs.Prelude.{◌≡◌, ◌≢◌, ℕ, ◌+◌, ◌*◌, ◌-◌, ◌^◌, ◌≤◌, min, List, ◌++◌, length, Option, Some, None, ℤ, pos, negsuc}
 use Rattle.std.specs.Str.Parse.{AllDigits}
 use Rattle.tsp_number.specs.declared.scan.Written.{Written}

@@ -1,4 +1,5 @@
--- A line or a word that has begun in one piece of a text, and ends in another.
+-- A line or a word that has begun in one piece of a text, and ends in another. Of `Begun` (src/begun.rt) beside an `Intake`
+-- (src/intake.rt).
 use Rattle.std.specs.Prelude.{◌≡◌, ℕ, ◌+◌, ◌≤◌, Bool, true, false, List, [], ◌∷◌, ◌++◌, length}
 use Rattle.tsp_read.specs.declared.intake.Intake.{Intake}
 use Rattle.tsp_read.specs.declared.token.Token.{Token}

@@ -1,4 +1,4 @@
--- What the reader returns at the end of the items (nearest first).
+-- What the reader returns at the end of the items (nearest first). For src/state/finish.rt.
 use Rattle.std.specs.Prelude.{◌≡◌, List, Option, None, Some, Result, Ok, Err}
 use Rattle.tsp_format.specs.declared.field.Field.{Field}
 use Rattle.tsp_draft.specs.declared.fault.EndFault.{EndFault}

@@ -1,4 +1,5 @@
--- What the state of the reader holds of the items so far (nearest first).
+-- What the state of the reader holds of the items so far (nearest first). Of `Reading` (src/state/reading.rt): `incomplete` is
+-- the first closed section that is incomplete, `opened` the section that is open.
 use Rattle.std.specs.Prelude.{◌≡◌, Bool, false, not, ◌&&◌, List, [], ◌∷◌, Option, None, Some, is_some, Result, Ok, Err, nat_lt}
 use Rattle.std.specs.List.{find}
 use Rattle.tsp_format.specs.declared.field.Field.{Field}

@@ -1,4 +1,4 @@
--- The first of the closed sections that is incomplete.
+-- The first of the closed sections that is incomplete. For the field `incomplete` of `Reading` (src/state/reading.rt).
 use Rattle.std.specs.Prelude.{Bool, false, ◌||◌, List, Option, None, Some}
 use Rattle.std.specs.List.{find}
 use Rattle.tsp_format.specs.declared.field.Field.{Field}

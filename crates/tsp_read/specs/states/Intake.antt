@@ -1,4 +1,5 @@
--- A text that is read while it comes: the state for the bytes so far, and the answer for them.
+-- A text that is read while it comes: the state for the bytes so far, and the answer for them. Of `Intake` (src/intake.rt):
+-- `words` counts those taken of the line, and `inside` says whether an item of it was taken.
 use Rattle.std.specs.Prelude.{◌≡◌, ℕ, Bool, true, false, List, ◌∷◌, reverse, Option, None, Some, Result, Ok, Err}
 use Rattle.tsp_text.specs.declared.fault.ReadFault.{ReadFault}
 use Rattle.tsp_text.specs.declared.fault.ReadFault.TheVariants as faults

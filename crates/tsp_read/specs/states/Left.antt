@@ -1,4 +1,5 @@
--- A text that is taken item by item: the items of what is left of it, and where its next line or word ends.
+-- A text that is taken item by item: the items of what is left of it, and where its next line or word ends. Of `Next`
+-- (src/cut.rt). `inside` says whether an item of the line was taken before.
 use Rattle.std.specs.Prelude.{ℕ, Bool, true, false, not, ◌||◌, nat_lt, List, [], ◌∷◌, ◌++◌, length, map, take, drop}
 use Rattle.std.specs.List.{position_or_len}
 use Rattle.tsp_format.specs.Bytes.{is_blank}

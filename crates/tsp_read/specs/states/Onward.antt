@@ -1,4 +1,5 @@
--- A text that goes on: the facts about its items that hold whatever bytes follow.
+-- A text that goes on: the facts about its items that hold whatever bytes follow. For src/cut.rt, src/item.rt, src/intake.rt and
+-- src/feed.rt.
 use Rattle.std.specs.Prelude.{◌≡◌, ℕ, Bool, true, false, nat_lt, List, ◌∷◌, ◌++◌, length, reverse}
 use Rattle.std.specs.List.{list_all}
 use Rattle.tsp_format.specs.Limits.{most_word_bytes, most_line_bytes}

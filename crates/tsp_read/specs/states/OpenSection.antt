@@ -1,4 +1,4 @@
--- What the section that is open holds.
+-- What the section that is open holds. Of `OpenSection` (src/state/reading.rt).
 use Rattle.std.specs.Prelude.{◌≡◌, ℕ, Bool, List, Some}
 use Rattle.tsp_format.specs.Shapes.{shape_of}
 use Rattle.tsp_section.specs.states.HeldParts.{shape_by, HoldsPart}

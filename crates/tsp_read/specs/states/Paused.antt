@@ -1,4 +1,4 @@
--- A text that goes on after a piece.
+-- A text that goes on after a piece. Of `Stage` (src/stage.rt), beside an `Intake` and a `Begun`, for src/feed.rt.
 use Rattle.std.specs.Prelude.{◌≡◌, ℕ, ◌+◌, ◌≤◌, Bool, true, false, List, [], length, Result, Ok, Err}
 use Rattle.tsp_format.specs.Limits.{most_file_bytes}
 use Rattle.tsp_text.specs.declared.fault.ReadFault.{ReadFault}

@@ -1,4 +1,5 @@
--- A run of words: the open section's part and the counts change, and nothing else does.
+-- A run of words: the open section's part and the counts change, and nothing else does. Of `Count` (src/count.rt) and `Part` of
+-- tsp_section, for src/run.rt.
 use Rattle.std.specs.Prelude.{ℕ, ◌+◌, ◌≤◌, ◌<◌, List, length, Option, None, Some}
 use Rattle.tsp_format.specs.declared.field.Field.{Field}
 use Rattle.tsp_draft.specs.declared.draft.Draft.{Draft}

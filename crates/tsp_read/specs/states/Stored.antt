@@ -1,4 +1,4 @@
--- The fields of a draft with that of one section.
+-- The fields of a draft with that of one section. For src/state/store.rt.
 use Rattle.std.specs.Prelude.{ℕ, Bool, List, Some}
 use Rattle.std.specs.Option.{option_map_or}
 use Rattle.tsp_format.specs.declared.field.Field.{Field}

@@ -1,4 +1,4 @@
--- What the reader holds once an item, or all items of a text, are taken.
+-- What the reader holds once an item, or all items of a text, are taken. Of `Reading` (src/state/reading.rt), for src/item.rt.
 use Rattle.std.specs.Prelude.{◌≡◌, Bool, List, ◌∷◌, reverse, Some, Result, Ok, Err}
 use Rattle.tsp_section.specs.declared.fault.StepFault.{StepFault}
 use Rattle.tsp_section.specs.declared.fault.StepFault.TheVariants as steps

@@ -1,4 +1,5 @@
--- A word line or a word of a number line: what begins it, where it ends, how long it may be, and the item that it is.
+-- A word line or a word of a number line: what begins it, where it ends, how long it may be, and the item that it is. Of `Token`
+-- (src/token.rt).
 use Rattle.std.specs.Prelude.{ℕ, Bool, not, ◌&&◌, cond, List}
 use Rattle.tsp_format.specs.Bytes.{is_letter}
 use Rattle.tsp_format.specs.Limits.{most_word_bytes, most_line_bytes}

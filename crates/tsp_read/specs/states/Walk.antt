@@ -1,4 +1,4 @@
--- What is said of items on the way through them.
+-- What is said of items on the way through them. For the lemmas in proofs/Walks.antt and others.
 use Rattle.std.specs.Prelude.{◌≡◌, false, List, ◌++◌, reverse}
 use Rattle.tsp_text.specs.Items.{Item, has_end_line}
 

@@ -1,4 +1,4 @@
--- The word at the beginning of a text.
+-- The word at the beginning of a text. Of `End` (src/run.rt).
 use Rattle.std.specs.Prelude.{◌≡◌, ◌<◌, ℕ, Bool, true, List, [], ◌∷◌, length, ◌⊎◌}
 use Rattle.tsp_format.specs.Bytes.{is_blank}
 use Rattle.tsp_text.specs.Lines.{ends_line, without_start}

@@ -1,4 +1,4 @@
--- The problem that loads are of, whatever the costs.
+-- The problem that loads are of, whatever the costs. Of `Demands` (src/demands.rt).
 use Rattle.std.specs.Prelude.{◌≡◌, ℕ, ◌≤◌, ◌==◌, if◌then◌else◌, length, ℤ, pos}
 use Rattle.std.specs.List.{All}
 use Rattle.tsp_format.specs.Nodes.{IsNode}

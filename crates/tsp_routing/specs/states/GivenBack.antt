@@ -1,4 +1,4 @@
--- What multipliers give back, as code sums it.
+-- What multipliers give back, as code sums it. For src/given_back.rt.
 use Rattle.std.specs.Prelude.{ℕ, ◌+◌, List, [], ◌∷◌, ℤ, pos, ◌+ℤ◌}
 use Rattle.tsp_families.specs.declared.family.Crossings.{Crossings}
 use Rattle.tsp_cases.specs.declared.decision.Decision.{Decision}

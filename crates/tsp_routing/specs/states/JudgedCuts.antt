@@ -1,4 +1,4 @@
--- The judgement on families as code finds it.
+-- The judgement on families as code finds it. Of `JudgedCuts` (src/cuts.rt).
 use Rattle.std.specs.Prelude.{◌≡◌, ℕ, ◌≤◌, List, Option, Some, None, ℤ}
 use Rattle.std.specs.List.{All}
 use Rattle.std.specs.Global.{Vec}

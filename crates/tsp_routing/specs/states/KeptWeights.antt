@@ -1,4 +1,4 @@
--- Rows of the weights of a leaf that are kept.
+-- Rows of the weights of a leaf that are kept. Of the rows of `KeptWeights` (src/kept_weights.rt).
 use Rattle.std.specs.Prelude.{◌≡◌, ℕ, ◌+◌, ◌<◌, ◌≤◌, List, length, slice_index_or, ℤ, pos, neg_ℤ}
 use Rattle.std.specs.Global.{Vec}
 use Rattle.tsp_format.specs.Nodes.{IsNode}

@@ -1,4 +1,5 @@
--- The weights of a leaf as code finds them: by sets, whose multipliers may have any sign.
+-- The weights of a leaf as code finds them: by sets, whose multipliers may have any sign. For `LeafWeights`
+-- (src/leaf_weights.rt).
 use Rattle.std.specs.Prelude.{ℕ, List, ℤ, pos, neg_ℤ}
 use Rattle.tsp_format.specs.Nodes.{IsNode}
 use Rattle.tsp_format.specs.Ranges.{IsFromTo}

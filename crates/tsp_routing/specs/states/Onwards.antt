@@ -1,4 +1,6 @@
--- What code knows of rows of a table by load: entries that are low, that walks have, and that aren't large.
+-- What code knows of rows of a table by load: entries that are low, that walks have, and that aren't large. Of `Onward`
+-- (src/onward.rt), the rest of a walk: `least` is its least weight, `next` its next node, `other` the least weight by another
+-- one.
 use Rattle.std.specs.Prelude.{◌≡◌, ◌⊎◌, ℕ, ◌+◌, ◌*◌, ◌<◌, List, length, slice_index_or, ℤ, pos, neg_ℤ, ◌+ℤ◌, ◌≤ℤ◌}
 use Rattle.std.specs.List.{All}
 use Rattle.std.specs.Global.{Vec}

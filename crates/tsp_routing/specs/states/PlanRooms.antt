@@ -1,4 +1,4 @@
--- The memory of leaves for routes, and what is found of them.
+-- The memory of leaves for routes, and what is found of them. Of `PlanRoom` (src/plan_judge.rt).
 use Rattle.std.specs.Prelude.{◌≡◌, ℕ, ◌+◌, ◌*◌, ◌≤◌, ◌<◌, Bool, true, List, length, Option, ℤ}
 use Rattle.tsp_format.specs.Steps.{Step}
 use Rattle.tsp_theory.specs.Routing.{RoutingProblem}

@@ -1,4 +1,4 @@
--- The steps of a certificate for routes as a file has them.
+-- The steps of a certificate for routes as a file has them. For src/plan_tree.rt.
 use Rattle.std.specs.Prelude.{ℕ, ◌<◌, ◌^◌, length}
 use Rattle.tsp_format.specs.Nodes.{IsNode}
 use Rattle.tsp_format.specs.Steps.{Step, Branch, Leaf}

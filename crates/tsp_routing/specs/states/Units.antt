@@ -1,4 +1,5 @@
--- What code knows of loads in units.
+-- What code knows of loads in units. Of `UnitLoads` (src/units.rt): `light` counts the customers that demand less than a unit,
+-- and `room` is the capacity of a route.
 use Rattle.std.specs.Prelude.{◌≡◌, ℕ, ◌+◌, length, ℤ}
 use Rattle.tsp_format.specs.Nodes.{IsNode}
 use Rattle.tsp_theory.specs.Routing.{RoutingProblem}

@@ -1,4 +1,4 @@
--- What a clause sees of a file that may be missing.
+-- What a clause sees of a file that may be missing. Of `InputFile` (src/input_file.rt).
 use Rattle.std.specs.Prelude.{◌≡◌, ℕ, ℤ, Bool, true, false, List, Option, None, Some, Result, Err}
 use Rattle.std.specs.IoError.{error_kind, raw_os_error}
 use Rattle.std.specs.declared.io.Error.{Error}

@@ -1,4 +1,5 @@
--- A word line that is cut into its parts, and the rows of its value alone.
+-- A word line that is cut into its parts, and the rows of its value alone. Of `CutLine` (src/line.rt). A row is a fault that the
+-- line may have; the first one that applies counts.
 use Rattle.std.specs.Prelude.{◌≡◌, ℕ, ℤ, Bool, true, false, not, List, [], ◌∷◌, Option, None, Some, is_none, is_some, unwrap_or, Result, Ok, Err, ◌≤ℤ◌, length, ◌++◌, nat_le}
 use Rattle.std.specs.Option.{option_map}
 use Rattle.std.specs.Result.{result_err}

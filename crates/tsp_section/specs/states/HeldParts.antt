@@ -1,4 +1,5 @@
--- What each section's part holds, by the part itself, and what it finishes with.
+-- What each section's part holds, by the part itself, and what it finishes with. Of `Part` (src/part.rt) and the structs in
+-- src/parts/.
 use Rattle.std.specs.Prelude.{◌≡◌, ℕ, ◌+◌, ◌≤◌, ℤ, Bool, cond, List, length, map}
 use Rattle.tsp_section.specs.declared.parts.numbers.NumberList.{NumberList}
 use Rattle.tsp_section.specs.declared.parts.points.PointList.{PointList}

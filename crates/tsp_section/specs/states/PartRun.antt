@@ -1,4 +1,4 @@
--- How the part of a section takes a word of a run.
+-- How the part of a section takes a word of a run. Of `Part` (src/part.rt), for src/run.rt.
 use Rattle.std.specs.Prelude.{ℕ, Bool, false, is_some, List, [], ◌∷◌, ◌++◌, Ok}
 use Rattle.tsp_section.specs.declared.part.Part.{Part}
 use Rattle.tsp_section.specs.declared.part.Part.TheVariants as parts

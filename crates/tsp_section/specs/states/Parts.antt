@@ -1,4 +1,5 @@
--- What the part of the reader that takes a section's words holds of them, section by section, and how it takes the next word.
+-- What the part of the reader that takes a section's words holds of them, section by section, and how it takes the next word. Of
+-- the fields of the structs in src/parts/, one by one: HeldParts.antt says it of each struct.
 use Rattle.std.specs.Prelude.{◌≡◌, ℕ, ◌+◌, ◌*◌, ◌<◌, ◌≤◌, ◌-◌, ℤ, pos, negsuc, Bool, true, false, not, List, [], ◌∷◌, ◌++◌, length, map, slice_index_or, Option, None, Some, is_some, unwrap_or, Result, Ok, Err}
 use Rattle.std.specs.Option.{option_map}
 use Rattle.std.specs.List.{filter, slice_split, list_any}

@@ -1,4 +1,4 @@
--- A reader whose answers are known beforehand.
+-- A reader whose answers are known beforehand. Of `Script` (src/script.rt).
 use Rattle.std.specs.Prelude.{◌≡◌, ◌⊎◌, ℕ, List, [], ◌∷◌, ◌++◌, Result, Ok}
 use Rattle.std.specs.declared.io.Error.{Error}
 use Rattle.tsp_stream.specs.declared.script.Script.{Script}

@@ -1,4 +1,4 @@
--- What a clause sees of a watched reader or writer.
+-- What a clause sees of a watched reader or writer. Of `Watched` (src/watched.rt).
 use Rattle.std.specs.Prelude.{◌≡◌, ℕ, ◌<◌, Bool, true, List, length, Option, Some, Result, Ok, Err, ◌&&◌, ◌==◌, nat_lt}
 use Rattle.std.specs.IoError.{error_kind}
 use Rattle.std.specs.declared.io.Error.{Error}

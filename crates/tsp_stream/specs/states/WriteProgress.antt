@@ -1,4 +1,4 @@
--- How far a text has come on its way to a writer.
+-- How far a text has come on its way to a writer. For src/piece.rt, and for all calls that write a text with its pieces.
 use Rattle.std.specs.Prelude.{◌≡◌, ℕ, Bool, false, List, ◌++◌, Option}
 use Rattle.std.specs.Io.KnownBytes.{Appends}
 use Rattle.arrayvec.specs.ArrayVec.{ArrayVec}

@@ -1,5 +1,5 @@
 -- What code knows of a growth: which nodes are inside, and of each node outside the nearest one inside and the weight between the
--- two.
+-- two. For src/growth.rt and src/row.rt of tsp_tree. By `least_at` other crates read any row of weights.
 use Rattle.std.specs.Prelude.{◌≡◌, ◌≢◌, ℕ, Bool, true, false, List, slice_index, slice_index_or, ◌⊎◌, ℤ, pos, ◌-ℤ◌, ◌≤ℤ◌, ◌<ℤ◌}
 use Rattle.std.specs.List.{All, Contains}
 use Rattle.tsp_theory.specs.Tree.{IsInner}

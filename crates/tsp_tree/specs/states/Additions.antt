@@ -1,4 +1,5 @@
--- What additions do to the numbers of a row.
+-- What additions do to the numbers of a row. For `lower` in src/weights.rt of tsp_bound. specs/states/Sets.antt of tsp_cases
+-- re-exports it.
 use Rattle.std.specs.Prelude.{◌≡◌, ℤ, pos, ◌+ℤ◌, ◌⊎◌}
 use Rattle.std.specs.Int.{w64, int_wrap}
 

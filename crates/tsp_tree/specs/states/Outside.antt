@@ -1,4 +1,5 @@
 -- A growth of which the nodes outside are listed, in any order, each with the nearest node inside and the weight between the two.
+-- For src/growth.rt.
 use Rattle.std.specs.Prelude.{◌≡◌, ℕ, ◌<◌, ◌+◌, List, length, slice_index, ℤ, ◌≤ℤ◌}
 use Rattle.tsp_theory.specs.Tree.{IsInner}
 use Rattle.tsp_theory.specs.states.Nearest.{least_at, IsNearer}

@@ -1,4 +1,4 @@
--- What a basis of tours says of the instance alone.
+-- What a basis of tours says of the instance alone. Of `Basis` of tsp_task, for src/comparison_basis.rt.
 use Rattle.std.specs.Prelude.{Option, None, Some, MatchOption}
 use Rattle.tsp_draft.specs.Fields.{Fields}
 use Rattle.tsp_task.specs.declared.basis.Basis.{Basis}

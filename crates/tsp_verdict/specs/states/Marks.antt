@@ -1,4 +1,5 @@
--- Marks of the nodes at the first places of a list.
+-- Marks of the nodes at the first places of a list. For src/first_places.rt and src/visits.rt. `seen` has the mark of each node
+-- at its index.
 use Rattle.std.specs.Prelude.{◌≡◌, ℕ, ◌+◌, ◌<◌, ◌≤◌, Bool, true, false, List, length, slice_index, slice_index_or}
 use Rattle.tsp_verdict.specs.Places.{node_at, IsAtEarlierPlace}
 

@@ -1,4 +1,4 @@
--- Tables of what comes next on a cycle.
+-- Tables of what comes next on a cycle. For src/fixed.rt.
 use Rattle.std.specs.Prelude.{◌≡◌, ℕ, ◌≤◌, List, slice_index}
 use Rattle.tsp_theory.specs.Cycle.{Follows}
 

@@ -1,4 +1,4 @@
--- Sets of pairs of nodes, in which a pair has its smaller node first.
+-- Sets of pairs of nodes, in which a pair has its smaller node first. For src/pairs.rt and src/multiplier_pairs.rt.
 use Rattle.std.specs.Prelude.{◌≡◌, ℕ, Bool, true, false, List, if◌then◌else◌, nat_le}
 use Rattle.std.specs.BTreeSet.{BTreeSet, contains}
 use Rattle.std.specs.List.{list_any}

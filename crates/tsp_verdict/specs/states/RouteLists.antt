@@ -1,4 +1,5 @@
--- Tours and routes as code has them.
+-- Tours and routes as code has them. For src/tour.rt, src/routes.rt and others. A node is a `u32`, and a tour or route a vector
+-- of them.
 use Rattle.std.specs.Prelude.{◌≡◌, ◌≢◌, ℕ, ◌≤◌, true, List, [], length, map}
 use Rattle.std.specs.Global.{Vec}
 use Rattle.std.specs.List.{All, flat_map}

@@ -1,4 +1,4 @@
--- Sums of costs.
+-- Sums of costs. For src/route_lengths.rt.
 use Rattle.std.specs.Prelude.{ℕ, ◌*◌, ℤ, pos, ◌+ℤ◌, ◌≤ℤ◌}
 use Rattle.tsp_format.specs.Limits.{most_weight}
 

@@ -1,5 +1,5 @@
 -- What the bound of a verdict is taken from, what an instance of tours was judged by, and the verdict on a tour by what is known
--- of all.
+-- of all. Of `BoundOrigin` and `TourBasis` (src/tour_basis.rt).
 use Rattle.std.specs.Prelude.{◌≡◌, ◌≤◌, Option, None, ℤ, IsTrue, option_map}
 use Rattle.tsp_draft.specs.Fields.{Fields, nodes_of}
 use Rattle.tsp_task.specs.declared.basis.Basis.{Basis}

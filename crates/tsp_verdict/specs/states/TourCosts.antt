@@ -1,4 +1,4 @@
--- What the costs of an instance are taken from while a tour is judged.
+-- What the costs of an instance are taken from while a tour is judged. Of `TourCosts` (src/tour.rt).
 use Rattle.std.specs.Prelude.{◌≡◌, Some}
 use Rattle.tsp_format.specs.declared.kinds.Kind.TheVariants as kinds
 use Rattle.tsp_draft.specs.Fields.{Fields}
