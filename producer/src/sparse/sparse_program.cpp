@@ -1,27 +1,14 @@
 #include "sparse/sparse_program.h"
 
 #include <algorithm>
-#include <coin/ClpEventHandler.hpp>
 #include <utility>
 
 #include "sparse/sparse_parameters.h"
+#include "tree/watch.h"
 
 namespace sparse {
 namespace {
 constexpr double kTiny = 1e-6;
-
-// Ends a solution where the time is over.
-class Watch : public ClpEventHandler {
- public:
-  explicit Watch(const certify::Clock& clock) : clock_(clock) {}
-  int event(Event event) override {
-    return event == endOfFactorization && clock_.over(kSparse.part_of_time) ? 5 : -1;
-  }
-  ClpEventHandler* clone() const override { return new Watch(*this); }
-
- private:
-  const certify::Clock& clock_;
-};
 }  // namespace
 
 SparseProgram::SparseProgram(const Problem& problem, const CutPool& pool, const Tour& tour,
@@ -47,7 +34,7 @@ void SparseProgram::begin() {
   program_.scaling(0);
   certify::SteepestEdge rule(edge_weights_);
   program_.setDualRowPivotAlgorithm(rule);
-  Watch watch(clock_);
+  certify::Watch watch(clock_, kSparse.part_of_time);
   program_.passInEventHandler(&watch);
   edge_weights_.rows.assign(nodes_, 0);
   program_.resize(nodes_, 0);

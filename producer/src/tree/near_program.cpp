@@ -9,6 +9,7 @@
 
 #include "cuts/subtours.h"
 #include "running/parameters.h"
+#include "tree/watch.h"
 
 namespace certify {
 namespace {
@@ -71,16 +72,20 @@ bool has_many_edges(const Graph& support, const NodeSet& set) {
 }  // namespace
 
 // The rows of edges that aren't at node 0, of those that are, and of the other nodes.
-NearProgram::NearProgram(const Problem& problem, const CutPool& pool, ExactBound& bound, const Clock& clock)
+NearProgram::NearProgram(const Problem& problem, const CutPool& pool, ExactBound& bound, const Clock& clock,
+                         double part_of_time)
     : weights_(problem.instance.weights),
       pool_(pool),
       bound_(bound),
       clock_(clock),
+      part_of_time_(part_of_time),
       penalty_(kLeaves.first_penalty) {
   const auto length = static_cast<double>(length_of(weights_, problem.start.tour));
   unit_ = static_cast<double>(bound_.scale()) * std::max(1.0, length / nodes() / 1000);
   program_.setLogLevel(0);
   program_.scaling(0);
+  Watch watch(clock_, part_of_time_);
+  program_.passInEventHandler(&watch);
   program_.resize(0, 0);
   std::vector<double> edges(first_row(), 2);
   edges[0] = nodes() - 2;
@@ -337,7 +342,7 @@ Numbers NearProgram::numbers(Weight grid) const {
 // Numbers under a penalty that reach the goal. Nothing where they don't.
 std::optional<Numbers> NearProgram::reach(double penalty, const NearLeaf& leaf) {
   set_penalty(penalty);
-  for (int round = 0; round < kLeaves.near_rounds && !clock_.over(); round++) {
+  for (int round = 0; round < kLeaves.near_rounds && !is_late(); round++) {
     if (!solve()) return std::nullopt;
     if (add_violated_sets() > 0) continue;
     Numbers near = numbers(leaf.grid);
@@ -352,6 +357,7 @@ std::optional<Numbers> NearProgram::reach(double penalty, const NearLeaf& leaf) 
 
 // The larger the penalty, the nearer the numbers.
 std::optional<Numbers> NearProgram::find(const NearLeaf& leaf) {
+  if (is_late()) return std::nullopt;
   drop_slack_sets();
   last_ = leaf.last;
   decide(leaf.decisions);
@@ -359,7 +365,7 @@ std::optional<Numbers> NearProgram::find(const NearLeaf& leaf) {
   set_costs();
   std::optional<Numbers> near = reach(penalty_, leaf);
   double above = kLeaves.most_penalty;  // one that isn't reached, or isn't tried
-  while (!near && penalty_ > kLeaves.least_penalty && !clock_.over()) {
+  while (!near && penalty_ > kLeaves.least_penalty && !is_late()) {
     above = penalty_;
     penalty_ /= kLeaves.penalty_step;
     near = reach(penalty_, leaf);

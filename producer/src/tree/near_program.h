@@ -20,7 +20,9 @@ struct NearLeaf {
 
 class NearProgram {
  public:
-  NearProgram(const Problem& problem, const CutPool& pool, ExactBound& bound, const Clock& clock);
+  // It takes time until this part of the clock's is over.
+  NearProgram(const Problem& problem, const CutPool& pool, ExactBound& bound, const Clock& clock,
+              double part_of_time);
   // Numbers near the last ones that reach the goal, or nothing where none were found.
   std::optional<Numbers> find(const NearLeaf& leaf);
 
@@ -46,6 +48,7 @@ class NearProgram {
   void set_costs();
   void decide(const std::vector<Decision>& decisions);
   void set_penalty(double penalty);
+  bool is_late() const { return clock_.over(part_of_time_); }
   bool solve();
   std::vector<double> reduced_costs() const;
   Graph support() const;
@@ -58,6 +61,7 @@ class NearProgram {
   const CutPool& pool_;
   ExactBound& bound_;
   const Clock& clock_;
+  double part_of_time_;
   double unit_;  // of the program's costs
   ClpSimplex program_;
   std::vector<Row> rows_;

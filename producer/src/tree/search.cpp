@@ -313,14 +313,15 @@ void Search::grow_tree() {
               [this](Job& job) { take(job); });
 }
 
-// The numbers of a leaf that is done, near those of the leaf before.
+// The numbers of a leaf that is done, near those of the leaf before. Linear programs take half of the time
+// that is left at most, since other leaves need some too.
 Numbers Search::near_last(const Tree::Place& leaf, const std::vector<Decision>& decisions) {
   const Numbers& last = made_.last();
   if (last.potentials.empty()) return leaf.numbers;
   if (bound_->reaches(last, decisions, aim())) return last;
   Numbers near = made_.near_last(leaf.numbers, decisions, goal_.target);
   if (problem_.instance.directed || problem_.instance.nodes() > kLeaves.most_near_nodes) return near;
-  if (!near_) near_.emplace(problem_, pool_, *bound_, clock_);
+  if (!near_) near_.emplace(problem_, pool_, *bound_, clock_, (1 + clock_.used()) / 2);
   const std::optional<Numbers> found = near_->find({last, leaf.numbers, decisions, aim(), grid_.value_or(1)});
   if (!found) return near;
   Numbers nearer = made_.near_last(*found, decisions, goal_.target);

@@ -102,7 +102,7 @@ TEST_CASE("numbers are near those of the leaf before") {
     REQUIRE(most > before);
     const Value goal = before + (most - before) * 4 / 5;
     const Clock clock(0);
-    NearProgram program(problem, pool, bound, clock);
+    NearProgram program(problem, pool, bound, clock, 1);
     const auto near = program.find({last, own, decisions, goal, 2});
     REQUIRE(near);
     CHECK(bound.value(*near, decisions) >= goal);
