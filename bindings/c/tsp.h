@@ -11,7 +11,8 @@
  * and point to as many elements as the length says. What a call writes to (out, written, count, result,
  * handle) overlaps nothing else that the call is given. No call is made from a signal handler, or in the
  * child of a fork of a process with threads. malloc, realloc and free come from one allocator, and give
- * blocks that are aligned to 16 bytes. The processor is an x86-64-v2 (SSE4.2 and popcnt, as since 2009).
+ * blocks that are aligned to 16 bytes. On x86-64 the processor is an x86-64-v2 (SSE4.2 and popcnt, as since
+ * 2009).
  *
  * What a call does. It keeps no pointer and has no state but that of a handle, so calls may run side by
  * side. It takes memory by malloc and frees it all before it returns, but for what a handle holds. It never
@@ -26,6 +27,9 @@
 #ifndef TSP_H
 #define TSP_H
 
+/* For whoever changes this file: tests/repository/reasons --write makes the lists of reasons and of faults, of
+ * bindings/reasons.tsv. All else is written by hand. */
+
 #include <stdbool.h>
 #include <stddef.h>
 #include <stdint.h>
@@ -34,7 +38,7 @@
 extern "C" {
 #endif
 
-/* Statuses. */
+/* Statuses. 5 is a status of the program alone, for a device that fails; no call here returns it. */
 enum {
     TSP_YES = 0,           /* a yes, or done */
     TSP_NO = 1,            /* a no: the text is the report with its reason, or says why a layout can't be had */

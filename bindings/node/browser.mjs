@@ -1,4 +1,6 @@
 // The package for a browser and for bundlers: texts alone, without files. The module is compiled when this is loaded.
+// It exports the names of index.mjs, and imports nothing of Node. bindings/node/build writes module.mjs beside it: the
+// library as WebAssembly, in base64.
 
 import { system } from "../javascript/sources.mjs";
 import { check } from "../javascript/yokecairn.mjs";

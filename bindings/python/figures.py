@@ -1,9 +1,8 @@
 #!/usr/bin/env python3
 """Prints how long the calls take: YOKECAIRN_LIBRARY=PATH python3 figures.py
 
-It is run by hand, where the speed of the package is in question; no suite of ./check does. The instances are made up. Each
-figure is the best of three runs, in seconds of the clock and of the
-processors.
+It is run by hand, where the speed of the package is in question; no suite of ./check does. Its figures are on no page. The
+instances are made up. Each figure is the best of three runs, in seconds of the clock and of the processors.
 """
 
 import random

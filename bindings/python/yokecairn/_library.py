@@ -18,7 +18,7 @@ from ctypes import POINTER, byref, c_bool, c_char_p, c_int64, c_size_t, c_uint32
 from pathlib import Path
 from typing import Any, Optional, Sequence, Tuple
 
-# What a call returns.
+# What a call returns, as in bindings/c/tsp.h. DEVICE, 5, is a status of the program alone.
 DONE, NO, FAULT, OUT_OF_MEMORY, REFUSED, DEVICE, TOO_SMALL = range(7)
 
 # How a check gets its bound.
