@@ -64,12 +64,12 @@ def compile_parts(text: bytes, crates: list[str], words: list[str], scratch: Pat
 EXPORT = re.compile(r'^#\[unsafe\(no_mangle\)\]\npub extern "C" fn (\w+)\(([^)]*)\)', re.M)
 # What the calls of an export are given. (The program is lowered and never run.)
 GIVEN = {"Global": "rt.alloc()", "&[u8]": 'b""', "&[u32]": "&[]", "&mut [u8]": "&mut []", "&mut [i64]": "&mut []",
-         "&mut Handle": "&mut handle", "&mut Told": "&mut told", "&mut usize": "&mut written", "&mut u32": "&mut count",
+         "&mut Handle": "&mut handle", "&mut CallResult": "&mut call_result", "&mut usize": "&mut written", "&mut u32": "&mut count",
          "u32": "0", "i64": "0"}
 CALLS = """
 fn main(rt: HostRuntime) -> std::process::ExitCode {{
     let mut handle = Handle::closed(rt.alloc());
-    let mut told = Told::blank();
+    let mut call_result = CallResult::blank();
     let mut written = 0usize;
     let mut count = 0u32;
 {}    handle.end();

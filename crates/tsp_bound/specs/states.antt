@@ -8,4 +8,4 @@ pub mod Multipliers
 pub mod NodeNumbers
 pub mod Numbering
 pub mod Potentials
-pub mod Spots
+pub mod NumberedSites

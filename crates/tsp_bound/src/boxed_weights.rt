@@ -7,9 +7,9 @@ ghost use Rattle.tsp_format.specs.Nodes.{IsNode};
 ghost use Rattle.tsp_theory.specs.Regions.{IsIn, IsSite};
 ghost use Rattle.tsp_theory.specs.CertificateNumbers.{IsFromTo, IsScale, most_number};
 ghost use Rattle.tsp_bound.specs.states.NodeNumbers.{node_in};
-ghost use Rattle.tsp_bound.specs.states.Spots.{IsSpot};
+ghost use Rattle.tsp_bound.specs.states.NumberedSites.{IsNumberedSite};
 
-use crate::spot::Spot;
+use crate::numbered_site::NumberedSite;
 use std::alloc::Global;
 use tsp_memory::Refused;
 use tsp_theory::{Region, Site};
@@ -77,9 +77,9 @@ pub trait BoxedWeights: Weights {
 
     /// The weight between two nodes before it is lowered, where that is less than `most`; else a
     /// number that isn't less.
-    fn weight_within(&self, from: &Spot, to: &Spot, most: i64) -> i64
-        requires from { IsSpot (Self.nodes self.now) (place_of self.now) (number_of self.now) from.now }
-        requires to { IsSpot (Self.nodes self.now) (place_of self.now) (number_of self.now) to.now }
+    fn weight_within(&self, from: &NumberedSite, to: &NumberedSite, most: i64) -> i64
+        requires from { IsNumberedSite (Self.nodes self.now) (place_of self.now) (number_of self.now) from.now }
+        requires to { IsNumberedSite (Self.nodes self.now) (place_of self.now) (number_of self.now) to.now }
         ensures less { result <ℤ most → result ≡ unlowered self.now from.now.site.node to.now.site.node }
         ensures no_less { most ≤ℤ result
             → most ≤ℤ unlowered self.now from.now.site.node to.now.site.node };

@@ -4,12 +4,12 @@ ghost use Rattle.std.specs.Prelude.{◌≡◌, ◌⊎◌, ◌≤◌, ◌<◌, �
 ghost use Rattle.tsp_distance.specs.declared.decimal.Point.{Point};
 ghost use Rattle.tsp_theory.specs.CertificateNumbers.{IsFromTo, most_number};
 ghost use Rattle.tsp_bound.specs.states.Boxes.{HoldsNode, AreHeld, IsRefit, area_at};
-ghost use Rattle.tsp_bound.specs.states.Spots.{IsSpot, AreSpots};
+ghost use Rattle.tsp_bound.specs.states.NumberedSites.{IsNumberedSite, AreNumberedSites};
 
 use crate::area::Area;
 use crate::boxed_weights::BoxedWeights;
+use crate::numbered_site::NumberedSite;
 use crate::placed::Placed;
-use crate::spot::Spot;
 use std::alloc::Global;
 use tsp_memory::{Refused, filled};
 use tsp_theory::Region;
@@ -58,14 +58,14 @@ fn refit(areas: &mut Vec<Option<Area>>, count: usize, v: usize)
 }
 
 /// The box of a node alone.
-fn area_of(spot: Spot) -> Area
-    requires { IsFromTo (neg_ℤ (pos most_number)) (pos most_number) spot.number }
-    ensures { (nodes : ℕ) (place : ℕ → Point) (number : ℕ → ℤ) → IsSpot nodes place number spot
-        → HoldsNode place number (Some result) spot.site.node }
+fn area_of(numbered: NumberedSite) -> Area
+    requires { IsFromTo (neg_ℤ (pos most_number)) (pos most_number) numbered.number }
+    ensures { (nodes : ℕ) (place : ℕ → Point) (number : ℕ → ℤ) → IsNumberedSite nodes place number numbered
+        → HoldsNode place number (Some result) numbered.site.node }
 {
     Area {
-        region: Region::of(spot.site.place),
-        least: spot.number,
+        region: Region::of(numbered.site.place),
+        least: numbered.number,
     }
 }
 
@@ -77,11 +77,11 @@ fn area_of(spot: Spot) -> Area
 pub(crate) fn boxes_of<W: BoxedWeights>(
     alloc: Global,
     placed: &Placed<W>,
-    spots: &[Spot],
+    sites: &[NumberedSite],
 ) -> Result<Vec<Option<Area>>, Refused>
-    requires as_many { length spots.now ≡ length placed.now.order.now }
-    requires spots { AreSpots (W.nodes placed.now.w.now) (W.place_of placed.now.w.now)
-        (W.number_of placed.now.w.now) placed.now.order.now spots.now }
+    requires as_many { length sites.now ≡ length placed.now.order.now }
+    requires sites { AreNumberedSites (W.nodes placed.now.w.now) (W.place_of placed.now.w.now)
+        (W.number_of placed.now.w.now) placed.now.order.now sites.now }
     ensures len { IfOk result (λ areas. length areas.items ≡ 2 * length placed.now.order.now) }
     ensures held { IfOk result (λ areas. (outside : ℕ → Bool)
         → AreHeld (HoldsNode (W.place_of placed.now.w.now) (W.number_of placed.now.w.now))
@@ -90,7 +90,7 @@ pub(crate) fn boxes_of<W: BoxedWeights>(
     let count = placed.order.len();
     let mut areas: Vec<Option<Area>> = filled(alloc, None, 2 * count)?;
     'leaves: for place in 0..count {
-        areas[count + place] = Some(area_of(spots[place]));
+        areas[count + place] = Some(area_of(sites[place]));
     }
     let mut v = count;
     'halves: while v > 1 {

@@ -4,17 +4,17 @@
 ghost use Rattle.std.specs.Prelude.{◌≡◌, ◌<◌, ◌*◌, ℕ, true, length, IfOk};
 ghost use Rattle.tsp_bound.specs.states.Boxes.{HoldsNode, AreHeld, AreHeld-prop, area_at, node_of};
 ghost use Rattle.tsp_bound.specs.states.Components.{AreTags, is_in_other_component, label_at, seen_area};
-ghost use Rattle.tsp_bound.specs.states.Spots.{AreSpots};
+ghost use Rattle.tsp_bound.specs.states.NumberedSites.{AreNumberedSites};
 
 use crate::area::Area;
 use crate::boxed_weights::BoxedWeights;
 use crate::boxes::boxes_of;
 use crate::components::Components;
 use crate::link::Link;
+use crate::numbered_site::NumberedSite;
+use crate::numbered_sites::numbered_sites_of;
 use crate::placed::Placed;
 use crate::seen::Seen;
-use crate::spot::Spot;
-use crate::spots::spots_of;
 use crate::tags::tag_boxes;
 use std::alloc::Global;
 use tsp_memory::{Refused, filled, push, with_capacity};
@@ -23,13 +23,13 @@ use tsp_memory::{Refused, filled, push, with_capacity};
 #[derive(Drop)]
 pub(crate) struct Labelled<'a, W: BoxedWeights> {
     placed: Placed<'a, W>,
-    spots: Vec<Spot>,
+    sites: Vec<NumberedSite>,
     labels: Vec<u32>,
     tags: Vec<u32>,
     areas: Vec<Option<Area>>,
-    ghost as_many_spots: { length spots.items ≡ length placed.order.now },
-    ghost spots_are: { AreSpots (W.nodes placed.w.now) (W.place_of placed.w.now) (W.number_of placed.w.now)
-        placed.order.now spots.items },
+    ghost as_many_sites: { length sites.items ≡ length placed.order.now },
+    ghost sites_are: { AreNumberedSites (W.nodes placed.w.now) (W.place_of placed.w.now) (W.number_of placed.w.now)
+        placed.order.now sites.items },
     ghost as_many: { length labels.items ≡ length placed.order.now },
     ghost low: { (x : ℕ) → x < length placed.order.now → label_at labels.items x < length placed.order.now },
     ghost as_many_tags: { length tags.items ≡ 2 * length placed.order.now },
@@ -83,17 +83,17 @@ impl<'a, W: BoxedWeights> Labelled<'a, W> {
         ensures own { IfOk result (λ made. IfSome made (λ labelled. (x : ℕ) → x < length placed.entry.order.now
             → label_at labelled.labels.items x ≡ x)) }
     {
-        let Some(spots) = spots_of(alloc, &placed)? else {
+        let Some(sites) = numbered_sites_of(alloc, &placed)? else {
             return Ok(None);
         };
-        let areas = boxes_of(alloc, &placed, &spots)?;
+        let areas = boxes_of(alloc, &placed, &sites)?;
         let count = placed.order.len();
         let labels = own_labels(alloc, count as u32)?;
         let mut tags = filled(alloc, 0, 2 * count)?;
         tag_boxes(&labels, &mut tags);
         Ok(Some(Labelled {
             placed,
-            spots,
+            sites,
             labels,
             tags,
             areas,
@@ -159,7 +159,7 @@ impl<W: BoxedWeights> Components for Labelled<'_, W> {
             areas: &self.areas,
             own: self.labels[from as usize],
         };
-        self.placed.nearest(&self.spots, &apart, from, near, steps)
+        self.placed.nearest(&self.sites, &apart, from, near, steps)
     }
 
     fn relabel(&mut self, labels: &[u32]) {

@@ -9,14 +9,14 @@ ghost use Rattle.tsp_format.specs.Nodes.{IsNode};
 ghost use Rattle.tsp_theory.specs.Tree.{IsInner};
 ghost use Rattle.tsp_bound.specs.states.Boxes.{node_of};
 ghost use Rattle.tsp_bound.specs.states.Numbering.{IsNumbering};
-ghost use Rattle.tsp_bound.specs.states.Spots.{AreSpots};
+ghost use Rattle.tsp_bound.specs.states.NumberedSites.{AreNumberedSites};
 
 use crate::boxed_weights::BoxedWeights;
 use crate::link::Link;
 use crate::nearest::{Best, nearest_from};
+use crate::numbered_site::NumberedSite;
 use crate::search::{Search, inverse_of};
 use crate::seen::Seen;
-use crate::spot::Spot;
 
 /// An order of the nodes 2..n, the place of each in it, and what gives the weights between them.
 #[derive(Drop)]
@@ -51,10 +51,10 @@ impl<'a, W: BoxedWeights> Placed<'a, W> {
     }
 
     /// The least link from a node to one outside, by places, or none. It adds to `steps` what the
-    /// search took, which begins at the place `near`. The spots are those of the order.
+    /// search took, which begins at the place `near`. The numbered sites are those of the order.
     pub(crate) fn nearest<S: Seen>(
         &self,
-        spots: &[Spot],
+        sites: &[NumberedSite],
         seen: &S,
         from: u32,
         near: u32,
@@ -62,9 +62,9 @@ impl<'a, W: BoxedWeights> Placed<'a, W> {
     ) -> Option<Link>
         requires from { from < length self.now.order.now }
         requires near { near < length self.now.order.now }
-        requires as_many_spots { length spots.now ≡ length self.now.order.now }
-        requires spots { AreSpots (W.nodes self.now.w.now) (W.place_of self.now.w.now)
-            (W.number_of self.now.w.now) self.now.order.now spots.now }
+        requires as_many_sites { length sites.now ≡ length self.now.order.now }
+        requires sites { AreNumberedSites (W.nodes self.now.w.now) (W.place_of self.now.w.now)
+            (W.number_of self.now.w.now) self.now.order.now sites.now }
         requires as_many { S.count_of seen.now ≡ length self.now.order.now }
         requires held { AreHeld (HoldsNode (W.place_of self.now.w.now) (W.number_of self.now.w.now))
             self.now.order.now (S.outside_of seen.now) (S.area_of seen.now) }
@@ -76,9 +76,9 @@ impl<'a, W: BoxedWeights> Placed<'a, W> {
         let search = Search {
             w: self.w,
             order: self.order,
-            spots,
+            sites,
             seen,
-            from: spots[from as usize],
+            from: sites[from as usize],
             inverse: inverse_of(self.w.scale()),
         };
         let unlowered = nearest_from(&search, from as usize, near as usize, steps);

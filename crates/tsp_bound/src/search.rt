@@ -6,12 +6,12 @@ ghost use Rattle.tsp_format.specs.Nodes.{IsNode};
 ghost use Rattle.tsp_theory.specs.CertificateNumbers.{IsScale};
 ghost use Rattle.tsp_bound.specs.states.Potentials.{IsInverse};
 ghost use Rattle.tsp_bound.specs.states.Boxes.{HoldsNode, AreHeld, AreHeld-prop, IsBelowAll, IsSearched, node_of};
-ghost use Rattle.tsp_bound.specs.states.Spots.{IsSpot, AreSpots};
+ghost use Rattle.tsp_bound.specs.states.NumberedSites.{IsNumberedSite, AreNumberedSites};
 
 use crate::boxed_weights::BoxedWeights;
 use crate::nearest::Best;
+use crate::numbered_site::NumberedSite;
 use crate::seen::Seen;
-use crate::spot::Spot;
 
 const TWO_TO_64: u128 = 18_446_744_073_709_551_616;
 
@@ -49,18 +49,18 @@ fn cost_of(scale: i64, inverse: u64, weight: i64) -> i64
 pub(crate) struct Search<'a, W: BoxedWeights, S: Seen> {
     pub(crate) w: &'a W,
     pub(crate) order: &'a [u32],
-    pub(crate) spots: &'a [Spot],
+    pub(crate) sites: &'a [NumberedSite],
     pub(crate) seen: &'a S,
-    pub(crate) from: Spot,
+    pub(crate) from: NumberedSite,
     pub(crate) inverse: u64,
     ghost nodes: { (j : ℕ) → j < length order.now → IsNode (W.nodes w.now) (node_of order.now j) },
     ghost few: { length order.now < 2 ^ 31 },
     ghost as_many: { S.count_of seen.now ≡ length order.now },
-    ghost as_many_spots: { length spots.now ≡ length order.now },
-    ghost spots_are: { AreSpots (W.nodes w.now) (W.place_of w.now) (W.number_of w.now) order.now spots.now },
+    ghost as_many_sites: { length sites.now ≡ length order.now },
+    ghost sites_are: { AreNumberedSites (W.nodes w.now) (W.place_of w.now) (W.number_of w.now) order.now sites.now },
     ghost held: { AreHeld (HoldsNode (W.place_of w.now) (W.number_of w.now)) order.now (S.outside_of seen.now)
         (S.area_of seen.now) } by { AreHeld-prop (W.place_of w.now) (W.number_of w.now) order.now (S.outside_of seen.now) (S.area_of seen.now) },
-    ghost own: { IsSpot (W.nodes w.now) (W.place_of w.now) (W.number_of w.now) from },
+    ghost own: { IsNumberedSite (W.nodes w.now) (W.place_of w.now) (W.number_of w.now) from },
     ghost scaled: { IsScale (W.scale_of w.now) },
     ghost inverse_is: { IsInverse (W.scale_of w.now) inverse },
 }
@@ -101,7 +101,7 @@ impl<W: BoxedWeights, S: Seen> Search<'_, W, S> {
         }
         let weight = self
             .w
-            .weight_within(&self.from, &self.spots[place], best.weight);
+            .weight_within(&self.from, &self.sites[place], best.weight);
         if weight < best.weight {
             Best { weight, place }
         } else {

@@ -14,9 +14,9 @@ ghost use Rattle.tsp_bound.specs.states.Potentials.{numbers_of, weight_under};
 
 use crate::boxed_weights::BoxedWeights;
 use crate::by_node::ByNode;
+use crate::numbered_site::NumberedSite;
 use crate::potentials::Potentials;
 use crate::scaled::scaled;
-use crate::spot::Spot;
 use std::alloc::Global;
 use tsp_memory::Refused;
 use tsp_theory::{Costs, Region, Site};
@@ -155,7 +155,7 @@ impl<C: Costs> BoxedWeights for Weights<'_, C> {
     }
 
     #[inline]
-    fn weight_within(&self, from: &Spot, to: &Spot, most: i64) -> i64 {
+    fn weight_within(&self, from: &NumberedSite, to: &NumberedSite, most: i64) -> i64 {
         let cost = scaled(self.p.scale, self.c.cost_between(&from.site, &to.site));
         let both = from.number + to.number;
         cost + both

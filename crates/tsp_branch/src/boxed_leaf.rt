@@ -20,7 +20,7 @@ use crate::decided::change_between;
 use crate::leaf::leaf_bound;
 use crate::leaf_sum::LeafSum;
 use std::alloc::Global;
-use tsp_bound::{BoxedWeights, Spot, grow};
+use tsp_bound::{BoxedWeights, NumberedSite, grow};
 use tsp_cases::{Multipliers, sum_left};
 use tsp_memory::Refused;
 use tsp_theory::{Costs, Region, Site};
@@ -184,7 +184,7 @@ impl<C: Costs> BoxedWeights for BoxedLeaf<'_, C> {
         self.leaf.setting.costs.is_beyond(from, region, least)
     }
 
-    fn weight_within(&self, from: &Spot, to: &Spot, most: i64) -> i64 {
+    fn weight_within(&self, from: &NumberedSite, to: &NumberedSite, most: i64) -> i64 {
         let cost = self.leaf.setting.costs.cost_between(&from.site, &to.site);
         let (from, to) = (from.site.node, to.site.node);
         let base = self.base(cost, from, to);

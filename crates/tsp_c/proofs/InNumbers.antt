@@ -18,12 +18,12 @@ use Rattle.tsp_judge.specs.declared.bound.Bounded.{Bounded}
 use Rattle.tsp_judge.specs.declared.judging.Judged.{Judged}
 use Rattle.tsp_judge.specs.declared.fault.RunFault.{RunFault}
 use Rattle.tsp_judge.specs.Status.{status_of_fault}
-use Rattle.tsp_judge.specs.CheckRun.{Given, given_by, EndsWithout, IsRun, told}
+use Rattle.tsp_judge.specs.CheckRun.{Given, given_by, EndsWithout, IsRun, call_result}
 use Rattle.tsp_judge.specs.BoundRun.{EndsUnbounded, IsBoundRun}
-use Rattle.tsp_c.specs.declared.told.Told.{Told}
+use Rattle.tsp_c.specs.declared.call_result.CallResult.{CallResult}
 use Rattle.tsp_c.specs.Ended.{without_devices, bound_answer, EndsOnTexts}
 use Rattle.tsp_c.specs.Texts.{with_certificate}
-use Rattle.tsp_c.specs.Told.{IsSizedBound, blank_told, told_of_run, told_of_bound_run, TellsTexts, TellsBound}
+use Rattle.tsp_c.specs.CallResult.{IsSizedBound, blank_result, result_of_run, result_of_bound_run, TellsTexts, TellsBound}
 use Rattle.tsp_c.proofs.StatusMeanings.{fault_status}
 use Rattle.tsp_c.proofs.OnHandles.{not_two}
 use Rattle.tsp_c.proofs.OnTexts.{Reads2, Reads3, are_spelled, unchecked, no_relayout, unbounded, not_relaid, spelled}
@@ -97,9 +97,9 @@ fault_is fault written status text (inr e) two = let three : status ≡ 3 = e.0 
 
 -- plan: by the end of the run: a verdict, over the files of the texts (`are_spelled`); or a fault, by its status (`unchecked`)
 pub tells_texts : (by : Option Certificate) (claimed : Option ℤ) (strict : Bool) (first second third : Turn) (sink : Sink) (ended : Result Judged RunFault)
-    (one two three written : List ℕ) (status : ℕ) (text : List ℕ) (made numbers : Told) → Reads3 first second third one two three
-    → IsRun (given_by by third) claimed strict first second sink ended → made ≡ told_of_run ended
-    → (status ≢ 3 → numbers ≡ made) → (status ≡ 3 → numbers ≡ blank_told) → EndsOnTexts (told ended) written status text → TellsTexts (with_certificate by three) claimed strict one two status numbers
+    (one two three written : List ℕ) (status : ℕ) (text : List ℕ) (made numbers : CallResult) → Reads3 first second third one two three
+    → IsRun (given_by by third) claimed strict first second sink ended → made ≡ result_of_run ended
+    → (status ≢ 3 → numbers ≡ made) → (status ≡ 3 → numbers ≡ blank_result) → EndsOnTexts (call_result ended) written status text → TellsTexts (with_certificate by three) claimed strict one two status numbers
 tells_texts by claimed strict first second third sink (Ok judged) one two three written status text made numbers reads run is kept none e = record {
   judged = λ low. record {
     instance = judged.instance;
@@ -126,9 +126,9 @@ tells_texts by claimed strict first second third sink (Err fault) one two three 
 
 -- plan: by the end of the run: a bound, over the files of the texts (`spelled`); or a fault, by its status (`unbounded`)
 pub tells_bound : (by : Certificate) (strict : Bool) (first second : Turn) (sink : Sink) (ended : Result Bounded RunFault)
-    (one two written : List ℕ) (status : ℕ) (text : List ℕ) (made numbers : Told) → Reads2 first second one two
-    → IsBoundRun by strict first second sink ended → made ≡ told_of_bound_run ended
-    → (status ≢ 3 → numbers ≡ made) → (status ≡ 3 → numbers ≡ blank_told) → EndsOnTexts (bound_answer ended) written status text → TellsBound by strict one two status numbers
+    (one two written : List ℕ) (status : ℕ) (text : List ℕ) (made numbers : CallResult) → Reads2 first second one two
+    → IsBoundRun by strict first second sink ended → made ≡ result_of_bound_run ended
+    → (status ≢ 3 → numbers ≡ made) → (status ≡ 3 → numbers ≡ blank_result) → EndsOnTexts (bound_answer ended) written status text → TellsBound by strict one two status numbers
 tells_bound by strict first second sink (Ok bounded) one two written status text made numbers reads run is kept none e = record {
   bounded = λ low. record {
     instance = bounded.instance;

@@ -18,11 +18,11 @@ use Rattle.tsp_judge.specs.declared.fault.RunFault.TheVariants.{File, WrongKind,
 use Rattle.tsp_judge.specs.Status.{status_of, status_of_fault}
 use Rattle.tsp_judge.specs.Accepted.{IsAccepted}
 use Rattle.tsp_judge.specs.Open.{Open, IsHeldVerdict, IsNotJudged}
-use Rattle.tsp_c.specs.declared.told.Told.{Told}
+use Rattle.tsp_c.specs.declared.call_result.CallResult.{CallResult}
 use Rattle.tsp_c.specs.Ended.{without_devices, EndsOnTexts, Reports}
 use Rattle.tsp_c.specs.Opened.{IsOpenOn, IsHeldAsked, ChecksAsTexts, TellsJudged}
 use Rattle.tsp_c.specs.Texts.{GivenText, AreSpelled, IsAcceptedText, StopsCheck, ChecksTexts}
-use Rattle.tsp_c.specs.Told.{blank_told, told_of_verdict, told_of_fault}
+use Rattle.tsp_c.specs.CallResult.{blank_result, result_of_verdict, result_of_fault}
 use Rattle.tsp_c.proofs.StatusMeanings.{yes_ends, no_ends, fault_ends, fault_status}
 use Rattle.tsp_c.proofs.OnTexts.{Collects, printed_is}
 
@@ -93,11 +93,11 @@ status_of_it opened two fault written status text ends (inl e) two_is = e.0 ∙ 
 status_of_it opened two fault written status text ends (inr e) two_is =
     let three : status ≡ 3 = e.0 in absurd (omega (arith, three, two_is))
 
-pub fault_told : (opened : Open) (claimed : Option ℤ) (strict : Bool) (two : List ℕ) (fault : RunFault) (written : List ℕ) (status : ℕ)
-    (text : List ℕ) (made told : Told) → IsNotJudged two opened fault → made ≡ told_of_fault fault
-    → (status ≢ 3 → told ≡ made) → (status ≡ 3 → told ≡ blank_told) → EndsOnTexts (Err fault) written status text
-    → TellsJudged opened claimed strict two status told
-fault_told opened claimed strict two fault written status text made told ends is kept none e = record {
+pub fault_in_numbers : (opened : Open) (claimed : Option ℤ) (strict : Bool) (two : List ℕ) (fault : RunFault) (written : List ℕ) (status : ℕ)
+    (text : List ℕ) (made call_result : CallResult) → IsNotJudged two opened fault → made ≡ result_of_fault fault
+    → (status ≢ 3 → call_result ≡ made) → (status ≡ 3 → call_result ≡ blank_result) → EndsOnTexts (Err fault) written status text
+    → TellsJudged opened claimed strict two status call_result
+fault_in_numbers opened claimed strict two fault written status text made call_result ends is kept none e = record {
   judged = λ low. absurd (above_one opened two fault written status text ends e low);
   faulty = λ two_is. (
     fault,
@@ -224,16 +224,16 @@ pub not_two : (answer : Bool) (status : ℕ) → status ≡ status_of (Ok answer
 not_two true status is two = let zero : status ≡ 0 = is in omega (arith, zero, two)
 not_two false status is two = let one : status ≡ 1 = is in omega (arith, one, two)
 
-pub reported_told : (opened : Open) (claimed : Option ℤ) (strict : Bool) (two : List ℕ) (verdict : Verdict) (sink : Sink) (answer : Result Bool RunFault)
-    (written : List ℕ) (status : ℕ) (text : List ℕ) (made told : Told) → IsHeldAsked two claimed strict opened verdict
-    → made ≡ told_of_verdict opened.instance verdict → (status ≢ 3 → told ≡ made) → (status ≡ 3 → told ≡ blank_told) → Reports sink (report_of opened.instance verdict) (is_yes verdict) answer
-    → EndsOnTexts answer written status text → TellsJudged opened claimed strict two status told
-reported_told opened claimed strict two verdict sink (Ok answer) written status text made told is told_is kept none reports e = record {
-  judged = λ low. (verdict, is, kept (λ three. absurd (omega (arith, three, low))) ∙ told_is, e.0 ∙ ap (λ (b : Bool). status_of (Ok b)) reports.1);
+pub reported_in_numbers : (opened : Open) (claimed : Option ℤ) (strict : Bool) (two : List ℕ) (verdict : Verdict) (sink : Sink) (answer : Result Bool RunFault)
+    (written : List ℕ) (status : ℕ) (text : List ℕ) (made call_result : CallResult) → IsHeldAsked two claimed strict opened verdict
+    → made ≡ result_of_verdict opened.instance verdict → (status ≢ 3 → call_result ≡ made) → (status ≡ 3 → call_result ≡ blank_result) → Reports sink (report_of opened.instance verdict) (is_yes verdict) answer
+    → EndsOnTexts answer written status text → TellsJudged opened claimed strict two status call_result
+reported_in_numbers opened claimed strict two verdict sink (Ok answer) written status text made call_result is numbers_are kept none reports e = record {
+  judged = λ low. (verdict, is, kept (λ three. absurd (omega (arith, three, low))) ∙ numbers_are, e.0 ∙ ap (λ (b : Bool). status_of (Ok b)) reports.1);
   faulty = λ two_is. absurd (not_two answer status e.0 two_is);
   refused = none;
 }
-reported_told opened claimed strict two verdict sink (Err fault) written status text made told is told_is kept none reports e =
+reported_in_numbers opened claimed strict two verdict sink (Err fault) written status text made call_result is numbers_are kept none reports e =
     let three : status ≡ 3 = unwritten fault written status text reports e in record {
       judged = λ low. absurd (omega (arith, three, low));
       faulty = λ two_is. absurd (omega (arith, three, two_is));

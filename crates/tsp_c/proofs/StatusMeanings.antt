@@ -53,7 +53,7 @@ pub fault_ends : {Yes No : List ℕ → Type 0} {Stops : RunFault → Type 0} (f
     (text : List ℕ) → Stops (without_devices fault) → EndsOnTexts (Err fault) written status text
     → EndsWithText Yes No Stops status text
 fault_ends fault written status text stops e = elim e [
-  | inl told ↦ inl (Err (without_devices fault), told.0, (stops, told.1))
+  | inl call_result ↦ inl (Err (without_devices fault), call_result.0, (stops, call_result.1))
   | inr memory ↦ inr (without_devices fault, stops, memory.0, memory.1)
 ]
 

@@ -4,4 +4,4 @@ pub mod Held
 pub mod NumberCalls
 pub mod Opened
 pub mod Texts
-pub mod Told
+pub mod CallResult

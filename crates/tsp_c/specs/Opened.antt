@@ -11,8 +11,8 @@ use Rattle.tsp_judge.specs.declared.fault.RunFault.{RunFault}
 use Rattle.tsp_judge.specs.declared.fault.RunFault.TheVariants.{OutOfMemory}
 use Rattle.tsp_judge.specs.Status.{status_of, status_of_fault}
 use Rattle.tsp_judge.specs.Open.{Open, IsOpened, IsUnopened, IsBoundTo, IsUnbound, IsHeldVerdict, IsNotJudged}
-use Rattle.tsp_c.specs.declared.told.Told.{Told}
-use Rattle.tsp_c.specs.Told.{blank_told, told_of_instance, told_of_verdict, told_of_bound, told_of_fault}
+use Rattle.tsp_c.specs.declared.call_result.CallResult.{CallResult}
+use Rattle.tsp_c.specs.CallResult.{blank_result, result_of_instance, result_of_verdict, result_of_bound, result_of_fault}
 use Rattle.tsp_c.specs.NumberCalls.{section_points, IsSection, EndsPoints}
 use Rattle.tsp_c.specs.Texts.{GivenText, SpellsGiven, ChecksTexts, IsRefusedNumber, claim_of, strict_of}
 
@@ -28,31 +28,31 @@ IsNotOpened text OutOfMemory = (opened : Open) × IsOpened text opened
 IsNotOpened text fault = IsUnopened text fault
 
 -- 0, and the handle is open on the instance that the text is; or the handle is closed, with a fault and its status
-abbrev pub OpensText : List ℕ → Held → Told → ℕ → Type 0
-OpensText text held told status =
-    ((opened : Open) × (held ≡ Some opened) × IsOpened text opened × (told ≡ told_of_instance opened.instance) × (status ≡ 0))
-    ⊎ ((fault : RunFault) × (held ≡ None) × IsNotOpened text fault × (told ≡ told_of_fault fault)
+abbrev pub OpensText : List ℕ → Held → CallResult → ℕ → Type 0
+OpensText text held call_result status =
+    ((opened : Open) × (held ≡ Some opened) × IsOpened text opened × (call_result ≡ result_of_instance opened.instance) × (status ≡ 0))
+    ⊎ ((fault : RunFault) × (held ≡ None) × IsNotOpened text fault × (call_result ≡ result_of_fault fault)
     × (status ≡ status_of_fault fault))
 
 -- ---- binding a certificate to it
 
 -- the certificate is bound, with what it gives; or nothing changes, with a fault and its status
-abbrev pub BindsOpen : Certificate → List ℕ → Open → Held → Told → ℕ → Type 0
-BindsOpen by text opened held told status =
+abbrev pub BindsOpen : Certificate → List ℕ → Open → Held → CallResult → ℕ → Type 0
+BindsOpen by text opened held call_result status =
     ((new : Open) × (found : BoundVerdict) × (held ≡ Some new) × IsBoundTo by text opened new found
-    × (told ≡ told_of_bound opened.instance found) × (status ≡ status_of (Ok (is_bound_yes found))))
-    ⊎ ((fault : RunFault) × (held ≡ Some opened) × IsUnbound by text opened fault × (told ≡ told_of_fault fault)
+    × (call_result ≡ result_of_bound opened.instance found) × (status ≡ status_of (Ok (is_bound_yes found))))
+    ⊎ ((fault : RunFault) × (held ≡ Some opened) × IsUnbound by text opened fault × (call_result ≡ result_of_fault fault)
     × (status ≡ status_of_fault fault))
 
 -- a call that is refused: 4, and no number is filled in
-abbrev pub IsRefusedCall : Held → Held → Told → ℕ → Type 0
-IsRefusedCall old new told status = (status ≡ 4) × (new ≡ old) × (told ≡ blank_told)
+abbrev pub IsRefusedCall : Held → Held → CallResult → ℕ → Type 0
+IsRefusedCall old new call_result status = (status ≡ 4) × (new ≡ old) × (call_result ≡ blank_result)
 
 -- by this certificate, where the number has one, and where the handle is open; else the call is refused
-abbrev pub BindsText : Option Certificate → List ℕ → Held → Held → Told → ℕ → Type 0
-BindsText None text old new told status = IsRefusedCall old new told status
-BindsText (Some by) text None new told status = IsRefusedCall None new told status
-BindsText (Some by) text (Some opened) new told status = BindsOpen by text opened new told status
+abbrev pub BindsText : Option Certificate → List ℕ → Held → Held → CallResult → ℕ → Type 0
+BindsText None text old new call_result status = IsRefusedCall old new call_result status
+BindsText (Some by) text None new call_result status = IsRefusedCall None new call_result status
+BindsText (Some by) text (Some opened) new call_result status = BindsOpen by text opened new call_result status
 
 -- ---- the check of a solution
 
@@ -71,23 +71,23 @@ IsHeldAsked two claimed strict opened verdict = (plain : Verdict) × IsHeldVerdi
     × (verdict ≡ strict_verdict (is_unjudged strict opened.instance) plain)
 
 -- the numbers are those of the verdict, at 0 and 1, and of the fault, at 2, which is one with this status; at 3 all are 0
-pub record TellsJudged (opened : Open) (claimed : Option ℤ) (strict : Bool) (two : List ℕ) (status : ℕ) (told : Told) : Type 0 where
+pub record TellsJudged (opened : Open) (claimed : Option ℤ) (strict : Bool) (two : List ℕ) (status : ℕ) (call_result : CallResult) : Type 0 where
   pub judged : status ≤ 1 → (verdict : Verdict) × IsHeldAsked two claimed strict opened verdict
-      × (told ≡ told_of_verdict opened.instance verdict) × (status ≡ status_of (Ok (is_yes verdict)))
-  pub faulty : status ≡ 2 → (fault : RunFault) × IsNotJudged two opened fault × (told ≡ told_of_fault fault)
+      × (call_result ≡ result_of_verdict opened.instance verdict) × (status ≡ status_of (Ok (is_yes verdict)))
+  pub faulty : status ≡ 2 → (fault : RunFault) × IsNotJudged two opened fault × (call_result ≡ result_of_fault fault)
       × (status ≡ status_of_fault fault)
-  pub refused : status ≡ 3 → told ≡ blank_told
+  pub refused : status ≡ 3 → call_result ≡ blank_result
 
-abbrev pub ChecksOpen : Open → Option ℤ → Bool → List ℕ → ℕ → List ℕ → Told → Type 0
-ChecksOpen opened claimed strict two status text told = ChecksAsTexts opened claimed strict two status text
-    × TellsJudged opened claimed strict two status told
+abbrev pub ChecksOpen : Open → Option ℤ → Bool → List ℕ → ℕ → List ℕ → CallResult → Type 0
+ChecksOpen opened claimed strict two status text call_result = ChecksAsTexts opened claimed strict two status text
+    × TellsJudged opened claimed strict two status call_result
 
 -- with what has_claim asks, as of texts; numbers above 3 are refused, and so is a closed handle
-abbrev pub ChecksHeld : Held → ℕ → ℤ → List ℕ → ℕ → List ℕ → Told → Type 0
-ChecksHeld None has_claim claimed two status text told = IsRefusedNumber status text × (told ≡ blank_told)
-ChecksHeld (Some opened) has_claim claimed two status text told =
-    (has_claim ≤ 3 → ChecksOpen opened (claim_of has_claim claimed) (strict_of has_claim) two status text told)
-    × (3 < has_claim → IsRefusedNumber status text × (told ≡ blank_told))
+abbrev pub ChecksHeld : Held → ℕ → ℤ → List ℕ → ℕ → List ℕ → CallResult → Type 0
+ChecksHeld None has_claim claimed two status text call_result = IsRefusedNumber status text × (call_result ≡ blank_result)
+ChecksHeld (Some opened) has_claim claimed two status text call_result =
+    (has_claim ≤ 3 → ChecksOpen opened (claim_of has_claim claimed) (strict_of has_claim) two status text call_result)
+    × (3 < has_claim → IsRefusedNumber status text × (call_result ≡ blank_result))
 
 -- ---- numbers of the instance
 

@@ -4,11 +4,11 @@ ghost use Rattle.std.specs.Prelude.{◌≡◌, ◌≢◌, IsErr, MatchResult};
 ghost use Rattle.tsp_stream.specs.states.Watched.{watched};
 ghost use Rattle.tsp_c.specs.Ended.{EndsOnTexts, IsPlaced, IsPrinted, without_devices};
 ghost use Rattle.tsp_c.specs.Texts.{IsRefusedNumber};
-ghost use Rattle.tsp_c.specs.Told.{blank_told};
+ghost use Rattle.tsp_c.specs.CallResult.{blank_result};
 
+use crate::call_result::CallResult;
 use crate::fault_line::{NoLine, line_of};
 use crate::text_buffer::place;
-use crate::told::Told;
 use std::alloc::Global;
 use std::marker::Model;
 use tsp_judge::{ReadFault, RunError, RunFault, Status, Watched, WriteFault, status_of};
@@ -42,11 +42,11 @@ impl Answer {
     }
 
     /// The numbers of the call, of which it has none out of memory.
-    pub(crate) fn numbers(&self, told: Told) -> Told
-        ensures kept { self.now.0 ≢ 3 → result ≡ told }
-        ensures none { self.now.0 ≡ 3 → result ≡ blank_told }
+    pub(crate) fn numbers(&self, call_result: CallResult) -> CallResult
+        ensures kept { self.now.0 ≢ 3 → result ≡ call_result }
+        ensures none { self.now.0 ≡ 3 → result ≡ blank_result }
     {
-        told.for_status(self.status)
+        call_result.for_status(self.status)
     }
 
     /// Puts the text into a caller's buffer where it fits. The status of the call.

@@ -18,11 +18,11 @@ ghost use Rattle.tsp_task.specs.declared.verdict.Verdict.TheVariants as verdicts
 ghost use Rattle.tsp_stream.specs.declared.output.WriteFault.TheVariants as write_faults;
 ghost use Rattle.tsp_text.specs.declared.fault.LineFault.TheVariants as line_faults;
 ghost use Rattle.tsp_text.specs.declared.fault.ReadFault.TheVariants as read_faults;
-ghost use Rattle.tsp_c.specs.declared.told.Told.{Told};
+ghost use Rattle.tsp_c.specs.declared.call_result.CallResult.{CallResult};
 ghost use Rattle.tsp_c.specs.Ended.{IsPlaced, fault_line, nth, without_devices};
 ghost use Rattle.tsp_c.specs.NumberCalls.{distance_kinds, lists_in, pair_cost, row_cost, row_count};
 ghost use Rattle.tsp_c.specs.Texts.{bounds_asked, certificates, claim_of, strict_of};
-ghost use Rattle.tsp_c.specs.Told.{blank_told, high_half, low_half, told_of_bound, told_of_fault, told_of_verdict};
+ghost use Rattle.tsp_c.specs.CallResult.{blank_result, high_half, low_half, result_of_bound, result_of_fault, result_of_verdict};
 
 /// What a number picks, counted from 1: 0 and a number past the last pick nothing.
 pub fn examples_of_picked_numbers()
@@ -90,33 +90,33 @@ pub fn examples_of_halves()
 {}
 
 /// A verdict in numbers, whatever the instance is.
-pub fn examples_of_told_verdicts()
-    ensures tour { (instance : Fields) → let told : Told = told_of_verdict instance (verdicts.Tour (pos 12) None) in
-        (told.verdict ≡ 1) × (told.length ≡ pos 12) × (told.has_bound ≡ 0) × (told.fault ≡ 0) }
-    ensures bounded { (instance : Fields) → let told : Told = told_of_verdict instance (verdicts.Tour (pos 12) (Some (pos 10))) in
-        (told.verdict ≡ 1) × (told.length ≡ pos 12) × (told.has_bound ≡ 1) × (told.bound_high ≡ pos 0) × (told.bound_low ≡ 10) }
-    ensures routes { (instance : Fields) → let told : Told = told_of_verdict instance (verdicts.Routes (pos 12) 3 2 None) in
-        (told.verdict ≡ 2) × (told.length ≡ pos 12) × (told.routes ≡ 3) × (told.least ≡ 2) × (told.has_bound ≡ 0) }
+pub fn examples_of_verdicts_in_numbers()
+    ensures tour { (instance : Fields) → let call_result : CallResult = result_of_verdict instance (verdicts.Tour (pos 12) None) in
+        (call_result.verdict ≡ 1) × (call_result.length ≡ pos 12) × (call_result.has_bound ≡ 0) × (call_result.fault ≡ 0) }
+    ensures bounded { (instance : Fields) → let call_result : CallResult = result_of_verdict instance (verdicts.Tour (pos 12) (Some (pos 10))) in
+        (call_result.verdict ≡ 1) × (call_result.length ≡ pos 12) × (call_result.has_bound ≡ 1) × (call_result.bound_high ≡ pos 0) × (call_result.bound_low ≡ 10) }
+    ensures routes { (instance : Fields) → let call_result : CallResult = result_of_verdict instance (verdicts.Routes (pos 12) 3 2 None) in
+        (call_result.verdict ≡ 2) × (call_result.length ≡ pos 12) × (call_result.routes ≡ 3) × (call_result.least ≡ 2) × (call_result.has_bound ≡ 0) }
     ensures bounded_routes { (instance : Fields)
-        → let told : Told = told_of_verdict instance (verdicts.Routes (pos 12) 3 2 (Some (pos 10))) in
-        (told.verdict ≡ 2) × (told.routes ≡ 3) × (told.has_bound ≡ 1) × (told.bound_high ≡ pos 0) × (told.bound_low ≡ 10) }
-    ensures rejected { (instance : Fields) → let told : Told = told_of_verdict instance (verdicts.No (reasons.NotSymmetric 1 2)) in
-        (told.verdict ≡ 3) × (told.reason ≡ 3) × (told.first ≡ pos 1) × (told.second ≡ pos 2) × (told.length ≡ pos 0) }
-    ensures bound { (instance : Fields) → let told : Told = told_of_bound instance (bounds.Bound (pos 10)) in
-        (told.verdict ≡ 4) × (told.has_bound ≡ 1) × (told.bound_low ≡ 10) }
-    ensures no_tour { (instance : Fields) → let told : Told = told_of_bound instance bounds.NoSolution in
-        (told.verdict ≡ 5) × (told.has_bound ≡ 0) }
+        → let call_result : CallResult = result_of_verdict instance (verdicts.Routes (pos 12) 3 2 (Some (pos 10))) in
+        (call_result.verdict ≡ 2) × (call_result.routes ≡ 3) × (call_result.has_bound ≡ 1) × (call_result.bound_high ≡ pos 0) × (call_result.bound_low ≡ 10) }
+    ensures rejected { (instance : Fields) → let call_result : CallResult = result_of_verdict instance (verdicts.No (reasons.NotSymmetric 1 2)) in
+        (call_result.verdict ≡ 3) × (call_result.reason ≡ 3) × (call_result.first ≡ pos 1) × (call_result.second ≡ pos 2) × (call_result.length ≡ pos 0) }
+    ensures bound { (instance : Fields) → let call_result : CallResult = result_of_bound instance (bounds.Bound (pos 10)) in
+        (call_result.verdict ≡ 4) × (call_result.has_bound ≡ 1) × (call_result.bound_low ≡ 10) }
+    ensures no_tour { (instance : Fields) → let call_result : CallResult = result_of_bound instance bounds.NoSolution in
+        (call_result.verdict ≡ 5) × (call_result.has_bound ≡ 0) }
 {}
 
 /// A fault in numbers.
-pub fn examples_of_told_faults()
-    ensures line { let told : Told = told_of_fault (run_faults.File 2 (read_faults.Line 3 4
+pub fn examples_of_faults_in_numbers()
+    ensures line { let call_result : CallResult = result_of_fault (run_faults.File 2 (read_faults.Line 3 4
         (line_faults.Number number_faults.OutOfRange))) in
-        (told.fault ≡ 10) × (told.file ≡ 2) × (told.line ≡ 3) × (told.word ≡ 4) × (told.number ≡ 4) × (told.verdict ≡ 0) }
-    ensures end { let told : Told = told_of_fault (run_faults.File 1 (read_faults.End (end_faults.Missing fields.TypeKey))) in
-        (told.fault ≡ 16) × (told.file ≡ 1) × (told.line ≡ 0) × (told.field ≡ 2) }
-    ensures too_long { let told : Told = told_of_fault (run_faults.File 3 read_faults.TooLong) in
-        (told.fault ≡ 20) × (told.file ≡ 3) }
-    ensures wrong_kind { let told : Told = told_of_fault run_faults.WrongKind in (told.fault ≡ 21) × (told.file ≡ 1) }
-    ensures memory { told_of_fault run_faults.OutOfMemory ≡ blank_told }
+        (call_result.fault ≡ 10) × (call_result.file ≡ 2) × (call_result.line ≡ 3) × (call_result.word ≡ 4) × (call_result.number ≡ 4) × (call_result.verdict ≡ 0) }
+    ensures end { let call_result : CallResult = result_of_fault (run_faults.File 1 (read_faults.End (end_faults.Missing fields.TypeKey))) in
+        (call_result.fault ≡ 16) × (call_result.file ≡ 1) × (call_result.line ≡ 0) × (call_result.field ≡ 2) }
+    ensures too_long { let call_result : CallResult = result_of_fault (run_faults.File 3 read_faults.TooLong) in
+        (call_result.fault ≡ 20) × (call_result.file ≡ 3) }
+    ensures wrong_kind { let call_result : CallResult = result_of_fault run_faults.WrongKind in (call_result.fault ≡ 21) × (call_result.file ≡ 1) }
+    ensures memory { result_of_fault run_faults.OutOfMemory ≡ blank_result }
 {}

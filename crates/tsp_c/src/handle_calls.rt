@@ -8,12 +8,13 @@ ghost use Rattle.tsp_c.specs.Ended.{Reports, nth};
 ghost use Rattle.tsp_c.specs.NumberCalls.{EndsCount, EndsLengths, EndsMatrix, EndsWeights};
 ghost use Rattle.tsp_c.specs.Opened.{BindsOpen, BindsText, ChecksAsTexts, ChecksHeld, EndsSection, OfHeld, OpensText, TellsJudged};
 ghost use Rattle.tsp_c.specs.Texts.{certificates};
-ghost use Rattle.tsp_c.specs.Told.{told_of_fault};
+ghost use Rattle.tsp_c.specs.CallResult.{result_of_fault};
 ghost use Rattle.tsp_judge.specs.Status.{status_of_fault};
 ghost use Rattle.tsp_judge.specs.declared.fault.RunFault.TheVariants.{OutOfMemory};
 ghost use Rattle.tsp_judge.specs.Open.{Open, IsOpened, IsUnopened};
 
 use crate::call_end::CallEnd;
+use crate::call_result::CallResult;
 use crate::ended::{Answer, ended};
 use crate::handle::Handle;
 use crate::in_box::{NoBox, in_box};
@@ -21,7 +22,6 @@ use crate::list_lengths::lengths_of;
 use crate::pair_costs::{rows_of, weights_of};
 use crate::picked_runs::{certificate_of, claim_of, strict_of};
 use crate::section_points::points_of_file;
-use crate::told::Told;
 use std::alloc::Global;
 use std::boxed::Box;
 use std::io::Write;
@@ -32,15 +32,20 @@ use tsp_verdict::strict_verdict;
 
 /// Opens a handle on the instance that a text is; the status. What it was open on before is freed
 /// first.
-pub(crate) fn open_text(alloc: Global, text: &[u8], handle: &mut Handle, told: &mut Told) -> CallEnd
-    ensures { OpensText text.now handle.new.loose.value told.new result }
+pub(crate) fn open_text(
+    alloc: Global,
+    text: &[u8],
+    handle: &mut Handle,
+    call_result: &mut CallResult,
+) -> CallEnd
+    ensures { OpensText text.now handle.new.loose.value call_result.new result }
 {
     drop(handle.take(alloc));
     match boxed(alloc, text) {
-        Err(error) => tell_fault(error, told),
-        Ok(Err(no_box)) => tell_no_box(no_box, told),
+        Err(error) => tell_fault(error, call_result),
+        Ok(Err(no_box)) => tell_no_box(no_box, call_result),
         Ok(Ok(opened)) => {
-            *told = Told::of_instance(opened.instance());
+            *call_result = CallResult::of_instance(opened.instance());
             handle.put(opened);
             CallEnd::done()
         }
@@ -48,20 +53,20 @@ pub(crate) fn open_text(alloc: Global, text: &[u8], handle: &mut Handle, told: &
 }
 
 /// Tells the numbers of a fault; its status.
-fn tell_fault(error: RunError, told: &mut Told) -> CallEnd
-    ensures told { told.new ≡ told_of_fault error }
+fn tell_fault(error: RunError, call_result: &mut CallResult) -> CallEnd
+    ensures call_result { call_result.new ≡ result_of_fault error }
     ensures status { result ≡ status_of_fault error }
 {
-    *told = Told::of_error(error);
+    *call_result = CallResult::of_error(error);
     CallEnd::of_fault(error)
 }
 
 /// Tells that there was no memory for a box; the status.
-fn tell_no_box(no_box: NoBox, told: &mut Told) -> CallEnd
-    ensures told { told.new ≡ told_of_fault OutOfMemory }
+fn tell_no_box(no_box: NoBox, call_result: &mut CallResult) -> CallEnd
+    ensures call_result { call_result.new ≡ result_of_fault OutOfMemory }
     ensures status { result ≡ status_of_fault OutOfMemory }
 {
-    *told = Told::blank();
+    *call_result = CallResult::blank();
     CallEnd::without_box(no_box)
 }
 
@@ -96,18 +101,18 @@ pub(crate) fn bind_text(
     handle: &mut Handle,
     text: &[u8],
     by: u32,
-    told: &mut Told,
+    call_result: &mut CallResult,
 ) -> CallEnd
-    ensures { BindsText (nth by certificates) text.now handle.old.loose.value handle.new.loose.value told.new result }
+    ensures { BindsText (nth by certificates) text.now handle.old.loose.value handle.new.loose.value call_result.new result }
 {
-    *told = Told::blank();
+    *call_result = CallResult::blank();
     let Some(by) = certificate_of(by) else {
         return CallEnd::refused();
     };
     match handle.take(alloc) {
         None => CallEnd::refused(),
         Some(mut opened) => {
-            let status = bind_opened(alloc, &mut opened, by, text, told);
+            let status = bind_opened(alloc, &mut opened, by, text, call_result);
             handle.put(opened);
             status
         }
@@ -120,14 +125,14 @@ fn bind_opened(
     opened: &mut Opened,
     by: Certificate,
     text: &[u8],
-    told: &mut Told,
+    call_result: &mut CallResult,
 ) -> CallEnd
-    ensures { BindsOpen by text.now opened.old (Some opened.new) told.new result }
+    ensures { BindsOpen by text.now opened.old (Some opened.new) call_result.new result }
 {
     match opened.bind(alloc, by, text) {
-        Err(error) => tell_fault(error, told),
+        Err(error) => tell_fault(error, call_result),
         Ok(found) => {
-            *told = Told::of_bound(opened.instance(), found);
+            *call_result = CallResult::of_bound(opened.instance(), found);
             CallEnd::of_answer(found.is_yes())
         }
     }
@@ -141,15 +146,15 @@ pub(crate) fn check_held(
     solution: &[u8],
     claimed: i64,
     has_claim: u32,
-) -> (Answer, Told)
+) -> (Answer, CallResult)
     ensures same { handle.new.loose.value ≡ handle.old.loose.value }
     ensures checks { ChecksHeld handle.old.loose.value has_claim claimed solution.now result.0.0 result.0.1 result.1 }
 {
     if has_claim > 3 {
-        return (Answer::refused(alloc), Told::blank());
+        return (Answer::refused(alloc), CallResult::blank());
     }
     match handle.take(alloc) {
-        None => (Answer::refused(alloc), Told::blank()),
+        None => (Answer::refused(alloc), CallResult::blank()),
         Some(opened) => {
             let claim = claim_of(has_claim, claimed);
             let answer = check_opened(alloc, &opened, solution, claim, strict_of(has_claim));
@@ -166,7 +171,7 @@ fn check_opened(
     solution: &[u8],
     claimed: Option<i64>,
     strict: bool,
-) -> (Answer, Told)
+) -> (Answer, CallResult)
     ensures texts { ChecksAsTexts opened.now claimed strict solution.now result.0.0 result.0.1 }
     ensures numbers { TellsJudged opened.now claimed strict solution.now result.0.0 result.1 }
 {
@@ -175,17 +180,17 @@ fn check_opened(
     match opened.judge(alloc, solution, claimed) {
         Err(error) => {
             let answer = ended(Err(error), report);
-            let told = answer.numbers(Told::of_error(error));
-            (answer, told)
+            let call_result = answer.numbers(CallResult::of_error(error));
+            (answer, call_result)
         }
         Ok(plain) => {
             let instance = opened.instance();
             let verdict = strict_verdict(strict, instance, plain);
-            let told = Told::of_verdict(instance, verdict);
+            let call_result = CallResult::of_verdict(instance, verdict);
             let written = reported(instance, verdict, &mut report);
             let answer = ended(written, report);
-            let told = answer.numbers(told);
-            (answer, told)
+            let call_result = answer.numbers(call_result);
+            (answer, call_result)
         }
     }
 }

@@ -11,7 +11,7 @@
 ghost use Rattle.tsp_distance.specs.declared.decimal.Point.{Point};
 ghost use Rattle.tsp_c.specs.Ended.{PlacesText, nth};
 ghost use Rattle.std.specs.Prelude.{◌≡◌, None};
-ghost use Rattle.tsp_c.specs.Told.{TellsBoundBy, TellsBy};
+ghost use Rattle.tsp_c.specs.CallResult.{TellsBoundBy, TellsBy};
 ghost use Rattle.tsp_c.specs.Opened.{BindsText, ChecksHeld, EndsSection, OfHeld, OpensText};
 ghost use Rattle.tsp_c.specs.NumberCalls.{EndsCount, EndsLengths, EndsMatrix, EndsWeights, FillsCount, FillsLengths, FillsMatrix, FillsPoints, FillsWeights, GivesDistance};
 ghost use Rattle.tsp_c.specs.Texts.{BoundsBy, ChecksBy, ConvertsBy, ExplainsTexts, ShowsText, bounds_asked, certificates};
@@ -19,6 +19,7 @@ ghost use Rattle.tsp_c.specs.Texts.{BoundsBy, ChecksBy, ConvertsBy, ExplainsText
 mod box_parts;
 mod call_end;
 mod call_examples;
+mod call_result;
 mod distance_call;
 mod ended;
 mod examples;
@@ -37,8 +38,8 @@ mod section_points;
 mod text_buffer;
 mod text_instance;
 mod texts;
-mod told;
 
+use crate::call_result::CallResult;
 use crate::distance_call::{Counts, distance_of};
 use crate::explain::{Numbers, Texts, explained};
 use crate::handle::Handle;
@@ -53,7 +54,6 @@ use crate::section_points::fill_points;
 use crate::text_buffer::place;
 use crate::text_instance::fill_count;
 use crate::texts::shown;
-use crate::told::Told;
 use std::alloc::Global;
 
 /// The version, as 10,000 times the first number, 100 times the second, and the third.
@@ -94,17 +94,17 @@ pub extern "C" fn tsp_check_result(
     by: u32,
     claimed: i64,
     has_claim: u32,
-    told: &mut Told,
+    call_result: &mut CallResult,
     out: &mut [u8],
     written: &mut usize,
 ) -> u32
     ensures { PlacesText (λ status text. ChecksBy by has_claim claimed instance.now solution.now certificate.now status text
-        × TellsBy by has_claim claimed instance.now solution.now certificate.now status told.new)
+        × TellsBy by has_claim claimed instance.now solution.now certificate.now status call_result.new)
         out.old out.new written.new result }
 {
     let claim = Claim { claimed, has_claim };
     let (answer, numbers) = check_by(alloc, instance, solution, certificate, by, claim);
-    *told = numbers;
+    *call_result = numbers;
     let status = answer.place(out, written);
     drop(answer);
     status
@@ -136,16 +136,16 @@ pub extern "C" fn tsp_bound_result(
     instance: &[u8],
     certificate: &[u8],
     by: u32,
-    told: &mut Told,
+    call_result: &mut CallResult,
     out: &mut [u8],
     written: &mut usize,
 ) -> u32
     ensures { PlacesText (λ status text. BoundsBy (nth by bounds_asked) instance.now certificate.now status text
-        × TellsBoundBy (nth by bounds_asked) instance.now certificate.now status told.new)
+        × TellsBoundBy (nth by bounds_asked) instance.now certificate.now status call_result.new)
         out.old out.new written.new result }
 {
     let (answer, numbers) = bound_by(alloc, instance, certificate, by);
-    *told = numbers;
+    *call_result = numbers;
     let status = answer.place(out, written);
     drop(answer);
     status
@@ -264,11 +264,11 @@ pub extern "C" fn tsp_open(
     alloc: Global,
     instance: &[u8],
     handle: &mut Handle,
-    told: &mut Told,
+    call_result: &mut CallResult,
 ) -> u32
-    ensures { OpensText instance.now handle.new.loose.value told.new result }
+    ensures { OpensText instance.now handle.new.loose.value call_result.new result }
 {
-    open_text(alloc, instance, handle, told).number()
+    open_text(alloc, instance, handle, call_result).number()
 }
 
 /// Closes a handle, and frees what it was open on.
@@ -287,12 +287,12 @@ pub extern "C" fn tsp_bind(
     handle: &mut Handle,
     certificate: &[u8],
     by: u32,
-    told: &mut Told,
+    call_result: &mut CallResult,
 ) -> u32
     ensures { BindsText (nth by certificates) certificate.now handle.old.loose.value handle.new.loose.value
-        told.new result }
+        call_result.new result }
 {
-    bind_text(alloc, handle, certificate, by, told).number()
+    bind_text(alloc, handle, certificate, by, call_result).number()
 }
 
 /// Judges a solution of the instance of a handle, as `tsp_check` does, with the certificate that is
@@ -304,16 +304,16 @@ pub extern "C" fn tsp_instance_check(
     solution: &[u8],
     claimed: i64,
     has_claim: u32,
-    told: &mut Told,
+    call_result: &mut CallResult,
     out: &mut [u8],
     written: &mut usize,
 ) -> u32
     ensures same { handle.new.loose.value ≡ handle.old.loose.value }
     ensures places { PlacesText (λ status text. ChecksHeld handle.old.loose.value has_claim claimed solution.now
-        status text told.new) out.old out.new written.new result }
+        status text call_result.new) out.old out.new written.new result }
 {
     let (answer, numbers) = check_held(alloc, handle, solution, claimed, has_claim);
-    *told = numbers;
+    *call_result = numbers;
     let status = answer.place(out, written);
     drop(answer);
     status

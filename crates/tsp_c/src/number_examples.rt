@@ -16,20 +16,20 @@ ghost use Rattle.tsp_task.specs.declared.verdict.Reason.TheVariants as reasons;
 ghost use Rattle.tsp_task.specs.declared.verdict.Verdict.TheVariants as verdicts;
 ghost use Rattle.tsp_text.specs.declared.fault.LineFault.TheVariants as line_faults;
 ghost use Rattle.tsp_text.specs.declared.fault.ReadFault.TheVariants as read_faults;
-ghost use Rattle.tsp_c.specs.declared.told.Told.{Told};
+ghost use Rattle.tsp_c.specs.declared.call_result.CallResult.{CallResult};
 ghost use Rattle.tsp_c.specs.Ended.{nth};
 ghost use Rattle.tsp_c.specs.NumberCalls.{EndsPoints, coordinate, distance_kinds, section_points};
-ghost use Rattle.tsp_c.specs.Told.{blank_told, field_number, first_number, kind_number, line_fault_number, number_fault_number, read_fault_number, second_number, told_field, told_number, told_of_fault, told_of_instance, told_of_verdict};
+ghost use Rattle.tsp_c.specs.CallResult.{blank_result, field_number, first_number, kind_number, line_fault_number, number_fault_number, read_fault_number, second_number, field_of_fault, number_of_fault, result_of_fault, result_of_instance, result_of_verdict};
 
 /// The TYPE and the nodes of an instance.
-pub fn examples_of_told_instances()
+pub fn examples_of_instances_in_numbers()
     ensures tsp { kind_number (Some kinds.Tsp) ≡ 1 }
     ensures atsp { kind_number (Some kinds.Atsp) ≡ 2 }
     ensures cvrp { kind_number (Some kinds.Cvrp) ≡ 3 }
-    ensures kind { (instance : Fields) → let told : Told = told_of_instance instance in told.kind ≡ kind_number instance.kind }
-    ensures nodes { (instance : Fields) → let told : Told = told_of_instance instance in told.nodes ≡ nodes_of instance }
-    ensures of_a_tour { (instance : Fields) → let told : Told = told_of_verdict instance (verdicts.Tour (pos 12) None) in
-        (told.kind ≡ kind_number instance.kind) × (told.nodes ≡ nodes_of instance) }
+    ensures kind { (instance : Fields) → let call_result : CallResult = result_of_instance instance in call_result.kind ≡ kind_number instance.kind }
+    ensures nodes { (instance : Fields) → let call_result : CallResult = result_of_instance instance in call_result.nodes ≡ nodes_of instance }
+    ensures of_a_tour { (instance : Fields) → let call_result : CallResult = result_of_verdict instance (verdicts.Tour (pos 12) None) in
+        (call_result.kind ≡ kind_number instance.kind) × (call_result.nodes ≡ nodes_of instance) }
 {}
 
 /// The distances by their numbers.
@@ -57,8 +57,8 @@ pub fn examples_of_reason_numbers()
     ensures none { first_number reasons.TourCount ≡ pos 0 }
     ensures claimed { first_number (reasons.LengthClaimed (negsuc 4)) ≡ negsuc 4 }
     ensures second { second_number (reasons.Unserved 6) ≡ pos 0 }
-    ensures told { (instance : Fields) → let told : Told = told_of_verdict instance (verdicts.No (reasons.DualInfeasible 7 8)) in
-        (told.reason ≡ 22) × (told.first ≡ pos 7) × (told.second ≡ pos 8) }
+    ensures call_result { (instance : Fields) → let call_result : CallResult = result_of_verdict instance (verdicts.No (reasons.DualInfeasible 7 8)) in
+        (call_result.reason ≡ 22) × (call_result.first ≡ pos 7) × (call_result.second ≡ pos 8) }
 {}
 
 /// The faults of a line, of the end of a text, and of a number.
@@ -73,8 +73,8 @@ pub fn examples_of_fault_numbers()
         ∷ read_faults.End end_faults.WrongCount ∷ read_faults.TooLong ∷ []) ≡ 16 ∷ 17 ∷ 18 ∷ 19 ∷ 20 ∷ [] }
     ensures numbers { map number_fault_number (number_faults.LongWord ∷ number_faults.BadNumber ∷ number_faults.TooFine
         ∷ number_faults.OutOfRange ∷ number_faults.NotWhole ∷ []) ≡ 1 ∷ 2 ∷ 3 ∷ 4 ∷ 5 ∷ [] }
-    ensures of_a_line { told_number (line_faults.Number number_faults.NotWhole) ≡ 5 }
-    ensures of_no_number { told_number line_faults.Surplus ≡ 0 }
+    ensures of_a_line { number_of_fault (line_faults.Number number_faults.NotWhole) ≡ 5 }
+    ensures of_no_number { number_of_fault line_faults.Surplus ≡ 0 }
 {}
 
 /// The keywords and sections, and the one that has too few places.
@@ -88,13 +88,13 @@ pub fn examples_of_field_numbers()
         ∷ fields.ColumnPotentialPart ∷ fields.FixedEdgePotentialPart ∷ fields.CombPart ∷ fields.BranchPart ∷ [])
         ≡ 12 ∷ 13 ∷ 14 ∷ 15 ∷ 16 ∷ 17 ∷ 18 ∷ 19 ∷ 20 ∷ 21 ∷ 22 ∷ 23 ∷ 24 ∷ [] }
     ensures later { field_number fields.LoadUnitKey ≡ 25 }
-    ensures missing { told_field (read_faults.End (end_faults.Missing fields.TypeKey)) ≡ 2 }
-    ensures incomplete { let told : Told = told_of_fault (run_faults.File 2
+    ensures missing { field_of_fault (read_faults.End (end_faults.Missing fields.TypeKey)) ≡ 2 }
+    ensures incomplete { let call_result : CallResult = result_of_fault (run_faults.File 2
         (read_faults.End (end_faults.Incomplete fields.NodeCoordPart))) in
-        (told.fault ≡ 17) × (told.file ≡ 2) × (told.field ≡ 12) }
+        (call_result.fault ≡ 17) × (call_result.file ≡ 2) × (call_result.field ≡ 12) }
 {}
 
 /// Out of memory, a call has no numbers.
 pub fn no_numbers_without_memory()
-    ensures { (fault : RunFault) → status_of_fault fault ≡ 3 → told_of_fault fault ≡ blank_told }
+    ensures { (fault : RunFault) → status_of_fault fault ≡ 3 → result_of_fault fault ≡ blank_result }
 {}

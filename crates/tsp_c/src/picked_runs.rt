@@ -4,11 +4,11 @@ ghost use Rattle.std.specs.Prelude.{◌≡◌, ◌≤◌};
 ghost use Rattle.tsp_format.specs.Words.{layouts};
 ghost use Rattle.tsp_c.specs.Ended.{nth};
 ghost use Rattle.tsp_c.specs.Texts.{BoundsBy, ChecksBy, ConvertsBy, bounds_asked, certificates, claim_of, strict_of};
-ghost use Rattle.tsp_c.specs.Told.{TellsBoundBy, TellsBy};
+ghost use Rattle.tsp_c.specs.CallResult.{TellsBoundBy, TellsBy};
 
+use crate::call_result::CallResult;
 use crate::ended::Answer;
 use crate::texts::{bounded, checked, converted};
-use crate::told::Told;
 use std::alloc::Global;
 use tsp_judge::{Certificate, Layout};
 
@@ -29,17 +29,17 @@ pub(crate) fn check_by(
     certificate: &[u8],
     by: u32,
     claim: Claim,
-) -> (Answer, Told)
+) -> (Answer, CallResult)
     ensures texts { ChecksBy by claim.has_claim claim.claimed instance.now solution.now certificate.now
         result.0.0 result.0.1 }
     ensures numbers { TellsBy by claim.has_claim claim.claimed instance.now solution.now certificate.now
         result.0.0 result.1 }
 {
     if by > 2 {
-        return (Answer::refused(alloc), Told::blank());
+        return (Answer::refused(alloc), CallResult::blank());
     }
     if claim.has_claim > 3 {
-        return (Answer::refused(alloc), Told::blank());
+        return (Answer::refused(alloc), CallResult::blank());
     }
     let by = certificate_of(by);
     let strict = strict_of(claim.has_claim);
@@ -54,12 +54,12 @@ pub(crate) fn bound_by(
     instance: &[u8],
     certificate: &[u8],
     by: u32,
-) -> (Answer, Told)
+) -> (Answer, CallResult)
     ensures texts { BoundsBy (nth by bounds_asked) instance.now certificate.now result.0.0 result.0.1 }
     ensures numbers { TellsBoundBy (nth by bounds_asked) instance.now certificate.now result.0.0 result.1 }
 {
     match bound_asked(by) {
-        None => (Answer::refused(alloc), Told::blank()),
+        None => (Answer::refused(alloc), CallResult::blank()),
         Some((by, strict)) => bounded(alloc, by, instance, certificate, strict),
     }
 }

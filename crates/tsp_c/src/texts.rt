@@ -1,13 +1,13 @@
 //! The runs on texts in memory.
 
 ghost use Rattle.std.specs.Prelude.{◌≡◌};
-ghost use Rattle.tsp_judge.specs.CheckRun.{told};
+ghost use Rattle.tsp_judge.specs.CheckRun.{call_result};
 ghost use Rattle.tsp_c.specs.Ended.{done, bound_answer};
 ghost use Rattle.tsp_c.specs.Texts.{BoundsTexts, ChecksTexts, ConvertsText, ShowsText, with_certificate};
-ghost use Rattle.tsp_c.specs.Told.{TellsBound, TellsTexts};
+ghost use Rattle.tsp_c.specs.CallResult.{TellsBound, TellsTexts};
 
+use crate::call_result::CallResult;
 use crate::ended::{Answer, ended};
-use crate::told::Told;
 use std::alloc::Global;
 use tsp_judge::{
     Bounded, Certificate, Judged, Layout, RunError, Watched, convert_file, run, run_bound,
@@ -45,7 +45,7 @@ pub(crate) fn checked(
     certificate: &[u8],
     claimed: Option<i64>,
     strict: bool,
-) -> (Answer, Told)
+) -> (Answer, CallResult)
     ensures texts { ChecksTexts (with_certificate by certificate.now) claimed strict instance.now solution.now result.0.0 result.0.1 }
     ensures numbers { TellsTexts (with_certificate by certificate.now) claimed strict instance.now solution.now result.0.0 result.1 }
 {
@@ -64,10 +64,10 @@ pub(crate) fn checked(
         strict,
         &mut report,
     );
-    let numbers = Told::of_run(&judged);
-    let answer = ended(told(judged), report);
-    let told = answer.numbers(numbers);
-    (answer, told)
+    let numbers = CallResult::of_run(&judged);
+    let answer = ended(call_result(judged), report);
+    let call_result = answer.numbers(numbers);
+    (answer, call_result)
 }
 
 /// The bound of the tours of the instance that a text is, by the certificate that another one is,
@@ -78,7 +78,7 @@ pub(crate) fn bounded(
     instance: &[u8],
     certificate: &[u8],
     strict: bool,
-) -> (Answer, Told)
+) -> (Answer, CallResult)
     ensures texts { BoundsTexts by strict instance.now certificate.now result.0.0 result.0.1 }
     ensures numbers { TellsBound by strict instance.now certificate.now result.0.0 result.1 }
 {
@@ -86,10 +86,10 @@ pub(crate) fn bounded(
     let mut second = Watched::new(certificate);
     let mut report = Watched::new(Vec::new(alloc));
     let found = run_bound(alloc, &mut first, by, &mut second, strict, &mut report);
-    let numbers = Told::of_bound_run(&found);
+    let numbers = CallResult::of_bound_run(&found);
     let answer = ended(bound_answer(found), report);
-    let told = answer.numbers(numbers);
-    (answer, told)
+    let call_result = answer.numbers(numbers);
+    (answer, call_result)
 }
 
 /// What is done is no no.
@@ -101,8 +101,8 @@ fn done(ended: Result<(), RunError>) -> Result<bool, RunError>
 }
 
 /// Whether the solution is accepted, where there is a verdict.
-fn told(ended: Result<Judged, RunError>) -> Result<bool, RunError>
-    ensures { result ≡ told ended }
+fn call_result(ended: Result<Judged, RunError>) -> Result<bool, RunError>
+    ensures { result ≡ call_result ended }
 {
     let judged = ended?;
     let answer = judged.verdict.is_yes();

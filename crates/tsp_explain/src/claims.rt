@@ -31,13 +31,13 @@ pub fn push_claim(
 ) -> Result<(), AllocError>
     ensures { StartsWith text.new.items text.old.items }
 {
-    let mut told = Vec::new(alloc);
+    let mut explanation = Vec::new(alloc);
     let answer = match other_claim(comments, length) {
         None => Ok(()),
-        Some(CommentClaim::Whole(claim)) => push_sentence(&mut told, name, claim, length),
-        Some(CommentClaim::Real(claim)) => push_real(&mut told, name, claim),
+        Some(CommentClaim::Whole(claim)) => push_sentence(&mut explanation, name, claim, length),
+        Some(CommentClaim::Real(claim)) => push_real(&mut explanation, name, claim),
     };
-    append(text, told, answer)
+    append(text, explanation, answer)
 }
 
 /// Appends that a comment claims a length.

@@ -39,14 +39,14 @@ pub fn explain_file<R: Read + Drop>(
         None => None,
         Some(mut reader) => Some(look_for(&mut reader, sought_for(fault))),
     };
-    let mut told = Vec::new(alloc);
+    let mut explanation = Vec::new(alloc);
     let answer = match &seen {
-        Some(Ok(seen)) => explain_seen(alloc, &mut told, name, given, seen, fault),
-        Some(Err(error)) => explain_failed(alloc, &mut told, name, error, fault),
-        None => explain_unseen(alloc, &mut told, name, fault),
+        Some(Ok(seen)) => explain_seen(alloc, &mut explanation, name, given, seen, fault),
+        Some(Err(error)) => explain_failed(alloc, &mut explanation, name, error, fault),
+        None => explain_unseen(alloc, &mut explanation, name, fault),
     };
     drop(seen);
-    append(text, told, answer)
+    append(text, explanation, answer)
 }
 
 /// What a second look is for.
@@ -241,9 +241,9 @@ fn explain_failed(
 pub fn push_error(alloc: Global, text: &mut Vec<u8>, error: &io::Error) -> Result<(), AllocError>
     ensures { StartsWith text.new.items text.old.items }
 {
-    let mut told = Vec::new(alloc);
-    let answer = push_system(alloc, &mut told, error);
-    append(text, told, answer)
+    let mut explanation = Vec::new(alloc);
+    let answer = push_system(alloc, &mut explanation, error);
+    append(text, explanation, answer)
 }
 
 /// Appends what the system says of a failure, as a line.

@@ -30,9 +30,9 @@ pub fn explain_reason(
 ) -> Result<(), AllocError>
     ensures { StartsWith text.new.items text.old.items }
 {
-    let mut told = Vec::new(alloc);
-    let answer = push_reason(&mut told, name, reason);
-    append(text, told, answer)
+    let mut explanation = Vec::new(alloc);
+    let answer = push_reason(&mut explanation, name, reason);
+    append(text, explanation, answer)
 }
 
 /// Appends the file that is to blame, and the rule of the reason.
@@ -58,9 +58,9 @@ pub fn push_details(
 ) -> Result<(), AllocError>
     ensures { StartsWith text.new.items text.old.items }
 {
-    let mut told = Vec::new(alloc);
-    let answer = push_all(&mut told, reason, instance, solution, certificate);
-    append(text, told, answer)
+    let mut explanation = Vec::new(alloc);
+    let answer = push_all(&mut explanation, reason, instance, solution, certificate);
+    append(text, explanation, answer)
 }
 
 /// Appends what the files show of a reason.

@@ -112,12 +112,12 @@ fn push_indented_byte(text: &mut Vec<u8>, byte: u8) -> Result<(), AllocError>
 /// Appends the explanation, whole or in part. The text from before stays in front.
 pub(crate) fn append(
     text: &mut Vec<u8>,
-    told: Vec<u8>,
+    explanation: Vec<u8>,
     answer: Result<(), AllocError>,
 ) -> Result<(), AllocError>
     ensures { StartsWith text.new.items text.old.items }
 {
-    text.extend_from_slice(&told)?;
+    text.extend_from_slice(&explanation)?;
     answer
 }
 
@@ -129,9 +129,9 @@ pub(crate) fn append(
 pub fn explain_lines(alloc: Global, text: &mut Vec<u8>, sentences: &str) -> Result<(), AllocError>
     ensures { StartsWith text.new.items text.old.items }
 {
-    let mut told = Vec::new(alloc);
-    let answer = push_lines(&mut told, sentences);
-    append(text, told, answer)
+    let mut explanation = Vec::new(alloc);
+    let answer = push_lines(&mut explanation, sentences);
+    append(text, explanation, answer)
 }
 
 /// Appends bytes of a file as `cat -v` shows them, so that none of them reaches a terminal as a

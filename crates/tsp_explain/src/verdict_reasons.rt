@@ -60,12 +60,12 @@ pub fn explain_verdict(
 ) -> Result<(), AllocError>
     ensures { StartsWith text.new.items text.old.items }
 {
-    let mut told = Vec::new(alloc);
+    let mut explanation = Vec::new(alloc);
     let answer = match length_of(verdict) {
-        Ok(length) => push_yes(alloc, &mut told, files, length),
-        Err(reason) => push_no(alloc, &mut told, files, reason),
+        Ok(length) => push_yes(alloc, &mut explanation, files, length),
+        Err(reason) => push_no(alloc, &mut explanation, files, reason),
     };
-    append(text, told, answer)
+    append(text, explanation, answer)
 }
 
 /// Appends what a user has to know of a solution that is accepted.
@@ -110,13 +110,13 @@ pub fn explain_bound(
 ) -> Result<(), AllocError>
     ensures { StartsWith text.new.items text.old.items }
 {
-    let mut told = Vec::new(alloc);
+    let mut explanation = Vec::new(alloc);
     let answer = match found {
         BoundVerdict::Bound(_) => Ok(()),
-        BoundVerdict::NoSolution => push_lines(&mut told, none_of(files.instance.kind())),
-        BoundVerdict::No(reason) => push_no(alloc, &mut told, files, reason),
+        BoundVerdict::NoSolution => push_lines(&mut explanation, none_of(files.instance.kind())),
+        BoundVerdict::No(reason) => push_no(alloc, &mut explanation, files, reason),
     };
-    append(text, told, answer)
+    append(text, explanation, answer)
 }
 
 /// Appends what explains that files aren't judged, or don't bound tours, for the TYPE of the first
@@ -133,10 +133,10 @@ pub fn explain_wrong_kind(
 ) -> Result<(), AllocError>
     ensures { StartsWith text.new.items text.old.items }
 {
-    let mut told = Vec::new(alloc);
+    let mut explanation = Vec::new(alloc);
     let kinds = if is_bound { BOUND_KINDS } else { KINDS };
-    let answer = push_wrong_kind(&mut told, name, kinds);
-    append(text, told, answer)
+    let answer = push_wrong_kind(&mut explanation, name, kinds);
+    append(text, explanation, answer)
 }
 
 /// What it means that a certificate gives an instance of this TYPE no bound.

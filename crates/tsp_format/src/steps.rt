@@ -7,7 +7,7 @@ pub enum TreeStep {
     /// then that of the cycles that don't. Or by a family and a limit: n + k and t come before the
     /// tree of the solutions that cross family k at most 2t times, and then that of the others.
     Branch(u32, u32),
-    /// Closes a case by numbers, told by their differences to those of the leaf before, 0 before
+    /// Closes a case by numbers, given as their differences to those of the leaf before, 0 before
     /// the first: index 1 to n is a node's potential, n + k the multiplier of comb k.
     Leaf(Vec<(u32, i64)>),
 }

@@ -24,7 +24,7 @@ use Rattle.tsp_cost.specs.ProblemLaws.{IsProblem}
 use Rattle.tsp_cost.specs.ComputedProblems.{problem_of, routing_of, depots_of}
 use Rattle.tsp_judge.specs.Accepted.{BoundsAll, HasNone, IsAcceptedAlone}
 use Rattle.tsp_judge.specs.CheckRun.{ReadsFile}
-use Rattle.tsp_judge.proofs.HandedOn.{one_value}
+use Rattle.tsp_judge.proofs.OneValue.{one_value}
 use Rattle.tsp_judge.proofs.Yeses.{IsBoundedType, of_type, types_bounded, one_depot, none_unknown}
 use Rattle.tsp_verdict.specs.Strict.{is_unjudged, strict_bound}
 

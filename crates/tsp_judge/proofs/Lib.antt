@@ -3,7 +3,7 @@ pub mod Bounding
 pub mod Comparing
 pub mod CompareMeaning
 pub mod Converts
-pub mod HandedOn
+pub mod OneValue
 pub mod Openings
 pub mod Runs
 pub mod Shows

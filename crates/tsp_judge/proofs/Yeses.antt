@@ -31,8 +31,8 @@ use Rattle.tsp_report.specs.Report.{report_of}
 use Rattle.tsp_judge.specs.declared.fault.RunFault.{RunFault}
 use Rattle.tsp_judge.specs.declared.judging.Judged.{Judged}
 use Rattle.tsp_task.specs.Verdicts.{is_yes}
-use Rattle.tsp_judge.specs.CheckRun.{Given, EndsWithout, IsRun, told}
-use Rattle.tsp_judge.proofs.HandedOn.{one_value}
+use Rattle.tsp_judge.specs.CheckRun.{Given, EndsWithout, IsRun, acceptance}
+use Rattle.tsp_judge.proofs.OneValue.{one_value}
 use Rattle.tsp_judge.specs.Accepted.{IsAcceptedTour, AreOnlyRoutes, AreAcceptedRoutes, IsTourWithBound, AreRoutesWithBound, IsAccepted}
 use Rattle.tsp_judge.specs.Yes.{SaysYes, IsRunOf}
 
@@ -363,7 +363,7 @@ run_of strict given claimed first second sink judged problem run = (
   run,
   (
     (judged.instance, judged.solution, judged.certificate, judged.verdict, run.0, run.1, refl),
-    λ is. says_yes given claimed strict first second sink judged problem run (sym (one_value (told (Ok judged)) _ _ refl is)),
+    λ is. says_yes given claimed strict first second sink judged problem run (sym (one_value (acceptance (Ok judged)) _ _ refl is)),
   ),
 )
 

@@ -113,6 +113,6 @@ IsCheckAnswer given claimed strict first second sink (Ok answer) = (instance sol
 IsCheckAnswer given claimed strict first second sink (Err fault) = EndsWithout given claimed strict first second sink fault
 
 -- whether the solution is accepted, where there is a verdict
-abbrev pub told : Result Judged RunFault → Result Bool RunFault
-told (Ok judged) = Ok (is_yes judged.verdict)
-told (Err fault) = Err fault
+abbrev pub acceptance : Result Judged RunFault → Result Bool RunFault
+acceptance (Ok judged) = Ok (is_yes judged.verdict)
+acceptance (Err fault) = Err fault

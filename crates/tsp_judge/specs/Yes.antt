@@ -7,7 +7,7 @@ use Rattle.tsp_task.specs.declared.certificate.Certificate.{Certificate}
 use Rattle.tsp_judge.specs.declared.fault.RunFault.{RunFault}
 use Rattle.tsp_judge.specs.declared.judging.Judged.{Judged}
 use Rattle.tsp_judge.specs.Accepted.{IsAccepted}
-use Rattle.tsp_judge.specs.CheckRun.{Given, AreRead, IsRun, IsCheckAnswer, told}
+use Rattle.tsp_judge.specs.CheckRun.{Given, AreRead, IsRun, IsCheckAnswer, acceptance}
 
 -- With `yes` the bytes that were read parse to these files, the whole report was written, and it means that the solution is
 -- accepted. Where unknown keywords are a reason the instance has none.
@@ -37,4 +37,4 @@ IsCheckBy by first second third sink result = IsCheckOf (Some (by, third)) None 
 -- the same with the files and the verdict as the result
 abbrev pub IsRunOf : Given → Option ℤ → Bool → Turn → Turn → Sink → Result Judged RunFault → Type 0
 IsRunOf given claimed strict first second sink result = IsRun given claimed strict first second sink result
-    × IsCheckOf given claimed strict first second sink (told result)
+    × IsCheckOf given claimed strict first second sink (acceptance result)

@@ -8,7 +8,7 @@ ghost use Rattle.tsp_stream.specs.Turn.{TakesAtMost};
 ghost use Rattle.tsp_read.specs.Asked.{IsReadOn};
 ghost use Rattle.tsp_read.specs.Reads.{most_taken};
 ghost use Rattle.tsp_task.specs.declared.certificate.Certificate.TheVariants as certificates;
-ghost use Rattle.tsp_judge.specs.CheckRun.{told};
+ghost use Rattle.tsp_judge.specs.CheckRun.{acceptance};
 ghost use Rattle.tsp_judge.specs.ConvertRun.{IsConvertRun};
 ghost use Rattle.tsp_judge.specs.ShowRun.{IsShowRun};
 ghost use Rattle.tsp_judge.specs.Yes.{IsCheck, IsCheckBy};
@@ -50,7 +50,7 @@ pub fn run_check<I: Gives, S: Gives, W: Write>(
         IsCheck first second (sink_of W.contents out.old out.new) result)) }
     ensures asked { IsReadOn I.gives inst.old inst.new × IsReadOn S.gives sol.old sol.new }
 {
-    told(run_uncertified(alloc, inst, sol, None, false, out))
+    acceptance(run_uncertified(alloc, inst, sol, None, false, out))
 }
 
 /// Judges a tour of an instance of TYPE TSP or ATSP with a certificate of a bound, and writes the
@@ -88,7 +88,7 @@ pub fn run_bound_check<I: Gives, S: Gives, P: Gives, W: Write>(
         × IsReadOn P.gives pot.old pot.new }
 {
     let by = Some(Certificate::Potentials);
-    told(run(alloc, inst, sol, by, pot, None, false, out))
+    acceptance(run(alloc, inst, sol, by, pot, None, false, out))
 }
 
 /// Judges a tour of an instance of TYPE TSP or ATSP with a tree of cases, and writes the report.
@@ -126,7 +126,7 @@ pub fn run_branch_check<I: Gives, S: Gives, B: Gives, W: Write>(
         × IsReadOn B.gives tree.old tree.new }
 {
     let by = Some(Certificate::Branches);
-    told(run(alloc, inst, sol, by, tree, None, false, out))
+    acceptance(run(alloc, inst, sol, by, tree, None, false, out))
 }
 
 /// Writes what a file is: its name, its TYPE and number of nodes, of an instance the weight type,
@@ -177,8 +177,8 @@ pub fn run_convert<R: Gives, W: Write>(
 }
 
 /// Whether the solution is accepted, where there is a verdict.
-fn told(ended: Result<Judged, RunError>) -> Result<bool, RunFault>
-    ensures { result ≡ told ended }
+fn acceptance(ended: Result<Judged, RunError>) -> Result<bool, RunFault>
+    ensures { result ≡ acceptance ended }
 {
     let judged = ended?;
     let answer = judged.verdict.is_yes();

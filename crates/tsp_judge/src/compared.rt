@@ -74,7 +74,7 @@ pub fn run_compare<I: Gives, C: Gives, R: Gives + Drop, E, S: Solutions<R> + Fol
         × IsCompareRun strict R.remaining R.gives (S.opens solutions.now) (S.names solutions.now) (given_by by second) first
         (sink_of W.contents out.old out.new) result)) }
     ensures asked { IsReadOn I.gives inst.old inst.new × IsReadOn C.gives cert.old cert.new }
-    ensures told { IsFollowed (S.tells solutions.now) (length (S.names solutions.now)) to.old to.new result }
+    ensures reported { IsFollowed (S.tells solutions.now) (length (S.names solutions.now)) to.old to.new result }
 {
     let instance = read_file(alloc, 1, inst)?;
     let certificate = read_certificate(alloc, 2, by, cert)?;
@@ -94,7 +94,7 @@ pub(crate) fn compare_read<R: Gives + Drop, E, S: Solutions<R> + Follow<E>, W: W
     ensures text { (given : Given) (first : Turn) → IsFile first instance → IsFileIn given certificate
         → IsCompareRun strict R.remaining R.gives (S.opens solutions.now) (S.names solutions.now) given first
         (sink_of W.contents out.old out.new) result }
-    ensures told { IsFollowed (S.tells solutions.now) (length (S.names solutions.now)) to.old to.new result }
+    ensures reported { IsFollowed (S.tells solutions.now) (length (S.names solutions.now)) to.old to.new result }
 {
     let Ok(instance) = Instance::of(instance) else {
         return Err(RunError::wrong_kind());
@@ -119,7 +119,7 @@ fn compare_with<R: Gives + Drop, E, S: Solutions<R> + Follow<E>, W: Write>(
     requires problem { IsProblem common.now.instance }
     ensures text { ComparesBy (is_clear common.now.basis) (IsTurnAt R.remaining R.gives (S.opens solutions.now))
         (S.names solutions.now) common.now (sink_of W.contents out.old out.new) result }
-    ensures told { IsFollowedBy (is_clear common.now.basis) (S.tells solutions.now) (length (S.names solutions.now))
+    ensures reported { IsFollowedBy (is_clear common.now.basis) (S.tells solutions.now) (length (S.names solutions.now))
         to.old to.new result }
 {
     match write_head(common.instance.file(), common.basis, out) {
@@ -145,7 +145,7 @@ fn compare_all<R: Gives + Drop, E, S: Solutions<R> + Follow<E>, W: Write>(
     requires sound { has_failed out.old ≡ false }
     ensures text { ComparesAll (IsTurnAt R.remaining R.gives (S.opens solutions.now)) (S.names solutions.now) common.now []
         (sink_of W.contents out.old out.new) result }
-    ensures told { IsFollowedBy true (S.tells solutions.now) (length (S.names solutions.now)) to.old to.new result }
+    ensures reported { IsFollowedBy true (S.tells solutions.now) (length (S.names solutions.now)) to.old to.new result }
 {
     let mut status = 0;
     'solutions: for index in 0..solutions.count() {

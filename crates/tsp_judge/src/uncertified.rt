@@ -61,7 +61,7 @@ pub fn run_compare_uncertified<I: Gives, R: Gives + Drop, E, S: Solutions<R> + F
         IsCompareRun strict R.remaining R.gives (S.opens solutions.now) (S.names solutions.now) None first
         (sink_of W.contents out.old out.new) result) }
     ensures asked { IsReadOn I.gives inst.old inst.new }
-    ensures told { IsFollowed (S.tells solutions.now) (length (S.names solutions.now)) to.old to.new result }
+    ensures reported { IsFollowed (S.tells solutions.now) (length (S.names solutions.now)) to.old to.new result }
 {
     let instance = read_file(alloc, 1, inst)?;
     compare_read(alloc, instance, None, solutions, strict, out, to)

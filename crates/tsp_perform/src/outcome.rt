@@ -125,7 +125,7 @@ pub fn compare<R: Gives + Drop, E, S: Solutions<R> + Follow<E>, W: Write>(
     ensures text { IsCompared R.remaining R.gives (S.opens solutions.now) (S.names solutions.now)
         comparison.old comparison.new (sink_of W.contents out.old out.new) result }
     ensures asked { AreComparedOn R.gives comparison.old comparison.new }
-    ensures told { IsFollowed (S.tells solutions.now) (length (S.names solutions.now)) to.old to.new result }
+    ensures reported { IsFollowed (S.tells solutions.now) (length (S.names solutions.now)) to.old to.new result }
 {
     let Comparison {
         instance,

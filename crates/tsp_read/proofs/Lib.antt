@@ -23,4 +23,4 @@ pub mod SectionCases
 pub mod FirstSteps
 pub mod SectionSteps
 pub mod Asking
-mod HandedOn
+pub mod Propagated

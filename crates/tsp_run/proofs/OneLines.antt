@@ -1,4 +1,4 @@
--- The text of each fault is one line. For the law `faults_are_told_on_one_line` in src/laws.rt.
+-- The text of each fault is one line. For the law `faults_are_one_line` in src/laws.rt.
 use Rattle.std.proofs.Common.{◌≡◌, ℕ, suc, zero, ◌<◌, ◌/◌, ◌%◌, ◌==◌, Bool, true, false, List, [], ◌∷◌, ◌++◌, refl, ap, ◌∙◌, rules, arith}
 use Rattle.std.proofs.lemmas.List.Folds.{list_all-append}
 use Rattle.std.proofs.Math.Nat.{mod-lt}

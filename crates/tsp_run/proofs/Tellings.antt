@@ -2,7 +2,7 @@
 use Rattle.std.proofs.Common.{ℕ, zero, suc, Bool, true, false, List, [], ◌++◌, Option, refl, sym, subst, ◌∙◌}
 use Rattle.std.specs.Prelude.{Result, Ok, Err}
 use Rattle.std.proofs.KnownBytes.{Appends-nil, Appends-trans}
-use Rattle.tsp_judge.specs.Following.{AreTold, AreAllTold, IsFollowed}
+use Rattle.tsp_judge.specs.Following.{AreReported, AreAllReported, IsFollowed}
 use Rattle.tsp_judge.specs.declared.compared.Compared.{Compared}
 use Rattle.tsp_judge.specs.declared.fault.RunFault.{RunFault}
 use Rattle.tsp_run.specs.Telling.{MayTell}
@@ -22,19 +22,19 @@ tells_more true first next last some more = (some.0 ++ more.0, Appends-trans fir
 abbrev pub TellsLine : {E : Type 0} → Bool → (E → Option (List ℕ)) → ℕ → E → E → Type 0
 TellsLine explained contents index old new = MayTell explained (contents old) (contents new)
 
-tells_first : {E : Type 0} (explained : Bool) (contents : E → Option (List ℕ)) (count : ℕ) (old new : E) → AreTold (TellsLine explained contents) count old new
+tells_first : {E : Type 0} (explained : Bool) (contents : E → Option (List ℕ)) (count : ℕ) (old new : E) → AreReported (TellsLine explained contents) count old new
     → MayTell explained (contents old) (contents new)
-tells_first explained contents zero old new told = subst (λ e. MayTell explained (contents old) (contents e)) (sym told) (tells_none explained (contents old))
-tells_first explained contents (suc count) old new told =
-    tells_more explained (contents old) (contents told.0) (contents new) (tells_first explained contents count old told.0 told.1) told.2
+tells_first explained contents zero old new reported = subst (λ e. MayTell explained (contents old) (contents e)) (sym reported) (tells_none explained (contents old))
+tells_first explained contents (suc count) old new reported =
+    tells_more explained (contents old) (contents reported.0) (contents new) (tells_first explained contents count old reported.0 reported.1) reported.2
 
-tells_all : {E : Type 0} (explained clear : Bool) (contents : E → Option (List ℕ)) (count : ℕ) (old new : E) → AreAllTold clear (TellsLine explained contents) count old new
+tells_all : {E : Type 0} (explained clear : Bool) (contents : E → Option (List ℕ)) (count : ℕ) (old new : E) → AreAllReported clear (TellsLine explained contents) count old new
     → MayTell explained (contents old) (contents new)
-tells_all explained true contents count old new told = tells_first explained contents count old new told
-tells_all explained false contents count old new told = subst (λ e. MayTell explained (contents old) (contents e)) (sym told) (tells_none explained (contents old))
+tells_all explained true contents count old new reported = tells_first explained contents count old new reported
+tells_all explained false contents count old new reported = subst (λ e. MayTell explained (contents old) (contents e)) (sym reported) (tells_none explained (contents old))
 
 -- of all that were compared
 pub tells_compared : {E : Type 0} (explained : Bool) (contents : E → Option (List ℕ)) (count : ℕ) (old new : E) (ended : Result Compared RunFault)
     → IsFollowed (TellsLine explained contents) count old new ended → MayTell explained (contents old) (contents new)
-tells_compared explained contents count old new (Ok compared) told = tells_all explained _ contents count old new told
-tells_compared explained contents count old new (Err fault) told = tells_first explained contents told.0 old new told.2
+tells_compared explained contents count old new (Ok compared) reported = tells_all explained _ contents count old new reported
+tells_compared explained contents count old new (Err fault) reported = tells_first explained contents reported.0 old new reported.2

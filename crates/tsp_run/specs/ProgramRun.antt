@@ -112,23 +112,23 @@ HasNoWords kind explained (Ended answer) = ⊥
 HasNoWords kind explained (run_ends.Compared answer) = ⊥
 
 -- the exit status is that of the run's end, and its line is written, where that succeeded, and more where it is explained
-abbrev pub IsTold : Bool → RunEnd → Option (List ℕ) → Option (List ℕ) → ℕ × Result (Unit {0}) Error → Type 0
-IsTold explained run_end old new answer = (answer.0 ≡ status_of_run_end run_end) × OnOk answer.1 (TellsAll explained run_end old new)
+abbrev pub IsReported : Bool → RunEnd → Option (List ℕ) → Option (List ℕ) → ℕ × Result (Unit {0}) Error → Type 0
+IsReported explained run_end old new answer = (answer.0 ≡ status_of_run_end run_end) × OnOk answer.1 (TellsAll explained run_end old new)
 
 -- the run tells some end with Q, of a job, of a task, or of a comparison
 abbrev pub RunsJob : (RunEnd → Type 0) → Bool → Option (List ℕ) → Option (List ℕ) → ℕ × Result (Unit {0}) Error → Type 0
-RunsJob Q explained old new answer = (run_end : RunEnd) × Q run_end × IsTold explained run_end old new answer
+RunsJob Q explained old new answer = (run_end : RunEnd) × Q run_end × IsReported explained run_end old new answer
 
 abbrev pub RunsFileTask : (Result Outcome RunFault → Type 0) → Bool → Option (List ℕ) → Option (List ℕ)
     → ℕ × Result (Unit {0}) Error → Type 0
-RunsFileTask Q explained old new answer = (done : Result Outcome RunFault) × Q done × IsTold explained (Ended done) old new answer
+RunsFileTask Q explained old new answer = (done : Result Outcome RunFault) × Q done × IsReported explained (Ended done) old new answer
 
 abbrev pub RunsComparison : (Result Compared RunFault → Type 0) → Bool → Option (List ℕ) → Option (List ℕ)
     → ℕ × Result (Unit {0}) Error → Type 0
 RunsComparison Q explained old new answer = (found : Result Compared RunFault) × Q found
-    × IsTold explained (run_ends.Compared found) old new answer
+    × IsReported explained (run_ends.Compared found) old new answer
 
 -- the exit status is that of a run's end with Q, and its line is written, where that succeeded; more follows the line where the
 -- ending is explained
 abbrev pub Runs : (Bool → RunEnd → Type 0) → Option (List ℕ) → Option (List ℕ) → ℕ × Result (Unit {0}) Error → Type 0
-Runs Q old new answer = (explained : Bool) × (run_end : RunEnd) × Q explained run_end × IsTold explained run_end old new answer
+Runs Q old new answer = (explained : Bool) × (run_end : RunEnd) × Q explained run_end × IsReported explained run_end old new answer

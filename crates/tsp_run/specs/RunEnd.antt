@@ -29,7 +29,7 @@ status_of_run_end (Compared (Err fault)) = status_of (Err fault)
 
 -- the line of a run's end; an answer has none, nor has a printed text, since that is on standard output
 abbrev pub IsLineOf : RunEnd → Option ErrorLine → Type 0
-IsLineOf (NoJob (job_faults.Refused refusal)) (Some (error_lines.Refusal told)) = told.now ≡ refusal
+IsLineOf (NoJob (job_faults.Refused refusal)) (Some (error_lines.Refusal reported)) = reported.now ≡ refusal
 IsLineOf (NoJob job_faults.OutOfMemory) line = line ≡ Some error_lines.OutOfMemory
 IsLineOf (Printed (Ok done)) line = line ≡ None
 IsLineOf (Printed (Err fault)) line = line ≡ Some (error_lines.Fault (Write fault))

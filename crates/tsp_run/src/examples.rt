@@ -89,11 +89,11 @@ pub fn examples_of_lines()
     ensures device { line_text (error_lines.Fault (run_faults.Write write_faults.Device)) ≡ Some (codes "output: device\n") }
     ensures relayout { line_text (error_lines.Fault (run_faults.Relayout relayout_faults.NotExplicit))
         ≡ Some (codes "relayout: NotExplicit\n") }
-    ensures fault_told { IsWritten (Some (error_lines.Fault run_faults.OutOfMemory)) (Some []) (Some (codes "out of memory\n")) }
-    ensures fault_untold { ¬ IsWritten (Some (error_lines.Fault run_faults.OutOfMemory)) (Some []) (Some []) }
-    ensures nothing_told { IsWritten None (Some []) (Some []) }
-    ensures untold_unless_explained { ¬ MayTell false (Some []) (Some (codes "x\n")) }
-    ensures told_at_the_end { ¬ MayTell true (Some (codes "x\n")) (Some []) }
+    ensures fault_reported { IsWritten (Some (error_lines.Fault run_faults.OutOfMemory)) (Some []) (Some (codes "out of memory\n")) }
+    ensures fault_unreported { ¬ IsWritten (Some (error_lines.Fault run_faults.OutOfMemory)) (Some []) (Some []) }
+    ensures nothing_reported { IsWritten None (Some []) (Some []) }
+    ensures unreported_unless_explained { ¬ MayTell false (Some []) (Some (codes "x\n")) }
+    ensures reported_at_the_end { ¬ MayTell true (Some (codes "x\n")) (Some []) }
     ensures none_made_up { ¬ IsWritten None (Some []) (Some (codes "x\n")) }
 {}
 

@@ -52,7 +52,7 @@ impl<F: Read + Drop, O: Open<F>, E: Write> Follow<E> for Followed<'_, F, O> {
             return;
         }
         let mut text = Vec::new(self.task_run.alloc);
-        let _ = self.push_told(&mut text, common, index, found);
+        let _ = self.push_message(&mut text, common, index, found);
         send_what_goes(to, &text);
         drop(text);
     }
@@ -63,7 +63,7 @@ const ANEW: &[u8] = b"\r\x1b[K";
 
 impl<F: Read + Drop, O: Open<F>> Followed<'_, F, O> {
     /// Appends what standard error has of a solution.
-    fn push_told(
+    fn push_message(
         &self,
         text: &mut Vec<u8>,
         common: &Common,

@@ -21,7 +21,7 @@ use crate::input_file::Open;
 use tsp_stream::Gives;
 
 /// The text of a fault is one line, and it is written with its end.
-pub fn faults_are_told_on_one_line()
+pub fn faults_are_one_line()
     ensures one { (fault : RunFault) → is_one_line (run_fault_text fault) ≡ true }
     ensures ended { (fault : RunFault) (old new : Option (List ℕ)) → IsWritten (Some (error_lines.Fault fault)) old new
         → WritesLine old new }

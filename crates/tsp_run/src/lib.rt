@@ -26,7 +26,7 @@ pub use examples::{
     examples_of_help, examples_of_lines, examples_of_opened_files, examples_of_statuses,
 };
 pub use input_file::{InputFile, Open};
-pub use laws::{explained_on_a_terminal, faults_are_told_on_one_line};
+pub use laws::{explained_on_a_terminal, faults_are_one_line};
 pub use run_end::{ErrorLine, RunEnd, line_of, status_of_run_end, tell};
 pub use running::{Surroundings, run, tell_unread};
 pub use tsp_cli::{InputPath, JobFault, TaskFault};

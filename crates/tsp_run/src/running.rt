@@ -115,13 +115,13 @@ pub fn tell_unread<E: Write>(
     end(&RunEnd::NoJob(unread(alloc, error)), errors)
 }
 
-/// The exit status of a run's end, and whether its line could be told.
+/// The exit status of a run's end, and whether its line was written.
 fn end<E: Write>(run_end: &RunEnd, errors: &mut E) -> (u8, io::Result<()>)
     ensures status { result.0 ≡ status_of_run_end run_end.now }
-    ensures told { OnOk result.1 (Tells run_end.now (E.contents errors.old) (E.contents errors.new)) }
+    ensures reported { OnOk result.1 (Tells run_end.now (E.contents errors.old) (E.contents errors.new)) }
 {
-    let told = tell(run_end, errors);
-    (status_of_run_end(run_end), told)
+    let reported = tell(run_end, errors);
+    (status_of_run_end(run_end), reported)
 }
 
 /// Does the job, and tells how that ended, with its explanation where that is wanted. The result is
@@ -141,8 +141,8 @@ fn run_job<F: Gives + Drop, O: Open<F>, W: Write, E: Write>(
     let task = match task_of(job) {
         Ok(task) => task,
         Err(fault) => {
-            let told = tell_fault_of_job(alloc, fault, errors, explain);
-            return (status_of_run_end(&RunEnd::NoTask(fault)), told);
+            let reported = tell_fault_of_job(alloc, fault, errors, explain);
+            return (status_of_run_end(&RunEnd::NoTask(fault)), reported);
         }
     };
     let task_run = TaskRun {
@@ -194,8 +194,8 @@ fn run_file_task<F: Gives + Drop, O: Open<F>, W: Write, E: Write>(
 {
     let mut readers = opened(task, task_run.files);
     let run_end = RunEnd::Ended(perform(task_run.alloc, &mut readers, out));
-    let told = tell_end(task_run, &run_end, out.error(), errors);
-    (status_of_run_end(&run_end), told)
+    let reported = tell_end(task_run, &run_end, out.error(), errors);
+    (status_of_run_end(&run_end), reported)
 }
 
 /// Compares solutions, and tells how that ended. The instance is opened in its place, and the
@@ -218,8 +218,8 @@ fn run_comparison<F: Gives + Drop, O: Open<F>, W: Write, E: Write>(
     let found = compare(task_run.alloc, &mut readers, &followed, out, errors);
     let run_end = RunEnd::Compared(found);
     end_count(task_run, errors);
-    let told = tell_end(task_run, &run_end, out.error(), errors);
-    (status_of_run_end(&run_end), told)
+    let reported = tell_end(task_run, &run_end, out.error(), errors);
+    (status_of_run_end(&run_end), reported)
 }
 
 /// Reports how a task ended, and explains it where that is wanted, with the system's words on a
@@ -243,9 +243,9 @@ fn tell_end<F: Read + Drop, O: Open<F>, E: Write>(
 fn append<E: Write>(errors: &mut E, text: Vec<u8>) -> io::Result<()>
     ensures { OnOk result (Appends (E.contents errors.old) (E.contents errors.new) text.items) }
 {
-    let told = errors.write_all(&text);
+    let reported = errors.write_all(&text);
     drop(text);
-    told
+    reported
 }
 
 /// The words after the program's own name.

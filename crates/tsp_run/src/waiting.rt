@@ -21,7 +21,7 @@ pub fn tell_waiting<E: Write>(
     reads_terminal: bool,
     errors: &mut E,
 ) -> io::Result<()>
-    ensures told { reads_terminal ≡ true → length line.now < 2
+    ensures reported { reads_terminal ≡ true → length line.now < 2
         → OnOk result (Appends (E.contents errors.old) (E.contents errors.new) waiting_line) }
     ensures elsewhere { reads_terminal ≡ false → Keeps (E.contents errors.old) (E.contents errors.new) }
     ensures words { 2 ≤ length line.now → Keeps (E.contents errors.old) (E.contents errors.new) }

@@ -49,7 +49,7 @@ fn remembers_a_read(rt: &impl Abort, kind: ErrorKind) {
 }
 
 #[test]
-fn a_read_that_fails_is_handed_on_and_remembered(rt: HostRuntime) {
+fn a_read_that_fails_is_returned_and_remembered(rt: HostRuntime) {
     let mut reader = Watched::new(b"".as_slice());
     same(&rt, outcome(reader.read(&mut [0u8; 4])), Ok(0));
     same(&rt, outcome(reader.read(&mut [])), Ok(0));
@@ -107,7 +107,7 @@ fn remembers_a_write(rt: &(impl AllocGlobal + Abort), kind: ErrorKind) {
 }
 
 #[test]
-fn a_write_or_flush_that_fails_is_handed_on_and_remembered(rt: HostRuntime) {
+fn a_write_or_flush_that_fails_is_returned_and_remembered(rt: HostRuntime) {
     let mut sound = Watched::new(Drip::sound(rt.alloc()));
     flushes(&rt, &mut sound, Ok(()), false);
     was_asked(&rt, sound, b"", 0);

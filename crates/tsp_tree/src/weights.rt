@@ -5,7 +5,7 @@ ghost use Rattle.tsp_format.specs.Nodes.{IsNode};
 ghost use Rattle.tsp_format.specs.Limits.{most_nodes};
 ghost use Rattle.tsp_theory.specs.states.Nearest.{least_at};
 
-/// Weights between the nodes 1 to `count`, told by rows.
+/// Weights between the nodes 1 to `count`, given by rows.
 pub trait Weights {
     ghost nodes: { Self → ℕ };
 

@@ -79,7 +79,7 @@ bad_within n crossed steps bad h =
 
 -- ---- the verdict of tsp_branch, over what the files hold
 
-pub record IsTold (inst tree : Fields) (costs : ℕ → ℕ → ℤ) (verdict : BranchVerdict) : Type 0 where
+pub record IsReported (inst tree : Fields) (costs : ℕ → ℕ → ℤ) (verdict : BranchVerdict) : Type 0 where
   pub steps : List listed.Step
   pub steps_are : tree.branches ≡ Some steps
   pub by_steps : IsBranchVerdict (is_directed inst.kind) (nodes_of inst) costs (scale_in tree) (families_listed tree)
@@ -117,11 +117,11 @@ are_of inst tree directed n scale combs fixed given steps directed_is count scal
       steps_are = steps_are;
     }
 
-pub told : (inst tree : Fields) (directed : Bool) (n : ℕ) (costs : ℕ → ℕ → ℤ) (scale : ℤ) (families : List (List (List ℕ)))
+pub reported : (inst tree : Fields) (directed : Bool) (n : ℕ) (costs : ℕ → ℕ → ℤ) (scale : ℤ) (families : List (List (List ℕ)))
     (given : List Decision) (steps : List listed.Step) (verdict : BranchVerdict)
     → AreOf inst tree directed n scale families given steps
-    → IsBranchVerdict directed n costs scale families given steps verdict → IsTold inst tree costs verdict
-told inst tree directed n costs scale families given steps verdict are h =
+    → IsBranchVerdict directed n costs scale families given steps verdict → IsReported inst tree costs verdict
+reported inst tree directed n costs scale families given steps verdict are h =
     let to : Bool = is_directed inst.kind in
     let by_steps =
     subst (λ (m : ℕ). IsBranchVerdict to m costs (scale_in tree) (families_listed tree) (given_in inst) steps verdict)
@@ -151,10 +151,10 @@ no_bad_comb inst tree good index stands =
     stands.holds (good (index - 1) (omega (arith, stands.here.0, stands.here.1)))
 
 -- the numbers of the families are those of the file's
-numbers_told : (inst tree : Fields) (crossed : List Crossings)
+numbers_reported : (inst tree : Fields) (crossed : List Crossings)
     → AreFamilies (nodes_of inst) (families_listed tree) crossed
     → AreNumbersOf inst tree crossed
-numbers_told inst tree crossed are = record {
+numbers_reported inst tree crossed are = record {
   many = are.many;
   are = are.are;
 }
@@ -289,7 +289,7 @@ for_tree P inst tree (inr atsp) first = subst (λ k. P (StandsAgainstCertificate
 
 pub comb_first : (inst tree : Fields) (costs : ℕ → ℕ → ℤ) (index : ℕ) → HasArcsOrEdges inst → is_branches_file tree.kind ≡ true
     → nodes_of tree ≡ nodes_of inst
-    → IsTold inst tree costs (found.BadFamily index)
+    → IsReported inst tree costs (found.BadFamily index)
     → IsFirstReason (StandsAgainstCertificate Branches inst tree) (BadComb index)
 comb_first inst tree costs index kind sort size is = for_tree (λ Stands. IsFirstReason Stands (BadComb index)) inst tree kind (record {
   stands = bad_comb inst tree index is.by_steps;
@@ -299,7 +299,7 @@ comb_first inst tree costs index kind sort size is = for_tree (λ Stands. IsFirs
 
 pub pair_first : (inst tree : Fields) (costs : ℕ → ℕ → ℤ) (index : ℕ) → HasArcsOrEdges inst → is_branches_file tree.kind ≡ true
     → nodes_of tree ≡ nodes_of inst
-    → IsTold inst tree costs (found.BadBranch index)
+    → IsReported inst tree costs (found.BadBranch index)
     → IsFirstReason (StandsAgainstCertificate Branches inst tree) (BadBranch index)
 pair_first inst tree costs index kind sort size is = for_tree (λ Stands. IsFirstReason Stands (BadBranch index)) inst tree kind (record {
   stands = (is.steps, is.steps_are, is.by_steps.2);
@@ -310,7 +310,7 @@ pair_first inst tree costs index kind sort size is = for_tree (λ Stands. IsFirs
 
 pub twice_first : (inst tree : Fields) (costs : ℕ → ℕ → ℤ) (index : ℕ) → HasArcsOrEdges inst → is_branches_file tree.kind ≡ true
     → nodes_of tree ≡ nodes_of inst
-    → IsTold inst tree costs (found.BranchTwice index)
+    → IsReported inst tree costs (found.BranchTwice index)
     → IsFirstReason (StandsAgainstCertificate Branches inst tree) (BranchTwice index)
 twice_first inst tree costs index kind sort size is = for_tree (λ Stands. IsFirstReason Stands (BranchTwice index)) inst tree kind (record {
   stands = (is.steps, is.steps_are, is.by_steps.3);
@@ -321,14 +321,14 @@ twice_first inst tree costs index kind sort size is = for_tree (λ Stands. IsFir
 
 pub leaf_first : (inst tree : Fields) (costs : ℕ → ℕ → ℤ) (index : ℕ) → HasArcsOrEdges inst → is_branches_file tree.kind ≡ true
     → nodes_of tree ≡ nodes_of inst
-    → IsTold inst tree costs (found.BadLeaf index)
+    → IsReported inst tree costs (found.BadLeaf index)
     → IsFirstReason (StandsAgainstCertificate Branches inst tree) (BadLeaf index)
 leaf_first inst tree costs index kind sort size is = for_tree (λ Stands. IsFirstReason Stands (BadLeaf index)) inst tree kind (record {
   stands = (
     is.steps,
     is.steps_are,
     is.by_steps.crossed,
-    numbers_told inst tree is.by_steps.crossed is.by_steps.are_families,
+    numbers_reported inst tree is.by_steps.crossed is.by_steps.are_families,
     is.by_steps.leaves,
   );
   none_before = none_before inst tree (rank_of (BadLeaf 1)) (λ low. sort) (λ low. size)
@@ -339,7 +339,7 @@ leaf_first inst tree costs index kind sort size is = for_tree (λ Stands. IsFirs
 
 none_of_branches : NumbersAreUnique → (inst tree : Fields) (costs : ℕ → ℕ → ℤ) (bound : Option ℤ)
     → is_branches_file tree.kind ≡ true
-    → nodes_of tree ≡ nodes_of inst → IsTold inst tree costs (found.Bound bound)
+    → nodes_of tree ≡ nodes_of inst → IsReported inst tree costs (found.Bound bound)
     → (reason : Reason) → StandsAgainstBranches inst tree reason → ⊥
 none_of_branches unique inst tree costs bound sort size is NotBranches stands = false≢true (sym stands ∙ sort)
 none_of_branches unique inst tree costs bound sort size is BranchesDimension stands = stands size
@@ -351,12 +351,12 @@ none_of_branches unique inst tree costs bound sort size is (BranchTwice index) s
     no_twice inst tree is.steps is.steps_are is.by_steps.are_once.0 index stands
 none_of_branches unique inst tree costs bound sort size is (BadLeaf index) stands =
     no_bad_leaf unique inst tree is.steps is.by_steps.crossed is.steps_are
-    (numbers_told inst tree is.by_steps.crossed is.by_steps.are_families) is.by_steps.leaves.2 index stands
+    (numbers_reported inst tree is.by_steps.crossed is.by_steps.are_families) is.by_steps.leaves.2 index stands
 none_of_branches unique inst tree costs bound sort size is reason stands = stands
 
 pub none_stands : NumbersAreUnique → (inst tree : Fields) (costs : ℕ → ℕ → ℤ) (bound : Option ℤ) → HasArcsOrEdges inst
     → is_branches_file tree.kind ≡ true
-    → nodes_of tree ≡ nodes_of inst → IsTold inst tree costs (found.Bound bound)
+    → nodes_of tree ≡ nodes_of inst → IsReported inst tree costs (found.Bound bound)
     → (reason : Reason) → StandsAgainstCertificate Branches inst tree reason → ⊥
 none_stands unique inst tree costs bound kind sort size is =
     for_tree (λ Stands. (reason : Reason) → Stands reason → ⊥) inst tree kind
@@ -387,9 +387,9 @@ even_view inst directed costs kind is even same undirected i j differ =
 
 -- what is found for the costs of a view is found for those of the instance
 module _ (inst tree : Fields) (costs : ℕ → ℕ → ℤ) (bound : Option ℤ) (same : Same costs (cost inst))
-    (is : IsTold inst tree costs (found.Bound bound)) where
+    (is : IsReported inst tree costs (found.Bound bound)) where
   numbers_are : AreNumbersOf inst tree is.by_steps.crossed
-  numbers_are = numbers_told inst tree is.by_steps.crossed is.by_steps.are_families
+  numbers_are = numbers_reported inst tree is.by_steps.crossed is.by_steps.are_families
 
   certificate_is : IsCaseTree (nodes_of inst) (families_with_numbers tree is.by_steps.crossed) (given_in inst)
       (case_steps_in inst tree is.steps)
@@ -448,7 +448,7 @@ without_tours inst (inr atsp) none = subst (λ k. HasNoSolutionBy k inst) (sym a
 -- the bound that a view's costs give is that of the certificate
 pub certified : (inst tree : Fields) (costs : ℕ → ℕ → ℤ) (bound : ℤ) → CaseTreesBoundCycles → HasArcsOrEdges inst
     → 3 ≤ nodes_of inst → IsSymmetricTsp inst → IsScale (scale_in tree)
-    → Same costs (cost inst) → IsBoundSized bound → IsTold inst tree costs (found.Bound (Some bound))
+    → Same costs (cost inst) → IsBoundSized bound → IsReported inst tree costs (found.Bound (Some bound))
     → IsCertified Branches inst tree bound
 certified inst tree costs bound law kind some even scaled same sized is = (
   bound_by inst tree bound kind (has_bound inst tree costs (Some bound) same is),
@@ -460,7 +460,7 @@ certified inst tree costs bound law kind some even scaled same sized is = (
 -- where no leaf has a bound, the certificate gives none, and the instance has no tour
 pub no_tour : (inst tree : Fields) (costs : ℕ → ℕ → ℤ) → CaseTreesBoundCycles → HasArcsOrEdges inst → 3 ≤ nodes_of inst
     → IsSymmetricTsp inst → IsScale (scale_in tree)
-    → Same costs (cost inst) → IsTold inst tree costs (found.Bound None)
+    → Same costs (cost inst) → IsReported inst tree costs (found.Bound None)
     → HasNoBound Branches inst tree × HasNoSolution inst
 no_tour inst tree costs law kind some even scaled same is = (
   none_by inst tree kind (has_bound inst tree costs None same is),

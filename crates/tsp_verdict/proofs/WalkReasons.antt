@@ -43,7 +43,7 @@ use Rattle.tsp_verdict.proofs.OneReason.{one_value}
 -- ---- what is found of the files
 
 -- what is found of the instance and the tree
-pub record IsToldOfRoutes (inst tree : Fields) (verdict : PlanVerdict) : Type 0 where
+pub record IsReportedOfRoutes (inst tree : Fields) (verdict : PlanVerdict) : Type 0 where
   pub steps : List Step
   pub steps_are : tree.branches ≡ Some steps
   pub by_steps : IsPlanVerdict (routing_of inst) (scale_in tree) (unit_in tree) (families_listed tree) steps verdict
@@ -84,12 +84,12 @@ problem_is inst tree depot demands capacity scale unit families steps are =
     ∙ ap (λ (ds : List ℤ). routing_with (nodes_of inst) (cost inst) (depot_of inst) ds capacity) are.demands_are
     ∙ ap (λ (z : ℤ). routing_with (nodes_of inst) (cost inst) (depot_of inst) (demands_of inst) z) are.capacity_is
 
-pub told_of_routes : (inst tree : Fields) (depot : ℕ) (demands : List ℤ) (capacity scale unit : ℤ)
+pub reported_of_routes : (inst tree : Fields) (depot : ℕ) (demands : List ℤ) (capacity scale unit : ℤ)
     (families : List (List (List ℕ))) (steps : List Step) (verdict : PlanVerdict)
     → AreOfFiles inst tree depot demands capacity scale unit families steps
     → IsPlanVerdict (routing_with (nodes_of inst) (cost inst) depot demands capacity) scale (nat_abs unit) families steps verdict
-    → IsToldOfRoutes inst tree verdict
-told_of_routes inst tree depot demands capacity scale unit families steps verdict are is = record {
+    → IsReportedOfRoutes inst tree verdict
+reported_of_routes inst tree depot demands capacity scale unit families steps verdict are is = record {
   steps = steps;
   steps_are = are.steps_are;
   by_steps =
@@ -190,7 +190,7 @@ for_walks P inst tree cvrp first = subst (λ k. P (StandsAgainstCertificateBy Br
 -- ---- the verdict
 
 pub set_first : (inst tree : Fields) (index : ℕ) → inst.kind ≡ Some kinds.Cvrp → is_branches_file tree.kind ≡ true
-    → nodes_of tree ≡ nodes_of inst → IsToldOfRoutes inst tree (found.BadFamily index)
+    → nodes_of tree ≡ nodes_of inst → IsReportedOfRoutes inst tree (found.BadFamily index)
     → FindsBound Branches inst tree (bounds.No (BadComb index))
 set_first inst tree index cvrp sort size is = for_walks (λ Stands. IsFirstReason Stands (BadComb index)) inst tree cvrp (record {
   stands = is.by_steps;
@@ -199,7 +199,7 @@ set_first inst tree index cvrp sort size is = for_walks (λ Stands. IsFirstReaso
 })
 
 pub branch_first : (inst tree : Fields) (index : ℕ) → inst.kind ≡ Some kinds.Cvrp → is_branches_file tree.kind ≡ true
-    → nodes_of tree ≡ nodes_of inst → IsToldOfRoutes inst tree (found.BadBranch index)
+    → nodes_of tree ≡ nodes_of inst → IsReportedOfRoutes inst tree (found.BadBranch index)
     → FindsBound Branches inst tree (bounds.No (BadBranch index))
 branch_first inst tree index cvrp sort size is = for_walks (λ Stands. IsFirstReason Stands (BadBranch index)) inst tree cvrp (record {
   stands = (is.steps, is.steps_are, is.by_steps.1);
@@ -209,7 +209,7 @@ branch_first inst tree index cvrp sort size is = for_walks (λ Stands. IsFirstRe
 })
 
 pub plan_leaf_first : (inst tree : Fields) (index : ℕ) → inst.kind ≡ Some kinds.Cvrp → is_branches_file tree.kind ≡ true
-    → nodes_of tree ≡ nodes_of inst → IsToldOfRoutes inst tree (found.BadLeaf index)
+    → nodes_of tree ≡ nodes_of inst → IsReportedOfRoutes inst tree (found.BadLeaf index)
     → FindsBound Branches inst tree (bounds.No (BadLeaf index))
 plan_leaf_first inst tree index cvrp sort size is = for_walks (λ Stands. IsFirstReason Stands (BadLeaf index)) inst tree cvrp (record {
   stands = (is.steps, is.steps_are, is.by_steps.1);
@@ -220,7 +220,7 @@ plan_leaf_first inst tree index cvrp sort size is = for_walks (λ Stands. IsFirs
 })
 
 pub loads_first : (inst tree : Fields) → inst.kind ≡ Some kinds.Cvrp → is_branches_file tree.kind ≡ true
-    → nodes_of tree ≡ nodes_of inst → IsToldOfRoutes inst tree found.TooManyLoads
+    → nodes_of tree ≡ nodes_of inst → IsReportedOfRoutes inst tree found.TooManyLoads
     → FindsBound Branches inst tree (bounds.No TooManyLoads)
 loads_first inst tree cvrp sort size is = for_walks (λ Stands. IsFirstReason Stands TooManyLoads) inst tree cvrp (record {
   stands = is.by_steps.2;
@@ -231,7 +231,7 @@ loads_first inst tree cvrp sort size is = for_walks (λ Stands. IsFirstReason St
 })
 
 none_of_walks : (inst tree : Fields) (bound : Option ℤ) → is_branches_file tree.kind ≡ true → nodes_of tree ≡ nodes_of inst
-    → IsToldOfRoutes inst tree (found.Bound bound) → (reason : Reason) → StandsAgainstWalks inst tree reason → ⊥
+    → IsReportedOfRoutes inst tree (found.Bound bound) → (reason : Reason) → StandsAgainstWalks inst tree reason → ⊥
 none_of_walks inst tree bound sort size is NotBranches stands = false≢true (sym stands ∙ sort)
 none_of_walks inst tree bound sort size is BranchesDimension stands = stands size
 none_of_walks inst tree bound sort size is (BadComb index) stands =
@@ -244,12 +244,12 @@ none_of_walks inst tree bound sort size is TooManyLoads stands =
     no_many_loads (routing_of inst) (unit_in tree) is.by_steps.light is.by_steps.units is.by_steps.few stands
 none_of_walks inst tree bound sort size is reason stands = stands
 
-has_bound : (inst tree : Fields) (bound : Option ℤ) → IsToldOfRoutes inst tree (found.Bound bound)
+has_bound : (inst tree : Fields) (bound : Option ℤ) → IsReportedOfRoutes inst tree (found.Bound bound)
     → HasBoundByWalks inst tree bound
 has_bound inst tree bound is = record { steps = is.steps; steps_are = is.steps_are; bound = is.by_steps }
 
 pub plans_bounded : (inst tree : Fields) (bound : ℤ) → inst.kind ≡ Some kinds.Cvrp → is_branches_file tree.kind ≡ true
-    → nodes_of tree ≡ nodes_of inst → IsToldOfRoutes inst tree (found.Bound (Some bound))
+    → nodes_of tree ≡ nodes_of inst → IsReportedOfRoutes inst tree (found.Bound (Some bound))
     → VerdictBoundsPlans (routing_of inst) (found.Bound (Some bound)) → IsBoundSized bound
     → FindsBound Branches inst tree (bounds.Bound bound)
 plans_bounded inst tree bound cvrp sort size is below sized = (
@@ -262,7 +262,7 @@ plans_bounded inst tree bound cvrp sort size is below sized = (
 )
 
 pub plans_missing : (inst tree : Fields) → inst.kind ≡ Some kinds.Cvrp → is_branches_file tree.kind ≡ true
-    → nodes_of tree ≡ nodes_of inst → IsToldOfRoutes inst tree (found.Bound None)
+    → nodes_of tree ≡ nodes_of inst → IsReportedOfRoutes inst tree (found.Bound None)
     → VerdictBoundsPlans (routing_of inst) (found.Bound None) → FindsBound Branches inst tree bounds.NoSolution
 plans_missing inst tree cvrp sort size is none = (
   for_walks (λ Stands. (reason : Reason) → Stands reason → ⊥) inst tree cvrp (none_of_walks inst tree None sort size is),

@@ -3,7 +3,7 @@ use Rattle.std.proofs.Common.{subst, FitsSigned, w64}
 use Rattle.std.specs.Prelude.{ℤ}
 use Rattle.std.proofs.lemmas.Int.{to_z-of_z}
 use Rattle.tsp_c.specs.Texts.{ChecksBy}
-use Rattle.tsp_c.specs.Told.{TellsBy}
+use Rattle.tsp_c.specs.CallResult.{TellsBy}
 use Rattle.tsp_c.proofs.tsp_check_result.Goals as goal
 
 -- plan: the answer's text and numbers are placed, and its status is returned

@@ -3,8 +3,8 @@ use Rattle.std.proofs.Common.{◌≡◌, ◌-◌, ◌+◌, ℕ, Option, None, So
 use Rattle.std.proofs.Math.ListN.{length-set}
 use Rattle.tsp_bound.specs.declared.area.Area.{Area}
 use Rattle.tsp_bound.specs.states.Boxes.{HoldsNode, AreHeldFrom, area_at, node_of}
-use Rattle.tsp_bound.specs.declared.spot.Spot.{Spot}
-use Rattle.tsp_bound.specs.states.Spots.{IsSpotOf}
+use Rattle.tsp_bound.specs.declared.numbered_site.NumberedSite.{NumberedSite}
+use Rattle.tsp_bound.specs.states.NumberedSites.{IsNumberedSiteOf}
 use Rattle.tsp_bound.proofs.Trees.{leaf_more, held_leaves, refit_more}
 use Rattle.tsp_bound.proofs.boxes.boxes_of.Goals as goal
 
@@ -16,8 +16,8 @@ leaves-preserved g c =
     let place = g.W.BoxedWeights.place_of c.args.placed.now.w.now in
     let number = g.W.BoxedWeights.number_of c.args.placed.now.w.now in
     let node : ℕ = node_of c.args.placed.now.order.now c.leaves.place in
-    let own : IsSpotOf n place number node c.index-spots-place.result =
-    subst (λ (spot : Spot). IsSpotOf n place number node spot) (sym c.index-spots-place.is) (c.requires.spots c.leaves.place c.index-spots-place.result c.leaves-test.true) in
+    let own : IsNumberedSiteOf n place number node c.index-sites-place.result =
+    subst (λ (numbered : NumberedSite). IsNumberedSiteOf n place number node numbered) (sym c.index-sites-place.is) (c.requires.sites c.leaves.place c.index-sites-place.result c.leaves-test.true) in
     let held : In (Some c.area_of.result) (node_of c.args.placed.now.order.now c.leaves.place) =
     subst (λ (node : ℕ). In (Some c.area_of.result) node) own.here (c.area_of.ensures n place number own.known) in
     record {

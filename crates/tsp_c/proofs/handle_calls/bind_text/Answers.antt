@@ -11,14 +11,14 @@ use Rattle.tsp_c.proofs.handle_calls.bind_text.Goals as goal
 -- plan: the opened value that is taken, bound and put back is the handle's, so the call's clause holds of the handle
 pub returns-in-Some-take : goal.returns-in-Some-take
 returns-in-Some-take c =
-    let told = c.bind_opened-status.new.told in
+    let call_result = c.bind_opened-status.new.call_result in
     let status = c.bind_opened-status.result in
     let text = c.args.text.now in
     let kind : Some c.in-Some.by ≡ nth c.args.by certificates = search rules in
     let old : Some c.in-Some-take.opened.value ≡ c.args.handle.now.loose.value = search rules in
     let new : Some c.bind_opened-status.new.opened ≡ c.put.new.self.loose.value = search rules in
     let lent : c.deref_mut.result.now ≡ c.in-Some-take.opened.value = search rules in
-    subst (λ (k : Option Certificate). BindsText k text c.args.handle.now.loose.value c.put.new.self.loose.value told status) kind
-    (subst (λ (h : Held). BindsText (Some c.in-Some.by) text h c.put.new.self.loose.value told status) old
-    (subst (λ (h : Held). BindsOpen c.in-Some.by text c.in-Some-take.opened.value h told status) new
-    (subst (λ (o : Open). BindsOpen c.in-Some.by text o (Some c.bind_opened-status.new.opened) told status) lent c.bind_opened-status.ensures)))
+    subst (λ (k : Option Certificate). BindsText k text c.args.handle.now.loose.value c.put.new.self.loose.value call_result status) kind
+    (subst (λ (h : Held). BindsText (Some c.in-Some.by) text h c.put.new.self.loose.value call_result status) old
+    (subst (λ (h : Held). BindsOpen c.in-Some.by text c.in-Some-take.opened.value h call_result status) new
+    (subst (λ (o : Open). BindsOpen c.in-Some.by text o (Some c.bind_opened-status.new.opened) call_result status) lent c.bind_opened-status.ensures)))

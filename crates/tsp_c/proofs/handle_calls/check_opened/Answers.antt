@@ -9,23 +9,23 @@ use Rattle.tsp_task.specs.Verdicts.{is_yes}
 use Rattle.tsp_verdict.specs.Strict.{is_unjudged, strict_verdict}
 use Rattle.tsp_report.specs.Report.{report_of, IsSized}
 use Rattle.tsp_c.specs.Ended.{Reports}
-use Rattle.tsp_c.specs.Told.{told_of_verdict}
-use Rattle.tsp_c.proofs.OnHandles.{fault_as_texts, fault_told, means_asked, reported_as_texts, reported_told, sized_asked}
+use Rattle.tsp_c.specs.CallResult.{result_of_verdict}
+use Rattle.tsp_c.proofs.OnHandles.{fault_as_texts, fault_in_numbers, means_asked, reported_as_texts, reported_in_numbers, sized_asked}
 use Rattle.tsp_c.proofs.handle_calls.check_opened.Goals as goal
 
--- plan: by how the check ends: a fault (`fault_as_texts`, `fault_told`), or a verdict (`reported_as_texts`, `reported_told`),
--- which is the one without unknown keywords as a reason, or isn't accepted (`means_asked`)
+-- plan: by how the check ends: a fault (`fault_as_texts`, `fault_in_numbers`), or a verdict (`reported_as_texts`,
+-- `reported_in_numbers`), which is the one without unknown keywords as a reason, or isn't accepted (`means_asked`)
 pub returns-in-Err-clause-texts : goal.returns-in-Err-clause-texts
 returns-in-Err-clause-texts c = fault_as_texts c.args.opened.now c.args.claimed c.args.strict c.args.solution.now c.in-Err.error []
     c.ended-answer.result.0 c.ended-answer.result.1 c.in-Err.ensures c.ended-answer.ensures
 
 pub returns-in-Err-clause-numbers : goal.returns-in-Err-clause-numbers
-returns-in-Err-clause-numbers c = fault_told c.args.opened.now c.args.claimed c.args.strict c.args.solution.now c.in-Err.error []
-    c.ended-answer.result.0 c.ended-answer.result.1 c.of_error.result c.numbers-told.result c.in-Err.ensures c.of_error.ensures
-    c.numbers-told.ensures.kept c.numbers-told.ensures.none c.ended-answer.ensures
+returns-in-Err-clause-numbers c = fault_in_numbers c.args.opened.now c.args.claimed c.args.strict c.args.solution.now c.in-Err.error []
+    c.ended-answer.result.0 c.ended-answer.result.1 c.of_error.result c.numbers-call_result.result c.in-Err.ensures c.of_error.ensures
+    c.numbers-call_result.ensures.kept c.numbers-call_result.ensures.none c.ended-answer.ensures
 
-pub of_verdict-told-requires : goal.of_verdict-told-requires
-of_verdict-told-requires c =
+pub of_verdict-call_result-requires : goal.of_verdict-call_result-requires
+of_verdict-call_result-requires c =
     let opened = c.args.opened.now in
     let is = c.in-Ok.ensures in
     let plain_sized : IsSized c.in-Ok.plain =
@@ -70,10 +70,10 @@ returns-in-Ok-clause-numbers c =
     let same : c.instance-instance.result.now ≡ opened.instance = c.instance-instance.ensures in
     let asked : verdict ≡ strict_verdict (is_unjudged c.args.strict opened.instance) plain =
     c.strict_verdict-verdict.ensures ∙ ap (λ (f : Fields). strict_verdict (is_unjudged c.args.strict f) plain) same in
-    reported_told opened c.args.claimed c.args.strict c.args.solution.now verdict sink answer.result answer.new.out.inner.items
-    c.ended-answer-in-Ok.result.0 c.ended-answer-in-Ok.result.1 c.of_verdict-told.result c.numbers-told-in-Ok.result
+    reported_in_numbers opened c.args.claimed c.args.strict c.args.solution.now verdict sink answer.result answer.new.out.inner.items
+    c.ended-answer-in-Ok.result.0 c.ended-answer-in-Ok.result.1 c.of_verdict-call_result.result c.numbers-call_result-in-Ok.result
     (plain, c.in-Ok.ensures, asked)
-    (c.of_verdict-told.ensures ∙ ap (λ (f : Fields). told_of_verdict f verdict) same)
-    c.numbers-told-in-Ok.ensures.kept c.numbers-told-in-Ok.ensures.none
+    (c.of_verdict-call_result.ensures ∙ ap (λ (f : Fields). result_of_verdict f verdict) same)
+    c.numbers-call_result-in-Ok.ensures.kept c.numbers-call_result-in-Ok.ensures.none
     (subst (λ (f : Fields). Reports sink (report_of f verdict) (is_yes verdict) answer.result) same answer.ensures)
     c.ended-answer-in-Ok.ensures

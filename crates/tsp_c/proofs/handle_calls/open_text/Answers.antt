@@ -3,7 +3,7 @@ use Rattle.std.proofs.Common.{ap, ◌∙◌, inl, inr, refl}
 use Rattle.std.proofs.lemmas.Result.{MatchResult-at_ok, MatchResult-at_err}
 use Rattle.tsp_judge.specs.declared.fault.RunFault.TheVariants.{OutOfMemory}
 use Rattle.tsp_judge.specs.Open.{Open}
-use Rattle.tsp_c.specs.Told.{told_of_instance}
+use Rattle.tsp_c.specs.CallResult.{result_of_instance}
 use Rattle.tsp_c.proofs.handle_calls.open_text.Goals as goal
 
 -- plan: by whether there is memory for the box: the instance is put into the handle, or nothing is
@@ -12,7 +12,7 @@ returns-in-Ok-Err c = inr (
   OutOfMemory,
   c.take.ensures.closed,
   MatchResult-at_err _ _ c.in-Ok-Err.no_box c.in-Ok-Err.field-0-is c.in-Ok-Err.ensures,
-  c.tell_no_box.ensures.told,
+  c.tell_no_box.ensures.call_result,
   c.tell_no_box.ensures.status,
 )
 
@@ -21,6 +21,6 @@ returns-in-Ok-Ok c = inl (
   c.in-Ok-Ok.opened.value,
   c.put.ensures,
   MatchResult-at_ok _ _ c.in-Ok-Ok.opened c.in-Ok-Ok.field-0-is c.in-Ok-Ok.ensures,
-  c.of_instance.ensures ∙ ap told_of_instance (c.instance.ensures ∙ ap (λ (o : Open). o.instance) c.deref.ensures),
+  c.of_instance.ensures ∙ ap result_of_instance (c.instance.ensures ∙ ap (λ (o : Open). o.instance) c.deref.ensures),
   c.done.ensures,
 )

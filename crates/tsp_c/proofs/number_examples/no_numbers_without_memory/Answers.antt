@@ -4,10 +4,10 @@ use Rattle.tsp_text.specs.declared.fault.ReadFault.TheVariants as read_faults
 use Rattle.tsp_judge.specs.declared.fault.RunFault.{RunFault}
 use Rattle.tsp_judge.specs.declared.fault.RunFault.TheVariants.{File, WrongKind, Write, OutOfMemory, Relayout}
 use Rattle.tsp_judge.specs.Status.{status_of_fault}
-use Rattle.tsp_c.specs.Told.{blank_told, told_of_fault}
+use Rattle.tsp_c.specs.CallResult.{blank_result, result_of_fault}
 use Rattle.tsp_c.proofs.number_examples.no_numbers_without_memory.Goals as goal
 
-no_numbers : (fault : RunFault) → status_of_fault fault ≡ 3 → told_of_fault fault ≡ blank_told
+no_numbers : (fault : RunFault) → status_of_fault fault ≡ 3 → result_of_fault fault ≡ blank_result
 no_numbers (File file (read_faults.Line line word found)) is = absurd (omega (arith, is))
 no_numbers (File file (read_faults.End found)) is = absurd (omega (arith, is))
 no_numbers (File file read_faults.TooLong) is = absurd (omega (arith, is))

@@ -4,7 +4,7 @@ use Rattle.std.specs.Prelude.{Option, ℤ}
 use Rattle.std.proofs.lemmas.Int.{to_z-of_z}
 use Rattle.tsp_task.specs.declared.certificate.Certificate.{Certificate}
 use Rattle.tsp_c.specs.Texts.{ChecksTexts, claim_of, strict_of, with_certificate}
-use Rattle.tsp_c.specs.Told.{TellsTexts}
+use Rattle.tsp_c.specs.CallResult.{TellsTexts}
 use Rattle.tsp_c.proofs.picked_runs.check_by.Goals as goal
 
 -- plan: the numbers name a certificate and a claim, as the code has tested, so the answer is that of the call

@@ -1,11 +1,11 @@
 -- The goals of `instance_of` in src/text_instance.rt: what it ensures.
 use Rattle.std.proofs.Common.{◌≡◌, Err}
-use Rattle.tsp_judge.proofs.HandedOn.{handed_on}
+use Rattle.tsp_read.proofs.Propagated.{propagated}
 use Rattle.tsp_c.proofs.OnTexts.{no_instance}
 use Rattle.tsp_c.proofs.text_instance.instance_of.Goals as goal
 
--- plan: by the lemmas `handed_on` and `no_instance`
+-- plan: by the lemmas `propagated` and `no_instance`
 pub returns-in_err-file : goal.returns-in_err-file
 returns-in_err-file c =
-    let same : c.from_residual.result ≡ Err c.in_err-file.field-0.0 = handed_on _ _ c.from_residual.ensures.1 in
+    let same : c.from_residual.result ≡ Err c.in_err-file.field-0.0 = propagated _ _ c.from_residual.ensures.1 in
     rw same (no_instance c.args.text.now _ c.in_err-file.ensures)

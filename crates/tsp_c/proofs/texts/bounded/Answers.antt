@@ -36,4 +36,4 @@ returns-clause-numbers c = let first = c.run_bound-found.ensures.answer in let s
       first_is = ap (λ s. Some s.now) c.new-first.ensures.inner;
       second_is = ap (λ s. Some s.now) c.new-second.ensures.inner;
     })
-    second.2.0 c.of_bound_run-numbers.ensures c.numbers-told.ensures.kept c.numbers-told.ensures.none (rw c.bound_answer.ensures at c.ended-answer.ensures)
+    second.2.0 c.of_bound_run-numbers.ensures c.numbers-call_result.ensures.kept c.numbers-call_result.ensures.none (rw c.bound_answer.ensures at c.ended-answer.ensures)

@@ -1,10 +1,10 @@
 -- The goals of `run_convert` in src/asked_runs.rt: what it ensures.
 use Rattle.std.proofs.Common.{◌≡◌, Err}
-use Rattle.tsp_judge.proofs.HandedOn.{handed_on}
+use Rattle.tsp_read.proofs.Propagated.{propagated}
 use Rattle.tsp_judge.proofs.asked_runs.run_convert.Goals as goal
 
 -- plan: a fault is that of the run
 pub returns-in_err-convert_file-clause-answer : goal.returns-in_err-convert_file-clause-answer
 returns-in_err-convert_file-clause-answer g c =
-    let same : c.from_residual.result ≡ Err c.in_err-convert_file.field-0.0 = handed_on _ _ c.from_residual.ensures.1 in
+    let same : c.from_residual.result ≡ Err c.in_err-convert_file.field-0.0 = propagated _ _ c.from_residual.ensures.1 in
     rw same c.in_err-convert_file.ensures.answer

@@ -2,7 +2,7 @@
 use Rattle.std.proofs.Common.{◌≡◌, Err, [], refl}
 use Rattle.std.proofs.KnownBytes.{Keeps-refl}
 use Rattle.tsp_read.proofs.Asking.{read_none}
-use Rattle.tsp_judge.proofs.HandedOn.{handed_on}
+use Rattle.tsp_read.proofs.Propagated.{propagated}
 use Rattle.tsp_judge.proofs.Runs.{none_taken, not_none}
 use Rattle.tsp_judge.proofs.checked.read_certificate.Goals as goal
 
@@ -12,7 +12,7 @@ returns-in_default-clause-answer g c = rw c.in_default.is ([], none_taken, (λ n
 
 pub returns-in_err-file-clause-answer : goal.returns-in_err-file-clause-answer
 returns-in_err-file-clause-answer g c =
-    let same : c.from_residual.result ≡ Err c.in_err-file.field-0.0 = handed_on _ _ c.from_residual.ensures.1 in
+    let same : c.from_residual.result ≡ Err c.in_err-file.field-0.0 = propagated _ _ c.from_residual.ensures.1 in
     let three = c.in_err-file.ensures.answer in
     rw (same, c.in-Some.is) (three.0, three.1, (λ none. not_none none, three.2))
 

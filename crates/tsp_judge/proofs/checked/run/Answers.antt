@@ -3,7 +3,7 @@ use Rattle.std.proofs.Common.{◌≡◌, Err, [], refl}
 use Rattle.std.proofs.KnownBytes.{Keeps-refl}
 use Rattle.tsp_stream.specs.states.Watched.{turn_of}
 use Rattle.tsp_read.proofs.Asking.{read_none}
-use Rattle.tsp_judge.proofs.HandedOn.{handed_on}
+use Rattle.tsp_read.proofs.Propagated.{propagated}
 use Rattle.tsp_judge.proofs.Runs.{none_taken, unread_in, first_stops, second_stops, third_stops}
 use Rattle.tsp_judge.proofs.Yeses.{fault_of_run}
 use Rattle.tsp_judge.proofs.checked.run.Goals as goal
@@ -11,7 +11,7 @@ use Rattle.tsp_judge.proofs.checked.run.Goals as goal
 -- plan: by the first file that is none (`first_stops`, `second_stops`, `third_stops`); else all are files
 pub returns-in_err-instance-clause-answer : goal.returns-in_err-instance-clause-answer
 returns-in_err-instance-clause-answer g c =
-    let same : c.from_residual.result ≡ Err c.in_err-instance.field-0.0 = handed_on _ _ c.from_residual.ensures.1 in
+    let same : c.from_residual.result ≡ Err c.in_err-instance.field-0.0 = propagated _ _ c.from_residual.ensures.1 in
     let one = c.in_err-instance.ensures.answer in
     rw same (
       one.0,
@@ -34,7 +34,7 @@ returns-in_err-instance-clause-answer g c =
 
 pub returns-in_err-solution-clause-answer : goal.returns-in_err-solution-clause-answer
 returns-in_err-solution-clause-answer g c =
-    let same : c.from_residual-in_err-solution.result ≡ Err c.in_err-solution.field-0.0 = handed_on _ _ c.from_residual-in_err-solution.ensures.1 in
+    let same : c.from_residual-in_err-solution.result ≡ Err c.in_err-solution.field-0.0 = propagated _ _ c.from_residual-in_err-solution.ensures.1 in
     let one = c.in_ok-instance.ensures.answer in
     let two = c.in_err-solution.ensures.answer in
     rw same (
@@ -58,7 +58,7 @@ returns-in_err-solution-clause-answer g c =
 
 pub returns-in_err-certificate-clause-answer : goal.returns-in_err-certificate-clause-answer
 returns-in_err-certificate-clause-answer g c =
-    let same : c.from_residual-in_err-certificate.result ≡ Err c.in_err-certificate.field-0.0 = handed_on _ _ c.from_residual-in_err-certificate.ensures.1 in
+    let same : c.from_residual-in_err-certificate.result ≡ Err c.in_err-certificate.field-0.0 = propagated _ _ c.from_residual-in_err-certificate.ensures.1 in
     let one = c.in_ok-instance.ensures.answer in
     let two = c.in_ok-solution.ensures.answer in
     let three = c.in_err-certificate.ensures.answer in

@@ -2,17 +2,17 @@
 use Rattle.std.proofs.Common.{◌≡◌, Err, arith, ap, sym, subst, ◌∙◌, ◌<◌, ◌+◌, length}
 use Rattle.std.specs.Prelude.{max}
 use Rattle.tsp_stream.specs.states.Watched.{sink_of}
-use Rattle.tsp_judge.proofs.HandedOn.{handed_on}
+use Rattle.tsp_read.proofs.Propagated.{propagated}
 use Rattle.tsp_judge.proofs.Comparing.{HasCompared, compared_none, compared_next, compared_ends, compared_all}
-use Rattle.tsp_judge.proofs.Tellings.{told_next, told_before}
+use Rattle.tsp_judge.proofs.Tellings.{reported_next, reported_before}
 use Rattle.tsp_judge.specs.CompareRun.{IsTurnAt, status_of_found}
-use Rattle.tsp_judge.specs.Following.{AreTold}
+use Rattle.tsp_judge.specs.Following.{AreReported}
 use Rattle.tsp_judge.proofs.compared.compare_all.Goals as goal
 
 -- plan: one solution more is compared (`compared_next`), or ends the comparison (`compared_ends`)
 pub returns-in_err-found-clause-text : goal.returns-in_err-found-clause-text
 returns-in_err-found-clause-text g c =
-    let same : c.from_residual.result ≡ Err c.in_err-found.field-0.0 = handed_on _ _ c.from_residual.ensures.1 in
+    let same : c.from_residual.result ≡ Err c.in_err-found.field-0.0 = propagated _ _ c.from_residual.ensures.1 in
     let more : c.solutions.index < length (g.S.Solutions.names c.args.solutions.now) = omega (arith, c.solutions-test.true, c.count-index-end.ensures) in
     rw same (compared_ends g.W.Write.contents c.args.out.now c.solutions.out c.compare_one.new.out (IsTurnAt g.R.Read.remaining g.R.Gives.gives (g.S.Solutions.opens c.args.solutions.now))
     (g.S.Solutions.names c.args.solutions.now) c.args.common.now c.solutions.index c.solutions.status _ c.solutions.invariant.compared more c.in_err-found.ensures)
@@ -26,21 +26,21 @@ solutions-preserved g c =
     record {
       compared = subst (λ s. HasCompared (IsTurnAt g.R.Read.remaining g.R.Gives.gives (g.S.Solutions.opens c.args.solutions.now)) (g.S.Solutions.names c.args.solutions.now) c.args.common.now
           (sink_of g.W.Write.contents c.args.out.now c.compare_one.new.out) (c.solutions.index + 1) s) (sym status) next;
-      told = told_next (g.S.Follow.tells c.args.solutions.now) c.solutions.index c.args.to.now c.solutions.to c.written.new.to c.solutions.invariant.told c.written.ensures;
+      reported = reported_next (g.S.Follow.tells c.args.solutions.now) c.solutions.index c.args.to.now c.solutions.to c.written.new.to c.solutions.invariant.reported c.written.ensures;
     }
 
-pub returns-in_err-found-clause-told : goal.returns-in_err-found-clause-told
-returns-in_err-found-clause-told g c =
-    let same : c.from_residual.result ≡ Err c.in_err-found.field-0.0 = handed_on _ _ c.from_residual.ensures.1 in
+pub returns-in_err-found-clause-reported : goal.returns-in_err-found-clause-reported
+returns-in_err-found-clause-reported g c =
+    let same : c.from_residual.result ≡ Err c.in_err-found.field-0.0 = propagated _ _ c.from_residual.ensures.1 in
     let more : c.solutions.index < length (g.S.Solutions.names c.args.solutions.now) = omega (arith, c.solutions-test.true, c.count-index-end.ensures) in
     rw same (
       c.solutions.index,
-      told_before (IsTurnAt g.R.Read.remaining g.R.Gives.gives (g.S.Solutions.opens c.args.solutions.now)) (g.S.Solutions.names c.args.solutions.now) c.args.common.now c.solutions.index
+      reported_before (IsTurnAt g.R.Read.remaining g.R.Gives.gives (g.S.Solutions.opens c.args.solutions.now)) (g.S.Solutions.names c.args.solutions.now) c.args.common.now c.solutions.index
           (sink_of g.W.Write.contents c.solutions.out c.compare_one.new.out) _ _ more c.in_err-found.ensures,
-      c.solutions.invariant.told,
+      c.solutions.invariant.reported,
     )
 
-pub returns-clause-told : goal.returns-clause-told
-returns-clause-told g c =
+pub returns-clause-reported : goal.returns-clause-reported
+returns-clause-reported g c =
     let all : c.solutions.index ≡ length (g.S.Solutions.names c.args.solutions.now) = omega (arith, c.solutions-test.false, c.solutions.auto.index-end, c.count-index-end.ensures) in
-    subst (λ n. AreTold (g.S.Follow.tells c.args.solutions.now) n c.args.to.now c.solutions.to) all c.solutions.invariant.told
+    subst (λ n. AreReported (g.S.Follow.tells c.args.solutions.now) n c.args.to.now c.solutions.to) all c.solutions.invariant.reported

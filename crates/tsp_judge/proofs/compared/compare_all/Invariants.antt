@@ -1,7 +1,7 @@
 -- The loop of `compare_all` in src/compared.rt.
 use Rattle.tsp_stream.specs.states.Watched.{sink_of}
 use Rattle.tsp_judge.specs.CompareRun.{IsTurnAt}
-use Rattle.tsp_judge.specs.Following.{AreTold}
+use Rattle.tsp_judge.specs.Following.{AreReported}
 use Rattle.tsp_judge.proofs.Comparing.{HasCompared}
 use Rattle.tsp_judge.proofs.compared.compare_all.Given as goal
 
@@ -10,5 +10,5 @@ abbrev pub invariant-solutions : goal.invariant-solutions
 invariant-solutions g l = record {
   compared : HasCompared (IsTurnAt g.R.Read.remaining g.R.Gives.gives (g.S.Solutions.opens l.solutions)) (g.S.Solutions.names l.solutions) l.common
       (sink_of g.W.Write.contents l.initial.out l.out) l.index l.status;
-  told : AreTold (g.S.Follow.tells l.solutions) l.index l.initial.to l.to;
+  reported : AreReported (g.S.Follow.tells l.solutions) l.index l.initial.to l.to;
 }

@@ -8,7 +8,7 @@ use Rattle.tsp_judge.proofs.Comparing.{found_sized, one_refused, one_stopped, tu
 use Rattle.tsp_judge.specs.CompareRun.{IsTurnAt, result_of}
 use Rattle.tsp_report.specs.ComparisonText.{solution_line}
 use Rattle.tsp_report.specs.Report.{IsSized}
-use Rattle.tsp_judge.proofs.HandedOn.{handed_on}
+use Rattle.tsp_read.proofs.Propagated.{propagated}
 use Rattle.tsp_judge.proofs.compared.compare_one.Goals as goal
 
 -- plan: by the solution: memory is refused (`one_refused`), the writer fails (`one_stopped`), or its line is written
@@ -43,7 +43,7 @@ returns g c =
 
 pub returns-in_err-found : goal.returns-in_err-found
 returns-in_err-found g c =
-    let same : c.from_residual.result ≡ Err c.in_err-found.field-0.0 = handed_on _ _ c.from_residual.ensures.1 in
+    let same : c.from_residual.result ≡ Err c.in_err-found.field-0.0 = propagated _ _ c.from_residual.ensures.1 in
     let found = c.in_err-found.ensures.found in
     let turn = turn_of g.R.Read.remaining c.new-reader.result c.find.new.reader found.0 in
     let opened = turn_at g.R.Read.remaining g.R.Gives.gives (g.S.Solutions.opens c.args.solutions.now) c.args.index c.open.result c.new-reader.result c.find.new.reader found.0

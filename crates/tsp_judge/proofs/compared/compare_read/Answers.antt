@@ -7,7 +7,7 @@ use Rattle.tsp_cost.specs.ProblemLaws.{IsProblem}
 use Rattle.tsp_judge.specs.declared.fault.RunFault.TheVariants.{WrongKind}
 use Rattle.tsp_judge.specs.CheckRun.{IsFileIn}
 use Rattle.tsp_judge.specs.CompareRun.{IsTurnAt}
-use Rattle.tsp_judge.proofs.HandedOn.{handed_on}
+use Rattle.tsp_read.proofs.Propagated.{propagated}
 use Rattle.tsp_judge.proofs.Runs.{none_judged}
 use Rattle.tsp_judge.proofs.Comparing.{ends_lacking, ends_comparing, clear_basis}
 use Rattle.tsp_judge.proofs.compared.compare_read.Goals as goal
@@ -27,7 +27,7 @@ returns-in_default-clause-text g c = λ given first one two.
 
 pub returns-in_err-common-clause-text : goal.returns-in_err-common-clause-text
 returns-in_err-common-clause-text g c = λ given first one two.
-    let same : c.from_residual.result ≡ Err c.in_err-common.field-0.0 = handed_on _ _ c.from_residual.ensures.1 in
+    let same : c.from_residual.result ≡ Err c.in_err-common.field-0.0 = propagated _ _ c.from_residual.ensures.1 in
     rw same (ends_lacking c.args.strict (IsTurnAt g.R.Read.remaining g.R.Gives.gives (g.S.Solutions.opens c.args.solutions.now)) (g.S.Solutions.names c.args.solutions.now) given first c.in-Ok.instance c.args.certificate _ _ (subst (IsFile first) (sym c.in-Ok.ensures.0) one) two c.in_err-common.ensures (Keeps-refl _, refl))
 
 pub returns-in-Err-clause-text : goal.returns-in-Err-clause-text
@@ -39,13 +39,13 @@ returns-in-Err-clause-text g c = λ given first one two.
       subst IsProblem (sym (common.0 ∙ c.in-Ok.ensures.0)) c.in-Ok.ensures.2,
     ) (common.2, c.in-Err.ensures.text)
 
-pub returns-in_default-clause-told : goal.returns-in_default-clause-told
-returns-in_default-clause-told g c = (0, omega arith, refl)
+pub returns-in_default-clause-reported : goal.returns-in_default-clause-reported
+returns-in_default-clause-reported g c = (0, omega arith, refl)
 
-pub returns-in_err-common-clause-told : goal.returns-in_err-common-clause-told
-returns-in_err-common-clause-told g c =
-    let same : c.from_residual.result ≡ Err c.in_err-common.field-0.0 = handed_on _ _ c.from_residual.ensures.1 in
+pub returns-in_err-common-clause-reported : goal.returns-in_err-common-clause-reported
+returns-in_err-common-clause-reported g c =
+    let same : c.from_residual.result ≡ Err c.in_err-common.field-0.0 = propagated _ _ c.from_residual.ensures.1 in
     rw same (0, omega arith, refl)
 
-pub returns-in-Err-clause-told : goal.returns-in-Err-clause-told
-returns-in-Err-clause-told g c = c.in-Err.ensures.told
+pub returns-in-Err-clause-reported : goal.returns-in-Err-clause-reported
+returns-in-Err-clause-reported g c = c.in-Err.ensures.reported

@@ -6,7 +6,7 @@ use Rattle.tsp_draft.specs.Fields.{Fields}
 use Rattle.tsp_task.specs.Verdicts.{is_clear}
 use Rattle.tsp_judge.proofs.Comparing.{after_head}
 use Rattle.tsp_judge.specs.CompareRun.{IsTurnAt, ComparesBy}
-use Rattle.tsp_judge.specs.Following.{AreAllTold, IsFollowedBy}
+use Rattle.tsp_judge.specs.Following.{AreAllReported, IsFollowedBy}
 use Rattle.tsp_report.specs.ComparisonText.{head_of}
 use Rattle.tsp_judge.proofs.compared.compare_with.Goals as goal
 
@@ -20,16 +20,16 @@ returns-clause-text g c =
     (after_head g.W.Write.contents c.args.out.now c.write_head.new.out c.compare_all.new.out (IsTurnAt g.R.Read.remaining g.R.Gives.gives (g.S.Solutions.opens c.args.solutions.now))
     (g.S.Solutions.names c.args.solutions.now) c.args.common.now (head_of c.args.common.now.instance c.args.common.now.basis) c.compare_all.result written c.compare_all.ensures.text)
 
-pub returns-in-Err-clause-told : goal.returns-in-Err-clause-told
-returns-in-Err-clause-told g c = (0, omega arith, refl)
+pub returns-in-Err-clause-reported : goal.returns-in-Err-clause-reported
+returns-in-Err-clause-reported g c = (0, omega arith, refl)
 
-pub returns-then-not-is_clear-clause-told : goal.returns-then-not-is_clear-clause-told
-returns-then-not-is_clear-clause-told g c =
+pub returns-then-not-is_clear-clause-reported : goal.returns-then-not-is_clear-clause-reported
+returns-then-not-is_clear-clause-reported g c =
     let unclear : is_clear c.args.common.now.basis ≡ false = search rules in
-    subst (λ b. AreAllTold b (g.S.Follow.tells c.args.solutions.now) (length (g.S.Solutions.names c.args.solutions.now)) c.args.to.now c.args.to.now) (sym unclear) refl
+    subst (λ b. AreAllReported b (g.S.Follow.tells c.args.solutions.now) (length (g.S.Solutions.names c.args.solutions.now)) c.args.to.now c.args.to.now) (sym unclear) refl
 
-pub returns-clause-told : goal.returns-clause-told
-returns-clause-told g c =
+pub returns-clause-reported : goal.returns-clause-reported
+returns-clause-reported g c =
     let clear : is_clear c.args.common.now.basis ≡ true = search rules in
     subst (λ b. IsFollowedBy b (g.S.Follow.tells c.args.solutions.now) (length (g.S.Solutions.names c.args.solutions.now)) c.args.to.now c.compare_all.new.to c.compare_all.result)
-    (sym clear) c.compare_all.ensures.told
+    (sym clear) c.compare_all.ensures.reported

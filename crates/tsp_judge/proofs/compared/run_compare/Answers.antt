@@ -3,7 +3,7 @@ use Rattle.std.proofs.Common.{◌≡◌, Err, [], arith, refl}
 use Rattle.std.proofs.KnownBytes.{Keeps-refl}
 use Rattle.tsp_stream.specs.states.Watched.{turn_of}
 use Rattle.tsp_read.proofs.Asking.{read_none}
-use Rattle.tsp_judge.proofs.HandedOn.{handed_on}
+use Rattle.tsp_read.proofs.Propagated.{propagated}
 use Rattle.tsp_judge.proofs.Runs.{none_taken, unread_in}
 use Rattle.tsp_judge.proofs.Comparing.{compare_first_stops, compare_second_stops}
 use Rattle.tsp_judge.proofs.compared.run_compare.Goals as goal
@@ -11,7 +11,7 @@ use Rattle.tsp_judge.proofs.compared.run_compare.Goals as goal
 -- plan: by the first file that is none (`compare_first_stops`, `compare_second_stops`); else both are files
 pub returns-in_err-instance-clause-text : goal.returns-in_err-instance-clause-text
 returns-in_err-instance-clause-text g c =
-    let same : c.from_residual.result ≡ Err c.in_err-instance.field-0.0 = handed_on _ _ c.from_residual.ensures.1 in
+    let same : c.from_residual.result ≡ Err c.in_err-instance.field-0.0 = propagated _ _ c.from_residual.ensures.1 in
     let one = c.in_err-instance.ensures.answer in
     rw same (
       one.0,
@@ -29,7 +29,7 @@ returns-in_err-instance-clause-text g c =
 
 pub returns-in_err-certificate-clause-text : goal.returns-in_err-certificate-clause-text
 returns-in_err-certificate-clause-text g c =
-    let same : c.from_residual-in_err-certificate.result ≡ Err c.in_err-certificate.field-0.0 = handed_on _ _ c.from_residual-in_err-certificate.ensures.1 in
+    let same : c.from_residual-in_err-certificate.result ≡ Err c.in_err-certificate.field-0.0 = propagated _ _ c.from_residual-in_err-certificate.ensures.1 in
     let one = c.in_ok-instance.ensures.answer in
     let two = c.in_err-certificate.ensures.answer in
     rw same (
@@ -44,14 +44,14 @@ returns-clause-text g c =
     let two = c.in_ok-certificate.ensures.answer in
     (one.0, one.1, (two.0, two.1, (two.2.0, c.compare_read.ensures.text _ _ one.2 two.2.1)))
 
-pub returns-in_err-instance-clause-told : goal.returns-in_err-instance-clause-told
-returns-in_err-instance-clause-told g c =
-    let same : c.from_residual.result ≡ Err c.in_err-instance.field-0.0 = handed_on _ _ c.from_residual.ensures.1 in
+pub returns-in_err-instance-clause-reported : goal.returns-in_err-instance-clause-reported
+returns-in_err-instance-clause-reported g c =
+    let same : c.from_residual.result ≡ Err c.in_err-instance.field-0.0 = propagated _ _ c.from_residual.ensures.1 in
     rw same (0, omega arith, refl)
 
-pub returns-in_err-certificate-clause-told : goal.returns-in_err-certificate-clause-told
-returns-in_err-certificate-clause-told g c =
-    let same : c.from_residual-in_err-certificate.result ≡ Err c.in_err-certificate.field-0.0 = handed_on _ _ c.from_residual-in_err-certificate.ensures.1 in
+pub returns-in_err-certificate-clause-reported : goal.returns-in_err-certificate-clause-reported
+returns-in_err-certificate-clause-reported g c =
+    let same : c.from_residual-in_err-certificate.result ≡ Err c.in_err-certificate.field-0.0 = propagated _ _ c.from_residual-in_err-certificate.ensures.1 in
     rw same (0, omega arith, refl)
 
 pub returns-in_err-instance-clause-asked : goal.returns-in_err-instance-clause-asked

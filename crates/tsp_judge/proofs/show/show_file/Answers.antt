@@ -2,13 +2,13 @@
 use Rattle.std.proofs.Common.{◌≡◌, Err, refl}
 use Rattle.std.proofs.KnownBytes.{Keeps-refl}
 use Rattle.tsp_stream.specs.states.Watched.{turn_of, sink_of}
-use Rattle.tsp_judge.proofs.HandedOn.{handed_on}
+use Rattle.tsp_read.proofs.Propagated.{propagated}
 use Rattle.tsp_judge.proofs.Shows.{show_stopped, show_stops}
 use Rattle.tsp_judge.proofs.show.show_file.Goals as goal
 
 pub returns-in_err-file-clause-answer : goal.returns-in_err-file-clause-answer
 returns-in_err-file-clause-answer g c =
-    let same : c.from_residual.result ≡ Err c.in_err-file.field-0.0 = handed_on _ _ c.from_residual.ensures.1 in
+    let same : c.from_residual.result ≡ Err c.in_err-file.field-0.0 = propagated _ _ c.from_residual.ensures.1 in
     let read = c.in_err-file.ensures.answer in rw same (read.0, read.1, show_stops (turn_of g.R.Read.remaining c.args.r.now c.read_file.new.reader read.0) _ _ read.2 (Keeps-refl _, refl))
 
 -- plan: by how it ends: no file (`show_stops`), a failed write (`show_stopped`), or the text

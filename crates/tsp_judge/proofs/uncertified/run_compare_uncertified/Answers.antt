@@ -2,14 +2,14 @@
 use Rattle.std.proofs.Common.{◌≡◌, None, Err, arith, refl}
 use Rattle.std.proofs.KnownBytes.{Keeps-refl}
 use Rattle.tsp_stream.specs.states.Watched.{turn_of}
-use Rattle.tsp_judge.proofs.HandedOn.{handed_on}
+use Rattle.tsp_read.proofs.Propagated.{propagated}
 use Rattle.tsp_judge.proofs.Comparing.{compare_first_stops}
 use Rattle.tsp_judge.proofs.uncertified.run_compare_uncertified.Goals as goal
 
 -- plan: by whether the instance is a file (`compare_first_stops`)
 pub returns-in_err-instance-clause-text : goal.returns-in_err-instance-clause-text
 returns-in_err-instance-clause-text g c =
-    let same : c.from_residual.result ≡ Err c.in_err-instance.field-0.0 = handed_on _ _ c.from_residual.ensures.1 in
+    let same : c.from_residual.result ≡ Err c.in_err-instance.field-0.0 = propagated _ _ c.from_residual.ensures.1 in
     let one = c.in_err-instance.ensures.answer in
     rw same (
       one.0,
@@ -23,7 +23,7 @@ returns-clause-text g c =
     let one = c.in_ok-instance.ensures.answer in
     (one.0, one.1, c.compare_read.ensures.text None _ one.2 tt)
 
-pub returns-in_err-instance-clause-told : goal.returns-in_err-instance-clause-told
-returns-in_err-instance-clause-told g c =
-    let same : c.from_residual.result ≡ Err c.in_err-instance.field-0.0 = handed_on _ _ c.from_residual.ensures.1 in
+pub returns-in_err-instance-clause-reported : goal.returns-in_err-instance-clause-reported
+returns-in_err-instance-clause-reported g c =
+    let same : c.from_residual.result ≡ Err c.in_err-instance.field-0.0 = propagated _ _ c.from_residual.ensures.1 in
     rw same (0, omega arith, refl)

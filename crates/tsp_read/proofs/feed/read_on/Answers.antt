@@ -2,13 +2,13 @@
 use Rattle.std.proofs.Common.{◌≡◌, Err, sym, ◌∙◌}
 use Rattle.tsp_read.proofs.BegunSteps.{empty_rest, filled_rest}
 use Rattle.tsp_read.proofs.PausedSteps.{paused_joined, joined_read, paused_kept, to_the_end, to_a_place, of_some}
-use Rattle.tsp_read.proofs.HandedOn.{handed_on}
+use Rattle.tsp_read.proofs.Propagated.{propagated}
 use Rattle.tsp_read.proofs.feed.read_on.Goals as goal
 
 -- plan: the begun item is joined (`joined_read`), the whole items are read, and what is left is kept (`paused_kept`)
 pub returns-in_err-rest-clause-read : goal.returns-in_err-rest-clause-read
 returns-in_err-rest-clause-read c = λ bytes h.
-    let same : c.from_residual.result ≡ Err c.in_err-rest.field-0.0 = handed_on _ _ c.from_residual.ensures.1 in
+    let same : c.from_residual.result ≡ Err c.in_err-rest.field-0.0 = propagated _ _ c.from_residual.ensures.1 in
     rw same (c.in_err-rest.ensures.joined bytes h)
 
 pub returns-in_default-clause-read : goal.returns-in_default-clause-read

@@ -5,7 +5,7 @@ use Rattle.std.proofs.lemmas.Bool.{true≢false}
 use Rattle.tsp_stream.specs.states.Watched.{turn_of, watched}
 use Rattle.tsp_read.proofs.Asking.{read_none, read_more}
 use Rattle.tsp_read.proofs.PieceSteps.{gathered_start, gathered_more, gathered_none, gathered_kept, piece_stops, fed_from, not_going}
-use Rattle.tsp_read.proofs.HandedOn.{handed_on}
+use Rattle.tsp_read.proofs.Propagated.{propagated}
 use Rattle.tsp_read.proofs.input.feed_all.Goals as goal
 
 -- plan: one read more is one piece more (`read_more`, `gathered_more`), until one gives nothing, fails or is the last
@@ -31,7 +31,7 @@ returns-then-count-eq0-clause-fed g c =
 
 pub returns-in_err-take-clause-fed : goal.returns-in_err-take-clause-fed
 returns-in_err-take-clause-fed g c =
-    let same : c.from_residual.result ≡ Err c.in_err-take.field-0.0 = handed_on _ _ c.from_residual.ensures.1 in
+    let same : c.from_residual.result ≡ Err c.in_err-take.field-0.0 = propagated _ _ c.from_residual.ensures.1 in
     rw same (
     piece_stops (turn_of g.R.Read.remaining c.args.reader.now c.read.new.self) _ _ _ c.pieces.feed c.take.new.self c.pieces.taken (take c.in-Ok.count c.read.new.buf) c.in_err-take.field-0.0
     (λ given. refl) (λ given gave. gave) (λ given. (c.requires.sound, c.in-Ok.ensures.failed ∙ ap (λ b. b || false) c.pieces.invariant.sound))

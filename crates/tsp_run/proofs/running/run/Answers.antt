@@ -19,14 +19,14 @@ use Rattle.tsp_run.proofs.running.run.Goals as goal
 
 pub returns-in_default : goal.returns-in_default
 returns-in_default g c =
-    (false, NoJob OutOfMemory, (tt, (λ asks. asks), (λ asks. asks), (Keeps-refl _, refl), refl), (c.end.ensures.status, c.end.ensures.told))
+    (false, NoJob OutOfMemory, (tt, (λ asks. asks), (λ asks. asks), (Keeps-refl _, refl), refl), (c.end.ensures.status, c.end.ensures.reported))
 
 pub returns-in-Err-OutOfMemory : goal.returns-in-Err-OutOfMemory
 returns-in-Err-OutOfMemory g c = (
   false,
   NoJob OutOfMemory,
   (tt, (λ asks. asks), (λ asks. asks), (Keeps-refl _, refl), refl),
-  (c.end-in-Err-OutOfMemory.ensures.status, c.end-in-Err-OutOfMemory.ensures.told),
+  (c.end-in-Err-OutOfMemory.ensures.status, c.end-in-Err-OutOfMemory.ensures.reported),
 )
 
 -- a run ends as refused words do
@@ -42,15 +42,15 @@ ends_refused remaining reads opens on_terminal build words sink refusal gives (C
 -- and no more than its line is reported
 tells_refused : (build : Text) (words : List Text) (sink : Sink) (refusal : Refusal) (run_end : RunEnd) → EndsRefused build words sink refusal run_end
     → (old new : Option (List ℕ)) → Tells run_end old new → TellsAll false run_end old new
-tells_refused build words sink refusal (NoJob fault) ends old new told = told
-tells_refused build words sink refusal (Printed printed) ends old new told = told
-tells_refused build words sink refusal (NoTask fault) ends old new told = absurd ends
-tells_refused build words sink refusal (Ended answer) ends old new told = absurd ends
-tells_refused build words sink refusal (Compared answer) ends old new told = absurd ends
+tells_refused build words sink refusal (NoJob fault) ends old new reported = reported
+tells_refused build words sink refusal (Printed printed) ends old new reported = reported
+tells_refused build words sink refusal (NoTask fault) ends old new reported = absurd ends
+tells_refused build words sink refusal (Ended answer) ends old new reported = absurd ends
+tells_refused build words sink refusal (Compared answer) ends old new reported = absurd ends
 
 on_ok : {A B : Type 0} (r : Result A B) (P Q : Type 0) → (P → Q) → OnOk r P → OnOk r Q
-on_ok (Ok a) P Q f told = f told
-on_ok (Err b) P Q f told = told
+on_ok (Ok a) P Q f reported = f reported
+on_ok (Err b) P Q f reported = reported
 
 -- plan: by the words: refused (`ends_refused`), or a job, whose end is the run's (`ends_as_its_job`)
 pub returns-in-Err-Refused : goal.returns-in-Err-Refused
@@ -70,7 +70,7 @@ returns-in-Err-Refused g c =
       ends,
       (
         c.end-in-Err-Refused.ensures.status,
-        on_ok c.end-in-Err-Refused.result.1 _ _ (tells_refused c.args.surroundings.build.now (drop 1 words) sink refusal run_end ended old new) c.end-in-Err-Refused.ensures.told,
+        on_ok c.end-in-Err-Refused.result.1 _ _ (tells_refused c.args.surroundings.build.now (drop 1 words) sink refusal run_end ended old new) c.end-in-Err-Refused.ensures.reported,
       ),
     )
 

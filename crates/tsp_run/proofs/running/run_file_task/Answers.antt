@@ -5,5 +5,5 @@ pub returns : goal.returns
 returns g c = (
   c.perform.result,
   (c.opened-readers.result, c.perform.new.task, c.opened-readers.ensures, c.perform.ensures.done, c.perform.ensures.asked),
-  (c.status_of_run_end.ensures, c.tell_end-told.ensures),
+  (c.status_of_run_end.ensures, c.tell_end-reported.ensures),
 )

@@ -8,7 +8,7 @@ use Rattle.tsp_run.proofs.running.run_job.Goals as goal
 -- plan: by the job: no task, a task, or a comparison
 pub returns-in-Err : goal.returns-in-Err
 returns-in-Err g c =
-    (NoTask c.in-Err.fault, (c.in-Err.ensures, (Keeps-refl _, refl)), (c.status_of_run_end.ensures, rw (← c.is_explained-explain.ensures) c.tell_fault_of_job-told.ensures))
+    (NoTask c.in-Err.fault, (c.in-Err.ensures, (Keeps-refl _, refl)), (c.status_of_run_end.ensures, rw (← c.is_explained-explain.ensures) c.tell_fault_of_job-reported.ensures))
 
 pub returns-in-Files : goal.returns-in-Files
 returns-in-Files g c =

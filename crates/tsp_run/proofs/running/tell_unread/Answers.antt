@@ -4,4 +4,4 @@ use Rattle.tsp_run.specs.declared.run_end.RunEnd.TheVariants.{NoJob}
 use Rattle.tsp_run.proofs.running.tell_unread.Goals as goal
 
 pub returns : goal.returns
-returns g c = (false, NoJob c.unread.result, (c.unread.ensures.memory, c.unread.ensures.no_text, refl), (c.end.ensures.status, c.end.ensures.told))
+returns g c = (false, NoJob c.unread.result, (c.unread.ensures.memory, c.unread.ensures.no_text, refl), (c.end.ensures.status, c.end.ensures.reported))

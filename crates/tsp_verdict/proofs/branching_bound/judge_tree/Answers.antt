@@ -19,7 +19,7 @@ use Rattle.tsp_draft.specs.Fields.{nodes_of}
 use Rattle.tsp_verdict.proofs.FilesHold.{steps_hold, steps_few}
 use Rattle.tsp_verdict.proofs.GivenPairs.{given_once, given_are, given_few}
 use Rattle.tsp_verdict.proofs.FamiliesHold.{families_hold, families_few}
-use Rattle.tsp_verdict.proofs.TreeReasons.{directed_is, even_view, no_tour, are_of, told, twice_within, bad_within, comb_first, pairs_few, pair_first, twice_first, leaf_first, none_stands, certified}
+use Rattle.tsp_verdict.proofs.TreeReasons.{directed_is, even_view, no_tour, are_of, reported, twice_within, bad_within, comb_first, pairs_few, pair_first, twice_first, leaf_first, none_stands, certified}
 use Rattle.tsp_verdict.proofs.branching_bound.judge_tree.Goals as goal
 
 -- plan: by the verdict on the tree: each of its reasons is the first of the file's, and its bound is the certificate's
@@ -77,13 +77,13 @@ returns-in-Bound-Some g c =
     let is = subst (IsBranchVerdict c.is_directed-directed.result n costs (to_z w64 (of_z w64 c.args.tree.now.scale)) families
     given steps) whole c.in_ok-bound.ensures.verdict in
     let fits : FitsSigned w128 bound = search rules in
-    let all_told = told instance tree c.is_directed-directed.result n costs _ families given steps (found.Bound (Some bound)) are
+    let all_reported = reported instance tree c.is_directed-directed.result n costs _ families given steps (found.Bound (Some bound)) are
     is in
     rw (to_z-of_z w128 bound fits) (
-      none_stands c.numbers_are_unique.ensures instance tree costs (Some bound) c.requires.kind c.requires.sort c.requires.count all_told,
+      none_stands c.numbers_are_unique.ensures instance tree costs (Some bound) c.requires.kind c.requires.sort c.requires.count all_reported,
       certified instance tree costs bound c.case_trees_bound_cycles.ensures.cycles c.requires.kind c.requires.some c.requires.even
           (subst IsScale c.requires.held.scale_is c.requires.held.scaled) c.requires.keeps.every
-          (subst IsSizedVerdict whole c.in_ok-bound.ensures.size) all_told,
+          (subst IsSizedVerdict whole c.in_ok-bound.ensures.size) all_reported,
     )
 
 pub returns-in-Bound-None : goal.returns-in-Bound-None
@@ -106,10 +106,10 @@ returns-in-Bound-None g c =
     (c.deref.ensures.value ∙ c.in_ok-given.ensures) c.requires.held.steps_are in
     let is = subst (IsBranchVerdict c.is_directed-directed.result n costs (to_z w64 (of_z w64 c.args.tree.now.scale)) families
     given steps) whole c.in_ok-bound.ensures.verdict in
-    let all_told = told instance tree c.is_directed-directed.result n costs _ families given steps (found.Bound None) are is in
+    let all_reported = reported instance tree c.is_directed-directed.result n costs _ families given steps (found.Bound None) are is in
     let gone = no_tour instance tree costs c.case_trees_bound_cycles.ensures.cycles c.requires.kind c.requires.some c.requires.even
-    (subst IsScale c.requires.held.scale_is c.requires.held.scaled) c.requires.keeps.every all_told in
-    (none_stands c.numbers_are_unique.ensures instance tree costs None c.requires.kind c.requires.sort c.requires.count all_told, gone.0, gone.1)
+    (subst IsScale c.requires.held.scale_is c.requires.held.scaled) c.requires.keeps.every all_reported in
+    (none_stands c.numbers_are_unique.ensures instance tree costs None c.requires.kind c.requires.sort c.requires.count all_reported, gone.0, gone.1)
 
 pub returns-in-BadFamily : goal.returns-in-BadFamily
 returns-in-BadFamily g c =
@@ -131,7 +131,7 @@ returns-in-BadFamily g c =
     let is = subst (IsBranchVerdict c.is_directed-directed.result n costs (to_z w64 (of_z w64 c.args.tree.now.scale)) families
     given steps) c.in-BadFamily.is c.in_ok-bound.ensures.verdict in
     comb_first instance tree costs c.in-BadFamily.index c.requires.kind c.requires.sort c.requires.count
-    (told instance tree c.is_directed-directed.result n costs _ families given steps (found.BadFamily c.in-BadFamily.index) are is)
+    (reported instance tree c.is_directed-directed.result n costs _ families given steps (found.BadFamily c.in-BadFamily.index) are is)
 
 pub overflow_cast-result-in-BadBranch : goal.overflow_cast-result-in-BadBranch
 overflow_cast-result-in-BadBranch g c =
@@ -167,7 +167,7 @@ returns-in-BadBranch g c =
     let is = subst (IsBranchVerdict c.is_directed-directed.result n costs (to_z w64 (of_z w64 c.args.tree.now.scale)) families
     given steps) c.in-BadBranch.is c.in_ok-bound.ensures.verdict in
     pair_first instance tree costs c.in-BadBranch.index c.requires.kind c.requires.sort c.requires.count
-    (told instance tree c.is_directed-directed.result n costs _ families given steps (found.BadBranch c.in-BadBranch.index) are
+    (reported instance tree c.is_directed-directed.result n costs _ families given steps (found.BadBranch c.in-BadBranch.index) are
     is)
 
 pub overflow_cast-result-in-BranchTwice : goal.overflow_cast-result-in-BranchTwice
@@ -203,7 +203,7 @@ returns-in-BranchTwice g c =
     let is = subst (IsBranchVerdict c.is_directed-directed.result n costs (to_z w64 (of_z w64 c.args.tree.now.scale)) families
     given steps) c.in-BranchTwice.is c.in_ok-bound.ensures.verdict in
     twice_first instance tree costs c.in-BranchTwice.index c.requires.kind c.requires.sort c.requires.count
-    (told instance tree c.is_directed-directed.result n costs _ families given steps (found.BranchTwice c.in-BranchTwice.index) are
+    (reported instance tree c.is_directed-directed.result n costs _ families given steps (found.BranchTwice c.in-BranchTwice.index) are
     is)
 
 pub overflow_cast-result-in-BadLeaf : goal.overflow_cast-result-in-BadLeaf
@@ -239,4 +239,4 @@ returns g c =
     let is = subst (IsBranchVerdict c.is_directed-directed.result n costs (to_z w64 (of_z w64 c.args.tree.now.scale)) families
     given steps) c.in-BadLeaf.is c.in_ok-bound.ensures.verdict in
     leaf_first instance tree costs c.in-BadLeaf.index c.requires.kind c.requires.sort c.requires.count
-    (told instance tree c.is_directed-directed.result n costs _ families given steps (found.BadLeaf c.in-BadLeaf.index) are is)
+    (reported instance tree c.is_directed-directed.result n costs _ families given steps (found.BadLeaf c.in-BadLeaf.index) are is)

@@ -17,7 +17,7 @@ use Rattle.tsp_routing.specs.PlanVerdicts.{routing_with, IsPlanVerdict, VerdictB
 use Rattle.tsp_verdict.proofs.FilesHold.{steps_few}
 use Rattle.tsp_verdict.proofs.FamiliesHold.{families_hold}
 use Rattle.tsp_verdict.proofs.TreeReasons.{pairs_few}
-use Rattle.tsp_verdict.proofs.WalkReasons.{leaves_few, plan_steps, of_files, told_of_routes, bounds_of_routes, set_first, branch_first, plan_leaf_first, loads_first, plans_bounded, plans_missing}
+use Rattle.tsp_verdict.proofs.WalkReasons.{leaves_few, plan_steps, of_files, reported_of_routes, bounds_of_routes, set_first, branch_first, plan_leaf_first, loads_first, plans_bounded, plans_missing}
 use Rattle.tsp_verdict.proofs.walks.judge_walks.Goals as goal
 
 -- plan: each verdict on plans is reported in the words of the files: a reason, a bound, or that there is no solution
@@ -59,7 +59,7 @@ returns-in-BadFamily c =
     let is = subst (IsPlanVerdict (routing_with (nodes_of instance) (cost instance) c.args.depot demands _) _ _ (combs_of combs) steps)
     c.in-BadFamily.is c.in_ok-bound.ensures.verdict in
     set_first instance tree c.in-BadFamily.index c.requires.kind c.requires.sort c.requires.count
-    (told_of_routes instance tree _ _ _ _ _ _ _ _ are is)
+    (reported_of_routes instance tree _ _ _ _ _ _ _ _ are is)
 
 pub returns-in-BadBranch : goal.returns-in-BadBranch
 returns-in-BadBranch c =
@@ -74,7 +74,7 @@ returns-in-BadBranch c =
     let is = subst (IsPlanVerdict (routing_with (nodes_of instance) (cost instance) c.args.depot demands _) _ _ (combs_of combs) steps)
     c.in-BadBranch.is c.in_ok-bound.ensures.verdict in
     branch_first instance tree c.in-BadBranch.index c.requires.kind c.requires.sort c.requires.count
-    (told_of_routes instance tree _ _ _ _ _ _ _ _ are is)
+    (reported_of_routes instance tree _ _ _ _ _ _ _ _ are is)
 
 pub returns-in-BadLeaf : goal.returns-in-BadLeaf
 returns-in-BadLeaf c =
@@ -89,7 +89,7 @@ returns-in-BadLeaf c =
     let is = subst (IsPlanVerdict (routing_with (nodes_of instance) (cost instance) c.args.depot demands _) _ _ (combs_of combs) steps)
     c.in-BadLeaf.is c.in_ok-bound.ensures.verdict in
     plan_leaf_first instance tree c.in-BadLeaf.index c.requires.kind c.requires.sort c.requires.count
-    (told_of_routes instance tree _ _ _ _ _ _ _ _ are is)
+    (reported_of_routes instance tree _ _ _ _ _ _ _ _ are is)
 
 pub returns-in-TooManyLoads : goal.returns-in-TooManyLoads
 returns-in-TooManyLoads c =
@@ -104,7 +104,7 @@ returns-in-TooManyLoads c =
     let is = subst (IsPlanVerdict (routing_with (nodes_of instance) (cost instance) c.args.depot demands _) _ _ (combs_of combs) steps)
     c.in-TooManyLoads.is c.in_ok-bound.ensures.verdict in
     loads_first instance tree c.requires.kind c.requires.sort c.requires.count
-    (told_of_routes instance tree _ _ _ _ _ _ _ _ are is)
+    (reported_of_routes instance tree _ _ _ _ _ _ _ _ are is)
 
 pub overflow_cast-result-in-BadBranch : goal.overflow_cast-result-in-BadBranch
 overflow_cast-result-in-BadBranch c =
@@ -148,7 +148,7 @@ returns-in-Bound-Some c =
     let sized = subst IsSizedPlanVerdict whole c.in_ok-bound.ensures.size in
     let fits : FitsSigned w128 bound = search rules in
     rw (to_z-of_z w128 bound fits) (plans_bounded instance tree bound c.requires.kind c.requires.sort c.requires.count
-    (told_of_routes instance tree _ _ _ _ _ _ _ _ are is) (bounds_of_routes instance tree _ _ _ _ _ _ _ (found.Bound (Some bound)) are below) sized)
+    (reported_of_routes instance tree _ _ _ _ _ _ _ _ are is) (bounds_of_routes instance tree _ _ _ _ _ _ _ (found.Bound (Some bound)) are below) sized)
 
 pub returns-in-Bound-None : goal.returns-in-Bound-None
 returns-in-Bound-None c =
@@ -165,4 +165,4 @@ returns-in-Bound-None c =
     let is = subst (IsPlanVerdict problem _ _ (combs_of combs) steps) whole c.in_ok-bound.ensures.verdict in
     let below = subst (VerdictBoundsPlans problem) whole c.in_ok-bound.ensures.plans in
     plans_missing instance tree c.requires.kind c.requires.sort c.requires.count
-    (told_of_routes instance tree _ _ _ _ _ _ _ _ are is) (bounds_of_routes instance tree _ _ _ _ _ _ _ (found.Bound None) are below)
+    (reported_of_routes instance tree _ _ _ _ _ _ _ _ are is) (bounds_of_routes instance tree _ _ _ _ _ _ _ (found.Bound None) are below)

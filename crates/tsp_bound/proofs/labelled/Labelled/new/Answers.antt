@@ -14,8 +14,8 @@ invariant_of-result g c =
       low = λ x x_in. subst (λ (k : ℕ). k < length order) (sym (c.in_ok-labels.ensures.own x (omega (arith, x_in)))) x_in;
       as_many_tags = omega (arith, c.tag_boxes.ensures.len, c.deref-2.ensures.value, len);
       tagged = subst (λ ls. AreTags ls c.tag_boxes.new.tags.items) c.deref-2.ensures.value c.tag_boxes.ensures.tags;
-      as_many_spots = rw c.in-Some.is at c.in_ok-spots.ensures.len;
-      spots_are = rw c.in-Some.is at c.in_ok-spots.ensures.spots;
+      as_many_sites = rw c.in-Some.is at c.in_ok-sites.ensures.len;
+      sites_are = rw c.in-Some.is at c.in_ok-sites.ensures.sites;
       boxes = c.in_ok-areas.ensures.len;
       held = c.in_ok-areas.ensures.held (λ _. true);
     }

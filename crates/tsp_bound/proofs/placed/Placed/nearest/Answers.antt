@@ -1,7 +1,7 @@
 -- The goals of `Placed::nearest` in src/placed.rt: what its calls require and what it ensures.
 use Rattle.std.proofs.Common.{ℕ, ◌≡◌, ◌≢◌, sym, subst, pos, rules, ap, w64, to_z, of_z, SFits}
 use Rattle.std.proofs.lemmas.Int.{to_z-of_z}
-use Rattle.tsp_bound.specs.declared.spot.Spot.{Spot}
+use Rattle.tsp_bound.specs.declared.numbered_site.NumberedSite.{NumberedSite}
 use Rattle.tsp_bound.specs.states.Boxes.{node_of, IsSearched, no_best}
 use Rattle.tsp_bound.proofs.Lowest.{searched_best}
 use Rattle.tsp_bound.proofs.Trees.{found_some, nearest_is}
@@ -14,9 +14,9 @@ lowered-best-requires-clause-best g c =
     let w = g.W.BoxedWeights.unlowered s.w.now in
     let outside = g.S.Seen.outside_of c.args.seen.now in
     let best = c.nearest_from-unlowered.result in
-    let spot : Spot = c.index-spots-from.result in
-    let node : spot.site.node ≡ node_of s.order.now c.args.from =
-    subst (λ (one : Spot). one.site.node ≡ node_of s.order.now c.args.from) (sym c.index-spots-from.is) (c.requires.spots c.args.from spot c.requires.from).here in
+    let numbered : NumberedSite = c.index-sites-from.result in
+    let node : numbered.site.node ≡ node_of s.order.now c.args.from =
+    subst (λ (one : NumberedSite). one.site.node ≡ node_of s.order.now c.args.from) (sym c.index-sites-from.is) (c.requires.sites c.args.from numbered c.requires.from).here in
     searched_best w s.order.now outside (node_of s.order.now c.args.from) best
     (subst (λ (k : ℕ). IsSearched w s.order.now outside k 1 no_best best) node c.nearest_from-unlowered.ensures)
 

@@ -24,7 +24,7 @@ returns-else-weight-best g c =
     let fits : SFits w64 c.weight_within-weight.result = search rules in
     let best_fits : SFits w64 c.args.best.weight = search rules in
     let same = to_z-of_z w64 c.args.best.weight best_fits in
-    let node = (s.spots_are c.args.place c.index-self-place.result c.requires).here in
+    let node = (s.sites_are c.args.place c.index-self-place.result c.requires).here in
     let below : c.args.best.weight ≤ℤ w s.from.site.node (node_of s.order.now c.args.place) =
     subst (λ (z : ℤ). z ≤ℤ w s.from.site.node (node_of s.order.now c.args.place)) same
     (subst (λ (k : ℕ). to_z w64 (of_z w64 c.args.best.weight) ≤ℤ w s.from.site.node k) node
@@ -41,7 +41,7 @@ returns-then-weight-best g c =
     let best_fits : SFits w64 c.args.best.weight = search rules in
     let back = to_z-of_z w64 c.weight_within-weight.result fits in
     let same = to_z-of_z w64 c.args.best.weight best_fits in
-    let node = (s.spots_are c.args.place c.index-self-place.result c.requires).here in
+    let node = (s.sites_are c.args.place c.index-self-place.result c.requires).here in
     let value : own.result ≡ w s.from.site.node (node_of s.order.now c.args.place) = subst (λ (k : ℕ). own.result ≡ w s.from.site.node k) node
     (own.ensures.less (subst (λ (z : ℤ). own.result <ℤ z) (sym same) (below_seen own.result c.args.best.weight fits best_fits c.if-weight-best.true))) in
     let is : to_z w64 (of_z w64 own.result) ≡ w s.from.site.node (node_of s.order.now c.args.place) = back ∙ value in

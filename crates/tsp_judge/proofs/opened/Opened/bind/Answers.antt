@@ -5,7 +5,7 @@ use Rattle.tsp_verdict.specs.Bounded.{IsBoundVerdict}
 use Rattle.tsp_verdict.specs.Certified.{is_bounded}
 use Rattle.tsp_judge.specs.declared.fault.RunFault.TheVariants.{OutOfMemory}
 use Rattle.tsp_judge.specs.Open.{Open, IsUnbound}
-use Rattle.tsp_judge.proofs.HandedOn.{handed_on}
+use Rattle.tsp_read.proofs.Propagated.{propagated}
 use Rattle.tsp_judge.proofs.Openings.{unbound}
 use Rattle.tsp_judge.proofs.opened.Opened.bind.Goals as goal
 
@@ -17,7 +17,7 @@ invariant_of-self c =
 
 pub returns-in_err-file : goal.returns-in_err-file
 returns-in_err-file c =
-    let same : c.from_residual.result ≡ Err c.in_err-file.field-0.0 = handed_on _ _ c.from_residual.ensures.1 in
+    let same : c.from_residual.result ≡ Err c.in_err-file.field-0.0 = propagated _ _ c.from_residual.ensures.1 in
     rw same (refl, unbound c.args.by c.args.text.now c.args.self.now _ c.in_err-file.ensures)
 
 pub returns-in-Err : goal.returns-in-Err

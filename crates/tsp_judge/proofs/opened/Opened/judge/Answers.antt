@@ -1,7 +1,7 @@
 -- The goals of `Opened::judge` in src/opened.rt: what its calls require and what it ensures.
 use Rattle.std.proofs.Common.{◌≡◌, Err, subst}
 use Rattle.tsp_judge.specs.Open.{Open, IsHeldVerdict}
-use Rattle.tsp_judge.proofs.HandedOn.{handed_on}
+use Rattle.tsp_read.proofs.Propagated.{propagated}
 use Rattle.tsp_judge.proofs.Openings.{not_judged}
 use Rattle.tsp_judge.proofs.opened.Opened.judge.Goals as goal
 
@@ -10,7 +10,7 @@ judge_next-requires c = (c.self.inside.certificate, c.self.invariant.1)
 
 pub returns-in_err-solution : goal.returns-in_err-solution
 returns-in_err-solution c =
-    let same : c.from_residual.result ≡ Err c.in_err-solution.field-0.0 = handed_on _ _ c.from_residual.ensures.1 in
+    let same : c.from_residual.result ≡ Err c.in_err-solution.field-0.0 = propagated _ _ c.from_residual.ensures.1 in
     rw same (not_judged c.args.text.now c.args.self.now _ c.in_err-solution.ensures)
 
 -- plan: by how it ends: no file, no memory for the verdict (`not_judged`), or the verdict

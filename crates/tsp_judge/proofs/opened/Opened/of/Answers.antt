@@ -1,11 +1,11 @@
 -- The goals of `Opened::of` in src/opened.rt: what it keeps and what it ensures.
 use Rattle.std.proofs.Common.{◌≡◌, Err, refl}
-use Rattle.tsp_judge.proofs.HandedOn.{handed_on}
+use Rattle.tsp_read.proofs.Propagated.{propagated}
 use Rattle.tsp_judge.proofs.Openings.{unopened}
 use Rattle.tsp_judge.proofs.opened.Opened.of.Goals as goal
 
--- plan: by the lemmas `handed_on` and `unopened`
+-- plan: by the lemmas `propagated` and `unopened`
 pub returns-in_err-file : goal.returns-in_err-file
 returns-in_err-file c =
-    let same : c.from_residual.result ≡ Err c.in_err-file.field-0.0 = handed_on _ _ c.from_residual.ensures.1 in
+    let same : c.from_residual.result ≡ Err c.in_err-file.field-0.0 = propagated _ _ c.from_residual.ensures.1 in
     rw same (unopened c.args.text.now _ c.in_err-file.ensures)

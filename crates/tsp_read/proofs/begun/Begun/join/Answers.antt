@@ -8,7 +8,7 @@ use Rattle.tsp_read.specs.states.Token.{ends_token, most_bytes}
 use Rattle.tsp_read.specs.states.Intake.{HasTakenItems, TakesNext, IsReadTo}
 use Rattle.tsp_read.proofs.BegunSteps.{token_here, token_joins, fed_longer, fed_none, joined_none, joined_fault, joined_end, joined_more, settled_filled, settled_long, has_taken, empty_rest, filled_rest}
 use Rattle.tsp_read.proofs.Onwards.{token_long}
-use Rattle.tsp_read.proofs.HandedOn.{handed_on}
+use Rattle.tsp_read.proofs.Propagated.{propagated}
 use Rattle.tsp_read.proofs.begun.Begun.join.Goals as goal
 
 -- plan: by where the begun item ends: not yet, in the new piece (`token_joins`), or past its limit (`settled_long`)
@@ -61,7 +61,7 @@ returns-in_err-take_next-clause-joined c = λ bytes h.
     c.try_extend_from_slice.ensures.ok short ∙ ap (λ (xs : List ℕ). begun ++ xs) c.cut.ensures.before in
     let tail : is_not_empty (from (ends_token token) piece) ≡ true =
     ap is_not_empty (sym c.cut.ensures.from) ∙ filled_rest c.cut.result.1.now (sym c.is_empty-2.ensures ∙ c.if-is_empty-2.false) in
-    let same : c.from_residual.result ≡ Err c.in_err-take_next.field-0.0 = handed_on _ _ c.from_residual.ensures.1 in
+    let same : c.from_residual.result ≡ Err c.in_err-take_next.field-0.0 = propagated _ _ c.from_residual.ensures.1 in
     rw same (joined_fault token c.args.intake.now c.take_next.new.self begun piece bytes c.as_slice.result.now
     c.in_err-take_next.field-0.0 (c.as_slice.ensures.value ∙ added)
     (settled_filled (most_bytes token) true (begun ++ up_to_first (ends_token token) piece) (from (ends_token token) piece) tail) joins h.read

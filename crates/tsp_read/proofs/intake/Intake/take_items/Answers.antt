@@ -2,7 +2,7 @@
 use Rattle.std.proofs.Common.{◌≡◌, Err, refl, arith, true}
 use Rattle.tsp_read.specs.states.Left.{item_next, is_in_line, items_left}
 use Rattle.tsp_read.proofs.IntakeSteps.{read_further, read_to_end, read_to_fault}
-use Rattle.tsp_read.proofs.HandedOn.{handed_on}
+use Rattle.tsp_read.proofs.Propagated.{propagated}
 use Rattle.tsp_read.proofs.intake.Intake.take_items.Goals as goal
 
 -- plan: one item more is read (`read_further`), until a fault (`read_to_fault`) or the line EOF (`read_to_end`)
@@ -13,7 +13,7 @@ returns-then-branch-clause-items c = λ bytes h.
 
 pub returns-in_err-take_next-clause-items : goal.returns-in_err-take_next-clause-items
 returns-in_err-take_next-clause-items c = λ bytes h.
-    let same : c.from_residual.result ≡ Err c.in_err-take_next.field-0.0 = handed_on _ _ c.from_residual.ensures.1 in
+    let same : c.from_residual.result ≡ Err c.in_err-take_next.field-0.0 = propagated _ _ c.from_residual.ensures.1 in
     rw same (
     read_to_fault c.items.self c.take_next.new.self bytes c.items.rest.now (item_next c.in-Some.next) (items_left true (is_in_line c.in-Some.next) c.in-Some.after.now) c.in_err-take_next.field-0.0
     (c.items.invariant.read bytes h) c.in-Some.ensures.items c.in_err-take_next.ensures.item)

@@ -2,7 +2,7 @@
 
 ghost use Rattle.std.specs.Prelude.{◌≡◌, ◌≢◌, Some, IfOk};
 ghost use Rattle.tsp_report.specs.Report.{IsGapSized, IsSized};
-ghost use Rattle.tsp_c.specs.Told.{IsSizedBound, blank_told, told_field, field_number, kind_number, line_fault_number, number_fault_number, told_number, read_fault_number, told_of_bound, told_of_bound_run, told_of_fault, told_of_instance, told_of_run, told_of_verdict, with_bound, with_reason};
+ghost use Rattle.tsp_c.specs.CallResult.{IsSizedBound, blank_result, field_of_fault, field_number, kind_number, line_fault_number, number_fault_number, number_of_fault, read_fault_number, result_of_bound, result_of_bound_run, result_of_fault, result_of_instance, result_of_run, result_of_verdict, with_bound, with_reason};
 
 use tsp_cost::{Costs, Instance};
 use tsp_format::{Field, Kind};
@@ -30,7 +30,7 @@ const TWO_TO_64: i128 = 18_446_744_073_709_551_616;
 /// The result of a call, in numbers. A number that it doesn't have is 0.
 #[repr(C)]
 #[derive(Clone, Copy)]
-pub struct Told {
+pub struct CallResult {
     /// The TYPE of the instance: 1 TSP, 2 ATSP, 3 CVRP.
     pub kind: u32,
     /// How many nodes it has.
@@ -64,12 +64,12 @@ pub struct Told {
     pub field: u32,
 }
 
-impl Told {
+impl CallResult {
     /// No number: all are 0.
-    pub(crate) fn blank() -> Told
-        ensures { result ≡ blank_told }
+    pub(crate) fn blank() -> CallResult
+        ensures { result ≡ blank_result }
     {
-        Told {
+        CallResult {
             kind: 0,
             nodes: 0,
             verdict: 0,
@@ -92,167 +92,168 @@ impl Told {
     }
 
     /// The numbers of an instance without a verdict: its TYPE, and how many nodes it has.
-    pub(crate) fn of_instance(instance: &Instance) -> Told
-        ensures { result ≡ told_of_instance instance.now }
+    pub(crate) fn of_instance(instance: &Instance) -> CallResult
+        ensures { result ≡ result_of_instance instance.now }
     {
-        Told {
+        CallResult {
             kind: kind_number(instance.kind()),
             nodes: instance.count(),
-            ..Told::blank()
+            ..CallResult::blank()
         }
     }
 
     /// A verdict on a solution of an instance.
-    pub(crate) fn of_verdict(instance: &Instance, verdict: Verdict) -> Told
+    pub(crate) fn of_verdict(instance: &Instance, verdict: Verdict) -> CallResult
         requires { IsSized verdict }
-        ensures { result ≡ told_of_verdict instance.now verdict }
+        ensures { result ≡ result_of_verdict instance.now verdict }
     {
-        let told = Told::of_instance(instance);
+        let call_result = CallResult::of_instance(instance);
         match verdict {
             Verdict::Tour {
                 length,
                 bound: None,
-            } => Told {
+            } => CallResult {
                 verdict: TOUR,
                 length,
-                ..told
+                ..call_result
             },
             Verdict::Tour {
                 length,
                 bound: Some(bound),
-            } => Told {
+            } => CallResult {
                 verdict: TOUR,
                 length,
-                ..told.with_bound(bound)
+                ..call_result.with_bound(bound)
             },
             Verdict::Routes {
                 length,
                 routes,
                 least,
                 bound: None,
-            } => Told {
+            } => CallResult {
                 verdict: ROUTES,
                 length,
                 routes,
                 least,
-                ..told
+                ..call_result
             },
             Verdict::Routes {
                 length,
                 routes,
                 least,
                 bound: Some(bound),
-            } => Told {
+            } => CallResult {
                 verdict: ROUTES,
                 length,
                 routes,
                 least,
-                ..told.with_bound(bound)
+                ..call_result.with_bound(bound)
             },
-            Verdict::No(reason) => told.with_reason(reason),
+            Verdict::No(reason) => call_result.with_reason(reason),
         }
     }
 
     /// What was found of an instance with a certificate.
-    pub(crate) fn of_bound(instance: &Instance, found: BoundVerdict) -> Told
+    pub(crate) fn of_bound(instance: &Instance, found: BoundVerdict) -> CallResult
         requires { IsSizedBound found }
-        ensures { result ≡ told_of_bound instance.now found }
+        ensures { result ≡ result_of_bound instance.now found }
     {
-        let told = Told::of_instance(instance);
+        let call_result = CallResult::of_instance(instance);
         match found {
-            BoundVerdict::Bound(bound) => Told {
+            BoundVerdict::Bound(bound) => CallResult {
                 verdict: BOUND,
-                ..told.with_bound(bound)
+                ..call_result.with_bound(bound)
             },
-            BoundVerdict::NoSolution => Told {
+            BoundVerdict::NoSolution => CallResult {
                 verdict: NO_TOUR,
-                ..told
+                ..call_result
             },
-            BoundVerdict::No(reason) => told.with_reason(reason),
+            BoundVerdict::No(reason) => call_result.with_reason(reason),
         }
     }
 
     /// What a check has come to.
-    pub(crate) fn of_run(ended: &Result<Judged, RunError>) -> Told
+    pub(crate) fn of_run(ended: &Result<Judged, RunError>) -> CallResult
         requires { IfOk ended.now (λ judged. IsSized judged.verdict) }
-        ensures { result ≡ told_of_run ended.now }
+        ensures { result ≡ result_of_run ended.now }
     {
         match ended {
-            Ok(judged) => Told::of_verdict(&judged.instance, judged.verdict),
-            Err(error) => Told::of_error(*error),
+            Ok(judged) => CallResult::of_verdict(&judged.instance, judged.verdict),
+            Err(error) => CallResult::of_error(*error),
         }
     }
 
     /// What a bound without a solution has come to.
-    pub(crate) fn of_bound_run(ended: &Result<Bounded, RunError>) -> Told
+    pub(crate) fn of_bound_run(ended: &Result<Bounded, RunError>) -> CallResult
         requires { IfOk ended.now (λ bounded. IsSizedBound bounded.found) }
-        ensures { result ≡ told_of_bound_run ended.now }
+        ensures { result ≡ result_of_bound_run ended.now }
     {
         match ended {
-            Ok(bounded) => Told::of_bound(&bounded.instance, bounded.found),
-            Err(error) => Told::of_error(*error),
+            Ok(bounded) => CallResult::of_bound(&bounded.instance, bounded.found),
+            Err(error) => CallResult::of_error(*error),
         }
     }
 
     /// Why a run ended early.
-    pub(crate) fn of_error(error: RunError) -> Told
-        ensures { result ≡ told_of_fault error }
+    pub(crate) fn of_error(error: RunError) -> CallResult
+        ensures { result ≡ result_of_fault error }
     {
-        Told::of_fault(error.fault())
+        CallResult::of_fault(error.fault())
     }
 
     /// A fault.
-    fn of_fault(fault: RunFault) -> Told
-        ensures { result ≡ told_of_fault fault }
+    fn of_fault(fault: RunFault) -> CallResult
+        ensures { result ≡ result_of_fault fault }
     {
         match fault {
             RunFault::File {
                 fault: ReadFault::OutOfMemory | ReadFault::Device,
                 ..
-            } => Told::blank(),
+            } => CallResult::blank(),
             RunFault::File {
                 file,
                 fault: ReadFault::Line { line, word, fault },
-            } => Told {
+            } => CallResult {
                 fault: line_fault_number(fault),
                 file,
                 line,
                 word,
-                number: told_number(fault),
-                ..Told::blank()
+                number: number_of_fault(fault),
+                ..CallResult::blank()
             },
-            RunFault::File { file, fault } => Told {
+            RunFault::File { file, fault } => CallResult {
                 fault: read_fault_number(fault),
                 file,
-                field: told_field(fault),
-                ..Told::blank()
+                field: field_of_fault(fault),
+                ..CallResult::blank()
             },
-            RunFault::WrongKind => Told {
+            RunFault::WrongKind => CallResult {
                 fault: WRONG_KIND,
                 file: 1,
-                ..Told::blank()
+                ..CallResult::blank()
             },
-            RunFault::OutOfMemory | RunFault::Write(_) | RunFault::Relayout(_) => Told::blank(),
+            RunFault::OutOfMemory | RunFault::Write(_) | RunFault::Relayout(_) =>
+                CallResult::blank(),
         }
     }
 
     /// The numbers of a call with this status: none out of memory.
-    pub(crate) fn for_status(self, status: u8) -> Told
+    pub(crate) fn for_status(self, status: u8) -> CallResult
         ensures kept { status ≢ 3 → result ≡ self }
-        ensures none { status ≡ 3 → result ≡ blank_told }
+        ensures none { status ≡ 3 → result ≡ blank_result }
     {
         if status == Status::OutOfMemory as u8 {
-            return Told::blank();
+            return CallResult::blank();
         }
         self
     }
 
     /// The same with a bound.
-    fn with_bound(self, bound: i128) -> Told
+    fn with_bound(self, bound: i128) -> CallResult
         requires { IsGapSized (Some bound) }
         ensures { result ≡ with_bound self bound }
     {
-        Told {
+        CallResult {
             bound_high: bound.div_euclid(TWO_TO_64) as i64,
             bound_low: bound.rem_euclid(TWO_TO_64) as u64,
             has_bound: 1,
@@ -261,11 +262,11 @@ impl Told {
     }
 
     /// The same with a reason.
-    fn with_reason(self, reason: Reason) -> Told
+    fn with_reason(self, reason: Reason) -> CallResult
         ensures { result ≡ with_reason self reason }
     {
         let row = row_of_reason(reason);
-        Told {
+        CallResult {
             verdict: REJECTED,
             reason: row.rank,
             first: row.numbers.0.unwrap_or(0),
@@ -326,8 +327,8 @@ fn read_fault_number(fault: ReadFault) -> u32
 }
 
 /// The number of what is wrong with a number, where that is the fault of a line; else 0.
-fn told_number(fault: LineFault) -> u32
-    ensures { result ≡ told_number fault }
+fn number_of_fault(fault: LineFault) -> u32
+    ensures { result ≡ number_of_fault fault }
 {
     match fault {
         LineFault::Number(found) => number_fault_number(found),
@@ -349,8 +350,8 @@ fn number_fault_number(fault: NumberFault) -> u32
 }
 
 /// The number of the field that a fault of a text's end names, or 0.
-fn told_field(fault: ReadFault) -> u32
-    ensures { result ≡ told_field fault }
+fn field_of_fault(fault: ReadFault) -> u32
+    ensures { result ≡ field_of_fault fault }
 {
     match fault {
         ReadFault::End(EndFault::Missing(field) | EndFault::Incomplete(field)) => {

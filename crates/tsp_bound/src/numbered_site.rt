@@ -5,7 +5,7 @@ use tsp_theory::Site;
 
 /// A node with its place, and its number.
 #[derive(Clone, Copy, Debug)]
-pub struct Spot {
+pub struct NumberedSite {
     /// The node and its place.
     pub site: Site,
     /// Its number.

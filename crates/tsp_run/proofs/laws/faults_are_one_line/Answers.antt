@@ -1,7 +1,7 @@
--- The goals of `faults_are_told_on_one_line` in src/laws.rt. By the parts of each text.
+-- The goals of `faults_are_one_line` in src/laws.rt. By the parts of each text.
 use Rattle.tsp_judge.specs.RunFaultText.{run_fault_text}
 use Rattle.tsp_run.proofs.OneLines.{line_of_run}
-use Rattle.tsp_run.proofs.laws.faults_are_told_on_one_line.Goals as goal
+use Rattle.tsp_run.proofs.laws.faults_are_one_line.Goals as goal
 
 -- plan: by the lemma `line_of_run`
 pub returns-clause-one : goal.returns-clause-one

@@ -31,12 +31,12 @@ use Rattle.tsp_judge.specs.declared.judging.Judged.{Judged}
 use Rattle.tsp_judge.specs.declared.fault.RunFault.{RunFault}
 use Rattle.tsp_judge.specs.declared.fault.RunFault.TheVariants.{File, WrongKind}
 use Rattle.tsp_judge.specs.Status.{status_of}
-use Rattle.tsp_c.specs.declared.told.Told.{Told}
+use Rattle.tsp_c.specs.declared.call_result.CallResult.{CallResult}
 use Rattle.tsp_c.specs.Ended.{nth}
 use Rattle.tsp_c.specs.Texts.{GivenText, AreSpelled, IsUnchecked, IsUnbounded, with_certificate, certificates, claim_of, strict_of}
 
-abbrev pub blank_told : Told
-blank_told = record {
+abbrev pub blank_result : CallResult
+blank_result = record {
   kind = 0;
   nodes = 0;
   verdict = 0;
@@ -68,8 +68,8 @@ kind_number (Some kinds.Potentials) = 0
 kind_number (Some kinds.Branches) = 0
 kind_number None = 0
 
-abbrev pub told_of_instance : Fields → Told
-told_of_instance instance = record blank_told { kind = kind_number instance.kind; nodes = nodes_of instance }
+abbrev pub result_of_instance : Fields → CallResult
+result_of_instance instance = record blank_result { kind = kind_number instance.kind; nodes = nodes_of instance }
 
 -- ---- a bound, in two halves: the first one times 2^64, and the second one
 
@@ -79,8 +79,8 @@ high_half bound = int_div_euclid bound (pos (2 ^ 64))
 abbrev pub low_half : ℤ → ℕ
 low_half bound = unsigned_abs (int_rem_euclid bound (pos (2 ^ 64)))
 
-abbrev pub with_bound : Told → ℤ → Told
-with_bound told bound = record told { bound_high = high_half bound; bound_low = low_half bound; has_bound = 1 }
+abbrev pub with_bound : CallResult → ℤ → CallResult
+with_bound call_result bound = record call_result { bound_high = high_half bound; bound_low = low_half bound; has_bound = 1 }
 
 -- ---- a reason: its place in the order in which reasons are judged, and its numbers
 
@@ -90,8 +90,8 @@ first_number reason = unwrap_or (row_of_reason reason).numbers.0 (pos 0)
 abbrev pub second_number : Reason → ℤ
 second_number reason = unwrap_or (row_of_reason reason).numbers.1 (pos 0)
 
-abbrev pub with_reason : Told → Reason → Told
-with_reason told reason = record told {
+abbrev pub with_reason : CallResult → Reason → CallResult
+with_reason call_result reason = record call_result {
   verdict = 3;
   reason = rank_of reason;
   first = first_number reason;
@@ -100,21 +100,21 @@ with_reason told reason = record told {
 
 -- ---- a verdict: 1 a tour, 2 routes, 3 rejected, 4 a bound, 5 that there is no solution
 
-abbrev pub told_of_verdict : Fields → Verdict → Told
-told_of_verdict instance (verdicts.Tour length_is None) =
-    record (told_of_instance instance) { verdict = 1; length = length_is }
-told_of_verdict instance (verdicts.Tour length_is (Some bound)) =
-    record (with_bound (told_of_instance instance) bound) { verdict = 1; length = length_is }
-told_of_verdict instance (verdicts.Routes length_is count least_is None) =
-    record (told_of_instance instance) { verdict = 2; length = length_is; routes = count; least = least_is }
-told_of_verdict instance (verdicts.Routes length_is count least_is (Some bound)) =
-    record (with_bound (told_of_instance instance) bound) { verdict = 2; length = length_is; routes = count; least = least_is }
-told_of_verdict instance (verdicts.No reason) = with_reason (told_of_instance instance) reason
+abbrev pub result_of_verdict : Fields → Verdict → CallResult
+result_of_verdict instance (verdicts.Tour length_is None) =
+    record (result_of_instance instance) { verdict = 1; length = length_is }
+result_of_verdict instance (verdicts.Tour length_is (Some bound)) =
+    record (with_bound (result_of_instance instance) bound) { verdict = 1; length = length_is }
+result_of_verdict instance (verdicts.Routes length_is count least_is None) =
+    record (result_of_instance instance) { verdict = 2; length = length_is; routes = count; least = least_is }
+result_of_verdict instance (verdicts.Routes length_is count least_is (Some bound)) =
+    record (with_bound (result_of_instance instance) bound) { verdict = 2; length = length_is; routes = count; least = least_is }
+result_of_verdict instance (verdicts.No reason) = with_reason (result_of_instance instance) reason
 
-abbrev pub told_of_bound : Fields → BoundVerdict → Told
-told_of_bound instance (bounds.Bound bound) = record (with_bound (told_of_instance instance) bound) { verdict = 4 }
-told_of_bound instance bounds.NoSolution = record (told_of_instance instance) { verdict = 5 }
-told_of_bound instance (bounds.No reason) = with_reason (told_of_instance instance) reason
+abbrev pub result_of_bound : Fields → BoundVerdict → CallResult
+result_of_bound instance (bounds.Bound bound) = record (with_bound (result_of_instance instance) bound) { verdict = 4 }
+result_of_bound instance bounds.NoSolution = record (result_of_instance instance) { verdict = 5 }
+result_of_bound instance (bounds.No reason) = with_reason (result_of_instance instance) reason
 
 -- its halves have 64 bits
 abbrev pub IsSizedBound : BoundVerdict → Type 0
@@ -159,9 +159,9 @@ number_fault_number number_faults.OutOfRange = 4
 number_fault_number number_faults.NotWhole = 5
 
 -- of a line whose fault is one of a number
-abbrev pub told_number : LineFault → ℕ
-told_number (line_faults.Number found) = number_fault_number found
-told_number found = 0
+abbrev pub number_of_fault : LineFault → ℕ
+number_of_fault (line_faults.Number found) = number_fault_number found
+number_of_fault found = 0
 
 -- its place in canonical order, but of LOAD_UNIT, which came later and has the next number
 abbrev pub field_number : Field → ℕ
@@ -192,44 +192,44 @@ field_number fields.BranchPart = 24
 field_number fields.LoadUnitKey = 25
 
 -- of a text at whose end a field is missing, or has too few places
-abbrev pub told_field : ReadFault → ℕ
-told_field (read_faults.End (end_faults.Missing found)) = field_number found
-told_field (read_faults.End (end_faults.Incomplete found)) = field_number found
-told_field found = 0
+abbrev pub field_of_fault : ReadFault → ℕ
+field_of_fault (read_faults.End (end_faults.Missing found)) = field_number found
+field_of_fault (read_faults.End (end_faults.Incomplete found)) = field_number found
+field_of_fault found = 0
 
 -- Out of memory has no numbers, nor has a device.
-abbrev pub told_of_fault : RunFault → Told
-told_of_fault (File file_is read_faults.OutOfMemory) = blank_told
-told_of_fault (File file_is read_faults.Device) = blank_told
-told_of_fault (File file_is (read_faults.Line line_is word_is found)) = record blank_told {
+abbrev pub result_of_fault : RunFault → CallResult
+result_of_fault (File file_is read_faults.OutOfMemory) = blank_result
+result_of_fault (File file_is read_faults.Device) = blank_result
+result_of_fault (File file_is (read_faults.Line line_is word_is found)) = record blank_result {
   fault = line_fault_number found;
   file = file_is;
   line = line_is;
   word = word_is;
-  number = told_number found;
+  number = number_of_fault found;
 }
-told_of_fault (File file_is found) = record blank_told {
+result_of_fault (File file_is found) = record blank_result {
   fault = read_fault_number found;
   file = file_is;
-  field = told_field found;
+  field = field_of_fault found;
 }
-told_of_fault WrongKind = record blank_told { fault = 21; file = 1 }
-told_of_fault other = blank_told
+result_of_fault WrongKind = record blank_result { fault = 21; file = 1 }
+result_of_fault other = blank_result
 
 -- ---- what a run came to
 
-abbrev pub told_of_run : Result Judged RunFault → Told
-told_of_run (Ok judged) = told_of_verdict judged.instance judged.verdict
-told_of_run (Err fault) = told_of_fault fault
+abbrev pub result_of_run : Result Judged RunFault → CallResult
+result_of_run (Ok judged) = result_of_verdict judged.instance judged.verdict
+result_of_run (Err fault) = result_of_fault fault
 
-abbrev pub told_of_bound_run : Result Bounded RunFault → Told
-told_of_bound_run (Ok bounded) = told_of_bound bounded.instance bounded.found
-told_of_bound_run (Err fault) = told_of_fault fault
+abbrev pub result_of_bound_run : Result Bounded RunFault → CallResult
+result_of_bound_run (Ok bounded) = result_of_bound bounded.instance bounded.found
+result_of_bound_run (Err fault) = result_of_fault fault
 
 -- ---- what the numbers of a call on texts say: at 0 and 1 they are those of the verdict, at 2 those of the fault, at 3 all are 0
 
 -- the verdict on the files that the texts parse to
-pub record IsTextVerdict (given : GivenText) (claimed : Option ℤ) (strict : Bool) (one two : List ℕ) (status : ℕ) (told : Told) : Type 0 where
+pub record IsTextVerdict (given : GivenText) (claimed : Option ℤ) (strict : Bool) (one two : List ℕ) (status : ℕ) (call_result : CallResult) : Type 0 where
   pub instance : Fields
   pub solution : Fields
   pub certificate : Option (Certificate × Fields)
@@ -237,23 +237,23 @@ pub record IsTextVerdict (given : GivenText) (claimed : Option ℤ) (strict : Bo
   pub spelled : AreSpelled given one two instance solution certificate
   pub of_type : IsTrue (is_judged certificate instance.kind)
   pub judged : IsVerdictAsked strict certificate claimed instance solution verdict
-  pub numbers : told ≡ told_of_verdict instance verdict
+  pub numbers : call_result ≡ result_of_verdict instance verdict
   pub status_is : status ≡ status_of (Ok (is_yes verdict))
 
-pub record TellsTexts (given : GivenText) (claimed : Option ℤ) (strict : Bool) (one two : List ℕ) (status : ℕ) (told : Told) : Type 0 where
-  pub judged : status ≤ 1 → IsTextVerdict given claimed strict one two status told
-  pub faulty : status ≡ 2 → (fault : RunFault) × IsUnchecked given one two fault × (told ≡ told_of_fault fault)
-  pub refused : status ≡ 3 → told ≡ blank_told
+pub record TellsTexts (given : GivenText) (claimed : Option ℤ) (strict : Bool) (one two : List ℕ) (status : ℕ) (call_result : CallResult) : Type 0 where
+  pub judged : status ≤ 1 → IsTextVerdict given claimed strict one two status call_result
+  pub faulty : status ≡ 2 → (fault : RunFault) × IsUnchecked given one two fault × (call_result ≡ result_of_fault fault)
+  pub refused : status ≡ 3 → call_result ≡ blank_result
 
-abbrev pub TellsBy : ℕ → ℕ → ℤ → List ℕ → List ℕ → List ℕ → ℕ → Told → Type 0
-TellsBy by has_claim claimed one two three status told =
+abbrev pub TellsBy : ℕ → ℕ → ℤ → List ℕ → List ℕ → List ℕ → ℕ → CallResult → Type 0
+TellsBy by has_claim claimed one two three status call_result =
     (by ≤ 2 → has_claim ≤ 3
-    → TellsTexts (with_certificate (nth by certificates) three) (claim_of has_claim claimed) (strict_of has_claim) one two status told)
-    × (2 < by → told ≡ blank_told)
-    × (3 < has_claim → told ≡ blank_told)
+    → TellsTexts (with_certificate (nth by certificates) three) (claim_of has_claim claimed) (strict_of has_claim) one two status call_result)
+    × (2 < by → call_result ≡ blank_result)
+    × (3 < has_claim → call_result ≡ blank_result)
 
 -- what was found of the files that the texts parse to
-pub record IsTextBound (by : Certificate) (strict : Bool) (one two : List ℕ) (status : ℕ) (told : Told) : Type 0 where
+pub record IsTextBound (by : Certificate) (strict : Bool) (one two : List ℕ) (status : ℕ) (call_result : CallResult) : Type 0 where
   pub instance : Fields
   pub certificate : Fields
   pub found : BoundVerdict
@@ -261,14 +261,14 @@ pub record IsTextBound (by : Certificate) (strict : Bool) (one two : List ℕ) (
   pub second_file : Spells two certificate
   pub of_type : IsTrue (is_bounded by instance.kind)
   pub judged : IsBoundAsked strict by instance certificate found
-  pub numbers : told ≡ told_of_bound instance found
+  pub numbers : call_result ≡ result_of_bound instance found
   pub status_is : status ≡ status_of (Ok (is_bound_yes found))
 
-pub record TellsBound (by : Certificate) (strict : Bool) (one two : List ℕ) (status : ℕ) (told : Told) : Type 0 where
-  pub bounded : status ≤ 1 → IsTextBound by strict one two status told
-  pub faulty : status ≡ 2 → (fault : RunFault) × IsUnbounded by one two fault × (told ≡ told_of_fault fault)
-  pub refused : status ≡ 3 → told ≡ blank_told
+pub record TellsBound (by : Certificate) (strict : Bool) (one two : List ℕ) (status : ℕ) (call_result : CallResult) : Type 0 where
+  pub bounded : status ≤ 1 → IsTextBound by strict one two status call_result
+  pub faulty : status ≡ 2 → (fault : RunFault) × IsUnbounded by one two fault × (call_result ≡ result_of_fault fault)
+  pub refused : status ≡ 3 → call_result ≡ blank_result
 
-abbrev pub TellsBoundBy : Option (Certificate × Bool) → List ℕ → List ℕ → ℕ → Told → Type 0
-TellsBoundBy None one two status told = told ≡ blank_told
-TellsBoundBy (Some asked) one two status told = TellsBound asked.0 asked.1 one two status told
+abbrev pub TellsBoundBy : Option (Certificate × Bool) → List ℕ → List ℕ → ℕ → CallResult → Type 0
+TellsBoundBy None one two status call_result = call_result ≡ blank_result
+TellsBoundBy (Some asked) one two status call_result = TellsBound asked.0 asked.1 one two status call_result

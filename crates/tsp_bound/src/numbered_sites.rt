@@ -1,11 +1,11 @@
 //! Nodes in an order, each with its place and its number.
 
 ghost use Rattle.std.specs.Prelude.{◌≡◌, length, IfOk, IfSome};
-ghost use Rattle.tsp_bound.specs.states.Spots.{AreSpots};
+ghost use Rattle.tsp_bound.specs.states.NumberedSites.{AreNumberedSites};
 
 use crate::boxed_weights::BoxedWeights;
+use crate::numbered_site::NumberedSite;
 use crate::placed::Placed;
-use crate::spot::Spot;
 use std::alloc::Global;
 use tsp_memory::{Refused, push, with_capacity};
 
@@ -15,22 +15,22 @@ use tsp_memory::{Refused, push, with_capacity};
 /// # Errors
 ///
 /// Out of memory.
-pub(crate) fn spots_of<W: BoxedWeights>(
+pub(crate) fn numbered_sites_of<W: BoxedWeights>(
     alloc: Global,
     placed: &Placed<W>,
-) -> Result<Option<Vec<Spot>>, Refused>
-    ensures len { IfOk result (λ made. IfSome made (λ spots. length spots.items ≡ length placed.now.order.now)) }
-    ensures spots { IfOk result (λ made. IfSome made (λ spots. AreSpots (W.nodes placed.now.w.now)
-        (W.place_of placed.now.w.now) (W.number_of placed.now.w.now) placed.now.order.now spots.items)) }
+) -> Result<Option<Vec<NumberedSite>>, Refused>
+    ensures len { IfOk result (λ made. IfSome made (λ sites. length sites.items ≡ length placed.now.order.now)) }
+    ensures sites { IfOk result (λ made. IfSome made (λ sites. AreNumberedSites (W.nodes placed.now.w.now)
+        (W.place_of placed.now.w.now) (W.number_of placed.now.w.now) placed.now.order.now sites.items)) }
 {
-    let mut spots = with_capacity(alloc, placed.order.len())?;
+    let mut sites = with_capacity(alloc, placed.order.len())?;
     'places: for place in 0..placed.order.len() {
         let node = placed.order[place];
         let Some(site) = placed.w.site(node) else {
             return Ok(None);
         };
         let number = placed.w.number(node);
-        push(&mut spots, Spot { site, number })?;
+        push(&mut sites, NumberedSite { site, number })?;
     }
-    Ok(Some(spots))
+    Ok(Some(sites))
 }

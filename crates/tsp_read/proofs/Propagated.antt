@@ -1,0 +1,8 @@
+-- The errors that `?` propagates. For `feed_all` in src/input.rt and others.
+use Rattle.std.proofs.Common.{◌≡◌, ap, Result, Ok, Err}
+use Rattle.std.specs.Result.{IsErrAnd}
+
+-- the error that it was given
+pub propagated : {T E : Type 0} (r : Result T E) (e : E) → IsErrAnd r (λ y. y ≡ e) → r ≡ Err e
+propagated (Ok x) e h = absurd h
+propagated (Err y) e h = ap (λ z. Err z) h
