@@ -1,4 +1,5 @@
--- The errors that `?` returns, and values. For `Opened::bind` in src/opened.rt and others.
+-- The error that `?` returns is the one of the call before it, and a result has one value. For `Opened::bind` in
+-- src/opened.rt and others.
 use Rattle.std.proofs.Common.{◌≡◌, ap, Result, Ok, Err}
 use Rattle.std.specs.Result.{IsErrAnd}
 
