@@ -1,4 +1,5 @@
--- The verdict on two texts, and what the report on them means.
+-- The verdict on two texts in memory, and what the report on them means. For `verdict_on` (src/lib.rt) and `report_on`
+-- (src/report.rt).
 use Rattle.std.specs.Prelude.{ℕ, ◌⊎◌, List, None}
 use Rattle.tsp_draft.specs.Fields.{Fields}
 use Rattle.tsp_text.specs.Text.{Spells}

@@ -1,5 +1,5 @@
--- Orders on numbers of 64 bits as code shows them, and the weights that a box bounds. For `Search::is_left_alone` in
--- src/search.rt and others.
+-- Orders of integers from comparisons of 64-bit words, and the least weight of an edge into a box. For
+-- `Search::is_left_alone` and `Search::better_of` in src/search.rt and others.
 use Rattle.std.proofs.Common.{◌≡◌, Bool, true, false, ℤ, pos, negsuc, neg_ℤ, ◌+ℤ◌, ◌-ℤ◌, ◌*ℤ◌, ◌≤ℤ◌, ◌<ℤ◌, w64, to_z, of_z, SFits, subst, arith}
 use Rattle.std.specs.Bool.{OnTrue}
 use Rattle.std.specs.Int.Signed.{lt_z, le_z}
@@ -31,7 +31,7 @@ below_seen a b f g h =
 sum_above : (a b q r s : ℤ) → a ≤ℤ b → r ≤ℤ s → (a +ℤ (q +ℤ r)) ≤ℤ (b +ℤ (q +ℤ s))
 sum_above a b q r s h k = omega (arith, ints, h, k)
 
--- a cost and a potential that are no more give a weight that is no more
+-- a weight grows with its cost and with the potential of its other end
 pub weight_above : (scale cost other own least potential : ℤ) → IsScale scale → cost ≤ℤ other → least ≤ℤ potential
     → ((scale *ℤ cost) +ℤ (own +ℤ least)) ≤ℤ ((scale *ℤ other) +ℤ (own +ℤ potential))
 weight_above (pos s) cost other own least potential scale h k = sum_above (pos s *ℤ cost) (pos s *ℤ other) own least potential (scaled_up s cost other h) k
@@ -41,7 +41,7 @@ pub on_true_still : (test : Bool) (P Q : Type 0) → (P → Q) → OnTrue test P
 on_true_still true P Q still known = still known
 on_true_still false P Q still known = tt
 
--- what is left of the best weight without two numbers, as the code computes it
+-- the best weight less the numbers of both ends, as the code computes it
 pub left_is : (best own least left : ℤ) → SFits w64 best → IsFromTo (neg_ℤ (pos most_number)) (pos most_number) own → IsFromTo (neg_ℤ (pos most_number)) (pos most_number) least
     → left ≡ to_z w64 (of_z w64 best) -ℤ to_z w64 (of_z w64 (to_z w64 (of_z w64 own) +ℤ to_z w64 (of_z w64 least)))
     → left ≡ best -ℤ (own +ℤ least)
@@ -54,7 +54,7 @@ pub enough_is : (left scale cost : ℤ) → SFits w64 left → IsScale scale →
 enough_is left scale cost fits is_scale h =
     subst (λ (z : ℤ). z ≤ℤ (scale *ℤ cost)) (to_z-of_z w64 left fits) (subst (λ (z : ℤ). to_z w64 (of_z w64 left) ≤ℤ (z *ℤ cost)) (same_scale scale is_scale) h)
 
--- where that is at most a cost at the scale, a node with no lower cost and number weighs no less than the best
+-- where that difference is at most the least scaled cost into a box, no edge into the box weighs less than the best
 pub best_below : (best left scale cost other own least number weight : ℤ) → IsScale scale → left ≡ best -ℤ (own +ℤ least) → left ≤ℤ (scale *ℤ cost)
     → cost ≤ℤ other → least ≤ℤ number → ((scale *ℤ other) +ℤ (own +ℤ number)) ≤ℤ weight → best ≤ℤ weight
 best_below best left scale cost other own least number weight is_scale is enough further no_less high =

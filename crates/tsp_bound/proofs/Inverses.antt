@@ -1,4 +1,5 @@
--- A division by the inverse of the divisor. For `cost_of` in src/search.rt.
+-- The division of a weight by the scale, done as a product with the scale's inverse: the quotient isn't too low. For
+-- `cost_of` in src/search.rt.
 use Rattle.std.proofs.Common.{◌≡◌, ℕ, zero, suc, ◌+◌, ◌*◌, ◌-◌, ◌/◌, ◌^◌, ◌<◌, ◌≤◌, arith}
 use Rattle.std.proofs.Common.{ℤ, pos, negsuc, ◌+ℤ◌, ◌*ℤ◌, ◌≤ℤ◌, ◌≢◌, w64, to_z, of_z, SFits}
 use Rattle.std.specs.Prelude.{nat_abs}
@@ -30,7 +31,7 @@ quotient_fits w m small few =
     let product : (w - 1) * m ≤ (2 ^ 63 - 2) * (2 ^ 64 - 1) = mul-le (w - 1) m (2 ^ 63 - 2) (2 ^ 64 - 1) (omega arith) (omega arith) in
     div_below ((w - 1) * m) (2 ^ 64) (2 ^ 63 - 1) (omega arith) (omega (arith, product))
 
--- the same as the code computes it
+-- the same for words of 64 bits
 pub cost_enough : (weight scale : ℤ) (m : ℕ) → SFits w64 weight → pos 1 ≤ℤ weight → IsScale scale → scale ≢ pos 1 → IsInverse scale m → m < 2 ^ 64
     → weight ≤ℤ (scale *ℤ to_z w64 (of_z w64 (to_z w64 ((nat_abs (to_z w64 (of_z w64 weight)) - 1) * m / 2 ^ 64) +ℤ pos 1)))
 cost_enough (pos w) (pos s) m fits some is_scale other inverse few =

@@ -1,4 +1,5 @@
--- The joins of a round: what each one keeps. For `join` in src/joins.rt.
+-- In a round each component is joined by its least link: the pairs stay a forest of least joins. For `join` in
+-- src/joins.rt.
 use Rattle.std.proofs.Common.{◌≡◌, ◌≢◌, ℕ, zero, suc, ◌<◌, ◌==◌, Bool, true, false, not, cond, List, [], ◌∷◌, ◌++◌, ℤ, ◌≤ℤ◌, ◌⊎◌, inl, inr, refl, ap, sym, ◌∙◌, subst, get_or, set}
 use Rattle.std.specs.List.{All}
 use Rattle.std.proofs.lemmas.Bool.{false≢true, eqb-true, eq-eqb, ne_eqb}
@@ -9,12 +10,12 @@ use Rattle.tsp_theory.proofs.Forests.{joins_more}
 use Rattle.tsp_bound.specs.declared.link.Link.{Link}
 use Rattle.tsp_bound.specs.states.Components.{IsBelow, IsForest, IsLeastOf}
 
--- within a round: the two ends of a pair have one label, or labels that are met and become one
+-- both ends of a pair have one label, or two labels that this round has met, which have the same new label
 abbrev pub IsWithin : (ℕ → ℕ) → (ℕ → ℕ) → (ℕ → Bool) → ℕ × ℕ → Type 0
 IsWithin label new met pair = (label pair.0 ≡ label pair.1)
     ⊎ ((met (label pair.0) ≡ true) × (met (label pair.1) ≡ true) × (new (label pair.0) ≡ new (label pair.1)))
 
--- what the joins so far have made of the forest
+-- the pairs of the forest within a round, with those added so far
 pub record IsJoining (n : ℕ) (w : ℕ → ℕ → ℤ) (label new : ℕ → ℕ) (met : ℕ → Bool) (added : List (ℕ × ℕ)) : Type 0 where
   pub joins : AreLeastJoins (IsBelow n) w [] added
   pub ends : All (λ pair. (pair.0 < n) × (pair.1 < n)) added
@@ -38,14 +39,14 @@ joining_end n w label new met added h = record {
   ]) added h.within;
 }
 
--- two ends on one side don't leave the part
+-- a pair with both ends in a part, or neither, doesn't cross it
 one_side : (x y : Bool) → x ≡ y → cond x (not y) y ≡ false
 one_side true true same = refl
 one_side true false same = absurd (false≢true (sym same))
 one_side false true same = absurd (false≢true same)
 one_side false false same = refl
 
--- a component that isn't met is still one
+-- no pair so far crosses a component that this round hasn't met
 not_left : (label new : ℕ → ℕ) (met : ℕ → Bool) (c : ℕ) (pair : ℕ × ℕ) → met c ≡ false → IsWithin label new met pair
     → crosses (λ x. label x == c) pair ≡ false
 not_left label new met c pair free within = one_side (label pair.0 == c) (label pair.1 == c) (elim within [
@@ -55,8 +56,8 @@ not_left label new met c pair free within = one_side (label pair.0 == c) (label 
       apart (label pair.0) both.0 ∙ sym (apart (label pair.1) both.1)
 ])
 
--- one join more, of a component that isn't met
--- plan: `joins_more` adds the pair; the part that it leaves is the component c, which no earlier pair leaves (`not_left`)
+-- one pair more: the least link of a component that this round hasn't met
+-- plan: the new pair's cut is the component c, across which it is least, and which no earlier pair crosses (`not_left`)
 pub joining_more : (n : ℕ) (w : ℕ → ℕ → ℤ) (label old new : ℕ → ℕ) (before met : ℕ → Bool) (added : List (ℕ × ℕ)) (c : ℕ) (link : Link)
     → IsJoining n w label old before added → IsLeastOf n w label c link → before c ≡ false
     → ((l : ℕ) → before l ≡ true → met l ≡ true) → met c ≡ true → met (label link.to) ≡ true
@@ -97,7 +98,7 @@ forest_start n w label = record {
   within = All-nil (λ pair. label pair.0 ≡ label pair.1);
 }
 
--- the same labels by another name
+-- labels that are equal at each place
 pub forest_relabelled : (n : ℕ) (w : ℕ → ℕ → ℤ) (label other : ℕ → ℕ) (added : List (ℕ × ℕ)) → ((x : ℕ) → x < n → other x ≡ label x)
     → IsForest n w label added → IsForest n w other added
 forest_relabelled n w label other added same h = record {
@@ -108,7 +109,7 @@ forest_relabelled n w label other added same h = record {
       same (get_or added k d).0 ends.0 ∙ (h.within k d low ∙ sym (same (get_or added k d).1 ends.1));
 }
 
--- ---- as the code shows them
+-- ---- in the form of the goals of `join`
 
 pub set_kept : (marks : List Bool) (i x : ℕ) → get_or marks x false ≡ true → get_or (set marks i true) x false ≡ true
 set_kept [] i x h = absurd (false≢true h)

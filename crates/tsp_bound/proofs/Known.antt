@@ -1,4 +1,5 @@
--- The links that are known of nodes, and the best ones of components. For `search_again` in src/rounds.rt and others.
+-- The least link that is known of each node, and from these the least link out of each component. For `search_again` in
+-- src/rounds.rt and others.
 use Rattle.std.proofs.Common.{◌≡◌, ◌≢◌, ℕ, ◌+◌, ◌<◌, not, List, Option, None, Some, ℤ, ◌≤ℤ◌, inl, inr, arith, ap, sym, ◌∙◌, subst, get_or, set, length, IfSome}
 use Rattle.std.specs.Prelude.{MatchOption}
 use Rattle.std.proofs.Math.ListN.{length-set}
@@ -33,7 +34,7 @@ leaving_kept n w label x link x_in h out = record {
   weight_is = subst (λ (k : ℕ). link.weight ≡ w k link.to) (sym h.from_is) h.weight_is;
 }
 
--- components only grow
+-- components only grow, so a link that was least out of a smaller component weighs no more than those out of it now
 pub kept_relabelled : (n : ℕ) (w : ℕ → ℕ → ℤ) (label new other : ℕ → ℕ) (known : List Link) → ((x : ℕ) → x < n → other x ≡ new (label x))
     → AreKept n w label known → AreKept n w other known
 kept_relabelled n w label new other known same h = record {
@@ -66,7 +67,7 @@ kept_set n w label known x link x_in h own = record {
 
 -- ---- the best link of one component
 
--- the node that it leads to, or the one itself
+-- the place that the best link leads to, or the node's own where there is none, is below n
 pub end_in : (n : ℕ) (w : ℕ → ℕ → ℤ) (label : ℕ → ℕ) (c node near : ℕ) (best : Option Link) → node < n → IfSome best (IsLeaving n w label c)
     → MatchOption best (near ≡ node) (λ link. near ≡ link.to) → near < n
 end_in n w label c node near None node_in leaving is = subst (λ (k : ℕ). k < n) (sym is) node_in
@@ -88,7 +89,7 @@ leaving_offered n w label best c link new c_in h own offered =
       ];
     }
 
--- there is a best link, and it weighs no more
+-- there is a best link, and it weighs at most this
 abbrev pub IsReached : Option Link → ℤ → Type 0
 IsReached best weight = MatchOption best ⊥ (λ link. link.weight ≤ℤ weight)
 
@@ -99,7 +100,7 @@ lower_reached : (best : Option Link) (link new : Link) (weight : ℤ) → IsOffe
 lower_reached None link new weight offered reached = absurd reached
 lower_reached (Some was) link new weight offered reached = let k = offered.kept in omega (arith, ints, k, reached)
 
--- one node more, whose link is no better
+-- one node more, whose known link weighs no less than the best one of its component
 pub reached_more : (label : ℕ → ℕ) (best : List (Option Link)) (known : List Link) (node : ℕ) → AreReached label best known node
     → ((d : Link) → IsReached (link_of best (label node)) (get_or known node d).weight) → AreReached label best known (node + 1)
 reached_more label best known node h own x d x_in = elim (cases_eq x node) [
@@ -107,7 +108,7 @@ reached_more label best known node h own x d x_in = elim (cases_eq x node) [
   | inr other ↦ h x d (omega (arith, x_in, other))
 ]
 
--- one node more, which is searched for again
+-- one node more, whose link is searched for again and offered to its component
 pub reached_again : (n : ℕ) (label : ℕ → ℕ) (best : List (Option Link)) (known : List Link) (node : ℕ) (link new : Link) → node < length known → label node < length best
     → AreReached label best known node → IsOffered (link_of best (label node)) link new
     → AreReached label (set best (label node) (Some new)) (set known node link) (node + 1)
@@ -128,7 +129,7 @@ reached_again n label best known node link new node_in label_in h offered x d x_
       ])
 ]
 
--- one node more, of which another link is known that is no better
+-- one node more, with a new known link that weighs no less than the best one of its component
 pub reached_set : (label : ℕ → ℕ) (best : List (Option Link)) (known : List Link) (node : ℕ) (link : Link) → node < length known → AreReached label best known node
     → IsReached (link_of best (label node)) link.weight → AreReached label best (set known node link) (node + 1)
 reached_set label best known node link node_in h own x d x_in = elim (cases_eq x node) [
@@ -147,7 +148,7 @@ below_all : (o : Option Link) (a b : ℤ) → IsReached o a → a ≤ℤ b → I
 below_all None a b h k = h
 below_all (Some link) a b h k = omega (arith, ints, h, k)
 
--- all of them
+-- after all nodes, the best link of each component is its least
 pub reached_all : (n : ℕ) (w : ℕ → ℕ → ℤ) (label : ℕ → ℕ) (best : List (Option Link)) (known : List Link) (d : Link) → AreKept n w label known → AreLeaving n w label best
     → AreReached label best known n → AreLeast n w label best
 reached_all n w label best known d kept leaving h = record {

@@ -1,5 +1,5 @@
--- The links that a pass keeps of each place: what one more does, and what they say of those that aren't kept. For
--- `Listed::best_kept` in src/listed.rt and others.
+-- The twelve least links of each place, by one pass over all pairs, and the number that no unlisted link is below. For
+-- `put` and `take_row` in src/lists.rt and others.
 use Rattle.std.proofs.Common.{◌≡◌, ◌≢◌, ℕ, ◌+◌, ◌*◌, ◌<◌, ◌≤◌, List, Option, None, Some, length, set, drop, take, get_or, ℤ, pos, ◌≤ℤ◌, ◌<ℤ◌, ◌⊎◌, inl, inr, refl, arith, ap, sym, subst, ◌∙◌, IfSome, w64, to_z, of_z, SFits}
 use Rattle.std.proofs.lemmas.Bool.{cases_eq, cases_lt}
 use Rattle.std.proofs.lemmas.Int.{ints, to_z-of_z}
@@ -56,7 +56,7 @@ own_taken n w link old_links old_bounds links bounds long from_in to_in is (inr 
       | inr there ↦ subst (IsOwnLink n w x) (sym there) (own x k x_in k_in)
     ]
 
--- what is known of a pair stays known
+-- a pair that is known, as its link is listed or weighs at least the number of its place, stays known
 -- plan: a link that goes away weighs no less than the new number of its place
 pub known_taken : (n : ℕ) (w : ℕ → ℕ → ℤ) (link : Link) (old_links : List Link) (old_bounds : List ℤ) (links : List Link) (bounds : List ℤ)
     → length old_links ≡ 12 * n → length old_bounds ≡ n → link.from < n → IsTaken link old_links old_bounds links bounds
@@ -82,7 +82,7 @@ known_taken n w link old_links old_bounds links bounds long as_many from_in (inr
     ]) in
     omega (arith, ints, lower, old, less))
 
--- the pair itself is known
+-- the pair of the new link is known
 pub known_new : (n : ℕ) (w : ℕ → ℕ → ℤ) (link : Link) (old_links : List Link) (old_bounds : List ℤ) (links : List Link) (bounds : List ℤ)
     → length old_links ≡ 12 * n → link.from < n → link.weight ≡ w link.from link.to → IsTaken link old_links old_bounds links bounds
     → IsKnown w links bounds link.from link.to
@@ -105,7 +105,7 @@ seen_more first last from next x y (inr (inr own)) = elim (cases_eq y next) [
   | inr other ↦ let below = own.1 in inl (inr (inr (own.0, omega (arith, below, other))))
 ]
 
--- a pair more, in both directions
+-- a pair more: its link at each of both places
 pub listed_more : (n : ℕ) (w : ℕ → ℕ → ℤ) (first last from next : ℕ) (there back : Link) (old_links : List Link) (old_bounds : List ℤ)
     (some_links : List Link) (some_bounds : List ℤ) (links : List Link) (bounds : List ℤ)
     → length old_links ≡ 12 * n → length old_bounds ≡ n → length some_links ≡ 12 * n → length some_bounds ≡ n → from < n → next < n
@@ -139,7 +139,7 @@ listed_more n w first last from next there back old_links old_bounds some_links 
       ];
     }
 
--- the same pairs, said otherwise
+-- a row, or a block of columns, that begins has the pairs of the one that ended
 listed_seen : (n : ℕ) (w : ℕ → ℕ → ℤ) (first last from next new_first new_last new_from new_next : ℕ) (links : List Link) (bounds : List ℤ)
     → ((x y : ℕ) → x < y → y < n → IsSeen new_first new_last new_from new_next x y → IsSeen first last from next x y)
     → AreOffered n w first last from next links bounds → AreOffered n w new_first new_last new_from new_next links bounds
@@ -242,7 +242,7 @@ kept_link n w label from links bounds link from_in fits some listed own least be
       | inr after ↦ (listed.known from x (omega (arith, after, other)) x_in (inl x_in)).0
     ]
 
--- the least of all links
+-- a link that weighs no more than each link to another component
 pub kept_least : (n : ℕ) (w : ℕ → ℕ → ℤ) (label : ℕ → ℕ) (from : ℕ) (best : Option Link) → IfSome best (IsEnding n w label from)
     → ((x : ℕ) → x < n → label x ≢ label from → IsReached best (w from x)) → IfSome best (IsKeptLink n w label from)
 kept_least n w label from None ending least = tt

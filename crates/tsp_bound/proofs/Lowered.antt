@@ -1,5 +1,5 @@
--- What multipliers take off the weights of a node's pairs. For `WeightsBoxedWeights::count_lowered` in src/weights.rt and
--- others.
+-- What the multipliers of a node's pairs take off the weights of these. For `lower` and `count_lowered` in
+-- src/weights.rt and others.
 use Rattle.std.proofs.Common.{◌≡◌, ◌≢◌, ℕ, zero, suc, ◌+◌, ◌<◌, ◌==◌, List, [], ◌∷◌, drop, length, map, get_or, ℤ, FitsSigned, inl, inr, refl, arith, ap, sym, ◌∙◌, drop-cons, add-one}
 use Rattle.std.specs.Int.{w64}
 use Rattle.std.specs.Prelude.{pos, neg_ℤ, ◌+ℤ◌, ◌-ℤ◌, ◌<ℤ◌, if◌then◌else◌}
@@ -16,7 +16,7 @@ use Rattle.tsp_tree.proofs.Additions.{moved_to}
 use Rattle.tsp_bound.specs.states.NodeNumbers.{node_in}
 use Rattle.tsp_bound.specs.states.ByNode.{lowered_by, AreLowerings}
 
--- ---- what a node's weight is lowered by
+-- ---- what the weight to a node is lowered by
 
 pub none_lowered : (lowerings : List (ℕ × ℤ)) (x : ℕ) → AllByRecursion (λ l. l.0 ≢ x) lowerings → lowered_by lowerings x ≡ pos 0
 none_lowered [] x h = refl
@@ -42,7 +42,7 @@ pub none_listed : (lowerings : List (ℕ × ℤ)) (x : ℕ) → ((k : ℕ) → k
 none_listed [] x none = tt
 none_listed (l ∷ ls) x none = (none zero (omega arith), none_listed ls x (λ k low. none (suc k) (omega (arith, low))))
 
--- ---- how much
+-- ---- it is a multiplier or 0
 
 pub lowered_size : (n : ℕ) (lowerings : List (ℕ × ℤ)) (x : ℕ) → AreLowerings n lowerings → IsFromTo (pos 0) (pos most_multiplier) (lowered_by lowerings x)
 lowered_size n lowerings x are = sized lowerings are.once (recursion_from_All (λ l. IsFromTo (pos 0) (pos most_multiplier) l.1) lowerings (λ k d lt. (are.each k d lt).1))
@@ -60,7 +60,7 @@ lowered_size n lowerings x are = sized lowerings are.once (recursion_from_All (�
           rw none (omega (arith, ints, rest.0), omega (arith, ints, rest.1))
     ]
 
--- ---- one of them after the other, off a row
+-- ---- a row of weights, lowered by one multiplier after the other
 
 pub lowered_left : (lowerings : List (ℕ × ℤ)) (index x : ℕ) (d : ℕ × ℤ) → index < length lowerings
     → neg_ℤ (lowered_by (drop index lowerings) x)
@@ -78,7 +78,7 @@ lowered_left lowerings index x d lt =
           rw none (omega (arith, ints, split, own))
     ])
 
--- what is left of a weight in a row
+-- a weight that all multipliers have moved, in 64 bits, is the lowered one
 pub lowered_to : (n : ℕ) (lowerings : List (ℕ × ℤ)) (x : ℕ) (weight value lower : ℤ) → AreLowerings n lowerings → IsFromTo (neg_ℤ (pos most_between)) (pos most_between) weight
     → IsMoved (neg_ℤ (lowered_by lowerings x)) weight value → lower ≡ weight -ℤ lowered_by lowerings x → (value ≡ lower) × (value <ℤ most_64)
 lowered_to n lowerings x weight value lower are size moved is =

@@ -1,5 +1,5 @@
--- The best of the nodes outside, where the weights to some of them are lowered. For `Placed::lowered` and `Placed::nearest` in
--- src/placed.rt.
+-- The nearest node of another component, where multipliers lower the weights to listed nodes. For `Placed::lowered` and
+-- `Placed::nearest` in src/placed.rt.
 use Rattle.std.proofs.Common.{◌≡◌, ◌≢◌, ℕ, zero, suc, ◌+◌, ◌<◌, Bool, true, List, [], ◌∷◌, length, ℤ, ◌≤ℤ◌, ◌⊎◌, inl, inr, refl, arith, ap, sym, subst, ◌∙◌}
 use Rattle.std.specs.Int.{w64}
 use Rattle.std.specs.Prelude.{slice_index_or, FitsSigned}
@@ -11,14 +11,14 @@ use Rattle.tsp_bound.specs.states.NodeNumbers.{node_in}
 use Rattle.tsp_theory.specs.Tree.{IsInner}
 use Rattle.tsp_bound.proofs.Trees.{searched_all}
 
--- what the search of all boxes says
+-- what the search of all boxes finds is the best
 pub searched_best : (w : ℕ → ℕ → ℤ) (order : List ℕ) (outside : ℕ → Bool) (from : ℕ) (best : Best) → IsSearched w order outside from 1 no_best best → IsBest w order outside from best
 searched_best w order outside from best all = record {
   least = searched_all w order outside from no_best best all;
   found = all.found;
 }
 
--- the places of nodes in an order
+-- each of the nodes 2 to n has a place in the order, and the place has the node
 pub record ArePlaces (n : ℕ) (order places : List ℕ) : Type 0 where
   pub inner : (j : ℕ) → j < length order → IsInner n (node_of order j)
   pub placed : (x : ℕ) → IsInner n x → slice_index_or places x 0 < length order
@@ -30,7 +30,7 @@ pub record AreLowered (n : ℕ) (w v : ℕ → ℕ → ℤ) (listed : List ℕ) 
   pub no_more : (x : ℕ) → IsInner n x → v from x ≤ℤ w from x
   pub others : (x : ℕ) → IsInner n x → ((k : ℕ) → k < length listed → node_in listed k ≢ x) → v from x ≡ w from x
 
--- after this many of the nodes listed
+-- the best after the first nodes of the list, as many as `count`
 pub record IsLowest (n : ℕ) (v : ℕ → ℕ → ℤ) (listed order places : List ℕ) (outside : ℕ → Bool) (from count : ℕ) (old best : Best) : Type 0 where
   pub fits : FitsSigned w64 best.weight
   pub kept : best.weight ≤ℤ old.weight
@@ -47,7 +47,7 @@ lowest_start n v listed order places outside from old fits = record {
   found = inl refl;
 }
 
--- one more, of a node that isn't better
+-- one listed node more, whose weight is no lower than the best
 pub lowest_kept : (n : ℕ) (v : ℕ → ℕ → ℤ) (listed order places : List ℕ) (outside : ℕ → Bool) (from count : ℕ) (old best : Best) (node : ℕ) → node_in listed count ≡ node
     → (IsInner n node → outside (slice_index_or places node 0) ≡ true → best.weight ≤ℤ v from node)
     → IsLowest n v listed order places outside from count old best → IsLowest n v listed order places outside from (count + 1) old best
@@ -64,7 +64,7 @@ lowest_kept n v listed order places outside from count old best node is own h = 
   found = h.found;
 }
 
--- one more, of a node that is
+-- one listed node more, whose weight is lower and is the new best
 pub lowest_taken : (n : ℕ) (v : ℕ → ℕ → ℤ) (listed order places : List ℕ) (outside : ℕ → Bool) (from count : ℕ) (old best new : Best) (node : ℕ)
     → ArePlaces n order places → node_in listed count ≡ node
     → IsInner n node → new.place ≡ slice_index_or places node 0 → outside new.place ≡ true → new.weight ≡ v from node → FitsSigned w64 new.weight → new.weight ≤ℤ best.weight
@@ -84,7 +84,7 @@ lowest_taken n v listed order places outside from count old best new node are is
     } in
     lowest_kept n v listed order places outside from count old new node is (λ in_node out_node. omega (arith, ints, weight)) before
 
--- ---- all of them
+-- ---- after all listed nodes
 
 is_listed : (listed : List ℕ) (x : ℕ) → ((k : ℕ) → k < length listed → node_in listed k ≢ x) ⊎ ((k : ℕ) × (k < length listed) × (node_in listed k ≡ x))
 is_listed [] x = inl (λ k low. absurd (omega (arith, low)))
@@ -115,7 +115,8 @@ lowest_least n w v listed order places outside from old best are lower first h j
           (ap (λ (y : ℕ). outside (slice_index_or places y 0)) found.2 ∙ (ap outside (are.back j j_in) ∙ out)))
     ]
 
--- plan: it is least by `lowest_least`; where it is the old one, no weight lowers it, since those lowered aren't greater
+-- plan: a listed node was offered, and the others weigh as before, so it is least (`lowest_least`); an old best that is
+-- still best isn't lowered, since lowered weights aren't greater
 pub lowest_end : (n : ℕ) (w v : ℕ → ℕ → ℤ) (listed order places : List ℕ) (outside : ℕ → Bool) (from count : ℕ) (old best : Best) → count ≡ length listed
     → ArePlaces n order places → AreLowered n w v listed from → IsBest w order outside from old
     → IsLowest n v listed order places outside from count old best → IsBest v order outside from best

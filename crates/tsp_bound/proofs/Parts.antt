@@ -1,4 +1,5 @@
--- Least joins over the places of an order are some over its nodes, and their weight. For `grow` in src/part.rt and others.
+-- A least tree that is found over the places of an order is one over its nodes, with the same weight. For `grow` and
+-- `weighed` in src/part.rt and others.
 use Rattle.std.proofs.Common.{◌≡◌, ℕ, ◌+◌, ◌*◌, ◌^◌, ◌<◌, ◌≤◌, List, [], ◌∷◌, ◌++◌, map, take, length, get_or, ℤ, refl, arith, ap, sym, ◌∙◌, subst, Option, Result, Ok, Err, IfOk, IfSome}
 use Rattle.std.specs.Prelude.{pos, neg_ℤ, ◌-ℤ◌, slice_index_or}
 use Rattle.std.specs.Global.{Vec}
@@ -24,7 +25,7 @@ pub less_value : (triples : List (ℕ × ℕ × ℤ)) (w : ℕ → ℕ → ℤ) 
     → weight -ℤ number ≡ adjusted triples [] w from to
 less_value triples w from to weight number weight_is number_is = omega (arith, ints, weight_is, number_is)
 
--- the pairs of rounds over the places, by their nodes
+-- the pairs over places, renamed to nodes, are a forest over all nodes with its weight
 pub whole_size : (n : ℕ) (w : ℕ → ℕ → ℤ) (pairs : List (ℕ × ℕ)) (sum : ℤ) → n ≤ most_nodes → 2 + length pairs ≡ n → IsSumSized (length pairs) sum
     → IsFromTo (neg_ℤ (pos (most_nodes * 2 ^ 63))) (pos (most_nodes * 2 ^ 63)) sum
 whole_size n w pairs sum most count size = (omega (arith, ints, size.0, most, count), omega (arith, ints, size.1, most, count))
@@ -45,7 +46,7 @@ forest_of order places last w pairs named sum count num spanning most named_is s
       size = whole_size last w named sum most (omega (arith, pairs_count, spanning.count, count)) size;
     }
 
--- what is found over the places of nodes that the code names otherwise
+-- an equal order and equal weights have the same pairs
 pub spanning_seen : {E : Type 0} (order seen : List ℕ) (w shown : ℕ → ℕ → ℤ) (result : Result (Option (Vec (ℕ × ℕ))) E) → seen ≡ order → shown ≡ w
     → IfOk result (λ found. IfSome found (λ pairs. IsSpanning (length seen) (λ i j. shown (node_of seen i) (node_of seen j)) pairs.items))
     → IfOk result (λ found. IfSome found (λ pairs. IsSpanning (length order) (λ i j. w (node_of order i) (node_of order j)) pairs.items))
@@ -53,7 +54,7 @@ spanning_seen order seen w shown result same_order same_weights g =
     subst (λ (os : List ℕ). IfOk result (λ found. IfSome found (λ pairs. IsSpanning (length os) (λ i j. w (node_of os i) (node_of os j)) pairs.items))) same_order
     (subst (λ (k : ℕ → ℕ → ℤ). IfOk result (λ found. IfSome found (λ pairs. IsSpanning (length seen) (λ i j. k (node_of seen i) (node_of seen j)) pairs.items))) same_weights g)
 
--- ---- as the code shows them
+-- ---- in the form of the goals of part.rt
 
 pub is_node : (order : List ℕ) (place : ℕ → ℕ) (last : ℕ) → IsNumbering (length order) (IsInner last) (node_of order) place → (j : ℕ) → j < length order → IsNode last (node_of order j)
 is_node order place last num j h = let inner = num.node_in j h in (omega (arith, inner.0), inner.1)

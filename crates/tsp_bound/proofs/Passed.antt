@@ -1,4 +1,5 @@
--- What holds of all rows or columns that a loop has passed. For `first_broken_of_row` and `dual_bound` in src/assignment.rt.
+-- The duals fit the costs of all rows, or columns, up to this one if they fit those before it and its own. For
+-- `first_broken_of_row` and `dual_bound` in src/assignment.rt.
 use Rattle.std.proofs.Common.{◌≢◌, ℕ, ◌+◌, ◌<◌, ◌≤◌, below_more, arith}
 use Rattle.std.specs.Prelude.{ℤ, ◌≤ℤ◌, ◌<ℤ◌}
 use Rattle.std.proofs.lemmas.Int.{ints}

@@ -1,4 +1,5 @@
--- Least joins over places are least joins over nodes. For `grow` in src/part.rt and others.
+-- Least joins between places stay least joins when each place is renamed to its node: `forest_of` in Parts.antt uses
+-- it. For `grow` in src/part.rt.
 use Rattle.std.proofs.Common.{◌≡◌, ℕ, ◌<◌, not, Bool, false, List, [], ◌∷◌, ◌++◌, get_or, map, ℤ, ◌≤ℤ◌, ap, ap₂, ◌∙◌, subst}
 use Rattle.std.specs.Prelude.{if◌then◌else◌}
 use Rattle.std.specs.List.{All, AllByRecursion}
@@ -9,7 +10,8 @@ use Rattle.tsp_theory.specs.Forest.{IsLeastJoin, AreLeastJoins}
 use Rattle.tsp_bound.specs.states.Components.{IsBelow}
 use Rattle.tsp_bound.specs.states.Numbering.{IsNumbering, on_both}
 
--- plan: by induction over the pairs; the part of each join is taken over places, so that pairs cross it as before (`crossed`)
+-- plan: by induction over the pairs: a node is in the cut of a join if its place is, so the same pairs cross it
+-- (`crossed`)
 joins_renamed : (n : ℕ) (Node : ℕ → Type 0) (node place : ℕ → ℕ) (w v : ℕ → ℕ → ℤ) (earlier pairs : List (ℕ × ℕ))
     → IsNumbering n Node node place → ((i j : ℕ) → i < n → j < n → v i j ≡ w (node i) (node j))
     → All (λ pair. (pair.0 < n) × (pair.1 < n)) earlier → AllByRecursion (λ pair. (pair.0 < n) × (pair.1 < n)) pairs

@@ -1,5 +1,5 @@
--- The numbers on pairs, by node: the table that the code makes, and what it says of one node. For `ByNode::at` and `lists_of`
--- in src/by_node.rt.
+-- The multipliers of pairs in a table by node: how it is filled, and that a node's list has all of its pairs once. For
+-- `ByNode::at` and `lists_of` in src/by_node.rt.
 use Rattle.std.proofs.Common.{◌≡◌, ◌≢◌, ℕ, zero, suc, ◌+◌, ◌<◌, ◌≤◌, ◌==◌, ◌&&◌, ◌||◌, Bool, true, false, List, [], ◌∷◌, ◌++◌, length, take, get_or, ℤ, ◌+ℤ◌, inl, inr, refl, arith, ap, ap₂, sym, subst, ◌∙◌}
 use Rattle.std.specs.Prelude.{pos, if◌then◌else◌}
 use Rattle.std.specs.Global.{Vec}
@@ -15,7 +15,7 @@ use Rattle.tsp_theory.specs.CertificateNumbers.{IsFromTo, IsMultiplier}
 use Rattle.tsp_theory.specs.Adjusted.{pair_of, is_same_pair, number_on, numbers_on, AreOnPairs}
 use Rattle.tsp_bound.specs.states.ByNode.{said_of, all_said_of, IsTable, lowered_by, AreLowerings}
 
--- ---- the numbers of a node's pairs add up to those on its pairs
+-- ---- what a node's list takes off a weight is the multipliers of that pair
 
 lowered_both : (xs ys : List (ℕ × ℤ)) (x : ℕ) → lowered_by (xs ++ ys) x ≡ lowered_by xs x +ℤ lowered_by ys x
 lowered_both [] ys x = omega (arith, ints)
@@ -43,7 +43,7 @@ lowered_said node (t ∷ ts) x h =
     let own : lowered_by (said_of node t) x ≡ number_on t node x = by_tests (t.0 == node) (t.1 == node) t.0 t.1 x t.2 only in
     lowered_both (said_of node t) (all_said_of node ts) x ∙ ap₂ (λ a b. a +ℤ b) own (lowered_said node ts x h.1)
 
--- ---- they are numbers of multipliers, on different nodes
+-- ---- a node's list has multipliers of different other nodes
 
 both_all : {X : Type 0} (P : X → Type 0) (xs ys : List X) → AllByRecursion P xs → AllByRecursion P ys → AllByRecursion P (xs ++ ys)
 both_all P [] ys h k = k
@@ -154,8 +154,8 @@ said_both node (t ∷ xs) ys = ap (λ zs. said_of node t ++ zs) (said_both node 
 said_more : (node : ℕ) (triples : List (ℕ × ℕ × ℤ)) (t : ℕ × ℕ × ℤ) → all_said_of node (triples ++ t ∷ []) ≡ all_said_of node triples ++ said_of node t
 said_more node triples t = said_both node triples (t ∷ []) ∙ ap (λ zs. all_said_of node triples ++ zs) (append-nil (said_of node t))
 
--- the two lists with their new entries
--- plan: by cases of the node: either end of the triple, or neither; `said_more` takes the triple off what all say of it
+-- the lists of both nodes, with a new entry each
+-- plan: by whether a node is an end of the new pair: its list has one entry more (`said_more`), any other is as it was
 pub table_more : (n : ℕ) (triples : List (ℕ × ℕ × ℤ)) (t : ℕ × ℕ × ℤ) (lists : List (Vec (ℕ × ℤ))) (first second : Vec (ℕ × ℤ)) → IsTable n triples lists → t.0 ≤ n → t.1 ≤ n → t.0 ≢ t.1
     → first.items ≡ all_said_of t.0 triples ++ (t.1, t.2) ∷ [] → second.items ≡ all_said_of t.1 triples ++ (t.0, t.2) ∷ [] → IsTable n (triples ++ t ∷ []) (set (set lists t.0 first) t.1 second)
 table_more n triples t lists first second table a_in b_in differ first_is second_is = record {
@@ -193,7 +193,7 @@ table_more n triples t lists first second table a_in b_in differ first_is second
     elsewhere : (node : ℕ) → node ≢ t.0 → node ≢ t.1 → said_of node t ≡ []
     elsewhere node a b = let first_none = ne_eqb t.0 node (λ same. a (sym same)) in let second_none = ne_eqb t.1 node (λ same. b (sym same)) in rw (first_none, second_none) refl
 
--- as a pass of the loop shows it
+-- the same for a round of the loop of `lists_of`
 pub table_pushed : (n : ℕ) (triples : List (ℕ × ℕ × ℤ)) (index : ℕ) (lists : List (Vec (ℕ × ℤ))) (t : ℕ × ℕ × ℤ) (number : ℤ)
     (old_first old_second first second : Vec (ℕ × ℤ)) → index < length triples → t ≡ get_or triples index (0, 0, pos 0)
     → number ≡ t.2 → All IsMultiplier triples → AreOnPairs n triples → IsTable n (take index triples) lists

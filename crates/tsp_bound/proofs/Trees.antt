@@ -1,4 +1,5 @@
--- The tree of boxes: what a write keeps, and what a search of halves is. For `boxes_of` in src/boxes.rt and others.
+-- The tree of boxes: a box still has the nodes below it after a write, and a search of both halves is one of the box.
+-- For `boxes_of` in src/boxes.rt and others.
 use Rattle.std.proofs.Common.{◌≡◌, ◌≢◌, ℕ, zero, suc, ◌+◌, ◌*◌, ◌/◌, ◌<◌, ◌≤◌, Bool, true, List, length, Option, ℤ, pos, ◌≤ℤ◌, ◌⊎◌, inl, inr, refl, arith, ap, sym, ◌∙◌, subst, w64, to_z, of_z, SFits}
 use Rattle.std.proofs.Math.ListN.{set}
 use Rattle.std.proofs.lemmas.Bool.{cases_eq}
@@ -63,7 +64,7 @@ held_refit {A = A} none In low new_low places outside old v area len v_in twice 
       (held j (suc h) j_in out (step (up (suc h) (length places + j)) from other))
 ]
 
--- fitted from the last box on
+-- the boxes from v on are fitted, so v is next
 pub refit_more : {A : Type 0} (none : A) (In : A → ℕ → Type 0) (places : List ℕ) (outside : ℕ → Bool) (old new : List A) (v : ℕ) → length old ≡ 2 * length places → 1 ≤ v → v < length places
     → IsRefit none In old new v → AreHeldFrom In (v + 1) places outside (box_at none old) → AreHeldFrom In v places outside (box_at none new)
 refit_more {A = A} none In places outside old new v len some v_in r held = subst (λ (areas : List A). AreHeldFrom In v places outside (box_at none areas)) (sym r.is)
@@ -73,7 +74,7 @@ leaf_is : (places : List ℕ) (node j h : ℕ) → j < length places → up h (l
 leaf_is places node j zero j_in same = omega (arith, same)
 leaf_is places node j (suc h) j_in same = absurd (omega (arith, up_inner (length places) h (length places + j) (omega (arith, j_in)), same))
 
--- a leaf more
+-- one leaf more
 pub leaf_more : {A : Type 0} (none : A) (In : A → ℕ → Type 0) (places : List ℕ) (old : List A) (node : ℕ) (area : A) → length old ≡ 2 * length places
     → node < length places → In area (node_of places node)
     → ((j : ℕ) → j < node → In (box_at none old (length places + j)) (node_of places j))
@@ -93,7 +94,7 @@ held_leaves none In places outside areas leaves j (suc h) j_in out from = absurd
 
 -- ---- the search
 
--- a box that is no better than the best so far, or a leaf whose place is none that is outside and better
+-- a box without a lighter place outside leaves the best as it is
 pub searched_none : (w : ℕ → ℕ → ℤ) (places : List ℕ) (outside : ℕ → Bool) (from : ℕ) (v : ℕ) (best : Best)
     → ((j h : ℕ) → j < length places → outside j ≡ true → up h (length places + j) ≡ v → best.weight ≤ℤ w from (node_of places j))
     → IsSearched w places outside from v best best
@@ -103,7 +104,7 @@ searched_none w places outside from v best below = record {
   found = inl refl;
 }
 
--- a box that is left alone
+-- a box that is left alone, as no node in it can be lighter
 pub searched_alone : (In : Option Area → ℕ → Type 0) (IsOne : ℕ → Type 0) (w : ℕ → ℕ → ℤ) (places : List ℕ) (outside : ℕ → Bool) (area : ℕ → Option Area) (from : ℕ) (v : ℕ) (best : Best)
     → SFits w64 best.weight → 1 ≤ v → AreHeld In places outside area → ((j : ℕ) → j < length places → IsOne (node_of places j))
     → IsBelowAll IsOne (In (area v)) (w from) (to_z w64 (of_z w64 best.weight)) → IsSearched w places outside from v best best
@@ -163,7 +164,7 @@ searched_all w places outside from old new all j j_in out =
     let top = reach (length places + j) (omega arith) in
     all.below j top.0 j_in out top.1
 
--- ---- the search of all, as the trait has it
+-- ---- the best place after the search is the nearest one, as `Components` asks
 
 pub found_some : (w : ℕ → ℕ → ℤ) (places : List ℕ) (outside : ℕ → Bool) (from : ℕ) (best : Best) → IsBest w places outside from best
     → best.weight ≢ pos 9223372036854775807 → IsFound w places outside from best

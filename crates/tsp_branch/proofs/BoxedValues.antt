@@ -1,5 +1,5 @@
--- The weights of a leaf beside what boxes bound: the cost at the scale and the numbers of both nodes. For
--- `BoxedLeafBoxedWeights::count_lowered` in src/boxed_leaf.rt and others.
+-- The weight of an edge of a leaf is at least its base: the scaled cost with the numbers of both ends. For
+-- `weight_within` and `is_beyond` in src/boxed_leaf.rt and others.
 use Rattle.std.proofs.Common.{◌≡◌, ◌≢◌, ◌∙◌, ℕ, zero, suc, ◌<◌, ◌==◌, ◌&&◌, Bool, true, false, List, [], ◌∷◌, length, map, get_or, ℤ, ◌≤ℤ◌, inl, inr, refl, ap, sym, subst, arith}
 use Rattle.std.specs.Int.{w64, int_wrap}
 use Rattle.std.specs.Prelude.{pos, negsuc, neg_ℤ, ◌+ℤ◌, ◌*ℤ◌, ◌<ℤ◌, reverse}
@@ -48,7 +48,7 @@ module _ (scale : ℤ) (potentials multipliers : List ℤ) (families : List (Lis
       let is : value ≡ w = value_is ∙ ap (int_wrap w64) first ∙ int_wrap-add_same w64 shared inside base shared_is ∙ ap (int_wrap w64) second ∙ int_wrap_fits w64 w (combed_fits w size) in
       (is, subst (λ (z : ℤ). IsFromTo (neg_ℤ (pos most_combed)) (pos most_combed) z) (sym is) size)
 
--- ---- decisions that make a weight more, and those that make it less
+-- ---- decisions that raise a weight, and those that lower it
 
 pub upwards_some : (z : ℤ) → pos 0 ≤ℤ upwards z
 upwards_some (pos k) = omega (arith, ints)
@@ -85,7 +85,7 @@ lowered_no_more case w i j =
     let up = below_upwards (changes case i j) in
     omega (arith, ints, own, up)
 
--- a node that is no decision's other node
+-- a pair that no decision of the case is on has the same weight
 not_changed : (from to : ℕ) (d : Decision) → other_of from d ≢ to → change_of d from to ≡ pos 0
 not_changed from to d apart = elim (cases_eq d.pair.0 from) [
   | inl first ↦

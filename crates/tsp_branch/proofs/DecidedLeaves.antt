@@ -1,4 +1,5 @@
--- The weights of a leaf under the decisions of its case. For `CaseLeafWeights::fill` in src/leaf_rows.rt and others.
+-- The decisions of a case move the weights of a leaf, in 64 bits without an overflow. For `fill` and `fill_at` in
+-- src/leaf_rows.rt and others.
 use Rattle.std.proofs.Common.{◌≡◌, ◌∙◌, ℕ, ℤ, Bool, true, false, List, refl, inr, sym, subst, arith}
 use Rattle.std.specs.Int.{w64, int_wrap}
 use Rattle.std.specs.Prelude.{pos, neg_ℤ, ◌+ℤ◌, ◌<ℤ◌}
@@ -19,7 +20,7 @@ use Rattle.tsp_theory.proofs.Nearest.{most_64}
 use Rattle.tsp_branch.specs.states.Shared.{decided_by}
 
 module _ (case : List Decision) (w : ℕ → ℕ → ℤ) (from x : ℕ) where
-  -- decided weights are small where those without decisions are
+  -- weights with decisions fit, since those without are smaller
   pub decided_size : DecideOnce false case → IsFromTo (neg_ℤ (pos most_combed)) (pos most_combed) (w from x)
       → IsFromTo (neg_ℤ (pos most_decided)) (pos most_decided) (decided case w from x)
   decided_size once size =
@@ -27,7 +28,7 @@ module _ (case : List Decision) (w : ℕ → ℕ → ℤ) (from x : ℕ) where
       let more = few_changes case once from x in
       (omega (arith, ints, size.0, more.0, sum), omega (arith, ints, size.1, more.1, sum))
 
-  -- what is left in 64 bits of a weight that its changes moved is the decided one
+  -- a weight that its changes moved, in 64 bits, is the one with decisions
   pub moved_is : (value : ℤ) → DecideOnce false case → IsFromTo (neg_ℤ (pos most_combed)) (pos most_combed) (w from x)
       → IsMoved (changes case from x) (w from x) value → value ≡ decided case w from x
   moved_is value once size moved =
@@ -51,7 +52,7 @@ module _ (case : List Decision) (w : ℕ → ℕ → ℤ) (from x : ℕ) where
         omega (arith, ints, same, high),
       )
 
-  -- and so is what is left of one with the marks of the case
+  -- the same of a weight that the marks of all decisions moved
   pub marked_is : (directed : Bool) (value : ℤ) → DecideOnce directed case
       → value ≡ int_wrap w64 (w from x +ℤ marks_in directed case from x)
       → IsFromTo (neg_ℤ (pos most_combed)) (pos most_combed) (w from x)

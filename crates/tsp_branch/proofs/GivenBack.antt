@@ -1,4 +1,5 @@
--- What a leaf gives back, in the order in which code sums it. For `given_back` in src/given_back.rt and others.
+-- What a leaf gives back to its bound, in the order in which code sums it: crossings times multipliers, taken pairs,
+-- potentials. For `given_back` in src/given_back.rt and others.
 use Rattle.std.proofs.Common.{◌≡◌, ◌∙◌, ℕ, Bool, false, ◌+◌, ◌*◌, ◌<◌, ◌^◌, List, [], ◌∷◌, ◌++◌, drop, length, get_or, ℤ, FitsSigned, inl, inr, refl, ap, sym, arith, to_z, of_z, drop-cons, add-one}
 use Rattle.std.specs.Prelude.{pos, neg_ℤ, ◌+ℤ◌, ◌-ℤ◌, ◌*ℤ◌, reverse}
 use Rattle.std.specs.Int.{w64, w128}
@@ -59,7 +60,7 @@ taken_passed (d ∷ case) =
       | inr f ↦ rw f rest
     ]
 
--- those of a case are listed in either order
+-- the taken pairs of a case sum to the same in either order
 pub taken_listed : (case taken : List Decision) → stack_of taken ≡ filter (λ decision. decision.taken) case
     → triples_total (on_taken decided_number taken) ≡ triples_total (on_taken decided_number case)
 taken_listed case taken is = sym (taken_turned taken) ∙ ap (λ (ds : List Decision). triples_total (on_taken decided_number ds)) is ∙ taken_passed case
@@ -71,7 +72,7 @@ taken_few case taken most is few =
     let second = count_by-le-length test case in
     omega (arith, first, second, few)
 
--- what the families give back, whatever their sets
+-- what the families give back needs their least crossings alone, not their sets
 pub least_told : (crossed : List Crossings) (ms : List ℤ) (families : List (List (List ℕ))) → length crossed ≡ length families
     → least_of (multiplied (families_with crossed families) ms) ≡ sum_with false crossed ms
 least_told [] ms families many = refl

@@ -1,4 +1,5 @@
--- The findings of a leaf, from the numbers in the code's memory. For `judge_leaf` in src/cycle_judge.rt and others.
+-- What judging the leaves finds is the judgement on a certificate, and bounds every cycle. For `judge_leaf` in
+-- src/cycle_judge.rt and others.
 use Rattle.std.proofs.Common.{◌≡◌, ◌∙◌, ℕ, ◌^◌, ◌≤◌, Bool, true, false, List, [], ◌∷◌, length, take, drop, ℤ, refl, sym, subst, arith}
 use Rattle.std.specs.Prelude.{Option, None, Some, pos, neg_ℤ}
 use Rattle.std.specs.List.{All}
@@ -56,7 +57,7 @@ found_of_case Found n crossed case numbers potentials multipliers own some good 
       (subst (λ (zs : List ℤ). Found (case, as_leaf_numbers zs multipliers) own) of_nodes is),
 )
 
--- good numbers, as they are read
+-- good numbers in the slice that the code reads
 pub good_read : (n p : ℕ) (crossed : List Crossings) (read numbers : List ℤ) → p ≡ n → read ≡ numbers → AreGoodNumbers p crossed
     (as_leaf_numbers (take p read) (drop p read))
     → AreGoodNumbers n crossed (split_at n numbers)
@@ -64,7 +65,7 @@ good_read n p crossed read numbers at same good =
     subst (λ (zs : List ℤ). AreGoodNumbers n crossed (split_at n zs)) same
     (subst (λ (k : ℕ). AreGoodNumbers k crossed (split_at k read)) at good)
 
--- the numbers that are judged to be good, where the code keeps them
+-- the numbers judged to be good are those in the leaf's memory
 pub numbers_are : (n p : ℕ) (crossed : List Crossings) (read potentials multipliers : List ℤ) → p ≡ n → potentials ≡ take p read → multipliers ≡ drop p read
     → AreGoodNumbers p crossed (as_leaf_numbers (take p read) (drop p read)) → AreGoodNumbers n crossed (as_leaf_numbers potentials multipliers)
 numbers_are n p crossed read ps ms at of_nodes of_combs good =
@@ -74,7 +75,7 @@ numbers_are n p crossed read ps ms at of_nodes of_combs good =
 
 -- ---- the whole
 
--- what is found of all leaves is the judgement on a certificate whose families are good
+-- the least bound of all leaves, or the first bad leaf, is the judgement on a certificate whose families are good
 pub certificate_judged : (directed : Bool) (n : ℕ) (cost : ℕ → ℕ → ℤ) (scale : ℤ) (families : List Family) (crossed : List Crossings)
     (given : List Decision) (steps : List listed.Step) (found : JudgedLeaves)
     → AreJudgedBy (IsFoundAt directed n cost scale decided_number families) (AreGoodNumbers n crossed) n (length crossed) given steps
@@ -110,13 +111,13 @@ cycles_of bounds directed n cost scale families crossed given steps (judged.Boun
     each None if_sure = λ nodes cycle keeps. ∥∥₁_elim are (hlevel props) (λ sure. if_sure sure nodes cycle keeps)
 cycles_of bounds directed n cost scale families crossed given steps (judged.BadLeaf leaf) costs_are scale_in are is = tt
 
--- three nodes, and costs that are the same in both directions where pairs have none
+-- three nodes, and symmetric costs where pairs have no direction
 pub costs_for : (directed : Bool) (n : ℕ) (cost : ℕ → ℕ → ℤ) → 3 ≤ n → (directed ≡ false → IsSymmetric cost)
     → AreCostsFor directed n cost
 costs_for false n cost some even = (some, even refl)
 costs_for true n cost some even = omega (arith, some)
 
--- ---- the cases of a tree, with its parts
+-- ---- the same of the judgement on a tree of cases
 
 module _ (n : ℕ) (cost : ℕ → ℕ → ℤ) where
   pub judged_of : (families : List Family) (crossed : List Crossings) (found : JudgedLeaves) (cases : Cases) (directed : Bool) (scale : ℤ) (given : List Decision) (steps : List TreeStep)

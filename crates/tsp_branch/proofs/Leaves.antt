@@ -1,5 +1,5 @@
--- Weights that agree have the same least 1-trees, so the bound of a leaf's weights is that of the leaf. For `leaf_bound` in
--- src/leaf.rt and others.
+-- Equal weights have the same least 1-trees, so the bound of a leaf's weights is the bound of the leaf. For
+-- `leaf_bound` in src/leaf.rt and others.
 use Rattle.std.proofs.Common.{◌≡◌, ℕ, ◌+◌, ◌*◌, ◌^◌, List, [], ◌∷◌, length, ap₂, refl, sym, arith, ◌∙◌, to_z, of_z, subst}
 use Rattle.std.specs.Int.{w128}
 use Rattle.std.specs.Prelude.{ℤ, pos, neg_ℤ, ◌+ℤ◌, ◌-ℤ◌, ◌*ℤ◌}
@@ -62,7 +62,7 @@ decided_even scale crossed potentials multipliers families case cost many long e
     (multiplied (families_with crossed families) multipliers) cost even i j
     ∙ sym (case_weight w scale crossed potentials multipliers families case cost j i many long refl)
 
--- ---- what the code adds
+-- ---- the weight of the tree plus the number that the leaf gives back, in 128 bits
 
 abbrev pub most_weight_of_tree : ℕ
 most_weight_of_tree = (most_nodes + 2) * 2 ^ 63

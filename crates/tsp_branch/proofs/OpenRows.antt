@@ -1,5 +1,5 @@
--- Rows in which all decisions of a case have closed what they don't allow, and their least numbers. For
--- `AllowedRows::least_from` in src/rows.rt and others.
+-- A row of an ATSP's case: closed are the links that a decision doesn't allow, and the least open one is the node's
+-- least link. For `AllowedRows::least_from` in src/rows.rt and others.
 use Rattle.std.proofs.Common.{◌≡◌, ◌≢◌, ℕ, ◌+◌, ◌<◌, Bool, true, false, List, [], ◌∷◌, reverse, get_or, inl, inr, sym, ◌∙◌, subst, arith}
 use Rattle.std.specs.Prelude.{ℤ, ◌↔◌, ◌≤ℤ◌, ◌<ℤ◌}
 use Rattle.std.specs.List.{All, AllByRecursion, Contains, filter}
@@ -27,7 +27,7 @@ turned P xs all = all_within P (reverse xs) xs (λ x c. Contains-permutation (re
 turned_back : (P : Decision → Type 0) (xs : List Decision) → All P (reverse xs) → All P xs
 turned_back P xs all = all_within P xs (reverse xs) (λ x c. Contains-permutation xs (reverse xs) x (IsPermutation-reverse xs) c) all
 
--- ---- those of a node, and those that take their pair
+-- ---- the decisions at a node with those that take their pair bear on its row as all do
 
 avoided_allows : (pair : ℕ × ℕ) (i j : ℕ) → pair.0 ≢ i → AllowsLink false pair i j
 avoided_allows pair i j other = λ e same. other (sym e)
@@ -78,13 +78,13 @@ pub ends_inside : (n long : ℕ) (test : Decision → Bool) (case own : List Dec
 ends_inside n long test case own is own_is all = all_passed (λ decision. decision.pair.1 < long) test case own own_is
     (λ k d lt. let node = (all k d lt).1 in omega (arith, is, node.1))
 
--- the same of both nodes, which differ
+-- both nodes of such a decision are in the row, and differ
 pub both_inside : (n long : ℕ) (test : Decision → Bool) (case own : List Decision) → long ≡ n + 1 → stack_of own ≡ filter test case → All (IsDecision n) case
     → All (IsOnPlaces long) own
 both_inside n long test case own is own_is all = all_passed (IsOnPlaces long) test case own own_is
     (λ k d lt. let node = all k d lt in (omega (arith, is, node.0.1), omega (arith, is, node.1.1), node.2))
 
--- ---- one value
+-- ---- one link of the row
 
 stays_closed : (A : Type 0) (a b : ℤ) → IsShut A a b → a ≡ no_link → b ≡ no_link
 stays_closed A a b (inl kept) is = kept.1 ∙ is
@@ -99,7 +99,7 @@ allowed_if : (A B : Type 0) (a c : ℤ) → IsShut A a c → (A → B) → (B �
 allowed_if A B a c (inl one) to from = inl (to one.0, one.1)
 allowed_if A B a c (inr one) to from = inr (λ h. one.0 (from h), one.1)
 
--- the node itself, the decisions that begin at it, and those that take their pair
+-- closing the node itself, then its decisions, then the taken pairs leaves the allowed links open
 pub opened : (n : ℕ) (w : ℕ → ℕ → ℤ) (case own taken : List Decision) (from long : ℕ) (old shut mid new : List ℤ) → n < long → ((x : ℕ) → IsNode n x → least_at old x ≡ w from x)
     → stack_of own ≡ filter (bears_on true from) case → stack_of taken ≡ filter (λ decision. decision.taken) case
     → least_at shut from ≡ no_link → ((x : ℕ) → x ≢ from → least_at shut x ≡ least_at old x)
@@ -116,7 +116,7 @@ opened n w case own taken from long old shut mid new room read own_is taken_is h
           (λ h. record { node = node; other = λ same. other (sym same); each = parts.0 h }) (λ h. parts.1 h.each)
     ]
 
--- ---- the least one
+-- ---- the least open link
 
 module _ (n : ℕ) (w : ℕ → ℕ → ℤ) (decisions : List Decision) (from : ℕ) (row : List ℤ) (least : ℤ) (open_row : IsOpenRow n w decisions from row) (small : (x : ℕ) → IsNode n x → w from x <ℤ no_link)
     (below : (x : ℕ) → IsNode n x → least ≤ℤ least_at row x) where

@@ -1,5 +1,5 @@
--- The sets that two nodes are both in, by the places of each node's sets. For `CaseLeaf::are_exact` in src/leaf_rows.rt and
--- others.
+-- The sets that have both of two nodes, by the lists of each node's sets: their multipliers are in the weight twice.
+-- For `shared_by` and `has_place` in src/both_sets.rt and others.
 use Rattle.std.proofs.Common.{◌≡◌, ◌≢◌, ℕ, zero, suc, ◌+◌, ◌<◌, ◌==◌, ◌&&◌, ◌||◌, Bool, true, false, List, [], ◌∷◌, ◌++◌, length, drop, drop-cons, add-one, get_or, inl, inr, refl, ap, sym, ◌∙◌, arith}
 use Rattle.std.specs.Prelude.{ℤ, pos, ◌+ℤ◌, ◌*ℤ◌, ◌≤ℤ◌, if◌then◌else◌}
 use Rattle.std.specs.List.{All, AllByRecursion}
@@ -17,7 +17,7 @@ use Rattle.tsp_branch.specs.states.Shared.{is_same_place, has_place, shared_by, 
 use Rattle.tsp_families.proofs.Lists.{apart_from_pairs}
 use Rattle.tsp_cases.proofs.SetAlgebra.{both_sums, added_once}
 
--- ---- the multipliers of the sets that have a node, by the places of these
+-- ---- the multipliers of the sets that have a node, summed over its list
 
 times_sum : (g : SetPlace → ℤ) (place : SetPlace) (nodes : List ℕ) (x : ℕ) → sum_int_by g (times place nodes x) ≡ added (g place) nodes x
 times_sum g place [] x = refl
@@ -47,7 +47,7 @@ families_sum ms first (sets ∷ families) x =
 pub number_is : (ms : List ℤ) (families : List (List (List ℕ))) (x : ℕ) → sum_at_places ms (places_with 0 families x) ≡ multipliers_at ms families x
 number_is ms families x = families_sum ms 0 families x
 
--- ---- a node's list has a place if the set there has the node
+-- ---- a node's list has the place of a set if the set has the node
 
 or_none : (b : Bool) → (b || false) ≡ b
 or_none true = refl
@@ -88,7 +88,7 @@ and_none false = refl
 other_set : (f s family set : ℕ) → set ≢ s → is_same_place (place_at f s) (place_at family set) ≡ false
 other_set f s family set apart = rw (ne_eqb set s apart) (and_none (family == f))
 
--- the places of one family's sets from a first one on have none before it, and none of another family
+-- a list of the places of one family's sets, from a first set on, has no set before it and none of another family
 none_before : (family first s : ℕ) (sets : List (List ℕ)) (x : ℕ) → s < first → has_place (places_in family first sets x) (place_at family s) ≡ false
 none_before family first s [] x below = refl
 none_before family first s (set ∷ sets) x below =
@@ -144,7 +144,7 @@ has_is : (families : List (List (List ℕ))) (p : SetPlace) (x : ℕ) → IsPlac
 has_is families p x inside = ap (λ f. has_place (places_with 0 families x) (place_at f p.set)) (let e : p.family ≡ 0 + p.family = omega arith in e)
     ∙ in_families 0 p.family p.set families x inside.0 inside.1
 
--- ---- so what the sets of both add is what the two lists share
+-- ---- so the multipliers of the sets with both nodes are those of the places in both lists
 
 shared_one : (ms : List ℤ) (families : List (List (List ℕ))) (p : SetPlace) (x : ℕ) → All (All HasEachOnce) families → IsPlaceIn families p
     → (if has_place (places_with 0 families x) p then (pos 2 *ℤ get_or ms p.family (pos 0)) else pos 0) ≡ twice_in ms families p x
@@ -164,7 +164,7 @@ pub shared_is : (ms : List ℤ) (families : List (List (List ℕ))) (places : Li
     → shared_by ms (places_with 0 families x) places ≡ inside_both ms families places x
 shared_is ms families places x once inside = shared_all ms families places x once (recursion_from_All (IsPlaceIn families) places inside)
 
--- ---- it isn't negative
+-- ---- their sum isn't negative
 
 added_some : (number : ℤ) (nodes : List ℕ) (x : ℕ) → pos 0 ≤ℤ number → pos 0 ≤ℤ added number nodes x
 added_some number [] x some = omega (arith, ints)
@@ -186,7 +186,7 @@ pub inside_no_less : (ms : List ℤ) (families : List (List (List ℕ))) (places
     → pos 0 ≤ℤ inside_both ms families places x
 inside_no_less ms families places x small inside = inside_some ms families places x small (recursion_from_All (λ p. p.family < length ms) places inside)
 
--- ---- one place after the other
+-- ---- one place of a list after the other
 
 pub has_left : (places : List SetPlace) (index : ℕ) (p default : SetPlace) → index < length places
     → has_place (drop index places) p ≡ (is_same_place p (get_or places index default) || has_place (drop (index + 1) places) p)

@@ -1,4 +1,5 @@
--- Sums of least weights, node by node. For `AllowedRows::sum_of_least` and `AllowedRows::bound` in src/rows.rt.
+-- The sum of the least links of all nodes of an ATSP, node by node, which fits 128 bits. For
+-- `AllowedRows::sum_of_least` and `AllowedRows::bound` in src/rows.rt.
 use Rattle.std.proofs.Common.{◌≡◌, ◌≢◌, ℕ, zero, suc, ◌+◌, ◌^◌, ◌<◌, ◌≤◌, ◌==◌, List, inl, inr, refl, sym, ap, subst, ◌∙◌, arith, add-one, FitsSigned, to_z, of_z}
 use Rattle.std.specs.Prelude.{ℤ, pos, neg_ℤ, ◌+ℤ◌, if◌then◌else◌}
 use Rattle.std.specs.Int.{w64, w128}
@@ -12,7 +13,7 @@ use Rattle.tsp_theory.specs.CertificateNumbers.{IsFromTo, IsSumSized}
 use Rattle.tsp_cases.specs.declared.decision.Decision.{Decision}
 use Rattle.tsp_cases.specs.Rows.{IsLeastFrom, IsSumOfLeast}
 
--- one number more at the end of a run
+-- the sum over one node more at the end
 run_more : (f : ℕ → ℤ) (a n : ℕ) → sum_int_by f (range_with_len a (suc n)) ≡ sum_int_by f (range_with_len a n) +ℤ f (a + n)
 run_more f a zero = let same : f a ≡ f (a + 0) = ap f (omega arith) in omega (arith, ints, same)
 run_more f a (suc n) =
@@ -20,7 +21,7 @@ run_more f a (suc n) =
     let same : f ((a + 1) + n) ≡ f (a + suc n) = ap f (omega arith) in
     omega (arith, ints, rest, same)
 
--- functions that agree on a run
+-- equal numbers have equal sums
 run_same : (f g : ℕ → ℤ) (a n : ℕ) → ((x : ℕ) → a ≤ x → x < a + n → f x ≡ g x) → sum_int_by f (range_with_len a n) ≡ sum_int_by g (range_with_len a n)
 run_same f g a zero h = refl
 run_same f g a (suc n) h =
@@ -28,7 +29,7 @@ run_same f g a (suc n) h =
     let rest = run_same f g (a + 1) n (λ x low high. h x (omega (arith, low)) (omega (arith, high))) in
     omega (arith, ints, first, rest)
 
--- a function with another value at one place
+-- the numbers with another one at one node
 abbrev with_value : (ℕ → ℤ) → ℕ → ℤ → ℕ → ℤ
 with_value f place z x = if x == place then z else f x
 
@@ -60,7 +61,7 @@ module _ (n : ℕ) (w : ℕ → ℕ → ℤ) (decisions : List Decision) where
         sum_is = let own = is.sum_is in omega (arith, ints, split, before, here, own);
       }
 
--- ---- as the code computes it
+-- ---- in 128 bits
 
 pub size_more : (sum z : ℤ) (count : ℕ) → IsSumSized count sum → FitsSigned w64 z → IsSumSized (count + 1) (sum +ℤ z)
 size_more sum z count size fits = (omega (arith, ints, size.0, fits), omega (arith, ints, size.1, fits))

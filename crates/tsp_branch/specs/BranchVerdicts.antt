@@ -1,4 +1,5 @@
--- The verdict on a certificate by branching: its bound, or the first reason against it.
+-- The verdict on a certificate by branching, for a TSP or an ATSP: its bound, or the first reason against it. For
+-- `judge_branches` (src/verdict.rt).
 use Rattle.std.specs.Prelude.{ℕ, Bool, None, Some, IfSome, List, ℤ}
 use Rattle.tsp_format.specs.Steps as listed
 use Rattle.tsp_theory.specs.CertificateNumbers.{IsBoundSized}
@@ -15,7 +16,7 @@ use Rattle.tsp_branch.specs.JudgedLeaves.{AreJudgedLeaves}
 use Rattle.tsp_cases.specs.BadBranches.{AreBranchesWithin}
 use Rattle.tsp_cases.specs.Twice.{AreBranchesJudged}
 
--- the judgement on the leaves, where all families are good, each branch is on two nodes, and none comes twice
+-- the judgement on the leaves, where all families are good, each branch begins with a node, and none comes twice
 pub record AreLeavesJudged (directed : Bool) (n : ℕ) (cost : ℕ → ℕ → ℤ) (scale : ℤ)
     (families : List (List (List ℕ))) (given : List Decision) (steps : List listed.Step) (found : JudgedLeaves) : Type 0 where
   pub crossed : List Crossings
@@ -24,8 +25,8 @@ pub record AreLeavesJudged (directed : Bool) (n : ℕ) (cost : ℕ → ℕ → �
   pub are_once : AreBranchesJudged directed given steps None
   pub leaves : AreJudgedLeaves directed n cost scale (families_with crossed families) crossed given steps found
 
--- the first bad family; where all are good, the first branch that isn't on two nodes; where all are, the first one that comes
--- twice; where none does, the first bad leaf; and where all leaves are good, the bound
+-- the first bad family; where all are good, the first branch that doesn't begin with a node; then the first one that
+-- comes twice; then the first bad leaf; and where there is none of these, the bound
 abbrev pub IsBranchVerdict : Bool → ℕ → (ℕ → ℕ → ℤ) → ℤ → List (List (List ℕ)) → List Decision → List listed.Step → BranchVerdict
     → Type 0
 IsBranchVerdict directed n cost scale families given steps (verdict.Bound found) =
@@ -46,7 +47,7 @@ VerdictBoundsCycles directed n cost given (verdict.BadBranch branch) = Unit {0}
 VerdictBoundsCycles directed n cost given (verdict.BranchTwice branch) = Unit {0}
 VerdictBoundsCycles directed n cost given (verdict.BadLeaf leaf) = Unit {0}
 
--- Sums with it fit 128 bits.
+-- The bound is so small that sums with it fit 128 bits.
 abbrev pub IsSizedVerdict : BranchVerdict → Type 0
 IsSizedVerdict (verdict.Bound found) = IfSome found IsBoundSized
 IsSizedVerdict (verdict.BadFamily family) = Unit {0}

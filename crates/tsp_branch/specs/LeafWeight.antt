@@ -1,4 +1,5 @@
--- The bound that the weight of a least 1-tree gives.
+-- The bound that the weight of a least 1-tree gives for a leaf. For `leaf_bound` (src/leaf.rt) and `bound_of_trees`
+-- (src/boxed_leaf.rt).
 use Rattle.std.specs.Prelude.{◌≡◌, ℕ, List, ℤ, pos, ◌+ℤ◌, ◌-ℤ◌, ◌*ℤ◌}
 use Rattle.tsp_theory.specs.CertificateNumbers.{total, IsLeastBound}
 use Rattle.tsp_theory.specs.Adjusted.{triples_total}
@@ -6,13 +7,14 @@ use Rattle.tsp_tree.specs.Weighed.{IsLeastWeight}
 use Rattle.tsp_cases.specs.Families.{Family}
 use Rattle.tsp_cases.specs.LeafBound.{least_of, leaf_weight, IsLeafBound}
 
--- the least whole number that at the scale is no less than such a weight and the sum that is added
+-- the least whole number that, times the scale, is no less than the weight of a least 1-tree and the number given back
 pub record IsBoundOfWeights (n : ℕ) (w : ℕ → ℕ → ℤ) (scale given_back bound : ℤ) : Type 0 where
   pub weight : ℤ
   pub weighs : IsLeastWeight n w weight
   pub bound_is : IsLeastBound scale (weight +ℤ given_back) bound
 
--- what a leaf gives back: the numbers of its taken pairs and the least crossings of its combs, less each potential twice
+-- what a leaf gives back: the numbers of its taken pairs and the least crossings of its families, each times its
+-- multiplier, less each potential twice
 abbrev pub given_back_of : List ℤ → List (ℕ × ℕ × ℤ) → List (Family × ℤ) → ℤ
 given_back_of potentials taken combs = (triples_total taken +ℤ least_of combs) -ℤ (pos 2 *ℤ total potentials)
 

@@ -1,4 +1,4 @@
--- The distance by a number. For `distance_of` in src/distance_call.rt.
+-- The kind that a number means, with the distance of two points by it. For `distance_of` in src/distance_call.rt.
 use Rattle.std.proofs.Common.{◌≡◌, refl, ap}
 use Rattle.std.specs.Prelude.{ℤ, pos, Option, Some, None, option_map, unwrap_or}
 use Rattle.tsp_distance.specs.declared.decimal.Point.{Point}

@@ -1,4 +1,4 @@
--- A buffer that is filled by one place more. For `put` in src/fill.rt.
+-- A buffer of C that has one number more, at its next place. For `put` in src/fill.rt.
 use Rattle.std.proofs.Common.{◌≡◌, ◌≢◌, ℕ, ◌+◌, ◌<◌, List, length, refl, ◌∙◌, arith, below_more, get_or-set_same, get_or-set_other}
 use Rattle.std.specs.Prelude.{ℤ, pos, slice_index_or as get_or}
 use Rattle.std.proofs.Math.ListN.{set}

@@ -1,4 +1,5 @@
--- What the numbers of a run on texts say. For `bounded` and `checked` in src/texts.rt.
+-- The numbers that C gets of a run on texts: each fits, and they say the verdict or the fault on these texts. For
+-- `bounded` and `checked` in src/texts.rt.
 use Rattle.std.proofs.Common.{◌≡◌, ◌≢◌, ℕ, ◌≤◌, ◌^◌, List, Bool, true, false, Result, Ok, Err, inl, inr, sym, subst, ◌∙◌, arith}
 use Rattle.std.specs.Prelude.{Option, Some, ℤ, pos, negsuc, IfOk, unsigned_abs}
 use Rattle.std.proofs.lemmas.Int.{ints}
@@ -56,7 +57,7 @@ sized_bound_run by strict first second sink (Ok bounded) run =
     (sized_bound_kept (is_unjudged strict bounded.instance) asked.0 (sized_bound by bounded.instance bounded.certificate asked.0 asked.1))
 sized_bound_run by strict first second sink (Err fault) run = tt
 
--- what a law says of each verdict
+-- each verdict has a length and a bound that fit
 abbrev AreSized : Type 0
 AreSized = (given : Option (Certificate × Fields)) (claimed : Option ℤ) (instance solution : Fields) (verdict : Verdict)
     → IsVerdictWith given claimed instance solution verdict → IsSized verdict
@@ -78,7 +79,7 @@ sized_run given claimed strict first second sink (Err fault) sized run = tt
 
 -- ---- a fault
 
--- one whose status is 0 or 1 is a layout's
+-- a fault whose status is 0 or 1 is that of a refused layout
 low_status : (fault : RunFault) (written : List ℕ) (status : ℕ) (text : List ℕ) → EndsOnTexts (Err fault) written status text
     → status ≤ 1 → status_of_fault (without_devices fault) ≡ 1
 low_status fault written status text (inl e) low =

@@ -1,4 +1,5 @@
--- Lists of nodes, each of which a 0 ends. For `put_lengths` and `lengths_of` in src/list_lengths.rt.
+-- A list of nodes up to its 0, and those behind it, in one list of numbers from C. For `put_lengths` and `lengths_of`
+-- in src/list_lengths.rt.
 use Rattle.std.proofs.Common.{◌≡◌, ◌≤◌, ℕ, zero, suc, ◌+◌, ◌<◌, Bool, true, false, cond, List, [], ◌∷◌, length, take, drop, length-drop, drop-cons, add-one, ltb-true, ltb-false, refl, sym, ap, subst, ◌∙◌, arith}
 use Rattle.std.specs.Prelude.{◌==◌, not, nat_lt, Some, None, unwrap_or, slice_index_or as get_or}
 use Rattle.std.specs.List.{All, count_by, position, prefix_len}
@@ -43,7 +44,7 @@ pub lists_none : (nodes : List ℕ) → length nodes ≤ first_len nodes → lis
 lists_none [] all = refl
 lists_none (node ∷ nodes) all = none_more node nodes (node == 0) (lists_none nodes) all
 
--- as many lists as zeros
+-- there are as many lists as zeros
 counted_more : (node : ℕ) (nodes : List ℕ) (lists : List (List ℕ)) (count : ℕ) (ends : Bool) → count ≡ length lists
     → cond ends 1 0 + count ≡ length (cond ends ([] ∷ lists) (onto_first_list node lists))
 counted_more node nodes lists count true e = grind (arith, e)
@@ -96,7 +97,7 @@ end_missing nodes is = missing_more (nat_lt (first_len nodes) (length nodes)) (f
 
 -- ---- a step of the loop over lists
 
--- what a list before its 0 has are nodes
+-- the numbers of a list before its 0 are nodes
 pub nodes_before : (count : ℕ) (nodes : List ℕ) → All (λ node. node ≤ count) nodes → first_len nodes < length nodes
     → All (IsNode count) (take (first_len nodes) nodes)
 nodes_before count nodes most within = λ k d inside.

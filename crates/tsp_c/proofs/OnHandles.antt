@@ -1,4 +1,4 @@
--- From the verdict on a solution of an open instance to what is said of the texts that are open. For `check_opened` in
+-- The verdict on a solution of an open instance is that on the texts it was opened with. For `check_opened` in
 -- src/handle_calls.rt.
 use Rattle.std.proofs.Common.{◌≡◌, ◌≢◌, ℕ, ◌≤◌, List, [], ◌∷◌, Bool, true, false, Result, Ok, Err, inl, inr, refl, sym, ap, subst, ◌∙◌, arith}
 use Rattle.std.specs.Prelude.{Option, ℤ}
@@ -192,7 +192,7 @@ verdict_as_texts opened claimed strict one two written given (No reason) status 
       printed = printed;
     }) e
 
--- a writer that has failed is out of memory
+-- a writer into memory fails only where it is out of memory
 unwritten : (fault : RunFault) (written : List ℕ) (status : ℕ) (text : List ℕ)
     → fault ≡ Write write_faults.Device → EndsOnTexts (Err fault) written status text → status ≡ 3
 unwritten fault written status text is (inl e) = e.0 ∙ ap (λ (f : RunFault). status_of_fault (without_devices f)) is

@@ -1,4 +1,5 @@
--- From runs on readers to what is said of the texts that they read. For `bounded` in src/texts.rt and others.
+-- Runs on readers over texts in memory, as statements on these texts: a check, a bound, `show` and `convert`. For
+-- `bounded` and `checked` in src/texts.rt and others.
 use Rattle.std.proofs.Common.{◌≡◌, ℕ, List, [], Bool, true, false, Result, Ok, Err, inl, inr, refl, sym, subst, arith}
 use Rattle.std.specs.Prelude.{Option, None, Some, IfSome, ℤ}
 use Rattle.std.specs.Io.KnownBytes.{Appends}

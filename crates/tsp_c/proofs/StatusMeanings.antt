@@ -1,4 +1,5 @@
--- What the status of a run on texts says. For `ended` in src/ended.rt.
+-- The status 0, 1, 2 or 3 of a run on texts, with the text that C gets: an answer or a fault. For `ended` in
+-- src/ended.rt.
 use Rattle.std.proofs.Common.{◌≡◌, ℕ, ◌≤◌, List, [], Bool, true, false, Result, Ok, Err, inl, inr, refl, sym, subst, arith}
 use Rattle.std.specs.Prelude.{IsErr}
 use Rattle.tsp_stream.specs.declared.output.WriteFault.TheVariants as write_faults
@@ -39,7 +40,7 @@ fault_status (Write write_faults.OutOfMemory) = other_status _ 3 (omega arith) (
 fault_status (Write write_faults.Device) = other_status _ 3 (omega arith) (omega arith)
 fault_status (Relayout refused) = relayout_status refused
 
--- ---- an ending with its text
+-- ---- the end of a run, with the text that it gives
 
 pub yes_ends : {Yes No : List ℕ → Type 0} {Stops : RunFault → Type 0} (written : List ℕ) (status : ℕ) (text : List ℕ) → Yes written
     → EndsOnTexts (Ok true) written status text → EndsWithText Yes No Stops status text

@@ -1,4 +1,5 @@
--- One pass over the steps that finds the first branch on a pair decided above it. For `first_twice` in src/twice.rt.
+-- One pass over the steps of a tree of cases that finds the first branch on a pair that its case decides already. For
+-- `first_twice` in src/twice.rt.
 use Rattle.std.proofs.Common.{◌≡◌, ◌∙◌, ℕ, suc, ◌+◌, ◌<◌, ◌≤◌, Bool, true, false, List, [], ◌∷◌, ◌++◌, drop, length, get_or, ℤ, inl, inr, refl, ap, ap₂, sym, subst, add-one}
 use Rattle.std.specs.Prelude.{None, Some}
 use Rattle.std.specs.List.{All, AllByRecursion}
@@ -56,7 +57,7 @@ pub record IsOnceSoFar (directed : Bool) (given : List Decision) (all : List lis
 pub once_at_start : (directed : Bool) (given : List Decision) (all : List listed.Step) → DecideOnce directed given → IsOnceSoFar directed given all [] 0 all
 once_at_start directed given all h = record { each = (h, tt); once = λ rest. rest; twice = λ first rest. rest; left = λ first rest. rest }
 
--- a decision more on another pair
+-- one decision more, on another pair, leaves each pair decided once
 once_more : (directed : Bool) (case : List Decision) (pair : ℕ × ℕ) (taken : Bool) → is_decided directed case pair ≡ false → DecideOnce directed case → DecideOnce directed (decide pair taken case)
 once_more directed case pair taken none h = AllPairs-cons (λ (a b : Decision). is_same directed a.pair b.pair ≡ false) (record { pair = pair; taken = taken }) case
     (λ k d lt. elim (cases_Bool (is_same directed pair (get_or case k d).pair)) [
@@ -103,7 +104,7 @@ twice_found directed given all items branch a b steps h is =
     first_twice_by_place directed given all (branch + 1) (subst (IsFirstTwiceFrom directed 0 (given ∷ []) all) (sym (add-one branch))
     (twice_here directed given all (stack_of items) branch a b steps h is))
 
--- after a leaf, with a case that is open, and with none; and where no step is left
+-- after a leaf, with a next open case or with none; and where no step is left
 pub once_at_leaf : (directed : Bool) (given : List Decision) (all : List listed.Step) (stack : List Decision) (branch : ℕ) (changes : List (ℕ × ℤ)) (steps : List listed.Step) (next : List Decision)
     → IsOnceSoFar directed given all stack branch (listed.Leaf changes ∷ steps) → next_stack stack ≡ Some next → IsOnceSoFar directed given all next branch steps
 once_at_leaf directed given all stack branch changes steps next h turned =
@@ -132,7 +133,7 @@ once_at_end directed given all stack branch index h past =
 
 -- ---- the open case of the code
 
--- what it says of a pair
+-- whether it decides a pair
 pub decided_here : (directed : Bool) (given : List Decision) (case : OpenCase) (pair : ℕ × ℕ) (result : Bool) → case.given.now ≡ given → case.by_node.directed ≡ directed
     → result ≡ is_decided case.by_node.directed (decisions_in case) pair → is_decided directed (stack_of case.stack.items ++ given) pair ≡ result
 decided_here directed given case pair result given_is direction is =

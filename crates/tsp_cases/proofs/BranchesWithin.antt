@@ -1,5 +1,5 @@
--- One pass over the steps that finds the first branch that doesn't begin where it may. For `first_bad_branch` in
--- src/bad_branch.rt and others.
+-- One pass over the steps of a tree of cases that finds the first branch whose first number is out of its limits. For
+-- `first_bad_branch` in src/bad_branch.rt and others.
 use Rattle.std.proofs.Common.{◌≡◌, ◌∙◌, ℕ, ◌+◌, ◌-◌, ◌<◌, ◌≤◌, List, [], ◌∷◌, ◌++◌, drop, length, get_or, ℤ, refl, ap, sym, subst, arith}
 use Rattle.std.specs.Prelude.{None}
 use Rattle.std.specs.List.{All, AllByRecursion}
@@ -13,7 +13,7 @@ use Rattle.tsp_cases.specs.BadBranches.{branch_pairs, BeginsWithin, IsFirstBadBr
 use Rattle.tsp_cases.specs.Listed.{IsStepOf, IsListedStep}
 use Rattle.tsp_cases.proofs.ListPlaces.{left_at}
 
--- the branches so far, which all begin there, and the steps that are left
+-- all branches so far begin with a number within the limits
 pub record AreWithinSoFar (least most : ℕ) (all : List listed.Step) (count : ℕ) (left : List listed.Step) : Type 0 where
   pub done : List (ℕ × ℕ)
   pub split : branch_pairs all ≡ done ++ branch_pairs left

@@ -1,5 +1,5 @@
--- A cycle uses a pair or not, so it keeps the decisions of an open case until that is closed. For the law `steps_leave_cases`
--- in src/laws.rt and others.
+-- A cycle uses the pair of a branch or not, so it is in one of both cases, and in the end in the case of a leaf. For
+-- the law `steps_leave_cases` in src/laws.rt and others.
 use Rattle.std.proofs.Common.{◌≡◌, ℕ, ◌==◌, ◌&&◌, Bool, true, false, List, [], ◌∷◌, length, ℤ, ◌≤ℤ◌, ◌⊎◌, inl, inr, refl, sym, ap, ◌∙◌, subst, arith}
 use Rattle.std.specs.List.{All, AllByRecursion, Contains, list_any}
 use Rattle.std.proofs.lemmas.Bool.{cases_Bool, both_ways, and_parts, and_from, eqb-true, eq-eqb}
@@ -38,7 +38,7 @@ uses_or_not true nodes pair = elim (cases_Bool (list_any (is_pair pair) (links n
   | inr f ↦ inr (λ h. both_ways (list_any (is_pair pair) (links nodes)) f (found_follows nodes pair h))
 ]
 
--- ---- the tree
+-- ---- the tree of cases
 
 -- a branch leaves out no cycle
 branched : (directed : Bool) (nodes : List ℕ) (pair : ℕ × ℕ) (case : List Decision) (cases : List (List Decision)) → KeepsOne directed nodes (case ∷ cases)
@@ -61,7 +61,7 @@ kept directed nodes (case ∷ cases) (Leaf numbers ∷ steps) whole (inr later) 
 pub cycles_keep_leaves : CyclesKeepLeaves
 cycles_keep_leaves directed given steps nodes whole keeps = kept directed nodes (given ∷ []) steps whole (inl keeps)
 
--- what holds of the cycles of each case holds of those of one
+-- a statement on the cycles of each case is one on each cycle that is in some case
 of_one : (directed : Bool) (n : ℕ) (nodes : List ℕ) (P : Type 0) (cases : List (List Decision)) → AllByRecursion (λ case. IsCycle n nodes → All (KeepsDecision directed nodes) case → P) cases
     → IsCycle n nodes → KeepsOne directed nodes cases → P
 of_one directed n nodes P [] each cycle keeps = absurd keeps
@@ -82,7 +82,7 @@ cases_have_no_cycle directed n given steps whole none = λ nodes cycle keeps.
     (recursion_from_All (λ case. IsCycle n nodes → All (KeepsDecision directed nodes) case → ⊥) cases (λ k d lt. none k d lt nodes))
     cycle (cycles_keep_leaves directed given steps nodes whole keeps)
 
--- ---- step by step
+-- ---- the cycles that no closed case has are in an open case
 
 pub open_start : (directed : Bool) (n : ℕ) (cost : ℕ → ℕ → ℤ) (given : List Decision) (bound : ℤ) → BoundsButOpen directed n cost given bound (given ∷ [])
 open_start directed n cost given bound = λ nodes cycle keeps. inr (inl keeps)

@@ -1,4 +1,5 @@
--- The weights of code at a leaf are those of its case. For `judge_numbers` in src/good_numbers.rt.
+-- The weights that code computes from sets and decisions are those of the leaf's definition, if its numbers are good.
+-- For `judge_numbers` in src/good_numbers.rt.
 use Rattle.std.proofs.Common.{◌≡◌, ℕ, ◌≤◌, List, [], ◌∷◌, length, Option, None, Some, true, ℤ, ◌≤ℤ◌, ◌∙◌, ap, sym, subst, arith}
 use Rattle.std.specs.Prelude.{pos, ◌+ℤ◌, ◌-ℤ◌, ◌*ℤ◌, MatchOption}
 use Rattle.std.specs.List.{All, AllByRecursion}
@@ -24,7 +25,7 @@ use Rattle.tsp_cases.proofs.CombSizes.{families_crossed_few, multipliers_below}
 use Rattle.tsp_cases.proofs.CombsBySets.{sets_tell_combs, sets_give_leaves}
 use Rattle.tsp_cases.proofs.RowLeaves.{agreed_rows}
 
--- weights that are those by sets, under the decisions of a case, are those of the leaf
+-- the weights by sets, changed by the decisions of a case, are the weights of the leaf
 pub case_weight : (w : ℕ → ℕ → ℤ) (scale : ℤ) (crossed : List Crossings) (potentials multipliers : List ℤ) (families : List (List (List ℕ))) (case : List Decision) (cost : ℕ → ℕ → ℤ) (i j : ℕ)
     → length crossed ≡ length families → length multipliers ≡ length families → w i j ≡ set_weight scale potentials multipliers families cost i j
     → decided case w i j
@@ -49,7 +50,7 @@ each_below (m ∷ ms) signs =
     wider a b [] h k = tt
     wider a b (x ∷ xs) h k = ((k.0.0, let most = k.0.1 in omega (arith, ints, most, h)), wider a b xs h k.1)
 
--- multipliers of families that some two nodes cross
+-- the multipliers are small, as some two nodes cross each family
 pub few_multipliers : (crossed : List Crossings) (multipliers : List ℤ) → length multipliers ≡ length crossed → All (λ own. 1 ≤ own.most) crossed → All (λ m. pos 0 ≤ℤ m) multipliers
     → sum_with true crossed multipliers ≤ℤ pos most_crossed → total multipliers ≤ℤ pos most_crossed
 few_multipliers crossed ms long some signs sum =
@@ -75,13 +76,13 @@ few_crossings n crossed potentials ms families good many are = λ i j in_i in_j.
 
 -- ---- the least links from each node
 
--- weights that are those by sets are those of a leaf by rows
+-- the weights by sets are those of a leaf by rows
 pub row_weight : (crossed : List Crossings) (scale : ℤ) (potentials multipliers : List ℤ) (families : List (List (List ℕ))) (cost : ℕ → ℕ → ℤ) (i j : ℕ) → length crossed ≡ length families
     → length multipliers ≡ length families
     → set_weight scale potentials multipliers families cost i j ≡ combed (multiplied (families_with crossed families) multipliers) (weight_between scale potentials cost) i j
 row_weight crossed scale ps ms families cost i j many long = ap (λ (z : ℤ). weight_between scale ps cost i j -ℤ z) (sym (sets_tell_combs crossed ms families i j many long))
 
--- what the code finds by rows is what is found of the leaf
+-- the bound that code finds by rows is that of the leaf
 pub found_by_rows : (n k : ℕ) (cost : ℕ → ℕ → ℤ) (scale held number : ℤ) (families : List Family) (case : List Decision) (potentials multipliers : List ℤ) (w : ℕ → ℕ → ℤ) (back : ℤ)
     (found : Option ℤ) → k ≡ n → held ≡ scale
     → ((i j : ℕ) → w i j ≡ combed (multiplied families multipliers) (weight_between scale potentials cost) i j)
@@ -96,6 +97,6 @@ found_by_rows n k cost scale held number families case ps ms w back (Some bound)
     (subst (λ (m : ℕ). IsRowBound m w case scale back bound) nodes_are
     (subst (λ (z : ℤ). IsRowBound k w case z back bound) scale_is is)))
 
--- what a leaf gives back, as the code sums it
+-- the sum that a leaf gives back, in the order of the code
 pub back_of : (taken less taken_sum least_sum twice : ℤ) → taken ≡ taken_sum → less ≡ least_sum -ℤ twice → taken +ℤ less ≡ (taken_sum +ℤ least_sum) -ℤ twice
 back_of taken less taken_sum least_sum twice p q = omega (arith, ints, p, q)

@@ -1,5 +1,5 @@
--- What a certificate's leaves show holds of every cycle that keeps the given decisions. For the laws `case_trees_bound_cycles`
--- and `case_tree_bounds_are_unique` in src/laws.rt.
+-- The least bound of all leaves bounds each cycle that keeps the given decisions, and each tour. For the laws
+-- `case_trees_bound_cycles` and `case_tree_bounds_are_unique` in src/laws.rt.
 use Rattle.std.proofs.Common.{◌≡◌, ℕ, Bool, true, false, List, [], ◌∷◌, Option, None, Some, ℤ, ◌≤ℤ◌, inl, inr, refl, ap, arith}
 use Rattle.std.specs.Prelude.{pos}
 use Rattle.std.specs.List.{All, AllByRecursion}
@@ -28,13 +28,13 @@ are_multiplied : (n : ℕ) (families : List Family) (multipliers : List ℤ) →
 are_multiplied n families multipliers are signs = All-from_recursion (λ f. IsFamily n f.0 × (pos 0 ≤ℤ f.1)) (multiplied families multipliers)
     (families_with n families multipliers (recursion_from_All (IsFamily n) families are) (recursion_from_All (λ multiplier. pos 0 ≤ℤ multiplier) multipliers signs))
 
--- the theorems on a leaf
+-- the laws on the bound of one leaf
 pub record LeafLaws : Type 0 where
   pub trees : LeafBoundsBoundCycles
   pub rows : RowLeafBoundsBoundCycles
   pub no_link : NoLinkNoCycle
 
--- a leaf's bound, and that it has none
+-- a leaf's bound is one of its case, and a leaf without a bound has no cycle
 leaf_bounds_case : (directed : Bool) (n : ℕ) (cost : ℕ → ℕ → ℤ) (scale number : ℤ) (families : List Family) (leaf : List Decision × LeafNumbers) (own : ℤ) → LeafLaws → AreCostsFor directed n cost
     → IsScale scale
     → All (IsFamily n) families → AreLeafNumbers n leaf.1 → IsFoundAt directed n cost scale number families leaf (Some own) → BoundsCase directed n cost own leaf.0
@@ -50,7 +50,8 @@ leaf_has_none : (directed : Bool) (n : ℕ) (cost : ℕ → ℕ → ℤ) (scale 
 leaf_has_none false n cost scale number families leaf laws costs_are none = absurd none
 leaf_has_none true n cost scale number families leaf laws costs_are none = laws.no_link n leaf.0 costs_are none
 
--- plan: by induction over the leaves each bound is one of its case (`leaf_bounds_case`); then the premise on cases
+-- plan: by induction over the leaves, the bound of each is one of its case (`leaf_bounds_case`). Each cycle is in the
+-- case of some leaf
 pub case_trees_bound_cycles : LeafLaws → CasesBoundCycles → CasesHaveNoCycle → CaseTreesBoundCycles
 case_trees_bound_cycles laws bounds_cases no_cases directed n cost scale number families given steps (Some bound) costs_are scale_in certificate is =
     let leaves = leaves_of (given ∷ []) steps in
@@ -90,7 +91,7 @@ no_bound_no_tour bounds problem scale number families steps costs_are scale_in c
     bounds problem.directed problem.nodes problem.cost scale number families (take_pairs problem.fixed) steps None costs_are scale_in certificate is nodes tour.cycle
     (tours_keep_fixed problem.directed nodes problem.fixed tour.fixed_used)
 
--- ---- one bound, or none
+-- ---- a certificate has one bound, or none
 
 -- two least 1-trees weigh the same
 one_leaf_bound : (n : ℕ) (cost : ℕ → ℕ → ℤ) (scale : ℤ) (potentials : List ℤ) (taken avoided : List (ℕ × ℕ × ℤ)) (families : List (Family × ℤ)) (a b : ℤ)
@@ -115,7 +116,7 @@ some_or_none : (directed : Bool) (n : ℕ) (cost : ℕ → ℕ → ℤ) (scale n
 some_or_none false n cost scale number families leaf a one none = none
 some_or_none true n cost scale number families leaf a one none = has_no_bound n _ leaf.0 scale _ a none one
 
--- what is at most the bound of each leaf is at most that of one of them
+-- a number that is at most the bound of each leaf is at most the least of these
 at_most : (directed : Bool) (n : ℕ) (cost : ℕ → ℕ → ℤ) (scale number : ℤ) (families : List Family) (given : List Decision) (steps : List CaseStep) (a b : ℤ)
     → IsCaseTreeBound directed n cost scale number families given steps (Some a) → IsCaseTreeBound directed n cost scale number families given steps (Some b) → a ≤ℤ b
 at_most directed n cost scale number families given steps a b one other =

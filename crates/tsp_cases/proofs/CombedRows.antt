@@ -1,4 +1,5 @@
--- What the sets of a node add to its row, set by set. For `add_sets` in src/row_sets.rt and others.
+-- What the sets that have a node add to its row of weights, set by set: twice the multiplier at each node of the set.
+-- For `add_sets` in src/row_sets.rt and others.
 use Rattle.std.proofs.Common.{◌≡◌, ℕ, ◌+◌, ◌<◌, List, [], ◌∷◌, drop, length, get_or, refl, ap, ◌∙◌, arith, drop-cons, add-one}
 use Rattle.std.specs.Prelude.{ℤ, pos, ◌+ℤ◌, if◌then◌else◌, Bool, true, false, ◌==◌}
 use Rattle.std.proofs.lemmas.Int.{ints}

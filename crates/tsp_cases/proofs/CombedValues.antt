@@ -1,4 +1,4 @@
--- A weight under combs, once the sets of a node are added to what is there as if no set had two nodes. For
+-- The weight between two nodes as if no set had both, moved by the sets that have both, is the weight by sets. For
 -- `CaseLeaf::fill_combed` and `CaseLeaf::fill_combed_at` in src/leaf_rows.rt of tsp_branch.
 use Rattle.std.proofs.Common.{◌≡◌, ℕ, ℤ, List, arith, sym, subst}
 use Rattle.std.specs.Prelude.{pos, neg_ℤ}

@@ -17,7 +17,7 @@ use Rattle.tsp_theory.proofs.Neighbours.{sum_below}
 use Rattle.tsp_theory.proofs.Cycles.{has_node}
 use Rattle.tsp_cases.specs.Combs.{IsTooth, AreApart, CyclesCrossCombs}
 
--- 1 where a pair lies in the tooth and crosses the handle, else 0
+-- 1 where both nodes of a pair are in the tooth, and the pair crosses the handle, else 0
 abbrev within : (ℕ → Bool) → (ℕ → Bool) → ℕ → ℕ → ℤ
 within handle tooth i j = one_if ((tooth i && tooth j) && crosses handle (i, j))
 
@@ -80,7 +80,7 @@ apart_from_pairs (t ∷ ts) h = (
   apart_from_pairs ts (λ i j d below lt. h (suc i) (suc j) d (omega arith) (omega arith)),
 )
 
--- a pair lies in one tooth at most
+-- both nodes of a pair are in one tooth at most
 within_below : (handle : ℕ → Bool) (i j : ℕ) (teeth : List (ℕ → Bool)) → Apart teeth → sum_int_by (λ tooth. within handle tooth i j) teeth ≤ℤ crossing handle i j
 within_below handle i j [] apart = (none_or_one (crosses handle (i, j))).0
 within_below handle i j (t ∷ ts) apart = elim (cases_Bool (t i && t j)) [

@@ -1,4 +1,5 @@
--- The crossings of sets are those of the combs whose sets they are. For the law `sets_tell_combs` in src/set_laws.rt.
+-- The crossings of two nodes, summed over the sets of all families at once, are those summed family by family. For the
+-- law `sets_tell_combs` in src/set_laws.rt.
 use Rattle.std.proofs.Common.{◌≡◌, ℕ, zero, suc, List, [], ◌∷◌, get_or, map, ℤ, refl, ap, ap₂, sym, ◌∙◌, arith}
 use Rattle.std.specs.Prelude.{pos, negsuc, ◌+ℤ◌, ◌*ℤ◌}
 use Rattle.std.proofs.Math.IntN.{suc_ℤ-*ℤ, pred_ℤ-*ℤ, zero-*ℤ, *ℤ-zero}

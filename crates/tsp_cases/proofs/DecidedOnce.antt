@@ -1,5 +1,5 @@
--- Where no two decisions are on the same nodes, a weight changes by no more than one decision does. For
--- `CaseLeaf::bound_by_trees` in src/case_leaf.rt of tsp_branch and others.
+-- Where no two decisions are on the same pair, the decisions of a case change a weight by no more than one of them
+-- does. For `CaseLeaf::bound_by_trees` in src/case_leaf.rt of tsp_branch and others.
 use Rattle.std.proofs.Common.{◌≡◌, ◌∙◌, ℕ, zero, suc, ◌==◌, ◌&&◌, Bool, true, false, List, [], ◌∷◌, ◌++◌, ◌⊎◌, inl, inr, refl, ap, sym, arith}
 use Rattle.std.specs.Prelude.{pos, neg_ℤ, ◌+ℤ◌, reverse}
 use Rattle.std.specs.List.{AllByRecursion}
@@ -14,7 +14,7 @@ use Rattle.tsp_cases.specs.declared.decision.Decision.{Decision}
 use Rattle.tsp_cases.specs.Decisions.{DecideOnce, decided_number}
 use Rattle.tsp_cases.specs.states.Decided.{signed, changes, AreFewChanges}
 
--- two pairs that are both on two nodes
+-- two pairs on the same two nodes are the same pair, in either order
 abbrev pub Same : ℕ × ℕ → ℕ → ℕ → Type 0
 Same p i j = ((p.0 ≡ i) × (p.1 ≡ j)) ⊎ ((p.1 ≡ i) × (p.0 ≡ j))
 

@@ -1,5 +1,5 @@
--- A cycle that keeps decisions uses the taken pairs and none of the avoided. For the laws `decided_bounds_bound_cycles` and
--- `fixed_bounds_bound_tours` in src/laws.rt.
+-- A cycle that keeps decisions uses the taken pairs and none of the avoided ones, so bounds of tsp_theory are bounds of
+-- it. For the laws `decided_bounds_bound_cycles` and `fixed_bounds_bound_tours` in src/laws.rt.
 use Rattle.std.proofs.Common.{ℕ, Bool, true, false, List, [], ◌∷◌, map, ℤ, sym, subst}
 use Rattle.std.specs.Prelude.{if◌then◌else◌}
 use Rattle.std.specs.List.{All, AllByRecursion}
@@ -39,7 +39,7 @@ takes_none nodes number decisions keeps = All-from_recursion Unused (on_avoided 
     each [] kept = tt
     each (d ∷ ds) kept = one_more d.taken d.pair (on_avoided number ds) kept.0 (each ds kept.1)
 
--- ---- the theorems of tsp_theory, in these words
+-- ---- the theorems of tsp_theory, for decisions
 
 pub decided_bounds_bound_cycles : AdjustedBoundsBoundCycles → DecidedBoundsBoundCycles
 decided_bounds_bound_cycles bounds n cost scale potentials number decisions bound nodes some even scale_in long is cycle keeps =

@@ -1,4 +1,5 @@
--- Sets as a family: a lone set or a comb, others, and none. For `have_each_once` in src/other_families.rt and others.
+-- Which kind of family sets are: a lone set or a comb, another family, or none; and its least and most crossings. For
+-- `have_each_once` in src/other_families.rt and others.
 use Rattle.std.proofs.Common.{◌≡◌, ◌∙◌, ℕ, suc, ◌+◌, ◌-◌, ◌<◌, ◌≤◌, false, List, [], ◌∷◌, length, get_or, inl, inr, refl, ap, sym, subst, arith}
 use Rattle.std.specs.Prelude.{pos, Some}
 use Rattle.std.specs.List.{All}
@@ -33,9 +34,9 @@ known_found n count sets own long least most good = (
   good.once,
 )
 
--- ---- others
+-- ---- other families
 
--- no sets are none
+-- no sets are no family
 no_sets : (n : ℕ) → IsGoodFamily n [] → ⊥
 no_sets n good = elim good.family [
   | inl known ↦ elim known.kind [

@@ -1,5 +1,5 @@
--- Sums of the numbers of families, each times its multiplier, in the order in which code takes them. For `sum_with` in
--- src/good_numbers.rt.
+-- The sum of the least crossings of all families, each times its multiplier, in the order in which code takes them. For
+-- `sum_with` in src/good_numbers.rt.
 use Rattle.std.proofs.Common.{◌≡◌, ◌∙◌, ℕ, suc, Bool, true, false, ◌+◌, ◌*◌, ◌<◌, ◌^◌, List, [], ◌∷◌, drop, length, get_or, ℤ, ◌≤ℤ◌, FitsSigned, refl, ap, arith, to_z, of_z, drop-cons, add-one}
 use Rattle.std.specs.Prelude.{pos, ◌+ℤ◌, ◌*ℤ◌}
 use Rattle.std.specs.Int.{w128}
@@ -50,7 +50,7 @@ adds_family sum m index r a b so_far own few small a_is b_is =
       computed = to_z-of_z w128 (sum +ℤ (m *ℤ pos r)) fits;
     }
 
--- what families give back is no more than 2^34 times their multipliers
+-- the sum that families give back is at most 2^34 times their multipliers
 least_size : (crossed : List Crossings) (ms : List ℤ) → AllByRecursion IsSmall crossed → AllByRecursion (λ m. pos 0 ≤ℤ m) ms
     → (pos 0 ≤ℤ sum_with false crossed ms) × (sum_with false crossed ms ≤ℤ (pos (2 ^ 34) *ℤ total ms))
 least_size [] [] small signs = (omega (arith, ints), omega (arith, ints))

@@ -1,4 +1,5 @@
--- Families one after the other: their numbers, and the first one that isn't good. For `judge_families` in src/good_families.rt.
+-- The families of a certificate, one after the other: the least and most crossings of each, and the first one that is
+-- bad. For `judge_families` in src/good_families.rt.
 use Rattle.std.proofs.Common.{◌≡◌, ◌∙◌, ℕ, suc, ◌+◌, ◌<◌, ◌≤◌, List, [], ◌∷◌, ◌++◌, length, get_or, inl, inr, ap, sym, subst, arith, length-append}
 use Rattle.std.specs.Prelude.{Some}
 use Rattle.std.specs.Global.{Vec}
@@ -13,7 +14,7 @@ use Rattle.tsp_cases.specs.FamiliesOfSets.{family_with, families_with}
 use Rattle.tsp_cases.specs.GoodFamilies.{HasEachOnce, IsGoodFamily, IsFirstBadFamily, AreFamilies}
 use Rattle.tsp_cases.specs.states.FamilyNumbers.{AreFamilyNumbers}
 
--- ---- the family that is next, as it is read
+-- ---- the sets of the next family
 
 module _ (families : List (Vec (Vec ℕ))) (index : ℕ) (own : Vec (Vec ℕ)) (read : List (Vec ℕ)) (lt : index < length families) (is : own ≡ get_or families index own) (same : read ≡ own.items) where
   pub sets_here : lists_of read ≡ get_or (families_in families) index []
@@ -24,7 +25,7 @@ module _ (families : List (Vec (Vec ℕ))) (index : ℕ) (own : Vec (Vec ℕ)) (
 
 -- ---- all families
 
--- the families so far have their numbers
+-- each family so far has its least and most crossings
 abbrev pub HaveNumbers : ℕ → List (List (List ℕ)) → List Crossings → Type 0
 HaveNumbers n families crossed = (k : ℕ) (default : Crossings) → k < length crossed → AreFamilyNumbers n (get_or families k []) (Some (get_or crossed k default))
 

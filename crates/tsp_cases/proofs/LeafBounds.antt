@@ -1,5 +1,5 @@
--- The bound of a least 1-tree under weights less the crossings of families. For the law `leaf_bounds_bound_cycles` in
--- src/laws.rt.
+-- The bound of a leaf by a least 1-tree, with weights lowered at crossings of families, is at most the length of its
+-- cycles. For the law `leaf_bounds_bound_cycles` in src/laws.rt.
 use Rattle.std.proofs.Common.{◌≡◌, ℕ, zero, suc, List, [], ◌∷◌, ℤ, ◌≤ℤ◌, refl, arith, ap, ap₂, subst₂}
 use Rattle.std.specs.Prelude.{pos, negsuc, ◌*ℤ◌, ◌-ℤ◌, ◌+ℤ◌, Bool}
 use Rattle.std.specs.List.{AllByRecursion}
@@ -40,7 +40,7 @@ pub leaf_even : (scale : ℤ) (potentials : List ℤ) (taken avoided : List (ℕ
 leaf_even scale potentials taken avoided combs cost even i j =
     ap₂ (λ a b. a -ℤ b) (adjusted_even taken avoided (weight_between scale potentials cost) (weight_even scale potentials cost even) i j) (combs_even combs i j)
 
--- ---- what the families take off a cycle
+-- ---- a cycle crosses each family as often as its number says, so it loses at least the sum given back
 
 pub product_below : (m : ℕ) (a b : ℤ) → a ≤ℤ b → (pos m *ℤ a) ≤ℤ (pos m *ℤ b)
 product_below zero a b h = let first = zero-*ℤ a in let second = zero-*ℤ b in omega (arith, ints, first, second)
@@ -71,7 +71,7 @@ leaf_bounds_bound_cycles laws crossed n cost scale potentials taken avoided comb
     let less = combs_of_cycle n nodes combs laws crossed cycle (recursion_from_All (λ c. IsFamily n c.0 × (pos 0 ≤ℤ c.1)) combs are) in
     is.bound_is.least (length_of cost nodes) (omega (arith, ints, below, split, own, less))
 
--- ---- no family
+-- ---- without families the bound is that of tsp_theory
 
 uncombed_weight : (w : ℕ → ℕ → ℤ) (pairs : List (ℕ × ℕ)) → weight_of (combed [] w) pairs ≡ weight_of w pairs
 uncombed_weight w [] = refl

@@ -1,4 +1,5 @@
--- One pass over the leaves: what its code finds at a step settles the whole. For `judge_leaves` in src/pass.rt.
+-- A round of the loop over the steps: what code finds at a branch or a leaf, and at the end, is as Passes.antt says.
+-- For `judge_leaves` in src/pass.rt.
 use Rattle.std.proofs.Common.{◌≡◌, ◌∙◌, ℕ, zero, suc, ◌+◌, ◌^◌, ◌<◌, ◌≤◌, Bool, true, false, List, [], ◌∷◌, ◌++◌, length, drop, get_or, ℤ, inl, inr, refl, sym, ap, subst, arith, add-one, length-append}
 use Rattle.std.specs.Prelude.{Option, None, Some, IfSome}
 use Rattle.std.specs.List.{All}
@@ -22,16 +23,16 @@ use Rattle.tsp_cases.proofs.ListPlaces.{left_at}
 use Rattle.tsp_cases.proofs.OnePass.{first_bad_by_place}
 use Rattle.tsp_cases.proofs.Passes.{IsAtStep, IsPassing, at_leaf, at_step, passed}
 
--- the decisions of a case, those of its stack and the given ones
+-- the decisions of a case are those on its stack and the given ones
 pub few_decided : (stack given : List Decision) → length stack < 2 ^ 32 → length given < 2 ^ 32 → length (stack_of stack ++ given) < 2 ^ 33
 few_decided stack given few few_given =
     let sum = length-append (stack_of stack) given in
     let same = length-reverse stack in
     omega (arith, sum, same, few, few_given)
 
--- ---- the steps
+-- ---- the step that is next
 
--- a whole tree, whatever its numbers
+-- whether steps are a whole tree doesn't depend on the numbers of its leaves
 pub whole_trees : (n : ℕ) (numbers : List ℤ) (count : ℕ) (steps : List listed.Step) → are_whole count steps ≡ are_case_trees count
     (steps_from n numbers steps)
 whole_trees n numbers zero [] = refl
@@ -112,13 +113,13 @@ module _ (Found : List Decision × LeafNumbers → Option ℤ → Type 0) (Good 
       → AreSmall new
   small_found numbers stack changes new found own judged some = (subst (JudgedAs numbers stack changes new) some judged).2
 
-  -- what is known of the cases of leaves holds of the one of this leaf
+  -- a statement on the cases of all leaves is one on the case of this leaf
   pub fits_here : (numbers : List ℤ) (stack : List Decision) (lowest : Option ℤ) (leaf : ℕ) (changes : List (ℕ × ℤ))
       (rest : List listed.Step)
       → AtNext numbers stack lowest leaf (listed.Leaf changes ∷ rest) → Fits (stack_of stack ++ given)
   fits_here numbers stack lowest leaf changes rest at = at.once.0
 
--- the lowest bound so far is as small as each
+-- the lowest bound so far fits, as the bound of each leaf does
 pub low_sized : (lowest own lower : Option ℤ) (found : JudgedLeaf) → IfSome lowest IsBoundSized → IsSizedLeaf found
     → found ≡ leaves.Found own → IsLowest lowest own lower → IfSome lower IsBoundSized
 low_sized lowest own lower found before here some is = sized lowest own before (subst IsSizedLeaf some here) is

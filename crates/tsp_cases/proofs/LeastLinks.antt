@@ -1,5 +1,5 @@
--- The least weights of the allowed links sum to no more than the links of a cycle weigh. For the laws `links_are_allowed` and
--- `sums_are_below_cycles` in src/laws.rt.
+-- The least allowed links from all nodes weigh no more than a cycle that keeps the decisions. For the laws
+-- `links_are_allowed` and `sums_are_below_cycles` in src/laws.rt.
 use Rattle.std.proofs.Common.{ℕ, get_or, ℤ, ◌≤ℤ◌, arith}
 use Rattle.std.proofs.lemmas.Int.{ints}
 use Rattle.std.proofs.lemmas.List.Elements.{recursion_from_All, Contains-get_or}

@@ -1,5 +1,5 @@
--- A cycle leaves each node once and enters it once, by a link to another node; so its links are allowed by what it keeps. For
--- the law `links_are_allowed` in src/laws.rt.
+-- A cycle has one link out of each node and one into it, so a link that a decision forbids isn't in a cycle that keeps
+-- it. For the law `links_are_allowed` in src/laws.rt.
 use Rattle.std.proofs.Common.{◌≡◌, ◌≢◌, ℕ, zero, suc, ◌≤◌, ◌==◌, ◌&&◌, ◌||◌, Bool, true, false, List, [], ◌∷◌, ◌+ℤ◌, ◌≤ℤ◌, inl, inr, refl, sym, ap, ◌∙◌, subst, arith}
 use Rattle.std.specs.Prelude.{pos}
 use Rattle.std.specs.List.{AllPairs, AllByRecursion, Contains, list_any}

@@ -1,5 +1,5 @@
--- Lists by their places: one that was written over whole, and the step that is next. For `judge_leaves` in src/pass.rt and
--- others.
+-- A list that a call has written over, and the step at an index of a tree of cases. For `judge_leaves` in src/pass.rt
+-- and others.
 use Rattle.std.proofs.Common.{◌≡◌, ◌∙◌, ℕ, ◌+◌, ◌<◌, List, ◌∷◌, ◌++◌, length, take, drop, get_or, sym, ap, subst, arith, drop-cons, add-one}
 use Rattle.std.specs.List.{All}
 use Rattle.std.proofs.lemmas.List.{get_or-map, length-map, take-append-le, take_all}

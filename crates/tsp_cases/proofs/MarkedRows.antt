@@ -1,5 +1,5 @@
--- The marks in rows that are kept: a number between two nodes, and the decisions of a case. For `KeptRows::leave` in
--- src/kept.rt and others.
+-- The decisions of a case as marks in the rows kept from leaf to leaf: a number between both nodes of each pair. For
+-- `KeptRows::mark` and `KeptRows::leave` in src/kept.rt and others.
 use Rattle.std.proofs.Common.{◌≡◌, ◌≢◌, ℕ, zero, suc, ◌+◌, ◌-◌, ◌<◌, ◌≤◌, ◌==◌, ◌&&◌, Bool, true, false, Option, None, List, [], ◌∷◌, ◌++◌, length, replicate, take, inl, inr, refl, sym, ap, subst, ◌∙◌, arith}
 use Rattle.std.specs.Prelude.{ℤ, pos, neg_ℤ, ◌+ℤ◌, ◌*ℤ◌, if◌then◌else◌, slice_index_or as get_or}
 use Rattle.std.specs.Int.{w64, int_wrap}
@@ -22,7 +22,7 @@ use Rattle.tsp_cases.proofs.DecidedOnce.{Same, told}
 use Rattle.tsp_cases.proofs.NextCases.{stack_more}
 use Rattle.tsp_cases.proofs.RowsKept.{row_brought, kept_at_start, small_at_start, ends_at_start}
 
--- ---- marks that come to the same
+-- ---- equal marks
 
 pub same_rows : (n : ℕ) (cost w v : ℕ → ℕ → ℤ) (rows : List (Vec ℤ)) → ((i x : ℕ) → w i x ≡ v i x) → AreRowsIfAny n cost w rows → AreRowsIfAny n cost v rows
 same_rows n cost w v rows same all some =
@@ -64,12 +64,12 @@ off_pair pair number i x none = elim (cases_Bool (is_same_pair pair (i, x))) [
   | inr other ↦ rw other refl
 ]
 
--- what two additions, each in the row of a node of the pair, do to a row
+-- a number added in both rows of a pair is in each row between its node and the other one
 abbrev IsRowMarked : ℕ × ℕ → ℤ → ℕ → List ℤ → List ℤ → Type 0
 IsRowMarked pair number k old new =
     (length new ≡ length old) × ((x : ℕ) → IsMoved (added_between pair number (k + 1) x) (least_at old x) (least_at new x))
 
--- plan: by cases of the row, which is that of the first node, of the second, or of neither, and of the place in it
+-- plan: by whether the row is that of the first node, of the second, or of neither, and by the place in it
 marked_between : (n : ℕ) (pair : ℕ × ℕ) (number : ℤ) (old mid new : List (Vec ℤ)) (k : ℕ) (default : Vec ℤ) → AreTwoNodes n pair
     → IsAddedAt (pair.0 - 1) pair.1 number old mid → IsAddedAt (pair.1 - 1) pair.0 number mid new → k < length old
     → IsRowMarked pair number k (get_or old k default).items (get_or new k default).items
@@ -151,15 +151,15 @@ pub some_left : (k : ℕ) → (k == 0) ≡ false → 1 ≤ k
 some_left zero is = absurd (both_ways true is refl)
 some_left (suc k) is = omega arith
 
--- ---- decisions
+-- ---- the number of a decision
 
--- one more
+-- one decision more
 pub decision_more : (directed : Bool) (d : Decision) (case : List Decision) (number : ℤ) (i x : ℕ) → directed ≡ false → number ≡ signed d.taken
     → added_between d.pair number i x +ℤ marks_in directed case i x ≡ marks_in directed (d ∷ case) i x
 decision_more true d case number i x both is = absurd (both_ways true both refl)
 decision_more false d case number i x both is = ap (λ (z : ℤ). added_between d.pair z i x +ℤ changes case i x) is
 
--- one less
+-- one decision less
 pub decision_less : (d : Decision) (case : List Decision) (number : ℤ) (i x : ℕ) → number ≡ neg_ℤ (signed d.taken)
     → added_between d.pair number i x +ℤ changes (d ∷ case) i x ≡ changes case i x
 decision_less d case number i x is = elim (cases_Bool (is_same_pair d.pair (i, x))) [
@@ -167,9 +167,9 @@ decision_less d case number i x is = elim (cases_Bool (is_same_pair d.pair (i, x
   | inr other ↦ rw other (omega (arith, ints))
 ]
 
--- ---- the stack
+-- ---- the stack of decisions
 
--- up to a place, and one more
+-- the stack up to a place, and with one decision more
 pub stack_to : (stack : List Decision) (left : ℕ) (d : Decision) → left < length stack
     → stack_of (take (left + 1) stack) ≡ get_or stack left d ∷ stack_of (take left stack)
 stack_to stack left d less = ap stack_of (take_more stack left d less) ∙ stack_more (take left stack) (get_or stack left d)
@@ -183,7 +183,7 @@ pub none_next : (stack next : List Decision) (is_open : Bool) → next_stack (st
 none_next stack next true none is = absurd (none-some (stack_of next) (sym none ∙ is))
 none_next stack next false none is = is.1
 
--- directed: nothing is marked of either list
+-- where pairs have a direction, nothing is marked
 pub directed_same : (directed : Bool) (a b : List Decision) (i x : ℕ) → directed ≡ true → marks_in directed a i x ≡ marks_in directed b i x
 directed_same true a b i x is = refl
 directed_same false a b i x is = absurd (both_ways false refl is)

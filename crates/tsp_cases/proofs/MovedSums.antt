@@ -1,4 +1,5 @@
--- What the multipliers of the sets take off the potentials, set by set. For `take_multipliers` in src/moved.rt and others.
+-- The multipliers of a node's sets, taken off its potential family by family and set by set. For `take_multipliers` in
+-- src/moved.rt and others.
 use Rattle.std.proofs.Common.{◌≡◌, ℕ, ◌+◌, ◌<◌, ◌==◌, List, [], ◌∷◌, drop, length, get_or, inl, inr, refl, ap, ◌∙◌, arith, drop-cons, add-one}
 use Rattle.std.specs.Prelude.{ℤ, pos, neg_ℤ, ◌+ℤ◌}
 use Rattle.std.specs.Int.{w64, int_wrap}

@@ -1,4 +1,5 @@
--- The stack of a cycle over the steps, whose last decision is at the end of a list. For `OpenCase::next` in src/open_case.rt.
+-- The next case after a leaf: the topmost taken pair of the stack becomes avoided, where code has the top at the end of
+-- a list. For `OpenCase::next` in src/open_case.rt.
 use Rattle.std.proofs.Common.{◌≡◌, ◌+◌, false, List, [], ◌∷◌, ◌++◌, refl, ap, ◌∙◌}
 use Rattle.std.proofs.lemmas.List.{reverse-append}
 use Rattle.tsp_cases.specs.declared.decision.Decision.{Decision}

@@ -1,4 +1,5 @@
--- Marks by node: the list with one mark more, and the facts of a node that has one. For `mark_nodes` in src/marks.rt.
+-- Marks by node: a list of nodes is marked if no node comes twice, and none had the mark before. For `mark_nodes` in
+-- src/marks.rt.
 use Rattle.std.proofs.Common.{◌≡◌, ◌≢◌, ◌∙◌, ℕ, ◌+◌, ◌<◌, ◌==◌, ◌||◌, true, false, List, [], ◌∷◌, ◌++◌, take, length, get_or, inl, inr, ap, sym, subst, arith}
 use Rattle.std.proofs.Math.ListN.{set}
 use Rattle.std.proofs.Math.Bool.{or-true, or-false, or_assoc}

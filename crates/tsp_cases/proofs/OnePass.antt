@@ -1,5 +1,5 @@
--- The first bad leaf, and the first branch that comes twice, as one pass over the steps finds them, and that each is the first
--- by places. For the law `examples_of_verdicts` in src/examples.rt.
+-- The first bad leaf, and the first branch on a pair decided above it, are the same in one pass over the steps and by
+-- index. For `judge_leaves` in src/pass.rt and others.
 use Rattle.std.proofs.Common.{◌≡◌, ℕ, zero, suc, ◌+◌, ◌-◌, ◌<◌, Bool, true, false, List, [], ◌∷◌, get_or, take, length, ℤ, inl, inr, subst, arith}
 use Rattle.std.specs.Prelude.{◌⊎◌}
 use Rattle.tsp_format.specs.Steps as listed
@@ -10,14 +10,14 @@ use Rattle.tsp_cases.specs.Twice.{is_decided, Divided, branches_of_cases, IsFirs
 
 -- ---- leaves
 
--- all leaves are good, where the leaf before had these numbers
+-- all leaves are good, if the leaf before them had these numbers
 abbrev pub AreGoodFrom : (LeafNumbers → Type 0) → ℕ → ℕ → List ℤ → List listed.Step → Type 0
 AreGoodFrom Good n combs numbers [] = Unit {0}
 AreGoodFrom Good n combs numbers (listed.Branch a b ∷ steps) = AreGoodFrom Good n combs numbers steps
 AreGoodFrom Good n combs numbers (listed.Leaf changes ∷ steps) =
     IsGoodLeafBy Good n combs numbers changes × AreGoodFrom Good n combs (all_grown changes numbers) steps
 
--- the first leaf that isn't good, counted on from the leaf before
+-- the index of the first leaf that isn't good, counted from the leaf before
 abbrev pub IsFirstBadFrom : (LeafNumbers → Type 0) → ℕ → ℕ → List ℤ → ℕ → List listed.Step → ℕ → Type 0
 IsFirstBadFrom Good n combs numbers leaf [] bad = ⊥
 IsFirstBadFrom Good n combs numbers leaf (listed.Branch a b ∷ steps) bad = IsFirstBadFrom Good n combs numbers leaf steps bad

@@ -1,4 +1,5 @@
--- The decisions of a case by node, as decisions come and go. For `NodeDecisions::add` in src/node_decisions.rt and others.
+-- The decisions of the open case, listed at the nodes of their pairs, after one decision is added or dropped. For
+-- `NodeDecisions::add` in src/node_decisions.rt and others.
 use Rattle.std.proofs.Common.{◌≡◌, ◌≢◌, ℕ, suc, ◌+◌, ◌-◌, ◌<◌, ◌≤◌, ◌==◌, Bool, true, false, List, [], ◌∷◌, ◌++◌, get_or, length, take, drop, inl, inr, refl, ap, sym, subst, ap₂, ◌∙◌, arith}
 use Rattle.std.specs.Prelude.{◌⊎◌, pos}
 use Rattle.std.specs.Global.{Vec}
@@ -20,7 +21,7 @@ use Rattle.tsp_cases.specs.states.OpenCases.{bears_on, listed_at, AreByNode, Hav
 use Rattle.tsp_cases.proofs.DecidedOnce.{told, changes_turned}
 use Rattle.tsp_cases.proofs.NextCases.{stack_more}
 
--- ---- lists of which one changes
+-- ---- the stack of decisions
 
 -- a stack without its last one
 pub stack_less : (stack : List Decision) (last : Decision) (rest : List Decision) → stack_of stack ≡ last ∷ rest → stack_of (take (length stack - 1) stack) ≡ rest
@@ -33,7 +34,7 @@ stack_less stack last rest is =
     ap stack_of (sym whole ∙ take_more stack k last lt) ∙ stack_more (take k stack) (get_or stack k last) in
     ap (λ (ds : List Decision). drop 1 ds) (sym parts ∙ is)
 
--- ---- on which rows a decision bears
+-- ---- the nodes in whose rows a decision changes weights
 
 pub first_bears : (directed : Bool) (x : ℕ) (d : Decision) → d.pair.0 ≡ x → bears_on directed x d ≡ true
 first_bears directed x d same = rw (eq-eqb d.pair.0 x same) refl
@@ -61,7 +62,7 @@ same_bears false pair d h = elim (told pair d.pair.0 d.pair.1 h) [
   | inr turned ↦ second_bears pair.0 d (sym turned.1)
 ]
 
--- so the decisions of that row tell whether the pair is decided
+-- so the list at that node says whether the pair is decided
 pub decided_at : (directed : Bool) (pair : ℕ × ℕ) (own case : List Decision) → stack_of own ≡ filter (bears_on directed pair.0) case
     → list_any (λ d. is_same directed pair d.pair) own ≡ is_decided directed case pair
 decided_at directed pair own case is =
@@ -69,7 +70,7 @@ decided_at directed pair own case is =
     list_any-IsPermutation test own (stack_of own) (IsPermutation-reverse own)
     ∙ ap (list_any test) is ∙ any-filter_same test (bears_on directed pair.0) true (same_bears directed pair) case
 
--- ---- a decision more
+-- ---- the lists with one decision more
 
 abbrev pub AreListed : Bool → ℕ → List (Vec Decision) → List Decision → Type 0
 AreListed directed n lists case = (x : ℕ) (default : Vec Decision) → x ≤ n → listed_at lists x default ≡ filter (bears_on directed x) case
@@ -106,7 +107,7 @@ more_both n old mid new case d long differ first_in second_in first second was x
   ]
 ]
 
--- ---- a decision less
+-- ---- the lists with one decision less
 
 pub less_directed : (n : ℕ) (old new : List (Vec Decision)) (case : List Decision) (d : Decision) → length old ≡ n + 1 → HaveOneLess d.pair.0 old new
     → AreListed true n old (d ∷ case) → AreListed true n new case
@@ -143,12 +144,12 @@ less_both n old mid new case d long differ first second was x default most = eli
       ]
 ]
 
--- ---- the step of code
+-- ---- the lists by node, and the list of taken pairs
 
 abbrev pub is_taken : Decision → Bool
 is_taken decision = decision.taken
 
--- a decision has come to the lists, or has gone, and not yet to those that take their pair
+-- the lists by node have changed by a decision, and the list of taken pairs not yet
 pub record ListsNow (n : ℕ) (case : List Decision) (old new : NodeDecisions) : Type 0 where
   pub directed : new.directed ≡ old.directed
   pub taken : new.taken ≡ old.taken
@@ -213,7 +214,7 @@ by_node_now n case old mid new now directed lists taken = record {
   taken = taken;
 }
 
--- ---- the open case
+-- ---- the open case with one decision more or less
 
 pub case_more : (n : ℕ) (old new : OpenCase) (d : Decision) → IsOpenCase n old → IsDecision n d → new.stack.items ≡ old.stack.items ++ d ∷ [] → new.given.now ≡ old.given.now
     → AreByNode n new.by_node (d ∷ decisions_in old) → IsOpenCase n new
@@ -246,7 +247,7 @@ case_same n old new is stack_is given_is by_node =
       by_node = subst (λ (ds : List Decision). AreByNode n new.by_node ds) same by_node;
     }
 
--- ---- what decisions change in a row
+-- ---- the weights that the decisions at a node change
 
 pub changes_borne : (case : List Decision) (from x : ℕ) → changes (filter (bears_on false from) case) from x ≡ changes case from x
 changes_borne [] from x = refl
@@ -262,6 +263,6 @@ changes_borne (d ∷ case) from x =
       ]
     ]
 
--- by the list of a node, in either order
+-- the list of a node changes them as the case does, in either order
 pub changes_listed : (case own : List Decision) (from x : ℕ) → stack_of own ≡ filter (bears_on false from) case → changes own from x ≡ changes case from x
 changes_listed case own from x is = sym (changes_turned own from x) ∙ ap (λ (ds : List Decision). changes ds from x) is ∙ changes_borne case from x

@@ -1,5 +1,5 @@
--- One pass over the steps, with a stack of decisions: what the leaves that are left make of the lowest bound so far is what all
--- leaves have. For `judge_leaves` in src/pass.rt.
+-- One pass over the steps with a stack of decisions: the lowest bound so far, with the leaves still to come, has the
+-- least bound of all leaves. For `judge_leaves` in src/pass.rt.
 use Rattle.std.proofs.Common.{◌≡◌, ◌∙◌, ℕ, suc, Bool, true, false, List, [], ◌∷◌, ◌++◌, length, ℤ, ◌≤ℤ◌, inl, inr, refl, ap, sym, subst, arith}
 use Rattle.std.specs.Prelude.{◌⊎◌, Option, Some, None, IfSome}
 use Rattle.std.specs.List.{All, Any, AllByRecursion}
@@ -22,7 +22,7 @@ use Rattle.tsp_cases.proofs.OnePass.{AreGoodFrom, IsFirstBadFrom, all_good_by_pl
 -- ---- the least of the known bounds and of leaves, whatever is found of a leaf
 
 module _ (Found : List Decision × LeafNumbers → Option ℤ → Type 0) where
-  -- the leaves that are left, and the lowest bound so far, come to this
+  -- the least of the lowest bound so far and of the bounds of the leaves still to come
   abbrev pub ComesTo : Option ℤ → List (List Decision × LeafNumbers) → Option ℤ → Type 0
   ComesTo lowest leaves None = (lowest ≡ None) × AllByRecursion (λ leaf. Found leaf None) leaves
   ComesTo lowest leaves (Some bound) = AllByRecursion (IsAbove Found bound) leaves × IfSome lowest (λ low. bound ≤ℤ low)
@@ -133,7 +133,7 @@ leaf_numbers Good n combs numbers (listed.Leaf changes ∷ steps) (case ∷ case
   leaf_numbers Good n combs (all_grown changes numbers) steps cases good.1,
 )
 
--- what is left to do from a step on, with the stack of the open case or none, and that it settles the whole
+-- from a step on, the result for the other steps is the result for the whole tree
 pub record IsAtStep (Found : List Decision × LeafNumbers → Option ℤ → Type 0) (Good : LeafNumbers → Type 0) (Fits : List Decision → Type 0) (n combs : ℕ)
     (given : List Decision) (all : List listed.Step) (numbers : List ℤ)
     (stack : Option (List Decision)) (lowest : Option ℤ) (leaf : ℕ) (steps : List listed.Step) : Type 0 where
@@ -220,7 +220,7 @@ module _ (Found : List Decision × LeafNumbers → Option ℤ → Type 0) (Good 
         all_good_by_place Good n combs all all_good,
       )
 
-  -- the same with the stack of code, whether its case is open or none is
+  -- the same for the code, whose stack has an open case or none
   abbrev pub IsPassing : List ℤ → List Decision → Option ℤ → ℕ → List listed.Step → Type 0
   IsPassing numbers stack lowest leaf steps = IsAtStep Found Good Fits n combs given all numbers
       (Some (stack_of stack)) lowest leaf steps

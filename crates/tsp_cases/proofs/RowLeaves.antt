@@ -1,4 +1,5 @@
--- The bound of a leaf by the least links from each node. For the law `row_leaf_bounds_bound_cycles` in src/laws.rt.
+-- The bound of a leaf by the least allowed link from each node is at most the length of each of its cycles. For the law
+-- `row_leaf_bounds_bound_cycles` in src/laws.rt.
 use Rattle.std.proofs.Common.{◌≡◌, ℕ, List, get_or, ℤ, ◌+ℤ◌, ◌≤ℤ◌, arith, subst}
 use Rattle.std.specs.Prelude.{pos, ◌*ℤ◌}
 use Rattle.std.specs.List.{All}
@@ -33,7 +34,7 @@ row_leaf_bounds_bound_cycles laws crossed sums n cost scale potentials families 
     let less = combs_of_cycle n nodes families laws crossed cycle (recursion_from_All (λ f. IsFamily n f.0 × (pos 0 ≤ℤ f.1)) families are) in
     is.bound_is.least (length_of cost nodes) (omega (arith, ints, below, outer, inner, whole, ends, less))
 
--- ---- one bound, or none
+-- ---- a leaf has one bound, or none
 
 nodes_in : (n : ℕ) → All (IsNode n) (nodes_to n)
 unfolding nodes_to
@@ -70,7 +71,7 @@ has_no_bound n w decisions scale given_back bound none is =
     let least = is.least.each none.from none.node in
     none.none least.to least.allowed
 
--- ---- weights that agree
+-- ---- equal weights have equal bounds
 
 pub agreed_rows : (n : ℕ) (w v : ℕ → ℕ → ℤ) (decisions : List Decision) (scale given_back bound : ℤ) → ((i j : ℕ) → w i j ≡ v i j) → IsRowBound n w decisions scale given_back bound
     → IsRowBound n v decisions scale given_back bound

@@ -1,5 +1,5 @@
--- Rows that are kept: one row more, other multipliers, and the weights that they give. For `KeptRows::bring_to` in src/kept.rt
--- and others.
+-- The rows kept from leaf to leaf, without decisions: scaled costs with what sets of two nodes add, brought to the
+-- multipliers of the next leaf. For `KeptRows::bring_to` in src/kept.rt and others.
 use Rattle.std.proofs.Common.{◌≡◌, ℕ, zero, suc, ◌+◌, ◌<◌, ◌==◌, List, [], ◌∷◌, ◌++◌, length, replicate, inl, inr, refl, sym, ap, subst, ◌∙◌, arith}
 use Rattle.std.specs.Prelude.{◌⊎◌, ℤ, pos, neg_ℤ, ◌+ℤ◌, ◌*ℤ◌, slice_index_or as get_or}
 use Rattle.std.specs.Int.{w64, int_wrap}
@@ -50,7 +50,7 @@ rows_more n cost weight count rows row are last = record {
     by_place k default (inr same) = subst (λ (m : ℕ). IsKeptRow n (cost (m + 1)) (weight (m + 1)) (get_or (rows ++ row ∷ []) m default).items) (sym same)
         (subst (λ (r : Vec ℤ). IsKeptRow n (cost (count + 1)) (weight (count + 1)) r.items) (sym (get_or_push rows row default count are.many)) last)
 
--- ---- other multipliers
+-- ---- rows and ends under other multipliers
 
 added_sum : (a b : ℤ) (nodes : List ℕ) (x : ℕ) → added (a +ℤ b) nodes x ≡ added a nodes x +ℤ added b nodes x
 added_sum a b [] x = refl
@@ -139,7 +139,7 @@ ends_brought n families old new differences ends brought are same moved was = re
       ∙ int_wrap-add_same w64 (least_at ends x) (neg_ℤ (multipliers_at old families x)) change (was.taken x x_in) ∙ ap (int_wrap w64) sum;
 }
 
--- the potential of a node with its end
+-- the potential of a node plus its end is the potential less its multipliers
 pub moved_from_ends : (potential end held taken : ℤ) → held ≡ int_wrap w64 (potential +ℤ end) → int_wrap w64 end ≡ int_wrap w64 taken → int_wrap w64 held ≡ int_wrap w64 (potential +ℤ taken)
 moved_from_ends potential end held taken held_is end_is =
     let turned : potential +ℤ end ≡ end +ℤ potential = omega (arith, ints) in
@@ -147,7 +147,7 @@ moved_from_ends potential end held taken held_is end_is =
     ap (int_wrap w64) held_is ∙ int_wrap_fits w64 (int_wrap w64 (potential +ℤ end)) (SFits-int_wrap w64 (potential +ℤ end)) ∙ ap (int_wrap w64) turned
     ∙ int_wrap-add_same w64 end taken potential end_is ∙ ap (int_wrap w64) back
 
--- ---- no multipliers
+-- ---- before the first leaf all multipliers are 0
 
 none_at : (count k : ℕ) → get_or (replicate count (pos 0)) k (pos 0) ≡ pos 0
 none_at count k = elim (cases_lt k count) [
@@ -204,9 +204,9 @@ pub small_at_start : (combs : ℕ) → AreSmallMultipliers (replicate combs (pos
 small_at_start combs k default less =
     rw (get_or-replicate combs k (pos 0) default (omega (arith, less, length-replicate combs (pos 0)))) (omega (arith, ints), omega (arith, ints))
 
--- ---- what the sets add, row by row
+-- ---- the sums that the sets add, row by row
 
--- the rows before this one have it, and the others are as they were
+-- the rows before this one have their sums, and the others are as they were
 pub record IsAddedTo (index : ℕ) (multipliers : List ℤ) (families : List (List (List ℕ))) (by_node : List (Vec SetPlace)) (old new : List (Vec ℤ)) : Type 0 where
   pub many : length new ≡ length old
   pub long : (k : ℕ) (a b : Vec ℤ) → k < length old → length (get_or new k a).items ≡ length (get_or old k b).items
@@ -214,7 +214,7 @@ pub record IsAddedTo (index : ℕ) (multipliers : List ℤ) (families : List (Li
       → IsMoved (inside_both multipliers families (get_or by_node (k + 1) c).items x) (least_at (get_or old k b).items x) (least_at (get_or new k a).items x)
   pub rest : (k : ℕ) (a b : Vec ℤ) → index < k + 1 → k < length old → get_or new k a ≡ get_or old k b
 
--- ---- the weights
+-- ---- a row plus both numbers has the weights of the leaf
 
 pub kept_at : (scale : ℤ) (potentials multipliers : List ℤ) (families : List (List (List ℕ))) (cost : ℕ → ℕ → ℤ) (from x : ℕ) (m k kept value : ℤ)
     → All (All HasEachOnce) families → IsFromTo (pos 0) (pos most_crossed) (set_crossings multipliers families from x)
@@ -234,7 +234,7 @@ kept_at scale potentials multipliers families cost from x m k kept value once cr
     value_is ∙ int_wrap-add_same w64 kept ((scaled +ℤ inside) +ℤ pos 0) both kept_is ∙ ap (int_wrap w64) order ∙ sym (int_wrap-add_left w64 (scaled +ℤ both) inside) in
     combed_at scale potentials multipliers families cost from x apart value once crossed (inr first, size) (inr gained)
 
--- the same with marks
+-- the same with the marks of decisions
 pub marked_at : (scale : ℤ) (potentials multipliers : List ℤ) (families : List (List (List ℕ))) (cost marks : ℕ → ℕ → ℤ) (from x : ℕ) (m k kept value : ℤ)
     → All (All HasEachOnce) families → IsFromTo (pos 0) (pos most_crossed) (set_crossings multipliers families from x)
     → IsFromTo (neg_ℤ (pos most_between)) (pos most_between) (weight_between scale potentials cost from x)

@@ -1,5 +1,5 @@
--- What the rows of code come to: each set takes its multiplier off the two nodes, and gives it back twice where it has both.
--- For `KeptRows::bring_to` in src/kept.rt.
+-- The crossings of two nodes by sets: each set takes its multiplier off every node that it has, and gives it back twice
+-- where it has both. For `KeptRows::bring_to` in src/kept.rt.
 use Rattle.std.proofs.Common.{◌≡◌, ◌≢◌, ℕ, suc, ◌+◌, ◌<◌, ◌==◌, Bool, true, false, not, List, [], ◌∷◌, ◌++◌, length, get_or, inl, inr, refl, ap, sym, subst, ◌∙◌, arith}
 use Rattle.std.specs.Prelude.{ℤ, pos, neg_ℤ, ◌+ℤ◌, ◌*ℤ◌, if◌then◌else◌}
 use Rattle.std.specs.List.{All, AllByRecursion}
@@ -20,7 +20,7 @@ use Rattle.tsp_cases.specs.states.Places.{place_at, IsPlaceIn}
 use Rattle.tsp_cases.specs.states.Combed.{summed_from, set_crossings, multipliers_at, twice_in, inside_both}
 pub use Rattle.tsp_tree.proofs.Additions.{moved_to}
 
--- a node that none of a list is
+-- a node that isn't in a list
 absent : (node : ℕ) (nodes : List ℕ) (x : ℕ) → node ≡ x → AllByRecursion (λ other. node ≢ other) nodes → has nodes x ≡ false
 absent node [] x same h = refl
 absent node (other ∷ nodes) x same h = rw (ne_eqb other x (λ e. h.0 (same ∙ sym e))) (absent node nodes x same h.1)
@@ -29,7 +29,7 @@ none_added : (number : ℤ) (nodes : List ℕ) (x : ℕ) → has nodes x ≡ fal
 none_added number [] x h = refl
 none_added number (node ∷ nodes) x h = let two = or_parts (node == x) (has nodes x) h in rw two.0 (let rest = none_added number nodes x two.1 in omega (arith, ints, rest))
 
--- where the nodes differ the number comes once
+-- in a list of different nodes a node gets the number once
 pub added_once : (number : ℤ) (nodes : List ℕ) (x : ℕ) → AllApart nodes → added number nodes x ≡ (if has nodes x then number else pos 0)
 added_once number [] x h = refl
 added_once number (node ∷ nodes) x h = elim (cases_eq node x) [
@@ -52,7 +52,7 @@ pub both_sums : (g : SetPlace → ℤ) (xs ys : List SetPlace) → sum_int_by g 
 both_sums g [] ys = omega (arith, ints)
 both_sums g (x ∷ xs) ys = let rest = both_sums g xs ys in omega (arith, ints, rest)
 
--- what a set gives: by tests of both nodes
+-- one set, by whether it has each of both nodes
 one_set : (p q : Bool) (m : ℤ) → (neg_ℤ (if p then m else pos 0) +ℤ neg_ℤ (if q then m else pos 0)) +ℤ (if p then (if q then (pos 2 *ℤ m) else pos 0) else pos 0)
     ≡ neg_ℤ (m *ℤ (if (if p then not q else q) then pos 1 else pos 0))
 one_set true true m = omega (arith, ints)
@@ -118,7 +118,7 @@ sets_come_to ms families i x once = families_come_to (λ place. twice_in ms fami
     (λ k s lt. ap (λ (f : ℕ). added (pos 2 *ℤ get_or ms (0 + k) (pos 0)) (get_or (get_or families f []) s []) x) (let e : 0 + k ≡ k = omega arith in e))
     (recursion_from_All (All HasEachOnce) families once)
 
--- ---- the places are those of sets
+-- ---- each place in a node's list is that of a set
 
 both_all : {X : Type 0} (P : X → Type 0) (xs ys : List X) → AllByRecursion P xs → AllByRecursion P ys → AllByRecursion P (xs ++ ys)
 both_all P [] ys h k = k

@@ -1,4 +1,5 @@
--- Additions to rows and lists, one node or one set after the other. For `add_to_nodes` in src/sets.rt and others.
+-- A number added to the row entries of a set's nodes, and a set put into the lists of its nodes, node by node. For
+-- `add_to_nodes` and `place_set` in src/sets.rt and others.
 use Rattle.std.proofs.Common.{◌≡◌, ℕ, suc, ◌+◌, ◌<◌, ◌==◌, List, [], ◌∷◌, ◌++◌, drop, length, get_or, inl, inr, refl, ap, sym, subst, ◌∙◌, drop-cons, add-one}
 use Rattle.std.specs.Prelude.{ℤ, pos, ◌+ℤ◌, if◌then◌else◌}
 use Rattle.std.specs.Global.{Vec}
@@ -45,7 +46,7 @@ listed_more place nodes index node lists slot new x a all lt node_is inside slot
           ∙ said a
     ]
 
--- a set more
+-- one set more of a family
 pub set_listed : (family number : ℕ) (sets : List (Vec ℕ)) (x : ℕ) (own : Vec ℕ) (old new all : List SetPlace) → number < length sets → own ≡ get_or sets number own
     → new ≡ old ++ times (place_at family number) own.items x → old ++ places_in family number (lists_of (drop number sets)) x ≡ all
     → new ++ places_in family (number + 1) (lists_of (drop (number + 1) sets)) x ≡ all
@@ -57,7 +58,7 @@ set_listed family number sets x own old new all lt own_is new_is said =
     ∙ rw (add-one number) (ap (λ (s : Vec ℕ). times (place_at family number) s.items x ++ places_in family (suc number) (lists_of (drop (suc number) sets)) x) (sym own_is)) in
     ap (λ ys. ys ++ rest) new_is ∙ append_assoc old here rest ∙ ap (λ ys. old ++ ys) (sym left) ∙ said
 
--- a family more
+-- one family more
 pub family_listed : (number : ℕ) (families : List (Vec (Vec ℕ))) (x : ℕ) (own : Vec (Vec ℕ)) (old new all : List SetPlace) → number < length families → own ≡ get_or families number own
     → new ≡ old ++ places_in number 0 (lists_of own.items) x → old ++ places_with number (families_in (drop number families)) x ≡ all
     → new ++ places_with (number + 1) (families_in (drop (number + 1) families)) x ≡ all

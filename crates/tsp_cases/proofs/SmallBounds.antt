@@ -1,4 +1,5 @@
--- The bounds of small certificates. For the law `examples_of_bounds` in src/examples.rt.
+-- The bounds of small certificates: four nodes with a branch, and six with a comb. For the law `examples_of_bounds` in
+-- src/examples.rt.
 use Rattle.std.proofs.Common.{◌≡◌, ℕ, ◌+◌, ◌≤◌, ◌==◌, ◌||◌, true, false, List, [], ◌∷◌, length, ℤ, ◌≤ℤ◌, inl, inr, refl, arith, ap₂, subst}
 use Rattle.std.specs.Prelude.{pos, ◌*ℤ◌, replicate, ◌-◌, slice_index, slice_index_or}
 use Rattle.std.specs.Int.Signed.{le_z_yes}
@@ -26,7 +27,7 @@ use Rattle.tsp_cases.proofs.SmallTrees.{near_one, grows_well, least_tree}
 costs_even : (rows : List (List ℕ)) → IsSymmetric (cost_in rows)
 costs_even rows = λ i j other. ap₂ (λ a b. pos (slice_index (slice_index_or rows (a - 1) []) (b - a - 1))) (min_comm i j) (max_comm i j)
 
--- the bound of a leaf, by a growth that is tested
+-- the bound of a leaf, whose least 1-tree SmallTrees.antt tests
 leaf_bound : (n : ℕ) (rows : List (List ℕ)) (scale : ℤ) (potentials : List ℤ) (taken avoided : List (ℕ × ℕ × ℤ)) (combs : List (Family × ℤ)) (bound : ℤ) (first second : ℕ) (added : List (ℕ × ℕ))
     → 3 ≤ n → 2 + length added ≡ n
     → near_one n (leaf_weight scale potentials taken avoided combs (cost_in rows)) first second ≡ true

@@ -1,4 +1,5 @@
--- Small families of sets of six nodes. For the law `examples_of_families` in src/family_examples.rt.
+-- Small families of sets of six nodes, of which the definitions give the least and most crossings. For the law
+-- `examples_of_families` in src/family_examples.rt.
 use Rattle.std.proofs.Common.{◌≡◌, ◌≢◌, ◌≤◌, ◌⊎◌, ℕ, suc, true, false, not, cond, List, [], ◌∷◌, length, ◌+ℤ◌, ◌≤ℤ◌, inl, inr, refl, ap, arith}
 use Rattle.std.specs.Prelude.{pos, ℤ}
 use Rattle.std.specs.List.{Any}

@@ -1,5 +1,5 @@
--- Links between three nodes, and the bounds of their least weights. For the law `examples_of_rows` in src/row_examples.rt and
--- others.
+-- Arcs between three nodes: which ones decisions allow, and the bounds of the least ones. For the law
+-- `examples_of_rows` in src/row_examples.rt and others.
 use Rattle.std.proofs.Common.{◌≡◌, ◌≢◌, ℕ, ◌-◌, List, [], ◌∷◌, ℤ, ◌≤ℤ◌, inl, inr, refl, sym, subst, arith}
 use Rattle.std.specs.Prelude.{pos, ◌*ℤ◌, ◌+ℤ◌, slice_index_or}
 use Rattle.std.specs.Int.Signed.{le_z_yes}
@@ -14,7 +14,7 @@ use Rattle.tsp_cases.specs.Examples.{with_pair, without_pair}
 use Rattle.tsp_cases.specs.LeafBound.{combed}
 use Rattle.tsp_cases.specs.RowExamples.{cost_of_three, ThreeHave, lone_one, LeafOfThreeHas}
 
--- what holds of 1 to 3 holds of three nodes
+-- a statement on 1 to 3 is one on three nodes
 of_three : (P : ℕ → Type 0) → P 1 → P 2 → P 3 → (i : ℕ) → IsNode 3 i → P i
 of_three P a b c i node = elim (cases_eq i 1) [
   | inl same ↦ subst P (sym same) a

@@ -1,5 +1,5 @@
--- A least 1-tree of a few nodes, whose growth is tested at each two of them. For the law `examples_of_bounds` in
--- src/examples.rt.
+-- A least 1-tree of a few nodes, by a growth by Prim's method that is tested pair by pair: SmallBounds.antt uses it.
+-- For the law `examples_of_bounds` in src/examples.rt.
 use Rattle.std.proofs.Common.{◌≡◌, ℕ, zero, suc, ◌+◌, ◌-◌, ◌<◌, ◌≤◌, ◌==◌, ◌&&◌, ◌||◌, Bool, true, false, not, leb, List, [], ◌∷◌, length, ℤ, ◌≤ℤ◌, inl, inr, refl, arith, subst}
 use Rattle.std.specs.Int.Signed.{le_z, le_z_yes}
 use Rattle.std.specs.List.{list_all, range_with_len}

@@ -1,5 +1,5 @@
--- Small combs that are bad, and small trees with a branch that comes twice. For the law `examples_of_verdicts` in
--- src/examples.rt.
+-- Small combs and lone sets that are bad, and a small tree with two arcs in opposite directions. For the law
+-- `examples_of_verdicts` in src/examples.rt.
 use Rattle.std.proofs.Common.{◌≡◌, ◌≢◌, ℕ, true, false, [], ◌∷◌, refl, sym, subst, inl, inr, arith}
 use Rattle.std.proofs.lemmas.Bool.{both_ways, cases_eq}
 use Rattle.std.proofs.lemmas.List.Elements.{All-from_recursion}
@@ -69,7 +69,7 @@ lone_set = record {
   );
 }
 
--- what holds of 1 to 6 holds of six nodes
+-- a statement on 1 to 6 is one on six nodes
 pub of_six : (P : ℕ → Type 0) → P 1 → P 2 → P 3 → P 4 → P 5 → P 6 → (i : ℕ) → IsNode 6 i → P i
 of_six P a b c d e f i node = elim (cases_eq i 1) [
   | inl same ↦ subst P (sym same) a

@@ -1,4 +1,5 @@
--- Teeth of a handle, set by set, and that they are those of a comb. For `is_comb` in src/good_families.rt and others.
+-- Whether sets are teeth of a handle, which don't meet, tooth by tooth by marks of nodes; and combs and lone sets by
+-- these. For `is_comb` in src/good_families.rt and others.
 use Rattle.std.proofs.Common.{◌≡◌, ◌∙◌, ℕ, zero, suc, ◌+◌, ◌*◌, ◌<◌, ◌≤◌, ◌==◌, ◌||◌, Bool, true, false, List, [], ◌∷◌, map, drop, length, get_or, inl, inr, refl, ap, sym, subst, arith, drop-cons, add-one}
 use Rattle.std.specs.Prelude.{◌↔◌}
 use Rattle.std.specs.List.{All, Any, AllPairs, AllByRecursion}
@@ -19,7 +20,7 @@ use Rattle.std.specs.Global.{Vec}
 
 -- ---- one tooth
 
--- that a node is in a list, and that it isn't
+-- a node is in a list, or isn't
 pub has_found : (nodes : List ℕ) (k node : ℕ) → k < length nodes → get_or nodes k node ≡ node → has nodes node ≡ true
 has_found nodes k node lt is = list_any_at (λ other. other == node) nodes k node lt (eq-eqb (get_or nodes k node) node is)
 
@@ -70,7 +71,7 @@ next_teeth n handle used new tooth teeth fresh is more =
       λ all. subst (λ (f : ℕ → Bool). AreTeeth n handle f teeth) (sym same) all.2,
     )
 
--- at the tooth that is next
+-- the next tooth
 module _ (n : ℕ) (handle used start : ℕ → Bool) (teeth : List (Vec ℕ)) (index : ℕ) (tooth : Vec ℕ) (nodes : List ℕ)
     (lt : index < length teeth) (is : tooth ≡ get_or teeth index tooth) (read : nodes ≡ tooth.items) where
   left : lists_of (drop index teeth) ≡ nodes ∷ lists_of (drop (index + 1) teeth)
@@ -93,7 +94,7 @@ module _ (n : ℕ) (handle used start : ℕ → Bool) (teeth : List (Vec ℕ)) (
 
 -- ---- the teeth of a comb
 
--- what teeth are, all at once
+-- the teeth of a comb, all at once
 record AreApartTeeth (n : ℕ) (handle used : ℕ → Bool) (teeth : List (List ℕ)) : Type 0 where
   reach : All (IsTooth n handle) (map has teeth)
   apart : AllPairs AreApart (map has teeth)
@@ -195,7 +196,7 @@ comb_teeth n used marked handle teeth some none same h = teeth_apart n marked us
   unused = none_used used teeth none;
 }))
 
--- by its sets
+-- by the sets of the family
 module _ (n : ℕ) (sets : List (Vec ℕ)) (handle : Vec ℕ) (teeth : List (Vec ℕ)) (nodes : List ℕ) (same : sets ≡ handle ∷ teeth) (read : nodes ≡ handle.items) where
   told : lists_of sets ≡ nodes ∷ lists_of teeth
   told = ap lists_of same ∙ ap (λ (ns : List ℕ). ns ∷ lists_of teeth) (sym read)

@@ -1,5 +1,6 @@
--- A certificate by branching: families of sets, and a tree of cases with numbers at its leaves. Two relaxations give the bound of
--- a leaf: for undirected pairs a least 1-tree, and for directed ones the least link from each node.
+-- The bound of a certificate by branching, as a theorem: families of sets, and a tree of cases with numbers at its
+-- leaves. A leaf's bound is by a least 1-tree where pairs have no direction, else by the least link from each node. For
+-- src/laws.rt and `CaseLeaf` (src/case_leaf.rt of tsp_branch).
 use Rattle.std.specs.Prelude.{◌≡◌, ◌⊎◌, ℕ, ◌≤◌, Bool, true, false, List, [], ◌∷◌, length, Option, Some, None, ℤ, pos, ◌≤ℤ◌}
 use Rattle.std.specs.List.{All, Any}
 use Rattle.tsp_theory.specs.Costs.{IsSymmetric}
@@ -19,7 +20,7 @@ multiplied [] multipliers = []
 multiplied (family ∷ families) [] = []
 multiplied (family ∷ families) (multiplier ∷ multipliers) = (family, multiplier) ∷ multiplied families multipliers
 
--- numbers that a leaf may have
+-- a potential for each of n nodes, and multipliers that aren't negative
 pub record AreLeafNumbers (n : ℕ) (numbers : LeafNumbers) : Type 0 where
   pub each_node : length numbers.potentials ≡ n
   pub signs : All (λ multiplier. pos 0 ≤ℤ multiplier) numbers.multipliers
@@ -49,12 +50,13 @@ IsFoundAt true n cost scale number families (case, numbers) None = HasNoLink n c
 abbrev pub IsAbove : (List Decision × LeafNumbers → Option ℤ → Type 0) → ℤ → List Decision × LeafNumbers → Type 0
 IsAbove found bound leaf = found leaf None ⊎ ((own : ℤ) × found leaf (Some own) × (bound ≤ℤ own))
 
--- the least of what is found of leaves: none where no leaf has a bound
+-- the least of the bounds that are found of leaves; none where no leaf has a bound
 abbrev pub IsLeastFound : (List Decision × LeafNumbers → Option ℤ → Type 0) → List (List Decision × LeafNumbers) → Option ℤ
     → Type 0
 IsLeastFound found leaves (Some bound) = All (IsAbove found bound) leaves × Any (λ leaf. found leaf (Some bound)) leaves
 IsLeastFound found leaves None = All (λ leaf. found leaf None) leaves
 
+-- the least bound of the leaves of a tree that begins with the given decisions
 abbrev pub IsCaseTreeBound : Bool → ℕ → (ℕ → ℕ → ℤ) → ℤ → ℤ → List Family → List Decision → List CaseStep → Option ℤ → Type 0
 IsCaseTreeBound directed n cost scale number families given steps found =
     IsLeastFound (IsFoundAt directed n cost scale number families) (leaves_of (given ∷ []) steps) found
@@ -66,7 +68,7 @@ abbrev pub AreCostsFor : Bool → ℕ → (ℕ → ℕ → ℤ) → Type 0
 AreCostsFor false n cost = (3 ≤ n) × IsSymmetric cost
 AreCostsFor true n cost = 2 ≤ n
 
--- a bound is at most the length of every cycle of the case, and where there is none, there is no such cycle
+-- a bound is at most the length of every cycle of the case; where there is none, the case has no cycle
 abbrev pub BoundsIfAny : Bool → ℕ → (ℕ → ℕ → ℤ) → List Decision → Option ℤ → Type 0
 BoundsIfAny directed n cost case (Some bound) = BoundsCase directed n cost bound case
 BoundsIfAny directed n cost case None = HasNoCycle directed n case
@@ -78,7 +80,7 @@ CaseTreesBoundCycles = (directed : Bool) (n : ℕ) (cost : ℕ → ℕ → ℤ) 
     → AreCostsFor directed n cost → IsScale scale → IsCaseTree n families given steps
     → IsCaseTreeBound directed n cost scale number families given steps found → BoundsIfAny directed n cost given found
 
--- Where the fixed pairs are given, it is at most the length of every tour.
+-- Where the given decisions take the fixed pairs, the bound is at most the length of every tour.
 abbrev pub CaseTreesBoundTours : Type 0
 CaseTreesBoundTours = (problem : Problem) (scale number : ℤ) (families : List Family) (steps : List CaseStep) (bound : ℤ)
     → AreCostsFor problem.directed problem.nodes problem.cost → IsScale scale
@@ -86,7 +88,7 @@ CaseTreesBoundTours = (problem : Problem) (scale number : ℤ) (families : List 
     → IsCaseTreeBound problem.directed problem.nodes problem.cost scale number families (take_pairs problem.fixed) steps
     (Some bound) → BoundsTours problem bound
 
--- Where there is none, there is no tour.
+-- Where no leaf has a bound then, there is no tour.
 abbrev pub NoBoundNoTour : Type 0
 NoBoundNoTour = (problem : Problem) (scale number : ℤ) (families : List Family) (steps : List CaseStep)
     → AreCostsFor problem.directed problem.nodes problem.cost → IsScale scale
@@ -94,7 +96,7 @@ NoBoundNoTour = (problem : Problem) (scale number : ℤ) (families : List Family
     → IsCaseTreeBound problem.directed problem.nodes problem.cost scale number families (take_pairs problem.fixed) steps None
     → HasNoTour problem
 
--- There is one such bound, or none, whichever least 1-trees are found.
+-- A tree has one such bound, or none, whichever least 1-trees are found.
 abbrev pub CaseTreeBoundsAreUnique : Type 0
 CaseTreeBoundsAreUnique = (directed : Bool) (n : ℕ) (cost : ℕ → ℕ → ℤ) (scale number : ℤ) (families : List Family)
     (given : List Decision) (steps : List CaseStep) (a b : Option ℤ)

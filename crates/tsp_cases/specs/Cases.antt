@@ -1,4 +1,6 @@
--- A proof by cases: each step divides the first open case by a pair, or closes it by numbers.
+-- A tree of cases, as a list of steps: a branch divides the first open case by a pair, a leaf closes it by numbers. For
+-- the laws of src/laws.rt, and for `Cases` (src/tree_cases.rt) and `judge_leaves` (src/pass.rt), which go through the
+-- steps.
 use Rattle.std.specs.Prelude.{◌≡◌, ℕ, zero, suc, Bool, true, false, if◌then◌else◌, List, [], ◌∷◌, ◌++◌, map, Option, None, Some, ◌⊎◌, ℤ, ◌≤ℤ◌}
 use Rattle.std.specs.List.{All}
 use Rattle.tsp_theory.specs.Cycle.{IsCycle}
@@ -6,7 +8,7 @@ use Rattle.tsp_theory.specs.Length.{length_of}
 use Rattle.tsp_cases.specs.declared.decision.Decision.{Decision}
 use Rattle.tsp_cases.specs.Decisions.{KeepsAll}
 
--- the numbers of a leaf: potentials of the nodes, and multipliers of the combs
+-- the numbers of a leaf: potentials of the nodes, and multipliers of the families
 pub record LeafNumbers : Type 0 where
   pub potentials : List ℤ
   pub multipliers : List ℤ
@@ -36,6 +38,7 @@ leaves_of (case ∷ cases) [] = []
 leaves_of (case ∷ cases) (Branch pair ∷ steps) = leaves_of (decide pair true case ∷ decide pair false case ∷ cases) steps
 leaves_of (case ∷ cases) (Leaf numbers ∷ steps) = (case, numbers) ∷ leaves_of cases steps
 
+-- the cases of leaves, without their numbers
 abbrev pub cases_of : List (List Decision × LeafNumbers) → List (List Decision)
 cases_of leaves = map (λ leaf. leaf.0) leaves
 
@@ -64,10 +67,11 @@ CasesBoundCycles = (directed : Bool) (n : ℕ) (cost : ℕ → ℕ → ℤ) (bou
     → are_case_trees 1 steps ≡ true → All (BoundsCase directed n cost bound) (cases_of (leaves_of (given ∷ []) steps))
     → BoundsCase directed n cost bound given
 
--- no cycle keeps the decisions of the case; and where that holds of each leaf's, none keeps the given ones
+-- no cycle keeps the decisions of the case
 abbrev pub HasNoCycle : Bool → ℕ → List Decision → Type 0
 HasNoCycle directed n case = (nodes : List ℕ) → IsCycle n nodes → KeepsAll directed nodes case → ⊥
 
+-- So where the case of no leaf has a cycle, no cycle keeps the given decisions.
 abbrev pub CasesHaveNoCycle : Type 0
 CasesHaveNoCycle = (directed : Bool) (n : ℕ) (given : List Decision) (steps : List CaseStep)
     → are_case_trees 1 steps ≡ true → All (HasNoCycle directed n) (cases_of (leaves_of (given ∷ []) steps))
@@ -88,6 +92,7 @@ later_cases given [] = []
 later_cases given (decision ∷ stack) =
     if decision.taken then (decide decision.pair false (stack ++ given) ∷ later_cases given stack) else later_cases given stack
 
+-- the case of the stack, with the given decisions, and the cases after it; none at the end of the tree
 abbrev pub open_cases : List Decision → Option (List Decision) → List (List Decision)
 open_cases given None = []
 open_cases given (Some stack) = (stack ++ given) ∷ later_cases given stack

@@ -1,4 +1,5 @@
--- Decisions: pairs that a cycle uses, and pairs that it doesn't.
+-- Decisions: pairs of nodes that a cycle uses, and pairs that it doesn't use. For the cases of a tree (Cases.antt,
+-- `OpenCase` of src/open_case.rt), and for the fixed edges of an instance (src/fixed_decisions.rt of tsp_verdict).
 use Rattle.std.specs.Prelude.{ℕ, ◌≤◌, ◌≡◌, ◌==◌, ◌&&◌, Bool, true, false, if◌then◌else◌, List, [], ◌∷◌, length, map, ℤ, pos, ◌≤ℤ◌}
 use Rattle.std.specs.List.{All, AllPairs}
 use Rattle.tsp_theory.specs.Costs.{IsSymmetric}
@@ -9,7 +10,7 @@ use Rattle.tsp_theory.specs.CertificateNumbers.{IsScale, most_number}
 use Rattle.tsp_theory.specs.Adjusted.{pair_of, is_same_pair, IsAdjustedBound}
 use Rattle.tsp_cases.specs.declared.decision.Decision.{Decision}
 
--- directed: from the first node to the second; else in either direction
+-- a cycle uses a taken pair, and doesn't use an avoided one; directed: from the first node to the second
 abbrev pub KeepsPair : Bool → List ℕ → Bool → ℕ × ℕ → Type 0
 KeepsPair directed nodes true pair = Uses directed nodes pair
 KeepsPair directed nodes false pair = Uses directed nodes pair → ⊥
@@ -18,6 +19,7 @@ KeepsPair directed nodes false pair = Uses directed nodes pair → ⊥
 abbrev pub KeepsDecision : Bool → List ℕ → Decision → Type 0
 KeepsDecision directed nodes decision = KeepsPair directed nodes decision.taken decision.pair
 
+-- a cycle keeps all these decisions
 abbrev pub KeepsAll : Bool → List ℕ → List Decision → Type 0
 KeepsAll directed nodes decisions = All (KeepsDecision directed nodes) decisions
 
@@ -36,21 +38,23 @@ take_pairs pairs = map (λ pair. record { pair = pair; taken = true }) pairs
 
 -- ---- decisions as the numbers on pairs that tsp_theory speaks of: the same number on each
 
+-- a triple: the pair of the decision, with the number
 abbrev pub on_pair : ℤ → Decision → ℕ × ℕ × ℤ
 on_pair number decision = (decision.pair.0, decision.pair.1, number)
 
--- the number on each taken pair; on each avoided one
+-- the number on each taken pair
 abbrev pub on_taken : ℤ → List Decision → List (ℕ × ℕ × ℤ)
 on_taken number [] = []
 on_taken number (decision ∷ decisions) =
     if decision.taken then (on_pair number decision ∷ on_taken number decisions) else on_taken number decisions
 
+-- the number on each avoided pair
 abbrev pub on_avoided : ℤ → List Decision → List (ℕ × ℕ × ℤ)
 on_avoided number [] = []
 on_avoided number (decision ∷ decisions) =
     if decision.taken then on_avoided number decisions else (on_pair number decision ∷ on_avoided number decisions)
 
--- the number on each decided pair
+-- the number on each decided pair: by it the weight of a taken pair is lowered, that of an avoided one raised
 abbrev pub decided_number : ℤ
 decided_number = pos most_number
 

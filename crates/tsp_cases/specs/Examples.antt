@@ -18,25 +18,27 @@ small_comb = comb_of (1 ∷ 2 ∷ 3 ∷ []) ((1 ∷ 4 ∷ []) ∷ (2 ∷ 5 ∷ [
 abbrev pub small_family : Family
 small_family = record { sets = small_comb; numbers = record { least = 10; most = 3 } }
 
--- how many of its parts have one of the two nodes and not the other; how often a list of nodes crosses them
+-- two nodes cross this many sets of the comb
 abbrev pub PairCrosses : ℕ → ℕ → ℕ → Type 0
 PairCrosses i j times = family_crossings small_comb i j ≡ pos times
 
+-- a cycle through these nodes crosses the sets of the comb this often
 abbrev pub CrossesInAll : List ℕ → ℕ → Type 0
 CrossesInAll nodes times = length_of (family_crossings small_comb) nodes ≡ pos times
 
--- costs by rows, of each node those to the nodes after it
+-- symmetric costs, listed by rows: of each node those to the nodes after it
 abbrev pub cost_in : List (List ℕ) → ℕ → ℕ → ℤ
 cost_in rows i j = pos (slice_index (slice_index_or rows (min i j - 1) []) (max i j - min i j - 1))
 
--- between four nodes, and between six
+-- the costs between four nodes
 abbrev pub four_rows : List (List ℕ)
 four_rows = (1 ∷ 2 ∷ 2 ∷ []) ∷ (1 ∷ 1 ∷ []) ∷ (3 ∷ []) ∷ []
 
+-- the costs between six nodes
 abbrev pub six_rows : List (List ℕ)
 six_rows = (2 ∷ 2 ∷ 1 ∷ 9 ∷ 9 ∷ []) ∷ (2 ∷ 9 ∷ 1 ∷ 9 ∷ []) ∷ (9 ∷ 9 ∷ 1 ∷ []) ∷ (2 ∷ 2 ∷ []) ∷ (2 ∷ []) ∷ []
 
--- how long a list of nodes is
+-- the cycle through these nodes has this length
 abbrev pub LengthIs : List (List ℕ) → List ℕ → ℤ → Type 0
 LengthIs rows nodes length = length_of (cost_in rows) nodes ≡ length
 
@@ -44,10 +46,11 @@ LengthIs rows nodes length = length_of (cost_in rows) nodes ≡ length
 abbrev pub large : ℤ
 large = pos 4000000000000000000
 
--- nothing but potentials of 0 of this many nodes; a potential of 1 at node 2 of four
+-- the potentials 0 at n nodes, and no multipliers
 abbrev pub no_numbers : ℕ → LeafNumbers
 no_numbers n = record { potentials = replicate n (pos 0); multipliers = [] }
 
+-- the potential 1 at node 2 of four, and no multipliers
 abbrev pub one_at_two : LeafNumbers
 one_at_two = record { potentials = pos 0 ∷ pos 1 ∷ pos 0 ∷ pos 0 ∷ []; multipliers = [] }
 
@@ -61,14 +64,16 @@ abbrev pub WeighsUnderComb : ℕ → ℕ → ℤ → Type 0
 WeighsUnderComb i j weight =
     leaf_weight (pos 2) [] [] [] (multiplied (small_family ∷ []) (pos 1 ∷ [])) (cost_in six_rows) i j ≡ weight
 
--- a certificate of four nodes has this bound; one of six, with the comb and these multipliers, and no branch
+-- a tree over the four nodes has this bound
 abbrev pub FourHave : List CaseStep → ℤ → Type 0
 FourHave steps bound = IsCaseTree 4 [] [] steps × IsCaseTreeBound false 4 (cost_in four_rows) (pos 1) large [] [] steps
     (Some bound)
 
+-- a tree of one leaf over six nodes, with these multipliers
 abbrev pub six_leaf : List ℤ → List CaseStep
 six_leaf multipliers = Leaf (record { potentials = replicate 6 (pos 0); multipliers = multipliers }) ∷ []
 
+-- with the comb and these multipliers, that tree has this bound
 abbrev pub SixHave : List ℤ → ℤ → Type 0
 SixHave multipliers bound = IsCaseTree 6 (small_family ∷ []) [] (six_leaf multipliers)
     × IsCaseTreeBound false 6 (cost_in six_rows) (pos 2) large (small_family ∷ []) [] (six_leaf multipliers) (Some bound)
@@ -78,12 +83,14 @@ pub record IsTreeOf (steps : List CaseStep) (cases : List (List Decision)) : Typ
   pub whole : are_case_trees 1 steps ≡ true
   pub cases_are : cases_of (leaves_of ([] ∷ []) steps) ≡ cases
 
+-- the steps aren't one tree
 abbrev pub IsNoTree : List CaseStep → Type 0
 IsNoTree steps = are_case_trees 1 steps ≡ false
 
--- decisions
+-- the decision that takes a pair
 abbrev pub with_pair : ℕ → ℕ → Decision
 with_pair i j = record { pair = (i, j); taken = true }
 
+-- the decision that avoids a pair
 abbrev pub without_pair : ℕ → ℕ → Decision
 without_pair i j = record { pair = (i, j); taken = false }

@@ -1,9 +1,11 @@
--- Families by lists of their sets, of which the first one of a comb is the handle.
+-- Families whose sets are lists of nodes, as a file has them: the first list is the handle. For `Families`
+-- (src/families.rt) and `judge_numbers` (src/good_numbers.rt), and for src/plan_leaf.rt of tsp_routing.
 use Rattle.std.specs.Prelude.{ℕ, Bool, false, if◌then◌else◌, List, [], ◌∷◌, ℤ, pos, ◌+ℤ◌, ◌*ℤ◌}
 use Rattle.tsp_families.specs.declared.family.Crossings.{Crossings}
 use Rattle.tsp_cases.specs.Combs.{Comb, comb_of}
 use Rattle.tsp_cases.specs.Families.{Family}
 
+-- a handle and teeth by their lists of nodes
 abbrev pub comb_with : List (List ℕ) → Comb
 comb_with [] = record { handle = λ node. false; teeth = [] }
 comb_with (handle ∷ teeth) = comb_of handle teeth
@@ -18,11 +20,11 @@ families_with [] families = []
 families_with (own ∷ crossed) [] = []
 families_with (own ∷ crossed) (sets ∷ families) = family_with own sets ∷ families_with crossed families
 
--- the most that two nodes cross of a family, or the least that a cycle does
+-- of a family's two numbers the most that two nodes cross, or the least that a cycle crosses
 abbrev pub most_or_least : Bool → Crossings → ℕ
 most_or_least is_most own = if is_most then own.most else own.least
 
--- these numbers of families, each times its multiplier
+-- the sum of one of these numbers over families, each times its multiplier
 abbrev pub sum_with : Bool → List Crossings → List ℤ → ℤ
 sum_with is_most [] multipliers = pos 0
 sum_with is_most (own ∷ crossed) [] = pos 0

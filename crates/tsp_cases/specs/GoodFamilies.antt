@@ -1,4 +1,5 @@
--- Which family is bad: families are given by sets of nodes, and these may be any.
+-- Whether the sets of COMB_SECTION are good families, and which family is the first bad one. For `judge_families`
+-- (src/good_families.rt) and `other_crossings` (src/other_families.rt).
 use Rattle.std.specs.Prelude.{◌≡◌, ◌≢◌, ℕ, ◌+◌, ◌*◌, ◌≤◌, ◌<◌, List, [], length, slice_index_or}
 use Rattle.std.specs.List.{All, AllPairs}
 use Rattle.tsp_families.specs.declared.family.Crossings.{Crossings}
@@ -9,18 +10,18 @@ use Rattle.tsp_cases.specs.FamiliesOfSets.{comb_with, family_with, families_with
 abbrev pub HasEachOnce : List ℕ → Type 0
 HasEachOnce set = AllPairs (λ a b. a ≢ b) set
 
--- sets, the handle first, that are a lone set or a comb, each with its nodes once
+-- sets that are a lone set or a comb, and have no node twice
 pub record IsGoodComb (n : ℕ) (sets : List (List ℕ)) : Type 0 where
   pub kind : IsLoneOrComb n (comb_with sets)
   pub once : All HasEachOnce sets
 
--- sets that are a family, each with its nodes once
+-- sets that are a family, and have no node twice
 pub record IsGoodFamily (n : ℕ) (sets : List (List ℕ)) : Type 0 where
   pub numbers : Crossings
   pub family : IsFamily n (family_with numbers sets)
   pub once : All HasEachOnce sets
 
--- an odd number, at least three
+-- how many teeth a comb may have: an odd number, at least three
 abbrev pub IsToothCount : ℕ → Type 0
 IsToothCount count = (half : ℕ) × (1 ≤ half) × (count ≡ 2 * half + 1)
 
@@ -31,7 +32,7 @@ pub record IsFirstBadFamily (n : ℕ) (families : List (List (List ℕ))) (first
   pub before : (place : ℕ) → place + 1 < first → IsGoodFamily n (slice_index_or families place [])
   pub bad : (place : ℕ) → place + 1 ≡ first → IsGoodFamily n (slice_index_or families place []) → ⊥
 
--- all are good, and these are their numbers
+-- all are good, and `crossed` has the two numbers of each
 pub record AreFamilies (n : ℕ) (families : List (List (List ℕ))) (crossed : List Crossings) : Type 0 where
   pub many : length crossed ≡ length families
   pub good : (place : ℕ) → place < length families → IsGoodFamily n (slice_index_or families place [])

@@ -1,4 +1,6 @@
--- The judgement on the leaves of a tree, whatever a leaf is worth: the least of what is found of them, or the first bad leaf.
+-- The judgement on the leaves of a tree, whatever gives a leaf's bound: the least bound, or the first bad leaf. For
+-- `judge_leaves` (src/pass.rt) and `LeafJudge` (src/leaf_judge.rt). JudgedLeaves.antt of tsp_branch has it for 1-trees
+-- and least links.
 use Rattle.std.specs.Prelude.{◌≡◌, ℕ, List, [], ◌∷◌, Option, IfSome, ℤ}
 use Rattle.std.specs.List.{All}
 use Rattle.tsp_format.specs.Steps as listed
@@ -13,8 +15,8 @@ use Rattle.tsp_cases.specs.CaseTrees.{IsLeastFound}
 use Rattle.tsp_cases.specs.Listed.{listed_steps, all_grown, split_at, IsGoodLeafBy, AreGoodLeavesBy, IsFirstBadLeafBy}
 use Rattle.tsp_cases.specs.states.Rooms.{AreSmall}
 
--- Where the numbers of all leaves are good, the least of what is found of the leaves, or none where nothing is found of any; else
--- the first leaf that isn't good.
+-- Where the numbers of all leaves are good, the least bound that is found of a leaf, or none where no leaf has one; else
+-- the first bad leaf.
 abbrev pub AreJudgedBy : (List Decision × LeafNumbers → Option ℤ → Type 0) → (LeafNumbers → Type 0) → ℕ → ℕ → List Decision
     → List listed.Step → JudgedLeaves → Type 0
 AreJudgedBy found good n combs given steps (judged.Bound least) =
@@ -23,28 +25,29 @@ AreJudgedBy found good n combs given steps (judged.Bound least) =
     × AreGoodLeavesBy good n combs steps
 AreJudgedBy found good n combs given steps (judged.BadLeaf leaf) = IsFirstBadLeafBy good n combs steps leaf
 
--- Sums with it fit 128 bits.
+-- The bound is so small that sums with it fit 128 bits.
 abbrev pub AreSizedLeaves : JudgedLeaves → Type 0
 AreSizedLeaves (judged.Bound found) = IfSome found IsBoundSized
 AreSizedLeaves (judged.BadLeaf leaf) = Unit {0}
 
 -- ---- one leaf
 
--- What is found of a case by numbers that are good, to which differences can be added; nothing by others.
+-- What is found of a case by numbers that are good, to which differences can be added; of numbers that aren't good
+-- nothing is found.
 abbrev pub IsFoundOfCase : (List Decision × LeafNumbers → Option ℤ → Type 0) → (LeafNumbers → Type 0) → ℕ → List Decision → List ℤ
     → JudgedLeaf → Type 0
 IsFoundOfCase found good n case numbers leaves.Bad = good (split_at n numbers) → ⊥
 IsFoundOfCase found good n case numbers (leaves.Found own) =
     good (split_at n numbers) × AreSmall numbers × found (case, split_at n numbers) own
 
--- What is found of a leaf that is good, whose numbers are kept for the next one; nothing of one that isn't.
+-- What is found of a good leaf, whose numbers are the ones that the next leaf changes; of a bad leaf nothing is found.
 abbrev pub IsJudgedLeaf : (List Decision × LeafNumbers → Option ℤ → Type 0) → (LeafNumbers → Type 0) → ℕ → ℕ → List Decision
     → List ℤ → List (ℕ × ℤ) → List ℤ → JudgedLeaf → Type 0
 IsJudgedLeaf found good n combs case old changes new leaves.Bad = IsGoodLeafBy good n combs old changes → ⊥
 IsJudgedLeaf found good n combs case old changes new (leaves.Found own) = IsGoodLeafBy good n combs old changes
     × (new ≡ all_grown changes old) × AreSmall new × found (case, split_at n (all_grown changes old)) own
 
--- Sums with the bound fit 128 bits.
+-- The bound of a leaf is so small that sums with it fit 128 bits.
 abbrev pub IsSizedLeaf : JudgedLeaf → Type 0
 IsSizedLeaf leaves.Bad = Unit {0}
 IsSizedLeaf (leaves.Found own) = IfSome own IsBoundSized

@@ -1,4 +1,5 @@
--- The judgement on families: where none is bad, they are lent on; else the first bad one is reported.
+-- The judgement on the families of a certificate: all are good and are returned as `Families`, or the first bad one is
+-- reported. For `judge_families` (src/good_families.rt).
 use Rattle.std.specs.Prelude.{◌≡◌, ℕ, List}
 use Rattle.std.specs.Global.{Vec}
 use Rattle.tsp_families.specs.FamilySets.{families_in}
@@ -6,6 +7,7 @@ use Rattle.tsp_cases.specs.GoodFamilies.{AreFamilies, IsFirstBadFamily}
 use Rattle.tsp_cases.specs.declared.judged.JudgedFamilies.{JudgedFamilies}
 use Rattle.tsp_cases.specs.declared.judged.JudgedFamilies.TheVariants as judged
 
+-- Good: the families of these sets of n nodes, with their numbers. Bad: the number of the first bad family.
 abbrev pub AreFamiliesJudged : ℕ → List (Vec (Vec ℕ)) → JudgedFamilies → Type 0
 AreFamiliesJudged n families (judged.Good found) =
     (found.nodes ≡ n) × (found.lent.now ≡ families) × AreFamilies n (families_in families) found.crossed.items

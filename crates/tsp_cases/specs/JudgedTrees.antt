@@ -1,5 +1,5 @@
--- The judgement on the cases of a tree: where each branch is on two nodes and none comes twice, they are lent on; else the first
--- one that isn't is reported, or the first one that does.
+-- The judgement on the branches of a tree: all are good and are returned as `Cases`, or the first bad one is reported,
+-- or the first that comes twice. For `judge_cases` (src/twice.rt).
 use Rattle.std.specs.Prelude.{◌≡◌, ℕ, Bool, List, ℤ, Some, None}
 use Rattle.tsp_format.specs.declared.steps.TreeStep.{TreeStep}
 use Rattle.tsp_format.specs.states.TreeSteps.{steps_of}
@@ -10,7 +10,7 @@ use Rattle.tsp_cases.specs.declared.tree_cases.Cases.{Cases}
 use Rattle.tsp_cases.specs.declared.judged.JudgedCases.{JudgedCases}
 use Rattle.tsp_cases.specs.declared.judged.JudgedCases.TheVariants as judged
 
--- cases of these nodes with these parts
+-- the fields of `Cases` are these: the nodes, the scale, the given decisions and the steps
 pub record AreCasesOf (n : ℕ) (directed : Bool) (scale : ℤ) (given : List Decision) (steps : List TreeStep)
     (cases : Cases) : Type 0 where
   pub nodes : cases.nodes ≡ n
@@ -19,6 +19,7 @@ pub record AreCasesOf (n : ℕ) (directed : Bool) (scale : ℤ) (given : List De
   pub given_are : cases.given.now ≡ given
   pub steps_are : cases.steps.now ≡ steps
 
+-- Good: no branch is bad or comes twice. BadBranch and Twice: the number of the first such branch.
 abbrev pub AreCasesJudged : ℕ → Bool → ℤ → List Decision → List TreeStep → JudgedCases → Type 0
 AreCasesJudged n directed scale given steps (judged.Good cases) = AreCasesOf n directed scale given steps cases
     × AreBranchesWithin 1 n (steps_of steps) None × AreBranchesJudged directed given (steps_of steps) None

@@ -1,4 +1,6 @@
--- The bound of potentials, of numbers on pairs, and of families: what the crossings of families add to that of tsp_theory.
+-- The bound of a leaf by a least 1-tree, under potentials, numbers on pairs, and multipliers of families. For the law
+-- `leaf_bounds_bound_cycles` (src/laws.rt), and for `given_back` (src/given_back.rt of tsp_branch). The bound without
+-- families is in Adjusted.antt of tsp_theory.
 use Rattle.std.specs.Prelude.{◌≡◌, ℕ, ◌≤◌, List, [], length, ℤ, pos, ◌+ℤ◌, ◌-ℤ◌, ◌*ℤ◌, ◌≤ℤ◌}
 use Rattle.std.specs.List.{All}
 use Rattle.tsp_theory.specs.Costs.{IsSymmetric}
@@ -11,18 +13,19 @@ use Rattle.tsp_theory.specs.Adjusted.{adjusted, triples_total, UsesEach, UsesNon
 use Rattle.tsp_cases.specs.Combs.{family_crossings}
 use Rattle.tsp_cases.specs.Families.{Family, IsFamily}
 
--- families with a multiplier each, which isn't negative
+-- families of n nodes, each with a multiplier that isn't negative
 abbrev pub AreMultiplied : ℕ → List (Family × ℤ) → Type 0
 AreMultiplied n families = All (λ multiplied. IsFamily n multiplied.0 × (pos 0 ≤ℤ multiplied.1)) families
 
--- the crossings of two nodes, each times the multiplier of its family; the same of the least crossings of a cycle
+-- how often two nodes cross the sets of families, each family times its multiplier
 abbrev pub crossings_of : List (Family × ℤ) → ℕ → ℕ → ℤ
 crossings_of families i j = sum_int_by (λ multiplied. multiplied.1 *ℤ family_crossings multiplied.0.sets i j) families
 
+-- how often a cycle crosses them at least, each family times its multiplier
 abbrev pub least_of : List (Family × ℤ) → ℤ
 least_of families = sum_int_by (λ multiplied. multiplied.1 *ℤ pos multiplied.0.numbers.least) families
 
--- weights less the crossings
+-- weights less those crossings
 abbrev pub combed : List (Family × ℤ) → (ℕ → ℕ → ℤ) → ℕ → ℕ → ℤ
 combed families w i j = w i j -ℤ crossings_of families i j
 
@@ -46,7 +49,7 @@ pub record IsLeafBound (n : ℕ) (cost : ℕ → ℕ → ℤ) (scale : ℤ) (pot
   pub bound_is : IsLeafBoundOf scale potentials taken families
       (weight_of (leaf_weight scale potentials taken avoided families cost) tree) bound
 
--- It is at most the length of every cycle that uses the taken pairs and none of the avoided.
+-- That bound is at most the length of every cycle that uses the taken pairs and none of the avoided.
 abbrev pub LeafBoundsBoundCycles : Type 0
 LeafBoundsBoundCycles = (n : ℕ) (cost : ℕ → ℕ → ℤ) (scale : ℤ) (potentials : List ℤ) (taken avoided : List (ℕ × ℕ × ℤ))
     (families : List (Family × ℤ)) (bound : ℤ) (nodes : List ℕ)
@@ -54,7 +57,7 @@ LeafBoundsBoundCycles = (n : ℕ) (cost : ℕ → ℕ → ℤ) (scale : ℤ) (po
     → IsLeafBound n cost scale potentials taken avoided families bound
     → IsCycle n nodes → UsesEach taken nodes → UsesNone avoided nodes → bound ≤ℤ length_of cost nodes
 
--- With no family it is the bound of tsp_theory.
+-- Without families it is the bound of Adjusted.antt of tsp_theory.
 abbrev pub UncombedBoundsAreAdjustedBounds : Type 0
 UncombedBoundsAreAdjustedBounds = (n : ℕ) (cost : ℕ → ℕ → ℤ) (scale : ℤ) (potentials : List ℤ) (taken avoided : List (ℕ × ℕ × ℤ))
     (bound : ℤ) → IsLeafBound n cost scale potentials taken avoided [] bound

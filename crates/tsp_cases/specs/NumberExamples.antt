@@ -20,13 +20,15 @@ abbrev pub by_numbers : List CaseStep
 by_numbers = Branch (1, 2) ∷ Leaf (as_leaf_numbers (potentials_of_three (pos 0) (pos 5) (pos 0)) (pos 1 ∷ []))
     ∷ Leaf (as_leaf_numbers (potentials_of_three (pos 0) (pos 3) (pos 0)) (pos 3 ∷ [])) ∷ []
 
--- a comb, two of them, and a family of which two nodes cross this many sets at most
+-- a comb of three teeth: a cycle crosses its sets 10 times at least, and two nodes cross 3 of them at most
 abbrev pub known_three : Crossings
 known_three = record { least = 10; most = 3 }
 
+-- two such combs
 abbrev pub two_combs : List Crossings
 two_combs = known_three ∷ known_three ∷ []
 
+-- a family of which two nodes cross this many sets at most, and a cycle twice as many at least
 abbrev pub crossed_by : ℕ → Crossings
 crossed_by most = record { least = 2 * most; most = most }
 
@@ -34,6 +36,6 @@ crossed_by most = record { least = 2 * most; most = most }
 abbrev pub multiplied_by : ℤ → ℤ → LeafNumbers
 multiplied_by first second = as_leaf_numbers (potentials_of_three (pos 0) (pos 0) (pos 0)) (first ∷ second ∷ [])
 
--- a potential at node 3, and no multipliers
+-- a potential at node 3 of three, and no multipliers
 abbrev pub moved_at_three : ℤ → LeafNumbers
 moved_at_three potential = as_leaf_numbers (potentials_of_three (pos 0) (pos 0) potential) []

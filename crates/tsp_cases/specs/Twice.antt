@@ -1,4 +1,5 @@
--- Which branch comes twice: on a pair that is decided above it.
+-- Which branch of a tree comes twice: its pair is decided already, above it or by a given decision. For `first_twice`
+-- (src/twice.rt) and `decides` of `OpenCase` (src/open_case.rt).
 use Rattle.std.specs.Prelude.{◌≡◌, ℕ, ◌-◌, ◌<◌, ◌≤◌, Bool, true, false, List, [], ◌∷◌, length, slice_index_or, Option, None, Some}
 use Rattle.std.specs.List.{All, list_any}
 use Rattle.tsp_format.specs.Steps as listed
@@ -16,7 +17,8 @@ pub record Divided : Type 0 where
   pub case : List Decision
   pub pair : ℕ × ℕ
 
--- Each branch of the steps, where these cases are open before them. It divides the first open one.
+-- each branch of the steps with its case, where these cases are open before the steps; a branch divides the first open
+-- one
 abbrev pub branches_of_cases : List (List Decision) → List listed.Step → List Divided
 branches_of_cases [] steps = []
 branches_of_cases (case ∷ cases) [] = []
@@ -38,7 +40,8 @@ pub record IsFirstTwice (directed : Bool) (given : List Decision) (steps : List 
   pub before : (earlier : ℕ) → 1 ≤ earlier → earlier < first
       → is_twice_at directed (branches_of_cases (given ∷ []) steps) earlier ≡ false
 
--- Where no branch comes twice, no case decides a pair twice, whatever the numbers of its leaves; else the first one is reported.
+-- None: no branch comes twice, so no case decides a pair twice, whatever the numbers of its leaves. Some: the number of
+-- the first branch that does.
 abbrev pub AreBranchesJudged : Bool → List Decision → List listed.Step → Option ℕ → Type 0
 AreBranchesJudged directed given steps None = ((first : ℕ) → IsFirstTwice directed given steps first → ⊥)
     × ((n combs : ℕ) → All (DecideOnce directed) (cases_of (leaves_of (given ∷ []) (listed_steps n combs steps))))

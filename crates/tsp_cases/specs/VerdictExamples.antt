@@ -6,10 +6,11 @@ use Rattle.tsp_cases.specs.declared.decision.Decision.{Decision}
 use Rattle.tsp_cases.specs.GoodFamilies.{IsGoodComb}
 use Rattle.tsp_cases.specs.Twice.{IsFirstTwice}
 
--- sets of six nodes are neither a lone set nor those of a comb, and that they are
+-- sets of six nodes are neither a lone set nor a comb, or have a node twice
 abbrev pub IsNotGood : List (List ℕ) → Type 0
 IsNotGood sets = IsGoodComb 6 sets → ⊥
 
+-- sets of six nodes are a lone set or a comb, and have no node twice
 abbrev pub IsGood : List (List ℕ) → Type 0
 IsGood sets = IsGoodComb 6 sets
 
@@ -21,14 +22,15 @@ three_teeth = (1 ∷ 4 ∷ []) ∷ (2 ∷ 5 ∷ []) ∷ (3 ∷ 6 ∷ []) ∷ []
 abbrev pub TwiceAt : Bool → List Decision → List listed.Step → ℕ → Type 0
 TwiceAt directed given steps branch = IsFirstTwice directed given steps branch
 
+-- two branches, one after the other, without the leaves
 abbrev pub branches : ℕ → ℕ → ℕ → ℕ → List listed.Step
 branches a b c d = listed.Branch a b ∷ listed.Branch c d ∷ []
 
--- the second branch is in the tree without the first one's pair
+-- two branches: the second one is among the tours that don't use the first one's pair
 abbrev pub branches_apart : ℕ → ℕ → ℕ → ℕ → List (ℕ × ℤ) → List listed.Step
 branches_apart a b c d changes = listed.Branch a b ∷ listed.Leaf changes ∷ listed.Branch c d ∷ []
 
--- 1 3 on both sides of 1 2, and then once more
+-- a branch on 1 2, one on 1 3 in each of its two cases, and then one on 3 1, which comes twice
 abbrev pub on_both_sides : List (ℕ × ℤ) → List listed.Step
 on_both_sides changes = listed.Branch 1 2 ∷ listed.Branch 1 3 ∷ listed.Leaf changes ∷ listed.Leaf changes ∷ listed.Branch 1 3
     ∷ listed.Leaf changes ∷ listed.Branch 3 1 ∷ []

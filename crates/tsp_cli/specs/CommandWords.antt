@@ -1,4 +1,5 @@
--- What the words of a command line ask for.
+-- Which verb and which values the words of a command line give, or with what fault they are refused, as clap's own
+-- definitions say. For `job_of` (src/words.rt).
 use Rattle.std.specs.Prelude.{◌≡◌, ◌≢◌, List, [], Option, None, Some, Result, Ok, Err, ⊤, codes, map, option_map, unwrap_or, String, IsTrue, ◌↔◌}
 use Rattle.std.specs.String.{string_bytes}
 use Rattle.clap.specs.Words.{Row, Text, all_of, first_of, kind_of, fault_of, subcommand_of}
@@ -25,6 +26,7 @@ abbrev pub IsVerbOf : Text → Option Verb → Type 0
 IsVerbOf word (Some verb) = word ≡ word_of verb
 IsVerbOf word None = (verb : Verb) → word ≢ word_of verb
 
+-- the bytes of a string, if there is one
 abbrev pub text_in : {Z : Type 0} → Option (String Z) → Option Text
 text_in = option_map string_bytes
 
@@ -43,22 +45,22 @@ HasValues rows job = (text_in job.file ≡ first_of (codes "F") rows)
     × (IsTrue job.strict ↔ (first_of (codes "U") rows ≡ Some (codes "true")))
     × (IsTrue job.explain ↔ (first_of (codes "E") rows ≡ Some (codes "true")))
 
--- the job is that of a subcommand with its values, or of none
+-- the job is that of a verb with its values, or has no verb and no values
 abbrev pub IsJobOf : Option (Text × List Row) → Job → Type 0
 IsJobOf (Some (name, rows)) job = (option_map word_of job.verb ≡ Some name) × HasValues rows job
 IsJobOf None job = (job.verb ≡ None) × HasValues [] job
 
--- out of memory is distinguished from each other cause
+-- the fault is out of memory exactly where clap's kind of error is
 abbrev pub IsFaultOf : ErrorKind → JobFault → Type 0
 IsFaultOf kind (Refused refusal) = (kind_of refusal ≡ kind) × (kind ≢ kinds.OutOfMemory)
 IsFaultOf kind OutOfMemory = kind ≡ kinds.OutOfMemory
 
--- the words are refused for another cause; out of memory may come in its place
+-- the refusal isn't for memory, or is `OutOfMemory` itself
 abbrev pub IsOtherRefusal : JobFault → Type 0
 IsOtherRefusal (Refused refusal) = kind_of refusal ≢ kinds.OutOfMemory
 IsOtherRefusal OutOfMemory = ⊤
 
--- what clap states of these words: with no fault a job, and else one of the first faults. Out of memory may come in place of
+-- Words that clap accepts give their job; refused ones one of the first faults. Out of memory may come in place of
 -- either.
 abbrev pub GivesJob : List Text → Result Job JobFault → Type 0
 GivesJob words (Ok job) = (fault_of tsp words ≡ []) × IsJobOf (subcommand_of tsp words) job

@@ -1,4 +1,5 @@
--- The command line, in clap's own words.
+-- The commands, arguments and options of the program `tsp`, in the words of clap's definitions. For src/grammar.rt,
+-- which builds each of them with clap, and for CommandWords.antt.
 use Rattle.std.specs.Prelude.{◌≡◌, Bool, true, false, Some, codes}
 use Rattle.clap.specs.Words.{App, Rule, Text, app_of, new_app, new_rule, with_rule, with_subcommand}
 use Rattle.clap.specs.Simple.{on_top}
@@ -6,11 +7,11 @@ use Rattle.clap.specs.declared.builder.action.ArgAction.TheVariants.{Append, Set
 use Rattle.clap.specs.declared.builder.command.Command.{Command}
 use Rattle.clap.specs.declared.builder.command.Command.TheViews.{out-Command}
 
--- a path: an argument with no name among the words, that has to be there
+-- a path that has to be there, given as a word alone
 abbrev pub path : Text → Rule
 path id = record (new_rule id) { required = true }
 
--- paths: one at least, and each word more is one more; help has a name of its own for them
+-- one path at least, and as many more as there are words; help has a name of its own for them
 abbrev pub several_paths : Text → Rule
 several_paths id = record (path id) { action = Some Append; value_names = 1 }
 
@@ -39,10 +40,11 @@ abbrev pub convert : App
 convert = with_rule (with_rule (with_rule (new_app (codes "convert")) (path (codes "F"))) (option (codes "L") (codes "layout")))
     explain
 
--- [--potentials P] and [--branches B]
+-- [--potentials P]
 abbrev pub of_potentials : Rule
 of_potentials = option (codes "P") (codes "potentials")
 
+-- [--branches B]
 abbrev pub of_branches : Rule
 of_branches = option (codes "B") (codes "branches")
 
@@ -91,7 +93,7 @@ abbrev pub tsp : App
 tsp = with_subcommand (with_subcommand (with_subcommand (with_subcommand (with_subcommand start show.top) convert.top) check.top)
     compare.top) bound.top
 
--- an argument of the command counts in its subcommands too
+-- some argument of the command counts in its subcommands too
 abbrev pub has_globals : Command → Bool
 has_globals command = (out-Command command).has_globals
 

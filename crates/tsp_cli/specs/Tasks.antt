@@ -1,4 +1,5 @@
--- What a job asks for, of which files.
+-- Which task a job asks for, on which files, or why it is none. For `task_of` (src/task_of_job.rt), and for the runs of
+-- tsp_run (ProgramRun.antt).
 use Rattle.std.specs.Prelude.{◌≡◌, ◌≢◌, ◌⊎◌, ◌≤◌, ◌+◌, ℕ, Bool, true, false, ◌==◌, List, [], Option, None, Some, Result, Ok, Err, String, codes, map, ℤ, pos, negsuc}
 use Rattle.std.specs.List.{count_by, list_any, sum_by}
 use Rattle.std.specs.Str.{bytes_eq}
@@ -25,12 +26,12 @@ use Rattle.tsp_task.specs.declared.task.Task.TheVariants as tasks
 use Rattle.tsp_cli.specs.declared.task_of_job.TaskFault.{TaskFault}
 use Rattle.tsp_cli.specs.declared.task_of_job.TaskFault.TheVariants.{UnknownLayout, MissingPath, TwoCertificates, NoCertificate, NotALength, InputTwice, LineEndInPath}
 
--- a path names this place: `-` is standard input
+-- a path and what it names: standard input for `-`, else the file with this path
 abbrev pub IsInputPathAt : Text → InputPath → Type 0
 IsInputPathAt path Input = path ≡ codes "-"
 IsInputPathAt path (Path text) = (text.now ≡ path) × (path ≢ codes "-")
 
--- the text is there, and names this place
+-- the job has a path, and it names this file
 abbrev pub IsInputPathOf : Option Text → InputPath → Type 0
 IsInputPathOf path place = (text : Text) × (path ≡ Some text) × IsInputPathAt text place
 
@@ -43,10 +44,11 @@ IsLayout word (Some layout) = text_in word ≡ Some (layout_word layout)
 abbrev pub IsNoLayout : {Z : Type 0} → Option (String Z) → Type 0
 IsNoLayout word = (text : Text) × (text_in word ≡ Some text) × ((layout : Layout) → text ≢ layout_word layout)
 
--- the lengths that fit 64 bits
+-- the least length that `--length` takes, which fits 64 bits
 abbrev pub least_length : ℤ
 least_length = negsuc 9223372036854775807
 
+-- the largest one
 abbrev pub most_length : ℤ
 most_length = pos 9223372036854775807
 
@@ -55,34 +57,40 @@ abbrev pub IsClaim : {Z : Type 0} → Option (String Z) → Option ℤ → Type 
 IsClaim word None = word ≡ None
 IsClaim word (Some claim) = (text : Text) × (text_in word ≡ Some text) × ReadsWhole text least_length most_length (Ok claim)
 
--- the text is one for no length
+-- the text is a number word of no such length
 abbrev pub IsNoLength : {Z : Type 0} → Option (String Z) → Type 0
 IsNoLength word = (text : Text) × (text_in word ≡ Some text)
     × ((fault : NumberFault) × ReadsWhole text least_length most_length (Err fault))
 
--- potentials or branches are named, and this is their place
+-- the job names this kind of certificate alone, and this is its file
 abbrev pub IsNamed : Job → Certificate → InputPath → Type 0
 IsNamed job Potentials place = IsInputPathOf (text_in job.potentials) place × (job.branches ≡ None)
 IsNamed job Branches place = (job.potentials ≡ None) × IsInputPathOf (text_in job.branches) place
 
+-- the job names no certificate
 abbrev pub NamesNone : Job → Type 0
 NamesNone job = (job.potentials ≡ None) × (job.branches ≡ None)
 
+-- the job names potentials and branches
 abbrev pub NamesBoth : Job → Type 0
 NamesBoth job = (job.potentials ≢ None) × (job.branches ≢ None)
 
+-- the file that a path names, or that the path is missing
 abbrev pub GivesInputPath : Option Text → Result InputPath TaskFault → Type 0
 GivesInputPath path (Ok place) = IsInputPathOf path place
 GivesInputPath path (Err fault) = (fault ≡ MissingPath) × (path ≡ None)
 
+-- the layout that a word names, or that none has the word
 abbrev pub GivesLayout : {Z : Type 0} → Option (String Z) → Result (Option Layout) TaskFault → Type 0
 GivesLayout word (Ok layout) = IsLayout word layout
 GivesLayout word (Err fault) = (fault ≡ UnknownLayout) × IsNoLayout word
 
+-- the length that a word claims, or that it is none
 abbrev pub GivesClaim : {Z : Type 0} → Option (String Z) → Result (Option ℤ) TaskFault → Type 0
 GivesClaim word (Ok claimed) = IsClaim word claimed
 GivesClaim word (Err fault) = (fault ≡ NotALength) × IsNoLength word
 
+-- the certificate that the job names, if any, or that it names two
 abbrev pub GivesCertificate : Job → Result (Option (Certificate × InputPath)) TaskFault → Type 0
 GivesCertificate job (Ok None) = NamesNone job
 GivesCertificate job (Ok (Some named)) = IsNamed job named.0 named.1
@@ -103,6 +111,7 @@ IsFileTask job (Bound instance certificate strict) = (job.verb ≡ Some verbs.Bo
 abbrev pub has_line_end : Text → Bool
 has_line_end path = list_any (λ b. b == 10) path
 
+-- some path contains byte 10
 abbrev pub any_line_end : {Z : Type 0} → List (String Z) → Bool
 any_line_end paths = list_any (λ path. has_line_end (string_bytes path)) paths
 
@@ -113,6 +122,7 @@ IsComparisonOf job comparison = (job.verb ≡ Some verbs.Compare) × IsInputPath
     × GivesCertificate job (Ok comparison.certificate) × (comparison.solutions.now ≡ job.solutions.items)
     × (job.solutions.items ≢ []) × (any_line_end job.solutions.items ≡ false) × (comparison.strict ≡ job.strict)
 
+-- the job asks for this task: one on files, or a comparison
 abbrev pub IsTask : Job → Task InputPath → Type 0
 IsTask job (tasks.Files task) = IsFileTask job task
 IsTask job (tasks.Compare comparison) = IsComparisonOf job comparison
@@ -121,7 +131,7 @@ IsTask job (tasks.Compare comparison) = IsComparisonOf job comparison
 abbrev pub TakesCertificate : Job → Type 0
 TakesCertificate job = (job.verb ≡ Some verbs.Check) ⊎ ((job.verb ≡ Some verbs.Compare) ⊎ (job.verb ≡ Some verbs.Bound))
 
--- the task, whose files may be standard input several times
+-- the task, or why there is none; here several of its files may be standard input
 abbrev pub NamesTask : Job → Result (Task InputPath) TaskFault → Type 0
 NamesTask job (Ok task) = IsTask job task
 NamesTask job (Err UnknownLayout) = (job.verb ≡ Some verbs.Convert) × IsNoLayout job.layout
@@ -133,8 +143,9 @@ NamesTask job (Err MissingPath) = (job.verb ≢ None) × ((job.file ≡ None)
 NamesTask job (Err LineEndInPath) = (job.verb ≡ Some verbs.Compare) × (any_line_end job.solutions.items ≡ true)
 NamesTask job (Err InputTwice) = ⊥
 
--- ---- what one verb asks for, with the instance at this place
+-- ---- what one verb asks for; `at` is the file of its instance
 
+-- the task of `check`, or why there is none
 abbrev pub NamesCheck : Job → InputPath → Result (FileTask InputPath) TaskFault → Type 0
 NamesCheck job at (Ok (Check instance solution certificate claimed strict)) = (instance ≡ at)
     × IsInputPathOf (text_in job.solution) solution × IsClaim job.length claimed × GivesCertificate job (Ok certificate)
@@ -145,6 +156,7 @@ NamesCheck job at (Err NotALength) = IsNoLength job.length
 NamesCheck job at (Err TwoCertificates) = NamesBoth job
 NamesCheck job at (Err other) = ⊥
 
+-- the task of `compare`, or why there is none
 abbrev pub NamesComparison : Job → InputPath → Result (Comparison InputPath) TaskFault → Type 0
 NamesComparison job at (Ok comparison) = (comparison.instance ≡ at) × GivesCertificate job (Ok comparison.certificate)
     × (comparison.solutions.now ≡ job.solutions.items) × (job.solutions.items ≢ []) × (any_line_end job.solutions.items ≡ false)
@@ -154,6 +166,7 @@ NamesComparison job at (Err LineEndInPath) = any_line_end job.solutions.items �
 NamesComparison job at (Err TwoCertificates) = NamesBoth job
 NamesComparison job at (Err other) = ⊥
 
+-- the task of `bound`, or why there is none
 abbrev pub NamesBound : Job → InputPath → Result (FileTask InputPath) TaskFault → Type 0
 NamesBound job at (Ok (Bound instance certificate strict)) = (instance ≡ at) × IsNamed job certificate.0 certificate.1
     × (strict ≡ job.strict)
@@ -164,7 +177,7 @@ NamesBound job at (Err other) = ⊥
 
 -- ---- standard input
 
--- how many files are standard input
+-- 1 for standard input, 0 for a path: so a sum counts them
 abbrev pub input : InputPath → ℕ
 input Input = 1
 input (Path path) = 0
@@ -174,24 +187,28 @@ abbrev pub input_at : Option (Option Role × InputPath) → ℕ
 input_at None = 0
 input_at (Some file) = input file.1
 
+-- how many of these files are standard input
 abbrev pub inputs_in : List (Option Role × InputPath) → ℕ
 inputs_in files = sum_by (λ file. input file.1) files
 
+-- how many files of a task are
 abbrev pub inputs_of : FileTask InputPath → ℕ
 inputs_of task = inputs_in (files_of task)
 
--- how many of the paths are `-`
+-- whether a path is `-`
 abbrev pub is_dash : Text → Bool
 is_dash path = bytes_eq path (codes "-")
 
+-- how many of the paths are `-`
 abbrev pub inputs_at : {Z : Type 0} → List (String Z) → ℕ
 inputs_at paths = count_by (λ path. is_dash (string_bytes path)) paths
 
+-- how many files of a task, or of a comparison, are standard input
 abbrev pub inputs_of_task : Task InputPath → ℕ
 inputs_of_task (tasks.Files task) = inputs_of task
 inputs_of_task (tasks.Compare comparison) = inputs_in (files_compared comparison) + inputs_at comparison.solutions.now
 
--- the task, of whose files one at most is standard input, since that gives its bytes once
+-- the task, or why there is none; at most one of its files is standard input, since that gives its bytes once
 abbrev pub GivesTask : Job → Result (Task InputPath) TaskFault → Type 0
 GivesTask job (Ok task) = IsTask job task × (inputs_of_task task ≤ 1)
 GivesTask job (Err InputTwice) = (task : Task InputPath) × IsTask job task × (2 ≤ inputs_of_task task)

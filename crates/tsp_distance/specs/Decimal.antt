@@ -1,10 +1,11 @@
--- The scale of decimals: a number is a whole count of 10^-9.
+-- The scale of decimals: a number is a whole count of 10^-9. For `Decimal` (src/decimal.rt), the distances
+-- (Distances.antt), and the number words of tsp_number.
 use Rattle.std.specs.Prelude.{ℕ}
 
 -- the count of the number 1
 abbrev pub unit : ℕ
 unit = 1000000000
 
--- the largest size of a count, that of the number 10^9
+-- the largest size of a count: that of the number 10^9
 abbrev pub most_count : ℕ
 most_count = 1000000000000000000

@@ -1,5 +1,6 @@
--- The distances of TSPLIB 95 (Reinelt) in the plane and in space, each as the one whole number with its inequalities.
--- Coordinates are counts of 10^-9. Both sides are multiplied out, so that no root and no quotient occurs.
+-- The eight distances of TSPLIB 95 (Reinelt), each as the one whole number with its inequalities. For src/distance.rt
+-- and src/space.rt. Coordinates are counts of 10^-9. Both sides are multiplied out, so that no root and no quotient
+-- occurs.
 use Rattle.std.specs.Prelude.{◌≡◌, ℕ, zero, suc, Bool, nat_lt, nat_le, if◌then◌else◌, ◌+◌, ◌-◌, ◌*◌, ◌<◌, ◌≤◌, ◌-ℤ◌, unsigned_abs, max, ℤ, pos}
 use Rattle.tsp_distance.specs.declared.decimal.Point.{Point}
 use Rattle.tsp_distance.specs.Decimal.{unit, most_count}
@@ -25,7 +26,7 @@ dz a b = unsigned_abs (a.z -ℤ b.z)
 abbrev pub square_apart : Point → Point → ℕ
 square_apart a b = squared (dx a b) + squared (dy a b)
 
--- and in space
+-- the square of the straight distance in space
 abbrev pub square_apart_in_space : Point → Point → ℕ
 square_apart_in_space a b = squared (dx a b) + squared (dy a b) + squared (dz a b)
 
@@ -39,7 +40,7 @@ pub record IsNearestWhole (count k : ℕ) : Type 0 where
   pub below_next_half : 2 * count < (2 * k + 1) * unit
   pub from_last_half : 0 < k → (2 * k - 1) * unit ≤ 2 * count
 
--- k is the first whole number at which this is enough
+-- k is the least whole number whose reach is at least the needed number
 pub record IsFirstEnough (needed : ℕ) (reach : ℕ → ℕ) (k : ℕ) : Type 0 where
   pub enough : needed ≤ reach k
   pub none_smaller : (j : ℕ) → j < k → reach j < needed
@@ -118,7 +119,7 @@ pub record IsOnPlane (a : Point) : Type 0 where
   pub x : unsigned_abs a.x ≤ most_count
   pub y : unsigned_abs a.y ≤ most_count
 
--- and so are all three
+-- the three coordinates are counts of decimals
 pub record IsInSpace (a : Point) : Type 0 where
   pub x : unsigned_abs a.x ≤ most_count
   pub y : unsigned_abs a.y ≤ most_count

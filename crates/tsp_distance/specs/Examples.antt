@@ -1,4 +1,5 @@
--- Small points on which the definitions are evaluated. For the laws in src/examples.rt.
+-- Points with round coordinates, and the distances from one to another. For the laws of src/examples.rt, which state
+-- distances worked out by hand.
 use Rattle.std.specs.Prelude.{ℕ, ℤ, pos, negsuc, ◌*ℤ◌}
 use Rattle.tsp_distance.specs.declared.decimal.Point.{Point}
 use Rattle.tsp_distance.specs.Distances.{on_plane}

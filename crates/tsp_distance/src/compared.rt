@@ -1,4 +1,5 @@
-//! Comparisons of distances with a number, which take no root.
+//! Whether a distance is at least a number, decided by squares, without a root. For `is_at_least`
+//! in `src/metric.rt` of tsp_cost, by which a search leaves out pairs that are too far apart.
 
 ghost use Rattle.std.specs.Prelude.{◌≤ℤ◌, ◌↔◌, ℕ, IsTrue, pos};
 ghost use Rattle.tsp_distance.specs.Distances.{square_apart, euc_2d_of, ceil_2d_of, att_of, euc_3d_of};
@@ -8,7 +9,7 @@ use crate::decimal::Point;
 use crate::distance::way;
 use crate::root::{Rounding, is_root_at_least, square_of};
 
-/// Whether the straight distance in the plane, rounded as it is said, is at least `least`.
+/// Whether the straight distance in the plane, rounded by `rounding`, is at least `least`.
 #[inline(always)]
 fn is_straight_at_least(rounding: Rounding, a: Point, b: Point, least: i64) -> bool
     ensures { (root : ℕ) → IsLeastCover rounding (square_apart a b) root → IsTrue result ↔ (least ≤ℤ pos root) }

@@ -1,4 +1,5 @@
-//! Decimals with nine places, and points in the plane and in space.
+//! Exact decimals with nine places, and points in the plane and in space: the coordinates of files,
+//! and the arguments of the distances of this crate.
 
 ghost use Rattle.std.specs.Prelude.{◌≡◌, ◌≤◌, unsigned_abs, SomeIff};
 ghost use Rattle.tsp_distance.specs.Decimal.{most_count};

@@ -1,4 +1,5 @@
-//! The five distances of TSPLIB 95 between points in the plane.
+//! The five distances of TSPLIB 95 between points in the plane. For `src/metric.rt` of tsp_cost and
+//! `src/distance_call.rt` of tsp_c.
 
 ghost use Rattle.std.specs.Prelude.{◌≡◌, pos, ◌≤ℤ◌, ◌<◌, ◌≤◌, ◌-ℤ◌, ◌+◌, ◌-◌, ◌*◌, ◌^◌, unsigned_abs};
 ghost use Rattle.tsp_distance.specs.Decimal.{unit};
@@ -8,7 +9,7 @@ ghost use Rattle.tsp_distance.specs.states.Rounding.{IsLeastCover};
 use crate::decimal::{Decimal, Point, UNIT};
 use crate::root::{Rounding, rounded_root};
 
-/// The way from one number to another, in counts of 10^-9.
+/// The signed difference from one coordinate to another, in counts of 10^-9.
 #[inline(always)]
 pub(crate) fn way(a: Decimal, b: Decimal) -> i64
     ensures value { result ≡ a -ℤ b }
@@ -38,7 +39,7 @@ pub(crate) fn nearest_whole(count: u64) -> i64
     ((count + UNIT / 2) / UNIT) as i64
 }
 
-/// The straight distance in the plane, rounded as it is said: from 0 to 2,828,427,125.
+/// The straight distance in the plane, rounded by `rounding`: from 0 to 2,828,427,125.
 #[inline(always)]
 fn straight(rounding: Rounding, a: Point, b: Point) -> i64
     ensures value { IsLeastCover rounding (square_apart a b) (unsigned_abs result) }

@@ -1,12 +1,13 @@
-//! Distances of points. No body is looked at here: a definition that is changed together with its
-//! code is refused by its examples.
+//! Laws that state distances of points, worked out by hand, as values of the definitions in
+//! `specs/Distances.antt`.
 
 ghost use Rattle.std.specs.Prelude.{pos, negsuc};
 ghost use Rattle.tsp_distance.specs.Distances.{IsEuc2d, IsCeil2d, IsMan2d, IsMax2d, IsAtt, IsEuc3d, IsMan3d, IsMax3d};
 ghost use Rattle.tsp_distance.specs.Examples.{FromZero, FromZeroToSpace, FromLeastToLargest};
 
-/// The distances of the point (0, 0) and some others, with coordinates in thousandths: at a step of
-/// each, and just beside it. What lies above the plane isn't looked at.
+/// The distances between the point (0, 0) and others, with coordinates in thousandths: where the
+/// rounded distance steps up to the next whole number, and just beside. The third coordinate is
+/// ignored.
 pub fn examples_of_distances()
     ensures euc_along_two_axes { FromZero IsEuc2d (pos 3000) (negsuc 3999) 5 }
     ensures euc_below_a_half { FromZero IsEuc2d (pos 499) (pos 0) 0 }

@@ -1,4 +1,5 @@
-//! Roots of squares, rounded to whole numbers exactly.
+//! Roots of squares of distances, rounded to whole numbers exactly. For `src/distance.rt`,
+//! `src/space.rt` and `src/compared.rt`.
 
 ghost use Rattle.std.specs.Prelude.{◌≡◌, ◌+◌, ◌-◌, ◌*◌, ◌<◌, ◌≤◌, ◌≤ℤ◌, ◌^◌, ◌↔◌, ℕ, IsTrue, pos, unsigned_abs};
 ghost use Rattle.std.specs.Bool.{OnTrue};

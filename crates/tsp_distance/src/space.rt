@@ -1,4 +1,5 @@
-//! The three distances of TSPLIB 95 between points in space.
+//! The three distances of TSPLIB 95 between points in space. For `src/metric.rt` of tsp_cost and
+//! `src/distance_call.rt` of tsp_c.
 
 ghost use Rattle.std.specs.Prelude.{◌≡◌, pos, ◌≤ℤ◌, unsigned_abs};
 ghost use Rattle.tsp_distance.specs.Distances.{IsEuc3d, IsMan3d, IsMax3d, euc_3d_of, man_3d_of, max_3d_of};

@@ -1,4 +1,5 @@
--- The point in place of a missing one.
+-- The point (0, 0), which definitions take for a node without a point. For `get` of `Coords` (src/coords.rt), and for
+-- `point_of` in Cost.antt of tsp_file.
 use Rattle.std.specs.Prelude.{pos}
 use Rattle.tsp_distance.specs.declared.decimal.Point.{Point}
 use Rattle.tsp_distance.specs.Distances.{on_plane}

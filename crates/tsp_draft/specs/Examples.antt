@@ -1,5 +1,5 @@
--- Small files on which the definitions are evaluated. For the laws in src/examples.rt, and for those in src/examples.rt of
--- tsp_file.
+-- Small files that lack fields or have wrong ones. For the laws of src/examples.rt, which state the first fault of each,
+-- and for `examples_of_lost_costs` (src/examples.rt of tsp_file).
 use Rattle.std.specs.Prelude.{[], ◌∷◌, Some, pos}
 use Rattle.tsp_format.specs.declared.kinds.Kind.TheVariants.{Tsp, Atsp, Cvrp, Tour, Potentials, Branches}
 use Rattle.tsp_format.specs.declared.kinds.WeightKind.TheVariants.{Explicit, Euc2d}
@@ -17,11 +17,11 @@ directed_matrix = record blank_fields {
   weights = Some (pos 9999 ∷ pos 1 ∷ pos 10 ∷ pos 10 ∷ pos 9999 ∷ pos 2 ∷ pos 3 ∷ pos 10 ∷ pos 9999 ∷ []);
 }
 
--- points
+-- an instance over points, without its coordinates
 abbrev pub plane : Fields
 plane = record blank_fields { kind = Some Tsp; dimension = Some 3; weight_kind = Some Euc2d }
 
--- no nodes at all, which is not valid and goes before what is missing
+-- the DIMENSION 0, which isn't valid; that is a fault before any missing field
 abbrev pub no_nodes : Fields
 no_nodes = record blank_fields { dimension = Some 0 }
 
@@ -29,7 +29,7 @@ no_nodes = record blank_fields { dimension = Some 0 }
 abbrev pub one_weight : Fields
 one_weight = record directed_matrix { weights = Some (pos 1 ∷ []) }
 
--- ---- files that grow by what they miss, one field after the other
+-- ---- files that get one field after the other that their TYPE asks for
 
 -- routes: with a number of nodes, listed weights, their layout, a capacity, the weights, demands and depots
 abbrev pub bare_routes : Fields
@@ -56,24 +56,27 @@ routing_demands = record routing_weights { demands = Some [] }
 abbrev pub routing_depots : Fields
 routing_depots = record routing_demands { depots = Some [] }
 
--- over points, which aren't there
+-- routes over points, without their coordinates
 abbrev pub routing_plane : Fields
 routing_plane = record routing_nodes { weight_kind = Some Euc2d; capacity = Some (pos 4) }
 
--- tours: none, with weights of no layout, and some
+-- a file of TYPE TOUR without tours
 abbrev pub bare_tours : Fields
 bare_tours = record blank_fields { kind = Some Tour }
 
+-- the same with weights of no layout
 abbrev pub touring_weights : Fields
 touring_weights = record bare_tours { weights = Some [] }
 
+-- a file with a list of tours, which is empty
 abbrev pub touring_whole : Fields
 touring_whole = record bare_tours { tours = Some [] }
 
--- weights by a function, and one weight too many
+-- the same with weights by a function
 abbrev pub touring_function : Fields
 touring_function = record touring_whole { weights = Some []; weight_format = Some ByFunction }
 
+-- the same with one weight too many
 abbrev pub touring_surplus : Fields
 touring_surplus = record touring_whole {
   dimension = Some 1;

@@ -1,4 +1,5 @@
--- What a file holds, as lists.
+-- The fields of a file, as lists and numbers. For `Draft` (src/draft.rt), for `File` (src/file.rt of tsp_file), and for
+-- all definitions on files in the crates above.
 use Rattle.std.specs.Prelude.{ℕ, Bool, true, List, [], Option, None, Some, unwrap_or, ℤ, pos, nat_abs, is_some}
 use Rattle.std.specs.Option.{option_map}
 use Rattle.tsp_distance.specs.declared.decimal.Point.{Point}
@@ -108,6 +109,7 @@ stands_in f BranchPart = is_some f.branches
 
 -- ---- keywords with a number, by their field
 
+-- the value of such a keyword, if the file has it
 abbrev pub one_number_in : Fields → Field → Option ℤ
 one_number_in f DimensionKey = option_map pos f.dimension
 one_number_in f CapacityKey = f.capacity
@@ -115,6 +117,7 @@ one_number_in f ScaleKey = f.scale
 one_number_in f LoadUnitKey = f.load_unit
 one_number_in f field = None
 
+-- the fields with another value of such a keyword
 abbrev pub with_one_number : Field → ℤ → Fields → Fields
 with_one_number DimensionKey number f = record f { dimension = Some (nat_abs number) }
 with_one_number CapacityKey number f = record f { capacity = Some number }
@@ -132,6 +135,7 @@ numbers_in f RowPotentialPart = f.row_potentials
 numbers_in f ColumnPotentialPart = f.column_potentials
 numbers_in f field = None
 
+-- the fields with other numbers of such a section
 abbrev pub with_numbers : Field → List ℤ → Fields → Fields
 with_numbers DemandPart numbers f = record f { demands = Some numbers }
 with_numbers NodePotentialPart numbers f = record f { node_potentials = Some numbers }
@@ -145,6 +149,7 @@ points_in f NodeCoordPart = f.coords
 points_in f DisplayDataPart = f.display
 points_in f field = None
 
+-- the fields with other points of such a section
 abbrev pub with_points : Field → List Point → Fields → Fields
 with_points NodeCoordPart points f = record f { coords = Some points }
 with_points DisplayDataPart points f = record f { display = Some points }

@@ -1,5 +1,6 @@
--- The rules over several fields of a file, judged over its present fields, and the first fault of a draft. Which keyword and
--- section each TYPE asks for is TSPLIB 95 (G. Reinelt) and this project's profile of it.
+-- The rules over several fields of a file, which are judged by which fields it has; and the first fault of a draft. For
+-- `end_fault` (src/rules.rt), `File::of` of tsp_file, and the reader. Which keyword and section each TYPE asks for is
+-- TSPLIB 95 (G. Reinelt) and this project's profile of it.
 use Rattle.std.specs.Prelude.{ℕ, Bool, true, false, cond, not, ◌&&◌, ◌||◌, ◌==◌, List, [], ◌∷◌, length, Option, None, Some, is_some}
 use Rattle.std.specs.Option.{option_map, option_or}
 use Rattle.tsp_format.specs.declared.kinds.Kind.{Kind}
@@ -20,7 +21,7 @@ use Rattle.tsp_draft.specs.Validity.{first_failing, bad_field}
 
 -- ---- the present fields
 
--- The presence of fields in a file: which ones, its TYPE, how its weights are given, and how many they are.
+-- Which fields a file has, its TYPE, how its weights are given, and how many they are.
 pub record Standing : Type 0 where
   pub stands : Field → Bool
   pub kind : Option Kind
@@ -29,11 +30,12 @@ pub record Standing : Type 0 where
   pub dimension : Option ℕ
   pub weight_count : ℕ
 
+-- how many elements a list has; 0 where it is missing
 abbrev pub count_of : {A : Type 0} → Option (List A) → ℕ
 count_of None = 0
 count_of (Some xs) = length xs
 
--- the presence of these fields
+-- the same, taken from the fields
 abbrev pub standing_of : Fields → Standing
 standing_of f = record {
   stands = stands_in f;
@@ -46,6 +48,7 @@ standing_of f = record {
 
 -- ---- what a file is
 
+-- TYPE TSP, ATSP or CVRP
 abbrev pub is_instance : Option Kind → Bool
 is_instance (Some kinds.Tsp) = true
 is_instance (Some kinds.Atsp) = true
@@ -55,6 +58,7 @@ is_instance (Some kinds.Potentials) = false
 is_instance (Some kinds.Branches) = false
 is_instance None = false
 
+-- TYPE CVRP
 abbrev pub is_routing : Option Kind → Bool
 is_routing (Some kinds.Cvrp) = true
 is_routing (Some kinds.Tsp) = false
@@ -64,6 +68,7 @@ is_routing (Some kinds.Potentials) = false
 is_routing (Some kinds.Branches) = false
 is_routing None = false
 
+-- TYPE TOUR
 abbrev pub is_tour_file : Option Kind → Bool
 is_tour_file (Some kinds.Tour) = true
 is_tour_file (Some kinds.Tsp) = false
@@ -73,6 +78,7 @@ is_tour_file (Some kinds.Potentials) = false
 is_tour_file (Some kinds.Branches) = false
 is_tour_file None = false
 
+-- TYPE POTENTIALS
 abbrev pub is_potentials_file : Option Kind → Bool
 is_potentials_file (Some kinds.Potentials) = true
 is_potentials_file (Some kinds.Tsp) = false
@@ -82,6 +88,7 @@ is_potentials_file (Some kinds.Tour) = false
 is_potentials_file (Some kinds.Branches) = false
 is_potentials_file None = false
 
+-- TYPE BRANCHES
 abbrev pub is_branches_file : Option Kind → Bool
 is_branches_file (Some kinds.Branches) = true
 is_branches_file (Some kinds.Tsp) = false
@@ -91,6 +98,7 @@ is_branches_file (Some kinds.Tour) = false
 is_branches_file (Some kinds.Potentials) = false
 is_branches_file None = false
 
+-- EDGE_WEIGHT_TYPE EXPLICIT
 abbrev pub is_explicit : Option WeightKind → Bool
 is_explicit (Some weight_kinds.Explicit) = true
 is_explicit (Some weight_kinds.Euc2d) = false
@@ -103,25 +111,27 @@ is_explicit (Some weight_kinds.Man3d) = false
 is_explicit (Some weight_kinds.Max3d) = false
 is_explicit None = false
 
+-- EDGE_WEIGHT_FORMAT FUNCTION
 abbrev pub is_function : Option WeightFormat → Bool
 is_function (Some formats.ByFunction) = true
 is_function (Some (formats.Listed layout)) = false
 is_function None = false
 
--- its weights are listed
+-- an instance whose weights are listed
 abbrev pub has_explicit_weights : Standing → Bool
 has_explicit_weights s = is_instance s.kind && is_explicit s.weight_kind
 
--- its weights are distances
+-- an instance whose weights are distances
 abbrev pub has_distances : Standing → Bool
 has_distances s = is_instance s.kind && is_some s.weight_kind && not (is_explicit s.weight_kind)
 
+-- potentials of rows or of columns, which belong to an ATSP
 abbrev pub has_row_or_column : Standing → Bool
 has_row_or_column s = s.stands RowPotentialPart || s.stands ColumnPotentialPart
 
 -- ---- what may be missing
 
--- the field is asked for
+-- the file has to have the field
 abbrev pub is_asked : Standing → Field → Bool
 is_asked s TypeKey = true
 is_asked s DimensionKey = not (is_tour_file s.kind)
@@ -139,11 +149,11 @@ is_asked s ColumnPotentialPart = is_potentials_file s.kind && s.stands RowPotent
 is_asked s BranchPart = is_branches_file s.kind
 is_asked s field = false
 
--- the field isn't missing
+-- the field is there, or needn't be
 abbrev pub is_there : Standing → Field → Bool
 is_there s field = not (is_asked s field) || s.stands field
 
--- the fields that some file is asked for, in the order in which they are missed
+-- the fields that some file has to have, in the order in which a missing one is reported
 abbrev pub asked_in_order : List Field
 asked_in_order = TypeKey ∷ DimensionKey ∷ EdgeWeightTypeKey ∷ EdgeWeightFormatKey ∷ CapacityKey ∷ NodeCoordPart ∷ EdgeWeightPart
     ∷ DemandPart ∷ DepotPart ∷ TourPart ∷ NodePotentialPart ∷ RowPotentialPart ∷ ColumnPotentialPart
@@ -155,7 +165,7 @@ asked_in_order = TypeKey ∷ DimensionKey ∷ EdgeWeightTypeKey ∷ EdgeWeightFo
 abbrev pub has_node_or_multiplier : Standing → Bool
 has_node_or_multiplier s = s.stands NodePotentialPart || s.stands FixedEdgePotentialPart
 
--- a function in the place of listed weights, or numbers of both sorts of certificates
+-- weights by a function in place of listed ones; or potentials for a TSP and for an ATSP in one file
 abbrev pub has_wrong_format : Standing → Bool
 has_wrong_format s = (is_function s.weight_format && (has_explicit_weights s || s.stands EdgeWeightPart))
     || (is_potentials_file s.kind && has_node_or_multiplier s && has_row_or_column s)
@@ -167,22 +177,24 @@ is_count (Some n) (Some formats.ByFunction) count = true
 is_count (Some n) None count = true
 is_count None format count = true
 
+-- there are more or fewer weights than cells
 abbrev pub has_wrong_count : Standing → Bool
 has_wrong_count s = s.stands EdgeWeightPart && not (is_count s.dimension s.weight_format s.weight_count)
 
 -- ---- the end table
 
--- the last two rows
+-- the last two rows of the table
 abbrev pub format_or_count : Standing → Option EndFault
 format_or_count s = cond (has_wrong_format s) (Some WrongFormat) (cond (has_wrong_count s) (Some WrongCount) None)
 
--- The fault at the end of a file, by its fields and its first incomplete section: the first row that applies.
+-- The fault at the end of a file, by its fields and its first incomplete section: the first row of the table that
+-- applies.
 abbrev pub end_fault : Standing → Option Field → Option EndFault
 end_fault s incomplete = option_or (option_map (λ field. Missing field) (first_failing (is_there s) asked_in_order))
     (option_or (option_map (λ field. Incomplete field) incomplete) (format_or_count s))
 
--- the first fault of a draft: the first field that isn't valid on its own, or the first row of the end table, no section
--- being incomplete
+-- the first fault of a draft: the first field that isn't valid on its own, or else the first row of the end table; no
+-- section is incomplete
 abbrev pub fault_of : Fields → Option DraftFault
 fault_of f = option_or (option_map (λ field. BadField field) (bad_field f))
     (option_map (λ fault. Rule fault) (end_fault (standing_of f) None))

@@ -1,4 +1,5 @@
--- When a field is valid on its own. The ranges are this project's profile of TSPLIB 95.
+-- When a field is valid on its own, as tests. For `bad_field` (src/table.rt) and the tests of src/validity.rt. The
+-- ranges are this project's profile of TSPLIB 95. Valid.antt has them as statements.
 use Rattle.std.specs.Prelude.{ℕ, ◌+◌, ◌-◌, ◌*◌, Bool, true, false, cond, not, ◌&&◌, ◌==◌, nat_le, List, length, slice_index, Option, None, Some, ℤ, pos, neg_ℤ, int_le}
 use Rattle.std.specs.Option.{option_map_or}
 use Rattle.std.specs.Ordering.{int_eq}
@@ -26,12 +27,12 @@ if_there fits (Some x) = fits x
 
 -- ---- kept values
 
--- no byte 10, no blank at either end, and with its keyword at most the limit
+-- a value that is kept has no byte 10 and no blank at either end, and with its keyword it isn't too long
 abbrev pub is_kept : List ℕ → List ℕ → Bool
 is_kept keyword value = nat_le (length keyword + length value) most_kept_bytes && list_all (λ b. not (b == 10)) value
     && not (is_blank (slice_index value 0)) && not (is_blank (slice_index value (length value - 1)))
 
--- a letter first, bytes that a keyword can have, and no word with a meaning of its own
+-- an unknown keyword: a letter first, bytes that a keyword can have, and no word that TSPLIB or this project knows
 abbrev pub is_unknown_keyword : List ℕ → Bool
 is_unknown_keyword word = is_letter (slice_index word 0) && list_all is_keyword_byte word && is_unknown (keyword_of word)
 
@@ -39,18 +40,21 @@ is_unknown_keyword word = is_letter (slice_index word 0) && list_all is_keyword_
 abbrev pub is_other : List ℕ × List ℕ → Bool
 is_other line = is_unknown_keyword line.0 && is_kept line.0 line.1
 
+-- the values of COMMENT lines
 abbrev pub are_comments : List (List ℕ) → Bool
 are_comments comments = nat_le (length comments) most_comments && list_all (is_kept (field_word CommentKey)) comments
 
+-- the lines of unknown keywords
 abbrev pub are_others : List (List ℕ × List ℕ) → Bool
 are_others others = nat_le (length others) most_others && list_all is_other others
 
 -- ---- numbers
 
+-- an integer in a range
 abbrev pub is_from_to : ℤ → ℤ → ℤ → Bool
 is_from_to low high z = int_le low z && int_le z high
 
--- of at most this size
+-- an integer of at most this size
 abbrev pub is_within : ℕ → ℤ → Bool
 is_within most z = is_from_to (neg_ℤ (pos most)) (pos most) z
 
@@ -60,7 +64,7 @@ is_node n node = nat_le 1 node && nat_le node n
 
 -- ---- sections
 
--- what a section is, by the number of nodes; without it no section is valid
+-- a section whose test depends on the number of nodes; without DIMENSION none is valid
 abbrev pub with_dimension : {A : Type 0} → (ℕ → A → Bool) → Option ℕ → A → Bool
 with_dimension fits None x = false
 with_dimension fits (Some n) x = fits n x
@@ -69,7 +73,7 @@ with_dimension fits (Some n) x = fits n x
 abbrev pub is_by_node : {A : Type 0} → (A → Bool) → ℕ → List A → Bool
 is_by_node fits n xs = length xs == n && list_all fits xs
 
--- a third coordinate is within the limits of all in a spatial file, and 0 in every other
+-- the third coordinate of a point: 0 in a file that isn't spatial
 abbrev pub is_third : Bool → ℤ → Bool
 is_third in_space z = cond in_space (is_within most_coordinate z) (int_eq z (pos 0))
 
@@ -77,9 +81,11 @@ is_third in_space z = cond in_space (is_within most_coordinate z) (int_eq z (pos
 abbrev pub is_point : Bool → Point → Bool
 is_point in_space point = is_within most_coordinate point.x && is_within most_coordinate point.y && is_third in_space point.z
 
+-- a demand from 0 to the limit
 abbrev pub is_demand : ℤ → Bool
 is_demand demand = is_from_to (pos 0) (pos most_demand) demand
 
+-- depots that are nodes, and as many as the limit allows
 abbrev pub are_depots : ℕ → List ℕ → Bool
 are_depots n depots = nat_le (length depots) most_depots && list_all (is_node n) depots
 
@@ -87,6 +93,7 @@ are_depots n depots = nat_le (length depots) most_depots && list_all (is_node n)
 abbrev pub is_pair_of : ℕ → ℕ × ℕ → Bool
 is_pair_of n pair = is_node n pair.0 && is_node n pair.1 && not (pair.0 == pair.1)
 
+-- fixed pairs of nodes, as many as the limit allows
 abbrev pub are_fixed : ℕ → List (ℕ × ℕ) → Bool
 are_fixed n pairs = nat_le (length pairs) most_fixed && list_all (is_pair_of n) pairs
 
@@ -94,16 +101,19 @@ are_fixed n pairs = nat_le (length pairs) most_fixed && list_all (is_pair_of n) 
 abbrev pub is_triple_of : ℕ → ℕ × ℕ × ℤ → Bool
 is_triple_of n triple = is_pair_of n (triple.0, triple.1) && is_from_to (pos 0) (pos most_multiplier) triple.2
 
+-- multipliers of fixed pairs of nodes, as many as the limit allows
 abbrev pub are_triples : ℕ → List (ℕ × ℕ × ℤ) → Bool
 are_triples n triples = nat_le (length triples) most_triples && list_all (is_triple_of n) triples
 
+-- weights within their limit, at most one for each pair of nodes
 abbrev pub fit_matrix : ℕ → List ℤ → Bool
 fit_matrix n weights = nat_le n most_matrix_nodes && nat_le (length weights) (n * n) && list_all (is_within most_weight) weights
 
--- not empty, and of nodes that some file can have
+-- a tour or route: not empty, and of nodes that some file can have
 abbrev pub is_node_list : List ℕ → Bool
 is_node_list tour = nat_le 1 (length tour) && list_all (is_node most_nodes) tour
 
+-- tours that have as many nodes in all as the limit allows
 abbrev pub are_tours : List (List ℕ) → Bool
 are_tours tours = list_all is_node_list tours && nat_le (sum_by length tours) most_tour_nodes
 
@@ -111,34 +121,36 @@ are_tours tours = list_all is_node_list tours && nat_le (sum_by length tours) mo
 abbrev pub is_set_of : ℕ → List ℕ → Bool
 is_set_of n set = nat_le 1 (length set) && list_all (is_node n) set
 
--- some sets, the handle first; whether they are those of a comb is judged later
+-- the sets of a family, one at least, the handle first; whether they are a comb is judged later
 abbrev pub are_sets : ℕ → List (List ℕ) → Bool
 are_sets n comb = nat_le 1 (length comb) && list_all (is_set_of n) comb
 
+-- families of sets of nodes, as many as the limits allow
 abbrev pub are_combs : ℕ → List (List (List ℕ)) → Bool
 are_combs n combs = nat_le (length combs) most_combs && list_all (are_sets n) combs
     && nat_le (sum_by (sum_by length) combs) most_comb_nodes
 
--- the index of a node or of some comb, and a difference
+-- an index of a node or of some family, and a difference within its limit
 abbrev pub is_change : ℕ → ℕ × ℤ → Bool
 is_change n change = is_node (n + most_combs) change.0 && is_within most_difference change.1
 
--- a branch is on two different nodes, or on some comb and a limit of 1..n
+-- a branch on two different nodes, or on some family and a number of 1..n
 abbrev pub is_branch_of : ℕ → ℕ × ℕ → Bool
 is_branch_of n branch = is_node (n + most_combs) branch.0 && is_node n branch.1 && not (branch.0 == branch.1)
 
+-- a branch or a leaf whose numbers are in their ranges
 abbrev pub is_step : ℕ → Step → Bool
 is_step n (Branch first second) = is_branch_of n (first, second)
 is_step n (Leaf changes) = list_all (is_change n) changes
 
--- the steps of one whole tree
+-- the steps of one whole tree, as many as the limits allow
 abbrev pub are_tree_steps : ℕ → List Step → Bool
 are_tree_steps n steps = list_all (is_step n) steps && nat_le (branch_count steps) most_branches
     && nat_le (change_count steps) most_changes && are_whole 1 steps
 
 -- ---- all fields
 
--- a keyword whose value is read so is valid; those with words are of types that hold nothing else
+-- the value of a keyword is valid, by what it is read as; a value from a list of words always is
 abbrev pub value_fits : Fields → Field → Option ValueShape → Bool
 value_fits f field None = true
 value_fits f field (Some Kept) = true

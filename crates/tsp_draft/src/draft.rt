@@ -1,4 +1,5 @@
-//! What a file holds, as a draft.
+//! The struct of all fields of a TSPLIB 95 file, which need not be valid. tsp_read fills it,
+//! `src/table.rt` and `src/rules.rt` judge it, and `File` of tsp_file holds a valid one.
 
 use crate::coords::Coords;
 use std::alloc::Global;
@@ -143,7 +144,8 @@ impl Draft {
         is_spatial(self.coord_kind, self.weight_kind)
     }
 
-    /// Whether a field is present; comments and unknown keywords may be none.
+    /// Whether a field is present. The lists of comments and of unknown keywords always are: they
+    /// may be empty.
     pub fn stands(&self, field: Field) -> bool
         ensures { result ≡ stands_in (fields_of self.now) field }
     {

@@ -1,5 +1,5 @@
-//! Small values and drafts, on which the definitions are evaluated. No body is looked at here: a
-//! definition that is changed together with its code is refused by its examples.
+//! Laws that state values of the definitions in `specs/`, worked out by hand: limits of values,
+//! first faults of small drafts, the end table, texts of faults.
 
 ghost use Rattle.std.specs.Prelude.{◌≡◌, ◌+◌, ◌-◌, ◌*◌, ◌^◌, true, false, [], ◌∷◌, None, Some, pos, negsuc, codes, replicate};
 ghost use Rattle.tsp_format.specs.declared.field.Field.TheVariants as fields;

@@ -1,4 +1,5 @@
-//! Why a draft is no file.
+//! The faults of a draft: a field that is invalid on its own, or a rule over several fields that
+//! fails. `File::of` of tsp_file and the reader, tsp_read, return them.
 
 use std::fmt;
 use thiserror::Error;

@@ -1,4 +1,5 @@
-//! What holds of every valid file, as contracts of functions that do nothing.
+//! Laws: the fields of a valid file are in their ranges, and those that its TYPE requires are
+//! present. For `src/laws.rt` of tsp_cost.
 
 ghost use Rattle.std.specs.Prelude.{◌≡◌, None, IsTrue, IsSome};
 ghost use Rattle.tsp_draft.specs.Fields.{Fields};

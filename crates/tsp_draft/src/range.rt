@@ -1,4 +1,5 @@
-//! Whether numbers are in a range.
+//! Whether numbers of a section or a keyword are in a range. For `src/table.rt` and
+//! `src/validity.rt`.
 
 ghost use Rattle.std.specs.Prelude.{◌≡◌, ◌<◌, ◌^◌, pos, ◌≤ℤ◌};
 ghost use Rattle.std.specs.List.{All, list_all};

@@ -1,4 +1,5 @@
-//! The rules over several fields of a file, judged over its present fields.
+//! The end table: the rules over several fields of a file, such as the sections that a TYPE
+//! requires. tsp_read asks `end_fault` at the end of a text, `File::of` of tsp_file for a draft.
 
 ghost use Rattle.std.specs.Prelude.{◌≡◌, None};
 ghost use Rattle.tsp_draft.specs.states.Drafts.{fields_of};
@@ -51,7 +52,7 @@ pub fn end_fault(draft: &Draft, incomplete: Option<Field>) -> Option<EndFault>
     None
 }
 
-/// The first of some fields that is asked for and missing.
+/// The first of these fields that is required and missing.
 fn first_missing(draft: &Draft, fields: &[Field]) -> Option<Field>
     ensures { result ≡ first_failing (is_there (standing_of (fields_of draft.now))) fields.now }
 {
@@ -63,14 +64,14 @@ fn first_missing(draft: &Draft, fields: &[Field]) -> Option<Field>
     None
 }
 
-/// Whether a field isn't missing.
+/// Whether a field is present in this draft.
 fn is_there(draft: &Draft, field: Field) -> bool
     ensures { result ≡ is_there (standing_of (fields_of draft.now)) field }
 {
     !is_asked(draft, field) || draft.stands(field)
 }
 
-/// Whether a field is asked for.
+/// Whether the TYPE of this draft, or another field of it, requires this field.
 fn is_asked(draft: &Draft, field: Field) -> bool
     ensures { result ≡ is_asked (standing_of (fields_of draft.now)) field }
 {

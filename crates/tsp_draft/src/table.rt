@@ -1,4 +1,5 @@
-//! The table of fields: whether each is valid on its own.
+//! The table of fields: whether each is valid on its own, by the tests of `src/validity.rt`.
+//! `File::of` of tsp_file asks for the first that is not.
 
 ghost use Rattle.std.specs.Prelude.{◌≡◌, ℕ, Bool, List, Some, MatchResult, map};
 ghost use Rattle.std.specs.Option.{option_map};
@@ -32,7 +33,7 @@ pub(crate) fn fits(draft: &Draft, field: Field) -> bool
     }
 }
 
-/// Whether a keyword whose value is read so is valid on its own.
+/// Whether a keyword whose value has this shape is valid on its own.
 fn value_fits(draft: &Draft, field: Field, shape: Option<ValueShape>) -> bool
     ensures { result ≡ value_fits (fields_of draft.now) field shape }
 {

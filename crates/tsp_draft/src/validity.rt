@@ -1,4 +1,5 @@
-//! When a value of a field is valid on its own.
+//! Tests of the value of one field: texts, points, nodes, weights, tours, combs, steps of a tree.
+//! For the table of fields in `src/table.rt`.
 
 ghost use Rattle.std.specs.Prelude.{◌≡◌, ◌+◌, ◌-◌, ◌==◌, ◌||◌, not, ◌&&◌, cond, Some, None, length, slice_index, nat_le, map};
 ghost use Rattle.std.specs.List.{list_all, sum_by};
@@ -125,7 +126,7 @@ fn are_within(spatial: bool, points: &[PlanePoint]) -> bool
         .all(|point| is_point(spatial, point.in_space()))
 }
 
-/// Whether every point is one of a spatial file, or of another.
+/// Whether every point is valid by `is_point`, in a spatial file or in another.
 pub(crate) fn are_points(spatial: bool, points: &Coords) -> bool
     ensures { result ≡ list_all (is_point spatial) (points_of points.now) }
 {
@@ -230,14 +231,15 @@ fn have_few_nodes(tours: &[Vec<u32>]) -> bool
     true
 }
 
-/// Whether every tour is one.
+/// Whether every list is a tour by `is_node_list`.
 fn is_each_tour(tours: &[Vec<u32>]) -> bool
     ensures { result ≡ list_all (λ tour. is_node_list tour.items) tours.now }
 {
     tours.iter().all(|tour| is_node_list(tour))
 }
 
-/// Whether every tour is one, and they have together at most `MOST_TOUR_NODES` nodes.
+/// Whether every list is a tour by `is_node_list`, and they have together at most `MOST_TOUR_NODES`
+/// nodes.
 pub(crate) fn are_tours(tours: &[Vec<u32>]) -> bool
     ensures { result ≡ (list_all (λ tour. is_node_list tour.items) tours.now
         && nat_le (sum_by (λ tour. length tour.items) tours.now) most_tour_nodes) }
@@ -328,7 +330,7 @@ fn is_change(n: u32, change: (u32, i64)) -> bool
     is_index(n, change.0) && is_from_to(change.1, -MOST_DIFFERENCE, MOST_DIFFERENCE)
 }
 
-/// Whether every difference is one.
+/// Whether every change of a leaf is valid by `is_change`.
 fn are_changes(n: u32, changes: &[(u32, i64)]) -> bool
     ensures { result ≡ list_all (is_change n) changes.now }
 {
@@ -352,7 +354,7 @@ fn is_step(n: u32, step: &TreeStep) -> bool
     }
 }
 
-/// Whether every step is one.
+/// Whether every step is valid by `is_step`.
 fn is_each_step(n: u32, steps: &[TreeStep]) -> bool
     ensures { result ≡ list_all (λ step. is_step n (step_of step)) steps.now }
 {

@@ -1,8 +1,9 @@
--- Sentences as lines of an explanation.
+-- The lines of an explanation: sentences, each line of them indented by two blanks. For `push_lines` and `push_indented`
+-- (src/text.rt).
 use Rattle.std.specs.Prelude.{ℕ, List, [], ◌∷◌, ◌++◌, ◌==◌, cond, map, codes}
 use Rattle.std.specs.List.{concat}
 
--- a byte 10 begins a line, and each line begins with two blanks
+-- a byte of the sentences: after byte 10 a new line begins, with two blanks
 abbrev pub indented_byte : ℕ → List ℕ
 indented_byte byte = cond (byte == 10) (10 ∷ codes "  ") (byte ∷ [])
 

@@ -1,26 +1,29 @@
--- How bytes of a file are shown: as the command `cat -v` shows them.
+-- How an explanation shows bytes of a file: as the command `cat -v` does. For `push_shown` and `push_name`
+-- (src/text.rt).
 use Rattle.std.specs.Prelude.{ℕ, List, [], ◌∷◌, ◌++◌, ◌+◌, ◌-◌, ◌==◌, cond, map, codes, nat_lt}
 use Rattle.std.specs.List.{concat}
 
--- a byte below 128: 127 and those below 32 but the tab are a caret and the byte with bit 64 turned
+-- a byte below 128: a caret and the byte with bit 64 turned, where it is 127 or below 32, but not the tab; else itself
 abbrev pub shown_low : ℕ → List ℕ
 shown_low byte = cond (byte == 9) (byte ∷ [])
     (cond (nat_lt byte 32) (94 ∷ (byte + 64) ∷ []) (cond (byte == 127) (codes "^?") (byte ∷ [])))
 
--- one from 128 on is "M-" and the byte without its highest bit, where a tab is "^I"
+-- a byte from 128 on, by its lower seven bits: "M-" and what they show, but "^I" for a tab
 abbrev pub shown_high : ℕ → List ℕ
 shown_high low = codes "M-" ++ cond (low == 9) (codes "^I") (shown_low low)
 
+-- any byte
 abbrev pub shown_byte : ℕ → List ℕ
 shown_byte byte = cond (nat_lt byte 128) (shown_low byte) (shown_high (byte - 128))
 
--- In a file's name only control bytes are shown so, that it stays in its line. Others are as they are: names are UTF-8.
+-- A byte of a file's name: only those below 32 and 127 are shown so. Others are as they are, since names are UTF-8.
 abbrev pub named_byte : ℕ → List ℕ
 named_byte byte = cond (nat_lt byte 128) (shown_low byte) (byte ∷ [])
 
+-- a file's name
 abbrev pub name_shown : List ℕ → List ℕ
 name_shown name = concat (map named_byte name)
 
--- the bytes one after the other
+-- bytes of a file, one after the other
 abbrev pub all_shown : List ℕ → List ℕ
 all_shown bytes = concat (map shown_byte bytes)

@@ -1,4 +1,5 @@
--- The parts into which sets divide the nodes, and what their cyclic orders say of cycles.
+-- The parts into which sets divide the nodes, and that the best cyclic order of the parts crosses the sets as rarely as
+-- any cycle. For `parts_of` (src/parts.rt) and the laws of src/laws.rt.
 use Rattle.std.specs.Prelude.{◌≡◌, ◌-◌, ◌≤◌, ℕ, Bool, List, length, slice_index, ℤ, ◌≤ℤ◌}
 use Rattle.std.specs.List.{All, Any}
 use Rattle.tsp_format.specs.Nodes.{IsNode}
@@ -12,7 +13,7 @@ pub record ArePartsOf (n : ℕ) (sets : List (ℕ → Bool)) (firsts : List ℕ)
   pub apart : AreUnlike sets firsts
   pub each : (node : ℕ) → IsNode n node → Any (AreAlike sets node) firsts
 
--- the crossings between two parts, which are numbered from 1 on
+-- how many sets the nodes of two parts cross; parts are numbered from 1 on
 abbrev pub between : List (ℕ → Bool) → List ℕ → ℕ → ℕ → ℤ
 between sets firsts a b = sets_crossed sets (slice_index firsts (a - 1)) (slice_index firsts (b - 1))
 
@@ -24,7 +25,7 @@ pub record IsDivision (n m : ℕ) (sets : List (ℕ → Bool)) (part_of : ℕ �
 
 -- ---- the theorems
 
--- Every cycle crosses the sets at least as often as the best cyclic order of any such parts, under what their nodes cross.
+-- Every cycle crosses the sets at least as often as the best cyclic order of the parts of a division.
 abbrev pub DivisionsBoundCycles : Type 0
 DivisionsBoundCycles = (n m : ℕ) (sets : List (ℕ → Bool)) (part_of : ℕ → ℕ) (cost : ℕ → ℕ → ℤ) (least : ℤ) (nodes : List ℕ)
     → 1 ≤ n → IsDivision n m sets part_of
@@ -37,16 +38,17 @@ PartsBoundCycles = (n : ℕ) (sets : List (ℕ → Bool)) (firsts : List ℕ) (l
     → 1 ≤ n → ArePartsOf n sets firsts → IsLeastLength (length firsts) (between sets firsts) least
     → IsCycle n nodes → least ≤ℤ length_of (sets_crossed sets) nodes
 
--- And some cycle crosses them no more often.
+-- Some cycle crosses them no more often than that.
 abbrev pub PartsTellCycles : Type 0
 PartsTellCycles = (n : ℕ) (sets : List (ℕ → Bool)) (firsts : List ℕ) (least : ℤ)
     → 1 ≤ n → ArePartsOf n sets firsts → IsLeastLength (length firsts) (between sets firsts) least
     → IsLeastLength n (sets_crossed sets) least
 
--- There is one least length, and one greatest cost.
+-- There is one least length.
 abbrev pub LeastLengthsAreUnique : Type 0
 LeastLengthsAreUnique = (n : ℕ) (cost : ℕ → ℕ → ℤ) (a b : ℤ) → IsLeastLength n cost a → IsLeastLength n cost b → a ≡ b
 
+-- There is one largest cost.
 abbrev pub MostCostsAreUnique : Type 0
 MostCostsAreUnique = (n : ℕ) (cost : ℕ → ℕ → ℤ) (a b : ℤ) → IsMostCost n cost a → IsMostCost n cost b → a ≡ b
 

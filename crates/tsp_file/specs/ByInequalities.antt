@@ -1,11 +1,12 @@
--- The distance by each weight type as its inequalities say it, which the functions that compute it need not be read for.
+-- The distance by each weight type, by its inequalities: so nobody has to read the functions that compute it. For
+-- Problems.antt of tsp_cost, and for the law `costs_are_by_inequalities` (src/laws.rt).
 use Rattle.std.specs.Prelude.{ℕ}
 use Rattle.tsp_distance.specs.declared.decimal.Point.{Point}
 use Rattle.tsp_distance.specs.Distances.{IsEuc2d, IsCeil2d, IsMan2d, IsMax2d, IsAtt, IsEuc3d, IsMan3d, IsMax3d}
 use Rattle.tsp_format.specs.declared.kinds.WeightKind.{WeightKind}
 use Rattle.tsp_format.specs.declared.kinds.WeightKind.TheVariants.{Explicit, Euc2d, Ceil2d, Man2d, Max2d, Att, Euc3d, Man3d, Max3d}
 
--- k is the distance by the weight type, if it is one
+-- k is the distance of a and b by the weight type; EXPLICIT has none
 abbrev pub IsDistanceBy : WeightKind → Point → Point → ℕ → Type 0
 IsDistanceBy Euc2d a b k = IsEuc2d a b k
 IsDistanceBy Ceil2d a b k = IsCeil2d a b k

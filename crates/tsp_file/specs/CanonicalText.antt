@@ -1,5 +1,5 @@
--- The canonical text of a file: the texts of its fields in canonical order, then the line EOF. A field that is missing has no
--- text.
+-- The canonical text of a file: the texts of its fields in canonical order, then the line EOF. A field that is missing
+-- has no text. For `write_file` (src/writer.rt), and so for `tsp convert` (ConvertRun.antt of tsp_judge).
 use Rattle.std.specs.Prelude.{ℕ, Bool, true, false, cond, List, [], ◌∷◌, ◌++◌, take, drop, map, length, codes, Option, Some, None, ℤ}
 use Rattle.std.specs.Option.{option_map_or}
 use Rattle.std.specs.List.{flat_map, enumerate_from}
@@ -37,6 +37,7 @@ blank_before (first ∷ rest) = 32 ∷ first ∷ rest
 abbrev pub value_line : List ℕ → List ℕ → List ℕ
 value_line keyword value = keyword ++ (codes " :" ++ (blank_before value ++ line_end))
 
+-- the line of a keyword that is a field
 abbrev pub keyword_line : Field → List ℕ → List ℕ
 keyword_line field value = value_line (field_word field) value
 
@@ -58,7 +59,7 @@ ended_line words = flat_map before_blank words ++ (codes "-1" ++ line_end)
 
 -- ---- sections
 
--- the section's line, then its number lines
+-- the section's line, then its lines of numbers
 abbrev pub section_text : Field → List ℕ → List ℕ
 section_text field lines = field_word field ++ (line_end ++ lines)
 
@@ -112,6 +113,7 @@ case_tree_lines steps = flat_map step_line steps
 abbrev pub coordinate_words : Bool → Point → List (List ℕ)
 coordinate_words in_space point = spelling point.x ∷ spelling point.y ∷ cond in_space (spelling point.z ∷ []) []
 
+-- one number, as the words of a line
 abbrev pub whole_number : ℤ → List (List ℕ)
 whole_number number = signed_decimal number ∷ []
 
@@ -156,7 +158,7 @@ text_of_section f field Triples = optional (λ triples. section_text field (trip
 text_of_section f field Combs = optional (λ combs. section_text field (comb_list combs)) f.combs
 text_of_section f field Steps = optional (λ steps. section_text field (case_tree_lines steps)) f.branches
 
--- the text of a keyword whose value is read as a number
+-- the text of a keyword whose value is a number; the others have their text in `text_of_field`
 abbrev pub text_of_value : Fields → Field → Option ValueShape → List ℕ
 text_of_value f field None = []
 text_of_value f field (Some Kept) = []

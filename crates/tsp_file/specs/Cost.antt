@@ -1,4 +1,5 @@
--- The cost from one node of an instance to another, as a function of its fields, which computes.
+-- The cost from one node of an instance to another, as a function of its fields, which can be evaluated. For `Instance`
+-- of tsp_cost, `relayout` (src/relayout.rt), and the verdicts of tsp_verdict.
 -- Source: TSPLIB 95 (G. Reinelt), EDGE_WEIGHT_TYPE, EDGE_WEIGHT_FORMAT and the distance functions.
 use Rattle.std.specs.Prelude.{ℕ, ◌-◌, List, [], Option, None, Some, unwrap_or, slice_index_or, ℤ, pos}
 use Rattle.std.specs.Option.{option_map, option_or}
@@ -16,7 +17,7 @@ use Rattle.tsp_draft.specs.Fields.{Fields, nodes_of}
 
 -- ---- weights that are listed
 
--- those of the file; none where it lists none
+-- the weights of the file; none where it lists none
 abbrev pub listed_weights : Fields → List ℤ
 listed_weights f = unwrap_or f.weights []
 
@@ -26,7 +27,7 @@ layout_of (Some (Listed layout)) = layout
 layout_of (Some ByFunction) = FullMatrix
 layout_of None = FullMatrix
 
--- the weight at the place of a pair among the cells, if it is one of them
+-- the weight of a pair, by its place among the cells of the layout, if it is a cell
 abbrev pub weight_at : Layout → ℕ → List ℤ → ℕ × ℕ → Option ℤ
 weight_at layout n weights pair = option_map (λ place. slice_index_or weights place (pos 0)) (place_of layout n pair)
 
@@ -42,11 +43,11 @@ listed_cost layout n weights i j =
 abbrev pub coords_in : Fields → List Point
 coords_in f = unwrap_or f.coords []
 
--- the point of a node
+-- the point of a node; (0, 0) where there is none
 abbrev pub point_of : List Point → ℕ → Point
 point_of points node = slice_index_or points (node - 1) origin
 
--- the distance by the weight type, if it is one
+-- the distance by the weight type; 0 for EXPLICIT
 unfoldable pub distance : WeightKind → Point → Point → ℤ
 distance Euc2d a b = pos (euc_2d_of a b)
 distance Ceil2d a b = pos (ceil_2d_of a b)
@@ -60,7 +61,7 @@ distance Explicit a b = pos 0
 
 -- ---- costs
 
--- by the weight type, from the weights or from the coordinates of the two nodes
+-- the cost by the weight type, from the listed weights or from the points of the two nodes
 abbrev pub cost_by : Option WeightKind → Fields → ℕ → ℕ → ℤ
 cost_by (Some Explicit) f i j = listed_cost (layout_of f.weight_format) (nodes_of f) (listed_weights f) i j
 cost_by (Some kind) f i j = distance kind (point_of (coords_in f) i) (point_of (coords_in f) j)

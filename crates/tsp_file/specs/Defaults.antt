@@ -1,15 +1,17 @@
--- What a file means where it lacks a field.
+-- The value of a field that a file lacks: SCALE and LOAD_UNIT are 1, fixed pairs, multipliers and families are none. For
+-- the verdicts of tsp_verdict, src/typed.rt, and `fixed` of `Instance` (src/instance.rt of tsp_cost).
 use Rattle.std.specs.Prelude.{ℕ, List, [], Option, unwrap_or, ℤ, pos}
 use Rattle.tsp_draft.specs.Fields.{Fields}
 
--- SCALE: 1 is meant where it is missing
+-- SCALE, or 1 where it is missing
 abbrev pub meant_scale : Option ℤ → ℤ
 meant_scale scale = unwrap_or scale (pos 1)
 
+-- the scale of a file
 abbrev pub scale_in : Fields → ℤ
 scale_in f = meant_scale f.scale
 
--- LOAD_UNIT: 1 is meant where it is missing
+-- LOAD_UNIT, or 1 where it is missing
 abbrev pub load_unit_in : Fields → ℤ
 load_unit_in f = unwrap_or f.load_unit (pos 1)
 

@@ -1,9 +1,11 @@
--- Small matrices on which the definitions are evaluated. For the laws in src/examples.rt.
+-- Small matrices in several layouts. For `examples_of_costs` and `examples_of_relayouts` (src/examples.rt), which state
+-- their costs, and their weights in another layout.
 use Rattle.std.specs.Prelude.{◌≡◌, ℕ, List, [], ◌∷◌, ℤ, pos}
 use Rattle.tsp_format.specs.declared.layout.Layout.{Layout}
 use Rattle.tsp_file.specs.Cost.{listed_cost}
 use Rattle.tsp_file.specs.Relayout.{costs_in}
 
+-- a list of six weights
 abbrev pub six : ℤ → ℤ → ℤ → ℤ → ℤ → ℤ → List ℤ
 six a b c d e f = a ∷ b ∷ c ∷ d ∷ e ∷ f ∷ []
 

@@ -1,4 +1,5 @@
--- Weights that are listed in a layout.
+-- That a file lists weights in a layout. For `ListedWeights` (src/weights.rt), `as_matrix` (src/typed.rt), and
+-- `Triangle` (src/triangle.rt of tsp_cost).
 use Rattle.std.specs.Prelude.{◌≡◌, ℕ, ◌≤◌, false, List, length, Some, None, ℤ}
 use Rattle.std.specs.List.{All}
 use Rattle.tsp_format.specs.declared.layout.Layout.{Layout}

@@ -1,4 +1,5 @@
--- What becomes of a file whose weights are put into another layout, and which costs a layout can hold.
+-- The file after its weights are put into another layout, and which costs a layout can hold. For `relayout`
+-- (src/relayout.rt), and so for `tsp convert --layout`.
 -- Source: TSPLIB 95 (G. Reinelt), the values of EDGE_WEIGHT_FORMAT.
 use Rattle.std.specs.Prelude.{◌≡◌, ◌≢◌, ℕ, ◌<◌, ◌⊎◌, Bool, false, List, map, Some, IsSome, IsTrue, Result, Ok, Err, ℤ, pos}
 use Rattle.tsp_format.specs.declared.layout.Layout.{Layout}
@@ -19,7 +20,7 @@ use Rattle.tsp_file.specs.Cost.{cost}
 abbrev pub HoldsPairs : Layout → (ℕ → ℕ → ℤ) → Type 0
 HoldsPairs layout cost = (layout ≡ FullMatrix) ⊎ IsSymmetric cost
 
--- whether the diagonal is listed: with one of its pairs all are
+-- whether a layout lists the diagonal
 abbrev pub lists_diagonal : Layout → Bool
 lists_diagonal layout = is_listed layout (1, 1)
 
@@ -47,19 +48,20 @@ with_weights f to weights = record f { weight_format = Some (Listed to); weights
 abbrev pub costs_in : Layout → ℕ → (ℕ → ℕ → ℤ) → List ℤ
 costs_in layout n cost = map (λ cell. cost cell.0 cell.1) (cells layout n)
 
--- the weights are listed, and the layout can hold their costs
+-- the file lists weights, and the layout can hold their costs
 pub record CanGo (f : Fields) (to : Layout) : Type 0 where
   pub listed : HasListedWeights f
   pub pairs : HoldsPairs to (cost f)
   pub diagonal : HoldsDiagonal to (cost f)
 
--- Only the format and the weights are others, and every cost is as before, those from a node to itself too.
+-- Only the layout and the list of weights change, and every cost is as before, also from a node to itself.
 pub record IsRelaid (old : Fields) (to : Layout) (new : Fields) : Type 0 where
   pub can_go : CanGo old to
   pub fields : new ≡ with_weights old to (costs_in to (nodes_of old) (cost old))
   pub costs : (i j : ℕ) → cost new i j ≡ cost old i j
 
--- Why it isn't done: the first of these that holds. Of memory there can't be a want where the layout is that of the file.
+-- Why the layout isn't changed: the first of these that holds. It can't be memory where the file has that layout
+-- already.
 abbrev pub IsRefused : Fields → Layout → RelayoutFault → Type 0
 IsRefused f to NotExplicit = ¬ HasListedWeights f
 IsRefused f to (NotSymmetric i j) = HasListedWeights f × (to ≢ FullMatrix) × IsFirstAsymmetric (nodes_of f) (cost f) (i, j)
@@ -67,7 +69,7 @@ IsRefused f to (DiagonalLost i) = HasListedWeights f × HoldsPairs to (cost f)
     × (lists_diagonal to ≡ false) × IsFirstOnDiagonal (nodes_of f) (cost f) i
 IsRefused f to OutOfMemory = CanGo f to × (f.weight_format ≢ Some (Listed to))
 
--- the file in the new layout, or why not and the same file
+-- the file in the new layout; or the fault, with the file as it was
 abbrev pub IsRelayout : Fields → Layout → Result Fields (RelayoutFault × Fields) → Type 0
 IsRelayout old to (Ok new) = IsRelaid old to new
 IsRelayout old to (Err (fault, back)) = IsRefused old to fault × (back ≡ old)

@@ -1,4 +1,4 @@
--- A small file with all sorts of fields, on which the definitions are evaluated. No valid file has all of them. For the laws in
+-- A small file with a field of each sort, which no valid file has, and its canonical text. For the laws of
 -- src/text_examples.rt.
 use Rattle.std.specs.Prelude.{◌≡◌, ℕ, List, [], ◌∷◌, ◌++◌, Some, pos, negsuc, codes}
 use Rattle.tsp_format.specs.declared.kinds.Kind.TheVariants as kinds
@@ -13,6 +13,7 @@ use Rattle.tsp_distance.specs.Distances.{on_plane}
 use Rattle.tsp_draft.specs.Fields.{Fields, blank_fields}
 use Rattle.tsp_file.specs.CanonicalText.{text_of_field}
 
+-- a file with a field of each sort
 abbrev pub small : Fields
 small = record blank_fields {
   name = Some (codes "x y");
@@ -42,7 +43,7 @@ small = record blank_fields {
   branches = Some (Branch 1 2 ∷ Leaf ((2, pos 1) ∷ (7, negsuc 2) ∷ []) ∷ Leaf [] ∷ []);
 }
 
--- its whole text
+-- its canonical text
 abbrev pub small_text : List ℕ
 small_text = codes "NAME : x y\n" ++ codes "TYPE : TSP\n" ++ codes "COMMENT : a\nCOMMENT :\n" ++ codes "FOO : BAR\n"
     ++ codes "DIMENSION : 2\n" ++ codes "CAPACITY : 8\n" ++ codes "SCALE : 3\n" ++ codes "LOAD_UNIT : 5\n"
@@ -69,7 +70,7 @@ spatial_node = record blank_fields {
 abbrev pub two_tours : Fields
 two_tours = record blank_fields { kind = Some kinds.Tour; dimension = Some 2; tours = Some ((2 ∷ 1 ∷ []) ∷ (1 ∷ []) ∷ []) }
 
--- no combs
+-- a file whose list of families is empty
 abbrev pub without_combs : Fields
 without_combs = record blank_fields { combs = Some [] }
 

@@ -1,4 +1,5 @@
--- What files of some TYPEs hold, with no field that may be missing, and the ranges of what they hold.
+-- The fields that a file of each TYPE always has, with their ranges. For the calls of src/typed.rt, which lend these
+-- fields, and for the functions of tsp_verdict that read certificates.
 use Rattle.std.specs.Prelude.{◌≡◌, ℕ, ◌≤◌, List, length, Some, IsSome, IsTrue, ℤ, pos}
 use Rattle.std.specs.List.{All, sum_by}
 use Rattle.tsp_format.specs.declared.kinds.Kind.TheVariants as kinds
@@ -9,7 +10,7 @@ use Rattle.tsp_draft.specs.Rules.{is_instance}
 use Rattle.tsp_draft.specs.Valid.{IsInRange, HasInstance, HasRouting, HasPotentials, HasBranches, IsFromTo, IsWithin, IsByNode, IsDemand, IsTripleOf, AreDepots, AreSets, AreTreeSteps}
 use Rattle.tsp_file.specs.Defaults.{scale_in, load_unit_in, multipliers_in, families_listed}
 
--- what every valid file holds: the fields that its TYPE asks for, and each in its range
+-- a valid file has the fields that its TYPE asks for, each in its range
 pub record HoldsItsType (f : Fields) : Type 0 where
   pub range : IsInRange f
   pub kind : IsSome f.kind
@@ -19,7 +20,7 @@ pub record HoldsItsType (f : Fields) : Type 0 where
   pub potentials : f.kind ≡ Some kinds.Potentials → HasPotentials f
   pub branches : f.kind ≡ Some kinds.Branches → HasBranches f
 
--- a routing problem, beside its costs
+-- the fields of a routing problem, without its costs
 pub record HoldsRouting (f : Fields) (capacity : ℤ) (demands : List ℤ) (depots : List ℕ) : Type 0 where
   pub kind : f.kind ≡ Some kinds.Cvrp
   pub capacity_is : f.capacity ≡ Some capacity
@@ -34,7 +35,7 @@ pub record AreMultipliersIn (f : Fields) (multipliers : List (ℕ × ℕ × ℤ)
   pub few : length multipliers ≤ most_triples
   pub each : All (IsTripleOf (nodes_of f)) multipliers
 
--- potentials of nodes, with multipliers, which are none where no section lists them; 1 is meant where SCALE is missing
+-- the fields of potentials of nodes, with the scale and the multipliers, or their defaults
 pub record HoldsNodeNumbers (f : Fields) (scale : ℤ) (numbers : List ℤ) (multipliers : List (ℕ × ℕ × ℤ)) : Type 0 where
   pub kind : f.kind ≡ Some kinds.Potentials
   pub scale_is : scale ≡ scale_in f
@@ -44,7 +45,7 @@ pub record HoldsNodeNumbers (f : Fields) (scale : ℤ) (numbers : List ℤ) (mul
   pub each_number : IsByNode (IsWithin most_potential) f numbers
   pub each_multiplier : AreMultipliersIn f multipliers
 
--- potentials of rows and of columns
+-- the fields of potentials of rows and of columns, with the scale or its default
 pub record HoldsDuals (f : Fields) (scale : ℤ) (rows columns : List ℤ) : Type 0 where
   pub kind : f.kind ≡ Some kinds.Potentials
   pub scale_is : scale ≡ scale_in f
@@ -54,13 +55,13 @@ pub record HoldsDuals (f : Fields) (scale : ℤ) (rows columns : List ℤ) : Typ
   pub each_row : IsByNode (IsWithin most_potential) f rows
   pub each_column : IsByNode (IsWithin most_potential) f columns
 
--- combs as a file has them: not too many, each of some sets of nodes, which aren't empty
+-- families as a file has them: as many as the limits allow, each of sets of nodes that aren't empty
 pub record AreSomeSets (n : ℕ) (combs : List (List (List ℕ))) : Type 0 where
   pub few : length combs ≤ most_combs
   pub sets : All (AreSets n) combs
   pub few_nodes : sum_by (sum_by length) combs ≤ most_comb_nodes
 
--- a tree of cases, with combs, which are none where no section lists them
+-- the fields of a tree of cases, with the scale, the load unit and the families, or their defaults
 pub record HoldsCases (f : Fields) (scale load_unit : ℤ) (combs : List (List (List ℕ))) (steps : List Step) : Type 0 where
   pub kind : f.kind ≡ Some kinds.Branches
   pub scale_is : scale ≡ scale_in f

@@ -1,5 +1,5 @@
-//! Small matrices, on which the definitions are evaluated. No body is looked at here: a definition
-//! that is changed together with its code is refused by its examples.
+//! Laws that state values of the definitions in `specs/`, worked out by hand: costs of two nodes in
+//! each layout, the weights in another layout, and the distance of each weight type.
 
 ghost use Rattle.std.specs.Prelude.{◌≡◌, true, false, [], ◌∷◌, pos};
 ghost use Rattle.tsp_distance.specs.declared.decimal.Point.{Point};

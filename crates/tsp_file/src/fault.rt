@@ -1,4 +1,5 @@
-//! Why the weights of a file aren't put into another layout.
+//! Why the weights of a file can't be put into another layout. `File::relayout` returns it, and
+//! `tsp convert --layout` reports it.
 
 use std::fmt;
 use thiserror::Error;

@@ -1,4 +1,5 @@
-//! What a valid file holds.
+//! A valid file, with a call for each of its fields. tsp_read and `File::of` make one; tsp_cost,
+//! tsp_verdict and tsp_report take its fields.
 
 use crate::halves::keep_half;
 use crate::whole::make_whole;
@@ -6,7 +7,7 @@ use std::marker::Model;
 use tsp_draft::{Coords, Draft, DraftFault, bad_field, end_fault};
 use tsp_format::{CoordKind, DisplayKind, Kind, Layout, TreeStep, WeightFormat, WeightKind};
 
-/// What a valid file holds.
+/// A valid TSPLIB 95 file.
 ///
 /// It is made from a draft by [`File::of`], which says what is valid, or by a reader. A call for
 /// each field lends it.
@@ -52,8 +53,8 @@ impl File {
     ghost use Rattle.tsp_format.specs.states.TreeSteps.{steps_of};
     ghost use Rattle.tsp_draft.specs.Rules.{fault_of};
 
-    /// The fields of this file, as a draft that has no fault: those are there that its TYPE asks
-    /// for, and each is in its range.
+    /// The fields of this file, as a draft without a fault: the fields that its TYPE requires are
+    /// present, and each is in its range.
     pub fn fields(&self) -> &Draft
         ensures value { fields_of result.now ≡ self.now }
         ensures valid { fault_of self.now ≡ None }

@@ -1,4 +1,5 @@
-//! Half of a full matrix, in the memory of the whole.
+//! Half of a full symmetric matrix, moved to the beginning of its vector, so that no memory is
+//! taken. For `File::with_half` in `src/file.rt`.
 
 ghost use Rattle.std.specs.Prelude.{◌≡◌, ◌≤◌, ◌+◌, ◌-◌, ◌*◌, length};
 ghost use Rattle.tsp_format.specs.declared.layout.Layout.TheVariants.{FullMatrix};

@@ -1,4 +1,6 @@
-//! What always holds of costs and of the canonical text, as contracts of functions that do nothing.
+//! Laws: a cost by coordinates is the one number with the inequalities of its distance (for
+//! `src/laws.rt` of tsp_cost), and a valid file's canonical text is short (for `src/round_trip.rt`
+//! of tsp_round).
 
 ghost use Rattle.std.specs.Prelude.{◌≡◌, ◌≢◌, ◌<◌, ℕ, [], length, None, Some, unwrap_or, pos, unsigned_abs};
 ghost use Rattle.tsp_format.specs.declared.kinds.WeightKind.{WeightKind};

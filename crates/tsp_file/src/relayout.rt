@@ -1,4 +1,5 @@
-//! The change of the layout of a file's weights.
+//! `File::relayout`, which puts the weights of a file into another layout if each cost stays as it
+//! is. For `tsp convert --layout`, in `src/convert.rt` of tsp_judge.
 
 ghost use Rattle.std.specs.Prelude.{MatchResult};
 ghost use Rattle.tsp_file.specs.Relayout.{CanGo, IsRefused, IsRelayout};

@@ -1,5 +1,5 @@
-//! The text of a small file with all sorts of fields. No body is looked at here: a definition that
-//! is changed together with its code is refused by its examples.
+//! Laws that state values of the definitions in `specs/`, worked out by hand: the canonical text of
+//! small drafts, line by line, and texts of faults.
 
 ghost use Rattle.std.specs.Prelude.{◌≡◌, ◌++◌, [], codes, decimal};
 ghost use Rattle.tsp_format.specs.declared.field.Field.TheVariants as fields;
@@ -9,7 +9,7 @@ ghost use Rattle.tsp_file.specs.RelayoutFaultText.{relayout_fault_text};
 ghost use Rattle.tsp_file.specs.CanonicalText.{text_of, text_of_field};
 ghost use Rattle.tsp_file.specs.TextExamples.{IsSmallText, small, small_text, spatial_node, two_tours, without_combs};
 
-/// The lines of keywords.
+/// The canonical text of each keyword, on small files.
 pub fn examples_of_lines()
     ensures name { IsSmallText fields.NameKey (codes "NAME : x y\n") }
     ensures kind { IsSmallText fields.TypeKey (codes "TYPE : TSP\n") }

@@ -1,4 +1,5 @@
-//! What files of some TYPEs hold, with no field that may be missing.
+//! The fields that a file of a TYPE always has, without `Option`: matrices, tours, routes,
+//! potentials, trees of cases. For tsp_verdict and `src/instance.rt` of tsp_cost.
 
 use crate::file::File;
 use crate::weights::ListedWeights;

@@ -1,4 +1,5 @@
-//! How weights get into another layout.
+//! The four ways to put the weights of a file into another layout. For `src/relayout.rt`, which
+//! takes the cheapest.
 
 use tsp_format::Layout;
 

@@ -1,4 +1,5 @@
-//! Weights that a file lists, and their costs in another layout.
+//! The weights that a file lists, their costs, and the costs that another layout can't hold. For
+//! `src/relayout.rt`, and `src/matrix.rt` and `src/triangle.rt` of tsp_cost.
 
 ghost use Rattle.std.specs.Prelude.{◌≡◌, ◌≤◌, length};
 ghost use Rattle.std.specs.List.{All};
@@ -98,7 +99,7 @@ impl<'a> ListedWeights<'a> {
         0
     }
 
-    /// The same in a full matrix, where it is the weight of the pair.
+    /// The cost in a full matrix, where it is the weight of the pair.
     #[inline]
     fn weight(&self, i: u32, j: u32) -> i64
         requires full { self.now.layout ≡ FullMatrix }
@@ -152,7 +153,7 @@ impl<'a> ListedWeights<'a> {
         self.first_asymmetric_by_rows()
     }
 
-    /// The same, pair by pair.
+    /// The result of `first_asymmetric`, found pair by pair.
     fn first_asymmetric_by_rows(&self) -> Option<(u32, u32)>
         ensures { FindsAsymmetric self.now.nodes (costs_of self.now) result }
     {
@@ -179,7 +180,8 @@ impl<'a> ListedWeights<'a> {
         true
     }
 
-    /// The same over a band of rows, counted from 0, from the band's block on the diagonal on.
+    /// Whether the two costs of each pair are the same over a band of rows, counted from 0, from
+    /// the band's block on the diagonal on.
     fn is_symmetric_band(&self, band: u32) -> bool
         requires full { self.now.layout ≡ FullMatrix }
         requires band { band * 64 ≤ self.now.nodes }
@@ -195,7 +197,8 @@ impl<'a> ListedWeights<'a> {
         true
     }
 
-    /// The same over the block of cells that begins with the cell (top, left).
+    /// Whether the two costs of each pair are the same over the block of cells that begins with the
+    /// cell (top, left).
     fn is_symmetric_block(&self, top: u32, left: u32) -> bool
         requires full { self.now.layout ≡ FullMatrix }
         requires top { 1 ≤ top }
@@ -215,7 +218,8 @@ impl<'a> ListedWeights<'a> {
         true
     }
 
-    /// The same over the cells of a row in the block whose first column is `left`.
+    /// Whether the two costs of each pair are the same over the cells of a row in the block whose
+    /// first column is `left`.
     #[inline]
     fn is_symmetric_in_block(&self, i: u32, left: u32) -> bool
         requires full { self.now.layout ≡ FullMatrix }

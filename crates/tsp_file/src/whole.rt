@@ -1,4 +1,5 @@
-//! A full matrix of half of one, in the memory of the whole.
+//! A full matrix, made of its listed half in the same vector. For `File::with_whole` in
+//! `src/file.rt`.
 
 ghost use Rattle.std.specs.Prelude.{◌≡◌, ◌≢◌, ◌≤◌, ◌<◌, ◌+◌, ◌*◌, ℕ, ℤ, List, length, take, true, ◌⊎◌, OnErr, OnOk};
 ghost use Rattle.tsp_format.specs.declared.layout.Layout.TheVariants.{FullMatrix};
@@ -105,7 +106,7 @@ fn fill_across(above: bool, nodes: u32, weights: &mut Vec<i64>)
     }
 }
 
-/// The same in the band of columns that begins with this one.
+/// Fills the costs across the diagonal in the band of columns that begins with this one.
 fn fill_band(above: bool, nodes: u32, weights: &mut Vec<i64>, left: u32)
     requires few { nodes ≤ most_matrix_nodes }
     requires left { 1 ≤ left }
@@ -147,7 +148,7 @@ fn across_in_band(above: bool, nodes: u32, row: u32, left: u32) -> (u32, u32)
     }
 }
 
-/// The same in one row of the band.
+/// Fills the costs across the diagonal in one row of the band.
 #[inline]
 fn fill_in_band(above: bool, nodes: u32, weights: &mut Vec<i64>, row: u32, left: u32)
     requires few { nodes ≤ most_matrix_nodes }

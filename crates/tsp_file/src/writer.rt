@@ -1,4 +1,5 @@
-//! The canonical text of a file, and its way to a writer.
+//! Writes the canonical text of a file, field by field, by the files of `src/writer/`. For `tsp
+//! convert`, in `src/convert.rt` of tsp_judge.
 
 ghost use Rattle.std.specs.Prelude.{◌≡◌, None};
 ghost use Rattle.std.specs.List.{flat_map};

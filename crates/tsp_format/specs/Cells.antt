@@ -1,5 +1,6 @@
--- The cells of a layout: all pairs (i, j) of 1..n, row i and column j, in the order of rows or of columns, as far as they
--- pass the layout's test. Source: TSPLIB 95 (G. Reinelt), the values of EDGE_WEIGHT_FORMAT.
+-- The cells of a layout: all pairs (i, j) of 1..n, row i and column j, in the order of rows or of columns, as far as
+-- they pass the layout's test. For src/layout.rt, and for the weights that an instance lists (Problems.antt of
+-- tsp_cost). Source: TSPLIB 95 (G. Reinelt), the values of EDGE_WEIGHT_FORMAT.
 use Rattle.std.specs.Prelude.{ℕ, ◌+◌, ◌-◌, ◌*◌, ◌/◌, Bool, true, false, List, map, nat_lt, nat_le, if◌then◌else◌}
 use Rattle.std.specs.List.{filter, flat_map}
 use Rattle.tsp_format.specs.Nodes.{nodes_to}
@@ -34,11 +35,11 @@ pairs_of_line layout n k = map (λ m. if goes_by_columns layout then (m, k) else
 unfoldable pub cells : Layout → ℕ → List (ℕ × ℕ)
 cells layout n = filter (is_listed layout) (flat_map (pairs_of_line layout n) (nodes_to n))
 
--- those of one line
+-- the cells of row k, or of column k
 unfoldable pub cells_of_line : Layout → ℕ → ℕ → List (ℕ × ℕ)
 cells_of_line layout n k = filter (is_listed layout) (pairs_of_line layout n k)
 
--- The tables: how many cells there are, and how many of them line k has, for k in 1..n.
+-- how many cells there are, by a table
 abbrev pub cell_count_of : Layout → ℕ → ℕ
 cell_count_of FullMatrix n = n * n
 cell_count_of UpperRow n = n * (n - 1) / 2
@@ -50,6 +51,7 @@ cell_count_of LowerCol n = n * (n - 1) / 2
 cell_count_of UpperDiagCol n = n * (n + 1) / 2
 cell_count_of LowerDiagCol n = n * (n + 1) / 2
 
+-- how many of them line k has, for k in 1..n, by a table
 abbrev pub line_len_of : Layout → ℕ → ℕ → ℕ
 line_len_of FullMatrix n k = n
 line_len_of UpperRow n k = n - k

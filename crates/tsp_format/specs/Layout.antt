@@ -1,4 +1,5 @@
--- The words of the layouts of a matrix of weights. Source: TSPLIB 95 (G. Reinelt), EDGE_WEIGHT_FORMAT.
+-- The word of each layout of a matrix of weights. For `Layout::of_word` (src/layout.rt), the words of all values
+-- (Words.antt), and the option `--layout` of tsp_cli. Source: TSPLIB 95 (G. Reinelt), EDGE_WEIGHT_FORMAT.
 use Rattle.std.specs.Prelude.{ℕ, List, codes}
 use Rattle.tsp_format.specs.declared.layout.Layout.{Layout}
 use Rattle.tsp_format.specs.declared.layout.Layout.TheVariants.{FullMatrix, UpperRow, LowerRow, UpperDiagRow, LowerDiagRow, UpperCol, LowerCol, UpperDiagCol, LowerDiagCol}

@@ -1,10 +1,12 @@
--- The limits of files. TSPLIB 95 states none: each is a choice of this project's profile.
+-- The limits of files. TSPLIB 95 states none: each is a choice of this project's profile. src/limits.rt has them as
+-- constants, for the reader; Validity.antt of tsp_draft and many contracts name them here.
 use Rattle.std.specs.Prelude.{ℕ}
 
--- nodes of a file, and of a file with an EDGE_WEIGHT_SECTION
+-- nodes of a file
 abbrev pub most_nodes : ℕ
 most_nodes = 100000
 
+-- nodes of a file with an EDGE_WEIGHT_SECTION
 abbrev pub most_matrix_nodes : ℕ
 most_matrix_nodes = 5000
 
@@ -16,15 +18,19 @@ most_coordinate = 1000000000000000000
 abbrev pub most_weight : ℕ
 most_weight = 1000000000000
 
+-- a demand
 abbrev pub most_demand : ℕ
 most_demand = 1000000000
 
+-- the capacity of a CVRP
 abbrev pub most_capacity : ℕ
 most_capacity = 1000000000000
 
+-- SCALE of a certificate
 abbrev pub most_scale : ℕ
 most_scale = 1000000
 
+-- LOAD_UNIT of a certificate
 abbrev pub most_load_unit : ℕ
 most_load_unit = 1000000000000
 
@@ -32,10 +38,11 @@ most_load_unit = 1000000000000
 abbrev pub most_potential : ℕ
 most_potential = 1000000000000000
 
--- bytes of a number word, and of a word line
+-- bytes of a word that is read as a number
 abbrev pub most_word_bytes : ℕ
 most_word_bytes = 64
 
+-- bytes of a word line, which has a keyword
 abbrev pub most_line_bytes : ℕ
 most_line_bytes = 4096
 
@@ -43,13 +50,15 @@ most_line_bytes = 4096
 abbrev pub most_kept_bytes : ℕ
 most_kept_bytes = 4000
 
--- COMMENT lines, and lines of unknown keywords
+-- COMMENT lines
 abbrev pub most_comments : ℕ
 most_comments = 1000
 
+-- lines of unknown keywords
 abbrev pub most_others : ℕ
 most_others = 1000
 
+-- entries of DEPOT_SECTION
 abbrev pub most_depots : ℕ
 most_depots = 100000
 
@@ -57,11 +66,11 @@ most_depots = 100000
 abbrev pub most_fixed : ℕ
 most_fixed = 100000
 
--- multipliers of fixed edges
+-- multipliers of fixed pairs
 abbrev pub most_triples : ℕ
 most_triples = 100000
 
--- the largest multiplier
+-- a multiplier
 abbrev pub most_multiplier : ℕ
 most_multiplier = 1000000000000000
 
@@ -69,17 +78,19 @@ most_multiplier = 1000000000000000
 abbrev pub most_tour_nodes : ℕ
 most_tour_nodes = 1000000
 
--- combs, and the nodes of all of them
+-- families of sets
 abbrev pub most_combs : ℕ
 most_combs = 10000
 
+-- nodes of all sets of all families
 abbrev pub most_comb_nodes : ℕ
 most_comb_nodes = 1000000
 
--- branches of a tree of cases, and the differences of all of its leaves
+-- branches of a tree of cases
 abbrev pub most_branches : ℕ
 most_branches = 1000000
 
+-- differences of all leaves of a tree
 abbrev pub most_changes : ℕ
 most_changes = 10000000
 

@@ -1,4 +1,4 @@
--- The nodes of a problem: the numbers 1 to n.
+-- The nodes of a problem: the numbers 1 to n. For the contracts of every crate that speaks of nodes.
 use Rattle.std.specs.Prelude.{ℕ, ◌≤◌, List}
 use Rattle.std.specs.List.{range_with_len}
 

@@ -1,4 +1,5 @@
--- Where a pair is among the cells of a layout.
+-- The place of a pair among the cells of a layout, and so of its weight in the list. For `place` (src/place.rt), and for
+-- the cost that a file lists (Cost.antt of tsp_file).
 use Rattle.std.specs.Prelude.{ℕ, ◌+◌, ◌-◌, ◌*◌, ◌/◌, Bool, ◌&&◌, ◌==◌, Option}
 use Rattle.std.specs.List.{position}
 use Rattle.tsp_format.specs.declared.layout.Layout.{Layout}
@@ -13,20 +14,24 @@ is_same_cell pair cell = (cell.0 == pair.0) && (cell.1 == pair.1)
 unfoldable pub place_of : Layout → ℕ → ℕ × ℕ → Option ℕ
 place_of layout n pair = position (is_same_cell pair) (cells layout n)
 
--- The table of places, for the cells (i, j) of a matrix over n nodes: above the diagonal by rows, below it by rows, and both
--- with the diagonal. A layout by columns has (i, j) where the mirrored layout by rows has (j, i). It is no part of the meaning.
+-- The same place by arithmetic, as code finds it: above the diagonal, by rows. A layout by columns has (i, j) where the
+-- mirrored layout by rows has (j, i).
 abbrev pub upper_place : ℕ → ℕ → ℕ → ℕ
 upper_place n i j = (i - 1) * n - i * (i - 1) / 2 + (j - i - 1)
 
+-- below the diagonal, by rows
 abbrev pub lower_place : ℕ → ℕ → ℕ
 lower_place i j = (i - 1) * (i - 2) / 2 + (j - 1)
 
+-- above the diagonal and on it
 abbrev pub upper_diag_place : ℕ → ℕ → ℕ → ℕ
 upper_diag_place n i j = (i - 1) * (n + 1) - i * (i - 1) / 2 + (j - i)
 
+-- below the diagonal and on it
 abbrev pub lower_diag_place : ℕ → ℕ → ℕ
 lower_diag_place i j = i * (i - 1) / 2 + (j - 1)
 
+-- the place of a cell (i, j) over n nodes, in each layout
 abbrev pub place_by_table : Layout → ℕ → ℕ → ℕ → ℕ
 place_by_table FullMatrix n i j = (i - 1) * n + (j - 1)
 place_by_table UpperRow n i j = upper_place n i j

@@ -1,5 +1,6 @@
--- What the words of each section are: its shape; and what the value of each keyword is read as. Source: TSPLIB 95 (G. Reinelt)
--- for the sections and keywords; the ranges are this project's profile.
+-- How the words of each section are read, which is its shape, and how the value of each keyword is. For `shape` and
+-- `value_shape` of `Field` (src/field.rt), for the reader and the writer. Source: TSPLIB 95 (G. Reinelt); the ranges are
+-- this project's profile.
 use Rattle.std.specs.Prelude.{Bool, false, cond, Option, None, Some, is_some, ℤ, pos, neg_ℤ, ◌≤ℤ◌}
 use Rattle.tsp_format.specs.declared.field.Field.{Field}
 use Rattle.tsp_format.specs.declared.field.Field.TheVariants.{NameKey, TypeKey, CommentKey, DimensionKey, CapacityKey, ScaleKey, LoadUnitKey}
@@ -11,7 +12,7 @@ use Rattle.tsp_format.specs.declared.field.Shape.TheVariants.{Numbers, Points, S
 use Rattle.tsp_format.specs.declared.field.ValueShape.{ValueShape}
 use Rattle.tsp_format.specs.declared.field.ValueShape.TheVariants.{Kept, KeptEach, Number, Word}
 
--- in a file that is spatial or not; a keyword has none
+-- the shape of a section, in a spatial file or another; a keyword has none
 abbrev pub shape_of : Bool → Field → Option Shape
 shape_of spatial NodeCoordPart = Some (cond spatial SpacePoints Points)
 shape_of spatial DisplayDataPart = Some Points
@@ -28,10 +29,11 @@ shape_of spatial CombPart = Some Combs
 shape_of spatial BranchPart = Some Steps
 shape_of spatial field = None
 
+-- whether a field is a section
 abbrev pub is_section_field : Field → Bool
 is_section_field field = is_some (shape_of false field)
 
--- a section has none, nor have the unknown keywords
+-- what the value of a keyword is read as; a section has none, nor have the unknown keywords
 abbrev pub value_shape_of : Field → Option ValueShape
 value_shape_of NameKey = Some Kept
 value_shape_of TypeKey = Some Word

@@ -1,5 +1,6 @@
--- The steps of a tree of cases, as lists. Trees of cases are this project's own: a branch divides the first open case by a pair
--- of nodes, or by how often a family of sets is crossed, and a leaf closes it by numbers.
+-- The steps of a tree of cases, as BRANCH_SECTION lists them. For `TreeStep` (src/steps.rt), and for the trees of
+-- tsp_cases and tsp_routing. They are this project's own: a branch divides the first open case by a pair of nodes, or by
+-- how often a family of sets is crossed, and a leaf closes it by numbers.
 use Rattle.std.specs.Prelude.{ℕ, zero, suc, ◌+◌, Bool, true, false, List, [], ◌∷◌, length, ℤ}
 
 pub data Step : Type 0 where
@@ -17,17 +18,19 @@ are_whole (suc count) [] = false
 are_whole (suc count) (Branch first second ∷ steps) = are_whole (suc (suc count)) steps
 are_whole (suc count) (Leaf changes ∷ steps) = are_whole count steps
 
--- how many branches there are, and how many differences all leaves have together
+-- how many branches there are
 abbrev pub branch_count : List Step → ℕ
 branch_count [] = 0
 branch_count (Branch first second ∷ steps) = suc (branch_count steps)
 branch_count (Leaf changes ∷ steps) = branch_count steps
 
+-- how many leaves there are
 abbrev pub leaf_count : List Step → ℕ
 leaf_count [] = 0
 leaf_count (Branch first second ∷ steps) = leaf_count steps
 leaf_count (Leaf changes ∷ steps) = suc (leaf_count steps)
 
+-- how many differences all leaves have together
 abbrev pub change_count : List Step → ℕ
 change_count [] = 0
 change_count (Branch first second ∷ steps) = change_count steps

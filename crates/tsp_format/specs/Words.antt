@@ -1,4 +1,5 @@
--- The words of TSPLIB 95 (G. Reinelt) and of this project's own keywords, and the lists of all values that have one.
+-- The words of TSPLIB 95 (G. Reinelt) and of this project's own keywords, and the lists of all values that have a word.
+-- For `Word` (src/word.rt), `Field` (src/field.rt) and the enums of src/kinds.rt.
 use Rattle.std.specs.Prelude.{◌≡◌, ℕ, List, [], ◌∷◌, Some, refl, codes}
 use Rattle.std.specs.List.{find}
 use Rattle.std.specs.Str.{bytes_eq}
@@ -20,6 +21,7 @@ use Rattle.tsp_format.specs.Layout.{layout_word}
 
 -- ---- words
 
+-- TYPE
 abbrev pub kind_word : Kind → List ℕ
 kind_word kind.Tsp = codes "TSP"
 kind_word kind.Atsp = codes "ATSP"
@@ -28,6 +30,7 @@ kind_word kind.Tour = codes "TOUR"
 kind_word kind.Potentials = codes "POTENTIALS"
 kind_word kind.Branches = codes "BRANCHES"
 
+-- EDGE_WEIGHT_TYPE
 abbrev pub weight_kind_word : WeightKind → List ℕ
 weight_kind_word weight_kind.Explicit = codes "EXPLICIT"
 weight_kind_word weight_kind.Euc2d = codes "EUC_2D"
@@ -39,20 +42,24 @@ weight_kind_word weight_kind.Euc3d = codes "EUC_3D"
 weight_kind_word weight_kind.Man3d = codes "MAN_3D"
 weight_kind_word weight_kind.Max3d = codes "MAX_3D"
 
+-- EDGE_WEIGHT_FORMAT
 abbrev pub weight_format_word : WeightFormat → List ℕ
 weight_format_word format.ByFunction = codes "FUNCTION"
 weight_format_word (format.Listed layout) = layout_word layout
 
+-- NODE_COORD_TYPE
 abbrev pub coord_kind_word : CoordKind → List ℕ
 coord_kind_word coord_kind.TwoD = codes "TWOD_COORDS"
 coord_kind_word coord_kind.ThreeD = codes "THREED_COORDS"
 coord_kind_word coord_kind.NoCoords = codes "NO_COORDS"
 
+-- DISPLAY_DATA_TYPE
 abbrev pub display_kind_word : DisplayKind → List ℕ
 display_kind_word display_kind.Coord = codes "COORD_DISPLAY"
 display_kind_word display_kind.TwoD = codes "TWOD_DISPLAY"
 display_kind_word display_kind.NoDisplay = codes "NO_DISPLAY"
 
+-- the keyword of a field; `others` is the name of the field of unknown keywords, and is no keyword itself
 abbrev pub field_word : Field → List ℕ
 field_word field.NameKey = codes "NAME"
 field_word field.TypeKey = codes "TYPE"
@@ -80,7 +87,7 @@ field_word field.FixedEdgePotentialPart = codes "FIXED_EDGE_POTENTIAL_SECTION"
 field_word field.CombPart = codes "COMB_SECTION"
 field_word field.BranchPart = codes "BRANCH_SECTION"
 
--- ---- all values, each the first with its own word
+-- ---- all values; each lemma `.._found` says that a value is the first with its word
 
 -- the value is the first of the list with its word
 abbrev pub IsFirstWithWord : {V : Type 0} → (V → List ℕ) → List V → V → Type 0

@@ -1,4 +1,5 @@
-//! What bytes are in a file: blanks, letters, and those of a keyword.
+//! Which bytes are blanks, letters, and bytes of a keyword. For the line cutter of tsp_section, the
+//! word cutter of tsp_read, and the values that tsp_draft judges.
 
 ghost use Rattle.std.specs.Prelude.{◌≡◌};
 ghost use Rattle.tsp_format.specs.Bytes.{is_blank, is_letter, is_keyword_byte};

@@ -1,5 +1,5 @@
-//! Words, bytes, cells and limits, on which the definitions are evaluated. No body is looked at
-//! here: a definition that is changed together with its code is refused by its examples.
+//! Laws that state values of the definitions in `specs/`, worked out by hand: words of fields and
+//! kinds, blanks, cells of layouts, limits.
 
 ghost use Rattle.std.specs.Prelude.{◌≡◌, ℕ, ◌-◌, ◌*◌, ◌^◌, true, false, List, [], ◌∷◌, length, None, Some, pos, negsuc, codes};
 ghost use Rattle.tsp_format.specs.declared.field.Field.TheVariants as fields;

@@ -1,4 +1,5 @@
-//! The fields of a file: its keywords and its sections.
+//! The keywords and sections of a file, as the enum `Field`, and how the words of each are read.
+//! For the reader, tsp_read, the draft, tsp_draft, and the writer of tsp_file.
 
 ghost use Rattle.std.specs.Prelude.{◌≡◌};
 ghost use Rattle.tsp_format.specs.Words.{field_word};
@@ -42,7 +43,7 @@ pub enum Field {
     BranchPart,
 }
 
-/// What the words of a section are.
+/// What each word of a section is: a node, a coordinate, a weight and so on.
 #[derive(Clone, Copy, Debug, PartialEq, Eq)]
 pub enum Shape {
     /// For each node a whole number from `low` to `high`.

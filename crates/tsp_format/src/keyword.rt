@@ -1,4 +1,5 @@
-//! What the keyword of a line is.
+//! Which field the first word of a line names, or whether it is EOF, unknown or refused. For
+//! `src/line.rt` of tsp_section and the lines that tsp_read reads.
 
 ghost use Rattle.std.specs.Prelude.{◌≡◌};
 ghost use Rattle.std.specs.List.{find};
@@ -7,7 +8,7 @@ ghost use Rattle.tsp_format.specs.Keywords.{keyword_of, field_of, known_or_not};
 use crate::field::Field;
 use crate::word::value_of;
 
-/// What the keyword of a line is.
+/// What the first word of a line is as a keyword.
 #[derive(Clone, Copy, Debug, PartialEq, Eq)]
 pub enum Keyword {
     /// The keyword or the section of a field, by its own word or, for fixed edges, by another.

@@ -1,4 +1,5 @@
-//! The keywords' accepted words, as values.
+//! The accepted values of TYPE, EDGE_WEIGHT_TYPE, EDGE_WEIGHT_FORMAT, NODE_COORD_TYPE and
+//! DISPLAY_DATA_TYPE, as enums. For the fields of `Draft` in tsp_draft.
 
 ghost use Rattle.std.specs.Prelude.{◌≡◌};
 ghost use Rattle.tsp_format.specs.Space.{weighs_three, is_spatial};

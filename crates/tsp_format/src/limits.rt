@@ -1,4 +1,5 @@
-//! The limits of this project's profile of TSPLIB 95, each in this one place.
+//! The limits of this project's profile of TSPLIB 95: the reader, tsp_read, and the draft's table,
+//! tsp_draft, take each from here.
 
 ghost use Rattle.std.specs.Prelude.{◌≡◌, pos};
 ghost use Rattle.tsp_format.specs.declared.limits.TheConstants.{MOST_NODES, MOST_MATRIX_NODES, MOST_COORDINATE, MOST_WEIGHT, MOST_DEMAND, MOST_CAPACITY, MOST_SCALE, MOST_LOAD_UNIT, MOST_POTENTIAL, MOST_WORD_BYTES, MOST_LINE_BYTES, MOST_KEPT_BYTES, MOST_COMMENTS, MOST_OTHERS, MOST_DEPOTS, MOST_FIXED, MOST_MULTIPLIERS, MOST_MULTIPLIER, MOST_TOUR_NODES, MOST_COMBS, MOST_COMB_NODES, MOST_BRANCHES, MOST_CHANGES, MOST_DIFFERENCE, MOST_FILE_BYTES};

@@ -1,4 +1,5 @@
--- A run that bounds the tours of an instance, put together from its parts. For `bound_read` and `run_bound` in src/bound.rt.
+-- How a run that bounds the solutions of an instance ends: at a file with a fault, with a reason, or with a bound. For
+-- `bound_read` and `run_bound` in src/bound.rt.
 use Rattle.std.specs.Prelude.{IsTrue, ℤ}
 use Rattle.std.proofs.Common.{◌≡◌, ◌∙◌, length, Some, sym, Bool, true, false, Result, Ok, Err, refl, subst, inl, inr}
 use Rattle.std.proofs.lemmas.Bool.{false≢true}

@@ -1,4 +1,5 @@
--- A comparison, put together from the lines of its solutions. For `compare_all` in src/compared.rt and others.
+-- How a comparison ends: with its head and the line of each solution, or with a prefix of them where the writer fails.
+-- For `compare_all` in src/compared.rt and others.
 use Rattle.std.proofs.Common.{◌≡◌, ◌||◌, ℕ, suc, ◌+◌, ◌<◌, ◌≤◌, List, [], ◌∷◌, ◌++◌, length, take, Option, true, false, Bool, refl, sym, ap, subst, ◌∙◌, append_assoc, append-nil, arith, inl, inr}
 use Rattle.std.specs.Prelude.{max, Result, Ok, Err, IfOk, slice_index_or, Some, None}
 use Rattle.std.specs.declared.io.Error.{Error}

@@ -1,4 +1,5 @@
--- Converting a file, put together from its parts. For `convert_file` in src/convert.rt.
+-- How a run that converts a file ends: at a fault of the file, at a failed write, or with the canonical text. For
+-- `convert_file` in src/convert.rt.
 use Rattle.std.proofs.Common.{◌≡◌, Option, None, Ok, Err}
 use Rattle.tsp_format.specs.declared.layout.Layout.{Layout}
 use Rattle.tsp_stream.specs.declared.output.WriteFault.{WriteFault}

@@ -1,4 +1,5 @@
--- Showing a file, put together from its parts. For `show_file` in src/show.rt.
+-- How a run that shows a file ends: at a fault of the file, at a failed write, or with the lines of `show`. For
+-- `show_file` in src/show.rt.
 use Rattle.std.proofs.Common.{Err}
 use Rattle.tsp_stream.specs.declared.output.WriteFault.{WriteFault}
 use Rattle.tsp_stream.specs.declared.output.WriteFault.TheVariants as faults

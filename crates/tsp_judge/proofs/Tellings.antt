@@ -1,4 +1,5 @@
--- The follower of a comparison got some lines, and then the next one. For `compare_all` in src/compared.rt.
+-- The calls of the follower of a comparison, one for each solution in order: one call more, and those before the
+-- solution that ends the comparison. For `compare_all` in src/compared.rt.
 use Rattle.std.proofs.Common.{ℕ, ◌+◌, ◌<◌, ◌≤◌, List, add-one, arith}
 use Rattle.std.specs.Prelude.{Err}
 use Rattle.tsp_stream.specs.Turn.{Turn}

@@ -1,4 +1,5 @@
--- What an accepted check says, by its verdict. For `judge_read` in src/checked.rt and others.
+-- What the line `yes` of a check means, by the TYPE of the instance, the certificate and the claimed length. For
+-- `judge_read` in src/checked.rt and others.
 use Rattle.std.specs.Prelude.{ℤ, pos, ◌⊎◌, ◌≤ℤ◌, IsTrue, unwrap_or, if◌then◌else◌}
 use Rattle.std.proofs.Common.{◌≡◌, ◌≢◌, ℕ, ◌≤◌, ◌<◌, eqb, Bool, List, [], ◌∷◌, length, true, false, Option, Some, None, Ok, Err, refl, sym, ap, subst, ◌∙◌, inl, inr, arith}
 use Rattle.std.proofs.lemmas.Bool.{false≢true, cases_lt}

@@ -1,4 +1,5 @@
-//! Lists.
+//! Calls that make, fill, lengthen, copy and sort a vector, or return `Refused` where memory runs
+//! out. For each crate that takes memory.
 
 ghost use Rattle.std.specs.Prelude.{◌≡◌, ◌+◌, ◌++◌, [], ◌∷◌, IfOk, OnOk, MatchResult, length, vec_len, vec_capacity, replicate};
 ghost use Rattle.std.specs.List.Sorted.{IsPermutation, IsSorted};

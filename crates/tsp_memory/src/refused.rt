@@ -1,4 +1,4 @@
-//! The token of a refusal.
+//! The error of each call that takes memory. Only calls of this crate make one.
 
 use std::alloc::AllocError;
 

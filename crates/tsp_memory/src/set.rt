@@ -1,4 +1,5 @@
-//! Ordered sets.
+//! The call that adds a key to an ordered set, or returns `Refused`. For `src/fixed_decisions.rt`
+//! and `src/multiplier_pairs.rt` of tsp_verdict.
 
 ghost use Rattle.std.specs.Prelude.{◌≡◌, true, not, IfOk, OnOk};
 ghost use Rattle.std.specs.BTreeSet.{contains, Updates};

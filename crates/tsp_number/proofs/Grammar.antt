@@ -1,5 +1,5 @@
--- The parts that are found from the left are the one way to write the word by its grammar. For `any_whole` in src/word.rt and
--- others.
+-- A number word is written in one way by its grammar: with the sign, digits, point and exponent that are found from the
+-- left. For `any_whole` in src/word.rt and others.
 use Rattle.std.proofs.Common.{◌≡◌, ◌≢◌, ℕ, ◌+◌, ◌<◌, Bool, true, false, ◌==◌, ◌||◌, ◌&&◌, List, [], ◌∷◌, ◌++◌, length, Option, Some, None, ℤ, ◌⊎◌, inl, inr, refl, arith, ap, sym, ◌∙◌, subst, append-nil, nat_lt, if◌then◌else◌}
 use Rattle.std.proofs.lemmas.Bool.Decides.{nat_tests}
 use Rattle.std.proofs.lemmas.Bool.{cases_eq}

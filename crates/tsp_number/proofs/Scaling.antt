@@ -1,4 +1,5 @@
--- Shifting a number by decimal places. For `drop_long_zeros` in src/shift.rt and others.
+-- A number shifted by decimal places: zeros added to it, or digits dropped, all of them zeros or not. For
+-- `drop_long_zeros` in src/shift.rt and others.
 use Rattle.std.proofs.Common.{◌≡◌, ◌≢◌, ℕ, ◌+◌, ◌*◌, ◌-◌, ◌^◌, ◌/◌, ◌%◌, ◌<◌, ◌≤◌, Bool, true, false, ◌==◌, List, [], ◌∷◌, ◌++◌, length, take, drop, ◌&&◌, append_assoc, length-append, length-drop, take-append-drop, Option, Some, None, ℤ, pos, negsuc, ◌+ℤ◌, ◌-ℤ◌, ◌≤ℤ◌, ◌⊎◌, inl, inr, refl, arith, ap, sym, ◌∙◌, suc, zero, subst}
 use Rattle.std.proofs.Math.Nat.{pow-le-pow_right, pow-suc, mul-le-mul, mul-mod_left, one-le-pow}
 use Rattle.std.proofs.lemmas.Bool.Decides.{nat_tests}

@@ -1,4 +1,5 @@
--- The decimals of a part of a whole, digit by digit. For `write_decimals` in src/spelling.rt and others.
+-- The decimals of a fraction, digit by digit and in groups of three, without zeros at the end. For `write_decimals` in
+-- src/spelling.rt and others.
 use Rattle.std.proofs.Common.{◌≡◌, ℕ, ◌+◌, ◌*◌, ◌/◌, ◌%◌, ◌^◌, ◌<◌, ◌≤◌, [], ◌∷◌, ◌++◌, ◌==◌, ◌≢◌, inl, inr, false, zero, suc, refl, sym, ap, ◌∙◌, arith, pow-add, length}
 use Rattle.std.proofs.Math.Nat.{pow-suc, div-div-eq-div-mul, add-mul-mod_self_right, add-mul-div_right, mod-eq_of_lt, div-one, mul-div-mul_right, mod-le, zero-mod}
 use Rattle.std.proofs.lemmas.Bool.Decides.{nat_tests}

@@ -1,4 +1,5 @@
-//! Some digits of a number, written into a block of bytes.
+//! Two, three or nine digits of a number, written into a block of bytes. For `src/spelling.rt`, and
+//! the weights that `src/writer/digits.rt` of tsp_file writes.
 
 ghost use Rattle.std.specs.Prelude.{◌≡◌, ◌+◌, ◌-◌, ◌/◌, ◌%◌, ◌<◌, ◌≤◌, ◌∷◌, ◌++◌, length, drop};
 ghost use Rattle.tsp_number.specs.Spelling.{three_digits};

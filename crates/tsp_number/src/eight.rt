@@ -1,4 +1,5 @@
-//! Up to eight digits at once.
+//! The digits at the beginning of eight bytes, counted and read together in one word of 64 bits.
+//! For `src/front.rt`.
 
 ghost use Rattle.std.specs.Prelude.{◌≡◌, ◌<◌, ◌≤◌, take};
 ghost use Rattle.std.specs.Char.{is_ascii_digit};

@@ -1,5 +1,5 @@
-//! Small words, on which the definitions are evaluated. No body is looked at here: a
-//! definition that is changed together with its code is refused by its examples.
+//! Laws that state values of the definitions in `specs/`, worked out by hand: numbers of words,
+//! texts of decimals, texts of faults.
 
 ghost use Rattle.std.specs.Prelude.{◌≡◌, Some, None, codes, ◌++◌, pos, negsuc, replicate};
 ghost use Rattle.tsp_number.specs.declared.fault.NumberFault.TheVariants.{LongWord, BadNumber, TooFine, OutOfRange, NotWhole};

@@ -1,9 +1,10 @@
-//! Why a word isn't read as a number.
+//! The faults of a number word. `parse_decimal` and `parse_whole` return them; tsp_section reports
+//! them for a section's word or a keyword's value.
 
 use std::fmt;
 use thiserror::Error;
 
-/// Why a word isn't read as a number.
+/// Why a word isn't read as a number: the first that applies, in this order.
 #[derive(Clone, Copy, Debug, PartialEq, Eq, Error)]
 pub enum NumberFault {
     /// The word has more than 64 bytes.

@@ -1,4 +1,5 @@
-//! Numbers as most words write them, read from the beginning of some bytes.
+//! The number at the beginning of some bytes, where it is a plain sign, digits and a point. The
+//! quick way of `src/word.rt`, and of `src/run.rt` of tsp_read, which reads many words in one pass.
 
 ghost use Rattle.std.specs.Prelude.{◌≡◌, ◌+◌, ◌*◌, ◌^◌, ◌<◌, ◌≤◌, ◌*ℤ◌, pos, length, take, unsigned_abs, IfSome};
 ghost use Rattle.std.specs.Option.{option_map};

@@ -1,4 +1,5 @@
-//! What always holds of the definitions, as contracts of functions that do nothing.
+//! Laws: a number word means at most one number, and the text of a decimal is read as that decimal.
+//! For `src/round_trip.rt` of tsp_round.
 
 ghost use Rattle.std.specs.Prelude.{◌≡◌, ◌≤◌, ℕ, ℤ, List, Result, Ok, unsigned_abs};
 ghost use Rattle.tsp_number.specs.declared.fault.NumberFault.{NumberFault};

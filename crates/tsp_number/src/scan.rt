@@ -1,4 +1,4 @@
-//! The parts of a number word, found from the left.
+//! The sign, digits, point and exponent of a number word, found from the left. For `src/word.rt`.
 
 ghost use Rattle.std.specs.Prelude.{◌≡◌, ◌+◌, ◌<◌, ◌≤◌, length, MatchOption, ℕ, None, Some};
 ghost use Rattle.std.specs.Option.{option_map};

@@ -1,4 +1,5 @@
-//! The text of a decimal, written into a block of bytes from the last to the first.
+//! The text of a decimal, written into a block of bytes from the last byte to the first. For the
+//! points that `src/writer/points.rt` of tsp_file writes.
 
 ghost use Rattle.std.specs.Prelude.{◌≡◌, ◌+◌, ◌<◌, ◌≤◌, ◌++◌, length, drop};
 ghost use Rattle.arrayvec.specs.ArrayVec.{array_vec_len};

@@ -1,4 +1,5 @@
-//! Number words, read as decimals and as whole numbers.
+//! Number words, read as decimals and as whole numbers. For the sections and keywords that
+//! tsp_section reads.
 
 ghost use Rattle.std.specs.Prelude.{◌≡◌, ◌≤ℤ◌, SomeIff};
 ghost use Rattle.tsp_number.specs.Reading.{decimal_of, whole_of};
@@ -62,7 +63,7 @@ pub fn parse_decimal(word: &[u8]) -> Result<Decimal, NumberFault>
     any_decimal(word)
 }
 
-/// The same as `parse_decimal`, for all words.
+/// The result of `parse_decimal`, found without `front_decimal`.
 #[cold]
 #[inline(never)]
 fn any_decimal(word: &[u8]) -> Result<Decimal, NumberFault>
@@ -110,7 +111,7 @@ pub fn parse_whole(word: &[u8], low: i64, high: i64) -> Result<i64, NumberFault>
     any_whole(word, low, high)
 }
 
-/// The same as `parse_whole`, for all words.
+/// The result of `parse_whole`, found without `front_whole`.
 #[cold]
 #[inline(never)]
 fn any_whole(word: &[u8], low: i64, high: i64) -> Result<i64, NumberFault>

@@ -1,4 +1,4 @@
--- After an end line no section is open. For `Feed::end` in src/feed.rt.
+-- After an end line, as EOF, no section is open. For `Feed::end` in src/feed.rt.
 use Rattle.std.proofs.Common.{◌≡◌, Bool, true, false, ◌||◌, List, [], ◌∷◌, ◌++◌, reverse, Option, None, Some, refl, sym, ap, ◌∙◌}
 use Rattle.std.specs.Prelude.{cond, is_some, ℕ, take}
 use Rattle.std.proofs.lemmas.Bool.{false≢true}

@@ -1,4 +1,5 @@
--- The facts keyword by keyword: each is one row, and so is each of its cases. For `Reading::known` in src/state/lines.rt.
+-- A statement of every keyword, from one proof of it for each keyword: NAME, TYPE and so on. For `Reading::known` in
+-- src/state/lines.rt.
 use Rattle.std.proofs.Common.{◌≡◌, ◌≢◌, Bool, refl, subst, Some, None}
 use Rattle.std.specs.Prelude.{ℤ, pos}
 use Rattle.tsp_format.specs.declared.field.Field.{Field}

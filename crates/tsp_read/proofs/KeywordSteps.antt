@@ -1,4 +1,5 @@
--- A line of a keyword: the field that it gives, and its rows. For `Reading::number` and `Reading::known` in src/state/lines.rt.
+-- The line of a keyword with a word or a number as its value: the field that it gives, or its fault. For
+-- `Reading::number` and `Reading::known` in src/state/lines.rt.
 use Rattle.std.proofs.Common.{cond, ◌≡◌, ℕ, Bool, true, false, List, ◌∷◌, set, get_or, refl, sym, ap, subst, ◌∙◌, Option, Some, None, Result, Ok, Err}
 use Rattle.std.specs.Prelude.{ℤ, pos, nat_abs, nat_lt, is_some, is_none, not, ◌&&◌}
 use Rattle.std.specs.Option.{option_map}

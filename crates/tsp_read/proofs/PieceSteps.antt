@@ -1,4 +1,5 @@
--- A reader that is read in pieces. For `feed_all` in src/input.rt.
+-- A reader that is read in pieces: the bytes gathered so far, one piece more, a fault in it, and the end. For
+-- `feed_all` in src/input.rt.
 use Rattle.std.proofs.Common.{◌≡◌, ℕ, ◌+◌, ◌-◌, ◌≤◌, ◌<◌, Bool, true, false, List, [], ◌∷◌, ◌++◌, length, take, drop, take-append-drop, refl, sym, ap, subst, ◌∙◌, arith, Option, Some, None, Ok, Err, append-nil, length-append}
 use Rattle.std.specs.Prelude.{◌⊎◌, IfSome, not, ◌&&◌}
 use Rattle.std.specs.Io.KnownBytes.{Consumes, Keeps, IsAtEnd}

@@ -1,4 +1,5 @@
--- A run of words: one step, and one after another. For `count_word` in src/run.rt and others.
+-- A run, which takes plain numbers and line ends in one pass, leaves what taking them item by item does. For
+-- `count_word` in src/run.rt and others.
 use Rattle.std.proofs.Common.{◌≡◌, ℕ, ◌+◌, ◌<◌, Bool, true, false, List, ◌∷◌, length, refl, ap, subst, ◌∙◌, Option, None, Some, Ok, arith}
 use Rattle.tsp_section.specs.declared.part.Part.{Part}
 use Rattle.tsp_text.specs.Items.{NumberWord, LineEnd}

@@ -1,5 +1,5 @@
--- What the state has of each section: each is one row, and so is each of its cases. For `Reading::close` in
--- src/state/reading.rt and others.
+-- The fields of the closed sections: a line that opens a section and a word leave them, and the end of a section adds
+-- its field. For `Reading::close` in src/state/reading.rt and others.
 use Rattle.std.proofs.Common.{◌≡◌, Bool, true, false, cond, List, ◌∷◌, refl, ap, ◌∙◌, Some}
 use Rattle.std.specs.Prelude.{ℕ}
 use Rattle.std.specs.List.{find}

@@ -1,5 +1,5 @@
--- Lines whose value is kept as it is, and lines that give no field. For `Reading::known` and `Reading::line` in
--- src/state/lines.rt.
+-- Lines of NAME, COMMENT and unknown keywords, whose values are kept as they are, and lines that give no field. For
+-- `Reading::known` and `Reading::line` in src/state/lines.rt.
 use Rattle.std.proofs.Common.{◌≡◌, ℕ, Bool, true, false, List, [], ◌∷◌, ◌++◌, set, get_or, refl, sym, ap, subst, ◌∙◌, Option, Some, None, Result, Ok, Err, length}
 use Rattle.std.specs.Prelude.{nat_lt, nat_le, is_some, not}
 use Rattle.std.specs.Option.{option_map}

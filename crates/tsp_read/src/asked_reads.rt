@@ -1,5 +1,6 @@
-//! Reading a text, a reader, or pieces. Each call returns the fault of another one without the
-//! token of a refusal.
+//! Public calls that read a file from bytes, a reader or pieces, as example_check does. Each
+//! returns the fault of a call in `src/read_whole.rt` or `src/feed.rt`, without the token of a
+//! refusal.
 
 ghost use Rattle.std.specs.Prelude.{◌≡◌, Err, false};
 ghost use Rattle.tsp_stream.specs.states.Watched.{turn_of};

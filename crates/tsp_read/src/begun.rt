@@ -1,4 +1,5 @@
-//! A line or a word that a piece of a text has cut.
+//! A line or a word that the end of a piece has cut, until the next piece brings its end. For
+//! `Feed` in `src/feed.rt`.
 
 ghost use Rattle.std.specs.Prelude.{◌≡◌, ◌+◌, ◌≤◌, [], List, ℕ, length, IfOk, IfSome, true};
 ghost use Rattle.tsp_format.specs.Limits.{most_file_bytes};

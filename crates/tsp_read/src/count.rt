@@ -1,4 +1,4 @@
-//! The counts of a text.
+//! The number of the line and of its words so far, while `src/run.rt` takes many words in one pass.
 
 /// What an `Intake` counts, in a run of words.
 #[derive(Clone, Copy)]

@@ -1,5 +1,5 @@
-//! A text, cut into word lines, the words of number lines, and line ends: each byte is looked at
-//! once, or twice where a line is a word line, and nothing is copied.
+//! Cuts a text into word lines, the words of number lines, and line ends, for `src/intake.rt`. Each
+//! byte is looked at once, or twice in a word line, and nothing is copied.
 
 ghost use Rattle.std.specs.Prelude.{◌≡◌, ◌∷◌, ◌<◌, [], length, IfSome, MatchOption, false, true};
 ghost use Rattle.tsp_read.specs.states.Left.{items_left, item_next, is_in_line};

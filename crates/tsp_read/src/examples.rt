@@ -1,5 +1,5 @@
-//! Bytes on which the definitions of what a reader returns are evaluated. No body is looked at
-//! here: a definition that is changed together with its code is refused by its examples.
+//! Laws that state values of the definitions in `specs/`, worked out by hand: which texts are
+//! blank, how many bytes a read takes at most, when the reader is read on.
 
 ghost use Rattle.std.specs.Prelude.{◌≡◌, ◌+◌, ◌^◌, true, false, [], ◌∷◌, replicate};
 ghost use Rattle.tsp_read.specs.states.Onward.{is_bare};

@@ -1,4 +1,5 @@
-//! A file that is read in pieces.
+//! `Feed`, which reads a file in pieces and finds the fault as soon as no later byte can change it.
+//! For `src/read_whole.rt`, which feeds it a text or a reader.
 
 ghost use Rattle.std.specs.Prelude.{◌≡◌, ◌+◌, ◌≤◌, ◌++◌, [], List, ℕ, length, Ok, true, false};
 ghost use Rattle.tsp_format.specs.Limits.{most_file_bytes};

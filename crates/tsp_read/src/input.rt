@@ -1,4 +1,4 @@
-//! A reader, read in pieces. For read_whole.rt.
+//! Reads a reader in pieces of 4,096 bytes and feeds them to a `Feed`. For `src/read_whole.rt`.
 
 ghost use Rattle.std.specs.Prelude.{◌≡◌, [], false};
 ghost use Rattle.tsp_stream.specs.states.Watched.{turn_of, has_failed};

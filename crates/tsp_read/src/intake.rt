@@ -1,4 +1,5 @@
-//! A text that is read while it comes.
+//! `Intake`: the fields read so far, with the numbers of the line and the word, and the items of a
+//! piece that it takes. For `src/feed.rt` and `src/begun.rt`.
 
 ghost use Rattle.std.specs.Prelude.{◌≡◌, ◌+◌, ◌≤◌, ◌<◌, [], List, ℕ, length, IfOk, IfSome, Err, true};
 ghost use Rattle.tsp_format.specs.Limits.{most_file_bytes};
@@ -21,7 +22,7 @@ use tsp_text::LineFault;
 /// A word that is too long.
 const LONG_WORD: [u8; MOST_WORD_BYTES + 1] = [b'1'; MOST_WORD_BYTES + 1];
 
-/// What was read of a text up to a place in it.
+/// The state of the reader at a place of a text, with the numbers of the line and the word there.
 #[derive(Drop)]
 pub(crate) struct Intake {
     pub(crate) reading: Reading,

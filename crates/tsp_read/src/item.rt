@@ -1,4 +1,5 @@
-//! One item of a text, given to the state.
+//! Takes one item that `src/cut.rt` has cut, a word line, a word or a line end, into the state of
+//! the reader. For `src/intake.rt`.
 
 ghost use Rattle.std.specs.Prelude.{◌≡◌, ◌+◌, ◌≤◌, ◌∷◌, List, IsTrue, Ok, false};
 ghost use Rattle.tsp_format.specs.Limits.{most_file_bytes};
@@ -14,7 +15,7 @@ use std::alloc::Global;
 use tsp_format::Keyword;
 use tsp_section::{CutLine, StepFault};
 
-/// Takes an item. Returns whether it is an end line.
+/// Takes an item into the state. Returns whether it is an end line.
 pub(crate) fn take(reading: &mut Reading, alloc: Global, next: &Next<'_>) -> Result<bool, StepFault>
     ensures item { (earlier : List Item) → Holds reading.old earlier
         → TakesItem earlier (item_next next.now) reading.new result }

@@ -1,4 +1,5 @@
-//! Why a file wasn't read, as a value that only a reading makes.
+//! Why a file was not read. Only a refusal of memory makes one that says out of memory. For
+//! `src/run_error.rt` of tsp_judge.
 
 ghost use Rattle.std.specs.Prelude.{◌≡◌};
 ghost use Rattle.tsp_text.specs.declared.fault.ReadFault.TheVariants.{Line, End, TooLong, OutOfMemory, Device};

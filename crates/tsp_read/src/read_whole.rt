@@ -1,4 +1,5 @@
-//! A whole text, and a whole reader.
+//! Reads a whole text, or a reader to its end. For `src/run_file.rt` and `src/opened.rt` of
+//! tsp_judge.
 
 ghost use Rattle.std.specs.Prelude.{◌≡◌, Err, false};
 ghost use Rattle.tsp_stream.specs.states.Watched.{turn_of};

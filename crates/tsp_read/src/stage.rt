@@ -1,4 +1,5 @@
-//! How far a text is that comes in pieces. `Feed` keeps it from one piece to the next (feed.rt).
+//! How far a text is that comes in pieces. `Feed` in `src/feed.rt` holds it from one piece to the
+//! next.
 
 use crate::read_error::ReadError;
 

@@ -1,4 +1,5 @@
-//! What was read so far.
+//! The modules of `Reading`, the state of the reader: what each line, each word and the end of a
+//! text do to it.
 
 pub(crate) mod finish;
 pub(crate) mod lines;

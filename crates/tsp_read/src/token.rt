@@ -1,4 +1,5 @@
-//! A word line or a word of a number line: where it ends in a text, and how long it may be.
+//! A word line or a word of a number line: where it ends in a text, and how long it may be. For
+//! `src/cut.rt` and `src/begun.rt`.
 
 ghost use Rattle.std.specs.Prelude.{◌≡◌, MatchOption, false, true};
 ghost use Rattle.std.specs.List.{position};
@@ -7,7 +8,7 @@ ghost use Rattle.tsp_read.specs.states.Token.{token_at, ends_token, most_bytes};
 
 use tsp_format::{MOST_LINE_BYTES, MOST_WORD_BYTES, is_blank, is_letter};
 
-/// What a text has besides blanks and line ends.
+/// A part of a text that is neither a blank nor a line end.
 #[derive(Clone, Copy)]
 pub(crate) enum Token {
     /// A word line, from its first byte that isn't blank to its end.

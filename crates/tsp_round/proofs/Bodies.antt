@@ -1,5 +1,5 @@
--- The number lines of sections as they are written, and their words. For the law `canonical_texts_are_read_back` in
--- src/round_trip.rt.
+-- The lines of a section's numbers, as they are written, have the words of its entries and no others. For the law
+-- `canonical_texts_are_read_back` in src/round_trip.rt.
 use Rattle.std.proofs.Common.{◌≡◌, ℕ, ◌+◌, ◌^◌, ◌<◌, ◌≤◌, true, List, [], ◌∷◌, ◌++◌, length, map, refl, arith, Bool}
 use Rattle.std.specs.Prelude.{ℤ, nat_le, codes}
 use Rattle.std.specs.List.{list_all, flat_map, enumerate_from}

@@ -1,5 +1,5 @@
--- The sections of a valid file, one after the other: the text of each is read as the words that were written. For the law
--- `canonical_texts_are_read_back` in src/round_trip.rt.
+-- DIMENSION is read back as it is written, so each section after it is read for as many nodes as the file has. For the
+-- law `canonical_texts_are_read_back` in src/round_trip.rt.
 use Rattle.std.proofs.Common.{◌≡◌, ℕ, ◌+◌, ◌≤◌, Bool, true, false, cond, List, [], ◌∷◌, length, refl, ap, subst, ◌∙◌, arith, Option, Some, None, Result}
 use Rattle.std.specs.Prelude.{ℤ, pos, not, nat_le, nat_abs, is_some, unwrap_or}
 use Rattle.std.specs.Option.{option_map, option_and_then}

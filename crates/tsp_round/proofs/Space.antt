@@ -1,4 +1,5 @@
--- Whether a text is spatial, by the lines that it was given. For the law `canonical_texts_are_read_back` in src/round_trip.rt.
+-- A canonical text is spatial where its file is: by its lines NODE_COORD_TYPE and EDGE_WEIGHT_TYPE. For the law
+-- `canonical_texts_are_read_back` in src/round_trip.rt.
 use Rattle.std.proofs.Common.{◌≡◌, List, ap, ◌∙◌, Option}
 use Rattle.std.specs.Option.{option_map, option_and_then}
 use Rattle.tsp_format.specs.declared.kinds.CoordKind.{CoordKind}

@@ -1,4 +1,5 @@
--- Words that are taken at their places, one after the other. For the law `canonical_texts_are_read_back` in src/round_trip.rt.
+-- The words of a section, each of which is taken at its place, after the words before it. For the law
+-- `canonical_texts_are_read_back` in src/round_trip.rt.
 use Rattle.std.proofs.Common.{◌≡◌, ℕ, List, [], ◌∷◌, ◌++◌, refl, sym, ap, subst, ◌∙◌, append_assoc, append-nil, None}
 use Rattle.std.specs.List.{fold}
 use Rattle.tsp_text.specs.WordPlaces.{Place}

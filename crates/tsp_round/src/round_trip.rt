@@ -1,4 +1,5 @@
-//! The round trip, as contracts of functions that do nothing.
+//! Laws: each number of a canonical text is read back, and the text of a valid file parses to that
+//! file. They are a promise to users of `tsp convert`; no code calls them.
 
 ghost use Rattle.std.specs.Prelude.{◌≡◌, ◌≤◌, ◌<◌, ◌^◌, ℕ, ℤ, List, true, None, Result, Ok, unsigned_abs};
 ghost use Rattle.std.specs.Fmt.{signed_decimal};

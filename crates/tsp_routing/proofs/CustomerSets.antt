@@ -1,4 +1,5 @@
--- Sets of customers as families. For `cut_crossings` in src/cuts.rt.
+-- A family that is one set of customers, each once, without the depot; and that such a set has no more nodes than there
+-- are. For `cut_crossings` in src/cuts.rt.
 use Rattle.std.proofs.Common.{◌≡◌, ◌≢◌, ℕ, zero, suc, ◌+◌, ◌≤◌, ◌<◌, ◌==◌, Bool, true, false, List, [], ◌∷◌, length, get_or, refl, sym, ap, ◌∙◌, subst, arith, inl, inr}
 use Rattle.std.specs.Prelude.{ℤ, pos, if◌then◌else◌, ◌≤ℤ◌}
 use Rattle.std.specs.Global.{Vec}

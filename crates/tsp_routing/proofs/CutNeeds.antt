@@ -1,4 +1,5 @@
--- What the customers of a cut demand, one by one. For `Demands::all` in src/needs.rt and others.
+-- What the customers of a cut demand, summed one by one, and how many routes carry that at least. For `Demands::all` in
+-- src/needs.rt and others.
 use Rattle.std.proofs.Common.{◌≡◌, ◌≢◌, ℕ, zero, suc, ◌+◌, ◌-◌, ◌*◌, ◌/◌, ◌<◌, ◌≤◌, ◌==◌, ◌||◌, false, List, [], ◌∷◌, refl, sym, ap, ◌∙◌, subst, arith, to_z, of_z, inl, inr, add-one}
 use Rattle.std.specs.Prelude.{◌⊎◌, max, min, if◌then◌else◌, nat_abs, ℤ, pos, negsuc, ◌+ℤ◌, ◌*ℤ◌, ◌≤ℤ◌}
 use Rattle.std.specs.Int.{w64}

@@ -1,4 +1,5 @@
--- Sets of customers one after the other: their numbers, and the first family that isn't one. For `judge_cuts` in src/cuts.rt.
+-- The families of a certificate, one after the other: how often plans cross each, and the first that isn't one set of
+-- customers. For `judge_cuts` in src/cuts.rt.
 use Rattle.std.proofs.Common.{◌≡◌, ◌≢◌, ℕ, zero, suc, ◌+◌, ◌<◌, ◌^◌, List, [], ◌∷◌, ◌++◌, length, get_or, inl, inr, refl, ap, sym, subst, arith, length-append}
 use Rattle.std.specs.Prelude.{Some, ℤ, replicate, ◌==◌}
 use Rattle.std.specs.List.{All, AllByRecursion}

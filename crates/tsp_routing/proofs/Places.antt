@@ -1,4 +1,5 @@
--- Lists with an element more at the end. For `least_walk` in src/least_walk.rt.
+-- A list with one element more at its end: what holds of each element by its place still holds. For `least_walk` in
+-- src/least_walk.rt.
 use Rattle.std.proofs.Common.{◌≡◌, ℕ, zero, suc, ◌<◌, List, [], ◌∷◌, ◌++◌, length, get_or, refl, arith}
 
 -- an element more at the end, with what holds of each by its place

@@ -1,5 +1,5 @@
--- The judge of leaves for routes: numbers that are good, what is found of a leaf, and what that says of the whole. For
--- `judge_leaf` in src/plan_judge.rt and others.
+-- The judge of leaves for routes: numbers that are in range, what is found of one leaf, and the least of all leaves.
+-- For `judge_leaf` in src/plan_judge.rt and others.
 use Rattle.std.proofs.Common.{◌≡◌, ◌∙◌, ℕ, ◌+◌, ◌-◌, ◌^◌, ◌<◌, true, List, [], ◌∷◌, length, take, drop, get_or, ℤ, ◌≤ℤ◌, inl, inr, sym, ap, subst, arith}
 use Rattle.std.specs.Prelude.{Option, None, Some, pos, neg_ℤ}
 use Rattle.std.specs.List.{All, AllByRecursion}

@@ -1,4 +1,5 @@
--- What a certificate for routes shows holds of every plan. For the law `plan_trees_bound_plans` in src/laws.rt.
+-- The bound that a certificate for routes shows is at most the length of every plan, and there is only one. For the law
+-- `plan_trees_bound_plans` in src/laws.rt.
 use Rattle.std.proofs.Common.{◌≡◌, ℕ, ◌≤◌, ◌-◌, List, [], ◌∷◌, Option, None, Some, ℤ, ◌≤ℤ◌, inl, inr, arith, length, refl, ap, ap₂}
 use Rattle.std.specs.Prelude.{pos, ◌*ℤ◌}
 use Rattle.std.specs.List.{All, AllByRecursion}

@@ -1,5 +1,5 @@
--- A weight under sets, once the sets of a node are added to what is there as if no set had two nodes. For
--- `LeafWeights::fill_row` in src/leaf_weights.rt.
+-- An entry of a row of weights, after the multipliers of the sets that have both nodes are added, is the weight between
+-- the two nodes. For `LeafWeights::fill_row` in src/leaf_weights.rt.
 use Rattle.std.proofs.Common.{◌≡◌, ℕ, ℤ, List, arith, sym, subst, FitsSigned}
 use Rattle.std.specs.Prelude.{pos, neg_ℤ, ◌-ℤ◌}
 use Rattle.std.specs.List.{All}

@@ -1,5 +1,5 @@
--- The weight of a plan under a leaf's numbers, and what each of its routes has left. For the law `plan_bounds_bound_plans` in
--- src/laws.rt.
+-- A plan's weight is its scaled length and the potentials of its nodes, twice; and a surplus is split among its routes.
+-- For the law `plan_bounds_bound_plans` in src/laws.rt.
 use Rattle.std.proofs.Common.{◌≡◌, ℕ, zero, suc, ◌≤◌, List, length, true, false, inl, inr, arith}
 use Rattle.std.specs.Prelude.{ℤ, pos, negsuc, int_lt, ◌+ℤ◌, ◌-ℤ◌, ◌*ℤ◌, ◌≤ℤ◌}
 use Rattle.std.proofs.lemmas.Int.{ints}

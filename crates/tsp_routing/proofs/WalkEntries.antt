@@ -1,4 +1,5 @@
--- Entries of tables by load, one next node more at a time. For `entry_around` in src/least_walk.rt and others.
+-- An entry of the table of walks, the least weight on from a node, with one next node more at a time. For
+-- `entry_around` in src/least_walk.rt and others.
 use Rattle.std.proofs.Common.{◌≡◌, ◌≢◌, ℕ, ◌+◌, ◌-◌, ◌*◌, ◌≤◌, List, [], ◌∷◌, ◌++◌, length, get_or, refl, sym, ◌∙◌, subst, arith, inl, inr}
 use Rattle.std.specs.Prelude.{◌⊎◌, ℤ, pos, ◌+ℤ◌}
 use Rattle.std.proofs.lemmas.Int.{ints}

@@ -1,4 +1,5 @@
--- How large the numbers of a table are. For `entry_by` in src/least_walk.rt and others.
+-- How large the numbers in the table of walks are: at most the largest weight of a link, times the links so far. For
+-- `entry_by` in src/least_walk.rt and others.
 use Rattle.std.proofs.Common.{◌≡◌, ℕ, zero, suc, ◌+◌, ◌*◌, ◌≤◌, ◌<◌, List, [], ◌∷◌, length, get_or, refl, ap, ◌∙◌, add-one, arith, inl, inr}
 use Rattle.std.specs.Prelude.{ℤ, pos, neg_ℤ, ◌+ℤ◌, ◌≤ℤ◌}
 use Rattle.std.proofs.lemmas.Int.{ints}

@@ -1,4 +1,5 @@
--- Rows of weights, one more at a time. For `rows_of` in src/kept_weights.rt.
+-- The kept rows of weights between nodes, with the row of the next node at the end. For `rows_of` in
+-- src/kept_weights.rt.
 use Rattle.std.proofs.Common.{◌≡◌, ℕ, ◌+◌, List, [], ◌∷◌, ◌++◌, get_or, ℤ, inl, inr, sym, subst, arith, length-append}
 use Rattle.std.specs.Global.{Vec}
 use Rattle.std.proofs.lemmas.Bool.{cases_lt}

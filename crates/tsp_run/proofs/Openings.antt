@@ -1,5 +1,5 @@
--- The same task of other files, by a relation that another one implies. For `opened` and `opened_to_compare` in
--- src/opened_files.rt.
+-- A task or a comparison whose files were opened: a fact of each opened file may be replaced by one that follows from
+-- it. For `opened` and `opened_to_compare` in src/opened_files.rt.
 use Rattle.std.proofs.Common.{Option, None, Some}
 use Rattle.tsp_task.specs.declared.certificate.Certificate.{Certificate}
 use Rattle.tsp_task.specs.Mapped.{IsMapped, IsMappedCertificate, IsMappedComparison}

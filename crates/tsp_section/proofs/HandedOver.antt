@@ -1,5 +1,5 @@
--- What a result says of its value may be weakened, once a list has moved to the end of others. For `CombList::end_comb` and
--- `CombList::end_set` in src/parts/combs.rt.
+-- What holds of the gathered list and of the list of lists, where the first was moved to the end of the second, gives
+-- what holds of both. For `CombList::end_comb` and `CombList::end_set` in src/parts/combs.rt.
 use Rattle.std.proofs.Common.{Result, Ok, Err}
 use Rattle.std.specs.Prelude.{MatchResult, OnOk}
 

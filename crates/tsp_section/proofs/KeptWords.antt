@@ -1,4 +1,5 @@
--- The words of a group that has begun, by the numbers that are kept. For `NumberList::push` in src/parts/numbers.rt and others.
+-- The words of a group that has begun, and the numbers that its list keeps of them. For `NumberList::push` in
+-- src/parts/numbers.rt and others.
 use Rattle.std.proofs.Common.{◌≡◌, ℕ, suc, List, [], ◌∷◌, ◌++◌, length, map, get_or, refl, ap, Option, None, Some, Ok}
 use Rattle.std.specs.Prelude.{ℤ, Result}
 use Rattle.tsp_number.specs.declared.fault.NumberFault.{NumberFault}

@@ -1,4 +1,5 @@
--- One word more of groups that -1 ends. For `FixedList::push_first` in src/parts/fixed.rt and others.
+-- One word more of groups that -1 ends, as fixed pairs and multipliers are. For `FixedList::push_first` in
+-- src/parts/fixed.rt and others.
 use Rattle.std.proofs.Common.{◌≡◌, ◌≢◌, ℕ, suc, ◌+◌, ◌<◌, ◌≤◌, Bool, true, false, List, [], ◌∷◌, ◌++◌, length, map, get_or, refl, sym, ap, subst, ◌∙◌, Option, None, Some, Ok, Err}
 use Rattle.std.specs.Prelude.{ℤ, pos, negsuc, ◌==◌, nat_le, is_some}
 use Rattle.std.specs.Option.{option_map}

@@ -1,4 +1,5 @@
--- The rows of a line that names a value. For `set_named` in src/slots.rt.
+-- A keyword's line that isn't repeated: a fault of its value comes before the fault of a line that is too late. For
+-- `set_named` in src/slots.rt.
 use Rattle.std.proofs.Common.{◌≡◌, Bool, true, false, Some, [], ◌∷◌}
 use Rattle.tsp_text.specs.declared.fault.LineFault.{LineFault}
 use Rattle.tsp_text.specs.declared.fault.LineFault.TheVariants as row

@@ -1,4 +1,5 @@
--- The part of a section returns what its own list returns. For `PointListRunList::take_whole` in src/run.rt and others.
+-- A `Part` takes a word, or refuses it, as the list of its section does. For `PointListRunList::take_whole` in
+-- src/run.rt and others.
 use Rattle.std.proofs.Common.{◌≡◌, ℕ, ℤ, Bool, List, [], ◌∷◌, ◌++◌, sym, ap, subst, ◌∙◌, Result, Ok, Err, IfErr}
 use Rattle.tsp_section.specs.declared.fault.StepFault.{StepFault}
 use Rattle.tsp_section.specs.declared.part.Part.{Part}

@@ -1,5 +1,5 @@
--- A list between the elements that part it, with one element more at its end. For `GatheredNodes::push_read` and
--- `TourList::push` in src/parts/tours.rt.
+-- A list in pieces, as the words of tours between the -1, with one element more at its end. For
+-- `GatheredNodes::push_read` and `TourList::push` in src/parts/tours.rt.
 use Rattle.std.proofs.Common.{◌≡◌, ◌+◌, Bool, true, false, cond, List, [], ◌∷◌, ◌++◌, length, refl, ap, ◌∙◌, arith}
 use Rattle.std.specs.List.{slice_split, onto_first, filter}
 

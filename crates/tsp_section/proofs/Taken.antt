@@ -1,4 +1,5 @@
--- How a word is taken, with what holds after it. For `PointListRunList::take_whole` in src/run.rt and others.
+-- A statement on the list of a section, after it took a word, may be replaced by one that follows from it. For
+-- `PointListRunList::take_whole` in src/run.rt and others.
 use Rattle.std.proofs.Common.{ℕ, List, Result, Ok, Err}
 use Rattle.tsp_section.specs.declared.fault.StepFault.{StepFault}
 use Rattle.tsp_section.specs.declared.fault.StepFault.TheVariants as steps

@@ -1,4 +1,5 @@
--- One word more of a tree. For `TreeList::push_difference` in src/parts/tree.rt.
+-- One word more of a tree of cases: the number that ends a difference of a leaf. For `TreeList::push_difference` in
+-- src/parts/tree.rt.
 use Rattle.std.proofs.Common.{◌≡◌, ◌≢◌, ℕ, true, false, List, [], ◌∷◌, ◌++◌, refl, sym, ap, ◌∙◌, None, Some, Ok, arith}
 use Rattle.std.specs.Prelude.{◌==◌, ℤ, pos, neg_ℤ}
 use Rattle.std.proofs.lemmas.List.Sums.{fold-append}

@@ -1,4 +1,4 @@
--- One weight more. For `WeightList::push` in src/parts/weights.rt.
+-- One word more of EDGE_WEIGHT_SECTION, which is one weight more. For `WeightList::push` in src/parts/weights.rt.
 use Rattle.std.proofs.Common.{◌≡◌, ℕ, ◌*◌, ◌<◌, false, List, [], ◌∷◌, ◌++◌, length, map, refl, sym, ap, ◌∙◌, None, Ok, arith}
 use Rattle.std.specs.Prelude.{ℤ, nat_le}
 use Rattle.std.proofs.lemmas.List.{map_push, length_push, length-map}

@@ -1,4 +1,4 @@
-//! Texts without the blanks at their ends.
+//! Texts without the blanks at their ends. For `src/line.rt`, and for `src/cut.rt` of tsp_read.
 
 ghost use Rattle.std.specs.Prelude.{◌≡◌, not};
 ghost use Rattle.std.specs.List.{position};

@@ -1,4 +1,5 @@
-//! A word line in its parts, and what its value is read as.
+//! A word line, cut into keyword, colon and value, and the word, number or section that its value
+//! is read as. For `src/item.rt` and `src/state/lines.rt` of tsp_read.
 
 ghost use Rattle.std.specs.Prelude.{◌≡◌, cond, drop, not};
 ghost use Rattle.std.specs.List.{position, prefix_len};

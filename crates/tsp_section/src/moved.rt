@@ -1,4 +1,4 @@
-//! A list that moves into a list of lists.
+//! Moves a finished list into a list of lists. For `src/parts/combs.rt` and `src/parts/tours.rt`.
 
 ghost use Rattle.std.specs.Prelude.{◌≡◌, ◌++◌, ◌∷◌, [], MatchResult};
 

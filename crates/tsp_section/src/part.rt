@@ -1,4 +1,5 @@
-//! The part of a reader that takes the words of a section, whichever its shape.
+//! The list that takes the words of a section, whichever its shape. For the open section in
+//! `src/state/reading.rt` of tsp_read.
 
 ghost use Rattle.std.specs.Prelude.{◌≡◌, ◌≤◌, [], ℕ, List, ◌∷◌, ◌++◌, IfOk, IfErr};
 

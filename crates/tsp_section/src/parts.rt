@@ -1,4 +1,4 @@
-//! The parts of a reader that take the words of a section.
+//! The modules of the lists that take the words of a section, one for each shape.
 
 pub(crate) mod combs;
 pub(crate) mod depots;

@@ -1,4 +1,5 @@
-//! The lists whose words come in a run.
+//! The trait of lists that take the numbers of many words in one pass: weights, tours, points,
+//! numbers by node. For `src/run.rt` of tsp_read.
 
 ghost use Rattle.std.specs.Prelude.{◌≡◌, ◌<◌, ◌-◌, pos, List, length, slice_index_or, ℕ, Ok, true, false};
 ghost use Rattle.tsp_number.specs.Reading.{decimal_of};

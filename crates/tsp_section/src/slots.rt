@@ -1,4 +1,5 @@
-//! Slots of the draft that a line fills.
+//! Sets a field of the draft by a keyword line: a word from a list, NAME, COMMENT, an unknown
+//! keyword. For `src/state/lines.rt` of tsp_read.
 
 ghost use Rattle.tsp_text.specs.Lines.{first_word};
 ghost use Rattle.std.specs.Prelude.{◌≡◌, map, IfOk};

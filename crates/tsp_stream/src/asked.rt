@@ -1,4 +1,5 @@
-//! One call of a reader or a writer, as a relation that nothing else is known of.
+//! The traits of a reader and of a writer that is called once. A contract over them says that the
+//! reader was asked once and its result returned. For `Watched` and the readers of tsp_judge.
 
 ghost use Rattle.std.specs.Prelude.{ℕ, List, Result, ⊤};
 ghost use Rattle.std.specs.Io.{ReadsAtMost, WritesAtMost};

@@ -1,5 +1,5 @@
-//! Results of a writer, on which the definition of a failed write is evaluated. No body is looked
-//! at here: a definition that is changed together with its code is refused by its examples.
+//! Laws that state values of the definitions in `specs/`, worked out by hand: which results of a
+//! writer are failures, and the texts of faults.
 
 ghost use Rattle.std.specs.Prelude.{◌≡◌, true, false, [], ◌∷◌, Ok, Err, codes};
 ghost use Rattle.std.specs.declared.io.Error.{Error};

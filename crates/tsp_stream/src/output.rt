@@ -1,4 +1,5 @@
-//! The way of a text to a writer.
+//! Writes a text to a writer that may take any part of it at once, and stops where it fails. For
+//! `src/piece.rt`, and the version and help that tsp_run writes.
 
 ghost use Rattle.std.specs.Prelude.{◌≡◌, ◌≤◌, ◌<◌, Result, ℕ, true, false, length, take};
 ghost use Rattle.std.specs.Io.KnownBytes.{Appends};

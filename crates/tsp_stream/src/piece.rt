@@ -1,4 +1,5 @@
-//! The piece of a text that waits to be written.
+//! The buffer of 4,096 bytes between a text and its writer. The reports of tsp_report and the
+//! canonical texts of tsp_file are written through one.
 //!
 //! A failure sticks: a writer that has failed gets nothing more, so that whoever adds to a text
 //! need not look at each outcome.

@@ -1,6 +1,5 @@
-//! A reader whose answers are known beforehand. It is a model. It shows what no clause of `Read`
-//! can say of a reader of the host: a watched one is asked once for each call, and returns the
-//! answer as it is.
+//! A model of a reader whose answers are known beforehand. It shows what no clause of `Read` can
+//! say: a watched reader is asked once for each call, and its answer is returned as it is.
 
 ghost use Rattle.std.specs.Prelude.{◌≡◌, is_err, ◌||◌};
 ghost use Rattle.tsp_stream.specs.states.Watched.{watched, has_failed};

@@ -1,4 +1,5 @@
-//! A reader or a writer that remembers whether it has failed.
+//! A reader or a writer that remembers whether it has failed. Each file, stream and terminal of a
+//! run is wrapped in one.
 
 ghost use Rattle.std.specs.Prelude.{◌≡◌, Bool, false, is_err, ◌||◌, None, Some};
 ghost use Rattle.std.specs.Option.{option_map};

@@ -1,4 +1,5 @@
--- Lists below their limit, with one more. For the law `clean_fields_are_valid` in src/validity.rt and others.
+-- A list below its limit is within it with one element more, and all its elements still pass their test. For the law
+-- `clean_fields_are_valid` in src/validity.rt and others.
 use Rattle.std.proofs.Common.{◌≡◌, ℕ, Bool, true, false, List, [], ◌∷◌, ◌++◌, length, refl, ◌∙◌, arith}
 use Rattle.std.specs.Prelude.{not, ◌&&◌, nat_le}
 use Rattle.std.specs.List.{list_all}

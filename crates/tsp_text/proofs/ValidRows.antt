@@ -1,5 +1,5 @@
--- What it says of an item, and of a word at its place, that no row applies. For the law `first_faults` in src/answers.rt and
--- others.
+-- What follows where no row of the table of faults applies to an item, or to a word at its place. For the law
+-- `first_faults` in src/answers.rt and others.
 use Rattle.std.proofs.Common.{◌≡◌, ℕ, Bool, true, false, List, [], ◌∷◌, refl, Option, Some, None}
 use Rattle.std.specs.Option.{option_or, option_map}
 use Rattle.std.specs.List.{AllByRecursion}

@@ -1,4 +1,5 @@
-//! What always holds of the answer for a text: its file, or its first fault.
+//! Laws: every text has exactly one answer, its file or its first fault. For `src/round_trip.rt` of
+//! tsp_round.
 
 ghost use Rattle.std.specs.Prelude.{◌≡◌, ◌≢◌, ℕ, List, Some, true};
 ghost use Rattle.tsp_draft.specs.Fields.{Fields};

@@ -1,4 +1,5 @@
-//! What always holds of the sections by node.
+//! A law: a complete section by node has one group for each node. No code calls it: it shows that
+//! the definitions of `specs/Sections.antt` mean what they should.
 
 ghost use Rattle.std.specs.Prelude.{◌≡◌, List, true, false};
 ghost use Rattle.tsp_format.specs.declared.field.Field.{Field};

@@ -1,4 +1,5 @@
-//! What always holds of the definitions, as contracts of functions that do nothing.
+//! Laws that state values of the definitions in `specs/`, worked out by hand: the first faults of
+//! small texts, the limits of lines and sections, the files of texts, texts of faults.
 
 ghost use Rattle.std.specs.Prelude.{codes, decimal, ◌≡◌, ◌≤◌, ◌++◌, ℕ, List, length, IsTrue, true, false};
 ghost use Rattle.tsp_distance.specs.Decimal.{most_count};

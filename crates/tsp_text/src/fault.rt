@@ -1,4 +1,5 @@
-//! Why bytes are no file.
+//! The faults of a text: `LineFault` of a line or a word, and `ReadFault` of a read. tsp_read
+//! returns them.
 //!
 //! A variant is also in specs/FaultRows.antt and specs/ReadFaultText.antt. tsp_report, tsp_explain
 //! and tsp_c name each, too.

@@ -1,4 +1,5 @@
-//! What always holds of the settled part of a text, before its end has come.
+//! Laws: a fault or an end line that is settled stays so, whatever bytes follow. The promise of
+//! `Feed` in tsp_read rests on them; no code calls them.
 
 ghost use Rattle.std.specs.Prelude.{◌≡◌, ℕ, List, ◌++◌, Some, true};
 ghost use Rattle.tsp_text.specs.declared.fault.ReadFault.{ReadFault};

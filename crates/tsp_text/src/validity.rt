@@ -1,4 +1,5 @@
-//! What always holds of the fields of a text. These are laws: tsp_round calls the second one.
+//! Laws: the fields of a text without a fault are valid, one by one and together.
+//! `src/round_trip.rt` of tsp_round calls the second one.
 
 ghost use Rattle.std.specs.Prelude.{◌≡◌, ℕ, List, None, false};
 ghost use Rattle.tsp_format.specs.declared.field.Field.TheVariants.{BranchPart};

@@ -1,5 +1,5 @@
--- The laws of cycles and of lengths that the crate of costs promises. For the law `adjusted_bounds_bound_cycles` in src/laws.rt
--- and others.
+-- The laws of src/cycle_laws.rt as a record, which lemmas take as an argument; and sums over the nodes and the links of
+-- a cycle. For the law `adjusted_bounds_bound_cycles` in src/laws.rt and others.
 use Rattle.std.proofs.Common.{◌≡◌, ◌≢◌, ℕ, ◌≤◌, ◌<◌, suc, ◌+◌, List, [], ◌∷◌, length, get_or, refl, sym, ap, subst, ◌∙◌, arith}
 use Rattle.std.specs.Prelude.{ℤ, pos, ◌+ℤ◌, ◌*ℤ◌, ◌≤ℤ◌}
 use Rattle.std.specs.List.{range_with_len}

@@ -1,5 +1,5 @@
--- Weak duality: good duals bound the length of every cycle. For the laws `bounds_are_unique` and `duals_bound_cycles` in
--- src/laws.rt.
+-- Weak duality: duals whose sums are at most the scaled costs bound the length of every cycle; and a bound is one
+-- number. For the laws `duals_bound_cycles` and `bounds_are_unique` in src/laws.rt.
 use Rattle.std.proofs.Common.{◌≡◌, ℕ, List, subst, arith}
 use Rattle.std.specs.Prelude.{ℤ, pos, negsuc, ◌+ℤ◌, ◌-ℤ◌, ◌*ℤ◌}
 use Rattle.std.proofs.lemmas.Int.{ints}

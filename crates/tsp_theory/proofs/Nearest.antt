@@ -1,4 +1,5 @@
--- One pass over the nodes outside: their entries, and the nearest one. For `bring` in src/growth.rt of tsp_tree and others.
+-- The weight `most_64`, which means none; and one pass over the nodes outside a growing tree, which finds the nearest
+-- one. For `bring` in src/growth.rt of tsp_tree and others.
 use Rattle.std.proofs.Common.{◌≡◌, ◌≢◌, ℕ, ◌+◌, ◌<◌, ◌≤◌, Bool, true, false, List, Option, Some, None, slice_index, get_or, length, to_z, of_z, inl, inr, ap, sym, subst, ◌∙◌, arith, MatchOption}
 use Rattle.std.specs.Prelude.{ℤ, pos, ◌≤ℤ◌, ◌<ℤ◌, FitsSigned}
 use Rattle.std.specs.Int.{w64}

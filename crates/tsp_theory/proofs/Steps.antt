@@ -1,4 +1,5 @@
--- The steps of a growth. For `grow` in src/growth.rt of tsp_tree.
+-- A tree that grows from node 2, by the nearest node outside: one pair more is a growth, and one node more is reached.
+-- For `grow` in src/growth.rt of tsp_tree.
 use Rattle.std.proofs.Common.{take, drop, ◌≡◌, ℕ, zero, suc, ◌<◌, Option, MatchOption, ◌+◌, ◌≤◌, Bool, true, false, ◌||◌, ◌==◌, cond, List, [], ◌∷◌, ◌++◌, length, slice_index, get_or, length-append, ℤ, ◌≤ℤ◌, ◌⊎◌, inl, inr, refl, arith, ap, sym, ◌∙◌, subst}
 use Rattle.std.specs.Prelude.{◌<ℤ◌, if◌then◌else◌, pos}
 use Rattle.std.specs.List.{sum_by}

@@ -1,4 +1,5 @@
--- Additions to a number, one after the other. For `lower` in src/weights.rt of tsp_bound.
+-- Numbers added to an entry, one after the other: the entry is the sum, as 64 bits wrap it, or is left where all of
+-- them are 0. For `lower` in src/weights.rt of tsp_bound and others.
 use Rattle.std.proofs.Common.{◌≡◌, ◌≢◌, ℕ, ◌==◌, List, FitsSigned, inl, inr, refl, ap, sym, subst, ◌∙◌, arith}
 use Rattle.std.specs.Int.{w64, int_wrap}
 use Rattle.std.specs.Prelude.{ℤ, pos, ◌+ℤ◌, if◌then◌else◌}

@@ -1,4 +1,5 @@
--- The steps of a growth that lists the nodes outside. For `grow` in src/growth.rt.
+-- A tree that grows from node 2, with a list of the nodes outside: the pairs so far, the nearest node inside for each
+-- one outside, and one node more. For `grow` in src/growth.rt.
 use Rattle.std.proofs.Common.{◌≡◌, ◌≢◌, ℕ, ◌+◌, ◌-◌, ◌<◌, ◌≤◌, ◌==◌, Bool, true, false, List, [], ◌∷◌, ◌++◌, length, slice_index, inl, inr, refl, ap, sym, subst, ◌∙◌, arith, length-append}
 use Rattle.std.specs.Prelude.{ℤ, pos, ◌+ℤ◌, ◌≤ℤ◌, ◌<ℤ◌, ◌⊎◌}
 use Rattle.std.specs.List.{swap_remove}

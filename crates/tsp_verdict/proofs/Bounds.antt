@@ -1,4 +1,5 @@
--- An instance with a certificate: the reasons against either, in order. For `Subject::basis_on` in src/subject.rt.
+-- The reasons against an instance and then against its certificate, of which the first one is the answer of a bound.
+-- For `Subject::basis_on` in src/subject.rt.
 use Rattle.std.proofs.Common.{◌≡◌, ℕ, ◌<◌, ◌≤◌, ◌⊎◌, inl, inr, refl, arith}
 use Rattle.std.specs.Prelude.{Some, Result, Ok, Err, IfOk, IsErr, MatchResult, pos}
 use Rattle.tsp_format.specs.declared.kinds.Kind.TheVariants as kinds

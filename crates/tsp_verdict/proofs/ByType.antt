@@ -1,5 +1,5 @@
--- What is said by the TYPE of an instance, for its tours and for its routes. For `basis_of` in src/comparison_basis.rt
--- and others.
+-- Reasons, bases and verdicts by the TYPE of an instance: those of tours for TSP and ATSP, those of routes for CVRP.
+-- For `basis_of` in src/comparison_basis.rt and others.
 use Rattle.std.proofs.Common.{◌≡◌, ◌≢◌, ◌⊎◌, inl, inr, Option, Some, None, refl, sym, subst}
 use Rattle.tsp_format.specs.declared.kinds.Kind.{Kind}
 use Rattle.tsp_format.specs.declared.kinds.Kind.TheVariants as kinds

@@ -1,5 +1,5 @@
--- Reasons against a certificate, ruled out one by one, and how they join those against the tour. For `bound_by_duals` in
--- src/potentials_bound.rt and others.
+-- Reasons against a certificate of potentials, ruled out one by one; and the order of reasons against a solution and
+-- against any certificate. For `bound_by_duals` in src/potentials_bound.rt and others.
 use Rattle.std.proofs.Common.{◌≡◌, ℕ, ◌-◌, ◌<◌, ◌≤◌, Bool, true, false, List, [], Option, None, Some, refl, ap, sym, subst, subst₂, ◌∙◌, arith, inl, inr}
 use Rattle.std.specs.Prelude.{◌⊎◌, ℤ, pos, IsTrue, unwrap_or}
 use Rattle.std.specs.List.{All, AllPairs}

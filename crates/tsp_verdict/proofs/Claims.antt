@@ -1,5 +1,5 @@
--- A solution whose length may be claimed, with a certificate or without. For `Subject::verdict_on_tour` in src/subject.rt and
--- others.
+-- The verdict on a solution where `--length` claims a length, and where it doesn't, with a certificate or without. For
+-- `Subject::verdict_on_tour` in src/subject.rt and others.
 use Rattle.std.proofs.Common.{◌≡◌, inl, inr, Option, Some, None, ℕ, refl, sym, subst, ◌∙◌}
 use Rattle.std.specs.Prelude.{ℤ}
 use Rattle.tsp_format.specs.declared.kinds.Kind.TheVariants as kinds

@@ -1,5 +1,5 @@
--- What was found of an instance with a certificate, for a solution that is accepted on its own. For `Subject::verdict_on_tour`
--- in src/subject.rt and others.
+-- What is found of an instance with a certificate, where a solution is accepted without it: then no reason applies to
+-- the instance. For `Subject::verdict_on_tour` in src/subject.rt and others.
 use Rattle.std.proofs.Common.{◌≡◌, Some, inl, inr}
 use Rattle.std.specs.Prelude.{◌⊎◌}
 use Rattle.tsp_format.specs.declared.kinds.Kind.TheVariants as kinds

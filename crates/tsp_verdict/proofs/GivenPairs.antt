@@ -1,4 +1,5 @@
--- Pairs, each once, as decisions that take them. For `taken_once` in src/fixed_decisions.rt and others.
+-- The fixed pairs of an instance, each once, as decisions that take them, found in one pass over the pairs. For
+-- `taken_once` in src/fixed_decisions.rt and others.
 use Rattle.std.proofs.Common.{◌≡◌, ◌∙◌, ℕ, ◌+◌, ◌<◌, ◌≤◌, ◌||◌, ◌&&◌, not, Bool, true, false, List, [], ◌∷◌, ◌++◌, get_or, length, take, drop, refl, sym, ap, subst, arith, inl, inr, drop-cons, add-one}
 use Rattle.std.specs.Prelude.{if◌then◌else◌, cond, filter}
 use Rattle.std.specs.BTreeSet.{BTreeSet, contains}

@@ -1,4 +1,5 @@
--- The numbers that certificates hold. For `assignment_bound` and `tree_bound` in src/potentials_bound.rt.
+-- The potentials, duals, demands and depots that a valid file lends are those of its fields, one for each node and in
+-- their ranges. For `assignment_bound` and `tree_bound` in src/potentials_bound.rt.
 use Rattle.std.proofs.Common.{◌≡◌, ℕ, false, List, [], length, Option, None, Some, refl, sym, ap, ◌∙◌}
 use Rattle.std.specs.Prelude.{ℤ, pos, is_some, IsSome, unwrap_or}
 use Rattle.std.specs.List.{All}

@@ -1,5 +1,5 @@
--- Of two reasons of one rank that apply to a solution, to an instance or to a certificate the numbers are the same. For
--- `judge_walks` in src/walks.rt and others.
+-- Two reasons of one rank that apply to a solution, to an instance or to a certificate have the same numbers. For the
+-- law `files_have_one_verdict` in src/one_verdict.rt and others.
 use Rattle.std.proofs.Common.{◌≡◌, ◌∙◌, ℕ, ◌+◌, ◌-◌, List, length, inl, inr, refl, sym, ap, ap₂, subst, arith}
 use Rattle.std.specs.Prelude.{Option, None, Some, Bool, ℤ}
 use Rattle.std.proofs.lemmas.Bool.{cases_order, false≢true}

@@ -1,4 +1,5 @@
--- Several routes, and the list of their nodes one after the other. For `first_larger_in` in src/visits.rt and others.
+-- Places in a plan: the nodes of its routes as one list, and the first place in it, found route by route. For
+-- `first_larger_in` in src/visits.rt and others.
 use Rattle.std.proofs.Common.{◌≡◌, ℕ, zero, suc, ◌+◌, ◌-◌, ◌<◌, ◌≤◌, List, [], ◌∷◌, ◌++◌, length, get_or, take, refl, sym, ap, subst, ◌∙◌, inl, inr, arith, length-append}
 use Rattle.std.specs.Prelude.{◌⊎◌, slice_index_or, map}
 use Rattle.std.specs.Global.{Vec}

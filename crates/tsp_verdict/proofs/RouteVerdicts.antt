@@ -1,4 +1,5 @@
--- The verdict on routes, by what has been ruled out. For `verdict_on_routes` and `first_against_places` in src/routes.rt.
+-- The verdict on routes: the first reason by the first test that finds something, or a plan where none does. For
+-- `verdict_on_routes` and `first_against_places` in src/routes.rt.
 use Rattle.std.proofs.Common.{◌≡◌, ◌≢◌, ℕ, ◌+◌, ◌-◌, ◌<◌, ◌≤◌, Bool, true, false, List, [], length, None, refl, sym, ap, subst, ◌∙◌, arith}
 use Rattle.std.specs.Prelude.{slice_index_or, ℤ, pos, ◌≤ℤ◌}
 use Rattle.std.specs.List.{All, Contains}

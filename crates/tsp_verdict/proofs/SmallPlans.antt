@@ -1,4 +1,5 @@
--- The customers of four nodes whose depot is node 1. For the law `examples_against_routes` in src/examples.rt and others.
+-- Of four nodes with the depot 1 the customers are 2, 3 and 4. For the law `examples_against_routes` in src/examples.rt
+-- and others.
 use Rattle.std.proofs.Common.{ℕ, zero, suc, arith, refl}
 use Rattle.tsp_verdict.specs.Plan.{IsCustomer}
 

@@ -1,4 +1,5 @@
--- The verdict on a tour, by what has been ruled out. For `first_against_nodes` in src/tour.rt and others.
+-- The verdict on a tour: the first reason by the first test that finds something, or a cycle where none does. For
+-- `first_against_nodes` in src/tour.rt and others.
 use Rattle.std.proofs.Common.{◌≡◌, ℕ, ◌-◌, ◌≤◌, Bool, List, [], ◌∷◌, map, length, get_or, sym, ap, subst, ◌∙◌, arith}
 use Rattle.std.specs.Prelude.{ℤ}
 use Rattle.std.specs.Global.{Vec}

@@ -1,6 +1,6 @@
--- A tree of boxes over nodes in an order, its leaves one node each, and what a search of it finds. For `Search` (src/search.rt)
--- and `Best` (src/nearest.rt), which it finds. `outside j`: the node at the place j of the order is in another component, so it
--- may be found.
+-- A tree of boxes over the nodes of an order, with one node in each leaf, and the nearest node that a search of it
+-- finds. For `boxes_of` (src/boxes.rt), and for `Search` (src/search.rt), which finds a `Best` (src/nearest.rt).
+-- `outside j`: the node at the place j of the order is in another component, so it may be found.
 use Rattle.std.specs.Prelude.{◌≡◌, ℕ, zero, suc, ◌+◌, ◌*◌, ◌/◌, ◌<◌, ◌≤◌, Bool, true, List, Option, None, Some, length, slice_index_or, slice_set, ℤ, pos, ◌≤ℤ◌, ◌⊎◌}
 use denote.Struct.Props as logic
 use mathlib.Core.HLevel.{Π_prop, ⊥_prop}
@@ -9,7 +9,7 @@ use Rattle.tsp_theory.specs.Regions.{IsIn}
 use Rattle.tsp_bound.specs.declared.area.Area.{Area}
 use Rattle.tsp_bound.specs.declared.nearest.Best.{Best}
 
--- the node's place lies in the box, and its number is no less than the box's least
+-- the box is there, the node's point lies in it, and the node's number is no less than the box's least number
 abbrev pub HoldsNode : (ℕ → Point) → (ℕ → ℤ) → Option Area → ℕ → Type 0
 HoldsNode place number None node = ⊥
 HoldsNode place number (Some area) node = IsIn area.region (place node) × (area.least ≤ℤ number node)
@@ -23,50 +23,53 @@ up (suc height) v = up height v / 2
 abbrev pub node_of : List ℕ → ℕ → ℕ
 node_of order j = slice_index_or order j 0
 
--- what a list has for the box v
+-- the entry of a list for the box v, or `none` where the list has no such entry
 abbrev pub box_at : {A : Type 0} → A → List A → ℕ → A
 box_at none boxes v = slice_index_or boxes v none
 
+-- the area of the box v; None where no node is in it
 abbrev pub area_at : List (Option Area) → ℕ → Option Area
 area_at areas v = slice_index_or areas v None
 
--- each node outside is in each box from `low` on that is above its leaf, which is the box length order + j
+-- each node outside is in its leaf, which is the box length order + j, and in the boxes above it, as far as their
+-- numbers are `low` or more
 abbrev pub AreHeldFrom : {A : Type 0} → (A → ℕ → Type 0) → ℕ → List ℕ → (ℕ → Bool) → (ℕ → A) → Type 0
 AreHeldFrom In low order outside box = (j height : ℕ) → j < length order → outside j ≡ true
     → low ≤ up height (length order + j)
     → In (box (up height (length order + j))) (node_of order j)
 
--- in each box but 0, which is none
+-- each node outside is in its leaf and in all boxes above it; the box 0 isn't used
 abbrev pub AreHeld : {A : Type 0} → (A → ℕ → Type 0) → List ℕ → (ℕ → Bool) → (ℕ → A) → Type 0
 AreHeld In order outside box = AreHeldFrom In 1 order outside box
 
--- the box v is put in anew, and holds what its halves hold
+-- the list has a new box v, which holds each node that one of its two halves holds
 pub record IsRefit {A : Type 0} (none : A) (In : A → ℕ → Type 0) (old new : List A) (v : ℕ) : Type 0 where
   pub box : A
   pub is : new ≡ slice_set old v box
   pub left : (p : ℕ) → In (box_at none old (2 * v)) p → In box p
   pub right : (p : ℕ) → In (box_at none old (2 * v + 1)) p → In box p
 
--- no more than the weight of each node that is in
+-- no node of which IsOne and In hold weighs less than the bound
 abbrev pub IsBelowAll : (ℕ → Type 0) → (ℕ → Type 0) → (ℕ → ℤ) → ℤ → Type 0
 IsBelowAll IsOne In weight bound = (node : ℕ) → IsOne node → In node → bound ≤ℤ weight node
 
--- a place whose node is outside, and the weight to it
+-- the best is a place of the order whose node is outside, with the weight from `from` to that node
 pub record IsFound (w : ℕ → ℕ → ℤ) (order : List ℕ) (outside : ℕ → Bool) (from : ℕ) (best : Best) : Type 0 where
   pub node_in : best.place < length order
   pub out : outside best.place ≡ true
   pub weight_is : best.weight ≡ w from (node_of order best.place)
 
--- before the search
+-- the best before the search: no node, with the largest weight of 64 bits
 abbrev pub no_best : Best
 no_best = record { weight = pos 9223372036854775807; place = 0 }
 
--- no node outside is better, and it is one, where there is one
+-- no node outside weighs less than the best, which is one of them, or none
 pub record IsBest (w : ℕ → ℕ → ℤ) (order : List ℕ) (outside : ℕ → Bool) (from : ℕ) (best : Best) : Type 0 where
   pub least : (j : ℕ) → j < length order → outside j ≡ true → best.weight ≤ℤ w from (node_of order j)
   pub found : (best ≡ no_best) ⊎ IsFound w order outside from best
 
--- the search of the box v: the new best is no worse than the old one and than each node outside below v
+-- after the search of the box v the best weighs no more than before, and no more than any node outside in that box; it
+-- is the old one, or a node outside
 pub record IsSearched (w : ℕ → ℕ → ℤ) (order : List ℕ) (outside : ℕ → Bool) (from : ℕ) (v : ℕ) (old new : Best)
     : Type 0 where
   pub kept : new.weight ≤ℤ old.weight
@@ -74,7 +77,7 @@ pub record IsSearched (w : ℕ → ℕ → ℤ) (order : List ℕ) (outside : �
       → new.weight ≤ℤ w from (node_of order j)
   pub found : (new ≡ old) ⊎ IsFound w order outside from new
 
--- ---- each has one proof at most
+-- ---- HoldsNode and AreHeld have one proof at most, as a `ghost` fact of `Search` and of `Labelled` needs
 
 pub HoldsNode-prop : (place : ℕ → Point) (number : ℕ → ℤ) (area : Option Area) (node : ℕ)
     → IsProp (HoldsNode place number area node)

@@ -1,5 +1,5 @@
--- Numbers on pairs of nodes, by node. Of `ByNode` (src/by_node.rt). A triple (a, b, number) is a multiplier of the pair of a and
--- b.
+-- Multipliers of pairs, listed by node: a triple (a, b, number) is the multiplier of the pair of a and b. For `ByNode`
+-- (src/by_node.rt), and for `lower` of `Weights` (src/weights.rt).
 use Rattle.std.specs.Prelude.{◌≡◌, ◌≢◌, ℕ, ◌+◌, ◌≤◌, ◌==◌, if◌then◌else◌, List, [], ◌∷◌, ◌++◌, length, slice_index_or, ℤ, pos}
 use Rattle.std.specs.Global.{Vec}
 use Rattle.std.specs.List.{All, AllPairs}
@@ -8,24 +8,24 @@ use Rattle.tsp_theory.specs.Length.{sum_int_by}
 use Rattle.tsp_format.specs.Limits.{most_multiplier}
 use Rattle.tsp_theory.specs.CertificateNumbers.{IsFromTo}
 
--- what a triple says of a node of its pair: the other node, and the number
+-- of a triple whose pair has the node: the other node, and the number; of any other triple nothing
 abbrev pub said_of : ℕ → ℕ × ℕ × ℤ → List (ℕ × ℤ)
 said_of node triple =
     if triple.0 == node then (triple.1, triple.2) ∷ [] else (if triple.1 == node then (triple.0, triple.2) ∷ [] else [])
 
--- what several say of it, in their order
+-- the same of each triple, in order
 abbrev pub all_said_of : ℕ → List (ℕ × ℕ × ℤ) → List (ℕ × ℤ)
 all_said_of node [] = []
 all_said_of node (triple ∷ triples) = said_of node triple ++ all_said_of node triples
 
--- a list for each node from 0 to n
+-- for each node from 0 to n the list of its other nodes and numbers
 pub record IsTable (n : ℕ) (triples : List (ℕ × ℕ × ℤ)) (lists : List (Vec (ℕ × ℤ))) : Type 0 where
   pub count : length lists ≡ n + 1
   pub said : (node : ℕ) (default : Vec (ℕ × ℤ)) → node ≤ n → (slice_index_or lists node default).items ≡ all_said_of node triples
 
 -- ---- the numbers on the pairs of one node
 
--- what the weight between that node and another one is lowered by
+-- by how much the weight between that one node and `node` is lowered
 abbrev pub lowered_by : List (ℕ × ℤ) → ℕ → ℤ
 lowered_by lowerings node = sum_int_by (λ lowering. if lowering.0 == node then lowering.1 else pos 0) lowerings
 

@@ -1,5 +1,5 @@
--- The components of a forest over places 0..n-1, each with a label, and the links between them. Of `Labelled` (src/labelled.rt)
--- and `Listed` (src/listed.rt), which grow in the rounds of src/rounds.rt.
+-- The components of a forest over the places 0..n-1 of an order, each with a label, and the lightest links between them.
+-- For `Labelled` (src/labelled.rt) and `Listed` (src/listed.rt), whose components the rounds of src/rounds.rt join.
 use Rattle.std.specs.Prelude.{◌≡◌, ◌≢◌, ℕ, ◌+◌, ◌*◌, ◌^◌, ◌==◌, ◌<◌, Bool, true, not, if◌then◌else◌, List, [], length, slice_index_or, Option, None, Some, ℤ, pos, neg_ℤ, ◌≤ℤ◌, IfSome, ◌⊎◌}
 use Rattle.std.specs.List.{All}
 use Rattle.tsp_bound.specs.declared.area.Area.{Area}
@@ -10,9 +10,11 @@ use Rattle.tsp_format.specs.Limits.{most_nodes}
 use Rattle.tsp_theory.specs.CertificateNumbers.{IsFromTo}
 use Rattle.tsp_theory.specs.Tree.{weight_of}
 
+-- x is a place of 0..n-1
 abbrev pub IsBelow : ℕ → ℕ → Type 0
 IsBelow n x = x < n
 
+-- the label of the component of the place x
 abbrev pub label_at : List ℕ → ℕ → ℕ
 label_at labels x = slice_index_or labels x 0
 
@@ -30,16 +32,17 @@ mixed = 4294967295
 abbrev pub IsTagOf : ℕ → ℕ → Type 0
 IsTagOf tag label = tag ≢ mixed → tag ≡ label
 
+-- the tag of each box fits the labels of all nodes in it
 abbrev pub AreTags : List ℕ → List ℕ → Type 0
 AreTags labels tags = AreHeld IsTagOf labels (λ _. true) (box_at 0 tags)
 
--- the boxes as the component of label `own` sees them: those of its own nodes alone are none
+-- the area of the box v in a search from the component `own`: none where all nodes of the box are in that component
 abbrev pub seen_area : List ℕ → (ℕ → Option Area) → ℕ → ℕ → Option Area
 seen_area tags area own v = if box_at 0 tags v == own then None else area v
 
 -- ---- links
 
--- a link to a node outside, and none from the same node weighs less
+-- a link from `from` to a place outside its component; no link from it to such a place weighs less
 pub record IsNearest (n : ℕ) (w : ℕ → ℕ → ℤ) (outside : ℕ → Bool) (from : ℕ) (link : Link) : Type 0 where
   pub from_is : link.from ≡ from
   pub to_in : link.to < n
@@ -47,14 +50,14 @@ pub record IsNearest (n : ℕ) (w : ℕ → ℕ → ℤ) (outside : ℕ → Bool
   pub weight_is : link.weight ≡ w from link.to
   pub least : (x : ℕ) → x < n → outside x ≡ true → link.weight ≤ℤ w from x
 
--- a link from the node x, with its own weight, and no pair of x that leaves its component weighs less
+-- a link from the place x, with its weight; no link from x to another component weighs less
 pub record IsKeptLink (n : ℕ) (w : ℕ → ℕ → ℤ) (label : ℕ → ℕ) (x : ℕ) (link : Link) : Type 0 where
   pub from_is : link.from ≡ x
   pub to_in : link.to < n
   pub weight_is : link.weight ≡ w x link.to
   pub least : (y : ℕ) → y < n → label y ≢ label x → link.weight ≤ℤ w x y
 
--- one of each node
+-- such a link for each place
 pub record AreKept (n : ℕ) (w : ℕ → ℕ → ℤ) (label : ℕ → ℕ) (known : List Link) : Type 0 where
   pub len : length known ≡ n
   pub each : (x : ℕ) (default : Link) → x < n → IsKeptLink n w label x (slice_index_or known x default)
@@ -67,24 +70,26 @@ pub record IsLeaving (n : ℕ) (w : ℕ → ℕ → ℤ) (label : ℕ → ℕ) (
   pub to_out : label link.to ≢ c
   pub weight_is : link.weight ≡ w link.from link.to
 
--- and no pair that leaves it weighs less
+-- a lightest link that leaves the component of label c
 pub record IsLeastOf (n : ℕ) (w : ℕ → ℕ → ℤ) (label : ℕ → ℕ) (c : ℕ) (link : Link) : Type 0 where
   pub leaving : IsLeaving n w label c link
   pub least : (x y : ℕ) → x < n → y < n → label x ≡ c → label y ≢ c → link.weight ≤ℤ w x y
 
+-- the link that is listed for the label c, if there is one
 abbrev pub link_of : List (Option Link) → ℕ → Option Link
 link_of best c = slice_index_or best c None
 
--- those that are there, by label
+-- for each label a link that leaves its component, or none
 pub record AreLeaving (n : ℕ) (w : ℕ → ℕ → ℤ) (label : ℕ → ℕ) (best : List (Option Link)) : Type 0 where
   pub len : length best ≡ n
   pub each : (c : ℕ) → c < n → IfSome (link_of best c) (IsLeaving n w label c)
 
+-- for each label a lightest link that leaves its component, or none
 pub record AreLeast (n : ℕ) (w : ℕ → ℕ → ℤ) (label : ℕ → ℕ) (best : List (Option Link)) : Type 0 where
   pub len : length best ≡ n
   pub each : (c : ℕ) → c < n → IfSome (link_of best c) (IsLeastOf n w label c)
 
--- a link, or the old one, that is no heavier than either
+-- the lighter one of the old link, if there is one, and of another link
 pub record IsOffered (old : Option Link) (link new : Link) : Type 0 where
   pub no_worse : new.weight ≤ℤ link.weight
   pub kept : IfSome old (λ was. new.weight ≤ℤ was.weight)
@@ -92,19 +97,19 @@ pub record IsOffered (old : Option Link) (link new : Link) : Type 0 where
 
 -- ---- the forest
 
--- least joins so far, the two ends of each with the same label
+-- the edges that were added are least joins, each with both ends in one component
 pub record IsForest (n : ℕ) (w : ℕ → ℕ → ℤ) (label : ℕ → ℕ) (added : List (ℕ × ℕ)) : Type 0 where
   pub joins : AreLeastJoins (IsBelow n) w [] added
   pub ends : All (λ pair. (pair.0 < n) × (pair.1 < n)) added
   pub within : All (λ pair. label pair.0 ≡ label pair.1) added
 
--- as many as a tree over the places has
+-- least joins, as many as a tree over the places 0..n-1 has
 pub record IsSpanning (n : ℕ) (w : ℕ → ℕ → ℤ) (added : List (ℕ × ℕ)) : Type 0 where
   pub joins : AreLeastJoins (IsBelow n) w [] added
   pub ends : All (λ pair. (pair.0 < n) × (pair.1 < n)) added
   pub count : length added + 1 ≡ n
 
--- least joins over 2..n, as many as a tree has, and the sum of their weights
+-- least joins over the nodes 2..n, as many as a tree over them has, and the sum of their weights
 pub record IsWeighedForest (n : ℕ) (w : ℕ → ℕ → ℤ) (added : List (ℕ × ℕ)) (sum : ℤ) : Type 0 where
   pub whole : IsWholeForest n w added
   pub weight : sum ≡ weight_of w added

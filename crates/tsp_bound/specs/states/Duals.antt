@@ -1,4 +1,5 @@
--- What duals hold. Of `Duals` (src/duals.rt): a number for each row and one for each column, at a scale.
+-- The fields of `Duals` (src/duals.rt): a number for each row and each column of the costs, at a scale. For `dual_bound`
+-- (src/assignment.rt), and for src/potentials_bound.rt of tsp_verdict.
 use Rattle.std.specs.Prelude.{ℕ, List, ℤ, ◌+ℤ◌, ◌*ℤ◌}
 use Rattle.tsp_bound.specs.declared.duals.Duals.{Duals}
 use Rattle.tsp_theory.specs.CertificateNumbers.{entry}
@@ -12,9 +13,10 @@ rows_of d = d.rows.now
 abbrev pub columns_of : Duals → List ℤ
 columns_of d = d.columns.now
 
--- the sum of row i and column j; the cost from i to j at the scale
+-- the number of row i and that of column j, added
 abbrev pub dual_of : Duals → ℕ → ℕ → ℤ
 dual_of d i j = entry (rows_of d) i +ℤ entry (columns_of d) j
 
+-- the cost from i to j, times the scale
 abbrev pub scaled : Duals → (ℕ → ℕ → ℤ) → ℕ → ℕ → ℤ
 scaled d cost i j = dual_scale d *ℤ cost i j

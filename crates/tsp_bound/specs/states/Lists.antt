@@ -1,5 +1,6 @@
--- Of each place 0..n-1 twelve links, beside each other in a list, and a number that none of its other links is below. Of `Listed`
--- (src/listed.rt). The 12 is `KEPT` of src/lists.rt, which says what else to change.
+-- For each place 0..n-1 of an order twelve links to other places, and a number that none of its other links is below.
+-- For `Listed` (src/listed.rt), and for src/lists.rt, which fills it. The 12 is `KEPT` of src/lists.rt, which says what
+-- else to change.
 use Rattle.std.specs.Prelude.{◌≡◌, ◌≢◌, ℕ, ◌+◌, ◌*◌, ◌<◌, List, slice_index_or, slice_set, ℤ, pos, ◌≤ℤ◌, ◌⊎◌}
 use Rattle.tsp_bound.specs.declared.link.Link.{Link}
 use Rattle.tsp_bound.specs.states.Boxes.{node_of}
@@ -9,7 +10,7 @@ use Rattle.tsp_theory.specs.states.Nearest.{least_at}
 abbrev pub weight_over : (ℕ → ℕ → ℤ) → List ℕ → ℕ → ℕ → ℤ
 weight_over w order i j = w (node_of order i) (node_of order j)
 
--- no link, by its weight
+-- the entry where there is no link: its weight is the largest of 64 bits
 abbrev pub empty_link : Link
 empty_link = record { weight = pos 9223372036854775807; from = 0; to = 0 }
 
@@ -17,7 +18,7 @@ empty_link = record { weight = pos 9223372036854775807; from = 0; to = 0 }
 abbrev pub kept_at : List Link → ℕ → ℕ → Link
 kept_at links x k = slice_index_or links (12 * x + k) empty_link
 
--- a link of x with its own weight, if it is one
+-- an empty entry, or a link from the place x, with its weight
 abbrev pub IsOwnLink : ℕ → (ℕ → ℕ → ℤ) → ℕ → Link → Type 0
 IsOwnLink n w x link = link.weight ≢ pos 9223372036854775807 → (link.from ≡ x) × (link.to < n) × (link.weight ≡ w x link.to)
 
@@ -28,7 +29,8 @@ IsKnown w links bounds x y = ((k : ℕ) → k < 12 → (kept_at links x k).to �
 
 -- ---- a link is taken into the lists
 
--- it is put in the place of another one of the same place
+-- the link replaces one of the twelve at its place, and the number of the place is at most the weight of the replaced
+-- one
 pub record IsPut (link : Link) (old_links : List Link) (old_bounds : List ℤ) (links : List Link) (bounds : List ℤ) : Type 0 where
   pub slot : ℕ
   pub few : slot < 12
@@ -38,7 +40,7 @@ pub record IsPut (link : Link) (old_links : List Link) (old_bounds : List ℤ) (
   pub lower : bound ≤ℤ least_at old_bounds link.from
   pub below : bound ≤ℤ (kept_at old_links link.from slot).weight
 
--- so, or it weighs no less than the number of its place
+-- the link is put so; or nothing changes, since it weighs no less than the number of its place
 abbrev pub IsTaken : Link → List Link → List ℤ → List Link → List ℤ → Type 0
 IsTaken link old_links old_bounds links bounds =
     ((links ≡ old_links) × (bounds ≡ old_bounds) × (least_at old_bounds link.from ≤ℤ link.weight))
@@ -46,11 +48,12 @@ IsTaken link old_links old_bounds links bounds =
 
 -- ---- the pairs that a pass has seen
 
--- those with a larger place below `first`; with one below `last`, and a smaller one below `from`; and of `from` those below
--- `next`
+-- the pair of x and a larger place y was seen: y is below `first`; or y is below `last` and x below `from`; or x is
+-- `from` and y below `next`
 abbrev pub IsSeen : ℕ → ℕ → ℕ → ℕ → ℕ → ℕ → Type 0
 IsSeen first last from next x y = (y < first) ⊎ (((y < last) × (x < from)) ⊎ ((x ≡ from) × (y < next)))
 
+-- the lists after these pairs were seen: their links are those of their places, and each pair is known at both ends
 pub record AreOffered (n : ℕ) (w : ℕ → ℕ → ℤ) (first last from next : ℕ) (links : List Link) (bounds : List ℤ) : Type 0 where
   pub own : (x k : ℕ) → x < n → k < 12 → IsOwnLink n w x (kept_at links x k)
   pub known : (x y : ℕ) → x < y → y < n → IsSeen first last from next x y

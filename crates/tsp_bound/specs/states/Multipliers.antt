@@ -1,5 +1,6 @@
--- What multipliers hold, and the weights that they give. Of `Multipliers` (src/multipliers.rt) and `ByNode` (src/by_node.rt). Of
--- a triple (a, b, number) the number lowers the weight of the pair.
+-- The triples of `Multipliers` (src/multipliers.rt) and `ByNode` (src/by_node.rt), and the weights under them: a triple
+-- (a, b, number) lowers the weight of the pair of a and b. For `Weights` (src/weights.rt) and `least_one_tree`
+-- (src/tree.rt).
 use Rattle.std.specs.Prelude.{ℕ, List, [], ℤ}
 use Rattle.tsp_bound.specs.declared.by_node.ByNode.{ByNode}
 use Rattle.tsp_bound.specs.declared.multipliers.Multipliers.{Multipliers}
@@ -7,10 +8,11 @@ use Rattle.tsp_bound.specs.declared.potentials.Potentials.{Potentials}
 use Rattle.tsp_bound.specs.states.Potentials.{weight_under}
 use Rattle.tsp_theory.specs.Adjusted.{adjusted}
 
+-- the multipliers of pairs
 abbrev pub triples_of : Multipliers → List (ℕ × ℕ × ℤ)
 triples_of m = m.triples.now
 
--- the same of the multipliers by node
+-- the multipliers of pairs from which the lists by node are made
 abbrev pub triples_in : ByNode → List (ℕ × ℕ × ℤ)
 triples_in m = m.triples.now
 

@@ -1,5 +1,5 @@
--- Each place of a list means a node. For `places_in` (src/numbering.rt) and `Placed` (src/placed.rt). A place is the index of a
--- node in a list.
+-- Nodes that are numbered by their places in a list; a place is an index. For `places_in` (src/numbering.rt) and
+-- `Placed` (src/placed.rt).
 use Rattle.std.specs.Prelude.{◌≡◌, ℕ, ◌<◌}
 
 -- `node` and `place` are inverse to each other, between 0..n-1 and the nodes
@@ -9,5 +9,6 @@ pub record IsNumbering (n : ℕ) (Node : ℕ → Type 0) (node place : ℕ → �
   pub back : (i : ℕ) → i < n → place (node i) ≡ i
   pub there : (x : ℕ) → Node x → node (place x) ≡ x
 
+-- the nodes at the two places of a pair
 abbrev pub on_both : (ℕ → ℕ) → ℕ × ℕ → ℕ × ℕ
 on_both node pair = (node pair.0, node pair.1)

@@ -1,5 +1,5 @@
--- Rows in which the links that decisions don't allow are closed. For src/closing.rt and src/rows.rt. A row has the weights from
--- one node, each at the index of the other.
+-- Rows of weights in which the links that decisions don't allow are closed. For `close_all` (src/closing.rt) and
+-- `AllowedRows` (src/rows.rt). A row has the weights from one node, each at the index of the other node.
 use Rattle.std.specs.Prelude.{◌≡◌, ℕ, List, ◌⊎◌, ℤ, pos}
 use Rattle.tsp_format.specs.Nodes.{IsNode}
 use Rattle.tsp_theory.specs.states.Nearest.{least_at}

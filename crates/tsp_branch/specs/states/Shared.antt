@@ -1,5 +1,6 @@
--- What two nodes have in common: the sets of both, by the places of each node's sets; and what decisions do to a weight. For the
--- weights of `CaseLeaf`, in src/leaf_rows.rt, src/boxed_leaf.rt and src/both_sets.rt. `moved` is its field (src/case_leaf.rt).
+-- The weight between two nodes of a leaf: what the sets that have both add, by the places of each node's sets, and what
+-- decisions change. For src/leaf_rows.rt, src/boxed_leaf.rt and src/both_sets.rt. `moved` is the field of `CaseLeaf`
+-- (src/case_leaf.rt).
 use Rattle.std.specs.Prelude.{◌≡◌, ℕ, ◌==◌, ◌&&◌, Bool, true, false, if◌then◌else◌, List, map, reverse, slice_index_or, ℤ, pos, negsuc, neg_ℤ, ◌+ℤ◌, ◌*ℤ◌}
 use Rattle.std.specs.List.{list_any, filter}
 use Rattle.tsp_format.specs.Nodes.{IsNode}
@@ -12,6 +13,7 @@ use Rattle.tsp_cases.specs.states.Combed.{multipliers_at}
 use Rattle.tsp_cases.specs.states.Decided.{changes, decided}
 use Rattle.tsp_cases.specs.states.OpenCases.{bears_on}
 
+-- two places are of the same set of the same family
 abbrev pub is_same_place : SetPlace → SetPlace → Bool
 is_same_place place other = (other.family == place.family) && (other.set == place.set)
 
@@ -19,16 +21,17 @@ is_same_place place other = (other.family == place.family) && (other.set == plac
 abbrev pub has_place : List SetPlace → SetPlace → Bool
 has_place places place = list_any (λ other. is_same_place place other) places
 
--- the numbers of the families of places, each place's if another list has it, and twice
+-- the sum over places that another list has too: twice the multiplier of the place's family
 abbrev pub shared_by : List ℤ → List SetPlace → List SetPlace → ℤ
 shared_by numbers others places =
     sum_int_by (λ place. if has_place others place then (pos 2 *ℤ slice_index_or numbers place.family (pos 0)) else pos 0) places
 
--- the numbers of the families of places
+-- the sum over places of the multipliers of their families
 abbrev pub sum_at_places : List ℤ → List SetPlace → ℤ
 sum_at_places numbers places = sum_int_by (λ place. slice_index_or numbers place.family (pos 0)) places
 
--- each node's potential less the multipliers of its sets, as it is, and not too large
+-- `moved` has each node's potential less the multipliers of its sets, without overflow, and no larger than a potential
+-- may be
 abbrev pub AreExact : ℕ → List ℤ → List ℤ → List (List (List ℕ)) → List ℤ → Type 0
 AreExact n potentials multipliers families moved = (x : ℕ) → IsNode n x
     → (least_at moved x ≡ entry potentials x +ℤ neg_ℤ (multipliers_at multipliers families x))
@@ -36,17 +39,17 @@ AreExact n potentials multipliers families moved = (x : ℕ) → IsNode n x
 
 -- ---- decisions
 
--- a number that isn't negative, else 0
+-- the number, or 0 where it is negative
 abbrev pub upwards : ℤ → ℤ
 upwards (pos k) = pos k
 upwards (negsuc k) = pos 0
 
--- the weights of a leaf: where pairs have no direction, under the decisions of its case
+-- the weights of a leaf: undirected, as the decisions of its case change them; directed, as they are
 abbrev pub decided_by : Bool → List Decision → (ℕ → ℕ → ℤ) → ℕ → ℕ → ℤ
 decided_by true case w = w
 decided_by false case w = decided case w
 
--- weights under the decisions that make them more
+-- weights to which decisions add where they make them larger
 abbrev pub raised : List Decision → (ℕ → ℕ → ℤ) → ℕ → ℕ → ℤ
 raised case w i j = w i j +ℤ upwards (changes case i j)
 
@@ -54,6 +57,6 @@ raised case w i j = w i j +ℤ upwards (changes case i j)
 abbrev pub other_of : ℕ → Decision → ℕ
 other_of from decision = if decision.pair.0 == from then decision.pair.1 else decision.pair.0
 
--- the other nodes of the decisions that bear on a node, in the order of code
+-- the other nodes of the decisions on pairs with this node, in the order in which code lists them
 abbrev pub others_of : List Decision → ℕ → List ℕ
 others_of case from = map (other_of from) (reverse (filter (bears_on false from) case))

@@ -1,5 +1,6 @@
--- Weights under families as code finds them: by their sets, each with the multiplier of its family. For `MultipliedFamilies`
--- (src/multiplied.rt) and all code that finds weights by it. `families` has the sets of each family, and a set its nodes.
+-- The weight between two nodes under families, as code finds it: from the sets, each with the multiplier of its family.
+-- For `MultipliedFamilies` (src/multiplied.rt), `add_sets` (src/row_sets.rt), and src/leaf_rows.rt of tsp_branch.
+-- `families` has the sets of each family, and a set its nodes.
 use Rattle.std.specs.Prelude.{◌≡◌, ℕ, suc, List, [], ◌∷◌, length, slice_index_or, ℤ, pos, neg_ℤ, ◌+ℤ◌, ◌-ℤ◌, ◌*ℤ◌}
 use Rattle.std.specs.List.{All}
 use Rattle.tsp_theory.specs.Length.{sum_int_by}
@@ -17,25 +18,27 @@ use Rattle.tsp_cases.specs.GoodNumbers.{most_crossed}
 use Rattle.tsp_cases.specs.declared.set_place.SetPlace.{SetPlace}
 use Rattle.tsp_cases.specs.states.Sets.{IsMoved, added}
 
+-- multipliers that a good leaf may have
 abbrev pub AreSmallMultipliers : List ℤ → Type 0
 AreSmallMultipliers multipliers = All (IsFromTo (pos 0) (pos most_crossed)) multipliers
 
--- and by how much one multiplier differs from another
+-- differences between two such multipliers
 abbrev pub AreSmallDifferences : List ℤ → Type 0
 AreSmallDifferences differences = All (IsFromTo (neg_ℤ (pos most_crossed)) (pos most_crossed)) differences
 
--- the sum over the sets of families, from a first family on, of numbers that depend on the multiplier of the family
+-- the sum over the sets of families of numbers that depend on the multiplier of the family; `first` is the index of the
+-- first family's multiplier
 abbrev pub summed_from : ℕ → (ℤ → List ℕ → ℤ) → List ℤ → List (List (List ℕ)) → ℤ
 summed_from first number multipliers [] = pos 0
 summed_from first number multipliers (sets ∷ families) =
     sum_int_by (number (slice_index_or multipliers first (pos 0))) sets +ℤ summed_from (suc first) number multipliers families
 
--- the sets that have one of two nodes and not the other, each as often as its multiplier says
+-- the multipliers of the sets that have one of two nodes and not the other, added
 abbrev pub set_crossings : List ℤ → List (List (List ℕ)) → ℕ → ℕ → ℤ
 set_crossings multipliers families i j = summed_from 0
     (λ multiplier set. multiplier *ℤ crossing (has set) i j) multipliers families
 
--- the multipliers of the sets that have a node
+-- the multipliers of the sets that have a node, added
 abbrev pub multipliers_at : List ℤ → List (List (List ℕ)) → ℕ → ℤ
 multipliers_at multipliers families x = summed_from 0 (λ multiplier set. added multiplier set x) multipliers families
 
@@ -43,31 +46,35 @@ multipliers_at multipliers families x = summed_from 0 (λ multiplier set. added 
 abbrev pub set_in : List (List (List ℕ)) → SetPlace → List ℕ
 set_in families place = slice_index_or (slice_index_or families place.family []) place.set []
 
--- of the sets at these places those that have a node, each with its multiplier twice
+-- twice the multiplier of the set at a place, where the set has the node x; else 0
 abbrev pub twice_in : List ℤ → List (List (List ℕ)) → SetPlace → ℕ → ℤ
 twice_in multipliers families place x =
     added (pos 2 *ℤ slice_index_or multipliers place.family (pos 0)) (set_in families place) x
 
+-- twice the multipliers of the sets at these places that have the node x, added
 abbrev pub inside_both : List ℤ → List (List (List ℕ)) → List SetPlace → ℕ → ℤ
 inside_both multipliers families places x = sum_int_by (λ place. twice_in multipliers families place x) places
 
--- the weight between two nodes: by the cost at the scale and both potentials, less the crossings
+-- the weight between two nodes: the cost times the scale and both potentials, less the multipliers of the sets that they
+-- cross
 abbrev pub set_weight : ℤ → List ℤ → List ℤ → List (List (List ℕ)) → (ℕ → ℕ → ℤ) → ℕ → ℕ → ℤ
 set_weight scale potentials multipliers families cost i j =
     weight_between scale potentials cost i j -ℤ set_crossings multipliers families i j
 
--- a value is what is left in 64 bits of a weight as if no set had two nodes, which without sets is so large at most
+-- what is left in 64 bits of the weight less the multipliers of the sets of each node, as if no set had both; without
+-- the sets the weight is within its limits
 abbrev pub IsApart : ℤ → List ℤ → List ℤ → List (List (List ℕ)) → (ℕ → ℕ → ℤ) → ℕ → ℕ → ℤ → Type 0
 IsApart scale potentials multipliers families cost i j value =
     IsMoved (neg_ℤ (multipliers_at multipliers families i) +ℤ neg_ℤ (multipliers_at multipliers families j))
     (weight_between scale potentials cost i j) value
     × IsFromTo (neg_ℤ (pos most_between)) (pos most_between) (weight_between scale potentials cost i j)
 
--- two nodes of 1..n don't cross the sets too often; and how large a weight is
+-- the sets that two nodes of 1..n cross have small multipliers in all
 abbrev pub AreFewCrossings : ℕ → List ℤ → List (List (List ℕ)) → Type 0
 AreFewCrossings n multipliers families = (i j : ℕ) → IsNode n i → IsNode n j
     → IsFromTo (pos 0) (pos most_crossed) (set_crossings multipliers families i j)
 
+-- how large a weight under families is at most
 abbrev pub most_combed : ℕ
 most_combed = 2000000000000000000
 

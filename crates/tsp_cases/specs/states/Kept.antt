@@ -1,4 +1,6 @@
--- Rows that are kept for all nodes while leaves change: of each two nodes what no potential changes. Of `KeptRows` (src/kept.rt).
+-- A row of weights for each node, kept from leaf to leaf: it has what doesn't depend on potentials, and changes where
+-- multipliers or decisions do. For `KeptRows` (src/kept.rt) and its users in src/case_leaf.rt of tsp_branch and
+-- src/plan_leaf.rt of tsp_routing.
 use Rattle.std.specs.Prelude.{◌≡◌, ◌≢◌, ℕ, ◌+◌, ◌<◌, ◌≤◌, if◌then◌else◌, List, length, slice_index_or, ℤ, pos, neg_ℤ, ◌+ℤ◌, ◌*ℤ◌}
 use Rattle.std.specs.Int.{w64, int_wrap}
 use Rattle.std.specs.Global.{Vec}
@@ -12,39 +14,41 @@ use Rattle.tsp_cases.specs.states.Sets.{IsMoved, places_with}
 use Rattle.tsp_cases.specs.states.Combed.{inside_both, multipliers_at, AreSmallMultipliers}
 use Rattle.tsp_cases.specs.declared.kept.KeptRows.{KeptRows}
 
--- the cost of two nodes at the scale, what the sets of both add, and the mark between the two
+-- the entry of two nodes: their cost times the scale, twice the multipliers of the sets that have both, and the mark
 abbrev pub kept_weight : ℤ → List (List (List ℕ)) → (ℕ → ℕ → ℤ) → (ℕ → ℕ → ℤ) → List ℤ → ℕ → ℕ → ℤ
 kept_weight scale families cost marks multipliers i x =
     ((scale *ℤ cost i x) +ℤ inside_both multipliers families (places_with 0 families i) x) +ℤ marks i x
 
--- no marks
+-- the marks of no decision
 abbrev pub unmarked : ℕ → ℕ → ℤ
 unmarked i x = pos 0
 
--- two different nodes of 1..n; and a number between the nodes of a pair, in either order
+-- a pair of two different nodes of 1..n
 abbrev pub AreTwoNodes : ℕ → ℕ × ℕ → Type 0
 AreTwoNodes n pair = IsNode n pair.0 × IsNode n pair.1 × (pair.0 ≢ pair.1)
 
+-- a number at the two nodes of a pair, in either order; elsewhere 0
 abbrev pub added_between : ℕ × ℕ → ℤ → ℕ → ℕ → ℤ
 added_between pair number i x = if is_same_pair pair (i, x) then number else pos 0
 
--- the row of a node, with a place for 0 and for each node: what is left of each weight in 64 bits; and the costs aren't large
+-- the row of a node: an entry for 0 and for each node, which is what is left of the weight in 64 bits; and the costs are
+-- within their limits
 pub record IsKeptRow (n : ℕ) (cost weight : ℕ → ℤ) (row : List ℤ) : Type 0 where
   pub long : length row ≡ n + 1
   pub weights : (x : ℕ) → IsNode n x → int_wrap w64 (least_at row x) ≡ int_wrap w64 (weight x)
   pub costs : (x : ℕ) → IsNode n x → IsFromTo (neg_ℤ (pos most_weight)) (pos most_weight) (cost x)
 
--- the rows of the first nodes
+-- the rows of the first `count` nodes
 pub record AreRows (n : ℕ) (cost weight : ℕ → ℕ → ℤ) (count : ℕ) (rows : List (Vec ℤ)) : Type 0 where
   pub many : length rows ≡ count
   pub each : (k : ℕ) (default : Vec ℤ) → k < count
       → IsKeptRow n (cost (k + 1)) (weight (k + 1)) (slice_index_or rows k default).items
 
--- those of all nodes, where there are any
+-- the rows of all nodes, or no row at all
 abbrev pub AreRowsIfAny : ℕ → (ℕ → ℕ → ℤ) → (ℕ → ℕ → ℤ) → List (Vec ℤ) → Type 0
 AreRowsIfAny n cost weight rows = 1 ≤ length rows → AreRows n cost weight n rows
 
--- rows to which the sets of each node, whose numbers are listed, have added
+-- rows to each of which the sets of its node have added their multipliers
 pub record AreAdded (multipliers : List ℤ) (families : List (List (List ℕ))) (by_node : List (Vec SetPlace))
     (old new : List (Vec ℤ)) : Type 0 where
   pub many : length new ≡ length old
@@ -54,7 +58,7 @@ pub record AreAdded (multipliers : List ℤ) (families : List (List (List ℕ)))
       → IsMoved (inside_both multipliers families (slice_index_or by_node (k + 1) c).items x)
       (least_at (slice_index_or old k b).items x) (least_at (slice_index_or new k a).items x)
 
--- rows of which one has a number added at a place
+-- rows of which one has a number added at one entry
 pub record IsAddedAt (row place : ℕ) (number : ℤ) (old new : List (Vec ℤ)) : Type 0 where
   pub many : length new ≡ length old
   pub others : (k : ℕ) (a b : Vec ℤ) → k < length old → k ≢ row → slice_index_or new k a ≡ slice_index_or old k b
@@ -64,18 +68,18 @@ pub record IsAddedAt (row place : ℕ) (number : ℤ) (old new : List (Vec ℤ))
   pub beside : (x : ℕ) (a b : Vec ℤ) → x ≢ place
       → least_at (slice_index_or new row a).items x ≡ least_at (slice_index_or old row b).items x
 
--- numbers that are each the difference of two others
+-- numbers that are the differences of two lists, entry by entry
 abbrev pub AreDifferences : List ℤ → List ℤ → List ℤ → Type 0
 AreDifferences old new differences = (k : ℕ) → least_at new k ≡ least_at old k +ℤ least_at differences k
 
--- by node what is left in 64 bits of what the multipliers of its sets take off its potential
+-- for each node what is left in 64 bits of 0 less the multipliers of its sets
 pub record AreEnds (n : ℕ) (multipliers : List ℤ) (families : List (List (List ℕ))) (ends : List ℤ) : Type 0 where
   pub places : length ends ≡ n + 1
   pub taken : (x : ℕ) → IsNode n x
       → int_wrap w64 (least_at ends x) ≡ int_wrap w64 (neg_ℤ (multipliers_at multipliers families x))
 
--- rows and ends, the multipliers that they have been brought to, and the marks in the rows; `differences` is memory for the
--- changes of multipliers
+-- the fields of `KeptRows`: the multipliers that the rows and ends are for, the ends, and the rows if any; `differences`
+-- is memory for changes of multipliers
 pub record HoldsRows (n combs : ℕ) (scale : ℤ) (families : List (List (List ℕ))) (cost marks : ℕ → ℕ → ℤ)
     (kept : KeptRows) : Type 0 where
   pub multipliers : length kept.multipliers.items ≡ combs
@@ -84,7 +88,7 @@ pub record HoldsRows (n combs : ℕ) (scale : ℤ) (families : List (List (List 
   pub ends : AreEnds n kept.multipliers.items families kept.ends.items
   pub rows : AreRowsIfAny n cost (kept_weight scale families cost marks kept.multipliers.items) kept.rows.items
 
--- what is left in 64 bits of each node's potential less the multipliers of its sets
+-- for each node what is left in 64 bits of its potential less the multipliers of its sets
 abbrev pub AreMoved : ℕ → List ℤ → List ℤ → List (List (List ℕ)) → List ℤ → Type 0
 AreMoved n potentials multipliers families moved = (x : ℕ) → IsNode n x → int_wrap w64 (least_at moved x)
     ≡ int_wrap w64 (entry potentials x +ℤ neg_ℤ (multipliers_at multipliers families x))

@@ -1,5 +1,5 @@
--- Nodes of sets as code finds out that no two of them are the same: each gets a mark, by which it is known again. For
--- src/marks.rt and src/good_families.rt, and for src/cuts.rt of tsp_routing. `marks` has the mark of each node at its index.
+-- Marks of nodes, by which code finds out that no node is twice in a set or in two teeth: `marks` has the mark of each
+-- node at its index. For src/marks.rt and src/good_families.rt, and for src/cuts.rt of tsp_routing.
 use Rattle.std.specs.Prelude.{◌≡◌, ◌≢◌, ℕ, ◌==◌, ◌||◌, ◌<◌, length, Bool, false, List, [], ◌∷◌, slice_index}
 use Rattle.std.specs.List.{All}
 use Rattle.tsp_families.specs.Crossed.{has}
@@ -11,10 +11,11 @@ use Rattle.std.specs.Global.{Vec}
 abbrev pub is_marked : List ℕ → ℕ → ℕ → Bool
 is_marked marks mark node = slice_index marks node == mark
 
+-- no node has the mark
 abbrev pub AreUnmarked : List ℕ → ℕ → Type 0
 AreUnmarked marks mark = (node : ℕ) → is_marked marks mark node ≡ false
 
--- marks that have a place for each node of sets
+-- `marks` has an entry for each node of the sets
 abbrev pub HavePlaces : List ℕ → List (Vec ℕ) → Type 0
 HavePlaces marks sets = All (λ set. All (λ node. node < length marks) set.items) sets
 
@@ -23,11 +24,12 @@ pub record AreNew (used : ℕ → Bool) (nodes : List ℕ) : Type 0 where
   pub unused : All (λ node. used node ≡ false) nodes
   pub once : HasEachOnce nodes
 
--- Where these are marked too, the nodes with the mark are those with it before and these; no other mark comes up.
+-- The nodes with the mark are those that had it, and these.
 pub record AreMarked (mark : ℕ) (nodes old new : List ℕ) : Type 0 where
   pub own : (node : ℕ) → is_marked new mark node ≡ (is_marked old mark node || has nodes node)
   pub length : length new ≡ length old
 
+-- any other mark that no node had is on no node still
 abbrev pub AddsNoOther : ℕ → List ℕ → List ℕ → Type 0
 AddsNoOther mark old new = (other : ℕ) → other ≢ mark → AreUnmarked old other → AreUnmarked new other
 

@@ -1,8 +1,9 @@
--- The place of a set among families. Of `SetPlace` (src/set_place.rt): the number of its family, and its own in the family, both
--- from 0 on.
+-- The place of a set among families: the index of its family, and its index in the family, both from 0 on. For
+-- `SetPlace` (src/set_place.rt), `set_at` of `Families` (src/families.rt) and `add_sets` (src/row_sets.rt).
 use Rattle.std.specs.Prelude.{ℕ, ◌<◌, List, [], length, slice_index_or}
 use Rattle.tsp_cases.specs.declared.set_place.SetPlace.{SetPlace}
 
+-- a place, of its two indexes
 abbrev pub place_at : ℕ → ℕ → SetPlace
 place_at family set = record { family = family; set = set }
 

@@ -1,5 +1,5 @@
--- What an instance has found of its file, once and for all. Of `CostSource` (src/cost_source.rt), for `Instance`
--- (src/instance.rt).
+-- What `Instance` (src/instance.rt) has found out of its file when it was made: the number of nodes, and where the costs
+-- come from, as a `CostSource` (src/cost_source.rt).
 use Rattle.std.specs.Prelude.{◌≡◌, ℕ, Some, IsSome, IsTrue}
 use Rattle.tsp_format.specs.declared.kinds.Kind.TheVariants as kinds
 use Rattle.tsp_format.specs.declared.kinds.WeightFormat.TheVariants.{Listed}
@@ -16,6 +16,7 @@ abbrev pub ComesFrom : Fields → CostSource → Type 0
 ComesFrom f (Distances metric) = (f.weight_kind ≡ Some (weight_kind_of metric)) × IsSome f.coords
 ComesFrom f (Weights layout) = (f.weight_kind ≡ Some Explicit) × (f.weight_format ≡ Some (Listed layout)) × IsSome f.weights
 
+-- the file is a valid instance with these nodes, and its costs come from there
 pub record HasFound (f : Fields) (nodes : ℕ) (source : CostSource) : Type 0 where
   pub instance : IsTrue (is_instance f.kind)
   pub range : IsInRange f

@@ -1,5 +1,5 @@
--- What the views of an instance say of it. Of `View` and `EvenView` (src/view.rt), and of the structs in them. An `EvenView` has
--- costs that are the same in both directions.
+-- The number of nodes and the costs of each view of an instance: points, a matrix or a triangle. For `View` and
+-- `EvenView` (src/view.rt) and the structs in them. An `EvenView` has costs that are the same in both directions.
 use Rattle.std.specs.Prelude.{◌≡◌, ◌≢◌, ℕ, true, false, length, map, Some, ℤ}
 use Rattle.tsp_distance.specs.declared.decimal.Point.{Point}
 use Rattle.tsp_distance.specs.Distances.{on_plane}
@@ -20,46 +20,53 @@ use Rattle.tsp_cost.specs.declared.view.View.TheVariants as views
 use Rattle.tsp_cost.specs.declared.view.EvenView.{EvenView}
 use Rattle.tsp_cost.specs.declared.view.EvenView.TheVariants as even_views
 
--- the nodes and the costs of each view
+-- how many nodes a view of points has
 abbrev pub points_nodes : {P : Type 0} → Points P → ℕ
 points_nodes p = length p.points.now
 
--- of points that have these places in space
+-- their distance; `place` gives each point as one of space
 abbrev pub points_cost : {P : Type 0} → (P → Point) → Points P → ℕ → ℕ → ℤ
 points_cost place p i j =
     distance (weight_kind_of p.metric) (point_of (map place p.points.now) i) (point_of (map place p.points.now) j)
 
+-- the point of a node
 abbrev pub points_place : {P : Type 0} → (P → Point) → Points P → ℕ → Point
 points_place place p node = point_of (map place p.points.now) node
 
--- those under EUC_2D
+-- the points of a view whose weight type is EUC_2D
 abbrev pub euclidean_points : Euclidean → Points PlanePoint
 euclidean_points e = e.points
 
+-- how many nodes a full matrix has
 abbrev pub matrix_nodes : Matrix → ℕ
 matrix_nodes m = m.nodes
 
+-- the cost that it lists
 abbrev pub matrix_cost : Matrix → ℕ → ℕ → ℤ
 matrix_cost m i j = listed_cost FullMatrix m.nodes m.weights.now i j
 
+-- the same of a full matrix with symmetric costs
 abbrev pub even_nodes : EvenMatrix → ℕ
 even_nodes e = matrix_nodes e.matrix
 
 abbrev pub even_cost : EvenMatrix → ℕ → ℕ → ℤ
 even_cost e i j = matrix_cost e.matrix i j
 
+-- how many nodes half a matrix has
 abbrev pub triangle_nodes : Triangle → ℕ
 triangle_nodes t = t.nodes
 
+-- the cost that it lists, in one direction or the other
 abbrev pub triangle_cost : Triangle → ℕ → ℕ → ℤ
 triangle_cost t i j = listed_cost t.layout t.nodes t.weights.now i j
 
--- a view keeps the number of nodes and every cost
+-- the number of nodes is that of the file, and so is every cost
 pub record HasCosts (f : Fields) (nodes : ℕ) (costs : ℕ → ℕ → ℤ) : Type 0 where
   pub count : f.dimension ≡ Some nodes
   pub every : (i j : ℕ) → costs i j ≡ cost f i j
 
--- points where the weights are distances, a matrix where all are listed, a triangle where half of them are
+-- a view of the file: points where its weights are distances, a matrix where all are listed, a triangle where half of
+-- them are
 abbrev pub IsViewOf : Fields → View → Type 0
 IsViewOf f (views.Plane p) = (is_explicit f.weight_kind ≡ false)
     × HasCosts f (points_nodes p) (points_cost (λ point. on_plane point.x point.y) p)
@@ -69,7 +76,7 @@ IsViewOf f (views.Matrix m) = (is_explicit f.weight_kind ≡ true) × (f.weight_
 IsViewOf f (views.Triangle t) = (is_explicit f.weight_kind ≡ true) × (f.weight_format ≢ Some (Listed FullMatrix))
     × HasCosts f (triangle_nodes t) (triangle_cost t)
 
--- the same of a view whose costs are the same in both directions
+-- a view of a file whose costs are the same in both directions
 abbrev pub ShowsEven : Fields → EvenView → Type 0
 ShowsEven f (even_views.Plane p) = HasCosts f (points_nodes p) (points_cost (λ point. on_plane point.x point.y) p)
 ShowsEven f (even_views.Space p) = HasCosts f (points_nodes p) (points_cost (λ point. point) p)

@@ -1,4 +1,5 @@
--- What a draft holds, as lists. Of `Draft` (src/draft.rt) and `Coords` (src/coords.rt).
+-- The fields of a draft as lists: what the vectors of `Draft` (src/draft.rt) and `Coords` (src/coords.rt) hold. For
+-- `bad_field` and `end_fault` of this crate, for the reader, and for `File` of tsp_file.
 use Rattle.std.specs.Prelude.{ℕ, List, map}
 use Rattle.std.specs.Option.{option_map}
 use Rattle.std.specs.Global.{Vec}
@@ -15,11 +16,11 @@ abbrev pub points_of : Coords → List Point
 points_of (Plane points) = map (λ point. on_plane point.x point.y) points.items
 points_of (Space points) = points.items
 
--- combs, each as its sets
+-- families, each as its sets, each of them as its nodes
 abbrev pub combs_of : List (Vec (Vec ℕ)) → List (List (List ℕ))
 combs_of combs = map (λ comb. map (λ set. set.items) comb.items) combs
 
--- what a draft holds
+-- the fields of a draft
 abbrev pub fields_of : Draft → Fields
 fields_of d = record {
   name = option_map (λ v. v.items) d.name;

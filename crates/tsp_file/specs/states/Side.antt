@@ -1,10 +1,10 @@
--- Which costs of a row are side by side among the weights of a layout. It is no part of the meaning. For the lemmas in
--- proofs/Spread.antt.
+-- The columns of a row whose costs are next to each other among the listed weights of a layout, if costs are symmetric.
+-- For the lemmas of proofs/Spread.antt alone.
 use Rattle.std.specs.Prelude.{ℕ, ◌+◌}
 use Rattle.tsp_format.specs.declared.layout.Layout.{Layout}
 use Rattle.tsp_format.specs.declared.layout.Layout.TheVariants.{FullMatrix, UpperRow, LowerRow, UpperDiagRow, LowerDiagRow, UpperCol, LowerCol, UpperDiagCol, LowerDiagCol}
 
--- their first column, and the one past the last
+-- the first of these columns
 abbrev pub first_own : Layout → ℕ → ℕ
 first_own FullMatrix row = 1
 first_own UpperRow row = row + 1
@@ -16,6 +16,7 @@ first_own LowerCol row = row + 1
 first_own UpperDiagCol row = 1
 first_own LowerDiagCol row = row
 
+-- the column after the last of them
 abbrev pub past_own : Layout → ℕ → ℕ → ℕ
 past_own FullMatrix n row = n + 1
 past_own UpperRow n row = n + 1

@@ -1,4 +1,5 @@
--- How the weights of a file get into another layout. Of `Way` (src/way.rt), for src/relayout.rt.
+-- What holds of a file whose weights get into another layout in one of four ways. For `way` (src/relayout.rt), which
+-- picks the `Way` (src/way.rt).
 use Rattle.std.specs.Prelude.{◌≡◌, ◌≢◌, Some}
 use Rattle.std.specs.List.{All}
 use Rattle.tsp_format.specs.declared.layout.Layout.{Layout}
@@ -12,7 +13,8 @@ use Rattle.tsp_draft.specs.Valid.{IsWithin}
 use Rattle.tsp_file.specs.Cost.{cost}
 use Rattle.tsp_file.specs.Relayout.{costs_in}
 
--- what is so of a file whose weights get into the layout in this way
+-- the weights are in that layout; or they are a full matrix; or half of one, to be made full; or these weights are
+-- listed anew
 abbrev pub LeadsTo : Fields → Layout → Way → Type 0
 LeadsTo f to Already = (f.weight_format ≡ Some (Listed to)) × (f.weights ≡ Some (costs_in to (nodes_of f) (cost f)))
 LeadsTo f to Within = f.weight_format ≡ Some (Listed FullMatrix)

@@ -1,4 +1,4 @@
--- What weights that a file lists say of costs. Of `ListedWeights` (src/weights.rt).
+-- The costs that the listed weights of a file give. For the calls of `ListedWeights` (src/weights.rt).
 use Rattle.std.specs.Prelude.{ℕ, ℤ}
 use Rattle.tsp_file.specs.declared.weights.ListedWeights.{ListedWeights}
 use Rattle.tsp_file.specs.Cost.{listed_cost}

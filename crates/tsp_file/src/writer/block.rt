@@ -1,4 +1,5 @@
-//! Some weights as one block of bytes, each after a blank.
+//! Up to 64 weights of at most eight digits, written as one block of bytes, each after a blank. For
+//! `src/writer/matrix.rt`.
 
 ghost use Rattle.std.specs.Prelude.{◌≡◌, ◌≤◌, ◌∷◌, length, drop, IfSome};
 ghost use Rattle.std.specs.List.{flat_map};

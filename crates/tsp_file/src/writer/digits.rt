@@ -1,4 +1,5 @@
-//! The digits of a whole number, written into a block of bytes from the last to the first.
+//! The digits of a whole number, written into a block of bytes from the last to the first. For
+//! `src/writer/block.rt` and `src/writer/points.rt`.
 
 ghost use Rattle.std.specs.Prelude.{◌≡◌, ◌+◌, ◌/◌, ◌%◌, ◌<◌, ◌≤◌, ◌++◌, length, drop};
 ghost use Rattle.std.specs.Fmt.{decimal};

@@ -1,4 +1,5 @@
-//! The keyword lines of a file.
+//! Writes the keyword lines of a canonical text: words, numbers, NAME, COMMENT, unknown keywords.
+//! For `src/writer.rt`.
 
 ghost use Rattle.std.specs.Prelude.{map};
 ghost use Rattle.std.specs.List.{flat_map};

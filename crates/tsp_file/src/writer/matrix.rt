@@ -1,4 +1,4 @@
-//! The section of a matrix of weights, line by line of its layout.
+//! Writes EDGE_WEIGHT_SECTION, a line for each line of its layout. For `src/writer.rt`.
 
 ghost use Rattle.std.specs.Prelude.{◌≡◌, ◌∷◌, length, map};
 ghost use Rattle.std.specs.List.{flat_map};

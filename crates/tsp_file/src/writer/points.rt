@@ -1,4 +1,4 @@
-//! The lines of nodes and their coordinates.
+//! Writes lines of a node and its coordinates, for `src/writer/sections.rt`.
 //!
 //! A line is written into a block of bytes, from its end to its beginning, and added as a whole.
 

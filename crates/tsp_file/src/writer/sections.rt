@@ -1,4 +1,5 @@
-//! The sections of a file.
+//! Writes the sections of a canonical text but for weights and trees of cases: numbers and points
+//! by node, nodes, pairs, triples, tours. For `src/writer.rt`.
 
 ghost use Rattle.std.specs.Prelude.{◌≡◌, ◌+◌, ◌<◌, ◌^◌, [], ◌∷◌, ◌++◌, map};
 ghost use Rattle.std.specs.List.{flat_map};

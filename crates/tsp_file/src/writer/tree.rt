@@ -1,4 +1,5 @@
-//! The sections of a certificate by branching: combs, and the steps of a tree.
+//! Writes the sections of a certificate by branching: the combs, and the steps of a tree of cases.
+//! For `src/writer.rt`.
 
 ghost use Rattle.std.specs.Prelude.{◌≡◌, [], map};
 ghost use Rattle.std.specs.List.{flat_map};

@@ -1,12 +1,15 @@
--- Steps of a tree of cases as code has them. Of `TreeStep` (src/steps.rt).
+-- The steps of a tree of cases where code has them as vectors: `TreeStep` (src/steps.rt), as the definitions of
+-- Steps.antt. For the draft, the writer, and the passes of tsp_cases and tsp_routing.
 use Rattle.std.specs.Prelude.{List, map}
 use Rattle.tsp_format.specs.declared.steps.TreeStep.{TreeStep}
 use Rattle.tsp_format.specs.declared.steps.TreeStep.TheVariants as listed
 use Rattle.tsp_format.specs.Steps.{Step, Branch, Leaf}
 
+-- one step
 abbrev pub step_of : TreeStep → Step
 step_of (listed.Branch first second) = Branch first second
 step_of (listed.Leaf changes) = Leaf changes.items
 
+-- all steps of a tree
 abbrev pub steps_of : List TreeStep → List Step
 steps_of steps = map step_of steps

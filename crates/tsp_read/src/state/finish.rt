@@ -1,4 +1,5 @@
-//! The end of the text.
+//! The end of a text: the file of all fields that were read, or the fault of the end table. For
+//! `Feed::into_file` in `src/feed.rt`.
 
 ghost use Rattle.std.specs.Prelude.{◌≡◌, List, None, Err, is_some, true};
 ghost use Rattle.tsp_text.specs.declared.fault.ReadFault.TheVariants.{OutOfMemory};

@@ -1,4 +1,5 @@
-//! Word lines.
+//! What a word line does to the state of the reader: it closes a section, opens one or sets a
+//! field. For `src/item.rt`.
 
 use crate::state::reading::Reading;
 use std::alloc::Global;

@@ -1,4 +1,5 @@
-//! The state of the reader: the fields that the lines and words so far give.
+//! The state of the reader: the draft of the lines and words so far, and the section that is open.
+//! For `src/item.rt`, and `src/intake.rt`, which holds it.
 
 ghost use Rattle.std.specs.Prelude.{[], List, Some, IfErr, OnOk, ◌≡◌, is_some, true};
 ghost use Rattle.tsp_format.specs.Words.{fields_in_order};

@@ -1,4 +1,4 @@
-//! Lines that open a section.
+//! What a line that opens a section does to the state of the reader. For `src/state/lines.rt`.
 
 ghost use Rattle.std.specs.Prelude.{◌≡◌, Some};
 ghost use Rattle.tsp_format.specs.Shapes.{shape_of};

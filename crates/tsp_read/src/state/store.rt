@@ -1,4 +1,5 @@
-//! What a section has read goes into its field of the draft.
+//! Puts the words of a section into its field of the draft. For `Reading::close` in
+//! `src/state/reading.rt`.
 
 ghost use Rattle.std.specs.Prelude.{◌≡◌, ℕ, Bool, List, IfOk};
 ghost use Rattle.tsp_draft.specs.states.Drafts.{fields_of};
@@ -13,7 +14,7 @@ use tsp_draft::Draft;
 use tsp_memory::Refused;
 use tsp_section::Part;
 
-/// Stores what a section has. Returns whether it is incomplete.
+/// Puts the list of a section into its field. Returns whether the section is incomplete.
 pub(crate) fn store(draft: &mut Draft, alloc: Global, section: OpenSection) -> Result<bool, Refused>
     ensures { IfOk result (λ more. (in_space : Bool) (n : ℕ) (words : List (List ℕ))
         → HoldsSection in_space section n words

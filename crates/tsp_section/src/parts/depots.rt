@@ -1,4 +1,4 @@
-//! Depots.
+//! The list that takes the words of DEPOT_SECTION. For `src/part.rt`.
 
 ghost use Rattle.std.specs.Prelude.{◌≡◌, [], ℕ, List, ◌∷◌, ◌++◌, IfErr};
 

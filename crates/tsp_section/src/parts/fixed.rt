@@ -1,4 +1,4 @@
-//! Fixed pairs.
+//! The list that takes the words of FIXED_EDGES_SECTION: pairs of nodes. For `src/part.rt`.
 
 ghost use Rattle.std.specs.Prelude.{◌≡◌, false, None, Some, [], ℕ, List, ◌∷◌, ◌++◌, IfErr};
 

@@ -1,4 +1,5 @@
-//! Nodes, as the words of a section give them.
+//! Reads a word of a section as a node, as the -1 that ends a list, or as an index of a leaf. For
+//! the other files of `src/parts/`.
 
 ghost use Rattle.std.specs.Prelude.{◌≡◌, ◌<◌, ◌-◌, ◌^◌, ℕ, pos, true, false, List, length, slice_index_or, Ok, None, IfOk, IfSome};
 ghost use Rattle.std.specs.Option.{ForSome};

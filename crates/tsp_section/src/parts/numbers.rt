@@ -1,4 +1,5 @@
-//! By-node sections with a whole number for each node.
+//! The list that takes the words of a section with a whole number for each node: demands or
+//! potentials. For `src/part.rt`, and `src/run.rt` for many words at once.
 
 ghost use Rattle.std.specs.Prelude.{◌≡◌, ◌<◌, ◌≤◌, ◌≤ℤ◌, ◌-◌, ◌^◌, None, Some, Ok, true, false, [], ℕ, ℤ, pos, List, ◌∷◌, ◌++◌, length, slice_index_or, vec_len, IfOk, IfErr, Err, ◌≢◌};
 ghost use Rattle.std.specs.Option.{ForSome};

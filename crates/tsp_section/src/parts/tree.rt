@@ -1,4 +1,5 @@
-//! The steps of a tree of cases.
+//! The list that takes the words of BRANCH_SECTION: the steps of a tree of cases. For
+//! `src/part.rt`.
 
 ghost use Rattle.std.specs.Prelude.{◌≡◌, ◌≢◌, [], ℕ, List, ◌∷◌, ◌++◌, ◌+◌, ◌≤◌, length, OnOk, IfErr, None, Some, true, false};
 

@@ -1,4 +1,5 @@
-//! Multipliers of fixed edges.
+//! The list that takes the words of FIXED_EDGE_POTENTIAL_SECTION: the multipliers of fixed edges.
+//! For `src/part.rt`.
 
 ghost use Rattle.std.specs.Prelude.{◌≡◌, false, None, Some, [], ℕ, List, ◌∷◌, ◌++◌, IfErr};
 

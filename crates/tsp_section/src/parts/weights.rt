@@ -1,4 +1,5 @@
-//! The weights of a matrix.
+//! The list that takes the words of EDGE_WEIGHT_SECTION: the weights of a matrix. For
+//! `src/part.rt`, and `src/run.rt` for many words at once.
 
 ghost use Rattle.std.specs.Prelude.{◌≡◌, ◌+◌, ◌≤◌, [], ℕ, List, ◌∷◌, ◌++◌, Ok, IfErr, vec_len, vec_capacity, true, false};
 ghost use Rattle.tsp_text.specs.SectionNumbers.{IsWhole};

@@ -5,7 +5,7 @@ use Rattle.tsp_bound.specs.declared.area.Area.{Area}
 use Rattle.tsp_bound.specs.states.Boxes.{HoldsNode}
 use Rattle.tsp_bound.proofs.boxes.joined.Goals as goal
 
--- plan: by whether there is a second half: each of both areas is within the joined one
+-- plan: the joined region contains those of both halves, and the joined number is at most theirs
 pub returns-in-Some-second-clause-left : goal.returns-in-Some-second-clause-left
 returns-in-Some-second-clause-left c = λ place number node h.
     let own : HoldsNode place number (Some c.in-Some.left) node = subst (λ (o : Option Area). HoldsNode place number o node) c.in-Some.is h in

@@ -23,7 +23,7 @@ components-init g c =
       joining = joining_start n w label (label_at c.in_ok-labels.labels.items) (box_at false c.in_ok-met.met.items) c.args.added.now.items c.requires.forest;
     }
 
--- plan: by the branches of the code: `joining_more` for a component that is joined; else nothing changes
+-- plan: by whether this component is joined: the forest has one least join more (`joining_more`), or is as it was
 pub components-preserved : goal.components-preserved
 components-preserved g c =
     let n = g.P.Components.count_of c.args.nodes.now in

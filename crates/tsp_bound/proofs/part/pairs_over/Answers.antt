@@ -3,7 +3,8 @@ use Rattle.std.proofs.Common.{◌∙◌, ap}
 use Rattle.tsp_bound.proofs.Parts.{spanning_seen}
 use Rattle.tsp_bound.proofs.part.pairs_over.Goals as goal
 
--- plan: over the boxes or by the kept links: what spans the places spans their nodes (`spanning_seen`)
+-- plan: by boxes or by the least links of each place: a spanning tree of the places is one of their nodes
+-- (`spanning_seen`)
 pub returns-in-Some : goal.returns-in-Some
 returns-in-Some g c =
     let nodes = c.in-Some.nodes.placed in

@@ -7,7 +7,7 @@ use Rattle.tsp_bound.specs.declared.link.Link.{Link}
 use Rattle.tsp_bound.specs.states.Components.{IsKeptLink}
 use Rattle.tsp_bound.proofs.rounds.first_links.Goals as goal
 
--- plan: one node more has its own kept link, and those before it are as they were
+-- plan: one node more has its own nearest link, and those before it are as they were
 pub nodes-preserved : goal.nodes-preserved
 nodes-preserved g c =
     let n = g.P.Components.count_of c.args.nodes.now in

@@ -28,8 +28,8 @@ returns-then-is_better-2-clause-known g c =
     kept_set (g.P.Components.count_of c.args.nodes.now) (g.P.Components.weight_of c.args.nodes.now) (g.P.Components.label_of c.args.nodes.now) c.nodes.known.items c.nodes.node c.in-Some.link
     (omega (arith, c.nodes-test.true, c.count-node-end.ensures.value)) c.nodes.invariant.known c.in-Some.ensures
 
--- plan: by the branches of the code: a link that leaves its component is offered (`reached_again`); another one is no better
--- (`reached_set`), as is one that isn't searched for again (`reached_more`)
+-- plan: by whether a node is searched for again: a new link out of its component is offered (`reached_again`). A new
+-- one inside it, and one that is known already, weighs no less than the best (`reached_set`, `reached_more`)
 pub nodes-preserved : goal.nodes-preserved
 nodes-preserved g c =
     let n = g.P.Components.count_of c.args.nodes.now in

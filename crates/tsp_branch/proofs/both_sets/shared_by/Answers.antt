@@ -14,7 +14,7 @@ use Rattle.tsp_branch.proofs.both_sets.shared_by.Goals.{then-has_place, else-has
 pub places-init : goal.places-init
 places-init c = ap (int_wrap w64) (omega (arith, ints))
 
--- plan: one place more is shared or isn't (`shared_left`)
+-- plan: one place more is in both lists, and adds its multiplier twice, or isn't (`shared_left`)
 pub places-preserved : goal.places-preserved
 places-preserved c =
     let ns : List ℤ = c.args.multipliers.now.numbers.now in

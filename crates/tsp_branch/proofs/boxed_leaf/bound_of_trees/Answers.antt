@@ -15,7 +15,8 @@ use Rattle.tsp_branch.specs.states.Shared.{decided_by}
 use Rattle.tsp_branch.proofs.Leaves.{decided_even}
 use Rattle.tsp_branch.proofs.boxed_leaf.bound_of_trees.Goals as goal
 
--- plan: by whether boxes are exact: the bound over boxes, or the one by rows, each of the leaf's symmetric weights
+-- plan: by whether boxes suit the leaf: its 1-tree is found by boxes, or by rows. The weights are symmetric as the
+-- costs are (`decided_even`)
 pub invariant_of-boxed : goal.invariant_of-boxed
 invariant_of-boxed g c =
     let leaf = c.args.leaf.now in

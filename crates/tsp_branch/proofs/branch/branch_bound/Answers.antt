@@ -8,7 +8,7 @@ use Rattle.tsp_cases.specs.states.Lent.{good_in}
 use Rattle.tsp_branch.proofs.Judging.{cycles_of, costs_for}
 use Rattle.tsp_branch.proofs.branch.branch_bound.Goals as goal
 
--- plan: the least bound of the leaves bounds every cycle (`cycles_of`)
+-- plan: a cycle is in the case of some leaf, so the least bound of the leaves bounds every cycle (`cycles_of`)
 pub returns-clause-cycles : goal.returns-clause-cycles
 returns-clause-cycles g c =
     let costs = c.args.costs.now in

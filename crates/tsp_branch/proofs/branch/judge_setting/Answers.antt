@@ -6,7 +6,8 @@ use Rattle.tsp_cases.specs.states.Lent.{good_in}
 use Rattle.tsp_branch.proofs.Judging.{certificate_judged}
 use Rattle.tsp_branch.proofs.branch.judge_setting.Goals as goal
 
--- plan: what one pass over the leaves finds is what a certificate's leaves come to (`certificate_judged`)
+-- plan: one pass over the steps finds the least bound of the leaves or the first bad one, which is the judgement
+-- (`certificate_judged`)
 pub returns-clause-judged : goal.returns-clause-judged
 returns-clause-judged g c =
     let s = c.args.setting.now in

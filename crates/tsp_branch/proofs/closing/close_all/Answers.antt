@@ -7,7 +7,8 @@ use Rattle.tsp_cases.specs.Rows.{Allows}
 use Rattle.tsp_branch.proofs.Closed.{shut_none, shut_more, shut_same}
 use Rattle.tsp_branch.proofs.closing.close_all.Goals as goal
 
--- plan: one decision more closes what it forbids (`shut_more`); after all of them the row is as `Allows` says (`shut_same`)
+-- plan: one decision more closes the links that it doesn't allow (`shut_more`). After the last, those are open that all
+-- allow (`shut_same`)
 pub decisions-init : goal.decisions-init
 decisions-init c = λ x lt. shut_none (Allows c.args.from x) c.args.decisions.now (least_at c.args.row.now x)
 

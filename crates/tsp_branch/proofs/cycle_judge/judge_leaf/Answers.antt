@@ -53,7 +53,8 @@ fill_moved-requires-clause-ends g c =
     let places = ap length c.deref-3.ensures.value ∙ brought.ends.places in
     omega (arith, places, ps_len)
 
--- plan: the judged numbers are a leaf's (`numbers_are`), and the moved ends are those of its numbers (`moved_from_ends`)
+-- plan: the judged numbers are those of the leaf (`numbers_are`), and `moved` has each potential less the multipliers
+-- of the node's sets (`moved_from_ends`)
 pub invariant_of-leaf : goal.invariant_of-leaf
 invariant_of-leaf g c =
     let s = c.args.setting.now in

@@ -9,7 +9,8 @@ use Rattle.tsp_branch.specs.LeafWeight.{IsBoundOfWeights}
 use Rattle.tsp_branch.proofs.Leaves.{bounds_each_leaf, sum_is}
 use Rattle.tsp_branch.proofs.leaf.leaf_bound.Goals as goal
 
--- plan: the least 1-tree with the number that is given back, rounded up, bounds the leaf (`bounds_each_leaf`)
+-- plan: the weight of a least 1-tree plus the sum given back, rounded up, bounds each leaf that has these weights
+-- (`bounds_each_leaf`)
 pub returns : goal.returns
 returns g c =
     let n = g.W.Weights.nodes c.args.w.now in

@@ -3,7 +3,8 @@ use Rattle.std.proofs.Common.{arith, length}
 use Rattle.tsp_branch.proofs.OpenRows.{opened}
 use Rattle.tsp_branch.proofs.rows.close_row.Goals as goal
 
--- plan: the node itself, then its own decisions, then the taken pairs close places of the row (`opened`)
+-- plan: the node itself, then its decisions, then the taken pairs are closed, so the open links are the allowed ones
+-- (`opened`)
 pub returns : goal.returns
 returns c = λ n w case room read own_is taken_is.
     opened n w case c.args.own.now c.args.taken.now c.args.from (length c.args.row.now) c.args.row.now c.shut.new.row c.close_all.new.row _ room read own_is taken_is

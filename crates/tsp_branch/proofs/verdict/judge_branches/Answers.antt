@@ -14,7 +14,8 @@ use Rattle.tsp_cases.specs.declared.judged.JudgedLeaves.TheVariants as judged
 use Rattle.tsp_branch.proofs.Judging.{judged_of, cycles_of_cases}
 use Rattle.tsp_branch.proofs.verdict.judge_branches.Goals as goal
 
--- plan: by what is found first: a bad family, a pair decided twice, a bad leaf; else the least bound (`judged_of`)
+-- plan: by what is found first: a bad family, a pair that is decided twice, a bad leaf; else the least bound of the
+-- leaves (`judged_of`)
 pub branch_bound-requires-clause-families : goal.branch_bound-requires-clause-families
 branch_bound-requires-clause-families g c =
     (subst (AreFamiliesJudged (g.C.Costs.nodes c.args.tree.now.costs.now) c.args.tree.now.families.now) c.in-Good.is c.in_ok-families.ensures).0

@@ -8,7 +8,8 @@ use Rattle.tsp_c.specs.Opened.{Held, BindsOpen, BindsText}
 use Rattle.tsp_c.specs.Texts.{certificates}
 use Rattle.tsp_c.proofs.handle_calls.bind_text.Goals as goal
 
--- plan: the opened value that is taken, bound and put back is the handle's, so the call's clause holds of the handle
+-- plan: the open instance is taken out of the handle, bound and put back, so what the call ensures of it holds of the
+-- handle
 pub returns-in-Some-take : goal.returns-in-Some-take
 returns-in-Some-take c =
     let call_result = c.bind_opened-status.new.call_result in

@@ -8,7 +8,7 @@ use Rattle.tsp_c.specs.Opened.{Held, OfHeld}
 use Rattle.tsp_c.proofs.Counted.{some_count}
 use Rattle.tsp_c.proofs.handle_calls.count_held.Goals as goal
 
--- plan: the handle is there, and holds an instance with this many nodes (`some_count`)
+-- plan: the handle has an open instance, whose text says this DIMENSION (`some_count`)
 pub returns-in-Some-clause-fills : goal.returns-in-Some-clause-fills
 returns-in-Some-clause-fills c =
     let held : Open = c.in-Some.opened.value in

@@ -4,7 +4,8 @@ use Rattle.tsp_read.proofs.Propagated.{propagated}
 use Rattle.tsp_c.proofs.OnTexts.{no_instance}
 use Rattle.tsp_c.proofs.text_instance.instance_of.Goals as goal
 
--- plan: by the lemmas `propagated` and `no_instance`
+-- plan: an early return passes the fault of the run unchanged (`propagated`), and it is why the text is no instance
+-- (`no_instance`)
 pub returns-in_err-file : goal.returns-in_err-file
 returns-in_err-file c =
     let same : c.from_residual.result ≡ Err c.in_err-file.field-0.0 = propagated _ _ c.from_residual.ensures.1 in

@@ -8,7 +8,8 @@ use Rattle.tsp_c.proofs.InNumbers.{sized_bound_run, tells_bound}
 use Rattle.tsp_c.proofs.OnTexts.{bounds_texts}
 use Rattle.tsp_c.proofs.texts.bounded.Goals as goal
 
--- plan: the run is over readers of the texts (`sized_bound_run`), so its end is the call's (`tells_bound`, `bounds_texts`)
+-- plan: the bound fits (`sized_bound_run`). The readers deliver the texts, so the end of the run is of these, in words
+-- (`bounds_texts`) and in numbers (`tells_bound`)
 pub of_bound_run-numbers-requires : goal.of_bound_run-numbers-requires
 of_bound_run-numbers-requires c = let first = c.run_bound-found.ensures.answer in let second = first.2 in
     let one : Turn = turn_of (λ s. Some s.now) c.new-first.result c.run_bound-found.new.inst first.0 in

@@ -6,7 +6,8 @@ use Rattle.tsp_c.proofs.InNumbers.{sized_run, tells_texts}
 use Rattle.tsp_c.proofs.OnTexts.{checks}
 use Rattle.tsp_c.proofs.texts.checked.Goals as goal
 
--- plan: the run is over readers of the texts (`sized_run`), so its end is the call's (`tells_texts`, `checks`)
+-- plan: length and bound fit (`sized_run`). The readers deliver the texts, so the end of the run is of these, in words
+-- (`checks`) and in numbers (`tells_texts`)
 pub of_run-numbers-requires : goal.of_run-numbers-requires
 of_run-numbers-requires c = let first = c.run-judged.ensures.answer in let second = first.2 in let third = second.2 in let says = third.2 in
     sized_run _ c.args.claimed c.args.strict _ _ (sink_of (λ v. Some v.items) c.new-report.result c.run-judged.new.out) c.run-judged.result c.verdicts_mean_reports.ensures.sized says.1.0

@@ -4,7 +4,8 @@ use Rattle.std.specs.Prelude.{Some}
 use Rattle.tsp_c.proofs.OnTexts.{converts}
 use Rattle.tsp_c.proofs.texts.converted.Goals as goal
 
--- plan: the run is over a reader of the text, so its end is the call's (`converts`)
+-- plan: a reader over the text delivers its bytes, so the file written is that of the text in its new layout
+-- (`converts`)
 pub returns : goal.returns
 returns c = let run = c.convert_file.ensures.answer in
     converts _ _ _ c.convert_file.result _ _ _ _ (ap (λ s. Some s.now) c.new-reader.ensures.inner)

@@ -7,7 +7,7 @@ use Rattle.tsp_stream.specs.Sink.{Sink}
 use Rattle.tsp_c.proofs.OnTexts.{shows}
 use Rattle.tsp_c.proofs.texts.shown.Goals as goal
 
--- plan: the run is over a reader of the text, so its end is the call's (`shows`)
+-- plan: a reader over the text delivers its bytes, so the lines written show the file of the text (`shows`)
 pub returns : goal.returns
 returns c =
     let run = c.show_file.ensures.answer in

@@ -8,7 +8,8 @@ use Rattle.tsp_cases.proofs.BranchesWithin.{within_next, within_at_branch, withi
 use Rattle.tsp_cases.proofs.bad_branch.first_bad_branch.Goals as goal
 use Rattle.tsp_cases.proofs.bad_branch.first_bad_branch.Goals.{in-Branch+else-first-least+else-most-first, in_default}
 
--- plan: step by step: a branch within the limits (`within_at_branch`), or a leaf (`within_at_leaf`); at the end none is bad
+-- plan: by the step that is next: a branch whose first number is within the limits (`within_at_branch`), or a leaf
+-- (`within_at_leaf`). At the end no branch is bad
 pub branches-preserved : goal.branches-preserved
 branches-preserved c =
     let all : List TreeStep = c.args.steps.now in

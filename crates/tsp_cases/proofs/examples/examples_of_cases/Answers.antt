@@ -2,7 +2,7 @@
 use Rattle.tsp_cases.proofs.SmallCases.{once, turned, turned_arcs, given_too}
 use Rattle.tsp_cases.proofs.examples.examples_of_cases.Goals as goal
 
--- plan: one lemma for each example
+-- plan: each list of cases is computed, and its decisions are compared pair by pair
 pub returns : goal.returns
 returns c = record {
   once = once;

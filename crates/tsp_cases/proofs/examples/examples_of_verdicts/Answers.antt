@@ -4,7 +4,7 @@ use Rattle.tsp_cases.proofs.SmallVerdicts.{no_sets, one_tooth, two_teeth, node_t
 use Rattle.tsp_cases.proofs.OnePass.{first_twice_by_place}
 use Rattle.tsp_cases.proofs.examples.examples_of_verdicts.Goals as goal
 
--- plan: one lemma for each example
+-- plan: each example breaks one condition of a comb, of a lone set or of a tree, or has all of them
 pub returns : goal.returns
 returns c = record {
   no_sets = no_sets;

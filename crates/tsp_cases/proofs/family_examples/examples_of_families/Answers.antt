@@ -3,7 +3,8 @@ use Rattle.std.proofs.Common.{arith}
 use Rattle.tsp_cases.proofs.SmallFamilies.{lone_set, set_twice, set_beside_all, not_others, all_nodes, node_twice}
 use Rattle.tsp_cases.proofs.family_examples.examples_of_families.Goals as goal
 
--- plan: one lemma for each example, by the laws of the crates below
+-- plan: a cycle crosses a lone set at least twice (`lone_set`), so a set that is there twice at least four times
+-- (`set_twice`). A family has one pair of numbers, so no other one (`not_others`)
 pub returns : goal.returns
 returns c =
     let cross = c.cycles_cross_families.ensures in

@@ -17,7 +17,8 @@ returns-then-not-is_tooth-clause-teeth c = λ n are.
           (c.teeth.invariant.rest n are) all).1),
     )
 
--- plan: one tooth more is a tooth, and meets none before it (`tooth_here`, `teeth_on`)
+-- plan: by whether the next set is a tooth whose nodes aren't marked by an earlier one (`tooth_here`); then its nodes
+-- are marked (`teeth_on`)
 pub teeth-preserved : goal.teeth-preserved
 teeth-preserved c =
     let h = c.teeth.invariant in

@@ -5,7 +5,7 @@ use Rattle.tsp_families.specs.FamilySets.{AreSetsOf, lists_of}
 use Rattle.tsp_cases.specs.states.Marked.{is_marked, AddsNoOther, AreTeeth}
 use Rattle.tsp_cases.proofs.good_families.are_teeth.Given as goal
 
--- with the marks now the teeth that are left are good just where all are with the marks at the call
+-- the sets left are teeth, with the marks now, exactly if all are, with the marks at the call
 abbrev pub invariant-teeth : goal.invariant-teeth
 invariant-teeth l = record {
   long : length l.used ≡ length l.fn.used;

@@ -5,7 +5,8 @@ use Rattle.tsp_families.specs.FamilySets.{lists_of}
 use Rattle.tsp_cases.proofs.FamilyKinds.{known_found, lists_long}
 use Rattle.tsp_cases.proofs.good_families.crossings_of.Goals as goal
 
--- plan: by whether the family is a comb or a lone set (`known_found`), or any other
+-- plan: by whether the sets are a comb or a lone set, whose crossings the number of sets gives (`known_found`), or
+-- another family
 pub returns-then-is_comb-clause-found : goal.returns-then-is_comb-clause-found
 returns-then-is_comb-clause-found c =
     let sets = c.args.family.now.sets.now in

@@ -44,7 +44,8 @@ returns-in_default g c =
     first_found n c.families.number lists (omega (arith, c.families-test.true, long)) (good_so_far n c.families.number lists c.families.crossed.items h.many h.have)
     (λ good. none (subst (IsGoodFamily n) (sym same) good))
 
--- plan: the good family is appended (`numbers_more`, `All-push`), and both tables of marks are what the call left (`written`)
+-- plan: a good family is put behind those before it (`numbers_more`, `All-push`), and the marks that its test has left
+-- are no marks of later families (`written`)
 pub families-preserved : goal.families-preserved
 families-preserved g c =
     let h = c.families.invariant in
@@ -74,7 +75,7 @@ families-preserved g c =
       small = subst AreSmallCrossings (sym pushed) (All-push IsSmall crossed c.in-Some.numbers h.small (rw c.in-Some.is at c.in_ok-found.ensures.small));
     }
 
--- all of them, with their numbers
+-- after the loop each family is good and has its crossings
 as_lists : (families : List (Vec (Vec ℕ))) (crossed : List Crossings) → length crossed ≡ length families → length crossed ≡ length (families_in families)
 as_lists families crossed many = many ∙ sym (length-map families (λ (f : Vec (Vec ℕ)). lists_of f.items))
 

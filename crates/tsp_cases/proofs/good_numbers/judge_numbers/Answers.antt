@@ -4,7 +4,8 @@ use Rattle.std.proofs.lemmas.Bool.{both_ways}
 use Rattle.tsp_cases.proofs.CaseWeights.{small_multipliers}
 use Rattle.tsp_cases.proofs.good_numbers.judge_numbers.Goals as goal
 
--- plan: both parts of the numbers are within their limits, so the multipliers are small (`small_multipliers`)
+-- plan: potentials and multipliers are within their limits, and the multipliers of a family times its most crossings
+-- sum to at most the limit. So the multipliers are small (`small_multipliers`)
 pub returns-then-not-copy_within-2-clause-good : goal.returns-then-not-copy_within-2-clause-good
 returns-then-not-copy_within-2-clause-good c =
     let n = length c.args.potentials.now in

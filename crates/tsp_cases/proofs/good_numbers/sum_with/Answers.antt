@@ -9,7 +9,7 @@ use Rattle.tsp_cases.specs.FamiliesOfSets.{most_or_least, sum_with}
 use Rattle.tsp_cases.proofs.FamilySums.{sum_left, number_small, AddsFamily, adds_family}
 use Rattle.tsp_cases.proofs.good_numbers.sum_with.Goals as goal
 
--- the number of the family that is next
+-- the crossings of the next family
 abbrev own : (c : goal.After-from-in-families) → ℕ
 own c = most_or_least c.args.is_most (get_or c.args.multipliers.now.families.now.crossed.items c.families.index c.index.result.now)
 
@@ -30,7 +30,7 @@ added c =
 pub overflow_add-sum : goal.overflow_add-sum
 overflow_add-sum c = let step = added c in rw step.product step.fits
 
--- plan: one family more adds its multiplier as often as it is crossed (`adds_family`)
+-- plan: one family more adds its crossings times its multiplier (`adds_family`)
 pub families-preserved : goal.families-preserved
 families-preserved c =
     let step = added c in

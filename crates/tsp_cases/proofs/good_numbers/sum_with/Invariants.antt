@@ -5,7 +5,7 @@ use Rattle.tsp_theory.specs.CertificateNumbers.{IsFromTo}
 use Rattle.tsp_cases.specs.FamiliesOfSets.{sum_with}
 use Rattle.tsp_cases.proofs.good_numbers.sum_with.Given as goal
 
--- the sum so far and the products left make the whole, with at most 2^94 for each product so far
+-- the sum so far plus the products left is the whole sum, with at most 2^94 for each product so far
 abbrev pub invariant-families : goal.invariant-families
 invariant-families l = record {
   size : IsFromTo (pos 0) (pos (l.index * 2 ^ 94)) l.sum;

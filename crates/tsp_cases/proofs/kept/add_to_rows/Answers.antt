@@ -4,7 +4,8 @@ use Rattle.std.specs.Global.{Vec}
 use Rattle.std.specs.Prelude.{ℤ}
 use Rattle.tsp_cases.proofs.kept.add_to_rows.Goals as goal
 
--- plan: a row that isn't reached yet is as long as at the call, by the invariant's `long`, and so has a place for each node
+-- plan: a row that isn't reached yet has its length of the call, by the invariant's `long`, and so a place for each
+-- node
 pub add_to_row-requires-clause-row : goal.add_to_row-requires-clause-row
 add_to_row-requires-clause-row c =
     let slot : Vec ℤ = c.index-rows-index.result in

@@ -4,7 +4,7 @@ use Rattle.std.specs.Prelude.{◌*ℤ◌}
 use Rattle.tsp_cases.specs.states.Kept.{AreRows}
 use Rattle.tsp_cases.proofs.kept.rows_of.Goals as goal
 
--- plan: there are as many rows as nodes, or none
+-- plan: after the loop there is a row for each node
 pub returns : goal.returns
 returns g c =
     let s = c.args.setting.now in

@@ -11,7 +11,8 @@ use Rattle.tsp_theory.specs.states.Nearest.{least_at}
 use Rattle.tsp_cases.specs.GoodNumbers.{most_crossed}
 use Rattle.tsp_cases.proofs.kept.write_differences.Goals as goal
 
--- plan: by cases of the place: the one just written, whose difference fits 64 bits, or one before, which `set` leaves
+-- plan: by whether a place is the one just written, with a difference of two small multipliers, or one before, which is
+-- as it was
 pub numbers-preserved : goal.numbers-preserved
 numbers-preserved c =
     let k : ℕ = c.numbers.index in

@@ -2,7 +2,8 @@
 use Rattle.tsp_cases.proofs.Certificates.{LeafLaws, case_trees_bound_cycles, certificates_bound_tours, no_bound_no_tour}
 use Rattle.tsp_cases.proofs.laws.case_trees_bound_cycles.Goals as goal
 
--- plan: the lemmas of the same subject, given the laws on a leaf as a record (`LeafLaws`)
+-- plan: each cycle is in the case of some leaf, whose bound, by a 1-tree or by least links, is at most its length. A
+-- tour takes the fixed pairs, so it is in the given case
 pub returns : goal.returns
 returns c =
     let laws : LeafLaws = record {

@@ -3,7 +3,8 @@ use Rattle.tsp_theory.proofs.CostLaws.{Laws}
 use Rattle.tsp_cases.proofs.Combs.{cycles_cross_combs}
 use Rattle.tsp_cases.proofs.laws.cycles_cross_combs.Goals as goal
 
--- plan: the lemma of the same name, given the laws of the crates below as a record (`Laws`)
+-- plan: for each tooth a cycle crosses the tooth or, inside it, the handle three times. In all that is 3k times, and an
+-- even number, as k is odd 3k + 1
 pub returns : goal.returns
 returns c =
     let laws : Laws = record {

@@ -3,7 +3,8 @@ use Rattle.tsp_theory.proofs.CostLaws.{Laws}
 use Rattle.tsp_cases.proofs.FamilyLaws.{cycles_cross_families}
 use Rattle.tsp_cases.proofs.laws.cycles_cross_families.Goals as goal
 
--- plan: the lemma of the same name, given the laws of the crates below as a record (`Laws`)
+-- plan: by the kind of family: a lone set is left and entered, a comb is crossed 3k + 1 times, and for other sets the
+-- least cycle is known
 pub returns : goal.returns
 returns c =
     let laws : Laws = record {

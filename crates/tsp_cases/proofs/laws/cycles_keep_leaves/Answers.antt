@@ -2,6 +2,7 @@
 use Rattle.tsp_cases.proofs.CaseLaws.{cycles_keep_leaves}
 use Rattle.tsp_cases.proofs.laws.cycles_keep_leaves.Goals as goal
 
--- plan: by the lemma `cycles_keep_leaves`
+-- plan: by induction over the steps: at a branch a cycle uses the pair or avoids it, so it stays in one of the open
+-- cases
 pub returns : goal.returns
 returns c = cycles_keep_leaves

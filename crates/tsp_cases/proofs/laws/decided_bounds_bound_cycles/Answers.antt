@@ -2,6 +2,7 @@
 use Rattle.tsp_cases.proofs.Decisions.{decided_bounds_bound_cycles}
 use Rattle.tsp_cases.proofs.laws.decided_bounds_bound_cycles.Goals as goal
 
--- plan: by the lemma `decided_bounds_bound_cycles`
+-- plan: a cycle that keeps the decisions uses each taken pair and no avoided one, so the bound with numbers on pairs of
+-- tsp_theory applies
 pub returns : goal.returns
 returns c = decided_bounds_bound_cycles c.adjusted_bounds_bound_cycles.ensures.cycles

@@ -2,6 +2,6 @@
 use Rattle.tsp_cases.proofs.Decisions.{fixed_bounds_bound_tours}
 use Rattle.tsp_cases.proofs.laws.fixed_bounds_bound_tours.Goals as goal
 
--- plan: by the lemma `fixed_bounds_bound_tours`
+-- plan: a tour uses each fixed pair, so the bound with numbers on pairs of tsp_theory applies
 pub returns : goal.returns
 returns c = fixed_bounds_bound_tours c.adjusted_bounds_bound_cycles.ensures.cycles

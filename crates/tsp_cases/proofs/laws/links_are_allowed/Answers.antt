@@ -4,7 +4,7 @@ use Rattle.tsp_cases.proofs.Links.{links_are_allowed}
 use Rattle.tsp_cases.proofs.LeastLinks.{no_link_no_cycle}
 use Rattle.tsp_cases.proofs.laws.links_are_allowed.Goals as goal
 
--- plan: the lemma of the same name, given the laws of the crates below as a record (`Laws`)
+-- plan: a cycle has one link out of each node and one into it: beside a taken pair it has no other link there
 pub returns : goal.returns
 returns c =
     let laws : Laws = record {

@@ -2,6 +2,7 @@
 use Rattle.tsp_cases.proofs.FamilyLaws.{numbers_are_unique}
 use Rattle.tsp_cases.proofs.laws.numbers_are_unique.Goals as goal
 
--- plan: by the lemma `numbers_are_unique`
+-- plan: by the kind of family: a lone set or a comb has numbers by a formula. Of other sets the least cycle has one
+-- length, and the most costs one number
 pub returns : goal.returns
 returns c = numbers_are_unique c.least_lengths_are_unique.ensures c.most_costs_are_unique.ensures

@@ -3,7 +3,8 @@ use Rattle.tsp_theory.proofs.CostLaws.{Laws}
 use Rattle.tsp_cases.proofs.RowLeaves.{row_leaf_bounds_bound_cycles}
 use Rattle.tsp_cases.proofs.laws.row_leaf_bounds_bound_cycles.Goals as goal
 
--- plan: the lemma of the same name, given the laws of the crates below as a record (`Laws`)
+-- plan: the least allowed links sum to at most the weight of a cycle. It crosses each family as often as its number
+-- says, so its length is at least that sum plus the sum given back
 pub returns : goal.returns
 returns c =
     let laws : Laws = record {

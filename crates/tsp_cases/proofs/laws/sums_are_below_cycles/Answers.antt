@@ -3,7 +3,8 @@ use Rattle.tsp_theory.proofs.CostLaws.{Laws}
 use Rattle.tsp_cases.proofs.LeastLinks.{sums_are_below_cycles}
 use Rattle.tsp_cases.proofs.laws.sums_are_below_cycles.Goals as goal
 
--- plan: the lemma of the same name, given the laws of the crates below as a record (`Laws`)
+-- plan: each link of a cycle is allowed, so it weighs no less than the least allowed link from its first node; a cycle
+-- leaves each node once
 pub returns : goal.returns
 returns c =
     let laws : Laws = record {

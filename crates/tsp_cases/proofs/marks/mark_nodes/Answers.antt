@@ -6,7 +6,7 @@ use Rattle.std.proofs.lemmas.List.{get_or_default}
 use Rattle.tsp_cases.proofs.NodeMarks.{marked_more, new_more, marked_twice, others_kept}
 use Rattle.tsp_cases.proofs.marks.mark_nodes.Goals as goal
 
--- plan: one node more has the mark (`marked_more`); one that has it already ends it (`marked_twice`)
+-- plan: by whether the next node has the mark already (`marked_twice`), or is marked now (`marked_more`)
 pub nodes-preserved : goal.nodes-preserved
 nodes-preserved c =
     let h = c.nodes.invariant in

@@ -10,7 +10,8 @@ use Rattle.tsp_theory.specs.CertificateNumbers.{entry}
 use Rattle.tsp_theory.specs.states.Nearest.{least_at}
 use Rattle.tsp_cases.proofs.moved.fill_moved.Goals as goal
 
--- plan: by cases of the node: the one just written (`get_or-set_same`), or one before (`get_or-set_other`)
+-- plan: by whether a node is the one just written (`get_or-set_same`), which has its potential plus its end, or one
+-- before (`get_or-set_other`)
 pub nodes-preserved : goal.nodes-preserved
 nodes-preserved c =
     let index : ℕ = c.nodes.index in

@@ -14,7 +14,7 @@ use Rattle.tsp_cases.proofs.SetSums.{moved_on}
 use Rattle.tsp_cases.proofs.MovedSums.{all_less, multipliers_left}
 use Rattle.tsp_cases.proofs.moved.take_multipliers.Goals as goal
 
--- plan: one family's multiplier more is taken off the entries of its sets (`multipliers_left`)
+-- plan: the multiplier of one family more is taken off the ends of the nodes of its sets (`multipliers_left`)
 pub multipliers-preserved : goal.multipliers-preserved
 multipliers-preserved c = λ x last rest.
     let ms : List ℤ = c.args.multiplied.now.numbers.now in

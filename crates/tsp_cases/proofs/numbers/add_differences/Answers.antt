@@ -10,7 +10,7 @@ use Rattle.tsp_cases.specs.Listed.{all_grown}
 use Rattle.tsp_cases.proofs.Grown.{grown_left, sum_held, more_sized}
 use Rattle.tsp_cases.proofs.numbers.add_differences.Goals as goal
 
--- plan: one difference more is added to its number (`grown_left`), which fits 64 bits (`more_sized`)
+-- plan: one difference more is added to its number (`grown_left`), which stays small enough for 128 bits (`more_sized`)
 pub changes-preserved : goal.changes-preserved
 changes-preserved c =
     let changes : List (ℕ × ℤ) = c.args.changes.now in

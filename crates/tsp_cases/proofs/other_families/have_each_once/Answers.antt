@@ -8,7 +8,7 @@ use Rattle.tsp_cases.proofs.ListPlaces.{written}
 use Rattle.tsp_cases.proofs.FamilyKinds.{set_here, lists_long, new_once, once_more}
 use Rattle.tsp_cases.proofs.other_families.have_each_once.Goals as goal
 
--- plan: one set more is marked node by node, each once (`once_more`), or has one twice
+-- plan: the nodes of one set more are marked, none of them twice (`once_more`), or a node is in the set twice
 pub returns-then-not-mark_nodes : goal.returns-then-not-mark_nodes
 returns-then-not-mark_nodes c = (
   λ impossible. absurd (both_ways false refl impossible),

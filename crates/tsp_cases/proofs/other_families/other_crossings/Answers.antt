@@ -5,7 +5,8 @@ use Rattle.tsp_families.specs.FamilySets.{lists_of}
 use Rattle.tsp_cases.proofs.FamilyKinds.{other_found, too_many, one_part}
 use Rattle.tsp_cases.proofs.other_families.other_crossings.Goals as goal
 
--- plan: by what is found: a node twice, too many parts (`too_many`), one part (`one_part`), or the crossings
+-- plan: by how the search ends: a set has a node twice, there are too many parts (`too_many`), all nodes are in one
+-- part (`one_part`), or the crossings are known
 pub returns-then-not-once-clause-found : goal.returns-then-not-once-clause-found
 returns-then-not-once-clause-found c = λ unknown good. iff_false c.in_ok-once.ensures c.if-not-once.true good.once
 

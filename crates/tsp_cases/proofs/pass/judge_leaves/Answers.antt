@@ -38,7 +38,7 @@ none_small n combs k default lt =
     rw (get_or-replicate (n + combs) k (pos 0) default (omega (arith, lt, length-replicate (n + combs) (pos 0))))
     (omega (arith, ints), omega (arith, ints))
 
--- plan: the first case is open with no decision and no number (`at_start`), and a step of the whole tree is next (`whole_trees`)
+-- plan: at first the given case is open, all numbers are 0, and the steps are a whole tree (`at_start`, `whole_trees`)
 pub steps-init : goal.steps-init
 steps-init g c =
     let tree = c.args.tree.now in
@@ -112,7 +112,8 @@ returns-in_default-clause-judged g c =
     bad_here found good (g.J.LeafJudge.fits judge) n combs given (steps_of all) st.numbers.items st.case.stack.items st.lowest st.leaf
     c.in-Leaf.changes.items _ _ c.in_ok-judged-in-Leaf.judged at judged c.in_default.is
 
--- plan: `at_next` reads the step; a branch puts its pair on the stack (`at_branch`), a leaf takes its bound in (`after_found`)
+-- plan: by the next step (`at_next`): a branch puts its taken pair on the stack (`at_branch`). A leaf lowers the bound,
+-- and the next case opens (`after_found`)
 pub steps-preserved : goal.steps-preserved
 steps-preserved g c =
     let tree = c.args.tree.now in

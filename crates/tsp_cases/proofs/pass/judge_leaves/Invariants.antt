@@ -8,7 +8,7 @@ use Rattle.tsp_cases.specs.states.Rooms.{AreSmall}
 use Rattle.tsp_cases.proofs.Passes.{IsPassing}
 use Rattle.tsp_cases.proofs.pass.judge_leaves.Given as goal
 
--- what is found of the leaves so far and of the steps left, from the open case on, is what is found of all steps
+-- the bound so far with those of the leaves in the steps left, from the open case on, is the bound of all steps
 abbrev pub invariant-steps : goal.invariant-steps
 invariant-steps g l = record {
   at : IsPassing (g.J.LeafJudge.found l.judge) (g.J.LeafJudge.good l.judge) (g.J.LeafJudge.fits l.judge) (g.J.LeafJudge.nodes l.judge)

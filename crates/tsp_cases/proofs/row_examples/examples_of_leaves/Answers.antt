@@ -2,7 +2,8 @@
 use Rattle.tsp_cases.proofs.SmallRows.{leaf_alone, leaf_with_arc}
 use Rattle.tsp_cases.proofs.row_examples.examples_of_leaves.Goals as goal
 
--- plan: by the lemmas `leaf_alone` and `leaf_with_arc`
+-- plan: the least arcs of three nodes are given, and no allowed arc weighs less: without a decision (`leaf_alone`), and
+-- with a taken arc (`leaf_with_arc`)
 pub returns-clause-alone : goal.returns-clause-alone
 returns-clause-alone c = leaf_alone
 

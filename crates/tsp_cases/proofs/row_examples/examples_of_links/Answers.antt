@@ -2,7 +2,7 @@
 use Rattle.tsp_cases.proofs.SmallRows.{row_of_taken, column_of_taken, avoided, second_decision}
 use Rattle.tsp_cases.proofs.row_examples.examples_of_links.Goals as goal
 
--- plan: one lemma for each example
+-- plan: an arc is compared with each decision: it is allowed by all, or one forbids it
 pub returns-clause-row_of_taken : goal.returns-clause-row_of_taken
 returns-clause-row_of_taken c = row_of_taken
 

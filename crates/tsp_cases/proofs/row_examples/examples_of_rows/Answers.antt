@@ -2,7 +2,7 @@
 use Rattle.tsp_cases.proofs.SmallRows.{none_left, without_decisions, with_arc, without_arc, rounded_up, given_back}
 use Rattle.tsp_cases.proofs.row_examples.examples_of_rows.Goals as goal
 
--- plan: one lemma for each example
+-- plan: the least arc from each node is given, and each other one is forbidden or weighs no less
 pub returns-clause-none_left : goal.returns-clause-none_left
 returns-clause-none_left c = none_left
 

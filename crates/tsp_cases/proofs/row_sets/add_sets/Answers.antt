@@ -14,7 +14,7 @@ use Rattle.tsp_cases.proofs.SetSums.{moved_on}
 use Rattle.tsp_cases.proofs.CombedRows.{inside_left}
 use Rattle.tsp_cases.proofs.row_sets.add_sets.Goals as goal
 
--- plan: one set more of the node is added to its nodes' entries (`inside_left`)
+-- plan: one set more that has the node adds twice its multiplier to the entries of its nodes (`inside_left`)
 pub places-preserved : goal.places-preserved
 places-preserved c = λ x last rest.
     let families : List (List (List ℕ)) = lent_in c.args.multiplied.now.families.now in

@@ -21,7 +21,7 @@ sets-preserved c = λ x last rest.
     ap (λ (s : Vec ℕ). added number s.items x) (sym c.set-item.is) ∙ ap (λ (ns : List ℕ). added number ns x) (sym c.deref.ensures.value) in
     c.sets.invariant x last (rw (left, here) (moved_on _ _ _ _ _ (c.add_to_nodes.ensures x) rest))
 
--- plan: one set more is added to its nodes' entries (`sets_left`)
+-- plan: the number is added to the entries of one set's nodes more (`sets_left`)
 pub returns : goal.returns
 returns c = λ x.
     let sets : List (Vec ℕ) = c.args.sets.now in

@@ -4,7 +4,7 @@ use Rattle.std.specs.Int.{w64}
 use Rattle.std.proofs.lemmas.Int.{wrapping_add_is}
 use Rattle.tsp_cases.proofs.row_sets.sum_left.Goals as goal
 
--- plan: both parts fit 64 bits, so the sum is the whole one
+-- plan: both numbers fit 64 bits, so the sum of their words is the sum of the integers, wrapped
 pub returns : goal.returns
 returns c =
     let first : FitsSigned w64 c.args.a = search rules in

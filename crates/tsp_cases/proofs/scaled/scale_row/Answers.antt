@@ -11,7 +11,7 @@ use Rattle.tsp_theory.specs.states.Nearest.{least_at}
 use Rattle.tsp_theory.proofs.Sizes.{product_is, same_scale}
 use Rattle.tsp_cases.proofs.scaled.scale_row.Goals as goal
 
--- plan: one entry more is the cost at the scale (`product_is`)
+-- plan: one entry more is multiplied by the scale, which fits 64 bits (`product_is`)
 pub places-preserved : goal.places-preserved
 places-preserved c =
     let place : ℕ = c.places.place in

@@ -9,7 +9,8 @@ use Rattle.std.proofs.Math.ListN.{set}
 use Rattle.tsp_theory.specs.states.Nearest.{least_at}
 use Rattle.tsp_cases.proofs.scaled.shift_row.Goals as goal
 
--- plan: by cases of the place: the one just written (`get_or-set_same`), or another (`get_or-set_other`)
+-- plan: by whether a place is the one just written (`get_or-set_same`), which has its sum, or another
+-- (`get_or-set_other`)
 pub places-preserved : goal.places-preserved
 places-preserved c =
     let place : ℕ = c.places.place in

@@ -10,7 +10,7 @@ use Rattle.tsp_cases.proofs.SetSums.{moved_on, node_moved, added_left}
 use Rattle.tsp_cases.proofs.CombedRows.{added_none}
 use Rattle.tsp_cases.proofs.sets.add_to_nodes.Goals as goal
 
--- plan: one node more has the number added (`node_moved`); a number 0 changes nothing (`added_none`)
+-- plan: the number is added at one node more (`node_moved`), unless it is 0 and changes nothing (`added_none`)
 pub returns-then-number-eq0 : goal.returns-then-number-eq0
 returns-then-number-eq0 c = λ x.
     let fits : FitsSigned w64 c.args.number = search rules in

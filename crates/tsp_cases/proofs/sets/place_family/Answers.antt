@@ -8,7 +8,7 @@ use Rattle.tsp_cases.specs.states.Sets.{times, places_in}
 use Rattle.tsp_cases.proofs.SetSums.{set_listed}
 use Rattle.tsp_cases.proofs.sets.place_family.Goals as goal
 
--- plan: one set more is listed with its nodes (`set_listed`)
+-- plan: one set of the family more is in the lists of its nodes (`set_listed`)
 pub sets-preserved : goal.sets-preserved
 sets-preserved c =
     let number : ℕ = c.sets.number in

@@ -6,7 +6,7 @@ use Rattle.tsp_cases.specs.states.Sets.{times}
 use Rattle.tsp_cases.proofs.SetSums.{listed_more}
 use Rattle.tsp_cases.proofs.sets.place_set.Goals as goal
 
--- plan: one node more has the set in its list (`listed_more`)
+-- plan: one node of the set more has the set in its list (`listed_more`)
 pub nodes-preserved : goal.nodes-preserved
 nodes-preserved c =
     let index : ℕ = c.nodes.node-index in

@@ -7,7 +7,7 @@ use Rattle.tsp_cases.specs.states.Sets.{places_in, places_with}
 use Rattle.tsp_cases.proofs.SetSums.{family_listed}
 use Rattle.tsp_cases.proofs.sets.sets_by_node.Goals as goal
 
--- plan: one family more is listed with its nodes (`family_listed`)
+-- plan: the sets of one family more are in the lists of their nodes (`family_listed`)
 pub families-preserved : goal.families-preserved
 families-preserved c =
     let number : ℕ = c.families.number in

@@ -67,7 +67,8 @@ returns-then-not-branch g c =
     let none = subst (λ (b : Bool). IsNextStack st.case.stack.items b c.next.new.self.stack.items) c.if-not-branch.true c.in_ok-next-in-Leaf.ensures.next in
     once_at_last tree.directed tree.given.now (steps_of all) (stack_of st.case.stack.items) st.count c.in-Leaf.field-0.items (steps_of (drop (st.step-index + 1) all)) at none.0
 
--- plan: by the step: a branch adds a pair that isn't decided (`once_pushed`); a leaf goes on with the next case (`once_at_leaf`)
+-- plan: by the next step: a branch on a new pair adds a decision (`once_pushed`); after a leaf the next case opens
+-- (`once_at_leaf`)
 pub steps-preserved : goal.steps-preserved
 steps-preserved g c =
     let tree = c.args.tree.now in

@@ -6,7 +6,7 @@ use Rattle.tsp_cases.specs.states.OpenCases.{IsOpenCase}
 use Rattle.tsp_cases.proofs.BranchesOnce.{IsOnceSoFar}
 use Rattle.tsp_cases.proofs.twice.first_twice.Given as goal
 
--- the open cases decide each pair once; what holds of the steps left, from them on, holds of all steps
+-- the open cases decide each pair once. The first branch on a decided pair among the steps left is the first of all
 abbrev pub invariant-steps : goal.invariant-steps
 invariant-steps g l = record {
   so_far : IsOnceSoFar l.tree.directed l.tree.given.now (steps_of l.tree.steps.now) (stack_of l.case.stack.items) l.count

@@ -14,7 +14,8 @@ use Rattle.tsp_cases.specs.states.Decided.{IsDecision}
 use Rattle.tsp_cases.proofs.BranchesWithin.{steps_on_nodes}
 use Rattle.tsp_cases.proofs.twice.judge_cases.Goals as goal
 
--- plan: no branch is bad, so each step is on nodes (`steps_on_nodes`), and no branch comes twice by the clauses of the calls
+-- plan: where no branch begins out of the limits, all pairs are of nodes (`steps_on_nodes`). Whether one is decided
+-- twice the call ensures
 pub first_twice-requires : goal.first_twice-requires
 first_twice-requires g c =
     let steps = steps_of c.args.tree.now.steps.now in

@@ -3,7 +3,7 @@ use Rattle.std.proofs.Common.{sym, subst}
 use Rattle.tsp_judge.specs.Yes.{IsCheckBy}
 use Rattle.tsp_judge.proofs.asked_runs.run_branch_check.Goals as goal
 
--- plan: both clauses are those of the run, told as true or false
+-- plan: both clauses are those of the run, whose verdict becomes true or false
 pub returns-clause-answer : goal.returns-clause-answer
 returns-clause-answer g c = let one = c.run.ensures.answer in let two = one.2 in let three = two.2 in
     (one.0, one.1, (two.0, two.1, (three.0, three.1, subst (IsCheckBy _ _ _ _ _) (sym c.acceptance.ensures) three.2.1.1)))

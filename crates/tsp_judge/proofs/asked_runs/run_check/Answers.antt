@@ -3,7 +3,7 @@ use Rattle.std.proofs.Common.{sym, subst}
 use Rattle.tsp_judge.specs.Yes.{IsCheck}
 use Rattle.tsp_judge.proofs.asked_runs.run_check.Goals as goal
 
--- plan: both clauses are those of `run_uncertified`, told as true or false
+-- plan: both clauses are those of `run_uncertified`, whose verdict becomes true or false
 pub returns-clause-answer : goal.returns-clause-answer
 returns-clause-answer g c = let one = c.run_uncertified.ensures.answer in let two = one.2 in
     (one.0, one.1, (two.0, two.1, subst (IsCheck _ _ _) (sym c.acceptance.ensures) two.2.1))

@@ -2,7 +2,8 @@
 use Rattle.tsp_judge.proofs.CompareMeaning.{bounded_line}
 use Rattle.tsp_judge.proofs.compare_laws.lines_of_bounded_tours.Goals as goal
 
--- plan: by the lemma `bounded_line`
+-- plan: the line has a tour that is accepted with its bound, so no tour is shorter than that (`bounded_line`), be it
+-- the length or less
 pub returns-clause-optimal : goal.returns-clause-optimal
 returns-clause-optimal c = λ common turn by certificate length. bounded_line common turn by certificate length length
 

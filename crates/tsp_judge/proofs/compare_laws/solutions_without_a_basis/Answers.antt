@@ -2,7 +2,8 @@
 use Rattle.tsp_judge.proofs.CompareMeaning.{none_accepted, none_without_tours}
 use Rattle.tsp_judge.proofs.compare_laws.solutions_without_a_basis.Goals as goal
 
--- plan: by the lemmas `none_accepted` and `none_without_tours`
+-- plan: the reason applies to each solution (`none_accepted`); an instance without tours has no tour to accept
+-- (`none_without_tours`)
 pub returns-clause-reason : goal.returns-clause-reason
 returns-clause-reason c = none_accepted
 

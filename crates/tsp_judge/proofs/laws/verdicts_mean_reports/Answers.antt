@@ -3,7 +3,8 @@ use Rattle.tsp_judge.proofs.Runs.{sized}
 use Rattle.tsp_judge.proofs.Yeses.{accepted}
 use Rattle.tsp_judge.proofs.laws.verdicts_mean_reports.Goals as goal
 
--- plan: by the lemmas `sized` and `accepted`
+-- plan: by the verdict: an accepted one has the record of its kind (`accepted`), and each bound fits the report
+-- (`sized`)
 pub returns-clause-accepted : goal.returns-clause-accepted
 returns-clause-accepted c = accepted
 

@@ -3,7 +3,7 @@ use Rattle.std.proofs.Common.{arith}
 use Rattle.tsp_number.proofs.DigitLanes.{all_digits, some_digits}
 use Rattle.tsp_number.proofs.eight.count_in.Goals as goal
 
--- plan: by the lemmas `all_digits` and `some_digits`
+-- plan: by the lanes that are no digits: there is none (`all_digits`), or the first one ends the digits (`some_digits`)
 pub returns-then-others-eq0 : goal.returns-then-others-eq0
 returns-then-others-eq0 c = all_digits c.args.eight c.fits-eight.0 c.fits-eight.1 c.if-others-eq0.true
 

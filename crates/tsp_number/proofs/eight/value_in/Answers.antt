@@ -3,7 +3,8 @@ use Rattle.std.proofs.Common.{◌∙◌}
 use Rattle.tsp_number.proofs.EightDigits.{shifted_small, shifted_value}
 use Rattle.tsp_number.proofs.eight.value_in.Goals as goal
 
--- plan: by the lemmas `shifted_small` and `shifted_value`
+-- plan: after the shift zeros come before the digits (`shifted_small`), which leave the number as it is
+-- (`shifted_value`)
 pub value_of-requires : goal.value_of-requires
 value_of-requires c = shifted_small _ _ _ c.told-eight c.requires.within c.requires.digits c.from_le_bytes-text.ensures
 

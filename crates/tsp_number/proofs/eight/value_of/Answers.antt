@@ -2,6 +2,6 @@
 use Rattle.tsp_number.proofs.EightDigits.{eight_read}
 use Rattle.tsp_number.proofs.eight.value_of.Goals as goal
 
--- plan: by the lemma `eight_read`
+-- plan: each product puts neighbours together: digits to pairs, pairs to fours, and these to eight (`eight_read`)
 pub returns : goal.returns
 returns c = eight_read c.args.digits c.ranges.digits.fits c.requires

@@ -2,7 +2,7 @@
 use Rattle.tsp_number.proofs.WordLaws.{stands_once, decimal_once, decimal_of-reads, whole_once, whole_of-reads}
 use Rattle.tsp_number.proofs.laws.number_word_laws.Goals as goal
 
--- plan: one lemma for each law
+-- plan: by cases of two answers to one word, which are equal or exclude each other; the computed answer is one of them
 pub returns-clause-one_number : goal.returns-clause-one_number
 returns-clause-one_number c = stands_once
 

@@ -2,7 +2,8 @@
 use Rattle.tsp_number.proofs.Spelled.{stands_for, round_trip}
 use Rattle.tsp_number.proofs.laws.spelling_laws.Goals as goal
 
--- plan: by the lemmas `stands_for` and `round_trip`
+-- plan: a whole part and its decimals mean the number (`stands_for`); a word means one number, so reading gives it
+-- (`round_trip`)
 pub returns-clause-stands : goal.returns-clause-stands
 returns-clause-stands c = stands_for
 

@@ -3,7 +3,8 @@ use Rattle.tsp_number.proofs.FrontNumbers.{decimal_word}
 use Rattle.tsp_number.proofs.WordLaws.{decimal_once, decimal_of-reads}
 use Rattle.tsp_number.proofs.word.parse_decimal.Goals as goal
 
--- plan: by the lemmas `decimal_word`, `decimal_once` and `decimal_of-reads`
+-- plan: a decimal that ends where its word does is the word's number (`decimal_word`); a word has one answer, the
+-- computed one (`decimal_once`)
 pub returns : goal.returns
 returns c =
     let reads = decimal_word _ _ _ c.in-Some.ensures.number c.if-end-word.true c.in-Some.ensures.size in

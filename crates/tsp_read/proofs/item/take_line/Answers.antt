@@ -4,7 +4,7 @@ use Rattle.tsp_section.specs.states.CutLine.{seen, cut_item}
 use Rattle.tsp_read.proofs.ReadSteps.{takes_ok}
 use Rattle.tsp_read.proofs.item.take_line.Goals as goal
 
--- plan: by the lemma `takes_ok`
+-- plan: the line that was cut and read is the item of the text (`takes_ok`)
 pub returns : goal.returns
 returns c = λ earlier h.
     takes_ok earlier (cut_item c.of-line.result) (line_item c.args.text.now) c.line.new.self c.is_end.result c.of-line.ensures

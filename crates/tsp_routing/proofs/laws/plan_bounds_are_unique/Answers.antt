@@ -2,6 +2,7 @@
 use Rattle.tsp_routing.proofs.OneVerdict.{one_plan_bound_found}
 use Rattle.tsp_routing.proofs.laws.plan_bounds_are_unique.Goals as goal
 
--- plan: by the lemma `one_plan_bound_found`
+-- plan: each cut needs one number of routes, and one number of customers is light; under these a tree has one bound
+-- (`one_plan_bound_found`)
 pub returns : goal.returns
 returns c = one_plan_bound_found

@@ -2,6 +2,6 @@
 use Rattle.tsp_routing.proofs.PlanBounds.{plan_bounds_bound_plans}
 use Rattle.tsp_routing.proofs.laws.plan_bounds_bound_plans.Goals as goal
 
--- plan: by the lemma `plan_bounds_bound_plans`
+-- plan: set by set, the limits and multipliers give back no more than they take off the weight of the plan
 pub returns : goal.returns
 returns c = plan_bounds_bound_plans

@@ -2,6 +2,7 @@
 use Rattle.tsp_routing.proofs.PlanTrees.{plan_trees_bound_plans, plan_tree_bounds_are_unique}
 use Rattle.tsp_routing.proofs.laws.plan_trees_bound_plans.Goals as goal
 
--- plan: by the lemmas `plan_trees_bound_plans` and `plan_tree_bounds_are_unique`
+-- plan: a plan keeps the limits of some leaf, whose bound is at most its length; the least bound of the leaves is one
+-- number
 pub returns : goal.returns
 returns c = record { plans = plan_trees_bound_plans; one = plan_tree_bounds_are_unique }

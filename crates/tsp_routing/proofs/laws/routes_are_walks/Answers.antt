@@ -3,6 +3,7 @@ use Rattle.tsp_routing.proofs.UnitLoads.{routes_have_room, loads_are_some}
 use Rattle.tsp_routing.proofs.RouteWalks.{routes_are_walks}
 use Rattle.tsp_routing.proofs.laws.routes_are_walks.Goals as goal
 
--- plan: by the lemmas `routes_have_room`, `loads_are_some` and `routes_are_walks`
+-- plan: loads are demands rounded down, so they sum to no more than the capacity in units; no customer of a route comes
+-- again
 pub returns : goal.returns
 returns c = record { room = routes_have_room; some = loads_are_some; walks = routes_are_walks }

@@ -2,7 +2,7 @@
 use Rattle.tsp_theory.proofs.Division.{least_computed}
 use Rattle.tsp_routing.proofs.leaf_sum.rounded_up.Goals as goal
 
--- plan: by the lemma `least_computed`
+-- plan: the negative of the quotient of the negative sum, rounded down, is the quotient rounded up (`least_computed`)
 pub returns : goal.returns
 returns c =
     let both = least_computed c.args.scale c.args.sum c.from.result c.div_euclid.result c.requires.scale c.requires.size c.from.ensures

@@ -2,7 +2,7 @@
 use Rattle.tsp_routing.specs.states.Onwards.{entry_at}
 use Rattle.tsp_routing.proofs.least_walk.best_entry.Goals as goal
 
--- plan: the way back, and then all customers but the node
+-- plan: the entry of the way back to the depot, then one by all customers but the node
 pub returns-then-node-walks-clause-below : goal.returns-then-node-walks-clause-below
 returns-then-node-walks-clause-below g c = λ w default rows.
     c.entry_around.ensures.below w default rows

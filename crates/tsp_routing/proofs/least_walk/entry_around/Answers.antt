@@ -6,7 +6,7 @@ use Rattle.tsp_routing.specs.states.Onwards.{onward_entry, entry_at}
 use Rattle.tsp_routing.proofs.WalkEntries.{below_skip, met_skip, apart_from, no_way}
 use Rattle.tsp_routing.proofs.least_walk.entry_around.Goals as goal
 
--- plan: the nodes below the two, those between them and those above; the two are passed over
+-- plan: the nodes below, between and above two: the node itself and the depot, which are passed over
 pub entry_with-low-requires-clause-others : goal.entry_with-low-requires-clause-others
 entry_with-low-requires-clause-others g c = λ next after to.
     apart_from c.args.walks.now.depot c.args.node c.args.first c.args.last next c.requires.are

@@ -9,7 +9,7 @@ use Rattle.tsp_routing.specs.states.Onwards.{load_at, onward_entry, entry_at, Is
 use Rattle.tsp_routing.proofs.WalkEntries.{entry_pushed}
 use Rattle.tsp_routing.proofs.least_walk.next_row.Goals as goal
 
--- plan: the loop has the entries of the nodes so far
+-- plan: the entries so far are those of the nodes so far, each by the rows of smaller loads
 pub nodes-init : goal.nodes-init
 nodes-init g c =
     let value = g.S.Sum.value in

@@ -11,7 +11,8 @@ use Rattle.tsp_routing.proofs.WalkSizes.{real_sized}
 use Rattle.tsp_routing.proofs.WalkRests.{start_low, start_exact}
 use Rattle.tsp_routing.proofs.least_walk.start.Goals as goal
 
--- plan: the last row has all that there is a load left for
+-- plan: the last row has the entries with the whole capacity left, so a step from the depot and such an entry are a
+-- walk
 pub start_by-requires-clause-links : goal.start_by-requires-clause-links
 start_by-requires-clause-links g c = λ next there.
     let links = IsFromTo (neg_ℤ (pos g.S.Sum.link)) (pos g.S.Sum.link) in

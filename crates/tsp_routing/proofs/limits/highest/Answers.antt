@@ -8,7 +8,7 @@ use Rattle.tsp_routing.specs.PlanBounds.{high_of}
 use Rattle.tsp_routing.proofs.TakenLimits.{taken_all}
 use Rattle.tsp_routing.proofs.limits.highest.Goals as goal
 
--- plan: the decisions so far lower the number as far as they do, the last one first
+-- plan: the number is lowered by the limits so far, as the definition lowers it, from the last one on
 abbrev zero_limit : Decision
 zero_limit = record { pair = (0, 0); taken = false }
 

@@ -4,7 +4,7 @@ use Rattle.tsp_cases.specs.states.Decided.{stack_of}
 use Rattle.tsp_routing.specs.PlanBounds.{high_of}
 use Rattle.tsp_routing.proofs.limits.highest.Given as goal
 
--- the limits up to the last one that was seen
+-- `high` is what the limits so far leave of `own`, and no larger
 abbrev pub invariant-limits : goal.invariant-limits
 invariant-limits l = record {
   value : l.high ≡ high_of l.place (stack_of (take l.limit-index l.decisions)) l.own;

@@ -8,7 +8,7 @@ use Rattle.tsp_routing.specs.PlanBounds.{low_of}
 use Rattle.tsp_routing.proofs.TakenLimits.{taken_all}
 use Rattle.tsp_routing.proofs.limits.lowest.Goals as goal
 
--- plan: the decisions so far raise the number as far as they do, the last one first
+-- plan: the number is raised by the limits so far, as the definition raises it, from the last one on
 abbrev zero_limit : Decision
 zero_limit = record { pair = (0, 0); taken = false }
 

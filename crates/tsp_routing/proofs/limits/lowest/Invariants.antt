@@ -4,7 +4,7 @@ use Rattle.tsp_cases.specs.states.Decided.{stack_of}
 use Rattle.tsp_routing.specs.PlanBounds.{low_of}
 use Rattle.tsp_routing.proofs.limits.lowest.Given as goal
 
--- the limits up to the last one that was seen
+-- `low` is what the limits so far make of `own`
 abbrev pub invariant-limits : goal.invariant-limits
 invariant-limits l = record {
   value : l.low ≡ low_of l.place (stack_of (take l.limit-index l.decisions)) l.own;

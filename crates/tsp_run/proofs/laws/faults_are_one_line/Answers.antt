@@ -3,7 +3,7 @@ use Rattle.tsp_judge.specs.RunFaultText.{run_fault_text}
 use Rattle.tsp_run.proofs.OneLines.{line_of_run}
 use Rattle.tsp_run.proofs.laws.faults_are_one_line.Goals as goal
 
--- plan: by the lemma `line_of_run`
+-- plan: by the fault: no part of its text has a byte 10, so neither has the text (`line_of_run`)
 pub returns-clause-one : goal.returns-clause-one
 returns-clause-one c = line_of_run
 

@@ -4,7 +4,7 @@ use Rattle.tsp_run.specs.ComparisonRun.{IsFresh}
 use Rattle.tsp_run.proofs.Openings.{task_by}
 use Rattle.tsp_run.proofs.opened_files.opened.Goals as goal
 
--- plan: by the lemma `task_by`
+-- plan: each file is opened in its place by a reader that hasn't failed, and so are all files of the task (`task_by`)
 pub returns : goal.returns
 returns g c =
     let opens = g.O.Open.opens c.args.files.now in

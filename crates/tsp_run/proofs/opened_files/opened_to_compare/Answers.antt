@@ -4,7 +4,8 @@ use Rattle.tsp_run.specs.ComparisonRun.{IsFresh}
 use Rattle.tsp_run.proofs.Openings.{comparison_by}
 use Rattle.tsp_run.proofs.opened_files.opened_to_compare.Goals as goal
 
--- plan: by the lemma `comparison_by`
+-- plan: each file is opened in its place by a reader that hasn't failed, and so are the files of the comparison
+-- (`comparison_by`)
 pub returns : goal.returns
 returns g c =
     let opens = g.O.Open.opens c.args.files.now in

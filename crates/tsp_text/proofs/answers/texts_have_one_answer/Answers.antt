@@ -2,7 +2,7 @@
 use Rattle.tsp_text.proofs.OneAnswer.{one_answer, never_both, one_file, fault_of_text}
 use Rattle.tsp_text.proofs.answers.texts_have_one_answer.Goals as goal
 
--- plan: one lemma for each clause
+-- plan: by whether the text has a fault, which is then the answer; else the one file that its items give
 pub returns-clause-one : goal.returns-clause-one
 returns-clause-one c = λ bytes. one_answer bytes
 

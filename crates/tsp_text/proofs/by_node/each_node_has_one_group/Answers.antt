@@ -3,6 +3,7 @@
 use Rattle.tsp_text.proofs.ByNodeWords.{each_once}
 use Rattle.tsp_text.proofs.by_node.each_node_has_one_group.Goals as goal
 
--- plan: by the lemma `each_once`
+-- plan: each group has begun with a new node, and there are as many groups as nodes, so each node comes once
+-- (`each_once`)
 pub returns : goal.returns
 returns c = λ items field clean by_node stands whole. each_once items field clean by_node stands whole

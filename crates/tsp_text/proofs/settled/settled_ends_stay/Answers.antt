@@ -2,7 +2,8 @@
 use Rattle.tsp_text.proofs.SettledFaults.{part_kept, ended_kept}
 use Rattle.tsp_text.proofs.settled.settled_ends_stay.Goals as goal
 
--- plan: by the lemmas `part_kept` and `ended_kept`
+-- plan: settled items begin those of every longer text (`part_kept`), and what follows the end line has no fault
+-- (`ended_kept`)
 pub returns-clause-part : goal.returns-clause-part
 returns-clause-part c = λ bytes more clean ended. part_kept bytes more clean ended
 

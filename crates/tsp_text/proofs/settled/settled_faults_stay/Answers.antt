@@ -2,7 +2,8 @@
 use Rattle.tsp_text.proofs.SettledFaults.{fault_kept, settled_kept}
 use Rattle.tsp_text.proofs.settled.settled_faults_stay.Goals as goal
 
--- plan: by the lemmas `fault_kept` and `settled_kept`
+-- plan: settled items begin those of every longer text, so their fault is its first (`fault_kept`) and stays settled
+-- (`settled_kept`)
 pub returns-clause-stays : goal.returns-clause-stays
 returns-clause-stays c = λ bytes more found e. fault_kept bytes more found e
 

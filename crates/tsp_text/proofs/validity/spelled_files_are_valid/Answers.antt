@@ -2,7 +2,7 @@
 use Rattle.tsp_text.proofs.ValidItems.{is_file, spelled_file}
 use Rattle.tsp_text.proofs.validity.spelled_files_are_valid.Goals as goal
 
--- plan: by the lemmas `is_file` and `spelled_file`
+-- plan: no row applies to an item or to the end, so each field is valid and all together are (`is_file`)
 pub returns-clause-of_items : goal.returns-clause-of_items
 returns-clause-of_items c = λ items cut clean ended. is_file items cut clean ended
 

@@ -2,6 +2,7 @@
 use Rattle.tsp_theory.proofs.CycleLinks.{length_of_cycle-le}
 use Rattle.tsp_theory.proofs.cycle_laws.cycles_have_no_loops.Goals as goal
 
--- plan: by the lemma `length_of_cycle-le`
+-- plan: each link joins two different nodes, so its lower cost is at most its upper one, and so are the sums
+-- (`length_of_cycle-le`)
 pub returns : goal.returns
 returns c = length_of_cycle-le

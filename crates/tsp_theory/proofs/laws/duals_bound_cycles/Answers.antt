@@ -3,7 +3,8 @@ use Rattle.tsp_theory.proofs.CostLaws.{Laws}
 use Rattle.tsp_theory.proofs.Duality.{duals_bound_cycles}
 use Rattle.tsp_theory.proofs.laws.duals_bound_cycles.Goals as goal
 
--- plan: the lemma of the same name, given the laws of the crate's own calls as a record (`Laws`)
+-- plan: each link costs no less than its two duals, and the links of a cycle have each dual once. `Laws` has the laws
+-- of cycles that the proof takes
 pub returns : goal.returns
 returns c =
     let laws : Laws = record {

@@ -3,7 +3,8 @@ use Rattle.tsp_theory.proofs.CostLaws.{Laws}
 use Rattle.tsp_theory.proofs.Cycles.{least_tree_below}
 use Rattle.tsp_theory.proofs.laws.least_trees_are_below_cycles.Goals as goal
 
--- plan: the lemma `least_tree_below`, given the laws of the crate's own calls as a record (`Laws`)
+-- plan: a cycle, from node 1 on, is a 1-tree, so a least one weighs no more (`least_tree_below`). `Laws` has the laws
+-- of cycles that the proof takes
 pub returns : goal.returns
 returns c =
     let laws : Laws = record {

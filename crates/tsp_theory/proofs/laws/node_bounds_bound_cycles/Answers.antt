@@ -3,7 +3,8 @@ use Rattle.tsp_theory.proofs.CostLaws.{Laws}
 use Rattle.tsp_theory.proofs.Cycles.{node_bounds_bound_cycles}
 use Rattle.tsp_theory.proofs.laws.node_bounds_bound_cycles.Goals as goal
 
--- plan: the lemma of the same name, given the laws of the crate's own calls as a record (`Laws`)
+-- plan: a cycle weighs its length and each potential twice, and no less than a least 1-tree. `Laws` has the laws of
+-- cycles that the proof takes
 pub returns : goal.returns
 returns c =
     let laws : Laws = record {

@@ -1,9 +1,9 @@
--- The goals of `Labelled::new` in src/labelled.rt: the invariants of its types.
+-- The goals of `Labelled::new` in src/labelled.rt: the facts of the value that it makes.
 use Rattle.std.proofs.Common.{◌≡◌, ◌<◌, ℕ, true, length, arith, sym, subst}
 use Rattle.tsp_bound.specs.states.Components.{AreTags}
 use Rattle.tsp_bound.proofs.labelled.Labelled.new.Goals as goal
 
--- plan: the boxes have the areas and the tags of their places, by the clauses of the calls
+-- plan: each box has the region of its nodes, and their label where it is one, as the calls that make the boxes ensure
 pub invariant_of-result : goal.invariant_of-result
 invariant_of-result g c =
     let order = c.args.placed.order.now in

@@ -1,4 +1,4 @@
--- The goals of `Components::nearest` for `Labelled::nearest` in src/labelled.rt: what it ensures.
+-- The goals of `nearest` in src/labelled.rt, of the trait `Components` for `Labelled`: what it ensures.
 use Rattle.std.proofs.Common.{◌≡◌, ℕ, ℤ, List, length, IfSome, arith, subst}
 use Rattle.std.proofs.lemmas.List.{get_or_read}
 use Rattle.tsp_bound.specs.states.Boxes.{node_of}
@@ -6,7 +6,7 @@ use Rattle.tsp_bound.specs.states.Components.{label_at, is_in_other_component, I
 use Rattle.tsp_bound.proofs.Known.{kept_of_nearest}
 use Rattle.tsp_bound.proofs.labelled.LabelledComponents.nearest.Goals as goal
 
--- plan: the link of the nearest place is a kept one (`kept_of_nearest`)
+-- plan: the link to the nearest place outside weighs no more than any out of the component (`kept_of_nearest`)
 pub returns : goal.returns
 returns g c =
     let s = c.args.self.now in

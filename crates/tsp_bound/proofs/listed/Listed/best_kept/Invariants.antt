@@ -6,7 +6,7 @@ use Rattle.tsp_bound.proofs.Known.{IsReached}
 use Rattle.tsp_bound.proofs.Listing.{IsEnding}
 use Rattle.tsp_bound.proofs.listed.Listed.best_kept.Given as goal
 
--- where a kept link before this one leaves the component, `best` does so too, and weighs no more
+-- where a listed link before this one leaves the component, `best` does so too, and weighs no more
 abbrev pub invariant-links : goal.invariant-links
 invariant-links g l =
     let s = l.self in

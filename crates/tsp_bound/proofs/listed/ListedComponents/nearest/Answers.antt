@@ -1,4 +1,4 @@
--- The goals of `Components::nearest` for `Listed::nearest` in src/listed.rt: what it ensures.
+-- The goals of `nearest` in src/listed.rt, of the trait `Components` for `Listed`: what it ensures.
 use Rattle.std.proofs.Common.{◌≡◌, ◌≢◌, ◌≤ℤ◌, ◌∙◌, ℕ, pos, length, arith, rules, ap, sym, subst, w64, to_z, of_z, SFits}
 use Rattle.std.proofs.lemmas.Int.{ints, to_z-of_z}
 use Rattle.std.proofs.lemmas.List.{get_or_read}
@@ -10,7 +10,7 @@ use Rattle.tsp_bound.proofs.Boxed.{no_more_seen}
 use Rattle.tsp_bound.proofs.Listing.{kept_link}
 use Rattle.tsp_bound.proofs.listed.ListedComponents.nearest.Goals as goal
 
--- plan: the best kept link is the nearest one (`kept_link`), since no other is seen (`no_more_seen`)
+-- plan: the best listed link weighs at most the number of its place, so no unlisted link is less (`kept_link`)
 pub returns-then-label : goal.returns-then-label
 returns-then-label g c =
     let s = c.args.self.now in

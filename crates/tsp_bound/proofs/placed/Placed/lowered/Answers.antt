@@ -8,7 +8,7 @@ use Rattle.tsp_bound.proofs.Lowest.{ArePlaces, AreLowered, lowest_kept, lowest_t
 use Rattle.tsp_bound.proofs.placed.Placed.lowered.Goals as goal
 use Rattle.tsp_bound.proofs.placed.Placed.lowered.Goals.{in-Some+then-weight-best, in-Some+else-weight-best, in_default}
 
--- plan: by the branches of the code: the lower weight is taken (`lowest_taken`), or the best is kept (`lowest_kept`)
+-- plan: by whether a listed node is outside and lighter: it is the new best (`lowest_taken`), or isn't (`lowest_kept`)
 pub lowered-preserved : goal.lowered-preserved
 lowered-preserved g c =
     let s = c.args.self.now in

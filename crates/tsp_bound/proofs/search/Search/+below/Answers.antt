@@ -1,4 +1,4 @@
--- The goals of `Search::+below` in src/search.rt: what it ensures.
+-- The goals of `Search::below` in src/search.rt, which calls itself: what it ensures.
 use Rattle.std.proofs.Common.{ℕ, ◌+◌, ◌*◌, Option, arith, rules, w64, SFits}
 use Rattle.tsp_format.specs.Nodes.{IsNode}
 use Rattle.tsp_bound.specs.declared.area.Area.{Area}

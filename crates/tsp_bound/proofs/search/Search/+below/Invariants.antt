@@ -1,4 +1,4 @@
--- The loop of `Search::+below` in src/search.rt.
+-- The measure by which `Search::below` in src/search.rt, which calls itself, ends.
 use Rattle.std.proofs.Common.{◌-◌, ◌*◌, length}
 use Rattle.tsp_bound.proofs.search.Search.+below.Given as goal
 

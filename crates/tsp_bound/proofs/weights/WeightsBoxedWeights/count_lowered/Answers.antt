@@ -1,4 +1,4 @@
--- The goals of `WeightsBoxedWeights::count_lowered` in src/weights.rt: what it ensures.
+-- The goals of `count_lowered` in src/weights.rt, of the trait `BoxedWeights` for `Weights`: what it ensures.
 use Rattle.std.proofs.Common.{◌≢◌, ◌<◌, ℕ, List, ℤ, length, map, arith, sym, subst}
 use Rattle.std.proofs.lemmas.Int.{ints}
 use Rattle.tsp_bound.specs.states.NodeNumbers.{node_in}

@@ -1,4 +1,5 @@
--- The goals of `WeightsBoxedWeights::lowered` in src/weights.rt: that no sum overflows and what it ensures.
+-- The goals of `lowered` in src/weights.rt, of the trait `BoxedWeights` for `Weights`: that no sum overflows and what
+-- it ensures.
 use Rattle.std.proofs.Common.{◌<◌, ℕ, List, ℤ, length, get_or, arith, ap, sym, ◌∙◌}
 use Rattle.std.specs.Int.{w64}
 use Rattle.std.specs.Prelude.{pos}

@@ -1,4 +1,4 @@
--- The goals of `WeightsWeights::fill` in src/weights.rt: what it ensures.
+-- The goals of `fill` in src/weights.rt, of the trait `Weights` of tsp_tree for `Weights`: what it ensures.
 use Rattle.std.proofs.Common.{◌≡◌, ℕ, arith}
 use Rattle.std.specs.Prelude.{◌<ℤ◌}
 use Rattle.std.proofs.lemmas.Int.{ints}

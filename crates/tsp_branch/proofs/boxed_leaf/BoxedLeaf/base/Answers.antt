@@ -8,7 +8,8 @@ use Rattle.tsp_theory.proofs.Weights.{between_size}
 use Rattle.tsp_theory.proofs.Sizes.{product_fits, product_is, scaled_size}
 use Rattle.tsp_branch.proofs.boxed_leaf.BoxedLeaf.base.Goals as goal
 
--- plan: the product and the sum fit 64 bits (`product_fits`, `between_size`)
+-- plan: the product of scale and cost fits 64 bits (`product_fits`), and so does the sum with both numbers
+-- (`between_size`)
 pub overflow_add-both : goal.overflow_add-both
 overflow_add-both g c =
     let p = c.args.self.now in

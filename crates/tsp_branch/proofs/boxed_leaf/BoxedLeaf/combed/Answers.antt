@@ -34,7 +34,7 @@ shared_by-shared-requires g c = λ k d lt.
     let own = (subst (All (IsPlaceIn families)) (sym places_are) (places_inside families c.args.from)) k d lt in
     omega (arith, own.0, (q.numbers.each_comb ∙ q.setting.now.families.now.as_many), q.setting.now.families.now.many, q.setting.now.families.now.as_many)
 
--- plan: the sum in 64 bits of what is there and of what the sets of both nodes add (`boxed_at`)
+-- plan: the base with the multipliers of the sets that have both nodes is the weight by sets (`boxed_at`), in 64 bits
 pub returns : goal.returns
 returns g c =
     let p = c.args.self.now in

@@ -3,7 +3,7 @@ use Rattle.std.proofs.Common.{arith}
 use Rattle.std.proofs.lemmas.Int.{ints}
 use Rattle.tsp_branch.proofs.boxed_leaf.BoxedLeaf.decided.Goals as goal
 
--- plan: the three parts fit 64 bits, so the sum is that of the leaf
+-- plan: the base, what the sets add and what the decisions add fit 64 bits, so their sum is the weight in the leaf
 pub overflow_add-result : goal.overflow_add-result
 overflow_add-result g c =
     let a = c.combed-combed.ensures.size in

@@ -1,4 +1,4 @@
--- The goals of `BoxedLeafBoxedWeights::count_lowered` in src/boxed_leaf.rt: what it ensures.
+-- The goals of `count_lowered` in src/boxed_leaf.rt, of the trait `BoxedWeights` for `BoxedLeaf`: what it ensures.
 use Rattle.std.proofs.Common.{◌≡◌, ◌∙◌, Bool, List, length, ap, sym, subst}
 use Rattle.std.specs.List.{filter}
 use Rattle.std.proofs.lemmas.List.{length-map}

@@ -1,4 +1,4 @@
--- The goals of `BoxedLeafBoxedWeights::is_beyond` in src/boxed_leaf.rt: what it ensures.
+-- The goals of `is_beyond` in src/boxed_leaf.rt, of the trait `BoxedWeights` for `BoxedLeaf`: what it ensures.
 use Rattle.std.proofs.Common.{◌∙◌, refl}
 use Rattle.tsp_theory.specs.states.Nearest.{least_at}
 use Rattle.tsp_cases.specs.states.Lent.{lent_in}

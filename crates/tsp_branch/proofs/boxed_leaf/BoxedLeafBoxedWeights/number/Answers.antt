@@ -1,4 +1,4 @@
--- The goals of `BoxedLeafBoxedWeights::number` in src/boxed_leaf.rt: what it ensures.
+-- The goals of `number` in src/boxed_leaf.rt, of the trait `BoxedWeights` for `BoxedLeaf`: what it ensures.
 use Rattle.std.proofs.Common.{◌≡◌, ◌∙◌, ℤ, sym, subst, rules, to_z, of_z, FitsSigned}
 use Rattle.std.specs.Int.{w64}
 use Rattle.std.specs.Prelude.{pos, neg_ℤ}

@@ -1,4 +1,4 @@
--- The goals of `BoxedLeafBoxedWeights::weight` in src/boxed_leaf.rt: what it ensures.
+-- The goals of `weight` in src/boxed_leaf.rt, of the trait `BoxedWeights` for `BoxedLeaf`: what it ensures.
 use Rattle.std.proofs.Common.{◌∙◌, sym, rules, FitsSigned}
 use Rattle.std.specs.Int.{w64}
 use Rattle.std.proofs.lemmas.Int.{to_z-of_z}

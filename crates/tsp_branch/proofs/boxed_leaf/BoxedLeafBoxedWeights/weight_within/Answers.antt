@@ -1,4 +1,4 @@
--- The goals of `BoxedLeafBoxedWeights::weight_within` in src/boxed_leaf.rt: what it ensures.
+-- The goals of `weight_within` in src/boxed_leaf.rt, of the trait `BoxedWeights` for `BoxedLeaf`: what it ensures.
 use Rattle.std.proofs.Common.{◌≡◌, ◌∙◌, ℤ, List, ◌≤ℤ◌, ◌<ℤ◌, ap, sym, subst, arith, rules, to_z, of_z, FitsSigned}
 use Rattle.std.specs.Int.{w64}
 use Rattle.std.specs.Prelude.{pos, ◌+ℤ◌}
@@ -15,7 +15,8 @@ use Rattle.tsp_cases.proofs.CaseWeights.{small_multipliers}
 use Rattle.tsp_branch.proofs.BoxedValues.{base_below, upwards_less, upwards_same}
 use Rattle.tsp_branch.proofs.boxed_leaf.BoxedLeafBoxedWeights.weight_within.Goals as goal
 
--- plan: by the base, the sets and the decisions: each only adds to it (`base_below`), so the first over the most ends it
+-- plan: the base is at most the weight without lowerings (`base_below`), as sets and decisions only add. So a sum that
+-- is above the most may end early
 pub returns-then-base-most-clause-no_less : goal.returns-then-base-most-clause-no_less
 returns-then-base-most-clause-no_less g c = λ above.
     let p = c.args.self.now in

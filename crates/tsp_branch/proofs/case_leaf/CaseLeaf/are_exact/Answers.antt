@@ -37,7 +37,8 @@ are_few-requires g c = λ k d lt.
     let own = (subst (All (IsPlaceIn families)) (sym places_are) (places_inside families c.nodes.node)) k d lt in
     omega (arith, own.0, (q.numbers.each_comb ∙ q.setting.now.families.now.as_many), q.setting.now.families.now.many, q.setting.now.families.now.as_many)
 
--- plan: of the node itself the sum is small, so that what is left in 64 bits is the whole number
+-- plan: the multipliers at a node are few, so its potential less these fits 64 bits, and the wrapped number is the
+-- exact one
 pub nodes-preserved : goal.nodes-preserved
 nodes-preserved g c = λ x low below. elim (cases_eq x c.nodes.node) [
   | inl same ↦

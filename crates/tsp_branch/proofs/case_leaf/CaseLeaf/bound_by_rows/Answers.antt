@@ -37,7 +37,8 @@ invariant_of-sum g c =
           (omega (arith, ints, size.0), omega (arith, ints, size.1));
     }
 
--- plan: the rows have the leaf's weights (`row_weight`), so their sum is its bound (`found_by_rows`)
+-- plan: the weights in the rows are those of the leaf (`row_weight`), so the sum of their least links is its bound
+-- (`found_by_rows`)
 pub returns-clause-bound : goal.returns-clause-bound
 returns-clause-bound g c =
     let leaf = c.args.self.now in

@@ -13,7 +13,8 @@ use Rattle.tsp_cases.specs.states.Combed.{multipliers_at}
 use Rattle.tsp_cases.proofs.SetAlgebra.{apart_is}
 use Rattle.tsp_branch.proofs.case_leaf.CaseLeaf.fill_apart.Goals as goal
 
--- plan: `apart_is`: the sum in 64 bits is the weight apart; `between_size` for its size
+-- plan: scaled cost and both numbers, wrapped to 64 bits, are the weight without sets of two nodes (`apart_is`); it
+-- fits (`between_size`)
 pub returns : goal.returns
 returns g c = record {
   values = λ x x_in.

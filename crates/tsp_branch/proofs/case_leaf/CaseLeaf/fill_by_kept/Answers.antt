@@ -20,7 +20,8 @@ use Rattle.tsp_branch.specs.states.Shared.{decided_by}
 use Rattle.tsp_branch.proofs.DecidedLeaves.{marked_is}
 use Rattle.tsp_branch.proofs.case_leaf.CaseLeaf.fill_by_kept.Goals as goal
 
--- plan: the kept row is written shifted; `marked_at` gives what is left of each entry, and `marked_is` the weight
+-- plan: the row kept from leaf to leaf plus both numbers is the weight with marks (`marked_at`), which is the one with
+-- the case's decisions (`marked_is`)
 pub returns : goal.returns
 returns g c =
     let q = c.args.self.now in

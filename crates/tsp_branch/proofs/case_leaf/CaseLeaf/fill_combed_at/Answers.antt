@@ -31,7 +31,8 @@ add_sets-requires-clause-places g c =
     let places_are : c.deref.result.now ≡ places_with 0 families c.args.from = c.deref.ensures.value ∙ p.setting.now.table.said c.args.from c.index-self-from.result c.requires.from.1 in
     subst (All (IsPlaceIn families)) (sym places_are) (places_inside families c.args.from)
 
--- plan: the entries without sets, less what the sets of the node take (`combed_at`)
+-- plan: the entries without sets of two nodes, moved by the multipliers of the sets that have both, are those by sets
+-- (`combed_at`)
 pub returns : goal.returns
 returns g c =
     let p = c.args.self.now in

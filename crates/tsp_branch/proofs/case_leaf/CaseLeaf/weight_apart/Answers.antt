@@ -16,7 +16,8 @@ use Rattle.tsp_branch.proofs.case_leaf.CaseLeaf.weight_apart.Goals as goal
 pub overflow_mul-self : goal.overflow_mul-self
 overflow_mul-self g c = product_fits c.args.self.now.setting.now.cases.now.scale c.cost.result c.args.self.now.setting.now.cases.now.scaled c.cost.ensures.low c.cost.ensures.high
 
--- plan: `product_is` for the product, `apart_is` for the sum in 64 bits, `between_size` for its size
+-- plan: the scaled cost fits 64 bits (`product_is`). Its wrapped sum with both numbers is the weight without sets of
+-- two nodes (`apart_is`), which fits (`between_size`)
 pub returns : goal.returns
 returns g c =
     let p = c.args.self.now in

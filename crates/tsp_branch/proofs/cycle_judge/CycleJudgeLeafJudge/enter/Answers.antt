@@ -1,9 +1,9 @@
--- The goals of `enter` in src/cycle_judge.rt: what it ensures.
+-- The goals of `enter` in src/cycle_judge.rt, of the trait `LeafJudge` for `CycleJudge`: what it ensures.
 use Rattle.std.proofs.Common.{ℕ, length}
 use Rattle.tsp_cases.specs.states.Lent.{lent_in}
 use Rattle.tsp_branch.proofs.cycle_judge.CycleJudgeLeafJudge.enter.Goals as goal
 
--- plan: the numbers are as they were, and the rows have one decision more, by the clause of the call
+-- plan: the numbers of the leaf don't change, and the kept rows get the mark of the new decision, as the call ensures
 pub returns : goal.returns
 returns g c = λ case is.
     let s = c.args.self.now.setting.now in (

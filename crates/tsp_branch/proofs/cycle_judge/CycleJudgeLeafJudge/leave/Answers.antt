@@ -1,9 +1,9 @@
--- The goals of `leave` in src/cycle_judge.rt: what it ensures.
+-- The goals of `leave` in src/cycle_judge.rt, of the trait `LeafJudge` for `CycleJudge`: what it ensures.
 use Rattle.std.proofs.Common.{ℕ, length}
 use Rattle.tsp_cases.specs.states.Lent.{lent_in}
 use Rattle.tsp_branch.proofs.cycle_judge.CycleJudgeLeafJudge.leave.Goals as goal
 
--- plan: the numbers are as they were, and the rows are those of the next case, by the clause of the call
+-- plan: the numbers of the leaf don't change, and the kept rows get the marks of the next case, as the call ensures
 pub returns : goal.returns
 returns g c = λ given is_open next is pairs turned.
     let s = c.args.self.now.setting.now in (

@@ -1,4 +1,4 @@
--- The goals of `CaseLeafGrowing::grow` in src/leaf_rows.rt: what it ensures.
+-- The goals of `grow` in src/leaf_rows.rt, of the trait `Growing` for `CaseLeaf`: what it ensures.
 use Rattle.std.proofs.Common.{arith, ℕ, ℤ}
 use Rattle.std.proofs.lemmas.Result.{IfOk-weaker}
 use Rattle.tsp_theory.proofs.Forests.{growth_is_forest}
@@ -9,7 +9,7 @@ use Rattle.tsp_branch.specs.states.Shared.{decided_by}
 use Rattle.tsp_tree.specs.declared.growth.Grown.{Grown}
 use Rattle.tsp_branch.proofs.leaf_rows.CaseLeafGrowing.grow.Goals as goal
 
--- plan: the tree that grows is a forest of least joins (`growth_is_forest`)
+-- plan: the tree that grows by Prim's method is a forest of least joins over all nodes (`growth_is_forest`)
 pub returns-clause-whole : goal.returns-clause-whole
 returns-clause-whole g c =
     let leaf = c.args.self.now in

@@ -1,4 +1,5 @@
--- The goals of `CaseLeafWeights::fill` in src/leaf_rows.rt: what its calls require and what it ensures.
+-- The goals of `fill` in src/leaf_rows.rt, of the trait `Weights` for `CaseLeaf`: what its calls require and what it
+-- ensures.
 use Rattle.std.proofs.Common.{◌≡◌, ◌∙◌, ℕ, ℤ, Bool, List, arith, subst}
 use Rattle.std.specs.List.{filter}
 use Rattle.std.proofs.lemmas.Int.{ints}
@@ -25,7 +26,7 @@ returns-then-not-is_empty g c = record {
   small = λ x h. let size = c.fill_by_kept.ensures.sizes x h in omega (arith, ints, size.1);
 }
 
--- plan: each entry has moved by the decisions at its node (`changed_is`)
+-- plan: where pairs have no direction, each entry of the row is moved by the decisions at its node (`changed_is`)
 pub returns-then-not-self-clause-values : goal.returns-then-not-self-clause-values
 returns-then-not-self-clause-values g c = λ x h.
     let q = c.args.self.now in

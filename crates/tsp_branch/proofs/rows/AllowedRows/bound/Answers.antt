@@ -8,7 +8,7 @@ use Rattle.tsp_theory.proofs.Sizes.{same_scale}
 use Rattle.tsp_branch.proofs.Sums.{with_back}
 use Rattle.tsp_branch.proofs.rows.AllowedRows.bound.Goals as goal
 
--- plan: the least links with the number that is given back, rounded up (`with_back`)
+-- plan: the sum of the least links plus the number given back fits 128 bits (`with_back`), and is rounded up
 pub returns-clause-bound : goal.returns-clause-bound
 returns-clause-bound g c =
     let sum : ℤ = c.in_ok-least.least in

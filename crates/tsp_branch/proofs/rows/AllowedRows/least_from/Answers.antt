@@ -10,7 +10,8 @@ use Rattle.tsp_cases.specs.states.OpenCases.{bears_on, decisions_in}
 use Rattle.tsp_branch.proofs.OpenRows.{ends_inside, none_allowed, least_allowed}
 use Rattle.tsp_branch.proofs.rows.AllowedRows.least_from.Goals as goal
 
--- plan: after closing, the row has the allowed links: none (`none_allowed`), or the least of them (`least_allowed`)
+-- plan: the open links of the row are the allowed ones: there is none (`none_allowed`), or the least of them
+-- (`least_allowed`)
 pub close_row-requires-clause-own : goal.close_row-requires-clause-own
 close_row-requires-clause-own g c =
     ends_inside (g.W.Weights.nodes c.args.self.now.weights.now) _ (bears_on c.args.self.now.case.now.by_node.directed c.args.from) (decisions_in c.args.self.now.case.now) c.at.result.now

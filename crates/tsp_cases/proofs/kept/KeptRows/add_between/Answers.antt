@@ -9,7 +9,8 @@ use Rattle.tsp_cases.specs.states.Kept.{IsAddedAt}
 use Rattle.tsp_cases.proofs.MarkedRows.{rows_marked, some_left}
 use Rattle.tsp_cases.proofs.kept.KeptRows.add_between.Goals as goal
 
--- plan: the number is added in both rows of the pair (`rows_marked`), or nowhere
+-- plan: by whether rows are kept: the number is added in the rows of both nodes of the pair (`rows_marked`), or nothing
+-- changes
 pub returns-then-is_empty : goal.returns-then-is_empty
 returns-then-is_empty c = λ n combs scale families cost marks held pair.
     let none = eqb-true _ 0 (sym c.is_empty.ensures ∙ c.if-is_empty.true) in

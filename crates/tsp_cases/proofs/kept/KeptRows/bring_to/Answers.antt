@@ -42,7 +42,8 @@ invariant_of-changed c =
       small = subst AreSmallDifferences (sym differences_are) c.write_differences.ensures.small;
     }
 
--- plan: the differences are added to the rows (`rows_brought`) and to the ends (`ends_brought`), as the new ones want
+-- plan: by whether the multipliers are other ones: their differences are added to the rows (`rows_brought`) and to the
+-- ends (`ends_brought`), which are linear in the multipliers
 pub returns-clause-kept : goal.returns-clause-kept
 returns-clause-kept c = λ n scale cost marks kept table.
     let old : List ℤ = c.args.self.now.multipliers.items in

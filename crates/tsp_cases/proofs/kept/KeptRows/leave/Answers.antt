@@ -71,7 +71,8 @@ mark-requires c =
       pairs.0,
     )
 
--- plan: the stack up to here has one decision more (`stack_to`), which is avoided in what is next (`turned_next`)
+-- plan: the marks of the topmost decisions are taken off one by one (`stack_to`), up to the last taken pair, which is
+-- marked as avoided (`turned_next`)
 pub returns-then-last : goal.returns-then-last
 returns-then-last c = λ n combs scale families cost given is_open next held all is.
     let st = c.leave in

@@ -6,7 +6,8 @@ use Rattle.tsp_cases.specs.states.Decided.{marks_in}
 use Rattle.tsp_cases.proofs.MarkedRows.{same_marks, decision_more, directed_same}
 use Rattle.tsp_cases.proofs.kept.KeptRows.mark.Goals as goal
 
--- plan: one decision more is one number more in the rows (`decision_more`); of arcs none is (`directed_same`)
+-- plan: by whether pairs have a direction: nothing is marked (`directed_same`), or the number of the decision is added
+-- between its nodes (`decision_more`)
 pub add_between-requires : goal.add_between-requires
 add_between-requires c =
     let r = c.requires in

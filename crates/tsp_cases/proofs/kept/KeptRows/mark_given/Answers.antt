@@ -6,7 +6,7 @@ use Rattle.tsp_cases.specs.states.Decided.{IsDecision, marks_in}
 use Rattle.tsp_cases.specs.states.Kept.{HoldsRows}
 use Rattle.tsp_cases.proofs.kept.KeptRows.mark_given.Goals as goal
 
--- plan: one given pair more is one decision more (by `mark`)
+-- plan: from the last given decision on, each one more is marked, as the call of `mark` ensures
 pub given-init : goal.given-init
 given-init c =
     let given : List Decision = c.args.cases.now.given.now in

@@ -7,7 +7,8 @@ use Rattle.tsp_cases.specs.states.Kept.{HoldsRows}
 use Rattle.tsp_cases.proofs.MarkedRows.{held_at_start}
 use Rattle.tsp_cases.proofs.kept.KeptRows.new.Goals as goal
 
--- plan: at the beginning the rows are those of the first case (`held_at_start`)
+-- plan: all multipliers are 0, so a row has its scaled costs alone (`held_at_start`), to which the given decisions are
+-- marked
 pub mark_given-requires : goal.mark_given-requires
 mark_given-requires g c =
     let s = c.args.setting.now in

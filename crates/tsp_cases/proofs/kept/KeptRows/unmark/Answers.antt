@@ -12,7 +12,7 @@ add_between-requires c =
     let r = c.requires in
     (r.0, r.1, r.2, r.3, r.4, marks_in false (c.args.decision ∷ r.5), r.6, r.7)
 
--- plan: one decision less is one number less in the rows (`decision_less`)
+-- plan: the negative number of the decision is added between its nodes, which takes its mark off (`decision_less`)
 pub returns : goal.returns
 returns c = λ n combs scale families cost case held pair.
     let own = c.number_of.ensures in

@@ -7,7 +7,7 @@ use Rattle.tsp_cases.specs.states.OpenCases.{decisions_in}
 use Rattle.tsp_cases.proofs.OpenCases.{decided_at}
 use Rattle.tsp_cases.proofs.open_case.OpenCase.decides.Goals as goal
 
--- plan: the decisions on the first node have the pair, or no decision has (`decided_at`)
+-- plan: a decision on the pair is in the list of its first node, so that list says whether there is one (`decided_at`)
 pub at-own-requires : goal.at-own-requires
 at-own-requires c = omega (arith, c.requires.1.by_node.places, c.requires.2)
 

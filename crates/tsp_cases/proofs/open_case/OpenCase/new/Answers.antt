@@ -13,7 +13,8 @@ add-requires c =
     let long = st.invariant.by_node.places in
     (omega (arith, pair.0.1, long), omega (arith, pair.1.1, long), pair.2)
 
--- plan: the given decisions from `left` on are one more at the beginning (`drop-cons`), which `add` puts before the others
+-- plan: the given decisions are added from the last to the first, so one more is at the beginning of those added
+-- (`drop-cons`)
 pub given-preserved : goal.given-preserved
 given-preserved c =
     let st = c.given in

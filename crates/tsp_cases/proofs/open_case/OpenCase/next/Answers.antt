@@ -10,7 +10,7 @@ use Rattle.tsp_cases.proofs.NextCases.{next_avoided}
 use Rattle.tsp_cases.proofs.OpenCases.{one_above, case_less, case_more, case_same, first_pair}
 use Rattle.tsp_cases.proofs.open_case.OpenCase.next.Goals as goal
 
--- plan: the last taken pair becomes avoided (`next_avoided`), after those above it are dropped (`case_less`)
+-- plan: the avoided pairs above are dropped (`case_less`), and the topmost taken pair becomes avoided (`next_avoided`)
 pub drop_last-requires : goal.drop_last-requires
 drop_last-requires c =
     let old = c.leave.self in

@@ -4,7 +4,7 @@ use Rattle.tsp_cases.specs.states.OpenCases.{decisions_in}
 use Rattle.tsp_cases.proofs.OpenCases.{case_more}
 use Rattle.tsp_cases.proofs.open_case.OpenCase.take.Goals as goal
 
--- plan: one decision more is on top (`case_more`)
+-- plan: the new decision is on top of the stack, and in the lists of its nodes (`case_more`)
 pub add-requires : goal.add-requires
 add-requires c =
     let long = c.requires.case.1.by_node.places in

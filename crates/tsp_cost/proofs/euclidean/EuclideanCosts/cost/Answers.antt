@@ -1,4 +1,4 @@
--- The goals of `EuclideanCosts::cost` in src/euclidean.rt: what it ensures.
+-- The goals of `cost` in src/euclidean.rt, of the trait `Costs` for `Euclidean`: what it ensures.
 use Rattle.std.proofs.Common.{ℕ, ℤ, ap, ◌∙◌, rules, w64, SFits}
 use Rattle.std.proofs.lemmas.Int.{to_z-of_z}
 use Rattle.tsp_cost.proofs.euclidean.EuclideanCosts.cost.Goals as goal

@@ -1,4 +1,4 @@
--- The goals of `TriangleCosts::cost` in src/triangle.rt: what it ensures.
+-- The goals of `cost` in src/triangle.rt, of the trait `Costs` for `Triangle`: what it ensures.
 use Rattle.std.proofs.Common.{◌≡◌, ◌<◌, ℕ, length, false, ap, sym, ◌∙◌, arith}
 use Rattle.std.specs.Prelude.{pos, slice_index_or}
 use Rattle.tsp_format.specs.Cells.{is_listed}

@@ -4,7 +4,7 @@ use Rattle.tsp_read.proofs.Propagated.{propagated}
 use Rattle.tsp_judge.proofs.Openings.{unopened}
 use Rattle.tsp_judge.proofs.opened.Opened.of.Goals as goal
 
--- plan: by the lemmas `propagated` and `unopened`
+-- plan: the error is the fault of the text (`propagated`), which is no file (`unopened`)
 pub returns-in_err-file : goal.returns-in_err-file
 returns-in_err-file c =
     let same : c.from_residual.result ≡ Err c.in_err-file.field-0.0 = propagated _ _ c.from_residual.ensures.1 in

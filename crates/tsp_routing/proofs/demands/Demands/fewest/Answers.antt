@@ -5,7 +5,7 @@ use Rattle.std.proofs.lemmas.Int.{to_z-of_z}
 use Rattle.tsp_theory.specs.Routing.{IsLeastRoutes}
 use Rattle.tsp_routing.proofs.demands.Demands.fewest.Goals as goal
 
--- plan: what carries the demand of all customers, as it is counted
+-- plan: the least routes that carry the sum of all demands, which fits 64 bits, counted up to 100,000
 pub returns-clause-fewest : goal.returns-clause-fewest
 returns-clause-fewest c = λ cost. record {
   least = c.routes_of.result;

@@ -3,7 +3,8 @@ use Rattle.tsp_routing.specs.states.Demands.{loads_problem}
 use Rattle.tsp_routing.proofs.CutNeeds.{cut_of}
 use Rattle.tsp_routing.proofs.demands.Demands.need.Goals as goal
 
--- plan: by the lemma `cut_of`
+-- plan: the demand of the customers is that of the nodes in the cut, so its least routes are the need of the cut
+-- (`cut_of`)
 pub returns-clause-cut : goal.returns-clause-cut
 returns-clause-cut c = λ cost.
     cut_of (loads_problem c.args.self.now cost) c.args.customers.now c.least_routes.result c.counted.result c.requires.customers

@@ -13,7 +13,8 @@ use Rattle.tsp_cases.specs.states.Combed.{multipliers_at}
 use Rattle.tsp_cases.proofs.SetAlgebra.{apart_is}
 use Rattle.tsp_routing.proofs.leaf_weights.LeafWeights.fill_apart.Goals as goal
 
--- plan: `apart_is`: the sum in 64 bits is the weight apart; `between_size` for its size
+-- plan: the sum in 64 bits is the weight without the sets that have both nodes (`apart_is`); its size by the limits
+-- (`between_size`)
 pub returns : goal.returns
 returns g c = record {
   values = λ x x_in.

@@ -4,7 +4,7 @@ use Rattle.tsp_section.specs.declared.part.Part.TheVariants as parts
 use Rattle.tsp_section.proofs.PartSteps as steps
 use Rattle.tsp_section.proofs.part.Part.push.Goals as goal
 
--- plan: by the section: the clause of its own list's `push`, carried to the part by `steps`
+-- plan: by the section: the part takes or refuses the word as `push` of the section's list does (`steps`)
 pub returns-in-Numbers-clause-takes : goal.returns-in-Numbers-clause-takes
 returns-in-Numbers-clause-takes c = λ n words h.
     steps.numbers c.args.self.now c.in-Numbers.part c.push.new.self n words c.args.word.now

@@ -2,7 +2,7 @@
 use Rattle.tsp_read.proofs.RunSteps.{opened_run}
 use Rattle.tsp_read.proofs.state.reading.Reading.take_run.Goals as goal
 
--- plan: by the lemma `opened_run`
+-- plan: the part that takes the run is that of the open section (`opened_run`)
 pub returns-in-Some-clause-read : goal.returns-in-Some-clause-read
 returns-in-Some-clause-read c = λ bytes h.
     let s = c.args.self.now in

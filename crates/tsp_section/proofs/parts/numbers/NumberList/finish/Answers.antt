@@ -4,7 +4,8 @@ use Rattle.tsp_text.specs.WordPlaces.{Amount}
 use Rattle.tsp_section.proofs.GroupSteps as groups
 use Rattle.tsp_section.proofs.parts.numbers.NumberList.finish.Goals as goal
 
--- plan: by the lemmas `finish` and `to_come`
+-- plan: each group has set the entry of its node (`finish`); words are wanted exactly where groups are left to come
+-- (`to_come`)
 pub returns : goal.returns
 returns c = λ low high n words h.
     (groups.finish (Amount low high) h.read, groups.to_come (Amount low high) h.read refl)

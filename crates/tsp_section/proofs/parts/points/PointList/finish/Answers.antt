@@ -3,7 +3,8 @@ use Rattle.tsp_draft.specs.states.Drafts.{points_of}
 use Rattle.tsp_section.proofs.CoordSteps.{all_taken}
 use Rattle.tsp_section.proofs.parts.points.PointList.finish.Goals as goal
 
--- plan: by the lemma `all_taken`
+-- plan: in the plane and in space: each group has set its point, and words are wanted where groups are left to come
+-- (`all_taken`)
 pub returns : goal.returns
 returns c = λ in_space n words h.
     let s = c.args.self in

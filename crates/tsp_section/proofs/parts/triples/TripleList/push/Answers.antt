@@ -4,7 +4,7 @@ use Rattle.tsp_section.proofs.ListSteps.{past_end}
 use Rattle.tsp_section.proofs.TripleSteps.{triple_places}
 use Rattle.tsp_section.proofs.parts.triples.TripleList.push.Goals as goal
 
--- plan: by the lemma `past_end`
+-- plan: after the -1 that ends the list another -1 changes nothing (`past_end`)
 pub returns-then-is_minus_one-clause-takes : goal.returns-then-is_minus_one-clause-takes
 returns-then-is_minus_one-clause-takes c = λ n words h.
     let next = past_end (triple_places n) h.read c.args.word.now c.if-self.true (sym c.is_minus_one.ensures ∙ c.if-is_minus_one.true) in
