@@ -1,6 +1,6 @@
-//! Families with a number for each: multipliers, or their differences from those of the leaf before.
-//! `src/moved.rt` and `src/row_sets.rt` add them to rows of a leaf. Made in `src/kept.rt`, and in
-//! tsp_branch and tsp_routing.
+//! Families with a number for each: multipliers, or their differences from those of the leaf
+//! before. `src/moved.rt` and `src/row_sets.rt` add them to rows. Made in `src/kept.rt`, tsp_branch
+//! and tsp_routing.
 
 ghost use Rattle.std.specs.Prelude.{◌≡◌, length};
 ghost use Rattle.tsp_cases.specs.states.Combed.{AreSmallDifferences};
