@@ -1,5 +1,5 @@
 #!/bin/sh
-# Puts the files of this folder under a prefix: bin, lib, include and share.
+# Puts the files of an unpacked release, beside which it is, under a prefix: bin, lib, include and share.
 #
 # usage: ./install.sh PREFIX [--as NAME]
 #

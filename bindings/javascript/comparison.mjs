@@ -1,4 +1,5 @@
-// Many solutions of one instance, beside each other.
+// `Comparison`, the result of the call `compare`: a report or an error of each solution of one instance, and its table.
+// Imported by yokecairn.mjs alone.
 
 import { Fault, SolutionError } from "./errors.mjs";
 import { Status, Verdict } from "./library.mjs";

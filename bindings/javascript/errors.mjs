@@ -1,4 +1,5 @@
-// What the calls of the package throw.
+// The errors that the calls of the package for Node throw. Imported by yokecairn.mjs, comparison.mjs and
+// ../node/many.mjs.
 
 /** All that the calls throw, but a TypeError or RangeError of an argument and what a file's reading throws. */
 export class YokecairnError extends Error {

@@ -1,4 +1,5 @@
-// Many solutions of one instance: the instance and its certificate are read once.
+// `Judge`: reads an instance and its certificate once, and judges many solutions, by a handle of the library. For
+// `compare` of yokecairn.mjs, and for several tours on the page (../web/page/run.mjs).
 
 import { By } from "./library.mjs";
 

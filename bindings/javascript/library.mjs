@@ -1,5 +1,6 @@
 // The calls of libtsp in a WebAssembly module: texts in, texts and numbers out. No other module knows its
-// memory. bindings/c/tsp.h says what each call does.
+// memory. bindings/c/tsp.h says what each call does. For the package for Node (yokecairn.mjs) and the page for the
+// browser (../web/page). It imports nothing.
 
 /** How a call ends. */
 export const Status = Object.freeze({ YES: 0, NO: 1, FAULT: 2, OUT_OF_MEMORY: 3, REFUSED: 4, TOO_SMALL: 6 });

@@ -1,4 +1,5 @@
-// Exact decimals of numbers as JavaScript writes them, in the fewest digits: 0.1 is 0.1.
+// Exact decimals of numbers as JavaScript writes them, in the fewest digits: 0.1 is 0.1. For the coordinates and
+// weights of `Problem.fromPoints` and `fromMatrix` in yokecairn.mjs. It imports nothing.
 
 /** @typedef {{ count: bigint, places: number }} Decimal count times 10^-places */
 

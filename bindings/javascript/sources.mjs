@@ -1,4 +1,5 @@
-// The texts of what a call is given: files by their paths, bytes, texts, problems, lists of nodes.
+// The texts of the arguments of a call: files by their paths, bytes, texts, problems, lists of nodes. For yokecairn.mjs.
+// ../node/index.mjs and ../node/browser.mjs fill in `system`, which reads files and has the module.
 
 import { By } from "./library.mjs";
 

@@ -1,5 +1,5 @@
-// The calls of the package, as node/index.d.mts declares them. The module of the library and the reading of files come
-// from node/index.mjs or node/browser.mjs.
+// The calls of the package for Node, as ../node/index.d.mts declares them. ../node/index.mjs and ../node/browser.mjs export
+// them, and give them the module of the library and the reading of files.
 
 import { Comparison, basisOf } from "./comparison.mjs";
 import { Fault, NodeError, OutOfMemory, SolutionError } from "./errors.mjs";

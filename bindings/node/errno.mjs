@@ -1,4 +1,5 @@
-// Linux's numbers of errors, which the program knows, and the C library's words for them.
+// Linux's numbers of errors, which the program knows, and the C library's words for them. For host.mjs. ./build puts both
+// into the command node/tsp.mjs.
 
 /** @type {Record<string, [number, string]>} */
 export const ERRORS = {

@@ -1,5 +1,6 @@
-// What the program asks of the system, by Node: files, streams, words, variables. All else that the program does is its
-// own code, in a WebAssembly module.
+// The calls of the system that the program makes, over Node: files, streams, words, variables. All else that the program
+// does is its proved code, in a WebAssembly module. ./build makes the command node/tsp.mjs of this file, errno.mjs and
+// the module. It imports Node's own modules and errno.mjs.
 
 import { closeSync, fstatSync, openSync, readSync, statSync, writeSync } from "node:fs";
 import { isatty } from "node:tty";

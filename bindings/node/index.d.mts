@@ -1,4 +1,5 @@
-// The calls of the package and their types. The modules of ../javascript have them; tests/same.mts compares both.
+// The types of the package for Node, for whoever calls it from TypeScript; package.json names this file. The calls are
+// in ../javascript, with types in their comments; tests/same.mts compares both.
 
 /** A path or a URL of a file (in Node), a text or its bytes, its bytes with what they are called, a problem. */
 export type Source = string | URL | Uint8Array | { readonly text: string } | { readonly bytes: Uint8Array; readonly path?: string };

@@ -1,4 +1,5 @@
-// The package for Node: files are read by their paths, and many checks run in workers.
+// The package for Node, as package.json names it: the calls of ../javascript/yokecairn.mjs, with files that are read by
+// their paths, and `checkMany`, which runs checks in workers. ./build writes module.mjs beside it.
 
 import { readFileSync } from "node:fs";
 

@@ -1,4 +1,5 @@
-// Many checks at once, in workers of Node.
+// The call `checkMany`: many checks at once, each by a worker of Node (worker.mjs). index.mjs exports it; browser.mjs has
+// one without workers.
 
 import { once } from "node:events";
 import { availableParallelism } from "node:os";

@@ -1,4 +1,4 @@
-// A worker of checkMany: each message is a job, and gets one answer.
+// A worker that many.mjs starts for `checkMany`: each message is a job, and gets one answer, a report or an error.
 
 import { parentPort } from "node:worker_threads";
 

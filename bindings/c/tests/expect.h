@@ -1,4 +1,4 @@
-/* What the tests count, and the texts that they share. */
+/* The checks that buffers.c and handles.c count, and the texts that both share. */
 #ifndef EXPECT_H
 #define EXPECT_H
 

@@ -1,4 +1,4 @@
-/* Files for the tests: each a pointer that is never NULL, and a length. */
+/* Files as texts for refused.c, threads.c and verbs.c: each a pointer that is never NULL, and a length. */
 #ifndef FILES_H
 #define FILES_H
 

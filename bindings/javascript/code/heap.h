@@ -1,5 +1,5 @@
-/* What the module's heap offers: to pair.ll, which the proved code calls, and to JavaScript, which puts texts
- * into the memory before a call. */
+/* The calls of heap.c, the heap of the WebAssembly module. ../../systems/pair.ll calls them for the proved code, and
+ * ../library.mjs for the texts of a call. */
 #ifndef HEAP_H
 #define HEAP_H
 

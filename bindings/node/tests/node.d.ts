@@ -1,4 +1,5 @@
-// Node's own modules and names, of any type: the declarations of Node itself aren't a package of Debian.
+// Node's own modules and names, of any type, for tsc in bindings/node/test: the declarations of Node itself aren't a
+// package of Debian.
 
 declare module "node:*";
 declare const Buffer: any;

@@ -1,7 +1,8 @@
 """Runs the tests of the package: YOKECAIRN_LIBRARY=PATH python3 bindings/python/tests [WORD..]
 
 With words only the modules run that have one of them in their name. The last line is 'N passed, M
-failed', over the tests and the rows of tables; the exit status is 0 where none failed, else 1.
+failed', over the tests and the rows of tables; the exit status is 0 where none failed, else 1. tests/libraries/python
+runs them, in the suite `bindings` of ./check.
 """
 
 import sys

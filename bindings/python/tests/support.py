@@ -1,4 +1,4 @@
-"""What several tests use."""
+"""What several tests of the package use: examples, distances by rule, and Pythons that have a module."""
 
 import functools
 import shutil

@@ -1,4 +1,5 @@
-"""Instances of points and matrices, graphs, dicts for JSON, and wrong types of arguments."""
+"""Instances that are made of points and matrices by `Problem.from_points` and its like, graphs, dicts for JSON, and arguments
+of wrong types."""
 
 import json
 import subprocess

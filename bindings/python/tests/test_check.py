@@ -1,4 +1,4 @@
-"""Verdicts of worked examples."""
+"""Reports of `check` and `bound` on worked examples: values, reasons, and how a report is printed and pickled."""
 
 import pickle
 import unittest

@@ -1,4 +1,4 @@
-"""The program's verbs: python -m yokecairn."""
+"""The command `python -m yokecairn`: verbs, options, streams and statuses, where they differ from those of the program."""
 
 import os
 import subprocess

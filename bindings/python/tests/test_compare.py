@@ -1,4 +1,4 @@
-"""Many solutions of one instance beside each other, by the call and by the command."""
+"""The call `compare` and the verb `compare`: many solutions of one instance beside each other."""
 
 import csv
 import io

@@ -1,4 +1,5 @@
-"""Several solvers on many instances: ranks, gaps, what isn't accepted, and each form of the table."""
+"""The call `table` and the verb `table`: several solvers on many instances, with ranks, gaps, what isn't accepted, and each
+form of the table."""
 
 import csv
 import io

@@ -1,4 +1,4 @@
-"""Faults: their classes, places, names and texts."""
+"""The exceptions of faulty files: their classes, places, names and texts."""
 
 import pickle
 import tempfile

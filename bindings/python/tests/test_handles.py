@@ -1,4 +1,5 @@
-"""Instances that are read once: what the library keeps of them, and results in numbers."""
+"""Handles of the library, over which an instance is read once for many solutions: what they free, threads, and results in
+numbers."""
 
 import gc
 import pickle

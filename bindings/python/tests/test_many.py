@@ -1,4 +1,4 @@
-"""Many checks at once."""
+"""The call `check_many`: many checks at once, over processes and threads."""
 
 import threading
 import unittest

@@ -1,4 +1,4 @@
-"""The notebook on potentials, whose cells run as a script."""
+"""The notebook examples/potentials.ipynb, whose cells run as a script."""
 
 import json
 import subprocess

@@ -1,4 +1,4 @@
-"""Pictures by matplotlib, where a Python has it."""
+"""The pictures of `Problem.plot` and `Comparison.plot`, where a Python has matplotlib."""
 
 import subprocess
 import tempfile

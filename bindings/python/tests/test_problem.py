@@ -1,4 +1,4 @@
-"""The fields of files, and how they are rendered."""
+"""`Problem`: the fields of a file as values, and how it is rendered."""
 
 import io
 import pickle

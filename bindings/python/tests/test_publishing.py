@@ -1,4 +1,4 @@
-"""Results in folders that can be published, and what their check says where something was changed."""
+"""The calls `publish` and `verify`: the folder of a result, and what its check says where something was changed."""
 
 import hashlib
 import shutil

@@ -1,4 +1,5 @@
-"""Solutions of other programs, and files of best-known lengths."""
+"""The calls `read_solution` and `best_known`: solutions in each form of tests/support/forms.json, and files of best-known
+lengths."""
 
 import json
 import pickle

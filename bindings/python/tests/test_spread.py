@@ -1,4 +1,4 @@
-"""The example that spreads checks over machines, over two processes of this one."""
+"""The example spread_checks.py, which spreads checks over machines, over two processes of this one, where Dask is installed."""
 
 import os
 import subprocess

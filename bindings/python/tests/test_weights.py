@@ -1,4 +1,4 @@
-"""Costs and lengths: worked examples, and random points beside the rules of docs/format.md."""
+"""Costs and lengths of `Problem`: worked examples, and random points beside the rules of docs/format.md."""
 
 import random
 import unittest

@@ -1,4 +1,5 @@
-"""Rows of numbers, as lists or numpy's arrays, as exact numbers."""
+"""Points, matrices and tours as lists or numpy's arrays, as exact numbers and as lines of a file. For `Problem.from_points`
+and its like in problem.py."""
 
 from decimal import ROUND_HALF_EVEN, Context, Decimal
 from math import isqrt

@@ -2,7 +2,7 @@
 
 The library answers whether a text is a file, and writes its canonical text (docs/format.md, "The
 canonical text"). That grammar is small: keyword lines, then sections of whole numbers and decimals in a
-fixed order. It is all that is parsed here.
+fixed order. It is all that is parsed here. For problem.py.
 """
 
 import re

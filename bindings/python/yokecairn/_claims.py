@@ -1,4 +1,5 @@
-"""Lengths as words, and the length that a solution claims of itself."""
+"""A length as the command line takes it, and the length that a solution claims of itself in a COMMENT. For the command line
+(_grammar.py) and for the readers of solutions (solution.py, _forms.py)."""
 
 import re
 from decimal import Decimal

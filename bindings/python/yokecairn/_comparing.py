@@ -1,4 +1,4 @@
-"""The verb `compare` of the command line: a line, a row or a part of JSON for each solution."""
+"""The verb `compare` of the command line (__main__.py): a line, a row or a part of JSON for each solution, by compare.py."""
 
 import io
 import json

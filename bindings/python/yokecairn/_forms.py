@@ -1,7 +1,9 @@
 """Solutions in the forms in which other programs write them, as texts of TYPE TOUR.
 
 The forms: Concorde's tour and its edges; CVRPLIB's routes; routes of OR-Tools; LKH-3's routes; a tour that R prints;
-lists and tables of nodes; JSON. Nothing here has to be trusted: the check judges the text that comes of it.
+lists and tables of nodes; JSON. Nothing here has to be trusted: the check judges the text that comes of it. For solution.py,
+report.py, compare.py and the command line. A change begins with a row of tests/support/forms.json, which other readers have to
+follow.
 """
 
 import json

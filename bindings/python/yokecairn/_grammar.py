@@ -1,4 +1,4 @@
-"""The words of the command line: one table of verbs, files and options, and what they ask for."""
+"""The words of the command line: one table of verbs, files and options, and the task that they ask for, which __main__.py does."""
 
 import argparse
 from typing import Any, Dict, List, NoReturn, Optional, Sequence, Tuple

@@ -1,4 +1,4 @@
-"""The calls of libtsp over ctypes. No other module knows their signatures.
+"""The calls of libtsp over ctypes, as bindings/c/tsp.h declares them. No other module of the package knows their signatures.
 
 Each call takes and returns Python's own types. The library keeps no pointer and has no state but that of a
 handle, so calls may run side by side; ctypes releases Python's lock while one runs. A handle serves one call

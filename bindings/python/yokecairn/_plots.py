@@ -1,4 +1,5 @@
-"""Pictures by matplotlib, which has to be installed: the nodes and tours of an instance, and lengths beside a bound."""
+"""Pictures by matplotlib, which has to be installed: the nodes and tours of an instance, for `Problem.plot` in problem.py, and
+lengths beside a bound, for `Comparison.plot` in compare.py."""
 
 import importlib
 import os

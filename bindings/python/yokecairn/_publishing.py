@@ -1,4 +1,4 @@
-"""The verbs `publish` and `verify` of the command line."""
+"""The verbs `publish` and `verify` of the command line (__main__.py), by publishing.py."""
 
 import os
 from typing import Any

@@ -1,7 +1,7 @@
 """The reasons for the line `no`.
 
 This file is made of bindings/reasons.tsv by `tests/repository/reasons --write`: change that one. The suite `reasons`
-of ./check compares the two.
+of ./check compares the two. For report.py and compare.py.
 """
 
 from enum import Enum

@@ -1,4 +1,4 @@
-"""The verb `table` of the command line: solvers beside each other on many instances."""
+"""The verb `table` of the command line (__main__.py): solvers beside each other on many instances, by contest.py."""
 
 import os
 from typing import Any, Optional

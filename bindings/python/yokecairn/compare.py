@@ -1,4 +1,5 @@
-"""Many solutions of one instance, judged by what is read once, and beside each other in a table."""
+"""The call `compare`: many solutions of one instance beside each other in a table. `Judge` reads the instance and the
+certificate once for all of them."""
 
 import csv
 import html

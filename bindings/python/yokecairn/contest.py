@@ -1,4 +1,4 @@
-"""Solvers beside each other on many instances: a table with ranks, gaps, and all that isn't accepted."""
+"""The call `table`: solvers beside each other on many instances, with ranks, gaps, and all that isn't accepted."""
 
 import html
 import importlib

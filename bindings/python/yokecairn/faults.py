@@ -1,4 +1,4 @@
-"""Why a call has no answer, as exceptions.
+"""The exceptions of the package: why a call has no answer. Each module raises them.
 
     Error
         Fault (a ValueError)        a text is no file of TSPLIB 95 as docs/format.md has it

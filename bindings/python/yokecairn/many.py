@@ -1,4 +1,5 @@
-"""Many checks at once, over the processors of one machine."""
+"""The call `check_many`: many checks at once, over the processors of one machine or an executor of the caller. compare.py and
+contest.py spread their checks by it."""
 
 import multiprocessing
 import os

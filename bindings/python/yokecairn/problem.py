@@ -1,4 +1,4 @@
-"""A file of TSPLIB 95 as a value, in the shape of the package tsplib95."""
+"""`Problem`: a file of TSPLIB 95 as a value, in the shape of the package tsplib95; and the calls `load`, `read` and `parse`."""
 
 import importlib
 import io

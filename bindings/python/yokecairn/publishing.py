@@ -1,4 +1,5 @@
-"""A result in a folder that can be published, and the check of such a folder by its files alone."""
+"""The calls `publish` and `verify`: a result in a folder that can be published, and the check of such a folder by its files
+alone."""
 
 import hashlib
 import os

@@ -1,4 +1,4 @@
-"""What is judged: a solution of an instance, with or without a certificate; or a certificate alone."""
+"""The calls `check`, `bound` and `show`, and `Report`, the verdict on a solution or on a certificate alone."""
 
 import dataclasses
 import operator

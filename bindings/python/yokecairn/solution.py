@@ -1,4 +1,4 @@
-"""Solutions of other programs, and lists of best-known lengths."""
+"""The calls `read_solution`, for solutions of other programs, and `best_known`, for lists of best-known lengths."""
 
 from typing import Dict, Optional
 

@@ -1,4 +1,5 @@
-// The page: files come in, a worker judges them, and what it answers is shown.
+// The page: takes files, lets the worker (worker.mjs) judge them, and shows the report and the drawing. bindings/web/build
+// joins it and what it imports into tsp.html.
 
 import { By, Status } from "../../javascript/library.mjs";
 import { canRise } from "./ascent.mjs";

@@ -1,4 +1,5 @@
-// The drawing of a scene, as shapes of SVG.
+// The drawing of a scene (scene.mjs), of a 1-tree, of the bounds of an ascent and of compared lengths, as shapes of SVG.
+// For page.mjs, which puts them into the document.
 
 /**
  * @typedef {object} Shape

@@ -1,5 +1,5 @@
-// What a file is for, as its beginning and its name say. It only fills in the page: what a file is, the
-// library judges.
+// What a file is for, as its beginning and its name say: instance, solution or certificate. For page.mjs, which puts the
+// file into that field; the library judges what the file is.
 
 import { By } from "../../javascript/library.mjs";
 

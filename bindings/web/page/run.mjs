@@ -1,4 +1,5 @@
-// What is done with the files that are given: the verb of the program that they ask for.
+// A job of the page: the verb of the program that the given files ask for, done by the library. worker.mjs calls it;
+// page.mjs takes `tableOf` and `verbOf` of it.
 
 import { Judge } from "../../javascript/judge.mjs";
 import { By, Call, Status } from "../../javascript/library.mjs";

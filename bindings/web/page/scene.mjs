@@ -1,4 +1,5 @@
-// What is drawn of a run: points, tours, and the places that a reason is about.
+// The scene of a run, which picture.mjs draws: points, tours, and the nodes and pairs that a reason of `no` is about.
+// run.mjs makes it, by the library.
 
 import { Section, Status } from "../../javascript/library.mjs";
 

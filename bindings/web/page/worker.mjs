@@ -1,4 +1,5 @@
-// Runs jobs outside of the page's own thread. The first message is the module, each later one a job.
+// The worker of the page, which runs jobs (run.mjs) outside of the page's own thread. The first message is the module,
+// each later one a job. bindings/web/build joins it and what it imports into tsp.html.
 
 import { Library } from "../../javascript/library.mjs";
 import { risingOf, run } from "./run.mjs";

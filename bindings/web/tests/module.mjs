@@ -1,4 +1,4 @@
-// The module of a built page.
+// The WebAssembly module inside a built page, and the library over it. For the tests page.test.mjs and program.mjs.
 
 import { readFileSync } from "node:fs";
 

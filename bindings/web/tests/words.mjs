@@ -1,4 +1,4 @@
-// The words of the program's command line, as the tests read them.
+// The words of the program's command line, as tests read them: program.mjs here, and ../../node/tests/by-calls.mjs.
 
 /**
  * The options and paths of a command line: `--name value`, or `--name=value`.

@@ -1,4 +1,5 @@
-//! Regions with nodes in them, and the least number there.
+//! A region of space with nodes in it, and a number that each of their potentials is at least. The
+//! box of a node tree in `src/boxes.rt`.
 
 ghost use Rattle.std.specs.Prelude.{pos, neg_ℤ};
 ghost use Rattle.tsp_theory.specs.CertificateNumbers.{IsFromTo, most_number};

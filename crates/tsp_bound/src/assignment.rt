@@ -1,4 +1,5 @@
-//! The bound of duals on the length of every cycle.
+//! The bound of the duals of rows and columns on the length of every cycle, under costs that need
+//! not be symmetric. For `src/potentials_bound.rt` of tsp_verdict.
 
 ghost use Rattle.std.specs.Prelude.{◌≡◌, ◌≢◌, ◌↔◌, ℕ, List, ◌≤◌, ◌<◌, length, IsTrue, IfOk, MatchOption, MatchResult, ◌≤ℤ◌, ◌<ℤ◌};
 ghost use Rattle.tsp_format.specs.Nodes.{IsNode};

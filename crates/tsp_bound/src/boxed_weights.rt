@@ -1,4 +1,5 @@
-//! Weights between nodes that boxes of nodes bound.
+//! The trait of weights that a box bounds for all of its nodes at once. `grow` in `src/part.rt`
+//! takes them; `src/weights.rt`, and `src/boxed_leaf.rt` of tsp_branch, implement it.
 
 ghost use Rattle.std.specs.Prelude.{◌≡◌, ◌≢◌, ◌<◌, ◌+ℤ◌, ◌*ℤ◌, ◌≤ℤ◌, ◌<ℤ◌, ℕ, ℤ, List, length, pos, neg_ℤ, IfSome};
 ghost use Rattle.std.specs.Bool.{OnTrue};

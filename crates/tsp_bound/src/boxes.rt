@@ -1,4 +1,5 @@
-//! A tree of boxes over nodes in an order.
+//! A tree of boxes over the nodes of an order: each box encloses its two halves. For
+//! `src/labelled.rt`.
 
 ghost use Rattle.std.specs.Prelude.{◌≡◌, ◌⊎◌, ◌≤◌, ◌<◌, ◌+◌, ◌*◌, ◌≤ℤ◌, ℕ, ℤ, length, List, Bool, None, Some, IfOk, pos, neg_ℤ};
 ghost use Rattle.tsp_distance.specs.declared.decimal.Point.{Point};
@@ -24,7 +25,7 @@ pub(crate) fn lesser(a: i64, b: i64) -> i64
     if a < b { a } else { b }
 }
 
-/// A box that holds what either box holds.
+/// A box with the nodes of both boxes.
 #[inline]
 fn joined(first: &Option<Area>, second: &Option<Area>) -> Option<Area>
     ensures left { (place : ℕ → Point) (number : ℕ → ℤ) (node : ℕ) → HoldsNode place number first.now node
@@ -69,7 +70,7 @@ fn area_of(numbered: NumberedSite) -> Area
     }
 }
 
-/// The boxes of nodes that are all outside.
+/// The tree of boxes over all nodes of an order.
 ///
 /// # Errors
 ///

@@ -1,4 +1,5 @@
-//! The multipliers of the pairs of each node.
+//! The multipliers of fixed edges, listed at both nodes of each. For the weights in
+//! `src/weights.rt`.
 
 ghost use Rattle.std.specs.Prelude.{◌≡◌, ◌≢◌, ◌-◌, ◌<◌, ◌^◌, [], pos, IfOk};
 ghost use Rattle.std.specs.List.{All, AllPairs};

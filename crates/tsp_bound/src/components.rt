@@ -1,4 +1,5 @@
-//! The components of a forest, and the search for the nearest place in another component.
+//! The trait of a forest that knows the component of each node, and searches for the lightest edge
+//! from a node to another component. `src/rounds.rt` and `src/joins.rt` grow a tree by it.
 //!
 //! `Labelled` implements it for nodes that have points, and `Listed` for others. See placed.rt for
 //! `steps`.

@@ -1,5 +1,5 @@
-//! Nodes in an order, each with the label of its component. It is for nodes that have points,
-//! listed.rt for others.
+//! The forest of nodes that have points: the component of each node, and boxes to search for its
+//! nearest node. `Components` for `src/part.rt`; without points it is `src/listed.rt`.
 
 ghost use Rattle.std.specs.Prelude.{◌≡◌, ◌<◌, ◌*◌, ℕ, true, length, IfOk};
 ghost use Rattle.tsp_bound.specs.states.Boxes.{HoldsNode, AreHeld, AreHeld-prop, area_at, node_of};

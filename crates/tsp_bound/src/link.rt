@@ -1,4 +1,5 @@
-//! Links between places.
+//! An edge from a node to another one, with its weight. For the searches and joins of a least tree,
+//! from `src/components.rt` to `src/rounds.rt`.
 
 /// A link from a node to another one, with its weight.
 #[derive(Clone, Copy)]

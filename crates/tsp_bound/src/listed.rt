@@ -1,5 +1,5 @@
-//! Nodes in an order, each with the label of its component and the least links from it. It is for
-//! nodes without points, labelled.rt for others.
+//! The forest of nodes without points: the component of each node, and its twelve lightest edges.
+//! `Components` for `src/part.rt`; with points it is `src/labelled.rt`.
 
 ghost use Rattle.std.specs.Prelude.{◌≡◌, ◌<◌, ◌+◌, ◌*◌, ℕ, length};
 ghost use Rattle.tsp_bound.specs.states.Components.{label_at};

@@ -1,5 +1,5 @@
-//! The least links of each place, by one pass over all pairs. They serve `Listed`, for costs
-//! without points whose rows aren't near in memory (`pairs_over` in part.rt).
+//! The twelve lightest edges of each node, by one pass over all pairs. For `src/listed.rt`, under
+//! costs without points whose rows aren't near in memory (`pairs_over` in `src/part.rt`).
 
 ghost use Rattle.std.specs.Prelude.{◌≡◌, ◌≤◌, ◌<◌, ◌+◌, ◌*◌, ◌^◌, ℕ, length};
 ghost use Rattle.tsp_bound.specs.states.Lists.{weight_over, AreOffered, IsPut, IsTaken};

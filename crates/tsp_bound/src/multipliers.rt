@@ -1,4 +1,5 @@
-//! Multipliers of pairs: the certificate of a bound on the cycles that use these pairs.
+//! Multipliers of fixed edges: the certificate of a bound on the tours, which use these edges. For
+//! `src/tree.rt`, and `src/potentials_bound.rt` of tsp_verdict.
 
 ghost use Rattle.std.specs.Prelude.{◌↔◌, IsTrue};
 ghost use Rattle.std.specs.List.{All};

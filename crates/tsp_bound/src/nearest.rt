@@ -1,4 +1,4 @@
-//! The search for the nearest node outside, by a tree of boxes.
+//! The search for the nearest node outside, by a tree of boxes. For `src/placed.rt`.
 //!
 //! Outside: in another component than the node that the search is from. See placed.rt for `steps`.
 

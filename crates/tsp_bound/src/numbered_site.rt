@@ -1,5 +1,5 @@
-//! Nodes with their places and their numbers. Here a place is a point. The number is what the node
-//! adds to the weights of its pairs.
+//! A node with its point and its potential, or another number that it adds to the weights of its
+//! pairs. For the boxes of `src/boxes.rt` and the search of `src/search.rt`.
 
 use tsp_theory::Site;
 

@@ -1,4 +1,5 @@
-//! Nodes in an order, each with its place and its number.
+//! The nodes of an order with their points and numbers, next to each other in memory. For
+//! `src/labelled.rt`.
 
 ghost use Rattle.std.specs.Prelude.{◌≡◌, length, IfOk, IfSome};
 ghost use Rattle.tsp_bound.specs.states.NumberedSites.{AreNumberedSites};

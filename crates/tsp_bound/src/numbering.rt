@@ -1,4 +1,5 @@
-//! Places in a list, each of which means a node.
+//! The place of each node in an order, or nothing where the order does not have each node once. So
+//! no order needs a proof. For `src/part.rt`.
 
 ghost use Rattle.std.specs.Prelude.{◌≡◌, ◌<◌, ◌+◌, ◌^◌, length, slice_index_or, IfOk, IfSome};
 ghost use Rattle.tsp_theory.specs.Tree.{IsInner};

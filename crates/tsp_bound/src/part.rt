@@ -1,4 +1,5 @@
-//! A least tree over the nodes 2..n: in rounds, by boxes or by the least links, or pair by pair.
+//! A least tree over the nodes 2 to n: in rounds, by boxes or by lists of lightest edges, or pair
+//! by pair. For `src/tree.rt`, and the leaves in `src/boxed_leaf.rt` of tsp_branch.
 
 ghost use Rattle.std.specs.Prelude.{◌≡◌, ◌≤◌, ◌<◌, ◌+◌, ◌*◌, ◌^◌, ℕ, length, slice_index_or, map, pos, neg_ℤ, IfOk, IfSome};
 ghost use Rattle.std.specs.List.{All};
@@ -98,7 +99,7 @@ fn joined<W: BoxedWeights>(alloc: Global, w: &W, row: &mut [i64]) -> Result<Opti
     joined_over(alloc, w, &order, row)
 }
 
-/// The same over an order of nodes.
+/// A least tree by rounds over the nodes of this order, with the result of `joined`.
 fn joined_over<W: BoxedWeights>(
     alloc: Global,
     w: &W,

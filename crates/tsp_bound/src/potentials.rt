@@ -1,4 +1,5 @@
-//! Potentials of nodes: the certificate of a bound for symmetric costs.
+//! Potentials of nodes: the certificate of a bound for symmetric costs. For `src/tree.rt`, and
+//! `src/potentials_bound.rt` of tsp_verdict, which makes them of a file.
 
 ghost use Rattle.tsp_theory.specs.CertificateNumbers.{AreNodePotentials};
 
@@ -59,8 +60,8 @@ impl<'a> Potentials<'a> {
         self.weight_from(c, self.number(i), i, j)
     }
 
-    /// The same, where the caller passes the potential of the first node: a loop over all pairs of
-    /// one node reads it once.
+    /// The weight between two nodes, where the caller passes the potential of the first one: a loop
+    /// over all pairs of one node reads it once.
     #[inline]
     pub(crate) fn weight_from<C: Costs>(&self, c: &C, own: i64, i: u32, j: u32) -> i64
         requires count { length (numbers_of self.now) ≡ C.nodes c.now }

@@ -1,4 +1,5 @@
-//! The growth of a forest into a tree, by rounds in which each component adds its least link.
+//! The growth of a forest into a tree, by rounds in which each component adds its lightest edge.
+//! For `src/part.rt`.
 
 ghost use Rattle.std.specs.Prelude.{◌≡◌, ◌<◌, ◌+◌, ℕ, true, IfOk, IfSome};
 ghost use Rattle.std.specs.Bool.{OnTrue};

@@ -1,4 +1,5 @@
-//! Costs at the scale of a certificate.
+//! Costs as counts of 1 / SCALE of a certificate. For `src/potentials.rt`, `src/assignment.rt` and
+//! `src/weights.rt`.
 
 ghost use Rattle.std.specs.Prelude.{◌≡◌, ◌*◌, pos, neg_ℤ, ◌*ℤ◌, ◌≤ℤ◌};
 ghost use Rattle.tsp_format.specs.Nodes.{IsNode};

@@ -1,4 +1,4 @@
-//! A search from one node, over a tree of boxes.
+//! A search from one node for the nearest node outside, down a tree of boxes. For `src/nearest.rt`.
 
 ghost use Rattle.std.specs.Prelude.{◌≡◌, ◌≤◌, ◌<◌, ◌+◌, ◌*◌, ◌^◌, ◌≤ℤ◌, ◌*ℤ◌, ℕ, length};
 ghost use Rattle.std.specs.Bool.{OnTrue};

@@ -1,4 +1,5 @@
-//! A tree of boxes over places, as a search sees it.
+//! The trait of a tree of boxes over places, by which a search sees nodes outside alone. For
+//! `src/search.rt` and `src/nearest.rt`.
 //!
 //! Outside: in another component than the node that the search is from (`Apart` in labelled.rt).
 

@@ -1,4 +1,5 @@
-//! Tags of boxes: the label of all nodes in a box, where they have the same.
+//! The label of the component of all nodes in a box, if it is one component. By it a search leaves
+//! out boxes of its own component. For `src/labelled.rt`.
 
 ghost use Rattle.std.specs.Prelude.{◌≡◌, ◌≤◌, ◌<◌, ◌*◌, ◌^◌, ℕ, length};
 ghost use Rattle.tsp_bound.specs.states.Boxes.{IsRefit};

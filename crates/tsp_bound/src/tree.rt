@@ -1,4 +1,5 @@
-//! Least 1-trees, and their bound on the length of every cycle.
+//! Least 1-trees, and their bound on the length of every cycle. For `src/potentials_bound.rt` of
+//! tsp_verdict.
 
 ghost use Rattle.std.specs.Prelude.{◌≡◌, ◌≤◌, ◌+◌, ◌*◌, ◌^◌, ℕ, [], List, length, pos, neg_ℤ, ◌≤ℤ◌, IfOk};
 ghost use Rattle.tsp_format.specs.Limits.{most_nodes};

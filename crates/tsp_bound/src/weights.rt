@@ -1,4 +1,5 @@
-//! What gives the weights between nodes.
+//! The weight of a pair under potentials: its cost at the scale and both potentials, less the
+//! multiplier of a fixed edge. For the least 1-trees in `src/tree.rt`.
 
 ghost use Rattle.std.specs.Prelude.{◌≡◌, ◌≤◌, ◌<◌, ◌+◌, ℕ, length, slice_index, pos, neg_ℤ};
 ghost use Rattle.std.specs.List.{All};
@@ -74,7 +75,7 @@ fn weigh_all<C: Costs>(w: &Weights<C>, from: u32, row: &mut [i64])
     }
 }
 
-/// The same to some nodes.
+/// Writes the weights between a node and some others, without multipliers.
 fn weigh<C: Costs>(w: &Weights<C>, from: u32, to: &[u32], row: &mut [i64])
     requires from { IsNode (C.nodes w.now.c.now) from }
     requires to { (k : ℕ) → k < length to.now → IsNode (C.nodes w.now.c.now) (slice_index to.now k) }

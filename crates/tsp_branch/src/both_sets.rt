@@ -1,4 +1,5 @@
-//! The sets that two nodes are both in, by the places of each node's sets.
+//! The sets that two nodes are both in, and what the multipliers of these add to the weight of the
+//! pair. For `src/boxed_leaf.rt` and `src/leaf_rows.rt`.
 
 ghost use Rattle.std.specs.Prelude.{◌≡◌, ◌<◌, ◌*◌, true, length, pos};
 ghost use Rattle.std.specs.Int.{w64, int_wrap};

@@ -1,4 +1,5 @@
-//! The weights of a leaf, as boxes bound them.
+//! The bound of a leaf by a least 1-tree: by boxes of points where these suit its sets, else by
+//! rows. For `src/case_leaf.rt`.
 
 ghost use Rattle.std.specs.Prelude.{◌≡◌, ◌+◌, false, ◌+ℤ◌, ◌*ℤ◌, ◌≤ℤ◌, length, pos, neg_ℤ, IfOk};
 ghost use Rattle.tsp_format.specs.Nodes.{IsNode};

@@ -1,4 +1,5 @@
-//! The bound of a certificate by branching.
+//! The bound of a certificate by branching: the least bound of its leaves, or the first bad leaf.
+//! For `src/verdict.rt`.
 
 ghost use Rattle.std.specs.Prelude.{◌≡◌, ◌≤◌, ◌<◌, ◌^◌, false, length, IfOk};
 ghost use Rattle.std.specs.List.{All};

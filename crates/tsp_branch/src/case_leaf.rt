@@ -1,4 +1,5 @@
-//! A leaf of a tree of cases, and its bound.
+//! A leaf of a tree of cases, and its bound: by a least 1-tree, or by the least arc from each node.
+//! For `src/cycle_judge.rt`.
 
 ghost use Rattle.std.specs.Prelude.{◌≡◌, ◌+◌, ◌<◌, ◌^◌, length};
 ghost use Rattle.tsp_cases.specs.Decisions.{DecideOnce};
@@ -18,9 +19,9 @@ use tsp_cases::{OpenCase, Setting};
 use tsp_memory::Refused;
 use tsp_theory::Costs;
 
-/// A leaf: its case in what it shares with all others, its numbers, which are good, and what its
-/// weights need of them. That is by node its potential less the multipliers of its sets, and the
-/// rows that are kept, if any, at these multipliers and under the decisions of the case.
+/// A leaf: its case, the setting that it shares with all others, and its numbers, which are good.
+/// For its weights also by node the potential less the multipliers of its sets, and the rows that
+/// are kept, if any, at these multipliers and under the decisions of the case.
 #[derive(Drop)]
 pub(crate) struct CaseLeaf<'a, C: Costs> {
     pub(crate) setting: &'a Setting<'a, C>,

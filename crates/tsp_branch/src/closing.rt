@@ -1,4 +1,5 @@
-//! Rows in which the links that decisions don't allow are closed.
+//! The row of a node's weights in which the arcs that decisions don't allow are closed. For
+//! `src/rows.rt`.
 
 ghost use Rattle.std.specs.Prelude.{◌≡◌, ◌≢◌, ◌<◌, ℕ, length};
 ghost use Rattle.std.specs.List.{All};
@@ -11,7 +12,7 @@ use tsp_cases::Decision;
 /// The weight that means no link: all weights are below it.
 pub(crate) const CLOSED: i64 = i64::MAX;
 
-/// Closes in the row of a node what some decision doesn't allow.
+/// Closes in the row of a node each link that some decision doesn't allow.
 pub(crate) fn close_all(row: &mut [i64], decisions: &[Decision], from: u32)
     requires { All (λ decision. decision.pair.1 < length row.old) decisions.now }
     ensures { (x : ℕ) → x < length row.old

@@ -1,4 +1,5 @@
-//! The judge of the leaves of a certificate.
+//! The judge of the leaves of a certificate for tours: whether the numbers of a leaf are good, and
+//! its bound. `src/branch.rt` passes it to `judge_leaves` of tsp_cases.
 
 ghost use Rattle.std.specs.Prelude.{◌≡◌, ◌+◌, ◌<◌, ◌^◌, length, IfOk};
 ghost use Rattle.tsp_cases.specs.Decisions.{DecideOnce, decided_number};

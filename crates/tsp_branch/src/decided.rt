@@ -1,4 +1,5 @@
-//! What decisions change of weights.
+//! The change of a pair's weight by the decisions of a case: taken pairs get lighter, avoided ones
+//! heavier. For `src/leaf_rows.rt` and `src/boxed_leaf.rt`.
 
 ghost use Rattle.std.specs.Prelude.{◌≡◌, ℕ, length};
 ghost use Rattle.std.specs.Int.{w64, int_wrap};

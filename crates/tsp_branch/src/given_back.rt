@@ -1,4 +1,5 @@
-//! What a leaf gives back.
+//! The sum that a leaf gives back to its bound: least crossings by multipliers, less each potential
+//! twice, and the numbers of taken pairs. For `src/case_leaf.rt`.
 
 ghost use Rattle.std.specs.Prelude.{◌≡◌, ◌<◌, ◌^◌, length, pos, neg_ℤ, ◌-ℤ◌, ◌*ℤ◌};
 ghost use Rattle.tsp_theory.specs.CertificateNumbers.{IsFromTo, total};

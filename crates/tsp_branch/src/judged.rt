@@ -1,4 +1,5 @@
-//! The verdict on a certificate.
+//! The verdict on a certificate by branching, as an enum: the bound, or the first fault.
+//! `src/verdict.rt` returns it to `src/branching_bound.rt` of tsp_verdict.
 
 /// The verdict on a certificate by branching.
 #[derive(Drop)]

@@ -1,4 +1,5 @@
-//! The weights of a leaf by rows.
+//! The weights of a leaf as rows, for its least 1-tree in `src/boxed_leaf.rt` or its least arcs in
+//! `src/rows.rt`.
 //!
 //! The nodes of a pair cross a set once for each of them that it has, less twice where it has both.
 //! So each multiplier is taken off the potentials of its sets' nodes, and a row needs besides these

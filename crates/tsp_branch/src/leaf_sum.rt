@@ -1,4 +1,5 @@
-//! The sum of a leaf, beside the weight of its least 1-tree or links.
+//! The sum that a leaf gives back, with the scale. `src/case_leaf.rt` makes one for the bounds of
+//! `src/boxed_leaf.rt` and `src/rows.rt`.
 
 ghost use Rattle.std.specs.Prelude.{◌^◌, pos, neg_ℤ};
 ghost use Rattle.tsp_theory.specs.CertificateNumbers.{IsFromTo, IsScale};

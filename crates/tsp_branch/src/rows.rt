@@ -1,4 +1,5 @@
-//! The bound of a leaf by the least link from each node.
+//! The bound of a leaf by the least arc from each node, where pairs have a direction. For
+//! `src/case_leaf.rt`.
 
 ghost use Rattle.std.specs.Prelude.{◌≡◌, ◌≤◌, ◌<◌, ℕ, List, true, length, ◌⊎◌, ℤ, ◌≤ℤ◌};
 ghost use Rattle.std.specs.List.{All, filter};

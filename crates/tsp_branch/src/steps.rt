@@ -1,4 +1,5 @@
-//! About how long leaves take, by boxes or by rows. The bounds are the same.
+//! Estimates how long leaves take by boxes and by rows, so that `src/branch.rt` and
+//! `src/leaf_rows.rt` choose the quicker way. The bounds are the same.
 //!
 //! Times are nanoseconds of the proved program, by a core of a Xeon at 2.5 GHz.
 
@@ -75,7 +76,7 @@ fn steps_of_sets(families: &[Vec<Vec<u32>>]) -> u64 {
     steps
 }
 
-/// The same for the sets of a family.
+/// The steps by which the sets of a family are added to rows.
 fn steps_of_family(sets: &[Vec<u32>]) -> u64 {
     let mut steps: u64 = 0;
     'sets: for set in sets {

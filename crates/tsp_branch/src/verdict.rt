@@ -1,4 +1,5 @@
-//! The verdict on a certificate by branching.
+//! Judges a certificate by branching: its families, then its branches, then its leaves. For
+//! `src/branching_bound.rt` of tsp_verdict.
 
 ghost use Rattle.std.specs.Prelude.{IfOk};
 ghost use Rattle.tsp_format.specs.states.TreeSteps.{steps_of};

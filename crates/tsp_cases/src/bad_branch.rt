@@ -1,4 +1,5 @@
-//! Which branch is bad.
+//! The first branch of a tree of cases whose first number is out of range. For `src/twice.rt`, and
+//! `src/verdict.rt` of tsp_routing.
 
 ghost use Rattle.tsp_format.specs.states.TreeSteps.{steps_of};
 ghost use Rattle.tsp_cases.specs.BadBranches.{AreBranchesWithin};

@@ -1,4 +1,5 @@
-//! The steps of a tree of cases.
+//! The steps of one whole tree of cases, with the decisions of all cases. tsp_branch and
+//! tsp_routing make one for the pass of `src/pass.rt`.
 
 ghost use Rattle.std.specs.Prelude.{◌≡◌, ◌<◌, ◌^◌, true, length};
 ghost use Rattle.std.specs.List.{All};

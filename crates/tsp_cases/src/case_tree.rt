@@ -1,4 +1,5 @@
-//! A certificate by branching.
+//! A certificate by branching for tours: costs, families, fixed pairs and the steps of its tree.
+//! `src/branching_bound.rt` of tsp_verdict makes one for `judge_branches` of tsp_branch.
 
 ghost use Rattle.std.specs.Prelude.{◌≡◌, ◌≤◌, ◌<◌, ◌^◌, true, false, length};
 ghost use Rattle.std.specs.List.{All};

@@ -1,7 +1,9 @@
-//! Decisions on pairs of nodes.
+//! A decision of a case: a pair of nodes that cycles use, or one that they avoid. For
+//! `src/open_case.rt` and the leaves of tsp_branch; in tsp_routing it limits the crossings of a
+//! set.
 
-/// The number on each decided pair. It cancels in the bound: any number would be sound, and this
-/// one is far above all other parts of a weight and lets weights fit 64 bits.
+/// The number on each decided pair. It cancels in the bound, so any number would do. This one is
+/// far above all other parts of a weight and lets weights fit 64 bits.
 pub const DECIDED: i64 = 4_000_000_000_000_000_000;
 
 /// A pair of nodes, and whether a cycle is to use it.

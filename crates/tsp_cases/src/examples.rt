@@ -1,4 +1,5 @@
-//! A small comb and small trees, on which the definitions are evaluated.
+//! Laws that state values of the definitions in `specs/`, worked out by hand: crossings of a comb,
+//! weights at leaves, bounds of small trees of cases, bad branches.
 
 ghost use Rattle.std.specs.Prelude.{◌≡◌, ℕ, ℤ, List, [], ◌∷◌, true, false, pos, ◌-ℤ◌, ◌+ℤ◌};
 ghost use Rattle.tsp_cases.specs.Combs.{least_crossings};

@@ -1,4 +1,5 @@
-//! The families of a certificate.
+//! The families of a certificate, all of them good, with the crossings of each.
+//! `src/good_families.rt` makes one, and all leaves share it (`src/setting.rt`).
 
 ghost use Rattle.std.specs.Prelude.{◌≡◌, ◌≤◌, ◌<◌, ◌-◌, ◌^◌, length};
 ghost use Rattle.std.specs.List.{All};

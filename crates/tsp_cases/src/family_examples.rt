@@ -1,4 +1,5 @@
-//! Small families, on which the definitions are evaluated.
+//! A law that states values of the definitions in `specs/`, worked out by hand: how often small
+//! families are crossed, and which sets are no family.
 
 ghost use Rattle.std.specs.Prelude.{[], ◌∷◌};
 ghost use Rattle.tsp_cases.specs.FamilyExamples.{one_set_twice, beside_all_six, all_six, IsCrossed, IsNoFamily};

@@ -1,4 +1,5 @@
-//! Which family is bad, and the numbers of the others.
+//! Judges the families of a certificate for tours: the first that is bad, or how often cycles cross
+//! each. For `src/verdict.rt` of tsp_branch.
 
 ghost use Rattle.std.specs.Prelude.{◌≡◌, ◌≤◌, ◌<◌, ◌-◌, ◌+◌, ◌^◌, ◌↔◌, ℕ, IsTrue, [], length, true, IfOk, IfSome};
 ghost use Rattle.std.specs.List.{All};

@@ -1,4 +1,5 @@
-//! Whether the numbers of a leaf are good.
+//! Whether the potentials and multipliers of a leaf for tours are within their limits. For
+//! `src/cycle_judge.rt` of tsp_branch.
 
 ghost use Rattle.std.specs.Prelude.{◌≡◌, ◌+◌, ◌↔◌, IsTrue, length, take, drop, true};
 ghost use Rattle.tsp_cases.specs.GoodNumbers.{AreGoodNumbers, as_leaf_numbers};

@@ -1,4 +1,5 @@
-//! What is found of the families, of the cases and of the leaves of a certificate.
+//! The judgements on families, cases and leaves, as enums. `src/good_families.rt`, `src/twice.rt`
+//! and `src/pass.rt` return them to tsp_branch and tsp_routing.
 
 use crate::families::Families;
 use crate::tree_cases::Cases;

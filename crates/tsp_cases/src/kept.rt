@@ -1,4 +1,5 @@
-//! Rows that are kept for all nodes while leaves change.
+//! Rows of weights of all nodes that are kept from leaf to leaf: a leaf changes them by its
+//! multipliers and decisions alone. For `src/room.rt`, and `src/cycle_judge.rt` of tsp_branch.
 
 ghost use Rattle.std.specs.Prelude.{◌≡◌, ◌≤◌, ◌<◌, ◌+◌, ◌-◌, ◌≢◌, ℕ, ℤ, length, slice_index_or, IfOk, neg_ℤ, ◌+ℤ◌, ◌*ℤ◌};
 ghost use Rattle.std.specs.Int.{w64, int_wrap};

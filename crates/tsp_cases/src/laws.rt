@@ -1,4 +1,5 @@
-//! What always holds of bounds by branching, as contracts of functions that do nothing.
+//! Laws: no cycle that keeps the decisions is shorter than the bound of a leaf, or of a tree of
+//! cases. For `src/branch.rt` of tsp_branch, and the bounds of tsp_verdict.
 
 ghost use Rattle.std.specs.Prelude.{ℕ, ℤ, List, [], ◌∷◌, ◌≤ℤ◌, Bool, true, false};
 ghost use Rattle.tsp_cases.specs.Combs.{CyclesCrossCombs};

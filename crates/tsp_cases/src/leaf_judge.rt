@@ -1,5 +1,5 @@
-//! The judge of the leaves of a tree of cases. There are two: `CycleJudge` of tsp_branch, and
-//! `PlanJudge` of tsp_routing.
+//! The trait of a judge of the leaves of a tree of cases. `src/pass.rt` calls it; `CycleJudge` of
+//! tsp_branch and `PlanJudge` of tsp_routing implement it.
 
 ghost use Rattle.std.specs.Prelude.{◌≡◌, ◌+◌, ◌<◌, ◌^◌, ◌++◌, ◌∷◌, ℕ, ℤ, Bool, List, Option, length, IfOk};
 ghost use Rattle.std.specs.List.{All};

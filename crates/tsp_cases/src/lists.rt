@@ -1,4 +1,4 @@
-//! Lists by node.
+//! An empty list for each node. For `src/node_decisions.rt` and `src/sets.rt`.
 
 ghost use Rattle.std.specs.Prelude.{◌≡◌, ◌≤◌, ◌+◌, ℕ, [], length, slice_index_or, IfOk};
 ghost use Rattle.std.specs.Global.{Vec};

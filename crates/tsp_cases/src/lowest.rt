@@ -1,4 +1,4 @@
-//! The bounds of several leaves.
+//! The lower one of two bounds of leaves, either of which may be missing. For `src/pass.rt`.
 
 ghost use Rattle.tsp_cases.specs.LeafBounds.{IsLowest};
 

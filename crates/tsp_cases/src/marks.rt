@@ -1,4 +1,5 @@
-//! Marks by node, by which a node that comes again is known.
+//! Marks by node, by which a node that comes twice in sets is found. For `src/good_families.rt` and
+//! `src/other_families.rt`, and `src/cuts.rt` of tsp_routing.
 
 ghost use Rattle.std.specs.Prelude.{◌≡◌, ◌≤◌, ◌<◌, ◌↔◌, ℕ, Bool, IsTrue, length, true, false};
 ghost use Rattle.std.specs.List.{All, Any};

@@ -1,4 +1,5 @@
-//! The potentials of a leaf, and what the multipliers of its sets take off them.
+//! The potential of each node less the multipliers of its sets. For the leaves in
+//! `src/cycle_judge.rt` of tsp_branch and `src/plan_leaf.rt` of tsp_routing.
 
 ghost use Rattle.std.specs.Prelude.{◌≡◌, ◌+◌, ◌+ℤ◌, ℕ, length, neg_ℤ};
 ghost use Rattle.std.specs.Int.{w64, int_wrap};

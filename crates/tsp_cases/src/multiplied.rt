@@ -1,7 +1,6 @@
-//! Numbers of families. They are multipliers, or how far these are from those of the leaf before.
-//!
-//! Whoever makes such a value proves its `ghost` facts, and whoever has one may use them. It is
-//! made in kept.rt, and in tsp_branch and tsp_routing.
+//! Families with a number for each: multipliers, or their differences from those of the leaf
+//! before. `src/moved.rt` and `src/row_sets.rt` add them to rows. Made in `src/kept.rt`, tsp_branch
+//! and tsp_routing.
 
 ghost use Rattle.std.specs.Prelude.{◌≡◌, length};
 ghost use Rattle.tsp_cases.specs.states.Combed.{AreSmallDifferences};

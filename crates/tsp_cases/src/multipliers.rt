@@ -1,4 +1,5 @@
-//! The multipliers of families.
+//! The multipliers of the families at a leaf, none of them negative. For the bound of the leaf in
+//! tsp_branch.
 
 ghost use Rattle.std.specs.Prelude.{◌≡◌, length};
 ghost use Rattle.tsp_cases.specs.states.Combed.{AreSmallMultipliers};

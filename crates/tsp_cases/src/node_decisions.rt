@@ -1,4 +1,4 @@
-//! The decisions of a case by node.
+//! The decisions of a case, listed at the nodes whose rows they change. For `src/open_case.rt`.
 
 ghost use Rattle.std.specs.Prelude.{◌≡◌, ◌≤◌, ◌<◌, ◌+◌, ◌-◌, ◌^◌, ℕ, [], length, slice_index_or, IfOk};
 ghost use Rattle.std.specs.Global.{Vec};

@@ -1,5 +1,5 @@
-//! The numbers of leaves, on which the definitions are evaluated. No body is looked at here: a
-//! definition that is changed together with its code is refused by its examples.
+//! Laws that state values of the definitions in `specs/`, worked out by hand: the numbers of
+//! leaves, at their limits and as they change from leaf to leaf.
 
 ghost use Rattle.std.specs.Prelude.{◌≡◌, ◌+◌, ◌-◌, ◌*◌, ◌^◌, [], ◌∷◌, pos, negsuc};
 ghost use Rattle.tsp_cases.specs.GoodNumbers.{AreGoodNumbers};

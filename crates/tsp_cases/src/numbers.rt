@@ -1,4 +1,5 @@
-//! The numbers of a leaf, as they change from leaf to leaf.
+//! The numbers of a leaf: those of the leaf before, changed by differences (for `src/pass.rt`), and
+//! copied if in range (for `src/good_numbers.rt`, here and in tsp_routing).
 
 ghost use Rattle.std.specs.Prelude.{◌≡◌, ◌↔◌, ◌<◌, ◌^◌, IsTrue, length, true, pos, neg_ℤ};
 ghost use Rattle.std.specs.List.{All};

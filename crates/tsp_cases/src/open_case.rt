@@ -1,4 +1,5 @@
-//! The case that is open in a pass over the steps.
+//! The decisions of the case that is open in a pass over the steps of a tree. For `src/pass.rt` and
+//! `src/twice.rt`, and the leaves of tsp_branch and tsp_routing.
 
 ghost use Rattle.std.specs.Prelude.{◌≡◌};
 ghost use Rattle.tsp_cases.specs.Decisions.{is_same};

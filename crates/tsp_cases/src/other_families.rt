@@ -1,4 +1,4 @@
-//! The numbers of families that are neither a lone set nor a comb.
+//! The crossings of families that are neither a lone set nor a comb. For `src/good_families.rt`.
 
 ghost use Rattle.std.specs.Prelude.{◌↔◌, IsTrue, IfOk, IfSome};
 ghost use Rattle.std.specs.List.{All};

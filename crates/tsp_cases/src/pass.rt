@@ -1,5 +1,5 @@
-//! One pass over the steps of a tree of cases. What judges a leaf is `CycleJudge` of tsp_branch, or
-//! `PlanJudge` of tsp_routing.
+//! One pass over the steps of a tree of cases, which has each leaf judged by a `LeafJudge`. For
+//! `src/branch.rt` of tsp_branch and `src/verdict.rt` of tsp_routing.
 
 ghost use Rattle.std.specs.Prelude.{◌≡◌, ◌+◌, ◌<◌, ◌^◌, [], ◌∷◌, length, IfOk};
 ghost use Rattle.std.specs.List.{All};
@@ -71,7 +71,7 @@ pub fn judge_leaves<J: LeafJudge>(
     Ok(JudgedLeaves::Bound(lowest))
 }
 
-/// The judgement on a leaf, whose numbers are kept where they are good.
+/// Changes the numbers by the differences of a leaf, and judges it.
 ///
 /// # Errors
 ///

@@ -1,4 +1,5 @@
-//! What a pass over the leaves of a tree of cases writes over.
+//! The memory that a pass over the leaves for tours writes over: numbers, a row of weights, the
+//! rows that are kept. For `src/branch.rt` and `src/cycle_judge.rt` of tsp_branch.
 
 use crate::kept::KeptRows;
 use crate::setting::Setting;

@@ -1,4 +1,5 @@
-//! Arcs between three nodes, on which the definitions of bounds by rows are evaluated.
+//! Laws that state values of the definitions in `specs/`, worked out by hand: which arcs decisions
+//! allow between three nodes, and bounds by the least arcs.
 
 ghost use Rattle.std.specs.Prelude.{ℕ, List, [], ◌∷◌, true, pos};
 ghost use Rattle.tsp_cases.specs.Rows.{IsAllowed, HasNoLink, IsRowBound};

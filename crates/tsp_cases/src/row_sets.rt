@@ -1,4 +1,5 @@
-//! What the sets of a node add to its row. It serves the rows of kept.rt and those of leaves.
+//! What the sets of a node add to its row: the number of the family, twice at each of their nodes.
+//! For `src/kept.rt`, and the rows of leaves in tsp_branch and tsp_routing.
 
 ghost use Rattle.std.specs.Prelude.{◌≡◌, ◌<◌, ◌+◌, ◌+ℤ◌, ℕ, length};
 ghost use Rattle.std.specs.Int.{w64, int_wrap};
@@ -28,7 +29,7 @@ pub fn add_sets(row: &mut [i64], places: &[SetPlace], multiplied: &MultipliedFam
     }
 }
 
-/// The same to a row of a list of rows.
+/// Adds the same as `add_sets` to a row of a list of rows.
 pub(crate) fn add_to_row(row: &mut Vec<i64>, places: &[SetPlace], multiplied: &MultipliedFamilies)
     requires places { All (IsPlaceIn (lent_in multiplied.now.families.now)) places.now }
     requires row { length row.old.items ≡ multiplied.now.families.now.nodes + 1 }

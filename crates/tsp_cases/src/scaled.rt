@@ -1,4 +1,5 @@
-//! Costs at the scale of a certificate.
+//! Rows of costs, as counts of 1 / SCALE, with numbers added. For `src/kept.rt`, and the rows of
+//! leaves in tsp_branch and tsp_routing.
 
 ghost use Rattle.std.specs.Prelude.{◌≡◌, ◌≤◌, ◌<◌, ℕ, length, pos, neg_ℤ, ◌+ℤ◌, ◌*ℤ◌};
 ghost use Rattle.std.specs.Int.{w64, int_wrap};

@@ -1,4 +1,5 @@
-//! What always holds of the sets of families, as the contract of a function that does nothing.
+//! A law: the sets of families give the crossings of two nodes and the weights of a leaf, as code
+//! computes them. No code calls it.
 
 ghost use Rattle.tsp_cases.specs.states.Combed.{SetsTellCombs, SetsGiveLeaves};
 

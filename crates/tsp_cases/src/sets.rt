@@ -1,4 +1,5 @@
-//! Sets of nodes: what they add to a row, and which sets a node is in.
+//! The places of the sets of each node (for `src/branch.rt` of tsp_branch and `src/verdict.rt` of
+//! tsp_routing), and a number added at the nodes of a set (for `src/row_sets.rt`).
 
 ghost use Rattle.std.specs.Prelude.{◌<◌, ◌-◌, ◌^◌, ℕ, [], length, IfOk};
 ghost use Rattle.std.specs.List.{All};

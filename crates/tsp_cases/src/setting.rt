@@ -1,4 +1,5 @@
-//! What all leaves of a certificate share.
+//! What all leaves of a certificate for tours share: costs, cases, families, and the sets of each
+//! node. `src/branch.rt` of tsp_branch makes one.
 
 ghost use Rattle.std.specs.Prelude.{◌≡◌, ◌≤◌, false};
 ghost use Rattle.tsp_theory.specs.Costs.{IsSymmetric};
@@ -10,7 +11,7 @@ use crate::set_place::SetPlace;
 use crate::tree_cases::Cases;
 use tsp_theory::Costs;
 
-/// What all leaves share: costs, the cases, families, and the places of the sets of each node.
+/// Costs, the cases, families, and the places of the sets of each node, for all leaves.
 ///
 /// Where pairs have no direction the costs are the same in both, and the bound of a leaf is that of
 /// a least 1-tree; else it is that of the least link from each node.

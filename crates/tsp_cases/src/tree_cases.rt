@@ -1,4 +1,5 @@
-//! The cases of a certificate.
+//! The steps of a tree of cases in which no case decides a pair twice, with its scale.
+//! `src/twice.rt` makes one, and `src/setting.rt` holds it.
 
 ghost use Rattle.std.specs.Prelude.{◌≡◌, ◌<◌, ◌-◌, ◌^◌, ℕ, [], ◌∷◌, true, length};
 ghost use Rattle.std.specs.List.{All};

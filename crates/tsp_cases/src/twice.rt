@@ -1,4 +1,5 @@
-//! Which branch comes twice. This is judged before any leaf is (pass.rt).
+//! Judges the branches of a tree of cases, before any leaf: the first bad one, else the first on a
+//! pair that is decided already. For `src/verdict.rt` of tsp_branch.
 
 ghost use Rattle.std.specs.Prelude.{IfOk};
 ghost use Rattle.std.specs.List.{All};

@@ -1,5 +1,5 @@
-//! EUC_2D in 64 bits, where the ways along the axes are whole numbers of 512ths, as those between
-//! whole coordinates are. Such a 512th is a step here.
+//! EUC_2D in 64 bits, for `src/metric.rt`, where the ways along the axes are whole numbers of
+//! 512ths, as those between whole coordinates are. Such a 512th is a step here.
 //!
 //! A step is 5^9 counts of 10^-9. So the count of k steps, multiplied by the inverse of 5^9 modulo
 //! 2^64, is k again. Of every other way the product is large.
@@ -97,7 +97,7 @@ pub(crate) fn quick_euc_2d(a: Point, b: Point) -> i64
     quick_between(&a, &b)
 }
 
-/// The same of points that are lent.
+/// The distance EUC_2D of points that are lent.
 #[inline(always)]
 fn quick_between(a: &Point, b: &Point) -> i64
     ensures distance { result ≡ pos (euc_2d_of a.now b.now) }

@@ -1,4 +1,5 @@
-//! The costs of points of the plane under EUC_2D.
+//! The costs of points of the plane under EUC_2D alone, so that no search for a bound asks for the
+//! metric at each pair. For the bounds of tsp_verdict.
 
 ghost use Rattle.std.specs.Prelude.{◌≡◌};
 ghost use Rattle.tsp_cost.specs.declared.metric.Metric.TheVariants.{Euc2d};
@@ -24,7 +25,7 @@ impl<'a> Points<'a, PlanePoint> {
     ghost use Rattle.std.specs.Prelude.{◌≡◌, IfSome};
     ghost use Rattle.tsp_cost.specs.states.Views.{euclidean_points};
 
-    /// The same costs, where they are EUC_2D.
+    /// These costs, if their metric is EUC_2D.
     pub fn euclidean(&self) -> Option<Euclidean<'a>>
         ensures { IfSome result (λ euclidean. euclidean_points euclidean ≡ self.now) }
     {

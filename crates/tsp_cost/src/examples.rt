@@ -1,5 +1,5 @@
-//! Small instances, on which the definitions are evaluated. No body is looked at here: a definition
-//! that is changed together with its code is refused by its examples.
+//! A law that states values of a definition in `specs/`, worked out by hand: which cycles use a
+//! fixed pair, directed or not.
 
 ghost use Rattle.std.specs.Prelude.{[], ◌∷◌};
 ghost use Rattle.tsp_format.specs.declared.kinds.Kind.TheVariants as kinds;

@@ -1,4 +1,4 @@
-//! Why a file is no instance.
+//! The fault of a file that has no costs. `Instance::of` in `src/instance.rt` returns it.
 
 use thiserror::Error;
 

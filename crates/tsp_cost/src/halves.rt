@@ -1,4 +1,5 @@
-//! Nodes in an order in which neighbours are near each other. Nothing is promised of it.
+//! An order of nodes in which neighbours are near each other. Nothing is promised of it. For
+//! `order` in `src/points.rt`, from which tsp_bound makes boxes.
 
 ghost use Rattle.std.specs.Prelude.{◌≡◌, ◌≤◌, ◌<◌, ◌*◌, ◌^◌, length};
 

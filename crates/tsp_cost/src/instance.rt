@@ -1,4 +1,5 @@
-//! Instances: files that have costs.
+//! Instances: files of TYPE TSP, ATSP or CVRP, with the costs between their nodes. tsp_judge makes
+//! one of a file, and tsp_verdict judges tours and routes of it.
 
 ghost use Rattle.std.specs.Prelude.{◌≡◌, IsTrue, unwrap_or, MatchResult, pos, neg_ℤ, ◌≤ℤ◌};
 ghost use Rattle.tsp_format.specs.Nodes.{IsNode};

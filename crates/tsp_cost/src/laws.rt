@@ -1,4 +1,5 @@
-//! That each valid instance is one problem, as a contract of a function that does nothing.
+//! A law: each valid instance is one problem, with one cost from each node to each. For
+//! `Instance::of` in `src/instance.rt`.
 
 ghost use Rattle.std.specs.Prelude.{◌≡◌, None, IsTrue};
 ghost use Rattle.tsp_draft.specs.Fields.{Fields};

@@ -1,4 +1,5 @@
-//! The weight types that are distances.
+//! The weight types that are distances, and the function of tsp_distance for each. For
+//! `src/points.rt`, `src/places.rt` and `src/euclidean.rt`.
 
 ghost use Rattle.std.specs.Prelude.{◌≡◌, IsTrue, ◌↔◌, pos, ◌≤ℤ◌, MatchOption};
 ghost use Rattle.tsp_format.specs.declared.kinds.WeightKind.TheVariants.{Explicit};
@@ -72,7 +73,7 @@ impl Metric {
         }
     }
 
-    /// The same of two points that come one after the other on a tour.
+    /// The distance of two points that come one after the other on a tour.
     #[inline(always)]
     #[tactic(auto, unfolding(tsp_file::specs::Cost::distance))]
     pub(crate) fn onward(self, a: Point, b: Point) -> i64

@@ -1,4 +1,5 @@
-//! The places of nodes: those of points, whose distances grow with the ways along the axes.
+//! Whether a whole region of points is at least so far from a point: by its nearest corner, since
+//! distances grow with the ways along the axes. For `src/points.rt` and `src/euclidean.rt`.
 
 use crate::metric::Metric;
 use crate::points::Points;

@@ -1,4 +1,5 @@
-//! Costs that are distances of points.
+//! Costs that are distances of points, of the plane or in space, by the metric of the weight type.
+//! For `src/view.rt`.
 
 ghost use Rattle.std.specs.Prelude.{◌≡◌, ◌≤◌, ◌-◌, ℕ, length, map};
 ghost use Rattle.tsp_distance.specs.declared.decimal.Point.{Point};
@@ -120,7 +121,7 @@ impl<'a, P: InSpace> Points<'a, P> {
         length + self.cost(from, *first)
     }
 
-    /// The same costs, by the metric that is theirs.
+    /// These costs under this metric, which is theirs.
     #[inline(always)]
     pub(crate) fn with(&self, metric: Metric) -> Points<'a, P>
         requires { metric ≡ self.now.metric }

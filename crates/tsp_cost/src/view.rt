@@ -1,11 +1,12 @@
-//! The costs of an instance as what they are taken from.
+//! The costs of an instance as one of four types: points of the plane, points in space, a full
+//! matrix, half of one. For tsp_verdict, which asks once which it is, and not for each cost.
 
 use crate::matrix::{EvenMatrix, Matrix};
 use crate::points::Points;
 use crate::triangle::Triangle;
 use tsp_distance::{PlanePoint, Point};
 
-/// What the costs of an instance are taken from.
+/// The costs of an instance, by the type that has them.
 #[derive(Clone, Copy, Debug)]
 pub enum View<'a> {
     /// The weight type is a distance, of points of the plane.
@@ -18,7 +19,7 @@ pub enum View<'a> {
     Triangle(Triangle<'a>),
 }
 
-/// What the costs of an instance are taken from, where they are the same in both directions.
+/// The costs of an instance, by the type that has them, where they are the same in both directions.
 #[derive(Clone, Copy, Debug)]
 pub enum EvenView<'a> {
     /// The weight type is a distance, of points of the plane.

@@ -1,4 +1,5 @@
-//! Likely causes of a fault, as far as the part of the file that was read shows one.
+//! Likely causes of a fault of a file, such as compressed bytes, as far as the part that was read
+//! shows one. For `src/file_fault.rt`.
 
 use crate::look::Look;
 use tsp_draft::EndFault;

@@ -1,4 +1,5 @@
-//! What a certificate shows of a reason against it.
+//! Lines of `--explain` on a reason against a certificate: the potentials, multiplier, family or
+//! branch that it names. For `src/refusal.rt`.
 
 use crate::refusal::{push_dimensions, push_type, say};
 use crate::solution::{count_at_place, first_repeated};
@@ -11,7 +12,7 @@ use tsp_task::Reason;
 /// The most sets of a family that is neither a lone set nor a comb.
 const MOST_SETS: i64 = 63;
 
-/// Appends what a certificate shows of a reason.
+/// Appends the numbers and nodes of a certificate that a reason names.
 pub(crate) fn push_certificate(
     text: &mut Vec<u8>,
     reason: Reason,

@@ -1,4 +1,5 @@
-//! Lengths that comments claim.
+//! The line of `--explain` on a comment of a solution that claims another length than its own. For
+//! `src/verdict_reasons.rt`.
 
 ghost use Rattle.std.specs.Prelude.{◌≡◌};
 ghost use Rattle.std.specs.Io.{StartsWith};

@@ -1,5 +1,5 @@
-//! Bytes of a file as they are shown. No body is looked at here: a definition that is changed
-//! together with its code is refused by its examples.
+//! Laws that state values of the definitions in `specs/`, worked out by hand: how bytes and names
+//! of files are shown.
 
 ghost use Rattle.std.specs.Prelude.{◌≡◌, [], ◌∷◌, codes};
 ghost use Rattle.tsp_explain.specs.ShownBytes.{shown_byte, all_shown, name_shown};

@@ -1,4 +1,5 @@
-//! Why a file isn't read: the place, the rule, and a likely cause.
+//! Lines of `--explain` on a file that isn't read: the place, the rule, and a likely cause. For
+//! `src/explained.rt` of tsp_perform and `src/followed.rt` of tsp_run.
 
 ghost use Rattle.std.specs.Io.{StartsWith};
 

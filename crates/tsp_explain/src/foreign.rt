@@ -1,5 +1,5 @@
-//! Files in the forms of other programs: what one looks like, and which file is required in its
-//! place.
+//! Files in the forms of other programs: which form one looks like, and which recipe converts it.
+//! For `src/file_fault.rt`.
 
 use crate::look::Look;
 use crate::text::{LinePart, push_line, push_lines};

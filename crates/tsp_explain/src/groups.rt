@@ -1,4 +1,5 @@
-//! Sections with a group of words for each node: which line has others than whole groups.
+//! Sections with a group of words for each node: the first line whose words are no whole groups.
+//! For `src/look.rt` and `src/guess.rt`.
 
 use crate::text::{LinePart, push_line, push_lines};
 use crate::wanted::group;
@@ -128,7 +129,7 @@ pub(crate) fn push_uneven(
     )
 }
 
-/// Appends the same, and as what the word is read therefore.
+/// Appends which line has others than whole groups, and as what the word is read therefore.
 pub(crate) fn push_shift(text: &mut Vec<u8>, field: Field, shift: Shift) -> Result<(), AllocError> {
     push_uneven(text, field, shift)?;
     if shift.before == 0 {

@@ -1,4 +1,5 @@
-//! The likely meaning of a line or a word, as far as the file shows it.
+//! The likely meaning of a line or a word at fault, such as a misspelled keyword, as far as the
+//! file shows it. For `src/file_fault.rt`.
 
 use crate::groups::{Shift, push_shift};
 use crate::look::{Look, first_run};

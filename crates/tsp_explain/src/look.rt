@@ -1,4 +1,5 @@
-//! A second look at a file that has a fault: the text at its place. For file_fault.rt.
+//! A second look at a file that has a fault: the text at its place, counts of words, keywords
+//! before it. For `src/file_fault.rt`.
 
 ghost use Rattle.std.specs.Prelude.{◌≤◌, length};
 

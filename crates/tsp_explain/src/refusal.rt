@@ -1,4 +1,5 @@
-//! Why a solution is refused: the rule, and the nodes and numbers that the reason is about.
+//! Lines of `--explain` on a solution that is refused: the rule, and the nodes and numbers that the
+//! reason is about. For `src/verdict_reasons.rt`.
 
 ghost use Rattle.std.specs.Io.{StartsWith};
 

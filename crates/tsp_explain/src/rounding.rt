@@ -1,4 +1,5 @@
-//! Tours whose distances are all rounded to 0 or 1.
+//! The line of `--explain` on a tour whose distances are all rounded to 0 or 1. For
+//! `src/verdict_reasons.rt`.
 
 use crate::text::{push, push_name};
 use std::alloc::AllocError;
@@ -64,7 +65,8 @@ fn step_of_tour(instance: &Instance, points: &Coords, tour: &[u32]) -> Option<bo
     Some(some_differ)
 }
 
-/// The same of the way from the last node to the first one, through the depot where there is one.
+/// Whether points differ on the way from the last node to the first one, through the depot where
+/// there is one, or `None` where a distance is more than 1.
 fn closing_step(instance: &Instance, points: &Coords, first: u32, last: u32) -> Option<bool> {
     match depot_of(instance) {
         Some(depot) => {

@@ -1,4 +1,5 @@
-//! What each fault and each reason means, in a sentence or two: a rule with its numbers.
+//! The sentences of `--explain`: what each fault and each reason means, as a rule with its numbers.
+//! For `src/file_fault.rt` and `src/refusal.rt`.
 //!
 //! Each is a `match` that names every variant, so that a new one needs its sentence.
 

@@ -1,4 +1,5 @@
-//! Nodes and places of the tours of a file.
+//! Lookups in the tours of a file: the node at a place, the place of a node, a missing or repeated
+//! node. For `src/refusal.rt`.
 
 use tsp_format::MOST_NODES;
 

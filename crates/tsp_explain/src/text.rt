@@ -1,4 +1,5 @@
-//! The lines of an explanation. Each is indented by two blanks.
+//! The lines of an explanation, each indented by two blanks, and bytes of a file as they are shown
+//! in one. For each file of this crate that appends lines.
 
 ghost use Rattle.std.specs.Prelude.{◌≡◌, ◌++◌, ◌≤◌, ◌<◌, OnOk, [], ◌∷◌, codes, map};
 ghost use Rattle.std.specs.List.{concat};
@@ -153,7 +154,7 @@ pub(crate) fn push_name(text: &mut Vec<u8>, name: &str) -> Result<(), AllocError
     push_named(text, name.as_bytes())
 }
 
-/// The same of the name's bytes.
+/// Appends the bytes of a name as `push_name` does.
 fn push_named(text: &mut Vec<u8>, bytes: &[u8]) -> Result<(), AllocError>
     ensures { OnOk result (text.new.items ≡ text.old.items ++ name_shown bytes.now) }
 {

@@ -1,4 +1,5 @@
-//! Why a solution is judged so, or why tours have no bound, from the files that were judged.
+//! Lines of `--explain` on a verdict or a bound: the reason against it, or a doubt about an
+//! accepted solution. For `src/explained.rt` of tsp_perform.
 
 ghost use Rattle.std.specs.Io.{StartsWith};
 

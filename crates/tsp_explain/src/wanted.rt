@@ -1,4 +1,5 @@
-//! What each keyword and each section takes, with its numbers.
+//! What each keyword and each section takes, with its numbers, as sentences of `--explain`. For
+//! `src/guess.rt` and `src/file_fault.rt`.
 
 use tsp_format::{Field, Shape};
 

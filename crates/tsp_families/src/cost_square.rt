@@ -1,4 +1,5 @@
-//! Costs between few nodes.
+//! The matrix of the costs between at most 14 nodes, which are the parts of a family. For
+//! `src/cycles.rt` and `src/paths.rt`.
 
 ghost use Rattle.std.specs.Prelude.{◌≡◌, ◌*◌, ◌≤◌, length};
 ghost use Rattle.std.specs.List.{All};

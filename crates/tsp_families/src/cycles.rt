@@ -1,4 +1,5 @@
-//! The least length of a cycle through few nodes.
+//! The least length of a cycle through at most 14 nodes, which are the parts of a family. For
+//! `src/family.rt`.
 
 ghost use Rattle.std.specs.Prelude.{pos, IfOk};
 ghost use Rattle.tsp_families.specs.Crossed.{IsLeastLength};

@@ -1,4 +1,5 @@
-//! How many sets are crossed between parts. For `family_crossings` in family.rt.
+//! How many sets of a family have one of two parts and not the other. For `family_crossings` in
+//! `src/family.rt`.
 
 ghost use Rattle.std.specs.Prelude.{◌≡◌, ◌≤◌, ◌<◌, ◌+◌, ◌*◌, ℕ, IfOk, length, count_ones, bit_xor, slice_index};
 ghost use Rattle.std.specs.List.{All};

@@ -1,4 +1,5 @@
-//! How often cycles cross a family of sets.
+//! How often every cycle crosses the sets of a family at least, and one edge at most. For
+//! `src/other_families.rt` of tsp_cases.
 
 ghost use Rattle.std.specs.Prelude.{◌≤◌, pos, MatchOption, IfOk, IfSome};
 ghost use Rattle.tsp_families.specs.Crossed.{sets_of, sets_crossed, IsLeastLength, IsMostCost, AreTooMany};

@@ -1,4 +1,5 @@
-//! What always holds of sets and their parts, as contracts of functions that do nothing.
+//! Laws on sets of nodes and the parts that they make: how often a cycle crosses the sets. For
+//! `src/family.rt`, and the laws and families of tsp_cases.
 
 ghost use Rattle.tsp_families.specs.SetParts.{PartsBoundCycles, PartsTellCycles, DivisionsBoundCycles, LeastLengthsAreUnique, MostCostsAreUnique, UnlikeNodesNeedParts};
 ghost use Rattle.tsp_families.specs.Memberships.{MembershipsTellSets};

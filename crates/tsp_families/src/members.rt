@@ -1,5 +1,4 @@
-//! Of each node a number whose bits say which sets have it. They divide the nodes into parts
-//! (parts.rt).
+//! For each node a number whose bits say which sets of a family have it. For `src/parts.rt`.
 
 ghost use Rattle.std.specs.Prelude.{◌≡◌, ℕ, ◌+◌, ◌<◌, ◌≤◌, ◌^◌, if◌then◌else◌, length, slice_index, IfOk};
 ghost use Rattle.std.specs.List.{All};

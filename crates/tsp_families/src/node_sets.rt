@@ -1,4 +1,5 @@
-//! Sets of nodes, as a file has them.
+//! The sets of one family, as a file lists them, with the number of nodes. tsp_cases makes one, and
+//! `src/family.rt` looks for its crossings.
 
 ghost use Rattle.std.specs.Prelude.{◌≤◌, ◌<◌, ◌-◌, ◌^◌, length};
 ghost use Rattle.tsp_families.specs.FamilySets.{AreSetsOf};

@@ -1,4 +1,4 @@
-//! The parts into which sets divide the nodes.
+//! The parts into which the sets of a family divide the nodes. For `src/family.rt`.
 
 ghost use Rattle.std.specs.Prelude.{◌≡◌, ◌≤◌, ◌<◌, ◌+◌, ◌^◌, ◌↔◌, ℕ, List, IsTrue, MatchOption, IfOk, IfSome, length, slice_index};
 ghost use Rattle.std.specs.List.{All, Any};

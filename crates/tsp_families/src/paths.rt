@@ -1,4 +1,4 @@
-//! The least lengths of paths through sets of nodes, by dynamic programming.
+//! The least lengths of paths through sets of nodes, by dynamic programming. For `src/cycles.rt`.
 
 ghost use Rattle.std.specs.Prelude.{◌≡◌, ℕ, ◌+◌, ◌-◌, ◌*◌, ◌^◌, ◌<◌, ◌≤◌, length, IfOk};
 ghost use Rattle.std.specs.List.{All};

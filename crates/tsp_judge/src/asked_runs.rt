@@ -1,6 +1,5 @@
-//! The checks of an instance and a solution, without a certificate, with potentials, and with a
-//! tree of cases; showing and converting a file. Each call is one of a run, whose fault it returns
-//! without the token of a refusal.
+//! Public calls that check, show or convert, as example_check does. Each is a case of the run of a
+//! verb, such as `run` in `src/checked.rt`, and returns its fault without the token of a refusal.
 
 ghost use Rattle.std.specs.Prelude.{◌≡◌};
 ghost use Rattle.tsp_stream.specs.states.Watched.{sink_of, turn_of};

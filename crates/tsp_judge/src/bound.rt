@@ -1,5 +1,5 @@
-//! A bound on the tours of an instance, without a solution, from the bytes read to the bytes
-//! written.
+//! The run of `tsp bound`, from the bytes read to the bytes written: a bound on the tours of an
+//! instance, without a solution. For `src/outcome.rt` of tsp_perform and `src/texts.rt` of tsp_c.
 
 ghost use Rattle.tsp_stream.specs.states.Watched.{sink_of, turn_of};
 ghost use Rattle.tsp_stream.specs.Turn.{Turn, TakesAtMost};
@@ -65,7 +65,7 @@ pub fn run_bound<I: Gives, C: Gives, W: Write>(
     bound_read(alloc, by, instance, certificate, strict, out)
 }
 
-/// The run on these files, whatever readers they came from.
+/// The run on these files, or the fault of the first that is none, whatever readers they came from.
 fn bound_read<W: Write>(
     alloc: Global,
     by: Certificate,

@@ -1,4 +1,5 @@
-//! A check, from the bytes read to the bytes written: the files are read, then judged.
+//! The run of `tsp check` with a certificate, from the bytes read to the bytes written. For
+//! `src/outcome.rt` of tsp_perform and `src/texts.rt` of tsp_c.
 
 ghost use Rattle.std.specs.Prelude.{◌≡◌, None};
 ghost use Rattle.tsp_stream.specs.states.Watched.{sink_of, turn_of};
@@ -79,7 +80,7 @@ pub(crate) fn read_certificate<C: Gives>(
     Ok(Some((by, file)))
 }
 
-/// The run on these files, whatever readers they came from.
+/// The run on these files, or the fault of the first that is none, whatever readers they came from.
 pub(crate) fn judge_read<W: Write>(
     alloc: Global,
     instance: File,

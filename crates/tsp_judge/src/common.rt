@@ -1,4 +1,5 @@
-//! What the solutions of a comparison are judged by, and what is found of each.
+//! What all solutions of a comparison are judged by: the instance, the certificate, and the basis
+//! of both; and the verdict or fault of each solution. For `src/compared.rt`.
 
 ghost use Rattle.std.specs.Prelude.{◌≡◌, MatchResult};
 ghost use Rattle.tsp_stream.specs.states.Watched.{turn_of};
@@ -33,7 +34,7 @@ pub struct Common {
     pub certificate: Option<(Certificate, File)>,
 }
 
-/// What is found of one solution.
+/// The verdict on one solution, or the fault of its file.
 #[derive(Drop)]
 pub enum Found {
     /// It is a file, and this is the verdict on it.

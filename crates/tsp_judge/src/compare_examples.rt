@@ -1,5 +1,5 @@
-//! The exit status of a comparison, its lines, and which file a fault is of. No body is looked at
-//! here: a definition that is changed together with its code is refused by its examples.
+//! Laws that state values of the definitions in `specs/`, worked out by hand: the exit status of a
+//! comparison, its lines, and which file a fault is of.
 
 ghost use Rattle.std.specs.Prelude.{◌≡◌, ℕ, List, [], ◌∷◌, true, false, None, Some, Ok, Err, pos, codes};
 ghost use Rattle.tsp_task.specs.declared.basis.Basis.TheVariants as bases;

@@ -1,4 +1,5 @@
-//! What the lines of a comparison mean, as contracts of functions that do nothing.
+//! Laws: what a line of a comparison says of its solution, and that a check of the same files has
+//! the same answer. No code calls them.
 
 ghost use Rattle.std.specs.Prelude.{◌≡◌, ◌++◌, ℕ, List, true, false, Option, None, Some, Ok, IsTrue, ℤ, codes};
 ghost use Rattle.std.specs.Fmt.{signed_decimal};

@@ -1,5 +1,5 @@
-//! A comparison of solutions, from the bytes read to the bytes written: the instance and the
-//! certificate are read once, then each solution is read, judged, and dropped.
+//! The run of `tsp compare` with a certificate, from the bytes read to the bytes written: each
+//! solution is read, judged, and dropped. For `src/outcome.rt` of tsp_perform.
 
 ghost use Rattle.std.specs.Prelude.{◌≡◌, ◌<◌, max, false, true, [], length, None};
 ghost use Rattle.tsp_stream.specs.states.Watched.{has_failed, sink_of, turn_of};
@@ -81,7 +81,7 @@ pub fn run_compare<I: Gives, C: Gives, R: Gives + Drop, E, S: Solutions<R> + Fol
     compare_read(alloc, instance, certificate, solutions, strict, out, to)
 }
 
-/// The run on these files, whatever readers they came from.
+/// The run on these files, or the fault of the first that is none, whatever readers they came from.
 pub(crate) fn compare_read<R: Gives + Drop, E, S: Solutions<R> + Follow<E>, W: Write>(
     alloc: Global,
     instance: File,

@@ -1,4 +1,5 @@
-//! Converting a file, from the bytes read to the bytes written.
+//! The run of `tsp convert`, from the bytes read to the bytes written. For `src/outcome.rt` of
+//! tsp_perform and `src/texts.rt` of tsp_c.
 
 ghost use Rattle.tsp_stream.specs.states.Watched.{sink_of, turn_of};
 ghost use Rattle.tsp_stream.specs.Turn.{TakesAtMost};

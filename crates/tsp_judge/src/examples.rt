@@ -1,6 +1,6 @@
-//! Which verdict is accepted, which instances a certificate is taken for, and which file a fault is
-//! of. No body is looked at here: a definition that is changed together with its code is refused by
-//! its examples.
+//! Laws that state values of the definitions in `specs/`, worked out by hand: which verdicts are
+//! accepted, numbers of statuses, the kinds of certificates, texts of faults, and which file a
+//! fault is of.
 
 ghost use Rattle.std.specs.Prelude.{◌≡◌, ◌++◌, Bool, true, false, Option, None, Some, Err, ℤ, pos, codes, decimal};
 ghost use Rattle.tsp_format.specs.declared.kinds.Kind.TheVariants as kinds;

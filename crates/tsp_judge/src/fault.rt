@@ -1,4 +1,5 @@
-//! The faults of a run.
+//! Why a run ended early, as an enum. Each run of this crate returns it in a `RunError`, and
+//! tsp_run, tsp_perform and tsp_c report it.
 
 use std::fmt;
 use thiserror::Error;
@@ -12,7 +13,7 @@ pub enum RunFault {
     /// A file, counted from 1, is none.
     File { file: u32, fault: ReadFault },
     /// Of the checks and of bounds alone: the first file is of TYPE TOUR, POTENTIALS or BRANCHES,
-    /// or of TYPE CVRP where a certificate is given.
+    /// or of TYPE CVRP where potentials are given.
     WrongKind,
     /// The output could not be written.
     Write(WriteFault),

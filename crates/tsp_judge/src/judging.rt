@@ -1,4 +1,4 @@
-//! The files of a run, and the verdict on them.
+//! Judges the files of a check and writes the report. For `src/checked.rt`.
 
 ghost use Rattle.std.specs.Prelude.{◌≡◌, option_map};
 ghost use Rattle.tsp_stream.specs.states.Watched.{sink_of};
@@ -27,7 +27,7 @@ pub struct Judged {
     pub certificate: Option<(Certificate, File)>,
 }
 
-/// Judges files, and writes the report.
+/// Judges a solution of an instance, with a certificate or without, and writes the report.
 pub(crate) fn judge_files<W: Write>(
     alloc: Global,
     instance: &Instance,

@@ -1,4 +1,5 @@
-//! What a verdict means, as a contract of a function that does nothing.
+//! A law: a verdict that accepts means what the line `yes` does, and each verdict has a report. For
+//! `src/texts.rt` and `src/handle_calls.rt` of tsp_c.
 
 ghost use Rattle.std.specs.Prelude.{◌≡◌, true, Option, ℤ, IsTrue};
 ghost use Rattle.tsp_draft.specs.Fields.{Fields};

@@ -1,4 +1,5 @@
-//! An instance that is open, with the certificate that is bound to it, where one is.
+//! An instance that stays open between calls, with the certificate that is bound to it, if any. For
+//! the handles of tsp_c, in `src/handle_calls.rt` there.
 
 ghost use Rattle.tsp_judge.specs.Open.{ReadsText};
 

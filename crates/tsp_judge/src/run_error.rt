@@ -1,4 +1,5 @@
-//! Why a run ends early, as a value that can't say out of memory without cause.
+//! Why a run ends early. Only a refusal of memory makes one that says out of memory. Each run of
+//! this crate returns it to tsp_perform or tsp_c.
 
 ghost use Rattle.std.specs.Prelude.{◌≡◌};
 ghost use Rattle.tsp_text.specs.declared.fault.ReadFault.TheVariants as read_faults;

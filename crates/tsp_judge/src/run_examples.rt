@@ -1,6 +1,5 @@
-//! Which faults the runs over one file may have, and which one a file of the wrong kind has. No
-//! body is looked at here: a definition that is changed together with its code is refused by its
-//! examples.
+//! Laws that state values of the definitions in `specs/`, worked out by hand: the faults of `show`
+//! and `convert`, and those of a first file of the wrong kind.
 
 ghost use Rattle.std.specs.Prelude.{Bool, [], Option, None, Some, Ok, Err, ℤ};
 ghost use Rattle.tsp_draft.specs.Fields.{Fields};

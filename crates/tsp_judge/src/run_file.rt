@@ -1,4 +1,5 @@
-//! Reading a file of a run.
+//! Reads a file of a run, and adds its number to a fault. For each run of this crate, such as
+//! `src/checked.rt`.
 
 ghost use Rattle.tsp_stream.specs.states.Watched.{turn_of};
 ghost use Rattle.tsp_stream.specs.Turn.{TakesAtMost};

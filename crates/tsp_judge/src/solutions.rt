@@ -1,4 +1,5 @@
-//! The solutions of a comparison, and who follows it.
+//! The traits of the solutions of a comparison and of who explains its lines. `src/compared.rt`
+//! takes them, and `src/followed.rt` of tsp_run implements them.
 
 ghost use Rattle.std.specs.Prelude.{◌≡◌, ◌<◌, ℕ, List, [], length, slice_index_or};
 

@@ -1,4 +1,5 @@
-//! The exit status of a run.
+//! The exit status of a run, by its answer or its fault. For `src/run_end.rt` of tsp_run, and
+//! `src/call_end.rt` and `src/ended.rt` of tsp_c.
 
 ghost use Rattle.std.specs.Prelude.{◌≡◌};
 ghost use Rattle.tsp_judge.specs.Status.{status_number, status_of, status_of_fault};

@@ -1,4 +1,5 @@
-//! A check and a comparison without a certificate, from the bytes read to the bytes written.
+//! The runs of `tsp check` and `tsp compare` without a certificate, from the bytes read to the
+//! bytes written. For `src/outcome.rt` of tsp_perform.
 
 ghost use Rattle.std.specs.Prelude.{None, length};
 ghost use Rattle.tsp_stream.specs.states.Watched.{sink_of, turn_of};

@@ -1,6 +1,5 @@
-//! Which outcomes are accepted, and what a task that is done says of its files, of the length that
-//! is claimed and of the certificate. No body is looked at here: a definition that is changed
-//! together with its code is refused by its examples.
+//! Laws that state values of the definitions in `specs/`, worked out by hand: which outcomes are
+//! accepted, and which reader of a task has which file.
 
 ghost use Rattle.std.specs.Prelude.{◌≡◌, ℕ, ℤ, List, Bool, true, false, Option, None, Some, Result, Err};
 ghost use Rattle.tsp_file.specs.declared.fault.RelayoutFault.{RelayoutFault};

@@ -1,5 +1,5 @@
-//! What the outcome or the fault of a task means, for a person. A task of names has what the
-//! user calls each of its files.
+//! Explains the outcome or the fault of a task to a person, by the names of its files. For
+//! `src/explanation.rt` of tsp_run and `src/explain.rt` of tsp_c.
 
 ghost use Rattle.std.specs.Io.{StartsWith};
 

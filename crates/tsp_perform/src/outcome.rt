@@ -1,4 +1,5 @@
-//! A task done, and solutions compared, by the call of the verb.
+//! Does a task by the run of its verb in tsp_judge, and compares solutions. For `src/running.rt` of
+//! tsp_run and `src/explain.rt` of tsp_c.
 
 ghost use Rattle.std.specs.Prelude.{◌≡◌, length};
 ghost use Rattle.tsp_judge.specs.Following.{IsFollowed};
@@ -18,7 +19,7 @@ use tsp_judge::{
 use tsp_stream::Gives;
 use tsp_task::{Certificate, Comparison, FileTask};
 
-/// What a task comes to.
+/// The result of a task: a verdict, a bound, or that a file was shown or converted.
 #[derive(Drop)]
 pub enum Outcome {
     /// A file was shown or converted.

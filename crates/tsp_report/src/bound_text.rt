@@ -1,4 +1,4 @@
-//! The text of a report on a bound without a solution, and its way to a writer.
+//! Writes the report of `tsp bound`. For `src/bound.rt` of tsp_judge.
 
 ghost use Rattle.tsp_stream.specs.states.Watched.{sink_of};
 ghost use Rattle.tsp_stream.specs.Sink.{Writes};

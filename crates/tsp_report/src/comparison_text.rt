@@ -1,4 +1,4 @@
-//! The text of a comparison, and its way to a writer.
+//! Writes the head and the lines of `tsp compare`. For `src/compared.rt` of tsp_judge.
 
 ghost use Rattle.std.specs.Prelude.{◌++◌, codes, IfOk};
 ghost use Rattle.tsp_stream.specs.states.Watched.{sink_of};

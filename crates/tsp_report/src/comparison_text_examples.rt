@@ -1,5 +1,5 @@
-//! Heads and lines of comparisons. No body is looked at here: a definition that is changed together
-//! with its code is refused by its examples.
+//! Laws that state values of the definitions in `specs/`, worked out by hand: heads and lines of
+//! comparisons.
 
 ghost use Rattle.std.specs.Prelude.{◌≡◌, ◌++◌, None, Some, Ok, Err, pos, negsuc, codes};
 ghost use Rattle.tsp_draft.specs.declared.fault.EndFault.TheVariants as ends;

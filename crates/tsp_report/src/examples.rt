@@ -1,5 +1,5 @@
-//! Lines of reports and of `show`. No body is looked at here: a definition that is changed together
-//! with its code is refused by its examples. Digits are as `decimal` writes them.
+//! Laws that state values of the definitions in `specs/`, worked out by hand: single lines of
+//! reports and of `show`. Digits are as `decimal` writes them.
 
 ghost use Rattle.std.specs.Prelude.{◌≡◌, ℕ, List, [], ◌∷◌, ◌++◌, None, Some, pos, negsuc, codes, decimal};
 ghost use Rattle.std.specs.Fmt.{signed_decimal};

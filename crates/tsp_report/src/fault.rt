@@ -1,4 +1,5 @@
-//! The text of a fault of a file.
+//! Writes the fault of a solution that is no file, in its line of `tsp compare`. For
+//! `src/comparison_text.rt`.
 
 ghost use Rattle.std.specs.Prelude.{◌≡◌, ◌++◌, codes};
 ghost use Rattle.tsp_number.specs.NumberFaultText.{number_fault_text};

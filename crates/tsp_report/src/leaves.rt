@@ -1,4 +1,4 @@
-//! How many leaves a tree of cases has.
+//! How many leaves a tree of cases has. For `src/shown.rt`.
 
 ghost use Rattle.std.specs.Prelude.{◌≡◌};
 ghost use Rattle.tsp_format.specs.Steps.{leaf_count};

@@ -1,4 +1,4 @@
-//! The text of a reason.
+//! Writes a reason: its name and its numbers. For `src/report.rt` and `src/comparison_text.rt`.
 
 ghost use Rattle.std.specs.Prelude.{◌≡◌};
 ghost use Rattle.tsp_stream.specs.states.WriteProgress.{Puts};

@@ -1,4 +1,5 @@
-//! The text of a report, and its way to a writer.
+//! Writes the report of `tsp check`. For `src/judging.rt` of tsp_judge and `src/handle_calls.rt` of
+//! tsp_c; other reports share its lines.
 
 ghost use Rattle.std.specs.Prelude.{◌≡◌, ◌++◌, ◌≤◌, ◌^◌, ◌-ℤ◌, Some, map, codes, unsigned_abs};
 ghost use Rattle.tsp_stream.specs.states.Watched.{sink_of};

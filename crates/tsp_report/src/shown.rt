@@ -1,4 +1,4 @@
-//! The text of `show`, and how it gets to a writer.
+//! Writes the lines of `tsp show`. For `src/show.rt` of tsp_judge.
 
 ghost use Rattle.std.specs.Prelude.{◌≡◌, ◌++◌, [], map, false};
 ghost use Rattle.std.specs.List.{flat_map, enumerate_from};

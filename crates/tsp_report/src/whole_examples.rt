@@ -1,5 +1,5 @@
-//! Whole reports, and all that is shown of files of each TYPE. No body is looked at here: a
-//! definition that is changed together with its code is refused by its examples.
+//! Laws that state values of the definitions in `specs/`, worked out by hand: whole reports, and
+//! all that `tsp show` prints of a file of each TYPE.
 
 ghost use Rattle.std.specs.Prelude.{◌≡◌, ◌++◌, None, Some, pos, codes};
 ghost use Rattle.tsp_task.specs.declared.verdict.BoundVerdict.TheVariants as bounds;

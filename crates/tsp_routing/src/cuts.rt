@@ -1,4 +1,5 @@
-//! Which family is no set of customers, and how often plans cross the others.
+//! Judges the families of a certificate for routes: the first that isn't one set of customers, or
+//! how often plans cross each at least. For `src/verdict.rt`.
 
 ghost use Rattle.std.specs.Prelude.{◌≡◌, ◌≤◌, ◌<◌, ◌+◌, ◌^◌, ℕ, ℤ, [], length, MatchOption, IfOk};
 ghost use Rattle.std.specs.List.{All};

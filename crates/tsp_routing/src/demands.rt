@@ -1,4 +1,5 @@
-//! What nodes demand and routes carry.
+//! The depot, the demand of each node and the capacity of a route. For `src/needs.rt`,
+//! `src/cuts.rt` and `src/units.rt`.
 
 /// The nodes 1 to `nodes`, one of them the depot, the demand of each, and what a route carries at
 /// most.

@@ -1,4 +1,5 @@
-//! What the multipliers of a leaf give back.
+//! What the multipliers of sets and the potentials of customers give back to the bound of a leaf
+//! for routes. For `src/plan_leaf.rt`.
 
 ghost use Rattle.std.specs.Prelude.{◌≡◌, ◌≤◌, ◌+◌, ◌-◌, ◌*◌, ◌<◌, ◌^◌, ℕ, ℤ, length, pos, neg_ℤ, unsigned_abs, ◌*ℤ◌, ◌≤ℤ◌, ◌==◌, if◌then◌else◌, true};
 ghost use Rattle.std.specs.List.{All};

@@ -1,4 +1,5 @@
-//! Whether the numbers of a leaf are good.
+//! Whether the potentials and multipliers of a leaf for routes are within their limits. For
+//! `src/plan_judge.rt`.
 
 ghost use Rattle.std.specs.Prelude.{◌≡◌, ◌+◌, ◌↔◌, IsTrue, length, take, drop, true, pos, neg_ℤ};
 ghost use Rattle.std.specs.List.{All};

@@ -1,4 +1,5 @@
-//! What is found of a certificate for routes.
+//! The verdict on a certificate for routes, as an enum: the bound, or the first fault.
+//! `src/verdict.rt` returns it to `src/walks.rt` of tsp_verdict.
 
 /// The verdict on a certificate for routes.
 #[derive(Drop)]

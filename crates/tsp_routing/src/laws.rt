@@ -1,5 +1,5 @@
-//! What always holds of plans and of bounds on their lengths, as contracts of functions that do
-//! nothing.
+//! Laws: how often plans cross sets, that routes are walks, and that no plan is shorter than the
+//! bound of a tree of cases. For `src/verdict.rt`, and `src/one_verdict.rt` of tsp_verdict.
 
 ghost use Rattle.tsp_routing.specs.PlanLinks.{LengthsAreWeights, PlanSums, PlansHaveFewRoutes};
 ghost use Rattle.tsp_routing.specs.Cuts.{PlansLeaveCuts, PlansCrossCuts};

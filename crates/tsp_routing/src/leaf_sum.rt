@@ -1,4 +1,5 @@
-//! From the least weight of a walk to the bound of a leaf.
+//! From the least weight of a walk to the bound of a leaf, whatever number of routes a plan has.
+//! For `src/plan_leaf.rt`.
 
 ghost use Rattle.std.specs.Prelude.{◌≡◌, ◌≤◌, ◌+◌, ◌-◌, ◌*◌, ◌^◌, ℕ, ℤ, List, pos, neg_ℤ, ◌-ℤ◌, ◌*ℤ◌};
 ghost use Rattle.tsp_format.specs.Limits.{most_nodes, most_potential};

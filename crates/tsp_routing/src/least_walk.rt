@@ -1,4 +1,5 @@
-//! The least weight of a walk.
+//! The least weight of a walk within the capacity, by dynamic programming over loads and nodes. For
+//! `src/plan_leaf.rt`.
 
 ghost use Rattle.std.specs.Prelude.{◌≡◌, ◌≢◌, ◌⊎◌, ◌≤◌, ◌<◌, ◌+◌, ◌-◌, ◌*◌, ◌^◌, ℕ, ℤ, ◌∷◌, length, pos, neg_ℤ, ◌+ℤ◌, ◌≤ℤ◌, Some, IfOk, IfSome};
 ghost use Rattle.tsp_format.specs.Nodes.{IsNode};
@@ -351,7 +352,8 @@ fn start<S: Sum, W: LentRows>(walks: &Walks<W>, table: &[Vec<Onward<S>>], row: &
     start_by(walks, table[table.len() - 1].as_slice(), row)
 }
 
-/// The same by the entries of the last row and the weights from the depot.
+/// The least weight of a walk by the entries of the last row and the weights from the depot, or the
+/// sum of none.
 fn start_by<S: Sum, W: LentRows>(walks: &Walks<W>, known: &[Onward<S>], row: &[i64]) -> S
     requires room { length row.now ≡ walks.now.nodes + 1 }
     requires links { (next : ℕ) → IsNode walks.now.nodes next

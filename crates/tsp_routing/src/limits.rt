@@ -1,4 +1,4 @@
-//! How often the limits of a case let plans cross a set.
+//! How often the limits of a case let plans cross a set. For `src/given_back.rt`.
 
 ghost use Rattle.std.specs.Prelude.{◌≡◌, ◌≤◌, ◌+◌, ◌*◌, ◌^◌, [], ◌∷◌};
 ghost use Rattle.tsp_cases.specs.states.Decided.{stack_of};
@@ -20,7 +20,7 @@ pub(crate) fn lowest(place: u32, decisions: &[Decision], own: u64) -> u64
     low
 }
 
-/// The same with one limit more.
+/// The least number of crossings with one limit more.
 fn raised(place: u32, limit: Decision, own: u64) -> u64
     requires { own ≤ 2 ^ 33 }
     ensures value { result ≡ low_of place (limit ∷ []) own }
@@ -45,7 +45,7 @@ pub(crate) fn highest(place: u32, decisions: &[Decision], own: u64) -> u64
     high
 }
 
-/// The same with one limit more.
+/// The greatest number of crossings with one limit more.
 fn lowered(place: u32, limit: Decision, own: u64) -> u64
     ensures value { result ≡ high_of place (limit ∷ []) own }
     ensures most { result ≤ own }

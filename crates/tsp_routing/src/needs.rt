@@ -1,4 +1,5 @@
-//! How many routes a set of customers needs.
+//! How many routes a set of customers needs, by its demands. For `src/cuts.rt` and
+//! `src/plan_leaf.rt`.
 
 ghost use Rattle.std.specs.Prelude.{◌≡◌, ◌≤◌, max, min};
 ghost use Rattle.tsp_format.specs.Limits.{most_nodes};

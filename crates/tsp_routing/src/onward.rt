@@ -1,4 +1,5 @@
-//! Entries of a table of the rests of walks.
+//! An entry of the table of `src/least_walk.rt`: for a node and a load the least weight of the rest
+//! of a walk.
 
 ghost use Rattle.std.specs.Prelude.{◌≡◌, ◌≤◌, ◌<◌, ◌+◌, ◌*◌, ℕ, ℤ, pos, neg_ℤ, ◌≤ℤ◌};
 ghost use Rattle.tsp_format.specs.Ranges.{IsFromTo};

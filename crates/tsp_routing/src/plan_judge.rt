@@ -1,4 +1,5 @@
-//! The judge of the leaves of a certificate for routes.
+//! The judge of the leaves of a certificate for routes: whether the numbers of a leaf are good, and
+//! its bound. `src/verdict.rt` passes it to `judge_leaves` of tsp_cases.
 
 ghost use Rattle.std.specs.Prelude.{◌≡◌, ◌≤◌, ◌+◌, true, length, IfOk};
 ghost use Rattle.tsp_cases.specs.FamiliesOfSets.{families_with};

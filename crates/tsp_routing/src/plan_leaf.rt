@@ -1,4 +1,5 @@
-//! The bound of a leaf of a certificate for routes.
+//! The bound of a leaf of a certificate for routes, from the least weight of a walk. For
+//! `src/plan_judge.rt`.
 
 ghost use Rattle.std.specs.Prelude.{◌≡◌, ◌≤◌, ◌+◌, ◌-◌, ◌^◌, ℕ, ℤ, length, true, pos, neg_ℤ, IfOk, IfSome, ◌-ℤ◌, ◌*ℤ◌};
 ghost use Rattle.tsp_format.specs.Ranges.{IsFromTo};
@@ -26,7 +27,7 @@ use tsp_cases::{MultipliedFamilies, OpenCase, fill_moved, take_multipliers};
 use tsp_memory::{Refused, filled};
 use tsp_theory::Costs;
 
-/// A leaf: its numbers, which are good, in what it shares with all others, and by node its
+/// A leaf: its numbers, which are good, the setting that it shares with all others, and by node its
 /// potential less the multipliers of its sets.
 #[derive(Drop)]
 pub(crate) struct PlanLeaf<'a, C: Costs> {

@@ -1,4 +1,5 @@
-//! A certificate for routes.
+//! A certificate for routes: costs, depot, demands, families and the steps of its tree.
+//! `src/walks.rt` of tsp_verdict makes one for `judge_plans` in `src/verdict.rt`.
 
 ghost use Rattle.std.specs.Prelude.{◌≡◌, ◌≤◌, ◌<◌, ◌^◌, true, length, pos};
 ghost use Rattle.std.specs.List.{All};

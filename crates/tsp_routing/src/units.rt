@@ -1,4 +1,5 @@
-//! Loads and the capacity of a route, in units.
+//! The load of each node and the capacity of a route, in units. `src/verdict.rt` counts them, and
+//! `src/setting.rt` holds them.
 
 ghost use Rattle.std.specs.Prelude.{◌≡◌, ◌≤◌, ◌<◌, ◌+◌, ◌*◌, ◌/◌, ◌==◌, ◌^◌, ℕ, ℤ, if◌then◌else◌, length, pos, nat_abs, ◌≤ℤ◌, IfOk};
 ghost use Rattle.tsp_format.specs.Nodes.{IsNode};

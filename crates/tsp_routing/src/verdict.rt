@@ -1,4 +1,5 @@
-//! The verdict on a certificate for routes.
+//! Judges a certificate for routes: its families, then its branches, then its leaves. For
+//! `src/walks.rt` of tsp_verdict.
 
 ghost use Rattle.std.specs.Prelude.{◌≡◌, ◌≤◌, ◌<◌, ◌+◌, ◌*◌, ◌^◌, true, [], length, nat_abs, IfOk};
 ghost use Rattle.std.specs.List.{All};

@@ -1,4 +1,5 @@
-//! What the solutions of one instance have in common.
+//! The basis of all solutions of an instance, before any is read: bounds, or the reason against
+//! all. tsp_verdict finds it for comparisons, and tsp_report prints it.
 
 use crate::verdict::Reason;
 

@@ -1,4 +1,5 @@
-//! What certifies a bound.
+//! The kinds of certificates of a bound. A task names one, and `src/certificate_bound.rt` of
+//! tsp_verdict finds its bound.
 
 /// What a file that certifies a bound on the tours or the routes of an instance holds.
 #[derive(Clone, Copy, Debug, PartialEq, Eq)]

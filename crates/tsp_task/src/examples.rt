@@ -1,5 +1,5 @@
-//! The files of tasks, and tasks whose files are mapped. No body is looked at here: a
-//! definition that is changed together with its code is refused by its examples.
+//! Laws that state values of the definitions in `specs/`, worked out by hand: which file of a task
+//! has which number, and tasks whose files are mapped.
 
 ghost use Rattle.std.specs.Prelude.{◌≡◌, ◌+◌, Bool, true, false, ℕ, ℤ, Option, None, Some, pos};
 ghost use Rattle.tsp_format.specs.declared.layout.Layout.{Layout};

@@ -1,5 +1,5 @@
-//! The table of reasons, column by column. No body is looked at here: a row that is changed
-//! together with its code is refused by its examples.
+//! Laws that state values of the definitions in `specs/`, worked out by hand: the names, numbers
+//! and files of reasons. They refuse a changed row of `src/reason_table.rt`.
 
 ghost use Rattle.std.specs.Prelude.{◌≡◌, ◌∷◌, [], None, Some, codes, map, pos, negsuc};
 ghost use Rattle.std.specs.List.{All};

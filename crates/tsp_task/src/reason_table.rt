@@ -1,4 +1,5 @@
-//! The table of reasons, one row each.
+//! The table of reasons, a row each: name, rank, file and numbers. For `src/reason.rt` of
+//! tsp_report, and the numbers of reasons in tsp_c.
 
 ghost use Rattle.std.specs.Prelude.{◌≡◌, None, Some, pos};
 ghost use Rattle.tsp_task.specs.ReasonRows.{row_of_reason};
@@ -6,7 +7,7 @@ ghost use Rattle.tsp_task.specs.ReasonRows.{row_of_reason};
 use crate::role::Role::{self, Branches, Instance, Potentials, Solution};
 use crate::verdict::Reason;
 
-/// What the texts and numbers of a reason are made from.
+/// The row of a reason: its name, its rank, the file that it is about, and its numbers.
 #[derive(Clone, Copy, Debug)]
 pub struct ReasonRow {
     /// Its name in a report.

@@ -1,4 +1,5 @@
-//! What a file is given for, and which file a reason is about.
+//! What a file is given for, instance, solution or certificate, and which of them a reason is
+//! about. For `src/task.rt`, and the explanations of tsp_explain.
 
 ghost use Rattle.std.specs.Prelude.{◌≡◌};
 ghost use Rattle.tsp_task.specs.ReasonRows.{role_of};

@@ -1,4 +1,5 @@
-//! A task, and its files.
+//! A task: a verb with its options and files. tsp_cli makes one of a command line, tsp_run opens
+//! its files, tsp_perform does it; tsp_c makes one to explain.
 
 ghost use Rattle.std.specs.Prelude.{◌≡◌, option_map};
 ghost use Rattle.std.specs.Fn.{FnReturnsAt};

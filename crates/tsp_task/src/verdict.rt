@@ -1,4 +1,5 @@
-//! What is said of a solution of an instance.
+//! The verdict on a solution, the verdict on a bound, and the reasons against them. tsp_verdict
+//! finds them, tsp_report prints them, tsp_explain explains them.
 
 /// Why a solution is refused, in the order in which reasons are judged.
 ///

@@ -1,4 +1,5 @@
-//! What holds of the costs between nodes, wherever they come from.
+//! The traits of costs between nodes, symmetric or not. tsp_cost implements them for instances;
+//! lengths and the bounds of tsp_bound, tsp_branch and tsp_routing take them.
 
 ghost use Rattle.std.specs.Prelude.{◌≡◌, ◌≢◌, ◌≤◌, ◌+◌, ℕ, ℤ, length, pos, neg_ℤ, ◌≤ℤ◌, IfSome};
 ghost use Rattle.std.specs.Bool.{OnTrue};

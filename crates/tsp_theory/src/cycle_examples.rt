@@ -1,5 +1,5 @@
-//! Small lists of nodes, on which the definitions are evaluated. No body is looked at here: a
-//! definition that is changed together with its code is refused by its examples.
+//! A law that states values of the definitions in `specs/`, worked out by hand: which lists are
+//! cycles, the next node on one, and lengths.
 
 ghost use Rattle.std.specs.Prelude.{◌≡◌, [], ◌∷◌, pos};
 ghost use Rattle.tsp_theory.specs.Cycle.{IsCycle, links};

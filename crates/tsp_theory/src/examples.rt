@@ -1,5 +1,5 @@
-//! Small costs, trees and duals, on which the definitions are evaluated. No body is looked at here:
-//! a definition that is changed together with its code is refused by its examples.
+//! Laws that state values of the definitions in `specs/`, worked out by hand: duals of three nodes,
+//! 1-trees of four nodes, and the bounds that these give.
 
 ghost use Rattle.std.specs.Prelude.{◌≡◌, ℤ, [], ◌∷◌, pos, negsuc};
 ghost use Rattle.tsp_theory.specs.CertificateNumbers.{entry, total, IsLeastBound};

@@ -1,4 +1,5 @@
-//! What always holds of bounds, as contracts of functions that do nothing.
+//! Laws: no cycle is shorter than the bound of duals, nor than that of a least 1-tree under
+//! potentials and multipliers. For tsp_bound, the laws of tsp_cases, and tsp_verdict.
 
 ghost use Rattle.std.specs.Prelude.{◌≡◌, ℕ, ℤ, List};
 ghost use Rattle.tsp_theory.specs.CertificateNumbers.{IsLeastBound};

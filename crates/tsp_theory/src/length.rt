@@ -1,4 +1,5 @@
-//! The lengths of lists of nodes.
+//! The lengths of lists of nodes. For tours in `src/subject.rt` of tsp_verdict, and the line
+//! `canonical` in `src/shown.rt` of tsp_report.
 
 ghost use Rattle.std.specs.Prelude.{◌≡◌, ◌≤◌, ◌++◌, ◌∷◌, [], map, length, vec_len, IfOk, OnOk};
 ghost use Rattle.std.specs.List.{All};

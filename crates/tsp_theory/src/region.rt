@@ -1,4 +1,5 @@
-//! Regions of space: boxes along the axes.
+//! Regions of space: boxes along the axes, with the point of each that is nearest to another point.
+//! For the boxes of tsp_bound, and `src/places.rt` and `src/halves.rt` of tsp_cost.
 
 ghost use Rattle.std.specs.Prelude.{◌≤◌, ◌≤ℤ◌, ◌-ℤ◌, ℤ, unsigned_abs};
 
@@ -27,7 +28,7 @@ impl Region {
         Region { low: point, high }
     }
 
-    /// A region that holds what either region holds.
+    /// A region with all points of both regions.
     #[inline]
     pub fn joined(self, other: Region) -> Region
         ensures left { (p : Point) → IsIn self p → IsIn result p }

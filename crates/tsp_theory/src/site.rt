@@ -1,4 +1,5 @@
-//! Nodes with their places.
+//! A node with the point in space that is its place, as costs give it. For the search by boxes in
+//! tsp_bound.
 
 use tsp_distance::Point;
 

@@ -1,4 +1,5 @@
-//! Weights that know how a least tree grows under them.
+//! The trait of weights that know how a least tree grows under them, row by row or by boxes.
+//! `src/tree.rt` takes them; `src/boxed_leaf.rt` and `src/leaf_rows.rt` of tsp_branch implement it.
 
 ghost use Rattle.std.specs.Prelude.{◌≡◌, ◌≤◌, ◌+◌, ◌*◌, ◌^◌, ℕ, length, pos, neg_ℤ, IfOk};
 ghost use Rattle.tsp_format.specs.Limits.{most_nodes};

@@ -1,4 +1,5 @@
-//! The growth of a tree over the nodes 2..n.
+//! The growth of a least tree over the nodes 2 to n, row by row, by Prim's method. For
+//! `src/part.rt` of tsp_bound, and `src/leaf_rows.rt` of tsp_branch.
 
 ghost use Rattle.std.specs.Prelude.{◌≡◌, ◌≤◌, ◌<◌, ◌+◌, ◌*◌, ◌^◌, ℕ, length, slice_index, IfOk, MatchOption, ◌<ℤ◌, pos, neg_ℤ};
 ghost use Rattle.tsp_format.specs.Nodes.{IsNode};
@@ -98,7 +99,8 @@ fn reach<W: Weights>(
     bring(row, outside, near, least, next)
 }
 
-/// The same by the row of the node that came inside.
+/// Updates the entries of the nodes outside by the row of the node that came inside, and finds the
+/// place of the nearest of them.
 fn bring(
     row: &[i64],
     outside: &[u32],

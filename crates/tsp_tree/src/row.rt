@@ -1,4 +1,5 @@
-//! Rows of numbers, each at the place of its node.
+//! The number of a row at the place of a node, read or added to. For the weights of tsp_bound,
+//! tsp_branch and tsp_routing.
 
 ghost use Rattle.std.specs.Prelude.{◌≡◌, ◌≢◌, ◌<◌, ◌+ℤ◌, ℕ, length};
 ghost use Rattle.std.specs.Int.{w64, int_wrap};

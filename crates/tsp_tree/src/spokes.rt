@@ -1,4 +1,4 @@
-//! The two pairs at node 1.
+//! The two lightest edges at node 1 of a 1-tree. For `src/tree.rt`, and `src/tree.rt` of tsp_bound.
 
 ghost use Rattle.std.specs.Prelude.{◌≡◌, ◌≤◌, ◌<◌, ◌+◌, ◌-◌, ◌^◌, length};
 ghost use Rattle.tsp_format.specs.Limits.{most_nodes};

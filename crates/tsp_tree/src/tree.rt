@@ -1,4 +1,5 @@
-//! Least 1-trees, however their trees grow.
+//! The weight of a least 1-tree, whose tree grows as its weights do it. For the leaves in
+//! `src/leaf.rt` of tsp_branch.
 
 ghost use Rattle.std.specs.Prelude.{◌≡◌, ◌≤◌, ◌+◌, ◌*◌, ◌^◌, ℕ, length, pos, neg_ℤ, IfOk};
 ghost use Rattle.tsp_format.specs.Limits.{most_nodes};

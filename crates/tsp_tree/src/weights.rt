@@ -1,11 +1,12 @@
-//! What holds of the weights of pairs of nodes, however they are made.
+//! The trait of weights of pairs of nodes, given row by row. `src/growth.rt` and `src/spokes.rt`
+//! take them; tsp_bound, tsp_branch and tsp_routing implement it.
 
 ghost use Rattle.std.specs.Prelude.{◌≡◌, ◌≤◌, ◌<◌, ◌+◌, ℕ, ℤ, length, slice_index, ◌<ℤ◌};
 ghost use Rattle.tsp_format.specs.Nodes.{IsNode};
 ghost use Rattle.tsp_format.specs.Limits.{most_nodes};
 ghost use Rattle.tsp_theory.specs.states.Nearest.{least_at};
 
-/// Weights between the nodes 1 to `count`, given by rows.
+/// Weights between the nodes 1 to `count`, given row by row.
 pub trait Weights {
     ghost nodes: { Self → ℕ };
 
@@ -30,7 +31,8 @@ pub trait Weights {
         ensures small { (x : ℕ) → IsNode (nodes self.now) x
             → least_at row.new x <ℤ i64.MAX };
 
-    /// The same at some nodes; what it writes at other places says nothing.
+    /// Writes the weights between a node and some others, each at the place of its node. What it
+    /// writes at other places says nothing.
     ///
     /// # Requires
     ///

@@ -1,5 +1,5 @@
-//! The verdict on a tour, and on routes: each call is a case of the general one, whose refusal it
-//! returns as std's `AllocError`.
+//! Public calls for the verdict on a tour or on routes, as example_check makes. Each is a case of
+//! `judge` in `src/solution_verdict.rt`, and returns a refusal as std's `AllocError`.
 
 ghost use Rattle.std.specs.Prelude.{◌≡◌, ◌⊎◌, Some, MatchResult};
 ghost use Rattle.tsp_format.specs.declared.kinds.Kind.TheVariants as kinds;

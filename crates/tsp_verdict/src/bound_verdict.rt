@@ -1,4 +1,5 @@
-//! The verdict on an instance with a certificate of a bound, without a solution.
+//! The verdict on an instance with a certificate of a bound, without a solution. For `src/bound.rt`
+//! and `src/opened.rt` of tsp_judge.
 
 ghost use Rattle.std.specs.Prelude.{◌≡◌, ◌⊎◌, ◌≤◌, IsTrue, Some, MatchResult};
 ghost use Rattle.tsp_format.specs.declared.kinds.Kind.TheVariants as kinds;

@@ -1,4 +1,5 @@
-//! The bound that a tree of cases gives, or the first reason against it.
+//! The bound that a tree of cases gives tours, or the first reason against it. For
+//! `src/certificate_bound.rt`.
 
 ghost use Rattle.std.specs.Prelude.{◌≡◌, ◌⊎◌, ◌≤◌, true, Some, IfOk, IsErr, MatchResult};
 ghost use Rattle.tsp_format.specs.declared.kinds.Kind.TheVariants as kinds;

@@ -1,4 +1,5 @@
-//! The bound that a certificate gives, by its kind.
+//! The bound that a certificate gives tours, by its kind, and which instances it can be for. For
+//! `src/subject.rt` and `src/bound_verdict.rt`.
 
 ghost use Rattle.std.specs.Prelude.{◌≡◌, ◌⊎◌, ◌≤◌, Some, IfOk, IsOk, IsErr};
 ghost use Rattle.tsp_format.specs.declared.kinds.Kind.TheVariants as kinds;

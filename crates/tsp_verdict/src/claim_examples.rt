@@ -1,5 +1,5 @@
-//! Claimed lengths: the verdict on a solution with a length that is claimed. No body is looked at
-//! here: a definition that is changed together with its code is refused by its examples.
+//! Laws that state values of the definitions in `specs/`, worked out by hand: the verdict on a
+//! solution with a claimed length, and fixed arcs as decisions.
 
 ghost use Rattle.std.specs.Prelude.{◌≡◌, ◌∷◌, [], None, Some, pos, negsuc};
 ghost use Rattle.tsp_draft.specs.Fields.{Fields};

@@ -1,4 +1,5 @@
-//! What is known of all solutions of an instance, before any is read.
+//! The basis of all solutions of an instance, before any is read: their bounds, or the reason
+//! against all. For `src/subject.rt`, and comparisons and open instances in tsp_judge.
 
 ghost use Rattle.std.specs.Prelude.{◌≡◌, IsTrue, None, Some, MatchResult, option_map};
 ghost use Rattle.tsp_format.specs.declared.kinds.Kind.TheVariants as kinds;

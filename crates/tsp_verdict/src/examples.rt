@@ -1,5 +1,5 @@
-//! Small instances and solutions, on which the definitions are evaluated. No body is looked at
-//! here: a definition that is changed together with its code is refused by its examples.
+//! Laws that state values of the definitions in `specs/`, worked out by hand: when each reason
+//! against small tours, routes and certificates applies, and in which order.
 
 ghost use Rattle.std.specs.Prelude.{◌≡◌, ℕ, ◌+◌, ◌*◌, [], ◌∷◌, None, Some, pos, negsuc};
 ghost use Rattle.tsp_format.specs.declared.kinds.Kind.TheVariants as kinds;

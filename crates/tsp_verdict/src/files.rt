@@ -1,4 +1,5 @@
-//! What is read of a solution and of a routing instance.
+//! The tours of a solution file, and the depot, demands and capacity of a routing instance. For
+//! `src/subject.rt` and `src/routes.rt`.
 
 ghost use Rattle.std.specs.Prelude.{◌≡◌, ◌≤◌, false, length, pos, MatchOption, Some};
 ghost use Rattle.std.specs.List.{All};

@@ -1,4 +1,5 @@
-//! The first places of a list of nodes at which something holds. Places count from 1.
+//! The first place of a list of nodes with a repeated, a too large or a sought node. Places count
+//! from 1. For `src/tour.rt` and `src/visits.rt`.
 
 ghost use Rattle.std.specs.Prelude.{◌≡◌, ◌≢◌, ◌+◌, ◌^◌, ◌<◌, ◌≤◌, ℕ, List, length, vec_len, IfOk, MatchOption};
 ghost use Rattle.std.specs.Bool.{OnTrue};

@@ -1,4 +1,4 @@
-//! Which fixed pairs a tour uses.
+//! The first fixed pair that a tour does not use. For `src/subject.rt`.
 
 ghost use Rattle.std.specs.Prelude.{◌≡◌, ◌+◌, ◌-◌, ◌^◌, ◌<◌, ◌≤◌, ℕ, List, length, vec_len, slice_index_or, IfOk, MatchOption, MatchBool};
 ghost use Rattle.std.specs.List.{All};
@@ -59,7 +59,7 @@ fn next_nodes(alloc: Global, cycle: &[u32], n: u32) -> Result<Vec<u32>, Refused>
     Ok(next)
 }
 
-/// The same, by the node that comes next after each.
+/// The first fixed pair that a cycle does not use, by the node that comes next after each.
 fn first_unused(fixed: &[(u32, u32)], next: &[u32], directed: bool) -> Option<u32>
     requires size { length fixed.now < 2 ^ 32 }
     requires range { All (IsPairOf (length next.now - 1)) fixed.now }

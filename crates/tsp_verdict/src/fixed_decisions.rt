@@ -1,4 +1,5 @@
-//! The fixed pairs of an instance as decisions.
+//! The fixed pairs of an instance as decisions of all cases, each once. For
+//! `src/branching_bound.rt`.
 
 ghost use Rattle.std.specs.Prelude.{◌≡◌, ◌≤◌, IfOk};
 ghost use Rattle.tsp_cases.specs.Decisions.{take_pairs};

@@ -1,4 +1,4 @@
-//! A length that is claimed of a solution.
+//! Whether the claimed length of a solution is another one than its own. For `src/subject.rt`.
 
 ghost use Rattle.std.specs.Prelude.{◌≡◌, true, false, MatchOption};
 ghost use Rattle.tsp_verdict.specs.SolutionVerdict.{HasLength, HasNoLength, IsAsClaimed, IsOtherClaimed};

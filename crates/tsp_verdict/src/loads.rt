@@ -1,4 +1,5 @@
-//! The demands of nodes, and what vehicles carry.
+//! The first route over the capacity, and the least number of routes that carry all demands. For
+//! `src/routes.rt` and `src/comparison_basis.rt`.
 
 ghost use Rattle.std.specs.Prelude.{◌≡◌, ◌^◌, ◌<◌, ◌≤◌, map, length, pos, ◌≤ℤ◌, MatchOption};
 ghost use Rattle.std.specs.List.{All};

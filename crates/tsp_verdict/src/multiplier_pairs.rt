@@ -1,4 +1,5 @@
-//! Which triples of multipliers are on a pair that isn't fixed, or on that of an earlier triple.
+//! The first multiplier on a pair that isn't fixed, or on the pair of an earlier one. For
+//! `src/potentials_bound.rt`.
 
 ghost use Rattle.std.specs.Prelude.{◌≡◌, ◌^◌, ◌<◌, ℕ, List, false, length, IfOk, MatchOption};
 ghost use Rattle.std.specs.List.{AllPairs};

@@ -1,4 +1,4 @@
-//! That files have one verdict, as contracts of functions that do nothing.
+//! A law: files have one verdict, and an instance with a certificate one bound. No code calls it.
 
 ghost use Rattle.tsp_verdict.specs.OneVerdict.{FilesHaveOneVerdict, FilesHaveOneBound, FilesHaveOneBasis, SolutionsHaveOneVerdict};
 

@@ -1,4 +1,5 @@
-//! Pairs of nodes as sets of pairs have them.
+//! A pair of nodes as the key of a set of pairs. For `src/fixed_decisions.rt` and
+//! `src/multiplier_pairs.rt`.
 
 ghost use Rattle.std.specs.Prelude.{◌≡◌};
 ghost use Rattle.tsp_verdict.specs.states.PairSets.{key_of};

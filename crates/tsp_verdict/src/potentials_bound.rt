@@ -1,4 +1,5 @@
-//! The bound that a file of potentials gives, or the first reason against it.
+//! The bound that a file of potentials gives tours, or the first reason against it. For
+//! `src/certificate_bound.rt`.
 
 ghost use Rattle.std.specs.Prelude.{◌≡◌, ◌≤◌, false, true, length, Some, IfOk, IsErr, MatchOption, MatchResult};
 ghost use Rattle.std.specs.List.{All};
@@ -209,7 +210,7 @@ fn bound_of_duals(
     }
 }
 
-/// The same over the costs of a view.
+/// The bound that duals give over these costs, or the first pair that breaks them.
 fn assignment_bound<C: Costs>(
     inst: &Instance,
     c: &C,
@@ -263,7 +264,7 @@ fn bound_of_potentials(
     }
 }
 
-/// The same over the costs of a view.
+/// The bound that potentials of nodes and multipliers give over these costs.
 fn tree_bound<C: Symmetric>(
     alloc: Global,
     inst: &Instance,

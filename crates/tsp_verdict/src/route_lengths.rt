@@ -1,4 +1,4 @@
-//! The lengths of routes.
+//! The length of a plan: of each route, from the depot and back. For `src/routes.rt`.
 
 ghost use Rattle.std.specs.Prelude.{◌≡◌, ◌+◌, ◌≤◌, ◌∷◌, map, length};
 ghost use Rattle.std.specs.List.{All};

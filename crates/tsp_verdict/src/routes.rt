@@ -1,4 +1,5 @@
-//! The verdict on routes.
+//! The verdict on routes: the first reason against the instance or the plan, or its number of
+//! routes and its length. For `src/subject.rt`.
 
 ghost use Rattle.std.specs.Prelude.{◌≡◌, ◌≤◌, length, pos, Some, MatchOption, MatchResult};
 ghost use Rattle.std.specs.List.{All};

@@ -1,5 +1,5 @@
-//! The verdict on a solution, with a certificate of a bound where there is one, or with what is
-//! known of all solutions, and with a length that is claimed, where one is.
+//! The verdict on a solution, by a certificate or by the basis of all solutions, and by a claimed
+//! length, if any. For `src/judging.rt`, `src/common.rt` and `src/opened.rt` of tsp_judge.
 
 ghost use Rattle.std.specs.Prelude.{IsTrue, MatchResult, Option, option_map};
 ghost use Rattle.tsp_draft.specs.Fields.{Fields};

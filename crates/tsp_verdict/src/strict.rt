@@ -1,4 +1,5 @@
-//! Unknown keywords as a reason, where it is asked that they be one.
+//! `--strict`: verdicts, bounds and bases of an instance with unknown keywords, which are a reason
+//! then. For the runs of tsp_judge and `src/handle_calls.rt` of tsp_c.
 
 ghost use Rattle.std.specs.Prelude.{◌≡◌, true, false, [], ◌∷◌, None, Some, pos};
 ghost use Rattle.tsp_draft.specs.Fields.{Fields};

@@ -1,4 +1,5 @@
-//! What solutions are judged by, and the verdict on one of them.
+//! What a solution is judged by, an instance with a certificate or with a known basis, and the
+//! verdict on it. For `src/solution_verdict.rt`.
 
 use crate::bound_verdict::costs_of_tours;
 use crate::certificate_bound::bound_by;

@@ -1,5 +1,5 @@
-//! What the bound of a verdict is taken from, what an instance of tours was judged by, and the
-//! verdict on a tour by what is known of all.
+//! Whether the bound of a verdict comes from a certificate or from a known basis, and the verdict
+//! on a tour by that basis. For `src/subject.rt`.
 
 ghost use Rattle.std.specs.Prelude.{◌≡◌};
 ghost use Rattle.tsp_verdict.specs.states.TourBases.{verdict_by, verdict_with};
@@ -8,7 +8,7 @@ use crate::tour::TourCosts;
 use tsp_file::File;
 use tsp_task::{Basis, Certificate, Verdict};
 
-/// What the bound of a verdict is taken from.
+/// The origin of the bound of a verdict.
 #[derive(Clone, Copy)]
 pub(crate) enum BoundOrigin<'a> {
     /// A certificate, where there is one. It is judged after the solution.

@@ -1,6 +1,5 @@
-//! Accepted solutions and their lengths, certificates at a scale of 2, and which of several reasons
-//! is named. No body is looked at here: a definition that is changed together with its code is
-//! refused by its examples.
+//! Laws that state values of the definitions in `specs/`, worked out by hand: lengths of accepted
+//! solutions, bounds at a scale of 2, and which of several reasons is named.
 
 ghost use Rattle.std.specs.Prelude.{◌≡◌, ◌<◌, ℕ, [], ◌∷◌, Option, None, ℤ, pos, ◌+ℤ◌, ◌*ℤ◌, ◌<ℤ◌};
 ghost use Rattle.tsp_format.specs.Steps.{Leaf};

@@ -1,5 +1,5 @@
-//! The nodes of several routes, one after the other. Places count from 1, through all of them. For
-//! routes.rt.
+//! The first place of several routes with a repeated, a too large or a sought node. Places count
+//! from 1, through all routes. For `src/routes.rt`.
 
 ghost use Rattle.std.specs.Prelude.{◌≡◌, ◌≢◌, ◌+◌, ◌^◌, ◌<◌, ◌≤◌, ℕ, true, false, length, vec_len, slice_index_or, MatchOption};
 ghost use Rattle.std.specs.List.{All};

@@ -1,4 +1,5 @@
-//! The bound that a certificate by branching gives routes, or the first reason against it.
+//! The bound that a tree of cases gives routes, or the first reason against it. For
+//! `src/bound_verdict.rt`.
 
 ghost use Rattle.std.specs.Prelude.{◌≡◌, ◌≤◌, true, Some, IfOk, IsErr};
 ghost use Rattle.tsp_format.specs.declared.kinds.Kind.TheVariants as kinds;
