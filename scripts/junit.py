@@ -1,4 +1,4 @@
-"""The outcomes of a check as JUnit XML, which build servers read."""
+"""The outcomes of ./check as JUnit XML, which build servers read: `./check --junit FILE`. scripts/check imports it."""
 from __future__ import annotations
 
 import re

@@ -7,7 +7,8 @@ What differs between them is marked in the pages, in comments of Markdown:
     <!-- release .. -->                  only in a release
 
 Commands call `tsp` in a release and `./tsp` in the repository. PATHS has the files that are elsewhere there. A page
-of SOURCES is about the repository's sources, and says so in a release.
+of SOURCES is about the repository's sources, and says so in a release. scripts/release imports it; tests/repository/released
+sees how the pages read there.
 """
 from __future__ import annotations
 

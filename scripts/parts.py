@@ -6,6 +6,8 @@ Each part has the constants that it names.
 
 One part has the code that reads the command line: clap's, and what only that calls. It runs once, so it isn't
 optimized. The others have the crates in the order of crates.txt, in which a crate is near those that it uses.
+
+lowered.py makes the quick program so; tests/build/parts tests it.
 """
 from __future__ import annotations
 

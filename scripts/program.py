@@ -1,7 +1,7 @@
 """The built programs of a checkout, each beside a file with the sum of the sources that it was built of.
 
 `./tsp` runs a program where nothing of the sources has changed since the time of that file, which is the
-time at which the build began. `is_current` decides where something has.
+time at which the build began. `is_current` decides where something has. For the scripts build, check, mark and quick.
 """
 from __future__ import annotations
 

@@ -1,7 +1,7 @@
 """The run of `rt ci` that proves every crate, and its critical path.
 
 `rt ci` proves many crates at once, each after those below it. The critical path of a run is the chain of crates of
-which each began when the one before it had ended. It says what would shorten the run.
+which each began when the one before it had ended. It says what would shorten the run. scripts/check imports it.
 """
 from __future__ import annotations
 

@@ -1,4 +1,5 @@
-"""What a crate is made of: its sources and those of the crates below it, their sum, and a copy of them."""
+"""What a crate is made of: its sources and those of the crates below it, their sum, and a copy of them. Most scripts of this
+folder import it; it imports none of them."""
 from __future__ import annotations
 
 import hashlib

@@ -2,7 +2,7 @@
 crates/NAME/out/rlib. So nothing but the crate itself is proved again.
 
 `rt lib` and `rt run` would prove each crate below once more, over the proofs of those below it. The words of
-the calls are those of the toolchain's own command, which is loaded here.
+the calls are those of the toolchain's own command, which is loaded here. For the scripts check, mark and release.
 """
 from __future__ import annotations
 

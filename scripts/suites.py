@@ -1,4 +1,5 @@
-"""The suites of tests/suites.toml, and their runs beside each other."""
+"""The suites of tests/suites.toml, and their runs beside each other. scripts/check imports it; tests/build/checker tests it, and
+tests/repository/bodies reads the suites by it."""
 from __future__ import annotations
 
 import heapq

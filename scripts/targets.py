@@ -1,8 +1,11 @@
 """Modules for LLVM that the toolchain makes for Linux on x86-64, for other systems.
 
 The proved code has no instruction of x86-64 in them, and neither vectors nor floating point that another processor
-does in another way. A program's `main` asks for the processor first, which is left out. All targets have words of 64 bits, put the least byte first, and align numbers of 128 bits to 16
-bytes. So only the target's two lines, and the function attributes of the processor and of its stack, are replaced.
+does in another way. A program's `main` asks for the processor first, which is left out. All targets have words of 64 bits,
+put the least byte first, and align numbers of 128 bits to 16 bytes. So only the target's two lines, and the function
+attributes of the processor and of its stack, are replaced.
+
+For bindings/systems/build, bindings/node/build and wasm.py. It needs the toolchain's clang.
 """
 from __future__ import annotations
 

@@ -1,4 +1,5 @@
-"""The WebAssembly modules of the page and of the package for Node, of modules for LLVM that the toolchain makes."""
+"""The WebAssembly modules of the page and of the package for Node, of modules for LLVM that the toolchain makes. For
+bindings/web/build and bindings/node/build."""
 from __future__ import annotations
 
 import shutil

@@ -1,4 +1,5 @@
 # Completion of tsp for bash: source this file, or copy it to the folder of bash-completion as `tsp`.
+# tests/pages/completions compares it with the help of tsp.
 _tsp() {
     local word=${COMP_WORDS[COMP_CWORD]} before=${COMP_WORDS[COMP_CWORD - 1]} verb=${COMP_WORDS[1]}
     local words=

@@ -1,4 +1,5 @@
-# Completion of tsp for fish: copy this file to ~/.config/fish/completions.
+# Completion of tsp for fish: copy this file to ~/.config/fish/completions. tests/pages/completions compares it with the
+# help of tsp.
 complete -c tsp -n __fish_use_subcommand -f -a show -d 'Says what a file contains'
 complete -c tsp -n __fish_use_subcommand -f -a convert -d 'Writes a file anew'
 complete -c tsp -n __fish_use_subcommand -f -a check -d 'Judges a tour or routes'

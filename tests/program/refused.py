@@ -1,4 +1,5 @@
-"""Runs of a program while calls of the C library are refused, by refusals.c, and what such a run has to end with."""
+"""Runs of a program while calls of the C library are refused, by refusals.c, and what such a run has to end with.
+For tests/program/refusals."""
 from __future__ import annotations
 
 import os

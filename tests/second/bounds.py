@@ -1,4 +1,5 @@
-"""Bounds of certificates and the reasons against them, pair by pair, from docs/format.md alone."""
+"""Bounds of certificates and the reasons against them, pair by pair, from docs/format.md alone. For judge.py,
+and for tests/program/boxes and tests/program/trees."""
 from __future__ import annotations
 
 from collections.abc import Callable, Iterator

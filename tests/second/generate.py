@@ -1,6 +1,6 @@
 """Cases for the program and the second reader: files whole and broken, numbers, distances, tours and certificates.
 
-Each generator makes one case of a number. Those that stand for a product of choices take the choices in another order,
+Each generator makes one case of a number. Those that choose from a product of choices take them in another order,
 so that each comes once before one comes again. tests/second/run takes its cases of here, in the suite `second` of ./check.
 """
 from __future__ import annotations

@@ -1,4 +1,5 @@
-"""A second judge: reasons, lengths and reports of checks, bounds and comparisons, from docs/format.md alone."""
+"""A second judge: reasons, lengths and reports of checks, bounds and comparisons, from docs/format.md alone. For
+tests/second/run, tests/second/rows-of-tables and tests/program/trees."""
 from __future__ import annotations
 
 from bounds import Unbounded, reason_against_branches, reason_against_potentials, tree_bound, potential_bound

@@ -1,6 +1,7 @@
 """Bugs planted in copies of the second reader, one at a time. The cases of a seed have to show each of them.
 
-The program agrees with the reader on these cases. So a bug that they show is one that they would show in the program. `tests/second/run --planted` runs them, by hand.
+The program agrees with the reader on these cases. So a bug that they show is one that they would show in the program.
+`tests/second/run --planted` runs them, by hand.
 """
 from __future__ import annotations
 

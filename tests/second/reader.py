@@ -1,6 +1,6 @@
 """A second reader of TSPLIB files, plain and slow, written from docs/format.md alone. It reads a text that is whole.
 
-`read` returns the file of a text, or raises its first fault.
+`read` returns the file of a text, or raises its first fault. The other modules of this folder import it.
 """
 from __future__ import annotations
 

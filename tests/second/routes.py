@@ -1,5 +1,5 @@
 """Bounds of certificates for routes, and the reasons against them: walks by recursion, plans one by one. Written from
-docs/format.md alone."""
+docs/format.md alone. For judge.py and tests/second/run."""
 from __future__ import annotations
 
 import sys

@@ -1,4 +1,5 @@
-"""Makes a case smaller that shows a difference, and writes it as a row for tests/program/tables."""
+"""Makes a case smaller that shows a difference, and writes it as a row for tests/program/tables. For
+tests/second/run."""
 from __future__ import annotations
 
 import re

@@ -1,4 +1,5 @@
-"""The canonical text of a file, its costs, another layout, and the lines of `show`, from docs/format.md alone."""
+"""The canonical text of a file, its costs, another layout, and the lines of `show`, from docs/format.md alone. For
+judge.py and tests/second/run."""
 from __future__ import annotations
 
 from math import isqrt

@@ -2,7 +2,8 @@
 
 usage: python3 tests/support/counts.py FILE
 
-As a program it prints the three numbers of a file's last line. Where that has none, the exit status is 1.
+As a program it prints the three numbers of a file's last line. Where that has none, the exit status is 1. counts.sh calls it
+so; runner.py and scripts/suites.py import it.
 """
 from __future__ import annotations
 

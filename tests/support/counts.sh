@@ -1,6 +1,6 @@
 # shellcheck shell=sh
-# What the tests share that are written for the shell: their folder `here`, a folder `scratch` that
-# is removed at the end, and the counts.
+# What the tests written for the shell source: their folder `here`, a folder `scratch` that is removed at the end, and the
+# counts of their last line.
 LC_ALL=C
 export LC_ALL
 here=$(cd "$(dirname "$0")" && pwd) || exit 1

@@ -1,5 +1,6 @@
 """The rows of tests/program/tables, and how the program runs on one; and the cases of tests/program/cases.
-tests/program/README.md says what both are."""
+tests/program/README.md says what both are. For run-tables, run-cases and refusals of tests/program, and for the tests of
+the bindings, which run the rows too."""
 
 import os
 import re

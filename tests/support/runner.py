@@ -1,4 +1,4 @@
-"""What the tests written in Python share: the program that they run, and the counts with which each ends."""
+"""What the tests written in Python import: the program that they run, and the counts with which each ends."""
 from __future__ import annotations
 
 import argparse

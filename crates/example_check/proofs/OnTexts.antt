@@ -24,14 +24,15 @@ printed sink written report held holds has =
     let a : Appends (Some []) sink.holds report = subst (λ (k : Option (List ℕ)). Appends k sink.holds report) held has.2 in
     subst (λ (k : Option (List ℕ)). Appends (Some []) k report) holds a
 
--- without a certificate `yes` is of a tour or of routes
+-- without a certificate the line `yes` is about a tour, or about routes
 alone : (certificate : Option (Certificate × Fields)) (instance solution : Fields) (report : List ℕ) → IsFileIn None certificate
     → IsAccepted certificate None instance solution report
     → IsAcceptedTour None instance solution report ⊎ AreAcceptedRoutes None instance solution report
 alone None instance solution report is accepted = accepted
 alone (Some given) instance solution report is accepted = absurd is
 
--- plan: both files are those of the texts (`spelled`), and the report is the one that was written (`printed`)
+-- plan: the readers deliver the bytes of both texts, so the files are those of the texts (`spelled`), and the writer
+-- holds the report (`printed`)
 pub accepted_on : (first second : Turn) (sink : Sink) (one two written : List ℕ) → first.known ≡ Some one → second.known ≡ Some two
     → sink.held ≡ Some [] → sink.holds ≡ Some written → SaysYes None None false first second sink → IsAcceptedOnTexts one two written
 accepted_on first second sink one two written first_is second_is held holds says = record {

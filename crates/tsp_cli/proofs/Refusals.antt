@@ -1,4 +1,5 @@
--- Words that are refused. For `job_of` in src/words.rt.
+-- A refusal of clap is the fault of the command line: one of those that the grammar finds in the words, or out of
+-- memory. For `job_of` in src/words.rt.
 use Rattle.std.proofs.Common.{◌≡◌, ◌⊎◌, ◌∙◌, inl, inr, List, Err, sym, subst}
 use Rattle.clap.specs.Words.{HasKind, IsAmong, Text, fault_of, kind_of}
 use Rattle.clap.specs.declared.error.Error.{Error}

@@ -1,4 +1,5 @@
--- The distance by each weight type grows with the ways along the axes. For `Points::is_beyond_by` in src/places.rt.
+-- The distance to the nearest point of a box is at most that to its other points, for each weight type. For
+-- `Points::is_beyond_by` in src/places.rt.
 use Rattle.std.proofs.Common.{◌≤◌, ◌≤ℤ◌, ℕ, ℤ, Bool, true, false, refl, arith}
 use Rattle.std.specs.Prelude.{pos, IsTrue}
 use Rattle.std.specs.Bool.{OnTrue}

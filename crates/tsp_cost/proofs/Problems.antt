@@ -1,4 +1,5 @@
--- Each valid instance is one problem. For the law `instances_are_problems` in src/laws.rt.
+-- Each valid instance is one problem: its fields give nodes, costs, fixed edges and routing data, and no other ones.
+-- For the law `instances_are_problems` in src/laws.rt.
 use Rattle.std.proofs.Common.{◌≡◌, ◌≢◌, ℕ, ◌+◌, ◌-◌, ◌<◌, eqb, ltb-false, Bool, true, false, List, [], ◌∷◌, length, map, Option, None, Some, refl, sym, ap, subst, ◌∙◌, inl, inr, arith}
 use Rattle.std.specs.Prelude.{◌⊎◌, ℤ, pos, unsigned_abs, unwrap_or, is_some, IsSome, slice_index, slice_index_or, nat_lt, nat_le, if◌then◌else◌}
 use Rattle.std.specs.List.{range_with_len}
@@ -35,7 +36,7 @@ use Rattle.tsp_cost.specs.ProblemLaws.{IsProblem, HaveSameCosts, AreSame, AreSam
 use Rattle.tsp_cost.specs.ComputedProblems.{is_directed, problem_of, routing_of, depots_of, demands_of}
 use Rattle.tsp_cost.proofs.Instances.{distance_kind, is_listed_kind}
 
--- what the law of the costs says
+-- the law of the distances: each is defined, and unique
 abbrev pub AreDefined : Type 0
 AreDefined = (f : Fields) (kind : WeightKind) (i j : ℕ) → f.weight_kind ≡ Some kind → kind ≢ Explicit
     → IsDistanceBy kind (point_of (unwrap_or f.coords []) i) (point_of (unwrap_or f.coords []) j) (unsigned_abs (cost f i j))

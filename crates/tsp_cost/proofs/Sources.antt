@@ -1,4 +1,5 @@
--- What the costs of an instance are by where they come from. For `Instance::distance_view` in src/instance.rt and others.
+-- The costs of an instance by their source: distances of its points, or weights that a layout lists. For
+-- `Instance::distance_view` in src/instance.rt and others.
 use Rattle.std.proofs.Common.{◌≡◌, ◌≢◌, ℕ, true, false, List, length, Some, refl, sym, ap, subst, ◌∙◌}
 use Rattle.std.specs.Prelude.{unwrap_or, ℤ}
 use Rattle.std.specs.List.{All}
@@ -33,7 +34,7 @@ none_listed metrics.Att = refl
 is_distance : (metric : Metric) → weight_kind_of metric ≢ Explicit
 is_distance metric same = false≢true (sym (none_listed metric) ∙ ap (λ kind. is_explicit (Some kind)) same)
 
--- those that are distances of these points
+-- the costs are the distances of these points
 pub record AreOfPoints (f : Fields) (metric : Metric) (points : List Point) : Type 0 where
   pub kind : is_explicit f.weight_kind ≡ false
   pub count : f.dimension ≡ Some (length points)
@@ -48,7 +49,7 @@ of_points f nodes source metric points found comes stand = record {
   every = cost_of_points f (weight_kind_of metric) points comes.0 (is_distance metric) stand;
 }
 
--- those that are weights in a layout
+-- the costs are these weights in a layout
 pub record AreOfWeights (f : Fields) (layout : Layout) (nodes : ℕ) (weights : List ℤ) : Type 0 where
   pub kind : is_explicit f.weight_kind ≡ true
   pub lists : ListsWeights f layout nodes weights

@@ -1,4 +1,5 @@
--- Sums of costs along nodes, step by step. For `Points::along` and `Points::through` in src/points.rt.
+-- The length of a tour as a sum of costs, node by node, which fits 64 bits. For `Points::along` and `Points::through`
+-- in src/points.rt.
 use Rattle.std.proofs.Common.{◌≡◌, ℕ, suc, ◌+◌, ◌-◌, ◌*◌, ◌<◌, ◌≤◌, List, [], ◌∷◌, ◌++◌, take, drop, length, refl, sym, ap, subst, ◌∙◌, arith, to_z, of_z, drop-cons, take-append-drop, append_assoc}
 use Rattle.std.specs.Prelude.{ℤ, pos, neg_ℤ, ◌+ℤ◌, ◌≤ℤ◌, slice_index_or}
 use Rattle.std.specs.Int.{w64}
@@ -28,7 +29,7 @@ pub sum_more : (sum cost : ℤ) (count : ℕ) → IsSumOfCosts count sum → neg
     → IsSumOfCosts (count + 1) (sum +ℤ cost)
 sum_more sum cost count size low high = record { low = omega (arith, ints, size.low); high = omega (arith, ints, size.high) }
 
--- two sums together, and that they are what the code computes
+-- two sums together, which fit 64 bits
 pub sum_both : (sum other : ℤ) (count more : ℕ) → IsSumOfCosts count sum → IsSumOfCosts more other
     → IsSumOfCosts (count + more) (sum +ℤ other)
 sum_both sum other count more size others =
@@ -44,7 +45,7 @@ pub cost_fits : (sum cost : ℤ) (count : ℕ) → count ≤ 1000000 → IsSumOf
     → to_z w64 (of_z w64 (sum +ℤ to_z w64 (of_z w64 cost))) ≡ sum +ℤ cost
 cost_fits sum cost count few size low high = omega (arith, ints, few, size.low, size.high, low, high)
 
--- costs that are the same between all nodes
+-- equal costs have equal sums
 pub sum_same : {X : Type 0} (f g : X → ℤ) → ((x : X) → f x ≡ g x) → (xs : List X) → sum_int_by f xs ≡ sum_int_by g xs
 sum_same f g same [] = refl
 sum_same f g same (x ∷ xs) = rw (same x, sum_same f g same xs) refl

@@ -46,6 +46,6 @@ att_cover a b =
     let k = att_of a b in
     record { enough = is.enough; least = λ some. not_within _ _ (is.none_smaller (k - 1) (before_less k some)) }
 
--- the squares of the three ways are that of the straight distance in space
+-- the squares of the three differences sum to that of the straight distance in space
 pub space_is : (a b : Point) (w h u : ℕ) → w ≡ dx a b → h ≡ dy a b → u ≡ dz a b → squared w + squared h + squared u ≡ square_apart_in_space a b
 space_is a b w h u wide high up = cc

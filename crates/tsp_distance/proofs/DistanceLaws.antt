@@ -1,4 +1,5 @@
--- The laws of the five distances. For the law `distance_laws` in src/laws.rt and others.
+-- The five distances of the plane: each is one number, symmetric, 0 between equal points and never long. For the law
+-- `distance_laws` in src/laws.rt and others.
 use Rattle.std.proofs.Common.{◌≡◌, ℕ, ◌+◌, ◌*◌, ◌-◌, ◌<◌, ◌≤◌, Bool, true, false, ℤ, pos, negsuc, ◌-ℤ◌, unsigned_abs, neg_ℤ, ◌+ℤ◌, ◌≤ℤ◌, ◌^◌, nat_lt, nat_le, if◌then◌else◌, max, zero, suc, refl, sym, ap, ◌∙◌, arith, inl, inr}
 use Rattle.std.proofs.lemmas.Bool.{cases_lt}
 use Rattle.std.proofs.lemmas.Bool.Decides.{nat_tests}
@@ -65,7 +66,7 @@ from_at_most m n test = grind (arith, nat_tests)
 not_at_most : (m n : ℕ) → nat_le m n ≡ false → n < m
 not_at_most m n test = grind (arith, nat_tests)
 
--- ---- each distance is defined
+-- ---- there is a number for each distance
 
 -- the least k with s below the square of its next half is the root of s rounded
 pub rounded_square : (s k : ℕ) → k ≡ least (λ j. nat_lt (4 * s) (squared ((2 * j + 1) * unit))) s
@@ -131,7 +132,7 @@ max_2d-defined a b =
     let parts = rounded (max (dx a b) (dy a b)) (max_2d_of a b) refl in
     record { below_next_half = parts.0; from_last_half = parts.1 }
 
--- ---- and only once
+-- ---- and no other one
 
 pub rounded_square_apart : (s j k : ℕ) → 4 * s < squared ((2 * j + 1) * unit) → (0 < k → squared ((2 * k - 1) * unit) ≤ 4 * s) → ¬ (j < k)
 rounded_square_apart s j k high low less =
@@ -165,7 +166,7 @@ max_2d_apart a b j k first second = rounded_apart (max (dx a b) (dy a b)) j k fi
 same_from : (j k : ℕ) → ¬ (j < k) → ¬ (k < j) → j ≡ k
 same_from j k first second = omega arith
 
--- a defined number, if no two are defined, is unique
+-- where there is a number and no two, it is unique
 pub only_one : (Is : Point → Point → ℕ → Type 0) (distance : Point → Point → ℕ) → ((a b : Point) → Is a b (distance a b))
     → ((a b : Point) (j k : ℕ) → Is a b j → Is a b k → ¬ (j < k)) → (a b : Point) (k : ℕ) → Is a b k → k ≡ distance a b
 only_one Is distance defined apart a b k is =

@@ -1,5 +1,5 @@
--- Each distance grows with the ways along the axes: a number that covers the larger covers the smaller. For the law
--- `monotone_laws` in src/monotone.rt.
+-- Each distance grows with the differences of both points along the axes: a number that covers the larger square covers
+-- the smaller. For the law `monotone_laws` in src/monotone.rt.
 use Rattle.std.proofs.Common.{ℕ, ◌+◌, ◌*◌, ◌-◌, ◌<◌, ◌≤◌, max, arith}
 use Rattle.tsp_distance.specs.declared.decimal.Point.{Point}
 use Rattle.tsp_distance.specs.Decimal.{unit}
@@ -8,7 +8,7 @@ use Rattle.tsp_distance.specs.Monotone.{IsMonotone}
 use Rattle.tsp_distance.proofs.DistanceLaws.{squared-le, rounded_square_apart, rounded_apart, covered_apart, euc_2d_laws, ceil_2d_laws, man_2d_laws, max_2d_laws, att_laws}
 use Rattle.tsp_distance.proofs.SpaceLaws.{euc_3d_laws, man_3d_laws, max_3d_laws}
 
--- ---- what the distances are taken of
+-- ---- the squares, sums and maxima of the differences grow with these
 
 abbrev IsWay : (Point → Point → ℕ) → Type 0
 IsWay way = (a b c d : Point) → dx a b ≤ dx c d → dy a b ≤ dy c d → dz a b ≤ dz c d → way a b ≤ way c d
@@ -37,7 +37,7 @@ longest_in_space-grows : IsWay longest_way
 longest_in_space-grows a b c d x y z =
     max-le (max (dx a b) (dy a b)) (dz a b) (max (dx c d) (dy c d)) (dz c d) (longest-grows a b c d x y z) z
 
--- ---- a rounding of what grows
+-- ---- each rounding grows
 
 -- the root to the nearest whole number
 nearest_root : (way distance : Point → Point → ℕ) → IsWay way → ((a b : Point) → 4 * way a b < squared ((2 * distance a b + 1) * unit))

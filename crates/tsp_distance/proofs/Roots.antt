@@ -1,4 +1,5 @@
--- From the tests on whole numbers to the distances that are rounded upward. For `straight` in src/distance.rt and others.
+-- Whole-number tests on squares give the rounded roots of the distances, in 64 and 128 bits. For `straight` in
+-- src/distance.rt and others.
 use Rattle.std.proofs.Common.{◌≡◌, ℕ, ◌+◌, ◌*◌, ◌-◌, ◌<◌, ◌≤◌, ◌^◌, ℤ, pos, negsuc, ◌*ℤ◌, ◌-ℤ◌, unsigned_abs, w64, Bool, true, false, nat_lt, zero, suc, refl, inl, inr, ap, ◌∙◌, FitsSigned, to_z, of_z, rules, arith}
 use Rattle.std.proofs.lemmas.Bool.{cases_lt}
 use Rattle.std.proofs.lemmas.Bool.Decides.{nat_tests}
@@ -66,7 +67,7 @@ is_att a b k is = record {
       omega arith;
 }
 
--- ---- the square of a way, and numbers that are certainly its rounded root
+-- ---- the square of a difference of coordinates
 
 pub square_is : (way : ℤ) → way *ℤ way ≡ pos (squared (unsigned_abs way))
 square_is (pos n) = refl
@@ -86,7 +87,7 @@ near_fits : (z : ℤ) → unsigned_abs z ≤ 2 * 10 ^ 18 → FitsSigned w64 z
 near_fits (pos n) small = search rules
 near_fits (negsuc n) small = search rules
 
--- a way as the code computes it, in 64 bits
+-- a difference as the code computes it, in 64 bits
 pub way_is : (way x y : ℤ) → way ≡ x -ℤ y → unsigned_abs way ≤ 2 * 10 ^ 18 → unsigned_abs (to_z w64 (of_z w64 way)) ≡ unsigned_abs (x -ℤ y)
 way_is way x y is small = ap unsigned_abs (to_z-of_z w64 way (near_fits way small) ∙ is)
 
@@ -97,7 +98,7 @@ apart-most a b w h wide high small small' =
     let second : dy a b ≤ 2 * 10 ^ 18 = rw high at small' in
     omega (arith, square-most (dx a b) first, square-most (dy a b) second)
 
--- the square of a way as the code computes it, in 128 bits
+-- the square of a difference as the code computes it, in 128 bits
 pub wide_square : (wide way : ℤ) → wide ≡ way → unsigned_abs way ≤ 2 * 10 ^ 18
     → to_z w128 (of_z w128 (to_z w128 (of_z w128 wide) *ℤ to_z w128 (of_z w128 wide))) ≡ pos (squared (unsigned_abs way))
 wide_square wide way same small =
@@ -155,7 +156,7 @@ tenth_cover square k edge edge' steps edge_is edge'_is reached is =
 
 -- ---- no rounded root is larger than a number that covers the square
 
--- what is at least a number that covers the square covers it too
+-- a larger number than one that covers the square covers it too
 covers-up : (rounding : Rounding) (square most k : ℕ) → Covers rounding square most → most ≤ k → Covers rounding square k
 covers-up Nearest square most k enough le =
     let side : (2 * most + 1) * unit ≤ (2 * k + 1) * unit = omega arith in

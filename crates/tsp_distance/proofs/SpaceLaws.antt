@@ -1,11 +1,12 @@
--- The laws of the three distances in space. For the law `distance_laws` in src/laws.rt and others.
+-- The three distances of space: each is one number, symmetric, 0 between equal points and never long. For the law
+-- `distance_laws` in src/laws.rt and others.
 use Rattle.std.proofs.Common.{◌≡◌, ℕ, ◌+◌, ◌*◌, ◌<◌, ◌≤◌, ◌^◌, nat_lt, refl, sym, ap, arith}
 use Rattle.tsp_distance.specs.declared.decimal.Point.{Point}
 use Rattle.tsp_distance.specs.Decimal.{unit, most_count}
 use Rattle.tsp_distance.specs.Distances.{squared, dx, dy, dz, square_apart_in_space, longest_way, IsEuc3d, IsMan3d, IsMax3d, least, euc_3d_of, man_3d_of, max_3d_of, IsInSpace, IsDistanceInSpace}
 use Rattle.tsp_distance.proofs.DistanceLaws.{squared-le, rounded, rounded_square, rounded_apart, rounded_square_apart, rounded-most, rounded_square-most, only_one, unsigned_abs-self, unsigned_abs-sub, unsigned_abs-most, dx-comm, dy-comm}
 
--- ---- each is defined
+-- ---- there is a number for each distance
 
 euc_3d-defined : (a b : Point) → IsEuc3d a b (euc_3d_of a b)
 euc_3d-defined a b =
@@ -22,7 +23,7 @@ max_3d-defined a b =
     let parts = rounded (longest_way a b) (max_3d_of a b) refl in
     record { below_next_half = parts.0; from_last_half = parts.1 }
 
--- ---- and only once
+-- ---- and no other one
 
 euc_3d_apart : (a b : Point) (j k : ℕ) → IsEuc3d a b j → IsEuc3d a b k → ¬ (j < k)
 euc_3d_apart a b j k first second = rounded_square_apart (square_apart_in_space a b) j k first.below_next_half second.from_last_half

@@ -1,4 +1,5 @@
--- Tests of a list, seen through what its elements hold. For `are_combs` in src/validity.rt and others.
+-- Tests of the values of a draft, which are vectors, are the tests of the lists in these: texts, tours, combs, steps.
+-- For `are_combs` in src/validity.rt and others.
 use Rattle.std.proofs.Common.{◌≡◌, ℕ, zero, suc, ◌+◌, [], ◌∷◌, ◌≤◌, Bool, true, false, List, length, map, refl, sym, ap, ◌∙◌, arith}
 use Rattle.std.specs.Prelude.{◌&&◌, nat_le, replicate}
 use Rattle.std.specs.Global.{Vec}
@@ -41,7 +42,7 @@ pub comb_seen : (n : ℕ) (sets : List (Vec ℕ))
 comb_seen n sets =
     rw (length-map sets (λ (set : Vec ℕ). set.items), list_all-map (is_set_of n) (λ (set : Vec ℕ). set.items) sets) refl
 
--- how many nodes the sets of a comb have
+-- the number of nodes in the sets of combs
 nodes_seen : (combs : List (Vec (Vec ℕ)))
     → sum_by (sum_by length) (combs_of combs) ≡ sum_by (λ comb. sum_by (λ set. length set.items) comb.items) combs
 nodes_seen combs = sum_by_mapped (sum_by length) (λ (comb : Vec (Vec ℕ)). map (λ set. set.items) comb.items) combs ∙ each combs 0
@@ -88,7 +89,7 @@ judged_steps n steps each few whole r of_each of_few of_whole is =
     && (nat_le (branch_count (steps_of steps)) most_branches && nat_le (change_count (steps_of steps)) most_changes) && b) of_whole
     ∙ sym (steps_seen n steps)
 
--- what a list of equal elements is seen as
+-- a list of equal elements, each mapped
 pub map_replicate : {X Y : Type 0} (f : X → Y) (n : ℕ) (x : X) → map f (replicate n x) ≡ replicate n (f x)
 map_replicate f zero x = refl
 map_replicate f (suc n) x = ap (λ ys. f x ∷ ys) (map_replicate f n x)

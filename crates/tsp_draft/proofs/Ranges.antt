@@ -1,4 +1,5 @@
--- What the bits of numbers tell of their range. For `all_bits` and `are_from_to` in src/range.rt.
+-- The bits that some number of a list has give its range, without a comparison for each number. For `all_bits` and
+-- `are_from_to` in src/range.rt.
 use Rattle.std.proofs.Common.{◌≡◌, ℕ, ◌<◌, ◌^◌, ℤ, pos, ◌≤ℤ◌, to_z, of_z, FitsSigned, true, List, arith, rules}
 use Rattle.std.proofs.lemmas.Int.{ints, to_z-of_z}
 use Rattle.std.proofs.lemmas.List.Elements.{All-weaker}
@@ -14,7 +15,7 @@ own_bits z fits small = let same : to_z w64 (of_z w64 z) ≡ z = to_z-of_z w64 z
 from_to : (low high z : ℤ) → low ≤ℤ z → z ≤ℤ high → is_from_to low high z ≡ true
 from_to low high z under over = search rules
 
--- numbers from 0 on that are no larger than their bits are in each range that holds both
+-- numbers from 0 to the number with all their bits are in each range that contains both of these
 pub all_from_to : (low high : ℤ) (bits : ℕ) (numbers : List ℤ) → low ≤ℤ pos 0 → pos bits ≤ℤ high
     → All (λ number. (pos 0 ≤ℤ number) × (number ≤ℤ pos bits)) numbers → list_all (is_from_to low high) numbers ≡ true
 all_from_to low high bits numbers under over all = list_all-from_AllPass (is_from_to low high) numbers

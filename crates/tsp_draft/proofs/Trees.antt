@@ -1,4 +1,5 @@
--- Steps one after the other: how many trees are still to come. For `is_whole_tree` in src/validity.rt.
+-- The steps of trees of cases, one after the other: how many trees are still to come after a branch or a leaf. For
+-- `is_whole_tree` in src/validity.rt.
 use Rattle.std.proofs.Common.{◌≡◌, ℕ, zero, suc, ◌+◌, ◌<◌, List, ◌∷◌, length, drop, refl, sym, ap, ◌∙◌, arith}
 use Rattle.std.specs.Prelude.{ℤ, slice_index_or as get_or}
 use Rattle.std.specs.Global.{Vec}
@@ -8,7 +9,7 @@ use Rattle.tsp_format.specs.declared.steps.TreeStep.TheVariants as listed
 use Rattle.tsp_format.specs.states.TreeSteps.{steps_of}
 use Rattle.tsp_format.specs.Steps.{are_whole}
 
--- where some tree is still to come, one more is after a branch
+-- where a tree is still to come, a branch makes one more
 pub after_branch : (steps : List TreeStep) (i : ℕ) (d : TreeStep) (left first second : ℕ) → i < length steps
     → get_or steps i d ≡ listed.Branch first second → (left ≡ 0 → ⊥)
     → are_whole (left + 1) (steps_of (drop (i + 1) steps)) ≡ are_whole left (steps_of (drop i steps))
@@ -19,7 +20,7 @@ after_branch steps i d (suc left) first second lt is some =
     ∙ ap (λ (step : TreeStep). are_whole (suc left) (steps_of (step ∷ drop (i + 1) steps))) is
     ∙ ap (λ (k : ℕ). are_whole k (steps_of (drop (i + 1) steps))) more)
 
--- and one less after a leaf
+-- and a leaf one less
 pub after_leaf : (steps : List TreeStep) (i : ℕ) (d : TreeStep) (left less : ℕ) (changes : Vec (ℕ × ℤ)) → i < length steps
     → get_or steps i d ≡ listed.Leaf changes → less + 1 ≡ left
     → are_whole less (steps_of (drop (i + 1) steps)) ≡ are_whole left (steps_of (drop i steps))

@@ -97,7 +97,7 @@ found_inside {X} test (y ∷ ys) x e = by_test (test y) (found_inside test ys x)
     by_test true rest e = (0, omega arith, cc)
     by_test false rest e = Contains-tail y ys x (rest e)
 
--- ---- what a draft without a fault passes
+-- ---- the tests that a draft without a fault passes
 
 no_bad_field : (f : Fields) → fault_of f ≡ None → bad_field f ≡ None
 no_bad_field f valid = none_map (λ field. BadField field) (bad_field f)
@@ -127,7 +127,7 @@ format_and_count f valid =
     let first = not_chosen (has_wrong_format s) WrongFormat (cond (has_wrong_count s) (Some WrongCount) None) rest in
     (first.0, (not_chosen (has_wrong_count s) WrongCount None first.1).0)
 
--- ---- what tests mean
+-- ---- the ranges that tests check
 
 from_to : (low high z : ℤ) → is_from_to low high z ≡ true → IsFromTo low high z
 from_to low high z e =

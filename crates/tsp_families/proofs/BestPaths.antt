@@ -1,4 +1,5 @@
--- Sets of nodes as numbers, and the best paths through them. For `best_path` in src/paths.rt.
+-- The best path through a set of parts: a least step and a best path through the others. Sets are numbers whose bits
+-- are their parts. For `best_path` in src/paths.rt.
 use Rattle.std.proofs.Common.{◌≡◌, ◌≢◌, ℕ, zero, suc, ◌+◌, ◌-◌, ◌*◌, ◌/◌, ◌%◌, ◌^◌, ◌<◌, ◌≤◌, ◌⊎◌, List, [], ◌∷◌, length, inl, inr, refl, arith, ap, sym, ◌∙◌, subst, pow-suc, mul_comm}
 use Rattle.std.specs.Prelude.{slice_index}
 use Rattle.std.specs.Int.{bit_at}
@@ -16,7 +17,7 @@ use Rattle.tsp_families.proofs.Lists.{Within, at_within, within_or_apart}
 half : (i m : ℕ) → (2 ^ suc i + m) / 2 ≡ 2 ^ i + m / 2
 half i m = let e = pow-suc 2 i in omega (arith, e)
 
--- its own bit turns
+-- the bit that is added changes
 flips : (i m : ℕ) → bit_at (2 ^ i + m) i + bit_at m i ≡ 1
 flips zero m = let one = bit_at_lowest (2 ^ zero + m) in let two = bit_at_lowest m in omega (arith, one, two)
 flips (suc i) m =
@@ -25,7 +26,7 @@ flips (suc i) m =
     let rest = flips i (m / 2) in
     omega (arith, one, two, rest)
 
--- and where it was clear the others stay
+-- if it was 0, the other bits stay
 stays : (i j m : ℕ) → bit_at m i ≡ 0 → i ≢ j → bit_at (2 ^ i + m) j ≡ bit_at m j
 stays zero zero m clear other = absurd (other refl)
 stays zero (suc j) m clear other =
@@ -73,7 +74,7 @@ present n x (y ∷ ys) range once (inr later) =
     let other : y - 2 ≢ x - 2 = λ same. apart (omega (arith, same, inner.0, range.0.0)) in
     stays (y - 2) (x - 2) (number_of ys) clear other ∙ present n x ys range.1 once.1 later
 
--- ---- orders of a set
+-- ---- orders of the nodes of a set, and of the set without its first one
 
 back : (other : ℕ) → other + 2 - 2 ≡ other
 back other = omega arith
@@ -113,7 +114,7 @@ more_order n set other rest inner own h =
 
 -- ---- the best path
 
--- what a path begins with: the last step where nothing is left of the set, else none
+-- a path has its last step where no node is left of the set, else no step yet
 abbrev pub StartsWith : ℕ → List ℕ → ℕ → ℕ → ℕ → Type 0
 StartsWith n costs set other start =
     ((set - 2 ^ other ≡ 0) × (start ≡ slice_index costs ((other + 1) * n))) ⊎ ((set - 2 ^ other ≢ 0) × (start ≡ no_path))
@@ -138,7 +139,7 @@ abbrev pub IsFound : ℕ → (ℕ → ℕ → ℕ) → ℕ → ℕ → ℕ → T
 IsFound n cost set node least =
     (least ≡ no_path) ⊎ ((rest : List ℕ) × IsOrderOf n set (node ∷ rest) × (least ≡ path_length cost node rest))
 
--- a path from the least sum over the best paths of what is left of the set
+-- the least sum of a step and of a best path through the rest of the set is that of a best path
 -- plan: a path is a step and a best path through the rest (`step`, `at`), so the least of these sums is the least path's
 pub best_from : (n set other start least : ℕ) (costs paths : List ℕ) → other < n - 1 → bit_at set other ≡ 1
     → set * (n - 1) ≤ length paths → AreBestPaths n (cost_by_rows n costs) paths

@@ -1,4 +1,5 @@
--- Parts that are given by a number for each node. For the law `divisions_bound_cycles` in src/laws.rt.
+-- Parts given by a number for each node, as a certificate might have them, bound cycles as the parts of the sets do.
+-- For the law `divisions_bound_cycles` in src/laws.rt.
 use Rattle.std.proofs.Common.{◌≡◌, ℕ, zero, suc, ◌-◌, ◌≤◌, Bool, List, [], ◌∷◌, ◌++◌, map, length, ◌≤ℤ◌, arith, ap, sym, ◌∙◌, subst, inl, inr, length-append}
 use Rattle.std.specs.Prelude.{slice_index}
 use Rattle.std.specs.List.{AllZip, AllByRecursion}
@@ -17,7 +18,7 @@ use Rattle.tsp_families.proofs.PartWalks.{IsInPart, same_length, in_range, trian
 use Rattle.tsp_families.proofs.Widened.{map_within}
 use Rattle.tsp_families.proofs.NodeMembers.{same_least}
 
--- a node for each of the first parts
+-- one node of each of the first parts
 pub record AreFound (n k : ℕ) (part_of : ℕ → ℕ) (firsts : List ℕ) : Type 0 where
   pub long : length firsts ≡ k
   pub each : (part : ℕ) → IsNode k part → IsNode n (slice_index firsts (part - 1)) × (part_of (slice_index firsts (part - 1)) ≡ part)
@@ -60,7 +61,8 @@ in_parts n m sets part_of firsts (x ∷ xs) is h range =
       in_parts n m sets part_of firsts xs is h range.1,
     )
 
--- plan: a cycle of the nodes gives one of the parts that is no longer, by the triangle inequality (`shorter_cycle`)
+-- plan: a cycle of the nodes is a walk through the parts. Without its repetitions it is no longer, by the triangle
+-- inequality (`shorter_cycle`)
 pub divisions_bound_cycles : DivisionsBoundCycles
 divisions_bound_cycles n m sets part_of cost least nodes some is agree lengths cycle =
     go nodes cycle (recursion_from_All (IsNode n) nodes cycle.range)

@@ -1,5 +1,5 @@
--- The least length of a cycle, from the best paths through all its nodes but node 1. For `least_cycle` in src/cycles.rt and
--- others.
+-- The least length of a cycle through few parts, from the best paths through all of them but part 1. For `least_cycle`
+-- in src/cycles.rt and others.
 use Rattle.std.proofs.Common.{◌≡◌, ◌≢◌, ℕ, ◌+◌, ◌-◌, ◌*◌, ◌%◌, ◌^◌, ◌<◌, ◌≤◌, ◌⊎◌, eqb, false, List, [], ◌∷◌, ◌++◌, length, inl, inr, arith, ap, sym, ◌∙◌, subst, ◌≤ℤ◌}
 use Rattle.std.specs.Prelude.{slice_index, pos}
 use Rattle.std.specs.Int.{bit_at}
@@ -36,7 +36,7 @@ clear_above m i h = ap (λ z. z % 2) (div-eq_of_lt (below (cases_order m i)))
     below (inr (inl less)) = omega (arith, pow_below m i less)
     below (inr (inr more)) = absurd (omega (arith, more, h))
 
--- nodes of 2..n that are all of them
+-- nodes of 2..n that are all of these have all bits
 all_bits : (n : ℕ) (nodes : List ℕ) → AllByRecursion (IsInner n) nodes → AllApart nodes → ((x : ℕ) → IsInner n x → Within nodes x)
     → number_of nodes ≡ 2 ^ (n - 1) - 1
 all_bits n nodes range once all = same_from_bits (number_of nodes) (2 ^ (n - 1) - 1) (λ i. elim (cases_lt i (n - 1)) [
@@ -64,7 +64,7 @@ whole_order n nodes range once count = record {
   ]);
 }
 
--- and with node 1 they are a cycle
+-- with node 1 they are a cycle
 pub cycle_of_order : (n : ℕ) (nodes : List ℕ) → 1 ≤ n → IsOrderOf n (2 ^ (n - 1) - 1) nodes → IsCycle n (1 ∷ nodes)
 cycle_of_order n nodes some h = cycle_from n (1 ∷ nodes)
     ((omega arith, some), weaker (IsInner n) (IsNode n) (λ x inner. (omega (arith, inner.0), inner.1)) nodes h.range)
@@ -116,7 +116,7 @@ path_most : (cost : ℕ → ℕ → ℕ) (most : ℕ) → ((i j : ℕ) → cost 
 path_most cost most small from [] = omega (arith, small from 1)
 path_most cost most small from (next ∷ rest) = let tail = path_most cost most small next rest in omega (arith, tail, small from next)
 
--- ---- what is no more than any shortest is no more than any cycle
+-- ---- a number that is at most the length of each cycle from node 1 on is at most that of any cycle
 
 abbrev pub IsBelowAll : ℕ → (ℕ → ℕ → ℕ) → ℕ → Type 0
 IsBelowAll n cost least = (x : ℕ) (rest : List ℕ) → IsOrderOf n (2 ^ (n - 1) - 1) (x ∷ rest) → least ≤ length_from_one cost x rest
@@ -139,7 +139,7 @@ below_cycles n cost least more below nodes cycle =
         let one = from_one (after ++ before) order inner.count in
         omega (arith, ints, same, one)
 
--- the nodes in order are a shortest, and a short one
+-- the nodes in their order are such a cycle, and its length is small
 first_cycle : (n : ℕ) → 2 ≤ n → IsOrderOf n (2 ^ (n - 1) - 1) (range_with_len 2 (n - 1))
 first_cycle n more =
     whole_order n (range_with_len 2 (n - 1)) (run_range (IsInner n) 2 (n - 1) (λ x low high. (low, omega (arith, high)))) (run_once 2 (n - 1))
@@ -235,7 +235,7 @@ least_of_paths n least costs paths more few small long best sum =
     found (inl none) = inl none
     found (inr sum_at) = next sum_at.0 sum_at.2 (at sum_at.0 sum_at.1).found
 
--- ---- how large it is at most
+-- ---- the least length and the largest cost are small
 
 to_most : (cost : ℕ → ℕ → ℕ) (most : ℕ) → ((i j : ℕ) → cost i j ≤ most) → (end from : ℕ) (xs : List ℕ)
     → length_to (as_whole cost) end from xs ≤ℤ pos (most * (1 + length xs))

@@ -15,7 +15,7 @@ abbrev pub Within : List ℕ → ℕ → Type 0
 Within [] x = ⊥
 Within (y ∷ ys) x = (y ≡ x) ⊎ Within ys x
 
--- what holds of each holds of one within
+-- a statement on each number of a list is one on a number within it
 pub at_within : (P : ℕ → Type 0) (xs : List ℕ) (x : ℕ) → AllByRecursion P xs → Within xs x → P x
 at_within P [] x all h = absurd h
 at_within P (y ∷ ys) x all (inl same) = subst P same all.0
@@ -25,7 +25,7 @@ pub weaker : (P Q : ℕ → Type 0) → ((x : ℕ) → P x → Q x) → (xs : Li
 weaker P Q f [] h = tt
 weaker P Q f (x ∷ xs) h = (f x h.0, weaker P Q f xs h.1)
 
--- a number is within a list, or apart from all of it
+-- a number is within a list, or differs from each of its numbers
 pub within_or_apart : (x : ℕ) (xs : List ℕ) → Within xs x ⊎ AllByRecursion (λ y. x ≢ y) xs
 within_or_apart x [] = inr tt
 within_or_apart x (y ∷ ys) = elim (cases_eq x y) [

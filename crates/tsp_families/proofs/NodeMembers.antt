@@ -1,4 +1,5 @@
--- The memberships of nodes, and the parts that they tell. For `family_crossings` in src/family.rt and others.
+-- The membership of a node, a number whose bits say which sets have it: two nodes are in one part if theirs are equal.
+-- For `family_crossings` in src/family.rt and others.
 use Rattle.std.proofs.Common.{◌≡◌, ◌≢◌, ℕ, ◌+◌, ◌-◌, ◌*◌, ◌/◌, ◌%◌, ◌^◌, ◌<◌, ◌≤◌, ◌⊎◌, Bool, true, false, zero, not, cond, List, [], ◌∷◌, ◌++◌, length, get_or, drop, ℤ, ◌+ℤ◌, ◌≤ℤ◌, inl, inr, refl, arith, ap, ap₂, sym, ◌∙◌, subst, pow-suc, bit_xor, length-append}
 use Rattle.std.specs.Int.RustNames.{count_ones}
 use lib.Count.{ones, ones_in}
@@ -23,7 +24,7 @@ use Rattle.tsp_families.specs.Paths.{cost_by_rows, as_whole}
 use Rattle.tsp_families.proofs.Walks.{length_to}
 use Rattle.tsp_families.proofs.PartWalks.{alike_crossings, part_found, unlike_nodes_need_parts}
 
--- ---- the same membership, the same sets
+-- ---- nodes of the same membership are in the same sets
 
 membership_of_alike : (sets : List (ℕ → Bool)) (i j : ℕ) → AllByRecursion (λ set. set i ≡ set j) sets
     → membership sets i ≡ membership sets j
@@ -49,7 +50,7 @@ memberships_tell_sets sets i j = (
 
 -- ---- a membership, bit after bit
 
--- a value of the first sets' bits
+-- the value has the bits of the first sets
 pub record IsSoFar (sets : List (ℕ → Bool)) (count node value : ℕ) : Type 0 where
   pub small : value < 2 ^ count
   pub rest : value + 2 ^ count * membership (drop count sets) node ≡ membership sets node
@@ -108,7 +109,7 @@ so_far_more sets count x old value bit nodes lt is power new h =
     let same : value ≡ old + (if has nodes x then 2 ^ count else 0) = new ∙ ap (λ b. old + (if has nodes x then b else 0)) power in
     subst (IsSoFar sets (count + 1) x) (sym same) (membership_more sets count x old (has nodes) lt is h)
 
--- ---- firsts
+-- ---- the first node of each part
 
 pub any_more : (P : ℕ → Type 0) (xs : List ℕ) (y : ℕ) → Any P xs → Any P (xs ++ y ∷ [])
 any_more P xs y h =
@@ -201,7 +202,7 @@ crossings_by_memberships (s ∷ ss) i j =
     let here = bits_differ (s i) (s j) in
     omega (arith, ints, whole, rest, here)
 
--- ---- the least length under costs that agree
+-- ---- equal costs have one least length
 
 same_to : (n : ℕ) (c d : ℕ → ℕ → ℤ) → ((i j : ℕ) → IsNode n i → IsNode n j → c i j ≡ d i j) → (end from : ℕ) (nodes : List ℕ)
     → IsNode n end → IsNode n from → AllByRecursion (IsNode n) nodes

@@ -106,7 +106,7 @@ cycle_has n nodes x cycle h = elim (within_or_apart x nodes) [
       absurd (omega (arith, few, length-range_with_len 1 n, cycle.count))
 ]
 
--- parts of which one has a node of the other are one
+-- two parts with a common node are one
 pub same_part : (n : ℕ) (sets : List (ℕ → Bool)) (firsts : List ℕ) (p q : ℕ) → ArePartsOf n sets firsts → IsNode (length firsts) p
     → IsNode (length firsts) q
     → AreAlike sets (slice_index firsts (p - 1)) (slice_index firsts (q - 1)) → p ≡ q

@@ -1,4 +1,5 @@
--- As many sets as a family may have, as many parts, and one more. For the law `examples_of_limits` in src/examples.rt.
+-- As many sets as a family may have, and as many parts; and one part more than there may be. For the law
+-- `examples_of_limits` in src/examples.rt.
 use Rattle.std.proofs.Common.{◌≡◌, ◌≢◌, ℕ, ◌+◌, ◌-◌, ◌≤◌, Bool, true, false, [], ◌∷◌, inl, inr, refl, sym, arith, subst, ◌∙◌}
 use Rattle.std.specs.List.{All, range_with_len}
 use Rattle.std.proofs.lemmas.Bool.{both_ways, eq-eqb, ne_eqb, cases_eq}

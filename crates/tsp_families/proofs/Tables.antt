@@ -1,11 +1,12 @@
--- Tables that are listed row by row, and least sums. For `crossings_between` in src/differences.rt and others.
+-- A table listed row by row that gets one cell more, and least sums over a list. For `crossings_between` in
+-- src/differences.rt and others.
 use Rattle.std.proofs.Common.{◌≡◌, ℕ, ◌+◌, ◌*◌, ◌<◌, List, [], ◌∷◌, ◌++◌, length, inl, inr, arith, sym, ◌∙◌, subst, length-append}
 use Rattle.std.specs.Prelude.{slice_index}
 use Rattle.std.proofs.lemmas.Bool.{cases_lt}
 use Rattle.std.proofs.lemmas.List.{get_or_append_left, get_or_push}
 use Rattle.std.proofs.lemmas.Nat.{same_from_place}
 
--- what holds of each row, column and value, as far as the list goes
+-- a statement on each cell, with its row, column and value, as far as the list goes
 abbrev pub HoldsByRows : ℕ → (ℕ → ℕ → ℕ → Type 0) → List ℕ → Type 0
 HoldsByRows w P table = (a b : ℕ) → b < w → a * w + b < length table → P a b (slice_index table (a * w + b))
 

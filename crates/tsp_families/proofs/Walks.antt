@@ -31,7 +31,7 @@ turned_length cost node (first ∷ before) after =
     let two = length_through cost node node first after before in
     omega (arith, ints)
 
--- ---- repetitions left out
+-- ---- a walk without its repetitions
 
 abbrev pub KeepsTriangles : (ℕ → ℕ → ℤ) → Type 0
 KeepsTriangles cost = (a b c : ℕ) → cost a c ≤ℤ (cost a b +ℤ cost b c)

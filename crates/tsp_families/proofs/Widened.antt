@@ -64,7 +64,7 @@ after_new u v (x ∷ xs) h = elim (cases_eq x u) [
     tail other (inl same) = absurd (other same)
     tail other (inr w) = w
 
--- ---- costs under which the other node is as the first
+-- ---- costs that don't distinguish the new node from the first one of its part
 
 pub record IsAs (cost : ℕ → ℕ → ℤ) (u v : ℕ) : Type 0 where
   pub none : cost u v ≡ pos 0

@@ -1,5 +1,5 @@
--- What passes for all of a list passes for each value that the list has; so each field of a file with no fault is valid on its
--- own. For the law `a_valid_text_is_short` in src/laws.rt.
+-- A test that all elements of a list pass is passed by each of them, so each field of a valid file is valid on its own.
+-- For the law `a_valid_text_is_short` in src/laws.rt.
 use Rattle.std.proofs.Common.{◌≡◌, Bool, true, false, cond, List, [], ◌∷◌, Option, None, Some, refl, sym, subst}
 use Rattle.std.specs.Prelude.{◌&&◌, not}
 use Rattle.std.specs.List.{find, list_all}
@@ -15,7 +15,7 @@ use Rattle.tsp_draft.specs.Fields.{Fields}
 use Rattle.tsp_draft.specs.Validity.{fits, first_failing, bad_field}
 use Rattle.tsp_draft.specs.Rules.{standing_of, end_fault, fault_of}
 
--- one value more
+-- one element more
 found_more : {V : Type 0} (test : V → Bool) (is_it others_pass : Bool) (value first : V) (found : Option V)
     → (test first && others_pass) ≡ true → cond is_it (Some first) found ≡ Some value
     → (others_pass ≡ true → found ≡ Some value → test value ≡ true) → test value ≡ true
@@ -24,7 +24,7 @@ found_more test true others_pass value first found all is_found others =
 found_more test false others_pass value first found all is_found others =
     others (and_parts (test first) others_pass all).1 is_found
 
--- all of a list pass the test, and so does the value that a search of the list finds
+-- where all elements pass the test, the one that a search finds passes it
 pub found_passes : {V : Type 0} (test is_it : V → Bool) (value : V) (values : List V) → list_all test values ≡ true
     → find is_it values ≡ Some value → test value ≡ true
 found_passes test is_it value [] all is_found = absurd (none-some value is_found)
@@ -32,7 +32,7 @@ found_passes test is_it value (first ∷ values) all is_found =
     found_more test (is_it first) (list_all test values) value first (find is_it values) all is_found
     (found_passes test is_it value values)
 
--- no first fault: none of the first sort
+-- where there is no first fault, no field is bad
 no_first : (bad : Option Field) (other : Option DraftFault) → option_or (option_map (λ field. BadField field) bad) other ≡ None
     → bad ≡ None
 no_first None other none = refl
@@ -44,7 +44,7 @@ none_more : (passes others_pass : Bool) (first : Field) (failing : Option Field)
 none_more true others_pass first failing none others = others none
 none_more false others_pass first failing none others = absurd (none-some first (sym none))
 
--- no field fails: all pass
+-- where no field fails the test, all pass it
 none_failing : (test : Field → Bool) (fields : List Field) → first_failing test fields ≡ None → list_all test fields ≡ true
 none_failing test [] none = refl
 none_failing test (first ∷ fields) none =

@@ -1,4 +1,5 @@
--- A block of weights, filled from its end. For `fill` in src/writer/block.rt.
+-- A block of bytes with weights in it, each after a blank, filled from its end to its beginning. For `fill` in
+-- src/writer/block.rt.
 use Rattle.std.proofs.Common.{◌≡◌, ℕ, ◌+◌, ◌-◌, ◌<◌, ◌≤◌, List, ◌∷◌, ◌++◌, length, drop, set, get_or, ap, sym, ◌∙◌, arith}
 use Rattle.std.specs.Prelude.{ℤ, pos}
 use Rattle.std.specs.Fmt.{decimal, signed_decimal}

@@ -1,4 +1,5 @@
--- The text of a number, two digits at a time. For `write_digits` and `digit_count` in src/writer/digits.rt.
+-- The decimal digits of a number below 10^8, written two at a time, and how many digits it has. For `write_digits` and
+-- `digit_count` in src/writer/digits.rt.
 use Rattle.std.proofs.Common.{◌≡◌, ℕ, zero, suc, ◌+◌, ◌-◌, ◌*◌, ◌/◌, ◌%◌, ◌^◌, ◌<◌, ◌≤◌, List, [], ◌∷◌, ◌++◌, length, drop, max, refl, ap, sym, ◌∙◌, inl, inr, arith, append_assoc, length-append}
 use Rattle.std.proofs.Math.Nat.{pow-suc}
 use Rattle.std.proofs.lemmas.Bool.{cases_lt}
@@ -43,7 +44,7 @@ counted n k m small is low high =
 pub at_most_eight : (n : ℕ) → n < 100000000 → length (decimal n) ≤ 8
 at_most_eight n few = length-decimal-le 8 n (omega arith) (omega arith) (omega arith)
 
--- ---- some pairs of digits, and the number without the zeros before it
+-- ---- pairs of digits, and the number without its leading zeros
 
 -- the last digits of a number, by two
 abbrev pub pairs : ℕ → ℕ → List ℕ
@@ -118,7 +119,7 @@ without_zeros (suc k) n small few =
           ∙ without_zeros k (n / 100) (omega arith) (omega arith))
     ]
 
--- Eight digits were written so that they end at a place. From the first that counts on they are the number's text.
+-- Eight digits are written, up to a place. From the first one that isn't a leading zero they are the number's text.
 pub digits_written : (n end : ℕ) (old new : List ℕ) → n < 100000000 → 8 ≤ end
     → drop (end - 8) new ≡ pair (n / 10000 / 100)
     ++ (pair (n / 10000 % 100) ++ (pair (n % 10000 / 100) ++ (pair (n % 10000 % 100) ++ drop end old)))

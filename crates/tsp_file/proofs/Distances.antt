@@ -1,5 +1,5 @@
--- The distance by each weight type is the one number with its inequalities. For the law `costs_are_by_inequalities` in
--- src/laws.rt.
+-- The cost by coordinates is the one number that has the inequalities of its weight type, and is symmetric. For the law
+-- `costs_are_by_inequalities` in src/laws.rt.
 use Rattle.std.proofs.Common.{◌≡◌, ◌≢◌, ◌∙◌, ℕ, refl, sym, ap, subst}
 use Rattle.std.specs.Prelude.{pos, unsigned_abs, Some, Option, unwrap_or, []}
 use Rattle.tsp_distance.specs.declared.decimal.Point.{Point}
@@ -10,7 +10,7 @@ use Rattle.tsp_draft.specs.Fields.{Fields}
 use Rattle.tsp_file.specs.Cost.{distance, cost_by, cost, point_of}
 use Rattle.tsp_file.specs.ByInequalities.{IsDistanceBy}
 
--- the facts of all distances
+-- the laws of all eight distances
 pub record DistanceLaws : Type 0 where
   pub euc : IsDistance IsEuc2d euc_2d_of
   pub ceil : IsDistance IsCeil2d ceil_2d_of
@@ -34,7 +34,7 @@ distance_symmetric laws Euc3d a b = ap pos (laws.euc_in_space.symmetric a b)
 distance_symmetric laws Man3d a b = ap pos (laws.man_in_space.symmetric a b)
 distance_symmetric laws Max3d a b = ap pos (laws.max_in_space.symmetric a b)
 
--- it has its inequalities
+-- the distance has its inequalities
 pub distance_defined : DistanceLaws → (kind : WeightKind) (a b : Point) → kind ≢ Explicit
     → IsDistanceBy kind a b (unsigned_abs (distance kind a b))
 unfolding distance
@@ -48,7 +48,7 @@ distance_defined laws Euc3d a b other = laws.euc_in_space.defined a b
 distance_defined laws Man3d a b other = laws.man_in_space.defined a b
 distance_defined laws Max3d a b other = laws.max_in_space.defined a b
 
--- and no other number has
+-- and no other number has them
 pub distance_unique : DistanceLaws → (kind : WeightKind) (a b : Point) (k : ℕ) → IsDistanceBy kind a b k
     → distance kind a b ≡ pos k
 unfolding distance

@@ -1,5 +1,5 @@
--- How long the text of each field of a valid file is at most, and all of it. For the law `a_valid_text_is_short` in
--- src/laws.rt.
+-- The length of each field's text in a valid file is limited, and so is the length of the whole text. For the law
+-- `a_valid_text_is_short` in src/laws.rt.
 use Rattle.std.proofs.Common.{sym, ◌≡◌, ℕ, ◌+◌, ◌*◌, ◌<◌, ◌≤◌, Bool, true, false, cond, List, [], ◌∷◌, ◌++◌, length, Option, None, Some, arith, refl, ℤ, pos, length-append}
 use Rattle.std.specs.Prelude.{not, ◌==◌, ◌&&◌, nat_le, neg_ℤ, unsigned_abs, codes}
 use Rattle.std.specs.List.{flat_map, list_all, sum_by}
@@ -126,7 +126,7 @@ point_short false point fits =
           (coordinate_short point.y parts.1),
     )
 
--- numbers of a range with no larger ones than potentials have
+-- numbers of a range, no larger than potentials may be
 abbrev is_short : Shape → Bool
 is_short (Numbers low high) = nat_le (unsigned_abs low) most_potential && nat_le (unsigned_abs high) most_potential
 is_short shape = true
@@ -267,7 +267,7 @@ others_short others fits =
     let parts = and_parts (nat_le (length others) most_others) (list_all is_other others) fits in
     flat_short_of is_other other_line 4004 most_others other_short others parts.1 (leb-true (length others) most_others parts.0)
 
--- plan: by the field: each keyword has its bound, and each section that of its shape (`shape_short`)
+-- plan: by the field: each keyword has its limit, and each section that of its shape (`shape_short`)
 field_short : (f : Fields) → ((field : Field) → fits f field ≡ true) → (field : Field)
     → length (text_of_field f field) ≤ most_bytes field
 field_short f fit NameKey =
@@ -337,7 +337,8 @@ absent_short : {A : Type 0} (text : A → List ℕ) (value : Option A) → value
 absent_short text None none = omega arith
 absent_short {A = A} text (Some _) none = absurd (none-some _ (sym none))
 
--- plan: by the field: the two sections of trees are absent (`absent_short`), all others as of `field_short`
+-- plan: by the field: both sections of a tree of cases are absent (`absent_short`), and each other field has its limit
+-- (`field_short`)
 field_short_without_trees : (f : Fields) → ((field : Field) → fits f field ≡ true) → f.combs ≡ None → f.branches ≡ None
     → (field : Field)
     → length (text_of_field f field) ≤ most_without_trees field

@@ -1,4 +1,5 @@
--- The lines of a layout in a full matrix, moved to its front. For `keep_half` in src/halves.rt and others.
+-- Half of a full matrix in another layout, its lines copied one after the other to the beginning of the same vector.
+-- For `keep_half` in src/halves.rt and others.
 use Rattle.std.proofs.Common.{◌≡◌, ◌≢◌, ℕ, suc, zero, ◌+◌, ◌-◌, ◌*◌, ◌<◌, ◌≤◌, List, ◌++◌, length, map, take, Some, None, refl, sym, ap, subst, ◌∙◌, ⊎_elim, arith}
 use Rattle.std.specs.Prelude.{slice_index_or as get_or, ℤ, pos}
 use Rattle.std.specs.List.{All, flat_map, CopiedTo, SameBelow, SameFrom}
@@ -77,7 +78,7 @@ module _ (n : ℕ) (full : List ℤ) where
       ∙ across (line + at) line (line_start_of LowerDiagCol n line + at) (even_held LowerDiagCol (λ e. absurd cc) holds)
       (omega (arith, node.0), omega (arith, node.1, lt)) node (omega (arith, node.0))
 
--- ---- the loop
+-- ---- the loop over the lines
 
 row_past : (line n : ℕ) → 1 ≤ line → (line - 1) * n + n ≡ line * n
 row_past zero n low = absurd (omega (arith, low))
@@ -85,7 +86,7 @@ row_past (suc k) n low =
     let same : suc k - 1 ≡ k = omega arith in
     ap (λ m. m * n + n) same ∙ omega arith
 
--- the costs of the lines before this one are at the front, and behind them the full matrix is as it was
+-- the costs of the lines before this one are at the beginning, and behind them the full matrix is as it was
 pub record HasKept (to : Layout) (n line kept : ℕ) (full items : List ℤ) : Type 0 where
   pub size : length items ≡ length full
   pub few : kept ≤ (line - 1) * n
@@ -139,7 +140,7 @@ line_kept to n line kept start end full items new node holds so_far starts ends 
       rest = λ k d past. behind k d past ∙ so_far.rest k d (omega (arith, past));
     }
 
--- all lines are at the front: that is the layout
+-- all lines are at the beginning: these are the weights of the layout
 pub all_kept : (to : Layout) (n line kept : ℕ) (full items : List ℤ) → n ≤ line - 1 → HasKept to n line kept full items
     → take kept items ≡ costs_in to n (listed_cost FullMatrix n full)
 all_kept to n line kept full items past so_far =

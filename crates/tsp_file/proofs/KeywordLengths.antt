@@ -1,4 +1,5 @@
--- How long the lines of keywords and values are at most. For the law `a_valid_text_is_short` in src/laws.rt.
+-- The length of a line with a keyword and its value is limited, as words and values are. For the law
+-- `a_valid_text_is_short` in src/laws.rt.
 use Rattle.std.proofs.Common.{◌≡◌, ℕ, ◌+◌, ◌≤◌, Bool, true, false, List, [], ◌∷◌, ◌++◌, length, refl, arith, length-append}
 use Rattle.std.specs.Prelude.{not, slice_index, ◌-◌, ◌&&◌, ◌==◌, nat_le, codes}
 use Rattle.std.specs.List.{list_all}
@@ -56,7 +57,7 @@ value_line_short keyword value =
     let ending = length-append (blank_before value) line_end in
     omega (arith, length-append keyword (codes " :" ++ (blank_before value ++ line_end)), ending, blank_short value)
 
--- the first of four tests that pass together
+-- the first of four tests that all pass
 first_of_four : (a b c d : Bool) → (a && b && c && d) ≡ true → a ≡ true
 first_of_four true b c d e = refl
 first_of_four false b c d e = e

@@ -1,5 +1,5 @@
--- The parts of a line and of a section, as they are written one after the other. For `put_value` in src/writer/keywords.rt and
--- others.
+-- The bytes of a line or a section, written part by part: a value after a blank, numbers, weights. For `put_value` in
+-- src/writer/keywords.rt and others.
 use Rattle.std.proofs.Common.{◌≡◌, ℕ, ◌==◌, true, false, List, [], ◌∷◌, ◌++◌, length, map, sym, subst, append_assoc, arith}
 use Rattle.std.proofs.lemmas.Bool.Decides.{nat_tests}
 use Rattle.std.specs.Prelude.{ℤ}

@@ -1,4 +1,5 @@
--- The costs of weights that are listed. For `ListedWeights::cost` in src/weights.rt and others.
+-- The cost between two nodes from listed weights: the weight of the cell, that of the mirrored cell, or 0. For
+-- `ListedWeights::cost` in src/weights.rt and others.
 use Rattle.std.proofs.Common.{◌≡◌, ◌≢◌, ℕ, ◌<◌, false, List, [], length, Option, Some, None, refl, sym, ap, ◌∙◌, inl, inr, ⊎_elim, arith, to_z, of_z}
 use Rattle.std.specs.Prelude.{nat_lt, nat_le, unwrap_or, slice_index_or, ◌⊎◌, ◌↔◌, IsTrue, ℤ, pos}
 use Rattle.std.specs.Option.{option_map, option_or}
@@ -47,7 +48,7 @@ cost_unlisted layout n weights i j out too =
     (pos 0)) out
     ∙ ap (λ o. unwrap_or (option_map (λ at. slice_index_or weights at (pos 0)) o) (pos 0)) too
 
--- ---- what the code reads
+-- ---- a weight in 64 bits
 
 pub weight_read : (weight : ℤ) → IsWithin most_weight weight → to_z w64 (of_z w64 weight) ≡ weight
 weight_read weight size = omega (arith, ints, size.0, size.1)
@@ -116,7 +117,7 @@ triangle_even layout n weights half unlisted i j other =
     (⊎_elim (λ out. inl (no_weight layout n weights i j (unlisted i j out)))
     (λ out. inr (no_weight layout n weights j i (unlisted j i out))) (one_half layout i j half other))
 
--- ---- nodes and others
+-- ---- numbers that are nodes, and others
 
 node_or_not : (n i : ℕ) → (¬ IsNode n i) ⊎ IsNode n i
 node_or_not n i = ⊎_elim (λ lt. inl (λ h. absurd (omega (arith, h.0))))
@@ -142,7 +143,7 @@ even_between_nodes layout n weights out inside i j other = ⊎_elim
 
 -- ---- pairs that are no cells
 
--- what the layouts' laws say
+-- the laws of layouts
 abbrev pub CellsAreListed : Type 0
 CellsAreListed =
     (layout : Layout) (n i j : ℕ)
@@ -160,9 +161,9 @@ pub outside_has_no_place : CellsAreListed → OnlyCellsHavePlaces → (layout : 
 outside_has_no_place listed places layout n i j out =
     places layout n (i, j) (λ h. let cell = (listed layout n i j).0 h in out (cell.0, cell.1))
 
--- ---- what a file lists
+-- ---- the weights that a file lists
 
--- what a valid file lists
+-- a valid file lists as many weights as its layout has cells
 pub lists : (f : Fields) (layout : Layout) (n : ℕ) (weights : List ℤ) → IsInRange f → f.weight_format ≡ Some (Listed layout)
     → f.dimension ≡ Some n
     → f.weights ≡ Some weights → ListsWeights f layout n weights
@@ -180,7 +181,7 @@ lists f layout n weights range format dimension stand =
       sizes = held.sizes;
     }
 
--- the cost from the weights
+-- the cost of a file is that of its weights
 pub cost_of_listed : (f : Fields) (layout : Layout) (n : ℕ) (weights : List ℤ) → f.weight_kind ≡ Some Explicit
     → ListsWeights f layout n weights → (i j : ℕ) → listed_cost layout n weights i j ≡ cost f i j
 unfolding cost
@@ -190,7 +191,7 @@ cost_of_listed f layout n weights kind held i j = sym (
     ∙ ap (λ o. listed_cost layout (unwrap_or o 0) (unwrap_or f.weights []) i j) held.dimension
     ∙ ap (λ o. listed_cost layout n (unwrap_or o []) i j) held.weights_are)
 
--- a layout is no function, and nothing is no layout
+-- a layout isn't FUNCTION, and isn't missing
 pub not_by_function : (o : Option WeightFormat) (layout : Layout) → o ≡ Some (Listed layout) → o ≡ Some ByFunction → ⊥
 not_by_function o layout listed function = cc
 

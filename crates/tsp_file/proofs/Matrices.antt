@@ -1,4 +1,5 @@
--- The lines of a matrix of weights, one after the other. For `put_lines` and `put_more_weights` in src/writer/matrix.rt.
+-- The lines of EDGE_WEIGHT_SECTION, and the weights of a line in blocks, written one after the other up to the first
+-- failure. For `put_lines` and `put_more_weights` in src/writer/matrix.rt.
 use Rattle.std.proofs.Common.{◌≡◌, ℕ, ◌+◌, ◌-◌, ◌<◌, ◌≤◌, ◌==◌, suc, List, [], ◌∷◌, ◌++◌, length, take, drop, map, min, true, refl, sym, ap, subst, ◌∙◌, append_assoc, arith}
 use Rattle.std.specs.Prelude.{ℤ}
 use Rattle.std.specs.List.{range_with_len, flat_map}
@@ -11,7 +12,7 @@ use Rattle.tsp_file.specs.CanonicalText.{weight_line, matrix_lines}
 use Rattle.tsp_stream.specs.states.WriteProgress.{Way, Carried}
 use Rattle.tsp_stream.proofs.Carrying.{carried_then, carried_none, carried_failed}
 
--- a prefix of the whole was carried, and this rest is still to come
+-- a prefix of the whole text was written, and this rest is still to be written
 pub record Comes (a b : Way) (rest whole : List ℕ) : Type 0 where
   pub done : List ℕ
   pub carried : Carried a b done
@@ -25,7 +26,7 @@ comes_more a b c rest whole x later h k e = record {
   parts = append_assoc h.done x later ∙ ap (λ (t : List ℕ). h.done ++ t) (sym e) ∙ h.parts;
 }
 
--- all of the rest has come
+-- all of the rest is written
 pub comes_all : (a b c : Way) (rest whole : List ℕ) → Comes a b rest whole → Carried b c rest → Carried a c whole
 comes_all a b c rest whole h k = subst (λ t. Carried a c t) h.parts (carried_then a b c h.done rest h.carried k)
 

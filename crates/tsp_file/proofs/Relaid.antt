@@ -1,4 +1,5 @@
--- Weights that are listed anew in another layout, with the same costs. For `File::way` in src/relayout.rt and others.
+-- The weights of a file, listed anew in another layout, have the same costs if that layout can hold these. For
+-- `File::way` in src/relayout.rt and others.
 use Rattle.std.proofs.Common.{◌≡◌, ◌≢◌, ℕ, ◌+◌, ◌-◌, ◌<◌, ◌≤◌, Bool, true, false, List, [], ◌∷◌, ◌++◌, length, map, take, Option, Some, None, refl, sym, ap, subst, ◌∙◌, inl, inr, ⊎_elim, arith}
 use Rattle.std.specs.Prelude.{is_some, unwrap_or, slice_index_or as get_or, ◌⊎◌, ℤ, pos}
 use Rattle.std.specs.Option.{option_map, option_or}
@@ -29,7 +30,7 @@ use Rattle.tsp_file.specs.ListedWeights.{ListsWeights}
 use Rattle.tsp_file.specs.Relayout.{HoldsPairs, HoldsDiagonal, lists_diagonal, HasListedWeights, with_weights, costs_in, CanGo, IsRelaid}
 use Rattle.tsp_file.proofs.Listed.{cost_of_listed, cost_of_cell, cost_mirrored, cost_unlisted, unlisted_has_no_place, outside_has_no_place, nodes_or_not, diagonal_unlisted, triangle_even, turned}
 
--- ---- loops over cells and lines
+-- ---- the loops over cells and lines
 
 -- one cell more
 pub cell_more : {X Y : Type 0} (f : X → Y) (xs : List X) (before items : List Y) (k : ℕ) (x : X) (y : Y) → k < length xs
@@ -105,7 +106,7 @@ pub cost_outside : (layout : Layout) (n : ℕ) (weights : List ℤ) (i j : ℕ) 
 cost_outside layout n weights i j out =
     cost_unlisted layout n weights i j (outside layout n i j out) (outside layout n j i (λ nodes. out (nodes.1, nodes.0)))
 
--- of two different nodes a layout lists the one pair or the other
+-- of two different nodes a layout lists one of both pairs, or both
 one_listed : (layout : Layout) (i j : ℕ) → is_listed layout (i, j) ≡ false → is_listed layout (j, i) ≡ false → i ≡ j
 one_listed FullMatrix i j here there = absurd (false≢true (sym here))
 one_listed UpperRow i j here there = grind (arith, nat_tests, here, there)
@@ -117,7 +118,7 @@ one_listed LowerCol i j here there = grind (arith, nat_tests, here, there)
 one_listed UpperDiagCol i j here there = grind (arith, nat_tests, here, there)
 one_listed LowerDiagCol i j here there = grind (arith, nat_tests, here, there)
 
--- with one pair of the diagonal all are listed
+-- a layout lists the whole diagonal, or nothing of it
 diagonal_listed : (layout : Layout) (i : ℕ) → lists_diagonal layout ≡ true → is_listed layout (i, i) ≡ true
 diagonal_listed FullMatrix i e = refl
 diagonal_listed UpperRow i e = absurd (false≢true e)
@@ -148,8 +149,9 @@ mirrored to cost i j holds unlisted = ⊎_elim
     (λ even. turned cost even i j)
     holds
 
--- every cost is as before
--- plan: by the pair: no nodes, listed (`placed`, `laid_at`), mirrored (`mirrored`), or on a diagonal that isn't listed
+-- each cost is as before
+-- plan: by the pair: of other numbers than nodes, listed (`placed`, `laid_at`), mirrored (`mirrored`), or on a diagonal
+-- that isn't listed
 pub costs_kept : (to : Layout) (n : ℕ) (cost : ℕ → ℕ → ℤ) → ((i j : ℕ) → ¬ (IsNode n i × IsNode n j) → cost i j ≡ pos 0)
     → HoldsPairs to cost → HoldsDiagonal to cost
     → (i j : ℕ) → listed_cost to n (costs_in to n cost) i j ≡ cost i j
@@ -182,9 +184,9 @@ costs_kept to n cost none pairs diagonal i j = ⊎_elim
         cost_of_cell to n weights i j place here ∙ laid_at to n cost i j place here (place_within to n i j nodes.0 nodes.1 listed)
     by_listed false nodes out = by_mirror (is_listed to (j, i)) nodes out refl
 
--- ---- a layout and itself
+-- ---- a file's own layout holds its costs
 
--- the weights are the costs of the cells
+-- the weights are the costs of the cells, in their order
 pub own_costs : (layout : Layout) (n : ℕ) (weights : List ℤ) → length weights ≡ length (cells layout n)
     → costs_in layout n (listed_cost layout n weights) ≡ weights
 own_costs layout n weights filled = ext_get_or (pos 0) (costs_in layout n (listed_cost layout n weights)) weights
@@ -227,7 +229,7 @@ own_diagonal layout n weights = by_diagonal (lists_diagonal layout) refl
 
 -- ---- the file
 
--- what holds of the weights of a file holds of its nodes and costs
+-- from a statement on the listed weights to one on the file's nodes and costs
 pub of_file : (P : ℕ → (ℕ → ℕ → ℤ) → Type 0) (f : Fields) (layout : Layout) (n : ℕ) (weights : List ℤ)
     → f.weight_kind ≡ Some Explicit
     → ListsWeights f layout n weights → P n (listed_cost layout n weights) → P (nodes_of f) (cost f)
@@ -236,7 +238,7 @@ of_file P f layout n weights explicit held holds =
     let costs : listed_cost layout n weights ≡ cost f = λ t i j. cost_of_listed f layout n weights explicit held i j t in
     subst (λ k. P k (cost f)) nodes (subst (λ c. P n c) costs holds)
 
--- and the other way round
+-- and back
 pub of_weights : (P : ℕ → (ℕ → ℕ → ℤ) → Type 0) (f : Fields) (layout : Layout) (n : ℕ) (weights : List ℤ)
     → f.weight_kind ≡ Some Explicit
     → ListsWeights f layout n weights → P (nodes_of f) (cost f) → P n (listed_cost layout n weights)

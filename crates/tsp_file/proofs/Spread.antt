@@ -1,5 +1,5 @@
--- The lines of half a matrix, moved to their rows of the full one, and the costs across the diagonal. For `spread_lines` in
--- src/whole.rt and others.
+-- A full matrix from its listed half: lines moved to their rows from the last on, then the diagonal and the mirrored
+-- cells. For `spread_lines` in src/whole.rt and others.
 use Rattle.std.proofs.Common.{◌≡◌, ◌≢◌, ℕ, suc, zero, ◌+◌, ◌-◌, ◌*◌, ◌<◌, ◌≤◌, Bool, true, false, List, ◌++◌, length, map, take, Some, refl, sym, ap, subst, ◌∙◌, inl, inr, ⊎_elim, arith}
 use Rattle.std.specs.Prelude.{slice_index_or as get_or, slice_set, unwrap_or, ◌⊎◌, nat_le, ℤ, pos}
 use Rattle.std.specs.List.{flat_map, CopiedTo, SameBelow, SameFrom}
@@ -23,7 +23,7 @@ use Rattle.tsp_file.specs.states.Whole.{goes_above, is_on_side, IsCostOfCell, Ha
 use Rattle.tsp_file.proofs.Listed.{turned, nodes_or_not, diagonal_unlisted, cost_unlisted}
 use Rattle.tsp_file.proofs.Relaid.{line_more, lines_all, own_costs, no_cell, outside}
 
--- ---- the lines before one
+-- ---- the cells of the lines before one
 
 line_short : (layout : Layout) (n k : ℕ) → IsNode n k → line_len_of layout n k ≤ n
 line_short FullMatrix n k node = omega arith
@@ -48,7 +48,7 @@ before_more f from n line node =
     sym (line_more f (cells_of_line from n) n line items (items ++ map f (cells_of_line from n line)) node.0 node.1 refl refl
     ∙ ap (λ k. map f (before from n k)) same)
 
--- they are no more than this many rows of the full matrix
+-- they need no more places than this many rows of the full matrix
 few_before : (from : Layout) (n k : ℕ) → k ≤ n → length (before from n k) ≤ k * n
 few_before from n zero low = omega arith
 few_before from n (suc k) low =
@@ -72,7 +72,7 @@ pub record SpreadTo (from : Layout) (n line kept : ℕ) (half items : List ℤ) 
   pub front : take kept items ≡ map (λ cell. listed_cost from n half cell.0 cell.1) (before from n line)
   pub lines : HasLaterLines from n line half items
 
--- how many are left at the front
+-- how many weights are still at the beginning
 pub kept_less : (from : Layout) (n line kept len : ℕ) → IsNode n line → kept ≡ length (before from n line)
     → len ≡ line_len_of from n line
     → (kept ≡ length (before from n (line - 1)) + len) × (kept ≤ line * n) × (length (before from n (line - 1)) ≤ (line - 1) * n)
@@ -89,7 +89,7 @@ kept_less from n line kept len node is_kept is_len =
       few_before from n (line - 1) (omega (arith, node.1)),
     )
 
--- plan: entry by entry (`ext_get_or`): in the line as it was copied, and behind it as it was, which the copy left
+-- plan: entry by entry (`ext_get_or`): one in the line was copied, and one behind the line is as before
 pub spread_more : (from : Layout) (n line kept len start : ℕ) (half items new : List ℤ) → IsNode n line → length items ≡ n * n
     → kept ≡ length (before from n line)
     → len ≡ line_len_of from n line → start ≡ line_start_of from n line → start + len ≤ line * n
@@ -225,7 +225,7 @@ on_side LowerCol n i j half row column side =
 on_side UpperDiagCol n i j half row column side = let low = leb-true j i side in inl (omega (arith, column.0), omega (arith, low))
 on_side LowerDiagCol n i j half row column side = let low = leb-true i j side in inl (omega (arith, low), omega (arith, column.1))
 
--- all cells on the side, once the diagonal is cleared
+-- all cells on the listed side, once the diagonal is 0
 pub side_filled : (from : Layout) (n : ℕ) (half full : List ℤ) → from ≢ FullMatrix → IsSymmetric (listed_cost from n half)
     → HasLaterLines from n 0 half full
     → (new : List ℤ) → KeepsCosts (listed_cost from n half) n full new
@@ -237,7 +237,7 @@ side_filled from n half full partly even lines new keeps diagonal i j row column
     (λ same. subst (λ k. IsCostOfCell (listed_cost from n half) n new i k) same.0 (diagonal same.1 i row))
     (on_side from n i j partly row column side)
 
--- the costs of a diagonal that isn't listed
+-- a diagonal that isn't listed costs 0
 pub zero_diagonal : (from : Layout) (n : ℕ) (half : List ℤ) (i : ℕ) → is_listed from (1, 1) ≡ false
     → listed_cost from n half i i ≡ pos 0
 zero_diagonal from n half i out =
@@ -291,7 +291,7 @@ whole_is cost n full size has =
     ap (λ p. get_or full p (pos 0)) (sym place) ∙ has cell.0 cell.1 nodes.0 nodes.1
     ∙ sym (get_or-map f all k (0, 0) (pos 0) inside))
 
--- ---- where it begins
+-- ---- the loop begins with all weights at the beginning
 
 cells_before : {Y : Type 0} (f : ℕ × ℕ → Y) (from : Layout) (n : ℕ) → map f (before from n n) ≡ map f (cells from n)
 cells_before f from n =
@@ -355,7 +355,7 @@ column_more above cost n row first j place value old items even side here there 
           (cases_lt k j),
     )
 
--- what a part fills is more of the whole
+-- the cells that a part fills are more of the whole matrix
 pub fills_more : (above : Bool) (cost : ℕ → ℕ → ℤ) (n : ℕ) (old middle new : List ℤ) (Done Part All : ℕ → ℕ → Type 0)
     → HasSide above cost n old → Fills cost n old middle Done → (HasSide above cost n middle → Fills cost n middle new Part)
     → ((i j : ℕ) → IsNode n i → IsNode n j → All i j → Done i j ⊎ Part i j)

@@ -1,4 +1,5 @@
--- How long the lines and the sections of a text are at most. For the law `a_valid_text_is_short` in src/laws.rt and others.
+-- The lengths of numbers, of lines of numbers and of sections with these. For the law `a_valid_text_is_short` in
+-- src/laws.rt and others.
 use Rattle.std.proofs.Common.{◌≡◌, ℕ, ◌+◌, ◌*◌, ◌^◌, ◌<◌, ◌≤◌, Bool, true, false, List, [], ◌∷◌, ◌++◌, length, take, drop, map, refl, ap, sym, ◌∙◌, subst, arith, ℤ, pos, unsigned_abs, length-append}
 use Rattle.std.specs.Prelude.{◌&&◌, nat_le, codes}
 use Rattle.std.specs.List.{flat_map, list_all, enumerate_from, sum_by}
@@ -14,7 +15,7 @@ use Rattle.tsp_format.specs.Limits.{most_nodes, most_weight}
 use Rattle.tsp_draft.specs.Validity.{is_from_to, is_within, is_node, is_node_list}
 use Rattle.tsp_file.specs.CanonicalText.{line_end, number_line, lines_by_node, ended_by_mark, node_list, pair_list, triple_list, weight_line, matrix_lines}
 
--- what three tests that pass together say
+-- from three tests that all pass to their statements
 pub three_parts : (a b c : Bool) → (a && b && c) ≡ true → (a ≡ true) × (b ≡ true) × (c ≡ true)
 three_parts true true true e = (refl, refl, refl)
 three_parts true true false e = absurd (false≢true e)
@@ -36,7 +37,7 @@ within_size most z fits = grind (arith, ints)
 pub within_abs : (most : ℕ) (z : ℤ) → is_within most z ≡ true → unsigned_abs z ≤ most
 within_abs most z fits = grind (arith, ints)
 
--- a size below 10^digits has this many digits, and maybe a sign
+-- a number whose size is below 10^digits has this many digits at most, and maybe a sign
 signed_short : (digits most : ℕ) (z : ℤ) → most + 1 < 10 ^ digits → most < 2 ^ 63 → mag z ≤ most
     → length (signed_decimal z) ≤ digits + 1
 signed_short digits most z few small size = length_signed_le digits z (omega (arith, few, size)) (omega (arith, small, size))
@@ -165,7 +166,7 @@ triple_list_short fits short triples all =
     (λ triple fit. line_of_three_short (decimal triple.0) (decimal triple.1) (signed_decimal triple.2) (short triple fit)) triples
     all
 
--- a tour has a node, so that the line after it is paid for by a node
+-- a tour has a node, so there are no more lines -1 than nodes
 tour_short : (tour : List ℕ) → is_node_list tour ≡ true → length (node_list tour) ≤ 10 * length tour
 tour_short tour fits =
     let parts = and_parts (nat_le 1 (length tour)) (list_all (is_node most_nodes) tour) fits in

@@ -1,4 +1,5 @@
--- How long the lines of combs and of the steps of a tree are at most. For `put_changes` in src/writer/tree.rt.
+-- The lengths of COMB_SECTION and TREE_SECTION in a valid file. For the law `a_valid_text_is_short` in src/laws.rt and
+-- others.
 use Rattle.std.proofs.Common.{◌≡◌, ℕ, zero, suc, ◌+◌, ◌*◌, ◌≤◌, true, List, [], ◌∷◌, ◌++◌, length, map, refl, ap, ◌∙◌, arith, ℤ, length-append}
 use Rattle.std.specs.Prelude.{◌&&◌, not, ◌==◌, nat_le, codes}
 use Rattle.std.specs.List.{flat_map, list_all, sum_by}
@@ -14,7 +15,7 @@ use Rattle.tsp_draft.specs.Validity.{is_within, is_node, is_set_of, are_sets, ar
 use Rattle.tsp_file.specs.CanonicalText.{line_end, before_blank, set_line, comb_lines, comb_list, change_words, step_line, case_tree_lines}
 use Rattle.tsp_file.proofs.TextLengths.{three_parts, within_short, node_short, flat_short, line_of_two_short}
 
--- the parts of the parts
+-- a list of lists of texts, put together
 pub flat_of_flat : {X Y Z : Type 0} (f : Y → List Z) (g : X → List Y) (xs : List X)
     → flat_map f (flat_map g xs) ≡ flat_map (λ x. flat_map f (g x)) xs
 flat_of_flat f g [] = refl
@@ -29,7 +30,7 @@ end_after line = length-append line (codes "-1" ++ line_end)
 
 -- ---- combs
 
--- a set has a node, so that the -1 after it is paid for by a node
+-- a set has a node, so there are no more -1 than nodes
 set_short : (n : ℕ) → n ≤ most_nodes → (set : List ℕ) → is_set_of n set ≡ true → length (set_line set) ≤ 10 * length set
 set_short n most set fits =
     let parts = and_parts (nat_le 1 (length set)) (list_all (is_node n) set) fits in
@@ -133,7 +134,7 @@ branch_short n first second most fits =
     let parts = three_parts (is_node (n + most_combs) first) (is_node n second) (not (first == second)) fits in
     line_of_two_short (decimal first) (decimal second) (index_short n first most parts.0, node_short n second most parts.1)
 
--- a tree has one leaf more than branches, so that the line of a leaf is paid for by a branch
+-- a tree has one leaf more than branches, so there are as many lines of leaves, and one more
 all_steps_short : (n : ℕ) → n ≤ most_nodes → (count : ℕ) (steps : List Step) → list_all (is_step n) steps ≡ true
     → are_whole count steps ≡ true
     → length (case_tree_lines steps) ≤ 19 * branch_count steps + 25 * change_count steps + 5 * count

@@ -1,4 +1,5 @@
--- The fields that a valid file has by its TYPE, each in its range. For `File::combs_or_none` in src/typed.rt and others.
+-- The fields that the TYPE of a valid file requires are present, each in its range. For `File::combs_or_none` in
+-- src/typed.rt and others.
 use Rattle.std.proofs.Common.{◌≡◌, ℕ, List, Option, None, refl, sym, ap, subst}
 use Rattle.std.specs.Prelude.{unwrap_or, IsTrue, ℤ}
 use Rattle.std.specs.List.{All}

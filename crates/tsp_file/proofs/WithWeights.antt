@@ -1,4 +1,5 @@
--- A valid file stays valid where its format and its weights change together. For `make_whole` in src/whole.rt and others.
+-- A valid file is still valid with the weights of another layout, and that layout as its format. For `make_whole` in
+-- src/whole.rt and others.
 use Rattle.std.proofs.Common.{◌≡◌, ℕ, suc, zero, ◌+◌, ◌-◌, ◌*◌, ◌/◌, ◌≤◌, Bool, true, false, cond, List, [], ◌∷◌, length, Option, None, Some, refl, sym, ap, subst, ◌∙◌, arith}
 use Rattle.std.specs.Prelude.{IsSome, unwrap_or, not, ◌&&◌, nat_le, ℤ, pos, neg_ℤ, int_le}
 use Rattle.std.specs.Option.{option_map, option_or}
@@ -72,7 +73,7 @@ none_fails test [] all = refl
 none_fails test (field ∷ fields) all =
     ap (λ b. cond (not b) (Some field) (first_failing test fields)) (all field) ∙ none_fails test fields all
 
--- what holds of a file's fields holds of them as they are given by its format and its weights
+-- a statement on the fields of a file is one on these fields with its format and its weights put in again
 as_given : (P : Fields → Type 0) (f : Fields) (layout : Layout) (weights : List ℤ) → f.weight_format ≡ Some (Listed layout)
     → f.weights ≡ Some weights → P f → P (with_weights f layout weights)
 as_given P f layout weights format stand holds =

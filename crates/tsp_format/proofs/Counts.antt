@@ -138,7 +138,7 @@ half_with n sum e = omega arith
 
 -- ---- all cells
 
--- the sum of what a line has
+-- the numbers of cells of all lines sum to that of the layout
 total : (layout : Layout) (n : ℕ) → sum_by (line_len_of layout n) (range_with_len 1 n) ≡ cell_count_of layout n
 total FullMatrix n = sum_level n 1 n
 total UpperRow n = half_without n _ (sum_down n 1 n (omega arith))

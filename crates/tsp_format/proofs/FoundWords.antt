@@ -10,7 +10,7 @@ passes_at : {X : Type 0} (b : Bool) (test : X → Bool) (x found : X) (rest : Op
 passes_at true test x found rest e later h = let same : x ≡ found = cc in subst (λ y. test y ≡ true) same e
 passes_at false test x found rest e later h = later h
 
--- what is found passes the test
+-- the value that is found passes the test
 pub found_passes : {X : Type 0} (test : X → Bool) (xs : List X) (found : X) → find test xs ≡ Some found → test found ≡ true
 found_passes test [] found h = absurd cc
 found_passes test (x ∷ xs) found h = passes_at (test x) test x found (find test xs) refl (found_passes test xs found) h

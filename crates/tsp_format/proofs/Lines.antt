@@ -1,4 +1,5 @@
--- The cells of a layout are those of its lines. For the law `cells_go_line_by_line` in src/layout.rt.
+-- The cells of a layout, as a list, are those of line 1, then those of line 2, and so on. For the law
+-- `cells_go_line_by_line` in src/layout.rt.
 use Rattle.std.proofs.Common.{◌≡◌, ℕ, Bool, List, [], ◌∷◌, ◌++◌, refl, ap, ◌∙◌}
 use Rattle.std.specs.List.{filter, flat_map}
 use Rattle.std.proofs.lemmas.List.Elements.{filter-append}

@@ -11,7 +11,7 @@ use Rattle.tsp_format.specs.declared.layout.Layout.{Layout}
 use Rattle.tsp_format.specs.Nodes.{nodes_to, IsNode}
 use Rattle.tsp_format.specs.Cells.{is_listed, goes_by_columns, cells}
 
--- ---- what a list contains
+-- ---- elements of lists
 
 Contains-tail : {X : Type 0} (y : X) (ys : List X) (x : X) → Contains ys x → Contains (y ∷ ys) x
 Contains-tail y ys x h = (suc h.0, omega (arith, h.1), h.2)
@@ -110,7 +110,7 @@ cell_is layout n i j = (
       kept_at (is_listed layout) (pairs (goes_by_columns layout) n) (i, j) stands.0 h.2 stands.1 stands.2,
 )
 
--- ---- none twice
+-- ---- no cell appears twice
 
 abbrev Differ : {X : Type 0} → X → X → Type 0
 Differ a b = a ≢ b
@@ -132,7 +132,7 @@ AllPairs-append R (x ∷ xs) ys first second across =
 AllPairs-nil : {X : Type 0} (R : X → X → Type 0) → AllPairs R []
 AllPairs-nil R = λ i j d lt within. absurd (omega (arith, within))
 
--- what stays apart under g stays apart under f, where `back` undoes f
+-- numbers of a run differ after f, as `back` undoes f
 run_differs : {Y : Type 0} (f : ℕ → Y) (back : Y → ℕ) → ((m : ℕ) → back (f m) ≡ m) → (a n : ℕ)
     → AllPairs Differ (map f (range_with_len a n))
 run_differs {Y = Y} f back undoes a n = λ i j d lt within.

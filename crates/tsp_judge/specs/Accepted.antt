@@ -1,4 +1,6 @@
--- The meaning of the line `yes`, over the files that were read and the report that was printed.
+-- The six meanings of the line `yes`, over the files that were read and the report that was printed. For Yes.antt and
+-- BoundRun.antt, which relate them to the bytes of readers, for Texts.antt of tsp_c, and for the law
+-- `verdicts_mean_reports` (src/laws.rt).
 use Rattle.std.specs.Prelude.{◌≡◌, ◌⊎◌, ℕ, ◌≤◌, List, [], ◌∷◌, length, Option, None, Some, ℤ, ◌≤ℤ◌}
 use Rattle.tsp_format.specs.declared.kinds.Kind.{Kind}
 use Rattle.tsp_format.specs.declared.kinds.Kind.TheVariants as kinds
@@ -108,7 +110,7 @@ pub record IsShownUnsolvable (by : Certificate) (instance certificate : Fields) 
   pub printed : report ≡ bound_report_of instance NoSolution
   pub none : HasNone instance
 
--- The meaning of `yes` in a check, by the certificate, and in a bound without a solution.
+-- The meaning of `yes` in a check: without a certificate, or with one.
 abbrev pub IsAccepted : Option (Certificate × Fields) → Option ℤ → Fields → Fields → List ℕ → Type 0
 IsAccepted None claimed instance solution report =
     IsAcceptedTour claimed instance solution report ⊎ AreAcceptedRoutes claimed instance solution report
@@ -116,6 +118,7 @@ IsAccepted (Some given) claimed instance solution report =
     IsTourWithBound given.0 claimed instance solution given.1 report
     ⊎ AreRoutesWithBound given.0 claimed instance solution given.1 report
 
+-- The meaning of `yes` in a bound without a solution.
 abbrev pub IsAcceptedAlone : Certificate → Fields → Fields → BoundVerdict → List ℕ → Type 0
 IsAcceptedAlone by instance certificate (Bound bound) report = IsAcceptedBound by instance certificate bound report
 IsAcceptedAlone by instance certificate NoSolution report = IsShownUnsolvable by instance certificate report

@@ -1,4 +1,5 @@
--- What bounding the tours of an instance, without a solution, does to its readers and its writer, and its result.
+-- A run of `tsp bound`: the bytes that its two readers delivered, the report that was written, and the result. For
+-- `run_bound` (src/bound.rt). `SaysBound` is what its line `yes` means.
 use Rattle.std.specs.Prelude.{◌≡◌, ◌⊎◌, ℕ, Bool, true, false, List, [], Result, Ok, Err, IsTrue}
 use Rattle.tsp_stream.specs.declared.output.WriteFault.TheVariants as write_faults
 use Rattle.tsp_stream.specs.Turn.{Turn, IsUnread}
@@ -18,10 +19,10 @@ use Rattle.tsp_judge.specs.Accepted.{IsAcceptedAlone}
 use Rattle.tsp_judge.specs.CheckRun.{IsSomeFile}
 use Rattle.tsp_report.specs.Report.{bound_report_of}
 
--- What comes of an instance and a certificate that were read. At Ok this is the bound, or the first reason against them, and the
--- whole report on it was written. Nothing is written where the first file is of a TYPE whose tours have no bound by the
--- certificate, nor out of memory: then no reason applies to the instance, nor one to the certificate that is found without
--- memory. Where the writer fails a prefix of the report was written.
+-- The result for an instance and a certificate that were read. Ok: this is the bound, or the first reason against them,
+-- and the whole report was written. WrongKind: tours of the instance have no bound by such a certificate. OutOfMemory:
+-- no reason applies to the instance, nor one to the certificate that is found without memory. Of both nothing is
+-- written. Where the writer fails, a prefix of the report was written.
 abbrev pub BoundsFiles : Certificate → Bool → Fields → Fields → Sink → Result BoundVerdict RunFault → Type 0
 BoundsFiles by strict instance certificate sink (Ok found) = IsTrue (is_bounded by instance.kind)
     × IsBoundAsked strict by instance certificate found
@@ -34,7 +35,7 @@ BoundsFiles by strict instance certificate sink (Err (Write write_faults.Device)
     × HasStopped sink (bound_report_of instance found))
 BoundsFiles by strict instance certificate sink (Err other) = ⊥
 
--- Why a run has no bound and no reason. The first file, in order, that is none decides, and then nothing is written.
+-- Why a run has no bound and no reason. The first file, in order, that isn't valid decides, and then nothing is written.
 abbrev pub EndsUnbounded : Certificate → Bool → Turn → Turn → Sink → RunFault → Type 0
 EndsUnbounded by strict first second sink (File file fault) = IsUnwritten sink
     × (((file ≡ 1) × StopsAt fault first × IsUnread second)
@@ -48,8 +49,8 @@ IsBoundRun by strict first second sink (Ok bounded) = IsFile first bounded.insta
     × BoundsFiles by strict bounded.instance bounded.certificate sink (Ok bounded.found)
 IsBoundRun by strict first second sink (Err fault) = EndsUnbounded by strict first second sink fault
 
--- With `yes` the bytes that were read parse to these files, the whole report was written, and it means that the bound is one.
--- Where unknown keywords are a reason the instance has none.
+-- At `yes` the bytes that were read parse to these files, the whole report was written, and it means that the bound is
+-- one. Where unknown keywords are a reason, the instance has none.
 pub record SaysBound (by : Certificate) (strict : Bool) (first second : Turn) (sink : Sink) (found : BoundVerdict) : Type 0 where
   pub instance : Fields
   pub certificate : Fields
@@ -60,7 +61,7 @@ pub record SaysBound (by : Certificate) (strict : Bool) (first second : Turn) (s
   pub meaning : IsAcceptedAlone by instance certificate found report
   pub all_judged : strict ≡ true → instance.others ≡ []
 
--- what the run does, and what its line `yes` means
+-- the result of the run, and what its line `yes` means
 abbrev pub IsBoundRunOf : Certificate → Bool → Turn → Turn → Sink → Result Bounded RunFault → Type 0
 IsBoundRunOf by strict first second sink result = IsBoundRun by strict first second sink result
     × ((bounded : Bounded) → result ≡ Ok bounded → is_bound_yes bounded.found ≡ true

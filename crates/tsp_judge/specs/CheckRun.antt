@@ -1,5 +1,6 @@
--- What a check does to its readers and its writer, and its result: with a certificate of a bound or without one, and with a
--- length that is claimed or without, and with unknown keywords as a reason or not.
+-- A run of `tsp check`: the bytes that its readers delivered, the report that was written, and the result; with a
+-- certificate or without, with a claimed length or without, with unknown keywords as a reason or not. For `run`
+-- (src/checked.rt) and the calls of src/asked_runs.rt.
 use Rattle.std.specs.Prelude.{◌≡◌, ℕ, ◌⊎◌, Bool, false, Option, None, Some, Result, Ok, Err, IsTrue, ℤ}
 use Rattle.tsp_stream.specs.declared.output.WriteFault.TheVariants as write_faults
 use Rattle.tsp_stream.specs.Turn.{Turn, IsUnread}
@@ -19,50 +20,51 @@ use Rattle.tsp_report.specs.Report.{report_of}
 
 -- ---- the files
 
--- the turn's bytes parse to a file
+-- the bytes that the reader delivered parse to a file
 abbrev pub IsSomeFile : Turn → Type 0
 IsSomeFile turn = (file : Fields) × IsFile turn file
 
--- the file with this number was read, or it is none and the run ends with its fault
+-- the file with this number was read; or it isn't valid, and the run ends with its fault
 abbrev pub ReadsFile : ℕ → Turn → Result Fields RunFault → Type 0
 ReadsFile number turn (Ok file) = IsFile turn file
 ReadsFile number turn (Err (File place fault)) = (place ≡ number) × StopsAt fault turn
 ReadsFile number turn (Err other) = ⊥
 
--- A certificate may be given, with the turn of the reader of its file.
+-- A certificate may be given, with the turn of its reader.
 abbrev pub Given : Type 0
 Given = Option (Certificate × Turn)
 
+-- the certificate of the third reader, or none
 abbrev pub given_by : Option Certificate → Turn → Given
 given_by None third = None
 given_by (Some by) third = Some (by, third)
 
--- its file isn't read
+-- the certificate's reader isn't asked
 abbrev pub IsUnreadIn : Given → Type 0
 IsUnreadIn None = Unit {0}
 IsUnreadIn (Some given) = IsUnread given.1
 
--- its file is this one
+-- the certificate's reader delivered this file
 abbrev pub IsFileIn : Given → Option (Certificate × Fields) → Type 0
 IsFileIn None None = Unit {0}
 IsFileIn None (Some certificate) = ⊥
 IsFileIn (Some given) None = ⊥
 IsFileIn (Some given) (Some certificate) = (certificate.0 ≡ given.0) × IsFile given.1 certificate.1
 
--- its file, with this number, was read, or it is none and the run ends with its fault
+-- the certificate, as the file with this number, was read; or it isn't valid, and the run ends with its fault
 abbrev pub ReadsGiven : ℕ → Given → Result (Option (Certificate × Fields)) RunFault → Type 0
 ReadsGiven number given (Ok certificate) = IsFileIn given certificate
 ReadsGiven number None (Err fault) = ⊥
 ReadsGiven number (Some given) (Err fault) = ReadsFile number given.1 (Err fault)
 
--- these are the files
+-- the readers delivered these files
 pub record AreRead (given : Given) (first second : Turn) (instance solution : Fields)
     (certificate : Option (Certificate × Fields)) : Type 0 where
   pub first_file : IsFile first instance
   pub second_file : IsFile second solution
   pub third_file : IsFileIn given certificate
 
--- The first one, in order, that is none has this number and this fault. Later ones aren't read.
+-- The first file, in order, that isn't valid has this number and this fault. Later ones aren't read.
 abbrev pub IsFaultOfRun : Given → Turn → Turn → ℕ → ReadFault → Type 0
 IsFaultOfRun given first second file fault = ((file ≡ 1) × StopsAt fault first × IsUnread second × IsUnreadIn given)
     ⊎ ((file ≡ 2) × IsSomeFile first × StopsAt fault second × IsUnreadIn given)
@@ -71,9 +73,9 @@ IsFaultOfRun given first second file fault = ((file ≡ 1) × StopsAt fault firs
 
 -- ---- the verdict
 
--- What comes of files that were read. At Ok this is the verdict on them, and the whole report on it was written. Nothing is
--- written where the first file is of a TYPE that isn't judged so, nor out of memory: then none of the reasons applies that
--- are found without memory. Writing takes none. Where the writer fails a prefix of the report was written.
+-- The result for files that were read. Ok: this is the verdict, and the whole report was written. WrongKind: solutions
+-- of the instance's TYPE aren't judged so. OutOfMemory: none of the reasons applies that are found without memory. Of
+-- both nothing is written, and writing takes no memory. Where the writer fails, a prefix of the report was written.
 abbrev pub JudgesFiles : Option (Certificate × Fields) → Option ℤ → Bool → Fields → Fields → Sink → Result Verdict RunFault
     → Type 0
 JudgesFiles certificate claimed strict instance solution sink (Ok verdict) = IsTrue (is_judged certificate instance.kind)
@@ -90,7 +92,7 @@ JudgesFiles certificate claimed strict instance solution sink (Err other) = ⊥
 
 -- ---- the run
 
--- Why a run has no verdict. The first file, in order, that is none decides, and then nothing is written.
+-- Why a run has no verdict. The first file, in order, that isn't valid decides, and then nothing is written.
 abbrev pub EndsWithout : Given → Option ℤ → Bool → Turn → Turn → Sink → RunFault → Type 0
 EndsWithout given claimed strict first second sink (File file fault) = IsUnwritten sink × IsFaultOfRun given first second file fault
 EndsWithout given claimed strict first second sink fault = (instance solution : Fields) × (certificate : Option (Certificate × Fields))

@@ -1,5 +1,6 @@
--- What a comparison does to its readers and its writer, and its result: an instance and a certificate that are read once, and
--- solutions that are opened, judged and dropped one by one.
+-- A run of `tsp compare`: an instance and a certificate that are read once, solutions that are opened, judged and
+-- dropped one by one, the lines that were written, and the result. For `run_compare` (src/compared.rt) and `find`
+-- (src/common.rt).
 use Rattle.std.specs.Prelude.{◌≡◌, ◌≢◌, ◌⊎◌, ℕ, suc, ◌<◌, ◌≤◌, max, Bool, true, false, List, [], ◌∷◌, ◌++◌, length, Option, None, Some, Result, Ok, Err, IsTrue, slice_index_or}
 use Rattle.std.specs.declared.io.Error.{Error}
 use Rattle.tsp_stream.specs.declared.output.WriteFault.TheVariants as write_faults
@@ -31,14 +32,16 @@ use Rattle.tsp_report.specs.Report.{report_of}
 
 -- ---- the instance and the certificate
 
--- The first one that is none has this number and this fault. The certificate isn't read after an instance that is none.
+-- The first of instance and certificate that isn't valid has this number and this fault. After such an instance the
+-- certificate isn't read.
 abbrev pub IsFaultOfCompare : Given → Turn → ℕ → ReadFault → Type 0
 IsFaultOfCompare given first file fault = ((file ≡ 1) × StopsAt fault first × IsUnreadIn given)
     ⊎ ((second : Certificate × Turn) × (given ≡ Some second) × (file ≡ 2) × IsSomeFile first × StopsAt fault second.1)
 
 -- ---- one solution
 
--- the turn of a reader that was opened for the solution at this place, counted from 0; it has failed where its last read has
+-- the turn of a reader that was opened for the solution at this place, counted from 0; the reader has failed where its
+-- last read returned an error
 pub record IsTurnAt {R : Type 0} (remaining : R → Option (List ℕ)) (gives : R → List ℕ → Result ℕ Error → List ℕ → R → Type 0)
     (opens : ℕ → R → Type 0) (place : ℕ) (turn : Turn)
     : Type 0 where
@@ -49,8 +52,8 @@ pub record IsTurnAt {R : Type 0} (remaining : R → Option (List ℕ)) (gives : 
   pub asked : (count : ℕ) × (after : R) × HasReads gives count reader after turn.failed
   pub few : length turn.given ≤ most_taken
 
--- What is found of the solution that a reader delivers. It is the verdict of a check of the three files, and where the solution
--- is accepted, it means that. Or it is the fault of the file.
+-- What is found of the solution that a reader delivers: the verdict of a check of the three files, and its meaning where
+-- the solution is accepted; or the fault of the file.
 abbrev pub IsFoundIn : Common → Turn → Result Verdict ReadFault → Type 0
 IsFoundIn common turn (Ok verdict) = (solution : Fields) × IsFile turn solution
     × IsVerdictWith common.certificate None common.instance solution verdict × HasBasis verdict common.basis
@@ -62,7 +65,7 @@ abbrev pub IsRefusedIn : Common → Turn → Type 0
 IsRefusedIn common turn = StopsAt read_faults.OutOfMemory turn
     ⊎ ((solution : Fields) × IsFile turn solution × NoneBeforeRepeatsOn common.instance solution)
 
--- what is found, without the file
+-- the verdict or the fault alone
 abbrev pub result_of : Found → Result Verdict ReadFault
 result_of (founds.Solution verdict solution) = Ok verdict
 result_of (founds.Fault fault) = Err fault
@@ -73,12 +76,12 @@ Finds common turn (Ok found) = IsFoundIn common turn (result_of found)
 Finds common turn (Err OutOfMemory) = IsRefusedIn common turn
 Finds common turn (Err other) = ⊥
 
--- its exit status: that of a check of the solution, which is its second file
+-- the exit status of a check of that solution, which is its second file
 abbrev pub status_of_found : Result Verdict ReadFault → ℕ
 status_of_found (Ok verdict) = status_of (Ok (is_yes verdict))
 status_of_found (Err fault) = status_of (Err (File 2 fault))
 
--- what comes of the solution at a place: its line was written, or a prefix of that, or memory is refused
+-- the result for the solution at a place: its line was written, or a prefix of it, or memory is refused
 abbrev pub ComparesOne : (ℕ → Turn → Type 0) → List (List ℕ) → Common → ℕ → Sink → Result Found RunFault → Type 0
 ComparesOne IsTurn paths common place sink (Ok found) = (turn : Turn) × IsTurn place turn
     × IsFoundIn common turn (result_of found)
@@ -92,7 +95,7 @@ ComparesOne IsTurn paths common place sink (Err other) = ⊥
 
 -- ---- all solutions
 
--- These were found, in order, of the solutions from this place on, each in a reader that was opened for its place.
+-- These were found, in order, of the solutions from this place on; each reader was opened for its place.
 abbrev pub AreFound : (ℕ → Turn → Type 0) → Common → ℕ → List (Result Verdict ReadFault) → Type 0
 AreFound IsTurn common place [] = Unit {0}
 AreFound IsTurn common place (found ∷ rest) = ((turn : Turn) × IsTurn place turn × IsFoundIn common turn found)
@@ -104,14 +107,14 @@ all_solution_lines [] paths = []
 all_solution_lines (found ∷ rest) [] = []
 all_solution_lines (found ∷ rest) (path ∷ paths) = solution_line found path ++ all_solution_lines rest paths
 
--- the largest status
+-- the largest exit status of a solution
 abbrev pub largest_status : List (Result Verdict ReadFault) → ℕ
 largest_status [] = 0
 largest_status (found ∷ rest) = max (status_of_found found) (largest_status rest)
 
--- What comes of the solutions with these paths, whose lines follow a text that is written before. At Ok the line of each was
--- written, and the result is the largest status. Out of memory, the lines of those before were, and nothing else. Where the
--- writer fails, a prefix of such a text was written.
+-- The result for the solutions with these paths; `before` is the text before their lines. Ok: the line of each was
+-- written, and the result is the largest status. OutOfMemory: the lines of the solutions before were written, and
+-- nothing else. Where the writer fails, a prefix of such a text was written.
 abbrev pub ComparesAll : (ℕ → Turn → Type 0) → List (List ℕ) → Common → List ℕ → Sink → Result ℕ RunFault → Type 0
 ComparesAll IsTurn paths common before sink (Ok status) = (found : List (Result Verdict ReadFault))
     × AreFound IsTurn common 0 found × (length found ≡ length paths) × HasWritten sink (before ++ all_solution_lines found paths)
@@ -124,19 +127,19 @@ ComparesAll IsTurn paths common before sink (Err (Write write_faults.Device)) = 
     × AreFound IsTurn common 0 found × (length found ≤ length paths) × HasStopped sink (before ++ all_solution_lines found paths)
 ComparesAll IsTurn paths common before sink (Err other) = ⊥
 
--- Where a reason applies whatever the solution, the head is the whole text.
+-- Where a reason applies whatever the solution, the head of the comparison is the whole text.
 abbrev pub ComparesNone : List ℕ → Sink → Result ℕ RunFault → Type 0
 ComparesNone head sink (Ok status) = HasWritten sink head × (status ≡ 1)
 ComparesNone head sink (Err (Write write_faults.Device)) = HasStopped sink head
 ComparesNone head sink (Err other) = ⊥
 
--- what comes of the solutions, by whether they are judged one by one
+-- the result for all solutions: each is judged, or none is
 abbrev pub ComparesBy : Bool → (ℕ → Turn → Type 0) → List (List ℕ) → Common → Sink → Result ℕ RunFault → Type 0
 ComparesBy true IsTurn paths common sink ended =
     ComparesAll IsTurn paths common (head_of common.instance common.basis) sink ended
 ComparesBy false IsTurn paths common sink ended = ComparesNone (head_of common.instance common.basis) sink ended
 
--- what comes of them after a basis that is that of the instance and the certificate, with unknown keywords as a reason or not
+-- the same, where the basis is that of the instance and the certificate, with unknown keywords as a reason or not
 abbrev pub ComparesOn : Bool → (ℕ → Turn → Type 0) → List (List ℕ) → Common → Sink → Result ℕ RunFault → Type 0
 ComparesOn strict IsTurn paths common sink ended = IsBasisAsked strict common.certificate common.instance common.basis
     × ComparesBy (is_clear common.basis) IsTurn paths common sink ended
@@ -150,16 +153,16 @@ LacksBasis certificate instance OutOfMemory = IsTrue (is_judged certificate inst
     × NoneOfBasisWithoutMemory certificate instance
 LacksBasis certificate instance other = ⊥
 
--- these are the files that are read once, and the instance is one problem
+-- the readers delivered this instance and this certificate, and the instance is one problem
 abbrev pub AreReadOnce : Given → Turn → Common → Type 0
 AreReadOnce given first common = IsFile first common.instance × IsFileIn given common.certificate × IsProblem common.instance
 
--- no basis comes of the files that are read once, and nothing is written
+-- the instance and the certificate were read, but have no basis, and nothing is written
 abbrev pub EndsLacking : Given → Turn → Sink → RunFault → Type 0
 EndsLacking given first sink fault = (instance : Fields) × (certificate : Option (Certificate × Fields))
     × IsFile first instance × IsFileIn given certificate × LacksBasis certificate instance fault × IsUnwritten sink
 
--- why a comparison ends early
+-- why a comparison ends early: a file that isn't valid, no basis, or a solution at which memory or the writer failed
 abbrev pub EndsCompare : Bool → (ℕ → Turn → Type 0) → List (List ℕ) → Given → Turn → Sink → RunFault → Type 0
 EndsCompare strict IsTurn paths given first sink (File file fault) = IsUnwritten sink × IsFaultOfCompare given first file fault
 EndsCompare strict IsTurn paths given first sink fault = EndsLacking given first sink fault
@@ -171,6 +174,7 @@ IsComparison strict IsTurn paths given first sink (Ok compared) = AreReadOnce gi
     × ComparesOn strict IsTurn paths compared.common sink (Ok compared.status)
 IsComparison strict IsTurn paths given first sink (Err fault) = EndsCompare strict IsTurn paths given first sink fault
 
+-- The same for readers of type R: what each has left, gives at a read, and is opened for.
 abbrev pub IsCompareRun : {R : Type 0} → Bool → (R → Option (List ℕ)) → (R → List ℕ → Result ℕ Error → List ℕ → R → Type 0)
     → (ℕ → R → Type 0) → List (List ℕ) → Given → Turn → Sink → Result Compared RunFault → Type 0
 IsCompareRun strict remaining gives opens paths given first sink result =

@@ -1,4 +1,5 @@
--- What converting a file does to its reader and its writer, and what it returns.
+-- A run of `tsp convert`: the bytes that its reader delivered, the canonical text that was written, and the result. For
+-- `run_convert` (src/asked_runs.rt) and `convert_file` (src/convert.rt).
 use Rattle.std.specs.Prelude.{◌≡◌, Option, None, Some, Result, Ok, Err}
 use Rattle.tsp_format.specs.declared.layout.Layout.{Layout}
 use Rattle.tsp_stream.specs.declared.output.WriteFault.TheVariants as write_faults
@@ -13,7 +14,7 @@ use Rattle.tsp_read.specs.Reads.{IsFile, StopsAt}
 use Rattle.tsp_judge.specs.declared.fault.RunFault.{RunFault}
 use Rattle.tsp_judge.specs.declared.fault.RunFault.TheVariants.{File, Write, Relayout}
 
--- What becomes of a file: it goes into the layout that is wanted, or not, for a reason. Where none is wanted it stays as it is.
+-- The file in the wanted layout, or why it can't have it. Where no layout is wanted, it stays as it is.
 abbrev pub Becomes : Option Layout → Fields → Result Fields RelayoutFault → Type 0
 Becomes None old (Ok new) = new ≡ old
 Becomes None old (Err fault) = ⊥
@@ -27,9 +28,9 @@ pub record IsConverted (to : Option Layout) (turn : Turn) (new : Fields) : Type 
   pub becomes : Becomes to old (Ok new)
   pub valid : fault_of new ≡ None
 
--- The result of a conversion. At Ok the canonical text of the new file was written. Where the reader gives no file, or the file
--- can't be put into the layout, nothing is written. Out of memory is that of the reading or of the change of the layout; writing
--- takes none. Where the writer fails a prefix of the text was written.
+-- The result of a conversion. Ok: the canonical text of the new file was written. Where the file isn't valid, or can't
+-- have the layout, nothing is written. Memory may be lacking for reading, or for the layout; writing takes none. Where
+-- the writer fails, a prefix of the text was written.
 abbrev pub IsConvertRun : Option Layout → Turn → Sink → Result (Unit {0}) RunFault → Type 0
 IsConvertRun to turn sink (Ok done) = (new : Fields) × IsConverted to turn new × HasWritten sink (text_of new)
 IsConvertRun to turn sink (Err (File place fault)) = (place ≡ 1) × StopsAt fault turn × IsUnwritten sink

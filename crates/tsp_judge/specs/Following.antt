@@ -1,4 +1,5 @@
--- Which lines of a comparison its follower gets.
+-- Which lines of a comparison its follower gets while they are written. For `run_compare` (src/compared.rt), and for
+-- `compare` (src/outcome.rt of tsp_perform).
 use Rattle.std.specs.Prelude.{◌≡◌, ℕ, zero, suc, ◌-◌, ◌≤◌, Bool, true, false, Result, Ok, Err}
 use Rattle.tsp_task.specs.Verdicts.{is_clear}
 use Rattle.tsp_judge.specs.declared.compared.Compared.{Compared}

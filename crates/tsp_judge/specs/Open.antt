@@ -1,4 +1,5 @@
--- An instance that is open, and the results of opening, binding and judging, over the bytes of the texts.
+-- An instance that stays open between calls, and the results of opening it, binding a certificate to it, and judging a
+-- solution, over the bytes of texts. For `Opened` (src/opened.rt), and so for the handles of tsp_c.
 use Rattle.std.specs.Prelude.{◌≡◌, ℕ, false, List, Option, None, Some, Result, Ok, Err, IsTrue, ℤ}
 use Rattle.tsp_draft.specs.Fields.{Fields}
 use Rattle.tsp_draft.specs.Rules.{is_instance}
@@ -21,31 +22,33 @@ pub record Open : Type 0 where
 
 -- ---- a text, which has this number among those of a call
 
--- the fault is the first of the text; out of memory says nothing of it
+-- the fault is the first one of the text with this number, or is that memory was refused
 abbrev pub IsTextFault : ℕ → List ℕ → RunFault → Type 0
 IsTextFault number text (File file found) = (file ≡ number) × Reads text (Err found)
 IsTextFault number text other = ⊥
 
+-- the text parses to this file, or has this fault
 abbrev pub ReadsText : ℕ → List ℕ → Result Fields RunFault → Type 0
 ReadsText number text (Ok file) = Spells text file
 ReadsText number text (Err fault) = IsTextFault number text fault
 
 -- ---- opening
 
--- the text is this instance, and no certificate is bound to it
+-- the text parses to this instance, and no certificate is bound to it
 pub record IsOpened (text : List ℕ) (opened : Open) : Type 0 where
   pub spelled : Spells text opened.instance
   pub of_type : IsTrue (is_instance opened.instance.kind)
   pub alone : opened.certificate ≡ None
 
--- the text is no file, or no instance
+-- the text isn't valid, or is no instance
 abbrev pub IsUnopened : List ℕ → RunFault → Type 0
 IsUnopened text WrongKind = (file : Fields) × Spells text file × (is_instance file.kind ≡ false)
 IsUnopened text fault = IsTextFault 1 text fault
 
 -- ---- binding a certificate
 
--- the certificate that the text is, is bound to the same instance, and this is what it gives
+-- the text parses to a certificate, which is now bound to the same instance; `found` is its bound, or the reason against
+-- it
 pub record IsBoundTo (by : Certificate) (text : List ℕ) (old new : Open) (found : BoundVerdict) : Type 0 where
   pub same : new.instance ≡ old.instance
   pub certificate : Fields
@@ -54,7 +57,7 @@ pub record IsBoundTo (by : Certificate) (text : List ℕ) (old new : Open) (foun
   pub of_type : IsTrue (is_bounded by old.instance.kind)
   pub judged : IsBoundVerdict by old.instance certificate found
 
--- The text is no file; or it is one, and tours of the instance have no bound by it, or memory ran out.
+-- The text isn't valid; or its certificate gives tours of the instance no bound; or memory was refused.
 abbrev pub IsUnbound : Certificate → List ℕ → Open → RunFault → Type 0
 IsUnbound by text opened WrongKind = (certificate : Fields) × Spells text certificate
     × (is_bounded by opened.instance.kind ≡ false)
@@ -65,7 +68,7 @@ IsUnbound by text opened fault = IsTextFault 2 text fault
 
 -- ---- judging a solution
 
--- the verdict on the solution that the text is
+-- the verdict on the solution that the text parses to
 pub record IsHeldVerdict (text : List ℕ) (claimed : Option ℤ) (opened : Open) (verdict : Verdict) : Type 0 where
   pub solution : Fields
   pub spelled : Spells text solution
@@ -73,7 +76,7 @@ pub record IsHeldVerdict (text : List ℕ) (claimed : Option ℤ) (opened : Open
   pub judged : IsVerdictWith opened.certificate claimed opened.instance solution verdict
   pub problem : IsProblem opened.instance
 
--- The text is no file; or it is one, and memory ran out.
+-- The text isn't valid; or memory was refused for the verdict.
 abbrev pub IsNotJudged : List ℕ → Open → RunFault → Type 0
 IsNotJudged text opened OutOfMemory = (solution : Fields) × Spells text solution × NoneBeforeRepeatsOn opened.instance solution
 IsNotJudged text opened fault = IsTextFault 2 text fault

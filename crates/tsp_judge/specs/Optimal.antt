@@ -1,4 +1,5 @@
--- What the length and the words after it mean on a line of a comparison.
+-- The meaning of the length and the bound on a line of `tsp compare`. For the law `lines_of_bounded_tours`
+-- (src/compare_laws.rt).
 use Rattle.std.specs.Prelude.{◌≡◌, ℕ, List, [], ◌∷◌, Some, ℤ, ◌≤ℤ◌}
 use Rattle.tsp_draft.specs.Fields.{Fields}
 use Rattle.tsp_theory.specs.Length.{length_of}

@@ -1,4 +1,5 @@
--- What showing a file does to its reader and its writer, and what it returns.
+-- A run of `tsp show`: the bytes that its reader delivered, the lines that were written, and the result. For `run_show`
+-- (src/asked_runs.rt) and `show_file` (src/show.rt).
 use Rattle.std.specs.Prelude.{◌≡◌, Result, Ok, Err}
 use Rattle.tsp_stream.specs.declared.output.WriteFault.TheVariants as write_faults
 use Rattle.tsp_stream.specs.Turn.{Turn}
@@ -9,8 +10,8 @@ use Rattle.tsp_judge.specs.declared.fault.RunFault.{RunFault}
 use Rattle.tsp_judge.specs.declared.fault.RunFault.TheVariants.{File, Write}
 use Rattle.tsp_report.specs.Show.{shown}
 
--- The result of `show`. At Ok all its lines were written. Where the reader gives no file nothing is written. Where the writer
--- fails a prefix of the lines was written. Out of memory is that of the reading; writing takes none.
+-- The result of `show`. Ok: all its lines were written. Where the file isn't valid, nothing is written. Memory may be
+-- lacking for reading; writing takes none. Where the writer fails, a prefix of the lines was written.
 abbrev pub IsShowRun : Turn → Sink → Result (Unit {0}) RunFault → Type 0
 IsShowRun turn sink (Ok done) = (file : Fields) × IsFile turn file × HasWritten sink (shown file)
 IsShowRun turn sink (Err (File place fault)) = (place ≡ 1) × StopsAt fault turn × IsUnwritten sink

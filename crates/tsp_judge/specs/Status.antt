@@ -1,4 +1,5 @@
--- The exit status of a check, a conversion or `show`.
+-- The exit status of a run, by its result. For `status_of` (src/status.rt), `status_of_run_end` of tsp_run, and the
+-- results of the calls of tsp_c.
 use Rattle.std.specs.Prelude.{ℕ, Bool, true, false, Result, Ok, Err}
 use Rattle.tsp_read.specs.declared.ReadFault.TheVariants as read_faults
 use Rattle.tsp_stream.specs.declared.output.WriteFault.TheVariants as write_faults
@@ -19,8 +20,8 @@ status_number statuses.Refused = 4
 status_number statuses.Device = 5
 status_number statuses.TooSmall = 6
 
--- 1 is a file whose weights can't go into the layout, 2 a file with a fault, or of the wrong kind, 3 out of memory, and 5 a
--- device's failure
+-- the status of a fault: 1 the weights can't have the layout, 2 a file isn't valid or is of the wrong kind, 3 out of
+-- memory, 5 a device failed
 abbrev pub status_of_fault : RunFault → ℕ
 status_of_fault (File file (read_faults.Line line word fault)) = 2
 status_of_fault (File file (read_faults.End fault)) = 2
@@ -34,7 +35,7 @@ status_of_fault (Write write_faults.Device) = 5
 status_of_fault (Relayout relayout_faults.OutOfMemory) = 3
 status_of_fault (Relayout fault) = 1
 
--- 0 means accepted, or done, and 1 rejected
+-- 0 means accepted or done, 1 rejected
 abbrev pub status_of : Result Bool RunFault → ℕ
 status_of (Ok true) = 0
 status_of (Ok false) = 1

@@ -1,4 +1,5 @@
--- What a check does, and what its line `yes` means, from the bytes read to the bytes written.
+-- A run of `tsp check` with the meaning of its line `yes`, from the bytes read to the bytes written. For `run`
+-- (src/checked.rt) and the calls of src/asked_runs.rt.
 use Rattle.std.specs.Prelude.{◌≡◌, ℕ, Bool, true, false, List, [], Option, None, Some, Result, Ok, ℤ}
 use Rattle.tsp_stream.specs.Turn.{Turn}
 use Rattle.tsp_stream.specs.Sink.{Sink, HasWritten}
@@ -9,8 +10,8 @@ use Rattle.tsp_judge.specs.declared.judging.Judged.{Judged}
 use Rattle.tsp_judge.specs.Accepted.{IsAccepted}
 use Rattle.tsp_judge.specs.CheckRun.{Given, AreRead, IsRun, IsCheckAnswer, acceptance}
 
--- With `yes` the bytes that were read parse to these files, the whole report was written, and it means that the solution is
--- accepted. Where unknown keywords are a reason the instance has none.
+-- At `yes` the bytes that were read parse to these files, the whole report was written, and it means that the solution
+-- is accepted. Where unknown keywords are a reason, the instance has none.
 pub record SaysYes (given : Given) (claimed : Option ℤ) (strict : Bool) (first second : Turn) (sink : Sink) : Type 0 where
   pub instance : Fields
   pub solution : Fields
@@ -21,16 +22,16 @@ pub record SaysYes (given : Given) (claimed : Option ℤ) (strict : Bool) (first
   pub meaning : IsAccepted certificate claimed instance solution report
   pub all_judged : strict ≡ true → instance.others ≡ []
 
--- what a check does, and what its line `yes` means; its result is whether the solution is accepted
+-- the result of a check, which is whether the solution is accepted, and what its line `yes` means
 abbrev pub IsCheckOf : Given → Option ℤ → Bool → Turn → Turn → Sink → Result Bool RunFault → Type 0
 IsCheckOf given claimed strict first second sink result = IsCheckAnswer given claimed strict first second sink result
     × (result ≡ Ok true → SaysYes given claimed strict first second sink)
 
--- of an instance and a solution
+-- a check without a certificate
 abbrev pub IsCheck : Turn → Turn → Sink → Result Bool RunFault → Type 0
 IsCheck first second sink result = IsCheckOf None None false first second sink result
 
--- with a certificate, whose file is the third one
+-- a check with a certificate, whose file is the third one
 abbrev pub IsCheckBy : Certificate → Turn → Turn → Turn → Sink → Result Bool RunFault → Type 0
 IsCheckBy by first second third sink result = IsCheckOf (Some (by, third)) None false first second sink result
 

@@ -1,4 +1,5 @@
--- The text of each fault of a number word.
+-- The text of each fault of a number word, which is its name. For `NumberFault` (src/fault.rt), and for the fault of a
+-- text (ReadFaultText.antt of tsp_text).
 use Rattle.std.specs.Prelude.{ℕ, List, codes}
 use Rattle.tsp_number.specs.declared.fault.NumberFault.{NumberFault}
 use Rattle.tsp_number.specs.declared.fault.NumberFault.TheVariants.{LongWord, BadNumber, TooFine, OutOfRange, NotWhole}

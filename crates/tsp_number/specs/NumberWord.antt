@@ -1,11 +1,13 @@
--- Number words, by the grammar of decimal notation, and the decimal that a word means.
+-- Number words by the grammar of decimal notation, and the number that a word means, or its fault. For `parse_decimal`
+-- and `parse_whole` (src/word.rt). Reading.antt has the same as functions.
 use Rattle.std.specs.Prelude.{◌≡◌, ◌≢◌, ℕ, ◌+◌, ◌^◌, ◌<◌, ◌≤◌, Bool, true, false, List, [], ◌∷◌, ◌++◌, length, ◌⊎◌, Result, Ok, Err, if◌then◌else◌, ℤ, pos, negsuc, ◌+ℤ◌, ◌-ℤ◌, ◌*ℤ◌, neg_ℤ, ◌≤ℤ◌, ◌<ℤ◌, unsigned_abs}
 use Rattle.std.specs.Str.Parse.{AllDigits, digits_value}
 use Rattle.tsp_number.specs.declared.fault.NumberFault.{NumberFault}
 use Rattle.tsp_number.specs.declared.fault.NumberFault.TheVariants.{LongWord, BadNumber, TooFine, OutOfRange, NotWhole}
 use Rattle.tsp_distance.specs.Decimal.{unit, most_count}
 
--- the bytes of `+`, `-`, `.`, `e` and `E`
+-- ---- the bytes of `+`, `-`, `.`, `e` and `E`
+
 abbrev pub plus : ℕ
 plus = 43
 
@@ -26,7 +28,7 @@ abbrev pub IsSign : List ℕ → Bool → Type 0
 IsSign sign negative = ((sign ≡ []) × (negative ≡ false)) ⊎ ((sign ≡ plus ∷ []) × (negative ≡ false))
     ⊎ ((sign ≡ minus ∷ []) × (negative ≡ true))
 
--- the number of this size
+-- the number of this size with this sign
 abbrev pub with_sign : Bool → ℕ → ℤ
 with_sign negative size = if negative then neg_ℤ (pos size) else pos size
 
@@ -34,7 +36,7 @@ with_sign negative size = if negative then neg_ℤ (pos size) else pos size
 abbrev pub IsFraction : List ℕ → List ℕ → Type 0
 IsFraction text digits = (text ≡ point ∷ digits) ⊎ ((text ≡ []) × (digits ≡ []))
 
--- `e` or `E`, a sign and at least one digit
+-- an exponent: `e` or `E`, a sign and at least one digit
 pub record WritesExponent (text : List ℕ) (exponent : ℤ) : Type 0 where
   pub mark : ℕ
   pub sign : List ℕ
@@ -51,14 +53,14 @@ pub record WritesExponent (text : List ℕ) (exponent : ℤ) : Type 0 where
 abbrev pub IsExponent : List ℕ → ℤ → Type 0
 IsExponent text exponent = ((text ≡ []) × (exponent ≡ pos 0)) ⊎ WritesExponent text exponent
 
--- what a number word is made of: a sign, the digits before and after the point, and an exponent
+-- the parts of a number word: its sign, the digits before and after the point, and the exponent
 pub record Numeral : Type 0 where
   pub negative : Bool
   pub whole : List ℕ
   pub fraction : List ℕ
   pub exponent : ℤ
 
--- the word is written so, with at least one digit before its exponent
+-- the word consists of these parts, with at least one digit before its exponent
 pub record SpellsNumeral (word : List ℕ) (n : Numeral) : Type 0 where
   pub sign : List ℕ
   pub fraction_text : List ℕ
@@ -74,18 +76,19 @@ pub record SpellsNumeral (word : List ℕ) (n : Numeral) : Type 0 where
 abbrev pub IsNumberWord : List ℕ → Type 0
 IsNumberWord word = (n : Numeral) × SpellsNumeral word n
 
--- all digits of the mantissa as one whole number, and the same with its sign
+-- all digits of the mantissa as one whole number
 abbrev pub digits_of : Numeral → ℕ
 digits_of n = digits_value 10 (n.whole ++ n.fraction)
 
+-- the same with its sign
 abbrev pub mantissa : Numeral → ℤ
 mantissa n = with_sign n.negative (digits_of n)
 
--- by how many places the mantissa is to be shifted to the left, to count in the unit 10^-scale
+-- by how many places the mantissa is shifted to the left to be a count of 10^-scale
 abbrev pub shift_of : ℕ → Numeral → ℤ
 shift_of scale n = pos scale +ℤ n.exponent -ℤ pos (length n.fraction)
 
--- k is m shifted by this many places: m * 10^places, or to the right the number whose own shift to the left is m
+-- k is m shifted to the left: m * 10^places; or to the right, without a rest
 abbrev pub IsShifted : ℤ → ℤ → ℤ → Type 0
 IsShifted m (pos up) k = k ≡ m *ℤ pos (10 ^ up)
 IsShifted m (negsuc down) k = k *ℤ pos (10 ^ (down + 1)) ≡ m
@@ -96,11 +99,11 @@ pub record StandsFor (word : List ℕ) (k : ℤ) : Type 0 where
   pub spelled : SpellsNumeral word numeral
   pub shifted : IsShifted (mantissa numeral) (shift_of 9 numeral) k
 
--- no more bytes than a number word may have
+-- at most 64 bytes, which is the limit of a number word
 abbrev pub IsShort : List ℕ → Type 0
 IsShort word = length word ≤ 64
 
--- What the word is read as where a decimal is wanted: its count, or the first fault that it has
+-- The word read as a decimal: its count of 10^-9, or the first fault that it has.
 abbrev pub ReadsDecimal : List ℕ → Result ℤ NumberFault → Type 0
 ReadsDecimal word (Ok k) = IsShort word × StandsFor word k × (unsigned_abs k ≤ most_count)
 ReadsDecimal word (Err LongWord) = ¬ IsShort word
@@ -109,7 +112,7 @@ ReadsDecimal word (Err TooFine) = IsShort word × IsNumberWord word × ((k : ℤ
 ReadsDecimal word (Err NotWhole) = ⊥
 ReadsDecimal word (Err OutOfRange) = IsShort word × ((k : ℤ) × StandsFor word k × (most_count < unsigned_abs k))
 
--- What it is read as where a whole number from `low` to `high` is wanted
+-- The word read as a whole number from `low` to `high`: the number, or the first fault that it has.
 abbrev pub ReadsWhole : List ℕ → ℤ → ℤ → Result ℤ NumberFault → Type 0
 ReadsWhole word low high (Ok n) = IsShort word × StandsFor word (n *ℤ pos unit) × (low ≤ℤ n) × (n ≤ℤ high)
 ReadsWhole word low high (Err LongWord) = ¬ IsShort word

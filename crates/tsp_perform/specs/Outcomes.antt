@@ -1,4 +1,5 @@
--- A task done on its files, and solutions compared: what that does to readers and to the writer, and what it comes to.
+-- A task done on its readers, and solutions compared: the bytes that each reader delivered, the writer, and the outcome.
+-- For `perform` and `compare` (src/outcome.rt), and so for the program (ProgramRun.antt of tsp_run).
 use Rattle.std.specs.Prelude.{◌≡◌, ℕ, Bool, true, List, Option, None, Some, Result, Ok, Err}
 use Rattle.std.specs.declared.io.Error.{Error}
 use Rattle.tsp_judge.specs.declared.Watched.{Watched}
@@ -25,26 +26,28 @@ use Rattle.tsp_task.specs.declared.task.FileTask.TheVariants.{Show, Convert, Che
 use Rattle.tsp_perform.specs.declared.outcome.Outcome.{Outcome}
 use Rattle.tsp_perform.specs.declared.outcome.Outcome.TheVariants as outcomes
 
--- the outcome is no refusal of a solution, of an instance or of a certificate
+-- whether nothing is rejected: no solution, no instance and no certificate
 abbrev pub is_yes_outcome : Outcome → Bool
 is_yes_outcome outcomes.Done = true
 is_yes_outcome (outcomes.Judged judged) = is_yes judged.verdict
 is_yes_outcome (outcomes.Bounded bounded) = is_bound_yes bounded.found
 
--- what a run comes to, by its sort
+-- the outcome of `show` or `convert`
 abbrev pub outcome_of_writing : Result (Unit {0}) RunFault → Result Outcome RunFault
 outcome_of_writing (Ok done) = Ok outcomes.Done
 outcome_of_writing (Err fault) = Err fault
 
+-- the outcome of a check
 abbrev pub outcome_of_check : Result Judged RunFault → Result Outcome RunFault
 outcome_of_check (Ok judged) = Ok (outcomes.Judged judged)
 outcome_of_check (Err fault) = Err fault
 
+-- the outcome of a bound
 abbrev pub outcome_of_bound : Result Bounded RunFault → Result Outcome RunFault
 outcome_of_bound (Ok bounded) = Ok (outcomes.Bounded bounded)
 outcome_of_bound (Err fault) = Err fault
 
--- Q of the certificate that is named and of the turn of its reader, or of none where none is named
+-- Q of the certificate that is named and the turn of its reader, or of none
 abbrev pub TakesNamed : {R : Type 0} → (R → Option (List ℕ)) → Option (Certificate × Watched R) → Option (Certificate × Watched R)
     → (Given → Type 0) → Type 0
 TakesNamed remaining None None Q = Q None
@@ -52,7 +55,7 @@ TakesNamed remaining (Some named) (Some left) Q = TakesAtMost most_taken (turn_o
     (λ turn. Q (Some (named.0, turn)))
 TakesNamed remaining _ _ Q = ⊥
 
--- The task is done on these readers, as they were and as they are left, in the order in which it has them.
+-- The task is done on these readers. The first task has them as they were, the second one as they are left.
 abbrev pub IsDone : {R : Type 0} → (R → Option (List ℕ)) → FileTask (Watched R) → FileTask (Watched R) → Sink
     → Result Outcome RunFault → Type 0
 IsDone remaining (Show file) (Show left) sink outcome = TakesAtMost most_taken (turn_of remaining file left) (λ turn.
@@ -73,7 +76,7 @@ IsDone remaining (Bound instance certificate strict) (Bound instance_left certif
     × IsBoundRunOf certificate.0 strict first second sink ended))
 IsDone remaining _ _ sink outcome = ⊥
 
--- The named file's reader was asked so, as it was and as it is left, where one is named: it has failed where its last read has.
+-- Where a certificate is named, some reads were asked of its reader, which has failed where the last read has.
 abbrev pub IsNamedReadOn : {R : Type 0} → (R → List ℕ → Result ℕ Error → List ℕ → R → Type 0) → Option (Certificate × Watched R)
     → Option (Certificate × Watched R) → Type 0
 IsNamedReadOn gives None None = Unit {0}
@@ -92,13 +95,13 @@ AreReadOn gives (Bound instance certificate strict) (Bound instance_left certifi
     × IsReadOn gives certificate.1 certificate_left.1
 AreReadOn gives _ _ = ⊥
 
--- and of those of a comparison
+-- the same of the readers of a comparison, without those of the solutions
 abbrev pub AreComparedOn : {R : Type 0} → (R → List ℕ → Result ℕ Error → List ℕ → R → Type 0) → Comparison (Watched R)
     → Comparison (Watched R) → Type 0
 AreComparedOn gives old new = IsReadOn gives old.instance new.instance × IsNamedReadOn gives old.certificate new.certificate
 
--- The solutions are compared by these readers, as they were and as they are left: that of the instance, and that of the
--- certificate where one is named. Each solution is one that opening it by its index gives.
+-- The solutions are compared with these readers: that of the instance, and that of the certificate where one is named.
+-- The reader of each solution is one that opening its index gives.
 abbrev pub IsCompared : {R : Type 0} → (R → Option (List ℕ)) → (R → List ℕ → Result ℕ Error → List ℕ → R → Type 0)
     → (ℕ → R → Type 0) → List (List ℕ) → Comparison (Watched R) → Comparison (Watched R) → Sink → Result Compared RunFault → Type 0
 IsCompared remaining gives opens names old new sink answer = TakesAtMost most_taken (turn_of remaining old.instance new.instance)

@@ -1,4 +1,5 @@
--- What reading a whole text returns.
+-- The result of reading a whole text: its file, or its first fault. For `read_bytes` and `read_from`
+-- (src/asked_reads.rt), and for the runs of tsp_judge.
 use Rattle.std.specs.Prelude.{◌≡◌, ℕ, ◌+◌, List, Some, Result, Ok, Err}
 use Rattle.tsp_format.specs.Limits.{most_file_bytes}
 use Rattle.tsp_stream.specs.Turn.{Turn, Gave, IsSound, GaveAll, HasBrokenOff, TakesAtMost}
@@ -19,7 +20,7 @@ Reads bytes (Err faults.OutOfMemory) = Unit {0}
 Reads bytes (Err faults.Device) = ⊥
 Reads bytes (Err faults.TooLong) = fault bytes ≡ Some faults.TooLong
 
--- The file of these items, which have no fault, or the fault of their end.
+-- The file of these items, or the fault at their end; the items themselves have no fault.
 abbrev pub Completes : List Item → Result Fields ReadFault → Type 0
 Completes items (Ok file) = Finishes items (Ok file)
 Completes items (Err (faults.Line line word found)) = ⊥
@@ -30,19 +31,20 @@ Completes items (Err faults.TooLong) = ⊥
 
 -- ---- a reader
 
--- at most 4,096 bytes are taken past the most that a file may have
+-- how many bytes are taken from a reader at most: 4,096 more than a file may have
 abbrev pub most_taken : ℕ
 most_taken = most_file_bytes + 4096
 
--- the bytes of the reader parse to the file, and so does its whole rest, where that is known
+-- the bytes that the reader delivered parse to the file, and so do all its bytes, where these are known
 abbrev pub IsFile : Turn → Fields → Type 0
 IsFile turn file = GaveAll turn (λ bytes. Spells bytes file)
 
+-- the bytes that the reader delivered have this first fault, and so do all its bytes, where these are known
 abbrev pub HasFault : ReadFault → Turn → Type 0
 HasFault found turn = GaveAll turn (λ bytes. fault bytes ≡ Some found)
 
--- The turn ended without a file: this is the first fault of what the reader gave, and of its whole rest; or memory was
--- refused, and the reader hasn't failed; or it has failed.
+-- Reading ended without a file: by the first fault of the bytes; or memory was refused, and the reader hasn't failed; or
+-- it has failed.
 abbrev pub StopsAt : ReadFault → Turn → Type 0
 StopsAt (faults.Line line word found) turn = HasFault (faults.Line line word found) turn
 StopsAt (faults.End found) turn = HasFault (faults.End found) turn
@@ -50,6 +52,7 @@ StopsAt faults.OutOfMemory turn = Gave turn × IsSound turn
 StopsAt faults.Device turn = HasBrokenOff turn
 StopsAt faults.TooLong turn = HasFault faults.TooLong turn
 
+-- The file of a reader, or why it has none; no more bytes than that are taken.
 abbrev pub ReadsFrom : (List ℕ → Turn) → Result Fields ReadFault → Type 0
 ReadsFrom turn (Ok file) = TakesAtMost most_taken turn (λ whole. IsFile whole file)
 ReadsFrom turn (Err found) = TakesAtMost most_taken turn (StopsAt found)

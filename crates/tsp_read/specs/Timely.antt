@@ -1,4 +1,5 @@
--- A reader whose bytes are read in pieces, and when its reading stops.
+-- That a reader is asked for no piece more than its text needs: reading stops at the piece that settles a fault or an
+-- end line. For `read_from` (src/asked_reads.rt) and `feed_all` (src/input.rt).
 use Rattle.std.specs.Prelude.{◌≡◌, ℕ, ◌-◌, Bool, true, false, List, length, take, None, Result, Ok, Err, ◌⊎◌}
 use Rattle.std.specs.Io.KnownBytes.{IsAtEnd}
 use Rattle.tsp_stream.specs.Turn.{Turn, Gave, IsSound, TakesAtMost}
@@ -14,25 +15,26 @@ use Rattle.tsp_read.specs.Reads.{most_taken, IsFile, StopsAt}
 use Rattle.tsp_read.specs.states.Onward.{is_bare}
 use Rattle.tsp_read.specs.Feed.{HasTaken}
 
--- all but the last piece that is taken at once
+-- the bytes without the last 4,096, which are one piece
 abbrev pub before_last : List ℕ → List ℕ
 before_last bytes = take (length bytes - 4096) bytes
 
--- nothing that ends the reading was settled before the last piece: neither a fault nor an end line
+-- before the last piece nothing was settled that ends the reading: neither a fault nor an end line
 pub record IsTimely (bytes : List ℕ) : Type 0 where
   pub no_fault : settled_fault (before_last bytes) ≡ None
   pub no_end : has_end_line (settled_part (before_last bytes)) ≡ false
 
--- out of memory is no answer for blanks and line ends alone
+-- blanks and line ends alone take no memory
 abbrev pub HasCause : ReadFault → List ℕ → Type 0
 HasCause found bytes = found ≡ faults.OutOfMemory → is_bare bytes ≡ false
 
+-- whether a feed at this stage takes more bytes
 abbrev pub may_go_on : Stage → Bool
 may_go_on Going = true
 may_go_on Ended = false
 may_go_on (Refused found) = false
 
--- a feed has all that the reader has, or has no need of more
+-- a feed has taken all bytes of the reader, or needs no more
 pub record IsFedFrom (turn : Turn) (feed : Feed) : Type 0 where
   pub gave : Gave turn
   pub sound : IsSound turn
@@ -41,12 +43,14 @@ pub record IsFedFrom (turn : Turn) (feed : Feed) : Type 0 where
   pub timely : IsTimely turn.given
   pub over : IsAtEnd turn.left ⊎ (may_go_on feed.stage ≡ false)
 
+-- The feed after all pieces of a reader, or why reading ended.
 abbrev pub FeedsAll : (List ℕ → Turn) → Feed → Result (Unit {0}) ReadFault → Type 0
 FeedsAll turn feed (Ok done) = TakesAtMost most_taken turn (λ whole. IsFedFrom whole feed)
 FeedsAll turn feed (Err found) =
     TakesAtMost most_taken turn (λ whole. StopsAt found whole × IsTimely whole.given × HasCause found whole.given)
 
--- The answer for a reader, of which no more was taken than was needed; memory is needed only for more than blanks and line ends.
+-- The file of a reader, or why it has none; no piece more than needed is taken, and memory only for more than blanks and
+-- line ends.
 abbrev pub ReadsInTime : (List ℕ → Turn) → Result Fields ReadFault → Type 0
 ReadsInTime turn (Ok file) = TakesAtMost most_taken turn (λ whole. IsFile whole file × IsTimely whole.given)
 ReadsInTime turn (Err found) =

@@ -3,7 +3,7 @@ use Rattle.std.proofs.Common.{sym, subst}
 use Rattle.tsp_text.specs.Text.{Spells}
 use Rattle.example_check.proofs.verdict_on.Goals as goal
 
--- plan: both texts are files by the reader, and the verdict is that on them
+-- plan: each text parses to a file, as the reader ensures, and the verdict is the one on these files
 pub returns : goal.returns
 returns c = record {
   instance = c.in-Ok.instance;

@@ -1,4 +1,5 @@
--- Number words at the beginning of some bytes. For src/front.rt.
+-- Where a number word at the beginning of some bytes ends. For `front_decimal`, `front_whole` and `front_few`
+-- (src/front.rt), by which tsp_read reads plain numbers fast.
 use Rattle.std.specs.Prelude.{ℕ, ◌≤◌, ◌+◌, ◌==◌, ◌||◌, ◌&&◌, cond, nat_le, nat_lt, min, List, [], ◌∷◌, length, take, drop, slice_index, Option, None, Some, ℤ}
 use Rattle.std.specs.Char.{is_ascii_digit}
 use Rattle.std.specs.List.{prefix_len}
@@ -12,12 +13,12 @@ pub record BeginsWithNumber (bytes : List ℕ) (count : ℕ) (k : ℤ) : Type 0 
 
 -- ---- how far such a number goes
 
--- how many bytes the sign at the front has: `-`, `+`, or none
+-- how many bytes the sign at the beginning has: one for `-` or `+`, else none
 abbrev pub sign_count : List ℕ → ℕ
 sign_count [] = 0
 sign_count (byte ∷ bytes) = cond ((byte == 45) || (byte == 43)) 1 0
 
--- how many digits the bytes begin with, of at most this many
+-- how many digits the bytes begin with; no more than `most` are counted
 abbrev pub digit_count : ℕ → List ℕ → ℕ
 digit_count most bytes = min most (prefix_len is_ascii_digit bytes)
 
@@ -25,28 +26,30 @@ digit_count most bytes = min most (prefix_len is_ascii_digit bytes)
 abbrev pub end_of_digits : ℕ → ℕ → Option ℕ
 end_of_digits sign digits = cond (digits == 0) None (Some (sign + digits))
 
--- where the whole number at the front ends, of at most 18 digits
+-- where the whole number at the beginning ends, which has at most 18 digits
 abbrev pub whole_end : List ℕ → Option ℕ
 whole_end bytes = end_of_digits (sign_count bytes) (digit_count 18 (drop (sign_count bytes) bytes))
 
--- where the few digits at the front end: one to seven of them, among eight bytes at least
+-- one to seven digits, among eight bytes at least
 abbrev pub end_of_few : ℕ → ℕ → Option ℕ
 end_of_few size digits = cond (nat_le 8 size && nat_lt 0 digits && nat_lt digits 8) (Some digits) None
 
+-- where such digits at the beginning end
 abbrev pub few_end : List ℕ → Option ℕ
 few_end bytes = end_of_few (length bytes) (prefix_len is_ascii_digit bytes)
 
--- after `point` bytes, of which `whole` are digits, a point follows, and then at most nine digits
+-- where a number with a point ends: `point` is the point's index, `whole` the number of digits before it; at most nine
+-- come after it
 abbrev pub end_of_places : List ℕ → ℕ → ℕ → Option ℕ
 end_of_places bytes point whole =
     let places = digit_count 9 (drop (point + 1) bytes) in
     cond ((whole == 0) && (places == 0)) None (Some (point + 1 + places))
 
--- the same, where a point may follow
+-- where a number ends that may have a point
 abbrev pub end_with_point : List ℕ → ℕ → ℕ → Option ℕ
 end_with_point bytes sign whole = cond (nat_lt (sign + whole) (length bytes) && (slice_index bytes (sign + whole) == 46))
     (end_of_places bytes (sign + whole) whole) (end_of_digits sign whole)
 
--- where the decimal at the front ends, of at most nine digits before its point and nine after it
+-- where the decimal at the beginning ends, which has at most nine digits before its point and nine after it
 abbrev pub decimal_end : List ℕ → Option ℕ
 decimal_end bytes = end_with_point bytes (sign_count bytes) (digit_count 9 (drop (sign_count bytes) bytes))

@@ -1,5 +1,5 @@
--- What the code keeps of a number word, and what it makes of it. Of `Written` (src/scan.rt): `size` is all digits of `whole` and
--- `fraction` as one number.
+-- The parts of a number word as code has them, which is `Written` (src/scan.rt), and the shifts of src/shift.rt. In it
+-- `size` is all digits of `whole` and `fraction` as one number.
 use Rattle.std.specs.Prelude.{◌≡◌, ◌≢◌, ℕ, ◌+◌, ◌*◌, ◌-◌, ◌^◌, ◌≤◌, min, List, ◌++◌, length, Option, Some, None, ℤ, pos, negsuc}
 use Rattle.std.specs.Str.Parse.{AllDigits}
 use Rattle.tsp_number.specs.declared.scan.Written.{Written}
@@ -36,12 +36,12 @@ abbrev pub IsShiftedSize : ℕ → ℤ → ℕ → Type 0
 IsShiftedSize m (pos up) k = k ≡ m * 10 ^ up
 IsShiftedSize m (negsuc down) k = k * 10 ^ (down + 1) ≡ m
 
--- the answer is m shifted by this many places, saturated, or `None` where no whole number is that
+-- Some: m shifted by this many places, saturated. None: that is no whole number.
 abbrev pub ShiftsTo : ℕ → ℤ → Option ℕ → Type 0
 ShiftsTo m places None = (k : ℕ) → ¬ IsShiftedSize m places k
 ShiftsTo m places (Some size) = (k : ℕ) × IsShiftedSize m places k × (size ≡ saturated k)
 
--- the answer is m without this many zeros at its end, saturated, or `None` where it has fewer
+-- Some: m without this many zeros at its end, saturated. None: it has fewer zeros.
 abbrev pub DropsZeros : ℕ → ℕ → Option ℕ → Type 0
 DropsZeros m count None = (k : ℕ) → k * 10 ^ count ≢ m
 DropsZeros m count (Some size) = (k : ℕ) × (k * 10 ^ count ≡ m) × (size ≡ saturated k)

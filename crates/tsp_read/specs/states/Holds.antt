@@ -1,5 +1,6 @@
--- What the state of the reader holds of the items so far (nearest first). Of `Reading` (src/state/reading.rt): `incomplete` is
--- the first closed section that is incomplete, `opened` the section that is open.
+-- The reader's state after some items of a text, the last one first: the fields of the items in its draft, and the words
+-- of the open section. For `Reading` (src/state/reading.rt), whose `incomplete` is the first closed section that is
+-- incomplete, and whose `opened` is the open section.
 use Rattle.std.specs.Prelude.{◌≡◌, Bool, false, not, ◌&&◌, List, [], ◌∷◌, Option, None, Some, is_some, Result, Ok, Err, nat_lt}
 use Rattle.std.specs.List.{find}
 use Rattle.tsp_format.specs.declared.field.Field.{Field}
@@ -22,35 +23,39 @@ use Rattle.tsp_text.specs.FirstFault.{IsClean}
 use Rattle.tsp_text.specs.Spells.{fields_by, is_incomplete, sections_in_order, first_incomplete}
 use Rattle.tsp_read.specs.states.OpenSection.{HoldsSection}
 
--- the section has come and no longer takes words
+-- the section has begun and is no longer open
 abbrev pub is_closed : List Item → Field → Bool
 is_closed earlier field = not (is_open field (open_section earlier)) && has_line field earlier
 
+-- the section is no longer open, and is incomplete
 abbrev pub is_closed_incomplete : List Item → Field → Bool
 is_closed_incomplete earlier field = not (is_open field (open_section earlier)) && is_incomplete earlier field
 
--- a keyword has come exactly where its field is present
+-- which keywords have a value among the fields
 abbrev pub fields_there : Fields → List Bool
 fields_there fields = is_some fields.name ∷ is_some fields.kind ∷ is_some fields.dimension ∷ is_some fields.capacity
     ∷ is_some fields.scale ∷ is_some fields.load_unit
     ∷ is_some fields.weight_kind ∷ is_some fields.weight_format ∷ is_some fields.coord_kind ∷ is_some fields.display_kind ∷ []
 
+-- which of these keywords the items have
 abbrev pub keywords_there : List Item → List Bool
 keywords_there earlier = has_line NameKey earlier ∷ has_line TypeKey earlier ∷ has_line DimensionKey earlier
     ∷ has_line CapacityKey earlier ∷ has_line ScaleKey earlier ∷ has_line LoadUnitKey earlier
     ∷ has_line EdgeWeightTypeKey earlier ∷ has_line EdgeWeightFormatKey earlier ∷ has_line NodeCoordTypeKey earlier
     ∷ has_line DisplayDataTypeKey earlier ∷ []
 
+-- the fields have a keyword's value exactly where the items have the keyword
 abbrev pub KeywordsStand : Fields → List Item → Type 0
 KeywordsStand fields earlier = fields_there fields ≡ keywords_there earlier
 
--- the open section's part has its words
+-- the open section is that of the items, and its part has its words
 abbrev pub OpenHolds : Option OpenSection → List Item → Type 0
 OpenHolds None earlier = open_section earlier ≡ None
 OpenHolds (Some section) earlier = (open_section earlier ≡ Some section.field)
     × HoldsSection (spatial_after earlier) section (dimension_in earlier) (words_of section.field earlier)
 
--- no item has a fault, and the state has the fields of the items but for the open section, and that section's words
+-- the items have no fault; the draft has their fields, without those of the open section; and that section's part has
+-- its words
 pub record Holds (reading : Reading) (earlier : List Item) : Type 0 where
   pub clean : IsClean earlier
   pub stand : KeywordsStand (fields_of reading.draft) earlier
@@ -58,7 +63,7 @@ pub record Holds (reading : Reading) (earlier : List Item) : Type 0 where
   pub incomplete : reading.incomplete ≡ find (is_closed_incomplete earlier) sections_in_order
   pub part : OpenHolds reading.opened earlier
 
--- the same where no section is open: all fields of the items
+-- the same where no section is open: the draft has all fields of the items
 pub record Closed (reading : Reading) (earlier : List Item) : Type 0 where
   pub clean : IsClean earlier
   pub stand : KeywordsStand (fields_of reading.draft) earlier
@@ -66,7 +71,7 @@ pub record Closed (reading : Reading) (earlier : List Item) : Type 0 where
   pub incomplete : reading.incomplete ≡ first_incomplete earlier
   pub part : reading.opened ≡ None
 
--- it was read from some items, whose lines and words are cut as those of a text
+-- the state was read from some items, which are cut as those of a text
 abbrev pub IsReadFrom : Reading → Type 0
 IsReadFrom reading = ∥ ((earlier : List Item) × Holds reading earlier × AreCut earlier) ∥₁
 
@@ -76,11 +81,12 @@ AnswersItem earlier item new (Ok done) = Holds new (item ∷ earlier)
 AnswersItem earlier item new (Err (steps.Memory refused)) = Unit {0}
 AnswersItem earlier item new (Err (steps.Fault fault)) = row_of earlier item ≡ Some fault
 
--- the same from a state where no section is open, for a line that isn't too long
+-- the answer for the line of a known keyword, from a state where no section is open; the line isn't too long
 abbrev pub LineAnswers : Reading → Field → WordLine → Reading → Result (Unit {0}) StepFault → Type 0
 LineAnswers old field line new result = (earlier : List Item) → Closed old earlier → nat_lt most_line_bytes line.size ≡ false
     → AnswersItem earlier (Line (Known field) line) new result
 
+-- the same for the line of an unknown keyword
 abbrev pub OtherAnswers : Reading → WordLine → Reading → Result (Unit {0}) StepFault → Type 0
 OtherAnswers old line new result = (earlier : List Item) → Closed old earlier → nat_lt most_line_bytes line.size ≡ false
     → AnswersItem earlier (Line Unknown line) new result

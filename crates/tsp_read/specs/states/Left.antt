@@ -1,5 +1,6 @@
--- A text that is taken item by item: the items of what is left of it, and where its next line or word ends. Of `Next`
--- (src/cut.rt). `inside` says whether an item of the line was taken before.
+-- The items of the part of a text that isn't taken yet, and where its next line or word ends. For `next_item`
+-- (src/cut.rt), `Token` (src/token.rt) and `take_items` (src/intake.rt). `inside` says whether an item of the line was
+-- taken before.
 use Rattle.std.specs.Prelude.{ℕ, Bool, true, false, not, ◌||◌, nat_lt, List, [], ◌∷◌, ◌++◌, length, map, take, drop}
 use Rattle.std.specs.List.{position_or_len}
 use Rattle.tsp_format.specs.Bytes.{is_blank}
@@ -8,39 +9,40 @@ use Rattle.tsp_read.specs.declared.cut.Next.TheVariants as next
 use Rattle.tsp_text.specs.Lines.{lines_of, words_in, ends_line, is_not_empty}
 use Rattle.tsp_text.specs.Items.{Item, NumberWord, LineEnd, line_item, items_in, items_by, settled_words, settled_in}
 
--- ---- what is left
+-- ---- the items of the rest of a text
 
--- the items of what is left of a line that another follows; once it has given a word it has words alone
+-- the items of the rest of a line that another line follows; after a word the line has words alone
 abbrev pub items_of_rest : Bool → List ℕ → List Item
 items_of_rest true line = map (λ word. NumberWord word) (words_in line)
 items_of_rest false line = items_in line
 
--- the same of the last line, by whether the text goes on after it
+-- the same of the last line, which may go on
 abbrev pub last_items : Bool → Bool → List ℕ → List Item
 last_items false inside line = items_of_rest inside line
 last_items true true line = map (λ word. NumberWord word) (settled_words line)
 last_items true false line = settled_in line
 
--- the items of lines, of which the first is what is left of one
+-- the items of lines, the first of which is the rest of a line
 abbrev pub items_left_by : Bool → Bool → List (List ℕ) → List Item
 items_left_by goes_on inside [] = []
 items_left_by goes_on inside (line ∷ []) = last_items goes_on inside line
 items_left_by goes_on inside (line ∷ next ∷ lines) = items_of_rest inside line ++ LineEnd
     ∷ items_by (λ last. last_items goes_on false last) (next ∷ lines)
 
--- The items of what is left of a text: all of them, or the settled ones of a text that goes on. Inside of a line that has
--- given an item, what follows are words.
+-- The items of the rest of a text: all of them, or the settled ones where the text goes on. After an item of a line the
+-- rest of it has words alone.
 abbrev pub items_left : Bool → Bool → List ℕ → List Item
 items_left goes_on inside bytes = items_left_by goes_on inside (lines_of bytes)
 
 -- ---- the next item
 
+-- the item that was cut
 abbrev pub item_next : Next → Item
 item_next (next.Line text) = line_item text.now
 item_next (next.Word word) = NumberWord word.now
 item_next next.LineEnd = LineEnd
 
--- whether what follows is of the same line
+-- whether the next item is in the same line
 abbrev pub is_in_line : Next → Bool
 is_in_line (next.Line text) = true
 is_in_line (next.Word word) = true
@@ -48,17 +50,19 @@ is_in_line next.LineEnd = false
 
 -- ---- where a line and a word end
 
--- a blank or a line's end
+-- the byte is a blank or a line's end
 abbrev pub ends_word : ℕ → Bool
 ends_word b = is_blank b || ends_line b
 
+-- the bytes before the first one that passes the test
 abbrev pub up_to_first : (ℕ → Bool) → List ℕ → List ℕ
 up_to_first test text = take (position_or_len test text) text
 
+-- the bytes from that one on
 abbrev pub from : (ℕ → Bool) → List ℕ → List ℕ
 from test text = drop (position_or_len test text) text
 
--- A piece at the beginning of a text is whole, or longer than any of its sort may be. One that nothing follows is whole only
--- where the text ends.
+-- A line or word at the beginning is settled: something follows it, the text ends, or it is longer than any of its sort
+-- may be.
 abbrev pub is_settled : ℕ → Bool → List ℕ → List ℕ → Bool
 is_settled most goes_on piece rest = is_not_empty rest || not goes_on || nat_lt most (length piece)

@@ -1,5 +1,5 @@
--- A run of words: the open section's part and the counts change, and nothing else does. Of `Count` (src/count.rt) and `Part` of
--- tsp_section, for src/run.rt.
+-- A run of plain numbers in the open section, which is read in one pass: only the section's part and the counts change.
+-- For `take_run` (src/run.rt), with `Count` (src/count.rt) and `Part` of tsp_section.
 use Rattle.std.specs.Prelude.{ℕ, ◌+◌, ◌≤◌, ◌<◌, List, length, Option, None, Some}
 use Rattle.tsp_format.specs.declared.field.Field.{Field}
 use Rattle.tsp_draft.specs.declared.draft.Draft.{Draft}
@@ -9,31 +9,30 @@ use Rattle.tsp_read.specs.declared.intake.Intake.{Intake}
 use Rattle.tsp_read.specs.declared.state.reading.Reading.{Reading}
 use Rattle.tsp_read.specs.states.Intake.{IsReadTo}
 
--- a text that is read while it comes, with these counts
+-- the intake with this state and these counts
 abbrev pub counted : Reading → Count → Intake
 counted reading count = record { reading = reading; line = count.line; words = count.words; inside = count.inside }
 
--- the same with these fields so far, this part of the open section
+-- the same where the state has these fields and this part of the open section
 abbrev pub in_run : Draft → Option Field → Field → Part → Count → Intake
 in_run draft incomplete field part count =
     counted (record { draft = draft; incomplete = incomplete; opened = Some (record { field = field; part = part }) }) count
 
--- Whatever the fields and the bytes so far are: where these were read with the old part and counts, and `text` is left, they
--- are read on with the new ones, and `rest` is left.
+-- Whatever the fields and the bytes so far are: where they were read with the old part and counts, and `text` is left,
+-- the new part and counts have read them on, and `rest` is left.
 abbrev pub TakesRun : Part → Count → List ℕ → Part → Count → List ℕ → Type 0
 TakesRun old before text new after rest = (draft : Draft) (incomplete : Option Field) (field : Field) (bytes : List ℕ)
     → IsReadTo (in_run draft incomplete field old before) bytes text
     → IsReadTo (in_run draft incomplete field new after) bytes rest
 
--- a run from a text to what is left of it, in which no more lines and words are counted than bytes are read
+-- a run from `text` to `rest`, in which no more lines and words are counted than bytes are read
 pub record RunsTo (old : Part) (before : Count) (text : List ℕ) (new : Part) (after : Count) (rest : List ℕ) : Type 0 where
   pub read : TakesRun old before text new after rest
   pub line : after.line + length rest ≤ before.line + length text
   pub words : after.words + length rest ≤ before.words + length text
   pub shorter : length rest ≤ length text
 
--- One step of a run, which gives what is left of the text; or nothing where none is taken, and all is left. What is left after a
--- step is shorter.
+-- One step of a run. Some: what is left after it, which is shorter. None: nothing was taken.
 abbrev pub StepsTo : Part → Count → List ℕ → Part → Count → Option (List ℕ) → Type 0
 StepsTo old before text new after None = RunsTo old before text new after text
 StepsTo old before text new after (Some rest) = RunsTo old before text new after rest × (length rest < length text)

@@ -1,4 +1,4 @@
--- The fields of a draft with that of one section. For src/state/store.rt.
+-- The fields of a draft after a section is closed: its words become its value. For `store` (src/state/store.rt).
 use Rattle.std.specs.Prelude.{ℕ, Bool, List, Some}
 use Rattle.std.specs.Option.{option_map_or}
 use Rattle.tsp_format.specs.declared.field.Field.{Field}
@@ -13,7 +13,7 @@ use Rattle.tsp_text.specs.CombSection.{whole_combs}
 use Rattle.tsp_text.specs.BranchSection.{whole_steps}
 use Rattle.tsp_text.specs.WeightSection.{weights_in}
 
--- the value of these words of a section of this shape, with n nodes
+-- the fields with the value of these words, for a section of this shape; n is the number of nodes
 abbrev pub with_words : Shape → Field → ℕ → List (List ℕ) → Fields → Fields
 with_words (Numbers low high) field n words fields = with_numbers field (numbers_by_node low high n words) fields
 with_words Points field n words fields = with_points field (points_by_node n words) fields
@@ -26,7 +26,7 @@ with_words Triples field n words fields = record fields { fixed_potentials = Som
 with_words Combs field n words fields = record fields { combs = Some (whole_combs n words) }
 with_words Steps field n words fields = record fields { branches = Some (whole_steps n words) }
 
--- the same of a section of a spatial file, or of another
+-- the same for a section, in a spatial file or another
 abbrev pub with_section : Bool → Field → ℕ → List (List ℕ) → Fields → Fields
 with_section in_space field n words fields =
     option_map_or (λ shape. with_words shape field n words fields) (shape_of in_space field) fields

@@ -1,4 +1,5 @@
--- What the reader holds once an item, or all items of a text, are taken. Of `Reading` (src/state/reading.rt), for src/item.rt.
+-- The reader's state after one item more, or after all items of a text. For `take` and `take_line` (src/item.rt), and
+-- for Paused.antt.
 use Rattle.std.specs.Prelude.{◌≡◌, Bool, List, ◌∷◌, reverse, Some, Result, Ok, Err}
 use Rattle.tsp_section.specs.declared.fault.StepFault.{StepFault}
 use Rattle.tsp_section.specs.declared.fault.StepFault.TheVariants as steps
@@ -10,13 +11,13 @@ use Rattle.tsp_text.specs.FaultRows.{row_of}
 use Rattle.tsp_text.specs.FirstFault.{fault_in}
 use Rattle.tsp_read.specs.states.Holds.{Holds}
 
--- an item is taken, and whether it is an end line; or it has this row
+-- the state has the item too, and whether it is an end line; or the item has this fault
 abbrev pub TakesItem : List Item → Item → Reading → Result Bool StepFault → Type 0
 TakesItem earlier item new (Ok ended) = Holds new (item ∷ earlier) × (ended ≡ is_end_line item)
 TakesItem earlier item new (Err (steps.Memory refused)) = Unit {0}
 TakesItem earlier item new (Err (steps.Fault fault)) = row_of earlier item ≡ Some fault
 
--- the items that count are read, and whether an end line is among them; or they have this first fault
+-- the state has all items that count, and whether an end line is among them; or they have this first fault
 abbrev pub ReadsItems : List Item → Result (Reading × Bool) ReadFault → Type 0
 ReadsItems items (Ok read) = Holds read.0 (reverse (to_end_line items)) × (read.1 ≡ has_end_line (reverse (to_end_line items)))
 ReadsItems items (Err (faults.Line line word fault)) = fault_in (reverse (to_end_line items)) ≡ Some (faults.Line line word fault)

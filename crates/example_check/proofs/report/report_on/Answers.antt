@@ -4,7 +4,8 @@ use Rattle.std.specs.Prelude.{Some}
 use Rattle.example_check.proofs.OnTexts.{accepted_on}
 use Rattle.example_check.proofs.report.report_on.Goals as goal
 
--- plan: both readers are over the texts and the writer held nothing, so what `yes` means is of the texts (`accepted_on`)
+-- plan: the readers are over both texts, and the writer was empty. So the meaning of the line `yes` is one of the texts
+-- (`accepted_on`)
 pub returns : goal.returns
 returns c = λ yes.
     let check = c.run_check.ensures.answer.2.2 in

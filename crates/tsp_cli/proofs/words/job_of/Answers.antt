@@ -9,7 +9,8 @@ use Rattle.tsp_cli.proofs.Refusals.{refused}
 use Rattle.tsp_cli.proofs.Subcommands.{both, named, verb_found}
 use Rattle.tsp_cli.proofs.words.job_of.Goals as goal
 
--- plan: by the answer of clap: a parse that names a verb (`named`) gives its job (`verb_found`), and a refusal is returned
+-- plan: by the answer of clap: a parse enters the subcommand of a verb (`named`), whose job is returned (`verb_found`);
+-- or a refusal is returned
 pub returns-in-Ok-job_with : goal.returns-in-Ok-job_with
 returns-in-Ok-job_with c =
     let words : List Text = map (λ word. word.now) c.args.words.now in

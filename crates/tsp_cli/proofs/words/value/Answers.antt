@@ -4,7 +4,7 @@ use Rattle.clap.specs.Words.{found_of}
 use Rattle.clap.proofs.WalkLemmas.{first_value-rows}
 use Rattle.tsp_cli.proofs.words.value.Goals as goal
 
--- plan: the library's table of what was found (`first_value-rows`) gives the option's word, or none where it wasn't given
+-- plan: clap has one row for each option: the option's first word (`first_value-rows`), or no row if it wasn't given
 pub returns-in-None : goal.returns-in-None
 returns-in-None c =
     let rows = first_value-rows (found_of c.args.found.now) c.args.id.now in

@@ -4,7 +4,7 @@ use Rattle.clap.specs.Words.{found_of}
 use Rattle.clap.proofs.WalkLemmas.{raw_values-rows}
 use Rattle.tsp_cli.proofs.words.values.Goals as goal
 
--- plan: the library's table of what was found (`raw_values-rows`) gives the paths, or none where none were given
+-- plan: clap has one row for the paths: the words of these (`raw_values-rows`), or no row if none was given
 pub returns-in-Some : goal.returns-in-Some
 returns-in-Some c =
     let rows = raw_values-rows (found_of c.args.found.now) c.args.id.now in

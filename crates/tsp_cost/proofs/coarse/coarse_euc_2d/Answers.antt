@@ -2,7 +2,8 @@
 use Rattle.tsp_cost.proofs.CoarseRoots.{coarse_is}
 use Rattle.tsp_cost.proofs.coarse.coarse_euc_2d.Goals as goal
 
--- plan: by the lemma `coarse_is`
+-- plan: both differences are whole numbers of steps, so the sum of their squares has the root that is EUC_2D
+-- (`coarse_is`)
 pub returns : goal.returns
 returns c =
     let wide = rw c.in-Some-Some.is-0 at c.steps_between.ensures in

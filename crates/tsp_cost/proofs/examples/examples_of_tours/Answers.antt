@@ -30,7 +30,7 @@ not_neighbours : AreNeighbours (four 1 2 3 4) (1, 3) → ⊥
 not_neighbours (inl found) = no_way found.0 found.1 found.2
 not_neighbours (inr found) = no_way_back found.0 found.1 found.2
 
--- plan: no link of the list is the pair (`no_arc`, `no_way`), so the cycle doesn't use it
+-- plan: each link of the list is compared with the pair: none is it (`no_arc`, `no_way`), so the cycle doesn't use it
 pub returns-clause-arc_in_reverse : goal.returns-clause-arc_in_reverse
 returns-clause-arc_in_reverse c = λ tour. (
     let found : Follows (three 1 2 3) (2, 1) = tour.fixed_used 0 (0, 0) (omega arith) in

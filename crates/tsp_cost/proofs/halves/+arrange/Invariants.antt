@@ -1,4 +1,4 @@
--- The recursion of `+arrange` in src/halves.rt.
+-- The measure by which `arrange` in src/halves.rt, which calls itself, ends.
 use Rattle.std.proofs.Common.{◌-◌, ◌*◌, length}
 use Rattle.tsp_cost.proofs.halves.+arrange.Given as goal
 

@@ -4,7 +4,8 @@ use Rattle.std.proofs.lemmas.Int.{to_z-of_z}
 use Rattle.tsp_distance.proofs.AtLeast.{att_cover}
 use Rattle.tsp_distance.proofs.compared.is_att_at_least.Goals as goal
 
--- plan: by the lemma `att_cover`
+-- plan: the distance is the least number whose square, at the scale of ATT, covers that of the straight distance
+-- (`att_cover`), so squares are compared
 pub returns : goal.returns
 returns c =
     let same = to_z-of_z w64 c.args.least c.ranges.least in

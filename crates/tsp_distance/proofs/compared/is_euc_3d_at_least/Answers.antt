@@ -9,7 +9,7 @@ use Rattle.tsp_distance.proofs.Roots.{way_is}
 use Rattle.tsp_distance.proofs.AtLeast.{euc_3d_cover, space_is}
 use Rattle.tsp_distance.proofs.compared.is_euc_3d_at_least.Goals as goal
 
--- plan: the three squares sum to that of the straight way (`space_is`), and `euc_3d_cover` names its root
+-- plan: the three squares sum to that of the straight distance (`space_is`), and `euc_3d_cover` names its root
 pub returns : goal.returns
 returns c =
     let dx = way_is c.way.result c.args.a.x c.args.b.x c.way.ensures.value c.way.ensures.most in

@@ -7,7 +7,7 @@ use Rattle.tsp_distance.specs.states.Rounding.{IsLeastCover}
 use Rattle.tsp_distance.proofs.Roots.{apart_is, way_is}
 use Rattle.tsp_distance.proofs.compared.is_straight_at_least.Goals as goal
 
--- plan: both squares sum to that of the straight way (`apart_is`), of which the given root is the least cover
+-- plan: both squares sum to that of the straight distance (`apart_is`), of which the given root is the least cover
 pub returns : goal.returns
 returns c = λ root is.
     let dx = way_is c.way.result c.args.a.x c.args.b.x c.way.ensures.value c.way.ensures.most in

@@ -4,7 +4,8 @@ use Rattle.std.proofs.lemmas.Int.{ints}
 use Rattle.tsp_distance.proofs.DistanceLaws.{man_2d-is, signed_is}
 use Rattle.tsp_distance.proofs.distance.man_2d.Goals as goal
 
--- plan: by the lemmas `man_2d-is` and `signed_is`
+-- plan: the sum of both differences, rounded to the nearest whole number, is the distance; there is one such number
+-- (`man_2d-is`)
 pub returns-clause-distance : goal.returns-clause-distance
 returns-clause-distance c =
     let low : pos 0 ≤ℤ to_z w64 (of_z w64 c.nearest_whole.result) = search (arith, ints) in

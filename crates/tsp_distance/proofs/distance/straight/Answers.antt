@@ -6,7 +6,7 @@ use Rattle.tsp_distance.specs.states.Rounding.{IsLeastCover}
 use Rattle.tsp_distance.proofs.Roots.{apart_is, way_is, apart-most}
 use Rattle.tsp_distance.proofs.distance.straight.Goals as goal
 
--- plan: the ways along both axes give the square of the straight way (`apart_is`), whose root the call has found
+-- plan: the squares of both differences sum to that of the straight distance (`apart_is`), whose root the call finds
 pub returns-clause-value : goal.returns-clause-value
 returns-clause-value c =
     let dx = way_is c.way.result c.args.a.x c.args.b.x c.way.ensures.value c.way.ensures.most in

@@ -3,7 +3,8 @@ use Rattle.tsp_distance.proofs.DistanceLaws.{euc_2d_laws, ceil_2d_laws, man_2d_l
 use Rattle.tsp_distance.proofs.SpaceLaws.{euc_3d_laws, man_3d_laws, max_3d_laws}
 use Rattle.tsp_distance.proofs.laws.distance_laws.Goals as goal
 
--- plan: one lemma for each distance
+-- plan: for each distance: it is the least number that passes a test of squares or sums, so there is one; it is
+-- symmetric as the differences are
 pub returns-clause-euc_2d : goal.returns-clause-euc_2d
 returns-clause-euc_2d c = euc_2d_laws
 

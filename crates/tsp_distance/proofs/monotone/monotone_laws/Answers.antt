@@ -2,7 +2,7 @@
 use Rattle.tsp_distance.proofs.MonotoneLaws.{euc_2d-grows, ceil_2d-grows, man_2d-grows, max_2d-grows, att-grows, euc_3d-grows, man_3d-grows, max_3d-grows}
 use Rattle.tsp_distance.proofs.monotone.monotone_laws.Goals as goal
 
--- plan: one lemma for each distance
+-- plan: for each distance: larger differences have a larger square, sum or maximum, and each rounding grows with it
 pub returns-clause-euc_2d : goal.returns-clause-euc_2d
 returns-clause-euc_2d c = euc_2d-grows
 

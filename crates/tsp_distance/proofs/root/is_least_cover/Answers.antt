@@ -17,7 +17,8 @@ returns-then-square-high c =
     c.from-then-square-high.ensures ∙ ap (λ n. (2 * n + (2 ^ 64 - 1)) % 2 ^ 64) count ∙ one_less (2 * c.args.whole) 1 (omega arith) (omega arith) (omega arith) in
     rw c.in-Up.is (up_cover _ _ _ _ (rw count at c.from-edge-in-Up.ensures) c.if-square-high.true steps)
 
--- plan: by the rounding: the number before doesn't cover the square (`up_cover`, `tenth_cover`); `one_less` for 64 bits
+-- plan: by the rounding: the number covers the square, and the number before it doesn't (`up_cover`, `tenth_cover`),
+-- computed in 64 bits (`one_less`)
 pub returns-then-square-high-2 : goal.returns-then-square-high-2
 returns-then-square-high-2 c =
     let count = c.from-count.ensures in

@@ -7,7 +7,8 @@ use Rattle.tsp_distance.proofs.DistanceLaws.{signed_is}
 use Rattle.tsp_distance.proofs.SpaceLaws.{euc_3d-is}
 use Rattle.tsp_distance.proofs.space.euc_3d.Goals as goal
 
--- plan: the ways along three axes give the root's square (`is_euc_3d`), and there is one such number (`euc_3d-is`)
+-- plan: the squares of the three differences have the root that is found (`is_euc_3d`), and there is one such number
+-- (`euc_3d-is`)
 pub returns-clause-value : goal.returns-clause-value
 returns-clause-value c =
     let same : unsigned_abs (to_z w64 (of_z w64 c.from.result)) ≡ c.nearest_root_in_space.result = search (arith, ints) in

@@ -5,7 +5,8 @@ use Rattle.tsp_distance.proofs.DistanceLaws.{signed_is}
 use Rattle.tsp_distance.proofs.SpaceLaws.{man_3d-is}
 use Rattle.tsp_distance.proofs.space.man_3d.Goals as goal
 
--- plan: the rounded sum is the distance by the clauses of the call, and there is one such number (`man_3d-is`)
+-- plan: the sum of the three differences, rounded to the nearest whole number, is the distance; there is one such
+-- number (`man_3d-is`)
 pub returns-clause-distance : goal.returns-clause-distance
 returns-clause-distance c =
     let low : pos 0 ≤ℤ to_z w64 (of_z w64 c.nearest_whole.result) = search (arith, ints) in

@@ -1,8 +1,8 @@
--- The goals of `examples_of_validity` in src/examples.rt on long lists: they hold by computing.
+-- The goals of `examples_of_validity` in src/examples.rt whose lists are long: they are computed.
 use Rattle.std.proofs.Common.{refl}
 use Rattle.tsp_draft.proofs.examples.examples_of_validity.Goals as goal
 
--- plan: each example on a long list is computed
+-- plan: each list is as long as its limit, or by one longer, and the test of it is computed
 pub returns-clause-longest_name : goal.returns-clause-longest_name
 returns-clause-longest_name c = refl
 

@@ -2,6 +2,6 @@
 use Rattle.tsp_draft.proofs.ValidFields.{in_range}
 use Rattle.tsp_draft.proofs.laws.valid_fields_are_in_range.Goals as goal
 
--- plan: by the lemma `in_range`
+-- plan: a draft without a fault passes the test of each field, and each test is one of a range (`in_range`)
 pub returns : goal.returns
 returns c = in_range

@@ -5,7 +5,7 @@ use Rattle.tsp_draft.specs.Validity.{first_failing}
 use Rattle.tsp_draft.specs.Rules.{standing_of, is_there}
 use Rattle.tsp_draft.proofs.rules.first_missing.Given as goal
 
--- the answer is that of what is left
+-- the first missing field among those left is the first of all
 abbrev pub invariant-loop-field : goal.invariant-loop-field
 invariant-loop-field l =
     first_failing (is_there (standing_of (fields_of l.draft))) (drop l.field-index l.fields) ≡ first_failing (is_there (standing_of (fields_of l.draft))) l.fields

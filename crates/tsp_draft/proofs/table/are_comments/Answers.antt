@@ -8,7 +8,7 @@ use Rattle.tsp_draft.specs.Validity.{is_kept}
 use Rattle.tsp_draft.proofs.Mapped.{mapped_all}
 use Rattle.tsp_draft.proofs.table.are_comments.Goals as goal
 
--- plan: the tests of the values are tests of the lists that they hold (`mapped_all`)
+-- plan: a value fits if its bytes do, so the test of the values is that of the list of their bytes (`mapped_all`)
 pub returns-then-len-le-MOST_COMMENTS : goal.returns-then-len-le-MOST_COMMENTS
 returns-then-len-le-MOST_COMMENTS c =
     let kept = rw c.deref.ensures.value at c.are_kept.ensures in

@@ -4,7 +4,7 @@ use Rattle.tsp_draft.specs.states.Drafts.{fields_of}
 use Rattle.tsp_draft.specs.Validity.{fits, first_failing}
 use Rattle.tsp_draft.proofs.table.first_bad.Given as goal
 
--- the answer is that of what is left
+-- the first invalid field among those left is the first of all
 abbrev pub invariant-loop-field : goal.invariant-loop-field
 invariant-loop-field l =
     first_failing (fits (fields_of l.draft)) (drop l.field-index l.fields) ≡ first_failing (fits (fields_of l.draft)) l.fields

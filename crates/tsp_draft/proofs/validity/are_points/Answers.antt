@@ -9,7 +9,7 @@ use Rattle.tsp_draft.specs.states.Drafts.{points_of}
 use Rattle.tsp_draft.specs.Validity.{is_point}
 use Rattle.tsp_draft.proofs.validity.are_points.Goals as goal
 
--- plan: the points of the plane are those of the lists, each within the limits
+-- plan: a point of the plane is within the limits if it is as a point whose third coordinate is 0
 pub returns-in-Plane : goal.returns-in-Plane
 returns-in-Plane c =
     let place : PlanePoint → Point = λ point. on_plane point.x point.y in

@@ -17,7 +17,7 @@ returns-then-are_few c = elim c.if-is_each_step.branch [
   | else-is_each_step w ↦ absurd cc
 ]
 
--- plan: by whether there are few steps: then each step and the whole tree are judged (`judged_steps`)
+-- plan: by whether each step is valid and the steps are few; then the whole tree is judged (`judged_steps`)
 pub returns-else-are_few : goal.returns-else-are_few
 returns-else-are_few c = elim c.if-is_each_step.branch [
   | then-is_each_step w ↦

@@ -4,7 +4,7 @@ use Rattle.tsp_format.specs.Steps.{branch_count}
 use Rattle.tsp_format.specs.states.TreeSteps.{steps_of}
 use Rattle.tsp_draft.proofs.validity.have_few_branches.Given as goal
 
--- `total` and the branches left are all branches
+-- `total` plus the number of branches left is the number of all branches
 abbrev pub invariant-steps : goal.invariant-steps
 invariant-steps l =
     (l.total + branch_count (steps_of (drop l.step-index l.steps)) ≡ branch_count (steps_of l.steps)) × (l.total ≤ l.step-index)

@@ -4,7 +4,7 @@ use Rattle.tsp_draft.proofs.Trees.{after_branch, after_leaf}
 use Rattle.tsp_draft.proofs.validity.is_whole_tree.Goals as goal
 use Rattle.tsp_draft.proofs.validity.is_whole_tree.Goals.{in-Branch, in-Leaf}
 
--- plan: after a branch one tree more is to come (`after_branch`), after a leaf one less (`after_leaf`)
+-- plan: by the step: a branch makes one tree more still to come (`after_branch`), and a leaf one less (`after_leaf`)
 pub steps-preserved : goal.steps-preserved
 steps-preserved c =
     let steps = c.args.steps.now in

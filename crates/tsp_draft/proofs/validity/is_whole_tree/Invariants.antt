@@ -4,7 +4,7 @@ use Rattle.tsp_format.specs.Steps.{are_whole}
 use Rattle.tsp_format.specs.states.TreeSteps.{steps_of}
 use Rattle.tsp_draft.proofs.validity.is_whole_tree.Given as goal
 
--- the steps are one whole tree just where those left are `left` whole trees
+-- the steps are one whole tree exactly if those left are `left` whole trees
 abbrev pub invariant-steps : goal.invariant-steps
 invariant-steps l =
     (are_whole l.left (steps_of (drop l.step-index l.steps)) ≡ are_whole 1 (steps_of l.steps)) × (l.left ≤ l.step-index + 1)

@@ -4,7 +4,7 @@ use Rattle.std.specs.List.{concat}
 use Rattle.tsp_explain.specs.Indented.{indented_byte}
 use Rattle.tsp_explain.proofs.text.push_indented.Given as goal
 
--- the appended bytes so far, and those that the other bytes append
+-- the text so far, with the bytes that the other bytes append, is the text at the call with all bytes appended
 abbrev pub invariant-bytes : goal.invariant-bytes
 invariant-bytes l = l.text.items ++ concat (map indented_byte (drop l.byte-index l.bytes))
     ≡ l.initial.text.items ++ concat (map indented_byte l.bytes)

@@ -3,6 +3,6 @@ use Rattle.std.proofs.Common.{◌≡◌, ◌++◌, drop}
 use Rattle.tsp_explain.specs.ShownBytes.{name_shown}
 use Rattle.tsp_explain.proofs.text.push_named.Given as goal
 
--- the text so far, and the other bytes as they are in a name
+-- the text so far, with the other bytes as a name shows them, is the text at the call with all bytes so
 abbrev pub invariant-bytes : goal.invariant-bytes
 invariant-bytes l = l.text.items ++ name_shown (drop l.byte-index l.bytes) ≡ l.initial.text.items ++ name_shown l.bytes

@@ -11,7 +11,8 @@ returns-then-between-eq1 c =
     subst (λ (n : ℕ). IsLeastLength n (as_whole (cost_by_rows n c.args.between.now.costs.now)) (pos c.from.result)) (sym c.if-between-eq1.true)
     (alone (cost_by_rows 1 c.args.between.now.costs.now) c.from.result c.from.ensures)
 
--- plan: one part alone has no cycle of parts (`alone`); else the best cycle is a step and a best path (`least_of_paths`)
+-- plan: by the number of parts: one alone has no cycle (`alone`); else the best cycle is a step from part 1 and a best
+-- path through all others (`least_of_paths`)
 pub returns : goal.returns
 returns c =
     let n : ℕ = c.args.between.now.nodes in

@@ -6,7 +6,7 @@ use Rattle.std.proofs.lemmas.Nat.{ones-le, xor_lt}
 use Rattle.tsp_families.proofs.Tables.{HoldsByRows, by_rows_push}
 use Rattle.tsp_families.proofs.differences.crossings_between.Goals as goal
 
--- plan: one cell more, at its row and column (`by_rows_push`)
+-- plan: one cell more has its row, its column and the count of bits that differ (`by_rows_push`)
 pub columns-preserved : goal.columns-preserved
 columns-preserved c =
     let m : ℕ = length c.args.firsts.now in

@@ -2,6 +2,6 @@
 use Rattle.tsp_families.proofs.NodeMembers.{memberships_tell_sets}
 use Rattle.tsp_families.proofs.laws.memberships_tell_sets.Goals as goal
 
--- plan: by the lemma `memberships_tell_sets`
+-- plan: by induction over the sets: equal numbers have equal lowest bits, which say whether the first set has the node
 pub returns : goal.returns
 returns c = memberships_tell_sets

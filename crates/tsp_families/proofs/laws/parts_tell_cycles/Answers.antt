@@ -2,6 +2,6 @@
 use Rattle.tsp_families.proofs.Widened.{parts_tell_cycles}
 use Rattle.tsp_families.proofs.laws.parts_tell_cycles.Goals as goal
 
--- plan: by the lemma `parts_tell_cycles`
+-- plan: each node is put into the best order of the parts behind the first one of its part, which crosses no set more
 pub returns : goal.returns
 returns c = parts_tell_cycles

@@ -2,6 +2,6 @@
 use Rattle.tsp_families.proofs.PartWalks.{unlike_nodes_need_parts}
 use Rattle.tsp_families.proofs.laws.unlike_nodes_need_parts.Goals as goal
 
--- plan: by the lemma `unlike_nodes_need_parts`
+-- plan: nodes of which no two are in the same sets are in different parts, so there are at least as many parts
 pub returns : goal.returns
 returns c = unlike_nodes_need_parts

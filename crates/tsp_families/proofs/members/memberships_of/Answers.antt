@@ -8,7 +8,7 @@ use Rattle.tsp_families.specs.FamilySets.{lists_of}
 use Rattle.tsp_families.proofs.NodeMembers.{IsSoFar, set_at, sets_long, so_far_more}
 use Rattle.tsp_families.proofs.members.memberships_of.Goals as goal
 
--- a list that was written over whole
+-- a slice of all elements that was written over
 written : (len : ℕ) (xs rest : List ℕ) → length xs ≡ len → take len (xs ++ rest) ≡ xs
 written len xs rest long = take-append-le len xs rest (omega (arith, long)) ∙ take_all len xs (omega (arith, long))
 

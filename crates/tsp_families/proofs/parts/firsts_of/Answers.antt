@@ -33,7 +33,7 @@ more_nodes memberships firsts node each here x low high = elim (cases_eq node x)
   | inr other ↦ each x low (omega (arith, high, other))
 ]
 
--- the nodes so far that are kept
+-- the first nodes of the parts so far
 record IsKept (memberships firsts : List ℕ) (node : ℕ) : Type 0 where
   pub places : All (IsNodePlace memberships) firsts
   pub differ : AreDifferent memberships firsts

@@ -12,7 +12,8 @@ returns-in-Some-clause-parts c =
     parts_from c.args.family.now.nodes (sets_of (lists_of c.args.family.now.sets.now)) c.in_ok-memberships.memberships.items c.in-Some.firsts.items c.in_ok-memberships.ensures
     (subst (λ (memberships : List ℕ). AreFirsts memberships c.in-Some.firsts.items) c.deref.ensures.value (rw c.in-Some.is at c.in_ok-found.ensures.firsts))
 
--- plan: by what was found: the parts (`parts_from`), or more nodes that differ than there may be (`unlike_from`)
+-- plan: by how the search ends: the first nodes of all parts (`parts_from`), or more nodes in different sets than there
+-- may be parts (`unlike_from`)
 pub returns-in-None-clause-parts : goal.returns-in-None-clause-parts
 returns-in-None-clause-parts c =
     unlike_from c.args.family.now.nodes 15 (sets_of (lists_of c.args.family.now.sets.now)) c.in_ok-memberships.memberships.items c.in_ok-memberships.ensures

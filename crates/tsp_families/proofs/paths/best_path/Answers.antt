@@ -10,7 +10,8 @@ pub returns-then-set-bit-eq0 : goal.returns-then-set-bit-eq0
 returns-then-set-bit-eq0 c = no_best c.args.between.now.nodes c.args.set c.args.other (cost_by_rows c.args.between.now.nodes c.args.between.now.costs.now)
     (ap (λ (z : ℕ). c.args.set / z % 2) (sym c.power-bit.ensures) ∙ c.if-set-bit-eq0.true)
 
--- plan: by the set: empty, or a least step and a best path through the rest (`best_from`)
+-- plan: by whether the set has other parts: none is left, or a least step and a best path through the others
+-- (`best_from`)
 pub returns : goal.returns
 returns c =
     let n : ℕ = c.args.between.now.nodes in

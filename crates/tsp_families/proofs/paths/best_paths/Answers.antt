@@ -6,7 +6,7 @@ use Rattle.tsp_families.specs.Paths.{cost_by_rows, no_path, IsBestPath, AreBestP
 use Rattle.tsp_families.proofs.Tables.{by_rows_push}
 use Rattle.tsp_families.proofs.paths.best_paths.Goals as goal
 
--- plan: one cell more, for its set and its last part (`by_rows_push`)
+-- plan: one cell more has the best path through its set from its part (`by_rows_push`)
 pub nodes-preserved : goal.nodes-preserved
 nodes-preserved c =
     let n : ℕ = c.args.between.now.nodes in

@@ -3,7 +3,8 @@ use Rattle.std.proofs.Common.{◌+◌, sym, ap, ◌∙◌, arith}
 use Rattle.tsp_file.proofs.Fronts.{line_kept, all_kept, row_within}
 use Rattle.tsp_file.proofs.halves.keep_half.Goals as goal
 
--- plan: line by line, each is copied to the front (`line_kept`); all of them are the half (`all_kept`)
+-- plan: one line more is copied to the beginning (`line_kept`), where nothing is lost, since a row is no shorter. All
+-- lines are the half (`all_kept`)
 pub copy_within-requires-clause-in_bounds : goal.copy_within-requires-clause-in_bounds
 copy_within-requires-clause-in_bounds c =
     let room = row_within c.args.nodes c.lines.line c.args.weights.now.items (omega arith) c.requires.filled in

@@ -3,7 +3,7 @@ use Rattle.std.proofs.Common.{rules}
 use Rattle.std.specs.Fmt.{digits}
 use Rattle.tsp_file.proofs.text_examples.examples_of_lines.Goals as goal
 
--- plan: each example is computed
+-- plan: the text of each line is computed
 pub returns-clause-dimension : goal.returns-clause-dimension
 unfolding digits
 returns-clause-dimension c = search rules

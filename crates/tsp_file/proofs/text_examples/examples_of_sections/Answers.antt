@@ -6,7 +6,7 @@ use Rattle.tsp_format.specs.Nodes.{nodes_to}
 use Rattle.tsp_format.specs.Cells.{cells_of_line}
 use Rattle.tsp_file.proofs.text_examples.examples_of_sections.Goals as goal
 
--- plan: each example is computed
+-- plan: the text of each small file is computed
 pub returns-clause-coords : goal.returns-clause-coords
 unfolding digits decimals nodes_to cells_of_line
 returns-clause-coords c = search rules

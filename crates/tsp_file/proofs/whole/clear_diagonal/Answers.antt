@@ -10,7 +10,8 @@ use Rattle.tsp_file.proofs.Relaid.{triangle_holds}
 use Rattle.tsp_file.proofs.Spread.{side_filled, zero_diagonal, diagonal_more}
 use Rattle.tsp_file.proofs.whole.clear_diagonal.Goals as goal
 
--- plan: one cell of the diagonal more (`diagonal_more`); then the whole side is filled (`side_filled`)
+-- plan: one cell of the diagonal more is 0 (`diagonal_more`); after the last one the whole listed side has its costs
+-- (`side_filled`)
 pub returns-then-lists-clause-side : goal.returns-then-lists-clause-side
 returns-then-lists-clause-side c = λ half long partly lines.
     let items = c.args.weights.now.items in

@@ -10,7 +10,7 @@ bands-init c = record {
   costs = λ cost even side. ((λ i j row column had. had), (λ i j row column none. absurd (omega (arith, column.0, none))));
 }
 
--- plan: one band more fills more of the side (`fills_more`)
+-- plan: one band of columns more has its costs on the other side of the diagonal (`fills_more`)
 pub bands-preserved : goal.bands-preserved
 bands-preserved c = record {
   size = c.fill_band.ensures.size;

@@ -4,7 +4,7 @@ use Rattle.std.proofs.lemmas.Bool.{cases_lt}
 use Rattle.tsp_file.proofs.Spread.{fills_more}
 use Rattle.tsp_file.proofs.whole.fill_band.Goals as goal
 
--- plan: one row more of the band fills more of the side (`fills_more`)
+-- plan: one row more of the band has its costs (`fills_more`)
 pub rows-init : goal.rows-init
 rows-init c = record {
   size = c.requires.size;

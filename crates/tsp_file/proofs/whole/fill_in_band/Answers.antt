@@ -9,7 +9,7 @@ use Rattle.tsp_format.proofs.Counts.{cells_counted}
 use Rattle.tsp_file.proofs.Spread.{column_more}
 use Rattle.tsp_file.proofs.whole.fill_in_band.Goals as goal
 
--- plan: one column more of the row: the mirrored cell has its cost (`column_more`)
+-- plan: one cell more of the row has its cost, that of the mirrored cell (`column_more`)
 pub columns-preserved : goal.columns-preserved
 columns-preserved c =
     let items = c.columns.weights.items in

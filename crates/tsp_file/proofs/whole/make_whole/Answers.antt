@@ -10,7 +10,8 @@ use Rattle.tsp_file.proofs.WithWeights.{few_cells}
 use Rattle.tsp_file.proofs.Spread.{whole_is}
 use Rattle.tsp_file.proofs.whole.make_whole.Goals as goal
 
--- plan: the lines are spread, the diagonal is cleared and the mirrored cells are filled: that is the whole (`whole_is`)
+-- plan: the lines are in their rows, the diagonal is 0, and the mirrored cells are filled: so each cell has its cost
+-- (`whole_is`)
 pub returns-clause-ok : goal.returns-clause-ok
 returns-clause-ok c =
     let half = c.args.weights.now.items in

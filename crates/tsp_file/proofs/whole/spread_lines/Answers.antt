@@ -5,7 +5,7 @@ use Rattle.tsp_format.specs.Nodes.{IsNode}
 use Rattle.tsp_file.proofs.Spread.{all_before, kept_less, spread_begins, spread_more}
 use Rattle.tsp_file.proofs.whole.spread_lines.Goals as goal
 
--- plan: from the last line on, each is copied to its own row (`spread_more`), which no line before it reaches
+-- plan: from the last line on, each is copied to its row (`spread_more`), which the lines before it don't reach
 pub lines-init : goal.lines-init
 lines-init c = record {
   size = c.requires.size;

@@ -1,7 +1,7 @@
 -- The goals of `put_field` in src/writer.rt: what it ensures.
 use Rattle.tsp_file.proofs.writer.put_field.Goals as goal
 
--- plan: by the field, after which each case is the clause of the call that writes this field
+-- plan: by the field: the call that writes it ensures its text
 pub returns-in-NameKey : goal.returns-in-NameKey
 returns-in-NameKey g c = rw c.in-NameKey.is c.put_name.ensures
 

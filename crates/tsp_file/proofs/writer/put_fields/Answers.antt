@@ -6,7 +6,8 @@ use Rattle.tsp_stream.specs.states.WriteProgress.{way_of}
 use Rattle.tsp_stream.proofs.Carrying.{carried_all, carried_none, carried_next_or}
 use Rattle.tsp_file.proofs.writer.put_fields.Goals as goal
 
--- plan: one field more (`carried_next_or`); all of them are the text (`carried_all`)
+-- plan: one field more is written, unless the writer has failed (`carried_next_or`). The texts of all fields are the
+-- text (`carried_all`)
 pub loop-field-init : goal.loop-field-init
 loop-field-init g c = carried_none (way_of g.W.Write.contents c.args.out.now c.args.piece.now.items)
 

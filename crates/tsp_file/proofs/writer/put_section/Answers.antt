@@ -1,7 +1,7 @@
 -- The goals of `put_section` in src/writer.rt: what it ensures.
 use Rattle.tsp_file.proofs.writer.put_section.Goals as goal
 
--- plan: by the section's shape: each has its own call
+-- plan: by the shape of the section: the call that writes this shape ensures its text
 pub returns-in-Numbers : goal.returns-in-Numbers
 returns-in-Numbers g c = rw c.in-Numbers.is (rw c.numbers.ensures at c.put_number_section.ensures)
 

@@ -21,7 +21,8 @@ returns-then-failed-2 g c =
     text_stopped start last (text_of (fields_of c.args.draft.now)) c.new-piece.ensures (sym c.failed.ensures ∙ c.if-failed.false)
     whole (sym c.failed-2.ensures ∙ c.if-failed-2.true)
 
--- plan: by whether the writer fails: the whole text was written (`text_written`), or a prefix (`text_stopped`)
+-- plan: by whether the writer has failed: the whole text was written (`text_written`), or a prefix of it
+-- (`text_stopped`)
 pub returns-else-failed-2 : goal.returns-else-failed-2
 returns-else-failed-2 g c =
     let start = way_of g.W.Write.contents c.args.out.now c.new-piece.result.items in

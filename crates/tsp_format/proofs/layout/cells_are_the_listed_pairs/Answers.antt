@@ -2,6 +2,6 @@
 use Rattle.tsp_format.proofs.Pairs.{cell_is}
 use Rattle.tsp_format.proofs.layout.cells_are_the_listed_pairs.Goals as goal
 
--- plan: by the lemma `cell_is`
+-- plan: the cells are all pairs of nodes that pass the test of the layout, by rows or by columns
 pub returns : goal.returns
 returns c = cell_is

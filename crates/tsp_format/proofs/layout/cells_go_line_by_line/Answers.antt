@@ -2,6 +2,6 @@
 use Rattle.tsp_format.proofs.Lines.{cells-lines}
 use Rattle.tsp_format.proofs.layout.cells_go_line_by_line.Goals as goal
 
--- plan: by the lemma `cells-lines`
+-- plan: filtering the pairs of all lines at once gives the same as filtering those of each line
 pub returns : goal.returns
 returns c = cells-lines

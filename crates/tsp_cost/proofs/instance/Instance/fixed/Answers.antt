@@ -9,7 +9,7 @@ use Rattle.tsp_cost.proofs.instance.Instance.fixed.Goals as goal
 pub returns-in-Some-clause-few : goal.returns-in-Some-clause-few
 returns-in-Some-clause-few c = (c.self.invariant.range.fixed c.in-Some.pairs.now (sym c.in-Some.ensures)).few
 
--- plan: the pairs are those of the file, each in its range (`pairs_of`)
+-- plan: the pairs are those of the file, and both nodes of each are in their range (`pairs_of`)
 pub returns-in-Some-clause-range : goal.returns-in-Some-clause-range
 returns-in-Some-clause-range c =
     let f : Fields = c.args.self.now in

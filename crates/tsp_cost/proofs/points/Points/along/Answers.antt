@@ -30,7 +30,7 @@ parts-init g c =
       so_far = +ℤ_idl (length_to cost first first others) ∙ ap (length_of cost) (sym c.in-Some.ensures.cases.0);
     }
 
--- plan: the parts of the list, one after the other: their sums add up (`sum_both`), and fit 64 bits (`sum_fits`)
+-- plan: the list is cut into blocks: the lengths of these add up (`sum_both`), and fit 64 bits (`sum_fits`)
 pub parts-preserved : goal.parts-preserved
 parts-preserved g c =
     let IsIn : ℕ → Type 0 = IsNode (points_nodes c.args.self.now) in

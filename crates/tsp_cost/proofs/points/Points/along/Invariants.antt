@@ -8,7 +8,7 @@ use Rattle.tsp_cost.specs.states.Views.{points_nodes, points_cost}
 use Rattle.tsp_cost.specs.states.Ways.{length_to, IsSumOfCosts}
 use Rattle.tsp_cost.proofs.points.Points.along.Given as goal
 
--- the length so far, and that from `from` through `rest` back to the first node, make the whole
+-- the length so far plus that from `from` through `rest` back to the first node is the whole length
 abbrev pub invariant-parts : goal.invariant-parts
 invariant-parts g l = record {
   node : IsNode (points_nodes l.self) l.from;

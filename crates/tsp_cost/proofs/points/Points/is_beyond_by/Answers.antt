@@ -9,7 +9,8 @@ use Rattle.tsp_cost.specs.states.Views.{points_place}
 use Rattle.tsp_cost.proofs.Growing.{distance_grows, at_least_further, known_true}
 use Rattle.tsp_cost.proofs.points.Points.is_beyond_by.Goals as goal
 
--- plan: the nearest place is no farther than any of the region (`distance_grows`), so its bound holds of all
+-- plan: the nearest place of the region is no farther than any other of it (`distance_grows`), so its distance is a
+-- bound for all
 pub returns : goal.returns
 returns g c = known_true c.is_at_least.result _ (λ true_is to node inside.
     let laws = c.monotone_laws.ensures in

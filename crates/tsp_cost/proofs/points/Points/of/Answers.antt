@@ -1,4 +1,4 @@
--- The goals of `Points::of` in src/points.rt: the invariants of its types.
+-- The goals of `Points::of` in src/points.rt: the facts of the value that it makes.
 use Rattle.tsp_file.proofs.Distances.{DistanceLaws, distance_symmetric}
 use Rattle.tsp_cost.specs.states.Metrics.{weight_kind_of}
 use Rattle.tsp_cost.proofs.points.Points.of.Goals as goal

@@ -6,7 +6,7 @@ use Rattle.tsp_cost.specs.states.Views.{points_nodes, points_cost}
 use Rattle.tsp_cost.specs.states.Ways.{length_to, IsSumOfCosts}
 use Rattle.tsp_cost.proofs.points.Points.through.Given as goal
 
--- the sum so far, and the length from `last` on, make the length from `from` on, whatever nodes come after these
+-- the sum so far plus the length from `last` on is the length from `from` on, whichever nodes come after these
 abbrev pub invariant-nodes : goal.invariant-nodes
 invariant-nodes g l = record {
   node : IsNode (points_nodes l.self) l.last;

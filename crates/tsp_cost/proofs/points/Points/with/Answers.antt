@@ -7,7 +7,7 @@ use Rattle.tsp_cost.specs.declared.metric.Metric.{Metric}
 use Rattle.tsp_cost.specs.states.Metrics.{weight_kind_of}
 use Rattle.tsp_cost.proofs.points.Points.with.Goals as goal
 
--- plan: the places are the same, under the metric that the caller has
+-- plan: the points are the same, and the metric is the one that the caller knows, so the costs are too
 pub returns-clause-costs : goal.returns-clause-costs
 returns-clause-costs g c =
     let places : List Point = map g.P.InSpace.place c.args.self.now.points.now in

@@ -1,9 +1,9 @@
--- The goals of `Triangle::of` in src/triangle.rt: the invariants of its types.
+-- The goals of `Triangle::of` in src/triangle.rt: the facts of the value that it makes.
 use Rattle.tsp_file.specs.ListedWeights.{UnlistedHaveNoPlace}
 use Rattle.tsp_file.proofs.Listed.{unlisted_has_no_place, triangle_even}
 use Rattle.tsp_cost.proofs.triangle.Triangle.of.Goals as goal
 
--- plan: the costs are symmetric, since a half lists one of two cells (`triangle_even`)
+-- plan: a half lists one of the two cells of a pair, so the cost is the same in both directions (`triangle_even`)
 pub invariant_of-result : goal.invariant_of-result
 invariant_of-result c =
     let out : UnlistedHaveNoPlace c.args.layout c.args.nodes =

@@ -8,7 +8,7 @@ use Rattle.tsp_draft.specs.Valid.{AreWeights}
 use Rattle.tsp_file.proofs.Listed.{lists, not_by_function, not_missing}
 use Rattle.tsp_file.proofs.file.File.as_matrix.Goals as goal
 
--- plan: a valid file with weights has a layout (`not_missing`), which is no function (`not_by_function`)
+-- plan: a valid file with weights has a format (`not_missing`), which is a layout and not FUNCTION (`not_by_function`)
 pub unwrap-nodes-requires : goal.unwrap-nodes-requires
 unwrap-nodes-requires c =
     let f : Fields = c.args.self.now in

@@ -6,7 +6,7 @@ use Rattle.tsp_draft.specs.states.Drafts.{combs_of}
 use Rattle.tsp_file.proofs.TypedFields.{combs_hold}
 use Rattle.tsp_file.proofs.file.File.combs_or_none.Goals as goal
 
--- plan: the lent lists are those of the fields (`combs_hold`)
+-- plan: a valid COMB_SECTION has sets of nodes, each within its limits (`combs_hold`)
 pub returns-in-Some-clause-are : goal.returns-in-Some-clause-are
 returns-in-Some-clause-are c =
     let f : Fields = c.args.self.now in

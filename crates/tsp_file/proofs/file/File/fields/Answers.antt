@@ -5,7 +5,7 @@ use Rattle.tsp_draft.specs.Rules.{fault_of}
 use Rattle.tsp_file.proofs.TypedFields.{holds_its_type}
 use Rattle.tsp_file.proofs.file.File.fields.Goals as goal
 
--- plan: the draft has no fault, so its fields are those that its TYPE needs (`holds_its_type`)
+-- plan: the draft has no fault, so the fields that its TYPE requires are present and in their ranges (`holds_its_type`)
 pub returns-clause-valid : goal.returns-clause-valid
 returns-clause-valid c = subst (λ (f : Fields). fault_of f ≡ None) c.self.view_is c.self.invariant
 

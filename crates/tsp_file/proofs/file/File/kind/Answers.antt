@@ -1,8 +1,8 @@
--- The goals of `File::kind` in src/file.rt.
+-- The goals of `File::kind` in src/file.rt: that TYPE is present.
 use Rattle.tsp_draft.proofs.ValidFields.{has_kind}
 use Rattle.tsp_draft.specs.states.Drafts.{fields_of}
 use Rattle.tsp_file.proofs.file.File.kind.Goals as goal
 
--- plan: by the lemma `has_kind`
+-- plan: a valid file has a TYPE (`has_kind`)
 pub unwrap-requires : goal.unwrap-requires
 unwrap-requires c = has_kind (fields_of c.self.inside.draft) c.self.invariant

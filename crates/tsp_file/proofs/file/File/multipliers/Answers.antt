@@ -5,7 +5,7 @@ use Rattle.tsp_draft.specs.Fields.{Fields}
 use Rattle.tsp_file.proofs.TypedFields.{multipliers_hold}
 use Rattle.tsp_file.proofs.file.File.multipliers.Goals as goal
 
--- plan: the lent triples are those of the fields (`multipliers_hold`)
+-- plan: a valid section of multipliers has pairs of nodes with a number each, within its limits (`multipliers_hold`)
 pub returns-in-Some-clause-are : goal.returns-in-Some-clause-are
 returns-in-Some-clause-are c =
     let f : Fields = c.args.self.now in

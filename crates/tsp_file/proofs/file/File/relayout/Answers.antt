@@ -7,7 +7,8 @@ use Rattle.tsp_file.specs.states.Way.{LeadsTo}
 use Rattle.tsp_file.proofs.Relaid.{relaid, already}
 use Rattle.tsp_file.proofs.file.File.relayout.Goals as goal
 
--- plan: by the way that was found: nothing to do (`already`), or the weights in another layout (`relaid`)
+-- plan: by how the weights get there: they are in this layout already (`already`), or are listed anew with the same
+-- costs (`relaid`)
 pub returns-in-Ok-Already : goal.returns-in-Ok-Already
 returns-in-Ok-Already c =
     let f : Fields = c.args.self in

@@ -1,4 +1,5 @@
--- The goals of `File::with_half` in src/file.rt: what its calls require, what it ensures and the invariants of its types.
+-- The goals of `File::with_half` in src/file.rt: what its calls require, what it ensures and the facts of the file that
+-- it makes.
 use Rattle.std.proofs.Common.{◌≡◌, ℕ, List, Some, None, sym, ap, subst, ◌∙◌}
 use Rattle.std.specs.Prelude.{is_some, ℤ}
 use Rattle.std.specs.Option.{option_map}
@@ -28,7 +29,7 @@ held f g n weights same valid full dimension stand =
     lists f FullMatrix n weights (in_range f valid)
     (subst (λ (h : Fields). h.weight_format ≡ Some (Listed FullMatrix)) (sym same) full) dimension stand
 
--- plan: the half that is kept has the costs of the whole (`laid_of`), so the file stays valid
+-- plan: the half has the costs of the full matrix (`laid_of`), so the file is still valid
 pub unwrap-nodes-requires : goal.unwrap-nodes-requires
 unwrap-nodes-requires c =
     let f : Fields = fields_of c.self.inside.draft in

@@ -1,4 +1,4 @@
--- The goals of `File::with_weights` in src/file.rt: the invariants of its types.
+-- The goals of `File::with_weights` in src/file.rt: the facts of the file that it makes.
 use Rattle.std.proofs.Common.{◌≡◌, None, sym, subst}
 use Rattle.tsp_draft.specs.Fields.{Fields}
 use Rattle.tsp_draft.specs.Rules.{fault_of}
@@ -6,7 +6,7 @@ use Rattle.tsp_file.specs.Relayout.{with_weights}
 use Rattle.tsp_file.proofs.WithWeights.{stays_valid}
 use Rattle.tsp_file.proofs.file.File.with_weights.Goals as goal
 
--- plan: other weights of the same number leave the file valid (`stays_valid`)
+-- plan: other weights, as many as the layout has cells, leave the file valid (`stays_valid`)
 pub invariant_of-result : goal.invariant_of-result
 invariant_of-result c =
     let f : Fields = c.args.self in

@@ -1,4 +1,5 @@
--- The goals of `File::with_whole` in src/file.rt: what its calls require, what it ensures and the invariants of its types.
+-- The goals of `File::with_whole` in src/file.rt: what its calls require, what it ensures and the facts of the file
+-- that it makes.
 use Rattle.std.proofs.Common.{◌≡◌, rules, false, Result, Ok, Err, Some, sym, ap, subst, ◌∙◌}
 use Rattle.std.specs.Prelude.{OnOk, is_some}
 use Rattle.std.specs.Option.{option_map}
@@ -22,7 +23,7 @@ made : {A E : Type 0} (r : Result A E) (P : Type 0) → is_err r ≡ false → O
 made (Ok x) P ok h = h
 made (Err e) P ok h = absurd cc
 
--- plan: the matrix that is made has the costs of the half (`laid_of`), so the file stays valid
+-- plan: the full matrix has the costs of the half (`laid_of`), so the file is still valid
 pub unwrap-nodes-requires : goal.unwrap-nodes-requires
 unwrap-nodes-requires c =
     let f : Fields = fields_of c.self.inside.draft in

@@ -3,7 +3,8 @@ use Rattle.tsp_file.proofs.Listed.{even_between_nodes}
 use Rattle.tsp_file.proofs.Relaid.{outside}
 use Rattle.tsp_file.proofs.weights.ListedWeights.first_asymmetric.Goals as goal
 
--- plan: by the lemmas `even_between_nodes` and `outside`
+-- plan: other numbers than nodes cost 0 in both directions (`outside`), so costs that are symmetric between nodes are
+-- symmetric (`even_between_nodes`)
 pub returns-then-is_symmetric : goal.returns-then-is_symmetric
 returns-then-is_symmetric c =
     let w = c.args.self.now in

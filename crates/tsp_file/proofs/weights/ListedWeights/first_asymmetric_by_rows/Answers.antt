@@ -4,7 +4,8 @@ use Rattle.tsp_file.proofs.Listed.{even_between_nodes}
 use Rattle.tsp_file.proofs.Relaid.{outside}
 use Rattle.tsp_file.proofs.weights.ListedWeights.first_asymmetric_by_rows.Goals as goal
 
--- plan: pairs of other numbers than nodes cost 0 (`outside`), so those of nodes decide (`even_between_nodes`)
+-- plan: other numbers than nodes cost 0 in both directions (`outside`), so after all pairs of nodes the costs are
+-- symmetric (`even_between_nodes`)
 pub returns : goal.returns
 returns c =
     let w = c.args.self.now in

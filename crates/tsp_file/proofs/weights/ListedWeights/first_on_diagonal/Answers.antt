@@ -4,7 +4,7 @@ use Rattle.tsp_file.proofs.Listed.{nodes_or_not}
 use Rattle.tsp_file.proofs.Relaid.{cost_outside}
 use Rattle.tsp_file.proofs.weights.ListedWeights.first_on_diagonal.Goals as goal
 
--- plan: other numbers than nodes cost 0 (`cost_outside`), so the nodes decide
+-- plan: other numbers than nodes cost 0 to themselves (`cost_outside`), so it is enough to look at the nodes
 pub returns : goal.returns
 returns c = λ i.
     let w = c.args.self.now in

@@ -8,7 +8,8 @@ use Rattle.tsp_file.specs.states.Weights.{costs_of}
 use Rattle.tsp_file.proofs.Relaid.{line_more, lines_all, cost_within, all_within}
 use Rattle.tsp_file.proofs.weights.ListedWeights.laid_out.Goals as goal
 
--- plan: one line more (`line_more`); all lines are all cells (`lines_all`)
+-- plan: the costs of one line more are appended (`line_more`); those of all lines are the weights of the layout
+-- (`lines_all`)
 pub lines-preserved : goal.lines-preserved
 lines-preserved c =
     let w = c.args.self.now in

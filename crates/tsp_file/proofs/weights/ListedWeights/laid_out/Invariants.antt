@@ -6,7 +6,7 @@ use Rattle.tsp_format.specs.Cells.{cells_of_line}
 use Rattle.tsp_file.specs.states.Weights.{costs_of}
 use Rattle.tsp_file.proofs.weights.ListedWeights.laid_out.Given as goal
 
--- the costs of the lines before this one
+-- the vector has the costs of the lines before this one
 abbrev pub invariant-lines : goal.invariant-lines
 invariant-lines l =
     l.weights.items ≡ map (λ cell. costs_of l.self cell.0 cell.1)

@@ -10,7 +10,7 @@ use Rattle.tsp_file.proofs.Listed.{weight_read}
 use Rattle.tsp_file.proofs.Relaid.{cell_more, cost_within}
 use Rattle.tsp_file.proofs.weights.ListedWeights.lay_line.Goals as goal
 
--- plan: one cell more (`cell_more`), of the size of a weight (`cost_within`)
+-- plan: the cost of one cell more is appended (`cell_more`), which is as small as a weight (`cost_within`)
 pub cells-preserved : goal.cells-preserved
 cells-preserved c =
     let w = c.args.self.now in

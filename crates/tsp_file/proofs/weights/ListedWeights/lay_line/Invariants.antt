@@ -4,7 +4,7 @@ use Rattle.tsp_format.specs.Cells.{cells_of_line}
 use Rattle.tsp_file.specs.states.Weights.{costs_of}
 use Rattle.tsp_file.proofs.weights.ListedWeights.lay_line.Given as goal
 
--- the costs of the cells before this one, after what was there
+-- the vector has the costs of the cells before this one, behind those that it had at the call
 abbrev pub invariant-cells : goal.invariant-cells
 invariant-cells l =
     l.weights.items ≡ l.initial.weights.items ++ map (λ cell. costs_of l.self cell.0 cell.1)

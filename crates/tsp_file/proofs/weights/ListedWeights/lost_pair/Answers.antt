@@ -3,7 +3,7 @@ use Rattle.std.proofs.Common.{inr}
 use Rattle.tsp_file.proofs.Relaid.{triangle_holds}
 use Rattle.tsp_file.proofs.weights.ListedWeights.lost_pair.Goals as goal
 
--- plan: by the lemma `triangle_holds`
+-- plan: a triangle lists one of both pairs, so its costs are symmetric, and every layout holds them (`triangle_holds`)
 pub returns-in_default : goal.returns-in_default
 returns-in_default c =
     let w = c.args.self.now in

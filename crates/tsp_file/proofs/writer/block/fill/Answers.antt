@@ -3,7 +3,7 @@ use Rattle.std.proofs.Common.{◌≡◌, length, rules, arith}
 use Rattle.tsp_file.proofs.Blocks.{block_begins}
 use Rattle.tsp_file.proofs.writer.block.fill.Goals as goal
 
--- plan: by the lemma `block_begins`
+-- plan: before the first weight nothing is written, and there is memory for all of them (`block_begins`)
 pub weights-init : goal.weights-init
 weights-init c =
     let long : length c.args.block.now ≡ 576 = search rules in

@@ -3,7 +3,8 @@ use Rattle.std.proofs.Common.{◌≡◌, ◌∙◌, ◌-◌, take, drop, arith}
 use Rattle.std.proofs.lemmas.List.{take_all, length-drop}
 use Rattle.tsp_file.proofs.writer.block.put_block.Goals as goal
 
--- plan: the weights of the block are added, each after a blank
+-- plan: the block is filled from its end, and its bytes from the first written one on are added: a blank and a weight
+-- each
 pub returns-in-Some : goal.returns-in-Some
 returns-in-Some g c =
     let rest = drop c.in-Some.start c.fill.new.block in

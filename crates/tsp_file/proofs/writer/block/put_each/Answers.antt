@@ -11,7 +11,7 @@ use Rattle.tsp_file.proofs.writer.block.put_each.Goals as goal
 pub weights-init : goal.weights-init
 weights-init g c = carried_none (way_of g.W.Write.contents c.args.out.now c.args.piece.now.items)
 
--- plan: one weight more (`carried_next_or`)
+-- plan: one weight more is added after a blank, unless the writer has failed (`carried_next_or`)
 pub weights-preserved : goal.weights-preserved
 weights-preserved g c =
     let fits : FitsSigned w64 (get_or c.args.weights.now c.weights.weight-index (pos 0)) = search rules in

@@ -3,7 +3,8 @@ use Rattle.std.proofs.Common.{arith}
 use Rattle.tsp_file.proofs.Digits.{counted}
 use Rattle.tsp_file.proofs.writer.digits.digit_count.Goals as goal
 
--- plan: by the lemma `counted`
+-- plan: the number is compared with powers of ten, and it has one digit more than the exponent of the largest that
+-- isn't above it (`counted`)
 pub returns : goal.returns
 returns c =
     let fits = c.ranges.number.fits in

@@ -12,7 +12,7 @@ returns-clause-start c = omega (arith, c.digit_count.ensures, c.requires.room, a
 pub returns-clause-short : goal.returns-clause-short
 returns-clause-short c = omega (arith, c.digit_count.ensures, c.requires.room, at_most_eight c.args.number c.requires.few)
 
--- plan: four pairs of digits are written, of which the text begins at the first that counts (`digits_written`)
+-- plan: four pairs of digits are written; without the leading zeros they are the text of the number (`digits_written`)
 pub returns-clause-written : goal.returns-clause-written
 returns-clause-written c =
     let n : ℕ = c.args.number in

@@ -9,7 +9,7 @@ use Rattle.tsp_file.proofs.writer.keywords.put_comments.Goals as goal
 pub loop-comment-init : goal.loop-comment-init
 loop-comment-init g c = carried_none (way_of g.W.Write.contents c.args.out.now c.args.piece.now.items)
 
--- plan: one comment more (`carried_next`)
+-- plan: the line of one comment more is added (`carried_next`)
 pub loop-comment-preserved : goal.loop-comment-preserved
 loop-comment-preserved g c =
     let start = way_of g.W.Write.contents c.args.out.now c.args.piece.now.items in

@@ -8,7 +8,7 @@ use Rattle.tsp_file.proofs.writer.keywords.put_others.Goals as goal
 pub loop-keyword-init : goal.loop-keyword-init
 loop-keyword-init g c = carried_none (way_of g.W.Write.contents c.args.out.now c.args.piece.now.items)
 
--- plan: one line of an unknown keyword more (`carried_next`)
+-- plan: the line of one unknown keyword more is added (`carried_next`)
 pub loop-keyword-preserved : goal.loop-keyword-preserved
 loop-keyword-preserved g c =
     let start = way_of g.W.Write.contents c.args.out.now c.args.piece.now.items in

@@ -8,7 +8,7 @@ use Rattle.tsp_file.specs.CanonicalText.{blank_before, line_end}
 use Rattle.tsp_file.proofs.writer.keywords.put_value.Goals.{then-not-is_empty, else-not-is_empty}
 use Rattle.tsp_file.proofs.writer.keywords.put_value.Goals as goal
 
--- plan: by whether there is a value (`some_value`, `no_value`)
+-- plan: by whether the value has bytes: a blank and these are added (`some_value`), or nothing (`no_value`)
 pub returns : goal.returns
 returns g c =
     let start = way_of g.W.Write.contents c.args.out.now c.args.piece.now.items in

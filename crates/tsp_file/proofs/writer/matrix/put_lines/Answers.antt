@@ -7,7 +7,7 @@ use Rattle.tsp_stream.specs.states.WriteProgress.{way_of}
 use Rattle.tsp_file.proofs.Matrices.{comes_begins, comes_next, comes_last, comes_failed}
 use Rattle.tsp_file.proofs.writer.matrix.put_lines.Goals as goal
 
--- plan: one line more (`comes_next`), to the last (`comes_last`) or to a failure (`comes_failed`)
+-- plan: one line more is written (`comes_next`), up to the last (`comes_last`) or to a failure (`comes_failed`)
 pub lines-init : goal.lines-init
 lines-init g c =
     comes_begins (λ k. length (cells_of_line c.args.layout c.args.nodes k)) c.args.nodes c.args.weights.now

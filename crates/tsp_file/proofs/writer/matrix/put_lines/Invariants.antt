@@ -7,7 +7,7 @@ use Rattle.tsp_stream.specs.states.WriteProgress.{way_of}
 use Rattle.tsp_file.proofs.Matrices.{Comes, lines_from}
 use Rattle.tsp_file.proofs.writer.matrix.put_lines.Given as goal
 
--- the bytes added so far, and the lines of the weights in `rest`, are the lines of the whole matrix
+-- the bytes added so far, with the lines of the weights in `rest` behind them, are the lines of the whole matrix
 abbrev pub invariant-lines : goal.invariant-lines
 invariant-lines g l =
     Comes (way_of g.W.Write.contents l.initial.out l.initial.piece.items) (way_of g.W.Write.contents l.out l.piece.items)

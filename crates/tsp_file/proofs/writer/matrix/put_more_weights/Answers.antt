@@ -5,7 +5,7 @@ use Rattle.tsp_stream.proofs.Carrying.{carried_none}
 use Rattle.tsp_file.proofs.Matrices.{after_blanks, comes_block, comes_blocks}
 use Rattle.tsp_file.proofs.writer.matrix.put_more_weights.Goals as goal
 
--- plan: one block more (`comes_block`), until none is left (`comes_blocks`)
+-- plan: one block of weights more is written (`comes_block`), until none is left (`comes_blocks`)
 pub parts-init : goal.parts-init
 parts-init g c =
     record { done = []; carried = carried_none (way_of g.W.Write.contents c.args.out.now c.args.piece.now.items); parts = refl }

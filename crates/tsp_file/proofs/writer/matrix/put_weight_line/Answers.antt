@@ -7,7 +7,8 @@ use Rattle.std.specs.Prelude.{FitsSigned}
 use Rattle.std.proofs.Common.{rules}
 use Rattle.tsp_file.proofs.writer.matrix.put_weight_line.Goals as goal
 
--- plan: by whether the line has weights (`some_weights`, `no_weights`)
+-- plan: by whether the line has weights: they and the line's end are written (`some_weights`), or nothing
+-- (`no_weights`)
 pub returns-in-Some : goal.returns-in-Some
 returns-in-Some g c =
     let fits : FitsSigned w64 c.in-Some.first.now = search rules in

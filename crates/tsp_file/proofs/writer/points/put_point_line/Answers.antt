@@ -3,7 +3,7 @@ use Rattle.std.proofs.Common.{◌≡◌, ◌∙◌, ◌-◌, take, drop, arith}
 use Rattle.std.proofs.lemmas.List.{take_all, length-drop}
 use Rattle.tsp_file.proofs.writer.points.put_point_line.Goals as goal
 
--- plan: the line is written into a block, which is added
+-- plan: the block is filled from its end, and its bytes from the first written one on are added: the line of the point
 pub returns : goal.returns
 returns g c =
     let start = c.write_point_line-start.result in

@@ -8,7 +8,7 @@ use Rattle.tsp_stream.specs.states.WriteProgress.{Way, Carried, way_of}
 use Rattle.tsp_stream.proofs.Carrying.{carried_node, carried_nodes}
 use Rattle.tsp_file.proofs.writer.points.put_points.Goals as goal
 
--- plan: one node's line more (`carried_node`)
+-- plan: the line of one node more is added, with its coordinates (`carried_node`)
 pub nodes-preserved : goal.nodes-preserved
 nodes-preserved g c =
     let line : ℕ × Point → List ℕ = λ entry. number_line (decimal entry.0) (coordinate_words c.args.spatial entry.1) in

@@ -12,7 +12,8 @@ write_digits-requires c =
     let digits = length-decimal-le 20 c.args.node (omega arith) (omega arith) (omega arith) in
     (omega (arith, digits, c.write_coordinate-first.ensures.short, c.write_coordinate-second.ensures.short, c.write_line_end-third.ensures.short), search rules)
 
--- plan: from the end: the coordinates, then the node, each before what the last call left
+-- plan: the line is written from its end: the coordinates, then the node, each before the bytes that the last call
+-- wrote
 pub returns-clause-written : goal.returns-clause-written
 returns-clause-written c =
     let x : List ℕ = 32 ∷ spelling c.args.point.x in

@@ -9,7 +9,7 @@ use Rattle.tsp_stream.specs.states.WriteProgress.{way_of}
 use Rattle.tsp_stream.proofs.Carrying.{carried_node_or, carried_nodes}
 use Rattle.tsp_file.proofs.writer.sections.put_numbers.Goals as goal
 
--- plan: one node's line more (`carried_node_or`)
+-- plan: the line of one node more is added, with its number, unless the writer has failed (`carried_node_or`)
 pub nodes-preserved : goal.nodes-preserved
 nodes-preserved g c =
     let fits : FitsSigned w64 (get_or c.args.numbers.now c.nodes.index (pos 0)) = search rules in

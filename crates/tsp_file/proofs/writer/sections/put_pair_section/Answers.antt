@@ -5,7 +5,7 @@ use Rattle.tsp_stream.proofs.Carrying.{carried_none}
 use Rattle.tsp_file.proofs.Lines.{opened}
 use Rattle.tsp_file.proofs.writer.sections.put_pair_section.Goals as goal
 
--- plan: by whether the section is present: its line, then its lines (`opened`), or nothing
+-- plan: by whether the section is present: its word and its lines are added (`opened`), or nothing
 pub returns-in-Some : goal.returns-in-Some
 returns-in-Some g c =
     let start = way_of g.W.Write.contents c.args.out.now c.args.piece.now.items in

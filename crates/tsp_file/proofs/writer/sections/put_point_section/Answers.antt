@@ -8,7 +8,8 @@ use Rattle.tsp_stream.proofs.Carrying.{carried_none}
 use Rattle.tsp_file.proofs.Lines.{opened}
 use Rattle.tsp_file.proofs.writer.sections.put_point_section.Goals as goal
 
--- plan: by whether there are points, of the plane or of space: the line, then the lines (`opened`), or nothing
+-- plan: by whether there are points, of the plane or of space: the section's word and its lines are added (`opened`),
+-- or nothing
 pub returns-in-Plane : goal.returns-in-Plane
 returns-in-Plane g c =
     let start = way_of g.W.Write.contents c.args.out.now c.args.piece.now.items in

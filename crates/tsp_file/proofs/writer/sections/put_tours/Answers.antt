@@ -8,7 +8,7 @@ use Rattle.tsp_file.proofs.writer.sections.put_tours.Goals as goal
 pub tours-init : goal.tours-init
 tours-init g c = carried_none (way_of g.W.Write.contents c.args.out.now c.args.piece.now.items)
 
--- plan: one tour more (`carried_next`)
+-- plan: one tour more is added, with its line -1 (`carried_next`)
 pub tours-preserved : goal.tours-preserved
 tours-preserved g c =
     let start = way_of g.W.Write.contents c.args.out.now c.args.piece.now.items in

@@ -13,7 +13,7 @@ use Rattle.tsp_file.proofs.writer.tree.put_changes.Goals as goal
 pub changes-init : goal.changes-init
 changes-init g c = carried_none (way_of g.W.Write.contents c.args.out.now c.args.piece.now.items)
 
--- plan: one difference more (`carried_next_or`)
+-- plan: one index more is added with its difference, unless the writer has failed (`carried_next_or`)
 pub changes-preserved : goal.changes-preserved
 changes-preserved g c =
     let fits : FitsSigned w64 (get_or c.args.changes.now c.changes.index-index (0, pos 0)).1 = search rules in

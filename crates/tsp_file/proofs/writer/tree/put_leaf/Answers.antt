@@ -7,7 +7,7 @@ use Rattle.tsp_stream.specs.states.WriteProgress.{way_of}
 use Rattle.tsp_stream.proofs.Carrying.{carried_then}
 use Rattle.tsp_file.proofs.writer.tree.put_leaf.Goals as goal
 
--- plan: the 0, the differences, and the -1 (`carried_then`)
+-- plan: the 0, the indices with their differences and the -1 are added one after the other (`carried_then`)
 pub returns : goal.returns
 returns g c =
     let start = way_of g.W.Write.contents c.args.out.now c.args.piece.now.items in

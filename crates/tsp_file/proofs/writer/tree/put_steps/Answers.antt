@@ -9,7 +9,7 @@ use Rattle.tsp_file.proofs.writer.tree.put_steps.Goals as goal
 pub steps-init : goal.steps-init
 steps-init g c = carried_none (way_of g.W.Write.contents c.args.out.now c.args.piece.now.items)
 
--- plan: one step more (`carried_next`)
+-- plan: the line of one branch or leaf more is added (`carried_next`)
 pub steps-preserved : goal.steps-preserved
 steps-preserved g c =
     let start = way_of g.W.Write.contents c.args.out.now c.args.piece.now.items in
