@@ -1,4 +1,5 @@
--- The parts of a number word, read from the left. For `split_digits` and `split_word` in src/scan.rt.
+-- The parts of a number word, as they are read from the left: sign, digits, point and exponent. For `split_digits` and
+-- `split_word` in src/scan.rt.
 use Rattle.std.proofs.Common.{◌≡◌, ℕ, ◌+◌, ◌*◌, ◌<◌, ◌≤◌, List, [], ◌∷◌, ◌++◌, length, take, drop, Option, Some, None, ℤ, refl, arith, true, false, Bool, suc, ◌==◌, ◌||◌, length-append, ap, ◌∙◌, if◌then◌else◌, nat_lt}
 use Rattle.std.proofs.lemmas.Bool.Decides.{nat_tests}
 use Rattle.std.proofs.lemmas.Grind.{common_steps}

@@ -1,5 +1,5 @@
--- A file that is read in pieces: the effect of one piece more, and the settled part. For `Feed::take` in src/feed.rt and
--- others.
+-- A file that is read in pieces: the stage of the feed after one piece more, and the answer that is settled by then.
+-- For `Feed::take` in src/feed.rt and others.
 use Rattle.std.proofs.Common.{◌≡◌, ℕ, ◌+◌, ◌-◌, ◌≤◌, ◌<◌, Bool, true, false, List, [], ◌∷◌, ◌++◌, length, take, reverse, refl, sym, ap, subst, ◌∙◌, arith, Option, Some, None, Result, Ok, Err, append-nil, append_assoc, length-append}
 use Rattle.std.specs.Prelude.{not, ◌&&◌, ◌==◌, IfErr}
 use Rattle.std.proofs.Math.Logic.{∥∥₁_map}

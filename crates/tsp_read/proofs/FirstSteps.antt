@@ -1,4 +1,5 @@
--- The first field of a list that passes a test. For `Reading::close` in src/state/reading.rt and others.
+-- The first field of a list that passes a test, where the test changes at one field alone. For `Reading::close` in
+-- src/state/reading.rt and others.
 use Rattle.std.proofs.Common.{◌≡◌, Bool, true, false, cond, List, [], ◌∷◌, refl, sym, ap, ◌∙◌, Option, Some, None}
 use Rattle.std.proofs.lemmas.Bool.{false≢true}
 use Rattle.std.specs.Prelude.{not, ◌&&◌, ◌||◌}

@@ -1,5 +1,5 @@
--- A text that is read while it comes: one item more, and where it stops. For `Intake::take_items` and `Intake::long_word` in
--- src/intake.rt.
+-- The items of a piece, taken one after the other: one item more, and the stop at a fault or an end line. For
+-- `Intake::take_items` and `Intake::long_word` in src/intake.rt.
 use Rattle.std.proofs.Common.{◌≡◌, ℕ, Bool, true, false, List, [], ◌∷◌, ◌++◌, reverse, refl, sym, ap, subst, ◌∙◌, Option, Some, None, MatchOption, Ok, Err, append-nil, append_assoc}
 use Rattle.std.specs.List.{list_all}
 use Rattle.std.specs.Prelude.{◌&&◌, ◌||◌}

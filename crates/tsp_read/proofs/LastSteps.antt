@@ -1,4 +1,5 @@
--- The end of a text that came in pieces. For `Feed::end` in src/feed.rt and others.
+-- The end of a text that came in pieces: its last item is taken, and the answer is that of the whole text. For
+-- `Feed::end` in src/feed.rt and others.
 use Rattle.std.proofs.Common.{◌≡◌, ℕ, Bool, true, false, List, [], ◌∷◌, ◌++◌, length, take, drop, take-append-drop, reverse, refl, sym, ap, subst, ◌∙◌, Option, Some, None, Result, Ok, Err, append-nil}
 use Rattle.std.specs.Prelude.{not, ◌&&◌, ◌||◌, ◌==◌, is_some}
 use Rattle.std.proofs.Math.Logic.{∥∥₁_map}

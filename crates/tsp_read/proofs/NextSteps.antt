@@ -1,4 +1,4 @@
--- What the next item of a text is. For `next_item` in src/cut.rt.
+-- The next item of a text, by the first byte that is no blank. For `next_item` in src/cut.rt.
 use Rattle.std.proofs.Common.{◌≡◌, ℕ, Bool, true, false, cond, List, [], ◌∷◌, length, refl, sym, ap, subst, ◌∙◌}
 use Rattle.std.specs.Prelude.{not, ◌&&◌, ◌==◌}
 use Rattle.std.proofs.lemmas.Bool.{ne_eqb}

@@ -1,4 +1,4 @@
--- The next item of a text, whatever follows the text. For `next_item` in src/cut.rt and others.
+-- The next item of a text is the same when more bytes follow the text. For `next_item` in src/cut.rt and others.
 use Rattle.std.proofs.Common.{◌≡◌, ℕ, suc, ◌+◌, ◌<◌, Bool, true, false, cond, List, [], ◌∷◌, ◌++◌, length, take, drop, refl, sym, ap, ◌∙◌, arith}
 use Rattle.std.specs.Prelude.{not, ◌||◌, ◌&&◌, nat_lt}
 use Rattle.std.specs.List.{position_or_len}

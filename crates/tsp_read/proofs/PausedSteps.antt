@@ -1,4 +1,5 @@
--- A text that goes on after a piece: its kept part, and the settled part of it. For `read_on` in src/feed.rt and others.
+-- A text that goes on after a piece: the bytes that are kept for the next piece, and the items that are settled. For
+-- `read_on` in src/feed.rt and others.
 use Rattle.std.proofs.Common.{◌≡◌, ℕ, ◌≤◌, Bool, true, false, List, [], ◌∷◌, ◌++◌, length, refl, sym, ap, subst, ◌∙◌, arith, append-nil, Option, None, Some, Ok}
 use Rattle.std.specs.Prelude.{reverse, IfSome}
 use Rattle.tsp_format.specs.Bytes.{is_blank}

@@ -1,4 +1,5 @@
--- The lines of unknown keywords as they are written. For the law `canonical_texts_are_read_back` in src/round_trip.rt.
+-- The lines of unknown keywords as they are written: each has no fault, and they are read back. For the law
+-- `canonical_texts_are_read_back` in src/round_trip.rt.
 use Rattle.std.proofs.Common.{◌≡◌, ℕ, ◌+◌, ◌≤◌, true, false, List, [], ◌∷◌, ◌++◌, length, refl, sym, ap, ◌∙◌, arith, append_assoc, append-nil, length-append, None}
 use Rattle.std.specs.Prelude.{◌&&◌, nat_le, nat_lt, slice_index}
 use Rattle.std.specs.List.{list_all, flat_map}

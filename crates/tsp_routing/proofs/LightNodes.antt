@@ -1,4 +1,5 @@
--- Customers that demand less than a unit, one by one. For `light` and `unit_loads` in src/units.rt.
+-- The load of one node in units: whether it demands less than a unit, and what its load is then. For `light` and
+-- `unit_loads` in src/units.rt.
 use Rattle.std.proofs.Common.{◌≡◌, ◌≢◌, ℕ, ◌+◌, ◌*◌, ◌≤◌, ◌==◌, sym, ap, ap₂, ◌∙◌, arith}
 use Rattle.std.specs.Prelude.{pos, if◌then◌else◌}
 use Rattle.std.proofs.lemmas.Bool.{ne_eqb, eq-eqb}

@@ -1,4 +1,5 @@
--- The decisions on one set, among those of a case. For `given_by` in src/given_back.rt.
+-- The limits on how often plans cross one set: of the decisions of a case, those on other sets say nothing of it. For
+-- `given_by` in src/given_back.rt.
 use Rattle.std.proofs.Common.{◌≡◌, ◌∙◌, ℕ, ◌+◌, ◌*◌, ◌==◌, ◌&&◌, ◌||◌, Bool, true, false, not, cond, List, [], ◌∷◌, refl, sym, ap}
 use Rattle.std.specs.Prelude.{max, min, if◌then◌else◌}
 use Rattle.std.specs.List.{filter}

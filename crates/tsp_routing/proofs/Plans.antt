@@ -1,4 +1,5 @@
--- The links of a plan, and sums over them. For the law `plan_links_add_up` in src/laws.rt.
+-- The links of a plan: sums over their first nodes, and over their second ones, are sums over the customers and once
+-- for each route over the depot. For the law `plan_links_add_up` in src/laws.rt.
 use Rattle.std.proofs.Common.{◌≡◌, ◌≢◌, ℕ, zero, suc, ◌+◌, ◌<◌, ◌≤◌, true, false, eqb, List, [], ◌∷◌, ◌++◌, length, refl, sym, ap, ◌∙◌, arith, inl, inr}
 use Rattle.std.specs.Prelude.{◌⊎◌, ℤ, pos, ◌+ℤ◌, ◌*ℤ◌}
 use Rattle.std.specs.List.{AllPairs, AllByRecursion, Contains, IsDistinct, concat, range_with_len, remove}

@@ -1,4 +1,4 @@
--- One word more of the depots. For `DepotList::push` in src/parts/depots.rt.
+-- One word more of DEPOT_SECTION, which -1 ends. For `DepotList::push` in src/parts/depots.rt.
 use Rattle.std.proofs.Common.{◌≡◌, ℕ, ◌+◌, ◌<◌, Bool, true, false, List, [], ◌∷◌, ◌++◌, length, map, refl, sym, ap, ◌∙◌, None, Ok, arith}
 use Rattle.std.specs.Prelude.{pos, negsuc, nat_abs, nat_le}
 use Rattle.std.specs.List.{list_any}

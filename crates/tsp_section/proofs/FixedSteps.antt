@@ -1,4 +1,5 @@
--- One word more of the fixed pairs. For `FixedList::push_first` in src/parts/fixed.rt and others.
+-- One word more of FIXED_EDGES_SECTION, of which two are a pair. For `FixedList::push_first` in src/parts/fixed.rt and
+-- others.
 use Rattle.std.proofs.Common.{◌≡◌, ◌≢◌, ℕ, ◌+◌, Bool, true, false, List, [], ◌∷◌, ◌++◌, length, refl, ap₂, Option, None, Some, Ok}
 use Rattle.std.specs.Prelude.{pos, nat_abs, ◌==◌}
 use Rattle.tsp_text.specs.SectionNumbers.{number, node, node_or_end}

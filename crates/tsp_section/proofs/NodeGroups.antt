@@ -1,4 +1,5 @@
--- By-node sections: the marks and entries of the nodes, a node and an entry more. For `unmarked_node` in src/parts/nodes.rt.
+-- By-node sections: the mark and the entry of each node whose group has come, and a group more. For `unmarked_node` in
+-- src/parts/nodes.rt.
 use Rattle.std.proofs.Common.{◌≡◌, ◌≢◌, ℕ, ◌+◌, ◌-◌, ◌<◌, ◌≤◌, Bool, true, false, cond, ◌||◌, List, [], ◌∷◌, ◌++◌, length, set, refl, sym, ap, ◌∙◌, Option, None, Some, Ok, Err, inl, inr, arith, rules, get_or-set_other, get_or-set_same}
 use Rattle.std.specs.Int.{FitsUnsignedBits}
 use Rattle.std.specs.Prelude.{ℤ, pos, negsuc, nat_abs, ◌⊎◌, replicate, slice_index_or, is_some, unwrap_or}

@@ -1,4 +1,5 @@
--- The first place of a list that passes a test, and the parts before and from it on. For `without_start` in src/blanks.rt.
+-- The first place of a list at which a test is passed, and the list before it and from it on. For `without_start` in
+-- src/blanks.rt.
 use Rattle.std.proofs.Common.{◌≡◌, ℕ, ◌+◌, ◌<◌, ◌≤◌, Bool, true, false, cond, List, [], ◌∷◌, length, take, drop, Some, None, refl, sym, ap, ◌∙◌, arith}
 use Rattle.std.specs.Prelude.{not}
 use Rattle.std.specs.List.{prefix_len, position, position_or_len}

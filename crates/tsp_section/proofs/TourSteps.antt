@@ -1,4 +1,5 @@
--- One word more of the tours. For `GatheredNodes::push_read` and `TourList::push` in src/parts/tours.rt.
+-- One word more of TOUR_SECTION: a node, or the -1 that ends a tour. For `GatheredNodes::push_read` and
+-- `TourList::push` in src/parts/tours.rt.
 use Rattle.std.proofs.Common.{◌≡◌, ℕ, ℤ, zero, suc, ◌+◌, ◌-◌, ◌<◌, ◌≤◌, Bool, true, false, cond, List, [], ◌∷◌, ◌++◌, length, map, refl, sym, ap, ◌∙◌, arith, rules, Result, Ok, Err, None}
 use Rattle.std.specs.Int.{FitsUnsignedBits}
 use Rattle.std.specs.Prelude.{pos, negsuc, nat_abs, nat_le, not, ◌&&◌}

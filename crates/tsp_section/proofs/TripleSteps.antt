@@ -1,4 +1,5 @@
--- One word more of the multipliers of fixed edges. For `TripleList::push_second` in src/parts/triples.rt and others.
+-- One word more of the multipliers of fixed edges, of which three are two nodes and a multiplier. For
+-- `TripleList::push_second` in src/parts/triples.rt and others.
 use Rattle.std.proofs.Common.{◌≡◌, ◌≢◌, ℕ, ◌+◌, Bool, true, false, List, [], ◌∷◌, ◌++◌, length, refl, ap, ap₂, subst, ◌∙◌, Option, None, Some, Ok, Err}
 use Rattle.std.specs.Prelude.{ℤ, pos, nat_abs, ◌==◌}
 use Rattle.tsp_number.specs.declared.fault.NumberFault.{NumberFault}

@@ -1,4 +1,5 @@
--- The length of a list of nodes, summed step by step. For `canonical_length` in src/length.rt and others.
+-- The length of a list of nodes, one link more at a time, as the code sums it in 64 bits. For `canonical_length` in
+-- src/length.rt and others.
 use Rattle.std.proofs.Common.{◌≡◌, ℕ, zero, suc, ◌+◌, ◌-◌, ◌*◌, ◌<◌, ◌≤◌, List, [], ◌∷◌, sym, ap, subst, ◌∙◌, arith, to_z, of_z}
 use Rattle.std.specs.Prelude.{ℤ, pos, neg_ℤ, ◌+ℤ◌, ◌≤ℤ◌}
 use Rattle.std.specs.Int.{w64}

@@ -1,5 +1,5 @@
--- What is known of all solutions, and the verdict on one of them by that. For `Subject::verdict_on_tour` in src/subject.rt and
--- others.
+-- A basis, which is what is known of all solutions before one is read, and the verdict on one solution by it. For
+-- `Subject::verdict_on_tour` in src/subject.rt and others.
 use Rattle.std.proofs.Common.{◌≡◌, ◌⊎◌, ◌<◌, ◌≤◌, ℕ, inl, inr, true, Option, Some, None, refl, sym, ap₂, subst, ◌∙◌, arith}
 use Rattle.std.specs.Prelude.{ℤ, IsTrue, MatchOption, option_map}
 use Rattle.std.proofs.lemmas.Bool.{false≢true}

@@ -1,4 +1,5 @@
--- The demands of routes, step by step. For `total` in src/loads.rt and others.
+-- The demand of a route and of all nodes, one node more at a time, and the least number of routes that carry it. For
+-- `total` in src/loads.rt and others.
 use Rattle.std.proofs.Common.{◌≡◌, ℕ, zero, suc, ◌+◌, ◌-◌, ◌*◌, ◌/◌, ◌<◌, ◌≤◌, false, List, [], ◌∷◌, length, get_or, map, sym, ap, subst, ◌∙◌, arith, to_z, of_z, inl, inr}
 use Rattle.std.specs.Prelude.{◌⊎◌, slice_index_or, ℤ, pos, negsuc, nat_abs, int_lt, ◌+ℤ◌, ◌*ℤ◌, ◌≤ℤ◌}
 use Rattle.std.specs.Int.{w64}

@@ -1,4 +1,5 @@
--- The reasons against routes, ruled out one by one. For `verdict_on_routes` in src/routes.rt.
+-- After each test that finds nothing, the reasons against routes up to that test are ruled out. For `verdict_on_routes`
+-- in src/routes.rt.
 use Rattle.std.proofs.Common.{ℕ, ◌≤◌, arith}
 use Rattle.tsp_draft.specs.Fields.{Fields, nodes_of}
 use Rattle.tsp_task.specs.declared.verdict.Reason.{Reason}

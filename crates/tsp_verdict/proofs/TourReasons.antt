@@ -1,4 +1,5 @@
--- The reasons against a tour, ruled out one by one. For `Subject::verdict_on_tour` in src/subject.rt.
+-- After each test that finds nothing, the reasons against a tour up to that test are ruled out. For
+-- `Subject::verdict_on_tour` in src/subject.rt.
 use Rattle.std.proofs.Common.{◌≡◌, ℕ, ◌≤◌, true, length, Some, sym, ◌∙◌, arith}
 use Rattle.std.proofs.lemmas.Bool.{false≢true}
 use Rattle.tsp_format.specs.declared.kinds.Kind.TheVariants as kinds

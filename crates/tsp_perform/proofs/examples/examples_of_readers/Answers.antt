@@ -10,7 +10,7 @@ use Rattle.tsp_task.specs.declared.certificate.Certificate.{Certificate}
 use Rattle.tsp_perform.specs.Outcomes.{TakesNamed}
 use Rattle.tsp_perform.proofs.examples.examples_of_readers.Goals as goal
 
--- plan: each example is put together of its premises
+-- plan: each example is what its premises say of the readers and of the writer, one after the other
 pub returns-clause-instance : goal.returns-clause-instance
 returns-clause-instance g c = λ instance solution instance_left solution_left sink fault stops unread unwritten. (
   stops.0,

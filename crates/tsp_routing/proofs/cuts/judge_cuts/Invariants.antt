@@ -7,7 +7,8 @@ use Rattle.tsp_routing.specs.states.JudgedCuts.{IsFewCrossed}
 use Rattle.tsp_routing.proofs.FirstBadSet.{HaveCuts}
 use Rattle.tsp_routing.proofs.cuts.judge_cuts.Given as goal
 
--- each family before this one is a set of customers and has its numbers; no node has the mark of a later one
+-- each family before this one is a set of customers, with how often plans cross it; no node has the mark of a later
+-- family
 abbrev pub invariant-families : goal.invariant-families
 invariant-families l = record {
   places : length l.marks.items ≡ l.demands.nodes + 1;

@@ -10,7 +10,7 @@ use Rattle.tsp_routing.specs.states.Demands.{of_others}
 use Rattle.tsp_routing.proofs.CutNeeds.{others_sum, nodes_more, nodes_none}
 use Rattle.tsp_routing.proofs.given_back.customers_total.Goals as goal
 
--- plan: the sum so far is that of the nodes so far, the depot left out
+-- plan: the sum so far is that of the potentials of the nodes so far, without the depot's
 pub nodes-init : goal.nodes-init
 nodes-init c = record {
   size = (omega (arith, ints), omega (arith, ints));

@@ -14,7 +14,7 @@ use Rattle.tsp_routing.proofs.MultiplierSizes.{sizes_low}
 use Rattle.tsp_routing.proofs.SetProducts.{sizes_left, numbers_left}
 use Rattle.tsp_routing.proofs.given_back.limits_total.Goals as goal
 
--- plan: the sum and what is left to be summed is the whole; sizes of multipliers bound it
+-- plan: what the families so far give back, and what those left do, is the sum of all; sizes of multipliers bound it
 abbrev zero_crossed : Crossings
 zero_crossed = record { least = 0; most = 0 }
 

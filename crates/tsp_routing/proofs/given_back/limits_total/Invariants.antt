@@ -6,8 +6,8 @@ use Rattle.tsp_routing.specs.GoodLeaves.{sizes_total}
 use Rattle.tsp_routing.specs.states.GivenBack.{numbers_total}
 use Rattle.tsp_routing.proofs.given_back.limits_total.Given as goal
 
--- the sum so far and what the multipliers left give back make the whole; so far it is at most 2^33 times the sizes of
--- those before
+-- the sum so far, and what the multipliers left give back, are what all give back; so far it is at most 2^33 times the
+-- sizes of those before
 abbrev pub invariant-families : goal.invariant-families
 invariant-families l = record {
   low : (neg_ℤ (pos (2 ^ 33)) *ℤ (sizes_total l.multipliers -ℤ sizes_total (drop l.index l.multipliers))) ≤ℤ l.sum;

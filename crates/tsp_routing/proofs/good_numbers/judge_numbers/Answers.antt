@@ -8,7 +8,7 @@ use Rattle.tsp_routing.specs.GoodLeaves.{most_of_multipliers}
 use Rattle.tsp_routing.proofs.MultiplierSizes.{each_small}
 use Rattle.tsp_routing.proofs.good_numbers.judge_numbers.Goals as goal
 
--- plan: each part is within its limits or not, and then the sizes of the multipliers sum to few enough or not
+-- plan: by the potentials in their range, the multipliers in theirs, and the sum of the sizes of these within its limit
 pub returns-then-not-copy_within-2-clause-good : goal.returns-then-not-copy_within-2-clause-good
 returns-then-not-copy_within-2-clause-good c = (
   λ none. absurd (both_ways false refl none),

@@ -5,7 +5,7 @@ use Rattle.tsp_format.specs.Ranges.{IsFromTo}
 use Rattle.tsp_routing.specs.GoodLeaves.{most_of_multipliers, sizes_total}
 use Rattle.tsp_routing.proofs.good_numbers.sizes_total.Given as goal
 
--- the sum so far and the sizes left make the whole, within what as many multipliers can make
+-- the sum so far and the sizes left are the sum of all sizes, no more than as many multipliers can have
 abbrev pub invariant-multipliers : goal.invariant-multipliers
 invariant-multipliers l = record {
   size : IsFromTo (pos 0) (pos (l.multiplier-index * most_of_multipliers)) l.sum;

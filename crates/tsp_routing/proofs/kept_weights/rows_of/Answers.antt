@@ -6,7 +6,7 @@ use Rattle.tsp_routing.specs.states.KeptWeights.{AreFirstRows}
 use Rattle.tsp_routing.proofs.WeightRows.{weights_more}
 use Rattle.tsp_routing.proofs.kept_weights.rows_of.Goals as goal
 
--- plan: the rows so far with the next one are one row more
+-- plan: the rows so far with the row of the next node are the rows of one node more
 pub rows-preserved : goal.rows-preserved
 rows-preserved g c =
     let s = c.args.weights.now in

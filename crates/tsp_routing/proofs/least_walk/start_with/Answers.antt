@@ -7,7 +7,7 @@ use Rattle.tsp_routing.specs.declared.onward.Onward.{Onward}
 use Rattle.tsp_routing.proofs.WalkSizes.{get_same, known_sized, sum_low, sum_near, sum_real}
 use Rattle.tsp_routing.proofs.least_walk.start_with.Goals as goal
 
--- plan: the lower one of the start so far and that by this node
+-- plan: the lower one of the least weight so far and that of walks whose first customer is this node
 pub returns-then-is_below-clause-met : goal.returns-then-is_below-clause-met
 returns-then-is_below-clause-met g c = λ w default row so_far.
     let value = g.S.Sum.value in

@@ -3,7 +3,7 @@ use Rattle.std.proofs.Common.{◌≡◌, length}
 use Rattle.tsp_text.specs.Lines.{without_end}
 use Rattle.tsp_section.proofs.blanks.without_end.Given as goal
 
--- `front` without its blanks at the end is the text without its own
+-- the text without the blanks at its end is `front` without those at its end
 abbrev pub invariant-loop-last : goal.invariant-loop-last
 invariant-loop-last l = without_end l.front ≡ without_end l.text
 

@@ -5,7 +5,7 @@ use Rattle.std.specs.List.{range_with_len}
 use Rattle.tsp_theory.proofs.Lengths.{length_to, IsSumOf}
 use Rattle.tsp_theory.proofs.length.canonical_length.Given as goal
 
--- the length so far, and that from this node through the later ones back to node 1, make the whole
+-- the length so far, and that from this node through the later ones back to node 1, are the canonical length
 abbrev pub invariant-nodes : goal.invariant-nodes
 invariant-nodes g l = record {
   size : IsSumOf (l.node - 1) l.length;

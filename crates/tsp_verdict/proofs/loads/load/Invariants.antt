@@ -5,7 +5,7 @@ use Rattle.tsp_verdict.specs.Plan.{load_of}
 use Rattle.tsp_verdict.proofs.RouteLoads.{IsLoadOf}
 use Rattle.tsp_verdict.proofs.loads.load.Given as goal
 
--- the sum so far and what the nodes left demand make the whole
+-- the sum so far, and what the nodes left demand, are the demand of all nodes of the route
 abbrev pub invariant-nodes : goal.invariant-nodes
 invariant-nodes l = record {
   size : IsLoadOf l.node-index l.sum;

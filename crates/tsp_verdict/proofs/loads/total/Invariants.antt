@@ -6,7 +6,7 @@ use Rattle.tsp_verdict.specs.Plan.{load_of}
 use Rattle.tsp_verdict.proofs.RouteLoads.{IsLoadOf}
 use Rattle.tsp_verdict.proofs.loads.total.Given as goal
 
--- the sum so far and the demands left make the whole
+-- the sum so far and the demands of the nodes left are the demand of all nodes
 abbrev pub invariant-demands : goal.invariant-demands
 invariant-demands l = record {
   size : IsLoadOf l.demand-index l.sum;

@@ -7,7 +7,7 @@ use Rattle.tsp_verdict.specs.states.RouteLists.{nodes_in}
 use Rattle.tsp_verdict.specs.states.Sums.{IsSumOf}
 use Rattle.tsp_verdict.proofs.route_lengths.plan_length.Given as goal
 
--- the length so far and that of the routes left make the whole
+-- the length so far and that of the routes left are the length of the plan
 abbrev pub invariant-routes : goal.invariant-routes
 invariant-routes l = record {
   size : IsSumOf (length (nodes_in (take l.route-index l.routes)) + l.route-index) l.length;

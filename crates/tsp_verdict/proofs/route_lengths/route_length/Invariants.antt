@@ -8,7 +8,7 @@ use Rattle.tsp_verdict.specs.states.Sums.{IsSumOf}
 use Rattle.tsp_verdict.proofs.RouteLengths.{length_to}
 use Rattle.tsp_verdict.proofs.route_lengths.route_length.Given as goal
 
--- the length so far, and that from `from` through the nodes left back to the depot, make the whole
+-- the length so far, and that from `from` through the nodes left back to the depot, are the length of the route
 abbrev pub invariant-nodes : goal.invariant-nodes
 invariant-nodes l = record {
   from : IsNode (nodes_of l.inst) l.from;

@@ -6,7 +6,8 @@ use Rattle.tsp_read.specs.states.Paused.{HasBytes}
 use Rattle.tsp_read.proofs.FeedSteps.{fed_longer, comes_to, going_bytes, goes_on}
 use Rattle.tsp_read.proofs.feed.Feed.go_on.Goals as goal
 
--- plan: by what was read of the piece (`comes_to`), the bytes so far are those before and the piece (`goes_on`)
+-- plan: the items of the piece decide the stage (`comes_to`); the bytes so far are those before it and its own
+-- (`goes_on`)
 -- there are bytes that have come with the piece, too
 pub invariant_of-self : goal.invariant_of-self
 invariant_of-self c =

@@ -10,7 +10,7 @@ use Rattle.tsp_routing.specs.states.Demands.{of_others}
 use Rattle.tsp_routing.proofs.CutNeeds.{load_more, load_fits, others_sum, nodes_more, nodes_none}
 use Rattle.tsp_routing.proofs.demands.Demands.all.Goals as goal
 
--- plan: the sum so far is that of the nodes so far, and no demand is large
+-- plan: the sum so far is what the nodes so far demand, and fits 64 bits, since no demand is large
 pub nodes-init : goal.nodes-init
 nodes-init c = record {
   size = record { low = omega (arith, ints); high = omega (arith, ints) };

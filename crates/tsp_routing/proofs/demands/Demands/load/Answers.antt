@@ -6,7 +6,7 @@ use Rattle.tsp_theory.specs.Routing.{demand_of, load_of}
 use Rattle.tsp_routing.proofs.CutNeeds.{load_fits, load_more, sum_step}
 use Rattle.tsp_routing.proofs.demands.Demands.load.Goals as goal
 
--- plan: the sum so far and that of the nodes that are left is the whole
+-- plan: what the customers so far demand, and what those left demand, is the sum of all
 pub nodes-preserved : goal.nodes-preserved
 nodes-preserved c =
     let customers : List ℕ = c.args.customers.now in

@@ -5,7 +5,7 @@ use Rattle.tsp_theory.specs.Routing.{load_of}
 use Rattle.tsp_routing.proofs.CutNeeds.{IsLoadOf}
 use Rattle.tsp_routing.proofs.demands.Demands.load.Given as goal
 
--- the sum so far and what the customers left demand make the whole
+-- the sum so far, and what the customers left demand, are the demand of all
 abbrev pub invariant-nodes : goal.invariant-nodes
 invariant-nodes l = record {
   size : IsLoadOf l.node-index l.sum;

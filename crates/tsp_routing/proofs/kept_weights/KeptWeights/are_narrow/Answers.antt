@@ -8,7 +8,7 @@ use Rattle.tsp_cases.specs.states.Combed.{set_weight}
 use Rattle.tsp_routing.specs.Weights.{most_link}
 use Rattle.tsp_routing.proofs.kept_weights.KeptWeights.are_narrow.Goals as goal
 
--- plan: all rows so far have links of weights, and narrow ones where all of them were
+-- plan: the weights of all rows so far are within the limit of a link, and within 2^38 where each row so far was
 pub nodes-preserved : goal.nodes-preserved
 nodes-preserved g c =
     let s = c.args.self.now.weights.now in

@@ -5,7 +5,7 @@ use Rattle.tsp_format.specs.Nodes.{IsNode}
 use Rattle.tsp_theory.proofs.Lengths.{length_to, IsSumOf}
 use Rattle.tsp_theory.proofs.costs.Costs.length.Given as goal
 
--- the length so far, and that from `from` through the nodes left back to the first, make the whole
+-- the length so far, and that from `from` through the nodes left back to the first, are the length of the cycle
 abbrev pub invariant-nodes : goal.invariant-nodes
 invariant-nodes g l = record {
   from : IsNode (g.Self.Costs.nodes l.self) l.from;
