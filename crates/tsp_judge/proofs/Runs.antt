@@ -1,5 +1,5 @@
--- How a check of an instance and a solution ends: at the first file with a fault, without a verdict, or with one whose
--- bound fits the report. For `run` in src/checked.rt and others.
+-- How a check of an instance and a solution ends: at the first file with a fault, or with a verdict whose bound fits a
+-- report. For `run` in src/checked.rt and others.
 use Rattle.std.specs.Prelude.{ℤ, pos, negsuc, ◌≤◌, ◌^◌, unsigned_abs}
 use Rattle.std.proofs.Common.{◌≡◌, ℕ, [], length, Bool, true, false, Option, Some, None, Err, refl, sym, subst, inl, inr, arith}
 use Rattle.std.proofs.lemmas.Int.{ints}

@@ -1,5 +1,5 @@
--- The calls of the follower of a comparison, one for each solution in order: one call more, and those before the
--- solution that ends the comparison. For `compare_all` in src/compared.rt.
+-- The follower of a comparison is called once for each solution, in order. One call more, and those before the solution
+-- that ends the comparison. For `compare_all` in src/compared.rt.
 use Rattle.std.proofs.Common.{ℕ, ◌+◌, ◌<◌, ◌≤◌, List, add-one, arith}
 use Rattle.std.specs.Prelude.{Err}
 use Rattle.tsp_stream.specs.Turn.{Turn}

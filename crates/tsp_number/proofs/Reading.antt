@@ -1,5 +1,5 @@
--- The sign and the size that the code computes of a number word, and the number that the word means, within the limits
--- and past them. For `any_whole` in src/word.rt and others.
+-- The sign and the size that the code computes of a number word are the number that it means, within the limits and
+-- past them. For `any_whole` in src/word.rt and others.
 use Rattle.std.proofs.Common.{◌≡◌, ◌≢◌, ℕ, ◌+◌, ◌*◌, ◌^◌, ◌<◌, ◌≤◌, Bool, true, false, List, Option, Some, None, ℤ, pos, negsuc, ◌+ℤ◌, ◌*ℤ◌, ◌⊎◌, inl, inr, refl, arith, ap, sym, ◌∙◌, subst, suc, zero, unsigned_abs, pow-add, FitsSigned, w64, ◌<ℤ◌}
 use Rattle.std.proofs.Math.Nat.{mul-le-mul, eq_of_mul-eq-mul_right}
 use Rattle.std.proofs.lemmas.Int.{ints}

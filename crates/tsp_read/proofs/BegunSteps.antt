@@ -1,5 +1,5 @@
--- A line or a word that the end of a piece cuts: the bytes of it that are kept, and the item that it becomes with the
--- next piece. For `Begun::join` in src/begun.rt and others.
+-- A line or a word that the end of a piece cuts: its bytes are kept, and with the next piece it is an item. For
+-- `Begun::join` in src/begun.rt and others.
 use Rattle.std.proofs.Common.{◌≡◌, ℕ, ◌+◌, ◌<◌, ◌≤◌, Bool, true, false, List, [], ◌∷◌, ◌++◌, length, refl, sym, ap, subst, ◌∙◌, arith, Result, Ok, Err, append-nil, append_assoc, length-append}
 use Rattle.std.specs.Prelude.{not, ◌&&◌, ◌||◌, nat_lt, ◌↔◌, ◌==◌, IsOk, OnOk}
 use Rattle.std.proofs.lemmas.Bool.{true≢false, false≢true, ltb-false, lt-ltb, le-ltb, eqb-true}

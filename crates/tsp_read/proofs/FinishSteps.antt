@@ -1,5 +1,5 @@
--- The end of a text: the fault of the draft, with its first incomplete section, is that of the items, and a draft
--- without one is valid. For `Reading::finish` in src/state/finish.rt.
+-- At the end of a text the draft has the fault that the items have, and a draft without one is valid. For
+-- `Reading::finish` in src/state/finish.rt.
 use Rattle.std.proofs.Common.{◌≡◌, false, List, refl, sym, ap, ◌∙◌, Option, Some, None, Ok, Err}
 use Rattle.std.specs.Prelude.{is_some}
 use Rattle.std.proofs.Math.Logic.{∥∥₁_elim}

@@ -1,5 +1,5 @@
--- The answer of a reader that was read in pieces is that of the bytes it gave, and no piece was read past a settled
--- fault; the same of a text. For `file_of_bytes` and `file_of_reader` in src/read_whole.rt.
+-- The answer of a reader that was read in pieces is that of its bytes. No piece was read past a settled fault. For
+-- `file_of_bytes` and `file_of_reader` in src/read_whole.rt.
 use Rattle.std.proofs.Common.{◌≡◌, ℕ, false, List, [], ◌++◌, refl, sym, ap, subst, ◌∙◌, inl, inr, Option, Some, None, Result, Ok, Err, append-nil}
 use Rattle.std.specs.Prelude.{◌⊎◌, IfSome}
 use Rattle.std.specs.Io.KnownBytes.{Consumes, IsAtEnd}

@@ -1,4 +1,4 @@
--- One item that the reader takes: a line's end changes nothing, and a word or a line is one item more, with its number
+-- One item that the reader takes. A line's end changes nothing, and a word or a line is one item more, with its number
 -- in the line. For `take` in src/item.rt and others.
 use Rattle.std.proofs.Common.{◌≡◌, ℕ, Bool, false, List, ◌∷◌, refl, sym, subst, Option, Some, None, Ok, Err}
 use Rattle.tsp_section.specs.declared.fault.StepFault.{StepFault}

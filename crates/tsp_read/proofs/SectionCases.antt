@@ -1,4 +1,4 @@
--- The fields of the closed sections: a line that opens a section and a word leave them, and the end of a section adds
+-- The fields of the closed sections. A line that opens a section and a word leave them, and the end of a section adds
 -- its field. For `Reading::close` in src/state/reading.rt and others.
 use Rattle.std.proofs.Common.{◌≡◌, Bool, true, false, cond, List, ◌∷◌, refl, ap, ◌∙◌, Some}
 use Rattle.std.specs.Prelude.{ℕ}

@@ -1,5 +1,5 @@
--- The lines of keywords, as they are written: where the field is valid, no row of the table of faults applies to its
--- line, and its value is read back. For the law `canonical_texts_are_read_back` in src/round_trip.rt.
+-- The lines of keywords, as they are written. Where the field is valid, its line has no fault, and its value is read
+-- back. For the law `canonical_texts_are_read_back` in src/round_trip.rt.
 use Rattle.tsp_round.proofs.Onto.{has_value}
 use Rattle.std.proofs.Common.{◌≡◌, ℕ, ◌-◌, ◌^◌, ◌<◌, ◌≤◌, Bool, true, false, cond, List, [], ◌∷◌, ◌++◌, length, refl, sym, ap, ◌∙◌, arith, Option, Some, None, Result}
 use Rattle.std.specs.Prelude.{ℤ, pos, nat_le, nat_lt, slice_index, unsigned_abs, is_some}

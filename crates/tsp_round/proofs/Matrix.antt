@@ -1,5 +1,5 @@
--- The weights of a matrix as they are written, row by row of the layout: their lines have the weights as words, whatever the
--- lengths of the lines. For the law `canonical_texts_are_read_back` in src/round_trip.rt.
+-- The weights of a matrix as they are written, row by row of the layout. Their lines have the weights as words,
+-- whatever the lengths of the lines. For the law `canonical_texts_are_read_back` in src/round_trip.rt.
 use Rattle.std.proofs.Common.{◌≡◌, ℕ, Bool, true, List, [], ◌∷◌, map, sym, ap, subst, ◌∙◌, take, drop}
 use Rattle.std.specs.Prelude.{ℤ}
 use Rattle.std.specs.List.{list_all}

@@ -1,5 +1,5 @@
--- Items that are read after earlier ones, the last one first in the list: the values and words that number lines
--- change, and those that they leave. For the law `canonical_texts_are_read_back` in src/round_trip.rt.
+-- Items that are read after earlier ones, the last one first in the list. Number lines change the words of their
+-- section, and no values of keywords. For the law `canonical_texts_are_read_back` in src/round_trip.rt.
 use Rattle.std.proofs.Common.{◌≡◌, ℕ, Bool, true, false, cond, List, [], ◌∷◌, ◌++◌, reverse, refl, sym, ap, subst, ◌∙◌, append_assoc, append-nil, Some, None}
 use Rattle.std.specs.Prelude.{is_some, ◌||◌}
 use Rattle.std.proofs.lemmas.Bool.{false≢true}

@@ -1,4 +1,4 @@
--- Points by node as they are written, of the plane and in space: each coordinate is taken at its place, and the points
+-- Points by node as they are written, of the plane and in space. Each coordinate is taken at its place, and the points
 -- are read back. For the law `canonical_texts_are_read_back` in src/round_trip.rt.
 use Rattle.std.proofs.Common.{◌≡◌, ℕ, true, false, [], ◌∷◌, refl, sym, ap, ap₂, ◌∙◌, arith, None, Result, Ok}
 use Rattle.std.specs.Prelude.{ℤ, pos, ◌&&◌}

@@ -1,5 +1,5 @@
--- The line and the words of a section, as they are written: where the field is valid, no row of the table of faults
--- applies to them, and its entries are read back. For the law `canonical_texts_are_read_back` in src/round_trip.rt.
+-- The line and the words of a section, as they are written. Where the field is valid, none of them has a fault, and its
+-- entries are read back. For the law `canonical_texts_are_read_back` in src/round_trip.rt.
 use Rattle.std.proofs.Common.{◌≡◌, ℕ, ◌≤◌, Bool, true, false, cond, append_assoc, List, [], ◌∷◌, ◌++◌, refl, sym, ap, subst, ◌∙◌, Option, Some, None}
 use Rattle.std.specs.Prelude.{not, ◌&&◌, nat_lt, is_some}
 use Rattle.std.specs.Option.{option_map, option_map_or}

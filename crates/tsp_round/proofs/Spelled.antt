@@ -1,5 +1,5 @@
--- The value of a keyword with a word or a number, as it is written, is read back: the words of TYPE and others,
--- DIMENSION, CAPACITY, SCALE and LOAD_UNIT. For the law `canonical_texts_are_read_back` in src/round_trip.rt.
+-- The value of a keyword is read back as it is written: the words of TYPE and others, DIMENSION, CAPACITY, SCALE and
+-- LOAD_UNIT. For the law `canonical_texts_are_read_back` in src/round_trip.rt.
 use Rattle.std.proofs.Common.{◌≡◌, ℕ, ◌^◌, ◌<◌, true, List, refl, ap, ◌∙◌, arith, Option, Some, None, Result}
 use Rattle.std.specs.Prelude.{ℤ, pos, nat_abs}
 use Rattle.std.specs.Option.{option_map, option_and_then}

@@ -1,5 +1,5 @@
--- What the items of a whole text say of each field, of keywords and of sections, is what the file has; so they parse to
--- the file. For the law `canonical_texts_are_read_back` in src/round_trip.rt.
+-- What the items of a whole text say of each keyword and each section is what the file has. So they parse to the file.
+-- For the law `canonical_texts_are_read_back` in src/round_trip.rt.
 use Rattle.std.proofs.Common.{◌≡◌, ℕ, Bool, true, false, cond, List, [], refl, ap, ◌∙◌, Option, Some, None}
 use Rattle.std.specs.Prelude.{ℤ, nat_abs, is_some}
 use Rattle.std.specs.Option.{option_map, option_and_then}

@@ -1,5 +1,5 @@
--- Keywords with a list of accepted words, as they are written: no row of the table of faults applies to the line, and
--- the word is read back. For the law `canonical_texts_are_read_back` in src/round_trip.rt.
+-- Keywords with a list of accepted words, as they are written: the line has no fault, and the word is read back. For
+-- the law `canonical_texts_are_read_back` in src/round_trip.rt.
 use Rattle.std.proofs.Common.{◌≡◌, false, List, refl, Some, None}
 use Rattle.tsp_format.specs.declared.kinds.Kind.{Kind}
 use Rattle.tsp_format.specs.declared.kinds.Kind.TheVariants as kinds

@@ -1,5 +1,5 @@
--- A plan leaves a cut as often as it needs routes: each route that has a node of the cut leaves it, and carries no more than
--- the capacity. For the law `plans_leave_cuts` in src/laws.rt.
+-- A plan leaves a cut as often as it needs routes. Each route that has a node of the cut leaves it, and carries no more
+-- than the capacity. For the law `plans_leave_cuts` in src/laws.rt.
 use Rattle.std.proofs.Common.{◌≡◌, ℕ, zero, suc, ◌≤◌, ◌&&◌, ◌||◌, Bool, true, false, not, cond, List, [], ◌∷◌, ◌++◌, length, refl, sym, ap, ◌∙◌, arith, inl, inr}
 use Rattle.std.specs.Prelude.{min, max, if◌then◌else◌, ℤ, pos, ◌+ℤ◌, ◌*ℤ◌, ◌≤ℤ◌}
 use Rattle.std.specs.List.{AllByRecursion, concat, list_any}

@@ -1,5 +1,5 @@
--- The links of a plan: sums over their first nodes, and over their second ones, are sums over the customers and once
--- for each route over the depot. For the law `plan_links_add_up` in src/laws.rt.
+-- Sums over the links of a plan, by first nodes or by second ones, are over the customers and, once for each route, the
+-- depot. For the law `plan_links_add_up` in src/laws.rt.
 use Rattle.std.proofs.Common.{◌≡◌, ◌≢◌, ℕ, zero, suc, ◌+◌, ◌<◌, ◌≤◌, true, false, eqb, List, [], ◌∷◌, ◌++◌, length, refl, sym, ap, ◌∙◌, arith, inl, inr}
 use Rattle.std.specs.Prelude.{◌⊎◌, ℤ, pos, ◌+ℤ◌, ◌*ℤ◌}
 use Rattle.std.specs.List.{AllPairs, AllByRecursion, Contains, IsDistinct, concat, range_with_len, remove}

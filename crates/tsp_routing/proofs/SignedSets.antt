@@ -1,5 +1,5 @@
--- Crossings of single sets, times their multipliers, are no more than the sizes of these sum to; and equal loads and
--- weights have the same least walk. For `least_of_walks` in src/plan_leaf.rt and others.
+-- Crossings of single sets, times their multipliers, are no more than the sizes of these sum to. Equal loads and
+-- weights have one least walk. For `least_of_walks` in src/plan_leaf.rt and others.
 use Rattle.std.proofs.Common.{◌≡◌, ℕ, ◌≤◌, List, [], ◌∷◌, length, refl, sym, ap₂, ◌∙◌, subst, arith}
 use Rattle.std.specs.Prelude.{ℤ, pos, negsuc, neg_ℤ, unsigned_abs, ◌+ℤ◌, ◌≤ℤ◌, Option, Some, None}
 use Rattle.std.specs.List.{AllByRecursion}

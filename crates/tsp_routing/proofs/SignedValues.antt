@@ -1,5 +1,5 @@
--- An entry of a row of weights, after the multipliers of the sets that have both nodes are added, is the weight between
--- the two nodes. For `LeafWeights::fill_row` in src/leaf_weights.rt.
+-- The entry of a row, once the multipliers of sets that have both nodes are added, is the weight between the nodes. For
+-- `LeafWeights::fill_row` in src/leaf_weights.rt.
 use Rattle.std.proofs.Common.{◌≡◌, ℕ, ℤ, List, arith, sym, subst, FitsSigned}
 use Rattle.std.specs.Prelude.{pos, neg_ℤ, ◌-ℤ◌}
 use Rattle.std.specs.List.{All}

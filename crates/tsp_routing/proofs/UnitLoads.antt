@@ -1,4 +1,4 @@
--- The loads of a route are within the capacity in parts: demands rounded down to units one by one sum to no more than all do.
+-- The loads of a route are within the capacity in units: demands that are rounded down sum to no more than the demands.
 -- For the law `routes_are_walks` in src/laws.rt and others.
 use Rattle.std.proofs.Common.{◌≡◌, ℕ, zero, suc, ◌+◌, ◌*◌, ◌/◌, ◌≤◌, ◌==◌, false, List, [], ◌∷◌, refl, ap, arith, inl, inr}
 use Rattle.std.specs.Prelude.{if◌then◌else◌, nat_abs, ℤ, pos, negsuc, ◌≤ℤ◌}

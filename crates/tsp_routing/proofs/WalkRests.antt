@@ -1,5 +1,5 @@
--- The entries of the table of walks are at most what each walk weighs from a node on, by induction along the walk; and
--- some walk weighs that. For `entry` in src/least_walk.rt and others.
+-- The entries of the table of walks are at most what each walk weighs from a node on, by induction along the walk. Some
+-- walk weighs that. For `entry` in src/least_walk.rt and others.
 use Rattle.std.proofs.Common.{◌≡◌, ◌≢◌, ℕ, ◌-◌, ◌*◌, ◌≤◌, ◌==◌, List, [], ◌∷◌, length, refl, sym, ap, ◌∙◌, subst, arith, inl, inr}
 use Rattle.std.specs.Prelude.{Option, None, Some, MatchOption, if◌then◌else◌, ℤ, pos, ◌+ℤ◌, ◌≤ℤ◌}
 use Rattle.std.proofs.lemmas.Int.{ints}

@@ -1,5 +1,5 @@
--- What holds of the gathered list and of the list of lists, where the first was moved to the end of the second, gives
--- what holds of both. For `CombList::end_comb` and `CombList::end_set` in src/parts/combs.rt.
+-- A list was moved to the end of a list of lists. What held of either gives what holds after the move. For
+-- `CombList::end_comb` and `CombList::end_set` in src/parts/combs.rt.
 use Rattle.std.proofs.Common.{Result, Ok, Err}
 use Rattle.std.specs.Prelude.{MatchResult, OnOk}
 

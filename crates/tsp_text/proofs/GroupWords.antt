@@ -1,4 +1,4 @@
--- The words of a section in groups, as pairs or a node with its number: one word more begins a group, goes on with it
+-- The words of a section in groups, as pairs, or a node with its number. One word more begins a group, goes on with it
 -- or ends it. For `NumberList::push` in src/parts/numbers.rt of tsp_section and others.
 use Rattle.std.proofs.Common.{◌≡◌, ℕ, suc, ◌+◌, ◌*◌, ◌<◌, ◌≤◌, Bool, true, false, cond, ◌||◌, List, [], ◌∷◌, ◌++◌, length, map, refl, sym, ap, ◌∙◌, append_assoc, append-nil, arith}
 use Rattle.std.specs.Prelude.{◌==◌, ℤ, take}

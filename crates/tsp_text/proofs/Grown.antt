@@ -16,8 +16,8 @@ use Rattle.tsp_text.proofs.ValidSections.{same_field_is, nodes_kept, no_words}
 use Rattle.tsp_text.proofs.Opened.{was_opened}
 use Rattle.tsp_text.proofs.SpaceSteps.{space_kept}
 
--- What stays true of a section's words while they come; of the tours with any number of nodes, and of the points of nodes in a
--- spatial file or in another.
+-- What stays true of a section's words while they come. Of tours with any number of nodes; of points in a spatial file
+-- or in another.
 pub record Grows (in_space : Bool) (field : Field) (Q : ℕ → List (List ℕ) → Type 0) : Type 0 where
   pub none : (n : ℕ) → Q n []
   pub more : (b : Bool) → (same_field NodeCoordPart field ≡ true → b ≡ in_space) → (n : ℕ) (words : List (List ℕ)) (word : List ℕ) → Q n words

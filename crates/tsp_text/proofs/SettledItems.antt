@@ -1,5 +1,5 @@
--- The settled items of a text are those of every longer one: all but a last one that is longer than any may be, which may go
--- on. For the laws `settled_ends_stay` and `settled_faults_stay` in src/settled.rt.
+-- The settled items of a text are those of every longer one, but for a last one that is too long, which may go on. For
+-- the laws `settled_ends_stay` and `settled_faults_stay` in src/settled.rt.
 use Rattle.std.proofs.Common.{◌≡◌, ℕ, Bool, true, false, cond, List, [], ◌∷◌, ◌++◌, length, map, refl, sym, ap, subst, ◌∙◌, arith, inl, inr, length-append}
 use Rattle.std.specs.Prelude.{◌⊎◌, nat_lt}
 use Rattle.std.specs.List.{filter, slice_split, onto_first}

@@ -1,5 +1,5 @@
--- The tours of a section without a fault: none is empty, each node is one that some file can have, and all together are no more
--- than may be. For the laws `clean_fields_are_valid` and `spelled_files_are_valid` in src/validity.rt.
+-- The tours of a section without a fault: none is empty, each node is one that some file can have, and they are few
+-- enough. For the laws `clean_fields_are_valid` and `spelled_files_are_valid` in src/validity.rt.
 use Rattle.std.proofs.Common.{◌≡◌, ℕ, suc, ◌+◌, Bool, true, false, cond, List, [], ◌∷◌, ◌++◌, length, map, refl, sym, ap, ◌∙◌, arith, None}
 use Rattle.std.specs.Prelude.{not, ◌&&◌, ◌||◌, nat_le, nat_abs}
 use Rattle.std.specs.List.{list_all, filter, slice_split, onto_first, sum_by}

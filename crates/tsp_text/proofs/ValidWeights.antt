@@ -1,5 +1,5 @@
--- The weights of a matrix are valid: for no more nodes than a matrix may have, no more than n * n, and each of its size. For
--- the laws `spelled_files_are_valid` and `clean_fields_are_valid` in src/validity.rt.
+-- The weights of a matrix are valid: of no more nodes than a matrix may have, at most n * n, each in its range. For the
+-- laws `spelled_files_are_valid` and `clean_fields_are_valid` in src/validity.rt.
 use Rattle.std.proofs.Common.{◌≡◌, ℕ, ◌*◌, Bool, true, false, cond, List, [], ◌∷◌, ◌++◌, length, refl, sym, ap, subst, ◌∙◌, arith, None}
 use Rattle.std.specs.Prelude.{◌&&◌, nat_le, nat_lt, pos, neg_ℤ}
 use Rattle.std.specs.List.{list_all}

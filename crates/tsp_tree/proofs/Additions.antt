@@ -1,4 +1,4 @@
--- Numbers added to an entry, one after the other: the entry is the sum, as 64 bits wrap it, or is left where all of
+-- Numbers added to an entry one after the other. The entry is the sum, as 64 bits wrap it, or as it was where all of
 -- them are 0. For `lower` in src/weights.rt of tsp_bound and others.
 use Rattle.std.proofs.Common.{◌≡◌, ◌≢◌, ℕ, ◌==◌, List, FitsSigned, inl, inr, refl, ap, sym, subst, ◌∙◌, arith}
 use Rattle.std.specs.Int.{w64, int_wrap}

@@ -1,5 +1,5 @@
--- A tree that grows from node 2, with a list of the nodes outside: the pairs so far, the nearest node inside for each
--- one outside, and one node more. For `grow` in src/growth.rt.
+-- A tree that grows from node 2, with a list of the nodes outside and the nearest node inside for each: one node more.
+-- For `grow` in src/growth.rt.
 use Rattle.std.proofs.Common.{◌≡◌, ◌≢◌, ℕ, ◌+◌, ◌-◌, ◌<◌, ◌≤◌, ◌==◌, Bool, true, false, List, [], ◌∷◌, ◌++◌, length, slice_index, inl, inr, refl, ap, sym, subst, ◌∙◌, arith, length-append}
 use Rattle.std.specs.Prelude.{ℤ, pos, ◌+ℤ◌, ◌≤ℤ◌, ◌<ℤ◌, ◌⊎◌}
 use Rattle.std.specs.List.{swap_remove}
@@ -23,8 +23,8 @@ part_of pairs = grown_by (λ x. x == 2) pairs
 abbrev pub IsWeightFrom : (ℕ → ℕ → ℤ) → (ℕ → Bool) → ℕ → ℕ → ℤ → Type 0
 IsWeightFrom w part node near weight = (part near ≡ true) × (weight ≡ w near node)
 
--- The state of a growth: the pairs so far and what they weigh; and the nodes that they don't reach, each once, with the nearest
--- one that they reach and the weight between the two.
+-- The state of a growth: the pairs so far and what they weigh. Each node that they don't reach is listed once, with the
+-- nearest one that they reach and the weight between the two.
 pub record IsState (n : ℕ) (w : ℕ → ℕ → ℤ) (outside near : List ℕ) (least : List ℤ) (pairs : List (ℕ × ℕ)) (weight : ℤ) : Type 0 where
   pub grows : Grows (IsInner n) w (λ x. x == 2) pairs
   pub weight_is : weight ≡ weight_of w pairs

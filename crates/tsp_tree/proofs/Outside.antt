@@ -1,5 +1,5 @@
--- A list of the nodes outside a growing tree, with the least weight to each: what a pass over the list finds, and the
--- list without the node that was taken. For `bring` in src/growth.rt and others.
+-- A list of the nodes outside a growing tree, with the least weight to each: one pass over it, and one node taken from
+-- it. For `bring` in src/growth.rt and others.
 use Rattle.std.proofs.Common.{◌≡◌, ◌≢◌, ℕ, ◌+◌, ◌-◌, ◌<◌, ◌≤◌, ◌==◌, List, [], ◌∷◌, ◌++◌, length, slice_index, get_or, inl, inr, refl, ap, sym, subst, ◌∙◌, arith, length-append}
 use Rattle.std.specs.Prelude.{ℤ, pos, ◌≤ℤ◌, ◌<ℤ◌, ◌⊎◌, if◌then◌else◌}
 use Rattle.std.specs.List.{swap_remove}

@@ -1,5 +1,5 @@
--- A certificate's bound for the costs that the code looks up is its bound for the costs of the instance, which are the
--- same between all nodes. For `assignment_bound` and `tree_bound` in src/potentials_bound.rt.
+-- A certificate's bound for the costs that the code looks up is its bound for the instance, whose costs are the same.
+-- For `assignment_bound` and `tree_bound` in src/potentials_bound.rt.
 use Rattle.std.proofs.Common.{◌≡◌, ℕ, List, [], ◌∷◌, get_or, inl, inr, refl, sym, ap, ap₂, subst, subst₂, ◌∙◌, arith}
 use Rattle.std.specs.Prelude.{Some, ◌≤◌, length, unwrap_or, ℤ, ◌+ℤ◌, ◌-ℤ◌, ◌*ℤ◌, ◌≤ℤ◌, ◌<ℤ◌}
 use Rattle.std.specs.List.{All}

@@ -1,5 +1,5 @@
--- The families of a valid file are sets of its nodes, no more than a file may have; how often cycles cross them is one
--- list of numbers. For `judge_tree` in src/branching_bound.rt and others.
+-- The families of a valid file are sets of its nodes, and few enough. How often cycles cross them is one list of
+-- numbers. For `judge_tree` in src/branching_bound.rt and others.
 use Rattle.std.proofs.Common.{◌≡◌, ℕ, ◌<◌, ◌≤◌, List, [], ◌∷◌, length, refl, ap₂, arith}
 use Rattle.std.specs.Prelude.{◌^◌}
 use Rattle.std.specs.Global.{Vec}

@@ -2,8 +2,7 @@
 use Rattle.tsp_judge.proofs.CompareMeaning.{bounded_line}
 use Rattle.tsp_judge.proofs.compare_laws.lines_of_bounded_tours.Goals as goal
 
--- plan: the line has a tour that is accepted with its bound, so no tour is shorter than that (`bounded_line`), be it
--- the length or less
+-- plan: the line has a tour that is accepted with this bound, so no tour is shorter than the bound (`bounded_line`)
 pub returns-clause-optimal : goal.returns-clause-optimal
 returns-clause-optimal c = λ common turn by certificate length. bounded_line common turn by certificate length length
 

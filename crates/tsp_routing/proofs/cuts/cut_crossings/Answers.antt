@@ -16,8 +16,7 @@ use Rattle.tsp_routing.specs.states.Demands.{loads_problem}
 use Rattle.tsp_routing.proofs.CustomerSets.{few_customers, one_list, nodes_inside, depot_inside, is_one_set, customers_of}
 use Rattle.tsp_routing.proofs.cuts.cut_crossings.Goals as goal
 
--- plan: each node gets a new mark, so none comes twice; the depot without one isn't in the set, which is a set of
--- customers then (`good`)
+-- plan: each node gets a new mark, so none comes twice. If the depot has none, the set is of customers (`good`)
 pub returns-then-marks-demands-clause-found : goal.returns-then-marks-demands-clause-found
 returns-then-marks-demands-clause-found c =
     let nodes : List ℕ = c.as_slice-customers.result.now in

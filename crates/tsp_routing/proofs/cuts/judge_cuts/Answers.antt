@@ -18,8 +18,8 @@ use Rattle.tsp_routing.specs.states.JudgedCuts.{IsFewCrossed, AreCutNumbers}
 use Rattle.tsp_routing.proofs.FirstBadSet.{HaveCuts, cuts_more, good_so_far, all_cuts, first_bad, lone_numbers, lone_hold, all_lone, all_once, few_sets}
 use Rattle.tsp_routing.proofs.cuts.judge_cuts.Goals as goal
 
--- plan: the loop has how often plans cross each family before this one; at its end these are all families, and a bad
--- one that it finds is the first
+-- plan: the loop has how often plans cross each family before this one. A bad family that it finds is the first; at its
+-- end there is none
 pub families-preserved : goal.families-preserved
 families-preserved c =
     let h = c.families.invariant in

@@ -8,8 +8,7 @@ use Rattle.tsp_routing.proofs.WalkEntries.{nowhere_low}
 use Rattle.tsp_routing.proofs.WalkRests.{entry_low, entry_met, nowhere_met}
 use Rattle.tsp_routing.proofs.least_walk.entry.Goals as goal
 
--- plan: no walk goes to the depot, or to a node whose load is more than what is left; else the best entry by those of
--- the next nodes
+-- plan: no walk goes to the depot, or to a load above what is left; else the best entry by those of the next nodes
 pub returns-then-node-walks-clause-low : goal.returns-then-node-walks-clause-low
 returns-then-node-walks-clause-low g c = λ rows customer. absurd (customer.1 c.if-node-walks.true)
 

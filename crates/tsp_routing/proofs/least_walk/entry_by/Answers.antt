@@ -10,8 +10,7 @@ use Rattle.tsp_routing.proofs.WalkSizes.{get_same, known_sized, sum_low, sum_nea
 use Rattle.tsp_routing.proofs.WalkEntries.{below_more, met_more}
 use Rattle.tsp_routing.proofs.least_walk.entry_by.Goals as goal
 
--- plan: a step to the next node, and the least weight on from there, or the other one where the least comes back to
--- this node
+-- plan: a step to the next node, and its least weight on, or the other one where that comes back to this node
 pub returns-clause-below : goal.returns-clause-below
 returns-clause-below g c = λ w default row so_far.
     let value = g.S.Sum.value in

@@ -3,7 +3,7 @@ use Rattle.std.proofs.Common.{◌≡◌, ◌+◌, length}
 use Rattle.tsp_routing.specs.states.Onwards.{load_at, AreRowsSized, AreRowsLow, AreRowsMet}
 use Rattle.tsp_routing.proofs.least_walk.least_walk.Given as goal
 
--- the table has a row for each load before this one: its entries are at most each rest of a walk, and one rest has that
+-- the table has a row for each load before this one. Its entries are at most each rest of a walk, and one rest has that
 -- weight
 abbrev pub invariant-loads : goal.invariant-loads
 invariant-loads g l =

@@ -9,8 +9,8 @@ use Rattle.tsp_routing.specs.declared.onward.Onward.{Onward}
 use Rattle.tsp_routing.specs.states.Onwards.{entry_at, IsEntryNumber, IsRowSized}
 use Rattle.tsp_routing.proofs.least_walk.start_by.Given as goal
 
--- `least` is at most what each step from the depot to a customer up to `index` weighs with its rest, and that of one, or
--- none
+-- `least` is at most what a step from the depot to each customer up to `index` weighs with its entry. One of them
+-- weighs that, or there is none
 abbrev pub invariant-nodes : goal.invariant-nodes
 invariant-nodes g l =
     let value = g.S.Sum.value in

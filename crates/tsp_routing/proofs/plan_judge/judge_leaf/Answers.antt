@@ -14,7 +14,7 @@ use Rattle.tsp_routing.specs.states.PlanRooms.{IsFoundOfFew}
 use Rattle.tsp_routing.proofs.PlanJudging.{found_of_plan_leaf, plan_numbers_read, plan_numbers_kept}
 use Rattle.tsp_routing.proofs.plan_judge.judge_leaf.Goals as goal
 
--- plan: the numbers that were judged are those that are kept, so what is found of the leaf with these is found of the case
+-- plan: the numbers that were judged are those of the leaf, so what is found with them is found of its case
 -- (`found_of_plan_leaf`)
 pub returns-then-not-few-clause-judged : goal.returns-then-not-few-clause-judged
 returns-then-not-few-clause-judged g c =

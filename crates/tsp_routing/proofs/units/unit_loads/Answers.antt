@@ -12,8 +12,7 @@ use Rattle.tsp_routing.specs.states.Onwards.{load_at}
 use Rattle.tsp_routing.proofs.LightNodes.{load_is}
 use Rattle.tsp_routing.proofs.units.unit_loads.Goals as goal
 
--- plan: the load just written is that of its node (`load_is`), and the others are as they were; at the end so is the
--- capacity in parts
+-- plan: the load just written is that of its node (`load_is`), and the other loads are as they were
 pub nodes-preserved : goal.nodes-preserved
 nodes-preserved c =
     let loads : List ℕ = c.nodes.loads.items in

@@ -4,8 +4,8 @@ use Rattle.tsp_stream.specs.states.WriteProgress.{way_of}
 use Rattle.tsp_stream.proofs.Carrying.{carried_sent}
 use Rattle.tsp_stream.proofs.piece.hand_over.Goals as goal
 
--- plan: the bytes of the piece are with the writer, or a prefix where it fails; the text is the same and the piece
--- empty (`carried_sent`)
+-- plan: the bytes of the piece are with the writer, or a prefix of them where it fails, and the piece is empty
+-- (`carried_sent`)
 pub returns-clause-carried : goal.returns-clause-carried
 returns-clause-carried g c =
     carried_sent (way_of g.W.Write.contents c.args.out.now c.args.piece.now.items) (way_of g.W.Write.contents c.send.new.out c.clear.new.self.items)

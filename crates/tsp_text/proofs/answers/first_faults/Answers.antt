@@ -2,8 +2,7 @@
 use Rattle.tsp_text.proofs.FirstFaults.{found_first, first_found, none_has_row, clean_items}
 use Rattle.tsp_text.proofs.answers.first_faults.Goals as goal
 
--- plan: by the items, one more at a time: a fault of an earlier item stays the first; else the row of the next item
--- decides
+-- plan: item by item: a fault of an earlier item stays the first; else the row of the next item decides
 pub returns-clause-found : goal.returns-clause-found
 returns-clause-found c = λ items found e. found_first items found e
 

@@ -5,8 +5,8 @@ use Rattle.tsp_verdict.specs.states.Marks.{Marked}
 use Rattle.tsp_verdict.specs.states.RouteLists.{nodes_in}
 use Rattle.tsp_verdict.proofs.visits.mark_all.Given as goal
 
--- the nodes of the routes before this one are marked, and no others; no two of them are the same, and `before` is how many
--- they are
+-- just the nodes of the routes before this one are marked; no two of them are the same, and `before` is how many they
+-- are
 abbrev pub invariant-routes : goal.invariant-routes
 invariant-routes l = record {
   counted : l.before ≡ length (nodes_in (take l.route-index l.routes));
