@@ -3,7 +3,7 @@
 use Rattle.std.proofs.Common.{◌≡◌, ◌≢◌, ℕ, zero, suc, ◌<◌, ◌==◌, Bool, true, false, not, cond, List, [], ◌∷◌, ◌++◌, ℤ, ◌≤ℤ◌, ◌⊎◌, inl, inr, refl, ap, sym, ◌∙◌, subst, get_or, set}
 use Rattle.std.specs.List.{All}
 use Rattle.std.proofs.lemmas.Bool.{false≢true, eqb-true, eq-eqb, ne_eqb}
-use Rattle.std.proofs.lemmas.List.Elements.{All-nil, All-push, All-weaker}
+use Rattle.std.proofs.lemmas.List.Elements.{All-push, All-weaker}
 use Rattle.tsp_theory.specs.Tree.{crosses}
 use Rattle.tsp_theory.specs.Forest.{AreLeastJoins}
 use Rattle.tsp_theory.proofs.Forests.{joins_more}
@@ -26,17 +26,6 @@ joining_start n w label new met added forest = record {
   joins = forest.joins;
   ends = forest.ends;
   within = All-weaker (λ pair. label pair.0 ≡ label pair.1) (IsWithin label new met) (λ pair same. inl same) added forest.within;
-}
-
-pub joining_end : (n : ℕ) (w : ℕ → ℕ → ℤ) (label new : ℕ → ℕ) (met : ℕ → Bool) (added : List (ℕ × ℕ)) → IsJoining n w label new met added
-    → IsForest n w (λ x. new (label x)) added
-joining_end n w label new met added h = record {
-  joins = h.joins;
-  ends = h.ends;
-  within = All-weaker (IsWithin label new met) (λ pair. new (label pair.0) ≡ new (label pair.1)) (λ pair within. elim within [
-    | inl same ↦ ap new same
-    | inr both ↦ both.2
-  ]) added h.within;
 }
 
 -- a pair with both ends in a part, or neither, doesn't cross it
@@ -90,25 +79,6 @@ joining_more n w label old new before met added c link h least free kept met_c m
           (inr (ap met l.from_is ∙ met_c, met_to, ap new l.from_is ∙ (taken ∙ sym (other (label link.to) l.to_out))));
     }
 
--- no pair yet
-pub forest_start : (n : ℕ) (w : ℕ → ℕ → ℤ) (label : ℕ → ℕ) → IsForest n w label []
-forest_start n w label = record {
-  joins = tt;
-  ends = All-nil (λ pair. (pair.0 < n) × (pair.1 < n));
-  within = All-nil (λ pair. label pair.0 ≡ label pair.1);
-}
-
--- labels that are equal at each place
-pub forest_relabelled : (n : ℕ) (w : ℕ → ℕ → ℤ) (label other : ℕ → ℕ) (added : List (ℕ × ℕ)) → ((x : ℕ) → x < n → other x ≡ label x)
-    → IsForest n w label added → IsForest n w other added
-forest_relabelled n w label other added same h = record {
-  joins = h.joins;
-  ends = h.ends;
-  within = λ k d low.
-      let ends = h.ends k d low in
-      same (get_or added k d).0 ends.0 ∙ (h.within k d low ∙ sym (same (get_or added k d).1 ends.1));
-}
-
 -- ---- in the form of the goals of `join`
 
 pub set_kept : (marks : List Bool) (i x : ℕ) → get_or marks x false ≡ true → get_or (set marks i true) x false ≡ true
@@ -117,8 +87,3 @@ set_kept (b ∷ bs) zero zero h = refl
 set_kept (b ∷ bs) zero (suc x) h = h
 set_kept (b ∷ bs) (suc i) zero h = h
 set_kept (b ∷ bs) (suc i) (suc x) h = set_kept bs i x h
-
-pub forest_seen : (m n : ℕ) (v w : ℕ → ℕ → ℤ) (label other : ℕ → ℕ) (added : List (ℕ × ℕ)) → m ≡ n → v ≡ w → ((x : ℕ) → x < m → other x ≡ label x)
-    → IsForest m v label added → IsForest n w other added
-forest_seen m n v w label other added p q same h = subst (λ (k : ℕ). IsForest k w other added) p
-    (subst (λ (u : ℕ → ℕ → ℤ). IsForest m u other added) q (forest_relabelled m v label other added same h))

@@ -34,26 +34,6 @@ leaving_kept n w label x link x_in h out = record {
   weight_is = subst (λ (k : ℕ). link.weight ≡ w k link.to) (sym h.from_is) h.weight_is;
 }
 
--- components only grow, so a link that was least out of a smaller component weighs no more than those out of it now
-pub kept_relabelled : (n : ℕ) (w : ℕ → ℕ → ℤ) (label new other : ℕ → ℕ) (known : List Link) → ((x : ℕ) → x < n → other x ≡ new (label x))
-    → AreKept n w label known → AreKept n w other known
-kept_relabelled n w label new other known same h = record {
-  len = h.len;
-  each = λ x d x_in.
-      let own = h.each x d x_in in
-      record {
-        from_is = own.from_is;
-        to_in = own.to_in;
-        weight_is = own.weight_is;
-        least = λ y y_in out. own.least y y_in (λ e. out (same y y_in ∙ (ap new e ∙ sym (same x x_in))));
-      };
-}
-
-pub kept_seen : (m n : ℕ) (v w : ℕ → ℕ → ℤ) (label new other : ℕ → ℕ) (known : List Link) → m ≡ n → v ≡ w → ((x : ℕ) → x < m → other x ≡ new (label x))
-    → AreKept m v label known → AreKept n w other known
-kept_seen m n v w label new other known p q same h = subst (λ (k : ℕ). AreKept k w other known) p
-    (subst (λ (u : ℕ → ℕ → ℤ). AreKept m u other known) q (kept_relabelled m v label new other known same h))
-
 pub kept_set : (n : ℕ) (w : ℕ → ℕ → ℤ) (label : ℕ → ℕ) (known : List Link) (x : ℕ) (link : Link) → x < n → AreKept n w label known → IsKeptLink n w label x link
     → AreKept n w label (set known x link)
 kept_set n w label known x link x_in h own = record {

@@ -148,18 +148,6 @@ listed_seen n w first last from next new_first new_last new_from new_next links 
   known = λ x y less y_in is. h.known x y less y_in (seen x y less y_in is);
 }
 
-pub row_begun : (n : ℕ) (w : ℕ → ℕ → ℤ) (first last from start : ℕ) (links : List Link) (bounds : List ℤ) → ((first ≡ start) ⊎ (from + 1 ≡ start))
-    → AreOffered n w first last from 0 links bounds → AreOffered n w first last from start links bounds
-row_begun n w first last from start links bounds start_is = listed_seen n w first last from 0 first last from start links bounds again
-  where
-    again : (x y : ℕ) → x < y → y < n → IsSeen first last from start x y → IsSeen first last from 0 x y
-    again x y less y_in (inl low) = inl low
-    again x y less y_in (inr (inl row)) = inr (inl row)
-    again x y less y_in (inr (inr own)) = elim start_is [
-      | inl is ↦ let below = own.1 in inl (omega (arith, below, is))
-      | inr is ↦ absurd (omega (arith, own.0, own.1, less, is))
-    ]
-
 pub row_ended : (n : ℕ) (w : ℕ → ℕ → ℤ) (first last from next : ℕ) (links : List Link) (bounds : List ℤ) → last ≤ next
     → AreOffered n w first last from next links bounds → AreOffered n w first last (from + 1) 0 links bounds
 row_ended n w first last from next links bounds all = listed_seen n w first last from next first last (from + 1) 0 links bounds again
@@ -170,24 +158,6 @@ row_ended n w first last from next links bounds all = listed_seen n w first last
       | inl same ↦ let below = row.0 in inr (inr (same, omega (arith, below, all)))
       | inr other ↦ let before = row.1 in inr (inl (row.0, omega (arith, before, other)))
     ]
-    again x y less y_in (inr (inr own)) = absurd (omega (arith, own.1))
-
-pub columns_begun : (n : ℕ) (w : ℕ → ℕ → ℤ) (first last : ℕ) (links : List Link) (bounds : List ℤ)
-    → AreOffered n w first 0 0 0 links bounds → AreOffered n w first last 0 0 links bounds
-columns_begun n w first last links bounds = listed_seen n w first 0 0 0 first last 0 0 links bounds again
-  where
-    again : (x y : ℕ) → x < y → y < n → IsSeen first last 0 0 x y → IsSeen first 0 0 0 x y
-    again x y less y_in (inl low) = inl low
-    again x y less y_in (inr (inl row)) = absurd (omega (arith, row.1))
-    again x y less y_in (inr (inr own)) = absurd (omega (arith, own.1))
-
-pub columns_ended : (n : ℕ) (w : ℕ → ℕ → ℤ) (first last from : ℕ) (links : List Link) (bounds : List ℤ) → last ≤ from
-    → AreOffered n w first last from 0 links bounds → AreOffered n w last 0 0 0 links bounds
-columns_ended n w first last from links bounds all = listed_seen n w first last from 0 last 0 0 0 links bounds again
-  where
-    again : (x y : ℕ) → x < y → y < n → IsSeen last 0 0 0 x y → IsSeen first last from 0 x y
-    again x y less y_in (inl low) = inr (inl (low, omega (arith, low, less, all)))
-    again x y less y_in (inr (inl row)) = absurd (omega (arith, row.1))
     again x y less y_in (inr (inr own)) = absurd (omega (arith, own.1))
 
 -- the node at a place of a part
@@ -241,14 +211,3 @@ kept_link n w label from links bounds link from_in fits some listed own least be
       | inl before ↦ (listed.known x from before from_in (inl from_in)).1
       | inr after ↦ (listed.known from x (omega (arith, after, other)) x_in (inl x_in)).0
     ]
-
--- a link that weighs no more than each link to another component
-pub kept_least : (n : ℕ) (w : ℕ → ℕ → ℤ) (label : ℕ → ℕ) (from : ℕ) (best : Option Link) → IfSome best (IsEnding n w label from)
-    → ((x : ℕ) → x < n → label x ≢ label from → IsReached best (w from x)) → IfSome best (IsKeptLink n w label from)
-kept_least n w label from None ending least = tt
-kept_least n w label from (Some link) ending least = record {
-  from_is = ending.from_is;
-  to_in = ending.to_in;
-  weight_is = ending.weight_is;
-  least = least;
-}

@@ -1,6 +1,6 @@
 -- The nearest node of another component, where multipliers lower the weights to listed nodes. For `Placed::lowered` and
 -- `Placed::nearest` in src/placed.rt.
-use Rattle.std.proofs.Common.{◌≡◌, ◌≢◌, ℕ, zero, suc, ◌+◌, ◌<◌, Bool, true, List, [], ◌∷◌, length, ℤ, ◌≤ℤ◌, ◌⊎◌, inl, inr, refl, arith, ap, sym, subst, ◌∙◌}
+use Rattle.std.proofs.Common.{◌≡◌, ◌≢◌, ℕ, zero, suc, ◌+◌, ◌<◌, Bool, true, List, [], ◌∷◌, length, ℤ, ◌≤ℤ◌, ◌⊎◌, inl, inr, arith, ap, sym, subst, ◌∙◌}
 use Rattle.std.specs.Int.{w64}
 use Rattle.std.specs.Prelude.{slice_index_or, FitsSigned}
 use Rattle.std.proofs.lemmas.Bool.{cases_eq}
@@ -37,15 +37,6 @@ pub record IsLowest (n : ℕ) (v : ℕ → ℕ → ℤ) (listed order places : L
   pub seen : (k : ℕ) → k < count → IsInner n (node_in listed k) → outside (slice_index_or places (node_in listed k) 0) ≡ true
       → best.weight ≤ℤ v from (node_in listed k)
   pub found : (best ≡ old) ⊎ IsFound v order outside from best
-
-pub lowest_start : (n : ℕ) (v : ℕ → ℕ → ℤ) (listed order places : List ℕ) (outside : ℕ → Bool) (from : ℕ) (old : Best)
-    → FitsSigned w64 old.weight → IsLowest n v listed order places outside from 0 old old
-lowest_start n v listed order places outside from old fits = record {
-  fits = fits;
-  kept = omega (arith, ints);
-  seen = λ k low inner out. absurd (omega (arith, low));
-  found = inl refl;
-}
 
 -- one listed node more, whose weight is no lower than the best
 pub lowest_kept : (n : ℕ) (v : ℕ → ℕ → ℤ) (listed order places : List ℕ) (outside : ℕ → Bool) (from count : ℕ) (old best : Best) (node : ℕ) → node_in listed count ≡ node

@@ -1,13 +1,11 @@
 -- A least tree that is found over the places of an order is one over its nodes, with the same weight. For `grow` and
 -- `weighed` in src/part.rt and others.
 use Rattle.std.proofs.Common.{◌≡◌, ℕ, ◌+◌, ◌*◌, ◌^◌, ◌<◌, ◌≤◌, List, [], ◌∷◌, ◌++◌, map, take, length, get_or, ℤ, refl, arith, ap, sym, ◌∙◌, subst, Option, Result, Ok, Err, IfOk, IfSome}
-use Rattle.std.specs.Prelude.{pos, neg_ℤ, ◌-ℤ◌, slice_index_or}
+use Rattle.std.specs.Prelude.{pos, neg_ℤ, slice_index_or}
 use Rattle.std.specs.Global.{Vec}
 use Rattle.std.proofs.lemmas.Int.{ints}
 use Rattle.std.proofs.lemmas.List.{take_more, map-append, length-map}
 use Rattle.tsp_format.specs.Limits.{most_nodes}
-use Rattle.tsp_format.specs.Nodes.{IsNode}
-use Rattle.tsp_theory.specs.Adjusted.{numbers_on, adjusted}
 use Rattle.tsp_bound.specs.states.Boxes.{node_of}
 use Rattle.tsp_bound.specs.states.Numbering.{IsNumbering, on_both}
 use Rattle.tsp_theory.specs.CertificateNumbers.{IsFromTo, IsSumSized}
@@ -20,10 +18,6 @@ pub map_more : (f : ℕ × ℕ → ℕ × ℕ) (xs : List (ℕ × ℕ)) (i : ℕ
 map_more f xs i d low = ap (map f) (take_more xs i d low) ∙ map-append f (take i xs) (get_or xs i d ∷ [])
 
 -- ---- the weight of a pair, less its multiplier
-
-pub less_value : (triples : List (ℕ × ℕ × ℤ)) (w : ℕ → ℕ → ℤ) (from to : ℕ) (weight number : ℤ) → weight ≡ w from to → number ≡ numbers_on triples from to
-    → weight -ℤ number ≡ adjusted triples [] w from to
-less_value triples w from to weight number weight_is number_is = omega (arith, ints, weight_is, number_is)
 
 -- the pairs over places, renamed to nodes, are a forest over all nodes with its weight
 pub whole_size : (n : ℕ) (w : ℕ → ℕ → ℤ) (pairs : List (ℕ × ℕ)) (sum : ℤ) → n ≤ most_nodes → 2 + length pairs ≡ n → IsSumSized (length pairs) sum
@@ -55,9 +49,6 @@ spanning_seen order seen w shown result same_order same_weights g =
     (subst (λ (k : ℕ → ℕ → ℤ). IfOk result (λ found. IfSome found (λ pairs. IsSpanning (length seen) (λ i j. k (node_of seen i) (node_of seen j)) pairs.items))) same_weights g)
 
 -- ---- in the form of the goals of part.rt
-
-pub is_node : (order : List ℕ) (place : ℕ → ℕ) (last : ℕ) → IsNumbering (length order) (IsInner last) (node_of order) place → (j : ℕ) → j < length order → IsNode last (node_of order j)
-is_node order place last num j h = let inner = num.node_in j h in (omega (arith, inner.0), inner.1)
 
 pub if_ok_more : {X Y : Type 0} (r : Result X Y) (P Q : X → Type 0) → ((x : X) → P x → Q x) → IfOk r P → IfOk r Q
 if_ok_more (Ok x) P Q more p = more x p

@@ -148,15 +148,6 @@ searched_both w places outside from v near far old half new inner is its differe
   found = found_after w places outside from near far old half new first second;
 }
 
--- a search that begins with the best of an earlier one
-pub searched_after : (w : ℕ → ℕ → ℤ) (places : List ℕ) (outside : ℕ → Bool) (from : ℕ) (u v : ℕ) (old half new : Best)
-    → IsSearched w places outside from u old half → IsSearched w places outside from v half new → IsSearched w places outside from v old new
-searched_after w places outside from u v old half new first second = record {
-  kept = let a = first.kept in let b = second.kept in omega (arith, ints, a, b);
-  below = second.below;
-  found = found_after w places outside from u v old half new first second;
-}
-
 -- what the search of the box 1 says of each place outside
 pub searched_all : (w : ℕ → ℕ → ℤ) (places : List ℕ) (outside : ℕ → Bool) (from : ℕ) (old new : Best) → IsSearched w places outside from 1 old new
     → (j : ℕ) → j < length places → outside j ≡ true → new.weight ≤ℤ w from (node_of places j)

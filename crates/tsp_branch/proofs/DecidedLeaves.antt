@@ -16,7 +16,7 @@ use Rattle.tsp_cases.proofs.Changes.{changes_are, within}
 use Rattle.tsp_cases.proofs.DecidedOnce.{few_changes}
 use Rattle.tsp_cases.proofs.OpenCases.{changes_listed}
 use Rattle.tsp_cases.proofs.SetAlgebra.{moved_to}
-use Rattle.tsp_theory.proofs.Nearest.{most_64}
+use Rattle.tsp_theory.proofs.MostWeight.{most_64}
 use Rattle.tsp_branch.specs.states.Shared.{decided_by}
 
 module _ (case : List Decision) (w : ℕ → ℕ → ℤ) (from x : ℕ) where

@@ -196,7 +196,3 @@ pub shared_left : (numbers : List ℤ) (others places : List SetPlace) (index : 
     → shared_by numbers others (drop index places)
     ≡ (if has_place others (get_or places index default) then (pos 2 *ℤ get_or numbers (get_or places index default).family (pos 0)) else pos 0) +ℤ shared_by numbers others (drop (index + 1) places)
 shared_left numbers others places index default lt = ap (shared_by numbers others) (drop-cons places index default lt) ∙ rw (add-one index) refl
-
-pub number_left : (numbers : List ℤ) (places : List SetPlace) (index : ℕ) (default : SetPlace) → index < length places
-    → sum_at_places numbers (drop index places) ≡ get_or numbers (get_or places index default).family (pos 0) +ℤ sum_at_places numbers (drop (index + 1) places)
-number_left numbers places index default lt = ap (sum_at_places numbers) (drop-cons places index default lt) ∙ rw (add-one index) refl

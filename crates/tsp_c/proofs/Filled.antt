@@ -1,5 +1,5 @@
 -- A buffer of C that has one number more, at its next place. For `put` in src/fill.rt.
-use Rattle.std.proofs.Common.{◌≡◌, ◌≢◌, ℕ, ◌+◌, ◌<◌, List, length, refl, ◌∙◌, arith, below_more, get_or-set_same, get_or-set_other}
+use Rattle.std.proofs.Common.{◌≡◌, ◌≢◌, ℕ, ◌+◌, ◌<◌, List, length, ◌∙◌, arith, below_more, get_or-set_same, get_or-set_other}
 use Rattle.std.specs.Prelude.{ℤ, pos, slice_index_or as get_or}
 use Rattle.std.proofs.Math.ListN.{set}
 use Rattle.std.proofs.lemmas.List.{length-set}
@@ -14,7 +14,3 @@ one_more numbers start now place number within is filled = record {
       (get_or-set_same now place number (pos 0) within ∙ is);
   others = λ k h. let other : k ≢ place = omega arith in get_or-set_other now place k number (pos 0) other ∙ filled.others k (omega arith);
 }
-
--- nothing is filled yet
-pub none_filled : (numbers : ℕ → ℤ) (start : List ℤ) → IsFilled 0 numbers start start
-none_filled numbers start = record { size = refl; filled = λ k h. absurd (omega arith); others = λ k h. refl }

@@ -89,12 +89,6 @@ pub record IsFirstBadLeafBy (Good : LeafNumbers → Type 0) (n combs : ℕ) (ste
 
 -- ---- the same for cycles, where AreGoodNumbers says which numbers are good
 
-abbrev pub IsGoodLeaf : ℕ → List Crossings → List ℤ → List (ℕ × ℤ) → Type 0
-IsGoodLeaf n crossed numbers changes = IsGoodLeafBy (AreGoodNumbers n crossed) n (length crossed) numbers changes
-
-abbrev pub IsGoodAt : ℕ → List Crossings → List (List (ℕ × ℤ)) → ℕ → Type 0
-IsGoodAt n crossed leaves place = IsGoodAtBy (AreGoodNumbers n crossed) n (length crossed) leaves place
-
 abbrev pub AreGoodLeaves : ℕ → List Crossings → List listed.Step → Type 0
 AreGoodLeaves n crossed steps = AreGoodLeavesBy (AreGoodNumbers n crossed) n (length crossed) steps
 

@@ -1,11 +1,11 @@
 -- The length of a tour as a sum of costs, node by node, which fits 64 bits. For `Points::along` and `Points::through`
 -- in src/points.rt.
-use Rattle.std.proofs.Common.{◌≡◌, ℕ, suc, ◌+◌, ◌-◌, ◌*◌, ◌<◌, ◌≤◌, List, [], ◌∷◌, ◌++◌, take, drop, length, refl, sym, ap, subst, ◌∙◌, arith, to_z, of_z, drop-cons, take-append-drop, append_assoc}
+use Rattle.std.proofs.Common.{◌≡◌, ℕ, suc, ◌+◌, ◌-◌, ◌*◌, ◌<◌, ◌≤◌, List, [], ◌++◌, take, drop, length, sym, ap, subst, ◌∙◌, arith, to_z, of_z, drop-cons, take-append-drop, append_assoc}
 use Rattle.std.specs.Prelude.{ℤ, pos, neg_ℤ, ◌+ℤ◌, ◌≤ℤ◌, slice_index_or}
 use Rattle.std.specs.Int.{w64}
 use Rattle.std.proofs.lemmas.Int.{ints}
 use Rattle.std.proofs.Math.IntN.{+ℤ_assoc, +ℤ_idr}
-use Rattle.tsp_theory.specs.Length.{sum_int_by, length_of}
+use Rattle.tsp_theory.specs.Length.{length_of}
 use Rattle.tsp_theory.specs.Cycle.{links_to}
 use Rattle.tsp_cost.specs.states.Ways.{length_to, IsWayThrough, IsSumOfCosts}
 
@@ -44,8 +44,3 @@ pub cost_fits : (sum cost : ℤ) (count : ℕ) → count ≤ 1000000 → IsSumOf
     → cost ≤ℤ pos 1000000000000
     → to_z w64 (of_z w64 (sum +ℤ to_z w64 (of_z w64 cost))) ≡ sum +ℤ cost
 cost_fits sum cost count few size low high = omega (arith, ints, few, size.low, size.high, low, high)
-
--- equal costs have equal sums
-pub sum_same : {X : Type 0} (f g : X → ℤ) → ((x : X) → f x ≡ g x) → (xs : List X) → sum_int_by f xs ≡ sum_int_by g xs
-sum_same f g same [] = refl
-sum_same f g same (x ∷ xs) = rw (same x, sum_same f g same xs) refl

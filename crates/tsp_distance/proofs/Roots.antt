@@ -177,12 +177,3 @@ least-most rounding square most k enough least =
       | inl long ↦ absurd (least (omega arith) (covers-up rounding square most (k - 1) enough (omega arith)))
       | inr short ↦ short
     ]
-
--- the diagonal of the plane covers every square there, and that of space every one in space
-pub diagonal_covers : (rounding : Rounding) (square : ℕ) → square ≤ 8 * 10 ^ 36 → Covers rounding square 2828427125
-diagonal_covers Nearest square small = omega arith
-diagonal_covers Up square small = omega arith
-diagonal_covers TenthUp square small = omega arith
-
-pub space_covers : (square : ℕ) → square ≤ 12 * 10 ^ 36 → Covers Nearest square 3464101615
-space_covers square small = omega arith

@@ -32,7 +32,7 @@ use Rattle.tsp_judge.specs.CheckRun.{Given, IsUnreadIn, IsFileIn, ReadsFile, Rea
 use Rattle.tsp_judge.specs.CompareRun.{IsTurnAt, IsFoundIn, Finds, result_of, status_of_found, ComparesOne, AreFound, all_solution_lines, largest_status, ComparesAll, ComparesBy, ComparesOn, LacksBasis, AreReadOnce, EndsCompare}
 use Rattle.tsp_judge.proofs.Runs.{sized}
 use Rattle.tsp_judge.proofs.Yeses.{accepted}
-use Rattle.tsp_report.specs.ComparisonText.{solution_line, head_of}
+use Rattle.tsp_report.specs.ComparisonText.{solution_line}
 use Rattle.tsp_report.specs.Report.{IsSized}
 
 -- ---- one text after another
@@ -212,14 +212,6 @@ after_head contents a b c IsTurn paths common head (Err (Write write_faults.OutO
 after_head contents a b c IsTurn paths common head (Err WrongKind) h k = absurd k
 after_head contents a b c IsTurn paths common head (Err (File file fault)) h k = absurd k
 after_head contents a b c IsTurn paths common head (Err (Relayout fault)) h k = absurd k
-
--- where the writer fails in the head, it is a prefix of the text too
-pub head_stopped : (opened : Bool) (IsTurn : ℕ → Turn → Type 0) (paths : List (List ℕ)) (common : Common) (sink : Sink) (fault : WriteFault)
-    → Writes sink (head_of common.instance common.basis) (Err fault) → ComparesBy opened IsTurn paths common sink (Err (Write fault))
-head_stopped true IsTurn paths common sink write_faults.Device h =
-    ([], tt, omega arith, subst (HasStopped sink) (sym (append-nil (head_of common.instance common.basis))) h)
-head_stopped false IsTurn paths common sink write_faults.Device h = h
-head_stopped opened IsTurn paths common sink write_faults.OutOfMemory h = absurd h
 
 -- ---- the files that are read once
 

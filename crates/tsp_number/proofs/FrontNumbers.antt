@@ -29,9 +29,6 @@ pub record ReadsFront (bytes : List ℕ) (count value : ℕ) : Type 0 where
   pub value_is : value ≡ digits_value 10 (take count bytes)
   pub size : value < 10 ^ count
 
-pub none_read : (bytes : List ℕ) → ReadsFront bytes 0 0
-none_read bytes = record { digits = tt; value_is = refl; size = omega arith }
-
 pub one_more : (bytes : List ℕ) (count value : ℕ) → ReadsFront bytes count value → count < length bytes
     → is_ascii_digit (get_or bytes count 0) ≡ true
     → ReadsFront bytes (count + 1) (10 * value + (get_or bytes count 0 - 48))

@@ -110,9 +110,6 @@ last_two group none some =
 pub last_one : (group : ℕ) → group % 100 ≡ 0 → 0 < group → decimals 3 group ≡ (48 + group / 100) ∷ []
 last_one group none some = decimals-suc 2 group some ∙ rw (none, decimals-none 2) refl
 
-pub last_none : (group : ℕ) → group ≡ 0 → decimals 3 group ≡ []
-last_none group none = rw none (decimals-none 3)
-
 -- what is left after a place is left after the one before it
 some_before : (rest place q : ℕ) → rest % place % q ≡ rest % q → 0 < rest % q → 0 < rest % place
 some_before rest place q same some =

@@ -1,7 +1,7 @@
 -- A file that is read in pieces: the stage of the feed after one piece more, and the answer that is settled by then.
 -- For `Feed::take` in src/feed.rt and others.
 use Rattle.std.proofs.Common.{◌≡◌, ℕ, ◌+◌, ◌-◌, ◌≤◌, ◌<◌, Bool, true, false, List, [], ◌∷◌, ◌++◌, length, take, reverse, refl, sym, ap, subst, ◌∙◌, arith, Option, Some, None, Result, Ok, Err, append-nil, append_assoc, length-append}
-use Rattle.std.specs.Prelude.{not, ◌&&◌, ◌==◌, IfErr}
+use Rattle.std.specs.Prelude.{not, ◌&&◌, ◌==◌}
 use Rattle.std.proofs.Math.Logic.{∥∥₁_map}
 use Rattle.std.proofs.Math.Seq.{take-append-add}
 use Rattle.std.proofs.lemmas.Bool.{true≢false, false≢true, eqb-true, lt-ltb, le-ltb}
@@ -29,7 +29,7 @@ use Rattle.tsp_read.specs.states.Onward.{is_bare}
 use Rattle.tsp_read.specs.states.Intake.{IsReadTo, settled_so_far, HasEnded}
 use Rattle.tsp_read.specs.states.Begun.{kept, IsFedTo}
 use Rattle.tsp_read.specs.states.Paused.{IsPaused, FeedsOn, HasBytes, stage_after, outcome_of}
-use Rattle.tsp_read.specs.Feed.{IsGoing, IsEnded, HasSettled, HasTakenBy, HasTaken, refused_by, refusal, Feeds, ComesTo}
+use Rattle.tsp_read.specs.Feed.{IsGoing, IsEnded, HasSettled, HasTakenBy, HasTaken, refusal, Feeds, ComesTo}
 use Rattle.tsp_read.proofs.IntakeSteps.{walked_so_far}
 use Rattle.tsp_read.proofs.Walks.{walked_all}
 use Rattle.tsp_text.proofs.SettledFaults.{settled_kept, ended_stays}
@@ -312,13 +312,3 @@ feeds_going old new bytes piece result e is comes h =
 pub still_going : (feed : Feed) (bytes : List ℕ) → feed.stage ≡ Going → HasTaken feed bytes
     → has_end_line (settled_part bytes) ≡ true → ⊥
 still_going feed bytes e h ended = true≢false (sym ended ∙ going_on feed bytes (taken_at feed bytes Going e h))
-
-outcome_refused : (stage : Stage) → IfErr (outcome_of stage) (λ found. refused_by stage ≡ Some found)
-outcome_refused Going = tt
-outcome_refused Ended = tt
-outcome_refused (Refused found) = refl
-
-pub refuses : (new : Feed) (result : Result (Unit {0}) ReadFault) → result ≡ outcome_of new.stage
-    → IfErr result (λ found. refusal new ≡ Some found)
-refuses new result is =
-    subst (λ (r : Result (Unit {0}) ReadFault). IfErr r (λ found. refusal new ≡ Some found)) (sym is) (outcome_refused new.stage)

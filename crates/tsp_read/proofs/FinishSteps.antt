@@ -1,13 +1,12 @@
 -- At the end of a text the draft has the fault that the items have, and a draft without one is valid. For
 -- `Reading::finish` in src/state/finish.rt.
-use Rattle.std.proofs.Common.{◌≡◌, false, List, refl, sym, ap, ◌∙◌, Option, Some, None, Ok, Err}
+use Rattle.std.proofs.Common.{◌≡◌, false, List, refl, sym, ap, ◌∙◌, Option, Some, None}
 use Rattle.std.specs.Prelude.{is_some}
 use Rattle.std.proofs.Math.Logic.{∥∥₁_elim}
 use mathlib.Core.Bool.{Bool-set}
 use Rattle.std.proofs.lemmas.Bool.{false≢true}
 use Rattle.tsp_format.specs.declared.field.Field.{Field}
 use Rattle.tsp_draft.specs.declared.fault.DraftFault.{DraftFault}
-use Rattle.tsp_draft.specs.declared.fault.EndFault.{EndFault}
 use Rattle.tsp_draft.specs.Fields.{Fields}
 use Rattle.tsp_draft.specs.states.Drafts.{fields_of}
 use Rattle.tsp_draft.specs.Rules.{standing_of, end_fault, fault_of}
@@ -16,8 +15,6 @@ use Rattle.tsp_text.specs.Items.{Item}
 use Rattle.tsp_text.specs.Spells.{spelled, fault_at_end}
 use Rattle.tsp_text.specs.Cuts.{AreCut}
 use Rattle.tsp_read.specs.states.Holds.{Holds, Closed, IsReadFrom}
-use Rattle.tsp_read.specs.declared.state.finish.FinishFault.TheVariants as finishes
-use Rattle.tsp_read.specs.states.Finishes.{Finishes, FileOf}
 use Rattle.tsp_text.proofs.ValidItems.{is_file}
 
 -- the end table over the draft is that over the items
@@ -42,13 +39,3 @@ pub valid_draft : (old new : Reading) → IsReadFrom old → ((earlier : List It
     → end_fault (standing_of (fields_of new.draft)) new.incomplete ≡ None → fault_of (fields_of new.draft) ≡ None
 valid_draft old new read closed ended =
     none_of (fault_of (fields_of new.draft)) (∥∥₁_elim read (Bool-set _ _) (λ there. is_valid new there.0 (closed there.0 there.1) there.2 ended))
-
--- what the draft gives is what the items give
-pub file_found : (reading : Reading) (items : List Item) (file : Fields) → Closed reading items
-    → FileOf (fields_of reading.draft) reading.incomplete (Ok file) → Finishes items (Ok file)
-file_found reading items file h of = (h.clean, sym (end_is reading items h) ∙ of.0, of.1 ∙ h.spelled)
-
-pub fault_found : (reading : Reading) (items : List Item) (fault : EndFault) → Closed reading items
-    → FileOf (fields_of reading.draft) reading.incomplete (Err fault)
-    → Finishes items (Err (finishes.End fault))
-fault_found reading items fault h of = (h.clean, sym (end_is reading items h) ∙ of)

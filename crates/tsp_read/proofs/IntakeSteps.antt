@@ -1,6 +1,6 @@
 -- The items of a piece, taken one after the other: one item more, and the stop at a fault or an end line. For
 -- `Intake::take_items` and `Intake::long_word` in src/intake.rt.
-use Rattle.std.proofs.Common.{◌≡◌, ℕ, Bool, true, false, List, [], ◌∷◌, ◌++◌, reverse, refl, sym, ap, subst, ◌∙◌, Option, Some, None, MatchOption, Ok, Err, append-nil, append_assoc}
+use Rattle.std.proofs.Common.{◌≡◌, ℕ, Bool, true, false, List, [], ◌∷◌, ◌++◌, reverse, refl, sym, ap, subst, ◌∙◌, Option, Some, None, Ok, Err, append-nil, append_assoc}
 use Rattle.std.specs.List.{list_all}
 use Rattle.std.specs.Prelude.{◌&&◌, ◌||◌}
 use Rattle.std.proofs.lemmas.Bool.{true≢false, false≢true, eqb-true}
@@ -188,10 +188,3 @@ same_long earlier long word new faults.TooLong a b taken = taken
 pub never_long : (earlier : List Item) (item : Item) (new : Intake) (ended : Bool) → is_over_long item ≡ true
     → TakesNext earlier item new (Ok ended) → ⊥
 never_long earlier item new ended long taken = true≢false (sym long ∙ clean_is_short earlier item taken.0.holds.clean)
-
--- ---- one try after another
-
-pub tried_next : {X : Type 0} (found : Option X) (A B : Type 0) (P Q : X → Type 0) → (A → B) → ((x : X) → P x → Q x)
-    → MatchOption found A P → MatchOption found B Q
-tried_next None A B P Q none some h = none h
-tried_next (Some x) A B P Q none some h = some x h

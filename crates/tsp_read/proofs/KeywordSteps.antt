@@ -2,7 +2,6 @@
 -- `Reading::number` and `Reading::known` in src/state/lines.rt.
 use Rattle.std.proofs.Common.{cond, ◌≡◌, ℕ, Bool, true, false, List, ◌∷◌, set, get_or, refl, sym, ap, subst, ◌∙◌, Option, Some, None, Result, Ok, Err}
 use Rattle.std.specs.Prelude.{ℤ, pos, nat_abs, nat_lt, is_some, is_none, not, ◌&&◌}
-use Rattle.std.specs.Option.{option_map}
 use Rattle.std.specs.Result.{result_ok}
 use Rattle.std.specs.List.{find}
 use Rattle.tsp_number.specs.declared.fault.NumberFault.{NumberFault}
@@ -47,10 +46,6 @@ use Rattle.tsp_text.proofs.ValidStanding.{after_dimension}
 pub still_none : (old new : Reading) (items : List Item) → open_section items ≡ None → new.opened ≡ old.opened → old.opened ≡ None
     → OpenHolds new.opened items
 still_none old new items o same none = let P : Option OpenSection → Type 0 = λ part. OpenHolds part items in subst P (sym (same ∙ none)) o
-
-pub some_mapped : {A B : Type 0} (f : A → B) (o : Option A) → is_some (option_map f o) ≡ is_some o
-some_mapped f None = refl
-some_mapped f (Some x) = refl
 
 cond_same : (b : Bool) → cond b true false ≡ b
 cond_same true = refl

@@ -439,8 +439,3 @@ all_items bytes = sym (from_start false (lines_of bytes))
 
 pub all_settled : (bytes : List ℕ) → items_left true false bytes ≡ settled_items bytes
 all_settled bytes = sym (from_start true (lines_of bytes))
-
-pub all_left : (goes_on : Bool) (bytes : List ℕ)
-    → items_left goes_on false bytes ≡ cond goes_on (settled_items bytes) (items_of bytes)
-all_left true bytes = all_settled bytes
-all_left false bytes = all_items bytes

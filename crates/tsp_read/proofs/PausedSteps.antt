@@ -78,9 +78,6 @@ paused_kept intake begun bytes left read none begins same = record {
   unsettled = ap (items_left true intake.inside) same ∙ left_start true intake.inside left ∙ none;
 }
 
-pub kept_shorter : (begun : Begun) (left : List ℕ) → kept begun ≡ without_start left → length (kept begun) ≤ length left
-kept_shorter begun left same = subst (λ (xs : List ℕ). length xs ≤ length left) (sym same) (start_shorter left)
-
 -- ---- the answer of a step
 
 pub to_the_end : {X : Type 0} (bytes : List ℕ) (reading : Reading) (P : X → Type 0) (left : Option X) → left ≡ None

@@ -1,17 +1,14 @@
 -- One item that the reader takes. A line's end changes nothing, and a word or a line is one item more, with its number
 -- in the line. For `take` in src/item.rt and others.
-use Rattle.std.proofs.Common.{◌≡◌, ℕ, Bool, false, List, ◌∷◌, refl, sym, subst, Option, Some, None, Ok, Err}
-use Rattle.tsp_section.specs.declared.fault.StepFault.{StepFault}
-use Rattle.tsp_section.specs.declared.fault.StepFault.TheVariants as steps
+use Rattle.std.proofs.Common.{◌≡◌, ℕ, Bool, false, List, ◌∷◌, refl, sym, subst, Option, Some, None, Ok}
 use Rattle.tsp_read.specs.declared.state.reading.Reading.{Reading}
 use Rattle.tsp_read.specs.declared.cut.Next.{Next}
 use Rattle.tsp_read.specs.declared.cut.Next.TheVariants as next
 use Rattle.tsp_text.specs.Items.{Item, LineEnd, NumberWord, Line, is_end_line, words_before, word_number}
-use Rattle.tsp_text.specs.FaultRows.{row_of}
-use Rattle.tsp_text.specs.Text.{part, fault}
+use Rattle.tsp_text.specs.Text.{part}
 use Rattle.tsp_read.specs.states.Left.{item_next}
 use Rattle.tsp_read.specs.declared.state.reading.OpenSection.{OpenSection}
-use Rattle.tsp_read.specs.states.Holds.{OpenHolds, Holds, AnswersItem}
+use Rattle.tsp_read.specs.states.Holds.{OpenHolds, Holds}
 use Rattle.tsp_read.specs.states.Taken.{TakesItem}
 use Rattle.tsp_text.proofs.Clean.{clean_more}
 
@@ -45,11 +42,6 @@ word_taken new earlier item word is h = let P : Item → Type 0 = λ i. TakesIte
 pub takes_ok : (earlier : List Item) (cut item : Item) (new : Reading) (ended : Bool) → cut ≡ item → Holds new (cut ∷ earlier)
     → ended ≡ is_end_line cut → TakesItem earlier item new (Ok ended)
 takes_ok earlier cut item new ended same h e = let P : Item → Type 0 = λ i. TakesItem earlier i new (Ok ended) in subst P same (h, e)
-
-pub takes_err : (earlier : List Item) (cut item : Item) (new : Reading) (fault : StepFault) → cut ≡ item
-    → AnswersItem earlier cut new (Err fault) → TakesItem earlier item new (Err fault)
-takes_err earlier cut item new (steps.Memory refused) same h = tt
-takes_err earlier cut item new (steps.Fault fault) same h = let P : Item → Type 0 = λ i. row_of earlier i ≡ Some fault in subst P same h
 
 -- ---- counts
 

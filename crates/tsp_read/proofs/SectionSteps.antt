@@ -133,18 +133,6 @@ refuses old field shape line fault is may earlier h short = rows_are old field s
 
 -- ---- the section that is open is closed
 
--- where none is open, the closed ones are all
-pub none_open : (reading : Reading) (earlier : List Item) → reading.opened ≡ None → Holds reading earlier → Closed reading earlier
-none_open reading earlier none h =
-    let o : open_section earlier ≡ None = rw none at h.part in
-    record {
-      clean = h.clean;
-      stand = h.stand;
-      spelled = h.spelled ∙ rw o refl;
-      incomplete = h.incomplete ∙ rw o refl;
-      part = none;
-    }
-
 -- the first that is incomplete is now that of all
 first_now : (earlier : List Item) (f : Field) (more : Bool) (first : Option Field) → is_section_field f ≡ true
     → find (but f (is_incomplete earlier)) sections_in_order ≡ first → is_incomplete earlier f ≡ more

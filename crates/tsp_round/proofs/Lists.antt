@@ -123,11 +123,6 @@ are_branch n branch fits =
     let each = and_parts (is_node (n + most_combs) branch.0) (is_node n branch.1) parts.0 in
     record { first = each.0; second = each.1; differ = not-true (branch.0 == branch.1) parts.1 }
 
--- the first node of a list doesn't end it
-pub still_open : NumberLaws → (n k : ℕ) (firsts : List (List ℕ)) → n < 2 ^ 32 → is_node n k ≡ true
-    → list_any (is_end n) firsts ≡ false → list_any (is_end n) (firsts ++ decimal k ∷ []) ≡ false
-still_open laws n k firsts few is unended = any_push (is_end n) firsts (decimal k) unended ∙ node_goes_on laws n k few is
-
 -- ---- weights
 
 weight_back : NumberLaws → (z : ℤ) → is_within most_weight z ≡ true → whole_of_size most_weight (signed_decimal z) ≡ Ok z

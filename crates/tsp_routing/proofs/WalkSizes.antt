@@ -42,13 +42,6 @@ entry_up half size most entry few own = record {
   other = number_up half size most entry.other few own.other;
 }
 
-pub row_up : {S : Type 0} (value : S → ℤ) (half nodes size most : ℕ) (row : List (Onward S)) → size ≤ most
-    → IsRowSized value half nodes size row → IsRowSized value half nodes most row
-row_up value half nodes size most row few own = record {
-  places = own.places;
-  sizes = λ k d lt. entry_up half size most (entry_at value row d k) few (own.sizes k d lt);
-}
-
 pub known_sized : {S : Type 0} (value : S → ℤ) (half nodes size next : ℕ) (row : List (Onward S)) (d : Onward S) → IsNode nodes next
     → IsRowSized value half nodes size row → IsEntrySized half size (entry_at value row d next)
 known_sized value half nodes size next row d node own = own.sizes next d (omega (arith, node.1, own.places))

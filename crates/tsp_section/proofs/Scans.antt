@@ -1,6 +1,6 @@
 -- The first place of a list at which a test is passed, and the list before it and from it on. For `without_start` in
 -- src/blanks.rt.
-use Rattle.std.proofs.Common.{◌≡◌, ℕ, ◌+◌, ◌<◌, ◌≤◌, Bool, true, false, cond, List, [], ◌∷◌, length, take, drop, Some, None, refl, sym, ap, ◌∙◌, arith}
+use Rattle.std.proofs.Common.{◌≡◌, ℕ, ◌+◌, ◌<◌, ◌≤◌, Bool, true, false, cond, List, [], ◌∷◌, length, drop, Some, None, refl, sym, ap, ◌∙◌, arith}
 use Rattle.std.specs.Prelude.{not}
 use Rattle.std.specs.List.{prefix_len, position, position_or_len}
 use Rattle.std.proofs.lemmas.List.Sums.{prefix_len-le-length}
@@ -47,11 +47,3 @@ start_none p xs e = ap (λ n. drop n xs) (sym (past (λ x. not (p x)) xs e) ∙ 
 pub start_some : {X : Type 0} (p : X → Bool) (xs : List X) (k : ℕ) → position (λ x. not (p x)) xs ≡ Some k
     → drop k xs ≡ drop (prefix_len p xs) xs
 start_some p xs k e = ap (λ n. drop n xs) (sym (position_at (λ x. not (p x)) xs k e).0 ∙ front_len p xs)
-
-pub front_none : {X : Type 0} (p : X → Bool) (xs : List X) → position (λ x. not (p x)) xs ≡ None
-    → take (length xs) xs ≡ take (prefix_len p xs) xs
-front_none p xs e = ap (λ n. take n xs) (sym (past (λ x. not (p x)) xs e) ∙ front_len p xs)
-
-pub front_some : {X : Type 0} (p : X → Bool) (xs : List X) (k : ℕ) → position (λ x. not (p x)) xs ≡ Some k
-    → take k xs ≡ take (prefix_len p xs) xs
-front_some p xs k e = ap (λ n. take n xs) (sym (position_at (λ x. not (p x)) xs k e).0 ∙ front_len p xs)

@@ -21,20 +21,12 @@ or_false false = refl
 pub any_push : {A : Type 0} (p : A → Bool) (xs : List A) (x : A) → list_any p xs ≡ false → list_any p (xs ++ x ∷ []) ≡ p x
 any_push p xs x any = list_any-append p xs (x ∷ []) ∙ rw any (or_false (p x))
 
-pub or_step : (b any more : Bool) → (any ≡ true → more ≡ true) → (b || any) ≡ true → (b || more) ≡ true
-or_step true any more h e = refl
-or_step false any more h e = h e
-
 -- ---- the part before it
 
 pub kept_step : {A : Type 0} (b any : Bool) (x : A) (xs ys : List A) → (any ≡ true → xs ≡ ys) → (b || any) ≡ true
     → cond b [] (x ∷ xs) ≡ cond b [] (x ∷ ys)
 kept_step true any x xs ys h e = refl
 kept_step false any x xs ys h e = ap (λ zs. x ∷ zs) (h e)
-
-pub last_step : {A : Type 0} (b : Bool) (x : A) → (b || false) ≡ true → cond b [] (x ∷ []) ≡ []
-last_step true x e = refl
-last_step false x e = cc
 
 pub none_step : {A : Type 0} (b any : Bool) (x : A) (xs ys : List A) → (any ≡ false → xs ≡ ys) → (b || any) ≡ false
     → cond b [] (x ∷ xs) ≡ x ∷ ys

@@ -3,7 +3,7 @@
 use Rattle.std.proofs.Common.{◌≡◌, ℕ, ◌+◌, Bool, true, false, not, ◌&&◌, ◌||◌, ◌==◌, cond, List, [], ◌∷◌, ◌++◌, length, length-append, get_or, ℤ, ◌≤ℤ◌, ◌⊎◌, inl, inr, refl, arith, ap, ap₂, sym, ◌∙◌, subst}
 use Rattle.std.proofs.lemmas.Bool.{cases_Bool, cases_eq, and_from, and_left, and_right, or_left, or_right, or_from, or_cases, or_parts, both_ways, false_from_ne_true, not-true, cond_both, eqb-true, eq-eqb, ne_eqb}
 use Rattle.std.proofs.lemmas.List.{get_or_append_left, get_or-append-add}
-use Rattle.std.proofs.lemmas.List.Elements.{All-nil, All-cons, All-head, All-tail, All-append, All-push, All-weaker}
+use Rattle.std.proofs.lemmas.List.Elements.{All-nil, All-cons, All-head, All-tail, All-append, All-weaker}
 use Rattle.std.proofs.lemmas.List.Folds.{list_any_none}
 use Rattle.std.proofs.lemmas.List.Sorted.{IsPermutation-refl, IsPermutation-sym, IsPermutation-trans, IsPermutation-cons, IsPermutation-append_right, IsPermutation-middle, IsPermutation-filter_both, All-permutation}
 use Rattle.std.specs.List.{All, list_any, filter}
@@ -26,9 +26,6 @@ crosses_turned part a b = turned (part a) (part b)
     turned true false = refl
     turned false true = refl
     turned false false = refl
-
-pub crosses_out : (part : ℕ → Bool) (a b : ℕ) → part a ≡ true → part b ≡ false → crosses part (a, b) ≡ true
-crosses_out part a b p q = rw (p, q) refl
 
 pub crosses_both : (part : ℕ → Bool) (a b : ℕ) → part a ≡ true → part b ≡ true → crosses part (a, b) ≡ false
 crosses_both part a b p q = rw (p, q) refl
@@ -77,10 +74,6 @@ and_node_all part v P at_v at_part x h = elim (or_cases (x == v) (part x) h) [
 ]
 
 -- ---- parts that no pair leaves
-
-pub uncrossed_more : (part : ℕ → Bool) (pairs : List (ℕ × ℕ)) (pair : ℕ × ℕ) → IsUncrossed part pairs → crosses part pair ≡ false
-    → IsUncrossed part (pairs ++ pair ∷ [])
-uncrossed_more part pairs pair = All-push (λ pair. crosses part pair ≡ false) pairs pair
 
 pub uncrossed_left : (part : ℕ → Bool) (xs ys : List (ℕ × ℕ)) → IsUncrossed part (xs ++ ys) → IsUncrossed part xs
 uncrossed_left part xs ys h k d low =

@@ -33,9 +33,6 @@ pub record IsSumOf (count : ℕ) (sum : ℤ) : Type 0 where
   pub low : pos 0 ≤ℤ (sum +ℤ pos (1000000000000 * count))
   pub high : sum ≤ℤ pos (1000000000000 * count)
 
-pub sum_none : IsSumOf 0 (pos 0)
-sum_none = record { low = omega (arith, ints); high = omega (arith, ints) }
-
 pub sum_more : (sum cost : ℤ) (count : ℕ) → IsSumOf count sum → neg_ℤ (pos 1000000000000) ≤ℤ cost → cost ≤ℤ pos 1000000000000
     → IsSumOf (count + 1) (sum +ℤ cost)
 sum_more sum cost count size low high = record { low = omega (arith, ints, size.low); high = omega (arith, ints, size.high) }

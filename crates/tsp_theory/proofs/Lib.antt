@@ -9,7 +9,7 @@ pub mod Duality
 pub mod Exchange
 pub mod Forests
 pub mod Lengths
-pub mod Nearest
+pub mod MostWeight
 pub mod Neighbours
 pub mod OneTrees
 pub mod Sizes

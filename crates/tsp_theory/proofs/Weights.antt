@@ -1,21 +1,18 @@
 -- The weight between two nodes and of a 1-tree, and the bound by it, as the code computes them in 64 and 128 bits. For
 -- `least_edges` in src/tree.rt of tsp_bound and others.
-use Rattle.std.proofs.Common.{◌≡◌, Bool, List, get_or, ℕ, ◌+◌, ◌*◌, ◌≤◌, ◌^◌, ◌++◌, [], ◌∷◌, ap, sym, subst, ◌∙◌, arith, to_z, of_z, inl, inr}
+use Rattle.std.proofs.Common.{◌≡◌, List, ℕ, ◌+◌, ◌*◌, ◌≤◌, ◌^◌, ◌++◌, [], ◌∷◌, ap, sym, subst, ◌∙◌, arith, to_z, of_z, inl, inr}
 use Rattle.std.specs.Int.{w64, w128}
 use Rattle.std.specs.Prelude.{ℤ, pos, neg_ℤ, ◌+ℤ◌, ◌-ℤ◌, ◌*ℤ◌, FitsSigned}
 use Rattle.std.proofs.lemmas.Bool.{cases_eq}
 use Rattle.std.proofs.lemmas.Int.{ints, to_z-of_z, fits_signed_from_abs}
-use Rattle.std.proofs.lemmas.List.{get_or_default}
 use Rattle.tsp_format.specs.Limits.{most_nodes, most_scale, most_weight, most_potential, most_triples, most_multiplier}
 use Rattle.tsp_theory.specs.Costs.{IsSymmetric}
 use Rattle.tsp_theory.specs.CertificateNumbers.{IsFromTo, IsScale, IsLeastBound, entry}
 use Rattle.tsp_theory.specs.Tree.{weight_of}
 use Rattle.tsp_theory.specs.NodeBound.{weight_between, most_between}
-use Rattle.tsp_theory.specs.states.Nearest.{IsNearestOutside}
 use Rattle.tsp_theory.specs.Growth.{tree_of}
 use Rattle.tsp_theory.proofs.Sizes.{same_scale, size_of}
 use Rattle.tsp_theory.proofs.OneTrees.{ordered_weight}
-use Rattle.tsp_theory.proofs.Steps.{IsState}
 
 pub between_size : (scaled first second : ℤ)
     → IsFromTo (neg_ℤ (pos (most_scale * most_weight))) (pos (most_scale * most_weight)) scaled
@@ -125,20 +122,6 @@ pub weight_added : (w : ℕ → ℕ → ℤ) (pairs : List (ℕ × ℕ)) (pair :
     → weight_of w (pairs ++ pair ∷ []) ≡ weight_of w pairs +ℤ w pair.0 pair.1
 weight_added w [] pair = omega (arith, ints)
 weight_added w (p ∷ pairs) pair = let rest = weight_added w pairs pair in omega (arith, ints, rest)
-
--- the pair that a growth adds, with the weight that is kept of it
-pub sum_pushed : (n : ℕ) (w : ℕ → ℕ → ℤ) (inside : List Bool) (near : List ℕ) (least : List ℤ) (pairs after : List (ℕ × ℕ))
-    (next from : ℕ) (weight : ℤ)
-    → IsState n w inside near least pairs → IsNearestOutside n inside least next
-    → from ≡ get_or near next from → weight ≡ get_or least next weight → after ≡ pairs ++ (from, next) ∷ []
-    → weight_of w after ≡ weight_of w pairs +ℤ weight
-sum_pushed n w inside near least pairs after next from weight s outside from_is weight_is pushed =
-    let node : from ≡ get_or near next 0 = from_is
-    ∙ get_or_default near next from 0 (omega (arith, s.near_len, outside.inner.1)) in
-    let own : weight ≡ get_or least next (pos 0) = weight_is
-    ∙ get_or_default least next weight (pos 0) (omega (arith, s.least_len, outside.inner.1)) in
-    let here : w from next ≡ weight = ap (λ k. w k next) node ∙ sym (s.weight next outside.inner outside.outside) ∙ sym own in
-    ap (weight_of w) pushed ∙ weight_added w pairs (from, next) ∙ ap (λ z. weight_of w pairs +ℤ z) here
 
 -- ---- the weight of a whole 1-tree
 

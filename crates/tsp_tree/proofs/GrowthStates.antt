@@ -3,15 +3,15 @@
 use Rattle.std.proofs.Common.{◌≡◌, ◌≢◌, ℕ, ◌+◌, ◌-◌, ◌<◌, ◌≤◌, ◌==◌, Bool, true, false, List, [], ◌∷◌, ◌++◌, length, slice_index, inl, inr, refl, ap, sym, subst, ◌∙◌, arith, length-append}
 use Rattle.std.specs.Prelude.{ℤ, pos, ◌+ℤ◌, ◌≤ℤ◌, ◌<ℤ◌, ◌⊎◌}
 use Rattle.std.specs.List.{swap_remove}
-use Rattle.std.proofs.lemmas.Bool.{cases_Bool, or_parts, or_cases, ne_eqb, eqb-true, eqb-false}
+use Rattle.std.proofs.lemmas.Bool.{or_parts, or_cases, ne_eqb, eqb-true, eqb-false}
 use Rattle.std.proofs.lemmas.Int.{ints}
 use Rattle.tsp_theory.specs.Tree.{IsInner, weight_of}
-use Rattle.tsp_theory.specs.Growth.{and_node, IsLeastLeaving, Grows, grown_by, IsWholeGrowth}
+use Rattle.tsp_theory.specs.Growth.{and_node, IsLeastLeaving, Grows, grown_by}
 use Rattle.tsp_theory.specs.states.Nearest.{least_at, IsNearer}
 use Rattle.tsp_theory.proofs.Exchange.{and_node_self, and_node_old}
 use Rattle.tsp_theory.proofs.Steps.{grows_more, grown_by_more}
 use Rattle.tsp_theory.proofs.Weights.{weight_added}
-use Rattle.tsp_theory.proofs.Nearest.{most_64}
+use Rattle.tsp_theory.proofs.MostWeight.{most_64}
 use Rattle.tsp_tree.specs.states.Outside.{AreFromThree, AreBroughtNearer, AreInner, IsLeastPlace}
 use Rattle.tsp_tree.proofs.Outside.{moved_from, removed_at, removed_length, moved_others, moved_differ, moved_all}
 
@@ -207,17 +207,3 @@ state_more n w outside new_outside near near_left new_near least left new_least 
         let second : least_at least (old_place k) ≤ℤ w a (slice_index new_outside k) = subst (λ (x : ℕ). least_at least (old_place k) ≤ℤ w a x) (sym (node_at k below)) old in
         let at = left_at k below in
         omega (arith, ints, first, second, at)
-
--- ---- the end
-
-pub state_end : (n : ℕ) (w : ℕ → ℕ → ℤ) (outside near : List ℕ) (least : List ℤ) (pairs : List (ℕ × ℕ)) (weight : ℤ)
-    → IsState n w outside near least pairs weight → length outside ≡ 0
-    → IsWholeGrowth n w pairs
-state_end n w outside near least pairs weight s none = record {
-  grows = s.grows;
-  reached = λ x x_in. elim (cases_Bool (part_of pairs x)) [
-    | inl reached ↦ reached
-    | inr out ↦ absurd (let at = s.listed x x_in out in omega (arith, none, at.1))
-  ];
-  count = omega (arith, s.count, none);
-}

@@ -1,29 +1,19 @@
 -- A list of the nodes outside a growing tree, with the least weight to each: one pass over it, and one node taken from
 -- it. For `bring` in src/growth.rt and others.
-use Rattle.std.proofs.Common.{◌≡◌, ◌≢◌, ℕ, ◌+◌, ◌-◌, ◌<◌, ◌≤◌, ◌==◌, List, [], ◌∷◌, ◌++◌, length, slice_index, get_or, inl, inr, refl, ap, sym, subst, ◌∙◌, arith, length-append}
+use Rattle.std.proofs.Common.{◌≡◌, ◌≢◌, ℕ, ◌+◌, ◌-◌, ◌<◌, ◌≤◌, ◌==◌, List, [], length, slice_index, get_or, inl, inr, refl, ap, sym, subst, ◌∙◌, arith}
 use Rattle.std.specs.Prelude.{ℤ, pos, ◌≤ℤ◌, ◌<ℤ◌, ◌⊎◌, if◌then◌else◌}
 use Rattle.std.specs.List.{swap_remove}
 use Rattle.std.proofs.Math.ListN.{set}
-use Rattle.std.proofs.Math.Seq.{get_or-append_seam}
 use Rattle.std.proofs.lemmas.Bool.{cases_eq, eq-eqb, ne_eqb}
 use Rattle.std.proofs.lemmas.Int.{ints}
-use Rattle.std.proofs.lemmas.List.{get_or-set_same, get_or-set_other, get_or-take, get_or_default, get_or_append_left, length-take-le, length-set}
+use Rattle.std.proofs.lemmas.List.{get_or-set_same, get_or-set_other, get_or-take, get_or_default, length-take-le, length-set}
 use Rattle.tsp_theory.specs.states.Nearest.{least_at, IsNearer}
-use Rattle.tsp_theory.proofs.Nearest.{most_64}
-use Rattle.tsp_tree.specs.states.Outside.{IsLeastPlace}
+use Rattle.tsp_theory.proofs.MostWeight.{most_64}
 
 -- ---- the nodes from 3 on, one more
 
 abbrev pub AreCounted : List ℕ → Type 0
 AreCounted nodes = (k : ℕ) → k < length nodes → slice_index nodes k ≡ k + 3
-
-pub counted_more : (nodes : List ℕ) (node : ℕ) → AreCounted nodes → length nodes + 3 ≡ node → AreCounted (nodes ++ node ∷ [])
-counted_more nodes node each is k below = elim (cases_eq k (length nodes)) [
-  | inl same ↦ ap (λ i. slice_index (nodes ++ node ∷ []) i) same ∙ get_or-append_seam nodes node [] 0 ∙ omega (arith, is, same)
-  | inr other ↦
-      let before : k < length nodes = omega (arith, below, other, length-append nodes (node ∷ [])) in
-      get_or_append_left nodes (node ∷ []) 0 k before ∙ each k before
-]
 
 -- ---- a pass over the list
 
@@ -106,15 +96,6 @@ found_higher place least best own nearest (inr found) inside small less = inr (
         omega (arith, ints, there, under)
   ],
 )
-
-pub least_found : (size : ℕ) (least : List ℤ) (best : ℤ) (nearest : ℕ) → length least ≡ size → 0 < size
-    → FindsLeast size least best nearest
-    → IsLeastPlace least nearest
-least_found size least best nearest long some (inl none) = absurd (omega (arith, some, none.0))
-least_found size least best nearest long some (inr found) = record {
-  inside = omega (arith, long, found.0);
-  none_less = λ k below. subst (λ (z : ℤ). z ≤ℤ least_at least k) found.1 (found.2 k (omega (arith, long, below)));
-}
 
 -- ---- one place taken away: the last one comes to it
 

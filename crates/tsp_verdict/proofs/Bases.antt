@@ -21,16 +21,16 @@ use Rattle.tsp_verdict.specs.Bounded.{StandsAgainstTouring, NoneAgainstTouring, 
 use Rattle.tsp_verdict.specs.Certified.{is_bounded, StandsAgainstCertificate, HasNoSolutionBy, HasNoSolution}
 use Rattle.tsp_verdict.specs.SolutionVerdict.{IsVerdictBy, IsVerdictOn, HasLength, HasNoLength, IsAsClaimed, IsOtherClaimed, IsVerdictWith}
 use Rattle.tsp_verdict.specs.Plan.{total_of, IsLeastRoutes, HasNoPlan}
-use Rattle.tsp_verdict.specs.Reasons.{rank_of, NoneBefore, IsFirstReason}
-use Rattle.tsp_verdict.specs.Routes.{IsFirstAgainstRoutes, IsRoutesVerdict, NoneOfRoutesBeforeRepeats}
+use Rattle.tsp_verdict.specs.Reasons.{rank_of, IsFirstReason}
+use Rattle.tsp_verdict.specs.Routes.{IsFirstAgainstRoutes, IsRoutesVerdict}
 use Rattle.tsp_verdict.specs.Solution.{tours_of}
-use Rattle.tsp_verdict.specs.Tours.{NoneOfTourBefore, IsFirstAgainstTour, IsTourVerdict, StandsAgainstTour}
+use Rattle.tsp_verdict.specs.Tours.{NoneOfTourBefore, IsFirstAgainstTour, IsTourVerdict}
 use Rattle.tsp_verdict.specs.states.TourBases.{verdict_by, verdict_with, IsSubject, IsVerdictGiven, IsBasisGiven}
 use Rattle.tsp_verdict.specs.declared.tour_basis.BoundOrigin.{BoundOrigin}
 use Rattle.tsp_verdict.specs.declared.tour_basis.BoundOrigin.TheVariants as origins
 use Rattle.tsp_verdict.specs.states.Known.{against_instance, KnowsInstance}
 use Rattle.tsp_verdict.proofs.Certificates.{certificate_rank}
-use Rattle.tsp_verdict.proofs.Claims.{refused_alone, other_alone, accepted_alone, tour_refused, tour_of_another_length, certificate_refused, tour_bounded, on_routes, routes_refused, routes_of_another_length, routes_uncertified, routes_bounded}
+use Rattle.tsp_verdict.proofs.Claims.{refused_alone, other_alone, accepted_alone, tour_refused, tour_of_another_length, certificate_refused, tour_bounded, on_routes, routes_refused, routes_uncertified, routes_bounded}
 use Rattle.tsp_verdict.proofs.FoundBounds.{against_tour, against_routes, none_of_tour, none_of_routes, found_by_certificate}
 use Rattle.tsp_verdict.proofs.ByType.{HasTours, for_tours, of_tours, tours_by, routes_by}
 
@@ -123,29 +123,6 @@ first_known inst basis found reason is some knows =
     (sym is ∙ some) knows
 
 -- ---- the reasons before those against the tours
-
-up_to_instance : (inst sol : Fields) (rank : ℕ) → rank ≤ rank_of (NotSymmetric 1 2) → is_tour_file sol.kind ≡ true
-    → NoneBefore (StandsAgainstTouring inst) rank → NoneBefore (StandsAgainstTour inst sol) rank
-up_to_instance inst sol rank few is none NotASolution low stands = false≢true (sym stands ∙ is)
-up_to_instance inst sol rank few is none TooFewNodes low stands = none TooFewNodes low stands
-up_to_instance inst sol rank few is none reason low stands = absurd (omega (arith, few, low))
-
--- the first reason against the instance is the first against a solution that has tours
-pub instance_first : (inst sol : Fields) (reason : Reason) → is_tour_file sol.kind ≡ true
-    → IsFirstReason (StandsAgainstTouring inst) reason → IsFirstAgainstTour inst sol reason
-instance_first inst sol TooFewNodes is first =
-    record {
-      stands = first.stands;
-      none_before =
-          up_to_instance inst sol (rank_of TooFewNodes) (omega arith) is first.none_before;
-    }
-instance_first inst sol (NotSymmetric i j) is first =
-    record {
-      stands = first.stands;
-      none_before =
-          up_to_instance inst sol (rank_of (NotSymmetric 1 2)) (omega arith) is first.none_before;
-    }
-instance_first inst sol reason is first = absurd first.stands
 
 -- where none applies to the instance
 pub up_to_dimension : (inst sol : Fields) → is_tour_file sol.kind ≡ true → NoneAgainstTouring inst
@@ -297,17 +274,6 @@ routes_rejected None inst sol claimed reason cvrp first =
 routes_rejected (Some given) inst sol claimed reason cvrp first =
     routes_refused given.0 inst sol given.1 claimed reason cvrp first
 
--- another length than the claimed one
-routes_disclaimed : (given : Option (Certificate × Fields)) (inst sol : Fields) (claimed : Option ℤ) (found : ℤ)
-    (count fewest : ℕ) → inst.kind ≡ Some kinds.Cvrp
-    → IsRoutesVerdict inst sol (verdicts.Routes found count fewest None) → IsOtherClaimed claimed found
-    → IsVerdictWith given claimed inst sol (verdicts.No (LengthClaimed found))
-routes_disclaimed None inst sol claimed found count fewest cvrp v other =
-    other_alone claimed inst sol (verdicts.Routes found count fewest None) found refl other
-    (on_routes inst sol (verdicts.Routes found count fewest None) cvrp v)
-routes_disclaimed (Some given) inst sol claimed found count fewest cvrp v other =
-    routes_of_another_length given.0 inst sol given.1 claimed found count fewest cvrp v other
-
 -- The verdict on routes that are accepted on their own, by what is known of all.
 -- plan: by the certificate and the basis; where there is none, the basis has the least number alone; else the bound, or the
 -- reason against the certificate
@@ -393,22 +359,6 @@ own_routes inst sol (verdicts.Routes found count fewest bound) length v has =
     record { count = count; fewest = fewest; is = same; own = subst (IsRoutesVerdict inst sol) same v }
 own_routes inst sol (verdicts.Tour found bound) length v has = absurd v
 own_routes inst sol (verdicts.No reason) length v has = absurd has
-
--- so no reason applies to the solution
-pub none_of_accepted : (inst sol : Fields) (verdict : Verdict) (length : ℤ) → IsRoutesVerdict inst sol verdict
-    → HasLength verdict length → NoneOfRoutesBeforeRepeats inst sol
-none_of_accepted inst sol verdict length v has place reason low stands =
-    (own_routes inst sol verdict length v has).own.0 reason stands
-
-pub routes_subject_disclaimed : (given : BoundOrigin) (inst sol : Fields) (claimed : Option ℤ) (verdict : Verdict) (length : ℤ)
-    → inst.kind ≡ Some kinds.Cvrp → IsRoutesVerdict inst sol verdict → HasLength verdict length
-    → IsOtherClaimed claimed length → IsVerdictGiven given claimed inst sol (verdicts.No (LengthClaimed length))
-routes_subject_disclaimed (origins.Certificate certificate) inst sol claimed verdict length cvrp v has other =
-    let r = own_routes inst sol verdict length v has in
-    routes_disclaimed (option_map (λ it. (it.0, it.1.now)) certificate) inst sol claimed length r.count r.fewest cvrp r.own other
-routes_subject_disclaimed (origins.Basis basis) inst sol claimed verdict length cvrp v has other =
-    let r = own_routes inst sol verdict length v has in
-    (tt, λ any b. routes_disclaimed any inst sol claimed length r.count r.fewest cvrp r.own other)
 
 routes_from_basis : (inst sol : Fields) (basis known : Basis) (claimed : Option ℤ) (found : ℤ) (count fewest : ℕ)
     → inst.kind ≡ Some kinds.Cvrp → basis ≡ known → (given : Option (Certificate × Fields)) × IsBasis given inst known

@@ -10,7 +10,7 @@ use Rattle.tsp_task.specs.declared.certificate.Certificate.TheVariants.{Branches
 use Rattle.tsp_task.specs.declared.verdict.Reason.{Reason}
 use Rattle.tsp_task.specs.declared.verdict.Verdict.{Verdict}
 use Rattle.tsp_verdict.specs.Basis.{IsBasisOfToursBy, IsBasisOfRoutesBy, IsBasisBy}
-use Rattle.tsp_verdict.specs.Bounded.{StandsAgainstTouring, NoneAgainstTouring, StandsAgainstRouting, NoneAgainstRouting, StandsAgainstInstanceBy, StandsAgainstInstance, NoneAgainstInstance}
+use Rattle.tsp_verdict.specs.Bounded.{StandsAgainstTouring, NoneAgainstTouring, StandsAgainstRouting, StandsAgainstInstanceBy, StandsAgainstInstance, NoneAgainstInstance}
 use Rattle.tsp_verdict.specs.BranchesCertificate.{StandsAgainstBranches}
 use Rattle.tsp_verdict.specs.Certified.{StandsAgainstCertificateBy, IsCertifiedTourVerdict, IsCertifiedRoutesVerdict, IsCertifiedVerdictBy, IsCertifiedVerdict}
 use Rattle.tsp_verdict.specs.Reasons.{IsFirstReason}
@@ -86,23 +86,9 @@ other_basis None by inst cert basis other b = b
 
 -- ---- of routes
 
-pub for_routing : (inst : Fields) (reason : Reason) → inst.kind ≡ Some kinds.Cvrp → StandsAgainstRouting inst reason
-    → StandsAgainstInstance inst reason
-for_routing inst reason cvrp stands = subst (λ kind. StandsAgainstInstanceBy kind inst reason) (sym cvrp) stands
-
 pub of_routing : (inst : Fields) (reason : Reason) → inst.kind ≡ Some kinds.Cvrp → StandsAgainstInstance inst reason
     → StandsAgainstRouting inst reason
 of_routing inst reason cvrp stands = subst (λ kind. StandsAgainstInstanceBy kind inst reason) cvrp stands
-
-pub first_for_routing : (inst : Fields) (reason : Reason) → inst.kind ≡ Some kinds.Cvrp
-    → IsFirstReason (StandsAgainstRouting inst) reason → IsFirstReason (StandsAgainstInstance inst) reason
-first_for_routing inst reason cvrp first = record {
-  stands = for_routing inst reason cvrp first.stands;
-  none_before = λ other low stands. first.none_before other low (of_routing inst other cvrp stands);
-}
-
-pub none_for_routing : (inst : Fields) → inst.kind ≡ Some kinds.Cvrp → NoneAgainstRouting inst → NoneAgainstInstance inst
-none_for_routing inst cvrp none reason stands = none reason (of_routing inst reason cvrp stands)
 
 pub routes_by : (by : Certificate) (inst cert : Fields) (basis : Basis) → inst.kind ≡ Some kinds.Cvrp
     → IsBasisBy inst.kind by inst cert basis → IsBasisOfRoutesBy by inst cert basis

@@ -1,6 +1,6 @@
 -- A certificate's bound for the costs that the code looks up is its bound for the instance, whose costs are the same.
 -- For `assignment_bound` and `tree_bound` in src/potentials_bound.rt.
-use Rattle.std.proofs.Common.{◌≡◌, ℕ, List, [], ◌∷◌, get_or, inl, inr, refl, sym, ap, ap₂, subst, subst₂, ◌∙◌, arith}
+use Rattle.std.proofs.Common.{◌≡◌, ℕ, List, [], ◌∷◌, get_or, inl, inr, refl, sym, ap, ap₂, subst, subst₂, arith}
 use Rattle.std.specs.Prelude.{Some, ◌≤◌, length, unwrap_or, ℤ, ◌+ℤ◌, ◌-ℤ◌, ◌*ℤ◌, ◌≤ℤ◌, ◌<ℤ◌}
 use Rattle.std.specs.List.{All}
 use Rattle.std.proofs.lemmas.Int.{ints}
@@ -71,13 +71,6 @@ listed_used nodes pairs triples used listed k d lt = elim (listed k d lt) [
         → AreNeighbours nodes (pair_of (get_or triples k d))
     turned (inl next) = inr next
     turned (inr next) = inl next
-
--- costs that are the same as those that an instance keeps
-pub keeps_on : (f : Fields) (m n : ℕ) (a b : ℕ → ℕ → ℤ) → m ≡ n → Same a b → HasCosts f n b → HasCosts f m a
-keeps_on f m n a b same_count same keeps = record {
-  count = keeps.count ∙ ap Some (sym same_count);
-  every = λ i j. same i j ∙ keeps.every i j;
-}
 
 -- the bound that a view's costs give is that of the certificate
 pub certified : (inst pot : Fields) (n : ℕ) (costs : ℕ → ℕ → ℤ) (scale : ℤ) (potentials : List ℤ) (triples : List (ℕ × ℕ × ℤ))

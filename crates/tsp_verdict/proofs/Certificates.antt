@@ -1,11 +1,10 @@
 -- Reasons against a certificate of potentials, ruled out one by one; and the order of reasons against a solution and
 -- against any certificate. For `bound_by_duals` in src/potentials_bound.rt and others.
-use Rattle.std.proofs.Common.{◌≡◌, ℕ, ◌-◌, ◌<◌, ◌≤◌, Bool, true, false, List, [], Option, None, Some, refl, ap, sym, subst, subst₂, ◌∙◌, arith, inl, inr}
-use Rattle.std.specs.Prelude.{◌⊎◌, ℤ, pos, IsTrue, unwrap_or}
+use Rattle.std.proofs.Common.{◌≡◌, ℕ, ◌-◌, ◌<◌, ◌≤◌, true, false, List, [], Option, None, Some, ap, sym, subst, subst₂, ◌∙◌, arith, inl, inr}
+use Rattle.std.specs.Prelude.{◌⊎◌, ℤ, pos, unwrap_or}
 use Rattle.std.specs.List.{All, AllPairs}
 use Rattle.std.proofs.lemmas.Bool.{false≢true}
 use Rattle.std.proofs.lemmas.Int.{ints}
-use Rattle.std.proofs.Math.Nat.{lt_of_not-le}
 use Rattle.tsp_format.specs.Nodes.{IsNode}
 use Rattle.tsp_format.specs.declared.kinds.Kind.TheVariants as kinds
 use Rattle.tsp_draft.specs.Fields.{Fields, nodes_of}
@@ -21,14 +20,11 @@ use Rattle.tsp_verdict.specs.Tours.{StandsAgainstTour}
 use Rattle.tsp_file.specs.Cost.{cost}
 use Rattle.tsp_theory.specs.Assignment.{AreGood}
 use Rattle.tsp_verdict.specs.PotentialsCertificate.{has_wanted, BreaksDuals, StandsAgainstPotentials, IsBoundByDuals}
-use Rattle.tsp_verdict.specs.Certified.{is_bounded, IsBoundBy, IsCertified, StandsAgainstCertificate, NoneWithoutMemory}
+use Rattle.tsp_verdict.specs.Certified.{IsBoundBy, IsCertified, StandsAgainstCertificate, NoneWithoutMemory}
 use Rattle.tsp_verdict.specs.BranchesCertificate.{StandsAgainstBranches}
 use Rattle.tsp_verdict.specs.WalksCertificate.{StandsAgainstWalks}
 use Rattle.tsp_verdict.specs.Routes.{StandsAgainstRoutes}
 use Rattle.tsp_verdict.proofs.ByType.{tree_either}
-use Rattle.tsp_verdict.specs.declared.tour.TourCosts.{TourCosts}
-use Rattle.tsp_verdict.specs.declared.tour.TourCosts.TheVariants.{Undirected, Directed}
-use Rattle.tsp_verdict.specs.states.TourCosts.{AreTourCosts, IsSymmetricTsp}
 use Rattle.tsp_task.specs.declared.certificate.Certificate.{Certificate}
 use Rattle.tsp_task.specs.declared.certificate.Certificate.TheVariants.{Potentials, Branches}
 use Rattle.tsp_format.specs.declared.kinds.Kind.{Kind}
@@ -313,31 +309,3 @@ pub none_at_all : (Own : Reason → Type 0) (by : Certificate) (inst cert : Fiel
     → ((other : Reason) → StandsAgainstCertificate by inst cert other → ⊥) → (reason : Reason) → Both Own by inst cert reason → ⊥
 none_at_all Own by inst cert own certificate reason (inl stands) = own reason stands
 none_at_all Own by inst cert own certificate reason (inr stands) = certificate reason stands
-
-pub enough : (inst sol : Fields) → ((reason : Reason) → StandsAgainstTour inst sol reason → ⊥) → 3 ≤ nodes_of inst
-enough inst sol none = omega (arith, lt_of_not-le (λ (few : nodes_of inst ≤ 2). none TooFewNodes (omega (arith, few))))
-
--- ---- by the certificate, and by the TYPE of the instance
-
-pub kinds_by_potentials : (kind : Option Kind) → (kind ≡ Some kinds.Tsp) ⊎ (kind ≡ Some kinds.Atsp)
-    → IsTrue (is_bounded Potentials kind)
-kinds_by_potentials kind (inl tsp) = ap (is_bounded Potentials) tsp
-kinds_by_potentials kind (inr atsp) = ap (is_bounded Potentials) atsp
-
--- routes have a bound by branches alone
-pub bounds_routes : (by : Certificate) (kind : Option Kind) → kind ≡ Some kinds.Cvrp → IsTrue (is_bounded by kind) → by ≡ Branches
-bounds_routes Potentials kind cvrp is = absurd (false≢true (sym (ap (is_bounded Potentials) cvrp) ∙ is))
-bounds_routes Branches kind cvrp is = refl
-
--- a TSP and an ATSP are two kinds
-tsp_is_not_atsp : (kind : Option Kind) → kind ≡ Some kinds.Tsp → kind ≡ Some kinds.Atsp → true ≡ false
-tsp_is_not_atsp kind tsp atsp = sym (ap is_tsp tsp) ∙ ap is_tsp atsp
-  where
-    is_tsp : Option Kind → Bool
-    is_tsp (Some kinds.Tsp) = true
-    is_tsp other = false
-
--- what the costs of a tour are taken from is the same in both directions under TYPE TSP
-pub symmetric_tsp : (inst : Fields) (costs : TourCosts) → AreTourCosts inst costs → IsSymmetricTsp inst
-symmetric_tsp inst (Undirected view) are tsp = are.2
-symmetric_tsp inst (Directed view) are tsp = absurd (false≢true (sym (tsp_is_not_atsp inst.kind tsp are.0)))

@@ -13,9 +13,9 @@ use Rattle.tsp_task.specs.declared.verdict.Verdict.{Verdict}
 use Rattle.tsp_task.specs.declared.verdict.Verdict.TheVariants as verdicts
 use Rattle.tsp_task.specs.declared.verdict.BoundVerdict.TheVariants as bounds
 use Rattle.tsp_verdict.specs.Certified.{FindsBound, BoundsSolutionsBy, BoundsSolutions, IsCertifiedVerdict}
-use Rattle.tsp_verdict.specs.Routes.{StandsAgainstRoutes, IsFirstAgainstRoutes, IsRoutesVerdict, NoneOfRoutesBeforeRepeats}
-use Rattle.tsp_verdict.specs.SolutionVerdict.{IsVerdictBy, IsVerdictOn, NoneBeforeRepeatsOn, NoneBeforeRepeatsBy, IsAsClaimed, IsOtherClaimed, HasLength, HasNoLength, IsVerdictWith}
-use Rattle.tsp_verdict.specs.Tours.{StandsAgainstTour, IsFirstAgainstTour, IsTourVerdict, NoneOfTourBeforeRepeats}
+use Rattle.tsp_verdict.specs.Routes.{StandsAgainstRoutes, IsFirstAgainstRoutes, IsRoutesVerdict}
+use Rattle.tsp_verdict.specs.SolutionVerdict.{IsVerdictBy, IsVerdictOn, IsAsClaimed, IsOtherClaimed, HasLength, HasNoLength, IsVerdictWith}
+use Rattle.tsp_verdict.specs.Tours.{StandsAgainstTour, IsFirstAgainstTour, IsTourVerdict}
 use Rattle.tsp_verdict.proofs.Certificates.{tour_rank, routes_rank, own_first, certificate_first, none_at_all}
 use Rattle.tsp_verdict.proofs.ByType.{HasTours, certified_tour, certified_routes}
 
@@ -48,10 +48,6 @@ accepted_alone (Some claim) inst sol (verdicts.No reason) found has claims v = a
 on_a_tour : (inst sol : Fields) (verdict : Verdict) → HasTours inst → IsTourVerdict inst sol verdict → IsVerdictOn inst sol verdict
 on_a_tour inst sol verdict (inl tsp) v = subst (λ kind. IsVerdictBy kind inst sol verdict) (sym tsp) v
 on_a_tour inst sol verdict (inr atsp) v = subst (λ kind. IsVerdictBy kind inst sol verdict) (sym atsp) v
-
-pub none_before : (inst sol : Fields) → HasTours inst → NoneOfTourBeforeRepeats inst sol → NoneBeforeRepeatsOn inst sol
-none_before inst sol (inl tsp) none = subst (λ kind. NoneBeforeRepeatsBy kind inst sol) (sym tsp) none
-none_before inst sol (inr atsp) none = subst (λ kind. NoneBeforeRepeatsBy kind inst sol) (sym atsp) none
 
 pub tour_refused : (by : Certificate) (inst sol cert : Fields) (claimed : Option ℤ) (reason : Reason)
     → HasTours inst → IsFirstAgainstTour inst sol reason
@@ -113,24 +109,12 @@ pub on_routes : (inst sol : Fields) (verdict : Verdict) → inst.kind ≡ Some k
     → IsVerdictOn inst sol verdict
 on_routes inst sol verdict cvrp v = subst (λ kind. IsVerdictBy kind inst sol verdict) (sym cvrp) v
 
-pub none_before_of_routes : (inst sol : Fields) → inst.kind ≡ Some kinds.Cvrp → NoneOfRoutesBeforeRepeats inst sol
-    → NoneBeforeRepeatsOn inst sol
-none_before_of_routes inst sol cvrp none = subst (λ kind. NoneBeforeRepeatsBy kind inst sol) (sym cvrp) none
-
 pub routes_refused : (by : Certificate) (inst sol cert : Fields) (claimed : Option ℤ) (reason : Reason)
     → inst.kind ≡ Some kinds.Cvrp → IsFirstAgainstRoutes inst sol reason
     → IsVerdictWith (Some (by, cert)) claimed inst sol (verdicts.No reason)
 routes_refused by inst sol cert None reason cvrp first = certified_routes by inst sol cert (verdicts.No reason) cvrp
     (own_first (StandsAgainstRoutes inst sol) by inst cert reason (routes_rank inst sol) first)
 routes_refused by inst sol cert (Some claim) reason cvrp first = inl (on_routes inst sol (verdicts.No reason) cvrp first)
-
-pub routes_of_another_length : (by : Certificate) (inst sol cert : Fields) (claimed : Option ℤ) (found : ℤ) (count fewest : ℕ)
-    → inst.kind ≡ Some kinds.Cvrp → IsRoutesVerdict inst sol (verdicts.Routes found count fewest None)
-    → IsOtherClaimed claimed found → IsVerdictWith (Some (by, cert)) claimed inst sol (verdicts.No (LengthClaimed found))
-routes_of_another_length by inst sol cert None found count fewest cvrp v other = absurd other
-routes_of_another_length by inst sol cert (Some claim) found count fewest cvrp v other =
-    let own = on_routes inst sol (verdicts.Routes found count fewest None) cvrp v in
-    inr (inl (found, (verdicts.Routes found count fewest None, own, refl), other, refl))
 
 pub routes_uncertified : (by : Certificate) (inst sol cert : Fields) (claimed : Option ℤ) (found : ℤ) (count fewest : ℕ)
     (reason : Reason) → inst.kind ≡ Some kinds.Cvrp

@@ -17,7 +17,7 @@ use Rattle.tsp_format.specs.declared.kinds.Kind.{Kind}
 use Rattle.tsp_format.specs.declared.kinds.Kind.TheVariants as kinds
 use Rattle.tsp_draft.specs.Fields.{Fields, nodes_of}
 use Rattle.tsp_draft.specs.Rules.{is_tour_file}
-use Rattle.tsp_draft.specs.Valid.{AreTours, AreDepots, IsNodeList, IsStep, AreTreeSteps}
+use Rattle.tsp_draft.specs.Valid.{AreTours, IsNodeList, IsStep, AreTreeSteps}
 use Rattle.tsp_cases.specs.Listed.{IsListedStep}
 use Rattle.tsp_verdict.specs.Solution.{visited, tours_of}
 use Rattle.tsp_verdict.specs.states.RouteLists.{nodes_in, AreToursOf}
@@ -102,12 +102,6 @@ no_tours f other = by_kind f.kind other
     by_kind (Some kinds.Tour) other = absurd (other refl)
     by_kind (Some kinds.Potentials) other = refl
     by_kind (Some kinds.Branches) other = refl
-
-pub depots_in : (f : Fields) (depots : List ℕ) → AreDepots f depots → All (IsNode (nodes_of f)) depots
-depots_in f depots held k d lt =
-    let node = held.nodes k d lt in
-    let same : nodes_of f ≡ held.n = ap (λ (o : Option ℕ). unwrap_or o 0) held.dimension in
-    (node.0, omega (arith, node.1, same))
 
 -- ---- steps
 

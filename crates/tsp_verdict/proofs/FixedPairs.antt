@@ -5,11 +5,6 @@ use Rattle.std.proofs.lemmas.Bool.{eqb-true, eq-eqb, false≢true}
 use Rattle.tsp_theory.specs.Cycle.{Uses}
 use Rattle.tsp_verdict.specs.states.Next.{AreNext}
 
-pub uses_next : (directed : Bool) (cycle next : List ℕ) (pair : ℕ × ℕ) → AreNext cycle next → 1 ≤ pair.1
-    → get_or next pair.0 0 ≡ pair.1 → Uses directed cycle pair
-uses_next true cycle next pair m some e = m.only pair.0 pair.1 some e
-uses_next false cycle next pair m some e = inl (m.only pair.0 pair.1 some e)
-
 -- where the second node doesn't come next, the first one must, and there may be no direction
 pub uses_other : (directed : Bool) (cycle next : List ℕ) (pair : ℕ × ℕ) (back : Bool) → AreNext cycle next → 1 ≤ pair.0
     → get_or next pair.0 0 ≢ pair.1

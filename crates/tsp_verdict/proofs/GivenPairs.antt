@@ -226,9 +226,6 @@ IsTakenSoFar directed pairs taken index =
     taken ++ take_pairs (each_once_after directed (take index pairs) (drop index pairs)) ≡ take_pairs
     (each_once_after directed [] pairs)
 
-pub taken_at_start : (directed : Bool) (pairs : List (ℕ × ℕ)) → IsTakenSoFar directed pairs [] 0
-taken_at_start directed pairs = refl
-
 next_left : (directed : Bool) (pairs : List (ℕ × ℕ)) (index : ℕ) → index < length pairs
     → each_once_after directed (take index pairs) (drop index pairs)
     ≡ (if list_any (is_same directed (get_or pairs index (0, 0))) (take index pairs) then each_once_after directed

@@ -2,7 +2,7 @@
 -- `first_repeated_pair` in src/multiplier_pairs.rt and others.
 use Rattle.std.proofs.Common.{◌≡◌, ℕ, ◌+◌, ◌-◌, ◌<◌, Bool, true, false, cond, eqb, List, [], length, take, get_or, refl, sym, ap, ap₂, subst, ◌∙◌, inl, inr, arith}
 use Rattle.std.specs.Prelude.{ℤ, pos}
-use Rattle.std.specs.BTreeSet.{BTreeSet, IsEmpty, Updates, contains}
+use Rattle.std.specs.BTreeSet.{BTreeSet, Updates, contains}
 use Rattle.std.specs.BTreeMap.{is_at}
 use Rattle.std.specs.List.{AllPairs, list_any}
 use Rattle.std.specs.declared.cmp.Ordering.{Ordering}
@@ -17,9 +17,6 @@ use Rattle.tsp_verdict.specs.states.PairSets.{undirected, pair_cmp, HasPairs, ke
 use Rattle.tsp_verdict.specs.Places.{IsFirstPlace}
 
 -- ---- a set that looks at no direction
-
-pub has_none : {X : Type 0} (pair_in : X → ℕ × ℕ) (s : BTreeSet (ℕ × ℕ)) → IsEmpty s → HasPairs pair_in s []
-has_none pair_in s empty = λ pair. ap (λ ks. list_any (is_at (pair_cmp (undirected pair))) ks) empty
 
 -- one pair more
 pub has_more : {X : Type 0} (pair_in : X → ℕ × ℕ) (s n : BTreeSet (ℕ × ℕ)) (xs : List X) (i : ℕ) (d : X) → i < length xs
@@ -64,9 +61,6 @@ pub lacks_unlisted : (pairs : List (ℕ × ℕ)) (s : BTreeSet (ℕ × ℕ)) (pa
 lacks_unlisted pairs s pair has isnt is = false≢true (sym isnt ∙ has pair ∙ found_listed pairs pair is)
 
 -- ---- the same of pairs that may have a direction
-
-pub has_no_keys : (directed : Bool) (s : BTreeSet (ℕ × ℕ)) → IsEmpty s → HasKeys directed s []
-has_no_keys directed s empty = λ pair. ap (λ ks. list_any (is_at (pair_cmp (key_of directed pair))) ks) empty
 
 pub has_more_keys : (directed : Bool) (s n : BTreeSet (ℕ × ℕ)) (pairs : List (ℕ × ℕ)) (i : ℕ) (d : ℕ × ℕ) → i < length pairs
     → Updates pair_cmp s n (key_of directed (get_or pairs i d)) true

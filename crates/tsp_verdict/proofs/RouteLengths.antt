@@ -5,7 +5,6 @@ use Rattle.std.specs.Prelude.{ℤ, pos, neg_ℤ, ◌+ℤ◌, ◌≤ℤ◌}
 use Rattle.std.specs.Int.{w64}
 use Rattle.std.specs.Global.{Vec}
 use Rattle.std.proofs.lemmas.Int.{ints}
-use Rattle.std.proofs.lemmas.List.{drop_all}
 use Rattle.std.proofs.Math.IntN.{+ℤ_assoc, +ℤ_idr}
 use Rattle.tsp_format.specs.Limits.{most_weight}
 use Rattle.tsp_theory.specs.Cycle.{links_to}
@@ -54,10 +53,3 @@ plan_more cost depot so_far total routes i route lt is e =
     ∙ ap (λ (r : Vec ℕ). r ∷ drop (suc i) routes) (sym is) ∙ ap (λ k. route ∷ drop k routes) (sym (add-one i)) in
     +ℤ_assoc so_far (length_of cost (depot ∷ route.items)) (plan_length cost depot (map (λ r. r.items) (drop (i + 1) routes)))
     ∙ subst (λ (xs : List (Vec ℕ)). so_far +ℤ plan_length cost depot (map (λ r. r.items) xs) ≡ total) parts e
-
--- with all of them
-pub plan_all : (cost : ℕ → ℕ → ℤ) (depot : ℕ) (so_far total : ℤ) (routes : List (Vec ℕ)) (i : ℕ) → length routes ≤ i
-    → so_far +ℤ plan_length cost depot (map (λ r. r.items) (drop i routes)) ≡ total → so_far ≡ total
-plan_all cost depot so_far total routes i le e =
-    sym (+ℤ_idr so_far) ∙ subst (λ (xs : List (Vec ℕ)). so_far +ℤ plan_length cost depot (map (λ r. r.items) xs) ≡ total)
-    (drop_all i routes le) e

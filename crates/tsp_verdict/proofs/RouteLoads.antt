@@ -19,9 +19,6 @@ pub record IsLoadOf (count : ℕ) (sum : ℤ) : Type 0 where
   pub low : pos 0 ≤ℤ sum
   pub high : sum ≤ℤ pos (most_demand * count)
 
-pub load_none : IsLoadOf 0 (pos 0)
-load_none = record { low = omega (arith, ints); high = omega (arith, ints) }
-
 pub load_more : (sum demand : ℤ) (count : ℕ) → IsLoadOf count sum → IsDemand demand → IsLoadOf (count + 1) (sum +ℤ demand)
 load_more sum demand count size more =
     record { low = omega (arith, ints, size.low, more.0); high = omega (arith, ints, size.high, more.1) }

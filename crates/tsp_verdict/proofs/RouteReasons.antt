@@ -3,14 +3,14 @@
 use Rattle.std.proofs.Common.{ℕ, ◌≤◌, arith}
 use Rattle.tsp_draft.specs.Fields.{Fields, nodes_of}
 use Rattle.tsp_task.specs.declared.verdict.Reason.{Reason}
-use Rattle.tsp_task.specs.declared.verdict.Reason.TheVariants.{TooFewNodes, DepotCount, DepotDemand, FixedEdgesInRoutes, NotPotentials, PotentialsDimension, PotentialsKind, MultiplierNotFixed, MultiplierRepeated, DualInfeasible, NotSymmetric, TourCount, TourLength, NodeOutOfRange, RepeatedNode, FixedEdgeUnused, DepotInRoute, Unserved, Overload, NotBranches, BranchesDimension, BadComb, BadBranch, BranchTwice, BadLeaf, TooManyLoads, LengthClaimed, NotJudged}
+use Rattle.tsp_task.specs.declared.verdict.Reason.TheVariants.{DepotCount, DepotDemand, FixedEdgesInRoutes, NotPotentials, PotentialsDimension, PotentialsKind, MultiplierNotFixed, MultiplierRepeated, DualInfeasible, NotSymmetric, TourCount, TourLength, NodeOutOfRange, RepeatedNode, FixedEdgeUnused, DepotInRoute, Unserved, Overload, NotBranches, BranchesDimension, BadComb, BadBranch, BranchTwice, BadLeaf, TooManyLoads, LengthClaimed, NotJudged}
 use Rattle.tsp_verdict.specs.Places.{IsFirstPlace, IsLarger, IsAt, IsAtEarlierPlace}
 use Rattle.tsp_verdict.specs.Plan.{depot_of}
 use Rattle.tsp_cost.specs.ComputedProblems.{demands_of, capacity_of}
 use Rattle.tsp_verdict.specs.Solution.{visited, tours_of}
 use Rattle.tsp_verdict.specs.Bounded.{StandsAgainstRouting, NoneAgainstRouting}
-use Rattle.tsp_verdict.specs.Reasons.{NoneBefore, IsFirstReason, rank_of}
-use Rattle.tsp_verdict.specs.Routes.{IsFirstUnserved, IsOverloaded, StandsAgainstRoutes, NoneOfRoutesBefore, NoneOfRoutesBeforePlaces, IsFirstAgainstRoutes}
+use Rattle.tsp_verdict.specs.Reasons.{NoneBefore, rank_of}
+use Rattle.tsp_verdict.specs.Routes.{IsFirstUnserved, IsOverloaded, StandsAgainstRoutes, NoneOfRoutesBefore, NoneOfRoutesBeforePlaces}
 
 -- ---- the reasons against the instance, whatever the routes
 
@@ -20,30 +20,6 @@ up_to_places inst sol rank few before none DepotCount low stands = none DepotCou
 up_to_places inst sol rank few before none DepotDemand low stands = none DepotDemand low stands
 up_to_places inst sol rank few before none FixedEdgesInRoutes low stands = none FixedEdgesInRoutes low stands
 up_to_places inst sol rank few before none reason low stands = before reason (omega (arith, few, low)) stands
-
--- the first of them is the first against the routes
-pub routing_first : (inst sol : Fields) (reason : Reason) → NoneOfRoutesBefore inst sol DepotCount
-    → IsFirstReason (StandsAgainstRouting inst) reason → IsFirstAgainstRoutes inst sol reason
-routing_first inst sol TooFewNodes before first = absurd (before TooFewNodes (omega arith) first.stands)
-routing_first inst sol DepotCount before first =
-    record {
-      stands = first.stands;
-      none_before =
-          up_to_places inst sol (rank_of DepotCount) (omega arith) before first.none_before;
-    }
-routing_first inst sol DepotDemand before first =
-    record {
-      stands = first.stands;
-      none_before =
-          up_to_places inst sol (rank_of DepotDemand) (omega arith) before first.none_before;
-    }
-routing_first inst sol FixedEdgesInRoutes before first =
-    record {
-      stands = first.stands;
-      none_before =
-          up_to_places inst sol (rank_of FixedEdgesInRoutes) (omega arith) before first.none_before;
-    }
-routing_first inst sol reason before first = absurd first.stands
 
 -- where none applies, the nodes of the routes are judged next
 pub after_routing : (inst sol : Fields) → NoneOfRoutesBefore inst sol DepotCount → NoneAgainstRouting inst

@@ -64,11 +64,6 @@ customers inst sol nodes n depot are n_is depot_is none low other high =
           (λ place first. omega (arith, first.holds, (there (place - 1) 0 (omega (arith, first.here.0, first.here.1))).0.1)),
     )
 
-pub customers_below : (inst sol : Fields) (nodes : List ℕ) (size : ℕ) → nodes ≡ visited sol → size ≡ nodes_of inst + 1
-    → AreCustomers inst sol → All (λ node. node < size) nodes
-customers_below inst sol nodes size are wide all =
-    subst (λ (xs : List ℕ). All (λ node. node < size) xs) (sym are) (λ k d lt. omega (arith, (all k d lt).0.1, wide))
-
 pub customers_in : (inst sol : Fields) (nodes : List ℕ) (n : ℕ) → nodes ≡ visited sol → n ≡ nodes_of inst → AreCustomers inst sol
     → All (IsNode n) nodes
 customers_in inst sol nodes n are is all =

@@ -1,34 +1,14 @@
 -- After each test that finds nothing, the reasons against a tour up to that test are ruled out. For
 -- `Subject::verdict_on_tour` in src/subject.rt.
-use Rattle.std.proofs.Common.{◌≡◌, ℕ, ◌≤◌, true, length, Some, sym, ◌∙◌, arith}
-use Rattle.std.proofs.lemmas.Bool.{false≢true}
-use Rattle.tsp_format.specs.declared.kinds.Kind.TheVariants as kinds
+use Rattle.std.proofs.Common.{◌≡◌, ℕ, length, Some, arith}
 use Rattle.tsp_draft.specs.Fields.{Fields, nodes_of}
-use Rattle.tsp_draft.specs.Rules.{is_tour_file}
-use Rattle.tsp_file.specs.Cost.{cost}
-use Rattle.tsp_theory.specs.Costs.{IsFirstAsymmetric}
 use Rattle.tsp_cost.specs.ComputedProblems.{is_directed}
 use Rattle.tsp_task.specs.declared.verdict.Reason.{Reason}
-use Rattle.tsp_task.specs.declared.verdict.Reason.TheVariants.{NotASolution, TooFewNodes, NotSymmetric, Dimension, TourCount, TourLength, NodeOutOfRange, RepeatedNode, FixedEdgeUnused, NotPotentials, PotentialsDimension, PotentialsKind, MultiplierNotFixed, MultiplierRepeated, DualInfeasible, DepotCount, DepotDemand, FixedEdgesInRoutes, DepotInRoute, Unserved, Overload, NotBranches, BranchesDimension, BadComb, BadBranch, BranchTwice, BadLeaf, TooManyLoads, LengthClaimed, NotJudged}
+use Rattle.tsp_task.specs.declared.verdict.Reason.TheVariants.{Dimension, TourCount, TourLength, NodeOutOfRange, RepeatedNode, FixedEdgeUnused, NotPotentials, PotentialsDimension, PotentialsKind, MultiplierNotFixed, MultiplierRepeated, DualInfeasible, DepotCount, DepotDemand, FixedEdgesInRoutes, DepotInRoute, Unserved, Overload, NotBranches, BranchesDimension, BadComb, BadBranch, BranchTwice, BadLeaf, TooManyLoads, LengthClaimed, NotJudged}
 use Rattle.tsp_verdict.specs.Places.{IsFirstPlace, IsLarger, IsAtEarlierPlace, IsUnused}
 use Rattle.tsp_file.specs.Defaults.{fixed_of}
 use Rattle.tsp_verdict.specs.Solution.{visited, tours_of}
 use Rattle.tsp_verdict.specs.Tours.{StandsAgainstTour, NoneOfTourBefore}
-
-pub after_solution : (inst sol : Fields) → is_tour_file sol.kind ≡ true → NoneOfTourBefore inst sol TooFewNodes
-after_solution inst sol is NotASolution low stands = false≢true (sym stands ∙ is)
-after_solution inst sol is reason low stands = absurd (omega (arith, low))
-
-pub after_nodes : (inst sol : Fields) → NoneOfTourBefore inst sol TooFewNodes → 3 ≤ nodes_of inst
-    → NoneOfTourBefore inst sol (NotSymmetric 1 2)
-after_nodes inst sol before enough TooFewNodes low stands = omega (arith, enough, stands)
-after_nodes inst sol before enough reason low stands = before reason (omega (arith, low)) stands
-
-pub after_symmetry : (inst sol : Fields) → NoneOfTourBefore inst sol (NotSymmetric 1 2)
-    → (inst.kind ≡ Some kinds.Tsp → (i j : ℕ) → IsFirstAsymmetric (nodes_of inst) (cost inst) (i, j) → ⊥)
-    → NoneOfTourBefore inst sol Dimension
-after_symmetry inst sol before even (NotSymmetric i j) low stands = even stands.0 i j stands.1
-after_symmetry inst sol before even reason low stands = before reason (omega (arith, low)) stands
 
 pub after_dimension : (inst sol : Fields) → NoneOfTourBefore inst sol Dimension
     → ((n : ℕ) → sol.dimension ≡ Some n → n ≡ nodes_of inst)

@@ -39,7 +39,7 @@ use Rattle.tsp_verdict.specs.Places.{IsFirstPlace}
 use Rattle.tsp_verdict.specs.Reasons.{NoneBefore, IsFirstReason, rank_of}
 use Rattle.tsp_verdict.specs.states.TourCosts.{IsSymmetricTsp}
 use Rattle.tsp_verdict.specs.BranchesCertificate.{each_once, given_in, case_steps_in, families_with_numbers, AreNumbersOf, IsBadFamily, StandsAgainstBranches, HasBoundByBranches, IsBoundByBranches, HasNoBoundByBranches}
-use Rattle.tsp_verdict.specs.Certified.{IsBoundBy, HasNoBoundBy, HasNoBound, StandsAgainstCertificateBy, StandsAgainstCertificate, BoundsSolutionsBy, BoundsSolutions, HasNoSolutionBy, HasNoSolution, IsCertified, NoneWithoutMemory}
+use Rattle.tsp_verdict.specs.Certified.{IsBoundBy, HasNoBoundBy, HasNoBound, StandsAgainstCertificateBy, StandsAgainstCertificate, BoundsSolutionsBy, BoundsSolutions, HasNoSolutionBy, HasNoSolution, IsCertified}
 use Rattle.tsp_verdict.specs.WalksCertificate.{StandsAgainstWalks}
 use Rattle.tsp_verdict.proofs.ByType.{tree_either}
 use Rattle.tsp_task.specs.declared.certificate.Certificate.TheVariants.{Branches}
@@ -210,21 +210,6 @@ none_before inst tree rank sort size combs pairs once leaves (BadBranch index) l
 none_before inst tree rank sort size combs pairs once leaves (BranchTwice index) low stands = once low index stands
 none_before inst tree rank sort size combs pairs once leaves (BadLeaf index) low stands = leaves low index stands
 none_before inst tree rank sort size combs pairs once leaves reason low stands = stands
-
--- out of memory, those are ruled out that need none
-pub none_of_tree : (inst tree : Fields) → is_branches_file tree.kind ≡ true → nodes_of tree ≡ nodes_of inst
-    → NoneWithoutMemory Branches inst tree
-none_of_tree inst tree sort size =
-    tree_either inst.kind (λ Stands. NoneBefore Stands (rank_of (BadComb 1))) inst tree
-    (none_before inst tree (rank_of (BadComb 1)) (λ low. sort) (λ low. size) (λ low. absurd (omega (arith, low)))
-    (λ low. absurd (omega (arith, low))) (λ low. absurd (omega (arith, low))) (λ low. absurd (omega (arith, low))))
-    (of_walks inst tree sort size)
-  where
-    of_walks : (inst tree : Fields) → is_branches_file tree.kind ≡ true → nodes_of tree ≡ nodes_of inst
-        → NoneBefore (StandsAgainstWalks inst tree) (rank_of (BadComb 1))
-    of_walks inst tree sort size NotBranches low stands = false≢true (sym stands ∙ sort)
-    of_walks inst tree sort size BranchesDimension low stands = stands size
-    of_walks inst tree sort size reason low stands = absurd (omega (arith, low))
 
 -- the two reasons that need no look at the tree
 pub no_branches : (inst tree : Fields) → is_branches_file tree.kind ≡ false

@@ -6,7 +6,7 @@ use Rattle.std.proofs.lemmas.Int.{ints}
 use Rattle.std.proofs.lemmas.List.{get_or-replicate, get_or_default}
 use Rattle.tsp_format.specs.Limits.{most_nodes}
 use Rattle.tsp_theory.specs.states.Nearest.{least_at}
-use Rattle.tsp_theory.proofs.Nearest.{most_64}
+use Rattle.tsp_theory.proofs.MostWeight.{most_64}
 use Rattle.tsp_theory.proofs.Steps.{written_back}
 use Rattle.tsp_theory.proofs.Weights.{sum_more, sum_computed}
 use Rattle.tsp_tree.specs.states.Outside.{AreFromThree, AreBroughtNearer, AreInner, IsLeastPlace}

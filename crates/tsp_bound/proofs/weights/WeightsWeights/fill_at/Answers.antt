@@ -3,7 +3,7 @@ use Rattle.std.proofs.Common.{◌≡◌, ◌<◌, length, slice_index, ℕ, arit
 use Rattle.std.specs.Prelude.{◌<ℤ◌}
 use Rattle.std.proofs.lemmas.Int.{ints}
 use Rattle.tsp_theory.specs.states.Nearest.{least_at}
-use Rattle.tsp_theory.proofs.Nearest.{most_64}
+use Rattle.tsp_theory.proofs.MostWeight.{most_64}
 use Rattle.tsp_bound.specs.states.Potentials.{weight_under}
 use Rattle.tsp_bound.specs.states.ByNode.{AreLowerings}
 use Rattle.tsp_bound.specs.states.Multipliers.{triples_in, weight_less}

@@ -1,0 +1,6 @@
+-- The largest whole number of 64 bits, which means that there is no weight: each weight is below it. For `bring` in
+-- src/growth.rt of tsp_tree and others.
+use Rattle.std.specs.Prelude.{ℤ, pos}
+
+abbrev pub most_64 : ℤ
+most_64 = pos 9223372036854775807
