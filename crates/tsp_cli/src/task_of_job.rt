@@ -1,4 +1,4 @@
-//! What a job asks for, of which files.
+//! Turns a job into a task on paths, or says why it is none. For `src/running.rt` of tsp_run.
 
 ghost use Rattle.std.specs.Prelude.{◌≡◌, ◌≤◌, Some, option_map};
 ghost use Rattle.std.specs.String.{string_bytes};

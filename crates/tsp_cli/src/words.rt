@@ -1,4 +1,5 @@
-//! What the words of the command line ask for.
+//! Turns the words of a command line into a job, a verb with its options and paths, or says why
+//! they are none. For `src/running.rt` of tsp_run.
 
 ghost use Rattle.std.specs.Prelude.{◌≡◌, ◌≢◌, ◌↔◌, IfOk, IsTrue, Some, codes, map, option_map};
 ghost use Rattle.std.specs.IoError.{error_kind};
@@ -44,7 +45,7 @@ impl Verb {
     }
 }
 
-/// What the words of a command line ask for. Its verb looks at no field but its own.
+/// The verb, the options and the paths of a command line. Its verb looks at no field but its own.
 #[derive(Drop)]
 pub struct Job {
     /// What to do, or `None` where no word says so.

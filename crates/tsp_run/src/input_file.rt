@@ -1,4 +1,5 @@
-//! A file to be read, which may be missing.
+//! A file to be read, standard input, or the error of a file that is missing. `src/main.rt` of
+//! tsp_tool opens them, for `src/opened_files.rt` and `src/followed.rt`.
 
 ghost use Rattle.std.specs.Prelude.{◌≡◌, IsTrue, IsErr, MatchResult};
 ghost use Rattle.std.specs.Io.{ReadsAtMost};

@@ -1,4 +1,5 @@
-//! How a run of the program ends.
+//! The ends of a run of the program, with the exit status and the line on standard error of each.
+//! For `src/running.rt`.
 
 ghost use Rattle.std.specs.Prelude.{◌≡◌, ◌++◌, ◌∷◌, [], OnOk};
 ghost use Rattle.std.specs.Io.KnownBytes.{Appends};
