@@ -15,8 +15,7 @@ use tsp_format::Kind;
 use tsp_read::{ReadFault, read_bytes};
 use tsp_verdict::{Verdict, judge_tour};
 
-/// Why `verdict_on` has no verdict: a text has a fault, the instance is of another TYPE, or memory
-/// ran out.
+/// Why `verdict_on` returns no verdict.
 #[derive(Debug, PartialEq, Drop, Error)]
 pub enum NoVerdict {
     /// A text is no file.

@@ -195,7 +195,7 @@ impl CallResult {
         }
     }
 
-    /// Why a run ended early.
+    /// The numbers of the fault with which a run ended early.
     pub(crate) fn of_error(error: RunError) -> CallResult
         ensures { result ≡ result_of_fault error }
     {

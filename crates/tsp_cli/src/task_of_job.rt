@@ -11,7 +11,7 @@ use tsp_format::Layout;
 use tsp_number::parse_whole;
 use tsp_task::{Certificate, Comparison, FileTask, Task};
 
-/// Where a file is.
+/// Where a file of a task is: standard input, or at a path.
 #[derive(Clone, Copy)]
 pub enum InputPath<'a> {
     /// Standard input.

@@ -70,7 +70,7 @@ pub struct Job {
     pub explain: bool,
 }
 
-/// Why words ask for nothing.
+/// Why words are no job: `clap` refuses them, they ask for help or the version, or memory ran out.
 #[derive(Debug, Drop)]
 pub enum JobFault {
     /// The command line is refused, or asks for help or the version. The text is that of `clap`.

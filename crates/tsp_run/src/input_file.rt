@@ -12,7 +12,7 @@ use std::io::Read;
 use tsp_cli::InputPath;
 use tsp_stream::Gives;
 
-/// What opens files.
+/// The trait of what opens files, which `src/main.rt` of tsp_tool implements by calls of the host.
 pub trait Open<F> {
     /// Whether this is what opening the file at a place may give.
     ghost opens: { Self → InputPath → F → Type 0 };

@@ -34,7 +34,7 @@ pub enum RunEnd {
     Compared(Result<Compared, RunError>),
 }
 
-/// What goes to standard error.
+/// The line that goes to standard error at the end of a run.
 #[derive(Drop)]
 pub enum ErrorLine<'a> {
     /// Why `clap` refuses the words, or the help that they ask for.
