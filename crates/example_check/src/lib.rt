@@ -15,7 +15,7 @@ use tsp_format::Kind;
 use tsp_read::{ReadFault, read_bytes};
 use tsp_verdict::{Verdict, judge_tour};
 
-/// Why there is no verdict.
+/// Why `verdict_on` returns no verdict.
 #[derive(Debug, PartialEq, Drop, Error)]
 pub enum NoVerdict {
     /// A text is no file.

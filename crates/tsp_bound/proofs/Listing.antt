@@ -186,8 +186,9 @@ pub reached_offered : (best : Option Link) (link new : Link) (weight : ℤ) → 
 reached_offered None link new weight offered reached = absurd reached
 reached_offered (Some was) link new weight offered reached = let k = offered.kept in omega (arith, ints, k, reached)
 
--- a link of the place that weighs no more than those kept that lead to another component, and than the number of its place
--- plan: of a link that isn't kept the number of the place is a bound; one that is kept weighs no less than the best of them
+-- a link of the place that weighs at most its listed links to other components, and at most the number of the place
+-- plan: by whether a link to another component is listed: it weighs at least the best listed one, or at least the
+-- number of the place
 pub kept_link : (n : ℕ) (w : ℕ → ℕ → ℤ) (label : ℕ → ℕ) (from : ℕ) (links : List Link) (bounds : List ℤ) (link : Link) → from < n
     → link.weight ≤ℤ pos 9223372036854775807 → link.weight ≢ pos 9223372036854775807
     → AreOffered n w n 0 0 0 links bounds → IsOwnLink n w from link

@@ -16,7 +16,7 @@ use Rattle.tsp_tree.proofs.Additions.{moved_to}
 use Rattle.tsp_bound.specs.states.NodeNumbers.{node_in}
 use Rattle.tsp_bound.specs.states.ByNode.{lowered_by, AreLowerings}
 
--- ---- what the weight to a node is lowered by
+-- ---- the multiplier that the weight to a node is lowered by
 
 pub none_lowered : (lowerings : List (ℕ × ℤ)) (x : ℕ) → AllByRecursion (λ l. l.0 ≢ x) lowerings → lowered_by lowerings x ≡ pos 0
 none_lowered [] x h = refl

@@ -11,7 +11,7 @@ use Rattle.tsp_bound.specs.states.NodeNumbers.{node_in}
 use Rattle.tsp_theory.specs.Tree.{IsInner}
 use Rattle.tsp_bound.proofs.Trees.{searched_all}
 
--- what the search of all boxes finds is the best
+-- the place that the search of all boxes finds is the best
 pub searched_best : (w : ℕ → ℕ → ℤ) (order : List ℕ) (outside : ℕ → Bool) (from : ℕ) (best : Best) → IsSearched w order outside from 1 no_best best → IsBest w order outside from best
 searched_best w order outside from best all = record {
   least = searched_all w order outside from no_best best all;

@@ -15,7 +15,7 @@ use Rattle.tsp_theory.specs.CertificateNumbers.{IsFromTo, IsMultiplier}
 use Rattle.tsp_theory.specs.Adjusted.{pair_of, is_same_pair, number_on, numbers_on, AreOnPairs}
 use Rattle.tsp_bound.specs.states.ByNode.{said_of, all_said_of, IsTable, lowered_by, AreLowerings}
 
--- ---- what a node's list takes off a weight is the multipliers of that pair
+-- ---- the number that a node's list takes off a weight is the sum of the multipliers of that pair
 
 lowered_both : (xs ys : List (ℕ × ℤ)) (x : ℕ) → lowered_by (xs ++ ys) x ≡ lowered_by xs x +ℤ lowered_by ys x
 lowered_both [] ys x = omega (arith, ints)

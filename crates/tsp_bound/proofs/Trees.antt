@@ -148,7 +148,7 @@ searched_both w places outside from v near far old half new inner is its differe
   found = found_after w places outside from near far old half new first second;
 }
 
--- what the search of the box 1 says of each place outside
+-- after the search of the box 1, no place outside is lighter than the best
 pub searched_all : (w : ℕ → ℕ → ℤ) (places : List ℕ) (outside : ℕ → Bool) (from : ℕ) (old new : Best) → IsSearched w places outside from 1 old new
     → (j : ℕ) → j < length places → outside j ≡ true → new.weight ≤ℤ w from (node_of places j)
 searched_all w places outside from old new all j j_in out =

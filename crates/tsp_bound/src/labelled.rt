@@ -39,7 +39,7 @@ pub(crate) struct Labelled<'a, W: BoxedWeights> {
         placed.order.now (λ _. true) (area_at areas.items) } by { AreHeld-prop (W.place_of placed.w.now) (W.number_of placed.w.now) placed.order.now (λ _. true) (area_at areas.items) },
 }
 
-/// The labels 0..count.
+/// A label of its own for each node: 0, 1, .., count - 1.
 ///
 /// # Errors
 ///

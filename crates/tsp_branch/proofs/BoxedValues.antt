@@ -29,7 +29,7 @@ use Rattle.tsp_branch.proofs.SharedSets.{inside_no_less}
 module _ (scale : ℤ) (potentials multipliers : List ℤ) (families : List (List (List ℕ))) (cost : ℕ → ℕ → ℤ) (from x : ℕ) (p q base : ℤ) (once : All (All HasEachOnce) families)
     (p_is : p ≡ entry potentials from +ℤ neg_ℤ (multipliers_at multipliers families from)) (q_is : q ≡ entry potentials x +ℤ neg_ℤ (multipliers_at multipliers families x))
     (base_is : base ≡ (scale *ℤ cost from x) +ℤ (p +ℤ q)) where
-  -- with what the sets of both add it is the weight by sets
+  -- the base plus the multipliers of the sets that have both nodes is the weight by sets
   pub base_and_inside : base +ℤ inside_both multipliers families (places_with 0 families from) x ≡ set_weight scale potentials multipliers families cost from x
   base_and_inside =
       let come = sets_come_to multipliers families from x once in

@@ -72,7 +72,7 @@ taken_few case taken most is few =
     let second = count_by-le-length test case in
     omega (arith, first, second, few)
 
--- what the families give back needs their least crossings alone, not their sets
+-- the sum that the families give back depends on their least crossings alone, not on their sets
 pub least_told : (crossed : List Crossings) (ms : List ℤ) (families : List (List (List ℕ))) → length crossed ≡ length families
     → least_of (multiplied (families_with crossed families) ms) ≡ sum_with false crossed ms
 least_told [] ms families many = refl

@@ -43,7 +43,7 @@ fn close(row: &mut [i64], decision: Decision, from: u32)
     }
 }
 
-/// Closes a link.
+/// Closes the link to a node in a row.
 pub(crate) fn shut(row: &mut [i64], node: u32)
     requires { node < length row.old }
     ensures here { least_at row.new node ≡ no_link }

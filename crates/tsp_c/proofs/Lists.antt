@@ -13,7 +13,7 @@ use Rattle.tsp_c.specs.NumberCalls.{lists_in, onto_first_list}
 abbrev first_len : List ℕ → ℕ
 first_len nodes = prefix_len (λ node. not (node == 0)) nodes
 
--- the first list, and what follows its 0
+-- the first list, and the numbers behind its 0
 cut_more : (node : ℕ) (nodes : List ℕ) (ends : Bool) → (first_len nodes < length nodes
     → lists_in nodes ≡ take (first_len nodes) nodes ∷ lists_in (drop (first_len nodes + 1) nodes))
     → cond (not ends) (1 + first_len nodes) 0 < length (node ∷ nodes)

@@ -118,7 +118,7 @@ are_spelled opened claimed one two given verdict is texts_are = record {
   third_file = texts_are.1;
 }
 
--- what the line `yes` of the report means
+-- the meaning of the line `yes` of a report on an open instance
 abbrev pub Means : Open → Option ℤ → Bool → Fields → Verdict → Type 0
 Means opened claimed strict solution verdict = true ≡ is_yes verdict
     → IsAccepted opened.certificate claimed opened.instance solution (report_of opened.instance verdict)

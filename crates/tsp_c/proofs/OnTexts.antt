@@ -77,7 +77,7 @@ text_stops P turn text number file read_faults.TooLong holds known is stops =
 text_stops P turn text number file read_faults.OutOfMemory holds known is stops = holds read_faults.OutOfMemory (is, tt)
 text_stops P turn text number file read_faults.Device holds known is stops = holds read_faults.OutOfMemory (is, tt)
 
--- what is known of the writer of a run on texts: it held nothing, and holds the text
+-- the writer of a run on texts was empty before, and holds the written text after
 pub record Collects (sink : Sink) (written : List ℕ) : Type 0 where
   pub held : sink.held ≡ Some []
   pub holds : sink.holds ≡ Some written
@@ -126,7 +126,7 @@ converts to turn sink (Err (Write write_faults.Device)) one written status text 
 
 -- ---- the check of texts
 
--- what is known of three texts that a run may read
+-- the three texts that a run may read, and the files that they parse to
 pub record Reads3 (first second third : Turn) (one two three : List ℕ) : Type 0 where
   pub first_is : first.known ≡ Some one
   pub second_is : second.known ≡ Some two
@@ -296,7 +296,7 @@ checks by claimed strict first second third sink (Err fault) one two three writt
 
 -- ---- a bound
 
--- what is known of two texts that a run reads
+-- the two texts that a run reads, and the files that they parse to
 pub record Reads2 (first second : Turn) (one two : List ℕ) : Type 0 where
   pub first_is : first.known ≡ Some one
   pub second_is : second.known ≡ Some two

@@ -1,4 +1,5 @@
-//! A box with its fields in sight.
+//! A box taken apart into its pointer and its allocator, and put together again. For `src/loose.rt`
+//! and `src/handle.rt`, which give the pointer to C.
 ghost use Rattle.std.specs.Prelude.{◌≡◌};
 ghost use Rattle.std_alloc.specs.Box.Ownership.{box_owns};
 

@@ -1,4 +1,5 @@
-//! The statuses of the calls on numbers.
+//! The status of a call that fills in numbers, or of a call on a handle. For `src/handle_calls.rt`,
+//! `src/pair_costs.rt` and the other calls that fill in numbers.
 
 ghost use Rattle.std.specs.Prelude.{◌≡◌, Ok};
 ghost use Rattle.tsp_judge.specs.Status.{status_of, status_of_fault};
@@ -30,7 +31,7 @@ impl Model for CallEnd {
 }
 
 impl CallEnd {
-    /// The number of the status.
+    /// The number of the status, which the call returns to C.
     pub(crate) fn number(self) -> u32
         ensures { result ≡ self }
     {
@@ -55,7 +56,8 @@ impl CallEnd {
         }
     }
 
-    /// The instance doesn't have it.
+    /// The status of a number that is refused: a node, a row or a section that the instance doesn't
+    /// have.
     pub(crate) fn refused() -> CallEnd
         ensures { result ≡ 4 }
     {

@@ -1,6 +1,5 @@
-//! Which numbers the calls for C take, which buffers are too small, and which file a fault of a
-//! call on an open instance is of. No body is looked at here: a definition that is changed together
-//! with its code is refused by its examples.
+//! Laws that state values of the definitions in `specs/`, worked out by hand: which numbers the
+//! calls for C take, which buffers are too small, and which file of a call a fault is of.
 
 ghost use Rattle.std.specs.Prelude.{ℕ, ℤ, pos, List, [], ◌∷◌, Err};
 ghost use Rattle.tsp_draft.specs.Fields.{Fields};

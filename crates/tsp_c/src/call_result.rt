@@ -1,4 +1,5 @@
-//! The result of a call in numbers.
+//! The result of a call in numbers, as `tsp.h` declares it: verdict, length, bound, reason, fault.
+//! For `src/picked_runs.rt` and `src/handle_calls.rt`.
 
 ghost use Rattle.std.specs.Prelude.{◌≡◌, ◌≢◌, Some, IfOk};
 ghost use Rattle.tsp_report.specs.Report.{IsGapSized, IsSized};
@@ -194,7 +195,7 @@ impl CallResult {
         }
     }
 
-    /// Why a run ended early.
+    /// The numbers of the fault with which a run ended early.
     pub(crate) fn of_error(error: RunError) -> CallResult
         ensures { result ≡ result_of_fault error }
     {
@@ -248,7 +249,7 @@ impl CallResult {
         self
     }
 
-    /// The same with a bound.
+    /// These numbers with a bound.
     fn with_bound(self, bound: i128) -> CallResult
         requires { IsGapSized (Some bound) }
         ensures { result ≡ with_bound self bound }
@@ -261,7 +262,7 @@ impl CallResult {
         }
     }
 
-    /// The same with a reason.
+    /// These numbers with a reason.
     fn with_reason(self, reason: Reason) -> CallResult
         ensures { result ≡ with_reason self reason }
     {

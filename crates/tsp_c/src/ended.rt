@@ -1,4 +1,5 @@
-//! How a run on texts ends.
+//! The status and the text with which a call on texts ends. For `src/texts.rt`,
+//! `src/picked_runs.rt` and `src/handle_calls.rt`.
 
 ghost use Rattle.std.specs.Prelude.{◌≡◌, ◌≢◌, IsErr, MatchResult};
 ghost use Rattle.tsp_stream.specs.states.Watched.{watched};
@@ -31,7 +32,7 @@ impl Model for Answer {
 }
 
 impl Answer {
-    /// A number is refused.
+    /// The status of a call with a number that is refused, and no text.
     pub(crate) fn refused(alloc: Global) -> Answer
         ensures { IsRefusedNumber result.0 result.1 }
     {
@@ -71,7 +72,7 @@ pub(crate) fn ended(answer: Result<bool, RunError>, report: Watched<Vec<u8>>) ->
     }
 }
 
-/// The same.
+/// The status of a run on texts and the text for the caller, as of `ended`.
 ///
 /// # Errors
 ///

@@ -1,5 +1,6 @@
-//! The numbers of the calls for C, worked out by hand. No body is looked at here: a definition that
-//! is changed together with its code is refused by its examples.
+//! Laws that state values of the definitions in `specs/`, worked out by hand: picked numbers,
+//! filled places, texts in buffers, lines of faults, halves of bounds, verdicts and faults in
+//! numbers.
 
 ghost use Rattle.std.specs.Prelude.{◌≡◌, ◌∷◌, ◌++◌, ◌+◌, ◌-◌, ◌^◌, true, false, ℤ, pos, negsuc, [], None, Some, codes};
 ghost use Rattle.tsp_draft.specs.declared.fault.EndFault.TheVariants as end_faults;

@@ -1,4 +1,5 @@
-//! What the result of a call on texts means, for a person.
+//! Explains the result of a call on texts to a person, by doing the call again as a task. For
+//! `tsp_explain` in `src/lib.rt`.
 
 ghost use Rattle.std.specs.Prelude.{◌↔◌, IsSome};
 ghost use Rattle.tsp_c.specs.Texts.{ExplainsTexts, IsExplained};
@@ -19,7 +20,8 @@ const CHECK: u32 = 2;
 
 const BOUND: u32 = 3;
 
-/// The numbers of a call.
+/// The numbers that a call of `tsp_explain` passes: which call is explained, its layout or
+/// certificate, its claim.
 #[derive(Clone, Copy)]
 pub(crate) struct Numbers {
     pub(crate) call: u32,

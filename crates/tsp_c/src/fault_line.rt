@@ -1,4 +1,4 @@
-//! The line of a fault.
+//! The line of a fault, as the program writes it on standard error, in memory. For `src/ended.rt`.
 
 ghost use Rattle.std.specs.Prelude.{◌≡◌, [], IfOk};
 ghost use Rattle.tsp_c.specs.Ended.{fault_line};

@@ -1,4 +1,5 @@
-//! Numbers in a caller's buffer.
+//! Puts a number into a caller's buffer. For `src/pair_costs.rt`, `src/list_lengths.rt` and
+//! `src/section_points.rt`.
 
 ghost use Rattle.std.specs.Prelude.{◌≡◌, ◌+◌, ◌<◌, ℕ, ℤ, List, length};
 ghost use Rattle.tsp_c.specs.NumberCalls.{IsFilled};

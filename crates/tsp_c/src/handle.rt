@@ -1,4 +1,5 @@
-//! A handle that a caller in C holds: closed, or open on an instance.
+//! The handle that a caller in C holds: closed, or open on an instance. For `src/handle_calls.rt`,
+//! and the calls on a handle in `src/lib.rt`.
 
 ghost use Rattle.std.specs.Prelude.{◌≡◌, None, Some, is_some};
 ghost use Rattle.std.specs.Option.{option_map};

@@ -1,4 +1,5 @@
-//! The calls on a handle.
+//! The calls on a handle: open, bind, check, costs, lengths, points, close. For the functions
+//! `tsp_open` to `tsp_instance_lengths` of `src/lib.rt`.
 
 ghost use Rattle.std.specs.Prelude.{◌≡◌, None, Some, MatchResult};
 ghost use Rattle.tsp_stream.specs.states.Watched.{sink_of};

@@ -1,4 +1,5 @@
-//! A value in a box, and the token of a refusal that only this call makes.
+//! Puts a value into a box, or returns `NoBox`, which no other call makes. For
+//! `src/handle_calls.rt`.
 
 ghost use Rattle.std.specs.Prelude.{◌≡◌, IfOk};
 
@@ -11,7 +12,7 @@ pub(crate) struct NoBox {
     error: AllocError,
 }
 
-/// The value in a box. Whatever the value is, it isn't looked at.
+/// Puts a value into a box. The value isn't looked at.
 ///
 /// # Errors
 ///

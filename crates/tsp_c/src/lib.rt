@@ -84,7 +84,7 @@ pub extern "C" fn tsp_check(
     status
 }
 
-/// The same as `tsp_check`, in numbers too.
+/// Does what `tsp_check` does, and returns its result in numbers too.
 #[unsafe(no_mangle)]
 pub extern "C" fn tsp_check_result(
     alloc: Global,
@@ -129,7 +129,7 @@ pub extern "C" fn tsp_bound(
     status
 }
 
-/// The same as `tsp_bound`, in numbers too.
+/// Does what `tsp_bound` does, and returns its result in numbers too.
 #[unsafe(no_mangle)]
 pub extern "C" fn tsp_bound_result(
     alloc: Global,
@@ -151,7 +151,7 @@ pub extern "C" fn tsp_bound_result(
     status
 }
 
-/// Shows what a file is.
+/// Writes what `tsp show` prints of a file.
 #[unsafe(no_mangle)]
 pub extern "C" fn tsp_show(alloc: Global, file: &[u8], out: &mut [u8], written: &mut usize) -> u32
     ensures { PlacesText (ShowsText file.now) out.old out.new written.new result }

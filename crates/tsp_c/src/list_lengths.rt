@@ -1,4 +1,5 @@
-//! The lengths of lists of nodes, each of which a 0 ends.
+//! The lengths of lists of nodes, each of which a 0 ends. For `tsp_lengths` in `src/lib.rt`, and
+//! `src/handle_calls.rt`.
 
 ghost use Rattle.std.specs.Prelude.{◌≡◌, ◌≤◌, ◌-◌, ◌==◌, ◌↔◌, IsTrue, length, slice_index};
 ghost use Rattle.std.specs.List.{All, count_by, position};
@@ -28,7 +29,7 @@ pub(crate) fn fill_lengths(alloc: Global, text: &[u8], nodes: &[u32], out: &mut 
     }
 }
 
-/// The same of an instance.
+/// Fills in the lengths of lists of nodes of an instance; the status.
 #[tactic(auto, using(crate::proofs::Lists::lists_counted))]
 pub(crate) fn lengths_of(instance: &Instance, nodes: &[u32], out: &mut [i64]) -> CallEnd
     ensures { EndsLengths instance.now nodes.now out.old out.new result }

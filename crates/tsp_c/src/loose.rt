@@ -1,4 +1,4 @@
-//! A boxed instance as its pointer, or nothing.
+//! An open instance in a box as its bare pointer, or NULL. For `src/handle.rt`.
 
 ghost use Rattle.std.specs.Prelude.{◌≡◌, Option, None, Some};
 ghost use Rattle.tsp_judge.specs.Open.{Open};
@@ -35,7 +35,7 @@ impl Loose {
         }
     }
 
-    /// Ends what owns nothing.
+    /// Ends a NULL pointer, which owns nothing, without a drop.
     pub(crate) fn end(self)
         requires { self.value ≡ None }
     {

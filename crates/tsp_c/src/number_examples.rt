@@ -1,5 +1,5 @@
-//! Each number that means a name in the calls for C, as `tsp.h` has it. No body is looked at
-//! here: a definition that is changed together with its code is refused by its examples.
+//! Laws that state values of the definitions in `specs/`, worked out by hand: each number that
+//! means a name in the calls for C, as `tsp.h` has it.
 
 ghost use Rattle.std.specs.Prelude.{◌≡◌, ◌∷◌, ℤ, pos, negsuc, [], None, Some, map};
 ghost use Rattle.tsp_distance.specs.declared.decimal.Point.{Point};

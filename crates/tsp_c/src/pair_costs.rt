@@ -1,4 +1,5 @@
-//! Costs of pairs of nodes, and rows of the matrix.
+//! Costs of pairs of nodes, and rows of the matrix. For `tsp_weights` and `tsp_matrix` in
+//! `src/lib.rt`, and `src/handle_calls.rt`.
 
 ghost use Rattle.std.specs.Prelude.{◌+◌, ◌≤◌, ◌*◌, ◌↔◌, IsTrue, length};
 ghost use Rattle.std.specs.List.{All};
@@ -26,7 +27,7 @@ pub(crate) fn fill_weights(alloc: Global, text: &[u8], pairs: &[u32], out: &mut 
     }
 }
 
-/// The same of an instance.
+/// Fills in the costs of pairs of nodes of an instance; the status.
 pub(crate) fn weights_of(instance: &Instance, pairs: &[u32], out: &mut [i64]) -> CallEnd
     ensures { EndsWeights instance.now pairs.now out.old out.new result }
 {
@@ -79,7 +80,7 @@ pub(crate) fn fill_matrix(alloc: Global, text: &[u8], first_row: u32, out: &mut 
     }
 }
 
-/// The same of an instance.
+/// Fills in rows of the matrix of an instance; the status.
 pub(crate) fn rows_of(instance: &Instance, first_row: u32, out: &mut [i64]) -> CallEnd
     ensures { EndsMatrix instance.now first_row out.old out.new result }
 {

@@ -1,4 +1,5 @@
-//! The runs that a number picks, and the numbers that are refused.
+//! The runs that a number picks by its certificate or layout, and the numbers that are refused. For
+//! the calls on texts in `src/lib.rt`.
 
 ghost use Rattle.std.specs.Prelude.{◌≡◌, ◌≤◌};
 ghost use Rattle.tsp_format.specs.Words.{layouts};

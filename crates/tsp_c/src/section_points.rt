@@ -1,4 +1,5 @@
-//! The coordinates of the points of a section.
+//! The coordinates of the points of a section. For `tsp_points` in `src/lib.rt`, and
+//! `src/handle_calls.rt`.
 
 ghost use Rattle.std.specs.Prelude.{◌≡◌, ◌≤◌, ◌<◌, ◌*◌, length, option_map, slice_index_or};
 ghost use Rattle.tsp_draft.specs.Coords.{origin};
@@ -30,7 +31,7 @@ pub(crate) fn fill_points(alloc: Global, text: &[u8], section: u32, out: &mut [i
     }
 }
 
-/// The same of a file.
+/// Fills in the coordinates of the points of a section of a file; the status.
 pub(crate) fn points_of_file(file: &File, section: u32, out: &mut [i64]) -> CallEnd
     requires { IsSection section }
     ensures { EndsPoints (section_points section file.now) out.old out.new result }

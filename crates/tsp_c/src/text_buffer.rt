@@ -1,4 +1,4 @@
-//! A text in a caller's buffer.
+//! Puts a text into a caller's buffer where it fits. For `src/ended.rt` and `src/lib.rt`.
 
 ghost use Rattle.tsp_c.specs.Ended.{IsPlaced};
 

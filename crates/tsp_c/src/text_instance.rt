@@ -1,4 +1,5 @@
-//! The instance of a text.
+//! The instance that a text parses to, for calls that fill in numbers: `src/pair_costs.rt`,
+//! `src/list_lengths.rt`, and `tsp_count` in `src/lib.rt`.
 
 ghost use Rattle.tsp_c.specs.NumberCalls.{FillsCount, FindsInstance};
 

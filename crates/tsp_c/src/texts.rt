@@ -1,4 +1,5 @@
-//! The runs on texts in memory.
+//! The runs of tsp_judge on texts in memory: show, convert, check, bound. For `src/picked_runs.rt`,
+//! and `tsp_show` in `src/lib.rt`.
 
 ghost use Rattle.std.specs.Prelude.{◌≡◌};
 ghost use Rattle.tsp_judge.specs.CheckRun.{call_result};
@@ -92,7 +93,7 @@ pub(crate) fn bounded(
     (answer, call_result)
 }
 
-/// What is done is no no.
+/// `true` where a file was shown or converted, since such a run never has the line `no`.
 fn done(ended: Result<(), RunError>) -> Result<bool, RunError>
     ensures { result ≡ done ended }
 {

@@ -1,5 +1,5 @@
--- The weight between two nodes under the decisions of a case: what all of them add to it, one after the other. For
--- `change_between` and `change_row` in src/decided.rt of tsp_branch and others.
+-- The weight between two nodes under the decisions of a case, which add to it one after the other. For `change_between`
+-- and `change_row` in src/decided.rt of tsp_branch and others.
 use Rattle.std.proofs.Common.{◌≡◌, ℕ, ◌+◌, ◌<◌, List, [], ◌∷◌, drop, length, inl, inr, ap, ◌∙◌, arith, drop-cons, add-one}
 use Rattle.std.specs.Int.{w64}
 use Rattle.std.specs.Prelude.{ℤ, pos, neg_ℤ, ◌+ℤ◌, FitsSigned, slice_index_or}

@@ -1,5 +1,5 @@
--- A cycle crosses a comb of k teeth at least 3k + 1 times: each tooth three times, counting what crosses the handle inside it,
--- and in all an even number of times. For the law `cycles_cross_combs` in src/laws.rt.
+-- A cycle crosses a comb of k teeth at least 3k + 1 times: each tooth three times, with its crossings of the handle
+-- inside the tooth, and in all an even number of times. For the law `cycles_cross_combs` in src/laws.rt.
 use Rattle.std.proofs.Common.{◌≡◌, ℕ, zero, suc, ◌*◌, ◌≤◌, ◌&&◌, Bool, true, false, not, cond, List, [], ◌∷◌, length, ℤ, ◌+ℤ◌, ◌≤ℤ◌, inl, inr, refl, arith, ap}
 use Rattle.std.specs.Prelude.{pos}
 use Rattle.std.specs.List.{AllPairs, AllByRecursion}

@@ -19,7 +19,7 @@ use Rattle.tsp_cases.proofs.CaseLaws.{stacks_hold_cases}
 use Rattle.tsp_cases.proofs.NextCases.{stack_more}
 use Rattle.tsp_cases.proofs.OnePass.{AreGoodFrom, IsFirstBadFrom, all_good_by_place}
 
--- ---- the least of the known bounds and of leaves, whatever is found of a leaf
+-- ---- the least of the bounds so far and of those of leaves, whichever judge finds these
 
 module _ (Found : List Decision × LeafNumbers → Option ℤ → Type 0) where
   -- the least of the lowest bound so far and of the bounds of the leaves still to come

@@ -4,7 +4,7 @@
 use crate::families::Families;
 use crate::tree_cases::Cases;
 
-/// The judgement on families.
+/// The judgement on the families of a certificate: all of them, or the first bad one.
 #[derive(Drop)]
 pub enum JudgedFamilies<'a> {
     /// All are good.
@@ -34,7 +34,7 @@ pub enum JudgedLeaves {
     BadLeaf(usize),
 }
 
-/// The judgement on a leaf.
+/// The judgement on a leaf: its bound, or that its numbers are bad.
 #[derive(Drop)]
 pub enum JudgedLeaf {
     /// Its numbers are good, and this is its bound. `None` where it has none: then no solution

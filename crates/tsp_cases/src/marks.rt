@@ -5,8 +5,8 @@ ghost use Rattle.std.specs.Prelude.{◌≡◌, ◌≤◌, ◌<◌, ◌↔◌, �
 ghost use Rattle.std.specs.List.{All, Any};
 ghost use Rattle.tsp_cases.specs.states.Marked.{is_marked, AreNew, AreMarked, AddsNoOther};
 
-/// Marks nodes. `false` where one has the mark or appears twice: the nodes before it are marked
-/// then.
+/// Marks the nodes of a set. `false` where one has the mark or appears twice: the nodes before it
+/// are marked then.
 pub fn mark_nodes(marks: &mut [u32], mark: u32, nodes: &[u32]) -> bool
     requires { All (λ node. node < length marks.old) nodes.now }
     ensures new { IsTrue result ↔ AreNew (is_marked marks.old mark) nodes.now }

@@ -140,7 +140,7 @@ pick p name rows false false false false false false differs is_a is_b is_c is_d
     let none = rw (is_a, is_b, is_c, is_d, is_e, is_f) at found in
     absurd (true≢false (ap (λ (o : Option (Text × List Row)). is_some o) (sym none)))
 
--- what a parse with no fault enters has the word of a verb
+-- the subcommand that a parse without a fault enters has the word of a verb
 pub named : (words : List Text) (name : Text) (rows : List Row) → fault_of tsp words ≡ []
     → subcommand_of tsp words ≡ Some (name, rows)
     → (verb : Verb) × (name ≡ word_of verb)

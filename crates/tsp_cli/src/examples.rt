@@ -1,5 +1,4 @@
-//! The words of the verbs. No body is looked at here: a definition that is changed together with
-//! its code is refused by its examples.
+//! A law that states values of a definition in `specs/`, worked out by hand: the word of each verb.
 
 ghost use Rattle.std.specs.Prelude.{◌≡◌, codes};
 ghost use Rattle.tsp_cli.specs.declared.words.Verb.TheVariants as verbs;

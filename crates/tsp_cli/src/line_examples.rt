@@ -1,6 +1,5 @@
-//! Whole command lines: what they ask for, or that they are refused; and jobs that are no task. No
-//! body is looked at here: a definition that is changed together with its code is refused by its
-//! examples.
+//! Laws that state values of the definitions in `specs/`, worked out by hand: the tasks of whole
+//! command lines, lines that are refused, and jobs that are no task.
 
 ghost use Rattle.std.specs.Prelude.{◌≡◌, ◌≢◌, Bool, [], ◌∷◌, Option, None, Some, ℤ, codes};
 ghost use Rattle.clap.specs.Words.{fault_of};

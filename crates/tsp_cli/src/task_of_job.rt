@@ -1,4 +1,4 @@
-//! What a job asks for, of which files.
+//! Turns a job into a task on paths, or says why it is none. For `src/running.rt` of tsp_run.
 
 ghost use Rattle.std.specs.Prelude.{◌≡◌, ◌≤◌, Some, option_map};
 ghost use Rattle.std.specs.String.{string_bytes};
@@ -11,7 +11,7 @@ use tsp_format::Layout;
 use tsp_number::parse_whole;
 use tsp_task::{Certificate, Comparison, FileTask, Task};
 
-/// Where a file is.
+/// Where a file of a task is: standard input, or at a path.
 #[derive(Clone, Copy)]
 pub enum InputPath<'a> {
     /// Standard input.

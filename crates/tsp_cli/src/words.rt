@@ -1,4 +1,5 @@
-//! What the words of the command line ask for.
+//! Turns the words of a command line into a job, a verb with its options and paths, or says why
+//! they are none. For `src/running.rt` of tsp_run.
 
 ghost use Rattle.std.specs.Prelude.{◌≡◌, ◌≢◌, ◌↔◌, IfOk, IsTrue, Some, codes, map, option_map};
 ghost use Rattle.std.specs.IoError.{error_kind};
@@ -44,7 +45,7 @@ impl Verb {
     }
 }
 
-/// What the words of a command line ask for. Its verb looks at no field but its own.
+/// The verb, the options and the paths of a command line. Its verb looks at no field but its own.
 #[derive(Drop)]
 pub struct Job {
     /// What to do, or `None` where no word says so.
@@ -69,7 +70,7 @@ pub struct Job {
     pub explain: bool,
 }
 
-/// Why words ask for nothing.
+/// Why words are no job: `clap` refuses them, they ask for help or the version, or memory ran out.
 #[derive(Debug, Drop)]
 pub enum JobFault {
     /// The command line is refused, or asks for help or the version. The text is that of `clap`.

@@ -87,7 +87,7 @@ fn coarse_euc_2d(a: Point, b: Point) -> Option<u32>
     nearest_root(square_of(dx) + square_of(dy))
 }
 
-/// The distance EUC_2D.
+/// The distance EUC_2D, by `coarse_euc_2d` where that has it.
 // (between whole coordinates by a third of the instructions less)
 #[inline(always)]
 pub(crate) fn quick_euc_2d(a: Point, b: Point) -> i64

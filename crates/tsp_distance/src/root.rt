@@ -93,7 +93,7 @@ fn exact_root(rounding: Rounding, square: u128, most: u32) -> u32
     low
 }
 
-/// The square of a way.
+/// The square of a difference of coordinates, in counts of 10^-18.
 #[inline(always)]
 pub(crate) fn square_of(way: i64) -> u128
     requires { unsigned_abs way ≤ 2 * 10 ^ 18 }

@@ -8,7 +8,7 @@ use Rattle.std.specs.Int.{w64}
 use Rattle.std.specs.List.{All, list_all}
 use Rattle.tsp_draft.specs.Validity.{is_from_to}
 
--- a number without the highest bit is what its bits are
+-- a number without the highest bit has the value of its bits
 pub own_bits : (z : ℤ) → FitsSigned w64 z → of_z w64 z < 2 ^ 63 → (pos 0 ≤ℤ z) × (z ≤ℤ pos (of_z w64 z))
 own_bits z fits small = let same : to_z w64 (of_z w64 z) ≡ z = to_z-of_z w64 z fits in search rules
 

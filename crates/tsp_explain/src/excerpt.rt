@@ -16,7 +16,7 @@ pub(crate) struct Excerpt {
 }
 
 impl Excerpt {
-    /// No byte yet.
+    /// An excerpt with no byte yet.
     pub(crate) fn new() -> Excerpt {
         Excerpt {
             before: ArrayVec::new(),
@@ -47,7 +47,7 @@ impl Excerpt {
         let _ = self.before.try_push(byte);
     }
 
-    /// The marked bytes.
+    /// The bytes of the line that the fault is said of.
     pub(crate) fn marked(&self) -> &[u8] {
         self.marked.as_slice()
     }

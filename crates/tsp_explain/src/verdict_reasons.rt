@@ -44,7 +44,7 @@ const BOUND_KINDS: &str =
 const WITHOUT_TOURS: &str =
     "The instance has no tour: at each leaf of the tree its decisions and the fixed arcs leave some node no arc.";
 
-/// The same of routes.
+/// What it means that a certificate gives routes no bound.
 const NO_ROUTES: &str = "The instance has no routes: no customer's load fits into a vehicle.";
 
 /// Appends why a solution is rejected; of an accepted one whether one of its comments claims

@@ -10,7 +10,7 @@ use crate::node_sets::NodeSets;
 use std::alloc::Global;
 use tsp_memory::{Refused, filled};
 
-/// The memberships of nodes.
+/// For each node the number whose bits say which sets of the family have it.
 ///
 /// # Errors
 ///

@@ -45,7 +45,7 @@ comes_begins f n weights a =
     let all : n - 0 ≡ n = omega arith in
     record { done = []; carried = carried_none a; parts = ap (λ m. lines_from f 1 m weights) all }
 
--- the first of the lines, and the others
+-- the first line, and those after it
 lines_first : (f : ℕ → ℕ) (line count : ℕ) (rest : List ℤ)
     → lines_from f line (suc count) rest ≡ weight_line (take (f line) rest) ++ lines_from f (line + 1) count (drop (f line) rest)
 lines_first f line count rest = refl
@@ -83,7 +83,7 @@ comes_last f n index rest whole a b c all h k =
 abbrev pub after_blanks : List ℤ → List ℕ
 after_blanks weights = flat_map (λ weight. 32 ∷ signed_decimal weight) weights
 
--- some of the weights, and the others
+-- a block of weights, and those after it
 pub comes_block : (count : ℕ) (rest now later : List ℤ) (whole : List ℕ) (a b c : Way) → now ≡ take count rest
     → later ≡ drop count rest
     → Comes a b (after_blanks rest) whole → Carried b c (after_blanks now) → Comes a c (after_blanks later) whole

@@ -75,7 +75,7 @@ impl<'a> ListedWeights<'a> {
         }
     }
 
-    /// Whether this is their layout.
+    /// Whether the weights are listed in this layout.
     pub(crate) fn are_in(&self, layout: Layout) -> bool
         ensures { IsTrue result ↔ (self.now.layout ≡ layout) }
     {

@@ -73,7 +73,7 @@ pub enum Shape {
 pub enum ValueShape {
     /// Bytes that are kept as they are, of one line.
     Kept,
-    /// The same of each line that has the keyword.
+    /// Bytes that are kept as they are, of each line that has the keyword.
     KeptEach,
     /// A whole number from `low` to `high`: the first word.
     Number { low: i64, high: i64 },

@@ -44,7 +44,7 @@ pub enum Found {
 }
 
 impl Found {
-    /// The verdict, or the fault.
+    /// The verdict on the solution, or the fault of its file.
     pub(crate) fn result(&self) -> Result<Verdict, ReadFault>
         ensures { result ≡ result_of self.now }
     {

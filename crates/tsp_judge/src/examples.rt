@@ -90,7 +90,7 @@ pub fn examples_of_faulty_files()
         → ¬ IsRun given claimed strict first second sink (Err (run_faults.File 0 fault)) }
 {}
 
-/// The same where tours are bounded: the certificate is the second file.
+/// Which file a fault of a bound is of. The certificate is the second file.
 pub fn examples_of_faulty_files_of_bounds()
     ensures first { (by : Certificate) (strict : Bool) (fault : ReadFault) (first second : Turn) (sink : Sink) → IsUnwritten sink
         → StopsAt fault first → IsUnread second → IsBoundRun by strict first second sink (Err (run_faults.File 1 fault)) }

@@ -70,7 +70,7 @@ impl RunError {
         }
     }
 
-    /// The files aren't judged so.
+    /// The fault of an instance that isn't judged, or not with this certificate.
     pub fn wrong_kind() -> RunError
         ensures { result ≡ WrongKind }
     {
@@ -79,7 +79,7 @@ impl RunError {
         }
     }
 
-    /// The output wasn't written.
+    /// The fault of an output that could not be written.
     pub fn unwritten(fault: WriteFault) -> RunError
         ensures { result ≡ Write fault }
     {

@@ -59,7 +59,7 @@ pub fn push<T: Drop>(list: &mut Vec<T>, element: T) -> Result<(), Refused>
     }
 }
 
-/// The elements once more.
+/// A copy of a list.
 ///
 /// # Errors
 ///

@@ -9,7 +9,7 @@ pub struct Refused {
 }
 
 impl Refused {
-    /// The token of this refusal.
+    /// The token of a refusal by std, whose error this is.
     pub(crate) fn of(error: AllocError) -> Refused {
         Refused { error }
     }

@@ -33,7 +33,7 @@ fn front_sign(bytes: &[u8]) -> (bool, usize)
     }
 }
 
-/// The same as `front_digits`, one digit after another.
+/// The result of `front_digits`, found one digit after another.
 #[inline(always)]
 fn single_digits(bytes: &[u8], most: usize) -> (u64, usize)
     requires { most ≤ 18 }

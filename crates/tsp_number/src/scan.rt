@@ -11,7 +11,7 @@ ghost use Rattle.tsp_number.specs.states.Written.{saturated, clamped, HoldsWord}
 /// same.
 const MOST_EXPONENT: u64 = 10_000;
 
-/// A number word's parts.
+/// The sign, digits and exponent of a number word.
 #[derive(Clone, Copy)]
 pub(crate) struct Written<'a> {
     pub(crate) negative: bool,
@@ -47,7 +47,7 @@ fn split_sign(bytes: &[u8]) -> (bool, &[u8])
     }
 }
 
-/// What follows a point at the front, if there is one.
+/// The bytes after a point, if they begin with one; else all of them.
 #[inline(always)]
 fn skip_point(bytes: &[u8]) -> &[u8]
     ensures { result.now ≡ after_point bytes.now }

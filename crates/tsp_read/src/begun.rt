@@ -28,7 +28,7 @@ impl Begun {
     ghost use Rattle.tsp_read.specs.states.Paused.{IsPaused, TakesAll};
     ghost use Rattle.tsp_read.specs.states.Begun.{HasBegun, kept, IsFedTo, IsJoinedTo, most_lines, most_words, KeepRoom};
 
-    /// Nothing has begun.
+    /// The start, where no line or word has begun.
     pub(crate) fn new() -> Begun
         ensures { kept result ≡ [] }
     {

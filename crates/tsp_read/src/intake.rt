@@ -52,7 +52,7 @@ impl Intake {
         }
     }
 
-    /// What was read.
+    /// The fields that were read, and the section that is open.
     pub(crate) fn into_reading(self) -> Reading
         ensures { result ≡ self.reading }
     {

@@ -36,7 +36,7 @@ impl ReadError {
         self.found
     }
 
-    /// Memory was refused.
+    /// Out of memory, by the token of a refusal.
     pub(crate) fn refused(_refused: Refused) -> ReadError
         ensures { result ≡ OutOfMemory }
     {

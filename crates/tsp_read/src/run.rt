@@ -55,7 +55,7 @@ fn word_end(rest: &[u8]) -> Option<End<'_>>
     }
 }
 
-/// The same, where a byte 10 ends the word.
+/// The end of a word that a text begins with, where a byte 10 ends it. Nothing where none does.
 #[inline(always)]
 fn line_end(rest: &[u8]) -> Option<End<'_>>
     ensures left { IfSome result (λ end. LeavesEnd rest.now (left_from end)) }
@@ -84,7 +84,7 @@ pub(crate) fn few_number(text: &[u8]) -> Option<(i64, End<'_>)>
     }
 }
 
-/// The same of a word that a byte 10 ends.
+/// The result of `few_number`, for a word that a byte 10 ends.
 #[inline(always)]
 pub(crate) fn last_number(text: &[u8]) -> Option<(i64, End<'_>)>
     ensures { IfSome result (λ found.
@@ -314,7 +314,7 @@ fn take_all<'a, L: RunList>(
     (counted, rest)
 }
 
-/// The same over a list that is passed by value.
+/// Does what `take_all` does, over a list that is passed by value.
 // (so that all that changes in the loop can stay in registers)
 #[inline(never)]
 fn take_gathered<'a, L: RunList>(
@@ -332,8 +332,8 @@ fn take_gathered<'a, L: RunList>(
     (own, counted, rest)
 }
 
-/// The same over the weights of a matrix, which reserve memory first: a word and its end are two
-/// bytes at least.
+/// Does what `take_all` does, over the weights of a matrix, which reserve memory first: a word and
+/// its end are two bytes at least.
 fn take_weights<'a>(
     list: &mut WeightList,
     alloc: Global,
@@ -351,7 +351,7 @@ fn take_weights<'a>(
     (counted, rest)
 }
 
-/// The same over the nodes of tours, which reserve memory too.
+/// Does what `take_all` does, over the nodes of tours, which reserve memory too.
 fn take_tours<'a>(
     list: &mut TourList,
     alloc: Global,
@@ -369,7 +369,8 @@ fn take_tours<'a>(
     (counted, rest)
 }
 
-/// The same for the part of any section; of one whose words come in no run all is left.
+/// Does what `take_all` does, for the part of any section. A section whose words come in no run
+/// takes none.
 fn take_part<'a>(part: &mut Part, alloc: Global, count: Count, text: &'a [u8]) -> (Count, &'a [u8])
     requires line { count.line + length text.now ≤ most_file_bytes + 1 }
     requires words { count.words + length text.now ≤ most_file_bytes }
@@ -389,7 +390,7 @@ impl Reading {
     ghost use Rattle.tsp_read.specs.states.Intake.{IsReadTo};
     ghost use Rattle.tsp_read.specs.states.ReadingRun.{counted};
 
-    /// The same for the section that is open, if one is.
+    /// Does what `take_part` does, for the section that is open, if one is.
     fn take_run<'a>(&mut self, alloc: Global, count: Count, text: &'a [u8]) -> (Count, &'a [u8])
         requires line { count.line + length text.now ≤ most_file_bytes + 1 }
         requires words { count.words + length text.now ≤ most_file_bytes }

@@ -68,8 +68,8 @@ impl Token {
         }
     }
 
-    /// The same; or nothing where the text goes on and the end isn't in it, unless it is longer
-    /// than it may be.
+    /// The parts of `cut`; or nothing where the text goes on and the end isn't in it, unless it is
+    /// longer than it may be.
     #[inline(always)]
     pub(crate) fn take(self, text: &[u8], goes_on: bool) -> Option<(&[u8], &[u8])>
         ensures { MatchOption result (is_settled (most_bytes self) goes_on

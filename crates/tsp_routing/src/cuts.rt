@@ -16,7 +16,7 @@ use std::alloc::Global;
 use tsp_cases::{Crossings, Families, mark_nodes};
 use tsp_memory::{Refused, filled, push};
 
-/// The judgement on families.
+/// The judgement on the families of a certificate for routes: all of them, or the first bad one.
 #[derive(Drop)]
 pub(crate) enum JudgedCuts<'a> {
     /// Each is one set of customers: the families, and how often a plan crosses each at the least.

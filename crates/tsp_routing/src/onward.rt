@@ -17,7 +17,7 @@ pub(crate) struct Onward<S> {
     pub(crate) other: S,
 }
 
-/// An entry of no walk.
+/// The entry of a node from which there is no walk.
 pub(crate) fn nowhere<S: Sum>() -> Onward<S>
     ensures size { (size : ℕ) → IsEntrySized S.half size (onward_entry S.value result) }
     ensures least { S.value result.least ≡ pos (2 * S.half) }

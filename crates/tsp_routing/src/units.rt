@@ -21,7 +21,7 @@ pub(crate) struct UnitLoads {
     pub(crate) room: u64,
 }
 
-/// Loads in a unit.
+/// The load of each node and the capacity, counted in a unit.
 ///
 /// # Errors
 ///

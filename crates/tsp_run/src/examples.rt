@@ -1,5 +1,5 @@
-//! The exit status of each end of a run, each line, and the files of a task. No body is looked at
-//! here: a definition that is changed together with its code is refused by its examples.
+//! Laws that state values of the definitions in `specs/`, worked out by hand: the exit status and
+//! the line of each end of a run, and the opened files of a task.
 
 ghost use Rattle.std.specs.Prelude.{◌≡◌, ◌++◌, ◌∷◌, ℤ, [], length, Bool, true, false, Option, None, Some, Ok, Err, codes, decimal};
 ghost use Rattle.clap.specs.declared.error.Error.{Error};

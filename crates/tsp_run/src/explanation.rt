@@ -1,4 +1,5 @@
-//! What a run's end means, for a person.
+//! The text that explains the end of a task to a person. For `src/running.rt`, and for the files
+//! and names in `src/followed.rt`.
 
 use crate::input_file::Open;
 use crate::run_end::RunEnd;

@@ -1,5 +1,5 @@
-//! The solutions of a comparison, each opened when it is to be read, and what standard error has of
-//! each.
+//! The solutions of a comparison, opened one after the other, and what standard error says of each.
+//! `src/running.rt` passes them to `compare` of tsp_perform.
 
 ghost use Rattle.std.specs.Prelude.{map, true};
 ghost use Rattle.std.specs.String.{string_bytes};

@@ -1,4 +1,5 @@
-//! A file to be read, which may be missing.
+//! A file to be read, standard input, or the error of a file that is missing. `src/main.rt` of
+//! tsp_tool opens them, for `src/opened_files.rt` and `src/followed.rt`.
 
 ghost use Rattle.std.specs.Prelude.{◌≡◌, IsTrue, IsErr, MatchResult};
 ghost use Rattle.std.specs.Io.{ReadsAtMost};
@@ -11,7 +12,7 @@ use std::io::Read;
 use tsp_cli::InputPath;
 use tsp_stream::Gives;
 
-/// What opens files.
+/// The trait of what opens files, which `src/main.rt` of tsp_tool implements by calls of the host.
 pub trait Open<F> {
     /// Whether this is what opening the file at a place may give.
     ghost opens: { Self → InputPath → F → Type 0 };

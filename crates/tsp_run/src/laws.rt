@@ -1,5 +1,5 @@
-//! What always holds of the lines of a run and of explanations, as contracts of functions that do
-//! nothing.
+//! Laws: a fault is one line of standard error, and on a terminal each answer is explained. No code
+//! calls them.
 
 ghost use Rattle.std.specs.Prelude.{◌≡◌, ℕ, Bool, List, true, false, Option, Some, Ok, drop, Result};
 ghost use Rattle.clap.specs.Words.{Text};

@@ -1,10 +1,10 @@
 //! A run of the program `tsp`, from its words to its exit status.
 //!
-//! The words are a task on files, or solutions to compare (`tsp_cli`). Each file is opened, or is
-//! missing (`opened`, `source`). The task is done, or the solutions are compared (`tsp_perform`),
-//! and the end is reported on standard error and by the exit status (`ending`). Where the words ask
-//! for it, an explanation follows (`explained`, `followed`). The version and help are printed
-//! (`printed`). The calls of the host are tsp_tool's.
+//! The words are a task on files, or solutions to compare (tsp_cli). Each file is opened, or is
+//! missing (`opened_files`, `input_file`). The task is done, or the solutions are compared
+//! (tsp_perform), and the end is reported on standard error and by the exit status (`run_end`).
+//! Where the words ask for it, an explanation follows (`explanation`, `followed`). The version and
+//! help are printed (`printed`). The calls of the host are tsp_tool's.
 //!
 //! ```text
 //! let (status, written) = run(alloc, &words, &files, &mut out, &mut errors, surroundings);

@@ -1,4 +1,4 @@
-//! The files of a task, each opened in its place.
+//! A task or a comparison with each file opened in its place. For `src/running.rt`.
 
 ghost use Rattle.tsp_run.specs.ComparisonRun.{AreOpened, IsFresh};
 ghost use Rattle.tsp_run.specs.ProgramRun.{AreFresh};

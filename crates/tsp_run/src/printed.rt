@@ -1,4 +1,4 @@
-//! The version and the help, printed on standard output.
+//! The version and the help, printed on standard output. For `src/running.rt`.
 
 ghost use Rattle.tsp_judge.specs.Watched.{sink_of};
 ghost use Rattle.tsp_run.specs.Printing.{Prints, PrintsSome, version_text};

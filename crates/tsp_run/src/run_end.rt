@@ -1,4 +1,5 @@
-//! How a run of the program ends.
+//! The ends of a run of the program, with the exit status and the line on standard error of each.
+//! For `src/running.rt`.
 
 ghost use Rattle.std.specs.Prelude.{◌≡◌, ◌++◌, ◌∷◌, [], OnOk};
 ghost use Rattle.std.specs.Io.KnownBytes.{Appends};
@@ -33,7 +34,7 @@ pub enum RunEnd {
     Compared(Result<Compared, RunError>),
 }
 
-/// What goes to standard error.
+/// The line that goes to standard error at the end of a run.
 #[derive(Drop)]
 pub enum ErrorLine<'a> {
     /// Why `clap` refuses the words, or the help that they ask for.

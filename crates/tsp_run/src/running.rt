@@ -1,4 +1,5 @@
-//! A run of the program, from the words of its command line to its exit status.
+//! A run of the program, from the words of its command line to its exit status. For `src/main.rt`
+//! of tsp_tool.
 
 ghost use Rattle.std.specs.Prelude.{◌≡◌, ◌||◌, IfOk, OnOk, drop, map};
 ghost use Rattle.std.specs.IoError.{error_kind};

@@ -1,4 +1,5 @@
-//! The line for a person at a terminal that is read.
+//! The line for a person whose terminal is read, since no words were given. For `src/main.rt` of
+//! tsp_tool.
 
 ghost use Rattle.std.specs.Prelude.{◌≡◌, ◌≤◌, ◌<◌, true, false, length, OnOk};
 ghost use Rattle.std.specs.Io.KnownBytes.{Appends, Keeps};

@@ -45,7 +45,7 @@ impl<T> Watched<T> {
         self.failed
     }
 
-    /// The reader or writer itself.
+    /// The reader or writer that was wrapped.
     pub fn into_inner(self) -> T
         ensures { result ≡ watched self }
     {

@@ -1,6 +1,5 @@
-//! What the tests assert. (Each is a function with no contract, proved once, so that a test is a
-//! row of calls, and its proof a short one. They are here and not in tsp_tests_support, since a
-//! library has no function that may end the program.)
+//! Assertions of the tests: each is a function with no contract, proved once, so that a test is a
+//! row of calls. tsp_tests_support has none, since no library may end the program.
 
 use std::fmt::Debug;
 use std::process::Abort;

@@ -1,4 +1,4 @@
-//! How often a bound on the lengths of cycles asks for a cost.
+//! A test that the least 1-tree of tsp_bound asks for each cost once.
 
 ghost use Rattle.std.specs.Prelude.{refl, pos};
 

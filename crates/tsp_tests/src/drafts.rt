@@ -1,4 +1,5 @@
-//! Drafts that no text can give: a tour of the node 0, and a known keyword kept as an unknown one.
+//! Tests of drafts that no text can give: a tour of the node 0, and a known keyword kept as an
+//! unknown one. `File::of` has to refuse them.
 
 use crate::asserts::same;
 use std::alloc::{AllocError, Global};

@@ -1,4 +1,4 @@
-//! A file is made, laid out anew and written by the names of tsp_file alone.
+//! A test that a file is made, laid out anew and written by the names that tsp_file re-exports.
 
 use crate::asserts::{holds, same};
 use std::alloc::Global;

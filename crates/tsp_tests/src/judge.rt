@@ -1,5 +1,5 @@
-//! The tests of what the program does with files, from the bytes read to the bytes written, and of
-//! the texts of faults.
+//! The modules of tests of the verbs, from the bytes read to the bytes written, and of the texts of
+//! faults.
 
 mod compares;
 mod failures;

@@ -1,5 +1,5 @@
-//! The tests of the reader: texts in pieces, and readers that do little at a time, fail or never
-//! end.
+//! The modules of tests of the reader: texts in pieces, and readers that do little at a time, fail
+//! or never end.
 
 mod answers;
 mod feed;

@@ -1,4 +1,5 @@
-//! The sentences for out of memory. (The others are in cases and rows of the built program.)
+//! A test of the sentences for out of memory. (The others are in cases and rows of the built
+//! program.)
 
 use crate::asserts::same;
 use std::alloc::AllocError;

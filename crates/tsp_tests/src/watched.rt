@@ -1,4 +1,5 @@
-//! Watched readers and writers: each call is passed on once, and its outcome is returned as it is.
+//! Tests of watched readers and writers: each call is passed on once, and its outcome is returned
+//! as it is.
 
 use crate::asserts::{holds, holds_at, same, same_at};
 use std::io::{ErrorKind, Read, Write};

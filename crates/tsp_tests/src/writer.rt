@@ -1,5 +1,5 @@
-//! The canonical text: one with each field, and writers that take little, or fail. (Other texts are
-//! in the tables of runs of the program.)
+//! Tests of the canonical text: one with each field, and writers that take little, or fail. (Other
+//! texts are in the tables of runs of the program.)
 
 use crate::asserts::{holds, holds_at, same, same_at};
 use std::alloc::{AllocError, Global};

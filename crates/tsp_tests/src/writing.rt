@@ -1,4 +1,5 @@
-//! The way of a text to a writer, and how often the writer is asked.
+//! Tests of `Piece` and `write_text` of tsp_stream: the bytes that a writer gets, and how often it
+//! is asked.
 
 use crate::asserts::{holds, same, same_at};
 use std::alloc::{AllocError, Global};

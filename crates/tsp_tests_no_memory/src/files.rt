@@ -1,4 +1,5 @@
-//! Drafts, files, instances of one node, and texts of line ends.
+//! Calls on drafts, files, instances of one node, and texts of line ends, which take no memory. For
+//! `src/main.rt`.
 
 use std::alloc::Global;
 use tsp_bound::{Duals, dual_bound};

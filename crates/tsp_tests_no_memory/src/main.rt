@@ -1,4 +1,4 @@
-//! A program that tests/refusals runs while requests for memory are refused.
+//! A program that tests/program/refusals runs while requests for memory are refused.
 //!
 //! First it makes the calls that take no memory, which have to succeed though every request is
 //! refused; then it traces tours, which takes some. The exit status is 0 where each answer is the

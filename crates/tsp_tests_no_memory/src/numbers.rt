@@ -1,4 +1,5 @@
-//! Number words, distances, values, streams and the numbers of certificates.
+//! Calls on number words, distances, statuses, streams and numbers of certificates, which take no
+//! memory. For `src/main.rt`.
 
 use tsp_bound::{Duals, Multipliers, Potentials};
 use tsp_distance::{

@@ -1,5 +1,5 @@
-//! Instances of points and of a matrix: their calls that take no memory, and tours, whose lengths
-//! take some.
+//! Calls on instances of points and of a matrix that take no memory, and the lengths of tours,
+//! which take some. For `src/main.rt`.
 
 use std::alloc::{AllocError, Global};
 use tsp_cost::{Costs, Instance, View, tour_length, trace_tours};

@@ -1,4 +1,5 @@
-//! Readers and writers that do little at a time, fail, or never end, and count their calls.
+//! Readers and writers that do little at a time, fail, or never end, and count their calls. For the
+//! tests of tsp_tests.
 
 use std::alloc::Global;
 use std::io;

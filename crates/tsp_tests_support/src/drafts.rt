@@ -1,4 +1,4 @@
-//! Drafts by hand.
+//! Drafts and files that are made by hand. For the tests of tsp_tests.
 
 use std::alloc::{AllocError, Global};
 use std::test::Fail;

@@ -228,7 +228,7 @@ pub fn limits_of_sections()
     ensures end_of_leaf { is_surplus_at 3 (IndexAfter 10000000) (codes "-1") ≡ false }
 {}
 
-/// The files of some texts.
+/// The fields of the files that some texts parse to.
 #[tactic(auto, unfolding(tsp_number::specs::Reading::decimal_of, tsp_number::specs::Reading::whole_of, tsp_format::specs::Nodes::nodes_to))]
 pub fn fields_of_texts()
     ensures value { OthersAre (codes "FOO : BAR") (codes "FOO") (codes "BAR") }

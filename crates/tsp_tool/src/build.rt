@@ -1,4 +1,5 @@
-//! Which build of the program this is.
+//! Which build of the program this is. `src/main.rt` passes it to the run, whose `--version` prints
+//! it.
 
 /// What `--version` says of the build. The copy that the script `build` proves has the commit and
 /// the toolchain's identity here.

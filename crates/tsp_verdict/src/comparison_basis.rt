@@ -98,7 +98,7 @@ pub fn basis_of(instance: &Instance, found: BoundVerdict) -> Basis
     }
 }
 
-/// The same of tours.
+/// What [`basis_of`] finds of tours.
 fn tours_basis_of(found: BoundVerdict) -> Basis
     ensures { (by : Certificate) (instance certificate : Fields)
         → IsBoundVerdict by instance certificate found
@@ -111,7 +111,7 @@ fn tours_basis_of(found: BoundVerdict) -> Basis
     }
 }
 
-/// The same of routes.
+/// What [`basis_of`] finds of routes.
 fn routes_basis_of(instance: &Instance, found: BoundVerdict) -> Basis
     requires { instance.now.kind ≡ Some kinds.Cvrp }
     ensures { (by : Certificate) (certificate : Fields)

@@ -1,6 +1,7 @@
 -- The goals of `tsp_bound` in src/lib.rt: what it ensures.
 use Rattle.tsp_c.proofs.tsp_bound.Goals as goal
 
+-- plan: the text of the bound is placed, and its status is returned
 pub returns : goal.returns
 returns c =
     let made = c.bound_by-answer.result in

@@ -1,7 +1,7 @@
 -- The goals of `tsp_bound_result` in src/lib.rt: what it ensures.
 use Rattle.tsp_c.proofs.tsp_bound_result.Goals as goal
 
--- plan: the answer's text and numbers are placed, and its status is returned
+-- plan: the text and the numbers of the bound are placed, and its status is returned
 pub returns : goal.returns
 returns c =
     let made = c.bound_by-answer.result in (

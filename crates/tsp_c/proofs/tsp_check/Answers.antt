@@ -5,7 +5,7 @@ use Rattle.std.proofs.lemmas.Int.{to_z-of_z}
 use Rattle.tsp_c.specs.Texts.{ChecksBy}
 use Rattle.tsp_c.proofs.tsp_check.Goals as goal
 
--- plan: the answer's text is placed, and its status is returned
+-- plan: the text of the verdict is placed, and its status is returned
 pub returns : goal.returns
 returns c =
     let made = c.check_by-answer.result in

@@ -6,7 +6,7 @@ use Rattle.tsp_c.specs.Texts.{ChecksBy}
 use Rattle.tsp_c.specs.CallResult.{TellsBy}
 use Rattle.tsp_c.proofs.tsp_check_result.Goals as goal
 
--- plan: the answer's text and numbers are placed, and its status is returned
+-- plan: the text and the numbers of the verdict are placed, and its status is returned
 pub returns : goal.returns
 returns c =
     let made = c.check_by-answer.result in

@@ -1,6 +1,7 @@
 -- The goals of `tsp_convert` in src/lib.rt: what it ensures.
 use Rattle.tsp_c.proofs.tsp_convert.Goals as goal
 
+-- plan: the text of the file in its new layout is placed, and the status is returned
 pub returns : goal.returns
 returns c =
     let made = c.convert_by-answer.result in

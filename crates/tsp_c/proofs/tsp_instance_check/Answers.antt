@@ -5,7 +5,7 @@ use Rattle.std.proofs.lemmas.Int.{to_z-of_z}
 use Rattle.tsp_c.specs.Opened.{ChecksHeld}
 use Rattle.tsp_c.proofs.tsp_instance_check.Goals as goal
 
--- plan: the answer's text is placed, and its status is returned
+-- plan: the text of the verdict on the open instance is placed, and its status is returned
 pub returns-clause-places : goal.returns-clause-places
 returns-clause-places c =
     let made = c.check_held-answer.result in

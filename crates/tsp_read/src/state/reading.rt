@@ -80,7 +80,7 @@ fn is_same(field: Field, other: Field) -> bool
 impl Reading {
     ghost use Rattle.tsp_read.specs.states.Holds.{Holds, Closed, AnswersItem};
 
-    /// Nothing so far.
+    /// The state before the first line.
     pub(crate) fn new(alloc: Global) -> Reading
         ensures { Holds result [] }
     {

@@ -1,5 +1,5 @@
-//! Comparisons: a bad solution among good ones, readers that fail, and a writer that fails at each
-//! byte.
+//! Tests of comparisons: a bad solution among good ones, readers that fail, and a writer that fails
+//! at each byte.
 
 use crate::asserts::{same, same_at};
 use crate::judge::files::{DUALS, THREE_NODES, TOUR};

@@ -1,4 +1,4 @@
-//! Readers and writers that fail, or had failed before.
+//! Tests of the verbs with readers and writers that fail, or had failed before.
 
 use crate::asserts::{holds_at, same, same_at};
 use crate::judge::files::{

@@ -1,4 +1,4 @@
-//! Files that many tests share.
+//! Texts of instances, tours and certificates, with their reports, for the tests of `src/judge/`.
 
 /// An instance of three nodes whose costs depend on the direction.
 pub(crate) const THREE_NODES: &str = "\

@@ -1,4 +1,4 @@
-//! Readers that deliver, and writers that take, a few bytes at a time.
+//! A test of the verbs with readers that deliver, and writers that take, a few bytes at a time.
 
 use crate::asserts::same_at;
 use crate::judge::failures::{Job, WRITTEN, look_at};

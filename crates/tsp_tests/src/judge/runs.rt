@@ -1,4 +1,5 @@
-//! Runs of the verbs, from the bytes read to the bytes written.
+//! Runs of the verbs on texts, from the bytes read to the bytes written. For the tests in
+//! `src/judge/failures.rt` and `src/judge/pieces.rt`.
 
 use std::alloc::Global;
 use std::io::ErrorKind;

@@ -1,4 +1,4 @@
-//! The texts of faults, which no contract states.
+//! Tests of the texts that faults print.
 
 use crate::asserts::{holds_at, same_at};
 use std::alloc::AllocError;

@@ -1,4 +1,5 @@
-//! What reading returns, with the file as its canonical text.
+//! What a reading returns, as the canonical text of its file or its fault. For the tests of
+//! `src/read/` and `src/writer.rt`.
 
 use crate::asserts::{same, same_at};
 use std::alloc::{AllocError, Global};

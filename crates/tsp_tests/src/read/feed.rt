@@ -1,4 +1,5 @@
-//! Files that are read in pieces: however they are cut, the answer is that of the whole text.
+//! Tests of files that are read in pieces: however they are cut, the answer is that of the whole
+//! text.
 
 mod cuts;
 mod limits;

@@ -1,4 +1,4 @@
-//! Texts that come from a reader: one that does little at a time, fails, or never ends.
+//! Tests of texts that come from a reader: one that does little at a time, fails, or never ends.
 
 use crate::asserts::{holds, holds_at, same, same_at};
 use crate::read::answers::{answer_from, answers, long_file};

@@ -3,6 +3,6 @@ use Rattle.std.proofs.Common.{take}
 use Rattle.tsp_bound.specs.states.ByNode.{IsTable}
 use Rattle.tsp_bound.proofs.by_node.lists_of.Given as goal
 
--- each node's list has what the triples before this one say of the node, and nothing else
+-- each node's list has the other node and the multiplier of each triple before this one on the node, and no others
 abbrev pub invariant-triples : goal.invariant-triples
 invariant-triples l = IsTable l.nodes (take l.triple-index l.triples) l.lists.items

@@ -2,6 +2,6 @@
 use Rattle.tsp_bound.specs.states.Components.{AreLeaving}
 use Rattle.tsp_bound.proofs.joins.best_of.Given as goal
 
--- each link that is kept for a label leads from that component to another one, with its own weight
+-- the best link of a label, if any, leads from that component to another one, with its own weight
 abbrev pub invariant-nodes : goal.invariant-nodes
 invariant-nodes g l = AreLeaving (g.P.Components.count_of l.nodes) (g.P.Components.weight_of l.nodes) (g.P.Components.label_of l.nodes) l.best.items

@@ -5,7 +5,7 @@ use Rattle.tsp_bound.specs.states.Components.{label_at}
 use Rattle.tsp_bound.proofs.Joining.{IsJoining}
 use Rattle.tsp_bound.proofs.joins.join.Given as goal
 
--- the pairs so far are least joins; the ends of each have one label, or new labels that are the same
+-- the pairs so far are least joins; both ends of each have one label, or equal new labels
 abbrev pub invariant-components : goal.invariant-components
 invariant-components g l =
     let n = g.P.Components.count_of l.nodes in

@@ -7,7 +7,8 @@ use Rattle.tsp_theory.specs.states.Nearest.{least_at}
 use Rattle.tsp_bound.proofs.Listing.{bound_seen}
 use Rattle.tsp_bound.proofs.lists.put.Goals as goal
 
--- plan: the heaviest link gives way to the new one, and the number stays below each that isn't kept (`bound_seen`)
+-- plan: the new link replaces the heaviest one, and the number of the place is at most the weight of each link that
+-- isn't listed (`bound_seen`)
 pub returns : goal.returns
 returns c =
     let from = c.args.link.from in

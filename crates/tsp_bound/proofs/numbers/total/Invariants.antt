@@ -5,7 +5,7 @@ use Rattle.tsp_format.specs.Limits.{most_potential}
 use Rattle.tsp_theory.specs.CertificateNumbers.{IsFromTo, total}
 use Rattle.tsp_bound.proofs.numbers.total.Given as goal
 
--- the sum so far and the numbers left make the whole; it is no larger than as many potentials can make it
+-- the sum so far plus the numbers left is the whole sum; it is no larger than as many potentials can sum to
 abbrev pub invariant-numbers : goal.invariant-numbers
 invariant-numbers l = record {
   size : IsFromTo (neg_ℤ (pos (l.number-index * most_potential))) (pos (l.number-index * most_potential)) l.sum;

@@ -6,7 +6,8 @@ use Rattle.tsp_theory.specs.CertificateNumbers.{IsFromTo}
 use Rattle.tsp_theory.specs.Adjusted.{triples_total}
 use Rattle.tsp_bound.proofs.numbers.total_of.Given as goal
 
--- the sum so far and the triples left make the whole; it is no larger than as many multipliers can make it
+-- the sum so far plus the numbers of the triples left is the whole sum; it is no larger than as many multipliers can
+-- sum to
 abbrev pub invariant-triples : goal.invariant-triples
 invariant-triples l = record {
   size : IsFromTo (pos 0) (pos (l.triple-index * most_multiplier)) l.sum;

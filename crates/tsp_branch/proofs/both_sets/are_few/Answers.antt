@@ -15,7 +15,7 @@ overflow_add-sum c =
     let size = c.places.invariant.size in
     omega (arith, ints, own.0, own.1, size.0, size.1)
 
--- plan: one place more is counted, and the sum fits 64 bits
+-- plan: the multiplier of one set more is added, and the sum fits 64 bits, as it is at most 3 * 10^18 before
 pub places-preserved : goal.places-preserved
 places-preserved c =
     let ns : List ℤ = c.args.multipliers.now.numbers.now in

@@ -5,7 +5,7 @@ use Rattle.tsp_theory.specs.CertificateNumbers.{IsFromTo}
 use Rattle.tsp_branch.specs.states.Shared.{sum_at_places}
 use Rattle.tsp_branch.proofs.both_sets.are_few.Given as goal
 
--- the sum so far and the multipliers left make the whole; so far it is at most 3 * 10^18
+-- the sum so far plus the multipliers left is the whole sum; so far it is at most 3 * 10^18
 abbrev pub invariant-places : goal.invariant-places
 invariant-places l = record {
   sum : l.sum +ℤ sum_at_places l.multipliers.numbers.now (drop l.place-index l.places) ≡ sum_at_places l.multipliers.numbers.now l.places;

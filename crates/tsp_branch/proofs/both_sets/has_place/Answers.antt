@@ -7,7 +7,7 @@ use Rattle.tsp_branch.specs.states.Shared.{has_place}
 use Rattle.tsp_branch.proofs.SharedSets.{has_left}
 use Rattle.tsp_branch.proofs.both_sets.has_place.Goals as goal
 
--- plan: by whether the place is the next one, or among those that are left (`has_left`)
+-- plan: by whether the place is the next one of the list, or among those behind it (`has_left`)
 pub places-preserved : goal.places-preserved
 places-preserved c =
     let left = has_left c.args.places.now c.places.other-index c.args.place (place_at 0 0) c.places-test.true in

@@ -3,6 +3,6 @@ use Rattle.std.proofs.Common.{◌≡◌, drop}
 use Rattle.tsp_branch.specs.states.Shared.{has_place}
 use Rattle.tsp_branch.proofs.both_sets.has_place.Given as goal
 
--- the places that are left have the place just where the whole list has it
+-- the place is among the places left exactly if it is in the whole list
 abbrev pub invariant-places : goal.invariant-places
 invariant-places l = has_place (drop l.other-index l.places) l.place ≡ has_place l.places l.place

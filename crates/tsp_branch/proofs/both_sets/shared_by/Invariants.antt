@@ -5,6 +5,6 @@ use Rattle.std.specs.Int.{w64, int_wrap}
 use Rattle.tsp_branch.specs.states.Shared.{shared_by}
 use Rattle.tsp_branch.proofs.both_sets.shared_by.Given as goal
 
--- in 64 bits, the sum so far and what the places left add make the whole
+-- the sum so far plus the multipliers at the places left is the whole sum, in 64 bits
 abbrev pub invariant-places : goal.invariant-places
 invariant-places l = int_wrap w64 (l.sum +ℤ shared_by l.multipliers.numbers.now l.others (drop l.place-index l.places)) ≡ int_wrap w64 (shared_by l.multipliers.numbers.now l.others l.places)

@@ -5,6 +5,6 @@ use Rattle.std.specs.Int.{w64, int_wrap}
 use Rattle.tsp_cases.specs.states.Decided.{changes}
 use Rattle.tsp_branch.proofs.decided.change_between.Given as goal
 
--- in 64 bits, the sum so far and what the decisions left add make the whole
+-- the sum so far plus the numbers of the decisions left is the whole sum, in 64 bits
 abbrev pub invariant-decisions : goal.invariant-decisions
 invariant-decisions l = int_wrap w64 (l.sum +ℤ changes (drop l.decision-index l.decisions) l.from l.to) ≡ int_wrap w64 (changes l.decisions l.from l.to)

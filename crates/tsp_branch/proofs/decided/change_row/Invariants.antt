@@ -5,7 +5,7 @@ use Rattle.tsp_cases.specs.states.Sets.{IsMoved}
 use Rattle.tsp_cases.specs.states.Decided.{changes}
 use Rattle.tsp_branch.proofs.decided.change_row.Given as goal
 
--- the decisions that are left make of the row now what all make of the row at the call
+-- changing the row now by the decisions left gives what all decisions give of the row at the call
 abbrev pub invariant-decisions : goal.invariant-decisions
 invariant-decisions l = (x : ℕ) (last : ℤ) → IsMoved (changes (drop l.decision-index l.decisions) l.from x) (least_at l.row x) last
     → IsMoved (changes l.decisions l.from x) (least_at l.fn.row x) last

@@ -10,7 +10,7 @@ use Rattle.tsp_cases.proofs.FamilySums.{least_fits}
 use Rattle.tsp_branch.proofs.GivenBack.{least_told, less_fits, less_held, less_sized}
 use Rattle.tsp_branch.proofs.given_back.given_back.Goals as goal
 
--- plan: what the families give back, less twice the potentials, fits 128 bits (`less_fits`)
+-- plan: the least crossings times their multipliers, less twice the potentials, fit 128 bits (`less_fits`)
 pub invariant_of-multipliers : goal.invariant_of-multipliers
 invariant_of-multipliers g c =
     let leaf = c.args.leaf.now in

@@ -4,7 +4,7 @@ use Rattle.std.specs.Prelude.{pos, neg_ℤ, ◌+ℤ◌}
 use Rattle.tsp_theory.specs.CertificateNumbers.{IsFromTo, total}
 use Rattle.tsp_branch.proofs.given_back.total.Given as goal
 
--- the sum so far and the potentials left make the whole, with at most 2^63 for each number so far
+-- the sum so far plus the potentials left is the whole sum, with at most 2^63 for each number so far
 abbrev pub invariant-numbers : goal.invariant-numbers
 invariant-numbers g l = record {
   size : IsFromTo (neg_ℤ (pos (l.number-index * 2 ^ 63))) (pos (l.number-index * 2 ^ 63)) l.sum;

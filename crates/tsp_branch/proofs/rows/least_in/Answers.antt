@@ -2,6 +2,7 @@
 use Rattle.std.proofs.Common.{arith, inl, inr}
 use Rattle.tsp_branch.proofs.rows.least_in.Goals as goal
 
+-- plan: the least number of the row, if any is below that of no link, is at a place from 1 on
 pub returns-clause-reached : goal.returns-clause-reached
 returns-clause-reached c = elim c.places.invariant.reached [
   | inl none ↦ inl none

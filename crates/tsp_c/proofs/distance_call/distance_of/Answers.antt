@@ -9,7 +9,7 @@ use Rattle.tsp_c.specs.NumberCalls.{distance_kinds}
 use Rattle.tsp_c.proofs.Distances.{kind_found}
 use Rattle.tsp_c.proofs.distance_call.distance_of.Goals as goal
 
--- plan: by the number: it is that of a kind, whose distance is returned (`kind_found`), or of none
+-- plan: by the number of the kind: the distance by that kind is returned (`kind_found`), or no kind has the number
 pub returns-in-Some-between : goal.returns-in-Some-between
 returns-in-Some-between c =
     let a : Point = record { x = c.args.from.x; y = c.args.from.y; z = c.args.from.z } in

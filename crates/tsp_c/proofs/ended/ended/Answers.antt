@@ -4,7 +4,8 @@ use Rattle.tsp_stream.specs.states.Watched.{watched}
 use Rattle.tsp_c.proofs.StatusMeanings.{printed_ends, unprinted_ends}
 use Rattle.tsp_c.proofs.ended.ended.Goals as goal
 
--- plan: by whether there is memory for the fault's line (`printed_ends`, `unprinted_ends`)
+-- plan: by whether there is memory for the line of the fault: it is the text (`printed_ends`), or the status is 3
+-- without a text (`unprinted_ends`)
 pub returns-in-Ok : goal.returns-in-Ok
 returns-in-Ok c = printed_ends c.args.answer (watched c.args.report).items c.in-Ok.printed.0 c.in-Ok.printed.1 c.in-Ok.ensures
 

@@ -4,7 +4,7 @@ use Rattle.std.proofs.lemmas.Int.{to_z-of_z}
 use Rattle.tsp_c.proofs.Filled.{one_more}
 use Rattle.tsp_c.proofs.fill.put.Goals as goal
 
--- plan: the place has the number, and each other place what it had (`one_more`)
+-- plan: the place has the number, and each other place the number it had (`one_more`)
 pub returns : goal.returns
 returns c = λ numbers start is filled.
     let fits : FitsSigned w64 c.args.number = c.ranges.number in

@@ -7,7 +7,7 @@ use Rattle.tsp_c.specs.Opened.{Held, ChecksOpen, ChecksHeld}
 use Rattle.tsp_c.specs.Texts.{claim_of, strict_of}
 use Rattle.tsp_c.proofs.handle_calls.check_held.Goals as goal
 
--- plan: the handle has an open instance, and the verdict is that of the call on it, as the claimed length fits 64 bits
+-- plan: the handle has an open instance, and the verdict is that of the call on it; the claimed length fits 64 bits
 pub returns-in-Some-clause-checks : goal.returns-in-Some-clause-checks
 returns-in-Some-clause-checks c =
     let two = c.args.solution.now in

@@ -6,7 +6,7 @@ use Rattle.tsp_judge.specs.Open.{Open}
 use Rattle.tsp_c.specs.CallResult.{result_of_instance}
 use Rattle.tsp_c.proofs.handle_calls.open_text.Goals as goal
 
--- plan: by whether there is memory for the box: the instance is put into the handle, or nothing is
+-- plan: by whether there is memory for the box: the instance is in the handle, or the handle is empty
 pub returns-in-Ok-Err : goal.returns-in-Ok-Err
 returns-in-Ok-Err c = inr (
   OutOfMemory,

@@ -18,6 +18,6 @@ no_numbers OutOfMemory is = refl
 no_numbers (Relayout refused) is = refl
 no_numbers (Write found) is = refl
 
--- plan: by the fault: those of status 3 have no numbers (`no_numbers`)
+-- plan: by the fault of the run: one whose status is 3 has no numbers (`no_numbers`)
 pub returns : goal.returns
 returns c = no_numbers

@@ -7,7 +7,8 @@ use Rattle.tsp_c.specs.Texts.{ChecksTexts, claim_of, strict_of, with_certificate
 use Rattle.tsp_c.specs.CallResult.{TellsTexts}
 use Rattle.tsp_c.proofs.picked_runs.check_by.Goals as goal
 
--- plan: the numbers name a certificate and a claim, as the code has tested, so the answer is that of the call
+-- plan: by the numbers that C passes: they name a certificate and a claim, as the code has tested, so the verdict is
+-- that of the call
 pub returns-clause-texts : goal.returns-clause-texts
 returns-clause-texts c =
     let one = c.args.instance.now in

@@ -5,7 +5,7 @@ use Rattle.tsp_format.specs.declared.layout.Layout.{Layout}
 use Rattle.tsp_c.specs.Texts.{ConvertsText}
 use Rattle.tsp_c.proofs.picked_runs.convert_by.Goals as goal
 
--- plan: the number names a layout, as the code has tested, so the answer is that of the call
+-- plan: by the number that C passes: it names a layout, as the code has tested, so the text is that of the call
 pub returns : goal.returns
 returns c =
     let made = c.converted.result in

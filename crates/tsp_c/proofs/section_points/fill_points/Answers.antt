@@ -3,7 +3,7 @@ use Rattle.std.proofs.Common.{inl, inr, refl, rules}
 use Rattle.tsp_c.specs.NumberCalls.{IsSection}
 use Rattle.tsp_c.proofs.section_points.fill_points.Goals as goal
 
--- plan: by whether the text is a file with these points
+-- plan: by whether the text is a file with points in this section: they are filled in, or the status says why not
 pub returns-in-Err : goal.returns-in-Err
 returns-in-Err c =
     let section : IsSection c.args.section = search rules in

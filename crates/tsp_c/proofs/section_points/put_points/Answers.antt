@@ -7,7 +7,7 @@ use Rattle.tsp_draft.specs.Coords.{origin}
 use Rattle.tsp_c.specs.NumberCalls.{point_number, coordinate}
 use Rattle.tsp_c.proofs.section_points.put_points.Goals as goal
 
--- plan: one place more is its two or three coordinates more
+-- plan: the two or three coordinates of one node more are in the buffer
 pub places-preserved : goal.places-preserved
 places-preserved c =
     let fits : FitsSigned w64 c.coordinate.result = search rules in

@@ -6,7 +6,7 @@ use Rattle.tsp_c.proofs.text_instance.fill_count.Goals as goal
 pub returns-in-Err : goal.returns-in-Err
 returns-in-Err c = inr (c.in-Err.error, c.in-Err.ensures, (c.of_fault.ensures, refl))
 
--- plan: by whether the text is an instance (`some_count`)
+-- plan: by whether the text is an instance: its count of nodes is filled in (`some_count`), or its fault is the status
 pub returns-in-Ok : goal.returns-in-Ok
 returns-in-Ok c = inl (
   c.in-Ok.instance,

@@ -6,7 +6,7 @@ use Rattle.tsp_cases.specs.VerdictExamples.{branches, branches_apart}
 use Rattle.tsp_cases.proofs.BranchesWithin.{within_at_start, bad_at_branch, none_bad}
 use Rattle.tsp_cases.proofs.examples.examples_of_bad_branches.Goals as goal
 
--- plan: each example by what comes before its branch (`bad_at_branch`), or that none is bad (`none_bad`)
+-- plan: for each example, the branches before the bad one are good (`bad_at_branch`), or all are (`none_bad`)
 pub returns : goal.returns
 returns c = record {
   family = bad_at_branch 1 4 (branches 1 2 5 1) 1 5 1 []

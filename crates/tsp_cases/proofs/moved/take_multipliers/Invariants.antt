@@ -8,7 +8,7 @@ use Rattle.tsp_cases.specs.states.Lent.{lent_in}
 use Rattle.tsp_cases.specs.states.Combed.{summed_from, multipliers_at}
 use Rattle.tsp_cases.proofs.moved.take_multipliers.Given as goal
 
--- taking the multipliers of the families left off the row now gives what all families give of the row at the call
+-- taking the multipliers of the families left off the row now gives the same as taking all off the row at the call
 abbrev pub invariant-multipliers : goal.invariant-multipliers
 invariant-multipliers l = (x : ℕ) (last : ℤ)
     → IsMoved (neg_ℤ (summed_from l.number (λ multiplier set. added multiplier set x) l.multiplied.numbers.now (families_in (drop l.number l.multiplied.families.now.lent.now))))

@@ -5,8 +5,8 @@ use Rattle.tsp_cases.specs.Listed.{all_grown}
 use Rattle.tsp_cases.proofs.Grown.{AreSized}
 use Rattle.tsp_cases.proofs.numbers.add_differences.Given as goal
 
--- each difference before this one was for a number that exists. Adding those left to the numbers now gives what all
--- give of the numbers at the call
+-- each difference before this one is for a number that exists. Adding those left to the numbers now gives the same as
+-- adding all to the numbers at the call
 abbrev pub invariant-changes : goal.invariant-changes
 invariant-changes l = record {
   long : length l.numbers ≡ length l.fn.numbers;

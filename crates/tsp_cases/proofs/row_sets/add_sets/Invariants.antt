@@ -6,7 +6,7 @@ use Rattle.tsp_cases.specs.states.Lent.{lent_in}
 use Rattle.tsp_cases.specs.states.Combed.{inside_both}
 use Rattle.tsp_cases.proofs.row_sets.add_sets.Given as goal
 
--- adding the sets at the places left to the row now gives what all places give of the row at the call
+-- adding the sets at the places left to the row now gives the same as adding all to the row at the call
 abbrev pub invariant-places : goal.invariant-places
 invariant-places l = (x : ℕ) (last : ℤ) → IsMoved (inside_both l.multiplied.numbers.now (lent_in l.multiplied.families.now) (drop l.place-index l.places) x) (least_at l.row x) last
     → IsMoved (inside_both l.multiplied.numbers.now (lent_in l.multiplied.families.now) l.places x) (least_at l.fn.row x) last

@@ -4,6 +4,6 @@ use Rattle.tsp_theory.specs.states.Nearest.{least_at}
 use Rattle.tsp_cases.specs.states.Sets.{IsMoved, added}
 use Rattle.tsp_cases.proofs.sets.add_to_nodes.Given as goal
 
--- adding the number at the nodes left to the row now gives what all nodes give of the row at the call
+-- adding the number at the nodes left to the row now gives the same as adding it at all to the row at the call
 abbrev pub invariant-nodes : goal.invariant-nodes
 invariant-nodes l = (x : ℕ) (last : ℤ) → IsMoved (added l.number (drop l.node-index l.nodes) x) (least_at l.row x) last → IsMoved (added l.number l.nodes x) (least_at l.fn.row x) last

@@ -6,7 +6,7 @@ use Rattle.tsp_cases.specs.declared.set_place.SetPlace.{SetPlace}
 use Rattle.tsp_cases.specs.states.Sets.{places_in}
 use Rattle.tsp_cases.proofs.sets.place_family.Given as goal
 
--- putting the places of the sets left behind each list now gives what all sets give behind the list at the call
+-- putting the places of the sets left behind each list now gives the same as putting all behind the list at the call
 abbrev pub invariant-sets : goal.invariant-sets
 invariant-sets l = record {
   count : length l.lists.items ≡ length l.fn.lists.items;

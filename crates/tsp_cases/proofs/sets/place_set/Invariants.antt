@@ -5,7 +5,7 @@ use Rattle.tsp_cases.specs.declared.set_place.SetPlace.{SetPlace}
 use Rattle.tsp_cases.specs.states.Sets.{times}
 use Rattle.tsp_cases.proofs.sets.place_set.Given as goal
 
--- putting the place into the lists of the nodes left gives what putting it into those of all nodes gives at the call
+-- putting the place into the lists of the nodes left gives the same as putting it into those of all at the call
 abbrev pub invariant-nodes : goal.invariant-nodes
 invariant-nodes l = record {
   count : length l.lists.items ≡ length l.fn.lists.items;

@@ -4,5 +4,6 @@ use Rattle.clap.specs.Words.{found_of}
 use Rattle.clap.proofs.WalkLemmas.{first_value-rows}
 use Rattle.tsp_cli.proofs.words.text_of.Goals as goal
 
+-- plan: clap has a row for each argument that was given, and the first word of it is the text
 pub returns : goal.returns
 returns c = c.get_str.ensures ∙ first_value-rows (found_of c.args.found.now) c.args.id.now

@@ -1,4 +1,4 @@
--- The goals of `compare_read` in src/compared.rt: what it ensures.
+-- The goals of `compare_read` in src/compared.rt: what its call requires and what it ensures.
 use Rattle.std.proofs.Common.{◌≡◌, Err, arith, refl, sym, subst, ◌∙◌}
 use Rattle.std.proofs.KnownBytes.{Keeps-refl}
 use Rattle.tsp_read.specs.Reads.{IsFile}

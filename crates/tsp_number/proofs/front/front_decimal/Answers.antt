@@ -1,4 +1,4 @@
--- The goals of `front_decimal` in src/front.rt: that no sum overflows and what it ensures.
+-- The goals of `front_decimal` in src/front.rt: that no sum overflows, what its calls require and what it ensures.
 use Rattle.std.proofs.Common.{◌≡◌, ◌≢◌, ◌∙◌, ◌+◌, ◌<◌, ◌≤◌, ◌⊎◌, ap, sym, inl, inr, length, get_or, arith, rules, FitsSigned, w64}
 use Rattle.std.proofs.lemmas.Int.{to_z-of_z}
 use Rattle.std.proofs.lemmas.List.{take_rest}

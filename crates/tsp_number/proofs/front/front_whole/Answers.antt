@@ -1,4 +1,4 @@
--- The goals of `front_whole` in src/front.rt: what it ensures.
+-- The goals of `front_whole` in src/front.rt: what its call requires and what it ensures.
 use Rattle.std.proofs.Common.{◌≡◌, ◌*◌, pos, ◌*ℤ◌, ℤ, arith, rules, ap, ◌∙◌, FitsSigned, w64, to_z, of_z}
 use Rattle.std.proofs.lemmas.Int.{to_z-of_z}
 use Rattle.std.proofs.lemmas.List.{take_rest}

@@ -1,4 +1,4 @@
--- The goals of `drop_zeros` in src/shift.rt: what it ensures.
+-- The goals of `drop_zeros` in src/shift.rt: that it divides by no 0, and what it ensures.
 use Rattle.std.proofs.Common.{arith}
 use Rattle.tsp_number.proofs.Scaling.{pow_above_zero, too_few_zeros, rest_left, no_rest}
 use Rattle.tsp_number.proofs.shift.drop_zeros.Goals as goal

@@ -1,4 +1,5 @@
--- The goals of `write_spelling` in src/spelling.rt: where the text begins, and what it is.
+-- The goals of `write_spelling` in src/spelling.rt: that no difference overflows, what its call requires, where the
+-- text begins, and what it is.
 use Rattle.std.proofs.Common.{◌≡◌, ◌+◌, ◌-◌, ◌/◌, ◌%◌, ◌≤◌, ◌∷◌, ◌++◌, ℕ, List, false, length, drop, ap, sym, ◌∙◌, append_assoc, unsigned_abs, arith, rules}
 use Rattle.std.specs.Prelude.{ℤ, pos, FitsSigned}
 use Rattle.std.specs.Fmt.{decimal}

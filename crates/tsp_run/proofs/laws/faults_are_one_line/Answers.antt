@@ -1,4 +1,4 @@
--- The goals of `faults_are_one_line` in src/laws.rt. By the parts of each text.
+-- The goals of `faults_are_one_line` in src/laws.rt: what it ensures.
 use Rattle.tsp_judge.specs.RunFaultText.{run_fault_text}
 use Rattle.tsp_run.proofs.OneLines.{line_of_run}
 use Rattle.tsp_run.proofs.laws.faults_are_one_line.Goals as goal

@@ -1,4 +1,4 @@
--- The goals of `tell_fault` in src/run_end.rt. The buffer holds the text and its end.
+-- The goals of `tell_fault` in src/run_end.rt. The text of a fault is written as one line.
 use Rattle.std.proofs.Common.{◌≡◌, ◌∙◌, ap, subst, ℕ, List, [], ◌∷◌, ◌++◌}
 use Rattle.std.specs.Prelude.{OnOk}
 use Rattle.std.specs.Io.KnownBytes.{Appends}

@@ -1,4 +1,4 @@
-//! Short texts as a whole, in every cut into two pieces, and byte by byte.
+//! A test of short texts as a whole, in every cut into two pieces, and byte by byte.
 
 use super::{EXAMPLES, Example, answer_by_bytes};
 use crate::read::answers::{answer_in, answer_of, answers};

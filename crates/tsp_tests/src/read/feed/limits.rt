@@ -1,4 +1,5 @@
-//! Texts at the limit, in pieces. (Lines and words at theirs are in the tables, and on pipes.)
+//! Tests of texts at the limit of bytes, in pieces. (Lines and words at theirs are in the tables,
+//! and on pipes.)
 
 use crate::asserts::same_at;
 use crate::read::answers::{fault_at_end, fed};

@@ -1,4 +1,4 @@
-//! The result at each piece.
+//! Tests of the result of `Feed` at each piece: a refusal comes as soon as it can, and stays.
 
 use super::{CANONICAL_TOUR, TOUR, at};
 use crate::asserts::{same, same_at};

@@ -1,4 +1,4 @@
-//! Readers that must not be asked once more.
+//! Tests of readers that must not be asked once more, since their text is settled.
 
 use super::{CANONICAL_TOUR, Example, RECTANGLE, TOUR};
 use crate::asserts::{holds_at, same_at};

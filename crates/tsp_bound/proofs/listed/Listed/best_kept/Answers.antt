@@ -10,7 +10,8 @@ use Rattle.tsp_bound.proofs.Listing.{IsEnding, ending_offered, reached_offered}
 use Rattle.tsp_bound.proofs.listed.Listed.best_kept.Goals as goal
 use Rattle.tsp_bound.proofs.listed.Listed.best_kept.Goals.{then-link-ne9223372036854775807+then-index-own, else-link-ne9223372036854775807, else-link-ne9223372036854775807-via-then-link-ne9223372036854775807+else-index-own, else-link-ne9223372036854775807-via-else-link-ne9223372036854775807}
 
--- plan: link by link: one to another component is offered (`reached_offered`), others are left out (`ending_offered`)
+-- plan: by the listed link: one to another component is offered (`reached_offered`), and one inside its component isn't
+-- (`ending_offered`)
 pub links-preserved : goal.links-preserved
 links-preserved g c =
     let s = c.args.self.now in

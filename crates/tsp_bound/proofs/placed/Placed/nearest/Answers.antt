@@ -7,7 +7,8 @@ use Rattle.tsp_bound.proofs.Lowest.{searched_best}
 use Rattle.tsp_bound.proofs.Trees.{found_some, nearest_is}
 use Rattle.tsp_bound.proofs.placed.Placed.nearest.Goals as goal
 
--- plan: what the search finds is no heavier than any place outside (`searched_best`), so it is nearest (`nearest_is`)
+-- plan: the place that the search finds is no farther than any place outside (`searched_best`), so it is the nearest
+-- (`nearest_is`)
 pub lowered-best-requires-clause-best : goal.lowered-best-requires-clause-best
 lowered-best-requires-clause-best g c =
     let s = c.args.self.now in

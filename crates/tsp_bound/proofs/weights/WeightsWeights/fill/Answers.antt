@@ -11,7 +11,7 @@ use Rattle.tsp_bound.specs.states.Multipliers.{triples_in, weight_less}
 use Rattle.tsp_bound.proofs.Lowered.{lowered_to}
 use Rattle.tsp_bound.proofs.weights.WeightsWeights.fill.Goals as goal
 
--- plan: the row of weights, less what the node's pairs lower (`lowered_to`)
+-- plan: each weight of the row, less the multiplier of its pair, is the lowered weight (`lowered_to`)
 pub returns : goal.returns
 returns g c =
     let n = g.C.Costs.nodes c.args.self.now.c.now in

@@ -10,7 +10,7 @@ use Rattle.tsp_bound.specs.states.Multipliers.{triples_in, weight_less}
 use Rattle.tsp_bound.proofs.Lowered.{lowered_to}
 use Rattle.tsp_bound.proofs.weights.WeightsWeights.fill_at.Goals as goal
 
--- plan: the weights at the places, less what the node's pairs lower (`lowered_to`)
+-- plan: each weight that is asked for, less the multiplier of its pair, is the lowered weight (`lowered_to`)
 pub returns : goal.returns
 returns g c =
     let n = g.C.Costs.nodes c.args.self.now.c.now in

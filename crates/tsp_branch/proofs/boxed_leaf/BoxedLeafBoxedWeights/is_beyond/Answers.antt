@@ -7,7 +7,8 @@ use Rattle.tsp_cases.proofs.CaseWeights.{small_multipliers}
 use Rattle.tsp_branch.proofs.BoxedValues.{base_below}
 use Rattle.tsp_branch.proofs.boxed_leaf.BoxedLeafBoxedWeights.is_beyond.Goals as goal
 
--- plan: the base is below the weight (`base_below`), so what is beyond it is beyond the weight
+-- plan: the base is at most the weight (`base_below`), so a region that is too far by its base is too far by its
+-- weights
 pub returns-clause-above : goal.returns-clause-above
 returns-clause-above g c = λ to node.
     let p = c.args.self.now in

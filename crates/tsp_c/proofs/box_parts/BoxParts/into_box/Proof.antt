@@ -1,4 +1,5 @@
--- The proof of `BoxParts::into_box` in src/box_parts.rt. It hands what the parts own to `from_raw`.
+-- The proof of `BoxParts::into_box` in src/box_parts.rt: the box is made again by `from_raw`, which gets the memory
+-- that the parts own.
 use mathlib.Core.Path.{◌≡◌, refl, sym, subst, ap}
 use mathlib.Core.List.{List, [], ◌∷◌, ◌++◌}
 use lib.Dec.{T}

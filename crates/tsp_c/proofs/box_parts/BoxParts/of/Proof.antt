@@ -1,4 +1,4 @@
--- The proof of `BoxParts::of` in src/box_parts.rt. It takes the box apart, and the parts own what it owned.
+-- The proof of `BoxParts::of` in src/box_parts.rt: the box is taken apart, and its parts own the memory that it owned.
 use mathlib.Core.Path.{◌≡◌, refl, sym, subst, ap, ◌∙◌}
 use mathlib.Core.List.{List, [], ◌∷◌, ◌++◌}
 use seplogic.Ra.Ura.{Ura}

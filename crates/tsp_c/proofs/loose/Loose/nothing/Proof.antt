@@ -1,4 +1,4 @@
--- The proof of `Loose::nothing` in src/loose.rt. It makes a handle that owns nothing.
+-- The proof of `Loose::nothing` in src/loose.rt: the pointer NULL is a handle that owns no memory.
 use mathlib.Core.Path.{refl, sym, subst}
 use mathlib.Core.List.{List, [], ◌∷◌, ◌++◌}
 use Rattle.std.specs.Prelude.{None}

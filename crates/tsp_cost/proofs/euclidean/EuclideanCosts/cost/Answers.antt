@@ -3,6 +3,7 @@ use Rattle.std.proofs.Common.{ℕ, ℤ, ap, ◌∙◌, rules, w64, SFits}
 use Rattle.std.proofs.lemmas.Int.{to_z-of_z}
 use Rattle.tsp_cost.proofs.euclidean.EuclideanCosts.cost.Goals as goal
 
+-- plan: the cost is that of the points under EUC_2D
 pub returns-clause-value : goal.returns-clause-value
 returns-clause-value c =
     let fits : SFits w64 c.cost.result = search rules in

@@ -7,7 +7,8 @@ use Rattle.tsp_cost.specs.declared.metric.Metric.{Metric}
 use Rattle.tsp_cost.specs.states.Metrics.{weight_kind_of}
 use Rattle.tsp_cost.proofs.points.Points.with.Goals as goal
 
--- plan: the points are the same, and the metric is the one that the caller knows, so the costs are too
+-- plan: the points don't change, and the metric is the one that the caller passes, so the costs are those of that
+-- metric
 pub returns-clause-costs : goal.returns-clause-costs
 returns-clause-costs g c =
     let places : List Point = map g.P.InSpace.place c.args.self.now.points.now in

@@ -3,5 +3,6 @@ use Rattle.std.proofs.Common.{ap}
 use Rattle.tsp_draft.specs.Fields.{Fields}
 use Rattle.tsp_file.proofs.file.File.others.Goals as goal
 
+-- plan: the lines that the draft lends are those of the file's fields
 pub returns : goal.returns
 returns c = rw c.as_slice.ensures.value (ap (λ (f : Fields). f.others) c.self.view_is)

@@ -2,6 +2,7 @@
 use Rattle.std.proofs.Common.{append_assoc}
 use Rattle.tsp_file.proofs.writer.matrix.put_weight_section.Goals as goal
 
+-- plan: by whether the file has weights: the section's word and the lines of the matrix are added, or nothing
 pub returns-in-Some : goal.returns-in-Some
 returns-in-Some g c = λ start text h.
     let lines = rw c.deref.ensures.value at c.put_matrix.ensures in

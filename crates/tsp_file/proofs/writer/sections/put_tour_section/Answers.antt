@@ -2,6 +2,7 @@
 use Rattle.std.proofs.Common.{append_assoc}
 use Rattle.tsp_file.proofs.writer.sections.put_tour_section.Goals as goal
 
+-- plan: by whether the section is present: its word and its tours are added, or nothing
 pub returns-in-Some : goal.returns-in-Some
 returns-in-Some g c = λ start text h.
     let lines = rw c.deref.ensures.value at c.put_tours.ensures in

@@ -1,4 +1,4 @@
--- The goals of `InputFile::ask` in src/input_file.rt. One call, and what it returns.
+-- The goals of `InputFile::ask` in src/input_file.rt. The call is one read of the source, with what that gives.
 use Rattle.std.proofs.Common.{refl, sym, subst}
 use Rattle.tsp_run.specs.declared.input_file.InputFile.{InputFile}
 use Rattle.tsp_run.specs.declared.input_file.InputFile.TheVariants.{Input, Opened}

@@ -1,4 +1,4 @@
--- The goals of `Watched::ask` in src/watched.rt. One call, and what it answers.
+-- The goals of `Watched::ask` in src/watched.rt. The call is one of the value that is watched.
 use Rattle.std.proofs.Common.{rules, refl}
 use Rattle.tsp_stream.proofs.watched.Watched.ask.Goals as goal
 
