@@ -1,5 +1,5 @@
--- Small files on which whole reports are evaluated. For the laws in src/examples.rt, src/whole_examples.rt and
--- src/comparison_text_examples.rt.
+-- A small file of each TYPE. For the laws of src/examples.rt, src/whole_examples.rt and src/comparison_text_examples.rt,
+-- which state reports and what `tsp show` prints of them.
 use Rattle.std.specs.Prelude.{List, ℕ, [], ◌∷◌, Some, pos, codes}
 use Rattle.tsp_format.specs.declared.kinds.Kind.TheVariants.{Tsp, Cvrp, Tour, Potentials, Branches}
 use Rattle.tsp_format.specs.declared.kinds.WeightKind.TheVariants.{Explicit}
@@ -8,11 +8,11 @@ use Rattle.tsp_format.specs.declared.layout.Layout.TheVariants.{FullMatrix}
 use Rattle.tsp_format.specs.Steps.{Leaf}
 use Rattle.tsp_draft.specs.Fields.{Fields, blank_fields}
 
--- one line that isn't judged
+-- one line of an unknown keyword
 abbrev pub foo : List (List ℕ × List ℕ)
 foo = (codes "FOO", codes "1") ∷ []
 
--- two nodes with a cost of 7 between them, of any TYPE
+-- two nodes with a cost of 7 between them; the TYPE is missing
 abbrev pub two_nodes : Fields
 two_nodes = record blank_fields {
   dimension = Some 2;
@@ -21,7 +21,7 @@ two_nodes = record blank_fields {
   weights = Some (pos 0 ∷ pos 7 ∷ pos 7 ∷ pos 0 ∷ []);
 }
 
--- with a name, a fixed pair, and two lines that aren't judged
+-- a TSP with a name, a fixed pair, and two lines of unknown keywords
 abbrev pub matrix : Fields
 matrix = record two_nodes {
   name = Some (codes "m");
@@ -30,15 +30,19 @@ matrix = record two_nodes {
   others = (codes "FOO", codes "1") ∷ (codes "BAR", []) ∷ [];
 }
 
+-- a CVRP
 abbrev pub shown_routes : Fields
 shown_routes = record two_nodes { kind = Some Cvrp }
 
+-- one tour
 abbrev pub shown_tours : Fields
 shown_tours = record blank_fields { kind = Some Tour; tours = Some ((2 ∷ 1 ∷ []) ∷ []); others = foo }
 
+-- potentials, with a scale
 abbrev pub shown_potentials : Fields
 shown_potentials = record blank_fields { kind = Some Potentials; dimension = Some 2; scale = Some (pos 3); others = foo }
 
+-- branches: a tree of one leaf, with a family and a load unit
 abbrev pub shown_tree : Fields
 shown_tree = record blank_fields {
   kind = Some Branches;
@@ -49,6 +53,6 @@ shown_tree = record blank_fields {
   others = foo;
 }
 
--- no TYPE at all
+-- a file without a TYPE
 abbrev pub untyped : Fields
 untyped = record blank_fields { others = foo }

@@ -1,4 +1,6 @@
--- The report of a check, line by line. Each line ends with byte 10, and one blank is between words.
+-- The bytes of the reports of `tsp check` and `tsp bound`, line by line. Each line ends with byte 10, and one blank is
+-- between words. For `write_report` (src/report.rt) and `write_bound` (src/bound_text.rt), and for the meanings of `yes`
+-- (Accepted.antt of tsp_judge).
 use Rattle.std.specs.Prelude.{ℕ, List, ◌∷◌, ◌++◌, map, codes, decimal, cond, ℤ, pos, ◌-ℤ◌, Option, None, Some, [], IfSome, unsigned_abs, ◌≤◌, ◌^◌}
 use Rattle.std.specs.List.{concat}
 use Rattle.std.specs.Option.{option_map_or}
@@ -17,21 +19,25 @@ use Rattle.tsp_task.specs.ReasonRows.{ReasonRow, row_of_reason}
 
 -- ---- the instance
 
--- a line for each unknown keyword line, in order
+-- a line `not judged` for each line of an unknown keyword, in order
 abbrev pub not_judged : List (List ℕ × List ℕ) → List ℕ
 not_judged others = concat (map (λ other. codes "not judged " ++ other.0 ++ codes "\n") others)
 
+-- the TYPE of the instance
 abbrev pub type_line : Option Kind → List ℕ
 type_line kind = codes "type " ++ option_map_or kind_word kind [] ++ codes "\n"
 
+-- how many nodes it has
 abbrev pub nodes_line : ℕ → List ℕ
 nodes_line n = codes "nodes " ++ decimal n ++ codes "\n"
 
+-- the first lines of each report
 abbrev pub instance_lines : Fields → List ℕ
 instance_lines f = type_line f.kind ++ nodes_line (nodes_of f) ++ not_judged f.others
 
 -- ---- the verdict
 
+-- a number of a reason, if it has it
 abbrev pub after_blank : Option ℤ → List ℕ
 after_blank None = []
 after_blank (Some number) = codes " " ++ signed_decimal number
@@ -40,62 +46,67 @@ after_blank (Some number) = codes " " ++ signed_decimal number
 abbrev pub row_text : ReasonRow → List ℕ
 row_text row = row.name ++ after_blank row.numbers.0 ++ after_blank row.numbers.1
 
+-- the same of a reason, by its row in the table
 abbrev pub reason_text : Reason → List ℕ
 reason_text reason = row_text (row_of_reason reason)
 
--- by how much a length is more than a bound; it is optimal where they are equal
+-- the gap of a length to the bound; `optimal` where it is 0
 abbrev pub gap_lines : ℤ → List ℕ
 gap_lines gap = cond (int_eq gap (pos 0)) (codes "\noptimal\n") (codes "\ngap " ++ signed_decimal gap ++ codes "\n")
 
+-- the bound, if there is one, and the gap
 abbrev pub bound_lines : ℤ → Option ℤ → List ℕ
 bound_lines length None = []
 bound_lines length (Some bound) = codes "bound " ++ signed_decimal bound ++ gap_lines (length -ℤ bound)
 
--- the first unknown keyword of the instance
+-- the word of the first unknown keyword
 abbrev pub first_keyword : List (List ℕ × List ℕ) → List ℕ
 first_keyword [] = []
 first_keyword (other ∷ others) = codes " " ++ other.0
 
--- the same where it is the reason
+-- the same where that is the reason
 abbrev pub keyword_after_blank : Fields → Reason → List ℕ
 keyword_after_blank instance NotJudged = first_keyword instance.others
 keyword_after_blank instance reason = []
 
+-- the line `no` with its reason
 abbrev pub no_line : Fields → Reason → List ℕ
 no_line instance reason = codes "no " ++ reason_text reason ++ keyword_after_blank instance reason ++ codes "\n"
 
--- the length of an accepted solution, and the bound, where there is one
+-- the length of an accepted solution, the bound, if there is one, and `yes`
 abbrev pub accepted_lines : ℤ → Option ℤ → List ℕ
 accepted_lines length bound = codes "length " ++ signed_decimal length ++ codes "\n" ++ bound_lines length bound
     ++ codes "yes\n"
 
+-- the lines of a verdict
 abbrev pub verdict_lines : Fields → Verdict → List ℕ
 verdict_lines instance (Tour length bound) = accepted_lines length bound
 verdict_lines instance (Routes length routes least bound) = codes "routes " ++ decimal routes ++ codes "\nleast " ++ decimal least
     ++ codes "\n" ++ accepted_lines length bound
 verdict_lines instance (No reason) = no_line instance reason
 
--- a bound of which the gap to a length fits
+-- a bound so small that its difference to a length fits 128 bits
 abbrev pub IsGapSized : Option ℤ → Type 0
 IsGapSized bound = IfSome bound (λ b. unsigned_abs b ≤ 2 ^ 126)
 
+-- the same of the bound of a verdict
 abbrev pub IsSized : Verdict → Type 0
 IsSized (Tour length bound) = IsGapSized bound
 IsSized (Routes length routes least bound) = IsGapSized bound
 IsSized (No reason) = Unit {0}
 
--- the report on an instance
+-- the report of a check
 abbrev pub report_of : Fields → Verdict → List ℕ
 report_of instance verdict = instance_lines instance ++ verdict_lines instance verdict
 
 -- ---- a bound without a solution
 
--- the bound, or `none` where the instance has no solution; or the first reason against the instance or the certificate
+-- the bound, or `none` where the instance has no solution; or the first reason against instance and certificate
 abbrev pub bound_found_lines : Fields → BoundVerdict → List ℕ
 bound_found_lines instance (bounds.Bound bound) = codes "bound " ++ signed_decimal bound ++ codes "\nyes\n"
 bound_found_lines instance bounds.NoSolution = codes "bound none\nyes\n"
 bound_found_lines instance (bounds.No reason) = no_line instance reason
 
--- the report on an instance whose solutions are bounded
+-- the report of a bound without a solution
 abbrev pub bound_report_of : Fields → BoundVerdict → List ℕ
 bound_report_of instance found = instance_lines instance ++ bound_found_lines instance found

@@ -1,4 +1,5 @@
--- The lines of `show` for a file. Each line ends with byte 10, and one blank is between words.
+-- The lines that `tsp show` prints of a file. Each line ends with byte 10, and one blank is between words. For
+-- `write_shown` (src/shown.rt), and for ShowRun.antt of tsp_judge.
 use Rattle.std.specs.Prelude.{ℕ, List, [], ◌∷◌, ◌++◌, length, codes, decimal, cond, ℤ, Option, None, Some, unwrap_or}
 use Rattle.std.specs.List.{flat_map, enumerate_from}
 use Rattle.std.specs.Option.{option_map_or}
@@ -35,13 +36,15 @@ head_lines f = name_line f.name ++ (type_line f.kind ++ option_map_or nodes_line
 abbrev pub layout_part : Option WeightKind → Option WeightFormat → List ℕ
 layout_part kind format = cond (is_explicit kind) (codes " " ++ option_map_or weight_format_word format []) []
 
+-- the weight type, and of listed weights their layout
 abbrev pub weights_line : Option WeightKind → Option WeightFormat → List ℕ
 weights_line kind format = codes "weights " ++ option_map_or weight_kind_word kind [] ++ layout_part kind format ++ codes "\n"
 
--- the length of the list of all nodes in their order, 1, 2, .., n
+-- the length of the tour 1, 2, .., n
 abbrev pub canonical_of : Fields → ℤ
 canonical_of f = length_of (cost f) (nodes_to (nodes_of f))
 
+-- the line of that length
 abbrev pub canonical_line : ℤ → List ℕ
 canonical_line canonical = codes "canonical " ++ signed_decimal canonical ++ codes "\n"
 
@@ -50,6 +53,7 @@ abbrev pub fixed_line : Option (List (ℕ × ℕ)) → List ℕ
 fixed_line None = []
 fixed_line (Some pairs) = codes "fixed " ++ decimal (length pairs) ++ codes "\n"
 
+-- the lines on the costs and the fixed pairs of an instance
 abbrev pub cost_lines : Fields → List ℕ
 cost_lines f = weights_line f.weight_kind f.weight_format ++ (canonical_line (canonical_of f) ++ fixed_line f.fixed)
 
@@ -81,11 +85,13 @@ combs_line (Some combs) = codes "combs " ++ decimal (length combs) ++ codes "\n"
 abbrev pub leaves_line : List Step → List ℕ
 leaves_line steps = codes "leaves " ++ decimal (leaf_count steps) ++ codes "\n"
 
+-- the lines on a tree of cases
 abbrev pub tree_lines : Fields → List ℕ
 tree_lines f = scale_line f.scale ++ (load_unit_line f.load_unit ++ (combs_line f.combs ++ leaves_line (unwrap_or f.branches [])))
 
 -- ---- the whole
 
+-- the lines that a file of this TYPE has
 abbrev pub lines_by_type : Option Kind → Fields → List ℕ
 lines_by_type (Some Tsp) f = cost_lines f
 lines_by_type (Some Atsp) f = cost_lines f
@@ -95,6 +101,6 @@ lines_by_type (Some Potentials) f = scale_line f.scale
 lines_by_type (Some Branches) f = tree_lines f
 lines_by_type None f = []
 
--- the lines of `show`
+-- all lines of `tsp show`
 abbrev pub shown : Fields → List ℕ
 shown f = head_lines f ++ lines_by_type f.kind f ++ not_judged f.others

@@ -1,10 +1,10 @@
--- What reading the canonical text of a file may answer.
+-- The result of reading the canonical text of a file. For the law `canonical_texts_are_read_back` (src/round_trip.rt).
 use Rattle.std.specs.Prelude.{◌≡◌, Result, Ok, Err}
 use Rattle.tsp_draft.specs.Fields.{Fields}
 use Rattle.tsp_text.specs.declared.fault.ReadFault.{ReadFault}
 use Rattle.tsp_text.specs.declared.fault.ReadFault.TheVariants as faults
 
--- this file, or that memory was refused
+-- it is this file, or memory was refused
 abbrev pub IsThisFile : Fields → Result Fields ReadFault → Type 0
 IsThisFile file (Ok other) = other ≡ file
 IsThisFile file (Err (faults.Line line word found)) = ⊥

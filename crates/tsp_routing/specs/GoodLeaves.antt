@@ -1,4 +1,5 @@
--- Which leaf of a certificate for routes is bad: multipliers may have any sign.
+-- Whether the leaves of a certificate for routes are good: their multipliers may have any sign, so others are good than
+-- for cycles (GoodNumbers.antt of tsp_cases). For `judge_numbers` (src/good_numbers.rt), and for PlanVerdicts.antt.
 use Rattle.std.specs.Prelude.{◌≡◌, ℕ, unsigned_abs, List, length, ℤ, pos, ◌≤ℤ◌}
 use Rattle.tsp_format.specs.Steps.{Step}
 use Rattle.tsp_theory.specs.Length.{sum_int_by}
@@ -6,14 +7,15 @@ use Rattle.tsp_theory.specs.CertificateNumbers.{ArePotentials}
 use Rattle.tsp_cases.specs.Cases.{LeafNumbers}
 use Rattle.tsp_cases.specs.Listed.{AreGoodLeavesBy, IsFirstBadLeafBy}
 
--- the most that the sizes of multipliers sum to
+-- the largest sum of the sizes of multipliers
 abbrev pub most_of_multipliers : ℕ
 most_of_multipliers = 300000000000000000
 
+-- the sum of the sizes of multipliers
 abbrev pub sizes_total : List ℤ → ℤ
 sizes_total multipliers = sum_int_by (λ multiplier. pos (unsigned_abs multiplier)) multipliers
 
--- as many potentials as nodes, none too large; as many multipliers as families, which aren't too large together
+-- a potential for each node, none too large; a multiplier for each family, the sum of whose sizes isn't too large
 pub record ArePlanNumbers (n families : ℕ) (numbers : LeafNumbers) : Type 0 where
   pub each_node : length numbers.potentials ≡ n
   pub each_family : length numbers.multipliers ≡ families

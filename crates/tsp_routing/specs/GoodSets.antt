@@ -1,4 +1,5 @@
--- Which family of a certificate for routes is bad: each is one set of customers.
+-- Whether the families of a certificate for routes are good: each is one set of customers. For `judge_cuts`
+-- (src/cuts.rt), and for PlanVerdicts.antt.
 use Rattle.std.specs.Prelude.{◌≡◌, ◌≢◌, ℕ, ◌+◌, ◌≤◌, ◌<◌, List, [], ◌∷◌, length, slice_index_or}
 use Rattle.std.specs.List.{All}
 use Rattle.tsp_theory.specs.Routing.{RoutingProblem, IsCustomer}
@@ -7,7 +8,7 @@ use Rattle.tsp_cases.specs.FamiliesOfSets.{families_with}
 use Rattle.tsp_cases.specs.GoodFamilies.{HasEachOnce}
 use Rattle.tsp_routing.specs.Cuts.{IsCutFamily}
 
--- one set, which has some customer, no node but customers, and none twice
+-- the family is one set, which isn't empty, has customers alone, and none twice
 pub record IsGoodSet (n depot : ℕ) (sets : List (List ℕ)) : Type 0 where
   pub customers : List ℕ
   pub alone : sets ≡ customers ∷ []
@@ -22,7 +23,7 @@ pub record IsFirstBadSet (n depot : ℕ) (families : List (List (List ℕ))) (fi
   pub before : (place : ℕ) → place + 1 < first → IsGoodSet n depot (slice_index_or families place [])
   pub bad : (place : ℕ) → place + 1 ≡ first → IsGoodSet n depot (slice_index_or families place []) → ⊥
 
--- all are good, and these are how often a plan crosses each at the least
+-- all families are such sets, and `crossed` says how often a plan crosses each at least
 pub record AreCapacityCuts (problem : RoutingProblem) (families : List (List (List ℕ))) (crossed : List Crossings) : Type 0 where
   pub many : length crossed ≡ length families
   pub good : (place : ℕ) → place < length families → IsGoodSet problem.nodes problem.depot (slice_index_or families place [])

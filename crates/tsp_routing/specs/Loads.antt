@@ -1,5 +1,6 @@
--- Loads in units: demands rounded down, so that tables by load are small. Customers whose demand is below a unit load a small
--- part of one, and a route may take all of these.
+-- Loads in units: demands divided by a unit and rounded down, so that tables by load are small. A customer that demands
+-- less than a unit loads a small part of one, so that a route may have all of these. For `unit_loads` (src/units.rt),
+-- the law `routes_are_walks` (src/laws.rt), and PlanTrees.antt.
 use Rattle.std.specs.Prelude.{◌≡◌, ℕ, ◌+◌, ◌*◌, ◌/◌, ◌==◌, ◌≤◌, if◌then◌else◌, nat_abs, List, ℤ, pos, ◌≤ℤ◌}
 use Rattle.std.specs.List.{All}
 use Rattle.tsp_theory.specs.Length.{sum_int_by}
@@ -19,17 +20,18 @@ pub record AreUnits (problem : RoutingProblem) (unit light : ℕ) : Type 0 where
   pub some : 1 ≤ unit
   pub light_is : pos light ≡ sum_of_customers problem.nodes problem.depot (is_light problem unit)
 
--- the load of a node, and the most that a route loads: where `light` customers have one below it, a unit has `light + 1` parts
+-- the load of a node, in parts of a unit: where `light` customers demand less than a unit, it has `light + 1` parts
 abbrev pub load_in : RoutingProblem → ℕ → ℕ → ℕ → ℕ
 load_in problem unit light node =
     if units_of problem unit node == 0 then 1 else (units_of problem unit node * (light + 1))
 
+-- the capacity of a route in the same parts, and one part for each such customer
 abbrev pub room_in : RoutingProblem → ℕ → ℕ → ℕ
 room_in problem unit light = nat_abs problem.capacity / unit * (light + 1) + light
 
 -- ---- the theorems
 
--- Each route of a plan loads no more than that.
+-- Each route of a plan loads no more than that capacity.
 abbrev pub RoutesHaveRoom : Type 0
 RoutesHaveRoom = (problem : RoutingProblem) (unit light : ℕ) (routes : List (List ℕ))
     → IsRoutable problem → AreUnits problem unit light → IsPlan problem routes

@@ -1,4 +1,6 @@
--- The bound of a leaf whose case is limits on sets: the multipliers of the sets may have any sign.
+-- The bound of a leaf for routes, from the least weight of a walk, under limits on sets and multipliers of any sign. For
+-- `plan_bound` (src/leaf_sum.rt), `limits_total` (src/given_back.rt), and the law `plan_bounds_bound_plans`
+-- (src/laws.rt).
 use Rattle.std.specs.Prelude.{ℕ, negsuc, int_lt, ◌+◌, ◌*◌, ◌-◌, max, min, ◌==◌, ◌&&◌, not, if◌then◌else◌, List, [], ◌∷◌, length, ℤ, pos, ◌+ℤ◌, ◌-ℤ◌, ◌*ℤ◌, ◌≤ℤ◌}
 use Rattle.std.specs.List.{All}
 use Rattle.tsp_theory.specs.Routing.{RoutingProblem, plan_length}
@@ -12,33 +14,36 @@ use Rattle.tsp_routing.specs.PlanLinks.{IsRoutable, IsFilledPlan, sum_of_custome
 use Rattle.tsp_routing.specs.Cuts.{IsCutFamily, IsFewest}
 use Rattle.tsp_routing.specs.Limits.{KeepsEachLimit}
 
--- what a plan has for each of its routes
+-- what each route adds to the bound: the least weight of a walk, less the depot's potential twice
 abbrev pub surplus : RoutingProblem → List ℤ → ℤ → ℤ
 surplus problem potentials each = each -ℤ (pos 2 *ℤ entry potentials problem.depot)
 
--- the lower one of a number times each of two counts
+-- the lower one of two products: a number times `fewest`, and times `most`
 abbrev pub least_product : ℕ → ℕ → ℤ → ℤ
 least_product fewest most z = if int_lt (pos most *ℤ z) (pos fewest *ℤ z) then (pos most *ℤ z) else (pos fewest *ℤ z)
 
--- a number of at least 0 times the first count, one below 0 times the second
+-- a number of at least 0 times `low`, one below 0 times `high`
 abbrev pub least_times : ℕ → ℕ → ℤ → ℤ
 least_times low high (pos m) = pos low *ℤ pos m
 least_times low high (negsuc m) = pos high *ℤ negsuc m
 
--- how often a plan of a case crosses the set with this name at the least, and at the most, from a number that holds of all plans
+-- how often a plan of the case crosses the set with the number `place` at least: by its limits, and by `own`, which
+-- holds of all plans
 abbrev pub low_of : ℕ → List Decision → ℕ → ℕ
 low_of place [] own = own
 low_of place (limit ∷ case) own =
     if not limit.taken && (limit.pair.0 == place) then max (2 * limit.pair.1 + 2) (low_of place case own)
     else low_of place case own
 
+-- how often it crosses that set at most, in the same way
 abbrev pub high_of : ℕ → List Decision → ℕ → ℕ
 high_of place [] own = own
 high_of place (limit ∷ case) own =
     if limit.taken && (limit.pair.0 == place) then min (2 * limit.pair.1) (high_of place case own) else high_of place case own
 
--- The sum that the multipliers of the sets give back, the first of which has this name: a multiplier of at least 0 times the
--- least number of crossings, one below 0 times the most. Without a limit above, the most is twice the number of customers.
+-- The sum that the multipliers of the sets give back: a multiplier of at least 0 times the least number of crossings,
+-- one below 0 times the most. `place` is the number of the first set, and `own` holds of a set without a limit: twice
+-- the number of customers.
 abbrev pub limits_total : List Decision → ℕ → ℕ → List Family → List ℤ → ℤ
 limits_total case own place [] multipliers = pos 0
 limits_total case own place (family ∷ families) [] = pos 0
@@ -46,13 +51,14 @@ limits_total case own place (family ∷ families) (multiplier ∷ multipliers) =
     least_times (low_of place case family.numbers.least) (high_of place case own) multiplier
     +ℤ limits_total case own (place + 1) families multipliers
 
--- the weight between two nodes: the cost at the scale, the potentials of both, and less the multipliers of the sets that have one
--- of them
+-- the weight between two nodes: the cost times the scale and both potentials, less the multipliers of the sets that have
+-- one of them
 abbrev pub walk_weight : ℤ → List ℤ → List Family → List ℤ → (ℕ → ℕ → ℤ) → ℕ → ℕ → ℤ
 walk_weight scale potentials families multipliers cost =
     combed (multiplied families multipliers) (weight_between scale potentials cost)
 
--- the bound where each route weighs `each` at the least: there are at least `fewest` routes, and at most as many as customers
+-- the bound of a leaf where each route weighs `each` at least: there are `fewest` routes or more, and at most as many as
+-- customers
 pub record IsPlanBound (problem : RoutingProblem) (scale : ℤ) (potentials : List ℤ) (families : List Family) (multipliers : List ℤ)
     (case : List Decision) (each bound : ℤ) : Type 0 where
   pub fewest : ℕ
@@ -63,7 +69,7 @@ pub record IsPlanBound (problem : RoutingProblem) (scale : ℤ) (potentials : Li
 
 -- ---- the theorem
 
--- A plan of the case that weighs as much as that is no shorter than the bound.
+-- A filled plan of the case whose routes weigh at least that is no shorter than the bound.
 abbrev pub PlanBoundsBoundPlans : Type 0
 PlanBoundsBoundPlans = (problem : RoutingProblem) (scale : ℤ) (potentials : List ℤ) (families : List Family) (multipliers : List ℤ)
     (case : List Decision) (each bound : ℤ) (routes : List (List ℕ))

@@ -1,4 +1,5 @@
--- The links of a plan, and bounds on the lengths of plans.
+-- The links of a plan of routes, which plans a bound is about, and how sums over a plan add up. For the meanings of
+-- `yes` (Accepted.antt of tsp_judge), the laws of src/laws.rt, and `customers_total` (src/given_back.rt).
 use Rattle.std.specs.Prelude.{◌≡◌, ◌≢◌, ℕ, List, [], ◌∷◌, ◌++◌, length, ◌≤◌, ℤ, pos, ◌-◌, ◌+ℤ◌, ◌-ℤ◌, ◌*ℤ◌, ◌≤ℤ◌}
 use Rattle.std.specs.List.{All}
 use Rattle.tsp_format.specs.Nodes.{IsNode, nodes_to}
@@ -18,11 +19,12 @@ pub record IsFilledPlan (problem : RoutingProblem) (routes : List (List ℕ)) : 
   pub plan : IsPlan problem routes
   pub each : All (λ route. route ≢ []) routes
 
--- no such plan is shorter than the bound; there is none
+-- no filled plan is shorter than the bound
 abbrev pub BoundsPlans : RoutingProblem → ℤ → Type 0
 BoundsPlans problem bound = (routes : List (List ℕ)) → IsFilledPlan problem routes
     → bound ≤ℤ plan_length problem.cost problem.depot routes
 
+-- the problem has no filled plan
 abbrev pub HasNoPlan : RoutingProblem → Type 0
 HasNoPlan problem = (routes : List (List ℕ)) → IsFilledPlan problem routes → ⊥
 
@@ -32,7 +34,7 @@ pub record IsRoutable (problem : RoutingProblem) : Type 0 where
   pub some : 2 ≤ problem.nodes
   pub demands : (node : ℕ) → IsCustomer problem.nodes problem.depot node → pos 0 ≤ℤ problem.demand node
 
--- the sum over all nodes but the depot
+-- the sum of a number over all nodes but the depot
 abbrev pub sum_of_customers : ℕ → ℕ → (ℕ → ℤ) → ℤ
 sum_of_customers n depot f = sum_int_by f (nodes_to n) -ℤ f depot
 
@@ -52,7 +54,7 @@ PlanSums = (problem : RoutingProblem) (routes : List (List ℕ)) (f : ℕ → �
     × (plan_length (λ i j. f j) problem.depot routes
     ≡ sum_of_customers problem.nodes problem.depot f +ℤ (pos (length routes) *ℤ f problem.depot))
 
--- A filled plan has as many routes as customers at the most.
+-- A filled plan has one route at least, and no more routes than customers.
 abbrev pub PlansHaveFewRoutes : Type 0
 PlansHaveFewRoutes = (problem : RoutingProblem) (routes : List (List ℕ)) → IsRoutable problem → IsFilledPlan problem routes
     → (1 ≤ length routes) × (length routes ≤ (problem.nodes - 1))

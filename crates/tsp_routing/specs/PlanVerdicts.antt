@@ -1,4 +1,5 @@
--- The verdict on a certificate for routes: its bound, or the first reason against it.
+-- The verdict on a certificate for routes: its bound, or the first reason against it. For `judge_plans`
+-- (src/verdict.rt), and for WalksCertificate.antt of tsp_verdict.
 use Rattle.std.specs.Prelude.{◌≡◌, ℕ, ◌+◌, ◌*◌, ◌≤◌, ◌<◌, length, IfSome, List, Option, ℤ}
 use Rattle.tsp_format.specs.Steps.{Step}
 use Rattle.tsp_theory.specs.CertificateNumbers.{IsBoundSized}
@@ -14,7 +15,7 @@ use Rattle.tsp_routing.specs.GoodBranches.{AreGoodBranches, IsFirstBadPlanBranch
 use Rattle.tsp_routing.specs.GoodLeaves.{AreGoodPlanLeaves, IsFirstBadPlanLeaf}
 use Rattle.tsp_routing.specs.PlanTrees.{IsPlanTreeBound, BoundsPlansIfAny}
 
--- the problem of nodes with costs, a depot, a demand of each node, and a capacity
+-- the routing problem with these nodes, costs, depot, demands and capacity
 abbrev pub routing_with : ℕ → (ℕ → ℕ → ℤ) → ℕ → List ℤ → ℤ → RoutingProblem
 routing_with n cost depot demands capacity = record {
   nodes = n;
@@ -24,22 +25,22 @@ routing_with n cost depot demands capacity = record {
   capacity = capacity;
 }
 
--- the most entries of a table by node and load
+-- how many entries a table by node and load may have
 abbrev pub most_entries : ℕ
 most_entries = 10000000
 
--- a table of all loads up to the capacity of a route has too many entries, or not
+-- a table of all loads up to the capacity of a route has more entries
 pub record HasTooManyLoads (problem : RoutingProblem) (unit : ℕ) : Type 0 where
   pub light : ℕ
   pub units : AreUnits problem unit light
   pub many : most_entries < problem.nodes * (room_in problem unit light + 1)
 
--- families and branches are good; leaves are too
+-- the families and the branches are good
 abbrev pub HasGoodTree : RoutingProblem → List (List (List ℕ)) → List Step → Type 0
 HasGoodTree problem families steps = ((crossed : List Crossings) × AreCapacityCuts problem families crossed)
     × AreGoodBranches problem.nodes (length families) steps
 
--- the bound of a good certificate, whose loads aren't too many
+-- the bound of a certificate that is good, and whose table isn't too large
 pub record IsBoundFound (problem : RoutingProblem) (scale : ℤ) (unit : ℕ) (families : List (List (List ℕ))) (steps : List Step)
     (found : Option ℤ) : Type 0 where
   pub crossed : List Crossings
@@ -52,8 +53,8 @@ pub record IsBoundFound (problem : RoutingProblem) (scale : ℤ) (unit : ℕ) (f
   pub bound : IsPlanTreeBound problem scale unit light (families_with crossed families)
       (listed_steps problem.nodes (length families) steps) found
 
--- the first bad family; where all are good, the first bad branch; where all of these are, the first bad leaf; then whether
--- there are too many loads; and else the bound
+-- the first bad family; where all are good, the first bad branch; then the first bad leaf; then that there are too many
+-- loads; and else the bound
 abbrev pub IsPlanVerdict : RoutingProblem → ℤ → ℕ → List (List (List ℕ)) → List Step → PlanVerdict → Type 0
 IsPlanVerdict problem scale unit families steps (verdict.BadFamily family) = IsFirstBadSet problem.nodes problem.depot families family
 IsPlanVerdict problem scale unit families steps (verdict.BadBranch branch) =
@@ -65,7 +66,7 @@ IsPlanVerdict problem scale unit families steps verdict.TooManyLoads =
     HasGoodTree problem families steps × AreGoodPlanLeaves problem.nodes (length families) steps × HasTooManyLoads problem unit
 IsPlanVerdict problem scale unit families steps (verdict.Bound found) = IsBoundFound problem scale unit families steps found
 
--- A bound is at most the length of every plan whose routes each have a customer; where there is none, there is no such plan.
+-- A bound is at most the length of every filled plan; where there is none, there is no filled plan.
 abbrev pub VerdictBoundsPlans : RoutingProblem → PlanVerdict → Type 0
 VerdictBoundsPlans problem (verdict.Bound found) = BoundsPlansIfAny problem found
 VerdictBoundsPlans problem (verdict.BadFamily family) = Unit {0}
@@ -73,7 +74,7 @@ VerdictBoundsPlans problem (verdict.BadBranch branch) = Unit {0}
 VerdictBoundsPlans problem (verdict.BadLeaf leaf) = Unit {0}
 VerdictBoundsPlans problem verdict.TooManyLoads = Unit {0}
 
--- Sums with it fit 128 bits.
+-- The bound is so small that sums with it fit 128 bits.
 abbrev pub IsSizedPlanVerdict : PlanVerdict → Type 0
 IsSizedPlanVerdict (verdict.Bound found) = IfSome found IsBoundSized
 IsSizedPlanVerdict (verdict.BadFamily family) = Unit {0}

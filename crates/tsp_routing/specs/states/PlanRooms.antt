@@ -1,4 +1,5 @@
--- The memory of leaves for routes, and what is found of them. Of `PlanRoom` (src/plan_judge.rt).
+-- The memory of a leaf for routes, which is `PlanRoom` (src/plan_judge.rt), and what is found of one leaf or of all. For
+-- `judge_leaf` there, and for `leaf_verdict` (src/verdict.rt).
 use Rattle.std.specs.Prelude.{◌≡◌, ℕ, ◌+◌, ◌*◌, ◌≤◌, ◌<◌, Bool, true, List, length, Option, ℤ}
 use Rattle.tsp_format.specs.Steps.{Step}
 use Rattle.tsp_theory.specs.Routing.{RoutingProblem}
@@ -14,22 +15,22 @@ use Rattle.tsp_routing.specs.GoodLeaves.{AreGoodPlanLeaves, IsFirstBadPlanLeaf}
 use Rattle.tsp_routing.specs.PlanTrees.{IsFoundByWalks, IsPlanTreeBound}
 use Rattle.tsp_routing.specs.PlanVerdicts.{most_entries}
 
--- a number for each node and for each family, and a row
+-- a potential for each node, a multiplier for each family, and a row of numbers by node
 pub record IsPlanRoom (n families : ℕ) (room : PlanRoom) : Type 0 where
   pub potentials : length room.potentials.items ≡ n
   pub multipliers : length room.multipliers.items ≡ families
   pub row : length room.row.items ≡ n + 1
 
--- what is found of a leaf where there are few loads; where there are many, it is only good or bad
+-- what is found of a leaf where there are few loads; where there are too many, a leaf is good or bad alone
 abbrev pub IsFoundOfFew : Bool → RoutingProblem → ℤ → ℕ → ℕ → List Family → List Decision × LeafNumbers → Option ℤ → Type 0
 IsFoundOfFew few problem scale unit light families leaf found =
     few ≡ true → IsFoundByWalks problem scale unit light families leaf found
 
--- the entries of a table by node and load
+-- how many entries the table by node and load has
 abbrev pub entries_in : RoutingProblem → ℕ → ℕ → ℕ
 entries_in problem unit light = problem.nodes * (room_in problem unit light + 1)
 
--- the verdict on leaves, where families and branches are good
+-- the verdict on the leaves, where families and branches are good
 abbrev pub IsLeafVerdict : RoutingProblem → ℤ → ℕ → ℕ → ℕ → List Family → List Step → PlanVerdict → Type 0
 IsLeafVerdict problem scale unit light count families steps (verdict.BadLeaf leaf) =
     IsFirstBadPlanLeaf problem.nodes count steps leaf

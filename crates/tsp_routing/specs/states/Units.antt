@@ -1,5 +1,5 @@
--- What code knows of loads in units. Of `UnitLoads` (src/units.rt): `light` counts the customers that demand less than a unit,
--- and `room` is the capacity of a route.
+-- The loads of all nodes and the capacity of a route, in parts of units, whatever the costs. For `UnitLoads`
+-- (src/units.rt): `light` counts the customers that demand less than a unit, and `room` is the capacity.
 use Rattle.std.specs.Prelude.{◌≡◌, ℕ, ◌+◌, length, ℤ}
 use Rattle.tsp_format.specs.Nodes.{IsNode}
 use Rattle.tsp_theory.specs.Routing.{RoutingProblem}
@@ -13,7 +13,7 @@ use Rattle.tsp_routing.specs.declared.units.UnitLoads.{UnitLoads}
 abbrev pub light_in : RoutingProblem → ℕ → ℕ → ℤ
 light_in problem unit node = of_others problem.depot (is_light problem unit) node
 
--- the loads of all nodes, and the capacity of a route in the same parts, whatever the costs
+-- the loads and the capacity are those of Loads.antt
 pub record AreUnitLoads (demands : Demands) (unit : ℕ) (units : UnitLoads) : Type 0 where
   pub are : (cost : ℕ → ℕ → ℤ) → AreUnits (loads_problem demands cost) unit units.light
   pub places : length units.loads.items ≡ demands.nodes + 1

@@ -1,4 +1,5 @@
--- What a clause sees of a file that may be missing. Of `InputFile` (src/input_file.rt).
+-- A file to be read that is standard input, an opened file, or missing, and what a read of it does. For `InputFile`
+-- (src/input_file.rt), which src/main.rt of tsp_tool makes.
 use Rattle.std.specs.Prelude.{◌≡◌, ℕ, ℤ, Bool, true, false, List, Option, None, Some, Result, Err}
 use Rattle.std.specs.IoError.{error_kind, raw_os_error}
 use Rattle.std.specs.declared.io.Error.{Error}
@@ -10,18 +11,19 @@ use Rattle.tsp_cli.specs.declared.task_of_job.InputPath.TheVariants as input_pat
 use Rattle.tsp_run.specs.declared.input_file.InputFile.{InputFile}
 use Rattle.tsp_run.specs.declared.input_file.InputFile.TheVariants.{Input, Opened, Missing}
 
+-- whether the file is missing
 abbrev pub is_missing : {I F : Type 0} → InputFile I F → Bool
 is_missing (Input input) = false
 is_missing (Opened file) = false
 is_missing (Missing error) = true
 
--- the bytes that are left to read, where they are known
+-- the bytes that it has left, where these are known
 abbrev pub remaining_of : {I F : Type 0} → (I → Option (List ℕ)) → (F → Option (List ℕ)) → InputFile I F → Option (List ℕ)
 remaining_of of_input of_file (Input input) = of_input input
 remaining_of of_input of_file (Opened file) = of_file file
 remaining_of of_input of_file (Missing error) = None
 
--- standard input is given for itself, and at a path a file that was opened, or one that is missing
+-- `-` is given standard input, and a path a file that was opened or is missing
 abbrev pub IsInputFileOf : {I F : Type 0} → InputPath → InputFile I F → Type 0
 IsInputFileOf input_paths.Input (Input input) = Unit {0}
 IsInputFileOf input_paths.Input (Opened file) = ⊥
@@ -32,15 +34,16 @@ IsInputFileOf (input_paths.Path path) (Missing error) = Unit {0}
 
 -- ---- what a read does
 
--- of the error's number of the system, which a second error has too; where it has none, they are of the same kind
+-- the other error has the same number of the system; where that has none, it is of the same kind
 abbrev pub HasSystemCode : Option ℤ → Error → Error → Type 0
 HasSystemCode (Some code) error other = raw_os_error other ≡ Some code
 HasSystemCode None error other = error_kind other ≡ error_kind error
 
+-- the two errors are the same in this respect
 abbrev pub IsSameError : Error → Error → Type 0
 IsSameError error other = HasSystemCode (raw_os_error error) error other
 
--- a call of a reader at a `&mut` to it, and one to the buffer for its bytes, which returns an R
+-- a call on a reader and a buffer, each by `&mut`, that returns an R
 abbrev pub Asking : Type 0 → Type 0 → Type 0 → Type 0 → Type 1
 Asking Call T B R = Once Call (MutBor T × (MutBor B × Unit {0})) (R × (MutBor T × (MutBor B × Unit {0})))
 
@@ -56,7 +59,7 @@ IsAskedOnce asks_input of_input asks_file of_file (Missing error) room (Err foun
     × (left ≡ error) × (filled ≡ room)
 IsAskedOnce asks_input of_input asks_file of_file old room answer new filled = ⊥
 
--- how a read of standard input or of a file may end, into a buffer, and what it leaves
+-- how a read may end: from a reader and a buffer, the result, the buffer and the reader after it
 abbrev pub Giving : Type 0 → Type 1
 Giving R = R → List ℕ → Result ℕ Error → List ℕ → R → Type 0
 
