@@ -1,10 +1,12 @@
--- What a call does to the writer that it is given.
+-- A writer before and after a call: the bytes that came to it, and whether it failed. For every call that writes:
+-- `write_text` (src/output.rt), the reports of tsp_report, and the runs of tsp_judge.
 use Rattle.std.specs.Prelude.{◌≡◌, ℕ, Bool, true, false, List, take, Option, Result, Ok, Err}
 use Rattle.std.specs.Io.KnownBytes.{Keeps, Appends}
 use Rattle.tsp_stream.specs.declared.output.WriteFault.{WriteFault}
 use Rattle.tsp_stream.specs.declared.output.WriteFault.TheVariants as write_faults
 
--- What a writer holds before the call and after it, where it is known, and whether it had failed and has failed.
+-- The bytes that a writer has before the call and after it, where these are known, and whether it had failed before and
+-- has failed after it.
 pub record Sink : Type 0 where
   pub held : Option (List ℕ)
   pub holds : Option (List ℕ)
@@ -24,7 +26,7 @@ abbrev pub HasStopped : Sink → List ℕ → Type 0
 HasStopped sink text = (sink.failed ≡ true) × (sink.had_failed ≡ true → Keeps sink.held sink.holds)
     × ((count : ℕ) × Appends sink.held sink.holds (take count text))
 
--- How the writing of a text ends. It takes no memory, so that running out of it is never its end.
+-- The result of writing a text. It takes no memory, so the result isn't `OutOfMemory`.
 abbrev pub Writes : Sink → List ℕ → Result (Unit {0}) WriteFault → Type 0
 Writes sink text (Ok done) = HasWritten sink text
 Writes sink text (Err write_faults.Device) = HasStopped sink text

@@ -1,4 +1,5 @@
--- What a call does to the reader that it is given.
+-- A reader before and after a call: the bytes that it delivered, and whether it failed. For every call that reads:
+-- `read_from` of tsp_read, and the runs of tsp_judge.
 use Rattle.std.specs.Prelude.{◌≡◌, ℕ, ◌≤◌, Bool, true, false, List, length, Option, IfSome}
 use Rattle.std.specs.Io.KnownBytes.{Keeps, Consumes}
 
@@ -15,11 +16,12 @@ pub record Turn : Type 0 where
 abbrev pub Gave : Turn → Type 0
 Gave turn = Consumes turn.known turn.left turn.given
 
--- it had not failed before, and has not failed
+-- it had not failed before, and hasn't failed
 abbrev pub IsSound : Turn → Type 0
 IsSound turn = (turn.had_failed ≡ false) × (turn.failed ≡ false)
 
--- It gave bytes with P without a failure. Where its bytes are known, P holds of its whole rest too: it was not left early.
+-- It delivered bytes of which P holds, without a failure. Where its bytes are known, P holds of all of them too: reading
+-- didn't stop too early.
 abbrev pub GaveAll : Turn → (List ℕ → Type 0) → Type 0
 GaveAll turn P = Gave turn × IsSound turn × P turn.given × IfSome turn.known P
 
@@ -32,6 +34,6 @@ HasBrokenOff turn = Gave turn × (turn.failed ≡ true)
 abbrev pub IsUnread : Turn → Type 0
 IsUnread turn = Keeps turn.known turn.left × (turn.failed ≡ turn.had_failed)
 
--- for some bytes that the reader delivered, at most this many, P holds of the `Turn`
+-- for some bytes that the reader delivered, at most `most` of them, P holds of the turn
 abbrev pub TakesAtMost : ℕ → (List ℕ → Turn) → (Turn → Type 0) → Type 0
 TakesAtMost most turn P = (given : List ℕ) × (length given ≤ most) × P (turn given)

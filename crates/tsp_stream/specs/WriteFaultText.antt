@@ -1,4 +1,4 @@
--- The text of each fault of a writer.
+-- The text of each fault of a writer. For `WriteFault` (src/output.rt), and for RunFaultText.antt of tsp_judge.
 use Rattle.std.specs.Prelude.{ℕ, List, codes}
 use Rattle.tsp_stream.specs.declared.output.WriteFault.{WriteFault}
 use Rattle.tsp_stream.specs.declared.output.WriteFault.TheVariants.{Device, OutOfMemory}

@@ -1,9 +1,9 @@
--- A reason of each kind, on which the table of reasons is evaluated. For the laws in src/reason_examples.rt.
+-- A reason of each kind. For the laws of src/reason_examples.rt, which state the name, the rank and the numbers of each.
 use Rattle.std.specs.Prelude.{List, [], ◌∷◌, negsuc}
 use Rattle.tsp_task.specs.declared.verdict.Reason.{Reason}
 use Rattle.tsp_task.specs.declared.verdict.Reason.TheVariants.{NotASolution, TooFewNodes, NotSymmetric, Dimension, TourCount, TourLength, DepotCount, DepotDemand, FixedEdgesInRoutes, DepotInRoute, NodeOutOfRange, RepeatedNode, FixedEdgeUnused, Unserved, Overload, LengthClaimed, NotPotentials, PotentialsDimension, PotentialsKind, MultiplierNotFixed, MultiplierRepeated, DualInfeasible, NotBranches, BranchesDimension, BadComb, BadBranch, BranchTwice, BadLeaf, TooManyLoads, NotJudged}
 
--- in the order in which they are judged
+-- in the order in which reasons are judged
 abbrev pub each_reason : List Reason
 each_reason =
     NotASolution ∷ TooFewNodes ∷ NotSymmetric 1 20 ∷ Dimension ∷ TourCount ∷ TourLength ∷ DepotCount ∷ DepotDemand

@@ -1,4 +1,5 @@
--- The same task of other files.
+-- A task with other files in place of its own, as with opened files in place of paths. For `map` (src/task.rt), and for
+-- ProgramRun.antt of tsp_run. A relation `gives` says which file may be in place of which.
 use Rattle.std.specs.Prelude.{◌≡◌, Option, None, Some}
 use Rattle.tsp_task.specs.declared.certificate.Certificate.{Certificate}
 use Rattle.tsp_task.specs.declared.task.Comparison.{Comparison}
@@ -7,13 +8,13 @@ use Rattle.tsp_task.specs.declared.task.Task.TheVariants as tasks
 use Rattle.tsp_task.specs.declared.task.FileTask.{FileTask}
 use Rattle.tsp_task.specs.declared.task.FileTask.TheVariants.{Show, Convert, Check, Bound}
 
--- the same certificate, or none, of a file that the relation gives for its file
+-- the same kind of certificate with such a file, or none
 abbrev pub IsMappedCertificate : {F G : Type 0} → (F → G → Type 0) → Option (Certificate × F) → Option (Certificate × G) → Type 0
 IsMappedCertificate gives None None = Unit {0}
 IsMappedCertificate gives (Some a) (Some x) = (x.0 ≡ a.0) × gives a.1 x.1
 IsMappedCertificate gives _ _ = ⊥
 
--- the same task, each of its files one that the relation gives for it
+-- the same task with such files
 abbrev pub IsMapped : {F G : Type 0} → (F → G → Type 0) → FileTask F → FileTask G → Type 0
 IsMapped gives (Show a) (Show x) = gives a x
 IsMapped gives (Convert a to) (Convert x same) = gives a x × (same ≡ to)
@@ -22,11 +23,12 @@ IsMapped gives (Check a b c claimed strict) (Check x y z same also) = gives a x 
 IsMapped gives (Bound a c strict) (Bound x z same) = gives a x × (z.0 ≡ c.0) × gives c.1 z.1 × (same ≡ strict)
 IsMapped gives _ _ = ⊥
 
--- the same comparison, its instance and certificate files that the relation gives for them
+-- the same comparison with such an instance and certificate; its solutions stay
 abbrev pub IsMappedComparison : {F G : Type 0} → (F → G → Type 0) → Comparison F → Comparison G → Type 0
 IsMappedComparison gives old new = gives old.instance new.instance × IsMappedCertificate gives old.certificate new.certificate
     × (new.solutions.now ≡ old.solutions.now) × (new.strict ≡ old.strict)
 
+-- the same of either
 abbrev pub IsMappedTask : {F G : Type 0} → (F → G → Type 0) → Task F → Task G → Type 0
 IsMappedTask gives (tasks.Files a) (tasks.Files x) = IsMapped gives a x
 IsMappedTask gives (tasks.Compare a) (tasks.Compare x) = IsMappedComparison gives a x

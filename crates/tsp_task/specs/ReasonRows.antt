@@ -1,13 +1,13 @@
--- The table of reasons, one row each. Its name in a report, its number for C and its place in the tables of docs/format.md are
--- fields of the row.
+-- The table of reasons, one row each: its name in a report, its number for C, its file and its numbers. For
+-- `row_of_reason` (src/reason_table.rt), Report.antt of tsp_report, and Reasons.antt of tsp_verdict. docs/format.md has
+-- it as tables.
 use Rattle.std.specs.Prelude.{ℕ, List, Option, None, Some, codes, ℤ, pos}
 use Rattle.tsp_task.specs.declared.role.Role.{Role}
 use Rattle.tsp_task.specs.declared.role.Role.TheVariants.{Instance, Solution, Potentials, Branches}
 use Rattle.tsp_task.specs.declared.verdict.Reason.{Reason}
 use Rattle.tsp_task.specs.declared.verdict.Reason.TheVariants.{NotASolution, TooFewNodes, NotSymmetric, Dimension, TourCount, TourLength, DepotCount, DepotDemand, FixedEdgesInRoutes, DepotInRoute, NodeOutOfRange, RepeatedNode, FixedEdgeUnused, Unserved, Overload, LengthClaimed, NotPotentials, PotentialsDimension, PotentialsKind, MultiplierNotFixed, MultiplierRepeated, DualInfeasible, NotBranches, BranchesDimension, BadComb, BadBranch, BranchTwice, BadLeaf, TooManyLoads, NotJudged}
 
--- its name, its place in the order in which reasons are judged, the file that it is about, and its numbers, of which it has two
--- at most
+-- the name, the place in the order in which reasons are judged, the file that the reason is about, and up to two numbers
 pub record ReasonRow : Type 0 where
   pub name : List ℕ
   pub rank : ℕ
@@ -26,9 +26,9 @@ one_number number = (Some number, None)
 abbrev two_numbers : ℕ → ℕ → Option ℤ × Option ℤ
 two_numbers first second = (Some (pos first), Some (pos second))
 
--- The order in which reasons are judged: those against the files, the tours, their nodes and what these use or carry, then that
--- of a claimed length, then those against a certificate, then that of an unknown keyword. Which of them can apply is said where
--- they are defined, against tours, routes, potentials and trees of cases, and where more is asked.
+-- The order in which reasons are judged: those against the files, the tours, their nodes and what these use or carry;
+-- then that against a claimed length; then those against a certificate; then that of an unknown keyword. The definitions
+-- of tsp_verdict say which of them apply.
 abbrev pub row_of_reason : Reason → ReasonRow
 row_of_reason NotASolution = row (codes "NotASolution") 1 Solution no_numbers
 row_of_reason TooFewNodes = row (codes "TooFewNodes") 2 Instance no_numbers

@@ -1,4 +1,5 @@
--- Which verdicts are accepted.
+-- Which verdicts end with the line `yes`. For `is_yes` (src/verdict.rt), and for the runs of tsp_judge. `is_clear` is
+-- for src/basis.rt.
 use Rattle.std.specs.Prelude.{Bool, true, false}
 use Rattle.tsp_task.specs.declared.basis.Basis.{Basis}
 use Rattle.tsp_task.specs.declared.basis.Basis.TheVariants as bases
@@ -7,18 +8,19 @@ use Rattle.tsp_task.specs.declared.verdict.BoundVerdict.TheVariants as bounds
 use Rattle.tsp_task.specs.declared.verdict.Verdict.{Verdict}
 use Rattle.tsp_task.specs.declared.verdict.Verdict.TheVariants.{Tour, Routes, No}
 
+-- a solution is accepted
 abbrev pub is_yes : Verdict → Bool
 is_yes (Tour length bound) = true
 is_yes (Routes length routes least bound) = true
 is_yes (No reason) = false
 
--- the same without a solution
+-- a bound without a solution: the certificate gives one, or shows that there is no solution
 abbrev pub is_bound_yes : BoundVerdict → Bool
 is_bound_yes (bounds.Bound bound) = true
 is_bound_yes bounds.NoSolution = true
 is_bound_yes (bounds.No reason) = false
 
--- solutions are judged one by one, since no reason applies whatever the solution
+-- no reason applies whatever the solution, so solutions are judged one by one
 abbrev pub is_clear : Basis → Bool
 is_clear (bases.Tours bound) = true
 is_clear bases.NoSolution = true

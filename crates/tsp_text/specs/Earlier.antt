@@ -1,4 +1,5 @@
--- The items before a place, the nearest first.
+-- What the items before a place say, the last one first: keywords, their values, the open section and its words. For
+-- FaultRows.antt, `Spells.antt`, Values.antt and Sections.antt, and for `Reading` of tsp_read.
 use Rattle.std.specs.Prelude.{ℕ, Bool, true, false, cond, List, [], ◌∷◌, ◌++◌, Option, None, Some}
 use Rattle.std.specs.Str.{bytes_eq}
 use Rattle.tsp_format.specs.declared.field.Field.{Field}
@@ -11,7 +12,7 @@ use Rattle.tsp_format.specs.Shapes.{is_section_field}
 
 -- ---- which keyword a line has
 
--- fields are distinguished by their words
+-- whether two fields are the same one, by their words
 abbrev pub same_field : Field → Field → Bool
 same_field f g = bytes_eq (field_word f) (field_word g)
 
@@ -64,13 +65,14 @@ others_in (LineEnd ∷ earlier) = others_in earlier
 
 -- ---- sections
 
--- the open section: that of the nearest word line, if that opens one
+-- the open section: that of the last word line, if this opens one
 abbrev pub open_section : List Item → Option Field
 open_section [] = None
 open_section (Line key line ∷ earlier) = opened_by key
 open_section (NumberWord word ∷ earlier) = open_section earlier
 open_section (LineEnd ∷ earlier) = open_section earlier
 
+-- whether this section is open
 abbrev pub is_open : Field → Option Field → Bool
 is_open f None = false
 is_open f (Some g) = same_field f g

@@ -1,4 +1,5 @@
--- Small texts on which the definitions are evaluated. In them `/` means byte 10. For the laws in src/examples.rt.
+-- Small texts, and what they parse to or their first fault. In them `/` means byte 10. For the laws of src/examples.rt,
+-- which state them as worked out by hand.
 use Rattle.std.specs.Prelude.{◌≡◌, ℕ, ◌==◌, true, false, cond, List, [], ◌∷◌, ◌++◌, map, replicate, None, Some, codes, pos, negsuc}
 use Rattle.tsp_format.specs.declared.field.Field.{Field}
 use Rattle.tsp_format.specs.Steps.{Branch, Leaf}
@@ -15,9 +16,11 @@ use Rattle.tsp_text.specs.FaultRows.{is_surplus, is_surplus_at}
 use Rattle.tsp_text.specs.Spells.{spelled}
 use Rattle.tsp_text.specs.Text.{part, fault}
 
+-- byte 10 in place of `/`
 abbrev pub newline : ℕ → ℕ
 newline b = cond (b == 47) 10 b
 
+-- the text that is meant
 abbrev pub text : List ℕ → List ℕ
 text bytes = map newline bytes
 
@@ -25,6 +28,7 @@ text bytes = map newline bytes
 abbrev pub FaultAt : List ℕ → ℕ → ℕ → LineFault → Type 0
 FaultAt bytes line word found = fault (text bytes) ≡ Some (faults.Line line word found)
 
+-- the same, where it is the fault of a number
 abbrev pub IsNumberFault : List ℕ → ℕ → ℕ → NumberFault → Type 0
 IsNumberFault bytes line word found = FaultAt bytes line word (Number found)
 
@@ -32,6 +36,7 @@ IsNumberFault bytes line word found = FaultAt bytes line word (Number found)
 abbrev pub EndsWithFault : List ℕ → EndFault → Type 0
 EndsWithFault bytes found = fault (text bytes) ≡ Some (faults.End found)
 
+-- the first fault is at the end: this field is missing
 abbrev pub MissingAtEnd : List ℕ → Field → Type 0
 MissingAtEnd bytes field = EndsWithFault bytes (Missing field)
 
@@ -39,24 +44,26 @@ MissingAtEnd bytes field = EndsWithFault bytes (Missing field)
 abbrev pub OthersAre : List ℕ → List ℕ → List ℕ → Type 0
 OthersAre bytes keyword value = (spelled (part (text bytes))).others ≡ (keyword, value) ∷ []
 
--- the text parses to a file with the tours (3) and (4, 5); with the fixed pairs (1, 2) and (3, 1)
+-- the text parses to a file with the tours (3) and (4, 5)
 abbrev pub ToursAre : List ℕ → Type 0
 ToursAre bytes = (fault (text bytes) ≡ None) × ((spelled (part (text bytes))).tours ≡ Some ((3 ∷ []) ∷ (4 ∷ 5 ∷ []) ∷ []))
 
+-- it parses to a file with the fixed pairs (1, 2) and (3, 1)
 abbrev pub PairsAre : List ℕ → Type 0
 PairsAre bytes = (fault (text bytes) ≡ None) × ((spelled (part (text bytes))).fixed ≡ Some ((1, 2) ∷ (3, 1) ∷ []))
 
--- with the triples (1, 2, 5) and (3, 1, 0)
+-- it parses to a file with the triples (1, 2, 5) and (3, 1, 0)
 abbrev pub TriplesAre : List ℕ → Type 0
 TriplesAre bytes = (fault (text bytes) ≡ None)
     × ((spelled (part (text bytes))).fixed_potentials ≡ Some ((1, 2, pos 5) ∷ (3, 1, pos 0) ∷ []))
 
--- with the comb of the handle (1, 2, 3) and the teeth (1, 4), (2, 5) and (3, 6)
+-- it parses to a file with the comb of the handle (1, 2, 3) and the teeth (1, 4), (2, 5) and (3, 6)
 abbrev pub CombIs : List ℕ → Type 0
 CombIs bytes = (fault (text bytes) ≡ None) × ((spelled (part (text bytes))).combs
     ≡ Some (((1 ∷ 2 ∷ 3 ∷ []) ∷ (1 ∷ 4 ∷ []) ∷ (2 ∷ 5 ∷ []) ∷ (3 ∷ 6 ∷ []) ∷ []) ∷ []))
 
--- with the tree of a branch on the pair (1, 2), a leaf that adds 1 to the number of node 2, and one that adds nothing
+-- it parses to a file with the tree of a branch on the pair (1, 2), a leaf that adds 1 to the number of node 2, and one
+-- that adds nothing
 abbrev pub TreeIs : List ℕ → Type 0
 TreeIs bytes = (fault (text bytes) ≡ None)
     × ((spelled (part (text bytes))).branches ≡ Some (Branch 1 2 ∷ Leaf ((2, pos 1) ∷ []) ∷ Leaf [] ∷ []))
@@ -65,38 +72,41 @@ TreeIs bytes = (fault (text bytes) ≡ None)
 abbrev pub DemandsAre : List ℕ → Type 0
 DemandsAre bytes = (spelled (part (text bytes))).demands ≡ Some (pos 5 ∷ pos 7 ∷ pos 9 ∷ [])
 
--- the one node has the point (1.5, 0, -2), in space; the point (1.5, -2), in the plane
+-- the one node has the point (1.5, 0, -2) in space
 abbrev pub HasSpacePoint : List ℕ → Type 0
 HasSpacePoint bytes = (spelled (part (text bytes))).coords
     ≡ Some (record { x = pos 1500000000; y = pos 0; z = negsuc 1999999999 } ∷ [])
 
+-- the one node has the point (1.5, -2) in the plane
 abbrev pub HasPlanePoint : List ℕ → Type 0
 HasPlanePoint bytes = (spelled (part (text bytes))).coords ≡ Some (on_plane (pos 1500000000) (negsuc 1999999999) ∷ [])
 
--- four nodes with weights
+-- four nodes with weights in this layout
 abbrev pub quad : List ℕ → List ℕ → List ℕ
 quad format weights = codes "TYPE:TSP/DIMENSION:4/EDGE_WEIGHT_TYPE:EXPLICIT/EDGE_WEIGHT_FORMAT:" ++ format
     ++ codes "/EDGE_WEIGHT_SECTION/" ++ weights
 
--- a word line of 4096 bytes, one of 4097, and a word of 65 digits
+-- a word line of 4096 bytes
 abbrev pub longest_line : List ℕ
 longest_line = codes "COMMENT" ++ replicate 4089 32
 
+-- one of 4097 bytes
 abbrev pub long_line : List ℕ
 long_line = codes "COMMENT" ++ replicate 4090 32
 
+-- a word of 65 digits
 abbrev pub long_word : List ℕ
 long_word = replicate 65 49
 
--- the line of an unknown keyword of three bytes, and this many bytes of its value
+-- the line of an unknown keyword of three bytes, with this many bytes as its value
 abbrev pub filled_line : ℕ → List ℕ
 filled_line count = codes "FOO:" ++ replicate count 120
 
--- after this many lines with this text one more is one too many, and not after fewer
+-- one line more is one too many after `past` lines with this text, and not after `last`
 abbrev pub IsLimitOfLines : ℕ → ℕ → List ℕ → Type 0
 IsLimitOfLines past last line = (is_surplus (replicate past (line_item line)) (line_item line) ≡ true)
     × (is_surplus (replicate last (line_item line)) (line_item line) ≡ false)
 
--- the word of a file with three nodes is one too many at the first place, and none at the second
+-- in a file of three nodes this word is one too many at the place `past`, and not at `last`
 abbrev pub IsLimit : Place → Place → List ℕ → Type 0
 IsLimit past last word = (is_surplus_at 3 past word ≡ true) × (is_surplus_at 3 last word ≡ false)

@@ -1,6 +1,7 @@
--- The rows by which a line or a word is judged. Each says when it applies to an item after the earlier items, the nearest first:
--- to a word line, or to one word of a number line. Source: TSPLIB 95 (G. Reinelt) for the place of each word; the rows and their
--- order are this project's profile.
+-- The table of the faults of a line or a word, a section `----` for each row: it says when the row applies to an item
+-- after the items before it, the last one first. For FirstFault.antt, and so for the fault that the reader reports
+-- (`src/state/` of tsp_read). Source: TSPLIB 95 (G. Reinelt) for the place of each word; the rows and their order are
+-- this project's profile.
 use Rattle.std.specs.Prelude.{ℕ, ◌+◌, Bool, true, false, cond, not, ◌&&◌, ◌||◌, nat_lt, nat_le, List, [], ◌∷◌, length, Option, None, Some, is_none}
 use Rattle.std.specs.Option.{option_map, option_and_then, option_map_or, option_or}
 use Rattle.std.specs.Result.{result_err}
@@ -23,7 +24,7 @@ use Rattle.tsp_text.specs.WordPlaces.{Place, NodeAfter, Coordinate, Amount, Past
 use Rattle.tsp_text.specs.BranchSection.{index_or_leaf, begins_leaf, index_or_end, ends_leaf}
 use Rattle.tsp_text.specs.Sections.{dimension_in, next_place}
 
--- a word, where a section is open, at its place and with n nodes
+-- a test of a word at its place, where a section is open
 abbrev pub at_place : (ℕ → Place → List ℕ → Bool) → List Item → List ℕ → Bool
 at_place test earlier word = option_map_or (λ place. test (dimension_in earlier) place word) (next_place earlier) false
 
@@ -267,10 +268,11 @@ abbrev pub first_row : {F : Type 0} → List (Option F) → Option F
 first_row [] = None
 first_row (fault ∷ rows) = option_or fault (first_row rows)
 
+-- the fault of an item: the first row that applies
 abbrev pub row_of : List Item → Item → Option LineFault
 row_of earlier item = first_row (table earlier item)
 
--- the rows of a word at this place
+-- the fault of a word at this place: the first row of words that applies
 abbrev pub word_fault : ℕ → Place → List ℕ → Option LineFault
 word_fault n place word = first_row (option_map (λ fault. row.Number fault) (number_fault_at n place word)
     ∷ when (is_repeated_node_at n place word) row.RepeatedNode

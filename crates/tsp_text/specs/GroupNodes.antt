@@ -1,4 +1,5 @@
--- Sections by node: the nodes of a section's groups, and that each node has one group.
+-- The nodes of the groups in a section by node, and that each node has one group. For the law `each_node_has_one_group`
+-- (src/by_node.rt).
 use Rattle.std.specs.Prelude.{ℕ, Bool, true, false, List, [], map, Option, Some, ℤ, pos}
 use Rattle.std.specs.List.Sorted.{IsPermutation}
 use Rattle.tsp_format.specs.declared.field.Field.{Field}
@@ -15,6 +16,7 @@ has_groups (Some Points) = true
 has_groups (Some SpacePoints) = true
 has_groups shape = false
 
+-- the section is one by node
 abbrev pub is_by_node_field : Field → Bool
 is_by_node_field field = has_groups (shape_of false field)
 

@@ -1,4 +1,5 @@
--- A text as items, in order: its word lines, the words of its number lines, and the ends of its lines. Which items are
+-- A text as items, in order: its word lines, the words of its number lines, and the ends of its lines; and which items
+-- are settled, whatever bytes follow. For `take_items` (src/intake.rt of tsp_read), and for Text.antt. Which items are
 -- settled is this project's profile.
 use Rattle.std.specs.Prelude.{ℕ, ◌+◌, Bool, true, false, cond, nat_lt, List, [], ◌∷◌, ◌++◌, length, map}
 use Rattle.std.specs.List.{filter, slice_split, list_any}
@@ -16,6 +17,7 @@ pub record WordLine : Type 0 where
   pub has_colon : Bool
   pub value : List ℕ
 
+-- a word line with its keyword, a word of a number line, or the end of a line
 pub data Item : Type 0 where
   Line : (key : Keyword) (line : WordLine) → Item
   NumberWord : (word : List ℕ) → Item
@@ -27,29 +29,34 @@ pub data Item : Type 0 where
 abbrev pub word_line_of : List ℕ → WordLine
 word_line_of text = record { size = length text; keyword = keyword_in text; has_colon = has_colon text; value = value_in text }
 
+-- the item of that word line
 abbrev pub line_item : List ℕ → Item
 line_item text = Line (keyword_of (keyword_in text)) (word_line_of text)
 
+-- the items of a line
 abbrev pub items_in : List ℕ → List Item
 items_in line = cond (is_word_line line) (line_item (without_start line) ∷ []) (map (λ word. NumberWord word) (words_in line))
 
--- the items of lines, by what the last line has
+-- the items of lines; `last` gives those of the last line
 abbrev pub items_by : (List ℕ → List Item) → List (List ℕ) → List Item
 items_by last [] = []
 items_by last (line ∷ []) = last line
 items_by last (line ∷ next ∷ lines) = items_in line ++ LineEnd ∷ items_by last (next ∷ lines)
 
+-- the items of a whole text
 abbrev pub items_of : List ℕ → List Item
 items_of bytes = items_by items_in (lines_of bytes)
 
 -- ---- the items that are settled, whatever bytes follow
 
--- the pieces that another follows, and the last where it is longer than any number word
+-- the pieces of a line between blanks that another piece follows, and the last one where it is longer than any number
+-- word
 abbrev pub settled_pieces : List (List ℕ) → List (List ℕ)
 settled_pieces [] = []
 settled_pieces (piece ∷ []) = cond (nat_lt most_word_bytes (length piece)) (piece ∷ []) []
 settled_pieces (piece ∷ next ∷ pieces) = piece ∷ settled_pieces (next ∷ pieces)
 
+-- the settled words of a number line that goes on
 abbrev pub settled_words : List ℕ → List (List ℕ)
 settled_words line = filter is_not_empty (settled_pieces (slice_split is_blank line))
 
@@ -62,11 +69,13 @@ abbrev pub settled_in : List ℕ → List Item
 settled_in line = cond (is_word_line line) (settled_line (without_start line))
     (map (λ word. NumberWord word) (settled_words line))
 
+-- the settled items of a text that goes on
 abbrev pub settled_items : List ℕ → List Item
 settled_items bytes = items_by settled_in (lines_of bytes)
 
 -- ---- the end line
 
+-- the line EOF, which ends the file
 abbrev pub is_end_line : Item → Bool
 is_end_line (Line (Known field) line) = false
 is_end_line (Line EdgeDataFormat line) = false
@@ -79,12 +88,12 @@ is_end_line LineEnd = false
 abbrev pub has_end_line : List Item → Bool
 has_end_line items = list_any is_end_line items
 
--- up to and with the first end line; nothing after it is looked at
+-- the items up to and with the first line EOF; items after it don't count
 abbrev pub to_end_line : List Item → List Item
 to_end_line [] = []
 to_end_line (item ∷ items) = item ∷ cond (is_end_line item) [] (to_end_line items)
 
--- ---- the place of an item, after these earlier items (nearest first)
+-- ---- the line and the word of an item, after these earlier items (the last one first)
 
 -- the number of the line, from 1 on
 abbrev pub line_number : List Item → ℕ

@@ -1,5 +1,6 @@
--- Lines and words. TSPLIB 95 (G. Reinelt) has lines of a keyword and a value, and lines of numbers. What exactly ends a line,
--- parts words and begins a keyword is this project's profile.
+-- How a text is cut into lines and words, and a word line into keyword and value. For src/blanks.rt and src/line.rt of
+-- tsp_section, and for Items.antt. TSPLIB 95 (G. Reinelt) has lines of a keyword and a value, and lines of numbers; what
+-- exactly ends a line, parts words and begins a keyword is this project's profile.
 use Rattle.std.specs.Prelude.{ℕ, Bool, true, false, cond, ◌==◌, List, [], ◌∷◌, drop, reverse}
 use Rattle.std.specs.List.{filter, slice_split, prefix_len, take_while, before_first}
 use Rattle.tsp_format.specs.Bytes.{is_blank, is_letter, is_keyword_byte}
@@ -20,14 +21,15 @@ is_not_empty (x ∷ xs) = true
 abbrev pub words_in : List ℕ → List (List ℕ)
 words_in line = filter is_not_empty (slice_split is_blank line)
 
--- without the blanks at the start, and without those at the end
+-- without the blanks at the beginning
 abbrev pub without_start : List ℕ → List ℕ
 without_start bytes = drop (prefix_len is_blank bytes) bytes
 
+-- without the blanks at the end
 abbrev pub without_end : List ℕ → List ℕ
 without_end bytes = reverse (without_start (reverse bytes))
 
--- the first byte passes
+-- the first byte passes the test
 abbrev pub begins : (ℕ → Bool) → List ℕ → Bool
 begins test [] = false
 begins test (b ∷ bytes) = test b
@@ -42,17 +44,18 @@ is_word_line line = begins is_letter (without_start line)
 abbrev pub keyword_in : List ℕ → List ℕ
 keyword_in text = take_while is_keyword_byte text
 
--- what follows the keyword and the blanks after it
+-- the bytes after the keyword and the blanks that follow it
 abbrev pub after_keyword : List ℕ → List ℕ
 after_keyword text = without_start (drop (prefix_len is_keyword_byte text) text)
 
 abbrev pub is_colon : ℕ → Bool
 is_colon b = b == 58
 
+-- a colon follows the keyword
 abbrev pub has_colon : List ℕ → Bool
 has_colon text = begins is_colon (after_keyword text)
 
--- the value: what is left after the colon, if there is one, without blanks at either end
+-- the value: the bytes after the colon, or after the keyword where there is none, without blanks at either end
 abbrev pub value_in : List ℕ → List ℕ
 value_in text = without_end (without_start (drop (cond (has_colon text) 1 0) (after_keyword text)))
 

@@ -1,4 +1,5 @@
--- The text of each fault of a file.
+-- The text of each fault of a text: line, word and name. For `ReadFault` (src/fault.rt), `put_fault` of tsp_report, and
+-- RunFaultText.antt of tsp_judge.
 use Rattle.std.specs.Prelude.{ℕ, List, ◌++◌, codes, decimal}
 use Rattle.tsp_number.specs.NumberFaultText.{number_fault_text}
 use Rattle.tsp_draft.specs.DraftFaultText.{end_fault_text}
@@ -7,6 +8,7 @@ use Rattle.tsp_text.specs.declared.fault.LineFault.TheVariants.{LongLine, Unknow
 use Rattle.tsp_text.specs.declared.fault.ReadFault.{ReadFault}
 use Rattle.tsp_text.specs.declared.fault.ReadFault.TheVariants.{Line, End, OutOfMemory, Device, TooLong}
 
+-- the name of a fault of a line or a word
 abbrev pub line_fault_text : LineFault → List ℕ
 line_fault_text LongLine = codes "LongLine"
 line_fault_text UnknownLine = codes "UnknownLine"
@@ -24,6 +26,7 @@ line_fault_text Surplus = codes "Surplus"
 line_fault_text AfterEnd = codes "AfterEnd"
 line_fault_text LateSpace = codes "LateSpace"
 
+-- its line and word, or the fault at the end, or what else failed
 abbrev pub read_fault_text : ReadFault → List ℕ
 read_fault_text (Line line word fault) = codes "line " ++ (decimal line ++ (codes " word " ++ (decimal word
     ++ (codes ": " ++ line_fault_text fault))))

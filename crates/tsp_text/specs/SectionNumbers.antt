@@ -1,4 +1,5 @@
--- What a word of a section is read as where a number is wanted.
+-- The numbers that words of a section are read as: a node, a node or -1, a number of some size. For src/parts/nodes.rt
+-- of tsp_section, and for the definitions of each section (Groups.antt, Lists.antt and others).
 use Rattle.std.specs.Prelude.{◌≡◌, ◌≤ℤ◌, ℕ, Bool, false, cond, List, Result, Ok, Err, ℤ, pos, negsuc, neg_ℤ, codes}
 use Rattle.std.specs.Result.{result_unwrap_or}
 use Rattle.std.specs.Ordering.{int_eq}
@@ -11,6 +12,7 @@ use Rattle.tsp_number.specs.Reading.{whole_of}
 abbrev pub number : Result ℤ NumberFault → ℤ
 number r = result_unwrap_or r (pos 0)
 
+-- the word is read as this number
 abbrev pub reads_as : ℤ → Result ℤ NumberFault → Bool
 reads_as z (Ok y) = int_eq y z
 reads_as z (Err fault) = false
@@ -27,6 +29,7 @@ node n word = whole_of word (pos 1) (pos n)
 abbrev pub whole_of_size : ℕ → List ℕ → Result ℤ NumberFault
 whole_of_size most word = whole_of word (neg_ℤ (pos most)) (pos most)
 
+-- 0 is out of range
 abbrev pub not_zero : Result ℤ NumberFault → Result ℤ NumberFault
 not_zero (Ok z) = cond (int_eq z (pos 0)) (Err OutOfRange) (Ok z)
 not_zero (Err fault) = Err fault
@@ -35,6 +38,7 @@ not_zero (Err fault) = Err fault
 abbrev pub node_or_end : ℕ → List ℕ → Result ℤ NumberFault
 node_or_end n word = not_zero (whole_of word (negsuc 0) (pos n))
 
+-- the word is the -1 that ends a list of nodes
 abbrev pub is_end : ℕ → List ℕ → Bool
 is_end n word = reads_as (negsuc 0) (node_or_end n word)
 

@@ -1,4 +1,5 @@
--- The fields of the items of a text, and the fault at their end. Source: TSPLIB 95 (G. Reinelt) for the fields.
+-- The fields of a text's items, and the fault at their end. For Text.antt, for `store` and `finish` of tsp_read, and for
+-- the laws of src/validity.rt. Source: TSPLIB 95 (G. Reinelt) for the fields.
 use Rattle.std.specs.Prelude.{ℕ, Bool, true, false, cond, ◌&&◌, List, Option, None, Some, ℤ, pos, neg_ℤ}
 use Rattle.std.specs.List.{find, filter}
 use Rattle.tsp_format.specs.declared.field.Field.{Field}
@@ -23,18 +24,19 @@ use Rattle.tsp_text.specs.Sections.{place_in, dimension_in}
 
 -- ---- the fields
 
+-- the potentials of a section, by node
 abbrev pub potentials_by_node : ℕ → List (List ℕ) → List ℤ
 potentials_by_node n words = numbers_by_node (neg_ℤ (pos most_potential)) (pos most_potential) n words
 
+-- the demands, by node
 abbrev pub demands_in : ℕ → List (List ℕ) → List ℤ
 demands_in n words = numbers_by_node (pos 0) (pos most_demand) n words
 
--- the value of a section, by its words; without words a section that has come gives the value of no words, and one that hasn't
--- none
+-- the value of a section by its words, where `stands` says that it is present
 abbrev pub section_value : {A : Type 0} → (Field → Bool) → (List (List ℕ) → A) → Field → List Item → Option A
 section_value stands value field items = cond (stands field) (Some (value (words_of field items))) None
 
--- the fields, of sections those that pass the test
+-- the fields of these items; `stands` says which sections are present
 abbrev pub fields_by : (Field → Bool) → List Item → Fields
 fields_by stands items = record {
   name = value_at NameKey items;
@@ -64,16 +66,17 @@ fields_by stands items = record {
   branches = section_value stands (whole_steps (dimension_in items)) BranchPart items;
 }
 
--- a section has come where a line opens it
+-- a section is present where a line opens it
 abbrev pub stands : List Item → Field → Bool
 stands items field = has_line field items
 
+-- the fields of all items of a text
 abbrev pub spelled : List Item → Fields
 spelled items = fields_by (stands items) items
 
 -- ---- the end
 
--- a group is still to come, a pair, a triple or a comb is cut short, or the tree isn't whole
+-- at this place the section isn't complete: a group is to come, a pair, triple or family isn't whole, or the tree isn't
 abbrev pub wants_more : Place → Bool
 wants_more (NodeAfter nodes) = true
 wants_more Coordinate = true
@@ -90,6 +93,7 @@ wants_more (SetNode begun combs count) = begun
 wants_more (StepAfter branches) = true
 wants_more (IndexAfter count) = true
 
+-- a section was opened and isn't complete
 abbrev pub is_incomplete : List Item → Field → Bool
 is_incomplete items field = has_line field items
     && wants_more (place_in (spatial_after items) field (dimension_in items) (words_of field items))

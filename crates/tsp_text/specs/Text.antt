@@ -1,5 +1,6 @@
--- Which file a text of bytes parses to, and its first fault. Source: TSPLIB 95 (G. Reinelt) for the fields; lines, faults, their
--- order and the limit of a file's bytes are this project's profile.
+-- Which file a text of bytes parses to (`Spells`), and its first fault. For every contract on a text: the reader
+-- (Reads.antt of tsp_read), the runs of tsp_judge, and the calls of tsp_c. Source: TSPLIB 95 (G. Reinelt) for the
+-- fields; lines, faults, their order and the limit of a file's bytes are this project's profile.
 use Rattle.std.specs.Prelude.{◌≡◌, ℕ, Bool, not, cond, ◌&&◌, nat_lt, List, [], ◌∷◌, length, take, reverse, Option, None}
 use Rattle.std.specs.Option.{option_map}
 use Rattle.tsp_format.specs.Limits.{most_file_bytes}
@@ -15,8 +16,8 @@ use Rattle.tsp_text.specs.Spells.{spelled, fault_at_end}
 abbrev pub is_too_long : List ℕ → Bool
 is_too_long bytes = nat_lt most_file_bytes (length bytes)
 
--- The items that count, nearest first: all of them up to and with the end line. Of a text that is too long those that are
--- settled in the bytes that a file may have.
+-- The items that count, the last one first: all of them up to and with the line EOF. Of a text that is too long those
+-- that are settled in the bytes that a file may have.
 abbrev pub part : List ℕ → List Item
 part bytes = reverse (to_end_line (cond (is_too_long bytes) (settled_items (take most_file_bytes bytes)) (items_of bytes)))
 
@@ -33,6 +34,7 @@ pub record Spells (bytes : List ℕ) (file : Fields) : Type 0 where
 
 -- ---- the settled part before the end of a text has come
 
+-- the settled items that count, the last one first, of a text that goes on
 abbrev pub settled_part : List ℕ → List Item
 settled_part bytes = reverse (to_end_line (settled_items (take most_file_bytes bytes)))
 

@@ -1,5 +1,6 @@
--- What the value of a keyword may be, by what it is read as. The words are those of TSPLIB 95 (G. Reinelt); which of them are
--- left out is this project's profile.
+-- How the value of a keyword is read: as a word from a list, as a number, or as it is. For src/line.rt of tsp_section,
+-- FaultRows.antt and `Spells.antt`. The words are those of TSPLIB 95 (G. Reinelt); which of them are left out is this
+-- project's profile.
 use Rattle.std.specs.Prelude.{ℕ, Bool, true, false, List, [], ◌∷◌, Option, None, Some, is_some, is_none, ℤ, codes, Result, nat_abs}
 use Rattle.std.specs.Option.{option_map, option_map_or, option_and_then}
 use Rattle.std.specs.Result.{result_ok}
@@ -26,22 +27,27 @@ use Rattle.tsp_text.specs.Earlier.{value_at}
 
 -- ---- keywords with a list of accepted words
 
--- the value with this word
+-- the value in a list that has this word
 abbrev pub named : {V : Type 0} → (V → List ℕ) → List V → List ℕ → Option V
 named text values word = find (λ value. bytes_eq word (text value)) values
 
+-- TYPE
 abbrev pub kind_named : List ℕ → Option Kind
 kind_named word = named kind_word kinds word
 
+-- EDGE_WEIGHT_TYPE
 abbrev pub weight_kind_named : List ℕ → Option WeightKind
 weight_kind_named word = named weight_kind_word weight_kinds word
 
+-- EDGE_WEIGHT_FORMAT
 abbrev pub weight_format_named : List ℕ → Option WeightFormat
 weight_format_named word = named weight_format_word weight_formats word
 
+-- NODE_COORD_TYPE
 abbrev pub coord_kind_named : List ℕ → Option CoordKind
 coord_kind_named word = named coord_kind_word coord_kinds word
 
+-- DISPLAY_DATA_TYPE
 abbrev pub display_kind_named : List ℕ → Option DisplayKind
 display_kind_named word = named display_kind_word display_kinds word
 
@@ -65,31 +71,34 @@ is_left_out field word = list_any (bytes_eq word) (left_out field)
 
 -- ---- keywords with a number
 
--- the range of a whole number
+-- the range of a keyword with a number
 abbrev pub range_in : ValueShape → Option (ℤ × ℤ)
 range_in Kept = None
 range_in KeptEach = None
 range_in (Number low high) = Some (low, high)
 range_in Word = None
 
+-- the same by the keyword
 abbrev pub range_of : Field → Option (ℤ × ℤ)
 range_of field = option_and_then range_in (value_shape_of field)
 
 abbrev pub has_number : Field → Bool
 has_number field = is_some (range_of field)
 
--- what the first word of its value is read as
+-- the number, or its fault, that the first word of the value is read as
 abbrev pub read_as : Field → List ℕ → Option (Result ℤ NumberFault)
 read_as field value = option_map (λ range. whole_of (first_word value) range.0 range.1) (range_of field)
 
 -- ---- keywords whose value is kept as it is
 
+-- the value is kept as it is
 abbrev pub is_kept_value : ValueShape → Bool
 is_kept_value Kept = true
 is_kept_value KeptEach = true
 is_kept_value (Number low high) = false
 is_kept_value Word = false
 
+-- the same by the keyword
 abbrev pub is_kept_as_is : Field → Bool
 is_kept_as_is field = option_map_or is_kept_value (value_shape_of field) false
 
@@ -105,7 +114,7 @@ named_at by_word field earlier = option_and_then (λ value. by_word (first_word 
 
 -- ---- points with three coordinates
 
--- the value of the keyword, by its first word, makes a file spatial
+-- this value of the keyword, by its first word, makes a file spatial
 abbrev pub says_space : Field → List ℕ → Bool
 says_space EdgeWeightTypeKey word = option_map_or weighs_three (weight_kind_named word) false
 says_space NodeCoordTypeKey word = option_map_or has_three (coord_kind_named word) false
@@ -118,5 +127,6 @@ spatial_after earlier = is_spatial (named_at coord_kind_named NodeCoordTypeKey e
 
 -- ---- the number of nodes
 
+-- the value of DIMENSION, if a line has it
 abbrev pub dimension_of : List Item → Option ℕ
 dimension_of earlier = option_map nat_abs (number_at DimensionKey earlier)

@@ -1,6 +1,8 @@
--- The place of a word in its section.
+-- The place of a word in its section, which says how the word is read and which faults it may have. For the definitions
+-- of each section (Sections.antt lists them), and for FaultRows.antt.
 use Rattle.std.specs.Prelude.{ℕ, ℤ, Bool, List}
 
+-- a place, with the numbers on which its faults depend
 pub data Place : Type 0 where
   -- by-node sections: a group's node, after groups of these nodes; a coordinate; a whole number of this range, which a triple
   -- has too; past the last group, or past a whole tree

@@ -1,5 +1,5 @@
--- What each section's part holds, by the part itself, and what it finishes with. Of `Part` (src/part.rt) and the structs in
--- src/parts/.
+-- That the struct of a section's part has the words of the section so far, for each struct of src/parts/. For `open` and
+-- `push` of `Part` (src/part.rt), and for each file of src/parts/. Parts.antt says it of the fields one by one.
 use Rattle.std.specs.Prelude.{◌≡◌, ℕ, ◌+◌, ◌≤◌, ℤ, Bool, cond, List, length, map}
 use Rattle.tsp_section.specs.declared.parts.numbers.NumberList.{NumberList}
 use Rattle.tsp_section.specs.declared.parts.points.PointList.{PointList}
@@ -21,39 +21,45 @@ use Rattle.tsp_format.specs.declared.field.Shape.{Shape}
 use Rattle.tsp_format.specs.declared.field.Shape.TheVariants.{Numbers, Points, SpacePoints, Depots, Pairs, Weights, Tours, Triples, Combs, Steps}
 use Rattle.tsp_section.specs.states.Parts.{NumbersHold, CoordsHold, are_in_space, DepotsHold, PairsHold, TriplesHold, WeightsHold, ToursHold, EndsRun}
 
--- its numbers are of this range
+-- a section by node with numbers of this range
 pub record HoldsNumbers (part : NumberList) (low high : ℤ) (n : ℕ) (words : List (List ℕ)) : Type 0 where
   pub from : part.low ≡ low
   pub to : part.high ≡ high
   pub read : NumbersHold part.seen.items part.entries.items part.left part.begun low high n words
 
--- its points are in space, or they are of the plane
+-- a section of points, in space or in the plane
 pub record HoldsPoints (part : PointList) (in_space : Bool) (n : ℕ) (words : List (List ℕ)) : Type 0 where
   pub kind : are_in_space part.entries ≡ in_space
   pub read : CoordsHold in_space part.seen.items (points_of part.entries) part.left part.begun part.x part.y n words
 
+-- DEPOT_SECTION
 pub record HoldsDepots (part : DepotList) (n : ℕ) (words : List (List ℕ)) : Type 0 where
   pub nodes : part.n ≡ n
   pub read : DepotsHold part.depots.items part.ended n words
 
+-- FIXED_EDGES_SECTION
 pub record HoldsFixed (part : FixedList) (n : ℕ) (words : List (List ℕ)) : Type 0 where
   pub nodes : part.n ≡ n
   pub read : PairsHold part.pairs.items part.first part.ended n words
 
+-- FIXED_EDGE_POTENTIAL_SECTION
 pub record HoldsTriples (part : TripleList) (n : ℕ) (words : List (List ℕ)) : Type 0 where
   pub nodes : part.n ≡ n
   pub read : TriplesHold part.triples.items part.first part.second part.ended n words
 
+-- EDGE_WEIGHT_SECTION
 abbrev pub HoldsWeights : WeightList → ℕ → List (List ℕ) → Type 0
 HoldsWeights part n words = WeightsHold part.weights.items part.most n words
 
+-- TOUR_SECTION
 abbrev pub HoldsTours : TourList → List (List ℕ) → Type 0
 HoldsTours part words = ToursHold (map (λ tour. tour.items) part.done.items) part.run.items part.count words
 
+-- the tour that was open is among the tours
 abbrev pub EndsRunOf : TourList → List (List ℕ) → Type 0
 EndsRunOf part words = EndsRun (map (λ tour. tour.items) part.done.items) part.run.items words
 
--- its contents, as the contents after words
+-- the contents of a part for COMB_SECTION, as CombSection.antt of tsp_text has them
 abbrev pub combs_held : CombList → CombsSoFar
 combs_held part = record {
   combs = combs_of part.combs.items;
@@ -63,10 +69,12 @@ combs_held part = record {
   ended = part.ended;
 }
 
+-- COMB_SECTION
 pub record HoldsCombs (part : CombList) (n : ℕ) (words : List (List ℕ)) : Type 0 where
   pub nodes : part.n ≡ n
   pub read : combs_held part ≡ combs_after n words
 
+-- the contents of a part for BRANCH_SECTION, as BranchSection.antt of tsp_text has them
 abbrev pub tree_held : TreeList → TreeSoFar
 tree_held part = record {
   steps = steps_of part.steps.items;
@@ -78,7 +86,7 @@ tree_held part = record {
   changes = part.changes;
 }
 
--- no more trees are to come than this many steps can ask for
+-- BRANCH_SECTION; no more trees are to come than this many steps can ask for
 pub record HoldsTree (part : TreeList) (n : ℕ) (words : List (List ℕ)) : Type 0 where
   pub nodes : part.n ≡ n
   pub indices : part.last_index ≡ n + most_combs
@@ -87,9 +95,11 @@ pub record HoldsTree (part : TreeList) (n : ℕ) (words : List (List ℕ)) : Typ
 
 -- ---- the part of a section, whichever its shape
 
+-- the shape of a section of points
 abbrev pub shape_of_points : Bool → Shape
 shape_of_points in_space = cond in_space SpacePoints Points
 
+-- the shape of the section that a part is for
 abbrev pub shape_by : Part → Shape
 shape_by (parts.Numbers list) = Numbers list.low list.high
 shape_by (parts.Points list) = shape_of_points (are_in_space list.entries)
@@ -101,7 +111,7 @@ shape_by (parts.Triples list) = Triples
 shape_by (parts.Combs list) = Combs
 shape_by (parts.Steps list) = Steps
 
--- the part holds these words of its section
+-- the part has these words of its section, which has n nodes
 abbrev pub HoldsPart : Part → ℕ → List (List ℕ) → Type 0
 HoldsPart (parts.Numbers list) n words = HoldsNumbers list list.low list.high n words
 HoldsPart (parts.Points list) n words = HoldsPoints list (are_in_space list.entries) n words
@@ -113,6 +123,6 @@ HoldsPart (parts.Triples list) n words = HoldsTriples list n words
 HoldsPart (parts.Combs list) n words = HoldsCombs list n words
 HoldsPart (parts.Steps list) n words = HoldsTree list n words
 
--- and its section has this shape
+-- the same, and the section has this shape
 abbrev pub HoldsShape : Shape → Part → ℕ → List (List ℕ) → Type 0
 HoldsShape shape part n words = (shape_by part ≡ shape) × HoldsPart part n words

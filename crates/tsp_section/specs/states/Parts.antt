@@ -1,5 +1,6 @@
--- What the part of the reader that takes a section's words holds of them, section by section, and how it takes the next word. Of
--- the fields of the structs in src/parts/, one by one: HeldParts.antt says it of each struct.
+-- What the fields of a section's part say of the words so far, section by section, and how the part takes the next word.
+-- For the functions of src/parts/ over the fields of their structs, and for HeldParts.antt, which says it of each
+-- struct.
 use Rattle.std.specs.Prelude.{◌≡◌, ℕ, ◌+◌, ◌*◌, ◌<◌, ◌≤◌, ◌-◌, ℤ, pos, negsuc, Bool, true, false, not, List, [], ◌∷◌, ◌++◌, length, map, slice_index_or, Option, None, Some, is_some, unwrap_or, Result, Ok, Err}
 use Rattle.std.specs.Option.{option_map}
 use Rattle.std.specs.List.{filter, slice_split, list_any}
@@ -24,45 +25,46 @@ use Rattle.tsp_text.specs.FaultRows.{word_fault}
 
 -- ---- a word at its place
 
--- How a word at this place is taken: it has no fault and `Held` holds, or it has this one.
+-- The result for a word at this place: it has no fault and `Held` holds, or it has this fault; or memory was refused.
 abbrev pub Takes : ℕ → Place → List ℕ → Type 0 → Result (Unit {0}) StepFault → Type 0
 Takes n place word Held (Ok done) = (word_fault n place word ≡ None) × Held
 Takes n place word Held (Err (steps.Memory refused)) = Unit {0}
 Takes n place word Held (Err (steps.Fault fault)) = word_fault n place word ≡ Some fault
 
--- ---- nodes as they are read
+-- ---- the numbers that nodes are read as
 
--- a node as the number that is read
+-- a node as an integer
 abbrev pub as_number : Result ℕ NumberFault → Result ℤ NumberFault
 as_number (Ok k) = Ok (pos k)
 as_number (Err fault) = Err fault
 
--- a node, or none for -1
+-- a node as an integer; None is the -1 that ends a list
 abbrev pub as_node_or_end : Result (Option ℕ) NumberFault → Result ℤ NumberFault
 as_node_or_end (Ok (Some k)) = Ok (pos k)
 as_node_or_end (Ok None) = Ok (negsuc 0)
 as_node_or_end (Err fault) = Err fault
 
--- an index, or none for the 0 that begins a leaf
+-- an index as an integer; None is the 0 that begins a leaf
 abbrev pub as_index_or_leaf : Result (Option ℕ) NumberFault → Result ℤ NumberFault
 as_index_or_leaf (Ok (Some k)) = Ok (pos k)
 as_index_or_leaf (Ok None) = Ok (pos 0)
 as_index_or_leaf (Err fault) = Err fault
 
--- the words of a group that has begun are read as the numbers that are kept, one after the other, and no other number is kept
+-- the words of a group that isn't whole are read as these numbers, one after the other, and there is no other number
 abbrev pub AreReadAs : List (List ℕ → Result ℤ NumberFault) → List (Option ℤ) → List (List ℕ) → Type 0
 AreReadAs [] [] [] = Unit {0}
 AreReadAs (read ∷ reads) (None ∷ kept) [] = AreReadAs reads kept []
 AreReadAs (read ∷ reads) (Some z ∷ kept) (word ∷ words) = (read word ≡ Ok z) × AreReadAs reads kept words
 AreReadAs reads kept words = ⊥
 
+-- k is a node of 1..n
 abbrev pub IsNodeOf : ℕ → ℕ → Type 0
 IsNodeOf n k = (1 ≤ k) × (k ≤ n)
 
 -- ---- by-node sections
 
--- Marks and entries of n nodes, how many groups are still to come and the node of a group that has begun, against the whole
--- groups so far.
+-- For n nodes: the marks of those that have a group, their entries, how many groups are to come, and the node of a group
+-- that isn't whole, all as the whole groups so far say.
 pub record NodesHold {X : Type 0} (missing : X) (seen : List Bool) (entries : List X) (left : ℕ) (begun : Option ℕ) (n : ℕ)
     (groups : List (ℤ × X)) : Type 0 where
   pub wide : length seen ≡ n
@@ -82,8 +84,8 @@ IsNewNode seen word (Err row.RepeatedNode) = (k : ℕ) × (node (length seen) wo
     × (slice_index_or seen (k - 1) false ≡ true)
 IsNewNode seen word (Err fault) = ⊥
 
--- The same against the words of a section: groups of this size, with a node and the words of its value. Of a group that has
--- begun the node is kept, and what the words after it are read as.
+-- The same by the words of a section: groups of this size, with a node and the words of its value. Of a group that isn't
+-- whole the part has the node, and the numbers after it.
 pub record GroupsHold {X : Type 0} (size : ℕ) (value : List (List ℕ) → X) (missing : X) (reads : List (List ℕ → Result ℤ NumberFault))
     (seen : List Bool) (entries : List X) (left : ℕ) (begun : Option ℕ) (kept : List (Option ℤ)) (n : ℕ)
     (words : List (List ℕ)) : Type 0 where
@@ -92,37 +94,41 @@ pub record GroupsHold {X : Type 0} (size : ℕ) (value : List (List ℕ) → X) 
   pub open_ended : 0 < left → length words < size * n
   pub full : left ≡ 0 → size * n ≤ length words
 
+-- a section by node with numbers of this range
 abbrev pub NumbersHold : List Bool → List ℤ → ℕ → Option ℕ → ℤ → ℤ → ℕ → List (List ℕ) → Type 0
 NumbersHold seen entries left begun low high n words =
     GroupsHold 2 (number_value low high) (pos 0) [] seen entries left begun [] n words
 
+-- a section of points in the plane
 abbrev pub PointsHold : List Bool → List Point → ℕ → Option ℕ → Option ℤ → ℕ → List (List ℕ) → Type 0
 PointsHold seen entries left begun x n words =
     GroupsHold 3 point_in origin (decimal_of ∷ []) seen entries left begun (x ∷ []) n words
 
+-- a section of points in space
 abbrev pub SpacePointsHold : List Bool → List Point → ℕ → Option ℕ → Option ℤ → Option ℤ → ℕ → List (List ℕ) → Type 0
 SpacePointsHold seen entries left begun x y n words =
     GroupsHold 4 space_point_in origin (decimal_of ∷ decimal_of ∷ []) seen entries left begun (x ∷ y ∷ []) n words
 
--- groups of points in space, or of points of the plane, which have no third coordinate
+-- a section of points, in space or in the plane
 abbrev pub CoordsHold : Bool → List Bool → List Point → ℕ → Option ℕ → Option ℤ → Option ℤ → ℕ → List (List ℕ) → Type 0
 CoordsHold false seen entries left begun x y n words = PointsHold seen entries left begun x n words
 CoordsHold true seen entries left begun x y n words = SpacePointsHold seen entries left begun x y n words
 
--- whether a list has points in space
+-- whether the points of a list are in space
 abbrev pub are_in_space : Coords → Bool
 are_in_space (Plane points) = false
 are_in_space (Space points) = true
 
 -- ---- lists that -1 ends
 
+-- the depots so far, and whether the list has ended
 pub record DepotsHold (depots : List ℕ) (ended : Bool) (n : ℕ) (words : List (List ℕ)) : Type 0 where
   pub list : depots ≡ depots_in n words
   pub closed : ended ≡ list_any (is_end n) words
   pub count : ended ≡ false → length depots ≡ length words
 
--- What was read of groups of this size, against the words of their section, up to a first word that means -1. Of a group that
--- has begun its first node is kept, and what the words after it are read as.
+-- The whole groups of this size so far, and whether a first word -1 has ended the list. Of a group that isn't whole the
+-- part has the first node, and the numbers after it.
 pub record ListHolds {X : Type 0} (size : ℕ) (value : List (List ℕ) → X) (reads : List (List ℕ → Result ℤ NumberFault))
     (groups : List X) (first : Option ℕ) (kept : List (Option ℤ)) (ended : Bool) (n : ℕ) (words : List (List ℕ)) : Type 0 where
   pub list : groups ≡ map value (listed_in size n words)
@@ -131,15 +137,18 @@ pub record ListHolds {X : Type 0} (size : ℕ) (value : List (List ℕ) → X) (
   pub count : ended ≡ false → length groups ≡ length (groups_in size words)
   pub whole : ended ≡ true → first ≡ None
 
+-- fixed pairs
 abbrev pub PairsHold : List (ℕ × ℕ) → Option ℕ → Bool → ℕ → List (List ℕ) → Type 0
 PairsHold pairs first ended n words = ListHolds 2 (fixed_pair n) [] pairs first [] ended n words
 
+-- multipliers of fixed pairs
 abbrev pub TriplesHold : List (ℕ × ℕ × ℤ) → Option ℕ → Option ℕ → Bool → ℕ → List (List ℕ) → Type 0
 TriplesHold triples first second ended n words =
     ListHolds 3 (fixed_triple n) (node n ∷ []) triples first (option_map pos second ∷ []) ended n words
 
 -- ---- weights
 
+-- the weights so far, at most one for each pair of nodes
 pub record WeightsHold (weights : List ℤ) (most : ℕ) (n : ℕ) (words : List (List ℕ)) : Type 0 where
   pub list : weights ≡ weights_in words
   pub room : most ≡ n * n
@@ -147,7 +156,7 @@ pub record WeightsHold (weights : List ℤ) (most : ℕ) (n : ℕ) (words : List
 
 -- ---- tours
 
--- the tours that are done and the run that is open, and how many nodes came
+-- the tours that have ended, the nodes of the open one, and how many nodes came
 pub record ToursHold (done : List (List ℕ)) (run : List ℕ) (count : ℕ) (words : List (List ℕ)) : Type 0 where
   pub pieces : List (List (List ℕ))
   pub last : List (List ℕ)
@@ -156,7 +165,7 @@ pub record ToursHold (done : List (List ℕ)) (run : List ℕ) (count : ℕ) (wo
   pub rest : run ≡ map tour_node last
   pub nodes : count ≡ length (filter (λ word. not (ends_tour word)) words)
 
--- the run is among the tours, and the next has nothing yet
+-- the tour that was open is among the tours, and the next one has no node yet
 pub record EndsRun (done : List (List ℕ)) (run : List ℕ) (words : List (List ℕ)) : Type 0 where
   pub tours : done ≡ tours_in words
   pub rest : run ≡ []

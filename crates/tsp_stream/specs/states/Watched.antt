@@ -1,4 +1,5 @@
--- What a clause sees of a watched reader or writer. Of `Watched` (src/watched.rt).
+-- The fields of a watched reader or writer, and its `Turn` or `Sink` by what it was before a call and is after it. For
+-- `Watched` (src/watched.rt), and for every call that reads or writes.
 use Rattle.std.specs.Prelude.{◌≡◌, ℕ, ◌<◌, Bool, true, List, length, Option, Some, Result, Ok, Err, ◌&&◌, ◌==◌, nat_lt}
 use Rattle.std.specs.IoError.{error_kind}
 use Rattle.std.specs.declared.io.Error.{Error}
@@ -17,11 +18,12 @@ watched w = w.inner
 abbrev pub has_failed : {T : Type 0} → Watched T → Bool
 has_failed w = w.failed
 
--- what the system said of the failure, where it was kept
+-- the error of the system at the failure, where it is known
 abbrev pub error_of : {T : Type 0} → Watched T → Option Error
 error_of w = w.error
 
--- the kept error after a write of a part: its own, one of that kind where it took nothing, and else the one from before
+-- the error after a write of a part: that of the write; one of the kind WriteZero where it took nothing; else the one
+-- from before
 abbrev pub KeepsError : Result ℕ Error → Option Error → Option Error → Type 0
 KeepsError (Err error) old new = new ≡ Some error
 KeepsError (Ok count) old new = (count ≡ 0 → (error : Error) × (new ≡ Some error) × (error_kind error ≡ kinds.WriteZero))
@@ -32,7 +34,7 @@ abbrev pub write_fails : {E : Type 0} → Result ℕ E → List ℕ → Bool
 write_fails (Ok count) text = (count == 0) && nat_lt 0 (length text)
 write_fails (Err e) text = true
 
--- one call at a `&mut` to x and one to y, which may give r and leave x' and y' there
+-- one call at a `&mut` to x and one to y; it may return r, and leave x' and y' there
 pub record Calls {F T B R : Type 0} (g : Once F (MutBor T × (MutBor B × Unit {0})) (R × (MutBor T × (MutBor B × Unit {0}))))
     (f : F) (x : T) (y : B) (r : R) (x' : T) (y' : B) : Type 0 where
   pub first : MutBor T
@@ -43,9 +45,9 @@ pub record Calls {F T B R : Type 0} (g : Once F (MutBor T × (MutBor B × Unit {
   pub met : g.post f (first, (second, tt)) (r, (first_left, (second_left, tt)))
   pub leaves : (first_left.now ≡ x') × (second_left.now ≡ y')
 
--- ---- what a call does to one
+-- ---- the turn or the sink of a call
 
--- the turn of a watched reader, by what it was before the call and is after it
+-- the turn of a watched reader
 abbrev pub turn_of : {R : Type 0} → (R → Option (List ℕ)) → Watched R → Watched R → List ℕ → Turn
 turn_of remaining old new given = record {
   known = remaining (watched old);
@@ -55,7 +57,7 @@ turn_of remaining old new given = record {
   failed = has_failed new;
 }
 
--- the same of a watched writer
+-- the sink of a watched writer
 abbrev pub sink_of : {W : Type 0} → (W → Option (List ℕ)) → Watched W → Watched W → Sink
 sink_of contents old new = record {
   held = contents (watched old);

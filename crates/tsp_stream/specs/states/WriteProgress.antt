@@ -1,21 +1,24 @@
--- How far a text has come on its way to a writer. For src/piece.rt, and for all calls that write a text with its pieces.
+-- How far a text has come on its way to a writer: a prefix is written, the rest is in the buffer. For `put`
+-- (src/piece.rt), and for all functions `put_..` of tsp_file and tsp_report, which write through one buffer.
 use Rattle.std.specs.Prelude.{◌≡◌, ℕ, Bool, false, List, ◌++◌, Option}
 use Rattle.std.specs.Io.KnownBytes.{Appends}
 use Rattle.arrayvec.specs.ArrayVec.{ArrayVec}
 use Rattle.tsp_stream.specs.declared.watched.Watched.{Watched}
 use Rattle.tsp_stream.specs.states.Watched.{watched, has_failed}
 
--- what the writer holds, where that is known, whether it has failed, and the piece that waits to be written
+-- the bytes that the writer has, where they are known; whether it has failed; and the buffer's bytes, which wait to be
+-- written
 pub record Way : Type 0 where
   pub held : Option (List ℕ)
   pub failed : Bool
   pub piece : List ℕ
 
+-- the same of a watched writer and its buffer
 abbrev pub way_of : {W : Type 0} → (W → Option (List ℕ)) → Watched W → List ℕ → Way
 way_of contents out piece = record { held = contents (watched out); failed = has_failed out; piece = piece }
 
--- A prefix of the text has come to the writer that held `start`, and nothing else. While the writer hasn't failed, the piece is
--- the rest of the text.
+-- A prefix of the text has come to the writer that had `start`, and nothing else. While the writer hasn't failed, the
+-- buffer has the rest of the text.
 pub record Carries (start : Option (List ℕ)) (way : Way) (text : List ℕ) : Type 0 where
   pub front : List ℕ
   pub rest : List ℕ
@@ -23,12 +26,12 @@ pub record Carries (start : Option (List ℕ)) (way : Way) (text : List ℕ) : T
   pub written : Appends start way.held front
   pub waits : way.failed ≡ false → rest ≡ way.piece
 
--- between the two, these bytes were added to whatever text was on its way
+-- from `old` to `new` these bytes were added to whatever text was on its way
 abbrev pub Carried : Way → Way → List ℕ → Type 0
 Carried old new bytes = (start : Option (List ℕ)) (text : List ℕ)
     → Carries start old text → Carries start new (text ++ bytes)
 
--- the call, from a writer and its piece to the same two afterwards, added these bytes to whatever text was on its way
+-- a call with a writer and its buffer added these bytes to whatever text was on its way
 abbrev pub Puts : {W : Type 0} → (W → Option (List ℕ))
     → Watched W → ArrayVec ℕ → Watched W → ArrayVec ℕ → List ℕ → Type 0
 Puts contents out piece new_out new_piece bytes =
