@@ -1,5 +1,5 @@
-//! How the libraries are used: a tour of an instance is judged, both from bytes in memory, and a
-//! check writes its report.
+//! An example of how the libraries are used, which README.md shows: a tour of an instance is
+//! judged, both as bytes in memory.
 #![tactic(auto)]
 
 mod report;

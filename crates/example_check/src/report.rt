@@ -1,4 +1,5 @@
-//! How the calls of tsp_judge are used: a check of two texts in memory, with its report.
+//! An example of how the calls of tsp_judge are used: a check of two texts in memory, with its
+//! report.
 
 ghost use Rattle.std.specs.Prelude.{◌≡◌, true, IfOk};
 ghost use Rattle.example_check.specs.Texts.{IsAcceptedOnTexts};

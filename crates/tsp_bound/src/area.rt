@@ -1,5 +1,5 @@
-//! A region of space with nodes in it, and a number that each of their potentials is at least. The
-//! box of a node tree in `src/boxes.rt`.
+//! A box of space with nodes in it, and a number that is at most that of each of these nodes. For
+//! the tree of boxes in `src/boxes.rt`.
 
 ghost use Rattle.std.specs.Prelude.{pos, neg_ℤ};
 ghost use Rattle.tsp_theory.specs.CertificateNumbers.{IsFromTo, most_number};

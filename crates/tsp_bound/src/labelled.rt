@@ -1,5 +1,6 @@
 //! The forest of nodes that have points: the component of each node, and boxes to search for its
-//! nearest node. `Components` for `src/part.rt`; without points it is `src/listed.rt`.
+//! nearest node. It implements `Components`, as `src/listed.rt` does without points. For
+//! `src/part.rt`.
 
 ghost use Rattle.std.specs.Prelude.{◌≡◌, ◌<◌, ◌*◌, ℕ, true, length, IfOk};
 ghost use Rattle.tsp_bound.specs.states.Boxes.{HoldsNode, AreHeld, AreHeld-prop, area_at, node_of};

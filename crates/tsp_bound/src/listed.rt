@@ -1,5 +1,5 @@
 //! The forest of nodes without points: the component of each node, and its twelve lightest edges.
-//! `Components` for `src/part.rt`; with points it is `src/labelled.rt`.
+//! It implements `Components`, as `src/labelled.rt` does with points. For `src/part.rt`.
 
 ghost use Rattle.std.specs.Prelude.{◌≡◌, ◌<◌, ◌+◌, ◌*◌, ℕ, length};
 ghost use Rattle.tsp_bound.specs.states.Components.{label_at};

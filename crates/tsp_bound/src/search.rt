@@ -1,4 +1,5 @@
-//! A search from one node for the nearest node outside, down a tree of boxes. For `src/nearest.rt`.
+//! A search from one node, down a tree of boxes, for the nearest node of another component. For
+//! `src/nearest.rt`.
 
 ghost use Rattle.std.specs.Prelude.{◌≡◌, ◌≤◌, ◌<◌, ◌+◌, ◌*◌, ◌^◌, ◌≤ℤ◌, ◌*ℤ◌, ℕ, length};
 ghost use Rattle.std.specs.Bool.{OnTrue};

@@ -1,4 +1,4 @@
-//! The trait of a tree of boxes over places, by which a search sees nodes outside alone. For
+//! The trait of a tree of boxes over places, in which a search sees the nodes outside alone. For
 //! `src/search.rt` and `src/nearest.rt`.
 //!
 //! Outside: in another component than the node that the search is from (`Apart` in labelled.rt).

@@ -1,4 +1,4 @@
-//! The words of the command line of the program `tsp`, as what they ask for of files.
+//! The words of a command line of the program `tsp`, turned into a task on files. For tsp_run.
 //!
 //! The words are a job (`words`), by the commands that the program has (`grammar`). A job asks for
 //! a task on files, or to compare solutions (`task_of_job`). It opens no files and runs nothing.

@@ -1,5 +1,5 @@
-//! The run of `tsp check` with a certificate, from the bytes read to the bytes written. For
-//! `src/outcome.rt` of tsp_perform and `src/texts.rt` of tsp_c.
+//! The run of `tsp check`, from the bytes read to the bytes written: the files are read, then
+//! judged. For `src/outcome.rt` of tsp_perform and `src/texts.rt` of tsp_c.
 
 ghost use Rattle.std.specs.Prelude.{◌≡◌, None};
 ghost use Rattle.tsp_stream.specs.states.Watched.{sink_of, turn_of};

@@ -1,5 +1,5 @@
-//! The run of `tsp compare` with a certificate, from the bytes read to the bytes written: each
-//! solution is read, judged, and dropped. For `src/outcome.rt` of tsp_perform.
+//! The run of `tsp compare`, from the bytes read to the bytes written: each solution is read,
+//! judged, and dropped. For `src/outcome.rt` of tsp_perform.
 
 ghost use Rattle.std.specs.Prelude.{◌≡◌, ◌<◌, max, false, true, [], length, None};
 ghost use Rattle.tsp_stream.specs.states.Watched.{has_failed, sink_of, turn_of};

@@ -79,7 +79,7 @@ impl RunError {
         }
     }
 
-    /// The fault of an output that could not be written.
+    /// The output wasn't written.
     pub fn unwritten(fault: WriteFault) -> RunError
         ensures { result ≡ Write fault }
     {

@@ -1,5 +1,5 @@
-//! The runs of `tsp check` and `tsp compare` without a certificate, from the bytes read to the
-//! bytes written. For `src/outcome.rt` of tsp_perform.
+//! The runs of `tsp check` and `tsp compare` that have no reader for a certificate. For
+//! `src/outcome.rt` of tsp_perform.
 
 ghost use Rattle.std.specs.Prelude.{None, length};
 ghost use Rattle.tsp_stream.specs.states.Watched.{sink_of, turn_of};

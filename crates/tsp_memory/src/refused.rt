@@ -1,4 +1,5 @@
-//! The error of each call that takes memory. Only calls of this crate make one.
+//! The error of each call that takes memory, here and in other crates. Only calls of this crate
+//! make one.
 
 use std::alloc::AllocError;
 

@@ -1,4 +1,4 @@
-//! Readers and writers that remember a failure, and the way of a text to a writer.
+//! Readers and writers that remember a failure, and calls that write a text to such a writer.
 //!
 //! It knows nothing of TSPLIB. A [`Watched`] value that has failed isn't asked again by the calls
 //! of the crates above. There is no retry: an interrupted call has failed too.

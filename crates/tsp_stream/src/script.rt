@@ -1,5 +1,6 @@
-//! A model of a reader whose answers are known beforehand. It shows what no clause of `Read` can
-//! say: a watched reader is asked once for each call, and its answer is returned as it is.
+//! A model of a reader with known answers, which no other file uses. It shows what no clause of
+//! `Read` can say: a watched reader is asked once for each call, and its answer is returned as it
+//! is.
 
 ghost use Rattle.std.specs.Prelude.{◌≡◌, is_err, ◌||◌};
 ghost use Rattle.tsp_stream.specs.states.Watched.{watched, has_failed};

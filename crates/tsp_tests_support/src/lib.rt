@@ -1,5 +1,5 @@
-//! What the tests of the libraries share: readers and writers that are hard to please, and drafts
-//! of files by hand.
+//! What the tests of the libraries share: readers and writers that do little at a time or fail, and
+//! drafts of files made by hand.
 #![tactic(auto)]
 
 pub mod devices;
