@@ -84,7 +84,7 @@ of_type Branches instance certificate none = tree certificate.kind (λ other. no
 abbrev pub IsTspOrAtsp : Option Kind → Type 0
 IsTspOrAtsp kind = (kind ≡ Some kinds.Tsp) ⊎ (kind ≡ Some kinds.Atsp)
 
--- one whose problem has tours
+-- a TYPE whose problem has tours, with a direction or without
 pub type_of_tours : (directed : Bool) (kind : Option Kind) → kind ≡ Some (if directed then kinds.Atsp else kinds.Tsp) → IsTspOrAtsp kind
 type_of_tours true kind is = inr is
 type_of_tours false kind is = inl is
@@ -116,7 +116,7 @@ routes_as_claimed : (certificate : Option (Certificate × Fields)) (claimed : Op
 routes_as_claimed certificate None instance solution length routes least bound v = (v, tt)
 routes_as_claimed certificate (Some claim) instance solution length routes least bound v = (v.0, v.1)
 
--- a claimed length
+-- a length that is as claimed is the claimed one
 claim_is : (claimed : Option ℤ) (length measured : ℤ) → IsAsClaimed claimed length → length ≡ measured → (claim : ℤ) → claimed ≡ Some claim → claim ≡ measured
 claim_is None length measured claims same claim is = absurd cc
 claim_is (Some other) length measured claims same claim is = sym (ap (λ o. unwrap_or o (pos 0)) is) ∙ claims ∙ same
@@ -192,7 +192,7 @@ only_routes claimed instance solution length_is count least problem type none pl
         by_test (inl few) = absurd (not few)
         by_test (inr some) = some
 
--- the report on them
+-- the report on routes that are accepted
 routes_printed : (instance solution : Fields) (length_is : ℤ) (count least : ℕ) (bound other : Option ℤ) → IsPlanned instance (tours_of solution) length_is count least
     → bound ≡ other → report_of instance (verdicts.Routes length_is count least bound)
     ≡ report_of instance (verdicts.Routes (plan_length (cost instance) (depot_of instance) (tours_of solution)) (length (tours_of solution)) least other)

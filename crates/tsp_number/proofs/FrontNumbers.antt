@@ -155,13 +155,13 @@ small_decimal count whole parts part power small few small' few' is =
 
 -- ---- texts
 
--- a sign and digits
+-- a text of a sign and digits, cut into them
 whole_text : (bytes : List ℕ) (sign count : ℕ)
     → take (sign + count) bytes ≡ take sign bytes ++ (take count (drop sign bytes) ++ ([] ++ []))
 whole_text bytes sign count =
     take-add sign count bytes ∙ ap (λ ds. take sign bytes ++ ds) (sym (append-nil (take count (drop sign bytes))))
 
--- a sign, digits, a point and digits
+-- a text of a sign, digits, a point and digits, cut into them
 decimal_text : (bytes : List ℕ) (sign count parts : ℕ) → sign + count < length bytes → get_or bytes (sign + count) 0 ≡ point
     → take (sign + count + 1 + parts) bytes
     ≡ take sign bytes ++ (take count (drop sign bytes) ++ ((point ∷ take parts (drop (sign + count + 1) bytes)) ++ []))

@@ -4,7 +4,7 @@ use Rattle.std.proofs.Common.{◌≡◌, ℕ, zero, suc, ◌+◌, ◌<◌, ◌�
 use Rattle.std.specs.Prelude.{min, slice_index_or as get_or}
 use Rattle.std.specs.List.{prefix_len}
 
--- of a front part as many pass as of the whole, and no more than it has
+-- of the first m elements as many pass as of all, but no more than m
 pub prefix_of_front : {X : Type 0} (p : X → Bool) (m : ℕ) (xs : List X) → prefix_len p (take m xs) ≡ min m (prefix_len p xs)
 prefix_of_front p zero xs = omega arith
 prefix_of_front p (suc m) [] = omega arith
@@ -14,7 +14,7 @@ prefix_of_front {X} p (suc m) (x ∷ xs) = by_test (p x) (prefix_of_front p m xs
     by_test true so = omega (arith, so)
     by_test false so = omega arith
 
--- where all of a front part pass, those after it are counted on
+-- where the first m elements pass, those after them are counted on
 pub prefix_goes_on : {X : Type 0} (p : X → Bool) (m : ℕ) (xs : List X) → m ≤ prefix_len p xs
     → prefix_len p xs ≡ m + prefix_len p (drop m xs)
 prefix_goes_on p zero xs le = omega arith
@@ -26,7 +26,7 @@ prefix_goes_on {X} p (suc m) (x ∷ xs) le = by_test (p x) le (prefix_goes_on p 
     by_test true le so = omega (arith, so (omega (arith, le)))
     by_test false le so = absurd (omega (arith, le))
 
--- the element after this many passes: one more
+-- the element after the first k passes too: one more
 pub prefix_one_more : {X : Type 0} (p : X → Bool) (k : ℕ) (xs : List X) (d : X) → k < length xs → k ≤ prefix_len p xs
     → p (get_or xs k d) ≡ true → suc k ≤ prefix_len p xs
 prefix_one_more p k [] d lt le e = absurd (omega (arith, lt))
@@ -38,7 +38,7 @@ prefix_one_more {X} p (suc k) (x ∷ xs) d lt le e = by_test (p x) le (prefix_on
     by_test true le so = omega (arith, so (omega (arith, le)) e)
     by_test false le so = absurd (omega (arith, le))
 
--- it doesn't: they end there
+-- the element after the first k doesn't pass: there are k
 pub prefix_ends : {X : Type 0} (p : X → Bool) (k : ℕ) (xs : List X) (d : X) → k < length xs → k ≤ prefix_len p xs
     → p (get_or xs k d) ≡ false → prefix_len p xs ≡ k
 prefix_ends p k [] d lt le e = absurd (omega (arith, lt))

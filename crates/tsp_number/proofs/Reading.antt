@@ -116,7 +116,7 @@ unit_up m k (negsuc down) (negsuc down') same shifted =
     let here : k * (10 ^ (down' + 1) * 10 ^ 9) ≡ m = rw power at shifted in
     omega arith
 
--- and back
+-- a number counted in the unit of decimals, counted in ones
 pub unit_down : (m k : ℕ) (z z' : ℤ) → z' ≡ z +ℤ pos 9 → IsShiftedSize m z' (k * unit) → IsShiftedSize m z k
 unit_down m k (pos up) (pos up') same shifted =
     let far : up' ≡ up + 9 = omega (arith, ints) in

@@ -25,12 +25,12 @@ pub digits_value_after-append : (radix n : ℕ) (xs ys : List ℕ)
 digits_value_after-append radix n [] ys = refl
 digits_value_after-append radix n (x ∷ xs) ys = digits_value_after-append radix (n * radix + digit_value x) xs ys
 
--- what a clamped exponent was
+-- the exponent that a clamped one was
 unclamped : (o : Option ℤ) (x : ℤ) → option_map clamped o ≡ Some x → (e : ℤ) × (o ≡ Some e) × (x ≡ clamped e)
 unclamped (Some e) x h = (e, refl, cc)
 unclamped None x h = cc
 
--- a test that holds
+-- the first branch, where the number is above 0
 pub if_above_zero : {A : Type 0} (n : ℕ) (x y : A) → 0 < n → (if nat_lt 0 n then x else y) ≡ x
 if_above_zero n x y above = grind (arith, common_steps)
 

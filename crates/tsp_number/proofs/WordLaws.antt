@@ -25,7 +25,7 @@ same_size m k l (pos up) first second = first ∙ sym second
 same_size m k l (negsuc down) first second =
     eq_of_mul-eq-mul_right (10 ^ (down + 1)) (pow_above_zero (down + 1)) k l (first ∙ sym second)
 
--- at most one number
+-- a word means at most one number
 pub stands_once : (word : List ℕ) (j k : ℤ) → StandsFor word j → StandsFor word k → j ≡ k
 stands_once word j k first second =
     let is_in = found word first.numeral first.spelled in
@@ -39,7 +39,7 @@ times_unit j k same = omega (arith, ints)
 number_word : (word : List ℕ) (k : ℤ) → StandsFor word k → IsNumberWord word
 number_word word k stands = (stands.numeral, stands.spelled)
 
--- one answer
+-- where a decimal is wanted, a word has one answer
 -- plan: by both results: two counts are equal by `stands_once`, and two different faults exclude each other
 pub decimal_once : (word : List ℕ) (r s : Result ℤ NumberFault) → ReadsDecimal word r → ReadsDecimal word s → r ≡ s
 decimal_once word (Ok j) (Ok k) a b = ap Ok (stands_once word j k a.1 b.1)
@@ -93,7 +93,7 @@ outside_not_within : {A : Type 0} (low high j k : ℤ) → j ≡ k → low ≤�
 outside_not_within low high j k same from to (inl below) = absurd (omega (arith, ints))
 outside_not_within low high j k same from to (inr above) = absurd (omega (arith, ints))
 
--- one answer
+-- where a whole number is wanted, a word has one answer
 -- plan: by both results: two numbers are equal by `stands_once`, and two different faults exclude each other
 pub whole_once : (word : List ℕ) (low high : ℤ) (r s : Result ℤ NumberFault) → ReadsWhole word low high r
     → ReadsWhole word low high s → r ≡ s

@@ -98,7 +98,7 @@ starts_at inside token bytes more h =
     let filled = not_blank inside token h.first h.token_is (first_open inside token bytes h) in
     parts ∙ sym (ap without_start parts ∙ start_filled h.first (h.others ++ more) filled)
 
--- before any piece
+-- with the next piece, what has begun is an item, once that is settled
 abbrev pub Joins : Token → Bool → List ℕ → Type 0
 Joins token inside begun = (goes_on : Bool) (piece : List ℕ)
     → is_settled (most_bytes token) goes_on (begun ++ up_to_first (ends_token token) piece) (from (ends_token token) piece) ≡ true
@@ -128,7 +128,7 @@ settled_long most goes_on piece rest long =
     by_two false true c e = refl
     by_two false false c e = e
 
--- whatever follows the end
+-- the same, whatever follows its end
 pub joined_gives : (token : Token) (inside : Bool) (begun piece : List ℕ) → Joins token inside begun
     → is_not_empty (from (ends_token token) piece) ≡ true
     → GivesNext inside (begun ++ piece) (token_item token (begun ++ up_to_first (ends_token token) piece)) true (from (ends_token token) piece)
@@ -223,7 +223,7 @@ pub token_here : (inside : Bool) (token : Token) (bytes : List ℕ) → (length 
 token_here inside token [] some h = absurd (true≢false some)
 token_here inside token (b ∷ bytes) some h = h
 
--- it has a fault, or wants memory
+-- the item has a fault, or memory was refused
 pub joined_fault : (token : Token) (old new : Intake) (begun piece bytes text : List ℕ) (found : ReadFault)
     → text ≡ begun ++ up_to_first (ends_token token) piece
     → is_settled (most_bytes token) true (begun ++ up_to_first (ends_token token) piece) (from (ends_token token) piece) ≡ true
@@ -236,7 +236,7 @@ joined_fault token old new begun piece bytes text found same settled joins read 
     (subst (λ (t : List ℕ). (earlier : List Item) → HasTakenItems old earlier → TakesNext earlier (token_item token t) new (Err found))
     same taken)
 
--- it is an end line
+-- the item is an end line
 pub joined_end : (token : Token) (old new : Intake) (begun piece bytes text : List ℕ) (ended : Bool) → ended ≡ true
     → text ≡ begun ++ up_to_first (ends_token token) piece → is_not_empty (from (ends_token token) piece) ≡ true
     → Joins token old.inside begun → IsReadTo old bytes (begun ++ piece)
@@ -249,7 +249,7 @@ joined_end token old new begun piece bytes text ended is_end same tail joins rea
     (subst (λ (t : List ℕ). (earlier : List Item) → HasTakenItems old earlier → TakesNext earlier (token_item token t) new (Ok ended))
     same taken)
 
--- it is taken, and what follows it is left
+-- the item is taken, and what follows it is left
 pub joined_more : (token : Token) (old new : Intake) (begun piece bytes text : List ℕ) (ended : Bool) → ended ≡ false
     → text ≡ begun ++ up_to_first (ends_token token) piece → is_not_empty (from (ends_token token) piece) ≡ true
     → Joins token old.inside begun → IsReadTo old bytes (begun ++ piece) → new.inside ≡ true
@@ -262,7 +262,7 @@ joined_more token old new begun piece bytes text ended goes same tail joins read
     same taken)
     inside (λ short. joined_gives token old.inside begun piece joins tail)
 
--- it has no end yet, and isn't too long
+-- the item has no end yet, and isn't too long
 token_goes_on : (inside : Bool) (token : Token) (begun : List ℕ) → HasBegunToken inside token begun
     → length begun ≤ most_bytes token → items_left true inside begun ≡ []
 token_goes_on inside token begun h short =
@@ -271,7 +271,7 @@ token_goes_on inside token begun h short =
     token_missing_next true inside begun begun h.first h.others token starts h.parts
     (not_ten token h.first (first_open inside token begun h)) h.token_is (open_still token begun h.no_end short)
 
--- nothing is kept
+-- no bytes are kept
 pub fed_none : (intake : Intake) (begun : Begun) (bytes rest : List ℕ) → begun.bytes.items ≡ [] → IsReadTo intake bytes rest
     → IsJoinedTo intake begun bytes rest
 fed_none intake begun bytes rest none read = record {
@@ -292,7 +292,7 @@ joined_none intake begun bytes piece h none =
 no_rest : (rest : List ℕ) (P : Type 0) → rest ≡ [] → is_not_empty rest ≡ true → P
 no_rest rest P none some = absurd (false≢true (sym (ap is_not_empty none) ∙ some))
 
--- the whole piece is kept too
+-- the whole piece is kept, after the bytes from before
 longer : (inside : Bool) (token : Token) (begun piece : List ℕ) → HasBegunToken inside token begun → from (ends_token token) piece ≡ []
     → HasBegunToken inside token (begun ++ piece)
 longer inside token begun piece h none = record {

@@ -192,7 +192,7 @@ begins_filled text count k number =
     let parts : text ≡ start.first ∷ (start.others ++ drop count text) = whole_parts text count (drop count text) refl ∙ ap (λ (xs : List ℕ). xs ++ drop count text) start.parts in
     parts ∙ sym (filled_front start.first (start.others ++ drop count text) blank) ∙ ap without_start (sym parts)
 
--- it is the next item
+-- the number word is the next item
 pub front_gives : (text filled : List ℕ) (count : ℕ) (k : ℤ) (rest left : List ℕ) → EndsNumber text filled count k rest left
     → (inside : Bool) → GivesNext inside text (NumberWord (front_word text)) true left
 front_gives text filled count k rest left h inside goes_on more =
@@ -210,7 +210,7 @@ front_gives text filled count k rest left h inside goes_on more =
     (ap (λ (xs : List ℕ). is_over_long (NumberWord xs)) (front_is text filled count k rest left h) ∙ short) goes_on more
     ∙ ap (λ (items : List Item). NumberWord (front_word text) ∷ items) (by.left_is goes_on more)
 
--- and is read as that number
+-- the word is read as that whole number
 pub front_reads : (text filled : List ℕ) (count : ℕ) (z : ℤ) (rest left : List ℕ)
     → EndsNumber text filled count (z *ℤ pos unit) rest left → IsWhole (front_word text) z
 front_reads text filled count z rest left h low high above below =
@@ -218,7 +218,7 @@ front_reads text filled count z rest left h low high above below =
     let reads : ReadsWhole word low high (Ok z) = (h.number.short, h.number.stands, above, below) in
     ap (λ (w : List ℕ). whole_of w low high) (front_is text filled count (z *ℤ pos unit) rest left h) ∙ sym (whole_once _ _ _ _ _ reads (whole_of-reads word low high))
 
--- or as that decimal
+-- the word is read as that decimal
 pub front_reads_decimal : (text filled : List ℕ) (count : ℕ) (k : ℤ) (rest left : List ℕ)
     → EndsNumber text filled count k rest left → unsigned_abs k ≤ most_count
     → decimal_of (front_word text) ≡ Ok k

@@ -88,7 +88,7 @@ in_time turn feed (Ok file) (given, few, f) reads memory =
 in_time turn feed (Err found) (given, few, f) reads memory =
     (given, few, (stops_by (turn given) feed found f (reads (turn given).given f.held), f.timely, λ wants. memory (turn given).given f.held (ap (λ f. Err f) wants)))
 
--- the answer alone
+-- the answer, without when the reading stopped
 pub answer_of : (turn : List ℕ → Turn) (result : Result Fields ReadFault) → ReadsInTime turn result → ReadsFrom turn result
 answer_of turn (Ok file) (given, few, h) = (given, few, h.0)
 answer_of turn (Err found) (given, few, h) = (given, few, h.0)

@@ -157,7 +157,7 @@ read_to_end old new bytes rest item later ended ends h next taken =
       ended = ap has_end_line all ∙ ap (λ b. b || has_end_line h.earlier) (sym got.1 ∙ ends);
     }
 
--- the item has a fault, or wants memory
+-- the item has a fault, or memory was refused
 pub read_to_fault : (old new : Intake) (bytes rest : List ℕ) (item : Item) (later : List Item) (found : ReadFault)
     → IsReadTo old bytes rest
     → items_left true old.inside rest ≡ item ∷ later
@@ -173,7 +173,7 @@ read_to_fault old new bytes rest item later faults.TooLong h next taken = taken 
 
 -- ---- words that are too long
 
--- they have the same fault, whatever their bytes are
+-- words that are too long have the same fault, whatever their bytes are
 pub same_long : (earlier : List Item) (long word : List ℕ) (new : Intake) (found : ReadFault)
     → is_over_long (NumberWord long) ≡ true → is_over_long (NumberWord word) ≡ true
     → TakesNext earlier (NumberWord long) new (Err found) → TakesNext earlier (NumberWord word) new (Err found)
@@ -184,7 +184,7 @@ same_long earlier long word new faults.OutOfMemory a b taken = refl
 same_long earlier long word new faults.Device a b taken = taken
 same_long earlier long word new faults.TooLong a b taken = taken
 
--- and are never taken
+-- words that are too long are never taken
 pub never_long : (earlier : List Item) (item : Item) (new : Intake) (ended : Bool) → is_over_long item ≡ true
     → TakesNext earlier item new (Ok ended) → ⊥
 never_long earlier item new ended long taken = true≢false (sym long ∙ clean_is_short earlier item taken.0.holds.clean)

@@ -52,7 +52,7 @@ ranged P l h low high p is =
     let last : h ≡ high = cc in
     subst (λ (k : ℤ). P k high) first (subst (λ (k : ℤ). P l k) last p)
 
--- and of those with a number
+-- what holds of each keyword with a number holds of every field with one
 pub by_number : (P : Field → ℤ → ℤ → Type 0) → P DimensionKey (pos 1) (pos most_nodes) → P CapacityKey (pos 1) (pos most_capacity)
     → P ScaleKey (pos 1) (pos most_scale) → P LoadUnitKey (pos 1) (pos most_load_unit)
     → (f : Field) (low high : ℤ) → value_shape_of f ≡ Some (Number low high) → P f low high

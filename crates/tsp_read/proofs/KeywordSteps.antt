@@ -253,7 +253,7 @@ display_kind_line old new line slot (Err (steps.Fault fault)) sets is same_first
 
 -- ---- a keyword with a number
 
--- its rows
+-- the faults of the line of such a keyword
 number_rows : (earlier : List Item) (line : WordLine) → nat_lt most_line_bytes line.size ≡ false
     → (field : Field) (low high : ℤ) → value_shape_of field ≡ Some (Number low high)
     → row_of earlier (Line (Known field) line)

@@ -16,7 +16,7 @@ use Rattle.tsp_read.proofs.IntakeSteps.{read_further}
 use Rattle.tsp_read.proofs.ReadSteps.{line_ends}
 use Rattle.tsp_read.proofs.WordSteps.{word_answer, kept_answer}
 
--- a word that the part takes
+-- a run of one word, which the part takes
 pub word_runs : (old new : Part) (before after : Count) (text rest word : List ℕ) → TakesRead old new word
     → ((inside : Bool) → GivesNext inside text (NumberWord word) true rest)
     → after.line ≡ before.line → after.words ≡ before.words + 1 → after.inside ≡ true → length rest < length text
@@ -40,7 +40,7 @@ word_runs old new before after text rest word takes gives line words inside shor
   shorter = omega (arith, shorter);
 }
 
--- a part that holds what it held
+-- a run of no words: a part that holds what it held
 pub keeps_run : (old new : Part) (count : Count) (text : List ℕ) → KeepsWords old new → RunsTo old count text new count text
 keeps_run old new count text keeps = record {
   read = λ draft incomplete field bytes h.
@@ -66,7 +66,7 @@ pub same_run : (part : Part) (count : Count) (text : List ℕ) → RunsTo part c
 same_run part count text =
     record { read = λ draft incomplete field bytes h. h; line = omega arith; words = omega arith; shorter = omega arith }
 
--- a line's end
+-- a run of one line's end
 pub line_runs : (part : Part) (before after : Count) (text rest : List ℕ) → text ≡ 10 ∷ rest → after.line ≡ before.line + 1
     → after.words ≡ 0 → after.inside ≡ false
     → RunsTo part before text part after rest
@@ -101,7 +101,7 @@ run_then old mid new before between after text middle rest first then = record {
   shorter = omega (arith, first.shorter, then.shorter);
 }
 
--- and a step after a try that took nothing
+-- a step after a try that took nothing
 pub step_then : (old mid new : Part) (before between after : Count) (text : List ℕ) (found : Option (List ℕ))
     → RunsTo old before text mid between text
     → StepsTo mid between text new after found → StepsTo old before text new after found

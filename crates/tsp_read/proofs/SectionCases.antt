@@ -31,7 +31,7 @@ opened_fields earlier line = by_section (λ f. has_line f earlier ≡ false → 
     (λ none. rw none refl) (λ none. rw none refl) (λ none. rw none refl) (λ none. rw none refl) (λ none. rw none refl)
     (λ none. rw none refl) (λ none. rw none refl) (λ none. rw none refl)
 
--- and so is the first that is incomplete
+-- the first closed section that is incomplete is the one from before
 pub opened_first : (earlier : List Item) (line : WordLine) (f : Field) → is_section_field f ≡ true → has_line f earlier ≡ false
     → find (is_incomplete earlier) sections_in_order ≡ find (is_closed_incomplete (Line (Known f) line ∷ earlier)) sections_in_order
 opened_first earlier line = by_section (λ f. has_line f earlier ≡ false

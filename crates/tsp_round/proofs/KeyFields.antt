@@ -100,7 +100,7 @@ same_option : {A : Type 0} (o : Option A) → o ≡ option_map (λ x. x) o
 same_option None = refl
 same_option (Some x) = refl
 
--- every value is fine
+-- a test that each value passes
 any : {A : Type 0} (o : Option A) → if_there (λ x. true) o ≡ true
 any None = refl
 any (Some x) = refl

@@ -84,7 +84,7 @@ end_taken laws n count =
     (ap (λ (r : Result ℤ NumberFault). result_err r) (end_read laws n)) refl refl
     (and_right (nat_le most_fixed count) (not (is_end n (codes "-1"))) (not_from_true (is_end n (codes "-1")) (end_ends laws n))) refl
 
--- the first node of one
+-- the first node of a pair or a triple
 pub first_taken : NumberLaws → (n count more k : ℕ) → n < 2 ^ 32 → count + suc more ≤ most_fixed → is_node n k ≡ true
     → word_fault n (FirstAfter count) (decimal k) ≡ None
 first_taken laws n count more k few room is =
@@ -92,7 +92,7 @@ first_taken laws n count more k few room is =
     (ap (λ (r : Result ℤ NumberFault). result_err r) (listed_back laws n k few is)) refl refl
     (and_left (nat_le most_fixed count) (not (is_end n (decimal k))) (has_room most_fixed count more room)) refl
 
--- its second node
+-- the second node of a pair or a triple
 pub second_taken : NumberLaws → (n a b : ℕ) → n < 2 ^ 32 → is_node n b ≡ true → (a == b) ≡ false
     → word_fault n (SecondOf (pos a)) (decimal b) ≡ None
 second_taken laws n a b few is differ =

@@ -71,7 +71,7 @@ entries_in f field Triples = f.fixed_potentials
 entries_in f field Combs = f.combs
 entries_in f field Steps = f.branches
 
--- what they are in a file of n nodes
+-- whether the entries are valid in a file of n nodes
 abbrev pub are_valid : (shape : Shape) → ℕ → Entries shape → Bool
 are_valid (Numbers low high) n xs = is_by_node (is_from_to low high) n xs
 are_valid Points n xs = is_by_node (is_point false) n xs
@@ -84,7 +84,7 @@ are_valid Triples n xs = are_triples n xs
 are_valid Combs n xs = are_combs n xs
 are_valid Steps n xs = are_tree_steps n xs
 
--- their lines; those of weights have these lengths
+-- the lines of the entries; those of weights have these lengths
 abbrev pub lines_for : List ℕ → (shape : Shape) → Entries shape → List ℕ
 lines_for lens (Numbers low high) xs = lines_by_node whole_number xs
 lines_for lens Points xs = lines_by_node (coordinate_words false) xs
@@ -110,7 +110,7 @@ words_for Triples xs = flat_map triple_words xs ++ codes "-1" ∷ []
 words_for Combs xs = combs_words xs
 words_for Steps xs = flat_map step_words xs
 
--- what words give
+-- the entries that words give
 abbrev pub read_for : (shape : Shape) → ℕ → List (List ℕ) → Entries shape
 read_for (Numbers low high) n words = numbers_by_node low high n words
 read_for Points n words = points_by_node n words

@@ -31,7 +31,7 @@ set_product count z a b few fits first second =
       (omega (arith, ints, size.0), omega (arith, ints, size.1)),
     )
 
--- which count it is
+-- the count is the most or the least, by the sign of the multiplier
 pub below_zero : (low high : ℕ) (z : ℤ) → int_lt z (pos 0) ≡ true → pos high *ℤ z ≡ least_times low high z
 below_zero low high (pos m) less = absurd (grind (arith, ints))
 below_zero low high (negsuc m) less = refl

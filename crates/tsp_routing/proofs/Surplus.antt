@@ -62,7 +62,7 @@ least_between fewest most count z low high = elim (cases_Bool (int_lt (pos most 
     upper (pos m) less own = own
     upper (negsuc m) less own = let le = above {a = pos most *ℤ negsuc m} {b = pos fewest *ℤ negsuc m} less in omega (arith, ints, le, own)
 
--- each route its surplus
+-- each route has its surplus, and twice the potential of the depot
 pub split_surplus : (count : ℕ) (each own : ℤ)
     → (pos count *ℤ (each -ℤ (pos 2 *ℤ own))) +ℤ (pos 2 *ℤ (pos count *ℤ own)) ≡ pos count *ℤ each
 split_surplus zero each own =

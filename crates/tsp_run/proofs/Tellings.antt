@@ -7,12 +7,12 @@ use Rattle.tsp_judge.specs.declared.compared.Compared.{Compared}
 use Rattle.tsp_judge.specs.declared.fault.RunFault.{RunFault}
 use Rattle.tsp_run.specs.Telling.{MayTell}
 
--- of none of the solutions
+-- no lines were written
 tells_none : (explained : Bool) (at : Option (List ℕ)) → MayTell explained at at
 tells_none false at = refl
 tells_none true at = ([], Appends-nil at)
 
--- of some, and then of more
+-- some lines were written, and then more
 pub tells_more : (explained : Bool) (first next last : Option (List ℕ)) → MayTell explained first next → MayTell explained next last
     → MayTell explained first last
 tells_more false first next last some more = more ∙ some
@@ -33,7 +33,7 @@ tells_all : {E : Type 0} (explained clear : Bool) (contents : E → Option (List
 tells_all explained true contents count old new reported = tells_first explained contents count old new reported
 tells_all explained false contents count old new reported = subst (λ e. MayTell explained (contents old) (contents e)) (sym reported) (tells_none explained (contents old))
 
--- of all that were compared
+-- the lines on all solutions that were compared
 pub tells_compared : {E : Type 0} (explained : Bool) (contents : E → Option (List ℕ)) (count : ℕ) (old new : E) (ended : Result Compared RunFault)
     → IsFollowed (TellsLine explained contents) count old new ended → MayTell explained (contents old) (contents new)
 tells_compared explained contents count old new (Ok compared) reported = tells_all explained _ contents count old new reported

@@ -141,7 +141,7 @@ node_repeats n k groups place word is read found =
     let any : list_any (λ earlier. reads_as earlier (Ok (pos k))) (nodes_of_groups groups) ≡ true = is_entry groups (pos k) ∙ found in
     rw (is, read, any) refl
 
--- its fault
+-- the fault of a word that begins no group
 pub node_faulty : {X : Type 0} (missing : X) (seen : List Bool) (entries : List X) (left : ℕ) (begun : Option ℕ) (n : ℕ) (groups : List (ℤ × X)) (place : Place)
     (word : List ℕ) (fault : LineFault) → place ≡ NodeAfter (nodes_of_groups groups) → IsNewNode seen word (Err fault)
     → NodesHold missing seen entries left begun n groups → word_fault n place word ≡ Some fault

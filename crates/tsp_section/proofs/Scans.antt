@@ -11,13 +11,13 @@ none_cond : {X : Type 0} (b : Bool) (x : X) → cond b (Some x) None ≡ None �
 none_cond true x e = absurd cc
 none_cond false x e = refl
 
--- where there is none
+-- no element passes: the place is the length of the list
 pub past : {X : Type 0} (p : X → Bool) (xs : List X) → position p xs ≡ None → position_or_len p xs ≡ length xs
 past p xs e =
     let low : length xs ≤ position_or_len p xs = ltb-false _ _ (none_cond _ _ e) in
     omega (arith, prefix_len-le-length (λ x. not (p x)) xs)
 
--- where it is at k
+-- the first element that passes is at the place k
 pub position_at : {X : Type 0} (p : X → Bool) (xs : List X) (k : ℕ) → position p xs ≡ Some k
     → (position_or_len p xs ≡ k) × (k < length xs)
 position_at p xs k e =

@@ -91,7 +91,7 @@ goes_on {A} size xs begun x is on = (
   begun_both size [] xs (x ∷ []) ∙ ap (λ (b : List A). begun_with size b x) is ∙ ap (λ ends. cond ends [] (begun ++ x ∷ [])) on,
 )
 
--- a word that ends it
+-- a word that ends its group
 pub group_ends : {A : Type 0} (size : ℕ) (xs begun : List A) (x : A) → begun_in size xs ≡ begun → (length begun + 1 == size) ≡ true
     → (groups_in size (xs ++ x ∷ []) ≡ groups_in size xs ++ (begun ++ x ∷ []) ∷ []) × (begun_in size (xs ++ x ∷ []) ≡ [])
 group_ends {A} size xs begun x is ends = (
@@ -149,7 +149,7 @@ firsts_kept p size xs x any = by_begun (begun_in size xs) refl
     by_begun [] is = ap (list_any p) (firsts_begin size xs x is) ∙ any_kept p (firsts_in size xs) x any
     by_begun (first ∷ rest) is = ap (list_any p) (firsts_on size xs first rest x is) ∙ any
 
--- past it no group counts
+-- past the word that ends the list no group counts
 pub groups_kept : (p : List ℕ → Bool) (size : ℕ) (xs : Words) (x : List ℕ) → list_any p (firsts_in size xs) ≡ true
     → before (λ group. p (word_at group 0)) (groups_in size (xs ++ x ∷ [])) ≡ before (λ group. p (word_at group 0)) (groups_in size xs)
 groups_kept p size xs x any =
@@ -173,7 +173,7 @@ groups_kept p size xs x any =
     by_ends true false is [] one = cc
     by_ends true false is (first ∷ rest) one = before_end q groups (first ∷ (rest ++ x ∷ [])) (or_none (p first) one) is ∙ sym (before_none q groups is)
 
--- without one all groups count
+-- without a word that ends the list all groups count
 pub groups_none : (p : List ℕ → Bool) (size : ℕ) (xs : Words) → list_any p (firsts_in size xs) ≡ false
     → before (λ group. p (word_at group 0)) (groups_in size xs) ≡ groups_in size xs
 groups_none p size xs any =
@@ -192,7 +192,7 @@ pub all_groups : {X : Type 0} (size : ℕ) (value : Words → X) (n : ℕ) (word
 all_groups size value n words few =
     ap (λ (ws : Words). map (λ group. (number (node n (word_at group 0)), value group)) (groups_in size ws)) (take_all (size * n) words few)
 
--- their nodes
+-- the nodes of the groups
 pub nodes_read : {X : Type 0} (value : Words → X) (n : ℕ) (groups : List Words)
     → nodes_of_groups (map (λ group. (number (node n (word_at group 0)), value group)) groups) ≡ map (λ group. number (node n (word_at group 0))) groups
 nodes_read value n [] = refl

@@ -91,7 +91,7 @@ points_open : (in_space stands known : Bool) (value : List ℕ) (n : ℕ)
 points_open true stands known value n = refl
 points_open false stands known value n = refl
 
--- its rows
+-- the rows of the table of faults for its line
 pub opening : (in_space : Bool) (earlier : List Item) (line : WordLine) → nat_lt most_line_bytes line.size ≡ false → (f : Field)
     → is_section_field f ≡ true
     → row_of earlier (Line (Known f) line)

@@ -68,7 +68,7 @@ start_filled (b ∷ bytes) = by_case (is_blank b) refl (start_filled bytes)
     by_case true e later = ap (λ n. is_blank (slice_index (drop n (b ∷ bytes)) 0)) (one_more (prefix_len is_blank bytes)) ∙ later
     by_case false e later = e
 
--- the end is cut off
+-- no blank is left at the end
 cut_end : (bytes : List ℕ) → without_end bytes ++ reverse (take (prefix_len is_blank (reverse bytes)) (reverse bytes)) ≡ bytes
 cut_end bytes =
     let back = reverse bytes in

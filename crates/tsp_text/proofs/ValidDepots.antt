@@ -22,7 +22,7 @@ use Rattle.tsp_text.proofs.Grown.{Grows, grown}
 use Rattle.tsp_text.proofs.ValidNumbers.{read_listed}
 use Rattle.tsp_text.proofs.ValidLists.{few_more, first_of_both}
 
--- of the words before the -1
+-- the depots that these words list are valid
 abbrev AreListed : ℕ → List (List ℕ) → Type 0
 AreListed n words = are_depots n (depots_in n words) ≡ true
 

@@ -141,7 +141,7 @@ pub points_fit : (n : ℕ) (words : List (List ℕ)) → is_by_node (is_point fa
 points_fit n words = groups_fit (is_point false) origin 3 point_in n words refl (λ group.
     and_from (is_within most_coordinate (coordinate_at group 1) && is_within most_coordinate (coordinate_at group 2)) true (two_fit group) refl)
 
--- with three coordinates each
+-- the points of groups, with three coordinates each
 space_points_fit : (n : ℕ) (words : List (List ℕ)) → is_by_node (is_point true) n (space_points_by_node n words) ≡ true
 space_points_fit n words = groups_fit (is_point true) origin 4 space_point_in n words refl (λ group.
     and_from (is_within most_coordinate (coordinate_at group 1) && is_within most_coordinate (coordinate_at group 2))

@@ -54,7 +54,7 @@ pub sum_zero : {X : Type 0} (xs : List X) → sum_int_by (λ x. pos 0) xs ≡ po
 sum_zero [] = refl
 sum_zero (x ∷ xs) = omega (arith, ints, sum_zero xs)
 
--- of pairs that it uses, all of them
+-- of pairs that the cycle uses, the numbers of all
 numbers_of_used : (n : ℕ) (nodes : List ℕ) (triples : List (ℕ × ℕ × ℤ)) → Laws → 3 ≤ n → IsCycle n nodes
     → AllByRecursion (λ t. AreNeighbours nodes (pair_of t)) triples → length_of (numbers_on triples) nodes ≡ triples_total triples
 numbers_of_used n nodes [] laws some cycle used = sum_zero (links nodes)
@@ -65,7 +65,7 @@ numbers_of_used n nodes (t ∷ ts) laws some cycle used =
     let rest = numbers_of_used n nodes ts laws some cycle used.1 in
     omega (arith, ints, split, first, rest)
 
--- of pairs that it doesn't use, none
+-- of pairs that the cycle doesn't use, the numbers of none
 numbers_of_unused : (nodes : List ℕ) (triples : List (ℕ × ℕ × ℤ)) → Laws
     → AllByRecursion (λ t. AreNeighbours nodes (pair_of t) → ⊥) triples → length_of (numbers_on triples) nodes ≡ pos 0
 numbers_of_unused nodes [] laws unused = sum_zero (links nodes)

@@ -53,7 +53,7 @@ grown_joins Node w (e ∷ es) grown earlier nodes within grows =
           (and_node_old grown e.1 e.0 grows.0.from, and_node_self grown e.1)) grows.1,
     )
 
--- from a single node
+-- a growth from a single node
 pub growth_joins : (Node : ℕ → Type 0) (w : ℕ → ℕ → ℤ) (start : ℕ) (added : List (ℕ × ℕ)) → Node start
     → Grows Node w (λ x. x == start) added → AreLeastJoins Node w [] added
 growth_joins Node w start added at_start =

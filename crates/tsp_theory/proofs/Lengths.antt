@@ -37,7 +37,7 @@ pub sum_more : (sum cost : ℤ) (count : ℕ) → IsSumOf count sum → neg_ℤ 
     → IsSumOf (count + 1) (sum +ℤ cost)
 sum_more sum cost count size low high = record { low = omega (arith, ints, size.low); high = omega (arith, ints, size.high) }
 
--- it is what the code computes
+-- the sum is what the code computes
 pub sum_fits : (sum cost : ℤ) (count : ℕ) → count ≤ 1000000 → IsSumOf count sum → neg_ℤ (pos 1000000000000) ≤ℤ cost
     → cost ≤ℤ pos 1000000000000
     → to_z w64 (of_z w64 (sum +ℤ to_z w64 (of_z w64 cost))) ≡ sum +ℤ cost
@@ -45,7 +45,7 @@ sum_fits sum cost count few size low high = omega (arith, ints, size.low, size.h
 
 -- ---- over all nodes
 
--- a run of numbers, its first apart
+-- the numbers from a on: a, and those from a + 1 on
 pub run_parts : (a m : ℕ) → 0 < m → range_with_len a m ≡ a ∷ range_with_len (a + 1) (m - 1)
 run_parts a zero some = absurd (omega (arith, some))
 run_parts a (suc m) some = ap (λ k. a ∷ range_with_len (a + 1) k) (omega arith)

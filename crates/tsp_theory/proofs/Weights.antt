@@ -117,7 +117,7 @@ sum_computed sum weight from index few s fits is =
     let same : from ≡ weight = is ∙ to_z-of_z w64 weight fits in
     omega (arith, ints, s.0, s.1, fits, same)
 
--- one pair more
+-- the weight of pairs with one pair more
 pub weight_added : (w : ℕ → ℕ → ℤ) (pairs : List (ℕ × ℕ)) (pair : ℕ × ℕ)
     → weight_of w (pairs ++ pair ∷ []) ≡ weight_of w pairs +ℤ w pair.0 pair.1
 weight_added w [] pair = omega (arith, ints)

@@ -78,7 +78,7 @@ found_lower place least best own nearest found inside less = inr (
     before (inl none) k below = absurd (omega (arith, none.0, below))
     before (inr some) k below = some.2 k below
 
--- where it isn't
+-- where the own weight isn't lower than the best so far
 pub found_higher : (place : ℕ) (least : List ℤ) (best own : ℤ) (nearest : ℕ) → FindsLeast place least best nearest
     → place < length least → own <ℤ most_64 → best ≤ℤ own
     → FindsLeast (place + 1) (set least place own) best nearest

@@ -124,7 +124,7 @@ first_known inst basis found reason is some knows =
 
 -- ---- the reasons before those against the tours
 
--- where none applies to the instance
+-- where no reason applies to the instance, none up to the dimension applies to the solution
 pub up_to_dimension : (inst sol : Fields) → is_tour_file sol.kind ≡ true → NoneAgainstTouring inst
     → NoneOfTourBefore inst sol Dimension
 up_to_dimension inst sol is none NotASolution low stands = false≢true (sym stands ∙ is)
@@ -147,7 +147,7 @@ tour_rejected None inst sol claimed reason kind first =
     refused_alone claimed inst sol (verdicts.No reason) tt (tour_alone inst sol (verdicts.No reason) kind first)
 tour_rejected (Some given) inst sol claimed reason kind first = tour_refused given.0 inst sol given.1 claimed reason kind first
 
--- another length than the claimed one
+-- a solution of another length than the claimed one
 tour_disclaimed : (given : Option (Certificate × Fields)) (inst sol : Fields) (claimed : Option ℤ) (found : ℤ) → HasTours inst
     → IsTourVerdict inst sol (verdicts.Tour found None) → IsOtherClaimed claimed found
     → IsVerdictWith given claimed inst sol (verdicts.No (LengthClaimed found))
@@ -261,7 +261,7 @@ alone_of_routes : (inst : Fields) (basis : Basis) → inst.kind ≡ Some kinds.C
     → IsBasisOfRoutes inst basis
 alone_of_routes inst basis cvrp b = subst (λ kind. IsBasisAlone kind inst basis) cvrp b
 
--- the least number is one
+-- the least number of routes is one number
 pub same_least : (total capacity : ℤ) (a b : ℕ) → IsLeastRoutes total capacity a → IsLeastRoutes total capacity b → a ≡ b
 same_least total capacity a b first second = omega (arith, first.none_less b second.enough, second.none_less a first.enough)
 

@@ -55,7 +55,7 @@ none_of_potentials inst pot sort size wanted =
     none_before inst pot (rank_of (MultiplierNotFixed 1)) (λ low. sort) (λ low. size) (λ low. wanted)
     (λ low. absurd (omega (arith, low))) (λ low. absurd (omega (arith, low))) (λ low. absurd (omega (arith, low)))
 
--- all six are ruled out
+-- all six reasons against potentials are ruled out
 pub none_stands : (inst pot : Fields) → is_potentials_file pot.kind ≡ true → nodes_of pot ≡ nodes_of inst
     → has_wanted inst.kind pot ≡ true
     → ((index : ℕ) → StandsAgainstPotentials inst pot (MultiplierNotFixed index) → ⊥)
@@ -76,7 +76,7 @@ pub none_unlisted : (inst pot : Fields) → AreListed (fixed_of inst) (multiplie
 none_unlisted inst pot listed index stands =
     stands.1.holds (listed (index - 1) (0, 0, pos 0) (omega (arith, stands.1.here.0, stands.1.here.1)))
 
--- no two are on the same
+-- no two multipliers are on the same pair
 pub none_repeated : (n : ℕ) (inst pot : Fields) → AreOnPairs n (multipliers_in pot) → (index : ℕ)
     → StandsAgainstPotentials inst pot (MultiplierRepeated index) → ⊥
 none_repeated n inst pot are index stands =
@@ -271,7 +271,7 @@ certificate_rank Branches inst cert reason stands =
 
 -- ---- reasons against a solution, of one TYPE, and then against a certificate
 
--- against either
+-- a reason against the solution or the certificate
 abbrev pub Both : (Reason → Type 0) → Certificate → Fields → Fields → Reason → Type 0
 Both Own by inst cert reason = Own reason ⊎ StandsAgainstCertificate by inst cert reason
 

@@ -94,7 +94,7 @@ repeated_here nodes seen count lt taken m =
       first = λ earlier low high. m.once earlier low (omega (arith, high));
     }
 
--- what a read of a mark says
+-- the mark of a node, as the code reads it
 pub mark_is : (seen : List Bool) (k : ℕ) (mark value : Bool) → k < length seen → mark ≡ get_or seen k mark → mark ≡ value
     → get_or seen k false ≡ value
 mark_is seen k mark value h read e = get_or_default seen k false mark h ∙ sym read ∙ e

@@ -188,7 +188,7 @@ one_bound_by laws Branches (Some kinds.Potentials) inst cert a b one other = abs
 one_bound_by laws Branches (Some kinds.Branches) inst cert a b one other = absurd one
 one_bound_by laws Branches None inst cert a b one other = absurd one
 
--- a bound, and none
+-- a certificate has a bound or none, not both
 some_or_none : (a : ℤ) → Some a ≡ None → ⊥
 some_or_none a both = grind (arith, both)
 
@@ -309,7 +309,7 @@ never_refused : (inst sol : Fields) (length : ℤ) (reason : Reason) → IsOfLen
 never_refused inst sol length reason one refused =
     subst (λ verdict. HasLength verdict length) (one_alone inst sol one.0 (No reason) one.1 refused) one.2
 
--- no bound comes of other TYPEs
+-- a certificate gives no bound for other TYPEs
 boundless : (by : Certificate) (kind : Option Kind) (inst cert : Fields) (least : ℤ) → is_bounded by kind ≡ false
     → IsBoundBy by kind inst cert least → ⊥
 boundless Potentials (Some kinds.Tsp) inst cert least other bound = absurd (false≢true (sym other))
@@ -354,7 +354,7 @@ alone_routes by inst sol cert (Routes measured routes least bound) length has ac
 alone_routes by inst sol cert (Tour measured bound) length has accepted = absurd accepted
 alone_routes by inst sol cert (No reason) length has accepted = absurd has
 
--- of another TYPE none is
+-- of another TYPE no solution is accepted
 alone_other : (by : Certificate) (kind : Option Kind) (inst sol cert : Fields) (verdict : Verdict) (length : ℤ)
     → kind ≡ inst.kind → is_bounded by kind ≡ false → HasLength verdict length
     → IsCertifiedTourVerdict by inst sol cert verdict → ⊥

@@ -23,7 +23,7 @@ route_stands routes i route lt is = record {
       get_or-flat_map (λ (r : Vec ℕ). r.items) routes i k route 0 lt there ∙ ap (λ (r : Vec ℕ). get_or r.items k 0) (sym is);
 }
 
--- with it there are as many more
+-- with one route more the list has as many nodes more
 pub count_more : (routes : List (Vec ℕ)) (i : ℕ) (route : Vec ℕ) → i < length routes → route ≡ get_or routes i route
     → length (nodes_in (take i routes)) + length route.items ≡ length (nodes_in (take (i + 1) routes))
 count_more [] i route lt is = absurd (omega (arith, lt))
@@ -38,7 +38,7 @@ count_more (r ∷ routes) (suc i) route lt is =
       tail,
     ))
 
--- in the code's terms
+-- the two facts above, with the nodes as the code counts them
 pub stands_here : (routes : List (Vec ℕ)) (i before : ℕ) (route : Vec ℕ) (nodes : List ℕ) → i < length routes
     → route ≡ get_or routes i route
     → before ≡ length (nodes_in (take i routes)) → nodes ≡ route.items
@@ -94,7 +94,7 @@ all_more Q nodes piece before stands so_far all k d less = by_place (cases_lt k 
         ∙ ap (λ i. get_or nodes i 0) (sym is) ∙ stands.same j inside in
         subst Q (sym same) (all j 0 inside)
 
--- the routes as lists
+-- the nodes of the routes, as the definitions list them
 pub nodes_in_is : (routes : List (Vec ℕ)) → nodes_in routes ≡ concat (map (λ r. r.items) routes)
 nodes_in_is [] = refl
 nodes_in_is (r ∷ routes) = ap (λ (xs : List ℕ). r.items ++ xs) (nodes_in_is routes)

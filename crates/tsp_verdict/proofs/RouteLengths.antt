@@ -37,7 +37,7 @@ sum_more sum cost count more size other =
 pub sum_one : (cost : ℤ) → neg_ℤ (pos most_weight) ≤ℤ cost → cost ≤ℤ pos most_weight → IsSumOf 1 cost
 sum_one cost low high = record { low = omega (arith, ints, low); high = omega (arith, ints, high) }
 
--- it is what the code computes
+-- the sum is what the code computes
 pub sum_fits : (sum cost : ℤ) (count more : ℕ) → (count + more) ≤ 2000001 → IsSumOf count sum → IsSumOf more cost
     → to_z w64 (of_z w64 (sum +ℤ to_z w64 (of_z w64 cost))) ≡ sum +ℤ cost
 sum_fits sum cost count more few size other = omega (arith, ints, size.low, size.high, other.low, other.high)

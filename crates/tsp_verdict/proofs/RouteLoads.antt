@@ -14,7 +14,7 @@ use Rattle.tsp_draft.specs.Valid.{IsDemand}
 use Rattle.tsp_theory.specs.Length.{sum_int_by}
 use Rattle.tsp_verdict.specs.Plan.{load_of, demand_of, IsLeastRoutes}
 
--- of the size of this many demands
+-- a sum of this many demands is of this size
 pub record IsLoadOf (count : ℕ) (sum : ℤ) : Type 0 where
   pub low : pos 0 ≤ℤ sum
   pub high : sum ≤ℤ pos (most_demand * count)
@@ -33,7 +33,7 @@ pub sum_step : {X : Type 0} (f : X → ℤ) (so_far total : ℤ) (x : X) (others
 sum_step {X} f so_far total x others rest parts e =
     +ℤ_assoc so_far (f x) (sum_int_by f rest) ∙ subst (λ (xs : List X). so_far +ℤ sum_int_by f xs ≡ total) parts e
 
--- at the end
+-- with no element left, the sum so far is the whole one
 pub sum_end : {X : Type 0} (f : X → ℤ) (so_far total : ℤ) (others : List X) → others ≡ [] → so_far +ℤ sum_int_by f others ≡ total
     → so_far ≡ total
 sum_end {X} f so_far total others none e = sym (+ℤ_idr so_far) ∙ subst (λ (xs : List X). so_far +ℤ sum_int_by f xs ≡ total) none e
@@ -64,7 +64,7 @@ least_of (pos total) (pos capacity) low some = least_is total capacity (omega (a
 least_of (pos total) (negsuc capacity) low some = absurd (omega (arith, ints, some))
 least_of (negsuc total) capacity low some = absurd (omega (arith, ints, low))
 
--- a run of numbers, its first apart
+-- the numbers from a on: a, and those from a + 1 on
 run_parts : (a m : ℕ) → 0 < m → range_with_len a m ≡ a ∷ range_with_len (a + 1) (m - 1)
 run_parts a zero some = absurd (omega (arith, some))
 run_parts a (suc m) some = ap (λ k. a ∷ range_with_len (a + 1) k) (omega arith)

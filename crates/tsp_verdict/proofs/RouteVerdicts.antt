@@ -140,7 +140,7 @@ overload_first inst sol routes demands capacity place are demands_are capacity_i
   none_before = none;
 }
 
--- accepted
+-- where no test finds anything, the plan is accepted
 -- plan: each test found nothing, so no reason applies; `after_loads` for the loads, `none_fewer` for the least number
 pub is_planned : (inst sol : Fields) (seen : List Bool) (size : ℕ) (routes : List (List ℕ)) (demands : List ℤ) (capacity : ℤ)
     (depot : ℕ) (measured : ℤ) (count least : ℕ)

@@ -63,7 +63,7 @@ larger_first inst sol tour n place only n_is none first = record {
   none_before = none;
 }
 
--- where no node is too large
+-- where no node is too large, the reasons up to that are ruled out
 pub none_up_to_repeats : (inst sol : Fields) (tour : List ℕ) → tours_of sol ≡ tour ∷ []
     → NoneOfTourBefore inst sol (NodeOutOfRange 1)
     → All (λ node. node ≤ nodes_of inst) tour

@@ -59,7 +59,7 @@ pub record AreOfFiles (inst tree : Fields) (depot : ℕ) (demands : List ℤ) (c
   pub families_are : families ≡ families_listed tree
   pub steps_are : tree.branches ≡ Some steps
 
--- a file that holds these
+-- a file that holds these numbers
 pub of_files : (inst tree : Fields) (depot : ℕ) (demands : List ℤ) (capacity scale unit : ℤ) (combs : List (Vec (Vec ℕ)))
     (steps : List Step) → FitsSigned w64 capacity → FitsSigned w64 scale → FitsSigned w64 unit
     → depot ≡ depot_of inst → demands ≡ demands_of inst → capacity ≡ capacity_of inst
