@@ -1,6 +1,8 @@
--- Weights with numbers on pairs of nodes: the cut argument for the cycles that use some pairs and avoid others.
--- Source: M. Held and R. M. Karp, The traveling-salesman problem and minimum spanning trees, 1970, with a multiplier for each
--- pair besides those of the nodes.
+-- The bound of a least 1-tree under potentials, and under numbers on pairs that cycles use or avoid. For the law
+-- `adjusted_bounds_bound_cycles` (src/laws.rt), `least_one_tree` (src/tree.rt of tsp_bound), and LeafBound.antt of
+-- tsp_cases.
+-- Source: M. Held and R. M. Karp, The traveling-salesman problem and minimum spanning trees, 1970, with a multiplier for
+-- each pair besides those of the nodes.
 use Rattle.std.specs.Prelude.{◌≡◌, ℕ, ◌≤◌, ◌==◌, ◌&&◌, ◌||◌, Bool, false, if◌then◌else◌, List, [], length, ℤ, pos, ◌+ℤ◌, ◌-ℤ◌, ◌*ℤ◌, ◌≤ℤ◌}
 use Rattle.std.specs.List.{All, AllPairs}
 use Rattle.tsp_format.specs.Nodes.{IsNode}
@@ -11,8 +13,9 @@ use Rattle.tsp_theory.specs.CertificateNumbers.{IsScale, total, IsLeastBound}
 use Rattle.tsp_theory.specs.Tree.{weight_of, IsLeastOneTree}
 use Rattle.tsp_theory.specs.NodeBound.{weight_between, IsNodeBound}
 
--- ---- two nodes with a number
+-- ---- triples: two nodes with a number
 
+-- the pair of a triple
 abbrev pub pair_of : ℕ × ℕ × ℤ → ℕ × ℕ
 pair_of triple = (triple.0, triple.1)
 
@@ -20,14 +23,15 @@ pair_of triple = (triple.0, triple.1)
 abbrev pub is_same_pair : ℕ × ℕ → ℕ × ℕ → Bool
 is_same_pair p q = ((p.0 == q.0) && (p.1 == q.1)) || ((p.1 == q.0) && (p.0 == q.1))
 
--- the number of a triple on two nodes: none where its pair is another one
+-- the number of a triple on two nodes: 0 where its pair is another one
 abbrev pub number_on : ℕ × ℕ × ℤ → ℕ → ℕ → ℤ
 number_on triple i j = if is_same_pair (pair_of triple) (i, j) then triple.2 else pos 0
 
--- the numbers of several triples on two nodes, and of all of them
+-- the numbers of several triples on two nodes, added
 abbrev pub numbers_on : List (ℕ × ℕ × ℤ) → ℕ → ℕ → ℤ
 numbers_on triples i j = sum_int_by (λ triple. number_on triple i j) triples
 
+-- the numbers of all triples, added
 abbrev pub triples_total : List (ℕ × ℕ × ℤ) → ℤ
 triples_total triples = sum_int_by (λ triple. triple.2) triples
 
@@ -42,10 +46,11 @@ pub record AreOnPairs (n : ℕ) (triples : List (ℕ × ℕ × ℤ)) : Type 0 wh
 abbrev pub adjusted : List (ℕ × ℕ × ℤ) → List (ℕ × ℕ × ℤ) → (ℕ → ℕ → ℤ) → ℕ → ℕ → ℤ
 adjusted taken avoided w i j = (w i j -ℤ numbers_on taken i j) +ℤ numbers_on avoided i j
 
--- a cycle has the two nodes of each triple as neighbours, in either direction; of none
+-- a cycle has the two nodes of each triple as neighbours
 abbrev pub UsesEach : List (ℕ × ℕ × ℤ) → List ℕ → Type 0
 UsesEach triples nodes = All (λ triple. AreNeighbours nodes (pair_of triple)) triples
 
+-- a cycle has the two nodes of no triple as neighbours
 abbrev pub UsesNone : List (ℕ × ℕ × ℤ) → List ℕ → Type 0
 UsesNone triples nodes = All (λ triple. AreNeighbours nodes (pair_of triple) → ⊥) triples
 
@@ -78,7 +83,7 @@ AdjustedBoundsBoundCycles = (n : ℕ) (cost : ℕ → ℕ → ℤ) (scale : ℤ)
     → IsAdjustedBound n cost scale potentials taken avoided bound
     → IsCycle n nodes → UsesEach taken nodes → UsesNone avoided nodes → bound ≤ℤ length_of cost nodes
 
--- With no pair taken or avoided it is the bound of the potentials.
+-- Without taken and avoided pairs it is the bound of NodeBound.antt.
 abbrev pub UnadjustedBoundsAreNodeBounds : Type 0
 UnadjustedBoundsAreNodeBounds = (n : ℕ) (cost : ℕ → ℕ → ℤ) (scale : ℤ) (potentials : List ℤ) (bound : ℤ)
     → IsAdjustedBound n cost scale potentials [] [] bound → IsNodeBound n cost scale potentials bound

@@ -1,4 +1,5 @@
--- Cycles, and what comes next on them.
+-- Hamiltonian cycles, their links, and which pairs they use. For the tours of Tour.antt, for every theorem on a bound,
+-- and for `first_unused` (src/fixed.rt of tsp_verdict).
 use Rattle.std.specs.Prelude.{◌≡◌, ◌≢◌, ℕ, Bool, true, false, List, [], ◌∷◌, length, ◌⊎◌}
 use Rattle.std.specs.List.{All, AllPairs, Contains}
 use Rattle.tsp_format.specs.Nodes.{IsNode}
@@ -9,12 +10,12 @@ pub record IsCycle (n : ℕ) (nodes : List ℕ) : Type 0 where
   pub range : All (IsNode n) nodes
   pub once : AllPairs (λ a b. a ≢ b) nodes
 
--- each node with the next one, and the last one with the end
+-- the links from a node through others to an end
 abbrev pub links_to : ℕ → ℕ → List ℕ → List (ℕ × ℕ)
 links_to end node [] = (node, end) ∷ []
 links_to end node (next ∷ nodes) = (node, next) ∷ links_to end next nodes
 
--- each node of a list with the one that comes next, cyclically
+-- the links of a cycle: each node with the one that comes next, the last one with the first
 abbrev pub links : List ℕ → List (ℕ × ℕ)
 links [] = []
 links (first ∷ nodes) = links_to first first nodes
@@ -24,9 +25,10 @@ abbrev pub Uses : Bool → List ℕ → ℕ × ℕ → Type 0
 Uses true nodes (a, b) = Contains (links nodes) (a, b)
 Uses false nodes (a, b) = Contains (links nodes) (a, b) ⊎ Contains (links nodes) (b, a)
 
--- the second comes next after the first; one of the two comes next after the other
+-- the second node comes next after the first
 abbrev pub Follows : List ℕ → ℕ × ℕ → Type 0
 Follows nodes pair = Uses true nodes pair
 
+-- one of the two nodes comes next after the other
 abbrev pub AreNeighbours : List ℕ → ℕ × ℕ → Type 0
 AreNeighbours nodes pair = Uses false nodes pair

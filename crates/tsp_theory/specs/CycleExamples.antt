@@ -1,19 +1,21 @@
--- Small lists of nodes on which the definitions are evaluated. For the laws in src/cycle_examples.rt, and for those in
--- src/examples.rt of tsp_cost. specs/Examples.antt of tsp_verdict re-exports some.
+-- Lists of two to four nodes. For the law `examples_of_cycles` (src/cycle_examples.rt), which says which are cycles and
+-- how long, and for src/examples.rt of tsp_cost. Examples.antt of tsp_verdict re-exports some.
 use Rattle.std.specs.Prelude.{◌≡◌, ℕ, List, [], ◌∷◌, ℤ}
 use Rattle.tsp_theory.specs.Examples.{directed}
 use Rattle.tsp_theory.specs.Length.{length_of}
 
--- a list of two, three or four nodes
+-- a list of two nodes
 abbrev pub two : ℕ → ℕ → List ℕ
 two a b = a ∷ b ∷ []
 
+-- a list of three nodes
 abbrev pub three : ℕ → ℕ → ℕ → List ℕ
 three a b c = a ∷ two b c
 
+-- a list of four nodes
 abbrev pub four : ℕ → ℕ → ℕ → ℕ → List ℕ
 four a b c d = a ∷ three b c d
 
--- so long are these nodes under costs that depend on the direction
+-- the cycle through these nodes has this length under costs that depend on the direction
 abbrev pub HasDirectedLength : List ℕ → ℤ → Type 0
 HasDirectedLength nodes length = length_of directed nodes ≡ length

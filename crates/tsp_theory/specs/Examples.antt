@@ -1,35 +1,40 @@
--- Small costs, trees and duals on which the definitions are evaluated. For the laws in src/examples.rt; specs/CycleExamples.antt
--- imports one.
+-- Small costs, trees and numbers of nodes. For the laws of src/examples.rt, which state 1-trees, duals and bounds worked
+-- out by hand; CycleExamples.antt imports `directed`.
 use Rattle.std.specs.Prelude.{ℕ, ◌+◌, ◌-◌, ◌*◌, ◌/◌, ◌==◌, if◌then◌else◌, min, max, List, [], ◌∷◌, slice_index_or, ℤ, pos, negsuc}
 
 -- symmetric costs, from those between 2 and 1, 3 and 1, 3 and 2, 4 and 1, 4 and 2, 4 and 3
 abbrev pub symmetric_costs : List ℤ → ℕ → ℕ → ℤ
 symmetric_costs costs i j = slice_index_or costs ((max i j - 1) * (max i j - 2) / 2 + (min i j - 1)) (pos 0)
 
--- the points (0,0), (3,0), (3,4) and (0,4), by their straight distances
+-- the straight distances of the points (0,0), (3,0), (3,4) and (0,4)
 abbrev pub rectangle_costs : List ℤ
 rectangle_costs = pos 3 ∷ pos 5 ∷ pos 4 ∷ pos 4 ∷ pos 5 ∷ pos 3 ∷ []
 
+-- the costs between these points
 abbrev pub rectangle : ℕ → ℕ → ℤ
 rectangle = symmetric_costs rectangle_costs
 
--- node 2 is at 1 from each other node, and the others are at 2 from each other; and the same with 10 taken off each cost
+-- node 2 is at 1 from each other node, and the others are at 2 from each other
 abbrev pub star_costs : List ℤ
 star_costs = pos 1 ∷ pos 2 ∷ pos 1 ∷ pos 2 ∷ pos 1 ∷ pos 2 ∷ []
 
+-- the costs between these nodes
 abbrev pub star : ℕ → ℕ → ℤ
 star = symmetric_costs star_costs
 
+-- the same with 10 taken off each cost
 abbrev pub costs_below_zero : List ℤ
 costs_below_zero = negsuc 8 ∷ negsuc 7 ∷ negsuc 8 ∷ negsuc 7 ∷ negsuc 8 ∷ negsuc 7 ∷ []
 
+-- the costs between these nodes
 abbrev pub star_below_zero : ℕ → ℕ → ℤ
 star_below_zero = symmetric_costs costs_below_zero
 
--- three_numbers nodes, by rows: 9999 1 10, 10 9999 2, 3 10 9999
+-- three nodes, by rows: 9999 1 10, 10 9999 2, 3 10 9999
 abbrev pub directed_costs : List ℤ
 directed_costs = pos 9999 ∷ pos 1 ∷ pos 10 ∷ pos 10 ∷ pos 9999 ∷ pos 2 ∷ pos 3 ∷ pos 10 ∷ pos 9999 ∷ []
 
+-- the costs between these nodes, which depend on the direction
 abbrev pub directed : ℕ → ℕ → ℤ
 directed i j = slice_index_or directed_costs (3 * (i - 1) + (j - 1)) (pos 0)
 
@@ -37,20 +42,23 @@ directed i j = slice_index_or directed_costs (3 * (i - 1) + (j - 1)) (pos 0)
 abbrev pub with_loops : ℕ → ℕ → ℤ
 with_loops i j = if i == j then negsuc 0 else pos 1
 
--- numbers of three_numbers and of four_numbers nodes
+-- numbers of three nodes
 abbrev pub three_numbers : ℤ → ℤ → ℤ → List ℤ
 three_numbers a b c = a ∷ b ∷ c ∷ []
 
+-- the number 0 of each of three nodes
 abbrev pub three_zeros : List ℤ
 three_zeros = three_numbers (pos 0) (pos 0) (pos 0)
 
+-- numbers of four nodes
 abbrev pub four_numbers : ℤ → ℤ → ℤ → ℤ → List ℤ
 four_numbers a b c d = a ∷ three_numbers b c d
 
+-- the number 0 of each of four nodes
 abbrev pub zeros : List ℤ
 zeros = four_numbers (pos 0) (pos 0) (pos 0) (pos 0)
 
--- one unit on node 2
+-- the number 1 of node 2, and 0 of the others
 abbrev pub one_on_two : List ℤ
 one_on_two = four_numbers (pos 0) (pos 1) (pos 0) (pos 0)
 

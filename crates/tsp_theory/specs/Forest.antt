@@ -1,28 +1,29 @@
--- Trees over the nodes 2..n that are put together by least pairs: each pair is a least one that leaves a part which no
--- earlier pair leaves. In R. C. Prim's growth the part is the grown one, in O. Boruvka's rounds (1926) any component of the
--- earlier pairs. Source: R. E. Tarjan, Data structures and network algorithms, 1983, chapter 6: the blue rule.
+-- Least trees over the nodes 2..n that are put together by least pairs: each pair is a least one that leaves a set of
+-- nodes which no earlier pair leaves. For `grow` (src/part.rt of tsp_bound, src/growing.rt of tsp_tree). R. C. Prim's
+-- growth takes the set of grown nodes, O. Boruvka's rounds (1926) any component. Source: R. E. Tarjan, Data structures
+-- and network algorithms, 1983, chapter 6: the blue rule.
 use Rattle.std.specs.Prelude.{◌≡◌, ℕ, ◌+◌, Bool, false, List, [], ◌∷◌, ◌++◌, length, ℤ}
 use Rattle.std.specs.List.{All}
 use Rattle.tsp_theory.specs.Growth.{IsLeastLeaving}
 use Rattle.tsp_theory.specs.Tree.{IsInner, crosses}
 
--- no pair leaves the part
+-- no pair leaves the set `part`
 abbrev pub IsUncrossed : (ℕ → Bool) → List (ℕ × ℕ) → Type 0
 IsUncrossed part pairs = All (λ pair. crosses part pair ≡ false) pairs
 
--- a least pair that leaves a part which no earlier pair leaves
+-- a least pair that leaves some set of nodes which no earlier pair leaves
 pub record IsLeastJoin (Node : ℕ → Type 0) (w : ℕ → ℕ → ℤ) (earlier : List (ℕ × ℕ)) (pair : ℕ × ℕ) : Type 0 where
   pub part : ℕ → Bool
   pub uncrossed : IsUncrossed part earlier
   pub from : Node pair.0
   pub leaving : IsLeastLeaving Node w part pair
 
--- the pairs, each a least join of those before it
+-- each pair is a least join of the pairs before it
 abbrev pub AreLeastJoins : (ℕ → Type 0) → (ℕ → ℕ → ℤ) → List (ℕ × ℕ) → List (ℕ × ℕ) → Type 0
 AreLeastJoins Node w earlier [] = Unit {0}
 AreLeastJoins Node w earlier (pair ∷ pairs) = IsLeastJoin Node w earlier pair × AreLeastJoins Node w (earlier ++ pair ∷ []) pairs
 
--- least joins over 2..n, as many as a tree has
+-- least joins over the nodes 2..n, as many as a tree over them has
 pub record IsWholeForest (n : ℕ) (w : ℕ → ℕ → ℤ) (added : List (ℕ × ℕ)) : Type 0 where
   pub joins : AreLeastJoins (IsInner n) w [] added
   pub count : 2 + length added ≡ n

@@ -1,8 +1,9 @@
--- How long a list of nodes is.
+-- The length of a list of nodes as a cycle. For `tour_length` and `canonical_length` (src/length.rt), for the meanings
+-- of `yes` (Accepted.antt of tsp_judge), and for every theorem on a bound.
 use Rattle.std.specs.Prelude.{ℕ, List, [], ◌∷◌, ℤ, pos, ◌+ℤ◌}
 use Rattle.tsp_theory.specs.Cycle.{links}
 
--- the sum of whole numbers over a list
+-- the sum of an integer of each element of a list
 abbrev pub sum_int_by : {X : Type 0} → (X → ℤ) → List X → ℤ
 sum_int_by f [] = pos 0
 sum_int_by f (x ∷ xs) = f x +ℤ sum_int_by f xs

@@ -1,4 +1,6 @@
--- Potentials of nodes, the weights that they give, and the bound of a least 1-tree.
+-- The weights between nodes under potentials, and the bound of a least 1-tree. For `Potentials` (src/potentials.rt of
+-- tsp_bound), and for the law `node_bounds_bound_cycles` (src/laws.rt). Adjusted.antt has the bound with numbers on
+-- pairs too.
 -- Source: M. Held and R. M. Karp, The traveling-salesman problem and minimum spanning trees, 1970.
 use Rattle.std.specs.Prelude.{◌≡◌, ℕ, ◌≤◌, ◌+◌, ◌*◌, List, length, ℤ, pos, ◌+ℤ◌, ◌-ℤ◌, ◌*ℤ◌, ◌≤ℤ◌}
 use Rattle.tsp_format.specs.Limits.{most_scale, most_weight, most_potential}
@@ -8,11 +10,11 @@ use Rattle.tsp_theory.specs.Length.{length_of}
 use Rattle.tsp_theory.specs.CertificateNumbers.{IsScale, entry, total, IsLeastBound}
 use Rattle.tsp_theory.specs.Tree.{weight_of, IsLeastOneTree}
 
--- the weight between two nodes: the cost at the scale, and the potentials of both
+-- the weight between two nodes: the cost times the scale, and the potentials of both
 abbrev pub weight_between : ℤ → List ℤ → (ℕ → ℕ → ℤ) → ℕ → ℕ → ℤ
 weight_between scale potentials cost i j = (scale *ℤ cost i j) +ℤ (entry potentials i +ℤ entry potentials j)
 
--- how large it can be
+-- how large that weight is at most
 abbrev pub most_between : ℕ
 most_between = most_scale * most_weight + 2 * most_potential
 

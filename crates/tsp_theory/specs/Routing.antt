@@ -1,5 +1,6 @@
--- Routing problems and their plans. Source: TSPLIB 95 (G. Reinelt), capacitated vehicle routing: CAPACITY, DEMAND_SECTION,
--- DEPOT_SECTION.
+-- Routing problems and their plans of routes. For the meanings of `yes` (Accepted.antt of tsp_judge), Problems.antt of
+-- tsp_cost, and the bounds of tsp_routing. Source: TSPLIB 95 (G. Reinelt), capacitated vehicle routing: CAPACITY,
+-- DEMAND_SECTION, DEPOT_SECTION.
 use Rattle.std.specs.Prelude.{◌≢◌, ℕ, ◌-◌, ◌≤◌, List, ◌∷◌, slice_index_or, ℤ, pos, ◌*ℤ◌, ◌≤ℤ◌}
 use Rattle.std.specs.List.{All, AllPairs, Contains, concat}
 use Rattle.tsp_format.specs.Nodes.{IsNode}
@@ -18,7 +19,7 @@ pub record RoutingProblem : Type 0 where
 abbrev pub IsCustomer : ℕ → ℕ → ℕ → Type 0
 IsCustomer n depot node = IsNode n node × (node ≢ depot)
 
--- Routes that hold each customer exactly once and nothing else, each with demands that sum to at most the capacity.
+-- Routes that have each customer exactly once and no other node, each with demands that sum to at most the capacity.
 pub record IsPlan (problem : RoutingProblem) (routes : List (List ℕ)) : Type 0 where
   pub customers : All (IsCustomer problem.nodes problem.depot) (concat routes)
   pub once : AllPairs (λ a b. a ≢ b) (concat routes)

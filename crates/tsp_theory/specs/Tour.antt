@@ -1,5 +1,5 @@
--- Travelling salesman problems, their tours, and bounds on the lengths of these. Source: TSPLIB 95 (G. Reinelt),
--- FIXED_EDGES_SECTION.
+-- Travelling salesman problems, their tours, and bounds on the lengths of these. For the meanings of `yes`
+-- (Accepted.antt of tsp_judge), and for Problems.antt of tsp_cost. Source: TSPLIB 95 (G. Reinelt), FIXED_EDGES_SECTION.
 use Rattle.std.specs.Prelude.{ℕ, Bool, List, ℤ, ◌≤ℤ◌}
 use Rattle.std.specs.List.{All}
 use Rattle.tsp_theory.specs.Cycle.{IsCycle, Uses}
@@ -22,5 +22,6 @@ pub record IsTour (problem : Problem) (tour : List ℕ) : Type 0 where
 abbrev pub BoundsTours : Problem → ℤ → Type 0
 BoundsTours problem bound = (tour : List ℕ) → IsTour problem tour → bound ≤ℤ length_of problem.cost tour
 
+-- the problem has no tour
 abbrev pub HasNoTour : Problem → Type 0
 HasNoTour problem = (tour : List ℕ) → IsTour problem tour → ⊥

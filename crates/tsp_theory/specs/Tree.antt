@@ -1,4 +1,5 @@
--- 1-trees. A tree is said by its cuts: each part of its nodes that is neither empty nor all of them is left by a pair.
+-- 1-trees, by their cuts: a pair leaves each set of the nodes 2..n that is neither empty nor all of them. For the bounds
+-- of NodeBound.antt and Adjusted.antt, and for `least_one_tree` (src/tree.rt of tsp_bound).
 -- Source: M. Held and R. M. Karp, The traveling-salesman problem and minimum spanning trees, 1970.
 use Rattle.std.specs.Prelude.{◌≡◌, ◌≢◌, ℕ, ◌==◌, ◌<◌, ◌≤◌, Bool, true, false, not, if◌then◌else◌, List, [], ◌∷◌, length, ℤ, pos, ◌≤ℤ◌}
 use Rattle.std.specs.List.{All, list_any, filter}
@@ -12,6 +13,7 @@ IsPair n pair = (1 ≤ pair.0) × (pair.0 < pair.1) × (pair.1 ≤ n)
 abbrev pub IsInner : ℕ → ℕ → Type 0
 IsInner n node = (2 ≤ node) × (node ≤ n)
 
+-- the pair is an edge at node 1
 abbrev pub is_at_one : ℕ × ℕ → Bool
 is_at_one pair = pair.0 == 1
 
@@ -19,11 +21,11 @@ is_at_one pair = pair.0 == 1
 abbrev pub inner_pairs : List (ℕ × ℕ) → List (ℕ × ℕ)
 inner_pairs pairs = filter (λ pair. not (is_at_one pair)) pairs
 
--- one end of the pair is in the part, and one isn't
+-- one end of the pair is in the set `part`, and one isn't
 abbrev pub crosses : (ℕ → Bool) → ℕ × ℕ → Bool
 crosses part pair = if part pair.0 then not (part pair.1) else part pair.1
 
--- 1 for two nodes of which one is in the part, else 0
+-- 1 for two nodes of which one is in the set, else 0
 abbrev pub crossing : (ℕ → Bool) → ℕ → ℕ → ℤ
 crossing part i j = if crosses part (i, j) then pos 1 else pos 0
 

@@ -1,11 +1,11 @@
--- Files that are beside the standard streams.
+-- Opened files that aren't a standard stream. For `opened` of `Host` (src/main.rt), which opens the files of a task.
 use Rattle.std.specs.Prelude.{ℤ, pos, ◌<ℤ◌}
 use Rattle.std.specs.Fd.{file_raw_fd}
 use Rattle.std.specs.declared.fs.File.{File}
 use Rattle.tsp_run.specs.declared.input_file.InputFile.{InputFile}
 use Rattle.tsp_run.specs.declared.input_file.InputFile.TheVariants.{Input, Opened, Missing}
 
--- the number of the file's descriptor is above 2, the number of standard error
+-- the number of the file's descriptor is above 2, which is that of standard error
 abbrev pub IsBesideStreams : File → Type 0
 IsBesideStreams file = pos 2 <ℤ file_raw_fd file
 

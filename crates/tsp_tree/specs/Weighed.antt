@@ -1,8 +1,8 @@
--- What a least 1-tree weighs.
+-- The weight of a least 1-tree. For `least_weight` (src/tree.rt), and for LeafWeight.antt of tsp_branch.
 use Rattle.std.specs.Prelude.{◌≡◌, ℕ, List, ℤ}
 use Rattle.tsp_theory.specs.Tree.{weight_of, IsLeastOneTree}
 
--- the weight of a 1-tree than which none weighs less
+-- the weight of a 1-tree; no 1-tree weighs less
 pub record IsLeastWeight (n : ℕ) (w : ℕ → ℕ → ℤ) (weight : ℤ) : Type 0 where
   pub tree : List (ℕ × ℕ)
   pub least : IsLeastOneTree n w tree

@@ -1,5 +1,5 @@
--- The verdict on an instance with a certificate and without a solution: the first reason against either, or what the certificate
--- gives.
+-- The verdict on an instance and a certificate without a solution: the first reason against either, or the certificate's
+-- bound. For `judge_bound` (src/bound_verdict.rt), Basis.antt, and BoundRun.antt of tsp_judge.
 use Rattle.std.specs.Prelude.{◌≡◌, ◌≢◌, ◌⊎◌, ◌<◌, ◌≤◌, length, Option, Some, pos}
 use Rattle.tsp_format.specs.declared.kinds.Kind.{Kind}
 use Rattle.tsp_format.specs.declared.kinds.Kind.TheVariants as kinds
@@ -24,6 +24,7 @@ StandsAgainstTouring instance (NotSymmetric i j) = (instance.kind ≡ Some kinds
     × IsFirstAsymmetric (nodes_of instance) (cost instance) (i, j)
 StandsAgainstTouring instance reason = ⊥
 
+-- no such reason applies
 abbrev pub NoneAgainstTouring : Fields → Type 0
 NoneAgainstTouring instance = (reason : Reason) → StandsAgainstTouring instance reason → ⊥
 
@@ -35,27 +36,30 @@ StandsAgainstRouting instance DepotDemand = demand_of (demands_of instance) (dep
 StandsAgainstRouting instance FixedEdgesInRoutes = 1 ≤ length (fixed_of instance)
 StandsAgainstRouting instance reason = ⊥
 
+-- no such reason applies
 abbrev pub NoneAgainstRouting : Fields → Type 0
 NoneAgainstRouting instance = (reason : Reason) → StandsAgainstRouting instance reason → ⊥
 
--- either, by the TYPE of the instance
+-- when a reason applies to an instance of this TYPE, whatever the solution
 abbrev pub StandsAgainstInstanceBy : Option Kind → Fields → Reason → Type 0
 StandsAgainstInstanceBy (Some kinds.Cvrp) instance reason = StandsAgainstRouting instance reason
 StandsAgainstInstanceBy other instance reason = StandsAgainstTouring instance reason
 
+-- when a reason applies to the instance, whatever the solution
 abbrev pub StandsAgainstInstance : Fields → Reason → Type 0
 StandsAgainstInstance instance reason = StandsAgainstInstanceBy instance.kind instance reason
 
+-- no such reason applies
 abbrev pub NoneAgainstInstance : Fields → Type 0
 NoneAgainstInstance instance = (reason : Reason) → StandsAgainstInstance instance reason → ⊥
 
--- against the instance, or against the certificate
+-- when a reason applies to the instance or to the certificate
 abbrev pub StandsAgainstBounded : Certificate → Fields → Fields → Reason → Type 0
 StandsAgainstBounded by instance certificate reason = StandsAgainstInstance instance reason
     ⊎ StandsAgainstCertificate by instance certificate reason
 
--- Where no reason applies, what the certificate gives: a bound, which no solution of the instance is below, or that the instance
--- has no solution. Or the first reason that applies.
+-- Bound: no reason applies, and this is the certificate's bound, which no solution is below. NoSolution: no reason
+-- applies, and the instance has no solution. No: the first reason that applies.
 abbrev pub IsBoundVerdict : Certificate → Fields → Fields → BoundVerdict → Type 0
 IsBoundVerdict by instance certificate (bounds.Bound bound) =
     ((reason : Reason) → StandsAgainstBounded by instance certificate reason → ⊥) × IsCertified by instance certificate bound

@@ -1,5 +1,6 @@
--- The verdict on a solution with a certificate: the first reason against either, or a tour or routes, their length and the bound.
--- Certificates differ only in their reasons, and where their numbers become a bound, by the TYPE of the instance.
+-- The bound of a certificate, by its kind and the TYPE of the instance, and the verdict on a solution with a
+-- certificate. For `bound_by` (src/certificate_bound.rt), SolutionVerdict.antt, and the meanings of `yes` (Accepted.antt
+-- of tsp_judge). The files `..Certificate.antt` have the reasons and the bound of each kind.
 use Rattle.std.specs.Prelude.{◌≡◌, ◌⊎◌, ℕ, Bool, true, false, List, [], ◌∷◌, Option, None, Some, ◌^◌, ℤ, pos, neg_ℤ}
 use Rattle.tsp_format.specs.declared.kinds.Kind.{Kind}
 use Rattle.tsp_format.specs.declared.kinds.Kind.TheVariants as kinds
@@ -33,7 +34,7 @@ abbrev pub kind_of : Certificate → Kind
 kind_of Potentials = kinds.Potentials
 kind_of Branches = kinds.Branches
 
--- the TYPEs whose tours or routes have a bound by it
+-- the TYPEs of instances whose solutions it bounds
 abbrev pub is_bounded : Certificate → Option Kind → Bool
 is_bounded by (Some kinds.Tsp) = true
 is_bounded by (Some kinds.Atsp) = true
@@ -60,58 +61,63 @@ HasNoBoundBy Branches (Some kinds.Atsp) instance certificate = HasNoBoundByBranc
 HasNoBoundBy Branches (Some kinds.Cvrp) instance certificate = HasBoundByWalks instance certificate None
 HasNoBoundBy by other instance certificate = ⊥
 
+-- it gives the instance no bound
 abbrev pub HasNoBound : Certificate → Fields → Fields → Type 0
 HasNoBound by instance certificate = HasNoBoundBy by instance.kind instance certificate
 
--- when a reason applies to it; reasons of tours, of routes and of other certificates never do
+-- when a reason applies to the certificate, for an instance of this TYPE; reasons of tours, of routes and of other
+-- certificates never do
 abbrev pub StandsAgainstCertificateBy : Certificate → Option Kind → Fields → Fields → Reason → Type 0
 StandsAgainstCertificateBy Potentials kind instance certificate reason = StandsAgainstPotentials instance certificate reason
 StandsAgainstCertificateBy Branches (Some kinds.Cvrp) instance certificate reason = StandsAgainstWalks instance certificate reason
 StandsAgainstCertificateBy Branches other instance certificate reason = StandsAgainstBranches instance certificate reason
 
+-- when a reason applies to the certificate
 abbrev pub StandsAgainstCertificate : Certificate → Fields → Fields → Reason → Type 0
 StandsAgainstCertificate by instance certificate reason = StandsAgainstCertificateBy by instance.kind instance certificate reason
 
--- ---- what it says of solutions, by the TYPE of the instance
+-- ---- the solutions of an instance, by its TYPE
 
--- no tour of the instance is shorter than the bound; or no plan whose routes each have a customer
+-- no tour of the instance, or no filled plan, is shorter than the bound
 abbrev pub BoundsSolutionsBy : Option Kind → Fields → ℤ → Type 0
 BoundsSolutionsBy (Some kinds.Cvrp) instance bound = BoundsPlans (routing_of instance) bound
 BoundsSolutionsBy other instance bound = BoundsTours (problem_of instance) bound
 
+-- no solution of the instance is shorter than the bound
 abbrev pub BoundsSolutions : Fields → ℤ → Type 0
 BoundsSolutions instance bound = BoundsSolutionsBy instance.kind instance bound
 
--- the instance has no tour; or no such plan
+-- the instance has no tour, or no filled plan
 abbrev pub HasNoSolutionBy : Option Kind → Fields → Type 0
 HasNoSolutionBy (Some kinds.Cvrp) instance = HasNoPlan (routing_of instance)
 HasNoSolutionBy other instance = HasNoTour (problem_of instance)
 
+-- the instance has no solution
 abbrev pub HasNoSolution : Fields → Type 0
 HasNoSolution instance = HasNoSolutionBy instance.kind instance
 
--- the rank of the first reason against it that needs memory
+-- the rank of the first reason against the certificate that needs memory
 abbrev pub first_with_memory : Certificate → ℕ
 first_with_memory Potentials = rank_of (MultiplierNotFixed 1)
 first_with_memory Branches = rank_of (BadComb 1)
 
--- no reason applies to it that is found without memory
+-- no reason applies to the certificate that is found without memory
 abbrev pub NoneWithoutMemory : Certificate → Fields → Fields → Type 0
 NoneWithoutMemory by instance certificate = NoneBefore (StandsAgainstCertificate by instance certificate) (first_with_memory by)
 
 -- ---- its bound
 
--- how large a bound is at most: sums with it fit 128 bits
+-- a bound so small that sums with it fit 128 bits
 abbrev pub IsBoundFitting : ℤ → Type 0
 IsBoundFitting bound = IsFromTo (neg_ℤ (pos (2 ^ 100))) (pos (2 ^ 100)) bound
 
--- the bound that the certificate gives, which no solution is below, and sums with which fit 128 bits
+-- the certificate's bound, which no solution is below
 abbrev pub IsCertified : Certificate → Fields → Fields → ℤ → Type 0
 IsCertified by instance certificate bound = IsBoundOf by instance certificate bound × BoundsSolutions instance bound
     × IsBoundFitting bound
 
--- What a certificate gives to which no reason applies: a bound, or that the instance has no solution. Or the first reason that
--- applies.
+-- What a certificate gives, of an instance to which no reason applies: a bound, or that there is no solution, or the
+-- first reason against the certificate.
 abbrev pub FindsBound : Certificate → Fields → Fields → BoundVerdict → Type 0
 FindsBound by instance certificate (bounds.Bound bound) =
     ((reason : Reason) → StandsAgainstCertificate by instance certificate reason → ⊥) × IsCertified by instance certificate bound
@@ -122,11 +128,12 @@ FindsBound by instance certificate (bounds.No reason) = IsFirstReason (StandsAga
 
 -- ---- the verdict on a tour
 
--- against the tour, or against the certificate
+-- when a reason applies to the tour or to the certificate
 abbrev pub StandsAgainstCertified : Certificate → Fields → Fields → Fields → Reason → Type 0
 StandsAgainstCertified by instance solution certificate reason = StandsAgainstTour instance solution reason
     ⊎ StandsAgainstCertificate by instance certificate reason
 
+-- the first such reason
 abbrev pub IsFirstAgainstCertified : Certificate → Fields → Fields → Fields → Reason → Type 0
 IsFirstAgainstCertified by instance solution certificate reason = IsFirstReason
     (StandsAgainstCertified by instance solution certificate) reason
@@ -145,7 +152,7 @@ pub record IsCertifiedTour (by : Certificate) (instance solution certificate : F
   pub below_tours : BoundsTours (problem_of instance) least
   pub sized : IsBoundFitting least
 
--- Rejected: the reason is the first one that applies. Accepted: none applies, and the tour is bounded so.
+-- No: the first reason that applies. Tour: no reason applies, and the tour is accepted with the bound.
 abbrev pub IsCertifiedTourVerdict : Certificate → Fields → Fields → Fields → Verdict → Type 0
 IsCertifiedTourVerdict by instance solution certificate (verdicts.No reason) = IsFirstAgainstCertified by instance solution
     certificate reason
@@ -156,13 +163,13 @@ IsCertifiedTourVerdict by instance solution certificate (verdicts.Routes length_
 
 -- ---- the verdict on routes
 
--- against the routes, or against the certificate
+-- when a reason applies to the routes or to the certificate
 abbrev pub StandsAgainstCertifiedRoutes : Certificate → Fields → Fields → Fields → Reason → Type 0
 StandsAgainstCertifiedRoutes by instance solution certificate reason = StandsAgainstRoutes instance solution reason
     ⊎ StandsAgainstCertificate by instance certificate reason
 
--- Accepted: the routes are planned as without a certificate, and the bound is that of the certificate; every plan of the instance
--- whose routes each have a customer is at least as long as the bound.
+-- Accepted: the routes are a plan as without a certificate, and the bound is that of the certificate; every filled plan
+-- of the instance is at least as long as the bound.
 pub record AreCertifiedRoutes (by : Certificate) (instance solution certificate : Fields) (length_is : ℤ) (routes fewest : ℕ)
     (bound : Option ℤ) : Type 0 where
   pub planned : IsPlanned instance (tours_of solution) length_is routes fewest
@@ -172,7 +179,7 @@ pub record AreCertifiedRoutes (by : Certificate) (instance solution certificate 
   pub below_plans : BoundsPlans (routing_of instance) least
   pub sized : IsBoundFitting least
 
--- Rejected: the reason is the first one that applies. Accepted: none applies, and the routes are bounded so.
+-- No: the first reason that applies. Routes: no reason applies, and they are accepted with the bound.
 abbrev pub IsCertifiedRoutesVerdict : Certificate → Fields → Fields → Fields → Verdict → Type 0
 IsCertifiedRoutesVerdict by instance solution certificate (verdicts.No reason) =
     IsFirstReason (StandsAgainstCertifiedRoutes by instance solution certificate) reason
@@ -183,12 +190,14 @@ IsCertifiedRoutesVerdict by instance solution certificate (verdicts.Tour length_
 
 -- ---- the verdict, by the TYPE of the instance
 
+-- the verdict for an instance of this TYPE
 abbrev pub IsCertifiedVerdictBy : Option Kind → Certificate → Fields → Fields → Fields → Verdict → Type 0
 IsCertifiedVerdictBy (Some kinds.Cvrp) by instance solution certificate verdict =
     IsCertifiedRoutesVerdict by instance solution certificate verdict
 IsCertifiedVerdictBy other by instance solution certificate verdict =
     IsCertifiedTourVerdict by instance solution certificate verdict
 
+-- the verdict on a solution with a certificate
 abbrev pub IsCertifiedVerdict : Certificate → Fields → Fields → Fields → Verdict → Type 0
 IsCertifiedVerdict by instance solution certificate verdict =
     IsCertifiedVerdictBy instance.kind by instance solution certificate verdict

@@ -1,5 +1,5 @@
--- Small instances and solutions on which the definitions are evaluated. For the laws in src/examples.rt, src/verdict_examples.rt,
--- src/claim_examples.rt and src/strict.rt, and for those in src/run_examples.rt of tsp_judge.
+-- Small instances, solutions and certificates. For the laws of src/examples.rt, src/verdict_examples.rt,
+-- src/claim_examples.rt and src/strict.rt, which state the verdicts on them, and for src/run_examples.rt of tsp_judge.
 use Rattle.std.specs.Prelude.{codes, ℕ, ◌<◌, List, [], ◌∷◌, Option, None, Some, ℤ, pos}
 use Rattle.tsp_format.specs.declared.kinds.Kind.{Kind}
 use Rattle.tsp_format.specs.declared.kinds.Kind.TheVariants as kinds
@@ -13,11 +13,11 @@ use Rattle.tsp_verdict.specs.Reasons.{rank_of}
 abbrev pub instance_with : Kind → ℕ → List (ℕ × ℕ) → Fields
 instance_with kind n fixed = record blank_fields { kind = Some kind; dimension = Some n; fixed = Some fixed }
 
--- one with a line of an unknown keyword
+-- an instance with a line of an unknown keyword
 abbrev pub with_unknown : Kind → ℕ → Fields
 with_unknown kind n = record (instance_with kind n []) { others = (codes "VEHICLES", codes "5") ∷ [] }
 
--- one of routes, with these depots, this demand of node 1 and of each of the nodes 2, 3 and 4, and a capacity
+-- a CVRP with these depots, this demand of node 1 and of each of the nodes 2, 3 and 4, and a capacity
 abbrev pub vehicles : List ℕ → ℤ → ℤ → ℤ → Fields
 vehicles depots first demand capacity = record blank_fields {
   kind = Some kinds.Cvrp;
@@ -27,18 +27,19 @@ vehicles depots first demand capacity = record blank_fields {
   depots = Some depots;
 }
 
--- those whose depot is node 1, with demands of 4 elsewhere
+-- one whose depot is node 1, with demands of 4 elsewhere
 abbrev pub carrying : ℤ → Fields
 carrying capacity = vehicles (1 ∷ []) (pos 0) (pos 4) capacity
 
--- a solution; one that states its number of nodes
+-- a solution
 abbrev pub solution : List (List ℕ) → Fields
 solution tours = record blank_fields { kind = Some kinds.Tour; tours = Some tours }
 
+-- a solution that states its number of nodes
 abbrev pub sized : ℕ → List (List ℕ) → Fields
 sized n tours = record (solution tours) { dimension = Some n }
 
--- a certificate for this many nodes, with these numbers of nodes, of rows and of columns
+-- potentials for this many nodes: numbers of nodes, of rows and of columns
 abbrev pub potentials_file : ℕ → Option (List ℤ) → Option (List ℤ) → Option (List ℤ) → Fields
 potentials_file n numbers rows columns = record blank_fields {
   kind = Some kinds.Potentials;
@@ -48,20 +49,23 @@ potentials_file n numbers rows columns = record blank_fields {
   column_potentials = columns;
 }
 
+-- potentials of nodes, without numbers
 abbrev pub of_nodes : ℕ → Fields
 of_nodes n = potentials_file n (Some []) None None
 
+-- potentials of rows alone
 abbrev pub of_rows : ℕ → Fields
 of_rows n = potentials_file n None (Some []) None
 
+-- potentials of rows and of columns
 abbrev pub of_both : ℕ → Fields
 of_both n = potentials_file n None (Some []) (Some [])
 
--- one of four nodes, with these multipliers of fixed pairs
+-- potentials of four nodes, with these multipliers of fixed pairs
 abbrev pub multiplying : List (ℕ × ℕ × ℤ) → Fields
 multiplying triples = record (of_nodes 4) { fixed_potentials = Some triples }
 
--- a certificate by branching for this many nodes, with these combs and steps
+-- branches for this many nodes, with these families and steps
 abbrev pub branching : ℕ → List (List (List ℕ)) → List Step → Fields
 branching n combs steps = record blank_fields {
   kind = Some kinds.Branches;
@@ -70,40 +74,44 @@ branching n combs steps = record blank_fields {
   branches = Some steps;
 }
 
--- two leaves that change no number, and three
+-- two leaves that change no number
 abbrev pub two_leaves : List Step
 two_leaves = Leaf [] ∷ Leaf [] ∷ []
 
+-- three such leaves
 abbrev pub three_leaves : List Step
 three_leaves = Leaf [] ∷ two_leaves
 
--- a tree of two leaves, both with the potential of a fifth node
+-- a tree of two leaves over four nodes, both with the potential of a fifth node
 abbrev pub bad_leaves : List Step
 bad_leaves = Branch 1 2 ∷ Leaf ((5, pos 1) ∷ []) ∷ Leaf ((5, pos 1) ∷ []) ∷ []
 
--- certificates at a scale of 2: by nodes and a multiplier, by rows and columns, and by a single leaf
+-- potentials of nodes and a multiplier, at a scale of 2
 abbrev pub halves_of_nodes : Fields
 halves_of_nodes = record (potentials_file 3 (Some (pos 1 ∷ pos 0 ∷ pos 3 ∷ [])) None None) {
   scale = Some (pos 2);
   fixed_potentials = Some ((1, 2, pos 5) ∷ []);
 }
 
+-- potentials of rows and columns, at a scale of 2
 abbrev pub halves_of_rows : Fields
 halves_of_rows =
     record (potentials_file 3 None (Some (pos 1 ∷ pos 2 ∷ pos 4 ∷ [])) (Some (pos 0 ∷ pos 1 ∷ pos 1 ∷ [])))
     { scale = Some (pos 2) }
 
+-- branches with a single leaf, at a scale of 2
 abbrev pub halves_of_leaf : Fields
 halves_of_leaf = record (branching 3 [] (Leaf [] ∷ [])) { scale = Some (pos 2) }
 
--- two sets of four nodes, of which the first has a node twice
+-- a family of two sets, the first of which has a node twice
 abbrev pub node_twice : List (List ℕ)
 node_twice = (1 ∷ 2 ∷ 1 ∷ []) ∷ (1 ∷ 3 ∷ []) ∷ []
 
--- a single tour, and two routes
+-- a solution of one tour
 abbrev pub lone : List ℕ → Fields
 lone tour = solution (tour ∷ [])
 
+-- a solution of two routes
 abbrev pub both : List ℕ → List ℕ → Fields
 both first second = solution (first ∷ second ∷ [])
 

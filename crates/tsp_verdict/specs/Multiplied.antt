@@ -1,4 +1,5 @@
--- Multipliers of fixed pairs: the triples whose pair isn't fixed, and those whose pair an earlier one has.
+-- Which multipliers of a file are on a pair that isn't fixed, or on the pair of an earlier one. For `first_outside` and
+-- `first_repeated_pair` (src/multiplier_pairs.rt), and for PotentialsCertificate.antt.
 use Rattle.std.specs.Prelude.{◌≡◌, ℕ, ◌-◌, ◌<◌, ◌≤◌, true, List, slice_index_or, ℤ, pos, ◌⊎◌}
 use Rattle.std.specs.List.{All, Contains}
 use Rattle.tsp_theory.specs.Adjusted.{pair_of, is_same_pair}
@@ -7,11 +8,11 @@ use Rattle.tsp_theory.specs.Adjusted.{pair_of, is_same_pair}
 abbrev pub IsListedEitherWay : List (ℕ × ℕ) → ℕ × ℕ → Type 0
 IsListedEitherWay pairs pair = Contains pairs pair ⊎ Contains pairs (pair.1, pair.0)
 
--- so is that of each triple
+-- the pair of each triple is listed so
 abbrev pub AreListed : List (ℕ × ℕ) → List (ℕ × ℕ × ℤ) → Type 0
 AreListed pairs triples = All (λ triple. IsListedEitherWay pairs (pair_of triple)) triples
 
--- the pair of the triple at a place; places count from 1
+-- the pair of the triple at a place, counted from 1
 abbrev pub pair_at : List (ℕ × ℕ × ℤ) → ℕ → ℕ × ℕ
 pair_at triples place = pair_of (slice_index_or triples (place - 1) (0, 0, pos 0))
 

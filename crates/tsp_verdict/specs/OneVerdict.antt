@@ -1,4 +1,5 @@
--- Files have one verdict: what is said of a verdict determines it, for every TYPE, certificate and claim.
+-- That files have one verdict, one bound and one basis, for every TYPE, certificate and claim. For the law
+-- `files_have_one_verdict` (src/one_verdict.rt).
 use Rattle.std.specs.Prelude.{◌≡◌, Option, ℤ}
 use Rattle.tsp_draft.specs.Fields.{Fields}
 use Rattle.tsp_task.specs.declared.basis.Basis.{Basis}
@@ -15,12 +16,12 @@ FilesHaveOneVerdict = (given : Option (Certificate × Fields)) (claimed : Option
     (one other : Verdict) → IsVerdictWith given claimed instance solution one
     → IsVerdictWith given claimed instance solution other → one ≡ other
 
--- An instance and a certificate have one bound, or none, or one first reason.
+-- An instance and a certificate have one bound, or no solution, or one first reason.
 abbrev pub FilesHaveOneBound : Type 0
 FilesHaveOneBound = (by : Certificate) (instance certificate : Fields) (one other : BoundVerdict)
     → IsBoundVerdict by instance certificate one → IsBoundVerdict by instance certificate other → one ≡ other
 
--- What is known of all solutions of an instance is one thing.
+-- An instance has one basis, with a certificate or without.
 abbrev pub FilesHaveOneBasis : Type 0
 FilesHaveOneBasis = (given : Option (Certificate × Fields)) (instance : Fields) (one other : Basis)
     → IsBasis given instance one → IsBasis given instance other → one ≡ other

@@ -1,4 +1,6 @@
--- Places of a list, which count from 1.
+-- The first place of a list at which something holds; places count from 1. For `first_repeated` and `first_larger`
+-- (src/first_places.rt), `first_overload` (src/loads.rt), and for the reasons with a place in Tours.antt and
+-- Routes.antt.
 use Rattle.std.specs.Prelude.{◌≡◌, ℕ, ◌-◌, ◌<◌, ◌≤◌, Bool, List, length, slice_index, slice_index_or}
 use Rattle.tsp_theory.specs.Cycle.{Uses}
 
@@ -6,10 +8,11 @@ use Rattle.tsp_theory.specs.Cycle.{Uses}
 abbrev pub node_at : List ℕ → ℕ → ℕ
 node_at nodes place = slice_index nodes (place - 1)
 
+-- the list has an element at this place
 abbrev pub IsPlace : {X : Type 0} → List X → ℕ → Type 0
 IsPlace xs place = (1 ≤ place) × (place ≤ length xs)
 
--- P holds at none of the first places
+-- P holds at none of the first `count` places
 abbrev pub HoldsAtNone : (ℕ → Type 0) → ℕ → Type 0
 HoldsAtNone P count = (place : ℕ) → 1 ≤ place → place ≤ count → P place → ⊥
 

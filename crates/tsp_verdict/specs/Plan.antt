@@ -1,4 +1,5 @@
--- Plans of routes of an instance: the words of `tsp_theory` and `tsp_cost`, re-exported, and what verdicts say besides.
+-- Plans of routes of an instance: definitions of tsp_theory, tsp_cost and tsp_routing, re-exported, and the sum of all
+-- demands. For Routes.antt, Certified.antt and Basis.antt, and for src/loads.rt.
 use Rattle.std.specs.Prelude.{ℤ}
 use Rattle.std.specs.List.{All}
 use Rattle.tsp_format.specs.Nodes.{nodes_to}

@@ -1,4 +1,5 @@
--- A certificate by potentials: its file, when a reason applies to it, and the bound that it gives.
+-- A certificate by potentials: when a reason applies to its file, and its bound, for a TSP by a least 1-tree, for an
+-- ATSP by duals. For src/potentials_bound.rt, through Certified.antt.
 use Rattle.std.specs.Prelude.{◌≡◌, ◌≢◌, ℕ, Bool, false, ◌&&◌, List, [], Option, None, Some, is_some, ℤ}
 use Rattle.tsp_format.specs.declared.kinds.Kind.{Kind}
 use Rattle.tsp_format.specs.declared.kinds.Kind.TheVariants as kinds
@@ -13,15 +14,15 @@ use Rattle.tsp_task.specs.declared.verdict.Reason.TheVariants.{NotPotentials, Po
 use Rattle.tsp_verdict.specs.Multiplied.{IsUnlisted, IsPairRepeated}
 use Rattle.tsp_verdict.specs.Places.{IsFirstPlace}
 
--- ---- what is read of it
+-- ---- its numbers
 
--- a TSP wants potentials of nodes, an ATSP those of rows and of columns
+-- the file has potentials of nodes for a TSP, or of rows and of columns for an ATSP
 abbrev pub has_wanted : Option Kind → Fields → Bool
 has_wanted (Some kinds.Tsp) f = is_some f.node_potentials
 has_wanted (Some kinds.Atsp) f = is_some f.row_potentials && is_some f.column_potentials
 has_wanted other f = false
 
--- the first pair whose cost breaks the duals of the file
+-- the first pair whose cost is below the sum of its duals
 pub record BreaksDuals (instance certificate : Fields) (i j : ℕ) : Type 0 where
   pub rows : List ℤ
   pub rows_are : certificate.row_potentials ≡ Some rows
@@ -31,6 +32,7 @@ pub record BreaksDuals (instance certificate : Fields) (i j : ℕ) : Type 0 wher
 
 -- ---- when a reason applies to it; reasons of tours and of routes never do
 
+-- when a reason applies to the certificate
 abbrev pub StandsAgainstPotentials : Fields → Fields → Reason → Type 0
 StandsAgainstPotentials instance certificate NotPotentials = is_potentials_file certificate.kind ≡ false
 StandsAgainstPotentials instance certificate PotentialsDimension = nodes_of certificate ≢ nodes_of instance
@@ -45,14 +47,14 @@ StandsAgainstPotentials instance certificate reason = ⊥
 
 -- ---- its bound
 
--- that of a least 1-tree under the potentials of nodes, for a TSP
+-- for a TSP: the bound of a least 1-tree under the potentials of nodes and the multipliers
 pub record IsBoundByNodes (instance certificate : Fields) (bound : ℤ) : Type 0 where
   pub potentials : List ℤ
   pub potentials_are : certificate.node_potentials ≡ Some potentials
   pub of_tree : IsAdjustedBound (nodes_of instance) (cost instance) (scale_in certificate) potentials
       (multipliers_in certificate) [] bound
 
--- that of duals of the assignment problem, for an ATSP
+-- for an ATSP: the bound of the duals, which are good
 pub record IsBoundByDuals (instance certificate : Fields) (bound : ℤ) : Type 0 where
   pub rows : List ℤ
   pub rows_are : certificate.row_potentials ≡ Some rows

@@ -1,9 +1,10 @@
--- The first of several reasons, by the order in which they are judged.
+-- The first of the reasons that apply, in the order in which they are judged. For the verdicts of Tours.antt,
+-- Routes.antt, Bounded.antt and Certified.antt. `Stands` says which reasons apply.
 use Rattle.std.specs.Prelude.{ℕ, ◌<◌}
 use Rattle.tsp_task.specs.declared.verdict.Reason.{Reason}
 pub use Rattle.tsp_task.specs.ReasonRows.{rank_of}
 
--- none of the reasons applies that are judged before this rank
+-- none of the reasons applies whose rank is below this one
 abbrev pub NoneBefore : (Reason → Type 0) → ℕ → Type 0
 NoneBefore Stands rank = (reason : Reason) → rank_of reason < rank → Stands reason → ⊥
 

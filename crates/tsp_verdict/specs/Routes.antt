@@ -1,4 +1,5 @@
--- The verdict on routes: the first reason against them, or a plan of the instance and its length.
+-- The verdict on routes without a certificate: the first reason against them, or that they are a plan of the instance,
+-- and their length. For `verdict_on_routes` (src/routes.rt), and for SolutionVerdict.antt and Certified.antt.
 -- Source: TSPLIB 95 (G. Reinelt), capacitated vehicle routing; the reasons and their order are this project's.
 use Rattle.std.specs.Prelude.{◌≡◌, ◌≢◌, ℕ, ◌-◌, ◌<◌, ◌≤◌, false, List, [], length, Some, slice_index_or, None, ℤ, pos, ◌<ℤ◌}
 use Rattle.std.specs.List.{All, Contains}
@@ -16,7 +17,7 @@ use Rattle.tsp_cost.specs.ComputedProblems.{depots_of, demands_of, capacity_of}
 use Rattle.tsp_verdict.specs.Reasons.{rank_of, NoneBefore, IsFirstReason}
 use Rattle.tsp_verdict.specs.Solution.{visited, tours_of}
 
--- the least customer that none of the nodes is
+-- the least customer that isn't among the nodes
 pub record IsFirstUnserved (n depot : ℕ) (nodes : List ℕ) (node : ℕ) : Type 0 where
   pub customer : IsCustomer n depot node
   pub unserved : Contains nodes node → ⊥
@@ -64,8 +65,8 @@ pub record IsPlanned (instance : Fields) (plan : List (List ℕ)) (length_is : �
   pub least_is : IsLeastRoutes (total_of instance) (capacity_of instance) least
   pub none_fewer : (other : List (List ℕ)) → IsPlanOf instance other → least ≤ length other
 
--- Rejected: the reason is the first one that applies. Accepted: none applies, and the tours of the solution are planned so. No
--- certificate, no bound.
+-- No: the first reason that applies. Routes: no reason applies, and the routes of the solution are a plan, without a
+-- bound.
 abbrev pub IsRoutesVerdict : Fields → Fields → Verdict → Type 0
 IsRoutesVerdict instance solution (verdicts.No reason) = IsFirstAgainstRoutes instance solution reason
 IsRoutesVerdict instance solution (verdicts.Routes length_is routes least bound) =

@@ -1,9 +1,10 @@
--- What is read of a solution.
+-- The tours or routes of a solution's file, and all nodes of these. For the verdicts of Tours.antt and Routes.antt, and
+-- for `the_tour` (src/tour.rt).
 use Rattle.std.specs.Prelude.{ℕ, List, [], unwrap_or}
 use Rattle.std.specs.List.{concat}
 use Rattle.tsp_draft.specs.Fields.{Fields}
 
--- its tours, or routes; a file that has none is no solution, which is judged first
+-- the tours, or routes; of a file without any there is a reason before these are judged
 abbrev pub tours_of : Fields → List (List ℕ)
 tours_of f = unwrap_or f.tours []
 

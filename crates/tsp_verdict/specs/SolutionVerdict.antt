@@ -1,5 +1,5 @@
--- The verdict on a solution: on its own, by the TYPE of the instance; with a certificate of a bound; and with a length that
--- is claimed.
+-- The verdict on a solution: without a certificate, by the TYPE of the instance; with a certificate; and with a claimed
+-- length. For `judge` (src/solution_verdict.rt), and so for a check (CheckRun.antt of tsp_judge).
 use Rattle.std.specs.Prelude.{◌≡◌, ◌≢◌, ◌⊎◌, Bool, Option, None, Some, ℤ}
 use Rattle.tsp_format.specs.declared.kinds.Kind.{Kind}
 use Rattle.tsp_format.specs.declared.kinds.Kind.TheVariants as kinds
@@ -15,42 +15,44 @@ use Rattle.tsp_verdict.specs.Reasons.{IsFirstReason}
 use Rattle.tsp_verdict.specs.Routes.{IsRoutesVerdict, NoneOfRoutesBeforeRepeats}
 use Rattle.tsp_verdict.specs.Tours.{IsTourVerdict, NoneOfTourBeforeRepeats}
 
--- ---- on its own: a tour for TYPE TSP and ATSP, routes for TYPE CVRP
+-- ---- without a certificate: a tour for TYPE TSP and ATSP, routes for TYPE CVRP
 
--- the verdict on a solution, by the TYPE of the instance
+-- the verdict on a solution, for an instance of this TYPE
 abbrev pub IsVerdictBy : Option Kind → Fields → Fields → Verdict → Type 0
 IsVerdictBy (Some kinds.Tsp) instance solution verdict = IsTourVerdict instance solution verdict
 IsVerdictBy (Some kinds.Atsp) instance solution verdict = IsTourVerdict instance solution verdict
 IsVerdictBy (Some kinds.Cvrp) instance solution verdict = IsRoutesVerdict instance solution verdict
 IsVerdictBy other instance solution verdict = ⊥
 
+-- the verdict on a solution without a certificate
 abbrev pub IsVerdictOn : Fields → Fields → Verdict → Type 0
 IsVerdictOn instance solution verdict = IsVerdictBy instance.kind instance solution verdict
 
--- No reason applies, in the order that goes with the TYPE of the instance, that is judged before a node twice: those are found
--- without memory.
+-- for an instance of this TYPE no reason applies that is judged before a node that comes twice: those are found without
+-- memory
 abbrev pub NoneBeforeRepeatsBy : Option Kind → Fields → Fields → Type 0
 NoneBeforeRepeatsBy (Some kinds.Tsp) instance solution = NoneOfTourBeforeRepeats instance solution
 NoneBeforeRepeatsBy (Some kinds.Atsp) instance solution = NoneOfTourBeforeRepeats instance solution
 NoneBeforeRepeatsBy (Some kinds.Cvrp) instance solution = NoneOfRoutesBeforeRepeats instance solution
 NoneBeforeRepeatsBy other instance solution = ⊥
 
+-- the same by the instance
 abbrev pub NoneBeforeRepeatsOn : Fields → Fields → Type 0
 NoneBeforeRepeatsOn instance solution = NoneBeforeRepeatsBy instance.kind instance solution
 
 -- ---- with a certificate or without
 
--- whether solutions of instances of this TYPE are judged, with this certificate or with none; a certificate has its file
+-- whether solutions of instances of this TYPE are judged, with such a certificate or with none
 abbrev pub is_judged : Option (Certificate × Fields) → Option Kind → Bool
 is_judged None kind = is_instance kind
 is_judged (Some given) kind = is_bounded given.0 kind
 
--- the verdict, where no length is claimed
+-- the verdict, with a certificate or without, where no length is claimed
 abbrev pub IsUnclaimedVerdict : Option (Certificate × Fields) → Fields → Fields → Verdict → Type 0
 IsUnclaimedVerdict None instance solution verdict = IsVerdictOn instance solution verdict
 IsUnclaimedVerdict (Some given) instance solution verdict = IsCertifiedVerdict given.0 instance solution given.1 verdict
 
--- this is the first reason against the certificate, where there is one
+-- the first reason against the certificate, where there is one
 abbrev pub IsFirstAgainstGiven : Option (Certificate × Fields) → Fields → Reason → Type 0
 IsFirstAgainstGiven None instance reason = ⊥
 IsFirstAgainstGiven (Some given) instance reason = IsFirstReason (StandsAgainstCertificate given.0 instance given.1) reason
@@ -79,13 +81,13 @@ HasNoLength (Tour length_is bound) = ⊥
 HasNoLength (Routes length_is routes least bound) = ⊥
 HasNoLength (No reason) = Unit {0}
 
--- on its own the solution is accepted, with this length
+-- without a certificate the solution is accepted, with this length
 abbrev pub IsOfLength : Fields → Fields → ℤ → Type 0
 IsOfLength instance solution found = (yes : Verdict) × IsVerdictOn instance solution yes × HasLength yes found
 
--- Rejected, in this order: the solution is rejected on its own; or it is accepted with another length than the claimed one; or
--- its length is the claimed one, and the reason is the first one against the certificate. Accepted: it is accepted without the
--- claim too, and its length is the claimed one.
+-- No, in this order: the first reason against the solution; or that it has another length than the claimed one; or the
+-- first reason against the certificate. Tour and Routes: the solution is accepted without the claim too, and its length
+-- is the claimed one.
 abbrev pub IsClaimedVerdict : ℤ → Option (Certificate × Fields) → Fields → Fields → Verdict → Type 0
 IsClaimedVerdict claim given instance solution (No reason) = IsVerdictOn instance solution (No reason)
     ⊎ ((found : ℤ) × IsOfLength instance solution found × (claim ≢ found) × (reason ≡ LengthClaimed found))
@@ -95,7 +97,7 @@ IsClaimedVerdict claim given instance solution (Tour length_is bound) =
 IsClaimedVerdict claim given instance solution (Routes length_is routes least bound) =
     IsUnclaimedVerdict given instance solution (Routes length_is routes least bound) × (claim ≡ length_is)
 
--- the verdict on a solution, with a certificate where there is one, and with the length that is claimed, where one is
+-- the verdict on a solution, with a certificate or without, with a claimed length or without
 abbrev pub IsVerdictWith : Option (Certificate × Fields) → Option ℤ → Fields → Fields → Verdict → Type 0
 IsVerdictWith given None instance solution verdict = IsUnclaimedVerdict given instance solution verdict
 IsVerdictWith given (Some claim) instance solution verdict = IsClaimedVerdict claim given instance solution verdict

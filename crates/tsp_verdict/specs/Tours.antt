@@ -1,4 +1,5 @@
--- The verdict on a tour: the first reason against it, or a tour of the instance and its length.
+-- The verdict on a tour without a certificate: the first reason against it, or that it is a tour of the instance, and
+-- its length. For `verdict_on_tour` (src/subject.rt), and for SolutionVerdict.antt and Certified.antt.
 -- Source: TSPLIB 95 (G. Reinelt), TOUR_SECTION and FIXED_EDGES_SECTION; the reasons and their order are this project's.
 use Rattle.std.specs.Prelude.{◌≡◌, ◌≢◌, ℕ, ◌<◌, false, List, [], ◌∷◌, length, None, Some}
 use Rattle.tsp_format.specs.declared.kinds.Kind.TheVariants as kinds
@@ -42,8 +43,8 @@ NoneOfTourBefore instance solution reason = NoneBefore (StandsAgainstTour instan
 abbrev pub IsFirstAgainstTour : Fields → Fields → Reason → Type 0
 IsFirstAgainstTour instance solution reason = IsFirstReason (StandsAgainstTour instance solution) reason
 
--- Rejected: the reason is the first one that applies. Accepted: none applies, the one tour is a tour of the instance, and the
--- length is the sum of the costs from each node to the next one, cyclically. No potentials, no bound.
+-- No: the first reason that applies. Tour: no reason applies, the solution's one tour is a tour of the instance, and
+-- this is its length, without a bound.
 abbrev pub IsTourVerdict : Fields → Fields → Verdict → Type 0
 IsTourVerdict instance solution (verdicts.No reason) = IsFirstAgainstTour instance solution reason
 IsTourVerdict instance solution (verdicts.Tour length bound) =

@@ -1,4 +1,5 @@
--- A certificate for routes: a file of branches, when a reason applies to it, and the bound that it gives.
+-- A certificate by branches for routes: when a reason applies to its file, and its bound by least walks. For
+-- `judge_walks` (src/walks.rt), through Certified.antt.
 use Rattle.std.specs.Prelude.{◌≡◌, ◌≢◌, ℕ, false, nat_abs, List, length, Option, Some, ℤ}
 use Rattle.tsp_format.specs.Steps as listed
 use Rattle.tsp_draft.specs.Fields.{Fields, nodes_of}
@@ -12,12 +13,13 @@ use Rattle.tsp_routing.specs.GoodBranches.{IsFirstBadPlanBranch}
 use Rattle.tsp_routing.specs.GoodLeaves.{IsFirstBadPlanLeaf}
 use Rattle.tsp_routing.specs.PlanVerdicts.{HasTooManyLoads, IsBoundFound}
 
--- the unit of loads
+-- the unit in which the certificate counts demands
 abbrev pub unit_in : Fields → ℕ
 unit_in tree = nat_abs (load_unit_in tree)
 
 -- ---- when a reason applies to it; reasons of routes and of other certificates never do
 
+-- when a reason applies to the certificate
 abbrev pub StandsAgainstWalks : Fields → Fields → Reason → Type 0
 StandsAgainstWalks instance tree NotBranches = is_branches_file tree.kind ≡ false
 StandsAgainstWalks instance tree BranchesDimension = nodes_of tree ≢ nodes_of instance
@@ -32,8 +34,8 @@ StandsAgainstWalks instance tree reason = ⊥
 
 -- ---- its bound
 
--- sets of customers, a whole tree of limits on them and good numbers at its leaves, and what is the least of the bounds of these,
--- by the least walk of each; none where there is no walk
+-- the families are sets of customers, the tree is whole with good numbers at its leaves, and the least of the bounds of
+-- these, by least walks, is `found`; None where there is no walk
 pub record HasBoundByWalks (instance tree : Fields) (found : Option ℤ) : Type 0 where
   pub steps : List listed.Step
   pub steps_are : tree.branches ≡ Some steps

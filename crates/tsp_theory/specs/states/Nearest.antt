@@ -1,15 +1,18 @@
--- What the code knows of a tree that grows: which nodes are inside, and of each node outside the nearest one inside and the
--- weight between the two. For src/growth.rt and src/row.rt of tsp_tree. By `least_at` other crates read any row of weights.
+-- The entry of a row of weights at an index, for every crate that reads rows. And of a growing tree the nearest grown
+-- node of a node that isn't grown, with the weight between the two: for `take_nearer` and `bring` (src/growth.rt of
+-- tsp_tree).
 use Rattle.std.specs.Prelude.{◌≡◌, ℕ, Bool, false, List, slice_index_or, ◌⊎◌, ℤ, pos, ◌≤ℤ◌, ◌<ℤ◌}
 
+-- the node x is grown
 abbrev pub is_inside : List Bool → ℕ → Bool
 is_inside inside x = slice_index_or inside x false
 
+-- the entry of a row at the index x
 abbrev pub least_at : List ℤ → ℕ → ℤ
 least_at least x = slice_index_or least x (pos 0)
 
--- once another node is inside, at this weight from it, the nearest one and the least weight are as before, or that node
--- and that weight where it is nearer
+-- The node `next` is grown now, at this weight: the nearest grown node and its weight are as before, or `next` and this
+-- weight where that is less.
 abbrev pub IsNearer : ℤ → ℕ → ℕ → ℤ → ℕ → ℤ → Type 0
 IsNearer weight next old_near old_least new_near new_least =
     ((new_near ≡ old_near) × (new_least ≡ old_least) × (old_least ≤ℤ weight))

@@ -1,4 +1,5 @@
--- Sets of pairs of nodes, in which a pair has its smaller node first. For src/pairs.rt and src/multiplier_pairs.rt.
+-- Sets of pairs of nodes, where an undirected pair has its smaller node first. For `key_of` (src/pairs.rt), `set_of`
+-- (src/multiplier_pairs.rt) and `taken_once` (src/fixed_decisions.rt).
 use Rattle.std.specs.Prelude.{◌≡◌, ℕ, Bool, true, false, List, if◌then◌else◌, nat_le}
 use Rattle.std.specs.BTreeSet.{BTreeSet, contains}
 use Rattle.std.specs.List.{list_any}
@@ -7,11 +8,11 @@ use Rattle.std.specs.declared.cmp.Ordering.{Ordering}
 use Rattle.tsp_theory.specs.Adjusted.{is_same_pair}
 use Rattle.tsp_cases.specs.Decisions.{is_same}
 
--- the same for both directions of a pair
+-- the pair with its smaller node first
 abbrev pub undirected : ℕ × ℕ → ℕ × ℕ
 undirected pair = if nat_le pair.0 pair.1 then pair else (pair.1, pair.0)
 
--- the order of pairs
+-- the order of pairs in a set
 abbrev pub pair_cmp : ℕ × ℕ → ℕ × ℕ → Ordering
 pair_cmp p q = ordering_then (nat_cmp p.0 q.0) (nat_cmp p.1 q.1)
 

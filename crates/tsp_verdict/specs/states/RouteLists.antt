@@ -1,5 +1,5 @@
--- Tours and routes as code has them. For src/tour.rt, src/routes.rt and others. A node is a `u32`, and a tour or route a vector
--- of them.
+-- The tours or routes of a solution where code has them as vectors of nodes. For `solution_tours` (src/files.rt),
+-- `the_tour` (src/tour.rt) and src/routes.rt.
 use Rattle.std.specs.Prelude.{◌≡◌, ◌≢◌, ℕ, ◌≤◌, true, List, [], length, map}
 use Rattle.std.specs.Global.{Vec}
 use Rattle.std.specs.List.{All, flat_map}
@@ -12,7 +12,7 @@ use Rattle.tsp_verdict.specs.Solution.{visited, tours_of}
 abbrev pub nodes_in : List (Vec ℕ) → List ℕ
 nodes_in routes = flat_map (λ route. route.items) routes
 
--- the tours of a solution
+-- these are the tours of the solution, within the limits of files
 pub record AreToursOf (solution : Fields) (tours : List (Vec ℕ)) : Type 0 where
   pub sort : is_tour_file solution.kind ≡ true
   pub value : map (λ (tour : Vec ℕ). tour.items) tours ≡ tours_of solution

@@ -1,4 +1,5 @@
--- What the costs of an instance are taken from while a tour is judged. Of `TourCosts` (src/tour.rt).
+-- The costs of an instance of TYPE TSP or ATSP while its tours are judged: a view of it. For `TourCosts` and
+-- `tour_costs` (src/tour.rt), and for `bound_by` (src/certificate_bound.rt).
 use Rattle.std.specs.Prelude.{◌≡◌, Some}
 use Rattle.tsp_format.specs.declared.kinds.Kind.TheVariants as kinds
 use Rattle.tsp_draft.specs.Fields.{Fields}
@@ -8,7 +9,7 @@ use Rattle.tsp_cost.specs.states.Views.{IsViewOf, ShowsEven}
 use Rattle.tsp_verdict.specs.declared.tour.TourCosts.{TourCosts}
 use Rattle.tsp_verdict.specs.declared.tour.TourCosts.TheVariants.{Undirected, Directed}
 
--- those of the instance, by its TYPE; under TYPE TSP they are the same in both directions
+-- the costs are those of the instance; under TYPE TSP they are the same in both directions
 abbrev pub AreTourCosts : Fields → TourCosts → Type 0
 AreTourCosts instance (Undirected view) = (instance.kind ≡ Some kinds.Tsp) × ShowsEven instance view × IsSymmetric (cost instance)
 AreTourCosts instance (Directed view) = (instance.kind ≡ Some kinds.Atsp) × IsViewOf instance view
