@@ -1,4 +1,4 @@
--- A tree that grows from node 2, by the nearest node outside: one pair more is a growth, and one node more is reached.
+-- A growth of a tree with one pair more, which reaches one node more; and a slice that is written back to its vector.
 -- For `grow` in src/growth.rt of tsp_tree.
 use Rattle.std.proofs.Common.{take, drop, ◌≡◌, ℕ, ◌<◌, Bool, true, false, ◌||◌, ◌==◌, List, [], ◌∷◌, ◌++◌, length, ℤ, inl, inr, refl, ap, sym, ◌∙◌, subst}
 use Rattle.std.specs.Prelude.{if◌then◌else◌}

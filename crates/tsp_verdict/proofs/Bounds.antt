@@ -70,7 +70,7 @@ certificate_decides by inst cert (bounds.No reason) none first = record {
     by_side other low (inl stands) = none other stands
     by_side other low (inr stands) = first.none_before other low stands
 
--- the same of tours and of routes, whose reasons these are
+-- the same of an instance of tours, by the reasons against its tours
 pub tours_refused : (by : Certificate) (inst cert : Fields) (reason : Reason) → HasTours inst
     → IsFirstReason (StandsAgainstTouring inst) reason → IsBoundVerdict by inst cert (bounds.No reason)
 tours_refused by inst cert reason kind first = instance_refused by inst cert reason (first_for_tours inst reason kind first)

@@ -1,5 +1,5 @@
--- A valid file has tours, depots and demands for nodes that it has, and no more than a file may have. For `judge_tree` in
--- src/branching_bound.rt and others.
+-- The tours and the steps that a valid file lends are on nodes that it has, and no more than a file may have. For
+-- `judge_tree` in src/branching_bound.rt and others.
 use Rattle.std.proofs.Common.{◌≡◌, ◌≢◌, ℕ, zero, suc, ◌+◌, ◌<◌, ◌≤◌, true, false, List, [], ◌∷◌, ◌++◌, length, map, Option, None, Some, refl, sym, ap, subst, ◌∙◌, arith, length-append}
 use Rattle.std.specs.Prelude.{unwrap_or, ◌^◌}
 use Rattle.std.specs.Global.{Vec}

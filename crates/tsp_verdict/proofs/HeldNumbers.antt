@@ -1,5 +1,5 @@
--- The potentials, duals, demands and depots that a valid file lends are those of its fields, one for each node and in
--- their ranges. For `assignment_bound` and `tree_bound` in src/potentials_bound.rt.
+-- The potentials that a valid file lends are one for each node, and so are its duals, which are those of the
+-- certificate. For `assignment_bound` and `tree_bound` in src/potentials_bound.rt.
 use Rattle.std.proofs.Common.{◌≡◌, ℕ, List, [], length, Option, Some, sym, ap}
 use Rattle.std.specs.Prelude.{ℤ, unwrap_or}
 use Rattle.tsp_draft.specs.Fields.{Fields, nodes_of}
