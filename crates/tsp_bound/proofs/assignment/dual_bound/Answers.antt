@@ -1,4 +1,5 @@
--- The goals of `dual_bound` in src/assignment.rt: that no sum overflows, its loop, what its calls require and what it ensures.
+-- The goals of `dual_bound` in src/assignment.rt, which bounds every cycle by duals: that no sum overflows, its loop,
+-- what its calls require and what it ensures.
 use Rattle.std.proofs.Common.{◌≡◌, ℕ, ◌*◌, ◌^◌, rules, arith, sym, ◌∙◌, inl, inr, subst, FitsSigned, to_z, of_z}
 use Rattle.std.specs.Prelude.{ℤ, pos, neg_ℤ, ◌+ℤ◌, ◌≤ℤ◌}
 use Rattle.std.specs.Int.{w128}

@@ -1,4 +1,4 @@
--- The loop of `dual_bound` in src/assignment.rt.
+-- The loop of `dual_bound` in src/assignment.rt, which bounds every cycle by duals.
 use Rattle.std.proofs.Common.{◌≢◌, ℕ, ◌<◌}
 use Rattle.std.specs.Prelude.{◌≤ℤ◌}
 use Rattle.tsp_format.specs.Nodes.{IsNode}

@@ -1,4 +1,5 @@
--- The goals of `first_broken_of_row` in src/assignment.rt: its loop, what its calls require and what it ensures.
+-- The goals of `first_broken_of_row` in src/assignment.rt, which finds the first column that doesn't fit a row's dual:
+-- its loop, what its calls require and what it ensures.
 use Rattle.std.proofs.Common.{ℕ, ◌-◌, ◌<◌, length, refl, arith}
 use Rattle.std.specs.Prelude.{pos, ◌≤ℤ◌, slice_index_or}
 use Rattle.std.proofs.lemmas.Bool.{false≢true}

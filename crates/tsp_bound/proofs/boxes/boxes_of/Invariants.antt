@@ -1,4 +1,4 @@
--- The loop of `boxes_of` in src/boxes.rt.
+-- The loop of `boxes_of` in src/boxes.rt, which makes the tree of boxes over nodes in an order.
 use Rattle.std.proofs.Common.{◌≡◌, ◌≤◌, ◌<◌, ◌+◌, ◌*◌, ℕ, Bool, length}
 use Rattle.tsp_bound.specs.states.Boxes.{HoldsNode, AreHeldFrom, area_at, node_of}
 use Rattle.tsp_bound.proofs.boxes.boxes_of.Given as goal

@@ -1,4 +1,4 @@
--- The goals of `joined` in src/boxes.rt: what it ensures.
+-- The goals of `joined` in src/boxes.rt, which joins the areas of two halves: what it ensures.
 use Rattle.std.proofs.Common.{rules, Option, Some, arith, w64, FitsSigned, subst}
 use Rattle.std.proofs.lemmas.Int.{ints, to_z-of_z}
 use Rattle.tsp_bound.specs.declared.area.Area.{Area}

@@ -1,4 +1,4 @@
--- The goals of `refit` in src/boxes.rt: what it ensures.
+-- The goals of `refit` in src/boxes.rt, which fits a box to its halves: what it ensures.
 use Rattle.std.proofs.Common.{◌≡◌, ◌*◌, ◌+◌, Option, arith, sym, subst, refl}
 use Rattle.std.proofs.lemmas.List.{get_or_read}
 use Rattle.tsp_bound.specs.declared.area.Area.{Area}

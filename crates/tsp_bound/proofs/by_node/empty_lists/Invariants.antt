@@ -1,4 +1,4 @@
--- The loop of `empty_lists` in src/by_node.rt.
+-- The loop of `empty_lists` in src/by_node.rt, which makes an empty list for each node.
 use Rattle.std.proofs.Common.{◌≡◌, ◌<◌, ℕ, ℤ, [], length, get_or}
 use Rattle.std.specs.Global.{Vec}
 use Rattle.tsp_bound.proofs.by_node.empty_lists.Given as goal

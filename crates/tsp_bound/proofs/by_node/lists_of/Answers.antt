@@ -1,4 +1,4 @@
--- The goals of `lists_of` in src/by_node.rt: its loop.
+-- The goals of `lists_of` in src/by_node.rt, which lists at each node the multipliers of its pairs: its loop.
 use Rattle.std.proofs.Common.{◌≡◌, ℕ, refl, arith, to_z, of_z}
 use Rattle.std.specs.Prelude.{ℤ, pos, slice_index_or}
 use Rattle.std.specs.Int.{w64}

@@ -1,4 +1,4 @@
--- The loop of `lists_of` in src/by_node.rt.
+-- The loop of `lists_of` in src/by_node.rt, which lists at each node the multipliers of its pairs.
 use Rattle.std.proofs.Common.{take}
 use Rattle.tsp_bound.specs.states.ByNode.{IsTable}
 use Rattle.tsp_bound.proofs.by_node.lists_of.Given as goal

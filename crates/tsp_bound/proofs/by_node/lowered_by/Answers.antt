@@ -1,4 +1,5 @@
--- The goals of `lowered_by` in src/by_node.rt: what it ensures.
+-- The goals of `lowered_by` in src/by_node.rt, which finds the multiplier of a pair in the list of a node: what it
+-- ensures.
 use Rattle.std.proofs.Common.{◌≡◌, ◌≢◌, ◌∙◌, ℕ, ap, sym, arith, w64, to_z, of_z}
 use Rattle.std.specs.Prelude.{ℤ, pos, slice_index_or}
 use Rattle.std.proofs.lemmas.Int.{ints}

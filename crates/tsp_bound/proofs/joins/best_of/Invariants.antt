@@ -1,4 +1,4 @@
--- The loop of `best_of` in src/joins.rt.
+-- The loop of `best_of` in src/joins.rt, which finds the best link of each component.
 use Rattle.tsp_bound.specs.states.Components.{AreLeaving}
 use Rattle.tsp_bound.proofs.joins.best_of.Given as goal
 

@@ -1,4 +1,4 @@
--- The goals of `join` in src/joins.rt: its loop.
+-- The goals of `join` in src/joins.rt, which joins the components of a round by their best links: its loop.
 use Rattle.std.proofs.Common.{◌≡◌, ◌<◌, ◌++◌, ◌∷◌, [], ℕ, Option, IfSome, true, false, inl, inr, arith, ap, sym, ◌∙◌, subst, set, length}
 use Rattle.std.proofs.Math.ListN.{length-set}
 use Rattle.std.proofs.lemmas.List.{get_or_read, get_or-set_same, get_or-set_other}

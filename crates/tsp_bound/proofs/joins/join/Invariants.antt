@@ -1,4 +1,4 @@
--- The loop of `join` in src/joins.rt.
+-- The loop of `join` in src/joins.rt, which joins the components of a round by their best links.
 use Rattle.std.proofs.Common.{◌≡◌, ◌<◌, ℕ, false, length}
 use Rattle.tsp_bound.specs.states.Boxes.{box_at}
 use Rattle.tsp_bound.specs.states.Components.{label_at}

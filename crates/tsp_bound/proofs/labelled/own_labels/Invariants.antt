@@ -1,4 +1,4 @@
--- The loop of `own_labels` in src/labelled.rt.
+-- The loop of `own_labels` in src/labelled.rt, which makes each node a component.
 use Rattle.std.proofs.Common.{◌≡◌, ◌<◌, ℕ, length}
 use Rattle.tsp_bound.specs.states.Components.{label_at}
 use Rattle.tsp_bound.proofs.labelled.own_labels.Given as goal

@@ -1,4 +1,4 @@
--- The loop of `rename` in src/labelled.rt.
+-- The loop of `rename` in src/labelled.rt, which gives joined components one label.
 use Rattle.std.proofs.Common.{◌≡◌, ◌≤◌, ◌<◌, ℕ, length}
 use Rattle.tsp_bound.specs.states.Components.{label_at}
 use Rattle.tsp_bound.proofs.labelled.rename.Given as goal

@@ -1,4 +1,4 @@
--- The loop of `heaviest` in src/lists.rt.
+-- The loop of `heaviest` in src/lists.rt, which finds the heaviest of the twelve links of a place.
 use Rattle.std.proofs.Common.{◌≤◌, ◌<◌, ◌+◌}
 use Rattle.tsp_bound.proofs.lists.heaviest.Given as goal
 

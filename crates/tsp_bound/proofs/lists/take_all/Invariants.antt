@@ -1,4 +1,4 @@
--- The loop of `take_all` in src/lists.rt.
+-- The loop of `take_all` in src/lists.rt, which offers the links of all pairs to the lists of both places.
 use Rattle.std.proofs.Common.{◌≤◌, ◌-◌, length}
 use Rattle.tsp_bound.specs.states.Lists.{weight_over, AreOffered}
 use Rattle.tsp_bound.proofs.lists.take_all.Given as goal

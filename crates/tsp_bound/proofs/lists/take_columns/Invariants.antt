@@ -1,4 +1,4 @@
--- The loop of `take_columns` in src/lists.rt.
+-- The loop of `take_columns` in src/lists.rt, which offers the links of a block of columns to the lists.
 use Rattle.std.proofs.Common.{length}
 use Rattle.tsp_bound.specs.states.Lists.{weight_over, AreOffered}
 use Rattle.tsp_bound.proofs.lists.take_columns.Given as goal

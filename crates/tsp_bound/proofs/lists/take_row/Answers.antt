@@ -1,4 +1,5 @@
--- The goals of `take_row` in src/lists.rt: its loop and what it ensures.
+-- The goals of `take_row` in src/lists.rt, which offers the links of one row of a block to the lists: its loop and what
+-- it ensures.
 use Rattle.std.proofs.Common.{◌≡◌, ◌+◌, ◌-◌, ◌*◌, ◌<◌, ◌≤◌, ◌∙◌, ℕ, ℤ, List, length, slice_index, refl, arith, rules, ap, sym, subst, w64, to_z, of_z, SFits}
 use Rattle.std.proofs.lemmas.Int.{to_z-of_z}
 use Rattle.tsp_bound.specs.declared.link.Link.{Link}

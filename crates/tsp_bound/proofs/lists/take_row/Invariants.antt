@@ -1,4 +1,4 @@
--- The loop of `take_row` in src/lists.rt.
+-- The loop of `take_row` in src/lists.rt, which offers the links of one row of a block to the lists.
 use Rattle.std.proofs.Common.{length}
 use Rattle.tsp_bound.specs.states.Lists.{weight_over, AreOffered}
 use Rattle.tsp_bound.proofs.lists.take_row.Given as goal

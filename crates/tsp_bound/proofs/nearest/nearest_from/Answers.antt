@@ -1,4 +1,4 @@
--- The goals of `nearest_from` in src/nearest.rt: its loop.
+-- The goals of `nearest_from` in src/nearest.rt, which finds the nearest place of another component by boxes: its loop.
 use Rattle.std.proofs.Common.{ℕ, ◌≡◌, ◌≢◌, ◌/◌, Option, arith, rules, w64, SFits}
 use Rattle.tsp_format.specs.Nodes.{IsNode}
 use Rattle.tsp_bound.specs.declared.area.Area.{Area}

@@ -1,4 +1,4 @@
--- The loop of `nearest_from` in src/nearest.rt.
+-- The loop of `nearest_from` in src/nearest.rt, which finds the nearest place of another component by boxes.
 use Rattle.std.proofs.Common.{◌≤◌, ◌<◌, ◌*◌, length}
 use Rattle.tsp_bound.specs.states.Boxes.{IsSearched, no_best}
 use Rattle.tsp_bound.proofs.nearest.nearest_from.Given as goal

@@ -1,4 +1,4 @@
--- The loop of `places_in` in src/numbering.rt.
+-- The loop of `places_in` in src/numbering.rt, which finds the place of each node in an order.
 use Rattle.std.proofs.Common.{◌≡◌, ◌≤◌, ◌<◌, ◌+◌, ℕ, length, slice_index_or}
 use Rattle.tsp_theory.specs.Tree.{IsInner}
 use Rattle.tsp_bound.proofs.numbering.places_in.Given as goal

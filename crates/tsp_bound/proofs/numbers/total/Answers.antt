@@ -1,4 +1,4 @@
--- The goals of `total` in src/numbers.rt: its loop.
+-- The goals of `total` in src/numbers.rt, which sums the potentials of a certificate: its loop.
 use Rattle.std.proofs.Common.{◌≡◌, ◌+◌, ◌≤◌, ℕ, List, drop, ap, sym, ◌∙◌, arith, to_z, add-one, drop-cons}
 use Rattle.std.specs.Prelude.{ℤ, pos, ◌+ℤ◌, slice_index_or}
 use Rattle.std.specs.Int.{w128}

@@ -1,4 +1,4 @@
--- The loop of `total` in src/numbers.rt.
+-- The loop of `total` in src/numbers.rt, which sums the potentials of a certificate.
 use Rattle.std.proofs.Common.{◌≡◌, ◌*◌, drop}
 use Rattle.std.specs.Prelude.{pos, neg_ℤ, ◌+ℤ◌}
 use Rattle.tsp_format.specs.Limits.{most_potential}

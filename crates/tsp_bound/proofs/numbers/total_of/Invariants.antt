@@ -1,4 +1,4 @@
--- The loop of `total_of` in src/numbers.rt.
+-- The loop of `total_of` in src/numbers.rt, which sums the multipliers of a certificate.
 use Rattle.std.proofs.Common.{◌≡◌, ◌*◌, drop}
 use Rattle.std.specs.Prelude.{pos, ◌+ℤ◌}
 use Rattle.tsp_format.specs.Limits.{most_multiplier}

@@ -1,4 +1,4 @@
--- The goals of `grow` in src/part.rt: what it ensures.
+-- The goals of `grow` in src/part.rt, which finds a least tree over the nodes 2 to n: what it ensures.
 use Rattle.std.proofs.Common.{arith}
 use Rattle.tsp_theory.proofs.Forests.{growth_is_forest}
 use Rattle.tsp_theory.specs.Forest.{IsWholeForest}

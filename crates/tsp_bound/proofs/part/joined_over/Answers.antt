@@ -1,4 +1,4 @@
--- The goals of `joined_over` in src/part.rt: what it ensures.
+-- The goals of `joined_over` in src/part.rt, which finds a least tree over nodes in an order: what it ensures.
 use Rattle.std.proofs.Common.{◌≡◌, ◌∙◌, ℕ, List, length, map, arith, ap, subst}
 use Rattle.tsp_bound.specs.states.Boxes.{node_of}
 use Rattle.tsp_bound.specs.states.Components.{IsSpanning, IsWeighedForest}

@@ -1,4 +1,4 @@
--- The loop of `nodes_from_two` in src/part.rt.
+-- The loop of `nodes_from_two` in src/part.rt, which lists the nodes from 2 on.
 use Rattle.std.proofs.Common.{◌≡◌, ◌+◌, length}
 use Rattle.tsp_bound.proofs.part.nodes_from_two.Given as goal
 

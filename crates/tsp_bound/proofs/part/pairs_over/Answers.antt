@@ -1,4 +1,4 @@
--- The goals of `pairs_over` in src/part.rt: what it ensures.
+-- The goals of `pairs_over` in src/part.rt, which finds the pairs of a least tree in rounds: what it ensures.
 use Rattle.std.proofs.Common.{◌∙◌, ap}
 use Rattle.tsp_bound.proofs.Parts.{spanning_seen}
 use Rattle.tsp_bound.proofs.part.pairs_over.Goals as goal

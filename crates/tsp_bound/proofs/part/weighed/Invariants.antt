@@ -1,4 +1,4 @@
--- The loop of `weighed` in src/part.rt.
+-- The loop of `weighed` in src/part.rt, which sums the weights of the pairs of a tree.
 use Rattle.std.proofs.Common.{◌≡◌, length, map, take}
 use Rattle.tsp_bound.specs.states.Boxes.{node_of}
 use Rattle.tsp_bound.specs.states.Numbering.{on_both}

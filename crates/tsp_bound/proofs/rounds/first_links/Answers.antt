@@ -1,4 +1,4 @@
--- The goals of `first_links` in src/rounds.rt: its loop.
+-- The goals of `first_links` in src/rounds.rt, which finds the least link of each node: its loop.
 use Rattle.std.proofs.Common.{◌≡◌, ◌<◌, ◌+◌, ◌++◌, ◌∷◌, [], ◌∙◌, ℕ, List, length, get_or, inl, inr, arith, ap, sym, subst, length-append}
 use Rattle.std.proofs.Math.Seq.{get_or-append_seam}
 use Rattle.std.proofs.lemmas.Bool.{cases_eq}

@@ -1,4 +1,4 @@
--- The loop of `first_links` in src/rounds.rt.
+-- The loop of `first_links` in src/rounds.rt, which finds the least link of each node.
 use Rattle.std.proofs.Common.{◌≡◌, ◌<◌, ℕ, length}
 use Rattle.std.specs.Prelude.{slice_index_or}
 use Rattle.tsp_bound.specs.declared.link.Link.{Link}

@@ -1,4 +1,4 @@
--- The loop of `grow_by_rounds` in src/rounds.rt.
+-- The loop of `grow_by_rounds` in src/rounds.rt, which joins all nodes to a tree in rounds.
 use Rattle.std.proofs.Common.{◌≡◌}
 use Rattle.tsp_bound.specs.states.Components.{AreKept, IsForest}
 use Rattle.tsp_bound.proofs.rounds.grow_by_rounds.Given as goal

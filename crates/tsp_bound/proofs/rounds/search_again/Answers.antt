@@ -1,4 +1,5 @@
--- The goals of `search_again` in src/rounds.rt: its loop, what its calls require and what it ensures.
+-- The goals of `search_again` in src/rounds.rt, which finds the best link of each component for the next round: its
+-- loop, what its calls require and what it ensures.
 use Rattle.std.proofs.Common.{◌≡◌, ◌≢◌, ◌<◌, ◌+◌, ◌∙◌, ℕ, pos, length, Option, None, Some, IfSome, set, arith, sym, subst}
 use Rattle.std.proofs.lemmas.List.{get_or_read}
 use Rattle.tsp_bound.specs.declared.link.Link.{Link}

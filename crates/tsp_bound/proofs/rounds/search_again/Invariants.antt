@@ -1,4 +1,4 @@
--- The loop of `search_again` in src/rounds.rt.
+-- The loop of `search_again` in src/rounds.rt, which finds the best link of each component for the next round.
 use Rattle.tsp_bound.specs.states.Components.{AreKept, AreLeaving}
 use Rattle.tsp_bound.proofs.Known.{AreReached}
 use Rattle.tsp_bound.proofs.rounds.search_again.Given as goal

@@ -1,4 +1,4 @@
--- The goals of `retag` in src/tags.rt: what it ensures.
+-- The goals of `retag` in src/tags.rt, which tags a box by its halves: what it ensures.
 use Rattle.std.proofs.Common.{◌≡◌, ◌*◌, ◌+◌, ℕ, arith, sym, subst, refl}
 use Rattle.std.proofs.lemmas.List.{get_or_read}
 use Rattle.tsp_bound.specs.states.Boxes.{box_at}

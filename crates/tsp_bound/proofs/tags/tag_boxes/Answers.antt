@@ -1,4 +1,5 @@
--- The goals of `tag_boxes` in src/tags.rt: its loop and what it ensures.
+-- The goals of `tag_boxes` in src/tags.rt, which tags each box whose nodes have one label: its loop and what it
+-- ensures.
 use Rattle.std.proofs.Common.{◌≡◌, ◌-◌, ◌+◌, ℕ, true, get_or, length, arith, subst, ◌∙◌}
 use Rattle.std.proofs.Math.ListN.{length-set}
 use Rattle.tsp_bound.specs.states.Boxes.{AreHeldFrom, box_at}

@@ -1,4 +1,4 @@
--- The loop of `tag_boxes` in src/tags.rt.
+-- The loop of `tag_boxes` in src/tags.rt, which tags each box whose nodes have one label.
 use Rattle.std.proofs.Common.{◌≡◌, ◌≤◌, ◌<◌, ◌*◌, ◌+◌, ℕ, true, length}
 use Rattle.tsp_bound.specs.states.Boxes.{AreHeldFrom, box_at}
 use Rattle.tsp_bound.specs.states.Components.{IsTagOf, label_at}

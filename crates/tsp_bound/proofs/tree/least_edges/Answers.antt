@@ -1,4 +1,5 @@
--- The goals of `least_edges` in src/tree.rt: what its calls require, that no sum overflows and what it ensures.
+-- The goals of `least_edges` in src/tree.rt, which finds the edges of a least 1-tree: what its calls require, that no
+-- sum overflows and what it ensures.
 use Rattle.std.proofs.Common.{◌≡◌, ◌∙◌, [], ap, ap₂, sym, arith, rules, FitsSigned}
 use Rattle.std.specs.Prelude.{◌+ℤ◌}
 use Rattle.std.specs.Int.{w64}

@@ -1,4 +1,5 @@
--- The goals of `least_one_tree` in src/tree.rt: what its calls require and what it ensures.
+-- The goals of `least_one_tree` in src/tree.rt, which bounds every cycle by a least 1-tree: what its calls require and
+-- what it ensures.
 use Rattle.std.proofs.Common.{◌≡◌, ℕ, List, [], subst, ◌∙◌, arith, rules, FitsSigned, to_z, of_z}
 use Rattle.std.specs.Prelude.{ℤ}
 use Rattle.std.specs.Int.{w128}

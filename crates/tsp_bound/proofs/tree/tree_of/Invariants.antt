@@ -1,4 +1,4 @@
--- The loop of `tree_of` in src/tree.rt.
+-- The loop of `tree_of` in src/tree.rt, which lists the edges of a 1-tree.
 use Rattle.std.proofs.Common.{◌≡◌, take}
 use Rattle.tsp_theory.specs.Growth.{tree_of}
 use Rattle.tsp_bound.proofs.tree.tree_of.Given as goal

@@ -1,4 +1,4 @@
--- The goals of `lower` in src/weights.rt: its loop and what it ensures.
+-- The goals of `lower` in src/weights.rt, which takes multipliers off a row of weights: its loop and what it ensures.
 use Rattle.std.proofs.Common.{◌≡◌, ◌≤◌, ℕ, ℤ, List, length, refl, ap, subst, inl, arith, to_z, of_z}
 use Rattle.std.specs.Int.{w64}
 use Rattle.std.specs.Prelude.{pos, neg_ℤ, ◌-ℤ◌, slice_index_or, ◌==◌, if◌then◌else◌}

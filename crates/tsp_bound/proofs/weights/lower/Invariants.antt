@@ -1,4 +1,4 @@
--- The loop of `lower` in src/weights.rt.
+-- The loop of `lower` in src/weights.rt, which takes multipliers off a row of weights.
 use Rattle.std.proofs.Common.{ℕ, ℤ, drop}
 use Rattle.std.specs.Prelude.{neg_ℤ}
 use Rattle.tsp_theory.specs.states.Nearest.{least_at}

@@ -1,4 +1,4 @@
--- The goals of `weigh` in src/weights.rt: its loop.
+-- The goals of `weigh` in src/weights.rt, which writes the weights from a node to some others: its loop.
 use Rattle.std.proofs.Common.{◌≡◌, ◌∙◌, ◌<◌, ℕ, ℤ, List, length, slice_index, inl, inr, ap, sym, subst, arith, rules, FitsSigned, to_z, of_z}
 use Rattle.std.specs.Int.{w64}
 use Rattle.std.specs.Prelude.{pos, neg_ℤ}

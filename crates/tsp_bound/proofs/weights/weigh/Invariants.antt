@@ -1,4 +1,4 @@
--- The loop of `weigh` in src/weights.rt.
+-- The loop of `weigh` in src/weights.rt, which writes the weights from a node to some others.
 use Rattle.std.proofs.Common.{◌≡◌, ◌<◌, ℕ, length, slice_index}
 use Rattle.std.specs.Prelude.{pos, neg_ℤ}
 use Rattle.tsp_theory.specs.NodeBound.{most_between}

@@ -1,4 +1,4 @@
--- The loop of `weigh_all` in src/weights.rt.
+-- The loop of `weigh_all` in src/weights.rt, which writes the weights from a node to all others.
 use Rattle.std.proofs.Common.{◌≡◌, ◌<◌, ℕ}
 use Rattle.std.specs.Prelude.{pos, neg_ℤ}
 use Rattle.tsp_format.specs.Nodes.{IsNode}

@@ -1,4 +1,5 @@
--- The goals of `are_few` in src/both_sets.rt: that no sum overflows and its loop.
+-- The goals of `are_few` in src/both_sets.rt, which tests whether multipliers are few enough for boxes: that no sum
+-- overflows and its loop.
 use Rattle.std.proofs.Common.{◌≡◌, ◌∙◌, ◌+◌, ℤ, List, drop, get_or, refl, ap, arith, to_z, of_z, drop-cons, add-one}
 use Rattle.std.specs.Int.{w64}
 use Rattle.std.specs.Prelude.{pos, ◌+ℤ◌}

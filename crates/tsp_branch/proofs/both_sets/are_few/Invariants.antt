@@ -1,4 +1,4 @@
--- The loop of `are_few` in src/both_sets.rt.
+-- The loop of `are_few` in src/both_sets.rt, which tests whether multipliers are few enough for boxes.
 use Rattle.std.proofs.Common.{◌≡◌, drop}
 use Rattle.std.specs.Prelude.{pos, ◌+ℤ◌}
 use Rattle.tsp_theory.specs.CertificateNumbers.{IsFromTo}

@@ -1,4 +1,5 @@
--- The goals of `has_place` in src/both_sets.rt: its loop and what it ensures.
+-- The goals of `has_place` in src/both_sets.rt, which tests whether a list has the place of a set: its loop and what it
+-- ensures.
 use Rattle.std.proofs.Common.{◌≤◌, ◌+◌, ◌||◌, List, length, drop, ap, sym, ◌∙◌, arith}
 use Rattle.std.proofs.lemmas.List.{drop_all}
 use Rattle.tsp_cases.specs.declared.set_place.SetPlace.{SetPlace}

@@ -1,4 +1,4 @@
--- The loop of `has_place` in src/both_sets.rt.
+-- The loop of `has_place` in src/both_sets.rt, which tests whether a list has the place of a set.
 use Rattle.std.proofs.Common.{◌≡◌, drop}
 use Rattle.tsp_branch.specs.states.Shared.{has_place}
 use Rattle.tsp_branch.proofs.both_sets.has_place.Given as goal

@@ -1,4 +1,5 @@
--- The goals of `shared_by` in src/both_sets.rt: its loop and what it ensures.
+-- The goals of `shared_by` in src/both_sets.rt, which sums the multipliers of the sets that have both nodes: its loop
+-- and what it ensures.
 use Rattle.std.proofs.Common.{◌≡◌, ◌≤◌, ◌+◌, ◌∙◌, ℤ, List, length, drop, get_or, ap, sym, arith, rules, to_z, of_z, FitsSigned}
 use Rattle.std.specs.Int.{w64, int_wrap}
 use Rattle.std.specs.Prelude.{pos, ◌+ℤ◌, ◌*ℤ◌, if◌then◌else◌}

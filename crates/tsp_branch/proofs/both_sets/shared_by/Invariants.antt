@@ -1,4 +1,4 @@
--- The loop of `shared_by` in src/both_sets.rt.
+-- The loop of `shared_by` in src/both_sets.rt, which sums the multipliers of the sets that have both nodes.
 use Rattle.std.proofs.Common.{◌≡◌, drop}
 use Rattle.std.specs.Prelude.{◌+ℤ◌}
 use Rattle.std.specs.Int.{w64, int_wrap}

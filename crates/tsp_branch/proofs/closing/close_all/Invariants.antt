@@ -1,4 +1,4 @@
--- The loop of `close_all` in src/closing.rt.
+-- The loop of `close_all` in src/closing.rt, which closes the links of a row that decisions don't allow.
 use Rattle.std.proofs.Common.{◌<◌, ℕ, length}
 use Rattle.tsp_theory.specs.states.Nearest.{least_at}
 use Rattle.tsp_cases.specs.Rows.{Allows}

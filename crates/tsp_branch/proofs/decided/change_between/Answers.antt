@@ -1,4 +1,5 @@
--- The goals of `change_between` in src/decided.rt: its loop and what it ensures.
+-- The goals of `change_between` in src/decided.rt, which sums what decisions add to a weight: its loop and what it
+-- ensures.
 use Rattle.std.proofs.Common.{◌≡◌, ◌≤◌, ◌+◌, ◌∙◌, ℤ, List, false, length, drop, ap, arith, rules, to_z, of_z, FitsSigned}
 use Rattle.std.specs.Int.{w64, int_wrap}
 use Rattle.std.specs.Prelude.{pos, ◌+ℤ◌}

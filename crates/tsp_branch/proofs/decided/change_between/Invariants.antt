@@ -1,4 +1,4 @@
--- The loop of `change_between` in src/decided.rt.
+-- The loop of `change_between` in src/decided.rt, which sums what decisions add to a weight.
 use Rattle.std.proofs.Common.{◌≡◌, drop}
 use Rattle.std.specs.Prelude.{◌+ℤ◌}
 use Rattle.std.specs.Int.{w64, int_wrap}

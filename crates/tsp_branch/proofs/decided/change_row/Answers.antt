@@ -1,4 +1,5 @@
--- The goals of `change_row` in src/decided.rt: its loop and what it ensures.
+-- The goals of `change_row` in src/decided.rt, which changes a row of weights by decisions: its loop and what it
+-- ensures.
 use Rattle.std.proofs.Common.{◌≤◌, List, false, length, refl, ap, inl, arith}
 use Rattle.std.proofs.lemmas.List.{drop_all}
 use Rattle.tsp_theory.specs.states.Nearest.{least_at}

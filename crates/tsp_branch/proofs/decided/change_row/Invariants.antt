@@ -1,4 +1,4 @@
--- The loop of `change_row` in src/decided.rt.
+-- The loop of `change_row` in src/decided.rt, which changes a row of weights by decisions.
 use Rattle.std.proofs.Common.{ℕ, ℤ, drop}
 use Rattle.tsp_theory.specs.states.Nearest.{least_at}
 use Rattle.tsp_cases.specs.states.Sets.{IsMoved}

@@ -1,4 +1,4 @@
--- The loop of `taken_back` in src/given_back.rt.
+-- The loop of `taken_back` in src/given_back.rt, which sums the numbers of the taken pairs.
 use Rattle.std.proofs.Common.{◌≡◌, ◌*◌, drop}
 use Rattle.std.specs.Prelude.{pos, ◌+ℤ◌}
 use Rattle.tsp_theory.specs.CertificateNumbers.{IsFromTo, most_number}

@@ -1,4 +1,4 @@
--- The goals of `total` in src/given_back.rt: its loop.
+-- The goals of `total` in src/given_back.rt, which sums the potentials of a leaf: its loop.
 use Rattle.std.proofs.Common.{◌≡◌, ◌+◌, ◌<◌, ◌^◌, ℕ, ℤ, List, drop, ap, sym, rules, FitsSigned, ◌∙◌, arith, to_z, get_or}
 use Rattle.std.specs.Prelude.{pos, ◌+ℤ◌}
 use Rattle.std.specs.Int.{w64, w128}

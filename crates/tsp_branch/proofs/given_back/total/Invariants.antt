@@ -1,4 +1,4 @@
--- The loop of `total` in src/given_back.rt.
+-- The loop of `total` in src/given_back.rt, which sums the potentials of a leaf.
 use Rattle.std.proofs.Common.{◌≡◌, ◌*◌, ◌^◌, drop}
 use Rattle.std.specs.Prelude.{pos, neg_ℤ, ◌+ℤ◌}
 use Rattle.tsp_theory.specs.CertificateNumbers.{IsFromTo, total}

@@ -1,4 +1,4 @@
--- The goals of `leaf_bound` in src/leaf.rt: what it ensures.
+-- The goals of `leaf_bound` in src/leaf.rt, which bounds a leaf by a least 1-tree: what it ensures.
 use Rattle.std.proofs.Common.{◌≡◌, sym, subst, rules, ℤ, FitsSigned, to_z, of_z}
 use Rattle.std.specs.Prelude.{◌+ℤ◌}
 use Rattle.std.specs.Int.{w128}

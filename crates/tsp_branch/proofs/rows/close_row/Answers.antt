@@ -1,4 +1,5 @@
--- The goals of `close_row` in src/rows.rt: what it ensures.
+-- The goals of `close_row` in src/rows.rt, which closes the links from a node that a case doesn't allow: what it
+-- ensures.
 use Rattle.std.proofs.Common.{arith, length}
 use Rattle.tsp_branch.proofs.OpenRows.{opened}
 use Rattle.tsp_branch.proofs.rows.close_row.Goals as goal

@@ -1,4 +1,4 @@
--- The goals of `least_in` in src/rows.rt: what it ensures.
+-- The goals of `least_in` in src/rows.rt, which finds the least number of a row: what it ensures.
 use Rattle.std.proofs.Common.{arith, inl, inr}
 use Rattle.tsp_branch.proofs.rows.least_in.Goals as goal
 

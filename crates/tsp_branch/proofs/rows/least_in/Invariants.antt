@@ -1,4 +1,4 @@
--- The loop of `least_in` in src/rows.rt.
+-- The loop of `least_in` in src/rows.rt, which finds the least number of a row.
 use Rattle.std.proofs.Common.{◌≡◌, ◌≤◌, ◌<◌, ℕ}
 use Rattle.std.specs.Prelude.{◌⊎◌, ◌≤ℤ◌}
 use Rattle.tsp_theory.specs.states.Nearest.{least_at}

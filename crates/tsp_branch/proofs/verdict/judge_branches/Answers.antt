@@ -1,4 +1,5 @@
--- The goals of `judge_branches` in src/verdict.rt: what its calls require and what it ensures.
+-- The goals of `judge_branches` in src/verdict.rt, which judges a certificate by branching: what its calls require and
+-- what it ensures.
 use Rattle.std.proofs.Common.{◌∙◌, ℕ, List, sym, subst}
 use Rattle.std.specs.List.{All}
 use Rattle.std.specs.Global.{Vec}

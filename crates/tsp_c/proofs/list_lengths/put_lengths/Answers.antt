@@ -1,4 +1,5 @@
--- The goals of `put_lengths` in src/list_lengths.rt: its loop, what its calls require and what it ensures.
+-- The goals of `put_lengths` in src/list_lengths.rt, which puts the lengths of lists of nodes into a buffer: its loop,
+-- what its calls require and what it ensures.
 use Rattle.std.proofs.Common.{◌≡◌, ◌+◌, ◌-◌, ◌<◌, ◌≤◌, ap, sym, subst, ◌∙◌, arith, length, drop, take, length-drop, rules, FitsSigned, w64, ℕ, List, []}
 use Rattle.std.specs.List.{All}
 use Rattle.std.proofs.lemmas.Int.{to_z-of_z}

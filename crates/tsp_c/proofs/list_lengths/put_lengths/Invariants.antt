@@ -1,4 +1,4 @@
--- The loop of `put_lengths` in src/list_lengths.rt.
+-- The loop of `put_lengths` in src/list_lengths.rt, which puts the lengths of lists of nodes into a buffer.
 use Rattle.std.proofs.Common.{◌≡◌, ◌≤◌, length, drop}
 use Rattle.std.specs.List.{All}
 use Rattle.tsp_c.specs.NumberCalls.{IsFilled, list_length, lists_in}

@@ -1,4 +1,4 @@
--- The goals of `put_rows` in src/pair_costs.rt: its loop.
+-- The goals of `put_rows` in src/pair_costs.rt, which puts rows of costs into a buffer: its loop.
 use Rattle.std.proofs.Common.{ℕ, ◌+◌, ◌/◌, ◌%◌, ap, ◌∙◌, rules, FitsSigned, w64}
 use Rattle.std.proofs.lemmas.Int.{to_z-of_z}
 use Rattle.tsp_file.specs.Cost.{cost}

@@ -1,4 +1,4 @@
--- The loop of `put_rows` in src/pair_costs.rt.
+-- The loop of `put_rows` in src/pair_costs.rt, which puts rows of costs into a buffer.
 use Rattle.tsp_c.specs.NumberCalls.{IsFilled, row_cost}
 use Rattle.tsp_c.proofs.pair_costs.put_rows.Given as goal
 

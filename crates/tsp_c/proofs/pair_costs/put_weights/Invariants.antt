@@ -1,4 +1,4 @@
--- The loop of `put_weights` in src/pair_costs.rt.
+-- The loop of `put_weights` in src/pair_costs.rt, which puts the costs of pairs into a buffer.
 use Rattle.tsp_c.specs.NumberCalls.{IsFilled, pair_cost}
 use Rattle.tsp_c.proofs.pair_costs.put_weights.Given as goal
 

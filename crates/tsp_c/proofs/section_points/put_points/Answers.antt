@@ -1,4 +1,4 @@
--- The goals of `put_points` in src/section_points.rt: its loop.
+-- The goals of `put_points` in src/section_points.rt, which puts coordinates into a buffer: its loop.
 use Rattle.std.proofs.Common.{◌≡◌, ℕ, ◌+◌, ◌-◌, ◌/◌, ◌%◌, ◌∙◌, ap, arith, rules, FitsSigned, w64}
 use Rattle.std.specs.Prelude.{slice_index_or}
 use Rattle.std.proofs.lemmas.Int.{to_z-of_z}

@@ -1,4 +1,4 @@
--- The loop of `put_points` in src/section_points.rt.
+-- The loop of `put_points` in src/section_points.rt, which puts coordinates into a buffer.
 use Rattle.tsp_draft.specs.states.Drafts.{points_of}
 use Rattle.tsp_c.specs.NumberCalls.{IsFilled, point_number}
 use Rattle.tsp_c.proofs.section_points.put_points.Given as goal

@@ -1,4 +1,5 @@
--- The goals of `first_bad_branch` in src/bad_branch.rt: its loop and what it ensures.
+-- The goals of `first_bad_branch` in src/bad_branch.rt, which finds the first branch whose first number is out of its
+-- limits: its loop and what it ensures.
 use Rattle.std.proofs.Common.{◌+◌, List, drop, arith}
 use Rattle.tsp_format.specs.declared.steps.TreeStep.{TreeStep}
 use Rattle.tsp_format.specs.declared.steps.TreeStep.TheVariants as code

@@ -1,4 +1,5 @@
--- The loop of `first_bad_branch` in src/bad_branch.rt.
+-- The loop of `first_bad_branch` in src/bad_branch.rt, which finds the first branch whose first number is out of its
+-- limits.
 use Rattle.std.proofs.Common.{◌≤◌, drop}
 use Rattle.tsp_format.specs.states.TreeSteps.{steps_of}
 use Rattle.tsp_cases.proofs.BranchesWithin.{AreWithinSoFar}

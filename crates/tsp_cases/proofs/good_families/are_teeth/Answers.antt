@@ -1,4 +1,5 @@
--- The goals of `are_teeth` in src/good_families.rt: its loop and what it ensures.
+-- The goals of `are_teeth` in src/good_families.rt, which tests whether sets are teeth of a handle: its loop and what
+-- it ensures.
 use Rattle.std.proofs.Common.{◌∙◌, ℕ, Bool, refl, false}
 use Rattle.std.proofs.lemmas.Bool.{both_ways, iff_false}
 use Rattle.tsp_cases.specs.states.Marked.{is_marked}

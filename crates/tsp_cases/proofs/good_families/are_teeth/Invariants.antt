@@ -1,4 +1,4 @@
--- The loop of `are_teeth` in src/good_families.rt.
+-- The loop of `are_teeth` in src/good_families.rt, which tests whether sets are teeth of a handle.
 use Rattle.std.proofs.Common.{◌≡◌, ℕ, length, drop}
 use Rattle.std.specs.Prelude.{◌↔◌}
 use Rattle.tsp_families.specs.FamilySets.{AreSetsOf, lists_of}

@@ -1,4 +1,5 @@
--- The goals of `sum_with` in src/good_numbers.rt: that no sum overflows and its loop.
+-- The goals of `sum_with` in src/good_numbers.rt, which sums the crossings of families times their multipliers: that no
+-- sum overflows and its loop.
 use Rattle.std.proofs.Common.{◌≡◌, ◌+◌, ◌∙◌, ◌<◌, ℕ, ℤ, List, drop, length, get_or, arith, rules, ap, sym, FitsSigned, to_z}
 use Rattle.std.specs.Prelude.{pos, ◌+ℤ◌, ◌*ℤ◌}
 use Rattle.std.specs.Int.{w64, w128}

@@ -1,4 +1,4 @@
--- The loop of `sum_with` in src/good_numbers.rt.
+-- The loop of `sum_with` in src/good_numbers.rt, which sums the crossings of families times their multipliers.
 use Rattle.std.proofs.Common.{◌≡◌, ◌*◌, ◌^◌, drop}
 use Rattle.std.specs.Prelude.{pos, ◌+ℤ◌}
 use Rattle.tsp_theory.specs.CertificateNumbers.{IsFromTo}

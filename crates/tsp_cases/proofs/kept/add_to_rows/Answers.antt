@@ -1,4 +1,4 @@
--- The goals of `add_to_rows` in src/kept.rt: what its calls require.
+-- The goals of `add_to_rows` in src/kept.rt, which adds multipliers to the kept rows: what its calls require.
 use Rattle.std.proofs.Common.{◌∙◌, ◌<◌, arith, length}
 use Rattle.std.specs.Global.{Vec}
 use Rattle.std.specs.Prelude.{ℤ}

@@ -1,4 +1,4 @@
--- The goals of `rows_of` in src/kept.rt: what it ensures.
+-- The goals of `rows_of` in src/kept.rt, which makes a row of scaled costs for each node: what it ensures.
 use Rattle.std.proofs.Common.{◌≡◌, ℕ, subst, arith}
 use Rattle.std.specs.Prelude.{◌*ℤ◌}
 use Rattle.tsp_cases.specs.states.Kept.{AreRows}

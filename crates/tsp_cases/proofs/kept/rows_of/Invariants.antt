@@ -1,4 +1,4 @@
--- The loop of `rows_of` in src/kept.rt.
+-- The loop of `rows_of` in src/kept.rt, which makes a row of scaled costs for each node.
 use Rattle.std.specs.Prelude.{◌*ℤ◌}
 use Rattle.tsp_cases.specs.states.Kept.{AreRows}
 use Rattle.tsp_cases.proofs.kept.rows_of.Given as goal

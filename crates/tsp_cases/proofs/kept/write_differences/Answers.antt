@@ -1,4 +1,5 @@
--- The goals of `write_differences` in src/kept.rt: its loop and what it ensures.
+-- The goals of `write_differences` in src/kept.rt, which writes how much each multiplier has grown: its loop and what
+-- it ensures.
 use Rattle.std.proofs.Common.{◌≡◌, ◌∙◌, ℕ, ℤ, List, inl, inr, ap, subst, arith, to_z, of_z}
 use Rattle.std.specs.Prelude.{pos, neg_ℤ, ◌-ℤ◌}
 use Rattle.std.specs.Int.{w64}

@@ -1,4 +1,4 @@
--- The loop of `write_differences` in src/kept.rt.
+-- The loop of `write_differences` in src/kept.rt, which writes how much each multiplier has grown.
 use Rattle.std.proofs.Common.{◌≡◌, ◌<◌, ℕ, length}
 use Rattle.std.specs.Prelude.{pos, neg_ℤ, ◌+ℤ◌}
 use Rattle.tsp_theory.specs.CertificateNumbers.{IsFromTo}

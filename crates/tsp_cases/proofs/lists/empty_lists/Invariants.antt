@@ -1,4 +1,4 @@
--- The loop of `empty_lists` in src/lists.rt.
+-- The loop of `empty_lists` in src/lists.rt, which makes an empty list for each node.
 use Rattle.std.proofs.Common.{◌≡◌, ◌<◌, ℕ, [], length, get_or}
 use Rattle.std.specs.Global.{Vec}
 use Rattle.tsp_cases.proofs.lists.empty_lists.Given as goal

@@ -1,4 +1,4 @@
--- The loop of `has_node` in src/marks.rt.
+-- The loop of `has_node` in src/marks.rt, which tests whether a list has a node with the mark, or without.
 use Rattle.std.proofs.Common.{◌≡◌, ◌<◌, ℕ, get_or}
 use Rattle.tsp_cases.specs.states.Marked.{is_marked}
 use Rattle.tsp_cases.proofs.marks.has_node.Given as goal

@@ -1,4 +1,4 @@
--- The loop of `leaves_one_out` in src/marks.rt.
+-- The loop of `leaves_one_out` in src/marks.rt, which tests whether some node has no mark.
 use Rattle.std.proofs.Common.{◌≡◌, ◌≤◌, ◌<◌, ℕ, true}
 use Rattle.tsp_cases.specs.states.Marked.{is_marked}
 use Rattle.tsp_cases.proofs.marks.leaves_one_out.Given as goal

@@ -1,4 +1,4 @@
--- The goals of `mark_nodes` in src/marks.rt: its loop and what it ensures.
+-- The goals of `mark_nodes` in src/marks.rt, which marks the nodes of a set: its loop and what it ensures.
 use Rattle.std.proofs.Common.{ℕ, ◌<◌, List, length, get_or, refl, ◌∙◌, arith, false}
 use Rattle.std.proofs.Math.ListN.{length-set}
 use Rattle.std.proofs.lemmas.Bool.{eq-eqb, ne_eqb, both_ways}

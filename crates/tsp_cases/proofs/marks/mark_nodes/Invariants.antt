@@ -1,4 +1,4 @@
--- The loop of `mark_nodes` in src/marks.rt.
+-- The loop of `mark_nodes` in src/marks.rt, which marks the nodes of a set.
 use Rattle.std.proofs.Common.{◌≡◌, ◌||◌, ℕ, length, take}
 use Rattle.tsp_families.specs.Crossed.{has}
 use Rattle.tsp_cases.specs.states.Marked.{is_marked, AreNew, AddsNoOther}

@@ -1,4 +1,5 @@
--- The goals of `fill_moved` in src/moved.rt: its loop.
+-- The goals of `fill_moved` in src/moved.rt, which writes each potential less the multipliers of the node's sets: its
+-- loop.
 use Rattle.std.proofs.Common.{◌≡◌, ◌∙◌, ◌<◌, ◌+◌, ◌-◌, ℕ, ℤ, List, length, inl, inr, ap, ap₂, sym, arith, rules, to_z, of_z, FitsSigned}
 use Rattle.std.specs.Prelude.{pos, ◌+ℤ◌}
 use Rattle.std.specs.Int.{w64, int_wrap}

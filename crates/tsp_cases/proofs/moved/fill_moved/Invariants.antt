@@ -1,4 +1,4 @@
--- The loop of `fill_moved` in src/moved.rt.
+-- The loop of `fill_moved` in src/moved.rt, which writes each potential less the multipliers of the node's sets.
 use Rattle.std.proofs.Common.{◌≡◌, ◌≤◌, ◌+◌, ℕ, length}
 use Rattle.std.specs.Int.{w64, int_wrap}
 use Rattle.std.specs.Prelude.{◌+ℤ◌}

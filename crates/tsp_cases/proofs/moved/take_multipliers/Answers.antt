@@ -1,4 +1,5 @@
--- The goals of `take_multipliers` in src/moved.rt: its loop and what it ensures.
+-- The goals of `take_multipliers` in src/moved.rt, which takes multipliers off the nodes of their sets: its loop and
+-- what it ensures.
 use Rattle.std.proofs.Common.{◌≡◌, ◌≤◌, ◌<◌, ◌+◌, ℕ, ℤ, List, drop, length, get_or, refl, ap, sym, subst, inl, ◌∙◌, arith, to_z, of_z}
 use Rattle.std.specs.Int.{w64}
 use Rattle.std.specs.Global.{Vec}

@@ -1,4 +1,4 @@
--- The loop of `take_multipliers` in src/moved.rt.
+-- The loop of `take_multipliers` in src/moved.rt, which takes multipliers off the nodes of their sets.
 use Rattle.std.proofs.Common.{ℕ, ℤ, drop}
 use Rattle.std.specs.Prelude.{neg_ℤ}
 use Rattle.tsp_theory.specs.states.Nearest.{least_at}

@@ -1,4 +1,4 @@
--- The goals of `add_differences` in src/numbers.rt: its loop.
+-- The goals of `add_differences` in src/numbers.rt, which adds the differences of a leaf to its numbers: its loop.
 use Rattle.std.proofs.Common.{◌∙◌, ◌+◌, ◌-◌, ◌<◌, ◌≤◌, ◌^◌, ℕ, ℤ, List, drop, length, get_or, inl, inr, refl, ap, sym, rules, FitsSigned, arith}
 use Rattle.std.specs.Prelude.{pos}
 use Rattle.std.specs.Int.{w64}

@@ -1,4 +1,4 @@
--- The loop of `add_differences` in src/numbers.rt.
+-- The loop of `add_differences` in src/numbers.rt, which adds the differences of a leaf to its numbers.
 use Rattle.std.proofs.Common.{◌≡◌, ◌<◌, ℕ, ℤ, drop, length, get_or}
 use Rattle.tsp_format.specs.Nodes.{IsNode}
 use Rattle.tsp_cases.specs.Listed.{all_grown}

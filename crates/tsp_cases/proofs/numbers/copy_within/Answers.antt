@@ -1,4 +1,4 @@
--- The goals of `copy_within` in src/numbers.rt: its loop.
+-- The goals of `copy_within` in src/numbers.rt, which copies the numbers of a leaf if they are within limits: its loop.
 use Rattle.std.proofs.Common.{◌≡◌, ◌∙◌, ◌<◌, ℕ, ℤ, List, length, get_or, inl, inr, ap₂, sym, rules, FitsSigned, arith, to_z, of_z}
 use Rattle.std.specs.Prelude.{pos, ◌≤ℤ◌, ◌++◌, [], ◌∷◌}
 use Rattle.std.specs.Int.{w64, w128}

@@ -1,4 +1,4 @@
--- The loop of `copy_within` in src/numbers.rt.
+-- The loop of `copy_within` in src/numbers.rt, which copies the numbers of a leaf if they are within limits.
 use Rattle.std.proofs.Common.{◌≡◌, ◌<◌, ℕ, ℤ, take, length, get_or}
 use Rattle.tsp_theory.specs.CertificateNumbers.{IsFromTo}
 use Rattle.tsp_cases.proofs.numbers.copy_within.Given as goal

@@ -1,4 +1,5 @@
--- The goals of `have_each_once` in src/other_families.rt: its loop and what it ensures.
+-- The goals of `have_each_once` in src/other_families.rt, which tests whether no set has a node twice: its loop and
+-- what it ensures.
 use Rattle.std.proofs.Common.{◌≡◌, ◌∙◌, ◌+◌, ℕ, List, [], length, get_or, false, refl, ap, sym, subst, arith}
 use Rattle.std.proofs.lemmas.Bool.{both_ways, iff_false}
 use Rattle.std.specs.Global.{Vec}

@@ -1,4 +1,4 @@
--- The loop of `have_each_once` in src/other_families.rt.
+-- The loop of `have_each_once` in src/other_families.rt, which tests whether no set has a node twice.
 use Rattle.std.proofs.Common.{◌≡◌, ◌<◌, ◌+◌, ℕ, List, length, get_or}
 use Rattle.tsp_families.specs.FamilySets.{lists_of}
 use Rattle.tsp_cases.specs.GoodFamilies.{HasEachOnce}

@@ -1,4 +1,5 @@
--- The goals of `other_crossings` in src/other_families.rt: what it ensures.
+-- The goals of `other_crossings` in src/other_families.rt, which finds the crossings of a family that is no comb: what
+-- it ensures.
 use Rattle.std.proofs.Common.{arith}
 use Rattle.std.proofs.lemmas.Bool.{iff_false}
 use Rattle.tsp_families.specs.FamilySets.{lists_of}

@@ -1,4 +1,5 @@
--- The goals of `judge_leaves` in src/pass.rt: its loop, what its calls require and what it ensures.
+-- The goals of `judge_leaves` in src/pass.rt, which finds the least bound of all leaves, or the first bad leaf: its
+-- loop, what its calls require and what it ensures.
 use Rattle.std.proofs.Common.{rules, ℕ, ℤ, Bool, true, List, [], Option, None, Some, inl, ◌++◌, ◌+◌, ◌^◌, ◌<◌, length, drop, replicate, ◌≡◌, sym, ap, ap₂, subst, ◌∙◌, arith}
 use Rattle.std.specs.Prelude.{pos}
 use Rattle.std.specs.List.{All}

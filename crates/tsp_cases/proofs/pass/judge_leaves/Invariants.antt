@@ -1,4 +1,4 @@
--- The loop of `judge_leaves` in src/pass.rt.
+-- The loop of `judge_leaves` in src/pass.rt, which finds the least bound of all leaves, or the first bad leaf.
 use Rattle.std.proofs.Common.{◌≡◌, ◌≤◌, ◌+◌, ℕ, length, drop}
 use Rattle.std.specs.Prelude.{IfSome}
 use Rattle.tsp_format.specs.states.TreeSteps.{steps_of}

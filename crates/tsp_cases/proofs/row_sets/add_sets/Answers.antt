@@ -1,4 +1,5 @@
--- The goals of `add_sets` in src/row_sets.rt: its loop and what it ensures.
+-- The goals of `add_sets` in src/row_sets.rt, which adds the multipliers of a node's sets to its row: its loop and what
+-- it ensures.
 use Rattle.std.proofs.Common.{◌≡◌, ◌≤◌, ◌<◌, ℕ, ℤ, List, length, get_or, refl, ap, subst, inl, ◌∙◌, arith, to_z, of_z}
 use Rattle.std.specs.Int.{w64}
 use Rattle.std.specs.Prelude.{pos, ◌*ℤ◌}

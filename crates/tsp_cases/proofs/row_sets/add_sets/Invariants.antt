@@ -1,4 +1,4 @@
--- The loop of `add_sets` in src/row_sets.rt.
+-- The loop of `add_sets` in src/row_sets.rt, which adds the multipliers of a node's sets to its row.
 use Rattle.std.proofs.Common.{ℕ, ℤ, drop}
 use Rattle.tsp_theory.specs.states.Nearest.{least_at}
 use Rattle.tsp_cases.specs.states.Sets.{IsMoved}

@@ -1,4 +1,5 @@
--- The goals of `add_to_sets` in src/row_sets.rt: its loop and what it ensures.
+-- The goals of `add_to_sets` in src/row_sets.rt, which adds a number at each node of some sets: its loop and what it
+-- ensures.
 use Rattle.std.proofs.Common.{◌≡◌, ◌≤◌, ◌∙◌, ℕ, ℤ, List, length, get_or, refl, ap, sym, subst, inl, arith, rules, FitsSigned, to_z, of_z}
 use Rattle.std.specs.Int.{w64}
 use Rattle.std.specs.Global.{Vec}

@@ -1,4 +1,4 @@
--- The loop of `add_to_sets` in src/row_sets.rt.
+-- The loop of `add_to_sets` in src/row_sets.rt, which adds a number at each node of some sets.
 use Rattle.std.proofs.Common.{ℕ, ℤ, drop}
 use Rattle.tsp_theory.specs.Length.{sum_int_by}
 use Rattle.tsp_theory.specs.states.Nearest.{least_at}

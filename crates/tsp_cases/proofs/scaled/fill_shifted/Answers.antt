@@ -1,4 +1,4 @@
--- The goals of `fill_shifted` in src/scaled.rt: its loop.
+-- The goals of `fill_shifted` in src/scaled.rt, which writes a row plus the numbers of both nodes: its loop.
 use Rattle.std.proofs.Common.{◌≡◌, ◌<◌, ℕ, ℤ, List, length, inl, inr, sym, subst, ap, ap₂, ◌∙◌, arith, rules, to_z, of_z, FitsSigned}
 use Rattle.std.specs.Prelude.{pos, ◌+ℤ◌}
 use Rattle.std.specs.Int.{w64, int_wrap}

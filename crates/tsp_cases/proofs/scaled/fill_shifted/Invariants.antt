@@ -1,4 +1,4 @@
--- The loop of `fill_shifted` in src/scaled.rt.
+-- The loop of `fill_shifted` in src/scaled.rt, which writes a row plus the numbers of both nodes.
 use Rattle.std.proofs.Common.{◌≡◌, ◌<◌, ℕ}
 use Rattle.std.specs.Int.{w64, int_wrap}
 use Rattle.std.specs.Prelude.{◌+ℤ◌}

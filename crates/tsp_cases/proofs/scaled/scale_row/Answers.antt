@@ -1,4 +1,4 @@
--- The goals of `scale_row` in src/scaled.rt: its loop.
+-- The goals of `scale_row` in src/scaled.rt, which multiplies a row of costs by the scale: its loop.
 use Rattle.std.proofs.Common.{◌≡◌, ◌<◌, ◌≤◌, ℕ, ℤ, List, length, inl, inr, sym, ap, ◌∙◌, arith, to_z, of_z}
 use Rattle.std.specs.Prelude.{pos, neg_ℤ, ◌*ℤ◌}
 use Rattle.std.specs.Int.{w64}

@@ -1,4 +1,4 @@
--- The loop of `scale_row` in src/scaled.rt.
+-- The loop of `scale_row` in src/scaled.rt, which multiplies a row of costs by the scale.
 use Rattle.std.proofs.Common.{◌≡◌, ◌≤◌, ◌<◌, ℕ}
 use Rattle.std.specs.Prelude.{◌*ℤ◌}
 use Rattle.tsp_theory.specs.states.Nearest.{least_at}

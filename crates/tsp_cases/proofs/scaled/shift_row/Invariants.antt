@@ -1,4 +1,4 @@
--- The loop of `shift_row` in src/scaled.rt.
+-- The loop of `shift_row` in src/scaled.rt, which adds the numbers of both nodes to a row.
 use Rattle.std.proofs.Common.{◌≡◌, ◌≤◌, ◌<◌, ℕ}
 use Rattle.std.specs.Int.{w64, int_wrap}
 use Rattle.std.specs.Prelude.{◌+ℤ◌}

@@ -1,4 +1,4 @@
--- The goals of `add_to_nodes` in src/sets.rt: its loop and what it ensures.
+-- The goals of `add_to_nodes` in src/sets.rt, which adds a number at each node of a list: its loop and what it ensures.
 use Rattle.std.proofs.Common.{◌≡◌, ◌≤◌, ℕ, ℤ, List, length, get_or, refl, ap, sym, ◌∙◌, subst, inl, arith, rules, FitsSigned, to_z, of_z}
 use Rattle.std.specs.Int.{w64}
 use Rattle.std.specs.Prelude.{pos}

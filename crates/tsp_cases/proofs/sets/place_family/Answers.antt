@@ -1,4 +1,5 @@
--- The goals of `place_family` in src/sets.rt: its loop and what it ensures.
+-- The goals of `place_family` in src/sets.rt, which puts a family's sets into the lists of their nodes: its loop and
+-- what it ensures.
 use Rattle.std.proofs.Common.{◌≤◌, ◌<◌, ◌++◌, ℕ, List, length, get_or, ap, sym, ◌∙◌, arith}
 use Rattle.std.specs.Global.{Vec}
 use Rattle.std.proofs.lemmas.List.{drop_all, append-nil}

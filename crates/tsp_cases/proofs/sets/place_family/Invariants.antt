@@ -1,4 +1,4 @@
--- The loop of `place_family` in src/sets.rt.
+-- The loop of `place_family` in src/sets.rt, which puts a family's sets into the lists of their nodes.
 use Rattle.std.proofs.Common.{◌≡◌, ◌<◌, ℕ, ◌++◌, drop, length, get_or}
 use Rattle.std.specs.Global.{Vec}
 use Rattle.tsp_families.specs.FamilySets.{lists_of}

@@ -1,4 +1,4 @@
--- The goals of `place_set` in src/sets.rt: its loop and what it ensures.
+-- The goals of `place_set` in src/sets.rt, which puts a set into the lists of its nodes: its loop and what it ensures.
 use Rattle.std.proofs.Common.{◌≤◌, ◌<◌, ℕ, List, ◌++◌, length, get_or, refl, ap, sym, subst, ◌∙◌, arith}
 use Rattle.std.proofs.Math.ListN.{length-set}
 use Rattle.std.proofs.lemmas.List.{drop_all, append-nil}

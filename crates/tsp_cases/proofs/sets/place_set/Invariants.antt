@@ -1,4 +1,4 @@
--- The loop of `place_set` in src/sets.rt.
+-- The loop of `place_set` in src/sets.rt, which puts a set into the lists of its nodes.
 use Rattle.std.proofs.Common.{◌≡◌, ◌<◌, ℕ, ◌++◌, drop, length, get_or}
 use Rattle.std.specs.Global.{Vec}
 use Rattle.tsp_cases.specs.declared.set_place.SetPlace.{SetPlace}

@@ -1,4 +1,5 @@
--- The goals of `sets_by_node` in src/sets.rt: its loop and what it ensures.
+-- The goals of `sets_by_node` in src/sets.rt, which lists at each node the sets that have it: its loop and what it
+-- ensures.
 use Rattle.std.proofs.Common.{◌≤◌, ◌<◌, ◌++◌, ℕ, List, length, get_or, ap, sym, ◌∙◌, arith}
 use Rattle.std.specs.Global.{Vec}
 use Rattle.std.proofs.lemmas.List.{drop_all, append-nil}

@@ -1,4 +1,4 @@
--- The loop of `sets_by_node` in src/sets.rt.
+-- The loop of `sets_by_node` in src/sets.rt, which lists at each node the sets that have it.
 use Rattle.std.proofs.Common.{◌≡◌, ◌≤◌, ◌+◌, ℕ, ◌++◌, drop, length, get_or}
 use Rattle.std.specs.Global.{Vec}
 use Rattle.tsp_families.specs.FamilySets.{families_in}

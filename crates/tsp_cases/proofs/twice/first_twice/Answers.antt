@@ -1,4 +1,5 @@
--- The goals of `first_twice` in src/twice.rt: its loop, what its calls require and what it ensures.
+-- The goals of `first_twice` in src/twice.rt, which finds the first branch on a pair that is decided already: its loop,
+-- what its calls require and what it ensures.
 use Rattle.std.proofs.Common.{◌∙◌, ◌+◌, ℕ, Bool, true, false, List, drop, arith, sym, subst}
 use Rattle.std.specs.List.{All}
 use Rattle.std.proofs.Math.Logic.{∥∥₁_elim}

@@ -1,4 +1,4 @@
--- The loop of `first_twice` in src/twice.rt.
+-- The loop of `first_twice` in src/twice.rt, which finds the first branch on a pair that is decided already.
 use Rattle.std.proofs.Common.{◌≡◌, ◌≤◌, drop}
 use Rattle.tsp_format.specs.states.TreeSteps.{steps_of}
 use Rattle.tsp_cases.specs.states.Decided.{stack_of}

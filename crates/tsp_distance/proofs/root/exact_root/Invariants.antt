@@ -1,4 +1,4 @@
--- The loop of `exact_root` in src/root.rt.
+-- The loop of `exact_root` in src/root.rt, which finds a rounded root by halving a range.
 use Rattle.std.proofs.Common.{◌-◌, ◌<◌, ◌≤◌}
 use Rattle.tsp_distance.specs.states.Rounding.{Covers}
 use Rattle.tsp_distance.proofs.root.exact_root.Given as goal

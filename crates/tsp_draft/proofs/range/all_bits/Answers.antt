@@ -1,4 +1,4 @@
--- The goals of `all_bits` in src/range.rt: its loop and what it ensures.
+-- The goals of `all_bits` in src/range.rt, which unites the bits of all numbers: its loop and what it ensures.
 use Rattle.std.proofs.Common.{◌≡◌, ◌≤◌, ℕ, ℤ, pos, ◌≤ℤ◌, take, bit_or, slice_index_or, of_z, FitsSigned, w64, arith, ap, ◌∙◌, subst, rules}
 use Rattle.std.proofs.lemmas.Int.{ints, to_z-of_z}
 use Rattle.std.proofs.lemmas.Nat.{le_or_l, le_or_r}

@@ -1,4 +1,4 @@
--- The loop of `all_bits` in src/range.rt.
+-- The loop of `all_bits` in src/range.rt, which unites the bits of all numbers.
 use Rattle.std.proofs.Common.{◌<◌, ◌^◌, pos, ◌≤ℤ◌, take}
 use Rattle.std.specs.List.{All}
 use Rattle.tsp_draft.proofs.range.all_bits.Given as goal

@@ -1,4 +1,4 @@
--- The loop of `first_missing` in src/rules.rt.
+-- The loop of `first_missing` in src/rules.rt, which finds the first required field that is missing.
 use Rattle.std.proofs.Common.{◌≡◌, drop}
 use Rattle.tsp_draft.specs.states.Drafts.{fields_of}
 use Rattle.tsp_draft.specs.Validity.{first_failing}

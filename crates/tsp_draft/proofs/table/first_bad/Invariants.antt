@@ -1,4 +1,4 @@
--- The loop of `first_bad` in src/table.rt.
+-- The loop of `first_bad` in src/table.rt, which finds the first field that is invalid on its own.
 use Rattle.std.proofs.Common.{◌≡◌, drop}
 use Rattle.tsp_draft.specs.states.Drafts.{fields_of}
 use Rattle.tsp_draft.specs.Validity.{fits, first_failing}

@@ -1,4 +1,4 @@
--- The goals of `is_whole_tree` in src/validity.rt: its loop.
+-- The goals of `is_whole_tree` in src/validity.rt, which tests whether steps are one whole tree of cases: its loop.
 use Rattle.std.proofs.Common.{◌≡◌, ◌+◌, ◌-◌, ℕ, sym, ◌∙◌, arith}
 use Rattle.tsp_draft.proofs.Trees.{after_branch, after_leaf}
 use Rattle.tsp_draft.proofs.validity.is_whole_tree.Goals as goal

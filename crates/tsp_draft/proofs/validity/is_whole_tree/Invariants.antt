@@ -1,4 +1,4 @@
--- The loop of `is_whole_tree` in src/validity.rt.
+-- The loop of `is_whole_tree` in src/validity.rt, which tests whether steps are one whole tree of cases.
 use Rattle.std.proofs.Common.{◌≡◌, ◌+◌, ◌≤◌, drop}
 use Rattle.tsp_format.specs.Steps.{are_whole}
 use Rattle.tsp_format.specs.states.TreeSteps.{steps_of}

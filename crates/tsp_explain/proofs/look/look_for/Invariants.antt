@@ -1,4 +1,4 @@
--- The measure of the loop of `look_for` in src/look.rt.
+-- The measure of the loop of `look_for` in src/look.rt, which looks for a line of a file.
 use Rattle.std.proofs.Common.{◌+◌, ◌-◌}
 use Rattle.tsp_explain.proofs.look.look_for.Given as goal
 

@@ -1,4 +1,4 @@
--- The loop of `push_indented` in src/text.rt.
+-- The loop of `push_indented` in src/text.rt, which appends bytes and indents each line.
 use Rattle.std.proofs.Common.{◌≡◌, ◌++◌, drop, map}
 use Rattle.std.specs.List.{concat}
 use Rattle.tsp_explain.specs.Indented.{indented_byte}

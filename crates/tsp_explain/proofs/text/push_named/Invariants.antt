@@ -1,4 +1,4 @@
--- The loop of `push_named` in src/text.rt.
+-- The loop of `push_named` in src/text.rt, which appends the bytes of a name.
 use Rattle.std.proofs.Common.{◌≡◌, ◌++◌, drop}
 use Rattle.tsp_explain.specs.ShownBytes.{name_shown}
 use Rattle.tsp_explain.proofs.text.push_named.Given as goal

@@ -1,4 +1,4 @@
--- The loop of `push_shown` in src/text.rt.
+-- The loop of `push_shown` in src/text.rt, which appends bytes of a file as printable ones.
 use Rattle.std.proofs.Common.{◌≡◌, ◌++◌, drop}
 use Rattle.tsp_explain.specs.ShownBytes.{all_shown}
 use Rattle.tsp_explain.proofs.text.push_shown.Given as goal

@@ -1,4 +1,5 @@
--- The goals of `least_cycle` in src/cycles.rt: what it ensures.
+-- The goals of `least_cycle` in src/cycles.rt, which finds the least length of a cycle through all parts: what it
+-- ensures.
 use Rattle.std.proofs.Common.{ℕ, ◌-◌, ◌*◌, ◌≤◌, List, sym, subst, arith}
 use Rattle.std.specs.Prelude.{pos}
 use Rattle.tsp_families.specs.Crossed.{IsLeastLength}

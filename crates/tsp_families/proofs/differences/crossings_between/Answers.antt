@@ -1,4 +1,4 @@
--- The goals of `crossings_between` in src/differences.rt: its loop.
+-- The goals of `crossings_between` in src/differences.rt, which counts the crossings of each two parts: its loop.
 use Rattle.std.proofs.Common.{◌≡◌, ℕ, ◌<◌, ◌≤◌, ◌^◌, List, [], ◌∷◌, ◌++◌, length, get_or, ap, sym, ◌∙◌, subst, arith, refl, length-append, bit_xor, count_ones}
 use Rattle.std.specs.List.{All}
 use Rattle.std.proofs.lemmas.List.Elements.{All-push}

@@ -1,4 +1,4 @@
--- The loop of `crossings_between` in src/differences.rt.
+-- The loop of `crossings_between` in src/differences.rt, which counts the crossings of each two parts.
 use Rattle.std.proofs.Common.{◌≡◌, ◌≤◌, ◌+◌, ◌*◌, length, get_or, bit_xor, count_ones}
 use Rattle.std.specs.List.{All}
 use Rattle.tsp_families.proofs.Tables.{HoldsByRows}

@@ -1,4 +1,4 @@
--- The goals of `family_crossings` in src/family.rt: what it ensures.
+-- The goals of `family_crossings` in src/family.rt, which finds how often cycles cross a family: what it ensures.
 use Rattle.std.proofs.Common.{◌≡◌, ℕ, Bool, List, length, arith, ap, sym, ◌∙◌, subst}
 use Rattle.std.specs.Prelude.{pos, ◌≤◌}
 use Rattle.std.specs.List.{All}

@@ -1,4 +1,4 @@
--- The loop of `largest` in src/family.rt.
+-- The loop of `largest` in src/family.rt, which finds the largest of some numbers.
 use Rattle.std.proofs.Common.{◌≡◌, ◌<◌, ◌≤◌, ◌⊎◌, ℕ, get_or}
 use Rattle.tsp_families.proofs.family.largest.Given as goal
 

@@ -1,4 +1,4 @@
--- The loop of `add_bit` in src/members.rt.
+-- The loop of `add_bit` in src/members.rt, which adds the bit of a set at its nodes.
 use Rattle.std.proofs.Common.{◌≡◌, ℕ, ◌<◌, length, get_or, take}
 use Rattle.tsp_families.proofs.NodeMembers.{with_bit}
 use Rattle.tsp_families.proofs.members.add_bit.Given as goal

@@ -1,4 +1,5 @@
--- The goals of `memberships_of` in src/members.rt: its loop and what its calls require.
+-- The goals of `memberships_of` in src/members.rt, which computes the membership of each node: its loop and what its
+-- calls require.
 use Rattle.std.proofs.Common.{◌≡◌, ℕ, ◌+◌, ◌*◌, ◌%◌, ◌^◌, ◌<◌, ◌++◌, List, length, get_or, take, drop, ap, sym, ◌∙◌, subst, arith}
 use Rattle.std.specs.Prelude.{if◌then◌else◌}
 use Rattle.std.proofs.lemmas.List.{take-append-le, take_all}

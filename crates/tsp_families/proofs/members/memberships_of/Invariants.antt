@@ -1,4 +1,4 @@
--- The loop of `memberships_of` in src/members.rt.
+-- The loop of `memberships_of` in src/members.rt, which computes the membership of each node.
 use Rattle.std.proofs.Common.{◌≡◌, ℕ, ◌+◌, ◌<◌, length, get_or}
 use Rattle.tsp_families.specs.Crossed.{sets_of}
 use Rattle.tsp_families.specs.FamilySets.{lists_of}

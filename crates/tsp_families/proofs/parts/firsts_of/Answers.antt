@@ -1,4 +1,4 @@
--- The goals of `firsts_of` in src/parts.rt: its loop and what it ensures.
+-- The goals of `firsts_of` in src/parts.rt, which finds the first node of each part: its loop and what it ensures.
 use Rattle.std.proofs.Common.{◌≡◌, ℕ, ◌+◌, ◌<◌, ◌≤◌, List, [], ◌∷◌, ◌++◌, length, get_or, ap, sym, ◌∙◌, subst, arith, refl, inl, inr, length-append}
 use Rattle.std.specs.List.{All, Any}
 use Rattle.std.proofs.lemmas.Bool.{cases_eq, iff_false}

@@ -1,4 +1,4 @@
--- The loop of `firsts_of` in src/parts.rt.
+-- The loop of `firsts_of` in src/parts.rt, which finds the first node of each part.
 use Rattle.std.proofs.Common.{◌≡◌, ℕ, ◌<◌, ◌≤◌, length, get_or}
 use Rattle.std.specs.List.{All, Any}
 use Rattle.tsp_families.specs.Memberships.{IsNodePlace, AreDifferent}

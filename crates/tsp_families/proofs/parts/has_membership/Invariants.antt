@@ -1,4 +1,4 @@
--- The loop of `has_membership` in src/parts.rt.
+-- The loop of `has_membership` in src/parts.rt, which tests whether a listed node has a membership.
 use Rattle.std.proofs.Common.{◌≢◌, ℕ, ◌<◌, get_or}
 use Rattle.tsp_families.proofs.parts.has_membership.Given as goal
 

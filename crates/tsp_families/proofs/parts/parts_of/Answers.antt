@@ -1,4 +1,4 @@
--- The goals of `parts_of` in src/parts.rt: what it ensures.
+-- The goals of `parts_of` in src/parts.rt, which finds the parts of a family: what it ensures.
 use Rattle.std.proofs.Common.{◌≡◌, ℕ, List, length, subst}
 use Rattle.std.specs.List.{All}
 use Rattle.tsp_families.specs.Crossed.{sets_of}

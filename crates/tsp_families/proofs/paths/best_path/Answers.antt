@@ -1,4 +1,4 @@
--- The goals of `best_path` in src/paths.rt: what it ensures.
+-- The goals of `best_path` in src/paths.rt, which finds the best path through a set of parts: what it ensures.
 use Rattle.std.proofs.Common.{◌≡◌, ℕ, ◌+◌, ◌-◌, ◌*◌, ◌/◌, ◌%◌, ◌^◌, inl, inr, ap, sym, ◌∙◌, subst, arith, rules}
 use Rattle.std.specs.Int.{bit_at}
 use Rattle.tsp_families.specs.Paths.{cost_by_rows, IsLeastSum}

@@ -1,4 +1,4 @@
--- The goals of `best_paths` in src/paths.rt: its loop.
+-- The goals of `best_paths` in src/paths.rt, which finds the best paths through all sets of parts: its loop.
 use Rattle.std.proofs.Common.{ℕ, ◌+◌, ◌-◌, ◌≤◌, List, [], ◌∷◌, length, ap, sym, ◌∙◌, subst, arith, length-append}
 use Rattle.std.specs.List.{All}
 use Rattle.std.proofs.lemmas.List.Elements.{All-push}

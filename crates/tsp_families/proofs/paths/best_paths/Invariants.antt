@@ -1,4 +1,4 @@
--- The loop of `best_paths` in src/paths.rt.
+-- The loop of `best_paths` in src/paths.rt, which finds the best paths through all sets of parts.
 use Rattle.std.proofs.Common.{◌≡◌, ◌+◌, ◌-◌, ◌*◌, ◌≤◌, length}
 use Rattle.std.specs.List.{All}
 use Rattle.tsp_families.specs.Paths.{cost_by_rows, no_path, AreBestPaths}

@@ -1,4 +1,4 @@
--- The loop of `least_sum` in src/paths.rt.
+-- The loop of `least_sum` in src/paths.rt, which finds the least sum of a step and a best path.
 use Rattle.tsp_families.specs.Paths.{IsLeastSum}
 use Rattle.tsp_families.proofs.paths.least_sum.Given as goal
 

@@ -1,4 +1,5 @@
--- The goals of `keep_half` in src/halves.rt: its loop, what its calls require and what it ensures.
+-- The goals of `keep_half` in src/halves.rt, which copies half of a full matrix to its beginning: its loop, what its
+-- calls require and what it ensures.
 use Rattle.std.proofs.Common.{◌+◌, sym, ap, ◌∙◌, arith}
 use Rattle.tsp_file.proofs.Fronts.{line_kept, all_kept, row_within}
 use Rattle.tsp_file.proofs.halves.keep_half.Goals as goal

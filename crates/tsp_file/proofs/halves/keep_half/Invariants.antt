@@ -1,4 +1,4 @@
--- The loop of `keep_half` in src/halves.rt.
+-- The loop of `keep_half` in src/halves.rt, which copies half of a full matrix to its beginning.
 use Rattle.tsp_file.proofs.Fronts.{HasKept}
 use Rattle.tsp_file.proofs.halves.keep_half.Given as goal
 

@@ -1,4 +1,4 @@
--- The goals of `clear_diagonal` in src/whole.rt: its loop and what it ensures.
+-- The goals of `clear_diagonal` in src/whole.rt, which sets the diagonal to 0: its loop and what it ensures.
 use Rattle.std.proofs.Common.{◌∙◌, refl, sym, arith, pos}
 use Rattle.std.proofs.lemmas.Bool.{false≢true}
 use Rattle.std.proofs.lemmas.List.{length-set}

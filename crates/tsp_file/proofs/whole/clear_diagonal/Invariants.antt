@@ -1,4 +1,4 @@
--- The loop of `clear_diagonal` in src/whole.rt.
+-- The loop of `clear_diagonal` in src/whole.rt, which sets the diagonal to 0.
 use Rattle.std.proofs.Common.{◌≡◌, ◌<◌, ◌*◌, ℕ, length}
 use Rattle.std.specs.Prelude.{ℤ, pos}
 use Rattle.tsp_file.specs.states.Whole.{Fills}

@@ -1,4 +1,4 @@
--- The loop of `fill_across` in src/whole.rt.
+-- The loop of `fill_across` in src/whole.rt, which fills the cells across the diagonal.
 use Rattle.std.proofs.Common.{◌≡◌, ◌+◌, ◌<◌, ◌*◌, ℕ, length}
 use Rattle.std.specs.Prelude.{ℤ}
 use Rattle.tsp_format.specs.Symmetry.{IsSymmetric}

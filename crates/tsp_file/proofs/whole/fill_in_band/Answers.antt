@@ -1,4 +1,4 @@
--- The goals of `fill_in_band` in src/whole.rt: its loop.
+-- The goals of `fill_in_band` in src/whole.rt, which fills the cells of a row of a band across the diagonal: its loop.
 use Rattle.std.proofs.Common.{◌∙◌, ◌<◌, length, ap, arith, rules, pos, FitsSigned, w64}
 use Rattle.std.specs.Prelude.{slice_index_or as get_or}
 use Rattle.std.proofs.lemmas.Int.{to_z-of_z}

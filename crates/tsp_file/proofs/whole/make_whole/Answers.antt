@@ -1,4 +1,4 @@
--- The goals of `make_whole` in src/whole.rt: what it ensures.
+-- The goals of `make_whole` in src/whole.rt, which makes a full matrix of its listed half: what it ensures.
 use Rattle.std.proofs.Common.{◌≡◌, ◌*◌, ◌≤◌, length, take, ap, sym, subst, ◌∙◌, arith}
 use Rattle.std.proofs.Math.Seq.{take-append_seam}
 use Rattle.std.proofs.lemmas.List.{take_all}

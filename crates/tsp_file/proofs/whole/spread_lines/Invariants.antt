@@ -1,4 +1,4 @@
--- The loop of `spread_lines` in src/whole.rt.
+-- The loop of `spread_lines` in src/whole.rt, which moves the lines of a half to their rows.
 use Rattle.std.proofs.Common.{◌≡◌, ◌≤◌, ◌*◌, List, length, take}
 use Rattle.std.specs.Prelude.{ℤ}
 use Rattle.tsp_file.proofs.Spread.{before, SpreadTo}

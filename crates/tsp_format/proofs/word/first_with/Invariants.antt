@@ -1,4 +1,4 @@
--- The loop of `first_with` in src/word.rt.
+-- The loop of `first_with` in src/word.rt, which finds the first value with a word.
 use Rattle.std.proofs.Common.{◌≡◌, drop}
 use Rattle.std.specs.List.{find}
 use Rattle.std.specs.Str.{bytes_eq}

@@ -1,4 +1,4 @@
--- The goals of `value_of` in src/word.rt: what it ensures.
+-- The goals of `value_of` in src/word.rt, which finds the value of a word: what it ensures.
 use Rattle.tsp_format.proofs.FoundWords.{found_is_known, none_is_unknown}
 use Rattle.tsp_format.proofs.word.value_of.Goals as goal
 

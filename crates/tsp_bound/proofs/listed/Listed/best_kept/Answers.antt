@@ -1,4 +1,5 @@
--- The goals of `Listed::best_kept` in src/listed.rt: its loop and what it ensures.
+-- The goals of `Listed::best_kept` in src/listed.rt, which finds the least listed link out of a component: its loop and
+-- what it ensures.
 use Rattle.std.proofs.Common.{◌≡◌, ◌≢◌, ◌+◌, ◌-◌, ◌*◌, ◌<◌, ◌≤ℤ◌, ◌∙◌, ℕ, pos, List, length, get_or, inl, inr, arith, rules, ap, sym, subst, w64, to_z, of_z, SFits}
 use Rattle.std.proofs.lemmas.Bool.{cases_eq}
 use Rattle.std.proofs.lemmas.Int.{to_z-of_z}

@@ -1,4 +1,4 @@
--- The loop of `Listed::best_kept` in src/listed.rt.
+-- The loop of `Listed::best_kept` in src/listed.rt, which finds the least listed link out of a component.
 use Rattle.std.proofs.Common.{◌≢◌, ◌<◌, ℕ, pos, length, IfSome}
 use Rattle.tsp_bound.specs.states.Components.{label_at}
 use Rattle.tsp_bound.specs.states.Lists.{weight_over, kept_at}

@@ -1,4 +1,5 @@
--- The goals of `Listed::least_of_all` in src/listed.rt: its loop.
+-- The goals of `Listed::least_of_all` in src/listed.rt, which finds the least link out of a component by all pairs of a
+-- place: its loop.
 use Rattle.std.proofs.Common.{◌≡◌, ◌≢◌, ◌+◌, ◌<◌, ◌≤ℤ◌, ◌∙◌, ℕ, ℤ, List, length, inl, inr, refl, arith, rules, ap, sym, subst, w64, to_z, of_z, SFits}
 use Rattle.std.proofs.lemmas.Bool.{cases_eq}
 use Rattle.std.proofs.lemmas.Int.{to_z-of_z}

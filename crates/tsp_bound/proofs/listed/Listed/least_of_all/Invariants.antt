@@ -1,4 +1,5 @@
--- The loop of `Listed::least_of_all` in src/listed.rt.
+-- The loop of `Listed::least_of_all` in src/listed.rt, which finds the least link out of a component by all pairs of a
+-- place.
 use Rattle.std.proofs.Common.{◌≢◌, ◌<◌, ℕ, length, IfSome}
 use Rattle.tsp_bound.specs.states.Components.{label_at}
 use Rattle.tsp_bound.specs.states.Lists.{weight_over}

@@ -1,4 +1,5 @@
--- The goals of `Placed::lowered` in src/placed.rt: its loop and what it ensures.
+-- The goals of `Placed::lowered` in src/placed.rt, which finds the nearest node once multipliers lower weights: its
+-- loop and what it ensures.
 use Rattle.std.proofs.Common.{◌≡◌, ◌≤ℤ◌, ◌∙◌, ℕ, ℤ, arith, rules, sym, subst, w64, to_z, of_z, FitsSigned}
 use Rattle.std.proofs.lemmas.Bool.{false≢true}
 use Rattle.std.proofs.lemmas.Int.{to_z-of_z}

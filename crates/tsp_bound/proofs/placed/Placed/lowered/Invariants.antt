@@ -1,4 +1,4 @@
--- The loop of `Placed::lowered` in src/placed.rt.
+-- The loop of `Placed::lowered` in src/placed.rt, which finds the nearest node once multipliers lower weights.
 use Rattle.tsp_bound.proofs.Lowest.{IsLowest}
 use Rattle.tsp_bound.proofs.placed.Placed.lowered.Given as goal
 

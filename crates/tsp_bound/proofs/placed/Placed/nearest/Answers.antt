@@ -1,4 +1,5 @@
--- The goals of `Placed::nearest` in src/placed.rt: what its calls require and what it ensures.
+-- The goals of `Placed::nearest` in src/placed.rt, which finds the nearest node of another component: what its calls
+-- require and what it ensures.
 use Rattle.std.proofs.Common.{ℕ, ◌≡◌, ◌≢◌, sym, subst, pos, rules, ap, w64, to_z, of_z, SFits}
 use Rattle.std.proofs.lemmas.Int.{to_z-of_z}
 use Rattle.tsp_bound.specs.declared.numbered_site.NumberedSite.{NumberedSite}

@@ -1,4 +1,5 @@
--- The goals of `Potentials::weight_from` in src/potentials.rt: that no sum overflows and what it ensures.
+-- The goals of `Potentials::weight_from` in src/potentials.rt, which adds the potentials of both nodes to a scaled
+-- cost: that no sum overflows and what it ensures.
 use Rattle.std.proofs.Common.{◌-◌, ◌<◌, ℤ, length, arith, ◌∙◌}
 use Rattle.std.specs.Prelude.{pos, slice_index_or, ◌+ℤ◌}
 use Rattle.tsp_theory.proofs.Weights.{between_size, weight_fits, weight_computed, scaled_by}

@@ -1,4 +1,5 @@
--- The goals of `Search::better_of` in src/search.rt: what it ensures.
+-- The goals of `Search::better_of` in src/search.rt, which compares a place with the nearest one so far: what it
+-- ensures.
 use Rattle.std.proofs.Common.{◌≡◌, ◌≤ℤ◌, ◌<ℤ◌, ◌+◌, ℕ, ℤ, length, arith, rules, sym, ◌∙◌, subst, inr, w64, to_z, of_z, SFits}
 use Rattle.std.proofs.lemmas.Int.{ints, to_z-of_z}
 use Rattle.std.proofs.lemmas.Bool.{false≢true}

@@ -1,4 +1,5 @@
--- The goals of `Search::is_left_alone` in src/search.rt: what its calls require and what it ensures.
+-- The goals of `Search::is_left_alone` in src/search.rt, which tests whether a box is too far to search: what its calls
+-- require and what it ensures.
 use Rattle.std.proofs.Common.{Option, Some, ◌≡◌, ◌≤ℤ◌, ◌+ℤ◌, ◌*ℤ◌, ℤ, rules, sym, w64, SFits, subst}
 use Rattle.std.proofs.lemmas.Int.{to_z-of_z}
 use Rattle.tsp_bound.specs.declared.area.Area.{Area}

@@ -1,4 +1,4 @@
--- The loop of `CaseLeaf::are_exact` in src/leaf_rows.rt.
+-- The loop of `CaseLeaf::are_exact` in src/leaf_rows.rt, which tests whether boxes suit the numbers of a leaf.
 use Rattle.std.proofs.Common.{◌≡◌, ◌≤◌, ◌<◌, ℕ}
 use Rattle.std.specs.Prelude.{pos, neg_ℤ, ◌+ℤ◌}
 use Rattle.tsp_theory.specs.CertificateNumbers.{IsFromTo, entry, most_number}

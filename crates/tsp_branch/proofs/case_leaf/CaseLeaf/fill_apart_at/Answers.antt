@@ -1,4 +1,5 @@
--- The goals of `CaseLeaf::fill_apart_at` in src/leaf_rows.rt: its loop.
+-- The goals of `CaseLeaf::fill_apart_at` in src/leaf_rows.rt, which writes some weights of a row as if no set had two
+-- nodes: its loop.
 use Rattle.std.proofs.Common.{◌≡◌, ◌∙◌, ◌<◌, ℕ, ℤ, List, length, slice_index, inl, inr, ap, sym, subst, arith, rules, FitsSigned, to_z, of_z}
 use Rattle.std.specs.Int.{w64}
 use Rattle.std.specs.Prelude.{pos}

@@ -1,4 +1,5 @@
--- The loop of `CaseLeaf::fill_apart_at` in src/leaf_rows.rt.
+-- The loop of `CaseLeaf::fill_apart_at` in src/leaf_rows.rt, which writes some weights of a row as if no set had two
+-- nodes.
 use Rattle.std.proofs.Common.{◌<◌, ℕ, length, slice_index}
 use Rattle.tsp_theory.specs.states.Nearest.{least_at}
 use Rattle.tsp_cases.specs.states.Lent.{lent_in}

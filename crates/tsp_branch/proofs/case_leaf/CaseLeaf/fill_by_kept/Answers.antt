@@ -1,4 +1,5 @@
--- The goals of `CaseLeaf::fill_by_kept` in src/leaf_rows.rt: what it ensures.
+-- The goals of `CaseLeaf::fill_by_kept` in src/leaf_rows.rt, which writes a row of a leaf's weights from the row kept
+-- for its node: what it ensures.
 use Rattle.std.proofs.Common.{◌≡◌, ◌∙◌, ◌-◌, ◌+◌, ℕ, ℤ, List, false, get_or, inr, ap, sym, subst, arith, rules, to_z, of_z, FitsSigned}
 use Rattle.std.specs.Int.{w64, int_wrap}
 use Rattle.std.specs.Prelude.{pos, neg_ℤ, ◌*ℤ◌}

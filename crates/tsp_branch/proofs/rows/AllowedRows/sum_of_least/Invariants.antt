@@ -1,4 +1,4 @@
--- The loop of `AllowedRows::sum_of_least` in src/rows.rt.
+-- The loop of `AllowedRows::sum_of_least` in src/rows.rt, which sums the least links of all nodes of an ATSP.
 use Rattle.tsp_theory.specs.CertificateNumbers.{IsSumSized}
 use Rattle.tsp_cases.specs.Rows.{IsSumOfLeast}
 use Rattle.tsp_cases.specs.states.OpenCases.{decisions_in}

@@ -1,4 +1,5 @@
--- The goals of `KeptRows::leave` in src/kept.rt: its loop, what its calls require and what it ensures.
+-- The goals of `KeptRows::leave` in src/kept.rt, which moves the marks of decisions to the next case: its loop, what
+-- its calls require and what it ensures.
 use Rattle.std.proofs.Common.{◌≡◌, ◌∙◌, ◌+◌, ◌-◌, ◌<◌, ◌++◌, ◌∷◌, ℕ, ℤ, Bool, List, Option, None, true, false, take, get_or, length, refl, ap, sym, subst, arith}
 use Rattle.std.specs.List.{All}
 use Rattle.std.proofs.lemmas.List.{take_all}

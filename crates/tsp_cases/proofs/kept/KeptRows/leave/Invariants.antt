@@ -1,4 +1,4 @@
--- The loop of `KeptRows::leave` in src/kept.rt.
+-- The loop of `KeptRows::leave` in src/kept.rt, which moves the marks of decisions to the next case.
 use Rattle.std.proofs.Common.{◌≡◌, ◌≤◌, ◌++◌, ℕ, List, false, take, length}
 use Rattle.std.specs.Prelude.{ℤ}
 use Rattle.std.specs.List.{All}

@@ -1,4 +1,5 @@
--- The goals of `KeptRows::mark` in src/kept.rt: what its calls require and what it ensures.
+-- The goals of `KeptRows::mark` in src/kept.rt, which marks a decision in the kept rows: what its calls require and
+-- what it ensures.
 use Rattle.std.proofs.Common.{◌∙◌, rules, FitsSigned, to_z, of_z}
 use Rattle.std.specs.Int.{w64}
 use Rattle.std.proofs.lemmas.Int.{to_z-of_z}

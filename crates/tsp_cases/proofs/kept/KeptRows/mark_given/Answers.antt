@@ -1,4 +1,5 @@
--- The goals of `KeptRows::mark_given` in src/kept.rt: its loop, what its calls require and what it ensures.
+-- The goals of `KeptRows::mark_given` in src/kept.rt, which marks the given decisions in the kept rows: its loop, what
+-- its calls require and what it ensures.
 use Rattle.std.proofs.Common.{◌≡◌, ◌∙◌, ◌+◌, ◌-◌, ◌<◌, ℕ, List, ◌∷◌, false, drop, get_or, length, ap, sym, subst, arith, drop-cons, add-one}
 use Rattle.std.proofs.lemmas.List.{drop_all}
 use Rattle.tsp_cases.specs.declared.decision.Decision.{Decision}

@@ -1,4 +1,4 @@
--- The loop of `KeptRows::mark_given` in src/kept.rt.
+-- The loop of `KeptRows::mark_given` in src/kept.rt, which marks the given decisions in the kept rows.
 use Rattle.std.proofs.Common.{◌≤◌, ℕ, List, [], drop, length}
 use Rattle.std.specs.Prelude.{ℤ}
 use Rattle.std.specs.List.{All}

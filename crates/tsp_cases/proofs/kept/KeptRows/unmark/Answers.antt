@@ -1,4 +1,5 @@
--- The goals of `KeptRows::unmark` in src/kept.rt: what its calls require and what it ensures.
+-- The goals of `KeptRows::unmark` in src/kept.rt, which takes the mark of a decision off the kept rows: what its calls
+-- require and what it ensures.
 use Rattle.std.proofs.Common.{◌≡◌, ◌∷◌, ℤ, false, arith, to_z, of_z}
 use Rattle.std.specs.Int.{w64}
 use Rattle.std.specs.Prelude.{pos, neg_ℤ, ◌-ℤ◌}

@@ -1,4 +1,4 @@
--- The loop of `OpenCase::decides` in src/open_case.rt.
+-- The loop of `OpenCase::decides` in src/open_case.rt, which tests whether a pair is decided.
 use Rattle.std.proofs.Common.{◌≡◌, ◌<◌, ℕ, false}
 use Rattle.std.specs.Prelude.{slice_index_or}
 use Rattle.tsp_cases.specs.declared.decision.Decision.{Decision}

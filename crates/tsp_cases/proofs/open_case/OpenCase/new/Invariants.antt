@@ -1,4 +1,4 @@
--- The loop of `OpenCase::new` in src/open_case.rt.
+-- The loop of `OpenCase::new` in src/open_case.rt, which opens the case of the given decisions.
 use Rattle.std.proofs.Common.{◌≡◌, ◌≤◌, drop, length}
 use Rattle.tsp_cases.specs.states.OpenCases.{AreByNode}
 use Rattle.tsp_cases.proofs.open_case.OpenCase.new.Given as goal

@@ -1,4 +1,4 @@
--- The loop of `OpenCase::next` in src/open_case.rt.
+-- The loop of `OpenCase::next` in src/open_case.rt, which goes from a leaf to the next open case.
 use Rattle.std.proofs.Common.{◌≡◌, ◌≤◌, ℕ, length}
 use Rattle.tsp_cases.specs.Cases.{next_stack}
 use Rattle.tsp_cases.specs.states.Decided.{stack_of}

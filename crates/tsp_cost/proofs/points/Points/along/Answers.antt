@@ -1,4 +1,4 @@
--- The goals of `Points::along` in src/points.rt: its loop, and what it ensures.
+-- The goals of `Points::along` in src/points.rt, which computes the length of a tour: its loop, and what it ensures.
 use Rattle.std.proofs.Common.{◌≡◌, ◌≤◌, ℕ, ◌+◌, ◌-◌, List, [], ◌∷◌, ◌++◌, length, sym, ap, subst, ◌∙◌, arith, to_z, take-append-drop}
 use Rattle.std.specs.Prelude.{ℤ, pos, ◌+ℤ◌}
 use Rattle.std.specs.Int.{w64}

@@ -1,4 +1,4 @@
--- The loop of `Points::along` in src/points.rt.
+-- The loop of `Points::along` in src/points.rt, which computes the length of a tour.
 use Rattle.std.proofs.Common.{◌≡◌, ◌+◌, ◌-◌, ◌≤◌, length}
 use Rattle.std.specs.Prelude.{◌+ℤ◌}
 use Rattle.std.specs.List.{All}

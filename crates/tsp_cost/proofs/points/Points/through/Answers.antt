@@ -1,4 +1,4 @@
--- The goals of `Points::through` in src/points.rt: its loop.
+-- The goals of `Points::through` in src/points.rt, which sums the costs along a block of nodes: its loop.
 use Rattle.std.proofs.Common.{◌≡◌, ◌≤◌, ℕ, suc, ◌+◌, ◌∷◌, sym, ap, ap₂, ◌∙◌, arith, to_z, of_z, add-one}
 use Rattle.std.specs.Prelude.{ℤ, pos, neg_ℤ, slice_index_or, ◌≤ℤ◌}
 use Rattle.std.specs.Int.{w64}

@@ -1,4 +1,4 @@
--- The loop of `Points::through` in src/points.rt.
+-- The loop of `Points::through` in src/points.rt, which sums the costs along a block of nodes.
 use Rattle.std.proofs.Common.{◌≡◌, ℕ, List, ◌∷◌, ◌++◌, drop}
 use Rattle.std.specs.Prelude.{◌+ℤ◌, slice_index_or}
 use Rattle.tsp_format.specs.Nodes.{IsNode}

@@ -1,4 +1,5 @@
--- The goals of `ListedWeights::first_on_diagonal` in src/weights.rt: what it ensures.
+-- The goals of `ListedWeights::first_on_diagonal` in src/weights.rt, which finds the first node that doesn't cost 0 to
+-- itself: what it ensures.
 use Rattle.std.proofs.Common.{◌<◌, ⊎_elim, arith}
 use Rattle.tsp_file.proofs.Listed.{nodes_or_not}
 use Rattle.tsp_file.proofs.Relaid.{cost_outside}

@@ -1,4 +1,5 @@
--- The loop of `ListedWeights::first_on_diagonal` in src/weights.rt.
+-- The loop of `ListedWeights::first_on_diagonal` in src/weights.rt, which finds the first node that doesn't cost 0 to
+-- itself.
 use Rattle.std.proofs.Common.{◌≡◌, ℕ, ◌<◌}
 use Rattle.std.specs.Prelude.{pos}
 use Rattle.tsp_format.specs.Nodes.{IsNode}

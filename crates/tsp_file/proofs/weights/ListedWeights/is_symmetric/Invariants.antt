@@ -1,4 +1,4 @@
--- The loop of `ListedWeights::is_symmetric` in src/weights.rt.
+-- The loop of `ListedWeights::is_symmetric` in src/weights.rt, which tests the symmetry of all costs, block by block.
 use Rattle.std.proofs.Common.{◌≡◌, ℕ, ◌<◌, ◌≤◌, ◌*◌}
 use Rattle.tsp_format.specs.Nodes.{IsNode}
 use Rattle.tsp_file.specs.states.Weights.{costs_of}

@@ -1,4 +1,4 @@
--- The loop of `ListedWeights::is_symmetric_block` in src/weights.rt.
+-- The loop of `ListedWeights::is_symmetric_block` in src/weights.rt, which tests the symmetry of a block, row by row.
 use Rattle.std.proofs.Common.{◌≡◌, ℕ, ◌<◌, ◌≤◌, ◌+◌}
 use Rattle.tsp_file.specs.states.Weights.{costs_of}
 use Rattle.tsp_file.proofs.weights.ListedWeights.is_symmetric_block.Given as goal

@@ -1,4 +1,5 @@
--- The goals of `ListedWeights::laid_out` in src/weights.rt: its loop and what it ensures.
+-- The goals of `ListedWeights::laid_out` in src/weights.rt, which lists the costs in another layout: its loop and what
+-- it ensures.
 use Rattle.std.proofs.Common.{sym, subst, arith}
 use Rattle.std.specs.List.{All}
 use Rattle.tsp_format.specs.Limits.{most_weight}

@@ -1,4 +1,4 @@
--- The loop of `ListedWeights::laid_out` in src/weights.rt.
+-- The loop of `ListedWeights::laid_out` in src/weights.rt, which lists the costs in another layout.
 use Rattle.std.proofs.Common.{◌≡◌, ◌-◌, map, take}
 use Rattle.std.specs.List.{flat_map}
 use Rattle.tsp_format.specs.Nodes.{nodes_to}

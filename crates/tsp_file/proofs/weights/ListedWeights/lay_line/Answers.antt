@@ -1,4 +1,5 @@
--- The goals of `ListedWeights::lay_line` in src/weights.rt: its loop and what it ensures.
+-- The goals of `ListedWeights::lay_line` in src/weights.rt, which lists the costs of a line in another layout: its loop
+-- and what it ensures.
 use Rattle.std.proofs.Common.{◌<◌, List, ◌++◌, length, map, ap, sym, subst, ◌∙◌, arith}
 use Rattle.std.specs.Prelude.{ℤ}
 use Rattle.std.proofs.lemmas.List.{take_all}

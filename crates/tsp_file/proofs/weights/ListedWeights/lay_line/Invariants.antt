@@ -1,4 +1,4 @@
--- The loop of `ListedWeights::lay_line` in src/weights.rt.
+-- The loop of `ListedWeights::lay_line` in src/weights.rt, which lists the costs of a line in another layout.
 use Rattle.std.proofs.Common.{◌≡◌, ◌++◌, map, take}
 use Rattle.tsp_format.specs.Cells.{cells_of_line}
 use Rattle.tsp_file.specs.states.Weights.{costs_of}

@@ -1,4 +1,5 @@
--- The goals of `ListedWeights::lost_pair` in src/weights.rt: what it ensures.
+-- The goals of `ListedWeights::lost_pair` in src/weights.rt, which finds the first pair whose cost another layout would
+-- lose: what it ensures.
 use Rattle.std.proofs.Common.{inr}
 use Rattle.tsp_file.proofs.Relaid.{triangle_holds}
 use Rattle.tsp_file.proofs.weights.ListedWeights.lost_pair.Goals as goal
