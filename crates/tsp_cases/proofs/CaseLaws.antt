@@ -1,4 +1,4 @@
--- A cycle uses the pair of a branch or not, so it is in one of both cases, and in the end in the case of a leaf. For
+-- A cycle uses the pair of a branch or not, so it is in one of both cases. In the end it is in the case of a leaf. For
 -- the law `steps_leave_cases` in src/laws.rt and others.
 use Rattle.std.proofs.Common.{◌≡◌, ℕ, ◌==◌, ◌&&◌, Bool, true, false, List, [], ◌∷◌, length, ℤ, ◌≤ℤ◌, ◌⊎◌, inl, inr, refl, sym, ap, ◌∙◌, subst, arith}
 use Rattle.std.specs.List.{All, AllByRecursion, Contains, list_any}

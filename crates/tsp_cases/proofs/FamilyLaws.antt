@@ -1,5 +1,5 @@
--- A cycle crosses a lone set at least twice, a comb of k teeth 3k + 1 times, and other sets as often as their least
--- cycle. For the laws `cycles_cross_families` and `numbers_are_unique` in src/laws.rt.
+-- A cycle crosses a lone set at least twice, and a comb of k teeth 3k + 1 times. It crosses other sets as often as
+-- their least cycle. For the laws `cycles_cross_families` and `numbers_are_unique` in src/laws.rt.
 use Rattle.std.proofs.Common.{◌≡◌, ℕ, zero, suc, ◌+◌, ◌*◌, Bool, List, [], ◌∷◌, length, ◌+ℤ◌, ◌≤ℤ◌, inl, inr, arith, ap₂, sym, ◌∙◌, subst}
 use Rattle.std.specs.Prelude.{pos}
 use Rattle.std.proofs.lemmas.Int.{ints}

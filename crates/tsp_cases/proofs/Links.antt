@@ -1,4 +1,4 @@
--- A cycle has one link out of each node and one into it, so a link that a decision forbids isn't in a cycle that keeps
+-- A cycle has one link out of each node and one into it. So a link that a decision forbids isn't in a cycle that keeps
 -- it. For the law `links_are_allowed` in src/laws.rt.
 use Rattle.std.proofs.Common.{◌≡◌, ◌≢◌, ℕ, zero, suc, ◌≤◌, ◌==◌, ◌&&◌, ◌||◌, Bool, true, false, List, [], ◌∷◌, ◌+ℤ◌, ◌≤ℤ◌, inl, inr, refl, sym, ap, ◌∙◌, subst, arith}
 use Rattle.std.specs.Prelude.{pos}

@@ -1,5 +1,5 @@
--- The first bad leaf, and the first branch on a pair decided above it, are the same in one pass over the steps and by
--- index. For `judge_leaves` in src/pass.rt and others.
+-- The first bad leaf is the same in one pass over the steps and by index, and so is the first branch on a decided pair.
+-- For `judge_leaves` in src/pass.rt and others.
 use Rattle.std.proofs.Common.{◌≡◌, ℕ, zero, suc, ◌+◌, ◌-◌, ◌<◌, Bool, true, false, List, [], ◌∷◌, get_or, take, length, ℤ, inl, inr, subst, arith}
 use Rattle.std.specs.Prelude.{◌⊎◌}
 use Rattle.tsp_format.specs.Steps as listed

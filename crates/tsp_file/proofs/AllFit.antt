@@ -1,5 +1,5 @@
--- A test that all elements of a list pass is passed by each of them, so each field of a valid file is valid on its own.
--- For the law `a_valid_text_is_short` in src/laws.rt.
+-- Where all elements of a list pass a test, each one passes it, so each field of a valid file is valid on its own. For
+-- the law `a_valid_text_is_short` in src/laws.rt.
 use Rattle.std.proofs.Common.{◌≡◌, Bool, true, false, cond, List, [], ◌∷◌, Option, None, Some, refl, sym, subst}
 use Rattle.std.specs.Prelude.{◌&&◌, not}
 use Rattle.std.specs.List.{find, list_all}

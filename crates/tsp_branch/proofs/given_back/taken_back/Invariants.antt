@@ -6,7 +6,7 @@ use Rattle.tsp_theory.specs.Adjusted.{triples_total}
 use Rattle.tsp_cases.specs.Decisions.{on_taken, decided_number}
 use Rattle.tsp_branch.proofs.given_back.taken_back.Given as goal
 
--- the sum so far plus the numbers of the taken pairs left is the whole sum, with at most 4 * 10^18 for each pair so far
+-- the sum so far plus the numbers of the taken pairs left is the whole sum; each pair adds at most 4 * 10^18
 abbrev pub invariant-decisions : goal.invariant-decisions
 invariant-decisions l = record {
   size : IsFromTo (pos 0) (pos (l.decision-index * most_number)) l.sum;

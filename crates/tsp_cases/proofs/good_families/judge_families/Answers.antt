@@ -45,8 +45,8 @@ returns-in_default g c =
     first_found n c.families.number lists (omega (arith, c.families-test.true, long)) (good_so_far n c.families.number lists c.families.crossed.items h.many h.have)
     (λ good. none (subst (IsGoodFamily n) (sym same) good))
 
--- plan: a good family is put behind those before it (`numbers_more`, `All-push`), and the marks that its test has left
--- are no marks of later families (`written`)
+-- plan: a good family is put behind those before it (`numbers_more`, `All-push`). The marks that its test has left
+-- aren't those of later families (`written`)
 pub families-preserved : goal.families-preserved
 families-preserved g c =
     let h = c.families.invariant in

@@ -6,7 +6,7 @@ use Rattle.tsp_draft.specs.Validity.{is_other}
 use Rattle.tsp_draft.proofs.Mapped.{mapped_all}
 use Rattle.tsp_draft.proofs.table.are_others.Goals as goal
 
--- plan: a line of an unknown keyword fits if its bytes do, so the test of the lines is that of the list of their bytes
+-- plan: a line of an unknown keyword fits if its bytes do. So the test of the lines is that of the list of their bytes
 -- (`mapped_all`)
 pub returns-then-len-le-MOST_OTHERS : goal.returns-then-len-le-MOST_OTHERS
 returns-then-len-le-MOST_OTHERS c =

@@ -11,7 +11,7 @@ use Rattle.tsp_families.proofs.LeastCycles.{small_cycle, small_largest}
 use Rattle.tsp_families.proofs.NodeMembers.{places_from, least_between, most_between, few_parts, sets_long}
 use Rattle.tsp_families.proofs.family.family_crossings.Goals as goal
 
--- plan: nodes of one part are crossed alike, so the best cycle of the parts gives the least crossings
+-- plan: nodes of one part are crossed alike. So the best cycle of the parts gives the least crossings
 -- (`least_between`), and the largest cell the most of two nodes (`most_between`)
 pub returns-clause-least : goal.returns-clause-least
 returns-clause-least c =

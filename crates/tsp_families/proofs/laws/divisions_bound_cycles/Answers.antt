@@ -2,7 +2,7 @@
 use Rattle.tsp_families.proofs.Divisions.{divisions_bound_cycles}
 use Rattle.tsp_families.proofs.laws.divisions_bound_cycles.Goals as goal
 
--- plan: a cycle is a walk through the parts, and without repetitions it is a cyclic order of them that is no longer, by
+-- plan: a cycle is a walk through the parts. Without its repetitions it is a cyclic order of them that is no longer, by
 -- the triangle inequality
 pub returns : goal.returns
 returns c = divisions_bound_cycles

@@ -39,7 +39,7 @@ invariant_of-sum g c =
           (omega (arith, ints, taken.0, less.0), omega (arith, ints, taken.1, less.1));
     }
 
--- plan: the weights of the 1-tree are those of the leaf (`case_weight`), and the sum that is passed is the one that its
+-- plan: the weights of the 1-tree are those of the leaf (`case_weight`). The sum that is passed is the one that its
 -- bound gives back (`back_of`)
 pub returns-clause-bound : goal.returns-clause-bound
 returns-clause-bound g c =

@@ -6,8 +6,8 @@ use Rattle.tsp_cases.proofs.OpenCases.{ListsNow, now_less, taken_less, filter_ou
 use Rattle.tsp_cases.proofs.node_decisions.NodeDecisions.drop_last.Goals as goal
 use Rattle.tsp_cases.proofs.node_decisions.NodeDecisions.drop_last.Goals.{then-not-self, else-not-self}
 
--- plan: the decision, which is the last one, leaves the lists of its nodes, or of its first node where pairs have a
--- direction (`now_less`), and the taken ones (`taken_less`)
+-- plan: the last decision leaves the lists of its nodes (`now_less`), and the taken ones (`taken_less`). Where pairs
+-- have a direction, its first node alone lists it
 pub returns-then-decision-clause-less : goal.returns-then-decision-clause-less
 returns-then-decision-clause-less c = λ n case was.
     let d : Decision = c.args.decision in
