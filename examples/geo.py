@@ -2,8 +2,8 @@
 """Writes an instance of type GEO with its distances as weights: geo.py F > OUT
 
 The program doesn't read EDGE_WEIGHT_TYPE GEO, whose distances need cosines. This script computes them
-by the formula of TSPLIB 95 in doubles, with PI = 3.141592. The conversion isn't proved: a yes on OUT
-speaks of the weights in OUT. It needs Python 3.9 and its standard library alone.
+by the formula of TSPLIB 95 in doubles, with PI = 3.141592. The conversion isn't proved: the line `yes`
+on OUT is about the weights in OUT. It needs Python 3.9 and its standard library alone.
 """
 from __future__ import annotations
 

@@ -4,9 +4,8 @@
 TSPLIB's distances are whole numbers. Between points that are near each other, as in a unit square, they
 round to 0 or 1, and say little. After this they don't. The lengths of OUT are those of another instance:
 publish them with the factor, which a COMMENT of OUT has. All else stays as it is, the NAME too. Digits
-are exact, and more than nine decimals are refused, as `tsp` does: `--decimals 9` rounds the result to so
-many, with `--by` or without. It needs Python 3.9 and its standard library
-alone, and isn't proved.
+are exact, and more than nine decimals are refused, as `tsp` does: `--decimals 9` rounds the result to nine,
+with `--by` or without. It needs Python 3.9 and its standard library, imports recheck.py, and isn't proved.
 """
 from __future__ import annotations
 

@@ -1,13 +1,13 @@
 /* Yokecairn for C: reads, shows, converts and judges texts in TSPLIB 95, and gives their numbers.
  *
  * The calls are proved: the contracts are in crates/tsp_c, and docs/proof.md says what they mean. A
- * proof covers a call only if its caller does what "What a caller owes" says; nothing checks that.
+ * proof covers a call only if its caller does what "What a caller has to do" says; nothing checks that.
  *
  * Shapes. A text is a pointer to its bytes and a length; it needs no byte 0 at its end. A list of numbers
  * is a pointer and a length, in numbers. Coordinates are counts of 10^-9: 1.5 is 1500000000. Nodes count
  * from 1.
  *
- * What a caller owes. No pointer is NULL, also where the length is 0. Pointers are aligned for their type,
+ * What a caller has to do. No pointer is NULL, also where the length is 0. Pointers are aligned for their type,
  * and point to as many elements as the length says. What a call writes to (out, written, count, result,
  * handle) overlaps nothing else that the call is given. No call is made from a signal handler, or in the
  * child of a fork of a process with threads. malloc, realloc and free come from one allocator, and give

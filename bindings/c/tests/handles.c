@@ -1,5 +1,5 @@
-/* Handles: what is asked of them, and what is refused. Prints a line for each check that fails, and exits with 1
- * then. bindings/c/test builds and runs it, in the suite `bindings` of ./check. */
+/* The calls on handles: their results, and the arguments that they refuse. Prints a line for each check that fails,
+ * and exits with 1 then. bindings/c/test builds and runs it, in the suite `bindings` of ./check. */
 #include "expect.h"
 
 static const char MATRIX[] = "TYPE : ATSP\nDIMENSION : 3\nEDGE_WEIGHT_TYPE : EXPLICIT\nEDGE_WEIGHT_FORMAT : FULL_MATRIX\n"

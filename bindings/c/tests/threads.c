@@ -1,4 +1,4 @@
-/* threads INSTANCE TOUR CERTIFICATE BY REPORT STACK: eight threads at once, each with a stack of so many bytes,
+/* threads INSTANCE TOUR CERTIFICATE BY REPORT STACK: eight threads at once, each with a stack of STACK bytes,
  * make the check twenty times, and write the instance anew. Every report has to be the file REPORT.
  * bindings/c/test builds and runs it, in the suite `bindings` of ./check. */
 #include "../tsp.h"

@@ -1,7 +1,7 @@
 /* The heap of the WebAssembly module. Blocks have sizes of powers of two, each with its class in its first 16
  * bytes. A block that is freed goes to the list of its class, and a new one is taken from there, or from the
  * end of the memory, which grows. Where it can't grow, a larger free block is halved. Blocks aren't joined again:
- * the page takes a new memory for each job. What is given out is aligned to 16 bytes, as the code asks.
+ * the page takes a new memory for each job. Each block is aligned to 16 bytes, as the code asks.
  * scripts/wasm.py compiles it, for the page and the package for Node; their tests run the rows of tests/program/tables. */
 #include "heap.h"
 

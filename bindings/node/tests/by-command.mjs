@@ -1,5 +1,5 @@
 // The package's command: node by-command.mjs PACKAGE. Its module is that of node/tsp.mjs, and its calls of the system
-// are those of host.mjs, of which the command's text is made; what is written to the two streams is caught.
+// are those of host.mjs, of which the command's text is made. It catches the bytes of both streams.
 // bindings/node/test runs it, in the suite `node` of ./check.
 
 import { readFileSync } from "node:fs";

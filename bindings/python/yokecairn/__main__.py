@@ -3,10 +3,13 @@ table, publish and verify.
 
 `solution` writes a solution of another program as a file of TYPE TOUR. `check` and `compare` read routes of CVRPLIB and
 OR-Tools and JSON directly, and with `--foreign` each form of another program; `--no-foreign` reads none, as the program
-`tsp` does. `compare` also writes tables and JSON, `table` has several solvers and instances. The others write what the program `tsp` writes, and end with its statuses. What
-differs: each file is read whole before it is judged, the texts for a refused command line, for help and for the
-version are Python's, what is explained of standard input has its text, and the line of a fault, where it isn't
-explained, goes on with the path and the word that is wrong, or with what the system says of the file.
+`tsp` does. `compare` also writes tables and JSON, `table` has several solvers and instances. The others write what the
+program `tsp` writes, and end with its statuses. This differs:
+
+- Each file is read whole before it is judged.
+- The texts for a refused command line, for help and for the version are Python's.
+- An explanation of standard input has its text.
+- The line of a fault that isn't explained goes on with the path and the wrong word, or with the system's words.
 """
 
 import os
