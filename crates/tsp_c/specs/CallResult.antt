@@ -1,4 +1,5 @@
--- The result of a call in numbers. A number that it doesn't have is 0.
+-- The result of a call of the C library in numbers: the struct of bindings/c/tsp.h, whose numbers are 0 where the call
+-- doesn't have them. For `CallResult` (src/call_result.rt), `bounded` and `checked` (src/texts.rt), and Opened.antt.
 use Rattle.std.specs.Prelude.{◌≡◌, ℕ, ◌≤◌, ◌<◌, ◌^◌, Bool, List, Option, None, Some, Result, Ok, Err, IsTrue, unwrap_or, ℤ, pos, unsigned_abs}
 use Rattle.std.specs.Int.{int_div_euclid, int_rem_euclid}
 use Rattle.tsp_format.specs.declared.kinds.Kind.{Kind}
@@ -35,6 +36,7 @@ use Rattle.tsp_c.specs.declared.call_result.CallResult.{CallResult}
 use Rattle.tsp_c.specs.Ended.{nth}
 use Rattle.tsp_c.specs.Texts.{GivenText, AreSpelled, IsUnchecked, IsUnbounded, with_certificate, certificates, claim_of, strict_of}
 
+-- no number at all
 abbrev pub blank_result : CallResult
 blank_result = record {
   kind = 0;
@@ -59,6 +61,7 @@ blank_result = record {
 
 -- ---- an instance: the number of its TYPE, and how many nodes it has
 
+-- the number of a TYPE of instances; 0 for another TYPE
 abbrev pub kind_number : Option Kind → ℕ
 kind_number (Some kinds.Tsp) = 1
 kind_number (Some kinds.Atsp) = 2
@@ -68,28 +71,35 @@ kind_number (Some kinds.Potentials) = 0
 kind_number (Some kinds.Branches) = 0
 kind_number None = 0
 
+-- the numbers of an instance alone
 abbrev pub result_of_instance : Fields → CallResult
 result_of_instance instance = record blank_result { kind = kind_number instance.kind; nodes = nodes_of instance }
 
 -- ---- a bound, in two halves: the first one times 2^64, and the second one
 
+-- the upper 64 bits of a bound, with its sign
 abbrev pub high_half : ℤ → ℤ
 high_half bound = int_div_euclid bound (pos (2 ^ 64))
 
+-- its lower 64 bits
 abbrev pub low_half : ℤ → ℕ
 low_half bound = unsigned_abs (int_rem_euclid bound (pos (2 ^ 64)))
 
+-- the numbers with a bound
 abbrev pub with_bound : CallResult → ℤ → CallResult
 with_bound call_result bound = record call_result { bound_high = high_half bound; bound_low = low_half bound; has_bound = 1 }
 
 -- ---- a reason: its place in the order in which reasons are judged, and its numbers
 
+-- the first number of a reason, or 0
 abbrev pub first_number : Reason → ℤ
 first_number reason = unwrap_or (row_of_reason reason).numbers.0 (pos 0)
 
+-- its second number, or 0
 abbrev pub second_number : Reason → ℤ
 second_number reason = unwrap_or (row_of_reason reason).numbers.1 (pos 0)
 
+-- the numbers with a reason
 abbrev pub with_reason : CallResult → Reason → CallResult
 with_reason call_result reason = record call_result {
   verdict = 3;
@@ -100,6 +110,7 @@ with_reason call_result reason = record call_result {
 
 -- ---- a verdict: 1 a tour, 2 routes, 3 rejected, 4 a bound, 5 that there is no solution
 
+-- the numbers of a verdict on a solution
 abbrev pub result_of_verdict : Fields → Verdict → CallResult
 result_of_verdict instance (verdicts.Tour length_is None) =
     record (result_of_instance instance) { verdict = 1; length = length_is }
@@ -111,12 +122,13 @@ result_of_verdict instance (verdicts.Routes length_is count least_is (Some bound
     record (with_bound (result_of_instance instance) bound) { verdict = 2; length = length_is; routes = count; least = least_is }
 result_of_verdict instance (verdicts.No reason) = with_reason (result_of_instance instance) reason
 
+-- the numbers of a bound without a solution
 abbrev pub result_of_bound : Fields → BoundVerdict → CallResult
 result_of_bound instance (bounds.Bound bound) = record (with_bound (result_of_instance instance) bound) { verdict = 4 }
 result_of_bound instance bounds.NoSolution = record (result_of_instance instance) { verdict = 5 }
 result_of_bound instance (bounds.No reason) = with_reason (result_of_instance instance) reason
 
--- its halves have 64 bits
+-- both halves of the bound fit 64 bits
 abbrev pub IsSizedBound : BoundVerdict → Type 0
 IsSizedBound (bounds.Bound bound) = IsGapSized (Some bound)
 IsSizedBound bounds.NoSolution = Unit {0}
@@ -124,6 +136,7 @@ IsSizedBound (bounds.No reason) = Unit {0}
 
 -- ---- a fault: its number, the text's number, the line and the word; what is wrong with a number; the field that isn't whole
 
+-- the number of a fault of a line or a word
 abbrev pub line_fault_number : LineFault → ℕ
 line_fault_number line_faults.LongLine = 1
 line_fault_number line_faults.UnknownLine = 2
@@ -141,6 +154,7 @@ line_fault_number line_faults.Surplus = 13
 line_fault_number line_faults.AfterEnd = 14
 line_fault_number line_faults.LateSpace = 15
 
+-- the number of a fault of a text
 abbrev pub read_fault_number : ReadFault → ℕ
 read_fault_number (read_faults.Line line_is word_is found) = line_fault_number found
 read_fault_number (read_faults.End (end_faults.Missing field)) = 16
@@ -151,6 +165,7 @@ read_fault_number read_faults.TooLong = 20
 read_fault_number read_faults.OutOfMemory = 0
 read_fault_number read_faults.Device = 0
 
+-- what is wrong with a number word
 abbrev pub number_fault_number : NumberFault → ℕ
 number_fault_number number_faults.LongWord = 1
 number_fault_number number_faults.BadNumber = 2
@@ -158,12 +173,12 @@ number_fault_number number_faults.TooFine = 3
 number_fault_number number_faults.OutOfRange = 4
 number_fault_number number_faults.NotWhole = 5
 
--- of a line whose fault is one of a number
+-- the same, where the fault of the line is that of a number; else 0
 abbrev pub number_of_fault : LineFault → ℕ
 number_of_fault (line_faults.Number found) = number_fault_number found
 number_of_fault found = 0
 
--- its place in canonical order, but of LOAD_UNIT, which came later and has the next number
+-- the number of a field: its place in canonical order; LOAD_UNIT, which came later, has the next number
 abbrev pub field_number : Field → ℕ
 field_number fields.NameKey = 1
 field_number fields.TypeKey = 2
@@ -191,13 +206,13 @@ field_number fields.CombPart = 23
 field_number fields.BranchPart = 24
 field_number fields.LoadUnitKey = 25
 
--- of a text at whose end a field is missing, or has too few places
+-- the field that is missing or incomplete at the end of a text; else 0
 abbrev pub field_of_fault : ReadFault → ℕ
 field_of_fault (read_faults.End (end_faults.Missing found)) = field_number found
 field_of_fault (read_faults.End (end_faults.Incomplete found)) = field_number found
 field_of_fault found = 0
 
--- Out of memory has no numbers, nor has a device.
+-- The numbers of a fault. Out of memory has none, nor has a device.
 abbrev pub result_of_fault : RunFault → CallResult
 result_of_fault (File file_is read_faults.OutOfMemory) = blank_result
 result_of_fault (File file_is read_faults.Device) = blank_result
@@ -216,19 +231,21 @@ result_of_fault (File file_is found) = record blank_result {
 result_of_fault WrongKind = record blank_result { fault = 21; file = 1 }
 result_of_fault other = blank_result
 
--- ---- what a run came to
+-- ---- the result of a run
 
+-- the numbers of a check
 abbrev pub result_of_run : Result Judged RunFault → CallResult
 result_of_run (Ok judged) = result_of_verdict judged.instance judged.verdict
 result_of_run (Err fault) = result_of_fault fault
 
+-- the numbers of a bound without a solution
 abbrev pub result_of_bound_run : Result Bounded RunFault → CallResult
 result_of_bound_run (Ok bounded) = result_of_bound bounded.instance bounded.found
 result_of_bound_run (Err fault) = result_of_fault fault
 
--- ---- what the numbers of a call on texts say: at 0 and 1 they are those of the verdict, at 2 those of the fault, at 3 all are 0
+-- ---- the numbers of a call on texts: at the status 0 and 1 those of the verdict, at 2 those of the fault, at 3 all are 0
 
--- the verdict on the files that the texts parse to
+-- the numbers and the status are those of the verdict on the files that the texts parse to
 pub record IsTextVerdict (given : GivenText) (claimed : Option ℤ) (strict : Bool) (one two : List ℕ) (status : ℕ) (call_result : CallResult) : Type 0 where
   pub instance : Fields
   pub solution : Fields
@@ -240,11 +257,14 @@ pub record IsTextVerdict (given : GivenText) (claimed : Option ℤ) (strict : Bo
   pub numbers : call_result ≡ result_of_verdict instance verdict
   pub status_is : status ≡ status_of (Ok (is_yes verdict))
 
+-- the numbers of a check, by its status
 pub record TellsTexts (given : GivenText) (claimed : Option ℤ) (strict : Bool) (one two : List ℕ) (status : ℕ) (call_result : CallResult) : Type 0 where
   pub judged : status ≤ 1 → IsTextVerdict given claimed strict one two status call_result
   pub faulty : status ≡ 2 → (fault : RunFault) × IsUnchecked given one two fault × (call_result ≡ result_of_fault fault)
   pub refused : status ≡ 3 → call_result ≡ blank_result
 
+-- the same, by the numbers of the certificate and of the claim that the caller gave; others are refused, and all numbers
+-- are 0
 abbrev pub TellsBy : ℕ → ℕ → ℤ → List ℕ → List ℕ → List ℕ → ℕ → CallResult → Type 0
 TellsBy by has_claim claimed one two three status call_result =
     (by ≤ 2 → has_claim ≤ 3
@@ -252,7 +272,7 @@ TellsBy by has_claim claimed one two three status call_result =
     × (2 < by → call_result ≡ blank_result)
     × (3 < has_claim → call_result ≡ blank_result)
 
--- what was found of the files that the texts parse to
+-- the numbers and the status are those of the bound, or of the reason, for the files that the texts parse to
 pub record IsTextBound (by : Certificate) (strict : Bool) (one two : List ℕ) (status : ℕ) (call_result : CallResult) : Type 0 where
   pub instance : Fields
   pub certificate : Fields
@@ -264,11 +284,13 @@ pub record IsTextBound (by : Certificate) (strict : Bool) (one two : List ℕ) (
   pub numbers : call_result ≡ result_of_bound instance found
   pub status_is : status ≡ status_of (Ok (is_bound_yes found))
 
+-- the numbers of a bound without a solution, by its status
 pub record TellsBound (by : Certificate) (strict : Bool) (one two : List ℕ) (status : ℕ) (call_result : CallResult) : Type 0 where
   pub bounded : status ≤ 1 → IsTextBound by strict one two status call_result
   pub faulty : status ≡ 2 → (fault : RunFault) × IsUnbounded by one two fault × (call_result ≡ result_of_fault fault)
   pub refused : status ≡ 3 → call_result ≡ blank_result
 
+-- the same, by what the caller's number asks for; where it asks nothing, all numbers are 0
 abbrev pub TellsBoundBy : Option (Certificate × Bool) → List ℕ → List ℕ → ℕ → CallResult → Type 0
 TellsBoundBy None one two status call_result = call_result ≡ blank_result
 TellsBoundBy (Some asked) one two status call_result = TellsBound asked.0 asked.1 one two status call_result

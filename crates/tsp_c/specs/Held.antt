@@ -1,4 +1,5 @@
--- What a handle owns: the box that it was made of, or nothing; and its value where it has one.
+-- The ownership of a handle: the box of an open instance, or nothing. For `into_parts` of `Loose` (src/loose.rt), whose
+-- proof speaks of pointers.
 use Rattle.std.specs.Prelude.{Option, None, Some}
 use Rattle.std.specs.Coded.{coded_option}
 use base.Stored.{Coded}
@@ -11,14 +12,16 @@ use Rattle.tsp_draft.specs.Fields.{blank_fields}
 use Rattle.tsp_judge.specs.Open.{Open}
 use Rattle.tsp_judge.specs.contracts.opened.Opened.{the_row}
 
+-- the box at this pointer is owned, with the open instance; nothing where none is open
 abbrev pub held_owns : Global → Ptr → Option Open → Fml
 held_owns alloc p None = ftrue
 held_owns alloc p (Some x) = box_owns (ghosts.dealloc_token alloc) the_row p x
 
+-- the open instance, if any, as a value in memory
 abbrev pub held_coded : Coded (Option Open)
 held_coded = coded_option the_row.coded
 
--- the open instance; blank where none is open
+-- the open instance; a blank one where none is open
 abbrev pub open_of : Option Open → Open
 open_of None = record { instance = blank_fields; certificate = None }
 open_of (Some opened) = opened

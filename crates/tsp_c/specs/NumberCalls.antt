@@ -1,4 +1,6 @@
--- The results of the calls on numbers. Each number that they fill in is the one that the definitions give.
+-- The results of the calls that fill in numbers: nodes, costs, lengths, coordinates, distances. For src/pair_costs.rt,
+-- src/list_lengths.rt, src/section_points.rt, src/text_instance.rt and src/distance_call.rt, and for the same calls on a
+-- handle (Opened.antt).
 use Rattle.std.specs.Prelude.{◌≡◌, ◌⊎◌, ℕ, zero, suc, ◌+◌, ◌-◌, ◌*◌, ◌/◌, ◌%◌, ◌≤◌, ◌<◌, ◌==◌, min, cond, List, [], ◌∷◌, length, slice_index_or, Option, None, Some, Result, Ok, Err, IsTrue, ℤ, pos, negsuc}
 use Rattle.std.specs.List.{All}
 use Rattle.tsp_distance.specs.declared.decimal.Point.{Point}
@@ -19,7 +21,7 @@ use Rattle.tsp_c.specs.Ended.{nth}
 
 -- ---- a buffer of numbers
 
--- The first numbers of the buffer are these, in order, and the others are as they were.
+-- The first `count` numbers of the buffer are these, in order, and the others are as they were.
 pub record IsFilled (count : ℕ) (number : ℕ → ℤ) (old new : List ℤ) : Type 0 where
   pub size : length new ≡ length old
   pub filled : (k : ℕ) → k < count → slice_index_or new k (pos 0) ≡ number k
@@ -27,15 +29,16 @@ pub record IsFilled (count : ℕ) (number : ℕ → ℤ) (old new : List ℤ) : 
 
 -- ---- an instance in memory
 
+-- the text parses to this instance
 abbrev pub IsInstanceText : List ℕ → Fields → Type 0
 IsInstanceText text instance = Spells text instance × IsTrue (is_instance instance.kind)
 
--- the instance of a text, or why it has none
+-- the instance of a text, or the fault by which it has none
 abbrev pub FindsInstance : List ℕ → Result Fields RunFault → Type 0
 FindsInstance text (Ok instance) = IsInstanceText text instance
 FindsInstance text (Err fault) = IsUnopened text fault
 
--- a call ends with this fault: its status is that of the fault, and what it fills in is as it was
+-- a call ends with this fault: the status is the fault's, and nothing is filled in
 abbrev pub StopsWith : {X : Type 0} → RunFault → X → X → ℕ → Type 0
 StopsWith fault old new status = (status ≡ status_of_fault fault) × (new ≡ old)
 
@@ -46,17 +49,18 @@ OfInstance text P old new status = ((instance : Fields) × IsInstanceText text i
 
 -- ---- how many nodes
 
--- 0, and how many nodes the instance has
+-- the status is 0, and the number of nodes is filled in
 abbrev pub EndsCount : Fields → ℕ → ℕ → Type 0
 EndsCount instance count status = (status ≡ 0) × (instance.dimension ≡ Some count)
 
+-- the same of the instance that a text parses to
 abbrev pub FillsCount : List ℕ → ℕ → ℕ → ℕ → Type 0
 FillsCount text old new status = OfInstance text (λ instance. EndsCount instance new status) old new status
 
 -- ---- a buffer that is filled for an instance
 
--- How a call ends that is asked for numbers of an instance: 0, and the buffer is filled; 4, the instance doesn't have them; 6,
--- the buffer has too few places. But for 0 the buffer is as it was.
+-- How a call ends that asks for numbers of an instance. 0: the buffer is filled. 4: the instance doesn't have them. 6:
+-- the buffer has fewer than `least` places. At 4 and 6 the buffer is as it was.
 abbrev pub EndsBuffer : Type 0 → ℕ → ℕ → (ℕ → ℤ) → List ℤ → List ℤ → ℕ → Type 0
 EndsBuffer Asked least count number old new status =
     ((status ≡ 0) × Asked × (least ≤ length old) × IsFilled count number old new)
@@ -65,10 +69,11 @@ EndsBuffer Asked least count number old new status =
 
 -- ---- costs of pairs
 
--- the numbers are pairs of nodes, from 1 to this one
+-- the numbers are pairs of nodes of 1..nodes
 abbrev pub ArePairs : List ℕ → ℕ → Type 0
 ArePairs pairs nodes = (length pairs ≡ 2 * (length pairs / 2)) × All (IsNode nodes) pairs
 
+-- how many pairs there are
 abbrev pub pair_count : List ℕ → ℕ
 pair_count pairs = length pairs / 2
 
@@ -76,17 +81,19 @@ pair_count pairs = length pairs / 2
 abbrev pub pair_cost : List ℕ → Fields → ℕ → ℤ
 pair_cost pairs instance k = cost instance (slice_index_or pairs (2 * k) 0) (slice_index_or pairs (2 * k + 1) 0)
 
+-- the costs of these pairs
 abbrev pub EndsWeights : Fields → List ℕ → List ℤ → List ℤ → ℕ → Type 0
 EndsWeights instance pairs old new status =
     EndsBuffer (ArePairs pairs (nodes_of instance)) (pair_count pairs) (pair_count pairs) (pair_cost pairs instance)
     old new status
 
+-- the same of the instance that a text parses to
 abbrev pub FillsWeights : List ℕ → List ℕ → List ℤ → List ℤ → ℕ → Type 0
 FillsWeights text pairs old new status = OfInstance text (λ instance. EndsWeights instance pairs old new status) old new status
 
 -- ---- rows of the matrix
 
--- as many whole rows as fit, from the first one on to the last one of the instance
+-- how many rows are filled in: as many whole ones as fit, from the first one on to the last one of the instance
 abbrev pub row_count : ℕ → ℕ → ℕ → ℕ
 row_count places nodes first = min (places / nodes) (nodes + 1 - first)
 
@@ -94,15 +101,18 @@ row_count places nodes first = min (places / nodes) (nodes + 1 - first)
 abbrev pub row_cost : ℕ → Fields → ℕ → ℤ
 row_cost first instance k = cost instance (first + k / nodes_of instance) (k % nodes_of instance + 1)
 
+-- the costs of these rows
 abbrev pub EndsMatrix : Fields → ℕ → List ℤ → List ℤ → ℕ → Type 0
 EndsMatrix instance first old new status = EndsBuffer (IsNode (nodes_of instance) first) (nodes_of instance)
     (row_count (length old) (nodes_of instance) first * nodes_of instance) (row_cost first instance) old new status
 
+-- the same of the instance that a text parses to
 abbrev pub FillsMatrix : List ℕ → ℕ → List ℤ → List ℤ → ℕ → Type 0
 FillsMatrix text first old new status = OfInstance text (λ instance. EndsMatrix instance first old new status) old new status
 
 -- ---- lengths of lists of nodes
 
+-- the lists with a node more at the beginning of the first one
 abbrev pub onto_first_list : ℕ → List (List ℕ) → List (List ℕ)
 onto_first_list node [] = []
 onto_first_list node (list ∷ lists) = (node ∷ list) ∷ lists
@@ -112,38 +122,42 @@ abbrev pub lists_in : List ℕ → List (List ℕ)
 lists_in [] = []
 lists_in (node ∷ nodes) = cond (node == 0) ([] ∷ lists_in nodes) (onto_first_list node (lists_in nodes))
 
--- they are few, of nodes up to this one, and each has its 0
+-- the nodes are of 1..count, not too many, and each list has its 0
 abbrev pub AreLists : List ℕ → ℕ → Type 0
 AreLists nodes count = (length nodes ≤ most_tour_nodes) × (slice_index_or nodes (length nodes - 1) 0 ≡ 0)
     × All (λ node. node ≤ count) nodes
 
+-- how many lists there are
 abbrev pub list_count : List ℕ → ℕ
 list_count nodes = length (lists_in nodes)
 
--- the length of a list
+-- the length of a list as a cycle
 abbrev pub list_length : List ℕ → Fields → ℕ → ℤ
 list_length nodes instance k = length_of (cost instance) (slice_index_or (lists_in nodes) k [])
 
+-- the lengths of these lists
 abbrev pub EndsLengths : Fields → List ℕ → List ℤ → List ℤ → ℕ → Type 0
 EndsLengths instance nodes old new status =
     EndsBuffer (AreLists nodes (nodes_of instance)) (list_count nodes) (list_count nodes) (list_length nodes instance)
     old new status
 
+-- the same of the instance that a text parses to
 abbrev pub FillsLengths : List ℕ → List ℕ → List ℤ → List ℤ → ℕ → Type 0
 FillsLengths text nodes old new status = OfInstance text (λ instance. EndsLengths instance nodes old new status) old new status
 
 -- ---- coordinates of points
 
--- 1 is NODE_COORD_SECTION, 2 DISPLAY_DATA_SECTION
+-- the points of NODE_COORD_SECTION for 1, of DISPLAY_DATA_SECTION for 2
 abbrev pub section_points : ℕ → Fields → Option (List Point)
 section_points (suc zero) file = file.coords
 section_points (suc (suc zero)) file = file.display
 section_points section file = None
 
+-- the number is that of a section
 abbrev pub IsSection : ℕ → Type 0
 IsSection section = (1 ≤ section) × (section ≤ 2)
 
--- x, y and z by 0, 1 and 2
+-- x for 0, y for 1, z for 2
 abbrev pub coordinate : ℕ → Point → ℤ
 coordinate zero point = point.x
 coordinate (suc zero) point = point.y
@@ -153,13 +167,14 @@ coordinate (suc (suc axis)) point = point.z
 abbrev pub point_number : List Point → ℕ → ℤ
 point_number points k = coordinate (k % 3) (point_of points (k / 3 + 1))
 
--- how a call ends that is asked for these points; 1 where the file has none in the section
+-- How a call ends that asks for these points: 1 where the file has none in the section, else 0 or 6 as above.
 abbrev pub EndsPoints : Option (List Point) → List ℤ → List ℤ → ℕ → Type 0
 EndsPoints None old new status = (status ≡ 1) × (new ≡ old)
 EndsPoints (Some points) old new status =
     ((status ≡ 0) × (3 * length points ≤ length old) × IsFilled (3 * length points) (point_number points) old new)
     ⊎ ((status ≡ 6) × (new ≡ old) × (length old < 3 * length points))
 
+-- the same of the file that a text parses to; 4 where there is no such section
 abbrev pub FillsPoints : List ℕ → ℕ → List ℤ → List ℤ → ℕ → Type 0
 FillsPoints text section old new status =
     (IsSection section × ((file : Fields) × Spells text file × EndsPoints (section_points section file) old new status))
@@ -172,7 +187,7 @@ FillsPoints text section old new status =
 abbrev pub distance_kinds : List WeightKind
 distance_kinds = Euc2d ∷ Ceil2d ∷ Man2d ∷ Max2d ∷ Att ∷ Euc3d ∷ Man3d ∷ Max3d ∷ []
 
--- the distance of two points, whose coordinates are counts of 10^-9 of decimals; or -1, where there is none by this number, or a
+-- the distance of two points, whose coordinates are counts of 10^-9; -1 where no weight type has the number, or a
 -- coordinate is no decimal
 abbrev pub GivesDistance : ℕ → Point → Point → ℤ → Type 0
 GivesDistance number a b result =

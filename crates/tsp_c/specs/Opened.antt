@@ -1,4 +1,5 @@
--- The results of the calls on a handle, over the instance on which it is open, and the certificate that is bound to it.
+-- The results of the calls on a handle, which is open on an instance, with a certificate that may be bound to it. For
+-- src/handle_calls.rt. Texts.antt has the same calls on texts.
 use Rattle.std.specs.Prelude.{◌≡◌, ◌⊎◌, ℕ, ◌≤◌, ◌<◌, Bool, List, Option, None, Some, Ok, ℤ}
 use Rattle.tsp_draft.specs.Fields.{Fields}
 use Rattle.tsp_text.specs.Text.{Spells}
@@ -16,18 +17,18 @@ use Rattle.tsp_c.specs.CallResult.{blank_result, result_of_instance, result_of_v
 use Rattle.tsp_c.specs.NumberCalls.{section_points, IsSection, EndsPoints}
 use Rattle.tsp_c.specs.Texts.{GivenText, SpellsGiven, ChecksTexts, IsRefusedNumber, claim_of, strict_of}
 
--- what a handle is open on
+-- the instance on which a handle is open, with its certificate; None where it is closed
 abbrev pub Held : Type 0
 Held = Option Open
 
 -- ---- opening a handle, whatever it was open on
 
--- The text is no file, or no instance; or it is one, and there is no memory for the handle.
+-- The text isn't valid, or is no instance; or it is one, and there is no memory for the handle.
 abbrev pub IsNotOpened : List ℕ → RunFault → Type 0
 IsNotOpened text OutOfMemory = (opened : Open) × IsOpened text opened
 IsNotOpened text fault = IsUnopened text fault
 
--- 0, and the handle is open on the instance that the text is; or the handle is closed, with a fault and its status
+-- 0: the handle is open on the instance that the text parses to. Else the handle is closed, with a fault and its status.
 abbrev pub OpensText : List ℕ → Held → CallResult → ℕ → Type 0
 OpensText text held call_result status =
     ((opened : Open) × (held ≡ Some opened) × IsOpened text opened × (call_result ≡ result_of_instance opened.instance) × (status ≡ 0))
@@ -36,7 +37,7 @@ OpensText text held call_result status =
 
 -- ---- binding a certificate to it
 
--- the certificate is bound, with what it gives; or nothing changes, with a fault and its status
+-- The certificate is bound, with its bound or the reason against it. Or nothing changes, with a fault and its status.
 abbrev pub BindsOpen : Certificate → List ℕ → Open → Held → CallResult → ℕ → Type 0
 BindsOpen by text opened held call_result status =
     ((new : Open) × (found : BoundVerdict) × (held ≡ Some new) × IsBoundTo by text opened new found
@@ -44,11 +45,11 @@ BindsOpen by text opened held call_result status =
     ⊎ ((fault : RunFault) × (held ≡ Some opened) × IsUnbound by text opened fault × (call_result ≡ result_of_fault fault)
     × (status ≡ status_of_fault fault))
 
--- a call that is refused: 4, and no number is filled in
+-- a call that is refused: the status is 4, and all numbers are 0
 abbrev pub IsRefusedCall : Held → Held → CallResult → ℕ → Type 0
 IsRefusedCall old new call_result status = (status ≡ 4) × (new ≡ old) × (call_result ≡ blank_result)
 
--- by this certificate, where the number has one, and where the handle is open; else the call is refused
+-- the same, where the caller's number is that of a certificate and the handle is open; else the call is refused
 abbrev pub BindsText : Option Certificate → List ℕ → Held → Held → CallResult → ℕ → Type 0
 BindsText None text old new call_result status = IsRefusedCall old new call_result status
 BindsText (Some by) text None new call_result status = IsRefusedCall None new call_result status
@@ -56,21 +57,22 @@ BindsText (Some by) text (Some opened) new call_result status = BindsOpen by tex
 
 -- ---- the check of a solution
 
--- the text is the instance, and the other one the certificate that is bound
+-- the first text parses to the instance, and the given one to the certificate
 abbrev pub IsOpenOn : List ℕ → GivenText → Open → Type 0
 IsOpenOn one given opened = Spells one opened.instance × SpellsGiven given opened.certificate
 
--- the status and the text are those of the check of these texts, whichever texts are open
+-- the status and the text are those of a check of such texts, whichever the handle was opened with
 abbrev pub ChecksAsTexts : Open → Option ℤ → Bool → List ℕ → ℕ → List ℕ → Type 0
 ChecksAsTexts opened claimed strict two status text = (one : List ℕ) (given : GivenText) → IsOpenOn one given opened
     → ChecksTexts given claimed strict one two status text
 
--- the verdict on the solution that the text is, where it is asked that unknown keywords be a reason, or isn't
+-- the verdict on the solution that the text parses to, with unknown keywords as a reason or not
 abbrev pub IsHeldAsked : List ℕ → Option ℤ → Bool → Open → Verdict → Type 0
 IsHeldAsked two claimed strict opened verdict = (plain : Verdict) × IsHeldVerdict two claimed opened plain
     × (verdict ≡ strict_verdict (is_unjudged strict opened.instance) plain)
 
--- the numbers are those of the verdict, at 0 and 1, and of the fault, at 2, which is one with this status; at 3 all are 0
+-- The numbers of a check, by its status: at 0 and 1 those of the verdict, at 2 those of a fault with this status, at 3
+-- all are 0.
 pub record TellsJudged (opened : Open) (claimed : Option ℤ) (strict : Bool) (two : List ℕ) (status : ℕ) (call_result : CallResult) : Type 0 where
   pub judged : status ≤ 1 → (verdict : Verdict) × IsHeldAsked two claimed strict opened verdict
       × (call_result ≡ result_of_verdict opened.instance verdict) × (status ≡ status_of (Ok (is_yes verdict)))
@@ -78,11 +80,12 @@ pub record TellsJudged (opened : Open) (claimed : Option ℤ) (strict : Bool) (t
       × (status ≡ status_of_fault fault)
   pub refused : status ≡ 3 → call_result ≡ blank_result
 
+-- the status, the text and the numbers of a check on an open handle
 abbrev pub ChecksOpen : Open → Option ℤ → Bool → List ℕ → ℕ → List ℕ → CallResult → Type 0
 ChecksOpen opened claimed strict two status text call_result = ChecksAsTexts opened claimed strict two status text
     × TellsJudged opened claimed strict two status call_result
 
--- with what has_claim asks, as of texts; numbers above 3 are refused, and so is a closed handle
+-- the same, by what `has_claim` asks for; numbers above 3 are refused, and so is a closed handle
 abbrev pub ChecksHeld : Held → ℕ → ℤ → List ℕ → ℕ → List ℕ → CallResult → Type 0
 ChecksHeld None has_claim claimed two status text call_result = IsRefusedNumber status text × (call_result ≡ blank_result)
 ChecksHeld (Some opened) has_claim claimed two status text call_result =
@@ -91,7 +94,7 @@ ChecksHeld (Some opened) has_claim claimed two status text call_result =
 
 -- ---- numbers of the instance
 
--- P of the instance on which the handle is open; or 4, the handle is closed, and the buffer is as it was
+-- P of the open instance; where the handle is closed, the status is 4, and nothing is filled in
 abbrev pub OfHeld : {X : Type 0} → Held → (Fields → Type 0) → X → X → ℕ → Type 0
 OfHeld None P old new status = (status ≡ 4) × (new ≡ old)
 OfHeld (Some opened) P old new status = P opened.instance

@@ -1,4 +1,6 @@
--- The results of the calls on texts, over the bytes of these texts alone.
+-- The results of the calls on texts, over the bytes of these texts alone: `show`, conversions, checks, bounds and
+-- explanations. For src/texts.rt, src/picked_runs.rt and src/explain.rt. `IsAcceptedText` and `IsBoundText` are the
+-- meanings of the status 0.
 use Rattle.std.specs.Prelude.{◌≡◌, ◌⊎◌, ℕ, ◌==◌, ◌||◌, if◌then◌else◌, ◌≤◌, ◌<◌, Bool, true, false, List, [], ◌∷◌, Option, None, Some, Ok, Err, IsTrue, ℤ}
 use Rattle.tsp_format.specs.declared.layout.Layout.{Layout}
 use Rattle.tsp_format.specs.Words.{layouts}
@@ -30,52 +32,54 @@ use Rattle.tsp_c.specs.Ended.{EndsWithText, nth}
 
 -- ---- a number that is refused
 
+-- a number that is refused: the status is 4, and there is no text
 abbrev pub IsRefusedNumber : ℕ → List ℕ → Type 0
 IsRefusedNumber status text = (status ≡ 4) × (text ≡ [])
 
 -- ---- a text
 
--- it parses to a file
+-- the text parses to a file
 abbrev pub IsFileText : List ℕ → Type 0
 IsFileText text = (file : Fields) × Spells text file
 
--- the fault is that of a file with this number, and is the first of its text
+-- the fault is the first one of the text with this number
 abbrev pub IsFaultyText : ℕ → List ℕ → RunFault → Type 0
 IsFaultyText number text (File file found) = (file ≡ number) × (fault text ≡ Some found)
 IsFaultyText number text other = ⊥
 
 -- ---- the text of `show`, and the canonical text
 
--- The text is no file; or it is one, and there is no memory for the text of `show`.
+-- The text isn't valid; or it is, and there is no memory for the text of `show`.
 abbrev pub StopsShowing : List ℕ → RunFault → Type 0
 StopsShowing one (Write write_faults.OutOfMemory) = IsFileText one
 StopsShowing one fault = IsTextFault 1 one fault
 
+-- the result of `show`
 abbrev pub ShowsText : List ℕ → ℕ → List ℕ → Type 0
 ShowsText one status text = EndsWithText
     (λ out. (file : Fields) × Spells one file × (out ≡ shown file))
     (λ out. ⊥)
     (StopsShowing one) status text
 
--- the text is a file, which becomes a valid one
+-- the text parses to a file that becomes this valid one in the layout
 abbrev pub BecomesFile : Option Layout → List ℕ → Fields → Type 0
 BecomesFile to one new = (old : Fields) × Spells one old × Becomes to old (Ok new) × (fault_of new ≡ None)
 
--- The text is no file; or its weights can't go into the layout, or there is no memory for that; or there is none for the text of
--- the new file.
+-- The text isn't valid; or its weights can't have the layout, or there is no memory for that; or there is none for the
+-- text of the new file.
 abbrev pub StopsConverting : Option Layout → List ℕ → RunFault → Type 0
 StopsConverting to one (Relayout refused) = (old : Fields) × Spells one old × Becomes to old (Err refused)
 StopsConverting to one (Write write_faults.OutOfMemory) = (new : Fields) × BecomesFile to one new
 StopsConverting to one fault = IsTextFault 1 one fault
 
--- 1 where the weights can't go into the layout
+-- the result of a conversion; the status is 1 where the weights can't have the layout
 abbrev pub ConvertsText : Option Layout → List ℕ → ℕ → List ℕ → Type 0
 ConvertsText to one status text = EndsWithText
     (λ out. (new : Fields) × BecomesFile to one new × (out ≡ text_of new))
     (λ out. ⊥)
     (StopsConverting to one) status text
 
--- by the layout with a number, counted from 1; 0 leaves a file in its own, and numbers above 9 are refused
+-- the same by the number of the layout, counted from 1; 0 leaves a file in its own, and numbers above 9 are refused
 abbrev pub ConvertsBy : ℕ → List ℕ → ℕ → List ℕ → Type 0
 ConvertsBy number one status text = (number ≤ 9 → ConvertsText (nth number layouts) one status text)
     × (9 < number → IsRefusedNumber status text)
@@ -90,27 +94,28 @@ certificates = Potentials ∷ Branches ∷ []
 abbrev pub GivenText : Type 0
 GivenText = Option (Certificate × List ℕ)
 
+-- a certificate with its text, or none
 abbrev pub with_certificate : Option Certificate → List ℕ → GivenText
 with_certificate None three = None
 with_certificate (Some by) three = Some (by, three)
 
--- its text parses to this file
+-- the certificate's text parses to this file
 abbrev pub SpellsGiven : GivenText → Option (Certificate × Fields) → Type 0
 SpellsGiven None None = Unit {0}
 SpellsGiven None (Some certificate) = ⊥
 SpellsGiven (Some given) None = ⊥
 SpellsGiven (Some given) (Some certificate) = (certificate.0 ≡ given.0) × Spells given.1 certificate.1
 
--- A check by 0 asks nothing more, by 1 for a length, by 2 that unknown keywords be a reason, by 3 for both. This is the claimed
--- length, where one is.
+-- A check by 0 asks nothing more, by 1 for a length, by 2 that unknown keywords be a reason, by 3 for both. This is the
+-- claimed length, if there is one.
 abbrev pub claim_of : ℕ → ℤ → Option ℤ
 claim_of has claimed = if has == 1 || has == 3 then Some claimed else None
 
--- and this is whether unknown keywords are a reason
+-- whether unknown keywords are a reason
 abbrev pub strict_of : ℕ → Bool
 strict_of has = has == 2 || has == 3
 
--- these are the files that the texts parse to
+-- the texts parse to these files
 pub record AreSpelled (given : GivenText) (one two : List ℕ) (instance solution : Fields)
     (certificate : Option (Certificate × Fields)) : Type 0 where
   pub first_file : Spells one instance
@@ -119,6 +124,7 @@ pub record AreSpelled (given : GivenText) (one two : List ℕ) (instance solutio
 
 -- ---- a solution that is accepted, and one that isn't
 
+-- The solution is accepted: the meaning of the status 0 of a check, over the texts.
 pub record IsAcceptedText (given : GivenText) (claimed : Option ℤ) (strict : Bool) (one two text : List ℕ) : Type 0 where
   pub instance : Fields
   pub solution : Fields
@@ -127,7 +133,7 @@ pub record IsAcceptedText (given : GivenText) (claimed : Option ℤ) (strict : B
   pub meaning : IsAccepted certificate claimed instance solution text
   pub all_judged : strict ≡ true → instance.others ≡ []
 
--- the first reason against the solution or the certificate is printed
+-- the solution is rejected: the text is the report with the first reason against solution or certificate
 pub record IsRejected (given : GivenText) (claimed : Option ℤ) (strict : Bool) (one two text : List ℕ) : Type 0 where
   pub instance : Fields
   pub solution : Fields
@@ -138,49 +144,51 @@ pub record IsRejected (given : GivenText) (claimed : Option ℤ) (strict : Bool)
   pub judged : IsVerdictAsked strict certificate claimed instance solution (No reason)
   pub printed : text ≡ report_of instance (No reason)
 
--- all texts are files, and solutions of the first one's TYPE aren't judged so
+-- all texts are valid, but solutions of the instance's TYPE aren't judged so
 abbrev pub IsOfWrongKind : GivenText → List ℕ → List ℕ → Type 0
 IsOfWrongKind given one two = (instance solution : Fields) × (certificate : Option (Certificate × Fields))
     × AreSpelled given one two instance solution certificate × (is_judged certificate instance.kind ≡ false)
 
--- the first text, in order, that is no file decides, with its fault
+-- the first text, in order, that isn't valid, has this fault
 abbrev pub IsUnchecked : GivenText → List ℕ → List ℕ → RunFault → Type 0
 IsUnchecked given one two WrongKind = IsOfWrongKind given one two
 IsUnchecked given one two fault = IsFaultyText 1 one fault
     ⊎ (IsFileText one × IsFaultyText 2 two fault)
     ⊎ ((third : Certificate × List ℕ) × (given ≡ Some third) × IsFileText one × IsFileText two × IsFaultyText 3 third.1 fault)
 
--- the texts before the one with this number are files
+-- the texts before the one with this number are valid
 abbrev pub IsReached : GivenText → List ℕ → List ℕ → ℕ → Type 0
 IsReached given one two number = (number ≡ 1)
     ⊎ ((number ≡ 2) × IsFileText one)
     ⊎ ((third : Certificate × List ℕ) × (given ≡ Some third) × (number ≡ 3) × IsFileText one × IsFileText two)
 
--- all texts are files, and none of the reasons applies that are found without memory
+-- all texts are valid, and none of the reasons applies that are found without memory
 abbrev pub IsUndecided : GivenText → List ℕ → List ℕ → Type 0
 IsUndecided given one two = (instance solution : Fields) × (certificate : Option (Certificate × Fields))
     × AreSpelled given one two instance solution certificate × NoneBeforeRepeatsOn instance solution
 
--- all texts are files, with this verdict
+-- the files of the texts have this verdict
 abbrev pub HasVerdict : GivenText → Option ℤ → Bool → List ℕ → List ℕ → Verdict → Type 0
 HasVerdict given claimed strict one two verdict = (instance solution : Fields) × (certificate : Option (Certificate × Fields))
     × AreSpelled given one two instance solution certificate
     × IsTrue (is_judged certificate instance.kind) × IsVerdictAsked strict certificate claimed instance solution verdict
 
--- Why a check has no result: out of memory for a file, for the verdict or for the report; or a text.
+-- Why a check has no result: out of memory for a file, for the verdict or for the report; or a text that isn't valid.
 abbrev pub StopsCheck : GivenText → Option ℤ → Bool → List ℕ → List ℕ → RunFault → Type 0
 StopsCheck given claimed strict one two (File number read_faults.OutOfMemory) = IsReached given one two number
 StopsCheck given claimed strict one two OutOfMemory = IsUndecided given one two
 StopsCheck given claimed strict one two (Write write_faults.OutOfMemory) = (verdict : Verdict) × HasVerdict given claimed strict one two verdict
 StopsCheck given claimed strict one two fault = IsUnchecked given one two fault
 
+-- the result of a check
 abbrev pub ChecksTexts : GivenText → Option ℤ → Bool → List ℕ → List ℕ → ℕ → List ℕ → Type 0
 ChecksTexts given claimed strict one two status text = EndsWithText
     (IsAcceptedText given claimed strict one two)
     (IsRejected given claimed strict one two)
     (StopsCheck given claimed strict one two) status text
 
--- By 0 without a certificate, by 1 with potentials, by 2 with branches; with what has_claim asks. Other numbers are refused.
+-- The same by the number of the certificate: 0 for none, 1 for potentials, 2 for branches; and by what `has_claim` asks
+-- for. Other numbers are refused.
 abbrev pub ChecksBy : ℕ → ℕ → ℤ → List ℕ → List ℕ → List ℕ → ℕ → List ℕ → Type 0
 ChecksBy by has_claim claimed one two three status text =
     (by ≤ 2 → has_claim ≤ 3
@@ -191,10 +199,12 @@ ChecksBy by has_claim claimed one two three status text =
 
 -- ---- a bound without a solution
 
--- By 1 and 2 the certificate alone is asked for, by 3 and 4 also that unknown keywords be a reason.
+-- the certificate of a bound by its number, 1 to 4: for 3 and 4 unknown keywords are a reason too
 abbrev pub bounds_asked : List (Certificate × Bool)
 bounds_asked = (Potentials, false) ∷ (Branches, false) ∷ (Potentials, true) ∷ (Branches, true) ∷ []
 
+-- The certificate gives a bound, or shows that there is no solution: the meaning of the status 0 of a bound, over the
+-- texts.
 pub record IsBoundText (by : Certificate) (strict : Bool) (one two text : List ℕ) : Type 0 where
   pub instance : Fields
   pub certificate : Fields
@@ -204,7 +214,7 @@ pub record IsBoundText (by : Certificate) (strict : Bool) (one two text : List �
   pub meaning : IsAcceptedAlone by instance certificate found text
   pub all_judged : strict ≡ true → instance.others ≡ []
 
--- the first reason against the instance or the certificate is printed
+-- the text is the report with the first reason against instance or certificate
 pub record IsBoundRejected (by : Certificate) (strict : Bool) (one two text : List ℕ) : Type 0 where
   pub instance : Fields
   pub certificate : Fields
@@ -215,51 +225,54 @@ pub record IsBoundRejected (by : Certificate) (strict : Bool) (one two text : Li
   pub judged : IsBoundAsked strict by instance certificate (bounds.No reason)
   pub printed : text ≡ bound_report_of instance (bounds.No reason)
 
--- the first text, in order, that is no file decides, with its fault; or both are files, and tours of the first one's TYPE have no
--- bound by the certificate
+-- the first text, in order, that isn't valid, has this fault; or both are valid, and such a certificate bounds no
+-- solutions of the instance's TYPE
 abbrev pub IsUnbounded : Certificate → List ℕ → List ℕ → RunFault → Type 0
 IsUnbounded by one two WrongKind = (instance certificate : Fields) × Spells one instance × Spells two certificate
     × (is_bounded by instance.kind ≡ false)
 IsUnbounded by one two fault = IsFaultyText 1 one fault ⊎ (IsFileText one × IsFaultyText 2 two fault)
 
--- both texts are files, and no reason applies to the instance, nor one to the certificate that is found without memory
+-- both texts are valid, and no reason applies to the instance, nor one to the certificate that is found without memory
 abbrev pub IsUndecidedBound : Certificate → List ℕ → List ℕ → Type 0
 IsUndecidedBound by one two = (instance certificate : Fields) × Spells one instance × Spells two certificate
     × IsTrue (is_bounded by instance.kind) × NoneAgainstInstance instance × NoneWithoutMemory by instance certificate
 
--- both texts are files, of which this is found
+-- the files of both texts have this verdict
 abbrev pub HasBound : Certificate → Bool → List ℕ → List ℕ → BoundVerdict → Type 0
 HasBound by strict one two found = (instance certificate : Fields) × Spells one instance × Spells two certificate
     × IsTrue (is_bounded by instance.kind) × IsBoundAsked strict by instance certificate found
 
--- Why there is no bound and no reason: out of memory for a file, for the bound or for the report; or a text.
+-- Why there is no bound and no reason: out of memory for a file, for the bound or for the report; or a text that isn't
+-- valid.
 abbrev pub StopsBound : Certificate → Bool → List ℕ → List ℕ → RunFault → Type 0
 StopsBound by strict one two (File number read_faults.OutOfMemory) = (number ≡ 1) ⊎ ((number ≡ 2) × IsFileText one)
 StopsBound by strict one two OutOfMemory = IsUndecidedBound by one two
 StopsBound by strict one two (Write write_faults.OutOfMemory) = (found : BoundVerdict) × HasBound by strict one two found
 StopsBound by strict one two fault = IsUnbounded by one two fault
 
+-- the result of a bound without a solution
 abbrev pub BoundsTexts : Certificate → Bool → List ℕ → List ℕ → ℕ → List ℕ → Type 0
 BoundsTexts by strict one two status text = EndsWithText
     (IsBoundText by strict one two)
     (IsBoundRejected by strict one two)
     (StopsBound by strict one two) status text
 
--- with what a number asks; where it asks nothing, it is refused
+-- the same by the certificate that a number asks for; a number that asks for none is refused
 abbrev pub BoundsBy : Option (Certificate × Bool) → List ℕ → List ℕ → ℕ → List ℕ → Type 0
 BoundsBy None one two status text = IsRefusedNumber status text
 BoundsBy (Some asked) one two status text = BoundsTexts asked.0 asked.1 one two status text
 
 -- ---- an explanation
 
--- the calls that are explained, by their numbers: 0 shows, 1 converts, 2 checks, 3 bounds; and the other numbers that each takes
+-- the calls that are explained, by their numbers, with the other numbers that each takes: 0 shows, 1 converts, 2 checks,
+-- 3 bounds
 abbrev pub IsExplained : ℕ → ℕ → ℕ → Type 0
 IsExplained call number has_claim = (call ≡ 0)
     ⊎ ((call ≡ 1) × (number ≤ 9))
     ⊎ ((call ≡ 2) × (number ≤ 2) × (has_claim ≤ 3))
     ⊎ ((call ≡ 3) × (1 ≤ number) × (number ≤ 4))
 
--- What an explanation says has no contract. Out of memory there is none; and a call that isn't explained is refused.
+-- The words of an explanation have no contract. Out of memory there is none; a call that isn't explained is refused.
 abbrev pub ExplainsTexts : ℕ → ℕ → ℕ → ℕ → List ℕ → Type 0
 ExplainsTexts call number has_claim status text =
     (IsExplained call number has_claim × ((status ≡ 0) ⊎ ((status ≡ 3) × (text ≡ []))))

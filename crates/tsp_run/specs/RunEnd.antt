@@ -1,4 +1,5 @@
--- How a run of the program ends: its exit status, and what goes to standard error.
+-- The exit status of a run's end, and the line that it writes to standard error. For `status_of_run_end` and `tell`
+-- (src/run_end.rt), and for ProgramRun.antt.
 use Rattle.std.specs.Prelude.{◌≡◌, ℕ, Bool, List, [], ◌++◌, ◌∷◌, true, false, Option, None, Some, Ok, Err, IfSome, codes, not, ◌==◌}
 use Rattle.std.specs.List.{list_all}
 use Rattle.std.specs.Io.KnownBytes.{Appends, Keeps}
@@ -14,8 +15,8 @@ use Rattle.tsp_run.specs.declared.run_end.RunEnd.TheVariants.{NoJob, Printed, No
 use Rattle.tsp_run.specs.declared.run_end.ErrorLine.{ErrorLine}
 use Rattle.tsp_run.specs.declared.run_end.ErrorLine.TheVariants as error_lines
 
--- 3 is out of memory for the words, 4 a command line that is refused; 0 is a version or help that was printed, and one that
--- couldn't be has the status of a fault; a task has the status of its answer, and a comparison the largest of its solutions'
+-- words: 3 out of memory, 4 refused; a version or help: 0 printed, else the status of the fault; a task: the status of
+-- its result; a comparison: the largest status of its solutions
 abbrev pub status_of_run_end : RunEnd → ℕ
 status_of_run_end (NoJob (job_faults.Refused refusal)) = 4
 status_of_run_end (NoJob job_faults.OutOfMemory) = 3
@@ -27,7 +28,7 @@ status_of_run_end (Ended (Err fault)) = status_of (Err fault)
 status_of_run_end (Compared (Ok compared)) = compared.status
 status_of_run_end (Compared (Err fault)) = status_of (Err fault)
 
--- the line of a run's end; an answer has none, nor has a printed text, since that is on standard output
+-- the line of a run's end; a result has none, nor has a printed text, since those are on standard output
 abbrev pub IsLineOf : RunEnd → Option ErrorLine → Type 0
 IsLineOf (NoJob (job_faults.Refused refusal)) (Some (error_lines.Refusal reported)) = reported.now ≡ refusal
 IsLineOf (NoJob job_faults.OutOfMemory) line = line ≡ Some error_lines.OutOfMemory
@@ -40,11 +41,11 @@ IsLineOf (Compared (Ok compared)) line = line ≡ None
 IsLineOf (Compared (Err fault)) line = line ≡ Some (error_lines.Fault fault)
 IsLineOf (NoJob (job_faults.Refused refusal)) _ = ⊥
 
--- a line of this program's own, with its end
+-- a line of this program, with its end
 abbrev pub ended : List ℕ → Option (List ℕ)
 ended text = Some (text ++ 10 ∷ [])
 
--- the bytes of the line, where they are this program's own
+-- the bytes of the line, unless clap writes it
 abbrev pub line_text : ErrorLine → Option (List ℕ)
 line_text (error_lines.Refusal refusal) = None
 line_text error_lines.OutOfMemory = ended (codes "out of memory")
@@ -57,11 +58,11 @@ line_text (error_lines.NoTask InputTwice) = ended (codes "standard input twice")
 line_text (error_lines.NoTask LineEndInPath) = ended (codes "line end in a path")
 line_text (error_lines.Fault fault) = ended (run_fault_text fault)
 
--- no byte ends a line
+-- no byte of the text ends a line
 abbrev pub is_one_line : List ℕ → Bool
 is_one_line text = list_all (λ b. not (b == 10)) text
 
--- one line is written, some text with its end
+-- one line is written
 abbrev pub WritesLine : Option (List ℕ) → Option (List ℕ) → Type 0
 WritesLine old new = (text : List ℕ) × (is_one_line text ≡ true) × Appends old new (text ++ 10 ∷ [])
 
@@ -70,16 +71,17 @@ abbrev pub IsWritten : Option ErrorLine → Option (List ℕ) → Option (List �
 IsWritten None old new = Keeps old new
 IsWritten (Some line) old new = IfSome (line_text line) (Appends old new)
 
+-- the line of the run's end is written
 abbrev pub Tells : RunEnd → Option (List ℕ) → Option (List ℕ) → Type 0
 Tells run_end old new = (line : Option ErrorLine) × IsLineOf run_end line × IsWritten line old new
 
--- the same, and after the line a text and nothing else, where the run's end is explained
+-- the same, with an explanation after the line where one is asked for
 abbrev pub TellsAfter : Bool → RunEnd → Option (List ℕ) → Option (List ℕ) → Type 0
 TellsAfter false run_end old new = Tells run_end old new
 TellsAfter true run_end old new = (between : Option (List ℕ)) × (text : List ℕ) × Tells run_end old between
     × Appends between new text
 
--- A comparison may tell of its solutions before, each when its own line was written.
+-- the same; a comparison may explain its solutions before, each when its own line was written
 abbrev pub TellsAll : Bool → RunEnd → Option (List ℕ) → Option (List ℕ) → Type 0
 TellsAll explained (Compared answer) old new = (first : Option (List ℕ)) × MayTell explained old first
     × TellsAfter explained (Compared answer) first new
