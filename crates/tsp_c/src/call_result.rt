@@ -154,7 +154,7 @@ impl CallResult {
         }
     }
 
-    /// What was found of an instance with a certificate.
+    /// The numbers of the bound of an instance by a certificate, or of the reason against it.
     pub(crate) fn of_bound(instance: &Instance, found: BoundVerdict) -> CallResult
         requires { IsSizedBound found }
         ensures { result ≡ result_of_bound instance.now found }
@@ -173,7 +173,7 @@ impl CallResult {
         }
     }
 
-    /// What a check has come to.
+    /// The numbers of a check: of its verdict, or of its fault.
     pub(crate) fn of_run(ended: &Result<Judged, RunError>) -> CallResult
         requires { IfOk ended.now (λ judged. IsSized judged.verdict) }
         ensures { result ≡ result_of_run ended.now }
@@ -184,7 +184,7 @@ impl CallResult {
         }
     }
 
-    /// What a bound without a solution has come to.
+    /// The numbers of a bound without a solution: of the bound, or of its fault.
     pub(crate) fn of_bound_run(ended: &Result<Bounded, RunError>) -> CallResult
         requires { IfOk ended.now (λ bounded. IsSizedBound bounded.found) }
         ensures { result ≡ result_of_bound_run ended.now }

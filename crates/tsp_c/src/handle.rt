@@ -40,7 +40,7 @@ impl Handle {
         }
     }
 
-    /// What the handle is open on. It is closed then.
+    /// The instance that the handle is open on, if any. The handle is closed then.
     pub(crate) fn take(&mut self, alloc: Global) -> Option<Box<Opened, Global>>
         ensures value { option_map (λ b. b.value) result ≡ self.old.loose.value }
         ensures closed { self.new.loose.value ≡ None }

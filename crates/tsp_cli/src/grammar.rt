@@ -11,7 +11,7 @@ use std::alloc::{AllocError, Global};
 /// The program's version.
 pub const VERSION: &str = "1.1.0";
 
-/// What the program is, in one line.
+/// The line of help that says what the program does.
 const ABOUT: &str = "Reads, writes and judges TSPLIB 95 files";
 
 /// The end of the program's help.

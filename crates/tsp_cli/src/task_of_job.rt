@@ -39,8 +39,8 @@ pub enum TaskFault {
     LineEndInPath,
 }
 
-/// What a job asks for. A path `-` is standard input, which one file at most can be. With no verb,
-/// standard input is shown.
+/// The task that a job asks for. A path `-` is standard input, which one file at most can be. With
+/// no verb, standard input is shown.
 ///
 /// # Errors
 ///
@@ -96,8 +96,8 @@ fn inputs_at(paths: &[String]) -> u64
     count
 }
 
-/// What a job asks for, of files that may be standard input several times. With no verb, standard
-/// input is shown.
+/// The task that a job asks for, of files that may be standard input several times. With no verb,
+/// standard input is shown.
 ///
 /// # Errors
 ///

@@ -14,7 +14,7 @@ use std::alloc::{AllocError, Global};
 use std::io;
 use std::io::ErrorKind as IoKind;
 
-/// What the program does with its files.
+/// The verbs of the program.
 #[derive(Clone, Copy)]
 pub enum Verb {
     /// Show the contents of a file.

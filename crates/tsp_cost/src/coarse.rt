@@ -47,7 +47,7 @@ fn square_of(steps: i64) -> u64
     (steps * steps) as u64
 }
 
-/// What floats make of half the root of a whole number. It may be wrong.
+/// Half the root of a whole number, estimated by floats. It may be wrong.
 #[inline(always)]
 fn half_root(square: u64) -> u64
     requires { square ≤ 2 ^ 45 }

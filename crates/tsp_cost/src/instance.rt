@@ -122,7 +122,7 @@ impl Instance {
         }
     }
 
-    /// What an instance of TYPE CVRP holds beside its costs; none of TYPE TSP or ATSP.
+    /// The depots, demands and capacity of an instance of TYPE CVRP; none of TYPE TSP or ATSP.
     pub fn routing(&self) -> Option<RoutingData<'_>>
         ensures { MatchOption result
             ((self.now.kind ≡ Some kinds.Tsp) ⊎ (self.now.kind ≡ Some kinds.Atsp))
@@ -138,7 +138,7 @@ impl Instance {
         })
     }
 
-    /// What the costs are taken from: points where the weight type is a distance, whatever the
+    /// The type that has the costs: points where the weight type is a distance, whatever the
     /// format; else a matrix for FULL_MATRIX and a triangle for every other layout.
     #[inline]
     pub fn view(&self) -> View<'_>
@@ -240,8 +240,8 @@ impl Costs for Instance {
     }
 }
 
-/// What the costs of an instance are taken from, where they are the same in both directions; else
-/// the first pair of nodes, the smaller one first, by rows, whose two costs differ.
+/// The type that has the costs of an instance, where they are the same in both directions; else the
+/// first pair of nodes, the smaller one first, by rows, whose two costs differ.
 ///
 /// Costs from a node to itself aren't compared. No pair is looked at under a distance or a
 /// triangle.

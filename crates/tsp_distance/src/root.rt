@@ -104,7 +104,7 @@ pub(crate) fn square_of(way: i64) -> u128
     (wide * wide) as u128
 }
 
-/// What floats make of the square of a way, in counts of 2^18 * 10^-18.
+/// The square of a way, estimated by floats in counts of 2^18 * 10^-18.
 #[inline(always)]
 fn coarse_square(way: i64) -> f64
     requires { unsigned_abs way ≤ 2 * 10 ^ 18 }
@@ -114,7 +114,7 @@ fn coarse_square(way: i64) -> f64
     coarse * coarse
 }
 
-/// What floats make of the root, which may be wrong.
+/// The root, estimated by floats. It may be wrong.
 #[inline(always)]
 fn estimate(rounding: Rounding, square: f64) -> u32
     ensures { result < estimate_limit rounding }

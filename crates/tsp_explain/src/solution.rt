@@ -51,7 +51,7 @@ fn index_of(tour: &[u32], node: u32) -> Option<i64> {
     None
 }
 
-/// What the nodes of a route, counted from 1, have as demands together. A node without a demand has
+/// The sum of the demands of the nodes of a route, counted from 1. A node without a demand has
 /// none.
 pub(crate) fn sum_of(tours: &[Vec<u32>], route: u32, demands: &[i64]) -> Option<i64> {
     let index = (route as usize).checked_sub(1)?;

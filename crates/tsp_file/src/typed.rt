@@ -5,7 +5,7 @@ use crate::file::File;
 use crate::weights::ListedWeights;
 use tsp_format::{Kind, TreeStep, WeightFormat, WeightKind};
 
-/// What a file of TYPE CVRP holds beside its costs.
+/// The demands, depots and capacity of a file of TYPE CVRP.
 #[derive(Clone, Copy, Debug)]
 pub struct RoutingData<'a> {
     /// CAPACITY of a vehicle.
@@ -38,7 +38,7 @@ pub struct DualData<'a> {
     pub columns: &'a [i64],
 }
 
-/// What a file of TYPE BRANCHES holds.
+/// The families, steps, scale and load unit of a file of TYPE BRANCHES.
 #[derive(Clone, Copy, Debug)]
 pub struct TreeData<'a> {
     /// SCALE, which is 1 where it is missing.
@@ -97,7 +97,7 @@ impl File {
         self.tours()
     }
 
-    /// What a file of TYPE CVRP holds beside its costs; none of every other file.
+    /// The demands, depots and capacity of a file of TYPE CVRP; none of every other file.
     pub fn as_routing(&self) -> Option<RoutingData<'_>>
         ensures { MatchOption result (self.now.kind ≢ Some kinds.Cvrp)
             (λ held. HoldsRouting self.now held.capacity held.demands.now held.depots.now) }
@@ -147,7 +147,8 @@ impl File {
         })
     }
 
-    /// What a file of TYPE BRANCHES holds; none of every other file.
+    /// The families, steps, scale and load unit of a file of TYPE BRANCHES; none of every other
+    /// file.
     pub fn as_tree(&self) -> Option<TreeData<'_>>
         ensures { MatchOption result (self.now.kind ≢ Some kinds.Branches) (λ held. HoldsCases
             self.now held.scale held.load_unit (combs_of held.combs.now) (steps_of held.steps.now)) }

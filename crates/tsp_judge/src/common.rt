@@ -22,7 +22,7 @@ use tsp_read::{ReadFault, file_of_reader};
 use tsp_stream::{Gives, Watched};
 use tsp_verdict::{Basis, Certificate, Verdict, judge_basis, judge_next, strict_basis};
 
-/// What all solutions of a comparison are judged by.
+/// The files that all solutions of a comparison are judged by, and the basis that these give.
 #[derive(Drop)]
 pub struct Common {
     /// What all of them have in common, found before any is read: the bound of the certificate, the
@@ -65,8 +65,8 @@ pub(crate) fn status_of_found(found: Result<Verdict, ReadFault>) -> u8
     }
 }
 
-/// What all solutions of an instance are judged by. With `strict`, unknown keywords of it are a
-/// reason against all of them.
+/// Judges an instance and a certificate for all solutions. With `strict`, unknown keywords of the
+/// instance are a reason against all of them.
 ///
 /// # Errors
 ///

@@ -1,6 +1,6 @@
 //! The number of the line and of its words so far, while `src/run.rt` takes many words in one pass.
 
-/// What an `Intake` counts, in a run of words.
+/// The counts of an `Intake`, in a run of words.
 #[derive(Clone, Copy)]
 pub(crate) struct Count {
     /// The number of the line, from 1 on.

@@ -19,7 +19,7 @@ impl Demands<'_> {
     ghost use Rattle.tsp_theory.specs.Routing.{demand_of};
     ghost use Rattle.tsp_routing.specs.states.Demands.{AreDemands};
 
-    /// What a node demands.
+    /// The demand of a node.
     pub(crate) fn demand(&self, node: u32) -> i64
         requires demands { AreDemands self.now }
         requires node { IsNode self.now.nodes node }

@@ -48,7 +48,7 @@ impl Demands<'_> {
         counted(self.routes_of(self.all()))
     }
 
-    /// What all customers demand.
+    /// The sum of the demands of all customers.
     fn all(&self) -> i64
         requires demands { AreDemands self.now }
         ensures value { result ≡ sum_of_customers self.now.nodes self.now.depot (demand_of self.now.demands.now) }
@@ -62,7 +62,7 @@ impl Demands<'_> {
         sum
     }
 
-    /// What a customer demands; 0 for the depot.
+    /// The demand of a customer; 0 for the depot.
     fn of_customer(&self, node: u32) -> i64
         requires demands { AreDemands self.now }
         requires node { IsNode self.now.nodes node }
@@ -97,7 +97,7 @@ impl Demands<'_> {
         self.routes_of(self.load(customers))
     }
 
-    /// What these customers demand.
+    /// The sum of the demands of these customers.
     fn load(&self, customers: &[u32]) -> i64
         requires demands { AreDemands self.now }
         requires customers { All (IsCustomer self.now.nodes self.now.depot) customers.now }

@@ -39,7 +39,7 @@ pub(crate) trait Sum: Copy {
     fn is_below(self, other: Self) -> bool
         ensures { result ≡ int_lt (value self) (value other) };
 
-    /// What a walk weighs; `None` where it is the sum of no walk.
+    /// The weight of a walk; `None` where it is the sum of no walk.
     fn weight(self) -> Option<i128>
         ensures { MatchOption result (IsReal half (value self) → ⊥)
             (λ weight. (weight ≡ value self) × IsReal half (value self)) };
