@@ -1,5 +1,5 @@
--- The goals of `weighed` in src/part.rt, which sums the weights of the pairs of a tree: that no sum overflows, its loop
--- and what its calls require.
+-- The goals of `weighed` in src/part.rt, which sums the weights of the pairs of a tree: that no sum overflows, that
+-- indices are in range, its loop and what its calls require.
 use Rattle.std.proofs.Common.{◌≡◌, ◌≤◌, ◌+◌, ◌++◌, ◌∷◌, [], ℕ, List, length, get_or, length-append, arith, rules, ap, sym, ◌∙◌, to_z, FitsSigned}
 use Rattle.std.specs.Prelude.{ℤ, ◌+ℤ◌}
 use Rattle.std.specs.Int.{w64, w128}

@@ -1,5 +1,5 @@
--- The goals of `branch_bound` in src/branch.rt, which finds the least bound of the leaves of a certificate: what its
--- calls require and what it ensures.
+-- The goals of `branch_bound` in src/branch.rt, which finds the least bound of the leaves of a certificate: what it
+-- ensures.
 use Rattle.std.proofs.Common.{ℕ, subst}
 use Rattle.std.specs.List.{All}
 use Rattle.std.proofs.lemmas.Result.{IfOk-weaker}

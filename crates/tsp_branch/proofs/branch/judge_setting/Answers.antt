@@ -1,4 +1,4 @@
--- The goals of `judge_setting` in src/branch.rt: what its calls require and what it ensures.
+-- The goals of `judge_setting` in src/branch.rt: what it ensures.
 use Rattle.std.proofs.Common.{ℕ}
 use Rattle.std.proofs.lemmas.Result.{IfOk-weaker}
 use Rattle.tsp_format.specs.states.TreeSteps.{steps_of}

@@ -1,5 +1,5 @@
--- The goals of `given_back` in src/given_back.rt, which sums what a leaf gives back to its bound: what its calls
--- require, that no sum overflows and what it ensures.
+-- The goals of `given_back` in src/given_back.rt, which sums what a leaf gives back to its bound: that no sum
+-- overflows, the facts of the values that it makes and what it ensures.
 use Rattle.std.proofs.Common.{◌∙◌, ℤ, List, ap, sym}
 use Rattle.std.specs.Prelude.{pos, ◌-ℤ◌, ◌*ℤ◌}
 use Rattle.tsp_cases.specs.LeafBound.{least_of}

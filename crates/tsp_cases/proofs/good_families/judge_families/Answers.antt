@@ -1,5 +1,5 @@
 -- The goals of `judge_families` in src/good_families.rt, which finds the crossings of each family, or the first bad
--- one: its loop and what it ensures.
+-- one: its loop, the facts of the values that it makes and what it ensures.
 use Rattle.std.proofs.Common.{◌≡◌, ◌∙◌, ◌^◌, ◌<◌, ◌++◌, [], ◌∷◌, ℕ, List, length, get_or, refl, ap, sym, subst, arith, length-append}
 use Rattle.std.specs.Prelude.{Some, Option}
 use Rattle.std.specs.Global.{Vec}

@@ -1,5 +1,5 @@
--- The goals of `judge_cases` in src/twice.rt, which finds the first bad branch of a certificate: what holds of its
--- result and what it ensures.
+-- The goals of `judge_cases` in src/twice.rt, which finds the first bad branch of a certificate: the facts of the
+-- values that it makes, what its calls require and what it ensures.
 use Rattle.std.proofs.Common.{ℕ, refl, sym, subst, arith}
 use Rattle.std.specs.Prelude.{None}
 use Rattle.std.specs.List.{All}

@@ -1,4 +1,5 @@
--- The goals of `fill_across` in src/whole.rt, which fills the cells across the diagonal: its loop and what it ensures.
+-- The goals of `fill_across` in src/whole.rt, which fills the cells across the diagonal: its loop, what its calls
+-- require and what it ensures.
 use Rattle.std.proofs.Common.{◌≡◌, ◌∙◌, ◌+◌, ◌*◌, ◌<◌, ◌≤◌, true, false, ⊎_elim, inl, inr, arith}
 use Rattle.std.proofs.lemmas.Bool.{cases_lt}
 use Rattle.tsp_file.proofs.Spread.{fills_more}

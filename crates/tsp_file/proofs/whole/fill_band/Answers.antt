@@ -1,5 +1,5 @@
--- The goals of `fill_band` in src/whole.rt, which fills the cells of a band across the diagonal: its loop and what it
--- ensures.
+-- The goals of `fill_band` in src/whole.rt, which fills the cells of a band across the diagonal: its loop, what its
+-- calls require and what it ensures.
 use Rattle.std.proofs.Common.{◌≡◌, ◌+◌, ◌<◌, ◌≤◌, ⊎_elim, inl, inr, arith}
 use Rattle.std.proofs.lemmas.Bool.{cases_lt}
 use Rattle.tsp_file.proofs.Spread.{fills_more}

@@ -1,5 +1,5 @@
 -- The goals of `CaseLeaf::are_exact` in src/leaf_rows.rt, which tests whether boxes suit the numbers of a leaf: its
--- loop and what its calls require.
+-- loop, the facts of the values that it makes, what its calls require and what it ensures.
 use Rattle.std.proofs.Common.{◌≡◌, ◌∙◌, ◌-◌, ℕ, ℤ, List, inl, inr, ap, sym, subst, arith, rules, FitsSigned}
 use Rattle.std.specs.Int.{w64, int_wrap}
 use Rattle.std.specs.Prelude.{pos, neg_ℤ, ◌+ℤ◌}

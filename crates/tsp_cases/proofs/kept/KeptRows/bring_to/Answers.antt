@@ -1,5 +1,5 @@
--- The goals of `KeptRows::bring_to` in src/kept.rt, which brings the kept rows to the multipliers of the next leaf:
--- what its calls require and what it ensures.
+-- The goals of `KeptRows::bring_to` in src/kept.rt, which brings the kept rows to the multipliers of the next leaf: the
+-- facts of the values that it makes, what its calls require and what it ensures.
 use Rattle.std.proofs.Common.{◌≡◌, ◌∙◌, ℕ, ℤ, List, length, ap, sym, subst, arith}
 use Rattle.std.specs.Global.{Vec}
 use Rattle.std.specs.Prelude.{neg_ℤ}

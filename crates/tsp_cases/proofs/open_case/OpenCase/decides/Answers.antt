@@ -1,4 +1,5 @@
--- The goals of `OpenCase::decides` in src/open_case.rt, which tests whether a pair is decided: what it ensures.
+-- The goals of `OpenCase::decides` in src/open_case.rt, which tests whether a pair is decided: what its calls require
+-- and what it ensures.
 use Rattle.std.proofs.Common.{◌∙◌, Bool, false, sym, arith}
 use Rattle.std.proofs.lemmas.List.Folds.{list_any_at, list_any_none}
 use Rattle.tsp_cases.specs.declared.decision.Decision.{Decision}

@@ -1,4 +1,5 @@
--- The goals of `OpenCase::take` in src/open_case.rt, which adds a decision to the open case: what it ensures.
+-- The goals of `OpenCase::take` in src/open_case.rt, which adds a decision to the open case: what its calls require and
+-- what it ensures.
 use Rattle.std.proofs.Common.{true, refl, arith}
 use Rattle.tsp_cases.specs.states.OpenCases.{decisions_in}
 use Rattle.tsp_cases.proofs.OpenCases.{case_more}

@@ -1,4 +1,4 @@
--- The goals of `write_line_end` in src/writer/points.rt: its text.
+-- The goals of `write_line_end` in src/writer/points.rt: what it ensures.
 use Rattle.std.proofs.Common.{◌≡◌, ◌∷◌, ◌++◌, ℕ, List, length, drop, set, ap, sym, ◌∙◌, append-nil, arith, rules}
 use Rattle.std.proofs.lemmas.List.{drop-set, drop_all}
 use Rattle.tsp_number.specs.Spelling.{spelling}

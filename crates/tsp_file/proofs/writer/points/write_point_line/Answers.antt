@@ -1,4 +1,4 @@
--- The goals of `write_point_line` in src/writer/points.rt: where the line begins, and what it is.
+-- The goals of `write_point_line` in src/writer/points.rt: what its calls require and what it ensures.
 use Rattle.std.proofs.Common.{[], ◌∷◌, ◌++◌, ℕ, List, cond, ap, sym, ◌∙◌, append_assoc, arith, rules}
 use Rattle.std.proofs.lemmas.Fmt.{length-decimal-le}
 use Rattle.std.specs.List.{flat_map}
