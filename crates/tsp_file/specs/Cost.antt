@@ -1,5 +1,5 @@
--- The cost from one node of an instance to another, as a function of its fields, which can be evaluated. For `Instance`
--- of tsp_cost, `relayout` (src/relayout.rt), and the verdicts of tsp_verdict.
+-- The cost from one node of an instance to another, as a function of its fields, which can be evaluated. For `cost` of
+-- `Instance` (src/instance.rt of tsp_cost), Relayout.antt, and the verdicts of tsp_verdict.
 -- Source: TSPLIB 95 (G. Reinelt), EDGE_WEIGHT_TYPE, EDGE_WEIGHT_FORMAT and the distance functions.
 use Rattle.std.specs.Prelude.{ℕ, ◌-◌, List, [], Option, None, Some, unwrap_or, slice_index_or, ℤ, pos}
 use Rattle.std.specs.Option.{option_map, option_or}

@@ -1,5 +1,5 @@
 -- The words of TSPLIB 95 (G. Reinelt) and of this project's own keywords, and the lists of all values that have a word.
--- For `Word` (src/word.rt), `Field` (src/field.rt) and the enums of src/kinds.rt.
+-- For `Field` (src/field.rt), the enums of src/kinds.rt, and `Layout` (src/layout.rt).
 use Rattle.std.specs.Prelude.{◌≡◌, ℕ, List, [], ◌∷◌, Some, refl, codes}
 use Rattle.std.specs.List.{find}
 use Rattle.std.specs.Str.{bytes_eq}
