@@ -1,4 +1,4 @@
--- The goals of `given_back` in src/given_back.rt, which sums what a leaf gives back to its bound: that no sum
+-- The goals of `given_back` in src/given_back.rt, which sums what a leaf gives back to its bound: that no difference
 -- overflows, the facts of the values that it makes and what it ensures.
 use Rattle.std.proofs.Common.{◌∙◌, ℤ, List, ap, sym}
 use Rattle.std.specs.Prelude.{pos, ◌-ℤ◌, ◌*ℤ◌}
