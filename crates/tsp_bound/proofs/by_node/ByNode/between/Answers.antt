@@ -1,1 +1,0 @@
--- The goals of `ByNode::between` in src/by_node.rt.
