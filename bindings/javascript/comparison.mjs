@@ -1,4 +1,4 @@
-// `Comparison`, the result of the call `compare`: a report or an error of each solution of one instance, and its table.
+// `Comparison`, the result of the call `compare`: a report or an error of each solution of one instance, and its text.
 // Imported by yokecairn.mjs alone.
 
 import { Fault, SolutionError } from "./errors.mjs";

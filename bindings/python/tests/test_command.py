@@ -1,4 +1,4 @@
-"""The command `python -m yokecairn`: verbs, options, streams and statuses, where they differ from those of the program."""
+"""The command `python -m yokecairn`: verbs, options, streams, explanations and statuses."""
 
 import os
 import subprocess

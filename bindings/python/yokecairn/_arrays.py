@@ -1,5 +1,5 @@
-"""Points, matrices and tours as lists or numpy's arrays, as exact numbers and as lines of a file. For `Problem.from_points`
-and its like in problem.py."""
+"""Points, matrices and tours that are given as lists or numpy's arrays, as exact numbers. For `Problem.from_points` and its like
+in problem.py."""
 
 from decimal import ROUND_HALF_EVEN, Context, Decimal
 from math import isqrt

@@ -1,4 +1,4 @@
-// The drawing of a scene (scene.mjs), of a 1-tree, of the bounds of an ascent and of compared lengths, as shapes of SVG.
+// Drawings as shapes of SVG: a scene (scene.mjs), a 1-tree, the bounds of an ascent, and a length beside its bound.
 // For page.mjs, which puts them into the document.
 
 /**

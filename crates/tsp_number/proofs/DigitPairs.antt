@@ -1,5 +1,5 @@
--- Digits written two at a time: the table of each number below 100, and nine digits by it. For `write_nine` and `write_pair` in
--- src/digits.rt.
+-- Digits written two at a time: the table of each number below 100, and nine digits by it. For `write_nine` and
+-- `write_pair` in src/digits.rt.
 use Rattle.std.proofs.Common.{◌≡◌, ℕ, zero, suc, ◌+◌, ◌*◌, ◌/◌, ◌%◌, ◌<◌, Bool, true, ◌&&◌, T, eqb, List, [], ◌∷◌, ◌++◌, get_or, refl, inl, inr, arith, eqb→eq}
 use Rattle.std.proofs.lemmas.Bool.{cases_lt}
 use Rattle.tsp_number.specs.Spelling.{three_digits}

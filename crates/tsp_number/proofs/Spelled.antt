@@ -1,5 +1,5 @@
--- A text of a number means that number, and so reading it gives the number back. For `write_spelling` in src/spelling.rt and
--- others.
+-- A text of a number means that number, and so reading it gives the number back. For `write_spelling` in
+-- src/spelling.rt and others.
 use Rattle.std.proofs.Common.{◌≡◌, ℕ, ◌+◌, ◌-◌, ◌*◌, ◌/◌, ◌%◌, ◌^◌, ◌<◌, ◌≤◌, ◌==◌, Bool, true, false, List, [], ◌∷◌, ◌++◌, length, Result, Ok, ℤ, pos, negsuc, inl, inr, refl, arith, ap, sym, ◌∙◌, subst, suc, zero, unsigned_abs, pow-add, append-nil, length-append}
 use Rattle.std.proofs.Math.Nat.{pow-suc}
 use Rattle.std.proofs.lemmas.Bool.{cases_eq}

@@ -1,4 +1,5 @@
--- A number word at the beginning of a text, whose end is where the number's is. For `few_number` in src/run.rt and others.
+-- A number word at the beginning of a text, whose end is where the number's is. For `few_number` in src/run.rt and
+-- others.
 use Rattle.std.proofs.Common.{◌≡◌, ℕ, ◌+◌, ◌<◌, ◌≤◌, Bool, true, false, List, [], ◌∷◌, ◌++◌, length, take, drop, refl, sym, ap, subst, ◌∙◌, arith, inl, inr, Ok, ℤ, pos, ◌*ℤ◌, take-append-drop}
 use Rattle.std.specs.Prelude.{not, ◌&&◌, ◌||◌, ◌⊎◌, unsigned_abs}
 use Rattle.std.specs.Str.Parse.{AllDigits}

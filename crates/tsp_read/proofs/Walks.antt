@@ -1,5 +1,5 @@
--- A walk over the items of a text up to the end line: where it begins, one item more, and where it stops. For `Feed::end` in
--- src/feed.rt and others.
+-- A walk over the items of a text up to the end line: where it begins, one item more, and where it stops. For
+-- `Feed::end` in src/feed.rt and others.
 use Rattle.std.proofs.Common.{◌≡◌, ℕ, Bool, true, false, cond, List, [], ◌∷◌, ◌++◌, reverse, Option, Some, None, refl, sym, ap, ◌∙◌, append-nil, append_assoc}
 use Rattle.std.specs.Prelude.{not, ◌||◌, ◌&&◌}
 use Rattle.std.specs.Option.{option_or, option_map}

@@ -1,4 +1,5 @@
--- A word of the open section: nothing changes but the words of that section. For `Reading::word` in src/state/reading.rt.
+-- A word of the open section: nothing changes but the words of that section. For `Reading::word` in
+-- src/state/reading.rt.
 use Rattle.std.proofs.Common.{Bool, subst, ◌≡◌, ℕ, true, List, [], ◌∷◌, ◌++◌, sym, ap, ◌∙◌, Some, Result, Ok, Err}
 use Rattle.tsp_format.specs.declared.field.Field.{Field}
 use Rattle.tsp_section.specs.declared.fault.StepFault.{StepFault}

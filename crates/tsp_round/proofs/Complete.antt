@@ -1,4 +1,5 @@
--- At the end of a valid file's text no section is incomplete. For the law `canonical_texts_are_read_back` in src/round_trip.rt.
+-- At the end of a valid file's text no section is incomplete. For the law `canonical_texts_are_read_back` in
+-- src/round_trip.rt.
 use Rattle.std.proofs.Common.{◌≡◌, ℕ, Bool, true, false, cond, List, [], ◌∷◌, refl, sym, ap, ◌∙◌, Option, Some, None}
 use Rattle.std.specs.Prelude.{is_some}
 use Rattle.std.specs.Option.{option_map_or}

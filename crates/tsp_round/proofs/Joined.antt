@@ -1,5 +1,5 @@
--- The whole canonical text of a valid file: its items are those of its fields and the end line, and they parse to the file. For
--- the law `canonical_texts_are_read_back` in src/round_trip.rt.
+-- The whole canonical text of a valid file: its items are those of its fields and the end line, and they parse to the
+-- file. For the law `canonical_texts_are_read_back` in src/round_trip.rt.
 use Rattle.std.proofs.Common.{◌≡◌, ℕ, ◌<◌, false, cond, List, [], ◌∷◌, ◌++◌, length, reverse, take, refl, sym, ap, ◌∙◌, arith, append-nil, Option, Some, None}
 use Rattle.std.specs.Prelude.{◌&&◌, not, codes}
 use Rattle.std.specs.Option.{option_map, option_or}

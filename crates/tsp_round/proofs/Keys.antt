@@ -1,5 +1,5 @@
--- Kept values as they are written: names, comments and unknown keywords; and the lines of keywords with a number. For the law
--- `canonical_texts_are_read_back` in src/round_trip.rt.
+-- Kept values as they are written: names, comments and unknown keywords; and the lines of keywords with a number. For
+-- the law `canonical_texts_are_read_back` in src/round_trip.rt.
 use Rattle.std.proofs.Common.{◌≡◌, ℕ, ◌+◌, ◌-◌, ◌≤◌, true, false, cond, List, [], ◌∷◌, ◌++◌, length, refl, sym, ap, ◌∙◌, arith, append_assoc, append-nil, length-append, Some, None}
 use Rattle.std.specs.Prelude.{not, ◌&&◌, ◌==◌, nat_le, nat_lt, slice_index}
 use Rattle.std.specs.Option.{option_and_then}

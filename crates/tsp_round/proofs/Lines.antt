@@ -1,5 +1,5 @@
--- The items of a keyword's line and of a section's line, as they are written. For the law `canonical_texts_are_read_back` in
--- src/round_trip.rt.
+-- The items of a keyword's line and of a section's line, as they are written. For the law
+-- `canonical_texts_are_read_back` in src/round_trip.rt.
 use Rattle.std.proofs.Common.{◌≡◌, ℕ, suc, ◌+◌, ◌-◌, Bool, true, false, cond, List, [], ◌∷◌, ◌++◌, length, get_or, map, reverse, refl, sym, ap, ◌∙◌, arith, append_assoc}
 use Rattle.std.specs.Prelude.{not, slice_index}
 use Rattle.std.specs.List.{list_all, prefix_len}

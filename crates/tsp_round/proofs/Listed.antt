@@ -1,5 +1,5 @@
--- Groups that -1 ends as they are written, and fixed pairs: each word is taken at its place, and they are read back. For the law
--- `canonical_texts_are_read_back` in src/round_trip.rt.
+-- Groups that -1 ends as they are written, and fixed pairs: each word is taken at its place, and they are read back.
+-- For the law `canonical_texts_are_read_back` in src/round_trip.rt.
 use Rattle.std.proofs.Common.{◌≡◌, ℕ, suc, ◌+◌, ◌^◌, ◌<◌, ◌≤◌, Bool, true, false, cond, List, [], ◌∷◌, ◌++◌, length, map, refl, sym, ap, ap₂, ◌∙◌, append_assoc, append-nil, arith, None}
 use Rattle.std.specs.Prelude.{◌==◌, ◌||◌, nat_abs, codes, take}
 use Rattle.std.specs.List.{list_all, list_any, flat_map}

@@ -1,5 +1,6 @@
--- Depots, nodes of pairs and of triples, and weights as they are written: each word is taken at its place, and they are read
--- back. `no_rows` and `has_room` also serve other sections. For the law `canonical_texts_are_read_back` in src/round_trip.rt.
+-- Depots, nodes of pairs and of triples, and weights as they are written: each word is taken at its place, and they are
+-- read back. `no_rows` and `has_room` also serve other sections. For the law `canonical_texts_are_read_back` in
+-- src/round_trip.rt.
 use Rattle.std.proofs.Common.{◌≡◌, ℕ, suc, ◌+◌, ◌*◌, ◌^◌, ◌<◌, ◌≤◌, Bool, true, false, cond, List, [], ◌∷◌, ◌++◌, length, map, refl, sym, ap, ◌∙◌, arith, Option, None, Result, Ok}
 use Rattle.std.specs.Prelude.{ℤ, pos, not, ◌&&◌, ◌==◌, nat_le, nat_abs, codes}
 use Rattle.std.specs.Option.{option_map}

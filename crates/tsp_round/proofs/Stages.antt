@@ -1,5 +1,5 @@
--- A text by fields: what the items read so far say of each field, while the texts of the fields come one after the other. For
--- the law `canonical_texts_are_read_back` in src/round_trip.rt.
+-- A text by fields: what the items read so far say of each field, while the texts of the fields come one after the
+-- other. For the law `canonical_texts_are_read_back` in src/round_trip.rt.
 use Rattle.std.proofs.Common.{◌≡◌, ℕ, Bool, true, false, cond, List, [], ◌∷◌, ◌++◌, refl, sym, ap, subst, ◌∙◌, Option, Some, None}
 use Rattle.std.specs.Prelude.{not, ◌&&◌, ◌||◌}
 use Rattle.std.specs.Option.{option_map, option_map_or}

@@ -1,5 +1,5 @@
--- Routes cross each part an even number of times, so they keep the limits of an open case until that is closed. For the law
--- `plans_keep_limits` in src/laws.rt.
+-- Routes cross each part an even number of times, so they keep the limits of an open case until that is closed. For the
+-- law `plans_keep_limits` in src/laws.rt.
 use Rattle.std.proofs.Common.{◌≡◌, ℕ, ◌+◌, ◌-◌, ◌*◌, Bool, true, false, List, [], ◌∷◌, length, ◌≤ℤ◌, inl, inr, refl, arith}
 use Rattle.std.specs.Prelude.{ℤ, pos, negsuc, ◌+ℤ◌}
 use Rattle.std.proofs.lemmas.Int.{ints}

@@ -1,5 +1,5 @@
--- The least of some numbers is one number, and so is the least bound of the leaves. For the law `plan_trees_bound_plans` in
--- src/laws.rt.
+-- The least of some numbers is one number, and so is the least bound of the leaves. For the law
+-- `plan_trees_bound_plans` in src/laws.rt.
 use Rattle.std.proofs.Common.{◌≡◌, ℕ, List, Option, None, Some, ℤ, ◌≤ℤ◌, inl, inr, refl, ap, subst, arith}
 use Rattle.std.proofs.lemmas.Int.{ints}
 use Rattle.std.proofs.lemmas.List.Elements.{All-contains}

@@ -1,5 +1,5 @@
--- A certificate for routes has one bound, or none: how often plans cross its cuts, and loads, are determined. For the law
--- `plan_bounds_are_unique` in src/laws.rt.
+-- A certificate for routes has one bound, or none: how often plans cross its cuts, and loads, are determined. For the
+-- law `plan_bounds_are_unique` in src/laws.rt.
 use Rattle.std.proofs.Common.{◌≡◌, ℕ, List, [], ◌∷◌, length, refl, ap₂, subst, arith}
 use Rattle.std.specs.List.{AllByRecursion}
 use Rattle.std.proofs.lemmas.Int.{ints}

@@ -1,5 +1,5 @@
--- The number of a group of a by-node section with a whole number for each node. For `NumberList::push` in src/parts/numbers.rt
--- and others.
+-- The number of a group of a by-node section with a whole number for each node. For `NumberList::push` in
+-- src/parts/numbers.rt and others.
 use Rattle.std.proofs.Common.{◌≡◌, ℕ, ◌+◌, ◌-◌, ◌<◌, Bool, true, List, [], ◌∷◌, ◌++◌, length, set, refl, ap, Option, None, Some, Ok, Err, arith}
 use Rattle.std.specs.Prelude.{ℤ, ◌==◌}
 use Rattle.tsp_number.specs.declared.fault.NumberFault.{NumberFault}

@@ -1,4 +1,5 @@
--- A section by node that isn't incomplete has one group for each node. For the law `each_node_has_one_group` in src/by_node.rt.
+-- A section by node that isn't incomplete has one group for each node. For the law `each_node_has_one_group` in
+-- src/by_node.rt.
 use Rattle.std.proofs.Common.{◌≡◌, ℕ, suc, zero, ◌+◌, ◌*◌, ◌<◌, Bool, true, false, cond, List, [], ◌∷◌, ◌++◌, length, map, refl, sym, ap, subst, ◌∙◌, arith, None}
 use Rattle.std.specs.Prelude.{◌&&◌, ◌==◌, nat_le, ℤ, pos, neg_ℤ}
 use Rattle.std.specs.Option.{option_map}

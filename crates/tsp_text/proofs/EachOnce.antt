@@ -1,4 +1,5 @@
--- Different nodes of 1..n, as many as n, are 1..n in another order. For the law `each_node_has_one_group` in src/by_node.rt.
+-- Different nodes of 1..n, as many as n, are 1..n in another order. For the law `each_node_has_one_group` in
+-- src/by_node.rt.
 use Rattle.std.proofs.Common.{◌≡◌, ◌≢◌, ℕ, zero, suc, ◌-◌, ◌<◌, ◌≤◌, true, false, List, [], ◌∷◌, ◌++◌, length, get_or, map, sym, ap, subst, ◌∙◌, arith, None}
 use Rattle.std.specs.Prelude.{nat_le, ℤ, pos}
 use Rattle.std.specs.List.{AllByRecursion, Contains, list_any, remove}

@@ -1,5 +1,5 @@
--- The first fault of items is that of the first item to which a row applies, and it stays the first whatever follows. For the
--- law `first_faults` in src/answers.rt.
+-- The first fault of items is that of the first item to which a row applies, and it stays the first whatever follows.
+-- For the law `first_faults` in src/answers.rt.
 use Rattle.std.proofs.Common.{◌≡◌, List, [], ◌∷◌, ◌++◌, refl, sym, ap, ◌∙◌, Option, Some, None}
 use Rattle.std.specs.Option.{option_or, option_map}
 use Rattle.std.proofs.lemmas.Option.{none-some, same_Some}

@@ -1,5 +1,5 @@
--- What stays true of the words of a section, as they came: each followed the earlier ones of its section without a fault. For
--- the law `each_node_has_one_group` in src/by_node.rt.
+-- What stays true of the words of a section, as they came: each followed the earlier ones of its section without a
+-- fault. For the law `each_node_has_one_group` in src/by_node.rt.
 use Rattle.std.proofs.Common.{◌≡◌, ℕ, Bool, true, false, cond, List, [], ◌∷◌, ◌++◌, refl, sym, ap, subst, ◌∙◌, Option, Some, None}
 use Rattle.std.proofs.lemmas.Bool.{true≢false}
 use Rattle.tsp_format.specs.declared.field.Field.{Field}

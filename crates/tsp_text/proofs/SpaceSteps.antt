@@ -1,5 +1,5 @@
--- Whether a file is spatial, as its lines come: once points have come it stays. For `Reading::number` and `Reading::known` in
--- src/state/lines.rt of tsp_read.
+-- Whether a file is spatial, as its lines come: once points have come it stays. For `Reading::number` and
+-- `Reading::known` in src/state/lines.rt of tsp_read.
 use Rattle.std.proofs.Common.{◌≡◌, ℕ, Bool, true, false, cond, List, [], ◌∷◌, refl, sym, ap, subst, ◌∙◌, Option, Some, None}
 use Rattle.std.specs.Prelude.{not, ◌&&◌, ◌||◌}
 use Rattle.std.specs.Option.{option_map_or, option_and_then}

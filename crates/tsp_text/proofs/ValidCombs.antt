@@ -1,5 +1,5 @@
--- The combs of a section without a fault: no more than may be, each of sets of nodes. For the laws `spelled_files_are_valid`
--- and `clean_fields_are_valid` in src/validity.rt.
+-- The combs of a section without a fault: no more than may be, each of sets of nodes. For the laws
+-- `spelled_files_are_valid` and `clean_fields_are_valid` in src/validity.rt.
 use Rattle.std.proofs.Common.{◌≡◌, ℕ, ◌+◌, ◌<◌, ◌≤◌, Bool, true, false, cond, List, [], ◌∷◌, ◌++◌, length, refl, sym, ap, subst, ◌∙◌, None, arith}
 use Rattle.std.specs.Prelude.{not, ◌&&◌, ◌||◌, nat_le, nat_abs}
 use Rattle.std.specs.List.{list_all, sum_by}

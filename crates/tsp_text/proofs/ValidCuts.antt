@@ -1,5 +1,5 @@
--- The items of a text are cut from it: keywords begin with a letter, and values have no byte 10 and no blank at either end. For
--- the law `clean_fields_are_valid` in src/validity.rt.
+-- The items of a text are cut from it: keywords begin with a letter, and values have no byte 10 and no blank at either
+-- end. For the law `clean_fields_are_valid` in src/validity.rt.
 use Rattle.std.proofs.Common.{◌≡◌, ℕ, suc, zero, ◌+◌, ◌-◌, Bool, true, false, cond, List, [], ◌∷◌, ◌++◌, length, get_or, map, reverse, refl, sym, ap, subst, ◌∙◌, arith}
 use Rattle.std.specs.Prelude.{not, ◌&&◌, ◌||◌, nat_lt, slice_index}
 use Rattle.std.specs.List.{list_all, prefix_len, take_while}

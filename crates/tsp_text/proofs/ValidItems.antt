@@ -1,5 +1,5 @@
--- The fields of cut items without a fault are valid, field by field; and with no fault at the end they are a file. For the laws
--- `spelled_files_are_valid` and `clean_fields_are_valid` in src/validity.rt.
+-- The fields of cut items without a fault are valid, field by field; and with no fault at the end they are a file. For
+-- the laws `spelled_files_are_valid` and `clean_fields_are_valid` in src/validity.rt.
 use Rattle.std.proofs.Common.{◌≡◌, ℕ, Bool, true, false, cond, List, [], ◌∷◌, refl, ap, ◌∙◌, Option, Some, None}
 use Rattle.std.specs.Prelude.{not, ◌&&◌, ◌||◌, pos, neg_ℤ}
 use Rattle.tsp_format.specs.declared.field.Field.{Field}

@@ -1,5 +1,5 @@
--- The keywords of clean items are valid: names, comments and unknown keywords are kept values, and numbers are in their ranges.
--- For the laws `spelled_files_are_valid` and `clean_fields_are_valid` in src/validity.rt.
+-- The keywords of clean items are valid: names, comments and unknown keywords are kept values, and numbers are in their
+-- ranges. For the laws `spelled_files_are_valid` and `clean_fields_are_valid` in src/validity.rt.
 use Rattle.std.proofs.Common.{◌≡◌, ℕ, ◌+◌, Bool, true, false, cond, List, [], ◌∷◌, length, refl, sym, ap, subst, ◌∙◌, Option, Some, None, Result, Ok, Err}
 use Rattle.std.specs.Prelude.{◌-◌, not, ◌&&◌, ◌==◌, ℤ, pos, nat_le, nat_abs, codes, slice_index}
 use Rattle.std.specs.List.{list_all, find}

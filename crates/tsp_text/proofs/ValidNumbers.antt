@@ -1,5 +1,5 @@
--- What a word is read as is in its range, and a word that isn't read counts as 0, which is in each range by node. So a list by
--- node is valid. For the laws `clean_fields_are_valid` and `spelled_files_are_valid` in src/validity.rt.
+-- What a word is read as is in its range, and a word that isn't read counts as 0, which is in each range by node. So a
+-- list by node is valid. For the laws `clean_fields_are_valid` and `spelled_files_are_valid` in src/validity.rt.
 use Rattle.std.proofs.Common.{◌≡◌, ℕ, suc, zero, ◌*◌, ◌≤◌, Bool, true, false, cond, List, [], ◌∷◌, length, map, refl, sym, ap, subst, ◌∙◌, arith, Option, Some, None, Result, Ok, Err}
 use Rattle.std.specs.Prelude.{◌==◌, ◌&&◌, ℤ, pos, negsuc, neg_ℤ, nat_le, unwrap_or, unsigned_abs, int_le, if◌then◌else◌}
 use Rattle.std.specs.List.{list_all}

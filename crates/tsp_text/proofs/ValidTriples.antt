@@ -1,5 +1,5 @@
--- The multipliers of a section without a fault: no more than may be, each of two different nodes and in range. For the laws
--- `spelled_files_are_valid` and `clean_fields_are_valid` in src/validity.rt.
+-- The multipliers of a section without a fault: no more than may be, each of two different nodes and in range. For the
+-- laws `spelled_files_are_valid` and `clean_fields_are_valid` in src/validity.rt.
 use Rattle.std.proofs.Common.{◌≡◌, ℕ, Bool, true, false, cond, List, [], ◌∷◌, ◌++◌, length, refl, ap, arith, None}
 use Rattle.std.specs.Prelude.{pos}
 use Rattle.std.specs.List.{list_any}

@@ -1,5 +1,5 @@
--- There is one first reason: reasons of one rank differ in their numbers alone, and a definition says which numbers those are.
--- For the law `files_have_one_verdict` in src/one_verdict.rt.
+-- There is one first reason: reasons of one rank differ in their numbers alone, and a definition says which numbers
+-- those are. For the law `files_have_one_verdict` in src/one_verdict.rt.
 use Rattle.std.proofs.Common.{◌≡◌, ◌∙◌, ℕ, zero, suc, List, [], ◌∷◌, inl, inr, refl, sym, ap, subst}
 use Rattle.std.specs.Prelude.{ℤ, pos}
 use Rattle.std.proofs.lemmas.Bool.{cases_order}

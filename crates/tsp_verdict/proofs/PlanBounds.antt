@@ -1,5 +1,5 @@
--- No plan has fewer routes than the least number that carries all demands. For `verdict_on_routes` and `first_against_places`
--- in src/routes.rt.
+-- No plan has fewer routes than the least number that carries all demands. For `verdict_on_routes` and
+-- `first_against_places` in src/routes.rt.
 use Rattle.std.proofs.Common.{◌≡◌, ◌≢◌, ℕ, zero, suc, ◌+◌, ◌<◌, ◌≤◌, ◌-◌, true, false, eqb, List, [], ◌∷◌, ◌++◌, length, get_or, sym, ap, arith, inl, inr}
 use Rattle.std.specs.Prelude.{◌⊎◌, ℤ, pos, ◌+ℤ◌, ◌*ℤ◌, ◌≤ℤ◌}
 use Rattle.std.specs.List.{AllByRecursion, Contains, concat, range_with_len, remove}

@@ -1,5 +1,5 @@
--- The goals of `canonical_texts_are_read_back` in src/round_trip.rt. The canonical text of a valid file parses to that file,
--- and to no other: from the one answer of every text.
+-- The goals of `canonical_texts_are_read_back` in src/round_trip.rt. The canonical text of a valid file parses to that
+-- file, and to no other: from the one answer of every text.
 use Rattle.std.proofs.Common.{ℕ, List, sym, subst, ◌∙◌, Result, Ok, Err}
 use Rattle.std.proofs.lemmas.Option.{none-some}
 use Rattle.tsp_draft.specs.Fields.{Fields}

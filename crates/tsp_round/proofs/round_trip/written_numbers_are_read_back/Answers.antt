@@ -1,5 +1,5 @@
--- The goals of `written_numbers_are_read_back` in src/round_trip.rt. Numbers that are written are read back, by the laws of
--- number words and of their texts.
+-- The goals of `written_numbers_are_read_back` in src/round_trip.rt. Numbers that are written are read back, by the
+-- laws of number words and of their texts.
 use Rattle.tsp_round.proofs.NumbersReadBack.{WordLaws, number_laws}
 use Rattle.tsp_round.proofs.round_trip.written_numbers_are_read_back.Goals as goal
 

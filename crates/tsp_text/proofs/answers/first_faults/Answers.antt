@@ -1,4 +1,5 @@
--- The goals of `first_faults` in src/answers.rt. The first fault of items is that of the first item to which a row applies.
+-- The goals of `first_faults` in src/answers.rt. The first fault of items is that of the first item to which a row
+-- applies.
 use Rattle.tsp_text.proofs.FirstFaults.{found_first, first_found, none_has_row, clean_items}
 use Rattle.tsp_text.proofs.answers.first_faults.Goals as goal
 

@@ -1,5 +1,5 @@
--- The goals of `each_node_has_one_group` in src/by_node.rt. A section by node that isn't incomplete has one group for each
--- node.
+-- The goals of `each_node_has_one_group` in src/by_node.rt. A section by node that isn't incomplete has one group for
+-- each node.
 use Rattle.tsp_text.proofs.ByNodeWords.{each_once}
 use Rattle.tsp_text.proofs.by_node.each_node_has_one_group.Goals as goal
 
