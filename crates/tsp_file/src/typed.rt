@@ -62,7 +62,7 @@ impl File {
     ghost use Rattle.tsp_file.specs.ListedWeights.{ListsWeights};
     ghost use Rattle.tsp_file.specs.Relayout.{HasListedWeights};
     ghost use Rattle.tsp_draft.specs.Fields.{nodes_of};
-    ghost use Rattle.tsp_file.specs.Typed.{HoldsRouting, HoldsNodeNumbers, HoldsDuals, HoldsCases, AreMultipliersIn, AreSomeSets};
+    ghost use Rattle.tsp_file.specs.Typed.{HoldsNodeNumbers, HoldsDuals, HoldsCases, AreMultipliersIn, AreSomeSets};
 
     /// The weights of this file with their layout; none where its weights aren't listed.
     #[inline]
@@ -95,21 +95,6 @@ impl File {
             return None;
         };
         self.tours()
-    }
-
-    /// The demands, depots and capacity of a file of TYPE CVRP; none of every other file.
-    pub fn as_routing(&self) -> Option<RoutingData<'_>>
-        ensures { MatchOption result (self.now.kind ≢ Some kinds.Cvrp)
-            (λ held. HoldsRouting self.now held.capacity held.demands.now held.depots.now) }
-    {
-        let Some(Kind::Cvrp) = self.fields().kind else {
-            return None;
-        };
-        Some(RoutingData {
-            capacity: self.capacity()?,
-            demands: self.demands()?,
-            depots: self.depots()?,
-        })
     }
 
     /// The potentials of nodes that a file of TYPE POTENTIALS holds; none where it holds none, and
