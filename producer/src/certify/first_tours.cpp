@@ -6,6 +6,7 @@
 #include <string>
 #include <utility>
 
+#include "potentials/ascent.h"
 #include "running/parameters.h"
 #include "tours/all_orders.h"
 #include "tours/arc_tours.h"

@@ -7,7 +7,7 @@
 #include "certify/report.h"
 #include "reading/instance.h"
 #include "reading/reading.h"
-#include "reading/tsp_program.h"
+#include "running/refusal.h"
 #include "running/writing.h"
 #include "sparse/sparse_search.h"
 

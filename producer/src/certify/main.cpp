@@ -15,9 +15,10 @@
 #include "certify/large.h"
 #include "certify/options.h"
 #include "certify/report.h"
+#include "certify/routes.h"
 #include "reading/reading.h"
 #include "reading/tsp_program.h"
-#include "routes/certify_routes.h"
+#include "running/refusal.h"
 #include "running/writing.h"
 #include "tree/search.h"
 

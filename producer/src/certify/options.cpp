@@ -4,7 +4,7 @@
 #include <utility>
 #include <vector>
 
-#include "reading/tsp_program.h"
+#include "running/refusal.h"
 #include "running/writing.h"
 
 namespace certify {

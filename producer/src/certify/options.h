@@ -5,9 +5,9 @@
 #include <variant>
 #include <vector>
 
+#include "graphs/tour.h"
 #include "running/command_line.h"
 #include "running/parameters.h"
-#include "tours/tour.h"
 #include "tree/certificate.h"
 
 namespace certify {

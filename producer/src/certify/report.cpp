@@ -5,8 +5,8 @@
 #include <iomanip>
 #include <iostream>
 
-#include "reading/tsp_program.h"
 #include "running/clock.h"
+#include "running/refusal.h"
 
 namespace certify {
 namespace {

@@ -4,7 +4,7 @@
 #include <functional>
 
 #include "certify/options.h"
-#include "tours/tour.h"
+#include "graphs/tour.h"
 
 namespace certify {
 struct Ending {

@@ -6,7 +6,7 @@
 #pragma once
 #include <optional>
 
-#include "tours/tour.h"
+#include "graphs/tour.h"
 
 namespace certify {
 constexpr int kMostAtoms = 14;         // of a family in a file

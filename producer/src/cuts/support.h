@@ -2,7 +2,7 @@
 #pragma once
 #include <functional>
 
-#include "tours/tour.h"
+#include "graphs/tour.h"
 
 namespace certify {
 struct Edge {

@@ -4,7 +4,7 @@
 #include <cmath>
 #include <numeric>
 
-#include "spanning/components.h"
+#include "graphs/components.h"
 
 namespace potentials {
 namespace {

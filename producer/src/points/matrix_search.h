@@ -1,7 +1,7 @@
 // Searches along the rows of a symmetric matrix.
 #pragma once
+#include "graphs/tour.h"
 #include "points/searches.h"
-#include "tours/tour.h"
 
 namespace potentials {
 class MatrixSearch : public Searches {

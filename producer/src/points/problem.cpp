@@ -6,7 +6,7 @@
 
 #include "points/kd_tree.h"
 #include "points/matrix_search.h"
-#include "reading/tsp_program.h"
+#include "running/refusal.h"
 
 namespace potentials {
 using certify::Pair;

@@ -8,9 +8,9 @@
 #include <optional>
 #include <vector>
 
+#include "graphs/tour.h"
 #include "points/points.h"
 #include "points/searches.h"
-#include "tours/tour.h"
 
 namespace potentials {
 using certify::Matrix;

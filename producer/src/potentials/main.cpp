@@ -10,6 +10,7 @@
 #include <sstream>
 #include <utility>
 
+#include "potentials/ascent.h"
 #include "potentials/node_potentials.h"
 #include "potentials/options.h"
 #include "reading/instance.h"
@@ -17,6 +18,7 @@
 #include "reading/tsp_program.h"
 #include "running/clock.h"
 #include "running/progress.h"
+#include "running/refusal.h"
 #include "running/writing.h"
 #include "tours/assignment.h"
 #include "tours/tours.h"

@@ -4,7 +4,7 @@
 #include <cctype>
 #include <charconv>
 
-#include "reading/tsp_program.h"
+#include "running/refusal.h"
 
 namespace certify {
 namespace {

@@ -6,7 +6,7 @@
 #include <string_view>
 #include <vector>
 
-#include "tours/tour.h"
+#include "graphs/tour.h"
 
 namespace certify {
 class Canonical {

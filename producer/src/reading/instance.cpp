@@ -3,9 +3,10 @@
 #include <algorithm>
 #include <set>
 
-#include "points/distances.h"
 #include "reading/canonical.h"
+#include "reading/distances.h"
 #include "reading/tsp_program.h"
+#include "running/refusal.h"
 
 namespace certify {
 namespace {

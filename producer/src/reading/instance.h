@@ -4,8 +4,8 @@
 #include <string>
 #include <vector>
 
+#include "graphs/tour.h"
 #include "reading/canonical.h"
-#include "tours/tour.h"
 
 namespace certify {
 constexpr int kMostNodes = 5000;  // of a matrix

@@ -12,6 +12,8 @@
 #include <fstream>
 #include <sstream>
 
+#include "running/refusal.h"
+
 namespace certify {
 namespace fs = std::filesystem;
 namespace {

@@ -1,17 +1,10 @@
 // Finding the proved program `tsp`, and running its verb `convert`.
 #pragma once
 #include <optional>
-#include <stdexcept>
 #include <string>
 #include <vector>
 
 namespace certify {
-// What ends the run with one line on standard error.
-class Refusal : public std::runtime_error {
- public:
-  using std::runtime_error::runtime_error;
-};
-
 // The program `tsp`: the named one, else that on PATH, else one in the folders above this program. A name
 // without a slash is looked for on PATH, as a shell does. Throws Refusal where it isn't there, or isn't ours.
 std::string find_tsp(const std::optional<std::string>& named);

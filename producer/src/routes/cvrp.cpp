@@ -4,9 +4,10 @@
 #include <numeric>
 #include <sstream>
 
-#include "points/distances.h"
+#include "reading/distances.h"
 #include "reading/instance.h"
 #include "reading/tsp_program.h"
+#include "running/refusal.h"
 #include "running/writing.h"
 
 namespace certify::routes {

@@ -6,8 +6,8 @@
 #include <string>
 #include <vector>
 
+#include "graphs/tour.h"
 #include "reading/canonical.h"
-#include "tours/tour.h"
 
 namespace certify::routes {
 using Route = std::vector<int>;     // customers in their order, without the depot

@@ -3,8 +3,8 @@
 #include <algorithm>
 #include <numeric>
 
-#include "reading/tsp_program.h"
 #include "routes/route_parameters.h"
+#include "running/refusal.h"
 
 namespace certify::routes {
 std::optional<Loads> loads_in(const CvrpInstance& instance, Weight unit, Weight most) {

@@ -2,7 +2,7 @@
 
 #include <algorithm>
 
-#include "reading/tsp_program.h"
+#include "running/refusal.h"
 
 namespace certify::routes {
 RouteCertificates::RouteCertificates(const CvrpInstance& instance)

@@ -5,7 +5,7 @@
 #include <cstddef>
 #include <cstdint>
 
-#include "tours/tour.h"
+#include "graphs/tour.h"
 
 namespace certify::routes {
 // Plans by string removals: most numbers are those of the source.

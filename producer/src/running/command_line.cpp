@@ -5,7 +5,7 @@
 #include <iostream>
 #include <new>
 
-#include "reading/tsp_program.h"
+#include "running/refusal.h"
 
 namespace certify {
 void declare_files(CLI::App& app, CommonOptions& options, const char* why) {

@@ -3,7 +3,7 @@
 #pragma once
 #include <cstddef>
 
-#include "tours/tour.h"
+#include "graphs/tour.h"
 
 namespace certify {
 // Tours by edge assembly. The search costs 2 to 5 % of a run of 1,000 nodes, and a tour that isn't shortest

@@ -7,8 +7,8 @@
 #include <cstring>
 #include <sstream>
 
-#include "reading/tsp_program.h"
 #include "running/clock.h"
+#include "running/refusal.h"
 
 namespace certify {
 Progress::Progress(const std::optional<std::string>& log) : terminal_(isatty(STDERR_FILENO) != 0) {

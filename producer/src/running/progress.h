@@ -5,7 +5,7 @@
 #include <string>
 #include <string_view>
 
-#include "tours/tour.h"
+#include "graphs/tour.h"
 
 namespace certify {
 // How far a search has come.

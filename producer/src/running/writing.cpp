@@ -9,7 +9,7 @@
 #include <fstream>
 #include <sstream>
 
-#include "reading/tsp_program.h"
+#include "running/refusal.h"
 
 namespace certify {
 namespace fs = std::filesystem;

@@ -4,7 +4,7 @@
 #include <string>
 #include <vector>
 
-#include "tours/tour.h"
+#include "graphs/tour.h"
 
 namespace certify {
 void write_text(const std::string& path, const std::string& text);

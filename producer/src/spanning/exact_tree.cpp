@@ -4,7 +4,7 @@
 #include <limits>
 #include <utility>
 
-#include "spanning/components.h"
+#include "graphs/components.h"
 #include "spanning/least_tree.h"
 
 namespace potentials {

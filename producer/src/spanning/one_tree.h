@@ -5,8 +5,8 @@
 #pragma once
 #include <cstdint>
 
+#include "graphs/components.h"
 #include "points/problem.h"
-#include "spanning/components.h"
 
 namespace potentials {
 class OneTree {

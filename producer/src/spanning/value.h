@@ -2,7 +2,7 @@
 #pragma once
 #include <algorithm>
 
-#include "tours/tour.h"
+#include "graphs/tour.h"
 
 namespace certify {
 __extension__ typedef __int128 Value;                               // a bound times the scale

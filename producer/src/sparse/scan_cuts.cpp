@@ -3,7 +3,7 @@
 #include <algorithm>
 #include <utility>
 
-#include "spanning/components.h"
+#include "graphs/components.h"
 
 namespace sparse {
 namespace {

@@ -3,7 +3,7 @@
 #include <algorithm>
 #include <numeric>
 
-#include "tours/tour.h"
+#include "graphs/tour.h"
 
 namespace certify {
 // Of the shortest ones the first order. `length_of` returns the length of a tour.

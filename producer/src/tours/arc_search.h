@@ -6,8 +6,8 @@
 #pragma once
 #include <functional>
 
+#include "graphs/tour.h"
 #include "running/random.h"
-#include "tours/tour.h"
 
 namespace certify {
 class ArcSearch {

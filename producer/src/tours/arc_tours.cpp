@@ -5,8 +5,8 @@
 #include <numeric>
 #include <optional>
 
-#include "reading/tsp_program.h"
 #include "running/parameters.h"
+#include "running/refusal.h"
 #include "tours/all_orders.h"
 #include "tours/arc_search.h"
 #include "tours/assignment.h"

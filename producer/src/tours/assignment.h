@@ -2,7 +2,7 @@
 // Source: R. Jonker and A. Volgenant, A shortest augmenting path algorithm for dense and sparse linear
 // assignment problems (1987).
 #pragma once
-#include "tours/tour.h"
+#include "graphs/tour.h"
 
 namespace certify {
 struct Assignment {

@@ -7,7 +7,7 @@
 #include <cstddef>
 #include <vector>
 
-#include "tours/tour.h"
+#include "graphs/tour.h"
 
 namespace potentials {
 class BlockTour {

@@ -5,8 +5,8 @@
 #include <limits>
 #include <numeric>
 
-#include "reading/tsp_program.h"
 #include "running/parameters.h"
+#include "running/refusal.h"
 #include "running/threads.h"
 #include "tours/local_search.h"
 

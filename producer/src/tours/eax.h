@@ -6,10 +6,10 @@
 #include <array>
 #include <functional>
 
+#include "graphs/tour.h"
 #include "reading/instance.h"
 #include "running/clock.h"
 #include "running/random.h"
-#include "tours/tour.h"
 
 namespace certify {
 using Links = std::vector<std::array<int, 2>>;  // the two neighbours of each node

@@ -5,7 +5,7 @@
 #include <tuple>
 #include <utility>
 
-#include "spanning/components.h"
+#include "graphs/components.h"
 
 namespace potentials {
 namespace {

@@ -1,7 +1,7 @@
 // Shortens a tour by 2-opt and Or-opt over neighbour lists, until neither helps.
 // Sources: G. A. Croes (1958); I. Or (1976); J. L. Bentley, Fast algorithms for geometric TSPs (1992).
 #pragma once
-#include "tours/tour.h"
+#include "graphs/tour.h"
 
 namespace certify {
 // A matrix some of whose costs are lowered. The matrix is shared, not copied.

@@ -1,8 +1,10 @@
 // Finds tours: the first one, and shorter ones with the help of potentials.
 #pragma once
+#include <cstdint>
 #include <functional>
+#include <optional>
 
-#include "potentials/ascent.h"
+#include "points/problem.h"
 
 namespace potentials {
 // By the shortest edges; of a few nodes the shortest one, by all orders.

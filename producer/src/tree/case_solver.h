@@ -7,12 +7,12 @@
 #include <memory>
 #include <optional>
 
-#include "cuts/separation.h"
 #include "running/clock.h"
 #include "running/progress.h"
 #include "tree/branching.h"
 #include "tree/certificate.h"
 #include "tree/leaves.h"
+#include "tree/separation.h"
 
 namespace certify {
 // What the search begins with.

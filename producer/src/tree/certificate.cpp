@@ -7,6 +7,7 @@
 
 #include "cuts/families.h"
 #include "reading/tsp_program.h"
+#include "running/refusal.h"
 #include "running/writing.h"
 
 namespace certify {

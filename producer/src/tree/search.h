@@ -8,12 +8,12 @@
 #pragma once
 #include <oneapi/tbb/enumerable_thread_specific.h>
 
-#include "cuts/named_cuts.h"
 #include "running/job_window.h"
 #include "running/parameters.h"
 #include "tree/case_solver.h"
 #include "tree/case_tree.h"
 #include "tree/certificate.h"
+#include "tree/named_cuts.h"
 #include "tree/near_program.h"
 
 namespace certify {

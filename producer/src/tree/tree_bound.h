@@ -3,7 +3,7 @@
 #pragma once
 #include <set>
 
-#include "spanning/components.h"
+#include "graphs/components.h"
 #include "tree/exact_bound.h"
 
 namespace certify {

@@ -3,7 +3,7 @@
 #include <numeric>
 
 #include "fixtures.h"
-#include "reading/tsp_program.h"
+#include "running/refusal.h"
 #include "tours/arc_search.h"
 #include "tours/arc_tours.h"
 #include "tours/assignment.h"

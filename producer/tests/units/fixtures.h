@@ -6,10 +6,10 @@
 #include <catch2/catch.hpp>
 #endif
 
+#include "graphs/tour.h"
 #include "points/problem.h"
 #include "running/random.h"
 #include "spanning/exact_tree.h"
-#include "tours/tour.h"
 
 // Symmetric weights from 0 to 999.
 certify::Matrix random_matrix(int nodes, certify::Random& random);

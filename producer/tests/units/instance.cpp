@@ -2,8 +2,8 @@
 #include "reading/instance.h"
 
 #include "fixtures.h"
-#include "points/distances.h"
 #include "reading/canonical.h"
+#include "reading/distances.h"
 
 using namespace certify;
 using potentials::metric_of;

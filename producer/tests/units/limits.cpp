@@ -1,8 +1,8 @@
 // Tests of the limits of the format: what is counted, and what is left out.
-#include "cuts/named_cuts.h"
 #include "fixtures.h"
 #include "tree/certificate.h"
 #include "tree/leaves.h"
+#include "tree/named_cuts.h"
 #include "tree/tree_bound.h"
 
 using namespace certify;

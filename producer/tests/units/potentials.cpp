@@ -10,7 +10,7 @@
 #include "points/kd_tree.h"
 #include "potentials/ascent.h"
 #include "potentials/node_potentials.h"
-#include "reading/tsp_program.h"
+#include "running/refusal.h"
 #include "spanning/exact_tree.h"
 #include "tours/assignment.h"
 #include "tours/tours.h"

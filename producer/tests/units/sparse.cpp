@@ -3,7 +3,6 @@
 #include <cmath>
 #include <numeric>
 
-#include "cuts/separation.h"
 #include "fixtures.h"
 #include "potentials/ascent.h"
 #include "spanning/exact_tree.h"
@@ -14,6 +13,7 @@
 #include "sparse/sparse_search.h"
 #include "tours/eax.h"
 #include "tours/tours.h"
+#include "tree/separation.h"
 #include "tree/tree_bound.h"
 
 using certify::CutPool;

@@ -5,7 +5,7 @@
 
 #include "certify/first_tours.h"
 #include "fixtures.h"
-#include "reading/tsp_program.h"
+#include "running/refusal.h"
 #include "tours/eax.h"
 #include "tours/local_search.h"
 

@@ -1,4 +1,4 @@
-#include "points/distances.h"
+#include "reading/distances.h"
 
 #include <algorithm>
 #include <cmath>

@@ -1,4 +1,4 @@
-#include "cuts/named_cuts.h"
+#include "tree/named_cuts.h"
 
 #include <algorithm>
 

@@ -1,12 +1,12 @@
-#include "routes/certify_routes.h"
+#include "certify/routes.h"
 
 #include <iostream>
 #include <utility>
 
 #include "certify/report.h"
-#include "reading/tsp_program.h"
 #include "routes/route_search.h"
 #include "routes/string_removals.h"
+#include "running/refusal.h"
 
 namespace certify::routes {
 namespace {

@@ -1,4 +1,4 @@
-#include "cuts/separation.h"
+#include "tree/separation.h"
 
 #include <algorithm>
 #include <optional>

@@ -1,4 +1,4 @@
-#include "tours/tour.h"
+#include "graphs/tour.h"
 
 #include <algorithm>
 #include <array>
