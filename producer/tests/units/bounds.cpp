@@ -45,10 +45,13 @@ TEST_CASE("any numbers bound every tour") {
     numbers.multipliers[comb] = -1;
     CHECK(bound.value(numbers, {}) == ExactBound::nothing());  // a multiplier below 0
   }
+}
+
+TEST_CASE("values are rounded up to bounds") {
   CutPool pool(3);
   const Matrix weights(3);
   TreeBound bound(weights, pool, 10);
-  CHECK((bound.bound_of(21) == 3 && bound.bound_of(20) == 2));      // bounds are rounded up
+  CHECK((bound.bound_of(21) == 3 && bound.bound_of(20) == 2));
   CHECK((bound.bound_of(-21) == -2 && bound.bound_of(-20) == -2));  // bounds below 0 too
   const Value least = ExactBound::nothing();
   CHECK((bound.bound_of(least) < 0 && bound.bound_of(-least) > 0));  // past all lengths

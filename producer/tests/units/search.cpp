@@ -20,21 +20,27 @@ TEST_CASE("whether a tree ends in time") {
   CHECK(!ends_in_time(0.6, 0, 0.95));    // it has to be surer near the end
 }
 
+namespace {
+// The rounded distances of random points.
+Matrix random_distances(int nodes, Random& random) {
+  Matrix weights(nodes);
+  std::vector<Pair> points(nodes);
+  for (auto& [x, y] : points) x = random.below(1000), y = random.below(1000);
+  for (int i = 0; i < nodes; i++) {
+    for (int j = 0; j < i; j++) {
+      const auto [x, y] = Pair(points[i].first - points[j].first, points[i].second - points[j].second);
+      weights.set(i, j, std::lround(std::hypot(x, y)));
+    }
+  }
+  return weights;
+}
+}  // namespace
+
 // Points whose solution has fractional edges, from which bounds are tried, and which is found again.
 TEST_CASE("a solution is found again from its basis") {
   Random random(6);
-  Matrix weights(30);
-  std::vector<Pair> points(30);
-  for (auto& [x, y] : points) x = random.below(1000), y = random.below(1000);
-  for (int i = 0; i < 30; i++) {
-    for (int j = 0; j < i; j++) {
-      weights.set(
-          i, j,
-          std::lround(std::hypot(points[i].first - points[j].first, points[i].second - points[j].second)));
-    }
-  }
-  Tour tour(30);
-  for (int v = 0; v < 30; v++) tour[v] = v;
+  const Matrix weights = random_distances(30, random);
+  const Tour tour = in_order(30);
   CutPool pool(30);
   const Instance instance{weights, {}, false};
   Relaxation relaxation(instance, pool, tour);
