@@ -358,17 +358,19 @@ void CombSearch::climb(const NodeSet& start) {
   handle_.clear();
 }
 
-std::vector<FoundComb> CombSearch::find(const std::vector<NodeSet>& known) {
+std::vector<FoundComb> CombSearch::find(const std::vector<NodeSet>& known,
+                                        const std::function<bool()>& stop) {
   seed_parts();
   for (const NodeSet& set : known) seed(set);
   for (int v = 0; v < count_; v++) {
     if (!fractional(v)) continue;
+    if (stop()) break;
     for (int k = 0; k < effort_.growths; k++) grow(v, k > 0);
   }
   handle_.clear();
   std::stable_sort(seeds_.begin(), seeds_.end(), [](auto& a, auto& b) { return a.first > b.first; });
   const std::size_t climbs = std::min(seeds_.size(), static_cast<std::size_t>(effort_.climbs));
-  for (std::size_t k = 0; k < climbs; k++) climb(seeds_[k].second);
+  for (std::size_t k = 0; k < climbs && !stop(); k++) climb(seeds_[k].second);
   std::stable_sort(found_.begin(), found_.end(), [](auto& a, auto& b) { return a.violation > b.violation; });
   return std::move(found_);
 }

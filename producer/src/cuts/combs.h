@@ -5,6 +5,7 @@
 // Sources: M. Padberg and S. Hong (1980); D. Applegate, R. Bixby, V. Chvatal and W. Cook (2006).
 #pragma once
 #include <cstdint>
+#include <functional>
 
 #include "cuts/cut_pool.h"
 #include "cuts/handle_table.h"
@@ -49,8 +50,9 @@ class CombSearch {
  public:
   // The effort says how many of the best handles are climbed from, and how large sets may be.
   CombSearch(const Graph& graph, const CutPool& pool, const Runs& runs, Random& random, const Effort& effort);
-  // Known sets are handles to begin with.
-  std::vector<FoundComb> find(const std::vector<NodeSet>& known);
+  // Known sets are handles to begin with. Where stop says so, it ends with the combs that are found by then.
+  std::vector<FoundComb> find(
+      const std::vector<NodeSet>& known, const std::function<bool()>& stop = [] { return false; });
 
  private:
   struct Interval {

@@ -93,7 +93,7 @@ void SparseSearch::begin_program() {
   program_->add_edges(pairs_of(potentials::light_edges(problem_, duals_, kSparse.light)));
   program_->add_candidates(
       pairs_of(potentials::near_edges(problem_, kSparse.near, kSparse.near_in_quadrant)));
-  separation_.emplace(problem_, pool_, *program_, start_.seed);
+  separation_.emplace(problem_, pool_, *program_, clock_, start_.seed);
   separation_->set_tours(tours_);
   leaf_.emplace(problem_, pool_, program_->average());
   take(leaf_->alone(duals_));  // a program that has little time may be worth less

@@ -96,10 +96,11 @@ void SparseSeparation::combs(Round& round, const certify::Effort& effort) {
   std::vector<Trial> trials;
   trials.reserve(tours.size());
   for (const Tour& tour : tours) trials.push_back({&tour, certify::Random(random_.next())});
+  const auto late = [&] { return clock_.over(kSparse.part_of_time); };
   certify::for_each_at_once(trials.size(), [&](std::size_t k) {
     const certify::Runs runs(graph, *trials[k].tour, effort.reach);
     trials[k].sets = runs.crossed_too_little(0.01);
-    trials[k].found = certify::CombSearch(graph, pool_, runs, trials[k].random, effort).find(known);
+    trials[k].found = certify::CombSearch(graph, pool_, runs, trials[k].random, effort).find(known, late);
   });
   for (const Trial& trial : trials) {
     subtours(round, trial.sets);

@@ -8,8 +8,10 @@
 namespace sparse {
 class SparseSeparation {
  public:
-  SparseSeparation(const Problem& problem, CutPool& pool, SparseProgram& program, std::uint64_t seed)
-      : problem_(problem), pool_(pool), program_(program), random_(seed) {}
+  // The clock ends a search for combs early.
+  SparseSeparation(const Problem& problem, CutPool& pool, SparseProgram& program, const certify::Clock& clock,
+                   std::uint64_t seed)
+      : problem_(problem), pool_(pool), program_(program), clock_(clock), random_(seed) {}
   // The runs of these are teeth, and those of tours along the solution. The best one comes first.
   void set_tours(std::vector<Tour> tours) { tours_ = std::move(tours); }
   // Adds subtours and cuts of the pool. How many joined.
@@ -36,6 +38,7 @@ class SparseSeparation {
   const Problem& problem_;
   CutPool& pool_;
   SparseProgram& program_;
+  const certify::Clock& clock_;
   certify::Random random_;
   std::vector<Tour> tours_;
   certify::ViolationMeter meter_;  // of the solution at hand

@@ -8,17 +8,24 @@
 
 using namespace certify;
 
-// Two triangles with weak edges between them.
-TEST_CASE("the cut between two triangles") {
+namespace {
+// Two triangles, by the value of their edges and of those between them.
+Graph prism(double side, double between) {
   Graph graph(6);
   const auto join = [&](int i, int j, double value) {
     graph[i].push_back({j, value});
     graph[j].push_back({i, value});
   };
   for (const int start : {0, 3}) {
-    for (int k = 0; k < 3; k++) join(start + k, start + (k + 1) % 3, 0.9);
+    for (int k = 0; k < 3; k++) join(start + k, start + (k + 1) % 3, side);
   }
-  for (int k = 0; k < 3; k++) join(k, k + 3, 0.2);
+  for (int k = 0; k < 3; k++) join(k, k + 3, between);
+  return graph;
+}
+}  // namespace
+
+TEST_CASE("the cut between two triangles") {
+  const Graph graph = prism(0.9, 0.2);
   bool found = false;
   for (NodeSet set : crossed_too_little(graph, 0.01)) {
     std::sort(set.begin(), set.end());
@@ -29,15 +36,7 @@ TEST_CASE("the cut between two triangles") {
 
 // The prism's half edges: the handle is a triangle, the teeth are the edges between the triangles.
 TEST_CASE("the comb of a prism") {
-  Graph graph(6);
-  const auto join = [&](int i, int j, double value) {
-    graph[i].push_back({j, value});
-    graph[j].push_back({i, value});
-  };
-  for (const int start : {0, 3}) {
-    for (int k = 0; k < 3; k++) join(start + k, start + (k + 1) % 3, 0.5);
-  }
-  for (int k = 0; k < 3; k++) join(k, k + 3, 1);
+  const Graph graph = prism(0.5, 1);
   CutPool pool(6);
   Random random(1);
   const Effort effort{.climbs = 10, .growths = 1};
@@ -50,6 +49,25 @@ TEST_CASE("the comb of a prism") {
   CHECK(!pool.is_comb({{0, 1, 2}, {0, 3}, {1, 4}}));          // two teeth are no comb
   CHECK(!pool.is_comb({{0, 1, 2}, {0, 3}, {1, 3}, {2, 5}}));  // teeth with a common node are no comb
   CHECK(!pool.is_comb({{0, 1, 2}, {0, 1}, {2, 4}, {3, 5}}));  // a tooth has nodes inside and outside
+}
+
+// It asks before it grows handles from a node, and before each climb.
+TEST_CASE("a search for combs ends where it has to") {
+  const Graph graph = prism(0.5, 1);
+  const CutPool pool(6);
+  const Effort effort{.climbs = 10, .growths = 1};
+  const Runs runs(graph, {0, 1, 2, 5, 4, 3}, effort.reach);
+  const auto times_asked = [&](bool ends) {
+    Random random(1);
+    int asked = 0;
+    CombSearch(graph, pool, runs, random, effort).find({}, [&] {
+      asked++;
+      return ends;
+    });
+    return asked;
+  };
+  CHECK(times_asked(true) == 2);
+  CHECK(times_asked(false) > 6);  // each node has fractional edges
 }
 
 // Two rings of 120 nodes each, which no edge joins.

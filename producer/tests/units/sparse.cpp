@@ -169,7 +169,7 @@ TEST_CASE("sparse programs have the values of programs over a matrix") {
     combs.reserve(kCombs.size());
     for (const auto& comb : kCombs) combs.push_back(pool.add_comb(comb));
     program.add_cuts(combs);
-    SparseSeparation separation(problem, pool, program, 1);
+    SparseSeparation separation(problem, pool, program, clock, 1);
     int cuts = 0;
     do {
       REQUIRE(program.solve());
