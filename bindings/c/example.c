@@ -1,5 +1,5 @@
 /* Judges a tour by libtsp, and prints the report: example INSTANCE TOUR [POTENTIALS]
- * docs/guide.md shows it, and a release has it. It needs tsp.h and the C library alone.
+ * docs/guide.md compiles it, and a release has it. It needs tsp.h and the C library alone.
  *
  * cc -o example example.c $(pkg-config --cflags --libs tsp)
  */

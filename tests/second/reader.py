@@ -1,6 +1,7 @@
 """A second reader of TSPLIB files, plain and slow, written from docs/format.md alone. It reads a text that is whole.
 
-`read` returns the file of a text, or raises its first fault. The other modules of this folder import it.
+`read` returns the file of a text, or raises its first fault. For writer.py, judge.py, bounds.py, routes.py, generate.py and
+tests/second/run.
 """
 from __future__ import annotations
 
