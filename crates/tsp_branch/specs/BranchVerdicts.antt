@@ -1,5 +1,5 @@
 -- The verdict on a certificate by branching, for a TSP or an ATSP: its bound, or the first reason against it. For
--- `judge_branches` (src/verdict.rt).
+-- `judge_branches` (src/verdict.rt). tsp_verdict imports it too.
 use Rattle.std.specs.Prelude.{ℕ, Bool, None, Some, IfSome, List, ℤ}
 use Rattle.tsp_format.specs.Steps as listed
 use Rattle.tsp_theory.specs.CertificateNumbers.{IsBoundSized}

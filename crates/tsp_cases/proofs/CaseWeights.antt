@@ -1,5 +1,5 @@
--- The weights that code computes from sets and decisions are those of the leaf's definition, if its numbers are good.
--- For `judge_numbers` in src/good_numbers.rt.
+-- The weights, the row bounds and the sum given back that code computes from sets and decisions are those of the leaf's
+-- definition, if its numbers are good. tsp_branch imports it too. For `judge_numbers` in src/good_numbers.rt.
 use Rattle.std.proofs.Common.{◌≡◌, ℕ, ◌≤◌, List, [], ◌∷◌, length, Option, None, Some, true, ℤ, ◌≤ℤ◌, ◌∙◌, ap, sym, subst, arith}
 use Rattle.std.specs.Prelude.{pos, ◌+ℤ◌, ◌-ℤ◌, ◌*ℤ◌, MatchOption}
 use Rattle.std.specs.List.{All, AllByRecursion}

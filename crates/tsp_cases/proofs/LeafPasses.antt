@@ -1,5 +1,5 @@
 -- A round of the loop over the steps: what code finds at a branch or a leaf, and at the end, is as Passes.antt says.
--- For `judge_leaves` in src/pass.rt.
+-- tsp_routing and tsp_branch import it too. For `judge_leaves` in src/pass.rt.
 use Rattle.std.proofs.Common.{◌≡◌, ◌∙◌, ℕ, zero, suc, ◌+◌, ◌^◌, ◌<◌, ◌≤◌, Bool, true, false, List, [], ◌∷◌, ◌++◌, length, drop, get_or, ℤ, inl, inr, refl, sym, ap, subst, arith, add-one, length-append}
 use Rattle.std.specs.Prelude.{Option, None, Some, IfSome}
 use Rattle.std.specs.List.{All}

@@ -1,5 +1,5 @@
 -- The crossings of two nodes by sets: each set takes its multiplier off every node that it has, and gives it back twice
--- where it has both. For `KeptRows::bring_to` in src/kept.rt.
+-- where it has both. tsp_branch and tsp_routing import it too. For `KeptRows::bring_to` in src/kept.rt.
 use Rattle.std.proofs.Common.{◌≡◌, ◌≢◌, ℕ, suc, ◌+◌, ◌<◌, ◌==◌, Bool, true, false, not, List, [], ◌∷◌, ◌++◌, length, get_or, inl, inr, refl, ap, sym, subst, ◌∙◌, arith}
 use Rattle.std.specs.Prelude.{ℤ, pos, neg_ℤ, ◌+ℤ◌, ◌*ℤ◌, if◌then◌else◌}
 use Rattle.std.specs.List.{All, AllByRecursion}

@@ -1,6 +1,6 @@
 -- Families of sets of nodes: lone sets, combs and others, and how often a cycle crosses them at least. For the law
 -- `cycles_cross_families` (src/laws.rt), for `judge_families` (src/good_families.rt), and for `Families`
--- (src/families.rt).
+-- (src/families.rt). tsp_routing, tsp_branch and tsp_verdict import it too.
 use Rattle.std.specs.Prelude.{◌≡◌, ℕ, zero, suc, ◌+◌, ◌*◌, ◌≤◌, true, false, List, [], ◌∷◌, length, ◌⊎◌, pos, ◌≤ℤ◌}
 use Rattle.tsp_format.specs.Nodes.{IsNode}
 use Rattle.tsp_theory.specs.Cycle.{IsCycle}

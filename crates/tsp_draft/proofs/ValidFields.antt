@@ -1,5 +1,5 @@
--- A file without a fault has the fields that its TYPE wants, each in its range. For the laws `valid_files_are_complete` and
--- `valid_fields_are_in_range` in src/laws.rt.
+-- A file without a fault has the fields that its TYPE wants, each in its range. tsp_file and tsp_text import it too.
+-- For the laws `valid_files_are_complete` and `valid_fields_are_in_range` in src/laws.rt.
 use Rattle.std.proofs.Common.{◌≡◌, ℕ, suc, ◌*◌, Bool, true, false, cond, List, [], ◌∷◌, length, Option, None, Some, refl, sym, ap, subst, ◌∙◌, inl, inr, arith}
 use Rattle.std.specs.Prelude.{◌+◌, not, ◌&&◌, ◌||◌, ◌==◌, nat_le, IsTrue, IsSome, is_some, ◌⊎◌, ℤ, pos, neg_ℤ, int_le, slice_index_or as get_or}
 use Rattle.std.specs.Option.{option_map, option_or}

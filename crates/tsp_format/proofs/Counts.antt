@@ -1,4 +1,5 @@
--- How many cells a line has, and how many there are in all. For `cell_count` and `line_len` in src/layout.rt.
+-- How many cells a line has, and how many there are in all. tsp_file imports it too. For `cell_count` and `line_len` in
+-- src/layout.rt.
 use Rattle.std.proofs.Common.{◌≡◌, ℕ, suc, zero, min, ◌+◌, ◌-◌, ◌*◌, ◌/◌, ◌<◌, ◌≤◌, Bool, true, false, cond, List, [], ◌∷◌, length, map, refl, ap, ◌∙◌, arith}
 use Rattle.std.specs.Prelude.{nat_lt, nat_le}
 use Rattle.std.specs.List.{filter, sum_by, range_with_len}

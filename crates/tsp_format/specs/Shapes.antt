@@ -1,6 +1,6 @@
 -- How the words of each section are read, which is its shape, and how the value of each keyword is. For `shape` and
--- `value_shape` of `Field` (src/field.rt), for the reader and the writer. Source: TSPLIB 95 (G. Reinelt); the ranges are
--- this project's profile.
+-- `value_shape` of `Field` (src/field.rt), for the reader and the writer. Source: TSPLIB 95 (G. Reinelt); the ranges
+-- are this project's profile. Five crates above import it too.
 use Rattle.std.specs.Prelude.{Bool, false, cond, Option, None, Some, is_some, ℤ, pos, neg_ℤ, ◌≤ℤ◌}
 use Rattle.tsp_format.specs.declared.field.Field.{Field}
 use Rattle.tsp_format.specs.declared.field.Field.TheVariants.{NameKey, TypeKey, CommentKey, DimensionKey, CapacityKey, ScaleKey, LoadUnitKey}

@@ -1,5 +1,6 @@
 -- The words of TSPLIB 95 (G. Reinelt) and of this project's own keywords, and the lists of all values that have a word.
--- For `Field` (src/field.rt), the enums of src/kinds.rt, and `Layout` (src/layout.rt).
+-- For `Field` (src/field.rt), the enums of src/kinds.rt, and `Layout` (src/layout.rt). Eight crates above import it
+-- too.
 use Rattle.std.specs.Prelude.{◌≡◌, ℕ, List, [], ◌∷◌, Some, refl, codes}
 use Rattle.std.specs.List.{find}
 use Rattle.std.specs.Str.{bytes_eq}

@@ -1,5 +1,5 @@
--- Reads of a reader that remembers its failure, one after the other: none, and one more. For `feed_all` in src/input.rt
--- and others.
+-- Reads of a reader that remembers its failure, one after the other: none, and one more. tsp_judge imports it too. For
+-- `feed_all` in src/input.rt and others.
 use Rattle.std.proofs.Common.{◌≡◌, ◌∙◌, ◌||◌, ℕ, suc, Bool, true, false, List, Result, refl, sym, ap, subst}
 use Rattle.std.specs.Prelude.{is_err}
 use Rattle.std.proofs.lemmas.Bool.{true≢false}

@@ -1,5 +1,5 @@
--- A text that is written part by part: each part is in the buffer or with the writer, until the writer fails. For `put`
--- in src/piece.rt and others.
+-- A text that is written part by part: each part is in the buffer or with the writer, until the writer fails.
+-- tsp_report and tsp_file import it too. For `put` in src/piece.rt and others.
 use Rattle.std.proofs.Common.{◌≡◌, ℕ, ◌+◌, Bool, true, false, List, [], ◌∷◌, ◌++◌, length, take, drop, Option, refl, sym, ap, subst, ◌∙◌, append_assoc, append-nil, arith, ◌<◌, ◌≤◌, get_or, map}
 use Rattle.std.specs.Io.KnownBytes.{Appends}
 use Rattle.std.proofs.lemmas.List.{take-append-drop, take_all, take_more, get_or_default}

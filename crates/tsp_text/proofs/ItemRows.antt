@@ -1,5 +1,6 @@
 -- Faults that an item has whatever came before: a word those of its place, a line that is too long the first of the
--- table. For the laws `settled_ends_stay` and `settled_faults_stay` in src/settled.rt.
+-- table. tsp_read and tsp_round import it too. For the laws `settled_ends_stay` and `settled_faults_stay` in
+-- src/settled.rt.
 use Rattle.std.proofs.Common.{◌≡◌, ℕ, true, List, [], ◌∷◌, ◌++◌, refl, Some}
 use Rattle.std.specs.Prelude.{nat_lt}
 use Rattle.tsp_format.specs.declared.field.Field.{Field}

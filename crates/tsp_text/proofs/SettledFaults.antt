@@ -1,5 +1,5 @@
--- A settled fault stays the fault of every longer text, and a settled end line its end. For the laws
--- `settled_ends_stay` and `settled_faults_stay` in src/settled.rt.
+-- A settled fault stays the fault of every longer text, and a settled end line its end. tsp_read imports it too. For
+-- the laws `settled_ends_stay` and `settled_faults_stay` in src/settled.rt.
 use Rattle.std.proofs.Common.{◌≡◌, ℕ, ◌+◌, ◌-◌, Bool, true, false, cond, List, [], ◌∷◌, ◌++◌, length, reverse, refl, sym, ap, subst, ◌∙◌, arith, inl, inr, Option, Some, None, Err, append_assoc}
 use Rattle.std.specs.Prelude.{◌&&◌, ◌||◌, not, nat_lt, codes, ℤ, pos, negsuc, neg_ℤ, if◌then◌else◌}
 use Rattle.std.specs.Option.{option_or, option_map}

@@ -1,5 +1,6 @@
 -- A least 1-tree under weights with numbers on taken and avoided pairs bounds each cycle that uses every taken pair and
--- no avoided one. For the law `adjusted_bounds_bound_cycles` in src/laws.rt.
+-- no avoided one. tsp_cases, tsp_routing and tsp_bound import it too. For the law `adjusted_bounds_bound_cycles` in
+-- src/laws.rt.
 use Rattle.std.proofs.Common.{◌≡◌, ℕ, ◌≤◌, ◌==◌, ◌&&◌, ◌||◌, Bool, true, false, List, [], ◌∷◌, length, ℤ, ◌+ℤ◌, ◌≤ℤ◌, refl, arith, ap, ap₂, subst₂, ◌∙◌}
 use Rattle.std.specs.Prelude.{pos, ◌-ℤ◌, ◌*ℤ◌, if◌then◌else◌}
 use Rattle.std.specs.List.{AllByRecursion}

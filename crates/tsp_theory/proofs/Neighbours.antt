@@ -1,5 +1,5 @@
--- Two nodes that are neighbours in a cycle of three nodes or more are joined by exactly one of its links. For the law
--- `adjusted_bounds_bound_cycles` in src/laws.rt.
+-- Two nodes that are neighbours in a cycle of three nodes or more are joined by exactly one of its links. tsp_routing
+-- and tsp_cases import it too. For the law `adjusted_bounds_bound_cycles` in src/laws.rt.
 use Rattle.std.proofs.Common.{◌≡◌, ◌≢◌, ℕ, zero, suc, ◌≤◌, ◌==◌, ◌&&◌, ◌||◌, Bool, true, false, not, cond, List, [], ◌∷◌, ℤ, ◌+ℤ◌, ◌≤ℤ◌, ◌⊎◌, inl, inr, refl, arith, ap, sym, ◌∙◌, subst}
 use Rattle.std.specs.Prelude.{pos, if◌then◌else◌}
 use Rattle.std.specs.List.{AllPairs, AllByRecursion, Contains, list_any}

@@ -1,5 +1,6 @@
 -- The decisions of the open case as code has them: a stack above the given decisions, and a list of them for each node.
--- For `OpenCase` (src/open_case.rt) and `NodeDecisions` (src/node_decisions.rt).
+-- For `OpenCase` (src/open_case.rt) and `NodeDecisions` (src/node_decisions.rt). tsp_branch and tsp_routing import it
+-- too.
 use Rattle.std.specs.Prelude.{◌≡◌, ◌≢◌, ℕ, ◌==◌, ◌||◌, ◌&&◌, not, ◌+◌, ◌<◌, ◌≤◌, Bool, List, ◌∷◌, ◌++◌, length, slice_index_or}
 use Rattle.std.specs.Global.{Vec}
 use Rattle.std.specs.List.{All, filter}
