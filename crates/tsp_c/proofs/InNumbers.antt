@@ -19,7 +19,7 @@ use Rattle.tsp_judge.specs.declared.bound.Bounded.{Bounded}
 use Rattle.tsp_judge.specs.declared.judging.Judged.{Judged}
 use Rattle.tsp_judge.specs.declared.fault.RunFault.{RunFault}
 use Rattle.tsp_judge.specs.Status.{status_of_fault}
-use Rattle.tsp_judge.specs.CheckRun.{Given, given_by, EndsWithout, IsRun, call_result}
+use Rattle.tsp_judge.specs.CheckRun.{Given, given_by, EndsWithout, IsRun, acceptance}
 use Rattle.tsp_judge.specs.BoundRun.{EndsUnbounded, IsBoundRun}
 use Rattle.tsp_c.specs.declared.call_result.CallResult.{CallResult}
 use Rattle.tsp_c.specs.Ended.{without_devices, bound_answer, EndsOnTexts}
@@ -100,7 +100,7 @@ fault_is fault written status text (inr e) two = let three : status ≡ 3 = e.0 
 pub tells_texts : (by : Option Certificate) (claimed : Option ℤ) (strict : Bool) (first second third : Turn) (sink : Sink) (ended : Result Judged RunFault)
     (one two three written : List ℕ) (status : ℕ) (text : List ℕ) (made numbers : CallResult) → Reads3 first second third one two three
     → IsRun (given_by by third) claimed strict first second sink ended → made ≡ result_of_run ended
-    → (status ≢ 3 → numbers ≡ made) → (status ≡ 3 → numbers ≡ blank_result) → EndsOnTexts (call_result ended) written status text → TellsTexts (with_certificate by three) claimed strict one two status numbers
+    → (status ≢ 3 → numbers ≡ made) → (status ≡ 3 → numbers ≡ blank_result) → EndsOnTexts (acceptance ended) written status text → TellsTexts (with_certificate by three) claimed strict one two status numbers
 tells_texts by claimed strict first second third sink (Ok judged) one two three written status text made numbers reads run is kept none e = record {
   judged = λ low. record {
     instance = judged.instance;

@@ -54,7 +54,7 @@ pub fault_ends : {Yes No : List ℕ → Type 0} {Stops : RunFault → Type 0} (f
     (text : List ℕ) → Stops (without_devices fault) → EndsOnTexts (Err fault) written status text
     → EndsWithText Yes No Stops status text
 fault_ends fault written status text stops e = elim e [
-  | inl call_result ↦ inl (Err (without_devices fault), call_result.0, (stops, call_result.1))
+  | inl reported ↦ inl (Err (without_devices fault), reported.0, (stops, reported.1))
   | inr memory ↦ inr (without_devices fault, stops, memory.0, memory.1)
 ]
 

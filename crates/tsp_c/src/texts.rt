@@ -2,7 +2,7 @@
 //! and `tsp_show` in `src/lib.rt`.
 
 ghost use Rattle.std.specs.Prelude.{◌≡◌};
-ghost use Rattle.tsp_judge.specs.CheckRun.{call_result};
+ghost use Rattle.tsp_judge.specs.CheckRun.{acceptance};
 ghost use Rattle.tsp_c.specs.Ended.{done, bound_answer};
 ghost use Rattle.tsp_c.specs.Texts.{BoundsTexts, ChecksTexts, ConvertsText, ShowsText, with_certificate};
 ghost use Rattle.tsp_c.specs.CallResult.{TellsBound, TellsTexts};
@@ -66,7 +66,7 @@ pub(crate) fn checked(
         &mut report,
     );
     let numbers = CallResult::of_run(&judged);
-    let answer = ended(call_result(judged), report);
+    let answer = ended(acceptance(judged), report);
     let call_result = answer.numbers(numbers);
     (answer, call_result)
 }
@@ -102,8 +102,8 @@ fn done(ended: Result<(), RunError>) -> Result<bool, RunError>
 }
 
 /// Whether the solution is accepted, where there is a verdict.
-fn call_result(ended: Result<Judged, RunError>) -> Result<bool, RunError>
-    ensures { result ≡ call_result ended }
+fn acceptance(ended: Result<Judged, RunError>) -> Result<bool, RunError>
+    ensures { result ≡ acceptance ended }
 {
     let judged = ended?;
     let answer = judged.verdict.is_yes();

@@ -21,7 +21,7 @@ returns-clause-texts c = let first = c.run-judged.ensures.answer in let second =
       third_is = ap (λ s. Some s.now) c.new-third.ensures.inner;
     })
     (record { held = ap (λ v. Some v.items) c.new-report.ensures.inner ∙ ap Some c.new.ensures.items; holds = refl })
-    says.1.1 (rw c.call_result.ensures at c.ended-answer.ensures)
+    says.1.1 (rw c.acceptance.ensures at c.ended-answer.ensures)
 
 pub returns-clause-numbers : goal.returns-clause-numbers
 returns-clause-numbers c = let first = c.run-judged.ensures.answer in let second = first.2 in let third = second.2 in let says = third.2 in
@@ -31,4 +31,4 @@ returns-clause-numbers c = let first = c.run-judged.ensures.answer in let second
       second_is = ap (λ s. Some s.now) c.new-second.ensures.inner;
       third_is = ap (λ s. Some s.now) c.new-third.ensures.inner;
     })
-    says.1.0 c.of_run-numbers.ensures c.numbers-call_result.ensures.kept c.numbers-call_result.ensures.none (rw c.call_result.ensures at c.ended-answer.ensures)
+    says.1.0 c.of_run-numbers.ensures c.numbers-call_result.ensures.kept c.numbers-call_result.ensures.none (rw c.acceptance.ensures at c.ended-answer.ensures)
