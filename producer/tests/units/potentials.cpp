@@ -162,6 +162,7 @@ TEST_CASE("an ascent bounds all tours, and comes near the shortest one") {
 TEST_CASE("a tour of fixed edges alone has its length as the bound") {
   Random random(5);
   std::vector<Pair> ring;
+  ring.reserve(9);
   for (int v = 0; v < 9; v++) ring.emplace_back(v, (v + 1) % 9);
   const Problem problem(random_points(9, 2, Metric::kEuclid, random), ring);
   Ascent ascent(problem);
