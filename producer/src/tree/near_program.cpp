@@ -3,6 +3,7 @@
 #include <algorithm>
 #include <cmath>
 #include <iterator>
+#include <limits>
 #include <numeric>
 #include <tuple>
 #include <utility>
@@ -16,6 +17,7 @@ namespace {
 constexpr double kTiny = 1e-6;
 constexpr double kLeastViolation = 1e-3;
 constexpr double kTie = 1e-3;  // of reduced costs
+constexpr Work kMostIterations = std::numeric_limits<int>::max();
 
 bool has(const NodeSet& set, int node) { return std::binary_search(set.begin(), set.end(), node); }
 
@@ -179,25 +181,45 @@ void NearProgram::add_cuts(const Numbers& numbers) {
                       places.data(), elements.data());
 }
 
-// The sets that no solution needs any more.
-void NearProgram::drop_slack_sets() {
-  std::vector<int> places;
-  std::vector<Row> kept;
-  std::vector<int> moved(rows_.size(), -1);
-  for (std::size_t row = 0; row < rows_.size(); row++) {
-    const int place = first_row() + static_cast<int>(row);
-    if (rows_[row].cut < 0 && program_.getRowStatus(place) == ClpSimplex::basic) {
-      places.push_back(place);
-      continue;
-    }
-    moved[row] = static_cast<int>(kept.size());
-    kept.push_back(std::move(rows_[row]));
+// Whether a row and its surplus, if it has one, leave the basis whole when they are dropped: those of a set
+// that no solution needs any more, or of a cut that neither numbers name.
+bool NearProgram::is_slack(std::size_t row, int surplus, const NearLeaf& leaf) const {
+  const int cut = rows_[row].cut;
+  const bool basic = program_.getRowStatus(first_row() + static_cast<int>(row)) == ClpSimplex::basic;
+  if (cut < 0) return basic;
+  if (leaf.last.multipliers.count(cut) > 0 || leaf.own.multipliers.count(cut) > 0) return false;
+  return basic != (program_.getColumnStatus(surplus) == ClpSimplex::basic);
+}
+
+void NearProgram::drop_slack_rows(const NearLeaf& leaf) {
+  std::vector<int> surplus(rows_.size(), -1), moved(rows_.size(), -1), places, columns;
+  for (std::size_t column = 0; column < columns_.size(); column++) {
+    if (!is_edge(column)) surplus[columns_[column].surplus_of] = static_cast<int>(column);
   }
-  if (!places.empty()) program_.deleteRows(static_cast<int>(places.size()), places.data());
+  std::vector<Row> kept;
+  for (std::size_t row = 0; row < rows_.size(); row++) {
+    if (is_slack(row, surplus[row], leaf)) {
+      places.push_back(first_row() + static_cast<int>(row));
+      if (surplus[row] >= 0) columns.push_back(surplus[row]);
+      row_of_.erase(rows_[row].cut);
+    } else {
+      moved[row] = static_cast<int>(kept.size());
+      kept.push_back(std::move(rows_[row]));
+    }
+  }
+  if (places.empty()) return;
+  program_.deleteRows(static_cast<int>(places.size()), places.data());
+  if (!columns.empty()) program_.deleteColumns(static_cast<int>(columns.size()), columns.data());
   rows_ = std::move(kept);
   for (auto& [cut, row] : row_of_) row = moved[row];
-  for (Column& column : columns_) {
-    if (column.surplus_of >= 0) column.surplus_of = moved[column.surplus_of];
+  std::erase_if(columns_,
+                [&](const Column& each) { return each.surplus_of >= 0 && moved[each.surplus_of] < 0; });
+  for (std::size_t column = 0; column < columns_.size(); column++) {
+    if (is_edge(column)) {
+      column_of_[columns_[column].edge] = static_cast<int>(column);
+    } else {
+      columns_[column].surplus_of = moved[columns_[column].surplus_of];
+    }
   }
 }
 
@@ -241,9 +263,14 @@ void NearProgram::set_penalty(double penalty) {
 }
 
 bool NearProgram::solve() {
-  program_.dual(0);
-  if (program_.status() != 0) program_.primal(0);
-  return program_.status() == 0;
+  const auto ends = [&](auto method) {
+    const Work iterations = (most_work_ - work_) / program_.numberRows() + 1;
+    program_.setMaximumIterations(static_cast<int>(std::min<Work>(iterations, kMostIterations)));
+    (program_.*method)(0, 0);
+    work_ += work_of(program_);
+    return program_.status() == 0;
+  };
+  return ends(&ClpSimplex::dual) || (!is_over() && ends(&ClpSimplex::primal));
 }
 
 // Of edges, by the last numbers and their changes.
@@ -342,7 +369,7 @@ Numbers NearProgram::numbers(Weight grid) const {
 // Numbers under a penalty that reach the goal. Nothing where they don't.
 std::optional<Numbers> NearProgram::reach(double penalty, const NearLeaf& leaf) {
   set_penalty(penalty);
-  for (int round = 0; round < kLeaves.near_rounds && !is_late(); round++) {
+  for (int round = 0; round < kLeaves.near_rounds && !is_over(); round++) {
     if (!solve()) return std::nullopt;
     if (add_violated_sets() > 0) continue;
     Numbers near = numbers(leaf.grid);
@@ -355,26 +382,40 @@ std::optional<Numbers> NearProgram::reach(double penalty, const NearLeaf& leaf) 
   return std::nullopt;
 }
 
-// The larger the penalty, the nearer the numbers.
+// The larger the penalty, the nearer the numbers. Where a share ends before a penalty was tried, the next
+// leaf begins with it.
 std::optional<Numbers> NearProgram::find(const NearLeaf& leaf) {
-  if (is_late()) return std::nullopt;
-  drop_slack_sets();
+  const Work before = work_;
+  most_work_ = before + leaf.most;
+  if (is_over()) return std::nullopt;
+  drop_slack_rows(leaf);
   last_ = leaf.last;
   decide(leaf.decisions);
   for (const Numbers* numbers : {&leaf.last, &leaf.own}) add_cuts(*numbers);
   set_costs();
+  const double first = penalty_;
   std::optional<Numbers> near = reach(penalty_, leaf);
   double above = kLeaves.most_penalty;  // one that isn't reached, or isn't tried
-  while (!near && penalty_ > kLeaves.least_penalty && !is_late()) {
+  while (!near && penalty_ > kLeaves.least_penalty && !is_over()) {
     above = penalty_;
     penalty_ /= kLeaves.penalty_step;
     near = reach(penalty_, leaf);
   }
-  while (near && penalty_ * kLeaves.least_step < above) {
+  if (!near) {
+    penalty_ = first;
+    return std::nullopt;
+  }
+  most_work_ = before + leaf.share;
+  while (penalty_ * kLeaves.least_step < above) {
     const double trial = std::min(penalty_ * kLeaves.penalty_step, std::sqrt(penalty_ * above));
     std::optional<Numbers> nearer = reach(trial, leaf);
-    (nearer ? penalty_ : above) = trial;
-    if (nearer) near = std::move(nearer);
+    if (!nearer && !is_over()) {
+      above = trial;
+      continue;
+    }
+    penalty_ = trial;
+    if (!nearer) break;
+    near = std::move(nearer);
   }
   return near;
 }

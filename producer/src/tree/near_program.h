@@ -4,9 +4,16 @@
 // what it asks for by a penalty, at no cost. So the dual finds changes of the last numbers with the best
 // bound, less the penalty for each unit of a change, and most numbers stay as they are. Source: M. Held and
 // R. Karp, The traveling-salesman problem and minimum spanning trees (1970), whose bound it is.
+//
+// All these programs together have a limit of work: 1.25 times the work of the tree's programs, and 12.5
+// times the square of the nodes, since the search for tours takes time too. So files are the same by any
+// number of threads. Leaves come in the order of the file. Until numbers of a leaf reach the goal it may take
+// all that is left. Nearer ones are looked for until its even share is used: what was left before, divided by
+// the leaves left. Where no work is left, leaves keep the numbers that they have.
 #pragma once
 #include "running/clock.h"
 #include "tree/case_solver.h"
+#include "tree/work.h"
 
 namespace certify {
 // What numbers are found for.
@@ -16,6 +23,8 @@ struct NearLeaf {
   const std::vector<Decision>& decisions;
   Value goal;
   Weight grid;  // changes are multiples of it
+  Work most;    // that the programs may take
+  Work share;   // from which on no nearer numbers are looked for
 };
 
 class NearProgram {
@@ -25,6 +34,8 @@ class NearProgram {
               double part_of_time);
   // Numbers near the last ones that reach the goal, or nothing where none were found.
   std::optional<Numbers> find(const NearLeaf& leaf);
+  // What the programs of all leaves took.
+  Work work() const { return work_; }
 
  private:
   // What a row asks for, behind those of the nodes: of a cut, or that a set has no more edges than a tree.
@@ -44,11 +55,12 @@ class NearProgram {
   void add_edges(const std::vector<Pair>& edges);
   void add_rows(std::vector<Row> rows);
   void add_cuts(const Numbers& numbers);
-  void drop_slack_sets();
+  bool is_slack(std::size_t row, int surplus, const NearLeaf& leaf) const;
+  void drop_slack_rows(const NearLeaf& leaf);
   void set_costs();
   void decide(const std::vector<Decision>& decisions);
   void set_penalty(double penalty);
-  bool is_late() const { return clock_.over(part_of_time_); }
+  bool is_over() const { return work_ >= most_work_ || clock_.over(part_of_time_); }
   bool solve();
   std::vector<double> reduced_costs() const;
   Graph support() const;
@@ -70,6 +82,7 @@ class NearProgram {
   std::map<int, int> row_of_;  // of cuts, behind those of the nodes
   Numbers last_{};
   std::vector<Pair> decided_;
-  double penalty_;  // of the leaf before
+  double penalty_;  // that is tried first
+  Work work_ = 0, most_work_ = 0;
 };
 }  // namespace certify

@@ -191,6 +191,7 @@ void Search::go_on(int place, const Outcome& outcome) {
 void Search::take(int place, Outcome& outcome) {
   renumber(outcome);
   rows_ = outcome.rows;
+  work_ += outcome.work;
   const Weight length = outcome.tour ? length_of(problem_.instance.weights, *outcome.tour) : goal_.length;
   const bool shorter = length < goal_.length;
   if (shorter) goal_ = {*outcome.tour, length, std::min(goal_.target, length)};
@@ -313,16 +314,27 @@ void Search::grow_tree() {
               [this](Job& job) { take(job); });
 }
 
-// The numbers of a leaf that is done, near those of the leaf before. Linear programs take half of the time
-// that is left at most, since other leaves need some too.
+// Near numbers by linear programs, which take half of the time that is left at most, since other leaves need
+// some too.
+std::optional<Numbers> Search::by_near_program(const Tree::Place& leaf,
+                                               const std::vector<Decision>& decisions) {
+  if (!near_) near_.emplace(problem_, pool_, *bound_, clock_, (1 + clock_.used()) / 2);
+  const Work share = near_work_ / near_leaves_;
+  const Work before = near_->work();
+  std::optional<Numbers> found =
+      near_->find({made_.last(), leaf.numbers, decisions, aim(), grid_.value_or(1), near_work_, share});
+  near_work_ -= near_->work() - before;
+  return found;
+}
+
+// The numbers of a leaf that is done, near those of the leaf before.
 Numbers Search::near_last(const Tree::Place& leaf, const std::vector<Decision>& decisions) {
   const Numbers& last = made_.last();
   if (last.potentials.empty()) return leaf.numbers;
   if (bound_->reaches(last, decisions, aim())) return last;
   Numbers near = made_.near_last(leaf.numbers, decisions, goal_.target);
   if (problem_.instance.directed || problem_.instance.nodes() > kLeaves.most_near_nodes) return near;
-  if (!near_) near_.emplace(problem_, pool_, *bound_, clock_, (1 + clock_.used()) / 2);
-  const std::optional<Numbers> found = near_->find({last, leaf.numbers, decisions, aim(), grid_.value_or(1)});
+  const std::optional<Numbers> found = by_near_program(leaf, decisions);
   if (!found) return near;
   Numbers nearer = made_.near_last(*found, decisions, goal_.target);
   return differences(nearer, last) < differences(near, last) ? nearer : near;
@@ -333,6 +345,7 @@ Numbers Search::near_last(const Tree::Place& leaf, const std::vector<Decision>& 
 Numbers Search::numbers_for_file(const Tree::Place& leaf, const std::vector<Decision>& decisions) {
   const bool time = !clock_.over();
   Numbers numbers = leaf.done && time ? near_last(leaf, decisions) : leaf.numbers;
+  if (leaf.done) near_leaves_--;
   const Numbers& last = made_.last();
   const std::size_t count = differences(numbers, last);
   if (differences_ + count > plan_.limits.differences) {
@@ -379,6 +392,10 @@ void Search::coarsen() {
 }
 
 void Search::list_steps() {
+  const double nodes = problem_.instance.nodes();
+  const double work = static_cast<double>(work_) + kLeaves.tours_work * nodes * nodes;
+  near_work_ = static_cast<Work>(plan_.near_work * work);
+  near_leaves_ = leaves_;
   leaves_ = 0;
   const auto add = [&](int place) {
     leaves_++;

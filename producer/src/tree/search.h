@@ -23,9 +23,10 @@ bool ends_in_time(double done, double begun, double used);
 
 // How a search goes about its cases.
 struct Plan {
-  int window = kTree.window;  // as many are begun and not ended at most
-  std::size_t split = 0;      // it ends where as many are open; 0 for never
-  Extent limits = kLimits;    // of the certificate
+  int window = kTree.window;             // as many are begun and not ended at most
+  std::size_t split = 0;                 // it ends where as many are open; 0 for never
+  Extent limits = kLimits;               // of the certificate
+  double near_work = kLeaves.near_work;  // of near numbers, for 1 of the search
 };
 
 class Search {
@@ -78,6 +79,7 @@ class Search {
   Case case_of(int place);
   CaseSolver& own_solver();
   void coarsen();
+  std::optional<Numbers> by_near_program(const Tree::Place& leaf, const std::vector<Decision>& decisions);
   Numbers near_last(const Tree::Place& leaf, const std::vector<Decision>& decisions);
   void drop_surplus();
   void list_steps();
@@ -110,6 +112,9 @@ class Search {
   Value least_;
   int leaves_ = 0;
   std::size_t differences_ = 0;
+  Work work_ = 0;        // of the linear programs of all cases
+  Work near_work_ = 0;   // that is left for near numbers
+  int near_leaves_ = 0;  // that may get some still
   bool limited_ = false;
   bool large_tree_ = false;  // the tree seems to be large, so that families are worth their time
   double root_gap_ = 0;

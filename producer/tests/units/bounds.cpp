@@ -81,7 +81,8 @@ TEST_CASE("numbers become multiples of a grid") {
 }
 
 // A leaf whose own numbers differ from the last ones at most nodes. The last ones with fewer changes reach
-// most of what it gains.
+// most of what it gains. With less work there are numbers too, or none. A solution may pass the limit by one
+// iteration, of at most 200 rows.
 TEST_CASE("numbers are near those of the leaf before") {
   Random random(5);
   for (int trial = 0; trial < 5; trial++) {
@@ -106,11 +107,21 @@ TEST_CASE("numbers are near those of the leaf before") {
     const Value goal = before + (most - before) * 4 / 5;
     const Clock clock(0);
     NearProgram program(problem, pool, bound, clock, 1);
-    const auto near = program.find({last, own, decisions, goal, 2});
+    CHECK(!program.find({last, own, decisions, goal, 2, 0, 0}));
+    CHECK(program.work() == 0);
+    const Work enough = 1000000000;
+    const auto near = program.find({last, own, decisions, goal, 2, enough, enough});
     REQUIRE(near);
     CHECK(bound.value(*near, decisions) >= goal);
     CHECK(differences(*near, last) < differences(own, last));
     for (int v = 0; v < 40; v++) CHECK((near->potentials[v] - last.potentials[v]) % 2 == 0);
-    CHECK(!program.find({last, own, decisions, leaves.goal(1000000), 1}));  // longer than each tour
+    CHECK(!program.find(
+        {last, own, decisions, leaves.goal(1000000), 1, enough, enough}));  // no tour is as long
+    for (Work most = 100; most < 1000000; most *= 3) {
+      NearProgram limited(problem, pool, bound, clock, 1);
+      const auto some = limited.find({last, own, decisions, goal, 2, most, 0});
+      CHECK(limited.work() <= most + 200);
+      if (some) CHECK(bound.value(*some, decisions) >= goal);
+    }
   }
 }

@@ -162,6 +162,27 @@ TEST_CASE("a part takes the place of a leaf") {
   CHECK_THROWS(joined(tree, {part}));  // no part at all
 }
 
+// A tree of two leaves, by other limits of the work of near numbers. All leaves reach the length.
+TEST_CASE("near numbers take no more work than they may") {
+  Random random(3);
+  const Instance instance{random_distances(100, random), {}, false};
+  Start start;
+  start.tour = in_order(100);
+  std::vector<std::size_t> differences;
+  for (const double near_work : {0.0, 0.1, 0.3, 1.0, 1000.0}) {
+    const Clock clock(0);
+    Progress progress;
+    Search search(instance, start, clock, progress, {.near_work = near_work});
+    search.run();
+    REQUIRE(search.leaves() > 1);
+    CHECK(search.open_leaves().empty());
+    CHECK(search.bound() == length_of(instance.weights, search.tour()));
+    differences.push_back(extent_of(search.certificate()).differences);
+  }
+  CHECK(differences.back() < differences.front());
+  CHECK(*std::max_element(differences.begin(), differences.end()) == differences.front());
+}
+
 // Cuts have the same numbers in a pool that takes them from another one.
 TEST_CASE("a pool takes cuts and forgets them") {
   CutPool pool(9), other(9);
