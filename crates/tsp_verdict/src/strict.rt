@@ -109,6 +109,8 @@ pub fn strict_yes_leaves_nothing_unjudged()
 
 /// Where unknown keywords are a reason, and what becomes of verdicts, bounds and bases. A reason
 /// that was found before stays.
+///
+/// No code calls it: it evaluates the definitions of `specs/Strict.antt` on examples.
 pub fn examples_of_strictness()
     ensures refused { is_unjudged true (with_unknown kinds.Tsp 4) ≡ true }
     ensures not_asked { is_unjudged false (with_unknown kinds.Tsp 4) ≡ false }
@@ -122,7 +124,7 @@ pub fn examples_of_strictness()
     ensures other_of_bounds { strict_bound true (bounds.No reasons.NotPotentials) ≡ bounds.No reasons.NotPotentials }
     ensures kept_bound { strict_bound false bounds.NoSolution ≡ bounds.NoSolution }
     ensures tours { strict_basis true (bases.Tours None) ≡ bases.No reasons.NotJudged }
-    ensures none { strict_basis true bases.NoSolution ≡ bases.No reasons.NotJudged }
+    ensures no_solution_of_all { strict_basis true bases.NoSolution ≡ bases.No reasons.NotJudged }
     ensures plans { strict_basis true (bases.Routes 2 None) ≡ bases.No reasons.NotJudged }
     ensures other_of_all { strict_basis true (bases.No reasons.DepotCount) ≡ bases.No reasons.DepotCount }
     ensures kept_basis { strict_basis false (bases.Tours None) ≡ bases.Tours None }
