@@ -19,6 +19,8 @@ use tsp_theory::{
 
 /// The bound of potentials and decisions is at most the length of every cycle that keeps the
 /// decisions.
+///
+/// No code calls it. It shows a reader that any number on the decided pairs gives a bound.
 pub fn decided_bounds_bound_cycles()
     ensures { DecidedBoundsBoundCycles }
 {
@@ -26,6 +28,8 @@ pub fn decided_bounds_bound_cycles()
 }
 
 /// The bound of potentials and of numbers on fixed pairs is at most the length of every tour.
+///
+/// No code calls it. It shows a reader that any multipliers of fixed edges give a bound.
 pub fn fixed_bounds_bound_tours()
     ensures { FixedBoundsBoundTours }
 {
@@ -100,6 +104,8 @@ pub fn row_leaf_bounds_bound_cycles()
 }
 
 /// Each cycle that keeps the given decisions keeps those of a leaf.
+///
+/// No code calls it. It shows a reader that the leaves of a tree of cases miss no cycle.
 pub fn cycles_keep_leaves()
     ensures { CyclesKeepLeaves }
 {}
@@ -136,6 +142,8 @@ pub fn steps_leave_cases()
 
 /// A stack of decisions has the open cases: the given one at first, after a branch two in the place
 /// of the first, and after a leaf all but the first.
+///
+/// No code calls it. It shows a reader that one stack of decisions is enough for all open cases.
 pub fn stacks_hold_cases()
     ensures start { StacksBegin }
     ensures branch { StacksBranch }

@@ -5,6 +5,9 @@ ghost use Rattle.tsp_families.specs.SetParts.{PartsBoundCycles, PartsTellCycles,
 ghost use Rattle.tsp_families.specs.Memberships.{MembershipsTellSets};
 
 /// Every cycle crosses sets at least as often as the best cyclic order of their parts.
+///
+/// No code calls it. It is for a reader: half of [`parts_tell_cycles`], and the half that a bound
+/// needs.
 pub fn parts_bound_cycles()
     ensures { PartsBoundCycles }
 {}
@@ -16,6 +19,8 @@ pub fn parts_tell_cycles()
 
 /// Every cycle crosses sets at least as often as the best cyclic order of any parts whose nodes are
 /// in the same sets.
+///
+/// No code calls it. It shows a reader that finer parts than those of the sets give a bound too.
 pub fn divisions_bound_cycles()
     ensures { DivisionsBoundCycles }
 {}
@@ -36,6 +41,8 @@ pub fn unlike_nodes_need_parts()
 {}
 
 /// Two nodes have one membership exactly where they are in the same sets.
+///
+/// No code calls it. It shows a reader that the numbers by which code finds parts tell parts apart.
 pub fn memberships_tell_sets()
     ensures { MembershipsTellSets }
 {}

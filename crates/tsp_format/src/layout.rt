@@ -126,6 +126,8 @@ impl Word for Layout {
 }
 
 /// No cell of a layout appears twice in its list.
+///
+/// No code calls it. It shows a reader that the definition `cells` lists no weight twice.
 pub fn cells_are_distinct()
     ensures { (layout : Layout) (n : ℕ) → AllPairs (λ a b. a ≢ b) (cells layout n) }
 {}
@@ -138,6 +140,8 @@ pub fn cells_are_the_listed_pairs()
 {}
 
 /// The cells of a layout are those of its lines, from line 1 to line n, one line after the other.
+///
+/// No code calls it. It shows a reader that the definition `cells` has the order of the format.
 pub fn cells_go_line_by_line()
     ensures { (layout : Layout) (n : ℕ) →
         cells layout n ≡ flat_map (cells_of_line layout n) (nodes_to n) }

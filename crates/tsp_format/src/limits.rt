@@ -81,6 +81,9 @@ pub const MOST_DIFFERENCE: i64 = 2_000_000_000_000_000;
 pub const MOST_FILE_BYTES: usize = 1_073_741_824;
 
 /// Each limit is the number that the definitions have for it.
+///
+/// No code calls it. It is for whoever changes a limit: the prover refuses one that differs from
+/// `specs/Limits.antt`.
 pub fn limits_are_those_of_the_profile()
     ensures nodes { MOST_NODES ≡ most_nodes }
     ensures matrix_nodes { MOST_MATRIX_NODES ≡ most_matrix_nodes }

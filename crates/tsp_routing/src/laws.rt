@@ -12,6 +12,8 @@ ghost use Rattle.tsp_routing.specs.PlanVerdicts.{PlanBoundsFoundAreUnique};
 
 /// The length of a plan is the weight of its links; each customer begins one and ends one, and the
 /// depot as many as there are routes. There are at most as many of these as customers.
+///
+/// No code calls it. It shows a reader how the potentials of a plan's nodes are given back.
 pub fn plan_links_add_up()
     ensures weights { LengthsAreWeights }
     ensures sums { PlanSums }
@@ -20,6 +22,8 @@ pub fn plan_links_add_up()
 
 /// A plan leaves a cut at least as often as that needs routes, and enters it as often; it crosses
 /// the cut's family as often as that says.
+///
+/// No code calls it. It is for a reader: the rounded capacity inequalities.
 pub fn plans_leave_cuts()
     ensures cuts { PlansLeaveCuts }
     ensures families { PlansCrossCuts }
@@ -27,6 +31,8 @@ pub fn plans_leave_cuts()
 
 /// A plan crosses each set an even number of times, so it keeps the limits of a leaf of each whole
 /// tree of cases.
+///
+/// No code calls it. It shows a reader that the leaves of a tree of cases miss no plan.
 pub fn plans_keep_limits()
     ensures even { PlansCrossEvenly }
     ensures either { PlansKeepEitherLimit }
@@ -35,6 +41,8 @@ pub fn plans_keep_limits()
 
 /// The loads of a route's customers in units, each of which is at least 1, are within the capacity
 /// in units; so each route is a walk.
+///
+/// No code calls it. It shows a reader that no route weighs less than a least walk.
 pub fn routes_are_walks()
     ensures room { RoutesHaveRoom }
     ensures some { LoadsAreSome }
@@ -43,6 +51,8 @@ pub fn routes_are_walks()
 
 /// A plan that keeps limits on sets, and whose weight is bounded, is no shorter than the bound that
 /// this gives.
+///
+/// No code calls it. It is for a reader: the bound of one leaf.
 pub fn plan_bounds_bound_plans()
     ensures { PlanBoundsBoundPlans }
 {}

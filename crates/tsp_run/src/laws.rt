@@ -1,5 +1,5 @@
 //! Laws: a fault is one line of standard error, and on a terminal each answer is explained. No code
-//! calls them.
+//! calls them: they show a reader what a run of the program writes there.
 
 ghost use Rattle.std.specs.Prelude.{◌≡◌, ℕ, Bool, List, true, false, Option, Some, Ok, drop, Result};
 ghost use Rattle.clap.specs.Words.{Text};

@@ -10,6 +10,8 @@ ghost use Rattle.tsp_text.specs.Text.{fault, Spells};
 ghost use Rattle.tsp_text.specs.Answering.{NoneHasRow, HasOneAnswer, is_of_text};
 
 /// The first fault of items is that of the first item to which a row applies, and of its first row.
+///
+/// No code calls it. It shows a reader that `fault_in`, which computes the fault, finds the first.
 pub fn first_faults()
     ensures found { (items : List Item) (found : ReadFault)
         → fault_in items ≡ Some found → IsFirstFault items found }

@@ -14,6 +14,8 @@ ghost use Rattle.tsp_text.specs.Text.{part, Spells};
 
 /// The fields of items without a fault are valid, field by field, if the tree of cases, where there
 /// is one, is whole.
+///
+/// No code calls it. It shows a reader that a text whose lines have no fault has no bad field.
 pub fn clean_fields_are_valid()
     ensures of_items { (items : List Item) → AreCut items → IsClean items
         → is_incomplete items BranchPart ≡ false → bad_field (spelled items) ≡ None }

@@ -19,6 +19,8 @@ pub fn duals_bound_cycles()
 }
 
 /// The bound of potentials is at most the length of every cycle of three or more nodes.
+///
+/// No code calls it. For a reader it is the bound of Held and Karp, without numbers on pairs.
 pub fn node_bounds_bound_cycles()
     ensures { NodeBoundsBoundCycles }
 {
@@ -29,6 +31,8 @@ pub fn node_bounds_bound_cycles()
 
 /// The cut argument: under symmetric weights a least 1-tree weighs no more than a cycle of three or
 /// more nodes.
+///
+/// No code calls it. It is for a reader: all bounds by 1-trees rest on this argument.
 pub fn least_trees_are_below_cycles()
     ensures { LeastOneTreesAreBelowCycles }
 {
