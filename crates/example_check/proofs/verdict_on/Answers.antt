@@ -1,4 +1,4 @@
--- The goals of `verdict_on` in src/lib.rt: what it ensures.
+-- The goals of `verdict_on` in src/lib.rt, which reads two texts and judges the tour of the second: what it ensures.
 use Rattle.std.proofs.Common.{sym, subst}
 use Rattle.tsp_text.specs.Text.{Spells}
 use Rattle.example_check.proofs.verdict_on.Goals as goal

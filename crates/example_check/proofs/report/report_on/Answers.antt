@@ -1,4 +1,4 @@
--- The goals of `report_on` in src/report.rt: what it ensures.
+-- The goals of `report_on` in src/report.rt, which judges a solution and returns the report too: what it ensures.
 use Rattle.std.proofs.Common.{◌≡◌, ◌∙◌, true, Ok, sym, ap, rules}
 use Rattle.std.specs.Prelude.{Some}
 use Rattle.example_check.proofs.OnTexts.{accepted_on}

@@ -1,4 +1,5 @@
--- The goals of `fits` in src/assignment.rt: what it ensures.
+-- The goals of `fits` in src/assignment.rt, which says whether a row's and a column's number are within the cost: what
+-- it ensures.
 use Rattle.std.proofs.Common.{◌-◌, ◌<◌, length, arith}
 use Rattle.std.specs.Prelude.{pos, slice_index_or}
 use Rattle.tsp_theory.proofs.Sizes.{fit_decided}

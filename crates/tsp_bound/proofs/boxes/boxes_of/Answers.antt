@@ -9,7 +9,8 @@ use Rattle.tsp_bound.specs.states.NumberedSites.{IsNumberedSiteOf}
 use Rattle.tsp_bound.proofs.Trees.{leaf_more, held_leaves, refit_more}
 use Rattle.tsp_bound.proofs.boxes.boxes_of.Goals as goal
 
--- plan: each leaf has the area of its place (`leaf_more`), then each box from the last on that of both halves (`refit_more`)
+-- plan: each leaf has the area of its place (`leaf_more`), then each box from the last on that of both halves
+-- (`refit_more`)
 pub leaves-preserved : goal.leaves-preserved
 leaves-preserved g c =
     let In : Option Area → ℕ → Type 0 = HoldsNode (g.W.BoxedWeights.place_of c.args.placed.now.w.now) (g.W.BoxedWeights.number_of c.args.placed.now.w.now) in

@@ -1,4 +1,5 @@
--- The goals of `numbered_sites_of` in src/numbered_sites.rt: its loop.
+-- The goals of `numbered_sites_of` in src/numbered_sites.rt, which puts the nodes of an order beside each other with
+-- their places and numbers: its loop.
 use Rattle.std.proofs.Common.{◌≡◌, ◌<◌, ◌+◌, ◌++◌, ◌∷◌, [], ℕ, List, length, arith, sym, subst, ap, ◌∙◌, inl, inr, rules, w64, to_z, of_z, SFits}
 use Rattle.std.specs.Prelude.{slice_index_or, ℤ, pos, neg_ℤ}
 use Rattle.std.proofs.lemmas.Bool.{cases_eq}

@@ -1,4 +1,4 @@
--- The goals of `least_bound` in src/numbers.rt: what it ensures.
+-- The goals of `least_bound` in src/numbers.rt, which rounds a sum up to a whole number at a scale: what it ensures.
 use Rattle.tsp_theory.proofs.Division.{least_computed}
 use Rattle.tsp_bound.proofs.numbers.least_bound.Goals as goal
 

@@ -1,4 +1,5 @@
--- The goals of `scaled` in src/scaled.rt: that no product overflows and what it ensures.
+-- The goals of `scaled` in src/scaled.rt, which counts a cost in 1 / scale: that no product overflows and what it
+-- ensures.
 use Rattle.tsp_theory.proofs.Sizes.{product_fits, product_is, scaled_size}
 use Rattle.tsp_bound.proofs.scaled.scaled.Goals as goal
 

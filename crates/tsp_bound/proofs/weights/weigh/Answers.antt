@@ -12,8 +12,8 @@ use Rattle.tsp_theory.specs.states.Nearest.{least_at}
 use Rattle.tsp_bound.specs.states.Potentials.{weight_under}
 use Rattle.tsp_bound.proofs.weights.weigh.Goals as goal
 
--- plan: by whether a node is the one just written (`get_or-set_same`), which has its weight, or another (`get_or-set_other`),
--- which is as it was
+-- plan: by whether a node is the one just written (`get_or-set_same`), which has its weight, or another
+-- (`get_or-set_other`), which is as it was
 pub places-preserved : goal.places-preserved
 places-preserved g c = λ k lt below.
     let w = weight_under c.args.w.now.p.now (g.C.Costs.at c.args.w.now.c.now) in

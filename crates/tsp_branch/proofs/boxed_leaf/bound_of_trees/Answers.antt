@@ -1,5 +1,5 @@
--- The goals of `bound_of_trees` in src/boxed_leaf.rt: the facts of the values that it makes, what its calls require and
--- what it ensures.
+-- The goals of `bound_of_trees` in src/boxed_leaf.rt, which bounds a leaf by least 1-trees, by kept rows or by boxes:
+-- the facts of the values that it makes, what its calls require and what it ensures.
 use Rattle.std.proofs.Common.{◌≡◌, ◌∙◌, ℕ, ℤ, Bool, List, refl, sym, subst, rules, FitsSigned, to_z, of_z}
 use Rattle.std.specs.Int.{w64, w128}
 use Rattle.std.proofs.lemmas.Int.{to_z-of_z}

@@ -1,4 +1,5 @@
--- The goals of `judge_setting` in src/branch.rt: what it ensures.
+-- The goals of `judge_setting` in src/branch.rt, which returns the least bound of the leaves, or the first leaf that
+-- isn't good: what it ensures.
 use Rattle.std.proofs.Common.{ℕ}
 use Rattle.std.proofs.lemmas.Result.{IfOk-weaker}
 use Rattle.tsp_format.specs.states.TreeSteps.{steps_of}

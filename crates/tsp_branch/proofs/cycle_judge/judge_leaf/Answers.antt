@@ -1,5 +1,5 @@
--- The goals of `judge_leaf` in src/cycle_judge.rt: the facts of the values that it makes, what its calls require and
--- what it ensures.
+-- The goals of `judge_leaf` in src/cycle_judge.rt, which bounds the leaf with these numbers, if they are good: the
+-- facts of the values that it makes, what its calls require and what it ensures.
 use Rattle.std.proofs.Common.{◌≡◌, ◌∙◌, ℕ, ℤ, List, length, take, drop, Option, refl, ap, sym, subst, arith}
 use Rattle.std.specs.Prelude.{neg_ℤ, ◌+ℤ◌}
 use Rattle.std.specs.Int.{w64, int_wrap}

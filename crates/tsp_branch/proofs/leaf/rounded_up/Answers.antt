@@ -1,4 +1,4 @@
--- The goals of `rounded_up` in src/leaf.rt: what it ensures.
+-- The goals of `rounded_up` in src/leaf.rt, which rounds a sum up to a whole number at a scale: what it ensures.
 use Rattle.tsp_theory.proofs.Division.{least_computed}
 use Rattle.tsp_branch.proofs.leaf.rounded_up.Goals as goal
 

@@ -1,4 +1,5 @@
--- The goals of `distance_of` in src/distance_call.rt: what it ensures.
+-- The goals of `distance_of` in src/distance_call.rt, which returns the distance of two points by its number, or -1:
+-- what it ensures.
 use Rattle.std.proofs.Common.{◌≡◌, ◌∙◌, ap, inl, rules, FitsSigned, w64}
 use Rattle.std.proofs.lemmas.Int.{to_z-of_z}
 use Rattle.tsp_distance.specs.declared.decimal.Point.{Point}

@@ -1,4 +1,4 @@
--- The goals of `put` in src/fill.rt: what it ensures.
+-- The goals of `put` in src/fill.rt, which puts a number at the next place of a buffer: what it ensures.
 use Rattle.std.proofs.Common.{FitsSigned, w64}
 use Rattle.std.proofs.lemmas.Int.{to_z-of_z}
 use Rattle.tsp_c.proofs.Filled.{one_more}

@@ -1,4 +1,5 @@
--- The goals of `bind_text` in src/handle_calls.rt: what it ensures.
+-- The goals of `bind_text` in src/handle_calls.rt, which binds the certificate of a text to a handle's instance: what
+-- it ensures.
 use Rattle.std.proofs.Common.{◌≡◌, subst, rules}
 use Rattle.std.specs.Prelude.{Option, Some}
 use Rattle.tsp_task.specs.declared.certificate.Certificate.{Certificate}

@@ -1,4 +1,5 @@
--- The goals of `check_held` in src/handle_calls.rt: what it ensures.
+-- The goals of `check_held` in src/handle_calls.rt, which checks the solution of a text by a handle's instance and
+-- certificate: what it ensures.
 use Rattle.std.proofs.Common.{◌≡◌, ◌∙◌, Bool, ap, subst, arith, rules, FitsSigned, w64}
 use Rattle.std.specs.Prelude.{Option, Some, ℤ}
 use Rattle.std.proofs.lemmas.Int.{to_z-of_z}

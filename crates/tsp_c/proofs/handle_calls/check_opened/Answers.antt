@@ -1,4 +1,5 @@
--- The goals of `check_opened` in src/handle_calls.rt: what its calls require and what it ensures.
+-- The goals of `check_opened` in src/handle_calls.rt, which checks the solution of a text by an open instance: what its
+-- calls require and what it ensures.
 use Rattle.std.proofs.Common.{◌≡◌, ◌∙◌, [], ap, refl, subst}
 use Rattle.std.specs.Prelude.{Some}
 use Rattle.tsp_stream.specs.Sink.{Sink}

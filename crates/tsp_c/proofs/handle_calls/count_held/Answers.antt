@@ -1,4 +1,4 @@
--- The goals of `count_held` in src/handle_calls.rt: what it ensures.
+-- The goals of `count_held` in src/handle_calls.rt, which counts the nodes of a handle's instance: what it ensures.
 use Rattle.std.proofs.Common.{◌≡◌, ◌∙◌, ap, refl, subst, rules}
 use Rattle.std.specs.Prelude.{Some, unwrap_or}
 use Rattle.tsp_draft.specs.Fields.{Fields}

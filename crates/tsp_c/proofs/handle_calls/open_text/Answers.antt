@@ -1,4 +1,4 @@
--- The goals of `open_text` in src/handle_calls.rt: what it ensures.
+-- The goals of `open_text` in src/handle_calls.rt, which opens a handle on the instance of a text: what it ensures.
 use Rattle.std.proofs.Common.{ap, ◌∙◌, inl, inr, refl}
 use Rattle.std.proofs.lemmas.Result.{MatchResult-at_ok, MatchResult-at_err}
 use Rattle.tsp_judge.specs.declared.fault.RunFault.TheVariants.{OutOfMemory}

@@ -1,4 +1,5 @@
--- The goals of `fill_lengths` in src/list_lengths.rt: what it ensures.
+-- The goals of `fill_lengths` in src/list_lengths.rt, which puts the lengths of lists of nodes into a buffer: what it
+-- ensures.
 use Rattle.std.proofs.Common.{inl, inr, refl}
 use Rattle.tsp_c.proofs.list_lengths.fill_lengths.Goals as goal
 

@@ -13,7 +13,8 @@ use Rattle.tsp_draft.specs.Fields.{nodes_of}
 use Rattle.tsp_c.proofs.Lists.{end_found, end_missing, lists_none, next_list, nodes_before}
 use Rattle.tsp_c.proofs.list_lengths.put_lengths.Goals as goal
 
--- plan: the lists so far are those of the nodes before (`nodes_before`); each ends at its 0, or has no end (`end_missing`)
+-- plan: the lists so far are those of the nodes before (`nodes_before`); each ends at its 0, or has no end
+-- (`end_missing`)
 pub tour_length-requires-clause-range : goal.tour_length-requires-clause-range
 tour_length-requires-clause-range c =
     let rest = c.lists.rest.now in

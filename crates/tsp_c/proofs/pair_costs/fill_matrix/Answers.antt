@@ -1,4 +1,5 @@
--- The goals of `fill_matrix` in src/pair_costs.rt: what it ensures.
+-- The goals of `fill_matrix` in src/pair_costs.rt, which puts rows of the matrix of costs into a buffer: what it
+-- ensures.
 use Rattle.std.proofs.Common.{inl, inr, refl}
 use Rattle.tsp_c.proofs.pair_costs.fill_matrix.Goals as goal
 

@@ -1,4 +1,4 @@
--- The goals of `check_by` in src/picked_runs.rt: what it ensures.
+-- The goals of `check_by` in src/picked_runs.rt, which checks by the number of the certificate's kind: what it ensures.
 use Rattle.std.proofs.Common.{◌≡◌, ◌∙◌, ap, subst, subst₂, Bool, arith, rules, FitsSigned, w64}
 use Rattle.std.specs.Prelude.{Option, ℤ}
 use Rattle.std.proofs.lemmas.Int.{to_z-of_z}

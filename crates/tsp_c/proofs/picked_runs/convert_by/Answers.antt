@@ -1,4 +1,5 @@
--- The goals of `convert_by` in src/picked_runs.rt: what it ensures.
+-- The goals of `convert_by` in src/picked_runs.rt, which converts a text into the layout with a number: what it
+-- ensures.
 use Rattle.std.proofs.Common.{subst, arith}
 use Rattle.std.specs.Prelude.{Option}
 use Rattle.tsp_format.specs.declared.layout.Layout.{Layout}

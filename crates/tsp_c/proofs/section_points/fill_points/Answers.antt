@@ -1,4 +1,5 @@
--- The goals of `fill_points` in src/section_points.rt: what it ensures.
+-- The goals of `fill_points` in src/section_points.rt, which puts the coordinates of a section into a buffer: what it
+-- ensures.
 use Rattle.std.proofs.Common.{inl, inr, refl, rules}
 use Rattle.tsp_c.specs.NumberCalls.{IsSection}
 use Rattle.tsp_c.proofs.section_points.fill_points.Goals as goal

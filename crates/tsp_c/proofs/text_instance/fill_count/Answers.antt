@@ -1,4 +1,4 @@
--- The goals of `fill_count` in src/text_instance.rt: what it ensures.
+-- The goals of `fill_count` in src/text_instance.rt, which counts the nodes of a text's instance: what it ensures.
 use Rattle.std.proofs.Common.{inl, inr, refl}
 use Rattle.tsp_c.proofs.Counted.{some_count}
 use Rattle.tsp_c.proofs.text_instance.fill_count.Goals as goal

@@ -1,4 +1,4 @@
--- The goals of `instance_of` in src/text_instance.rt: what it ensures.
+-- The goals of `instance_of` in src/text_instance.rt, which reads the instance of a text: what it ensures.
 use Rattle.std.proofs.Common.{◌≡◌, Err}
 use Rattle.tsp_read.proofs.Propagated.{propagated}
 use Rattle.tsp_c.proofs.OnTexts.{no_instance}

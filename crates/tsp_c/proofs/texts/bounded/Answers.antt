@@ -1,4 +1,5 @@
--- The goals of `bounded` in src/texts.rt: what its calls require and what it ensures.
+-- The goals of `bounded` in src/texts.rt, which bounds the tours of a text's instance by the certificate of another:
+-- what its calls require and what it ensures.
 use Rattle.std.proofs.Common.{◌∙◌, ap, refl}
 use Rattle.std.specs.Prelude.{Some}
 use Rattle.tsp_stream.specs.Sink.{Sink}

@@ -1,4 +1,4 @@
--- The goals of `converted` in src/texts.rt: what it ensures.
+-- The goals of `converted` in src/texts.rt, which converts a text: what it ensures.
 use Rattle.std.proofs.Common.{◌∙◌, ap, refl}
 use Rattle.std.specs.Prelude.{Some}
 use Rattle.tsp_c.proofs.OnTexts.{converts}

@@ -1,4 +1,4 @@
--- The goals of `shown` in src/texts.rt: what it ensures.
+-- The goals of `shown` in src/texts.rt, which returns what `show` prints of a text: what it ensures.
 use Rattle.std.proofs.Common.{◌∙◌, ap, refl}
 use Rattle.std.specs.Prelude.{Some}
 use Rattle.tsp_stream.specs.Turn.{Turn}

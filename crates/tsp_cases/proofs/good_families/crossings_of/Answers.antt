@@ -1,4 +1,5 @@
--- The goals of `crossings_of` in src/good_families.rt: what it ensures.
+-- The goals of `crossings_of` in src/good_families.rt, which returns a family's least and most crossings, or `None` if
+-- it is bad: what it ensures.
 use Rattle.std.proofs.Common.{length}
 use Rattle.std.proofs.lemmas.Bool.{iff_false}
 use Rattle.tsp_families.specs.FamilySets.{lists_of}

@@ -1,4 +1,5 @@
--- The goals of `is_comb` in src/good_families.rt: what its calls require and what it ensures.
+-- The goals of `is_comb` in src/good_families.rt, which says whether sets are a lone set or a comb: what its calls
+-- require and what it ensures.
 use Rattle.std.proofs.Common.{◌≡◌, ◌∙◌, [], ◌<◌, rules, ℕ, Bool, List, length, subst, sym, refl, false}
 use Rattle.std.specs.Prelude.{◌↔◌, IsTrue}
 use Rattle.std.specs.List.{All}

@@ -1,4 +1,4 @@
--- The goals of `is_lone_set` in src/good_families.rt: what it ensures.
+-- The goals of `is_lone_set` in src/good_families.rt, which says whether marked nodes are a lone set: what it ensures.
 use Rattle.std.proofs.Common.{length, rules}
 use Rattle.tsp_cases.specs.states.Marked.{is_marked}
 use Rattle.tsp_cases.proofs.Teeth.{lone_by_marks, lone_left_out}

@@ -1,4 +1,5 @@
--- The goals of `is_tooth` in src/good_families.rt: what it ensures.
+-- The goals of `is_tooth` in src/good_families.rt, which says whether nodes are a tooth of the marked handle: what it
+-- ensures.
 use Rattle.std.proofs.lemmas.Bool.{both_ways, iff_false}
 use Rattle.tsp_cases.specs.states.Marked.{is_marked}
 use Rattle.tsp_cases.proofs.Teeth.{tooth_found, tooth_inside, tooth_outside}

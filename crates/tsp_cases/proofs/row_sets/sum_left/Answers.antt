@@ -1,4 +1,4 @@
--- The goals of `sum_left` in src/row_sets.rt: what it ensures.
+-- The goals of `sum_left` in src/row_sets.rt, which returns what is left of a sum in 64 bits: what it ensures.
 use Rattle.std.proofs.Common.{rules, FitsSigned}
 use Rattle.std.specs.Int.{w64}
 use Rattle.std.proofs.lemmas.Int.{wrapping_add_is}

@@ -1,4 +1,4 @@
--- The goals of `bound_files` in src/grammar.rt: what it ensures.
+-- The goals of `bound_files` in src/grammar.rt, which is the command `bound` with its file: what it ensures.
 use Rattle.std.proofs.Common.{codes}
 use Rattle.clap.specs.Words.{new_app}
 use Rattle.tsp_cli.specs.Grammar.{path}

@@ -1,4 +1,5 @@
--- The goals of `check` in src/grammar.rt: what the calls require, and what it ensures.
+-- The goals of `check` in src/grammar.rt, which is the command `check` with all its options: what the calls require,
+-- and what it ensures.
 use Rattle.std.proofs.Common.{codes}
 use Rattle.clap.specs.Words.{with_rule}
 use Rattle.tsp_cli.specs.Grammar.{check_certified, explain, option, strict}

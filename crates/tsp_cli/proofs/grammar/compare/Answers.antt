@@ -1,4 +1,5 @@
--- The goals of `compare` in src/grammar.rt: what the calls require, and what it ensures.
+-- The goals of `compare` in src/grammar.rt, which is the command `compare` with all its options: what the calls
+-- require, and what it ensures.
 use Rattle.clap.specs.Words.{with_rule}
 use Rattle.tsp_cli.specs.Grammar.{compare_certified, explain, strict}
 use Rattle.tsp_cli.proofs.Commands.{free}

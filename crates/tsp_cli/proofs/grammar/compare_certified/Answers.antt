@@ -1,4 +1,5 @@
--- The goals of `compare_certified` in src/grammar.rt: what the calls require, and what it ensures.
+-- The goals of `compare_certified` in src/grammar.rt, which is the command `compare` with the options for certificates:
+-- what the calls require, and what it ensures.
 use Rattle.clap.specs.Words.{with_rule}
 use Rattle.tsp_cli.specs.Grammar.{compare_files, of_branches, of_potentials}
 use Rattle.tsp_cli.proofs.Commands.{free}

@@ -1,4 +1,5 @@
--- The goals of `compare_files` in src/grammar.rt: what the calls require, and what it ensures.
+-- The goals of `compare_files` in src/grammar.rt, which is the command `compare` with its files: what the calls
+-- require, and what it ensures.
 use Rattle.std.proofs.Common.{codes}
 use Rattle.clap.specs.Words.{new_app, with_rule}
 use Rattle.tsp_cli.specs.Grammar.{path, several_paths}

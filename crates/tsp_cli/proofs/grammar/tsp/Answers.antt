@@ -1,4 +1,5 @@
--- The goals of `tsp` in src/grammar.rt: what the calls require, and what it ensures.
+-- The goals of `tsp` in src/grammar.rt, which is the program's command with its five subcommands: what the calls
+-- require, and what it ensures.
 use Rattle.clap.specs.Words.{App, with_subcommand}
 use Rattle.tsp_cli.specs.Grammar.{bound, check, compare, convert, show, start}
 use Rattle.tsp_cli.proofs.Commands.{free}

@@ -1,4 +1,4 @@
--- The goals of `text_of` in src/words.rt: what it ensures.
+-- The goals of `text_of` in src/words.rt, which returns the text that was found for an argument: what it ensures.
 use Rattle.std.proofs.Common.{◌∙◌}
 use Rattle.clap.specs.Words.{found_of}
 use Rattle.clap.proofs.WalkLemmas.{first_value-rows}

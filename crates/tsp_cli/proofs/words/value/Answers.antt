@@ -1,4 +1,4 @@
--- The goals of `value` in src/words.rt: what it ensures.
+-- The goals of `value` in src/words.rt, which returns the value that was found for an argument: what it ensures.
 use Rattle.std.proofs.Common.{rules}
 use Rattle.clap.specs.Words.{found_of}
 use Rattle.clap.proofs.WalkLemmas.{first_value-rows}

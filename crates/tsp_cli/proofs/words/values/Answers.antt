@@ -1,4 +1,4 @@
--- The goals of `values` in src/words.rt: what it ensures.
+-- The goals of `values` in src/words.rt, which returns the values that were found for an argument: what it ensures.
 use Rattle.std.proofs.Common.{rules, ◌≡◌, ap, option_map, map}
 use Rattle.clap.specs.Words.{found_of}
 use Rattle.clap.proofs.WalkLemmas.{raw_values-rows}

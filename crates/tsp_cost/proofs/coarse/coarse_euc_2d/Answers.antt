@@ -1,4 +1,5 @@
--- The goals of `coarse_euc_2d` in src/coarse.rt: what it ensures.
+-- The goals of `coarse_euc_2d` in src/coarse.rt, which returns EUC_2D of points whose differences are few whole steps:
+-- what it ensures.
 use Rattle.tsp_cost.proofs.CoarseRoots.{coarse_is}
 use Rattle.tsp_cost.proofs.coarse.coarse_euc_2d.Goals as goal
 

@@ -4,8 +4,8 @@ use Rattle.std.proofs.lemmas.Int.{to_z-of_z}
 use Rattle.tsp_distance.proofs.AtLeast.{euc_2d_cover}
 use Rattle.tsp_distance.proofs.compared.is_euc_2d_at_least.Goals as goal
 
--- plan: the distance is the least number whose next half covers the square of the straight distance (`euc_2d_cover`), so
--- squares are compared
+-- plan: the distance is the least number whose next half covers the square of the straight distance (`euc_2d_cover`),
+-- so squares are compared
 pub returns : goal.returns
 returns c =
     let same = to_z-of_z w64 c.args.least c.ranges.least in

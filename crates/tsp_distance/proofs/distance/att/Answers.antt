@@ -6,7 +6,8 @@ use Rattle.tsp_distance.proofs.Roots.{is_att}
 use Rattle.tsp_distance.proofs.DistanceLaws.{att-is, att-most, signed_is}
 use Rattle.tsp_distance.proofs.distance.att.Goals as goal
 
--- plan: the root that is found is the distance (`is_att`); there is one such number (`att-is`), and it isn't large (`att-most`)
+-- plan: the root that is found is the distance (`is_att`); there is one such number (`att-is`), and it isn't large
+-- (`att-most`)
 pub returns-clause-value : goal.returns-clause-value
 returns-clause-value c =
     let same : unsigned_abs (to_z w64 (of_z w64 c.straight.result)) ≡ unsigned_abs c.straight.result = search (arith, ints) in

@@ -1,4 +1,4 @@
--- The goals of `straight` in src/distance.rt: what it ensures.
+-- The goals of `straight` in src/distance.rt, which rounds the straight distance in the plane: what it ensures.
 use Rattle.std.proofs.Common.{arith, ◌≡◌, ℕ, unsigned_abs, to_z, of_z, w64, subst, sym}
 use Rattle.std.proofs.lemmas.Int.{ints}
 use Rattle.tsp_distance.specs.Distances.{square_apart}

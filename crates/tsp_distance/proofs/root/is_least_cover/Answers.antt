@@ -1,4 +1,5 @@
--- The goals of `is_least_cover` in src/root.rt: what it ensures.
+-- The goals of `is_least_cover` in src/root.rt, which says whether a number is certainly the root, rounded up: what it
+-- ensures.
 use Rattle.std.proofs.Common.{◌≡◌, ◌+◌, ◌*◌, ◌-◌, ◌<◌, ◌≤◌, ◌%◌, ◌^◌, ℕ, arith, ◌∙◌, ap}
 use Rattle.tsp_distance.proofs.Roots.{up_cover, tenth_cover}
 use Rattle.tsp_distance.proofs.root.is_least_cover.Goals as goal

@@ -1,4 +1,4 @@
--- The goals of `settled_root` in src/root.rt: what it ensures.
+-- The goals of `settled_root` in src/root.rt, which finds the root, rounded up, by an estimate: what it ensures.
 use Rattle.tsp_distance.proofs.Roots.{least-most}
 use Rattle.tsp_distance.proofs.root.settled_root.Goals as goal
 

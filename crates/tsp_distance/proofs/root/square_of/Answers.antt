@@ -1,4 +1,5 @@
--- The goals of `square_of` in src/root.rt: that no sum overflows and what it ensures.
+-- The goals of `square_of` in src/root.rt, which returns the square of a difference of coordinates: that no sum
+-- overflows and what it ensures.
 use Rattle.std.proofs.Common.{◌≡◌, unsigned_abs, arith, ◌∙◌, w64}
 use Rattle.std.proofs.lemmas.Int.{to_z-of_z}
 use Rattle.tsp_distance.proofs.Roots.{square-most, wide_square}

@@ -1,4 +1,4 @@
--- The goals of `are_from_to` in src/range.rt: what it ensures.
+-- The goals of `are_from_to` in src/range.rt, which says whether every number is in a range: what it ensures.
 use Rattle.std.proofs.Common.{sym, rules}
 use Rattle.tsp_draft.proofs.Ranges.{all_from_to}
 use Rattle.tsp_draft.proofs.range.are_from_to.Goals as goal

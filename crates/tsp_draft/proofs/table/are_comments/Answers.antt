@@ -1,4 +1,5 @@
--- The goals of `are_comments` in src/table.rt: what it ensures.
+-- The goals of `are_comments` in src/table.rt, which says whether comments can be kept and are few enough: what it
+-- ensures.
 use Rattle.std.proofs.Common.{ℕ, ◌∙◌}
 use Rattle.std.specs.Global.{Vec}
 use Rattle.tsp_format.specs.declared.field.Field.TheVariants.{CommentKey}

@@ -1,4 +1,5 @@
--- The goals of `are_others` in src/table.rt: what it ensures.
+-- The goals of `are_others` in src/table.rt, which says whether lines of unknown keywords can be kept and are few
+-- enough: what it ensures.
 use Rattle.std.proofs.Common.{ℕ, ◌∙◌}
 use Rattle.std.specs.Global.{Vec}
 use Rattle.tsp_format.specs.Limits.{most_others}

@@ -1,4 +1,5 @@
--- The goals of `are_tours` in src/table.rt: what it ensures.
+-- The goals of `are_tours` in src/table.rt, which says whether tours are valid and short enough together: what it
+-- ensures.
 use Rattle.tsp_draft.proofs.Mapped.{mapped_tours}
 use Rattle.tsp_draft.proofs.table.are_tours.Goals as goal
 

@@ -1,4 +1,4 @@
--- The goals of `are_points` in src/validity.rt: what it ensures.
+-- The goals of `are_points` in src/validity.rt, which says whether every point is valid: what it ensures.
 use Rattle.std.proofs.Common.{◌≡◌, map, sym, ap, ◌∙◌}
 use Rattle.std.specs.List.{list_all}
 use Rattle.std.proofs.lemmas.List.Folds.{list_all-map}

@@ -1,4 +1,4 @@
--- The goals of `are_tree_steps` in src/validity.rt: what it ensures.
+-- The goals of `are_tree_steps` in src/validity.rt, which says whether steps are one whole tree: what it ensures.
 use Rattle.std.proofs.Common.{refl, sym, ◌∙◌}
 use Rattle.std.specs.Prelude.{nat_le, ◌&&◌}
 use Rattle.tsp_format.specs.Limits.{most_branches, most_changes}

@@ -2,7 +2,8 @@
 use Rattle.tsp_families.proofs.SmallSets.{most_sets, most_parts, more_parts}
 use Rattle.tsp_families.proofs.examples.examples_of_limits.Goals as goal
 
--- plan: 63 sets are few enough (`most_sets`), and so are 14 parts (`most_parts`); a 15th part is too many (`more_parts`)
+-- plan: 63 sets are few enough (`most_sets`), and so are 14 parts (`most_parts`); a 15th part is too many
+-- (`more_parts`)
 pub returns-clause-most_sets : goal.returns-clause-most_sets
 returns-clause-most_sets c = most_sets c.unlike_nodes_need_parts.ensures
 

@@ -1,4 +1,4 @@
--- The goals of `put_field` in src/writer.rt: what it ensures.
+-- The goals of `put_field` in src/writer.rt, which adds the text of a field that is present: what it ensures.
 use Rattle.tsp_file.proofs.writer.put_field.Goals as goal
 
 -- plan: by the field: the call that writes it ensures its text

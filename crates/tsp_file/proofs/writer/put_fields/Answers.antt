@@ -1,4 +1,5 @@
--- The goals of `put_fields` in src/writer.rt: its loop and what it ensures.
+-- The goals of `put_fields` in src/writer.rt, which adds the texts of fields, one after the other: its loop and what it
+-- ensures.
 use Rattle.std.proofs.Common.{arith}
 use Rattle.tsp_draft.specs.states.Drafts.{fields_of}
 use Rattle.tsp_file.specs.CanonicalText.{text_of_field}

@@ -1,4 +1,4 @@
--- The goals of `put_section` in src/writer.rt: what it ensures.
+-- The goals of `put_section` in src/writer.rt, which adds the text of a section that is present: what it ensures.
 use Rattle.tsp_file.proofs.writer.put_section.Goals as goal
 
 -- plan: by the shape of the section: the call that writes this shape ensures its text

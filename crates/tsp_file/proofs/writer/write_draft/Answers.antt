@@ -1,4 +1,4 @@
--- The goals of `write_draft` in src/writer.rt: what it ensures.
+-- The goals of `write_draft` in src/writer.rt, which writes the canonical text of a draft: what it ensures.
 use Rattle.std.proofs.Common.{[], ◌∙◌, sym}
 use Rattle.std.specs.Prelude.{codes}
 use Rattle.std.specs.List.{flat_map}

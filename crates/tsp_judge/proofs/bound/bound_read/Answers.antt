@@ -1,4 +1,5 @@
--- The goals of `bound_read` in src/bound.rt: what it ensures.
+-- The goals of `bound_read` in src/bound.rt, which bounds the tours of files that were read, or returns the first
+-- fault: what it ensures.
 use Rattle.std.proofs.Common.{refl, sym, subst}
 use Rattle.std.proofs.KnownBytes.{Keeps-refl}
 use Rattle.tsp_read.specs.Reads.{IsFile}

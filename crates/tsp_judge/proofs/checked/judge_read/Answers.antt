@@ -1,4 +1,5 @@
--- The goals of `judge_read` in src/checked.rt: what it ensures.
+-- The goals of `judge_read` in src/checked.rt, which judges files that were read, or returns the first fault: what it
+-- ensures.
 use Rattle.std.proofs.Common.{refl, sym, subst}
 use Rattle.std.proofs.KnownBytes.{Keeps-refl}
 use Rattle.tsp_read.specs.Reads.{IsFile}

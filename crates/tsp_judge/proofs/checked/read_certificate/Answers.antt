@@ -1,4 +1,5 @@
--- The goals of `read_certificate` in src/checked.rt: what it ensures.
+-- The goals of `read_certificate` in src/checked.rt, which reads the certificate's file, if one is asked for: what it
+-- ensures.
 use Rattle.std.proofs.Common.{◌≡◌, Err, [], refl}
 use Rattle.std.proofs.KnownBytes.{Keeps-refl}
 use Rattle.tsp_read.proofs.Asking.{read_none}

@@ -1,4 +1,4 @@
--- The goals of `find` in src/common.rt: what it ensures.
+-- The goals of `find` in src/common.rt, which reads and judges one solution: what it ensures.
 use Rattle.std.proofs.Common.{inr}
 use Rattle.tsp_stream.specs.states.Watched.{turn_of}
 use Rattle.tsp_judge.proofs.Comparing.{found_judged}

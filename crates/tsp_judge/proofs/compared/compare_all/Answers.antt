@@ -1,4 +1,4 @@
--- The goals of `compare_all` in src/compared.rt: its loop and what it ensures.
+-- The goals of `compare_all` in src/compared.rt, which compares all solutions in order: its loop and what it ensures.
 use Rattle.std.proofs.Common.{◌≡◌, Err, arith, ap, sym, subst, ◌∙◌, ◌<◌, ◌+◌, length}
 use Rattle.std.specs.Prelude.{max}
 use Rattle.tsp_stream.specs.states.Watched.{sink_of}

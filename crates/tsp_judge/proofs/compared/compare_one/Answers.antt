@@ -1,4 +1,5 @@
--- The goals of `compare_one` in src/compared.rt: what its call requires and what it ensures.
+-- The goals of `compare_one` in src/compared.rt, which opens, reads and judges a solution and writes its line: what its
+-- call requires and what it ensures.
 use Rattle.std.proofs.Common.{◌≡◌, List, [], refl, sym, subst, subst₂}
 use Rattle.std.proofs.KnownBytes.{Keeps-refl}
 use Rattle.std.specs.Prelude.{IfOk, Result, Err, slice_index_or}

@@ -1,4 +1,5 @@
--- The goals of `compare_read` in src/compared.rt: what its call requires and what it ensures.
+-- The goals of `compare_read` in src/compared.rt, which compares solutions of files that were read, or returns the
+-- first fault: what its call requires and what it ensures.
 use Rattle.std.proofs.Common.{◌≡◌, Err, arith, refl, sym, subst, ◌∙◌}
 use Rattle.std.proofs.KnownBytes.{Keeps-refl}
 use Rattle.tsp_read.specs.Reads.{IsFile}
@@ -12,8 +13,8 @@ use Rattle.tsp_judge.proofs.Runs.{none_judged}
 use Rattle.tsp_judge.proofs.Comparing.{ends_lacking, ends_comparing, clear_basis}
 use Rattle.tsp_judge.proofs.compared.compare_read.Goals as goal
 
--- plan: by how it ends: of the wrong kind, without a basis (`ends_lacking`), or with the comparison (`ends_comparing`); where
--- solutions are judged, the basis is that of the files (`clear_basis`)
+-- plan: by how it ends: of the wrong kind, without a basis (`ends_lacking`), or with the comparison (`ends_comparing`);
+-- where solutions are judged, the basis is that of the files (`clear_basis`)
 pub compare_with-requires-clause-basis : goal.compare_with-requires-clause-basis
 compare_with-requires-clause-basis g c = λ clear.
     let common = c.in_ok-common.common in

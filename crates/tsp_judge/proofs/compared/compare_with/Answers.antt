@@ -1,4 +1,5 @@
--- The goals of `compare_with` in src/compared.rt: what it ensures.
+-- The goals of `compare_with` in src/compared.rt, which writes the head, and then the lines of the solutions: what it
+-- ensures.
 use Rattle.std.proofs.Common.{◌≡◌, true, false, length, refl, arith, rules, sym, subst}
 use Rattle.tsp_stream.specs.states.Watched.{sink_of}
 use Rattle.tsp_stream.specs.Sink.{HasWritten}

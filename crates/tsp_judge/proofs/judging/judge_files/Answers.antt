@@ -1,4 +1,5 @@
--- The goals of `judge_files` in src/judging.rt: what the report requires.
+-- The goals of `judge_files` in src/judging.rt, which judges a solution and writes the report: what the report
+-- requires.
 use Rattle.tsp_judge.proofs.Runs.{asked_sized}
 use Rattle.tsp_judge.proofs.judging.judge_files.Goals as goal
 

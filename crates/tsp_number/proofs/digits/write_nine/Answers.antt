@@ -1,4 +1,4 @@
--- The goals of `write_nine` in src/digits.rt: what it ensures.
+-- The goals of `write_nine` in src/digits.rt, which writes nine digits so that they end at a place: what it ensures.
 use Rattle.std.proofs.Common.{◌≡◌, ◌+◌, ◌-◌, ◌/◌, ◌%◌, ◌∷◌, ◌++◌, ℕ, List, drop, set, ap, ◌∙◌, arith}
 use Rattle.std.proofs.lemmas.List.{drop-set}
 use Rattle.tsp_number.proofs.DigitPairs.{pair, nine_digits}

@@ -1,4 +1,4 @@
--- The goals of `write_pair` in src/digits.rt: what it ensures.
+-- The goals of `write_pair` in src/digits.rt, which writes two digits at a place: what it ensures.
 use Rattle.std.proofs.Common.{◌≡◌, ◌+◌, ◌%◌, set, arith, length-set}
 use Rattle.std.proofs.lemmas.List.{set_comm, drop-set}
 use Rattle.tsp_number.proofs.DigitPairs.{PAIRS_at}

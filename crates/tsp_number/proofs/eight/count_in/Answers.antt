@@ -1,4 +1,4 @@
--- The goals of `count_in` in src/eight.rt: what it ensures.
+-- The goals of `count_in` in src/eight.rt, which counts the digits at the beginning of eight bytes: what it ensures.
 use Rattle.std.proofs.Common.{arith}
 use Rattle.tsp_number.proofs.DigitLanes.{all_digits, some_digits}
 use Rattle.tsp_number.proofs.eight.count_in.Goals as goal

@@ -1,4 +1,5 @@
--- The goals of `front_of_eight` in src/eight.rt: what its calls require and what it ensures.
+-- The goals of `front_of_eight` in src/eight.rt, which reads the digits at the beginning of eight bytes: what its calls
+-- require and what it ensures.
 use Rattle.std.proofs.Common.{arith}
 use Rattle.std.proofs.lemmas.List.Sums.{prefix_len-le-length}
 use Rattle.std.specs.Char.{is_ascii_digit}

@@ -1,4 +1,5 @@
--- The goals of `value_in` in src/eight.rt: what its call requires and what it ensures.
+-- The goals of `value_in` in src/eight.rt, which reads the first digits of eight bytes as a number: what its call
+-- requires and what it ensures.
 use Rattle.std.proofs.Common.{◌∙◌}
 use Rattle.tsp_number.proofs.EightDigits.{shifted_small, shifted_value}
 use Rattle.tsp_number.proofs.eight.value_in.Goals as goal

@@ -1,4 +1,4 @@
--- The goals of `value_of` in src/eight.rt: what it ensures.
+-- The goals of `value_of` in src/eight.rt, which reads eight digits as a number: what it ensures.
 use Rattle.tsp_number.proofs.EightDigits.{eight_read}
 use Rattle.tsp_number.proofs.eight.value_of.Goals as goal
 

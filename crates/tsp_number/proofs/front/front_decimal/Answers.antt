@@ -1,4 +1,5 @@
--- The goals of `front_decimal` in src/front.rt: that no sum overflows, what its calls require and what it ensures.
+-- The goals of `front_decimal` in src/front.rt, which reads a short decimal at the beginning of bytes: that no sum
+-- overflows, what its calls require and what it ensures.
 use Rattle.std.proofs.Common.{◌≡◌, ◌≢◌, ◌∙◌, ◌+◌, ◌<◌, ◌≤◌, ◌⊎◌, ap, sym, inl, inr, length, get_or, arith, rules, FitsSigned, w64}
 use Rattle.std.proofs.lemmas.Int.{to_z-of_z}
 use Rattle.std.proofs.lemmas.List.{take_rest}
@@ -8,7 +9,8 @@ use Rattle.tsp_number.proofs.Reading.{unsigned_abs-signed}
 use Rattle.tsp_number.proofs.front.front_decimal.Goals as goal
 use Rattle.tsp_number.proofs.front.front_decimal.Goals.{else-point-bytes-via-then-point-bytes+else-bytes-point-eq46, else-point-bytes-via-else-point-bytes, else-count-eq0-via-then-count-eq0+else-places-eq0, else-count-eq0-via-else-count-eq0}
 
--- plan: by the byte at the end: with a point `decimal_front` reads both parts, without one `whole_front`; the word ends there
+-- plan: by the byte at the end: with a point `decimal_front` reads both parts, without one `whole_front`; the word ends
+-- there
 pub overflow_add-size : goal.overflow_add-size
 overflow_add-size c =
     let small = small_decimal _ _ _ _ _ c.front_digits-whole.ensures.size c.front_digits-whole.ensures.few c.front_digits-part.ensures.size c.front_digits-part.ensures.few c.power_of_ten.ensures in

@@ -1,10 +1,12 @@
--- The goals of `front_digits` in src/front.rt: that no sum overflows and what it ensures.
+-- The goals of `front_digits` in src/front.rt, which reads digits at the beginning of bytes: that no sum overflows and
+-- what it ensures.
 use Rattle.std.proofs.Common.{◌≡◌, ◌+◌, ◌*◌, ◌<◌, ◌≤◌, ◌^◌, drop, arith, rules}
 use Rattle.std.proofs.lemmas.List.{take_rest}
 use Rattle.tsp_number.proofs.FrontNumbers.{ReadsFront, counts_on, eight_more, eight_and_more, few_fit}
 use Rattle.tsp_number.proofs.front.front_digits.Goals as goal
 
--- plan: by the digits of the first eight bytes: fewer are all (`eight_more`), or others are counted on (`eight_and_more`)
+-- plan: by the digits of the first eight bytes: fewer are all (`eight_more`), or others are counted on
+-- (`eight_and_more`)
 pub returns-then-count-lt-EIGHT-clause-digits : goal.returns-then-count-lt-EIGHT-clause-digits
 returns-then-count-lt-EIGHT-clause-digits c =
     let eight = c.front_of_eight-value.ensures in

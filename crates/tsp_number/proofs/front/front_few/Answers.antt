@@ -1,4 +1,5 @@
--- The goals of `front_few` in src/front.rt: what its call requires and what it ensures.
+-- The goals of `front_few` in src/front.rt, which reads up to seven digits at the beginning of eight bytes: what its
+-- call requires and what it ensures.
 use Rattle.std.proofs.Common.{arith, rules, sym, inl, inr, FitsSigned, w64}
 use Rattle.std.proofs.lemmas.Int.{to_z-of_z}
 use Rattle.tsp_number.proofs.FrontNumbers.{eight_more, few_front, few_digits, not_few, small_whole}

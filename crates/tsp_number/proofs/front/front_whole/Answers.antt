@@ -1,4 +1,5 @@
--- The goals of `front_whole` in src/front.rt: what its call requires and what it ensures.
+-- The goals of `front_whole` in src/front.rt, which reads a short whole number at the beginning of bytes: what its call
+-- requires and what it ensures.
 use Rattle.std.proofs.Common.{◌≡◌, ◌*◌, pos, ◌*ℤ◌, ℤ, arith, rules, ap, ◌∙◌, FitsSigned, w64, to_z, of_z}
 use Rattle.std.proofs.lemmas.Int.{to_z-of_z}
 use Rattle.std.proofs.lemmas.List.{take_rest}

@@ -1,4 +1,5 @@
--- The goals of `single_digits` in src/front.rt: that no sum overflows, its loop and what it ensures.
+-- The goals of `single_digits` in src/front.rt, which reads digits at the beginning of bytes, one after another: that
+-- no sum overflows, its loop and what it ensures.
 use Rattle.std.proofs.Common.{◌<◌, length, arith, rules, sym, ◌∙◌}
 use Rattle.std.proofs.lemmas.List.Sums.{prefix_len-le-length}
 use Rattle.std.specs.Char.{is_ascii_digit}
@@ -6,7 +7,8 @@ use Rattle.tsp_number.proofs.FrontNumbers.{one_more, room_for_one}
 use Rattle.tsp_number.proofs.Prefixes.{prefix_one_more, prefix_ends}
 use Rattle.tsp_number.proofs.front.single_digits.Goals as goal
 
--- plan: one digit more extends the value (`one_more`), which fits (`room_for_one`); at another byte they end (`prefix_ends`)
+-- plan: one digit more extends the value (`one_more`), which fits (`room_for_one`); at another byte they end
+-- (`prefix_ends`)
 pub overflow_mul-value : goal.overflow_mul-value
 overflow_mul-value c =
     let room = room_for_one _ _ _ c.loop-count.invariant.1 (omega (arith, c.min-end.ensures)) in

@@ -1,4 +1,4 @@
--- The goals of `split_word` in src/scan.rt: what it ensures.
+-- The goals of `split_word` in src/scan.rt, which divides a number word into its parts: what it ensures.
 use Rattle.std.proofs.Common.{rules, arith, ◌≡◌, Some, FitsSigned, w64, ap, ◌∙◌, refl, sym, List, ℕ, ℤ}
 use Rattle.std.proofs.lemmas.Int.{to_z-of_z}
 use Rattle.std.proofs.lemmas.Grind.{common_steps}

@@ -1,4 +1,5 @@
--- The goals of `add_zeros` in src/shift.rt: what it ensures.
+-- The goals of `add_zeros` in src/shift.rt, which multiplies a number by a power of ten, up to the largest of 64 bits:
+-- what it ensures.
 use Rattle.std.proofs.Common.{arith}
 use Rattle.tsp_number.proofs.Scaling.{saturated-past}
 use Rattle.tsp_number.proofs.shift.add_zeros.Goals as goal

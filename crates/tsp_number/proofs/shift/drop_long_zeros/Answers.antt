@@ -1,10 +1,12 @@
--- The goals of `drop_long_zeros` in src/shift.rt: what it ensures.
+-- The goals of `drop_long_zeros` in src/shift.rt, which drops zeros at the end of a number beyond 64 bits: what it
+-- ensures.
 use Rattle.std.proofs.Common.{◌≡◌, Bool, true, false, ◌&&◌, ◌++◌, ◌+◌, ◌-◌, length, arith, refl, sym, ◌∙◌, ◌⊎◌, inl, inr, length-append}
 use Rattle.tsp_number.proofs.Scaling.{CutsWhole, CutsFraction, all_dropped, whole_cut_zeros, whole_cut_rest, fraction_cut_zeros, fraction_cut_rest}
 use Rattle.tsp_number.proofs.shift.drop_long_zeros.Goals as goal
 use Rattle.tsp_number.proofs.shift.drop_long_zeros.Goals.{else-are_zeros-via-then-are_zeros+else-are_zeros-2, else-are_zeros-via-else-are_zeros}
 
--- plan: by where the digits are cut, before the point or after it: all that is dropped is 0, or something isn't (`not_both`)
+-- plan: by where the digits are cut, before the point or after it: all that is dropped is 0, or something isn't
+-- (`not_both`)
 pub returns-then-count-digits : goal.returns-then-count-digits
 returns-then-count-digits c =
     all_dropped (c.args.whole.now ++ c.args.fraction.now) c.args.count c.requires.all_digits

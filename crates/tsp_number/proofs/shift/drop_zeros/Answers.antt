@@ -1,9 +1,11 @@
--- The goals of `drop_zeros` in src/shift.rt: that it divides by no 0, and what it ensures.
+-- The goals of `drop_zeros` in src/shift.rt, which drops zeros at the end of a number, if it has that many: that it
+-- divides by no 0, and what it ensures.
 use Rattle.std.proofs.Common.{arith}
 use Rattle.tsp_number.proofs.Scaling.{pow_above_zero, too_few_zeros, rest_left, no_rest}
 use Rattle.tsp_number.proofs.shift.drop_zeros.Goals as goal
 
--- plan: by the power of ten: it is too large (`too_few_zeros`), divides the number (`no_rest`), or doesn't (`rest_left`)
+-- plan: by the power of ten: it is too large (`too_few_zeros`), divides the number (`no_rest`), or doesn't
+-- (`rest_left`)
 pub returns-then-count-ge20 : goal.returns-then-count-ge20
 returns-then-count-ge20 c = too_few_zeros c.args.size c.args.count (omega arith) (omega arith) c.if-count-ge20.true
 

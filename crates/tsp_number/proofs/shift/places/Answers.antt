@@ -1,4 +1,5 @@
--- The goals of `places` in src/shift.rt: that its sums fit, and what it ensures.
+-- The goals of `places` in src/shift.rt, which returns by how many places a mantissa is shifted: that its sums fit, and
+-- what it ensures.
 use Rattle.std.proofs.Common.{refl, ◌≡◌, ◌≤◌, ◌++◌, ℕ, ℤ, ◌≤ℤ◌, ◌+ℤ◌, ◌-ℤ◌, pos, negsuc, List, length, length-append, arith, w64}
 use Rattle.std.proofs.lemmas.Int.{to_z-of_z, to_z_pos, ints}
 use mir.Val.{SFits, to_z, of_z}

@@ -1,4 +1,4 @@
--- The goals of `shifted` in src/shift.rt: what it ensures.
+-- The goals of `shifted` in src/shift.rt, which returns the size of a number word's number in a unit: what it ensures.
 use Rattle.std.proofs.Common.{◌≡◌, ℕ, ◌<◌, ℤ, pos, ◌+ℤ◌, ◌-ℤ◌, ◌++◌, length, arith, ap, sym, subst, refl, ◌∙◌}
 use Rattle.std.proofs.lemmas.Int.{ints}
 use Rattle.std.specs.Str.Parse.{digits_value}

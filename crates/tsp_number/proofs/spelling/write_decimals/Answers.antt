@@ -1,4 +1,5 @@
--- The goals of `write_decimals` in src/spelling.rt: where the decimals begin, and what they are.
+-- The goals of `write_decimals` in src/spelling.rt, which writes decimals without the zeros at their end: where the
+-- decimals begin, and what they are.
 use Rattle.std.proofs.Common.{◌≡◌, ◌+◌, ◌-◌, ◌/◌, ◌%◌, ◌++◌, suc, ℕ, List, length, drop, ap, ◌∙◌, arith}
 use Rattle.tsp_number.specs.Spelling.{decimals, three_digits}
 use Rattle.tsp_number.proofs.Spellings.{decimals-zeros, two_groups, three_groups, nine_decimals}

@@ -1,11 +1,13 @@
--- The goals of `write_last` in src/spelling.rt: where the decimals begin, and what they are.
+-- The goals of `write_last` in src/spelling.rt, which writes three decimals without the zeros at their end: where the
+-- decimals begin, and what they are.
 use Rattle.std.proofs.Common.{◌≡◌, ◌+◌, ◌-◌, ◌/◌, ◌%◌, ◌∷◌, ℕ, List, length, drop, ap, ◌∙◌, arith}
 use Rattle.std.proofs.lemmas.List.{drop-set}
 use Rattle.tsp_number.specs.Spelling.{decimals}
 use Rattle.tsp_number.proofs.Spellings.{last_three, last_two, last_one}
 use Rattle.tsp_number.proofs.spelling.write_last.Goals as goal
 
--- plan: by which digits of the group are 0: one, two or three of them are written (`last_one`, `last_two`, `last_three`)
+-- plan: by which digits of the group are 0: one, two or three of them are written (`last_one`, `last_two`,
+-- `last_three`)
 pub returns-then-group-gt0-clause-start : goal.returns-then-group-gt0-clause-start
 returns-then-group-gt0-clause-start c =
     let long : length (decimals 3 c.args.group) ≡ 3 = ap length (last_three c.args.group (omega arith)) in

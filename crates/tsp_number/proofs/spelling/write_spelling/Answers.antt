@@ -1,5 +1,5 @@
--- The goals of `write_spelling` in src/spelling.rt: that no difference overflows, what its call requires, where the
--- text begins, and what it is.
+-- The goals of `write_spelling` in src/spelling.rt, which writes the text of a decimal so that it ends at a place: that
+-- no difference overflows, what its call requires, where the text begins, and what it is.
 use Rattle.std.proofs.Common.{◌≡◌, ◌+◌, ◌-◌, ◌/◌, ◌%◌, ◌≤◌, ◌∷◌, ◌++◌, ℕ, List, false, length, drop, ap, sym, ◌∙◌, append_assoc, unsigned_abs, arith, rules}
 use Rattle.std.specs.Prelude.{ℤ, pos, FitsSigned}
 use Rattle.std.specs.Fmt.{decimal}
@@ -32,7 +32,8 @@ begins : (c : Else-count-ge0) → (1 ≤ c.write_digits-start.result) × (c.writ
 begins c = negative_begins c.args.d c.unsigned_abs-size.result c.write_digits-start.result c.write_fraction-point.result c.args.end
     (is_negative c) (most c) (size_is c) c.write_digits-start.ensures.start c.write_fraction-point.ensures.start c.requires.room
 
--- plan: the fraction, the whole part and the sign, each before what the last call left; `spelling_short` for their length
+-- plan: the fraction, the whole part and the sign, each before what the last call left; `spelling_short` for their
+-- length
 pub write_digits-start-requires : goal.write_digits-start-requires
 write_digits-start-requires c =
     let fits : FitsSigned w64 c.nanos-count.result = search rules in

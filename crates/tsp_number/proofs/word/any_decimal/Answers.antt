@@ -1,4 +1,4 @@
--- The goals of `any_decimal` in src/word.rt: what it ensures.
+-- The goals of `any_decimal` in src/word.rt, which reads any decimal word: what it ensures.
 use Rattle.std.proofs.Common.{◌≡◌, ℤ, arith, rules, subst, ◌∙◌, FitsSigned, unsigned_abs, ◌≤◌}
 use Rattle.std.specs.Int.{w128}
 use Rattle.std.proofs.lemmas.Int.{to_z-of_z}
@@ -10,7 +10,8 @@ use Rattle.tsp_number.specs.declared.fault.NumberFault.TheVariants.{LongWord, Ba
 use Rattle.tsp_number.proofs.WordLaws.{decimal_once, decimal_of-reads}
 use Rattle.tsp_number.proofs.word.any_decimal.Goals as goal
 
--- plan: by the first thing that is wrong: each branch gives `ReadsDecimal`, and `decimal_once` that it is the computed answer
+-- plan: by the first thing that is wrong: each branch gives `ReadsDecimal`, and `decimal_once` that it is the computed
+-- answer
 pub returns-then-word-gt-MOST_BYTES : goal.returns-then-word-gt-MOST_BYTES
 returns-then-word-gt-MOST_BYTES c =
     let reads : ReadsDecimal c.args.word.now (Err LongWord) = λ short. omega arith in

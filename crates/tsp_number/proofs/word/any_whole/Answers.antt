@@ -1,4 +1,4 @@
--- The goals of `any_whole` in src/word.rt: what it ensures.
+-- The goals of `any_whole` in src/word.rt, which reads any word of a whole number: what it ensures.
 use Rattle.std.proofs.Common.{◌≡◌, ℤ, pos, ◌*ℤ◌, ◌≤ℤ◌, ◌<ℤ◌, ◌⊎◌, inl, inr, arith, rules, subst, ◌∙◌, FitsSigned, w64}
 use Rattle.std.specs.Int.{w128}
 use Rattle.std.proofs.lemmas.Int.{ints, to_z-of_z, by_lt_z}
@@ -10,7 +10,8 @@ use Rattle.tsp_number.specs.declared.fault.NumberFault.TheVariants.{LongWord, Ba
 use Rattle.tsp_number.proofs.WordLaws.{whole_once, whole_of-reads}
 use Rattle.tsp_number.proofs.word.any_whole.Goals as goal
 
--- plan: by the first thing that is wrong: each branch gives `ReadsWhole`, and `whole_once` that it is the computed answer
+-- plan: by the first thing that is wrong: each branch gives `ReadsWhole`, and `whole_once` that it is the computed
+-- answer
 pub returns-then-word-gt-MOST_BYTES : goal.returns-then-word-gt-MOST_BYTES
 returns-then-word-gt-MOST_BYTES c =
     let reads : ReadsWhole c.args.word.now c.args.low c.args.high (Err LongWord) = λ short. omega arith in

@@ -1,4 +1,4 @@
--- The goals of `compare` in src/outcome.rt: what it ensures.
+-- The goals of `compare` in src/outcome.rt, which compares solutions by the files of the task: what it ensures.
 use Rattle.tsp_perform.proofs.outcome.compare.Goals as goal
 
 -- plan: by whether a certificate is named: the clauses are those of the call

@@ -1,4 +1,4 @@
--- The goals of `perform` in src/outcome.rt: what it ensures.
+-- The goals of `perform` in src/outcome.rt, which does a task and returns its outcome: what it ensures.
 use Rattle.std.proofs.Common.{ℕ, List, Option, None, Some, sym, subst}
 use Rattle.tsp_judge.specs.CheckRun.{Given}
 use Rattle.tsp_judge.specs.Watched.{sink_of}

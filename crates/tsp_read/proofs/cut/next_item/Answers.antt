@@ -1,4 +1,4 @@
--- The goals of `next_item` in src/cut.rt: what it ensures.
+-- The goals of `next_item` in src/cut.rt, which cuts the next item from a text: what it ensures.
 use Rattle.std.proofs.Common.{◌≡◌, ◌≤◌, ℕ, Bool, false, List, ◌∷◌, length, ap, sym, ◌∙◌, length-drop, arith}
 use Rattle.std.proofs.lemmas.Bool.{ne_eqb}
 use Rattle.std.proofs.lemmas.Grind.{common_steps}

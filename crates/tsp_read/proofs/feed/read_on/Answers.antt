@@ -1,4 +1,4 @@
--- The goals of `read_on` in src/feed.rt: what it ensures.
+-- The goals of `read_on` in src/feed.rt, which takes the items of a piece and keeps the rest: what it ensures.
 use Rattle.std.proofs.Common.{◌≡◌, Err, sym, ◌∙◌}
 use Rattle.tsp_read.proofs.BegunSteps.{empty_rest, filled_rest}
 use Rattle.tsp_read.proofs.PausedSteps.{paused_joined, joined_read, paused_kept, to_the_end, to_a_place, of_some}

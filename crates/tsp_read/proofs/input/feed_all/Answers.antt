@@ -1,4 +1,5 @@
--- The goals of `feed_all` in src/input.rt: its loop and what it ensures.
+-- The goals of `feed_all` in src/input.rt, which feeds the bytes of a reader until the answer is settled: its loop and
+-- what it ensures.
 use Rattle.std.proofs.Common.{◌≡◌, Err, refl, sym, ap, subst, ◌∙◌, ◌||◌, arith, take, inl, inr, true, false, ℕ}
 use Rattle.std.specs.Io.KnownBytes.{Consumes}
 use Rattle.std.proofs.lemmas.Bool.{true≢false}

@@ -1,4 +1,4 @@
--- The goals of `take` in src/item.rt: what it ensures.
+-- The goals of `take` in src/item.rt, which takes an item into the state: what it ensures.
 use Rattle.std.proofs.Common.{refl}
 use Rattle.tsp_read.proofs.ReadSteps.{line_ended, word_taken}
 use Rattle.tsp_read.proofs.item.take.Goals as goal

@@ -1,4 +1,4 @@
--- The goals of `take_line` in src/item.rt: what it ensures.
+-- The goals of `take_line` in src/item.rt, which takes a word line into the state: what it ensures.
 use Rattle.tsp_text.specs.Items.{line_item}
 use Rattle.tsp_section.specs.states.CutLine.{seen, cut_item}
 use Rattle.tsp_read.proofs.ReadSteps.{takes_ok}

@@ -1,4 +1,4 @@
--- The goals of `file_of_bytes` in src/read_whole.rt: what it ensures.
+-- The goals of `file_of_bytes` in src/read_whole.rt, which reads a file from the bytes of a text: what it ensures.
 use Rattle.std.proofs.Common.{[], refl}
 use Rattle.tsp_read.proofs.InTime.{bytes_fault, bytes_memory}
 use Rattle.tsp_read.proofs.read_whole.file_of_bytes.Goals as goal

@@ -1,4 +1,4 @@
--- The goals of `file_of_reader` in src/read_whole.rt: what it ensures.
+-- The goals of `file_of_reader` in src/read_whole.rt, which reads a file from a reader: what it ensures.
 use Rattle.tsp_stream.specs.states.Watched.{turn_of}
 use Rattle.tsp_read.proofs.Asking.{read_none}
 use Rattle.tsp_read.proofs.InTime.{in_time, answer_of}

@@ -1,4 +1,4 @@
--- The goals of `count_word` in src/run.rt: what it ensures.
+-- The goals of `count_word` in src/run.rt, which counts a word, and the line's end after it: what it ensures.
 use Rattle.std.proofs.Common.{◌+◌, ◌∷◌, List, ℕ, true, refl, arith}
 use Rattle.tsp_read.specs.declared.count.Count.{Count}
 use Rattle.tsp_read.proofs.RunSteps.{word_runs, line_runs, run_then}

@@ -1,4 +1,4 @@
--- The goals of `few_number` in src/run.rt: what it ensures.
+-- The goals of `few_number` in src/run.rt, which reads a word of up to seven digits: what it ensures.
 use Rattle.std.proofs.Common.{rules, arith, FitsSigned, w64}
 use Rattle.std.proofs.lemmas.Grind.{common_steps}
 use Rattle.std.specs.Prelude.{pos, ◌*ℤ◌}

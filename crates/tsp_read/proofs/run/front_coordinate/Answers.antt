@@ -1,4 +1,4 @@
--- The goals of `front_coordinate` in src/run.rt: what it ensures.
+-- The goals of `front_coordinate` in src/run.rt, which reads the word of a short decimal: what it ensures.
 use Rattle.std.proofs.Common.{arith}
 use Rattle.std.proofs.lemmas.Grind.{common_steps}
 use Rattle.tsp_read.specs.states.WordFront.{left_from}
@@ -14,7 +14,8 @@ number_at_front c = record {
   leaves = c.in-Some-word_end.ensures.left;
 }
 
--- plan: the decimal at the front ends where its word does (`number_at_front`), so it is the word's (`front_reads_decimal`)
+-- plan: the decimal at the front ends where its word does (`number_at_front`), so it is the word's
+-- (`front_reads_decimal`)
 pub returns-in-Some-word_end : goal.returns-in-Some-word_end
 returns-in-Some-word_end c = record {
   word = front_gives _ _ _ _ _ _ (number_at_front c);

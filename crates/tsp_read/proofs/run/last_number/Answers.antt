@@ -1,4 +1,5 @@
--- The goals of `last_number` in src/run.rt: what it ensures.
+-- The goals of `last_number` in src/run.rt, which reads a word of few digits that a line's end follows: what it
+-- ensures.
 use Rattle.std.proofs.Common.{rules, arith, FitsSigned, w64}
 use Rattle.std.proofs.lemmas.Grind.{common_steps}
 use Rattle.std.specs.Prelude.{pos, ◌*ℤ◌}

@@ -1,4 +1,5 @@
--- The goals of `take_all` in src/run.rt: its loop, what its calls require and what it ensures.
+-- The goals of `take_all` in src/run.rt, which takes words and line ends as long as the list takes them: its loop, what
+-- its calls require and what it ensures.
 use Rattle.std.proofs.Common.{◌<◌, length, arith}
 use Rattle.tsp_read.specs.states.ReadingRun.{RunsTo}
 use Rattle.tsp_read.proofs.RunSteps.{same_run, run_then}

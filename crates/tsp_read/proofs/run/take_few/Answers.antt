@@ -1,4 +1,4 @@
--- The goals of `take_few` in src/run.rt: what it ensures.
+-- The goals of `take_few` in src/run.rt, which takes a word of few digits, if the list takes it: what it ensures.
 use Rattle.tsp_read.proofs.RunSteps.{step_then}
 use Rattle.tsp_read.proofs.run.take_few.Goals as goal
 

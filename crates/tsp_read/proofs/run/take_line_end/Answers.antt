@@ -1,4 +1,4 @@
--- The goals of `take_line_end` in src/run.rt: what it ensures.
+-- The goals of `take_line_end` in src/run.rt, which counts a line's end: what it ensures.
 use Rattle.std.proofs.Common.{refl, ap, ◌∙◌, ◌∷◌, arith, length}
 use Rattle.tsp_read.proofs.RunSteps.{line_runs}
 use Rattle.tsp_read.proofs.run.take_line_end.Goals as goal

@@ -1,4 +1,4 @@
--- The goals of `take_number` in src/run.rt: what it ensures.
+-- The goals of `take_number` in src/run.rt, which takes a number that was found, if the list takes it: what it ensures.
 use Rattle.std.proofs.Common.{rules, FitsSigned, w64}
 use Rattle.std.proofs.lemmas.Int.{to_z-of_z}
 use Rattle.tsp_text.specs.SectionNumbers.{IsWhole}

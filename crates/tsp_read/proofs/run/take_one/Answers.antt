@@ -1,4 +1,4 @@
--- The goals of `take_one` in src/run.rt: what it ensures.
+-- The goals of `take_one` in src/run.rt, which takes a word or a line's end: what it ensures.
 use Rattle.tsp_read.proofs.RunSteps.{step_then}
 use Rattle.tsp_read.proofs.run.take_one.Goals as goal
 

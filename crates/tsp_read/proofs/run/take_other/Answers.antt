@@ -1,4 +1,5 @@
--- The goals of `take_other` in src/run.rt: what its calls require and what it ensures.
+-- The goals of `take_other` in src/run.rt, which takes a line's end, or a number of up to 18 digits: what its calls
+-- require and what it ensures.
 use Rattle.std.proofs.Common.{arith}
 use Rattle.tsp_read.proofs.RunSteps.{step_then}
 use Rattle.tsp_read.proofs.run.take_other.Goals as goal

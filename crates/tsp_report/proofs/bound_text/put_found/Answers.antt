@@ -1,4 +1,4 @@
--- The goals of `put_found` in src/bound_text.rt: what it ensures.
+-- The goals of `put_found` in src/bound_text.rt, which adds the bound and `yes`, or `no`: what it ensures.
 use Rattle.std.proofs.Common.{◌++◌, rules}
 use Rattle.std.specs.Prelude.{codes, FitsSigned}
 use Rattle.std.specs.Int.{w128}

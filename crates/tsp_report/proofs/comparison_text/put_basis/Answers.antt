@@ -1,4 +1,5 @@
--- The goals of `put_basis` in src/comparison_text.rt: what it ensures.
+-- The goals of `put_basis` in src/comparison_text.rt, which adds the lines that are the same for all solutions: what it
+-- ensures.
 use Rattle.std.proofs.Common.{◌++◌}
 use Rattle.std.specs.Prelude.{codes, decimal}
 use Rattle.tsp_stream.specs.states.WriteProgress.{way_of}

@@ -1,4 +1,5 @@
--- The goals of `put_gap_words` in src/comparison_text.rt: what it ensures.
+-- The goals of `put_gap_words` in src/comparison_text.rt, which adds by how much a length is above a bound: what it
+-- ensures.
 use Rattle.std.proofs.Common.{◌≡◌, rules, true, false, arith}
 use Rattle.std.specs.Prelude.{FitsSigned, pos}
 use Rattle.std.specs.Ordering.{int_eq}

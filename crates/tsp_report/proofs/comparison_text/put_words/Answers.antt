@@ -1,4 +1,4 @@
--- The goals of `put_words` in src/comparison_text.rt: what it ensures.
+-- The goals of `put_words` in src/comparison_text.rt, which adds the words on a verdict: what it ensures.
 use Rattle.std.proofs.Common.{◌++◌, rules}
 use Rattle.std.specs.Prelude.{codes, decimal, FitsSigned}
 use Rattle.std.specs.Fmt.{signed_decimal}

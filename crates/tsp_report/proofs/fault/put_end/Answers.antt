@@ -1,4 +1,4 @@
--- The goals of `put_end` in src/fault.rt: what it ensures.
+-- The goals of `put_end` in src/fault.rt, which adds the name of a fault at the end of a file: what it ensures.
 use Rattle.std.proofs.Common.{◌++◌, subst}
 use Rattle.std.specs.Prelude.{codes}
 use Rattle.tsp_stream.specs.states.WriteProgress.{Carried, way_of}

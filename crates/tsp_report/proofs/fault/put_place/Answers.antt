@@ -1,4 +1,4 @@
--- The goals of `put_place` in src/fault.rt: what it ensures.
+-- The goals of `put_place` in src/fault.rt, which adds the place of a fault and its name: what it ensures.
 use Rattle.std.proofs.Common.{◌++◌}
 use Rattle.std.specs.Prelude.{codes, decimal}
 use Rattle.tsp_text.specs.ReadFaultText.{line_fault_text}

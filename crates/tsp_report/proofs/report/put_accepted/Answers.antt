@@ -1,4 +1,4 @@
--- The goals of `put_accepted` in src/report.rt: what it ensures.
+-- The goals of `put_accepted` in src/report.rt, which adds the length, the bound and `yes`: what it ensures.
 use Rattle.std.proofs.Common.{◌++◌, rules}
 use Rattle.std.specs.Prelude.{codes, FitsSigned}
 use Rattle.std.specs.Fmt.{signed_decimal}

@@ -1,4 +1,4 @@
--- The goals of `put_bound` in src/report.rt: what it ensures.
+-- The goals of `put_bound` in src/report.rt, which adds the bound, and `optimal` or the gap: what it ensures.
 use Rattle.std.proofs.Common.{◌++◌, ◌≡◌, rules}
 use Rattle.std.specs.Prelude.{codes, FitsSigned, ◌-ℤ◌}
 use Rattle.std.specs.Int.{w64, w128}

@@ -1,4 +1,4 @@
--- The goals of `put_gap` in src/report.rt: what it ensures.
+-- The goals of `put_gap` in src/report.rt, which adds by how much a length is above a bound: what it ensures.
 use Rattle.std.proofs.Common.{◌≡◌, ◌++◌, rules, false, arith}
 use Rattle.std.specs.Prelude.{codes, FitsSigned, pos}
 use Rattle.std.specs.Ordering.{int_eq}

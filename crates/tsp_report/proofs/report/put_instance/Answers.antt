@@ -1,4 +1,4 @@
--- The goals of `put_instance` in src/report.rt: what it ensures.
+-- The goals of `put_instance` in src/report.rt, which adds the lines on an instance: what it ensures.
 use Rattle.std.proofs.Common.{◌++◌, ◌∙◌, ap, subst, Option, ℕ, List}
 use Rattle.std.specs.Prelude.{unwrap_or}
 use Rattle.tsp_stream.specs.states.WriteProgress.{Carried, way_of}

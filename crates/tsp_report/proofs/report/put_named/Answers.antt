@@ -1,4 +1,4 @@
--- The goals of `put_named` in src/report.rt: what it ensures.
+-- The goals of `put_named` in src/report.rt, which adds words and a number: what it ensures.
 use Rattle.tsp_stream.specs.states.WriteProgress.{way_of}
 use Rattle.tsp_stream.proofs.Carrying.{carried_then}
 use Rattle.tsp_report.proofs.report.put_named.Goals as goal

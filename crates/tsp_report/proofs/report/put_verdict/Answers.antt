@@ -1,4 +1,4 @@
--- The goals of `put_verdict` in src/report.rt: what it ensures.
+-- The goals of `put_verdict` in src/report.rt, which adds the lines on a verdict: what it ensures.
 use Rattle.std.proofs.Common.{◌++◌, rules}
 use Rattle.std.specs.Prelude.{codes, decimal, FitsSigned}
 use Rattle.std.specs.Int.{w64}

@@ -1,4 +1,4 @@
--- The goals of `put_canonical` in src/shown.rt: what it ensures.
+-- The goals of `put_canonical` in src/shown.rt, which adds the length of the tour 1, 2, .., n: what it ensures.
 use Rattle.std.proofs.Common.{◌++◌, rules}
 use Rattle.std.specs.Prelude.{codes, FitsSigned}
 use Rattle.tsp_stream.specs.states.WriteProgress.{way_of}

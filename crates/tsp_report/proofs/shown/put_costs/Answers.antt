@@ -1,4 +1,4 @@
--- The goals of `put_costs` in src/shown.rt: what it ensures.
+-- The goals of `put_costs` in src/shown.rt, which adds the lines that instances alone have: what it ensures.
 use Rattle.std.proofs.Common.{◌++◌, ◌∙◌, ap, subst, Option, ℕ, List, rules}
 use Rattle.std.specs.Prelude.{ℤ, FitsSigned}
 use Rattle.std.specs.Int.{w64}

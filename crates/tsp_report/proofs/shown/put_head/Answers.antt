@@ -1,4 +1,4 @@
--- The goals of `put_head` in src/shown.rt: what it ensures.
+-- The goals of `put_head` in src/shown.rt, which adds the lines that every file has: what it ensures.
 use Rattle.std.proofs.Common.{◌++◌, subst, Option, ℕ, List, []}
 use Rattle.std.specs.Option.{option_map_or}
 use Rattle.tsp_stream.specs.states.WriteProgress.{Carried, way_of}

@@ -1,4 +1,5 @@
--- The goals of `put_rest` in src/shown.rt: what it ensures.
+-- The goals of `put_rest` in src/shown.rt, which adds the lines that depend on TYPE, and unknown keywords: what it
+-- ensures.
 use Rattle.std.proofs.Common.{ap, ◌∙◌, map}
 use Rattle.tsp_draft.specs.Fields.{Fields}
 use Rattle.tsp_stream.specs.states.WriteProgress.{way_of}

@@ -13,7 +13,8 @@ use Rattle.tsp_round.proofs.NumbersReadBack.{NumberLaws}
 use Rattle.tsp_round.proofs.Joined.{text_spelled}
 use Rattle.tsp_round.proofs.round_trip.canonical_texts_are_read_back.Goals as goal
 
--- plan: the text parses to the file (`text_spelled`), and a text has one answer, so it is read as no other (`only_this`)
+-- plan: the text parses to the file (`text_spelled`), and a text has one answer, so it is read as no other
+-- (`only_this`)
 pub returns-clause-spelled : goal.returns-clause-spelled
 returns-clause-spelled c =
     let numbers = c.written_numbers_are_read_back.ensures in

@@ -1,4 +1,5 @@
--- The goals of `customers_total` in src/given_back.rt: its loop and what it ensures.
+-- The goals of `customers_total` in src/given_back.rt, which sums the potentials of the customers: its loop and what it
+-- ensures.
 use Rattle.std.proofs.Common.{◌≡◌, ◌∙◌, ◌+◌, ◌-◌, ℕ, ℤ, length, get_or, ap, arith, rules, to_z, of_z, FitsSigned, ◌==◌}
 use Rattle.std.specs.Prelude.{pos, ◌+ℤ◌, if◌then◌else◌}
 use Rattle.std.specs.Int.{w64, w128}

@@ -1,4 +1,4 @@
--- The goals of `given_by` in src/given_back.rt: what it ensures.
+-- The goals of `given_by` in src/given_back.rt, which returns what the multiplier of a set gives back: what it ensures.
 use Rattle.std.proofs.Common.{◌≡◌, ◌∙◌, ℕ, ℤ, List, true, false, ap, ap₂, subst, rules, FitsSigned}
 use Rattle.std.specs.Prelude.{pos, int_lt, ◌*ℤ◌}
 use Rattle.std.specs.Int.{w64, w128}

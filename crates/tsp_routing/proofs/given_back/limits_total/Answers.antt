@@ -1,4 +1,5 @@
--- The goals of `limits_total` in src/given_back.rt: that no sum overflows, and its loop.
+-- The goals of `limits_total` in src/given_back.rt, which sums what the multipliers of all sets give back: that no sum
+-- overflows, and its loop.
 use Rattle.std.proofs.Common.{◌≡◌, ◌∙◌, ◌+◌, ◌-◌, ◌*◌, ◌^◌, ◌<◌, ℕ, ℤ, List, drop, length, get_or, ap, ap₂, subst, arith, rules, to_z, of_z, FitsSigned}
 use Rattle.std.specs.Prelude.{pos, neg_ℤ, unsigned_abs, ◌+ℤ◌}
 use Rattle.std.specs.Int.{w64, w128}

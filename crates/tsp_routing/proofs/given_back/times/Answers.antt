@@ -1,4 +1,4 @@
--- The goals of `times` in src/given_back.rt: what it ensures.
+-- The goals of `times` in src/given_back.rt, which multiplies a number by a count: what it ensures.
 use Rattle.std.proofs.Common.{◌∙◌, rules, FitsSigned}
 use Rattle.std.specs.Int.{w64}
 use Rattle.std.proofs.lemmas.Int.{to_z-of_z}

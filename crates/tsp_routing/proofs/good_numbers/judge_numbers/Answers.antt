@@ -1,4 +1,5 @@
--- The goals of `judge_numbers` in src/good_numbers.rt: what it ensures.
+-- The goals of `judge_numbers` in src/good_numbers.rt, which says whether the numbers of a leaf are good, and copies
+-- them: what it ensures.
 use Rattle.std.proofs.Common.{false, refl, length, drop}
 use Rattle.std.specs.Prelude.{pos, neg_ℤ}
 use Rattle.std.proofs.lemmas.Bool.{both_ways}

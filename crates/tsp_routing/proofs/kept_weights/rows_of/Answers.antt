@@ -1,4 +1,4 @@
--- The goals of `rows_of` in src/kept_weights.rt: its loop.
+-- The goals of `rows_of` in src/kept_weights.rt, which makes the rows of all nodes: its loop.
 use Rattle.std.proofs.Common.{◌≡◌, ◌+◌, ◌++◌, [], ◌∷◌, ℕ, subst, sym}
 use Rattle.tsp_cases.specs.states.Lent.{lent_in}
 use Rattle.tsp_cases.specs.states.Combed.{set_weight}

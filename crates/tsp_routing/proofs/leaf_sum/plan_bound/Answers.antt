@@ -1,4 +1,5 @@
--- The goals of `plan_bound` in src/leaf_sum.rt: what it ensures.
+-- The goals of `plan_bound` in src/leaf_sum.rt, which returns the bound of a leaf by the least weight of a route: what
+-- it ensures.
 use Rattle.std.proofs.Common.{◌≡◌, ◌∙◌, ◌-◌, ℕ, ℤ, ap, ap₂, subst₂, arith, rules, to_z, of_z, FitsSigned}
 use Rattle.std.specs.Prelude.{pos, ◌+ℤ◌, ◌-ℤ◌, ◌*ℤ◌}
 use Rattle.std.specs.Int.{w128}

@@ -1,4 +1,4 @@
--- The goals of `rounded_up` in src/leaf_sum.rt: what it ensures.
+-- The goals of `rounded_up` in src/leaf_sum.rt, which rounds a sum up to a whole number at a scale: what it ensures.
 use Rattle.tsp_theory.proofs.Division.{least_computed}
 use Rattle.tsp_routing.proofs.leaf_sum.rounded_up.Goals as goal
 

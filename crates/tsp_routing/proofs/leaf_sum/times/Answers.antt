@@ -1,4 +1,5 @@
--- The goals of `times` in src/leaf_sum.rt: that the product does not overflow, and what it ensures.
+-- The goals of `times` in src/leaf_sum.rt, which multiplies a number by a count: that the product does not overflow,
+-- and what it ensures.
 use Rattle.tsp_routing.proofs.RouteProducts.{product_fits, product_is}
 use Rattle.tsp_routing.proofs.leaf_sum.times.Goals as goal
 

@@ -1,4 +1,5 @@
--- The goals of `best_entry` in src/least_walk.rt: what it ensures.
+-- The goals of `best_entry` in src/least_walk.rt, which finds the entry of a node by those of the next nodes: what it
+-- ensures.
 use Rattle.tsp_routing.specs.states.Onwards.{entry_at}
 use Rattle.tsp_routing.proofs.least_walk.best_entry.Goals as goal
 

@@ -1,4 +1,5 @@
--- The goals of `entry` in src/least_walk.rt: that an index is in range, what its call requires and what it ensures.
+-- The goals of `entry` in src/least_walk.rt, which finds the entry of a node for the next load: that an index is in
+-- range, what its call requires and what it ensures.
 use Rattle.std.proofs.Common.{◌≡◌, ◌+◌, ◌-◌, ◌*◌, ◌<◌, ◌∙◌, ℕ, length, get_or, ap, subst, sym, arith}
 use Rattle.std.specs.Global.{Vec}
 use Rattle.tsp_routing.specs.declared.onward.Onward.{Onward}

@@ -1,4 +1,5 @@
--- The goals of `entry_around` in src/least_walk.rt: what its calls require and what it ensures.
+-- The goals of `entry_around` in src/least_walk.rt, which finds the entry with every next node but the node itself and
+-- the depot: what its calls require and what it ensures.
 use Rattle.std.proofs.Common.{◌≡◌, ◌≢◌, ◌<◌, ℕ, sym, ◌∙◌, arith, inl, inr}
 use Rattle.tsp_theory.specs.Routing.{IsCustomer}
 use Rattle.tsp_routing.specs.WalkTables.{IsEntryBelowTo, IsEntryMetTo}

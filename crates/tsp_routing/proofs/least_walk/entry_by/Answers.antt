@@ -1,4 +1,4 @@
--- The goals of `entry_by` in src/least_walk.rt: what it ensures.
+-- The goals of `entry_by` in src/least_walk.rt, which improves an entry by one next node: what it ensures.
 use Rattle.std.proofs.Common.{◌≡◌, ◌+◌, ◌<◌, ◌∙◌, ℕ, length, ap, sym, subst, arith}
 use Rattle.std.specs.Prelude.{ℤ, ◌+ℤ◌}
 use Rattle.std.proofs.lemmas.Int.{ints}

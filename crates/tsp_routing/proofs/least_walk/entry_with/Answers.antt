@@ -1,4 +1,5 @@
--- The goals of `entry_with` in src/least_walk.rt: its loop, what its call requires and what it ensures.
+-- The goals of `entry_with` in src/least_walk.rt, which improves an entry by the next nodes of a range: its loop, what
+-- its call requires and what it ensures.
 use Rattle.std.proofs.Common.{◌≡◌, ℕ, ◌+◌, ◌-◌, subst, arith}
 use Rattle.tsp_routing.specs.WalkTables.{IsEntryBelowTo, IsEntryMetTo}
 use Rattle.tsp_routing.specs.states.Onwards.{onward_entry, entry_at}

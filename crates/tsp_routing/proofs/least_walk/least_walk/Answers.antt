@@ -1,4 +1,4 @@
--- The goals of `least_walk` in src/least_walk.rt: its loop and what it ensures.
+-- The goals of `least_walk` in src/least_walk.rt, which finds the least weight of a walk: its loop and what it ensures.
 use Rattle.std.proofs.Common.{◌≡◌, ◌+◌, ◌-◌, ◌*◌, ◌∙◌, ℕ, ℤ, List, [], ◌∷◌, ◌++◌, length, subst, sym, ap, arith, length-append}
 use Rattle.std.specs.Prelude.{Some}
 use Rattle.std.specs.Global.{Vec}

@@ -1,4 +1,4 @@
--- The goals of `next_row` in src/least_walk.rt: its loop and what it ensures.
+-- The goals of `next_row` in src/least_walk.rt, which makes the row of the next load: its loop and what it ensures.
 use Rattle.std.proofs.Common.{◌≡◌, ◌+◌, ◌*◌, ◌∙◌, ℕ, List, [], ◌∷◌, ◌++◌, length, subst, sym, ap, arith, length-append}
 use Rattle.std.specs.List.{All}
 use Rattle.std.proofs.lemmas.List.Elements.{All-push, All-from_recursion}

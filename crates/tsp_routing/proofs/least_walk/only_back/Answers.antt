@@ -1,4 +1,5 @@
--- The goals of `only_back` in src/least_walk.rt: what it ensures.
+-- The goals of `only_back` in src/least_walk.rt, which is the entry with the way back to the depot alone: what it
+-- ensures.
 use Rattle.std.proofs.Common.{◌≡◌, ℕ, ◌+◌, subst, sym, refl, arith}
 use Rattle.std.specs.Prelude.{pos, neg_ℤ}
 use Rattle.std.proofs.lemmas.Int.{ints}

@@ -1,4 +1,5 @@
--- The goals of `start` in src/least_walk.rt: what its call requires and what it ensures.
+-- The goals of `start` in src/least_walk.rt, which finds the least weight of a walk by the last row: what its call
+-- requires and what it ensures.
 use Rattle.std.proofs.Common.{◌≡◌, ◌+◌, ◌-◌, ◌*◌, ◌<◌, ◌∙◌, ℕ, length, get_or, ap, subst, sym, arith}
 use Rattle.std.specs.Prelude.{pos, neg_ℤ}
 use Rattle.std.specs.Global.{Vec}

@@ -1,4 +1,5 @@
--- The goals of `start_by` in src/least_walk.rt: its loop and what it ensures.
+-- The goals of `start_by` in src/least_walk.rt, which finds the least weight of a walk by the last row's entries: its
+-- loop and what it ensures.
 use Rattle.std.proofs.Common.{◌≢◌, ◌+◌, ℕ, subst, ap, arith, inl, inr}
 use Rattle.std.specs.Prelude.{◌+ℤ◌}
 use Rattle.std.proofs.lemmas.Int.{ints}
@@ -7,8 +8,8 @@ use Rattle.tsp_theory.specs.states.Nearest.{least_at}
 use Rattle.tsp_routing.specs.states.Onwards.{entry_at}
 use Rattle.tsp_routing.proofs.least_walk.start_by.Goals as goal
 
--- plan: by whether a customer is the one just tried, whose start `own` bounds, or an earlier one, which the start before
--- bounded
+-- plan: by whether a customer is the one just tried, whose start `own` bounds, or an earlier one, which the start
+-- before bounded
 pub nodes-preserved : goal.nodes-preserved
 nodes-preserved g c =
     let value = g.S.Sum.value in

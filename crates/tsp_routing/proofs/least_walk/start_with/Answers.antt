@@ -1,4 +1,5 @@
--- The goals of `start_with` in src/least_walk.rt: what it ensures.
+-- The goals of `start_with` in src/least_walk.rt, which improves the least weight by the walk to one customer and on:
+-- what it ensures.
 use Rattle.std.proofs.Common.{◌≡◌, ◌<◌, ℕ, length, get_or, ap, arith, inr}
 use Rattle.std.specs.Prelude.{ℤ, ◌+ℤ◌}
 use Rattle.std.proofs.lemmas.Int.{ints}

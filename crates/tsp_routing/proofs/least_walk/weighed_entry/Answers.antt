@@ -1,4 +1,5 @@
--- The goals of `weighed_entry` in src/least_walk.rt: what it ensures.
+-- The goals of `weighed_entry` in src/least_walk.rt, which finds the entry of a node, whose row is kept or made: what
+-- it ensures.
 use Rattle.std.proofs.Common.{◌≡◌, ℕ, subst, sym}
 use Rattle.tsp_format.specs.Nodes.{IsNode}
 use Rattle.tsp_theory.specs.states.Nearest.{least_at}

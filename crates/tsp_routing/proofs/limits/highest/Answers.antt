@@ -1,4 +1,5 @@
--- The goals of `highest` in src/limits.rt: its loop and what it ensures.
+-- The goals of `highest` in src/limits.rt, which counts how often plans of a case cross a set at most: its loop and
+-- what it ensures.
 use Rattle.std.proofs.Common.{◌∙◌, ℕ, List, [], ◌∷◌, take, get_or, false, sym, ap, arith}
 use Rattle.std.proofs.lemmas.List.{take_more}
 use Rattle.tsp_cases.specs.declared.decision.Decision.{Decision}

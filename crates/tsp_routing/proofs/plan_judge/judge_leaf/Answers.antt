@@ -1,4 +1,5 @@
--- The goals of `judge_leaf` in src/plan_judge.rt: the facts of the leaf that it makes, and what it ensures.
+-- The goals of `judge_leaf` in src/plan_judge.rt, which bounds the leaf with these numbers, if they are good: the facts
+-- of the leaf that it makes, and what it ensures.
 use Rattle.std.proofs.Common.{◌≡◌, ◌∙◌, ℕ, ℤ, List, length, take, drop, true, refl, ap, sym, subst}
 use Rattle.std.specs.Prelude.{Option, None}
 use Rattle.std.proofs.lemmas.Bool.{false≢true}

@@ -1,4 +1,5 @@
--- The goals of `leaf_bound` in src/plan_leaf.rt: the facts of the sum that it makes, and what it ensures.
+-- The goals of `leaf_bound` in src/plan_leaf.rt, which bounds a leaf at a case: the facts of the sum that it makes, and
+-- what it ensures.
 use Rattle.std.proofs.Common.{◌≡◌, ◌∙◌, ◌+◌, ◌-◌, ◌*◌, ℕ, ℤ, List, length, refl, ap, ap₂, sym, subst, arith, rules, to_z, of_z, FitsSigned}
 use Rattle.std.specs.Prelude.{pos, ◌-ℤ◌, ◌*ℤ◌}
 use Rattle.std.specs.Global.{Vec}

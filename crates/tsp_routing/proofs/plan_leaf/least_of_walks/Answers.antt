@@ -1,4 +1,5 @@
--- The goals of `least_of_walks` in src/plan_leaf.rt: the facts of the walks that it makes, and what it ensures.
+-- The goals of `least_of_walks` in src/plan_leaf.rt, which finds the least weight of a walk under a leaf's numbers: the
+-- facts of the walks that it makes, and what it ensures.
 use Rattle.std.proofs.Common.{◌≡◌, ◌∙◌, ◌≤◌, ℕ, ℤ, List, length, ap, sym, subst}
 use Rattle.std.specs.Prelude.{◌-ℤ◌}
 use Rattle.std.proofs.lemmas.List.{length-map}

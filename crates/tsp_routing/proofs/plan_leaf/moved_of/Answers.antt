@@ -1,4 +1,5 @@
--- The goals of `moved_of` in src/plan_leaf.rt: the facts of the multiplied families that it makes, and what it ensures.
+-- The goals of `moved_of` in src/plan_leaf.rt, which lessens each potential by the multipliers of the node's sets: the
+-- facts of the multiplied families that it makes, and what it ensures.
 use Rattle.std.proofs.Common.{◌≡◌, ◌∙◌, ◌+◌, ℕ, ℤ, List, replicate, ap, arith}
 use Rattle.std.specs.Prelude.{pos, neg_ℤ, ◌+ℤ◌}
 use Rattle.std.specs.Int.{w64, int_wrap}

@@ -1,4 +1,5 @@
--- The goals of `count_light` in src/units.rt: its loop and what it ensures.
+-- The goals of `count_light` in src/units.rt, which counts the customers that demand less than a unit: its loop and
+-- what it ensures.
 use Rattle.std.proofs.Common.{◌≡◌, ◌∙◌, ℕ, ap, arith}
 use Rattle.std.proofs.lemmas.Int.{ints}
 use Rattle.tsp_format.specs.Nodes.{nodes_to}

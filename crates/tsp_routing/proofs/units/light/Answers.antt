@@ -1,4 +1,4 @@
--- The goals of `light` in src/units.rt: what it ensures.
+-- The goals of `light` in src/units.rt, which is 1 for a customer that demands less than a unit: what it ensures.
 use Rattle.std.proofs.Common.{arith}
 use Rattle.tsp_routing.specs.states.Demands.{loads_problem}
 use Rattle.tsp_routing.proofs.LightNodes.{light_depot, light_some, light_none}

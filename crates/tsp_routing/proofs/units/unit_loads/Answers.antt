@@ -1,4 +1,5 @@
--- The goals of `unit_loads` in src/units.rt: its loop and what it ensures.
+-- The goals of `unit_loads` in src/units.rt, which counts loads and capacity in parts of a unit: its loop and what it
+-- ensures.
 use Rattle.std.proofs.Common.{◌≡◌, ◌∙◌, ◌<◌, ◌+◌, ◌*◌, ◌/◌, ℕ, List, length, refl, sym, ap, subst, arith, inl, inr, to_z, of_z}
 use Rattle.std.specs.Prelude.{ℤ, nat_abs}
 use Rattle.std.specs.Int.{w64}

@@ -1,5 +1,5 @@
--- The goals of `judged_plans` in src/verdict.rt: the facts of the setting that it makes, what its call requires and
--- what it ensures.
+-- The goals of `judged_plans` in src/verdict.rt, which judges the families, the branches and the leaves: the facts of
+-- the setting that it makes, what its call requires and what it ensures.
 use Rattle.std.proofs.Common.{◌≡◌, ◌∙◌, ◌+◌, ℕ, ℤ, List, length, ap, ap₂, sym, subst, subst₂, arith, rules, to_z, of_z, FitsSigned}
 use Rattle.std.specs.Prelude.{nat_abs}
 use Rattle.std.specs.Global.{Vec}

@@ -1,4 +1,4 @@
--- The goals of `leaf_verdict` in src/verdict.rt: what it ensures.
+-- The goals of `leaf_verdict` in src/verdict.rt, which judges the leaves: what it ensures.
 use Rattle.std.proofs.Common.{◌≡◌, ◌∙◌, ◌+◌, ◌*◌, ◌<◌, ◌≤◌, ℕ, [], ◌∷◌, length, true, ap, subst}
 use Rattle.std.specs.Prelude.{nat_le}
 use Rattle.std.proofs.lemmas.Bool.{le-leb}

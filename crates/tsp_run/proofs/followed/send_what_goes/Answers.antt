@@ -1,4 +1,5 @@
--- The goals of `send_what_goes` in src/followed.rt: its loop.
+-- The goals of `send_what_goes` in src/followed.rt, which sends a text to standard error as far as that takes it: its
+-- loop.
 use Rattle.std.proofs.Common.{rules, ◌++◌, take}
 use Rattle.std.proofs.KnownBytes.{Appends-trans}
 use Rattle.tsp_run.proofs.followed.send_what_goes.Goals as goal

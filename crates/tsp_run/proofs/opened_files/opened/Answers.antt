@@ -1,4 +1,4 @@
--- The goals of `opened` in src/opened_files.rt: what it ensures.
+-- The goals of `opened` in src/opened_files.rt, which opens the files of a task: what it ensures.
 use Rattle.std.proofs.Common.{rules}
 use Rattle.tsp_run.specs.ComparisonRun.{IsFresh}
 use Rattle.tsp_run.proofs.Openings.{task_by}

@@ -1,4 +1,5 @@
--- The goals of `opened_to_compare` in src/opened_files.rt: what it ensures.
+-- The goals of `opened_to_compare` in src/opened_files.rt, which opens the files of a comparison but the solutions:
+-- what it ensures.
 use Rattle.std.proofs.Common.{rules}
 use Rattle.tsp_run.specs.ComparisonRun.{IsFresh}
 use Rattle.tsp_run.proofs.Openings.{comparison_by}

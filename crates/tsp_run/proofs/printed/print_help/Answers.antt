@@ -1,4 +1,4 @@
--- The goals of `print_help` in src/printed.rt: what it ensures.
+-- The goals of `print_help` in src/printed.rt, which prints the help of `clap`: what it ensures.
 use Rattle.std.proofs.Common.{inl}
 use Rattle.tsp_run.proofs.printed.print_help.Goals as goal
 

@@ -1,4 +1,4 @@
--- The goals of `print_version` in src/printed.rt: what it ensures.
+-- The goals of `print_version` in src/printed.rt, which prints the version: what it ensures.
 use Rattle.std.proofs.Common.{◌∙◌, subst, inl}
 use Rattle.tsp_judge.specs.Watched.{sink_of}
 use Rattle.tsp_stream.specs.Sink.{Writes}

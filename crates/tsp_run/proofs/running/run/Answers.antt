@@ -1,4 +1,4 @@
--- The goals of `run` in src/running.rt: what it ensures.
+-- The goals of `run` in src/running.rt, which does what a command line asks for: what it ensures.
 use Rattle.std.proofs.Common.{◌≡◌, ◌||◌, ℕ, Bool, false, List, Option, Result, refl, sym, ◌∙◌, ap, subst, map, drop, Ok, Err, OnOk}
 use Rattle.std.proofs.KnownBytes.{Keeps-refl}
 use Rattle.std.specs.declared.io.Error.{Error}

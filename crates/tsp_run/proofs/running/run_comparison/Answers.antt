@@ -1,4 +1,4 @@
--- The goals of `run_comparison` in src/running.rt: what it ensures.
+-- The goals of `run_comparison` in src/running.rt, which runs a comparison and returns how it ended: what it ensures.
 use Rattle.std.proofs.Common.{Result, Ok, Err, OnOk}
 use Rattle.tsp_run.proofs.Tellings.{tells_compared, tells_more}
 use Rattle.tsp_run.proofs.running.run_comparison.Goals as goal

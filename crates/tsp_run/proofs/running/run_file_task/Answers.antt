@@ -1,4 +1,4 @@
--- The goals of `run_file_task` in src/running.rt: what it ensures.
+-- The goals of `run_file_task` in src/running.rt, which runs a task on files and returns how it ended: what it ensures.
 use Rattle.tsp_run.proofs.running.run_file_task.Goals as goal
 
 pub returns : goal.returns

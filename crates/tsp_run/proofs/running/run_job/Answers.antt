@@ -1,4 +1,4 @@
--- The goals of `run_job` in src/running.rt: what it ensures.
+-- The goals of `run_job` in src/running.rt, which does a job and returns how it ended: what it ensures.
 use Rattle.std.proofs.Common.{◌≡◌, refl, subst, Ok}
 use Rattle.std.proofs.KnownBytes.{Keeps-refl}
 use Rattle.tsp_cli.specs.Tasks.{GivesTask}

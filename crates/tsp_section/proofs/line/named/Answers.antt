@@ -1,4 +1,4 @@
--- The goals of `named` in src/line.rt: what it ensures.
+-- The goals of `named` in src/line.rt, which returns the value that a keyword's word names: what it ensures.
 use Rattle.std.proofs.Common.{sym}
 use Rattle.tsp_section.proofs.line.named.Goals as goal
 

@@ -1,4 +1,4 @@
--- The goals of `move_to_end` in src/moved.rt: what it ensures.
+-- The goals of `move_to_end` in src/moved.rt, which moves a list to the end of others: what it ensures.
 use Rattle.std.proofs.Common.{◌≡◌, ◌∙◌, ap, ◌-◌, length, [], ◌∷◌, ◌++◌, arith}
 use Rattle.std.specs.Prelude.{slice_set}
 use Rattle.std.proofs.Math.Seq.{set-append_seam}

@@ -1,4 +1,5 @@
--- The goals of `is_too_long_to_keep` in src/slots.rt: what it ensures.
+-- The goals of `is_too_long_to_keep` in src/slots.rt, which says whether a keyword and its value are too long: what it
+-- ensures.
 use Rattle.std.proofs.Common.{◌+◌, ◌-◌, length, refl, arith}
 use Rattle.std.proofs.lemmas.Bool.Decides.{Decides-ltb, same_from_decides}
 use Rattle.tsp_section.proofs.slots.is_too_long_to_keep.Goals as goal

@@ -1,4 +1,4 @@
--- The goals of `set_named` in src/slots.rt: what it ensures.
+-- The goals of `set_named` in src/slots.rt, which sets the value that a line names: what it ensures.
 use Rattle.std.proofs.Common.{refl, ◌∙◌, sym}
 use Rattle.std.specs.Prelude.{is_some}
 use Rattle.tsp_text.specs.Lines.{first_word}

@@ -1,4 +1,5 @@
--- The goals of `send` in src/output.rt: its loop and what it ensures.
+-- The goals of `send` in src/output.rt, which sends a text in parts until the writer fails: its loop and what it
+-- ensures.
 use Rattle.std.proofs.Common.{[], refl, ◌∙◌, arith}
 use Rattle.std.proofs.KnownBytes.{Appends-nil}
 use Rattle.tsp_stream.specs.states.Watched.{watched}

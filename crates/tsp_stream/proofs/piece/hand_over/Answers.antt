@@ -1,4 +1,4 @@
--- The goals of `hand_over` in src/piece.rt: what it ensures.
+-- The goals of `hand_over` in src/piece.rt, which sends the piece and begins another: what it ensures.
 use Rattle.std.proofs.Common.{[], ◌∙◌, sym, append-nil}
 use Rattle.tsp_stream.specs.states.WriteProgress.{way_of}
 use Rattle.tsp_stream.proofs.Carrying.{carried_sent}

@@ -1,4 +1,4 @@
--- The goals of `put` in src/piece.rt: what it ensures.
+-- The goals of `put` in src/piece.rt, which adds bytes to the text: what it ensures.
 use Rattle.std.proofs.Common.{◌≡◌, List, ℕ, [], ◌++◌, ◌∙◌, sym, refl, ap, true, false, Result, Ok, Err, append-nil}
 use Rattle.std.specs.Prelude.{OnOk, OnErr, is_ok, is_err}
 use Rattle.tsp_stream.specs.states.WriteProgress.{way_of}
@@ -21,7 +21,8 @@ ok_is : {T E : Type 0} (r : Result T E) → false ≡ is_err r → true ≡ is_o
 ok_is (Ok x) e = refl
 ok_is (Err x) e = absurd (cc)
 
--- plan: by whether the bytes fit: they wait in the piece (`carried_waits`), or it is sent and they come after it (`carried_sent`)
+-- plan: by whether the bytes fit: they wait in the piece (`carried_waits`), or it is sent and they come after it
+-- (`carried_sent`)
 pub returns-then-is_ok : goal.returns-then-is_ok
 returns-then-is_ok g c =
     carried_waits (way_of g.W.Write.contents c.args.out.now c.args.piece.now.items) (way_of g.W.Write.contents c.args.out.now c.try_extend_from_slice.new.self.items)

@@ -1,4 +1,4 @@
--- The goals of `put_next_number` in src/piece.rt: what it ensures.
+-- The goals of `put_next_number` in src/piece.rt, which adds a blank and a number: what it ensures.
 use Rattle.std.proofs.Common.{[], ◌∷◌}
 use Rattle.tsp_stream.specs.states.WriteProgress.{way_of}
 use Rattle.tsp_stream.proofs.Carrying.{carried_then}

@@ -1,4 +1,4 @@
--- The goals of `applied` in src/task.rt: what it ensures.
+-- The goals of `applied` in src/task.rt, which applies a function to a file of a task: what it ensures.
 use Rattle.std.proofs.Common.{refl}
 use Rattle.std.proofs.lemmas.Fn.{says_at}
 use Rattle.tsp_task.proofs.task.applied.Goals as goal

@@ -1,4 +1,5 @@
--- The goals of `canonical_length` in src/length.rt: its loop and what it ensures.
+-- The goals of `canonical_length` in src/length.rt, which returns the length of the tour 1, 2, .., n: its loop and what
+-- it ensures.
 use Rattle.std.proofs.Common.{◌≡◌, ◌≤◌, ◌+◌, ◌-◌, ◌<◌, ℕ, sym, ap, ◌∙◌, arith, to_z}
 use Rattle.std.specs.Prelude.{ℤ, ◌+ℤ◌}
 use Rattle.std.specs.Int.{w64}

@@ -1,4 +1,5 @@
--- The goals of `bring` in src/growth.rt: its loop.
+-- The goals of `bring` in src/growth.rt, which updates the nodes outside by the node that came inside, and finds the
+-- nearest: its loop.
 use Rattle.std.proofs.Common.{◌≡◌, ◌<◌, ℕ, ℤ, List, length, slice_index, subst, ◌∙◌, arith, rules, FitsSigned, to_z, of_z}
 use Rattle.std.specs.Int.{w64}
 use Rattle.std.specs.Prelude.{◌≤ℤ◌, ◌<ℤ◌}
@@ -9,7 +10,8 @@ use Rattle.tsp_tree.proofs.Outside.{passed_more, nearer_small, found_lower, foun
 use Rattle.tsp_tree.proofs.growth.bring.Goals as goal
 use Rattle.tsp_tree.proofs.growth.bring.Goals.{then-own-best, else-own-best}
 
--- plan: by the branches of the code: the place's node has a nearer one or not (`passed_more`), and is the least so far or not
+-- plan: by the branches of the code: the place's node has a nearer one or not (`passed_more`), and is the least so far
+-- or not
 pub places-preserved : goal.places-preserved
 places-preserved c =
     let place : ℕ = c.places.place in

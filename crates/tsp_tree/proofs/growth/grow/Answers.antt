@@ -1,4 +1,5 @@
--- The goals of `grow` in src/growth.rt: its loop, and what its calls require.
+-- The goals of `grow` in src/growth.rt, which grows a tree over the nodes 2..n by least weights: its loop, and what its
+-- calls require.
 use Rattle.std.proofs.Common.{◌≡◌, ◌+◌, ◌-◌, ◌<◌, ◌≤◌, ℕ, ℤ, List, [], length, slice_index, replicate, MatchOption, ap, sym, subst, ◌∙◌, arith, rules, FitsSigned, to_z}
 use Rattle.std.specs.Int.{w64, w128}
 use Rattle.std.specs.Prelude.{pos, ◌<ℤ◌}

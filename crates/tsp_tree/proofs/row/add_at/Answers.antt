@@ -1,4 +1,4 @@
--- The goals of `add_at` in src/row.rt: what it ensures.
+-- The goals of `add_at` in src/row.rt, which adds a number at a place of a row: what it ensures.
 use Rattle.std.proofs.Common.{◌∙◌, ap, rules, FitsSigned}
 use Rattle.std.specs.Prelude.{pos, ◌+ℤ◌}
 use Rattle.std.specs.Int.{w64, int_wrap}

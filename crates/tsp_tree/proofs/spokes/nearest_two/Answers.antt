@@ -1,4 +1,5 @@
--- The goals of `nearest_two` in src/spokes.rt: its loop and what it ensures.
+-- The goals of `nearest_two` in src/spokes.rt, which finds the two nodes of least weight in a row: its loop and what it
+-- ensures.
 use Rattle.std.proofs.Common.{◌-◌, ◌<◌, ◌≤◌, ℕ, length, arith, rules, FitsSigned}
 use Rattle.std.specs.Prelude.{ℤ, ◌≤ℤ◌, ◌<ℤ◌}
 use Rattle.std.specs.Int.{w64}
@@ -27,7 +28,8 @@ nodes-init c =
           (two_first n w two.result.node three.result.node two.result.weight three.result.weight some two.ensures.node three.ensures.node two.ensures.weight three.ensures.weight least)
     ]
 
--- plan: by the branches of the code: it is the first, the second or neither (`nearer_first`, `nearer_second`, `nearer_none`)
+-- plan: by the branches of the code: it is the first, the second or neither (`nearer_first`, `nearer_second`,
+-- `nearer_none`)
 pub nodes-preserved : goal.nodes-preserved
 nodes-preserved c =
     let n : ℕ = length c.args.weights.now - 1 in

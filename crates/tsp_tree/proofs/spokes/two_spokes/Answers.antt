@@ -1,4 +1,5 @@
--- The goals of `two_spokes` in src/spokes.rt: what its calls require and what it ensures.
+-- The goals of `two_spokes` in src/spokes.rt, which finds the two nodes nearest to node 1: what its calls require and
+-- what it ensures.
 use Rattle.std.proofs.Common.{◌≡◌, ◌∙◌, ◌-◌, ℕ, List, length, subst, arith}
 use Rattle.std.specs.Prelude.{ℤ}
 use Rattle.tsp_theory.specs.Growth.{AreNearest}

@@ -1,4 +1,5 @@
--- The goals of `least_weight` in src/tree.rt: that no sum overflows and what it ensures.
+-- The goals of `least_weight` in src/tree.rt, which returns the weight of a least 1-tree: that no sum overflows and
+-- what it ensures.
 use Rattle.std.proofs.Common.{◌≡◌, ◌∙◌, ℕ, ℤ, List, ap₂, refl, sym, rules, FitsSigned}
 use Rattle.std.specs.Prelude.{◌+ℤ◌}
 use Rattle.std.specs.Int.{w64}

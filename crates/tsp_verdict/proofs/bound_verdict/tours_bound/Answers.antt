@@ -1,4 +1,5 @@
--- The goals of `tours_bound` in src/bound_verdict.rt: what it ensures where a reason applies to the instance.
+-- The goals of `tours_bound` in src/bound_verdict.rt, which bounds the tours of an instance by a certificate: what it
+-- ensures where a reason applies to the instance.
 use Rattle.tsp_verdict.proofs.Bounds.{tours_refused}
 use Rattle.tsp_verdict.proofs.bound_verdict.tours_bound.Goals as goal
 

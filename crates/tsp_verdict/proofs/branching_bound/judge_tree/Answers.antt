@@ -1,5 +1,5 @@
--- The goals of `judge_tree` in src/branching_bound.rt: the facts of the cases that it makes, that places fit 32 bits,
--- and what it ensures.
+-- The goals of `judge_tree` in src/branching_bound.rt, which bounds by a tree of cases, or returns the first reason:
+-- the facts of the cases that it makes, that places fit 32 bits, and what it ensures.
 use Rattle.std.proofs.Common.{◌≡◌, ◌∙◌, ℕ, ℤ, List, length, ap, sym, subst, arith, rules, FitsSigned, to_z, of_z}
 use Rattle.std.specs.Int.{w64, w128}
 use Rattle.std.specs.Prelude.{Option, None, Some, unwrap_or}

@@ -1,4 +1,5 @@
--- The goals of `tree_of` in src/branching_bound.rt: what it ensures.
+-- The goals of `tree_of` in src/branching_bound.rt, which returns the tree of a certificate, or the first reason: what
+-- it ensures.
 use Rattle.std.proofs.Common.{◌≡◌, ◌≢◌, false, true, rules}
 use Rattle.tsp_draft.specs.Fields.{nodes_of}
 use Rattle.tsp_draft.specs.Rules.{is_branches_file}

@@ -1,4 +1,5 @@
--- The goals of `basis_of` in src/comparison_basis.rt: what it ensures.
+-- The goals of `basis_of` in src/comparison_basis.rt, which makes the basis of a comparison from a bound: what it
+-- ensures.
 use Rattle.std.proofs.Common.{rules, sym}
 use Rattle.tsp_verdict.proofs.ByType.{routes_for, other_basis}
 use Rattle.tsp_verdict.proofs.comparison_basis.basis_of.Goals as goal

@@ -1,4 +1,4 @@
--- The goals of `judge_basis` in src/comparison_basis.rt: what it ensures.
+-- The goals of `judge_basis` in src/comparison_basis.rt, which returns what is known of all solutions: what it ensures.
 use Rattle.tsp_verdict.proofs.comparison_basis.judge_basis.Goals as goal
 
 pub returns-in_ok-judge_bound-in-Some : goal.returns-in_ok-judge_bound-in-Some

@@ -1,4 +1,5 @@
--- The goals of `solution_tours` in src/files.rt: what it ensures.
+-- The goals of `solution_tours` in src/files.rt, which returns the tours of a solution, if it has TYPE TOUR: what it
+-- ensures.
 use Rattle.std.proofs.Common.{Option, None, Some}
 use Rattle.std.specs.Prelude.{MatchOption}
 use Rattle.tsp_verdict.proofs.FilesHold.{tours_held, no_tours}

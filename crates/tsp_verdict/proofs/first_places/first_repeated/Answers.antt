@@ -1,4 +1,5 @@
--- The goals of `first_repeated` in src/first_places.rt: what it ensures.
+-- The goals of `first_repeated` in src/first_places.rt, which finds the first place whose node is at an earlier one:
+-- what it ensures.
 use Rattle.std.proofs.Common.{◌≡◌, ◌+◌, ℕ, Bool, false, List, replicate, sym, subst, rules}
 use Rattle.tsp_verdict.specs.states.Marks.{Marked}
 use Rattle.tsp_verdict.proofs.MarkedNodes.{none_marked, stands_whole, found_whole}

@@ -1,4 +1,5 @@
--- The goals of `mark` in src/first_places.rt: that indices are in range, its loop and what it ensures.
+-- The goals of `mark` in src/first_places.rt, which marks nodes up to the first one that is marked: that indices are in
+-- range, its loop and what it ensures.
 use Rattle.std.proofs.Common.{◌≡◌, ◌<◌, ◌+◌, ℕ, true, false, length, get_or, sym, subst, arith}
 use Rattle.tsp_verdict.specs.Places.{IsFirstPlace, IsAtEarlierPlace}
 use Rattle.tsp_verdict.proofs.MarkedNodes.{mark_next, repeated_next, mark_is}

@@ -1,4 +1,5 @@
--- The goals of `mark_different` in src/first_places.rt: its loop and what it ensures.
+-- The goals of `mark_different` in src/first_places.rt, which marks nodes, and says whether all are new and at most n:
+-- its loop and what it ensures.
 use Rattle.std.proofs.Common.{◌≡◌, ◌≤◌, ◌<◌, ℕ, true, false, length, get_or, ◌∙◌, arith}
 use Rattle.std.proofs.lemmas.List.{length-set}
 use Rattle.tsp_verdict.proofs.MarkedNodes.{mark_more, small_next}

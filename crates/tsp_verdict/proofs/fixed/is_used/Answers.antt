@@ -1,4 +1,4 @@
--- The goals of `is_used` in src/fixed.rt: what it ensures.
+-- The goals of `is_used` in src/fixed.rt, which says whether a cycle uses a pair: what it ensures.
 use Rattle.std.proofs.Common.{refl}
 use Rattle.tsp_verdict.proofs.FixedPairs.{uses_other, uses_none}
 use Rattle.tsp_verdict.proofs.fixed.is_used.Goals as goal

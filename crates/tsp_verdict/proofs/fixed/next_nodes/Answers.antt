@@ -1,4 +1,5 @@
--- The goals of `next_nodes` in src/fixed.rt: that indices are in range, its loop and what it ensures.
+-- The goals of `next_nodes` in src/fixed.rt, which lists the next node of each node of a cycle: that indices are in
+-- range, its loop and what it ensures.
 use Rattle.std.proofs.Common.{◌≡◌, ◌+◌, ◌∷◌, [], ◌++◌, List, ℕ, suc, length, get_or, set, sym, ap, subst, ◌∙◌, arith}
 use Rattle.std.specs.Prelude.{vec_len}
 use Rattle.tsp_theory.specs.Cycle.{IsCycle}

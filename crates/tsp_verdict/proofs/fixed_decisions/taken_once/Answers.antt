@@ -1,4 +1,5 @@
--- The goals of `taken_once` in src/fixed_decisions.rt: its loop and what it ensures.
+-- The goals of `taken_once` in src/fixed_decisions.rt, which turns pairs into decisions, each pair once: its loop and
+-- what it ensures.
 use Rattle.std.proofs.Common.{◌≡◌, ◌∙◌, true, false, sym, subst, arith}
 use Rattle.std.specs.BTreeSet.{contains, Updates}
 use Rattle.std.specs.Prelude.{slice_index_or}

@@ -1,4 +1,5 @@
--- The goals of `first_overload` in src/loads.rt: its loop and what its calls require.
+-- The goals of `first_overload` in src/loads.rt, which finds the first route above the capacity: its loop and what its
+-- calls require.
 use Rattle.std.proofs.Common.{◌≡◌, ℕ, List, length, take, refl, sym, ap, ◌∙◌, arith, rules}
 use Rattle.std.specs.Prelude.{FitsSigned, ◌≤ℤ◌}
 use Rattle.std.specs.Int.{w64}

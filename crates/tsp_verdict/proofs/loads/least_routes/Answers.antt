@@ -1,4 +1,5 @@
--- The goals of `least_routes` in src/loads.rt: what it ensures.
+-- The goals of `least_routes` in src/loads.rt, which returns the least number of routes for all demands: what it
+-- ensures.
 use Rattle.std.proofs.Common.{◌+◌, ◌-◌, ◌/◌, rules, subst}
 use Rattle.std.specs.Prelude.{FitsSigned, nat_abs, ℤ}
 use Rattle.std.specs.Int.{w64}

@@ -1,4 +1,4 @@
--- The goals of `load` in src/loads.rt: that no sum overflows and its loop.
+-- The goals of `load` in src/loads.rt, which sums the demands of a route: that no sum overflows and its loop.
 use Rattle.std.proofs.Common.{◌≡◌, ◌∷◌, ◌∙◌, ◌+◌, ◌-◌, ◌≤◌, ℕ, List, length, get_or, drop, refl, arith, to_z, drop-cons, add-one}
 use Rattle.std.specs.Prelude.{ℤ, pos}
 use Rattle.std.specs.Int.{w64}

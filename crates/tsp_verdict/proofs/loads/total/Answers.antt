@@ -1,4 +1,4 @@
--- The goals of `total` in src/loads.rt: its loop and what it ensures.
+-- The goals of `total` in src/loads.rt, which sums all demands: its loop and what it ensures.
 use Rattle.std.proofs.Common.{◌≤◌, ℕ, arith, to_z}
 use Rattle.std.specs.Prelude.{ℤ, pos, slice_index_or}
 use Rattle.std.specs.Int.{w64}

@@ -1,4 +1,5 @@
--- The goals of `assignment_bound` in src/potentials_bound.rt: what it ensures.
+-- The goals of `assignment_bound` in src/potentials_bound.rt, which bounds by duals, or finds the first pair that
+-- breaks them: what it ensures.
 use Rattle.std.proofs.Common.{◌∙◌, rules, FitsSigned}
 use Rattle.std.specs.Int.{w128}
 use Rattle.std.proofs.lemmas.Int.{to_z-of_z}

@@ -1,4 +1,5 @@
--- The goals of `bound_by_nodes` in src/potentials_bound.rt: what it ensures.
+-- The goals of `bound_by_nodes` in src/potentials_bound.rt, which bounds a TSP by potentials, or returns the first
+-- reason: what it ensures.
 use Rattle.std.proofs.Common.{◌≡◌, true, Some, subst, sym, rules, FitsSigned}
 use Rattle.std.specs.Prelude.{MatchOption}
 use Rattle.std.specs.Int.{w128}

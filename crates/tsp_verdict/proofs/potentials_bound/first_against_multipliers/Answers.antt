@@ -1,4 +1,5 @@
--- The goals of `first_against_multipliers` in src/potentials_bound.rt: what it ensures.
+-- The goals of `first_against_multipliers` in src/potentials_bound.rt, which finds the first reason against
+-- multipliers: what it ensures.
 use Rattle.std.proofs.Common.{◌≡◌, false, subst}
 use Rattle.std.specs.Prelude.{MatchOption}
 use Rattle.std.specs.List.{AllPairs}

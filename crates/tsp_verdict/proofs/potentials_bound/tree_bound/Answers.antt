@@ -1,4 +1,4 @@
--- The goals of `tree_bound` in src/potentials_bound.rt: what it ensures.
+-- The goals of `tree_bound` in src/potentials_bound.rt, which returns the bound of a least 1-tree: what it ensures.
 use Rattle.std.proofs.Common.{◌∙◌, rules, subst, sym, FitsSigned}
 use Rattle.std.specs.Int.{w128}
 use Rattle.std.proofs.lemmas.Int.{to_z-of_z}

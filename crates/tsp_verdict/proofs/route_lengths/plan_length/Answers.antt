@@ -1,4 +1,5 @@
--- The goals of `plan_length` in src/route_lengths.rt: that no sum overflows, its loop and what its calls require.
+-- The goals of `plan_length` in src/route_lengths.rt, which sums the costs of all routes: that no sum overflows, its
+-- loop and what its calls require.
 use Rattle.std.proofs.Common.{◌≡◌, ◌≤◌, ◌+◌, ◌∷◌, ℕ, List, length, take, refl, ap, subst, ◌∙◌, arith, to_z}
 use Rattle.std.specs.Prelude.{ℤ, ◌+ℤ◌}
 use Rattle.std.specs.Int.{w64}

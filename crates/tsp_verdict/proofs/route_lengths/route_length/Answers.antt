@@ -1,4 +1,5 @@
--- The goals of `route_length` in src/route_lengths.rt: that no sum overflows, its loop and what it ensures.
+-- The goals of `route_length` in src/route_lengths.rt, which sums the costs of a route: that no sum overflows, its loop
+-- and what it ensures.
 use Rattle.std.proofs.Common.{◌≡◌, ◌∷◌, ◌∙◌, ◌+◌, ◌≤◌, ℕ, List, length, get_or, drop, refl, subst, arith, to_z, drop-cons, add-one}
 use Rattle.std.specs.Prelude.{ℤ, ◌+ℤ◌}
 use Rattle.std.specs.Int.{w64}

@@ -1,4 +1,5 @@
--- The goals of `first_against_places` in src/routes.rt: what it ensures.
+-- The goals of `first_against_places` in src/routes.rt, which finds the first reason that a single node shows: what it
+-- ensures.
 use Rattle.tsp_verdict.proofs.RouteVerdicts.{depot_first, no_depot, larger_first, customers}
 use Rattle.tsp_verdict.proofs.routes.first_against_places.Goals as goal
 

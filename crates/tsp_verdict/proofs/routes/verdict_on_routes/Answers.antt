@@ -1,4 +1,5 @@
--- The goals of `verdict_on_routes` in src/routes.rt: what its calls require and what it ensures.
+-- The goals of `verdict_on_routes` in src/routes.rt, which judges the routes of a solution: what its calls require and
+-- what it ensures.
 use Rattle.std.proofs.Common.{◌≡◌, ◌+◌, Bool, List, map, length, refl, sym, arith, rules}
 use Rattle.std.specs.Prelude.{FitsSigned, vec_len}
 use Rattle.std.specs.Int.{w64}

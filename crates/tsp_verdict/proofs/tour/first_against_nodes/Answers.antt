@@ -1,4 +1,5 @@
--- The goals of `first_against_nodes` in src/tour.rt: what it ensures.
+-- The goals of `first_against_nodes` in src/tour.rt, which finds the first reason against the nodes of a tour: what it
+-- ensures.
 use Rattle.std.proofs.Common.{List, ℕ, ◌≤◌, subst, rules}
 use Rattle.std.specs.List.{All}
 use Rattle.tsp_draft.specs.Fields.{Fields, nodes_of}
@@ -6,7 +7,8 @@ use Rattle.tsp_verdict.specs.Tours.{NoneOfTourBeforeRepeats}
 use Rattle.tsp_verdict.proofs.TourVerdicts.{cycle_found, larger_first, none_up_to_repeats, repeated_first}
 use Rattle.tsp_verdict.proofs.tour.first_against_nodes.Goals as goal
 
--- plan: by what is found first: a node too large (`larger_first`), one twice (`repeated_first`); else a cycle (`cycle_found`)
+-- plan: by what is found first: a node too large (`larger_first`), one twice (`repeated_first`); else a cycle
+-- (`cycle_found`)
 pub returns-then-are_different : goal.returns-then-are_different
 returns-then-are_different c =
     cycle_found c.args.inst.now c.args.sol.now c.args.tour.now c.count-nodes.result c.requires.only c.requires.each c.requires.some

@@ -1,4 +1,4 @@
--- The goals of `the_tour` in src/tour.rt: what it ensures.
+-- The goals of `the_tour` in src/tour.rt, which returns the one tour of a solution, or a reason: what it ensures.
 use Rattle.std.proofs.Common.{◌≡◌, List, ℕ, ◌∷◌, [], length, sym, ap, ◌∙◌, arith}
 use Rattle.tsp_draft.specs.Fields.{nodes_of}
 use Rattle.tsp_verdict.specs.Solution.{tours_of}

@@ -1,5 +1,5 @@
--- The goals of `first_of_in` in src/visits.rt: that no sum overflows, its loop, what its call requires and what it
--- ensures.
+-- The goals of `first_of_in` in src/visits.rt, which finds the first place of a node: that no sum overflows, its loop,
+-- what its call requires and what it ensures.
 use Rattle.std.proofs.Common.{◌≡◌, ◌≢◌, ℕ, List, arith}
 use Rattle.tsp_verdict.specs.states.Marks.{StandsAfter}
 use Rattle.tsp_verdict.specs.states.RouteLists.{nodes_in}

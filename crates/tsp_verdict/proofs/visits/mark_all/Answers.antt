@@ -1,5 +1,5 @@
--- The goals of `mark_all` in src/visits.rt: that no sum overflows, its loop, what its calls require and what it
--- ensures.
+-- The goals of `mark_all` in src/visits.rt, which marks the nodes of routes up to the first repeated one: that no sum
+-- overflows, its loop, what its calls require and what it ensures.
 use Rattle.std.proofs.Common.{◌<◌, ℕ, List, sym, subst, ◌∙◌, arith}
 use Rattle.std.specs.Prelude.{vec_len}
 use Rattle.std.specs.List.{All}

@@ -1,5 +1,5 @@
--- The goals of `judge_walks` in src/walks.rt: the facts of the plans that it makes, that places fit 32 bits, and what
--- it ensures.
+-- The goals of `judge_walks` in src/walks.rt, which bounds by a tree of cases of routes, or returns the first reason:
+-- the facts of the plans that it makes, that places fit 32 bits, and what it ensures.
 use Rattle.std.proofs.Common.{ℕ, ℤ, Option, length, ap, sym, ◌∙◌, subst, arith, rules, FitsSigned, to_z, of_z}
 use Rattle.std.specs.Global.{Vec}
 use Rattle.std.specs.Int.{w64, w128}

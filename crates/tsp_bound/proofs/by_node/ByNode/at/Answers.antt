@@ -1,4 +1,4 @@
--- The goals of `ByNode::at` in src/by_node.rt: what it ensures.
+-- The goals of `ByNode::at` in src/by_node.rt, which returns the multipliers of a node's pairs: what it ensures.
 use Rattle.std.proofs.Common.{ℕ, ap, ◌∙◌}
 use Rattle.std.proofs.lemmas.List.Elements.{recursion_from_All}
 use Rattle.tsp_theory.specs.CertificateNumbers.{IsMultiplier}

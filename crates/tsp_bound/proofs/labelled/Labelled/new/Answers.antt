@@ -1,4 +1,5 @@
--- The goals of `Labelled::new` in src/labelled.rt: the facts of the value that it makes.
+-- The goals of `Labelled::new` in src/labelled.rt, which begins with each node as a component: the facts of the value
+-- that it makes.
 use Rattle.std.proofs.Common.{◌≡◌, ◌<◌, ℕ, true, length, arith, sym, subst}
 use Rattle.tsp_bound.specs.states.Components.{AreTags}
 use Rattle.tsp_bound.proofs.labelled.Labelled.new.Goals as goal

@@ -1,4 +1,5 @@
--- The goals of `nearest` in src/labelled.rt, of the trait `Components` for `Labelled`: what it ensures.
+-- The goals of `nearest` in src/labelled.rt, of the trait `Components` for `Labelled`: what it ensures. It returns a
+-- lightest link from a node to another component.
 use Rattle.std.proofs.Common.{◌≡◌, ℕ, ℤ, List, length, IfSome, arith, subst}
 use Rattle.std.proofs.lemmas.List.{get_or_read}
 use Rattle.tsp_bound.specs.states.Boxes.{node_of}

@@ -11,8 +11,8 @@ use Rattle.tsp_bound.proofs.Listing.{IsEnding, ending_offered, reached_offered}
 use Rattle.tsp_bound.proofs.listed.Listed.least_of_all.Goals as goal
 use Rattle.tsp_bound.proofs.listed.Listed.least_of_all.Goals.{then-index-own, else-index-own}
 
--- plan: by the place: the link to one of another component is offered (`reached_offered`), and one of its own component
--- isn't (`ending_offered`)
+-- plan: by the place: a link to another component is offered (`reached_offered`), and one inside the component isn't
+-- (`ending_offered`)
 pub places-preserved : goal.places-preserved
 places-preserved g c =
     let s = c.args.self.now in

@@ -1,4 +1,5 @@
--- The goals of `nearest` in src/listed.rt, of the trait `Components` for `Listed`: what it ensures.
+-- The goals of `nearest` in src/listed.rt, of the trait `Components` for `Listed`: what it ensures. It returns a
+-- lightest link from a node to another component.
 use Rattle.std.proofs.Common.{◌≡◌, ◌≢◌, ◌≤ℤ◌, ◌∙◌, ℕ, pos, length, arith, rules, ap, sym, subst, w64, to_z, of_z, SFits}
 use Rattle.std.proofs.lemmas.Int.{ints, to_z-of_z}
 use Rattle.std.proofs.lemmas.List.{get_or_read}

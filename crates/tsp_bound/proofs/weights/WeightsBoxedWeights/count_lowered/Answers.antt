@@ -1,4 +1,5 @@
--- The goals of `count_lowered` in src/weights.rt, of the trait `BoxedWeights` for `Weights`: what it ensures.
+-- The goals of `count_lowered` in src/weights.rt, of the trait `BoxedWeights` for `Weights`: what it ensures. It counts
+-- the nodes to which a node's weight may be lowered.
 use Rattle.std.proofs.Common.{◌≢◌, ◌<◌, ℕ, List, ℤ, length, map, arith, sym, subst}
 use Rattle.std.proofs.lemmas.Int.{ints}
 use Rattle.tsp_bound.specs.states.NodeNumbers.{node_in}

@@ -1,5 +1,5 @@
 -- The goals of `lowered` in src/weights.rt, of the trait `BoxedWeights` for `Weights`: that no sum overflows and what
--- it ensures.
+-- it ensures. It returns one of the nodes to which a node's weight may be lowered, and the weight.
 use Rattle.std.proofs.Common.{◌<◌, ℕ, List, ℤ, length, get_or, arith, ap, sym, ◌∙◌}
 use Rattle.std.specs.Int.{w64}
 use Rattle.std.specs.Prelude.{pos}

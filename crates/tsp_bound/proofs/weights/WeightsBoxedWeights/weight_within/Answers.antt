@@ -1,5 +1,5 @@
 -- The goals of `weight_within` in src/weights.rt, of the trait `BoxedWeights` for `Weights`: that no sum overflows and
--- what it ensures.
+-- what it ensures. It returns the weight before it is lowered, if that is less than a number.
 use Rattle.std.proofs.Common.{◌-◌, ◌∙◌, ℤ, arith, rules, ap, ap₂, sym, subst, w64, to_z, of_z, SFits}
 use Rattle.std.specs.Prelude.{pos, neg_ℤ, ◌+ℤ◌, ◌*ℤ◌, ◌≤ℤ◌}
 use Rattle.tsp_format.specs.Limits.{most_potential}

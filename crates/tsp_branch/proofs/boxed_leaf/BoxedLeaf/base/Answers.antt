@@ -1,4 +1,5 @@
--- The goals of `BoxedLeaf::base` in src/boxed_leaf.rt: that no sum overflows and what it ensures.
+-- The goals of `BoxedLeaf::base` in src/boxed_leaf.rt, which adds a cost at the scale and the numbers of both nodes:
+-- that no sum overflows and what it ensures.
 use Rattle.std.proofs.Common.{◌-◌, ◌*◌, ℤ, ap, subst, arith}
 use Rattle.std.specs.Prelude.{pos, neg_ℤ, ◌*ℤ◌}
 use Rattle.std.proofs.lemmas.Int.{ints}

@@ -1,4 +1,4 @@
--- The goals of `BoxedLeaf::change` in src/boxed_leaf.rt: what it ensures.
+-- The goals of `BoxedLeaf::change` in src/boxed_leaf.rt, which returns what decisions add to a weight: what it ensures.
 use Rattle.std.proofs.Common.{◌≡◌, ◌∙◌, ℤ, Bool, List, ap, sym, subst, arith, rules, to_z, of_z, FitsSigned}
 use Rattle.std.specs.Int.{w64, int_wrap}
 use Rattle.std.specs.Prelude.{neg_ℤ}

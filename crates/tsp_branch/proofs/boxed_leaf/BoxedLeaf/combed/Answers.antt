@@ -1,5 +1,5 @@
--- The goals of `BoxedLeaf::combed` in src/boxed_leaf.rt: the facts of the values that it makes, what its calls require
--- and what it ensures.
+-- The goals of `BoxedLeaf::combed` in src/boxed_leaf.rt, which returns a weight without decisions, from the weight
+-- without the sets of both nodes: the facts of the values that it makes, what its calls require and what it ensures.
 use Rattle.std.proofs.Common.{◌≡◌, ◌∙◌, ℕ, ℤ, List, ap, ap₂, sym, subst, arith, rules, to_z, of_z, FitsSigned}
 use Rattle.std.specs.Int.{w64, int_wrap}
 use Rattle.std.specs.Prelude.{◌+ℤ◌}

@@ -1,4 +1,5 @@
--- The goals of `BoxedLeaf::decided` in src/boxed_leaf.rt: that no sum overflows and what it ensures.
+-- The goals of `BoxedLeaf::decided` in src/boxed_leaf.rt, which returns the weight between two nodes: that no sum
+-- overflows and what it ensures.
 use Rattle.std.proofs.Common.{arith}
 use Rattle.std.proofs.lemmas.Int.{ints}
 use Rattle.tsp_branch.proofs.boxed_leaf.BoxedLeaf.decided.Goals as goal

@@ -1,4 +1,5 @@
--- The goals of `is_beyond` in src/boxed_leaf.rt, of the trait `BoxedWeights` for `BoxedLeaf`: what it ensures.
+-- The goals of `is_beyond` in src/boxed_leaf.rt, of the trait `BoxedWeights` for `BoxedLeaf`: what it ensures. It says
+-- whether all nodes of a region are known to cost at least a number.
 use Rattle.std.proofs.Common.{◌∙◌, refl}
 use Rattle.tsp_theory.specs.states.Nearest.{least_at}
 use Rattle.tsp_cases.specs.states.Lent.{lent_in}

@@ -1,5 +1,6 @@
 -- The goals of `lowered` in src/boxed_leaf.rt, of the trait `BoxedWeights` for `BoxedLeaf`: that indices are in range,
--- what its calls require and what it ensures.
+-- what its calls require and what it ensures. It returns one of the nodes to which a node's weight may be lowered, and
+-- the weight.
 use Rattle.std.proofs.Common.{◌≡◌, ◌∙◌, ◌<◌, ◌==◌, Bool, true, false, List, length, get_or, refl, inl, inr, ap, sym, subst, arith, rules, FitsSigned}
 use Rattle.std.specs.Int.{w64}
 use Rattle.std.specs.Prelude.{if◌then◌else◌}

@@ -1,4 +1,5 @@
--- The goals of `weight_within` in src/boxed_leaf.rt, of the trait `BoxedWeights` for `BoxedLeaf`: what it ensures.
+-- The goals of `weight_within` in src/boxed_leaf.rt, of the trait `BoxedWeights` for `BoxedLeaf`: what it ensures. It
+-- returns the weight before it is lowered, if that is less than a number.
 use Rattle.std.proofs.Common.{◌≡◌, ◌∙◌, ℤ, List, ◌≤ℤ◌, ◌<ℤ◌, ap, sym, subst, arith, rules, to_z, of_z, FitsSigned}
 use Rattle.std.specs.Int.{w64}
 use Rattle.std.specs.Prelude.{pos, ◌+ℤ◌}

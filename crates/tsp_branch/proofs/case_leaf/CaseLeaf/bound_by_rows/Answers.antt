@@ -1,5 +1,5 @@
--- The goals of `CaseLeaf::bound_by_rows` in src/case_leaf.rt: the facts of the values that it makes and what it
--- ensures.
+-- The goals of `CaseLeaf::bound_by_rows` in src/case_leaf.rt, which bounds a leaf by the least link from each node: the
+-- facts of the values that it makes and what it ensures.
 use Rattle.std.proofs.Common.{◌≡◌, ◌∙◌, ◌^◌, ℕ, ℤ, Bool, List, refl, ap, sym, subst, arith, rules, FitsSigned, to_z, of_z}
 use Rattle.std.specs.Prelude.{pos, neg_ℤ, ◌-ℤ◌, ◌*ℤ◌}
 use Rattle.std.specs.Int.{w128}

@@ -1,5 +1,5 @@
--- The goals of `CaseLeaf::bound_by_trees` in src/case_leaf.rt: the facts of the values that it makes, what its calls
--- require and what it ensures.
+-- The goals of `CaseLeaf::bound_by_trees` in src/case_leaf.rt, which bounds a leaf by a least 1-tree, by kept rows or
+-- by boxes: the facts of the values that it makes, what its calls require and what it ensures.
 use Rattle.std.proofs.Common.{◌≡◌, ◌∙◌, ◌^◌, ℕ, ℤ, List, refl, ap, sym, subst, arith, to_z, of_z}
 use Rattle.std.specs.Prelude.{pos, neg_ℤ, ◌+ℤ◌}
 use Rattle.std.specs.Int.{w128}

@@ -1,5 +1,5 @@
--- The goals of `CaseLeaf::fill_combed` in src/leaf_rows.rt: the facts of the values that it makes, what its calls
--- require and what it ensures.
+-- The goals of `CaseLeaf::fill_combed` in src/leaf_rows.rt, which writes a row of weights whose size is limited: the
+-- facts of the values that it makes, what its calls require and what it ensures.
 use Rattle.std.proofs.Common.{◌≡◌, ℕ, ℤ, List, arith, sym, subst, ◌∙◌}
 use Rattle.std.specs.Prelude.{pos, neg_ℤ}
 use Rattle.std.specs.List.{All}

@@ -1,4 +1,5 @@
--- The goals of `CaseLeaf::weight_apart` in src/leaf_rows.rt: that no sum overflows and what it ensures.
+-- The goals of `CaseLeaf::weight_apart` in src/leaf_rows.rt, which returns a weight as if no set had two nodes: that no
+-- sum overflows and what it ensures.
 use Rattle.std.proofs.Common.{◌≡◌, ◌-◌, ◌*◌, ℕ, ℤ, arith, rules, subst, inr, ap, ap₂, ◌∙◌, to_z, of_z, FitsSigned}
 use Rattle.std.specs.Int.{w64, int_wrap}
 use Rattle.std.specs.Prelude.{pos, neg_ℤ, ◌+ℤ◌, ◌*ℤ◌}

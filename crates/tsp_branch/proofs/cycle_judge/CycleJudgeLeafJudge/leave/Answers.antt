@@ -1,4 +1,5 @@
--- The goals of `leave` in src/cycle_judge.rt, of the trait `LeafJudge` for `CycleJudge`: what it ensures.
+-- The goals of `leave` in src/cycle_judge.rt, of the trait `LeafJudge` for `CycleJudge`: what it ensures. It goes on
+-- from a leaf to the next open case.
 use Rattle.std.proofs.Common.{ℕ, length}
 use Rattle.tsp_cases.specs.states.Lent.{lent_in}
 use Rattle.tsp_branch.proofs.cycle_judge.CycleJudgeLeafJudge.leave.Goals as goal

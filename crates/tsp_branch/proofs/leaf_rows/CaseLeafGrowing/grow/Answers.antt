@@ -1,4 +1,5 @@
--- The goals of `grow` in src/leaf_rows.rt, of the trait `Growing` for `CaseLeaf`: what it ensures.
+-- The goals of `grow` in src/leaf_rows.rt, of the trait `Growing` for `CaseLeaf`: what it ensures. It grows a tree over
+-- the nodes 2..n by least weights.
 use Rattle.std.proofs.Common.{arith, ℕ, ℤ}
 use Rattle.std.proofs.lemmas.Result.{IfOk-weaker}
 use Rattle.tsp_theory.proofs.Forests.{growth_is_forest}

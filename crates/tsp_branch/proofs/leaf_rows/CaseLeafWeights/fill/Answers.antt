@@ -1,5 +1,5 @@
 -- The goals of `fill` in src/leaf_rows.rt, of the trait `Weights` for `CaseLeaf`: what its calls require and what it
--- ensures.
+-- ensures. It writes the weights between a node and each node into a row.
 use Rattle.std.proofs.Common.{◌≡◌, ◌∙◌, ℕ, ℤ, Bool, List, arith, subst}
 use Rattle.std.specs.List.{filter}
 use Rattle.std.proofs.lemmas.Int.{ints}

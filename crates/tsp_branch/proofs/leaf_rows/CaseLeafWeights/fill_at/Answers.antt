@@ -1,5 +1,5 @@
 -- The goals of `fill_at` in src/leaf_rows.rt, of the trait `Weights` for `CaseLeaf`: what its calls require and what it
--- ensures.
+-- ensures. It writes the weights between a node and some nodes into a row.
 use Rattle.std.proofs.Common.{◌≡◌, ◌∙◌, ℕ, ℤ, Bool, List, slice_index, arith, subst}
 use Rattle.std.specs.List.{filter}
 use Rattle.std.proofs.lemmas.Int.{ints}

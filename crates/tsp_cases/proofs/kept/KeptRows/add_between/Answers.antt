@@ -1,4 +1,5 @@
--- The goals of `KeptRows::add_between` in src/kept.rt: what its calls require and what it ensures.
+-- The goals of `KeptRows::add_between` in src/kept.rt, which adds a number to the weight between two nodes, in both
+-- rows: what its calls require and what it ensures.
 use Rattle.std.proofs.Common.{◌≡◌, ◌≤◌, ◌-◌, ◌<◌, ℕ, List, length, ap, sym, subst, ◌∙◌, arith, rules, FitsSigned}
 use Rattle.std.specs.Prelude.{ℤ}
 use Rattle.std.specs.Int.{w64}

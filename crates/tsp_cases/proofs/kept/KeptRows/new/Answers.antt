@@ -1,4 +1,5 @@
--- The goals of `KeptRows::new` in src/kept.rt: what its calls require and what it ensures.
+-- The goals of `KeptRows::new` in src/kept.rt, which makes the rows under the given decisions, with all multipliers 0:
+-- what its calls require and what it ensures.
 use Rattle.std.proofs.Common.{◌≡◌, ◌+◌, ℕ, length, subst, arith}
 use Rattle.std.specs.List.{All}
 use Rattle.tsp_cases.specs.states.Lent.{lent_in}

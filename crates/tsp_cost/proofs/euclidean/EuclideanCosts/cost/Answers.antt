@@ -1,4 +1,5 @@
--- The goals of `cost` in src/euclidean.rt, of the trait `Costs` for `Euclidean`: what it ensures.
+-- The goals of `cost` in src/euclidean.rt, of the trait `Costs` for `Euclidean`: what it ensures. It returns the
+-- distance of two nodes' points.
 use Rattle.std.proofs.Common.{ℕ, ℤ, ap, ◌∙◌, rules, w64, SFits}
 use Rattle.std.proofs.lemmas.Int.{to_z-of_z}
 use Rattle.tsp_cost.proofs.euclidean.EuclideanCosts.cost.Goals as goal

@@ -1,4 +1,5 @@
--- The goals of `Instance::distance_view` in src/instance.rt: what it ensures.
+-- The goals of `Instance::distance_view` in src/instance.rt, which returns the points of an instance with distances:
+-- what it ensures.
 use Rattle.std.proofs.Common.{◌≡◌, List, Some, length, map, sym, ap, subst, ◌∙◌}
 use Rattle.std.specs.Option.{option_map}
 use Rattle.std.proofs.lemmas.List.{length-map, map-id}

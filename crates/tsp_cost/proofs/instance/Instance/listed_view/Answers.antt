@@ -1,4 +1,5 @@
--- The goals of `Instance::listed_view` in src/instance.rt: what its calls require and what it ensures.
+-- The goals of `Instance::listed_view` in src/instance.rt, which returns the matrix or triangle of an instance with
+-- listed weights: what its calls require and what it ensures.
 use Rattle.std.proofs.Common.{Some, ap, sym, subst, ◌∙◌}
 use Rattle.std.specs.Option.{option_map}
 use Rattle.tsp_format.specs.declared.layout.Layout.TheVariants.{FullMatrix}

@@ -1,4 +1,5 @@
--- The goals of `cost` in src/matrix.rt, of the trait `Costs` for `Matrix`: what it ensures.
+-- The goals of `cost` in src/matrix.rt, of the trait `Costs` for `Matrix`: what it ensures. It returns a cell of the
+-- matrix.
 use Rattle.std.proofs.Common.{◌<◌, length, sym, ◌∙◌, arith}
 use Rattle.std.specs.Prelude.{pos, slice_index_or}
 use Rattle.tsp_format.specs.declared.layout.Layout.TheVariants.{FullMatrix}

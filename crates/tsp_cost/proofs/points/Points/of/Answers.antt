@@ -1,4 +1,5 @@
--- The goals of `Points::of` in src/points.rt: the facts of the value that it makes.
+-- The goals of `Points::of` in src/points.rt, which makes costs of a distance and of the nodes' points: the facts of
+-- the value that it makes.
 use Rattle.tsp_file.proofs.Distances.{DistanceLaws, distance_symmetric}
 use Rattle.tsp_cost.specs.states.Metrics.{weight_kind_of}
 use Rattle.tsp_cost.proofs.points.Points.of.Goals as goal

@@ -1,4 +1,4 @@
--- The goals of `Points::with` in src/points.rt: what it ensures.
+-- The goals of `Points::with` in src/points.rt, which sets the metric of costs: what it ensures.
 use Rattle.std.proofs.Common.{ℕ, List, map, ap}
 use Rattle.std.specs.Prelude.{ℤ}
 use Rattle.tsp_distance.specs.declared.decimal.Point.{Point}

@@ -1,4 +1,5 @@
--- The goals of `Triangle::of` in src/triangle.rt: the facts of the value that it makes.
+-- The goals of `Triangle::of` in src/triangle.rt, which makes costs of the listed weights of a triangle: the facts of
+-- the value that it makes.
 use Rattle.tsp_file.specs.ListedWeights.{UnlistedHaveNoPlace}
 use Rattle.tsp_file.proofs.Listed.{unlisted_has_no_place, triangle_even}
 use Rattle.tsp_cost.proofs.triangle.Triangle.of.Goals as goal

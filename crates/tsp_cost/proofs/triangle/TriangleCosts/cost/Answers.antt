@@ -1,4 +1,5 @@
--- The goals of `cost` in src/triangle.rt, of the trait `Costs` for `Triangle`: what it ensures.
+-- The goals of `cost` in src/triangle.rt, of the trait `Costs` for `Triangle`: what it ensures. It returns the listed
+-- weight of the pair, in either direction.
 use Rattle.std.proofs.Common.{◌≡◌, ◌<◌, ℕ, length, false, ap, sym, ◌∙◌, arith}
 use Rattle.std.specs.Prelude.{pos, slice_index_or}
 use Rattle.tsp_format.specs.Cells.{is_listed}

@@ -1,4 +1,5 @@
--- The goals of `File::as_matrix` in src/typed.rt: what its calls require and what it ensures.
+-- The goals of `File::as_matrix` in src/typed.rt, which returns listed weights with their layout: what its calls
+-- require and what it ensures.
 use Rattle.std.proofs.Common.{◌≡◌, Some, sym, ap, ◌∙◌}
 use Rattle.std.specs.Prelude.{is_some}
 use Rattle.tsp_format.specs.declared.layout.Layout.{Layout}

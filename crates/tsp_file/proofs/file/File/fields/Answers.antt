@@ -1,4 +1,4 @@
--- The goals of `File::fields` in src/file.rt: what it ensures.
+-- The goals of `File::fields` in src/file.rt, which returns the fields as a draft: what it ensures.
 use Rattle.std.proofs.Common.{◌≡◌, None, subst}
 use Rattle.tsp_draft.specs.Fields.{Fields}
 use Rattle.tsp_draft.specs.Rules.{fault_of}

@@ -1,4 +1,4 @@
--- The goals of `File::way` in src/relayout.rt: what it ensures.
+-- The goals of `File::way` in src/relayout.rt, which says how the weights get into another layout: what it ensures.
 use Rattle.std.proofs.Common.{◌≡◌, Some, sym, ap, ◌∙◌}
 use Rattle.std.proofs.lemmas.Bool.{false≢true}
 use Rattle.tsp_format.specs.declared.kinds.WeightFormat.TheVariants.{Listed}

@@ -1,5 +1,5 @@
--- The goals of `File::with_half` in src/file.rt: what its calls require, what it ensures and the facts of the file that
--- it makes.
+-- The goals of `File::with_half` in src/file.rt, which changes a full matrix into half of one: what its calls require,
+-- what it ensures and the facts of the file that it makes.
 use Rattle.std.proofs.Common.{◌≡◌, ℕ, List, Some, None, sym, ap, subst, ◌∙◌}
 use Rattle.std.specs.Prelude.{is_some, ℤ}
 use Rattle.std.specs.Option.{option_map}

@@ -1,4 +1,4 @@
--- The goals of `File::with_weights` in src/file.rt: the facts of the file that it makes.
+-- The goals of `File::with_weights` in src/file.rt, which replaces the weights: the facts of the file that it makes.
 use Rattle.std.proofs.Common.{◌≡◌, None, sym, subst}
 use Rattle.tsp_draft.specs.Fields.{Fields}
 use Rattle.tsp_draft.specs.Rules.{fault_of}

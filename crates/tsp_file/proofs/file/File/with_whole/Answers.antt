@@ -1,5 +1,5 @@
--- The goals of `File::with_whole` in src/file.rt: what its calls require, what it ensures and the facts of the file
--- that it makes.
+-- The goals of `File::with_whole` in src/file.rt, which changes half of a matrix into the full one: what its calls
+-- require, what it ensures and the facts of the file that it makes.
 use Rattle.std.proofs.Common.{◌≡◌, rules, false, Result, Ok, Err, Some, sym, ap, subst, ◌∙◌}
 use Rattle.std.specs.Prelude.{OnOk, is_some}
 use Rattle.std.specs.Option.{option_map}

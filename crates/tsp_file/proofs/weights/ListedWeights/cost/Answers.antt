@@ -1,4 +1,5 @@
--- The goals of `ListedWeights::cost` in src/weights.rt: what it ensures.
+-- The goals of `ListedWeights::cost` in src/weights.rt, which returns the weight of a pair, in either direction, or 0:
+-- what it ensures.
 use Rattle.std.proofs.Common.{◌≡◌, ◌<◌, None, length, sym, ◌∙◌, arith}
 use Rattle.std.specs.Prelude.{pos, slice_index_or}
 use Rattle.tsp_format.specs.Place.{place_of}
@@ -6,7 +7,8 @@ use Rattle.tsp_file.proofs.Listed.{cost_of_cell, cost_mirrored, cost_unlisted, w
 use Rattle.tsp_file.proofs.Relaid.{no_cell}
 use Rattle.tsp_file.proofs.weights.ListedWeights.cost.Goals as goal
 
--- plan: by the layout: it lists the cell (`cost_of_cell`), the mirrored one (`cost_mirrored`), or neither (`cost_unlisted`)
+-- plan: by the layout: it lists the cell (`cost_of_cell`), the mirrored one (`cost_mirrored`), or neither
+-- (`cost_unlisted`)
 pub returns-then-lists : goal.returns-then-lists
 returns-then-lists c =
     let w = c.args.self.now in

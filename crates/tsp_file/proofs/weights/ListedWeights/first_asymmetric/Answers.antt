@@ -1,4 +1,5 @@
--- The goals of `ListedWeights::first_asymmetric` in src/weights.rt: what it ensures.
+-- The goals of `ListedWeights::first_asymmetric` in src/weights.rt, which finds the first pair whose two costs differ:
+-- what it ensures.
 use Rattle.tsp_file.proofs.Listed.{even_between_nodes}
 use Rattle.tsp_file.proofs.Relaid.{outside}
 use Rattle.tsp_file.proofs.weights.ListedWeights.first_asymmetric.Goals as goal

@@ -1,4 +1,5 @@
--- The goals of `ListedWeights::first_asymmetric_by_rows` in src/weights.rt: what it ensures.
+-- The goals of `ListedWeights::first_asymmetric_by_rows` in src/weights.rt, which finds the first pair whose two costs
+-- differ, one pair after another: what it ensures.
 use Rattle.std.proofs.Common.{◌<◌, arith}
 use Rattle.tsp_file.proofs.Listed.{even_between_nodes}
 use Rattle.tsp_file.proofs.Relaid.{outside}

@@ -1,4 +1,5 @@
--- The goals of `ListedWeights::weight` in src/weights.rt: what it ensures.
+-- The goals of `ListedWeights::weight` in src/weights.rt, which returns the weight of a pair in a full matrix: what it
+-- ensures.
 use Rattle.std.proofs.Common.{◌≡◌, ◌<◌, Some, length, sym, ap, ◌∙◌, arith}
 use Rattle.std.specs.Prelude.{pos, slice_index_or}
 use Rattle.tsp_format.specs.Place.{place_of}

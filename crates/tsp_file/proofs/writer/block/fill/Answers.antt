@@ -1,4 +1,5 @@
--- The goals of `fill` in src/writer/block.rt: that its loop begins.
+-- The goals of `fill` in src/writer/block.rt, which writes weights of few digits to the end of a block: that its loop
+-- begins.
 use Rattle.std.proofs.Common.{◌≡◌, length, rules, arith}
 use Rattle.tsp_file.proofs.Blocks.{block_begins}
 use Rattle.tsp_file.proofs.writer.block.fill.Goals as goal

@@ -1,4 +1,4 @@
--- The goals of `put_block` in src/writer/block.rt: what it ensures.
+-- The goals of `put_block` in src/writer/block.rt, which adds weights by way of a block: what it ensures.
 use Rattle.std.proofs.Common.{◌≡◌, ◌∙◌, ◌-◌, take, drop, arith}
 use Rattle.std.proofs.lemmas.List.{take_all, length-drop}
 use Rattle.tsp_file.proofs.writer.block.put_block.Goals as goal

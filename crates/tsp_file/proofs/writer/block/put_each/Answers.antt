@@ -1,4 +1,4 @@
--- The goals of `put_each` in src/writer/block.rt: its loop and what it ensures.
+-- The goals of `put_each` in src/writer/block.rt, which adds weights one by one: its loop and what it ensures.
 use Rattle.std.proofs.Common.{List, ℕ, ◌∷◌, arith, rules, get_or}
 use Rattle.std.specs.Prelude.{ℤ, pos, FitsSigned}
 use Rattle.std.specs.Int.{w64}

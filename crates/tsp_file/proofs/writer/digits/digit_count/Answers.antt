@@ -1,4 +1,4 @@
--- The goals of `digit_count` in src/writer/digits.rt: what it ensures.
+-- The goals of `digit_count` in src/writer/digits.rt, which counts the digits of a number: what it ensures.
 use Rattle.std.proofs.Common.{arith}
 use Rattle.tsp_file.proofs.Digits.{counted}
 use Rattle.tsp_file.proofs.writer.digits.digit_count.Goals as goal

@@ -1,4 +1,5 @@
--- The goals of `write_digits` in src/writer/digits.rt: that no difference overflows and what it ensures.
+-- The goals of `write_digits` in src/writer/digits.rt, which writes eight digits so that they end at a place: that no
+-- difference overflows and what it ensures.
 use Rattle.std.proofs.Common.{◌≡◌, ◌+◌, ◌-◌, ◌/◌, ◌%◌, ◌++◌, ℕ, List, drop, ap, ◌∙◌, arith}
 use Rattle.tsp_file.proofs.Digits.{pair, at_most_eight, digits_written}
 use Rattle.tsp_file.proofs.writer.digits.write_digits.Goals as goal

@@ -1,4 +1,4 @@
--- The goals of `put_value` in src/writer/keywords.rt: what it ensures.
+-- The goals of `put_value` in src/writer/keywords.rt, which adds the line of a keyword with its value: what it ensures.
 use Rattle.std.proofs.Common.{[], ◌∷◌, ◌++◌, sym, ◌∙◌}
 use Rattle.std.specs.Prelude.{codes}
 use Rattle.tsp_stream.specs.states.WriteProgress.{Carried, way_of}

@@ -1,4 +1,5 @@
--- The goals of `put_lines` in src/writer/matrix.rt: its loop and what it ensures.
+-- The goals of `put_lines` in src/writer/matrix.rt, which adds the lines of the weights, one for each row or column:
+-- its loop and what it ensures.
 use Rattle.std.proofs.Common.{◌≡◌, ◌∙◌, sym, length, map, min, arith}
 use Rattle.tsp_format.specs.Nodes.{nodes_to}
 use Rattle.tsp_format.specs.Cells.{cells_of_line}

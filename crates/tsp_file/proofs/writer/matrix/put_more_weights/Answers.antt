@@ -1,4 +1,5 @@
--- The goals of `put_more_weights` in src/writer/matrix.rt: its loop and what it ensures.
+-- The goals of `put_more_weights` in src/writer/matrix.rt, which adds weights, by a block or one by one: its loop and
+-- what it ensures.
 use Rattle.std.proofs.Common.{[], refl}
 use Rattle.tsp_stream.specs.states.WriteProgress.{way_of}
 use Rattle.tsp_stream.proofs.Carrying.{carried_none}

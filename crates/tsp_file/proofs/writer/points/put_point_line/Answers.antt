@@ -1,4 +1,5 @@
--- The goals of `put_point_line` in src/writer/points.rt: what it ensures.
+-- The goals of `put_point_line` in src/writer/points.rt, which adds the line of a node with its coordinates: what it
+-- ensures.
 use Rattle.std.proofs.Common.{◌≡◌, ◌∙◌, ◌-◌, take, drop, arith}
 use Rattle.std.proofs.lemmas.List.{take_all, length-drop}
 use Rattle.tsp_file.proofs.writer.points.put_point_line.Goals as goal

@@ -1,4 +1,5 @@
--- The goals of `write_point_line` in src/writer/points.rt: what its calls require and what it ensures.
+-- The goals of `write_point_line` in src/writer/points.rt, which writes the line of a node with its coordinates: what
+-- its calls require and what it ensures.
 use Rattle.std.proofs.Common.{[], ◌∷◌, ◌++◌, ℕ, List, cond, ap, sym, ◌∙◌, append_assoc, arith, rules}
 use Rattle.std.proofs.lemmas.Fmt.{length-decimal-le}
 use Rattle.std.specs.List.{flat_map}

@@ -1,4 +1,4 @@
--- The goals of `put_opening` in src/writer/sections.rt: what it ensures.
+-- The goals of `put_opening` in src/writer/sections.rt, which adds the line that opens a section: what it ensures.
 use Rattle.tsp_format.specs.Words.{field_word}
 use Rattle.tsp_stream.specs.states.WriteProgress.{way_of}
 use Rattle.tsp_stream.proofs.Carrying.{carried_then}

@@ -1,4 +1,4 @@
--- The goals of `put_before_blank` in src/writer/tree.rt: what it ensures.
+-- The goals of `put_before_blank` in src/writer/tree.rt, which adds a number and a blank: what it ensures.
 use Rattle.std.proofs.Common.{[], ◌∷◌}
 use Rattle.tsp_stream.specs.states.WriteProgress.{way_of}
 use Rattle.tsp_stream.proofs.Carrying.{carried_then}

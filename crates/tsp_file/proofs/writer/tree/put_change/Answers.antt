@@ -1,4 +1,5 @@
--- The goals of `put_change` in src/writer/tree.rt: what it ensures.
+-- The goals of `put_change` in src/writer/tree.rt, which adds the index and the difference of a number: what it
+-- ensures.
 use Rattle.std.proofs.Common.{[], ◌++◌, rules}
 use Rattle.std.specs.Fmt.{decimal, signed_decimal}
 use Rattle.tsp_stream.specs.states.WriteProgress.{way_of}

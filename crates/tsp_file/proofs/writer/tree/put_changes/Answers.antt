@@ -1,4 +1,4 @@
--- The goals of `put_changes` in src/writer/tree.rt: its loop and what it ensures.
+-- The goals of `put_changes` in src/writer/tree.rt, which adds the differences of a leaf: its loop and what it ensures.
 use Rattle.std.proofs.Common.{ℕ, List, sym, subst, arith, rules, get_or}
 use Rattle.std.specs.Prelude.{ℤ, pos, FitsSigned}
 use Rattle.std.specs.List.{flat_map}

@@ -1,4 +1,5 @@
--- The goals of `Opened::bind` in src/opened.rt: that what it keeps is the basis, and what it ensures.
+-- The goals of `Opened::bind` in src/opened.rt, which binds a certificate to an open instance: that what it keeps is
+-- the basis, and what it ensures.
 use Rattle.std.proofs.Common.{◌≡◌, Err, ap, refl, rules, subst}
 use Rattle.std.specs.Prelude.{IsTrue}
 use Rattle.tsp_verdict.specs.Bounded.{IsBoundVerdict}

@@ -1,4 +1,5 @@
--- The goals of `Opened::judge` in src/opened.rt: what its calls require and what it ensures.
+-- The goals of `Opened::judge` in src/opened.rt, which judges a solution by an open instance: what its calls require
+-- and what it ensures.
 use Rattle.std.proofs.Common.{◌≡◌, Err, subst}
 use Rattle.tsp_judge.specs.Open.{Open, IsHeldVerdict}
 use Rattle.tsp_read.proofs.Propagated.{propagated}

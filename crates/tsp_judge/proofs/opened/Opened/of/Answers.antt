@@ -1,4 +1,4 @@
--- The goals of `Opened::of` in src/opened.rt: what it ensures.
+-- The goals of `Opened::of` in src/opened.rt, which opens the instance of a text: what it ensures.
 use Rattle.std.proofs.Common.{◌≡◌, Err, refl}
 use Rattle.tsp_read.proofs.Propagated.{propagated}
 use Rattle.tsp_judge.proofs.Openings.{unopened}

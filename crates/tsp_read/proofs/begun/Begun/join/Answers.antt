@@ -1,4 +1,5 @@
--- The goals of `Begun::join` in src/begun.rt: what it ensures.
+-- The goals of `Begun::join` in src/begun.rt, which takes the item that has begun, if the piece has its end: what it
+-- ensures.
 use Rattle.std.proofs.Common.{◌≡◌, Ok, Err, true, sym, ap, ◌∙◌, ◌<◌, ◌≤◌, ◌+◌, ◌++◌, List, ℕ, length, subst, length-append, refl, arith}
 use Rattle.tsp_text.specs.Lines.{is_not_empty}
 use Rattle.tsp_text.specs.Items.{Item}

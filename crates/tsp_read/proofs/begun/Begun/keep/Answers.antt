@@ -1,4 +1,4 @@
--- The goals of `Begun::keep` in src/begun.rt: what it ensures.
+-- The goals of `Begun::keep` in src/begun.rt, which keeps what is left of a piece: what it ensures.
 use Rattle.std.proofs.Common.{arith, ◌≤◌, ◌+◌, ◌++◌, List, ℕ, length, sym, ap, subst, ◌∙◌}
 use Rattle.tsp_read.specs.states.Token.{most_bytes}
 use Rattle.tsp_read.proofs.BegunSteps.{begun_token, open_token, has_taken}

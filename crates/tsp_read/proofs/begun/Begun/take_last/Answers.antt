@@ -1,4 +1,5 @@
--- The goals of `Begun::take_last` in src/begun.rt: what it ensures.
+-- The goals of `Begun::take_last` in src/begun.rt, which takes the item that has begun as the text's last: what it
+-- ensures.
 use Rattle.std.proofs.Common.{sym, ◌∙◌, subst, List}
 use Rattle.tsp_text.specs.Items.{Item}
 use Rattle.tsp_read.specs.states.Intake.{HasTakenItems, TakesNext}

@@ -1,4 +1,5 @@
--- The goals of `Feed::end` in src/feed.rt: what it ensures.
+-- The goals of `Feed::end` in src/feed.rt, which takes the item that has begun as the last, and returns what was read:
+-- what it ensures.
 use Rattle.std.proofs.Common.{subst, sym}
 use Rattle.tsp_read.specs.declared.state.reading.Reading.{Reading}
 use Rattle.tsp_read.specs.Feed.{SpellsWhole}

@@ -1,4 +1,5 @@
--- The goals of `Feed::go_on` in src/feed.rt: the facts of the feed that it changes, and what it ensures.
+-- The goals of `Feed::go_on` in src/feed.rt, which takes a piece up to the most bytes of a file: the facts of the feed
+-- that it changes, and what it ensures.
 use Rattle.std.proofs.Common.{refl, sym, ap, subst, ◌∙◌, ◌+◌, ◌++◌, length, arith, rules, length-append}
 use Rattle.std.proofs.Math.Logic.{∥∥₁_map}
 use Rattle.tsp_read.specs.declared.stage.Stage.{Stage}

@@ -1,4 +1,4 @@
--- The goals of `Feed::into_file` in src/feed.rt: what it ensures.
+-- The goals of `Feed::into_file` in src/feed.rt, which returns the file of the bytes so far: what it ensures.
 use Rattle.std.proofs.Common.{sym, ◌∙◌}
 use Rattle.std.proofs.lemmas.Bool.{false≢true}
 use Rattle.tsp_read.proofs.LastSteps.{whole_answer, open_not_bare}

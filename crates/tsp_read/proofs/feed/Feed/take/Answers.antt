@@ -1,8 +1,9 @@
--- The goals of `Feed::take` in src/feed.rt: what it ensures.
+-- The goals of `Feed::take` in src/feed.rt, which takes the next piece: what it ensures.
 use Rattle.tsp_read.proofs.FeedSteps.{feeds_refused, feeds_ended, feeds_going, not_refused, still_going}
 use Rattle.tsp_read.proofs.feed.Feed.take.Goals as goal
 
--- plan: by the stage: a refusal stays (`feeds_refused`), an end stays (`feeds_ended`), or the piece is read (`feeds_going`)
+-- plan: by the stage: a refusal stays (`feeds_refused`), an end stays (`feeds_ended`), or the piece is read
+-- (`feeds_going`)
 pub returns-in-Refused-clause-taken : goal.returns-in-Refused-clause-taken
 returns-in-Refused-clause-taken c = λ bytes h. feeds_refused c.args.self.now bytes c.args.piece.now c.in-Refused.fault c.in-Refused.is h
 

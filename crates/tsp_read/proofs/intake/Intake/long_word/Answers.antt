@@ -1,4 +1,5 @@
--- The goals of `Intake::long_word` in src/intake.rt: what it ensures.
+-- The goals of `Intake::long_word` in src/intake.rt, which returns the fault of a word that is too long: what it
+-- ensures.
 use Rattle.std.proofs.Common.{refl}
 use Rattle.tsp_text.specs.Items.{NumberWord}
 use Rattle.tsp_read.proofs.IntakeSteps.{same_long, never_long}

@@ -1,4 +1,4 @@
--- The goals of `Intake::take_items` in src/intake.rt: its loop and what it ensures.
+-- The goals of `Intake::take_items` in src/intake.rt, which takes the items of a piece: its loop and what it ensures.
 use Rattle.std.proofs.Common.{◌≡◌, Err, refl, arith, true}
 use Rattle.tsp_read.specs.states.Left.{item_next, is_in_line, items_left}
 use Rattle.tsp_read.proofs.IntakeSteps.{read_further, read_to_end, read_to_fault}

@@ -1,4 +1,4 @@
--- The goals of `Intake::take_next` in src/intake.rt: what it ensures.
+-- The goals of `Intake::take_next` in src/intake.rt, which takes the next item: what it ensures.
 use Rattle.std.proofs.Common.{◌∙◌}
 use Rattle.tsp_read.specs.states.Left.{item_next}
 use Rattle.tsp_read.proofs.ReadSteps.{words_next}

@@ -1,4 +1,4 @@
--- The goals of `store` in src/state/store.rt: what it ensures.
+-- The goals of `store` in src/state/store.rt, which puts the list of a section into the draft: what it ensures.
 use Rattle.std.proofs.Common.{refl}
 use Rattle.tsp_format.specs.states.TreeSteps.{steps_of}
 use Rattle.tsp_draft.specs.states.Drafts.{points_of, combs_of, fields_of}

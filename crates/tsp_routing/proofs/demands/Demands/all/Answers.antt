@@ -1,4 +1,4 @@
--- The goals of `Demands::all` in src/needs.rt: its loop and what it ensures.
+-- The goals of `Demands::all` in src/needs.rt, which sums the demands of all customers: its loop and what it ensures.
 use Rattle.std.proofs.Common.{◌≡◌, ◌∙◌, ◌≤◌, ℕ, ℤ, arith, ap, to_z}
 use Rattle.std.specs.Int.{w64}
 use Rattle.std.proofs.lemmas.Int.{ints}

@@ -1,4 +1,4 @@
--- The goals of `Demands::fewest` in src/needs.rt: what it ensures.
+-- The goals of `Demands::fewest` in src/needs.rt, which counts the routes that all customers need: what it ensures.
 use Rattle.std.proofs.Common.{◌∙◌, subst, rules, ℤ}
 use Rattle.std.specs.Int.{w64}
 use Rattle.std.proofs.lemmas.Int.{to_z-of_z}

@@ -1,4 +1,4 @@
--- The goals of `Demands::load` in src/needs.rt: its loop.
+-- The goals of `Demands::load` in src/needs.rt, which sums the demands of some customers: its loop.
 use Rattle.std.proofs.Common.{◌≡◌, ◌∷◌, ◌∙◌, ◌+◌, ◌≤◌, ℕ, ℤ, List, get_or, drop, refl, arith, to_z, drop-cons, add-one}
 use Rattle.std.specs.Int.{w64}
 use Rattle.tsp_format.specs.Limits.{most_nodes}

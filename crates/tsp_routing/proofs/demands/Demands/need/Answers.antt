@@ -1,4 +1,4 @@
--- The goals of `Demands::need` in src/needs.rt: what it ensures.
+-- The goals of `Demands::need` in src/needs.rt, which counts the routes that some customers need: what it ensures.
 use Rattle.tsp_routing.specs.states.Demands.{loads_problem}
 use Rattle.tsp_routing.proofs.CutNeeds.{cut_of}
 use Rattle.tsp_routing.proofs.demands.Demands.need.Goals as goal

@@ -1,4 +1,5 @@
--- The goals of `Demands::routes_of` in src/needs.rt: what it ensures.
+-- The goals of `Demands::routes_of` in src/needs.rt, which divides a demand by the capacity, rounded up: what it
+-- ensures.
 use Rattle.std.proofs.Common.{rules, FitsSigned}
 use Rattle.std.specs.Int.{w64}
 use Rattle.std.proofs.lemmas.Int.{to_z-of_z}

@@ -1,4 +1,5 @@
--- The goals of `KeptWeights::are_narrow` in src/kept_weights.rt: its loop.
+-- The goals of `KeptWeights::are_narrow` in src/kept_weights.rt, which says whether all weights are small enough for
+-- sums of 64 bits: its loop.
 use Rattle.std.proofs.Common.{◌+◌, ◌^◌, ℕ, ℤ, subst, sym, arith, inl, inr}
 use Rattle.std.specs.Prelude.{pos, neg_ℤ}
 use Rattle.std.proofs.lemmas.Bool.{cases_eq}

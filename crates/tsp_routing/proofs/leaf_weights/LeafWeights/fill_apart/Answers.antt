@@ -1,4 +1,5 @@
--- The goals of `LeafWeights::fill_apart` in src/leaf_weights.rt: what it ensures.
+-- The goals of `LeafWeights::fill_apart` in src/leaf_weights.rt, which writes a row as if no set had two nodes: what it
+-- ensures.
 use Rattle.std.proofs.Common.{◌≡◌, ◌-◌, ◌*◌, ℤ, arith, rules, subst, inr, ap, ap₂, ◌∙◌, to_z, of_z, FitsSigned}
 use Rattle.std.specs.Int.{w64, int_wrap}
 use Rattle.std.specs.Prelude.{pos, neg_ℤ, ◌+ℤ◌, ◌*ℤ◌}

@@ -1,4 +1,5 @@
--- The goals of `LeafWeights::fill_row` in src/leaf_weights.rt: what its calls require and what it ensures.
+-- The goals of `LeafWeights::fill_row` in src/leaf_weights.rt, which writes the weights between a node and each node
+-- into a row: what its calls require and what it ensures.
 use Rattle.std.proofs.Common.{◌≡◌, ℕ, ℤ, List, sym, subst, ◌∙◌}
 use Rattle.std.specs.Prelude.{pos, neg_ℤ}
 use Rattle.std.specs.List.{All}
@@ -15,7 +16,8 @@ use Rattle.tsp_cases.proofs.SetAlgebra.{places_inside}
 use Rattle.tsp_routing.proofs.SignedValues.{signed_at}
 use Rattle.tsp_routing.proofs.leaf_weights.LeafWeights.fill_row.Goals as goal
 
--- plan: a row without sets of two nodes, and what these add, are the weights, whose remainders in 64 bits are themselves
+-- plan: a row without sets of two nodes, and what these add, are the weights, whose remainders in 64 bits are
+-- themselves
 pub add_sets-requires-clause-places : goal.add_sets-requires-clause-places
 add_sets-requires-clause-places g c =
     let p = c.args.self.now in

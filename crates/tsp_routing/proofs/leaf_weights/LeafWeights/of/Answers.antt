@@ -1,4 +1,4 @@
--- The goals of `LeafWeights::of` in src/leaf_weights.rt: what its value keeps.
+-- The goals of `LeafWeights::of` in src/leaf_weights.rt, which makes the weights of a leaf: what its value keeps.
 use Rattle.std.proofs.Common.{◌≡◌, ◌∙◌, ℕ, ℤ, List, length, subst, sym, arith, rules, FitsSigned}
 use Rattle.std.specs.Prelude.{pos, neg_ℤ}
 use Rattle.std.specs.Global.{Vec}

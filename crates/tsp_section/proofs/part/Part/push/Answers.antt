@@ -1,4 +1,4 @@
--- The goals of `Part::push` in src/part.rt: what it ensures.
+-- The goals of `Part::push` in src/part.rt, which takes the next word of the open section: what it ensures.
 use Rattle.std.proofs.Common.{refl}
 use Rattle.tsp_section.specs.declared.part.Part.TheVariants as parts
 use Rattle.tsp_section.proofs.PartSteps as steps

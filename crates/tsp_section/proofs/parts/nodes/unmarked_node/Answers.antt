@@ -1,4 +1,5 @@
--- The goals of `unmarked_node` in src/parts/nodes.rt: what it ensures.
+-- The goals of `unmarked_node` in src/parts/nodes.rt, which returns the node of a group, if it is one and no earlier
+-- group has it: what it ensures.
 use Rattle.std.proofs.Common.{◌≡◌, ◌-◌, false, slice_index_or, rules, arith, FitsSigned, w64}
 use Rattle.std.proofs.lemmas.Int.{to_z-of_z}
 use Rattle.tsp_section.proofs.NodeGroups.{unmarked}

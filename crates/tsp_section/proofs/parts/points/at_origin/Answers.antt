@@ -1,4 +1,4 @@
--- The goals of `at_origin` in src/parts/points.rt: what it ensures.
+-- The goals of `at_origin` in src/parts/points.rt, which makes points with coordinates 0: what it ensures.
 use Rattle.std.proofs.Common.{map, ap, sym, ◌∙◌}
 use Rattle.std.specs.Prelude.{replicate}
 use Rattle.tsp_distance.specs.declared.decimal.PlanePoint.{PlanePoint}

@@ -1,4 +1,4 @@
--- The goals of `GatheredNodesRunList::take_whole` in src/run.rt: what it ensures.
+-- The goals of `GatheredNodesRunList::take_whole` in src/run.rt, which takes a number if it fits: what it ensures.
 use Rattle.std.proofs.Common.{refl, rules, FitsSigned, w64}
 use Rattle.std.proofs.lemmas.Int.{to_z-of_z}
 use Rattle.tsp_section.proofs.run.GatheredNodesRunList.take_whole.Goals as goal

@@ -1,4 +1,5 @@
--- The goals of `NumberListRunList::take_whole` in src/run.rt: what it ensures.
+-- The goals of `NumberListRunList::take_whole` in src/run.rt, which takes the number of a word, if the list takes it:
+-- what it ensures.
 use Rattle.std.proofs.Common.{Ok, refl, rules, FitsSigned, w64}
 use Rattle.std.proofs.lemmas.Int.{to_z-of_z}
 use Rattle.tsp_section.specs.declared.part.Part.TheVariants as parts

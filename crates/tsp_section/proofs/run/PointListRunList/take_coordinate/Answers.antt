@@ -1,4 +1,4 @@
--- The goals of `PointListRunList::take_coordinate` in src/run.rt: what it ensures.
+-- The goals of `PointListRunList::take_coordinate` in src/run.rt, which takes a coordinate if it fits: what it ensures.
 use Rattle.std.proofs.Common.{Ok, refl}
 use Rattle.tsp_section.specs.declared.part.Part.TheVariants as parts
 use Rattle.tsp_section.proofs.PartSteps as steps

@@ -1,4 +1,5 @@
--- The goals of `Costs::length` in src/costs.rt: its loop and what its calls require.
+-- The goals of `Costs::length` in src/costs.rt, which sums the costs around a list of nodes: its loop and what its
+-- calls require.
 use Rattle.std.proofs.Common.{◌≤◌, List, ℕ, subst, arith, to_z, drop-cons, add-one}
 use Rattle.std.specs.Prelude.{ℤ, slice_index_or}
 use Rattle.std.specs.Int.{w64}

@@ -1,4 +1,4 @@
--- The goals of `Region::joined` in src/region.rt: what it ensures.
+-- The goals of `Region::joined` in src/region.rt, which returns a region around two regions: what it ensures.
 use Rattle.std.proofs.Common.{arith}
 use Rattle.std.proofs.lemmas.Int.{ints}
 use Rattle.tsp_theory.proofs.region.Region.joined.Goals as goal

@@ -1,4 +1,5 @@
--- The goals of `Subject::basis_on` in src/subject.rt: what it ensures.
+-- The goals of `Subject::basis_on` in src/subject.rt, which returns what is known of all solutions, and finds it if
+-- nothing has before: what it ensures.
 use Rattle.std.proofs.Common.{subst}
 use Rattle.tsp_verdict.specs.declared.tour_basis.TourBasis.{TourBasis}
 use Rattle.tsp_verdict.specs.states.TourBases.{IsTourBasis}

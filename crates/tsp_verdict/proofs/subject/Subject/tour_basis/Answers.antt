@@ -1,4 +1,5 @@
--- The goals of `Subject::tour_basis` in src/subject.rt: what it ensures.
+-- The goals of `Subject::tour_basis` in src/subject.rt, which returns what tours of the instance are judged by: what it
+-- ensures.
 use Rattle.std.proofs.Common.{subst}
 use Rattle.tsp_verdict.specs.declared.tour_basis.BoundOrigin.{BoundOrigin}
 use Rattle.tsp_verdict.specs.states.TourBases.{IsSubject}

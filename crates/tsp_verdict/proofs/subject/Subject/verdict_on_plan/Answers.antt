@@ -1,4 +1,4 @@
--- The goals of `Subject::verdict_on_plan` in src/subject.rt: what it ensures.
+-- The goals of `Subject::verdict_on_plan` in src/subject.rt, which judges a solution as routes: what it ensures.
 use Rattle.std.proofs.Common.{rules, subst, sym}
 use Rattle.std.specs.Int.{w64}
 use Rattle.std.specs.Prelude.{FitsSigned}

@@ -1,4 +1,5 @@
--- The goals of `Subject::verdict_on_tour` in src/subject.rt: what its calls require and what it ensures.
+-- The goals of `Subject::verdict_on_tour` in src/subject.rt, which judges a solution as a tour: what its calls require
+-- and what it ensures.
 use Rattle.std.proofs.Common.{◌≡◌, ◌∙◌, ℕ, true, ap, refl, rules, subst, sym}
 use Rattle.std.specs.Int.{w64}
 use Rattle.std.specs.Prelude.{FitsSigned, Some}
@@ -16,8 +17,8 @@ use Rattle.tsp_verdict.proofs.TourReasons.{after_dimension}
 use Rattle.tsp_verdict.proofs.TourVerdicts.{unused_first, is_yes}
 use Rattle.tsp_verdict.proofs.subject.Subject.verdict_on_tour.Goals as goal
 
--- plan: by the first reason (`subject_rejected`), by another length than claimed (`subject_disclaimed`), or by the basis
--- (`subject_judged`)
+-- plan: by the first reason (`subject_rejected`), by another length than claimed (`subject_disclaimed`), or by the
+-- basis (`subject_judged`)
 pub returns-in_default : goal.returns-in_default
 returns-in_default c =
     let s = c.args.self.now in

@@ -1,4 +1,4 @@
--- The goals of `Reading::close` in src/state/reading.rt: what it ensures.
+-- The goals of `Reading::close` in src/state/reading.rt, which puts the open section into the draft: what it ensures.
 use Rattle.std.proofs.Common.{Bool, cond, sym, ap, ◌∙◌}
 use Rattle.tsp_format.specs.Words.{fields_in_order}
 use Rattle.tsp_read.specs.states.Incomplete.{first_of}

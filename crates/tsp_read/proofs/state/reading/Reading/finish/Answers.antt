@@ -1,4 +1,5 @@
--- The goals of `Reading::finish` in src/state/finish.rt: what its call requires.
+-- The goals of `Reading::finish` in src/state/finish.rt, which returns the file, or the fault at its end: what its call
+-- requires.
 use Rattle.std.proofs.Common.{◌≡◌, None, Option, sym, subst}
 use Rattle.tsp_draft.specs.declared.draft.Draft.{Draft}
 use Rattle.tsp_draft.specs.states.Drafts.{fields_of}

@@ -1,4 +1,4 @@
--- The goals of `Reading::known` in src/state/lines.rt: what it ensures.
+-- The goals of `Reading::known` in src/state/lines.rt, which takes the line of a keyword: what it ensures.
 use Rattle.std.proofs.Common.{refl, rules, map}
 use Rattle.std.specs.Option.{option_map}
 use Rattle.tsp_draft.specs.states.Drafts.{fields_of}

@@ -1,4 +1,4 @@
--- The goals of `Reading::line` in src/state/lines.rt: what it ensures.
+-- The goals of `Reading::line` in src/state/lines.rt, which takes a word line: what it ensures.
 use Rattle.std.proofs.Common.{refl, map}
 use Rattle.std.proofs.lemmas.Bool.{lt-ltb, le-ltb}
 use Rattle.tsp_format.specs.Limits.{most_line_bytes}

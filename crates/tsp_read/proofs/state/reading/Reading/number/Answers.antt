@@ -1,4 +1,5 @@
--- The goals of `Reading::number` in src/state/lines.rt: what it ensures.
+-- The goals of `Reading::number` in src/state/lines.rt, which takes the line of a keyword with a number: what it
+-- ensures.
 use Rattle.std.proofs.Common.{refl, FitsSigned, rules, w64}
 use Rattle.std.proofs.lemmas.Int.{to_z-of_z}
 use Rattle.tsp_section.specs.states.CutLine.{seen}

@@ -1,4 +1,4 @@
--- The goals of `Reading::open` in src/state/sections.rt: what it ensures.
+-- The goals of `Reading::open` in src/state/sections.rt, which opens the section of a field: what it ensures.
 use Rattle.std.proofs.Common.{refl}
 use Rattle.tsp_section.specs.states.CutLine.{seen}
 use Rattle.tsp_read.proofs.SectionSteps as steps

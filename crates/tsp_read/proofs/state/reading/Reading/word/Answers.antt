@@ -1,4 +1,4 @@
--- The goals of `Reading::word` in src/state/reading.rt: what it ensures.
+-- The goals of `Reading::word` in src/state/reading.rt, which takes a word of a number line: what it ensures.
 use Rattle.std.proofs.Common.{refl}
 use Rattle.tsp_read.proofs.WordSteps.{word_answer}
 use Rattle.tsp_read.proofs.state.reading.Reading.word.Goals as goal

@@ -1,4 +1,4 @@
--- The goals of `CombList::end_comb` in src/parts/combs.rt: what it ensures.
+-- The goals of `CombList::end_comb` in src/parts/combs.rt, which ends a comb: what it ensures.
 use Rattle.std.proofs.Common.{◌∙◌, ap, map, refl}
 use Rattle.std.proofs.lemmas.List.{map_push}
 use Rattle.tsp_draft.specs.states.Drafts.{combs_of}

@@ -1,4 +1,4 @@
--- The goals of `CombList::end_set` in src/parts/combs.rt: what it ensures.
+-- The goals of `CombList::end_set` in src/parts/combs.rt, which ends a set: what it ensures.
 use Rattle.std.proofs.Common.{◌∙◌, ap, map, refl}
 use Rattle.std.proofs.lemmas.List.{map_push}
 use Rattle.tsp_section.proofs.HandedOver.{where_moved}

@@ -1,4 +1,4 @@
--- The goals of `DepotList::open` in src/parts/depots.rt: what it ensures.
+-- The goals of `DepotList::open` in src/parts/depots.rt, which begins the section: what it ensures.
 use Rattle.std.proofs.Common.{ap, length, refl}
 use Rattle.tsp_section.proofs.parts.depots.DepotList.open.Goals as goal
 

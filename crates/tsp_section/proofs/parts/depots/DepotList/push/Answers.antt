@@ -1,4 +1,4 @@
--- The goals of `DepotList::push` in src/parts/depots.rt: what it ensures.
+-- The goals of `DepotList::push` in src/parts/depots.rt, which takes the next word: what it ensures.
 use Rattle.std.proofs.Common.{◌≡◌, ◌∙◌, sym, ap, Ok, arith}
 use Rattle.std.specs.Prelude.{pos, negsuc}
 use Rattle.tsp_text.specs.SectionNumbers.{node_or_end}

@@ -1,4 +1,5 @@
--- The goals of `FixedList::finish` in src/parts/fixed.rt: what it ensures.
+-- The goals of `FixedList::finish` in src/parts/fixed.rt, which returns the pairs, and whether one is incomplete: what
+-- it ensures.
 use Rattle.std.proofs.Common.{◌∙◌}
 use Rattle.tsp_section.proofs.ListSteps.{cut_short}
 use Rattle.tsp_section.proofs.FixedSteps.{pair_places}

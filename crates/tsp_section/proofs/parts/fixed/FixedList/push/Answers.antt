@@ -1,4 +1,4 @@
--- The goals of `FixedList::push` in src/parts/fixed.rt: what it ensures.
+-- The goals of `FixedList::push` in src/parts/fixed.rt, which takes the next word: what it ensures.
 use Rattle.std.proofs.Common.{◌∙◌, sym}
 use Rattle.tsp_section.proofs.ListSteps.{past_end}
 use Rattle.tsp_section.proofs.FixedSteps.{pair_places}

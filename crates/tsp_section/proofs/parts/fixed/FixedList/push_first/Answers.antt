@@ -1,4 +1,5 @@
--- The goals of `FixedList::push_first` in src/parts/fixed.rt: what it ensures.
+-- The goals of `FixedList::push_first` in src/parts/fixed.rt, which takes the first node of a pair, or -1: what it
+-- ensures.
 use Rattle.std.proofs.Common.{◌≡◌, ◌∙◌, refl, ap, Ok, Err, arith}
 use Rattle.std.specs.Prelude.{pos, negsuc}
 use Rattle.tsp_text.specs.SectionNumbers.{node_or_end}

@@ -1,4 +1,4 @@
--- The goals of `FixedList::push_second` in src/parts/fixed.rt: what it ensures.
+-- The goals of `FixedList::push_second` in src/parts/fixed.rt, which takes the second node of a pair: what it ensures.
 use Rattle.std.proofs.Common.{◌≡◌, ◌∙◌, ap, Ok, Err}
 use Rattle.std.specs.Prelude.{pos}
 use Rattle.tsp_text.specs.SectionNumbers.{node}

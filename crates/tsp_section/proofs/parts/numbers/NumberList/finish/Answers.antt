@@ -1,4 +1,5 @@
--- The goals of `NumberList::finish` in src/parts/numbers.rt: what it ensures.
+-- The goals of `NumberList::finish` in src/parts/numbers.rt, which returns the list by node, and whether a group is
+-- missing: what it ensures.
 use Rattle.std.proofs.Common.{refl}
 use Rattle.tsp_text.specs.WordPlaces.{Amount}
 use Rattle.tsp_section.proofs.GroupSteps as groups

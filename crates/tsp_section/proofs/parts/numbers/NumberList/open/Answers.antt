@@ -1,4 +1,4 @@
--- The goals of `NumberList::open` in src/parts/numbers.rt: what it ensures.
+-- The goals of `NumberList::open` in src/parts/numbers.rt, which begins the section: what it ensures.
 use Rattle.std.proofs.Common.{[], arith, rules, w64}
 use mir.Val.{SFits}
 use Rattle.std.proofs.lemmas.Int.{to_z-of_z}

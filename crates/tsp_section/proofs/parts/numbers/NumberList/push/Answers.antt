@@ -1,5 +1,5 @@
--- The goals of `NumberList::push` in src/parts/numbers.rt: that no difference overflows, that indices are in range and
--- what it ensures.
+-- The goals of `NumberList::push` in src/parts/numbers.rt, which takes the next word: that no difference overflows,
+-- that indices are in range and what it ensures.
 use Rattle.std.proofs.Common.{◌≡◌, ◌∙◌, refl, sym, subst, Ok, Err, arith, rules, w64}
 use mir.Val.{SFits}
 use Rattle.std.proofs.lemmas.Int.{to_z-of_z}

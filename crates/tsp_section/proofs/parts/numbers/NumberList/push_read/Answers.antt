@@ -1,4 +1,5 @@
--- The goals of `NumberList::push_read` in src/parts/numbers.rt: what it ensures.
+-- The goals of `NumberList::push_read` in src/parts/numbers.rt, which takes the number of a word, if it fits the group:
+-- what it ensures.
 use Rattle.std.proofs.Common.{◌≡◌, refl, Ok, arith, rules, w64, FitsSigned}
 use mir.Val.{SFits}
 use Rattle.std.specs.Prelude.{◌≤ℤ◌}

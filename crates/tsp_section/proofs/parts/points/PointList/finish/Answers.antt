@@ -1,4 +1,5 @@
--- The goals of `PointList::finish` in src/parts/points.rt: what it ensures.
+-- The goals of `PointList::finish` in src/parts/points.rt, which returns the list by node, and whether a group is
+-- missing: what it ensures.
 use Rattle.tsp_draft.specs.states.Drafts.{points_of}
 use Rattle.tsp_section.proofs.CoordSteps.{all_taken}
 use Rattle.tsp_section.proofs.parts.points.PointList.finish.Goals as goal

@@ -1,4 +1,4 @@
--- The goals of `PointList::open` in src/parts/points.rt: what it ensures.
+-- The goals of `PointList::open` in src/parts/points.rt, which begins the section: what it ensures.
 use Rattle.tsp_draft.specs.states.Drafts.{points_of}
 use Rattle.tsp_section.proofs.CoordSteps.{none_so_far}
 use Rattle.tsp_section.proofs.parts.points.PointList.open.Goals as goal

@@ -1,4 +1,4 @@
--- The goals of `PointList::push` in src/parts/points.rt: what it ensures.
+-- The goals of `PointList::push` in src/parts/points.rt, which takes the next word: what it ensures.
 use Rattle.std.proofs.Common.{◌∙◌, sym, subst, Err, arith}
 use Rattle.tsp_draft.specs.states.Drafts.{points_of}
 use Rattle.tsp_section.specs.states.Parts.{IsNewNode}

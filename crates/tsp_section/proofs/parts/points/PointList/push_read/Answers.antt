@@ -1,4 +1,5 @@
--- The goals of `PointList::push_read` in src/parts/points.rt: what it ensures.
+-- The goals of `PointList::push_read` in src/parts/points.rt, which takes the number of a word, if it fits the group:
+-- what it ensures.
 use Rattle.std.proofs.Common.{rules, arith, FitsSigned, w64}
 use Rattle.std.proofs.lemmas.Int.{to_z-of_z}
 use Rattle.tsp_draft.specs.states.Drafts.{points_of}

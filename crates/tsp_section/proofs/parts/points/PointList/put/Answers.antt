@@ -1,4 +1,4 @@
--- The goals of `PointList::put` in src/parts/points.rt: what it ensures.
+-- The goals of `PointList::put` in src/parts/points.rt, which takes the next coordinate of a group: what it ensures.
 use Rattle.std.proofs.Common.{◌-◌, ◌∙◌, sym, ap}
 use Rattle.std.proofs.lemmas.List.{map-set}
 use Rattle.tsp_distance.specs.declared.decimal.PlanePoint.{PlanePoint}

@@ -1,4 +1,5 @@
--- The goals of `GatheredNodes::push_read` in src/parts/tours.rt: what it ensures.
+-- The goals of `GatheredNodes::push_read` in src/parts/tours.rt, which takes the number of a word, if it is a node and
+-- there is capacity: what it ensures.
 use Rattle.std.proofs.Common.{◌+◌, ◌≡◌, ◌++◌, ◌∷◌, [], false, refl, arith, tests, rules, Ok, FitsSigned, w64}
 use Rattle.std.specs.Prelude.{nat_le, pos}
 use Rattle.std.proofs.lemmas.Int.{to_z-of_z}

@@ -1,4 +1,4 @@
--- The goals of `TourList::open` in src/parts/tours.rt: what it ensures.
+-- The goals of `TourList::open` in src/parts/tours.rt, which begins the section: what it ensures.
 use Rattle.std.proofs.Common.{[], refl, ap, map}
 use Rattle.tsp_section.proofs.parts.tours.TourList.open.Goals as goal
 

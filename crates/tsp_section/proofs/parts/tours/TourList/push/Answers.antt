@@ -1,4 +1,4 @@
--- The goals of `TourList::push` in src/parts/tours.rt: what it ensures.
+-- The goals of `TourList::push` in src/parts/tours.rt, which takes the next word: what it ensures.
 use Rattle.std.proofs.Common.{◌+◌, ◌≡◌, ◌∙◌, ap, false, refl, tests, rules, Ok}
 use Rattle.std.specs.Prelude.{nat_le, negsuc, pos}
 use Rattle.tsp_text.specs.SectionNumbers.{node_or_end}

@@ -1,4 +1,4 @@
--- The goals of `TreeList::end_leaf` in src/parts/tree.rt: what it ensures.
+-- The goals of `TreeList::end_leaf` in src/parts/tree.rt, which ends a leaf: what it ensures.
 use Rattle.std.proofs.Common.{◌≡◌, ◌∙◌, ap, ◌-◌, length, ◌∷◌, ◌++◌, [], refl, arith}
 use Rattle.std.specs.Prelude.{slice_set}
 use Rattle.std.proofs.Math.Seq.{set-append_seam}

@@ -1,4 +1,4 @@
--- The goals of `TreeList::push_difference` in src/parts/tree.rt: what it ensures.
+-- The goals of `TreeList::push_difference` in src/parts/tree.rt, which takes a difference: what it ensures.
 use Rattle.std.proofs.Common.{◌≡◌, ◌∙◌, sym, Ok, FitsSigned, rules, w64}
 use Rattle.std.specs.Prelude.{pos, neg_ℤ}
 use Rattle.std.proofs.lemmas.Int.{to_z-of_z}

@@ -1,4 +1,5 @@
--- The goals of `TripleList::finish` in src/parts/triples.rt: what it ensures.
+-- The goals of `TripleList::finish` in src/parts/triples.rt, which returns the triples, and whether one is incomplete:
+-- what it ensures.
 use Rattle.std.proofs.Common.{◌∙◌}
 use Rattle.tsp_section.proofs.ListSteps.{cut_short}
 use Rattle.tsp_section.proofs.TripleSteps.{triple_places}

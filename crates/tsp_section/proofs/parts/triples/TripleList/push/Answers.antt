@@ -1,4 +1,4 @@
--- The goals of `TripleList::push` in src/parts/triples.rt: what it ensures.
+-- The goals of `TripleList::push` in src/parts/triples.rt, which takes the next word: what it ensures.
 use Rattle.std.proofs.Common.{◌∙◌, sym}
 use Rattle.tsp_section.proofs.ListSteps.{past_end}
 use Rattle.tsp_section.proofs.TripleSteps.{triple_places}

@@ -1,4 +1,5 @@
--- The goals of `TripleList::push_first` in src/parts/triples.rt: what it ensures.
+-- The goals of `TripleList::push_first` in src/parts/triples.rt, which takes the first node of a triple, or -1: what it
+-- ensures.
 use Rattle.std.proofs.Common.{◌≡◌, ◌∙◌, refl, ap, Ok, Err, arith}
 use Rattle.std.specs.Prelude.{pos, negsuc}
 use Rattle.tsp_text.specs.SectionNumbers.{node_or_end}

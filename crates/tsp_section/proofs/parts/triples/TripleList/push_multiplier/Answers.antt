@@ -1,4 +1,5 @@
--- The goals of `TripleList::push_multiplier` in src/parts/triples.rt: what it ensures.
+-- The goals of `TripleList::push_multiplier` in src/parts/triples.rt, which takes the multiplier of a triple: what it
+-- ensures.
 use Rattle.std.proofs.Common.{◌≡◌, ◌∙◌, sym, Ok, Err, FitsSigned, rules, w64}
 use Rattle.std.specs.Prelude.{pos}
 use Rattle.std.proofs.lemmas.Int.{to_z-of_z}

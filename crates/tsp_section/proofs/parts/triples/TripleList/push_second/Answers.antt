@@ -1,4 +1,5 @@
--- The goals of `TripleList::push_second` in src/parts/triples.rt: what it ensures.
+-- The goals of `TripleList::push_second` in src/parts/triples.rt, which takes the second node of a triple: what it
+-- ensures.
 use Rattle.std.proofs.Common.{◌≡◌, ◌∙◌, ap, Ok, Err}
 use Rattle.std.specs.Prelude.{pos}
 use Rattle.tsp_text.specs.SectionNumbers.{node}

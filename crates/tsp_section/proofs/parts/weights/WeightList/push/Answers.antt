@@ -1,4 +1,4 @@
--- The goals of `WeightList::push` in src/parts/weights.rt: what it ensures.
+-- The goals of `WeightList::push` in src/parts/weights.rt, which takes the next word: what it ensures.
 use Rattle.std.proofs.Common.{◌≡◌, ◌∙◌, sym, Ok, arith, w64}
 use mir.Val.{SFits}
 use Rattle.std.proofs.lemmas.Int.{ints, to_z-of_z}
