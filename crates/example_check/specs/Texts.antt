@@ -15,7 +15,8 @@ pub record IsVerdictOnTexts (instance_text solution_text : List ℕ) (verdict : 
   pub second_file : Spells solution_text solution
   pub judged : IsTourVerdict instance solution verdict
 
--- the texts parse to files, the second one is an accepted tour or plan of the first one's instance, and this is the report on it
+-- the texts parse to files, the second one is an accepted tour or plan of the first one's instance, and this is the
+-- report on it
 pub record IsAcceptedOnTexts (instance_text solution_text report : List ℕ) : Type 0 where
   pub instance : Fields
   pub solution : Fields

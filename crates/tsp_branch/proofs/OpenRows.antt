@@ -35,7 +35,8 @@ avoided_allows pair i j other = λ e same. other (sym e)
 pub all_passed : (P : Decision → Type 0) (test : Decision → Bool) (case own : List Decision) → stack_of own ≡ filter test case → All P case → All P own
 all_passed P test case own is all = turned_back P own (subst (All P) (sym is) (All-filter test P case all))
 
--- plan: forwards by induction over the case (`each`): it is taken, or bears on the row, or allows the arc (`avoided_allows`)
+-- plan: forwards by induction over the case (`each`): it is taken, or bears on the row, or allows the arc
+-- (`avoided_allows`)
 both_parts : (from x : ℕ) (case own taken : List Decision) → stack_of own ≡ filter (bears_on true from) case → stack_of taken ≡ filter (λ decision. decision.taken) case
     → (All (Allows from x) own × All (Allows from x) taken) ↔ All (Allows from x) case
 both_parts from x case own taken own_is taken_is = (

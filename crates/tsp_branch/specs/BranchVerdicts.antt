@@ -39,7 +39,7 @@ IsBranchVerdict directed n cost scale families given steps (verdict.BranchTwice 
 IsBranchVerdict directed n cost scale families given steps (verdict.BadLeaf leaf) =
     AreLeavesJudged directed n cost scale families given steps (judged.BadLeaf leaf)
 
--- A bound is at most the length of every cycle that keeps the given decisions; where there is none, no cycle keeps them.
+-- A bound is at most the length of every cycle that keeps the given decisions; if there is none, no cycle keeps them.
 abbrev pub VerdictBoundsCycles : Bool → ℕ → (ℕ → ℕ → ℤ) → List Decision → BranchVerdict → Type 0
 VerdictBoundsCycles directed n cost given (verdict.Bound found) = BoundsIfAny directed n cost given found
 VerdictBoundsCycles directed n cost given (verdict.BadFamily family) = Unit {0}

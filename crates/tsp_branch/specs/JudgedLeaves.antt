@@ -1,6 +1,6 @@
 -- The judgement on the leaves of a tree of cases by 1-trees or least links: the bound, or the first bad leaf. For
--- `branch_bound` (src/branch.rt) and BranchVerdicts.antt. JudgedLeaves.antt of tsp_cases has the same for any bound of a
--- leaf.
+-- `branch_bound` (src/branch.rt) and BranchVerdicts.antt. JudgedLeaves.antt of tsp_cases has the same for any bound of
+-- a leaf.
 use Rattle.std.specs.Prelude.{ℕ, length, Bool, List, ℤ}
 use Rattle.tsp_format.specs.Steps as listed
 use Rattle.tsp_cases.specs.declared.judged.JudgedLeaves.{JudgedLeaves}
@@ -22,8 +22,7 @@ AreJudgedLeaves directed n cost scale families crossed given steps (judged.Bound
     × AreGoodLeaves n crossed steps
 AreJudgedLeaves directed n cost scale families crossed given steps (judged.BadLeaf leaf) = IsFirstBadLeaf n crossed steps leaf
 
--- The bound is at most the length of every cycle that keeps the given decisions, and where there is none, no cycle keeps
--- them.
+-- The bound is at most the length of every cycle that keeps the given decisions; if there is none, no cycle does.
 abbrev pub BoundsCycles : Bool → ℕ → (ℕ → ℕ → ℤ) → List Decision → JudgedLeaves → Type 0
 BoundsCycles directed n cost given (judged.Bound found) = BoundsIfAny directed n cost given found
 BoundsCycles directed n cost given (judged.BadLeaf leaf) = Unit {0}

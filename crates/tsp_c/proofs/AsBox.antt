@@ -1,4 +1,5 @@
--- A handle and the parts of a box own what a box of an open instance owns. For `Loose::into_parts` in src/loose.rt and others.
+-- A handle and the parts of a box own what a box of an open instance owns. For `Loose::into_parts` in src/loose.rt and
+-- others.
 use mir.Syntax.{impl, tnil, dnil}
 use mathlib.Core.List.{[]}
 use denote.Signature.{Slot, plain}

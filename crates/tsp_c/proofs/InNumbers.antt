@@ -96,7 +96,8 @@ fault_is fault written status text (inr e) two = let three : status ≡ 3 = e.0 
 
 -- ---- the runs
 
--- plan: by the end of the run: a verdict, over the files of the texts (`are_spelled`); or a fault, by its status (`unchecked`)
+-- plan: by the end of the run: a verdict, over the files of the texts (`are_spelled`); or a fault, by its status
+-- (`unchecked`)
 pub tells_texts : (by : Option Certificate) (claimed : Option ℤ) (strict : Bool) (first second third : Turn) (sink : Sink) (ended : Result Judged RunFault)
     (one two three written : List ℕ) (status : ℕ) (text : List ℕ) (made numbers : CallResult) → Reads3 first second third one two three
     → IsRun (given_by by third) claimed strict first second sink ended → made ≡ result_of_run ended
@@ -125,7 +126,8 @@ tells_texts by claimed strict first second third sink (Err fault) one two three 
   refused = none;
 }
 
--- plan: by the end of the run: a bound, over the files of the texts (`spelled`); or a fault, by its status (`unbounded`)
+-- plan: by the end of the run: a bound, over the files of the texts (`spelled`); or a fault, by its status
+-- (`unbounded`)
 pub tells_bound : (by : Certificate) (strict : Bool) (first second : Turn) (sink : Sink) (ended : Result Bounded RunFault)
     (one two written : List ℕ) (status : ℕ) (text : List ℕ) (made numbers : CallResult) → Reads2 first second one two
     → IsBoundRun by strict first second sink ended → made ≡ result_of_bound_run ended

@@ -134,7 +134,7 @@ IsSizedBound (bounds.Bound bound) = IsGapSized (Some bound)
 IsSizedBound bounds.NoSolution = Unit {0}
 IsSizedBound (bounds.No reason) = Unit {0}
 
--- ---- a fault: its number, the text's number, the line and the word; what is wrong with a number; the field that isn't whole
+-- ---- a fault: the numbers of it, the text, the line and the word; what is wrong with a number; the incomplete field
 
 -- the number of a fault of a line or a word
 abbrev pub line_fault_number : LineFault → ℕ
@@ -243,7 +243,7 @@ abbrev pub result_of_bound_run : Result Bounded RunFault → CallResult
 result_of_bound_run (Ok bounded) = result_of_bound bounded.instance bounded.found
 result_of_bound_run (Err fault) = result_of_fault fault
 
--- ---- the numbers of a call on texts: at the status 0 and 1 those of the verdict, at 2 those of the fault, at 3 all are 0
+-- ---- the numbers of a call on texts: at status 0 and 1 those of the verdict, at 2 those of the fault, at 3 all 0
 
 -- the numbers and the status are those of the verdict on the files that the texts parse to
 pub record IsTextVerdict (given : GivenText) (claimed : Option ℤ) (strict : Bool) (one two : List ℕ) (status : ℕ) (call_result : CallResult) : Type 0 where
@@ -263,8 +263,8 @@ pub record TellsTexts (given : GivenText) (claimed : Option ℤ) (strict : Bool)
   pub faulty : status ≡ 2 → (fault : RunFault) × IsUnchecked given one two fault × (call_result ≡ result_of_fault fault)
   pub refused : status ≡ 3 → call_result ≡ blank_result
 
--- the same, by the numbers of the certificate and of the claim that the caller gave; others are refused, and all numbers
--- are 0
+-- the same, by the numbers of the certificate and of the claim that the caller gave; others are refused, and all
+-- numbers are 0
 abbrev pub TellsBy : ℕ → ℕ → ℤ → List ℕ → List ℕ → List ℕ → ℕ → CallResult → Type 0
 TellsBy by has_claim claimed one two three status call_result =
     (by ≤ 2 → has_claim ≤ 3

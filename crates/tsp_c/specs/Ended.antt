@@ -55,8 +55,8 @@ without_devices fault = fault
 abbrev pub fault_line : RunFault → List ℕ
 fault_line fault = run_fault_text fault ++ 10 ∷ []
 
--- A run with a result ends with its status and with the text that was written; one without, with the status and the line
--- of its fault.
+-- A run with a result ends with its status and with the text that was written; one without, with the status and the
+-- line of its fault.
 abbrev pub IsPrinted : Result Bool RunFault → List ℕ → ℕ → List ℕ → Type 0
 IsPrinted (Ok answer) written status text = (status ≡ status_of (Ok answer)) × (text ≡ written)
 IsPrinted (Err fault) written status text =

@@ -1,6 +1,6 @@
 -- The results of the calls that fill in numbers: nodes, costs, lengths, coordinates, distances. For src/pair_costs.rt,
--- src/list_lengths.rt, src/section_points.rt, src/text_instance.rt and src/distance_call.rt, and for the same calls on a
--- handle (Opened.antt).
+-- src/list_lengths.rt, src/section_points.rt, src/text_instance.rt and src/distance_call.rt, and for the same calls on
+-- a handle (Opened.antt).
 use Rattle.std.specs.Prelude.{◌≡◌, ◌⊎◌, ℕ, zero, suc, ◌+◌, ◌-◌, ◌*◌, ◌/◌, ◌%◌, ◌≤◌, ◌<◌, ◌==◌, min, cond, List, [], ◌∷◌, length, slice_index_or, Option, None, Some, Result, Ok, Err, IsTrue, ℤ, pos, negsuc}
 use Rattle.std.specs.List.{All}
 use Rattle.tsp_distance.specs.declared.decimal.Point.{Point}

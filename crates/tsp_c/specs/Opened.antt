@@ -28,7 +28,7 @@ abbrev pub IsNotOpened : List ℕ → RunFault → Type 0
 IsNotOpened text OutOfMemory = (opened : Open) × IsOpened text opened
 IsNotOpened text fault = IsUnopened text fault
 
--- 0: the handle is open on the instance that the text parses to. Else the handle is closed, with a fault and its status.
+-- 0: the handle is open on the instance that the text parses to. Else it is closed, with a fault and its status.
 abbrev pub OpensText : List ℕ → Held → CallResult → ℕ → Type 0
 OpensText text held call_result status =
     ((opened : Open) × (held ≡ Some opened) × IsOpened text opened × (call_result ≡ result_of_instance opened.instance) × (status ≡ 0))

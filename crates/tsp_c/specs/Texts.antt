@@ -264,8 +264,8 @@ BoundsBy (Some asked) one two status text = BoundsTexts asked.0 asked.1 one two 
 
 -- ---- an explanation
 
--- the calls that are explained, by their numbers, with the other numbers that each takes: 0 shows, 1 converts, 2 checks,
--- 3 bounds
+-- the calls that are explained, by their numbers, with the other numbers that each takes: 0 shows, 1 converts, 2
+-- checks, 3 bounds
 abbrev pub IsExplained : ℕ → ℕ → ℕ → Type 0
 IsExplained call number has_claim = (call ≡ 0)
     ⊎ ((call ≡ 1) × (number ≤ 9))

@@ -1,5 +1,5 @@
--- How large crossings and multipliers make a weight at most: two nodes cross three sets of a comb at most, since a node is in
--- one tooth at most, and others as their number says. For `sum_with` and `judge_numbers` in src/good_numbers.rt.
+-- How large crossings and multipliers make a weight at most: two nodes cross three sets of a comb at most, since a node
+-- is in one tooth at most, and others as their number says. For `sum_with` and `judge_numbers` in src/good_numbers.rt.
 use Rattle.std.proofs.Common.{◌≡◌, ℕ, Bool, true, false, List, [], ◌∷◌, ℤ, ◌≤ℤ◌, ◌≤◌, length, FitsSigned, cond, not, inl, inr, refl, ap, sym, subst, arith}
 use Rattle.std.specs.Prelude.{pos, negsuc, neg_ℤ, ◌+ℤ◌, ◌-ℤ◌, ◌*ℤ◌}
 use Rattle.std.specs.Int.{w64}

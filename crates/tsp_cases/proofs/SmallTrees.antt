@@ -50,7 +50,8 @@ or_right_from x y h f = elim (or_cases x y h) [
   | inr u ↦ u
 ]
 
--- plan: by induction over the pairs: the test has each condition of `Grows` (`leaves_least`), and at the end `all_inner`
+-- plan: by induction over the pairs: the test has each condition of `Grows` (`leaves_least`), and at the end
+-- `all_inner`
 grown_well : (n : ℕ) (w : ℕ → ℕ → ℤ) (grown : ℕ → Bool) (pairs : List (ℕ × ℕ)) → grows_well n w grown pairs ≡ true
     → Grows (IsInner n) w grown pairs × ((x : ℕ) → IsInner n x → grown_by grown pairs x ≡ true)
 grown_well n w grown [] h = (tt, at_inner n grown h)

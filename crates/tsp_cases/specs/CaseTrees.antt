@@ -33,8 +33,8 @@ pub record IsCaseTree (n : ℕ) (families : List Family) (given : List Decision)
 
 -- ---- the bound of a leaf
 
--- What is found of a leaf. Undirected: the bound of a least 1-tree, where all decisions have the same number. Directed: the bound
--- by the least link from each node, or none where some node has no link that the decisions allow.
+-- What is found of a leaf. Undirected: the bound of a least 1-tree, where all decisions have the same number. Directed:
+-- the bound by the least link from each node, or none where some node has no link that the decisions allow.
 abbrev pub IsFoundAt : Bool → ℕ → (ℕ → ℕ → ℤ) → ℤ → ℤ → List Family → List Decision × LeafNumbers → Option ℤ → Type 0
 IsFoundAt false n cost scale number families (case, numbers) (Some bound) =
     IsLeafBound n cost scale numbers.potentials (on_taken number case) (on_avoided number case)

@@ -18,7 +18,7 @@ pub data CaseStep : Type 0 where
   Branch : ℕ × ℕ → CaseStep
   Leaf : LeafNumbers → CaseStep
 
--- Whether steps are that many trees, one after the other. A leaf is a tree, and so is a branch with the two trees after it.
+-- Whether steps are that many trees, one after the other. A leaf is one, and so is a branch with two trees after it.
 abbrev pub are_case_trees : ℕ → List CaseStep → Bool
 are_case_trees zero [] = true
 are_case_trees zero (step ∷ steps) = false
@@ -30,8 +30,8 @@ are_case_trees (suc count) (Leaf numbers ∷ steps) = are_case_trees count steps
 abbrev pub decide : ℕ × ℕ → Bool → List Decision → List Decision
 decide pair taken case = record { pair = pair; taken = taken } ∷ case
 
--- Each leaf with its case. A branch puts two cases in the place of the first open one: the cycles with the pair, and then those
--- without.
+-- Each leaf with its case. A branch puts two cases in the place of the first open one: the cycles with the pair, and
+-- then those without.
 abbrev pub leaves_of : List (List Decision) → List CaseStep → List (List Decision × LeafNumbers)
 leaves_of [] steps = []
 leaves_of (case ∷ cases) [] = []
@@ -60,8 +60,8 @@ abbrev pub BoundsCase : Bool → ℕ → (ℕ → ℕ → ℤ) → ℤ → List 
 BoundsCase directed n cost bound case =
     (nodes : List ℕ) → IsCycle n nodes → KeepsAll directed nodes case → bound ≤ℤ length_of cost nodes
 
--- So a bound that is at most the length of every cycle of each leaf's case is at most the length of every cycle that keeps the
--- given decisions.
+-- So a bound that is at most the length of every cycle of each leaf's case is at most the length of every cycle that
+-- keeps the given decisions.
 abbrev pub CasesBoundCycles : Type 0
 CasesBoundCycles = (directed : Bool) (n : ℕ) (cost : ℕ → ℕ → ℤ) (bound : ℤ) (given : List Decision) (steps : List CaseStep)
     → are_case_trees 1 steps ≡ true → All (BoundsCase directed n cost bound) (cases_of (leaves_of (given ∷ []) steps))
@@ -97,7 +97,7 @@ abbrev pub open_cases : List Decision → Option (List Decision) → List (List 
 open_cases given None = []
 open_cases given (Some stack) = (stack ++ given) ∷ later_cases given stack
 
--- the stack after a leaf: the last taken pair is avoided, and the decisions after it are dropped; none where no pair is taken
+-- the stack after a leaf: the last taken pair is avoided, the decisions after it are dropped; none if no pair is taken
 abbrev pub next_stack : List Decision → Option (List Decision)
 next_stack [] = None
 next_stack (decision ∷ stack) = if decision.taken then Some (decide decision.pair false stack) else next_stack stack

@@ -15,8 +15,8 @@ use Rattle.tsp_cases.specs.CaseTrees.{IsLeastFound}
 use Rattle.tsp_cases.specs.Listed.{listed_steps, all_grown, split_at, IsGoodLeafBy, AreGoodLeavesBy, IsFirstBadLeafBy}
 use Rattle.tsp_cases.specs.states.Rooms.{AreSmall}
 
--- Where the numbers of all leaves are good, the least bound that is found of a leaf, or none where no leaf has one; else
--- the first bad leaf.
+-- Where the numbers of all leaves are good, the least bound that is found of a leaf, or none where no leaf has one;
+-- else the first bad leaf.
 abbrev pub AreJudgedBy : (List Decision × LeafNumbers → Option ℤ → Type 0) → (LeafNumbers → Type 0) → ℕ → ℕ → List Decision
     → List listed.Step → JudgedLeaves → Type 0
 AreJudgedBy found good n combs given steps (judged.Bound least) =

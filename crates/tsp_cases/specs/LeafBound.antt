@@ -29,14 +29,14 @@ least_of families = sum_int_by (λ multiplied. multiplied.1 *ℤ pos multiplied.
 abbrev pub combed : List (Family × ℤ) → (ℕ → ℕ → ℤ) → ℕ → ℕ → ℤ
 combed families w i j = w i j -ℤ crossings_of families i j
 
--- the weight between two nodes: the cost at the scale and the potentials of both, less the numbers of taken pairs, more by
--- those of avoided ones, and less the crossings
+-- the weight between two nodes: the cost at the scale and the potentials of both, less the numbers of taken pairs, more
+-- by those of avoided ones, and less the crossings
 abbrev pub leaf_weight : ℤ → List ℤ → List (ℕ × ℕ × ℤ) → List (ℕ × ℕ × ℤ) → List (Family × ℤ) → (ℕ → ℕ → ℤ) → ℕ → ℕ → ℤ
 leaf_weight scale potentials taken avoided families cost =
     combed families (adjusted taken avoided (weight_between scale potentials cost))
 
--- the bound of a 1-tree of this weight: each potential is taken off twice, and what the numbers of taken pairs and the families
--- take off every cycle is given back
+-- the bound of a 1-tree of this weight: each potential is taken off twice, and what the numbers of taken pairs and the
+-- families take off every cycle is given back
 abbrev pub IsLeafBoundOf : ℤ → List ℤ → List (ℕ × ℕ × ℤ) → List (Family × ℤ) → ℤ → ℤ → Type 0
 IsLeafBoundOf scale potentials taken families weight bound =
     IsLeastBound scale (((weight -ℤ (pos 2 *ℤ total potentials)) +ℤ triples_total taken) +ℤ least_of families) bound

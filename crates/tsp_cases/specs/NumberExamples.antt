@@ -1,5 +1,5 @@
--- The numbers of two leaves, on which the definitions are evaluated. There are three nodes and a comb, whose number is the
--- fourth. For the laws in src/number_examples.rt.
+-- The numbers of two leaves, on which the definitions are evaluated. There are three nodes and a comb, whose number is
+-- the fourth. For the laws in src/number_examples.rt.
 use Rattle.std.specs.Prelude.{ℕ, ◌*◌, List, [], ◌∷◌, ℤ, pos, negsuc}
 use Rattle.tsp_format.specs.Steps as listed
 use Rattle.tsp_families.specs.declared.family.Crossings.{Crossings}

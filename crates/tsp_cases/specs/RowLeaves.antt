@@ -1,5 +1,5 @@
--- The bound of a leaf by the least link from each node, under potentials and multipliers of families, for costs that may
--- differ by the direction. For the law `row_leaf_bounds_bound_cycles` (src/laws.rt) and for CaseTrees.antt.
+-- The bound of a leaf by the least link from each node, under potentials and multipliers of families, for costs that
+-- may differ by the direction. For the law `row_leaf_bounds_bound_cycles` (src/laws.rt) and for CaseTrees.antt.
 -- LeafBound.antt has the bound by 1-trees.
 use Rattle.std.specs.Prelude.{◌≡◌, ℕ, ◌≤◌, true, List, length, ℤ, pos, ◌-ℤ◌, ◌*ℤ◌}
 use Rattle.tsp_theory.specs.CertificateNumbers.{IsScale, total}

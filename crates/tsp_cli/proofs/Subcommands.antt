@@ -1,4 +1,5 @@
--- The subcommand that a parse with no fault enters is never `help`: `help` is itself a fault. For `job_of` in src/words.rt.
+-- The subcommand that a parse with no fault enters is never `help`: `help` is itself a fault. For `job_of` in
+-- src/words.rt.
 use Rattle.std.proofs.Common.{◌≡◌, ◌∙◌, ◌⊎◌, inl, inr, ap₂, subst, unwrap_or, Bool, true, false, List, [], ◌∷◌, Option, Some, None, refl, sym, ap, codes, fold, is_some, option_map}
 use Rattle.std.proofs.lemmas.Bool.{true≢false}
 use Rattle.std.specs.Str.{bytes_eq}

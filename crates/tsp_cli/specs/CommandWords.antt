@@ -34,8 +34,8 @@ text_in = option_map string_bytes
 abbrev pub values_of : Text → List Row → List Text
 values_of id rows = unwrap_or (all_of id rows) []
 
--- the job has the values of F, T, L, P, B and N, where they were found, and all of S; it is strict where U was given, and
--- explained where E was
+-- the job has the values of F, T, L, P, B and N, where they were found, and all of S; it is strict where U was given,
+-- and explained where E was
 abbrev pub HasValues : List Row → Job → Type 0
 HasValues rows job = (text_in job.file ≡ first_of (codes "F") rows)
     × (text_in job.solution ≡ first_of (codes "T") rows)

@@ -11,7 +11,7 @@ use Rattle.clap.specs.declared.builder.command.Command.TheViews.{out-Command}
 abbrev pub path : Text → Rule
 path id = record (new_rule id) { required = true }
 
--- one path at least, and as many more as there are words; help has a name of its own for them
+-- one path at least, and as many more as there are words; help names them differently from one path
 abbrev pub several_paths : Text → Rule
 several_paths id = record (path id) { action = Some Append; value_names = 1 }
 

@@ -115,8 +115,8 @@ has_line_end path = list_any (λ b. b == 10) path
 abbrev pub any_line_end : {Z : Type 0} → List (String Z) → Bool
 any_line_end paths = list_any (λ path. has_line_end (string_bytes path)) paths
 
--- The comparison of these solutions, all those of the job in their order, and one at least. No path has a line end, since the
--- line of its solution ends with it.
+-- The comparison of these solutions, all those of the job in their order, and one at least. No path has a line end,
+-- since the line of its solution ends with it.
 abbrev pub IsComparisonOf : Job → Comparison InputPath → Type 0
 IsComparisonOf job comparison = (job.verb ≡ Some verbs.Compare) × IsInputPathOf (text_in job.file) comparison.instance
     × GivesCertificate job (Ok comparison.certificate) × (comparison.solutions.now ≡ job.solutions.items)

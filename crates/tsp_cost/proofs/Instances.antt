@@ -1,5 +1,5 @@
--- The costs of an instance by its EDGE_WEIGHT_TYPE: listed weights under EXPLICIT, else distances of points. For the law
--- `instances_are_problems` in src/laws.rt and others.
+-- The costs of an instance by its EDGE_WEIGHT_TYPE: listed weights under EXPLICIT, else distances of points. For the
+-- law `instances_are_problems` in src/laws.rt and others.
 use Rattle.std.proofs.Common.{◌≡◌, ◌≢◌, ℕ, true, false, List, [], Option, None, Some, refl, sym, ap, ◌∙◌}
 use Rattle.std.specs.Prelude.{unwrap_or}
 use Rattle.std.proofs.lemmas.Bool.{false≢true}

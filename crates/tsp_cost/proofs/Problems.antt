@@ -222,7 +222,8 @@ some_problem f defined unique range has routing = record {
 
 -- ---- there is no other
 
--- plan: by the pair: listed (`at_cell`), on a diagonal that isn't listed (`on_diagonal`), or in the other half (`in_other_half`)
+-- plan: by the pair: listed (`at_cell`), on a diagonal that isn't listed (`on_diagonal`), or in the other half
+-- (`in_other_half`)
 same_listed : (f : Fields) (n : ℕ) (costs : ℕ → ℕ → ℤ) → f.dimension ≡ Some n → CostsAreListed f n costs
     → HaveSameCosts n costs (cost f)
 unfolding cost

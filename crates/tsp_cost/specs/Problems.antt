@@ -16,8 +16,8 @@ use Rattle.tsp_file.specs.ByInequalities.{IsDistanceBy}
 use Rattle.tsp_theory.specs.Routing.{RoutingProblem}
 use Rattle.tsp_theory.specs.Tour.{Problem}
 
--- The costs are weights that the instance lists, each that of its cell in the layout. Half a matrix has the same costs in both
--- directions, and a diagonal that isn't listed has 0. Only the costs between nodes are looked at.
+-- The costs are weights that the instance lists, each that of its cell in the layout. Half a matrix has the same costs
+-- in both directions, and a diagonal that isn't listed has 0. Only the costs between nodes are looked at.
 pub record CostsAreListed (instance : Fields) (nodes : ℕ) (cost : ℕ → ℕ → ℤ) : Type 0 where
   pub weight_type : instance.weight_kind ≡ Some Explicit
   pub layout : Layout

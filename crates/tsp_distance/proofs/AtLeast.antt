@@ -1,4 +1,5 @@
--- Each distance with a root is the least number that covers a square. For `is_euc_3d_at_least` in src/compared.rt and others.
+-- Each distance with a root is the least number that covers a square. For `is_euc_3d_at_least` in src/compared.rt and
+-- others.
 use Rattle.std.proofs.Common.{◌≡◌, ℕ, ◌+◌, ◌*◌, ◌-◌, ◌<◌, ◌≤◌, arith}
 use Rattle.tsp_distance.specs.declared.decimal.Point.{Point}
 use Rattle.tsp_distance.specs.Decimal.{unit}

@@ -88,7 +88,7 @@ unfoldable pub least : (ℕ → Bool) → ℕ → ℕ
 least test zero = 0
 least test (suc n) = if test 0 then 0 else suc (least (λ k. test (suc k)) n)
 
--- The distances as functions of the points: the least k that is large enough. Each is the one k of its definition above.
+-- The distances as functions of the points: the least k that is large enough. Each is the one k of a definition above.
 abbrev pub euc_2d_of : Point → Point → ℕ
 euc_2d_of a b = least (λ k. nat_lt (4 * square_apart a b) (squared ((2 * k + 1) * unit))) (square_apart a b)
 
@@ -125,8 +125,8 @@ pub record IsInSpace (a : Point) : Type 0 where
   pub y : unsigned_abs a.y ≤ most_count
   pub z : unsigned_abs a.z ≤ most_count
 
--- `distance` is the number that `Is` defines, and nothing else is. It is symmetric, 0 between equal points, and at most `longest`
--- between points that lie `Within`
+-- `distance` is the number that `Is` defines, and nothing else is. It is symmetric, 0 between equal points, and at most
+-- `longest` between points that lie `Within`
 pub record IsDistanceWithin (Within : Point → Type 0) (longest : ℕ) (Is : Point → Point → ℕ → Type 0)
     (distance : Point → Point → ℕ) : Type 0 where
   pub defined : (a b : Point) → Is a b (distance a b)

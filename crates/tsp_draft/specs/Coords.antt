@@ -1,5 +1,5 @@
 -- The point (0, 0), which definitions take for a node without a point. For `get` of `Coords` (src/coords.rt), and for
--- `point_of` in Cost.antt of tsp_file.
+-- `point_of` in Cost.antt of tsp_file. Five crates above import it too.
 use Rattle.std.specs.Prelude.{pos}
 use Rattle.tsp_distance.specs.declared.decimal.Point.{Point}
 use Rattle.tsp_distance.specs.Distances.{on_plane}

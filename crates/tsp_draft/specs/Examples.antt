@@ -1,5 +1,5 @@
--- Small files that lack fields or have wrong ones. For the laws of src/examples.rt, which state the first fault of each,
--- and for `examples_of_lost_costs` (src/examples.rt of tsp_file).
+-- Small files that lack fields or have wrong ones. For the laws of src/examples.rt, which state the first fault of
+-- each, and for `examples_of_lost_costs` (src/examples.rt of tsp_file).
 use Rattle.std.specs.Prelude.{[], ◌∷◌, Some, pos}
 use Rattle.tsp_format.specs.declared.kinds.Kind.TheVariants.{Tsp, Atsp, Cvrp, Tour, Potentials, Branches}
 use Rattle.tsp_format.specs.declared.kinds.WeightKind.TheVariants.{Explicit, Euc2d}

@@ -1,6 +1,6 @@
 -- The rules over several fields of a file, which are judged by which fields it has; and the first fault of a draft. For
 -- `end_fault` (src/rules.rt), `File::of` of tsp_file, and the reader. Which keyword and section each TYPE asks for is
--- TSPLIB 95 (G. Reinelt) and this project's profile of it.
+-- TSPLIB 95 (G. Reinelt) and this project's profile of it. Eight crates above import this file too.
 use Rattle.std.specs.Prelude.{ℕ, Bool, true, false, cond, not, ◌&&◌, ◌||◌, ◌==◌, List, [], ◌∷◌, length, Option, None, Some, is_some}
 use Rattle.std.specs.Option.{option_map, option_or}
 use Rattle.tsp_format.specs.declared.kinds.Kind.{Kind}

@@ -1,5 +1,5 @@
--- The lines of an explanation: sentences, each line of them indented by two blanks. For `push_lines` and `push_indented`
--- (src/text.rt).
+-- The lines of an explanation: sentences, each line of them indented by two blanks. For `push_lines` and
+-- `push_indented` (src/text.rt).
 use Rattle.std.specs.Prelude.{ℕ, List, [], ◌∷◌, ◌++◌, ◌==◌, cond, map, codes}
 use Rattle.std.specs.List.{concat}
 

@@ -140,7 +140,7 @@ IsFound n cost set node least =
     (least ≡ no_path) ⊎ ((rest : List ℕ) × IsOrderOf n set (node ∷ rest) × (least ≡ path_length cost node rest))
 
 -- the least sum of a step and of a best path through the rest of the set is that of a best path
--- plan: a path is a step and a best path through the rest (`step`, `at`), so the least of these sums is the least path's
+-- plan: a path is a step and a best path through the rest (`step`, `at`), so its length is the least of these sums
 pub best_from : (n set other start least : ℕ) (costs paths : List ℕ) → other < n - 1 → bit_at set other ≡ 1
     → set * (n - 1) ≤ length paths → AreBestPaths n (cost_by_rows n costs) paths
     → start ≤ no_path → StartsWith n costs set other start

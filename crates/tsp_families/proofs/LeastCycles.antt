@@ -201,7 +201,7 @@ small_costs costs small k = elim (cases_lt k (length costs)) [
   | inr ge ↦ let none = get_or_past costs k 0 ge in omega (arith, none)
 ]
 
--- plan: a cycle is a step from node 1 and a best path through all others (`step`, `at`), so the least sum is the least cycle's
+-- plan: a cycle is a step from node 1 and a best path through the others (`step`, `at`), so its length is the least sum
 pub least_of_paths : (n least : ℕ) (costs paths : List ℕ) → 2 ≤ n → n ≤ 14 → ((k : ℕ) → slice_index costs k < 2 ^ 32)
     → length paths ≡ 2 ^ (n - 1) * (n - 1) → AreBestPaths n (cost_by_rows n costs) paths
     → IsLeastSum no_path costs paths 1 ((2 ^ (n - 1) - 1) * (n - 1)) (n - 1) least

@@ -244,7 +244,8 @@ module _ (n : ℕ) (sets : List (ℕ → Bool)) (memberships firsts costs : List
       (λ i j in_i in_j. cost_at (i - 1) (j - 1) (omega (arith, in_i.0, in_i.1)) (omega (arith, in_j.0, in_j.1))) is
 
   -- the largest of them is the most that two nodes cross
-  -- plan: two nodes cross as the first nodes of their parts do (`alike_crossings`), whose numbers the code lists (`cost_at`)
+  -- plan: two nodes cross as the first nodes of their parts do (`alike_crossings`), whose numbers the code lists
+  -- (`cost_at`)
   pub most_between : (largest : ℕ) → 1 ≤ n → length costs ≡ length firsts * length firsts → ArePartsOf n sets firsts → IsLargest costs largest → IsMostCost n (sets_crossed sets) (pos largest)
   most_between largest some long parts is = found is.found.0 is.found.1 (cases_lt is.found.0 (length costs))
     where

@@ -1,5 +1,5 @@
--- Every cycle crosses sets as often as a walk through their parts, and some cycle as often as the best cyclic order of these.
--- For the law `least_lengths_are_unique` in src/laws.rt and others.
+-- Every cycle crosses sets as often as a walk through their parts, and some cycle as often as the best cyclic order of
+-- these. For the law `least_lengths_are_unique` in src/laws.rt and others.
 use Rattle.std.proofs.Common.{◌≡◌, ◌≢◌, ℕ, zero, suc, ◌-◌, Bool, true, false, not, cond, List, [], ◌∷◌, length, get_or, ◌+ℤ◌, ◌≤ℤ◌, inl, inr, refl, arith, ap, ap₂, sym, ◌∙◌, subst}
 use Rattle.std.specs.Prelude.{pos, slice_index}
 use Rattle.std.specs.List.{AllZip, AllByRecursion, range_with_len}

@@ -1,5 +1,5 @@
--- A closed walk in which nothing is repeated is no longer, where costs keep to the triangle inequality. For `family_crossings`
--- in src/family.rt and others.
+-- A closed walk in which nothing is repeated is no longer, where costs keep to the triangle inequality. For
+-- `family_crossings` in src/family.rt and others.
 use Rattle.std.proofs.Common.{◌≡◌, ◌≢◌, ℕ, ◌==◌, ◌⊎◌, Bool, true, false, List, [], ◌∷◌, ◌++◌, ℤ, ◌+ℤ◌, ◌≤ℤ◌, inl, inr, arith, ap, sym, ◌∙◌}
 use Rattle.std.specs.Prelude.{if◌then◌else◌}
 use Rattle.std.specs.List.{AllByRecursion}

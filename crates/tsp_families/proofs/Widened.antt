@@ -1,5 +1,5 @@
--- A cyclic order of parts is widened to a cycle that crosses the sets no more often: each node is put in after the first one of
--- its part. For the law `parts_tell_cycles` in src/laws.rt.
+-- A cyclic order of parts is widened to a cycle that crosses the sets no more often: each node is put in after the
+-- first one of its part. For the law `parts_tell_cycles` in src/laws.rt.
 use Rattle.std.proofs.Common.{◌≡◌, ◌≢◌, ℕ, zero, suc, ◌-◌, ◌≤◌, ◌==◌, ◌⊎◌, Bool, true, false, not, cond, List, [], ◌∷◌, map, length, ℤ, ◌+ℤ◌, inl, inr, refl, arith, ap, sym, ◌∙◌, subst}
 use Rattle.std.specs.Prelude.{pos, slice_index}
 use Rattle.std.specs.List.{AllByRecursion}
@@ -163,7 +163,8 @@ pub record IsWide (n k : ℕ) (sets : List (ℕ → Bool)) (firsts : List ℕ) (
   pub has_firsts : (part : ℕ) → IsNode (length firsts) part → Within nodes (first_of firsts part)
   pub has : (x : ℕ) → IsNode k x → Within nodes x
 
--- plan: the node is there already, or it goes behind the first node of its part, which crosses no set more (`after_length`)
+-- plan: the node is there already, or it goes behind the first node of its part, which crosses no set more
+-- (`after_length`)
 wider : (n k : ℕ) (sets : List (ℕ → Bool)) (firsts : List ℕ) (least : ℤ) (nodes : List ℕ) → ArePartsOf n sets firsts → suc k ≤ n
     → IsWide n k sets firsts least nodes
     → (more : List ℕ) × IsWide n (suc k) sets firsts least more

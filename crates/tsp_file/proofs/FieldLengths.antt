@@ -189,8 +189,8 @@ all_tours_short tours fits =
 
 -- ---- all fields
 
--- at most this many bytes; most of all are the weights, 15 for each of 5,000 * 5,000, and the differences of a tree, 25 for each
--- of 10,000,000
+-- at most this many bytes; most of all are the weights, 15 for each of 5,000 * 5,000, and the differences of a tree, 25
+-- for each of 10,000,000
 abbrev most_of : Shape → ℕ
 most_of (Numbers low high) = 2600029
 most_of Points = 8100029

@@ -31,8 +31,8 @@ layout_of None = FullMatrix
 abbrev pub weight_at : Layout → ℕ → List ℤ → ℕ × ℕ → Option ℤ
 weight_at layout n weights pair = option_map (λ place. slice_index_or weights place (pos 0)) (place_of layout n pair)
 
--- The weight of (i, j) where it is a cell; else that of (j, i), as in the other half of a triangle; else 0, as on a diagonal
--- that isn't listed.
+-- The weight of (i, j) where it is a cell; else that of (j, i), as in the other half of a triangle; else 0, as on a
+-- diagonal that isn't listed.
 unfoldable pub listed_cost : Layout → ℕ → List ℤ → ℕ → ℕ → ℤ
 listed_cost layout n weights i j =
     unwrap_or (option_or (weight_at layout n weights (i, j)) (weight_at layout n weights (j, i))) (pos 0)

@@ -1,5 +1,5 @@
--- The value of a field that a file lacks: SCALE and LOAD_UNIT are 1, fixed pairs, multipliers and families are none. For
--- the verdicts of tsp_verdict, Typed.antt, and `fixed` of `Instance` (src/instance.rt of tsp_cost).
+-- The value of a field that a file lacks: SCALE and LOAD_UNIT are 1, fixed pairs, multipliers and families are none.
+-- For the verdicts of tsp_verdict, Typed.antt, and `fixed` of `Instance` (src/instance.rt of tsp_cost).
 use Rattle.std.specs.Prelude.{ℕ, List, [], Option, unwrap_or, ℤ, pos}
 use Rattle.tsp_draft.specs.Fields.{Fields}
 

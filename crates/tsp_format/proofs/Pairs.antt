@@ -1,5 +1,5 @@
--- Which pairs are cells, and that no cell appears twice. For the laws `cells_are_distinct` and `cells_are_the_listed_pairs` in
--- src/layout.rt.
+-- Which pairs are cells, and that no cell appears twice. For the laws `cells_are_distinct` and
+-- `cells_are_the_listed_pairs` in src/layout.rt.
 use Rattle.std.proofs.Common.{◌≡◌, ◌≢◌, ℕ, suc, zero, ◌+◌, ◌-◌, ◌<◌, Bool, true, false, cond, List, [], ◌∷◌, ◌++◌, length, get_or, map, refl, sym, ap, subst, ◌∙◌, arith}
 use Rattle.std.specs.Prelude.{◌↔◌, IsTrue, if◌then◌else◌}
 use Rattle.std.specs.List.{filter, flat_map, range_with_len, All, AllPairs, Contains}

@@ -1,5 +1,6 @@
--- Which bytes are blanks, letters, and bytes of a keyword, by this project's profile of TSPLIB 95. For src/bytes.rt, and
--- for how a text is cut into lines and words (Lines.antt and Items.antt of tsp_text).
+-- Which bytes are blanks, letters, and bytes of a keyword, by this project's profile of TSPLIB 95. For src/bytes.rt,
+-- and for how a text is cut into lines and words (Lines.antt and Items.antt of tsp_text). Five crates above import it
+-- too.
 use Rattle.std.specs.Prelude.{ℕ, Bool, not, ◌&&◌, ◌||◌, ◌==◌, nat_le}
 
 -- the blanks: bytes 9, 11, 12, 13 and 32

@@ -1,6 +1,6 @@
 -- The cells of a layout: all pairs (i, j) of 1..n, row i and column j, in the order of rows or of columns, as far as
 -- they pass the layout's test. For src/layout.rt, and for the weights that an instance lists (Problems.antt of
--- tsp_cost). Source: TSPLIB 95 (G. Reinelt), the values of EDGE_WEIGHT_FORMAT.
+-- tsp_cost). Four crates above import it too. Source: TSPLIB 95 (G. Reinelt), the values of EDGE_WEIGHT_FORMAT.
 use Rattle.std.specs.Prelude.{ℕ, ◌+◌, ◌-◌, ◌*◌, ◌/◌, Bool, true, false, List, map, nat_lt, nat_le, if◌then◌else◌}
 use Rattle.std.specs.List.{filter, flat_map}
 use Rattle.tsp_format.specs.Nodes.{nodes_to}

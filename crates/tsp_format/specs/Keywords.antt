@@ -11,7 +11,7 @@ use Rattle.tsp_format.specs.declared.keyword.Keyword.TheVariants.{Known, EdgeDat
 use Rattle.tsp_format.specs.Words.{field_word}
 use Rattle.tsp_format.specs.Words.{fields_in_order}
 
--- whether it is the field of the unknown keywords, which has no word of its own in files
+-- whether it is the field of the unknown keywords, for which files have no word
 abbrev pub is_other_key : Field → Bool
 is_other_key field = bytes_eq (field_word field) (field_word OtherKey)
 

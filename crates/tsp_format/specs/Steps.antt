@@ -1,6 +1,6 @@
 -- The steps of a tree of cases, as BRANCH_SECTION lists them. For `TreeStep` (src/steps.rt), and for the trees of
--- tsp_cases and tsp_routing. They are this project's own: a branch divides the first open case by a pair of nodes, or by
--- how often a family of sets is crossed, and a leaf closes it by numbers.
+-- tsp_cases and tsp_routing. They are this project's own: a branch divides the first open case by a pair of nodes, or
+-- by how often a family of sets is crossed, and a leaf closes it by numbers. Nine crates above import this file too.
 use Rattle.std.specs.Prelude.{ℕ, zero, suc, ◌+◌, Bool, true, false, List, [], ◌∷◌, length, ℤ}
 
 pub data Step : Type 0 where
@@ -9,8 +9,8 @@ pub data Step : Type 0 where
   -- each number that changes since the leaf before: its index, and its difference
   Leaf : (changes : List (ℕ × ℤ)) → Step
 
--- whether steps are this number of whole trees, one after the other: a leaf is a tree, and so is a branch with the two trees
--- after it
+-- whether steps are this number of whole trees, one after the other: a leaf is a tree, and so is a branch with the two
+-- trees after it
 abbrev pub are_whole : ℕ → List Step → Bool
 are_whole zero [] = true
 are_whole zero (step ∷ steps) = false

@@ -167,7 +167,8 @@ one_depot count not = by_test (eqb_tells count 1)
     by_test (inl is) = is.1
     by_test (inr other) = absurd (not other.1)
 
--- plan: no reason applies, so there is one depot and a customer; a plan serves it, so the file lists routes (`served_by_none`)
+-- plan: no reason applies, so there is one depot and a customer; a plan serves it, so the file lists routes
+-- (`served_by_none`)
 only_routes : (claimed : Option ℤ) (instance solution : Fields) (length_is : ℤ) (count least : ℕ) → IsProblem instance → instance.kind ≡ Some kinds.Cvrp
     → ((reason : Reason) → StandsAgainstRoutes instance solution reason → ⊥) → IsPlanned instance (tours_of solution) length_is count least
     → IsAsClaimed claimed length_is → AreOnlyRoutes claimed instance solution (routing_of instance) (tours_of solution) least

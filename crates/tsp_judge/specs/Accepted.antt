@@ -18,8 +18,8 @@ use Rattle.tsp_task.specs.declared.verdict.Verdict.TheVariants.{Tour, Routes}
 use Rattle.tsp_verdict.specs.Certified.{kind_of, IsBoundOf}
 use Rattle.tsp_report.specs.Report.{report_of, bound_report_of}
 
--- The solution's one tour visits every node of the instance once and uses every fixed edge. Its length is the claimed one, where
--- one is claimed.
+-- The solution's one tour visits every node of the instance once and uses every fixed edge. Its length is the claimed
+-- one, where one is claimed.
 pub record IsOnlyTour (claimed : Option ℤ) (instance solution : Fields) (problem : Problem) (tour : List ℕ) : Type 0 where
   pub of_instance : IsProblemOf instance problem
   pub solution_type : solution.kind ≡ Some kinds.Tour
@@ -34,8 +34,8 @@ pub record IsAcceptedTour (claimed : Option ℤ) (instance solution : Fields) (r
   pub only_tour : IsOnlyTour claimed instance solution problem tour
   pub printed : report ≡ report_of instance (Tour (length_of problem.cost tour) None)
 
--- The solution's routes serve every customer of the instance once and within the capacity, and `least` is the least number of
--- routes that carry all demands: no plan of routes has fewer. Their length is the claimed one, where one is claimed.
+-- The solution's routes serve every customer of the instance once and within the capacity. `least` is the least number
+-- of routes that carry all demands: no plan of routes has fewer. Their length is the claimed one, where one is claimed.
 pub record AreOnlyRoutes (claimed : Option ℤ) (instance solution : Fields) (problem : RoutingProblem) (routes : List (List ℕ))
     (least : ℕ) : Type 0 where
   pub of_instance : IsRoutingOf instance problem
@@ -54,8 +54,8 @@ pub record AreAcceptedRoutes (claimed : Option ℤ) (instance solution : Fields)
   pub only_routes : AreOnlyRoutes claimed instance solution problem routes least
   pub printed : report ≡ report_of instance (Routes (plan_length problem.cost problem.depot routes) (length routes) least None)
 
--- A tour with a certificate: it is the solution's only one; its length and the certificate's bound are printed. No tour of the
--- instance is shorter than the bound, so that where the length equals it no tour is shorter than this one.
+-- A tour with a certificate: it is the solution's only one; its length and the certificate's bound are printed. No tour
+-- of the instance is shorter than the bound, so that where the length equals it no tour is shorter than this one.
 pub record IsTourWithBound (by : Certificate) (claimed : Option ℤ) (instance solution certificate : Fields) (report : List ℕ)
     : Type 0 where
   pub problem : Problem
@@ -69,8 +69,8 @@ pub record IsTourWithBound (by : Certificate) (claimed : Option ℤ) (instance s
   pub optimal : length_of problem.cost tour ≡ bound → (other : List ℕ) → IsTour problem other
       → length_of problem.cost tour ≤ℤ length_of problem.cost other
 
--- Routes with a certificate: the certificate's bound is printed too. No plan of the instance whose routes each have a customer is
--- shorter than the bound, so that where the length equals it no such plan is shorter than this one, which is such a plan.
+-- Routes with a certificate: its bound is printed too. No plan of the instance whose routes each have a customer is
+-- shorter than the bound. So where the length equals it, no such plan is shorter than this one, which is such a plan.
 pub record AreRoutesWithBound (by : Certificate) (claimed : Option ℤ) (instance solution certificate : Fields) (report : List ℕ)
     : Type 0 where
   pub problem : RoutingProblem

@@ -1,5 +1,5 @@
 -- A run of `tsp bound`: the bytes that its two readers delivered, the report that was written, and the result. For
--- `run_bound` (src/bound.rt). `SaysBound` is what its line `yes` means.
+-- `run_bound` (src/bound.rt). `SaysBound` is what its line `yes` means. tsp_perform and tsp_c import this file too.
 use Rattle.std.specs.Prelude.{◌≡◌, ◌⊎◌, ℕ, Bool, true, false, List, [], Result, Ok, Err, IsTrue}
 use Rattle.tsp_stream.specs.declared.output.WriteFault.TheVariants as write_faults
 use Rattle.tsp_stream.specs.Turn.{Turn, IsUnread}
@@ -35,7 +35,7 @@ BoundsFiles by strict instance certificate sink (Err (Write write_faults.Device)
     × HasStopped sink (bound_report_of instance found))
 BoundsFiles by strict instance certificate sink (Err other) = ⊥
 
--- Why a run has no bound and no reason. The first file, in order, that isn't valid decides, and then nothing is written.
+-- Why a run has no bound and no reason. The first file that isn't valid decides, in order, and nothing is written then.
 abbrev pub EndsUnbounded : Certificate → Bool → Turn → Turn → Sink → RunFault → Type 0
 EndsUnbounded by strict first second sink (File file fault) = IsUnwritten sink
     × (((file ≡ 1) × StopsAt fault first × IsUnread second)

@@ -52,15 +52,15 @@ pub record IsTurnAt {R : Type 0} (remaining : R → Option (List ℕ)) (gives : 
   pub asked : (count : ℕ) × (after : R) × HasReads gives count reader after turn.failed
   pub few : length turn.given ≤ most_taken
 
--- What is found of the solution that a reader delivers: the verdict of a check of the three files, and its meaning where
--- the solution is accepted; or the fault of the file.
+-- What is found of the solution that a reader delivers: the verdict of a check of the three files, and its meaning
+-- where the solution is accepted; or the fault of the file.
 abbrev pub IsFoundIn : Common → Turn → Result Verdict ReadFault → Type 0
 IsFoundIn common turn (Ok verdict) = (solution : Fields) × IsFile turn solution
     × IsVerdictWith common.certificate None common.instance solution verdict × HasBasis verdict common.basis
     × (is_yes verdict ≡ true → IsAccepted common.certificate None common.instance solution (report_of common.instance verdict))
 IsFoundIn common turn (Err fault) = StopsAt fault turn × (fault ≢ read_faults.OutOfMemory)
 
--- Memory is refused for the solution: to read it, or to judge it, and then none of the reasons applies that are found without.
+-- Memory is refused for the solution: to read it, or to judge it, and then no reason applies that is found without.
 abbrev pub IsRefusedIn : Common → Turn → Type 0
 IsRefusedIn common turn = StopsAt read_faults.OutOfMemory turn
     ⊎ ((solution : Fields) × IsFile turn solution × NoneBeforeRepeatsOn common.instance solution)

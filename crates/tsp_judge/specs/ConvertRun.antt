@@ -1,5 +1,5 @@
 -- A run of `tsp convert`: the bytes that its reader delivered, the canonical text that was written, and the result. For
--- `run_convert` (src/asked_runs.rt) and `convert_file` (src/convert.rt).
+-- `run_convert` (src/asked_runs.rt) and `convert_file` (src/convert.rt). tsp_perform and tsp_c import it too.
 use Rattle.std.specs.Prelude.{◌≡◌, Option, None, Some, Result, Ok, Err}
 use Rattle.tsp_format.specs.declared.layout.Layout.{Layout}
 use Rattle.tsp_stream.specs.declared.output.WriteFault.TheVariants as write_faults

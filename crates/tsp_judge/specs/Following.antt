@@ -16,8 +16,8 @@ abbrev pub AreAllReported : {E : Type 0} → Bool → (ℕ → E → E → Type 
 AreAllReported true tells count old new = AreReported tells count old new
 AreAllReported false tells count old new = new ≡ old
 
--- How many lines the follower gets at most where the comparison ends early. The line at which the writer fails, or memory is
--- refused, isn't among them. At another fault no solution is compared.
+-- How many lines the follower gets at most where the comparison ends early. The line at which the writer fails, or
+-- memory is refused, isn't among them. At another fault no solution is compared.
 abbrev pub most_reported : RunFault → ℕ → ℕ
 most_reported (Write fault) count = count - 1
 most_reported OutOfMemory count = count - 1

@@ -47,8 +47,8 @@ IsUnopened text fault = IsTextFault 1 text fault
 
 -- ---- binding a certificate
 
--- the text parses to a certificate, which is now bound to the same instance; `found` is its bound, or the reason against
--- it
+-- the text parses to a certificate, which is now bound to the same instance; `found` is its bound, or the reason
+-- against it
 pub record IsBoundTo (by : Certificate) (text : List ℕ) (old new : Open) (found : BoundVerdict) : Type 0 where
   pub same : new.instance ≡ old.instance
   pub certificate : Fields

@@ -6,8 +6,8 @@ use Rattle.tsp_theory.specs.Length.{length_of}
 use Rattle.tsp_theory.specs.Tour.{Problem, IsTour}
 use Rattle.tsp_cost.specs.Problems.{IsProblemOf}
 
--- The solution's one tour visits every node of the instance once, uses every fixed edge, and has this length. No tour of the
--- instance is shorter than the bound.
+-- The solution's one tour visits every node of the instance once, uses every fixed edge, and has this length. No tour
+-- of the instance is shorter than the bound.
 pub record IsBoundedTour (instance solution : Fields) (length_is bound : ℤ) : Type 0 where
   pub problem : Problem
   pub of_instance : IsProblemOf instance problem

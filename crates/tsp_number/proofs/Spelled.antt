@@ -116,7 +116,8 @@ is_sign : (negative : Bool) → IsSign (sign_text negative) negative
 is_sign false = inl (refl, refl)
 is_sign true = inr (inr (refl, refl))
 
--- plan: the size is a whole part and a rest (`div-add-mod'`); `fraction_of` for the rest, `digits_value-append` for both
+-- plan: the size is a whole part and a rest (`div-add-mod'`); `fraction_of` for the rest, `digits_value-append` for
+-- both
 stands_spelled : (negative : Bool) (size : ℕ) → size ≤ most_count
     → StandsFor (sign_text negative ++ size_spelling size) (with_sign negative size)
 stands_spelled negative size most =

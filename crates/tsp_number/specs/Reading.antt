@@ -1,5 +1,6 @@
--- The number that a word is read as, or its fault, as functions of the word. For the definitions of tsp_text on sections
--- and keywords. The law `number_word_laws` (src/laws.rt) says that they are the answers of NumberWord.antt.
+-- The number that a word is read as, or its fault, as functions of the word. For the definitions of tsp_text on
+-- sections and keywords. The law `number_word_laws` (src/laws.rt) says that they are the answers of NumberWord.antt.
+-- tsp_section, tsp_round and tsp_read import this file too.
 use Rattle.std.specs.Prelude.{ℕ, ◌+◌, ◌*◌, ◌/◌, ◌%◌, ◌^◌, ◌==◌, ◌&&◌, nat_le, int_le, List, length, Option, Some, None, Result, Ok, Err, if◌then◌else◌, ℤ, pos, negsuc, unsigned_abs}
 use Rattle.std.specs.Option.{option_map}
 use Rattle.tsp_number.specs.declared.fault.NumberFault.{NumberFault}

@@ -1,5 +1,5 @@
--- A task done on its readers, and solutions compared: the bytes that each reader delivered, the writer, and the outcome.
--- For `perform` and `compare` (src/outcome.rt), and so for the program (ProgramRun.antt of tsp_run).
+-- A task done on its readers, and solutions compared: the bytes that each reader delivered, the writer, and the
+-- outcome. For `perform` and `compare` (src/outcome.rt), and so for the program (ProgramRun.antt of tsp_run).
 use Rattle.std.specs.Prelude.{◌≡◌, ℕ, Bool, true, List, Option, None, Some, Result, Ok, Err}
 use Rattle.std.specs.declared.io.Error.{Error}
 use Rattle.tsp_judge.specs.declared.Watched.{Watched}

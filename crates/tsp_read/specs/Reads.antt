@@ -43,8 +43,8 @@ IsFile turn file = GaveAll turn (λ bytes. Spells bytes file)
 abbrev pub HasFault : ReadFault → Turn → Type 0
 HasFault found turn = GaveAll turn (λ bytes. fault bytes ≡ Some found)
 
--- Reading ended without a file: by the first fault of the bytes; or memory was refused, and the reader hasn't failed; or
--- it has failed.
+-- Reading ended without a file: by the first fault of the bytes; or memory was refused, and the reader hasn't failed;
+-- or it has failed.
 abbrev pub StopsAt : ReadFault → Turn → Type 0
 StopsAt (faults.Line line word found) turn = HasFault (faults.Line line word found) turn
 StopsAt (faults.End found) turn = HasFault (faults.End found) turn

@@ -49,8 +49,8 @@ FeedsAll turn feed (Ok done) = TakesAtMost most_taken turn (λ whole. IsFedFrom 
 FeedsAll turn feed (Err found) =
     TakesAtMost most_taken turn (λ whole. StopsAt found whole × IsTimely whole.given × HasCause found whole.given)
 
--- The file of a reader, or why it has none; no piece more than needed is taken, and memory only for more than blanks and
--- line ends.
+-- The file of a reader, or why it has none; no piece more than needed is taken, and memory only for more than blanks
+-- and line ends.
 abbrev pub ReadsInTime : (List ℕ → Turn) → Result Fields ReadFault → Type 0
 ReadsInTime turn (Ok file) = TakesAtMost most_taken turn (λ whole. IsFile whole file × IsTimely whole.given)
 ReadsInTime turn (Err found) =

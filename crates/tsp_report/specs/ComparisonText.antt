@@ -19,8 +19,8 @@ abbrev pub basis_bound : Option ℤ → List ℕ
 basis_bound None = []
 basis_bound (Some bound) = codes "bound " ++ signed_decimal bound ++ codes "\n"
 
--- the bound, or `none` where the instance has no solution, after the least number of routes; or the first reason against the
--- instance or the certificate
+-- the bound, or `none` where the instance has no solution, after the least number of routes; or the first reason
+-- against the instance or the certificate
 abbrev pub basis_lines : Fields → Basis → List ℕ
 basis_lines instance (bases.Tours bound) = basis_bound bound
 basis_lines instance bases.NoSolution = codes "bound none\n"

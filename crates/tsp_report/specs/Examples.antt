@@ -1,5 +1,5 @@
--- A small file of each TYPE. For the laws of src/examples.rt, src/whole_examples.rt and src/comparison_text_examples.rt,
--- which state reports and what `tsp show` prints of them.
+-- A small file of each TYPE. For the laws of src/examples.rt, src/whole_examples.rt and
+-- src/comparison_text_examples.rt, which state reports and what `tsp show` prints of them.
 use Rattle.std.specs.Prelude.{List, ℕ, [], ◌∷◌, Some, pos, codes}
 use Rattle.tsp_format.specs.declared.kinds.Kind.TheVariants.{Tsp, Cvrp, Tour, Potentials, Branches}
 use Rattle.tsp_format.specs.declared.kinds.WeightKind.TheVariants.{Explicit}

@@ -1,6 +1,6 @@
 -- The bytes of the reports of `tsp check` and `tsp bound`, line by line. Each line ends with byte 10, and one blank is
--- between words. For `write_report` (src/report.rt) and `write_bound` (src/bound_text.rt), and for the meanings of `yes`
--- (Accepted.antt of tsp_judge).
+-- between words. For `write_report` (src/report.rt) and `write_bound` (src/bound_text.rt), and for the meanings of
+-- `yes` (Accepted.antt of tsp_judge).
 use Rattle.std.specs.Prelude.{ℕ, List, ◌∷◌, ◌++◌, map, codes, decimal, cond, ℤ, pos, ◌-ℤ◌, Option, None, Some, [], IfSome, unsigned_abs, ◌≤◌, ◌^◌}
 use Rattle.std.specs.List.{concat}
 use Rattle.std.specs.Option.{option_map_or}

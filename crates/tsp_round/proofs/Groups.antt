@@ -119,7 +119,8 @@ module _ {X : Type 0} {size : ℕ} {value : Words → X} {number_place : Place} 
         value_taken (earlier ++ word ∷ []) first (rest ++ word ∷ []) (other ∷ words) next (omega (arith, length_push rest word, whole)) (omega (arith, length_push earlier word, room)) clean.1,
       )
 
-  -- plan: by induction over the values: each node is a new one (`new_node`), and the words of its value are taken (`value_taken`)
+  -- plan: by induction over the values: each node is a new one (`new_node`), and the words of its value are taken
+  -- (`value_taken`)
   pub values_taken : (earlier : Words) (i : ℕ) (xs : List X) → begun_in size earlier ≡ []
       → map (λ group. number (node n (word_at group 0))) (groups_in size earlier) ≡ map pos (range_with_len 1 i) → length earlier ≡ size * i
       → i + length xs ≤ n → list_all fits xs ≡ true

@@ -40,7 +40,7 @@ use Rattle.tsp_round.proofs.Steps.{missing, section_line}
 
 -- ---- what is said of a section by its field, by its shape
 
--- its text, its condition, the value of its line, whether its numbers can be written, and the bytes and the item of its line
+-- its text, its condition, the value of its line, whether its numbers can be written, the bytes and item of its line
 abbrev ByShape : Fields → Field → Type 0
 ByShape f g = (text_of_field f g ≡ option_map_or (text_of_section f g) (shape_of (spatial f) g) [])
     × (fits f g ≡ option_map_or (section_fits f g) (shape_of (spatial f) g) true)

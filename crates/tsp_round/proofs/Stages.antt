@@ -28,7 +28,7 @@ use Rattle.tsp_round.proofs.Shapes.{entries_in, words_for}
 abbrev pub empty_line : Bool → Option (List ℕ)
 empty_line there = cond there (Some []) None
 
--- the value of the field's line; a section's line has an empty one, and comments and unknown keywords have lines of their own
+-- the value of the field's line; a section's line has an empty one; comments and unknown keywords have none
 abbrev pub value_of : Fields → Field → Option (List ℕ)
 value_of f NameKey = f.name
 value_of f TypeKey = option_map kind_word f.kind

@@ -43,8 +43,8 @@ pub record IsCutFamily (problem : RoutingProblem) (family : Family) : Type 0 whe
   pub least_is : family.numbers.least ≡ 2 * need
   pub most_is : family.numbers.most ≡ 1
 
--- how many routes a plan has at least: as many as carry what all customers demand, and one at least, counted in the same
--- way
+-- how many routes a plan has at least: as many as carry what all customers demand, and one at least, counted in the
+-- same way
 pub record IsFewest (problem : RoutingProblem) (fewest : ℕ) : Type 0 where
   pub least : ℕ
   pub least_is : IsLeastRoutes (sum_of_customers problem.nodes problem.depot problem.demand) problem.capacity least

@@ -1,5 +1,5 @@
--- The bound of a leaf for routes, from the least weight of a walk, under limits on sets and multipliers of any sign. For
--- `plan_bound` (src/leaf_sum.rt), `limits_total` (src/given_back.rt), and the law `plan_bounds_bound_plans`
+-- The bound of a leaf for routes, from the least weight of a walk, under limits on sets and multipliers of any sign.
+-- For `plan_bound` (src/leaf_sum.rt), `limits_total` (src/given_back.rt), and the law `plan_bounds_bound_plans`
 -- (src/laws.rt).
 use Rattle.std.specs.Prelude.{ℕ, negsuc, int_lt, ◌+◌, ◌*◌, ◌-◌, max, min, ◌==◌, ◌&&◌, not, if◌then◌else◌, List, [], ◌∷◌, length, ℤ, pos, ◌+ℤ◌, ◌-ℤ◌, ◌*ℤ◌, ◌≤ℤ◌}
 use Rattle.std.specs.List.{All}
@@ -51,14 +51,14 @@ limits_total case own place (family ∷ families) (multiplier ∷ multipliers) =
     least_times (low_of place case family.numbers.least) (high_of place case own) multiplier
     +ℤ limits_total case own (place + 1) families multipliers
 
--- the weight between two nodes: the cost times the scale and both potentials, less the multipliers of the sets that have
--- one of them
+-- the weight between two nodes: the cost times the scale and both potentials, less the multipliers of the sets that
+-- have one of them
 abbrev pub walk_weight : ℤ → List ℤ → List Family → List ℤ → (ℕ → ℕ → ℤ) → ℕ → ℕ → ℤ
 walk_weight scale potentials families multipliers cost =
     combed (multiplied families multipliers) (weight_between scale potentials cost)
 
--- the bound of a leaf where each route weighs `each` at least: there are `fewest` routes or more, and at most as many as
--- customers
+-- the bound of a leaf where each route weighs `each` at least: there are `fewest` routes or more, and at most as many
+-- as customers
 pub record IsPlanBound (problem : RoutingProblem) (scale : ℤ) (potentials : List ℤ) (families : List Family) (multipliers : List ℤ)
     (case : List Decision) (each bound : ℤ) : Type 0 where
   pub fewest : ℕ

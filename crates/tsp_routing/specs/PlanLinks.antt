@@ -13,8 +13,8 @@ abbrev pub plan_links : ℕ → List (List ℕ) → List (ℕ × ℕ)
 plan_links depot [] = []
 plan_links depot (route ∷ routes) = links (depot ∷ route) ++ plan_links depot routes
 
--- A plan each of whose routes has a customer. `IsPlan` doesn't forbid a route without one: that has one link, from the depot to
--- itself, and where this costs less than 0 there are plans shorter than any bound. No file lists such a route.
+-- A plan each of whose routes has a customer. `IsPlan` doesn't forbid a route without one: that has one link, from the
+-- depot to itself, and where this costs less than 0 there are plans shorter than any bound. No file lists such a route.
 pub record IsFilledPlan (problem : RoutingProblem) (routes : List (List ℕ)) : Type 0 where
   pub plan : IsPlan problem routes
   pub each : All (λ route. route ≢ []) routes

@@ -75,8 +75,8 @@ pub record IsEntryMetTo (half n depot : ℕ) (w : ℕ → ℕ → ℤ) (known : 
       ⊎ ((next : ℕ) × (next ≢ entry.next) × IsStepTo half n depot w known node next entry.other)
   pub tried : (entry.next ≡ depot) ⊎ (entry.next ≤ last)
 
--- some rest of a walk has the least weight, with the entry's next node; and some has the other weight, with another next
--- node
+-- some rest of a walk has the least weight, with the entry's next node; and some has the other weight, with another
+-- next node
 pub record IsMet (half n depot : ℕ) (w : ℕ → ℕ → ℤ) (load : ℕ → ℕ) (left node : ℕ) (entry : WalkEntry) : Type 0 where
   pub least : IsReal half entry.least → (rest : List ℕ) × IsWalkRest n depot load left node rest
       × (first_or_depot depot rest ≡ entry.next) × (entry.least ≡ onward_weight w depot node rest)

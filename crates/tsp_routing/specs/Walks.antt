@@ -1,7 +1,7 @@
--- Walks: lists of customers that load no more than a route may, on which no customer comes again next or right after the
--- next one (q-routes without 2-cycles). For `least_walk` (src/least_walk.rt), and the law `routes_are_walks`
--- (src/laws.rt).
--- Source: N. Christofides, A. Mingozzi and P. Toth, Exact algorithms for the vehicle routing problem, 1981.
+-- Walks: lists of customers that load no more than a route may, on which no customer comes again next or right after
+-- the next one (q-routes without 2-cycles). For `least_walk` (src/least_walk.rt), and the law `routes_are_walks`
+-- (src/laws.rt). Source: N. Christofides, A. Mingozzi and P. Toth, Exact algorithms for the vehicle routing problem,
+-- 1981.
 use Rattle.std.specs.Prelude.{◌≢◌, ℕ, List, [], ◌∷◌, ℤ, pos, ◌≤ℤ◌}
 use Rattle.std.specs.List.{All}
 use Rattle.tsp_theory.specs.Length.{sum_int_by, length_of}

@@ -1,5 +1,5 @@
--- A run of the program `tsp`, from the words of its command line to its exit status and the lines on standard error. For
--- `run` (src/running.rt) and `opened` (src/opened_files.rt), and so for `main` of tsp_tool.
+-- A run of the program `tsp`, from the words of its command line to its exit status and the lines on standard error.
+-- For `run` (src/running.rt) and `opened` (src/opened_files.rt), and so for `main` of tsp_tool.
 use Rattle.std.specs.Prelude.{◌≡◌, ◌≢◌, ◌⊎◌, ◌||◌, ℕ, Bool, List, [], ◌∷◌, codes, drop, Option, Result, Ok, Err, OnOk, true, false}
 use Rattle.std.specs.declared.io.Error.{Error}
 use Rattle.std.specs.Str.{bytes_eq}

@@ -21,7 +21,7 @@ IsUnwritten sink = Keeps sink.held sink.holds × (sink.failed ≡ sink.had_faile
 abbrev pub HasWritten : Sink → List ℕ → Type 0
 HasWritten sink text = (sink.had_failed ≡ false) × (sink.failed ≡ false) × Appends sink.held sink.holds text
 
--- A prefix of the text was written, and nothing else, before the writer failed. One that had failed before gets nothing.
+-- A prefix of the text was written, and nothing else, before the writer failed. A writer that had failed gets nothing.
 abbrev pub HasStopped : Sink → List ℕ → Type 0
 HasStopped sink text = (sink.failed ≡ true) × (sink.had_failed ≡ true → Keeps sink.held sink.holds)
     × ((count : ℕ) × Appends sink.held sink.holds (take count text))

@@ -3,8 +3,8 @@
 use Rattle.std.specs.Prelude.{◌≡◌, ℕ, ◌≤◌, Bool, true, false, List, length, Option, IfSome}
 use Rattle.std.specs.Io.KnownBytes.{Keeps, Consumes}
 
--- A reader's turn: the bytes that it had left before the call and after it, where they are known, the bytes that it delivered,
--- and whether it had failed before the call and has failed after it.
+-- A reader's turn: the bytes that it had left before the call and after it, where they are known, the bytes that it
+-- delivered, and whether it had failed before the call and has failed after it.
 pub record Turn : Type 0 where
   pub known : Option (List ℕ)
   pub left : Option (List ℕ)
@@ -20,8 +20,8 @@ Gave turn = Consumes turn.known turn.left turn.given
 abbrev pub IsSound : Turn → Type 0
 IsSound turn = (turn.had_failed ≡ false) × (turn.failed ≡ false)
 
--- It delivered bytes of which P holds, without a failure. Where its bytes are known, P holds of all of them too: reading
--- didn't stop too early.
+-- It delivered bytes of which P holds, without a failure. Where its bytes are known, P holds of all of them too:
+-- reading didn't stop too early.
 abbrev pub GaveAll : Turn → (List ℕ → Type 0) → Type 0
 GaveAll turn P = Gave turn × IsSound turn × P turn.given × IfSome turn.known P
 

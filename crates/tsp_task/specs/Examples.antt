@@ -1,4 +1,5 @@
--- A reason of each kind. For the laws of src/reason_examples.rt, which state the name, the rank and the numbers of each.
+-- A reason of each kind. For the laws of src/reason_examples.rt, which state the name, the rank and the numbers of
+-- each.
 use Rattle.std.specs.Prelude.{List, [], ◌∷◌, negsuc}
 use Rattle.tsp_task.specs.declared.verdict.Reason.{Reason}
 use Rattle.tsp_task.specs.declared.verdict.Reason.TheVariants.{NotASolution, TooFewNodes, NotSymmetric, Dimension, TourCount, TourLength, DepotCount, DepotDemand, FixedEdgesInRoutes, DepotInRoute, NodeOutOfRange, RepeatedNode, FixedEdgeUnused, Unserved, Overload, LengthClaimed, NotPotentials, PotentialsDimension, PotentialsKind, MultiplierNotFixed, MultiplierRepeated, DualInfeasible, NotBranches, BranchesDimension, BadComb, BadBranch, BranchTwice, BadLeaf, TooManyLoads, NotJudged}

@@ -1,4 +1,4 @@
--- A task with other files in place of its own, as with opened files in place of paths. For `map` (src/task.rt), and for
+-- A task with its files replaced by others, as paths by opened files. For `map` (src/task.rt), and for
 -- ProgramRun.antt of tsp_run. A relation `gives` says which file may be in place of which.
 use Rattle.std.specs.Prelude.{◌≡◌, Option, None, Some}
 use Rattle.tsp_task.specs.declared.certificate.Certificate.{Certificate}

@@ -7,7 +7,7 @@ use Rattle.tsp_task.specs.declared.role.Role.TheVariants.{Instance, Solution, Po
 use Rattle.tsp_task.specs.declared.verdict.Reason.{Reason}
 use Rattle.tsp_task.specs.declared.verdict.Reason.TheVariants.{NotASolution, TooFewNodes, NotSymmetric, Dimension, TourCount, TourLength, DepotCount, DepotDemand, FixedEdgesInRoutes, DepotInRoute, NodeOutOfRange, RepeatedNode, FixedEdgeUnused, Unserved, Overload, LengthClaimed, NotPotentials, PotentialsDimension, PotentialsKind, MultiplierNotFixed, MultiplierRepeated, DualInfeasible, NotBranches, BranchesDimension, BadComb, BadBranch, BranchTwice, BadLeaf, TooManyLoads, NotJudged}
 
--- the name, the place in the order in which reasons are judged, the file that the reason is about, and up to two numbers
+-- the name, the place in the order in which reasons are judged, the file that the reason is about, up to two numbers
 pub record ReasonRow : Type 0 where
   pub name : List ℕ
   pub rank : ℕ
@@ -27,8 +27,8 @@ abbrev two_numbers : ℕ → ℕ → Option ℤ × Option ℤ
 two_numbers first second = (Some (pos first), Some (pos second))
 
 -- The order in which reasons are judged: those against the files, the tours, their nodes and what these use or carry;
--- then that against a claimed length; then those against a certificate; then that of an unknown keyword. The definitions
--- of tsp_verdict say which of them apply.
+-- then that against a claimed length; then those against a certificate; then that of an unknown keyword. The
+-- definitions of tsp_verdict say which of them apply.
 abbrev pub row_of_reason : Reason → ReasonRow
 row_of_reason NotASolution = row (codes "NotASolution") 1 Solution no_numbers
 row_of_reason TooFewNodes = row (codes "TooFewNodes") 2 Instance no_numbers

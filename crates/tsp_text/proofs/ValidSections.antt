@@ -1,5 +1,6 @@
 -- The words of a section as they came: each followed the earlier ones of its section without a fault, all with one
--- number of nodes. For the laws `spelled_files_are_valid` and `clean_fields_are_valid` in src/validity.rt.
+-- number of nodes. tsp_round and tsp_read import it too. For the laws `spelled_files_are_valid` and
+-- `clean_fields_are_valid` in src/validity.rt.
 use Rattle.std.proofs.Common.{◌≡◌, ℕ, Bool, true, false, cond, List, [], ◌∷◌, refl, sym, ap, subst, ◌∙◌, Option, Some, None, Result, Ok, Err}
 use Rattle.std.specs.Prelude.{not, ◌&&◌, ℤ, is_some, unwrap_or, nat_abs}
 use Rattle.std.specs.Option.{option_map, option_and_then}

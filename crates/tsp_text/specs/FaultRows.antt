@@ -46,8 +46,8 @@ is_unknown_line earlier (Line Unknown line) = not line.has_colon
 is_unknown_line earlier (NumberWord word) = false
 is_unknown_line earlier LineEnd = false
 
--- ---- Repeated: a keyword other than COMMENT, or a section, that an earlier line has (the two keywords that are refused have
--- a fault at once)
+-- ---- Repeated: a keyword other than COMMENT, or a section, that an earlier line has (the two keywords that are
+-- refused have a fault at once)
 
 abbrev pub may_repeat : Field → Bool
 may_repeat CommentKey = true
@@ -74,8 +74,8 @@ says_left_out earlier (Line Unknown line) = false
 says_left_out earlier (NumberWord word) = false
 says_left_out earlier LineEnd = false
 
--- ---- BadValue: a first word that the keyword doesn't accept, or none; a number keyword without a value; too many bytes to
--- be kept
+-- ---- BadValue: a first word that the keyword doesn't accept, or none; a number keyword without a value; too many
+-- bytes to be kept
 
 abbrev pub is_too_long_to_keep : WordLine → Bool
 is_too_long_to_keep line = nat_lt most_kept_bytes (length line.keyword + length line.value)
@@ -132,8 +132,8 @@ is_stray earlier (Line key line) = false
 is_stray earlier (NumberWord word) = is_none (open_section earlier)
 is_stray earlier LineEnd = false
 
--- ---- Number: the fault of a word that is read, in the first word of a number keyword's value or in a word at a place of its
--- section
+-- ---- Number: the fault of a word that is read, in the first word of a number keyword's value or in a word at a place
+-- of its section
 
 abbrev pub number_fault_at : ℕ → Place → List ℕ → Option NumberFault
 number_fault_at n (NodeAfter nodes) word = result_err (node n word)
@@ -183,9 +183,9 @@ is_self_edge earlier (Line key line) = false
 is_self_edge earlier (NumberWord word) = at_place is_self_edge_at earlier word
 is_self_edge earlier LineEnd = false
 
--- ---- Surplus: a line of COMMENT or of an unknown keyword after the most of them; past the groups, or past a whole tree, a word
--- other than `-1`; a word past the weights; a depot, a first node of a pair or a triple, a node of the tours, a node of a comb, a
--- first node of a comb or of a branch, or an index of a leaf (no -1, and no 0 that begins a leaf) after the most of them
+-- ---- Surplus: a line of COMMENT or of an unknown keyword after the most of them; past the groups or a whole tree a
+-- word other than `-1`; a word past the weights; after the most of them a depot, a first node of a pair, triple, comb
+-- or branch, a node of the tours or of a comb, or an index of a leaf (no -1, and no 0 that begins a leaf)
 
 -- a node of combs is beyond the limit, by whether a comb has begun, after this many combs and nodes
 abbrev pub is_past_combs : Bool → ℕ → ℕ → Bool

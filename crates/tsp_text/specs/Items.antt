@@ -10,7 +10,7 @@ use Rattle.tsp_format.specs.Keywords.{keyword_of}
 use Rattle.tsp_format.specs.Limits.{most_word_bytes, most_line_bytes}
 use Rattle.tsp_text.specs.Lines.{lines_of, words_in, is_not_empty, without_start, is_word_line, keyword_in, has_colon, value_in}
 
--- a word line: how many bytes it has from the first that isn't blank, its keyword, whether a colon follows, and its value
+-- a word line: how many bytes it has from the first that isn't blank, its keyword, whether a colon follows, its value
 pub record WordLine : Type 0 where
   pub size : ℕ
   pub keyword : List ℕ

@@ -1,5 +1,5 @@
 -- The fault of a line that opens a section, by the section's shape. For CutLine.antt of tsp_section, and so for
--- `may_open` (src/line.rt there). The rows are those of FaultRows.antt.
+-- `may_open` (src/line.rt there). The rows are those of FaultRows.antt. tsp_round and tsp_read import this file too.
 use Rattle.std.specs.Prelude.{ℕ, Bool, true, false, not, ◌&&◌, nat_lt, List, [], ◌∷◌, Option}
 use Rattle.tsp_format.specs.Limits.{most_matrix_nodes}
 use Rattle.tsp_format.specs.declared.field.Shape.{Shape}
@@ -19,8 +19,8 @@ abbrev pub is_matrix : Shape → Bool
 is_matrix Weights = true
 is_matrix shape = false
 
--- The first row that applies: `stands` says whether an earlier line opens the section, `has_nodes` whether DIMENSION has
--- come, and n is its value.
+-- The first row that applies: `stands` says whether an earlier line opens the section, `has_nodes` whether DIMENSION
+-- has come, and n is its value.
 abbrev pub opening_rows : Shape → Bool → List ℕ → Bool → ℕ → Option LineFault
 opening_rows shape stands value has_nodes n = first_row (when stands row.Repeated ∷ when (is_not_empty value) row.SectionValue
     ∷ when (needs_nodes shape && not has_nodes) row.SectionEarly

@@ -8,7 +8,7 @@ use Rattle.tsp_number.specs.declared.fault.NumberFault.{NumberFault}
 use Rattle.tsp_number.specs.declared.fault.NumberFault.TheVariants.{OutOfRange}
 use Rattle.tsp_number.specs.Reading.{whole_of}
 
--- The number that is read. A word that isn't read counts as 0: a text with such a word has a fault, and parses to no file.
+-- The number that is read. A word that isn't read counts as 0: its text has a fault, and parses to no file.
 abbrev pub number : Result ℤ NumberFault → ℤ
 number r = result_unwrap_or r (pos 0)
 

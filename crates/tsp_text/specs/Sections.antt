@@ -1,5 +1,5 @@
--- The place of the next word in each section, by the words before it. For `push` of `Part` (src/part.rt of tsp_section),
--- and for FaultRows.antt. Source: TSPLIB 95 (G. Reinelt).
+-- The place of the next word in each section, by the words before it. For `push` of `Part` (src/part.rt of
+-- tsp_section), and for FaultRows.antt. Source: TSPLIB 95 (G. Reinelt).
 use Rattle.std.specs.Prelude.{ℕ, Bool, List, Option, unwrap_or}
 use Rattle.std.specs.Option.{option_map, option_map_or}
 use Rattle.tsp_format.specs.declared.field.Field.{Field}

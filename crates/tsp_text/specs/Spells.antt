@@ -1,5 +1,5 @@
--- The fields of a text's items, and the fault at their end. For Text.antt, for `store` and `finish` of tsp_read, and for
--- the laws of src/validity.rt. Source: TSPLIB 95 (G. Reinelt) for the fields.
+-- The fields of a text's items, and the fault at their end. For Text.antt, for `store` and `finish` of tsp_read, and
+-- for the laws of src/validity.rt. Source: TSPLIB 95 (G. Reinelt) for the fields.
 use Rattle.std.specs.Prelude.{ℕ, Bool, true, false, cond, ◌&&◌, List, Option, None, Some, ℤ, pos, neg_ℤ}
 use Rattle.std.specs.List.{find, filter}
 use Rattle.tsp_format.specs.declared.field.Field.{Field}

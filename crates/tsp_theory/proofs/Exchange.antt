@@ -171,8 +171,8 @@ cut_or_tied (e ∷ es) a b = elim (cut_or_tied es a b) [
 abbrev differ : Bool → Bool → Bool
 differ x y = cond x (not y) y
 
--- where a pair ties two nodes that a cut has apart, a part that has both or neither and that the earlier pairs don't leave isn't
--- left by the pair
+-- where a pair ties two nodes that a cut has apart, a part that has both or neither and that the earlier pairs don't
+-- leave isn't left by the pair
 -- plan: if the pair left the part, nothing would leave the part by which it differs from the cut (`uncrossed_both`)
 tied_by : (a b : ℕ) (earlier : List (ℕ × ℕ)) (t : ℕ × ℕ) → IsCut earlier a b → AreTied (t ∷ earlier) a b → (part : ℕ → Bool)
     → IsUncrossed part earlier → part a ≡ part b
@@ -269,7 +269,8 @@ pub record IsExchange (Node : ℕ → Type 0) (part : ℕ → Bool) (earlier xs 
   pub leaves : crosses part pair ≡ true
   pub joins : JoinsBeside Node (earlier ++ e ∷ []) rest
 
--- plan: the pairs that stay in the join's part or out of it are kept; of the others `tie` finds the one that the join replaces
+-- plan: the pairs that stay in the join's part or out of it are kept; of the others `tie` finds the one that the join
+-- replaces
 pub exchange : (Node : ℕ → Type 0) (w : ℕ → ℕ → ℤ) (earlier xs : List (ℕ × ℕ)) (e : ℕ × ℕ) (join : IsLeastJoin Node w earlier e)
     → JoinsBeside Node earlier xs
     → IsExchange Node join.part earlier xs e

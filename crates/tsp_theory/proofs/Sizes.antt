@@ -1,5 +1,5 @@
--- Scaled costs and sums of potentials fit 64 bits, and comparisons in code are those of whole numbers. For `dual_bound`
--- in src/assignment.rt of tsp_bound and others.
+-- Scaled costs and sums of potentials fit 64 bits, and comparisons in code are those of whole numbers. tsp_branch,
+-- tsp_routing and tsp_cases import it too. For `dual_bound` in src/assignment.rt of tsp_bound and others.
 use Rattle.std.proofs.Common.{◌≡◌, ℕ, ◌+◌, ◌*◌, ◌≤◌, arith, to_z, of_z, ap, subst, ◌∙◌}
 use Rattle.std.specs.Int.{w64, w128}
 use Rattle.std.specs.Prelude.{ℤ, pos, negsuc, neg_ℤ, ◌+ℤ◌, ◌*ℤ◌, ◌≤ℤ◌, ◌↔◌, IsTrue, int_le, unsigned_abs, FitsSigned}

@@ -1,8 +1,7 @@
 -- The bound of a least 1-tree under potentials, and under numbers on pairs that cycles use or avoid. For the law
 -- `adjusted_bounds_bound_cycles` (src/laws.rt), `least_one_tree` (src/tree.rt of tsp_bound), and LeafBound.antt of
--- tsp_cases.
--- Source: M. Held and R. M. Karp, The traveling-salesman problem and minimum spanning trees, 1970, with a multiplier for
--- each pair besides those of the nodes.
+-- tsp_cases. Source: M. Held and R. M. Karp, The traveling-salesman problem and minimum spanning trees, 1970, with a
+-- multiplier for each pair besides those of the nodes.
 use Rattle.std.specs.Prelude.{◌≡◌, ℕ, ◌≤◌, ◌==◌, ◌&&◌, ◌||◌, Bool, false, if◌then◌else◌, List, [], length, ℤ, pos, ◌+ℤ◌, ◌-ℤ◌, ◌*ℤ◌, ◌≤ℤ◌}
 use Rattle.std.specs.List.{All, AllPairs}
 use Rattle.tsp_format.specs.Nodes.{IsNode}
@@ -54,8 +53,8 @@ UsesEach triples nodes = All (λ triple. AreNeighbours nodes (pair_of triple)) t
 abbrev pub UsesNone : List (ℕ × ℕ × ℤ) → List ℕ → Type 0
 UsesNone triples nodes = All (λ triple. AreNeighbours nodes (pair_of triple) → ⊥) triples
 
--- the bound of an adjusted 1-tree of this weight: each potential is taken off twice, and the numbers of the taken pairs are
--- given back, since a cycle has each node in two of its links and each taken pair in one
+-- the bound of an adjusted 1-tree of this weight: each potential is taken off twice, and the numbers of the taken pairs
+-- are given back, since a cycle has each node in two of its links and each taken pair in one
 abbrev pub IsAdjustedBoundOf : ℤ → List ℤ → List (ℕ × ℕ × ℤ) → ℤ → ℤ → Type 0
 IsAdjustedBoundOf scale potentials taken weight bound =
     IsLeastBound scale ((weight -ℤ (pos 2 *ℤ total potentials)) +ℤ triples_total taken) bound
@@ -75,7 +74,7 @@ abbrev pub LeastOneTreesAreBelowCycles : Type 0
 LeastOneTreesAreBelowCycles = (n : ℕ) (w : ℕ → ℕ → ℤ) (tree : List (ℕ × ℕ)) (nodes : List ℕ)
     → 3 ≤ n → ((i j : ℕ) → w i j ≡ w j i) → IsLeastOneTree n w tree → IsCycle n nodes → weight_of w tree ≤ℤ length_of w nodes
 
--- The bound of potentials and numbers is at most the length of every cycle that uses the taken pairs and none of the avoided.
+-- The bound of potentials and numbers is at most the length of every cycle that uses all taken and no avoided pairs.
 abbrev pub AdjustedBoundsBoundCycles : Type 0
 AdjustedBoundsBoundCycles = (n : ℕ) (cost : ℕ → ℕ → ℤ) (scale : ℤ) (potentials : List ℤ)
     (taken avoided : List (ℕ × ℕ × ℤ)) (bound : ℤ) (nodes : List ℕ)

@@ -1,5 +1,6 @@
--- Rows of costs as code has them; and symmetric costs, re-exported from Symmetry.antt of tsp_format. For `costs_from` of
--- `Costs` (src/costs.rt), and for the bounds by 1-trees, which need symmetric costs.
+-- Rows of costs as code has them; and symmetric costs, re-exported from Symmetry.antt of tsp_format. For `costs_from`
+-- of `Costs` (src/costs.rt), and for the bounds by 1-trees, which need symmetric costs. Four crates above import it
+-- too.
 use Rattle.std.specs.Prelude.{◌≡◌, ℕ, ℤ, List, slice_index_or, pos, neg_ℤ, ◌≤ℤ◌}
 use Rattle.tsp_format.specs.Nodes.{IsNode}
 use Rattle.tsp_format.specs.Limits.{most_weight}

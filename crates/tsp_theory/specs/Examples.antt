@@ -1,5 +1,5 @@
--- Small costs, trees and numbers of nodes. For the laws of src/examples.rt, which state 1-trees, duals and bounds worked
--- out by hand; CycleExamples.antt imports `directed`.
+-- Small costs, trees and numbers of nodes. For the laws of src/examples.rt, which state 1-trees, duals and bounds
+-- worked out by hand; CycleExamples.antt imports `directed`.
 use Rattle.std.specs.Prelude.{ℕ, ◌+◌, ◌-◌, ◌*◌, ◌/◌, ◌==◌, if◌then◌else◌, min, max, List, [], ◌∷◌, slice_index_or, ℤ, pos, negsuc}
 
 -- symmetric costs, from those between 2 and 1, 3 and 1, 3 and 2, 4 and 1, 4 and 2, 4 and 3

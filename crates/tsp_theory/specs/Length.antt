@@ -1,5 +1,5 @@
 -- The length of a list of nodes as a cycle. For `tour_length` and `canonical_length` (src/length.rt), for the meanings
--- of `yes` (Accepted.antt of tsp_judge), and for every theorem on a bound.
+-- of `yes` (Accepted.antt of tsp_judge), and for every theorem on a bound. Nine crates above import it too.
 use Rattle.std.specs.Prelude.{ℕ, List, [], ◌∷◌, ℤ, pos, ◌+ℤ◌}
 use Rattle.tsp_theory.specs.Cycle.{links}
 

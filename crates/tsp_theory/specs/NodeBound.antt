@@ -1,7 +1,7 @@
 -- The weights between nodes under potentials, and the bound of a least 1-tree. For `Potentials` (src/potentials.rt of
 -- tsp_bound), and for the law `node_bounds_bound_cycles` (src/laws.rt). Adjusted.antt has the bound with numbers on
--- pairs too.
--- Source: M. Held and R. M. Karp, The traveling-salesman problem and minimum spanning trees, 1970.
+-- pairs too. Four crates above import this file too. Source: M. Held and R. M. Karp, The traveling-salesman problem and
+-- minimum spanning trees, 1970.
 use Rattle.std.specs.Prelude.{◌≡◌, ℕ, ◌≤◌, ◌+◌, ◌*◌, List, length, ℤ, pos, ◌+ℤ◌, ◌-ℤ◌, ◌*ℤ◌, ◌≤ℤ◌}
 use Rattle.tsp_format.specs.Limits.{most_scale, most_weight, most_potential}
 use Rattle.tsp_theory.specs.Costs.{IsSymmetric}
@@ -18,7 +18,7 @@ weight_between scale potentials cost i j = (scale *ℤ cost i j) +ℤ (entry pot
 abbrev pub most_between : ℕ
 most_between = most_scale * most_weight + 2 * most_potential
 
--- the bound of a 1-tree of this weight: each potential is taken off twice, since a cycle has each node in two of its links
+-- the bound of a 1-tree of this weight: each potential is taken off twice, since a cycle has each node in two links
 abbrev pub IsBoundOfPotentials : ℤ → List ℤ → ℤ → ℤ → Type 0
 IsBoundOfPotentials scale potentials weight bound = IsLeastBound scale (weight -ℤ (pos 2 *ℤ total potentials)) bound
 

@@ -1,5 +1,5 @@
--- Boxes of points along the axes, and nodes with their points. For `Region` (src/region.rt) and `Site` (src/site.rt), by
--- which tsp_bound searches for lightest edges.
+-- Boxes of points along the axes, and nodes with their points. For `Region` (src/region.rt) and `Site` (src/site.rt),
+-- by which tsp_bound searches for lightest edges.
 use Rattle.std.specs.Prelude.{◌≡◌, ℕ, ◌≤ℤ◌}
 use Rattle.tsp_distance.specs.declared.decimal.Point.{Point}
 use Rattle.tsp_format.specs.Nodes.{IsNode}

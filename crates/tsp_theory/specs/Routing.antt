@@ -6,8 +6,8 @@ use Rattle.std.specs.List.{All, AllPairs, Contains, concat}
 use Rattle.tsp_format.specs.Nodes.{IsNode}
 use Rattle.tsp_theory.specs.Length.{sum_int_by, length_of}
 
--- The nodes are 1 to `nodes`, one of them the depot, `cost i j` is the cost from i to j. Each node has a demand, each route
--- carries at most the capacity.
+-- The nodes are 1 to `nodes`, one of them the depot, `cost i j` is the cost from i to j. Each node has a demand, each
+-- route carries at most the capacity.
 pub record RoutingProblem : Type 0 where
   pub nodes : ℕ
   pub cost : ℕ → ℕ → ℤ

@@ -5,8 +5,8 @@ use Rattle.std.specs.List.{All}
 use Rattle.tsp_theory.specs.Cycle.{IsCycle, Uses}
 use Rattle.tsp_theory.specs.Length.{length_of}
 
--- The nodes are 1 to `nodes`, `cost i j` is the cost from i to j, and every tour uses the fixed pairs. These have a direction if
--- the problem is directed.
+-- The nodes are 1 to `nodes`, `cost i j` is the cost from i to j, and every tour uses the fixed pairs. These have a
+-- direction if the problem is directed.
 pub record Problem : Type 0 where
   pub nodes : ℕ
   pub directed : Bool

@@ -50,7 +50,8 @@ lower_than_weight weight next old_near old near new (inr taken) = omega (arith, 
 
 -- ---- the start
 
--- plan: node 2 alone is inside, and each other node has it as its nearest, since every weight is below `most_64` (`weighs`)
+-- plan: node 2 alone is inside, and each other node has it as its nearest, since every weight is below `most_64`
+-- (`weighs`)
 pub state_start : (n : ℕ) (w : ℕ → ℕ → ℤ) (outside old_near : List ℕ) (old : List ℤ) (near : List ℕ) (least : List ℤ)
     → AreFromThree n outside
     → ((k : ℕ) → k < length outside → least_at old k ≡ most_64)
@@ -99,7 +100,8 @@ inner_left n outside new_outside place next inside is inner = λ k below.
 
 -- ---- the step: the nearest of the nodes outside comes inside
 
--- plan: the nearest node comes in (`grows_more`), the last one takes its place; each has its old nearest or the new node
+-- plan: the nearest node comes in (`grows_more`), the last one takes its place; each has its old nearest or the new
+-- node
 pub state_more : (n : ℕ) (w : ℕ → ℕ → ℤ) (outside new_outside near near_left new_near : List ℕ)
     (least left new_least : List ℤ) (pairs pushed : List (ℕ × ℕ)) (weight : ℤ) (place next joint : ℕ) (here : ℤ)
     → IsState n w outside near least pairs weight → IsLeastPlace least place → next ≡ slice_index outside place

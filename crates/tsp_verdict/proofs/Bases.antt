@@ -275,8 +275,8 @@ routes_rejected (Some given) inst sol claimed reason cvrp first =
     routes_refused given.0 inst sol given.1 claimed reason cvrp first
 
 -- The verdict on routes that are accepted on their own, by what is known of all.
--- plan: by the certificate and the basis; where there is none, the basis has the least number alone; else the bound, or the
--- reason against the certificate
+-- plan: by the certificate and the basis; where there is none, the basis has the least number alone; else the bound, or
+-- the reason against the certificate
 routes_alone : (inst sol : Fields) (basis : Basis) (claimed : Option ℤ) (found : ℤ) (count fewest : ℕ)
     → inst.kind ≡ Some kinds.Cvrp → IsBasisOfRoutes inst basis
     → IsRoutesVerdict inst sol (verdicts.Routes found count fewest None) → IsAsClaimed claimed found

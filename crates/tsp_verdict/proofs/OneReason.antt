@@ -59,7 +59,7 @@ asymmetric_by_rank : (n : ℕ) (cost : ℕ → ℕ → ℤ) (i j : ℕ) (carried
 asymmetric_by_rank n cost i j carried one other =
     let same = one_asymmetric n cost i j carried.0 carried.1 one other in ap₂ (λ a b. NotSymmetric a b) same.0 same.1
 
--- plan: by the reason: one without numbers is equal to itself, and of one with numbers the files have one first place or pair
+-- plan: by the reason: one without numbers is equal to itself; of one with numbers files have one first place or pair
 pub tours_by_rank : (inst sol : Fields) → IsOneByRank (StandsAgainstTour inst sol)
 tours_by_rank inst sol NotASolution carried one other = refl
 tours_by_rank inst sol TooFewNodes carried one other = refl
@@ -95,7 +95,7 @@ tours_by_rank inst sol NotJudged carried one other = absurd one
 
 -- ---- against an instance, whatever the solution
 
--- plan: by the reason: one without numbers is equal to itself, and of one with numbers the files have one first place or pair
+-- plan: by the reason: one without numbers is equal to itself; of one with numbers files have one first place or pair
 pub instances_by_rank : (inst : Fields) → IsOneByRank (StandsAgainstTouring inst)
 instances_by_rank inst NotASolution carried one other = absurd one
 instances_by_rank inst TooFewNodes carried one other = refl
@@ -129,7 +129,7 @@ instances_by_rank inst (BadLeaf i) carried one other = absurd one
 instances_by_rank inst TooManyLoads carried one other = absurd one
 instances_by_rank inst NotJudged carried one other = absurd one
 
--- plan: by the reason: one without numbers is equal to itself, and of one with numbers the files have one first place or pair
+-- plan: by the reason: one without numbers is equal to itself; of one with numbers files have one first place or pair
 pub routings_by_rank : (inst : Fields) → IsOneByRank (StandsAgainstRouting inst)
 routings_by_rank inst NotASolution carried one other = absurd one
 routings_by_rank inst TooFewNodes carried one other = refl
@@ -172,7 +172,7 @@ one_unserved n depot nodes a b one other = elim (cases_order a b) [
   | inr (inr more) ↦ absurd (other.unserved (one.first b other.customer more))
 ]
 
--- plan: by the reason: one without numbers is equal to itself, and of one with numbers the files have one first place or pair
+-- plan: by the reason: one without numbers is equal to itself; of one with numbers files have one first place or pair
 pub routes_by_rank : (inst sol : Fields) → IsOneByRank (StandsAgainstRoutes inst sol)
 routes_by_rank inst sol NotASolution carried one other = refl
 routes_by_rank inst sol TooFewNodes carried one other = refl
@@ -230,7 +230,7 @@ broken_by_rank : (inst pot : Fields) (i j : ℕ) (carried : Carried) → BreaksD
 broken_by_rank inst pot i j carried one other =
     let same = one_breaking inst pot i j carried.0 carried.1 one other in ap₂ (λ a b. DualInfeasible a b) same.0 same.1
 
--- plan: by the reason: one without numbers is equal to itself, and of one with numbers the files have one first place or pair
+-- plan: by the reason: one without numbers is equal to itself; of one with numbers files have one first place or pair
 pub potentials_by_rank : (inst pot : Fields) → IsOneByRank (StandsAgainstPotentials inst pot)
 potentials_by_rank inst pot NotASolution carried one other = absurd one
 potentials_by_rank inst pot TooFewNodes carried one other = absurd one
@@ -321,7 +321,7 @@ bad_leaf_by_rank unique inst tree a b one other =
     let moved = subst (λ crossed. IsFirstBadLeaf (nodes_of inst) crossed one.0 b) crossed of_steps in
     one_bad_leaf (nodes_of inst) one.2 one.0 a b one.4 moved
 
--- plan: by the reason: one without numbers is equal to itself, and of one with numbers the files have one first place or pair
+-- plan: by the reason: one without numbers is equal to itself; of one with numbers files have one first place or pair
 pub trees_by_rank : NumbersAreUnique → (inst tree : Fields) → IsOneByRank (StandsAgainstBranches inst tree)
 trees_by_rank unique inst tree NotASolution carried one other = absurd one
 trees_by_rank unique inst tree TooFewNodes carried one other = absurd one
@@ -387,7 +387,7 @@ bad_plan_leaf_by_rank inst tree a b one other =
     let moved = subst (λ steps. IsFirstBadPlanLeaf (nodes_of inst) (length (families_listed tree)) steps b) steps other.2 in
     one_bad_plan_leaf (nodes_of inst) (length (families_listed tree)) one.0 a b one.2 moved
 
--- plan: by the reason: one without numbers is equal to itself, and of one with numbers the files have one first place or pair
+-- plan: by the reason: one without numbers is equal to itself; of one with numbers files have one first place or pair
 pub walks_by_rank : (inst tree : Fields) → IsOneByRank (StandsAgainstWalks inst tree)
 walks_by_rank inst tree NotASolution carried one other = absurd one
 walks_by_rank inst tree TooFewNodes carried one other = absurd one

@@ -78,7 +78,7 @@ first_after P Q nodes piece before place apart stands none first = record {
         (subst P (sym (at_place k (omega (arith, after)) (omega (arith, less, first.here.1, after)) ∙ ap (node_at nodes) is)) p)
     earlier_out earlier low less (inr le) p = apart (node_at nodes earlier) p (none (earlier - 1) 0 (omega (arith, low, le)))
 
--- what holds of all nodes before a route and of its own
+-- what holds of all nodes before a route and of the route's nodes
 pub all_more : (Q : ℕ → Type 0) (nodes piece : List ℕ) (before : ℕ) → StandsAfter before nodes piece
     → ((k d : ℕ) → k < before → Q (slice_index_or nodes k d)) → All Q piece
     → (k d : ℕ) → k < before + length piece → Q (slice_index_or nodes k d)

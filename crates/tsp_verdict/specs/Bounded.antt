@@ -1,5 +1,5 @@
--- The verdict on an instance and a certificate without a solution: the first reason against either, or the certificate's
--- bound. For `judge_bound` (src/bound_verdict.rt), Basis.antt, and BoundRun.antt of tsp_judge.
+-- The verdict on an instance and a certificate without a solution: the first reason against either, or the
+-- certificate's bound. For `judge_bound` (src/bound_verdict.rt), Basis.antt, and BoundRun.antt of tsp_judge.
 use Rattle.std.specs.Prelude.{◌≡◌, ◌≢◌, ◌⊎◌, ◌<◌, ◌≤◌, length, Option, Some, pos}
 use Rattle.tsp_format.specs.declared.kinds.Kind.{Kind}
 use Rattle.tsp_format.specs.declared.kinds.Kind.TheVariants as kinds

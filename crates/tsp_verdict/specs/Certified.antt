@@ -1,6 +1,6 @@
 -- The bound of a certificate, by its kind and the TYPE of the instance, and the verdict on a solution with a
--- certificate. For `bound_by` (src/certificate_bound.rt), SolutionVerdict.antt, and the meanings of `yes` (Accepted.antt
--- of tsp_judge). The files `..Certificate.antt` have the reasons and the bound of each kind.
+-- certificate. For `bound_by` (src/certificate_bound.rt), SolutionVerdict.antt, and the meanings of `yes`
+-- (Accepted.antt of tsp_judge). The files `..Certificate.antt` have the reasons and the bound of each kind.
 use Rattle.std.specs.Prelude.{◌≡◌, ◌⊎◌, ℕ, Bool, true, false, List, [], ◌∷◌, Option, None, Some, ◌^◌, ℤ, pos, neg_ℤ}
 use Rattle.tsp_format.specs.declared.kinds.Kind.{Kind}
 use Rattle.tsp_format.specs.declared.kinds.Kind.TheVariants as kinds
@@ -138,8 +138,8 @@ abbrev pub IsFirstAgainstCertified : Certificate → Fields → Fields → Field
 IsFirstAgainstCertified by instance solution certificate reason = IsFirstReason
     (StandsAgainstCertified by instance solution certificate) reason
 
--- Accepted: the one tour is a tour of the instance, of this length, and the bound is that of the certificate; every tour of the
--- instance is at least as long as the bound, so that one whose length equals it is a shortest.
+-- Accepted: the one tour is a tour of the instance, of this length, and the bound is that of the certificate; every
+-- tour of the instance is at least as long as the bound, so that one whose length equals it is a shortest.
 pub record IsCertifiedTour (by : Certificate) (instance solution certificate : Fields) (length_is : ℤ)
     (bound : Option ℤ) : Type 0 where
   pub tour : List ℕ

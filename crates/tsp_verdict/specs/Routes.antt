@@ -27,7 +27,7 @@ pub record IsFirstUnserved (n depot : ℕ) (nodes : List ℕ) (node : ℕ) : Typ
 abbrev pub IsOverloaded : List ℤ → ℤ → List (List ℕ) → ℕ → Type 0
 IsOverloaded demands capacity routes place = capacity <ℤ load_of demands (slice_index_or routes (place - 1) [])
 
--- When a reason applies to routes: those of the files, of the depot, of the nodes and of the loads. No other reason does.
+-- When a reason applies to routes: those of the files, the depot, the nodes and the loads. No other reason does.
 abbrev pub StandsAgainstRoutes : Fields → Fields → Reason → Type 0
 StandsAgainstRoutes instance solution NotASolution = is_tour_file solution.kind ≡ false
 StandsAgainstRoutes instance solution TooFewNodes = nodes_of instance < 2
@@ -55,8 +55,8 @@ NoneOfRoutesBefore instance solution reason = NoneBefore (StandsAgainstRoutes in
 abbrev pub IsFirstAgainstRoutes : Fields → Fields → Reason → Type 0
 IsFirstAgainstRoutes instance solution reason = IsFirstReason (StandsAgainstRoutes instance solution) reason
 
--- Accepted routes: they are a plan of the instance, each with a customer, of this length and number, and no plan at all has fewer
--- routes than the least number that carries all demands.
+-- Accepted routes: they are a plan of the instance, each with a customer, of this length and number, and no plan at all
+-- has fewer routes than the least number that carries all demands.
 pub record IsPlanned (instance : Fields) (plan : List (List ℕ)) (length_is : ℤ) (routes least : ℕ) : Type 0 where
   pub plan_of : IsPlanOf instance plan
   pub filled : All (λ route. route ≢ []) plan

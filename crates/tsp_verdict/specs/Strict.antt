@@ -1,5 +1,5 @@
--- Unknown keywords of an instance as a reason, where `--strict` asks for that: it is judged after all other reasons. For
--- `strict_verdict` (src/strict.rt), and for the runs of tsp_judge.
+-- Unknown keywords of an instance as a reason, where `--strict` asks for that: it is judged after all other reasons.
+-- For `strict_verdict` (src/strict.rt), and for the runs of tsp_judge.
 use Rattle.std.specs.Prelude.{◌≡◌, Bool, true, false, ℤ, List, [], ◌∷◌, ℕ, Option}
 use Rattle.tsp_draft.specs.Fields.{Fields}
 use Rattle.tsp_task.specs.declared.basis.Basis.{Basis}

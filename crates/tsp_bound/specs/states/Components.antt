@@ -1,5 +1,6 @@
--- The components of a forest over the places 0..n-1 of an order, each with a label, and the lightest links between them.
--- For `Labelled` (src/labelled.rt) and `Listed` (src/listed.rt), whose components the rounds of src/rounds.rt join.
+-- The components of a forest over the places 0..n-1 of an order, each with a label, and the lightest links between
+-- them. For `Labelled` (src/labelled.rt) and `Listed` (src/listed.rt), whose components the rounds of src/rounds.rt
+-- join.
 use Rattle.std.specs.Prelude.{◌≡◌, ◌≢◌, ℕ, ◌+◌, ◌*◌, ◌^◌, ◌==◌, ◌<◌, Bool, true, not, if◌then◌else◌, List, [], length, slice_index_or, Option, None, Some, ℤ, pos, neg_ℤ, ◌≤ℤ◌, IfSome, ◌⊎◌}
 use Rattle.std.specs.List.{All}
 use Rattle.tsp_bound.specs.declared.area.Area.{Area}

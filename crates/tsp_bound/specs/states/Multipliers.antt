@@ -19,7 +19,7 @@ triples_in m = m.triples.now
 abbrev pub node_count : ByNode → ℕ
 node_count m = m.nodes
 
--- the weight between two nodes: the cost at the scale and the potentials of both, less the multiplier of the pair; no pair is
--- avoided
+-- the weight between two nodes: the cost at the scale and the potentials of both, less the multiplier of the pair; no
+-- pair is avoided
 abbrev pub weight_less : Potentials → List (ℕ × ℕ × ℤ) → (ℕ → ℕ → ℤ) → ℕ → ℕ → ℤ
 weight_less p triples cost = adjusted triples [] (weight_under p cost)

@@ -55,8 +55,8 @@ twice_in multipliers families place x =
 abbrev pub inside_both : List ℤ → List (List (List ℕ)) → List SetPlace → ℕ → ℤ
 inside_both multipliers families places x = sum_int_by (λ place. twice_in multipliers families place x) places
 
--- the weight between two nodes: the cost times the scale and both potentials, less the multipliers of the sets that they
--- cross
+-- the weight between two nodes: the cost times the scale and both potentials, less the multipliers of the sets that
+-- they cross
 abbrev pub set_weight : ℤ → List ℤ → List ℤ → List (List (List ℕ)) → (ℕ → ℕ → ℤ) → ℕ → ℕ → ℤ
 set_weight scale potentials multipliers families cost i j =
     weight_between scale potentials cost i j -ℤ set_crossings multipliers families i j

@@ -1,5 +1,6 @@
--- The two numbers of a family as code finds them: a value of `Crossings` of tsp_families, with how often a cycle crosses
--- the sets at least, and how many of them two nodes cross at most. For src/good_families.rt and src/other_families.rt.
+-- The two numbers of a family as code finds them: a value of `Crossings` of tsp_families, with how often a cycle
+-- crosses the sets at least, and how many of them two nodes cross at most. For src/good_families.rt and
+-- src/other_families.rt.
 use Rattle.std.specs.Prelude.{◌<◌, ◌^◌, ℕ, List, Option, Some, None}
 use Rattle.std.specs.List.{All}
 use Rattle.tsp_families.specs.declared.family.Crossings.{Crossings}

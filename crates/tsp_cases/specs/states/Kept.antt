@@ -31,8 +31,8 @@ AreTwoNodes n pair = IsNode n pair.0 × IsNode n pair.1 × (pair.0 ≢ pair.1)
 abbrev pub added_between : ℕ × ℕ → ℤ → ℕ → ℕ → ℤ
 added_between pair number i x = if is_same_pair pair (i, x) then number else pos 0
 
--- the row of a node: an entry for 0 and for each node, which is what is left of the weight in 64 bits; and the costs are
--- within their limits
+-- the row of a node: an entry for 0 and for each node, which is what is left of the weight in 64 bits; and the costs
+-- are within their limits
 pub record IsKeptRow (n : ℕ) (cost weight : ℕ → ℤ) (row : List ℤ) : Type 0 where
   pub long : length row ≡ n + 1
   pub weights : (x : ℕ) → IsNode n x → int_wrap w64 (least_at row x) ≡ int_wrap w64 (weight x)
@@ -78,8 +78,8 @@ pub record AreEnds (n : ℕ) (multipliers : List ℤ) (families : List (List (Li
   pub taken : (x : ℕ) → IsNode n x
       → int_wrap w64 (least_at ends x) ≡ int_wrap w64 (neg_ℤ (multipliers_at multipliers families x))
 
--- the fields of `KeptRows`: the multipliers that the rows and ends are for, the ends, and the rows if any; `differences`
--- is memory for changes of multipliers
+-- the fields of `KeptRows`: the multipliers that the rows and ends are for, the ends, and the rows if any;
+-- `differences` is memory for changes of multipliers
 pub record HoldsRows (n combs : ℕ) (scale : ℤ) (families : List (List (List ℕ))) (cost marks : ℕ → ℕ → ℤ)
     (kept : KeptRows) : Type 0 where
   pub multipliers : length kept.multipliers.items ≡ combs

@@ -1,5 +1,6 @@
 -- The place of a set among families: the index of its family, and its index in the family, both from 0 on. For
--- `SetPlace` (src/set_place.rt), `set_at` of `Families` (src/families.rt) and `add_sets` (src/row_sets.rt).
+-- `SetPlace` (src/set_place.rt), `set_at` of `Families` (src/families.rt) and `add_sets` (src/row_sets.rt). tsp_branch
+-- and tsp_routing import it too.
 use Rattle.std.specs.Prelude.{ℕ, ◌<◌, List, [], length, slice_index_or}
 use Rattle.tsp_cases.specs.declared.set_place.SetPlace.{SetPlace}
 

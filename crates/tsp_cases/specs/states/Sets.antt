@@ -1,5 +1,6 @@
--- For each node the places of the sets that have it, and what a set adds to a row of numbers by node. For `sets_by_node`
--- (src/sets.rt) and `add_sets` (src/row_sets.rt). `SetPlace` (src/set_place.rt) says which set of which family.
+-- For each node the places of the sets that have it, and what a set adds to a row of numbers by node. For
+-- `sets_by_node` (src/sets.rt) and `add_sets` (src/row_sets.rt). `SetPlace` (src/set_place.rt) says which set of which
+-- family.
 use Rattle.std.specs.Prelude.{◌≡◌, ℕ, suc, ◌==◌, ◌+◌, ◌++◌, ◌<◌, ◌≤◌, if◌then◌else◌, List, [], ◌∷◌, length, slice_index_or, ℤ, pos}
 use Rattle.std.specs.Global.{Vec}
 use Rattle.tsp_theory.specs.Length.{sum_int_by}

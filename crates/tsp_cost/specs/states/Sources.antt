@@ -1,5 +1,5 @@
--- What `Instance` (src/instance.rt) has found out of its file when it was made: the number of nodes, and where the costs
--- come from, as a `CostSource` (src/cost_source.rt).
+-- What `Instance` (src/instance.rt) has found out of its file when it was made: the number of nodes, and where the
+-- costs come from, as a `CostSource` (src/cost_source.rt).
 use Rattle.std.specs.Prelude.{◌≡◌, ℕ, Some, IsSome, IsTrue}
 use Rattle.tsp_format.specs.declared.kinds.Kind.TheVariants as kinds
 use Rattle.tsp_format.specs.declared.kinds.WeightFormat.TheVariants.{Listed}

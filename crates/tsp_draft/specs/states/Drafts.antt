@@ -1,5 +1,6 @@
 -- The fields of a draft as lists: what the vectors of `Draft` (src/draft.rt) and `Coords` (src/coords.rt) hold. For
--- `bad_field` and `end_fault` of this crate, for the reader, and for `File` of tsp_file.
+-- `bad_field` and `end_fault` of this crate, for the reader, and for `File` of tsp_file. Six crates above import it
+-- too.
 use Rattle.std.specs.Prelude.{ℕ, List, map}
 use Rattle.std.specs.Option.{option_map}
 use Rattle.std.specs.Global.{Vec}

@@ -1,6 +1,6 @@
--- The reader's state after some items of a text, the last one first: the fields of the items in its draft, and the words
--- of the open section. For `Reading` (src/state/reading.rt), whose `incomplete` is the first closed section that is
--- incomplete, and whose `opened` is the open section.
+-- The reader's state after some items of a text, the last one first: the fields of the items in its draft, and the
+-- words of the open section. For `Reading` (src/state/reading.rt), whose `incomplete` is the first closed section that
+-- is incomplete, and whose `opened` is the open section.
 use Rattle.std.specs.Prelude.{◌≡◌, Bool, false, not, ◌&&◌, List, [], ◌∷◌, Option, None, Some, is_some, Result, Ok, Err, nat_lt}
 use Rattle.std.specs.List.{find}
 use Rattle.tsp_format.specs.declared.field.Field.{Field}

@@ -1,6 +1,6 @@
--- The state while a text comes: which items of the bytes so far were taken, and the answer for these bytes. For `Intake`
--- (src/intake.rt): `words` counts the words that were taken of the line, and `inside` says whether an item of the line
--- was taken.
+-- The state while a text comes: which items of the bytes so far were taken, and the answer for these bytes. For
+-- `Intake` (src/intake.rt): `words` counts the words that were taken of the line, and `inside` says whether an item of
+-- the line was taken.
 use Rattle.std.specs.Prelude.{◌≡◌, ℕ, Bool, true, false, List, ◌∷◌, reverse, Option, None, Some, Result, Ok, Err}
 use Rattle.tsp_text.specs.declared.fault.ReadFault.{ReadFault}
 use Rattle.tsp_text.specs.declared.fault.ReadFault.TheVariants as faults
@@ -17,8 +17,8 @@ pub record HasTakenItems (intake : Intake) (earlier : List Item) : Type 0 where
   pub line_is : intake.line ≡ line_number earlier
   pub words_are : intake.words ≡ words_before earlier
 
--- an item is taken, and whether it is an end line; or it has the first fault; or memory was refused, which can't be at a
--- line's end
+-- an item is taken, and whether it is an end line; or it has the first fault; or memory was refused, which can't be at
+-- a line's end
 abbrev pub TakesNext : List Item → Item → Intake → Result Bool ReadFault → Type 0
 TakesNext earlier item new (Ok ended) = HasTakenItems new (item ∷ earlier) × (ended ≡ is_end_line item)
 TakesNext earlier item new (Err (faults.Line line word found)) = fault_in (item ∷ earlier) ≡ Some (faults.Line line word found)

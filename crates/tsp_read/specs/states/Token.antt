@@ -1,5 +1,5 @@
--- A word line, or a word of a number line: which byte begins it, which ends it, how long it may be, and the item that it
--- is. For `Token` (src/token.rt), and for Begun.antt.
+-- A word line, or a word of a number line: which byte begins it, which ends it, how long it may be, and the item that
+-- it is. For `Token` (src/token.rt), and for Begun.antt.
 use Rattle.std.specs.Prelude.{ℕ, Bool, not, ◌&&◌, cond, List}
 use Rattle.tsp_format.specs.Bytes.{is_letter}
 use Rattle.tsp_format.specs.Limits.{most_word_bytes, most_line_bytes}

@@ -1,5 +1,5 @@
--- How large the multipliers of the sets are that two nodes cross, where they may have any sign. For the `ghost` facts of
--- `LeafWeights` (src/leaf_weights.rt).
+-- How large the multipliers of the sets are that two nodes cross, where they may have any sign. For the `ghost` facts
+-- of `LeafWeights` (src/leaf_weights.rt).
 use Rattle.std.specs.Prelude.{ℕ, List, ℤ, pos, neg_ℤ}
 use Rattle.tsp_format.specs.Nodes.{IsNode}
 use Rattle.tsp_format.specs.Ranges.{IsFromTo}

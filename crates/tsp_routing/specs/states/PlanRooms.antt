@@ -1,5 +1,5 @@
--- The memory of a leaf for routes, which is `PlanRoom` (src/plan_judge.rt), and what is found of one leaf or of all. For
--- `judge_leaf` there, and for `leaf_verdict` (src/verdict.rt).
+-- The memory of a leaf for routes, which is `PlanRoom` (src/plan_judge.rt), and what is found of one leaf or of all.
+-- For `judge_leaf` there, and for `leaf_verdict` (src/verdict.rt).
 use Rattle.std.specs.Prelude.{◌≡◌, ℕ, ◌+◌, ◌*◌, ◌≤◌, ◌<◌, Bool, true, List, length, Option, ℤ}
 use Rattle.tsp_format.specs.Steps.{Step}
 use Rattle.tsp_theory.specs.Routing.{RoutingProblem}

@@ -47,8 +47,8 @@ IsSameError error other = HasSystemCode (raw_os_error error) error other
 abbrev pub Asking : Type 0 → Type 0 → Type 0 → Type 0 → Type 1
 Asking Call T B R = Once Call (MutBor T × (MutBor B × Unit {0})) (R × (MutBor T × (MutBor B × Unit {0})))
 
--- Standard input or the file is asked by its call, once, and this is its result, as it is. A missing file returns an error
--- that is the same as its own.
+-- Standard input or the file is asked by its call, once, and this is its result, as it is. A missing file returns an
+-- error that is the same as its own.
 abbrev pub IsAskedOnce : {I F B A OfInput OfFile : Type 0} → Asking OfInput I B (Result A Error) → OfInput
     → Asking OfFile F B (Result A Error) → OfFile → InputFile I F → B → Result A Error → InputFile I F → B → Type 0
 IsAskedOnce asks_input of_input asks_file of_file (Input old) room answer (Input new) filled =

@@ -1,6 +1,6 @@
 -- A word line that is cut into keyword and value, and the faults of a value: the rows of FaultRows.antt (tsp_text) that
--- need no other line. For `CutLine` (src/line.rt), and for src/slots.rt, which puts values into the draft. The first row
--- that applies counts.
+-- need no other line. For `CutLine` (src/line.rt), and for src/slots.rt, which puts values into the draft. The first
+-- row that applies counts. tsp_read imports this file too.
 use Rattle.std.specs.Prelude.{◌≡◌, ℕ, ℤ, Bool, true, false, not, List, [], ◌∷◌, Option, None, Some, is_none, is_some, unwrap_or, Result, Ok, Err, ◌≤ℤ◌, length, ◌++◌, nat_le}
 use Rattle.std.specs.Option.{option_map}
 use Rattle.std.specs.Result.{result_err}

@@ -1,5 +1,5 @@
--- That the struct of a section's part has the words of the section so far, for each struct of src/parts/. For `open` and
--- `push` of `Part` (src/part.rt), and for each file of src/parts/. Parts.antt says it of the fields one by one.
+-- That the struct of a section's part has the words of the section so far, for each struct of src/parts/. For `open`
+-- and `push` of `Part` (src/part.rt), and for each file of src/parts/. Parts.antt says it of the fields one by one.
 use Rattle.std.specs.Prelude.{◌≡◌, ℕ, ◌+◌, ◌≤◌, ℤ, Bool, cond, List, length, map}
 use Rattle.tsp_section.specs.declared.parts.numbers.NumberList.{NumberList}
 use Rattle.tsp_section.specs.declared.parts.points.PointList.{PointList}

@@ -1,5 +1,5 @@
--- What the fields of a section's part say of the words so far, section by section, and how the part takes the next word.
--- For the functions of src/parts/ over the fields of their structs, and for HeldParts.antt, which says it of each
+-- What the fields of a section's part say of the words so far, section by section, and how the part takes the next
+-- word. For the functions of src/parts/ over the fields of their structs, and for HeldParts.antt, which says it of each
 -- struct.
 use Rattle.std.specs.Prelude.{◌≡◌, ℕ, ◌+◌, ◌*◌, ◌<◌, ◌≤◌, ◌-◌, ℤ, pos, negsuc, Bool, true, false, not, List, [], ◌∷◌, ◌++◌, length, map, slice_index_or, Option, None, Some, is_some, unwrap_or, Result, Ok, Err}
 use Rattle.std.specs.Option.{option_map}
@@ -63,8 +63,8 @@ IsNodeOf n k = (1 ≤ k) × (k ≤ n)
 
 -- ---- by-node sections
 
--- For n nodes: the marks of those that have a group, their entries, how many groups are to come, and the node of a group
--- that isn't whole, all as the whole groups so far say.
+-- For n nodes: the marks of those that have a group, their entries, how many groups are to come, and the node of a
+-- group that isn't whole, all as the whole groups so far say.
 pub record NodesHold {X : Type 0} (missing : X) (seen : List Bool) (entries : List X) (left : ℕ) (begun : Option ℕ) (n : ℕ)
     (groups : List (ℤ × X)) : Type 0 where
   pub wide : length seen ≡ n
@@ -84,8 +84,8 @@ IsNewNode seen word (Err row.RepeatedNode) = (k : ℕ) × (node (length seen) wo
     × (slice_index_or seen (k - 1) false ≡ true)
 IsNewNode seen word (Err fault) = ⊥
 
--- The same by the words of a section: groups of this size, with a node and the words of its value. Of a group that isn't
--- whole the part has the node, and the numbers after it.
+-- The same by the words of a section: groups of this size, with a node and the words of its value. Of a group that
+-- isn't whole the part has the node, and the numbers after it.
 pub record GroupsHold {X : Type 0} (size : ℕ) (value : List (List ℕ) → X) (missing : X) (reads : List (List ℕ → Result ℤ NumberFault))
     (seen : List Bool) (entries : List X) (left : ℕ) (begun : Option ℕ) (kept : List (Option ℤ)) (n : ℕ)
     (words : List (List ℕ)) : Type 0 where

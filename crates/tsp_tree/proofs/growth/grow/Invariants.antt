@@ -6,8 +6,8 @@ use Rattle.tsp_tree.specs.states.Outside.{IsLeastPlace}
 use Rattle.tsp_tree.proofs.GrowthStates.{IsState}
 use Rattle.tsp_tree.proofs.growth.grow.Given as goal
 
--- the pairs grow a tree from node 2; each node outside is listed once, with the nearest node inside, and `nearest` is the
--- least place
+-- the pairs grow a tree from node 2; each node outside is listed once, with the nearest node inside, and `nearest` is
+-- the least place
 abbrev pub invariant-grow : goal.invariant-grow
 invariant-grow g l =
     let n = g.W.Weights.nodes l.w in

@@ -4,7 +4,7 @@ use Rattle.std.specs.Prelude.{vec_len}
 use Rattle.tsp_verdict.specs.states.Marks.{Marked, StandsAfter}
 use Rattle.tsp_verdict.proofs.first_places.mark.Given as goal
 
--- if just the nodes of a list before these were marked, just those and the nodes before this one are, none of them twice
+-- if just the nodes of a list before these were marked, just those and the nodes before this one are, each once
 abbrev pub invariant-nodes : goal.invariant-nodes
 invariant-nodes l = record {
   counted : l.place ≡ l.node-index;

@@ -4,7 +4,7 @@ use Rattle.tsp_verdict.specs.states.PairSets.{HasKeys}
 use Rattle.tsp_verdict.proofs.GivenPairs.{IsTakenSoFar}
 use Rattle.tsp_verdict.proofs.fixed_decisions.taken_once.Given as goal
 
--- the pairs taken so far, and those left that are new, are all that have to be taken; `seen` has the pairs before this one
+-- the pairs taken so far, and those left that are new, are all that have to be taken; `seen` has the earlier pairs
 abbrev pub invariant-pairs : goal.invariant-pairs
 invariant-pairs l = record {
   has : HasKeys l.directed l.seen (take l.pair-index l.pairs);
