@@ -1,5 +1,5 @@
 //! A tree of boxes over the nodes of an order: each box encloses its two halves. For
-//! `src/labelled.rt`.
+//! `src/labelled.rt` and `src/lists.rt`.
 
 ghost use Rattle.std.specs.Prelude.{◌≡◌, ◌⊎◌, ◌≤◌, ◌<◌, ◌+◌, ◌*◌, ◌≤ℤ◌, ℕ, ℤ, length, List, Bool, None, Some, IfOk, pos, neg_ℤ};
 ghost use Rattle.tsp_distance.specs.declared.decimal.Point.{Point};

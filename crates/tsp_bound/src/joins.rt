@@ -1,5 +1,5 @@
 //! The lightest edge that leaves each component of a forest, and the components joined along these
-//! edges. For `src/rounds.rt`.
+//! edges. For `src/rounds.rt` and `src/listed.rt`.
 
 ghost use Rattle.std.specs.Prelude.{◌≡◌, ◌<◌, ℕ, false, length, IfOk, MatchOption, ◌≤ℤ◌};
 ghost use Rattle.tsp_bound.specs.states.Components.{AreKept, AreLeast, AreLeaving, IsOffered, IsForest, label_at};

@@ -1,6 +1,6 @@
 //! The forest of nodes that have points: the component of each node, and boxes to search for its
 //! nearest node. It implements `Components`, as `src/listed.rt` does without points. For
-//! `src/part.rt`.
+//! `src/part.rt` and `src/joins.rt`.
 
 ghost use Rattle.std.specs.Prelude.{◌≡◌, ◌<◌, ◌*◌, ℕ, true, length, IfOk};
 ghost use Rattle.tsp_bound.specs.states.Boxes.{HoldsNode, AreHeld, AreHeld-prop, area_at, node_of};
@@ -40,7 +40,7 @@ pub(crate) struct Labelled<'a, W: BoxedWeights> {
         placed.order.now (λ _. true) (area_at areas.items) } by { AreHeld-prop (W.place_of placed.w.now) (W.number_of placed.w.now) placed.order.now (λ _. true) (area_at areas.items) },
 }
 
-/// A label of its own for each node: 0, 1, .., count - 1.
+/// One label for each node, each another one: 0, 1, .., count - 1.
 ///
 /// # Errors
 ///

@@ -1,4 +1,5 @@
-//! The search for the nearest node outside, by a tree of boxes. For `src/placed.rt`.
+//! The search for the nearest node outside, by a tree of boxes. For `src/placed.rt` and
+//! `src/search.rt`.
 //!
 //! Outside: in another component than the node that the search is from. See placed.rt for `steps`.
 

@@ -1,5 +1,5 @@
 //! The numbers of a certificate: their ranges, their sums, and the least bound of a sum. For
-//! `src/tree.rt` and `src/assignment.rt`.
+//! `src/tree.rt`, `src/assignment.rt` and others.
 
 ghost use Rattle.std.specs.Prelude.{◌≡◌, ◌↔◌, ◌≤◌, ◌*◌, ◌^◌, IsTrue, length, pos, neg_ℤ};
 ghost use Rattle.tsp_format.specs.Limits.{most_nodes, most_potential, most_triples, most_multiplier};

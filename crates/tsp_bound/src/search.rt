@@ -1,5 +1,5 @@
 //! A search from one node, down a tree of boxes, for the nearest node of another component. For
-//! `src/nearest.rt`.
+//! `src/nearest.rt` and `src/placed.rt`.
 
 ghost use Rattle.std.specs.Prelude.{◌≡◌, ◌≤◌, ◌<◌, ◌+◌, ◌*◌, ◌^◌, ◌≤ℤ◌, ◌*ℤ◌, ℕ, length};
 ghost use Rattle.std.specs.Bool.{OnTrue};

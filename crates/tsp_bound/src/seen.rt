@@ -1,5 +1,5 @@
 //! The trait of a tree of boxes over places, in which a search sees the nodes outside alone. For
-//! `src/search.rt` and `src/nearest.rt`.
+//! `src/search.rt`, `src/nearest.rt` and others.
 //!
 //! Outside: in another component than the node that the search is from (`Apart` in labelled.rt).
 

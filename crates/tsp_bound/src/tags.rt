@@ -1,5 +1,5 @@
-//! The label of the component of all nodes in a box, if it is one component. By it a search leaves
-//! out boxes of its own component. For `src/labelled.rt`.
+//! The label of the component of all nodes in a box, if it is one component. By it a search from
+//! a node leaves out boxes that are inside the node's component. For `src/labelled.rt`.
 
 ghost use Rattle.std.specs.Prelude.{◌≡◌, ◌≤◌, ◌<◌, ◌*◌, ◌^◌, ℕ, length};
 ghost use Rattle.tsp_bound.specs.states.Boxes.{IsRefit};

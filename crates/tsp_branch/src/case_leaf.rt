@@ -1,5 +1,5 @@
 //! A leaf of a tree of cases, and its bound: by a least 1-tree, or by the least arc from each node.
-//! For `src/cycle_judge.rt`.
+//! For `src/cycle_judge.rt` and others.
 
 ghost use Rattle.std.specs.Prelude.{◌≡◌, ◌+◌, ◌<◌, ◌^◌, length};
 ghost use Rattle.tsp_cases.specs.Decisions.{DecideOnce};

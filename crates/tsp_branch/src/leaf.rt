@@ -1,5 +1,5 @@
 //! The bound of a leaf from its weights: the weight of a least 1-tree and the sum that is given
-//! back, at the scale. For `src/boxed_leaf.rt`.
+//! back, at the scale. For `src/boxed_leaf.rt` and `src/rows.rt`.
 
 ghost use Rattle.std.specs.Prelude.{◌≡◌, ◌≤◌, ◌+◌, ◌^◌, ℕ, length, pos, neg_ℤ, IfOk};
 ghost use Rattle.tsp_theory.specs.CertificateNumbers.{IsFromTo, IsScale, IsLeastBound, IsBoundSized};

@@ -1,5 +1,5 @@
 //! Puts a value into a box, or returns `NoBox`, which no other call makes. For
-//! `src/handle_calls.rt`.
+//! `src/handle_calls.rt` and `src/call_end.rt`.
 
 ghost use Rattle.std.specs.Prelude.{◌≡◌, IfOk};
 

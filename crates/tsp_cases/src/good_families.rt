@@ -105,8 +105,8 @@ fn known_crossings(sets: usize) -> Crossings
 
 /// Whether sets, the handle first, are a lone set or a comb, each with its nodes once.
 ///
-/// The nodes of the handle get a mark, and so do those of the teeth in marks of their own: a mark
-/// that no node has before.
+/// The nodes of the handle get a mark in `handles`, and those of the teeth one in `used`. No node
+/// has that mark before.
 fn is_comb(handles: &mut [u32], used: &mut [u32], mark: u32, sets: &[Vec<u32>]) -> bool
     requires handle_places { HavePlaces handles.old sets.now }
     requires tooth_places { HavePlaces used.old sets.now }

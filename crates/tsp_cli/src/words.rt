@@ -194,7 +194,7 @@ fn values(alloc: Global, found: &ArgMatches<'_>, id: &str) -> Result<Vec<String>
     }
 }
 
-/// The texts, in memory of their own.
+/// Copies of the texts.
 fn owned(alloc: Global, texts: &[&str]) -> Result<Vec<String>, AllocError>
     ensures { IfOk result
         (λ owned. map string_bytes owned.items ≡ map (λ text. text.now) texts.now) }

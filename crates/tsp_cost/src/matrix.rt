@@ -1,4 +1,4 @@
-//! Costs that a full matrix lists, symmetric or not. For `src/view.rt`.
+//! Costs that a full matrix lists, symmetric or not. For `src/view.rt` and `src/instance.rt`.
 
 ghost use Rattle.std.specs.Prelude.{◌≡◌, ◌≤◌, length};
 ghost use Rattle.std.specs.List.{All};

@@ -1,5 +1,5 @@
 //! The weight types that are distances, and the function of tsp_distance for each. For
-//! `src/points.rt`, `src/places.rt` and `src/euclidean.rt`.
+//! `src/points.rt`, `src/places.rt`, `src/euclidean.rt` and others.
 
 ghost use Rattle.std.specs.Prelude.{◌≡◌, IsTrue, ◌↔◌, pos, ◌≤ℤ◌, MatchOption};
 ghost use Rattle.tsp_format.specs.declared.kinds.WeightKind.TheVariants.{Explicit};
@@ -53,7 +53,7 @@ impl Metric {
     }
 
     /// The distance of two points.
-    // (as a call of its own it cost 65 instructions a pair)
+    // (without `inline` the call cost 65 instructions a pair)
     #[inline(always)]
     #[tactic(auto, unfolding(tsp_file::specs::Cost::distance))]
     pub(crate) fn between(self, a: Point, b: Point) -> i64

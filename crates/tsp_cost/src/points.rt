@@ -1,5 +1,5 @@
 //! Costs that are distances of points, of the plane or in space, by the metric of the weight type.
-//! For `src/view.rt`.
+//! For `src/view.rt` and others.
 
 ghost use Rattle.std.specs.Prelude.{◌≡◌, ◌≤◌, ◌-◌, ℕ, length, map};
 ghost use Rattle.tsp_distance.specs.declared.decimal.Point.{Point};

@@ -1,4 +1,4 @@
-//! Costs of which a layout lists one half of the matrix. For `src/view.rt`.
+//! Costs of which a layout lists one half of the matrix. For `src/view.rt` and `src/instance.rt`.
 
 ghost use Rattle.std.specs.Prelude.{◌≡◌, ◌≢◌, ◌≤◌, ◌⊎◌, IsTrue, length};
 ghost use Rattle.std.specs.List.{All};

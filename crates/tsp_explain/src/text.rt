@@ -80,7 +80,7 @@ fn push_part(text: &mut Vec<u8>, part: LinePart<'_>) -> Result<(), AllocError> {
     }
 }
 
-/// Appends sentences, which are lines of their own where byte 10 parts them.
+/// Appends sentences. Byte 10 between two of them begins a new line.
 pub fn push_lines(text: &mut Vec<u8>, sentences: &str) -> Result<(), AllocError>
     ensures { OnOk result (text.new.items ≡ text.old.items ++ indented sentences.now) }
 {

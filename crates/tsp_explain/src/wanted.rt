@@ -1,5 +1,5 @@
 //! What each keyword and each section takes, with its numbers, as sentences of `--explain`. For
-//! `src/guess.rt` and `src/file_fault.rt`.
+//! `src/guess.rt`, `src/file_fault.rt` and `src/groups.rt`.
 
 use tsp_format::{Field, Shape};
 

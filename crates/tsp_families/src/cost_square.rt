@@ -1,5 +1,5 @@
 //! The matrix of the costs between at most 14 nodes, which are the parts of a family. For
-//! `src/cycles.rt` and `src/paths.rt`.
+//! `src/cycles.rt`, `src/paths.rt` and `src/family.rt`.
 
 ghost use Rattle.std.specs.Prelude.{◌≡◌, ◌*◌, ◌≤◌, length};
 ghost use Rattle.std.specs.List.{All};

@@ -1,5 +1,6 @@
 //! What all solutions of a comparison are judged by: the instance, the certificate, and the basis
-//! of both; and the verdict or fault of each solution. For `src/compared.rt`.
+//! of both; and the verdict or fault of each solution. For `src/compared.rt` and
+//! `src/solutions.rt`.
 
 ghost use Rattle.std.specs.Prelude.{◌≡◌, MatchResult};
 ghost use Rattle.tsp_stream.specs.states.Watched.{turn_of};

@@ -1,4 +1,4 @@
-//! Judges the files of a check and writes the report. For `src/checked.rt`.
+//! Judges the files of a check and writes the report. For `src/checked.rt` and others.
 
 ghost use Rattle.std.specs.Prelude.{◌≡◌, option_map};
 ghost use Rattle.tsp_stream.specs.states.Watched.{sink_of};

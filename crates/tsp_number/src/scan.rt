@@ -1,4 +1,5 @@
-//! The sign, digits, point and exponent of a number word, found from the left. For `src/word.rt`.
+//! The sign, digits, point and exponent of a number word, found from the left. For `src/word.rt`
+//! and `src/shift.rt`.
 
 ghost use Rattle.std.specs.Prelude.{◌≡◌, ◌+◌, ◌<◌, ◌≤◌, length, MatchOption, ℕ, None, Some};
 ghost use Rattle.std.specs.Option.{option_map};

@@ -1,5 +1,5 @@
 //! `Intake`: the fields read so far, with the numbers of the line and the word, and the items of a
-//! piece that it takes. For `src/feed.rt` and `src/begun.rt`.
+//! piece that it takes. For `src/feed.rt`, `src/begun.rt` and `src/run.rt`.
 
 ghost use Rattle.std.specs.Prelude.{◌≡◌, ◌+◌, ◌≤◌, ◌<◌, [], List, ℕ, length, IfOk, IfSome, Err, true};
 ghost use Rattle.tsp_format.specs.Limits.{most_file_bytes};

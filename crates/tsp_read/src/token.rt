@@ -1,5 +1,5 @@
 //! A word line or a word of a number line: where it ends in a text, and how long it may be. For
-//! `src/cut.rt` and `src/begun.rt`.
+//! `src/cut.rt`, `src/begun.rt` and `src/intake.rt`.
 
 ghost use Rattle.std.specs.Prelude.{◌≡◌, MatchOption, false, true};
 ghost use Rattle.std.specs.List.{position};

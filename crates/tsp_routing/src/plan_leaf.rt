@@ -1,5 +1,5 @@
 //! The bound of a leaf of a certificate for routes, from the least weight of a walk. For
-//! `src/plan_judge.rt`.
+//! `src/plan_judge.rt` and `src/leaf_weights.rt`.
 
 ghost use Rattle.std.specs.Prelude.{◌≡◌, ◌≤◌, ◌+◌, ◌-◌, ◌^◌, ℕ, ℤ, length, true, pos, neg_ℤ, IfOk, IfSome, ◌-ℤ◌, ◌*ℤ◌};
 ghost use Rattle.tsp_format.specs.Ranges.{IsFromTo};

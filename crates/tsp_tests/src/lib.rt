@@ -3,7 +3,7 @@
 //!
 //! They show that calls succeed where memory is ample, how often a cost is asked for, how calls end
 //! with readers and writers that fail, never end or do little at a time, and that a text in pieces
-//! gives the answer of the whole one. They are in a crate of their own, since a crate with tests is
+//! gives the answer of the whole one. They are in a separate crate, since a crate with tests is
 //! proved twice.
 #![tactic(auto)]
 

@@ -1,5 +1,5 @@
 //! The bound that a tree of cases gives tours, or the first reason against it. For
-//! `src/certificate_bound.rt`.
+//! `src/certificate_bound.rt` and `src/walks.rt`.
 
 ghost use Rattle.std.specs.Prelude.{◌≡◌, ◌⊎◌, ◌≤◌, true, Some, IfOk, IsErr, MatchResult};
 ghost use Rattle.tsp_format.specs.declared.kinds.Kind.TheVariants as kinds;

@@ -1,5 +1,5 @@
 //! The tours of a solution file, and the depot, demands and capacity of a routing instance. For
-//! `src/subject.rt` and `src/routes.rt`.
+//! `src/subject.rt`, `src/routes.rt` and others.
 
 ghost use Rattle.std.specs.Prelude.{◌≡◌, ◌≤◌, false, length, pos, MatchOption, Some};
 ghost use Rattle.std.specs.List.{All};

@@ -1,5 +1,6 @@
 //! The verdict on routes: the first reason against the instance or the plan, or its number of
-//! routes and its length. For `src/subject.rt`.
+//! routes and its length. For `src/subject.rt`, `src/bound_verdict.rt` and
+//! `src/comparison_basis.rt`.
 
 ghost use Rattle.std.specs.Prelude.{◌≡◌, ◌≤◌, length, pos, Some, MatchOption, MatchResult};
 ghost use Rattle.std.specs.List.{All};

@@ -1,5 +1,5 @@
 //! The tour of a solution, the reasons that its nodes show, and the costs of an instance of tours.
-//! For `src/subject.rt` and `src/bound_verdict.rt`.
+//! For `src/subject.rt`, `src/bound_verdict.rt` and others.
 
 ghost use Rattle.std.specs.Prelude.{◌≡◌, ◌⊎◌, ◌<◌, ◌≤◌, [], ◌∷◌, length, Some, MatchOption, MatchResult};
 ghost use Rattle.std.specs.List.{All};

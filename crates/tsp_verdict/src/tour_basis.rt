@@ -1,5 +1,5 @@
 //! Whether the bound of a verdict comes from a certificate or from a known basis, and the verdict
-//! on a tour by that basis. For `src/subject.rt`.
+//! on a tour by that basis. For `src/subject.rt` and `src/solution_verdict.rt`.
 
 ghost use Rattle.std.specs.Prelude.{◌≡◌};
 ghost use Rattle.tsp_verdict.specs.states.TourBases.{verdict_by, verdict_with};

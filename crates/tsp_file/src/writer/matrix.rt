@@ -43,7 +43,7 @@ fn put_weight_line<W: Write>(piece: &mut Piece, out: &mut Watched<W>, weights: &
 /// Adds one line for each row of the layout that has cells, or for each column of a layout by
 /// columns.
 ///
-/// Weights past the last line, which a valid file doesn't have, get a line of their own.
+/// Weights past the last line, which a valid file doesn't have, get one more line.
 fn put_lines<W: Write>(
     piece: &mut Piece,
     out: &mut Watched<W>,

@@ -1,5 +1,6 @@
 //! Writes the sections of a canonical text but for weights and trees of cases: numbers and points
-//! by node, nodes, pairs, triples, tours. For `src/writer.rt`.
+//! by node, nodes, pairs, triples, tours. For `src/writer.rt`, `src/writer/matrix.rt` and
+//! `src/writer/tree.rt`.
 
 ghost use Rattle.std.specs.Prelude.{◌≡◌, ◌+◌, ◌<◌, ◌^◌, [], ◌∷◌, ◌++◌, map};
 ghost use Rattle.std.specs.List.{flat_map};

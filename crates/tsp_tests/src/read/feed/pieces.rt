@@ -14,7 +14,7 @@ use tsp_read::{Feed, LineFault, ReadFault};
 /// The fault of a text without a line TYPE.
 const NO_TYPE: ReadFault = ReadFault::End(EndFault::Missing(Field::TypeKey));
 
-/// Pieces that would do on their own, or have faults of their own.
+/// Later pieces: alone some are valid texts, and the others have a fault.
 const LATER: &[&str] = &[
     "",
     "\n",
