@@ -1,4 +1,5 @@
--- The goals of `tsp_bound` in src/lib.rt: what it ensures.
+-- The goals of `tsp_bound` in src/lib.rt, which bounds the tours of an instance, by the number of the certificate's
+-- kind: what it ensures.
 use Rattle.tsp_c.proofs.tsp_bound.Goals as goal
 
 -- plan: the text of the bound is placed, and its status is returned

@@ -1,4 +1,5 @@
--- The goals of `tsp_bound_result` in src/lib.rt: what it ensures.
+-- The goals of `tsp_bound_result` in src/lib.rt, which does what `tsp_bound` does, and returns numbers too: what it
+-- ensures.
 use Rattle.tsp_c.proofs.tsp_bound_result.Goals as goal
 
 -- plan: the text and the numbers of the bound are placed, and its status is returned

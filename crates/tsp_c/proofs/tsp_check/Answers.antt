@@ -1,4 +1,5 @@
--- The goals of `tsp_check` in src/lib.rt: what it ensures.
+-- The goals of `tsp_check` in src/lib.rt, which judges a solution, by the numbers of the certificate's kind and of the
+-- claim: what it ensures.
 use Rattle.std.proofs.Common.{subst, FitsSigned, w64}
 use Rattle.std.specs.Prelude.{ℤ}
 use Rattle.std.proofs.lemmas.Int.{to_z-of_z}

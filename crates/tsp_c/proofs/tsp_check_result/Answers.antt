@@ -1,4 +1,5 @@
--- The goals of `tsp_check_result` in src/lib.rt: what it ensures.
+-- The goals of `tsp_check_result` in src/lib.rt, which does what `tsp_check` does, and returns numbers too: what it
+-- ensures.
 use Rattle.std.proofs.Common.{subst, FitsSigned, w64}
 use Rattle.std.specs.Prelude.{ℤ}
 use Rattle.std.proofs.lemmas.Int.{to_z-of_z}

@@ -1,4 +1,5 @@
--- The goals of `tsp_distance` in src/lib.rt: what it ensures.
+-- The goals of `tsp_distance` in src/lib.rt, which returns the distance of two points by its number, or -1: what it
+-- ensures.
 use Rattle.std.proofs.Common.{◌≡◌, ℕ, subst, rules, FitsSigned, w64}
 use Rattle.std.specs.Prelude.{ℤ}
 use Rattle.std.proofs.lemmas.Int.{to_z-of_z}

@@ -1,4 +1,4 @@
--- The goals of `tsp_instance_check` in src/lib.rt: what it ensures.
+-- The goals of `tsp_instance_check` in src/lib.rt, which judges a solution of a handle's instance: what it ensures.
 use Rattle.std.proofs.Common.{subst, FitsSigned, w64}
 use Rattle.std.specs.Prelude.{ℤ}
 use Rattle.std.proofs.lemmas.Int.{to_z-of_z}

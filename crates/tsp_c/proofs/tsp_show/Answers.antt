@@ -1,4 +1,4 @@
--- The goals of `tsp_show` in src/lib.rt: what it ensures.
+-- The goals of `tsp_show` in src/lib.rt, which writes what `tsp show` prints: what it ensures.
 use Rattle.tsp_c.proofs.tsp_show.Goals as goal
 
 -- plan: the lines that show the file are placed, and the status is returned

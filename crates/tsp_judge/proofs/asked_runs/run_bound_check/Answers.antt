@@ -1,4 +1,5 @@
--- The goals of `run_bound_check` in src/asked_runs.rt: what it ensures.
+-- The goals of `run_bound_check` in src/asked_runs.rt, which checks a tour with a certificate of potentials: what it
+-- ensures.
 use Rattle.std.proofs.Common.{sym, subst}
 use Rattle.tsp_judge.specs.Yes.{IsCheckBy}
 use Rattle.tsp_judge.proofs.asked_runs.run_bound_check.Goals as goal

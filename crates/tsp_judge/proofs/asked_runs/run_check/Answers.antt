@@ -1,4 +1,4 @@
--- The goals of `run_check` in src/asked_runs.rt: what it ensures.
+-- The goals of `run_check` in src/asked_runs.rt, which checks a solution without a certificate: what it ensures.
 use Rattle.std.proofs.Common.{sym, subst}
 use Rattle.tsp_judge.specs.Yes.{IsCheck}
 use Rattle.tsp_judge.proofs.asked_runs.run_check.Goals as goal

@@ -1,4 +1,4 @@
--- The goals of `run_bound` in src/bound.rt: what it ensures.
+-- The goals of `run_bound` in src/bound.rt, which bounds the tours of an instance by a certificate: what it ensures.
 use Rattle.std.proofs.Common.{◌≡◌, Err, [], refl}
 use Rattle.std.proofs.KnownBytes.{Keeps-refl}
 use Rattle.tsp_stream.specs.states.Watched.{turn_of}

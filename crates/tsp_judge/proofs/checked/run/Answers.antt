@@ -1,4 +1,5 @@
--- The goals of `run` in src/checked.rt: what it ensures.
+-- The goals of `run` in src/checked.rt, which checks a solution, with a certificate if one is asked for: what it
+-- ensures.
 use Rattle.std.proofs.Common.{◌≡◌, Err, [], refl}
 use Rattle.std.proofs.KnownBytes.{Keeps-refl}
 use Rattle.tsp_stream.specs.states.Watched.{turn_of}

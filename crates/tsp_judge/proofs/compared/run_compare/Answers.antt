@@ -1,4 +1,5 @@
--- The goals of `run_compare` in src/compared.rt: what it ensures.
+-- The goals of `run_compare` in src/compared.rt, which compares solutions, with a certificate if one is asked for: what
+-- it ensures.
 use Rattle.std.proofs.Common.{◌≡◌, Err, [], arith, refl}
 use Rattle.std.proofs.KnownBytes.{Keeps-refl}
 use Rattle.tsp_stream.specs.states.Watched.{turn_of}

@@ -1,4 +1,5 @@
--- The goals of `run_compare_uncertified` in src/uncertified.rt: what it ensures.
+-- The goals of `run_compare_uncertified` in src/uncertified.rt, which compares solutions without a certificate: what it
+-- ensures.
 use Rattle.std.proofs.Common.{◌≡◌, None, Err, arith, refl}
 use Rattle.std.proofs.KnownBytes.{Keeps-refl}
 use Rattle.tsp_stream.specs.states.Watched.{turn_of}

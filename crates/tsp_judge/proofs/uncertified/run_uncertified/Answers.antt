@@ -1,4 +1,4 @@
--- The goals of `run_uncertified` in src/uncertified.rt: what it ensures.
+-- The goals of `run_uncertified` in src/uncertified.rt, which checks a solution without a certificate: what it ensures.
 use Rattle.std.proofs.Common.{◌≡◌, None, Err, [], refl}
 use Rattle.std.proofs.KnownBytes.{Keeps-refl}
 use Rattle.tsp_stream.specs.states.Watched.{turn_of}

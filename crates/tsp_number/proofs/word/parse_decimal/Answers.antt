@@ -1,4 +1,4 @@
--- The goals of `parse_decimal` in src/word.rt: what it ensures.
+-- The goals of `parse_decimal` in src/word.rt, which reads a number word as a decimal: what it ensures.
 use Rattle.tsp_number.proofs.FrontNumbers.{decimal_word}
 use Rattle.tsp_number.proofs.WordLaws.{decimal_once, decimal_of-reads}
 use Rattle.tsp_number.proofs.word.parse_decimal.Goals as goal

@@ -1,4 +1,4 @@
--- The goals of `parse_whole` in src/word.rt: what it ensures.
+-- The goals of `parse_whole` in src/word.rt, which reads a number word as a whole number of a range: what it ensures.
 use Rattle.std.proofs.Common.{◌≤ℤ◌, ◌<ℤ◌, ◌⊎◌, inl, inr, arith, rules, FitsSigned, w64}
 use Rattle.std.proofs.lemmas.Int.{ints, to_z-of_z}
 use Rattle.tsp_number.proofs.FrontNumbers.{whole_word, whole_outside}

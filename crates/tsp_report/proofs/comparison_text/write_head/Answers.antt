@@ -1,4 +1,5 @@
--- The goals of `write_head` in src/comparison_text.rt: what it ensures.
+-- The goals of `write_head` in src/comparison_text.rt, which writes the lines on the instance and on all solutions:
+-- what it ensures.
 use Rattle.std.proofs.Common.{◌∙◌, sym}
 use Rattle.tsp_stream.specs.states.WriteProgress.{way_of}
 use Rattle.tsp_stream.proofs.Carrying.{text_stopped, text_written}

@@ -1,4 +1,4 @@
--- The goals of `write_line` in src/comparison_text.rt: what it ensures.
+-- The goals of `write_line` in src/comparison_text.rt, which writes the line of one solution: what it ensures.
 use Rattle.std.proofs.Common.{◌∙◌, ◌++◌, sym}
 use Rattle.std.specs.Prelude.{codes}
 use Rattle.tsp_stream.specs.states.WriteProgress.{way_of}

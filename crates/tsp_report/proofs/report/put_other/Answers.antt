@@ -1,4 +1,4 @@
--- The goals of `put_other` in src/report.rt: what it ensures.
+-- The goals of `put_other` in src/report.rt, which adds the line of an unknown keyword: what it ensures.
 use Rattle.std.proofs.Common.{◌++◌}
 use Rattle.std.specs.Prelude.{codes}
 use Rattle.tsp_stream.specs.states.WriteProgress.{way_of}

@@ -1,4 +1,4 @@
--- The goals of `put_others` in src/report.rt: its loop and what it ensures.
+-- The goals of `put_others` in src/report.rt, which adds the lines of unknown keywords: its loop and what it ensures.
 use Rattle.std.proofs.Common.{rules, subst, map, arith}
 use Rattle.tsp_stream.specs.states.WriteProgress.{way_of, Carried}
 use Rattle.tsp_stream.proofs.Carrying.{carried_mapped, carried_next}

@@ -1,4 +1,5 @@
--- The goals of `put_fixed` in src/shown.rt: what it ensures.
+-- The goals of `put_fixed` in src/shown.rt, which adds how many pairs are fixed, if a section lists them: what it
+-- ensures.
 use Rattle.std.proofs.Common.{◌++◌, length}
 use Rattle.std.specs.Prelude.{codes}
 use Rattle.tsp_stream.specs.states.WriteProgress.{way_of}

@@ -1,4 +1,4 @@
--- The goals of `judge_plans` in src/verdict.rt: what it ensures.
+-- The goals of `judge_plans` in src/verdict.rt, which judges a certificate for routes: what it ensures.
 use Rattle.std.proofs.Common.{ℕ}
 use Rattle.std.specs.Prelude.{nat_abs}
 use Rattle.std.proofs.lemmas.Result.{IfOk-weaker}

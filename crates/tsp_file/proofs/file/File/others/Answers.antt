@@ -1,4 +1,4 @@
--- The goals of `File::others` in src/file.rt: what it ensures.
+-- The goals of `File::others` in src/file.rt, which returns the lines of unknown keywords: what it ensures.
 use Rattle.std.proofs.Common.{ap}
 use Rattle.tsp_draft.specs.Fields.{Fields}
 use Rattle.tsp_file.proofs.file.File.others.Goals as goal

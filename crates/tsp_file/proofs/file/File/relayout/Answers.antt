@@ -1,4 +1,5 @@
--- The goals of `File::relayout` in src/relayout.rt: what it ensures.
+-- The goals of `File::relayout` in src/relayout.rt, which lists the weights in another layout, or says why not: what it
+-- ensures.
 use Rattle.std.proofs.Common.{subst, ap, sym, ◌∙◌}
 use Rattle.tsp_draft.specs.Fields.{Fields, nodes_of}
 use Rattle.tsp_file.specs.Cost.{cost}

@@ -1,4 +1,5 @@
--- The goals of `put_others` in src/writer/keywords.rt: its loop and what it ensures.
+-- The goals of `put_others` in src/writer/keywords.rt, which adds the lines of unknown keywords: its loop and what it
+-- ensures.
 use Rattle.std.proofs.Common.{arith}
 use Rattle.tsp_file.specs.CanonicalText.{other_line, value_line}
 use Rattle.tsp_stream.specs.states.WriteProgress.{way_of}
