@@ -17,6 +17,7 @@ class Clock {
   static void catch_signals();
   // Whether this part of the time is over, or a signal came.
   bool over(double part = 1) const { return signal().has_value() || used() > part; }
+  bool limited() const { return seconds_ > 0; }
   // The part of the time that is used, 0 where there is no limit.
   double used() const { return seconds_ > 0 ? now() / seconds_ : 0; }
 

@@ -1,8 +1,10 @@
 // Loops whose steps may run at the same time, by oneTBB. A step must not depend on another one, and draws its
-// chance from a generator of its own: then the outcome is the same for any number of threads.
+// chance from a generator of its own: then the outcome is the same for any number of threads. There is also
+// work beside other work, which must not depend on it either.
 #pragma once
 #include <oneapi/tbb/parallel_for.h>
 #include <oneapi/tbb/task_arena.h>
+#include <oneapi/tbb/task_group.h>
 
 #include <atomic>
 #include <cstddef>
@@ -42,6 +44,27 @@ void for_each_at_once(std::size_t count, const Step& step) {
     });
   }
 }
+
+// Work that another thread does meanwhile. Where none is free, `end` does it.
+class Beside {
+ public:
+  template <typename Work>
+  void begin(const Work& work) {
+    show_loop_begins();
+    group_.run([work] {
+      show_step_begins();
+      work();
+      show_step_ends();
+    });
+  }
+  void end() {
+    group_.wait();
+    show_loop_ends();
+  }
+
+ private:
+  oneapi::tbb::task_group group_;
+};
 
 // How many steps can run at the same time.
 inline std::size_t threads() {

@@ -18,16 +18,23 @@ class ScanCuts {
   }
 
   std::vector<NodeSet> find() {
-    while (contract_whole_edges()) {
-    }
+    contract_surely();
     while (graph_.size() > 2) {
       scan();
       contract();
+      contract_surely();
     }
     return std::move(cuts_);
   }
 
  private:
+  void contract_surely() {
+    do {
+      while (contract_whole_edges()) {
+      }
+    } while (contract_triangles());
+  }
+
   // Edges of 1 or more: another set is crossed no more often. Whether there were any.
   bool contract_whole_edges() {
     joins_.clear();
@@ -39,6 +46,45 @@ class ScanCuts {
     if (joins_.empty() || graph_.size() <= 2) return false;
     contract();
     return true;
+  }
+
+  // An edge where triangles have at least half of the crossings of each of its ends: of a set that separates
+  // them one end can change sides, and it is crossed no more often. Each node is in one such edge at most, so
+  // that its own edges are still those that were looked at. Whether there were any.
+  bool contract_triangles() {
+    joins_.clear();
+    if (graph_.size() <= 2) return false;
+    std::vector<double> halves(graph_.size(), -1e-6);
+    for (std::size_t v = 0; v < graph_.size(); v++) {
+      for (const certify::Edge& edge : graph_[v]) halves[v] += edge.value / 2;
+    }
+    std::vector<double> values(graph_.size(), 0);
+    std::vector<char> joined(graph_.size(), 0);
+    for (int v = 0; v < static_cast<int>(graph_.size()); v++) {
+      if (joined[v] != 0) continue;
+      for (const certify::Edge& edge : graph_[v]) values[edge.to] = edge.value;
+      const int other = triangle_end(v, halves, values, joined);
+      for (const certify::Edge& edge : graph_[v]) values[edge.to] = 0;
+      if (other < 0) continue;
+      joined[v] = joined[other] = 1;
+      joins_.emplace_back(v, other);
+    }
+    if (joins_.empty()) return false;
+    contract();
+    return true;
+  }
+
+  // The other end of such an edge of a node, or -1. `values` are of the node's edges.
+  int triangle_end(int v, const std::vector<double>& halves, const std::vector<double>& values,
+                   const std::vector<char>& joined) const {
+    for (const auto& [other, value] : graph_[v]) {
+      if (joined[other] != 0) continue;
+      for (const auto& [third, from_other] : graph_[other]) {
+        if (values[third] > 0 && value + values[third] >= halves[v] && value + from_other >= halves[other])
+          return other;
+      }
+    }
+    return -1;
   }
 
   // Visits the node that the visited ones lead to most. An edge to a node that is then as near as a small cut

@@ -3,19 +3,19 @@
 #pragma once
 #include <cstddef>
 
+#include "running/threads.h"
+
 namespace sparse {
 struct SparseParameters {
   int steps = 400;          // of the ascent: duals to begin with, and candidates
   long kicks_of_node = 10;  // of the tour, before edge assembly in its regions
   int region = 1000, population = 30;
-  double at_long_edges = 0.3;   // of the nodes, in regions of their own at the end of a pass
-  int long_region = 3000;       // most of these nodes are in fixed paths, so that it takes little time
-  int passes = 5;               // over all regions, before the linear program
-  int passes_between = 2;       // where cuts stop to help
-  int most_misses = 2;          // passes in a row that gain nothing
-  int guided_tours = 2;         // along each solution: with other tours combs are found that one tour misses
-  double part_for_tours = 0.3;  // of the time
-  double part_of_time = 0.85;   // that linear programs may take; the rest is for whole numbers and the tour
+  double at_long_edges = 0.3;  // of the nodes, in regions of their own at the end of a pass
+  int long_region = 3000;      // most of these nodes are in fixed paths, so that it takes little time
+  int passes = 5;              // over all regions, before the linear program
+  int passes_beside = 2;       // while cuts help; a longer search would come too late for them
+  int most_misses = 2;         // passes in a row that gain nothing
+  int guided_tours = 2;        // along each solution: with other tours combs are found that one tour misses
   int near = 10, near_in_quadrant = 2;  // neighbours of a node: candidates of pricing
   int light = 5;                        // edges that the program begins with, by the ascent's duals
   double part_of_edge = 0.5;            // of an average edge: edges at 0 with more reduced cost are dropped
@@ -33,4 +33,13 @@ struct SparseParameters {
   std::size_t most_families = 10000, most_nodes = 1000000;  // of a file
 };
 inline constexpr SparseParameters kSparse{};
+
+// Parts of the time, after which the first tours and the linear programs end. What follows are whole numbers
+// and a shorter tour.
+struct SparseTimes {
+  double tours, program;
+};
+// Where there are more threads the tour is shortened while a program is solved, which takes one thread.
+inline constexpr SparseTimes kAloneTimes{0.3, 0.85}, kBesideTimes{0.1, 0.93};
+inline const SparseTimes& sparse_times() { return certify::threads() > 1 ? kBesideTimes : kAloneTimes; }
 }  // namespace sparse

@@ -34,7 +34,7 @@ void SparseProgram::begin() {
   program_.scaling(0);
   certify::SteepestEdge rule(edge_weights_);
   program_.setDualRowPivotAlgorithm(rule);
-  certify::Watch watch(clock_, kSparse.part_of_time);
+  certify::Watch watch(clock_, sparse_times().program);
   program_.passInEventHandler(&watch);
   edge_weights_.rows.assign(nodes_, 0);
   program_.resize(nodes_, 0);
@@ -177,6 +177,7 @@ void SparseProgram::add_cuts(const std::vector<int>& cuts) {
     edge_weights_.rows.push_back(0);
   }
   if (low.empty()) return;
+  has_new_cuts_ = true;
   program_.addRows(static_cast<int>(low.size()), low.data(), high.data(), starts.data(), columns.data(),
                    elements.data());
 }
@@ -342,6 +343,7 @@ void SparseProgram::read_solution() {
   }
   for (std::size_t row = 0; row < cuts_.size(); row++)
     ages_[row] = cut_duals_[row] > 1e-7 ? 0 : ages_[row] + 1;
+  has_new_cuts_ = false;
 }
 
 bool SparseProgram::solve() {

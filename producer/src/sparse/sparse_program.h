@@ -42,6 +42,8 @@ class SparseProgram {
 
   double value() const { return value_; }
   const Graph& support() const { return support_; }
+  // Whether cuts joined after the last solution.
+  bool has_new_cuts() const { return has_new_cuts_; }
   bool has(int cut) const { return row_of_.count(cut) > 0; }
   const std::vector<int>& cuts() const { return cuts_; }
   int columns() const { return static_cast<int>(edges_.size()); }
@@ -104,5 +106,6 @@ class SparseProgram {
   std::vector<double> counts_;        // of the edges in a row that is made
   Graph support_;
   double value_ = 0;
+  bool has_new_cuts_ = false;
 };
 }  // namespace sparse

@@ -2,7 +2,6 @@
 
 #include <algorithm>
 #include <cmath>
-#include <numeric>
 #include <utility>
 
 #include "points/candidates.h"
@@ -39,7 +38,7 @@ void SparseSearch::note(std::string_view event, Weight bound) {
 
 void SparseSearch::ascend() {
   potentials::Ascent ascent(problem_);
-  duals_ = ascent.run(kSparse.steps, [&](int, double) { return !clock_.over(kSparse.part_for_tours / 2); });
+  duals_ = ascent.run(kSparse.steps, [&](int, double) { return !clock_.over(sparse_times().tours / 2); });
   support_ = ascent.support();
 }
 
@@ -47,24 +46,20 @@ Tour SparseSearch::looked_for() {
   potentials::TourSearch search;
   search.seed = start_.seed;
   search.kicks = kSparse.kicks_of_node * problem_.nodes();
-  search.watch = [&](long, double) { return !clock_.over(kSparse.part_for_tours / 2); };
+  search.watch = [&](long, double) { return !clock_.over(sparse_times().tours / 2); };
   return potentials::shorten(problem_, potentials::first_tour(problem_), duals_, support_, search).tour;
 }
 
-// One pass over all regions, and one over the nodes at long edges. Whether it shortens the tour.
+// Whether a pass over the regions shortens the tour.
 bool SparseSearch::pass_regions(double part) {
-  const Weight before = length();
-  const auto late = [&] { return clock_.over(part); };
-  NodeSet all(problem_.nodes());
-  std::iota(all.begin(), all.end(), 0);
-  regions_->pass_over(regions_of(problem_, std::move(all), kSparse.region, passes_), late);
-  const auto count = static_cast<std::size_t>(kSparse.at_long_edges * problem_.nodes());
-  NodeSet ends = nodes_at_long_edges(problem_, regions_->tour(), support_, count);
-  regions_->pass_over(regions_of(problem_, std::move(ends), kSparse.long_region, passes_), late);
-  passes_++;
-  tours_[0] = regions_->tour();
-  progress_.log("tour", length(), value_so_far(), "\"pass\": " + std::to_string(passes_));
-  return length() < before;
+  const bool shorter = passes_->pass([&] { return clock_.over(part); });
+  take_tour();
+  return shorter;
+}
+
+void SparseSearch::take_tour() {
+  tours_[0] = passes_->tour();
+  progress_.log("tour", length(), value_so_far(), "\"passes\": " + std::to_string(passes_->passes()));
 }
 
 // The best tour, and one whose runs are teeth too.
@@ -72,11 +67,10 @@ void SparseSearch::find_tours() {
   Tour tour = looked_for();
   const Tour further = tour;
   if (start_.tour && problem_.length(*start_.tour) < problem_.length(tour)) tour = *start_.tour;
-  regions_.emplace(problem_, duals_, tour, start_.seed);
+  passes_.emplace(problem_, duals_, support_, clock_, tour, start_.seed);
   tours_ = {std::move(tour), further};
-  for (int pass = 0; pass < kSparse.passes && !clock_.over(kSparse.part_for_tours); pass++) {
-    pass_regions(kSparse.part_for_tours);
-  }
+  const double part = sparse_times().tours;
+  for (int pass = 0; pass < kSparse.passes && !clock_.over(part); pass++) pass_regions(part);
 }
 
 // What is left of the time, or passes until they gain nothing.
@@ -121,11 +115,13 @@ bool SparseSearch::stalled() const {
   return gained < kSparse.least_gain * (static_cast<double>(target()) - values_.back());
 }
 
-void SparseSearch::cut_subtours() {
+// Adds subtours until a solution misses few of them. False where the time is over.
+bool SparseSearch::cut_subtours() {
   while (program_->solve()) {
     note("round", value_so_far());
-    if (reaches() || separation_->add_subtours() == 0) return;
+    if (reaches() || separation_->add_subtours() <= separation_->few_subtours()) return true;
   }
+  return false;
 }
 
 // What a solution is worth before cuts join it: edges and rows that aren't needed are dropped, and edges of
@@ -140,7 +136,9 @@ void SparseSearch::tidy(int round) {
 // where the gap is large, then twice as many climbs.
 bool SparseSearch::goes_further() {
   values_.clear();
-  for (int k = 0; k < kSparse.passes_between; k++) pass_regions(kSparse.part_of_time);
+  passes_->end_beside();
+  take_tour();
+  passes_->begin_beside();
   program_->add_edges(certify::edges_of(tours_[0]));
   separation_->set_tours(tours_);
   const double gap = static_cast<double>(target()) - program_->value();
@@ -151,17 +149,20 @@ bool SparseSearch::goes_further() {
   return ++level_ <= kSparse.levels;
 }
 
+// Whether there are cuts that the last solution hadn't: combs, or a few subtours.
+bool SparseSearch::adds_combs() {
+  separation_->add_combs(level_, far_);
+  return program_->has_new_cuts();
+}
+
 // Rounds of cuts until they stop to help.
 void SparseSearch::cut() {
-  for (int round = 1; program_->solve(); round++) {
-    note("round", value_so_far());
-    if (reaches()) return;
+  for (int round = 1; cut_subtours() && !reaches(); round++) {
     values_.push_back(program_->value());
     tidy(round);
-    if (!stalled() && separation_->add_cuts(level_, far_) > 0) continue;
-    do {
+    for (bool goes_on = !stalled() && adds_combs(); !goes_on; goes_on = adds_combs()) {
       if (!goes_further()) return;
-    } while (separation_->add_cuts(level_, far_) == 0);
+    }
   }
 }
 
@@ -169,12 +170,14 @@ void SparseSearch::run() {
   ascend();
   find_tours();
   begin_program();
-  cut_subtours();
-  if (!reaches()) cut();
+  passes_->begin_beside();
+  cut();
   for (int k = 0; k < kSparse.trees; k++) {
     if (judge() == 0 || clock_.over() || bound() >= target()) break;
     if (!program_->solve()) break;
   }
+  passes_->end_beside();
+  take_tour();
   shorten_tour();
   note("end", std::max<Weight>(0, bound()));
 }

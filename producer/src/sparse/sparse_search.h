@@ -6,9 +6,9 @@
 
 #include "potentials/ascent.h"
 #include "running/progress.h"
-#include "sparse/region_search.h"
 #include "sparse/sparse_leaf.h"
 #include "sparse/sparse_separation.h"
+#include "sparse/tour_passes.h"
 
 namespace sparse {
 struct SparseStart {
@@ -38,12 +38,14 @@ class SparseSearch {
   void find_tours();
   Tour looked_for();
   bool pass_regions(double part);
+  void take_tour();
   void shorten_tour();
   Weight value_so_far() const;
   void begin_program();
-  void cut_subtours();
+  bool cut_subtours();
   void tidy(int round);
   bool goes_further();
+  bool adds_combs();
   void cut();
   bool stalled() const;
   void take(Numbers numbers);
@@ -60,8 +62,7 @@ class SparseSearch {
   std::vector<double> duals_;              // of the ascent
   std::vector<potentials::Edge> support_;  // of its trees
   std::vector<Tour> tours_;                // the best one first
-  std::optional<RegionSearch> regions_;
-  int passes_ = 0;
+  std::optional<TourPasses> passes_;
   std::optional<SparseProgram> program_;
   std::optional<SparseSeparation> separation_;
   std::optional<SparseLeaf> leaf_;

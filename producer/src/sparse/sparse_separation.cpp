@@ -4,6 +4,7 @@
 
 #include "running/threads.h"
 #include "sparse/scan_cuts.h"
+#include "sparse/segment_cuts.h"
 #include "sparse/sparse_parameters.h"
 #include "tours/greedy.h"
 
@@ -96,7 +97,7 @@ void SparseSeparation::combs(Round& round, const certify::Effort& effort) {
   std::vector<Trial> trials;
   trials.reserve(tours.size());
   for (const Tour& tour : tours) trials.push_back({&tour, certify::Random(random_.next())});
-  const auto late = [&] { return clock_.over(kSparse.part_of_time); };
+  const auto late = [&] { return clock_.over(sparse_times().program); };
   certify::for_each_at_once(trials.size(), [&](std::size_t k) {
     const certify::Runs runs(graph, *trials[k].tour, effort.reach);
     trials[k].sets = runs.crossed_too_little(0.01);
@@ -108,21 +109,24 @@ void SparseSeparation::combs(Round& round, const certify::Effort& effort) {
   }
 }
 
+int SparseSeparation::few_subtours() const {
+  return std::max(10, times(kSparse.least_subtours_of_node, program_.support()));
+}
+
+// Segments of the best tour are most of them, and take little time.
 int SparseSeparation::add_subtours() {
   Round round;
   begin(round);
+  if (!tours_.empty()) subtours(round, segment_cuts(program_.support(), tours_[0], 0.01));
   subtours(round, small_cuts(program_.support(), 0.01));
   program_.add_cuts(round.cuts);
   return static_cast<int>(round.cuts.size());
 }
 
-int SparseSeparation::add_cuts(int level, bool far) {
+void SparseSeparation::add_combs(int level, bool far) {
   Round round;
   begin(round);
-  const int sets = subtours(round, small_cuts(program_.support(), 0.01));
-  const int few = std::max(10, times(kSparse.least_subtours_of_node, program_.support()));
-  if (sets <= few) combs(round, effort_of(level, far));
+  combs(round, effort_of(level, far));
   program_.add_cuts(round.cuts);
-  return static_cast<int>(round.cuts.size());
 }
 }  // namespace sparse

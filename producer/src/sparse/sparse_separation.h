@@ -1,4 +1,4 @@
-// One round of cuts for a solution of a large linear program: of the pool, subtours, and combs with runs of
+// One round of cuts for a solution of a large linear program: of the pool, subtours, or combs with runs of
 // tours as teeth. It needs no matrix.
 // Source: D. Applegate, R. Bixby, V. Chvatal and W. Cook, The Traveling Salesman Problem (2006).
 #pragma once
@@ -16,9 +16,11 @@ class SparseSeparation {
   void set_tours(std::vector<Tour> tours) { tours_ = std::move(tours); }
   // Adds subtours and cuts of the pool. How many joined.
   int add_subtours();
-  // The same with combs, where there are few subtours. Climbs are doubled as often as the level says, and
-  // far sets are large ones.
-  int add_cuts(int level, bool far);
+  // Where a round has at most as many, combs gain more.
+  int few_subtours() const;
+  // Adds combs and cuts of the pool, where few subtours are missed. Climbs are doubled as often as the level
+  // says, and far sets are large ones.
+  void add_combs(int level, bool far);
 
  private:
   struct Round {

@@ -8,9 +8,11 @@
 #include "spanning/exact_tree.h"
 #include "sparse/region_search.h"
 #include "sparse/scan_cuts.h"
+#include "sparse/segment_cuts.h"
 #include "sparse/sparse_leaf.h"
 #include "sparse/sparse_parameters.h"
 #include "sparse/sparse_search.h"
+#include "sparse/tour_passes.h"
 #include "tours/eax.h"
 #include "tours/tours.h"
 #include "tree/separation.h"
@@ -150,6 +152,32 @@ TEST_CASE("scans find a set that is crossed too little where there is one") {
         std::any_of(sets.begin(), sets.end(), [&](const NodeSet& set) { return set.size() < graph.size(); });
     CHECK(any == small);
     found += small ? 1 : 0;
+  }
+  CHECK(found > 20);
+}
+
+TEST_CASE("segments of a tour are found that are crossed least") {
+  Random random(12);
+  int found = 0;
+  for (int round = 0; round < 200; round++) {
+    const int nodes = 6 + random.below(12);
+    const Graph graph = random_graph(nodes, 1 + random.below(3), true, random);
+    Tour tour;
+    for (const NodeSet& part : certify::components(graph, [](double value) { return value > 0.4; })) {
+      tour.insert(tour.end(), part.begin(), part.end());
+    }
+    std::swap(tour[random.below(nodes)], tour[random.below(nodes)]);
+    double least = 1.99;
+    for (int first = 1; first < nodes; first++) {
+      for (int last = first; last < nodes; last++) {
+        least = std::min(least, crossing_of(graph, {tour.begin() + first, tour.begin() + last + 1}));
+      }
+    }
+    const std::vector<NodeSet> sets = segment_cuts(graph, tour, 0.01);
+    CHECK(sets.empty() == (least > 1.99 - 1e-9));
+    if (!sets.empty()) CHECK(crossing_of(graph, sets[0]) == Approx(least).margin(1e-9));
+    for (const NodeSet& set : sets) CHECK(crossing_of(graph, set) < 1.99);
+    found += sets.empty() ? 0 : 1;
   }
   CHECK(found > 20);
 }
@@ -304,6 +332,22 @@ TEST_CASE("a search in regions shortens a tour and keeps fixed edges") {
     std::sort(sorted.begin(), sorted.end());
     CHECK(sorted == in_order(300));
   }
+}
+
+TEST_CASE("passes beside other work lead to the same tour") {
+  Random random(13);
+  const Problem problem(points_in_plane(400, random), {});
+  const Tour tour = potentials::first_tour(problem);
+  const std::vector<double> numbers(400, 0);
+  const certify::Clock clock(0);
+  const std::vector<potentials::Edge> graph;
+  TourPasses passes(problem, numbers, graph, clock, tour, 1), beside(problem, numbers, graph, clock, tour, 1);
+  for (int k = 0; k < kSparse.passes_beside; k++) passes.pass([] { return false; });
+  beside.begin_beside();
+  beside.end_beside();
+  CHECK(beside.tour() == passes.tour());
+  CHECK(beside.passes() == kSparse.passes_beside);
+  CHECK(problem.length(beside.tour()) < problem.length(tour));
 }
 
 TEST_CASE("a sparse search bounds all tours") {
