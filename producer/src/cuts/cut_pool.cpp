@@ -5,6 +5,17 @@
 #include "running/random.h"
 
 namespace certify {
+namespace {
+std::vector<int> listed(const std::vector<NodeSet>& sets) {
+  std::vector<int> listed;
+  for (const NodeSet& set : sets) {
+    listed.push_back(static_cast<int>(set.size()));
+    listed.insert(listed.end(), set.begin(), set.end());
+  }
+  return listed;
+}
+}  // namespace
+
 ViolationMeter::ViolationMeter(const Graph& graph) : mark_(graph.size(), 0) {
   first_.reserve(graph.size() + 1);
   for (std::size_t v = 0; v < graph.size(); v++) {
@@ -18,11 +29,12 @@ ViolationMeter::ViolationMeter(const Graph& graph) : mark_(graph.size(), 0) {
 
 double ViolationMeter::violation(const Cut& cut) {
   double inside = 0;
-  for (const NodeSet& set : cut.sets) {
+  for (auto first = cut.listed.begin(); first != cut.listed.end();) {
+    const auto last = first + 1 + *first;
     sets_++;
-    for (const int v : set) mark_[v] = sets_;
-    for (const int v : set) {
-      for (std::size_t k = first_[v]; k < first_[v + 1]; k++) {
+    for (auto v = ++first; v != last; ++v) mark_[*v] = sets_;
+    for (; first != last; ++first) {
+      for (std::size_t k = first_[*first]; k < first_[*first + 1]; k++) {
         if (mark_[edges_[k].to] == sets_) inside += edges_[k].value;
       }
     }
@@ -83,11 +95,11 @@ int CutPool::add(CutKind kind, std::vector<NodeSet> sets, int crossings) {
   std::sort(sets.begin() + (any ? 0 : 1), sets.end());
   const std::uint64_t hash = hash_of(kind, sets);
   if (const int number = known(hash, kind, sets); number >= 0) return number;
-  double nodes = 0;
-  for (const NodeSet& set : sets) nodes += static_cast<double>(set.size());
+  std::vector<int> list = listed(sets);
+  const double nodes = static_cast<double>(list.size() - sets.size());
   by_hash_.emplace(hash, size());
-  cuts_.push_back(
-      std::make_shared<const Cut>(Cut{kind, std::move(sets), crossings, nodes - crossings / 2.0}));
+  cuts_.push_back(std::make_shared<const Cut>(
+      Cut{kind, std::move(sets), crossings, nodes - crossings / 2.0, std::move(list)}));
   return size() - 1;
 }
 

@@ -18,6 +18,7 @@ struct Cut {
   std::vector<NodeSet> sets;  // of a comb the handle first, then its teeth; the nodes are sorted
   int crossings;              // as often a tour crosses the sets at least
   double most_inside;
+  std::vector<int> listed;  // each set's size, then its nodes: the whole pool is measured often
 };
 
 // How much more often a tour crosses the sets of cuts than a solution. Each round measures the whole pool, so

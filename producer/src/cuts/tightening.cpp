@@ -16,14 +16,25 @@ class Tightening {
  public:
   Tightening(const Cut& cut, const Graph& graph)
       : graph_(graph), atom_(graph.size(), 0), queued_(graph.size(), 0) {
+    NodeSet near;  // nodes in sets, then their neighbours too: others aren't at a border
     for (std::size_t k = 0; k < cut.sets.size(); k++) {
-      for (const int v : cut.sets[k]) atom_[v] |= std::uint64_t{1} << k;
+      for (const int v : cut.sets[k]) {
+        if (atom_[v] == 0) near.push_back(v);
+        atom_[v] |= std::uint64_t{1} << k;
+      }
     }
-    for (const std::uint64_t atom : atom_) size_[atom]++;
-    for (std::size_t v = 0; v < graph.size(); v++) {
+    const std::size_t inside = near.size();
+    size_[0] = static_cast<int>(graph.size() - inside);
+    for (std::size_t k = 0; k < inside; k++) {
+      size_[atom_[near[k]]]++;
+      for (const Edge& edge : graph[near[k]]) near.push_back(edge.to);
+    }
+    std::sort(near.begin(), near.end());
+    near.erase(std::unique(near.begin(), near.end()), near.end());
+    for (const int v : near) {
       const bool at_border = std::any_of(graph[v].begin(), graph[v].end(),
                                          [&](const Edge& edge) { return atom_[edge.to] != atom_[v]; });
-      if (at_border) queue(static_cast<int>(v));
+      if (at_border) queue(v);
     }
   }
   // Whether the solution crosses the sets less at the end.

@@ -388,18 +388,30 @@ void Relaxation::read_duals() {
     cut_duals_[row] = std::max(0.0, -duals[degrees() + row]);
 }
 
+// The duals of the degrees as weights, each at least by 1 too large. Whole numbers tell of most pairs that
+// they cost more, without a division.
+std::vector<Weight> Relaxation::rounded_up_duals() const {
+  std::vector<Weight> duals;
+  duals.reserve(node_duals_.size());
+  for (const double dual : node_duals_) duals.push_back(static_cast<Weight>(std::ceil(dual * unit_)) + 1);
+  return duals;
+}
+
 // The absent edges with a negative reduced cost, the least first.
 std::vector<Pair> Relaxation::missing_edges(
     const std::vector<std::vector<std::pair<int, double>>>& sets) const {
   std::vector<std::pair<double, Pair>> missing;
+  const std::vector<Weight> paid = rounded_up_duals();
   for (int i = 0; i < nodes_; i++) {
     const Weight* row = weights_.row(i);
+    const Weight enough = least_ + paid[i];
     for (int j = instance_.directed ? 0 : i + 1; j < nodes_; j++) {
+      if (row[j] - paid[entering_row(j)] > enough) continue;
       double cost =
           static_cast<double>(row[j] - least_) / unit_ - node_duals_[i] - node_duals_[entering_row(j)];
       if (cost > -kTiny || j == i || present_[static_cast<std::size_t>(i) * nodes_ + j]) continue;
       auto a = sets[i].begin(), b = sets[j].begin();
-      while (a != sets[i].end() && b != sets[j].end()) {
+      while (cost < -kTiny && a != sets[i].end() && b != sets[j].end()) {
         if (a->first == b->first) {
           cost += a->second;
           ++a;

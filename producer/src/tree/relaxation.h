@@ -101,6 +101,7 @@ class Relaxation {
                     std::vector<int>& rows, std::vector<double>& elements) const;
   void list_row(int cut, std::vector<double>& inside, std::vector<int>& columns,
                 std::vector<double>& elements) const;
+  std::vector<Weight> rounded_up_duals() const;
   std::vector<Pair> missing_edges(const std::vector<std::vector<std::pair<int, double>>>& sets) const;
 
   const Instance& instance_;
