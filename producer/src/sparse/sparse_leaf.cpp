@@ -16,8 +16,7 @@ SparseLeaf::SparseLeaf(const Problem& problem, const CutPool& pool, double avera
   while (scale_ < kFinest && static_cast<double>(scale_) * average < kSparse.average_at_scale) scale_ *= 10;
 }
 
-// The rows whose cuts have multipliers.
-std::vector<std::size_t> SparseLeaf::multiplied_rows(const SparseProgram& program) const {
+std::vector<std::size_t> SparseLeaf::rows_of_file(const SparseProgram& program) const {
   std::vector<std::pair<double, std::size_t>> rows;
   for (std::size_t row = 0; row < program.cuts().size(); row++) {
     const bool set = pool_[program.cuts()[row]].kind == CutKind::kSubtour;
@@ -31,6 +30,7 @@ std::vector<std::size_t> SparseLeaf::multiplied_rows(const SparseProgram& progra
     if (chosen.size() == kSparse.most_families || nodes > kSparse.most_nodes) break;
     chosen.push_back(row);
   }
+  std::sort(chosen.begin(), chosen.end());
   return chosen;
 }
 
@@ -63,7 +63,7 @@ Numbers SparseLeaf::extract(const SparseProgram& program) const {
   Numbers numbers;
   std::vector<double> potentials(problem_.nodes());
   for (int v = 0; v < problem_.nodes(); v++) potentials[v] = -program.node_dual(v);
-  for (const std::size_t row : multiplied_rows(program)) {
+  for (const std::size_t row : rows_of_file(program)) {
     const Weight multiplier = std::llround(program.cut_dual(row) * scale / 2);
     if (multiplier == 0) continue;
     numbers.multipliers[program.cuts()[row]] = multiplier;

@@ -16,7 +16,9 @@ class SparseLeaf {
   Weight scale() const { return scale_; }
   // Potentials alone, as an ascent finds them.
   Numbers alone(const std::vector<double>& potentials) const { return {whole(potentials), {}}; }
-  // The duals of the program. Of more combs than a file may have, those with the largest duals.
+  // The rows of the combs with the largest duals, in order: as many as a file may have.
+  std::vector<std::size_t> rows_of_file(const SparseProgram& program) const;
+  // The duals of the program, of the rows of a file.
   Numbers extract(const SparseProgram& program) const;
   // The bound times the scale. Likely edges limit the searches.
   Value value(const Numbers& numbers, const std::vector<Pair>& likely);
@@ -27,7 +29,6 @@ class SparseLeaf {
   certify::Certificate certificate(const Numbers& numbers) const;
 
  private:
-  std::vector<std::size_t> multiplied_rows(const SparseProgram& program) const;
   void turn_inside_out(const SparseProgram& program, std::vector<double>& potentials) const;
   std::vector<Weight> whole(const std::vector<double>& potentials) const;
 

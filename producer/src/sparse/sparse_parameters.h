@@ -34,12 +34,12 @@ struct SparseParameters {
 };
 inline constexpr SparseParameters kSparse{};
 
-// Parts of the time, after which the first tours and the linear programs end. What follows are whole numbers
-// and a shorter tour.
+// Parts of the time, after which kicks of the first tour, its regions, cuts and the linear program end. After
+// cuts the program may have to do with fewer combs. What follows are whole numbers and a shorter tour.
 struct SparseTimes {
-  double tours, program;
+  double kicks, regions, cuts, program;
 };
 // Where there are more threads the tour is shortened while a program is solved, which takes one thread.
-inline constexpr SparseTimes kAloneTimes{0.3, 0.85}, kBesideTimes{0.1, 0.93};
+inline constexpr SparseTimes kAloneTimes{0.15, 0.3, 0.8, 0.85}, kBesideTimes{0.08, 0.1, 0.87, 0.94};
 inline const SparseTimes& sparse_times() { return certify::threads() > 1 ? kBesideTimes : kAloneTimes; }
 }  // namespace sparse

@@ -34,11 +34,15 @@ void SparseProgram::begin() {
   program_.scaling(0);
   certify::SteepestEdge rule(edge_weights_);
   program_.setDualRowPivotAlgorithm(rule);
-  certify::Watch watch(clock_, sparse_times().program);
-  program_.passInEventHandler(&watch);
+  end_at(sparse_times().cuts);
   edge_weights_.rows.assign(nodes_, 0);
   program_.resize(nodes_, 0);
   for (int row = 0; row < nodes_; row++) program_.setRowBounds(row, 2, 2);
+}
+
+void SparseProgram::end_at(double part) {
+  certify::Watch watch(clock_, part);
+  program_.passInEventHandler(&watch);
 }
 
 // For each node the sets of rows that it is in.
@@ -216,6 +220,39 @@ void SparseProgram::drop_rows(const std::vector<char>& dropped) {
   ages_.resize(kept);
   cut_duals_.resize(kept);
   crossing_.resize(kept);
+}
+
+void SparseProgram::keep_combs(const std::vector<std::size_t>& rows) {
+  std::vector<char> dropped(cuts_.size(), 0);
+  for (std::size_t row = 0; row < cuts_.size(); row++) {
+    dropped[row] = pool_[cuts_[row]].kind == certify::CutKind::kComb ? 1 : 0;
+  }
+  for (const std::size_t row : rows) dropped[row] = 0;
+  leave_basis(dropped);
+  drop_rows(dropped);
+}
+
+// For each row that is tight and goes, a column with an entry in it leaves the basis, which then has as many
+// variables as there are rows. The dual simplex can begin with it, since each variable has two bounds. Its
+// iterations are few where the duals of the rows are small.
+void SparseProgram::leave_basis(const std::vector<char>& dropped) {
+  std::vector<char> tight(dropped.size(), 0);
+  for (std::size_t row = 0; row < dropped.size(); row++) {
+    const int place = nodes_ + static_cast<int>(row);
+    tight[row] = dropped[row] != 0 && program_.getRowStatus(place) != ClpSimplex::basic ? 1 : 0;
+  }
+  const CoinPackedMatrix& matrix = *program_.matrix();
+  for (int column = 0; column < columns(); column++) {
+    if (program_.getColumnStatus(column) != ClpSimplex::basic) continue;
+    const int* const first = matrix.getIndices() + matrix.getVectorStarts()[column];
+    const int* const end = first + matrix.getVectorLengths()[column];
+    const int* const place =
+        std::find_if(first, end, [&](int row) { return row >= nodes_ && tight[row - nodes_] != 0; });
+    if (place == end) continue;
+    tight[*place - nodes_] = 0;
+    const bool high = program_.getColSolution()[column] > 0.5;
+    program_.setColumnStatus(column, high ? ClpSimplex::atUpperBound : ClpSimplex::atLowerBound);
+  }
 }
 
 void SparseProgram::drop_edges() {

@@ -25,7 +25,8 @@ using potentials::Problem;
 
 class SparseProgram {
  public:
-  // The clock ends a solution early. What the program then says of duals is valid, but not the best.
+  // A solution ends early where the part of the time is over that linear programs may take for cuts. What the
+  // program then says of duals is valid, but not the best.
   SparseProgram(const Problem& problem, const CutPool& pool, const Tour& tour, const certify::Clock& clock);
   SparseProgram(const SparseProgram&) = delete;  // Clp has a pointer to the weights of this one
   SparseProgram& operator=(const SparseProgram&) = delete;
@@ -33,6 +34,10 @@ class SparseProgram {
   // Edges that pricing looks at from here on, besides those before.
   void add_candidates(const std::vector<Pair>& edges);
   void add_cuts(const std::vector<int>& cuts);
+  // Solutions end where this part of the time is over.
+  void end_at(double part);
+  // Drops the combs that aren't in these rows, which are in order.
+  void keep_combs(const std::vector<std::size_t>& rows);
   // Drops the slack rows that were slack in more solutions than this in a row.
   void purge(int age);
   // Drops edges at 0 whose reduced cost is large. They are candidates from here on.
@@ -79,6 +84,7 @@ class SparseProgram {
   void list_row(int cut, std::vector<char>& crossing, std::vector<int>& columns,
                 std::vector<double>& elements);
   double reduced_cost(const Pair& edge, const std::vector<std::vector<Member>>& members) const;
+  void leave_basis(const std::vector<char>& dropped);
   void drop_rows(const std::vector<char>& dropped);
 
   static Pair sorted(const Pair& edge) { return std::minmax(edge.first, edge.second); }

@@ -38,7 +38,7 @@ void SparseSearch::note(std::string_view event, Weight bound) {
 
 void SparseSearch::ascend() {
   potentials::Ascent ascent(problem_);
-  duals_ = ascent.run(kSparse.steps, [&](int, double) { return !clock_.over(sparse_times().tours / 2); });
+  duals_ = ascent.run(kSparse.steps, [&](int, double) { return !clock_.over(sparse_times().kicks); });
   support_ = ascent.support();
 }
 
@@ -46,7 +46,7 @@ Tour SparseSearch::looked_for() {
   potentials::TourSearch search;
   search.seed = start_.seed;
   search.kicks = kSparse.kicks_of_node * problem_.nodes();
-  search.watch = [&](long, double) { return !clock_.over(sparse_times().tours / 2); };
+  search.watch = [&](long, double) { return !clock_.over(sparse_times().kicks); };
   return potentials::shorten(problem_, potentials::first_tour(problem_), duals_, support_, search).tour;
 }
 
@@ -69,7 +69,7 @@ void SparseSearch::find_tours() {
   if (start_.tour && problem_.length(*start_.tour) < problem_.length(tour)) tour = *start_.tour;
   passes_.emplace(problem_, duals_, support_, clock_, tour, start_.seed);
   tours_ = {std::move(tour), further};
-  const double part = sparse_times().tours;
+  const double part = sparse_times().regions;
   for (int pass = 0; pass < kSparse.passes && !clock_.over(part); pass++) pass_regions(part);
 }
 
@@ -109,6 +109,20 @@ int SparseSearch::judge() {
   return program_->columns() - before;
 }
 
+// Where more combs have duals than a file may have, the program goes on without the others: its duals are
+// then the best ones for those that stay. Whether there were more.
+bool SparseSearch::keep_combs_of_file() {
+  std::size_t combs = 0;
+  for (std::size_t row = 0; row < program_->cuts().size(); row++) {
+    const bool comb = pool_[program_->cuts()[row]].kind == certify::CutKind::kComb;
+    combs += comb && program_->cut_dual(row) > 0 ? 1 : 0;
+  }
+  const std::vector<std::size_t> rows = leaf_->rows_of_file(*program_);
+  if (rows.size() == combs) return false;
+  program_->keep_combs(rows);
+  return true;
+}
+
 bool SparseSearch::stalled() const {
   if (values_.size() <= kSparse.window) return false;
   const double gained = values_.back() - values_[values_.size() - 1 - kSparse.window];
@@ -129,7 +143,10 @@ bool SparseSearch::cut_subtours() {
 void SparseSearch::tidy(int round) {
   if (round % kSparse.rounds_of_edges == 0) program_->drop_edges();
   if (round % kSparse.rounds_of_purge == 0) program_->purge(kSparse.slack);
-  if (round % kSparse.rounds_of_trees == 0) judge();
+  if (round % kSparse.rounds_of_trees == 0) {
+    if (keep_combs_of_file() && !program_->solve()) return;
+    judge();
+  }
 }
 
 // What is tried where cuts stop to help: a shorter tour, whose runs are other teeth; with it larger sets
@@ -166,16 +183,23 @@ void SparseSearch::cut() {
   }
 }
 
+// The last solutions, with the combs of the file and edges of least 1-trees.
+void SparseSearch::settle() {
+  program_->end_at(sparse_times().program);
+  keep_combs_of_file();
+  for (int k = 0; k < kSparse.trees; k++) {
+    const bool solved = program_->solve();
+    if (judge() == 0 || !solved || bound() >= target()) return;
+  }
+}
+
 void SparseSearch::run() {
   ascend();
   find_tours();
   begin_program();
   passes_->begin_beside();
   cut();
-  for (int k = 0; k < kSparse.trees; k++) {
-    if (judge() == 0 || clock_.over() || bound() >= target()) break;
-    if (!program_->solve()) break;
-  }
+  settle();
   passes_->end_beside();
   take_tour();
   shorten_tour();

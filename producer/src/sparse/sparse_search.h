@@ -50,6 +50,8 @@ class SparseSearch {
   bool stalled() const;
   void take(Numbers numbers);
   int judge();
+  bool keep_combs_of_file();
+  void settle();
   bool reaches() const { return program_->value() > static_cast<double>(target()) - 1; }
   Weight target() const { return start_.upper ? std::min(*start_.upper, length()) : length(); }
   void note(std::string_view event, Weight bound);

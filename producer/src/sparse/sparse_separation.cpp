@@ -97,7 +97,7 @@ void SparseSeparation::combs(Round& round, const certify::Effort& effort) {
   std::vector<Trial> trials;
   trials.reserve(tours.size());
   for (const Tour& tour : tours) trials.push_back({&tour, certify::Random(random_.next())});
-  const auto late = [&] { return clock_.over(sparse_times().program); };
+  const auto late = [&] { return clock_.over(sparse_times().cuts); };
   certify::for_each_at_once(trials.size(), [&](std::size_t k) {
     const certify::Runs runs(graph, *trials[k].tour, effort.reach);
     trials[k].sets = runs.crossed_too_little(0.01);

@@ -217,6 +217,42 @@ TEST_CASE("sparse programs have the values of programs over a matrix") {
   }
 }
 
+TEST_CASE("sparse programs that drop tight combs have the values of programs without them") {
+  Random random(14);
+  const certify::Clock clock(0);
+  int tight = 0;
+  for (int round = 0; round < 5; round++) {
+    const int nodes = 150;
+    const Problem problem(points_in_plane(nodes, random), {});
+    const Tour tour = potentials::first_tour(problem);
+    CutPool pool(nodes);
+    SparseProgram program(problem, pool, tour, clock), other(problem, pool, tour, clock);
+    for (SparseProgram* each : {&program, &other}) each->add_candidates(all_pairs(nodes));
+    SparseSeparation separation(problem, pool, program, clock, 1);
+    separation.set_tours({tour});
+    for (int k = 0; k < 12; k++) {
+      REQUIRE(program.solve());
+      if (separation.add_subtours() == 0) separation.add_combs(0, false);
+    }
+    REQUIRE(program.solve());
+    std::vector<std::size_t> rows;
+    for (std::size_t row = 0; row < program.cuts().size(); row++) {
+      const bool goes = row % 3 > 0;
+      if (!goes) rows.push_back(row);
+      const bool comb = pool[program.cuts()[row]].kind == certify::CutKind::kComb;
+      tight += goes && comb && program.cut_dual(row) > 0 ? 1 : 0;
+    }
+    const double before = program.value();
+    program.keep_combs(rows);
+    REQUIRE(program.solve());
+    CHECK(program.value() < before + 1e-6);
+    other.add_cuts(program.cuts());
+    REQUIRE(other.solve());
+    CHECK(program.value() == Approx(other.value()).epsilon(1e-7));
+  }
+  CHECK(tight > 5);
+}
+
 TEST_CASE("the bound of a sparse leaf is that of its certificate") {
   Random random(4);
   for (int round = 0; round < 10; round++) {
