@@ -86,16 +86,19 @@ inline constexpr Effort kLightFamilyEffort{.climbs = 200, .tighten = true, .atom
 
 // When a round looks for what.
 struct CuttingParameters {
-  int levels = 2;       // the root's climbs are doubled as often before it gives up
-  int most_misses = 3;  // rounds in a row without a cut
-  std::size_t root_window = 12, case_window = 4, family_window = 8;  // rounds whose gain is looked at
-  double root_gain = 0.02, case_gain = 0.06, family_gain = 0.02;     // parts of the gap; less is a stall
-  double large_gap = 0.0025;              // of the length, from which families come before further climbs
-  double large_tree = 300;                // leaves, from which families are looked for in the tree
-  double very_large_tree = 1000;          // and at the root
-  int many_leaves = 10;                   // that are done, after which the tree counts as large
-  double part_of_root_gap = 0.3;          // cases with more of it get families of their own
-  int case_atoms = 12, case_chunks = 60;  // of these
+  int levels = 2;                                 // the root's climbs are doubled as often before it gives up
+  int most_misses = 3;                            // rounds in a row without a cut
+  std::size_t root_window = 12, case_window = 4;  // rounds whose gain is looked at
+  double root_gain = 0.02, case_gain = 0.06;      // parts of the gap; less is a stall
+  double large_gap = 0.0025;                 // of the length, from which families come before further climbs
+  double fair_gap = 0.0004, fair_tree = 20;  // and leaves, from which the root has families for short
+  double large_tree = 300;                   // leaves, from which families are looked for in the tree
+  double very_large_tree = 1000;             // and at the root for long
+  std::size_t short_family_window = 4, long_family_window = 8;
+  double short_family_gain = 0.08, long_family_gain = 0.02;
+  int many_leaves = 10;                           // that are done, after which the tree counts as large
+  double part_of_root_gap = 0.3;                  // cases with more of it get families of their own
+  int case_atoms = 12, case_chunks = 60;          // of these
   double least_margin = 0.25, most_margin = 256;  // of the edges of a whole solution, by steps of 4
 };
 inline constexpr CuttingParameters kCutting{};

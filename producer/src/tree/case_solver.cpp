@@ -233,7 +233,7 @@ bool CaseSolver::tighten(Numbers& numbers) {
 }
 
 // The same with families. Rounds that met many subtours aren't counted.
-bool CaseSolver::tighten_by_families(const Effort& effort, Numbers& numbers) {
+bool CaseSolver::tighten_by_families(const Effort& effort, const Patience& patience, Numbers& numbers) {
   std::vector<double> values;
   int misses = 0;
   for (int round = 1; misses < kCutting.most_misses; round++) {
@@ -241,31 +241,37 @@ bool CaseSolver::tighten_by_families(const Effort& effort, Numbers& numbers) {
     if (clock_.over()) return false;
     if (!values.empty() && (misses > 0 || !separation_.was_whole())) values.pop_back();
     values.push_back(relaxation_.value());
-    if (stalled(values, {kCutting.family_window, kCutting.family_gain})) return false;
+    if (stalled(values, patience)) return false;
     misses = add_cuts(effort, round) ? 0 : misses + 1;
   }
   return false;
 }
 
-bool CaseSolver::is_large(double gap) const {
-  return gap >= kCutting.large_gap * std::abs(static_cast<double>(goal_.length));
+bool CaseSolver::is_large(double gap, double part_of_length) const {
+  return gap >= part_of_length * std::abs(static_cast<double>(goal_.length));
 }
 
-// Whether the root is worth families: where the gap is large, or the tree by what the best branch gains.
+// Whether the root is worth families: where the gap is large, or the tree by what the best branch gains. That
+// is a rough guess, so a tree that isn't very large has to have a gap that is fair too.
 bool CaseSolver::wants_families() {
   if (!problem_.start.families || clock_.over()) return false;
   if (has_large_gap()) return true;
   choice_ = branching_.choose(relaxation_, static_cast<double>(goal_.target));
   const double leaves = branching_.leaves();
   large_tree_ = leaves >= kCutting.large_tree;
-  return leaves >= kCutting.very_large_tree;
+  return leaves >= kCutting.very_large_tree ||
+         (leaves >= kCutting.fair_tree && is_large(gap(), kCutting.fair_gap));
 }
 
 // A gap that stays large may be the tour's too.
 bool CaseSolver::settle_by_families(Numbers& numbers) {
+  const bool large_gap = has_large_gap();
+  const bool very_large = large_gap || branching_.leaves() >= kCutting.very_large_tree;
+  const Patience patience = very_large ? Patience{kCutting.long_family_window, kCutting.long_family_gain}
+                                       : Patience{kCutting.short_family_window, kCutting.short_family_gain};
   choice_.reset();
   branching_.forget();
-  if (tighten_by_families(has_large_gap() ? kLightFamilyEffort : kFamilyEffort, numbers)) return true;
+  if (tighten_by_families(large_gap ? kLightFamilyEffort : kFamilyEffort, patience, numbers)) return true;
   if (problem_.start.named || clock_.over() || !has_large_gap()) return false;
   const Weight before = goal_.length;
   look_for_tour(kTours.third_population);
@@ -313,7 +319,7 @@ void CaseSolver::load(const Case& here) {
   whole_ = here.whole;
   large_tree_ = here.large_tree;
   root_gap_ = here.root_gap;
-  far_ = !whole_ && is_large(root_gap_);
+  far_ = !whole_ && is_large(root_gap_, kCutting.large_gap);
   choice_.reset();
   branching_.set_history(here.history ? *here.history : History{});
   separation_.begin(here.warm ? here.warm->experience : Experience{}, here.seed, here.allowed);

@@ -8,6 +8,7 @@
 #include <optional>
 
 #include "running/clock.h"
+#include "running/parameters.h"
 #include "running/progress.h"
 #include "tree/branching.h"
 #include "tree/certificate.h"
@@ -114,9 +115,9 @@ class CaseSolver {
   bool settle_by_families(Numbers& numbers);
   bool solve_round(int round, Numbers& numbers);
   bool tighten(Numbers& numbers);
-  bool tighten_by_families(const Effort& effort, Numbers& numbers);
-  bool is_large(double gap) const;
-  bool has_large_gap() const { return is_large(gap()); }
+  bool tighten_by_families(const Effort& effort, const Patience& patience, Numbers& numbers);
+  bool is_large(double gap, double part_of_length) const;
+  bool has_large_gap() const { return is_large(gap(), kCutting.large_gap); }
   bool wants_families();
   bool add_cuts(int level, int round);
   bool add_cuts(Effort effort, int round);
