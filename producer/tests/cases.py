@@ -24,6 +24,8 @@ CERTIFY, TSP = (os.path.abspath(path) for path in sys.argv[2:4])
 GUIDE = Path(__file__).resolve().parents[2] / "docs/guide.md"
 EXAMPLE = Path(__file__).resolve().parents[2] / "bindings/python/examples/spread_leaves.py"
 SKIPPED = 77  # the status that ctest counts as a test that wasn't run
+# Limits of time are as many times as long: CMakeLists.txt sets it for programs with sanitizers.
+PATIENCE = int(os.environ.get("PATIENCE", "1"))
 POINTS = ["EUC_2D", "CEIL_2D", "MAN_2D", "MAX_2D", "ATT"]
 SPACE = ["EUC_3D", "MAN_3D", "MAX_3D"]
 
@@ -40,7 +42,7 @@ def skip(what, package):
 
 def certify(*words, status=0):
     """What tsp-certify writes on standard error; it has to end with this status."""
-    done = subprocess.run([CERTIFY, *words, "--tsp", TSP], capture_output=True, text=True, timeout=250)
+    done = subprocess.run([CERTIFY, *words, "--tsp", TSP], capture_output=True, text=True, timeout=250 * PATIENCE)
     need(done.returncode == status, f"{words}: status {done.returncode} and not {status}: {done.stderr}")
     return done.stderr
 
@@ -48,7 +50,7 @@ def certify(*words, status=0):
 def judged(instance, tour="out.tour", certificate="out.branches"):
     """The lines of the report as a dictionary."""
     words = [TSP, "check", instance, tour, "--branches", certificate]
-    done = subprocess.run(words, capture_output=True, text=True, timeout=60)
+    done = subprocess.run(words, capture_output=True, text=True, timeout=60 * PATIENCE)
     need(done.returncode == 0, f"tsp check {instance}: {done.stdout}{done.stderr}")
     return {line.partition(" ")[0]: line.partition(" ")[2] for line in done.stdout.splitlines()}
 
@@ -225,7 +227,7 @@ def time_limit():
         words = ["--seconds", "2", "--threads", count]
         begun = time.monotonic()
         said = certify("a.tsp", "-o", "out.branches", "--tour-out", "out.tour", *words)
-        need(time.monotonic() - begun < 60, f"{count} threads: the limit isn't kept")
+        need(time.monotonic() - begun < 60 * PATIENCE, f"{count} threads: the limit isn't kept")
         report = judged("a.tsp")
         need("a gap of" in said and report.get("gap", "0") in said, f"the gap isn't told: {said}")
         need(int(report["bound"]) > 0.7 * int(report["length"]), f"a poor bound: {report}")
@@ -256,7 +258,7 @@ def split_tree(leaves=3):
     """Writes a.tsp, and tree and out.tour with at least two open leaves, whose numbers it returns."""
     write_points("a.tsp", "EUC_2D", 200, random.Random(6), side=10**6)
     words = ["a.tsp", "-o", "tree", "--tour-out", "out.tour", "--split", str(leaves), "--seconds", "0", "--tsp", TSP]
-    done = subprocess.run([CERTIFY, *words], capture_output=True, text=True, timeout=250)
+    done = subprocess.run([CERTIFY, *words], capture_output=True, text=True, timeout=250 * PATIENCE)
     need(done.returncode == 0, f"no split: {done.stderr}")
     numbers = done.stdout.split()
     need(len(numbers) >= 2, f"too few leaves are open: {numbers} {done.stderr}")
@@ -300,7 +302,7 @@ def resume():
     need("optimal" in judged("a.tsp"), "not optimal")
     need("COMMENT" not in Path("out.branches").read_text(), "a whole certificate has notes of open leaves")
     words = ["a.tsp", "out.tour", "--tree", "tree", "-o", "same", "--split", "1", "--tsp", TSP]
-    done = subprocess.run([CERTIFY, *words], capture_output=True, text=True, check=True, timeout=250)
+    done = subprocess.run([CERTIFY, *words], capture_output=True, text=True, check=True, timeout=250 * PATIENCE)
     need(done.stdout.split() == leaves, f"other leaves are open: {done.stdout.split()} and not {leaves}")
     # A tree by other hands: one leaf, whose scale is none of ours.
     Path("seven").write_text("TYPE : BRANCHES\nDIMENSION : 200\nSCALE : 11\nBRANCH_SECTION\n0 1 5 2 -5 -1\nEOF\n")
@@ -331,7 +333,8 @@ def run_lines(*lines):
         os.symlink(path, f"bin/{name}")
     path = f"{os.path.abspath('bin')}:{os.environ['PATH']}"
     for line in lines:
-        done = subprocess.run(["sh", "-c", line], capture_output=True, text=True, timeout=250, env={**os.environ, "PATH": path})
+        done = subprocess.run(["sh", "-c", line], capture_output=True, text=True, timeout=250 * PATIENCE,
+                              env={**os.environ, "PATH": path})
         need(done.returncode == 0, f"{line}: {done.stdout}{done.stderr}")
 
 
@@ -357,7 +360,7 @@ def dask():
     words = [python, str(EXAMPLE), "a.tsp", "out.tour", "--tree", "tree", "--leaves", "leaves", "--workers", "2"]
     for certificate, more, whole in (("out.branches", [CERTIFY], True), ("gap.branches", [write_failing(leaves[0])], False)):
         done = subprocess.run([*words, "-o", certificate, "--tsp", TSP, "--tsp-certify", *more], capture_output=True,
-                              text=True, timeout=250)
+                              text=True, timeout=250 * PATIENCE)
         need(done.returncode == (0 if whole else 1), f"{certificate}: {done.stdout}{done.stderr}")
         need(("optimal" in judged("a.tsp", certificate=certificate)) == whole, f"{certificate}: {done.stderr}")
     need(f"leaf {leaves[0]}" in done.stderr, f"the leaf that is left out isn't named: {done.stderr}")
@@ -432,7 +435,7 @@ def large():
     write_points("a.tsp", "EUC_2D", 5200, random.Random(15), side=10**6)
     begun = time.monotonic()
     need_bounded("a.tsp", 0.7, "--seconds", "25")  # a loaded machine has time for potentials alone
-    need(time.monotonic() - begun < 100, "the limit isn't kept")
+    need(time.monotonic() - begun < 100 * PATIENCE, "the limit isn't kept")
     for wait in (3, 20):
         found = signalled("4", (wait, signal.SIGINT))
         need(found == 130 and "bound" in judged("a.tsp"), f"status {found} after {wait} seconds")
@@ -453,7 +456,7 @@ def signalled(threads, *signals):
         for wait, number in signals:
             time.sleep(wait)
             process.send_signal(number)
-        process.communicate(timeout=120)
+        process.communicate(timeout=120 * PATIENCE)
     return process.returncode
 
 
@@ -694,7 +697,8 @@ def finding_tsp():
     shutil.copy(CERTIFY, "above/here")
     words = [os.path.abspath("above/here/tsp-certify"), "a.tsp", "-o", "out.branches", "--tour-out", "out.tour"]
     def find(path, *more):
-        return subprocess.run([*words, *more], capture_output=True, text=True, env={**os.environ, "PATH": path}, timeout=100)
+        return subprocess.run([*words, *more], capture_output=True, text=True, timeout=100 * PATIENCE,
+                              env={**os.environ, "PATH": path})
 
     for place, path in ((None, "/nowhere"), ("above", "/nowhere"), ("on-path", os.path.abspath("on-path"))):
         if place:

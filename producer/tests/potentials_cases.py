@@ -19,7 +19,7 @@ from itertools import permutations
 from pathlib import Path
 
 from cases import CERTIFY as PROGRAM
-from cases import POINTS, SPACE, TSP, certify, need, write_arcs, write_matrix, write_points
+from cases import PATIENCE, POINTS, SPACE, TSP, certify, need, write_arcs, write_matrix, write_points
 
 OUT = ["-o", "out.potentials"]
 BOTH = [*OUT, "--tour-out", "out.tour"]
@@ -28,7 +28,7 @@ BOTH = [*OUT, "--tour-out", "out.tour"]
 def judged(instance, tour="out.tour", potentials="out.potentials"):
     """The lines of the report as a dictionary."""
     words = ["check", instance, tour] if tour else ["bound", instance]
-    done = subprocess.run([TSP, *words, "--potentials", potentials], capture_output=True, text=True, timeout=60)
+    done = subprocess.run([TSP, *words, "--potentials", potentials], capture_output=True, text=True, timeout=60 * PATIENCE)
     need(done.returncode == 0, f"tsp {words}: {done.stdout}{done.stderr}")
     return {line.partition(" ")[0]: line.partition(" ")[2] for line in done.stdout.splitlines()}
 
@@ -135,7 +135,7 @@ def newcomer():
     os.symlink(PROGRAM, "producer/out/tsp-potentials")
     os.symlink(TSP, "tsp")
     for line in lines[at : at + 3]:
-        done = subprocess.run(line, shell=True, capture_output=True, text=True, timeout=120, check=False)
+        done = subprocess.run(line, shell=True, capture_output=True, text=True, timeout=120 * PATIENCE, check=False)
         need(done.returncode == 0, f"{line}: {done.stdout}{done.stderr}")
     report = Path("a.report").read_text().splitlines()
     gap, length = (int(line.split()[1]) for word in ("gap", "length") for line in report if line.startswith(word))
@@ -173,7 +173,7 @@ def interrupt():
             with subprocess.Popen([PROGRAM, "a.tsp", *BOTH, *more, "--tsp", TSP], stderr=subprocess.PIPE) as process:
                 time.sleep(wait)
                 process.send_signal(number)
-                process.communicate(timeout=60)
+                process.communicate(timeout=60 * PATIENCE)
             need(process.returncode == status, f"status {process.returncode} after {number}")
             report = judged("a.tsp")
             need(int(report["bound"]) > 0.6 * int(report["length"]), f"{more}: {report}")

@@ -20,7 +20,7 @@ from itertools import combinations, permutations
 from pathlib import Path
 
 import judge_routes
-from cases import CERTIFY, TSP, certify, need, write_points
+from cases import CERTIFY, PATIENCE, TSP, certify, need, write_points
 
 BOTH = ["-o", "out.branches", "--tour-out", "out.routes"]
 
@@ -74,7 +74,7 @@ def write_certificate(nodes, families, tree, more="", name="out.branches"):
 
 def lines_by_program(instance, routes, certificate):
     words = [TSP, "check", instance, routes, "--branches", certificate]
-    return subprocess.run(words, capture_output=True, text=True, timeout=200).stdout.splitlines()
+    return subprocess.run(words, capture_output=True, text=True, timeout=200 * PATIENCE).stdout.splitlines()
 
 
 @cache
@@ -218,7 +218,7 @@ def time_limit():
     write_uniform("a.vrp", 150, random.Random(10), side=1000)
     begun = time.monotonic()
     said = certify("a.vrp", *BOTH, "--seconds", "2", "--log", "out.log")
-    need(time.monotonic() - begun < 100, "the limit isn't kept")
+    need(time.monotonic() - begun < 100 * PATIENCE, "the limit isn't kept")
     report = judged("a.vrp")
     need("a gap of" in said and report.get("gap", "0") in said, f"the gap isn't told: {said}")
     bounds = [json.loads(line)["bound"] for line in Path("out.log").read_text().splitlines()]
@@ -238,7 +238,7 @@ def interrupt():
         with subprocess.Popen(words, stderr=subprocess.PIPE, text=True) as running:
             time.sleep(2)
             running.send_signal(stop)
-            said = running.communicate(timeout=200)[1]
+            said = running.communicate(timeout=200 * PATIENCE)[1]
             need(running.returncode == status, f"status {running.returncode} after {stop}: {said}")
         need(f"bound {judged('a.vrp')['bound']} as reckoned" in said, f"another bound was reckoned: {said}")
 
@@ -247,7 +247,7 @@ def split():
     """Leaves of a tree are gone on with alone, and parts are joined. A part that is missing leaves a gap."""
     write_uniform("a.vrp", 30, random.Random(9))
     words = ["a.vrp", "-o", "tree", "--tour-out", "out.routes", "--split", "3", "--seconds", "0", "--tsp", TSP]
-    done = subprocess.run([CERTIFY, *words], capture_output=True, text=True, timeout=250)
+    done = subprocess.run([CERTIFY, *words], capture_output=True, text=True, timeout=250 * PATIENCE)
     leaves = done.stdout.split()
     need(done.returncode == 0 and len(leaves) >= 2, f"no split: {leaves} {done.stderr}")
     need("gap" in judged("a.vrp", certificate="tree"), "the tree has no gap")
