@@ -95,7 +95,8 @@ void KdTree::set_labels(const std::vector<int>& labels) {
   }
 }
 
-// It leaves out extra(j), which is at least 0.
+// It leaves out extra(j), which is at least 0. Where points are nearer than 0.5 it is below b.number, and so
+// is no use among equal points: searches look at that number too.
 double KdTree::least(int box, int i) const {
   const Box& b = boxes_[box];
   const auto apart = [](double at, double low, double high) { return std::max({low - at, at - high, 0.0}); };
@@ -142,7 +143,7 @@ void KdTree::visit(Query& query, int box) const {
     std::swap(first, second);
   }
   const auto enter = [&](double bound, int next) {
-    if (bound >= query.limit) return;
+    if (bound >= query.limit || boxes_[next].number >= query.limit) return;
     if (query.quadrant < 0 || !misses_quadrant(query.node, boxes_[next], query.quadrant)) visit(query, next);
   };
   enter(near, first);
@@ -185,8 +186,8 @@ void KdTree::visit_outside(int i, int box, Near& best) const {
     std::swap(near, far);
     std::swap(first, second);
   }
-  if (near < best.weight) visit_outside(i, first, best);
-  if (far < best.weight) visit_outside(i, second, best);
+  if (near < best.weight && boxes_[first].number < best.weight) visit_outside(i, first, best);
+  if (far < best.weight && boxes_[second].number < best.weight) visit_outside(i, second, best);
 }
 
 Near KdTree::lightest_outside(int i, double limit) const {

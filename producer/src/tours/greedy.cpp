@@ -10,6 +10,7 @@
 namespace potentials {
 namespace {
 constexpr double kLifted = 1e200;  // the number of a node with two links, so that no search ends there
+constexpr int kFew = 16;           // a round that joins less than one of as many ends is crowded
 
 // Paths that grow by links, until all are one.
 class Paths {
@@ -29,9 +30,13 @@ class Paths {
       }
     }
     take_links();
+    bool crowded = false;
     while (joined_ < problem_.nodes() - 1) {
-      look_for_links();
+      const int before = joined_;
+      look_for_links(crowded);
+      const int looks = static_cast<int>(links_.size());
       take_links();
+      crowded = kFew * (joined_ - before) < looks;
     }
     return walk();
   }
@@ -57,21 +62,41 @@ class Paths {
     for (const Link& link : links_) join(link.a, link.b);
     links_.clear();
   }
-  // Each end of a path finds the nearest end of another one.
-  void look_for_links() {
+  // Each end of a path finds the nearest end of another one. Where ties lead most of them to the same few, as
+  // among equal points, the next end by its number is as good where it is as near.
+  void look_for_links(bool crowded) {
+    const std::vector<int> ends = begin_search();
+    for (std::size_t k = 0; k < ends.size(); k++) {
+      Near near = problem_.searches().lightest_outside(ends[k], kLifted / 2);
+      if (near.node < 0) continue;
+      if (crowded) prefer_next(ends, k, near);
+      links_.push_back({near.weight + numbers_[ends[k]], ends[k], near.node});
+    }
+  }
+  // The ends of paths, which searches find from here on.
+  std::vector<int> begin_search() {
+    std::vector<int> ends;
     std::vector<double> numbers(numbers_);
     std::vector<int> labels(problem_.nodes());
     for (int i = 0; i < problem_.nodes(); i++) {
-      if (is_inner(i)) numbers[i] = kLifted;
       labels[i] = components_.root(i);
+      if (is_inner(i)) {
+        numbers[i] = kLifted;
+      } else {
+        ends.push_back(i);
+      }
     }
     problem_.searches().set_numbers(numbers);
     problem_.searches().set_labels(labels);
-    for (int i = 0; i < problem_.nodes(); i++) {
-      if (is_inner(i)) continue;
-      const Near near = problem_.searches().lightest_outside(i, kLifted / 2);
-      if (near.node >= 0) links_.push_back({near.weight + numbers_[i], i, near.node});
-    }
+    return ends;
+  }
+  void prefer_next(const std::vector<int>& ends, std::size_t k, Near& near) {
+    const int path = components_.root(ends[k]);
+    const auto begin = ends.begin() + static_cast<std::ptrdiff_t>(k) + 1;
+    const auto next = std::find_if(begin, ends.end(), [&](int end) { return components_.root(end) != path; });
+    if (next == ends.end()) return;
+    const double weight = problem_.cost(ends[k], *next) + numbers_[*next];
+    if (weight <= near.weight) near = {weight, *next};
   }
   Tour walk() const {
     int start = 0;

@@ -67,6 +67,21 @@ TEST_CASE("a tour of blocks is what a plain list is") {
   }
 }
 
+// Each of them is as near to all others, and to the same few first of all.
+TEST_CASE("a first tour of many equal points visits each") {
+  Points points;
+  for (int i = 0; i < 20000; i++) {
+    points.x.push_back(i < 15000 ? 5 : 400);
+    points.y.push_back(i % 1000 == 7 ? 90 : 5);
+    points.z.push_back(0);
+  }
+  const Problem problem(points, {});
+  Tour tour = first_tour(problem);
+  CHECK(problem.length(tour) < 5000);
+  std::sort(tour.begin(), tour.end());
+  for (int v = 0; v < problem.nodes(); v++) REQUIRE(tour[v] == v);
+}
+
 TEST_CASE("a search shortens a tour, keeps each node and each fixed edge") {
   Random random(2);
   for (const std::vector<Pair>& fixed : {std::vector<Pair>{}, std::vector<Pair>{{1, 2}, {2, 250}, {7, 9}}}) {
