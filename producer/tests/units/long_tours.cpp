@@ -111,11 +111,12 @@ TEST_CASE("a tour that takes clusters in a wrong order is mended") {
   Points points;
   Tour order;
   for (int v = 0; v < kClusters * kEach; v++) {
-    const double angle = 2 * 3.14159265358979 * (v / kEach) / kClusters;
+    const int cluster = v / kEach;
+    const double angle = 2 * 3.14159265358979 * cluster / kClusters;
     points.x.push_back(std::round(100000 * std::cos(angle)) + random.below(3000));
     points.y.push_back(std::round(100000 * std::sin(angle)) + random.below(3000));
     points.z.push_back(0);
-    order.push_back(v / kEach * 5 % kClusters * kEach + v % kEach);  // each fifth cluster
+    order.push_back(cluster * 5 % kClusters * kEach + v % kEach);  // each fifth cluster
   }
   const Problem problem(std::move(points), {});
   TourSearch search;
