@@ -19,6 +19,7 @@ struct SparseParameters {
   int near = 10, near_in_quadrant = 2;  // neighbours of a node: candidates of pricing
   int light = 5;                        // edges that the program begins with, by the ascent's duals
   double part_of_edge = 0.5;            // of an average edge: edges at 0 with more reduced cost are dropped
+  double few_edges_of_node = 0.002;     // join in the next round: a solution for them alone isn't worth it
   int slack = 4;                        // a row that is slack in more solutions in a row is dropped
   int rounds_of_purge = 3, rounds_of_edges = 6, rounds_of_trees = 5;
   double cuts_of_node = 0.2;              // combs of a round

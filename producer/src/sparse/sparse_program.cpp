@@ -383,12 +383,12 @@ void SparseProgram::read_solution() {
   has_new_cuts_ = false;
 }
 
-bool SparseProgram::solve() {
+bool SparseProgram::solve(int few) {
   bool whole = false;
   do {
     whole = optimize();
     read_duals();
-  } while (whole && price() > 0);
+  } while (whole && price() > few);
   if (whole) read_solution();
   return whole;
 }

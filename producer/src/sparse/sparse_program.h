@@ -42,8 +42,9 @@ class SparseProgram {
   void purge(int age);
   // Drops edges at 0 whose reduced cost is large. They are candidates from here on.
   void drop_edges();
-  // Whether the solution is the best one over all candidates: it isn't where the time is over.
-  bool solve();
+  // Candidates join until they are at most as few in a solution. These are in the next one. False where the
+  // time is over.
+  bool solve(int few = 0);
 
   double value() const { return value_; }
   const Graph& support() const { return support_; }

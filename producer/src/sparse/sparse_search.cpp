@@ -131,7 +131,8 @@ bool SparseSearch::stalled() const {
 
 // Adds subtours until a solution misses few of them. False where the time is over.
 bool SparseSearch::cut_subtours() {
-  while (program_->solve()) {
+  const auto few = static_cast<int>(kSparse.few_edges_of_node * problem_.nodes());
+  while (program_->solve(few)) {
     note("round", value_so_far());
     if (reaches() || separation_->add_subtours() <= separation_->few_subtours()) return true;
   }
