@@ -10,50 +10,17 @@
 
 #include "cuts/subtours.h"
 #include "running/parameters.h"
+#include "tree/kruskal_sets.h"
 #include "tree/watch.h"
 
 namespace certify {
 namespace {
 constexpr double kTiny = 1e-6;
-constexpr double kLeastViolation = 1e-3;
 constexpr double kTie = 1e-3;  // of reduced costs
+constexpr double kGap = 1e-2;  // of costs, between the levels of the first sets
 constexpr Work kMostIterations = std::numeric_limits<int>::max();
 
 bool has(const NodeSet& set, int node) { return std::binary_search(set.begin(), set.end(), node); }
-
-// Sets that Kruskal's method meets, with more edges of a solution than a tree has.
-class Merging {
- public:
-  explicit Merging(const Graph& support)
-      : support_(support), component_(support.size()), members_(support.size()), inside_(support.size(), 0) {
-    std::iota(component_.begin(), component_.end(), 0);
-    for (std::size_t v = 0; v < support.size(); v++) members_[v] = {static_cast<int>(v)};
-  }
-  // The next edge.
-  void take(const Pair& edge) {
-    int a = component_[edge.first], b = component_[edge.second];
-    if (a == b) return;
-    if (members_[a].size() < members_[b].size()) std::swap(a, b);
-    double between = 0;
-    for (const int v : members_[b]) {
-      for (const auto& [to, value] : support_[v]) between += component_[to] == a ? value : 0;
-    }
-    for (const int v : members_[b]) component_[v] = a;
-    inside_[a] += inside_[b] + between;
-    members_[a].insert(members_[a].end(), members_[b].begin(), members_[b].end());
-    members_[b].clear();
-    if (inside_[a] > static_cast<double>(members_[a].size()) - 1 + kLeastViolation)
-      sets_.push_back(members_[a]);
-  }
-  std::vector<NodeSet>& sets() { return sets_; }
-
- private:
-  const Graph& support_;
-  std::vector<int> component_;
-  std::vector<NodeSet> members_;
-  std::vector<double> inside_;
-  std::vector<NodeSet> sets_;
-};
 
 NodeSet complement(const NodeSet& set, int nodes) {
   NodeSet rest;
@@ -61,15 +28,6 @@ NodeSet complement(const NodeSet& set, int nodes) {
     if (!has(set, v)) rest.push_back(v);
   }
   return rest;
-}
-
-// Whether the edges inside are worth more than those of a tree.
-bool has_many_edges(const Graph& support, const NodeSet& set) {
-  double inside = 0;
-  for (const int v : set) {
-    for (const auto& [to, value] : support[v]) inside += to > v && has(set, to) ? value : 0;
-  }
-  return inside > static_cast<double>(set.size()) - 1 + kLeastViolation;
 }
 }  // namespace
 
@@ -262,7 +220,8 @@ void NearProgram::set_penalty(double penalty) {
   }
 }
 
-bool NearProgram::solve() {
+// By the primal method where edges have joined, since the last solution keeps all rows.
+bool NearProgram::solve(bool by_primal) {
   const auto ends = [&](auto method) {
     const Work iterations = (most_work_ - work_) / program_.numberRows() + 1;
     program_.setMaximumIterations(static_cast<int>(std::min<Work>(iterations, kMostIterations)));
@@ -270,7 +229,7 @@ bool NearProgram::solve() {
     work_ += work_of(program_);
     return program_.status() == 0;
   };
-  return ends(&ClpSimplex::dual) || (!is_over() && ends(&ClpSimplex::primal));
+  return (!by_primal && ends(&ClpSimplex::dual)) || (!is_over() && ends(&ClpSimplex::primal));
 }
 
 // Of edges, by the last numbers and their changes.
@@ -324,26 +283,41 @@ std::vector<int> NearProgram::edges_in_order() const {
   return edges;
 }
 
-// How many joined: those that Kruskal's method meets, or else those that are crossed too little.
-int NearProgram::add_violated_sets() {
-  const Graph graph = support();
-  Merging merging(graph);
-  for (const int column : edges_in_order()) merging.take(columns_[column].edge);
+// What solutions under the first costs need: without these rows some twenty rounds look for them.
+void NearProgram::add_first_sets() {
+  LevelSets levels(nodes(), kGap);
+  const double* costs = program_.getObjCoefficients();
+  for (const int column : edges_in_order()) {
+    const bool used = program_.getColLower()[column] > 0.5;
+    levels.take(columns_[column].edge, used ? -COIN_DBL_MAX : costs[column]);
+  }
+  add_sets(levels.sets());
+}
+
+void NearProgram::add_sets(std::vector<NodeSet>& sets) {
   std::vector<Row> rows;
-  for (NodeSet& set : merging.sets()) {
+  for (NodeSet& set : sets) {
     std::sort(set.begin(), set.end());
     rows.push_back({-1, std::move(set)});
   }
-  if (rows.empty()) {
+  add_rows(std::move(rows));
+}
+
+// How many joined: those that Kruskal's method meets, or else those that are crossed too little.
+int NearProgram::add_violated_sets() {
+  const Graph graph = support();
+  ViolatedSets violated(graph);
+  for (const int column : edges_in_order()) violated.take(columns_[column].edge);
+  std::vector<NodeSet> sets = std::move(violated.sets());
+  if (sets.empty()) {
     for (NodeSet& set : crossed_too_little(graph, kTiny)) {
       std::sort(set.begin(), set.end());
       if (set[0] == 0) set = complement(set, nodes());
-      if (has_many_edges(graph, set)) rows.push_back({-1, std::move(set)});
+      if (has_many_edges(graph, set)) sets.push_back(std::move(set));
     }
   }
-  const int count = static_cast<int>(rows.size());
-  add_rows(std::move(rows));
-  return count;
+  add_sets(sets);
+  return static_cast<int>(sets.size());
 }
 
 Numbers NearProgram::numbers(Weight grid) const {
@@ -369,8 +343,10 @@ Numbers NearProgram::numbers(Weight grid) const {
 // Numbers under a penalty that reach the goal. Nothing where they don't.
 std::optional<Numbers> NearProgram::reach(double penalty, const NearLeaf& leaf) {
   set_penalty(penalty);
+  bool more_edges = false;
   for (int round = 0; round < kLeaves.near_rounds && !is_over(); round++) {
-    if (!solve()) return std::nullopt;
+    if (!solve(more_edges)) return std::nullopt;
+    more_edges = false;
     if (add_violated_sets() > 0) continue;
     Numbers near = numbers(leaf.grid);
     if (bound_.value(near, leaf.decisions) >= leaf.goal) return near;
@@ -378,6 +354,7 @@ std::optional<Numbers> NearProgram::reach(double penalty, const NearLeaf& leaf) 
     add_edges(bound_.links());
     if (columns_.size() == before) return std::nullopt;
     set_costs();
+    more_edges = true;
   }
   return std::nullopt;
 }
@@ -393,6 +370,7 @@ std::optional<Numbers> NearProgram::find(const NearLeaf& leaf) {
   decide(leaf.decisions);
   for (const Numbers* numbers : {&leaf.last, &leaf.own}) add_cuts(*numbers);
   set_costs();
+  if (work_ == 0) add_first_sets();
   const double first = penalty_;
   std::optional<Numbers> near = reach(penalty_, leaf);
   double above = kLeaves.most_penalty;  // one that isn't reached, or isn't tried

@@ -314,55 +314,19 @@ void Search::grow_tree() {
               [this](Job& job) { take(job); });
 }
 
-// Near numbers by linear programs, which take half of the time that is left at most, since other leaves need
-// some too.
-std::optional<Numbers> Search::by_near_program(const Tree::Place& leaf,
-                                               const std::vector<Decision>& decisions) {
-  if (!near_) near_.emplace(problem_, pool_, *bound_, clock_, (1 + clock_.used()) / 2);
-  const Work share = near_work_ / near_leaves_;
-  const Work before = near_->work();
-  std::optional<Numbers> found =
-      near_->find({made_.last(), leaf.numbers, decisions, aim(), grid_.value_or(1), near_work_, share});
-  near_work_ -= near_->work() - before;
-  return found;
-}
-
-// The numbers of a leaf that is done, near those of the leaf before.
-Numbers Search::near_last(const Tree::Place& leaf, const std::vector<Decision>& decisions) {
-  const Numbers& last = made_.last();
-  if (last.potentials.empty()) return leaf.numbers;
-  if (bound_->reaches(last, decisions, aim())) return last;
-  Numbers near = made_.near_last(leaf.numbers, decisions, goal_.target);
-  if (problem_.instance.directed || problem_.instance.nodes() > kLeaves.most_near_nodes) return near;
-  const std::optional<Numbers> found = by_near_program(leaf, decisions);
-  if (!found) return near;
-  Numbers nearer = made_.near_last(*found, decisions, goal_.target);
-  return differences(nearer, last) < differences(near, last) ? nearer : near;
-}
-
-// A leaf that is done gets numbers near those of the leaf before, which makes a short file. Where differences
-// are past their limit it gets the same numbers as the leaf before.
-Numbers Search::numbers_for_file(const Tree::Place& leaf, const std::vector<Decision>& decisions) {
-  const bool time = !clock_.over();
-  Numbers numbers = leaf.done && time ? near_last(leaf, decisions) : leaf.numbers;
-  if (leaf.done) near_leaves_--;
-  const Numbers& last = made_.last();
+// A leaf of the file, after that of the last numbers. Where differences are past their limit it gets those.
+// Whether it reaches the target.
+bool Search::add_leaf(const ListedLeaf& leaf, Numbers numbers, Numbers& last) {
   const std::size_t count = differences(numbers, last);
-  if (differences_ + count > plan_.limits.differences) {
-    if (!last.potentials.empty()) return last;
-    return {std::vector<Weight>(numbers.potentials.size(), 0), {}};
+  if (differences_ + count <= plan_.limits.differences) {
+    differences_ += count;
+    last = std::move(numbers);
+  } else if (last.potentials.empty()) {
+    last.potentials.assign(numbers.potentials.size(), 0);
   }
-  differences_ += count;
-  return numbers;
-}
-
-// Whether the leaf reaches the target.
-bool Search::add_leaf(const Tree::Place& leaf, const std::vector<Decision>& decisions) {
-  const Numbers numbers = numbers_for_file(leaf, decisions);
-  const Value value = bound_->value(numbers, decisions);
+  const Value value = bound_->value(last, leaf.decisions);
   least_ = std::min(least_, value);
-  made_.set_last(numbers);
-  steps_.emplace_back(numbers);
+  steps_.emplace_back(last);
   if (leaf.done && value < aim()) limited_ = true;
   return leaf.done && value >= aim();
 }
@@ -394,12 +358,19 @@ void Search::coarsen() {
 void Search::list_steps() {
   const double nodes = problem_.instance.nodes();
   const double work = static_cast<double>(work_) + kLeaves.tours_work * nodes * nodes;
-  near_work_ = static_cast<Work>(plan_.near_work * work);
-  near_leaves_ = leaves_;
+  std::vector<ListedLeaf> leaves;
+  tree_.list([](const Pair&) {},
+             [&](int place) {
+               leaves.push_back({&tree_[place].numbers, decisions_of(place), tree_[place].done});
+             });
+  std::vector<Numbers> numbers = near_numbers(
+      {problem_, pool_, clock_, goal_.target, grid_.value_or(1), static_cast<Work>(plan_.near_work * work)},
+      leaves);
   leaves_ = 0;
-  const auto add = [&](int place) {
-    leaves_++;
-    if (!add_leaf(tree_[place], decisions_of(place))) open_leaves_.push_back(leaves_);
+  Numbers last;
+  const auto add = [&](int) {
+    const int leaf = leaves_++;
+    if (!add_leaf(leaves[leaf], std::move(numbers[leaf]), last)) open_leaves_.push_back(leaves_);
   };
   tree_.list([&](const Pair& pair) { steps_.emplace_back(pair); }, add);
 }

@@ -14,7 +14,7 @@
 #include "tree/case_tree.h"
 #include "tree/certificate.h"
 #include "tree/named_cuts.h"
-#include "tree/near_program.h"
+#include "tree/near_chains.h"
 
 namespace certify {
 // Whether a tree may end in time: this part of it is done, which took the time from begun to used. The guess
@@ -79,12 +79,9 @@ class Search {
   Case case_of(int place);
   CaseSolver& own_solver();
   void coarsen();
-  std::optional<Numbers> by_near_program(const Tree::Place& leaf, const std::vector<Decision>& decisions);
-  Numbers near_last(const Tree::Place& leaf, const std::vector<Decision>& decisions);
   void drop_surplus();
   void list_steps();
-  Numbers numbers_for_file(const Tree::Place& leaf, const std::vector<Decision>& decisions);
-  bool add_leaf(const Tree::Place& leaf, const std::vector<Decision>& decisions);
+  bool add_leaf(const ListedLeaf& leaf, Numbers numbers, Numbers& last);
   Standing standing() const;
   void log(std::string_view event) { progress_.log(event, standing()); }
 
@@ -100,8 +97,7 @@ class Search {
   const std::unique_ptr<ExactBound> bound_;
   std::optional<Weight> shift_;
   Leaves made_;
-  std::optional<NearProgram> near_;  // of the leaves of a TSP
-  std::optional<Weight> grid_;       // all numbers are multiples of it, where all leaves are done
+  std::optional<Weight> grid_;  // all numbers are multiples of it, where all leaves are done
   Tree tree_;
   oneapi::tbb::enumerable_thread_specific<std::unique_ptr<CaseSolver>> solvers_;
   Window window_;
@@ -112,9 +108,7 @@ class Search {
   Value least_;
   int leaves_ = 0;
   std::size_t differences_ = 0;
-  Work work_ = 0;        // of the linear programs of all cases
-  Work near_work_ = 0;   // that is left for near numbers
-  int near_leaves_ = 0;  // that may get some still
+  Work work_ = 0;  // of the linear programs of all cases
   bool limited_ = false;
   bool large_tree_ = false;  // the tree seems to be large, so that families are worth their time
   double root_gap_ = 0;

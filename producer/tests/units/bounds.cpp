@@ -3,7 +3,7 @@
 
 #include "fixtures.h"
 #include "tree/leaves.h"
-#include "tree/near_program.h"
+#include "tree/near_chains.h"
 #include "tree/tree_bound.h"
 
 using namespace certify;
@@ -124,4 +124,70 @@ TEST_CASE("numbers are near those of the leaf before") {
       if (some) CHECK(bound.value(*some, decisions) >= goal);
     }
   }
+}
+
+// Each leaf follows once in a chain, beside the one before it there, or is the anchor of two.
+TEST_CASE("chains go from anchors through all leaves") {
+  for (const int count : {1, 2, 3, 23, 24, 25, 127, 128, 300}) {
+    const std::vector<Chain> chains = chains_of(count);
+    CHECK(chains.size() == (count < 24 ? 2 : count < 128 ? 4 : 8));
+    std::vector<int> all;
+    std::size_t longest = 0;
+    for (std::size_t k = 0; k < chains.size(); k++) {
+      const Chain& chain = chains[k];
+      for (std::size_t place = 1; place < chain.size(); place++)
+        CHECK(chain[place] - chain[place - 1] == (k % 2 == 0 ? -1 : 1));
+      if (k % 2 == 1) CHECK(chain[0] == chains[k - 1][0]);
+      all.insert(all.end(), chain.begin() + (k % 2 == 0 ? 0 : 1), chain.end());
+      longest = std::max(longest, chain.size());
+    }
+    std::sort(all.begin(), all.end());
+    CHECK(all == in_order(count));
+    CHECK(longest <= count / chains.size() + 2);
+  }
+}
+
+// Leaves of two anchors, each with an edge that isn't used. One of them isn't done.
+TEST_CASE("leaves have numbers near those beside them") {
+  Random random(7);
+  const Instance instance{random_matrix(40, random), {}, false};
+  const Start start{.tour = in_order(40)};
+  const Problem problem(instance, start);
+  const CutPool pool(40);
+  TreeBound bound(instance.weights, pool, problem.scale);
+  Leaves made(bound, pool, false);
+  const Numbers zero{std::vector<Weight>(40, 0), {}};
+  Value least = bound.value(zero, {});
+  const std::vector<Pair> links = bound.links();
+  bound.add_likely(problem.edges);
+  std::vector<Numbers> own;
+  std::vector<ListedLeaf> leaves;
+  for (int k = 0; k < 30; k++) {
+    const std::vector<Decision> decisions{{links[k], false}};
+    own.push_back(made.restricted(zero, {}, decisions, made.goal(40000), 100));
+    const Value value = bound.value(own[k], decisions);
+    least = k == 0 ? value : std::min(least, value);
+    leaves.push_back({nullptr, decisions, k != 3});
+  }
+  for (int k = 0; k < 30; k++) leaves[k].own = &own[k];
+  CHECK(done_in({7, 6, 5, 4, 3, 2, 1, 0}, leaves) == 6);
+  CHECK(done_in({3, 4, 5}, leaves) == 2);
+  const Clock clock(0);
+  const Weight target = least / problem.scale;
+  const auto made_near = [&](Work work) {
+    return near_numbers({problem, pool, clock, target, 1, work}, leaves);
+  };
+  const std::vector<Numbers> near = made_near(100000000), idle = made_near(0);
+  std::size_t whole = 0, less = 0, least_of_all = 0;
+  for (int k = 0; k < 30; k++) {
+    const bool kept = near[k].potentials == own[k].potentials;
+    CHECK(kept == (k == 3 || k == 7 || k == 22));
+    CHECK((!leaves[k].done || bound.value(near[k], leaves[k].decisions) >= made.goal(target)));
+    if (k == 0) continue;
+    whole += differences(own[k], own[k - 1]);
+    less += differences(idle[k], idle[k - 1]);
+    least_of_all += differences(near[k], near[k - 1]);
+  }
+  CHECK(less < whole / 2);
+  CHECK(least_of_all <= less);
 }
