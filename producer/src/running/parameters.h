@@ -172,7 +172,7 @@ struct LeafParameters {
   // From so many leaves on there are 2 and 4 anchors, with two chains each: where chains meet costs a whole
   // leaf.
   int leaves_of_two_anchors = 24, leaves_of_four_anchors = 128;
-  double near_work = 3;    // of their programs, for 1 of the search: a third of its time on four threads
+  double near_work = 1;    // of their programs, for 1 of the search: most of whose time goes to other things
   double tours_work = 10;  // for the square of the nodes, beside that of the tree's programs
   double first_penalty = 0.016, most_penalty = 0.5, least_penalty = 0.001;  // of a change
   double penalty_step = 3, least_step = 2;                                  // between penalties

@@ -5,11 +5,11 @@
 // bound, less the penalty for each unit of a change, and most numbers stay as they are. Source: M. Held and
 // R. Karp, The traveling-salesman problem and minimum spanning trees (1970), whose bound it is.
 //
-// All these programs together have a limit of work: 3 times the work of the tree's programs, and 30 times the
-// square of the nodes, since the search for tours takes time too. So files are the same by any number of
-// threads. Leaves come in the order of a chain, which has a part of the work. Until numbers of a leaf reach
-// the goal it may take all that is left of it. Nearer ones are looked for until its even share is used: what
-// was left before, divided by the leaves left. Where no work is left, leaves keep the numbers that they have.
+// All these programs together have a limit of work: that of the tree's programs, and 10 times the square of
+// the nodes, since the search for tours takes time too. So files are the same by any number of threads.
+// Leaves come in the order of a chain, which has a part of the work. Until numbers of a leaf reach the goal
+// it may take all that is left of it. Nearer ones are looked for until its even share is used: what was left
+// before, divided by the leaves left. Where no work is left, leaves keep the numbers that they have.
 #pragma once
 #include "running/clock.h"
 #include "tree/case_solver.h"
