@@ -109,7 +109,7 @@ TEST_CASE("degrees don't fall short where clusters are far apart") {
   Matrix weights(128);
   for (int i = 0; i < 128; i++) {
     for (int j = 0; j < i; j++) {
-      const double x = i / 64 * 100000 + i % 8 - j / 64 * 100000 - j % 8, y = i / 8 % 8 - j / 8 % 8;
+      const int x = i / 64 * 100000 + i % 8 - j / 64 * 100000 - j % 8, y = i / 8 % 8 - j / 8 % 8;
       weights.set(i, j, std::lround(std::hypot(x, y)));
     }
   }
