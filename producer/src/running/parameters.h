@@ -169,7 +169,7 @@ struct LeafParameters {
   int steps = 20, many_steps = 60;  // along trees; many where the surplus is below the next one
   double small_surplus = 0.02;
   int most_near_nodes = 1000;  // of which numbers are found near those of the leaf before
-  // From so many leaves on there are 2 and 4 anchors, with two chains each: where chains meet costs a whole
+  // From this many leaves on there are 2 and 4 anchors, with two chains each: where chains meet costs a whole
   // leaf.
   int leaves_of_two_anchors = 24, leaves_of_four_anchors = 128;
   double near_work = 1;    // of their programs, for 1 of the search: most of whose time goes to other things
