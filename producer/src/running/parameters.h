@@ -91,7 +91,8 @@ struct CuttingParameters {
   std::size_t root_window = 12, case_window = 4;  // rounds whose gain is looked at
   double root_gain = 0.02, case_gain = 0.06;      // parts of the gap; less is a stall
   double large_gap = 0.0025;                 // of the length, from which families come before further climbs
-  double fair_gap = 0.0004, fair_tree = 20;  // and leaves, from which the root has families for short
+  double fair_gap = 0.0004, fair_tree = 20;  // and leaves, from which the root has families for short,
+  int fair_nodes = 600;                      // where the instance has as many: leaves of fewer are short
   double large_tree = 300;                   // leaves, from which families are looked for in the tree
   double very_large_tree = 1000;             // and at the root for long
   std::size_t short_family_window = 4, long_family_window = 8;
@@ -168,7 +169,8 @@ struct LeafParameters {
   double least_surplus = 0.005;     // of the program's value over the goal, with which numbers are tried
   int steps = 20, many_steps = 60;  // along trees; many where the surplus is below the next one
   double small_surplus = 0.02;
-  int most_near_nodes = 1000;  // of which numbers are found near those of the leaf before
+  int most_near_nodes = 1000;   // of which numbers are found near those of the leaf before
+  int fewest_near_leaves = 24;  // of a whole tree, since the file of a smaller one is short
   // From this many leaves on there are 2 and 4 anchors, with two chains each: where chains meet costs a whole
   // leaf.
   int leaves_of_two_anchors = 24, leaves_of_four_anchors = 128;

@@ -260,7 +260,8 @@ bool CaseSolver::wants_families() {
   const double leaves = branching_.leaves();
   large_tree_ = leaves >= kCutting.large_tree;
   return leaves >= kCutting.very_large_tree ||
-         (leaves >= kCutting.fair_tree && is_large(gap(), kCutting.fair_gap));
+         (leaves >= kCutting.fair_tree && problem_.instance.nodes() >= kCutting.fair_nodes &&
+          is_large(gap(), kCutting.fair_gap));
 }
 
 // A gap that stays large may be the tour's too.

@@ -45,6 +45,7 @@ class NearChain {
     return differences(nearer, last) < differences(near, last) ? nearer : near;
   }
   std::optional<Numbers> by_program(const ListedLeaf& leaf, const Numbers& last) {
+    if (work_ <= 0) return std::nullopt;
     if (!program_) program_.emplace(task_.problem, task_.pool, *bound_, task_.clock, part_of_time_);
     const Work before = program_->work();
     std::optional<Numbers> found = program_->find(

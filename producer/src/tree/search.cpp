@@ -355,17 +355,22 @@ void Search::coarsen() {
   });
 }
 
-void Search::list_steps() {
+// For numbers near each other. A part of a tree doesn't know how many leaves the others have.
+Work Search::near_work(std::size_t leaves) const {
+  if (!problem_.start.tree && leaves < static_cast<std::size_t>(plan_.fewest_near_leaves)) return 0;
   const double nodes = problem_.instance.nodes();
   const double work = static_cast<double>(work_) + kLeaves.tours_work * nodes * nodes;
+  return static_cast<Work>(plan_.near_work * work);
+}
+
+void Search::list_steps() {
   std::vector<ListedLeaf> leaves;
   tree_.list([](const Pair&) {},
              [&](int place) {
                leaves.push_back({&tree_[place].numbers, decisions_of(place), tree_[place].done});
              });
   std::vector<Numbers> numbers = near_numbers(
-      {problem_, pool_, clock_, goal_.target, grid_.value_or(1), static_cast<Work>(plan_.near_work * work)},
-      leaves);
+      {problem_, pool_, clock_, goal_.target, grid_.value_or(1), near_work(leaves.size())}, leaves);
   leaves_ = 0;
   Numbers last;
   const auto add = [&](int) {

@@ -27,6 +27,7 @@ struct Plan {
   std::size_t split = 0;                 // it ends where as many are open; 0 for never
   Extent limits = kLimits;               // of the certificate
   double near_work = kLeaves.near_work;  // of near numbers, for 1 of the search
+  int fewest_near_leaves = kLeaves.fewest_near_leaves;
 };
 
 class Search {
@@ -80,6 +81,7 @@ class Search {
   CaseSolver& own_solver();
   void coarsen();
   void drop_surplus();
+  Work near_work(std::size_t leaves) const;
   void list_steps();
   bool add_leaf(const ListedLeaf& leaf, Numbers numbers, Numbers& last);
   Standing standing() const;

@@ -172,7 +172,7 @@ TEST_CASE("near numbers take no more work than they may") {
   for (const double near_work : {0.0, 0.1, 0.3, 1.0, 1000.0}) {
     const Clock clock(0);
     Progress progress;
-    Search search(instance, start, clock, progress, {.near_work = near_work});
+    Search search(instance, start, clock, progress, {.near_work = near_work, .fewest_near_leaves = 2});
     search.run();
     REQUIRE(search.leaves() > 1);
     CHECK(search.open_leaves().empty());
