@@ -168,19 +168,22 @@ TEST_CASE("near numbers take no more work than they may") {
   const Instance instance{random_distances(100, random), {}, false};
   Start start;
   start.tour = in_order(100);
-  std::vector<std::size_t> differences;
-  for (const double near_work : {0.0, 0.1, 0.3, 1.0, 1000.0}) {
+  const auto made = [&](const Plan& plan) {
     const Clock clock(0);
     Progress progress;
-    Search search(instance, start, clock, progress, {.near_work = near_work, .fewest_near_leaves = 2});
+    Search search(instance, start, clock, progress, plan);
     search.run();
-    REQUIRE(search.leaves() > 1);
+    REQUIRE(search.leaves() == 2);
     CHECK(search.open_leaves().empty());
     CHECK(search.bound() == length_of(instance.weights, search.tour()));
-    differences.push_back(extent_of(search.certificate()).differences);
-  }
+    return extent_of(search.certificate()).differences;
+  };
+  std::vector<std::size_t> differences;
+  for (const double near_work : {0.0, 0.1, 0.3, 1.0, 1000.0})
+    differences.push_back(made({.near_work = near_work, .fewest_near_leaves = 2}));
   CHECK(differences.back() < differences.front());
   CHECK(*std::max_element(differences.begin(), differences.end()) == differences.front());
+  CHECK(made({.near_work = 1000, .fewest_near_leaves = 3}) == differences.front());
 }
 
 // Cuts have the same numbers in a pool that takes them from another one.
