@@ -389,6 +389,24 @@ def short_numbers():
     need(scale < 840, f"the scale is {scale}")
 
 
+def short_file():
+    """Linear programs make a shorter file, the same by any number of threads, and also of a finished certificate."""
+    write_points("a.tsp", "EUC_2D", 200, random.Random(6), side=10**6)
+    need_optimal("a.tsp", "--seconds", "0")
+    long = Path("out.branches").read_bytes()
+    texts = []
+    for count in ("1", "4"):
+        need_optimal("a.tsp", "--seconds", "0", "--short-file", "--threads", count)
+        texts.append(Path("out.branches").read_bytes())
+    need(texts[0] == texts[1], "another number of threads gives other bytes")
+    need(len(texts[0]) < 0.95 * len(long), f"{len(texts[0])} bytes in place of {len(long)}")
+    Path("long.branches").write_bytes(long)
+    certify("a.tsp", "out.tour", "--tree", "long.branches", "-o", "anew.branches", "--seconds", "0", "--short-file")
+    need("optimal" in judged("a.tsp", certificate="anew.branches"), "the shorter certificate isn't optimal")
+    size = Path("anew.branches").stat().st_size
+    need(size < 0.95 * len(long), f"the tree has {size} bytes, before {len(long)}")
+
+
 def need_bounded(instance, least, *words):
     """A certificate without a matrix, whose bound is at least this part of the length. The bound."""
     said = certify(instance, "-o", "out.branches", "--tour-out", "out.tour", *words)
@@ -735,7 +753,7 @@ def installing():
 
 CASES = [weights, fixed, small, matrix, atsp_small, atsp, atsp_named_tour, named_tour, upper, time_limit, same_bytes,
          threads, split, resume, parallel, dask,
-         short_numbers, sparse, large, interrupt, rounding, overwriting, families, limits, join_limits, log, bad_input,
+         short_numbers, short_file, sparse, large, interrupt, rounding, overwriting, families, limits, join_limits, log, bad_input,
          finding_tsp, installing]
 
 

@@ -57,7 +57,8 @@ int certify_instance(const Options& options) {
     start.tour = given;
   }
   start.tree = std::move(tree);
-  Search search(instance, start, clock, progress, {options.window, options.split, options.limits});
+  Search search(instance, start, clock, progress,
+                {options.window, options.split, options.limits, options.short_file});
   search.run();
   write_certificate(options.certificate, search.certificate(), options.split > 0, options.limits);
   if (options.tour_out) write_tour(*options.tour_out, search.tour());

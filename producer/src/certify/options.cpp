@@ -61,6 +61,9 @@ void declare(CLI::App& app, Options& options) {
       ->type_name("W")
       ->check(CLI::PositiveNumber)
       ->capture_default_str();
+  app.add_flag(
+      "--short-file", options.short_file,
+      "a shorter file of a TSP, by numbers of leaves near each other: it may take longer than the tree");
   // of tests: an empty group is left out of the help
   app.add_flag("--sparse", options.sparse, "without a matrix, as more than 5,000 points")->group("");
   app.add_option_function<std::vector<std::size_t>>(

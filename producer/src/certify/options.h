@@ -19,6 +19,7 @@ struct Options : CommonOptions {
   bool sparse = false;                // as instances of more nodes, without a matrix
   int threads = 0;                    // 0 for one by processor
   int window = kTree.window;          // cases that are begun and not ended
+  bool short_file = false;            // linear programs find numbers of leaves near each other
   std::size_t split = 0;              // ends where as many cases are open
   std::optional<std::string> tree{};  // a certificate that is gone on with
   std::optional<int> leaf{};          // of it alone

@@ -169,13 +169,9 @@ struct LeafParameters {
   double least_surplus = 0.005;     // of the program's value over the goal, with which numbers are tried
   int steps = 20, many_steps = 60;  // along trees; many where the surplus is below the next one
   double small_surplus = 0.02;
-  int most_near_nodes = 1000;   // of which numbers are found near those of the leaf before
-  int fewest_near_leaves = 24;  // of a whole tree, since the file of a smaller one is short
   // From this many leaves on there are 2 and 4 anchors, with two chains each: where chains meet costs a whole
   // leaf.
   int leaves_of_two_anchors = 24, leaves_of_four_anchors = 128;
-  double near_work = 1;    // of their programs, for 1 of the search: most of whose time goes to other things
-  double tours_work = 10;  // for the square of the nodes, beside that of the tree's programs
   double first_penalty = 0.016, most_penalty = 0.5, least_penalty = 0.001;  // of a change
   double penalty_step = 3, least_step = 2;                                  // between penalties
   int near_rounds = 40;         // of edges and sets of such a program

@@ -358,7 +358,6 @@ Outcome CaseSolver::solve(const Case& here, const Note& note) {
   outcome.large_tree = large_tree_;
   outcome.shift = made_->shift();
   outcome.rows = rows();
-  outcome.work = relaxation_.work();
   note_ = nullptr;
   return outcome;
 }

@@ -90,7 +90,6 @@ struct Outcome {
   double gap = 0;
   std::optional<Weight> shift{};
   Rows rows{};
-  Work work = 0;  // of its linear programs
 };
 
 class CaseSolver {

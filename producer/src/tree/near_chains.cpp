@@ -11,25 +11,21 @@
 
 namespace certify {
 namespace {
-// A chain at work. It has a bound, a linear program and a part of the work of its own.
+// A chain at work. It has a bound and a linear program of its own.
 class NearChain {
  public:
   // Linear programs take time until this part of the clock's is over.
-  NearChain(const NearTask& task, double part_of_time, Work work, int leaves)
+  NearChain(const NearTask& task, double part_of_time)
       : task_(task),
         part_of_time_(part_of_time),
         bound_(bound_for(task.problem.instance, task.pool, task.problem.scale)),
-        made_(*bound_, task.pool, task.problem.instance.directed),
-        work_(work),
-        leaves_(leaves) {
+        made_(*bound_, task.pool, task.problem.instance.directed) {
     bound_->add_likely(task.problem.edges);
   }
   // The numbers of the next leaf.
   Numbers next(const ListedLeaf& leaf, const Numbers& last) {
     if (!leaf.done || last.potentials.empty() || task_.clock.over()) return *leaf.own;
-    Numbers numbers = near(leaf, last);
-    leaves_--;
-    return numbers;
+    return near(leaf, last);
   }
 
  private:
@@ -37,21 +33,13 @@ class NearChain {
     if (bound_->reaches(last, leaf.decisions, made_.goal(task_.target))) return last;
     made_.set_last(last);
     Numbers near = made_.near_last(*leaf.own, leaf.decisions, task_.target);
-    const Instance& instance = task_.problem.instance;
-    if (instance.directed || instance.nodes() > kLeaves.most_near_nodes) return near;
-    const std::optional<Numbers> found = by_program(leaf, last);
+    if (!task_.by_programs || task_.problem.instance.directed) return near;
+    if (!program_) program_.emplace(task_.problem, task_.pool, *bound_, task_.clock, part_of_time_);
+    const std::optional<Numbers> found =
+        program_->find({last, *leaf.own, leaf.decisions, made_.goal(task_.target), task_.grid});
     if (!found) return near;
     Numbers nearer = made_.near_last(*found, leaf.decisions, task_.target);
     return differences(nearer, last) < differences(near, last) ? nearer : near;
-  }
-  std::optional<Numbers> by_program(const ListedLeaf& leaf, const Numbers& last) {
-    if (work_ <= 0) return std::nullopt;
-    if (!program_) program_.emplace(task_.problem, task_.pool, *bound_, task_.clock, part_of_time_);
-    const Work before = program_->work();
-    std::optional<Numbers> found = program_->find(
-        {last, *leaf.own, leaf.decisions, made_.goal(task_.target), task_.grid, work_, work_ / leaves_});
-    work_ -= program_->work() - before;
-    return found;
   }
 
   const NearTask& task_;
@@ -59,8 +47,6 @@ class NearChain {
   const std::unique_ptr<ExactBound> bound_;
   Leaves made_;
   std::optional<NearProgram> program_;
-  Work work_;   // that is left
-  int leaves_;  // that may get near numbers still
 };
 }  // namespace
 
@@ -80,26 +66,16 @@ std::vector<Chain> chains_of(int leaves) {
   return chains;
 }
 
-int done_in(const Chain& chain, const std::vector<ListedLeaf>& leaves) {
-  return static_cast<int>(
-      std::count_if(chain.begin() + 1, chain.end(), [&](int leaf) { return leaves[leaf].done; }));
-}
-
 // Linear programs take half of the time that is left at most, since other leaves need some too.
 std::vector<Numbers> near_numbers(const NearTask& task, const std::vector<ListedLeaf>& leaves) {
   const std::vector<Chain> chains = chains_of(static_cast<int>(leaves.size()));
   const double part_of_time = (1 + task.clock.used()) / 2;
-  int done = 0;
   std::vector<Numbers> numbers(leaves.size());
-  for (const Chain& chain : chains) {
-    done += done_in(chain, leaves);
-    numbers[chain[0]] = *leaves[chain[0]].own;
-  }
+  for (const Chain& chain : chains) numbers[chain[0]] = *leaves[chain[0]].own;
   for_each_at_once(chains.size(), [&](std::size_t k) {
     const Chain& chain = chains[k];
     if (chain.size() == 1) return;
-    const int own = done_in(chain, leaves);
-    NearChain links(task, part_of_time, task.work / std::max(done, 1) * own, own);
+    NearChain links(task, part_of_time);
     for (std::size_t place = 1; place < chain.size(); place++)
       numbers[chain[place]] = links.next(leaves[chain[place]], numbers[chain[place - 1]]);
   });

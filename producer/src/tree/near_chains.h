@@ -24,8 +24,6 @@ struct ListedLeaf {
 using Chain = std::vector<int>;
 // Each of as many leaves is the anchor of two chains, or follows in one of them.
 std::vector<Chain> chains_of(int leaves);
-// How many that follow in a chain are done.
-int done_in(const Chain& chain, const std::vector<ListedLeaf>& leaves);
 
 // What chains have in common.
 struct NearTask {
@@ -33,8 +31,8 @@ struct NearTask {
   const CutPool& pool;
   const Clock& clock;
   Weight target;
-  Weight grid;  // changes are multiples of it
-  Work work;    // of all linear programs at most; each chain has a part by how many leaves of it are done
+  Weight grid;       // changes are multiples of it
+  bool by_programs;  // linear programs find nearer numbers, of a TSP
 };
 // The numbers of all leaves.
 std::vector<Numbers> near_numbers(const NearTask& task, const std::vector<ListedLeaf>& leaves);

@@ -3,7 +3,6 @@
 #include <algorithm>
 #include <cmath>
 #include <iterator>
-#include <limits>
 #include <numeric>
 #include <tuple>
 #include <utility>
@@ -18,7 +17,6 @@ namespace {
 constexpr double kTiny = 1e-6;
 constexpr double kTie = 1e-3;  // of reduced costs
 constexpr double kGap = 1e-2;  // of costs, between the levels of the first sets
-constexpr Work kMostIterations = std::numeric_limits<int>::max();
 
 bool has(const NodeSet& set, int node) { return std::binary_search(set.begin(), set.end(), node); }
 
@@ -223,10 +221,7 @@ void NearProgram::set_penalty(double penalty) {
 // By the primal method where edges have joined, since the last solution keeps all rows.
 bool NearProgram::solve(bool by_primal) {
   const auto ends = [&](auto method) {
-    const Work iterations = (most_work_ - work_) / program_.numberRows() + 1;
-    program_.setMaximumIterations(static_cast<int>(std::min<Work>(iterations, kMostIterations)));
     (program_.*method)(0, 0);
-    work_ += work_of(program_);
     return program_.status() == 0;
   };
   return (!by_primal && ends(&ClpSimplex::dual)) || (!is_over() && ends(&ClpSimplex::primal));
@@ -359,18 +354,15 @@ std::optional<Numbers> NearProgram::reach(double penalty, const NearLeaf& leaf) 
   return std::nullopt;
 }
 
-// The larger the penalty, the nearer the numbers. Where a share ends before a penalty was tried, the next
-// leaf begins with it.
+// The larger the penalty, the nearer the numbers.
 std::optional<Numbers> NearProgram::find(const NearLeaf& leaf) {
-  const Work before = work_;
-  most_work_ = before + leaf.most;
   if (is_over()) return std::nullopt;
   drop_slack_rows(leaf);
   last_ = leaf.last;
   decide(leaf.decisions);
   for (const Numbers* numbers : {&leaf.last, &leaf.own}) add_cuts(*numbers);
   set_costs();
-  if (work_ == 0) add_first_sets();
+  if (!std::exchange(begun_, true)) add_first_sets();
   const double first = penalty_;
   std::optional<Numbers> near = reach(penalty_, leaf);
   double above = kLeaves.most_penalty;  // one that isn't reached, or isn't tried
@@ -383,17 +375,14 @@ std::optional<Numbers> NearProgram::find(const NearLeaf& leaf) {
     penalty_ = first;
     return std::nullopt;
   }
-  most_work_ = before + leaf.share;
-  while (penalty_ * kLeaves.least_step < above) {
+  while (penalty_ * kLeaves.least_step < above && !is_over()) {
     const double trial = std::min(penalty_ * kLeaves.penalty_step, std::sqrt(penalty_ * above));
-    std::optional<Numbers> nearer = reach(trial, leaf);
-    if (!nearer && !is_over()) {
+    if (std::optional<Numbers> nearer = reach(trial, leaf)) {
+      near = std::move(nearer);
+      penalty_ = trial;
+    } else {
       above = trial;
-      continue;
     }
-    penalty_ = trial;
-    if (!nearer) break;
-    near = std::move(nearer);
   }
   return near;
 }

@@ -4,16 +4,9 @@
 // what it asks for by a penalty, at no cost. So the dual finds changes of the last numbers with the best
 // bound, less the penalty for each unit of a change, and most numbers stay as they are. Source: M. Held and
 // R. Karp, The traveling-salesman problem and minimum spanning trees (1970), whose bound it is.
-//
-// All these programs together have a limit of work: that of the tree's programs, and 10 times the square of
-// the nodes, since the search for tours takes time too. So files are the same by any number of threads.
-// Leaves come in the order of a chain, which has a part of the work. Until numbers of a leaf reach the goal
-// it may take all that is left of it. Nearer ones are looked for until its even share is used: what was left
-// before, divided by the leaves left. Where no work is left, leaves keep the numbers that they have.
 #pragma once
 #include "running/clock.h"
 #include "tree/case_solver.h"
-#include "tree/work.h"
 
 namespace certify {
 // What numbers are found for.
@@ -23,8 +16,6 @@ struct NearLeaf {
   const std::vector<Decision>& decisions;
   Value goal;
   Weight grid;  // changes are multiples of it
-  Work most;    // that the programs may take
-  Work share;   // from which on no nearer numbers are looked for
 };
 
 class NearProgram {
@@ -34,8 +25,6 @@ class NearProgram {
               double part_of_time);
   // Numbers near the last ones that reach the goal, or nothing where none were found.
   std::optional<Numbers> find(const NearLeaf& leaf);
-  // What the programs of all leaves took.
-  Work work() const { return work_; }
 
  private:
   // What a row asks for, behind those of the nodes: of a cut, or that a set has no more edges than a tree.
@@ -60,7 +49,7 @@ class NearProgram {
   void set_costs();
   void decide(const std::vector<Decision>& decisions);
   void set_penalty(double penalty);
-  bool is_over() const { return work_ >= most_work_ || clock_.over(part_of_time_); }
+  bool is_over() const { return clock_.over(part_of_time_); }
   bool solve(bool by_primal);
   std::vector<double> reduced_costs() const;
   Graph support() const;
@@ -85,6 +74,6 @@ class NearProgram {
   Numbers last_{};
   std::vector<Pair> decided_;
   double penalty_;  // that is tried first
-  Work work_ = 0, most_work_ = 0;
+  bool begun_ = false;
 };
 }  // namespace certify

@@ -3,7 +3,6 @@
 #include <algorithm>
 #include <array>
 #include <cmath>
-#include <numeric>
 
 #include "running/parameters.h"
 #include "running/threads.h"
@@ -29,7 +28,6 @@ class Probe {
   double objective(int column, double value) {
     program_.setColumnBounds(column, value, value);
     program_.dual(0);
-    work_ += work_of(program_);
     const double reached = program_.objectiveValue();
     program_.setColumnBounds(column, 0, 1);
     std::copy(status_.begin(), status_.end(), program_.statusArray());
@@ -37,8 +35,6 @@ class Probe {
       std::copy(saved_[k].begin(), saved_[k].end(), places()[k]);
     return reached;
   }
-  // What all trials took.
-  Work work() const { return work_; }
 
  private:
   std::array<double*, 4> places() {
@@ -48,7 +44,6 @@ class Probe {
   ClpSimplex program_;
   std::vector<unsigned char> status_;
   std::vector<std::vector<double>> saved_;
-  Work work_ = 0;
 };
 }  // namespace
 
@@ -86,7 +81,6 @@ void Relaxation::reset() {
   cuts_.clear();
   ages_.clear();
   row_of_.clear();
-  work_ = 0;
   begin();
 }
 
@@ -367,15 +361,10 @@ void Relaxation::restore(const Basis& basis) {
 
 void Relaxation::optimize() {
   program_.dual(0);
-  work_ += work_of(program_);
-  if (program_.status() != 0) {
-    program_.primal(0);
-    work_ += work_of(program_);
-  }
+  if (program_.status() != 0) program_.primal(0);
   if (program_.status() != 0) {
     program_.allSlackBasis();
     program_.dual(0);
-    work_ += work_of(program_);
   }
   value_ = program_.objectiveValue() * unit_ + offset();
 }
@@ -513,7 +502,6 @@ void Relaxation::take_margin(double margin) {
   for (const auto& [place, cost] : used) program_.setObjectiveCoefficient(place, cost + margin / unit_);
   do {
     program_.primal(0);
-    work_ += work_of(program_);
   } while (program_.status() == 0 && price() > 0);
   for (const auto& [place, cost] : used) program_.setObjectiveCoefficient(place, cost);
 }
@@ -521,17 +509,15 @@ void Relaxation::take_margin(double margin) {
 std::vector<double> Relaxation::gains(const std::vector<Fixing>& fixings, int iterations) const {
   std::vector<double> gains(fixings.size());
   edge_weights_.frozen = true;
-  std::vector<Work> works((fixings.size() + kFixingsOfCopy - 1) / kFixingsOfCopy);
-  for_each_at_once(works.size(), [&](std::size_t copy) {
+  const std::size_t copies = (fixings.size() + kFixingsOfCopy - 1) / kFixingsOfCopy;
+  for_each_at_once(copies, [&](std::size_t copy) {
     Probe probe(program_, iterations);
     const std::size_t last = std::min(fixings.size(), (copy + 1) * kFixingsOfCopy);
     for (std::size_t k = copy * kFixingsOfCopy; k < last; k++) {
       const double objective = probe.objective(fixings[k].column + kElastic, fixings[k].value);
       gains[k] = std::max(0.0, objective * unit_ + offset() - value_);
     }
-    works[copy] = probe.work();
   });
-  work_ += std::accumulate(works.begin(), works.end(), Work{0});
   edge_weights_.frozen = false;
   return gains;
 }

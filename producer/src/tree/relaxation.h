@@ -10,7 +10,6 @@
 #include "cuts/cut_pool.h"
 #include "reading/instance.h"
 #include "tree/steepest_edge.h"
-#include "tree/work.h"
 
 namespace certify {
 // A pair of nodes that is used, or isn't.
@@ -74,8 +73,6 @@ class Relaxation {
   // What the value gains by each of these, with at most as many dual iterations from the solution at hand.
   // They are tried at once, on copies of the program.
   std::vector<double> gains(const std::vector<Fixing>& fixings, int iterations) const;
-  // What all solutions took since the program was new, with those of gains().
-  Work work() const { return work_; }
 
  private:
   // The program takes the weights less the least one. A tour has as many edges as nodes.
@@ -121,6 +118,5 @@ class Relaxation {
   std::vector<double> solution_, node_duals_, cut_duals_;
   Graph support_;
   double value_ = 0;
-  mutable Work work_ = 0;  // gains() adds to it
 };
 }  // namespace certify

@@ -191,7 +191,6 @@ void Search::go_on(int place, const Outcome& outcome) {
 void Search::take(int place, Outcome& outcome) {
   renumber(outcome);
   rows_ = outcome.rows;
-  work_ += outcome.work;
   const Weight length = outcome.tour ? length_of(problem_.instance.weights, *outcome.tour) : goal_.length;
   const bool shorter = length < goal_.length;
   if (shorter) goal_ = {*outcome.tour, length, std::min(goal_.target, length)};
@@ -355,22 +354,14 @@ void Search::coarsen() {
   });
 }
 
-// For numbers near each other. A part of a tree doesn't know how many leaves the others have.
-Work Search::near_work(std::size_t leaves) const {
-  if (!problem_.start.tree && leaves < static_cast<std::size_t>(plan_.fewest_near_leaves)) return 0;
-  const double nodes = problem_.instance.nodes();
-  const double work = static_cast<double>(work_) + kLeaves.tours_work * nodes * nodes;
-  return static_cast<Work>(plan_.near_work * work);
-}
-
 void Search::list_steps() {
   std::vector<ListedLeaf> leaves;
   tree_.list([](const Pair&) {},
              [&](int place) {
                leaves.push_back({&tree_[place].numbers, decisions_of(place), tree_[place].done});
              });
-  std::vector<Numbers> numbers = near_numbers(
-      {problem_, pool_, clock_, goal_.target, grid_.value_or(1), near_work(leaves.size())}, leaves);
+  std::vector<Numbers> numbers =
+      near_numbers({problem_, pool_, clock_, goal_.target, grid_.value_or(1), plan_.short_file}, leaves);
   leaves_ = 0;
   Numbers last;
   const auto add = [&](int) {

@@ -23,11 +23,10 @@ bool ends_in_time(double done, double begun, double used);
 
 // How a search goes about its cases.
 struct Plan {
-  int window = kTree.window;             // as many are begun and not ended at most
-  std::size_t split = 0;                 // it ends where as many are open; 0 for never
-  Extent limits = kLimits;               // of the certificate
-  double near_work = kLeaves.near_work;  // of near numbers, for 1 of the search
-  int fewest_near_leaves = kLeaves.fewest_near_leaves;
+  int window = kTree.window;  // as many are begun and not ended at most
+  std::size_t split = 0;      // it ends where as many are open; 0 for never
+  Extent limits = kLimits;    // of the certificate
+  bool short_file = false;    // linear programs find numbers of leaves near each other
 };
 
 class Search {
@@ -81,7 +80,6 @@ class Search {
   CaseSolver& own_solver();
   void coarsen();
   void drop_surplus();
-  Work near_work(std::size_t leaves) const;
   void list_steps();
   bool add_leaf(const ListedLeaf& leaf, Numbers numbers, Numbers& last);
   Standing standing() const;
@@ -110,7 +108,6 @@ class Search {
   Value least_;
   int leaves_ = 0;
   std::size_t differences_ = 0;
-  Work work_ = 0;  // of the linear programs of all cases
   bool limited_ = false;
   bool large_tree_ = false;  // the tree seems to be large, so that families are worth their time
   double root_gap_ = 0;

@@ -81,8 +81,7 @@ TEST_CASE("numbers become multiples of a grid") {
 }
 
 // A leaf whose own numbers differ from the last ones at most nodes. The last ones with fewer changes reach
-// most of what it gains. With less work there are numbers too, or none. A solution may pass the limit by one
-// iteration, of at most 200 rows.
+// most of what it gains. With less time there are numbers too, or none.
 TEST_CASE("numbers are near those of the leaf before") {
   Random random(5);
   for (int trial = 0; trial < 5; trial++) {
@@ -107,22 +106,20 @@ TEST_CASE("numbers are near those of the leaf before") {
     const Value goal = before + (most - before) * 4 / 5;
     const Clock clock(0);
     NearProgram program(problem, pool, bound, clock, 1);
-    CHECK(!program.find({last, own, decisions, goal, 2, 0, 0}));
-    CHECK(program.work() == 0);
-    const Work enough = 1000000000;
-    const auto near = program.find({last, own, decisions, goal, 2, enough, enough});
+    const auto near = program.find({last, own, decisions, goal, 2});
     REQUIRE(near);
     CHECK(bound.value(*near, decisions) >= goal);
     CHECK(differences(*near, last) < differences(own, last));
     for (int v = 0; v < 40; v++) CHECK((near->potentials[v] - last.potentials[v]) % 2 == 0);
-    CHECK(!program.find(
-        {last, own, decisions, leaves.goal(1000000), 1, enough, enough}));  // no tour is as long
-    for (Work most = 100; most < 1000000; most *= 3) {
-      NearProgram limited(problem, pool, bound, clock, 1);
-      const auto some = limited.find({last, own, decisions, goal, 2, most, 0});
-      CHECK(limited.work() <= most + 200);
+    CHECK(!program.find({last, own, decisions, leaves.goal(1000000), 1}));  // no tour is as long
+    for (double seconds = 0.0001; seconds < 0.1; seconds *= 3) {
+      const Clock ending(Clock::now() + seconds);
+      NearProgram limited(problem, pool, bound, ending, 1);
+      const auto some = limited.find({last, own, decisions, goal, 2});
       if (some) CHECK(bound.value(*some, decisions) >= goal);
     }
+    const Clock over(Clock::now() / 2);
+    CHECK(!NearProgram(problem, pool, bound, over, 1).find({last, own, decisions, goal, 2}));
   }
 }
 
@@ -170,14 +167,12 @@ TEST_CASE("leaves have numbers near those beside them") {
     leaves.push_back({nullptr, decisions, k != 3});
   }
   for (int k = 0; k < 30; k++) leaves[k].own = &own[k];
-  CHECK(done_in({7, 6, 5, 4, 3, 2, 1, 0}, leaves) == 6);
-  CHECK(done_in({3, 4, 5}, leaves) == 2);
   const Clock clock(0);
   const Weight target = least / problem.scale;
-  const auto made_near = [&](Work work) {
-    return near_numbers({problem, pool, clock, target, 1, work}, leaves);
+  const auto made_near = [&](bool by_programs) {
+    return near_numbers({problem, pool, clock, target, 1, by_programs}, leaves);
   };
-  const std::vector<Numbers> near = made_near(100000000), idle = made_near(0);
+  const std::vector<Numbers> near = made_near(true), idle = made_near(false);
   std::size_t whole = 0, less = 0, least_of_all = 0;
   for (int k = 0; k < 30; k++) {
     const bool kept = near[k].potentials == own[k].potentials;

@@ -162,28 +162,23 @@ TEST_CASE("a part takes the place of a leaf") {
   CHECK_THROWS(joined(tree, {part}));  // no part at all
 }
 
-// A tree of two leaves, by other limits of the work of near numbers. All leaves reach the length.
-TEST_CASE("near numbers take no more work than they may") {
+// A tree of two leaves. All leaves reach the length.
+TEST_CASE("a short file has fewer numbers that differ") {
   Random random(3);
   const Instance instance{random_distances(100, random), {}, false};
   Start start;
   start.tour = in_order(100);
-  const auto made = [&](const Plan& plan) {
+  const auto made = [&](bool short_file) {
     const Clock clock(0);
     Progress progress;
-    Search search(instance, start, clock, progress, plan);
+    Search search(instance, start, clock, progress, {.short_file = short_file});
     search.run();
     REQUIRE(search.leaves() == 2);
     CHECK(search.open_leaves().empty());
     CHECK(search.bound() == length_of(instance.weights, search.tour()));
     return extent_of(search.certificate()).differences;
   };
-  std::vector<std::size_t> differences;
-  for (const double near_work : {0.0, 0.1, 0.3, 1.0, 1000.0})
-    differences.push_back(made({.near_work = near_work, .fewest_near_leaves = 2}));
-  CHECK(differences.back() < differences.front());
-  CHECK(*std::max_element(differences.begin(), differences.end()) == differences.front());
-  CHECK(made({.near_work = 1000, .fewest_near_leaves = 3}) == differences.front());
+  CHECK(made(true) < made(false));
 }
 
 // Cuts have the same numbers in a pool that takes them from another one.
