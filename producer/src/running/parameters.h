@@ -74,8 +74,9 @@ struct Effort {
   int atoms = 0, chunks = 0;  // of families; 0 looks for none
   Reach reach{};
 };
-// Rounds are cheap at the root, and each later case gains from its cuts.
-inline constexpr Effort kRootEffort{.climbs = 400, .further_tours = 4};
+// Rounds are cheap at the root, and each later case gains from its cuts. Four threads take its four tours at
+// once: a fifth one would keep a single thread.
+inline constexpr Effort kRootEffort{.climbs = 400, .further_tours = 3};
 // A case has few rounds, and the pool has most of its cuts.
 inline constexpr Effort kCaseEffort{.climbs = 100, .least_violation = 0.02, .most_cuts = 100};
 // The last rounds of the root where the tree would be very large: what is missed here is missed in each leaf.
