@@ -75,7 +75,7 @@ struct Effort {
   Reach reach{};
 };
 // Rounds are cheap at the root, and each later case gains from its cuts. Four threads take its four tours at
-// once: a fifth one would keep a single thread.
+// once. With a fifth one three of them would wait for the last.
 inline constexpr Effort kRootEffort{.climbs = 400, .further_tours = 3};
 // A case has few rounds, and the pool has most of its cuts.
 inline constexpr Effort kCaseEffort{.climbs = 100, .least_violation = 0.02, .most_cuts = 100};
