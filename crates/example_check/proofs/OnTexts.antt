@@ -2,12 +2,12 @@
 use Rattle.std.proofs.Common.{◌≡◌, ℕ, List, [], ◌⊎◌, subst, sym}
 use Rattle.std.specs.Prelude.{Option, None, Some, IfSome, false}
 use Rattle.std.specs.Io.KnownBytes.{Appends}
-use Rattle.tsp_stream.specs.Turn.{Turn}
-use Rattle.tsp_stream.specs.Sink.{Sink, HasWritten}
-use Rattle.tsp_draft.specs.Fields.{Fields}
+use Rattle.tsp_io.specs.Turn.{Turn}
+use Rattle.tsp_io.specs.Sink.{Sink, HasWritten}
+use Rattle.tsp_file.specs.Fields.{Fields}
 use Rattle.tsp_text.specs.Text.{Spells}
 use Rattle.tsp_read.specs.Reads.{IsFile}
-use Rattle.tsp_task.specs.declared.certificate.Certificate.{Certificate}
+use Rattle.tsp_report.specs.declared.task.Certificate.{Certificate}
 use Rattle.tsp_judge.specs.CheckRun.{IsFileIn}
 use Rattle.tsp_judge.specs.Accepted.{IsAccepted, IsAcceptedTour, AreAcceptedRoutes}
 use Rattle.tsp_judge.specs.Yes.{SaysYes}

@@ -1,9 +1,9 @@
 -- The verdict on two texts in memory, and what the report on them means. For `verdict_on` (src/lib.rt) and `report_on`
 -- (src/report.rt).
 use Rattle.std.specs.Prelude.{ℕ, ◌⊎◌, List, None}
-use Rattle.tsp_draft.specs.Fields.{Fields}
+use Rattle.tsp_file.specs.Fields.{Fields}
 use Rattle.tsp_text.specs.Text.{Spells}
-use Rattle.tsp_task.specs.declared.verdict.Verdict.{Verdict}
+use Rattle.tsp_report.specs.declared.verdict.Verdict.{Verdict}
 use Rattle.tsp_verdict.specs.Tours.{IsTourVerdict}
 use Rattle.tsp_judge.specs.Accepted.{IsAcceptedTour, AreAcceptedRoutes}
 

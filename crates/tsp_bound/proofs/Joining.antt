@@ -1,5 +1,5 @@
 -- In a round each component is joined by its least link: the pairs stay a forest of least joins. For `join` in
--- src/joins.rt.
+-- src/rounds.rt.
 use Rattle.std.proofs.Common.{◌≡◌, ◌≢◌, ℕ, zero, suc, ◌<◌, ◌==◌, Bool, true, false, not, cond, List, [], ◌∷◌, ◌++◌, ℤ, ◌≤ℤ◌, ◌⊎◌, inl, inr, refl, ap, sym, ◌∙◌, subst, get_or, set}
 use Rattle.std.specs.List.{All}
 use Rattle.std.proofs.lemmas.Bool.{false≢true, eqb-true, eq-eqb, ne_eqb}
@@ -7,7 +7,7 @@ use Rattle.std.proofs.lemmas.List.Elements.{All-push, All-weaker}
 use Rattle.tsp_theory.specs.Tree.{crosses}
 use Rattle.tsp_theory.specs.Forest.{AreLeastJoins}
 use Rattle.tsp_theory.proofs.Forests.{joins_more}
-use Rattle.tsp_bound.specs.declared.link.Link.{Link}
+use Rattle.tsp_bound.specs.declared.search.Link.{Link}
 use Rattle.tsp_bound.specs.states.Components.{IsBelow, IsForest, IsLeastOf}
 
 -- both ends of a pair have one label, or two labels that this round has met, which have the same new label

@@ -1,4 +1,7 @@
 -- The files of lemmas of this crate. Crates above may import them.
+pub mod Outside
+pub mod GrowthStates
+pub mod Additions
 pub mod Boxed
 pub mod Joining
 pub mod Known

@@ -5,7 +5,7 @@ use Rattle.std.proofs.lemmas.Bool.{cases_eq, cases_lt}
 use Rattle.std.proofs.lemmas.Int.{ints, to_z-of_z}
 use Rattle.std.proofs.lemmas.List.{get_or-set_same, get_or-set_other, get_or-take, get_or-drop}
 use Rattle.tsp_theory.specs.states.Nearest.{least_at}
-use Rattle.tsp_bound.specs.declared.link.Link.{Link}
+use Rattle.tsp_bound.specs.declared.search.Link.{Link}
 use Rattle.tsp_bound.specs.states.Components.{IsKeptLink, IsOffered}
 use Rattle.tsp_bound.specs.states.Lists.{kept_at, empty_link, IsOwnLink, IsKnown, IsPut, IsTaken, IsSeen, AreOffered}
 use Rattle.tsp_bound.proofs.Known.{IsReached}

@@ -1,11 +1,11 @@
 -- The nearest node of another component, where multipliers lower the weights to listed nodes. For `Placed::lowered` and
--- `Placed::nearest` in src/placed.rt.
+-- `Placed::nearest` in src/search.rt.
 use Rattle.std.proofs.Common.{◌≡◌, ◌≢◌, ℕ, zero, suc, ◌+◌, ◌<◌, Bool, true, List, [], ◌∷◌, length, ℤ, ◌≤ℤ◌, ◌⊎◌, inl, inr, arith, ap, sym, subst, ◌∙◌}
 use Rattle.std.specs.Int.{w64}
 use Rattle.std.specs.Prelude.{slice_index_or, FitsSigned}
 use Rattle.std.proofs.lemmas.Bool.{cases_eq}
 use Rattle.std.proofs.lemmas.Int.{ints}
-use Rattle.tsp_bound.specs.declared.nearest.Best.{Best}
+use Rattle.tsp_bound.specs.declared.search.Best.{Best}
 use Rattle.tsp_bound.specs.states.Boxes.{node_of, IsFound, IsBest, IsSearched, no_best}
 use Rattle.tsp_bound.specs.states.NodeNumbers.{node_in}
 use Rattle.tsp_theory.specs.Tree.{IsInner}

@@ -1,5 +1,5 @@
 -- A least tree that is found over the places of an order is one over its nodes, with the same weight. For `grow` and
--- `weighed` in src/part.rt and others.
+-- `weighed` in src/rounds.rt and others.
 use Rattle.std.proofs.Common.{◌≡◌, ℕ, ◌+◌, ◌*◌, ◌^◌, ◌<◌, ◌≤◌, List, [], ◌∷◌, ◌++◌, map, take, length, get_or, ℤ, refl, arith, ap, sym, ◌∙◌, subst, Option, Result, Ok, Err, IfOk, IfSome}
 use Rattle.std.specs.Prelude.{pos, neg_ℤ, slice_index_or}
 use Rattle.std.specs.Global.{Vec}
@@ -48,7 +48,7 @@ spanning_seen order seen w shown result same_order same_weights g =
     subst (λ (os : List ℕ). IfOk result (λ found. IfSome found (λ pairs. IsSpanning (length os) (λ i j. w (node_of os i) (node_of os j)) pairs.items))) same_order
     (subst (λ (k : ℕ → ℕ → ℤ). IfOk result (λ found. IfSome found (λ pairs. IsSpanning (length seen) (λ i j. k (node_of seen i) (node_of seen j)) pairs.items))) same_weights g)
 
--- ---- in the form of the goals of part.rt
+-- ---- in the form of the goals of rounds.rt
 
 pub if_ok_more : {X Y : Type 0} (r : Result X Y) (P Q : X → Type 0) → ((x : X) → P x → Q x) → IfOk r P → IfOk r Q
 if_ok_more (Ok x) P Q more p = more x p

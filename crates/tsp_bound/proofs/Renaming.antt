@@ -1,5 +1,5 @@
 -- Least joins between places stay least joins when each place is renamed to its node: `forest_of` in Parts.antt uses
--- it. For `grow` in src/part.rt.
+-- it. For `grow` in src/rounds.rt.
 use Rattle.std.proofs.Common.{◌≡◌, ℕ, ◌<◌, not, Bool, false, List, [], ◌∷◌, ◌++◌, get_or, map, ℤ, ◌≤ℤ◌, ap, ap₂, ◌∙◌, subst}
 use Rattle.std.specs.Prelude.{if◌then◌else◌}
 use Rattle.std.specs.List.{All, AllByRecursion}

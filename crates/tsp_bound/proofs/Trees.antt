@@ -6,7 +6,7 @@ use Rattle.std.proofs.lemmas.Bool.{cases_eq}
 use Rattle.std.proofs.lemmas.List.{get_or-set_same, get_or-set_other}
 use Rattle.std.proofs.lemmas.Int.{ints, to_z-of_z}
 use Rattle.tsp_bound.specs.declared.area.Area.{Area}
-use Rattle.tsp_bound.specs.declared.nearest.Best.{Best}
+use Rattle.tsp_bound.specs.declared.search.Best.{Best}
 use Rattle.tsp_bound.specs.states.Boxes.{up, node_of, box_at, AreHeldFrom, AreHeld, IsRefit, IsBelowAll, IsFound, IsBest, IsSearched}
 use Rattle.tsp_bound.specs.states.Components.{IsNearest}
 

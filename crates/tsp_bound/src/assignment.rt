@@ -1,5 +1,5 @@
 //! The bound of the duals of rows and columns on the length of every cycle, under costs that need
-//! not be symmetric. For `src/potentials_bound.rt` of tsp_verdict.
+//! not be symmetric. For `src/potentials.rt` of tsp_verdict.
 
 ghost use Rattle.std.specs.Prelude.{◌≡◌, ◌≢◌, ◌↔◌, ℕ, List, ◌≤◌, ◌<◌, length, IsTrue, IfOk, MatchOption, MatchResult, ◌≤ℤ◌, ◌<ℤ◌};
 ghost use Rattle.tsp_format.specs.Nodes.{IsNode};
@@ -10,8 +10,7 @@ ghost use Rattle.tsp_theory.specs.Assignment.{AreGood, IsFirstBroken, IsDualBoun
 ghost use Rattle.tsp_bound.specs.states.Duals.{dual_scale, rows_of, columns_of, dual_of, scaled};
 
 use crate::duals::Duals;
-use crate::numbers::{least_bound, total};
-use crate::scaled::scaled_cost;
+use crate::potentials::{least_bound, scaled_cost, total};
 use tsp_theory::{Costs, duals_bound_cycles};
 
 /// The first pair of different nodes, by rows, whose duals sum to more than the scaled cost.

@@ -1,5 +1,5 @@
-//! The trait of weights that a box bounds for all of its nodes at once. `grow` in `src/part.rt`
-//! takes them; `src/weights.rt`, and `src/boxed_leaf.rt` of tsp_branch, implement it.
+//! The trait of weights that a box bounds for all of its nodes at once. `grow` in `src/rounds.rt`
+//! takes them; `src/weights.rt`, and `src/boxed.rt` of tsp_branch, implement it.
 
 ghost use Rattle.std.specs.Prelude.{◌≡◌, ◌≢◌, ◌<◌, ◌+ℤ◌, ◌*ℤ◌, ◌≤ℤ◌, ◌<ℤ◌, ℕ, ℤ, List, length, pos, neg_ℤ, IfSome};
 ghost use Rattle.std.specs.Bool.{OnTrue};
@@ -10,11 +10,11 @@ ghost use Rattle.tsp_theory.specs.CertificateNumbers.{IsFromTo, IsScale, most_nu
 ghost use Rattle.tsp_bound.specs.states.NodeNumbers.{node_in};
 ghost use Rattle.tsp_bound.specs.states.NumberedSites.{IsNumberedSite};
 
-use crate::numbered_site::NumberedSite;
+use crate::boxes::NumberedSite;
+use crate::tree::Weights;
 use std::alloc::Global;
-use tsp_memory::Refused;
+use tsp_io::Refused;
 use tsp_theory::{Region, Site};
-use tsp_tree::Weights;
 
 /// Weights of which each is at least the cost at a scale and the numbers of both nodes, but for
 /// those of some pairs, which are lowered and listed by node.

@@ -1,19 +1,172 @@
-//! A tree of boxes over the nodes of an order: each box encloses its two halves. For
-//! `src/labelled.rt` and `src/lists.rt`.
+//! The forest of nodes that have points: the component of each node, and boxes to search for its
+//! nearest node. It implements `Components`, as `src/lists.rt` does without points. For
+//! `src/rounds.rt` and `src/rounds.rt`.
 
-ghost use Rattle.std.specs.Prelude.{◌≡◌, ◌⊎◌, ◌≤◌, ◌<◌, ◌+◌, ◌*◌, ◌≤ℤ◌, ℕ, ℤ, length, List, Bool, None, Some, IfOk, pos, neg_ℤ};
+ghost use Rattle.std.specs.Prelude.{◌≡◌, ◌<◌, ◌*◌, ℕ, true, length, IfOk, ◌⊎◌, ◌≤◌, ◌+◌, ◌≤ℤ◌, ℤ, List, Bool, None, Some, pos, neg_ℤ, ◌^◌, IfSome};
 ghost use Rattle.tsp_distance.specs.declared.decimal.Point.{Point};
 ghost use Rattle.tsp_theory.specs.CertificateNumbers.{IsFromTo, most_number};
-ghost use Rattle.tsp_bound.specs.states.Boxes.{HoldsNode, AreHeld, IsRefit, area_at};
-ghost use Rattle.tsp_bound.specs.states.NumberedSites.{IsNumberedSite, AreNumberedSites};
+ghost use Rattle.tsp_bound.specs.states.Boxes.{HoldsNode, AreHeld, AreHeld-prop, area_at, node_of, IsRefit};
+ghost use Rattle.tsp_bound.specs.states.Components.{AreTags, is_in_other_component, label_at, seen_area, IsTagOf};
+ghost use Rattle.tsp_bound.specs.states.NumberedSites.{AreNumberedSites, IsNumberedSite};
 
 use crate::area::Area;
 use crate::boxed_weights::BoxedWeights;
-use crate::numbered_site::NumberedSite;
-use crate::placed::Placed;
+use crate::rounds::Components;
+use crate::search::{Link, Placed, Seen};
 use std::alloc::Global;
-use tsp_memory::{Refused, filled};
-use tsp_theory::Region;
+use tsp_io::{Refused, filled, push, with_capacity};
+use tsp_theory::{Region, Site};
+
+/// Nodes in an order with labels, and the tree of boxes over all of them with its tags.
+#[derive(Drop)]
+pub(crate) struct Labelled<'a, W: BoxedWeights> {
+    placed: Placed<'a, W>,
+    sites: Vec<NumberedSite>,
+    labels: Vec<u32>,
+    tags: Vec<u32>,
+    areas: Vec<Option<Area>>,
+    ghost as_many_sites: { length sites.items ≡ length placed.order.now },
+    ghost sites_are: { AreNumberedSites (W.nodes placed.w.now) (W.place_of placed.w.now) (W.number_of placed.w.now)
+        placed.order.now sites.items },
+    ghost as_many: { length labels.items ≡ length placed.order.now },
+    ghost low: { (x : ℕ) → x < length placed.order.now → label_at labels.items x < length placed.order.now },
+    ghost as_many_tags: { length tags.items ≡ 2 * length placed.order.now },
+    ghost tagged: { AreTags labels.items tags.items },
+    ghost boxes: { length areas.items ≡ 2 * length placed.order.now },
+    ghost held: { AreHeld (HoldsNode (W.place_of placed.w.now) (W.number_of placed.w.now))
+        placed.order.now (λ _. true) (area_at areas.items) } by { AreHeld-prop (W.place_of placed.w.now) (W.number_of placed.w.now) placed.order.now (λ _. true) (area_at areas.items) },
+}
+
+/// One label for each node, each another one: 0, 1, .., count - 1.
+///
+/// # Errors
+///
+/// Out of memory.
+pub(crate) fn own_labels(alloc: Global, count: u32) -> Result<Vec<u32>, Refused>
+    ensures len { IfOk result (λ labels. length labels.items ≡ count) }
+    ensures own { IfOk result (λ labels. (x : ℕ) → x < count → label_at labels.items x ≡ x) }
+{
+    let mut labels = with_capacity(alloc, count as usize)?;
+    'labels: for label in 0..count {
+        push(&mut labels, label)?;
+    }
+    Ok(labels)
+}
+
+/// Gives each label its entry in a list.
+pub(crate) fn rename(labels: &mut [u32], list: &[u32])
+    requires low { (x : ℕ) → x < length labels.old → label_at labels.old x < length list.now }
+    ensures len { length labels.new ≡ length labels.old }
+    ensures renamed { (x : ℕ) → x < length labels.old → label_at labels.new x ≡ label_at list.now (label_at labels.old x) }
+{
+    'labels: for i in 0..labels.len() {
+        labels[i] = list[labels[i] as usize];
+    }
+}
+
+impl<'a, W: BoxedWeights> Labelled<'a, W> {
+    ghost use Rattle.std.specs.Prelude.{IfSome};
+
+    /// Nodes that are a component each; none where the costs have no place for one.
+    ///
+    /// # Errors
+    ///
+    /// Out of memory.
+    pub(crate) fn new(
+        alloc: Global,
+        placed: Placed<'a, W>,
+    ) -> Result<Option<Labelled<'a, W>>, Refused>
+        ensures order { IfOk result (λ made. IfSome made (λ labelled. labelled.placed.order.now ≡ placed.entry.order.now)) }
+        ensures weights { IfOk result (λ made. IfSome made (λ labelled. labelled.placed.w.now ≡ placed.entry.w.now)) }
+        ensures own { IfOk result (λ made. IfSome made (λ labelled. (x : ℕ) → x < length placed.entry.order.now
+            → label_at labelled.labels.items x ≡ x)) }
+    {
+        let Some(sites) = numbered_sites_of(alloc, &placed)? else {
+            return Ok(None);
+        };
+        let areas = boxes_of(alloc, &placed, &sites)?;
+        let count = placed.order.len();
+        let labels = own_labels(alloc, count as u32)?;
+        let mut tags = filled(alloc, 0, 2 * count)?;
+        tag_boxes(&labels, &mut tags);
+        Ok(Some(Labelled {
+            placed,
+            sites,
+            labels,
+            tags,
+            areas,
+        }))
+    }
+}
+
+/// The boxes as one component sees them.
+#[derive(Drop)]
+struct Apart<'a> {
+    labels: &'a [u32],
+    tags: &'a [u32],
+    areas: &'a [Option<Area>],
+    own: u32,
+    ghost as_many_tags: { length tags.now ≡ 2 * length labels.now },
+    ghost boxes: { length areas.now ≡ 2 * length labels.now },
+}
+
+impl Seen for Apart<'_> {
+    ghost count_of = { λ s. length s.labels.now };
+
+    ghost outside_of = { λ s x. is_in_other_component (label_at s.labels.now) s.own x };
+
+    ghost area_of = { λ s v. seen_area s.tags.now (area_at s.areas.now) s.own v };
+
+    #[inline]
+    fn is_outside(&self, place: usize) -> bool {
+        self.labels[place] != self.own
+    }
+
+    #[inline]
+    fn area(&self, v: usize) -> Option<&Area> {
+        if self.tags[v] == self.own {
+            return None;
+        }
+        match &self.areas[v] {
+            None => None,
+            Some(area) => Some(area),
+        }
+    }
+}
+
+impl<W: BoxedWeights> Components for Labelled<'_, W> {
+    ghost count_of = { λ s. length s.placed.order.now };
+
+    ghost weight_of = { λ s i j. W.at s.placed.w.now (node_of s.placed.order.now i) (node_of s.placed.order.now j) };
+
+    ghost label_of = { λ s x. label_at s.labels.items x };
+
+    fn count(&self) -> u32 {
+        self.placed.order.len() as u32
+    }
+
+    #[inline]
+    fn label(&self, node: u32) -> u32 {
+        self.labels[node as usize]
+    }
+
+    fn nearest(&self, from: u32, near: u32, most: i64, steps: &mut u64) -> Option<Link> {
+        let apart = Apart {
+            labels: &self.labels,
+            tags: &self.tags,
+            areas: &self.areas,
+            own: self.labels[from as usize],
+        };
+        self.placed.nearest(&self.sites, &apart, from, near, steps)
+    }
+
+    fn relabel(&mut self, labels: &[u32]) {
+        rename(&mut self.labels, labels);
+        tag_boxes(&self.labels, &mut self.tags);
+    }
+}
+
+// ---- a tree of boxes over the nodes of an order: each box encloses its two halves
 
 /// The smaller number.
 #[inline]
@@ -75,7 +228,7 @@ fn area_of(numbered: NumberedSite) -> Area
 /// # Errors
 ///
 /// Out of memory.
-pub(crate) fn boxes_of<W: BoxedWeights>(
+fn boxes_of<W: BoxedWeights>(
     alloc: Global,
     placed: &Placed<W>,
     sites: &[NumberedSite],
@@ -99,4 +252,89 @@ pub(crate) fn boxes_of<W: BoxedWeights>(
         refit(&mut areas, count, v);
     }
     Ok(areas)
+}
+
+// ---- the label of the component of all nodes in a box, if it is one component
+
+/// The tag of a box with nodes of several labels. It is no label: there are fewer nodes.
+const MIXED: u32 = u32::MAX;
+
+/// The tag of a box whose halves have these.
+#[inline]
+fn shared(first: u32, second: u32) -> u32
+    ensures left { (label : ℕ) → IsTagOf first label → IsTagOf result label }
+    ensures right { (label : ℕ) → IsTagOf second label → IsTagOf result label }
+{
+    if first == second { first } else { MIXED }
+}
+
+/// Tags a box by its halves.
+#[inline]
+fn retag(tags: &mut Vec<u32>, count: usize, v: usize)
+    requires low { 1 ≤ v }
+    requires high { v < count }
+    requires few { count < 2 ^ 31 }
+    requires len { length tags.old.items ≡ 2 * count }
+    ensures len { length tags.new.items ≡ 2 * count }
+    ensures refit { IsRefit 0 IsTagOf tags.old.items tags.new.items v }
+{
+    let tag = shared(tags[2 * v], tags[2 * v + 1]);
+    tags[v] = tag;
+}
+
+/// Tags each box: the leaves by the labels of their nodes, each other one by its halves.
+fn tag_boxes(labels: &[u32], tags: &mut Vec<u32>)
+    requires few { length labels.now < 2 ^ 31 }
+    requires len { length tags.old.items ≡ 2 * length labels.now }
+    ensures len { length tags.new.items ≡ 2 * length labels.now }
+    ensures tags { AreTags labels.now tags.new.items }
+{
+    let count = labels.len();
+    'leaves: for place in 0..count {
+        tags[count + place] = labels[place];
+    }
+    let mut v = count;
+    'halves: while v > 1 {
+        v -= 1;
+        retag(tags, count, v);
+    }
+}
+
+// ---- a node with its point and its potential, or another number that it adds to the weights
+
+/// A node with its place, and its number.
+#[derive(Clone, Copy, Debug)]
+pub struct NumberedSite {
+    /// The node and its place.
+    pub site: Site,
+    /// Its number.
+    pub number: i64,
+}
+
+// ---- the nodes of an order with their points and numbers, next to each other in memory
+
+/// The nodes of an order with their places and numbers, next to each other in memory as a search
+/// reads them; none where a node has no place.
+///
+/// # Errors
+///
+/// Out of memory.
+fn numbered_sites_of<W: BoxedWeights>(
+    alloc: Global,
+    placed: &Placed<W>,
+) -> Result<Option<Vec<NumberedSite>>, Refused>
+    ensures len { IfOk result (λ made. IfSome made (λ sites. length sites.items ≡ length placed.now.order.now)) }
+    ensures sites { IfOk result (λ made. IfSome made (λ sites. AreNumberedSites (W.nodes placed.now.w.now)
+        (W.place_of placed.now.w.now) (W.number_of placed.now.w.now) placed.now.order.now sites.items)) }
+{
+    let mut sites = with_capacity(alloc, placed.order.len())?;
+    'places: for place in 0..placed.order.len() {
+        let node = placed.order[place];
+        let Some(site) = placed.w.site(node) else {
+            return Ok(None);
+        };
+        let number = placed.w.number(node);
+        push(&mut sites, NumberedSite { site, number })?;
+    }
+    Ok(Some(sites))
 }

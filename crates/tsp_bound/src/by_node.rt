@@ -8,9 +8,9 @@ ghost use Rattle.tsp_theory.specs.CertificateNumbers.{IsFromTo, IsMultiplier, Ar
 ghost use Rattle.tsp_theory.specs.Adjusted.{AreOnPairs};
 ghost use Rattle.tsp_bound.specs.states.ByNode.{IsTable, lowered_by};
 
-use crate::multipliers::Multipliers;
+use crate::potentials::Multipliers;
 use std::alloc::Global;
-use tsp_memory::{Refused, push, with_capacity};
+use tsp_io::{Refused, push, with_capacity};
 
 /// Multipliers, and for each node those of its pairs.
 #[derive(Drop)]

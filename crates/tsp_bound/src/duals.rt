@@ -1,9 +1,9 @@
 //! Duals of an assignment: the certificate of a bound for costs that needn't be symmetric. For
-//! `src/assignment.rt`, and `src/potentials_bound.rt` of tsp_verdict, which makes them of a file.
+//! `src/assignment.rt`, and `src/potentials.rt` of tsp_verdict, which makes them of a file.
 
 ghost use Rattle.tsp_theory.specs.CertificateNumbers.{AreDuals};
 
-use crate::numbers::{are_potentials, is_scale};
+use crate::potentials::{are_potentials, is_scale};
 
 /// A number for each row and one for each column, at a scale.
 #[derive(Clone, Copy, Debug)]

@@ -1,50 +1,34 @@
-//! Lower bounds on the length of every cycle, from certificates that nobody has to trust.
+//! Least 1-trees, under weights that are given by rows.
 //!
-//! It computes the bound of potentials, with multipliers or without, and of duals. It knows costs
-//! by their traits only, no files, and searches for no certificates. The theorems are those of
-//! tsp_theory, which are re-exported.
+//! A trait of weights, the growth of a least tree over the nodes 2..n row by row or as weights know
+//! it, the two least edges at node 1, and the weight of both. It knows no costs and no
+//! certificates: those are tsp_bound's and tsp_branch's, which make the weights.
 //!
 //! ```text
-//! let tree = one_tree(alloc, &costs, &potentials, &multipliers)?;
-//! let bound = dual_bound(&costs, &duals)?;
+//! let weight = least_weight(alloc, &weights, &mut row)?;
 //! ```
 #![tactic(auto)]
 
 mod area;
 mod assignment;
+mod bound;
 mod boxed_weights;
 mod boxes;
 mod by_node;
-mod components;
 mod duals;
-mod joins;
-mod labelled;
-mod link;
-mod listed;
 mod lists;
-mod multipliers;
-mod nearest;
-mod numbered_site;
-mod numbered_sites;
-mod numbering;
-mod numbers;
-mod part;
-mod placed;
 mod potentials;
 mod rounds;
-mod scaled;
 mod search;
-mod seen;
-mod tags;
 mod tree;
 mod weights;
 
 pub use assignment::{Infeasible, dual_bound};
+pub use bound::{OneTree, least_one_tree, one_tree};
 pub use boxed_weights::BoxedWeights;
+pub use boxes::NumberedSite;
 pub use duals::Duals;
-pub use multipliers::Multipliers;
-pub use numbered_site::NumberedSite;
-pub use part::grow;
-pub use potentials::Potentials;
-pub use tree::{OneTree, least_one_tree, one_tree};
+pub use potentials::{Multipliers, Potentials};
+pub use rounds::grow_in_rounds;
+pub use tree::{Growing, Grown, Spoke, Weights, add_at, grow, least_weight, two_spokes, weight_in};
 pub use tsp_theory::{adjusted_bounds_bound_cycles, duals_bound_cycles};

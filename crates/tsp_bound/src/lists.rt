@@ -1,18 +1,21 @@
-//! The twelve lightest edges of each node, by one pass over all pairs. For `src/listed.rt`, under
-//! costs without points whose rows aren't near in memory (`pairs_over` in `src/part.rt`).
+//! The twelve lightest edges of each node, by one pass over all pairs. For `src/lists.rt`, under
+//! costs without points whose rows aren't near in memory (`pairs_over` in `src/rounds.rt`).
 
 ghost use Rattle.std.specs.Prelude.{◌≡◌, ◌≤◌, ◌<◌, ◌+◌, ◌*◌, ◌^◌, ℕ, length};
+ghost use Rattle.tsp_bound.specs.states.Components.{label_at};
 ghost use Rattle.tsp_bound.specs.states.Lists.{weight_over, AreOffered, IsPut, IsTaken};
 
 use crate::boxed_weights::BoxedWeights;
-use crate::boxes::lesser;
-use crate::link::Link;
-use crate::placed::Placed;
-use tsp_tree::weight_in;
+use crate::boxes::{lesser, own_labels, rename};
+use crate::rounds::{Components, better};
+use crate::search::{Link, Placed};
+use crate::tree::weight_in;
+use std::alloc::Global;
+use tsp_io::{Refused, filled};
 
-/// How many links of each place are kept. Clauses here and in listed.rt, specs/states/Lists.antt
+/// How many links of each place are kept. Clauses here and in lists.rt, specs/states/Lists.antt
 /// and proofs say 12: change all of these.
-pub(crate) const KEPT: usize = 12;
+const KEPT: usize = 12;
 
 /// How many columns of the rows are passed at a time.
 ///
@@ -28,7 +31,7 @@ struct Columns {
 }
 
 /// The heaviest of the twelve links from a place in the list on.
-pub(crate) fn heaviest(links: &[Link], first: usize) -> usize
+fn heaviest(links: &[Link], first: usize) -> usize
     requires { first + 12 ≤ length links.now }
     ensures low { first ≤ result }
     ensures high { result < first + 12 }
@@ -149,7 +152,7 @@ fn take_columns<W: BoxedWeights>(
 }
 
 /// Takes the links of all pairs.
-pub(crate) fn take_all<W: BoxedWeights>(
+fn take_all<W: BoxedWeights>(
     placed: &Placed<W>,
     row: &mut [i64],
     links: &mut [Link],
@@ -169,5 +172,152 @@ pub(crate) fn take_all<W: BoxedWeights>(
         let last = placed.order.len().min(first + COLUMNS);
         take_columns(placed, row, links, bounds, Columns { first, last });
         first = last;
+    }
+}
+
+// ---- the forest of nodes without points
+
+/// Nodes in an order with labels, the least links of each place, and for each a number that no
+/// other link of it is below.
+#[derive(Drop)]
+pub(crate) struct Listed<'a, W: BoxedWeights> {
+    placed: Placed<'a, W>,
+    labels: Vec<u32>,
+    links: Vec<Link>,
+    bounds: Vec<i64>,
+    ghost as_many: { length labels.items ≡ length placed.order.now },
+    ghost low: { (x : ℕ) → x < length placed.order.now → label_at labels.items x < length placed.order.now },
+    ghost long: { length links.items ≡ 12 * length placed.order.now },
+    ghost as_many_bounds: { length bounds.items ≡ length placed.order.now },
+    ghost listed: { AreOffered (length placed.order.now) (weight_over (W.at placed.w.now) placed.order.now)
+        (length placed.order.now) 0 0 0 links.items bounds.items },
+}
+
+impl<'a, W: BoxedWeights> Listed<'a, W> {
+    ghost use Rattle.std.specs.Prelude.{◌≢◌, ◌≤ℤ◌, pos, IfOk, IfSome};
+    ghost use Rattle.tsp_bound.specs.states.Components.{IsKeptLink};
+    ghost use Rattle.tsp_bound.specs.states.Lists.{kept_at, IsOwnLink};
+
+    /// Nodes that are a component each, with their least links. The row that is lent is written
+    /// over.
+    ///
+    /// # Errors
+    ///
+    /// Out of memory.
+    pub(crate) fn new(
+        alloc: Global,
+        placed: Placed<'a, W>,
+        row: &mut [i64],
+    ) -> Result<Listed<'a, W>, Refused>
+        requires room { length row.old ≡ W.nodes placed.w.now + 1 }
+        requires even { (i j : ℕ) → W.at placed.w.now i j ≡ W.at placed.w.now j i }
+        ensures order { IfOk result (λ made. made.placed.order.now ≡ placed.entry.order.now) }
+        ensures weights { IfOk result (λ made. made.placed.w.now ≡ placed.entry.w.now) }
+        ensures own { IfOk result (λ made. (x : ℕ) → x < length placed.entry.order.now
+            → label_at made.labels.items x ≡ x) }
+    {
+        let count = placed.order.len();
+        let none = Link {
+            weight: i64::MAX,
+            from: 0,
+            to: 0,
+        };
+        let labels = own_labels(alloc, count as u32)?;
+        let mut links = filled(alloc, none, KEPT * count)?;
+        let mut bounds = filled(alloc, i64::MAX, count)?;
+        take_all(&placed, row, &mut links, &mut bounds);
+        Ok(Listed {
+            placed,
+            labels,
+            links,
+            bounds,
+        })
+    }
+
+    /// Of the links that are kept of a place the least one that leads to another component, else
+    /// the heaviest one.
+    fn best_kept(&self, from: u32) -> Link
+        requires { from < length self.now.placed.order.now }
+        ensures own { IsOwnLink (length self.now.placed.order.now)
+            (weight_over (W.at self.now.placed.w.now) self.now.placed.order.now) from result }
+        ensures least { (k : ℕ) → k < 12
+            → (kept_at self.now.links.items from k).weight ≢ pos 9223372036854775807
+            → label_at self.now.labels.items (kept_at self.now.links.items from k).to ≢ label_at self.now.labels.items from
+            → result.weight ≤ℤ (kept_at self.now.links.items from k).weight }
+    {
+        let own = self.labels[from as usize];
+        let first = KEPT * from as usize;
+        let mut best = None;
+        'links: for k in 0..KEPT {
+            let link = self.links[first + k];
+            if link.weight != i64::MAX && self.labels[link.to as usize] != own {
+                best = Some(better(best, link));
+            }
+        }
+        match best {
+            None => self.links[heaviest(&self.links, first)],
+            Some(link) => link,
+        }
+    }
+
+    /// The least link from a place to another component, by all its pairs.
+    fn least_of_all(&self, from: u32) -> Option<Link>
+        requires { from < length self.now.placed.order.now }
+        ensures { IfSome result (IsKeptLink (length self.now.placed.order.now)
+            (weight_over (W.at self.now.placed.w.now) self.now.placed.order.now) (label_at self.now.labels.items) from) }
+    {
+        let own = self.labels[from as usize];
+        let node = self.placed.order[from as usize];
+        let mut best = None;
+        'places: for place in 0..self.placed.order.len() {
+            if self.labels[place] != own {
+                let weight = self.placed.w.weight(node, self.placed.order[place]);
+                best = Some(better(
+                    best,
+                    Link {
+                        weight,
+                        from,
+                        to: place as u32,
+                    },
+                ));
+            }
+        }
+        best
+    }
+}
+
+impl<W: BoxedWeights> Components for Listed<'_, W> {
+    ghost use Rattle.tsp_bound.specs.states.Boxes.{node_of};
+
+    ghost count_of = { λ s. length s.placed.order.now };
+
+    ghost weight_of = { λ s i j. W.at s.placed.w.now (node_of s.placed.order.now i) (node_of s.placed.order.now j) };
+
+    ghost label_of = { λ s x. label_at s.labels.items x };
+
+    fn count(&self) -> u32 {
+        self.placed.order.len() as u32
+    }
+
+    #[inline]
+    fn label(&self, node: u32) -> u32 {
+        self.labels[node as usize]
+    }
+
+    /// A kept link is enough where no other link can weigh less; else all pairs are steps.
+    fn nearest(&self, from: u32, near: u32, most: i64, steps: &mut u64) -> Option<Link> {
+        let link = self.best_kept(from);
+        if link.weight != i64::MAX
+            && link.weight <= self.bounds[from as usize]
+            && (most <= link.weight || self.label(link.to) != self.label(from))
+        {
+            return Some(link);
+        }
+        *steps = steps.wrapping_add(self.placed.order.len() as u64);
+        self.least_of_all(from)
+    }
+
+    fn relabel(&mut self, labels: &[u32]) {
+        rename(&mut self.labels, labels);
     }
 }

@@ -1,10 +1,14 @@
-//! Potentials of nodes: the certificate of a bound for symmetric costs. For `src/tree.rt`, and
-//! `src/potentials_bound.rt` of tsp_verdict, which makes them of a file.
+//! Potentials of nodes: the certificate of a bound for symmetric costs. For `src/bound.rt`, and
+//! `src/potentials.rt` of tsp_verdict, which makes them of a file.
 
-ghost use Rattle.tsp_theory.specs.CertificateNumbers.{AreNodePotentials};
+ghost use Rattle.std.specs.List.{All};
+ghost use Rattle.std.specs.Prelude.{◌↔◌, IsTrue, ◌≡◌, ◌≤◌, ◌*◌, ◌^◌, length, pos, neg_ℤ, ◌*ℤ◌, ◌≤ℤ◌};
+ghost use Rattle.tsp_format.specs.Limits.{most_nodes, most_potential, most_triples, most_multiplier, most_scale, most_weight};
+ghost use Rattle.tsp_format.specs.Nodes.{IsNode};
+ghost use Rattle.tsp_theory.specs.Adjusted.{triples_total};
+ghost use Rattle.tsp_theory.specs.CertificateNumbers.{AreNodePotentials, IsMultiplier, AreMultipliers, IsFromTo, IsScale, ArePotentials, total, IsLeastBound, IsBoundSized};
 
-use crate::numbers::{are_potentials, is_scale};
-use crate::scaled::scaled_cost;
+use tsp_format::{MOST_MULTIPLIER, MOST_MULTIPLIERS, MOST_POTENTIAL, MOST_SCALE};
 use tsp_theory::Costs;
 
 /// A number for each node, at a scale.
@@ -74,4 +78,122 @@ impl<'a> Potentials<'a> {
         let both = own + self.numbers[j as usize - 1];
         scaled_cost(c, self.scale, i, j) + both
     }
+}
+
+// ---- multipliers of fixed edges
+
+/// A number for each of some pairs of nodes, as triples of two nodes and the number.
+#[derive(Clone, Copy, Debug)]
+pub struct Multipliers<'a> {
+    pub(crate) triples: &'a [(u32, u32, i64)],
+    ghost are: { AreMultipliers triples.now },
+}
+
+impl<'a> Multipliers<'a> {
+    ghost use Rattle.std.specs.Prelude.{◌≡◌, MatchOption};
+    ghost use Rattle.tsp_bound.specs.states.Multipliers.{triples_of};
+
+    /// The multipliers of these triples, each number a count of 1 / scale.
+    ///
+    /// None where there are more than 100,000, a number isn't from 0 to 10^15, or the two nodes of
+    /// a triple are the same, and only there. No memory is taken.
+    pub fn new(l: &'a [(u32, u32, i64)]) -> Option<Multipliers<'a>>
+        ensures { MatchOption result (AreMultipliers l.now → ⊥)
+            (λ made. AreMultipliers l.now × (triples_of made ≡ l.now)) }
+    {
+        if l.len() > MOST_MULTIPLIERS || !are_each(l) {
+            return None;
+        }
+        Some(Multipliers { triples: l })
+    }
+}
+
+/// Whether each triple has two different nodes and a number that multipliers may have.
+fn are_each(triples: &[(u32, u32, i64)]) -> bool
+    ensures { IsTrue result ↔ All IsMultiplier triples.now }
+{
+    triples.iter().all(|(a, b, number)| a != b && 0 <= *number && *number <= MOST_MULTIPLIER)
+}
+
+// ---- the numbers of a certificate: their ranges, their sums, and the least bound of a sum
+
+/// Whether a certificate may have this scale.
+pub(crate) fn is_scale(scale: i64) -> bool
+    ensures { IsTrue result ↔ IsScale scale }
+{
+    1 <= scale && scale <= MOST_SCALE
+}
+
+/// Whether a certificate may have these numbers.
+pub(crate) fn are_potentials(numbers: &[i64]) -> bool
+    ensures { IsTrue result ↔ ArePotentials numbers.now }
+{
+    numbers.iter().all(|number| -MOST_POTENTIAL <= *number && *number <= MOST_POTENTIAL)
+}
+
+/// The sum of a certificate's numbers.
+pub(crate) fn total(numbers: &[i64]) -> i128
+    requires few { length numbers.now ≤ most_nodes }
+    requires sizes { ArePotentials numbers.now }
+    ensures value { result ≡ total numbers.now }
+    ensures size { IsFromTo (neg_ℤ (pos (most_nodes * most_potential)))
+        (pos (most_nodes * most_potential)) result }
+{
+    let mut sum = 0;
+    'numbers: for number in numbers {
+        sum += i128::from(*number);
+    }
+    sum
+}
+
+/// The sum of the numbers of multipliers.
+pub(crate) fn total_of(triples: &[(u32, u32, i64)]) -> i128
+    requires { AreMultipliers triples.now }
+    ensures value { result ≡ triples_total triples.now }
+    ensures size { IsFromTo (pos 0) (pos (most_triples * most_multiplier)) result }
+{
+    let mut sum = 0;
+    'triples: for triple in triples {
+        sum += i128::from(triple.2);
+    }
+    sum
+}
+
+/// The least whole number that at a scale is no less than a sum.
+pub(crate) fn least_bound(scale: i64, sum: i128) -> i128
+    requires scale { IsScale scale }
+    requires size { IsFromTo (neg_ℤ (pos (2 ^ 100))) (pos (2 ^ 100)) sum }
+    ensures value { IsLeastBound scale sum result }
+    ensures size { IsBoundSized result }
+{
+    // Euclid's quotient rounds down, so that of the negative sum rounds up.
+    -(-sum).div_euclid(i128::from(scale))
+}
+
+// ---- costs as counts of 1 / SCALE of a certificate
+
+/// The cost from one node to another, as a count of 1 / scale: at most 10^18 in size.
+#[inline]
+pub(crate) fn scaled_cost<C: Costs>(c: &C, scale: i64, i: u32, j: u32) -> i64
+    requires scale { IsScale scale }
+    requires from { IsNode (C.nodes c.now) i }
+    requires to { IsNode (C.nodes c.now) j }
+    ensures value { result ≡ scale *ℤ C.at c.now i j }
+    ensures size { IsFromTo (neg_ℤ (pos (most_scale * most_weight)))
+        (pos (most_scale * most_weight)) result }
+{
+    scaled(scale, c.cost(i, j))
+}
+
+/// A cost as a count of 1 / scale.
+#[inline]
+pub(crate) fn scaled(scale: i64, cost: i64) -> i64
+    requires scale { IsScale scale }
+    requires low { neg_ℤ (pos most_weight) ≤ℤ cost }
+    requires high { cost ≤ℤ pos most_weight }
+    ensures value { result ≡ scale *ℤ cost }
+    ensures size { IsFromTo (neg_ℤ (pos (most_scale * most_weight)))
+        (pos (most_scale * most_weight)) result }
+{
+    scale * cost
 }

@@ -1,189 +1,339 @@
-//! Least 1-trees, and their bound on the length of every cycle. For `src/potentials_bound.rt` of
-//! tsp_verdict.
+//! The weight of a least 1-tree, whose tree grows as its weights do it. For the leaves in
+//! `src/boxed.rt` of tsp_branch.
 
-ghost use Rattle.std.specs.Prelude.{◌≡◌, ◌≤◌, ◌+◌, ◌*◌, ◌^◌, ℕ, [], List, length, pos, neg_ℤ, ◌≤ℤ◌, IfOk};
+ghost use Rattle.std.specs.Int.{w64, int_wrap};
+ghost use Rattle.std.specs.Prelude.{◌≡◌, ◌≤◌, ◌+◌, ◌*◌, ◌^◌, ℕ, length, pos, neg_ℤ, IfOk, ◌<◌, slice_index, MatchOption, ◌<ℤ◌, ◌-◌, ℤ, ◌≢◌, ◌+ℤ◌};
 ghost use Rattle.tsp_format.specs.Limits.{most_nodes};
-ghost use Rattle.tsp_theory.specs.Cycle.{IsCycle};
-ghost use Rattle.tsp_theory.specs.Length.{length_of};
-ghost use Rattle.tsp_theory.specs.CertificateNumbers.{IsFromTo, IsBoundSized};
-ghost use Rattle.tsp_theory.specs.Tree.{IsOneTree, IsLeastOneTree, weight_of};
-ghost use Rattle.tsp_theory.specs.Growth.{tree_of};
-ghost use Rattle.tsp_theory.specs.Adjusted.{AreOnPairs, UsesEach, IsAdjustedBoundOf, IsAdjustedBound};
-ghost use Rattle.tsp_bound.specs.states.Potentials.{scale_of, numbers_of};
-ghost use Rattle.tsp_bound.specs.states.Multipliers.{triples_of, triples_in, node_count, weight_less};
+ghost use Rattle.tsp_format.specs.Nodes.{IsNode};
+ghost use Rattle.tsp_theory.specs.CertificateNumbers.{IsFromTo};
+ghost use Rattle.tsp_theory.specs.Forest.{IsWholeForest};
+ghost use Rattle.tsp_theory.specs.Growth.{IsWholeGrowth, AreNearest};
+ghost use Rattle.tsp_theory.specs.Tree.{weight_of};
+ghost use Rattle.tsp_theory.specs.states.Nearest.{least_at, IsNearer};
+ghost use Rattle.tsp_bound.specs.Weighed.{IsLeastWeight};
+ghost use Rattle.tsp_bound.specs.states.Outside.{AreFromThree, AreBroughtNearer, AreInner, IsLeastPlace};
 
-use crate::by_node::ByNode;
-use crate::multipliers::Multipliers;
-use crate::numbers::{least_bound, total, total_of};
-use crate::part::grow;
-use crate::potentials::Potentials;
-use crate::weights::Weights;
-use std::alloc::{AllocError, Global};
-use tsp_memory::{Refused, filled, push, with_capacity};
-use tsp_theory::{Costs, Symmetric, adjusted_bounds_bound_cycles};
-use tsp_tree::two_spokes;
+use std::alloc::Global;
+use tsp_io::{Refused, filled, push, with_capacity};
 
-/// A least 1-tree, its weight, and the bound on the length of every cycle.
-#[derive(Debug, Drop)]
-pub struct OneTree {
-    /// The pairs, each with the smaller node first.
-    pub edges: Vec<(u32, u32)>,
-    /// The sum of their weights.
-    pub weight: i128,
-    /// The least whole number that at the scale is no less than the weight without each
-    /// potential twice and with each multiplier.
-    pub bound: i128,
-}
-
-/// A 1-tree than which none weighs less, where the weight between two nodes is the cost at the
-/// scale of the potentials and the potentials of both, less the multiplier of the pair, and its
-/// bound: no cycle that uses each pair with a multiplier, in either direction, is shorter.
+/// The weight of a 1-tree than which none weighs less, under symmetric weights.
 ///
-/// A 1-tree is a tree over the nodes 2..n and two different edges at node 1. Which of several least
-/// ones is returned, and the order of its edges, is free. With no multipliers the bound is that of
-/// the potentials alone, and no cycle is shorter. Source: M. Held and R. M. Karp, The
-/// traveling-salesman problem and minimum spanning trees, 1970; the tree is joined in rounds as
-/// O. Boruvka's, 1926, or grown as R. C. Prim's, 1957. Where nodes have places in space, regions of
-/// them take the place of most pairs, so that it asks for far fewer costs.
+/// A 1-tree is a tree over the nodes 2..n and two different edges at node 1. Source: M. Held and R.
+/// M. Karp, The traveling-salesman problem and minimum spanning trees, 1970. The tree grows as its
+/// weights do it: row by row, as R. C. Prim's, 1957, or by rounds, as O. Boruvka's, 1926.
 ///
 /// # Requires
 ///
-/// Three or more nodes, as many potentials, and multipliers of pairs of these nodes, no two of
-/// which are the same pair, in either direction.
+/// Three or more nodes, and a row of one place more than there are nodes, which is overwritten.
 ///
 /// # Errors
 ///
-/// Out of memory, of which it takes some for each node and for each multiplier.
-pub fn one_tree<C: Symmetric>(
-    alloc: Global,
-    c: &C,
-    p: &Potentials,
-    m: &Multipliers,
-) -> Result<OneTree, AllocError>
-    requires some { 3 ≤ C.nodes c.now }
-    requires count { length (numbers_of p.now) ≡ C.nodes c.now }
-    requires on_pairs { AreOnPairs (C.nodes c.now) (triples_of m.now) }
-    ensures tree { IfOk result (λ found. IsOneTree (C.nodes c.now) found.edges.items) }
-    ensures weight { IfOk result (λ found. found.weight
-        ≡ weight_of (weight_less p.now (triples_of m.now) (C.at c.now)) found.edges.items) }
-    ensures least { IfOk result (λ found. (others : List (ℕ × ℕ)) → IsOneTree (C.nodes c.now) others
-        → found.weight ≤ℤ weight_of (weight_less p.now (triples_of m.now) (C.at c.now)) others) }
-    ensures rounded { IfOk result (λ found. IsAdjustedBoundOf (scale_of p.now) (numbers_of p.now)
-        (triples_of m.now) found.weight found.bound) }
-    ensures bound { IfOk result (λ found. IsAdjustedBound (C.nodes c.now) (C.at c.now)
-        (scale_of p.now) (numbers_of p.now) (triples_of m.now) [] found.bound) }
-    ensures size { IfOk result (λ found. IsBoundSized found.bound) }
-    ensures cycles { IfOk result (λ found. (nodes : List ℕ) → IsCycle (C.nodes c.now) nodes
-        → UsesEach (triples_of m.now) nodes → found.bound ≤ℤ length_of (C.at c.now) nodes) }
+/// Out of memory, of which it takes some for each node.
+pub fn least_weight<W: Growing>(alloc: Global, w: &W, row: &mut [i64]) -> Result<i128, Refused>
+    requires some { 3 ≤ W.nodes w.now }
+    requires room { length row.old ≡ W.nodes w.now + 1 }
+    requires even { (i j : ℕ) → W.at w.now i j ≡ W.at w.now j i }
+    ensures least { IfOk result (λ weight. IsLeastWeight (W.nodes w.now) (W.at w.now) weight) }
+    ensures size { IfOk result (λ weight. IsFromTo (neg_ℤ (pos ((most_nodes + 2) * 2 ^ 63)))
+        (pos ((most_nodes + 2) * 2 ^ 63)) weight) }
 {
-    Ok(least_one_tree(alloc, c, p, m)?)
-}
-
-/// What [`one_tree`] returns, with the token of a refused request as its error.
-///
-/// # Errors
-///
-/// Out of memory, of which it takes some for each node and for each multiplier.
-pub fn least_one_tree<C: Symmetric>(
-    alloc: Global,
-    c: &C,
-    p: &Potentials,
-    m: &Multipliers,
-) -> Result<OneTree, Refused>
-    requires some { 3 ≤ C.nodes c.now }
-    requires count { length (numbers_of p.now) ≡ C.nodes c.now }
-    requires on_pairs { AreOnPairs (C.nodes c.now) (triples_of m.now) }
-    ensures tree { IfOk result (λ found. IsOneTree (C.nodes c.now) found.edges.items) }
-    ensures weight { IfOk result (λ found. found.weight
-        ≡ weight_of (weight_less p.now (triples_of m.now) (C.at c.now)) found.edges.items) }
-    ensures least { IfOk result (λ found. (others : List (ℕ × ℕ)) → IsOneTree (C.nodes c.now) others
-        → found.weight ≤ℤ weight_of (weight_less p.now (triples_of m.now) (C.at c.now)) others) }
-    ensures rounded { IfOk result (λ found. IsAdjustedBoundOf (scale_of p.now) (numbers_of p.now)
-        (triples_of m.now) found.weight found.bound) }
-    ensures bound { IfOk result (λ found. IsAdjustedBound (C.nodes c.now) (C.at c.now)
-        (scale_of p.now) (numbers_of p.now) (triples_of m.now) [] found.bound) }
-    ensures size { IfOk result (λ found. IsBoundSized found.bound) }
-    ensures cycles { IfOk result (λ found. (nodes : List ℕ) → IsCycle (C.nodes c.now) nodes
-        → UsesEach (triples_of m.now) nodes → found.bound ≤ℤ length_of (C.at c.now) nodes) }
-{
-    let by_node = ByNode::of(alloc, c.count(), m)?;
-    let found = least_edges(alloc, &*c, &*p, &by_node)?;
-    drop(by_node);
-    let potentials = total(p.numbers);
-    let multipliers = total_of(m.triples);
-    let bound = least_bound(p.scale, found.weight - 2 * potentials + multipliers);
-    adjusted_bounds_bound_cycles();
-    Ok(OneTree {
-        edges: found.edges,
-        weight: found.weight,
-        bound,
-    })
-}
-
-/// The edges of a 1-tree, and the sum of their weights.
-#[derive(Drop)]
-struct Weighed {
-    edges: Vec<(u32, u32)>,
-    weight: i128,
-}
-
-/// The edges of a least 1-tree, in a vector with capacity for all of them, and their weight.
-fn least_edges<'a, C: Symmetric>(
-    alloc: Global,
-    c: &'a C,
-    p: &'a Potentials<'a>,
-    m: &'a ByNode<'a>,
-) -> Result<Weighed, Refused>
-    requires some { 3 ≤ C.nodes c.now }
-    requires count { length (numbers_of p.now) ≡ C.nodes c.now }
-    requires over { node_count m.now ≡ C.nodes c.now }
-    ensures least { IfOk result (λ found. IsLeastOneTree (C.nodes c.now)
-        (weight_less p.now (triples_in m.now) (C.at c.now)) found.edges.items) }
-    ensures weight { IfOk result (λ found. found.weight
-        ≡ weight_of (weight_less p.now (triples_in m.now) (C.at c.now)) found.edges.items) }
-    ensures size { IfOk result (λ found. IsFromTo (neg_ℤ (pos ((most_nodes + 2) * 2 ^ 63)))
-        (pos ((most_nodes + 2) * 2 ^ 63)) found.weight) }
-{
-    let weights = Weights { c, p, m };
-    let mut row = filled(alloc, 0, c.count() as usize + 1)?;
-    let (first, second) = two_spokes(&weights, &mut row);
-    let grown = grow(alloc, &weights, &mut row)?;
-    let edges = tree_of(
-        alloc,
-        c.count() as usize,
-        first.node,
-        second.node,
-        &grown.pairs,
-    )?;
+    // The count shows that there are at most 100,000 nodes.
+    w.count();
+    let (first, second) = two_spokes(w, row);
+    let grown = w.grow(alloc, row)?;
     let spokes = i128::from(first.weight) + i128::from(second.weight);
-    Ok(Weighed {
-        edges,
-        weight: spokes + grown.weight,
-    })
+    Ok(spokes + grown.weight)
 }
 
-/// The two pairs at node 1 and those of a growth, each with the smaller node first.
-fn tree_of(
-    alloc: Global,
-    room: usize,
-    first: u32,
-    second: u32,
-    added: &[(u32, u32)],
-) -> Result<Vec<(u32, u32)>, Refused>
-    ensures { IfOk result (λ edges. edges.items ≡ tree_of first second added.now) }
+// ---- the growth of a least tree over the nodes 2 to n, row by row, by Prim's method
+
+/// The pairs of a growth, and the sum of their weights.
+#[derive(Drop)]
+pub struct Grown {
+    pub pairs: Vec<(u32, u32)>,
+    pub weight: i128,
+}
+
+/// Grows a tree over the nodes 2..n from node 2: each of its pairs leads from a node inside to one
+/// outside, and no such pair weighs less.
+///
+/// It lists the nodes outside, and keeps of each the nearest node inside and the weight between the
+/// two, so that each row is asked for once. The row that is lent is written over.
+///
+/// # Requires
+///
+/// Three or more nodes, and a row of one place more than there are nodes.
+///
+/// # Errors
+///
+/// Out of memory, of which it takes some for each node.
+pub fn grow<W: Weights>(alloc: Global, w: &W, row: &mut [i64]) -> Result<Grown, Refused>
+    requires some { 3 ≤ W.nodes w.now }
+    requires room { length row.old ≡ W.nodes w.now + 1 }
+    ensures whole { IfOk result
+        (λ grown. IsWholeGrowth (W.nodes w.now) (W.at w.now) grown.pairs.items) }
+    ensures weight { IfOk result
+        (λ grown. grown.weight ≡ weight_of (W.at w.now) grown.pairs.items) }
+    ensures size { IfOk result (λ grown. IsFromTo (neg_ℤ (pos (most_nodes * 2 ^ 63)))
+        (pos (most_nodes * 2 ^ 63)) grown.weight) }
 {
-    let mut edges = with_capacity(alloc, room)?;
-    push(&mut edges, (1, first))?;
-    push(&mut edges, (1, second))?;
-    'added: for pair in added {
-        push(
-            &mut edges,
-            if pair.0 < pair.1 {
-                *pair
-            } else {
-                (pair.1, pair.0)
-            },
-        )?;
+    let mut outside = nodes_from_three(alloc, w.count())?;
+    let mut near: Vec<u32> = filled(alloc, 2, outside.len())?;
+    // Every weight is below the one that means none.
+    let mut least = filled(alloc, i64::MAX, outside.len())?;
+    let mut pairs = with_capacity(alloc, outside.len())?;
+    let mut weight = 0;
+    let mut nearest = reach(w, row, &outside, &mut near, &mut least, 2);
+    'grow: while let Some(place) = nearest {
+        let next = outside.swap_remove(place);
+        push(&mut pairs, (near.swap_remove(place), next))?;
+        weight += i128::from(least.swap_remove(place));
+        nearest = reach(w, row, &outside, &mut near, &mut least, next);
     }
-    Ok(edges)
+    Ok(Grown { pairs, weight })
+}
+
+/// The nodes from 3 on.
+fn nodes_from_three(alloc: Global, count: u32) -> Result<Vec<u32>, Refused>
+    requires some { 2 ≤ count }
+    requires most { count ≤ most_nodes }
+    ensures { IfOk result (λ nodes. AreFromThree count nodes.items) }
+{
+    let mut nodes = with_capacity(alloc, count as usize)?;
+    'nodes: for node in 3..count + 1 {
+        push(&mut nodes, node)?;
+    }
+    Ok(nodes)
+}
+
+/// Updates the entries of the nodes outside once `next` is inside, and finds the place of the
+/// nearest of them.
+fn reach<W: Weights>(
+    w: &W,
+    row: &mut [i64],
+    outside: &[u32],
+    near: &mut [u32],
+    least: &mut [i64],
+    next: u32,
+) -> Option<usize>
+    requires room { length row.old ≡ W.nodes w.now + 1 }
+    requires inner { AreInner (W.nodes w.now) outside.now }
+    requires near { length near.old ≡ length outside.now }
+    requires least { length least.old ≡ length outside.now }
+    requires next_in { IsNode (W.nodes w.now) next }
+    ensures nearer { AreBroughtNearer next
+        (W.at w.now next) outside.now near.old least.old near.new least.new }
+    ensures small { (k : ℕ)
+        → k < length outside.now → W.at w.now next (slice_index outside.now k) <ℤ i64.MAX }
+    ensures nearest { MatchOption result (length outside.now ≡ 0) (IsLeastPlace least.new) }
+{
+    w.fill_at(next, outside, row);
+    bring(row, outside, near, least, next)
+}
+
+/// Updates the entries of the nodes outside by the row of the node that came inside, and finds the
+/// place of the nearest of them.
+fn bring(
+    row: &[i64],
+    outside: &[u32],
+    near: &mut [u32],
+    least: &mut [i64],
+    next: u32,
+) -> Option<usize>
+    requires near { length near.old ≡ length outside.now }
+    requires least { length least.old ≡ length outside.now }
+    requires places { (k : ℕ)
+        → k < length outside.now → slice_index outside.now k < length row.now }
+    requires small { (k : ℕ)
+        → k < length outside.now → least_at row.now (slice_index outside.now k) <ℤ i64.MAX }
+    ensures nearer { AreBroughtNearer next
+        (least_at row.now) outside.now near.old least.old near.new least.new }
+    ensures nearest { MatchOption result (length outside.now ≡ 0) (IsLeastPlace least.new) }
+{
+    if outside.is_empty() {
+        return None;
+    }
+    // A place and no `Option`, which the loop would carry along as two values.
+    let mut nearest = 0;
+    let mut best = i64::MAX;
+    'places: for place in 0..outside.len() {
+        let weight = weight_in(row, outside[place]);
+        let own = take_nearer(&mut near[place], &mut least[place], next, weight);
+        if own < best {
+            best = own;
+            nearest = place;
+        }
+    }
+    Some(nearest)
+}
+
+/// Takes `next` for the nearest node where it is nearer, and returns the least weight.
+#[inline]
+fn take_nearer(near: &mut u32, least: &mut i64, next: u32, weight: i64) -> i64
+    ensures nearer { IsNearer weight next near.old least.old near.new least.new }
+    ensures value { result ≡ least.new }
+{
+    // No branch: it would be taken for some nodes of each row, which no processor foresees.
+    let is_nearer = weight < *least;
+    *near = if is_nearer { next } else { *near };
+    *least = if is_nearer { weight } else { *least };
+    *least
+}
+
+// ---- the trait of weights that know how a least tree grows under them, row by row or by boxes
+
+/// Weights under which a tree grows row by row, as [`grow`](crate::grow) does, or in a quicker way.
+pub trait Growing: Weights {
+    /// Grows a tree over the nodes 2..n, under symmetric weights: each of its pairs leads from a
+    /// part that no earlier pair leaves to a node outside it, and no such pair weighs less.
+    ///
+    /// # Requires
+    ///
+    /// Three or more nodes, and a row of one place more than there are nodes, which is overwritten.
+    ///
+    /// # Errors
+    ///
+    /// Out of memory, of which it takes some for each node.
+    fn grow(&self, alloc: Global, row: &mut [i64]) -> Result<Grown, Refused>
+        requires some { 3 ≤ Self.nodes self.now }
+        requires room { length row.old ≡ Self.nodes self.now + 1 }
+        requires even { (i j : ℕ) → Self.at self.now i j ≡ Self.at self.now j i }
+        ensures whole { IfOk result
+            (λ grown. IsWholeForest (Self.nodes self.now) (Self.at self.now) grown.pairs.items) }
+        ensures weight { IfOk result
+            (λ grown. grown.weight ≡ weight_of (Self.at self.now) grown.pairs.items) }
+        ensures size { IfOk result (λ grown. IsFromTo (neg_ℤ (pos (most_nodes * 2 ^ 63)))
+            (pos (most_nodes * 2 ^ 63)) grown.weight) };
+}
+
+// ---- the two lightest edges at node 1 of a 1-tree
+
+/// A node of 2..n, and the weight between node 1 and it.
+#[derive(Clone, Copy)]
+pub struct Spoke {
+    pub node: u32,
+    pub weight: i64,
+}
+
+/// The two nodes of 2..n that are nearest to node 1, by its row; the row that is lent is written
+/// over.
+pub fn two_spokes<W: Weights>(w: &W, row: &mut [i64]) -> (Spoke, Spoke)
+    requires some { 3 ≤ W.nodes w.now }
+    requires few { W.nodes w.now ≤ most_nodes }
+    requires room { length row.old ≡ W.nodes w.now + 1 }
+    ensures nearest { AreNearest (W.nodes w.now) (W.at w.now) result.0.node result.1.node }
+    ensures first { result.0.weight ≡ W.at w.now 1 result.0.node }
+    ensures second { result.1.weight ≡ W.at w.now 1 result.1.node }
+{
+    w.fill(1, row);
+    nearest_two(row)
+}
+
+/// The two nodes from 2 on with the least weights, in one pass.
+fn nearest_two(weights: &[i64]) -> (Spoke, Spoke)
+    requires some { 4 ≤ length weights.now }
+    requires few { length weights.now < 2 ^ 32 }
+    ensures nearest { AreNearest (length weights.now - 1) (λ i j. least_at weights.now j)
+        result.0.node result.1.node }
+    ensures first { result.0.weight ≡ least_at weights.now result.0.node }
+    ensures second { result.1.weight ≡ least_at weights.now result.1.node }
+{
+    let two = spoke_to(weights, 2);
+    let three = spoke_to(weights, 3);
+    let mut first = two;
+    let mut second = three;
+    if three.weight < two.weight {
+        first = three;
+        second = two;
+    }
+    'nodes: for node in 4..weights.len() as u32 {
+        let next = spoke_to(weights, node);
+        if next.weight < first.weight {
+            second = first;
+            first = next;
+        } else if next.weight < second.weight {
+            second = next;
+        }
+    }
+    (first, second)
+}
+
+/// The pair of node 1 and another node.
+fn spoke_to(weights: &[i64], node: u32) -> Spoke
+    requires { node < length weights.now }
+    ensures node { result.node ≡ node }
+    ensures weight { result.weight ≡ least_at weights.now node }
+{
+    Spoke {
+        node,
+        weight: weight_in(weights, node),
+    }
+}
+
+// ---- the trait of weights of pairs of nodes, given row by row
+
+/// Weights between the nodes 1 to `count`, given row by row.
+pub trait Weights {
+    ghost nodes: { Self → ℕ };
+
+    ghost at: { Self → ℕ → ℕ → ℤ };
+
+    /// How many nodes there are: at most 100,000.
+    fn count(&self) -> u32
+        ensures value { result ≡ nodes self.now }
+        ensures most { result ≤ most_nodes };
+
+    /// Writes the weights between a node and each into a row, each at the place of its node; they
+    /// are below the largest number of 64 bits, and the same at each call.
+    ///
+    /// # Requires
+    ///
+    /// A node of 1 to `count`, and a row of one place more than there are nodes.
+    fn fill(&self, from: u32, row: &mut [i64])
+        requires from { IsNode (nodes self.now) from }
+        requires room { length row.old ≡ nodes self.now + 1 }
+        ensures values { (x : ℕ) → IsNode (nodes self.now) x
+            → least_at row.new x ≡ at self.now from x }
+        ensures small { (x : ℕ) → IsNode (nodes self.now) x
+            → least_at row.new x <ℤ i64.MAX };
+
+    /// Writes the weights between a node and some others, each at the place of its node. What it
+    /// writes at other places says nothing.
+    ///
+    /// # Requires
+    ///
+    /// Nodes of 1 to `count`, and a row of one place more than there are nodes.
+    fn fill_at(&self, from: u32, to: &[u32], row: &mut [i64])
+        requires from { IsNode (nodes self.now) from }
+        requires to { (k : ℕ) → k < length to.now → IsNode (nodes self.now) (slice_index to.now k) }
+        requires room { length row.old ≡ nodes self.now + 1 }
+        ensures values { (k : ℕ) → k < length to.now → least_at row.new (slice_index to.now k)
+            ≡ at self.now from (slice_index to.now k) }
+        ensures small { (k : ℕ)
+            → k < length to.now → least_at row.new (slice_index to.now k) <ℤ i64.MAX }
+    {
+        self.fill(from, row);
+    }
+}
+
+// ---- the number of a row at the place of a node, read or added to
+
+/// The weight of a row at a node.
+#[inline]
+pub fn weight_in(row: &[i64], node: u32) -> i64
+    requires { node < length row.now }
+    ensures { result ≡ least_at row.now node }
+{
+    row[node as usize]
+}
+
+/// Adds a number at a place; the sum is wrapped to 64 bits.
+#[inline]
+pub fn add_at(row: &mut [i64], node: u32, number: i64)
+    requires { node < length row.old }
+    ensures here { least_at row.new node ≡ int_wrap w64 (least_at row.old node +ℤ number) }
+    ensures others { (x : ℕ) → x ≢ node → least_at row.new x ≡ least_at row.old x }
+{
+    let old = weight_in(row, node);
+    row[node as usize] = old.wrapping_add(number);
 }

@@ -1,5 +1,5 @@
 //! The weight of a pair under potentials: its cost at the scale and both potentials, less the
-//! multiplier of a fixed edge. For the least 1-trees in `src/tree.rt`.
+//! multiplier of a fixed edge. For the least 1-trees in `src/bound.rt`.
 
 ghost use Rattle.std.specs.Prelude.{◌≡◌, ◌≤◌, ◌<◌, ◌+◌, ℕ, length, slice_index, pos, neg_ℤ};
 ghost use Rattle.std.specs.List.{All};
@@ -8,20 +8,19 @@ ghost use Rattle.tsp_format.specs.Limits.{most_multiplier};
 ghost use Rattle.tsp_theory.specs.NodeBound.{most_between};
 ghost use Rattle.tsp_theory.specs.CertificateNumbers.{IsFromTo};
 ghost use Rattle.tsp_theory.specs.states.Nearest.{least_at};
-ghost use Rattle.tsp_tree.specs.states.Additions.{IsMoved};
+ghost use Rattle.tsp_bound.specs.states.Additions.{IsMoved};
 ghost use Rattle.tsp_bound.specs.states.ByNode.{lowered_by};
 ghost use Rattle.tsp_bound.specs.states.Multipliers.{node_count};
 ghost use Rattle.tsp_bound.specs.states.Potentials.{numbers_of, weight_under};
 
 use crate::boxed_weights::BoxedWeights;
+use crate::boxes::NumberedSite;
 use crate::by_node::ByNode;
-use crate::numbered_site::NumberedSite;
-use crate::potentials::Potentials;
-use crate::scaled::scaled;
+use crate::potentials::{Potentials, scaled};
+use crate::tree::add_at;
 use std::alloc::Global;
-use tsp_memory::Refused;
+use tsp_io::Refused;
 use tsp_theory::{Costs, Region, Site};
-use tsp_tree::add_at;
 
 /// Costs of three or more nodes, and the potentials and the multipliers of these.
 #[derive(Drop)]
@@ -34,7 +33,7 @@ pub(crate) struct Weights<'a, C: Costs> {
     ghost over: { node_count m.now ≡ C.nodes c.now },
 }
 
-impl<C: Costs> tsp_tree::Weights for Weights<'_, C> {
+impl<C: Costs> crate::tree::Weights for Weights<'_, C> {
     ghost use Rattle.tsp_bound.specs.states.Multipliers.{triples_in, weight_less};
 
     ghost nodes = { λ w. C.nodes w.c.now };

@@ -1,5 +1,5 @@
 -- The weight of an edge of a leaf is at least its base: the scaled cost with the numbers of both ends. For
--- `weight_within` and `is_beyond` in src/boxed_leaf.rt and others.
+-- `weight_within` and `is_beyond` in src/boxed.rt and others.
 use Rattle.std.proofs.Common.{◌≡◌, ◌≢◌, ◌∙◌, ℕ, zero, suc, ◌<◌, ◌==◌, ◌&&◌, Bool, true, false, List, [], ◌∷◌, length, map, get_or, ℤ, ◌≤ℤ◌, inl, inr, refl, ap, sym, subst, arith}
 use Rattle.std.specs.Int.{w64, int_wrap}
 use Rattle.std.specs.Prelude.{pos, negsuc, neg_ℤ, ◌+ℤ◌, ◌*ℤ◌, ◌<ℤ◌, reverse}
@@ -13,7 +13,7 @@ use Rattle.tsp_theory.specs.NodeBound.{weight_between, most_between}
 use Rattle.tsp_bound.specs.states.NodeNumbers.{node_in}
 use Rattle.tsp_cases.specs.GoodNumbers.{most_crossed}
 use Rattle.tsp_cases.specs.GoodFamilies.{HasEachOnce}
-use Rattle.tsp_cases.specs.declared.decision.Decision.{Decision}
+use Rattle.tsp_cases.specs.declared.open_case.Decision.{Decision}
 use Rattle.tsp_cases.specs.states.Sets.{places_with}
 use Rattle.tsp_cases.specs.states.Combed.{AreSmallMultipliers, inside_both, multipliers_at, set_crossings, most_combed, set_weight}
 use Rattle.tsp_cases.specs.states.Decided.{decided, change_of, changes, stack_of}

@@ -1,5 +1,5 @@
 -- Links that decisions close one after the other: after the last one, a link is closed if some decision doesn't allow
--- it. For `close_all` in src/closing.rt.
+-- it. For `close_all` in src/case_leaf.rt.
 use Rattle.std.proofs.Common.{ℕ, ◌+◌, ◌<◌, List, get_or, length, inl, inr, refl, ◌∙◌, arith}
 use Rattle.std.specs.Prelude.{ℤ}
 use Rattle.std.proofs.lemmas.Bool.{cases_eq}

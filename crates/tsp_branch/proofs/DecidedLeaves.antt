@@ -6,7 +6,7 @@ use Rattle.std.specs.Prelude.{pos, neg_ℤ, ◌+ℤ◌, ◌<ℤ◌}
 use Rattle.std.specs.List.{filter}
 use Rattle.std.proofs.lemmas.Int.{ints}
 use Rattle.tsp_theory.specs.CertificateNumbers.{IsFromTo}
-use Rattle.tsp_cases.specs.declared.decision.Decision.{Decision}
+use Rattle.tsp_cases.specs.declared.open_case.Decision.{Decision}
 use Rattle.tsp_cases.specs.Decisions.{DecideOnce}
 use Rattle.tsp_cases.specs.states.Combed.{most_combed}
 use Rattle.tsp_cases.specs.states.Decided.{changes, decided, marks_in, most_decided, stack_of}

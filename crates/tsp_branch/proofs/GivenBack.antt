@@ -1,5 +1,5 @@
 -- What a leaf gives back to its bound, in the order in which code sums it: crossings times multipliers, taken pairs,
--- potentials. For `given_back` in src/given_back.rt and others.
+-- potentials. For `given_back` in src/case_leaf.rt and others.
 use Rattle.std.proofs.Common.{◌≡◌, ◌∙◌, ℕ, Bool, false, ◌+◌, ◌*◌, ◌<◌, ◌^◌, List, [], ◌∷◌, ◌++◌, drop, length, get_or, ℤ, FitsSigned, inl, inr, refl, ap, sym, arith, to_z, of_z, drop-cons, add-one}
 use Rattle.std.specs.Prelude.{pos, neg_ℤ, ◌+ℤ◌, ◌-ℤ◌, ◌*ℤ◌, reverse}
 use Rattle.std.specs.Int.{w64, w128}
@@ -10,10 +10,10 @@ use Rattle.std.proofs.lemmas.List.{reverse-append, length-reverse}
 use Rattle.std.proofs.lemmas.List.Sums.{length-filter, count_by-le-length}
 use Rattle.tsp_theory.specs.CertificateNumbers.{IsFromTo, total}
 use Rattle.tsp_theory.specs.Adjusted.{triples_total}
-use Rattle.tsp_families.specs.declared.family.Crossings.{Crossings}
+use Rattle.tsp_cases.specs.declared.family.Crossings.{Crossings}
 use Rattle.tsp_cases.specs.LeafBound.{least_of}
 use Rattle.tsp_cases.specs.CaseTrees.{multiplied}
-use Rattle.tsp_cases.specs.declared.decision.Decision.{Decision}
+use Rattle.tsp_cases.specs.declared.open_case.Decision.{Decision}
 use Rattle.tsp_cases.specs.Decisions.{on_taken, decided_number}
 use Rattle.tsp_cases.specs.FamiliesOfSets.{families_with, sum_with}
 use Rattle.tsp_cases.specs.states.Decided.{stack_of}

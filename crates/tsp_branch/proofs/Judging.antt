@@ -1,5 +1,5 @@
 -- What judging the leaves finds is the judgement on a certificate, and bounds every cycle. For `judge_leaf` in
--- src/cycle_judge.rt and others.
+-- src/verdict.rt and others.
 use Rattle.std.proofs.Common.{◌≡◌, ◌∙◌, ℕ, ◌^◌, ◌≤◌, Bool, true, false, List, [], ◌∷◌, length, take, drop, ℤ, refl, sym, subst, arith}
 use Rattle.std.specs.Prelude.{Option, None, Some, pos, neg_ℤ}
 use Rattle.std.specs.List.{All}
@@ -15,12 +15,12 @@ use Rattle.tsp_format.specs.states.TreeSteps.{steps_of}
 use Rattle.tsp_format.specs.Steps.{are_whole}
 use Rattle.tsp_theory.specs.Costs.{IsSymmetric}
 use Rattle.tsp_theory.specs.CertificateNumbers.{IsFromTo, IsScale}
-use Rattle.tsp_families.specs.declared.family.Crossings.{Crossings}
+use Rattle.tsp_cases.specs.declared.family.Crossings.{Crossings}
 use Rattle.tsp_cases.specs.declared.judged.JudgedLeaves.{JudgedLeaves}
 use Rattle.tsp_cases.specs.declared.judged.JudgedLeaves.TheVariants as judged
 use Rattle.tsp_cases.specs.declared.judged.JudgedLeaf.TheVariants as leaves
 use Rattle.tsp_cases.specs.Families.{Family, IsFamily}
-use Rattle.tsp_cases.specs.declared.decision.Decision.{Decision}
+use Rattle.tsp_cases.specs.declared.open_case.Decision.{Decision}
 use Rattle.tsp_cases.specs.Decisions.{decided_number}
 use Rattle.tsp_cases.specs.Cases.{LeafNumbers, leaves_of}
 use Rattle.tsp_cases.specs.CaseTrees.{AreLeafNumbers, IsFoundAt, AreCostsFor, BoundsIfAny, CaseTreesBoundCycles}

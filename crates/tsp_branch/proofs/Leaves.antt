@@ -1,5 +1,5 @@
 -- Equal weights have the same least 1-trees, so the bound of a leaf's weights is the bound of the leaf. For
--- `leaf_bound` in src/leaf.rt and others.
+-- `leaf_bound` in src/boxed.rt and others.
 use Rattle.std.proofs.Common.{◌≡◌, ℕ, ◌+◌, ◌*◌, ◌^◌, List, [], ◌∷◌, length, ap₂, refl, sym, arith, ◌∙◌, to_z, of_z, subst}
 use Rattle.std.specs.Int.{w128}
 use Rattle.std.specs.Prelude.{ℤ, pos, neg_ℤ, ◌+ℤ◌, ◌-ℤ◌, ◌*ℤ◌}
@@ -9,8 +9,8 @@ use Rattle.tsp_theory.specs.CertificateNumbers.{IsFromTo, total, IsLeastBound}
 use Rattle.tsp_theory.specs.Tree.{weight_of, IsLeastOneTree}
 use Rattle.tsp_theory.specs.Adjusted.{triples_total}
 use Rattle.tsp_theory.specs.Costs.{IsSymmetric}
-use Rattle.tsp_families.specs.declared.family.Crossings.{Crossings}
-use Rattle.tsp_cases.specs.declared.decision.Decision.{Decision}
+use Rattle.tsp_cases.specs.declared.family.Crossings.{Crossings}
+use Rattle.tsp_cases.specs.declared.open_case.Decision.{Decision}
 use Rattle.tsp_cases.specs.Decisions.{on_taken, on_avoided, decided_number}
 use Rattle.tsp_cases.specs.FamiliesOfSets.{families_with}
 use Rattle.tsp_cases.specs.CaseTrees.{multiplied}

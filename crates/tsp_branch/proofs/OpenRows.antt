@@ -1,5 +1,5 @@
 -- A row of an ATSP's case: closed are the links that a decision doesn't allow, and the least open one is the node's
--- least link. For `AllowedRows::least_from` in src/rows.rt and others.
+-- least link. For `AllowedRows::least_from` in src/case_leaf.rt and others.
 use Rattle.std.proofs.Common.{◌≡◌, ◌≢◌, ℕ, ◌+◌, ◌<◌, Bool, true, false, List, [], ◌∷◌, reverse, get_or, inl, inr, sym, ◌∙◌, subst, arith}
 use Rattle.std.specs.Prelude.{ℤ, ◌↔◌, ◌≤ℤ◌, ◌<ℤ◌}
 use Rattle.std.specs.List.{All, AllByRecursion, Contains, filter}
@@ -9,7 +9,7 @@ use Rattle.std.proofs.lemmas.List.Elements.{All-contains, All-filter, All-from_r
 use Rattle.std.proofs.lemmas.List.Sorted.{IsPermutation-reverse, IsPermutation-sym, Contains-permutation}
 use Rattle.tsp_format.specs.Nodes.{IsNode}
 use Rattle.tsp_theory.specs.states.Nearest.{least_at}
-use Rattle.tsp_cases.specs.declared.decision.Decision.{Decision}
+use Rattle.tsp_cases.specs.declared.open_case.Decision.{Decision}
 use Rattle.tsp_cases.specs.states.Decided.{IsDecision, IsOnPlaces, stack_of}
 use Rattle.tsp_cases.specs.states.OpenCases.{bears_on}
 use Rattle.tsp_cases.specs.Rows.{AllowsLink, Allows, IsAllowed, IsLeastFrom}

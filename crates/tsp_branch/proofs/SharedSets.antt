@@ -1,5 +1,5 @@
 -- The sets that have both of two nodes, by the lists of each node's sets: their multipliers are in the weight twice.
--- For `shared_by` and `has_place` in src/both_sets.rt and others.
+-- For `shared_by` and `has_place` in src/boxed.rt and others.
 use Rattle.std.proofs.Common.{◌≡◌, ◌≢◌, ℕ, zero, suc, ◌+◌, ◌<◌, ◌==◌, ◌&&◌, ◌||◌, Bool, true, false, List, [], ◌∷◌, ◌++◌, length, drop, drop-cons, add-one, get_or, inl, inr, refl, ap, sym, ◌∙◌, arith}
 use Rattle.std.specs.Prelude.{ℤ, pos, ◌+ℤ◌, ◌*ℤ◌, ◌≤ℤ◌, if◌then◌else◌}
 use Rattle.std.specs.List.{All, AllByRecursion}
@@ -7,14 +7,14 @@ use Rattle.std.proofs.lemmas.Bool.{cases_Bool, eq-eqb, ne_eqb}
 use Rattle.std.proofs.lemmas.Int.{ints}
 use Rattle.std.proofs.lemmas.List.Elements.{recursion_from_All}
 use Rattle.tsp_theory.specs.Length.{sum_int_by}
-use Rattle.tsp_families.specs.Crossed.{has}
+use Rattle.tsp_cases.specs.Crossed.{has}
 use Rattle.tsp_cases.specs.GoodFamilies.{HasEachOnce}
-use Rattle.tsp_cases.specs.declared.set_place.SetPlace.{SetPlace}
+use Rattle.tsp_cases.specs.declared.sets.SetPlace.{SetPlace}
 use Rattle.tsp_cases.specs.states.Sets.{added, times, places_in, places_with}
 use Rattle.tsp_cases.specs.states.Places.{place_at, IsPlaceIn}
 use Rattle.tsp_cases.specs.states.Combed.{summed_from, multipliers_at, set_in, twice_in, inside_both, AreSmallMultipliers}
 use Rattle.tsp_branch.specs.states.Shared.{is_same_place, has_place, shared_by, sum_at_places}
-use Rattle.tsp_families.proofs.Lists.{apart_from_pairs}
+use Rattle.tsp_cases.proofs.Lists.{apart_from_pairs}
 use Rattle.tsp_cases.proofs.SetAlgebra.{both_sums, added_once}
 
 -- ---- the multipliers of the sets that have a node, summed over its list

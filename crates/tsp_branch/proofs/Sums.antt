@@ -1,5 +1,5 @@
 -- The sum of the least links of all nodes of an ATSP, node by node, which fits 128 bits. For
--- `AllowedRows::sum_of_least` and `AllowedRows::bound` in src/rows.rt.
+-- `AllowedRows::sum_of_least` and `AllowedRows::bound` in src/case_leaf.rt.
 use Rattle.std.proofs.Common.{◌≡◌, ◌≢◌, ℕ, zero, suc, ◌+◌, ◌^◌, ◌<◌, ◌≤◌, ◌==◌, List, inl, inr, refl, sym, ap, subst, ◌∙◌, arith, add-one, FitsSigned, to_z, of_z}
 use Rattle.std.specs.Prelude.{ℤ, pos, neg_ℤ, ◌+ℤ◌, if◌then◌else◌}
 use Rattle.std.specs.Int.{w64, w128}
@@ -10,7 +10,7 @@ use Rattle.tsp_format.specs.Nodes.{nodes_to}
 use Rattle.tsp_format.specs.Limits.{most_nodes}
 use Rattle.tsp_theory.specs.Length.{sum_int_by}
 use Rattle.tsp_theory.specs.CertificateNumbers.{IsFromTo, IsSumSized}
-use Rattle.tsp_cases.specs.declared.decision.Decision.{Decision}
+use Rattle.tsp_cases.specs.declared.open_case.Decision.{Decision}
 use Rattle.tsp_cases.specs.Rows.{IsLeastFrom, IsSumOfLeast}
 
 -- the sum over one node more at the end

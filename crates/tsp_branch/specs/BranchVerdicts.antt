@@ -5,12 +5,12 @@ use Rattle.tsp_format.specs.Steps as listed
 use Rattle.tsp_theory.specs.CertificateNumbers.{IsBoundSized}
 use Rattle.tsp_cases.specs.declared.judged.JudgedLeaves.{JudgedLeaves}
 use Rattle.tsp_cases.specs.declared.judged.JudgedLeaves.TheVariants as judged
-use Rattle.tsp_branch.specs.declared.judged.BranchVerdict.{BranchVerdict}
-use Rattle.tsp_branch.specs.declared.judged.BranchVerdict.TheVariants as verdict
-use Rattle.tsp_families.specs.declared.family.Crossings.{Crossings}
+use Rattle.tsp_branch.specs.declared.verdict.BranchVerdict.{BranchVerdict}
+use Rattle.tsp_branch.specs.declared.verdict.BranchVerdict.TheVariants as verdict
+use Rattle.tsp_cases.specs.declared.family.Crossings.{Crossings}
 use Rattle.tsp_cases.specs.CaseTrees.{BoundsIfAny}
 use Rattle.tsp_cases.specs.FamiliesOfSets.{families_with}
-use Rattle.tsp_cases.specs.declared.decision.Decision.{Decision}
+use Rattle.tsp_cases.specs.declared.open_case.Decision.{Decision}
 use Rattle.tsp_cases.specs.GoodFamilies.{AreFamilies, IsFirstBadFamily}
 use Rattle.tsp_branch.specs.JudgedLeaves.{AreJudgedLeaves}
 use Rattle.tsp_cases.specs.BadBranches.{AreBranchesWithin}

@@ -1,13 +1,13 @@
 -- The judgement on the leaves of a tree of cases by 1-trees or least links: the bound, or the first bad leaf. For
--- `branch_bound` (src/branch.rt) and BranchVerdicts.antt. JudgedLeaves.antt of tsp_cases has the same for any bound of
+-- `branch_bound` (src/verdict.rt) and BranchVerdicts.antt. JudgedLeaves.antt of tsp_cases has the same for any bound of
 -- a leaf.
 use Rattle.std.specs.Prelude.{ℕ, length, Bool, List, ℤ}
 use Rattle.tsp_format.specs.Steps as listed
 use Rattle.tsp_cases.specs.declared.judged.JudgedLeaves.{JudgedLeaves}
 use Rattle.tsp_cases.specs.declared.judged.JudgedLeaves.TheVariants as judged
-use Rattle.tsp_families.specs.declared.family.Crossings.{Crossings}
+use Rattle.tsp_cases.specs.declared.family.Crossings.{Crossings}
 use Rattle.tsp_cases.specs.Families.{Family}
-use Rattle.tsp_cases.specs.declared.decision.Decision.{Decision}
+use Rattle.tsp_cases.specs.declared.open_case.Decision.{Decision}
 use Rattle.tsp_cases.specs.Decisions.{decided_number}
 use Rattle.tsp_cases.specs.CaseTrees.{IsCaseTree, IsCaseTreeBound, BoundsIfAny}
 use Rattle.tsp_cases.specs.Listed.{listed_steps, AreGoodLeaves, IsFirstBadLeaf}

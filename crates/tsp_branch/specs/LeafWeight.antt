@@ -1,9 +1,9 @@
--- The bound that the weight of a least 1-tree gives for a leaf. For `leaf_bound` (src/leaf.rt) and `bound_of_trees`
--- (src/boxed_leaf.rt).
+-- The bound that the weight of a least 1-tree gives for a leaf. For `leaf_bound` (src/boxed.rt) and `bound_of_trees`
+-- (src/boxed.rt).
 use Rattle.std.specs.Prelude.{◌≡◌, ℕ, List, ℤ, pos, ◌+ℤ◌, ◌-ℤ◌, ◌*ℤ◌}
 use Rattle.tsp_theory.specs.CertificateNumbers.{total, IsLeastBound}
 use Rattle.tsp_theory.specs.Adjusted.{triples_total}
-use Rattle.tsp_tree.specs.Weighed.{IsLeastWeight}
+use Rattle.tsp_bound.specs.Weighed.{IsLeastWeight}
 use Rattle.tsp_cases.specs.Families.{Family}
 use Rattle.tsp_cases.specs.LeafBound.{least_of, leaf_weight, IsLeafBound}
 

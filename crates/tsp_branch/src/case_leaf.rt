@@ -1,22 +1,32 @@
 //! A leaf of a tree of cases, and its bound: by a least 1-tree, or by the least arc from each node.
-//! For `src/cycle_judge.rt` and others.
+//! For `src/verdict.rt` and others.
 
-ghost use Rattle.std.specs.Prelude.{◌≡◌, ◌+◌, ◌<◌, ◌^◌, length};
-ghost use Rattle.tsp_cases.specs.Decisions.{DecideOnce};
+ghost use Rattle.std.specs.Int.{w64, int_wrap};
+ghost use Rattle.std.specs.List.{All, filter};
+ghost use Rattle.std.specs.Prelude.{◌≡◌, ◌+◌, ◌<◌, ◌^◌, length, pos, neg_ℤ, ◌-ℤ◌, ◌*ℤ◌, ℕ, ◌≤◌, List, true, ◌⊎◌, ℤ, ◌≤ℤ◌, ◌≢◌};
+ghost use Rattle.tsp_format.specs.Nodes.{IsNode};
+ghost use Rattle.tsp_theory.specs.Adjusted.{triples_total};
+ghost use Rattle.tsp_theory.specs.CertificateNumbers.{IsFromTo, total, IsScale};
+ghost use Rattle.tsp_theory.specs.states.Nearest.{least_at};
+ghost use Rattle.tsp_cases.specs.CaseTrees.{multiplied};
+ghost use Rattle.tsp_cases.specs.Decisions.{DecideOnce, on_taken, decided_number};
 ghost use Rattle.tsp_cases.specs.GoodNumbers.{AreGoodNumbers, as_leaf_numbers};
-ghost use Rattle.tsp_cases.specs.states.Lent.{lent_in};
+ghost use Rattle.tsp_cases.specs.LeafBound.{least_of};
+ghost use Rattle.tsp_cases.specs.Rows.{Allows};
+ghost use Rattle.tsp_cases.specs.declared.open_case.Decision.{Decision};
 ghost use Rattle.tsp_cases.specs.states.Combed.{AreFewCrossings};
-ghost use Rattle.tsp_cases.specs.states.Decided.{marks_in};
-ghost use Rattle.tsp_cases.specs.states.OpenCases.{IsOpenCase, decisions_in};
+ghost use Rattle.tsp_cases.specs.states.Decided.{marks_in, IsOnPlaces, IsChanged, change_of, changes, stack_of};
 ghost use Rattle.tsp_cases.specs.states.Kept.{AreMoved, AreRowsIfAny, kept_weight};
+ghost use Rattle.tsp_cases.specs.states.Lent.{lent_in, good_in};
+ghost use Rattle.tsp_cases.specs.states.OpenCases.{IsOpenCase, decisions_in, bears_on};
+ghost use Rattle.tsp_cases.specs.states.Sets.{IsMoved};
+ghost use Rattle.tsp_branch.specs.states.Closed.{no_link, IsOpenRow, IsShut};
 
-use crate::boxed_leaf::bound_of_trees;
-use crate::given_back::{given_back, taken_back};
-use crate::leaf_sum::LeafSum;
-use crate::rows::AllowedRows;
+use crate::boxed::{bound_of_trees, rounded_up};
 use std::alloc::Global;
-use tsp_cases::{OpenCase, Setting};
-use tsp_memory::Refused;
+use tsp_bound::{Weights, add_at};
+use tsp_cases::{DECIDED, Decision, Multipliers, OpenCase, Setting, sum_left, sum_with};
+use tsp_io::Refused;
 use tsp_theory::Costs;
 
 /// A leaf: its case, the setting that it shares with all others, and its numbers, which are good.
@@ -126,4 +136,274 @@ impl<C: Costs> CaseLeaf<'_, C> {
         };
         rows.bound(row, sum)
     }
+}
+
+// ---- the sum that a leaf gives back to its bound
+
+/// The least crossings of a leaf's families, each times its multiplier, less each potential twice:
+/// at most 2^98 in size.
+fn given_back<C: Costs>(leaf: &CaseLeaf<C>) -> i128
+    ensures value { result ≡ least_of (multiplied (good_in leaf.now.setting.now.families.now) leaf.now.multipliers.now)
+        -ℤ (pos 2 *ℤ total leaf.now.potentials.now) }
+    ensures size { IsFromTo (neg_ℤ (pos (2 ^ 98))) (pos (2 ^ 98)) result }
+{
+    let multipliers = Multipliers {
+        families: leaf.setting.families,
+        numbers: leaf.multipliers,
+    };
+    sum_with(false, &multipliers) - 2 * total(leaf)
+}
+
+/// The sum of the potentials of a leaf.
+fn total<C: Costs>(leaf: &CaseLeaf<C>) -> i128
+    ensures value { result ≡ total leaf.now.potentials.now }
+    ensures size { IsFromTo (neg_ℤ (pos (2 ^ 95))) (pos (2 ^ 95)) result }
+{
+    let mut sum = 0;
+    'numbers: for number in leaf.potentials {
+        sum += i128::from(*number);
+    }
+    sum
+}
+
+/// The numbers of the taken pairs.
+fn taken_back(taken: &[Decision]) -> i128
+    requires { length taken.now < 2 ^ 33 }
+    ensures value { result ≡ triples_total (on_taken decided_number taken.now) }
+    ensures size { IsFromTo (pos 0) (pos (2 ^ 95)) result }
+{
+    let mut sum = 0;
+    'decisions: for decision in taken {
+        if decision.taken {
+            sum += i128::from(DECIDED);
+        }
+    }
+    sum
+}
+
+// ---- the change of a pair's weight by the decisions of a case
+
+/// Changes the row of a node by decisions.
+pub(crate) fn change_row(row: &mut [i64], decisions: &[Decision], from: u32)
+    requires { All (IsOnPlaces (length row.old)) decisions.now }
+    ensures { (x : ℕ) → IsMoved (changes decisions.now from x) (least_at row.old x) (least_at row.new x) }
+{
+    'decisions: for decision in decisions {
+        change(row, *decision, from);
+    }
+}
+
+/// Changes the row of a node by a decision, where its pair has that node.
+///
+/// What two decisions on one pair come to may go past 64 bits on the way, so sums are taken in
+/// their remainders.
+fn change(row: &mut [i64], decision: Decision, from: u32)
+    requires { IsOnPlaces (length row.old) decision }
+    ensures { (x : ℕ) → IsChanged decision from x (least_at row.old x) (least_at row.new x) }
+{
+    let (first, second) = decision.pair;
+    let number = if decision.taken { -DECIDED } else { DECIDED };
+    // Nothing is added at the other node where the row is of neither: a branch that is seldom
+    // guessed right would cost more.
+    let other = if first == from { second } else { first };
+    let is_at = first == from || second == from;
+    add_at(row, other, if is_at { number } else { 0 });
+}
+
+/// What a decision adds to the weight between two nodes.
+fn change_of(decision: Decision, from: u32, to: u32) -> i64
+    ensures { result ≡ change_of decision from to }
+{
+    let (first, second) = decision.pair;
+    if !((first == from && second == to) || (second == from && first == to)) {
+        return 0;
+    }
+    if decision.taken { -DECIDED } else { DECIDED }
+}
+
+/// What decisions add to the weight between two nodes, wrapped to 64 bits.
+pub(crate) fn change_between(decisions: &[Decision], from: u32, to: u32) -> i64
+    ensures { int_wrap w64 result ≡ int_wrap w64 (changes decisions.now from to) }
+{
+    let mut sum = 0;
+    'decisions: for decision in decisions {
+        sum = sum_left(sum, change_of(*decision, from, to));
+    }
+    sum
+}
+
+// ---- the sum that a leaf gives back, with the scale
+
+/// What a leaf gives back, and its scale: with it the weight of a least 1-tree, or of the least
+/// links, is a bound at the scale.
+#[derive(Clone, Copy)]
+pub(crate) struct LeafSum {
+    pub(crate) scale: i64,
+    /// At most 2^99 in size.
+    pub(crate) given_back: i128,
+    ghost scaled: { IsScale scale },
+    ghost size: { IsFromTo (neg_ℤ (pos (2 ^ 99))) (pos (2 ^ 99)) given_back },
+}
+
+// ---- the bound of a leaf by the least arc from each node, where pairs have a direction
+
+/// Weights by rows, and the decisions of a case, by which a link is allowed or not. Pairs have a
+/// direction.
+#[derive(Drop)]
+pub(crate) struct AllowedRows<'a, W: Weights> {
+    pub(crate) weights: &'a W,
+    pub(crate) case: &'a OpenCase<'a>,
+    ghost is_case: { IsOpenCase (W.nodes weights.now) case.now },
+    ghost direction: { case.now.by_node.directed ≡ true },
+}
+
+impl<W: Weights> AllowedRows<'_, W> {
+    ghost use Rattle.std.specs.Prelude.{◌≡◌, ◌+◌, ℕ, length, MatchOption, IfSome};
+    ghost use Rattle.tsp_format.specs.Nodes.{IsNode};
+    ghost use Rattle.tsp_format.specs.Limits.{most_nodes};
+    ghost use Rattle.tsp_theory.specs.CertificateNumbers.{IsBoundSized, IsSumSized};
+    ghost use Rattle.tsp_cases.specs.states.OpenCases.{decisions_in};
+    ghost use Rattle.tsp_cases.specs.Rows.{IsAllowed, HasNoLink, IsLeastFrom, IsSumOfLeast, IsRowBound};
+
+    /// The bound of a leaf that has these weights: the least whole number that at the scale is no
+    /// less than the least weights from all nodes plus a sum. `None` where the decisions allow no
+    /// link from some node: then no cycle keeps them.
+    ///
+    /// # Requires
+    ///
+    /// A row of one place more than there are nodes, which is overwritten.
+    pub(crate) fn bound(&self, row: &mut [i64], sum: LeafSum) -> Option<i128>
+        requires room { length row.old ≡ W.nodes self.now.weights.now + 1 }
+        ensures bound { MatchOption result (HasNoLink (W.nodes self.now.weights.now) (decisions_in self.now.case.now))
+            (λ bound. IsRowBound (W.nodes self.now.weights.now) (W.at self.now.weights.now)
+            (decisions_in self.now.case.now) sum.scale sum.given_back bound) }
+        ensures size { IfSome result IsBoundSized }
+    {
+        let least = self.sum_of_least(row)?;
+        Some(rounded_up(sum.scale, least + sum.given_back))
+    }
+
+    /// The sum of the least weights of the allowed links from each node.
+    fn sum_of_least(&self, row: &mut [i64]) -> Option<i128>
+        requires { length row.old ≡ W.nodes self.now.weights.now + 1 }
+        ensures sum { MatchOption result (HasNoLink (W.nodes self.now.weights.now) (decisions_in self.now.case.now))
+            (λ sum. IsSumOfLeast (W.nodes self.now.weights.now) (W.at self.now.weights.now)
+            (decisions_in self.now.case.now) (W.nodes self.now.weights.now) sum) }
+        ensures size { IfSome result (IsSumSized most_nodes) }
+    {
+        let mut sum = 0;
+        'nodes: for index in 0..self.weights.count() {
+            let Some(least) = self.least_from(index + 1, row) else {
+                return None;
+            };
+            sum += i128::from(least);
+        }
+        Some(sum)
+    }
+
+    /// The least weight of the allowed links from a node; `None` where no link is allowed.
+    fn least_from(&self, from: u32, row: &mut [i64]) -> Option<i64>
+        requires from { IsNode (W.nodes self.now.weights.now) from }
+        requires room { length row.old ≡ W.nodes self.now.weights.now + 1 }
+        ensures { MatchOption result
+            ((x : ℕ) → IsAllowed (W.nodes self.now.weights.now) (decisions_in self.now.case.now) from x → ⊥)
+            (λ least. IsLeastFrom (W.nodes self.now.weights.now) (W.at self.now.weights.now)
+            (decisions_in self.now.case.now) from least) }
+    {
+        self.weights.fill(from, row);
+        close_row(row, self.case.at(from), &self.case.by_node.taken, from);
+        let least = least_in(row);
+        if least == CLOSED {
+            return None;
+        }
+        Some(least)
+    }
+}
+
+/// Closes in the row of a node the place of the node itself, and what some decision doesn't allow:
+/// one that begins at the node, or one that takes its pair.
+fn close_row(row: &mut [i64], own: &[Decision], taken: &[Decision], from: u32)
+    requires own { All (λ decision. decision.pair.1 < length row.old) own.now }
+    requires taken { All (λ decision. decision.pair.1 < length row.old) taken.now }
+    requires from { from < length row.old }
+    ensures { (n : ℕ) (w : ℕ → ℕ → ℤ) (case : List Decision) → n < length row.old
+        → ((x : ℕ) → IsNode n x → least_at row.old x ≡ w from x)
+        → stack_of own.now ≡ filter (bears_on true from) case
+        → stack_of taken.now ≡ filter (λ decision. decision.taken) case → IsOpenRow n w case from row.new }
+{
+    shut(row, from);
+    close_all(row, own, from);
+    close_all(row, taken, from);
+}
+
+/// The least number of a row from place 1 on.
+fn least_in(row: &[i64]) -> i64
+    requires { 1 ≤ length row.now }
+    ensures below { (x : ℕ) → 1 ≤ x → x < length row.now → result ≤ℤ least_at row.now x }
+    ensures reached { (result ≡ no_link)
+        ⊎ ((x : ℕ) × (1 ≤ x) × (x < length row.now) × (result ≡ least_at row.now x)) }
+{
+    let mut least = CLOSED;
+    'places: for place in 1..row.len() {
+        if row[place] < least {
+            least = row[place];
+        }
+    }
+    least
+}
+
+// ---- the row of a node's weights in which the arcs that decisions don't allow are closed
+
+/// The weight that means no link: all weights are below it.
+const CLOSED: i64 = i64::MAX;
+
+/// Closes in the row of a node each link that some decision doesn't allow.
+fn close_all(row: &mut [i64], decisions: &[Decision], from: u32)
+    requires { All (λ decision. decision.pair.1 < length row.old) decisions.now }
+    ensures { (x : ℕ) → x < length row.old
+        → IsShut (All (Allows from x) decisions.now) (least_at row.old x) (least_at row.new x) }
+{
+    'decisions: for decision in decisions {
+        close(row, *decision, from);
+    }
+}
+
+/// Closes in the row of a node what a decision doesn't allow: where the pair is taken and starts
+/// at the node, all other links, and where it starts elsewhere, the link to its second node; where
+/// it is avoided and starts at the node, that link.
+fn close(row: &mut [i64], decision: Decision, from: u32)
+    requires { decision.pair.1 < length row.old }
+    ensures { (x : ℕ) → x < length row.old
+        → IsShut (Allows from x decision) (least_at row.old x) (least_at row.new x) }
+{
+    let (first, second) = decision.pair;
+    if !decision.taken {
+        if first == from {
+            shut(row, second);
+        }
+    } else if first == from {
+        shut_others(row, second);
+    } else {
+        shut(row, second);
+    }
+}
+
+/// Closes the link to a node in a row.
+fn shut(row: &mut [i64], node: u32)
+    requires { node < length row.old }
+    ensures here { least_at row.new node ≡ no_link }
+    ensures others { (x : ℕ) → x ≢ node → least_at row.new x ≡ least_at row.old x }
+{
+    row[node as usize] = CLOSED;
+}
+
+/// Closes all links but one.
+fn shut_others(row: &mut [i64], node: u32)
+    requires { node < length row.old }
+    ensures here { least_at row.new node ≡ least_at row.old node }
+    ensures others { (x : ℕ) → x < length row.old → x ≢ node → least_at row.new x ≡ no_link }
+{
+    let kept = row[node as usize];
+    row.fill(CLOSED);
+    row[node as usize] = kept;
 }

@@ -1,5 +1,5 @@
-//! The weights of a leaf as rows, for its least 1-tree in `src/boxed_leaf.rt` or its least arcs in
-//! `src/rows.rt`.
+//! The weights of a leaf as rows, for its least 1-tree in `src/boxed.rt` or its least arcs in
+//! `src/case_leaf.rt`.
 //!
 //! The nodes of a pair cross a set once for each of them that it has, less twice where it has both.
 //! So each multiplier is taken off the potentials of its sets' nodes, and a row needs besides these
@@ -8,18 +8,17 @@
 ghost use Rattle.std.specs.Prelude.{◌≡◌, true, pos, neg_ℤ};
 ghost use Rattle.tsp_theory.specs.CertificateNumbers.{IsFromTo, most_number};
 
-use crate::both_sets::are_few;
-use crate::case_leaf::CaseLeaf;
-use crate::decided::change_row;
-use crate::steps::suit_boxes;
+use crate::boxed::are_few;
+use crate::case_leaf::{CaseLeaf, change_row};
+use crate::verdict::suit_boxes;
 use std::alloc::Global;
+use tsp_bound::{Growing, Grown, Weights, grow, weight_in};
 use tsp_cases::{
     DECIDED, MultipliedFamilies, Multipliers, add_sets, fill_shifted, scale_row, shift_row,
     sum_left,
 };
-use tsp_memory::Refused;
+use tsp_io::Refused;
 use tsp_theory::Costs;
-use tsp_tree::{Growing, Grown, Weights, grow, weight_in};
 
 /// Whether a number of a node is at most as large as that on a decided pair, as it has to be where
 /// boxes bound the weights.

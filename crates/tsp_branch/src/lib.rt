@@ -9,25 +9,12 @@
 //! ```
 #![tactic(auto)]
 
-mod both_sets;
-mod boxed_leaf;
-mod branch;
+mod boxed;
 mod case_leaf;
-mod closing;
-mod cycle_judge;
-mod decided;
-mod given_back;
-mod judged;
-mod leaf;
 mod leaf_rows;
-mod leaf_sum;
-mod rows;
-mod steps;
 mod verdict;
 
-pub use branch::branch_bound;
-pub use judged::BranchVerdict;
-pub use leaf::leaf_bound;
+pub use boxed::leaf_bound;
 pub use tsp_cases::{
     CaseTree, Cases, Crossings, Decision, Families, JudgedCases, JudgedFamilies, JudgedLeaves,
     case_tree_bounds_are_unique, case_trees_bound_cycles, cases_bound_cycles, cases_have_no_cycle,
@@ -36,4 +23,4 @@ pub use tsp_cases::{
     links_are_allowed, numbers_are_unique, row_leaf_bounds_bound_cycles, sets_tell_combs,
     stacks_hold_cases, steps_leave_cases, sums_are_below_cycles,
 };
-pub use verdict::judge_branches;
+pub use verdict::{BranchVerdict, branch_bound, judge_branches};

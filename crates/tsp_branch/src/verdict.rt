@@ -1,16 +1,33 @@
 //! Judges a certificate by branching: its families, then its branches, then its leaves. For
-//! `src/branching_bound.rt` of tsp_verdict.
+//! `src/certificate.rt` of tsp_verdict.
 
-ghost use Rattle.std.specs.Prelude.{IfOk};
+ghost use Rattle.std.specs.List.{All};
+ghost use Rattle.std.specs.Prelude.{IfOk, ◌≡◌, ◌≤◌, ◌<◌, ◌^◌, false, length, ◌+◌};
 ghost use Rattle.tsp_format.specs.states.TreeSteps.{steps_of};
-ghost use Rattle.tsp_families.specs.FamilySets.{families_in};
+ghost use Rattle.tsp_theory.specs.Costs.{IsSymmetric};
+ghost use Rattle.tsp_cases.specs.CaseTrees.{IsFoundAt};
+ghost use Rattle.tsp_cases.specs.Decisions.{DecideOnce, decided_number};
+ghost use Rattle.tsp_cases.specs.Families.{IsFamily};
+ghost use Rattle.tsp_cases.specs.FamilySets.{families_in};
+ghost use Rattle.tsp_cases.specs.GoodNumbers.{AreGoodNumbers};
+ghost use Rattle.tsp_cases.specs.JudgedLeaves.{AreSizedLeaves, IsFoundOfCase, IsSizedLeaf};
+ghost use Rattle.tsp_cases.specs.states.Decided.{marks_in};
+ghost use Rattle.tsp_cases.specs.states.Kept.{HoldsRows};
+ghost use Rattle.tsp_cases.specs.states.Lent.{good_in, lent_in};
+ghost use Rattle.tsp_cases.specs.states.OpenCases.{IsOpenCase, decisions_in};
+ghost use Rattle.tsp_cases.specs.states.Rooms.{IsRoom};
 ghost use Rattle.tsp_branch.specs.BranchVerdicts.{IsBranchVerdict, VerdictBoundsCycles, IsSizedVerdict};
+ghost use Rattle.tsp_branch.specs.JudgedLeaves.{AreJudgedLeaves, BoundsCycles};
 
-use crate::branch::branch_bound;
-use crate::judged::BranchVerdict;
+use crate::case_leaf::CaseLeaf;
 use std::alloc::Global;
-use tsp_cases::{CaseTree, JudgedCases, JudgedFamilies, JudgedLeaves, judge_cases, judge_families};
-use tsp_memory::Refused;
+use tsp_cases::{
+    CaseSteps, CaseTree, Cases, Decision, Families, JudgedCases, JudgedFamilies, JudgedLeaf,
+    JudgedLeaves, LeafJudge, Multipliers, OpenCase, Room, SetPlace, Setting,
+    case_trees_bound_cycles, fill_moved, judge_cases, judge_families, judge_leaves, judge_numbers,
+    sets_by_node,
+};
+use tsp_io::Refused;
 use tsp_theory::Costs;
 
 /// The verdict on a certificate by branching: the first family that isn't good, or the first branch
@@ -48,4 +65,302 @@ pub fn judge_branches<C: Costs>(alloc: Global, tree: &CaseTree<C>) -> Result<Bra
         JudgedLeaves::Bound(bound) => Ok(BranchVerdict::Bound(bound)),
         JudgedLeaves::BadLeaf(leaf) => Ok(BranchVerdict::BadLeaf(leaf)),
     }
+}
+
+// ---- the verdict on a certificate by branching, as an enum
+
+/// The verdict on a certificate by branching.
+#[derive(Drop)]
+pub enum BranchVerdict {
+    /// The bound: no cycle that keeps the given decisions is shorter. `None` where no leaf has one:
+    /// then no cycle keeps them.
+    Bound(Option<i128>),
+    /// The first family that isn't good, counted from 1.
+    BadFamily(usize),
+    /// The first branch that isn't on two nodes, counted from 1.
+    BadBranch(usize),
+    /// The first branch on a pair that is decided above it or given, counted from 1.
+    BranchTwice(usize),
+    /// The first leaf that isn't good, counted from 1.
+    BadLeaf(usize),
+}
+
+// ---- the bound of a certificate by branching
+
+/// The bound of cases: the least of the bounds of the leaves, which is at most the length of every
+/// cycle that keeps the given decisions, or none where no leaf has one. Or the first leaf that is
+/// not good: one with an index past those of the nodes and the families, with a potential above
+/// 10^15 in size, with a negative multiplier, or with multipliers that sum to more than 9 * 10^17,
+/// where each counts as often as two nodes cross its family at most.
+///
+/// Where pairs have no direction the bound of a leaf is that of a least 1-tree, else that of the
+/// least link from each node.
+///
+/// # Requires
+///
+/// Three or more nodes, costs that are the same in both directions where pairs have none, and
+/// families and cases of these nodes.
+///
+/// # Errors
+///
+/// Out of memory, of which it takes some for each node, each comb, each node of a set, and
+/// each decision of a case. For trees of several leaves it also takes some for each pair of up to
+/// 2,000 nodes, where there is any.
+pub fn branch_bound<C: Costs>(
+    alloc: Global,
+    costs: &C,
+    families: &Families,
+    cases: &Cases,
+) -> Result<JudgedLeaves, Refused>
+    requires some { 3 ≤ C.nodes costs.now }
+    requires even { cases.now.directed ≡ false → IsSymmetric (C.at costs.now) }
+    requires families { families.now.nodes ≡ C.nodes costs.now }
+    requires cases { cases.now.nodes ≡ C.nodes costs.now }
+    ensures judged { IfOk result (λ judged. All (IsFamily (C.nodes costs.now)) (good_in families.now)
+        → AreJudgedLeaves cases.now.directed (C.nodes costs.now) (C.at costs.now) cases.now.scale (good_in families.now)
+        families.now.crossed.items cases.now.given.now (steps_of cases.now.steps.now) judged) }
+    ensures cycles { IfOk result
+        (BoundsCycles cases.now.directed (C.nodes costs.now) (C.at costs.now) cases.now.given.now) }
+    ensures size { IfOk result AreSizedLeaves }
+{
+    case_trees_bound_cycles();
+    let by_node = sets_by_node(alloc, families)?;
+    let setting = Setting {
+        costs,
+        cases,
+        families,
+        by_node: &by_node,
+    };
+    judge_setting(alloc, &setting)
+}
+
+/// The least of the bounds of the leaves, or the first leaf that isn't good.
+///
+/// # Errors
+///
+/// Out of memory.
+fn judge_setting<C: Costs>(alloc: Global, setting: &Setting<C>) -> Result<JudgedLeaves, Refused>
+    ensures judged { IfOk result (λ judged. All (IsFamily (C.nodes setting.now.costs.now)) (good_in setting.now.families.now)
+        → AreJudgedLeaves setting.now.cases.now.directed (C.nodes setting.now.costs.now) (C.at setting.now.costs.now)
+        setting.now.cases.now.scale (good_in setting.now.families.now) setting.now.families.now.crossed.items
+        setting.now.cases.now.given.now (steps_of setting.now.cases.now.steps.now) judged) }
+    ensures size { IfOk result AreSizedLeaves }
+{
+    let mut room = Room::new(alloc, setting, keeps_rows(setting))?;
+    let steps = CaseSteps {
+        places: setting.cases.nodes,
+        directed: setting.cases.directed,
+        given: setting.cases.given,
+        steps: setting.cases.steps,
+    };
+    let count = setting.costs.count() as usize + setting.families.crossed.len();
+    let judge = CycleJudge { setting };
+    judge_leaves(alloc, &judge, &steps, &mut room, count)
+}
+
+// ---- estimates how long leaves take by boxes and by rows, so that `src/verdict.rt` and
+
+// 20 leaves over 2,001 random points, without sets.
+const NODE_BY_BOXES: u64 = 1_900;
+
+// Two sets of a node: a leaf over 5,000 points in 100 nested sets. A node meets some others, and
+// each time all its sets are compared with all of theirs.
+const COMPARED_SETS: u64 = 20;
+
+// 20 leaves over 2,000 random points: a pair of a kept row, and its cost, which is computed once.
+const PAIR_BY_KEPT_ROWS: u64 = 2;
+
+const PAIR_OF_COSTS: u64 = 11;
+
+// 20 leaves over 2,001 points in 88 sets each, by rows that aren't kept.
+const PAIR_BY_ROWS: u64 = 9;
+
+/// Whether a tree of cases keeps rows: where it has several leaves, unless all of them seem to take
+/// less time by boxes.
+fn keeps_rows<C: Costs>(setting: &Setting<C>) -> bool {
+    let steps = setting.cases.steps.len() as u64;
+    if steps <= 1 {
+        return false;
+    }
+    if setting.cases.directed || setting.costs.site(1).is_none() {
+        return true;
+    }
+    let leaves = steps / 2 + 1;
+    let nodes = setting.by_node.len() as u64;
+    let pair = PAIR_OF_COSTS.saturating_add(PAIR_BY_KEPT_ROWS.saturating_mul(leaves));
+    let boxes = NODE_BY_BOXES.saturating_mul(nodes);
+    let leaf = boxes.saturating_add(time_of_comparing(setting.by_node));
+    pair.saturating_mul(squared(nodes)) < leaves.saturating_mul(leaf)
+}
+
+/// Whether a leaf without kept rows seems to take no more time by boxes than by rows, under sets by
+/// node and sets of families.
+///
+/// What boxes take without sets isn't counted: it is more than by rows only below some 200 nodes,
+/// where either takes less than a millisecond.
+pub(crate) fn suit_boxes(by_node: &[Vec<SetPlace>], families: &[Vec<Vec<u32>>]) -> bool {
+    let rows = PAIR_BY_ROWS.saturating_mul(squared(by_node.len() as u64));
+    time_of_comparing(by_node) <= rows.saturating_add(steps_of_sets(families))
+}
+
+/// The time that a leaf by boxes takes to compare the sets of nodes.
+fn time_of_comparing(by_node: &[Vec<SetPlace>]) -> u64 {
+    COMPARED_SETS.saturating_mul(compared(by_node))
+}
+
+fn squared(number: u64) -> u64 {
+    number.saturating_mul(number)
+}
+
+/// The steps by which the sets of each node are compared with as many others.
+fn compared(by_node: &[Vec<SetPlace>]) -> u64 {
+    let mut steps: u64 = 0;
+    'nodes: for places in by_node {
+        steps = steps.saturating_add(squared(places.len() as u64));
+    }
+    steps
+}
+
+/// The steps by which the sets of each node are added to its row, of a nanosecond each.
+fn steps_of_sets(families: &[Vec<Vec<u32>>]) -> u64 {
+    let mut steps: u64 = 0;
+    'families: for sets in families {
+        steps = steps.saturating_add(steps_of_family(sets));
+    }
+    steps
+}
+
+/// The steps by which the sets of a family are added to rows.
+fn steps_of_family(sets: &[Vec<u32>]) -> u64 {
+    let mut steps: u64 = 0;
+    'sets: for set in sets {
+        steps = steps.saturating_add(squared(set.len() as u64));
+    }
+    steps
+}
+
+// ---- the judge of the leaves of a certificate for tours
+
+/// Judges leaves by least 1-trees, or by the least links where pairs have a direction.
+#[derive(Drop)]
+pub(crate) struct CycleJudge<'a, C: Costs> {
+    pub(crate) setting: &'a Setting<'a, C>,
+}
+
+impl<C: Costs> LeafJudge for CycleJudge<'_, C> {
+    ghost use Rattle.std.specs.Prelude.{length};
+    ghost use Rattle.tsp_cases.specs.Decisions.{DecideOnce, decided_number};
+    ghost use Rattle.tsp_cases.specs.GoodNumbers.{AreGoodNumbers};
+    ghost use Rattle.tsp_cases.specs.CaseTrees.{IsFoundAt};
+    ghost use Rattle.tsp_cases.specs.states.Lent.{lent_in, good_in};
+    ghost use Rattle.tsp_cases.specs.states.Decided.{marks_in};
+    ghost use Rattle.tsp_cases.specs.states.Kept.{HoldsRows};
+    ghost use Rattle.tsp_cases.specs.states.Rooms.{IsRoom};
+
+    type Memory = Room;
+
+    ghost nodes = { λ judge. C.nodes judge.setting.now.costs.now };
+
+    ghost combs = { λ judge. length judge.setting.now.families.now.crossed.items };
+
+    ghost places = { λ judge. C.nodes judge.setting.now.costs.now };
+
+    ghost directed = { λ judge. judge.setting.now.cases.now.directed };
+
+    ghost fits = { λ judge case. DecideOnce judge.setting.now.cases.now.directed case };
+
+    ghost good = { λ judge numbers. AreGoodNumbers (C.nodes judge.setting.now.costs.now)
+        judge.setting.now.families.now.crossed.items numbers };
+
+    ghost found = { λ judge. IsFoundAt judge.setting.now.cases.now.directed (C.nodes judge.setting.now.costs.now)
+        (C.at judge.setting.now.costs.now) judge.setting.now.cases.now.scale decided_number
+        (good_in judge.setting.now.families.now) };
+
+    ghost holds = { λ judge room case. IsRoom (C.nodes judge.setting.now.costs.now)
+        (length judge.setting.now.families.now.crossed.items) room
+        × HoldsRows (C.nodes judge.setting.now.costs.now) (length judge.setting.now.families.now.crossed.items)
+        judge.setting.now.cases.now.scale (lent_in judge.setting.now.families.now) (C.at judge.setting.now.costs.now)
+        (marks_in judge.setting.now.cases.now.directed case) room.kept };
+
+    fn enter(&self, memory: &mut Room, decision: Decision) {
+        memory.kept.mark(self.setting.cases.directed, decision);
+    }
+
+    fn leave(&self, memory: &mut Room, stack: &[Decision]) {
+        memory.kept.leave(self.setting.cases.directed, stack);
+    }
+
+    fn judge(
+        &self,
+        alloc: Global,
+        case: &OpenCase,
+        numbers: &[i128],
+        memory: &mut Room,
+    ) -> Result<JudgedLeaf, Refused> {
+        // The setting is lent again, since the case changes before the next leaf.
+        judge_leaf(alloc, &*self.setting, case, numbers, memory)
+    }
+}
+
+/// The bound of the leaf with these numbers, where they are good.
+///
+/// # Errors
+///
+/// Out of memory.
+fn judge_leaf<C: Costs>(
+    alloc: Global,
+    setting: &Setting<C>,
+    case: &OpenCase,
+    numbers: &[i128],
+    room: &mut Room,
+) -> Result<JudgedLeaf, Refused>
+    requires case { IsOpenCase (C.nodes setting.now.costs.now) case.now }
+    requires direction { case.now.by_node.directed ≡ setting.now.cases.now.directed }
+    requires once { DecideOnce setting.now.cases.now.directed (decisions_in case.now) }
+    requires few { length (decisions_in case.now) < 2 ^ 33 }
+    requires numbers { length numbers.now
+        ≡ C.nodes setting.now.costs.now + length setting.now.families.now.crossed.items }
+    requires room { IsRoom (C.nodes setting.now.costs.now)
+        (length setting.now.families.now.crossed.items) room.old }
+    requires kept { HoldsRows (C.nodes setting.now.costs.now)
+        (length setting.now.families.now.crossed.items) setting.now.cases.now.scale
+        (lent_in setting.now.families.now) (C.at setting.now.costs.now)
+        (marks_in setting.now.cases.now.directed (decisions_in case.now)) room.old.kept }
+    ensures judged { IfOk result (IsFoundOfCase (IsFoundAt setting.now.cases.now.directed
+        (C.nodes setting.now.costs.now) (C.at setting.now.costs.now)
+        setting.now.cases.now.scale decided_number (good_in setting.now.families.now))
+        (AreGoodNumbers (C.nodes setting.now.costs.now) setting.now.families.now.crossed.items)
+        (C.nodes setting.now.costs.now) (decisions_in case.now) numbers.now) }
+    ensures room { IfOk result (λ own. IsRoom (C.nodes setting.now.costs.now)
+        (length setting.now.families.now.crossed.items) room.new) }
+    ensures kept { IfOk result (λ own. HoldsRows (C.nodes setting.now.costs.now)
+        (length setting.now.families.now.crossed.items) setting.now.cases.now.scale
+        (lent_in setting.now.families.now) (C.at setting.now.costs.now)
+        (marks_in setting.now.cases.now.directed (decisions_in case.now)) room.new.kept) }
+    ensures size { IfOk result IsSizedLeaf }
+{
+    if !judge_numbers(
+        numbers,
+        setting.families,
+        &mut room.potentials,
+        &mut room.multipliers,
+    ) {
+        return Ok(JudgedLeaf::Bad);
+    }
+    let multipliers = Multipliers {
+        families: setting.families,
+        numbers: &room.multipliers,
+    };
+    room.kept.bring_to(&multipliers, setting.by_node);
+    fill_moved(&mut room.moved, &room.potentials, &room.kept.ends);
+    let leaf = CaseLeaf {
+        setting: &*setting,
+        case,
+        potentials: &room.potentials,
+        multipliers: &room.multipliers,
+        moved: &room.moved,
+        kept: &room.kept.rows,
+    };
+    let bound = leaf.bound(alloc, &mut room.row)?;
+    Ok(JudgedLeaf::Found(bound))
 }

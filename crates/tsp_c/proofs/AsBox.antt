@@ -1,4 +1,4 @@
--- A handle and the parts of a box own what a box of an open instance owns. For `Loose::into_parts` in src/loose.rt and
+-- A handle and the parts of a box own what a box of an open instance owns. For `Loose::into_parts` in src/handle.rt and
 -- others.
 use mir.Syntax.{impl, tnil, dnil}
 use mathlib.Core.List.{[]}
@@ -9,8 +9,8 @@ use Rattle.std_heap.specs.contracts.GlobalAllocator.TheImpl.{ghosts, dict}
 use Rattle.std_heap.proofs.Global.TheLaws as heap
 use Rattle.tsp_judge.specs.contracts.opened.Opened as Opened
 use Rattle.tsp_judge.proofs.opened.Opened.TheLaws as opened
-use Rattle.tsp_c.specs.contracts.box_parts.BoxParts as BoxParts
-use Rattle.tsp_c.specs.contracts.loose.Loose as Loose
+use Rattle.tsp_c.specs.contracts.handle.BoxParts as BoxParts
+use Rattle.tsp_c.specs.contracts.handle.Loose as Loose
 
 abbrev pub E : Bx
 E = record { row = Opened.the_row; laws = opened.the_row_laws; al = record { row = Heap.the_row; laws = heap.the_row_laws; g = ghosts; d = dict; drops = impl [] tnil dnil } }

@@ -1,23 +1,23 @@
 -- The numbers that C gets of a run on texts: each fits, and they say the verdict or the fault on these texts. For
--- `bounded` and `checked` in src/texts.rt.
+-- `bounded` and `checked` in src/picked_runs.rt.
 use Rattle.std.proofs.Common.{◌≡◌, ◌≢◌, ℕ, ◌≤◌, ◌^◌, List, Bool, true, false, Result, Ok, Err, inl, inr, sym, subst, ◌∙◌, arith}
 use Rattle.std.specs.Prelude.{Option, Some, ℤ, pos, negsuc, IfOk, unsigned_abs}
 use Rattle.std.proofs.lemmas.Int.{ints}
-use Rattle.tsp_stream.specs.Turn.{Turn}
-use Rattle.tsp_stream.specs.Sink.{Sink}
-use Rattle.tsp_draft.specs.Fields.{Fields}
-use Rattle.tsp_task.specs.declared.certificate.Certificate.{Certificate}
-use Rattle.tsp_task.specs.declared.verdict.BoundVerdict.{BoundVerdict}
-use Rattle.tsp_task.specs.declared.verdict.BoundVerdict.TheVariants as bounds
-use Rattle.tsp_task.specs.declared.verdict.Verdict.{Verdict}
-use Rattle.tsp_task.specs.Verdicts.{is_yes, is_bound_yes}
+use Rattle.tsp_io.specs.Turn.{Turn}
+use Rattle.tsp_io.specs.Sink.{Sink}
+use Rattle.tsp_file.specs.Fields.{Fields}
+use Rattle.tsp_report.specs.declared.task.Certificate.{Certificate}
+use Rattle.tsp_report.specs.declared.verdict.BoundVerdict.{BoundVerdict}
+use Rattle.tsp_report.specs.declared.verdict.BoundVerdict.TheVariants as bounds
+use Rattle.tsp_report.specs.declared.verdict.Verdict.{Verdict}
+use Rattle.tsp_report.specs.Verdicts.{is_yes, is_bound_yes}
 use Rattle.tsp_report.specs.Report.{IsSized}
 use Rattle.tsp_verdict.specs.Bounded.{IsBoundVerdict}
 use Rattle.tsp_verdict.specs.Certified.{IsBoundFitting}
 use Rattle.tsp_verdict.specs.SolutionVerdict.{IsVerdictWith}
 use Rattle.tsp_judge.specs.declared.bound.Bounded.{Bounded}
-use Rattle.tsp_judge.specs.declared.judging.Judged.{Judged}
-use Rattle.tsp_judge.specs.declared.fault.RunFault.{RunFault}
+use Rattle.tsp_judge.specs.declared.check.Judged.{Judged}
+use Rattle.tsp_judge.specs.declared.ends.RunFault.{RunFault}
 use Rattle.tsp_judge.specs.Status.{status_of_fault}
 use Rattle.tsp_judge.specs.CheckRun.{Given, given_by, EndsWithout, IsRun, acceptance}
 use Rattle.tsp_judge.specs.BoundRun.{EndsUnbounded, IsBoundRun}
@@ -29,7 +29,7 @@ use Rattle.tsp_c.proofs.StatusMeanings.{fault_status}
 use Rattle.tsp_c.proofs.OnHandles.{not_two}
 use Rattle.tsp_c.proofs.OnTexts.{Reads2, Reads3, are_spelled, unchecked, no_relayout, unbounded, not_relaid, spelled}
 use Rattle.tsp_verdict.specs.Strict.{is_unjudged, strict_bound, strict_verdict}
-use Rattle.tsp_task.specs.declared.verdict.Verdict.TheVariants as verdicts
+use Rattle.tsp_report.specs.declared.verdict.Verdict.TheVariants as verdicts
 
 -- ---- bounds that fit
 

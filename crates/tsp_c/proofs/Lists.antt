@@ -1,5 +1,5 @@
 -- A list of nodes up to its 0, and those behind it, in one list of numbers from C. For `put_lengths` and `lengths_of`
--- in src/list_lengths.rt.
+-- in src/handle_calls.rt.
 use Rattle.std.proofs.Common.{◌≡◌, ◌≤◌, ℕ, zero, suc, ◌+◌, ◌<◌, Bool, true, false, cond, List, [], ◌∷◌, length, take, drop, length-drop, drop-cons, add-one, ltb-true, ltb-false, refl, sym, ap, subst, ◌∙◌, arith}
 use Rattle.std.specs.Prelude.{◌==◌, not, nat_lt, Some, None, unwrap_or, slice_index_or as get_or}
 use Rattle.std.specs.List.{All, count_by, position, prefix_len}

@@ -1,28 +1,28 @@
 -- Runs on readers over texts in memory, as statements on these texts: a check, a bound, `show` and `convert`. For
--- `bounded` and `checked` in src/texts.rt and others.
+-- `bounded` and `checked` in src/picked_runs.rt and others.
 use Rattle.std.proofs.Common.{◌≡◌, ℕ, List, [], Bool, true, false, Result, Ok, Err, inl, inr, refl, sym, subst, arith}
 use Rattle.std.specs.Prelude.{Option, None, Some, IfSome, ℤ}
 use Rattle.std.specs.Io.KnownBytes.{Appends}
 use Rattle.std.proofs.lemmas.Bool.{false≢true}
 use Rattle.tsp_format.specs.declared.layout.Layout.{Layout}
-use Rattle.tsp_stream.specs.declared.output.WriteFault.TheVariants as write_faults
-use Rattle.tsp_stream.specs.Turn.{Turn}
-use Rattle.tsp_stream.specs.Sink.{Sink, HasWritten}
-use Rattle.tsp_draft.specs.Fields.{Fields}
-use Rattle.tsp_file.specs.declared.fault.RelayoutFault.{RelayoutFault}
+use Rattle.tsp_io.specs.declared.piece.WriteFault.TheVariants as write_faults
+use Rattle.tsp_io.specs.Turn.{Turn}
+use Rattle.tsp_io.specs.Sink.{Sink, HasWritten}
+use Rattle.tsp_file.specs.Fields.{Fields}
+use Rattle.tsp_file.specs.declared.relayout.RelayoutFault.{RelayoutFault}
 use Rattle.tsp_text.specs.declared.fault.ReadFault.{ReadFault}
 use Rattle.tsp_text.specs.declared.fault.ReadFault.TheVariants as read_faults
 use Rattle.tsp_text.specs.Text.{fault, Spells}
 use Rattle.tsp_read.specs.Reads.{IsFile, HasFault, StopsAt}
-use Rattle.tsp_task.specs.declared.certificate.Certificate.{Certificate}
-use Rattle.tsp_task.specs.declared.verdict.BoundVerdict.{BoundVerdict}
-use Rattle.tsp_task.specs.declared.verdict.BoundVerdict.TheVariants as bounds
-use Rattle.tsp_task.specs.declared.verdict.Verdict.{Verdict}
-use Rattle.tsp_task.specs.declared.verdict.Verdict.TheVariants.{Tour, Routes, No}
-use Rattle.tsp_task.specs.Verdicts.{is_yes, is_bound_yes}
+use Rattle.tsp_report.specs.declared.task.Certificate.{Certificate}
+use Rattle.tsp_report.specs.declared.verdict.BoundVerdict.{BoundVerdict}
+use Rattle.tsp_report.specs.declared.verdict.BoundVerdict.TheVariants as bounds
+use Rattle.tsp_report.specs.declared.verdict.Verdict.{Verdict}
+use Rattle.tsp_report.specs.declared.verdict.Verdict.TheVariants.{Tour, Routes, No}
+use Rattle.tsp_report.specs.Verdicts.{is_yes, is_bound_yes}
 use Rattle.tsp_judge.specs.declared.bound.Bounded.{Bounded}
-use Rattle.tsp_judge.specs.declared.fault.RunFault.{RunFault}
-use Rattle.tsp_judge.specs.declared.fault.RunFault.TheVariants.{File, WrongKind, Write, OutOfMemory, Relayout}
+use Rattle.tsp_judge.specs.declared.ends.RunFault.{RunFault}
+use Rattle.tsp_judge.specs.declared.ends.RunFault.TheVariants.{File, WrongKind, Write, OutOfMemory, Relayout}
 use Rattle.tsp_judge.specs.Status.{status_of_fault}
 use Rattle.tsp_judge.specs.CheckRun.{given_by, IsSomeFile, IsFileIn, AreRead, JudgesFiles, IsFaultOfRun, EndsWithout}
 use Rattle.tsp_judge.specs.Accepted.{IsAccepted, IsAcceptedAlone}
@@ -32,8 +32,7 @@ use Rattle.tsp_judge.specs.ShowRun.{IsShowRun}
 use Rattle.tsp_judge.specs.ConvertRun.{IsConverted, IsConvertRun}
 use Rattle.tsp_judge.specs.Open.{IsTextFault, ReadsText, IsUnopened}
 use Rattle.tsp_c.specs.Ended.{without_devices, done, bound_answer, EndsOnTexts}
-use Rattle.tsp_c.specs.Texts.{IsFileText, StopsShowing, ShowsText, BecomesFile, StopsConverting, ConvertsText, with_certificate, SpellsGiven}
-use Rattle.tsp_c.specs.Texts.{AreSpelled, IsAcceptedText, IsRejected, IsUnchecked, IsReached, StopsCheck, ChecksTexts, IsBoundText, IsUnbounded, StopsBound, BoundsTexts}
+use Rattle.tsp_c.specs.Texts.{IsFileText, StopsShowing, ShowsText, BecomesFile, StopsConverting, ConvertsText, with_certificate, SpellsGiven, AreSpelled, IsAcceptedText, IsRejected, IsUnchecked, IsReached, StopsCheck, ChecksTexts, IsBoundText, IsUnbounded, StopsBound, BoundsTexts}
 use Rattle.tsp_c.proofs.StatusMeanings.{yes_ends, no_ends, fault_ends}
 
 -- ---- a text

@@ -2,12 +2,12 @@
 -- src/ended.rt.
 use Rattle.std.proofs.Common.{◌≡◌, ℕ, ◌≤◌, List, [], Bool, true, false, Result, Ok, Err, inl, inr, refl, sym, subst, arith}
 use Rattle.std.specs.Prelude.{IsErr}
-use Rattle.tsp_stream.specs.declared.output.WriteFault.TheVariants as write_faults
-use Rattle.tsp_file.specs.declared.fault.RelayoutFault.{RelayoutFault}
-use Rattle.tsp_file.specs.declared.fault.RelayoutFault.TheVariants as relayout_faults
+use Rattle.tsp_io.specs.declared.piece.WriteFault.TheVariants as write_faults
+use Rattle.tsp_file.specs.declared.relayout.RelayoutFault.{RelayoutFault}
+use Rattle.tsp_file.specs.declared.relayout.RelayoutFault.TheVariants as relayout_faults
 use Rattle.tsp_text.specs.declared.fault.ReadFault.TheVariants as read_faults
-use Rattle.tsp_judge.specs.declared.fault.RunFault.{RunFault}
-use Rattle.tsp_judge.specs.declared.fault.RunFault.TheVariants.{File, WrongKind, Write, OutOfMemory, Relayout}
+use Rattle.tsp_judge.specs.declared.ends.RunFault.{RunFault}
+use Rattle.tsp_judge.specs.declared.ends.RunFault.TheVariants.{File, WrongKind, Write, OutOfMemory, Relayout}
 use Rattle.tsp_judge.specs.Status.{status_of_fault}
 use Rattle.tsp_c.specs.Ended.{without_devices, IsPrinted, EndsOnTexts, EndsWithText}
 

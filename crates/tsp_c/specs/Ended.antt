@@ -1,13 +1,13 @@
 -- How a call on texts ends: its status, and the text that is put into the caller's buffer. For `ended` and `place`
--- (src/ended.rt, src/text_buffer.rt), and for Texts.antt, which says it of each call.
+-- (src/ended.rt, src/ended.rt), and for Texts.antt, which says it of each call.
 use Rattle.std.specs.Prelude.{◌≡◌, ◌⊎◌, ℕ, zero, suc, ◌≤◌, ◌<◌, Bool, true, false, List, [], ◌∷◌, ◌++◌, length, drop, Option, None, Some, Result, Ok, Err}
-use Rattle.tsp_stream.specs.declared.output.WriteFault.TheVariants as write_faults
-use Rattle.tsp_stream.specs.Sink.{Sink, HasWritten}
+use Rattle.tsp_io.specs.declared.piece.WriteFault.TheVariants as write_faults
+use Rattle.tsp_io.specs.Sink.{Sink, HasWritten}
 use Rattle.tsp_text.specs.declared.fault.ReadFault.TheVariants as read_faults
-use Rattle.tsp_task.specs.Verdicts.{is_bound_yes}
+use Rattle.tsp_report.specs.Verdicts.{is_bound_yes}
 use Rattle.tsp_judge.specs.declared.bound.Bounded.{Bounded}
-use Rattle.tsp_judge.specs.declared.fault.RunFault.{RunFault}
-use Rattle.tsp_judge.specs.declared.fault.RunFault.TheVariants.{File, Write}
+use Rattle.tsp_judge.specs.declared.ends.RunFault.{RunFault}
+use Rattle.tsp_judge.specs.declared.ends.RunFault.TheVariants.{File, Write}
 use Rattle.tsp_judge.specs.RunFaultText.{run_fault_text}
 use Rattle.tsp_judge.specs.Status.{status_of, status_of_fault}
 

@@ -1,4 +1,4 @@
--- The ownership of a handle: the box of an open instance, or nothing. For `into_parts` of `Loose` (src/loose.rt), whose
+-- The ownership of a handle: the box of an open instance, or nothing. For `into_parts` of `Loose` (src/handle.rt), whose
 -- proof speaks of pointers.
 use Rattle.std.specs.Prelude.{Option, None, Some}
 use Rattle.std.specs.Coded.{coded_option}
@@ -8,7 +8,7 @@ use denote.RawPtr.{Ptr}
 use Rattle.std_alloc.specs.Box.Ownership.{box_owns}
 use Rattle.std_heap.specs.declared.Global.{Global}
 use Rattle.std_heap.specs.contracts.GlobalAllocator.TheImpl.{ghosts}
-use Rattle.tsp_draft.specs.Fields.{blank_fields}
+use Rattle.tsp_file.specs.Fields.{blank_fields}
 use Rattle.tsp_judge.specs.Open.{Open}
 use Rattle.tsp_judge.specs.contracts.opened.Opened.{the_row}
 

@@ -1,5 +1,5 @@
 -- The results of the calls that fill in numbers: nodes, costs, lengths, coordinates, distances. For src/pair_costs.rt,
--- src/list_lengths.rt, src/section_points.rt, src/text_instance.rt and src/distance_call.rt, and for the same calls on
+-- src/handle_calls.rt, src/handle_calls.rt, src/text_instance.rt and src/distance_call.rt, and for the same calls on
 -- a handle (Opened.antt).
 use Rattle.std.specs.Prelude.{◌≡◌, ◌⊎◌, ℕ, zero, suc, ◌+◌, ◌-◌, ◌*◌, ◌/◌, ◌%◌, ◌≤◌, ◌<◌, ◌==◌, min, cond, List, [], ◌∷◌, length, slice_index_or, Option, None, Some, Result, Ok, Err, IsTrue, ℤ, pos, negsuc}
 use Rattle.std.specs.List.{All}
@@ -9,12 +9,12 @@ use Rattle.tsp_format.specs.declared.kinds.WeightKind.{WeightKind}
 use Rattle.tsp_format.specs.declared.kinds.WeightKind.TheVariants.{Euc2d, Ceil2d, Man2d, Max2d, Att, Euc3d, Man3d, Max3d}
 use Rattle.tsp_format.specs.Nodes.{IsNode}
 use Rattle.tsp_format.specs.Limits.{most_tour_nodes}
-use Rattle.tsp_draft.specs.Fields.{Fields, nodes_of}
-use Rattle.tsp_draft.specs.Rules.{is_instance}
+use Rattle.tsp_file.specs.Fields.{Fields, nodes_of}
+use Rattle.tsp_file.specs.Rules.{is_instance}
 use Rattle.tsp_file.specs.Cost.{cost, distance, point_of}
 use Rattle.tsp_text.specs.Text.{Spells}
 use Rattle.tsp_theory.specs.Length.{length_of}
-use Rattle.tsp_judge.specs.declared.fault.RunFault.{RunFault}
+use Rattle.tsp_judge.specs.declared.ends.RunFault.{RunFault}
 use Rattle.tsp_judge.specs.Status.{status_of_fault}
 use Rattle.tsp_judge.specs.Open.{IsTextFault, IsUnopened}
 use Rattle.tsp_c.specs.Ended.{nth}

@@ -9,7 +9,7 @@ use tsp_cost::{Costs, Instance};
 use tsp_format::{Field, Kind};
 use tsp_judge::{Bounded, EndFault, Judged, LineFault, ReadFault, RunError, RunFault, Status};
 use tsp_number::NumberFault;
-use tsp_task::{BoundVerdict, Reason, Verdict, row_of_reason};
+use tsp_report::{BoundVerdict, Reason, Verdict, row_of_reason};
 
 /// The verdicts by their numbers.
 const TOUR: u32 = 1;

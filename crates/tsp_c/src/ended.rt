@@ -1,16 +1,16 @@
-//! The status and the text with which a call on texts ends. For `src/texts.rt`,
+//! The status and the text with which a call on texts ends. For `src/picked_runs.rt`,
 //! `src/picked_runs.rt` and `src/handle_calls.rt`.
 
-ghost use Rattle.std.specs.Prelude.{◌≡◌, ◌≢◌, IsErr, MatchResult};
-ghost use Rattle.tsp_stream.specs.states.Watched.{watched};
-ghost use Rattle.tsp_c.specs.Ended.{EndsOnTexts, IsPlaced, IsPrinted, without_devices};
-ghost use Rattle.tsp_c.specs.Texts.{IsRefusedNumber};
+ghost use Rattle.std.specs.Prelude.{◌≡◌, ◌≢◌, IsErr, MatchResult, [], IfOk};
+ghost use Rattle.tsp_io.specs.states.Watched.{watched};
 ghost use Rattle.tsp_c.specs.CallResult.{blank_result};
+ghost use Rattle.tsp_c.specs.Ended.{EndsOnTexts, IsPlaced, IsPrinted, without_devices, fault_line};
+ghost use Rattle.tsp_c.specs.Texts.{IsRefusedNumber};
 
+use crate::call_end::TOO_SMALL;
 use crate::call_result::CallResult;
-use crate::fault_line::{NoLine, line_of};
-use crate::text_buffer::place;
 use std::alloc::Global;
+use std::io::{self, Write};
 use std::marker::Model;
 use tsp_judge::{ReadFault, RunError, RunFault, Status, Watched, WriteFault, status_of};
 
@@ -113,5 +113,56 @@ fn without_devices(fault: RunFault) -> RunFault
         },
         RunFault::Write(WriteFault::Device) => RunFault::Write(WriteFault::OutOfMemory),
         other => other,
+    }
+}
+
+// ---- puts a text into a caller's buffer where it fits
+
+/// Puts a text at the start of a buffer where it fits, and writes its length. Returns the text's
+/// status, or that the text doesn't fit.
+pub(crate) fn place(text: &[u8], status: u8, out: &mut [u8], written: &mut usize) -> u32
+    ensures { IsPlaced text.now status out.old out.new written.new result }
+{
+    *written = text.len();
+    if text.len() > out.len() {
+        return TOO_SMALL;
+    }
+    out[..text.len()].copy_from_slice(text);
+    u32::from(status)
+}
+
+// ---- the line of a fault, as the program writes it on standard error, in memory
+
+/// There was no memory for a line. Only `line_of` makes one, where a write to memory failed.
+#[derive(Drop)]
+pub(crate) struct NoLine {
+    text: Vec<u8>,
+    error: io::Error,
+}
+
+impl NoLine {
+    /// The text without the line.
+    pub(crate) fn into_text(self) -> Vec<u8>
+        ensures { result.items ≡ [] }
+    {
+        let NoLine { mut text, error } = self;
+        drop(error);
+        text.clear();
+        text
+    }
+}
+
+/// The line of a fault, in the place of a text.
+///
+/// # Errors
+///
+/// Out of memory.
+fn line_of(mut text: Vec<u8>, fault: RunFault) -> Result<Vec<u8>, NoLine>
+    ensures { IfOk result (λ line. line.items ≡ fault_line fault) }
+{
+    text.clear();
+    match writeln!(text, "{fault}") {
+        Ok(()) => Ok(text),
+        Err(error) => Err(NoLine { text, error }),
     }
 }

@@ -7,9 +7,8 @@ ghost use Rattle.tsp_c.specs.Texts.{ExplainsTexts, IsExplained};
 use crate::picked_runs::{bound_asked, certificate_of, claim_of, layout_of, strict_of};
 use std::alloc::{AllocError, Global};
 use std::str;
-use tsp_judge::{ReadFault, RunFault, Status, Watched};
-use tsp_perform::{explain_fault, explain_outcome, perform};
-use tsp_task::{FileTask, Task};
+use tsp_judge::{ReadFault, RunFault, Status, Watched, explain_fault, explain_outcome, perform};
+use tsp_report::{FileTask, Task};
 
 /// The calls that are explained, by their numbers.
 const SHOW: u32 = 0;

@@ -1,5 +1,5 @@
-//! Puts a number into a caller's buffer. For `src/pair_costs.rt`, `src/list_lengths.rt` and
-//! `src/section_points.rt`.
+//! Puts a number into a caller's buffer. For `src/pair_costs.rt`, `src/handle_calls.rt` and
+//! `src/handle_calls.rt`.
 
 ghost use Rattle.std.specs.Prelude.{◌≡◌, ◌+◌, ◌<◌, ℕ, ℤ, List, length};
 ghost use Rattle.tsp_c.specs.NumberCalls.{IsFilled};

@@ -1,13 +1,15 @@
 //! The handle that a caller in C holds: closed, or open on an instance. For `src/handle_calls.rt`,
 //! and the calls on a handle in `src/lib.rt`.
 
-ghost use Rattle.std.specs.Prelude.{◌≡◌, None, Some, is_some};
 ghost use Rattle.std.specs.Option.{option_map};
+ghost use Rattle.std.specs.Prelude.{◌≡◌, None, Some, is_some, Option};
+ghost use Rattle.tsp_judge.specs.Open.{Open};
+ghost use Rattle.std_alloc.specs.Box.Ownership.{box_owns};
+ghost use Rattle.tsp_c.specs.Held.{held_coded, open_of};
 
-use crate::box_parts::BoxParts;
-use crate::loose::Loose;
-use std::alloc::Global;
+use std::alloc::{Allocator, Global};
 use std::boxed::Box;
+use std::marker::Model;
 use std::mem::replace;
 use tsp_judge::Opened;
 
@@ -61,5 +63,94 @@ impl Handle {
     {
         let Handle { is_open: _, loose } = replace(self, Handle::of(opened));
         loose.end();
+    }
+}
+
+// ---- an open instance in a box as its bare pointer, or NULL
+
+/// A box at the border to C, where its type may not be named: its pointer, and the ownership that
+/// goes with it. It is ended by hand, and has no drop.
+#[repr(C)]
+pub struct Loose {
+    at: *mut u8,
+    alloc: Global,
+    pub ghost value: { Option Open } by { held_coded },
+}
+
+impl Model for Loose {
+    ghost use Rattle.tsp_c.specs.Held.{held_owns};
+
+    ghost also_owns = { λ l. held_owns l.alloc l.at l.value };
+}
+
+impl Loose {
+    /// The pointer NULL.
+    pub(crate) fn nothing(alloc: Global) -> Loose
+        ensures { result.value ≡ None }
+    {
+        Loose {
+            at: std::ptr::null_mut(),
+            alloc,
+        }
+    }
+
+    /// Ends a NULL pointer, which owns nothing, without a drop.
+    pub(crate) fn end(self)
+        requires { self.value ≡ None }
+    {
+        let Loose { at: _, alloc: _ } = self;
+    }
+
+    /// The pointer of a box that was taken apart.
+    pub(crate) fn of_parts(parts: BoxParts<Opened, Global>) -> Loose
+        ensures { result.value ≡ Some parts.value }
+    {
+        let BoxParts { ptr, alloc } = parts;
+        Loose {
+            at: ptr as *mut u8,
+            alloc,
+        }
+    }
+
+    /// The parts of the box whose pointer this is.
+    pub(crate) fn into_parts(self) -> BoxParts<Opened, Global>
+        requires { self.value ≡ Some (open_of self.value) }
+        ensures { result.value ≡ open_of self.value }
+    {
+        let Loose { at, alloc } = self;
+        BoxParts {
+            ptr: at as *mut Opened,
+            alloc,
+        }
+    }
+}
+
+// ---- a box taken apart into its pointer and its allocator, and put together again
+
+pub(crate) struct BoxParts<T, A: Allocator> {
+    pub(crate) ptr: *mut T,
+    pub(crate) alloc: A,
+    pub ghost value: { T },
+}
+
+impl<T, A: Allocator> Model for BoxParts<T, A> {
+    ghost also_owns = { λ p. box_owns (A.dealloc_token p.alloc) T.row p.ptr p.value };
+}
+
+impl<T, A: Allocator> BoxParts<T, A> {
+    pub(crate) fn of(b: Box<T, A>) -> BoxParts<T, A>
+    where
+        T: Drop,
+        ensures { result.value ≡ b.value }
+    {
+        let (ptr, alloc) = Box::into_raw_with_allocator(b);
+        BoxParts { ptr, alloc }
+    }
+
+    pub(crate) fn into_box(self) -> Box<T, A>
+        ensures { result.value ≡ self.value }
+    {
+        let BoxParts { ptr, alloc } = self;
+        unsafe { Box::from_raw(alloc, ptr) }
     }
 }

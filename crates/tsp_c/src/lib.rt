@@ -8,52 +8,40 @@
 //! 6, the buffer is as it was, and `written` is the length that is needed.
 #![tactic(auto)]
 
-ghost use Rattle.tsp_distance.specs.declared.decimal.Point.{Point};
-ghost use Rattle.tsp_c.specs.Ended.{PlacesText, nth};
 ghost use Rattle.std.specs.Prelude.{◌≡◌, None};
+ghost use Rattle.tsp_distance.specs.declared.decimal.Point.{Point};
 ghost use Rattle.tsp_c.specs.CallResult.{TellsBoundBy, TellsBy};
-ghost use Rattle.tsp_c.specs.Opened.{BindsText, ChecksHeld, EndsSection, OfHeld, OpensText};
+ghost use Rattle.tsp_c.specs.Ended.{PlacesText, nth};
 ghost use Rattle.tsp_c.specs.NumberCalls.{EndsCount, EndsLengths, EndsMatrix, EndsWeights, FillsCount, FillsLengths, FillsMatrix, FillsPoints, FillsWeights, GivesDistance};
+ghost use Rattle.tsp_c.specs.Opened.{BindsText, ChecksHeld, EndsSection, OfHeld, OpensText};
 ghost use Rattle.tsp_c.specs.Texts.{BoundsBy, ChecksBy, ConvertsBy, ExplainsTexts, ShowsText, bounds_asked, certificates};
 
-mod box_parts;
 mod call_end;
-mod call_examples;
 mod call_result;
 mod distance_call;
 mod ended;
 mod examples;
 mod explain;
-mod fault_line;
 mod fill;
 mod handle;
 mod handle_calls;
 mod in_box;
-mod list_lengths;
-mod loose;
-mod number_examples;
 mod pair_costs;
 mod picked_runs;
-mod section_points;
-mod text_buffer;
 mod text_instance;
-mod texts;
 
 use crate::call_result::CallResult;
 use crate::distance_call::{Counts, distance_of};
+use crate::ended::place;
 use crate::explain::{Numbers, Texts, explained};
 use crate::handle::Handle;
 use crate::handle_calls::{
-    bind_text, check_held, close, count_held, lengths_held, open_text, points_held, rows_held,
-    weights_held,
+    bind_text, check_held, close, count_held, fill_lengths, fill_points, lengths_held, open_text,
+    points_held, rows_held, weights_held,
 };
-use crate::list_lengths::fill_lengths;
 use crate::pair_costs::{fill_matrix, fill_weights};
-use crate::picked_runs::{Claim, bound_by, check_by, convert_by};
-use crate::section_points::fill_points;
-use crate::text_buffer::place;
+use crate::picked_runs::{Claim, bound_by, check_by, convert_by, shown};
 use crate::text_instance::fill_count;
-use crate::texts::shown;
 use std::alloc::Global;
 
 /// The version, as 10,000 times the first number, 100 times the second, and the third.

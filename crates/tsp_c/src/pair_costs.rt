@@ -5,7 +5,7 @@ ghost use Rattle.std.specs.Prelude.{◌+◌, ◌≤◌, ◌*◌, ◌↔◌, IsTr
 ghost use Rattle.std.specs.List.{All};
 ghost use Rattle.tsp_format.specs.Nodes.{IsNode};
 ghost use Rattle.tsp_c.specs.NumberCalls.{ArePairs, EndsWeights, EndsMatrix, FillsWeights, FillsMatrix, IsFilled, pair_count, pair_cost, row_cost};
-ghost use Rattle.tsp_draft.specs.Fields.{nodes_of};
+ghost use Rattle.tsp_file.specs.Fields.{nodes_of};
 
 use crate::call_end::CallEnd;
 use crate::fill::put;

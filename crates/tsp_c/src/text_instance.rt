@@ -1,5 +1,5 @@
 //! The instance that a text parses to, for calls that fill in numbers: `src/pair_costs.rt`,
-//! `src/list_lengths.rt`, and `tsp_count` in `src/lib.rt`.
+//! `src/handle_calls.rt`, and `tsp_count` in `src/lib.rt`.
 
 ghost use Rattle.tsp_c.specs.NumberCalls.{FillsCount, FindsInstance};
 

@@ -1,5 +1,5 @@
 -- One pass over the steps of a tree of cases that finds the first branch on a pair that its case decides already. For
--- `first_twice` in src/twice.rt.
+-- `first_twice` in src/tree.rt.
 use Rattle.std.proofs.Common.{◌≡◌, ◌∙◌, ℕ, suc, ◌+◌, ◌<◌, ◌≤◌, Bool, true, false, List, [], ◌∷◌, ◌++◌, drop, length, get_or, ℤ, inl, inr, refl, ap, ap₂, sym, subst, add-one}
 use Rattle.std.specs.Prelude.{None, Some}
 use Rattle.std.specs.List.{All, AllByRecursion}
@@ -11,7 +11,7 @@ use Rattle.std.proofs.lemmas.List.Kept.{AllPairs-cons}
 use Rattle.tsp_format.specs.declared.steps.TreeStep.{TreeStep}
 use Rattle.tsp_format.specs.Steps as listed
 use Rattle.tsp_format.specs.states.TreeSteps.{step_of, steps_of}
-use Rattle.tsp_cases.specs.declared.decision.Decision.{Decision}
+use Rattle.tsp_cases.specs.declared.open_case.Decision.{Decision}
 use Rattle.tsp_cases.specs.Decisions.{is_same, DecideOnce}
 use Rattle.tsp_cases.specs.Cases.{decide, leaves_of, cases_of, later_cases, open_cases, next_stack}
 use Rattle.tsp_cases.specs.states.Decided.{stack_of}

@@ -1,5 +1,5 @@
 -- One pass over the steps of a tree of cases that finds the first branch whose first number is out of its limits. For
--- `first_bad_branch` in src/bad_branch.rt and others.
+-- `first_bad_branch` in src/tree.rt and others.
 use Rattle.std.proofs.Common.{◌≡◌, ◌∙◌, ℕ, ◌+◌, ◌-◌, ◌<◌, ◌≤◌, List, [], ◌∷◌, ◌++◌, drop, length, get_or, ℤ, refl, ap, sym, subst, arith}
 use Rattle.std.specs.Prelude.{None}
 use Rattle.std.specs.List.{All, AllByRecursion}

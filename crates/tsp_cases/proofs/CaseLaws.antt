@@ -9,7 +9,7 @@ use Rattle.std.proofs.lemmas.List.Folds.{Any-from_list_any, list_any_at}
 use Rattle.tsp_theory.specs.Cycle.{IsCycle, links, Follows, Uses}
 use Rattle.tsp_theory.specs.Length.{length_of}
 use Rattle.tsp_theory.proofs.Neighbours.{neighbours_or_not}
-use Rattle.tsp_cases.specs.declared.decision.Decision.{Decision}
+use Rattle.tsp_cases.specs.declared.open_case.Decision.{Decision}
 use Rattle.tsp_cases.specs.Decisions.{KeepsDecision}
 use Rattle.tsp_cases.specs.Cases.{CaseStep, Branch, Leaf, are_case_trees, decide, leaves_of, cases_of, KeepsOne, CyclesKeepLeaves, BoundsCase, HasNoCycle, BoundsButOpen, CasesBoundCycles, CasesHaveNoCycle, StacksHoldCases}
 

@@ -1,5 +1,5 @@
 -- The weights, the row bounds and the sum given back that code computes from sets and decisions are those of the leaf's
--- definition, if its numbers are good. tsp_branch imports it too. For `judge_numbers` in src/good_numbers.rt.
+-- definition, if its numbers are good. tsp_branch imports it too. For `judge_numbers` in src/pass.rt.
 use Rattle.std.proofs.Common.{◌≡◌, ℕ, ◌≤◌, List, [], ◌∷◌, length, Option, None, Some, true, ℤ, ◌≤ℤ◌, ◌∙◌, ap, sym, subst, arith}
 use Rattle.std.specs.Prelude.{pos, ◌+ℤ◌, ◌-ℤ◌, ◌*ℤ◌, MatchOption}
 use Rattle.std.specs.List.{All, AllByRecursion}
@@ -8,9 +8,9 @@ use Rattle.std.proofs.Props.{props}
 use Rattle.std.proofs.lemmas.Int.{ints}
 use Rattle.std.proofs.lemmas.List.Elements.{recursion_from_All, All-from_recursion}
 use Rattle.tsp_theory.specs.CertificateNumbers.{IsFromTo, total}
-use Rattle.tsp_families.specs.declared.family.Crossings.{Crossings}
+use Rattle.tsp_cases.specs.declared.family.Crossings.{Crossings}
 use Rattle.tsp_cases.specs.Families.{Family, IsFamily}
-use Rattle.tsp_cases.specs.declared.decision.Decision.{Decision}
+use Rattle.tsp_cases.specs.declared.open_case.Decision.{Decision}
 use Rattle.tsp_cases.specs.Decisions.{on_taken, on_avoided, decided_number}
 use Rattle.tsp_theory.specs.NodeBound.{weight_between}
 use Rattle.tsp_cases.specs.LeafBound.{combed, least_of, leaf_weight}

@@ -7,7 +7,7 @@ use Rattle.std.proofs.lemmas.Int.{ints}
 use Rattle.std.proofs.lemmas.List.Elements.{recursion_from_All, All-from_recursion, All-contains}
 use Rattle.tsp_theory.specs.CertificateNumbers.{IsScale}
 use Rattle.tsp_cases.specs.Families.{Family, IsFamily}
-use Rattle.tsp_cases.specs.declared.decision.Decision.{Decision}
+use Rattle.tsp_cases.specs.declared.open_case.Decision.{Decision}
 use Rattle.tsp_cases.specs.Decisions.{take_pairs, on_taken, on_avoided}
 use Rattle.tsp_cases.specs.LeafBound.{AreMultiplied, IsLeafBound, LeafBoundsBoundCycles}
 use Rattle.tsp_cases.specs.RowLeaves.{RowLeafBoundsBoundCycles}

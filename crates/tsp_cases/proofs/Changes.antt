@@ -1,5 +1,5 @@
 -- The weight between two nodes under the decisions of a case, which add to it one after the other. For `change_between`
--- and `change_row` in src/decided.rt of tsp_branch and others.
+-- and `change_row` in src/case_leaf.rt of tsp_branch and others.
 use Rattle.std.proofs.Common.{◌≡◌, ℕ, ◌+◌, ◌<◌, List, [], ◌∷◌, drop, length, inl, inr, ap, ◌∙◌, arith, drop-cons, add-one}
 use Rattle.std.specs.Int.{w64}
 use Rattle.std.specs.Prelude.{ℤ, pos, neg_ℤ, ◌+ℤ◌, FitsSigned, slice_index_or}
@@ -8,7 +8,7 @@ use Rattle.std.proofs.lemmas.Int.{ints, fits_signed_from_abs}
 use Rattle.tsp_theory.specs.CertificateNumbers.{IsFromTo}
 use Rattle.tsp_theory.specs.Adjusted.{is_same_pair}
 use Rattle.tsp_theory.proofs.Sizes.{size_of}
-use Rattle.tsp_cases.specs.declared.decision.Decision.{Decision}
+use Rattle.tsp_cases.specs.declared.open_case.Decision.{Decision}
 use Rattle.tsp_cases.specs.states.Decided.{decided, change_of, changes}
 
 pub changes_are : (decisions : List Decision) (w : ℕ → ℕ → ℤ) (i j : ℕ) → decided decisions w i j ≡ w i j +ℤ changes decisions i j

@@ -1,5 +1,5 @@
 -- How large crossings and multipliers make a weight at most: two nodes cross three sets of a comb at most, since a node
--- is in one tooth at most, and others as their number says. For `sum_with` and `judge_numbers` in src/good_numbers.rt.
+-- is in one tooth at most, and others as their number says. For `sum_with` and `judge_numbers` in src/pass.rt.
 use Rattle.std.proofs.Common.{◌≡◌, ℕ, Bool, true, false, List, [], ◌∷◌, ℤ, ◌≤ℤ◌, ◌≤◌, length, FitsSigned, cond, not, inl, inr, refl, ap, sym, subst, arith}
 use Rattle.std.specs.Prelude.{pos, negsuc, neg_ℤ, ◌+ℤ◌, ◌-ℤ◌, ◌*ℤ◌}
 use Rattle.std.specs.Int.{w64}
@@ -14,7 +14,7 @@ use Rattle.tsp_theory.specs.NodeBound.{most_between}
 use Rattle.tsp_theory.proofs.Crossings.{one_if, none_or_one}
 use Rattle.tsp_theory.proofs.Sizes.{size_of}
 use Rattle.tsp_format.specs.Nodes.{IsNode}
-use Rattle.tsp_families.specs.declared.family.Crossings.{Crossings}
+use Rattle.tsp_cases.specs.declared.family.Crossings.{Crossings}
 use Rattle.tsp_cases.specs.Combs.{Comb, AreApart, family_crossings}
 use Rattle.tsp_cases.specs.Families.{Family, IsLoneOrComb, IsFamily}
 use Rattle.tsp_cases.specs.LeafBound.{crossings_of}

@@ -1,9 +1,9 @@
 -- What the sets that have a node add to its row of weights, set by set: twice the multiplier at each node of the set.
--- For `add_sets` in src/row_sets.rt and others.
+-- For `add_sets` in src/sets.rt and others.
 use Rattle.std.proofs.Common.{◌≡◌, ℕ, ◌+◌, ◌<◌, List, [], ◌∷◌, drop, length, get_or, refl, ap, ◌∙◌, arith, drop-cons, add-one}
 use Rattle.std.specs.Prelude.{ℤ, pos, ◌+ℤ◌, if◌then◌else◌, Bool, true, false, ◌==◌}
 use Rattle.std.proofs.lemmas.Int.{ints}
-use Rattle.tsp_cases.specs.declared.set_place.SetPlace.{SetPlace}
+use Rattle.tsp_cases.specs.declared.sets.SetPlace.{SetPlace}
 use Rattle.tsp_cases.specs.states.Sets.{added}
 use Rattle.tsp_cases.specs.states.Combed.{twice_in, inside_both}
 

@@ -1,12 +1,12 @@
 -- The crossings of two nodes, summed over the sets of all families at once, are those summed family by family. For the
--- law `sets_tell_combs` in src/set_laws.rt.
+-- law `sets_tell_combs` in src/laws.rt.
 use Rattle.std.proofs.Common.{◌≡◌, ℕ, zero, suc, List, [], ◌∷◌, get_or, map, ℤ, refl, ap, ap₂, sym, ◌∙◌, arith}
 use Rattle.std.specs.Prelude.{pos, negsuc, ◌+ℤ◌, ◌*ℤ◌}
 use Rattle.std.proofs.Math.IntN.{suc_ℤ-*ℤ, pred_ℤ-*ℤ, zero-*ℤ, *ℤ-zero}
 use Rattle.std.proofs.lemmas.Int.{ints}
 use Rattle.tsp_theory.specs.Length.{sum_int_by}
 use Rattle.tsp_theory.specs.Tree.{crossing}
-use Rattle.tsp_families.specs.Crossed.{has}
+use Rattle.tsp_cases.specs.Crossed.{has}
 use Rattle.tsp_cases.specs.Combs.{family_crossings}
 use Rattle.tsp_cases.specs.states.Combed.{summed_from, SetsTellCombs, SetsGiveLeaves}
 use Rattle.tsp_cases.specs.FamiliesOfSets.{comb_with}

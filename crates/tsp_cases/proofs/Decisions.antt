@@ -6,7 +6,7 @@ use Rattle.std.specs.List.{All, AllByRecursion}
 use Rattle.std.proofs.lemmas.List.Elements.{recursion_from_All, All-from_recursion}
 use Rattle.tsp_theory.specs.Cycle.{AreNeighbours, Uses}
 use Rattle.tsp_theory.specs.Adjusted.{pair_of, UsesEach, UsesNone, AdjustedBoundsBoundCycles}
-use Rattle.tsp_cases.specs.declared.decision.Decision.{Decision}
+use Rattle.tsp_cases.specs.declared.open_case.Decision.{Decision}
 use Rattle.tsp_cases.specs.Decisions.{KeepsPair, KeepsDecision, KeepsAll, take_pairs, on_taken, on_avoided, DecidedBoundsBoundCycles, FixedBoundsBoundTours}
 
 pub takes_each : (nodes : List ℕ) (number : ℤ) (decisions : List Decision) → KeepsAll false nodes decisions → UsesEach (on_taken number decisions) nodes

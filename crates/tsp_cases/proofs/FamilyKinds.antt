@@ -1,16 +1,16 @@
 -- Which kind of family sets are: a lone set or a comb, another family, or none; and its least and most crossings. For
--- `have_each_once` in src/other_families.rt and others.
+-- `have_each_once` in src/good_families.rt and others.
 use Rattle.std.proofs.Common.{◌≡◌, ◌∙◌, ℕ, suc, ◌+◌, ◌-◌, ◌<◌, ◌≤◌, false, List, [], ◌∷◌, length, get_or, inl, inr, refl, ap, sym, subst, arith}
 use Rattle.std.specs.Prelude.{pos, Some}
 use Rattle.std.specs.List.{All}
 use Rattle.std.proofs.lemmas.Bool.{both_ways, cases_eq}
 use Rattle.std.proofs.lemmas.Int.{ints}
 use Rattle.std.proofs.lemmas.List.{length-map, get_or-map}
-use Rattle.tsp_families.specs.Crossed.{IsLeastLength, IsMostCost, has, sets_of, sets_crossed, AreTooMany}
-use Rattle.tsp_families.specs.SetParts.{MostCostsAreUnique}
-use Rattle.tsp_families.specs.FamilySets.{lists_of}
+use Rattle.tsp_cases.specs.Crossed.{IsLeastLength, IsMostCost, has, sets_of, sets_crossed, AreTooMany}
+use Rattle.tsp_cases.specs.SetParts.{MostCostsAreUnique}
+use Rattle.tsp_cases.specs.FamilySets.{lists_of}
 use Rattle.std.specs.Global.{Vec}
-use Rattle.tsp_families.specs.declared.family.Crossings.{Crossings}
+use Rattle.tsp_cases.specs.declared.family.Crossings.{Crossings}
 use Rattle.tsp_cases.specs.Families.{least_crossings_of}
 use Rattle.tsp_cases.specs.FamiliesOfSets.{comb_with}
 use Rattle.tsp_cases.specs.GoodFamilies.{HasEachOnce, IsGoodComb, IsGoodFamily}

@@ -3,16 +3,15 @@
 use Rattle.std.proofs.Common.{◌≡◌, ℕ, zero, suc, ◌+◌, ◌*◌, Bool, List, [], ◌∷◌, length, ◌+ℤ◌, ◌≤ℤ◌, inl, inr, arith, ap₂, sym, ◌∙◌, subst}
 use Rattle.std.specs.Prelude.{pos}
 use Rattle.std.proofs.lemmas.Int.{ints}
-use Rattle.tsp_theory.specs.Cycle.{links}
+use Rattle.tsp_theory.specs.Cycle.{links, IsCycle}
 use Rattle.tsp_theory.specs.Length.{sum_int_by, length_of}
 use Rattle.tsp_theory.specs.Tree.{crossing}
 use Rattle.tsp_theory.proofs.CostLaws.{Laws}
 use Rattle.tsp_theory.proofs.Adjustments.{sum_zero}
 use Rattle.tsp_theory.proofs.Crossings.{twice}
 use Rattle.tsp_theory.proofs.Cycles.{has_node}
-use Rattle.tsp_theory.specs.Cycle.{IsCycle}
-use Rattle.tsp_families.specs.SetParts.{LeastLengthsAreUnique, MostCostsAreUnique}
-use Rattle.tsp_families.specs.declared.family.Crossings.{Crossings}
+use Rattle.tsp_cases.specs.SetParts.{LeastLengthsAreUnique, MostCostsAreUnique}
+use Rattle.tsp_cases.specs.declared.family.Crossings.{Crossings}
 use Rattle.tsp_cases.specs.Combs.{Comb, CyclesCrossCombs, family_crossings}
 use Rattle.tsp_cases.specs.Families.{IsLoneOrComb, IsFamily, least_crossings_of, CyclesCrossFamilies, NumbersAreUnique}
 

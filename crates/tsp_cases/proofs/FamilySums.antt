@@ -1,5 +1,5 @@
 -- The sum of the least crossings of all families, each times its multiplier, in the order in which code takes them. For
--- `sum_with` in src/good_numbers.rt.
+-- `sum_with` in src/pass.rt.
 use Rattle.std.proofs.Common.{◌≡◌, ◌∙◌, ℕ, suc, Bool, true, false, ◌+◌, ◌*◌, ◌<◌, ◌^◌, List, [], ◌∷◌, drop, length, get_or, ℤ, ◌≤ℤ◌, FitsSigned, refl, ap, arith, to_z, of_z, drop-cons, add-one}
 use Rattle.std.specs.Prelude.{pos, ◌+ℤ◌, ◌*ℤ◌}
 use Rattle.std.specs.Int.{w128}
@@ -8,7 +8,7 @@ use Rattle.std.proofs.lemmas.Int.{ints, to_z-of_z, fits_signed_from_abs}
 use Rattle.std.proofs.lemmas.List.Elements.{recursion_from_All}
 use Rattle.tsp_theory.specs.CertificateNumbers.{IsFromTo, total}
 use Rattle.tsp_theory.proofs.Sizes.{size_of}
-use Rattle.tsp_families.specs.declared.family.Crossings.{Crossings}
+use Rattle.tsp_cases.specs.declared.family.Crossings.{Crossings}
 use Rattle.tsp_cases.specs.GoodNumbers.{most_crossed}
 use Rattle.tsp_cases.specs.FamiliesOfSets.{most_or_least, sum_with}
 use Rattle.tsp_cases.specs.states.FamilyNumbers.{IsSmall}

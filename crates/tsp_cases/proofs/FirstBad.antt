@@ -7,8 +7,8 @@ use Rattle.std.specs.List.{All, AllByRecursion}
 use Rattle.std.proofs.lemmas.Bool.{cases_lt}
 use Rattle.std.proofs.lemmas.List.{get_or_append_left, get_or_push, get_or-map, get_or_default}
 use Rattle.std.proofs.lemmas.List.Elements.{All-from_recursion, recursion_from_All}
-use Rattle.tsp_families.specs.FamilySets.{lists_of, families_in}
-use Rattle.tsp_families.specs.declared.family.Crossings.{Crossings}
+use Rattle.tsp_cases.specs.FamilySets.{lists_of, families_in}
+use Rattle.tsp_cases.specs.declared.family.Crossings.{Crossings}
 use Rattle.tsp_cases.specs.Families.{IsFamily}
 use Rattle.tsp_cases.specs.FamiliesOfSets.{family_with, families_with}
 use Rattle.tsp_cases.specs.GoodFamilies.{HasEachOnce, IsGoodFamily, IsFirstBadFamily, AreFamilies}

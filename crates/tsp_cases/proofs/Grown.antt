@@ -1,5 +1,5 @@
 -- The numbers of a leaf, from those of the leaf before by one difference after the other. For `add_differences` in
--- src/numbers.rt.
+-- src/pass.rt.
 use Rattle.std.proofs.Common.{◌≡◌, ◌∙◌, ℕ, ◌+◌, ◌*◌, ◌<◌, ◌^◌, List, drop, length, get_or, ℤ, FitsSigned, inl, inr, refl, ap, arith, to_z, of_z, drop-cons, add-one}
 use Rattle.std.specs.Prelude.{pos, neg_ℤ, ◌+ℤ◌}
 use Rattle.std.specs.Int.{w64, w128}

@@ -12,7 +12,7 @@ use Rattle.tsp_theory.specs.CertificateNumbers.{IsBoundSized}
 use Rattle.tsp_cases.specs.declared.judged.JudgedLeaf.{JudgedLeaf}
 use Rattle.tsp_cases.specs.declared.judged.JudgedLeaf.TheVariants as leaves
 use Rattle.tsp_cases.specs.declared.judged.JudgedLeaves.TheVariants as judged
-use Rattle.tsp_cases.specs.declared.decision.Decision.{Decision}
+use Rattle.tsp_cases.specs.declared.open_case.Decision.{Decision}
 use Rattle.tsp_cases.specs.Cases.{LeafNumbers, are_case_trees, next_stack}
 use Rattle.tsp_cases.specs.states.Decided.{stack_of, IsNextStack}
 use Rattle.tsp_cases.specs.states.Rooms.{AreSmall}

@@ -11,7 +11,7 @@ use Rattle.std.proofs.lemmas.List.{take_more, length-replicate}
 use Rattle.std.proofs.lemmas.Option.{none-some, same_Some}
 use Rattle.tsp_theory.specs.Adjusted.{is_same_pair}
 use Rattle.tsp_theory.specs.states.Nearest.{least_at}
-use Rattle.tsp_cases.specs.declared.decision.Decision.{Decision}
+use Rattle.tsp_cases.specs.declared.open_case.Decision.{Decision}
 use Rattle.tsp_cases.specs.declared.kept.KeptRows.{KeptRows}
 use Rattle.tsp_cases.specs.Cases.{decide, next_stack}
 use Rattle.tsp_cases.specs.states.Sets.{IsMoved}

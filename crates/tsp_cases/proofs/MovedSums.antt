@@ -1,5 +1,5 @@
 -- The multipliers of a node's sets, taken off its potential family by family and set by set. For `take_multipliers` in
--- src/moved.rt and others.
+-- src/sets.rt and others.
 use Rattle.std.proofs.Common.{◌≡◌, ℕ, ◌+◌, ◌<◌, ◌==◌, List, [], ◌∷◌, drop, length, get_or, inl, inr, refl, ap, ◌∙◌, arith, drop-cons, add-one}
 use Rattle.std.specs.Prelude.{ℤ, pos, neg_ℤ, ◌+ℤ◌}
 use Rattle.std.specs.Int.{w64, int_wrap}
@@ -7,7 +7,7 @@ use Rattle.std.proofs.lemmas.Bool.{cases_Bool}
 use Rattle.std.proofs.lemmas.Int.{ints, int_wrap_fits, SFits-int_wrap}
 use Rattle.std.specs.Global.{Vec}
 use Rattle.tsp_theory.specs.Length.{sum_int_by}
-use Rattle.tsp_families.specs.FamilySets.{lists_of, families_in}
+use Rattle.tsp_cases.specs.FamilySets.{lists_of, families_in}
 use Rattle.tsp_cases.specs.states.Sets.{IsMoved, added}
 use Rattle.tsp_cases.specs.states.Combed.{summed_from}
 

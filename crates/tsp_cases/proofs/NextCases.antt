@@ -2,7 +2,7 @@
 -- a list. For `OpenCase::next` in src/open_case.rt.
 use Rattle.std.proofs.Common.{◌≡◌, ◌+◌, false, List, [], ◌∷◌, ◌++◌, refl, ap, ◌∙◌}
 use Rattle.std.proofs.lemmas.List.{reverse-append}
-use Rattle.tsp_cases.specs.declared.decision.Decision.{Decision}
+use Rattle.tsp_cases.specs.declared.open_case.Decision.{Decision}
 use Rattle.tsp_cases.specs.Cases.{next_stack}
 use Rattle.tsp_cases.specs.states.Decided.{stack_of}
 

@@ -3,7 +3,7 @@
 use Rattle.std.proofs.Common.{◌≡◌, ℕ, zero, suc, ◌+◌, ◌-◌, ◌<◌, Bool, true, false, List, [], ◌∷◌, get_or, take, length, ℤ, inl, inr, subst, arith}
 use Rattle.std.specs.Prelude.{◌⊎◌}
 use Rattle.tsp_format.specs.Steps as listed
-use Rattle.tsp_cases.specs.declared.decision.Decision.{Decision}
+use Rattle.tsp_cases.specs.declared.open_case.Decision.{Decision}
 use Rattle.tsp_cases.specs.Cases.{LeafNumbers, decide}
 use Rattle.tsp_cases.specs.Listed.{all_grown, no_numbers_of, leaf_changes, after_leaves, IsGoodLeafBy, AreGoodLeavesBy, IsFirstBadLeafBy}
 use Rattle.tsp_cases.specs.Twice.{is_decided, Divided, branches_of_cases, IsFirstTwice}

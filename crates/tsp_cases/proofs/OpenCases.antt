@@ -1,5 +1,5 @@
 -- The decisions of the open case, listed at the nodes of their pairs, after one decision is added or dropped. For
--- `NodeDecisions::add` in src/node_decisions.rt and others.
+-- `NodeDecisions::add` in src/open_case.rt and others.
 use Rattle.std.proofs.Common.{◌≡◌, ◌≢◌, ℕ, suc, ◌+◌, ◌-◌, ◌<◌, ◌≤◌, ◌==◌, Bool, true, false, List, [], ◌∷◌, ◌++◌, get_or, length, take, drop, inl, inr, refl, ap, sym, subst, ap₂, ◌∙◌, arith}
 use Rattle.std.specs.Prelude.{◌⊎◌, pos}
 use Rattle.std.specs.Global.{Vec}
@@ -11,10 +11,10 @@ use Rattle.std.proofs.lemmas.List.{length-reverse, take_all, take_more}
 use Rattle.std.proofs.lemmas.List.Elements.{All-from_recursion, recursion_from_All}
 use Rattle.std.proofs.lemmas.List.Sorted.{IsPermutation-reverse, list_any-IsPermutation}
 use Rattle.std.proofs.lemmas.Map.Views.{any-filter_same}
-use Rattle.tsp_cases.specs.declared.decision.Decision.{Decision}
+use Rattle.tsp_cases.specs.declared.open_case.Decision.{Decision}
 use Rattle.tsp_cases.specs.Decisions.{is_same}
 use Rattle.tsp_cases.specs.Twice.{is_decided}
-use Rattle.tsp_cases.specs.declared.node_decisions.NodeDecisions.{NodeDecisions}
+use Rattle.tsp_cases.specs.declared.open_case.NodeDecisions.{NodeDecisions}
 use Rattle.tsp_cases.specs.declared.open_case.OpenCase.{OpenCase}
 use Rattle.tsp_cases.specs.states.Decided.{IsDecision, stack_of, change_of, changes}
 use Rattle.tsp_cases.specs.states.OpenCases.{bears_on, listed_at, AreByNode, HaveOneMore, HaveOneLess, decisions_in, IsOpenCase}

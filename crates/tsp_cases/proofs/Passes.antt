@@ -7,7 +7,7 @@ use Rattle.std.proofs.lemmas.Bool.{both_ways}
 use Rattle.std.proofs.lemmas.Int.{ints}
 use Rattle.std.proofs.lemmas.List.Elements.{recursion_from_All, All-from_recursion}
 use Rattle.tsp_format.specs.Steps as listed
-use Rattle.tsp_cases.specs.declared.decision.Decision.{Decision}
+use Rattle.tsp_cases.specs.declared.open_case.Decision.{Decision}
 use Rattle.tsp_cases.specs.Cases.{LeafNumbers, are_case_trees, decide, leaves_of, cases_of, later_cases, open_cases, next_stack}
 use Rattle.tsp_cases.specs.CaseTrees.{IsAbove, IsLeastFound}
 use Rattle.tsp_cases.specs.states.Decided.{stack_of}

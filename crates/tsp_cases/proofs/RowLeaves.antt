@@ -18,7 +18,7 @@ use Rattle.tsp_theory.proofs.Adjustments.{difference}
 use Rattle.tsp_theory.proofs.Duality.{scaled_length}
 use Rattle.tsp_cases.specs.Families.{IsFamily, CyclesCrossFamilies}
 use Rattle.tsp_cases.specs.LeafBound.{combed, crossings_of}
-use Rattle.tsp_cases.specs.declared.decision.Decision.{Decision}
+use Rattle.tsp_cases.specs.declared.open_case.Decision.{Decision}
 use Rattle.tsp_cases.specs.Rows.{IsLeastFrom, HasNoLink, IsSumOfLeast, IsRowBound, SumsAreBelowCycles}
 use Rattle.tsp_cases.specs.RowLeaves.{RowLeafBoundsBoundCycles}
 use Rattle.tsp_cases.proofs.LeafBounds.{combs_of_cycle}

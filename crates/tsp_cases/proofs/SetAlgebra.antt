@@ -9,16 +9,16 @@ use Rattle.std.proofs.lemmas.Int.{ints, int_wrap-add_right, int_wrap-add_same}
 use Rattle.std.proofs.lemmas.List.Elements.{recursion_from_All, All-from_recursion}
 use Rattle.std.proofs.Math.ListN.{set}
 use Rattle.tsp_theory.specs.Length.{sum_int_by}
-use Rattle.tsp_families.specs.Crossed.{has}
-use Rattle.tsp_families.specs.Paths.{AllApart}
-use Rattle.tsp_families.proofs.Lists.{apart_from_pairs}
+use Rattle.tsp_cases.specs.Crossed.{has}
+use Rattle.tsp_cases.specs.Paths.{AllApart}
+use Rattle.tsp_cases.proofs.Lists.{apart_from_pairs}
 use Rattle.tsp_theory.specs.Tree.{crossing}
 use Rattle.tsp_cases.specs.GoodFamilies.{HasEachOnce}
-use Rattle.tsp_cases.specs.declared.set_place.SetPlace.{SetPlace}
+use Rattle.tsp_cases.specs.declared.sets.SetPlace.{SetPlace}
 use Rattle.tsp_cases.specs.states.Sets.{added, times, places_in, places_with}
 use Rattle.tsp_cases.specs.states.Places.{place_at, IsPlaceIn}
 use Rattle.tsp_cases.specs.states.Combed.{summed_from, set_crossings, multipliers_at, twice_in, inside_both}
-pub use Rattle.tsp_tree.proofs.Additions.{moved_to}
+pub use Rattle.tsp_bound.proofs.Additions.{moved_to}
 
 -- a node that isn't in a list
 absent : (node : ℕ) (nodes : List ℕ) (x : ℕ) → node ≡ x → AllByRecursion (λ other. node ≢ other) nodes → has nodes x ≡ false

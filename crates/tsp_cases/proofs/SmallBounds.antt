@@ -13,10 +13,10 @@ use Rattle.tsp_theory.specs.Costs.{IsSymmetric}
 use Rattle.tsp_format.specs.Nodes.{IsNode}
 use Rattle.tsp_theory.specs.Tree.{weight_of}
 use Rattle.tsp_theory.specs.Growth.{tree_of}
-use Rattle.tsp_families.specs.Crossed.{has}
+use Rattle.tsp_cases.specs.Crossed.{has}
 use Rattle.tsp_cases.specs.Combs.{AreApart, IsComb, IsTooth}
 use Rattle.tsp_cases.specs.LeafBound.{leaf_weight, IsLeafBoundOf, IsLeafBound}
-use Rattle.tsp_cases.specs.declared.decision.Decision.{Decision}
+use Rattle.tsp_cases.specs.declared.open_case.Decision.{Decision}
 use Rattle.tsp_cases.specs.Cases.{LeafNumbers, Branch, Leaf}
 use Rattle.tsp_cases.specs.Families.{Family, IsFamily}
 use Rattle.tsp_cases.specs.CaseTrees.{multiplied, AreLeafNumbers, IsFoundAt, IsAbove}

@@ -1,5 +1,5 @@
 -- Small families of sets of six nodes, of which the definitions give the least and most crossings. For the law
--- `examples_of_families` in src/family_examples.rt.
+-- `examples_of_families` in src/examples.rt.
 use Rattle.std.proofs.Common.{◌≡◌, ◌≢◌, ◌≤◌, ◌⊎◌, ℕ, suc, true, false, not, cond, List, [], ◌∷◌, length, ◌+ℤ◌, ◌≤ℤ◌, inl, inr, refl, ap, arith}
 use Rattle.std.specs.Prelude.{pos, ℤ}
 use Rattle.std.specs.List.{Any}
@@ -12,10 +12,10 @@ use Rattle.tsp_theory.specs.Cycle.{IsCycle}
 use Rattle.tsp_theory.specs.Length.{length_of}
 use Rattle.tsp_theory.specs.Tree.{crossing}
 use Rattle.tsp_theory.proofs.Crossings.{none_or_one}
-use Rattle.tsp_families.specs.Crossed.{has, sets_of, AreAlike, AreTooMany, IsLeastLength}
-use Rattle.tsp_families.specs.SetParts.{ArePartsOf, UnlikeNodesNeedParts}
-use Rattle.tsp_families.proofs.Lists.{cycle_from}
-use Rattle.tsp_families.proofs.NodeMembers.{same_least}
+use Rattle.tsp_cases.specs.Crossed.{has, sets_of, AreAlike, AreTooMany, IsLeastLength}
+use Rattle.tsp_cases.specs.SetParts.{ArePartsOf, UnlikeNodesNeedParts}
+use Rattle.tsp_cases.proofs.Lists.{cycle_from}
+use Rattle.tsp_cases.proofs.NodeMembers.{same_least}
 use Rattle.tsp_cases.specs.Combs.{comb_of, family_crossings}
 use Rattle.tsp_cases.specs.Families.{CyclesCrossFamilies, NumbersAreUnique}
 use Rattle.tsp_cases.specs.FamiliesOfSets.{family_with}

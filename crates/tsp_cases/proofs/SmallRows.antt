@@ -1,5 +1,5 @@
 -- Arcs between three nodes: which ones decisions allow, and the bounds of the least ones. For the law
--- `examples_of_rows` in src/row_examples.rt and others.
+-- `examples_of_rows` in src/examples.rt and others.
 use Rattle.std.proofs.Common.{◌≡◌, ◌≢◌, ℕ, ◌-◌, List, [], ◌∷◌, ℤ, ◌≤ℤ◌, inl, inr, refl, sym, subst, arith}
 use Rattle.std.specs.Prelude.{pos, ◌*ℤ◌, ◌+ℤ◌, slice_index_or}
 use Rattle.std.specs.Int.Signed.{le_z_yes}
@@ -8,7 +8,7 @@ use Rattle.std.proofs.lemmas.Int.{ints}
 use Rattle.std.proofs.lemmas.List.Elements.{All-nil, All-head, All-tail, All-from_recursion}
 use Rattle.tsp_format.specs.Nodes.{IsNode, nodes_to}
 use Rattle.tsp_theory.specs.NodeBound.{weight_between}
-use Rattle.tsp_cases.specs.declared.decision.Decision.{Decision}
+use Rattle.tsp_cases.specs.declared.open_case.Decision.{Decision}
 use Rattle.tsp_cases.specs.Rows.{Allows, IsAllowed, IsLeastFrom, HasNoLink, IsSumOfLeast, IsRowBound}
 use Rattle.tsp_cases.specs.Examples.{with_pair, without_pair}
 use Rattle.tsp_cases.specs.LeafBound.{combed}

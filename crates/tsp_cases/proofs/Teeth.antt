@@ -10,11 +10,11 @@ use Rattle.std.proofs.lemmas.List.Elements.{All-nil, All-cons, All-head, All-tai
 use Rattle.std.proofs.lemmas.List.Folds.{Any-from_list_any, list_any_at}
 use Rattle.std.proofs.lemmas.List.Kept.{AllPairs-cons}
 use Rattle.tsp_format.specs.Nodes.{IsNode}
-use Rattle.tsp_families.specs.Crossed.{has}
+use Rattle.tsp_cases.specs.Crossed.{has}
 use Rattle.tsp_cases.specs.Combs.{IsTooth, AreApart, IsComb, comb_of}
 use Rattle.tsp_cases.specs.Families.{IsLoneSet, IsLoneOrComb}
 use Rattle.tsp_cases.specs.GoodFamilies.{HasEachOnce, IsGoodComb, IsToothCount}
-use Rattle.tsp_families.specs.FamilySets.{lists_of}
+use Rattle.tsp_cases.specs.FamilySets.{lists_of}
 use Rattle.tsp_cases.specs.states.Marked.{AreNew, AreTeeth}
 use Rattle.std.specs.Global.{Vec}
 

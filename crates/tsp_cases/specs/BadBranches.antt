@@ -1,5 +1,5 @@
 -- The first bad branch of a tree: one whose first number is out of range. A branch on a pair of nodes begins with one
--- of 1 to n, a branch on a family with a number above n. For `first_bad_branch` (src/bad_branch.rt). tsp_verdict,
+-- of 1 to n, a branch on a family with a number above n. For `first_bad_branch` (src/tree.rt). tsp_verdict,
 -- tsp_routing and tsp_branch import it too.
 use Rattle.std.specs.Prelude.{ℕ, ◌-◌, ◌<◌, ◌≤◌, List, [], ◌∷◌, length, slice_index_or, Option, None, Some}
 use Rattle.std.specs.List.{All}

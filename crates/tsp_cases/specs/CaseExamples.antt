@@ -2,7 +2,7 @@
 use Rattle.std.specs.Prelude.{ℕ, Bool, List, [], ◌∷◌}
 use Rattle.std.specs.List.{All}
 use Rattle.tsp_format.specs.Steps as listed
-use Rattle.tsp_cases.specs.declared.decision.Decision.{Decision}
+use Rattle.tsp_cases.specs.declared.open_case.Decision.{Decision}
 use Rattle.tsp_cases.specs.Decisions.{DecideOnce}
 use Rattle.tsp_cases.specs.Cases.{leaves_of, cases_of}
 use Rattle.tsp_cases.specs.Listed.{listed_steps}

@@ -7,7 +7,7 @@ use Rattle.tsp_theory.specs.Costs.{IsSymmetric}
 use Rattle.tsp_theory.specs.Tour.{Problem, BoundsTours, HasNoTour}
 use Rattle.tsp_theory.specs.CertificateNumbers.{IsScale}
 use Rattle.tsp_cases.specs.Families.{Family, IsFamily}
-use Rattle.tsp_cases.specs.declared.decision.Decision.{Decision}
+use Rattle.tsp_cases.specs.declared.open_case.Decision.{Decision}
 use Rattle.tsp_cases.specs.Decisions.{take_pairs, on_taken, on_avoided}
 use Rattle.tsp_cases.specs.LeafBound.{IsLeafBound}
 use Rattle.tsp_cases.specs.Rows.{HasNoLink}

@@ -7,7 +7,7 @@ use Rattle.tsp_format.specs.Nodes.{IsNode}
 use Rattle.tsp_theory.specs.Cycle.{IsCycle}
 use Rattle.tsp_theory.specs.Length.{sum_int_by, length_of}
 use Rattle.tsp_theory.specs.Tree.{crossing}
-use Rattle.tsp_families.specs.Crossed.{has}
+use Rattle.tsp_cases.specs.Crossed.{has}
 
 -- a set of nodes, the handle, and sets that have nodes in it and others, the teeth
 pub record Comb : Type 0 where

@@ -1,5 +1,5 @@
 -- Decisions: pairs of nodes that a cycle uses, and pairs that it doesn't use. For the cases of a tree (Cases.antt,
--- `OpenCase` of src/open_case.rt), and for the fixed edges of an instance (src/fixed_decisions.rt of tsp_verdict).
+-- `OpenCase` of src/open_case.rt), and for the fixed edges of an instance (src/certificate.rt of tsp_verdict).
 use Rattle.std.specs.Prelude.{ℕ, ◌≤◌, ◌≡◌, ◌==◌, ◌&&◌, Bool, true, false, if◌then◌else◌, List, [], ◌∷◌, length, map, ℤ, pos, ◌≤ℤ◌}
 use Rattle.std.specs.List.{All, AllPairs}
 use Rattle.tsp_theory.specs.Costs.{IsSymmetric}
@@ -8,7 +8,7 @@ use Rattle.tsp_theory.specs.Length.{length_of}
 use Rattle.tsp_theory.specs.Tour.{Problem, BoundsTours}
 use Rattle.tsp_theory.specs.CertificateNumbers.{IsScale, most_number}
 use Rattle.tsp_theory.specs.Adjusted.{pair_of, is_same_pair, IsAdjustedBound}
-use Rattle.tsp_cases.specs.declared.decision.Decision.{Decision}
+use Rattle.tsp_cases.specs.declared.open_case.Decision.{Decision}
 
 -- a cycle uses a taken pair, and doesn't use an avoided one; directed: from the first node to the second
 abbrev pub KeepsPair : Bool → List ℕ → Bool → ℕ × ℕ → Type 0

@@ -1,10 +1,10 @@
 -- A small comb, small costs and small trees on which the definitions are evaluated. For the laws in src/examples.rt and
--- src/row_examples.rt, and for those in src/examples.rt and src/claim_examples.rt of tsp_verdict.
+-- src/examples.rt, and for those in src/examples.rt and src/examples.rt of tsp_verdict.
 use Rattle.std.specs.Prelude.{◌≡◌, ℕ, ◌-◌, true, false, List, [], ◌∷◌, Some, replicate, min, max, slice_index, slice_index_or, ℤ, pos}
 use Rattle.tsp_theory.specs.Length.{length_of}
 use Rattle.tsp_cases.specs.Combs.{Comb, comb_of, family_crossings}
 use Rattle.tsp_cases.specs.Families.{Family}
-use Rattle.tsp_cases.specs.declared.decision.Decision.{Decision}
+use Rattle.tsp_cases.specs.declared.open_case.Decision.{Decision}
 use Rattle.tsp_cases.specs.Decisions.{on_taken, on_avoided}
 use Rattle.tsp_cases.specs.LeafBound.{leaf_weight}
 use Rattle.tsp_cases.specs.Cases.{LeafNumbers, CaseStep, Leaf, are_case_trees, leaves_of, cases_of}

@@ -5,8 +5,8 @@ use Rattle.std.specs.Prelude.{◌≡◌, ℕ, zero, suc, ◌+◌, ◌*◌, ◌�
 use Rattle.tsp_format.specs.Nodes.{IsNode}
 use Rattle.tsp_theory.specs.Cycle.{IsCycle}
 use Rattle.tsp_theory.specs.Length.{length_of}
-use Rattle.tsp_families.specs.Crossed.{IsLeastLength, IsMostCost, AreTooMany}
-use Rattle.tsp_families.specs.declared.family.Crossings.{Crossings}
+use Rattle.tsp_cases.specs.Crossed.{IsLeastLength, IsMostCost, AreTooMany}
+use Rattle.tsp_cases.specs.declared.family.Crossings.{Crossings}
 use Rattle.tsp_cases.specs.Combs.{Comb, IsComb, family_crossings}
 
 -- sets of nodes, the first as the handle of a comb and the others as its teeth, whether they are a comb or not; and two

@@ -1,7 +1,7 @@
 -- Families whose sets are lists of nodes, as a file has them: the first list is the handle. For `Families`
--- (src/families.rt) and `judge_numbers` (src/good_numbers.rt), and for src/plan_leaf.rt of tsp_routing.
+-- (src/families.rt) and `judge_numbers` (src/pass.rt), and for src/plan_leaf.rt of tsp_routing.
 use Rattle.std.specs.Prelude.{ℕ, Bool, false, if◌then◌else◌, List, [], ◌∷◌, ℤ, pos, ◌+ℤ◌, ◌*ℤ◌}
-use Rattle.tsp_families.specs.declared.family.Crossings.{Crossings}
+use Rattle.tsp_cases.specs.declared.family.Crossings.{Crossings}
 use Rattle.tsp_cases.specs.Combs.{Comb, comb_of}
 use Rattle.tsp_cases.specs.Families.{Family}
 

@@ -1,4 +1,4 @@
--- Small families of sets of six nodes, on which the definitions are evaluated. For the laws in src/family_examples.rt.
+-- Small families of sets of six nodes, on which the definitions are evaluated. For the laws in src/examples.rt.
 use Rattle.std.specs.Prelude.{ℕ, List, [], ◌∷◌}
 use Rattle.tsp_cases.specs.Families.{IsFamily}
 use Rattle.tsp_cases.specs.FamiliesOfSets.{family_with}

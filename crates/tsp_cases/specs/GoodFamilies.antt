@@ -1,8 +1,8 @@
 -- Whether the sets of COMB_SECTION are good families, and which family is the first bad one. For `judge_families`
--- (src/good_families.rt) and `other_crossings` (src/other_families.rt).
+-- (src/good_families.rt) and `other_crossings` (src/good_families.rt).
 use Rattle.std.specs.Prelude.{◌≡◌, ◌≢◌, ℕ, ◌+◌, ◌*◌, ◌≤◌, ◌<◌, List, [], length, slice_index_or}
 use Rattle.std.specs.List.{All, AllPairs}
-use Rattle.tsp_families.specs.declared.family.Crossings.{Crossings}
+use Rattle.tsp_cases.specs.declared.family.Crossings.{Crossings}
 use Rattle.tsp_cases.specs.Families.{IsLoneOrComb, IsFamily}
 use Rattle.tsp_cases.specs.FamiliesOfSets.{comb_with, family_with, families_with}
 

@@ -1,9 +1,9 @@
 -- Whether the numbers of a leaf for cycles are good: of the right count and signs, and so small that weights fit 64
--- bits. For `judge_numbers` (src/good_numbers.rt), and for `CaseLeaf` (src/case_leaf.rt of tsp_branch).
+-- bits. For `judge_numbers` (src/pass.rt), and for `CaseLeaf` (src/case_leaf.rt of tsp_branch).
 use Rattle.std.specs.Prelude.{◌≡◌, ℕ, true, List, length, ℤ, pos, ◌≤ℤ◌}
 use Rattle.std.specs.List.{All}
 use Rattle.tsp_theory.specs.CertificateNumbers.{ArePotentials}
-use Rattle.tsp_families.specs.declared.family.Crossings.{Crossings}
+use Rattle.tsp_cases.specs.declared.family.Crossings.{Crossings}
 use Rattle.tsp_cases.specs.Cases.{LeafNumbers}
 use Rattle.tsp_cases.specs.FamiliesOfSets.{sum_with}
 

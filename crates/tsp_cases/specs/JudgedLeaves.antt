@@ -1,11 +1,11 @@
 -- The judgement on the leaves of a tree, whatever gives a leaf's bound: the least bound, or the first bad leaf. For
--- `judge_leaves` (src/pass.rt) and `LeafJudge` (src/leaf_judge.rt). JudgedLeaves.antt of tsp_branch has it for 1-trees
+-- `judge_leaves` (src/pass.rt) and `LeafJudge` (src/pass.rt). JudgedLeaves.antt of tsp_branch has it for 1-trees
 -- and least links.
 use Rattle.std.specs.Prelude.{◌≡◌, ℕ, List, [], ◌∷◌, Option, IfSome, ℤ}
 use Rattle.std.specs.List.{All}
 use Rattle.tsp_format.specs.Steps as listed
 use Rattle.tsp_theory.specs.CertificateNumbers.{IsBoundSized}
-use Rattle.tsp_cases.specs.declared.decision.Decision.{Decision}
+use Rattle.tsp_cases.specs.declared.open_case.Decision.{Decision}
 use Rattle.tsp_cases.specs.declared.judged.JudgedLeaves.{JudgedLeaves}
 use Rattle.tsp_cases.specs.declared.judged.JudgedLeaves.TheVariants as judged
 use Rattle.tsp_cases.specs.declared.judged.JudgedLeaf.{JudgedLeaf}

@@ -1,9 +1,9 @@
 -- The judgement on the branches of a tree: all are good and are returned as `Cases`, or the first bad one is reported,
--- or the first that comes twice. For `judge_cases` (src/twice.rt). tsp_branch imports it too.
+-- or the first that comes twice. For `judge_cases` (src/tree.rt). tsp_branch imports it too.
 use Rattle.std.specs.Prelude.{◌≡◌, ℕ, Bool, List, ℤ, Some, None}
 use Rattle.tsp_format.specs.declared.steps.TreeStep.{TreeStep}
 use Rattle.tsp_format.specs.states.TreeSteps.{steps_of}
-use Rattle.tsp_cases.specs.declared.decision.Decision.{Decision}
+use Rattle.tsp_cases.specs.declared.open_case.Decision.{Decision}
 use Rattle.tsp_cases.specs.BadBranches.{AreBranchesWithin}
 use Rattle.tsp_cases.specs.Twice.{AreBranchesJudged}
 use Rattle.tsp_cases.specs.declared.tree_cases.Cases.{Cases}

@@ -1,5 +1,5 @@
 -- The bound of a leaf by a least 1-tree, under potentials, numbers on pairs, and multipliers of families. For the law
--- `leaf_bounds_bound_cycles` (src/laws.rt), and for `given_back` (src/given_back.rt of tsp_branch). The bound without
+-- `leaf_bounds_bound_cycles` (src/laws.rt), and for `given_back` (src/case_leaf.rt of tsp_branch). The bound without
 -- families is in Adjusted.antt of tsp_theory.
 use Rattle.std.specs.Prelude.{◌≡◌, ℕ, ◌≤◌, List, [], length, ℤ, pos, ◌+ℤ◌, ◌-ℤ◌, ◌*ℤ◌, ◌≤ℤ◌}
 use Rattle.std.specs.List.{All}

@@ -1,4 +1,4 @@
--- The lowest bound of the leaves so far, with one leaf more. For `lower` (src/lowest.rt).
+-- The lowest bound of the leaves so far, with one leaf more. For `lower` (src/pass.rt).
 use Rattle.std.specs.Prelude.{◌≡◌, Option, Some, None, ◌⊎◌, ℤ, ◌≤ℤ◌}
 
 -- the lower one of the lowest bound so far and that of a leaf, where there are both; else the one that there is

@@ -1,4 +1,10 @@
 -- The files of definitions of this crate. Crates above may import them.
+pub mod Crossed
+pub mod SetParts
+pub mod Paths
+pub mod Memberships
+pub mod FamilySets
+pub mod SetExamples
 pub mod states
 pub mod Cases
 pub mod CaseTrees

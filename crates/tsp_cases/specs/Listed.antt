@@ -1,12 +1,12 @@
 -- A tree of cases as BRANCH_SECTION lists it: each leaf has the differences to the numbers of the leaf before it. Which
--- leaf is the first bad one. For `judge_leaves` (src/pass.rt), `add_differences` (src/numbers.rt) and `Cases`
+-- leaf is the first bad one. For `judge_leaves` (src/pass.rt), `add_differences` (src/pass.rt) and `Cases`
 -- (src/tree_cases.rt).
 use Rattle.std.specs.Prelude.{◌≢◌, ℕ, ◌+◌, ◌-◌, ◌^◌, ◌<◌, ◌≤◌, length, List, [], ◌∷◌, take, drop, replicate, slice_set, slice_index_or, ℤ, pos, ◌+ℤ◌}
 use Rattle.std.specs.List.{All}
 use Rattle.tsp_format.specs.Nodes.{IsNode}
 use Rattle.tsp_format.specs.Steps as listed
 use Rattle.tsp_theory.specs.CertificateNumbers.{entry}
-use Rattle.tsp_families.specs.declared.family.Crossings.{Crossings}
+use Rattle.tsp_cases.specs.declared.family.Crossings.{Crossings}
 use Rattle.tsp_cases.specs.Cases.{LeafNumbers, CaseStep, Branch, Leaf}
 use Rattle.tsp_cases.specs.GoodNumbers.{AreGoodNumbers}
 

@@ -1,8 +1,8 @@
 -- The numbers of two leaves, on which the definitions are evaluated. There are three nodes and a comb, whose number is
--- the fourth. For the laws in src/number_examples.rt.
+-- the fourth. For the laws in src/examples.rt.
 use Rattle.std.specs.Prelude.{ℕ, ◌*◌, List, [], ◌∷◌, ℤ, pos, negsuc}
 use Rattle.tsp_format.specs.Steps as listed
-use Rattle.tsp_families.specs.declared.family.Crossings.{Crossings}
+use Rattle.tsp_cases.specs.declared.family.Crossings.{Crossings}
 use Rattle.tsp_cases.specs.Cases.{LeafNumbers, CaseStep, Branch, Leaf}
 use Rattle.tsp_cases.specs.GoodNumbers.{as_leaf_numbers}
 

@@ -1,7 +1,7 @@
 -- Three nodes whose costs depend on the direction, on which the bounds by rows are evaluated. For the laws in
--- src/row_examples.rt.
+-- src/examples.rt.
 use Rattle.std.specs.Prelude.{ℕ, ◌-◌, List, [], ◌∷◌, slice_index, slice_index_or, ℤ, pos}
-use Rattle.tsp_cases.specs.declared.decision.Decision.{Decision}
+use Rattle.tsp_cases.specs.declared.open_case.Decision.{Decision}
 use Rattle.tsp_cases.specs.Families.{Family}
 use Rattle.tsp_cases.specs.FamiliesOfSets.{family_with}
 use Rattle.tsp_cases.specs.RowLeaves.{IsRowLeafBound}

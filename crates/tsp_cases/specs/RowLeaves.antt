@@ -5,7 +5,7 @@ use Rattle.std.specs.Prelude.{◌≡◌, ℕ, ◌≤◌, true, List, length, ℤ
 use Rattle.tsp_theory.specs.CertificateNumbers.{IsScale, total}
 use Rattle.tsp_theory.specs.NodeBound.{weight_between}
 use Rattle.tsp_cases.specs.Families.{Family}
-use Rattle.tsp_cases.specs.declared.decision.Decision.{Decision}
+use Rattle.tsp_cases.specs.declared.open_case.Decision.{Decision}
 use Rattle.tsp_cases.specs.LeafBound.{AreMultiplied, combed, least_of}
 use Rattle.tsp_cases.specs.Cases.{BoundsCase}
 use Rattle.tsp_cases.specs.Rows.{IsRowBound}

@@ -1,12 +1,12 @@
 -- Which links decisions allow, and the bound by the least weight of the links from each node. For `close_all`
--- (src/closing.rt) and `AllowedRows` (src/rows.rt) of tsp_branch, and for the laws of src/laws.rt.
+-- (src/case_leaf.rt) and `AllowedRows` (src/case_leaf.rt) of tsp_branch, and for the laws of src/laws.rt.
 use Rattle.std.specs.Prelude.{◌≡◌, ◌≢◌, ℕ, ◌≤◌, Bool, true, false, List, ◌↔◌, ℤ, ◌+ℤ◌, ◌≤ℤ◌}
 use Rattle.std.specs.List.{All}
 use Rattle.tsp_format.specs.Nodes.{IsNode, nodes_to}
 use Rattle.tsp_theory.specs.Cycle.{IsCycle, Follows}
 use Rattle.tsp_theory.specs.Length.{sum_int_by, length_of}
 use Rattle.tsp_theory.specs.CertificateNumbers.{IsLeastBound}
-use Rattle.tsp_cases.specs.declared.decision.Decision.{Decision}
+use Rattle.tsp_cases.specs.declared.open_case.Decision.{Decision}
 use Rattle.tsp_cases.specs.Decisions.{KeepsAll}
 use Rattle.tsp_cases.specs.Cases.{HasNoCycle}
 

@@ -1,9 +1,9 @@
 -- Which branch of a tree comes twice: its pair is decided already, above it or by a given decision. For `first_twice`
--- (src/twice.rt) and `decides` of `OpenCase` (src/open_case.rt).
+-- (src/tree.rt) and `decides` of `OpenCase` (src/open_case.rt).
 use Rattle.std.specs.Prelude.{◌≡◌, ℕ, ◌-◌, ◌<◌, ◌≤◌, Bool, true, false, List, [], ◌∷◌, length, slice_index_or, Option, None, Some}
 use Rattle.std.specs.List.{All, list_any}
 use Rattle.tsp_format.specs.Steps as listed
-use Rattle.tsp_cases.specs.declared.decision.Decision.{Decision}
+use Rattle.tsp_cases.specs.declared.open_case.Decision.{Decision}
 use Rattle.tsp_cases.specs.Decisions.{is_same, DecideOnce}
 use Rattle.tsp_cases.specs.Cases.{decide, leaves_of, cases_of}
 use Rattle.tsp_cases.specs.Listed.{listed_steps}

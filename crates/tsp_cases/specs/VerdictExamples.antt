@@ -1,8 +1,8 @@
 -- Small combs that are bad, and small trees with a branch that comes twice. For the laws in src/examples.rt and
--- src/row_examples.rt.
+-- src/examples.rt.
 use Rattle.std.specs.Prelude.{ℕ, Bool, List, [], ◌∷◌, ℤ}
 use Rattle.tsp_format.specs.Steps as listed
-use Rattle.tsp_cases.specs.declared.decision.Decision.{Decision}
+use Rattle.tsp_cases.specs.declared.open_case.Decision.{Decision}
 use Rattle.tsp_cases.specs.GoodFamilies.{IsGoodComb}
 use Rattle.tsp_cases.specs.Twice.{IsFirstTwice}
 

@@ -1,19 +1,28 @@
 //! Laws that state values of the definitions in `specs/`, worked out by hand: crossings of a comb,
 //! weights at leaves, bounds of small trees of cases, bad branches.
 
-ghost use Rattle.std.specs.Prelude.{◌≡◌, ℕ, ℤ, List, [], ◌∷◌, true, false, pos, ◌-ℤ◌, ◌+ℤ◌};
-ghost use Rattle.tsp_cases.specs.Combs.{least_crossings};
-ghost use Rattle.tsp_cases.specs.Decisions.{decided_number};
-ghost use Rattle.tsp_cases.specs.Families.{least_crossings_of};
-ghost use Rattle.tsp_cases.specs.Cases.{Branch, Leaf};
-ghost use Rattle.tsp_cases.specs.Examples.{small_comb, PairCrosses, CrossesInAll, large, no_numbers, one_at_two, WeighsAt, WeighsUnderComb, four_rows, six_rows, LengthIs, FourHave, SixHave, IsTreeOf, IsNoTree, with_pair, without_pair};
-ghost use Rattle.tsp_cases.specs.BadBranches.{IsFirstBadBranch};
+ghost use Rattle.std.specs.Prelude.{◌≡◌, ℕ, ℤ, List, [], ◌∷◌, true, false, pos, ◌-ℤ◌, ◌+ℤ◌, ◌+◌, ◌-◌, ◌*◌, ◌^◌, negsuc};
 ghost use Rattle.tsp_format.specs.Steps as listed;
-ghost use Rattle.tsp_cases.specs.Listed.{IsListedStep};
+ghost use Rattle.tsp_cases.specs.BadBranches.{IsFirstBadBranch};
 ghost use Rattle.tsp_cases.specs.CaseExamples.{AreOnce, AreNotOnce, branched};
+ghost use Rattle.tsp_cases.specs.Cases.{Branch, Leaf};
+ghost use Rattle.tsp_cases.specs.Combs.{least_crossings};
+ghost use Rattle.tsp_cases.specs.Crossed.{AreTooMany};
+ghost use Rattle.tsp_cases.specs.Decisions.{decided_number};
+ghost use Rattle.tsp_cases.specs.Examples.{small_comb, PairCrosses, CrossesInAll, large, no_numbers, one_at_two, WeighsAt, WeighsUnderComb, four_rows, six_rows, LengthIs, FourHave, SixHave, IsTreeOf, IsNoTree, with_pair, without_pair};
+ghost use Rattle.tsp_cases.specs.Families.{least_crossings_of};
+ghost use Rattle.tsp_cases.specs.FamilyExamples.{one_set_twice, beside_all_six, all_six, IsCrossed, IsNoFamily};
+ghost use Rattle.tsp_cases.specs.GoodNumbers.{AreGoodNumbers};
+ghost use Rattle.tsp_cases.specs.Listed.{IsListedStep, listed_steps};
+ghost use Rattle.tsp_cases.specs.NumberExamples.{by_differences, by_numbers, two_combs, known_three, crossed_by, multiplied_by, moved_at_three};
+ghost use Rattle.tsp_cases.specs.RowExamples.{cost_of_three, ThreeHave, LeafOfThreeHas};
+ghost use Rattle.tsp_cases.specs.Rows.{IsAllowed, HasNoLink, IsRowBound};
+ghost use Rattle.tsp_cases.specs.SetExamples.{one_set_times, single_sets};
 ghost use Rattle.tsp_cases.specs.VerdictExamples.{IsNotGood, IsGood, three_teeth, TwiceAt, branches, branches_apart, on_both_sides};
 
-use crate::decision::DECIDED;
+use crate::laws::{cycles_cross_families, numbers_are_unique, unlike_nodes_need_parts};
+use crate::open_case::DECIDED;
+use tsp_theory::lengths_add_up;
 
 /// How often some nodes cross the parts of a comb, and how often two cycles do: the first one as
 /// often as each cycle does at the least.
@@ -118,3 +127,96 @@ pub fn examples_of_cases()
     ensures arcs { AreOnce true [] (branched 1 2 2 1) }
     ensures given { AreNotOnce false (with_pair 2 1 ∷ []) (branched 1 2 3 4) }
 {}
+
+/// How often sets are crossed, and which sets are no family.
+pub fn examples_of_families()
+    ensures lone_set { IsCrossed 2 3 ((1 ∷ 2 ∷ 3 ∷ []) ∷ []) }
+    ensures set_twice { IsCrossed 4 2 one_set_twice }
+    ensures not_as_a_lone_set { ¬ IsCrossed 2 3 one_set_twice }
+    ensures not_more { ¬ IsCrossed 5 2 one_set_twice }
+    ensures not_fewer { ¬ IsCrossed 3 2 one_set_twice }
+    ensures not_one_set { ¬ IsCrossed 4 1 one_set_twice }
+    ensures crossed_by_one_set { IsCrossed 2 1 beside_all_six }
+    ensures all_nodes { IsNoFamily all_six }
+    ensures node_twice { IsNoFamily ((1 ∷ 2 ∷ 1 ∷ []) ∷ (1 ∷ 3 ∷ []) ∷ []) }
+{
+    cycles_cross_families();
+    lengths_add_up();
+    numbers_are_unique();
+    unlike_nodes_need_parts();
+}
+
+/// Numbers at their limits, and past them by one.
+pub fn examples_of_good_numbers()
+    ensures largest_sum { AreGoodNumbers 3 two_combs (multiplied_by (pos (3 * 10 ^ 17 - 1)) (pos 1)) }
+    ensures larger_sum { ¬ AreGoodNumbers 3 two_combs (multiplied_by (pos (3 * 10 ^ 17)) (pos 1)) }
+    ensures largest_of_five { AreGoodNumbers 3 (crossed_by 5 ∷ crossed_by 2 ∷ [])
+        (multiplied_by (pos (18 * 10 ^ 16 - 2)) (pos 5)) }
+    ensures larger_of_five { ¬ AreGoodNumbers 3 (crossed_by 5 ∷ crossed_by 2 ∷ [])
+        (multiplied_by (pos (18 * 10 ^ 16 - 2)) (pos 6)) }
+    ensures below_zero { ¬ AreGoodNumbers 3 two_combs (multiplied_by (pos 5) (negsuc 0)) }
+    ensures fewer_combs { ¬ AreGoodNumbers 3 (known_three ∷ []) (multiplied_by (pos 5) (pos 1)) }
+    ensures largest_potential { AreGoodNumbers 3 [] (moved_at_three (pos (10 ^ 15))) }
+    ensures larger_potential { ¬ AreGoodNumbers 3 [] (moved_at_three (pos (10 ^ 15 + 1))) }
+    ensures lowest_potential { AreGoodNumbers 3 [] (moved_at_three (negsuc (10 ^ 15 - 1))) }
+    ensures lower_potential { ¬ AreGoodNumbers 3 [] (moved_at_three (negsuc (10 ^ 15))) }
+{}
+
+/// Each leaf has the numbers of the leaf before it, changed by its differences; the first one those
+/// of 0.
+pub fn examples_of_differences()
+    ensures { listed_steps 3 1 by_differences ≡ by_numbers }
+{}
+
+/// Which links are allowed beside a taken arc, beside an avoided one, and without any.
+pub fn examples_of_links()
+    ensures taken { IsAllowed 3 (with_pair 1 3 ∷ []) 1 3 }
+    ensures row_of_taken { ¬ IsAllowed 3 (with_pair 1 3 ∷ []) 1 2 }
+    ensures column_of_taken { ¬ IsAllowed 3 (with_pair 1 3 ∷ []) 2 3 }
+    ensures beside_taken { IsAllowed 3 (with_pair 1 3 ∷ []) 2 1 }
+    ensures avoided { ¬ IsAllowed 3 (without_pair 1 3 ∷ []) 1 3 }
+    ensures avoided_turned { IsAllowed 3 (without_pair 1 3 ∷ []) 3 1 }
+    ensures row_of_avoided { IsAllowed 3 (without_pair 1 3 ∷ []) 1 2 }
+    ensures column_of_avoided { IsAllowed 3 (without_pair 1 3 ∷ []) 2 3 }
+    ensures second_decision { ¬ IsAllowed 3 (with_pair 1 2 ∷ without_pair 2 3 ∷ []) 2 3 }
+    ensures no_decision { IsAllowed 3 [] 2 3 }
+    ensures itself { ¬ IsAllowed 3 [] 2 2 }
+    ensures past_the_last { ¬ IsAllowed 3 [] 2 4 }
+{}
+
+/// Bounds by rows: the costs of the least allowed links, and none where a node has no link. The
+/// arcs of node 1 go to the nodes 2 and 3, which two taken arcs enter elsewhere.
+pub fn examples_of_rows()
+    ensures none_left { HasNoLink 3 (with_pair 3 2 ∷ with_pair 2 3 ∷ []) }
+    ensures some_left { ¬ HasNoLink 3 [] }
+    ensures no_decision { ThreeHave [] (pos 1) (pos 6) }
+    ensures taken { ThreeHave (with_pair 1 3 ∷ []) (pos 1) (pos 23) }
+    ensures avoided { ThreeHave (without_pair 1 2 ∷ []) (pos 1) (pos 15) }
+    ensures rounded_up { ThreeHave (with_pair 1 3 ∷ []) (pos 2) (pos 12) }
+    ensures given_back { IsRowBound 3 cost_of_three (with_pair 1 3 ∷ []) (pos 2) (pos 5) (pos 14) }
+{}
+
+/// Bounds of leaves by rows. A potential of 3 at node 1 and of 1 at node 3 and a multiplier of 2
+/// for the crossings of node 1 alone make the least weights 2, 3 and 5 at the scale 1. The two
+/// crossings of each cycle give 4 back, and the potentials take 8.
+pub fn examples_of_leaves()
+    ensures alone { LeafOfThreeHas [] (pos 1) (pos 6) }
+    ensures taken { LeafOfThreeHas (with_pair 1 3 ∷ []) (pos 2) (pos 24) }
+{}
+
+/// Two arcs with the same last node are two pairs, and a lone set may have one node.
+pub fn examples_of_arcs()
+    ensures one_head { (branch : ℕ) → ¬ TwiceAt true [] (branches 1 2 3 2) branch }
+    ensures one_tail { (branch : ℕ) → ¬ TwiceAt true [] (branches 1 2 1 3) branch }
+    ensures lone_node { IsGood ((1 ∷ []) ∷ []) }
+{}
+
+/// A family may have 63 sets and 14 parts, and no more of either.
+pub fn examples_of_limits()
+    ensures most_sets { ¬ AreTooMany 3 (one_set_times 63) }
+    ensures more_sets { AreTooMany 3 (one_set_times 64) }
+    ensures most_parts { ¬ AreTooMany 14 (single_sets 13) }
+    ensures more_parts { AreTooMany 15 (single_sets 14) }
+{
+    unlike_nodes_need_parts();
+}

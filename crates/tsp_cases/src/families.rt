@@ -1,16 +1,16 @@
 //! The families of a certificate, all of them good, with the crossings of each.
-//! `src/good_families.rt` makes one, and all leaves share it (`src/setting.rt`).
+//! `src/good_families.rt` makes one, and all leaves share it (`src/kept.rt`).
 
 ghost use Rattle.std.specs.Prelude.{◌≡◌, ◌≤◌, ◌<◌, ◌-◌, ◌^◌, length};
 ghost use Rattle.std.specs.List.{All};
-ghost use Rattle.tsp_families.specs.FamilySets.{families_in, AreFamiliesOf};
+ghost use Rattle.tsp_cases.specs.FamilySets.{families_in, AreFamiliesOf};
 ghost use Rattle.tsp_cases.specs.Families.{IsFamily};
 ghost use Rattle.tsp_cases.specs.FamiliesOfSets.{families_with};
 ghost use Rattle.tsp_cases.specs.GoodFamilies.{HasEachOnce};
 ghost use Rattle.tsp_cases.specs.states.FamilyNumbers.{AreSmallCrossings};
 
-use crate::set_place::SetPlace;
-use tsp_families::Crossings;
+use crate::family::Crossings;
+use crate::sets::SetPlace;
 
 /// Families of sets of nodes, all of them good, as a file lends them, and the numbers of each. Of a
 /// comb the handle is before the teeth, and a lone set is a handle without teeth.

@@ -1,26 +1,25 @@
 //! Judges the families of a certificate for tours: the first that is bad, or how often cycles cross
 //! each. For `src/verdict.rt` of tsp_branch.
 
-ghost use Rattle.std.specs.Prelude.{◌≡◌, ◌≤◌, ◌<◌, ◌-◌, ◌+◌, ◌^◌, ◌↔◌, ℕ, IsTrue, [], length, true, IfOk, IfSome};
-ghost use Rattle.std.specs.List.{All};
+ghost use Rattle.std.specs.List.{All, Any};
+ghost use Rattle.std.specs.Prelude.{◌≡◌, ◌≤◌, ◌<◌, ◌-◌, ◌+◌, ◌^◌, ◌↔◌, ℕ, IsTrue, [], length, true, IfOk, IfSome, Bool, false};
 ghost use Rattle.tsp_format.specs.Nodes.{IsNode};
-ghost use Rattle.tsp_families.specs.Crossed.{has};
-ghost use Rattle.tsp_families.specs.FamilySets.{AreSetsOf, lists_of};
 ghost use Rattle.tsp_cases.specs.Combs.{IsTooth, comb_of};
+ghost use Rattle.tsp_cases.specs.Crossed.{has};
 ghost use Rattle.tsp_cases.specs.Families.{IsLoneSet, least_crossings_of};
-ghost use Rattle.tsp_cases.specs.GoodFamilies.{IsGoodComb, IsToothCount};
+ghost use Rattle.tsp_cases.specs.FamilySets.{AreSetsOf, lists_of};
+ghost use Rattle.tsp_cases.specs.GoodFamilies.{IsGoodComb, IsToothCount, HasEachOnce};
 ghost use Rattle.tsp_cases.specs.JudgedSets.{AreFamiliesJudged};
 ghost use Rattle.tsp_cases.specs.states.FamilyNumbers.{AreFamilyNumbers, IsSmall};
-ghost use Rattle.tsp_cases.specs.states.Marked.{is_marked, AreUnmarked, HavePlaces, AddsNoOther, AreTeeth};
+ghost use Rattle.tsp_cases.specs.states.Marked.{is_marked, AreUnmarked, HavePlaces, AddsNoOther, AreTeeth, AreNew, AreMarked};
 
-use crate::case_tree::CaseTree;
 use crate::families::Families;
+use crate::family::{Crossings, NodeSets, family_crossings};
 use crate::judged::JudgedFamilies;
-use crate::marks::{has_node, leaves_one_out, mark_nodes};
-use crate::other_families::other_crossings;
+use crate::laws::most_costs_are_unique;
+use crate::tree::CaseTree;
 use std::alloc::Global;
-use tsp_families::{Crossings, NodeSets};
-use tsp_memory::{Refused, filled, push};
+use tsp_io::{Refused, filled, push};
 use tsp_theory::Costs;
 
 /// The families of a tree, or the first one that isn't good, counted from 1: one with a node twice
@@ -180,4 +179,100 @@ fn is_tooth(handles: &[u32], mark: u32, nodes: &[u32]) -> bool
         → (IsTrue result ↔ IsTooth n (is_marked handles.now mark) (has nodes.now)) }
 {
     has_node(handles, mark, nodes, true) && has_node(handles, mark, nodes, false)
+}
+
+// ---- the crossings of families that are neither a lone set nor a comb
+
+/// The numbers of sets that are neither a lone set nor a comb. `None` where one has a node twice,
+/// where there are more than 63, or where their nodes make more than 14 parts or one alone.
+///
+/// # Errors
+///
+/// Out of memory, of which it takes some for each node.
+fn other_crossings(alloc: Global, family: &NodeSets) -> Result<Option<Crossings>, Refused>
+    ensures found { (IsGoodComb family.now.nodes (lists_of family.now.sets.now) → ⊥)
+        → IfOk result (AreFamilyNumbers family.now.nodes (lists_of family.now.sets.now)) }
+    ensures small { IfOk result (λ found. IfSome found IsSmall) }
+{
+    let once = have_each_once(alloc, family)?;
+    if !once {
+        return Ok(None);
+    }
+    let found = family_crossings(alloc, family)?;
+    let Some(own) = found else {
+        return Ok(None);
+    };
+    most_costs_are_unique();
+    // Where no two nodes cross a set, all are in one part.
+    if own.most == 0 {
+        return Ok(None);
+    }
+    Ok(Some(own))
+}
+
+/// Whether no set has a node twice.
+///
+/// # Errors
+///
+/// Out of memory, of which it takes some for each node.
+fn have_each_once(alloc: Global, family: &NodeSets) -> Result<bool, Refused>
+    ensures { IfOk result (λ once. IsTrue once ↔ All HasEachOnce (lists_of family.now.sets.now)) }
+{
+    let mut marks = filled(alloc, 0, family.nodes as usize + 1)?;
+    'sets: for index in 0..family.sets.len() {
+        // Marks from 1 on, since 0 means no mark.
+        if !mark_nodes(&mut marks, index as u32 + 1, &family.sets[index]) {
+            return Ok(false);
+        }
+    }
+    Ok(true)
+}
+
+// ---- marks by node, by which a node that comes twice in sets is found
+
+/// Marks the nodes of a set. `false` where one has the mark or appears twice: the nodes before it
+/// are marked then.
+pub fn mark_nodes(marks: &mut [u32], mark: u32, nodes: &[u32]) -> bool
+    requires { All (λ node. node < length marks.old) nodes.now }
+    ensures new { IsTrue result ↔ AreNew (is_marked marks.old mark) nodes.now }
+    ensures marked { result ≡ true → AreMarked mark nodes.now marks.old marks.new }
+    ensures others { AddsNoOther mark marks.old marks.new }
+    ensures length { length marks.new ≡ length marks.old }
+{
+    'nodes: for node in nodes {
+        let place = *node as usize;
+        if marks[place] == mark {
+            return false;
+        }
+        marks[place] = mark;
+    }
+    true
+}
+
+/// Whether a node has the mark, or whether one hasn't.
+fn has_node(marks: &[u32], mark: u32, nodes: &[u32], wanted: bool) -> bool
+    requires { All (λ node. node < length marks.now) nodes.now }
+    ensures { IsTrue result ↔ Any (λ node. is_marked marks.now mark node ≡ wanted) nodes.now }
+{
+    'nodes: for node in nodes {
+        let marked = marks[*node as usize] == mark;
+        if marked == wanted {
+            return true;
+        }
+    }
+    false
+}
+
+/// Whether some node, from 1 on, hasn't the mark. It looks at one place more than there are nodes
+/// with the mark, at most.
+fn leaves_one_out(marks: &[u32], mark: u32) -> bool
+    ensures { IsTrue result ↔ ((node : ℕ) × (1 ≤ node) × (node < length marks.now)
+        × (is_marked marks.now mark node ≡ false)) }
+{
+    'places: for place in 1..marks.len() {
+        if marks[place] != mark {
+            return true;
+        }
+    }
+    false
 }

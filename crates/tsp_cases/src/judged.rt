@@ -1,4 +1,4 @@
-//! The judgements on families, cases and leaves, as enums. `src/good_families.rt`, `src/twice.rt`
+//! The judgements on families, cases and leaves, as enums. `src/good_families.rt`, `src/tree.rt`
 //! and `src/pass.rt` return them to tsp_branch and tsp_routing.
 
 use crate::families::Families;

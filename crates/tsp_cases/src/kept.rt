@@ -1,33 +1,31 @@
 //! Rows of weights of all nodes that are kept from leaf to leaf: a leaf changes them by its
-//! multipliers and decisions alone. For `src/room.rt`, and `src/cycle_judge.rt` of tsp_branch.
+//! multipliers and decisions alone. For `src/kept.rt`, and `src/verdict.rt` of tsp_branch.
 
-ghost use Rattle.std.specs.Prelude.{◌≡◌, ◌≤◌, ◌<◌, ◌+◌, ◌-◌, ◌≢◌, ℕ, ℤ, length, slice_index_or, IfOk, neg_ℤ, ◌+ℤ◌, ◌*ℤ◌};
-ghost use Rattle.std.specs.Int.{w64, int_wrap};
 ghost use Rattle.std.specs.Global.{Vec};
+ghost use Rattle.std.specs.Int.{w64, int_wrap};
 ghost use Rattle.std.specs.List.{All};
+ghost use Rattle.std.specs.Prelude.{◌≡◌, ◌≤◌, ◌<◌, ◌+◌, ◌-◌, ◌≢◌, ℕ, ℤ, length, slice_index_or, IfOk, neg_ℤ, ◌+ℤ◌, ◌*ℤ◌, false};
 ghost use Rattle.tsp_format.specs.Nodes.{IsNode};
 ghost use Rattle.tsp_theory.specs.CertificateNumbers.{IsFromTo};
+ghost use Rattle.tsp_theory.specs.Costs.{IsSymmetric};
 ghost use Rattle.tsp_theory.specs.states.Nearest.{least_at};
 ghost use Rattle.tsp_cases.specs.Decisions.{decided_number};
-ghost use Rattle.tsp_cases.specs.states.Places.{IsPlaceIn};
-ghost use Rattle.tsp_cases.specs.states.Lent.{lent_in};
 ghost use Rattle.tsp_cases.specs.states.Combed.{AreSmallDifferences};
 ghost use Rattle.tsp_cases.specs.states.Decided.{signed};
 ghost use Rattle.tsp_cases.specs.states.Kept.{IsKeptRow, AreRows, AreRowsIfAny, AreAdded, IsAddedAt, AreDifferences};
+ghost use Rattle.tsp_cases.specs.states.Lent.{lent_in};
+ghost use Rattle.tsp_cases.specs.states.Places.{IsPlaceIn};
+ghost use Rattle.tsp_cases.specs.states.Sets.{IsSetTable};
 
-use crate::decision::{DECIDED, Decision};
-use crate::moved::take_multipliers;
-use crate::multiplied::MultipliedFamilies;
-use crate::multipliers::Multipliers;
-use crate::row_sets::add_to_row;
-use crate::scaled::scale_row;
-use crate::set_place::SetPlace;
-use crate::setting::Setting;
+use crate::families::Families;
+use crate::multipliers::{MultipliedFamilies, Multipliers};
+use crate::open_case::{DECIDED, Decision};
+use crate::sets::{SetPlace, add_to_row, scale_row, take_multipliers};
 use crate::tree_cases::Cases;
 use std::alloc::Global;
-use tsp_memory::{Refused, filled, push, with_capacity};
+use tsp_bound::add_at;
+use tsp_io::{Refused, filled, push, with_capacity};
 use tsp_theory::Costs;
-use tsp_tree::add_at;
 
 /// The most nodes of which rows are kept, in 32 MB.
 const MOST_KEPT: u32 = 2_000;
@@ -55,7 +53,7 @@ impl KeptRows {
     ghost use Rattle.std.specs.List.{All};
     ghost use Rattle.tsp_cases.specs.states.Sets.{IsSetTable};
     ghost use Rattle.tsp_cases.specs.states.Lent.{lent_in};
-    ghost use Rattle.tsp_cases.specs.declared.decision.Decision.{Decision};
+    ghost use Rattle.tsp_cases.specs.declared.open_case.Decision.{Decision};
     ghost use Rattle.tsp_cases.specs.states.Decided.{IsDecision, IsNextStack, marks_in, stack_of};
     ghost use Rattle.tsp_cases.specs.states.Kept.{HoldsRows, AreTwoNodes, added_between};
 
@@ -307,4 +305,77 @@ fn add_to_place(row: &mut Vec<i64>, place: u32, number: i64)
     ensures long { length row.new.items ≡ length row.old.items }
 {
     add_at(row, place, number);
+}
+
+// ---- the memory that a pass over the leaves for tours writes over
+
+/// The rows that are kept at the multipliers of the leaf before, and memory for the numbers of a
+/// leaf and for two rows of its weights.
+#[derive(Drop)]
+pub struct Room {
+    /// The number of each node.
+    pub potentials: Vec<i64>,
+    /// The number of each family.
+    pub multipliers: Vec<i64>,
+    /// A row of weights.
+    pub row: Vec<i64>,
+    /// Of each node its potential less the multipliers of its sets, as `fill_moved` writes it.
+    pub moved: Vec<i64>,
+    /// The rows that leaves share.
+    pub kept: KeptRows,
+}
+
+impl Room {
+    ghost use Rattle.std.specs.Prelude.{◌≡◌, length, IfOk};
+    ghost use Rattle.tsp_cases.specs.states.Lent.{lent_in};
+    ghost use Rattle.tsp_cases.specs.states.Decided.{marks_in};
+    ghost use Rattle.tsp_cases.specs.states.Kept.{HoldsRows};
+    ghost use Rattle.tsp_cases.specs.states.Rooms.{IsRoom};
+
+    /// Memory for the leaves of a setting. Rows are in it if they are to be kept, and there aren't
+    /// too many nodes.
+    ///
+    /// # Errors
+    ///
+    /// Out of memory.
+    pub fn new<C: Costs>(
+        alloc: Global,
+        setting: &Setting<C>,
+        are_kept: bool,
+    ) -> Result<Room, Refused>
+        ensures room { IfOk result (IsRoom (C.nodes setting.now.costs.now) (length setting.now.families.now.crossed.items)) }
+        ensures kept { IfOk result (λ room. HoldsRows (C.nodes setting.now.costs.now)
+            (length setting.now.families.now.crossed.items) setting.now.cases.now.scale
+            (lent_in setting.now.families.now) (C.at setting.now.costs.now)
+            (marks_in setting.now.cases.now.directed setting.now.cases.now.given.now) room.kept) }
+    {
+        let nodes = setting.costs.count() as usize;
+        let combs = setting.families.crossed.len();
+        Ok(Room {
+            potentials: filled(alloc, 0, nodes)?,
+            multipliers: filled(alloc, 0, combs)?,
+            row: filled(alloc, 0, nodes + 1)?,
+            moved: filled(alloc, 0, nodes + 1)?,
+            kept: KeptRows::new(alloc, setting, are_kept)?,
+        })
+    }
+}
+
+// ---- what all leaves of a certificate for tours share: costs, cases, families
+
+/// Costs, the cases, families, and the places of the sets of each node, for all leaves.
+///
+/// Where pairs have no direction the costs are the same in both, and the bound of a leaf is that of
+/// a least 1-tree; else it is that of the least link from each node.
+#[derive(Drop)]
+pub struct Setting<'a, C: Costs> {
+    pub costs: &'a C,
+    pub cases: &'a Cases<'a>,
+    pub families: &'a Families<'a>,
+    pub by_node: &'a [Vec<SetPlace>],
+    pub ghost some: { 3 ≤ C.nodes costs.now },
+    pub ghost even: { cases.now.directed ≡ false → IsSymmetric (C.at costs.now) },
+    pub ghost own: { cases.now.nodes ≡ C.nodes costs.now },
+    pub ghost same: { families.now.nodes ≡ C.nodes costs.now },
+    pub ghost table: { IsSetTable (C.nodes costs.now) (lent_in families.now) by_node.now },
 }

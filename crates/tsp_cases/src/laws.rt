@@ -1,18 +1,20 @@
 //! Laws: no cycle that keeps the decisions is shorter than the bound of a leaf, or of a tree of
-//! cases. For `src/branch.rt` of tsp_branch, and the bounds of tsp_verdict.
+//! cases. For `src/verdict.rt` of tsp_branch, and the bounds of tsp_verdict.
 
 ghost use Rattle.std.specs.Prelude.{ℕ, ℤ, List, [], ◌∷◌, ◌≤ℤ◌, Bool, true, false};
-ghost use Rattle.tsp_cases.specs.Combs.{CyclesCrossCombs};
-ghost use Rattle.tsp_cases.specs.declared.decision.Decision.{Decision};
-ghost use Rattle.tsp_cases.specs.Decisions.{DecidedBoundsBoundCycles, FixedBoundsBoundTours};
-ghost use Rattle.tsp_cases.specs.LeafBound.{LeafBoundsBoundCycles, UncombedBoundsAreAdjustedBounds};
-ghost use Rattle.tsp_cases.specs.Cases.{decide, BoundsCase, HasNoCycle, BoundsButOpen, CyclesKeepLeaves, CasesBoundCycles, CasesHaveNoCycle, StacksBegin, StacksBranch, StacksHoldCases};
-ghost use Rattle.tsp_cases.specs.Rows.{LinksAreAllowed, NoLinkNoCycle, SumsAreBelowCycles};
-ghost use Rattle.tsp_cases.specs.Families.{CyclesCrossFamilies, NumbersAreUnique};
-ghost use Rattle.tsp_cases.specs.RowLeaves.{RowLeafBoundsBoundCycles};
 ghost use Rattle.tsp_cases.specs.CaseTrees.{CaseTreesBoundCycles, CaseTreesBoundTours, NoBoundNoTour, CaseTreeBoundsAreUnique};
+ghost use Rattle.tsp_cases.specs.Cases.{decide, BoundsCase, HasNoCycle, BoundsButOpen, CyclesKeepLeaves, CasesBoundCycles, CasesHaveNoCycle, StacksBegin, StacksBranch, StacksHoldCases};
+ghost use Rattle.tsp_cases.specs.Combs.{CyclesCrossCombs};
+ghost use Rattle.tsp_cases.specs.Decisions.{DecidedBoundsBoundCycles, FixedBoundsBoundTours};
+ghost use Rattle.tsp_cases.specs.Families.{CyclesCrossFamilies, NumbersAreUnique};
+ghost use Rattle.tsp_cases.specs.LeafBound.{LeafBoundsBoundCycles, UncombedBoundsAreAdjustedBounds};
+ghost use Rattle.tsp_cases.specs.Memberships.{MembershipsTellSets};
+ghost use Rattle.tsp_cases.specs.RowLeaves.{RowLeafBoundsBoundCycles};
+ghost use Rattle.tsp_cases.specs.Rows.{LinksAreAllowed, NoLinkNoCycle, SumsAreBelowCycles};
+ghost use Rattle.tsp_cases.specs.SetParts.{PartsBoundCycles, PartsTellCycles, DivisionsBoundCycles, LeastLengthsAreUnique, MostCostsAreUnique, UnlikeNodesNeedParts};
+ghost use Rattle.tsp_cases.specs.declared.open_case.Decision.{Decision};
+ghost use Rattle.tsp_cases.specs.states.Combed.{SetsTellCombs, SetsGiveLeaves};
 
-use tsp_families::{least_lengths_are_unique, most_costs_are_unique};
 use tsp_theory::{
     adjusted_bounds_bound_cycles, cycles_are_permutations, cycles_have_no_loops, lengths_add_up,
 };
@@ -177,3 +179,52 @@ pub fn numbers_are_unique()
     least_lengths_are_unique();
     most_costs_are_unique();
 }
+
+/// The sets of families tell what two nodes cross, and give the weights of a leaf.
+pub fn sets_tell_combs()
+    ensures combs { SetsTellCombs }
+    ensures leaves { SetsGiveLeaves }
+{}
+
+/// Every cycle crosses sets at least as often as the best cyclic order of their parts.
+///
+/// No code calls it. It is for a reader: half of [`parts_tell_cycles`], and the half that a bound
+/// needs.
+pub fn parts_bound_cycles()
+    ensures { PartsBoundCycles }
+{}
+
+/// And some cycle crosses them no more often.
+pub fn parts_tell_cycles()
+    ensures { PartsTellCycles }
+{}
+
+/// Every cycle crosses sets at least as often as the best cyclic order of any parts whose nodes are
+/// in the same sets.
+///
+/// No code calls it. It shows a reader that finer parts than those of the sets give a bound too.
+pub fn divisions_bound_cycles()
+    ensures { DivisionsBoundCycles }
+{}
+
+/// There is one least length.
+pub fn least_lengths_are_unique()
+    ensures { LeastLengthsAreUnique }
+{}
+
+/// There is one greatest cost.
+pub fn most_costs_are_unique()
+    ensures { MostCostsAreUnique }
+{}
+
+/// Nodes of which no two are in the same sets are no more than the parts.
+pub fn unlike_nodes_need_parts()
+    ensures { UnlikeNodesNeedParts }
+{}
+
+/// Two nodes have one membership exactly where they are in the same sets.
+///
+/// No code calls it. It shows a reader that the numbers by which code finds parts tell parts apart.
+pub fn memberships_tell_sets()
+    ensures { MembershipsTellSets }
+{}

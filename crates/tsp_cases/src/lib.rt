@@ -1,91 +1,54 @@
-//! Families of sets of nodes and trees of cases, as theorems on lower bounds, and their judges.
-//! There are two relaxations: least 1-trees, and the least arc from each node.
-//!
-//! [`judge_families`] finds the first family of a certificate that isn't good, [`judge_cases`] the
-//! first branch that is bad or comes twice, and [`judge_numbers`] whether the numbers of a leaf are
-//! good. A [`Setting`] and a [`Room`] have what all leaves share. The bound itself is tsp_branch's.
+//! How often cycles cross families of sets of nodes: the least number of crossings of any cycle,
+//! for all sets that divide the nodes into few parts.
 //!
 //! ```text
-//! let families = judge_families(alloc, &tree)?;
-//! let cases = judge_cases(alloc, &tree)?;
+//! let crossings = family_crossings(alloc, &family)?;
 //! ```
 #![tactic(auto)]
 
-mod bad_branch;
-mod case_steps;
-mod case_tree;
-mod decision;
 mod examples;
 mod families;
-mod family_examples;
+mod family;
 mod good_families;
-mod good_numbers;
 mod judged;
 mod kept;
 mod laws;
-mod leaf_judge;
-mod lists;
-mod lowest;
-mod marks;
-mod moved;
-mod multiplied;
 mod multipliers;
-mod node_decisions;
-mod number_examples;
-mod numbers;
 mod open_case;
-mod other_families;
 mod pass;
-mod room;
-mod row_examples;
-mod row_sets;
-mod scaled;
-mod set_laws;
-mod set_place;
 mod sets;
-mod setting;
+mod tree;
 mod tree_cases;
-mod twice;
 
-pub use bad_branch::first_bad_branch;
-pub use case_steps::CaseSteps;
-pub use case_tree::CaseTree;
-pub use decision::{DECIDED, Decision};
 pub use examples::{
-    examples_of_bad_branches, examples_of_bounds, examples_of_cases, examples_of_crossings,
-    examples_of_trees, examples_of_verdicts, examples_of_weights,
+    examples_of_arcs, examples_of_bad_branches, examples_of_bounds, examples_of_cases,
+    examples_of_crossings, examples_of_differences, examples_of_families, examples_of_good_numbers,
+    examples_of_leaves, examples_of_limits, examples_of_links, examples_of_rows, examples_of_trees,
+    examples_of_verdicts, examples_of_weights,
 };
 pub use families::Families;
-pub use family_examples::examples_of_families;
-pub use good_families::judge_families;
-pub use good_numbers::{judge_numbers, sum_with};
+pub use family::{CostSquare, Crossings, NodeSets, family_crossings, least_cycle, parts_of};
+pub use good_families::{judge_families, mark_nodes};
 pub use judged::{JudgedCases, JudgedFamilies, JudgedLeaf, JudgedLeaves};
-pub use kept::KeptRows;
+pub use kept::{KeptRows, Room, Setting};
 pub use laws::{
     case_tree_bounds_are_unique, case_trees_bound_cycles, cases_bound_cycles, cases_have_no_cycle,
     cycles_cross_combs, cycles_cross_families, cycles_keep_leaves, decided_bounds_bound_cycles,
-    fixed_bounds_bound_tours, leaf_bounds_bound_cycles, links_are_allowed, numbers_are_unique,
-    row_leaf_bounds_bound_cycles, stacks_hold_cases, steps_leave_cases, sums_are_below_cycles,
+    divisions_bound_cycles, fixed_bounds_bound_tours, leaf_bounds_bound_cycles,
+    least_lengths_are_unique, links_are_allowed, memberships_tell_sets, most_costs_are_unique,
+    numbers_are_unique, parts_bound_cycles, parts_tell_cycles, row_leaf_bounds_bound_cycles,
+    sets_tell_combs, stacks_hold_cases, steps_leave_cases, sums_are_below_cycles,
+    unlike_nodes_need_parts,
 };
-pub use leaf_judge::LeafJudge;
-pub use lowest::lower;
-pub use marks::mark_nodes;
-pub use moved::{fill_moved, take_multipliers};
-pub use multiplied::MultipliedFamilies;
-pub use multipliers::Multipliers;
-pub use node_decisions::NodeDecisions;
-pub use number_examples::{examples_of_differences, examples_of_good_numbers};
-pub use numbers::{add_differences, copy_within};
-pub use open_case::OpenCase;
-pub use pass::judge_leaves;
-pub use room::Room;
-pub use row_examples::{examples_of_arcs, examples_of_leaves, examples_of_links, examples_of_rows};
-pub use row_sets::{add_sets, sum_left};
-pub use scaled::{fill_shifted, scale_row, shift_row};
-pub use set_laws::sets_tell_combs;
-pub use set_place::SetPlace;
-pub use sets::sets_by_node;
-pub use setting::Setting;
+pub use multipliers::{MultipliedFamilies, Multipliers};
+pub use open_case::{DECIDED, Decision, NodeDecisions, OpenCase};
+pub use pass::{
+    CaseSteps, LeafJudge, add_differences, copy_within, judge_leaves, judge_numbers, lower,
+    sum_with,
+};
+pub use sets::{
+    SetPlace, add_sets, fill_moved, fill_shifted, scale_row, sets_by_node, shift_row, sum_left,
+    take_multipliers,
+};
+pub use tree::{CaseTree, first_bad_branch, judge_cases};
 pub use tree_cases::Cases;
-pub use tsp_families::Crossings;
-pub use twice::judge_cases;

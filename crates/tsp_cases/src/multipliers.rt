@@ -2,7 +2,7 @@
 //! tsp_branch.
 
 ghost use Rattle.std.specs.Prelude.{◌≡◌, length};
-ghost use Rattle.tsp_cases.specs.states.Combed.{AreSmallMultipliers};
+ghost use Rattle.tsp_cases.specs.states.Combed.{AreSmallMultipliers, AreSmallDifferences};
 
 use crate::families::Families;
 
@@ -13,4 +13,15 @@ pub struct Multipliers<'a> {
     pub numbers: &'a [i64],
     pub ghost as_many: { length numbers.now ≡ length families.now.lent.now },
     pub ghost small: { AreSmallMultipliers numbers.now },
+}
+
+// ---- families with a number for each
+
+/// Families, and for each a number by which its sets count, of at most 9 * 10^17 in size.
+#[derive(Clone, Copy)]
+pub struct MultipliedFamilies<'a> {
+    pub families: &'a Families<'a>,
+    pub numbers: &'a [i64],
+    pub ghost as_many: { length numbers.now ≡ length families.now.lent.now },
+    pub ghost small: { AreSmallDifferences numbers.now },
 }

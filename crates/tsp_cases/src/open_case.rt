@@ -1,13 +1,14 @@
 //! The decisions of the case that is open in a pass over the steps of a tree. For `src/pass.rt` and
-//! `src/twice.rt`, and the leaves of tsp_branch and tsp_routing.
+//! `src/tree.rt`, and the leaves of tsp_branch and tsp_routing.
 
-ghost use Rattle.std.specs.Prelude.{◌≡◌};
+ghost use Rattle.std.specs.Global.{Vec};
+ghost use Rattle.std.specs.Prelude.{◌≡◌, ◌≤◌, ◌<◌, ◌+◌, ◌-◌, ◌^◌, ℕ, [], length, slice_index_or, IfOk};
 ghost use Rattle.tsp_cases.specs.Decisions.{is_same};
+ghost use Rattle.tsp_cases.specs.declared.open_case.Decision.{Decision};
+ghost use Rattle.tsp_cases.specs.states.OpenCases.{HaveOneMore, HaveOneLess};
 
-use crate::decision::Decision;
-use crate::node_decisions::NodeDecisions;
 use std::alloc::Global;
-use tsp_memory::{Refused, push};
+use tsp_io::{Refused, push, with_capacity};
 
 /// The decisions of the open case: those that are given for all cases, above them a stack of those
 /// of its branches, and all of them by node.
@@ -21,7 +22,7 @@ pub struct OpenCase<'a> {
 impl<'a> OpenCase<'a> {
     ghost use Rattle.std.specs.Prelude.{◌≡◌, ◌≤◌, ◌<◌, ◌+◌, ◌-◌, ◌^◌, ◌++◌, ℕ, [], ◌∷◌, true, length, IfOk};
     ghost use Rattle.std.specs.List.{All, filter};
-    ghost use Rattle.tsp_cases.specs.declared.decision.Decision.{Decision};
+    ghost use Rattle.tsp_cases.specs.declared.open_case.Decision.{Decision};
     ghost use Rattle.tsp_cases.specs.states.Decided.{IsDecision, IsNextStack, stack_of};
     ghost use Rattle.tsp_cases.specs.states.OpenCases.{IsOpenCase, bears_on, decisions_in};
     ghost use Rattle.tsp_cases.specs.Twice.{is_decided};
@@ -140,4 +141,134 @@ fn is_same(directed: bool, pair: (u32, u32), other: (u32, u32)) -> bool
         return straight;
     }
     straight || (pair.1 == other.0 && pair.0 == other.1)
+}
+
+// ---- the decisions of a case, listed at the nodes whose rows they change
+
+/// For each node the decisions that bear on its row, and all that take their pair, the last one
+/// last.
+///
+/// A decision bears on the row of its first node, and where pairs have no direction on that of its
+/// second one too.
+#[derive(Drop)]
+pub struct NodeDecisions {
+    pub directed: bool,
+    pub lists: Vec<Vec<Decision>>,
+    pub taken: Vec<Decision>,
+}
+
+impl NodeDecisions {
+    ghost use Rattle.std.specs.Prelude.{◌≡◌, ◌<◌, ◌-◌, ◌^◌, ℕ, List, [], ◌∷◌, IfOk, length};
+    ghost use Rattle.tsp_cases.specs.declared.open_case.Decision.{Decision};
+    ghost use Rattle.tsp_cases.specs.states.Decided.{IsOnPlaces};
+    ghost use Rattle.tsp_cases.specs.states.OpenCases.{AreByNode};
+
+    /// No decisions on pairs of these nodes.
+    ///
+    /// # Errors
+    ///
+    /// Out of memory, of which it takes some for each node.
+    pub(crate) fn new(alloc: Global, nodes: u32, directed: bool) -> Result<NodeDecisions, Refused>
+        ensures none { IfOk result (λ made. AreByNode nodes made []) }
+        ensures directed { IfOk result (λ made. made.directed ≡ directed) }
+    {
+        Ok(NodeDecisions {
+            directed,
+            lists: empty_lists(alloc, nodes)?,
+            taken: Vec::new(alloc),
+        })
+    }
+
+    /// Adds a decision.
+    ///
+    /// # Errors
+    ///
+    /// Out of memory.
+    pub(crate) fn add(&mut self, decision: Decision) -> Result<(), Refused>
+        requires { IsOnPlaces (length self.old.lists.items) decision }
+        ensures more { IfOk result (λ unit. (n : ℕ) (case : List Decision) → AreByNode n self.old case
+            → AreByNode n self.new (decision ∷ case)) }
+        ensures places { IfOk result (λ unit. length self.new.lists.items ≡ length self.old.lists.items) }
+        ensures directed { IfOk result (λ unit. self.new.directed ≡ self.old.directed) }
+    {
+        let (first, second) = decision.pair;
+        list_at(&mut self.lists, first, decision)?;
+        if !self.directed {
+            list_at(&mut self.lists, second, decision)?;
+        }
+        if decision.taken {
+            push(&mut self.taken, decision)?;
+        }
+        Ok(())
+    }
+
+    /// Drops the decision that was added last.
+    pub(crate) fn drop_last(&mut self, decision: Decision)
+        requires { IsOnPlaces (length self.old.lists.items) decision }
+        ensures less { (n : ℕ) (case : List Decision) → AreByNode n self.old (decision ∷ case)
+            → AreByNode n self.new case }
+        ensures places { length self.new.lists.items ≡ length self.old.lists.items }
+        ensures directed { self.new.directed ≡ self.old.directed }
+    {
+        let (first, second) = decision.pair;
+        unlist_at(&mut self.lists, first);
+        if !self.directed {
+            unlist_at(&mut self.lists, second);
+        }
+        if decision.taken {
+            self.taken.pop();
+        }
+    }
+}
+
+/// Adds a decision to the list of a node.
+fn list_at(lists: &mut Vec<Vec<Decision>>, node: u32, decision: Decision) -> Result<(), Refused>
+    requires { node < length lists.old.items }
+    ensures { IfOk result (λ unit. HaveOneMore node decision lists.old.items lists.new.items) }
+{
+    push(&mut lists[node as usize], decision)?;
+    Ok(())
+}
+
+/// Drops the last decision of a node's list.
+fn unlist_at(lists: &mut Vec<Vec<Decision>>, node: u32)
+    requires { node < length lists.old.items }
+    ensures { HaveOneLess node lists.old.items lists.new.items }
+{
+    lists[node as usize].pop();
+}
+
+// ---- a decision of a case: a pair of nodes that cycles use, or one that they avoid
+
+/// The number on each decided pair. It cancels in the bound, so any number would do. This one is
+/// far above all other parts of a weight and lets weights fit 64 bits.
+pub const DECIDED: i64 = 4_000_000_000_000_000_000;
+
+/// A pair of nodes, and whether a cycle is to use it.
+#[derive(Clone, Copy, Debug, PartialEq, Eq)]
+pub struct Decision {
+    /// The two nodes, from the first to the second where pairs have a direction.
+    pub pair: (u32, u32),
+    /// Whether a cycle uses the pair, or doesn't.
+    pub taken: bool,
+}
+
+// ---- an empty list for each node
+
+/// An empty list for each node, and one for 0.
+///
+/// # Errors
+///
+/// Out of memory, of which it takes some for each node.
+pub(crate) fn empty_lists<T: Drop>(alloc: Global, nodes: u32) -> Result<Vec<Vec<T>>, Refused>
+    ensures many { IfOk result (λ lists. length lists.items ≡ nodes + 1) }
+    ensures empty { IfOk result (λ lists. (x : ℕ) (default : Vec T) → x ≤ nodes
+        → (slice_index_or lists.items x default).items ≡ []) }
+{
+    let places = nodes as usize + 1;
+    let mut lists = with_capacity(alloc, places)?;
+    'lists: for _ in 0..places {
+        push(&mut lists, Vec::new(alloc))?;
+    }
+    Ok(lists)
 }

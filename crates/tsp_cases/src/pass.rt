@@ -1,25 +1,31 @@
 //! One pass over the steps of a tree of cases, which has each leaf judged by a `LeafJudge`. For
-//! `src/branch.rt` of tsp_branch and `src/verdict.rt` of tsp_routing.
+//! `src/verdict.rt` of tsp_branch and `src/verdict.rt` of tsp_routing.
 
-ghost use Rattle.std.specs.Prelude.{◌≡◌, ◌+◌, ◌<◌, ◌^◌, [], ◌∷◌, length, IfOk};
 ghost use Rattle.std.specs.List.{All};
+ghost use Rattle.std.specs.Prelude.{◌≡◌, ◌+◌, ◌<◌, ◌^◌, [], ◌∷◌, length, IfOk, ◌++◌, ℕ, ℤ, Bool, List, Option, true, ◌↔◌, IsTrue, pos, neg_ℤ, take, drop};
+ghost use Rattle.tsp_format.specs.Nodes.{IsNode};
+ghost use Rattle.tsp_format.specs.Steps.{are_whole};
 ghost use Rattle.tsp_format.specs.states.TreeSteps.{steps_of};
-ghost use Rattle.tsp_cases.specs.Cases.{cases_of, leaves_of};
-ghost use Rattle.tsp_cases.specs.Listed.{listed_steps};
+ghost use Rattle.tsp_theory.specs.CertificateNumbers.{IsFromTo};
+ghost use Rattle.tsp_cases.specs.Cases.{cases_of, leaves_of, LeafNumbers};
+ghost use Rattle.tsp_cases.specs.FamiliesOfSets.{most_or_least, sum_with};
+ghost use Rattle.tsp_cases.specs.GoodNumbers.{AreGoodNumbers, as_leaf_numbers};
+ghost use Rattle.tsp_cases.specs.JudgedLeaves.{AreJudgedBy, AreSizedLeaves, IsJudgedLeaf, IsSizedLeaf, IsFoundOfCase};
+ghost use Rattle.tsp_cases.specs.LeafBounds.{IsLowest};
+ghost use Rattle.tsp_cases.specs.Listed.{listed_steps, IsStepOf, all_grown};
+ghost use Rattle.tsp_cases.specs.declared.open_case.Decision.{Decision};
+ghost use Rattle.tsp_cases.specs.states.Decided.{IsDecision, IsNextStack, stack_of};
 ghost use Rattle.tsp_cases.specs.states.OpenCases.{IsOpenCase, decisions_in};
 ghost use Rattle.tsp_cases.specs.states.Rooms.{AreSmall};
-ghost use Rattle.tsp_cases.specs.JudgedLeaves.{AreJudgedBy, AreSizedLeaves, IsJudgedLeaf, IsSizedLeaf};
 
-use crate::case_steps::CaseSteps;
-use crate::decision::Decision;
+use crate::families::Families;
+use crate::family::Crossings;
 use crate::judged::{JudgedLeaf, JudgedLeaves};
-use crate::leaf_judge::LeafJudge;
-use crate::lowest::lower;
-use crate::numbers::add_differences;
-use crate::open_case::OpenCase;
+use crate::multipliers::Multipliers;
+use crate::open_case::{Decision, OpenCase};
 use std::alloc::Global;
-use tsp_format::TreeStep;
-use tsp_memory::{Refused, filled};
+use tsp_format::{MOST_POTENTIAL, TreeStep};
+use tsp_io::{Refused, filled};
 
 /// The least of what a judge finds of the leaves, or the first leaf that isn't good, counted from
 /// 1: one with an index past those of its numbers, or with numbers that aren't good. The judge's
@@ -102,4 +108,205 @@ fn judge_leaf<J: LeafJudge>(
         return Ok(JudgedLeaf::Bad);
     }
     judge.judge(alloc, case, &*numbers, memory)
+}
+
+// ---- the trait of a judge of the leaves of a tree of cases
+
+/// Judges the leaves of a tree of cases, as [`judge_leaves`](crate::judge_leaves) comes to them.
+///
+/// A leaf has a number for each node, and then one for each family. A case has its decisions with
+/// the last one first.
+pub trait LeafJudge {
+    /// The memory that is kept from leaf to leaf, and written over.
+    type Memory;
+
+    ghost nodes: { Self → ℕ };
+
+    ghost combs: { Self → ℕ };
+
+    // Decisions are on pairs of 1 to this number.
+    ghost places: { Self → ℕ };
+
+    ghost directed: { Self → Bool };
+
+    // This is known of the case of each leaf.
+    ghost fits: { Self → List Decision → Type 0 };
+
+    // The numbers of a leaf are good.
+    ghost good: { Self → LeafNumbers → Type 0 };
+
+    // This is found of a leaf.
+    ghost found: { Self → List Decision × LeafNumbers → Option ℤ → Type 0 };
+
+    // The memory is that of the case with these decisions.
+    ghost holds: { Self → Self.Memory → List Decision → Type 0 };
+
+    /// Goes on to the case with one decision more.
+    fn enter(&self, memory: &mut Self::Memory, decision: Decision)
+        requires decision { IsDecision (places self.now) decision }
+        requires memory { (case : List Decision) × holds self.now memory.old case }
+        ensures { (case : List Decision) → holds self.now memory.old case → holds self.now memory.new (decision ∷ case) };
+
+    /// Leaves a leaf for the next open case, as the stack of decisions does: those after the last
+    /// taken pair are dropped, and that pair is avoided.
+    fn leave(&self, memory: &mut Self::Memory, stack: &[Decision])
+        requires { (given : List Decision) × holds self.now memory.old (stack_of stack.now ++ given)
+            × All (IsDecision (places self.now)) (stack_of stack.now ++ given) }
+        ensures { (given : List Decision) (is_open : Bool) (next : List Decision)
+            → holds self.now memory.old (stack_of stack.now ++ given)
+            → All (IsDecision (places self.now)) (stack_of stack.now ++ given) → IsNextStack stack.now is_open next
+            → holds self.now memory.new (stack_of next ++ given) };
+
+    /// The bound of the leaf with these numbers at the open case, where they are good.
+    ///
+    /// # Errors
+    ///
+    /// Out of memory.
+    fn judge(
+        &self,
+        alloc: Global,
+        case: &OpenCase,
+        numbers: &[i128],
+        memory: &mut Self::Memory,
+    ) -> Result<JudgedLeaf, Refused>
+        requires case { IsOpenCase (places self.now) case.now }
+        requires direction { case.now.by_node.directed ≡ directed self.now }
+        requires fits { fits self.now (decisions_in case.now) }
+        requires few { length (decisions_in case.now) < 2 ^ 33 }
+        requires numbers { length numbers.now ≡ nodes self.now + combs self.now }
+        requires memory { holds self.now memory.old (decisions_in case.now) }
+        ensures found { IfOk result (IsFoundOfCase (found self.now) (good self.now) (nodes self.now)
+            (decisions_in case.now) numbers.now) }
+        ensures memory { IfOk result (λ judged. holds self.now memory.new (decisions_in case.now)) }
+        ensures size { IfOk result IsSizedLeaf };
+}
+
+// ---- the steps of one whole tree of cases, with the decisions of all cases
+
+/// The steps of one whole tree, each branch on a pair of different places, and the decisions of all
+/// its cases. Places are the nodes, for cycles.
+#[derive(Drop)]
+pub struct CaseSteps<'a> {
+    pub places: u32,
+    /// Whether pairs have a direction.
+    pub directed: bool,
+    pub given: &'a [Decision],
+    pub steps: &'a [TreeStep],
+    pub ghost few_given: { length given.now < 2 ^ 32 },
+    pub ghost few_steps: { length steps.now < 2 ^ 32 },
+    pub ghost given_are: { All (IsDecision places) given.now },
+    pub ghost steps_are: { ∥ All (IsStepOf places) (steps_of steps.now) ∥₁ },
+    pub ghost whole: { are_whole 1 (steps_of steps.now) ≡ true },
+}
+
+// ---- the numbers of a leaf
+
+/// Adds differences to the numbers at their indexes, from 1 on; `false` where an index is none of
+/// a number.
+pub fn add_differences(numbers: &mut [i128], changes: &[(u32, i64)]) -> bool
+    requires few { length changes.now < 2 ^ 32 }
+    requires sizes { All (IsFromTo (neg_ℤ (pos (2 ^ 64))) (pos (2 ^ 64))) numbers.old }
+    ensures inside { IsTrue result ↔ All (λ change. IsNode (length numbers.old) change.0) changes.now }
+    ensures grown { result ≡ true → numbers.new ≡ all_grown changes.now numbers.old }
+    ensures length { length numbers.new ≡ length numbers.old }
+{
+    'changes: for change in changes {
+        let index = change.0 as usize;
+        if index == 0 || numbers.len() < index {
+            return false;
+        }
+        numbers[index - 1] += i128::from(change.1);
+    }
+    true
+}
+
+/// Copies numbers that are all from a least to a most one; `false` where one isn't.
+pub fn copy_within(numbers: &[i128], least: i64, most: i64, copy: &mut [i64]) -> bool
+    requires { length copy.old ≡ length numbers.now }
+    ensures inside { IsTrue result ↔ All (IsFromTo least most) numbers.now }
+    ensures copied { result ≡ true → copy.new ≡ numbers.now }
+    ensures length { length copy.new ≡ length copy.old }
+{
+    'numbers: for index in 0..numbers.len() {
+        let number = numbers[index];
+        if number < i128::from(least) || i128::from(most) < number {
+            return false;
+        }
+        copy[index] = number as i64;
+    }
+    true
+}
+
+// ---- the lower one of two bounds of leaves, either of which may be missing
+
+/// The lower one of a bound and the lowest so far, where there are both; else the one that there
+/// is.
+pub fn lower(lowest: Option<i128>, own: Option<i128>) -> Option<i128>
+    ensures { IsLowest lowest own result }
+{
+    let Some(low) = lowest else {
+        return own;
+    };
+    let Some(bound) = own else {
+        return lowest;
+    };
+    Some(if low < bound { low } else { bound })
+}
+
+// ---- whether the potentials and multipliers of a leaf for tours are within their limits
+
+/// How often two nodes cross the sets of all families at most, each as often as its multiplier
+/// says.
+const MOST_CROSSED: i64 = 900_000_000_000_000_000;
+
+/// Whether the numbers, of the nodes and then of the families, are good: no potential is above
+/// 10^15 in size, no multiplier is negative, and these, each times the most that two nodes cross of
+/// its family, sum to at most 9 * 10^17. Then they are copied.
+pub fn judge_numbers(
+    numbers: &[i128],
+    families: &Families,
+    potentials: &mut [i64],
+    multipliers: &mut [i64],
+) -> bool
+    requires long { length numbers.now ≡ length potentials.old + length multipliers.old }
+    requires as_many { length multipliers.old ≡ length families.now.crossed.items }
+    ensures good { IsTrue result ↔ AreGoodNumbers (length potentials.old) families.now.crossed.items
+        (as_leaf_numbers (take (length potentials.old) numbers.now) (drop (length potentials.old) numbers.now)) }
+    ensures potentials { result ≡ true → potentials.new ≡ take (length potentials.old) numbers.now }
+    ensures multipliers { result ≡ true → multipliers.new ≡ drop (length potentials.old) numbers.now }
+    ensures potentials_len { length potentials.new ≡ length potentials.old }
+    ensures multipliers_len { length multipliers.new ≡ length multipliers.old }
+{
+    let (of_nodes, of_combs) = numbers.split_at(potentials.len());
+    if !copy_within(of_nodes, -MOST_POTENTIAL, MOST_POTENTIAL, potentials) {
+        return false;
+    }
+    if !copy_within(of_combs, 0, MOST_CROSSED, multipliers) {
+        return false;
+    }
+    let copied = Multipliers {
+        families,
+        numbers: multipliers,
+    };
+    sum_with(true, &copied) <= i128::from(MOST_CROSSED)
+}
+
+/// The most that two nodes cross of families, or the least that a cycle does, each times its
+/// multiplier.
+pub fn sum_with(is_most: bool, multipliers: &Multipliers) -> i128
+    ensures { result ≡ sum_with is_most multipliers.now.families.now.crossed.items multipliers.now.numbers.now }
+{
+    let mut sum = 0;
+    'families: for index in 0..multipliers.numbers.len() {
+        let number = most_or_least(is_most, multipliers.families.crossed[index]);
+        sum += i128::from(multipliers.numbers[index]) * i128::from(number);
+    }
+    sum
+}
+
+/// The most that two nodes cross of a family, or the least that a cycle does.
+fn most_or_least(is_most: bool, own: Crossings) -> u64
+    ensures { result ≡ most_or_least is_most own }
+{
+    if is_most { own.most } else { own.least }
 }

@@ -1,24 +1,31 @@
-//! The places of the sets of each node (for `src/branch.rt` of tsp_branch and `src/verdict.rt` of
-//! tsp_routing), and a number added at the nodes of a set (for `src/row_sets.rt`).
+//! The places of the sets of each node (for `src/verdict.rt` of tsp_branch and `src/verdict.rt` of
+//! tsp_routing), and a number added at the nodes of a set (for `src/sets.rt`).
 
-ghost use Rattle.std.specs.Prelude.{◌<◌, ◌-◌, ◌^◌, ℕ, [], length, IfOk};
+ghost use Rattle.std.specs.Int.{w64, int_wrap};
 ghost use Rattle.std.specs.List.{All};
+ghost use Rattle.std.specs.Prelude.{◌<◌, ◌-◌, ◌^◌, ℕ, [], length, IfOk, ◌≡◌, ◌+◌, ◌+ℤ◌, ◌≤◌, pos, neg_ℤ, ◌*ℤ◌};
+ghost use Rattle.tsp_format.specs.Limits.{most_weight};
+ghost use Rattle.tsp_format.specs.Nodes.{IsNode};
+ghost use Rattle.tsp_theory.specs.CertificateNumbers.{IsFromTo, IsScale, entry};
+ghost use Rattle.tsp_theory.specs.Length.{sum_int_by};
 ghost use Rattle.tsp_theory.specs.states.Nearest.{least_at};
-ghost use Rattle.tsp_families.specs.FamilySets.{lists_of};
-ghost use Rattle.tsp_cases.specs.states.Sets.{IsMoved, added, times, places_in, AreLengthened, IsSetTable};
+ghost use Rattle.tsp_cases.specs.FamilySets.{lists_of};
+ghost use Rattle.tsp_cases.specs.states.Combed.{inside_both, multipliers_at};
 ghost use Rattle.tsp_cases.specs.states.Lent.{lent_in};
+ghost use Rattle.tsp_cases.specs.states.Places.{IsPlaceIn};
+ghost use Rattle.tsp_cases.specs.states.Sets.{IsMoved, added, times, places_in, AreLengthened, IsSetTable};
 
 use crate::families::Families;
-use crate::lists::empty_lists;
-use crate::set_place::SetPlace;
+use crate::multipliers::MultipliedFamilies;
+use crate::open_case::empty_lists;
 use std::alloc::Global;
-use tsp_memory::{Refused, push};
-use tsp_tree::add_at;
+use tsp_bound::add_at;
+use tsp_io::{Refused, push};
 
 /// Adds a number at each node of a list: nothing has to be done for 0.
 ///
 /// On the way to a sum that fits 64 bits sums may not, so they are taken in their remainders.
-pub(crate) fn add_to_nodes(row: &mut [i64], nodes: &[u32], number: i64)
+fn add_to_nodes(row: &mut [i64], nodes: &[u32], number: i64)
     requires { All (λ node. node < length row.old) nodes.now }
     ensures { (x : ℕ) → IsMoved (added number nodes.now x) (least_at row.old x) (least_at row.new x) }
 {
@@ -74,4 +81,137 @@ fn place_set(lists: &mut Vec<Vec<SetPlace>>, place: SetPlace, nodes: &[u32]) -> 
         push(&mut lists[*node as usize], place)?;
     }
     Ok(())
+}
+
+// ---- the place of a set in a certificate
+
+/// The place of a set: the number of its family, and its own in the family, both from 0 on.
+#[derive(Clone, Copy)]
+pub struct SetPlace {
+    pub family: u32,
+    pub set: u32,
+}
+
+// ---- what the sets of a node add to its row
+
+/// Adds to a row, at each node of the sets at these places, the number of the set's family twice.
+pub fn add_sets(row: &mut [i64], places: &[SetPlace], multiplied: &MultipliedFamilies)
+    requires places { All (IsPlaceIn (lent_in multiplied.now.families.now)) places.now }
+    requires row { length row.old ≡ multiplied.now.families.now.nodes + 1 }
+    ensures { (x : ℕ) → IsMoved (inside_both multiplied.now.numbers.now (lent_in multiplied.now.families.now) places.now x)
+        (least_at row.old x) (least_at row.new x) }
+{
+    'places: for place in places {
+        let nodes = multiplied.families.set_at(*place);
+        add_to_nodes(row, nodes, 2 * multiplied.numbers[place.family as usize]);
+    }
+}
+
+/// Adds the same as `add_sets` to a row of a list of rows.
+pub(crate) fn add_to_row(row: &mut Vec<i64>, places: &[SetPlace], multiplied: &MultipliedFamilies)
+    requires places { All (IsPlaceIn (lent_in multiplied.now.families.now)) places.now }
+    requires row { length row.old.items ≡ multiplied.now.families.now.nodes + 1 }
+    ensures moved { (x : ℕ) → IsMoved (inside_both multiplied.now.numbers.now (lent_in multiplied.now.families.now) places.now x)
+        (least_at row.old.items x) (least_at row.new.items x) }
+    ensures long { length row.new.items ≡ length row.old.items }
+{
+    add_sets(row, places, multiplied);
+}
+
+/// Adds a number at each node of each of these sets.
+fn add_to_sets(row: &mut [i64], sets: &[Vec<u32>], number: i64)
+    requires { All (λ set. All (λ node. node < length row.old) set.items) sets.now }
+    ensures { (x : ℕ) → IsMoved (sum_int_by (λ set. added number set x) (lists_of sets.now))
+        (least_at row.old x) (least_at row.new x) }
+{
+    'sets: for set in sets {
+        add_to_nodes(row, set, number);
+    }
+}
+
+/// What is left in 64 bits of a sum.
+#[inline]
+pub fn sum_left(a: i64, b: i64) -> i64
+    ensures { result ≡ int_wrap w64 (a +ℤ b) }
+{
+    a.wrapping_add(b)
+}
+
+// ---- rows of costs, as counts of 1 / SCALE, with numbers added
+
+/// Makes the costs of a row counts of 1 / scale. The place 0 stays as it is.
+///
+/// # Requires
+///
+/// Costs of at most 10^12 in size.
+pub fn scale_row(row: &mut [i64], scale: i64)
+    requires scale { IsScale scale }
+    requires costs { (x : ℕ) → 1 ≤ x → x < length row.old
+        → IsFromTo (neg_ℤ (pos most_weight)) (pos most_weight) (least_at row.old x) }
+    ensures { (x : ℕ) → 1 ≤ x → x < length row.old → least_at row.new x ≡ scale *ℤ least_at row.old x }
+{
+    'places: for place in 1..row.len() {
+        row[place] = scale * row[place];
+    }
+}
+
+/// Adds a number to each of a row, and at each place the other row's. Each sum is wrapped to 64
+/// bits.
+///
+/// # Requires
+///
+/// Rows of one length.
+pub fn shift_row(row: &mut [i64], moved: &[i64], number: i64)
+    requires { length moved.now ≡ length row.old }
+    ensures { (x : ℕ) → x < length row.old → least_at row.new x
+        ≡ int_wrap w64 (least_at row.old x +ℤ int_wrap w64 (number +ℤ least_at moved.now x)) }
+{
+    'places: for place in 0..row.len() {
+        row[place] = sum_left(row[place], sum_left(number, moved[place]));
+    }
+}
+
+/// Writes what is left in 64 bits of the sums of two rows' numbers and one number.
+///
+/// # Requires
+///
+/// Rows of one length.
+pub fn fill_shifted(row: &mut [i64], kept: &[i64], moved: &[i64], number: i64)
+    requires kept { length kept.now ≡ length row.old }
+    requires moved { length moved.now ≡ length row.old }
+    ensures { (x : ℕ) → x < length row.old → least_at row.new x
+        ≡ int_wrap w64 (least_at kept.now x +ℤ int_wrap w64 (number +ℤ least_at moved.now x)) }
+{
+    'places: for place in 0..row.len() {
+        row[place] = sum_left(kept[place], sum_left(number, moved[place]));
+    }
+}
+
+// ---- the potential of each node less the multipliers of its sets
+
+/// Writes at the place of each node what is left in 64 bits of its potential and another number.
+pub fn fill_moved(row: &mut [i64], potentials: &[i64], ends: &[i64])
+    requires room { length row.old ≡ length potentials.now + 1 }
+    requires ends { length ends.now ≡ length potentials.now + 1 }
+    ensures { (x : ℕ) → IsNode (length potentials.now) x
+        → least_at row.new x ≡ int_wrap w64 (entry potentials.now x +ℤ least_at ends.now x) }
+{
+    'nodes: for index in 0..potentials.len() {
+        row[index + 1] = sum_left(potentials[index], ends[index + 1]);
+    }
+}
+
+/// Takes off each node of a set the number of the set's family.
+pub fn take_multipliers(row: &mut [i64], multiplied: &MultipliedFamilies)
+    requires { length row.old ≡ multiplied.now.families.now.nodes + 1 }
+    ensures { (x : ℕ) → IsMoved (neg_ℤ (multipliers_at multiplied.now.numbers.now (lent_in multiplied.now.families.now) x))
+        (least_at row.old x) (least_at row.new x) }
+{
+    'multipliers: for number in 0..multiplied.numbers.len() {
+        add_to_sets(
+            row,
+            &multiplied.families.lent[number],
+            -multiplied.numbers[number],
+        );
+    }
 }

@@ -1,5 +1,5 @@
 //! The steps of a tree of cases in which no case decides a pair twice, with its scale.
-//! `src/twice.rt` makes one, and `src/setting.rt` holds it.
+//! `src/tree.rt` makes one, and `src/kept.rt` holds it.
 
 ghost use Rattle.std.specs.Prelude.{◌≡◌, ◌<◌, ◌-◌, ◌^◌, ℕ, [], ◌∷◌, true, length};
 ghost use Rattle.std.specs.List.{All};
@@ -11,7 +11,7 @@ ghost use Rattle.tsp_cases.specs.Cases.{cases_of, leaves_of};
 ghost use Rattle.tsp_cases.specs.Listed.{IsStepOf, listed_steps};
 ghost use Rattle.tsp_cases.specs.states.Decided.{IsDecision};
 
-use crate::decision::Decision;
+use crate::open_case::Decision;
 use tsp_format::TreeStep;
 
 /// Cases over given decisions: one whole tree of branches on pairs of nodes, in which no case

@@ -2,3 +2,6 @@
 mod Subcommands
 mod Refusals
 mod Commands
+mod OneLines
+mod Openings
+mod Tellings

@@ -1,13 +1,13 @@
 -- A refusal of clap is the fault of the command line: one of those that the grammar finds in the words, or out of
--- memory. For `job_of` in src/words.rt.
+-- memory. For `job_of` in src/job.rt.
 use Rattle.std.proofs.Common.{◌≡◌, ◌⊎◌, ◌∙◌, inl, inr, List, Err, sym, subst}
 use Rattle.clap.specs.Words.{HasKind, IsAmong, Text, fault_of, kind_of}
 use Rattle.clap.specs.declared.error.Error.{Error}
 use Rattle.clap.specs.declared.error.kind.ErrorKind.TheVariants as kinds
 use Rattle.tsp_cli.specs.Grammar.{tsp}
 use Rattle.tsp_cli.specs.CommandWords.{IsFaultOf, GivesJob}
-use Rattle.tsp_cli.specs.declared.words.JobFault.{JobFault}
-use Rattle.tsp_cli.specs.declared.words.JobFault.TheVariants.{Refused, OutOfMemory}
+use Rattle.tsp_cli.specs.declared.job.JobFault.{JobFault}
+use Rattle.tsp_cli.specs.declared.job.JobFault.TheVariants.{Refused, OutOfMemory}
 
 pub refused : (words : List Text) (refusal : Error) (fault : JobFault) → IsFaultOf (kind_of refusal) fault
     → HasKind (fault_of tsp words) refusal

@@ -1,5 +1,5 @@
 -- The subcommand that a parse with no fault enters is never `help`: `help` is itself a fault. For `job_of` in
--- src/words.rt.
+-- src/job.rt.
 use Rattle.std.proofs.Common.{◌≡◌, ◌∙◌, ◌⊎◌, inl, inr, ap₂, subst, unwrap_or, Bool, true, false, List, [], ◌∷◌, Option, Some, None, refl, sym, ap, codes, fold, is_some, option_map}
 use Rattle.std.proofs.lemmas.Bool.{true≢false}
 use Rattle.std.specs.Str.{bytes_eq}
@@ -17,8 +17,8 @@ use Rattle.clap.specs.declared.parser.matches.ArgMatches.TheViews.{out-SubComman
 use Rattle.clap.proofs.WalkLemmas.{walk_stopped}
 use Rattle.tsp_cli.specs.Grammar.{tsp}
 use Rattle.tsp_cli.specs.CommandWords.{IsVerbOf, word_of}
-use Rattle.tsp_cli.specs.declared.words.Verb.{Verb}
-use Rattle.tsp_cli.specs.declared.words.Verb.TheVariants.{Show, Convert, Check, Compare, Bound}
+use Rattle.tsp_cli.specs.declared.job.Verb.{Verb}
+use Rattle.tsp_cli.specs.declared.job.Verb.TheVariants.{Show, Convert, Check, Compare, Bound}
 
 -- the walk hasn't met a subcommand
 abbrev GoesOn : Walk → Type 0

@@ -1,5 +1,5 @@
 -- Which verb and which values the words of a command line give, or with what fault they are refused, as clap's own
--- definitions say. For `job_of` (src/words.rt).
+-- definitions say. For `job_of` (src/job.rt).
 use Rattle.std.specs.Prelude.{◌≡◌, ◌≢◌, List, [], Option, None, Some, Result, Ok, Err, ⊤, codes, map, option_map, unwrap_or, String, IsTrue, ◌↔◌}
 use Rattle.std.specs.String.{string_bytes}
 use Rattle.clap.specs.Words.{Row, Text, all_of, first_of, kind_of, fault_of, subcommand_of}
@@ -7,11 +7,11 @@ use Rattle.clap.specs.Kinds.{IsAmong}
 use Rattle.clap.specs.declared.error.kind.ErrorKind.{ErrorKind}
 use Rattle.clap.specs.declared.error.kind.ErrorKind.TheVariants as kinds
 use Rattle.tsp_cli.specs.Grammar.{tsp}
-use Rattle.tsp_cli.specs.declared.words.Verb.{Verb}
-use Rattle.tsp_cli.specs.declared.words.Verb.TheVariants.{Show, Convert, Check, Compare, Bound}
-use Rattle.tsp_cli.specs.declared.words.Job.{Job}
-use Rattle.tsp_cli.specs.declared.words.JobFault.{JobFault}
-use Rattle.tsp_cli.specs.declared.words.JobFault.TheVariants.{Refused, OutOfMemory}
+use Rattle.tsp_cli.specs.declared.job.Verb.{Verb}
+use Rattle.tsp_cli.specs.declared.job.Verb.TheVariants.{Show, Convert, Check, Compare, Bound}
+use Rattle.tsp_cli.specs.declared.job.Job.{Job}
+use Rattle.tsp_cli.specs.declared.job.JobFault.{JobFault}
+use Rattle.tsp_cli.specs.declared.job.JobFault.TheVariants.{Refused, OutOfMemory}
 
 -- the subcommand of a verb
 abbrev pub word_of : Verb → Text

@@ -1,30 +1,30 @@
--- Which task a job asks for, on which files, or why it is none. For `task_of` (src/task_of_job.rt), and for the runs of
--- tsp_run (ProgramRun.antt).
+-- Which task a job asks for, on which files, or why it is none. For `task_of` (src/job.rt), and for the runs of
+-- tsp_cli (ProgramRun.antt).
 use Rattle.std.specs.Prelude.{◌≡◌, ◌≢◌, ◌⊎◌, ◌≤◌, ◌+◌, ℕ, Bool, true, false, ◌==◌, List, [], Option, None, Some, Result, Ok, Err, String, codes, map, ℤ, pos, negsuc}
 use Rattle.std.specs.List.{count_by, list_any, sum_by}
 use Rattle.std.specs.Str.{bytes_eq}
 use Rattle.std.specs.String.{string_bytes}
 use Rattle.clap.specs.Words.{Text}
-use Rattle.tsp_number.specs.declared.fault.NumberFault.{NumberFault}
+use Rattle.tsp_number.specs.declared.word.NumberFault.{NumberFault}
 use Rattle.tsp_number.specs.NumberWord.{ReadsWhole}
 use Rattle.tsp_format.specs.declared.layout.Layout.{Layout}
 use Rattle.tsp_format.specs.Layout.{layout_word}
-use Rattle.tsp_task.specs.declared.certificate.Certificate.{Certificate}
-use Rattle.tsp_task.specs.declared.certificate.Certificate.TheVariants.{Potentials, Branches}
-use Rattle.tsp_task.specs.declared.role.Role.{Role}
-use Rattle.tsp_task.specs.Files.{files_of, files_compared}
+use Rattle.tsp_report.specs.declared.task.Certificate.{Certificate}
+use Rattle.tsp_report.specs.declared.task.Certificate.TheVariants.{Potentials, Branches}
+use Rattle.tsp_report.specs.declared.task.Role.{Role}
+use Rattle.tsp_report.specs.Files.{files_of, files_compared}
 use Rattle.tsp_cli.specs.CommandWords.{text_in}
-use Rattle.tsp_cli.specs.declared.words.Job.{Job}
-use Rattle.tsp_cli.specs.declared.words.Verb.TheVariants as verbs
-use Rattle.tsp_cli.specs.declared.task_of_job.InputPath.{InputPath}
-use Rattle.tsp_cli.specs.declared.task_of_job.InputPath.TheVariants.{Input, Path}
-use Rattle.tsp_task.specs.declared.task.FileTask.{FileTask}
-use Rattle.tsp_task.specs.declared.task.FileTask.TheVariants.{Show, Convert, Check, Bound}
-use Rattle.tsp_task.specs.declared.task.Comparison.{Comparison}
-use Rattle.tsp_task.specs.declared.task.Task.{Task}
-use Rattle.tsp_task.specs.declared.task.Task.TheVariants as tasks
-use Rattle.tsp_cli.specs.declared.task_of_job.TaskFault.{TaskFault}
-use Rattle.tsp_cli.specs.declared.task_of_job.TaskFault.TheVariants.{UnknownLayout, MissingPath, TwoCertificates, NoCertificate, NotALength, InputTwice, LineEndInPath}
+use Rattle.tsp_cli.specs.declared.job.Job.{Job}
+use Rattle.tsp_cli.specs.declared.job.Verb.TheVariants as verbs
+use Rattle.tsp_cli.specs.declared.job.InputPath.{InputPath}
+use Rattle.tsp_cli.specs.declared.job.InputPath.TheVariants.{Input, Path}
+use Rattle.tsp_report.specs.declared.task.FileTask.{FileTask}
+use Rattle.tsp_report.specs.declared.task.FileTask.TheVariants.{Show, Convert, Check, Bound}
+use Rattle.tsp_report.specs.declared.task.Comparison.{Comparison}
+use Rattle.tsp_report.specs.declared.task.Task.{Task}
+use Rattle.tsp_report.specs.declared.task.Task.TheVariants as tasks
+use Rattle.tsp_cli.specs.declared.job.TaskFault.{TaskFault}
+use Rattle.tsp_cli.specs.declared.job.TaskFault.TheVariants.{UnknownLayout, MissingPath, TwoCertificates, NoCertificate, NotALength, InputTwice, LineEndInPath}
 
 -- a path and what it names: standard input for `-`, else the file with this path
 abbrev pub IsInputPathAt : Text → InputPath → Type 0

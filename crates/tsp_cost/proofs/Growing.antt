@@ -1,5 +1,5 @@
 -- The distance to the nearest point of a box is at most that to its other points, for each weight type. For
--- `Points::is_beyond_by` in src/places.rt.
+-- `Points::is_beyond_by` in src/points.rt.
 use Rattle.std.proofs.Common.{◌≤◌, ◌≤ℤ◌, ℕ, ℤ, Bool, true, false, refl, arith}
 use Rattle.std.specs.Prelude.{pos, IsTrue}
 use Rattle.std.specs.Bool.{OnTrue}

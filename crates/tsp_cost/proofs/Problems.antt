@@ -19,10 +19,10 @@ use Rattle.tsp_format.specs.Cells.{is_listed, cells}
 use Rattle.tsp_format.specs.Place.{place_of, place_by_table}
 use Rattle.tsp_format.proofs.Pairs.{cell_is}
 use Rattle.tsp_format.proofs.Places.{placed, place_within, no_place}
-use Rattle.tsp_draft.specs.Coords.{origin}
-use Rattle.tsp_draft.specs.Fields.{Fields, nodes_of}
-use Rattle.tsp_draft.specs.Rules.{is_explicit}
-use Rattle.tsp_draft.specs.Valid.{IsInRange, HasInstance, HasRouting}
+use Rattle.tsp_file.specs.Coords.{origin}
+use Rattle.tsp_file.specs.Fields.{Fields, nodes_of}
+use Rattle.tsp_file.specs.Rules.{is_explicit}
+use Rattle.tsp_file.specs.Valid.{IsInRange, HasInstance, HasRouting}
 use Rattle.tsp_file.specs.ByInequalities.{IsDistanceBy}
 use Rattle.tsp_file.specs.Cost.{cost, cost_by, listed_cost, point_of, layout_of}
 use Rattle.tsp_file.specs.ListedWeights.{UnlistedHaveNoPlace}

@@ -7,16 +7,16 @@ use Rattle.std.proofs.lemmas.Bool.{false≢true}
 use Rattle.tsp_distance.specs.declared.decimal.Point.{Point}
 use Rattle.tsp_format.specs.declared.kinds.WeightKind.TheVariants.{Explicit}
 use Rattle.tsp_format.specs.declared.layout.Layout.{Layout}
-use Rattle.tsp_draft.specs.Fields.{Fields, nodes_of}
-use Rattle.tsp_draft.specs.Rules.{is_explicit}
-use Rattle.tsp_draft.specs.Valid.{IsPairOf, AreFixed}
+use Rattle.tsp_file.specs.Fields.{Fields, nodes_of}
+use Rattle.tsp_file.specs.Rules.{is_explicit}
+use Rattle.tsp_file.specs.Valid.{IsPairOf, AreFixed}
 use Rattle.tsp_file.specs.Cost.{listed_cost, distance, point_of, cost}
 use Rattle.tsp_file.specs.ListedWeights.{ListsWeights}
 use Rattle.tsp_file.proofs.Listed.{lists, cost_of_listed}
 use Rattle.tsp_cost.specs.declared.metric.Metric.{Metric}
 use Rattle.tsp_cost.specs.declared.metric.Metric.TheVariants as metrics
-use Rattle.tsp_cost.specs.declared.cost_source.CostSource.{CostSource}
-use Rattle.tsp_cost.specs.declared.cost_source.CostSource.TheVariants.{Distances, Weights}
+use Rattle.tsp_cost.specs.declared.instance.CostSource.{CostSource}
+use Rattle.tsp_cost.specs.declared.instance.CostSource.TheVariants.{Distances, Weights}
 use Rattle.tsp_cost.specs.states.Metrics.{weight_kind_of}
 use Rattle.tsp_cost.specs.states.Sources.{ComesFrom, HasFound}
 use Rattle.tsp_cost.proofs.Instances.{cost_of_points}

@@ -11,7 +11,7 @@ use Rattle.tsp_format.specs.declared.layout.Layout.{Layout}
 use Rattle.tsp_format.specs.declared.layout.Layout.TheVariants.{FullMatrix}
 use Rattle.tsp_format.specs.Nodes.{IsNode, nodes_to}
 use Rattle.tsp_format.specs.Cells.{is_listed, cells}
-use Rattle.tsp_draft.specs.Fields.{Fields}
+use Rattle.tsp_file.specs.Fields.{Fields}
 use Rattle.tsp_file.specs.ByInequalities.{IsDistanceBy}
 use Rattle.tsp_theory.specs.Routing.{RoutingProblem}
 use Rattle.tsp_theory.specs.Tour.{Problem}

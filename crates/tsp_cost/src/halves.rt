@@ -5,7 +5,7 @@ ghost use Rattle.std.specs.Prelude.{◌≡◌, ◌≤◌, ◌<◌, ◌*◌, ◌^
 
 use std::alloc::Global;
 use tsp_distance::{Decimal, InSpace, Point};
-use tsp_memory::{Refused, filled, push, with_capacity};
+use tsp_io::{Refused, filled, push, with_capacity};
 use tsp_theory::Region;
 
 /// A node and its point.

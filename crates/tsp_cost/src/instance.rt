@@ -2,26 +2,23 @@
 //! one of a file, and tsp_verdict judges tours and routes of it.
 
 ghost use Rattle.std.specs.Prelude.{◌≡◌, IsTrue, unwrap_or, MatchResult, pos, neg_ℤ, ◌≤ℤ◌};
-ghost use Rattle.tsp_format.specs.Nodes.{IsNode};
 ghost use Rattle.tsp_format.specs.Limits.{most_weight};
-ghost use Rattle.tsp_draft.specs.Fields.{nodes_of};
-ghost use Rattle.tsp_draft.specs.Rules.{is_instance};
+ghost use Rattle.tsp_format.specs.Nodes.{IsNode};
 ghost use Rattle.tsp_file.specs.Cost.{cost};
+ghost use Rattle.tsp_file.specs.Fields.{nodes_of};
+ghost use Rattle.tsp_file.specs.Rules.{is_instance};
 ghost use Rattle.tsp_theory.specs.Costs.{IsSymmetric, IsFirstAsymmetric, FindsAsymmetric};
 ghost use Rattle.tsp_cost.specs.states.Sources.{HasFound};
 ghost use Rattle.tsp_cost.specs.states.Views.{ShowsEven};
 
-use crate::cost_source::CostSource;
-use crate::fault::CostFault;
 use crate::laws::instances_are_problems;
-use crate::matrix::Matrix;
+use crate::matrix::{EvenMatrix, Matrix, Triangle};
 use crate::metric::Metric;
 use crate::points::Points;
-use crate::triangle::Triangle;
-use crate::view::{EvenView, View};
 use std::marker::Model;
-use tsp_draft::Coords;
-use tsp_file::{File, RoutingData};
+use thiserror::Error;
+use tsp_distance::{PlanePoint, Point};
+use tsp_file::{Coords, File, RoutingData};
 use tsp_format::{Kind, Layout};
 use tsp_theory::Costs;
 
@@ -36,7 +33,7 @@ pub struct Instance {
 }
 
 impl Model for Instance {
-    ghost use Rattle.tsp_draft.specs.Fields.{Fields};
+    ghost use Rattle.tsp_file.specs.Fields.{Fields};
     ghost use Rattle.tsp_cost.specs.states.Sources.{HasFound};
 
     ghost Value = { Fields };
@@ -49,13 +46,13 @@ impl Model for Instance {
 impl Instance {
     ghost use Rattle.std.specs.Prelude.{◌≡◌, ◌≤◌, ◌⊎◌, false, Some, IsTrue, length, MatchOption, MatchResult};
     ghost use Rattle.std.specs.List.{All};
-    ghost use Rattle.tsp_draft.specs.Rules.{is_instance};
-    ghost use Rattle.tsp_draft.specs.Valid.{IsPairOf};
+    ghost use Rattle.tsp_file.specs.Rules.{is_instance};
+    ghost use Rattle.tsp_file.specs.Valid.{IsPairOf};
     ghost use Rattle.tsp_format.specs.declared.kinds.Kind.TheVariants as kinds;
     ghost use Rattle.tsp_format.specs.Limits.{most_fixed};
-    ghost use Rattle.tsp_cost.specs.declared.fault.CostFault.TheVariants.{NotInstance};
-    ghost use Rattle.tsp_cost.specs.declared.cost_source.CostSource.TheVariants.{Distances, Weights};
-    ghost use Rattle.tsp_draft.specs.Fields.{nodes_of};
+    ghost use Rattle.tsp_cost.specs.declared.instance.CostFault.TheVariants.{NotInstance};
+    ghost use Rattle.tsp_cost.specs.declared.instance.CostSource.TheVariants.{Distances, Weights};
+    ghost use Rattle.tsp_file.specs.Fields.{nodes_of};
     ghost use Rattle.tsp_file.specs.Defaults.{fixed_of};
     ghost use Rattle.tsp_file.specs.Typed.{HoldsRouting};
     ghost use Rattle.tsp_cost.specs.ProblemLaws.{IsProblem};
@@ -272,4 +269,53 @@ pub fn symmetric_fault(inst: &Instance) -> Option<(u32, u32)>
         Ok(_) => None,
         Err(pair) => Some(pair),
     }
+}
+
+// ---- the costs of an instance as one of four types
+
+/// The costs of an instance, by the type that has them.
+#[derive(Clone, Copy, Debug)]
+pub enum View<'a> {
+    /// The weight type is a distance, of points of the plane.
+    Plane(Points<'a, PlanePoint>),
+    /// The weight type is a distance, of points in space.
+    Space(Points<'a, Point>),
+    /// The weights are a full matrix.
+    Matrix(Matrix<'a>),
+    /// The weights are one half of a matrix.
+    Triangle(Triangle<'a>),
+}
+
+/// The costs of an instance, by the type that has them, where they are the same in both directions.
+#[derive(Clone, Copy, Debug)]
+pub enum EvenView<'a> {
+    /// The weight type is a distance, of points of the plane.
+    Plane(Points<'a, PlanePoint>),
+    /// The weight type is a distance, of points in space.
+    Space(Points<'a, Point>),
+    /// The weights are a full matrix.
+    Matrix(EvenMatrix<'a>),
+    /// The weights are one half of a matrix.
+    Triangle(Triangle<'a>),
+}
+
+// ---- whether the costs of an instance are distances
+
+/// The metric or the layout of the costs of an instance.
+#[derive(Clone, Copy, Debug)]
+pub(crate) enum CostSource {
+    /// Distances of its points.
+    Distances(Metric),
+    /// Weights that it lists in this layout.
+    Weights(Layout),
+}
+
+// ---- the fault of a file that has no costs
+
+/// Why a file has no costs.
+#[derive(Clone, Copy, Debug, PartialEq, Eq, Error)]
+pub enum CostFault {
+    /// It holds tours, potentials, or a tree of cases.
+    #[error("NotInstance")]
+    NotInstance,
 }

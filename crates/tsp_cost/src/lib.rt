@@ -12,28 +12,17 @@
 //! ```
 #![tactic(auto)]
 
-mod coarse;
-mod cost_source;
-mod euclidean;
 mod examples;
-mod fault;
 mod halves;
 mod instance;
 mod laws;
 mod matrix;
 mod metric;
-mod places;
 mod points;
-mod triangle;
-mod view;
 
-pub use euclidean::Euclidean;
 pub use examples::examples_of_tours;
-pub use fault::CostFault;
-pub use instance::{Instance, even_view, symmetric_fault};
+pub use instance::{CostFault, EvenView, Instance, View, even_view, symmetric_fault};
 pub use laws::instances_are_problems;
-pub use matrix::{EvenMatrix, Matrix};
-pub use points::Points;
-pub use triangle::Triangle;
+pub use matrix::{EvenMatrix, Matrix, Triangle};
+pub use points::{Euclidean, Points};
 pub use tsp_theory::{Costs, Region, Site, Symmetric, canonical_length, tour_length, trace_tours};
-pub use view::{EvenView, View};

@@ -1,17 +1,18 @@
 //! Costs that are distances of points, of the plane or in space, by the metric of the weight type.
-//! For `src/view.rt` and others.
+//! For `src/instance.rt` and others.
 
 ghost use Rattle.std.specs.Prelude.{◌≡◌, ◌≤◌, ◌-◌, ℕ, length, map};
 ghost use Rattle.tsp_distance.specs.declared.decimal.Point.{Point};
 ghost use Rattle.tsp_format.specs.Limits.{most_nodes};
 ghost use Rattle.tsp_file.specs.Cost.{distance, point_of};
+ghost use Rattle.tsp_cost.specs.declared.metric.Metric.TheVariants.{Euc2d};
 ghost use Rattle.tsp_cost.specs.states.Metrics.{weight_kind_of};
 
 use crate::halves::by_halves;
 use crate::metric::Metric;
 use std::alloc::{AllocError, Global};
-use tsp_distance::{InSpace, Point, distance_laws};
-use tsp_memory::Refused;
+use tsp_distance::{InSpace, PlanePoint, Point, distance_laws, monotone_laws};
+use tsp_io::Refused;
 use tsp_theory::{Costs, Region, Site, Symmetric};
 
 /// How many points are looked up before the first of their distances.
@@ -201,4 +202,105 @@ impl<P: InSpace> Costs for Points<'_, P> {
 
 impl<P: InSpace> Symmetric for Points<'_, P> {
     ghost even = { λ points i j different. points.symmetric _ _ };
+}
+
+// ---- the costs of points of the plane under EUC_2D alone, so that no search for a bound asks
+
+/// Points of the plane whose distance is EUC_2D.
+///
+/// Nothing of theirs asks for the metric: a search that chose among all metrics for each box took a
+/// sixth more instructions.
+#[derive(Debug, Drop)]
+pub struct Euclidean<'a> {
+    points: Points<'a, PlanePoint>,
+    ghost metric: { points.metric ≡ Euc2d },
+}
+
+impl<'a> Points<'a, PlanePoint> {
+    ghost use Rattle.std.specs.Prelude.{◌≡◌, IfSome};
+    ghost use Rattle.tsp_cost.specs.states.Views.{euclidean_points};
+
+    /// These costs, if their metric is EUC_2D.
+    pub fn euclidean(&self) -> Option<Euclidean<'a>>
+        ensures { IfSome result (λ euclidean. euclidean_points euclidean ≡ self.now) }
+    {
+        match self.metric {
+            Metric::Euc2d => Some(Euclidean { points: *self }),
+            _ => None,
+        }
+    }
+}
+
+impl Costs for Euclidean<'_> {
+    ghost use Rattle.tsp_distance.specs.Distances.{on_plane};
+    ghost use Rattle.tsp_cost.specs.states.Views.{points_nodes, points_cost, points_place};
+
+    ghost nodes = { λ e. points_nodes e.points };
+
+    ghost at = { λ e. points_cost (λ point. on_plane point.x point.y) e.points };
+
+    ghost place = { λ e. points_place (λ point. on_plane point.x point.y) e.points };
+
+    #[inline]
+    fn count(&self) -> u32 {
+        self.points.count()
+    }
+
+    #[inline]
+    fn cost(&self, i: u32, j: u32) -> i64 {
+        self.points.with(Metric::Euc2d).cost(i, j)
+    }
+
+    fn order(&self, alloc: Global) -> Result<Vec<u32>, Refused> {
+        self.points.order(alloc)
+    }
+
+    #[inline]
+    fn site(&self, node: u32) -> Option<Site> {
+        self.points.site(node)
+    }
+
+    #[inline(always)]
+    fn cost_between(&self, from: &Site, to: &Site) -> i64 {
+        Metric::Euc2d.between(from.place, to.place)
+    }
+
+    // (as a separate call it cost a tenth more instructions)
+    #[inline(always)]
+    fn is_beyond(&self, from: &Site, region: &Region, least: i64) -> bool {
+        self.points.is_beyond_by(Metric::Euc2d, from, region, least)
+    }
+}
+
+impl Symmetric for Euclidean<'_> {
+    ghost even = { λ e i j different. e.points.symmetric _ _ };
+}
+
+// ---- whether a whole region of points is at least so far from a point
+
+impl<P: InSpace> Points<'_, P> {
+    ghost use Rattle.std.specs.Prelude.{◌≡◌, ◌≤ℤ◌, ℕ};
+    ghost use Rattle.std.specs.Bool.{OnTrue};
+    ghost use Rattle.tsp_format.specs.Nodes.{IsNode};
+    ghost use Rattle.tsp_theory.specs.Regions.{IsIn, IsSite};
+    ghost use Rattle.tsp_cost.specs.states.Views.{points_nodes, points_cost, points_place};
+
+    /// What [`Costs::is_beyond`](tsp_theory::Costs::is_beyond) says, by the metric of the points.
+    #[inline(always)]
+    pub(crate) fn is_beyond_by(
+        &self,
+        metric: Metric,
+        from: &Site,
+        region: &Region,
+        least: i64,
+    ) -> bool
+        requires metric { metric ≡ self.now.metric }
+        requires from { IsSite (points_nodes self.now) (points_place P.place self.now) from.now }
+        ensures { OnTrue result ((to : ℕ) → IsNode (points_nodes self.now) to
+            → IsIn region.now (points_place P.place self.now to)
+            → least ≤ℤ points_cost P.place self.now from.now.node to) }
+    {
+        monotone_laws();
+        metric.is_at_least(from.place, region.nearest(&from.place), least)
+    }
 }

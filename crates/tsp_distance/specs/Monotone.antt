@@ -1,5 +1,5 @@
 -- Distances that don't shrink where two points move apart along the axes. For the law `monotone_laws`
--- (src/monotone.rt), by which src/places.rt of tsp_cost compares a point with a box.
+-- (src/monotone.rt), by which src/points.rt of tsp_cost compares a point with a box.
 use Rattle.std.specs.Prelude.{ℕ, ◌≤◌}
 use Rattle.tsp_distance.specs.declared.decimal.Point.{Point}
 use Rattle.tsp_distance.specs.Distances.{dx, dy, dz}

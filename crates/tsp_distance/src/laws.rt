@@ -1,5 +1,5 @@
 //! A law: each distance has one value, is symmetric and bounded. For `src/points.rt` and
-//! `src/coarse.rt` of tsp_cost.
+//! `src/metric.rt` of tsp_cost.
 
 ghost use Rattle.tsp_distance.specs.Distances.{IsEuc2d, IsCeil2d, IsMan2d, IsMax2d, IsAtt, IsEuc3d, IsMan3d, IsMax3d, euc_2d_of, ceil_2d_of, man_2d_of, max_2d_of, att_of, euc_3d_of, man_3d_of, max_3d_of, IsDistance, IsDistanceInSpace};
 

@@ -1,5 +1,5 @@
 //! A law: points no farther apart along each axis are no farther apart by any distance. For
-//! `src/places.rt` of tsp_cost, which compares a point with a box of points.
+//! `src/points.rt` of tsp_cost, which compares a point with a box of points.
 
 ghost use Rattle.tsp_distance.specs.Distances.{euc_2d_of, ceil_2d_of, man_2d_of, max_2d_of, att_of, euc_3d_of, man_3d_of, max_3d_of};
 ghost use Rattle.tsp_distance.specs.Monotone.{IsMonotone};

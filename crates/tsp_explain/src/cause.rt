@@ -2,7 +2,7 @@
 //! shows one. For `src/file_fault.rt`.
 
 use crate::look::Look;
-use tsp_draft::EndFault;
+use tsp_file::EndFault;
 use tsp_format::{Field, is_blank, is_letter};
 use tsp_number::NumberFault;
 use tsp_text::{LineFault, ReadFault};

@@ -7,7 +7,7 @@ use crate::text::{LinePart, push_line, push_lines};
 use std::alloc::AllocError;
 use tsp_file::File;
 use tsp_format::{Kind, TreeStep, Word};
-use tsp_task::Reason;
+use tsp_report::Reason;
 
 /// The most sets of a family that is neither a lone set nor a comb.
 const MOST_SETS: i64 = 63;

@@ -1,5 +1,5 @@
 //! Lines of `--explain` on a file that isn't read: the place, the rule, and a likely cause. For
-//! `src/explained.rt` of tsp_perform and `src/followed.rt` of tsp_run.
+//! `src/explained.rt` of tsp_judge and `src/explained.rt` of tsp_cli.
 
 ghost use Rattle.std.specs.Io.{StartsWith};
 
@@ -12,11 +12,10 @@ use crate::sentences::{end_sentence, line_sentence};
 use crate::text::{LinePart, append, push_line, push_lines, push_parts};
 use crate::wanted::{asked, group, wanted};
 use std::alloc::{AllocError, Global};
-use std::io;
-use std::io::Read;
-use tsp_draft::EndFault;
+use std::io::{self, Read};
+use tsp_file::EndFault;
 use tsp_format::{Field, Word};
-use tsp_task::Role;
+use tsp_report::Role;
 use tsp_text::{LineFault, ReadFault};
 
 /// Appends why a file isn't read. `name` is what the user calls it, `given` what it is given for in

@@ -5,7 +5,7 @@ use crate::look::Look;
 use crate::text::{LinePart, push_line, push_lines};
 use std::alloc::AllocError;
 use tsp_format::is_blank;
-use tsp_task::Role;
+use tsp_report::Role;
 use tsp_text::{LineFault, ReadFault};
 
 /// A form in which another program writes.

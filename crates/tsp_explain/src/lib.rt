@@ -10,7 +10,6 @@
 
 mod cause;
 mod certificate_reasons;
-mod claims;
 mod examples;
 mod excerpt;
 mod file_fault;
@@ -20,7 +19,6 @@ mod guess;
 mod look;
 mod near;
 mod refusal;
-mod rounding;
 mod sentences;
 mod solution;
 mod text;

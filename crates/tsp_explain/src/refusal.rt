@@ -13,7 +13,7 @@ use std::alloc::{AllocError, Global};
 use tsp_cost::{Costs, Instance};
 use tsp_file::File;
 use tsp_format::{Kind, Word};
-use tsp_task::Reason;
+use tsp_report::Reason;
 
 /// The end of the comment that recipes write whose customers count from 1 without the depot.
 const CONVERTED: &[u8] = b" is node k + 1";

@@ -5,11 +5,10 @@
 
 ghost use Rattle.std.specs.Prelude.{◌≤◌, length};
 
-use tsp_draft::EndFault;
-use tsp_file::RelayoutFault;
+use tsp_file::{EndFault, RelayoutFault};
+use tsp_io::WriteFault;
 use tsp_number::NumberFault;
-use tsp_stream::WriteFault;
-use tsp_task::Reason;
+use tsp_report::Reason;
 use tsp_text::LineFault;
 
 /// What is wrong with a line.

@@ -1,17 +1,17 @@
 //! Lines of `--explain` on a verdict or a bound: the reason against it, or a doubt about an
-//! accepted solution. For `src/explained.rt` of tsp_perform.
+//! accepted solution. For `src/explained.rt` of tsp_judge.
 
 ghost use Rattle.std.specs.Io.{StartsWith};
+ghost use Rattle.std.specs.Prelude.{◌≡◌};
 
-use crate::claims::push_claim;
 use crate::refusal::{explain_reason, push_details};
-use crate::rounding::push_rounding;
-use crate::text::{LinePart, append, push_lines, push_parts};
+use crate::text::{LinePart, append, push, push_lines, push_name, push_parts};
 use std::alloc::{AllocError, Global};
-use tsp_cost::Instance;
-use tsp_file::File;
+use tsp_cost::{Costs, Instance};
+use tsp_file::{Coords, File};
 use tsp_format::Kind;
-use tsp_task::{BoundVerdict, Reason, Role, Verdict, blamed};
+use tsp_number::{NumberFault, parse_whole};
+use tsp_report::{BoundVerdict, Reason, Role, Verdict, blamed};
 
 /// What a user calls the files of a check, or of a bound.
 #[derive(Clone, Copy)]
@@ -178,4 +178,235 @@ fn push_no(
         files.solution,
         files.certificate,
     )
+}
+
+// ---- the line of `--explain` on a tour whose distances are all rounded to 0 or 1
+
+/// What it means that distances are rounded, and what helps.
+const ROUNDED: &str =
+    ": every distance along the solution is 0 or 1, since TSPLIB rounds distances to whole numbers; \
+    multiply the coordinates by a power of ten, and say so where the length is published.\n";
+
+/// Appends that distances are rounded, where each one along the solution is 0 or 1 and some points
+/// of it differ. `name` is what the user calls the instance.
+fn push_rounding(
+    text: &mut Vec<u8>,
+    name: &str,
+    instance: &Instance,
+    solution: &File,
+) -> Result<(), AllocError> {
+    let (Some(points), Some(tours)) = (points_of(instance), solution.tours()) else {
+        return Ok(());
+    };
+    if are_rounded(instance, points, tours) {
+        push_name(text, name)?;
+        push(text, ROUNDED)?;
+    }
+    Ok(())
+}
+
+/// The points that the costs are distances of.
+fn points_of(instance: &Instance) -> Option<&Coords> {
+    let file = instance.file();
+    match file.as_matrix() {
+        Some(_) => None,
+        None => file.coords(),
+    }
+}
+
+/// Whether each distance along the tours is 0 or 1, and one of them is between points that differ.
+fn are_rounded(instance: &Instance, points: &Coords, tours: &[Vec<u32>]) -> bool {
+    let mut some_differ = false;
+    'tours: for tour in tours {
+        match step_of_tour(instance, points, tour) {
+            None => return false,
+            Some(differ) => some_differ = some_differ || differ,
+        }
+    }
+    some_differ
+}
+
+/// Whether points differ along a tour, or `None` where a distance is more than 1. A route begins
+/// and ends at the depot.
+fn step_of_tour(instance: &Instance, points: &Coords, tour: &[u32]) -> Option<bool> {
+    let (first, last) = (*tour.first()?, *tour.last()?);
+    let mut some_differ = closing_step(instance, points, first, last)?;
+    let mut before = first;
+    'nodes: for node in tour {
+        some_differ = step(instance, points, before, *node)? || some_differ;
+        before = *node;
+    }
+    Some(some_differ)
+}
+
+/// Whether points differ on the way from the last node to the first one, through the depot where
+/// there is one, or `None` where a distance is more than 1.
+fn closing_step(instance: &Instance, points: &Coords, first: u32, last: u32) -> Option<bool> {
+    match depot_of(instance) {
+        Some(depot) => {
+            let from_depot = step(instance, points, depot, first)?;
+            Some(step(instance, points, last, depot)? || from_depot)
+        }
+        None => step(instance, points, last, first),
+    }
+}
+
+/// The depot of an instance of TYPE CVRP.
+fn depot_of(instance: &Instance) -> Option<u32> {
+    match instance.kind() {
+        Kind::Cvrp => instance.file().depots()?.first().copied(),
+        _ => None,
+    }
+}
+
+/// Whether two nodes have different points, or `None` where their distance is more than 1.
+fn step(instance: &Instance, points: &Coords, from: u32, to: u32) -> Option<bool> {
+    let nodes = 1..=instance.count();
+    if !nodes.contains(&from) || !nodes.contains(&to) || instance.cost(from, to) > 1 {
+        return None;
+    }
+    match points {
+        Coords::Plane(points) => differ(points, from, to),
+        Coords::Space(points) => differ(points, from, to),
+    }
+}
+
+/// Whether two points of a list differ, which are counted from 1.
+fn differ<P: PartialEq>(points: &[P], from: u32, to: u32) -> Option<bool> {
+    let from = points.get((from as usize).checked_sub(1)?)?;
+    let to = points.get((to as usize).checked_sub(1)?)?;
+    Some(from != to)
+}
+
+// ---- the line of `--explain` on a comment of a solution that claims another length than its
+
+/// A length that a comment claims.
+#[derive(Clone, Copy)]
+enum CommentClaim<'a> {
+    Whole(i64),
+    /// A number that isn't whole, as it is written.
+    Real(&'a [u8]),
+}
+
+/// Appends one sentence where a comment of a solution claims another length than its own: the first
+/// comment that ends in `Length = N`, `(N)` or `Cost N` with another number. `name` is what the
+/// user calls the solution.
+///
+/// # Errors
+///
+/// Out of memory; part of the sentence may be appended then.
+pub fn push_claim(
+    alloc: Global,
+    text: &mut Vec<u8>,
+    name: &str,
+    comments: &[Vec<u8>],
+    length: i64,
+) -> Result<(), AllocError>
+    ensures { StartsWith text.new.items text.old.items }
+{
+    let mut explanation = Vec::new(alloc);
+    let answer = match other_claim(comments, length) {
+        None => Ok(()),
+        Some(CommentClaim::Whole(claim)) => push_sentence(&mut explanation, name, claim, length),
+        Some(CommentClaim::Real(claim)) => push_real(&mut explanation, name, claim),
+    };
+    append(text, explanation, answer)
+}
+
+/// Appends that a comment claims a length.
+fn push_sentence(
+    text: &mut Vec<u8>,
+    name: &str,
+    claim: i64,
+    length: i64,
+) -> Result<(), AllocError> {
+    push_parts(
+        text,
+        &[
+            LinePart::Name(name),
+            LinePart::Words(": a COMMENT claims the length "),
+            LinePart::Number(claim),
+            LinePart::Words(", and the length is "),
+            LinePart::Number(length),
+            LinePart::Words(".\n"),
+        ],
+    )
+}
+
+/// Appends that a comment claims a length that isn't whole.
+fn push_real<'a>(text: &mut Vec<u8>, name: &'a str, claim: &'a [u8]) -> Result<(), AllocError> {
+    push_parts(
+        text,
+        &[
+            LinePart::Name(name),
+            LinePart::Words(": a COMMENT claims the length "),
+            LinePart::Shown(claim),
+            LinePart::Words(
+                ". Lengths of TSPLIB are whole, and one in real numbers can't be compared with them.\n",
+            ),
+        ],
+    )
+}
+
+/// The first length that a comment claims and that isn't this one.
+fn other_claim(comments: &[Vec<u8>], length: i64) -> Option<CommentClaim<'_>> {
+    'comments: for comment in comments {
+        match claim_in(comment) {
+            Some(CommentClaim::Whole(claim)) if claim == length => {}
+            Some(claim) => return Some(claim),
+            None => {}
+        }
+    }
+    None
+}
+
+/// The length that a comment claims at its end.
+fn claim_in(comment: &[u8]) -> Option<CommentClaim<'_>> {
+    let text = comment.trim_ascii_end();
+    if let Some(inner) = text.strip_suffix(b")") {
+        let (before, number) = split_number(inner);
+        return if before.ends_with(b"(") {
+            length_claimed(number)
+        } else {
+            None
+        };
+    }
+    let (before, number) = split_number(text);
+    let before = before.trim_ascii_end();
+    let is_claim = match before.strip_suffix(b"=") {
+        Some(words) => words.trim_ascii_end().ends_with(b"Length"),
+        None => before
+            .strip_suffix(b":")
+            .unwrap_or(before)
+            .trim_ascii_end()
+            .ends_with(b"Cost"),
+    };
+    if is_claim {
+        length_claimed(number)
+    } else {
+        None
+    }
+}
+
+/// What comes before the number at the end of a text, and the number.
+fn split_number(text: &[u8]) -> (&[u8], &[u8]) {
+    let mut start = 0usize;
+    'bytes: for (index, byte) in text.iter().enumerate() {
+        if !byte.is_ascii_digit() && *byte != b'-' && *byte != b'.' {
+            start = index.saturating_add(1);
+        }
+    }
+    (
+        text.get(..start).unwrap_or(text),
+        text.get(start..).unwrap_or(&[]),
+    )
+}
+
+/// The length that a word is.
+fn length_claimed(word: &[u8]) -> Option<CommentClaim<'_>> {
+    match parse_whole(word, i64::MIN, i64::MAX) {
+        Ok(length) => Some(CommentClaim::Whole(length)),
+        Err(NumberFault::NotWhole) => Some(CommentClaim::Real(word)),
+        Err(_) => None,
+    }
 }

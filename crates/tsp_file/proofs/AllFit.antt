@@ -7,13 +7,13 @@ use Rattle.std.specs.Option.{option_map, option_or}
 use Rattle.std.specs.Str.{bytes_eq}
 use Rattle.std.proofs.lemmas.Bool.{and_parts}
 use Rattle.std.proofs.lemmas.Option.{none-some, same_Some}
-use Rattle.tsp_format.specs.declared.field.Field.{Field}
+use Rattle.tsp_format.specs.declared.keyword.Field.{Field}
 use Rattle.tsp_format.specs.Words.{field_word, fields_in_order, field_found}
-use Rattle.tsp_draft.specs.declared.fault.DraftFault.{DraftFault}
-use Rattle.tsp_draft.specs.declared.fault.DraftFault.TheVariants.{BadField, Rule}
-use Rattle.tsp_draft.specs.Fields.{Fields}
-use Rattle.tsp_draft.specs.Validity.{fits, first_failing, bad_field}
-use Rattle.tsp_draft.specs.Rules.{standing_of, end_fault, fault_of}
+use Rattle.tsp_file.specs.declared.rules.DraftFault.{DraftFault}
+use Rattle.tsp_file.specs.declared.rules.DraftFault.TheVariants.{BadField, Rule}
+use Rattle.tsp_file.specs.Fields.{Fields}
+use Rattle.tsp_file.specs.Validity.{fits, first_failing, bad_field}
+use Rattle.tsp_file.specs.Rules.{standing_of, end_fault, fault_of}
 
 -- one element more
 found_more : {V : Type 0} (test : V → Bool) (is_it others_pass : Bool) (value first : V) (found : Option V)

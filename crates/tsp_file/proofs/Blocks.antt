@@ -1,5 +1,5 @@
 -- A block of bytes with weights in it, each after a blank, filled from its end to its beginning. For `fill` in
--- src/writer/block.rt.
+-- src/writer/matrix.rt.
 use Rattle.std.proofs.Common.{◌≡◌, ℕ, List, length, drop, ap, sym, ◌∙◌, arith}
 use Rattle.std.specs.Prelude.{ℤ}
 use Rattle.std.proofs.lemmas.List.{drop_all}

@@ -1,5 +1,5 @@
 -- The decimal digits of a number below 10^8, written two at a time, and how many digits it has. For `write_digits` and
--- `digit_count` in src/writer/digits.rt.
+-- `digit_count` in src/writer/matrix.rt.
 use Rattle.std.proofs.Common.{◌≡◌, ℕ, zero, suc, ◌+◌, ◌-◌, ◌*◌, ◌/◌, ◌%◌, ◌^◌, ◌<◌, ◌≤◌, List, [], ◌∷◌, ◌++◌, length, drop, max, refl, ap, sym, ◌∙◌, inl, inr, arith, append_assoc, length-append}
 use Rattle.std.proofs.Math.Nat.{pow-suc}
 use Rattle.std.proofs.lemmas.Bool.{cases_lt}

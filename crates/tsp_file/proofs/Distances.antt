@@ -6,7 +6,7 @@ use Rattle.tsp_distance.specs.declared.decimal.Point.{Point}
 use Rattle.tsp_distance.specs.Distances.{IsEuc2d, IsCeil2d, IsMan2d, IsMax2d, IsAtt, IsEuc3d, IsMan3d, IsMax3d, euc_2d_of, ceil_2d_of, man_2d_of, max_2d_of, att_of, euc_3d_of, man_3d_of, max_3d_of, IsDistance, IsDistanceInSpace}
 use Rattle.tsp_format.specs.declared.kinds.WeightKind.{WeightKind}
 use Rattle.tsp_format.specs.declared.kinds.WeightKind.TheVariants.{Explicit, Euc2d, Ceil2d, Man2d, Max2d, Att, Euc3d, Man3d, Max3d}
-use Rattle.tsp_draft.specs.Fields.{Fields}
+use Rattle.tsp_file.specs.Fields.{Fields}
 use Rattle.tsp_file.specs.Cost.{distance, cost_by, cost, point_of}
 use Rattle.tsp_file.specs.ByInequalities.{IsDistanceBy}
 

@@ -14,9 +14,9 @@ use Rattle.tsp_format.specs.Symmetry.{IsSymmetric}
 use Rattle.tsp_format.proofs.Counts.{line_counted, cells_counted}
 use Rattle.tsp_format.proofs.Places.{placed, line_at}
 use Rattle.tsp_format.specs.Limits.{most_weight}
-use Rattle.tsp_draft.specs.Fields.{Fields, nodes_of}
-use Rattle.tsp_draft.specs.Valid.{IsWithin}
-use Rattle.tsp_draft.specs.Rules.{fault_of}
+use Rattle.tsp_file.specs.Fields.{Fields, nodes_of}
+use Rattle.tsp_file.specs.Valid.{IsWithin}
+use Rattle.tsp_file.specs.Rules.{fault_of}
 use Rattle.tsp_file.specs.Cost.{listed_cost, cost}
 use Rattle.tsp_file.specs.ListedWeights.{ListsWeights}
 use Rattle.tsp_file.specs.Relayout.{HoldsPairs, CanGo, with_weights, costs_in}

@@ -10,11 +10,11 @@ use Rattle.tsp_format.specs.declared.kinds.WeightKind.{WeightKind}
 use Rattle.tsp_format.specs.declared.kinds.WeightFormat.{WeightFormat}
 use Rattle.tsp_format.specs.declared.kinds.CoordKind.{CoordKind}
 use Rattle.tsp_format.specs.declared.kinds.DisplayKind.{DisplayKind}
-use Rattle.tsp_format.specs.declared.field.Field.{Field}
+use Rattle.tsp_format.specs.declared.keyword.Field.{Field}
 use Rattle.tsp_format.specs.Limits.{most_kept_bytes}
 use Rattle.tsp_format.specs.Bytes.{is_blank}
 use Rattle.tsp_format.specs.Words.{IsFirstWithWord, field_word, kind_word, weight_kind_word, weight_format_word, coord_kind_word, display_kind_word, fields_in_order, kinds, weight_kinds, weight_formats, coord_kinds, display_kinds, field_found, kind_found, weight_kind_found, weight_format_found, coord_kind_found, display_kind_found}
-use Rattle.tsp_draft.specs.Validity.{is_kept, is_unknown_keyword, is_other, fits}
+use Rattle.tsp_file.specs.Validity.{is_kept, is_unknown_keyword, is_other, fits}
 use Rattle.tsp_file.proofs.AllFit.{found_passes}
 use Rattle.tsp_file.specs.CanonicalText.{line_end, blank_before, value_line, keyword_line, other_line}
 

@@ -1,4 +1,8 @@
--- The files of lemmas of this crate. Crates above may import them.
+-- The files of lemmas of this crate. Crates above may import those that are public.
+mod Trees
+pub mod Mapped
+pub mod ValidFields
+mod Ranges
 pub mod Distances
 pub mod Fronts
 pub mod Listed

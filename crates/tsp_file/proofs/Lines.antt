@@ -1,14 +1,14 @@
 -- The bytes of a line or a section, written part by part: a value after a blank, numbers, weights. For `put_value` in
--- src/writer/keywords.rt and others.
+-- src/writer.rt and others.
 use Rattle.std.proofs.Common.{◌≡◌, ℕ, ◌==◌, true, false, List, [], ◌∷◌, ◌++◌, length, map, sym, subst, append_assoc, arith}
 use Rattle.std.proofs.lemmas.Bool.Decides.{nat_tests}
 use Rattle.std.specs.Prelude.{ℤ}
 use Rattle.std.specs.List.{flat_map}
 use Rattle.std.specs.Fmt.{signed_decimal}
-use Rattle.tsp_format.specs.declared.field.Field.{Field}
+use Rattle.tsp_format.specs.declared.keyword.Field.{Field}
 use Rattle.tsp_format.specs.Words.{field_word}
-use Rattle.tsp_stream.specs.states.WriteProgress.{Way, Carried}
-use Rattle.tsp_stream.proofs.Carrying.{carried_none, carried_then}
+use Rattle.tsp_io.specs.states.WriteProgress.{Way, Carried}
+use Rattle.tsp_io.proofs.Carrying.{carried_none, carried_then}
 use Rattle.tsp_file.specs.CanonicalText.{blank_before, line_end, number_line, section_text, weight_line}
 
 -- no value, and no blank before it

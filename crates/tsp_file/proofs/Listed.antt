@@ -1,5 +1,5 @@
 -- The cost between two nodes from listed weights: the weight of the cell, that of the mirrored cell, or 0. For
--- `ListedWeights::cost` in src/weights.rt and others.
+-- `ListedWeights::cost` in src/typed.rt and others.
 use Rattle.std.proofs.Common.{◌≡◌, ◌≢◌, ℕ, ◌<◌, false, List, [], length, Option, Some, None, refl, sym, ap, ◌∙◌, inl, inr, ⊎_elim, arith, to_z, of_z}
 use Rattle.std.specs.Prelude.{nat_lt, nat_le, unwrap_or, slice_index_or, ◌⊎◌, ◌↔◌, IsTrue, ℤ, pos}
 use Rattle.std.specs.Option.{option_map, option_or}
@@ -16,8 +16,8 @@ use Rattle.tsp_format.specs.Nodes.{IsNode}
 use Rattle.tsp_format.specs.Cells.{is_listed, cells}
 use Rattle.tsp_format.specs.Place.{place_of}
 use Rattle.tsp_format.specs.Limits.{most_weight}
-use Rattle.tsp_draft.specs.Fields.{Fields}
-use Rattle.tsp_draft.specs.Valid.{IsWithin, IsInRange}
+use Rattle.tsp_file.specs.Fields.{Fields}
+use Rattle.tsp_file.specs.Valid.{IsWithin, IsInRange}
 use Rattle.tsp_file.specs.Cost.{weight_at, listed_cost, cost_by, cost, layout_of}
 use Rattle.tsp_format.specs.Symmetry.{IsSymmetric}
 use Rattle.tsp_file.specs.ListedWeights.{ListsWeights, UnlistedHaveNoPlace}

@@ -9,8 +9,8 @@ use Rattle.std.proofs.lemmas.List.{take_min, drop_min, take-append-drop}
 use Rattle.std.proofs.lemmas.Grind.{flat_map-append}
 use Rattle.tsp_format.specs.Nodes.{nodes_to}
 use Rattle.tsp_file.specs.CanonicalText.{weight_line, matrix_lines}
-use Rattle.tsp_stream.specs.states.WriteProgress.{Way, Carried}
-use Rattle.tsp_stream.proofs.Carrying.{carried_then, carried_none, carried_failed}
+use Rattle.tsp_io.specs.states.WriteProgress.{Way, Carried}
+use Rattle.tsp_io.proofs.Carrying.{carried_then, carried_none, carried_failed}
 
 -- a prefix of the whole text was written, and this rest is still to be written
 pub record Comes (a b : Way) (rest whole : List ℕ) : Type 0 where

@@ -23,8 +23,8 @@ use Rattle.tsp_format.proofs.Places.{placed, place_within, place_from, stands_at
 use Rattle.tsp_format.specs.declared.kinds.WeightKind.TheVariants.{Explicit}
 use Rattle.tsp_format.specs.declared.kinds.WeightFormat.{WeightFormat}
 use Rattle.tsp_format.specs.declared.kinds.WeightFormat.TheVariants.{Listed}
-use Rattle.tsp_draft.specs.Fields.{Fields, nodes_of}
-use Rattle.tsp_draft.specs.Valid.{IsWithin}
+use Rattle.tsp_file.specs.Fields.{Fields, nodes_of}
+use Rattle.tsp_file.specs.Valid.{IsWithin}
 use Rattle.tsp_file.specs.Cost.{listed_cost, cost_by, cost, layout_of}
 use Rattle.tsp_file.specs.ListedWeights.{ListsWeights}
 use Rattle.tsp_file.specs.Relayout.{HoldsPairs, HoldsDiagonal, lists_diagonal, HasListedWeights, with_weights, costs_in, CanGo, IsRelaid}

@@ -12,7 +12,7 @@ use Rattle.std.proofs.lemmas.List.{take-append-drop}
 use Rattle.std.proofs.lemmas.List.Folds.{list_all-append, flat_map-map}
 use Rattle.std.proofs.lemmas.List.Sums.{sum_by-cons}
 use Rattle.tsp_format.specs.Limits.{most_nodes, most_weight}
-use Rattle.tsp_draft.specs.Validity.{is_from_to, is_within, is_node, is_node_list}
+use Rattle.tsp_file.specs.Validity.{is_from_to, is_within, is_node, is_node_list}
 use Rattle.tsp_file.specs.CanonicalText.{line_end, number_line, lines_by_node, ended_by_mark, node_list, pair_list, triple_list, weight_line, matrix_lines}
 
 -- from three tests that all pass to their statements

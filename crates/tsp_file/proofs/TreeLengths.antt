@@ -11,7 +11,7 @@ use Rattle.std.proofs.lemmas.List.Folds.{flat_map-map}
 use Rattle.std.proofs.lemmas.List.Sums.{sum_by-cons}
 use Rattle.tsp_format.specs.Limits.{most_nodes, most_combs, most_comb_nodes, most_branches, most_changes, most_difference}
 use Rattle.tsp_format.specs.Steps.{Step, Branch, Leaf, are_whole, branch_count, change_count}
-use Rattle.tsp_draft.specs.Validity.{is_within, is_node, is_set_of, are_sets, are_combs, is_change, is_step, are_tree_steps}
+use Rattle.tsp_file.specs.Validity.{is_within, is_node, is_set_of, are_sets, are_combs, is_change, is_step, are_tree_steps}
 use Rattle.tsp_file.specs.CanonicalText.{line_end, before_blank, set_line, comb_lines, comb_list, change_words, step_line, case_tree_lines}
 use Rattle.tsp_file.proofs.TextLengths.{three_parts, within_short, node_short, flat_short, line_of_two_short}
 

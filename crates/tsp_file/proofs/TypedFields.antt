@@ -3,10 +3,10 @@
 use Rattle.std.proofs.Common.{◌≡◌, ℕ, List, Option, None, refl, sym, ap, subst}
 use Rattle.std.specs.Prelude.{unwrap_or, IsTrue, ℤ}
 use Rattle.std.specs.List.{All}
-use Rattle.tsp_draft.specs.Fields.{Fields, nodes_of}
-use Rattle.tsp_draft.specs.Rules.{fault_of, is_routing, is_tour_file, is_potentials_file, is_branches_file}
-use Rattle.tsp_draft.specs.Valid.{IsTripleOf, AreTriples, AreSets, AreCombs}
-use Rattle.tsp_draft.proofs.ValidFields.{in_range, has_kind, has_instance, has_routing, has_tours, has_potentials, has_branches}
+use Rattle.tsp_file.specs.Fields.{Fields, nodes_of}
+use Rattle.tsp_file.specs.Rules.{fault_of, is_routing, is_tour_file, is_potentials_file, is_branches_file}
+use Rattle.tsp_file.specs.Valid.{IsTripleOf, AreTriples, AreSets, AreCombs}
+use Rattle.tsp_file.proofs.ValidFields.{in_range, has_kind, has_instance, has_routing, has_tours, has_potentials, has_branches}
 use Rattle.tsp_file.specs.Typed.{HoldsItsType, AreMultipliersIn, AreSomeSets}
 
 pub combs_hold : (f : Fields) (combs : List (List (List ℕ))) → AreCombs f combs → AreSomeSets (nodes_of f) combs

@@ -1,5 +1,5 @@
 -- A valid file is still valid with the weights of another layout, and that layout as its format. For `make_whole` in
--- src/whole.rt and others.
+-- src/file.rt and others.
 use Rattle.std.proofs.Common.{◌≡◌, ℕ, suc, zero, ◌+◌, ◌-◌, ◌*◌, ◌/◌, ◌≤◌, Bool, true, false, cond, List, [], ◌∷◌, length, Option, None, Some, refl, sym, ap, subst, ◌∙◌, arith}
 use Rattle.std.specs.Prelude.{IsSome, unwrap_or, not, ◌&&◌, nat_le, ℤ, pos, neg_ℤ, int_le}
 use Rattle.std.specs.Option.{option_map, option_or}
@@ -7,8 +7,8 @@ use Rattle.std.specs.List.{All, list_all}
 use Rattle.std.proofs.lemmas.Bool.{false≢true, le-leb, eq-eqb}
 use Rattle.std.proofs.lemmas.Int.{ints}
 use Rattle.std.proofs.lemmas.List.Sums.{list_all-from_AllPass}
-use Rattle.tsp_format.specs.declared.field.Field.{Field}
-use Rattle.tsp_format.specs.declared.field.Field.TheVariants.{NameKey, TypeKey, CommentKey, OtherKey, DimensionKey, CapacityKey, ScaleKey, LoadUnitKey, EdgeWeightTypeKey, EdgeWeightFormatKey, NodeCoordTypeKey, DisplayDataTypeKey, NodeCoordPart, DisplayDataPart, DemandPart, DepotPart, FixedEdgesPart, EdgeWeightPart, TourPart, NodePotentialPart, RowPotentialPart, ColumnPotentialPart, FixedEdgePotentialPart, CombPart, BranchPart}
+use Rattle.tsp_format.specs.declared.keyword.Field.{Field}
+use Rattle.tsp_format.specs.declared.keyword.Field.TheVariants.{NameKey, TypeKey, CommentKey, OtherKey, DimensionKey, CapacityKey, ScaleKey, LoadUnitKey, EdgeWeightTypeKey, EdgeWeightFormatKey, NodeCoordTypeKey, DisplayDataTypeKey, NodeCoordPart, DisplayDataPart, DemandPart, DepotPart, FixedEdgesPart, EdgeWeightPart, TourPart, NodePotentialPart, RowPotentialPart, ColumnPotentialPart, FixedEdgePotentialPart, CombPart, BranchPart}
 use Rattle.tsp_format.specs.declared.layout.Layout.{Layout}
 use Rattle.tsp_format.specs.declared.layout.Layout.TheVariants.{FullMatrix, UpperRow, LowerRow, UpperDiagRow, LowerDiagRow, UpperCol, LowerCol, UpperDiagCol, LowerDiagCol}
 use Rattle.tsp_format.specs.declared.kinds.WeightFormat.{WeightFormat}
@@ -17,15 +17,15 @@ use Rattle.tsp_format.specs.Cells.{cells, cell_count_of}
 use Rattle.tsp_format.specs.Limits.{most_matrix_nodes, most_weight}
 use Rattle.tsp_format.specs.Words.{fields_in_order}
 use Rattle.tsp_format.proofs.Counts.{cells_counted}
-use Rattle.tsp_draft.specs.declared.fault.EndFault.{EndFault}
-use Rattle.tsp_draft.specs.declared.fault.EndFault.TheVariants.{Missing, WrongFormat, WrongCount}
-use Rattle.tsp_draft.specs.declared.fault.DraftFault.TheVariants.{BadField, Rule}
-use Rattle.tsp_draft.specs.Fields.{Fields, spatial, nodes_of}
-use Rattle.tsp_draft.specs.Validity.{is_within, with_dimension, fit_matrix, fits, first_failing, bad_field}
-use Rattle.tsp_draft.specs.Rules.{standing_of, is_there, asked_in_order, is_count, has_wrong_format, has_wrong_count, end_fault, format_or_count, fault_of}
-use Rattle.tsp_draft.specs.Valid.{IsWithin, AreWeights}
+use Rattle.tsp_file.specs.declared.rules.EndFault.{EndFault}
+use Rattle.tsp_file.specs.declared.rules.EndFault.TheVariants.{Missing, WrongFormat, WrongCount}
+use Rattle.tsp_file.specs.declared.rules.DraftFault.TheVariants.{BadField, Rule}
+use Rattle.tsp_file.specs.Fields.{Fields, spatial, nodes_of}
+use Rattle.tsp_file.specs.Validity.{is_within, with_dimension, fit_matrix, fits, first_failing, bad_field}
+use Rattle.tsp_file.specs.Rules.{standing_of, is_there, asked_in_order, is_count, has_wrong_format, has_wrong_count, end_fault, format_or_count, fault_of}
+use Rattle.tsp_file.specs.Valid.{IsWithin, AreWeights}
 use Rattle.tsp_file.specs.Relayout.{with_weights}
-use Rattle.tsp_draft.proofs.ValidFields.{in_range, each_fits, nodes_fit, no_field_missing, format_and_count, and_true}
+use Rattle.tsp_file.proofs.ValidFields.{in_range, each_fits, nodes_fit, no_field_missing, format_and_count, and_true}
 
 -- ---- no more cells than pairs
 

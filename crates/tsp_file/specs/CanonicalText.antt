@@ -8,19 +8,18 @@ use Rattle.tsp_distance.specs.declared.decimal.Point.{Point}
 use Rattle.tsp_number.specs.Spelling.{spelling}
 use Rattle.tsp_format.specs.declared.kinds.WeightFormat.{WeightFormat}
 use Rattle.tsp_format.specs.declared.kinds.WeightFormat.TheVariants.{Listed}
-use Rattle.tsp_format.specs.declared.field.Field.{Field}
-use Rattle.tsp_format.specs.declared.field.Field.TheVariants.{NameKey, TypeKey, CommentKey, OtherKey, DimensionKey, EdgeWeightTypeKey, EdgeWeightFormatKey, NodeCoordTypeKey, DisplayDataTypeKey}
-use Rattle.tsp_format.specs.declared.field.Shape.{Shape}
-use Rattle.tsp_format.specs.declared.field.Shape.TheVariants.{Numbers, Points, SpacePoints, Depots, Pairs, Weights, Tours, Triples, Combs, Steps}
-use Rattle.tsp_format.specs.declared.field.ValueShape.{ValueShape}
-use Rattle.tsp_format.specs.declared.field.ValueShape.TheVariants.{Kept, KeptEach, Number, Word}
+use Rattle.tsp_format.specs.declared.keyword.Field.{Field}
+use Rattle.tsp_format.specs.declared.keyword.Field.TheVariants.{NameKey, TypeKey, CommentKey, OtherKey, DimensionKey, EdgeWeightTypeKey, EdgeWeightFormatKey, NodeCoordTypeKey, DisplayDataTypeKey}
+use Rattle.tsp_format.specs.declared.keyword.Shape.{Shape}
+use Rattle.tsp_format.specs.declared.keyword.Shape.TheVariants.{Numbers, Points, SpacePoints, Depots, Pairs, Weights, Tours, Triples, Combs, Steps}
+use Rattle.tsp_format.specs.declared.keyword.ValueShape.{ValueShape}
+use Rattle.tsp_format.specs.declared.keyword.ValueShape.TheVariants.{Kept, KeptEach, Number, Word}
 use Rattle.tsp_format.specs.Shapes.{shape_of, value_shape_of}
-use Rattle.tsp_format.specs.Words.{field_word, kind_word, weight_kind_word, weight_format_word, coord_kind_word, display_kind_word}
-use Rattle.tsp_format.specs.Words.{fields_in_order}
+use Rattle.tsp_format.specs.Words.{field_word, kind_word, weight_kind_word, weight_format_word, coord_kind_word, display_kind_word, fields_in_order}
 use Rattle.tsp_format.specs.Nodes.{nodes_to}
 use Rattle.tsp_format.specs.Cells.{cells_of_line}
 use Rattle.tsp_format.specs.Steps.{Step, Branch, Leaf}
-use Rattle.tsp_draft.specs.Fields.{Fields, spatial, one_number_in, numbers_in, points_in}
+use Rattle.tsp_file.specs.Fields.{Fields, spatial, one_number_in, numbers_in, points_in}
 
 -- ---- lines
 

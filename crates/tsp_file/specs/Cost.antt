@@ -12,8 +12,8 @@ use Rattle.tsp_format.specs.declared.kinds.WeightFormat.TheVariants.{ByFunction,
 use Rattle.tsp_format.specs.declared.kinds.WeightKind.{WeightKind}
 use Rattle.tsp_format.specs.declared.kinds.WeightKind.TheVariants.{Explicit, Euc2d, Ceil2d, Man2d, Max2d, Att, Euc3d, Man3d, Max3d}
 use Rattle.tsp_format.specs.Place.{place_of}
-use Rattle.tsp_draft.specs.Coords.{origin}
-use Rattle.tsp_draft.specs.Fields.{Fields, nodes_of}
+use Rattle.tsp_file.specs.Coords.{origin}
+use Rattle.tsp_file.specs.Fields.{Fields, nodes_of}
 
 -- ---- weights that are listed
 

@@ -1,7 +1,7 @@
 -- The value of a field that a file lacks: SCALE and LOAD_UNIT are 1, fixed pairs, multipliers and families are none.
 -- For the verdicts of tsp_verdict, Typed.antt, and `fixed` of `Instance` (src/instance.rt of tsp_cost).
 use Rattle.std.specs.Prelude.{ℕ, List, [], Option, unwrap_or, ℤ, pos}
-use Rattle.tsp_draft.specs.Fields.{Fields}
+use Rattle.tsp_file.specs.Fields.{Fields}
 
 -- SCALE, or 1 where it is missing
 abbrev pub meant_scale : Option ℤ → ℤ

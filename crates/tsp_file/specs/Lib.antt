@@ -1,5 +1,12 @@
 -- The files of definitions of this crate. Crates above may import them.
 pub mod states
+pub mod Coords
+pub mod DraftFaultText
+pub mod Fields
+pub mod Rules
+pub mod Valid
+pub mod Validity
+pub mod DraftExamples
 pub mod Defaults
 pub mod Cost
 pub mod ByInequalities

@@ -1,5 +1,5 @@
--- That a file lists weights in a layout. For `ListedWeights` (src/weights.rt), `as_matrix` (src/typed.rt), and
--- `Triangle` (src/triangle.rt of tsp_cost).
+-- That a file lists weights in a layout. For `ListedWeights` (src/typed.rt), `as_matrix` (src/typed.rt), and
+-- `Triangle` (src/matrix.rt of tsp_cost).
 use Rattle.std.specs.Prelude.{◌≡◌, ℕ, ◌≤◌, false, List, length, Some, None, ℤ}
 use Rattle.std.specs.List.{All}
 use Rattle.tsp_format.specs.declared.layout.Layout.{Layout}
@@ -7,8 +7,8 @@ use Rattle.tsp_format.specs.declared.kinds.WeightFormat.TheVariants.{Listed}
 use Rattle.tsp_format.specs.Limits.{most_matrix_nodes, most_weight}
 use Rattle.tsp_format.specs.Cells.{is_listed, cells}
 use Rattle.tsp_format.specs.Place.{place_of}
-use Rattle.tsp_draft.specs.Fields.{Fields}
-use Rattle.tsp_draft.specs.Valid.{IsWithin}
+use Rattle.tsp_file.specs.Fields.{Fields}
+use Rattle.tsp_file.specs.Valid.{IsWithin}
 
 -- the file lists these weights over n nodes in this layout
 pub record ListsWeights (f : Fields) (layout : Layout) (n : ℕ) (weights : List ℤ) : Type 0 where

@@ -9,9 +9,9 @@ use Rattle.tsp_format.specs.declared.kinds.WeightFormat.TheVariants.{Listed}
 use Rattle.tsp_format.specs.Nodes.{IsNode}
 use Rattle.tsp_format.specs.Cells.{is_listed, cells}
 use Rattle.tsp_format.specs.Symmetry.{IsSymmetric, IsFirstAsymmetric}
-use Rattle.tsp_file.specs.declared.fault.RelayoutFault.{RelayoutFault}
-use Rattle.tsp_file.specs.declared.fault.RelayoutFault.TheVariants.{NotExplicit, NotSymmetric, DiagonalLost, OutOfMemory}
-use Rattle.tsp_draft.specs.Fields.{Fields, nodes_of}
+use Rattle.tsp_file.specs.declared.relayout.RelayoutFault.{RelayoutFault}
+use Rattle.tsp_file.specs.declared.relayout.RelayoutFault.TheVariants.{NotExplicit, NotSymmetric, DiagonalLost, OutOfMemory}
+use Rattle.tsp_file.specs.Fields.{Fields, nodes_of}
 use Rattle.tsp_file.specs.Cost.{cost}
 
 -- ---- which costs a layout can hold

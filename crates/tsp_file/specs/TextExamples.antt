@@ -1,5 +1,5 @@
 -- A small file with a field of each sort, which no valid file has, and its canonical text. For the laws of
--- src/text_examples.rt.
+-- src/examples.rt.
 use Rattle.std.specs.Prelude.{◌≡◌, ℕ, List, [], ◌∷◌, ◌++◌, Some, pos, negsuc, codes}
 use Rattle.tsp_format.specs.declared.kinds.Kind.TheVariants as kinds
 use Rattle.tsp_format.specs.declared.kinds.WeightKind.TheVariants as weight_kinds
@@ -7,10 +7,10 @@ use Rattle.tsp_format.specs.declared.kinds.WeightFormat.TheVariants.{Listed}
 use Rattle.tsp_format.specs.declared.kinds.CoordKind.TheVariants as coord_kinds
 use Rattle.tsp_format.specs.declared.kinds.DisplayKind.TheVariants as display_kinds
 use Rattle.tsp_format.specs.declared.layout.Layout.TheVariants.{LowerDiagRow}
-use Rattle.tsp_format.specs.declared.field.Field.{Field}
+use Rattle.tsp_format.specs.declared.keyword.Field.{Field}
 use Rattle.tsp_format.specs.Steps.{Branch, Leaf}
 use Rattle.tsp_distance.specs.Distances.{on_plane}
-use Rattle.tsp_draft.specs.Fields.{Fields, blank_fields}
+use Rattle.tsp_file.specs.Fields.{Fields, blank_fields}
 use Rattle.tsp_file.specs.CanonicalText.{text_of_field}
 
 -- a file with a field of each sort

@@ -5,9 +5,9 @@ use Rattle.std.specs.List.{All, sum_by}
 use Rattle.tsp_format.specs.declared.kinds.Kind.TheVariants as kinds
 use Rattle.tsp_format.specs.Limits.{most_capacity, most_scale, most_load_unit, most_potential, most_triples, most_combs, most_comb_nodes}
 use Rattle.tsp_format.specs.Steps.{Step}
-use Rattle.tsp_draft.specs.Fields.{Fields, nodes_of}
-use Rattle.tsp_draft.specs.Rules.{is_instance}
-use Rattle.tsp_draft.specs.Valid.{IsInRange, HasInstance, HasRouting, HasPotentials, HasBranches, IsFromTo, IsWithin, IsByNode, IsDemand, IsTripleOf, AreDepots, AreSets, AreTreeSteps}
+use Rattle.tsp_file.specs.Fields.{Fields, nodes_of}
+use Rattle.tsp_file.specs.Rules.{is_instance}
+use Rattle.tsp_file.specs.Valid.{IsInRange, HasInstance, HasRouting, HasPotentials, HasBranches, IsFromTo, IsWithin, IsByNode, IsDemand, IsTripleOf, AreDepots, AreSets, AreTreeSteps}
 use Rattle.tsp_file.specs.Defaults.{scale_in, load_unit_in, multipliers_in, families_listed}
 
 -- a valid file has the fields that its TYPE asks for, each in its range

@@ -1,4 +1,5 @@
 -- The files of definitions that look into structs of the code.
+pub mod Drafts
 pub mod Halves
 pub mod Side
 pub mod Way

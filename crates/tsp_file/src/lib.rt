@@ -1,40 +1,48 @@
-//! Valid TSPLIB 95 files, their costs, the change of their layout, and their canonical text.
+//! The fields of a TSPLIB 95 file, as a draft, and when they are valid.
 //!
-//! A [`File`] is a draft without a fault. It is made from a draft, or read by tsp_read. This crate
-//! reads no text. It re-exports the names that a user of files needs.
+//! It knows no bytes of a file's text, and judges no tours: a draft with a field of each sort is
+//! made by hand or by tsp_read.
 //!
 //! ```text
-//! let file = File::of(draft)?;
-//! let file = file.relayout(alloc, Layout::LowerDiagRow)?;
-//! write_file(alloc, &file, &mut out)?;
+//! let mut draft = Draft::new(alloc);
+//! draft.kind = Some(Kind::Tour);
+//! let fault = end_fault(&draft, None);
 //! ```
 #![tactic(auto)]
 
+mod coords;
+mod draft;
 mod examples;
-mod fault;
 mod file;
 mod halves;
 mod laws;
+mod range;
 mod relayout;
-mod text_examples;
+mod rules;
+mod table;
 mod typed;
-mod way;
-mod weights;
-mod whole;
+mod validity;
 mod writer;
 
+pub use coords::Coords;
+pub use draft::Draft;
 pub use examples::{
-    examples_of_costs, examples_of_distances_by_type, examples_of_lost_costs, examples_of_relayouts,
+    examples_of_costs, examples_of_distances_by_type, examples_of_draft_fault_texts,
+    examples_of_fault_texts, examples_of_faults, examples_of_lines, examples_of_lost_costs,
+    examples_of_relayouts, examples_of_sections, examples_of_the_end_table, examples_of_validity,
 };
-pub use fault::RelayoutFault;
 pub use file::File;
-pub use laws::{a_valid_text_is_short, costs_are_by_inequalities};
-pub use text_examples::{examples_of_fault_texts, examples_of_lines, examples_of_sections};
-pub use tsp_draft::{Coords, Draft, DraftFault, EndFault};
+pub use laws::{
+    a_valid_text_is_short, costs_are_by_inequalities, valid_fields_are_in_range,
+    valid_files_are_complete,
+};
+pub use relayout::RelayoutFault;
+pub use rules::{DraftFault, EndFault, end_fault};
+pub use table::bad_field;
 pub use tsp_format::{
     CoordKind, DisplayKind, Field, Kind, Layout, TreeStep, WeightFormat, WeightKind,
 };
-pub use tsp_stream::{Watched, WriteFault};
-pub use typed::{DualData, NodeData, RoutingData, TreeData};
-pub use weights::{ListedWeights, first_asymmetric};
+pub use tsp_io::{Watched, WriteFault};
+pub use typed::{DualData, ListedWeights, NodeData, RoutingData, TreeData, first_asymmetric};
+pub use validity::is_kept;
 pub use writer::write_file;

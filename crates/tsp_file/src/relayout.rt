@@ -1,14 +1,14 @@
 //! `File::relayout`, which puts the weights of a file into another layout if each cost stays as it
-//! is. For `tsp convert --layout`, in `src/convert.rt` of tsp_judge.
+//! is. For `tsp convert --layout`, in `src/bound.rt` of tsp_judge.
 
 ghost use Rattle.std.specs.Prelude.{MatchResult};
 ghost use Rattle.tsp_file.specs.Relayout.{CanGo, IsRefused, IsRelayout};
 ghost use Rattle.tsp_file.specs.states.Way.{LeadsTo};
 
-use crate::fault::RelayoutFault;
 use crate::file::File;
-use crate::way::Way;
 use std::alloc::Global;
+use std::fmt;
+use thiserror::Error;
 use tsp_format::Layout;
 
 impl File {
@@ -65,6 +65,54 @@ impl File {
         match listed.laid_out(alloc, to) {
             Ok(weights) => Ok(Way::Anew(weights)),
             Err(_) => Err(RelayoutFault::OutOfMemory),
+        }
+    }
+}
+
+// ---- the four ways to put the weights of a file into another layout
+
+/// How the weights of a file get into another layout.
+#[derive(Drop)]
+pub(crate) enum Way {
+    /// They are in it already.
+    Already,
+    /// They are a full matrix, and what the layout lists of it goes to the front.
+    Within,
+    /// They are half of a matrix, in this layout, and the full one is made in its own memory.
+    Across(Layout),
+    /// These are they, all anew.
+    Anew(Vec<i64>),
+}
+
+// ---- why the weights of a file can't be put into another layout
+
+/// Why the weights of a file aren't put into another layout, in the order in which it is judged.
+#[derive(Clone, Copy, Debug, PartialEq, Eq, Error)]
+pub enum RelayoutFault {
+    /// The weight type isn't EXPLICIT, or there are no weights.
+    NotExplicit,
+    /// The layout lists half of a matrix, and the costs between these two nodes differ: the first
+    /// such pair, the smaller node first, by rows.
+    NotSymmetric { i: u32, j: u32 },
+    /// The layout lists no diagonal, and the cost from this node to itself isn't 0: the first such
+    /// node.
+    DiagonalLost { i: u32 },
+    /// Memory was refused.
+    OutOfMemory,
+}
+
+impl fmt::Display for RelayoutFault {
+    ghost use Rattle.std.specs.Prelude.{Some};
+    ghost use Rattle.tsp_file.specs.RelayoutFaultText.{relayout_fault_text};
+
+    ghost output = { λ fault. Some (relayout_fault_text fault) };
+
+    fn fmt<W: fmt::Write>(&self, f: &mut fmt::Formatter<W>) -> fmt::Result {
+        match *self {
+            RelayoutFault::NotExplicit => f.write_str("NotExplicit"),
+            RelayoutFault::NotSymmetric { i, j } => write!(f, "NotSymmetric {i} {j}"),
+            RelayoutFault::DiagonalLost { i } => write!(f, "DiagonalLost {i}"),
+            RelayoutFault::OutOfMemory => f.write_str("OutOfMemory"),
         }
     }
 }

@@ -1,9 +1,18 @@
 //! The fields that a file of a TYPE always has, without `Option`: matrices, tours, routes,
 //! potentials, trees of cases. For tsp_verdict and `src/instance.rt` of tsp_cost.
 
+ghost use Rattle.std.specs.List.{All};
+ghost use Rattle.std.specs.Prelude.{◌≡◌, ◌≤◌, length};
+ghost use Rattle.tsp_format.specs.Cells.{cells};
+ghost use Rattle.tsp_format.specs.Limits.{most_matrix_nodes, most_weight};
+ghost use Rattle.tsp_format.specs.Symmetry.{FindsAsymmetric};
+ghost use Rattle.tsp_format.specs.declared.layout.Layout.TheVariants.{FullMatrix};
+ghost use Rattle.tsp_file.specs.Cost.{listed_cost};
+ghost use Rattle.tsp_file.specs.Valid.{IsWithin};
+
 use crate::file::File;
-use crate::weights::ListedWeights;
-use tsp_format::{Kind, TreeStep, WeightFormat, WeightKind};
+use std::alloc::{AllocError, Global};
+use tsp_format::{Kind, Layout, TreeStep, WeightFormat, WeightKind};
 
 /// The demands, depots and capacity of a file of TYPE CVRP.
 #[derive(Clone, Copy, Debug)]
@@ -57,11 +66,11 @@ impl File {
     ghost use Rattle.tsp_format.specs.declared.kinds.WeightKind.TheVariants.{Explicit};
     ghost use Rattle.tsp_format.specs.Limits.{most_scale, most_load_unit};
     ghost use Rattle.tsp_format.specs.states.TreeSteps.{steps_of};
-    ghost use Rattle.tsp_draft.specs.states.Drafts.{combs_of};
-    ghost use Rattle.tsp_draft.specs.Valid.{IsFromTo, AreTours};
+    ghost use Rattle.tsp_file.specs.states.Drafts.{combs_of};
+    ghost use Rattle.tsp_file.specs.Valid.{IsFromTo, AreTours};
     ghost use Rattle.tsp_file.specs.ListedWeights.{ListsWeights};
     ghost use Rattle.tsp_file.specs.Relayout.{HasListedWeights};
-    ghost use Rattle.tsp_draft.specs.Fields.{nodes_of};
+    ghost use Rattle.tsp_file.specs.Fields.{nodes_of};
     ghost use Rattle.tsp_file.specs.Typed.{HoldsNodeNumbers, HoldsDuals, HoldsCases, AreMultipliersIn, AreSomeSets};
 
     /// The weights of this file with their layout; none where its weights aren't listed.
@@ -185,5 +194,313 @@ impl File {
             Some(combs) => combs.as_slice(),
             None => &[],
         }
+    }
+}
+
+// ---- the weights that a file lists, their costs, and the costs that another layout can't hold
+
+/// How many rows and columns a block of cells has, which with its mirrored block stays in the
+/// cache.
+const BLOCK: u32 = 64;
+
+/// The first pair of a full matrix, the smaller node first, by rows, whose two costs differ.
+///
+/// It requires 1 to 5,000 nodes and the weights of a full matrix over them, each in its range. No
+/// memory is taken.
+pub fn first_asymmetric(nodes: u32, weights: &[i64]) -> Option<(u32, u32)>
+    requires some { 1 ≤ nodes }
+    requires most { nodes ≤ most_matrix_nodes }
+    requires filled { length weights.now ≡ length (cells FullMatrix nodes) }
+    requires sizes { All (IsWithin most_weight) weights.now }
+    ensures { FindsAsymmetric nodes (λ i j. listed_cost FullMatrix nodes weights.now i j) result }
+{
+    let full = ListedWeights {
+        layout: Layout::FullMatrix,
+        nodes,
+        weights,
+    };
+    full.first_asymmetric()
+}
+
+/// The weights of a matrix over some nodes, as a layout lists them.
+#[derive(Clone, Copy, Debug)]
+pub struct ListedWeights<'a> {
+    /// EDGE_WEIGHT_FORMAT.
+    pub layout: Layout,
+    /// DIMENSION.
+    pub nodes: u32,
+    /// EDGE_WEIGHT_SECTION: the weights, in the order of the layout.
+    pub weights: &'a [i64],
+    ghost some: { 1 ≤ nodes },
+    ghost most: { nodes ≤ most_matrix_nodes },
+    ghost filled: { length weights.now ≡ length (cells layout nodes) },
+    ghost sizes: { All (IsWithin most_weight) weights.now },
+}
+
+impl<'a> ListedWeights<'a> {
+    ghost use Rattle.std.specs.Prelude.{ℕ, ◌<◌, ◌+◌, ◌*◌, ◌≢◌, ◌++◌, false, map, pos, ◌↔◌, IsTrue, MatchOption, IfOk, OnOk, ◌-◌};
+    ghost use Rattle.tsp_format.specs.Nodes.{IsNode};
+    ghost use Rattle.tsp_format.specs.Cells.{cells_of_line};
+    ghost use Rattle.tsp_format.specs.Symmetry.{IsFirstAsymmetric};
+    ghost use Rattle.tsp_file.specs.Fields.{Fields};
+    ghost use Rattle.tsp_file.specs.ListedWeights.{ListsWeights};
+    ghost use Rattle.tsp_file.specs.Relayout.{HoldsPairs, HoldsDiagonal, lists_diagonal, IsFirstOnDiagonal, costs_in};
+    ghost use Rattle.tsp_file.specs.states.Weights.{costs_of};
+
+    /// These weights over this many nodes in this layout.
+    pub(crate) fn of(layout: Layout, nodes: u32, weights: &'a [i64]) -> ListedWeights<'a>
+        requires { (f : Fields) × ListsWeights f layout nodes weights.now }
+        ensures layout { result.layout ≡ layout }
+        ensures nodes { result.nodes ≡ nodes }
+        ensures weights { result.weights.now ≡ weights.now }
+    {
+        ListedWeights {
+            layout,
+            nodes,
+            weights,
+        }
+    }
+
+    /// Whether the weights are listed in this layout.
+    pub(crate) fn are_in(&self, layout: Layout) -> bool
+        ensures { IsTrue result ↔ (self.now.layout ≡ layout) }
+    {
+        self.layout == layout
+    }
+
+    /// The cost from one node to another: the weight of the pair, or of the pair turned round where
+    /// only that is listed, or 0.
+    #[inline]
+    fn cost(&self, i: u32, j: u32) -> i64
+        requires from { IsNode self.now.nodes i }
+        requires to { IsNode self.now.nodes j }
+        ensures { result ≡ costs_of self.now i j }
+    {
+        if self.layout.lists(i, j) {
+            return self.weights[self.layout.place(self.nodes, i, j)];
+        }
+        if self.layout.lists(j, i) {
+            return self.weights[self.layout.place(self.nodes, j, i)];
+        }
+        0
+    }
+
+    /// The cost in a full matrix, where it is the weight of the pair.
+    #[inline]
+    fn weight(&self, i: u32, j: u32) -> i64
+        requires full { self.now.layout ≡ FullMatrix }
+        requires from { IsNode self.now.nodes i }
+        requires to { IsNode self.now.nodes j }
+        ensures { result ≡ costs_of self.now i j }
+    {
+        self.weights[Layout::FullMatrix.place(self.nodes, i, j)]
+    }
+
+    /// The first pair, the smaller node first, by rows, whose two costs another layout can't hold
+    /// both.
+    pub(crate) fn lost_pair(&self, to: Layout) -> Option<(u32, u32)>
+        ensures { MatchOption result (HoldsPairs to (costs_of self.now)) (λ pair. (to ≢ FullMatrix)
+            × IsFirstAsymmetric self.now.nodes (costs_of self.now) pair) }
+    {
+        if to == Layout::FullMatrix {
+            return None;
+        }
+        match self.layout {
+            Layout::FullMatrix => self.first_asymmetric(),
+            // The costs of half a matrix are symmetric.
+            _ => None,
+        }
+    }
+
+    /// The first node whose cost to itself another layout can't hold.
+    pub(crate) fn lost_diagonal(&self, to: Layout) -> Option<u32>
+        ensures { MatchOption result
+            (HoldsDiagonal to (costs_of self.now))
+            (λ i. (lists_diagonal to ≡ false)
+            × IsFirstOnDiagonal self.now.nodes (costs_of self.now) i) }
+    {
+        if to.lists(1, 1) {
+            return None;
+        }
+        self.first_on_diagonal()
+    }
+
+    /// The first pair, the smaller node first, by rows, whose two costs differ.
+    ///
+    /// Most matrices that come here are symmetric, and show it by blocks: going by rows steps down
+    /// a column of the whole matrix for each, so it is left to those that aren't.
+    fn first_asymmetric(&self) -> Option<(u32, u32)>
+        requires { self.now.layout ≡ FullMatrix }
+        ensures { FindsAsymmetric self.now.nodes (costs_of self.now) result }
+    {
+        if self.is_symmetric() {
+            return None;
+        }
+        self.first_asymmetric_by_rows()
+    }
+
+    /// The result of `first_asymmetric`, found pair by pair.
+    fn first_asymmetric_by_rows(&self) -> Option<(u32, u32)>
+        ensures { FindsAsymmetric self.now.nodes (costs_of self.now) result }
+    {
+        'rows: for i in 1..self.nodes {
+            if let Some(j) = self.first_asymmetric_of_row(i) {
+                return Some((i, j));
+            }
+        }
+        None
+    }
+
+    /// Whether the two costs of each pair are the same, block by block.
+    fn is_symmetric(&self) -> bool
+        requires { self.now.layout ≡ FullMatrix }
+        ensures { IsTrue result ↔ ((i j : ℕ) → IsNode (self.now.nodes) i
+            → IsNode (self.now.nodes) j → i < j
+            → costs_of self.now i j ≡ costs_of self.now j i) }
+    {
+        'bands: for band in 0..self.nodes / BLOCK + 1 {
+            if !self.is_symmetric_band(band) {
+                return false;
+            }
+        }
+        true
+    }
+
+    /// Whether the two costs of each pair are the same over a band of rows, counted from 0, from
+    /// the band's block on the diagonal on.
+    fn is_symmetric_band(&self, band: u32) -> bool
+        requires full { self.now.layout ≡ FullMatrix }
+        requires band { band * 64 ≤ self.now.nodes }
+        ensures { IsTrue result ↔ ((i j : ℕ) → band * 64 < i → i ≤ band * 64 + 64
+            → band * 64 < j → i ≤ self.now.nodes → j ≤ self.now.nodes
+            → costs_of self.now i j ≡ costs_of self.now j i) }
+    {
+        'across: for block in band..self.nodes / BLOCK + 1 {
+            if !self.is_symmetric_block(band * BLOCK + 1, block * BLOCK + 1) {
+                return false;
+            }
+        }
+        true
+    }
+
+    /// Whether the two costs of each pair are the same over the block of cells that begins with the
+    /// cell (top, left).
+    fn is_symmetric_block(&self, top: u32, left: u32) -> bool
+        requires full { self.now.layout ≡ FullMatrix }
+        requires top { 1 ≤ top }
+        requires left { 1 ≤ left }
+        requires top_most { top ≤ self.now.nodes + 1 }
+        requires left_most { left ≤ self.now.nodes + 1 }
+        ensures { IsTrue result ↔ ((i j : ℕ) → top ≤ i → i < top + 64
+            → left ≤ j → j < left + 64 → i ≤ self.now.nodes → j ≤ self.now.nodes
+            → costs_of self.now i j ≡ costs_of self.now j i) }
+    {
+        let past = self.block_end(top);
+        'rows: for i in top..past {
+            if !self.is_symmetric_in_block(i, left) {
+                return false;
+            }
+        }
+        true
+    }
+
+    /// Whether the two costs of each pair are the same over the cells of a row in the block whose
+    /// first column is `left`.
+    #[inline]
+    fn is_symmetric_in_block(&self, i: u32, left: u32) -> bool
+        requires full { self.now.layout ≡ FullMatrix }
+        requires row { IsNode (self.now.nodes) i }
+        requires left { 1 ≤ left }
+        requires left_most { left ≤ self.now.nodes + 1 }
+        ensures { IsTrue result ↔ ((j : ℕ) → left ≤ j → j < left + 64
+            → j ≤ self.now.nodes
+            → costs_of self.now i j ≡ costs_of self.now j i) }
+    {
+        let past = self.block_end(left);
+        let mut same = true;
+        'columns: for j in left..past {
+            same &= self.weight(i, j) == self.weight(j, i);
+        }
+        same
+    }
+
+    /// The first row or column past the block that begins with this one.
+    #[inline]
+    fn block_end(&self, first: u32) -> u32
+        requires { first ≤ self.now.nodes + 1 }
+        ensures within { result ≤ self.now.nodes + 1 }
+        ensures short { result ≤ first + 64 }
+        ensures all { (j : ℕ) → j < first + 64 → j ≤ self.now.nodes → j < result }
+    {
+        if first + BLOCK <= self.nodes {
+            first + BLOCK
+        } else {
+            self.nodes + 1
+        }
+    }
+
+    /// The first node past i whose two costs with i differ.
+    fn first_asymmetric_of_row(&self, i: u32) -> Option<u32>
+        requires { IsNode self.now.nodes i }
+        ensures { MatchOption result
+            ((j : ℕ) → i < j → j ≤ self.now.nodes → costs_of self.now i j ≡ costs_of self.now j i)
+            (λ j. IsNode self.now.nodes j × (i < j)
+            × (costs_of self.now i j ≢ costs_of self.now j i)
+            × ((b : ℕ) → i < b → b < j → costs_of self.now i b ≡ costs_of self.now b i)) }
+    {
+        'columns: for j in i + 1..self.nodes + 1 {
+            if self.cost(i, j) != self.cost(j, i) {
+                return Some(j);
+            }
+        }
+        None
+    }
+
+    /// The first node whose cost to itself isn't 0.
+    fn first_on_diagonal(&self) -> Option<u32>
+        ensures { MatchOption result
+            ((i : ℕ) → costs_of self.now i i ≡ pos 0)
+            (λ i. IsFirstOnDiagonal self.now.nodes (costs_of self.now) i) }
+    {
+        'nodes: for i in 1..self.nodes + 1 {
+            if self.cost(i, i) != 0 {
+                return Some(i);
+            }
+        }
+        None
+    }
+
+    /// The costs of the cells of another layout, in their order.
+    ///
+    /// # Errors
+    ///
+    /// Out of memory.
+    pub(crate) fn laid_out(&self, alloc: Global, to: Layout) -> Result<Vec<i64>, AllocError>
+        ensures value { IfOk result (λ weights.
+            weights.items ≡ costs_in to self.now.nodes (costs_of self.now)) }
+        ensures sizes { IfOk result (λ weights. All (IsWithin most_weight) weights.items) }
+    {
+        let mut weights = Vec::with_capacity(alloc, to.cell_count(self.nodes) as usize)?;
+        'lines: for line in 1..self.nodes + 1 {
+            self.lay_line(to, line, &mut weights)?;
+        }
+        Ok(weights)
+    }
+
+    /// Adds the costs of the cells of one line of another layout.
+    ///
+    /// # Errors
+    ///
+    /// Out of memory.
+    fn lay_line(&self, to: Layout, line: u32, weights: &mut Vec<i64>) -> Result<(), AllocError>
+        requires { IsNode self.now.nodes line }
+        ensures { OnOk result (weights.new.items ≡ weights.old.items ++ map
+            (λ cell. costs_of self.now cell.0 cell.1) (cells_of_line to self.now.nodes line)) }
+    {
+        'cells: for index in 0..to.line_len(self.nodes, line) {
+            let (i, j) = to.line_cell(self.nodes, line, index);
+            weights.push(self.cost(i, j))?;
+        }
+        Ok(())
     }
 }

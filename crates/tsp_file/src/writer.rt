@@ -1,36 +1,33 @@
 //! Writes the canonical text of a file, field by field, by the files of `src/writer/`. For `tsp
-//! convert`, in `src/convert.rt` of tsp_judge.
+//! convert`, in `src/bound.rt` of tsp_judge.
 
-ghost use Rattle.std.specs.Prelude.{◌≡◌, None};
 ghost use Rattle.std.specs.List.{flat_map};
-ghost use Rattle.tsp_draft.specs.Rules.{fault_of};
-ghost use Rattle.tsp_draft.specs.states.Drafts.{fields_of};
-ghost use Rattle.tsp_stream.specs.states.Watched.{sink_of};
-ghost use Rattle.tsp_stream.specs.Sink.{Writes};
-ghost use Rattle.tsp_stream.specs.states.WriteProgress.{Puts};
-ghost use Rattle.tsp_file.specs.CanonicalText.{text_of, text_of_field, text_of_section, text_of_value};
+ghost use Rattle.std.specs.Option.{option_map};
+ghost use Rattle.std.specs.Prelude.{◌≡◌, None, map, []};
+ghost use Rattle.tsp_format.specs.Steps.{Leaf};
+ghost use Rattle.tsp_format.specs.states.TreeSteps.{step_of, steps_of};
+ghost use Rattle.tsp_io.specs.Sink.{Writes};
+ghost use Rattle.tsp_io.specs.states.Watched.{sink_of};
+ghost use Rattle.tsp_io.specs.states.WriteProgress.{Puts};
+ghost use Rattle.tsp_file.specs.CanonicalText.{text_of, text_of_field, text_of_section, text_of_value, value_line, keyword_line, other_line, optional, before_blank, set_line, comb_lines, comb_list, change_words, step_line, case_tree_lines, section_text};
+ghost use Rattle.tsp_file.specs.Rules.{fault_of};
+ghost use Rattle.tsp_file.specs.states.Drafts.{fields_of, combs_of};
 
-mod block;
-mod digits;
-mod keywords;
 mod matrix;
-mod points;
 mod sections;
-mod tree;
 
+use crate::draft::Draft;
 use crate::file::File;
-use crate::writer::keywords::{put_comments, put_name, put_others, put_whole, put_word};
 use crate::writer::matrix::put_weight_section;
 use crate::writer::sections::{
-    put_node_section, put_number_section, put_pair_section, put_point_section, put_tour_section,
-    put_triple_section,
+    put_node_section, put_number_section, put_opening, put_pair_line, put_pair_section,
+    put_point_section, put_tour_section, put_triple_section,
 };
-use crate::writer::tree::{put_comb_section, put_step_section};
+use itoa::{Buffer, Integer};
 use std::alloc::Global;
 use std::io::Write;
-use tsp_draft::Draft;
-use tsp_format::{Field, Shape, ValueShape};
-use tsp_stream::{Piece, Watched, WriteFault, hand_over, put};
+use tsp_format::{Field, Shape, TreeStep, ValueShape, Word};
+use tsp_io::{Piece, Watched, WriteFault, hand_over, put, put_number};
 
 /// Writes the canonical text of a file.
 ///
@@ -146,5 +143,208 @@ fn put_section<W: Write>(
         Shape::Triples => put_triple_section(piece, out, field, &draft.fixed_potentials),
         Shape::Combs => put_comb_section(piece, out, field, &draft.combs),
         Shape::Steps => put_step_section(piece, out, field, &draft.branches),
+    }
+}
+
+// ---- writes the keyword lines of a canonical text
+
+/// Adds the line of a keyword and its value.
+fn put_value<W: Write>(piece: &mut Piece, out: &mut Watched<W>, keyword: &[u8], value: &[u8])
+    ensures { Puts W.contents out.old piece.old out.new piece.new
+        (value_line keyword.now value.now) }
+{
+    put(piece, out, keyword);
+    put(piece, out, b" :");
+    if !value.is_empty() {
+        put(piece, out, b" ");
+        put(piece, out, value);
+    }
+    put(piece, out, b"\n");
+}
+
+/// Adds the line of a keyword whose value is a word, where the file has one.
+fn put_word<W: Write, V: Word>(
+    piece: &mut Piece,
+    out: &mut Watched<W>,
+    field: Field,
+    value: Option<V>,
+)
+    ensures { Puts W.contents out.old piece.old out.new piece.new
+        (optional (λ value. keyword_line field (V.text value)) value) }
+{
+    if let Some(value) = value {
+        put_value(piece, out, field.word().as_bytes(), value.word().as_bytes());
+    }
+}
+
+/// Adds the line of a keyword whose value is a whole number, where the file has one.
+fn put_whole<W: Write, N: Integer>(
+    piece: &mut Piece,
+    out: &mut Watched<W>,
+    field: Field,
+    value: Option<N>,
+)
+    ensures { Puts W.contents out.old piece.old out.new piece.new
+        (optional (λ number. keyword_line field (N.text number)) value) }
+{
+    if let Some(number) = value {
+        let mut buffer = Buffer::new();
+        put_value(
+            piece,
+            out,
+            field.word().as_bytes(),
+            buffer.format(number).as_bytes(),
+        );
+    }
+}
+
+/// Adds one COMMENT line for each comment.
+fn put_comments<W: Write>(piece: &mut Piece, out: &mut Watched<W>, comments: &[Vec<u8>])
+    ensures { Puts W.contents out.old piece.old out.new piece.new
+        (flat_map (keyword_line Field.CommentKey) (map (λ v. v.items) comments.now)) }
+{
+    for comment in comments {
+        put_value(piece, out, Field::CommentKey.word().as_bytes(), comment);
+    }
+}
+
+/// Adds the lines of the unknown keywords.
+fn put_others<W: Write>(piece: &mut Piece, out: &mut Watched<W>, others: &[(Vec<u8>, Vec<u8>)])
+    ensures { Puts W.contents out.old piece.old out.new piece.new
+        (flat_map other_line (map (λ p. (p.0.items, p.1.items)) others.now)) }
+{
+    for (keyword, value) in others {
+        put_value(piece, out, keyword, value);
+    }
+}
+
+/// Adds the line of NAME, where the file has one.
+fn put_name<W: Write>(piece: &mut Piece, out: &mut Watched<W>, name: &Option<Vec<u8>>)
+    ensures { Puts W.contents out.old piece.old out.new piece.new
+        (optional (keyword_line Field.NameKey) (option_map (λ v. v.items) name.now)) }
+{
+    if let Some(name) = name {
+        put_value(piece, out, Field::NameKey.word().as_bytes(), name);
+    }
+}
+
+// ---- writes the sections of a certificate by branching
+
+/// Adds the digits of a whole number and a blank.
+fn put_before_blank<W: Write, N: Integer>(piece: &mut Piece, out: &mut Watched<W>, number: N)
+    ensures { Puts W.contents out.old piece.old out.new piece.new (before_blank (N.text number)) }
+{
+    put_number(piece, out, number);
+    put(piece, out, b" ");
+}
+
+/// Adds the line of a set of nodes, which -1 ends.
+fn put_set<W: Write>(piece: &mut Piece, out: &mut Watched<W>, set: &[u32])
+    ensures { Puts W.contents out.old piece.old out.new piece.new (set_line set.now) }
+{
+    'nodes: for node in set {
+        put_before_blank(piece, out, *node);
+    }
+    put(piece, out, b"-1\n");
+}
+
+/// Adds a line for each set of a comb, and the line -1.
+fn put_comb<W: Write>(piece: &mut Piece, out: &mut Watched<W>, comb: &[Vec<u32>])
+    ensures { Puts W.contents out.old piece.old out.new piece.new
+        (comb_lines (map (λ set. set.items) comb.now)) }
+{
+    'sets: for set in comb {
+        put_set(piece, out, set);
+    }
+    put(piece, out, b"-1\n");
+}
+
+/// Adds the lines of each comb, and one more line -1.
+fn put_combs<W: Write>(piece: &mut Piece, out: &mut Watched<W>, combs: &[Vec<Vec<u32>>])
+    ensures { Puts W.contents out.old piece.old out.new piece.new (comb_list (combs_of combs.now)) }
+{
+    'combs: for comb in combs {
+        put_comb(piece, out, comb);
+    }
+    put(piece, out, b"-1\n");
+}
+
+/// Adds the index and the difference of a number, each before a blank.
+fn put_change<W: Write>(piece: &mut Piece, out: &mut Watched<W>, index: u32, difference: i64)
+    ensures { Puts W.contents out.old piece.old out.new piece.new
+        (flat_map before_blank (change_words (index, difference))) }
+{
+    put_before_blank(piece, out, index);
+    put_before_blank(piece, out, difference);
+}
+
+/// Adds the indices and the differences of numbers, each before a blank.
+fn put_changes<W: Write>(piece: &mut Piece, out: &mut Watched<W>, changes: &[(u32, i64)])
+    ensures { Puts W.contents out.old piece.old out.new piece.new
+        (flat_map before_blank (flat_map change_words changes.now)) }
+{
+    'changes: for (index, difference) in changes {
+        put_change(piece, out, *index, *difference);
+    }
+}
+
+/// Adds the line of a leaf, which -1 ends.
+fn put_leaf<W: Write>(piece: &mut Piece, out: &mut Watched<W>, changes: &[(u32, i64)])
+    ensures { Puts W.contents out.old piece.old out.new piece.new (step_line (Leaf changes.now)) }
+{
+    put(piece, out, b"0 ");
+    put_changes(piece, out, changes);
+    put(piece, out, b"-1\n");
+}
+
+/// Adds the line of a step.
+fn put_step<W: Write>(piece: &mut Piece, out: &mut Watched<W>, step: &TreeStep)
+    ensures { Puts W.contents out.old piece.old out.new piece.new (step_line (step_of step.now)) }
+{
+    match step {
+        TreeStep::Branch(first, second) => put_pair_line(piece, out, *first, *second),
+        TreeStep::Leaf(changes) => put_leaf(piece, out, changes),
+    }
+}
+
+/// Adds a line for each step.
+fn put_steps<W: Write>(piece: &mut Piece, out: &mut Watched<W>, steps: &[TreeStep])
+    ensures { Puts W.contents out.old piece.old out.new piece.new
+        (case_tree_lines (steps_of steps.now)) }
+{
+    'steps: for step in steps {
+        put_step(piece, out, step);
+    }
+}
+
+/// Adds a section of combs, where the file has it.
+fn put_comb_section<W: Write>(
+    piece: &mut Piece,
+    out: &mut Watched<W>,
+    field: Field,
+    combs: &Option<Vec<Vec<Vec<u32>>>>,
+)
+    ensures { Puts W.contents out.old piece.old out.new piece.new (optional (λ combs. section_text
+        field (comb_list combs)) (option_map (λ v. combs_of v.items) combs.now)) }
+{
+    if let Some(combs) = combs {
+        put_opening(piece, out, field);
+        put_combs(piece, out, combs);
+    }
+}
+
+/// Adds a section of the steps of a tree, where the file has it.
+fn put_step_section<W: Write>(
+    piece: &mut Piece,
+    out: &mut Watched<W>,
+    field: Field,
+    steps: &Option<Vec<TreeStep>>,
+)
+    ensures { Puts W.contents out.old piece.old out.new piece.new (optional (λ steps. section_text
+        field (case_tree_lines steps)) (option_map (λ v. steps_of v.items) steps.now)) }
+{
+    if let Some(steps) = steps {
+        put_opening(piece, out, field);
+        put_steps(piece, out, steps);
     }
 }

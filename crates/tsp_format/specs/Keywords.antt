@@ -4,12 +4,11 @@
 use Rattle.std.specs.Prelude.{ℕ, Bool, true, false, cond, List, Option, None, Some, codes}
 use Rattle.std.specs.List.{find}
 use Rattle.std.specs.Str.{bytes_eq}
-use Rattle.tsp_format.specs.declared.field.Field.{Field}
-use Rattle.tsp_format.specs.declared.field.Field.TheVariants.{OtherKey, FixedEdgesPart}
+use Rattle.tsp_format.specs.declared.keyword.Field.{Field}
+use Rattle.tsp_format.specs.declared.keyword.Field.TheVariants.{OtherKey, FixedEdgesPart}
 use Rattle.tsp_format.specs.declared.keyword.Keyword.{Keyword}
 use Rattle.tsp_format.specs.declared.keyword.Keyword.TheVariants.{Known, EdgeDataFormat, EdgeDataSection, Eof, Unknown}
-use Rattle.tsp_format.specs.Words.{field_word}
-use Rattle.tsp_format.specs.Words.{fields_in_order}
+use Rattle.tsp_format.specs.Words.{field_word, fields_in_order}
 
 -- whether it is the field of the unknown keywords, for which files have no word
 abbrev pub is_other_key : Field → Bool

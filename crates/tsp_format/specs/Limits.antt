@@ -1,5 +1,5 @@
--- The limits of files. TSPLIB 95 states none: each is a choice of this project's profile. src/limits.rt has them as
--- constants, for the reader; Validity.antt of tsp_draft and many contracts name them here.
+-- The limits of files. TSPLIB 95 states none: each is a choice of this project's profile. src/keyword.rt has them as
+-- constants, for the reader; Validity.antt of tsp_file and many contracts name them here.
 use Rattle.std.specs.Prelude.{ℕ}
 
 -- nodes of a file

@@ -1,4 +1,4 @@
--- A range of whole numbers. For Valid.antt of tsp_draft, for CertificateNumbers.antt of tsp_theory, and for the sums of
+-- A range of whole numbers. For Valid.antt of tsp_file, for CertificateNumbers.antt of tsp_theory, and for the sums of
 -- tsp_routing.
 use Rattle.std.specs.Prelude.{ℤ, ◌≤ℤ◌}
 

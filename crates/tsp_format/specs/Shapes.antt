@@ -1,16 +1,14 @@
 -- How the words of each section are read, which is its shape, and how the value of each keyword is. For `shape` and
--- `value_shape` of `Field` (src/field.rt), for the reader and the writer. Source: TSPLIB 95 (G. Reinelt); the ranges
+-- `value_shape` of `Field` (src/keyword.rt), for the reader and the writer. Source: TSPLIB 95 (G. Reinelt); the ranges
 -- are this project's profile. Five crates above import it too.
 use Rattle.std.specs.Prelude.{Bool, false, cond, Option, None, Some, is_some, ℤ, pos, neg_ℤ, ◌≤ℤ◌}
-use Rattle.tsp_format.specs.declared.field.Field.{Field}
-use Rattle.tsp_format.specs.declared.field.Field.TheVariants.{NameKey, TypeKey, CommentKey, DimensionKey, CapacityKey, ScaleKey, LoadUnitKey}
-use Rattle.tsp_format.specs.declared.field.Field.TheVariants.{EdgeWeightTypeKey, EdgeWeightFormatKey, NodeCoordTypeKey, DisplayDataTypeKey}
-use Rattle.tsp_format.specs.declared.field.Field.TheVariants.{NodeCoordPart, DisplayDataPart, DemandPart, DepotPart, FixedEdgesPart, EdgeWeightPart, TourPart, NodePotentialPart, RowPotentialPart, ColumnPotentialPart, FixedEdgePotentialPart, CombPart, BranchPart}
+use Rattle.tsp_format.specs.declared.keyword.Field.{Field}
+use Rattle.tsp_format.specs.declared.keyword.Field.TheVariants.{NameKey, TypeKey, CommentKey, DimensionKey, CapacityKey, ScaleKey, LoadUnitKey, EdgeWeightTypeKey, EdgeWeightFormatKey, NodeCoordTypeKey, DisplayDataTypeKey, NodeCoordPart, DisplayDataPart, DemandPart, DepotPart, FixedEdgesPart, EdgeWeightPart, TourPart, NodePotentialPart, RowPotentialPart, ColumnPotentialPart, FixedEdgePotentialPart, CombPart, BranchPart}
 use Rattle.tsp_format.specs.Limits.{most_nodes, most_capacity, most_scale, most_load_unit, most_demand, most_potential}
-use Rattle.tsp_format.specs.declared.field.Shape.{Shape}
-use Rattle.tsp_format.specs.declared.field.Shape.TheVariants.{Numbers, Points, SpacePoints, Depots, Pairs, Weights, Tours, Triples, Combs, Steps}
-use Rattle.tsp_format.specs.declared.field.ValueShape.{ValueShape}
-use Rattle.tsp_format.specs.declared.field.ValueShape.TheVariants.{Kept, KeptEach, Number, Word}
+use Rattle.tsp_format.specs.declared.keyword.Shape.{Shape}
+use Rattle.tsp_format.specs.declared.keyword.Shape.TheVariants.{Numbers, Points, SpacePoints, Depots, Pairs, Weights, Tours, Triples, Combs, Steps}
+use Rattle.tsp_format.specs.declared.keyword.ValueShape.{ValueShape}
+use Rattle.tsp_format.specs.declared.keyword.ValueShape.TheVariants.{Kept, KeptEach, Number, Word}
 
 -- the shape of a section, in a spatial file or another; a keyword has none
 abbrev pub shape_of : Bool → Field → Option Shape

@@ -1,5 +1,5 @@
 -- When a file is spatial, which is that its nodes have three coordinates. For `is_spatial` (src/kinds.rt), and for
--- Fields.antt of tsp_draft. tsp_text and tsp_round import it too. Source: NODE_COORD_TYPE and EDGE_WEIGHT_TYPE of
+-- Fields.antt of tsp_file. tsp_text and tsp_round import it too. Source: NODE_COORD_TYPE and EDGE_WEIGHT_TYPE of
 -- TSPLIB 95 (G. Reinelt).
 use Rattle.std.specs.Prelude.{Bool, true, false, ◌||◌, Option}
 use Rattle.std.specs.Option.{option_map_or}

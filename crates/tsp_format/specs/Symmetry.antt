@@ -1,4 +1,4 @@
--- Symmetric costs between nodes, and the first pair of nodes whose costs differ. For `first_asymmetric` (src/weights.rt
+-- Symmetric costs between nodes, and the first pair of nodes whose costs differ. For `first_asymmetric` (src/typed.rt
 -- of tsp_file), and for Costs.antt of tsp_theory.
 use Rattle.std.specs.Prelude.{◌≡◌, ◌≢◌, ℕ, ◌<◌, ◌⊎◌, Option, None, Some, ℤ}
 use Rattle.tsp_format.specs.Nodes.{IsNode}

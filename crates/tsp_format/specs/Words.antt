@@ -1,5 +1,5 @@
 -- The words of TSPLIB 95 (G. Reinelt) and of this project's own keywords, and the lists of all values that have a word.
--- For `Field` (src/field.rt), the enums of src/kinds.rt, and `Layout` (src/layout.rt). Eight crates above import it
+-- For `Field` (src/keyword.rt), the enums of src/kinds.rt, and `Layout` (src/layout.rt). Eight crates above import it
 -- too.
 use Rattle.std.specs.Prelude.{◌≡◌, ℕ, List, [], ◌∷◌, Some, refl, codes}
 use Rattle.std.specs.List.{find}
@@ -16,8 +16,8 @@ use Rattle.tsp_format.specs.declared.kinds.DisplayKind.{DisplayKind}
 use Rattle.tsp_format.specs.declared.kinds.DisplayKind.TheVariants as display_kind
 use Rattle.tsp_format.specs.declared.layout.Layout.{Layout}
 use Rattle.tsp_format.specs.declared.layout.Layout.TheVariants as layout
-use Rattle.tsp_format.specs.declared.field.Field.{Field}
-use Rattle.tsp_format.specs.declared.field.Field.TheVariants as field
+use Rattle.tsp_format.specs.declared.keyword.Field.{Field}
+use Rattle.tsp_format.specs.declared.keyword.Field.TheVariants as field
 use Rattle.tsp_format.specs.Layout.{layout_word}
 
 -- ---- words

@@ -2,9 +2,9 @@
 //! kinds, blanks, cells of layouts, limits.
 
 ghost use Rattle.std.specs.Prelude.{◌≡◌, ℕ, ◌-◌, ◌*◌, ◌^◌, true, false, List, [], ◌∷◌, length, None, Some, pos, negsuc, codes};
-ghost use Rattle.tsp_format.specs.declared.field.Field.TheVariants as fields;
-ghost use Rattle.tsp_format.specs.declared.field.Shape.TheVariants as shapes;
-ghost use Rattle.tsp_format.specs.declared.field.ValueShape.TheVariants as values;
+ghost use Rattle.tsp_format.specs.declared.keyword.Field.TheVariants as fields;
+ghost use Rattle.tsp_format.specs.declared.keyword.Shape.TheVariants as shapes;
+ghost use Rattle.tsp_format.specs.declared.keyword.ValueShape.TheVariants as values;
 ghost use Rattle.tsp_format.specs.declared.keyword.Keyword.TheVariants as keywords;
 ghost use Rattle.tsp_format.specs.declared.kinds.Kind.TheVariants as kinds;
 ghost use Rattle.tsp_format.specs.declared.kinds.WeightKind.TheVariants as weight_kinds;

@@ -1,5 +1,5 @@
 //! The accepted values of TYPE, EDGE_WEIGHT_TYPE, EDGE_WEIGHT_FORMAT, NODE_COORD_TYPE and
-//! DISPLAY_DATA_TYPE, as enums. For the fields of `Draft` in tsp_draft.
+//! DISPLAY_DATA_TYPE, as enums. For the fields of `Draft` in tsp_file.
 
 ghost use Rattle.std.specs.Prelude.{◌≡◌};
 ghost use Rattle.tsp_format.specs.Space.{weighs_three, is_spatial};

@@ -1,6 +1,6 @@
 //! The words of TSPLIB 95 as values, the layouts of a matrix, and the limits of files.
 //!
-//! It has what needs no file. The fields of a file are tsp_draft's, its text is tsp_text's.
+//! It has what needs no file. The fields of a file are tsp_file's, its text is tsp_text's.
 //!
 //! ```text
 //! let kind: Option<Kind> = value_of(b"ATSP");
@@ -10,11 +10,9 @@
 
 mod bytes;
 mod examples;
-mod field;
 mod keyword;
 mod kinds;
 mod layout;
-mod limits;
 mod place;
 mod steps;
 mod word;
@@ -24,17 +22,16 @@ pub use examples::{
     examples_of_asymmetric_costs, examples_of_bytes, examples_of_cells, examples_of_fields,
     examples_of_limits, examples_of_space, examples_of_words,
 };
-pub use field::{Field, Shape, ValueShape};
-pub use keyword::Keyword;
+pub use keyword::{
+    Field, Keyword, MOST_BRANCHES, MOST_CAPACITY, MOST_CHANGES, MOST_COMB_NODES, MOST_COMBS,
+    MOST_COMMENTS, MOST_COORDINATE, MOST_DEMAND, MOST_DEPOTS, MOST_DIFFERENCE, MOST_FILE_BYTES,
+    MOST_FIXED, MOST_KEPT_BYTES, MOST_LINE_BYTES, MOST_LOAD_UNIT, MOST_MATRIX_NODES,
+    MOST_MULTIPLIER, MOST_MULTIPLIERS, MOST_NODES, MOST_OTHERS, MOST_POTENTIAL, MOST_SCALE,
+    MOST_TOUR_NODES, MOST_WEIGHT, MOST_WORD_BYTES, Shape, ValueShape,
+    limits_are_those_of_the_profile,
+};
 pub use kinds::{CoordKind, DisplayKind, Kind, WeightFormat, WeightKind, is_spatial};
 pub use layout::{Layout, cells_are_distinct, cells_are_the_listed_pairs, cells_go_line_by_line};
-pub use limits::{
-    MOST_BRANCHES, MOST_CAPACITY, MOST_CHANGES, MOST_COMB_NODES, MOST_COMBS, MOST_COMMENTS,
-    MOST_COORDINATE, MOST_DEMAND, MOST_DEPOTS, MOST_DIFFERENCE, MOST_FILE_BYTES, MOST_FIXED,
-    MOST_KEPT_BYTES, MOST_LINE_BYTES, MOST_LOAD_UNIT, MOST_MATRIX_NODES, MOST_MULTIPLIER,
-    MOST_MULTIPLIERS, MOST_NODES, MOST_OTHERS, MOST_POTENTIAL, MOST_SCALE, MOST_TOUR_NODES,
-    MOST_WEIGHT, MOST_WORD_BYTES, limits_are_those_of_the_profile,
-};
 pub use place::only_cells_have_places;
 pub use steps::TreeStep;
 pub use word::{Word, value_of};

@@ -1,4 +1,4 @@
-//! The place of a cell in the list of its layout, by arithmetic. For `src/weights.rt` of tsp_file
+//! The place of a cell in the list of its layout, by arithmetic. For `src/typed.rt` of tsp_file
 //! and the matrices of tsp_cost.
 
 ghost use Rattle.std.specs.Prelude.{◌≡◌, ◌<◌, ◌≤◌, ◌^◌, ◌+◌, ◌*◌, Some, None, ℕ, IsTrue, length, slice_index_or};

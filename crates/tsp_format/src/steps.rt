@@ -1,5 +1,5 @@
 //! The steps of a tree of cases, branches and leaves, as BRANCH_SECTION lists them. For `Draft` of
-//! tsp_draft and the pass of tsp_cases over the leaves.
+//! tsp_file and the pass of tsp_cases over the leaves.
 
 /// A step of a tree of cases. The steps come one after another, each for the first open case.
 #[derive(Debug, Drop)]

@@ -1,23 +1,23 @@
--- What the lines of a comparison mean. For the law `solutions_without_a_basis` in src/compare_laws.rt and others.
+-- What the lines of a comparison mean. For the law `solutions_without_a_basis` in src/laws.rt and others.
 use Rattle.std.proofs.Common.{◌≡◌, ◌⊎◌, inl, inr, true, false, Option, Some, None, refl, sym, ap, subst, ◌∙◌, ℕ, List, [], ◌∷◌, arith, ◌<◌}
 use Rattle.std.specs.Prelude.{ℤ, IsTrue, Ok}
 use Rattle.std.proofs.lemmas.Bool.{false≢true}
 use Rattle.tsp_format.specs.declared.kinds.Kind.{Kind}
 use Rattle.tsp_format.specs.declared.kinds.Kind.TheVariants as kinds
-use Rattle.tsp_stream.specs.Turn.{Turn}
-use Rattle.tsp_draft.specs.Fields.{Fields}
+use Rattle.tsp_io.specs.Turn.{Turn}
+use Rattle.tsp_file.specs.Fields.{Fields}
 use Rattle.tsp_cost.specs.ProblemLaws.{IsProblem}
 use Rattle.tsp_theory.specs.Tour.{BoundsTours, HasNoTour}
 use Rattle.tsp_cost.specs.ComputedProblems.{problem_of, routing_of}
 use Rattle.tsp_read.specs.Reads.{IsFile}
-use Rattle.tsp_task.specs.declared.basis.Basis.TheVariants as bases
-use Rattle.tsp_task.specs.declared.verdict.BoundVerdict.TheVariants as bounds
-use Rattle.tsp_task.specs.declared.certificate.Certificate.{Certificate}
-use Rattle.tsp_task.specs.declared.verdict.Reason.{Reason}
-use Rattle.tsp_task.specs.declared.verdict.Reason.TheVariants.{TooFewNodes, NotSymmetric, DepotCount, DepotDemand, FixedEdgesInRoutes}
-use Rattle.tsp_task.specs.declared.verdict.Verdict.{Verdict}
-use Rattle.tsp_task.specs.declared.verdict.Verdict.TheVariants as verdicts
-use Rattle.tsp_task.specs.Verdicts.{is_yes}
+use Rattle.tsp_report.specs.declared.verdict.Basis.TheVariants as bases
+use Rattle.tsp_report.specs.declared.verdict.BoundVerdict.TheVariants as bounds
+use Rattle.tsp_report.specs.declared.task.Certificate.{Certificate}
+use Rattle.tsp_report.specs.declared.verdict.Reason.{Reason}
+use Rattle.tsp_report.specs.declared.verdict.Reason.TheVariants.{TooFewNodes, NotSymmetric, DepotCount, DepotDemand, FixedEdgesInRoutes}
+use Rattle.tsp_report.specs.declared.verdict.Verdict.{Verdict}
+use Rattle.tsp_report.specs.declared.verdict.Verdict.TheVariants as verdicts
+use Rattle.tsp_report.specs.Verdicts.{is_yes}
 use Rattle.tsp_verdict.specs.Basis.{IsBasisAlone, IsBasisBy, IsBasis}
 use Rattle.tsp_verdict.specs.Bounded.{StandsAgainstTouring, StandsAgainstRouting, StandsAgainstInstanceBy, StandsAgainstBounded, IsBoundVerdict}
 use Rattle.tsp_verdict.specs.Certified.{StandsAgainstCertificate, HasNoSolutionBy, IsCertifiedTourVerdict, IsCertifiedRoutesVerdict, IsCertifiedVerdictBy, IsCertifiedVerdict}
@@ -27,7 +27,7 @@ use Rattle.tsp_verdict.specs.SolutionVerdict.{IsVerdictBy, IsVerdictWith}
 use Rattle.tsp_verdict.specs.Reasons.{IsFirstReason}
 use Rattle.tsp_verdict.specs.Routes.{StandsAgainstRoutes}
 use Rattle.tsp_verdict.specs.Tours.{StandsAgainstTour}
-use Rattle.tsp_judge.specs.declared.common.Common.{Common}
+use Rattle.tsp_judge.specs.declared.compared.Common.{Common}
 use Rattle.tsp_judge.specs.CompareRun.{IsFoundIn}
 use Rattle.tsp_judge.specs.Accepted.{IsAccepted}
 use Rattle.tsp_judge.specs.Optimal.{IsBoundedTour}

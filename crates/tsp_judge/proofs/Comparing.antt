@@ -6,28 +6,28 @@ use Rattle.std.specs.declared.io.Error.{Error}
 use Rattle.std.specs.Io.KnownBytes.{Appends}
 use Rattle.std.proofs.KnownBytes.{Appends-nil, Appends-trans, Appends-kept}
 use Rattle.std.proofs.lemmas.Bool.{false≢true}
-use Rattle.tsp_stream.specs.declared.output.WriteFault.{WriteFault}
-use Rattle.tsp_stream.specs.declared.output.WriteFault.TheVariants as write_faults
-use Rattle.tsp_stream.specs.declared.watched.Watched.{Watched}
-use Rattle.tsp_stream.specs.states.Watched.{sink_of, turn_of, watched, has_failed}
-use Rattle.tsp_stream.specs.Turn.{Turn}
-use Rattle.tsp_stream.specs.Sink.{Sink, IsUnwritten, HasWritten, HasStopped, Writes}
-use Rattle.tsp_draft.specs.Fields.{Fields}
+use Rattle.tsp_io.specs.declared.piece.WriteFault.{WriteFault}
+use Rattle.tsp_io.specs.declared.piece.WriteFault.TheVariants as write_faults
+use Rattle.tsp_io.specs.declared.watched.Watched.{Watched}
+use Rattle.tsp_io.specs.states.Watched.{sink_of, turn_of, watched, has_failed}
+use Rattle.tsp_io.specs.Turn.{Turn}
+use Rattle.tsp_io.specs.Sink.{Sink, IsUnwritten, HasWritten, HasStopped, Writes}
+use Rattle.tsp_file.specs.Fields.{Fields}
 use Rattle.tsp_read.specs.declared.ReadFault.{ReadFault}
 use Rattle.tsp_read.specs.Asked.{HasReads, IsReadOn}
 use Rattle.tsp_read.specs.Reads.{IsFile, most_taken}
 use Rattle.tsp_cost.specs.ProblemLaws.{IsProblem}
-use Rattle.tsp_task.specs.declared.certificate.Certificate.{Certificate}
-use Rattle.tsp_task.specs.declared.verdict.Verdict.{Verdict}
+use Rattle.tsp_report.specs.declared.task.Certificate.{Certificate}
+use Rattle.tsp_report.specs.declared.verdict.Verdict.{Verdict}
 use Rattle.tsp_verdict.specs.Basis.{IsBasis, IsVerdictFrom}
 use Rattle.tsp_verdict.specs.Strict.{is_unjudged, strict_basis, IsBasisAsked}
-use Rattle.tsp_task.specs.declared.basis.Basis.{Basis}
-use Rattle.tsp_task.specs.declared.basis.Basis.TheVariants as bases
-use Rattle.tsp_task.specs.Verdicts.{is_clear}
-use Rattle.tsp_judge.specs.declared.common.Common.{Common}
-use Rattle.tsp_judge.specs.declared.common.Found.{Found}
-use Rattle.tsp_judge.specs.declared.fault.RunFault.{RunFault}
-use Rattle.tsp_judge.specs.declared.fault.RunFault.TheVariants.{File, WrongKind, Write, OutOfMemory, Relayout}
+use Rattle.tsp_report.specs.declared.verdict.Basis.{Basis}
+use Rattle.tsp_report.specs.declared.verdict.Basis.TheVariants as bases
+use Rattle.tsp_report.specs.Verdicts.{is_clear}
+use Rattle.tsp_judge.specs.declared.compared.Common.{Common}
+use Rattle.tsp_judge.specs.declared.compared.Found.{Found}
+use Rattle.tsp_judge.specs.declared.ends.RunFault.{RunFault}
+use Rattle.tsp_judge.specs.declared.ends.RunFault.TheVariants.{File, WrongKind, Write, OutOfMemory, Relayout}
 use Rattle.tsp_judge.specs.CheckRun.{Given, IsUnreadIn, IsFileIn, ReadsFile, ReadsGiven}
 use Rattle.tsp_judge.specs.CompareRun.{IsTurnAt, IsFoundIn, Finds, result_of, status_of_found, ComparesOne, AreFound, all_solution_lines, largest_status, ComparesAll, ComparesBy, ComparesOn, LacksBasis, AreReadOnce, EndsCompare}
 use Rattle.tsp_judge.proofs.Runs.{sized}

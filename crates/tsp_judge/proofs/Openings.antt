@@ -1,8 +1,8 @@
 -- The fault of a text that a call on an open instance reads. For `Opened::bind` in src/opened.rt and others.
 use Rattle.std.proofs.Common.{ℕ, List, Err}
-use Rattle.tsp_task.specs.declared.certificate.Certificate.{Certificate}
-use Rattle.tsp_judge.specs.declared.fault.RunFault.{RunFault}
-use Rattle.tsp_judge.specs.declared.fault.RunFault.TheVariants.{File, WrongKind, Write, OutOfMemory, Relayout}
+use Rattle.tsp_report.specs.declared.task.Certificate.{Certificate}
+use Rattle.tsp_judge.specs.declared.ends.RunFault.{RunFault}
+use Rattle.tsp_judge.specs.declared.ends.RunFault.TheVariants.{File, WrongKind, Write, OutOfMemory, Relayout}
 use Rattle.tsp_judge.specs.Open.{Open, ReadsText, IsUnopened, IsUnbound, IsNotJudged}
 
 pub unopened : (text : List ℕ) (fault : RunFault) → ReadsText 1 text (Err fault) → IsUnopened text fault

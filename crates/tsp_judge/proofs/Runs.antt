@@ -1,24 +1,24 @@
 -- How a check of an instance and a solution ends: at the first file with a fault, or with a verdict whose bound fits a
--- report. For `run` in src/checked.rt and others.
+-- report. For `run` in src/check.rt and others.
 use Rattle.std.specs.Prelude.{ℤ, pos, negsuc, ◌≤◌, ◌^◌, unsigned_abs}
 use Rattle.std.proofs.Common.{◌≡◌, ℕ, [], length, Bool, true, false, Option, Some, None, Err, refl, sym, subst, inl, inr, arith}
 use Rattle.std.proofs.lemmas.Int.{ints}
 use Rattle.std.proofs.lemmas.Bool.{false≢true}
 use Rattle.tsp_format.specs.declared.kinds.Kind.{Kind}
 use Rattle.tsp_format.specs.declared.kinds.Kind.TheVariants as kinds
-use Rattle.tsp_stream.specs.Turn.{Turn, IsUnread}
-use Rattle.tsp_stream.specs.Sink.{Sink, IsUnwritten}
-use Rattle.tsp_draft.specs.Fields.{Fields}
-use Rattle.tsp_draft.specs.Rules.{is_instance}
+use Rattle.tsp_io.specs.Turn.{Turn, IsUnread}
+use Rattle.tsp_io.specs.Sink.{Sink, IsUnwritten}
+use Rattle.tsp_file.specs.Fields.{Fields}
+use Rattle.tsp_file.specs.Rules.{is_instance}
 use Rattle.tsp_read.specs.Reads.{IsFile, most_taken}
-use Rattle.tsp_task.specs.declared.certificate.Certificate.{Certificate}
-use Rattle.tsp_task.specs.declared.verdict.Verdict.{Verdict}
-use Rattle.tsp_task.specs.declared.verdict.Verdict.TheVariants as verdicts
+use Rattle.tsp_report.specs.declared.task.Certificate.{Certificate}
+use Rattle.tsp_report.specs.declared.verdict.Verdict.{Verdict}
+use Rattle.tsp_report.specs.declared.verdict.Verdict.TheVariants as verdicts
 use Rattle.tsp_verdict.specs.Certified.{is_bounded, IsBoundFitting, IsCertifiedTourVerdict, IsCertifiedRoutesVerdict, IsCertifiedVerdictBy}
 use Rattle.tsp_verdict.specs.SolutionVerdict.{is_judged, IsVerdictBy, IsUnclaimedVerdict, IsVerdictWith}
 use Rattle.tsp_verdict.specs.Strict.{is_unjudged, strict_verdict, IsVerdictAsked}
-use Rattle.tsp_judge.specs.declared.fault.RunFault.{RunFault}
-use Rattle.tsp_judge.specs.declared.fault.RunFault.TheVariants.{File, WrongKind, Write, OutOfMemory, Relayout}
+use Rattle.tsp_judge.specs.declared.ends.RunFault.{RunFault}
+use Rattle.tsp_judge.specs.declared.ends.RunFault.TheVariants.{File, WrongKind, Write, OutOfMemory, Relayout}
 use Rattle.tsp_report.specs.Report.{IsGapSized, IsSized}
 use Rattle.tsp_judge.specs.CheckRun.{ReadsFile, Given, given_by, IsUnreadIn, IsFileIn, ReadsGiven, AreRead, JudgesFiles, EndsWithout}
 

@@ -1,14 +1,14 @@
 -- How a run that shows a file ends: at a fault of the file, at a failed write, or with the lines of `show`. For
--- `show_file` in src/show.rt.
+-- `show_file` in src/bound.rt.
 use Rattle.std.proofs.Common.{Err}
-use Rattle.tsp_stream.specs.declared.output.WriteFault.{WriteFault}
-use Rattle.tsp_stream.specs.declared.output.WriteFault.TheVariants as faults
-use Rattle.tsp_stream.specs.Turn.{Turn}
-use Rattle.tsp_stream.specs.Sink.{Sink, IsUnwritten, Writes}
-use Rattle.tsp_draft.specs.Fields.{Fields}
+use Rattle.tsp_io.specs.declared.piece.WriteFault.{WriteFault}
+use Rattle.tsp_io.specs.declared.piece.WriteFault.TheVariants as faults
+use Rattle.tsp_io.specs.Turn.{Turn}
+use Rattle.tsp_io.specs.Sink.{Sink, IsUnwritten, Writes}
+use Rattle.tsp_file.specs.Fields.{Fields}
 use Rattle.tsp_read.specs.Reads.{IsFile}
-use Rattle.tsp_judge.specs.declared.fault.RunFault.{RunFault}
-use Rattle.tsp_judge.specs.declared.fault.RunFault.TheVariants.{File, WrongKind, Write, OutOfMemory, Relayout}
+use Rattle.tsp_judge.specs.declared.ends.RunFault.{RunFault}
+use Rattle.tsp_judge.specs.declared.ends.RunFault.TheVariants.{File, WrongKind, Write, OutOfMemory, Relayout}
 use Rattle.tsp_judge.specs.CheckRun.{ReadsFile}
 use Rattle.tsp_report.specs.Show.{shown}
 use Rattle.tsp_judge.specs.ShowRun.{IsShowRun}

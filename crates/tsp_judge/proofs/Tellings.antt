@@ -2,11 +2,11 @@
 -- that ends the comparison. For `compare_all` in src/compared.rt.
 use Rattle.std.proofs.Common.{ℕ, ◌+◌, ◌<◌, ◌≤◌, List, add-one, arith}
 use Rattle.std.specs.Prelude.{Err}
-use Rattle.tsp_stream.specs.Turn.{Turn}
-use Rattle.tsp_stream.specs.Sink.{Sink}
-use Rattle.tsp_judge.specs.declared.common.Common.{Common}
-use Rattle.tsp_judge.specs.declared.fault.RunFault.{RunFault}
-use Rattle.tsp_judge.specs.declared.fault.RunFault.TheVariants.{File, WrongKind, Write, OutOfMemory, Relayout}
+use Rattle.tsp_io.specs.Turn.{Turn}
+use Rattle.tsp_io.specs.Sink.{Sink}
+use Rattle.tsp_judge.specs.declared.compared.Common.{Common}
+use Rattle.tsp_judge.specs.declared.ends.RunFault.{RunFault}
+use Rattle.tsp_judge.specs.declared.ends.RunFault.TheVariants.{File, WrongKind, Write, OutOfMemory, Relayout}
 use Rattle.tsp_judge.specs.CompareRun.{ComparesOne}
 use Rattle.tsp_judge.specs.Following.{AreReported, most_reported}
 

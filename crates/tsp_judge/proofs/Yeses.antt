@@ -1,27 +1,27 @@
 -- What the line `yes` of a check means, by the TYPE of the instance, the certificate and the claimed length. For
--- `judge_read` in src/checked.rt and others.
+-- `judge_read` in src/check.rt and others.
 use Rattle.std.specs.Prelude.{ℤ, pos, ◌⊎◌, ◌≤ℤ◌, IsTrue, unwrap_or, if◌then◌else◌}
 use Rattle.std.proofs.Common.{◌≡◌, ◌≢◌, ℕ, ◌≤◌, ◌<◌, eqb, Bool, List, [], ◌∷◌, length, true, false, Option, Some, None, Ok, Err, refl, sym, ap, subst, ◌∙◌, inl, inr, arith}
 use Rattle.std.proofs.lemmas.Bool.{false≢true, cases_lt}
 use Rattle.std.proofs.lemmas.Bool.Decides.{eqb_tells}
 use Rattle.tsp_format.specs.declared.kinds.Kind.{Kind}
 use Rattle.tsp_format.specs.declared.kinds.Kind.TheVariants as kinds
-use Rattle.tsp_stream.specs.Turn.{Turn}
-use Rattle.tsp_stream.specs.Sink.{Sink}
-use Rattle.tsp_draft.specs.Fields.{Fields, nodes_of}
-use Rattle.tsp_draft.specs.Rules.{is_tour_file, is_potentials_file, is_branches_file}
+use Rattle.tsp_io.specs.Turn.{Turn}
+use Rattle.tsp_io.specs.Sink.{Sink}
+use Rattle.tsp_file.specs.Fields.{Fields, nodes_of}
+use Rattle.tsp_file.specs.Rules.{is_tour_file, is_potentials_file, is_branches_file}
 use Rattle.tsp_file.specs.Cost.{cost}
 use Rattle.tsp_verdict.specs.Solution.{tours_of}
 use Rattle.tsp_theory.specs.Length.{length_of}
 use Rattle.tsp_theory.specs.Routing.{RoutingProblem, IsPlan, IsCustomer, plan_length}
 use Rattle.tsp_cost.specs.ProblemLaws.{IsProblem}
 use Rattle.tsp_cost.specs.ComputedProblems.{depot_of, problem_of, routing_of, depots_of}
-use Rattle.tsp_task.specs.declared.certificate.Certificate.{Certificate}
-use Rattle.tsp_task.specs.declared.certificate.Certificate.TheVariants.{Potentials, Branches}
-use Rattle.tsp_task.specs.declared.verdict.Reason.{Reason}
-use Rattle.tsp_task.specs.declared.verdict.Reason.TheVariants.{NotASolution, TooFewNodes, DepotCount, NotPotentials, NotBranches}
-use Rattle.tsp_task.specs.declared.verdict.Verdict.{Verdict}
-use Rattle.tsp_task.specs.declared.verdict.Verdict.TheVariants as verdicts
+use Rattle.tsp_report.specs.declared.task.Certificate.{Certificate}
+use Rattle.tsp_report.specs.declared.task.Certificate.TheVariants.{Potentials, Branches}
+use Rattle.tsp_report.specs.declared.verdict.Reason.{Reason}
+use Rattle.tsp_report.specs.declared.verdict.Reason.TheVariants.{NotASolution, TooFewNodes, DepotCount, NotPotentials, NotBranches}
+use Rattle.tsp_report.specs.declared.verdict.Verdict.{Verdict}
+use Rattle.tsp_report.specs.declared.verdict.Verdict.TheVariants as verdicts
 use Rattle.tsp_verdict.specs.Certified.{kind_of, is_bounded, StandsAgainstCertificateBy, StandsAgainstCertificate, IsCertifiedTourVerdict, IsCertifiedRoutesVerdict, IsCertifiedVerdictBy, IsCertifiedVerdict}
 use Rattle.tsp_verdict.specs.SolutionVerdict.{is_judged, IsVerdictBy, IsUnclaimedVerdict, HasLength, IsAsClaimed, IsVerdictWith}
 use Rattle.tsp_verdict.specs.Strict.{refuses, is_unjudged, strict_verdict}
@@ -29,9 +29,9 @@ use Rattle.tsp_verdict.specs.Routes.{StandsAgainstRoutes, IsPlanned, IsRoutesVer
 use Rattle.tsp_verdict.specs.Tours.{IsTourVerdict}
 use Rattle.tsp_verdict.specs.Plan.{plan_length, depot_of}
 use Rattle.tsp_report.specs.Report.{report_of}
-use Rattle.tsp_judge.specs.declared.fault.RunFault.{RunFault}
-use Rattle.tsp_judge.specs.declared.judging.Judged.{Judged}
-use Rattle.tsp_task.specs.Verdicts.{is_yes}
+use Rattle.tsp_judge.specs.declared.ends.RunFault.{RunFault}
+use Rattle.tsp_judge.specs.declared.check.Judged.{Judged}
+use Rattle.tsp_report.specs.Verdicts.{is_yes}
 use Rattle.tsp_judge.specs.CheckRun.{Given, EndsWithout, IsRun, acceptance}
 use Rattle.tsp_judge.proofs.OneValue.{one_value}
 use Rattle.tsp_judge.specs.Accepted.{IsAcceptedTour, AreOnlyRoutes, AreAcceptedRoutes, IsTourWithBound, AreRoutesWithBound, IsAccepted}

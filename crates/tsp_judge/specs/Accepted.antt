@@ -5,16 +5,16 @@ use Rattle.std.specs.Prelude.{◌≡◌, ◌⊎◌, ℕ, ◌≤◌, List, [], �
 use Rattle.tsp_format.specs.declared.kinds.Kind.{Kind}
 use Rattle.tsp_format.specs.declared.kinds.Kind.TheVariants as kinds
 use Rattle.tsp_format.specs.Nodes.{nodes_to}
-use Rattle.tsp_draft.specs.Fields.{Fields}
+use Rattle.tsp_file.specs.Fields.{Fields}
 use Rattle.tsp_theory.specs.Length.{sum_int_by, length_of}
 use Rattle.tsp_theory.specs.Routing.{RoutingProblem, IsPlan, plan_length, IsLeastRoutes}
 use Rattle.tsp_theory.specs.Tour.{Problem, IsTour, BoundsTours, HasNoTour}
 use Rattle.tsp_routing.specs.PlanLinks.{IsFilledPlan, BoundsPlans, HasNoPlan}
 use Rattle.tsp_cost.specs.Problems.{IsProblemOf, IsRoutingOf}
-use Rattle.tsp_task.specs.declared.certificate.Certificate.{Certificate}
-use Rattle.tsp_task.specs.declared.verdict.BoundVerdict.{BoundVerdict}
-use Rattle.tsp_task.specs.declared.verdict.BoundVerdict.TheVariants.{Bound, NoSolution, No}
-use Rattle.tsp_task.specs.declared.verdict.Verdict.TheVariants.{Tour, Routes}
+use Rattle.tsp_report.specs.declared.task.Certificate.{Certificate}
+use Rattle.tsp_report.specs.declared.verdict.BoundVerdict.{BoundVerdict}
+use Rattle.tsp_report.specs.declared.verdict.BoundVerdict.TheVariants.{Bound, NoSolution, No}
+use Rattle.tsp_report.specs.declared.verdict.Verdict.TheVariants.{Tour, Routes}
 use Rattle.tsp_verdict.specs.Certified.{kind_of, IsBoundOf}
 use Rattle.tsp_report.specs.Report.{report_of, bound_report_of}
 

@@ -1,20 +1,20 @@
 -- A run of `tsp bound`: the bytes that its two readers delivered, the report that was written, and the result. For
--- `run_bound` (src/bound.rt). `SaysBound` is what its line `yes` means. tsp_perform and tsp_c import this file too.
+-- `run_bound` (src/bound.rt). `SaysBound` is what its line `yes` means. tsp_judge and tsp_c import this file too.
 use Rattle.std.specs.Prelude.{◌≡◌, ◌⊎◌, ℕ, Bool, true, false, List, [], Result, Ok, Err, IsTrue}
-use Rattle.tsp_stream.specs.declared.output.WriteFault.TheVariants as write_faults
-use Rattle.tsp_stream.specs.Turn.{Turn, IsUnread}
-use Rattle.tsp_stream.specs.Sink.{Sink, IsUnwritten, HasWritten, HasStopped}
-use Rattle.tsp_draft.specs.Fields.{Fields}
+use Rattle.tsp_io.specs.declared.piece.WriteFault.TheVariants as write_faults
+use Rattle.tsp_io.specs.Turn.{Turn, IsUnread}
+use Rattle.tsp_io.specs.Sink.{Sink, IsUnwritten, HasWritten, HasStopped}
+use Rattle.tsp_file.specs.Fields.{Fields}
 use Rattle.tsp_read.specs.Reads.{IsFile, StopsAt}
-use Rattle.tsp_task.specs.declared.certificate.Certificate.{Certificate}
-use Rattle.tsp_task.specs.declared.verdict.BoundVerdict.{BoundVerdict}
-use Rattle.tsp_task.specs.Verdicts.{is_bound_yes}
+use Rattle.tsp_report.specs.declared.task.Certificate.{Certificate}
+use Rattle.tsp_report.specs.declared.verdict.BoundVerdict.{BoundVerdict}
+use Rattle.tsp_report.specs.Verdicts.{is_bound_yes}
 use Rattle.tsp_verdict.specs.Bounded.{NoneAgainstInstance}
 use Rattle.tsp_verdict.specs.Certified.{is_bounded, NoneWithoutMemory}
 use Rattle.tsp_verdict.specs.Strict.{IsBoundAsked}
 use Rattle.tsp_judge.specs.declared.bound.Bounded.{Bounded}
-use Rattle.tsp_judge.specs.declared.fault.RunFault.{RunFault}
-use Rattle.tsp_judge.specs.declared.fault.RunFault.TheVariants.{File, WrongKind, Write, OutOfMemory}
+use Rattle.tsp_judge.specs.declared.ends.RunFault.{RunFault}
+use Rattle.tsp_judge.specs.declared.ends.RunFault.TheVariants.{File, WrongKind, Write, OutOfMemory}
 use Rattle.tsp_judge.specs.Accepted.{IsAcceptedAlone}
 use Rattle.tsp_judge.specs.CheckRun.{IsSomeFile}
 use Rattle.tsp_report.specs.Report.{bound_report_of}

@@ -1,21 +1,21 @@
 -- A run of `tsp check`: the bytes that its readers delivered, the report that was written, and the result; with a
 -- certificate or without, with a claimed length or without, with unknown keywords as a reason or not. For `run`
--- (src/checked.rt) and the calls of src/asked_runs.rt.
+-- (src/check.rt) and the calls of src/asked_runs.rt.
 use Rattle.std.specs.Prelude.{◌≡◌, ℕ, ◌⊎◌, Bool, false, Option, None, Some, Result, Ok, Err, IsTrue, ℤ}
-use Rattle.tsp_stream.specs.declared.output.WriteFault.TheVariants as write_faults
-use Rattle.tsp_stream.specs.Turn.{Turn, IsUnread}
-use Rattle.tsp_stream.specs.Sink.{Sink, IsUnwritten, HasWritten, HasStopped}
-use Rattle.tsp_draft.specs.Fields.{Fields}
+use Rattle.tsp_io.specs.declared.piece.WriteFault.TheVariants as write_faults
+use Rattle.tsp_io.specs.Turn.{Turn, IsUnread}
+use Rattle.tsp_io.specs.Sink.{Sink, IsUnwritten, HasWritten, HasStopped}
+use Rattle.tsp_file.specs.Fields.{Fields}
 use Rattle.tsp_read.specs.declared.ReadFault.{ReadFault}
 use Rattle.tsp_read.specs.Reads.{IsFile, StopsAt}
-use Rattle.tsp_task.specs.declared.certificate.Certificate.{Certificate}
-use Rattle.tsp_task.specs.declared.verdict.Verdict.{Verdict}
-use Rattle.tsp_task.specs.Verdicts.{is_yes}
+use Rattle.tsp_report.specs.declared.task.Certificate.{Certificate}
+use Rattle.tsp_report.specs.declared.verdict.Verdict.{Verdict}
+use Rattle.tsp_report.specs.Verdicts.{is_yes}
 use Rattle.tsp_verdict.specs.SolutionVerdict.{is_judged, NoneBeforeRepeatsOn}
 use Rattle.tsp_verdict.specs.Strict.{IsVerdictAsked}
-use Rattle.tsp_judge.specs.declared.judging.Judged.{Judged}
-use Rattle.tsp_judge.specs.declared.fault.RunFault.{RunFault}
-use Rattle.tsp_judge.specs.declared.fault.RunFault.TheVariants.{File, WrongKind, Write, OutOfMemory}
+use Rattle.tsp_judge.specs.declared.check.Judged.{Judged}
+use Rattle.tsp_judge.specs.declared.ends.RunFault.{RunFault}
+use Rattle.tsp_judge.specs.declared.ends.RunFault.TheVariants.{File, WrongKind, Write, OutOfMemory}
 use Rattle.tsp_report.specs.Report.{report_of}
 
 -- ---- the files

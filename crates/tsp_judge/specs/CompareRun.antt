@@ -1,29 +1,29 @@
 -- A run of `tsp compare`: an instance and a certificate that are read once, solutions that are opened, judged and
 -- dropped one by one, the lines that were written, and the result. For `run_compare` (src/compared.rt) and `find`
--- (src/common.rt).
+-- (src/compared.rt).
 use Rattle.std.specs.Prelude.{◌≡◌, ◌≢◌, ◌⊎◌, ℕ, suc, ◌<◌, ◌≤◌, max, Bool, true, false, List, [], ◌∷◌, ◌++◌, length, Option, None, Some, Result, Ok, Err, IsTrue, slice_index_or}
 use Rattle.std.specs.declared.io.Error.{Error}
-use Rattle.tsp_stream.specs.declared.output.WriteFault.TheVariants as write_faults
-use Rattle.tsp_stream.specs.Turn.{Turn}
-use Rattle.tsp_stream.specs.Sink.{Sink, IsUnwritten, HasWritten, HasStopped}
-use Rattle.tsp_draft.specs.Fields.{Fields}
+use Rattle.tsp_io.specs.declared.piece.WriteFault.TheVariants as write_faults
+use Rattle.tsp_io.specs.Turn.{Turn}
+use Rattle.tsp_io.specs.Sink.{Sink, IsUnwritten, HasWritten, HasStopped}
+use Rattle.tsp_file.specs.Fields.{Fields}
 use Rattle.tsp_read.specs.declared.ReadFault.{ReadFault}
 use Rattle.tsp_read.specs.declared.ReadFault.TheVariants as read_faults
 use Rattle.tsp_read.specs.Asked.{HasReads}
 use Rattle.tsp_read.specs.Reads.{IsFile, StopsAt, most_taken}
 use Rattle.tsp_cost.specs.ProblemLaws.{IsProblem}
-use Rattle.tsp_task.specs.declared.certificate.Certificate.{Certificate}
-use Rattle.tsp_task.specs.declared.verdict.Verdict.{Verdict}
-use Rattle.tsp_task.specs.Verdicts.{is_yes, is_clear}
+use Rattle.tsp_report.specs.declared.task.Certificate.{Certificate}
+use Rattle.tsp_report.specs.declared.verdict.Verdict.{Verdict}
+use Rattle.tsp_report.specs.Verdicts.{is_yes, is_clear}
 use Rattle.tsp_verdict.specs.Basis.{NoneOfBasisWithoutMemory, HasBasis}
 use Rattle.tsp_verdict.specs.SolutionVerdict.{is_judged, NoneBeforeRepeatsOn, IsVerdictWith}
 use Rattle.tsp_verdict.specs.Strict.{IsBasisAsked}
-use Rattle.tsp_judge.specs.declared.common.Common.{Common}
-use Rattle.tsp_judge.specs.declared.common.Found.{Found}
-use Rattle.tsp_judge.specs.declared.common.Found.TheVariants as founds
+use Rattle.tsp_judge.specs.declared.compared.Common.{Common}
+use Rattle.tsp_judge.specs.declared.compared.Found.{Found}
+use Rattle.tsp_judge.specs.declared.compared.Found.TheVariants as founds
 use Rattle.tsp_judge.specs.declared.compared.Compared.{Compared}
-use Rattle.tsp_judge.specs.declared.fault.RunFault.{RunFault}
-use Rattle.tsp_judge.specs.declared.fault.RunFault.TheVariants.{File, WrongKind, Write, OutOfMemory}
+use Rattle.tsp_judge.specs.declared.ends.RunFault.{RunFault}
+use Rattle.tsp_judge.specs.declared.ends.RunFault.TheVariants.{File, WrongKind, Write, OutOfMemory}
 use Rattle.tsp_judge.specs.Accepted.{IsAccepted}
 use Rattle.tsp_judge.specs.CheckRun.{Given, IsUnreadIn, IsFileIn, IsSomeFile}
 use Rattle.tsp_judge.specs.Status.{status_of}

@@ -1,18 +1,18 @@
 -- A run of `tsp convert`: the bytes that its reader delivered, the canonical text that was written, and the result. For
--- `run_convert` (src/asked_runs.rt) and `convert_file` (src/convert.rt). tsp_perform and tsp_c import it too.
+-- `run_convert` (src/asked_runs.rt) and `convert_file` (src/bound.rt). tsp_judge and tsp_c import it too.
 use Rattle.std.specs.Prelude.{◌≡◌, Option, None, Some, Result, Ok, Err}
 use Rattle.tsp_format.specs.declared.layout.Layout.{Layout}
-use Rattle.tsp_stream.specs.declared.output.WriteFault.TheVariants as write_faults
-use Rattle.tsp_stream.specs.Turn.{Turn}
-use Rattle.tsp_stream.specs.Sink.{Sink, IsUnwritten, HasWritten, HasStopped}
-use Rattle.tsp_file.specs.declared.fault.RelayoutFault.{RelayoutFault}
-use Rattle.tsp_draft.specs.Fields.{Fields}
-use Rattle.tsp_draft.specs.Rules.{fault_of}
+use Rattle.tsp_io.specs.declared.piece.WriteFault.TheVariants as write_faults
+use Rattle.tsp_io.specs.Turn.{Turn}
+use Rattle.tsp_io.specs.Sink.{Sink, IsUnwritten, HasWritten, HasStopped}
+use Rattle.tsp_file.specs.declared.relayout.RelayoutFault.{RelayoutFault}
+use Rattle.tsp_file.specs.Fields.{Fields}
+use Rattle.tsp_file.specs.Rules.{fault_of}
 use Rattle.tsp_file.specs.Relayout.{IsRelaid, IsRefused}
 use Rattle.tsp_file.specs.CanonicalText.{text_of}
 use Rattle.tsp_read.specs.Reads.{IsFile, StopsAt}
-use Rattle.tsp_judge.specs.declared.fault.RunFault.{RunFault}
-use Rattle.tsp_judge.specs.declared.fault.RunFault.TheVariants.{File, Write, Relayout}
+use Rattle.tsp_judge.specs.declared.ends.RunFault.{RunFault}
+use Rattle.tsp_judge.specs.declared.ends.RunFault.TheVariants.{File, Write, Relayout}
 
 -- The file in the wanted layout, or why it can't have it. Where no layout is wanted, it stays as it is.
 abbrev pub Becomes : Option Layout → Fields → Result Fields RelayoutFault → Type 0

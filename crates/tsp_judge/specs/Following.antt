@@ -1,10 +1,10 @@
 -- Which lines of a comparison its follower gets while they are written. For `run_compare` (src/compared.rt), and for
--- `compare` (src/outcome.rt of tsp_perform).
+-- `compare` (src/explained.rt of tsp_judge).
 use Rattle.std.specs.Prelude.{◌≡◌, ℕ, zero, suc, ◌-◌, ◌≤◌, Bool, true, false, Result, Ok, Err}
-use Rattle.tsp_task.specs.Verdicts.{is_clear}
+use Rattle.tsp_report.specs.Verdicts.{is_clear}
 use Rattle.tsp_judge.specs.declared.compared.Compared.{Compared}
-use Rattle.tsp_judge.specs.declared.fault.RunFault.{RunFault}
-use Rattle.tsp_judge.specs.declared.fault.RunFault.TheVariants.{Write, OutOfMemory}
+use Rattle.tsp_judge.specs.declared.ends.RunFault.{RunFault}
+use Rattle.tsp_judge.specs.declared.ends.RunFault.TheVariants.{Write, OutOfMemory}
 
 -- of the first lines, as many as this, each once and in their order
 abbrev pub AreReported : {E : Type 0} → (ℕ → E → E → Type 0) → ℕ → E → E → Type 0

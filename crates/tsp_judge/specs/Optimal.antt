@@ -1,7 +1,7 @@
 -- The meaning of the length and the bound on a line of `tsp compare`. For the law `lines_of_bounded_tours`
--- (src/compare_laws.rt).
+-- (src/laws.rt).
 use Rattle.std.specs.Prelude.{◌≡◌, ℕ, List, [], ◌∷◌, Some, ℤ, ◌≤ℤ◌}
-use Rattle.tsp_draft.specs.Fields.{Fields}
+use Rattle.tsp_file.specs.Fields.{Fields}
 use Rattle.tsp_theory.specs.Length.{length_of}
 use Rattle.tsp_theory.specs.Tour.{Problem, IsTour}
 use Rattle.tsp_cost.specs.Problems.{IsProblemOf}

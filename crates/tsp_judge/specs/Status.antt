@@ -1,14 +1,14 @@
--- The exit status of a run, by its result. For `status_of` (src/status.rt), `status_of_run_end` of tsp_run, and the
+-- The exit status of a run, by its result. For `status_of` (src/ends.rt), `status_of_run_end` of tsp_cli, and the
 -- results of the calls of tsp_c.
 use Rattle.std.specs.Prelude.{ℕ, Bool, true, false, Result, Ok, Err}
 use Rattle.tsp_read.specs.declared.ReadFault.TheVariants as read_faults
-use Rattle.tsp_stream.specs.declared.output.WriteFault.TheVariants as write_faults
-use Rattle.tsp_file.specs.declared.fault.RelayoutFault.TheVariants as relayout_faults
-use Rattle.tsp_judge.specs.declared.fault.RunFault.{RunFault}
-use Rattle.tsp_judge.specs.declared.fault.RunFault.TheVariants.{File, Write, WrongKind, Relayout}
-use Rattle.tsp_judge.specs.declared.fault.RunFault.TheVariants as run_faults
-use Rattle.tsp_judge.specs.declared.status.Status.{Status}
-use Rattle.tsp_judge.specs.declared.status.Status.TheVariants as statuses
+use Rattle.tsp_io.specs.declared.piece.WriteFault.TheVariants as write_faults
+use Rattle.tsp_file.specs.declared.relayout.RelayoutFault.TheVariants as relayout_faults
+use Rattle.tsp_judge.specs.declared.ends.RunFault.{RunFault}
+use Rattle.tsp_judge.specs.declared.ends.RunFault.TheVariants.{File, Write, WrongKind, Relayout}
+use Rattle.tsp_judge.specs.declared.ends.RunFault.TheVariants as run_faults
+use Rattle.tsp_judge.specs.declared.ends.Status.{Status}
+use Rattle.tsp_judge.specs.declared.ends.Status.TheVariants as statuses
 
 -- the number of a status
 abbrev pub status_number : Status → ℕ

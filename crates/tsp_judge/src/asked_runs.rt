@@ -1,28 +1,27 @@
 //! Public calls that check, show or convert, as example_check does. Each is a case of the run of a
-//! verb, such as `run` in `src/checked.rt`, and returns its fault without the token of a refusal.
+//! verb, such as `run` in `src/check.rt`, and returns its fault without the token of a refusal.
 
-ghost use Rattle.std.specs.Prelude.{◌≡◌};
-ghost use Rattle.tsp_stream.specs.states.Watched.{sink_of, turn_of};
-ghost use Rattle.tsp_stream.specs.Turn.{TakesAtMost};
+ghost use Rattle.std.specs.Prelude.{◌≡◌, None, length};
+ghost use Rattle.tsp_io.specs.Turn.{TakesAtMost};
+ghost use Rattle.tsp_io.specs.states.Watched.{sink_of, turn_of};
 ghost use Rattle.tsp_read.specs.Asked.{IsReadOn};
 ghost use Rattle.tsp_read.specs.Reads.{most_taken};
-ghost use Rattle.tsp_task.specs.declared.certificate.Certificate.TheVariants as certificates;
+ghost use Rattle.tsp_report.specs.declared.task.Certificate.TheVariants as certificates;
 ghost use Rattle.tsp_judge.specs.CheckRun.{acceptance};
+ghost use Rattle.tsp_judge.specs.CompareRun.{IsCompareRun};
 ghost use Rattle.tsp_judge.specs.ConvertRun.{IsConvertRun};
+ghost use Rattle.tsp_judge.specs.Following.{IsFollowed};
 ghost use Rattle.tsp_judge.specs.ShowRun.{IsShowRun};
-ghost use Rattle.tsp_judge.specs.Yes.{IsCheck, IsCheckBy};
+ghost use Rattle.tsp_judge.specs.Yes.{IsCheck, IsCheckBy, IsRunOf};
 
-use crate::checked::run;
-use crate::convert::convert_file;
-use crate::fault::RunFault;
-use crate::judging::Judged;
-use crate::run_error::RunError;
-use crate::show::show_file;
-use crate::uncertified::run_uncertified;
+use crate::bound::{convert_file, show_file};
+use crate::check::{Judged, judge_read, read_file, run};
+use crate::compared::{Compared, Follow, Solutions, compare_read};
+use crate::ends::{RunError, RunFault};
 use std::alloc::Global;
 use std::io::Write;
 use tsp_format::Layout;
-use tsp_stream::{Gives, Watched};
+use tsp_io::{Gives, Watched};
 use tsp_verdict::Certificate;
 
 /// Judges a solution of an instance, and writes the report.
@@ -183,4 +182,54 @@ fn acceptance(ended: Result<Judged, RunError>) -> Result<bool, RunFault>
     let answer = judged.verdict.is_yes();
     drop(judged);
     Ok(answer)
+}
+
+// ---- the runs of `tsp check` and `tsp compare` that have no reader for a certificate
+
+/// Judges a solution of an instance, writes the report, and returns the verdict, with the files
+/// that were read: `run` without a certificate.
+///
+/// # Errors
+///
+/// Those of `run`.
+pub fn run_uncertified<I: Gives, S: Gives, W: Write>(
+    alloc: Global,
+    inst: &mut Watched<I>,
+    sol: &mut Watched<S>,
+    claimed: Option<i64>,
+    strict: bool,
+    out: &mut Watched<W>,
+) -> Result<Judged, RunError>
+    ensures answer { TakesAtMost most_taken (turn_of I.remaining inst.old inst.new) (λ first.
+        TakesAtMost most_taken (turn_of S.remaining sol.old sol.new) (λ second.
+        IsRunOf None claimed strict first second (sink_of W.contents out.old out.new) result)) }
+    ensures asked { IsReadOn I.gives inst.old inst.new × IsReadOn S.gives sol.old sol.new }
+{
+    let instance = read_file(alloc, 1, inst)?;
+    let solution = read_file(alloc, 2, sol)?;
+    judge_read(alloc, instance, solution, None, claimed, strict, out)
+}
+
+/// Judges solutions of an instance, writes a line for each, and returns the largest of their
+/// statuses: `run_compare` without a certificate.
+///
+/// # Errors
+///
+/// Those of `run_compare`.
+pub fn run_compare_uncertified<I: Gives, R: Gives + Drop, E, S: Solutions<R> + Follow<E>, W: Write>(
+    alloc: Global,
+    inst: &mut Watched<I>,
+    solutions: &S,
+    strict: bool,
+    out: &mut Watched<W>,
+    to: &mut E,
+) -> Result<Compared, RunError>
+    ensures text { TakesAtMost most_taken (turn_of I.remaining inst.old inst.new) (λ first.
+        IsCompareRun strict R.remaining R.gives (S.opens solutions.now) (S.names solutions.now) None first
+        (sink_of W.contents out.old out.new) result) }
+    ensures asked { IsReadOn I.gives inst.old inst.new }
+    ensures reported { IsFollowed (S.tells solutions.now) (length (S.names solutions.now)) to.old to.new result }
+{
+    let instance = read_file(alloc, 1, inst)?;
+    compare_read(alloc, instance, None, solutions, strict, out, to)
 }

@@ -1,31 +1,29 @@
 //! The run of `tsp compare`, from the bytes read to the bytes written: each solution is read,
-//! judged, and dropped. For `src/outcome.rt` of tsp_perform.
+//! judged, and dropped. For `src/explained.rt` of tsp_judge.
 
-ghost use Rattle.std.specs.Prelude.{◌≡◌, ◌<◌, max, false, true, [], length, None};
-ghost use Rattle.tsp_stream.specs.states.Watched.{has_failed, sink_of, turn_of};
-ghost use Rattle.tsp_stream.specs.Turn.{Turn, IsUnread, TakesAtMost};
+ghost use Rattle.std.specs.Prelude.{◌≡◌, ◌<◌, max, false, true, [], length, None, MatchResult, ℕ, List, slice_index_or};
+ghost use Rattle.tsp_io.specs.Turn.{Turn, IsUnread, TakesAtMost};
+ghost use Rattle.tsp_io.specs.states.Watched.{has_failed, sink_of, turn_of};
 ghost use Rattle.tsp_read.specs.Asked.{IsReadOn};
 ghost use Rattle.tsp_read.specs.Reads.{IsFile, most_taken};
 ghost use Rattle.tsp_cost.specs.ProblemLaws.{IsProblem};
-ghost use Rattle.tsp_task.specs.Verdicts.{is_clear};
 ghost use Rattle.tsp_verdict.specs.Basis.{IsBasis};
+ghost use Rattle.tsp_verdict.specs.Strict.{IsBasisAsked};
+ghost use Rattle.tsp_report.specs.Verdicts.{is_clear};
 ghost use Rattle.tsp_judge.specs.CheckRun.{Given, given_by, IsFileIn};
-ghost use Rattle.tsp_judge.specs.CompareRun.{IsTurnAt, ComparesOne, ComparesAll, ComparesBy, IsCompareRun};
+ghost use Rattle.tsp_judge.specs.CompareRun.{IsTurnAt, ComparesOne, ComparesAll, ComparesBy, IsCompareRun, LacksBasis, Finds, result_of, status_of_found};
 ghost use Rattle.tsp_judge.specs.Following.{IsFollowedBy, IsFollowed};
 
-use crate::checked::read_certificate;
-use crate::common::{Common, Found, common_of, find, status_of_found};
-use crate::run_error::RunError;
-use crate::run_file::read_file;
-use crate::solutions::{Follow, Solutions};
-use crate::status::Status;
+use crate::check::{is_judged, lent, read_certificate, read_file};
+use crate::ends::{RunError, RunFault, Status, status_of};
 use std::alloc::Global;
 use std::io::Write;
 use tsp_cost::Instance;
 use tsp_file::File;
+use tsp_io::{Gives, Watched};
+use tsp_read::{ReadFault, file_of_reader};
 use tsp_report::{write_head, write_line};
-use tsp_stream::{Gives, Watched};
-use tsp_verdict::Certificate;
+use tsp_verdict::{Basis, Certificate, Verdict, judge_basis, judge_next, strict_basis};
 
 /// What a comparison came to.
 #[derive(Drop)]
@@ -183,4 +181,145 @@ fn compare_one<R: Gives + Drop, S: Solutions<R>, W: Write>(
         Ok(()) => Ok(found),
         Err(fault) => Err(RunError::unwritten(fault)),
     }
+}
+
+// ---- what all solutions of a comparison are judged by
+
+/// The files that all solutions of a comparison are judged by, and the basis that these give.
+#[derive(Drop)]
+pub struct Common {
+    /// What all of them have in common, found before any is read: the bound of the certificate, the
+    /// least number of routes, or the reason for which none is opened.
+    pub basis: Basis,
+    /// The first file.
+    pub instance: Instance,
+    /// The second file, where a certificate was asked for.
+    pub certificate: Option<(Certificate, File)>,
+}
+
+/// The verdict on one solution, or the fault of its file.
+#[derive(Drop)]
+pub enum Found {
+    /// It is a file, and this is the verdict on it.
+    Solution { verdict: Verdict, solution: File },
+    /// It is none, or can't be read.
+    Fault(ReadFault),
+}
+
+impl Found {
+    /// The verdict on the solution, or the fault of its file.
+    pub(crate) fn result(&self) -> Result<Verdict, ReadFault>
+        ensures { result ≡ result_of self.now }
+    {
+        match self {
+            Found::Solution { verdict, .. } => Ok(*verdict),
+            Found::Fault(fault) => Err(*fault),
+        }
+    }
+}
+
+/// The exit status of what is found of a solution: that of a check of it.
+fn status_of_found(found: Result<Verdict, ReadFault>) -> u8
+    ensures { result ≡ status_of_found found }
+{
+    match found {
+        Ok(verdict) => status_of(&Ok(verdict.is_yes())),
+        Err(fault) => status_of(&Err(RunFault::File { file: 2, fault })),
+    }
+}
+
+/// Judges an instance and a certificate for all solutions. With `strict`, unknown keywords of the
+/// instance are a reason against all of them.
+///
+/// # Errors
+///
+/// `WrongKind` where the solutions aren't judged so, and `OutOfMemory`.
+fn common_of(
+    alloc: Global,
+    instance: Instance,
+    certificate: Option<(Certificate, File)>,
+    strict: bool,
+) -> Result<Common, RunError>
+    ensures { MatchResult result
+        (λ common. (common.instance ≡ instance) × (common.certificate ≡ certificate)
+        × IsBasisAsked strict common.certificate common.instance common.basis)
+        (λ fault. LacksBasis certificate instance fault) }
+{
+    if !is_judged(&certificate, &instance) {
+        return Err(RunError::wrong_kind());
+    }
+    match judge_basis(alloc, &instance, lent(&certificate)) {
+        Ok(plain) => Ok(Common {
+            basis: strict_basis(strict, &instance, plain),
+            instance,
+            certificate,
+        }),
+        Err(refused) => Err(RunError::refused(refused)),
+    }
+}
+
+/// Reads a solution, and judges it.
+///
+/// # Errors
+///
+/// `OutOfMemory`, to read it or to judge it.
+fn find<R: Gives>(
+    alloc: Global,
+    common: &Common,
+    reader: &mut Watched<R>,
+) -> Result<Found, RunError>
+    requires basis { IsBasis common.now.certificate common.now.instance common.now.basis }
+    requires problem { IsProblem common.now.instance }
+    ensures found { TakesAtMost most_taken (turn_of R.remaining reader.old reader.new) (λ turn. Finds common.now turn result) }
+    ensures asked { IsReadOn R.gives reader.old reader.new }
+{
+    let solution = match file_of_reader(alloc, reader) {
+        Ok(solution) => solution,
+        Err(unread) => {
+            return match unread.fault() {
+                ReadFault::OutOfMemory => Err(RunError::unread_solution(unread)),
+                fault => Ok(Found::Fault(fault)),
+            };
+        }
+    };
+    match judge_next(alloc, &common.instance, common.basis, &solution, None) {
+        Ok(verdict) => Ok(Found::Solution { verdict, solution }),
+        Err(refused) => Err(RunError::refused(refused)),
+    }
+}
+
+// ---- the traits of the solutions of a comparison and of who explains its lines
+
+/// The solutions of a comparison, each of which is opened when it is to be read.
+pub trait Solutions<R> {
+    /// The path of each, in order, as it is printed.
+    ghost names: { Self → List (List ℕ) };
+
+    /// Whether this is what opening the solution at a place may give.
+    ghost opens: { Self → ℕ → R → Type 0 };
+
+    /// How many there are.
+    fn count(&self) -> usize
+        ensures { result ≡ length (names self.now) };
+
+    /// The path of the solution at a place, counted from 0.
+    fn name(&self, index: usize) -> &[u8]
+        requires { index < length (names self.now) }
+        ensures { result.now ≡ slice_index_or (names self.now) index [] };
+
+    /// The solution at a place, opened to be read.
+    fn open(&self, index: usize) -> R
+        requires { index < length (names self.now) }
+        ensures { opens self.now index result };
+}
+
+/// Who follows a comparison, line by line, and tells of it: to explain a line, or to show how far
+/// it has come. It tells an `E`.
+pub trait Follow<E> {
+    /// What telling of the line of the solution at a place, counted from 0, may do to an `E`.
+    ghost tells: { Self → ℕ → E → E → Type 0 };
+
+    /// Tells of the line of the solution at a place, counted from 0, which was written.
+    fn written(&self, to: &mut E, common: &Common, index: usize, found: &Found)
+        ensures { tells self.now index to.old to.new };
 }

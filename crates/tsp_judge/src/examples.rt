@@ -1,28 +1,112 @@
-//! Laws that state values of the definitions in `specs/`, worked out by hand: which verdicts are
-//! accepted, numbers of statuses, the kinds of certificates, texts of faults, and which file a
-//! fault is of.
+//! Laws that state values of the definitions in `specs/`, worked out by hand: the exit status of a
+//! comparison, its lines, and which file a fault is of.
 
-ghost use Rattle.std.specs.Prelude.{◌≡◌, ◌++◌, Bool, true, false, Option, None, Some, Err, ℤ, pos, codes, decimal};
+ghost use Rattle.std.specs.Prelude.{◌≡◌, ℕ, List, [], ◌∷◌, true, false, None, Some, Ok, Err, pos, codes, ◌++◌, Bool, Option, ℤ, decimal, Result};
 ghost use Rattle.tsp_format.specs.declared.kinds.Kind.TheVariants as kinds;
-ghost use Rattle.tsp_task.specs.declared.verdict.Reason.TheVariants as reasons;
-ghost use Rattle.tsp_task.specs.declared.verdict.Verdict.TheVariants as verdicts;
-ghost use Rattle.tsp_task.specs.declared.certificate.Certificate.TheVariants as certificates;
-ghost use Rattle.tsp_task.specs.declared.certificate.Certificate.{Certificate};
+ghost use Rattle.tsp_format.specs.declared.layout.Layout.{Layout};
+ghost use Rattle.tsp_io.specs.Sink.{Sink, HasWritten, IsUnwritten};
+ghost use Rattle.tsp_io.specs.Turn.{Turn, IsUnread};
+ghost use Rattle.tsp_io.specs.declared.piece.WriteFault.TheVariants as write_faults;
+ghost use Rattle.tsp_file.specs.Fields.{Fields};
+ghost use Rattle.tsp_file.specs.declared.relayout.RelayoutFault.{RelayoutFault};
+ghost use Rattle.tsp_file.specs.declared.relayout.RelayoutFault.TheVariants as relayout_faults;
+ghost use Rattle.tsp_read.specs.Asked.{IsReadOn};
+ghost use Rattle.tsp_read.specs.Reads.{StopsAt};
 ghost use Rattle.tsp_read.specs.declared.ReadFault.{ReadFault};
 ghost use Rattle.tsp_read.specs.declared.ReadFault.TheVariants as read_faults;
-ghost use Rattle.tsp_read.specs.Reads.{StopsAt};
-ghost use Rattle.tsp_stream.specs.Turn.{Turn, IsUnread};
-ghost use Rattle.tsp_stream.specs.Sink.{Sink, IsUnwritten};
-ghost use Rattle.tsp_stream.specs.declared.output.WriteFault.TheVariants as write_faults;
-ghost use Rattle.tsp_file.specs.declared.fault.RelayoutFault.TheVariants as relayout_faults;
-ghost use Rattle.tsp_judge.specs.declared.fault.RunFault.TheVariants as run_faults;
-ghost use Rattle.tsp_judge.specs.declared.status.Status.TheVariants as statuses;
-ghost use Rattle.tsp_judge.specs.RunFaultText.{run_fault_text};
-ghost use Rattle.tsp_judge.specs.Status.{status_number};
-ghost use Rattle.tsp_task.specs.Verdicts.{is_yes};
-ghost use Rattle.tsp_judge.specs.CheckRun.{Given, IsUnreadIn, IsRun, IsSomeFile};
-ghost use Rattle.tsp_judge.specs.BoundRun.{IsBoundRun};
 ghost use Rattle.tsp_verdict.specs.Certified.{kind_of, is_bounded};
+ghost use Rattle.tsp_verdict.specs.Examples.{instance_with};
+ghost use Rattle.tsp_report.specs.Verdicts.{is_bound_yes, is_clear, is_yes};
+ghost use Rattle.tsp_report.specs.declared.task.Certificate.{Certificate};
+ghost use Rattle.tsp_report.specs.declared.task.Certificate.TheVariants as certificates;
+ghost use Rattle.tsp_report.specs.declared.task.Comparison.{Comparison};
+ghost use Rattle.tsp_report.specs.declared.task.FileTask.TheVariants as file_tasks;
+ghost use Rattle.tsp_report.specs.declared.verdict.Basis.TheVariants as bases;
+ghost use Rattle.tsp_report.specs.declared.verdict.BoundVerdict.TheVariants as bounds;
+ghost use Rattle.tsp_report.specs.declared.verdict.Reason.{Reason};
+ghost use Rattle.tsp_report.specs.declared.verdict.Reason.TheVariants as reasons;
+ghost use Rattle.tsp_report.specs.declared.verdict.Verdict.TheVariants as verdicts;
+ghost use Rattle.tsp_judge.specs.BoundRun.{IsBoundRun, BoundsFiles, IsBoundRunOf};
+ghost use Rattle.tsp_judge.specs.CheckRun.{Given, IsUnreadIn, IsSomeFile, IsRun, JudgesFiles};
+ghost use Rattle.tsp_judge.specs.CompareRun.{ComparesNone, IsFaultOfCompare, IsTurnAt, largest_status, all_solution_lines};
+ghost use Rattle.tsp_judge.specs.ConvertRun.{IsConvertRun};
+ghost use Rattle.tsp_judge.specs.Outcomes.{AreComparedOn, AreReadOn, IsCompared, IsDone, is_yes_outcome, outcome_of_bound, outcome_of_check};
+ghost use Rattle.tsp_read.specs.Reads.{most_taken};
+ghost use Rattle.tsp_judge.specs.RunFaultText.{run_fault_text};
+ghost use Rattle.tsp_judge.specs.ShowRun.{IsShowRun};
+ghost use Rattle.tsp_judge.specs.Status.{status_number};
+ghost use Rattle.tsp_io.specs.Turn.{TakesAtMost};
+ghost use Rattle.tsp_io.specs.states.Watched.{turn_of};
+ghost use Rattle.tsp_judge.specs.Yes.{IsRunOf};
+ghost use Rattle.tsp_io.specs.declared.watched.Watched.{Watched};
+ghost use Rattle.tsp_judge.specs.declared.bound.Bounded.{Bounded};
+ghost use Rattle.tsp_judge.specs.declared.check.Judged.{Judged};
+ghost use Rattle.tsp_judge.specs.declared.ends.RunFault.{RunFault};
+ghost use Rattle.tsp_judge.specs.declared.ends.RunFault.TheVariants as run_faults;
+ghost use Rattle.tsp_judge.specs.declared.ends.Status.TheVariants as statuses;
+ghost use Rattle.tsp_judge.specs.declared.explained.Outcome.{Outcome};
+ghost use Rattle.tsp_judge.specs.declared.explained.Outcome.TheVariants as outcomes;
+
+use std::io::Read;
+use tsp_io::Gives;
+
+/// The largest status of the solutions, whichever comes first.
+pub fn examples_of_largest_statuses()
+    ensures none { largest_status [] ≡ 0 }
+    ensures yes { largest_status (Ok (verdicts.Tour (pos 14) None) ∷ Ok (verdicts.Routes (pos 20) 3 2 None) ∷ []) ≡ 0 }
+    ensures no { largest_status (Ok (verdicts.No reasons.TourCount) ∷ Ok (verdicts.Tour (pos 14) None) ∷ []) ≡ 1 }
+    ensures fault { largest_status (Ok (verdicts.No reasons.TourCount) ∷ Err read_faults.TooLong ∷ []) ≡ 2 }
+    ensures device { largest_status (Err read_faults.Device ∷ Err read_faults.TooLong ∷ []) ≡ 5 }
+{}
+
+/// Which verdicts accept, and after which bases solutions are judged one by one: all but a reason,
+/// which ends the text, and the status is 1 then.
+pub fn examples_of_bases()
+    ensures tour { is_yes (verdicts.Tour (pos 14) None) ≡ true }
+    ensures routes { is_yes (verdicts.Routes (pos 20) 3 2 None) ≡ true }
+    ensures rejected { is_yes (verdicts.No reasons.TourCount) ≡ false }
+    ensures bounded { is_bound_yes (bounds.Bound (pos 12)) ≡ true }
+    ensures without_tours { is_bound_yes bounds.NoSolution ≡ true }
+    ensures unbounded { is_bound_yes (bounds.No reasons.TooFewNodes) ≡ false }
+    ensures clear { is_clear (bases.Tours None) ≡ true }
+    ensures clear_by_a_bound { is_clear (bases.Tours (Some (pos 12))) ≡ true }
+    ensures clear_without_tours { is_clear bases.NoSolution ≡ true }
+    ensures clear_for_routes { is_clear (bases.Routes 2 None) ≡ true }
+    ensures reason { is_clear (bases.No reasons.TooFewNodes) ≡ false }
+    ensures status { (head : List ℕ) (sink : Sink) → HasWritten sink head → ComparesNone head sink (Ok 1) }
+    ensures no_other_status { (head : List ℕ) (sink : Sink) → ¬ ComparesNone head sink (Ok 2) }
+{}
+
+/// Lines in the order of the solutions, each with its own path, and whole lines of the first ones
+/// alone.
+pub fn examples_of_lines_of_solutions()
+    ensures none { all_solution_lines [] (codes "a" ∷ []) ≡ [] }
+    ensures first { all_solution_lines (Ok (verdicts.No reasons.TourCount) ∷ []) (codes "a" ∷ codes "b" ∷ [])
+        ≡ codes "no TourCount a\n" }
+    ensures both { all_solution_lines (Ok (verdicts.No reasons.TourCount) ∷ Err read_faults.Device ∷ [])
+        (codes "a" ∷ codes "b" ∷ []) ≡ codes "no TourCount a\ndevice b\n" }
+{}
+
+/// Which file a fault is of: the first that is none. The certificate is the second one.
+pub fn examples_of_faulty_files_of_comparisons()
+    ensures first { (given : Given) (fault : ReadFault) (first : Turn) → StopsAt fault first → IsUnreadIn given
+        → IsFaultOfCompare given first 1 fault }
+    ensures second { (by : Certificate) (fault : ReadFault) (first second : Turn) → IsSomeFile first
+        → StopsAt fault second → IsFaultOfCompare (Some (by, second)) first 2 fault }
+    ensures no_second { (fault : ReadFault) (first : Turn) → ¬ IsFaultOfCompare None first 2 fault }
+    ensures no_third { (given : Given) (fault : ReadFault) (first : Turn) → ¬ IsFaultOfCompare given first 3 fault }
+{}
+
+/// Each solution is read from the reader that is opened for its place. Here that of place k holds
+/// the byte k.
+pub fn examples_of_opened_solutions()
+    ensures first { (turn : Turn)
+        → IsTurnAt (λ reader. Some (reader ∷ [])) (λ reader room given left after. reader ≡ after)
+        (λ place reader. reader ≡ place) 0 turn → turn.known ≡ Some (0 ∷ []) }
+    ensures second { (turn : Turn)
+        → IsTurnAt (λ reader. Some (reader ∷ [])) (λ reader room given left after. reader ≡ after)
+        (λ place reader. reader ≡ place) 1 turn → turn.known ≡ Some (1 ∷ []) }
+{}
 
 /// Which verdicts are accepted.
 pub fn examples_of_answers()
@@ -98,4 +182,117 @@ pub fn examples_of_faulty_files_of_bounds()
         → IsSomeFile first → StopsAt fault second → IsBoundRun by strict first second sink (Err (run_faults.File 2 fault)) }
     ensures no_third { (by : Certificate) (strict : Bool) (fault : ReadFault) (first second : Turn) (sink : Sink)
         → ¬ IsBoundRun by strict first second sink (Err (run_faults.File 3 fault)) }
+{}
+
+/// A fault of the one file of `show` and of `convert` is of file 1, and no kind is wrong there.
+pub fn examples_of_runs_over_one_file()
+    ensures shown { (fault : ReadFault) (turn : Turn) (sink : Sink) → StopsAt fault turn → IsUnwritten sink
+        → IsShowRun turn sink (Err (run_faults.File 1 fault)) }
+    ensures shown_second { (fault : ReadFault) (turn : Turn) (sink : Sink)
+        → ¬ IsShowRun turn sink (Err (run_faults.File 2 fault)) }
+    ensures shown_kind { (turn : Turn) (sink : Sink) → ¬ IsShowRun turn sink (Err run_faults.WrongKind) }
+    ensures converted { (to : Option Layout) (fault : ReadFault) (turn : Turn) (sink : Sink) → StopsAt fault turn
+        → IsUnwritten sink → IsConvertRun to turn sink (Err (run_faults.File 1 fault)) }
+    ensures converted_second { (to : Option Layout) (fault : ReadFault) (turn : Turn) (sink : Sink)
+        → ¬ IsConvertRun to turn sink (Err (run_faults.File 2 fault)) }
+    ensures converted_kind { (to : Option Layout) (turn : Turn) (sink : Sink)
+        → ¬ IsConvertRun to turn sink (Err run_faults.WrongKind) }
+{}
+
+/// A first file that can't be judged is of the wrong kind, which is no reason of a line `no`. One
+/// that can be judged isn't.
+pub fn examples_of_wrong_kinds()
+    ensures tours { (claimed : Option ℤ) (strict : Bool) (solution : Fields) (sink : Sink) → IsUnwritten sink
+        → JudgesFiles None claimed strict (instance_with kinds.Tour 4 []) solution sink (Err run_faults.WrongKind) }
+    ensures tours_are_no_no { (claimed : Option ℤ) (strict : Bool) (solution : Fields) (sink : Sink) (reason : Reason)
+        → ¬ JudgesFiles None claimed strict (instance_with kinds.Tour 4 []) solution sink (Ok (verdicts.No reason)) }
+    ensures routes { (claimed : Option ℤ) (strict : Bool) (solution certificate : Fields) (sink : Sink) → IsUnwritten sink
+        → JudgesFiles (Some (certificates.Potentials, certificate)) claimed strict (instance_with kinds.Cvrp 4 []) solution sink (Err run_faults.WrongKind) }
+    ensures routes_are_no_no { (claimed : Option ℤ) (strict : Bool) (solution certificate : Fields) (sink : Sink)
+        (reason : Reason)
+        → ¬ JudgesFiles (Some (certificates.Potentials, certificate)) claimed strict (instance_with kinds.Cvrp 4 []) solution sink (Ok (verdicts.No reason)) }
+    ensures instance { (claimed : Option ℤ) (strict : Bool) (solution : Fields) (sink : Sink)
+        → ¬ JudgesFiles None claimed strict (instance_with kinds.Cvrp 4 []) solution sink (Err run_faults.WrongKind) }
+    ensures branches_of_routes { (claimed : Option ℤ) (strict : Bool) (solution certificate : Fields) (sink : Sink)
+        → ¬ JudgesFiles (Some (certificates.Branches, certificate)) claimed strict (instance_with kinds.Cvrp 4 []) solution sink (Err run_faults.WrongKind) }
+    ensures bound_by_branches { (strict : Bool) (certificate : Fields) (sink : Sink)
+        → ¬ BoundsFiles certificates.Branches strict (instance_with kinds.Cvrp 4 []) certificate sink (Err run_faults.WrongKind) }
+    ensures bound_of_routes { (strict : Bool) (certificate : Fields) (sink : Sink) → IsUnwritten sink
+        → BoundsFiles certificates.Potentials strict (instance_with kinds.Cvrp 4 []) certificate sink (Err run_faults.WrongKind) }
+    ensures bound_is_no_no { (strict : Bool) (certificate : Fields) (sink : Sink) (reason : Reason)
+        → ¬ BoundsFiles certificates.Potentials strict (instance_with kinds.Cvrp 4 []) certificate sink (Ok (bounds.No reason)) }
+{}
+
+/// A solution that is rejected, or an instance or certificate without a bound, is no accepted one.
+pub fn examples_of_outcomes()
+    ensures done { is_yes_outcome outcomes.Done ≡ true }
+    ensures accepted { (judged : Judged) (length : ℤ) → judged.verdict ≡ verdicts.Tour length None
+        → is_yes_outcome (outcomes.Judged judged) ≡ true }
+    ensures rejected { (judged : Judged) (reason : Reason) → judged.verdict ≡ verdicts.No reason
+        → is_yes_outcome (outcomes.Judged judged) ≡ false }
+    ensures bounded { (bounded : Bounded) (bound : ℤ) → bounded.found ≡ bounds.Bound bound
+        → is_yes_outcome (outcomes.Bounded bounded) ≡ true }
+    ensures refused { (bounded : Bounded) (reason : Reason) → bounded.found ≡ bounds.No reason
+        → is_yes_outcome (outcomes.Bounded bounded) ≡ false }
+{}
+
+/// A check that is done is a run with the claim and the certificate of its task, and a bound one by
+/// its certificate.
+pub fn examples_of_done_tasks<R: Read>()
+    ensures claimed { (instance solution instance_left solution_left : Watched R) (claimed : Option ℤ) (strict : Bool) (sink : Sink)
+        (outcome : Result Outcome RunFault)
+        → IsDone R.remaining (file_tasks.Check instance solution None claimed strict)
+        (file_tasks.Check instance_left solution_left None claimed strict) sink outcome
+        → (first second : Turn) × (ended : Result Judged RunFault) × (outcome ≡ outcome_of_check ended)
+        × IsRunOf None claimed strict first second sink ended }
+    ensures certified { (by : Certificate) (instance solution certificate instance_left solution_left certificate_left : Watched R)
+        (claimed : Option ℤ) (strict : Bool) (sink : Sink) (outcome : Result Outcome RunFault)
+        → IsDone R.remaining (file_tasks.Check instance solution (Some (by, certificate)) claimed strict)
+        (file_tasks.Check instance_left solution_left (Some (by, certificate_left)) claimed strict) sink outcome
+        → (first second third : Turn) × (ended : Result Judged RunFault) × (outcome ≡ outcome_of_check ended)
+        × IsRunOf (Some (by, third)) claimed strict first second sink ended }
+    ensures bounded { (by : Certificate) (instance certificate instance_left certificate_left : Watched R) (strict : Bool) (sink : Sink)
+        (outcome : Result Outcome RunFault)
+        → IsDone R.remaining (file_tasks.Bound instance (by, certificate) strict)
+        (file_tasks.Bound instance_left (by, certificate_left) strict) sink outcome
+        → (first second : Turn) × (ended : Result Bounded RunFault) × (outcome ≡ outcome_of_bound ended)
+        × IsBoundRunOf by strict first second sink ended }
+{}
+
+/// Which reader has which file: a fault of the instance's is one of file 1, and of the certificate
+/// of a comparison one of file 2; and a file is put into the layout of its task.
+pub fn examples_of_readers<R: Gives>()
+    ensures instance { (instance solution instance_left solution_left : Watched R) (sink : Sink) (fault : ReadFault)
+        → TakesAtMost most_taken (turn_of R.remaining instance instance_left) (StopsAt fault)
+        → TakesAtMost most_taken (turn_of R.remaining solution solution_left) IsUnread → IsUnwritten sink
+        → IsDone R.remaining (file_tasks.Check instance solution None None false)
+        (file_tasks.Check instance_left solution_left None None false)
+        sink (Err (run_faults.File 1 fault)) }
+    ensures layout { (file left : Watched R) (to : Layout) (sink : Sink) (fault : RelayoutFault)
+        → TakesAtMost most_taken (turn_of R.remaining file left) (λ turn.
+        IsConvertRun (Some to) turn sink (Err (run_faults.Relayout fault)))
+        → IsDone R.remaining (file_tasks.Convert file (Some to)) (file_tasks.Convert left (Some to)) sink
+        (Err (run_faults.Relayout fault)) }
+    ensures compared { (by : Certificate) (old new : Comparison (Watched R)) (certificate left : Watched R)
+        (names : List (List ℕ)) (sink : Sink) (fault : ReadFault)
+        → old.certificate ≡ Some (by, certificate) → new.certificate ≡ Some (by, left)
+        → TakesAtMost most_taken (turn_of R.remaining old.instance new.instance) IsSomeFile
+        → TakesAtMost most_taken (turn_of R.remaining certificate left) (StopsAt fault) → IsUnwritten sink
+        → IsCompared R.remaining R.gives (λ index reader. index ≡ index) names old new sink (Err (run_faults.File 2 fault)) }
+{}
+
+/// Each reader of a task or a comparison is asked, that of the certificate too. Files aren't taken
+/// for each other's.
+pub fn examples_of_asked_readers<R: Gives>()
+    ensures solution { (instance solution instance_left solution_left : Watched R) (claimed same : Option ℤ) (strict also : Bool)
+        → AreReadOn R.gives (file_tasks.Check instance solution None claimed strict) (file_tasks.Check instance_left solution_left None same also)
+        → IsReadOn R.gives solution solution_left }
+    ensures certificate { (by kept : Certificate) (a b c x y z : Watched R) (claimed same : Option ℤ) (strict also : Bool)
+        → AreReadOn R.gives (file_tasks.Check a b (Some (by, c)) claimed strict) (file_tasks.Check x y (Some (kept, z)) same also)
+        → IsReadOn R.gives c z }
+    ensures bound { (by kept : Certificate) (a c x z : Watched R) (strict also : Bool)
+        → AreReadOn R.gives (file_tasks.Bound a (by, c) strict) (file_tasks.Bound x (kept, z) also) → IsReadOn R.gives c z }
+    ensures compared { (by : Certificate) (old new : Comparison (Watched R)) (c z : Watched R)
+        → old.certificate ≡ Some (by, c) → new.certificate ≡ Some (by, z) → AreComparedOn R.gives old new
+        → IsReadOn R.gives c z }
 {}

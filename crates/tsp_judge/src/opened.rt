@@ -3,13 +3,13 @@
 
 ghost use Rattle.tsp_judge.specs.Open.{ReadsText};
 
-use crate::run_error::RunError;
+use crate::ends::RunError;
 use std::alloc::Global;
 use std::marker::Model;
 use tsp_cost::Instance;
 use tsp_file::File;
 use tsp_read::file_of_bytes;
-use tsp_task::{Basis, BoundVerdict, Certificate, Verdict};
+use tsp_report::{Basis, BoundVerdict, Certificate, Verdict};
 use tsp_verdict::{basis_alone, basis_of, is_bounded, judge_bound, judge_next};
 
 /// An instance, the certificate that is bound to it, where one is, and what is known of all

@@ -1,4 +1,4 @@
--- Eight bytes in the lanes of a vector, and how many of them are digits before another. For `count_in` in src/eight.rt.
+-- Eight bytes in the lanes of a vector, and how many of them are digits before another. For `count_in` in src/word.rt.
 use Rattle.std.proofs.Common.{◌≡◌, ℕ, ◌+◌, ◌-◌, ◌%◌, ◌^◌, ◌<◌, leb, Bool, not, cond, List, [], ◌∷◌, map, length, replicate, Fits, w8, refl, arith, ap, sym, ◌∙◌}
 use Rattle.std.proofs.lemmas.Bool.{agree_below_at}
 use Rattle.std.proofs.lemmas.List.{length-map}

@@ -1,9 +1,9 @@
 -- Digits written two at a time: the table of each number below 100, and nine digits by it. For `write_nine` and
--- `write_pair` in src/digits.rt.
+-- `write_pair` in src/spelling.rt.
 use Rattle.std.proofs.Common.{◌≡◌, ℕ, zero, suc, ◌+◌, ◌*◌, ◌/◌, ◌%◌, ◌<◌, Bool, true, ◌&&◌, T, eqb, List, [], ◌∷◌, ◌++◌, get_or, refl, inl, inr, arith, eqb→eq}
 use Rattle.std.proofs.lemmas.Bool.{cases_lt}
 use Rattle.tsp_number.specs.Spelling.{three_digits}
-use Rattle.tsp_number.specs.declared.digits.TheConstants.{PAIRS}
+use Rattle.tsp_number.specs.declared.spelling.TheConstants.{PAIRS}
 use lib.Ieee.Fits.{and_l, and_r}
 
 abbrev are_pairs : ℕ → Bool

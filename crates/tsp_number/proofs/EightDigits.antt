@@ -1,5 +1,5 @@
 -- Eight digits in the bytes of one number, the first one lowest, and the number that they write. For `value_in` in
--- src/eight.rt and others.
+-- src/word.rt and others.
 use Rattle.std.proofs.Common.{◌≡◌, ℕ, zero, suc, ◌+◌, ◌*◌, ◌-◌, ◌/◌, ◌%◌, ◌^◌, ◌<◌, ◌≤◌, Bool, true, false, cond, List, [], ◌∷◌, ◌++◌, map, length, take, drop, get_or, replicate, refl, arith, ap, sym, ◌∙◌, subst, bit_and, w64, length-append, take-append-drop, pow-add}
 use Rattle.std.proofs.Math.Nat.{pow-suc, pow-zero, add-mul-mod_self_left, mod-eq_of_lt, mul-lt-mul_of_pos_right, mul-le-mul_left, one-le-pow}
 use Rattle.std.proofs.lemmas.Bool.Decides.{nat_tests}

@@ -1,5 +1,5 @@
 -- The number that a text begins with: its digits, one by one or eight at once, its point, and where its word ends. For
--- `front_decimal` in src/front.rt and others.
+-- `front_decimal` in src/word.rt and others.
 use Rattle.std.proofs.Common.{◌≡◌, ℕ, ◌+◌, ◌*◌, ◌-◌, ◌^◌, ◌<◌, ◌≤◌, ◌≢◌, Bool, true, false, None, Some, List, [], ◌∷◌, ◌++◌, length, take, drop, get_or, ℤ, pos, ◌*ℤ◌, ◌≤ℤ◌, ◌<ℤ◌, ◌⊎◌, Ok, Err, unsigned_abs, inl, inr, ⊎_elim, refl, arith, ap, sym, ◌∙◌, subst, pow-add, add-one, append_assoc, append-nil, length-drop}
 use Rattle.std.specs.Prelude.{nat_le, nat_lt, ◌&&◌}
 use Rattle.std.proofs.Math.Nat.{pow-suc, pow-le-pow_right, mul-le-mul}
@@ -16,7 +16,7 @@ use Rattle.std.specs.List.{prefix_len}
 use Rattle.std.specs.Str.Parse.{AllDigits, digits_value}
 use Rattle.tsp_distance.specs.Decimal.{unit, most_count}
 use Rattle.tsp_number.specs.NumberWord.{IsShort, ReadsDecimal, ReadsWhole, point, IsSign, IsFraction, Numeral, StandsFor, IsShifted, with_sign, mantissa, digits_of, shift_of}
-use Rattle.tsp_number.specs.declared.fault.NumberFault.TheVariants.{OutOfRange}
+use Rattle.tsp_number.specs.declared.word.NumberFault.TheVariants.{OutOfRange}
 use Rattle.tsp_number.specs.states.NumberFront.{BeginsWithNumber, sign_count, digit_count, end_of_digits, end_with_point, few_end, decimal_end}
 use Rattle.tsp_number.proofs.Prefixes.{prefix_of_front, prefix_goes_on}
 use Rattle.tsp_number.proofs.Reading.{to_signed}

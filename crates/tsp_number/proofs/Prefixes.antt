@@ -1,5 +1,5 @@
 -- How many elements pass a test from the beginning of a list on, one more at a time. For `single_digits` in
--- src/front.rt.
+-- src/word.rt.
 use Rattle.std.proofs.Common.{◌≡◌, ℕ, zero, suc, ◌+◌, ◌<◌, ◌≤◌, Bool, true, false, cond, List, [], ◌∷◌, length, take, drop, ap, arith}
 use Rattle.std.specs.Prelude.{min, slice_index_or as get_or}
 use Rattle.std.specs.List.{prefix_len}

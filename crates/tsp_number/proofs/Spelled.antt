@@ -11,7 +11,7 @@ use Rattle.std.proofs.lemmas.Str.{digit_value_digit}
 use Rattle.std.specs.Char.{digit_value}
 use Rattle.std.specs.Fmt.{decimal}
 use Rattle.std.specs.Str.Parse.{AllDigits, digits_value}
-use Rattle.tsp_number.specs.declared.fault.NumberFault.{NumberFault}
+use Rattle.tsp_number.specs.declared.word.NumberFault.{NumberFault}
 use Rattle.tsp_distance.specs.Decimal.{unit, most_count}
 use Rattle.tsp_number.specs.NumberWord.{minus, point, IsSign, IsFraction, Numeral, StandsFor, IsShifted, with_sign, mantissa, digits_of, shift_of, ReadsDecimal}
 use Rattle.tsp_number.specs.Spelling.{decimals, fraction_spelling, size_spelling, spelling}

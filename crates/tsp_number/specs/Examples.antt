@@ -1,7 +1,7 @@
 -- Words and the numbers or faults that they are read as, and numbers and their texts. For the laws of src/examples.rt,
 -- which state them as worked out by hand.
 use Rattle.std.specs.Prelude.{◌≡◌, ℕ, List, Ok, Err, ℤ, pos, negsuc, ◌*ℤ◌}
-use Rattle.tsp_number.specs.declared.fault.NumberFault.{NumberFault}
+use Rattle.tsp_number.specs.declared.word.NumberFault.{NumberFault}
 use Rattle.tsp_number.specs.Reading.{decimal_of, whole_of}
 use Rattle.tsp_number.specs.Spelling.{spelling}
 

@@ -1,8 +1,8 @@
--- The text of each fault of a number word, which is its name. For `NumberFault` (src/fault.rt), and for the fault of a
+-- The text of each fault of a number word, which is its name. For `NumberFault` (src/word.rt), and for the fault of a
 -- text (ReadFaultText.antt of tsp_text).
 use Rattle.std.specs.Prelude.{ℕ, List, codes}
-use Rattle.tsp_number.specs.declared.fault.NumberFault.{NumberFault}
-use Rattle.tsp_number.specs.declared.fault.NumberFault.TheVariants.{LongWord, BadNumber, TooFine, OutOfRange, NotWhole}
+use Rattle.tsp_number.specs.declared.word.NumberFault.{NumberFault}
+use Rattle.tsp_number.specs.declared.word.NumberFault.TheVariants.{LongWord, BadNumber, TooFine, OutOfRange, NotWhole}
 
 abbrev pub number_fault_text : NumberFault → List ℕ
 number_fault_text LongWord = codes "LongWord"

@@ -1,10 +1,10 @@
 -- The number that a word is read as, or its fault, as functions of the word. For the definitions of tsp_text on
 -- sections and keywords. The law `number_word_laws` (src/laws.rt) says that they are the answers of NumberWord.antt.
--- tsp_section, tsp_round and tsp_read import this file too.
+-- tsp_read, tsp_round and tsp_read import this file too.
 use Rattle.std.specs.Prelude.{ℕ, ◌+◌, ◌*◌, ◌/◌, ◌%◌, ◌^◌, ◌==◌, ◌&&◌, nat_le, int_le, List, length, Option, Some, None, Result, Ok, Err, if◌then◌else◌, ℤ, pos, negsuc, unsigned_abs}
 use Rattle.std.specs.Option.{option_map}
-use Rattle.tsp_number.specs.declared.fault.NumberFault.{NumberFault}
-use Rattle.tsp_number.specs.declared.fault.NumberFault.TheVariants.{LongWord, BadNumber, TooFine, OutOfRange, NotWhole}
+use Rattle.tsp_number.specs.declared.word.NumberFault.{NumberFault}
+use Rattle.tsp_number.specs.declared.word.NumberFault.TheVariants.{LongWord, BadNumber, TooFine, OutOfRange, NotWhole}
 use Rattle.tsp_distance.specs.Decimal.{most_count}
 use Rattle.tsp_number.specs.NumberWord.{Numeral, with_sign, digits_of, shift_of}
 use Rattle.tsp_number.specs.Scan.{numeral_in}

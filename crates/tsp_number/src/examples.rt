@@ -2,7 +2,7 @@
 //! texts of decimals, texts of faults.
 
 ghost use Rattle.std.specs.Prelude.{◌≡◌, Some, None, codes, ◌++◌, pos, negsuc, replicate};
-ghost use Rattle.tsp_number.specs.declared.fault.NumberFault.TheVariants.{LongWord, BadNumber, TooFine, OutOfRange, NotWhole};
+ghost use Rattle.tsp_number.specs.declared.word.NumberFault.TheVariants.{LongWord, BadNumber, TooFine, OutOfRange, NotWhole};
 ghost use Rattle.tsp_number.specs.NumberFaultText.{number_fault_text};
 ghost use Rattle.tsp_number.specs.states.NumberFront.{whole_end, decimal_end, few_end};
 ghost use Rattle.tsp_number.specs.Examples.{IsDecimalCount, IsNoDecimal, WholeIs, WholeIsRefused, IsSpelled};

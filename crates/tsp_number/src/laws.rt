@@ -2,7 +2,7 @@
 //! For `src/round_trip.rt` of tsp_round.
 
 ghost use Rattle.std.specs.Prelude.{◌≡◌, ◌≤◌, ℕ, ℤ, List, Result, Ok, unsigned_abs};
-ghost use Rattle.tsp_number.specs.declared.fault.NumberFault.{NumberFault};
+ghost use Rattle.tsp_number.specs.declared.word.NumberFault.{NumberFault};
 ghost use Rattle.tsp_distance.specs.Decimal.{most_count};
 ghost use Rattle.tsp_number.specs.NumberWord.{StandsFor, ReadsDecimal, ReadsWhole};
 ghost use Rattle.tsp_number.specs.Reading.{decimal_of, whole_of};

@@ -10,28 +10,21 @@
 //! ```
 #![tactic(auto)]
 
-mod digits;
-mod eight;
 mod examples;
-mod fault;
-mod front;
 mod laws;
 mod scan;
 mod shift;
 mod spelling;
 mod word;
 
-pub use digits::write_pair;
 pub use examples::{
     examples_of_decimals, examples_of_fault_texts, examples_of_fronts, examples_of_spellings,
     examples_of_whole_numbers,
 };
-pub use fault::NumberFault;
-pub use front::{front_decimal, front_few, front_whole};
 pub use laws::{number_word_laws, spelling_laws};
-pub use spelling::{MOST_SPELLING, write_decimal, write_spelling};
+pub use spelling::{MOST_SPELLING, write_decimal, write_pair, write_spelling};
 pub use tsp_distance::{
     Decimal, InSpace, PlanePoint, Point, att, ceil_2d, euc_2d, euc_3d, man_2d, man_3d, max_2d,
     max_3d,
 };
-pub use word::{parse_decimal, parse_whole};
+pub use word::{NumberFault, front_decimal, front_few, front_whole, parse_decimal, parse_whole};

@@ -1,13 +1,12 @@
 //! The text of a decimal, written into a block of bytes from the last byte to the first. For the
-//! points that `src/writer/points.rt` of tsp_file writes.
+//! points that `src/writer/sections.rt` of tsp_file writes.
 
-ghost use Rattle.std.specs.Prelude.{◌≡◌, ◌+◌, ◌<◌, ◌≤◌, ◌++◌, length, drop};
-ghost use Rattle.arrayvec.specs.ArrayVec.{array_vec_len};
+ghost use Rattle.std.specs.Prelude.{◌≡◌, ◌+◌, ◌<◌, ◌≤◌, ◌++◌, length, drop, ◌-◌, ◌/◌, ◌%◌, ◌∷◌};
 ghost use Rattle.tsp_distance.specs.Decimal.{unit, most_count};
+ghost use Rattle.arrayvec.specs.ArrayVec.{array_vec_len};
 ghost use Rattle.tsp_number.specs.NumberWord.{StandsFor};
-ghost use Rattle.tsp_number.specs.Spelling.{decimals, fraction_spelling, size_spelling, spelling};
+ghost use Rattle.tsp_number.specs.Spelling.{decimals, fraction_spelling, size_spelling, spelling, three_digits};
 
-use crate::digits::{write_group, write_nine, write_pair};
 use arrayvec::ArrayVec;
 use itoa::write_digits;
 use tsp_distance::{Decimal, UNIT};
@@ -129,4 +128,59 @@ pub fn write_decimal(d: Decimal) -> ArrayVec<u8, 64>
     let start = write_spelling(d, &mut block, MOST_SPELLING);
     text.try_extend_from_slice(&block[start..]).unwrap();
     text
+}
+
+// ---- two, three or nine digits of a number, written into a block of bytes
+
+/// The two digits of each number below 100.
+static PAIRS: [u8; 200] = *b"\
+    0001020304050607080910111213141516171819202122232425262728293031323334353637383940414243444546474849\
+    5051525354555657585960616263646566676869707172737475767778798081828384858687888990919293949596979899";
+
+/// Writes the two digits of a number below 100 at a place of a block.
+///
+/// # Requires
+///
+/// A place for both in the block.
+#[inline(always)]
+pub fn write_pair(pair: u32, block: &mut [u8], at: usize)
+    requires few { pair < 100 }
+    requires room { at + 2 ≤ length block.old }
+    ensures { drop at block.new ≡ (48 + pair / 10) ∷ (48 + pair % 10) ∷ drop (at + 2) block.old }
+{
+    let from = pair as usize * 2;
+    let (tens, ones) = (PAIRS[from], PAIRS[from + 1]);
+    block[at] = tens;
+    block[at + 1] = ones;
+}
+
+/// Writes the three digits of a number below 1000 so that they end at a place.
+#[inline(always)]
+fn write_group(group: u32, block: &mut [u8], end: usize)
+    requires few { group < 1000 }
+    requires room { 3 ≤ end }
+    requires within { end ≤ length block.old }
+    ensures { drop (end - 3) block.new ≡ three_digits group ++ drop end block.old }
+{
+    write_pair(group % 100, block, end - 2);
+    block[end - 3] = b'0' + (group / 100) as u8;
+}
+
+/// Writes the nine digits of a number below 10^9 so that they end at a place.
+#[inline(always)]
+fn write_nine(number: u32, block: &mut [u8], end: usize)
+    requires few { number < 1000000000 }
+    requires room { 9 ≤ end }
+    requires within { end ≤ length block.old }
+    ensures { drop (end - 9) block.new
+        ≡ three_digits (number / 1000000) ++ three_digits (number / 1000 % 1000)
+        ++ three_digits (number % 1000) ++ drop end block.old }
+{
+    let (eight, last) = (number / 10, number % 10);
+    let (high, low) = (eight / 10_000, eight % 10_000);
+    block[end - 1] = b'0' + last as u8;
+    write_pair(low % 100, block, end - 3);
+    write_pair(low / 100, block, end - 5);
+    write_pair(high % 100, block, end - 7);
+    write_pair(high / 100, block, end - 9);
 }

@@ -1,11 +1,11 @@
 -- Reads of a reader that remembers its failure, one after the other: none, and one more. tsp_judge imports it too. For
--- `feed_all` in src/input.rt and others.
+-- `feed_all` in src/asked_reads.rt and others.
 use Rattle.std.proofs.Common.{◌≡◌, ◌∙◌, ◌||◌, ℕ, suc, Bool, true, false, List, Result, refl, sym, ap, subst}
 use Rattle.std.specs.Prelude.{is_err}
 use Rattle.std.proofs.lemmas.Bool.{true≢false}
 use Rattle.std.specs.declared.io.Error.{Error}
-use Rattle.tsp_stream.specs.declared.watched.Watched.{Watched}
-use Rattle.tsp_stream.specs.states.Watched.{watched, has_failed}
+use Rattle.tsp_io.specs.declared.watched.Watched.{Watched}
+use Rattle.tsp_io.specs.states.Watched.{watched, has_failed}
 use Rattle.tsp_read.specs.Asked.{HasReads, IsReadOn}
 
 or_false : (b : Bool) → b ≡ (b || false)

@@ -1,5 +1,5 @@
 -- A line or a word that the end of a piece cuts: its bytes are kept, and with the next piece it is an item. For
--- `Begun::join` in src/begun.rt and others.
+-- `Begun::join` in src/items.rt and others.
 use Rattle.std.proofs.Common.{◌≡◌, ℕ, ◌+◌, ◌<◌, ◌≤◌, Bool, true, false, List, [], ◌∷◌, ◌++◌, length, refl, sym, ap, subst, ◌∙◌, arith, Result, Ok, Err, append-nil, append_assoc, length-append}
 use Rattle.std.specs.Prelude.{not, ◌&&◌, ◌||◌, nat_lt, ◌↔◌, ◌==◌, IsOk, OnOk}
 use Rattle.std.proofs.lemmas.Bool.{true≢false, false≢true, ltb-false, lt-ltb, le-ltb, eqb-true}
@@ -7,10 +7,10 @@ use Rattle.std.proofs.lemmas.List.{nil_from_length}
 use Rattle.tsp_format.specs.Bytes.{is_blank, is_letter}
 use Rattle.tsp_format.specs.Limits.{most_line_bytes}
 use Rattle.tsp_text.specs.declared.fault.ReadFault.{ReadFault}
-use Rattle.tsp_read.specs.declared.intake.Intake.{Intake}
-use Rattle.tsp_read.specs.declared.token.Token.{Token}
-use Rattle.tsp_read.specs.declared.token.Token.TheVariants.{Line, Word}
-use Rattle.tsp_read.specs.declared.begun.Begun.{Begun}
+use Rattle.tsp_read.specs.declared.items.Intake.{Intake}
+use Rattle.tsp_read.specs.declared.items.Token.{Token}
+use Rattle.tsp_read.specs.declared.items.Token.TheVariants.{Line, Word}
+use Rattle.tsp_read.specs.declared.items.Begun.{Begun}
 use Rattle.tsp_text.specs.Lines.{ends_line, is_not_empty, without_start}
 use Rattle.tsp_text.specs.Items.{Item, LineEnd}
 use Rattle.tsp_read.specs.states.Left.{items_left, ends_word, up_to_first, from, is_settled}

@@ -9,8 +9,8 @@ use Rattle.tsp_text.specs.Items.{Item, Line, NumberWord, LineEnd, is_end_line, h
 use Rattle.tsp_text.specs.Earlier.{open_section}
 use Rattle.tsp_format.specs.Limits.{most_file_bytes}
 use Rattle.tsp_text.specs.Text.{settled_part}
-use Rattle.tsp_read.specs.declared.state.reading.OpenSection.{OpenSection}
-use Rattle.tsp_read.specs.declared.state.reading.Reading.{Reading}
+use Rattle.tsp_read.specs.declared.reading.OpenSection.{OpenSection}
+use Rattle.tsp_read.specs.declared.reading.Reading.{Reading}
 use Rattle.tsp_read.specs.states.Holds.{OpenHolds}
 use Rattle.tsp_read.specs.Feed.{IsEnded}
 

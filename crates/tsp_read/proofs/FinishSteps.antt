@@ -1,16 +1,16 @@
 -- At the end of a text the draft has the fault that the items have, and a draft without one is valid. For
--- `Reading::finish` in src/state/finish.rt.
+-- `Reading::finish` in src/reading.rt.
 use Rattle.std.proofs.Common.{◌≡◌, false, List, refl, sym, ap, ◌∙◌, Option, Some, None}
 use Rattle.std.specs.Prelude.{is_some}
 use Rattle.std.proofs.Math.Logic.{∥∥₁_elim}
 use mathlib.Core.Bool.{Bool-set}
 use Rattle.std.proofs.lemmas.Bool.{false≢true}
-use Rattle.tsp_format.specs.declared.field.Field.{Field}
-use Rattle.tsp_draft.specs.declared.fault.DraftFault.{DraftFault}
-use Rattle.tsp_draft.specs.Fields.{Fields}
-use Rattle.tsp_draft.specs.states.Drafts.{fields_of}
-use Rattle.tsp_draft.specs.Rules.{standing_of, end_fault, fault_of}
-use Rattle.tsp_read.specs.declared.state.reading.Reading.{Reading}
+use Rattle.tsp_format.specs.declared.keyword.Field.{Field}
+use Rattle.tsp_file.specs.declared.rules.DraftFault.{DraftFault}
+use Rattle.tsp_file.specs.Fields.{Fields}
+use Rattle.tsp_file.specs.states.Drafts.{fields_of}
+use Rattle.tsp_file.specs.Rules.{standing_of, end_fault, fault_of}
+use Rattle.tsp_read.specs.declared.reading.Reading.{Reading}
 use Rattle.tsp_text.specs.Items.{Item}
 use Rattle.tsp_text.specs.Spells.{spelled, fault_at_end}
 use Rattle.tsp_text.specs.Cuts.{AreCut}

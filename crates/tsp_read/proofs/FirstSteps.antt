@@ -1,10 +1,10 @@
 -- The first field of a list that passes a test, where the test changes at one field alone. For `Reading::close` in
--- src/state/reading.rt and others.
+-- src/reading.rt and others.
 use Rattle.std.proofs.Common.{◌≡◌, Bool, true, false, cond, List, [], ◌∷◌, refl, sym, ap, ◌∙◌, Option, Some, None}
 use Rattle.std.proofs.lemmas.Bool.{false≢true}
 use Rattle.std.specs.Prelude.{not, ◌&&◌, ◌||◌}
 use Rattle.std.specs.List.{find, filter}
-use Rattle.tsp_format.specs.declared.field.Field.{Field}
+use Rattle.tsp_format.specs.declared.keyword.Field.{Field}
 use Rattle.tsp_text.specs.Earlier.{same_field}
 use Rattle.tsp_read.specs.states.Incomplete.{is_it, first_of}
 use Rattle.tsp_text.proofs.ValidSections.{same_field_is}

@@ -1,15 +1,15 @@
 -- The answer of a reader that was read in pieces is that of its bytes. No piece was read past a settled fault. For
--- `file_of_bytes` and `file_of_reader` in src/read_whole.rt.
+-- `file_of_bytes` and `file_of_reader` in src/asked_reads.rt.
 use Rattle.std.proofs.Common.{◌≡◌, ℕ, false, List, [], ◌++◌, refl, sym, ap, subst, ◌∙◌, inl, inr, Option, Some, None, Result, Ok, Err, append-nil}
 use Rattle.std.specs.Prelude.{◌⊎◌, IfSome}
 use Rattle.std.specs.Io.KnownBytes.{Consumes, IsAtEnd}
 use Rattle.std.proofs.lemmas.Bool.{true≢false}
-use Rattle.tsp_stream.specs.Turn.{Turn, GaveAll, TakesAtMost}
-use Rattle.tsp_draft.specs.Fields.{Fields}
+use Rattle.tsp_io.specs.Turn.{Turn, GaveAll, TakesAtMost}
+use Rattle.tsp_file.specs.Fields.{Fields}
 use Rattle.tsp_text.specs.declared.fault.ReadFault.{ReadFault}
 use Rattle.tsp_text.specs.declared.fault.ReadFault.TheVariants as faults
-use Rattle.tsp_read.specs.declared.stage.Stage.{Stage}
-use Rattle.tsp_read.specs.declared.stage.Stage.TheVariants.{Going, Ended, Refused}
+use Rattle.tsp_read.specs.declared.feed.Stage.{Stage}
+use Rattle.tsp_read.specs.declared.feed.Stage.TheVariants.{Going, Ended, Refused}
 use Rattle.tsp_read.specs.declared.feed.Feed.{Feed}
 use Rattle.tsp_text.specs.Spells.{spelled}
 use Rattle.tsp_text.specs.Text.{part, fault, settled_fault, Spells}

@@ -1,5 +1,5 @@
 -- The items of a piece, taken one after the other: one item more, and the stop at a fault or an end line. For
--- `Intake::take_items` and `Intake::long_word` in src/intake.rt.
+-- `Intake::take_items` and `Intake::long_word` in src/items.rt.
 use Rattle.std.proofs.Common.{◌≡◌, ℕ, Bool, true, false, List, [], ◌∷◌, ◌++◌, reverse, refl, sym, ap, subst, ◌∙◌, Option, Some, None, Ok, Err, append-nil, append_assoc}
 use Rattle.std.specs.List.{list_all}
 use Rattle.std.specs.Prelude.{◌&&◌, ◌||◌}
@@ -7,12 +7,12 @@ use Rattle.std.proofs.lemmas.Bool.{true≢false, false≢true, eqb-true}
 use Rattle.std.proofs.lemmas.List.{reverse-append}
 use Rattle.std.proofs.lemmas.Option.{none-some}
 use Rattle.tsp_format.specs.Bytes.{is_blank}
-use Rattle.tsp_format.specs.declared.field.Field.{Field}
+use Rattle.tsp_format.specs.declared.keyword.Field.{Field}
 use Rattle.tsp_text.specs.declared.fault.LineFault.{LineFault}
 use Rattle.tsp_text.specs.declared.fault.LineFault.TheVariants as row
 use Rattle.tsp_text.specs.declared.fault.ReadFault.{ReadFault}
 use Rattle.tsp_text.specs.declared.fault.ReadFault.TheVariants as faults
-use Rattle.tsp_read.specs.declared.intake.Intake.{Intake}
+use Rattle.tsp_read.specs.declared.items.Intake.{Intake}
 use Rattle.tsp_text.specs.Lines.{ends_line}
 use Rattle.tsp_text.specs.Items.{Item, Line, NumberWord, LineEnd, settled_items, is_end_line, has_end_line}
 use Rattle.tsp_text.specs.Earlier.{open_section, words_of}

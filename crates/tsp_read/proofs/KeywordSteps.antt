@@ -1,29 +1,29 @@
 -- The line of a keyword with a word or a number as its value: the field that it gives, or its fault. For
--- `Reading::number` and `Reading::known` in src/state/lines.rt.
+-- `Reading::number` and `Reading::known` in src/reading.rt.
 use Rattle.std.proofs.Common.{cond, ◌≡◌, ℕ, Bool, true, false, List, ◌∷◌, set, get_or, refl, sym, ap, subst, ◌∙◌, Option, Some, None, Result, Ok, Err}
 use Rattle.std.specs.Prelude.{ℤ, pos, nat_abs, nat_lt, is_some, is_none, not, ◌&&◌}
 use Rattle.std.specs.Result.{result_ok}
 use Rattle.std.specs.List.{find}
-use Rattle.tsp_number.specs.declared.fault.NumberFault.{NumberFault}
+use Rattle.tsp_number.specs.declared.word.NumberFault.{NumberFault}
 use Rattle.tsp_number.specs.Reading.{whole_of}
 use Rattle.tsp_format.specs.declared.kinds.Kind.{Kind}
 use Rattle.tsp_format.specs.declared.kinds.WeightKind.{WeightKind}
 use Rattle.tsp_format.specs.declared.kinds.WeightFormat.{WeightFormat}
 use Rattle.tsp_format.specs.declared.kinds.CoordKind.{CoordKind}
 use Rattle.tsp_format.specs.declared.kinds.DisplayKind.{DisplayKind}
-use Rattle.tsp_format.specs.declared.field.Field.{Field}
-use Rattle.tsp_format.specs.declared.field.Field.TheVariants.{TypeKey, DimensionKey, CapacityKey, ScaleKey, LoadUnitKey, EdgeWeightTypeKey, EdgeWeightFormatKey, NodeCoordTypeKey, DisplayDataTypeKey, NodeCoordPart, DisplayDataPart, DemandPart, DepotPart, FixedEdgesPart, EdgeWeightPart, TourPart, NodePotentialPart, RowPotentialPart, ColumnPotentialPart, FixedEdgePotentialPart, CombPart, BranchPart}
+use Rattle.tsp_format.specs.declared.keyword.Field.{Field}
+use Rattle.tsp_format.specs.declared.keyword.Field.TheVariants.{TypeKey, DimensionKey, CapacityKey, ScaleKey, LoadUnitKey, EdgeWeightTypeKey, EdgeWeightFormatKey, NodeCoordTypeKey, DisplayDataTypeKey, NodeCoordPart, DisplayDataPart, DemandPart, DepotPart, FixedEdgesPart, EdgeWeightPart, TourPart, NodePotentialPart, RowPotentialPart, ColumnPotentialPart, FixedEdgePotentialPart, CombPart, BranchPart}
 use Rattle.tsp_format.specs.declared.keyword.Keyword.TheVariants.{Known}
 use Rattle.tsp_format.specs.Limits.{most_nodes, most_capacity, most_scale, most_load_unit, most_line_bytes}
 use Rattle.tsp_format.specs.Words.{kind_word, weight_kind_word, weight_format_word, coord_kind_word, display_kind_word, kinds, weight_kinds, weight_formats, coord_kinds, display_kinds}
 use Rattle.tsp_distance.specs.declared.decimal.Point.{Point}
-use Rattle.tsp_draft.specs.Fields.{Fields, spatial, stands_in, with_one_number}
-use Rattle.tsp_draft.specs.states.Drafts.{fields_of}
+use Rattle.tsp_file.specs.Fields.{Fields, spatial, stands_in, with_one_number}
+use Rattle.tsp_file.specs.states.Drafts.{fields_of}
 use Rattle.tsp_text.specs.declared.fault.LineFault.{LineFault}
-use Rattle.tsp_section.specs.declared.fault.StepFault.{StepFault}
-use Rattle.tsp_section.specs.declared.fault.StepFault.TheVariants as steps
-use Rattle.tsp_read.specs.declared.state.reading.OpenSection.{OpenSection}
-use Rattle.tsp_read.specs.declared.state.reading.Reading.{Reading}
+use Rattle.tsp_read.specs.declared.line.StepFault.{StepFault}
+use Rattle.tsp_read.specs.declared.line.StepFault.TheVariants as steps
+use Rattle.tsp_read.specs.declared.reading.OpenSection.{OpenSection}
+use Rattle.tsp_read.specs.declared.reading.Reading.{Reading}
 use Rattle.tsp_text.specs.Lines.{is_not_empty, first_word}
 use Rattle.tsp_text.specs.Items.{WordLine, Item, Line}
 use Rattle.tsp_text.specs.Earlier.{same_field, has_line, open_section, words_of}
@@ -32,10 +32,10 @@ use Rattle.tsp_text.specs.Groups.{coords_by_node}
 use Rattle.tsp_text.specs.Sections.{dimension_in}
 use Rattle.tsp_text.specs.FaultRows.{row_of, is_late}
 use Rattle.tsp_text.specs.FirstFault.{IsClean}
-use Rattle.tsp_format.specs.declared.field.ValueShape.TheVariants.{Number}
+use Rattle.tsp_format.specs.declared.keyword.ValueShape.TheVariants.{Number}
 use Rattle.tsp_format.specs.Shapes.{is_section_field, value_shape_of}
 use Rattle.tsp_text.specs.Spells.{fields_by, sections_in_order, first_incomplete}
-use Rattle.tsp_section.specs.states.CutLine.{named_rows, SetsNamed, numbered_rows, GivesNumber}
+use Rattle.tsp_read.specs.states.CutLine.{named_rows, SetsNamed, numbered_rows, GivesNumber}
 use Rattle.tsp_read.specs.states.Holds.{fields_there, is_closed, is_closed_incomplete, OpenHolds, Closed, LineAnswers}
 use Rattle.tsp_text.proofs.Clean.{clean_more}
 use Rattle.tsp_read.proofs.KeywordCases.{by_number}

@@ -7,13 +7,13 @@ use Rattle.std.proofs.lemmas.Bool.{false≢true, le-ltb}
 use Rattle.tsp_format.specs.Limits.{most_file_bytes}
 use Rattle.tsp_text.specs.declared.fault.ReadFault.{ReadFault}
 use Rattle.tsp_text.specs.declared.fault.ReadFault.TheVariants as faults
-use Rattle.tsp_read.specs.declared.state.reading.Reading.{Reading}
-use Rattle.tsp_read.specs.declared.intake.Intake.{Intake}
-use Rattle.tsp_read.specs.declared.begun.Begun.{Begun}
-use Rattle.tsp_read.specs.declared.state.reading.OpenSection.{OpenSection}
-use Rattle.tsp_read.specs.declared.stage.Stage.TheVariants.{Going, Ended, Refused}
+use Rattle.tsp_read.specs.declared.reading.Reading.{Reading}
+use Rattle.tsp_read.specs.declared.items.Intake.{Intake}
+use Rattle.tsp_read.specs.declared.items.Begun.{Begun}
+use Rattle.tsp_read.specs.declared.reading.OpenSection.{OpenSection}
+use Rattle.tsp_read.specs.declared.feed.Stage.TheVariants.{Going, Ended, Refused}
 use Rattle.tsp_read.specs.declared.feed.Feed.{Feed}
-use Rattle.tsp_draft.specs.Fields.{Fields}
+use Rattle.tsp_file.specs.Fields.{Fields}
 use Rattle.tsp_text.specs.Earlier.{open_section}
 use Rattle.tsp_text.specs.FirstFault.{fault_in}
 use Rattle.tsp_text.specs.Cuts.{AreCut}

@@ -1,4 +1,22 @@
--- The files of lemmas of this crate. Crates above may import those that are public.
+-- The files of lemmas of this crate. Crates above may import them.
+pub mod DepotSteps
+pub mod KeptWords
+pub mod ListSteps
+pub mod FixedSteps
+pub mod WeightSteps
+pub mod NodeGroups
+pub mod GroupSteps
+pub mod NumberSteps
+pub mod CoordSteps
+pub mod TripleSteps
+pub mod Pieces
+pub mod TourSteps
+pub mod TreeSteps
+pub mod Taken
+pub mod PartSteps
+pub mod HandedOver
+pub mod NamedRows
+pub mod Scans
 pub mod WordSteps
 pub mod KeywordCases
 pub mod KeywordSteps

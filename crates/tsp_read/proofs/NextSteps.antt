@@ -1,4 +1,4 @@
--- The next item of a text, by the first byte that is no blank. For `next_item` in src/cut.rt.
+-- The next item of a text, by the first byte that is no blank. For `next_item` in src/items.rt.
 use Rattle.std.proofs.Common.{◌≡◌, ℕ, Bool, true, false, cond, List, [], ◌∷◌, length, refl, sym, ap, subst, ◌∙◌}
 use Rattle.std.specs.Prelude.{not, ◌&&◌, ◌==◌}
 use Rattle.std.proofs.lemmas.Bool.{ne_eqb}
@@ -7,8 +7,8 @@ use Rattle.tsp_format.specs.Bytes.{is_blank, is_letter}
 use Rattle.tsp_format.specs.Limits.{most_word_bytes, most_line_bytes}
 use Rattle.tsp_text.specs.Lines.{ends_line, without_start}
 use Rattle.tsp_text.specs.Items.{NumberWord, LineEnd, line_item}
-use Rattle.tsp_read.specs.declared.token.Token.{Token}
-use Rattle.tsp_read.specs.declared.token.Token.TheVariants.{Line, Word}
+use Rattle.tsp_read.specs.declared.items.Token.{Token}
+use Rattle.tsp_read.specs.declared.items.Token.TheVariants.{Line, Word}
 use Rattle.tsp_read.specs.states.Left.{items_left, ends_word, up_to_first, from, is_settled}
 use Rattle.tsp_read.specs.states.Token.{token_at, ends_token, most_bytes, token_item}
 use Rattle.tsp_read.proofs.LeftSteps.{Filled, start_is_filled, left_start, left_none, left_end, line_taken, line_not_taken, word_taken, word_not_taken}

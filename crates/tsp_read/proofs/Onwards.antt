@@ -1,4 +1,4 @@
--- The next item of a text is the same when more bytes follow the text. For `next_item` in src/cut.rt and others.
+-- The next item of a text is the same when more bytes follow the text. For `next_item` in src/items.rt and others.
 use Rattle.std.proofs.Common.{◌≡◌, ℕ, suc, ◌+◌, ◌<◌, Bool, true, false, cond, List, [], ◌∷◌, ◌++◌, length, take, drop, refl, sym, ap, ◌∙◌, arith}
 use Rattle.std.specs.Prelude.{not, ◌||◌, ◌&&◌, nat_lt}
 use Rattle.std.specs.List.{position_or_len}
@@ -7,8 +7,8 @@ use Rattle.tsp_format.specs.Bytes.{is_blank, is_letter}
 use Rattle.tsp_format.specs.Limits.{most_word_bytes, most_line_bytes}
 use Rattle.tsp_text.specs.Lines.{is_not_empty, without_start}
 use Rattle.tsp_text.specs.Items.{NumberWord, LineEnd}
-use Rattle.tsp_read.specs.declared.token.Token.{Token}
-use Rattle.tsp_read.specs.declared.token.Token.TheVariants.{Line, Word}
+use Rattle.tsp_read.specs.declared.items.Token.{Token}
+use Rattle.tsp_read.specs.declared.items.Token.TheVariants.{Line, Word}
 use Rattle.tsp_read.specs.states.Left.{ends_word, up_to_first, from, is_settled}
 use Rattle.tsp_read.specs.states.Token.{token_at, ends_token, most_bytes, token_item}
 use Rattle.tsp_read.specs.states.Onward.{is_over_long, GivesNext}

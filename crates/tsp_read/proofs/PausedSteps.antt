@@ -3,12 +3,12 @@
 use Rattle.std.proofs.Common.{◌≡◌, ℕ, ◌≤◌, Bool, true, false, List, [], ◌∷◌, ◌++◌, length, refl, sym, ap, subst, ◌∙◌, arith, append-nil, Option, None, Some, Ok}
 use Rattle.std.specs.Prelude.{reverse, IfSome}
 use Rattle.tsp_format.specs.Bytes.{is_blank}
-use Rattle.tsp_read.specs.declared.intake.Intake.{Intake}
-use Rattle.tsp_read.specs.declared.begun.Begun.{Begun}
+use Rattle.tsp_read.specs.declared.items.Intake.{Intake}
+use Rattle.tsp_read.specs.declared.items.Begun.{Begun}
 use Rattle.tsp_text.specs.Lines.{is_not_empty, without_start}
 use Rattle.tsp_text.specs.Items.{Item}
 use Rattle.tsp_read.specs.states.Left.{items_left}
-use Rattle.tsp_read.specs.declared.state.reading.Reading.{Reading}
+use Rattle.tsp_read.specs.declared.reading.Reading.{Reading}
 use Rattle.tsp_read.specs.states.Intake.{IsReadTo, HasEnded, ReadsOn}
 use Rattle.tsp_read.specs.states.Begun.{HasBegun, kept, IsFedTo, IsJoinedTo}
 use Rattle.tsp_read.specs.states.Paused.{IsPaused}

@@ -1,5 +1,5 @@
 -- A reader that is read in pieces: the bytes gathered so far, one piece more, a fault in it, and the end. For
--- `feed_all` in src/input.rt.
+-- `feed_all` in src/asked_reads.rt.
 use Rattle.std.proofs.Common.{◌≡◌, ℕ, ◌+◌, ◌-◌, ◌≤◌, ◌<◌, Bool, true, false, List, [], ◌∷◌, ◌++◌, length, take, drop, take-append-drop, refl, sym, ap, subst, ◌∙◌, arith, Option, Some, None, Ok, Err, append-nil, length-append}
 use Rattle.std.specs.Prelude.{◌⊎◌, IfSome, not, ◌&&◌}
 use Rattle.std.specs.Io.KnownBytes.{Consumes, Keeps, IsAtEnd}
@@ -8,11 +8,11 @@ use Rattle.std.proofs.lemmas.Bool.{true≢false, false≢true}
 use Rattle.std.proofs.lemmas.List.{take-append-le}
 use Rattle.std.proofs.lemmas.Option.{none-some}
 use Rattle.tsp_format.specs.Limits.{most_file_bytes}
-use Rattle.tsp_stream.specs.Turn.{Turn, Gave, IsSound, GaveAll, TakesAtMost}
+use Rattle.tsp_io.specs.Turn.{Turn, Gave, IsSound, GaveAll, TakesAtMost}
 use Rattle.tsp_text.specs.declared.fault.ReadFault.{ReadFault}
 use Rattle.tsp_text.specs.declared.fault.ReadFault.TheVariants as faults
-use Rattle.tsp_read.specs.declared.stage.Stage.{Stage}
-use Rattle.tsp_read.specs.declared.stage.Stage.TheVariants.{Going, Ended, Refused}
+use Rattle.tsp_read.specs.declared.feed.Stage.{Stage}
+use Rattle.tsp_read.specs.declared.feed.Stage.TheVariants.{Going, Ended, Refused}
 use Rattle.tsp_read.specs.declared.feed.Feed.{Feed}
 use Rattle.tsp_text.specs.Items.{has_end_line}
 use Rattle.tsp_text.specs.FaultRows.{when, first_row}

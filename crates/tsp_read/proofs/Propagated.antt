@@ -1,5 +1,5 @@
 -- The error that `?` propagates is the one of the call before it. tsp_judge and tsp_c import it too. For `feed_all` in
--- src/input.rt and others.
+-- src/asked_reads.rt and others.
 use Rattle.std.proofs.Common.{◌≡◌, ap, Result, Ok, Err}
 use Rattle.std.specs.Result.{IsErrAnd}
 

@@ -1,13 +1,13 @@
 -- One item that the reader takes. A line's end changes nothing, and a word or a line is one item more, with its number
--- in the line. For `take` in src/item.rt and others.
+-- in the line. For `take` in src/items.rt and others.
 use Rattle.std.proofs.Common.{◌≡◌, ℕ, Bool, false, List, ◌∷◌, refl, sym, subst, Option, Some, None, Ok}
-use Rattle.tsp_read.specs.declared.state.reading.Reading.{Reading}
-use Rattle.tsp_read.specs.declared.cut.Next.{Next}
-use Rattle.tsp_read.specs.declared.cut.Next.TheVariants as next
+use Rattle.tsp_read.specs.declared.reading.Reading.{Reading}
+use Rattle.tsp_read.specs.declared.items.Next.{Next}
+use Rattle.tsp_read.specs.declared.items.Next.TheVariants as next
 use Rattle.tsp_text.specs.Items.{Item, LineEnd, NumberWord, Line, is_end_line, words_before, word_number}
 use Rattle.tsp_text.specs.Text.{part}
 use Rattle.tsp_read.specs.states.Left.{item_next}
-use Rattle.tsp_read.specs.declared.state.reading.OpenSection.{OpenSection}
+use Rattle.tsp_read.specs.declared.reading.OpenSection.{OpenSection}
 use Rattle.tsp_read.specs.states.Holds.{OpenHolds, Holds}
 use Rattle.tsp_read.specs.states.Taken.{TakesItem}
 use Rattle.tsp_text.proofs.Clean.{clean_more}

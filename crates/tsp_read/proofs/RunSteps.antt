@@ -1,13 +1,13 @@
 -- A run, which takes plain numbers and line ends in one pass, leaves what taking them item by item does. For
 -- `count_word` in src/run.rt and others.
 use Rattle.std.proofs.Common.{◌≡◌, ℕ, ◌+◌, ◌<◌, Bool, true, false, List, ◌∷◌, length, refl, ap, subst, ◌∙◌, Option, None, Some, Ok, arith}
-use Rattle.tsp_section.specs.declared.part.Part.{Part}
+use Rattle.tsp_read.specs.declared.part.Part.{Part}
 use Rattle.tsp_text.specs.Items.{NumberWord, LineEnd}
-use Rattle.tsp_section.specs.states.PartRun.{TakesRead, KeepsWords}
-use Rattle.tsp_read.specs.declared.count.Count.{Count}
-use Rattle.tsp_read.specs.declared.intake.Intake.{Intake}
-use Rattle.tsp_read.specs.declared.state.reading.OpenSection.{OpenSection}
-use Rattle.tsp_read.specs.declared.state.reading.Reading.{Reading}
+use Rattle.tsp_read.specs.states.PartRun.{TakesRead, KeepsWords}
+use Rattle.tsp_read.specs.declared.run.Count.{Count}
+use Rattle.tsp_read.specs.declared.items.Intake.{Intake}
+use Rattle.tsp_read.specs.declared.reading.OpenSection.{OpenSection}
+use Rattle.tsp_read.specs.declared.reading.Reading.{Reading}
 use Rattle.tsp_read.specs.states.Onward.{GivesNext}
 use Rattle.tsp_read.specs.states.Intake.{IsReadTo}
 use Rattle.tsp_read.specs.states.ReadingRun.{counted, in_run, RunsTo, StepsTo}

@@ -1,16 +1,16 @@
 -- The fields of the closed sections. A line that opens a section and a word leave them, and the end of a section adds
--- its field. For `Reading::close` in src/state/reading.rt and others.
+-- its field. For `Reading::close` in src/reading.rt and others.
 use Rattle.std.proofs.Common.{◌≡◌, Bool, true, false, cond, List, ◌∷◌, refl, ap, ◌∙◌, Some}
 use Rattle.std.specs.Prelude.{ℕ}
 use Rattle.std.specs.List.{find}
-use Rattle.tsp_format.specs.declared.field.Field.{Field}
-use Rattle.tsp_format.specs.declared.field.Field.TheVariants.{NodeCoordPart}
+use Rattle.tsp_format.specs.declared.keyword.Field.{Field}
+use Rattle.tsp_format.specs.declared.keyword.Field.TheVariants.{NodeCoordPart}
 use Rattle.tsp_format.specs.declared.keyword.Keyword.TheVariants.{Known}
-use Rattle.tsp_draft.specs.Fields.{Fields}
+use Rattle.tsp_file.specs.Fields.{Fields}
 use Rattle.tsp_text.specs.Items.{WordLine, Item, Line, NumberWord}
 use Rattle.tsp_format.specs.Shapes.{is_section_field}
 use Rattle.tsp_text.specs.Earlier.{has_line, open_section, words_of}
-use Rattle.tsp_format.specs.declared.field.Shape.TheVariants.{Points, SpacePoints}
+use Rattle.tsp_format.specs.declared.keyword.Shape.TheVariants.{Points, SpacePoints}
 use Rattle.tsp_text.specs.Values.{spatial_after}
 use Rattle.tsp_text.specs.Groups.{coords_by_node}
 use Rattle.tsp_text.specs.Sections.{dimension_in}

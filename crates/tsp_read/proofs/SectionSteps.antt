@@ -1,32 +1,32 @@
 -- A section is opened by its line, and closed: its field has its value, and no other field changes. For
--- `Reading::close` in src/state/reading.rt and others.
+-- `Reading::close` in src/reading.rt and others.
 use Rattle.std.proofs.Common.{◌≡◌, ℕ, Bool, true, false, List, [], ◌∷◌, ◌≤◌, cond, get_or, arith, refl, sym, ap, subst, ◌∙◌, Option, Some, None, Ok, Err}
 use Rattle.std.specs.Prelude.{ℤ, nat_le, nat_lt, is_some, unwrap_or, not, ◌&&◌}
 use Rattle.std.specs.Option.{option_map_or}
 use Rattle.std.specs.List.{find}
 use Rattle.std.proofs.lemmas.Bool.{and_parts, leb-true}
 use Rattle.tsp_distance.specs.declared.decimal.Point.{Point}
-use Rattle.tsp_format.specs.declared.field.Field.{Field}
-use Rattle.tsp_format.specs.declared.field.Field.TheVariants.{DimensionKey}
+use Rattle.tsp_format.specs.declared.keyword.Field.{Field}
+use Rattle.tsp_format.specs.declared.keyword.Field.TheVariants.{DimensionKey}
 use Rattle.tsp_format.specs.declared.keyword.Keyword.TheVariants.{Known}
 use Rattle.tsp_format.specs.Limits.{most_nodes, most_line_bytes, most_matrix_nodes}
 use Rattle.tsp_format.specs.Steps.{Step}
 use Rattle.tsp_format.specs.Words.{fields_in_order}
-use Rattle.tsp_draft.specs.Fields.{Fields, stands_in, with_numbers, with_points, spatial}
-use Rattle.tsp_draft.specs.states.Drafts.{fields_of}
-use Rattle.tsp_draft.specs.Validity.{if_there, is_node}
+use Rattle.tsp_file.specs.Fields.{Fields, stands_in, with_numbers, with_points, spatial}
+use Rattle.tsp_file.specs.states.Drafts.{fields_of}
+use Rattle.tsp_file.specs.Validity.{if_there, is_node}
 use Rattle.tsp_text.specs.declared.fault.LineFault.{LineFault}
 use Rattle.tsp_text.specs.declared.fault.LineFault.TheVariants as row
-use Rattle.tsp_format.specs.declared.field.Shape.{Shape}
-use Rattle.tsp_format.specs.declared.field.Shape.TheVariants.{Numbers, Pairs, Triples, Combs, Steps}
-use Rattle.tsp_section.specs.declared.part.Part.{Part}
-use Rattle.tsp_section.specs.declared.part.Part.TheVariants as parts
-use Rattle.tsp_section.specs.declared.parts.numbers.NumberList.{NumberList}
-use Rattle.tsp_section.specs.declared.parts.points.PointList.{PointList}
-use Rattle.tsp_section.specs.declared.parts.fixed.FixedList.{FixedList}
-use Rattle.tsp_section.specs.declared.parts.triples.TripleList.{TripleList}
-use Rattle.tsp_section.specs.declared.parts.combs.CombList.{CombList}
-use Rattle.tsp_section.specs.declared.parts.tree.TreeList.{TreeList}
+use Rattle.tsp_format.specs.declared.keyword.Shape.{Shape}
+use Rattle.tsp_format.specs.declared.keyword.Shape.TheVariants.{Numbers, Pairs, Triples, Combs, Steps}
+use Rattle.tsp_read.specs.declared.part.Part.{Part}
+use Rattle.tsp_read.specs.declared.part.Part.TheVariants as parts
+use Rattle.tsp_read.specs.declared.by_node.NumberList.{NumberList}
+use Rattle.tsp_read.specs.declared.by_node.PointList.{PointList}
+use Rattle.tsp_read.specs.declared.lists.FixedList.{FixedList}
+use Rattle.tsp_read.specs.declared.part.TripleList.{TripleList}
+use Rattle.tsp_read.specs.declared.tree.CombList.{CombList}
+use Rattle.tsp_read.specs.declared.tree.TreeList.{TreeList}
 use Rattle.tsp_text.specs.Groups.{numbers_by_node, place_of_number, coords_by_node}
 use Rattle.tsp_text.specs.Lists.{fixed_in, place_of_fixed, fixed_triples_in, place_of_triple}
 use Rattle.tsp_text.specs.CombSection.{whole_combs, place_of_comb}
@@ -39,13 +39,13 @@ use Rattle.tsp_text.specs.Earlier.{is_open, has_line, open_section, words_of}
 use Rattle.tsp_text.specs.Values.{dimension_of, spatial_after}
 use Rattle.tsp_text.specs.Sections.{place_by, place_in, dimension_in}
 use Rattle.tsp_text.specs.FaultRows.{row_of, when, first_row}
-use Rattle.tsp_section.specs.states.CutLine.{MayOpen}
-use Rattle.tsp_section.specs.states.Parts.{are_in_space}
+use Rattle.tsp_read.specs.states.CutLine.{MayOpen}
+use Rattle.tsp_read.specs.states.Parts.{are_in_space}
 use Rattle.tsp_text.specs.Opening.{needs_nodes, is_matrix, opening_rows}
-use Rattle.tsp_section.specs.states.HeldParts.{HoldsNumbers, HoldsPoints, HoldsFixed, HoldsTriples, HoldsCombs, HoldsTree, shape_of_points, shape_by, HoldsPart, HoldsShape}
+use Rattle.tsp_read.specs.states.HeldParts.{HoldsNumbers, HoldsPoints, HoldsFixed, HoldsTriples, HoldsCombs, HoldsTree, shape_of_points, shape_by, HoldsPart, HoldsShape}
 use Rattle.tsp_text.specs.Spells.{wants_more, is_incomplete, sections_in_order, first_incomplete}
-use Rattle.tsp_read.specs.declared.state.reading.OpenSection.{OpenSection}
-use Rattle.tsp_read.specs.declared.state.reading.Reading.{Reading}
+use Rattle.tsp_read.specs.declared.reading.OpenSection.{OpenSection}
+use Rattle.tsp_read.specs.declared.reading.Reading.{Reading}
 use Rattle.tsp_read.specs.states.OpenSection.{HoldsSection}
 use Rattle.tsp_read.specs.states.Stored.{with_words, with_section}
 use Rattle.tsp_read.specs.states.Incomplete.{first_of}

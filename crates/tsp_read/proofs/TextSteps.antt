@@ -1,24 +1,24 @@
 -- Lines of NAME, COMMENT and unknown keywords, whose values are kept as they are, and lines that give no field. For
--- `Reading::known` and `Reading::line` in src/state/lines.rt.
+-- `Reading::known` and `Reading::line` in src/reading.rt.
 use Rattle.std.proofs.Common.{◌≡◌, ℕ, Bool, true, false, List, [], ◌∷◌, ◌++◌, set, get_or, refl, sym, ap, subst, ◌∙◌, Option, Some, None, Result, Ok, Err, length}
 use Rattle.std.specs.Prelude.{nat_lt, nat_le, is_some, not}
 use Rattle.std.specs.Option.{option_map}
-use Rattle.tsp_format.specs.declared.field.Field.{Field}
-use Rattle.tsp_format.specs.declared.field.Field.TheVariants.{NameKey, CommentKey, OtherKey}
+use Rattle.tsp_format.specs.declared.keyword.Field.{Field}
+use Rattle.tsp_format.specs.declared.keyword.Field.TheVariants.{NameKey, CommentKey, OtherKey}
 use Rattle.tsp_format.specs.declared.keyword.Keyword.TheVariants.{Known, EdgeDataFormat, EdgeDataSection, Eof, Unknown}
 use Rattle.tsp_format.specs.Limits.{most_line_bytes, most_comments, most_others}
-use Rattle.tsp_draft.specs.Fields.{Fields}
-use Rattle.tsp_draft.specs.states.Drafts.{fields_of}
+use Rattle.tsp_file.specs.Fields.{Fields}
+use Rattle.tsp_file.specs.states.Drafts.{fields_of}
 use Rattle.tsp_text.specs.declared.fault.LineFault.{LineFault}
 use Rattle.tsp_text.specs.declared.fault.LineFault.TheVariants as row
-use Rattle.tsp_section.specs.declared.fault.StepFault.{StepFault}
-use Rattle.tsp_section.specs.declared.fault.StepFault.TheVariants as steps
-use Rattle.tsp_read.specs.declared.state.reading.Reading.{Reading}
+use Rattle.tsp_read.specs.declared.line.StepFault.{StepFault}
+use Rattle.tsp_read.specs.declared.line.StepFault.TheVariants as steps
+use Rattle.tsp_read.specs.declared.reading.Reading.{Reading}
 use Rattle.tsp_text.specs.Items.{WordLine, Item, Line}
 use Rattle.tsp_text.specs.Earlier.{has_line, values_at, others_in}
 use Rattle.tsp_text.specs.FaultRows.{row_of, when, first_row, is_too_long_to_keep}
 use Rattle.tsp_text.specs.Spells.{fields_by}
-use Rattle.tsp_section.specs.states.CutLine.{SetsName, AddsComment, AddsOther}
+use Rattle.tsp_read.specs.states.CutLine.{SetsName, AddsComment, AddsOther}
 use Rattle.tsp_read.specs.states.Holds.{fields_there, Holds, Closed, LineAnswers, OtherAnswers}
 use Rattle.tsp_text.proofs.Clean.{clean_more}
 use Rattle.tsp_read.proofs.KeywordSteps.{still_none}

@@ -1,12 +1,12 @@
 -- A word of the open section: nothing changes but the words of that section. For `Reading::word` in
--- src/state/reading.rt.
+-- src/reading.rt.
 use Rattle.std.proofs.Common.{Bool, subst, ◌≡◌, ℕ, true, List, [], ◌∷◌, ◌++◌, sym, ap, ◌∙◌, Some, Result, Ok, Err}
-use Rattle.tsp_format.specs.declared.field.Field.{Field}
-use Rattle.tsp_section.specs.declared.fault.StepFault.{StepFault}
-use Rattle.tsp_section.specs.declared.fault.StepFault.TheVariants as steps
-use Rattle.tsp_format.specs.declared.field.Shape.{Shape}
-use Rattle.tsp_read.specs.declared.state.reading.OpenSection.{OpenSection}
-use Rattle.tsp_read.specs.declared.state.reading.Reading.{Reading}
+use Rattle.tsp_format.specs.declared.keyword.Field.{Field}
+use Rattle.tsp_read.specs.declared.line.StepFault.{StepFault}
+use Rattle.tsp_read.specs.declared.line.StepFault.TheVariants as steps
+use Rattle.tsp_format.specs.declared.keyword.Shape.{Shape}
+use Rattle.tsp_read.specs.declared.reading.OpenSection.{OpenSection}
+use Rattle.tsp_read.specs.declared.reading.Reading.{Reading}
 use Rattle.tsp_text.specs.Items.{Item, NumberWord}
 use Rattle.tsp_text.specs.Earlier.{open_section, words_of}
 use Rattle.tsp_format.specs.Shapes.{shape_of, is_section_field}
@@ -14,8 +14,8 @@ use Rattle.tsp_text.specs.WordPlaces.{PastEnd}
 use Rattle.tsp_text.specs.Values.{spatial_after}
 use Rattle.tsp_text.specs.Sections.{place_by, place_in, dimension_in}
 use Rattle.tsp_text.specs.FaultRows.{word_fault}
-use Rattle.tsp_section.specs.states.Parts.{Takes}
-use Rattle.tsp_section.specs.states.HeldParts.{shape_by, HoldsPart, HoldsShape}
+use Rattle.tsp_read.specs.states.Parts.{Takes}
+use Rattle.tsp_read.specs.states.HeldParts.{shape_by, HoldsPart, HoldsShape}
 use Rattle.std.specs.Option.{option_map_or}
 use Rattle.tsp_read.specs.states.Holds.{OpenHolds, Holds, AnswersItem}
 use Rattle.tsp_text.proofs.Sections.{section_of}

@@ -2,8 +2,8 @@
 -- (src/asked_reads.rt), and for the runs of tsp_judge (src/asked_runs.rt).
 use Rattle.std.specs.Prelude.{◌≡◌, ◌||◌, ℕ, zero, suc, Bool, false, List, Result, is_err}
 use Rattle.std.specs.declared.io.Error.{Error}
-use Rattle.tsp_stream.specs.declared.watched.Watched.{Watched}
-use Rattle.tsp_stream.specs.states.Watched.{watched, has_failed}
+use Rattle.tsp_io.specs.declared.watched.Watched.{Watched}
+use Rattle.tsp_io.specs.states.Watched.{watched, has_failed}
 
 -- `new` is the reader after `count` reads, each of which gave what the reader may give. It has failed where the last of
 -- them returned an error, and no read follows an error.

@@ -2,13 +2,13 @@
 -- (src/asked_reads.rt), and for the runs of tsp_judge.
 use Rattle.std.specs.Prelude.{◌≡◌, ℕ, ◌+◌, List, Some, Result, Ok, Err}
 use Rattle.tsp_format.specs.Limits.{most_file_bytes}
-use Rattle.tsp_stream.specs.Turn.{Turn, Gave, IsSound, GaveAll, HasBrokenOff, TakesAtMost}
-use Rattle.tsp_draft.specs.Fields.{Fields}
+use Rattle.tsp_io.specs.Turn.{Turn, Gave, IsSound, GaveAll, HasBrokenOff, TakesAtMost}
+use Rattle.tsp_file.specs.Fields.{Fields}
 use Rattle.tsp_text.specs.declared.fault.ReadFault.{ReadFault}
 use Rattle.tsp_text.specs.declared.fault.ReadFault.TheVariants as faults
 use Rattle.tsp_text.specs.Items.{Item}
 use Rattle.tsp_text.specs.Text.{fault, Spells}
-use Rattle.tsp_read.specs.declared.state.finish.FinishFault.TheVariants as finishes
+use Rattle.tsp_read.specs.declared.reading.FinishFault.TheVariants as finishes
 use Rattle.tsp_read.specs.states.Finishes.{Finishes}
 
 -- The text parses to this file, or this is its first fault. Out of memory says nothing.

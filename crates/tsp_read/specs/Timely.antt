@@ -1,13 +1,13 @@
 -- That a reader is asked for no piece more than its text needs: reading stops at the piece that settles a fault or an
--- end line. For `read_from` (src/asked_reads.rt) and `feed_all` (src/input.rt).
+-- end line. For `read_from` (src/asked_reads.rt) and `feed_all` (src/asked_reads.rt).
 use Rattle.std.specs.Prelude.{◌≡◌, ℕ, ◌-◌, Bool, true, false, List, length, take, None, Result, Ok, Err, ◌⊎◌}
 use Rattle.std.specs.Io.KnownBytes.{IsAtEnd}
-use Rattle.tsp_stream.specs.Turn.{Turn, Gave, IsSound, TakesAtMost}
-use Rattle.tsp_draft.specs.Fields.{Fields}
+use Rattle.tsp_io.specs.Turn.{Turn, Gave, IsSound, TakesAtMost}
+use Rattle.tsp_file.specs.Fields.{Fields}
 use Rattle.tsp_text.specs.declared.fault.ReadFault.{ReadFault}
 use Rattle.tsp_text.specs.declared.fault.ReadFault.TheVariants as faults
-use Rattle.tsp_read.specs.declared.stage.Stage.{Stage}
-use Rattle.tsp_read.specs.declared.stage.Stage.TheVariants.{Going, Ended, Refused}
+use Rattle.tsp_read.specs.declared.feed.Stage.{Stage}
+use Rattle.tsp_read.specs.declared.feed.Stage.TheVariants.{Going, Ended, Refused}
 use Rattle.tsp_read.specs.declared.feed.Feed.{Feed}
 use Rattle.tsp_text.specs.Items.{has_end_line}
 use Rattle.tsp_text.specs.Text.{settled_part, settled_fault}

@@ -1,4 +1,8 @@
 -- The files of definitions that look into structs of the code.
+pub mod Parts
+pub mod HeldParts
+pub mod CutLine
+pub mod PartRun
 pub mod OpenSection
 pub mod Stored
 pub mod Incomplete

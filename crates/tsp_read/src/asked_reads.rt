@@ -1,20 +1,23 @@
 //! Public calls that read a file from bytes, a reader or pieces, as example_check does. Each
-//! returns the fault of a call in `src/read_whole.rt` or `src/feed.rt`, without the token of a
+//! returns the fault of a call in `src/asked_reads.rt` or `src/feed.rt`, without the token of a
 //! refusal.
 
-ghost use Rattle.std.specs.Prelude.{◌≡◌, Err, false};
-ghost use Rattle.tsp_stream.specs.states.Watched.{turn_of};
+ghost use Rattle.std.specs.Prelude.{◌≡◌, Err, false, []};
+ghost use Rattle.tsp_io.specs.states.Watched.{turn_of, has_failed};
 ghost use Rattle.tsp_text.specs.declared.fault.ReadFault.TheVariants.{OutOfMemory};
-ghost use Rattle.tsp_read.specs.states.Onward.{is_bare};
 ghost use Rattle.tsp_read.specs.Asked.{IsReadOn};
+ghost use Rattle.tsp_read.specs.Feed.{HasTaken};
 ghost use Rattle.tsp_read.specs.Reads.{Reads, ReadsFrom};
-ghost use Rattle.tsp_read.specs.Timely.{ReadsInTime};
+ghost use Rattle.tsp_read.specs.Timely.{ReadsInTime, FeedsAll};
+ghost use Rattle.tsp_read.specs.states.Onward.{is_bare};
 
 use crate::feed::Feed;
-use crate::read_whole::{file_of_bytes, file_of_reader};
+use crate::reading::ReadError;
 use std::alloc::Global;
+use std::io::Read;
 use tsp_file::File;
-use tsp_stream::{Gives, Watched};
+use tsp_format::MOST_FILE_BYTES;
+use tsp_io::{Gives, Watched};
 use tsp_text::ReadFault;
 
 /// Reads a file from the bytes of a text.
@@ -107,4 +110,79 @@ impl Feed {
     {
         Ok(self.into_file()?)
     }
+}
+
+// ---- reads a whole text, or a reader to its end
+
+/// Reads a file from the bytes of a text, as `read_bytes` does.
+///
+/// # Errors
+///
+/// Those of `read_bytes`.
+pub fn file_of_bytes(alloc: Global, bytes: &[u8]) -> Result<File, ReadError>
+    ensures answer { Reads bytes.now result }
+    ensures memory { result ≡ Err OutOfMemory → is_bare bytes.now ≡ false }
+{
+    let mut feed = Feed::new(alloc);
+    match feed.take(bytes) {
+        Ok(()) => feed.into_file(),
+        Err(fault) => {
+            drop(feed);
+            Err(fault)
+        }
+    }
+}
+
+/// Reads a file from a reader, as `read_from` does.
+///
+/// # Errors
+///
+/// Those of `read_from`.
+pub fn file_of_reader<R: Gives>(alloc: Global, reader: &mut Watched<R>) -> Result<File, ReadError>
+    ensures answer { ReadsFrom (turn_of R.remaining reader.old reader.new) result }
+    ensures asked { IsReadOn R.gives reader.old reader.new }
+    ensures in_time { ReadsInTime (turn_of R.remaining reader.old reader.new) result }
+{
+    if reader.failed() {
+        return Err(ReadError::by_device());
+    }
+    let mut feed = Feed::new(alloc);
+    match feed_all(&mut feed, reader) {
+        Ok(()) => feed.into_file(),
+        Err(fault) => {
+            drop(feed);
+            Err(fault)
+        }
+    }
+}
+
+// ---- reads a reader in pieces of 4,096 bytes and feeds them to a `Feed`
+
+/// The most bytes that a reader is asked for at once.
+const MOST_AT_ONCE: usize = 4_096;
+
+/// Feeds the bytes of a reader: up to its end, to an end line, to a fault, or past the most bytes
+/// that a file may have.
+fn feed_all<R: Gives>(feed: &mut Feed, reader: &mut Watched<R>) -> Result<(), ReadError>
+    requires start { HasTaken feed.old [] }
+    requires sound { has_failed reader.old ≡ false }
+    ensures fed { FeedsAll (turn_of R.remaining reader.old reader.new) feed.new result }
+    ensures asked { IsReadOn R.gives reader.old reader.new }
+{
+    let mut taken = 0usize;
+    let mut piece = [0u8; MOST_AT_ONCE];
+    'pieces: while taken <= MOST_FILE_BYTES {
+        if !feed.may_go_on() {
+            return Ok(());
+        }
+        let Ok(count) = reader.read(&mut piece) else {
+            return Err(ReadError::by_device());
+        };
+        if count == 0 {
+            return Ok(());
+        }
+        feed.take(&piece[..count])?;
+        taken += count;
+    }
+    Ok(())
 }

@@ -5,7 +5,7 @@ ghost use Rattle.std.specs.Prelude.{◌≡◌, ◌+◌, ◌^◌, true, false, []
 ghost use Rattle.tsp_read.specs.states.Onward.{is_bare};
 ghost use Rattle.tsp_read.specs.Reads.{most_taken};
 ghost use Rattle.tsp_read.specs.Timely.{before_last, may_go_on};
-ghost use Rattle.tsp_read.specs.declared.stage.Stage.TheVariants as stages;
+ghost use Rattle.tsp_read.specs.declared.feed.Stage.TheVariants as stages;
 ghost use Rattle.tsp_text.specs.declared.fault.ReadFault.{ReadFault};
 
 /// Which texts are of blanks and line ends alone, how many bytes are taken at most, and what the

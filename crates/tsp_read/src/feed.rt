@@ -1,18 +1,14 @@
 //! `Feed`, which reads a file in pieces and finds the fault as soon as no later byte can change it.
-//! For `src/read_whole.rt`, which feeds it a text or a reader.
+//! For `src/asked_reads.rt`, which feeds it a text or a reader.
 
 ghost use Rattle.std.specs.Prelude.{◌≡◌, ◌+◌, ◌≤◌, ◌++◌, [], List, ℕ, length, Ok, true, false};
 ghost use Rattle.tsp_format.specs.Limits.{most_file_bytes};
-ghost use Rattle.tsp_read.specs.states.Begun.{IsFedTo, most_lines, most_words, KeepRoom};
 ghost use Rattle.tsp_text.specs.Lines.{is_not_empty};
+ghost use Rattle.tsp_read.specs.states.Begun.{IsFedTo, most_lines, most_words, KeepRoom};
 ghost use Rattle.tsp_read.specs.states.Paused.{FeedsOn, HasRoom, HasBytes, stage_after, outcome_of};
 
-use crate::begun::Begun;
-use crate::intake::Intake;
-use crate::read_error::ReadError;
-use crate::stage::Stage;
-use crate::state::finish::completed;
-use crate::state::reading::Reading;
+use crate::items::{Begun, Intake};
+use crate::reading::{ReadError, Reading, completed};
 use std::alloc::Global;
 use tsp_file::File;
 use tsp_format::MOST_FILE_BYTES;
@@ -122,7 +118,7 @@ impl Drop for Feed {
 impl Feed {
     ghost use Rattle.std.specs.Prelude.{Some, None, Err, IfOk, IfErr, ◌≢◌};
     ghost use Rattle.tsp_text.specs.declared.fault.ReadFault.{ReadFault};
-    ghost use Rattle.tsp_read.specs.declared.stage.Stage.TheVariants.{Going};
+    ghost use Rattle.tsp_read.specs.declared.feed.Stage.TheVariants.{Going};
     ghost use Rattle.tsp_text.specs.Items.{has_end_line};
     ghost use Rattle.tsp_text.specs.Text.{settled_part, settled_fault};
     ghost use Rattle.tsp_text.specs.declared.fault.ReadFault.TheVariants.{OutOfMemory};
@@ -237,4 +233,14 @@ impl Feed {
         let reading = self.end()?;
         completed(reading, alloc)
     }
+}
+
+// ---- how far a text is that comes in pieces
+
+/// How far a text is: it goes on, its end line was taken, or it was refused.
+#[derive(Clone, Copy)]
+pub(crate) enum Stage {
+    Going,
+    Ended,
+    Refused(ReadError),
 }

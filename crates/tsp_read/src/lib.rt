@@ -1,35 +1,39 @@
-//! Reads TSPLIB 95 files: the file that bytes parse to, or the first fault and its place.
+//! The parts of a reader that take the words of each section and the value of each keyword.
 //!
-//! It reads a text, a reader, or pieces ([`Feed`]), with one answer. It judges nothing, and opens
-//! no files.
-//!
-//! As example_check does it, with a text in memory:
+//! A part knows no other part, and not how a text is cut into lines and words: that is tsp_read's.
 //!
 //! ```text
-//! let file = read_bytes(alloc, instance)?;
+//! let mut part = Part::open(alloc, Shape::Depots, nodes)?;
+//! part.push(alloc, word)?;
 //! ```
 #![tactic(auto)]
 
 mod asked_reads;
-mod begun;
-mod count;
-mod cut;
+mod by_node;
 mod examples;
 mod feed;
-mod input;
-mod intake;
-mod item;
-mod read_error;
-mod read_whole;
+mod items;
+mod line;
+mod lists;
+mod part;
+mod reading;
 mod run;
-mod stage;
-mod state;
-mod token;
+mod runs;
+mod tree;
 
-pub use asked_reads::{read_bytes, read_from};
+pub use asked_reads::{file_of_bytes, file_of_reader, read_bytes, read_from};
+pub use by_node::{NumberList, PointList};
 pub use examples::examples_of_reading;
 pub use feed::Feed;
-pub use read_error::ReadError;
-pub use read_whole::{file_of_bytes, file_of_reader};
-pub use tsp_draft::EndFault;
+pub use line::{
+    CutLine, StepFault, add_comment, add_other, may_open, number_of, says_space, set_name,
+    set_named, without_start,
+};
+pub use lists::{DepotList, FixedList};
+pub use part::{Part, TripleList};
+pub use reading::ReadError;
+pub use run::RunList;
+pub use runs::{Gathered, GatheredNodes, TourList, WeightList};
+pub use tree::{CombList, TreeList};
+pub use tsp_file::EndFault;
 pub use tsp_text::{LineFault, ReadFault};

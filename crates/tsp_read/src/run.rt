@@ -1,5 +1,5 @@
 //! A run of numbers: the words of a matrix, of tours, of points or of numbers by node, each looked
-//! at once. For `src/intake.rt`.
+//! at once. For `src/items.rt`.
 //!
 //! Most words there are plain numbers, and most of a matrix have a few digits. Such a word is read
 //! here where its end is found, so that it is not searched for first. Every other word, and every
@@ -8,28 +8,29 @@
 //! Which list takes the words is found out once for a run. The loop over them is one for all lists,
 //! and has its counts in one place.
 
-ghost use Rattle.std.specs.Prelude.{◌≡◌, ◌+◌, ◌<◌, ◌≤◌, ℕ, Bool, true, List, length, Some, IfSome, Ok};
 ghost use Rattle.std.specs.Option.{option_map};
-ghost use Rattle.tsp_format.specs.Limits.{most_file_bytes};
+ghost use Rattle.std.specs.Prelude.{◌≡◌, ◌+◌, ◌<◌, ◌≤◌, ℕ, Bool, true, List, length, Some, IfSome, Ok, ◌-◌, pos, slice_index_or, false};
 ghost use Rattle.tsp_number.specs.Reading.{decimal_of};
+ghost use Rattle.tsp_format.specs.Limits.{most_file_bytes};
 ghost use Rattle.tsp_text.specs.Items.{NumberWord};
 ghost use Rattle.tsp_text.specs.SectionNumbers.{IsWhole};
-ghost use Rattle.tsp_section.specs.declared.part.Part.{Part};
-ghost use Rattle.tsp_section.specs.declared.part.Part.TheVariants as parts;
-ghost use Rattle.tsp_section.specs.states.PartRun.{TakesRead};
-ghost use Rattle.tsp_read.specs.states.WordFront.{front_word, left_from, IsFrontWord, LeavesEnd};
+ghost use Rattle.tsp_read.specs.declared.part.Part.{Part};
+ghost use Rattle.tsp_read.specs.declared.part.Part.TheVariants as parts;
 ghost use Rattle.tsp_read.specs.states.Onward.{GivesNext};
+ghost use Rattle.tsp_read.specs.states.PartRun.{TakesRead, in_group, groups_left, marks_of, KeepsWords};
+ghost use Rattle.tsp_read.specs.states.Parts.{IsNodeOf};
 ghost use Rattle.tsp_read.specs.states.ReadingRun.{RunsTo, StepsTo};
+ghost use Rattle.tsp_read.specs.states.WordFront.{front_word, left_from, IsFrontWord, LeavesEnd};
 
-use crate::count::Count;
-use crate::cut::without_start;
-use crate::intake::Intake;
-use crate::state::reading::Reading;
+use crate::by_node::{NumberList, PointList};
+use crate::items::{Intake, without_start};
+use crate::part::Part;
+use crate::reading::Reading;
+use crate::runs::{Gathered, GatheredNodes, TourList, WeightList};
 use std::alloc::Global;
 use tsp_distance::Decimal;
 use tsp_format::is_blank;
 use tsp_number::{front_decimal, front_few, front_whole};
-use tsp_section::{Part, RunList, TourList, WeightList};
 
 // ---- a number at the beginning of a text
 
@@ -70,7 +71,7 @@ fn line_end(rest: &[u8]) -> Option<End<'_>>
 /// The whole number of a few digits that a text begins with, and the end of its word; or nothing
 /// where the text begins with no such word whose end has come.
 #[inline(always)]
-pub(crate) fn few_number(text: &[u8]) -> Option<(i64, End<'_>)>
+fn few_number(text: &[u8]) -> Option<(i64, End<'_>)>
     ensures { IfSome result (λ found.
         IsFrontWord text.now (IsWhole (front_word text.now) found.0) (left_from found.1)) }
 {
@@ -86,7 +87,7 @@ pub(crate) fn few_number(text: &[u8]) -> Option<(i64, End<'_>)>
 
 /// The result of `few_number`, for a word that a byte 10 ends.
 #[inline(always)]
-pub(crate) fn last_number(text: &[u8]) -> Option<(i64, End<'_>)>
+fn last_number(text: &[u8]) -> Option<(i64, End<'_>)>
     ensures { IfSome result (λ found.
         IsFrontWord text.now (IsWhole (front_word text.now) found.0) (left_from found.1)) }
 {
@@ -103,7 +104,7 @@ pub(crate) fn last_number(text: &[u8]) -> Option<(i64, End<'_>)>
 /// The whole number at the beginning of a text, and the end of its word. Nothing where the text
 /// begins with no word of at most 18 digits whose end has come.
 #[inline(never)]
-pub(crate) fn front_number(text: &[u8]) -> Option<(i64, End<'_>)>
+fn front_number(text: &[u8]) -> Option<(i64, End<'_>)>
     ensures { IfSome result (λ found.
         IsFrontWord text.now (IsWhole (front_word text.now) found.0) (left_from found.1)) }
 {
@@ -121,7 +122,7 @@ pub(crate) fn front_number(text: &[u8]) -> Option<(i64, End<'_>)>
 /// The coordinate at the beginning of a text, and the end of its word. Nothing where the text
 /// begins with no word of at most nine digits, a point and nine more whose end has come.
 #[inline(always)]
-pub(crate) fn front_coordinate(text: &[u8]) -> Option<(Decimal, End<'_>)>
+fn front_coordinate(text: &[u8]) -> Option<(Decimal, End<'_>)>
     ensures { IfSome result (λ found.
         IsFrontWord text.now (decimal_of (front_word text.now) ≡ Ok found.0) (left_from found.1)) }
 {
@@ -432,5 +433,126 @@ impl Intake {
         self.words = counted.words;
         self.inside = counted.inside;
         rest
+    }
+}
+
+// ---- the number of the line and of its words so far, while `src/run.rt` takes many words in
+
+/// The counts of an `Intake`, in a run of words.
+#[derive(Clone, Copy)]
+pub(crate) struct Count {
+    /// The number of the line, from 1 on.
+    pub(crate) line: u32,
+    /// How many of its words were taken.
+    pub(crate) words: u32,
+    /// An item of the line was taken.
+    pub(crate) inside: bool,
+}
+
+// ---- the trait of lists that take the numbers of many words in one pass
+
+/// A list that takes the numbers of a run of words, each read already.
+pub trait RunList {
+    /// The part of the section that it is.
+    ghost part: { Self → Part };
+
+    /// Whether the next word is a coordinate.
+    fn awaits_coordinate(&self) -> bool
+        ensures { result ≡ in_group (part self.now) };
+
+    /// Takes the number of a word, where the list takes it at its place. Returns whether it was
+    /// taken.
+    fn take_whole(&mut self, number: i64) -> bool
+        ensures taken { result ≡ true → (word : List ℕ) → IsWhole word number
+            → TakesRead (part self.old) (part self.new) word }
+        ensures kept { result ≡ false → KeepsWords (part self.old) (part self.new) }
+        ensures refused { result ≡ false → 0 < groups_left (part self.old)
+            → in_group (part self.old) ≡ false → (k : ℕ) → number ≡ pos k
+            → IsNodeOf (length (marks_of (part self.old))) k
+            → slice_index_or (marks_of (part self.old)) (k - 1) false ≡ true };
+
+    /// Takes the coordinate of a word, where a group of points has begun. Returns whether it was
+    /// taken.
+    fn take_coordinate(&mut self, coordinate: Decimal) -> bool
+        ensures taken { result ≡ true → (word : List ℕ) → decimal_of word ≡ Ok coordinate
+            → TakesRead (part self.old) (part self.new) word }
+        ensures kept { result ≡ false → KeepsWords (part self.old) (part self.new) }
+        ensures refused { result ≡ false → 0 < groups_left (part self.old)
+            → in_group (part self.old) ≡ false };
+}
+
+impl RunList for Gathered {
+    ghost part = { λ run. parts.Weights run.list };
+
+    #[inline(always)]
+    fn awaits_coordinate(&self) -> bool {
+        false
+    }
+
+    #[inline(always)]
+    fn take_whole(&mut self, number: i64) -> bool {
+        self.push_read(number)
+    }
+
+    #[inline(always)]
+    fn take_coordinate(&mut self, _coordinate: Decimal) -> bool {
+        false
+    }
+}
+
+impl RunList for GatheredNodes {
+    ghost part = { λ run. parts.Tours run.list };
+
+    #[inline(always)]
+    fn awaits_coordinate(&self) -> bool {
+        false
+    }
+
+    #[inline(always)]
+    fn take_whole(&mut self, number: i64) -> bool {
+        self.push_read(number)
+    }
+
+    #[inline(always)]
+    fn take_coordinate(&mut self, _coordinate: Decimal) -> bool {
+        false
+    }
+}
+
+impl RunList for NumberList {
+    ghost part = { λ list. parts.Numbers list };
+
+    #[inline(always)]
+    fn awaits_coordinate(&self) -> bool {
+        false
+    }
+
+    #[inline(always)]
+    fn take_whole(&mut self, number: i64) -> bool {
+        self.push_read(number)
+    }
+
+    #[inline(always)]
+    fn take_coordinate(&mut self, _coordinate: Decimal) -> bool {
+        false
+    }
+}
+
+impl RunList for PointList {
+    ghost part = { λ list. parts.Points list };
+
+    #[inline(always)]
+    fn awaits_coordinate(&self) -> bool {
+        self.wants_coordinate()
+    }
+
+    #[inline(always)]
+    fn take_whole(&mut self, number: i64) -> bool {
+        self.push_read(number)
+    }
+
+    #[inline(always)]
+    fn take_coordinate(&mut self, coordinate: Decimal) -> bool {
+        self.push_coordinate(coordinate)
     }
 }

@@ -4,8 +4,8 @@ use Rattle.std.proofs.Common.{◌≡◌, ℕ, ◌+◌, ◌<◌, List, [], ◌∷
 use Rattle.std.proofs.lemmas.List.{length-map, get_or-map}
 use Rattle.std.specs.Prelude.{codes, ◌==◌}
 use Rattle.std.specs.List.{flat_map, enumerate_from}
-use Rattle.tsp_stream.specs.states.WriteProgress.{Way, Carried}
-use Rattle.tsp_stream.proofs.Carrying.{carried_then, carried_node}
+use Rattle.tsp_io.specs.states.WriteProgress.{Way, Carried}
+use Rattle.tsp_io.proofs.Carrying.{carried_then, carried_node}
 use Rattle.tsp_report.specs.Report.{not_judged}
 use Rattle.tsp_report.specs.Show.{name_line}
 

@@ -1,15 +1,15 @@
 -- The text of `tsp compare`: a head on the instance and the certificate, and a line for each solution. For `write_head`
--- and `write_line` (src/comparison_text.rt), and for CompareRun.antt of tsp_judge.
+-- and `write_line` (src/compared.rt), and for CompareRun.antt of tsp_judge.
 use Rattle.std.specs.Prelude.{ℕ, List, [], ◌++◌, codes, decimal, cond, ℤ, pos, ◌-ℤ◌, Option, None, Some, Result, Ok, Err}
 use Rattle.std.specs.Ordering.{int_eq}
 use Rattle.std.specs.Fmt.{signed_decimal}
-use Rattle.tsp_draft.specs.Fields.{Fields}
+use Rattle.tsp_file.specs.Fields.{Fields}
 use Rattle.tsp_text.specs.declared.fault.ReadFault.{ReadFault}
 use Rattle.tsp_text.specs.ReadFaultText.{read_fault_text}
-use Rattle.tsp_task.specs.declared.basis.Basis.{Basis}
-use Rattle.tsp_task.specs.declared.basis.Basis.TheVariants as bases
-use Rattle.tsp_task.specs.declared.verdict.Verdict.{Verdict}
-use Rattle.tsp_task.specs.declared.verdict.Verdict.TheVariants.{Tour, Routes, No}
+use Rattle.tsp_report.specs.declared.verdict.Basis.{Basis}
+use Rattle.tsp_report.specs.declared.verdict.Basis.TheVariants as bases
+use Rattle.tsp_report.specs.declared.verdict.Verdict.{Verdict}
+use Rattle.tsp_report.specs.declared.verdict.Verdict.TheVariants.{Tour, Routes, No}
 use Rattle.tsp_report.specs.Report.{instance_lines, no_line, reason_text}
 
 -- ---- the head

@@ -1,12 +1,12 @@
--- A small file of each TYPE. For the laws of src/examples.rt, src/whole_examples.rt and
--- src/comparison_text_examples.rt, which state reports and what `tsp show` prints of them.
+-- A small file of each TYPE. For the laws of src/examples.rt, src/examples.rt and
+-- src/examples.rt, which state reports and what `tsp show` prints of them.
 use Rattle.std.specs.Prelude.{List, ℕ, [], ◌∷◌, Some, pos, codes}
 use Rattle.tsp_format.specs.declared.kinds.Kind.TheVariants.{Tsp, Cvrp, Tour, Potentials, Branches}
 use Rattle.tsp_format.specs.declared.kinds.WeightKind.TheVariants.{Explicit}
 use Rattle.tsp_format.specs.declared.kinds.WeightFormat.TheVariants.{Listed}
 use Rattle.tsp_format.specs.declared.layout.Layout.TheVariants.{FullMatrix}
 use Rattle.tsp_format.specs.Steps.{Leaf}
-use Rattle.tsp_draft.specs.Fields.{Fields, blank_fields}
+use Rattle.tsp_file.specs.Fields.{Fields, blank_fields}
 
 -- one line of an unknown keyword
 abbrev pub foo : List (List ℕ × List ℕ)

@@ -1,19 +1,86 @@
-//! Laws that state values of the definitions in `specs/`, worked out by hand: single lines of
-//! reports and of `show`. Digits are as `decimal` writes them.
+//! Laws that state values of the definitions in `specs/`, worked out by hand: heads and lines of
+//! comparisons.
 
-ghost use Rattle.std.specs.Prelude.{◌≡◌, ℕ, List, [], ◌∷◌, ◌++◌, None, Some, pos, negsuc, codes, decimal};
 ghost use Rattle.std.specs.Fmt.{signed_decimal};
-ghost use Rattle.tsp_format.specs.declared.kinds.Kind.TheVariants as kinds;
-ghost use Rattle.tsp_format.specs.declared.kinds.WeightKind.TheVariants as weight_kinds;
-ghost use Rattle.tsp_format.specs.declared.kinds.WeightFormat.TheVariants as formats;
-ghost use Rattle.tsp_format.specs.declared.layout.Layout.TheVariants as layouts;
+ghost use Rattle.std.specs.List.{All};
+ghost use Rattle.std.specs.Prelude.{◌≡◌, ◌++◌, None, Some, Ok, Err, pos, negsuc, codes, ℕ, List, [], ◌∷◌, decimal, ◌+◌, Bool, true, false, ℤ, Option, map};
+ghost use Rattle.tsp_number.specs.declared.word.NumberFault.TheVariants as number_faults;
 ghost use Rattle.tsp_format.specs.Steps.{Branch, Leaf};
-ghost use Rattle.tsp_task.specs.declared.verdict.BoundVerdict.TheVariants as bounds;
-ghost use Rattle.tsp_task.specs.declared.verdict.Reason.TheVariants as reasons;
-ghost use Rattle.tsp_task.specs.declared.verdict.Verdict.TheVariants as verdicts;
-ghost use Rattle.tsp_report.specs.Examples.{matrix};
-ghost use Rattle.tsp_report.specs.Report.{not_judged, type_line, nodes_line, gap_lines, bound_lines, reason_text, verdict_lines, bound_found_lines};
-ghost use Rattle.tsp_report.specs.Show.{name_line, weights_line, canonical_line, fixed_line, all_tour_lines, scale_line, load_unit_line, combs_line, leaves_line};
+ghost use Rattle.tsp_format.specs.declared.keyword.Field.TheVariants as fields;
+ghost use Rattle.tsp_format.specs.declared.kinds.Kind.TheVariants as kinds;
+ghost use Rattle.tsp_format.specs.declared.kinds.WeightFormat.TheVariants as formats;
+ghost use Rattle.tsp_format.specs.declared.kinds.WeightKind.TheVariants as weight_kinds;
+ghost use Rattle.tsp_format.specs.declared.layout.Layout.{Layout};
+ghost use Rattle.tsp_format.specs.declared.layout.Layout.TheVariants as layouts;
+ghost use Rattle.tsp_file.specs.declared.rules.EndFault.TheVariants as ends;
+ghost use Rattle.tsp_text.specs.declared.fault.LineFault.TheVariants as line_faults;
+ghost use Rattle.tsp_text.specs.declared.fault.ReadFault.TheVariants as read_faults;
+ghost use Rattle.tsp_report.specs.ComparisonText.{head_of, solution_line};
+ghost use Rattle.tsp_report.specs.Examples.{matrix, shown_routes, shown_tours, shown_potentials, shown_tree, untyped};
+ghost use Rattle.tsp_report.specs.Files.{files_of, files_of_task, numbered};
+ghost use Rattle.tsp_report.specs.Mapped.{IsMapped, IsMappedTask};
+ghost use Rattle.tsp_report.specs.ReasonExamples.{each_reason};
+ghost use Rattle.tsp_report.specs.ReasonRows.{rank_of, row_of_reason, role_of};
+ghost use Rattle.tsp_report.specs.Report.{not_judged, type_line, nodes_line, gap_lines, bound_lines, reason_text, verdict_lines, bound_found_lines, report_of, bound_report_of};
+ghost use Rattle.tsp_report.specs.Show.{name_line, weights_line, canonical_line, fixed_line, all_tour_lines, scale_line, load_unit_line, combs_line, leaves_line, shown};
+ghost use Rattle.tsp_report.specs.declared.task.Certificate.{Certificate};
+ghost use Rattle.tsp_report.specs.declared.task.Certificate.TheVariants as certificates;
+ghost use Rattle.tsp_report.specs.declared.task.Comparison.{Comparison};
+ghost use Rattle.tsp_report.specs.declared.task.FileTask.{FileTask};
+ghost use Rattle.tsp_report.specs.declared.task.FileTask.TheVariants as file_tasks;
+ghost use Rattle.tsp_report.specs.declared.task.Role.TheVariants.{Instance, Solution, Potentials, Branches};
+ghost use Rattle.tsp_report.specs.declared.task.Role.TheVariants as roles;
+ghost use Rattle.tsp_report.specs.declared.task.Task.TheVariants as tasks;
+ghost use Rattle.tsp_report.specs.declared.verdict.Basis.TheVariants as bases;
+ghost use Rattle.tsp_report.specs.declared.verdict.BoundVerdict.TheVariants as bounds;
+ghost use Rattle.tsp_report.specs.declared.verdict.Reason.TheVariants as reasons;
+ghost use Rattle.tsp_report.specs.declared.verdict.Verdict.TheVariants as verdicts;
+
+/// The head, with a bound or without, for an instance without tours, for routes, and with a reason.
+pub fn examples_of_heads()
+    ensures alone { head_of matrix (bases.Tours None)
+        ≡ codes "type TSP\nnodes 2\nnot judged FOO\nnot judged BAR\n" }
+    ensures bounded { head_of matrix (bases.Tours (Some (pos 12)))
+        ≡ codes "type TSP\nnodes 2\nnot judged FOO\nnot judged BAR\nbound 12\n" }
+    ensures no_tour { head_of matrix bases.NoSolution
+        ≡ codes "type TSP\nnodes 2\nnot judged FOO\nnot judged BAR\nbound none\n" }
+    ensures routes { head_of shown_routes (bases.Routes 3 None) ≡ codes "type CVRP\nnodes 2\nleast 3\n" }
+    ensures bounded_routes { head_of shown_routes (bases.Routes 3 (Some (pos 12)))
+        ≡ codes "type CVRP\nnodes 2\nleast 3\nbound 12\n" }
+    ensures no { head_of matrix (bases.No reasons.TooFewNodes)
+        ≡ codes "type TSP\nnodes 2\nnot judged FOO\nnot judged BAR\nno TooFewNodes\n" }
+    ensures unjudged { head_of matrix (bases.No reasons.NotJudged)
+        ≡ codes "type TSP\nnodes 2\nnot judged FOO\nnot judged BAR\nno NotJudged FOO\n" }
+{}
+
+/// A line of each kind. The path is at its end, with its blanks.
+pub fn examples_of_lines()
+    ensures alone { solution_line (Ok (verdicts.Tour (pos 14) None)) (codes "a.tour")
+        ≡ codes "14 a.tour\n" }
+    ensures optimal { solution_line (Ok (verdicts.Tour (pos 14) (Some (pos 14))))
+        (codes "my tours/a b.tour") ≡ codes "14 optimal my tours/a b.tour\n" }
+    ensures gap { solution_line (Ok (verdicts.Tour (pos 18) (Some (pos 14)))) (codes "-")
+        ≡ codes "18 gap 4 -\n" }
+    ensures below_zero { solution_line (Ok (verdicts.Tour (negsuc 33) (Some (negsuc 34))))
+        (codes "a") ≡ codes "-34 gap 1 a\n" }
+    ensures routes { solution_line (Ok (verdicts.Routes (pos 20) 3 2 None)) (codes "a.sol")
+        ≡ codes "20 routes 3 a.sol\n" }
+    ensures optimal_routes { solution_line (Ok (verdicts.Routes (pos 20) 3 2 (Some (pos 20)))) (codes "a.sol")
+        ≡ codes "20 routes 3 optimal a.sol\n" }
+    ensures gap_of_routes { solution_line (Ok (verdicts.Routes (pos 20) 3 2 (Some (pos 18)))) (codes "a.sol")
+        ≡ codes "20 routes 3 gap 2 a.sol\n" }
+    ensures no { solution_line (Ok (verdicts.No (reasons.RepeatedNode 3))) (codes "a")
+        ≡ codes "no RepeatedNode 3 a\n" }
+    ensures stray { solution_line (Err (read_faults.Line 2 1 line_faults.StrayNumber)) (codes "a")
+        ≡ codes "line 2 word 1: StrayNumber a\n" }
+    ensures number { solution_line
+        (Err (read_faults.Line 4 1 (line_faults.Number number_faults.TooFine))) (codes "a")
+        ≡ codes "line 4 word 1: Number TooFine a\n" }
+    ensures missing { solution_line (Err (read_faults.End (ends.Missing fields.TypeKey)))
+        (codes "a") ≡ codes "end: Missing TYPE a\n" }
+    ensures device { solution_line (Err read_faults.Device) (codes "a") ≡ codes "device a\n" }
+    ensures too_long { solution_line (Err read_faults.TooLong) (codes "a") ≡ codes "too long a\n" }
+{}
 
 /// The lines of a report.
 pub fn examples_of_reports()
@@ -85,4 +152,135 @@ pub fn examples_of_shown_lines()
         ≡ codes "combs " ++ decimal 1 ++ codes "\n" }
     ensures leaves { leaves_line (Branch 1 2 ∷ Leaf [] ∷ Leaf [] ∷ [])
         ≡ codes "leaves " ++ decimal 2 ++ codes "\n" }
+{}
+
+/// Whole reports on an instance with two lines that aren't judged.
+pub fn examples_of_whole_reports()
+    ensures yes { report_of matrix (verdicts.Tour (pos 14) (Some (pos 12))) ≡ codes
+        "type TSP\nnodes 2\nnot judged FOO\nnot judged BAR\nlength 14\nbound 12\ngap 2\nyes\n" }
+    ensures no { report_of matrix (verdicts.No reasons.TourCount)
+        ≡ codes "type TSP\nnodes 2\nnot judged FOO\nnot judged BAR\nno TourCount\n" }
+    ensures unjudged { report_of matrix (verdicts.No reasons.NotJudged)
+        ≡ codes "type TSP\nnodes 2\nnot judged FOO\nnot judged BAR\nno NotJudged FOO\n" }
+    ensures routes { report_of shown_routes (verdicts.Routes (pos 20) 3 2 None)
+        ≡ codes "type CVRP\nnodes 2\nroutes 3\nleast 2\nlength 20\nyes\n" }
+    ensures optimal_routes { report_of shown_routes (verdicts.Routes (pos 20) 3 2 (Some (pos 20)))
+        ≡ codes "type CVRP\nnodes 2\nroutes 3\nleast 2\nlength 20\nbound 20\noptimal\nyes\n" }
+    ensures bounded_routes { report_of shown_routes (verdicts.Routes (pos 20) 3 2 (Some (pos 18)))
+        ≡ codes "type CVRP\nnodes 2\nroutes 3\nleast 2\nlength 20\nbound 18\ngap 2\nyes\n" }
+{}
+
+/// Whole reports on the same instance, where its tours are bounded.
+pub fn examples_of_bound_reports()
+    ensures bound { bound_report_of matrix (bounds.Bound (pos 12))
+        ≡ codes "type TSP\nnodes 2\nnot judged FOO\nnot judged BAR\nbound 12\nyes\n" }
+    ensures no_tour { bound_report_of matrix bounds.NoSolution
+        ≡ codes "type TSP\nnodes 2\nnot judged FOO\nnot judged BAR\nbound none\nyes\n" }
+    ensures no { bound_report_of matrix (bounds.No reasons.TooFewNodes)
+        ≡ codes "type TSP\nnodes 2\nnot judged FOO\nnot judged BAR\nno TooFewNodes\n" }
+    ensures unjudged { bound_report_of matrix (bounds.No reasons.NotJudged)
+        ≡ codes "type TSP\nnodes 2\nnot judged FOO\nnot judged BAR\nno NotJudged FOO\n" }
+{}
+
+/// All that is shown of a file of each TYPE.
+pub fn examples_of_shown_files()
+    ensures matrix { shown matrix
+        ≡ codes "name m\ntype TSP\nnodes 2\nweights EXPLICIT FULL_MATRIX\ncanonical 14\n"
+        ++ codes "fixed 1\nnot judged FOO\nnot judged BAR\n" }
+    ensures routing { shown shown_routes
+        ≡ codes "type CVRP\nnodes 2\nweights EXPLICIT FULL_MATRIX\ncanonical 14\n" }
+    ensures tours { shown shown_tours
+        ≡ codes "type TOUR\ntours 1\ntour 1 nodes 2\nnot judged FOO\n" }
+    ensures potentials { shown shown_potentials
+        ≡ codes "type POTENTIALS\nnodes 2\nscale 3\nnot judged FOO\n" }
+    ensures branching { shown shown_tree
+        ≡ codes "type BRANCHES\nnodes 2\nscale 1\nload unit 4\ncombs 1\nleaves 1\nnot judged FOO\n" }
+    ensures untyped { shown untyped ≡ codes "type \nnot judged FOO\n" }
+{}
+
+/// Which file has which number, and what it is given for. Here files are numbers.
+pub fn examples_of_files()
+    ensures shown { (a : ℕ) → numbered 1 (files_of (file_tasks.Show a)) ≡ Some (None, a) }
+    ensures converted { (a : ℕ) (to : Option Layout) → numbered 1 (files_of (file_tasks.Convert a to)) ≡ Some (None, a) }
+    ensures instance { (a b : ℕ) (c : Option (Certificate × ℕ)) (claimed : Option ℤ) (strict : Bool)
+        → numbered 1 (files_of (file_tasks.Check a b c claimed strict)) ≡ Some (Some roles.Instance, a) }
+    ensures solution { (a b : ℕ) (c : Option (Certificate × ℕ)) (claimed : Option ℤ) (strict : Bool)
+        → numbered 2 (files_of (file_tasks.Check a b c claimed strict)) ≡ Some (Some roles.Solution, b) }
+    ensures certificate { (a b c : ℕ) (claimed : Option ℤ) (strict : Bool)
+        → numbered 3 (files_of (file_tasks.Check a b (Some (certificates.Branches, c)) claimed strict)) ≡ Some (Some roles.Branches, c) }
+    ensures no_certificate { (a b : ℕ) (claimed : Option ℤ) (strict : Bool) → numbered 3 (files_of (file_tasks.Check a b None claimed strict)) ≡ None }
+    ensures bound { (a c : ℕ) (strict : Bool) → numbered 2 (files_of (file_tasks.Bound a (certificates.Potentials, c) strict))
+        ≡ Some (Some roles.Potentials, c) }
+    ensures compared { (c : Comparison ℕ) → c.certificate ≡ Some (certificates.Potentials, 9)
+        → numbered 2 (files_of_task (tasks.Compare c)) ≡ Some (Some roles.Potentials, 9) }
+    ensures from_one { (task : FileTask ℕ) → numbered 0 (files_of task) ≡ None }
+{}
+
+/// A task of other files keeps all but its files, and these in their places. Here each file is
+/// mapped to the next number.
+pub fn examples_of_mapped_tasks()
+    ensures shown { IsMappedTask (λ a x. x ≡ a + 1) (tasks.Files (file_tasks.Show 1)) (tasks.Files (file_tasks.Show 2)) }
+    ensures converted { IsMapped (λ a x. x ≡ a + 1) (file_tasks.Convert 1 (Some layouts.UpperRow))
+        (file_tasks.Convert 2 (Some layouts.UpperRow)) }
+    ensures other_layout { ¬ IsMapped (λ a x. x ≡ a + 1) (file_tasks.Convert 1 (Some layouts.UpperRow)) (file_tasks.Convert 2 None) }
+    ensures checked { IsMapped (λ a x. x ≡ a + 1) (file_tasks.Check 1 2 (Some (certificates.Branches, 3)) (Some (pos 14)) true)
+        (file_tasks.Check 2 3 (Some (certificates.Branches, 4)) (Some (pos 14)) true) }
+    ensures exchanged { ¬ IsMapped (λ a x. x ≡ a + 1) (file_tasks.Check 1 2 None None true) (file_tasks.Check 3 2 None None true) }
+    ensures unclaimed { ¬ IsMapped (λ a x. x ≡ a + 1) (file_tasks.Check 1 2 None (Some (pos 14)) true) (file_tasks.Check 2 3 None None true) }
+    ensures dropped { ¬ IsMapped (λ a x. x ≡ a + 1) (file_tasks.Check 1 2 (Some (certificates.Branches, 3)) None true)
+        (file_tasks.Check 2 3 None None true) }
+    ensures other_kind { ¬ IsMapped (λ a x. x ≡ a + 1) (file_tasks.Bound 1 (certificates.Branches, 2) true)
+        (file_tasks.Bound 2 (certificates.Potentials, 3) true) }
+    ensures not_strict { ¬ IsMapped (λ a x. x ≡ a + 1) (file_tasks.Check 1 2 None None true) (file_tasks.Check 2 3 None None false) }
+    ensures not_strict_bound { ¬ IsMapped (λ a x. x ≡ a + 1) (file_tasks.Bound 1 (certificates.Branches, 2) true)
+        (file_tasks.Bound 2 (certificates.Branches, 3) false) }
+    ensures strictly_compared { (c d : Comparison ℕ) → c.strict ≡ true
+        → IsMappedTask (λ a x. x ≡ a + 1) (tasks.Compare c) (tasks.Compare d) → d.strict ≡ true }
+    ensures compared { (c d : Comparison ℕ) → c.instance ≡ 1
+        → IsMappedTask (λ a x. x ≡ a + 1) (tasks.Compare c) (tasks.Compare d) → d.instance ≡ 2 }
+    ensures compared_by { (c d : Comparison ℕ) → c.certificate ≡ Some (certificates.Branches, 3)
+        → IsMappedTask (λ a x. x ≡ a + 1) (tasks.Compare c) (tasks.Compare d)
+        → d.certificate ≡ Some (certificates.Branches, 4) }
+    ensures other_task { (c : Comparison ℕ) (task : FileTask ℕ)
+        → ¬ IsMappedTask (λ a x. x ≡ a + 1) (tasks.Files task) (tasks.Compare c) }
+{}
+
+/// The names and the order of the reasons.
+pub fn examples_of_names()
+    ensures names { map (λ reason. (row_of_reason reason).name) each_reason
+        ≡ codes "NotASolution" ∷ codes "TooFewNodes" ∷ codes "NotSymmetric" ∷ codes "Dimension" ∷ codes "TourCount"
+        ∷ codes "TourLength" ∷ codes "DepotCount" ∷ codes "DepotDemand" ∷ codes "FixedEdgesInRoutes" ∷ codes "DepotInRoute"
+        ∷ codes "NodeOutOfRange" ∷ codes "RepeatedNode" ∷ codes "FixedEdgeUnused" ∷ codes "Unserved" ∷ codes "Overload"
+        ∷ codes "LengthClaimed" ∷ codes "NotPotentials" ∷ codes "PotentialsDimension" ∷ codes "PotentialsKind"
+        ∷ codes "MultiplierNotFixed" ∷ codes "MultiplierRepeated" ∷ codes "DualInfeasible" ∷ codes "NotBranches"
+        ∷ codes "BranchesDimension" ∷ codes "BadComb" ∷ codes "BadBranch" ∷ codes "BranchTwice" ∷ codes "BadLeaf"
+        ∷ codes "TooManyLoads" ∷ codes "NotJudged" ∷ [] }
+    ensures ranks { map rank_of each_reason ≡ 1 ∷ 2 ∷ 3 ∷ 4 ∷ 5 ∷ 6 ∷ 7 ∷ 8 ∷ 9 ∷ 10 ∷ 11 ∷ 12 ∷ 13 ∷ 14 ∷ 15 ∷ 16 ∷ 17
+        ∷ 18 ∷ 19 ∷ 20 ∷ 21 ∷ 22 ∷ 23 ∷ 24 ∷ 25 ∷ 26 ∷ 27 ∷ 28 ∷ 29 ∷ 30 ∷ [] }
+{}
+
+/// The numbers of the reasons. A length that is claimed may be below 0.
+pub fn examples_of_numbers()
+    ensures first { map (λ reason. (row_of_reason reason).numbers.0) each_reason
+        ≡ None ∷ None ∷ Some (pos 1) ∷ None ∷ None ∷ None ∷ None ∷ None ∷ None ∷ Some (pos 2) ∷ Some (pos 3) ∷ Some (pos 4)
+        ∷ Some (pos 5) ∷ Some (pos 6) ∷ Some (pos 7) ∷ Some (negsuc 4) ∷ None ∷ None ∷ None ∷ Some (pos 8) ∷ Some (pos 9)
+        ∷ Some (pos 10) ∷ None ∷ None ∷ Some (pos 11) ∷ Some (pos 12) ∷ Some (pos 13) ∷ Some (pos 14) ∷ None ∷ None ∷ [] }
+    ensures second { map (λ reason. (row_of_reason reason).numbers.1) each_reason
+        ≡ None ∷ None ∷ Some (pos 20) ∷ None ∷ None ∷ None ∷ None ∷ None ∷ None ∷ None ∷ None ∷ None ∷ None ∷ None ∷ None
+        ∷ None ∷ None ∷ None ∷ None ∷ None ∷ None ∷ Some (pos 30) ∷ None ∷ None ∷ None ∷ None ∷ None ∷ None ∷ None ∷ None ∷ [] }
+{}
+
+/// The file that each reason is about.
+pub fn examples_of_roles()
+    ensures instance { All (λ reason. role_of reason ≡ Instance) (reasons.TooFewNodes ∷ reasons.NotSymmetric 1 2
+        ∷ reasons.DepotCount ∷ reasons.DepotDemand ∷ reasons.FixedEdgesInRoutes ∷ reasons.NotJudged ∷ []) }
+    ensures solution { All (λ reason. role_of reason ≡ Solution) (reasons.NotASolution ∷ reasons.Dimension
+        ∷ reasons.TourCount ∷ reasons.TourLength ∷ reasons.NodeOutOfRange 1 ∷ reasons.RepeatedNode 1
+        ∷ reasons.FixedEdgeUnused 1 ∷ reasons.DepotInRoute 1 ∷ reasons.Unserved 1 ∷ reasons.Overload 1
+        ∷ reasons.LengthClaimed (pos 1) ∷ []) }
+    ensures potentials { All (λ reason. role_of reason ≡ Potentials) (reasons.NotPotentials
+        ∷ reasons.PotentialsDimension ∷ reasons.PotentialsKind ∷ reasons.MultiplierNotFixed 1
+        ∷ reasons.MultiplierRepeated 1 ∷ reasons.DualInfeasible 1 2 ∷ []) }
+    ensures branches { All (λ reason. role_of reason ≡ Branches) (reasons.NotBranches ∷ reasons.BranchesDimension
+        ∷ reasons.BadComb 1 ∷ reasons.BadBranch 1 ∷ reasons.BranchTwice 1 ∷ reasons.BadLeaf 1 ∷ reasons.TooManyLoads ∷ []) }
 {}

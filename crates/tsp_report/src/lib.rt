@@ -1,29 +1,31 @@
-//! The texts that the program prints: the report of a check, and the lines of `show`.
+//! Tasks on files and their verdicts: kinds of certificates, and the reasons to reject a
+//! solution, each with the file that it is about.
 //!
-//! The contracts name every byte. It finds no verdict, and no call takes memory.
+//! A command line asks for a task, and so does a call for C. No verdict is found here, so that
+//! crates which print or explain a verdict don't depend on the one that finds it, tsp_verdict.
 //!
 //! ```text
-//! write_report(instance.file(), verdict, &mut out)?;
+//! let task = FileTask::Show { file: path };
+//! let mut opened = task.map(|path| open(path));
+//! let (given, file) = task.file(1)?;
+//! let rejected = Verdict::No(Reason::TourCount);
 //! ```
 #![tactic(auto)]
 
-mod bound_text;
-mod comparison_text;
-mod comparison_text_examples;
+mod compared;
 mod examples;
-mod fault;
-mod leaves;
-mod reason;
 mod report;
 mod shown;
-mod whole_examples;
+mod task;
+mod verdict;
 
-pub use bound_text::write_bound;
-pub use comparison_text::{write_head, write_line};
-pub use comparison_text_examples::{examples_of_heads, examples_of_lines};
-pub use examples::{examples_of_reasons, examples_of_reports, examples_of_shown_lines};
-pub use report::write_report;
-pub use shown::write_shown;
-pub use whole_examples::{
-    examples_of_bound_reports, examples_of_shown_files, examples_of_whole_reports,
+pub use compared::{write_head, write_line};
+pub use examples::{
+    examples_of_bound_reports, examples_of_files, examples_of_heads, examples_of_lines,
+    examples_of_mapped_tasks, examples_of_reasons, examples_of_reports, examples_of_shown_files,
+    examples_of_shown_lines, examples_of_whole_reports,
 };
+pub use report::{write_bound, write_report};
+pub use shown::write_shown;
+pub use task::{Certificate, Comparison, FileTask, Role, Task, blamed, role_by};
+pub use verdict::{Basis, BoundVerdict, Reason, ReasonRow, Verdict, row_of_reason};

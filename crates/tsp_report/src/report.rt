@@ -1,19 +1,18 @@
-//! Writes the report of `tsp check`. For `src/judging.rt` of tsp_judge and `src/handle_calls.rt` of
+//! Writes the report of `tsp check`. For `src/check.rt` of tsp_judge and `src/handle_calls.rt` of
 //! tsp_c; other reports share its lines.
 
 ghost use Rattle.std.specs.Prelude.{◌≡◌, ◌++◌, ◌≤◌, ◌^◌, ◌-ℤ◌, Some, map, codes, unsigned_abs};
-ghost use Rattle.tsp_stream.specs.states.Watched.{sink_of};
-ghost use Rattle.tsp_stream.specs.Sink.{Writes};
-ghost use Rattle.tsp_stream.specs.states.WriteProgress.{Puts};
-ghost use Rattle.tsp_report.specs.Report.{report_of, instance_lines, type_line, nodes_line, not_judged, first_keyword, keyword_after_blank, no_line, verdict_lines, accepted_lines, bound_lines, gap_lines, IsGapSized, IsSized};
+ghost use Rattle.tsp_io.specs.Sink.{Writes};
+ghost use Rattle.tsp_io.specs.states.Watched.{sink_of};
+ghost use Rattle.tsp_io.specs.states.WriteProgress.{Puts};
+ghost use Rattle.tsp_report.specs.Report.{report_of, instance_lines, type_line, nodes_line, not_judged, first_keyword, keyword_after_blank, no_line, verdict_lines, accepted_lines, bound_lines, gap_lines, IsGapSized, IsSized, after_blank, reason_text, bound_report_of, bound_found_lines};
 
-use crate::reason::put_reason;
+use crate::verdict::{BoundVerdict, Reason, Verdict, row_of_reason};
 use itoa::Integer;
 use std::io::Write;
 use tsp_file::File;
 use tsp_format::{Kind, Word};
-use tsp_stream::{Piece, Watched, WriteFault, hand_over, put, put_number};
-use tsp_task::{Reason, Verdict};
+use tsp_io::{Piece, Watched, WriteFault, hand_over, put, put_next_number, put_number};
 
 /// Writes the report on a solution of an instance, line by line, by the verdict on it: the lines on
 /// the instance, those on the verdict, `yes` or `no`.
@@ -209,4 +208,76 @@ fn put_gap<W: Write>(piece: &mut Piece, out: &mut Watched<W>, gap: i128)
     }
     put_named(piece, out, b"\ngap ", gap);
     put(piece, out, b"\n");
+}
+
+// ---- writes a reason: its name and its numbers
+
+/// Adds the name of a reason, and its numbers.
+pub(crate) fn put_reason<W: Write>(piece: &mut Piece, out: &mut Watched<W>, reason: Reason)
+    ensures { Puts W.contents out.old piece.old out.new piece.new (reason_text reason) }
+{
+    let row = row_of_reason(reason);
+    put(piece, out, row.name.as_bytes());
+    put_after_blank(piece, out, row.numbers.0);
+    put_after_blank(piece, out, row.numbers.1);
+}
+
+/// Adds a blank and a number, where there is one. A length may be below 0.
+fn put_after_blank<W: Write>(piece: &mut Piece, out: &mut Watched<W>, number: Option<i64>)
+    ensures { Puts W.contents out.old piece.old out.new piece.new (after_blank number) }
+{
+    if let Some(number) = number {
+        put_next_number(piece, out, number);
+    }
+}
+
+// ---- writes the report of `tsp bound`
+
+/// Writes the report on the bound of an instance, line by line: the lines on the instance; the
+/// bound, or `none` where the instance has no solution, and `yes`; or `no` with the first reason
+/// against the instance or the certificate.
+///
+/// # Errors
+///
+/// `Device` where the writer fails, or had failed before: then a prefix of the report was written,
+/// and nothing else. No memory is taken, so `OutOfMemory` is never returned.
+pub fn write_bound<W: Write>(
+    instance: &File,
+    found: BoundVerdict,
+    out: &mut Watched<W>,
+) -> Result<(), WriteFault>
+    ensures { Writes (sink_of W.contents out.old out.new)
+        (bound_report_of instance.now found) result }
+{
+    if out.failed() {
+        return Err(WriteFault::Device);
+    }
+    let mut piece = Piece::new();
+    put_instance(&mut piece, out, instance);
+    put_found(&mut piece, out, instance, found);
+    hand_over(&mut piece, out);
+    if out.failed() {
+        Err(WriteFault::Device)
+    } else {
+        Ok(())
+    }
+}
+
+/// Adds the line of a bound and the line `yes`, or the line `no`.
+fn put_found<W: Write>(
+    piece: &mut Piece,
+    out: &mut Watched<W>,
+    instance: &File,
+    found: BoundVerdict,
+)
+    ensures { Puts W.contents out.old piece.old out.new piece.new (bound_found_lines instance.now found) }
+{
+    match found {
+        BoundVerdict::Bound(bound) => {
+            put_named(piece, out, b"bound ", bound);
+            put(piece, out, b"\nyes\n");
+        }
+        BoundVerdict::NoSolution => put(piece, out, b"bound none\nyes\n"),
+        BoundVerdict::No(reason) => put_no(piece, out, instance, reason),
+    }
 }

@@ -1,24 +1,24 @@
-//! Writes the lines of `tsp show`. For `src/show.rt` of tsp_judge.
+//! Writes the lines of `tsp show`. For `src/bound.rt` of tsp_judge.
 
-ghost use Rattle.std.specs.Prelude.{◌≡◌, ◌++◌, [], map, false};
 ghost use Rattle.std.specs.List.{flat_map, enumerate_from};
 ghost use Rattle.std.specs.Option.{option_map, option_map_or};
+ghost use Rattle.std.specs.Prelude.{◌≡◌, ◌++◌, [], map, false};
+ghost use Rattle.tsp_format.specs.Steps.{leaf_count};
 ghost use Rattle.tsp_format.specs.states.TreeSteps.{steps_of};
-ghost use Rattle.tsp_draft.specs.states.Drafts.{combs_of};
-ghost use Rattle.tsp_draft.specs.Rules.{is_instance};
-ghost use Rattle.tsp_stream.specs.states.Watched.{sink_of};
-ghost use Rattle.tsp_stream.specs.Sink.{Writes};
-ghost use Rattle.tsp_stream.specs.states.WriteProgress.{Puts};
+ghost use Rattle.tsp_io.specs.Sink.{Writes};
+ghost use Rattle.tsp_io.specs.states.Watched.{sink_of};
+ghost use Rattle.tsp_io.specs.states.WriteProgress.{Puts};
+ghost use Rattle.tsp_file.specs.Rules.{is_instance};
+ghost use Rattle.tsp_file.specs.states.Drafts.{combs_of};
 ghost use Rattle.tsp_report.specs.Report.{nodes_line, not_judged};
 ghost use Rattle.tsp_report.specs.Show.{shown, head_lines, name_line, lines_by_type, cost_lines, weights_line, layout_part, canonical_line, fixed_line, all_tour_lines, tour_line, scale_line, load_unit_line, combs_line, leaves_line, tree_lines};
 
-use crate::leaves::leaves_of;
 use crate::report::{put_named, put_nodes, put_others, put_type};
 use std::io::Write;
 use tsp_cost::{Instance, canonical_length};
 use tsp_file::File;
 use tsp_format::{Kind, TreeStep, WeightFormat, WeightKind, Word};
-use tsp_stream::{Piece, Watched, WriteFault, hand_over, put};
+use tsp_io::{Piece, Watched, WriteFault, hand_over, put};
 
 /// Writes the lines of `show`: a file's NAME, its TYPE, the number of its nodes, and the rest of
 /// its contents.
@@ -257,4 +257,19 @@ fn put_leaves<W: Write>(piece: &mut Piece, out: &mut Watched<W>, steps: &[TreeSt
 {
     put_named(piece, out, b"leaves ", leaves_of(steps));
     put(piece, out, b"\n");
+}
+
+// ---- how many leaves a tree of cases has
+
+/// How many of the steps of a tree are leaves.
+fn leaves_of(steps: &[TreeStep]) -> usize
+    ensures { result ≡ leaf_count (steps_of steps.now) }
+{
+    let mut leaves: usize = 0;
+    'steps: for step in steps {
+        if let TreeStep::Leaf(_) = step {
+            leaves += 1;
+        }
+    }
+    leaves
 }

@@ -6,7 +6,7 @@ use Rattle.std.specs.List.{list_all, flat_map, enumerate_from}
 use Rattle.std.specs.Fmt.{decimal, signed_decimal}
 use Rattle.std.proofs.lemmas.Bool.{and_from, and_parts, leb-true}
 use Rattle.tsp_format.specs.Limits.{most_nodes, most_weight, most_multiplier}
-use Rattle.tsp_draft.specs.Validity.{is_within, is_node, is_pair_of, is_triple_of, is_node_list}
+use Rattle.tsp_file.specs.Validity.{is_within, is_node, is_pair_of, is_triple_of, is_node_list}
 use Rattle.tsp_file.specs.CanonicalText.{number_line, ended_by_mark, node_list, pair_list, triple_list}
 use Rattle.tsp_round.proofs.Text.{is_plain_word, WritesWords, no_words_written, both_words, number_line_written}
 use Rattle.tsp_round.proofs.NumbersReadBack.{decimal_plain, signed_plain, size_in, size_from}

@@ -8,9 +8,9 @@ use Rattle.std.specs.Fmt.{decimal}
 use Rattle.std.proofs.lemmas.Bool.{and_parts, and_left, and_right, leb-true, not_from_true, false≢true}
 use Rattle.std.proofs.lemmas.List.{length-append}
 use Rattle.std.proofs.lemmas.List.Sums.{sum_by-cons}
-use Rattle.tsp_number.specs.declared.fault.NumberFault.{NumberFault}
+use Rattle.tsp_number.specs.declared.word.NumberFault.{NumberFault}
 use Rattle.tsp_format.specs.Limits.{most_combs, most_comb_nodes}
-use Rattle.tsp_draft.specs.Validity.{is_node, is_set_of, are_sets, are_combs}
+use Rattle.tsp_file.specs.Validity.{is_node, is_set_of, are_sets, are_combs}
 use Rattle.tsp_text.specs.Lines.{is_not_empty}
 use Rattle.tsp_text.specs.SectionNumbers.{number, node_or_end, is_end}
 use Rattle.tsp_text.specs.WordPlaces.{SetNode}

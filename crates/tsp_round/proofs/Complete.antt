@@ -5,13 +5,13 @@ use Rattle.std.specs.Prelude.{is_some}
 use Rattle.std.specs.Option.{option_map_or}
 use Rattle.std.specs.List.{find, filter}
 use Rattle.std.proofs.lemmas.Bool.{and_left, and_right, true≢false}
-use Rattle.tsp_format.specs.declared.field.Field.{Field}
-use Rattle.tsp_format.specs.declared.field.Field.TheVariants.{DimensionKey, NodeCoordTypeKey, EdgeWeightTypeKey}
-use Rattle.tsp_format.specs.declared.field.Shape.{Shape}
+use Rattle.tsp_format.specs.declared.keyword.Field.{Field}
+use Rattle.tsp_format.specs.declared.keyword.Field.TheVariants.{DimensionKey, NodeCoordTypeKey, EdgeWeightTypeKey}
+use Rattle.tsp_format.specs.declared.keyword.Shape.{Shape}
 use Rattle.tsp_format.specs.Shapes.{shape_of, is_section_field}
 use Rattle.tsp_format.specs.Words.{fields_in_order}
-use Rattle.tsp_draft.specs.Fields.{Fields, spatial}
-use Rattle.tsp_draft.specs.Validity.{fits}
+use Rattle.tsp_file.specs.Fields.{Fields, spatial}
+use Rattle.tsp_file.specs.Validity.{fits}
 use Rattle.tsp_text.specs.Items.{Item}
 use Rattle.tsp_text.specs.Earlier.{has_line, words_of}
 use Rattle.tsp_text.specs.WordPlaces.{PastEnd}

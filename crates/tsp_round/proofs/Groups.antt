@@ -10,10 +10,10 @@ use Rattle.std.proofs.lemmas.Bool.{and_from, and_parts, le-leb, lt-leb, or_from,
 use Rattle.std.proofs.lemmas.Bool.Decides.{Decides-int_eq}
 use Rattle.std.proofs.lemmas.List.{length_push, length-append, map_push}
 use Rattle.std.proofs.lemmas.List.FromFn.{map-range_with_len_more}
-use Rattle.tsp_number.specs.declared.fault.NumberFault.{NumberFault}
+use Rattle.tsp_number.specs.declared.word.NumberFault.{NumberFault}
 use Rattle.tsp_number.specs.Reading.{whole_of}
 use Rattle.tsp_format.specs.Nodes.{nodes_to}
-use Rattle.tsp_draft.specs.Validity.{is_from_to, is_node}
+use Rattle.tsp_file.specs.Validity.{is_from_to, is_node}
 use Rattle.tsp_text.specs.SectionNumbers.{number, node, reads_as}
 use Rattle.tsp_text.specs.WordPlaces.{Place, NodeAfter, Amount, PastGroups}
 use Rattle.tsp_text.specs.Groups.{groups_in, begun_in, word_at, node_groups, number_value, entry_of, by_node, place_in_group, place_by_node, nodes_of_groups}

@@ -6,15 +6,15 @@ use Rattle.std.specs.Option.{option_map, option_or}
 use Rattle.std.proofs.lemmas.Bool.{le-ltb}
 use Rattle.std.proofs.lemmas.List.{reverse-append}
 use Rattle.std.proofs.lemmas.Option.{none-some}
-use Rattle.tsp_format.specs.declared.field.Field.{Field}
+use Rattle.tsp_format.specs.declared.keyword.Field.{Field}
 use Rattle.tsp_format.specs.declared.keyword.Keyword.TheVariants.{Eof}
 use Rattle.tsp_format.specs.Words.{fields_in_order}
 use Rattle.tsp_format.specs.Limits.{most_file_bytes}
-use Rattle.tsp_draft.specs.declared.fault.EndFault.{EndFault}
-use Rattle.tsp_draft.specs.declared.fault.DraftFault.TheVariants.{BadField, Rule}
-use Rattle.tsp_draft.specs.Fields.{Fields}
-use Rattle.tsp_draft.specs.Validity.{bad_field}
-use Rattle.tsp_draft.specs.Rules.{standing_of, end_fault, fault_of}
+use Rattle.tsp_file.specs.declared.rules.EndFault.{EndFault}
+use Rattle.tsp_file.specs.declared.rules.DraftFault.TheVariants.{BadField, Rule}
+use Rattle.tsp_file.specs.Fields.{Fields}
+use Rattle.tsp_file.specs.Validity.{bad_field}
+use Rattle.tsp_file.specs.Rules.{standing_of, end_fault, fault_of}
 use Rattle.tsp_file.specs.CanonicalText.{text_of_field, text_of}
 use Rattle.tsp_file.proofs.AllFit.{all_fit}
 use Rattle.tsp_text.specs.declared.fault.ReadFault.{ReadFault}

@@ -6,13 +6,13 @@ use Rattle.std.specs.Option.{option_and_then}
 use Rattle.std.specs.Result.{result_err}
 use Rattle.std.specs.List.{list_all, flat_map}
 use Rattle.std.proofs.lemmas.Bool.{true≢false, and_parts, leb-true, le-ltb, lt-leb, not-true, false_from_ne_true}
-use Rattle.tsp_format.specs.declared.field.Field.{Field}
-use Rattle.tsp_format.specs.declared.field.Field.TheVariants.{NameKey, CommentKey, DimensionKey, CapacityKey, ScaleKey, LoadUnitKey}
+use Rattle.tsp_format.specs.declared.keyword.Field.{Field}
+use Rattle.tsp_format.specs.declared.keyword.Field.TheVariants.{NameKey, CommentKey, DimensionKey, CapacityKey, ScaleKey, LoadUnitKey}
 use Rattle.tsp_format.specs.declared.keyword.Keyword.TheVariants.{Known}
 use Rattle.tsp_format.specs.Bytes.{is_blank}
 use Rattle.tsp_format.specs.Words.{field_word}
 use Rattle.tsp_format.specs.Limits.{most_line_bytes, most_kept_bytes, most_comments}
-use Rattle.tsp_draft.specs.Validity.{is_kept}
+use Rattle.tsp_file.specs.Validity.{is_kept}
 use Rattle.tsp_file.specs.CanonicalText.{blank_before, keyword_line}
 use Rattle.tsp_text.specs.Lines.{is_not_empty}
 use Rattle.tsp_text.specs.Items.{WordLine, Item, Line, LineEnd, has_end_line}

@@ -8,7 +8,7 @@ use Rattle.std.proofs.lemmas.Bool.{and_parts, or_right}
 use Rattle.std.proofs.lemmas.List.{length_push, map_push}
 use Rattle.std.proofs.lemmas.List.Folds.{list_any-append}
 use Rattle.tsp_format.specs.Limits.{most_fixed}
-use Rattle.tsp_draft.specs.Validity.{is_pair_of}
+use Rattle.tsp_file.specs.Validity.{is_pair_of}
 use Rattle.tsp_text.specs.SectionNumbers.{number, node_or_end, is_end}
 use Rattle.tsp_text.specs.WordPlaces.{Place, FirstAfter, SecondOf}
 use Rattle.tsp_text.specs.Groups.{groups_in, begun_in, word_at}

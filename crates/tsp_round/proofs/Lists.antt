@@ -11,9 +11,9 @@ use Rattle.std.specs.Ordering.{int_eq}
 use Rattle.std.proofs.lemmas.Bool.{true≢false, and_parts, lt-leb, eq-eqb, and_right, and_left, not_from_true, not-true, false_from_ne_true}
 use Rattle.std.proofs.lemmas.Bool.Decides.{Decides-int_eq}
 use Rattle.std.proofs.lemmas.List.{length_push}
-use Rattle.tsp_number.specs.declared.fault.NumberFault.{NumberFault}
+use Rattle.tsp_number.specs.declared.word.NumberFault.{NumberFault}
 use Rattle.tsp_format.specs.Limits.{most_combs, most_weight, most_depots, most_fixed}
-use Rattle.tsp_draft.specs.Validity.{is_within, is_node, is_pair_of, is_branch_of}
+use Rattle.tsp_file.specs.Validity.{is_within, is_node, is_pair_of, is_branch_of}
 use Rattle.tsp_text.specs.declared.fault.LineFault.TheVariants as row
 use Rattle.tsp_text.specs.SectionNumbers.{number, node, node_or_end, is_end, whole_of_size, reads_as}
 use Rattle.tsp_text.specs.WordPlaces.{DepotAfter, FirstAfter, SecondOf, PastEnd, Weight, PastWeights}

@@ -8,7 +8,7 @@ use Rattle.std.proofs.lemmas.Bool.{and_parts}
 use Rattle.std.proofs.lemmas.List.{take-append-drop, map-append}
 use Rattle.std.proofs.lemmas.List.Folds.{list_all-append}
 use Rattle.tsp_format.specs.Limits.{most_weight}
-use Rattle.tsp_draft.specs.Validity.{is_within}
+use Rattle.tsp_file.specs.Validity.{is_within}
 use Rattle.tsp_file.specs.CanonicalText.{weight_line, matrix_lines}
 use Rattle.tsp_round.proofs.Text.{WritesWords, no_words_written, both_words}
 use Rattle.tsp_round.proofs.Bodies.{weight_line_written}

@@ -15,13 +15,13 @@ use Rattle.std.proofs.lemmas.Nat.{mod_below, div_below}
 use Rattle.std.proofs.lemmas.Str.Parse.{digit_from_value}
 use Rattle.std.proofs.Math.Nat.{pow-suc}
 use Rattle.std.specs.Char.{digit_value}
-use Rattle.tsp_number.specs.declared.fault.NumberFault.{NumberFault}
-use Rattle.tsp_number.specs.declared.fault.NumberFault.TheVariants.{OutOfRange}
+use Rattle.tsp_number.specs.declared.word.NumberFault.{NumberFault}
+use Rattle.tsp_number.specs.declared.word.NumberFault.TheVariants.{OutOfRange}
 use Rattle.tsp_distance.specs.Decimal.{unit, most_count}
 use Rattle.tsp_number.specs.NumberWord.{minus, point, IsSign, Numeral, with_sign, shift_of, StandsFor, ReadsDecimal, ReadsWhole}
 use Rattle.tsp_number.specs.Reading.{decimal_of, whole_of}
 use Rattle.tsp_number.specs.Spelling.{decimals, fraction_spelling, size_spelling, spelling}
-use Rattle.tsp_draft.specs.Validity.{is_from_to, is_within, is_node}
+use Rattle.tsp_file.specs.Validity.{is_from_to, is_within, is_node}
 use Rattle.tsp_text.specs.Lines.{is_not_empty}
 use Rattle.tsp_text.specs.SectionNumbers.{node, node_or_end, is_end, not_zero, reads_as}
 use Rattle.tsp_round.proofs.Text.{is_plain, is_plain_word}

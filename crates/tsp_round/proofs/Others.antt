@@ -4,14 +4,14 @@ use Rattle.std.proofs.Common.{◌≡◌, ℕ, ◌+◌, ◌≤◌, true, false, L
 use Rattle.std.specs.Prelude.{◌&&◌, nat_le, nat_lt, slice_index}
 use Rattle.std.specs.List.{list_all, flat_map}
 use Rattle.std.proofs.lemmas.Bool.{false≢true, and_parts, lt-leb}
-use Rattle.tsp_format.specs.declared.field.Field.{Field}
-use Rattle.tsp_format.specs.declared.field.Field.TheVariants.{CommentKey}
+use Rattle.tsp_format.specs.declared.keyword.Field.{Field}
+use Rattle.tsp_format.specs.declared.keyword.Field.TheVariants.{CommentKey}
 use Rattle.tsp_format.specs.declared.keyword.Keyword.{Keyword}
 use Rattle.tsp_format.specs.declared.keyword.Keyword.TheVariants.{Known, EdgeDataFormat, EdgeDataSection, Eof, Unknown}
 use Rattle.tsp_format.specs.Bytes.{is_letter, is_keyword_byte}
 use Rattle.tsp_format.specs.Keywords.{keyword_of, is_unknown}
 use Rattle.tsp_format.specs.Limits.{most_line_bytes, most_others}
-use Rattle.tsp_draft.specs.Validity.{is_kept, is_unknown_keyword, is_other}
+use Rattle.tsp_file.specs.Validity.{is_kept, is_unknown_keyword, is_other}
 use Rattle.tsp_file.specs.CanonicalText.{other_line}
 use Rattle.tsp_text.specs.Items.{WordLine, Item, Line, LineEnd, items_of, has_end_line}
 use Rattle.tsp_text.specs.Earlier.{value_at, values_at, others_in, words_of}

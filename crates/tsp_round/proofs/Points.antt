@@ -7,12 +7,12 @@ use Rattle.std.specs.Result.{result_err}
 use Rattle.std.specs.List.{list_all}
 use Rattle.std.proofs.lemmas.Bool.{and_from, and_parts}
 use Rattle.std.proofs.lemmas.Bool.Decides.{Decides-int_eq}
-use Rattle.tsp_number.specs.declared.fault.NumberFault.{NumberFault}
+use Rattle.tsp_number.specs.declared.word.NumberFault.{NumberFault}
 use Rattle.tsp_distance.specs.declared.decimal.Point.{Point}
 use Rattle.tsp_number.specs.Reading.{decimal_of}
 use Rattle.tsp_number.specs.Spelling.{spelling}
 use Rattle.tsp_format.specs.Limits.{most_coordinate}
-use Rattle.tsp_draft.specs.Validity.{is_within, is_point}
+use Rattle.tsp_file.specs.Validity.{is_within, is_point}
 use Rattle.tsp_text.specs.SectionNumbers.{number}
 use Rattle.tsp_text.specs.WordPlaces.{Coordinate}
 use Rattle.tsp_text.specs.Groups.{point_in, space_point_in}

@@ -5,16 +5,16 @@ use Rattle.std.specs.Prelude.{not, ◌&&◌, nat_lt, is_some}
 use Rattle.std.specs.Option.{option_map, option_map_or}
 use Rattle.std.specs.Fmt.{decimal}
 use Rattle.std.proofs.lemmas.Bool.{false≢true}
-use Rattle.tsp_format.specs.declared.field.Field.{Field}
-use Rattle.tsp_format.specs.declared.field.Field.TheVariants.{CommentKey, OtherKey, DimensionKey, NodeCoordPart}
-use Rattle.tsp_format.specs.declared.field.Shape.{Shape}
-use Rattle.tsp_format.specs.declared.field.Shape.TheVariants.{Numbers, Points, SpacePoints, Depots, Pairs, Weights, Tours, Triples, Combs, Steps}
+use Rattle.tsp_format.specs.declared.keyword.Field.{Field}
+use Rattle.tsp_format.specs.declared.keyword.Field.TheVariants.{CommentKey, OtherKey, DimensionKey, NodeCoordPart}
+use Rattle.tsp_format.specs.declared.keyword.Shape.{Shape}
+use Rattle.tsp_format.specs.declared.keyword.Shape.TheVariants.{Numbers, Points, SpacePoints, Depots, Pairs, Weights, Tours, Triples, Combs, Steps}
 use Rattle.tsp_format.specs.declared.keyword.Keyword.TheVariants.{Known}
 use Rattle.tsp_format.specs.Limits.{most_nodes, most_matrix_nodes, most_line_bytes}
 use Rattle.tsp_format.specs.Shapes.{shape_of, is_section_field}
 use Rattle.tsp_format.specs.Words.{field_word}
-use Rattle.tsp_draft.specs.Fields.{Fields, spatial}
-use Rattle.tsp_draft.specs.Validity.{if_there, with_dimension, section_fits, fits}
+use Rattle.tsp_file.specs.Fields.{Fields, spatial}
+use Rattle.tsp_file.specs.Validity.{if_there, with_dimension, section_fits, fits}
 use Rattle.tsp_file.specs.CanonicalText.{line_lens, text_of_section, text_of_field}
 use Rattle.tsp_text.specs.Items.{WordLine, Item, Line, LineEnd, items_in, items_of}
 use Rattle.tsp_text.specs.Earlier.{same_field, is_open, has_line, value_at, values_at, others_in, open_section, words_of}

@@ -7,17 +7,17 @@ use Rattle.std.specs.Fmt.{decimal, signed_decimal}
 use Rattle.std.proofs.lemmas.Bool.{false≢true, and_parts, or_right, leb-true, ltb-true, eqb-true, le-ltb}
 use Rattle.std.proofs.lemmas.Int.{ints}
 use Rattle.tsp_distance.specs.declared.decimal.Point.{Point}
-use Rattle.tsp_format.specs.declared.field.Field.{Field}
-use Rattle.tsp_format.specs.declared.field.Shape.{Shape}
-use Rattle.tsp_format.specs.declared.field.Shape.TheVariants.{Numbers, Points, SpacePoints, Depots, Pairs, Weights, Tours, Triples, Combs, Steps}
+use Rattle.tsp_format.specs.declared.keyword.Field.{Field}
+use Rattle.tsp_format.specs.declared.keyword.Shape.{Shape}
+use Rattle.tsp_format.specs.declared.keyword.Shape.TheVariants.{Numbers, Points, SpacePoints, Depots, Pairs, Weights, Tours, Triples, Combs, Steps}
 use Rattle.tsp_format.specs.Limits.{most_nodes, most_matrix_nodes, most_weight, most_depots, most_fixed, most_triples, most_tour_nodes, most_combs}
 use Rattle.tsp_format.specs.Steps.{Step}
-use Rattle.tsp_draft.specs.Fields.{Fields, numbers_in, points_in}
-use Rattle.tsp_draft.specs.Validity.{if_there, is_by_node, is_point, is_within, is_from_to, is_node, is_pair_of, is_triple_of, are_depots, are_fixed, are_triples, fit_matrix, is_node_list, are_tours, are_combs, are_tree_steps, with_dimension, section_fits}
+use Rattle.tsp_file.specs.Fields.{Fields, numbers_in, points_in}
+use Rattle.tsp_file.specs.Validity.{if_there, is_by_node, is_point, is_within, is_from_to, is_node, is_pair_of, is_triple_of, are_depots, are_fixed, are_triples, fit_matrix, is_node_list, are_tours, are_combs, are_tree_steps, with_dimension, section_fits}
 use Rattle.tsp_file.specs.CanonicalText.{section_text, lines_by_node, node_list, pair_list, triple_list, comb_list, case_tree_lines, coordinate_words, whole_number, line_lens, matrix_lines, optional, text_of_section}
 use Rattle.tsp_text.specs.SectionNumbers.{is_end}
 use Rattle.tsp_text.specs.WordPlaces.{PastEnd, Weight, PastWeights, DepotAfter}
-use Rattle.tsp_draft.specs.Coords.{origin}
+use Rattle.tsp_file.specs.Coords.{origin}
 use Rattle.tsp_text.specs.Groups.{numbers_by_node, points_by_node, space_points_by_node}
 use Rattle.tsp_text.specs.Lists.{depots_in, fixed_in, fixed_triples_in}
 use Rattle.tsp_text.specs.WeightSection.{weights_in}

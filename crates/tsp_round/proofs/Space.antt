@@ -4,10 +4,10 @@ use Rattle.std.proofs.Common.{◌≡◌, List, ap, ◌∙◌, Option}
 use Rattle.std.specs.Option.{option_map, option_and_then}
 use Rattle.tsp_format.specs.declared.kinds.CoordKind.{CoordKind}
 use Rattle.tsp_format.specs.declared.kinds.WeightKind.{WeightKind}
-use Rattle.tsp_format.specs.declared.field.Field.TheVariants.{NodeCoordTypeKey, EdgeWeightTypeKey}
+use Rattle.tsp_format.specs.declared.keyword.Field.TheVariants.{NodeCoordTypeKey, EdgeWeightTypeKey}
 use Rattle.tsp_format.specs.Space.{is_spatial}
 use Rattle.tsp_format.specs.Words.{coord_kind_word, weight_kind_word}
-use Rattle.tsp_draft.specs.Fields.{Fields, spatial}
+use Rattle.tsp_file.specs.Fields.{Fields, spatial}
 use Rattle.tsp_text.specs.Items.{Item}
 use Rattle.tsp_text.specs.Lines.{first_word}
 use Rattle.tsp_text.specs.Earlier.{value_at}

@@ -5,11 +5,11 @@ use Rattle.std.specs.Prelude.{ℤ, pos, nat_abs}
 use Rattle.std.specs.Option.{option_map, option_and_then}
 use Rattle.std.specs.Result.{result_ok}
 use Rattle.std.specs.Fmt.{decimal, signed_decimal}
-use Rattle.tsp_number.specs.declared.fault.NumberFault.{NumberFault}
+use Rattle.tsp_number.specs.declared.word.NumberFault.{NumberFault}
 use Rattle.tsp_number.specs.Reading.{whole_of}
-use Rattle.tsp_format.specs.declared.field.Field.TheVariants.{DimensionKey, CapacityKey, ScaleKey, LoadUnitKey}
+use Rattle.tsp_format.specs.declared.keyword.Field.TheVariants.{DimensionKey, CapacityKey, ScaleKey, LoadUnitKey}
 use Rattle.tsp_format.specs.Limits.{most_nodes, most_capacity, most_scale, most_load_unit}
-use Rattle.tsp_draft.specs.Validity.{if_there, is_from_to, is_node}
+use Rattle.tsp_file.specs.Validity.{if_there, is_from_to, is_node}
 use Rattle.tsp_text.specs.Lines.{first_word}
 use Rattle.tsp_text.specs.Values.{read_as}
 use Rattle.tsp_round.proofs.NumbersReadBack.{NumberLaws, signed_plain, size_from}

@@ -7,10 +7,10 @@ use Rattle.std.specs.List.{find, list_any, flat_map}
 use Rattle.std.specs.Fmt.{decimal, signed_decimal}
 use Rattle.std.proofs.lemmas.Option.{none-some}
 use Rattle.std.proofs.lemmas.Bool.{and_parts, or_parts, or_from, not-true, true≢false}
-use Rattle.tsp_format.specs.declared.field.Field.{Field}
-use Rattle.tsp_format.specs.declared.field.Field.TheVariants.{NameKey, TypeKey, CommentKey, OtherKey, DimensionKey, CapacityKey, ScaleKey, LoadUnitKey, EdgeWeightTypeKey, EdgeWeightFormatKey, NodeCoordTypeKey, DisplayDataTypeKey, NodeCoordPart}
+use Rattle.tsp_format.specs.declared.keyword.Field.{Field}
+use Rattle.tsp_format.specs.declared.keyword.Field.TheVariants.{NameKey, TypeKey, CommentKey, OtherKey, DimensionKey, CapacityKey, ScaleKey, LoadUnitKey, EdgeWeightTypeKey, EdgeWeightFormatKey, NodeCoordTypeKey, DisplayDataTypeKey, NodeCoordPart}
 use Rattle.tsp_format.specs.Words.{kind_word, weight_kind_word, weight_format_word, coord_kind_word, display_kind_word, fields_in_order, field_found}
-use Rattle.tsp_draft.specs.Fields.{Fields, spatial, stands_in}
+use Rattle.tsp_file.specs.Fields.{Fields, spatial, stands_in}
 use Rattle.tsp_text.specs.Items.{Item, has_end_line, is_end_line}
 use Rattle.tsp_format.specs.Shapes.{shape_of, is_section_field}
 use Rattle.tsp_text.specs.Earlier.{same_field, value_at, values_at, others_in, words_of}

@@ -1,12 +1,12 @@
 -- The text of one field: a field that is missing, a keyword's line, and a section with its words. For the law
 -- `canonical_texts_are_read_back` in src/round_trip.rt.
 use Rattle.std.proofs.Common.{◌≡◌, ℕ, Bool, true, false, cond, List, [], ◌∷◌, ◌++◌, refl, sym, ap, ◌∙◌, Option, Some, None}
-use Rattle.tsp_format.specs.declared.field.Field.{Field}
-use Rattle.tsp_format.specs.declared.field.Field.TheVariants.{CommentKey, OtherKey}
+use Rattle.tsp_format.specs.declared.keyword.Field.{Field}
+use Rattle.tsp_format.specs.declared.keyword.Field.TheVariants.{CommentKey, OtherKey}
 use Rattle.tsp_format.specs.declared.keyword.Keyword.TheVariants.{Known}
 use Rattle.tsp_format.specs.Words.{field_word}
 use Rattle.tsp_format.specs.Keywords.{keyword_of}
-use Rattle.tsp_draft.specs.Fields.{Fields}
+use Rattle.tsp_file.specs.Fields.{Fields}
 use Rattle.tsp_file.specs.CanonicalText.{keyword_line}
 use Rattle.tsp_text.specs.Items.{WordLine, Item, Line, LineEnd, word_line_of, items_of}
 use Rattle.tsp_text.specs.Earlier.{same_field, value_at, values_at, others_in, words_of}

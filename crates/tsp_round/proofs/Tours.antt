@@ -9,9 +9,9 @@ use Rattle.std.proofs.lemmas.Bool.{and_from, and_parts, not_from_true, not_from_
 use Rattle.std.proofs.lemmas.List.{length-append}
 use Rattle.std.proofs.lemmas.List.Elements.{filter-append}
 use Rattle.std.proofs.lemmas.List.Sums.{sum_by-cons}
-use Rattle.tsp_number.specs.declared.fault.NumberFault.{NumberFault}
+use Rattle.tsp_number.specs.declared.word.NumberFault.{NumberFault}
 use Rattle.tsp_format.specs.Limits.{most_nodes, most_tour_nodes}
-use Rattle.tsp_draft.specs.Validity.{is_node, is_node_list}
+use Rattle.tsp_file.specs.Validity.{is_node, is_node_list}
 use Rattle.tsp_text.specs.Lines.{is_not_empty}
 use Rattle.tsp_text.specs.SectionNumbers.{number, node_or_end, is_end}
 use Rattle.tsp_text.specs.TourSection.{ends_tour, tour_node, tours_in, place_of_tour}

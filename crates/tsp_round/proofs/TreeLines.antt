@@ -8,7 +8,7 @@ use Rattle.std.proofs.lemmas.Bool.{and_from, and_parts}
 use Rattle.std.proofs.lemmas.List.Folds.{list_all-append}
 use Rattle.tsp_format.specs.Limits.{most_combs, most_comb_nodes, most_branches, most_changes, most_difference}
 use Rattle.tsp_format.specs.Steps.{Step, Branch, Leaf, are_whole, branch_count, change_count}
-use Rattle.tsp_draft.specs.Validity.{is_within, is_node, is_set_of, are_sets, are_combs, is_change, is_step, are_tree_steps}
+use Rattle.tsp_file.specs.Validity.{is_within, is_node, is_set_of, are_sets, are_combs, is_change, is_step, are_tree_steps}
 use Rattle.tsp_file.specs.CanonicalText.{line_end, number_line, before_blank, ended_line, set_line, comb_lines, comb_list, change_words, step_line, case_tree_lines}
 use Rattle.tsp_round.proofs.Text.{is_plain_word, WritesWords, number_line_written}
 use Rattle.tsp_round.proofs.NumbersReadBack.{signed_plain, size_in}

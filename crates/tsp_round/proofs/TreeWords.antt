@@ -7,11 +7,11 @@ use Rattle.std.specs.List.{list_all, flat_map}
 use Rattle.std.specs.Fmt.{decimal, signed_decimal}
 use Rattle.std.proofs.lemmas.Bool.{and_from, and_parts, and_left, and_right, leb-true, le-leb, eqb-true, false_from_ne_true, not_from_true, false≢true}
 use Rattle.std.proofs.lemmas.Fmt.{decimal_digit}
-use Rattle.tsp_number.specs.declared.fault.NumberFault.{NumberFault}
+use Rattle.tsp_number.specs.declared.word.NumberFault.{NumberFault}
 use Rattle.tsp_number.specs.Reading.{whole_of}
 use Rattle.tsp_format.specs.Limits.{most_combs, most_branches, most_changes, most_difference}
 use Rattle.tsp_format.specs.Steps.{Step, Branch, Leaf, are_whole, branch_count, change_count}
-use Rattle.tsp_draft.specs.Validity.{is_within, is_node, is_branch_of, is_change, is_step, are_tree_steps}
+use Rattle.tsp_file.specs.Validity.{is_within, is_node, is_branch_of, is_change, is_step, are_tree_steps}
 use Rattle.tsp_file.specs.CanonicalText.{change_words}
 use Rattle.tsp_text.specs.SectionNumbers.{number, reads_as, whole_of_size}
 use Rattle.tsp_text.specs.WordPlaces.{StepAfter, IndexAfter, Amount, PastGroups}

@@ -6,10 +6,10 @@ use Rattle.std.specs.Result.{result_err}
 use Rattle.std.specs.List.{list_any}
 use Rattle.std.specs.Fmt.{decimal, signed_decimal}
 use Rattle.std.proofs.lemmas.Bool.{and_parts}
-use Rattle.tsp_number.specs.declared.fault.NumberFault.{NumberFault}
+use Rattle.tsp_number.specs.declared.word.NumberFault.{NumberFault}
 use Rattle.tsp_number.specs.Reading.{whole_of}
 use Rattle.tsp_format.specs.Limits.{most_multiplier}
-use Rattle.tsp_draft.specs.Validity.{is_from_to, is_pair_of, is_triple_of}
+use Rattle.tsp_file.specs.Validity.{is_from_to, is_pair_of, is_triple_of}
 use Rattle.tsp_text.specs.SectionNumbers.{number, is_end}
 use Rattle.tsp_text.specs.WordPlaces.{Amount}
 use Rattle.tsp_text.specs.Lists.{firsts_in, fixed_triple, place_in_triple}

@@ -4,14 +4,14 @@ use Rattle.std.proofs.Common.{◌≡◌, ℕ, Bool, true, false, cond, List, [],
 use Rattle.std.specs.Prelude.{ℤ, nat_abs, is_some}
 use Rattle.std.specs.Option.{option_map, option_and_then}
 use Rattle.std.specs.Result.{result_ok}
-use Rattle.tsp_format.specs.declared.field.Field.{Field}
-use Rattle.tsp_format.specs.declared.field.Field.TheVariants.{NameKey, TypeKey, DimensionKey, CapacityKey, ScaleKey, LoadUnitKey, EdgeWeightTypeKey, EdgeWeightFormatKey, NodeCoordTypeKey, DisplayDataTypeKey, NodeCoordPart, DisplayDataPart, DemandPart, DepotPart, FixedEdgesPart, EdgeWeightPart, TourPart, NodePotentialPart, RowPotentialPart, ColumnPotentialPart, FixedEdgePotentialPart, CombPart, BranchPart}
-use Rattle.tsp_format.specs.declared.field.Shape.{Shape}
-use Rattle.tsp_format.specs.declared.field.Shape.TheVariants.{Points, SpacePoints, Depots, Pairs, Weights, Tours, Triples, Combs, Steps}
+use Rattle.tsp_format.specs.declared.keyword.Field.{Field}
+use Rattle.tsp_format.specs.declared.keyword.Field.TheVariants.{NameKey, TypeKey, DimensionKey, CapacityKey, ScaleKey, LoadUnitKey, EdgeWeightTypeKey, EdgeWeightFormatKey, NodeCoordTypeKey, DisplayDataTypeKey, NodeCoordPart, DisplayDataPart, DemandPart, DepotPart, FixedEdgesPart, EdgeWeightPart, TourPart, NodePotentialPart, RowPotentialPart, ColumnPotentialPart, FixedEdgePotentialPart, CombPart, BranchPart}
+use Rattle.tsp_format.specs.declared.keyword.Shape.{Shape}
+use Rattle.tsp_format.specs.declared.keyword.Shape.TheVariants.{Points, SpacePoints, Depots, Pairs, Weights, Tours, Triples, Combs, Steps}
 use Rattle.tsp_format.specs.Shapes.{shape_of}
 use Rattle.tsp_format.specs.Words.{kind_word, weight_kind_word, weight_format_word, coord_kind_word, display_kind_word}
-use Rattle.tsp_draft.specs.Fields.{Fields, spatial}
-use Rattle.tsp_draft.specs.Validity.{fits}
+use Rattle.tsp_file.specs.Fields.{Fields, spatial}
+use Rattle.tsp_file.specs.Validity.{fits}
 use Rattle.tsp_text.specs.Lines.{first_word}
 use Rattle.tsp_text.specs.Items.{Item}
 use Rattle.tsp_text.specs.Earlier.{has_line, value_at, words_of}

@@ -12,7 +12,7 @@ use Rattle.tsp_format.specs.declared.kinds.CoordKind.TheVariants as coord_kinds
 use Rattle.tsp_format.specs.declared.kinds.DisplayKind.{DisplayKind}
 use Rattle.tsp_format.specs.declared.kinds.DisplayKind.TheVariants as display_kinds
 use Rattle.tsp_format.specs.declared.layout.Layout.TheVariants as layouts
-use Rattle.tsp_format.specs.declared.field.Field.TheVariants.{NodeCoordPart, TypeKey, EdgeWeightTypeKey, EdgeWeightFormatKey, NodeCoordTypeKey, DisplayDataTypeKey}
+use Rattle.tsp_format.specs.declared.keyword.Field.TheVariants.{NodeCoordPart, TypeKey, EdgeWeightTypeKey, EdgeWeightFormatKey, NodeCoordTypeKey, DisplayDataTypeKey}
 use Rattle.tsp_format.specs.declared.keyword.Keyword.TheVariants.{Known}
 use Rattle.tsp_format.specs.Words.{field_word, kind_word, weight_kind_word, weight_format_word, coord_kind_word, display_kind_word}
 use Rattle.tsp_text.specs.Lines.{first_word}

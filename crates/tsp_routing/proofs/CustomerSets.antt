@@ -1,5 +1,5 @@
 -- A family that is one set of customers, each once, without the depot; and that such a set has no more nodes than there
--- are. For `cut_crossings` in src/cuts.rt.
+-- are. For `cut_crossings` in src/verdict.rt.
 use Rattle.std.proofs.Common.{◌≡◌, ◌≢◌, ℕ, zero, suc, ◌+◌, ◌≤◌, ◌<◌, ◌==◌, Bool, true, false, List, [], ◌∷◌, length, get_or, refl, sym, ap, ◌∙◌, subst, arith, inl, inr}
 use Rattle.std.specs.Prelude.{ℤ, pos, if◌then◌else◌, ◌≤ℤ◌}
 use Rattle.std.specs.Global.{Vec}
@@ -10,8 +10,8 @@ use Rattle.std.proofs.lemmas.List.Elements.{recursion_from_All}
 use Rattle.tsp_format.specs.Nodes.{IsNode, nodes_to}
 use Rattle.tsp_theory.specs.Length.{sum_int_by}
 use Rattle.tsp_theory.specs.Routing.{IsCustomer}
-use Rattle.tsp_families.specs.Crossed.{has}
-use Rattle.tsp_families.specs.FamilySets.{AreSetsOf, lists_of}
+use Rattle.tsp_cases.specs.Crossed.{has}
+use Rattle.tsp_cases.specs.FamilySets.{AreSetsOf, lists_of}
 use Rattle.tsp_cases.specs.GoodFamilies.{HasEachOnce}
 use Rattle.tsp_routing.specs.GoodSets.{IsGoodSet}
 use Rattle.tsp_routing.proofs.CutNeeds.{apart_from_pairs, held, no_depot}

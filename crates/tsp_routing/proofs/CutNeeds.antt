@@ -12,7 +12,7 @@ use Rattle.std.proofs.Math.Nat.{div-mul-le_self, lt-div-mul-add, mul-le-mul_righ
 use Rattle.tsp_format.specs.Nodes.{IsNode, nodes_to}
 use Rattle.tsp_format.specs.Limits.{most_demand, most_nodes}
 use Rattle.tsp_format.specs.Ranges.{IsFromTo}
-use Rattle.tsp_families.specs.Crossed.{has}
+use Rattle.tsp_cases.specs.Crossed.{has}
 use Rattle.tsp_theory.specs.Length.{sum_int_by}
 use Rattle.tsp_theory.specs.Routing.{RoutingProblem, IsCustomer, IsLeastRoutes}
 use Rattle.tsp_theory.proofs.Sums.{sum_int_by-add}

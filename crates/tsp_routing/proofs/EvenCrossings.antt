@@ -12,7 +12,7 @@ use Rattle.tsp_theory.proofs.Crossings.{none_or_one, evenly}
 use Rattle.tsp_theory.proofs.Neighbours.{sum_below}
 use Rattle.tsp_theory.proofs.Adjustments.{sum_zero}
 use Rattle.tsp_cases.specs.Families.{Family}
-use Rattle.tsp_cases.specs.declared.decision.Decision.{Decision}
+use Rattle.tsp_cases.specs.declared.open_case.Decision.{Decision}
 use Rattle.tsp_cases.specs.Cases.{CaseStep, Branch, Leaf, are_case_trees, decide, leaves_of, cases_of}
 use Rattle.tsp_routing.specs.Limits.{part_crossed, set_at, KeepsLimit, KeepsLimitsOfOne, PlansCrossEvenly, PlansKeepEitherLimit, PlansKeepLeaves}
 

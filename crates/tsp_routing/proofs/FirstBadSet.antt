@@ -1,5 +1,5 @@
 -- The families of a certificate, one after the other: how often plans cross each, and the first that isn't one set of
--- customers. For `judge_cuts` in src/cuts.rt.
+-- customers. For `judge_cuts` in src/verdict.rt.
 use Rattle.std.proofs.Common.{◌≡◌, ◌≢◌, ℕ, zero, suc, ◌+◌, ◌<◌, ◌^◌, List, [], ◌∷◌, ◌++◌, length, get_or, inl, inr, refl, ap, sym, subst, arith, length-append}
 use Rattle.std.specs.Prelude.{Some, ℤ, replicate, ◌==◌}
 use Rattle.std.specs.List.{All, AllByRecursion}
@@ -8,10 +8,10 @@ use Rattle.std.proofs.lemmas.List.{get_or_append_left, get_or_push, get_or_defau
 use Rattle.std.proofs.lemmas.List.Elements.{All-from_recursion, recursion_from_All}
 use Rattle.tsp_theory.specs.Routing.{IsCustomer}
 use Rattle.tsp_format.specs.Nodes.{IsNode}
-use Rattle.tsp_families.specs.Crossed.{has}
+use Rattle.tsp_cases.specs.Crossed.{has}
 use Rattle.std.specs.Global.{Vec}
-use Rattle.tsp_families.specs.FamilySets.{lists_of, families_in}
-use Rattle.tsp_families.specs.declared.family.Crossings.{Crossings}
+use Rattle.tsp_cases.specs.FamilySets.{lists_of, families_in}
+use Rattle.tsp_cases.specs.declared.family.Crossings.{Crossings}
 use Rattle.tsp_cases.specs.Families.{IsFamily}
 use Rattle.tsp_cases.specs.FamiliesOfSets.{family_with, families_with}
 use Rattle.tsp_cases.specs.GoodFamilies.{HasEachOnce}

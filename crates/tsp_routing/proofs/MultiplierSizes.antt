@@ -1,5 +1,5 @@
 -- Where the sizes of multipliers sum to no more than a number, each of them is no larger. For `judge_numbers` in
--- src/good_numbers.rt and others.
+-- src/verdict.rt and others.
 use Rattle.std.proofs.Common.{ℕ, List, [], ◌∷◌, ℤ, ◌≤ℤ◌, arith}
 use Rattle.std.specs.Prelude.{pos, neg_ℤ}
 use Rattle.std.specs.List.{AllByRecursion}

@@ -4,7 +4,7 @@ use Rattle.std.proofs.Common.{◌≡◌, ℕ, List, Option, None, Some, ℤ, ◌
 use Rattle.std.proofs.lemmas.Int.{ints}
 use Rattle.std.proofs.lemmas.List.Elements.{All-contains}
 use Rattle.tsp_theory.specs.Routing.{RoutingProblem}
-use Rattle.tsp_cases.specs.declared.decision.Decision.{Decision}
+use Rattle.tsp_cases.specs.declared.open_case.Decision.{Decision}
 use Rattle.tsp_cases.specs.Cases.{LeafNumbers}
 use Rattle.tsp_cases.specs.CaseTrees.{IsAbove, IsLeastFound}
 use Rattle.tsp_routing.specs.LeastOf.{IsLeastAmong}

@@ -5,7 +5,7 @@ use Rattle.std.specs.List.{AllByRecursion}
 use Rattle.std.proofs.lemmas.Int.{ints}
 use Rattle.std.proofs.lemmas.List.Elements.{recursion_from_All}
 use Rattle.tsp_theory.specs.Routing.{RoutingProblem}
-use Rattle.tsp_families.specs.declared.family.Crossings.{Crossings}
+use Rattle.tsp_cases.specs.declared.family.Crossings.{Crossings}
 use Rattle.tsp_cases.specs.FamiliesOfSets.{family_with, families_with}
 use Rattle.tsp_cases.specs.Listed.{listed_steps}
 use Rattle.tsp_routing.specs.Cuts.{IsCutFamily}

@@ -1,9 +1,9 @@
 -- The limits on how often plans cross one set: of the decisions of a case, those on other sets say nothing of it. For
--- `given_by` in src/given_back.rt.
+-- `given_by` in src/plan_leaf.rt.
 use Rattle.std.proofs.Common.{◌≡◌, ◌∙◌, ℕ, ◌+◌, ◌*◌, ◌==◌, ◌&&◌, ◌||◌, Bool, true, false, not, cond, List, [], ◌∷◌, refl, sym, ap}
 use Rattle.std.specs.Prelude.{max, min, if◌then◌else◌}
 use Rattle.std.specs.List.{filter}
-use Rattle.tsp_cases.specs.declared.decision.Decision.{Decision}
+use Rattle.tsp_cases.specs.declared.open_case.Decision.{Decision}
 use Rattle.tsp_cases.specs.states.OpenCases.{bears_on}
 use Rattle.tsp_routing.specs.PlanBounds.{low_of, high_of}
 

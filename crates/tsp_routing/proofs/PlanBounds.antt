@@ -19,7 +19,7 @@ use Rattle.tsp_theory.proofs.Neighbours.{sum_below}
 use Rattle.tsp_theory.proofs.Adjustments.{difference, sum_zero}
 use Rattle.tsp_cases.specs.Combs.{family_crossings}
 use Rattle.tsp_cases.specs.Families.{Family}
-use Rattle.tsp_cases.specs.declared.decision.Decision.{Decision}
+use Rattle.tsp_cases.specs.declared.open_case.Decision.{Decision}
 use Rattle.tsp_cases.specs.CaseTrees.{multiplied}
 use Rattle.tsp_cases.specs.LeafBound.{crossings_of}
 use Rattle.tsp_routing.specs.PlanLinks.{plan_links, IsRoutable}

@@ -1,5 +1,5 @@
 -- The judge of leaves for routes: numbers that are in range, what is found of one leaf, and the least of all leaves.
--- For `judge_leaf` in src/plan_judge.rt and others.
+-- For `judge_leaf` in src/verdict.rt and others.
 use Rattle.std.proofs.Common.{◌≡◌, ◌∙◌, ℕ, ◌+◌, ◌-◌, ◌^◌, ◌<◌, true, List, [], ◌∷◌, length, take, drop, get_or, ℤ, ◌≤ℤ◌, inl, inr, sym, ap, subst, arith}
 use Rattle.std.specs.Prelude.{Option, None, Some, pos, neg_ℤ}
 use Rattle.std.specs.List.{All, AllByRecursion}
@@ -13,10 +13,10 @@ use Rattle.tsp_format.specs.Steps as listed
 use Rattle.tsp_format.specs.Steps.{are_whole}
 use Rattle.tsp_theory.specs.CertificateNumbers.{IsFromTo, IsScale}
 use Rattle.tsp_theory.specs.Routing.{RoutingProblem, demand_of}
-use Rattle.tsp_families.specs.declared.family.Crossings.{Crossings}
+use Rattle.tsp_cases.specs.declared.family.Crossings.{Crossings}
 use Rattle.tsp_cases.specs.BadBranches.{BeginsWithin, branch_pairs}
 use Rattle.tsp_cases.specs.FamiliesOfSets.{families_with}
-use Rattle.tsp_cases.specs.declared.decision.Decision.{Decision}
+use Rattle.tsp_cases.specs.declared.open_case.Decision.{Decision}
 use Rattle.tsp_cases.specs.declared.judged.JudgedLeaf.TheVariants as leaves
 use Rattle.tsp_cases.specs.Cases.{LeafNumbers}
 use Rattle.tsp_cases.specs.CaseTrees.{IsAbove, IsLeastFound}
@@ -32,8 +32,8 @@ use Rattle.tsp_routing.specs.Loads.{AreUnits}
 use Rattle.tsp_routing.specs.PlanLinks.{IsRoutable}
 use Rattle.tsp_routing.specs.PlanTrees.{PlanTreesBoundPlans}
 use Rattle.tsp_routing.specs.PlanVerdicts.{IsPlanVerdict, VerdictBoundsPlans}
-use Rattle.tsp_routing.specs.declared.judged.PlanVerdict.{PlanVerdict}
-use Rattle.tsp_routing.specs.declared.judged.PlanVerdict.TheVariants as verdict
+use Rattle.tsp_routing.specs.declared.verdict.PlanVerdict.{PlanVerdict}
+use Rattle.tsp_routing.specs.declared.verdict.PlanVerdict.TheVariants as verdict
 use Rattle.tsp_routing.specs.states.Trees.{IsPlanStep}
 use Rattle.tsp_routing.specs.states.PlanRooms.{IsLeafVerdict}
 use Rattle.tsp_routing.proofs.MultiplierSizes.{each_small}

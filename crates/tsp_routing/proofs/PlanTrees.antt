@@ -9,7 +9,7 @@ use Rattle.std.proofs.Math.IntN.{suc_ℤ-*ℤ, zero-*ℤ}
 use Rattle.tsp_theory.specs.Routing.{RoutingProblem, plan_length}
 use Rattle.tsp_theory.specs.CertificateNumbers.{IsScale}
 use Rattle.tsp_cases.specs.Families.{Family}
-use Rattle.tsp_cases.specs.declared.decision.Decision.{Decision}
+use Rattle.tsp_cases.specs.declared.open_case.Decision.{Decision}
 use Rattle.tsp_cases.specs.Cases.{LeafNumbers, leaves_of, cases_of}
 use Rattle.tsp_cases.specs.CaseTrees.{IsAbove}
 use Rattle.tsp_routing.specs.PlanLinks.{IsRoutable, IsFilledPlan}

@@ -1,4 +1,4 @@
--- A number times a count of routes, as the code computes it. For `times` and `plan_bound` in src/leaf_sum.rt.
+-- A number times a count of routes, as the code computes it. For `times` and `plan_bound` in src/plan_leaf.rt.
 use Rattle.std.proofs.Common.{◌≡◌, ℕ, ◌*◌, ◌^◌, ◌≤◌, ap, ap₂, ◌∙◌, subst, sym, arith, to_z, of_z, FitsSigned}
 use Rattle.std.specs.Prelude.{ℤ, pos, neg_ℤ, ◌-ℤ◌, ◌*ℤ◌}
 use Rattle.std.specs.Int.{w64, w128}

@@ -1,13 +1,13 @@
 -- A number times a count of crossings, and the sums of such products as the code takes them. For `given_by` in
--- src/given_back.rt and others.
+-- src/plan_leaf.rt and others.
 use Rattle.std.proofs.Common.{◌≡◌, ℕ, ◌+◌, ◌*◌, ◌^◌, ◌≤◌, ◌<◌, true, false, List, [], ◌∷◌, drop, length, get_or, refl, ap, ap₂, ◌∙◌, arith, to_z, of_z, FitsSigned, drop-cons, add-one}
 use Rattle.std.specs.Prelude.{ℤ, pos, negsuc, neg_ℤ, ◌+ℤ◌, ◌*ℤ◌, int_lt, unsigned_abs}
 use Rattle.std.specs.Int.{w64, w128}
 use Rattle.std.proofs.lemmas.Int.{ints, fits_signed_from_abs, to_z-of_z}
 use Rattle.tsp_format.specs.Ranges.{IsFromTo}
 use Rattle.tsp_theory.proofs.Sizes.{product_size, size_of}
-use Rattle.tsp_families.specs.declared.family.Crossings.{Crossings}
-use Rattle.tsp_cases.specs.declared.decision.Decision.{Decision}
+use Rattle.tsp_cases.specs.declared.family.Crossings.{Crossings}
+use Rattle.tsp_cases.specs.declared.open_case.Decision.{Decision}
 use Rattle.tsp_cases.specs.FamiliesOfSets.{families_with}
 use Rattle.tsp_routing.specs.GoodLeaves.{sizes_total}
 use Rattle.tsp_routing.specs.PlanBounds.{low_of, high_of, least_times, limits_total}

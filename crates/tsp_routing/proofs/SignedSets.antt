@@ -12,8 +12,8 @@ use Rattle.tsp_theory.specs.Cycle.{links}
 use Rattle.tsp_theory.specs.Routing.{IsCustomer}
 use Rattle.tsp_theory.proofs.Crossings.{none_or_one}
 use Rattle.tsp_theory.proofs.Sizes.{product_size}
-use Rattle.tsp_families.specs.Crossed.{has}
-use Rattle.tsp_families.specs.declared.family.Crossings.{Crossings}
+use Rattle.tsp_cases.specs.Crossed.{has}
+use Rattle.tsp_cases.specs.declared.family.Crossings.{Crossings}
 use Rattle.tsp_cases.specs.Combs.{family_crossings}
 use Rattle.tsp_cases.specs.CaseTrees.{multiplied}
 use Rattle.tsp_cases.specs.FamiliesOfSets.{comb_with, families_with}

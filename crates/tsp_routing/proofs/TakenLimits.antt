@@ -1,5 +1,5 @@
 -- A list of decisions, of which as many are taken as it has or more, is taken whole. For `highest` and `lowest` in
--- src/limits.rt.
+-- src/plan_leaf.rt.
 use Rattle.std.proofs.Common.{◌≡◌, ◌≤◌, ℕ, zero, suc, List, [], ◌∷◌, take, length, refl, ap, arith}
 
 pub taken_all : {X : Type 0} (xs : List X) (k : ℕ) → length xs ≤ k → take k xs ≡ xs

@@ -7,7 +7,7 @@ use Rattle.std.proofs.Math.Nat.{suc-mul, mul-le-mul_right}
 use Rattle.tsp_format.specs.Nodes.{IsNode}
 use Rattle.tsp_format.specs.Ranges.{IsFromTo}
 use Rattle.tsp_routing.specs.WalkTables.{WalkEntry, IsReal}
-use Rattle.tsp_routing.specs.declared.onward.Onward.{Onward}
+use Rattle.tsp_routing.specs.declared.least_walk.Onward.{Onward}
 use Rattle.tsp_routing.specs.states.Onwards.{entry_at, IsNearOrFar, IsEntryNumber, IsEntrySized, IsRowSized}
 
 pub get_same : {X : Type 0} (xs : List X) (k : ℕ) (d e : X) → k < length xs → get_or xs k d ≡ get_or xs k e

@@ -1,5 +1,5 @@
 -- Capacity cuts: sets of customers, and how often a plan leaves and enters one at least, by what its customers demand.
--- For `judge_cuts` (src/cuts.rt), `need` (src/needs.rt), and the laws of src/laws.rt.
+-- For `judge_cuts` (src/verdict.rt), `need` (src/needs.rt), and the laws of src/laws.rt.
 -- Source: G. Laporte, Y. Nobert and M. Desrochers, Optimal routing under capacity and distance restrictions, 1985:
 -- rounded capacity inequalities.
 use Rattle.std.specs.Prelude.{◌≡◌, ℕ, max, min, ◌&&◌, Bool, true, false, not, if◌then◌else◌, List, [], ◌*◌, ℤ, pos, ◌≤ℤ◌}

@@ -1,5 +1,5 @@
 -- Whether the leaves of a certificate for routes are good: their multipliers may have any sign, so others are good than
--- for cycles (GoodNumbers.antt of tsp_cases). For `judge_numbers` (src/good_numbers.rt), and for PlanVerdicts.antt.
+-- for cycles (GoodNumbers.antt of tsp_cases). For `judge_numbers` (src/verdict.rt), and for PlanVerdicts.antt.
 use Rattle.std.specs.Prelude.{◌≡◌, ℕ, unsigned_abs, List, length, ℤ, pos, ◌≤ℤ◌}
 use Rattle.tsp_format.specs.Steps.{Step}
 use Rattle.tsp_theory.specs.Length.{sum_int_by}

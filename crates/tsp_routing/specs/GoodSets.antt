@@ -1,9 +1,9 @@
 -- Whether the families of a certificate for routes are good: each is one set of customers. For `judge_cuts`
--- (src/cuts.rt), and for PlanVerdicts.antt.
+-- (src/verdict.rt), and for PlanVerdicts.antt.
 use Rattle.std.specs.Prelude.{◌≡◌, ◌≢◌, ℕ, ◌+◌, ◌≤◌, ◌<◌, List, [], ◌∷◌, length, slice_index_or}
 use Rattle.std.specs.List.{All}
 use Rattle.tsp_theory.specs.Routing.{RoutingProblem, IsCustomer}
-use Rattle.tsp_families.specs.declared.family.Crossings.{Crossings}
+use Rattle.tsp_cases.specs.declared.family.Crossings.{Crossings}
 use Rattle.tsp_cases.specs.FamiliesOfSets.{families_with}
 use Rattle.tsp_cases.specs.GoodFamilies.{HasEachOnce}
 use Rattle.tsp_routing.specs.Cuts.{IsCutFamily}

@@ -5,7 +5,7 @@ use Rattle.std.specs.List.{All}
 use Rattle.tsp_theory.specs.Tree.{crossing}
 use Rattle.tsp_theory.specs.Routing.{plan_length}
 use Rattle.tsp_cases.specs.Families.{Family}
-use Rattle.tsp_cases.specs.declared.decision.Decision.{Decision}
+use Rattle.tsp_cases.specs.declared.open_case.Decision.{Decision}
 use Rattle.tsp_cases.specs.Cases.{CaseStep, are_case_trees, leaves_of, cases_of}
 
 -- how often routes cross a set of nodes, in and out

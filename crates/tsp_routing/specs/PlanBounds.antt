@@ -1,5 +1,5 @@
 -- The bound of a leaf for routes, from the least weight of a walk, under limits on sets and multipliers of any sign.
--- For `plan_bound` (src/leaf_sum.rt), `limits_total` (src/given_back.rt), and the law `plan_bounds_bound_plans`
+-- For `plan_bound` (src/plan_leaf.rt), `limits_total` (src/plan_leaf.rt), and the law `plan_bounds_bound_plans`
 -- (src/laws.rt).
 use Rattle.std.specs.Prelude.{ℕ, negsuc, int_lt, ◌+◌, ◌*◌, ◌-◌, max, min, ◌==◌, ◌&&◌, not, if◌then◌else◌, List, [], ◌∷◌, length, ℤ, pos, ◌+ℤ◌, ◌-ℤ◌, ◌*ℤ◌, ◌≤ℤ◌}
 use Rattle.std.specs.List.{All}
@@ -7,7 +7,7 @@ use Rattle.tsp_theory.specs.Routing.{RoutingProblem, plan_length}
 use Rattle.tsp_theory.specs.CertificateNumbers.{IsScale, entry, IsLeastBound}
 use Rattle.tsp_theory.specs.NodeBound.{weight_between}
 use Rattle.tsp_cases.specs.Families.{Family}
-use Rattle.tsp_cases.specs.declared.decision.Decision.{Decision}
+use Rattle.tsp_cases.specs.declared.open_case.Decision.{Decision}
 use Rattle.tsp_cases.specs.CaseTrees.{multiplied}
 use Rattle.tsp_cases.specs.LeafBound.{combed}
 use Rattle.tsp_routing.specs.PlanLinks.{IsRoutable, IsFilledPlan, sum_of_customers}

@@ -1,5 +1,5 @@
 -- The links of a plan of routes, which plans a bound is about, and how sums over a plan add up. For the meanings of
--- `yes` (Accepted.antt of tsp_judge), the laws of src/laws.rt, and `customers_total` (src/given_back.rt).
+-- `yes` (Accepted.antt of tsp_judge), the laws of src/laws.rt, and `customers_total` (src/plan_leaf.rt).
 use Rattle.std.specs.Prelude.{◌≡◌, ◌≢◌, ℕ, List, [], ◌∷◌, ◌++◌, length, ◌≤◌, ℤ, pos, ◌-◌, ◌+ℤ◌, ◌-ℤ◌, ◌*ℤ◌, ◌≤ℤ◌}
 use Rattle.std.specs.List.{All}
 use Rattle.tsp_format.specs.Nodes.{IsNode, nodes_to}

@@ -6,7 +6,7 @@ use Rattle.tsp_theory.specs.Length.{length_of}
 use Rattle.tsp_theory.specs.Routing.{RoutingProblem}
 use Rattle.tsp_theory.specs.CertificateNumbers.{IsScale}
 use Rattle.tsp_cases.specs.Families.{Family}
-use Rattle.tsp_cases.specs.declared.decision.Decision.{Decision}
+use Rattle.tsp_cases.specs.declared.open_case.Decision.{Decision}
 use Rattle.tsp_cases.specs.Cases.{LeafNumbers, CaseStep, are_case_trees, leaves_of}
 use Rattle.tsp_cases.specs.CaseTrees.{IsLeastFound}
 use Rattle.tsp_routing.specs.PlanLinks.{IsRoutable, BoundsPlans, HasNoPlan}

@@ -4,11 +4,11 @@ use Rattle.std.specs.Prelude.{◌≡◌, ℕ, ◌+◌, ◌*◌, ◌≤◌, ◌<�
 use Rattle.tsp_format.specs.Steps.{Step}
 use Rattle.tsp_theory.specs.CertificateNumbers.{IsBoundSized}
 use Rattle.tsp_theory.specs.Routing.{RoutingProblem, demand_of}
-use Rattle.tsp_families.specs.declared.family.Crossings.{Crossings}
+use Rattle.tsp_cases.specs.declared.family.Crossings.{Crossings}
 use Rattle.tsp_cases.specs.FamiliesOfSets.{families_with}
 use Rattle.tsp_cases.specs.Listed.{listed_steps}
-use Rattle.tsp_routing.specs.declared.judged.PlanVerdict.{PlanVerdict}
-use Rattle.tsp_routing.specs.declared.judged.PlanVerdict.TheVariants as verdict
+use Rattle.tsp_routing.specs.declared.verdict.PlanVerdict.{PlanVerdict}
+use Rattle.tsp_routing.specs.declared.verdict.PlanVerdict.TheVariants as verdict
 use Rattle.tsp_routing.specs.Loads.{AreUnits, room_in}
 use Rattle.tsp_routing.specs.GoodSets.{IsFirstBadSet, AreCapacityCuts}
 use Rattle.tsp_routing.specs.GoodBranches.{AreGoodBranches, IsFirstBadPlanBranch}

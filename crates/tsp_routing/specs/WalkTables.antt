@@ -1,5 +1,5 @@
 -- The table of the dynamic programme over walks: for a load and a node, what the rest of a walk from there weighs at
--- least. For `entry` and `start` (src/least_walk.rt), with `Onward` (src/onward.rt) as an entry.
+-- least. For `entry` and `start` (src/least_walk.rt), with `Onward` (src/least_walk.rt) as an entry.
 -- Source: N. Christofides, A. Mingozzi and P. Toth, Exact algorithms for the vehicle routing problem, 1981.
 use Rattle.std.specs.Prelude.{◌≡◌, ◌≢◌, ◌⊎◌, ℕ, ◌*◌, ◌≤◌, ◌==◌, if◌then◌else◌, List, [], ◌∷◌, ℤ, pos, ◌+ℤ◌, ◌≤ℤ◌}
 use Rattle.std.specs.List.{AllByRecursion}

@@ -1,5 +1,5 @@
 -- How large the weights of links, walks and routes can be, so that sums fit. For `are_narrow` (src/kept_weights.rt),
--- `times` (src/leaf_sum.rt), and the contracts of src/least_walk.rt.
+-- `times` (src/plan_leaf.rt), and the contracts of src/least_walk.rt.
 use Rattle.std.specs.Prelude.{ℕ, ◌+◌, ◌^◌}
 
 -- the weight of a link: two potentials of 10^15, a cost of 10^12 times a scale of 10^6, and multipliers of 3 * 10^17

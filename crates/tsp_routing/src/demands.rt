@@ -1,5 +1,5 @@
 //! The depot, the demand of each node and the capacity of a route. For `src/needs.rt`,
-//! `src/cuts.rt`, `src/units.rt` and others.
+//! `src/verdict.rt`, `src/units.rt` and others.
 
 /// The nodes 1 to `nodes`, one of them the depot, the demand of each, and what a route carries at
 /// most.

@@ -12,9 +12,9 @@ ghost use Rattle.tsp_cases.specs.states.Kept.{AreMoved};
 ghost use Rattle.tsp_routing.specs.states.LeafWeights.{AreSignedCrossings};
 
 use crate::plan_leaf::PlanLeaf;
+use tsp_bound::weight_in;
 use tsp_cases::{Families, MultipliedFamilies, SetPlace, add_sets, scale_row, shift_row};
 use tsp_theory::Costs;
-use tsp_tree::weight_in;
 
 /// Costs, a scale, potentials, and sets of customers with the multiplier of each.
 ///

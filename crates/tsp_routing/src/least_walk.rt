@@ -2,24 +2,23 @@
 //! `src/plan_leaf.rt`.
 
 ghost use Rattle.std.specs.Prelude.{◌≡◌, ◌≢◌, ◌⊎◌, ◌≤◌, ◌<◌, ◌+◌, ◌-◌, ◌*◌, ◌^◌, ℕ, ℤ, ◌∷◌, length, pos, neg_ℤ, ◌+ℤ◌, ◌≤ℤ◌, Some, IfOk, IfSome};
-ghost use Rattle.tsp_format.specs.Nodes.{IsNode};
 ghost use Rattle.tsp_format.specs.Limits.{most_nodes};
+ghost use Rattle.tsp_format.specs.Nodes.{IsNode};
 ghost use Rattle.tsp_format.specs.Ranges.{IsFromTo};
 ghost use Rattle.tsp_theory.specs.Length.{length_of};
 ghost use Rattle.tsp_theory.specs.Routing.{IsCustomer};
 ghost use Rattle.tsp_theory.specs.states.Nearest.{least_at};
 ghost use Rattle.tsp_routing.specs.LeastOf.{IsLeastAmong};
+ghost use Rattle.tsp_routing.specs.WalkTables.{WalkEntry, IsLow, IsMet, IsReal, IsEntryBelowTo, IsEntryMetTo, IsStartMet, IsStartBelow, IsAtMost, least_from};
 ghost use Rattle.tsp_routing.specs.Walks.{IsWalk, IsBelowWalks};
-ghost use Rattle.tsp_routing.specs.WalkTables.{WalkEntry, IsLow, IsMet, IsReal, IsEntryBelowTo, IsEntryMetTo, IsStartMet, IsStartBelow};
 ghost use Rattle.tsp_routing.specs.Weights.{most_room};
-ghost use Rattle.tsp_routing.specs.states.Onwards.{load_at, AreLinks, onward_entry, entry_at, IsEntryNumber, IsEntrySized, IsRowSized, AreRowsSized, IsRowLow, AreRowsLow, IsRowMet, AreRowsMet};
+ghost use Rattle.tsp_routing.specs.states.Onwards.{load_at, AreLinks, onward_entry, entry_at, IsEntryNumber, IsEntrySized, IsRowSized, AreRowsSized, IsRowLow, AreRowsLow, IsRowMet, AreRowsMet, IsNearOrFar, IsChosen};
 
 use crate::kept_weights::LentRows;
-use crate::onward::{Onward, improved, least_onward, nowhere};
 use crate::sums::Sum;
 use std::alloc::Global;
-use tsp_memory::{Refused, push, with_capacity};
-use tsp_tree::weight_in;
+use tsp_bound::weight_in;
+use tsp_io::{Refused, push, with_capacity};
 
 /// The nodes 1 to `nodes`, one of them the depot, and for each a load, with a place 0 that isn't
 /// read; and the weights between them.
@@ -404,5 +403,75 @@ fn start_with<S: Sum, W: LentRows>(
         weight
     } else {
         least
+    }
+}
+
+// ---- an entry of the table of `src/least_walk.rt`
+
+/// The rest of a walk from a node on: the least weight, the node that comes next then, and the
+/// least weight by another next node.
+#[derive(Clone, Copy)]
+pub(crate) struct Onward<S> {
+    pub(crate) least: S,
+    pub(crate) next: u32,
+    pub(crate) other: S,
+}
+
+/// The entry of a node from which there is no walk.
+fn nowhere<S: Sum>() -> Onward<S>
+    ensures size { (size : ℕ) → IsEntrySized S.half size (onward_entry S.value result) }
+    ensures least { S.value result.least ≡ pos (2 * S.half) }
+    ensures other { S.value result.other ≡ pos (2 * S.half) }
+{
+    Onward {
+        least: S::none(),
+        next: 0,
+        other: S::none(),
+    }
+}
+
+/// What a walk that comes from a node weighs on from the next one at the least.
+#[inline]
+fn least_onward<S: Sum>(entry: Onward<S>, from: u32) -> S
+    ensures value { S.value result ≡ least_from (onward_entry S.value entry) from }
+    ensures size { (size : ℕ) → IsEntrySized S.half size (onward_entry S.value entry)
+        → IsEntryNumber S.half size (S.value result) }
+{
+    if entry.next == from {
+        entry.other
+    } else {
+        entry.least
+    }
+}
+
+/// An entry with one next node more. Most nodes change nothing, which one comparison says.
+///
+/// # Requires
+///
+/// The other number is no less than the least.
+#[inline]
+fn improved<S: Sum>(best: Onward<S>, next: u32, weight: S) -> Onward<S>
+    requires order { S.value best.least ≤ℤ S.value best.other }
+    ensures keeps { (key : ℕ) (z : ℤ) → IsAtMost (onward_entry S.value best) key z → IsAtMost (onward_entry S.value result) key z }
+    ensures own { (z : ℤ) → S.value weight ≤ℤ z → IsAtMost (onward_entry S.value result) next z }
+    ensures size { (size : ℕ) → IsEntrySized S.half size (onward_entry S.value best) → neg_ℤ (pos size) ≤ℤ S.value weight
+        → IsNearOrFar S.half size (S.value weight) → IsEntrySized S.half size (onward_entry S.value result) }
+    ensures chosen { IsChosen (onward_entry S.value best) next (S.value weight) (onward_entry S.value result) }
+    ensures order { S.value result.least ≤ℤ S.value result.other }
+{
+    if !weight.is_below(best.other) {
+        return best;
+    }
+    if weight.is_below(best.least) {
+        return Onward {
+            least: weight,
+            next,
+            other: best.least,
+        };
+    }
+    Onward {
+        least: best.least,
+        next: best.next,
+        other: weight,
     }
 }

@@ -9,31 +9,20 @@
 //! ```
 #![tactic(auto)]
 
-mod cuts;
 mod demands;
-mod given_back;
-mod good_numbers;
-mod judged;
 mod kept_weights;
 mod laws;
-mod leaf_sum;
 mod leaf_weights;
 mod least_walk;
-mod limits;
 mod needs;
-mod onward;
-mod plan_judge;
 mod plan_leaf;
-mod plan_tree;
 mod setting;
 mod sums;
 mod units;
 mod verdict;
 
-pub use judged::PlanVerdict;
 pub use laws::{
     plan_bounds_are_unique, plan_bounds_bound_plans, plan_links_add_up, plan_trees_bound_plans,
     plans_keep_limits, plans_leave_cuts, routes_are_walks,
 };
-pub use plan_tree::PlanTree;
-pub use verdict::judge_plans;
+pub use verdict::{PlanTree, PlanVerdict, judge_plans};

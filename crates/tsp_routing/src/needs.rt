@@ -1,4 +1,4 @@
-//! How many routes a set of customers needs, by its demands. For `src/cuts.rt` and
+//! How many routes a set of customers needs, by its demands. For `src/verdict.rt` and
 //! `src/plan_leaf.rt`.
 
 ghost use Rattle.std.specs.Prelude.{◌≡◌, ◌≤◌, max, min};
@@ -13,7 +13,7 @@ impl Demands<'_> {
     ghost use Rattle.tsp_format.specs.Nodes.{IsNode};
     ghost use Rattle.tsp_format.specs.Ranges.{IsFromTo};
     ghost use Rattle.tsp_format.specs.Limits.{most_nodes, most_demand};
-    ghost use Rattle.tsp_families.specs.Crossed.{has};
+    ghost use Rattle.tsp_cases.specs.Crossed.{has};
     ghost use Rattle.tsp_theory.specs.Routing.{IsCustomer, demand_of, load_of, IsLeastRoutes};
     ghost use Rattle.tsp_routing.specs.PlanLinks.{sum_of_customers};
     ghost use Rattle.tsp_routing.specs.Cuts.{IsFewest};

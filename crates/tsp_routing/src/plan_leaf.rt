@@ -1,30 +1,38 @@
 //! The bound of a leaf of a certificate for routes, from the least weight of a walk. For
-//! `src/plan_judge.rt` and `src/leaf_weights.rt`.
+//! `src/verdict.rt` and `src/leaf_weights.rt`.
 
-ghost use Rattle.std.specs.Prelude.{◌≡◌, ◌≤◌, ◌+◌, ◌-◌, ◌^◌, ℕ, ℤ, length, true, pos, neg_ℤ, IfOk, IfSome, ◌-ℤ◌, ◌*ℤ◌};
+ghost use Rattle.std.specs.List.{All};
+ghost use Rattle.std.specs.Prelude.{◌≡◌, ◌≤◌, ◌+◌, ◌-◌, ◌^◌, ℕ, ℤ, length, true, pos, neg_ℤ, IfOk, IfSome, ◌-ℤ◌, ◌*ℤ◌, ◌*◌, List, ◌<◌, unsigned_abs, ◌≤ℤ◌, ◌==◌, if◌then◌else◌, [], ◌∷◌};
+ghost use Rattle.tsp_format.specs.Limits.{most_nodes, most_potential};
+ghost use Rattle.tsp_format.specs.Nodes.{IsNode};
 ghost use Rattle.tsp_format.specs.Ranges.{IsFromTo};
-ghost use Rattle.tsp_theory.specs.CertificateNumbers.{IsBoundSized, entry};
+ghost use Rattle.tsp_theory.specs.CertificateNumbers.{IsBoundSized, entry, IsScale, IsLeastBound, ArePotentials};
+ghost use Rattle.tsp_theory.specs.Routing.{RoutingProblem};
+ghost use Rattle.tsp_cases.specs.Families.{Family};
 ghost use Rattle.tsp_cases.specs.FamiliesOfSets.{families_with};
 ghost use Rattle.tsp_cases.specs.GoodNumbers.{as_leaf_numbers};
+ghost use Rattle.tsp_cases.specs.declared.open_case.Decision.{Decision};
+ghost use Rattle.tsp_cases.specs.states.Decided.{stack_of};
 ghost use Rattle.tsp_cases.specs.states.Kept.{AreMoved};
 ghost use Rattle.tsp_cases.specs.states.Lent.{lent_in};
 ghost use Rattle.tsp_cases.specs.states.OpenCases.{IsOpenCase, decisions_in};
-ghost use Rattle.tsp_routing.specs.GoodLeaves.{ArePlanNumbers};
+ghost use Rattle.tsp_routing.specs.Cuts.{IsFewest};
+ghost use Rattle.tsp_routing.specs.GoodLeaves.{ArePlanNumbers, most_of_multipliers, sizes_total};
+ghost use Rattle.tsp_routing.specs.PlanBounds.{limits_total, least_product, IsPlanBound, low_of, high_of, least_times};
 ghost use Rattle.tsp_routing.specs.PlanLinks.{sum_of_customers};
 ghost use Rattle.tsp_routing.specs.PlanTrees.{IsFoundByWalks, IsLeastWalk};
-ghost use Rattle.tsp_routing.specs.Weights.{most_room};
+ghost use Rattle.tsp_routing.specs.Weights.{most_room, most_surplus};
 ghost use Rattle.tsp_routing.specs.states.Demands.{loads_problem};
 ghost use Rattle.tsp_routing.specs.states.GivenBack.{numbers_total};
+ghost use Rattle.tsp_routing.specs.states.JudgedCuts.{IsFewCrossed};
 
-use crate::given_back::{customers_total, limits_total};
 use crate::kept_weights::{KeptWeights, kept_rows};
-use crate::leaf_sum::{LeafSum, plan_bound};
 use crate::leaf_weights::LeafWeights;
 use crate::least_walk::{Walks, least_walk};
 use crate::setting::PlanSetting;
 use std::alloc::Global;
-use tsp_cases::{MultipliedFamilies, OpenCase, fill_moved, take_multipliers};
-use tsp_memory::{Refused, filled};
+use tsp_cases::{Crossings, Decision, MultipliedFamilies, OpenCase, fill_moved, take_multipliers};
+use tsp_io::{Refused, filled};
 use tsp_theory::Costs;
 
 /// A leaf: its numbers, which are good, the setting that it shares with all others, and by node its
@@ -150,4 +158,214 @@ pub(crate) fn moved_of<C: Costs>(
     let mut moved = filled(alloc, 0, places)?;
     fill_moved(&mut moved, potentials, &ends);
     Ok(moved)
+}
+
+// ---- from the least weight of a walk to the bound of a leaf, whatever number of routes a plan
+
+/// What a leaf gives back to all plans, the potential of the depot, and how many routes there are
+/// at least.
+#[derive(Clone, Copy)]
+pub(crate) struct LeafSum {
+    pub(crate) nodes: u32,
+    pub(crate) scale: i64,
+    /// At most 2^97 in size.
+    pub(crate) back: i128,
+    pub(crate) own: i64,
+    pub(crate) fewest: u32,
+    ghost scaled: { IsScale scale },
+    ghost some: { 1 ≤ nodes },
+    ghost few_nodes: { nodes ≤ most_nodes },
+    ghost back_size: { IsFromTo (neg_ℤ (pos (2 ^ 97))) (pos (2 ^ 97)) back },
+    ghost own_size: { IsFromTo (neg_ℤ (pos most_potential)) (pos most_potential) own },
+    ghost few: { fewest ≤ most_nodes },
+}
+
+/// The bound of a leaf where each route weighs `each` at the least.
+fn plan_bound(sum: LeafSum, each: i128) -> i128
+    requires { IsFromTo (neg_ℤ (pos (2 ^ 83))) (pos (2 ^ 83)) each }
+    ensures bound { (problem : RoutingProblem) (potentials : List ℤ) (families : List Family) (multipliers : List ℤ)
+        (case : List Decision) → problem.nodes ≡ sum.nodes → IsFewest problem sum.fewest
+        → sum.back ≡ limits_total case (2 * (problem.nodes - 1)) (problem.nodes + 1) families multipliers
+        -ℤ (pos 2 *ℤ sum_of_customers problem.nodes problem.depot (entry potentials))
+        → sum.own ≡ entry potentials problem.depot
+        → IsPlanBound problem sum.scale potentials families multipliers case each result }
+    ensures size { IsBoundSized result }
+{
+    let surplus = each - 2 * i128::from(sum.own);
+    let routes = of_routes(sum.fewest, sum.nodes - 1, surplus);
+    rounded_up(sum.scale, sum.back + routes)
+}
+
+/// The lower one of a number times each of two counts.
+fn of_routes(fewest: u32, most: u32, surplus: i128) -> i128
+    requires fewest { fewest ≤ most_nodes }
+    requires most { most ≤ most_nodes }
+    requires surplus { IsFromTo (neg_ℤ (pos most_surplus)) (pos most_surplus) surplus }
+    ensures value { result ≡ least_product fewest most surplus }
+    ensures size { IsFromTo (neg_ℤ (pos (most_nodes * most_surplus))) (pos (most_nodes * most_surplus)) result }
+{
+    let few = times(fewest, surplus);
+    let many = times(most, surplus);
+    if many < few { many } else { few }
+}
+
+/// A number times a count.
+fn times(count: u32, number: i128) -> i128
+    requires count { count ≤ most_nodes }
+    requires number { IsFromTo (neg_ℤ (pos most_surplus)) (pos most_surplus) number }
+    ensures value { result ≡ pos count *ℤ number }
+    ensures size { IsFromTo (neg_ℤ (pos (most_nodes * most_surplus))) (pos (most_nodes * most_surplus)) result }
+{
+    i128::from(count) * number
+}
+
+/// The least whole number that at a scale is no less than a sum.
+fn rounded_up(scale: i64, sum: i128) -> i128
+    requires scale { IsScale scale }
+    requires size { IsFromTo (neg_ℤ (pos (2 ^ 100))) (pos (2 ^ 100)) sum }
+    ensures value { IsLeastBound scale sum result }
+    ensures size { IsBoundSized result }
+{
+    // Euclid's quotient rounds down, so that of the negative sum rounds up.
+    -(-sum).div_euclid(i128::from(scale))
+}
+
+// ---- what the multipliers of sets and the potentials of customers give back to the bound of a
+
+/// How often each plan crosses a set at the least, and at the most.
+#[derive(Clone, Copy)]
+struct Limits {
+    low: u64,
+    high: u64,
+}
+
+/// What the multipliers of sets give back: one of at least 0 times_given_back the least number of crossings
+/// that the case allows, one below 0 times_given_back the most.
+fn limits_total(case: &OpenCase, nodes: u32, crossed: &[Crossings], multipliers: &[i64]) -> i128
+    requires some { 1 ≤ nodes }
+    requires nodes { nodes ≤ most_nodes }
+    requires case { IsOpenCase (nodes + length multipliers.now) case.now }
+    requires direction { case.now.by_node.directed ≡ true }
+    requires few_families { length multipliers.now ≤ 10000 }
+    requires as_many { length crossed.now ≡ length multipliers.now }
+    requires few { All IsFewCrossed crossed.now }
+    requires sizes { sizes_total multipliers.now ≤ℤ pos most_of_multipliers }
+    ensures value { result ≡ numbers_total (decisions_in case.now) (2 * (nodes - 1)) (nodes + 1) crossed.now multipliers.now }
+    ensures size { IsFromTo (neg_ℤ (pos (2 ^ 96))) (pos (2 ^ 96)) result }
+{
+    let mut sum = 0;
+    'families: for index in 0..multipliers.len() {
+        let limits = Limits {
+            low: crossed[index].least,
+            high: 2 * u64::from(nodes - 1),
+        };
+        sum += given_by(case, nodes + 1 + index as u32, limits, multipliers[index]);
+    }
+    sum
+}
+
+/// What the multiplier of one set gives back.
+fn given_by(case: &OpenCase, place: u32, limits: Limits, multiplier: i64) -> i128
+    requires case { (places : ℕ) × IsOpenCase places case.now × (place ≤ places) }
+    requires direction { case.now.by_node.directed ≡ true }
+    requires low { limits.low ≤ 2 ^ 33 }
+    requires high { limits.high ≤ 2 ^ 33 }
+    ensures value { result ≡ least_times (low_of place (decisions_in case.now) limits.low)
+        (high_of place (decisions_in case.now) limits.high) multiplier }
+    ensures size { IsFromTo (neg_ℤ (pos (unsigned_abs multiplier * 2 ^ 33))) (pos (unsigned_abs multiplier * 2 ^ 33)) result }
+{
+    let decisions = case.at(place);
+    if multiplier < 0 {
+        return times_given_back(highest(place, decisions, limits.high), multiplier);
+    }
+    times_given_back(lowest(place, decisions, limits.low), multiplier)
+}
+
+/// A number times_given_back a count.
+fn times_given_back(count: u64, number: i64) -> i128
+    requires { count ≤ 2 ^ 33 }
+    ensures value { result ≡ pos count *ℤ number }
+    ensures size { IsFromTo (neg_ℤ (pos (unsigned_abs number * 2 ^ 33))) (pos (unsigned_abs number * 2 ^ 33)) result }
+{
+    i128::from(count) * i128::from(number)
+}
+
+/// The sum of the potentials of the customers.
+fn customers_total(depot: u32, potentials: &[i64]) -> i128
+    requires few { length potentials.now ≤ most_nodes }
+    requires depot { IsNode (length potentials.now) depot }
+    requires potentials { ArePotentials potentials.now }
+    ensures value { result ≡ sum_of_customers (length potentials.now) depot (entry potentials.now) }
+    ensures size { IsFromTo (neg_ℤ (pos (2 ^ 70))) (pos (2 ^ 70)) result }
+{
+    let mut sum = 0;
+    'nodes: for index in 0..potentials.len() {
+        sum += of_customer(depot, index as u32 + 1, potentials[index]);
+    }
+    sum
+}
+
+/// The potential of a customer; 0 for the depot.
+fn of_customer(depot: u32, node: u32, potential: i64) -> i128
+    requires { IsFromTo (neg_ℤ (pos most_potential)) (pos most_potential) potential }
+    ensures value { result ≡ (if node == depot then pos 0 else potential) }
+    ensures size { IsFromTo (neg_ℤ (pos most_potential)) (pos most_potential) result }
+{
+    if node == depot {
+        return 0;
+    }
+    i128::from(potential)
+}
+
+// ---- how often the limits of a case let plans cross a set
+
+/// How often plans of a case cross a set at the least, where they do so as often as this anyway. Of
+/// the decisions, the last one last, those on this place count.
+fn lowest(place: u32, decisions: &[Decision], own: u64) -> u64
+    requires { own ≤ 2 ^ 33 }
+    ensures value { result ≡ low_of place (stack_of decisions.now) own }
+    ensures most { result ≤ 2 ^ 33 }
+{
+    let mut low = own;
+    'limits: for limit in decisions {
+        low = raised(place, *limit, low);
+    }
+    low
+}
+
+/// The least number of crossings with one limit more.
+fn raised(place: u32, limit: Decision, own: u64) -> u64
+    requires { own ≤ 2 ^ 33 }
+    ensures value { result ≡ low_of place (limit ∷ []) own }
+    ensures most { result ≤ 2 ^ 33 }
+{
+    if limit.taken || limit.pair.0 != place {
+        return own;
+    }
+    let low = 2 * u64::from(limit.pair.1) + 2;
+    if low < own { own } else { low }
+}
+
+/// How often they cross it at the most, where they do so no more often than this anyway.
+fn highest(place: u32, decisions: &[Decision], own: u64) -> u64
+    ensures value { result ≡ high_of place (stack_of decisions.now) own }
+    ensures most { result ≤ own }
+{
+    let mut high = own;
+    'limits: for limit in decisions {
+        high = lowered(place, *limit, high);
+    }
+    high
+}
+
+/// The greatest number of crossings with one limit more.
+fn lowered(place: u32, limit: Decision, own: u64) -> u64
+    ensures value { result ≡ high_of place (limit ∷ []) own }
+    ensures most { result ≤ own }
+{
+    if !limit.taken || limit.pair.0 != place {
+        return own;
+    }
+    let high = 2 * u64::from(limit.pair.1);
+    if high < own { high } else { own }
 }

@@ -1,5 +1,5 @@
 //! What all leaves of a certificate for routes share: costs, demands, families and loads.
-//! `src/verdict.rt` makes one for the leaves in `src/plan_judge.rt`.
+//! `src/verdict.rt` makes one for the leaves in `src/verdict.rt`.
 
 ghost use Rattle.std.specs.Prelude.{◌≡◌, ◌≤◌, length};
 ghost use Rattle.std.specs.List.{All};

@@ -1,5 +1,5 @@
 //! Sums of the weights of walks, in 64 bits where weights are small, else in 128. For
-//! `src/least_walk.rt`, `src/kept_weights.rt` and `src/onward.rt`.
+//! `src/least_walk.rt`, `src/kept_weights.rt` and `src/least_walk.rt`.
 
 ghost use Rattle.std.proofs.Common.{rules};
 ghost use Rattle.std.specs.Prelude.{◌≡◌, ◌≤◌, ◌<◌, ◌+◌, ◌*◌, ◌^◌, ℕ, ℤ, pos, neg_ℤ, ◌+ℤ◌, int_lt, MatchOption};

@@ -10,7 +10,7 @@ ghost use Rattle.tsp_routing.specs.states.Units.{AreUnitLoads, light_in};
 
 use crate::demands::Demands;
 use std::alloc::Global;
-use tsp_memory::{Refused, filled};
+use tsp_io::{Refused, filled};
 
 /// The load of each node, at its place, and the capacity of a route; and how many customers
 /// demand less than a unit.

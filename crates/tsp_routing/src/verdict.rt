@@ -1,33 +1,44 @@
 //! Judges a certificate for routes: its families, then its branches, then its leaves. For
-//! `src/walks.rt` of tsp_verdict.
+//! `src/routes.rt` of tsp_verdict.
 
-ghost use Rattle.std.specs.Prelude.{◌≡◌, ◌≤◌, ◌<◌, ◌+◌, ◌*◌, ◌^◌, true, [], length, nat_abs, IfOk};
 ghost use Rattle.std.specs.List.{All};
+ghost use Rattle.std.specs.Prelude.{◌≡◌, ◌≤◌, ◌<◌, ◌+◌, ◌*◌, ◌^◌, true, [], length, nat_abs, IfOk, pos, ℕ, ℤ, MatchOption, ◌↔◌, IsTrue, take, drop, neg_ℤ};
+ghost use Rattle.tsp_format.specs.Limits.{most_demand, most_capacity};
+ghost use Rattle.tsp_format.specs.Nodes.{IsNode};
+ghost use Rattle.tsp_format.specs.Ranges.{IsFromTo};
 ghost use Rattle.tsp_format.specs.Steps.{are_whole};
 ghost use Rattle.tsp_format.specs.states.TreeSteps.{steps_of};
-ghost use Rattle.tsp_families.specs.FamilySets.{families_in};
-ghost use Rattle.tsp_cases.specs.FamiliesOfSets.{families_with};
-ghost use Rattle.tsp_cases.specs.JudgedLeaves.{AreJudgedBy, AreSizedLeaves};
+ghost use Rattle.tsp_theory.specs.CertificateNumbers.{IsScale};
+ghost use Rattle.tsp_cases.specs.FamiliesOfSets.{families_with, family_with};
+ghost use Rattle.tsp_cases.specs.FamilySets.{families_in, AreFamiliesOf, AreSetsOf, lists_of};
+ghost use Rattle.tsp_cases.specs.GoodNumbers.{as_leaf_numbers};
+ghost use Rattle.tsp_cases.specs.JudgedLeaves.{AreJudgedBy, AreSizedLeaves, IsFoundOfCase, IsSizedLeaf};
 ghost use Rattle.tsp_cases.specs.Listed.{IsStepOf};
 ghost use Rattle.tsp_cases.specs.states.Lent.{lent_in};
-ghost use Rattle.tsp_routing.specs.GoodLeaves.{ArePlanNumbers};
-ghost use Rattle.tsp_routing.specs.Weights.{most_room};
+ghost use Rattle.tsp_cases.specs.states.Marked.{AreUnmarked, AddsNoOther};
+ghost use Rattle.tsp_cases.specs.states.OpenCases.{IsOpenCase, decisions_in};
+ghost use Rattle.tsp_routing.specs.Cuts.{IsCutFamily};
+ghost use Rattle.tsp_routing.specs.GoodLeaves.{ArePlanNumbers, most_of_multipliers, sizes_total};
+ghost use Rattle.tsp_routing.specs.GoodSets.{IsGoodSet};
 ghost use Rattle.tsp_routing.specs.PlanVerdicts.{routing_with, IsPlanVerdict, VerdictBoundsPlans, IsSizedPlanVerdict};
-ghost use Rattle.tsp_routing.specs.states.Demands.{loads_problem};
-ghost use Rattle.tsp_routing.specs.states.PlanRooms.{IsFoundOfFew, IsLeafVerdict};
+ghost use Rattle.tsp_routing.specs.Weights.{most_room};
+ghost use Rattle.tsp_routing.specs.states.Demands.{loads_problem, AreDemands};
+ghost use Rattle.tsp_routing.specs.states.JudgedCuts.{AreCutsJudged, AreCutNumbers};
+ghost use Rattle.tsp_routing.specs.states.PlanRooms.{IsFoundOfFew, IsLeafVerdict, IsPlanRoom};
+ghost use Rattle.tsp_routing.specs.states.Trees.{IsPlanStep};
 
-use crate::cuts::{JudgedCuts, judge_cuts};
 use crate::demands::Demands;
-use crate::judged::PlanVerdict;
 use crate::laws::plan_trees_bound_plans;
-use crate::plan_judge::{PlanJudge, PlanRoom};
-use crate::plan_tree::PlanTree;
+use crate::plan_leaf::{PlanLeaf, leaf_bound, moved_of};
 use crate::setting::PlanSetting;
 use crate::units::unit_loads;
 use std::alloc::Global;
-use tsp_cases::{CaseSteps, JudgedLeaves, first_bad_branch, judge_leaves, sets_by_node};
-use tsp_format::TreeStep;
-use tsp_memory::{Refused, filled};
+use tsp_cases::{
+    CaseSteps, Crossings, Decision, Families, JudgedLeaf, JudgedLeaves, LeafJudge, OpenCase,
+    copy_within, first_bad_branch, judge_leaves, mark_nodes, sets_by_node,
+};
+use tsp_format::{MOST_POTENTIAL, TreeStep};
+use tsp_io::{Refused, filled, push};
 use tsp_theory::Costs;
 
 /// The most entries of a table by node and load.
@@ -172,4 +183,288 @@ fn judge_all<C: Costs>(
     };
     let judge = PlanJudge { setting, few };
     judge_leaves(alloc, &judge, &tree, &mut room, nodes + combs)
+}
+
+// ---- the verdict on a certificate for routes, as an enum
+
+/// The verdict on a certificate for routes.
+#[derive(Drop)]
+pub enum PlanVerdict {
+    /// The first family that isn't one set of customers without one twice, counted from 1.
+    BadFamily(usize),
+    /// The first branch that isn't on one of the families, counted from 1.
+    BadBranch(usize),
+    /// The first leaf that isn't good, counted from 1.
+    BadLeaf(usize),
+    /// A table by node and load would have more than 10,000,000 entries.
+    TooManyLoads,
+    /// The bound: no plan whose routes each have a customer is shorter. `None` where no leaf has
+    /// one: then there is no such plan.
+    Bound(Option<i128>),
+}
+
+// ---- a certificate for routes: costs, depot, demands, families and the steps of its tree
+
+/// A tree of cases for routes, and what it is for: costs, a depot, a demand of each node, and what
+/// a route carries at most.
+///
+/// There are two or more nodes. Sets are of these nodes, and the steps are one whole tree.
+#[derive(Drop)]
+pub struct PlanTree<'a, C: Costs> {
+    pub costs: &'a C,
+    pub depot: u32,
+    pub demands: &'a [i64],
+    pub capacity: i64,
+    pub scale: i64,
+    /// The unit in which loads are counted, 1 to 10^12.
+    pub unit: i64,
+    /// The families, each by its sets.
+    pub families: &'a [Vec<Vec<u32>>],
+    /// The branches and leaves. A branch is on family k where its first number is n + k.
+    pub steps: &'a [TreeStep],
+    pub ghost some: { 2 ≤ C.nodes costs.now },
+    pub ghost depot_in: { IsNode (C.nodes costs.now) depot },
+    pub ghost each: { length demands.now ≡ C.nodes costs.now },
+    pub ghost demands_are: { All (IsFromTo (pos 0) (pos most_demand)) demands.now },
+    pub ghost capacity_is: { IsFromTo (pos 1) (pos most_capacity) capacity },
+    pub ghost scaled: { IsScale scale },
+    pub ghost united: { IsFromTo (pos 1) (pos 1000000000000) unit },
+    pub ghost few_families: { length families.now ≤ 10000 },
+    pub ghost few_steps: { length steps.now < 2 ^ 32 },
+    pub ghost sets_are: { AreFamiliesOf (C.nodes costs.now) families.now },
+    pub ghost steps_are: { ∥ All (IsPlanStep (C.nodes costs.now)) (steps_of steps.now) ∥₁ },
+    pub ghost whole: { are_whole 1 (steps_of steps.now) ≡ true },
+}
+
+// ---- judges the families of a certificate for routes
+
+/// The judgement on the families of a certificate for routes: all of them, or the first bad one.
+#[derive(Drop)]
+pub(crate) enum JudgedCuts<'a> {
+    /// Each is one set of customers: the families, and how often a plan crosses each at the least.
+    Good(Families<'a>, Vec<Crossings>),
+    /// The first one that isn't, counted from 1.
+    Bad(usize),
+}
+
+/// The families, or the first one that isn't one set of customers with none twice, counted from 1.
+///
+/// # Errors
+///
+/// Out of memory, of which it takes some for each node and for each family.
+fn judge_cuts<'a>(
+    alloc: Global,
+    demands: &Demands,
+    lent: &'a [Vec<Vec<u32>>],
+) -> Result<JudgedCuts<'a>, Refused>
+    requires demands { AreDemands demands.now }
+    requires few { length lent.now ≤ 10000 }
+    requires inside { AreFamiliesOf demands.now.nodes lent.now }
+    ensures { IfOk result (AreCutsJudged demands.now lent.now) }
+{
+    let mut marks = filled(alloc, 0, demands.nodes as usize + 1)?;
+    let mut crossed = Vec::new(alloc);
+    'families: for number in 0..lent.len() {
+        // Marks from 1 on, since 0 means no mark.
+        let found = cut_crossings(demands, &mut marks, number as u32 + 1, &lent[number]);
+        let Some(own) = found else {
+            return Ok(JudgedCuts::Bad(number + 1));
+        };
+        push(&mut crossed, own)?;
+    }
+    // A cycle crosses a set twice at the least. Nothing is asked of this but that it be so.
+    let known = filled(alloc, Crossings { least: 2, most: 3 }, lent.len())?;
+    let families = Families {
+        nodes: demands.nodes,
+        lent,
+        crossed: known,
+    };
+    Ok(JudgedCuts::Good(families, crossed))
+}
+
+/// How often a plan crosses the set that these are at the least: twice for each route that it
+/// needs. `None` where they aren't one set of customers with none twice.
+fn cut_crossings(
+    demands: &Demands,
+    marks: &mut [u32],
+    mark: u32,
+    sets: &[Vec<u32>],
+) -> Option<Crossings>
+    requires demands { AreDemands demands.now }
+    requires inside { AreSetsOf demands.now.nodes sets.now }
+    requires places { length marks.old ≡ demands.now.nodes + 1 }
+    requires fresh { AreUnmarked marks.old mark }
+    ensures found { AreCutNumbers demands.now (lists_of sets.now) result }
+    ensures others { AddsNoOther mark marks.old marks.new }
+    ensures length { length marks.new ≡ length marks.old }
+{
+    if sets.len() != 1 {
+        return None;
+    }
+    let customers = sets[0].as_slice();
+    if customers.is_empty() {
+        return None;
+    }
+    if !mark_nodes(marks, mark, customers) {
+        return None;
+    }
+    if marks[demands.depot as usize] == mark {
+        return None;
+    }
+    Some(Crossings {
+        least: 2 * u64::from(demands.need(customers)),
+        most: 1,
+    })
+}
+
+// ---- the judge of the leaves of a certificate for routes
+
+/// The numbers of a leaf, and a row, which are written over by the next one.
+#[derive(Drop)]
+pub(crate) struct PlanRoom {
+    pub(crate) potentials: Vec<i64>,
+    pub(crate) multipliers: Vec<i64>,
+    pub(crate) row: Vec<i64>,
+}
+
+/// Judges leaves by least walks, where there are few loads; else it only says which are good.
+#[derive(Drop)]
+pub(crate) struct PlanJudge<'a, C: Costs> {
+    pub(crate) setting: &'a PlanSetting<'a, C>,
+    pub(crate) few: bool,
+    ghost room: { few ≡ true → setting.now.units.now.room ≤ most_room },
+}
+
+impl<C: Costs> LeafJudge for PlanJudge<'_, C> {
+    ghost use Rattle.std.specs.Prelude.{◌+◌, true, length};
+    ghost use Rattle.tsp_cases.specs.FamiliesOfSets.{families_with};
+    ghost use Rattle.tsp_cases.specs.states.Lent.{lent_in};
+    ghost use Rattle.tsp_routing.specs.GoodLeaves.{ArePlanNumbers};
+    ghost use Rattle.tsp_routing.specs.states.Demands.{loads_problem};
+    ghost use Rattle.tsp_routing.specs.states.PlanRooms.{IsPlanRoom, IsFoundOfFew};
+
+    type Memory = PlanRoom;
+
+    ghost nodes = { λ judge. judge.setting.now.demands.nodes };
+
+    ghost combs = { λ judge. length judge.setting.now.crossed.now };
+
+    ghost places = { λ judge. judge.setting.now.demands.nodes + length judge.setting.now.crossed.now };
+
+    ghost directed = { λ judge. true };
+
+    ghost fits = { λ judge case. Unit {0} };
+
+    ghost good = { λ judge numbers. ArePlanNumbers judge.setting.now.demands.nodes (length judge.setting.now.crossed.now)
+        numbers };
+
+    ghost found = { λ judge. IsFoundOfFew judge.few
+        (loads_problem judge.setting.now.demands (C.at judge.setting.now.costs.now)) judge.setting.now.scale
+        judge.setting.now.unit judge.setting.now.units.now.light
+        (families_with judge.setting.now.crossed.now (lent_in judge.setting.now.families.now)) };
+
+    ghost holds = { λ judge room case. IsPlanRoom judge.setting.now.demands.nodes
+        (length judge.setting.now.crossed.now) room };
+
+    fn enter(&self, memory: &mut PlanRoom, decision: Decision) {}
+
+    fn leave(&self, memory: &mut PlanRoom, stack: &[Decision]) {}
+
+    fn judge(
+        &self,
+        alloc: Global,
+        case: &OpenCase,
+        numbers: &[i128],
+        memory: &mut PlanRoom,
+    ) -> Result<JudgedLeaf, Refused> {
+        // The setting is lent again, since the case changes before the next leaf.
+        judge_leaf(alloc, &*self.setting, self.few, case, numbers, memory)
+    }
+}
+
+/// The bound of the leaf with these numbers, where they are good and there are few loads.
+///
+/// # Errors
+///
+/// Out of memory.
+fn judge_leaf<C: Costs>(
+    alloc: Global,
+    setting: &PlanSetting<C>,
+    few: bool,
+    case: &OpenCase,
+    numbers: &[i128],
+    room: &mut PlanRoom,
+) -> Result<JudgedLeaf, Refused>
+    requires few { few ≡ true → setting.now.units.now.room ≤ most_room }
+    requires case { IsOpenCase (setting.now.demands.nodes + length setting.now.crossed.now) case.now }
+    requires direction { case.now.by_node.directed ≡ true }
+    requires numbers { length numbers.now ≡ setting.now.demands.nodes + length setting.now.crossed.now }
+    requires room { IsPlanRoom setting.now.demands.nodes (length setting.now.crossed.now) room.old }
+    ensures judged { IfOk result (IsFoundOfCase (IsFoundOfFew few
+        (loads_problem setting.now.demands (C.at setting.now.costs.now)) setting.now.scale
+        setting.now.unit setting.now.units.now.light
+        (families_with setting.now.crossed.now (lent_in setting.now.families.now)))
+        (ArePlanNumbers setting.now.demands.nodes (length setting.now.crossed.now))
+        setting.now.demands.nodes (decisions_in case.now) numbers.now) }
+    ensures room { IfOk result (λ own. IsPlanRoom setting.now.demands.nodes (length setting.now.crossed.now) room.new) }
+    ensures size { IfOk result IsSizedLeaf }
+{
+    if !judge_numbers(numbers, &mut room.potentials, &mut room.multipliers) {
+        return Ok(JudgedLeaf::Bad);
+    }
+    if !few {
+        return Ok(JudgedLeaf::Found(None));
+    }
+    let moved = moved_of(alloc, setting, &room.potentials, &room.multipliers)?;
+    let leaf = PlanLeaf {
+        setting: &*setting,
+        potentials: &room.potentials,
+        multipliers: &room.multipliers,
+        moved: &moved,
+    };
+    let bound = leaf_bound(alloc, &leaf, case, &mut room.row)?;
+    Ok(JudgedLeaf::Found(bound))
+}
+
+// ---- whether the potentials and multipliers of a leaf for routes are within their limits
+
+/// The most that the sizes of multipliers sum to.
+const MOST_MULTIPLIERS: i64 = 300_000_000_000_000_000;
+
+/// Whether the numbers, of the nodes and then of the families, are good: no potential is above
+/// 10^15 in size, and the sizes of the multipliers sum to at most 3 * 10^17. Then they are copied.
+fn judge_numbers(numbers: &[i128], potentials: &mut [i64], multipliers: &mut [i64]) -> bool
+    requires long { length numbers.now ≡ length potentials.old + length multipliers.old }
+    ensures good { IsTrue result ↔ ArePlanNumbers (length potentials.old) (length multipliers.old)
+        (as_leaf_numbers (take (length potentials.old) numbers.now) (drop (length potentials.old) numbers.now)) }
+    ensures potentials { result ≡ true → potentials.new ≡ take (length potentials.old) numbers.now }
+    ensures multipliers { result ≡ true → multipliers.new ≡ drop (length potentials.old) numbers.now }
+    ensures potentials_len { length potentials.new ≡ length potentials.old }
+    ensures multipliers_len { length multipliers.new ≡ length multipliers.old }
+{
+    let (of_nodes, of_families) = numbers.split_at(potentials.len());
+    if !copy_within(of_nodes, -MOST_POTENTIAL, MOST_POTENTIAL, potentials) {
+        return false;
+    }
+    if !copy_within(
+        of_families,
+        -MOST_MULTIPLIERS,
+        MOST_MULTIPLIERS,
+        multipliers,
+    ) {
+        return false;
+    }
+    sizes_total(multipliers) <= i128::from(MOST_MULTIPLIERS)
+}
+
+/// The sum of the sizes of multipliers.
+fn sizes_total(multipliers: &[i64]) -> i128
+    requires { All (IsFromTo (neg_ℤ (pos most_of_multipliers)) (pos most_of_multipliers)) multipliers.now }
+    ensures { result ≡ sizes_total multipliers.now }
+{
+    let mut sum = 0;
+    'multipliers: for multiplier in multipliers {
+        sum += i128::from(multiplier.unsigned_abs());
+    }
+    sum
 }

@@ -1,5 +1,5 @@
 //! Assertions of the tests: each is a function with no contract, proved once, so that a test is a
-//! row of calls. tsp_tests_support has none, since no library may end the program.
+//! row of calls. tsp_tests has none, since no library may end the program.
 
 use std::fmt::Debug;
 use std::process::Abort;

@@ -2,11 +2,11 @@
 //! unknown one. `File::of` has to refuse them.
 
 use crate::asserts::same;
+use crate::drafts_of_tests_support::tours;
 use std::alloc::{AllocError, Global};
 use std::process::Abort;
 use std::test::Fail;
 use tsp_file::{Draft, DraftFault, Field, File, Kind};
-use tsp_tests_support::drafts::tours;
 
 /// The fault of a draft, if it has one.
 fn fault_of(draft: Draft) -> Option<DraftFault> {

@@ -1,18 +1,15 @@
-//! The tests of the libraries, over their public calls: what no contract says, and no run of the
-//! program shows (see `tests/program/tables`).
-//!
-//! They show that calls succeed where memory is ample, how often a cost is asked for, how calls end
-//! with readers and writers that fail, never end or do little at a time, and that a text in pieces
-//! gives the answer of the whole one. They are in a separate crate, since a crate with tests is
-//! proved twice.
+//! What the tests of the libraries share: readers and writers that do little at a time or fail, and
+//! drafts of files made by hand.
 #![tactic(auto)]
 
 #[cfg(test)]
 mod asserts;
 #[cfg(test)]
 mod bound;
+pub mod devices;
 #[cfg(test)]
 mod drafts;
+pub mod drafts_of_tests_support;
 #[cfg(test)]
 mod file_names;
 #[cfg(test)]

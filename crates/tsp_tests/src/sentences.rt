@@ -5,7 +5,7 @@ use crate::asserts::same;
 use std::alloc::AllocError;
 use tsp_explain::{explain_file, relayout_sentence, write_sentence};
 use tsp_file::RelayoutFault;
-use tsp_stream::WriteFault;
+use tsp_io::WriteFault;
 use tsp_text::ReadFault;
 
 #[test]

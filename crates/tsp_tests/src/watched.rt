@@ -2,10 +2,10 @@
 //! as it is.
 
 use crate::asserts::{holds, holds_at, same, same_at};
+use crate::devices::{Drip, NEVER, Refusal, Trickle, outcome};
 use std::io::{ErrorKind, Read, Write};
 use std::process::Abort;
-use tsp_stream::Watched;
-use tsp_tests_support::devices::{Drip, NEVER, Refusal, Trickle, outcome};
+use tsp_io::Watched;
 
 /// Kinds of errors, an interruption among them, which is an error like any other.
 const KINDS: [ErrorKind; 4] = [

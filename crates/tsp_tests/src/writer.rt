@@ -2,14 +2,14 @@
 //! texts are in the tables of runs of the program.)
 
 use crate::asserts::{holds, holds_at, same, same_at};
+use crate::devices::{Drip, NEVER, Refusal, outcome};
+use crate::drafts_of_tests_support::{file_of, rectangle, two_tours, upper_row};
 use std::alloc::{AllocError, Global};
 use std::io::{ErrorKind, Write};
 use std::process::Abort;
 use std::test::Fail;
 use tsp_file::{File, write_file};
-use tsp_stream::{Watched, WriteFault};
-use tsp_tests_support::devices::{Drip, NEVER, Refusal, outcome};
-use tsp_tests_support::drafts::{file_of, rectangle, two_tours, upper_row};
+use tsp_io::{Watched, WriteFault};
 
 /// The text of the draft `rectangle`. (A function returns it, so that proofs don't carry its
 /// bytes.)

@@ -1,15 +1,15 @@
-//! Tests of `Piece` and `write_text` of tsp_stream: the bytes that a writer gets, and how often it
+//! Tests of `Piece` and `write_text` of tsp_io: the bytes that a writer gets, and how often it
 //! is asked.
 
 use crate::asserts::{holds, same, same_at};
+use crate::devices::{Drip, Refusal, outcome};
 use std::alloc::{AllocError, Global};
 use std::io::{ErrorKind, Write};
 use std::process::Abort;
-use tsp_stream::{
+use tsp_io::{
     PIECE, Piece, Watched, WriteFault, hand_over, put, put_next_number, put_number, send,
     write_text,
 };
-use tsp_tests_support::devices::{Drip, Refusal, outcome};
 
 /// Ways in which a writer refuses.
 const REFUSALS: [Refusal; 3] = [

@@ -4,8 +4,7 @@
 use std::alloc::Global;
 use tsp_bound::{Duals, dual_bound};
 use tsp_cost::{Costs, Instance, View, canonical_length, symmetric_fault, tour_length};
-use tsp_draft::{Draft, DraftFault, EndFault};
-use tsp_file::File;
+use tsp_file::{Draft, DraftFault, EndFault, File};
 use tsp_format::{Field, Kind, Layout, WeightFormat, WeightKind};
 use tsp_read::{Feed, ReadFault};
 

@@ -7,11 +7,11 @@ use tsp_distance::{
     max_3d,
 };
 use tsp_format::Layout;
+use tsp_io::Watched;
 use tsp_judge::{ReadFault, RunFault, WriteFault, status_of};
 use tsp_number::{
     NumberFault, front_decimal, front_whole, parse_decimal, parse_whole, write_decimal,
 };
-use tsp_stream::Watched;
 
 /// Whether each call has the answer that is wanted.
 pub(crate) fn are_right() -> bool {

@@ -1,5 +1,5 @@
 -- Items without a fault, and one more to which no row of the table of faults applies, have no fault. tsp_round imports
--- it too. For `Reading::known` in src/state/lines.rt of tsp_read and others.
+-- it too. For `Reading::known` in src/reading.rt of tsp_read and others.
 use Rattle.std.proofs.Common.{◌≡◌, List, ◌∷◌, None, ap, ◌∙◌}
 use Rattle.std.specs.Option.{option_or, option_map}
 use Rattle.tsp_text.specs.Items.{Item}

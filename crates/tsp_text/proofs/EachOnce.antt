@@ -11,7 +11,7 @@ use Rattle.std.proofs.lemmas.Bool.Decides.{Decides-int_eq}
 use Rattle.std.proofs.lemmas.List.FromFn.{length-map-range_with_len, get_or-map-range_with_len}
 use Rattle.std.proofs.lemmas.List.Sorted.{IsPermutation-refl, IsPermutation-remove, IsPermutation-cons, IsPermutation-sym, IsPermutation-trans, Contains-permutation, length_permutation}
 use Rattle.tsp_format.specs.Nodes.{nodes_to}
-use Rattle.tsp_draft.specs.Validity.{is_node}
+use Rattle.tsp_file.specs.Validity.{is_node}
 use Rattle.tsp_text.specs.SectionNumbers.{number, reads_as, node}
 use Rattle.tsp_text.specs.GroupNodes.{HasEachNodeOnce}
 use Rattle.tsp_text.proofs.ValidNumbers.{read_node}

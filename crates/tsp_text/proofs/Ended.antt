@@ -1,5 +1,5 @@
 -- Lists that end before the first element which passes a test, as a list before its -1: one element more. For
--- `FixedList::push_first` in src/parts/fixed.rt of tsp_section and others.
+-- `FixedList::push_first` in src/lists.rt of tsp_read and others.
 use Rattle.std.proofs.Common.{◌≡◌, Bool, true, false, ◌||◌, ◌&&◌, cond, List, [], ◌∷◌, ◌++◌, refl, ap, ◌∙◌}
 use Rattle.std.specs.List.{list_any}
 use Rattle.std.proofs.lemmas.List.Folds.{list_any-append}

@@ -1,5 +1,5 @@
 -- The words of a section in groups, as pairs, or a node with its number. One word more begins a group, goes on with it
--- or ends it. For `NumberList::push` in src/parts/numbers.rt of tsp_section and others.
+-- or ends it. For `NumberList::push` in src/by_node.rt of tsp_read and others.
 use Rattle.std.proofs.Common.{◌≡◌, ℕ, suc, ◌+◌, ◌*◌, ◌<◌, ◌≤◌, Bool, true, false, cond, ◌||◌, List, [], ◌∷◌, ◌++◌, length, map, refl, sym, ap, ◌∙◌, append_assoc, append-nil, arith}
 use Rattle.std.specs.Prelude.{◌==◌, ℤ, take}
 use Rattle.std.specs.List.{list_any}

@@ -3,8 +3,8 @@
 -- src/settled.rt.
 use Rattle.std.proofs.Common.{◌≡◌, ℕ, true, List, [], ◌∷◌, ◌++◌, refl, Some}
 use Rattle.std.specs.Prelude.{nat_lt}
-use Rattle.tsp_format.specs.declared.field.Field.{Field}
-use Rattle.tsp_format.specs.declared.field.Field.TheVariants.{NameKey, TypeKey, CommentKey, OtherKey, DimensionKey, CapacityKey, ScaleKey, LoadUnitKey, EdgeWeightTypeKey, EdgeWeightFormatKey, NodeCoordTypeKey, DisplayDataTypeKey, NodeCoordPart, DisplayDataPart, DemandPart, DepotPart, FixedEdgesPart, EdgeWeightPart, TourPart, NodePotentialPart, RowPotentialPart, ColumnPotentialPart, FixedEdgePotentialPart, CombPart, BranchPart}
+use Rattle.tsp_format.specs.declared.keyword.Field.{Field}
+use Rattle.tsp_format.specs.declared.keyword.Field.TheVariants.{NameKey, TypeKey, CommentKey, OtherKey, DimensionKey, CapacityKey, ScaleKey, LoadUnitKey, EdgeWeightTypeKey, EdgeWeightFormatKey, NodeCoordTypeKey, DisplayDataTypeKey, NodeCoordPart, DisplayDataPart, DemandPart, DepotPart, FixedEdgesPart, EdgeWeightPart, TourPart, NodePotentialPart, RowPotentialPart, ColumnPotentialPart, FixedEdgePotentialPart, CombPart, BranchPart}
 use Rattle.tsp_format.specs.declared.keyword.Keyword.{Keyword}
 use Rattle.tsp_format.specs.Limits.{most_line_bytes}
 use Rattle.tsp_text.specs.declared.fault.LineFault.TheVariants as row

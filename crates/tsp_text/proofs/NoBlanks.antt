@@ -1,5 +1,5 @@
 -- A text without the blanks at its start and at its end, one byte at a time. tsp_read imports it too. For `without_end`
--- in src/blanks.rt of tsp_section.
+-- in src/line.rt of tsp_read.
 use Rattle.std.proofs.Common.{◌≡◌, ℕ, suc, ◌+◌, true, false, cond, List, [], ◌∷◌, ◌++◌, length, drop, reverse, sym, ap, ◌∙◌, arith}
 use Rattle.std.specs.List.{prefix_len}
 use Rattle.std.proofs.lemmas.List.{nil_from_length, reverse-append, reverse-reverse}

@@ -1,7 +1,7 @@
--- A section that is open was opened, and one that wasn't has no words. For `Reading::close` in src/state/reading.rt of
+-- A section that is open was opened, and one that wasn't has no words. For `Reading::close` in src/reading.rt of
 -- tsp_read and others.
 use Rattle.std.proofs.Common.{◌≡◌, ℕ, Bool, true, false, cond, List, [], ◌∷◌, ◌++◌, refl, ap, ◌∙◌, Some, None}
-use Rattle.tsp_format.specs.declared.field.Field.{Field}
+use Rattle.tsp_format.specs.declared.keyword.Field.{Field}
 use Rattle.tsp_format.specs.declared.keyword.Keyword.{Keyword}
 use Rattle.tsp_format.specs.declared.keyword.Keyword.TheVariants.{Known, EdgeDataFormat, EdgeDataSection, Eof, Unknown}
 use Rattle.tsp_format.specs.Shapes.{is_section_field}

@@ -10,10 +10,10 @@ use Rattle.std.proofs.lemmas.List.{append-nil, reverse-append, take_all, take-ap
 use Rattle.std.proofs.lemmas.List.Folds.{list_any-append}
 use Rattle.std.proofs.lemmas.Option.{none-some}
 use Rattle.std.proofs.lemmas.Slice.Eq.{bytes_eq-Decides}
-use Rattle.tsp_number.specs.declared.fault.NumberFault.TheVariants.{LongWord}
+use Rattle.tsp_number.specs.declared.word.NumberFault.TheVariants.{LongWord}
 use Rattle.tsp_number.specs.Scan.{numeral_in}
 use Rattle.tsp_number.specs.Reading.{whole_from, whole_of, decimal_from, decimal_of}
-use Rattle.tsp_format.specs.declared.field.Field.{Field}
+use Rattle.tsp_format.specs.declared.keyword.Field.{Field}
 use Rattle.tsp_format.specs.Limits.{most_word_bytes, most_weight, most_nodes, most_combs, most_file_bytes}
 use Rattle.tsp_text.specs.declared.fault.LineFault.{LineFault}
 use Rattle.tsp_text.specs.declared.fault.LineFault.TheVariants as row

@@ -7,9 +7,9 @@ use Rattle.std.proofs.lemmas.Bool.{true≢false, false≢true, and_from, le-leb,
 use Rattle.std.proofs.lemmas.List.{length_push}
 use Rattle.std.proofs.lemmas.List.Folds.{list_all-append}
 use Rattle.std.proofs.lemmas.List.Sums.{fold-append, sum_by_push}
-use Rattle.tsp_format.specs.declared.field.Field.TheVariants.{CombPart}
+use Rattle.tsp_format.specs.declared.keyword.Field.TheVariants.{CombPart}
 use Rattle.tsp_format.specs.Limits.{most_combs, most_comb_nodes}
-use Rattle.tsp_draft.specs.Validity.{is_node, is_set_of, are_sets, are_combs}
+use Rattle.tsp_file.specs.Validity.{is_node, is_set_of, are_sets, are_combs}
 use Rattle.tsp_text.specs.Lines.{is_not_empty}
 use Rattle.tsp_text.specs.Items.{Item}
 use Rattle.tsp_text.specs.Earlier.{words_of}

@@ -5,9 +5,9 @@ use Rattle.std.specs.Prelude.{nat_le, nat_abs}
 use Rattle.std.specs.List.{list_any}
 use Rattle.std.proofs.lemmas.Bool.{false≢true}
 use Rattle.std.proofs.lemmas.List.{length-map, map_push}
-use Rattle.tsp_format.specs.declared.field.Field.TheVariants.{DepotPart}
+use Rattle.tsp_format.specs.declared.keyword.Field.TheVariants.{DepotPart}
 use Rattle.tsp_format.specs.Limits.{most_depots}
-use Rattle.tsp_draft.specs.Validity.{is_node, are_depots}
+use Rattle.tsp_file.specs.Validity.{is_node, are_depots}
 use Rattle.tsp_text.specs.Items.{Item}
 use Rattle.tsp_text.specs.Earlier.{words_of}
 use Rattle.tsp_text.specs.SectionNumbers.{number, node_or_end, is_end}

@@ -3,8 +3,8 @@
 use Rattle.std.proofs.Common.{◌≡◌, ℕ, Bool, true, false, cond, List, [], ◌∷◌, ◌++◌, length, refl, ap, arith, None}
 use Rattle.std.specs.List.{list_any}
 use Rattle.std.proofs.lemmas.Bool.{false≢true}
-use Rattle.tsp_format.specs.declared.field.Field.TheVariants.{FixedEdgesPart}
-use Rattle.tsp_draft.specs.Validity.{is_pair_of, are_fixed}
+use Rattle.tsp_format.specs.declared.keyword.Field.TheVariants.{FixedEdgesPart}
+use Rattle.tsp_file.specs.Validity.{is_pair_of, are_fixed}
 use Rattle.tsp_text.specs.Items.{Item}
 use Rattle.tsp_text.specs.Earlier.{words_of}
 use Rattle.tsp_text.specs.SectionNumbers.{number, node_or_end, is_end}

@@ -7,7 +7,7 @@ use Rattle.std.specs.Result.{result_err}
 use Rattle.std.proofs.lemmas.Bool.{true≢false, and_from, not_from_false}
 use Rattle.std.proofs.lemmas.List.{length-map, map_push}
 use Rattle.tsp_format.specs.Limits.{most_fixed}
-use Rattle.tsp_draft.specs.Validity.{is_node, is_pair_of}
+use Rattle.tsp_file.specs.Validity.{is_node, is_pair_of}
 use Rattle.tsp_text.specs.SectionNumbers.{number, reads_as, node, node_or_end, is_end}
 use Rattle.tsp_text.specs.WordPlaces.{FirstAfter}
 use Rattle.tsp_text.specs.Groups.{groups_in, begun_in, word_at}

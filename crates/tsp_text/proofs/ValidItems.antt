@@ -2,26 +2,26 @@
 -- the laws `spelled_files_are_valid` and `clean_fields_are_valid` in src/validity.rt.
 use Rattle.std.proofs.Common.{◌≡◌, ℕ, Bool, true, false, cond, List, [], ◌∷◌, refl, ap, ◌∙◌, Option, Some, None}
 use Rattle.std.specs.Prelude.{not, ◌&&◌, ◌||◌, pos, neg_ℤ}
-use Rattle.tsp_format.specs.declared.field.Field.{Field}
-use Rattle.tsp_format.specs.declared.field.Field.TheVariants.{NameKey, TypeKey, CommentKey, OtherKey, DimensionKey, CapacityKey, ScaleKey, LoadUnitKey, EdgeWeightTypeKey, EdgeWeightFormatKey, NodeCoordTypeKey, DisplayDataTypeKey, NodeCoordPart, DisplayDataPart, DemandPart, DepotPart, FixedEdgesPart, EdgeWeightPart, TourPart, NodePotentialPart, RowPotentialPart, ColumnPotentialPart, FixedEdgePotentialPart, CombPart, BranchPart}
+use Rattle.tsp_format.specs.declared.keyword.Field.{Field}
+use Rattle.tsp_format.specs.declared.keyword.Field.TheVariants.{NameKey, TypeKey, CommentKey, OtherKey, DimensionKey, CapacityKey, ScaleKey, LoadUnitKey, EdgeWeightTypeKey, EdgeWeightFormatKey, NodeCoordTypeKey, DisplayDataTypeKey, NodeCoordPart, DisplayDataPart, DemandPart, DepotPart, FixedEdgesPart, EdgeWeightPart, TourPart, NodePotentialPart, RowPotentialPart, ColumnPotentialPart, FixedEdgePotentialPart, CombPart, BranchPart}
 use Rattle.tsp_format.specs.Limits.{most_demand, most_potential}
 use Rattle.tsp_format.specs.Words.{fields_in_order}
 use Rattle.std.specs.Option.{option_or, option_map}
 use Rattle.std.specs.List.{find, list_any}
 use Rattle.std.proofs.lemmas.Bool.{false≢true}
-use Rattle.tsp_draft.specs.declared.fault.EndFault.{EndFault}
-use Rattle.tsp_draft.specs.declared.fault.EndFault.TheVariants.{Missing, Incomplete}
-use Rattle.tsp_draft.specs.declared.fault.DraftFault.TheVariants.{BadField, Rule}
-use Rattle.tsp_draft.specs.Fields.{Fields}
-use Rattle.tsp_draft.specs.Rules.{standing_of, is_there, asked_in_order, format_or_count, end_fault, fault_of}
-use Rattle.tsp_draft.specs.Validity.{if_there, is_by_node, is_point, is_demand, is_within, are_depots, are_fixed, are_triples, fit_matrix, are_tours, are_combs, are_tree_steps, fits, first_failing, bad_field}
+use Rattle.tsp_file.specs.declared.rules.EndFault.{EndFault}
+use Rattle.tsp_file.specs.declared.rules.EndFault.TheVariants.{Missing, Incomplete}
+use Rattle.tsp_file.specs.declared.rules.DraftFault.TheVariants.{BadField, Rule}
+use Rattle.tsp_file.specs.Fields.{Fields}
+use Rattle.tsp_file.specs.Rules.{standing_of, is_there, asked_in_order, format_or_count, end_fault, fault_of}
+use Rattle.tsp_file.specs.Validity.{if_there, is_by_node, is_point, is_demand, is_within, are_depots, are_fixed, are_triples, fit_matrix, are_tours, are_combs, are_tree_steps, fits, first_failing, bad_field}
 use Rattle.tsp_text.specs.Items.{Item, has_end_line}
 use Rattle.tsp_text.specs.Earlier.{same_field, has_line, words_of}
 use Rattle.tsp_text.specs.Cuts.{AreCut}
 use Rattle.tsp_text.specs.Sections.{dimension_in}
 use Rattle.tsp_text.specs.Values.{spatial_after}
 use Rattle.tsp_text.specs.Groups.{points_by_node, coords_by_node}
-use Rattle.tsp_draft.proofs.ValidFields.{nodes_fit}
+use Rattle.tsp_file.proofs.ValidFields.{nodes_fit}
 use Rattle.tsp_text.specs.Lists.{depots_in, fixed_in, fixed_triples_in}
 use Rattle.tsp_text.specs.WeightSection.{weights_in}
 use Rattle.tsp_text.specs.TourSection.{tours_in}

@@ -9,17 +9,17 @@ use Rattle.std.specs.Str.{bytes_eq}
 use Rattle.std.proofs.lemmas.Bool.{true≢false, and_from, le-leb, ltb-false, not_from_false}
 use Rattle.std.proofs.lemmas.Option.{none-some, same_Some}
 use Rattle.std.proofs.lemmas.Slice.Eq.{bytes_eq-Decides}
-use Rattle.tsp_number.specs.declared.fault.NumberFault.{NumberFault}
+use Rattle.tsp_number.specs.declared.word.NumberFault.{NumberFault}
 use Rattle.tsp_number.specs.Reading.{whole_of}
-use Rattle.tsp_format.specs.declared.field.Field.{Field}
-use Rattle.tsp_format.specs.declared.field.Field.TheVariants.{NameKey, CommentKey, DimensionKey, CapacityKey, ScaleKey, LoadUnitKey, FixedEdgesPart}
+use Rattle.tsp_format.specs.declared.keyword.Field.{Field}
+use Rattle.tsp_format.specs.declared.keyword.Field.TheVariants.{NameKey, CommentKey, DimensionKey, CapacityKey, ScaleKey, LoadUnitKey, FixedEdgesPart}
 use Rattle.tsp_format.specs.declared.keyword.Keyword.{Keyword}
 use Rattle.tsp_format.specs.declared.keyword.Keyword.TheVariants.{Known, EdgeDataFormat, EdgeDataSection, Eof, Unknown}
 use Rattle.tsp_format.specs.Bytes.{is_blank, is_letter, is_keyword_byte}
 use Rattle.tsp_format.specs.Words.{field_word, fields_in_order}
 use Rattle.tsp_format.specs.Keywords.{is_other_key, field_of, known_or_not, keyword_of, is_unknown}
 use Rattle.tsp_format.specs.Limits.{most_nodes, most_capacity, most_scale, most_load_unit, most_kept_bytes, most_comments, most_others}
-use Rattle.tsp_draft.specs.Validity.{if_there, is_kept, is_unknown_keyword, is_other, are_comments, are_others, is_from_to, is_node}
+use Rattle.tsp_file.specs.Validity.{if_there, is_kept, is_unknown_keyword, is_other, are_comments, are_others, is_from_to, is_node}
 use Rattle.tsp_text.specs.Lines.{first_word}
 use Rattle.tsp_text.specs.Items.{WordLine, Item, Line, NumberWord, LineEnd}
 use Rattle.tsp_text.specs.Earlier.{same_field, is_key, value_at, values_at, others_in}

@@ -10,16 +10,16 @@ use Rattle.std.proofs.lemmas.Bool.Decides.{Decides-int_eq}
 use Rattle.std.proofs.lemmas.List.{length-map}
 use Rattle.std.proofs.lemmas.List.Folds.{list_all-map}
 use Rattle.std.proofs.lemmas.List.FromFn.{length-range_with_len}
-use Rattle.tsp_number.specs.declared.fault.NumberFault.{NumberFault}
-use Rattle.tsp_number.specs.declared.fault.NumberFault.TheVariants.{LongWord, OutOfRange}
+use Rattle.tsp_number.specs.declared.word.NumberFault.{NumberFault}
+use Rattle.tsp_number.specs.declared.word.NumberFault.TheVariants.{LongWord, OutOfRange}
 use Rattle.tsp_distance.specs.Decimal.{most_count}
 use Rattle.tsp_number.specs.NumberWord.{Numeral}
 use Rattle.tsp_number.specs.Scan.{numeral_in}
 use Rattle.tsp_number.specs.Reading.{number_in, decimal_within, decimal_from, decimal_of, whole_within, whole_from, whole_of}
 use Rattle.tsp_format.specs.Nodes.{nodes_to}
 use Rattle.tsp_format.specs.Limits.{most_coordinate}
-use Rattle.tsp_draft.specs.Coords.{origin}
-use Rattle.tsp_draft.specs.Validity.{is_from_to, is_within, is_node, is_by_node, is_point}
+use Rattle.tsp_file.specs.Coords.{origin}
+use Rattle.tsp_file.specs.Validity.{is_from_to, is_within, is_node, is_by_node, is_point}
 use Rattle.tsp_text.specs.SectionNumbers.{number, reads_as, node, not_zero, node_or_end, is_end}
 use Rattle.tsp_text.specs.Groups.{groups_in, word_at, node_groups, number_value, coordinate_at, point_in, space_point_in, entry_of, by_node, numbers_by_node, points_by_node, space_points_by_node, coords_by_node}
 use Rattle.std.proofs.Math.ListN.{take}

@@ -8,9 +8,9 @@ use Rattle.std.proofs.lemmas.List.{length-map, length_push, append-nil}
 use Rattle.std.proofs.lemmas.List.Folds.{list_all-append, list_all-map}
 use Rattle.std.proofs.lemmas.List.Sums.{sum_by-cons}
 use Rattle.std.proofs.lemmas.List.Elements.{filter-append}
-use Rattle.tsp_format.specs.declared.field.Field.TheVariants.{TourPart}
+use Rattle.tsp_format.specs.declared.keyword.Field.TheVariants.{TourPart}
 use Rattle.tsp_format.specs.Limits.{most_nodes, most_tour_nodes}
-use Rattle.tsp_draft.specs.Validity.{is_node, is_node_list, are_tours}
+use Rattle.tsp_file.specs.Validity.{is_node, is_node_list, are_tours}
 use Rattle.tsp_text.specs.Lines.{is_not_empty}
 use Rattle.tsp_text.specs.Items.{Item}
 use Rattle.tsp_text.specs.Earlier.{words_of}

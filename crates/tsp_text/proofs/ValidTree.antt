@@ -10,11 +10,11 @@ use Rattle.std.proofs.lemmas.Bool.Decides.{nat_tests}
 use Rattle.std.proofs.lemmas.List.{append_assoc, append-nil, length_push}
 use Rattle.std.proofs.lemmas.List.Folds.{list_all-append}
 use Rattle.std.proofs.lemmas.List.Sums.{fold-append}
-use Rattle.tsp_number.specs.declared.fault.NumberFault.{NumberFault}
-use Rattle.tsp_format.specs.declared.field.Field.TheVariants.{BranchPart}
+use Rattle.tsp_number.specs.declared.word.NumberFault.{NumberFault}
+use Rattle.tsp_format.specs.declared.keyword.Field.TheVariants.{BranchPart}
 use Rattle.tsp_format.specs.Limits.{most_combs, most_branches, most_changes, most_difference}
 use Rattle.tsp_format.specs.Steps.{Step, Branch, Leaf, are_whole, branch_count, change_count}
-use Rattle.tsp_draft.specs.Validity.{is_from_to, is_within, is_node, is_branch_of, is_change, is_step, are_tree_steps}
+use Rattle.tsp_file.specs.Validity.{is_from_to, is_within, is_node, is_branch_of, is_change, is_step, are_tree_steps}
 use Rattle.tsp_text.specs.Items.{Item}
 use Rattle.tsp_text.specs.Earlier.{words_of}
 use Rattle.tsp_text.specs.SectionNumbers.{number, reads_as, node, whole_of_size}

@@ -5,9 +5,9 @@ use Rattle.std.specs.Prelude.{pos}
 use Rattle.std.specs.List.{list_any}
 use Rattle.std.proofs.lemmas.Bool.{false≢true, and_from}
 use Rattle.tsp_number.specs.Reading.{whole_of}
-use Rattle.tsp_format.specs.declared.field.Field.TheVariants.{FixedEdgePotentialPart}
+use Rattle.tsp_format.specs.declared.keyword.Field.TheVariants.{FixedEdgePotentialPart}
 use Rattle.tsp_format.specs.Limits.{most_multiplier}
-use Rattle.tsp_draft.specs.Validity.{is_from_to, is_pair_of, is_triple_of, are_triples}
+use Rattle.tsp_file.specs.Validity.{is_from_to, is_pair_of, is_triple_of, are_triples}
 use Rattle.tsp_text.specs.Items.{Item}
 use Rattle.tsp_text.specs.Earlier.{words_of}
 use Rattle.tsp_text.specs.SectionNumbers.{number, node_or_end, is_end}

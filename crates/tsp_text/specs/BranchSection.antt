@@ -1,10 +1,10 @@
--- BRANCH_SECTION, this project's own: the words of a tree of cases, as its steps. For `TreeList` (src/parts/tree.rt of
--- tsp_section), `Spells.antt` and FaultRows.antt. A branch is a node and a second one, or the index of a family and a
+-- BRANCH_SECTION, this project's own: the words of a tree of cases, as its steps. For `TreeList` (src/tree.rt of
+-- tsp_read), `Spells.antt` and FaultRows.antt. A branch is a node and a second one, or the index of a family and a
 -- number; its two trees follow it. A leaf begins with 0, has an index and a difference for each number that changes,
 -- and ends with -1 in place of an index.
 use Rattle.std.specs.Prelude.{ℕ, ◌+◌, ◌-◌, ◌==◌, Bool, true, false, cond, List, [], ◌∷◌, ◌++◌, Option, None, Some, Result, ℤ, pos, neg_ℤ, nat_abs}
 use Rattle.std.specs.List.{fold}
-use Rattle.tsp_number.specs.declared.fault.NumberFault.{NumberFault}
+use Rattle.tsp_number.specs.declared.word.NumberFault.{NumberFault}
 use Rattle.tsp_number.specs.Reading.{whole_of}
 use Rattle.tsp_format.specs.Limits.{most_combs, most_difference}
 use Rattle.tsp_format.specs.Steps.{Step, Branch, Leaf}

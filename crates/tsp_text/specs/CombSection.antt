@@ -1,5 +1,5 @@
--- COMB_SECTION, this project's own: its words, as families of sets of nodes. For `CombList` (src/parts/combs.rt of
--- tsp_section) and `Spells.antt`. A family is listed as its sets, of a comb the handle and then the teeth. A -1 ends
+-- COMB_SECTION, this project's own: its words, as families of sets of nodes. For `CombList` (src/tree.rt of
+-- tsp_read) and `Spells.antt`. A family is listed as its sets, of a comb the handle and then the teeth. A -1 ends
 -- each set, one more the family, and one in place of a family the section.
 use Rattle.std.specs.Prelude.{ℕ, ◌+◌, Bool, true, false, cond, ◌||◌, List, [], ◌∷◌, ◌++◌, length, nat_abs}
 use Rattle.std.specs.List.{fold}

@@ -1,5 +1,5 @@
 -- What holds of every item that is cut from a text: which bytes the keyword and the value of a word line can have. For
--- `finish` (src/state/finish.rt of tsp_read), and for the laws of src/validity.rt.
+-- `finish` (src/reading.rt of tsp_read), and for the laws of src/validity.rt.
 use Rattle.std.specs.Prelude.{◌≡◌, ℕ, ◌-◌, Bool, true, false, not, List, length, slice_index}
 use Rattle.std.specs.List.{list_all, AllByRecursion}
 use Rattle.tsp_format.specs.declared.keyword.Keyword.{Keyword}

@@ -2,7 +2,7 @@
 -- FaultRows.antt, `Spells.antt`, Values.antt and Sections.antt, and for `Reading` of tsp_read.
 use Rattle.std.specs.Prelude.{ℕ, Bool, true, false, cond, List, [], ◌∷◌, ◌++◌, Option, None, Some}
 use Rattle.std.specs.Str.{bytes_eq}
-use Rattle.tsp_format.specs.declared.field.Field.{Field}
+use Rattle.tsp_format.specs.declared.keyword.Field.{Field}
 use Rattle.tsp_format.specs.declared.keyword.Keyword.{Keyword}
 use Rattle.tsp_format.specs.declared.keyword.Keyword.TheVariants.{Known, EdgeDataFormat, EdgeDataSection, Eof, Unknown}
 use Rattle.tsp_format.specs.Words.{field_word}

@@ -1,12 +1,12 @@
 -- Small texts, and what they parse to or their first fault. In them `/` means byte 10. For the laws of src/examples.rt,
 -- which state them as worked out by hand.
 use Rattle.std.specs.Prelude.{◌≡◌, ℕ, ◌==◌, true, false, cond, List, [], ◌∷◌, ◌++◌, map, replicate, None, Some, codes, pos, negsuc}
-use Rattle.tsp_format.specs.declared.field.Field.{Field}
+use Rattle.tsp_format.specs.declared.keyword.Field.{Field}
 use Rattle.tsp_format.specs.Steps.{Branch, Leaf}
-use Rattle.tsp_number.specs.declared.fault.NumberFault.{NumberFault}
+use Rattle.tsp_number.specs.declared.word.NumberFault.{NumberFault}
 use Rattle.tsp_distance.specs.Distances.{on_plane}
-use Rattle.tsp_draft.specs.declared.fault.EndFault.{EndFault}
-use Rattle.tsp_draft.specs.declared.fault.EndFault.TheVariants.{Missing}
+use Rattle.tsp_file.specs.declared.rules.EndFault.{EndFault}
+use Rattle.tsp_file.specs.declared.rules.EndFault.TheVariants.{Missing}
 use Rattle.tsp_text.specs.declared.fault.LineFault.{LineFault}
 use Rattle.tsp_text.specs.declared.fault.LineFault.TheVariants.{Number}
 use Rattle.tsp_text.specs.declared.fault.ReadFault.TheVariants as faults

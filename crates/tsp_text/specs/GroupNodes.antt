@@ -2,9 +2,9 @@
 -- (src/by_node.rt).
 use Rattle.std.specs.Prelude.{ℕ, Bool, true, false, List, [], map, Option, Some, ℤ, pos}
 use Rattle.std.specs.List.Sorted.{IsPermutation}
-use Rattle.tsp_format.specs.declared.field.Field.{Field}
-use Rattle.tsp_format.specs.declared.field.Shape.{Shape}
-use Rattle.tsp_format.specs.declared.field.Shape.TheVariants.{Numbers, Points, SpacePoints}
+use Rattle.tsp_format.specs.declared.keyword.Field.{Field}
+use Rattle.tsp_format.specs.declared.keyword.Shape.{Shape}
+use Rattle.tsp_format.specs.declared.keyword.Shape.TheVariants.{Numbers, Points, SpacePoints}
 use Rattle.tsp_format.specs.Shapes.{shape_of}
 use Rattle.tsp_format.specs.Nodes.{nodes_to}
 use Rattle.tsp_text.specs.Groups.{number_groups, point_groups, space_point_groups, nodes_of_groups}

@@ -1,11 +1,11 @@
 -- Sections by node: their words in groups, each with a node and its numbers, in any order of the nodes. For
--- src/parts/numbers.rt and src/parts/points.rt of tsp_section, and for `Spells.antt`. TSPLIB 95 (G. Reinelt):
+-- src/by_node.rt and src/by_node.rt of tsp_read, and for `Spells.antt`. TSPLIB 95 (G. Reinelt):
 -- NODE_COORD_SECTION, DISPLAY_DATA_SECTION, DEMAND_SECTION. This project's profile adds the sections of potentials.
 use Rattle.std.specs.Prelude.{ℕ, ◌+◌, ◌*◌, ◌==◌, Bool, cond, nat_le, List, [], ◌∷◌, ◌++◌, length, map, take, get_or, Option, None, Some, ℤ, pos, unwrap_or}
 use Rattle.std.specs.Ordering.{int_eq}
 use Rattle.tsp_distance.specs.declared.decimal.Point.{Point}
 use Rattle.tsp_distance.specs.Distances.{on_plane}
-use Rattle.tsp_draft.specs.Coords.{origin}
+use Rattle.tsp_file.specs.Coords.{origin}
 use Rattle.tsp_number.specs.Reading.{decimal_of, whole_of}
 use Rattle.tsp_format.specs.Nodes.{nodes_to}
 use Rattle.tsp_text.specs.SectionNumbers.{number, node}

@@ -1,5 +1,5 @@
 -- A text as items, in order: its word lines, the words of its number lines, and the ends of its lines; and which items
--- are settled, whatever bytes follow. For `take_items` (src/intake.rt of tsp_read), and for Text.antt. Which items are
+-- are settled, whatever bytes follow. For `take_items` (src/items.rt of tsp_read), and for Text.antt. Which items are
 -- settled is this project's profile.
 use Rattle.std.specs.Prelude.{ℕ, ◌+◌, Bool, true, false, cond, nat_lt, List, [], ◌∷◌, ◌++◌, length, map}
 use Rattle.std.specs.List.{filter, slice_split, list_any}

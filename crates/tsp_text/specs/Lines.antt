@@ -1,5 +1,5 @@
--- How a text is cut into lines and words, and a word line into keyword and value. For src/blanks.rt and src/line.rt of
--- tsp_section, and for Items.antt. tsp_read and tsp_round import it too. TSPLIB 95 (G. Reinelt) has lines of a keyword
+-- How a text is cut into lines and words, and a word line into keyword and value. For src/line.rt and src/line.rt of
+-- tsp_read, and for Items.antt. tsp_read and tsp_round import it too. TSPLIB 95 (G. Reinelt) has lines of a keyword
 -- and a value, and lines of numbers; what exactly ends a line, parts words and begins a keyword is this project's
 -- profile.
 use Rattle.std.specs.Prelude.{ℕ, Bool, true, false, cond, ◌==◌, List, [], ◌∷◌, drop, reverse}

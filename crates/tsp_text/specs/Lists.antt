@@ -1,6 +1,6 @@
 -- Sections that -1 ends: DEPOT_SECTION lists depots, FIXED_EDGES_SECTION pairs of nodes (TSPLIB 95, G. Reinelt); this
--- project adds FIXED_EDGE_POTENTIAL_SECTION, pairs of nodes with a multiplier. For src/parts/depots.rt, fixed.rt and
--- triples.rt of tsp_section, and for `Spells.antt`.
+-- project adds FIXED_EDGE_POTENTIAL_SECTION, pairs of nodes with a multiplier. For src/lists.rt, fixed.rt and
+-- triples.rt of tsp_read, and for `Spells.antt`.
 use Rattle.std.specs.Prelude.{ℕ, ℤ, pos, Bool, cond, List, [], ◌∷◌, ◌++◌, length, map, take, nat_abs}
 use Rattle.std.specs.List.{list_any}
 use Rattle.tsp_number.specs.Reading.{whole_of}

@@ -1,9 +1,9 @@
--- The fault of a line that opens a section, by the section's shape. For CutLine.antt of tsp_section, and so for
+-- The fault of a line that opens a section, by the section's shape. For CutLine.antt of tsp_read, and so for
 -- `may_open` (src/line.rt there). The rows are those of FaultRows.antt. tsp_round and tsp_read import this file too.
 use Rattle.std.specs.Prelude.{ℕ, Bool, true, false, not, ◌&&◌, nat_lt, List, [], ◌∷◌, Option}
 use Rattle.tsp_format.specs.Limits.{most_matrix_nodes}
-use Rattle.tsp_format.specs.declared.field.Shape.{Shape}
-use Rattle.tsp_format.specs.declared.field.Shape.TheVariants.{Weights, Tours}
+use Rattle.tsp_format.specs.declared.keyword.Shape.{Shape}
+use Rattle.tsp_format.specs.declared.keyword.Shape.TheVariants.{Weights, Tours}
 use Rattle.tsp_text.specs.declared.fault.LineFault.{LineFault}
 use Rattle.tsp_text.specs.declared.fault.LineFault.TheVariants as row
 use Rattle.tsp_text.specs.Lines.{is_not_empty}

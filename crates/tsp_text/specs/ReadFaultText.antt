@@ -2,7 +2,7 @@
 -- RunFaultText.antt of tsp_judge.
 use Rattle.std.specs.Prelude.{ℕ, List, ◌++◌, codes, decimal}
 use Rattle.tsp_number.specs.NumberFaultText.{number_fault_text}
-use Rattle.tsp_draft.specs.DraftFaultText.{end_fault_text}
+use Rattle.tsp_file.specs.DraftFaultText.{end_fault_text}
 use Rattle.tsp_text.specs.declared.fault.LineFault.{LineFault}
 use Rattle.tsp_text.specs.declared.fault.LineFault.TheVariants.{LongLine, UnknownLine, Repeated, Outside, BadValue, SectionValue, SectionEarly, TooManyNodes, StrayNumber, Number, RepeatedNode, SelfEdge, Surplus, AfterEnd, LateSpace}
 use Rattle.tsp_text.specs.declared.fault.ReadFault.{ReadFault}

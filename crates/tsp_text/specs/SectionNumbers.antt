@@ -1,11 +1,11 @@
--- The numbers that words of a section are read as: a node, a node or -1, a number of some size. For src/parts/nodes.rt
--- of tsp_section, and for the definitions of each section (Groups.antt, Lists.antt and others).
+-- The numbers that words of a section are read as: a node, a node or -1, a number of some size. For src/part.rt
+-- of tsp_read, and for the definitions of each section (Groups.antt, Lists.antt and others).
 use Rattle.std.specs.Prelude.{◌≡◌, ◌≤ℤ◌, ℕ, Bool, false, cond, List, Result, Ok, Err, ℤ, pos, negsuc, neg_ℤ, codes}
 use Rattle.std.specs.Result.{result_unwrap_or}
 use Rattle.std.specs.Ordering.{int_eq}
 use Rattle.std.specs.Str.{bytes_eq}
-use Rattle.tsp_number.specs.declared.fault.NumberFault.{NumberFault}
-use Rattle.tsp_number.specs.declared.fault.NumberFault.TheVariants.{OutOfRange}
+use Rattle.tsp_number.specs.declared.word.NumberFault.{NumberFault}
+use Rattle.tsp_number.specs.declared.word.NumberFault.TheVariants.{OutOfRange}
 use Rattle.tsp_number.specs.Reading.{whole_of}
 
 -- The number that is read. A word that isn't read counts as 0: its text has a fault, and parses to no file.

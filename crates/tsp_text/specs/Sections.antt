@@ -1,10 +1,10 @@
 -- The place of the next word in each section, by the words before it. For `push` of `Part` (src/part.rt of
--- tsp_section), and for FaultRows.antt. Source: TSPLIB 95 (G. Reinelt).
+-- tsp_read), and for FaultRows.antt. Source: TSPLIB 95 (G. Reinelt).
 use Rattle.std.specs.Prelude.{ℕ, Bool, List, Option, unwrap_or}
 use Rattle.std.specs.Option.{option_map, option_map_or}
-use Rattle.tsp_format.specs.declared.field.Field.{Field}
-use Rattle.tsp_format.specs.declared.field.Shape.{Shape}
-use Rattle.tsp_format.specs.declared.field.Shape.TheVariants.{Numbers, Points, SpacePoints, Depots, Pairs, Weights, Tours, Triples, Combs, Steps}
+use Rattle.tsp_format.specs.declared.keyword.Field.{Field}
+use Rattle.tsp_format.specs.declared.keyword.Shape.{Shape}
+use Rattle.tsp_format.specs.declared.keyword.Shape.TheVariants.{Numbers, Points, SpacePoints, Depots, Pairs, Weights, Tours, Triples, Combs, Steps}
 use Rattle.tsp_text.specs.Items.{Item}
 use Rattle.tsp_format.specs.Shapes.{shape_of}
 use Rattle.tsp_text.specs.Earlier.{open_section, words_of}

@@ -2,12 +2,12 @@
 -- for the laws of src/validity.rt. Source: TSPLIB 95 (G. Reinelt) for the fields.
 use Rattle.std.specs.Prelude.{ℕ, Bool, true, false, cond, ◌&&◌, List, Option, None, Some, ℤ, pos, neg_ℤ}
 use Rattle.std.specs.List.{find, filter}
-use Rattle.tsp_format.specs.declared.field.Field.{Field}
-use Rattle.tsp_format.specs.declared.field.Field.TheVariants.{NameKey, TypeKey, CommentKey, CapacityKey, ScaleKey, LoadUnitKey, EdgeWeightTypeKey, EdgeWeightFormatKey, NodeCoordTypeKey, DisplayDataTypeKey, NodeCoordPart, DisplayDataPart, DemandPart, DepotPart, FixedEdgesPart, EdgeWeightPart, TourPart, NodePotentialPart, RowPotentialPart, ColumnPotentialPart, FixedEdgePotentialPart, CombPart, BranchPart}
+use Rattle.tsp_format.specs.declared.keyword.Field.{Field}
+use Rattle.tsp_format.specs.declared.keyword.Field.TheVariants.{NameKey, TypeKey, CommentKey, CapacityKey, ScaleKey, LoadUnitKey, EdgeWeightTypeKey, EdgeWeightFormatKey, NodeCoordTypeKey, DisplayDataTypeKey, NodeCoordPart, DisplayDataPart, DemandPart, DepotPart, FixedEdgesPart, EdgeWeightPart, TourPart, NodePotentialPart, RowPotentialPart, ColumnPotentialPart, FixedEdgePotentialPart, CombPart, BranchPart}
 use Rattle.tsp_format.specs.Limits.{most_demand, most_potential}
-use Rattle.tsp_draft.specs.declared.fault.EndFault.{EndFault}
-use Rattle.tsp_draft.specs.Fields.{Fields}
-use Rattle.tsp_draft.specs.Rules.{standing_of, end_fault}
+use Rattle.tsp_file.specs.declared.rules.EndFault.{EndFault}
+use Rattle.tsp_file.specs.Fields.{Fields}
+use Rattle.tsp_file.specs.Rules.{standing_of, end_fault}
 use Rattle.tsp_format.specs.Words.{fields_in_order}
 use Rattle.tsp_text.specs.Items.{Item}
 use Rattle.tsp_format.specs.Shapes.{is_section_field}

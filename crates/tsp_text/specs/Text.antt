@@ -4,7 +4,7 @@
 use Rattle.std.specs.Prelude.{◌≡◌, ℕ, Bool, not, cond, ◌&&◌, nat_lt, List, [], ◌∷◌, length, take, reverse, Option, None}
 use Rattle.std.specs.Option.{option_map}
 use Rattle.tsp_format.specs.Limits.{most_file_bytes}
-use Rattle.tsp_draft.specs.Fields.{Fields}
+use Rattle.tsp_file.specs.Fields.{Fields}
 use Rattle.tsp_text.specs.declared.fault.ReadFault.{ReadFault}
 use Rattle.tsp_text.specs.declared.fault.ReadFault.TheVariants as faults
 use Rattle.tsp_text.specs.Items.{Item, items_of, settled_items, to_end_line, has_end_line}

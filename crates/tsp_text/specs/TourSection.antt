@@ -1,4 +1,4 @@
--- TOUR_SECTION: tours or routes, each ended by -1 (TSPLIB 95, G. Reinelt). For src/parts/tours.rt of tsp_section, and
+-- TOUR_SECTION: tours or routes, each ended by -1 (TSPLIB 95, G. Reinelt). For src/runs.rt of tsp_read, and
 -- for `Spells.antt`. That empty ones are left out is this project's profile.
 use Rattle.std.specs.Prelude.{ℕ, Bool, not, List, length, map, nat_abs}
 use Rattle.std.specs.List.{slice_split, filter}

@@ -1,4 +1,4 @@
--- EDGE_WEIGHT_SECTION: the weights of a matrix (TSPLIB 95, G. Reinelt). For src/parts/weights.rt of tsp_section and
+-- EDGE_WEIGHT_SECTION: the weights of a matrix (TSPLIB 95, G. Reinelt). For src/runs.rt of tsp_read and
 -- `Spells.antt`.
 use Rattle.std.specs.Prelude.{ℕ, ◌*◌, cond, nat_le, List, length, map, ℤ}
 use Rattle.tsp_format.specs.Limits.{most_weight}

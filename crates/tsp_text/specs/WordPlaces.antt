@@ -1,5 +1,5 @@
 -- The place of a word in its section, which says how the word is read and which faults it may have. For the definitions
--- of each section (Sections.antt lists them), and for FaultRows.antt. tsp_section, tsp_round and tsp_read import it
+-- of each section (Sections.antt lists them), and for FaultRows.antt. tsp_read, tsp_round and tsp_read import it
 -- too.
 use Rattle.std.specs.Prelude.{ℕ, ℤ, Bool, List}
 

@@ -2,7 +2,7 @@
 //! tsp_round.
 
 ghost use Rattle.std.specs.Prelude.{◌≡◌, ◌≢◌, ℕ, List, Some, true};
-ghost use Rattle.tsp_draft.specs.Fields.{Fields};
+ghost use Rattle.tsp_file.specs.Fields.{Fields};
 ghost use Rattle.tsp_text.specs.declared.fault.ReadFault.{ReadFault};
 ghost use Rattle.tsp_text.specs.Items.{Item};
 ghost use Rattle.tsp_text.specs.FirstFault.{fault_in, IsClean, IsFirstFault};

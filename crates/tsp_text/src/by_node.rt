@@ -2,7 +2,7 @@
 //! the definitions of `specs/Sections.antt` mean what they should.
 
 ghost use Rattle.std.specs.Prelude.{◌≡◌, List, true, false};
-ghost use Rattle.tsp_format.specs.declared.field.Field.{Field};
+ghost use Rattle.tsp_format.specs.declared.keyword.Field.{Field};
 ghost use Rattle.tsp_text.specs.Items.{Item};
 ghost use Rattle.tsp_text.specs.Earlier.{has_line, words_of};
 ghost use Rattle.tsp_text.specs.Values.{spatial_after};

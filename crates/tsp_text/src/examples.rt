@@ -5,9 +5,9 @@ ghost use Rattle.std.specs.Prelude.{codes, decimal, ◌≡◌, ◌≤◌, ◌++�
 ghost use Rattle.tsp_distance.specs.Decimal.{most_count};
 ghost use Rattle.tsp_number.specs.NumberWord.{IsShort};
 ghost use Rattle.tsp_format.specs.Limits.{most_coordinate, most_word_bytes};
-ghost use Rattle.tsp_number.specs.declared.fault.NumberFault.TheVariants as numbers;
-ghost use Rattle.tsp_format.specs.declared.field.Field.TheVariants as fields;
-ghost use Rattle.tsp_draft.specs.declared.fault.EndFault.TheVariants as ends;
+ghost use Rattle.tsp_number.specs.declared.word.NumberFault.TheVariants as numbers;
+ghost use Rattle.tsp_format.specs.declared.keyword.Field.TheVariants as fields;
+ghost use Rattle.tsp_file.specs.declared.rules.EndFault.TheVariants as ends;
 ghost use Rattle.tsp_text.specs.declared.fault.LineFault.TheVariants as faults;
 ghost use Rattle.tsp_text.specs.declared.fault.ReadFault.TheVariants as reads;
 ghost use Rattle.tsp_text.specs.ReadFaultText.{line_fault_text, read_fault_text};

@@ -6,7 +6,7 @@
 
 use std::fmt;
 use thiserror::Error;
-use tsp_draft::EndFault;
+use tsp_file::EndFault;
 use tsp_number::NumberFault;
 
 /// What is wrong with a line, in the order of the rows in which it is judged.

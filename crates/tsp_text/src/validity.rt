@@ -2,10 +2,10 @@
 //! `src/round_trip.rt` of tsp_round calls the second one.
 
 ghost use Rattle.std.specs.Prelude.{◌≡◌, ℕ, List, None, false};
-ghost use Rattle.tsp_format.specs.declared.field.Field.TheVariants.{BranchPart};
-ghost use Rattle.tsp_draft.specs.Fields.{Fields};
-ghost use Rattle.tsp_draft.specs.Validity.{bad_field};
-ghost use Rattle.tsp_draft.specs.Rules.{fault_of};
+ghost use Rattle.tsp_format.specs.declared.keyword.Field.TheVariants.{BranchPart};
+ghost use Rattle.tsp_file.specs.Fields.{Fields};
+ghost use Rattle.tsp_file.specs.Validity.{bad_field};
+ghost use Rattle.tsp_file.specs.Rules.{fault_of};
 ghost use Rattle.tsp_text.specs.Items.{Item};
 ghost use Rattle.tsp_text.specs.Cuts.{AreCut};
 ghost use Rattle.tsp_text.specs.FirstFault.{IsClean};

@@ -1,4 +1,4 @@
--- The laws of src/cycle_laws.rt as a record, which lemmas take as an argument; and sums over the nodes and the links of
+-- The laws of src/laws.rt as a record, which lemmas take as an argument; and sums over the nodes and the links of
 -- a cycle. tsp_cases imports it too. For the law `adjusted_bounds_bound_cycles` in src/laws.rt and others.
 use Rattle.std.proofs.Common.{◌≡◌, ◌≢◌, ℕ, ◌≤◌, ◌<◌, suc, ◌+◌, List, [], ◌∷◌, length, get_or, refl, sym, ap, subst, ◌∙◌, arith}
 use Rattle.std.specs.Prelude.{ℤ, pos, ◌+ℤ◌, ◌*ℤ◌, ◌≤ℤ◌}

@@ -1,5 +1,5 @@
 -- How often a cycle crosses a part of its nodes: an even number of times, and so at least twice where it crosses at
--- all. tsp_routing and tsp_families import it too. For the law `cycles_cross_combs` in src/laws.rt of tsp_cases and
+-- all. tsp_routing and tsp_cases import it too. For the law `cycles_cross_combs` in src/laws.rt of tsp_cases and
 -- others.
 use Rattle.std.proofs.Common.{◌≡◌, ℕ, Bool, true, false, not, cond, List, [], ◌∷◌, ℤ, ◌+ℤ◌, ◌≤ℤ◌, ◌⊎◌, inl, inr, refl, arith, ap, sym, ◌∙◌}
 use Rattle.std.specs.Prelude.{pos, if◌then◌else◌}

@@ -1,5 +1,5 @@
 -- A cycle of n nodes has the nodes of 1..n in another order, and goes from a node to another one. For the law
--- `lengths_add_up` in src/cycle_laws.rt and others.
+-- `lengths_add_up` in src/laws.rt and others.
 use Rattle.std.proofs.Common.{◌≡◌, ◌≢◌, ℕ, zero, suc, ◌-◌, ◌<◌, ◌≤◌, List, [], ◌∷◌, length, get_or, refl, sym, ap, ◌∙◌, arith}
 use Rattle.std.specs.Prelude.{ℤ, pos, ◌+ℤ◌, ◌*ℤ◌, ◌≤ℤ◌}
 use Rattle.std.specs.List.{AllPairs, AllByRecursion, Contains, range_with_len, remove}

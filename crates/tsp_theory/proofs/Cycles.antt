@@ -1,5 +1,5 @@
 -- A cycle, wherever it begins, is one from node 1 on, so the bound of a least 1-tree is at most its length. tsp_cases
--- and tsp_families import it too. For the laws `least_trees_are_below_cycles` and `node_bounds_bound_cycles` in
+-- and tsp_cases import it too. For the laws `least_trees_are_below_cycles` and `node_bounds_bound_cycles` in
 -- src/laws.rt.
 use Rattle.std.proofs.Common.{◌≡◌, ◌≢◌, ℕ, zero, suc, ◌-◌, ◌≤◌, false, eqb, List, [], ◌∷◌, ◌++◌, take, drop, get_or, inl, inr, arith, ap, sym, ◌∙◌, subst, length-append, drop-cons}
 use Rattle.std.specs.Prelude.{ℤ, ◌+ℤ◌, ◌*ℤ◌, ◌≤ℤ◌}

@@ -1,5 +1,5 @@
 -- The least whole number that at a scale is no less than a sum, by Euclid's quotient. For `least_bound` in
--- src/numbers.rt of tsp_bound and others.
+-- src/potentials.rt of tsp_bound and others.
 use Rattle.std.proofs.Common.{◌≡◌, ℕ, zero, suc, ◌+◌, ◌*◌, ◌/◌, ◌^◌, ◌<◌, refl, sym, ap, ◌∙◌, arith, to_z, of_z}
 use Rattle.std.specs.Prelude.{ℤ, pos, negsuc, neg_ℤ, ◌+ℤ◌, ◌-ℤ◌, ◌*ℤ◌, ◌≤ℤ◌, ◌<ℤ◌, unsigned_abs}
 use Rattle.std.specs.Int.{int_div_euclid, int_rem_euclid, w64, w128}

@@ -1,5 +1,5 @@
 -- The cut property: least joins, as many as a tree has, join all nodes and weigh no more than any pairs that do.
--- Growths are such. For `grow` in src/part.rt of tsp_bound and others.
+-- Growths are such. For `grow` in src/rounds.rt of tsp_bound and others.
 use Rattle.std.proofs.Common.{◌≡◌, ℕ, zero, suc, ◌+◌, ◌≤◌, ◌==◌, Bool, true, false, List, [], ◌∷◌, ◌++◌, length, append_assoc, append-nil, ℤ, ◌+ℤ◌, ◌≤ℤ◌, inl, inr, refl, arith, ap, sym, ◌∙◌, subst}
 use Rattle.std.proofs.lemmas.Bool.{cases_eq, both_ways, true_from_ne_false, eqb-true}
 use Rattle.std.proofs.lemmas.Int.{ints}

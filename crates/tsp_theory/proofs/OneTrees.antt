@@ -1,5 +1,5 @@
 -- Least joins with the two nearest nodes, and so a growth with them, are a least 1-tree. For `least_weight` in
--- src/tree.rt of tsp_tree and others.
+-- src/tree.rt of tsp_bound and others.
 use Rattle.std.proofs.Common.{◌≡◌, ◌≢◌, ℕ, suc, ◌+◌, ◌<◌, ◌≤◌, Bool, true, false, not, ◌||◌, cond, List, [], ◌∷◌, ◌++◌, length, map, ltb, ℤ, ◌+ℤ◌, ◌≤ℤ◌, inl, inr, refl, arith, ap, sym, ◌∙◌, subst}
 use Rattle.std.proofs.lemmas.Bool.{cases_Bool, cases_eq, both_ways, ne_eqb, ltb-true, ltb-false, eqb-false, cond_both}
 use Rattle.std.proofs.lemmas.Int.{ints}

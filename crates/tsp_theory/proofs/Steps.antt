@@ -1,5 +1,5 @@
 -- A growth of a tree with one pair more, which reaches one node more; and a slice that is written back to its vector.
--- For `grow` in src/growth.rt of tsp_tree.
+-- For `grow` in src/tree.rt of tsp_bound.
 use Rattle.std.proofs.Common.{take, drop, ◌≡◌, ℕ, ◌<◌, Bool, true, false, ◌||◌, ◌==◌, List, [], ◌∷◌, ◌++◌, length, ℤ, inl, inr, refl, ap, sym, ◌∙◌, subst}
 use Rattle.std.specs.Prelude.{if◌then◌else◌}
 use Rattle.std.proofs.Math.ListN.{set}

@@ -1,5 +1,5 @@
 -- Sums of whole numbers over lists: in another order, of two sums, of multiples and of smaller numbers. tsp_routing and
--- tsp_cases import it too. For the law `lengths_add_up` in src/cycle_laws.rt and others.
+-- tsp_cases import it too. For the law `lengths_add_up` in src/laws.rt and others.
 use Rattle.std.proofs.Common.{◌≡◌, ℕ, zero, suc, List, [], ◌∷◌, refl, arith}
 use Rattle.std.specs.Prelude.{ℤ, pos, negsuc, ◌+ℤ◌, ◌*ℤ◌, ◌≤ℤ◌}
 use Rattle.std.specs.List.{sum_by, AllByRecursion}

@@ -1,5 +1,5 @@
--- The two nodes that are nearest to node 1, in one pass. For `nearest_two` and `two_spokes` in src/spokes.rt of
--- tsp_tree.
+-- The two nodes that are nearest to node 1, in one pass. For `nearest_two` and `two_spokes` in src/tree.rt of
+-- tsp_bound.
 use Rattle.std.proofs.Common.{◌≡◌, ◌≢◌, ℕ, ◌+◌, ◌<◌, ◌≤◌, true, false, List, to_z, of_z, inl, inr, sym, ap, subst, ◌∙◌, arith}
 use Rattle.std.specs.Prelude.{ℤ, ◌≤ℤ◌, ◌<ℤ◌, int_lt, FitsSigned}
 use Rattle.std.specs.Int.{w64}

@@ -1,5 +1,5 @@
 -- The weight between two nodes and of a 1-tree, and the bound by it, as the code computes them in 64 and 128 bits. Four
--- crates above import it too. For `least_edges` in src/tree.rt of tsp_bound and others.
+-- crates above import it too. For `least_edges` in src/bound.rt of tsp_bound and others.
 use Rattle.std.proofs.Common.{◌≡◌, List, ℕ, ◌+◌, ◌*◌, ◌≤◌, ◌^◌, ◌++◌, [], ◌∷◌, ap, sym, subst, ◌∙◌, arith, to_z, of_z, inl, inr}
 use Rattle.std.specs.Int.{w64, w128}
 use Rattle.std.specs.Prelude.{ℤ, pos, neg_ℤ, ◌+ℤ◌, ◌-ℤ◌, ◌*ℤ◌, FitsSigned}

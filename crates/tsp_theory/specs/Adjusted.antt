@@ -1,5 +1,5 @@
 -- The bound of a least 1-tree under potentials, and under numbers on pairs that cycles use or avoid. For the law
--- `adjusted_bounds_bound_cycles` (src/laws.rt), `least_one_tree` (src/tree.rt of tsp_bound), and LeafBound.antt of
+-- `adjusted_bounds_bound_cycles` (src/laws.rt), `least_one_tree` (src/bound.rt of tsp_bound), and LeafBound.antt of
 -- tsp_cases. Source: M. Held and R. M. Karp, The traveling-salesman problem and minimum spanning trees, 1970, with a
 -- multiplier for each pair besides those of the nodes.
 use Rattle.std.specs.Prelude.{◌≡◌, ℕ, ◌≤◌, ◌==◌, ◌&&◌, ◌||◌, Bool, false, if◌then◌else◌, List, [], length, ℤ, pos, ◌+ℤ◌, ◌-ℤ◌, ◌*ℤ◌, ◌≤ℤ◌}

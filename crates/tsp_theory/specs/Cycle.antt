@@ -1,5 +1,5 @@
 -- Hamiltonian cycles, their links, and which pairs they use. For the tours of Tour.antt, for every theorem on a bound,
--- and for `first_unused` (src/fixed.rt of tsp_verdict). Five crates above import it too.
+-- and for `first_unused` (src/tour.rt of tsp_verdict). Five crates above import it too.
 use Rattle.std.specs.Prelude.{◌≡◌, ◌≢◌, ℕ, Bool, true, false, List, [], ◌∷◌, length, ◌⊎◌}
 use Rattle.std.specs.List.{All, AllPairs, Contains}
 use Rattle.tsp_format.specs.Nodes.{IsNode}

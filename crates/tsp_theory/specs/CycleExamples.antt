@@ -1,4 +1,4 @@
--- Lists of two to four nodes. For the law `examples_of_cycles` (src/cycle_examples.rt), which says which are cycles and
+-- Lists of two to four nodes. For the law `examples_of_cycles` (src/examples.rt), which says which are cycles and
 -- how long, and for src/examples.rt of tsp_cost. Examples.antt of tsp_verdict re-exports some.
 use Rattle.std.specs.Prelude.{◌≡◌, ℕ, List, [], ◌∷◌, ℤ}
 use Rattle.tsp_theory.specs.Examples.{directed}

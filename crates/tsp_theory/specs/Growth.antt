@@ -1,5 +1,5 @@
 -- A least tree over the nodes 2..n that grows from one of them, by Prim's method, and the two lightest edges at node 1.
--- For `grow` (src/growth.rt) and `two_spokes` (src/spokes.rt) of tsp_tree, and `tree_of` (src/tree.rt of tsp_bound).
+-- For `grow` (src/tree.rt) and `two_spokes` (src/tree.rt) of tsp_bound, and `tree_of` (src/bound.rt of tsp_bound).
 -- Forest.antt has any order of least pairs.
 use Rattle.std.specs.Prelude.{◌≡◌, ◌≢◌, ℕ, ◌==◌, ◌+◌, Bool, true, false, ◌||◌, if◌then◌else◌, List, [], ◌∷◌, length, map, nat_lt, ℤ, ◌≤ℤ◌}
 use Rattle.tsp_theory.specs.Tree.{IsInner}

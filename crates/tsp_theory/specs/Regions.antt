@@ -1,10 +1,10 @@
--- Boxes of points along the axes, and nodes with their points. For `Region` (src/region.rt) and `Site` (src/site.rt),
+-- Boxes of points along the axes, and nodes with their points. For `Region` (src/costs.rt) and `Site` (src/costs.rt),
 -- by which tsp_bound searches for lightest edges.
 use Rattle.std.specs.Prelude.{◌≡◌, ℕ, ◌≤ℤ◌}
 use Rattle.tsp_distance.specs.declared.decimal.Point.{Point}
 use Rattle.tsp_format.specs.Nodes.{IsNode}
-use Rattle.tsp_theory.specs.declared.region.Region.{Region}
-use Rattle.tsp_theory.specs.declared.site.Site.{Site}
+use Rattle.tsp_theory.specs.declared.costs.Region.{Region}
+use Rattle.tsp_theory.specs.declared.costs.Site.{Site}
 
 -- the point lies in the box
 pub record IsIn (region : Region) (p : Point) : Type 0 where

@@ -1,5 +1,5 @@
 -- 1-trees, by their cuts: a pair leaves each set of the nodes 2..n that is neither empty nor all of them. For the
--- bounds of NodeBound.antt and Adjusted.antt, and for `least_one_tree` (src/tree.rt of tsp_bound). Six crates above
+-- bounds of NodeBound.antt and Adjusted.antt, and for `least_one_tree` (src/bound.rt of tsp_bound). Six crates above
 -- import it too. Source: M. Held and R. M. Karp, The traveling-salesman problem and minimum spanning trees, 1970.
 use Rattle.std.specs.Prelude.{◌≡◌, ◌≢◌, ℕ, ◌==◌, ◌<◌, ◌≤◌, Bool, true, false, not, if◌then◌else◌, List, [], ◌∷◌, length, ℤ, pos, ◌≤ℤ◌}
 use Rattle.std.specs.List.{All, list_any, filter}

@@ -1,21 +1,20 @@
 //! The traits of costs between nodes, symmetric or not. tsp_cost implements them for instances;
 //! lengths and the bounds of tsp_bound, tsp_branch and tsp_routing take them.
 
-ghost use Rattle.std.specs.Prelude.{◌≡◌, ◌≢◌, ◌≤◌, ◌+◌, ℕ, ℤ, length, pos, neg_ℤ, ◌≤ℤ◌, IfSome};
 ghost use Rattle.std.specs.Bool.{OnTrue};
 ghost use Rattle.std.specs.List.{All};
+ghost use Rattle.std.specs.Prelude.{◌≡◌, ◌≢◌, ◌≤◌, ◌+◌, ℕ, ℤ, length, pos, neg_ℤ, ◌≤ℤ◌, IfSome, ◌-ℤ◌, unsigned_abs};
 ghost use Rattle.tsp_distance.specs.Distances.{on_plane};
 ghost use Rattle.tsp_distance.specs.declared.decimal.Point.{Point};
-ghost use Rattle.tsp_format.specs.Nodes.{IsNode};
 ghost use Rattle.tsp_format.specs.Limits.{most_nodes, most_tour_nodes, most_weight};
+ghost use Rattle.tsp_format.specs.Nodes.{IsNode};
 ghost use Rattle.tsp_theory.specs.Costs.{IsCostRow};
 ghost use Rattle.tsp_theory.specs.Length.{length_of};
 ghost use Rattle.tsp_theory.specs.Regions.{IsIn, IsSite};
 
-use crate::region::Region;
-use crate::site::Site;
 use std::alloc::Global;
-use tsp_memory::Refused;
+use tsp_distance::{Decimal, Point};
+use tsp_io::Refused;
 
 /// Costs between the nodes 1 to `count`, which needn't be symmetric.
 ///
@@ -135,4 +134,111 @@ pub trait Symmetric: Costs {
     ghost use Rattle.tsp_theory.specs.Costs.{IsSymmetric};
 
     ghost even: { (costs : Self) → IsSymmetric (Self.at costs) };
+}
+
+// ---- regions of space: boxes along the axes, with the point of each that is nearest to
+
+/// A box in space, by the corners with its lowest and with its highest coordinates.
+#[derive(Clone, Copy, Debug)]
+pub struct Region {
+    /// Its lowest coordinates.
+    pub low: Point,
+    /// Its highest coordinates.
+    pub high: Point,
+}
+
+impl Region {
+    ghost use Rattle.tsp_distance.specs.declared.decimal.Point.{Point};
+    ghost use Rattle.tsp_distance.specs.Distances.{dx, dy, dz};
+    ghost use Rattle.tsp_theory.specs.Regions.{IsIn};
+
+    /// The region of a single point.
+    #[inline]
+    pub fn of(point: Point) -> Region
+        ensures { IsIn result point }
+    {
+        let high = point;
+        Region { low: point, high }
+    }
+
+    /// A region with all points of both regions.
+    #[inline]
+    pub fn joined(self, other: Region) -> Region
+        ensures left { (p : Point) → IsIn self p → IsIn result p }
+        ensures right { (p : Point) → IsIn other p → IsIn result p }
+    {
+        Region {
+            low: Point {
+                x: lower(self.low.x, other.low.x),
+                y: lower(self.low.y, other.low.y),
+                z: lower(self.low.z, other.low.z),
+            },
+            high: Point {
+                x: higher(self.high.x, other.high.x),
+                y: higher(self.high.y, other.high.y),
+                z: higher(self.high.z, other.high.z),
+            },
+        }
+    }
+
+    /// The point of the region that is nearest to a point, along each axis.
+    #[inline]
+    pub fn nearest(self, from: &Point) -> Point
+        ensures dx { (p : Point) → IsIn self p → dx from.now result ≤ dx from.now p }
+        ensures dy { (p : Point) → IsIn self p → dy from.now result ≤ dy from.now p }
+        ensures dz { (p : Point) → IsIn self p → dz from.now result ≤ dz from.now p }
+        ensures inside { (p : Point) → IsIn self p → IsIn self result }
+    {
+        let Region { low, high } = self;
+        Point {
+            x: clamped(from.x, low.x, high.x),
+            y: clamped(from.y, low.y, high.y),
+            z: clamped(from.z, low.z, high.z),
+        }
+    }
+}
+
+/// A number that is no larger than either.
+#[inline]
+fn lower(a: Decimal, b: Decimal) -> Decimal
+    ensures first { result ≤ℤ a }
+    ensures second { result ≤ℤ b }
+{
+    if a.count() < b.count() { a } else { b }
+}
+
+/// A number that is no smaller than either.
+#[inline]
+fn higher(a: Decimal, b: Decimal) -> Decimal
+    ensures first { a ≤ℤ result }
+    ensures second { b ≤ℤ result }
+{
+    if a.count() < b.count() { b } else { a }
+}
+
+/// The number of a range that is nearest to `x`.
+#[inline]
+fn clamped(x: Decimal, low: Decimal, high: Decimal) -> Decimal
+    ensures nearest { (p : ℤ) → low ≤ℤ p → p ≤ℤ high
+        → unsigned_abs (x -ℤ result) ≤ unsigned_abs (x -ℤ p) }
+    ensures inside { low ≤ℤ high → (low ≤ℤ result) × (result ≤ℤ high) }
+{
+    if x.count() < low.count() {
+        low
+    } else if high.count() < x.count() {
+        high
+    } else {
+        x
+    }
+}
+
+// ---- a node with the point in space that is its place, as costs give it
+
+/// A node, and the point in space that is its place.
+#[derive(Clone, Copy, Debug)]
+pub struct Site {
+    /// The node.
+    pub node: u32,
+    /// Its place.
+    pub place: Point,
 }

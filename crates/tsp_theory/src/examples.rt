@@ -1,15 +1,33 @@
-//! Laws that state values of the definitions in `specs/`, worked out by hand: duals of three nodes,
-//! 1-trees of four nodes, and the bounds that these give.
+//! A law that states values of the definitions in `specs/`, worked out by hand: which lists are
+//! cycles, the next node on one, and lengths.
 
-ghost use Rattle.std.specs.Prelude.{◌≡◌, ℤ, [], ◌∷◌, pos, negsuc};
-ghost use Rattle.tsp_theory.specs.CertificateNumbers.{entry, total, IsLeastBound};
-ghost use Rattle.tsp_theory.specs.Tree.{IsOneTree, weight_of, IsLeastOneTree};
-ghost use Rattle.tsp_theory.specs.Growth.{tree_of};
-ghost use Rattle.tsp_theory.specs.Forest.{IsWholeForest};
-ghost use Rattle.tsp_theory.specs.NodeBound.{weight_between, IsNodeBound};
+ghost use Rattle.std.specs.Prelude.{◌≡◌, [], ◌∷◌, pos, ℤ, negsuc};
 ghost use Rattle.tsp_theory.specs.Adjusted.{adjusted, triples_total, UsesEach, UsesNone, IsAdjustedBoundOf};
 ghost use Rattle.tsp_theory.specs.Assignment.{AreGood, IsFirstBroken, IsDualBound};
+ghost use Rattle.tsp_theory.specs.CertificateNumbers.{entry, total, IsLeastBound};
+ghost use Rattle.tsp_theory.specs.Cycle.{IsCycle, links};
+ghost use Rattle.tsp_theory.specs.CycleExamples.{two, three, four, HasDirectedLength};
 ghost use Rattle.tsp_theory.specs.Examples.{rectangle, star, star_below_zero, directed, with_loops, three_zeros, three_numbers, four_numbers, zeros, one_on_two, pairs_of, on_diagonals};
+ghost use Rattle.tsp_theory.specs.Forest.{IsWholeForest};
+ghost use Rattle.tsp_theory.specs.Growth.{tree_of};
+ghost use Rattle.tsp_theory.specs.NodeBound.{weight_between, IsNodeBound};
+ghost use Rattle.tsp_theory.specs.Tree.{IsOneTree, weight_of, IsLeastOneTree};
+
+/// What is a cycle, what comes next on it, and how long some lists of nodes are.
+pub fn examples_of_cycles()
+    ensures links { links (three 1 3 2) ≡ (1, 3) ∷ (3, 2) ∷ (2, 1) ∷ [] }
+    ensures one_node { links (1 ∷ []) ≡ (1, 1) ∷ [] }
+    ensures onward { HasDirectedLength (three 1 2 3) (pos 6) }
+    ensures backward { HasDirectedLength (three 1 3 2) (pos 30) }
+    ensures from_another_node { HasDirectedLength (three 2 3 1) (pos 6) }
+    ensures there_and_back { HasDirectedLength (two 1 2) (pos 11) }
+    ensures cycle { IsCycle 3 (three 1 3 2) }
+    ensures too_short { ¬ IsCycle 3 (two 1 2) }
+    ensures too_long { ¬ IsCycle 3 (four 1 2 3 1) }
+    ensures twice { ¬ IsCycle 3 (three 1 2 2) }
+    ensures past_the_last { ¬ IsCycle 3 (three 1 2 4) }
+    ensures before_the_first { ¬ IsCycle 3 (three 0 1 2) }
+{}
 
 /// The numbers of nodes, their sums, and the least whole number that at a scale is no less.
 pub fn examples_of_numbers()

@@ -1,4 +1,4 @@
-//! The lengths of lists of nodes. For tours in `src/subject.rt` of tsp_verdict, and the line
+//! The lengths of lists of nodes. For tours in `src/solution_verdict.rt` of tsp_verdict, and the line
 //! `canonical` in `src/shown.rt` of tsp_report.
 
 ghost use Rattle.std.specs.Prelude.{◌≡◌, ◌≤◌, ◌++◌, ◌∷◌, [], map, length, vec_len, IfOk, OnOk};
@@ -9,7 +9,7 @@ ghost use Rattle.tsp_theory.specs.Length.{length_of};
 
 use crate::costs::Costs;
 use std::alloc::{AllocError, Global};
-use tsp_memory::{Refused, push, with_capacity};
+use tsp_io::{Refused, push, with_capacity};
 
 /// The length of a list of nodes: the sum of the costs from each node to the next, and from the
 /// last to the first.

@@ -10,25 +10,17 @@
 #![tactic(auto)]
 
 mod costs;
-mod cycle_examples;
-mod cycle_laws;
 mod examples;
 mod laws;
 mod length;
-mod region;
-mod site;
 
-pub use costs::{Costs, Symmetric};
-pub use cycle_examples::examples_of_cycles;
-pub use cycle_laws::{cycles_are_permutations, cycles_have_no_loops, lengths_add_up};
+pub use costs::{Costs, Region, Site, Symmetric};
 pub use examples::{
-    examples_of_duals, examples_of_forests, examples_of_multipliers, examples_of_numbers,
-    examples_of_trees,
+    examples_of_cycles, examples_of_duals, examples_of_forests, examples_of_multipliers,
+    examples_of_numbers, examples_of_trees,
 };
 pub use laws::{
-    adjusted_bounds_bound_cycles, bounds_are_unique, duals_bound_cycles,
-    least_trees_are_below_cycles, node_bounds_bound_cycles,
+    adjusted_bounds_bound_cycles, bounds_are_unique, cycles_are_permutations, cycles_have_no_loops,
+    duals_bound_cycles, least_trees_are_below_cycles, lengths_add_up, node_bounds_bound_cycles,
 };
 pub use length::{canonical_length, tour_length, trace_tours};
-pub use region::Region;
-pub use site::Site;

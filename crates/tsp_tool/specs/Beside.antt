@@ -2,8 +2,8 @@
 use Rattle.std.specs.Prelude.{ℤ, pos, ◌<ℤ◌}
 use Rattle.std.specs.Fd.{file_raw_fd}
 use Rattle.std.specs.declared.fs.File.{File}
-use Rattle.tsp_run.specs.declared.input_file.InputFile.{InputFile}
-use Rattle.tsp_run.specs.declared.input_file.InputFile.TheVariants.{Input, Opened, Missing}
+use Rattle.tsp_cli.specs.declared.input.InputFile.{InputFile}
+use Rattle.tsp_cli.specs.declared.input.InputFile.TheVariants.{Input, Opened, Missing}
 
 -- the number of the file's descriptor is above 2, which is that of standard error
 abbrev pub IsBesideStreams : File → Type 0

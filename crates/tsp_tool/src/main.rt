@@ -1,23 +1,23 @@
 //! The program `tsp`, which shows, converts, checks, compares and bounds TSPLIB 95 files.
 //!
 //! It has the calls of the host alone: the words of the command line, the opening of files, and the
-//! streams. All else is tsp_run's. What a task writes goes to standard output.
+//! streams. All else is tsp_cli's. What a task writes goes to standard output.
 #![tactic(auto)]
+
+ghost use Rattle.std.specs.Prelude.{◌↔◌, IfOk, IsTrue};
+ghost use Rattle.tsp_cli.specs.states.InputFile.{IsInputFileOf};
+ghost use Rattle.tsp_tool.specs.Beside.{IsBesideStreams, IsBeside};
 
 mod build;
 
-ghost use Rattle.std.specs.Prelude.{◌↔◌, IfOk, IsTrue};
-ghost use Rattle.tsp_run.specs.states.InputFile.{IsInputFileOf};
-ghost use Rattle.tsp_tool.specs.Beside.{IsBesideStreams, IsBeside};
-
 use crate::build::BUILD;
-use std::fs::File;
-use std::io::{ErrorKind, IsTerminal};
+use std::env;
+use std::fs::{self, File};
+use std::io::{self, ErrorKind, IsTerminal};
 use std::os::fd::AsRawFd;
 use std::process::ExitCode;
 use std::rt::Stdin;
-use std::{env, fs, io};
-use tsp_run::{InputFile, InputPath, Open, Surroundings, Watched, run, tell_unread, tell_waiting};
+use tsp_cli::{InputFile, InputPath, Open, Surroundings, Watched, run, tell_unread, tell_waiting};
 
 fn main(rt: HostRuntime) -> ExitCode {
     let mut out = Watched::new(rt.stdout());

@@ -1,21 +1,21 @@
 -- A basis, which is what is known of all solutions before one is read, and the verdict on one solution by it. For
--- `Subject::verdict_on_tour` in src/subject.rt and others.
+-- `Subject::verdict_on_tour` in src/solution_verdict.rt and others.
 use Rattle.std.proofs.Common.{◌≡◌, ◌⊎◌, ◌<◌, ◌≤◌, ℕ, inl, inr, true, Option, Some, None, refl, sym, ap₂, subst, ◌∙◌, arith}
 use Rattle.std.specs.Prelude.{ℤ, IsTrue, MatchOption, option_map}
 use Rattle.std.proofs.lemmas.Bool.{false≢true}
 use Rattle.tsp_format.specs.declared.kinds.Kind.TheVariants as kinds
-use Rattle.tsp_draft.specs.Fields.{Fields}
-use Rattle.tsp_draft.specs.Rules.{is_tour_file}
+use Rattle.tsp_file.specs.Fields.{Fields}
+use Rattle.tsp_file.specs.Rules.{is_tour_file}
 use Rattle.tsp_theory.specs.Tour.{HasNoTour}
 use Rattle.tsp_cost.specs.ComputedProblems.{problem_of, routing_of, capacity_of}
-use Rattle.tsp_task.specs.declared.basis.Basis.{Basis}
-use Rattle.tsp_task.specs.declared.basis.Basis.TheVariants as bases
-use Rattle.tsp_task.specs.declared.certificate.Certificate.{Certificate}
-use Rattle.tsp_task.specs.declared.verdict.BoundVerdict.TheVariants as bounds
-use Rattle.tsp_task.specs.declared.verdict.Reason.{Reason}
-use Rattle.tsp_task.specs.declared.verdict.Reason.TheVariants.{NotASolution, TooFewNodes, NotSymmetric, LengthClaimed, Dimension, NotPotentials}
-use Rattle.tsp_task.specs.declared.verdict.Verdict.{Verdict}
-use Rattle.tsp_task.specs.declared.verdict.Verdict.TheVariants as verdicts
+use Rattle.tsp_report.specs.declared.verdict.Basis.{Basis}
+use Rattle.tsp_report.specs.declared.verdict.Basis.TheVariants as bases
+use Rattle.tsp_report.specs.declared.task.Certificate.{Certificate}
+use Rattle.tsp_report.specs.declared.verdict.BoundVerdict.TheVariants as bounds
+use Rattle.tsp_report.specs.declared.verdict.Reason.{Reason}
+use Rattle.tsp_report.specs.declared.verdict.Reason.TheVariants.{NotASolution, TooFewNodes, NotSymmetric, LengthClaimed, Dimension, NotPotentials}
+use Rattle.tsp_report.specs.declared.verdict.Verdict.{Verdict}
+use Rattle.tsp_report.specs.declared.verdict.Verdict.TheVariants as verdicts
 use Rattle.tsp_verdict.specs.Basis.{IsBasisOfTours, IsBasisOfRoutes, IsBasisAlone, IsBasisOfToursBy, IsBasisOfRoutesBy, IsBasis, HasBasis, IsVerdictFrom}
 use Rattle.tsp_verdict.specs.Bounded.{StandsAgainstTouring, NoneAgainstTouring, StandsAgainstInstance, StandsAgainstBounded}
 use Rattle.tsp_verdict.specs.Certified.{is_bounded, StandsAgainstCertificate, HasNoSolutionBy, HasNoSolution}
@@ -26,8 +26,8 @@ use Rattle.tsp_verdict.specs.Routes.{IsFirstAgainstRoutes, IsRoutesVerdict}
 use Rattle.tsp_verdict.specs.Solution.{tours_of}
 use Rattle.tsp_verdict.specs.Tours.{NoneOfTourBefore, IsFirstAgainstTour, IsTourVerdict}
 use Rattle.tsp_verdict.specs.states.TourBases.{verdict_by, verdict_with, IsSubject, IsVerdictGiven, IsBasisGiven}
-use Rattle.tsp_verdict.specs.declared.tour_basis.BoundOrigin.{BoundOrigin}
-use Rattle.tsp_verdict.specs.declared.tour_basis.BoundOrigin.TheVariants as origins
+use Rattle.tsp_verdict.specs.declared.solution_verdict.BoundOrigin.{BoundOrigin}
+use Rattle.tsp_verdict.specs.declared.solution_verdict.BoundOrigin.TheVariants as origins
 use Rattle.tsp_verdict.specs.states.Known.{against_instance, KnowsInstance}
 use Rattle.tsp_verdict.proofs.Certificates.{certificate_rank}
 use Rattle.tsp_verdict.proofs.Claims.{refused_alone, other_alone, accepted_alone, tour_refused, tour_of_another_length, certificate_refused, tour_bounded, on_routes, routes_refused, routes_uncertified, routes_bounded}

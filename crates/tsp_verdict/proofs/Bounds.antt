@@ -1,13 +1,13 @@
 -- The reasons against an instance and then against its certificate, of which the first one is the answer of a bound.
--- For `Subject::basis_on` in src/subject.rt.
+-- For `Subject::basis_on` in src/solution_verdict.rt.
 use Rattle.std.proofs.Common.{◌<◌, ◌⊎◌, inl, inr, arith}
 use Rattle.std.specs.Prelude.{pos}
-use Rattle.tsp_draft.specs.Fields.{Fields}
-use Rattle.tsp_task.specs.declared.certificate.Certificate.{Certificate}
-use Rattle.tsp_task.specs.declared.verdict.BoundVerdict.{BoundVerdict}
-use Rattle.tsp_task.specs.declared.verdict.BoundVerdict.TheVariants as bounds
-use Rattle.tsp_task.specs.declared.verdict.Reason.{Reason}
-use Rattle.tsp_task.specs.declared.verdict.Reason.TheVariants.{TooFewNodes, NotSymmetric, DepotCount, DepotDemand, FixedEdgesInRoutes, LengthClaimed}
+use Rattle.tsp_file.specs.Fields.{Fields}
+use Rattle.tsp_report.specs.declared.task.Certificate.{Certificate}
+use Rattle.tsp_report.specs.declared.verdict.BoundVerdict.{BoundVerdict}
+use Rattle.tsp_report.specs.declared.verdict.BoundVerdict.TheVariants as bounds
+use Rattle.tsp_report.specs.declared.verdict.Reason.{Reason}
+use Rattle.tsp_report.specs.declared.verdict.Reason.TheVariants.{TooFewNodes, NotSymmetric, DepotCount, DepotDemand, FixedEdgesInRoutes, LengthClaimed}
 use Rattle.tsp_verdict.specs.Bounded.{StandsAgainstTouring, StandsAgainstRouting, StandsAgainstInstance, NoneAgainstInstance, StandsAgainstBounded, IsBoundVerdict}
 use Rattle.tsp_verdict.specs.Certified.{StandsAgainstCertificate, FindsBound}
 use Rattle.tsp_verdict.specs.Reasons.{rank_of, IsFirstReason}

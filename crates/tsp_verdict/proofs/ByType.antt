@@ -1,14 +1,14 @@
 -- Reasons, bases and verdicts by the TYPE of an instance: those of tours for TSP and ATSP, those of routes for CVRP.
--- For `basis_of` in src/comparison_basis.rt and others.
+-- For `basis_of` in src/basis.rt and others.
 use Rattle.std.proofs.Common.{◌≡◌, ◌≢◌, ◌⊎◌, inl, inr, Option, Some, None, refl, sym, subst}
 use Rattle.tsp_format.specs.declared.kinds.Kind.{Kind}
 use Rattle.tsp_format.specs.declared.kinds.Kind.TheVariants as kinds
-use Rattle.tsp_draft.specs.Fields.{Fields}
-use Rattle.tsp_task.specs.declared.basis.Basis.{Basis}
-use Rattle.tsp_task.specs.declared.certificate.Certificate.{Certificate}
-use Rattle.tsp_task.specs.declared.certificate.Certificate.TheVariants.{Branches}
-use Rattle.tsp_task.specs.declared.verdict.Reason.{Reason}
-use Rattle.tsp_task.specs.declared.verdict.Verdict.{Verdict}
+use Rattle.tsp_file.specs.Fields.{Fields}
+use Rattle.tsp_report.specs.declared.verdict.Basis.{Basis}
+use Rattle.tsp_report.specs.declared.task.Certificate.{Certificate}
+use Rattle.tsp_report.specs.declared.task.Certificate.TheVariants.{Branches}
+use Rattle.tsp_report.specs.declared.verdict.Reason.{Reason}
+use Rattle.tsp_report.specs.declared.verdict.Verdict.{Verdict}
 use Rattle.tsp_verdict.specs.Basis.{IsBasisOfToursBy, IsBasisOfRoutesBy, IsBasisBy}
 use Rattle.tsp_verdict.specs.Bounded.{StandsAgainstTouring, NoneAgainstTouring, StandsAgainstRouting, StandsAgainstInstanceBy, StandsAgainstInstance, NoneAgainstInstance}
 use Rattle.tsp_verdict.specs.BranchesCertificate.{StandsAgainstBranches}

@@ -1,17 +1,17 @@
 -- The verdict on a solution where `--length` claims a length, and where it doesn't, with a certificate or without. For
--- `Subject::verdict_on_tour` in src/subject.rt and others.
+-- `Subject::verdict_on_tour` in src/solution_verdict.rt and others.
 use Rattle.std.proofs.Common.{◌≡◌, inl, inr, Option, Some, None, ℕ, refl, sym, subst, ◌∙◌}
 use Rattle.std.specs.Prelude.{ℤ}
 use Rattle.tsp_format.specs.declared.kinds.Kind.TheVariants as kinds
-use Rattle.tsp_draft.specs.Fields.{Fields}
+use Rattle.tsp_file.specs.Fields.{Fields}
 use Rattle.tsp_theory.specs.Tour.{BoundsTours}
 use Rattle.tsp_cost.specs.ComputedProblems.{problem_of}
-use Rattle.tsp_task.specs.declared.certificate.Certificate.{Certificate}
-use Rattle.tsp_task.specs.declared.verdict.Reason.{Reason}
-use Rattle.tsp_task.specs.declared.verdict.Reason.TheVariants.{LengthClaimed}
-use Rattle.tsp_task.specs.declared.verdict.Verdict.{Verdict}
-use Rattle.tsp_task.specs.declared.verdict.Verdict.TheVariants as verdicts
-use Rattle.tsp_task.specs.declared.verdict.BoundVerdict.TheVariants as bounds
+use Rattle.tsp_report.specs.declared.task.Certificate.{Certificate}
+use Rattle.tsp_report.specs.declared.verdict.Reason.{Reason}
+use Rattle.tsp_report.specs.declared.verdict.Reason.TheVariants.{LengthClaimed}
+use Rattle.tsp_report.specs.declared.verdict.Verdict.{Verdict}
+use Rattle.tsp_report.specs.declared.verdict.Verdict.TheVariants as verdicts
+use Rattle.tsp_report.specs.declared.verdict.BoundVerdict.TheVariants as bounds
 use Rattle.tsp_verdict.specs.Certified.{FindsBound, BoundsSolutionsBy, BoundsSolutions, IsCertifiedVerdict}
 use Rattle.tsp_verdict.specs.Routes.{StandsAgainstRoutes, IsFirstAgainstRoutes, IsRoutesVerdict}
 use Rattle.tsp_verdict.specs.SolutionVerdict.{IsVerdictBy, IsVerdictOn, IsAsClaimed, IsOtherClaimed, HasLength, HasNoLength, IsVerdictWith}

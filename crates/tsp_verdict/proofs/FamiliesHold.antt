@@ -1,5 +1,5 @@
 -- The families of a valid file are sets of its nodes, and few enough. How often cycles cross them is one list of
--- numbers. For `judge_tree` in src/branching_bound.rt and others.
+-- numbers. For `judge_tree` in src/certificate.rt and others.
 use Rattle.std.proofs.Common.{◌≡◌, ℕ, ◌<◌, ◌≤◌, List, [], ◌∷◌, length, refl, ap₂, arith}
 use Rattle.std.specs.Prelude.{◌^◌}
 use Rattle.std.specs.Global.{Vec}
@@ -9,10 +9,10 @@ use Rattle.std.proofs.lemmas.List.Elements.{All-weaker, All-from_recursion, recu
 use Rattle.std.proofs.lemmas.List.Sums.{sum_by-cons}
 use Rattle.tsp_format.specs.Nodes.{IsNode}
 use Rattle.tsp_format.specs.Limits.{most_comb_nodes}
-use Rattle.tsp_draft.specs.Valid.{IsSetOf, AreSets}
+use Rattle.tsp_file.specs.Valid.{IsSetOf, AreSets}
 use Rattle.tsp_file.specs.Typed.{AreSomeSets}
-use Rattle.tsp_families.specs.FamilySets.{AreSetsOf, AreFamiliesOf, lists_of, families_in}
-use Rattle.tsp_families.specs.declared.family.Crossings.{Crossings}
+use Rattle.tsp_cases.specs.FamilySets.{AreSetsOf, AreFamiliesOf, lists_of, families_in}
+use Rattle.tsp_cases.specs.declared.family.Crossings.{Crossings}
 use Rattle.tsp_cases.specs.Families.{IsFamily, NumbersAreUnique}
 use Rattle.tsp_cases.specs.FamiliesOfSets.{family_with, families_with}
 

@@ -1,5 +1,5 @@
 -- The tours and the steps that a valid file lends are on nodes that it has, and no more than a file may have. For
--- `judge_tree` in src/branching_bound.rt and others.
+-- `judge_tree` in src/certificate.rt and others.
 use Rattle.std.proofs.Common.{◌≡◌, ◌≢◌, ℕ, zero, suc, ◌+◌, ◌<◌, ◌≤◌, true, false, List, [], ◌∷◌, ◌++◌, length, map, Option, None, Some, refl, sym, ap, subst, ◌∙◌, arith, length-append}
 use Rattle.std.specs.Prelude.{unwrap_or, ◌^◌}
 use Rattle.std.specs.Global.{Vec}
@@ -15,9 +15,9 @@ use Rattle.tsp_format.specs.Steps.{Step, Branch, Leaf, are_whole, branch_count, 
 use Rattle.tsp_format.specs.states.TreeSteps.{step_of, steps_of}
 use Rattle.tsp_format.specs.declared.kinds.Kind.{Kind}
 use Rattle.tsp_format.specs.declared.kinds.Kind.TheVariants as kinds
-use Rattle.tsp_draft.specs.Fields.{Fields, nodes_of}
-use Rattle.tsp_draft.specs.Rules.{is_tour_file}
-use Rattle.tsp_draft.specs.Valid.{AreTours, IsNodeList, IsStep, AreTreeSteps}
+use Rattle.tsp_file.specs.Fields.{Fields, nodes_of}
+use Rattle.tsp_file.specs.Rules.{is_tour_file}
+use Rattle.tsp_file.specs.Valid.{AreTours, IsNodeList, IsStep, AreTreeSteps}
 use Rattle.tsp_cases.specs.Listed.{IsListedStep}
 use Rattle.tsp_verdict.specs.Solution.{visited, tours_of}
 use Rattle.tsp_verdict.specs.states.RouteLists.{nodes_in, AreToursOf}

@@ -1,4 +1,4 @@
--- Whether a cycle uses a pair, by the table of the next node of each node. For `is_used` in src/fixed.rt.
+-- Whether a cycle uses a pair, by the table of the next node of each node. For `is_used` in src/tour.rt.
 use Rattle.std.proofs.Common.{◌≡◌, ◌≢◌, ℕ, ◌≤◌, Bool, true, false, eqb, List, get_or, sym, ◌∙◌, inl, inr}
 use Rattle.std.specs.Prelude.{MatchBool}
 use Rattle.std.proofs.lemmas.Bool.{eqb-true, eq-eqb, false≢true}

@@ -1,5 +1,5 @@
 -- The fixed pairs of an instance, each once, as decisions that take them, found in one pass over the pairs. For
--- `taken_once` in src/fixed_decisions.rt and others.
+-- `taken_once` in src/certificate.rt and others.
 use Rattle.std.proofs.Common.{◌≡◌, ◌∙◌, ℕ, ◌+◌, ◌<◌, ◌≤◌, ◌||◌, ◌&&◌, not, Bool, true, false, List, [], ◌∷◌, ◌++◌, get_or, length, take, drop, refl, sym, ap, subst, arith, inl, inr, drop-cons, add-one}
 use Rattle.std.specs.Prelude.{if◌then◌else◌, cond, filter}
 use Rattle.std.specs.BTreeSet.{BTreeSet, contains}
@@ -9,10 +9,10 @@ use Rattle.std.proofs.lemmas.List.{append_assoc, drop_all, append-nil, length-ma
 use Rattle.std.proofs.lemmas.List.Elements.{All-from_recursion, recursion_from_All}
 use Rattle.std.proofs.lemmas.List.Folds.{list_any-append}
 use Rattle.std.proofs.lemmas.List.Kept.{AllPairs-cons}
-use Rattle.tsp_draft.specs.Valid.{IsPairOf}
+use Rattle.tsp_file.specs.Valid.{IsPairOf}
 use Rattle.tsp_theory.specs.Cycle.{Uses}
 use Rattle.tsp_cases.specs.states.Decided.{IsDecision}
-use Rattle.tsp_cases.specs.declared.decision.Decision.{Decision}
+use Rattle.tsp_cases.specs.declared.open_case.Decision.{Decision}
 use Rattle.tsp_cases.specs.Decisions.{KeepsAll, KeepsDecision, DecideOnce, take_pairs, is_same}
 use Rattle.tsp_verdict.specs.states.PairSets.{key_of, pair_cmp, HasKeys}
 use Rattle.tsp_verdict.specs.BranchesCertificate.{each_once}

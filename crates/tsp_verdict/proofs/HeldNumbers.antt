@@ -1,8 +1,8 @@
 -- The potentials that a valid file lends are one for each node, and so are its duals, which are those of the
--- certificate. For `assignment_bound` and `tree_bound` in src/potentials_bound.rt.
+-- certificate. For `assignment_bound` and `tree_bound` in src/potentials.rt.
 use Rattle.std.proofs.Common.{◌≡◌, ℕ, List, [], length, Option, Some, sym, ap}
 use Rattle.std.specs.Prelude.{ℤ, unwrap_or}
-use Rattle.tsp_draft.specs.Fields.{Fields, nodes_of}
+use Rattle.tsp_file.specs.Fields.{Fields, nodes_of}
 use Rattle.tsp_file.specs.Typed.{HoldsNodeNumbers, HoldsDuals}
 use Rattle.tsp_verdict.proofs.CarriedBounds.{AreOf}
 

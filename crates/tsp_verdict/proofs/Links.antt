@@ -1,4 +1,4 @@
--- The table of the next node of each node of a cycle, one link more at a time. For `next_nodes` in src/fixed.rt.
+-- The table of the next node of each node of a cycle, one link more at a time. For `next_nodes` in src/tour.rt.
 use Rattle.std.proofs.Common.{◌≡◌, ◌≢◌, ℕ, zero, suc, ◌+◌, ◌<◌, ◌≤◌, List, [], ◌∷◌, ◌++◌, length, get_or, set, refl, sym, ap, subst, ◌∙◌, inl, inr, arith, add-one}
 use Rattle.std.specs.Prelude.{◌⊎◌}
 use Rattle.std.specs.List.{AllPairs}

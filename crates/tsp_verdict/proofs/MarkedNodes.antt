@@ -1,5 +1,5 @@
 -- Marks of nodes: a node is marked exactly where it is at one of the first places of a list. For `first_repeated` in
--- src/first_places.rt and others.
+-- src/tour.rt and others.
 use Rattle.std.proofs.Common.{◌≡◌, ◌≢◌, ℕ, zero, suc, ◌+◌, ◌-◌, ◌<◌, ◌≤◌, Bool, true, false, List, [], ◌∷◌, length, Option, None, Some, get_or, set, replicate, refl, sym, ap, subst, ◌∙◌, arith, inl, inr}
 use Rattle.std.specs.Prelude.{◌⊎◌, MatchOption}
 use Rattle.std.specs.List.{AllPairs, Contains}

@@ -7,7 +7,7 @@ use Rattle.std.proofs.lemmas.Int.{ints}
 use Rattle.tsp_format.specs.declared.kinds.Kind.{Kind}
 use Rattle.tsp_format.specs.declared.kinds.Kind.TheVariants as kinds
 use Rattle.tsp_format.specs.Steps as listed
-use Rattle.tsp_draft.specs.Fields.{Fields, nodes_of}
+use Rattle.tsp_file.specs.Fields.{Fields, nodes_of}
 use Rattle.tsp_file.specs.Cost.{cost}
 use Rattle.tsp_file.specs.Defaults.{scale_in, multipliers_in, families_listed}
 use Rattle.tsp_theory.specs.Length.{length_of}
@@ -15,21 +15,21 @@ use Rattle.tsp_theory.specs.CertificateNumbers.{total, IsLeastBound}
 use Rattle.tsp_theory.specs.Routing.{IsLeastRoutes}
 use Rattle.tsp_theory.specs.Adjusted.{IsAdjustedBound}
 use Rattle.tsp_theory.specs.Assignment.{IsDualBound}
-use Rattle.tsp_cost.specs.ComputedProblems.{is_directed}
-use Rattle.tsp_families.specs.declared.family.Crossings.{Crossings}
+use Rattle.tsp_cost.specs.ComputedProblems.{is_directed, routing_of, capacity_of}
+use Rattle.tsp_cases.specs.declared.family.Crossings.{Crossings}
 use Rattle.tsp_cases.specs.Families.{NumbersAreUnique}
 use Rattle.tsp_cases.specs.CaseTrees.{IsCaseTreeBound, CaseTreeBoundsAreUnique}
 use Rattle.tsp_cases.specs.Decisions.{decided_number}
-use Rattle.tsp_task.specs.declared.basis.Basis.{Basis}
-use Rattle.tsp_task.specs.declared.basis.Basis.TheVariants as bases
-use Rattle.tsp_task.specs.declared.certificate.Certificate.{Certificate}
-use Rattle.tsp_task.specs.declared.certificate.Certificate.TheVariants.{Potentials, Branches}
-use Rattle.tsp_task.specs.declared.verdict.BoundVerdict.{BoundVerdict}
-use Rattle.tsp_task.specs.declared.verdict.BoundVerdict.TheVariants as bounds
-use Rattle.tsp_task.specs.declared.verdict.Reason.{Reason}
-use Rattle.tsp_task.specs.declared.verdict.Reason.TheVariants.{LengthClaimed}
-use Rattle.tsp_task.specs.declared.verdict.Verdict.{Verdict}
-use Rattle.tsp_task.specs.declared.verdict.Verdict.TheVariants.{Tour, Routes, No}
+use Rattle.tsp_report.specs.declared.verdict.Basis.{Basis}
+use Rattle.tsp_report.specs.declared.verdict.Basis.TheVariants as bases
+use Rattle.tsp_report.specs.declared.task.Certificate.{Certificate}
+use Rattle.tsp_report.specs.declared.task.Certificate.TheVariants.{Potentials, Branches}
+use Rattle.tsp_report.specs.declared.verdict.BoundVerdict.{BoundVerdict}
+use Rattle.tsp_report.specs.declared.verdict.BoundVerdict.TheVariants as bounds
+use Rattle.tsp_report.specs.declared.verdict.Reason.{Reason}
+use Rattle.tsp_report.specs.declared.verdict.Reason.TheVariants.{LengthClaimed}
+use Rattle.tsp_report.specs.declared.verdict.Verdict.{Verdict}
+use Rattle.tsp_report.specs.declared.verdict.Verdict.TheVariants.{Tour, Routes, No}
 use Rattle.tsp_verdict.specs.Basis.{IsBasisOfTours, IsBasisOfRoutes, IsBasisAlone, IsBasisOfToursBy, IsBasisOfRoutesBy, IsBasisBy, IsBasisWith}
 use Rattle.tsp_verdict.specs.Bounded.{StandsAgainstTouring, StandsAgainstRouting, StandsAgainstBounded, IsBoundVerdict}
 use Rattle.tsp_verdict.specs.BranchesCertificate.{given_in, case_steps_in, families_with_numbers, HasBoundByBranches}
@@ -37,7 +37,6 @@ use Rattle.tsp_verdict.specs.Certified.{is_bounded, IsBoundBy, IsBoundOf, HasNoB
 use Rattle.tsp_verdict.specs.SolutionVerdict.{IsVerdictBy, IsVerdictOn, IsUnclaimedVerdict, IsFirstAgainstGiven, HasLength, IsOfLength, IsClaimedVerdict}
 use Rattle.tsp_verdict.specs.OneVerdict.{FilesHaveOneVerdict, FilesHaveOneBound, FilesHaveOneBasis, SolutionsHaveOneVerdict}
 use Rattle.tsp_verdict.specs.Plan.{total_of}
-use Rattle.tsp_cost.specs.ComputedProblems.{routing_of, capacity_of}
 use Rattle.tsp_verdict.specs.PotentialsCertificate.{IsBoundByNodes, IsBoundByDuals}
 use Rattle.tsp_verdict.specs.Routes.{StandsAgainstRoutes, IsPlanned, IsRoutesVerdict}
 use Rattle.tsp_verdict.specs.WalksCertificate.{unit_in, HasBoundByWalks}

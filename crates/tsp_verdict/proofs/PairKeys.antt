@@ -1,5 +1,5 @@
 -- The keys of a set of pairs: those of two pairs are equal exactly where the pairs are the same, with a direction or
--- without. For `taken_once` in src/fixed_decisions.rt and others.
+-- without. For `taken_once` in src/certificate.rt and others.
 use Rattle.std.proofs.Common.{◌≡◌, ℕ, ◌||◌, Bool, true, false, cond, eqb, leb, refl, sym, ap, ap₂, subst, ◌∙◌, inl, inr, arith}
 use Rattle.std.specs.Prelude.{◌⊎◌}
 use Rattle.std.specs.BTreeMap.{is_at}

@@ -1,5 +1,5 @@
 -- A set of pairs without direction, with one pair more, and whether a list of pairs has one of them. For
--- `first_repeated_pair` in src/multiplier_pairs.rt and others.
+-- `first_repeated_pair` in src/potentials.rt and others.
 use Rattle.std.proofs.Common.{◌≡◌, ℕ, ◌+◌, ◌-◌, ◌<◌, Bool, true, false, cond, eqb, List, [], length, take, get_or, refl, sym, ap, ap₂, subst, ◌∙◌, inl, inr, arith}
 use Rattle.std.specs.Prelude.{ℤ, pos}
 use Rattle.std.specs.BTreeSet.{BTreeSet, Updates, contains}

@@ -1,5 +1,5 @@
 -- Places in a plan: the nodes of its routes as one list, and the first place in it, found route by route. For
--- `first_larger_in` in src/visits.rt and others.
+-- `first_larger_in` in src/routes.rt and others.
 use Rattle.std.proofs.Common.{◌≡◌, ℕ, zero, suc, ◌+◌, ◌-◌, ◌<◌, ◌≤◌, List, [], ◌∷◌, ◌++◌, length, get_or, take, refl, sym, ap, subst, ◌∙◌, inl, inr, arith, length-append}
 use Rattle.std.specs.Prelude.{◌⊎◌, slice_index_or, map}
 use Rattle.std.specs.Global.{Vec}

@@ -1,5 +1,5 @@
 -- The length of a route, one link more at a time, and of a plan, one route more at a time. For `route_length` and
--- `plan_length` in src/route_lengths.rt.
+-- `plan_length` in src/routes.rt.
 use Rattle.std.proofs.Common.{◌≡◌, ℕ, suc, ◌+◌, ◌<◌, ◌≤◌, List, [], ◌∷◌, length, get_or, drop, map, sym, ap, subst, ◌∙◌, arith, to_z, of_z, drop-cons, add-one}
 use Rattle.std.specs.Prelude.{ℤ, pos, neg_ℤ, ◌+ℤ◌, ◌≤ℤ◌}
 use Rattle.std.specs.Int.{w64}

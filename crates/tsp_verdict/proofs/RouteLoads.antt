@@ -1,5 +1,5 @@
 -- The demand of a route and of all nodes, one node more at a time, and the least number of routes that carry it. For
--- `total` in src/loads.rt and others.
+-- `total` in src/routes.rt and others.
 use Rattle.std.proofs.Common.{◌≡◌, ℕ, zero, suc, ◌+◌, ◌-◌, ◌*◌, ◌/◌, ◌<◌, ◌≤◌, false, List, [], ◌∷◌, length, get_or, map, sym, ap, subst, ◌∙◌, arith, to_z, of_z, inl, inr}
 use Rattle.std.specs.Prelude.{◌⊎◌, slice_index_or, ℤ, pos, negsuc, nat_abs, int_lt, ◌+ℤ◌, ◌*ℤ◌, ◌≤ℤ◌}
 use Rattle.std.specs.Int.{w64}
@@ -10,7 +10,7 @@ use Rattle.std.proofs.lemmas.Int.{ints}
 use Rattle.std.proofs.Math.IntN.{+ℤ_assoc, +ℤ_idr}
 use Rattle.std.proofs.Math.Nat.{div-mul-le_self, lt-div-mul-add, mul-le-mul_right}
 use Rattle.tsp_format.specs.Limits.{most_demand}
-use Rattle.tsp_draft.specs.Valid.{IsDemand}
+use Rattle.tsp_file.specs.Valid.{IsDemand}
 use Rattle.tsp_theory.specs.Length.{sum_int_by}
 use Rattle.tsp_verdict.specs.Plan.{load_of, demand_of, IsLeastRoutes}
 

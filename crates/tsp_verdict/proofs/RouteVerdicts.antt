@@ -6,11 +6,11 @@ use Rattle.std.specs.List.{All, Contains}
 use Rattle.std.proofs.lemmas.Int.{ints}
 use Rattle.std.proofs.lemmas.Bool.{false≢true}
 use Rattle.tsp_format.specs.Nodes.{IsNode, nodes_to}
-use Rattle.tsp_draft.specs.Fields.{Fields, nodes_of}
-use Rattle.tsp_draft.specs.Valid.{IsDemand}
+use Rattle.tsp_file.specs.Fields.{Fields, nodes_of}
+use Rattle.tsp_file.specs.Valid.{IsDemand}
 use Rattle.tsp_file.specs.Cost.{cost}
-use Rattle.tsp_task.specs.declared.verdict.Verdict.TheVariants.{Routes}
-use Rattle.tsp_task.specs.declared.verdict.Reason.TheVariants.{DepotInRoute, NodeOutOfRange, RepeatedNode, Unserved, Overload}
+use Rattle.tsp_report.specs.declared.verdict.Verdict.TheVariants.{Routes}
+use Rattle.tsp_report.specs.declared.verdict.Reason.TheVariants.{DepotInRoute, NodeOutOfRange, RepeatedNode, Unserved, Overload}
 use Rattle.tsp_verdict.specs.states.Marks.{Marked}
 use Rattle.tsp_verdict.specs.Places.{IsFirstPlace, IsLarger, IsAt, IsAtEarlierPlace}
 use Rattle.tsp_cost.specs.ComputedProblems.{routing_of, demands_of, capacity_of}

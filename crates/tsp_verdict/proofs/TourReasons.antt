@@ -1,10 +1,10 @@
 -- After each test that finds nothing, the reasons against a tour up to that test are ruled out. For
--- `Subject::verdict_on_tour` in src/subject.rt.
+-- `Subject::verdict_on_tour` in src/solution_verdict.rt.
 use Rattle.std.proofs.Common.{◌≡◌, ℕ, length, Some, arith}
-use Rattle.tsp_draft.specs.Fields.{Fields, nodes_of}
+use Rattle.tsp_file.specs.Fields.{Fields, nodes_of}
 use Rattle.tsp_cost.specs.ComputedProblems.{is_directed}
-use Rattle.tsp_task.specs.declared.verdict.Reason.{Reason}
-use Rattle.tsp_task.specs.declared.verdict.Reason.TheVariants.{Dimension, TourCount, TourLength, NodeOutOfRange, RepeatedNode, FixedEdgeUnused, NotPotentials, PotentialsDimension, PotentialsKind, MultiplierNotFixed, MultiplierRepeated, DualInfeasible, DepotCount, DepotDemand, FixedEdgesInRoutes, DepotInRoute, Unserved, Overload, NotBranches, BranchesDimension, BadComb, BadBranch, BranchTwice, BadLeaf, TooManyLoads, LengthClaimed, NotJudged}
+use Rattle.tsp_report.specs.declared.verdict.Reason.{Reason}
+use Rattle.tsp_report.specs.declared.verdict.Reason.TheVariants.{Dimension, TourCount, TourLength, NodeOutOfRange, RepeatedNode, FixedEdgeUnused, NotPotentials, PotentialsDimension, PotentialsKind, MultiplierNotFixed, MultiplierRepeated, DualInfeasible, DepotCount, DepotDemand, FixedEdgesInRoutes, DepotInRoute, Unserved, Overload, NotBranches, BranchesDimension, BadComb, BadBranch, BranchTwice, BadLeaf, TooManyLoads, LengthClaimed, NotJudged}
 use Rattle.tsp_verdict.specs.Places.{IsFirstPlace, IsLarger, IsAtEarlierPlace, IsUnused}
 use Rattle.tsp_file.specs.Defaults.{fixed_of}
 use Rattle.tsp_verdict.specs.Solution.{visited, tours_of}

@@ -5,13 +5,13 @@ use Rattle.std.specs.Prelude.{ℤ}
 use Rattle.std.specs.Global.{Vec}
 use Rattle.std.specs.List.{All, concat}
 use Rattle.std.proofs.lemmas.List.{append-nil}
-use Rattle.tsp_draft.specs.Fields.{Fields, nodes_of}
+use Rattle.tsp_file.specs.Fields.{Fields, nodes_of}
 use Rattle.tsp_file.specs.Cost.{cost}
 use Rattle.tsp_theory.specs.Length.{length_of}
 use Rattle.tsp_cost.specs.ComputedProblems.{is_directed, IsTourOf}
 use Rattle.tsp_theory.specs.Cycle.{IsCycle, Uses}
-use Rattle.tsp_task.specs.declared.verdict.Reason.{Reason}
-use Rattle.tsp_task.specs.declared.verdict.Reason.TheVariants.{NodeOutOfRange, RepeatedNode, FixedEdgeUnused, TourCount}
+use Rattle.tsp_report.specs.declared.verdict.Reason.{Reason}
+use Rattle.tsp_report.specs.declared.verdict.Reason.TheVariants.{NodeOutOfRange, RepeatedNode, FixedEdgeUnused, TourCount}
 use Rattle.tsp_verdict.specs.Places.{IsFirstPlace, HoldsAtNone, IsLarger, IsAtEarlierPlace, IsUnused}
 use Rattle.tsp_file.specs.Defaults.{fixed_of}
 use Rattle.tsp_verdict.specs.Solution.{visited, tours_of}

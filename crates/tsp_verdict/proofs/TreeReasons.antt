@@ -1,5 +1,5 @@
 -- Reasons against a certificate by branching, ruled out one by one, and its bound. For `judge_tree` in
--- src/branching_bound.rt and others.
+-- src/certificate.rt and others.
 use Rattle.std.proofs.Common.{◌≡◌, ◌≢◌, ◌∙◌, ℕ, ◌-◌, ◌<◌, ◌≤◌, Bool, true, false, List, [], ◌∷◌, get_or, length, inl, inr, refl, sym, ap, subst, subst₂, arith}
 use Rattle.std.specs.Prelude.{◌⊎◌, Option, None, Some, unwrap_or, ℤ}
 use Rattle.std.specs.Global.{Vec}
@@ -11,29 +11,29 @@ use Rattle.std.proofs.lemmas.List.Elements.{recursion_from_All}
 use Rattle.tsp_format.specs.declared.kinds.Kind.{Kind}
 use Rattle.tsp_format.specs.declared.kinds.Kind.TheVariants as kinds
 use Rattle.tsp_format.specs.Steps as listed
-use Rattle.tsp_draft.specs.Fields.{Fields, nodes_of}
-use Rattle.tsp_draft.specs.states.Drafts.{combs_of as lists_of_combs}
-use Rattle.tsp_draft.specs.Rules.{is_branches_file}
+use Rattle.tsp_file.specs.Fields.{Fields, nodes_of}
+use Rattle.tsp_file.specs.states.Drafts.{combs_of as lists_of_combs}
+use Rattle.tsp_file.specs.Rules.{is_branches_file}
 use Rattle.tsp_file.specs.Cost.{cost}
 use Rattle.tsp_theory.specs.Costs.{IsSymmetric}
 use Rattle.tsp_theory.specs.Tour.{BoundsTours, HasNoTour}
 use Rattle.tsp_cost.specs.ComputedProblems.{is_directed, problem_of, IsTourOf}
 use Rattle.tsp_theory.specs.CertificateNumbers.{IsScale, IsBoundSized}
-use Rattle.tsp_branch.specs.declared.judged.BranchVerdict.{BranchVerdict}
-use Rattle.tsp_branch.specs.declared.judged.BranchVerdict.TheVariants as found
+use Rattle.tsp_branch.specs.declared.verdict.BranchVerdict.{BranchVerdict}
+use Rattle.tsp_branch.specs.declared.verdict.BranchVerdict.TheVariants as found
 use Rattle.tsp_branch.specs.BranchVerdicts.{IsBranchVerdict}
 use Rattle.tsp_cases.specs.BadBranches.{branch_pairs, IsFirstBadBranch}
 use Rattle.tsp_cases.specs.Cases.{decide}
 use Rattle.tsp_cases.specs.CaseTrees.{IsCaseTree, IsCaseTreeBound, AreCostsFor, BoundsIfAny, CaseTreesBoundCycles}
-use Rattle.tsp_families.specs.declared.family.Crossings.{Crossings}
+use Rattle.tsp_cases.specs.declared.family.Crossings.{Crossings}
 use Rattle.tsp_cases.specs.Families.{Family, IsFamily, NumbersAreUnique}
-use Rattle.tsp_cases.specs.declared.decision.Decision.{Decision}
+use Rattle.tsp_cases.specs.declared.open_case.Decision.{Decision}
 use Rattle.tsp_cases.specs.Decisions.{KeepsAll, take_pairs, decided_number}
 use Rattle.tsp_cases.specs.GoodFamilies.{IsGoodFamily, IsFirstBadFamily, AreFamilies}
 use Rattle.tsp_cases.specs.Listed.{leaf_changes, listed_steps, AreGoodLeaves, IsFirstBadLeaf}
 use Rattle.tsp_cases.specs.Twice.{branches_of_cases, IsFirstTwice}
-use Rattle.tsp_task.specs.declared.verdict.Reason.{Reason}
-use Rattle.tsp_task.specs.declared.verdict.Reason.TheVariants.{NotBranches, BranchesDimension, BadComb, BadBranch, BranchTwice, BadLeaf, TooManyLoads}
+use Rattle.tsp_report.specs.declared.verdict.Reason.{Reason}
+use Rattle.tsp_report.specs.declared.verdict.Reason.TheVariants.{NotBranches, BranchesDimension, BadComb, BadBranch, BranchTwice, BadLeaf, TooManyLoads}
 use Rattle.tsp_file.specs.Defaults.{scale_in, fixed_of, families_listed}
 use Rattle.tsp_verdict.specs.Places.{IsFirstPlace}
 use Rattle.tsp_verdict.specs.Reasons.{NoneBefore, IsFirstReason, rank_of}
@@ -42,7 +42,7 @@ use Rattle.tsp_verdict.specs.BranchesCertificate.{each_once, given_in, case_step
 use Rattle.tsp_verdict.specs.Certified.{IsBoundBy, HasNoBoundBy, HasNoBound, StandsAgainstCertificateBy, StandsAgainstCertificate, BoundsSolutionsBy, BoundsSolutions, HasNoSolutionBy, HasNoSolution, IsCertified}
 use Rattle.tsp_verdict.specs.WalksCertificate.{StandsAgainstWalks}
 use Rattle.tsp_verdict.proofs.ByType.{tree_either}
-use Rattle.tsp_task.specs.declared.certificate.Certificate.TheVariants.{Branches}
+use Rattle.tsp_report.specs.declared.task.Certificate.TheVariants.{Branches}
 use Rattle.tsp_verdict.proofs.CarriedBounds.{Same, fitting}
 use Rattle.tsp_verdict.proofs.GivenPairs.{keeps_given}
 use Rattle.tsp_verdict.proofs.FamiliesHold.{one_numbers}

@@ -1,4 +1,4 @@
--- Reasons against a certificate for routes, ruled out one by one, and its bound. For `judge_walks` in src/walks.rt.
+-- Reasons against a certificate for routes, ruled out one by one, and its bound. For `judge_walks` in src/routes.rt.
 use Rattle.std.proofs.Common.{◌≡◌, ◌∙◌, ℕ, ◌+◌, ◌-◌, ◌*◌, ◌<◌, ◌≤◌, true, List, [], ◌∷◌, length, refl, sym, ap, subst, arith, to_z, of_z}
 use Rattle.std.specs.Prelude.{FitsSigned, ◌^◌, unwrap_or, nat_abs, Option, None, Some, ℤ, pos}
 use Rattle.std.specs.List.{All, AllByRecursion}
@@ -7,33 +7,33 @@ use Rattle.std.proofs.lemmas.List.Elements.{All-from_recursion, recursion_from_A
 use Rattle.std.specs.Global.{Vec}
 use Rattle.std.specs.Int.{w64}
 use Rattle.std.proofs.lemmas.Int.{ints, to_z-of_z}
-use Rattle.tsp_draft.specs.states.Drafts.{combs_of}
+use Rattle.tsp_file.specs.states.Drafts.{combs_of}
 use Rattle.tsp_file.specs.Typed.{HoldsCases}
 use Rattle.tsp_format.specs.declared.kinds.Kind.TheVariants as kinds
 use Rattle.tsp_format.specs.Limits.{most_changes}
 use Rattle.tsp_format.specs.Steps.{Step, Branch, Leaf, change_count}
-use Rattle.tsp_draft.specs.Fields.{Fields, nodes_of}
-use Rattle.tsp_draft.specs.Rules.{is_branches_file}
-use Rattle.tsp_draft.specs.Valid.{IsStep, AreTreeSteps}
+use Rattle.tsp_file.specs.Fields.{Fields, nodes_of}
+use Rattle.tsp_file.specs.Rules.{is_branches_file}
+use Rattle.tsp_file.specs.Valid.{IsStep, AreTreeSteps}
 use Rattle.tsp_file.specs.Cost.{cost}
 use Rattle.tsp_file.specs.Defaults.{scale_in, families_listed}
 use Rattle.tsp_theory.specs.Routing.{RoutingProblem}
 use Rattle.tsp_theory.specs.CertificateNumbers.{IsBoundSized}
 use Rattle.tsp_cost.specs.ComputedProblems.{depot_of, demands_of, capacity_of, routing_of}
-use Rattle.tsp_families.specs.declared.family.Crossings.{Crossings}
+use Rattle.tsp_cases.specs.declared.family.Crossings.{Crossings}
 use Rattle.tsp_cases.specs.Listed.{leaf_changes}
-use Rattle.tsp_routing.specs.declared.judged.PlanVerdict.{PlanVerdict}
-use Rattle.tsp_routing.specs.declared.judged.PlanVerdict.TheVariants as found
+use Rattle.tsp_routing.specs.declared.verdict.PlanVerdict.{PlanVerdict}
+use Rattle.tsp_routing.specs.declared.verdict.PlanVerdict.TheVariants as found
 use Rattle.tsp_routing.specs.GoodSets.{IsFirstBadSet, AreCapacityCuts}
 use Rattle.tsp_routing.specs.GoodBranches.{AreGoodBranches, IsFirstBadPlanBranch}
 use Rattle.tsp_routing.specs.GoodLeaves.{AreGoodPlanLeaves, IsFirstBadPlanLeaf}
 use Rattle.tsp_routing.specs.states.Trees.{IsPlanStep}
 use Rattle.tsp_routing.specs.Loads.{AreUnits, room_in}
 use Rattle.tsp_routing.specs.PlanVerdicts.{routing_with, most_entries, HasTooManyLoads, IsBoundFound, IsPlanVerdict, VerdictBoundsPlans}
-use Rattle.tsp_task.specs.declared.certificate.Certificate.TheVariants.{Branches}
-use Rattle.tsp_task.specs.declared.verdict.BoundVerdict.TheVariants as bounds
-use Rattle.tsp_task.specs.declared.verdict.Reason.{Reason}
-use Rattle.tsp_task.specs.declared.verdict.Reason.TheVariants.{NotBranches, BranchesDimension, BadComb, BadBranch, BadLeaf, TooManyLoads}
+use Rattle.tsp_report.specs.declared.task.Certificate.TheVariants.{Branches}
+use Rattle.tsp_report.specs.declared.verdict.BoundVerdict.TheVariants as bounds
+use Rattle.tsp_report.specs.declared.verdict.Reason.{Reason}
+use Rattle.tsp_report.specs.declared.verdict.Reason.TheVariants.{NotBranches, BranchesDimension, BadComb, BadBranch, BadLeaf, TooManyLoads}
 use Rattle.tsp_verdict.specs.Certified.{IsBoundBy, HasNoBoundBy, BoundsSolutionsBy, HasNoSolutionBy, StandsAgainstCertificateBy, StandsAgainstCertificate, FindsBound}
 use Rattle.tsp_verdict.specs.Reasons.{rank_of, NoneBefore, IsFirstReason}
 use Rattle.tsp_verdict.specs.WalksCertificate.{unit_in, StandsAgainstWalks, HasBoundByWalks}

@@ -1,18 +1,18 @@
 -- The basis of all solutions of an instance, before any is read: their bound or their least number of routes, or the
 -- first reason that applies whatever the solution. And the verdict on a solution by a basis. For `judge_basis`
--- (src/comparison_basis.rt) and `judge_next` (src/solution_verdict.rt).
+-- (src/basis.rt) and `judge_next` (src/solution_verdict.rt).
 use Rattle.std.specs.Prelude.{◌≡◌, Option, None, Some, IsTrue, ℤ}
 use Rattle.tsp_format.specs.declared.kinds.Kind.{Kind}
 use Rattle.tsp_format.specs.declared.kinds.Kind.TheVariants as kinds
-use Rattle.tsp_draft.specs.Fields.{Fields}
+use Rattle.tsp_file.specs.Fields.{Fields}
 use Rattle.tsp_cost.specs.ComputedProblems.{capacity_of}
-use Rattle.tsp_task.specs.declared.basis.Basis.{Basis}
-use Rattle.tsp_task.specs.declared.basis.Basis.TheVariants as bases
-use Rattle.tsp_task.specs.declared.certificate.Certificate.{Certificate}
-use Rattle.tsp_task.specs.declared.verdict.BoundVerdict.TheVariants as bounds
-use Rattle.tsp_task.specs.declared.verdict.Reason.{Reason}
-use Rattle.tsp_task.specs.declared.verdict.Verdict.{Verdict}
-use Rattle.tsp_task.specs.declared.verdict.Verdict.TheVariants.{Tour, Routes, No}
+use Rattle.tsp_report.specs.declared.verdict.Basis.{Basis}
+use Rattle.tsp_report.specs.declared.verdict.Basis.TheVariants as bases
+use Rattle.tsp_report.specs.declared.task.Certificate.{Certificate}
+use Rattle.tsp_report.specs.declared.verdict.BoundVerdict.TheVariants as bounds
+use Rattle.tsp_report.specs.declared.verdict.Reason.{Reason}
+use Rattle.tsp_report.specs.declared.verdict.Verdict.{Verdict}
+use Rattle.tsp_report.specs.declared.verdict.Verdict.TheVariants.{Tour, Routes, No}
 use Rattle.tsp_verdict.specs.Bounded.{StandsAgainstTouring, NoneAgainstTouring, StandsAgainstRouting, NoneAgainstRouting, NoneAgainstInstance, IsBoundVerdict}
 use Rattle.tsp_verdict.specs.Certified.{NoneWithoutMemory}
 use Rattle.tsp_verdict.specs.SolutionVerdict.{is_judged, IsVerdictWith}

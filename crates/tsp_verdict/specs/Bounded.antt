@@ -1,18 +1,18 @@
 -- The verdict on an instance and a certificate without a solution: the first reason against either, or the
--- certificate's bound. For `judge_bound` (src/bound_verdict.rt), Basis.antt, and BoundRun.antt of tsp_judge.
+-- certificate's bound. For `judge_bound` (src/basis.rt), Basis.antt, and BoundRun.antt of tsp_judge.
 use Rattle.std.specs.Prelude.{◌≡◌, ◌≢◌, ◌⊎◌, ◌<◌, ◌≤◌, length, Option, Some, pos}
 use Rattle.tsp_format.specs.declared.kinds.Kind.{Kind}
 use Rattle.tsp_format.specs.declared.kinds.Kind.TheVariants as kinds
-use Rattle.tsp_draft.specs.Fields.{Fields, nodes_of}
+use Rattle.tsp_file.specs.Fields.{Fields, nodes_of}
 use Rattle.tsp_file.specs.Cost.{cost}
 use Rattle.tsp_theory.specs.Costs.{IsFirstAsymmetric}
 use Rattle.tsp_file.specs.Defaults.{fixed_of}
 use Rattle.tsp_cost.specs.ComputedProblems.{depots_of, demands_of}
-use Rattle.tsp_task.specs.declared.certificate.Certificate.{Certificate}
-use Rattle.tsp_task.specs.declared.verdict.BoundVerdict.{BoundVerdict}
-use Rattle.tsp_task.specs.declared.verdict.BoundVerdict.TheVariants as bounds
-use Rattle.tsp_task.specs.declared.verdict.Reason.{Reason}
-use Rattle.tsp_task.specs.declared.verdict.Reason.TheVariants.{TooFewNodes, NotSymmetric, DepotCount, DepotDemand, FixedEdgesInRoutes}
+use Rattle.tsp_report.specs.declared.task.Certificate.{Certificate}
+use Rattle.tsp_report.specs.declared.verdict.BoundVerdict.{BoundVerdict}
+use Rattle.tsp_report.specs.declared.verdict.BoundVerdict.TheVariants as bounds
+use Rattle.tsp_report.specs.declared.verdict.Reason.{Reason}
+use Rattle.tsp_report.specs.declared.verdict.Reason.TheVariants.{TooFewNodes, NotSymmetric, DepotCount, DepotDemand, FixedEdgesInRoutes}
 use Rattle.tsp_verdict.specs.Certified.{StandsAgainstCertificate, IsCertified, HasNoBound, HasNoSolution}
 use Rattle.tsp_verdict.specs.Plan.{demand_of, depot_of}
 use Rattle.tsp_verdict.specs.Reasons.{IsFirstReason}

@@ -1,26 +1,26 @@
 -- A certificate by branches for a TSP or an ATSP: when a reason applies to its file, and its bound. For `bound_of_tree`
--- (src/branching_bound.rt), through Certified.antt. WalksCertificate.antt has the same for routes.
+-- (src/certificate.rt), through Certified.antt. WalksCertificate.antt has the same for routes.
 use Rattle.std.specs.Prelude.{◌≡◌, ◌≢◌, ℕ, ◌-◌, Bool, false, not, List, [], ◌∷◌, length, filter, slice_index_or, Option, None, Some, ℤ}
 use Rattle.std.specs.List.{All}
 use Rattle.tsp_format.specs.Steps as listed
-use Rattle.tsp_draft.specs.Fields.{Fields, nodes_of}
-use Rattle.tsp_draft.specs.Rules.{is_branches_file}
+use Rattle.tsp_file.specs.Fields.{Fields, nodes_of}
+use Rattle.tsp_file.specs.Rules.{is_branches_file}
 use Rattle.tsp_file.specs.Defaults.{fixed_of, scale_in, families_listed}
 use Rattle.tsp_file.specs.Cost.{cost}
 use Rattle.tsp_cost.specs.ComputedProblems.{is_directed}
-use Rattle.tsp_families.specs.declared.family.Crossings.{Crossings}
+use Rattle.tsp_cases.specs.declared.family.Crossings.{Crossings}
 use Rattle.tsp_cases.specs.BadBranches.{IsFirstBadBranch}
 use Rattle.tsp_cases.specs.Families.{Family, IsFamily}
 use Rattle.tsp_cases.specs.FamiliesOfSets.{families_with}
 use Rattle.tsp_cases.specs.Cases.{CaseStep}
 use Rattle.tsp_cases.specs.CaseTrees.{IsCaseTree, IsCaseTreeBound}
-use Rattle.tsp_cases.specs.declared.decision.Decision.{Decision}
+use Rattle.tsp_cases.specs.declared.open_case.Decision.{Decision}
 use Rattle.tsp_cases.specs.Decisions.{take_pairs, is_same, decided_number}
 use Rattle.tsp_cases.specs.GoodFamilies.{IsGoodFamily}
 use Rattle.tsp_cases.specs.Listed.{listed_steps, IsFirstBadLeaf}
 use Rattle.tsp_cases.specs.Twice.{IsFirstTwice}
-use Rattle.tsp_task.specs.declared.verdict.Reason.{Reason}
-use Rattle.tsp_task.specs.declared.verdict.Reason.TheVariants.{NotBranches, BranchesDimension, BadComb, BadBranch, BranchTwice, BadLeaf}
+use Rattle.tsp_report.specs.declared.verdict.Reason.{Reason}
+use Rattle.tsp_report.specs.declared.verdict.Reason.TheVariants.{NotBranches, BranchesDimension, BadComb, BadBranch, BranchTwice, BadLeaf}
 use Rattle.tsp_verdict.specs.Places.{IsFirstPlace}
 
 -- ---- the cases, the steps and the families, by the fields of both files

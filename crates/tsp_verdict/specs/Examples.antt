@@ -1,12 +1,12 @@
--- Small instances, solutions and certificates. For the laws of src/examples.rt, src/verdict_examples.rt,
--- src/claim_examples.rt and src/strict.rt, which state the verdicts on them, and for src/run_examples.rt of tsp_judge.
+-- Small instances, solutions and certificates. For the laws of src/examples.rt, src/examples.rt,
+-- src/examples.rt and src/solution_verdict.rt, which state the verdicts on them, and for src/examples.rt of tsp_judge.
 use Rattle.std.specs.Prelude.{codes, ℕ, ◌<◌, List, [], ◌∷◌, Option, None, Some, ℤ, pos}
 use Rattle.tsp_format.specs.declared.kinds.Kind.{Kind}
 use Rattle.tsp_format.specs.declared.kinds.Kind.TheVariants as kinds
 use Rattle.tsp_format.specs.Steps.{Step, Branch, Leaf}
-use Rattle.tsp_draft.specs.Fields.{Fields, blank_fields}
+use Rattle.tsp_file.specs.Fields.{Fields, blank_fields}
 pub use Rattle.tsp_theory.specs.CycleExamples.{two, three, four}
-use Rattle.tsp_task.specs.declared.verdict.Reason.{Reason}
+use Rattle.tsp_report.specs.declared.verdict.Reason.{Reason}
 use Rattle.tsp_verdict.specs.Reasons.{rank_of}
 
 -- an instance with this many nodes and these fixed pairs

@@ -1,5 +1,5 @@
 -- Which multipliers of a file are on a pair that isn't fixed, or on the pair of an earlier one. For `first_outside` and
--- `first_repeated_pair` (src/multiplier_pairs.rt), and for PotentialsCertificate.antt.
+-- `first_repeated_pair` (src/potentials.rt), and for PotentialsCertificate.antt.
 use Rattle.std.specs.Prelude.{◌≡◌, ℕ, ◌-◌, ◌<◌, ◌≤◌, true, List, slice_index_or, ℤ, pos, ◌⊎◌}
 use Rattle.std.specs.List.{All, Contains}
 use Rattle.tsp_theory.specs.Adjusted.{pair_of, is_same_pair}

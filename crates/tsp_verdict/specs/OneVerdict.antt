@@ -1,11 +1,11 @@
 -- That files have one verdict, one bound and one basis, for every TYPE, certificate and claim. For the law
 -- `files_have_one_verdict` (src/one_verdict.rt).
 use Rattle.std.specs.Prelude.{◌≡◌, Option, ℤ}
-use Rattle.tsp_draft.specs.Fields.{Fields}
-use Rattle.tsp_task.specs.declared.basis.Basis.{Basis}
-use Rattle.tsp_task.specs.declared.certificate.Certificate.{Certificate}
-use Rattle.tsp_task.specs.declared.verdict.BoundVerdict.{BoundVerdict}
-use Rattle.tsp_task.specs.declared.verdict.Verdict.{Verdict}
+use Rattle.tsp_file.specs.Fields.{Fields}
+use Rattle.tsp_report.specs.declared.verdict.Basis.{Basis}
+use Rattle.tsp_report.specs.declared.task.Certificate.{Certificate}
+use Rattle.tsp_report.specs.declared.verdict.BoundVerdict.{BoundVerdict}
+use Rattle.tsp_report.specs.declared.verdict.Verdict.{Verdict}
 use Rattle.tsp_verdict.specs.Basis.{IsBasis, IsVerdictFrom}
 use Rattle.tsp_verdict.specs.Bounded.{IsBoundVerdict}
 use Rattle.tsp_verdict.specs.SolutionVerdict.{IsVerdictWith}

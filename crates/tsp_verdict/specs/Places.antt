@@ -1,5 +1,5 @@
 -- The first place of a list at which something holds; places count from 1. For `first_repeated` and `first_larger`
--- (src/first_places.rt), `first_overload` (src/loads.rt), and for the reasons with a place in Tours.antt and
+-- (src/tour.rt), `first_overload` (src/routes.rt), and for the reasons with a place in Tours.antt and
 -- Routes.antt.
 use Rattle.std.specs.Prelude.{◌≡◌, ℕ, ◌-◌, ◌<◌, ◌≤◌, Bool, List, length, slice_index, slice_index_or}
 use Rattle.tsp_theory.specs.Cycle.{Uses}

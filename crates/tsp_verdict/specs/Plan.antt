@@ -1,9 +1,9 @@
 -- Plans of routes of an instance: definitions of tsp_theory, tsp_cost and tsp_routing, re-exported, and the sum of all
--- demands. For Routes.antt, Certified.antt and Basis.antt, and for src/loads.rt.
+-- demands. For Routes.antt, Certified.antt and Basis.antt, and for src/routes.rt.
 use Rattle.std.specs.Prelude.{ℤ}
 use Rattle.std.specs.List.{All}
 use Rattle.tsp_format.specs.Nodes.{nodes_to}
-use Rattle.tsp_draft.specs.Fields.{Fields, nodes_of}
+use Rattle.tsp_file.specs.Fields.{Fields, nodes_of}
 use Rattle.tsp_cost.specs.ComputedProblems.{demands_of}
 use Rattle.tsp_verdict.specs.Solution.{visited}
 pub use Rattle.tsp_theory.specs.Routing.{demand_of, load_of, IsCustomer, IsPlan, plan_length, IsLeastRoutes}

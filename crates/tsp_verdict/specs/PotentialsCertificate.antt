@@ -1,16 +1,16 @@
 -- A certificate by potentials: when a reason applies to its file, and its bound, for a TSP by a least 1-tree, for an
--- ATSP by duals. For src/potentials_bound.rt, through Certified.antt.
+-- ATSP by duals. For src/potentials.rt, through Certified.antt.
 use Rattle.std.specs.Prelude.{◌≡◌, ◌≢◌, ℕ, Bool, false, ◌&&◌, List, [], Option, None, Some, is_some, ℤ}
 use Rattle.tsp_format.specs.declared.kinds.Kind.{Kind}
 use Rattle.tsp_format.specs.declared.kinds.Kind.TheVariants as kinds
-use Rattle.tsp_draft.specs.Fields.{Fields, nodes_of}
-use Rattle.tsp_draft.specs.Rules.{is_potentials_file}
+use Rattle.tsp_file.specs.Fields.{Fields, nodes_of}
+use Rattle.tsp_file.specs.Rules.{is_potentials_file}
 use Rattle.tsp_file.specs.Defaults.{fixed_of, scale_in, multipliers_in}
 use Rattle.tsp_file.specs.Cost.{cost}
 use Rattle.tsp_theory.specs.Assignment.{AreGood, IsFirstBroken, IsDualBound}
 use Rattle.tsp_theory.specs.Adjusted.{IsAdjustedBound}
-use Rattle.tsp_task.specs.declared.verdict.Reason.{Reason}
-use Rattle.tsp_task.specs.declared.verdict.Reason.TheVariants.{NotPotentials, PotentialsDimension, PotentialsKind, MultiplierNotFixed, MultiplierRepeated, DualInfeasible}
+use Rattle.tsp_report.specs.declared.verdict.Reason.{Reason}
+use Rattle.tsp_report.specs.declared.verdict.Reason.TheVariants.{NotPotentials, PotentialsDimension, PotentialsKind, MultiplierNotFixed, MultiplierRepeated, DualInfeasible}
 use Rattle.tsp_verdict.specs.Multiplied.{IsUnlisted, IsPairRepeated}
 use Rattle.tsp_verdict.specs.Places.{IsFirstPlace}
 

@@ -2,7 +2,7 @@
 -- for `the_tour` (src/tour.rt).
 use Rattle.std.specs.Prelude.{ℕ, List, [], unwrap_or}
 use Rattle.std.specs.List.{concat}
-use Rattle.tsp_draft.specs.Fields.{Fields}
+use Rattle.tsp_file.specs.Fields.{Fields}
 
 -- the tours, or routes; of a file without any there is a reason before these are judged
 abbrev pub tours_of : Fields → List (List ℕ)

@@ -3,13 +3,13 @@
 use Rattle.std.specs.Prelude.{◌≡◌, ◌≢◌, ◌⊎◌, Bool, Option, None, Some, ℤ}
 use Rattle.tsp_format.specs.declared.kinds.Kind.{Kind}
 use Rattle.tsp_format.specs.declared.kinds.Kind.TheVariants as kinds
-use Rattle.tsp_draft.specs.Fields.{Fields}
-use Rattle.tsp_draft.specs.Rules.{is_instance}
-use Rattle.tsp_task.specs.declared.certificate.Certificate.{Certificate}
-use Rattle.tsp_task.specs.declared.verdict.Reason.{Reason}
-use Rattle.tsp_task.specs.declared.verdict.Reason.TheVariants.{LengthClaimed}
-use Rattle.tsp_task.specs.declared.verdict.Verdict.{Verdict}
-use Rattle.tsp_task.specs.declared.verdict.Verdict.TheVariants.{Tour, Routes, No}
+use Rattle.tsp_file.specs.Fields.{Fields}
+use Rattle.tsp_file.specs.Rules.{is_instance}
+use Rattle.tsp_report.specs.declared.task.Certificate.{Certificate}
+use Rattle.tsp_report.specs.declared.verdict.Reason.{Reason}
+use Rattle.tsp_report.specs.declared.verdict.Reason.TheVariants.{LengthClaimed}
+use Rattle.tsp_report.specs.declared.verdict.Verdict.{Verdict}
+use Rattle.tsp_report.specs.declared.verdict.Verdict.TheVariants.{Tour, Routes, No}
 use Rattle.tsp_verdict.specs.Certified.{is_bounded, StandsAgainstCertificate, IsCertifiedVerdict}
 use Rattle.tsp_verdict.specs.Reasons.{IsFirstReason}
 use Rattle.tsp_verdict.specs.Routes.{IsRoutesVerdict, NoneOfRoutesBeforeRepeats}

@@ -1,13 +1,13 @@
 -- A certificate by branches for routes: when a reason applies to its file, and its bound by least walks. For
--- `judge_walks` (src/walks.rt), through Certified.antt.
+-- `judge_walks` (src/routes.rt), through Certified.antt.
 use Rattle.std.specs.Prelude.{◌≡◌, ◌≢◌, ℕ, false, nat_abs, List, length, Option, Some, ℤ}
 use Rattle.tsp_format.specs.Steps as listed
-use Rattle.tsp_draft.specs.Fields.{Fields, nodes_of}
-use Rattle.tsp_draft.specs.Rules.{is_branches_file}
+use Rattle.tsp_file.specs.Fields.{Fields, nodes_of}
+use Rattle.tsp_file.specs.Rules.{is_branches_file}
 use Rattle.tsp_file.specs.Defaults.{scale_in, load_unit_in, families_listed}
 use Rattle.tsp_cost.specs.ComputedProblems.{depot_of, routing_of}
-use Rattle.tsp_task.specs.declared.verdict.Reason.{Reason}
-use Rattle.tsp_task.specs.declared.verdict.Reason.TheVariants.{NotBranches, BranchesDimension, BadComb, BadBranch, BadLeaf, TooManyLoads}
+use Rattle.tsp_report.specs.declared.verdict.Reason.{Reason}
+use Rattle.tsp_report.specs.declared.verdict.Reason.TheVariants.{NotBranches, BranchesDimension, BadComb, BadBranch, BadLeaf, TooManyLoads}
 use Rattle.tsp_routing.specs.GoodSets.{IsFirstBadSet}
 use Rattle.tsp_routing.specs.GoodBranches.{IsFirstBadPlanBranch}
 use Rattle.tsp_routing.specs.GoodLeaves.{IsFirstBadPlanLeaf}

@@ -3,7 +3,7 @@
 
 ghost use Rattle.std.specs.Prelude.{◌≡◌, ◌⊎◌, Some, MatchResult};
 ghost use Rattle.tsp_format.specs.declared.kinds.Kind.TheVariants as kinds;
-ghost use Rattle.tsp_task.specs.declared.certificate.Certificate.TheVariants as certificates;
+ghost use Rattle.tsp_report.specs.declared.task.Certificate.TheVariants as certificates;
 ghost use Rattle.tsp_verdict.specs.Certified.{IsCertifiedVerdict};
 ghost use Rattle.tsp_verdict.specs.Routes.{IsRoutesVerdict, NoneOfRoutesBeforeRepeats};
 ghost use Rattle.tsp_verdict.specs.Tours.{IsTourVerdict, NoneOfTourBeforeRepeats};
@@ -12,7 +12,7 @@ use crate::solution_verdict::judge;
 use std::alloc::{AllocError, Global};
 use tsp_cost::Instance;
 use tsp_file::File;
-use tsp_task::{Certificate, Verdict};
+use tsp_report::{Certificate, Verdict};
 
 /// The verdict on a solution of an instance of TYPE TSP or ATSP: rejected with the first reason
 /// against it, or accepted, where the solution is one tour of the instance, with its length.

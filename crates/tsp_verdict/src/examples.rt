@@ -1,24 +1,72 @@
-//! Laws that state values of the definitions in `specs/`, worked out by hand: when each reason
-//! against small tours, routes and certificates applies, and in which order.
+//! Laws that state values of the definitions in `specs/`, worked out by hand: the verdict on a
+//! solution with a claimed length, and fixed arcs as decisions.
 
-ghost use Rattle.std.specs.Prelude.{◌≡◌, ℕ, ◌+◌, ◌*◌, [], ◌∷◌, None, Some, pos, negsuc};
-ghost use Rattle.tsp_format.specs.declared.kinds.Kind.TheVariants as kinds;
+ghost use Rattle.std.specs.Prelude.{◌≡◌, ◌∷◌, [], None, Some, pos, negsuc, ℕ, ◌+◌, ◌*◌, ◌<◌, Option, ℤ, ◌+ℤ◌, ◌*ℤ◌, ◌<ℤ◌};
 ghost use Rattle.tsp_format.specs.Steps.{Branch, Leaf};
-ghost use Rattle.tsp_draft.specs.Fields.{Fields};
-ghost use Rattle.tsp_cases.specs.Examples.{with_pair};
-ghost use Rattle.tsp_task.specs.declared.verdict.Reason.TheVariants as reasons;
-ghost use Rattle.tsp_task.specs.declared.verdict.Verdict.TheVariants as verdicts;
-ghost use Rattle.tsp_task.specs.declared.certificate.Certificate.TheVariants as certificates;
-ghost use Rattle.tsp_verdict.specs.Bounded.{StandsAgainstInstance};
-ghost use Rattle.tsp_verdict.specs.Certified.{StandsAgainstCertificate, NoneWithoutMemory};
-ghost use Rattle.tsp_verdict.specs.SolutionVerdict.{IsAsClaimed, IsOtherClaimed, HasLength, HasNoLength};
-ghost use Rattle.tsp_verdict.specs.Plan.{IsPlanOf, IsLeastRoutes, plan_length, total_of};
-ghost use Rattle.tsp_verdict.specs.Tours.{StandsAgainstTour, NoneOfTourBeforeRepeats};
-ghost use Rattle.tsp_verdict.specs.Routes.{StandsAgainstRoutes, NoneOfRoutesBeforeRepeats};
-ghost use Rattle.tsp_verdict.specs.PotentialsCertificate.{StandsAgainstPotentials};
+ghost use Rattle.tsp_format.specs.declared.kinds.Kind.TheVariants as kinds;
+ghost use Rattle.tsp_file.specs.Cost.{cost};
 ghost use Rattle.tsp_file.specs.Defaults.{scale_in};
-ghost use Rattle.tsp_verdict.specs.BranchesCertificate.{StandsAgainstBranches, given_in};
-ghost use Rattle.tsp_verdict.specs.Examples.{of_nodes, of_rows, of_both, multiplying, instance_with, vehicles, carrying, solution, sized, lone, both, two, three, four, branching, two_leaves, three_leaves, node_twice, IsJudgedBefore};
+ghost use Rattle.tsp_file.specs.Fields.{Fields, nodes_of};
+ghost use Rattle.tsp_theory.specs.Adjusted.{IsAdjustedBound};
+ghost use Rattle.tsp_theory.specs.CertificateNumbers.{entry};
+ghost use Rattle.tsp_cost.specs.ComputedProblems.{is_directed, depot_of, capacity_of};
+ghost use Rattle.tsp_cases.specs.CaseTrees.{IsCaseTreeBound};
+ghost use Rattle.tsp_cases.specs.Decisions.{decided_number};
+ghost use Rattle.tsp_cases.specs.Examples.{with_pair};
+ghost use Rattle.tsp_verdict.specs.Basis.{IsBasisOfRoutes};
+ghost use Rattle.tsp_verdict.specs.Bounded.{StandsAgainstInstance, StandsAgainstTouring, StandsAgainstRouting};
+ghost use Rattle.tsp_verdict.specs.BranchesCertificate.{given_in, StandsAgainstBranches, HasBoundByBranches, case_steps_in};
+ghost use Rattle.tsp_verdict.specs.Certified.{StandsAgainstCertificate, NoneWithoutMemory, IsCertifiedTourVerdict, IsCertifiedRoutesVerdict};
+ghost use Rattle.tsp_verdict.specs.Examples.{instance_with, of_nodes, of_rows, of_both, multiplying, vehicles, carrying, solution, sized, lone, both, two, three, four, branching, two_leaves, three_leaves, node_twice, IsJudgedBefore, halves_of_nodes, halves_of_rows, halves_of_leaf, bad_leaves};
+ghost use Rattle.tsp_verdict.specs.Plan.{IsPlanOf, IsLeastRoutes, plan_length, total_of};
+ghost use Rattle.tsp_verdict.specs.PotentialsCertificate.{StandsAgainstPotentials, IsBoundByNodes, IsBoundByDuals};
+ghost use Rattle.tsp_verdict.specs.Routes.{StandsAgainstRoutes, NoneOfRoutesBeforeRepeats, IsRoutesVerdict};
+ghost use Rattle.tsp_verdict.specs.SolutionVerdict.{IsAsClaimed, IsOtherClaimed, IsOfLength, IsVerdictOn, IsVerdictWith, HasLength, HasNoLength};
+ghost use Rattle.tsp_verdict.specs.Tours.{StandsAgainstTour, NoneOfTourBeforeRepeats, IsTourVerdict};
+ghost use Rattle.tsp_report.specs.declared.task.Certificate.{Certificate};
+ghost use Rattle.tsp_report.specs.declared.task.Certificate.TheVariants as certificates;
+ghost use Rattle.tsp_report.specs.declared.verdict.Basis.TheVariants as bases;
+ghost use Rattle.tsp_report.specs.declared.verdict.Reason.TheVariants as reasons;
+ghost use Rattle.tsp_report.specs.declared.verdict.Verdict.TheVariants as verdicts;
+
+/// A claim above the length, and one below it, are both other claims.
+pub fn examples_of_other_claims()
+    ensures above { ¬ IsAsClaimed (Some (pos 15)) (pos 14) }
+    ensures below { ¬ IsAsClaimed (Some (pos 13)) (pos 14) }
+    ensures above_is_other { IsOtherClaimed (Some (pos 15)) (pos 14) }
+    ensures below_is_other { IsOtherClaimed (Some (pos 13)) (pos 14) }
+    ensures below_zero { ¬ IsAsClaimed (Some (negsuc 13)) (pos 14) }
+{}
+
+/// The verdict on a solution whose length is 14. The reason tells that length, not the claim.
+pub fn examples_of_claimed_verdicts()
+    ensures above { (instance solution : Fields)
+        → IsOfLength instance solution (pos 14) → IsVerdictWith None
+        (Some (pos 15)) instance solution (verdicts.No (reasons.LengthClaimed (pos 14))) }
+    ensures below { (instance solution : Fields)
+        → IsOfLength instance solution (pos 14) → IsVerdictWith None
+        (Some (pos 13)) instance solution (verdicts.No (reasons.LengthClaimed (pos 14))) }
+    ensures same { (instance solution : Fields)
+        → IsVerdictOn instance solution (verdicts.Tour (pos 14) None)
+        → IsVerdictWith None (Some (pos 14)) instance solution (verdicts.Tour (pos 14) None) }
+    ensures not_above { (instance solution : Fields)
+        → ¬ IsVerdictWith None (Some (pos 15)) instance solution (verdicts.Tour (pos 14) None) }
+    ensures not_below { (instance solution : Fields)
+        → ¬ IsVerdictWith None (Some (pos 13)) instance solution (verdicts.Routes (pos 14) 3 2 None) }
+    ensures unclaimed { (instance solution : Fields)
+        → IsVerdictOn instance solution (verdicts.Tour (pos 14) None)
+        → IsVerdictWith None None instance solution (verdicts.Tour (pos 14) None) }
+{}
+
+/// Two fixed arcs in opposite directions are two decisions, and two fixed edges are one.
+pub fn examples_of_fixed_arcs()
+    ensures arcs { given_in (instance_with kinds.Atsp 4 ((1, 2) ∷ (2, 1) ∷ []))
+        ≡ with_pair 1 2 ∷ with_pair 2 1 ∷ [] }
+    ensures same_arc { given_in (instance_with kinds.Atsp 4 ((1, 2) ∷ (1, 2) ∷ [])) ≡ with_pair 1 2 ∷ [] }
+    ensures one_head { given_in (instance_with kinds.Atsp 4 ((1, 2) ∷ (3, 2) ∷ []))
+        ≡ with_pair 1 2 ∷ with_pair 3 2 ∷ [] }
+    ensures edges { given_in (instance_with kinds.Tsp 4 ((1, 2) ∷ (2, 1) ∷ [])) ≡ with_pair 1 2 ∷ [] }
+{}
 
 /// The order in which reasons against a tour, and then against its certificate, are judged: each
 /// pair of neighbours.
@@ -264,4 +312,98 @@ pub fn examples_of_multipliers()
         (multiplying ((1, 2, pos 5) ∷ (2, 1, pos 7) ∷ [])) (reasons.MultiplierRepeated 2) }
     ensures of_an_atsp { ¬ StandsAgainstPotentials (instance_with kinds.Atsp 4
         ((1, 2) ∷ [])) (multiplying ((1, 3, pos 5) ∷ [])) (reasons.MultiplierNotFixed 1) }
+{}
+
+/// The length of an accepted tour of three nodes, with a certificate and without one, and that of
+/// two routes from node 2, with their number.
+pub fn examples_of_accepted()
+    ensures tour { (inst : Fields) (found : ℤ) (bound : Option ℤ)
+        → IsTourVerdict inst (lone (three 1 2 3)) (verdicts.Tour found bound)
+        → found ≡ cost inst 1 2 +ℤ cost inst 2 3 +ℤ cost inst 3 1 }
+    ensures certified { (by : Certificate) (inst cert : Fields) (found : ℤ) (bound : Option ℤ)
+        → IsCertifiedTourVerdict by inst (lone (three 1 2 3)) cert (verdicts.Tour found bound)
+        → found ≡ cost inst 1 2 +ℤ cost inst 2 3 +ℤ cost inst 3 1 }
+    ensures routes { (inst : Fields) (found : ℤ) (routes least : ℕ) → depot_of inst ≡ 2
+        → IsRoutesVerdict inst (both (two 3 1) (4 ∷ [])) (verdicts.Routes found routes least None)
+        → found ≡ cost inst 2 3 +ℤ cost inst 3 1 +ℤ cost inst 1 2 +ℤ cost inst 2 4 +ℤ cost inst 4 2 }
+    ensures certified_routes { (by : Certificate) (inst cert : Fields) (found : ℤ) (routes least : ℕ)
+        (bound : Option ℤ) → depot_of inst ≡ 2
+        → IsCertifiedRoutesVerdict by inst (both (two 3 1) (4 ∷ [])) cert (verdicts.Routes found routes least bound)
+        → found ≡ cost inst 2 3 +ℤ cost inst 3 1 +ℤ cost inst 1 2 +ℤ cost inst 2 4 +ℤ cost inst 4 2 }
+    ensures number { (inst : Fields) (found : ℤ) (routes least : ℕ)
+        → IsRoutesVerdict inst (both (two 3 1) (4 ∷ [])) (verdicts.Routes found routes least None)
+        → routes ≡ 2 }
+    ensures least { (inst : Fields) (found : ℤ) (routes least : ℕ)
+        → total_of inst ≡ pos 12 → capacity_of inst ≡ pos 8
+        → IsRoutesVerdict inst (both (two 3 1) (4 ∷ [])) (verdicts.Routes found routes least None)
+        → least ≡ 2 }
+{}
+
+/// When the reasons against routes apply whose depot is node 2.
+pub fn examples_of_depots()
+    ensures demand { StandsAgainstRoutes (vehicles (2 ∷ []) (pos 0) (pos 4) (pos 8))
+        (solution []) reasons.DepotDemand }
+    ensures demand_of_node_1 { ¬ StandsAgainstRoutes (vehicles (2 ∷ []) (pos 4) (pos 0) (pos 8))
+        (solution []) reasons.DepotDemand }
+    ensures in_a_route { StandsAgainstRoutes (vehicles (2 ∷ []) (pos 4) (pos 0) (pos 8))
+        (lone (three 1 2 3)) (reasons.DepotInRoute 2) }
+    ensures node_1_in_a_route { ¬ StandsAgainstRoutes
+        (vehicles (2 ∷ []) (pos 4) (pos 0) (pos 8)) (lone (three 1 2 3)) (reasons.DepotInRoute 1) }
+    ensures unserved { StandsAgainstRoutes (vehicles (2 ∷ []) (pos 4) (pos 0) (pos 8))
+        (lone (two 3 4)) (reasons.Unserved 1) }
+{}
+
+/// When the reasons against an instance of routes apply, whatever the routes.
+pub fn examples_against_routing()
+    ensures one_node { StandsAgainstRouting (instance_with kinds.Cvrp 1 []) reasons.TooFewNodes }
+    ensures two_nodes { ¬ StandsAgainstRouting (instance_with kinds.Cvrp 2 []) reasons.TooFewNodes }
+    ensures no_depot { StandsAgainstRouting (vehicles [] (pos 0) (pos 4) (pos 8)) reasons.DepotCount }
+    ensures two_depots { StandsAgainstRouting (vehicles (two 1 1) (pos 0) (pos 4) (pos 8))
+        reasons.DepotCount }
+    ensures one_depot { ¬ StandsAgainstRouting (carrying (pos 8)) reasons.DepotCount }
+    ensures demand { StandsAgainstRouting (vehicles (2 ∷ []) (pos 0) (pos 4) (pos 8))
+        reasons.DepotDemand }
+    ensures demand_of_node_1 { ¬ StandsAgainstRouting (vehicles (2 ∷ []) (pos 4) (pos 0) (pos 8))
+        reasons.DepotDemand }
+    ensures fixed { StandsAgainstRouting (instance_with kinds.Cvrp 4 ((2, 3) ∷ [])) reasons.FixedEdgesInRoutes }
+    ensures not_fixed { ¬ StandsAgainstRouting (instance_with kinds.Cvrp 4 []) reasons.FixedEdgesInRoutes }
+    ensures no_solution { ¬ StandsAgainstRouting (instance_with kinds.Cvrp 4 []) reasons.NotASolution }
+    ensures least { (inst : Fields) (least : ℕ) → total_of inst ≡ pos 12 → capacity_of inst ≡ pos 8
+        → IsBasisOfRoutes inst (bases.Routes least None) → least ≡ 2 }
+{}
+
+/// Which of two nodes a reason names first: the smaller one of a pair with two costs, and the row
+/// of duals that sum to more than a cost.
+pub fn examples_of_pairs()
+    ensures of_a_tour { (inst sol : Fields) (i j : ℕ)
+        → StandsAgainstTour inst sol (reasons.NotSymmetric i j) → i < j }
+    ensures of_an_instance { (inst : Fields) (i j : ℕ)
+        → StandsAgainstTouring inst (reasons.NotSymmetric i j) → i < j }
+    ensures of_duals { (inst : Fields) (i j : ℕ)
+        → StandsAgainstPotentials inst halves_of_rows (reasons.DualInfeasible i j)
+        → (pos 2 *ℤ cost inst i j) <ℤ (entry (pos 1 ∷ pos 2 ∷ pos 4 ∷ []) i
+        +ℤ entry (pos 0 ∷ pos 1 ∷ pos 1 ∷ []) j) }
+{}
+
+/// The bound that a certificate gives: its scale, its numbers and its multipliers count. Duals of
+/// 1, 2 and 4 halves by rows, and of 0, 1 and 1 by columns, sum to 9 halves.
+pub fn examples_of_bounds()
+    ensures nodes { (inst : Fields) (bound : ℤ) → IsBoundByNodes inst halves_of_nodes bound
+        → IsAdjustedBound (nodes_of inst) (cost inst) (pos 2) (pos 1 ∷ pos 0 ∷ pos 3 ∷ [])
+        ((1, 2, pos 5) ∷ []) [] bound }
+    ensures duals { (inst : Fields) (bound : ℤ) → IsBoundByDuals inst halves_of_rows bound
+        → bound ≡ pos 5 }
+    ensures branches { (inst : Fields) (found : Option ℤ) → HasBoundByBranches inst halves_of_leaf found
+        → IsCaseTreeBound (is_directed inst.kind) (nodes_of inst) (cost inst) (pos 2)
+        decided_number [] (given_in inst) (case_steps_in inst halves_of_leaf (Leaf [] ∷ [])) found }
+{}
+
+/// The first of two customers that no route serves, and the first of two bad leaves.
+pub fn examples_of_first_reasons()
+    ensures unserved { StandsAgainstRoutes (carrying (pos 8)) (lone (2 ∷ [])) (reasons.Unserved 3) }
+    ensures unserved_later { ¬ StandsAgainstRoutes
+        (carrying (pos 8)) (lone (2 ∷ [])) (reasons.Unserved 4) }
+    ensures leaf { StandsAgainstBranches (instance_with kinds.Tsp 4 []) (branching 4 [] bad_leaves) (reasons.BadLeaf 1) }
+    ensures leaf_later { ¬ StandsAgainstBranches
+        (instance_with kinds.Tsp 4 []) (branching 4 [] bad_leaves) (reasons.BadLeaf 2) }
 {}

@@ -12,54 +12,30 @@
 #![tactic(auto)]
 
 mod asked_verdicts;
-mod bound_verdict;
-mod branching_bound;
-mod certificate_bound;
-mod claim_examples;
-mod comparison_basis;
+mod basis;
+mod certificate;
 mod examples;
-mod files;
-mod first_places;
-mod fixed;
-mod fixed_decisions;
-mod length_claim;
-mod loads;
-mod multiplier_pairs;
 mod one_verdict;
-mod pairs;
-mod potentials_bound;
-mod route_lengths;
+mod potentials;
 mod routes;
 mod solution_verdict;
-mod strict;
-mod subject;
 mod tour;
-mod tour_basis;
-mod verdict_examples;
-mod visits;
-mod walks;
 
 pub use asked_verdicts::{judge_routes, judge_tour, judge_tour_bound, judge_tour_branches};
-pub use bound_verdict::judge_bound;
-pub use certificate_bound::is_bounded;
-pub use claim_examples::{
-    examples_of_claimed_verdicts, examples_of_fixed_arcs, examples_of_other_claims,
-};
-pub use comparison_basis::{basis_alone, basis_of, judge_basis};
+pub use basis::{basis_alone, basis_of, judge_basis, judge_bound};
+pub use certificate::is_bounded;
 pub use examples::{
     examples_against_certificates, examples_against_instances, examples_against_routes,
-    examples_against_tours, examples_against_trees, examples_of_claims,
-    examples_of_dimensions_of_routes, examples_of_multipliers, examples_of_order,
-    examples_of_order_of_routes, examples_of_plans, examples_of_reasons_before_memory,
+    examples_against_routing, examples_against_tours, examples_against_trees, examples_of_accepted,
+    examples_of_bounds, examples_of_claimed_verdicts, examples_of_claims, examples_of_depots,
+    examples_of_dimensions_of_routes, examples_of_first_reasons, examples_of_fixed_arcs,
+    examples_of_multipliers, examples_of_order, examples_of_order_of_routes,
+    examples_of_other_claims, examples_of_pairs, examples_of_plans,
+    examples_of_reasons_before_memory,
 };
 pub use one_verdict::files_have_one_verdict;
-pub use solution_verdict::{judge, judge_next};
-pub use strict::{
-    examples_of_strictness, strict_basis, strict_bound, strict_verdict,
+pub use solution_verdict::{
+    examples_of_strictness, judge, judge_next, strict_basis, strict_bound, strict_verdict,
     strict_yes_leaves_nothing_unjudged,
 };
-pub use tsp_task::{Basis, BoundVerdict, Certificate, Reason, Verdict};
-pub use verdict_examples::{
-    examples_against_routing, examples_of_accepted, examples_of_bounds, examples_of_depots,
-    examples_of_first_reasons, examples_of_pairs,
-};
+pub use tsp_report::{Basis, BoundVerdict, Certificate, Reason, Verdict};

@@ -1,28 +1,40 @@
 //! The verdict on routes: the first reason against the instance or the plan, or its number of
-//! routes and its length. For `src/subject.rt`, `src/bound_verdict.rt` and
-//! `src/comparison_basis.rt`.
+//! routes and its length. For `src/solution_verdict.rt`, `src/basis.rt` and
+//! `src/basis.rt`.
 
-ghost use Rattle.std.specs.Prelude.{◌≡◌, ◌≤◌, length, pos, Some, MatchOption, MatchResult};
 ghost use Rattle.std.specs.List.{All};
+ghost use Rattle.std.specs.Prelude.{◌≡◌, ◌≤◌, length, pos, Some, MatchOption, MatchResult, ◌≢◌, ◌+◌, ◌^◌, ◌<◌, ℕ, true, false, vec_len, slice_index_or, map, ◌≤ℤ◌, ◌∷◌, IfOk, IsErr};
+ghost use Rattle.tsp_format.specs.Limits.{most_nodes, most_tour_nodes, most_capacity};
+ghost use Rattle.tsp_format.specs.Nodes.{IsNode, nodes_to};
 ghost use Rattle.tsp_format.specs.declared.kinds.Kind.TheVariants as kinds;
-ghost use Rattle.tsp_format.specs.Nodes.{IsNode};
-ghost use Rattle.tsp_verdict.specs.Plan.{demand_of, depot_of, AreCustomers};
-ghost use Rattle.tsp_draft.specs.Fields.{nodes_of};
+ghost use Rattle.tsp_format.specs.states.TreeSteps.{steps_of};
+ghost use Rattle.tsp_file.specs.Cost.{cost};
+ghost use Rattle.tsp_file.specs.Fields.{nodes_of};
+ghost use Rattle.tsp_file.specs.Rules.{is_branches_file};
+ghost use Rattle.tsp_file.specs.Typed.{HoldsCases};
+ghost use Rattle.tsp_file.specs.Valid.{IsDemand, IsFromTo};
+ghost use Rattle.tsp_file.specs.states.Drafts.{combs_of};
+ghost use Rattle.tsp_theory.specs.Length.{length_of};
 ghost use Rattle.tsp_cost.specs.ComputedProblems.{demands_of, depots_of};
-ghost use Rattle.tsp_verdict.specs.Routes.{NoneOfRoutesBeforePlaces, IsFirstAgainstRoutes, IsRoutesVerdict, NoneOfRoutesBeforeRepeats};
 ghost use Rattle.tsp_verdict.specs.Bounded.{StandsAgainstRouting, NoneAgainstRouting};
+ghost use Rattle.tsp_verdict.specs.Certified.{FindsBound, NoneWithoutMemory};
+ghost use Rattle.tsp_verdict.specs.Places.{IsFirstPlace, IsLarger, IsAt, IsAtEarlierPlace};
+ghost use Rattle.tsp_verdict.specs.Plan.{demand_of, depot_of, AreCustomers, load_of, IsLeastRoutes, plan_length};
 ghost use Rattle.tsp_verdict.specs.Reasons.{IsFirstReason};
-ghost use Rattle.tsp_verdict.specs.states.RouteLists.{AreToursOf};
+ghost use Rattle.tsp_verdict.specs.Routes.{NoneOfRoutesBeforePlaces, IsFirstAgainstRoutes, IsRoutesVerdict, NoneOfRoutesBeforeRepeats, IsOverloaded};
+ghost use Rattle.tsp_verdict.specs.states.Marks.{Marked};
+ghost use Rattle.tsp_verdict.specs.states.RouteLists.{AreToursOf, nodes_in};
+ghost use Rattle.tsp_verdict.specs.states.Sums.{IsSumOf};
+ghost use Rattle.tsp_report.specs.declared.task.Certificate.TheVariants as certificates;
 
-use crate::files::{routing, solution_tours};
-use crate::loads::{first_overload, least_routes};
-use crate::route_lengths::plan_length;
-use crate::visits::{first_larger_in, first_of_in, first_unmarked, mark_all};
+use crate::certificate::tree_of;
+use crate::tour::{first_larger, first_of, mark, routing, solution_tours};
 use std::alloc::Global;
 use tsp_cost::{Costs, Instance};
-use tsp_file::{File, RoutingData};
-use tsp_memory::{Refused, filled};
-use tsp_task::{Reason, Verdict};
+use tsp_file::{File, RoutingData, TreeData};
+use tsp_io::{Refused, filled};
+use tsp_report::{BoundVerdict, Reason, Verdict};
+use tsp_routing::{PlanTree, PlanVerdict, judge_plans};
 
 /// The fewest nodes of an instance whose routes are judged.
 pub(crate) const FEWEST_NODES_OF_ROUTES: u32 = 2;
@@ -143,4 +155,263 @@ fn first_against_places(
         return Some(Reason::NodeOutOfRange { place });
     }
     None
+}
+
+// ---- the first place of several routes with a repeated, a too large or a sought node
+
+/// The first place whose node is larger than n.
+fn first_larger_in(routes: &[Vec<u32>], n: u32) -> Option<u32>
+    requires { length (nodes_in routes.now) < 2 ^ 32 }
+    ensures { MatchOption result
+        (All (λ node. node ≤ n) (nodes_in routes.now))
+        (λ place. IsFirstPlace (IsLarger n (nodes_in routes.now)) (nodes_in routes.now) place) }
+{
+    let mut before = 0;
+    'routes: for route in routes {
+        let nodes = route.as_slice();
+        if let Some(place) = first_larger(nodes, n) {
+            return Some(before + place);
+        }
+        before += nodes.len() as u32;
+    }
+    None
+}
+
+/// The first place whose node is the one sought.
+fn first_of_in(routes: &[Vec<u32>], sought: u32) -> Option<u32>
+    requires { length (nodes_in routes.now) < 2 ^ 32 }
+    ensures { MatchOption result
+        (All (λ node. node ≢ sought) (nodes_in routes.now))
+        (λ place. IsFirstPlace (IsAt sought (nodes_in routes.now)) (nodes_in routes.now) place) }
+{
+    let mut before = 0;
+    'routes: for route in routes {
+        let nodes = route.as_slice();
+        if let Some(place) = first_of(nodes, sought) {
+            return Some(before + place);
+        }
+        before += nodes.len() as u32;
+    }
+    None
+}
+
+/// Marks the nodes of all routes, up to the first place whose node is at an earlier place too.
+fn mark_all(seen: &mut Vec<bool>, routes: &[Vec<u32>]) -> Option<u32>
+    requires size { length (nodes_in routes.now) < 2 ^ 32 }
+    requires range { All (λ node. node < vec_len seen.old) (nodes_in routes.now) }
+    requires fresh { Marked (nodes_in routes.now) seen.old.items 0 }
+    ensures len { vec_len seen.new ≡ vec_len seen.old }
+    ensures marks { MatchOption result
+        (Marked (nodes_in routes.now) seen.new.items (length (nodes_in routes.now)))
+        (λ place. IsFirstPlace (IsAtEarlierPlace (nodes_in routes.now)) (nodes_in routes.now) place) }
+{
+    let mut before = 0;
+    'routes: for route in routes {
+        let nodes = route.as_slice();
+        if let Some(place) = mark(seen, nodes) {
+            return Some(before + place);
+        }
+        before += nodes.len() as u32;
+    }
+    None
+}
+
+/// The least number from 1 on, other than the depot, that isn't marked.
+fn first_unmarked(seen: &Vec<bool>, depot: u32) -> Option<u32>
+    requires { vec_len seen.now < 2 ^ 32 }
+    ensures { MatchOption result
+        ((node : ℕ) → 1 ≤ node → node < vec_len seen.now → node ≢ depot
+        → slice_index_or seen.now.items node false ≡ true)
+        (λ node. (1 ≤ node) × (node < vec_len seen.now) × (node ≢ depot)
+        × (slice_index_or seen.now.items node false ≡ false)
+        × ((other : ℕ) → 1 ≤ other → other < node → other ≢ depot
+        → slice_index_or seen.now.items other false ≡ true)) }
+{
+    'nodes: for node in 1..seen.len() as u32 {
+        if node != depot && !seen[node as usize] {
+            return Some(node);
+        }
+    }
+    None
+}
+
+// ---- the first route over the capacity, and the least number of routes that carry all demands
+
+/// The first route, counted from 1, whose demands sum to more than the capacity.
+fn first_overload(routes: &[Vec<u32>], demands: &[i64], capacity: i64) -> Option<u32>
+    requires range { All (IsNode (length demands.now)) (nodes_in routes.now) }
+    requires size { length (nodes_in routes.now) ≤ most_tour_nodes }
+    requires few { length routes.now ≤ most_tour_nodes }
+    requires demands { All IsDemand demands.now }
+    ensures { MatchOption result (All (λ route. load_of demands.now route
+        ≤ℤ capacity) (map (λ route. route.items) routes.now))
+        (λ place. IsFirstPlace (IsOverloaded demands.now capacity
+        (map (λ route. route.items) routes.now)) (map (λ route. route.items) routes.now) place) }
+{
+    let mut index = 0;
+    'routes: for route in routes {
+        index += 1;
+        let nodes = route.as_slice();
+        if load(nodes, demands) > capacity {
+            return Some(index);
+        }
+    }
+    None
+}
+
+/// The sum of the demands of the nodes of a route.
+fn load(route: &[u32], demands: &[i64]) -> i64
+    requires range { All (IsNode (length demands.now)) route.now }
+    requires size { length route.now ≤ most_tour_nodes }
+    requires demands { All IsDemand demands.now }
+    ensures { result ≡ load_of demands.now route.now }
+{
+    let mut sum = 0;
+    'nodes: for node in route {
+        sum += demands[*node as usize - 1];
+    }
+    sum
+}
+
+/// The least number of routes that carry all demands: the least L with `L * capacity` at least
+/// their sum.
+pub(crate) fn least_routes(demands: &[i64], capacity: i64) -> u64
+    requires demands { All IsDemand demands.now }
+    requires size { length demands.now ≤ most_nodes }
+    requires capacity { IsFromTo (pos 1) (pos most_capacity) capacity }
+    ensures { IsLeastRoutes (load_of demands.now (nodes_to (length demands.now))) capacity result }
+{
+    let total = total(demands) as u64;
+    let capacity = capacity as u64;
+    (total + (capacity - 1)) / capacity
+}
+
+/// The sum of all demands.
+fn total(demands: &[i64]) -> i64
+    requires demands { All IsDemand demands.now }
+    requires size { length demands.now ≤ most_nodes }
+    ensures value { result ≡ load_of demands.now (nodes_to (length demands.now)) }
+    ensures low { pos 0 ≤ℤ result }
+{
+    let mut sum = 0;
+    'demands: for demand in demands {
+        sum += *demand;
+    }
+    sum
+}
+
+// ---- the length of a plan: of each route, from the depot and back
+
+/// The length of routes: the sum of the costs from the depot through each route and back.
+fn plan_length(inst: &Instance, depot: u32, routes: &[Vec<u32>]) -> i64
+    requires depot { IsNode (nodes_of inst.now) depot }
+    requires range { All (IsNode (nodes_of inst.now)) (nodes_in routes.now) }
+    requires size { length (nodes_in routes.now) ≤ most_tour_nodes }
+    requires few { length routes.now ≤ most_tour_nodes }
+    ensures { result ≡ plan_length (cost inst.now) depot (map (λ route. route.items) routes.now) }
+{
+    let mut length = 0;
+    'routes: for route in routes {
+        let nodes = route.as_slice();
+        length += route_length(inst, depot, nodes);
+    }
+    length
+}
+
+/// The sum of the costs from the depot through a route and back.
+fn route_length(inst: &Instance, depot: u32, route: &[u32]) -> i64
+    requires depot { IsNode (nodes_of inst.now) depot }
+    requires range { All (IsNode (nodes_of inst.now)) route.now }
+    requires size { length route.now ≤ most_tour_nodes }
+    ensures value { result ≡ length_of (cost inst.now) (depot ∷ route.now) }
+    ensures size { IsSumOf (length route.now + 1) result }
+{
+    let mut from = depot;
+    let mut length = 0;
+    'nodes: for node in route {
+        length += inst.cost(from, *node);
+        from = *node;
+    }
+    length + inst.cost(from, depot)
+}
+
+// ---- the bound that a tree of cases gives routes, or the first reason against it
+
+/// The bound that a certificate by branching gives an instance of TYPE CVRP, or that it has no plan
+/// whose routes each have a customer; or the first reason against the certificate.
+///
+/// # Errors
+///
+/// Out of memory, and then neither `NotBranches` nor `BranchesDimension` applies to the
+/// certificate.
+pub(crate) fn bound_of_walks(
+    alloc: Global,
+    instance: &Instance,
+    depot: u32,
+    branches: &File,
+) -> Result<BoundVerdict, Refused>
+    requires kind { instance.now.kind ≡ Some kinds.Cvrp }
+    requires some { 2 ≤ nodes_of instance.now }
+    requires depot { depot ≡ depot_of instance.now }
+    requires inside { IsNode (nodes_of instance.now) depot }
+    ensures found { IfOk result
+        (λ found. FindsBound certificates.Branches instance.now branches.now found) }
+    ensures refused { IsErr result
+        → NoneWithoutMemory certificates.Branches instance.now branches.now }
+{
+    match tree_of(instance, branches) {
+        Ok(tree) => judge_walks(alloc, instance, depot, branches, &tree),
+        Err(reason) => Ok(BoundVerdict::No(reason)),
+    }
+}
+
+/// The bound of a tree of cases, or the first reason against its families, branches, leaves or
+/// loads.
+///
+/// # Errors
+///
+/// Out of memory.
+fn judge_walks(
+    alloc: Global,
+    instance: &Instance,
+    depot: u32,
+    branches: &File,
+    tree: &TreeData<'_>,
+) -> Result<BoundVerdict, Refused>
+    requires kind { instance.now.kind ≡ Some kinds.Cvrp }
+    requires some { 2 ≤ nodes_of instance.now }
+    requires depot { depot ≡ depot_of instance.now }
+    requires inside { IsNode (nodes_of instance.now) depot }
+    requires sort { is_branches_file branches.now.kind ≡ true }
+    requires count { nodes_of branches.now ≡ nodes_of instance.now }
+    requires held { HoldsCases branches.now tree.now.scale tree.now.load_unit
+        (combs_of tree.now.combs.now) (steps_of tree.now.steps.now) }
+    ensures { IfOk result
+        (λ found. FindsBound certificates.Branches instance.now branches.now found) }
+{
+    let routing = routing(instance);
+    let plans = PlanTree {
+        costs: instance,
+        depot,
+        demands: routing.demands,
+        capacity: routing.capacity,
+        scale: tree.scale,
+        unit: tree.load_unit,
+        families: tree.combs,
+        steps: tree.steps,
+    };
+    match judge_plans(alloc, &plans)? {
+        PlanVerdict::Bound(Some(bound)) => Ok(BoundVerdict::Bound(bound)),
+        PlanVerdict::Bound(None) => Ok(BoundVerdict::NoSolution),
+        PlanVerdict::BadFamily(index) => Ok(BoundVerdict::No(Reason::BadComb {
+            index: index as u32,
+        })),
+        PlanVerdict::BadBranch(index) => Ok(BoundVerdict::No(Reason::BadBranch {
+            index: index as u32,
+        })),
+        PlanVerdict::BadLeaf(index) => Ok(BoundVerdict::No(Reason::BadLeaf {
+            index: index as u32,
+        })),
+        PlanVerdict::TooManyLoads => Ok(BoundVerdict::No(Reason::TooManyLoads)),
+    }
 }

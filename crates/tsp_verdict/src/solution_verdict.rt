@@ -1,19 +1,36 @@
 //! The verdict on a solution, by a certificate or by the basis of all solutions, and by a claimed
-//! length, if any. For `src/judging.rt`, `src/common.rt` and `src/opened.rt` of tsp_judge.
+//! length, if any. For `src/check.rt`, `src/compared.rt` and `src/opened.rt` of tsp_judge.
 
-ghost use Rattle.std.specs.Prelude.{IsTrue, MatchResult, Option, option_map};
-ghost use Rattle.tsp_draft.specs.Fields.{Fields};
-ghost use Rattle.tsp_task.specs.declared.certificate.Certificate.{Certificate};
+ghost use Rattle.std.specs.Prelude.{IsTrue, MatchResult, Option, option_map, ◌≡◌, true, false, [], ◌∷◌, None, Some, pos, MatchOption};
+ghost use Rattle.tsp_format.specs.declared.kinds.Kind.TheVariants as kinds;
+ghost use Rattle.tsp_file.specs.Fields.{Fields};
 ghost use Rattle.tsp_verdict.specs.Basis.{IsBasis, IsVerdictFrom};
-ghost use Rattle.tsp_verdict.specs.SolutionVerdict.{is_judged, NoneBeforeRepeatsOn, IsVerdictWith};
+ghost use Rattle.tsp_verdict.specs.Examples.{instance_with, with_unknown};
+ghost use Rattle.tsp_verdict.specs.SolutionVerdict.{is_judged, NoneBeforeRepeatsOn, IsVerdictWith, HasLength, HasNoLength, IsAsClaimed, IsOtherClaimed};
+ghost use Rattle.tsp_verdict.specs.Strict.{is_unjudged, strict_verdict, strict_bound, strict_basis};
+ghost use Rattle.tsp_verdict.specs.states.TourBases.{verdict_by, verdict_with};
+ghost use Rattle.tsp_report.specs.Verdicts.{is_yes, is_bound_yes, is_clear};
+ghost use Rattle.tsp_report.specs.declared.task.Certificate.{Certificate};
+ghost use Rattle.tsp_report.specs.declared.verdict.Basis.{Basis};
+ghost use Rattle.tsp_report.specs.declared.verdict.Basis.TheVariants as bases;
+ghost use Rattle.tsp_report.specs.declared.verdict.BoundVerdict.{BoundVerdict};
+ghost use Rattle.tsp_report.specs.declared.verdict.BoundVerdict.TheVariants as bounds;
+ghost use Rattle.tsp_report.specs.declared.verdict.Reason.TheVariants as reasons;
+ghost use Rattle.tsp_report.specs.declared.verdict.Verdict.{Verdict};
+ghost use Rattle.tsp_report.specs.declared.verdict.Verdict.TheVariants as verdicts;
 
-use crate::subject::Subject;
-use crate::tour_basis::BoundOrigin;
+use crate::basis::{against_instance, basis_of, costs_of_tours, judge_basis};
+use crate::certificate::bound_by;
+use crate::routes::verdict_on_routes;
+use crate::tour::{
+    TourCosts, first_against_nodes, first_unused_by, is_directed, solution_tours, the_tour,
+};
 use std::alloc::Global;
-use tsp_cost::Instance;
+use tsp_cost::{Costs, Instance, tour_length};
 use tsp_file::File;
-use tsp_memory::Refused;
-use tsp_task::{Basis, Certificate, Verdict};
+use tsp_format::Kind;
+use tsp_io::Refused;
+use tsp_report::{Basis, BoundVerdict, Certificate, Reason, Verdict};
 
 /// The verdict on a solution of an instance: on a tour, or for TYPE CVRP on routes.
 ///
@@ -76,4 +93,377 @@ pub fn judge_next(
         given: BoundOrigin::Basis(basis),
     };
     subject.verdict(alloc, solution, claimed)
+}
+
+// ---- what a solution is judged by, an instance with a certificate or with a known basis
+
+/// What solutions are judged by: an instance, and a certificate of a bound, where one is given, or
+/// what is known of all solutions by the two.
+///
+/// The verdict is the same either way. Where it is known, neither the costs of the instance nor the
+/// certificate are judged again. Where it isn't, the certificate is judged after the solution.
+#[derive(Clone, Copy)]
+pub(crate) struct Subject<'a> {
+    pub(crate) instance: &'a Instance,
+    pub(crate) given: BoundOrigin<'a>,
+}
+
+impl<'a> Subject<'a> {
+    ghost use Rattle.std.specs.Prelude.{◌≡◌, ◌⊎◌, Some, IfOk, MatchResult};
+    ghost use Rattle.tsp_format.specs.declared.kinds.Kind.TheVariants as kinds;
+    ghost use Rattle.tsp_verdict.specs.Bounded.{StandsAgainstTouring, NoneAgainstTouring};
+    ghost use Rattle.tsp_verdict.specs.SolutionVerdict.{NoneBeforeRepeatsOn};
+    ghost use Rattle.tsp_verdict.specs.Reasons.{IsFirstReason};
+    ghost use Rattle.tsp_verdict.specs.Routes.{NoneOfRoutesBeforeRepeats};
+    ghost use Rattle.tsp_verdict.specs.Tours.{NoneOfTourBeforeRepeats};
+    ghost use Rattle.tsp_verdict.specs.states.TourBases.{IsSubject, IsVerdictGiven, IsBasisGiven, IsTourBasis};
+
+    /// The verdict on a solution: on a tour, or for TYPE CVRP on routes. Where a length is claimed,
+    /// a solution of another length is rejected with `LengthClaimed`: after all other reasons
+    /// against the solution, and before those against the certificate.
+    ///
+    /// # Errors
+    ///
+    /// Out of memory, and then no reason up to `NodeOutOfRange`, in the order of the TYPE, applies.
+    pub(crate) fn verdict(
+        &self,
+        alloc: Global,
+        solution: &File,
+        claimed: Option<i64>,
+    ) -> Result<Verdict, Refused>
+        requires { IsSubject self.now.instance.now self.now.given }
+        ensures { MatchResult result
+            (λ verdict. IsVerdictGiven self.now.given claimed self.now.instance.now solution.now verdict)
+            (λ refused. NoneBeforeRepeatsOn self.now.instance.now solution.now) }
+    {
+        match self.instance.kind() {
+            Kind::Cvrp => self.verdict_on_plan(alloc, solution, claimed),
+            _ => self.verdict_on_tour(alloc, solution, claimed),
+        }
+    }
+
+    /// The verdict on a solution that should be routes.
+    fn verdict_on_plan(
+        &self,
+        alloc: Global,
+        solution: &File,
+        claimed: Option<i64>,
+    ) -> Result<Verdict, Refused>
+        requires sound { IsSubject self.now.instance.now self.now.given }
+        requires kind { self.now.instance.now.kind ≡ Some kinds.Cvrp }
+        ensures { MatchResult result
+            (λ verdict. IsVerdictGiven self.now.given claimed self.now.instance.now solution.now verdict)
+            (λ refused. NoneOfRoutesBeforeRepeats self.now.instance.now solution.now) }
+    {
+        let verdict = verdict_on_routes(alloc, self.instance, solution)?;
+        let Some(measured) = length_in(verdict) else {
+            return Ok(verdict);
+        };
+        if is_other(claimed, measured) {
+            return Ok(Verdict::No(Reason::LengthClaimed { length: measured }));
+        }
+        let basis = self.basis_of_all(alloc)?;
+        Ok(verdict_with(basis, verdict))
+    }
+
+    /// What is known of all solutions, or is now found.
+    fn basis_of_all(&self, alloc: Global) -> Result<Basis, Refused>
+        requires sound { IsSubject self.now.instance.now self.now.given }
+        ensures { IfOk result (λ basis. IsBasisGiven self.now.given self.now.instance.now basis) }
+    {
+        match self.given {
+            BoundOrigin::Certificate(certificate) => judge_basis(alloc, self.instance, certificate),
+            BoundOrigin::Basis(basis) => Ok(basis),
+        }
+    }
+
+    /// The verdict on a solution that should be a tour. The reasons are judged in the order of
+    /// [`Reason`].
+    fn verdict_on_tour(
+        &self,
+        alloc: Global,
+        solution: &File,
+        claimed: Option<i64>,
+    ) -> Result<Verdict, Refused>
+        requires sound { IsSubject self.now.instance.now self.now.given }
+        requires kind { (self.now.instance.now.kind ≡ Some kinds.Tsp)
+            ⊎ (self.now.instance.now.kind ≡ Some kinds.Atsp) }
+        ensures { MatchResult result
+            (λ verdict. IsVerdictGiven self.now.given claimed self.now.instance.now solution.now verdict)
+            (λ refused. NoneOfTourBeforeRepeats self.now.instance.now solution.now) }
+    {
+        let instance = self.instance;
+        let Some(tours) = solution_tours(solution) else {
+            return Ok(Verdict::No(Reason::NotASolution));
+        };
+        // `TooFewNodes`, `NotSymmetric`
+        let tour_basis = match self.tour_basis() {
+            Ok(tour_basis) => tour_basis,
+            Err(reason) => return Ok(Verdict::No(reason)),
+        };
+        let nodes = instance.count();
+        if solution.dimension().is_some_and(|stated| stated != nodes) {
+            return Ok(Verdict::No(Reason::Dimension));
+        }
+        // `TourCount`, `TourLength`
+        let tour = match the_tour(instance, solution, tours) {
+            Ok(tour) => tour,
+            Err(reason) => return Ok(Verdict::No(reason)),
+        };
+        // `NodeOutOfRange`, `RepeatedNode`
+        if let Some(reason) = first_against_nodes(alloc, instance, solution, tour)? {
+            return Ok(Verdict::No(reason));
+        }
+        let directed = is_directed(instance.kind());
+        if let Some(index) = first_unused_by(alloc, tour, nodes, instance.fixed(), directed)? {
+            return Ok(Verdict::No(Reason::FixedEdgeUnused { index }));
+        }
+        let length = tour_length(instance, tour);
+        if is_other(claimed, length) {
+            return Ok(Verdict::No(Reason::LengthClaimed { length }));
+        }
+        // those against the certificate
+        let basis = self.basis_on(alloc, tour_basis)?;
+        Ok(verdict_by(basis, length))
+    }
+
+    /// What the instance is judged by, or the first reason against it, whatever the tour.
+    fn tour_basis(&self) -> Result<TourBasis<'a>, Reason>
+        requires sound { IsSubject self.now.instance.now self.now.given }
+        requires kind { (self.now.instance.now.kind ≡ Some kinds.Tsp)
+            ⊎ (self.now.instance.now.kind ≡ Some kinds.Atsp) }
+        ensures { MatchResult result
+            (λ tour_basis. NoneAgainstTouring self.now.instance.now
+            × IsTourBasis self.now.instance.now self.now.given tour_basis)
+            (λ reason. IsFirstReason (StandsAgainstTouring self.now.instance.now) reason) }
+    {
+        match self.given {
+            BoundOrigin::Certificate(certificate) => match costs_of_tours(self.instance) {
+                Ok(costs) => Ok(TourBasis::Costs(costs, certificate)),
+                Err(reason) => Err(reason),
+            },
+            BoundOrigin::Basis(basis) => match against_instance(basis) {
+                None => Ok(TourBasis::Basis(basis)),
+                Some(reason) => Err(reason),
+            },
+        }
+    }
+
+    /// What is known of all solutions, or is now found: a certificate that wasn't judged before is
+    /// judged here.
+    fn basis_on(&self, alloc: Global, tour_basis: TourBasis<'_>) -> Result<Basis, Refused>
+        requires sound { IsSubject self.now.instance.now self.now.given }
+        requires kind { (self.now.instance.now.kind ≡ Some kinds.Tsp)
+            ⊎ (self.now.instance.now.kind ≡ Some kinds.Atsp) }
+        requires none { NoneAgainstTouring self.now.instance.now }
+        requires tour_basis { IsTourBasis self.now.instance.now self.now.given tour_basis }
+        ensures { IfOk result (λ basis. IsBasisGiven self.now.given self.now.instance.now basis) }
+    {
+        let (costs, certificate) = match tour_basis {
+            TourBasis::Costs(costs, certificate) => (costs, certificate),
+            TourBasis::Basis(basis) => return Ok(basis),
+        };
+        let Some((by, file)) = certificate else {
+            return Ok(Basis::Tours { bound: None });
+        };
+        let found = bound_by(alloc, by, self.instance, costs, file)?;
+        Ok(basis_of(self.instance, found))
+    }
+}
+
+// ---- whether the bound of a verdict comes from a certificate or from a known basis
+
+/// The origin of the bound of a verdict.
+#[derive(Clone, Copy)]
+pub(crate) enum BoundOrigin<'a> {
+    /// A certificate, where there is one. It is judged after the solution.
+    Certificate(Option<(Certificate, &'a File)>),
+    /// What is known of all solutions, which was found before.
+    Basis(Basis),
+}
+
+/// What shows that no reason applies to an instance of tours.
+#[derive(Clone, Copy)]
+pub(crate) enum TourBasis<'a> {
+    /// The costs, which were found for this solution; and the certificate, which is to be judged.
+    Costs(TourCosts<'a>, Option<(Certificate, &'a File)>),
+    /// What is known of all solutions.
+    Basis(Basis),
+}
+
+/// The verdict on routes that are accepted on their own, by what is known of all solutions.
+fn verdict_with(basis: Basis, verdict: Verdict) -> Verdict
+    ensures { result ≡ verdict_with basis verdict }
+{
+    match (basis, verdict) {
+        (
+            Basis::Routes { least, bound },
+            Verdict::Routes {
+                length,
+                routes,
+                least: _,
+                bound: _,
+            },
+        ) => Verdict::Routes {
+            length,
+            routes,
+            least,
+            bound,
+        },
+        (Basis::No(reason), _) => Verdict::No(reason),
+        // A basis of an instance that has routes is none of the others.
+        (_, verdict) => verdict,
+    }
+}
+
+/// The verdict on a tour of this length, by what is known of all solutions.
+fn verdict_by(basis: Basis, length: i64) -> Verdict
+    ensures { result ≡ verdict_by basis length }
+{
+    match basis {
+        Basis::Tours { bound } => Verdict::Tour { length, bound },
+        Basis::No(reason) => Verdict::No(reason),
+        // A basis of an instance that has a tour is neither of these.
+        Basis::NoSolution | Basis::Routes { .. } => Verdict::Tour {
+            length,
+            bound: None,
+        },
+    }
+}
+
+// ---- `--strict`: verdicts, bounds and bases of an instance with unknown keywords
+
+/// The verdict on a solution of an instance, which is this one, unless `strict` asks that unknown
+/// keywords of the instance be a reason: then an accepted solution of an instance with one is
+/// rejected with `NotJudged`. So this is judged after all other reasons.
+pub fn strict_verdict(strict: bool, instance: &Instance, verdict: Verdict) -> Verdict
+    ensures { result ≡ strict_verdict (is_unjudged strict instance.now) verdict }
+{
+    if is_unjudged(strict, instance) {
+        rejected(verdict)
+    } else {
+        verdict
+    }
+}
+
+/// The bound of an instance, or the first reason against it, in the same way.
+pub fn strict_bound(strict: bool, instance: &Instance, found: BoundVerdict) -> BoundVerdict
+    ensures { result ≡ strict_bound (is_unjudged strict instance.now) found }
+{
+    if is_unjudged(strict, instance) {
+        rejected_bound(found)
+    } else {
+        found
+    }
+}
+
+/// What is known of all solutions of an instance, in the same way.
+pub fn strict_basis(strict: bool, instance: &Instance, basis: Basis) -> Basis
+    ensures { result ≡ strict_basis (is_unjudged strict instance.now) basis }
+{
+    if is_unjudged(strict, instance) {
+        rejected_basis(basis)
+    } else {
+        basis
+    }
+}
+
+/// The verdict where unknown keywords are a reason.
+fn rejected(verdict: Verdict) -> Verdict
+    ensures { result ≡ strict_verdict true verdict }
+{
+    match verdict {
+        Verdict::Tour { .. } | Verdict::Routes { .. } => Verdict::No(Reason::NotJudged),
+        Verdict::No(reason) => Verdict::No(reason),
+    }
+}
+
+/// The bound where they are.
+fn rejected_bound(found: BoundVerdict) -> BoundVerdict
+    ensures { result ≡ strict_bound true found }
+{
+    match found {
+        BoundVerdict::Bound(_) | BoundVerdict::NoSolution => BoundVerdict::No(Reason::NotJudged),
+        BoundVerdict::No(reason) => BoundVerdict::No(reason),
+    }
+}
+
+/// What is known of all solutions where they are.
+fn rejected_basis(basis: Basis) -> Basis
+    ensures { result ≡ strict_basis true basis }
+{
+    match basis {
+        Basis::Tours { .. } | Basis::NoSolution | Basis::Routes { .. } => {
+            Basis::No(Reason::NotJudged)
+        }
+        Basis::No(reason) => Basis::No(reason),
+    }
+}
+
+/// Whether unknown keywords are a reason: it is asked that they be one, and the instance has one.
+fn is_unjudged(strict: bool, instance: &Instance) -> bool
+    ensures { result ≡ is_unjudged strict instance.now }
+{
+    strict && !instance.file().others().is_empty()
+}
+
+/// With `strict`, an instance has no unknown keyword where a solution is accepted, where it has a
+/// bound, and where solutions are judged one by one; and what is said then is said without `strict`
+/// too.
+pub fn strict_yes_leaves_nothing_unjudged()
+    ensures verdict { (instance : Fields) (plain : Verdict)
+        → is_yes (strict_verdict (is_unjudged true instance) plain) ≡ true
+        → (instance.others ≡ []) × (strict_verdict (is_unjudged true instance) plain ≡ plain) }
+    ensures bound { (instance : Fields) (plain : BoundVerdict)
+        → is_bound_yes (strict_bound (is_unjudged true instance) plain) ≡ true
+        → (instance.others ≡ []) × (strict_bound (is_unjudged true instance) plain ≡ plain) }
+    ensures basis { (instance : Fields) (plain : Basis)
+        → is_clear (strict_basis (is_unjudged true instance) plain) ≡ true
+        → (instance.others ≡ []) × (strict_basis (is_unjudged true instance) plain ≡ plain) }
+{}
+
+/// Where unknown keywords are a reason, and what becomes of verdicts, bounds and bases. A reason
+/// that was found before stays.
+///
+/// No code calls it: it evaluates the definitions of `specs/Strict.antt` on examples.
+pub fn examples_of_strictness()
+    ensures refused { is_unjudged true (with_unknown kinds.Tsp 4) ≡ true }
+    ensures not_asked { is_unjudged false (with_unknown kinds.Tsp 4) ≡ false }
+    ensures none_unknown { is_unjudged true (instance_with kinds.Tsp 4 []) ≡ false }
+    ensures tour { strict_verdict true (verdicts.Tour (pos 14) (Some (pos 14))) ≡ verdicts.No reasons.NotJudged }
+    ensures routes { strict_verdict true (verdicts.Routes (pos 14) 3 2 None) ≡ verdicts.No reasons.NotJudged }
+    ensures other { strict_verdict true (verdicts.No reasons.TourCount) ≡ verdicts.No reasons.TourCount }
+    ensures kept { strict_verdict false (verdicts.Tour (pos 14) None) ≡ verdicts.Tour (pos 14) None }
+    ensures bound { strict_bound true (bounds.Bound (pos 14)) ≡ bounds.No reasons.NotJudged }
+    ensures no_solution { strict_bound true bounds.NoSolution ≡ bounds.No reasons.NotJudged }
+    ensures other_of_bounds { strict_bound true (bounds.No reasons.NotPotentials) ≡ bounds.No reasons.NotPotentials }
+    ensures kept_bound { strict_bound false bounds.NoSolution ≡ bounds.NoSolution }
+    ensures tours { strict_basis true (bases.Tours None) ≡ bases.No reasons.NotJudged }
+    ensures no_solution_of_all { strict_basis true bases.NoSolution ≡ bases.No reasons.NotJudged }
+    ensures plans { strict_basis true (bases.Routes 2 None) ≡ bases.No reasons.NotJudged }
+    ensures other_of_all { strict_basis true (bases.No reasons.DepotCount) ≡ bases.No reasons.DepotCount }
+    ensures kept_basis { strict_basis false (bases.Tours None) ≡ bases.Tours None }
+{}
+
+// ---- whether the claimed length of a solution is another one than its own
+
+/// The length of an accepted solution, or `None` where it is rejected.
+fn length_in(verdict: Verdict) -> Option<i64>
+    ensures { MatchOption result (HasNoLength verdict) (λ length. HasLength verdict length) }
+{
+    match verdict {
+        Verdict::Tour { length, .. } | Verdict::Routes { length, .. } => Some(length),
+        Verdict::No(_) => None,
+    }
+}
+
+/// Whether another length is claimed than this one.
+fn is_other(claimed: Option<i64>, length: i64) -> bool
+    ensures other { result ≡ true → IsOtherClaimed claimed length }
+    ensures same { result ≡ false → IsAsClaimed claimed length }
+{
+    match claimed {
+        None => false,
+        Some(claim) => claim != length,
+    }
 }

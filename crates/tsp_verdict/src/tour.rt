@@ -1,27 +1,34 @@
 //! The tour of a solution, the reasons that its nodes show, and the costs of an instance of tours.
-//! For `src/subject.rt`, `src/bound_verdict.rt` and others.
+//! For `src/solution_verdict.rt`, `src/basis.rt` and others.
 
-ghost use Rattle.std.specs.Prelude.{◌≡◌, ◌⊎◌, ◌<◌, ◌≤◌, [], ◌∷◌, length, Some, MatchOption, MatchResult};
+ghost use Rattle.std.specs.Bool.{OnTrue};
 ghost use Rattle.std.specs.List.{All};
+ghost use Rattle.std.specs.Prelude.{◌≡◌, ◌⊎◌, ◌<◌, ◌≤◌, [], ◌∷◌, length, Some, MatchOption, MatchResult, ◌≢◌, ◌+◌, ◌^◌, ℕ, List, vec_len, IfOk, ◌-◌, slice_index_or, MatchBool, false, pos};
+ghost use Rattle.tsp_format.specs.Limits.{most_capacity};
+ghost use Rattle.tsp_format.specs.Nodes.{IsNode};
 ghost use Rattle.tsp_format.specs.declared.kinds.Kind.TheVariants as kinds;
-ghost use Rattle.tsp_cost.specs.ComputedProblems.{is_directed};
-ghost use Rattle.tsp_task.specs.declared.verdict.Reason.TheVariants.{FixedEdgeUnused, TourCount};
-ghost use Rattle.tsp_draft.specs.Fields.{nodes_of};
+ghost use Rattle.tsp_file.specs.Cost.{cost};
+ghost use Rattle.tsp_file.specs.Fields.{nodes_of};
+ghost use Rattle.tsp_file.specs.Rules.{is_tour_file};
+ghost use Rattle.tsp_file.specs.Valid.{IsPairOf, IsDemand, IsFromTo};
+ghost use Rattle.tsp_theory.specs.Costs.{IsFirstAsymmetric};
+ghost use Rattle.tsp_theory.specs.Cycle.{IsCycle, Uses};
+ghost use Rattle.tsp_cost.specs.ComputedProblems.{is_directed, depots_of, demands_of, capacity_of};
+ghost use Rattle.tsp_verdict.specs.Places.{IsFirstPlace, IsLarger, IsAt, IsAtEarlierPlace, HoldsAtNone, IsUnused};
 ghost use Rattle.tsp_verdict.specs.Solution.{tours_of};
 ghost use Rattle.tsp_verdict.specs.Tours.{NoneOfTourBefore, NoneOfTourBeforeNodes, IsFirstAgainstTour, NoneOfTourBeforeRepeats};
-ghost use Rattle.tsp_file.specs.Cost.{cost};
-ghost use Rattle.tsp_theory.specs.Costs.{IsFirstAsymmetric};
-ghost use Rattle.tsp_theory.specs.Cycle.{IsCycle};
-ghost use Rattle.tsp_verdict.specs.states.TourCosts.{AreTourCosts};
+ghost use Rattle.tsp_verdict.specs.states.Marks.{Marked, StandsAfter};
+ghost use Rattle.tsp_verdict.specs.states.Next.{AreNext};
 ghost use Rattle.tsp_verdict.specs.states.RouteLists.{AreToursOf};
+ghost use Rattle.tsp_verdict.specs.states.TourCosts.{AreTourCosts};
+ghost use Rattle.tsp_report.specs.declared.verdict.Reason.TheVariants.{FixedEdgeUnused, TourCount};
 
-use crate::first_places::{are_different, first_larger, first_repeated};
 use std::alloc::Global;
 use tsp_cost::{Costs, EvenView, Instance, View, even_view};
-use tsp_file::File;
+use tsp_file::{File, RoutingData};
 use tsp_format::Kind;
-use tsp_memory::Refused;
-use tsp_task::Reason;
+use tsp_io::{Refused, filled};
+use tsp_report::Reason;
 
 /// The fewest nodes of an instance whose tours are judged.
 pub(crate) const FEWEST_NODES_OF_TOURS: u32 = 3;
@@ -117,4 +124,215 @@ pub(crate) fn is_directed(kind: Kind) -> bool
         Kind::Atsp => true,
         Kind::Tsp | Kind::Cvrp | Kind::Tour | Kind::Potentials | Kind::Branches => false,
     }
+}
+
+// ---- the first place of a list of nodes with a repeated, a too large or a sought node
+
+/// Whether each node is at most n and at one place alone. Where memory was refused, the answer is
+/// `false` too.
+// (one pass with no places: almost every list passes it, and of the others the place is sought)
+fn are_different(alloc: Global, nodes: &[u32], n: u32) -> bool
+    ensures { OnTrue result (All (λ node. node ≤ n) nodes.now
+        × HoldsAtNone (IsAtEarlierPlace nodes.now) (length nodes.now)) }
+{
+    match filled(alloc, false, n as usize + 1) {
+        Ok(mut seen) => mark_different(&mut seen, nodes, n),
+        Err(_) => false,
+    }
+}
+
+/// Marks nodes, and says whether each is at most n and was not marked before.
+fn mark_different(taken: &mut [bool], nodes: &[u32], n: u32) -> bool
+    requires size { length taken.old ≡ n + 1 }
+    requires fresh { Marked nodes.now taken.old 0 }
+    ensures { OnTrue result (All (λ node. node ≤ n) nodes.now
+        × HoldsAtNone (IsAtEarlierPlace nodes.now) (length nodes.now)) }
+{
+    'nodes: for node in nodes {
+        if *node > n || taken[*node as usize] {
+            return false;
+        }
+        taken[*node as usize] = true;
+    }
+    true
+}
+
+/// The first place whose node is larger than n.
+pub(crate) fn first_larger(nodes: &[u32], n: u32) -> Option<u32>
+    requires { length nodes.now < 2 ^ 32 }
+    ensures { MatchOption result
+        (All (λ node. node ≤ n) nodes.now)
+        (λ place. IsFirstPlace (IsLarger n nodes.now) nodes.now place) }
+{
+    let mut place = 0;
+    'nodes: for node in nodes {
+        place += 1;
+        if *node > n {
+            return Some(place);
+        }
+    }
+    None
+}
+
+/// The first place whose node is the one sought.
+pub(crate) fn first_of(nodes: &[u32], sought: u32) -> Option<u32>
+    requires { length nodes.now < 2 ^ 32 }
+    ensures { MatchOption result
+        (All (λ node. node ≢ sought) nodes.now)
+        (λ place. IsFirstPlace (IsAt sought nodes.now) nodes.now place) }
+{
+    let mut place = 0;
+    'nodes: for node in nodes {
+        place += 1;
+        if *node == sought {
+            return Some(place);
+        }
+    }
+    None
+}
+
+/// The first place whose node is at an earlier place too.
+///
+/// # Errors
+///
+/// Out of memory for a mark for each node.
+fn first_repeated(alloc: Global, nodes: &[u32], n: u32) -> Result<Option<u32>, Refused>
+    requires size { length nodes.now < 2 ^ 32 }
+    requires range { All (λ node. node ≤ n) nodes.now }
+    ensures { IfOk result (λ found. MatchOption found
+        (HoldsAtNone (IsAtEarlierPlace nodes.now) (length nodes.now))
+        (λ place. IsFirstPlace (IsAtEarlierPlace nodes.now) nodes.now place)) }
+{
+    let mut seen = filled(alloc, false, n as usize + 1)?;
+    Ok(mark(&mut seen, nodes))
+}
+
+/// Marks nodes, up to the first place whose node is marked already.
+pub(crate) fn mark(seen: &mut Vec<bool>, nodes: &[u32]) -> Option<u32>
+    requires size { length nodes.now < 2 ^ 32 }
+    requires range { All (λ node. node < vec_len seen.old) nodes.now }
+    ensures len { vec_len seen.new ≡ vec_len seen.old }
+    ensures marks { (all : List ℕ) (before : ℕ) → StandsAfter before all nodes.now
+        → Marked all seen.old.items before → MatchOption result
+        (Marked all seen.new.items (before + length nodes.now))
+        (λ place. IsFirstPlace (IsAtEarlierPlace all) all (before + place)) }
+{
+    let mut place = 0;
+    'nodes: for node in nodes {
+        place += 1;
+        if seen[*node as usize] {
+            return Some(place);
+        }
+        seen[*node as usize] = true;
+    }
+    None
+}
+
+// ---- the first fixed pair that a tour does not use
+
+/// The first fixed pair, counted from 1, that a cycle of n nodes doesn't use: as neighbours in
+/// either direction, or from its first to its second node alone.
+///
+/// # Errors
+///
+/// Out of memory for a number for each node, where a pair is fixed.
+pub(crate) fn first_unused_by(
+    alloc: Global,
+    cycle: &[u32],
+    n: u32,
+    fixed: &[(u32, u32)],
+    directed: bool,
+) -> Result<Option<u32>, Refused>
+    requires cycle { IsCycle n cycle.now }
+    requires size { length fixed.now < 2 ^ 32 }
+    requires range { All (IsPairOf n) fixed.now }
+    ensures { IfOk result (λ found. MatchOption found
+        (All (Uses directed cycle.now) fixed.now)
+        (λ index. IsFirstPlace (IsUnused directed cycle.now fixed.now) fixed.now index)) }
+{
+    if fixed.is_empty() {
+        return Ok(None);
+    }
+    let next = next_nodes(alloc, cycle, n)?;
+    Ok(first_unused(fixed, next.as_slice(), directed))
+}
+
+/// For each node of a cycle of n nodes the one that comes next, the first one after the last.
+///
+/// # Errors
+///
+/// Out of memory for a number for each node.
+fn next_nodes(alloc: Global, cycle: &[u32], n: u32) -> Result<Vec<u32>, Refused>
+    requires { IsCycle n cycle.now }
+    ensures { IfOk result (λ next. (vec_len next ≡ n + 1) × AreNext cycle.now next.items) }
+{
+    let mut next = filled(alloc, 0, n as usize + 1)?;
+    let Some((first, others)) = cycle.split_first() else {
+        return Ok(next);
+    };
+    let mut from = *first;
+    'nodes: for node in others {
+        next[from as usize] = *node;
+        from = *node;
+    }
+    next[from as usize] = *first;
+    Ok(next)
+}
+
+/// The first fixed pair that a cycle does not use, by the node that comes next after each.
+fn first_unused(fixed: &[(u32, u32)], next: &[u32], directed: bool) -> Option<u32>
+    requires size { length fixed.now < 2 ^ 32 }
+    requires range { All (IsPairOf (length next.now - 1)) fixed.now }
+    ensures { (cycle : List ℕ) → AreNext cycle next.now → MatchOption result
+        (All (Uses directed cycle) fixed.now)
+        (λ index. IsFirstPlace (IsUnused directed cycle fixed.now) fixed.now index) }
+{
+    let mut index = 0;
+    'pairs: for pair in fixed {
+        index += 1;
+        if !is_used(*pair, next, directed) {
+            return Some(index);
+        }
+    }
+    None
+}
+
+/// Whether a pair is used.
+fn is_used(pair: (u32, u32), next: &[u32], directed: bool) -> bool
+    requires { IsPairOf (length next.now - 1) pair }
+    ensures { (cycle : List ℕ) → AreNext cycle next.now
+        → MatchBool result (Uses directed cycle pair) (Uses directed cycle pair → ⊥) }
+{
+    if next[pair.0 as usize] == pair.1 {
+        return true;
+    }
+    if directed {
+        return false;
+    }
+    next[pair.1 as usize] == pair.0
+}
+
+// ---- the tours of a solution file, and the depot, demands and capacity of a routing instance
+
+/// The tours of a solution; none of a file of another TYPE.
+pub(crate) fn solution_tours(sol: &File) -> Option<&[Vec<u32>]>
+    ensures { MatchOption result
+        (is_tour_file sol.now.kind ≡ false)
+        (λ tours. AreToursOf sol.now tours.now) }
+{
+    sol.as_tours()
+}
+
+/// What a routing instance holds beside its costs.
+pub(crate) fn routing(inst: &Instance) -> RoutingData<'_>
+    requires { inst.now.kind ≡ Some kinds.Cvrp }
+    ensures capacity { result.capacity ≡ capacity_of inst.now }
+    ensures loadable { IsFromTo (pos 1) (pos most_capacity) result.capacity }
+    ensures demands { result.demands.now ≡ demands_of inst.now }
+    ensures each { length result.demands.now ≡ nodes_of inst.now }
+    ensures each_demand { All IsDemand result.demands.now }
+    ensures depots { result.depots.now ≡ depots_of inst.now }
+    ensures each_depot { All (IsNode (nodes_of inst.now)) result.depots.now }
+{
+    inst.routing().unwrap()
 }

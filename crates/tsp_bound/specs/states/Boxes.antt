@@ -1,5 +1,5 @@
 -- A tree of boxes over the nodes of an order, with one node in each leaf, and the nearest node that a search of it
--- finds. For `boxes_of` (src/boxes.rt), and for `Search` (src/search.rt), which finds a `Best` (src/nearest.rt).
+-- finds. For `boxes_of` (src/boxes.rt), and for `Search` (src/search.rt), which finds a `Best` (src/search.rt).
 -- `outside j`: the node at the place j of the order is in another component, so it may be found.
 use Rattle.std.specs.Prelude.{◌≡◌, ℕ, zero, suc, ◌+◌, ◌*◌, ◌/◌, ◌<◌, ◌≤◌, Bool, true, List, Option, None, Some, length, slice_index_or, slice_set, ℤ, pos, ◌≤ℤ◌, ◌⊎◌}
 use denote.Struct.Props as logic
@@ -7,7 +7,7 @@ use mathlib.Core.HLevel.{Π_prop, ⊥_prop}
 use Rattle.tsp_distance.specs.declared.decimal.Point.{Point}
 use Rattle.tsp_theory.specs.Regions.{IsIn}
 use Rattle.tsp_bound.specs.declared.area.Area.{Area}
-use Rattle.tsp_bound.specs.declared.nearest.Best.{Best}
+use Rattle.tsp_bound.specs.declared.search.Best.{Best}
 
 -- the box is there, the node's point lies in it, and the node's number is no less than the box's least number
 abbrev pub HoldsNode : (ℕ → Point) → (ℕ → ℤ) → Option Area → ℕ → Type 0

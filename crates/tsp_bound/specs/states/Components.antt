@@ -1,10 +1,10 @@
 -- The components of a forest over the places 0..n-1 of an order, each with a label, and the lightest links between
--- them. For `Labelled` (src/labelled.rt) and `Listed` (src/listed.rt), whose components the rounds of src/rounds.rt
+-- them. For `Labelled` (src/boxes.rt) and `Listed` (src/lists.rt), whose components the rounds of src/rounds.rt
 -- join.
 use Rattle.std.specs.Prelude.{◌≡◌, ◌≢◌, ℕ, ◌+◌, ◌*◌, ◌^◌, ◌==◌, ◌<◌, Bool, true, not, if◌then◌else◌, List, [], length, slice_index_or, Option, None, Some, ℤ, pos, neg_ℤ, ◌≤ℤ◌, IfSome, ◌⊎◌}
 use Rattle.std.specs.List.{All}
 use Rattle.tsp_bound.specs.declared.area.Area.{Area}
-use Rattle.tsp_bound.specs.declared.link.Link.{Link}
+use Rattle.tsp_bound.specs.declared.search.Link.{Link}
 use Rattle.tsp_bound.specs.states.Boxes.{AreHeld, box_at}
 use Rattle.tsp_theory.specs.Forest.{AreLeastJoins, IsWholeForest}
 use Rattle.tsp_format.specs.Limits.{most_nodes}

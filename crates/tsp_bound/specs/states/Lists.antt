@@ -1,8 +1,8 @@
 -- For each place 0..n-1 of an order twelve links to other places, and a number that none of its other links is below.
--- For `Listed` (src/listed.rt), and for src/lists.rt, which fills it. The 12 is `KEPT` of src/lists.rt, which says what
+-- For `Listed` (src/lists.rt), and for src/lists.rt, which fills it. The 12 is `KEPT` of src/lists.rt, which says what
 -- else to change.
 use Rattle.std.specs.Prelude.{◌≡◌, ◌≢◌, ℕ, ◌+◌, ◌*◌, ◌<◌, List, slice_index_or, slice_set, ℤ, pos, ◌≤ℤ◌, ◌⊎◌}
-use Rattle.tsp_bound.specs.declared.link.Link.{Link}
+use Rattle.tsp_bound.specs.declared.search.Link.{Link}
 use Rattle.tsp_bound.specs.states.Boxes.{node_of}
 use Rattle.tsp_theory.specs.states.Nearest.{least_at}
 

@@ -1,9 +1,9 @@
--- The triples of `Multipliers` (src/multipliers.rt) and `ByNode` (src/by_node.rt), and the weights under them: a triple
+-- The triples of `Multipliers` (src/potentials.rt) and `ByNode` (src/by_node.rt), and the weights under them: a triple
 -- (a, b, number) lowers the weight of the pair of a and b. For `Weights` (src/weights.rt) and `least_one_tree`
--- (src/tree.rt).
+-- (src/bound.rt).
 use Rattle.std.specs.Prelude.{ℕ, List, [], ℤ}
 use Rattle.tsp_bound.specs.declared.by_node.ByNode.{ByNode}
-use Rattle.tsp_bound.specs.declared.multipliers.Multipliers.{Multipliers}
+use Rattle.tsp_bound.specs.declared.potentials.Multipliers.{Multipliers}
 use Rattle.tsp_bound.specs.declared.potentials.Potentials.{Potentials}
 use Rattle.tsp_bound.specs.states.Potentials.{weight_under}
 use Rattle.tsp_theory.specs.Adjusted.{adjusted}

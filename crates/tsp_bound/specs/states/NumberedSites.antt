@@ -1,11 +1,11 @@
 -- Nodes with their points and their numbers: a number adds to the weights of all pairs of its node. For
--- `numbered_sites_of` (src/numbered_sites.rt), which makes a `NumberedSite` of each, and for `Search` (src/search.rt).
+-- `numbered_sites_of` (src/boxes.rt), which makes a `NumberedSite` of each, and for `Search` (src/search.rt).
 -- Here a place is a point, not an index.
 use Rattle.std.specs.Prelude.{◌≡◌, ℕ, ◌<◌, List, length, slice_index_or, ℤ, pos, neg_ℤ}
 use Rattle.tsp_distance.specs.declared.decimal.Point.{Point}
 use Rattle.tsp_theory.specs.Regions.{IsSite}
 use Rattle.tsp_theory.specs.CertificateNumbers.{IsFromTo, most_number}
-use Rattle.tsp_bound.specs.declared.numbered_site.NumberedSite.{NumberedSite}
+use Rattle.tsp_bound.specs.declared.boxes.NumberedSite.{NumberedSite}
 use Rattle.tsp_bound.specs.states.Boxes.{node_of}
 
 -- a node with its point and its number, which is within its limit

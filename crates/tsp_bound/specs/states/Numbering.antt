@@ -1,5 +1,5 @@
--- Nodes that are numbered by their places in a list; a place is an index. For `places_in` (src/numbering.rt) and
--- `Placed` (src/placed.rt).
+-- Nodes that are numbered by their places in a list; a place is an index. For `places_in` (src/rounds.rt) and
+-- `Placed` (src/search.rt).
 use Rattle.std.specs.Prelude.{◌≡◌, ℕ, ◌<◌}
 
 -- `node` and `place` are inverse to each other, between 0..n-1 and the nodes

@@ -1,5 +1,5 @@
 -- The fields of `Potentials` (src/potentials.rt), a number for each node at a scale, and the weights that they give.
--- For `Weights` (src/weights.rt) and `least_one_tree` (src/tree.rt). `IsInverse` is for `inverse_of` (src/search.rt).
+-- For `Weights` (src/weights.rt) and `least_one_tree` (src/bound.rt). `IsInverse` is for `inverse_of` (src/search.rt).
 use Rattle.std.specs.Prelude.{ℕ, ◌≢◌, ◌*◌, ◌^◌, ◌≤◌, List, ℤ, pos, nat_abs}
 use Rattle.tsp_bound.specs.declared.potentials.Potentials.{Potentials}
 use Rattle.tsp_theory.specs.NodeBound.{weight_between}

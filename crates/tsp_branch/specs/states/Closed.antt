@@ -1,9 +1,9 @@
--- Rows of weights in which the links that decisions don't allow are closed. For `close_all` (src/closing.rt) and
--- `AllowedRows` (src/rows.rt). A row has the weights from one node, each at the index of the other node.
+-- Rows of weights in which the links that decisions don't allow are closed. For `close_all` (src/case_leaf.rt) and
+-- `AllowedRows` (src/case_leaf.rt). A row has the weights from one node, each at the index of the other node.
 use Rattle.std.specs.Prelude.{◌≡◌, ℕ, List, ◌⊎◌, ℤ, pos}
 use Rattle.tsp_format.specs.Nodes.{IsNode}
 use Rattle.tsp_theory.specs.states.Nearest.{least_at}
-use Rattle.tsp_cases.specs.declared.decision.Decision.{Decision}
+use Rattle.tsp_cases.specs.declared.open_case.Decision.{Decision}
 use Rattle.tsp_cases.specs.Rows.{IsAllowed}
 
 -- the weight that means no link: the largest number of 64 bits, below which all weights are

@@ -1,5 +1,5 @@
 -- The weight between two nodes of a leaf: what the sets that have both add, by the places of each node's sets, and what
--- decisions change. For src/leaf_rows.rt, src/boxed_leaf.rt and src/both_sets.rt. `moved` is the field of `CaseLeaf`
+-- decisions change. For src/leaf_rows.rt, src/boxed.rt and src/boxed.rt. `moved` is the field of `CaseLeaf`
 -- (src/case_leaf.rt).
 use Rattle.std.specs.Prelude.{◌≡◌, ℕ, ◌==◌, ◌&&◌, Bool, true, false, if◌then◌else◌, List, map, reverse, slice_index_or, ℤ, pos, negsuc, neg_ℤ, ◌+ℤ◌, ◌*ℤ◌}
 use Rattle.std.specs.List.{list_any, filter}
@@ -7,8 +7,8 @@ use Rattle.tsp_format.specs.Nodes.{IsNode}
 use Rattle.tsp_theory.specs.Length.{sum_int_by}
 use Rattle.tsp_theory.specs.CertificateNumbers.{IsFromTo, entry, most_number}
 use Rattle.tsp_theory.specs.states.Nearest.{least_at}
-use Rattle.tsp_cases.specs.declared.decision.Decision.{Decision}
-use Rattle.tsp_cases.specs.declared.set_place.SetPlace.{SetPlace}
+use Rattle.tsp_cases.specs.declared.open_case.Decision.{Decision}
+use Rattle.tsp_cases.specs.declared.sets.SetPlace.{SetPlace}
 use Rattle.tsp_cases.specs.states.Combed.{multipliers_at}
 use Rattle.tsp_cases.specs.states.Decided.{changes, decided}
 use Rattle.tsp_cases.specs.states.OpenCases.{bears_on}

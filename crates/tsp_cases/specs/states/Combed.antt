@@ -1,5 +1,5 @@
 -- The weight between two nodes under families, as code finds it: from the sets, each with the multiplier of its family.
--- For `MultipliedFamilies` (src/multiplied.rt), `add_sets` (src/row_sets.rt), and src/leaf_rows.rt of tsp_branch.
+-- For `MultipliedFamilies` (src/multipliers.rt), `add_sets` (src/sets.rt), and src/leaf_rows.rt of tsp_branch.
 -- `families` has the sets of each family, and a set its nodes.
 use Rattle.std.specs.Prelude.{◌≡◌, ℕ, suc, List, [], ◌∷◌, length, slice_index_or, ℤ, pos, neg_ℤ, ◌+ℤ◌, ◌-ℤ◌, ◌*ℤ◌}
 use Rattle.std.specs.List.{All}
@@ -9,13 +9,13 @@ use Rattle.tsp_theory.specs.NodeBound.{weight_between, most_between}
 use Rattle.tsp_theory.specs.Tree.{crossing}
 use Rattle.tsp_theory.specs.Adjusted.{adjusted}
 use Rattle.tsp_format.specs.Nodes.{IsNode}
-use Rattle.tsp_families.specs.Crossed.{has}
-use Rattle.tsp_families.specs.declared.family.Crossings.{Crossings}
+use Rattle.tsp_cases.specs.Crossed.{has}
+use Rattle.tsp_cases.specs.declared.family.Crossings.{Crossings}
 use Rattle.tsp_cases.specs.LeafBound.{crossings_of, leaf_weight}
 use Rattle.tsp_cases.specs.CaseTrees.{multiplied}
 use Rattle.tsp_cases.specs.FamiliesOfSets.{families_with}
 use Rattle.tsp_cases.specs.GoodNumbers.{most_crossed}
-use Rattle.tsp_cases.specs.declared.set_place.SetPlace.{SetPlace}
+use Rattle.tsp_cases.specs.declared.sets.SetPlace.{SetPlace}
 use Rattle.tsp_cases.specs.states.Sets.{IsMoved, added}
 
 -- multipliers that a good leaf may have

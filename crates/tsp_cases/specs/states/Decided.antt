@@ -1,12 +1,12 @@
 -- How decisions change weights: each that of its pair, by the same number; and the stack of decisions of the open case.
--- For `Decision` (src/decision.rt), `OpenCase` (src/open_case.rt), and src/decided.rt of tsp_branch.
+-- For `Decision` (src/open_case.rt), `OpenCase` (src/open_case.rt), and src/case_leaf.rt of tsp_branch.
 use Rattle.std.specs.Prelude.{◌≡◌, ◌≢◌, ◌<◌, ℕ, Bool, true, false, if◌then◌else◌, List, [], reverse, Some, None, ℤ, pos, neg_ℤ, ◌+ℤ◌, ◌⊎◌}
 use Rattle.std.specs.Int.{w64, int_wrap}
 use Rattle.tsp_format.specs.Nodes.{IsNode}
 use Rattle.tsp_theory.specs.Length.{sum_int_by}
 use Rattle.tsp_theory.specs.CertificateNumbers.{IsFromTo}
 use Rattle.tsp_theory.specs.Adjusted.{is_same_pair, adjusted}
-use Rattle.tsp_cases.specs.declared.decision.Decision.{Decision}
+use Rattle.tsp_cases.specs.declared.open_case.Decision.{Decision}
 use Rattle.tsp_cases.specs.Decisions.{on_taken, on_avoided, decided_number}
 use Rattle.tsp_cases.specs.Cases.{next_stack}
 

@@ -1,9 +1,9 @@
--- The two numbers of a family as code finds them: a value of `Crossings` of tsp_families, with how often a cycle
+-- The two numbers of a family as code finds them: a value of `Crossings` of tsp_cases, with how often a cycle
 -- crosses the sets at least, and how many of them two nodes cross at most. For src/good_families.rt and
--- src/other_families.rt.
+-- src/good_families.rt.
 use Rattle.std.specs.Prelude.{◌<◌, ◌^◌, ℕ, List, Option, Some, None}
 use Rattle.std.specs.List.{All}
-use Rattle.tsp_families.specs.declared.family.Crossings.{Crossings}
+use Rattle.tsp_cases.specs.declared.family.Crossings.{Crossings}
 use Rattle.tsp_cases.specs.Families.{IsFamily}
 use Rattle.tsp_cases.specs.FamiliesOfSets.{family_with}
 use Rattle.tsp_cases.specs.GoodFamilies.{HasEachOnce, IsGoodFamily}

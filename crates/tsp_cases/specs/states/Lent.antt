@@ -1,7 +1,7 @@
 -- The fields of `Families` (src/families.rt): the sets of a certificate, and the families that they are, each with its
--- two numbers. For `Setting` (src/setting.rt), and for each struct of a leaf in tsp_branch and tsp_routing.
+-- two numbers. For `Setting` (src/kept.rt), and for each struct of a leaf in tsp_branch and tsp_routing.
 use Rattle.std.specs.Prelude.{ℕ, List}
-use Rattle.tsp_families.specs.FamilySets.{families_in}
+use Rattle.tsp_cases.specs.FamilySets.{families_in}
 use Rattle.tsp_cases.specs.declared.families.Families.{Families}
 use Rattle.tsp_cases.specs.Families as kinds
 use Rattle.tsp_cases.specs.FamiliesOfSets.{families_with}

@@ -1,8 +1,8 @@
 -- Marks of nodes, by which code finds out that no node is twice in a set or in two teeth: `marks` has the mark of each
--- node at its index. For src/marks.rt and src/good_families.rt, and for src/cuts.rt of tsp_routing.
+-- node at its index. For src/good_families.rt and src/good_families.rt, and for src/verdict.rt of tsp_routing.
 use Rattle.std.specs.Prelude.{◌≡◌, ◌≢◌, ℕ, ◌==◌, ◌||◌, ◌<◌, length, Bool, false, List, [], ◌∷◌, slice_index}
 use Rattle.std.specs.List.{All}
-use Rattle.tsp_families.specs.Crossed.{has}
+use Rattle.tsp_cases.specs.Crossed.{has}
 use Rattle.tsp_cases.specs.Combs.{IsTooth}
 use Rattle.tsp_cases.specs.GoodFamilies.{HasEachOnce}
 use Rattle.std.specs.Global.{Vec}

@@ -1,11 +1,11 @@
 -- The decisions of the open case as code has them: a stack above the given decisions, and a list of them for each node.
--- For `OpenCase` (src/open_case.rt) and `NodeDecisions` (src/node_decisions.rt). tsp_branch and tsp_routing import it
+-- For `OpenCase` (src/open_case.rt) and `NodeDecisions` (src/open_case.rt). tsp_branch and tsp_routing import it
 -- too.
 use Rattle.std.specs.Prelude.{◌≡◌, ◌≢◌, ℕ, ◌==◌, ◌||◌, ◌&&◌, not, ◌+◌, ◌<◌, ◌≤◌, Bool, List, ◌∷◌, ◌++◌, length, slice_index_or}
 use Rattle.std.specs.Global.{Vec}
 use Rattle.std.specs.List.{All, filter}
-use Rattle.tsp_cases.specs.declared.decision.Decision.{Decision}
-use Rattle.tsp_cases.specs.declared.node_decisions.NodeDecisions.{NodeDecisions}
+use Rattle.tsp_cases.specs.declared.open_case.Decision.{Decision}
+use Rattle.tsp_cases.specs.declared.open_case.NodeDecisions.{NodeDecisions}
 use Rattle.tsp_cases.specs.declared.open_case.OpenCase.{OpenCase}
 use Rattle.tsp_cases.specs.states.Decided.{IsDecision, stack_of}
 

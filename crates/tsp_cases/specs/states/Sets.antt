@@ -1,12 +1,12 @@
 -- For each node the places of the sets that have it, and what a set adds to a row of numbers by node. For
--- `sets_by_node` (src/sets.rt) and `add_sets` (src/row_sets.rt). `SetPlace` (src/set_place.rt) says which set of which
+-- `sets_by_node` (src/sets.rt) and `add_sets` (src/sets.rt). `SetPlace` (src/sets.rt) says which set of which
 -- family.
 use Rattle.std.specs.Prelude.{◌≡◌, ℕ, suc, ◌==◌, ◌+◌, ◌++◌, ◌<◌, ◌≤◌, if◌then◌else◌, List, [], ◌∷◌, length, slice_index_or, ℤ, pos}
 use Rattle.std.specs.Global.{Vec}
 use Rattle.tsp_theory.specs.Length.{sum_int_by}
-pub use Rattle.tsp_tree.specs.states.Additions.{IsMoved}
+pub use Rattle.tsp_bound.specs.states.Additions.{IsMoved}
 use Rattle.tsp_cases.specs.states.Places.{place_at}
-use Rattle.tsp_cases.specs.declared.set_place.SetPlace.{SetPlace}
+use Rattle.tsp_cases.specs.declared.sets.SetPlace.{SetPlace}
 
 -- a number, as often as the node x is in a list of nodes
 abbrev pub added : ℤ → List ℕ → ℕ → ℤ

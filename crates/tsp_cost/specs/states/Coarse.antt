@@ -1,5 +1,5 @@
 -- The distance EUC_2D of points whose coordinates differ by whole numbers of steps; a step is a 512th of a unit. For
--- `nearest_root` (src/coarse.rt).
+-- `nearest_root` (src/metric.rt).
 use Rattle.std.specs.Prelude.{ℕ, ◌+◌, ◌-◌, ◌*◌, ◌<◌, ◌≤◌}
 use Rattle.tsp_distance.specs.Distances.{squared}
 

@@ -1,14 +1,14 @@
 -- What `Instance` (src/instance.rt) has found out of its file when it was made: the number of nodes, and where the
--- costs come from, as a `CostSource` (src/cost_source.rt).
+-- costs come from, as a `CostSource` (src/instance.rt).
 use Rattle.std.specs.Prelude.{◌≡◌, ℕ, Some, IsSome, IsTrue}
 use Rattle.tsp_format.specs.declared.kinds.Kind.TheVariants as kinds
 use Rattle.tsp_format.specs.declared.kinds.WeightFormat.TheVariants.{Listed}
 use Rattle.tsp_format.specs.declared.kinds.WeightKind.TheVariants.{Explicit}
-use Rattle.tsp_draft.specs.Fields.{Fields}
-use Rattle.tsp_draft.specs.Rules.{is_instance}
-use Rattle.tsp_draft.specs.Valid.{IsInRange, HasRouting}
-use Rattle.tsp_cost.specs.declared.cost_source.CostSource.{CostSource}
-use Rattle.tsp_cost.specs.declared.cost_source.CostSource.TheVariants.{Distances, Weights}
+use Rattle.tsp_file.specs.Fields.{Fields}
+use Rattle.tsp_file.specs.Rules.{is_instance}
+use Rattle.tsp_file.specs.Valid.{IsInRange, HasRouting}
+use Rattle.tsp_cost.specs.declared.instance.CostSource.{CostSource}
+use Rattle.tsp_cost.specs.declared.instance.CostSource.TheVariants.{Distances, Weights}
 use Rattle.tsp_cost.specs.states.Metrics.{weight_kind_of}
 
 -- the costs are distances of its points, or weights that it lists in a layout

@@ -1,24 +1,24 @@
 -- The number of nodes and the costs of each view of an instance: points, a matrix or a triangle. For `View` and
--- `EvenView` (src/view.rt) and the structs in them. An `EvenView` has costs that are the same in both directions.
+-- `EvenView` (src/instance.rt) and the structs in them. An `EvenView` has costs that are the same in both directions.
 use Rattle.std.specs.Prelude.{◌≡◌, ◌≢◌, ℕ, true, false, length, map, Some, ℤ}
 use Rattle.tsp_distance.specs.declared.decimal.Point.{Point}
 use Rattle.tsp_distance.specs.Distances.{on_plane}
 use Rattle.tsp_format.specs.declared.layout.Layout.TheVariants.{FullMatrix}
 use Rattle.tsp_format.specs.declared.kinds.WeightFormat.TheVariants.{Listed}
-use Rattle.tsp_draft.specs.Fields.{Fields}
-use Rattle.tsp_draft.specs.Rules.{is_explicit}
+use Rattle.tsp_file.specs.Fields.{Fields}
+use Rattle.tsp_file.specs.Rules.{is_explicit}
 use Rattle.tsp_file.specs.Cost.{listed_cost, distance, point_of, cost}
 use Rattle.tsp_distance.specs.declared.decimal.PlanePoint.{PlanePoint}
 use Rattle.tsp_cost.specs.declared.points.Points.{Points}
-use Rattle.tsp_cost.specs.declared.euclidean.Euclidean.{Euclidean}
+use Rattle.tsp_cost.specs.declared.points.Euclidean.{Euclidean}
 use Rattle.tsp_cost.specs.states.Metrics.{weight_kind_of}
 use Rattle.tsp_cost.specs.declared.matrix.Matrix.{Matrix}
 use Rattle.tsp_cost.specs.declared.matrix.EvenMatrix.{EvenMatrix}
-use Rattle.tsp_cost.specs.declared.triangle.Triangle.{Triangle}
-use Rattle.tsp_cost.specs.declared.view.View.{View}
-use Rattle.tsp_cost.specs.declared.view.View.TheVariants as views
-use Rattle.tsp_cost.specs.declared.view.EvenView.{EvenView}
-use Rattle.tsp_cost.specs.declared.view.EvenView.TheVariants as even_views
+use Rattle.tsp_cost.specs.declared.matrix.Triangle.{Triangle}
+use Rattle.tsp_cost.specs.declared.instance.View.{View}
+use Rattle.tsp_cost.specs.declared.instance.View.TheVariants as views
+use Rattle.tsp_cost.specs.declared.instance.EvenView.{EvenView}
+use Rattle.tsp_cost.specs.declared.instance.EvenView.TheVariants as even_views
 
 -- how many nodes a view of points has
 abbrev pub points_nodes : {P : Type 0} → Points P → ℕ

@@ -1,15 +1,15 @@
 -- What holds of a file whose weights get into another layout in one of four ways. For `way` (src/relayout.rt), which
--- picks the `Way` (src/way.rt).
+-- picks the `Way` (src/relayout.rt).
 use Rattle.std.specs.Prelude.{◌≡◌, ◌≢◌, Some}
 use Rattle.std.specs.List.{All}
 use Rattle.tsp_format.specs.declared.layout.Layout.{Layout}
 use Rattle.tsp_format.specs.declared.layout.Layout.TheVariants.{FullMatrix}
 use Rattle.tsp_format.specs.declared.kinds.WeightFormat.TheVariants.{Listed}
 use Rattle.tsp_format.specs.Limits.{most_weight}
-use Rattle.tsp_file.specs.declared.way.Way.{Way}
-use Rattle.tsp_file.specs.declared.way.Way.TheVariants.{Already, Within, Across, Anew}
-use Rattle.tsp_draft.specs.Fields.{Fields, nodes_of}
-use Rattle.tsp_draft.specs.Valid.{IsWithin}
+use Rattle.tsp_file.specs.declared.relayout.Way.{Way}
+use Rattle.tsp_file.specs.declared.relayout.Way.TheVariants.{Already, Within, Across, Anew}
+use Rattle.tsp_file.specs.Fields.{Fields, nodes_of}
+use Rattle.tsp_file.specs.Valid.{IsWithin}
 use Rattle.tsp_file.specs.Cost.{cost}
 use Rattle.tsp_file.specs.Relayout.{costs_in}
 

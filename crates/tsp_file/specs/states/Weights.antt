@@ -1,6 +1,6 @@
--- The costs that the listed weights of a file give. For the calls of `ListedWeights` (src/weights.rt).
+-- The costs that the listed weights of a file give. For the calls of `ListedWeights` (src/typed.rt).
 use Rattle.std.specs.Prelude.{ℕ, ℤ}
-use Rattle.tsp_file.specs.declared.weights.ListedWeights.{ListedWeights}
+use Rattle.tsp_file.specs.declared.typed.ListedWeights.{ListedWeights}
 use Rattle.tsp_file.specs.Cost.{listed_cost}
 
 -- the cost from one node to another

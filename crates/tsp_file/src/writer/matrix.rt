@@ -1,19 +1,19 @@
 //! Writes EDGE_WEIGHT_SECTION, a line for each line of its layout. For `src/writer.rt`.
 
-ghost use Rattle.std.specs.Prelude.{◌≡◌, ◌∷◌, length, map};
+ghost use Rattle.std.specs.Fmt.{signed_decimal, decimal};
 ghost use Rattle.std.specs.List.{flat_map};
-ghost use Rattle.std.specs.Fmt.{signed_decimal};
 ghost use Rattle.std.specs.Option.{option_map};
-ghost use Rattle.tsp_format.specs.Nodes.{nodes_to};
+ghost use Rattle.std.specs.Prelude.{◌≡◌, ◌∷◌, length, map, ◌≤◌, drop, IfSome, ◌+◌, ◌/◌, ◌%◌, ◌<◌, ◌++◌};
 ghost use Rattle.tsp_format.specs.Cells.{cells_of_line};
+ghost use Rattle.tsp_format.specs.Nodes.{nodes_to};
+ghost use Rattle.tsp_io.specs.states.WriteProgress.{Puts};
 ghost use Rattle.tsp_file.specs.CanonicalText.{weight_line, matrix_lines, line_lens, section_text, optional};
-ghost use Rattle.tsp_stream.specs.states.WriteProgress.{Puts};
 
-use crate::writer::block::{BLOCK, MOST_WEIGHTS, put_block};
 use crate::writer::sections::put_opening;
 use std::io::Write;
 use tsp_format::{Field, Layout, WeightFormat};
-use tsp_stream::{Piece, Watched, put, put_number};
+use tsp_io::{Piece, Watched, put, put_next_number, put_number};
+use tsp_number::write_pair;
 
 /// Adds weights, each after a blank.
 fn put_more_weights<W: Write>(piece: &mut Piece, out: &mut Watched<W>, weights: &[i64])
@@ -108,4 +108,91 @@ pub(crate) fn put_weight_section<W: Write>(
         put_opening(piece, out, field);
         put_matrix(piece, out, format, dimension, weights);
     }
+}
+
+// ---- up to 64 weights of at most eight digits, written as one block of bytes, each after a
+
+/// The most weights of a block.
+const MOST_WEIGHTS: usize = 64;
+
+/// The bytes of a block: a blank and eight digits for each weight.
+const BLOCK: usize = 576;
+
+/// Writes weights, each after a blank, so that they end with the block, and returns where they
+/// begin; none where one of them is negative or has more than eight digits.
+fn fill(weights: &[i64], block: &mut [u8; BLOCK]) -> Option<usize>
+    requires { length weights.now ≤ 64 }
+    ensures { IfSome result (λ start. (start ≤ 576)
+        × (drop start block.new ≡ flat_map (λ weight. 32 ∷ signed_decimal weight) weights.now)) }
+{
+    let mut start = BLOCK;
+    'weights: for index in (0..weights.len()).rev() {
+        let weight = weights[index];
+        if weight < 0 || weight >= 100_000_000 {
+            return None;
+        }
+        start = write_digits(weight as u32, block, start) - 1;
+        block[start] = b' ';
+    }
+    Some(start)
+}
+
+/// Adds weights one by one, each after a blank.
+fn put_each<W: Write>(piece: &mut Piece, out: &mut Watched<W>, weights: &[i64])
+    ensures { Puts W.contents out.old piece.old out.new piece.new
+        (flat_map (λ weight. 32 ∷ signed_decimal weight) weights.now) }
+{
+    'weights: for weight in weights {
+        put_next_number(piece, out, *weight);
+    }
+}
+
+/// Adds weights, each after a blank, by a block whose bytes are overwritten.
+fn put_block<W: Write>(
+    piece: &mut Piece,
+    out: &mut Watched<W>,
+    weights: &[i64],
+    block: &mut [u8; BLOCK],
+)
+    requires { length weights.now ≤ 64 }
+    ensures { Puts W.contents out.old piece.old out.new piece.new
+        (flat_map (λ weight. 32 ∷ signed_decimal weight) weights.now) }
+{
+    match fill(weights, block) {
+        Some(start) => put(piece, out, &block[start..]),
+        None => put_each(piece, out, weights),
+    }
+}
+
+// ---- the digits of a whole number, written into a block of bytes from the last to the first
+
+/// How many digits a number has.
+#[inline(always)]
+fn digit_count(number: u32) -> usize
+    ensures { result ≡ length (decimal number) }
+{
+    number.max(1).ilog10() as usize + 1
+}
+
+/// Writes the digits of a number of at most eight so that they end at a place, and returns where
+/// they begin.
+///
+/// All eight are written, the zeros before them too, since no processor foresees how many digits
+/// the next number has. Whatever comes before the number is written after it.
+#[inline(always)]
+fn write_digits(number: u32, block: &mut [u8], end: usize) -> usize
+    requires few { number < 100000000 }
+    requires room { 8 ≤ end }
+    requires within { end ≤ length block.old }
+    ensures start { result + length (decimal number) ≡ end }
+    ensures short { end ≤ result + 8 }
+    ensures written { drop result block.new ≡ decimal number ++ drop end block.old }
+{
+    let high = number / 10_000;
+    let low = number % 10_000;
+    write_pair(low % 100, block, end - 2);
+    write_pair(low / 100, block, end - 4);
+    write_pair(high % 100, block, end - 6);
+    write_pair(high / 100, block, end - 8);
+    end - digit_count(number)
 }

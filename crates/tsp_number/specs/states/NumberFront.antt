@@ -1,5 +1,5 @@
 -- Where a number word at the beginning of some bytes ends. For `front_decimal`, `front_whole` and `front_few`
--- (src/front.rt), by which tsp_read reads plain numbers fast.
+-- (src/word.rt), by which tsp_read reads plain numbers fast.
 use Rattle.std.specs.Prelude.{ℕ, ◌≤◌, ◌+◌, ◌==◌, ◌||◌, ◌&&◌, cond, nat_le, nat_lt, min, List, [], ◌∷◌, length, take, drop, slice_index, Option, None, Some, ℤ}
 use Rattle.std.specs.Char.{is_ascii_digit}
 use Rattle.std.specs.List.{prefix_len}

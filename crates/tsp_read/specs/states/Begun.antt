@@ -1,9 +1,9 @@
 -- A line or a word that begins in one piece of a text and ends in a later one: its bytes are kept in `Begun`
--- (src/begun.rt), beside an `Intake` (src/intake.rt). For `join` and `keep` there, and for Paused.antt.
+-- (src/items.rt), beside an `Intake` (src/items.rt). For `join` and `keep` there, and for Paused.antt.
 use Rattle.std.specs.Prelude.{◌≡◌, ℕ, ◌+◌, ◌≤◌, Bool, true, false, List, [], ◌∷◌, ◌++◌, length}
-use Rattle.tsp_read.specs.declared.intake.Intake.{Intake}
-use Rattle.tsp_read.specs.declared.token.Token.{Token}
-use Rattle.tsp_read.specs.declared.begun.Begun.{Begun}
+use Rattle.tsp_read.specs.declared.items.Intake.{Intake}
+use Rattle.tsp_read.specs.declared.items.Token.{Token}
+use Rattle.tsp_read.specs.declared.items.Begun.{Begun}
 use Rattle.tsp_text.specs.Lines.{is_not_empty}
 use Rattle.tsp_read.specs.states.Left.{from, items_left}
 use Rattle.tsp_read.specs.states.Token.{token_at, ends_token}

@@ -1,12 +1,12 @@
 -- The result of the reader at the end of a text: the file of the items, or the fault of the end table. For `finish` and
--- `file_of` (src/state/finish.rt). The items are the last one first.
+-- `file_of` (src/reading.rt). The items are the last one first.
 use Rattle.std.specs.Prelude.{◌≡◌, List, Option, None, Some, Result, Ok, Err}
-use Rattle.tsp_format.specs.declared.field.Field.{Field}
-use Rattle.tsp_draft.specs.declared.fault.EndFault.{EndFault}
-use Rattle.tsp_draft.specs.Fields.{Fields}
-use Rattle.tsp_draft.specs.Rules.{standing_of, end_fault}
-use Rattle.tsp_read.specs.declared.state.finish.FinishFault.{FinishFault}
-use Rattle.tsp_read.specs.declared.state.finish.FinishFault.TheVariants as faults
+use Rattle.tsp_format.specs.declared.keyword.Field.{Field}
+use Rattle.tsp_file.specs.declared.rules.EndFault.{EndFault}
+use Rattle.tsp_file.specs.Fields.{Fields}
+use Rattle.tsp_file.specs.Rules.{standing_of, end_fault}
+use Rattle.tsp_read.specs.declared.reading.FinishFault.{FinishFault}
+use Rattle.tsp_read.specs.declared.reading.FinishFault.TheVariants as faults
 use Rattle.tsp_text.specs.Items.{Item}
 use Rattle.tsp_text.specs.FirstFault.{IsClean}
 use Rattle.tsp_text.specs.Spells.{spelled, fault_at_end}

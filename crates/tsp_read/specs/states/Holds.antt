@@ -1,16 +1,16 @@
 -- The reader's state after some items of a text, the last one first: the fields of the items in its draft, and the
--- words of the open section. For `Reading` (src/state/reading.rt), whose `incomplete` is the first closed section that
+-- words of the open section. For `Reading` (src/reading.rt), whose `incomplete` is the first closed section that
 -- is incomplete, and whose `opened` is the open section.
 use Rattle.std.specs.Prelude.{◌≡◌, Bool, false, not, ◌&&◌, List, [], ◌∷◌, Option, None, Some, is_some, Result, Ok, Err, nat_lt}
 use Rattle.std.specs.List.{find}
-use Rattle.tsp_format.specs.declared.field.Field.{Field}
-use Rattle.tsp_format.specs.declared.field.Field.TheVariants.{NameKey, TypeKey, DimensionKey, CapacityKey, ScaleKey, LoadUnitKey, EdgeWeightTypeKey, EdgeWeightFormatKey, NodeCoordTypeKey, DisplayDataTypeKey}
-use Rattle.tsp_draft.specs.Fields.{Fields}
-use Rattle.tsp_draft.specs.states.Drafts.{fields_of}
-use Rattle.tsp_section.specs.declared.fault.StepFault.{StepFault}
-use Rattle.tsp_section.specs.declared.fault.StepFault.TheVariants as steps
-use Rattle.tsp_read.specs.declared.state.reading.OpenSection.{OpenSection}
-use Rattle.tsp_read.specs.declared.state.reading.Reading.{Reading}
+use Rattle.tsp_format.specs.declared.keyword.Field.{Field}
+use Rattle.tsp_format.specs.declared.keyword.Field.TheVariants.{NameKey, TypeKey, DimensionKey, CapacityKey, ScaleKey, LoadUnitKey, EdgeWeightTypeKey, EdgeWeightFormatKey, NodeCoordTypeKey, DisplayDataTypeKey}
+use Rattle.tsp_file.specs.Fields.{Fields}
+use Rattle.tsp_file.specs.states.Drafts.{fields_of}
+use Rattle.tsp_read.specs.declared.line.StepFault.{StepFault}
+use Rattle.tsp_read.specs.declared.line.StepFault.TheVariants as steps
+use Rattle.tsp_read.specs.declared.reading.OpenSection.{OpenSection}
+use Rattle.tsp_read.specs.declared.reading.Reading.{Reading}
 use Rattle.tsp_format.specs.declared.keyword.Keyword.TheVariants.{Known, Unknown}
 use Rattle.tsp_format.specs.Limits.{most_line_bytes}
 use Rattle.tsp_text.specs.Items.{WordLine, Item, Line}

@@ -1,8 +1,8 @@
 -- The first closed section that is incomplete, after one more section was closed. For `close` of `Reading`
--- (src/state/reading.rt), which sets its field `incomplete`.
+-- (src/reading.rt), which sets its field `incomplete`.
 use Rattle.std.specs.Prelude.{Bool, false, ◌||◌, List, Option, None, Some}
 use Rattle.std.specs.List.{find}
-use Rattle.tsp_format.specs.declared.field.Field.{Field}
+use Rattle.tsp_format.specs.declared.keyword.Field.{Field}
 use Rattle.tsp_text.specs.Earlier.{same_field}
 
 -- the field is that section, if there is one

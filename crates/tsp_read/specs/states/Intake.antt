@@ -1,11 +1,11 @@
 -- The state while a text comes: which items of the bytes so far were taken, and the answer for these bytes. For
--- `Intake` (src/intake.rt): `words` counts the words that were taken of the line, and `inside` says whether an item of
+-- `Intake` (src/items.rt): `words` counts the words that were taken of the line, and `inside` says whether an item of
 -- the line was taken.
 use Rattle.std.specs.Prelude.{◌≡◌, ℕ, Bool, true, false, List, ◌∷◌, reverse, Option, None, Some, Result, Ok, Err}
 use Rattle.tsp_text.specs.declared.fault.ReadFault.{ReadFault}
 use Rattle.tsp_text.specs.declared.fault.ReadFault.TheVariants as faults
-use Rattle.tsp_read.specs.declared.state.reading.Reading.{Reading}
-use Rattle.tsp_read.specs.declared.intake.Intake.{Intake}
+use Rattle.tsp_read.specs.declared.reading.Reading.{Reading}
+use Rattle.tsp_read.specs.declared.items.Intake.{Intake}
 use Rattle.tsp_text.specs.Items.{Item, settled_items, is_end_line, has_end_line, to_end_line, line_number, words_before}
 use Rattle.tsp_text.specs.FirstFault.{fault_in}
 use Rattle.tsp_read.specs.states.Holds.{Holds}

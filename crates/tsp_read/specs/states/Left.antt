@@ -1,11 +1,11 @@
 -- The items of the part of a text that isn't taken yet, and where its next line or word ends. For `next_item`
--- (src/cut.rt), `Token` (src/token.rt) and `take_items` (src/intake.rt). `inside` says whether an item of the line was
+-- (src/items.rt), `Token` (src/items.rt) and `take_items` (src/items.rt). `inside` says whether an item of the line was
 -- taken before.
 use Rattle.std.specs.Prelude.{ℕ, Bool, true, false, not, ◌||◌, nat_lt, List, [], ◌∷◌, ◌++◌, length, map, take, drop}
 use Rattle.std.specs.List.{position_or_len}
 use Rattle.tsp_format.specs.Bytes.{is_blank}
-use Rattle.tsp_read.specs.declared.cut.Next.{Next}
-use Rattle.tsp_read.specs.declared.cut.Next.TheVariants as next
+use Rattle.tsp_read.specs.declared.items.Next.{Next}
+use Rattle.tsp_read.specs.declared.items.Next.TheVariants as next
 use Rattle.tsp_text.specs.Lines.{lines_of, words_in, ends_line, is_not_empty}
 use Rattle.tsp_text.specs.Items.{Item, NumberWord, LineEnd, line_item, items_in, items_by, settled_words, settled_in}
 

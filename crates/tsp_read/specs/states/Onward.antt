@@ -1,4 +1,4 @@
--- What holds of the items of a text whatever bytes follow. For the cutter (src/cut.rt), for `take` (src/item.rt), and
+-- What holds of the items of a text whatever bytes follow. For the cutter (src/items.rt), for `take` (src/items.rt), and
 -- for Intake.antt and Feed.antt.
 use Rattle.std.specs.Prelude.{◌≡◌, ℕ, Bool, true, false, nat_lt, List, ◌∷◌, ◌++◌, length, reverse}
 use Rattle.std.specs.List.{list_all}

@@ -1,9 +1,9 @@
--- That the open section's part has the words of the section so far. For `OpenSection` (src/state/reading.rt), for
--- `store` (src/state/store.rt), and for Holds.antt.
+-- That the open section's part has the words of the section so far. For `OpenSection` (src/reading.rt), for
+-- `store` (src/reading.rt), and for Holds.antt.
 use Rattle.std.specs.Prelude.{◌≡◌, ℕ, Bool, List, Some}
 use Rattle.tsp_format.specs.Shapes.{shape_of}
-use Rattle.tsp_section.specs.states.HeldParts.{shape_by, HoldsPart}
-use Rattle.tsp_read.specs.declared.state.reading.OpenSection.{OpenSection}
+use Rattle.tsp_read.specs.states.HeldParts.{shape_by, HoldsPart}
+use Rattle.tsp_read.specs.declared.reading.OpenSection.{OpenSection}
 
 -- the part is of the section's shape, in a spatial file or another, and has these words; n is the number of nodes
 abbrev pub HoldsSection : Bool → OpenSection → ℕ → List (List ℕ) → Type 0

@@ -1,14 +1,14 @@
 -- The state between two pieces of a text: all settled items were taken, and the bytes after them are kept. For `Feed`
--- (src/feed.rt), which has a `Stage` (src/stage.rt), an `Intake` and a `Begun`.
+-- (src/feed.rt), which has a `Stage` (src/feed.rt), an `Intake` and a `Begun`.
 use Rattle.std.specs.Prelude.{◌≡◌, ℕ, ◌+◌, ◌≤◌, Bool, true, false, List, [], length, Result, Ok, Err}
 use Rattle.tsp_format.specs.Limits.{most_file_bytes}
 use Rattle.tsp_text.specs.declared.fault.ReadFault.{ReadFault}
 use Rattle.tsp_text.specs.declared.fault.ReadFault.TheVariants as faults
-use Rattle.tsp_read.specs.declared.state.reading.Reading.{Reading}
-use Rattle.tsp_read.specs.declared.intake.Intake.{Intake}
-use Rattle.tsp_read.specs.declared.begun.Begun.{Begun}
-use Rattle.tsp_read.specs.declared.stage.Stage.{Stage}
-use Rattle.tsp_read.specs.declared.stage.Stage.TheVariants.{Going, Ended, Refused}
+use Rattle.tsp_read.specs.declared.reading.Reading.{Reading}
+use Rattle.tsp_read.specs.declared.items.Intake.{Intake}
+use Rattle.tsp_read.specs.declared.items.Begun.{Begun}
+use Rattle.tsp_read.specs.declared.feed.Stage.{Stage}
+use Rattle.tsp_read.specs.declared.feed.Stage.TheVariants.{Going, Ended, Refused}
 use Rattle.tsp_text.specs.Items.{items_of, has_end_line}
 use Rattle.tsp_text.specs.Text.{settled_part}
 use Rattle.tsp_read.specs.states.Holds.{Holds}

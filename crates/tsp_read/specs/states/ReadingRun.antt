@@ -1,12 +1,12 @@
 -- A run of plain numbers in the open section, which is read in one pass: only the section's part and the counts change.
--- For `take_run` (src/run.rt), with `Count` (src/count.rt) and `Part` of tsp_section.
+-- For `take_run` (src/run.rt), with `Count` (src/run.rt) and `Part` of tsp_read.
 use Rattle.std.specs.Prelude.{ℕ, ◌+◌, ◌≤◌, ◌<◌, List, length, Option, None, Some}
-use Rattle.tsp_format.specs.declared.field.Field.{Field}
-use Rattle.tsp_draft.specs.declared.draft.Draft.{Draft}
-use Rattle.tsp_section.specs.declared.part.Part.{Part}
-use Rattle.tsp_read.specs.declared.count.Count.{Count}
-use Rattle.tsp_read.specs.declared.intake.Intake.{Intake}
-use Rattle.tsp_read.specs.declared.state.reading.Reading.{Reading}
+use Rattle.tsp_format.specs.declared.keyword.Field.{Field}
+use Rattle.tsp_file.specs.declared.draft.Draft.{Draft}
+use Rattle.tsp_read.specs.declared.part.Part.{Part}
+use Rattle.tsp_read.specs.declared.run.Count.{Count}
+use Rattle.tsp_read.specs.declared.items.Intake.{Intake}
+use Rattle.tsp_read.specs.declared.reading.Reading.{Reading}
 use Rattle.tsp_read.specs.states.Intake.{IsReadTo}
 
 -- the intake with this state and these counts

@@ -1,10 +1,10 @@
--- The fields of a draft after a section is closed: its words become its value. For `store` (src/state/store.rt).
+-- The fields of a draft after a section is closed: its words become its value. For `store` (src/reading.rt).
 use Rattle.std.specs.Prelude.{ℕ, Bool, List, Some}
 use Rattle.std.specs.Option.{option_map_or}
-use Rattle.tsp_format.specs.declared.field.Field.{Field}
-use Rattle.tsp_draft.specs.Fields.{Fields, with_numbers, with_points}
-use Rattle.tsp_format.specs.declared.field.Shape.{Shape}
-use Rattle.tsp_format.specs.declared.field.Shape.TheVariants.{Numbers, Points, SpacePoints, Depots, Pairs, Weights, Tours, Triples, Combs, Steps}
+use Rattle.tsp_format.specs.declared.keyword.Field.{Field}
+use Rattle.tsp_file.specs.Fields.{Fields, with_numbers, with_points}
+use Rattle.tsp_format.specs.declared.keyword.Shape.{Shape}
+use Rattle.tsp_format.specs.declared.keyword.Shape.TheVariants.{Numbers, Points, SpacePoints, Depots, Pairs, Weights, Tours, Triples, Combs, Steps}
 use Rattle.tsp_text.specs.Groups.{numbers_by_node, points_by_node, space_points_by_node}
 use Rattle.tsp_text.specs.Lists.{depots_in, fixed_in, fixed_triples_in}
 use Rattle.tsp_format.specs.Shapes.{shape_of}

@@ -1,11 +1,11 @@
--- The reader's state after one item more, or after all items of a text. For `take` and `take_line` (src/item.rt), and
+-- The reader's state after one item more, or after all items of a text. For `take` and `take_line` (src/items.rt), and
 -- for Paused.antt.
 use Rattle.std.specs.Prelude.{◌≡◌, Bool, List, ◌∷◌, reverse, Some, Result, Ok, Err}
-use Rattle.tsp_section.specs.declared.fault.StepFault.{StepFault}
-use Rattle.tsp_section.specs.declared.fault.StepFault.TheVariants as steps
+use Rattle.tsp_read.specs.declared.line.StepFault.{StepFault}
+use Rattle.tsp_read.specs.declared.line.StepFault.TheVariants as steps
 use Rattle.tsp_text.specs.declared.fault.ReadFault.{ReadFault}
 use Rattle.tsp_text.specs.declared.fault.ReadFault.TheVariants as faults
-use Rattle.tsp_read.specs.declared.state.reading.Reading.{Reading}
+use Rattle.tsp_read.specs.declared.reading.Reading.{Reading}
 use Rattle.tsp_text.specs.Items.{Item, is_end_line, has_end_line, to_end_line}
 use Rattle.tsp_text.specs.FaultRows.{row_of}
 use Rattle.tsp_text.specs.FirstFault.{fault_in}

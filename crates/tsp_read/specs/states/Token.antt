@@ -1,12 +1,12 @@
 -- A word line, or a word of a number line: which byte begins it, which ends it, how long it may be, and the item that
--- it is. For `Token` (src/token.rt), and for Begun.antt.
+-- it is. For `Token` (src/items.rt), and for Begun.antt.
 use Rattle.std.specs.Prelude.{ℕ, Bool, not, ◌&&◌, cond, List}
 use Rattle.tsp_format.specs.Bytes.{is_letter}
 use Rattle.tsp_format.specs.Limits.{most_word_bytes, most_line_bytes}
 use Rattle.tsp_text.specs.Lines.{ends_line}
 use Rattle.tsp_text.specs.Items.{Item, NumberWord, line_item}
-use Rattle.tsp_read.specs.declared.token.Token.{Token}
-use Rattle.tsp_read.specs.declared.token.Token.TheVariants.{Line, Word}
+use Rattle.tsp_read.specs.declared.items.Token.{Token}
+use Rattle.tsp_read.specs.declared.items.Token.TheVariants.{Line, Word}
 use Rattle.tsp_read.specs.states.Left.{ends_word}
 
 -- a letter that is the first of its line begins a word line; every other byte that isn't blank begins a word

@@ -1,5 +1,5 @@
 -- The routing problem of a depot, demands and a capacity, with any costs. For `Demands` (src/demands.rt), and for its
--- users in src/needs.rt, src/cuts.rt and src/units.rt.
+-- users in src/needs.rt, src/verdict.rt and src/units.rt.
 use Rattle.std.specs.Prelude.{◌≡◌, ℕ, ◌≤◌, ◌==◌, if◌then◌else◌, length, ℤ, pos}
 use Rattle.std.specs.List.{All}
 use Rattle.tsp_format.specs.Nodes.{IsNode}

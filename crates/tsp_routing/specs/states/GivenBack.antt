@@ -1,8 +1,8 @@
 -- The sum that the multipliers of sets give back, over the numbers that code has of each set. For `limits_total`
--- (src/given_back.rt). PlanBounds.antt has it over families.
+-- (src/plan_leaf.rt). PlanBounds.antt has it over families.
 use Rattle.std.specs.Prelude.{ℕ, ◌+◌, List, [], ◌∷◌, ℤ, pos, ◌+ℤ◌}
-use Rattle.tsp_families.specs.declared.family.Crossings.{Crossings}
-use Rattle.tsp_cases.specs.declared.decision.Decision.{Decision}
+use Rattle.tsp_cases.specs.declared.family.Crossings.{Crossings}
+use Rattle.tsp_cases.specs.declared.open_case.Decision.{Decision}
 use Rattle.tsp_routing.specs.PlanBounds.{low_of, high_of, least_times}
 
 -- a multiplier of at least 0 times the least number of crossings, one below 0 times the most, added over the sets

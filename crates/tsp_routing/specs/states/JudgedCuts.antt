@@ -1,17 +1,17 @@
--- The judgement on the families of a certificate for routes, as `JudgedCuts` (src/cuts.rt): all are sets of customers,
+-- The judgement on the families of a certificate for routes, as `JudgedCuts` (src/verdict.rt): all are sets of customers,
 -- or the first one that isn't. For `judge_cuts` there, whatever the costs.
 use Rattle.std.specs.Prelude.{◌≡◌, ℕ, ◌≤◌, List, Option, Some, None, ℤ}
 use Rattle.std.specs.List.{All}
 use Rattle.std.specs.Global.{Vec}
-use Rattle.tsp_families.specs.FamilySets.{families_in}
-use Rattle.tsp_families.specs.declared.family.Crossings.{Crossings}
+use Rattle.tsp_cases.specs.FamilySets.{families_in}
+use Rattle.tsp_cases.specs.declared.family.Crossings.{Crossings}
 use Rattle.tsp_cases.specs.FamiliesOfSets.{family_with}
 use Rattle.tsp_routing.specs.Cuts.{IsCutFamily}
 use Rattle.tsp_routing.specs.GoodSets.{IsGoodSet, IsFirstBadSet, AreCapacityCuts}
 use Rattle.tsp_routing.specs.states.Demands.{loads_problem}
 use Rattle.tsp_routing.specs.declared.demands.Demands.{Demands}
-use Rattle.tsp_routing.specs.declared.cuts.JudgedCuts.{JudgedCuts}
-use Rattle.tsp_routing.specs.declared.cuts.JudgedCuts.TheVariants as judged
+use Rattle.tsp_routing.specs.declared.verdict.JudgedCuts.{JudgedCuts}
+use Rattle.tsp_routing.specs.declared.verdict.JudgedCuts.TheVariants as judged
 
 -- how often a plan crosses the set at least is a count that fits
 abbrev pub IsFewCrossed : Crossings → Type 0

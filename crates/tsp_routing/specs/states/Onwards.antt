@@ -1,5 +1,5 @@
 -- Rows of the table by load, in memory: their entries are at most the weights of walks, are the weights of walks, and
--- aren't too large. For `Onward` (src/onward.rt), the rest of a walk, with `least`, `next` and `other` as in
+-- aren't too large. For `Onward` (src/least_walk.rt), the rest of a walk, with `least`, `next` and `other` as in
 -- WalkTables.antt, and for src/least_walk.rt.
 use Rattle.std.specs.Prelude.{◌≡◌, ◌⊎◌, ℕ, ◌+◌, ◌*◌, ◌<◌, List, length, slice_index_or, ℤ, pos, neg_ℤ, ◌+ℤ◌, ◌≤ℤ◌}
 use Rattle.std.specs.List.{All}
@@ -8,7 +8,7 @@ use Rattle.tsp_format.specs.Nodes.{IsNode}
 use Rattle.tsp_format.specs.Ranges.{IsFromTo}
 use Rattle.tsp_theory.specs.Routing.{IsCustomer}
 use Rattle.tsp_routing.specs.WalkTables.{WalkEntry, IsLow, IsMet}
-use Rattle.tsp_routing.specs.declared.onward.Onward.{Onward}
+use Rattle.tsp_routing.specs.declared.least_walk.Onward.{Onward}
 
 -- the load of a node, in the list of all loads
 abbrev pub load_at : List ℕ → ℕ → ℕ

@@ -1,15 +1,15 @@
--- The memory of a leaf for routes, which is `PlanRoom` (src/plan_judge.rt), and what is found of one leaf or of all.
+-- The memory of a leaf for routes, which is `PlanRoom` (src/verdict.rt), and what is found of one leaf or of all.
 -- For `judge_leaf` there, and for `leaf_verdict` (src/verdict.rt).
 use Rattle.std.specs.Prelude.{◌≡◌, ℕ, ◌+◌, ◌*◌, ◌≤◌, ◌<◌, Bool, true, List, length, Option, ℤ}
 use Rattle.tsp_format.specs.Steps.{Step}
 use Rattle.tsp_theory.specs.Routing.{RoutingProblem}
 use Rattle.tsp_cases.specs.Families.{Family}
-use Rattle.tsp_cases.specs.declared.decision.Decision.{Decision}
+use Rattle.tsp_cases.specs.declared.open_case.Decision.{Decision}
 use Rattle.tsp_cases.specs.Cases.{LeafNumbers}
 use Rattle.tsp_cases.specs.Listed.{listed_steps}
-use Rattle.tsp_routing.specs.declared.judged.PlanVerdict.{PlanVerdict}
-use Rattle.tsp_routing.specs.declared.judged.PlanVerdict.TheVariants as verdict
-use Rattle.tsp_routing.specs.declared.plan_judge.PlanRoom.{PlanRoom}
+use Rattle.tsp_routing.specs.declared.verdict.PlanVerdict.{PlanVerdict}
+use Rattle.tsp_routing.specs.declared.verdict.PlanVerdict.TheVariants as verdict
+use Rattle.tsp_routing.specs.declared.verdict.PlanRoom.{PlanRoom}
 use Rattle.tsp_routing.specs.Loads.{room_in}
 use Rattle.tsp_routing.specs.GoodLeaves.{AreGoodPlanLeaves, IsFirstBadPlanLeaf}
 use Rattle.tsp_routing.specs.PlanTrees.{IsFoundByWalks, IsPlanTreeBound}

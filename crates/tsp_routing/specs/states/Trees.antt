@@ -1,4 +1,4 @@
--- The ranges of the steps of a certificate for routes. For the steps of `PlanTree` (src/plan_tree.rt).
+-- The ranges of the steps of a certificate for routes. For the steps of `PlanTree` (src/verdict.rt).
 use Rattle.std.specs.Prelude.{ℕ, ◌<◌, ◌^◌, length}
 use Rattle.tsp_format.specs.Nodes.{IsNode}
 use Rattle.tsp_format.specs.Steps.{Step, Branch, Leaf}

@@ -2,6 +2,7 @@
 //! at each byte.
 
 use crate::asserts::{same, same_at};
+use crate::devices::{Drip, NEVER, Refusal, Trickle};
 use crate::judge::files::{DUALS, THREE_NODES, TOUR};
 use std::alloc::Global;
 use std::io::ErrorKind;
@@ -9,7 +10,6 @@ use std::test::Fail;
 use tsp_judge::{
     Certificate, Common, Follow, Found, RunFault, Solutions, Watched, WriteFault, run_compare,
 };
-use tsp_tests_support::devices::{Drip, NEVER, Refusal, Trickle};
 
 /// Four solutions in memory. The last one fails at a read.
 struct Four;

@@ -1,6 +1,7 @@
 //! Tests of the verbs with readers and writers that fail, or had failed before.
 
 use crate::asserts::{holds_at, same, same_at};
+use crate::devices::{Drip, NEVER, Refusal, Trickle, outcome};
 use crate::judge::files::{
     AROUND, AROUND_REPORT, BOUND_REPORT, CASES, DUALS, POTENTIALS, RECTANGLE, RECTANGLE_SHOWN,
     REPORT, ROUTES, STAR, THREE_NODES, TOUR, WHOLE_STAR, ZEROS,
@@ -10,9 +11,8 @@ use std::alloc::Global;
 use std::io::{ErrorKind, Read, Write};
 use std::process::Abort;
 use tsp_format::Field;
+use tsp_io::{Watched, WriteFault};
 use tsp_judge::{EndFault, ReadFault, RelayoutFault, RunFault};
-use tsp_stream::{Watched, WriteFault};
-use tsp_tests_support::devices::{Drip, NEVER, Refusal, Trickle, outcome};
 
 /// A task and the texts of its files. What it doesn't read is empty.
 pub(crate) type Job = (Task<'static>, [&'static str; 3]);

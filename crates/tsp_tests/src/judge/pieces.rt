@@ -1,11 +1,11 @@
 //! A test of the verbs with readers that deliver, and writers that take, a few bytes at a time.
 
 use crate::asserts::same_at;
+use crate::devices::{Drip, NEVER, Refusal};
 use crate::judge::failures::{Job, WRITTEN, look_at};
 use crate::judge::runs::Readers;
 use std::process::Abort;
-use tsp_stream::Watched;
-use tsp_tests_support::devices::{Drip, NEVER, Refusal};
+use tsp_io::Watched;
 
 /// How many bytes a call delivers or takes.
 const SIZES: [usize; 6] = [1, 2, 3, 7, 64, 4_096];

@@ -1,12 +1,12 @@
 //! Runs of the verbs on texts, from the bytes read to the bytes written. For the tests in
 //! `src/judge/failures.rt` and `src/judge/pieces.rt`.
 
+use crate::devices::{Drip, Trickle};
 use std::alloc::Global;
 use std::io::ErrorKind;
 use tsp_format::Layout;
+use tsp_io::Watched;
 use tsp_judge::{RunFault, run_bound_check, run_branch_check, run_check, run_convert, run_show};
-use tsp_stream::Watched;
-use tsp_tests_support::devices::{Drip, Trickle};
 
 /// What is done with the files.
 #[derive(Clone, Copy)]

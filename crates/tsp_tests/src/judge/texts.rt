@@ -5,12 +5,11 @@ use std::alloc::AllocError;
 use std::fmt::Display;
 use std::process::Abort;
 use tsp_cost::CostFault;
-use tsp_draft::{DraftFault, EndFault};
-use tsp_file::RelayoutFault;
+use tsp_file::{DraftFault, EndFault, RelayoutFault};
 use tsp_format::Field;
+use tsp_io::WriteFault;
 use tsp_judge::{ReadFault, RunFault};
 use tsp_number::NumberFault;
-use tsp_stream::WriteFault;
 
 /// Asserts what faults print.
 fn print<F: Display>(rt: &(impl AllocGlobal + Abort), faults: &[(F, &'static str)]) {

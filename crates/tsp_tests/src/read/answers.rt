@@ -2,14 +2,14 @@
 //! `src/read/` and `src/writer.rt`.
 
 use crate::asserts::{same, same_at};
+use crate::devices::Drip;
 use std::alloc::{AllocError, Global};
 use std::fmt::Debug;
 use std::io::Read;
 use std::process::Abort;
 use tsp_file::{File, write_file};
+use tsp_io::Watched;
 use tsp_read::{Feed, ReadFault, read_bytes, read_from};
-use tsp_stream::Watched;
-use tsp_tests_support::devices::Drip;
 
 /// What a reading returns: a writer that holds the canonical text of its file, or its fault.
 pub(crate) type Answer = Result<Drip, ReadFault>;

@@ -8,7 +8,7 @@ mod readers;
 
 use crate::read::answers::{Answer, answer, fed};
 use std::process::Abort;
-use tsp_draft::EndFault;
+use tsp_file::EndFault;
 use tsp_format::Field;
 use tsp_number::NumberFault;
 use tsp_read::{Feed, LineFault, ReadFault};

@@ -1,14 +1,14 @@
 //! Tests of texts that come from a reader: one that does little at a time, fails, or never ends.
 
 use crate::asserts::{holds, holds_at, same, same_at};
+use crate::devices::{Flood, Trickle, outcome};
 use crate::read::answers::{answer_from, answers, long_file};
 use std::alloc::AllocError;
 use std::io::{ErrorKind, Read};
 use std::process::Abort;
+use tsp_io::Watched;
 use tsp_number::NumberFault;
 use tsp_read::{LineFault, ReadFault, read_from};
-use tsp_stream::Watched;
-use tsp_tests_support::devices::{Flood, Trickle, outcome};
 
 /// Three points, the second of which has a coordinate that is no number.
 const BAD_NUMBER: &str =

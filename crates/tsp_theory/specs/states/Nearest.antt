@@ -1,6 +1,6 @@
 -- The entry of a row of weights at an index, for every crate that reads rows. And of a growing tree the nearest grown
--- node of a node that isn't grown, with the weight between the two: for `take_nearer` and `bring` (src/growth.rt of
--- tsp_tree).
+-- node of a node that isn't grown, with the weight between the two: for `take_nearer` and `bring` (src/tree.rt of
+-- tsp_bound).
 use Rattle.std.specs.Prelude.{◌≡◌, ℕ, Bool, false, List, slice_index_or, ◌⊎◌, ℤ, pos, ◌≤ℤ◌, ◌<ℤ◌}
 
 -- the node x is grown

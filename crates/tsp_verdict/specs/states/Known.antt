@@ -1,11 +1,11 @@
 -- The reason against the instance that a basis of tours has, if it has one. For `against_instance`
--- (src/comparison_basis.rt).
+-- (src/basis.rt).
 use Rattle.std.specs.Prelude.{Option, None, Some, MatchOption}
-use Rattle.tsp_draft.specs.Fields.{Fields}
-use Rattle.tsp_task.specs.declared.basis.Basis.{Basis}
-use Rattle.tsp_task.specs.declared.basis.Basis.TheVariants as bases
-use Rattle.tsp_task.specs.declared.verdict.Reason.{Reason}
-use Rattle.tsp_task.specs.declared.verdict.Reason.TheVariants.{TooFewNodes, NotSymmetric}
+use Rattle.tsp_file.specs.Fields.{Fields}
+use Rattle.tsp_report.specs.declared.verdict.Basis.{Basis}
+use Rattle.tsp_report.specs.declared.verdict.Basis.TheVariants as bases
+use Rattle.tsp_report.specs.declared.verdict.Reason.{Reason}
+use Rattle.tsp_report.specs.declared.verdict.Reason.TheVariants.{TooFewNodes, NotSymmetric}
 use Rattle.tsp_verdict.specs.Bounded.{StandsAgainstTouring, NoneAgainstTouring}
 use Rattle.tsp_verdict.specs.Reasons.{IsFirstReason}
 

@@ -1,5 +1,5 @@
--- Marks of the nodes at the first places of a list, by which a repeated node is found. For `mark` (src/first_places.rt)
--- and `mark_all` (src/visits.rt). `seen` has the mark of each node at its index.
+-- Marks of the nodes at the first places of a list, by which a repeated node is found. For `mark` (src/tour.rt)
+-- and `mark_all` (src/routes.rt). `seen` has the mark of each node at its index.
 use Rattle.std.specs.Prelude.{◌≡◌, ℕ, ◌+◌, ◌<◌, ◌≤◌, Bool, true, false, List, length, slice_index, slice_index_or}
 use Rattle.tsp_verdict.specs.Places.{node_at, IsAtEarlierPlace}
 

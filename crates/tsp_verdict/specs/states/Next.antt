@@ -1,4 +1,4 @@
--- The table of the next node on a cycle. For `next_nodes` and `is_used` (src/fixed.rt), by which fixed pairs are looked
+-- The table of the next node on a cycle. For `next_nodes` and `is_used` (src/tour.rt), by which fixed pairs are looked
 -- up.
 use Rattle.std.specs.Prelude.{◌≡◌, ℕ, ◌≤◌, List, slice_index}
 use Rattle.tsp_theory.specs.Cycle.{Follows}

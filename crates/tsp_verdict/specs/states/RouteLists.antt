@@ -1,11 +1,11 @@
--- The tours or routes of a solution where code has them as vectors of nodes. For `solution_tours` (src/files.rt),
+-- The tours or routes of a solution where code has them as vectors of nodes. For `solution_tours` (src/tour.rt),
 -- `the_tour` (src/tour.rt) and src/routes.rt.
 use Rattle.std.specs.Prelude.{◌≡◌, ◌≢◌, ℕ, ◌≤◌, true, List, [], length, map}
 use Rattle.std.specs.Global.{Vec}
 use Rattle.std.specs.List.{All, flat_map}
 use Rattle.tsp_format.specs.Limits.{most_tour_nodes}
-use Rattle.tsp_draft.specs.Fields.{Fields}
-use Rattle.tsp_draft.specs.Rules.{is_tour_file}
+use Rattle.tsp_file.specs.Fields.{Fields}
+use Rattle.tsp_file.specs.Rules.{is_tour_file}
 use Rattle.tsp_verdict.specs.Solution.{visited, tours_of}
 
 -- the nodes of several vectors, one after the other

@@ -1,4 +1,4 @@
--- How large a sum of costs is. For `route_length` (src/route_lengths.rt).
+-- How large a sum of costs is. For `route_length` (src/routes.rt).
 use Rattle.std.specs.Prelude.{ℕ, ◌*◌, ℤ, pos, ◌+ℤ◌, ◌≤ℤ◌}
 use Rattle.tsp_format.specs.Limits.{most_weight}
 

@@ -1,18 +1,18 @@
 -- The verdict on a solution where the bound comes from a certificate, or from a basis that was found before. For
--- `Subject` (src/subject.rt), with `BoundOrigin` and `TourBasis` (src/tour_basis.rt).
+-- `Subject` (src/solution_verdict.rt), with `BoundOrigin` and `TourBasis` (src/solution_verdict.rt).
 use Rattle.std.specs.Prelude.{◌≡◌, ◌≤◌, Option, None, ℤ, IsTrue, option_map}
-use Rattle.tsp_draft.specs.Fields.{Fields, nodes_of}
-use Rattle.tsp_task.specs.declared.basis.Basis.{Basis}
-use Rattle.tsp_task.specs.declared.basis.Basis.TheVariants as bases
-use Rattle.tsp_task.specs.declared.certificate.Certificate.{Certificate}
-use Rattle.tsp_task.specs.declared.verdict.Verdict.{Verdict}
-use Rattle.tsp_task.specs.declared.verdict.Verdict.TheVariants as verdicts
+use Rattle.tsp_file.specs.Fields.{Fields, nodes_of}
+use Rattle.tsp_report.specs.declared.verdict.Basis.{Basis}
+use Rattle.tsp_report.specs.declared.verdict.Basis.TheVariants as bases
+use Rattle.tsp_report.specs.declared.task.Certificate.{Certificate}
+use Rattle.tsp_report.specs.declared.verdict.Verdict.{Verdict}
+use Rattle.tsp_report.specs.declared.verdict.Verdict.TheVariants as verdicts
 use Rattle.tsp_verdict.specs.Basis.{IsBasis, IsVerdictFrom}
 use Rattle.tsp_verdict.specs.SolutionVerdict.{is_judged, IsVerdictWith}
-use Rattle.tsp_verdict.specs.declared.tour_basis.BoundOrigin.{BoundOrigin}
-use Rattle.tsp_verdict.specs.declared.tour_basis.BoundOrigin.TheVariants as origins
-use Rattle.tsp_verdict.specs.declared.tour_basis.TourBasis.{TourBasis}
-use Rattle.tsp_verdict.specs.declared.tour_basis.TourBasis.TheVariants as tour_bases
+use Rattle.tsp_verdict.specs.declared.solution_verdict.BoundOrigin.{BoundOrigin}
+use Rattle.tsp_verdict.specs.declared.solution_verdict.BoundOrigin.TheVariants as origins
+use Rattle.tsp_verdict.specs.declared.solution_verdict.TourBasis.{TourBasis}
+use Rattle.tsp_verdict.specs.declared.solution_verdict.TourBasis.TheVariants as tour_bases
 use Rattle.tsp_verdict.specs.states.TourCosts.{AreTourCosts}
 
 -- ---- a certificate, or a basis that was found before

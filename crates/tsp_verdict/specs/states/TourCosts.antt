@@ -1,8 +1,8 @@
 -- The costs of an instance of TYPE TSP or ATSP while its tours are judged: a view of it. For `TourCosts` and
--- `tour_costs` (src/tour.rt), and for `bound_by` (src/certificate_bound.rt).
+-- `tour_costs` (src/tour.rt), and for `bound_by` (src/certificate.rt).
 use Rattle.std.specs.Prelude.{◌≡◌, Some}
 use Rattle.tsp_format.specs.declared.kinds.Kind.TheVariants as kinds
-use Rattle.tsp_draft.specs.Fields.{Fields}
+use Rattle.tsp_file.specs.Fields.{Fields}
 use Rattle.tsp_file.specs.Cost.{cost}
 use Rattle.tsp_theory.specs.Costs.{IsSymmetric}
 use Rattle.tsp_cost.specs.states.Views.{IsViewOf, ShowsEven}

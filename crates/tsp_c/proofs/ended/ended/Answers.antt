@@ -1,6 +1,6 @@
 -- The goals of `ended` in src/ended.rt, which turns the end of a run into a status and a text: what it ensures.
 use Rattle.std.proofs.Common.{refl}
-use Rattle.tsp_stream.specs.states.Watched.{watched}
+use Rattle.tsp_io.specs.states.Watched.{watched}
 use Rattle.tsp_c.proofs.StatusMeanings.{printed_ends, unprinted_ends}
 use Rattle.tsp_c.proofs.ended.ended.Goals as goal
 

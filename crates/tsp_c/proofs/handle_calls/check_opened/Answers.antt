@@ -2,11 +2,11 @@
 -- calls require and what it ensures.
 use Rattle.std.proofs.Common.{◌≡◌, ◌∙◌, [], ap, refl, subst}
 use Rattle.std.specs.Prelude.{Some}
-use Rattle.tsp_stream.specs.Sink.{Sink}
-use Rattle.tsp_stream.specs.states.Watched.{sink_of}
-use Rattle.tsp_draft.specs.Fields.{Fields}
-use Rattle.tsp_task.specs.declared.verdict.Verdict.{Verdict}
-use Rattle.tsp_task.specs.Verdicts.{is_yes}
+use Rattle.tsp_io.specs.Sink.{Sink}
+use Rattle.tsp_io.specs.states.Watched.{sink_of}
+use Rattle.tsp_file.specs.Fields.{Fields}
+use Rattle.tsp_report.specs.declared.verdict.Verdict.{Verdict}
+use Rattle.tsp_report.specs.Verdicts.{is_yes}
 use Rattle.tsp_verdict.specs.Strict.{is_unjudged, strict_verdict}
 use Rattle.tsp_report.specs.Report.{report_of, IsSized}
 use Rattle.tsp_c.specs.Ended.{Reports}

@@ -2,7 +2,7 @@
 -- it is bad: what it ensures.
 use Rattle.std.proofs.Common.{length}
 use Rattle.std.proofs.lemmas.Bool.{iff_false}
-use Rattle.tsp_families.specs.FamilySets.{lists_of}
+use Rattle.tsp_cases.specs.FamilySets.{lists_of}
 use Rattle.tsp_cases.proofs.FamilyKinds.{known_found, lists_long}
 use Rattle.tsp_cases.proofs.good_families.crossings_of.Goals as goal
 

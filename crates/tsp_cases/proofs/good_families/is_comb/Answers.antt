@@ -5,7 +5,7 @@ use Rattle.std.specs.Prelude.{◌↔◌, IsTrue}
 use Rattle.std.specs.List.{All}
 use Rattle.std.proofs.lemmas.Bool.{both_ways, iff_false, eqb-true}
 use Rattle.tsp_format.specs.Nodes.{IsNode}
-use Rattle.tsp_families.specs.Crossed.{has}
+use Rattle.tsp_cases.specs.Crossed.{has}
 use Rattle.tsp_cases.specs.Combs.{comb_of}
 use Rattle.tsp_cases.specs.Families.{IsLoneSet}
 use Rattle.tsp_cases.specs.states.Marked.{is_marked}

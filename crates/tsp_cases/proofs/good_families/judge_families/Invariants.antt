@@ -1,6 +1,6 @@
 -- The loop of `judge_families` in src/good_families.rt, which finds the crossings of each family, or the first bad one.
 use Rattle.std.proofs.Common.{◌≡◌, ◌<◌, ◌+◌, ℕ, length}
-use Rattle.tsp_families.specs.FamilySets.{families_in}
+use Rattle.tsp_cases.specs.FamilySets.{families_in}
 use Rattle.tsp_cases.specs.states.FamilyNumbers.{AreSmallCrossings}
 use Rattle.tsp_cases.specs.states.Marked.{AreUnmarked}
 use Rattle.tsp_cases.proofs.FirstBad.{HaveNumbers}

@@ -13,7 +13,7 @@ use Rattle.tsp_format.specs.Steps as listed
 use Rattle.tsp_format.specs.states.TreeSteps.{steps_of}
 use Rattle.tsp_cases.specs.Cases.{LeafNumbers}
 use Rattle.tsp_cases.specs.Listed.{no_numbers_of}
-use Rattle.tsp_cases.specs.declared.decision.Decision.{Decision}
+use Rattle.tsp_cases.specs.declared.open_case.Decision.{Decision}
 use Rattle.tsp_cases.specs.states.Decided.{IsDecision, IsNextStack, stack_of}
 use Rattle.tsp_cases.specs.states.OpenCases.{IsOpenCase, decisions_in}
 use Rattle.tsp_cases.specs.states.Rooms.{AreSmall}

@@ -3,7 +3,7 @@
 use Rattle.std.proofs.Common.{◌≤◌, ◌<◌, ◌++◌, ℕ, List, length, get_or, ap, sym, ◌∙◌, arith}
 use Rattle.std.specs.Global.{Vec}
 use Rattle.std.proofs.lemmas.List.{drop_all, append-nil}
-use Rattle.tsp_families.specs.FamilySets.{lists_of}
+use Rattle.tsp_cases.specs.FamilySets.{lists_of}
 use Rattle.tsp_cases.specs.states.Places.{place_at}
 use Rattle.tsp_cases.specs.states.Sets.{times, places_in}
 use Rattle.tsp_cases.proofs.SetSums.{set_listed}

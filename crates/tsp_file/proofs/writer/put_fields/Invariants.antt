@@ -1,9 +1,9 @@
 -- The loop of `put_fields` in src/writer.rt.
 use Rattle.std.proofs.Common.{take}
 use Rattle.std.specs.List.{flat_map}
-use Rattle.tsp_draft.specs.states.Drafts.{fields_of}
+use Rattle.tsp_file.specs.states.Drafts.{fields_of}
 use Rattle.tsp_file.specs.CanonicalText.{text_of_field}
-use Rattle.tsp_stream.specs.states.WriteProgress.{way_of, Carried}
+use Rattle.tsp_io.specs.states.WriteProgress.{way_of, Carried}
 use Rattle.tsp_file.proofs.writer.put_fields.Given as goal
 
 -- the bytes added so far are the texts of the fields before this one

@@ -3,10 +3,10 @@ use Rattle.std.proofs.Common.{[], ◌∙◌, sym}
 use Rattle.std.specs.Prelude.{codes}
 use Rattle.std.specs.List.{flat_map}
 use Rattle.tsp_format.specs.Words.{fields_in_order}
-use Rattle.tsp_draft.specs.states.Drafts.{fields_of}
+use Rattle.tsp_file.specs.states.Drafts.{fields_of}
 use Rattle.tsp_file.specs.CanonicalText.{text_of_field, text_of}
-use Rattle.tsp_stream.specs.states.WriteProgress.{way_of}
-use Rattle.tsp_stream.proofs.Carrying.{carried_then, text_stopped, text_written}
+use Rattle.tsp_io.specs.states.WriteProgress.{way_of}
+use Rattle.tsp_io.proofs.Carrying.{carried_then, text_stopped, text_written}
 use Rattle.tsp_file.proofs.writer.write_draft.Goals as goal
 
 pub returns-then-failed-2 : goal.returns-then-failed-2

@@ -1,7 +1,7 @@
 -- The goals of `run_bound` in src/bound.rt, which bounds the tours of an instance by a certificate: what it ensures.
 use Rattle.std.proofs.Common.{◌≡◌, Err, [], refl}
 use Rattle.std.proofs.KnownBytes.{Keeps-refl}
-use Rattle.tsp_stream.specs.states.Watched.{turn_of}
+use Rattle.tsp_io.specs.states.Watched.{turn_of}
 use Rattle.tsp_read.proofs.Asking.{read_none}
 use Rattle.tsp_read.proofs.Propagated.{propagated}
 use Rattle.tsp_judge.proofs.Runs.{none_taken}

@@ -1,7 +1,7 @@
 -- The goals of `compare_all` in src/compared.rt, which compares all solutions in order: its loop and what it ensures.
 use Rattle.std.proofs.Common.{◌≡◌, Err, arith, ap, sym, subst, ◌∙◌, ◌<◌, ◌+◌, length}
 use Rattle.std.specs.Prelude.{max}
-use Rattle.tsp_stream.specs.states.Watched.{sink_of}
+use Rattle.tsp_io.specs.states.Watched.{sink_of}
 use Rattle.tsp_read.proofs.Propagated.{propagated}
 use Rattle.tsp_judge.proofs.Comparing.{HasCompared, compared_none, compared_next, compared_ends, compared_all}
 use Rattle.tsp_judge.proofs.Tellings.{reported_next, reported_before}

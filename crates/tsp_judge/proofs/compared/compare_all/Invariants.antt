@@ -1,5 +1,5 @@
 -- The loop of `compare_all` in src/compared.rt.
-use Rattle.tsp_stream.specs.states.Watched.{sink_of}
+use Rattle.tsp_io.specs.states.Watched.{sink_of}
 use Rattle.tsp_judge.specs.CompareRun.{IsTurnAt}
 use Rattle.tsp_judge.specs.Following.{AreReported}
 use Rattle.tsp_judge.proofs.Comparing.{HasCompared}

@@ -3,8 +3,8 @@
 use Rattle.std.proofs.Common.{◌≡◌, List, [], refl, sym, subst, subst₂}
 use Rattle.std.proofs.KnownBytes.{Keeps-refl}
 use Rattle.std.specs.Prelude.{IfOk, Result, Err, slice_index_or}
-use Rattle.tsp_stream.specs.states.Watched.{sink_of, turn_of}
-use Rattle.tsp_stream.specs.Sink.{HasWritten, Writes}
+use Rattle.tsp_io.specs.states.Watched.{sink_of, turn_of}
+use Rattle.tsp_io.specs.Sink.{HasWritten, Writes}
 use Rattle.tsp_judge.proofs.Comparing.{found_sized, one_refused, one_stopped, turn_at}
 use Rattle.tsp_judge.specs.CompareRun.{IsTurnAt, result_of}
 use Rattle.tsp_report.specs.ComparisonText.{solution_line}

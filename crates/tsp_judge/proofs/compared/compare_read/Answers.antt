@@ -3,9 +3,9 @@
 use Rattle.std.proofs.Common.{◌≡◌, Err, arith, refl, sym, subst, ◌∙◌}
 use Rattle.std.proofs.KnownBytes.{Keeps-refl}
 use Rattle.tsp_read.specs.Reads.{IsFile}
-use Rattle.tsp_stream.specs.states.Watched.{sink_of}
+use Rattle.tsp_io.specs.states.Watched.{sink_of}
 use Rattle.tsp_cost.specs.ProblemLaws.{IsProblem}
-use Rattle.tsp_judge.specs.declared.fault.RunFault.TheVariants.{WrongKind}
+use Rattle.tsp_judge.specs.declared.ends.RunFault.TheVariants.{WrongKind}
 use Rattle.tsp_judge.specs.CheckRun.{IsFileIn}
 use Rattle.tsp_judge.specs.CompareRun.{IsTurnAt}
 use Rattle.tsp_read.proofs.Propagated.{propagated}

@@ -1,10 +1,10 @@
 -- The goals of `compare_with` in src/compared.rt, which writes the head, and then the lines of the solutions: what it
 -- ensures.
 use Rattle.std.proofs.Common.{◌≡◌, true, false, length, refl, arith, rules, sym, subst}
-use Rattle.tsp_stream.specs.states.Watched.{sink_of}
-use Rattle.tsp_stream.specs.Sink.{HasWritten}
-use Rattle.tsp_draft.specs.Fields.{Fields}
-use Rattle.tsp_task.specs.Verdicts.{is_clear}
+use Rattle.tsp_io.specs.states.Watched.{sink_of}
+use Rattle.tsp_io.specs.Sink.{HasWritten}
+use Rattle.tsp_file.specs.Fields.{Fields}
+use Rattle.tsp_report.specs.Verdicts.{is_clear}
 use Rattle.tsp_judge.proofs.Comparing.{after_head}
 use Rattle.tsp_judge.specs.CompareRun.{IsTurnAt, ComparesBy}
 use Rattle.tsp_judge.specs.Following.{AreAllReported, IsFollowedBy}

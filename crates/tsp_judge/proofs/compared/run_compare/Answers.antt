@@ -2,7 +2,7 @@
 -- it ensures.
 use Rattle.std.proofs.Common.{◌≡◌, Err, [], arith, refl}
 use Rattle.std.proofs.KnownBytes.{Keeps-refl}
-use Rattle.tsp_stream.specs.states.Watched.{turn_of}
+use Rattle.tsp_io.specs.states.Watched.{turn_of}
 use Rattle.tsp_read.proofs.Asking.{read_none}
 use Rattle.tsp_read.proofs.Propagated.{propagated}
 use Rattle.tsp_judge.proofs.Runs.{none_taken, unread_in}

@@ -1,9 +1,9 @@
 -- The goals of `examples_of_faulty_files` in src/examples.rt: what it ensures.
 use Rattle.std.proofs.Common.{◌≡◌, ◌⊎◌, ℕ, Option, None, Some, refl, inl, inr, arith}
-use Rattle.tsp_stream.specs.Turn.{Turn, IsUnread}
+use Rattle.tsp_io.specs.Turn.{Turn, IsUnread}
 use Rattle.tsp_read.specs.Reads.{StopsAt}
 use Rattle.tsp_read.specs.declared.ReadFault.{ReadFault}
-use Rattle.tsp_task.specs.declared.certificate.Certificate.{Certificate}
+use Rattle.tsp_report.specs.declared.task.Certificate.{Certificate}
 use Rattle.tsp_judge.specs.CheckRun.{Given, IsUnreadIn, IsFaultOfRun}
 use Rattle.tsp_judge.proofs.examples.examples_of_faulty_files.Goals as goal
 

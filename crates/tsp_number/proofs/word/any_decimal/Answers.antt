@@ -6,7 +6,7 @@ use Rattle.tsp_number.proofs.Reading.{bad_number, too_fine, stands, decimal_with
 use Rattle.tsp_distance.specs.Decimal.{most_count}
 use Rattle.tsp_number.specs.NumberWord.{StandsFor, ReadsDecimal, with_sign}
 use Rattle.std.specs.Prelude.{Ok, Err}
-use Rattle.tsp_number.specs.declared.fault.NumberFault.TheVariants.{LongWord, BadNumber, TooFine, OutOfRange}
+use Rattle.tsp_number.specs.declared.word.NumberFault.TheVariants.{LongWord, BadNumber, TooFine, OutOfRange}
 use Rattle.tsp_number.proofs.WordLaws.{decimal_once, decimal_of-reads}
 use Rattle.tsp_number.proofs.word.any_decimal.Goals as goal
 

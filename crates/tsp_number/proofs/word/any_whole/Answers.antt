@@ -6,7 +6,7 @@ use Rattle.tsp_number.proofs.Reading.{bad_number, too_fine, not_whole, whole_sta
 use Rattle.tsp_distance.specs.Decimal.{unit}
 use Rattle.tsp_number.specs.NumberWord.{StandsFor, ReadsWhole, with_sign}
 use Rattle.std.specs.Prelude.{Ok, Err}
-use Rattle.tsp_number.specs.declared.fault.NumberFault.TheVariants.{LongWord, BadNumber, TooFine, OutOfRange, NotWhole}
+use Rattle.tsp_number.specs.declared.word.NumberFault.TheVariants.{LongWord, BadNumber, TooFine, OutOfRange, NotWhole}
 use Rattle.tsp_number.proofs.WordLaws.{whole_once, whole_of-reads}
 use Rattle.tsp_number.proofs.word.any_whole.Goals as goal
 

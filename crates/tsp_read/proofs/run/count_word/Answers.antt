@@ -1,6 +1,6 @@
 -- The goals of `count_word` in src/run.rt, which counts a word, and the line's end after it: what it ensures.
 use Rattle.std.proofs.Common.{◌+◌, ◌∷◌, List, ℕ, true, refl, arith}
-use Rattle.tsp_read.specs.declared.count.Count.{Count}
+use Rattle.tsp_read.specs.declared.run.Count.{Count}
 use Rattle.tsp_read.proofs.RunSteps.{word_runs, line_runs, run_then}
 use Rattle.tsp_read.proofs.run.count_word.Goals as goal
 

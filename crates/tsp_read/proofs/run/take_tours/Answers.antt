@@ -1,6 +1,6 @@
 -- The goals of `take_tours` in src/run.rt, which takes words of tours, and reserves memory for them: what it ensures.
 use Rattle.std.proofs.Common.{refl}
-use Rattle.tsp_section.specs.declared.part.Part.TheVariants as parts
+use Rattle.tsp_read.specs.declared.part.Part.TheVariants as parts
 use Rattle.tsp_read.proofs.RunSteps.{keeps_run, run_then}
 use Rattle.tsp_read.proofs.run.take_tours.Goals as goal
 

@@ -1,6 +1,6 @@
 -- The goals of `put_named` in src/report.rt, which adds words and a number: what it ensures.
-use Rattle.tsp_stream.specs.states.WriteProgress.{way_of}
-use Rattle.tsp_stream.proofs.Carrying.{carried_then}
+use Rattle.tsp_io.specs.states.WriteProgress.{way_of}
+use Rattle.tsp_io.proofs.Carrying.{carried_then}
 use Rattle.tsp_report.proofs.report.put_named.Goals as goal
 
 -- plan: the word, the number and the line's end (`carried_then`)

@@ -1,8 +1,8 @@
 -- The goals of `put_nodes` in src/report.rt: what it ensures.
 use Rattle.std.proofs.Common.{◌++◌}
 use Rattle.std.specs.Prelude.{codes}
-use Rattle.tsp_stream.specs.states.WriteProgress.{way_of}
-use Rattle.tsp_stream.proofs.Carrying.{carried_then}
+use Rattle.tsp_io.specs.states.WriteProgress.{way_of}
+use Rattle.tsp_io.proofs.Carrying.{carried_then}
 use Rattle.std.specs.Fmt.{decimal}
 use Rattle.tsp_report.proofs.report.put_nodes.Goals as goal
 

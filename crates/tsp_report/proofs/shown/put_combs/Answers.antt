@@ -1,11 +1,11 @@
 -- The goals of `put_combs` in src/shown.rt: what it ensures.
 use Rattle.std.proofs.Common.{◌++◌, length, ℕ, subst, sym, map}
 use Rattle.std.specs.Prelude.{codes}
-use Rattle.tsp_stream.specs.states.WriteProgress.{Carried, way_of}
-use Rattle.tsp_stream.proofs.Carrying.{carried_then, carried_none}
+use Rattle.tsp_io.specs.states.WriteProgress.{Carried, way_of}
+use Rattle.tsp_io.proofs.Carrying.{carried_then, carried_none}
 use Rattle.std.specs.Fmt.{decimal}
 use Rattle.std.proofs.lemmas.List.{length-map}
-use Rattle.tsp_draft.specs.states.Drafts.{combs_of}
+use Rattle.tsp_file.specs.states.Drafts.{combs_of}
 use Rattle.tsp_report.proofs.shown.put_combs.Goals as goal
 
 -- plan: by whether the section is present (`carried_none`)

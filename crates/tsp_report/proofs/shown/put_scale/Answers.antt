@@ -1,8 +1,8 @@
 -- The goals of `put_scale` in src/shown.rt: what it ensures.
 use Rattle.std.proofs.Common.{◌++◌, rules}
 use Rattle.std.specs.Prelude.{codes, FitsSigned, unwrap_or, pos}
-use Rattle.tsp_stream.specs.states.WriteProgress.{way_of}
-use Rattle.tsp_stream.proofs.Carrying.{carried_then}
+use Rattle.tsp_io.specs.states.WriteProgress.{way_of}
+use Rattle.tsp_io.proofs.Carrying.{carried_then}
 use Rattle.std.specs.Fmt.{signed_decimal}
 use Rattle.std.specs.Int.{w64}
 use Rattle.std.proofs.lemmas.Int.{to_z-of_z}

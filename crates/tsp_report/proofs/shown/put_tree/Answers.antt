@@ -1,8 +1,8 @@
 -- The goals of `put_tree` in src/shown.rt: what it ensures.
 use Rattle.std.proofs.Common.{◌≡◌, ◌++◌, subst, Option, ℕ, List, [], rules}
 use Rattle.std.specs.Prelude.{unwrap_or, ℤ}
-use Rattle.tsp_stream.specs.states.WriteProgress.{Carried, way_of}
-use Rattle.tsp_stream.proofs.Carrying.{carried_then}
+use Rattle.tsp_io.specs.states.WriteProgress.{Carried, way_of}
+use Rattle.tsp_io.proofs.Carrying.{carried_then}
 use Rattle.tsp_format.specs.Steps.{Step}
 use Rattle.tsp_format.specs.states.TreeSteps.{steps_of}
 use Rattle.tsp_report.specs.Show.{scale_line, load_unit_line, combs_line, leaves_line}

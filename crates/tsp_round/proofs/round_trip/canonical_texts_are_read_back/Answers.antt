@@ -2,7 +2,7 @@
 -- file, and to no other: from the one answer of every text.
 use Rattle.std.proofs.Common.{ℕ, List, sym, subst, ◌∙◌, Result, Ok, Err}
 use Rattle.std.proofs.lemmas.Option.{none-some}
-use Rattle.tsp_draft.specs.Fields.{Fields}
+use Rattle.tsp_file.specs.Fields.{Fields}
 use Rattle.tsp_file.specs.CanonicalText.{text_of}
 use Rattle.tsp_text.specs.declared.fault.ReadFault.{ReadFault}
 use Rattle.tsp_text.specs.declared.fault.ReadFault.TheVariants as faults

@@ -2,7 +2,7 @@
 -- range, what its call requires and what it ensures.
 use Rattle.std.proofs.Common.{◌≡◌, ◌+◌, ◌-◌, ◌*◌, ◌<◌, ◌∙◌, ℕ, length, get_or, ap, subst, sym, arith}
 use Rattle.std.specs.Global.{Vec}
-use Rattle.tsp_routing.specs.declared.onward.Onward.{Onward}
+use Rattle.tsp_routing.specs.declared.least_walk.Onward.{Onward}
 use Rattle.tsp_routing.specs.states.Onwards.{load_at, onward_entry, entry_at, IsRowSized, IsRowLow, IsRowMet}
 use Rattle.tsp_routing.proofs.WalkSizes.{links_more, links_up, entry_up}
 use Rattle.tsp_routing.proofs.WalkEntries.{nowhere_low}

@@ -3,7 +3,7 @@ use Rattle.std.proofs.Common.{◌≡◌, ◌+◌, ◌<◌, ◌∙◌, ℕ, lengt
 use Rattle.std.specs.Prelude.{ℤ, ◌+ℤ◌}
 use Rattle.std.proofs.lemmas.Int.{ints}
 use Rattle.tsp_theory.specs.states.Nearest.{least_at}
-use Rattle.tsp_routing.specs.declared.onward.Onward.{Onward}
+use Rattle.tsp_routing.specs.declared.least_walk.Onward.{Onward}
 use Rattle.tsp_routing.specs.WalkTables.{WalkEntry, least_from, IsReal}
 use Rattle.tsp_routing.specs.states.Onwards.{onward_entry, entry_at, IsEntrySized}
 use Rattle.tsp_routing.proofs.WalkSizes.{get_same, known_sized, sum_low, sum_near, sum_real}

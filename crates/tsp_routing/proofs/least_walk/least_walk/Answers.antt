@@ -5,7 +5,7 @@ use Rattle.std.specs.Global.{Vec}
 use Rattle.tsp_theory.specs.Length.{length_of}
 use Rattle.tsp_routing.specs.LeastOf.{IsLeastAmong}
 use Rattle.tsp_routing.specs.Walks.{IsWalk, IsBelowWalks}
-use Rattle.tsp_routing.specs.declared.onward.Onward.{Onward}
+use Rattle.tsp_routing.specs.declared.least_walk.Onward.{Onward}
 use Rattle.tsp_routing.specs.states.Onwards.{load_at, IsRowSized, AreRowsSized, IsRowLow, AreRowsLow, IsRowMet, AreRowsMet}
 use Rattle.tsp_routing.proofs.Places.{places_push}
 use Rattle.tsp_routing.proofs.WalkRests.{no_number_no_walk, found_least}

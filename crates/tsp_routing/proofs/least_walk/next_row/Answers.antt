@@ -4,7 +4,7 @@ use Rattle.std.specs.List.{All}
 use Rattle.std.proofs.lemmas.List.Elements.{All-push, All-from_recursion}
 use Rattle.tsp_theory.specs.Routing.{IsCustomer}
 use Rattle.tsp_routing.specs.WalkTables.{IsLow, IsMet}
-use Rattle.tsp_routing.specs.declared.onward.Onward.{Onward}
+use Rattle.tsp_routing.specs.declared.least_walk.Onward.{Onward}
 use Rattle.tsp_routing.specs.states.Onwards.{load_at, onward_entry, entry_at, IsEntrySized}
 use Rattle.tsp_routing.proofs.WalkEntries.{entry_pushed}
 use Rattle.tsp_routing.proofs.least_walk.next_row.Goals as goal

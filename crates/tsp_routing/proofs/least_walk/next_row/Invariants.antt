@@ -3,7 +3,7 @@ use Rattle.std.proofs.Common.{◌≡◌, ◌≤◌, ◌+◌, ◌*◌, ℕ, lengt
 use Rattle.std.specs.List.{All}
 use Rattle.tsp_theory.specs.Routing.{IsCustomer}
 use Rattle.tsp_routing.specs.WalkTables.{IsLow, IsMet}
-use Rattle.tsp_routing.specs.declared.onward.Onward.{Onward}
+use Rattle.tsp_routing.specs.declared.least_walk.Onward.{Onward}
 use Rattle.tsp_routing.specs.states.Onwards.{load_at, onward_entry, entry_at, IsEntrySized, AreRowsLow, AreRowsMet}
 use Rattle.tsp_routing.proofs.least_walk.next_row.Given as goal
 

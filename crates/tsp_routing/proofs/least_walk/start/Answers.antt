@@ -6,7 +6,7 @@ use Rattle.std.specs.Global.{Vec}
 use Rattle.tsp_format.specs.Nodes.{IsNode}
 use Rattle.tsp_format.specs.Ranges.{IsFromTo}
 use Rattle.tsp_theory.specs.states.Nearest.{least_at}
-use Rattle.tsp_routing.specs.declared.onward.Onward.{Onward}
+use Rattle.tsp_routing.specs.declared.least_walk.Onward.{Onward}
 use Rattle.tsp_routing.specs.states.Onwards.{load_at, entry_at, IsRowSized, IsRowLow, IsRowMet}
 use Rattle.tsp_routing.proofs.WalkSizes.{real_sized}
 use Rattle.tsp_routing.proofs.WalkRests.{start_low, start_exact}

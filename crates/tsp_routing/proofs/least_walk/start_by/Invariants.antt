@@ -5,7 +5,7 @@ use Rattle.tsp_format.specs.Nodes.{IsNode}
 use Rattle.tsp_theory.specs.Routing.{IsCustomer}
 use Rattle.tsp_theory.specs.states.Nearest.{least_at}
 use Rattle.tsp_routing.specs.WalkTables.{IsStartMet}
-use Rattle.tsp_routing.specs.declared.onward.Onward.{Onward}
+use Rattle.tsp_routing.specs.declared.least_walk.Onward.{Onward}
 use Rattle.tsp_routing.specs.states.Onwards.{entry_at, IsEntryNumber, IsRowSized}
 use Rattle.tsp_routing.proofs.least_walk.start_by.Given as goal
 

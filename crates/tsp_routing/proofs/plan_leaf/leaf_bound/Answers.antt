@@ -7,7 +7,7 @@ use Rattle.std.specs.Int.{w64, w128}
 use Rattle.std.proofs.lemmas.Int.{ints, to_z-of_z}
 use Rattle.std.proofs.lemmas.List.{length-map}
 use Rattle.tsp_theory.specs.CertificateNumbers.{entry}
-use Rattle.tsp_families.specs.FamilySets.{lists_of}
+use Rattle.tsp_cases.specs.FamilySets.{lists_of}
 use Rattle.tsp_cases.specs.FamiliesOfSets.{families_with}
 use Rattle.tsp_cases.specs.GoodNumbers.{as_leaf_numbers}
 use Rattle.tsp_cases.specs.states.Lent.{lent_in}

@@ -14,8 +14,8 @@ use Rattle.tsp_format.specs.Nodes.{IsNode}
 use Rattle.tsp_format.specs.Steps as listed
 use Rattle.tsp_format.specs.states.TreeSteps.{steps_of}
 use Rattle.tsp_theory.specs.Routing.{RoutingProblem}
-use Rattle.tsp_families.specs.FamilySets.{lists_of, families_in}
-use Rattle.tsp_families.specs.declared.family.Crossings.{Crossings}
+use Rattle.tsp_cases.specs.FamilySets.{lists_of, families_in}
+use Rattle.tsp_cases.specs.declared.family.Crossings.{Crossings}
 use Rattle.tsp_cases.specs.BadBranches.{BeginsWithin, branch_pairs, IsFirstBadBranch}
 use Rattle.tsp_cases.specs.FamiliesOfSets.{families_with}
 use Rattle.tsp_cases.specs.Listed.{IsStepOf}

@@ -5,7 +5,7 @@ use crate::asserts::same_at;
 use crate::read::answers::{fault_at_end, fed};
 use std::alloc::AllocError;
 use std::process::Abort;
-use tsp_draft::EndFault;
+use tsp_file::EndFault;
 use tsp_format::Field;
 use tsp_read::{Feed, ReadFault};
 

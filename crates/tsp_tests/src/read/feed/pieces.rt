@@ -1,15 +1,15 @@
 //! Tests of the result of `Feed` at each piece: a refusal comes as soon as it can, and stays.
 
-use super::{CANONICAL_TOUR, TOUR, at};
 use crate::asserts::{same, same_at};
 use crate::read::answers::{answer, answer_in, answers, fault_at_end, fed};
+use crate::read::feed::{CANONICAL_TOUR, TOUR, at};
 use std::alloc::AllocError;
 use std::process::Abort;
-use tsp_draft::EndFault;
+use tsp_file::EndFault;
 use tsp_format::Field;
 use tsp_number::NumberFault::{BadNumber, LongWord};
-use tsp_read::LineFault::{Number, Outside, UnknownLine};
-use tsp_read::{Feed, LineFault, ReadFault};
+use tsp_read::LineFault::{self, Number, Outside, UnknownLine};
+use tsp_read::{Feed, ReadFault};
 
 /// The fault of a text without a line TYPE.
 const NO_TYPE: ReadFault = ReadFault::End(EndFault::Missing(Field::TypeKey));

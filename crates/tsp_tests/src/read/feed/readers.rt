@@ -1,13 +1,13 @@
 //! Tests of readers that must not be asked once more, since their text is settled.
 
-use super::{CANONICAL_TOUR, Example, RECTANGLE, TOUR};
 use crate::asserts::{holds_at, same_at};
 use crate::read::answers::{answer_from, answers};
+use crate::read::feed::{CANONICAL_TOUR, Example, RECTANGLE, TOUR};
 use std::io::{Error, ErrorKind, Read, Result as IoResult};
+use tsp_io::Watched;
 use tsp_number::NumberFault::BadNumber;
 use tsp_read::LineFault::{Number, Outside, UnknownLine};
 use tsp_read::ReadFault;
-use tsp_stream::Watched;
 
 /// A reader that delivers all its bytes at its first read, and fails at the next.
 #[derive(Drop)]

@@ -1,6 +1,6 @@
 -- The goals of `examples_of_reasons_before_memory` in src/examples.rt: what it ensures.
 use Rattle.std.proofs.Common.{arith}
-use Rattle.tsp_task.specs.declared.verdict.Reason.TheVariants as reasons
+use Rattle.tsp_report.specs.declared.verdict.Reason.TheVariants as reasons
 use Rattle.tsp_verdict.proofs.examples.examples_of_reasons_before_memory.Goals as goal
 
 -- plan: each example is computed

@@ -4,8 +4,8 @@ use Rattle.std.proofs.Common.{◌≡◌, ◌+◌, Bool, List, map, length, refl,
 use Rattle.std.specs.Prelude.{FitsSigned, vec_len}
 use Rattle.std.specs.Int.{w64}
 use Rattle.std.proofs.lemmas.Int.{to_z-of_z}
-use Rattle.tsp_draft.specs.Fields.{Fields, nodes_of}
-use Rattle.tsp_task.specs.declared.verdict.Reason.TheVariants.{DepotCount}
+use Rattle.tsp_file.specs.Fields.{Fields, nodes_of}
+use Rattle.tsp_report.specs.declared.verdict.Reason.TheVariants.{DepotCount}
 use Rattle.tsp_verdict.specs.Routes.{NoneOfRoutesBefore}
 use Rattle.tsp_verdict.proofs.RouteReasons.{after_routing}
 use Rattle.tsp_verdict.proofs.FilesHold.{as_many}

@@ -1,4 +1,4 @@
--- The goals of `fill` in src/weights.rt, of the trait `Weights` of tsp_tree for `Weights`: what it ensures. It writes
+-- The goals of `fill` in src/weights.rt, of the trait `Weights` of tsp_bound for `Weights`: what it ensures. It writes
 -- the weights between a node and each node into a row.
 use Rattle.std.proofs.Common.{◌≡◌, ℕ, arith}
 use Rattle.std.specs.Prelude.{◌<ℤ◌}

@@ -1,4 +1,4 @@
--- The goals of `fill_at` in src/weights.rt, of the trait `Weights` of tsp_tree for `Weights`: what it ensures. It
+-- The goals of `fill_at` in src/weights.rt, of the trait `Weights` of tsp_bound for `Weights`: what it ensures. It
 -- writes the weights between a node and some nodes into a row.
 use Rattle.std.proofs.Common.{◌≡◌, ◌<◌, length, slice_index, ℕ, arith}
 use Rattle.std.specs.Prelude.{◌<ℤ◌}

@@ -8,7 +8,7 @@ use Rattle.tsp_theory.specs.CertificateNumbers.{IsFromTo, IsScale, total}
 use Rattle.tsp_theory.specs.NodeBound.{weight_between}
 use Rattle.tsp_theory.proofs.Sizes.{same_scale}
 use Rattle.tsp_cases.specs.Families.{Family}
-use Rattle.tsp_cases.specs.declared.decision.Decision.{Decision}
+use Rattle.tsp_cases.specs.declared.open_case.Decision.{Decision}
 use Rattle.tsp_cases.specs.Decisions.{decided_number}
 use Rattle.tsp_cases.specs.LeafBound.{combed, least_of}
 use Rattle.tsp_cases.specs.CaseTrees.{multiplied}

@@ -8,7 +8,7 @@ use Rattle.std.proofs.lemmas.Result.{IfOk-weaker}
 use Rattle.tsp_theory.specs.CertificateNumbers.{IsFromTo, IsScale}
 use Rattle.tsp_theory.proofs.Sizes.{same_scale}
 use Rattle.tsp_cases.specs.Families.{Family}
-use Rattle.tsp_cases.specs.declared.decision.Decision.{Decision}
+use Rattle.tsp_cases.specs.declared.open_case.Decision.{Decision}
 use Rattle.tsp_cases.specs.Decisions.{DecideOnce, on_taken, on_avoided, decided_number}
 use Rattle.tsp_cases.specs.LeafBound.{IsLeafBound}
 use Rattle.tsp_cases.specs.CaseTrees.{multiplied}

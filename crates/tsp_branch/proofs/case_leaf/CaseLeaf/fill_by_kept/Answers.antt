@@ -12,7 +12,7 @@ use Rattle.tsp_theory.proofs.Weights.{between_size}
 use Rattle.tsp_theory.proofs.Sizes.{scaled_size}
 use Rattle.tsp_cases.specs.states.Lent.{lent_in}
 use Rattle.tsp_cases.specs.states.Combed.{set_weight}
-use Rattle.tsp_cases.specs.declared.decision.Decision.{Decision}
+use Rattle.tsp_cases.specs.declared.open_case.Decision.{Decision}
 use Rattle.tsp_cases.specs.states.Decided.{marks_in, most_decided}
 use Rattle.tsp_cases.specs.states.OpenCases.{decisions_in}
 use Rattle.tsp_cases.specs.states.Kept.{kept_weight, IsKeptRow}

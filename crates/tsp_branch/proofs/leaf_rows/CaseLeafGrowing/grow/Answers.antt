@@ -7,7 +7,7 @@ use Rattle.tsp_cases.specs.states.Lent.{lent_in}
 use Rattle.tsp_cases.specs.states.Combed.{set_weight}
 use Rattle.tsp_cases.specs.states.OpenCases.{decisions_in}
 use Rattle.tsp_branch.specs.states.Shared.{decided_by}
-use Rattle.tsp_tree.specs.declared.growth.Grown.{Grown}
+use Rattle.tsp_bound.specs.declared.tree.Grown.{Grown}
 use Rattle.tsp_branch.proofs.leaf_rows.CaseLeafGrowing.grow.Goals as goal
 
 -- plan: the tree that grows by Prim's method is a forest of least joins over all nodes (`growth_is_forest`)

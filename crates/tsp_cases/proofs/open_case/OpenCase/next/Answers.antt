@@ -2,7 +2,7 @@
 -- calls require and what it ensures.
 use Rattle.std.proofs.Common.{◌∙◌, ◌∷◌, [], List, false, length, refl, ap, subst, arith, length-append}
 use Rattle.std.proofs.lemmas.List.{append-nil}
-use Rattle.tsp_cases.specs.declared.decision.Decision.{Decision}
+use Rattle.tsp_cases.specs.declared.open_case.Decision.{Decision}
 use Rattle.tsp_cases.specs.declared.open_case.OpenCase.{OpenCase}
 use Rattle.tsp_cases.specs.Cases.{next_stack}
 use Rattle.tsp_cases.specs.states.Decided.{IsDecision, stack_of}

@@ -6,8 +6,8 @@ use Rattle.std.proofs.lemmas.List.{length-map, map-id}
 use Rattle.tsp_distance.specs.declared.decimal.Point.{Point}
 use Rattle.tsp_distance.specs.declared.decimal.PlanePoint.{PlanePoint}
 use Rattle.tsp_distance.specs.Distances.{on_plane}
-use Rattle.tsp_draft.specs.states.Drafts.{points_of}
-use Rattle.tsp_draft.specs.Fields.{Fields}
+use Rattle.tsp_file.specs.states.Drafts.{points_of}
+use Rattle.tsp_file.specs.Fields.{Fields}
 use Rattle.tsp_file.specs.Cost.{distance, point_of}
 use Rattle.tsp_cost.specs.states.Metrics.{weight_kind_of}
 use Rattle.tsp_cost.specs.states.Sources.{HasFound}

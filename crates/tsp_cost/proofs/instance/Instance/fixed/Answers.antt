@@ -1,7 +1,7 @@
 -- The goals of `Instance::fixed` in src/instance.rt: what it ensures.
 use Rattle.std.proofs.Common.{◌≡◌, ℕ, List, Some, sym, ap, subst, ◌∙◌}
-use Rattle.tsp_draft.specs.Fields.{Fields}
-use Rattle.tsp_draft.specs.Valid.{AreFixed}
+use Rattle.tsp_file.specs.Fields.{Fields}
+use Rattle.tsp_file.specs.Valid.{AreFixed}
 use Rattle.tsp_cost.specs.states.Sources.{HasFound}
 use Rattle.tsp_cost.proofs.Sources.{pairs_of}
 use Rattle.tsp_cost.proofs.instance.Instance.fixed.Goals as goal

@@ -1,4 +1,4 @@
--- The goals of `Points::is_beyond_by` in src/places.rt, which says whether a region is known to be far from a node, by
+-- The goals of `Points::is_beyond_by` in src/points.rt, which says whether a region is known to be far from a node, by
 -- the metric: what it ensures.
 use Rattle.std.proofs.Common.{ℤ, ◌≤ℤ◌, subst, w64}
 use Rattle.std.proofs.lemmas.Int.{to_z-of_z}

@@ -4,8 +4,8 @@ use Rattle.std.proofs.Common.{◌≡◌, Some, sym, ap, ◌∙◌}
 use Rattle.std.specs.Prelude.{is_some}
 use Rattle.tsp_format.specs.declared.layout.Layout.{Layout}
 use Rattle.tsp_format.specs.declared.kinds.WeightFormat.TheVariants.{Listed}
-use Rattle.tsp_draft.specs.Fields.{Fields}
-use Rattle.tsp_draft.specs.Valid.{AreWeights}
+use Rattle.tsp_file.specs.Fields.{Fields}
+use Rattle.tsp_file.specs.Valid.{AreWeights}
 use Rattle.tsp_file.proofs.Listed.{lists, not_by_function, not_missing}
 use Rattle.tsp_file.proofs.file.File.as_matrix.Goals as goal
 

@@ -1,8 +1,8 @@
 -- The goals of `File::combs_or_none` in src/typed.rt: what it ensures.
 use Rattle.std.proofs.Common.{◌≡◌, Some, sym, ap, ◌∙◌}
 use Rattle.std.specs.Option.{option_map}
-use Rattle.tsp_draft.specs.Fields.{Fields}
-use Rattle.tsp_draft.specs.states.Drafts.{combs_of}
+use Rattle.tsp_file.specs.Fields.{Fields}
+use Rattle.tsp_file.specs.states.Drafts.{combs_of}
 use Rattle.tsp_file.proofs.TypedFields.{combs_hold}
 use Rattle.tsp_file.proofs.file.File.combs_or_none.Goals as goal
 

@@ -1,7 +1,7 @@
 -- The goals of `File::fields` in src/file.rt, which returns the fields as a draft: what it ensures.
 use Rattle.std.proofs.Common.{◌≡◌, None, subst}
-use Rattle.tsp_draft.specs.Fields.{Fields}
-use Rattle.tsp_draft.specs.Rules.{fault_of}
+use Rattle.tsp_file.specs.Fields.{Fields}
+use Rattle.tsp_file.specs.Rules.{fault_of}
 use Rattle.tsp_file.proofs.TypedFields.{holds_its_type}
 use Rattle.tsp_file.proofs.file.File.fields.Goals as goal
 

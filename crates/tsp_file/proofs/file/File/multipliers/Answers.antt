@@ -1,7 +1,7 @@
 -- The goals of `File::multipliers` in src/typed.rt: what it ensures.
 use Rattle.std.proofs.Common.{◌≡◌, Some, sym, ap, ◌∙◌}
 use Rattle.std.specs.Option.{option_map}
-use Rattle.tsp_draft.specs.Fields.{Fields}
+use Rattle.tsp_file.specs.Fields.{Fields}
 use Rattle.tsp_file.proofs.TypedFields.{multipliers_hold}
 use Rattle.tsp_file.proofs.file.File.multipliers.Goals as goal
 

@@ -1,7 +1,7 @@
 -- The goals of `File::relayout` in src/relayout.rt, which lists the weights in another layout, or says why not: what it
 -- ensures.
 use Rattle.std.proofs.Common.{subst, ap, sym, ◌∙◌}
-use Rattle.tsp_draft.specs.Fields.{Fields, nodes_of}
+use Rattle.tsp_file.specs.Fields.{Fields, nodes_of}
 use Rattle.tsp_file.specs.Cost.{cost}
 use Rattle.tsp_file.specs.Relayout.{with_weights, costs_in}
 use Rattle.tsp_file.specs.states.Way.{LeadsTo}

@@ -6,13 +6,13 @@ use Rattle.std.specs.Option.{option_map}
 use Rattle.tsp_format.specs.declared.layout.Layout.{Layout}
 use Rattle.tsp_format.specs.declared.layout.Layout.TheVariants.{FullMatrix}
 use Rattle.tsp_format.specs.declared.kinds.WeightFormat.TheVariants.{Listed}
-use Rattle.tsp_draft.specs.Fields.{Fields, nodes_of}
-use Rattle.tsp_draft.specs.states.Drafts.{fields_of}
-use Rattle.tsp_draft.specs.Rules.{fault_of}
+use Rattle.tsp_file.specs.Fields.{Fields, nodes_of}
+use Rattle.tsp_file.specs.states.Drafts.{fields_of}
+use Rattle.tsp_file.specs.Rules.{fault_of}
 use Rattle.tsp_file.specs.Cost.{cost}
 use Rattle.tsp_file.specs.ListedWeights.{ListsWeights}
 use Rattle.tsp_file.specs.Relayout.{HoldsPairs, CanGo, with_weights, costs_in}
-use Rattle.tsp_draft.proofs.ValidFields.{in_range}
+use Rattle.tsp_file.proofs.ValidFields.{in_range}
 use Rattle.tsp_file.proofs.WithWeights.{some_is}
 use Rattle.tsp_file.proofs.Listed.{lists}
 use Rattle.tsp_file.proofs.Relaid.{of_weights}

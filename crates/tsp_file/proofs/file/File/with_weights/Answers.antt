@@ -1,7 +1,7 @@
 -- The goals of `File::with_weights` in src/file.rt, which replaces the weights: the facts of the file that it makes.
 use Rattle.std.proofs.Common.{◌≡◌, None, sym, subst}
-use Rattle.tsp_draft.specs.Fields.{Fields}
-use Rattle.tsp_draft.specs.Rules.{fault_of}
+use Rattle.tsp_file.specs.Fields.{Fields}
+use Rattle.tsp_file.specs.Rules.{fault_of}
 use Rattle.tsp_file.specs.Relayout.{with_weights}
 use Rattle.tsp_file.proofs.WithWeights.{stays_valid}
 use Rattle.tsp_file.proofs.file.File.with_weights.Goals as goal

@@ -4,7 +4,7 @@ use Rattle.std.proofs.Common.{◌≡◌, ◌∙◌, sym, length, map, min, arith
 use Rattle.tsp_format.specs.Nodes.{nodes_to}
 use Rattle.tsp_format.specs.Cells.{cells_of_line}
 use Rattle.tsp_file.specs.CanonicalText.{matrix_lines}
-use Rattle.tsp_stream.specs.states.WriteProgress.{way_of}
+use Rattle.tsp_io.specs.states.WriteProgress.{way_of}
 use Rattle.tsp_file.proofs.Matrices.{comes_begins, comes_next, comes_last, comes_failed}
 use Rattle.tsp_file.proofs.writer.matrix.put_lines.Goals as goal
 

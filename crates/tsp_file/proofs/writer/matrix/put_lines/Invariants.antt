@@ -3,7 +3,7 @@ use Rattle.std.proofs.Common.{◌+◌, ◌-◌, length, map}
 use Rattle.tsp_format.specs.Nodes.{nodes_to}
 use Rattle.tsp_format.specs.Cells.{cells_of_line}
 use Rattle.tsp_file.specs.CanonicalText.{matrix_lines}
-use Rattle.tsp_stream.specs.states.WriteProgress.{way_of}
+use Rattle.tsp_io.specs.states.WriteProgress.{way_of}
 use Rattle.tsp_file.proofs.Matrices.{Comes, lines_from}
 use Rattle.tsp_file.proofs.writer.matrix.put_lines.Given as goal
 

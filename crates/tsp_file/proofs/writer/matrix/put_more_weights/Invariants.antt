@@ -2,7 +2,7 @@
 use Rattle.std.proofs.Common.{◌∷◌, length}
 use Rattle.std.specs.List.{flat_map}
 use Rattle.std.specs.Fmt.{signed_decimal}
-use Rattle.tsp_stream.specs.states.WriteProgress.{way_of}
+use Rattle.tsp_io.specs.states.WriteProgress.{way_of}
 use Rattle.tsp_file.proofs.Matrices.{Comes}
 use Rattle.tsp_file.proofs.writer.matrix.put_more_weights.Given as goal
 

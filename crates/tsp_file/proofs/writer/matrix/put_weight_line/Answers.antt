@@ -1,5 +1,5 @@
 -- The goals of `put_weight_line` in src/writer/matrix.rt, which adds a line of weights: what it ensures.
-use Rattle.tsp_stream.specs.states.WriteProgress.{way_of}
+use Rattle.tsp_io.specs.states.WriteProgress.{way_of}
 use Rattle.tsp_file.proofs.Lines.{no_weights, some_weights}
 use Rattle.std.specs.Int.{w64}
 use Rattle.std.proofs.lemmas.Int.{to_z-of_z}

@@ -1,7 +1,7 @@
 -- The goals of `put_number_section` in src/writer/sections.rt: what it ensures.
 use Rattle.tsp_file.specs.CanonicalText.{lines_by_node, whole_number}
-use Rattle.tsp_stream.specs.states.WriteProgress.{way_of}
-use Rattle.tsp_stream.proofs.Carrying.{carried_none}
+use Rattle.tsp_io.specs.states.WriteProgress.{way_of}
+use Rattle.tsp_io.proofs.Carrying.{carried_none}
 use Rattle.tsp_file.proofs.Lines.{opened}
 use Rattle.tsp_file.proofs.writer.sections.put_number_section.Goals as goal
 

@@ -5,8 +5,8 @@ use Rattle.std.specs.Int.{w64}
 use Rattle.std.proofs.lemmas.Int.{to_z-of_z}
 use Rattle.std.specs.Fmt.{decimal}
 use Rattle.tsp_file.specs.CanonicalText.{number_line, whole_number}
-use Rattle.tsp_stream.specs.states.WriteProgress.{way_of}
-use Rattle.tsp_stream.proofs.Carrying.{carried_node_or, carried_nodes}
+use Rattle.tsp_io.specs.states.WriteProgress.{way_of}
+use Rattle.tsp_io.proofs.Carrying.{carried_node_or, carried_nodes}
 use Rattle.tsp_file.proofs.writer.sections.put_numbers.Goals as goal
 
 -- plan: the line of one node more is added, with its number, unless the writer has failed (`carried_node_or`)

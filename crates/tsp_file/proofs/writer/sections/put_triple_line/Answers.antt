@@ -1,7 +1,7 @@
 -- The goals of `put_triple_line` in src/writer/sections.rt: what it ensures.
 use Rattle.std.proofs.Common.{rules}
 use Rattle.std.specs.Fmt.{decimal, signed_decimal}
-use Rattle.tsp_stream.specs.states.WriteProgress.{way_of}
+use Rattle.tsp_io.specs.states.WriteProgress.{way_of}
 use Rattle.tsp_file.proofs.Lines.{three_numbers}
 use Rattle.std.specs.Int.{w64}
 use Rattle.std.proofs.lemmas.Int.{to_z-of_z}

@@ -1,13 +1,12 @@
 -- The goals of `Feed::end` in src/feed.rt, which takes the item that has begun as the last, and returns what was read:
 -- what it ensures.
-use Rattle.std.proofs.Common.{subst, sym}
-use Rattle.tsp_read.specs.declared.state.reading.Reading.{Reading}
+use Rattle.std.proofs.Common.{subst, sym, ◌≡◌, false}
+use Rattle.tsp_read.specs.declared.reading.Reading.{Reading}
 use Rattle.tsp_read.specs.Feed.{SpellsWhole}
 use Rattle.std.specs.Prelude.{is_some}
-use Rattle.std.proofs.Common.{◌≡◌, false}
 use Rattle.tsp_read.proofs.FeedSteps.{taken_at, not_refused, still_going}
 use Rattle.tsp_read.proofs.EndLines.{ended_none}
-use Rattle.tsp_read.specs.declared.stage.Stage.TheVariants.{Ended}
+use Rattle.tsp_read.specs.declared.feed.Stage.TheVariants.{Ended}
 use Rattle.tsp_read.specs.states.Holds.{IsReadFrom}
 use Rattle.tsp_read.proofs.LastSteps.{ended_read, going_read, ended_whole, taken_whole, taken_fault, refused_fault}
 use Rattle.tsp_read.proofs.feed.Feed.end.Goals as goal

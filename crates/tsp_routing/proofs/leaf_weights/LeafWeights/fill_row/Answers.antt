@@ -6,7 +6,7 @@ use Rattle.std.specs.List.{All}
 use Rattle.tsp_format.specs.Nodes.{IsNode}
 use Rattle.tsp_theory.specs.CertificateNumbers.{IsFromTo}
 use Rattle.tsp_theory.specs.states.Nearest.{least_at}
-use Rattle.tsp_cases.specs.declared.set_place.SetPlace.{SetPlace}
+use Rattle.tsp_cases.specs.declared.sets.SetPlace.{SetPlace}
 use Rattle.tsp_cases.specs.states.Sets.{IsMoved, places_with}
 use Rattle.tsp_cases.specs.states.Places.{IsPlaceIn}
 use Rattle.tsp_cases.specs.states.Lent.{lent_in}

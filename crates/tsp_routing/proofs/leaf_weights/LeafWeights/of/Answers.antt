@@ -7,7 +7,7 @@ use Rattle.std.proofs.lemmas.Int.{ints, to_z-of_z}
 use Rattle.std.proofs.lemmas.List.{length-map}
 use Rattle.std.proofs.lemmas.List.Elements.{recursion_from_All, All-from_recursion}
 use Rattle.tsp_format.specs.Ranges.{IsFromTo}
-use Rattle.tsp_families.specs.FamilySets.{lists_of}
+use Rattle.tsp_cases.specs.FamilySets.{lists_of}
 use Rattle.tsp_cases.specs.states.Kept.{AreMoved}
 use Rattle.tsp_cases.specs.states.Lent.{lent_in}
 use Rattle.tsp_cases.specs.states.Sets.{IsSetTable}

@@ -1,0 +1,23 @@
+-- The goals of `is_beyond` in src/boxed.rt, of the trait `BoxedWeights` for `BoxedLeaf`: what it ensures. It says
+-- whether all nodes of a region are known to cost at least a number.
+use Rattle.std.proofs.Common.{◌∙◌, refl}
+use Rattle.tsp_theory.specs.states.Nearest.{least_at}
+use Rattle.tsp_cases.specs.states.Lent.{lent_in}
+use Rattle.tsp_cases.specs.states.OpenCases.{decisions_in}
+use Rattle.tsp_cases.proofs.CaseWeights.{small_multipliers}
+use Rattle.tsp_branch.proofs.BoxedValues.{base_below}
+use Rattle.tsp_branch.proofs.boxed.BoxedLeafBoxedWeights.is_beyond.Goals as goal
+
+-- plan: the base is at most the weight (`base_below`), so a region that is too far by its base is too far by its
+-- weights
+pub returns-clause-above : goal.returns-clause-above
+returns-clause-above g c = λ to node.
+    let p = c.args.self.now in
+    let q = p.leaf.now in
+    base_below q.setting.now.cases.now.scale q.potentials.now q.multipliers.now (lent_in q.setting.now.families.now)
+    (g.C.Costs.at q.setting.now.costs.now) c.args.from.now.node to (least_at q.moved.now c.args.from.now.node)
+    (least_at q.moved.now to) _
+    q.setting.now.families.now.once (p.exact c.args.from.now.node c.requires.node_in).0 (p.exact to node).0 refl
+    (decisions_in p.leaf.now.case.now) (small_multipliers _ q.setting.now.families.now.crossed.items _ _
+    q.setting.now.families.now.some q.numbers)
+    (q.numbers.each_comb ∙ q.setting.now.families.now.as_many) q.setting.now.families.now.many q.setting.now.families.now.as_many

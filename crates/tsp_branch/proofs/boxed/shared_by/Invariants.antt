@@ -1,0 +1,10 @@
+-- The loop of `shared_by` in src/boxed.rt, which sums the multipliers of the sets that have both nodes.
+use Rattle.std.proofs.Common.{◌≡◌, drop}
+use Rattle.std.specs.Prelude.{◌+ℤ◌}
+use Rattle.std.specs.Int.{w64, int_wrap}
+use Rattle.tsp_branch.specs.states.Shared.{shared_by}
+use Rattle.tsp_branch.proofs.boxed.shared_by.Given as goal
+
+-- the sum so far plus the multipliers at the places left is the whole sum, in 64 bits
+abbrev pub invariant-places : goal.invariant-places
+invariant-places l = int_wrap w64 (l.sum +ℤ shared_by l.multipliers.numbers.now l.others (drop l.place-index l.places)) ≡ int_wrap w64 (shared_by l.multipliers.numbers.now l.others l.places)

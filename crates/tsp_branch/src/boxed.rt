@@ -1,0 +1,348 @@
+//! The bound of a leaf by a least 1-tree: by boxes of points where these suit its sets, else by
+//! rows. For `src/case_leaf.rt`.
+
+ghost use Rattle.std.specs.Int.{w64, int_wrap};
+ghost use Rattle.std.specs.List.{All};
+ghost use Rattle.std.specs.Prelude.{◌≡◌, ◌+◌, false, ◌+ℤ◌, ◌*ℤ◌, ◌≤ℤ◌, length, pos, neg_ℤ, IfOk, ◌<◌, ◌*◌, true, ◌≤◌, ◌^◌, ℕ};
+ghost use Rattle.tsp_format.specs.Limits.{most_weight};
+ghost use Rattle.tsp_format.specs.Nodes.{IsNode};
+ghost use Rattle.tsp_theory.specs.CertificateNumbers.{IsFromTo, IsBoundSized, IsScale, IsLeastBound};
+ghost use Rattle.tsp_theory.specs.NodeBound.{weight_between, most_between};
+ghost use Rattle.tsp_theory.specs.states.Nearest.{least_at};
+ghost use Rattle.tsp_cases.specs.Decisions.{decided_number};
+ghost use Rattle.tsp_cases.specs.states.Combed.{most_combed, set_weight};
+ghost use Rattle.tsp_cases.specs.states.Decided.{AreFewChanges, changes, decided};
+ghost use Rattle.tsp_cases.specs.states.Lent.{lent_in};
+ghost use Rattle.tsp_cases.specs.states.OpenCases.{decisions_in};
+ghost use Rattle.tsp_branch.specs.LeafWeight.{BoundsEachLeaf, IsBoundOfWeights};
+ghost use Rattle.tsp_branch.specs.states.Shared.{AreExact, is_same_place, has_place, shared_by, sum_at_places};
+
+use crate::case_leaf::{CaseLeaf, LeafSum, change_between};
+use std::alloc::Global;
+use tsp_bound::{
+    BoxedWeights, Growing, Grown, NumberedSite, Weights, grow_in_rounds as grow, least_weight,
+    weight_in,
+};
+use tsp_cases::{Multipliers, SetPlace, sum_left};
+use tsp_io::Refused;
+use tsp_theory::{Costs, Region, Site};
+
+/// The weights of a leaf, of which each node's potential less the multipliers of its sets isn't too
+/// large.
+///
+/// What the sets of both nodes add is never negative, and avoided pairs only add: so each weight is
+/// at least the cost at the scale and the numbers of both nodes, but for those of taken pairs.
+#[derive(Drop)]
+pub(crate) struct BoxedLeaf<'a, C: Costs> {
+    pub(crate) leaf: &'a CaseLeaf<'a, C>,
+    ghost undirected: { leaf.now.setting.now.cases.now.directed ≡ false },
+    ghost once: { AreFewChanges (decisions_in leaf.now.case.now) },
+    ghost exact: { AreExact (C.nodes leaf.now.setting.now.costs.now) leaf.now.potentials.now
+        leaf.now.multipliers.now (lent_in leaf.now.setting.now.families.now) leaf.now.moved.now },
+}
+
+impl<C: Costs> BoxedLeaf<'_, C> {
+    /// The cost at the scale and the numbers of both nodes, where the caller passes the cost.
+    #[inline]
+    fn base(&self, cost: i64, from: u32, to: u32) -> i64
+        requires from { IsNode (C.nodes self.now.leaf.now.setting.now.costs.now) from }
+        requires to { IsNode (C.nodes self.now.leaf.now.setting.now.costs.now) to }
+        requires cost { cost ≡ C.at self.now.leaf.now.setting.now.costs.now from to }
+        requires low { neg_ℤ (pos most_weight) ≤ℤ cost }
+        requires high { cost ≤ℤ pos most_weight }
+        ensures value { result ≡ (self.now.leaf.now.setting.now.cases.now.scale *ℤ C.at self.now.leaf.now.setting.now.costs.now from to)
+            +ℤ (least_at self.now.leaf.now.moved.now from
+            +ℤ least_at self.now.leaf.now.moved.now to) }
+        ensures size { IsFromTo (neg_ℤ (pos most_between)) (pos most_between)
+            (weight_between self.now.leaf.now.setting.now.cases.now.scale
+            self.now.leaf.now.potentials.now (C.at self.now.leaf.now.setting.now.costs.now) from to) }
+    {
+        let leaf = self.leaf;
+        let both = weight_in(leaf.moved, from) + weight_in(leaf.moved, to);
+        leaf.setting.cases.scale * cost + both
+    }
+
+    /// The weight without decisions, where the caller passes what it is without the sets of both
+    /// nodes.
+    fn combed(&self, base: i64, from: u32, to: u32) -> i64
+        requires from { IsNode (C.nodes self.now.leaf.now.setting.now.costs.now) from }
+        requires to { IsNode (C.nodes self.now.leaf.now.setting.now.costs.now) to }
+        requires base { base ≡ (self.now.leaf.now.setting.now.cases.now.scale *ℤ C.at self.now.leaf.now.setting.now.costs.now from to)
+            +ℤ (least_at self.now.leaf.now.moved.now from
+            +ℤ least_at self.now.leaf.now.moved.now to) }
+        requires size { IsFromTo (neg_ℤ (pos most_between)) (pos most_between)
+            (weight_between self.now.leaf.now.setting.now.cases.now.scale
+            self.now.leaf.now.potentials.now (C.at self.now.leaf.now.setting.now.costs.now) from to) }
+        ensures value { result ≡ set_weight self.now.leaf.now.setting.now.cases.now.scale self.now.leaf.now.potentials.now
+            self.now.leaf.now.multipliers.now (lent_in self.now.leaf.now.setting.now.families.now)
+            (C.at self.now.leaf.now.setting.now.costs.now) from to }
+        ensures size { IsFromTo (neg_ℤ (pos most_combed)) (pos most_combed) result }
+    {
+        let setting = self.leaf.setting;
+        let multipliers = Multipliers {
+            families: setting.families,
+            numbers: self.leaf.multipliers,
+        };
+        let shared = shared_by(
+            &multipliers,
+            &setting.by_node[to as usize],
+            &setting.by_node[from as usize],
+        );
+        sum_left(base, shared)
+    }
+
+    /// What the decisions of the case add to a weight.
+    fn change(&self, from: u32, to: u32) -> i64
+        requires { IsNode (C.nodes self.now.leaf.now.setting.now.costs.now) from }
+        ensures value { result ≡ changes (decisions_in self.now.leaf.now.case.now) from to }
+        ensures size { IsFromTo (neg_ℤ decided_number) decided_number result }
+    {
+        change_between(self.leaf.case.at(from), from, to)
+    }
+
+    /// The weight between two nodes.
+    fn decided(&self, from: u32, to: u32) -> i64
+        requires from { IsNode (C.nodes self.now.leaf.now.setting.now.costs.now) from }
+        requires to { IsNode (C.nodes self.now.leaf.now.setting.now.costs.now) to }
+        ensures { result ≡ set_weight self.now.leaf.now.setting.now.cases.now.scale self.now.leaf.now.potentials.now
+            self.now.leaf.now.multipliers.now (lent_in self.now.leaf.now.setting.now.families.now)
+            (C.at self.now.leaf.now.setting.now.costs.now) from to
+            +ℤ changes (decisions_in self.now.leaf.now.case.now) from to }
+    {
+        let cost = self.leaf.setting.costs.cost(from, to);
+        let combed = self.combed(self.base(cost, from, to), from, to);
+        combed + self.change(from, to)
+    }
+}
+
+impl<C: Costs> Weights for BoxedLeaf<'_, C> {
+    ghost nodes = { λ w. C.nodes w.leaf.now.setting.now.costs.now };
+
+    ghost at = { λ w. decided (decisions_in w.leaf.now.case.now) (set_weight w.leaf.now.setting.now.cases.now.scale
+        w.leaf.now.potentials.now w.leaf.now.multipliers.now
+        (lent_in w.leaf.now.setting.now.families.now)
+        (C.at w.leaf.now.setting.now.costs.now)) };
+
+    #[inline]
+    fn count(&self) -> u32 {
+        self.leaf.count()
+    }
+
+    fn fill(&self, from: u32, row: &mut [i64]) {
+        self.leaf.fill(from, row);
+    }
+
+    fn fill_at(&self, from: u32, to: &[u32], row: &mut [i64]) {
+        self.leaf.fill_at(from, to, row);
+    }
+}
+
+impl<C: Costs> Growing for BoxedLeaf<'_, C> {
+    fn grow(&self, alloc: Global, row: &mut [i64]) -> Result<Grown, Refused> {
+        grow(alloc, self, row)
+    }
+}
+
+impl<C: Costs> BoxedWeights for BoxedLeaf<'_, C> {
+    ghost use Rattle.tsp_branch.specs.states.Shared.{raised, others_of};
+
+    ghost place_of = { λ w. C.place w.leaf.now.setting.now.costs.now };
+
+    ghost scale_of = { λ w. w.leaf.now.setting.now.cases.now.scale };
+
+    ghost cost_of = { λ w. C.at w.leaf.now.setting.now.costs.now };
+
+    ghost number_of = { λ w. least_at w.leaf.now.moved.now };
+
+    ghost unlowered = { λ w. raised (decisions_in w.leaf.now.case.now) (set_weight w.leaf.now.setting.now.cases.now.scale
+        w.leaf.now.potentials.now w.leaf.now.multipliers.now
+        (lent_in w.leaf.now.setting.now.families.now)
+        (C.at w.leaf.now.setting.now.costs.now)) };
+
+    ghost lowered_of = { λ w. others_of (decisions_in w.leaf.now.case.now) };
+
+    #[inline]
+    fn scale(&self) -> i64 {
+        self.leaf.setting.cases.scale
+    }
+
+    #[inline]
+    fn number(&self, node: u32) -> i64 {
+        weight_in(self.leaf.moved, node)
+    }
+
+    fn order(&self, alloc: Global) -> Result<Vec<u32>, Refused> {
+        self.leaf.setting.costs.order(alloc)
+    }
+
+    #[inline]
+    fn site(&self, node: u32) -> Option<Site> {
+        self.leaf.setting.costs.site(node)
+    }
+
+    #[inline(always)]
+    fn is_beyond(&self, from: &Site, region: &Region, least: i64) -> bool {
+        self.leaf.setting.costs.is_beyond(from, region, least)
+    }
+
+    fn weight_within(&self, from: &NumberedSite, to: &NumberedSite, most: i64) -> i64 {
+        let cost = self.leaf.setting.costs.cost_between(&from.site, &to.site);
+        let (from, to) = (from.site.node, to.site.node);
+        let base = self.base(cost, from, to);
+        if base >= most {
+            return base;
+        }
+        let combed = self.combed(base, from, to);
+        let change = self.change(from, to);
+        if change < 0 { combed } else { combed + change }
+    }
+
+    #[inline]
+    fn count_lowered(&self, from: u32) -> usize {
+        self.leaf.case.at(from).len()
+    }
+
+    fn lowered(&self, from: u32, index: usize) -> (u32, i64) {
+        let (first, second) = self.leaf.case.at(from)[index].pair;
+        let to = if first == from { second } else { first };
+        (to, self.decided(from, to))
+    }
+
+    fn weight(&self, from: u32, to: u32) -> i64 {
+        self.decided(from, to)
+    }
+}
+
+/// The bound of a leaf by least 1-trees: by rows where they are kept, else by boxes, if these suit
+/// its sets and its numbers aren't too large. It asks for what [`leaf_bound`](crate::leaf_bound)
+/// does.
+///
+/// # Errors
+///
+/// Out of memory.
+pub(crate) fn bound_of_trees<C: Costs>(
+    alloc: Global,
+    leaf: &CaseLeaf<C>,
+    row: &mut [i64],
+    sum: LeafSum,
+) -> Result<i128, Refused>
+    requires undirected { leaf.now.setting.now.cases.now.directed ≡ false }
+    requires room { length row.old ≡ C.nodes leaf.now.setting.now.costs.now + 1 }
+    ensures leaf { IfOk result (λ bound. BoundsEachLeaf (C.nodes leaf.now.setting.now.costs.now)
+        (decided (decisions_in leaf.now.case.now) (set_weight leaf.now.setting.now.cases.now.scale
+        leaf.now.potentials.now leaf.now.multipliers.now (lent_in leaf.now.setting.now.families.now)
+        (C.at leaf.now.setting.now.costs.now))) sum.scale sum.given_back bound) }
+    ensures size { IfOk result (λ bound. IsBoundSized bound) }
+{
+    if leaf.kept.is_empty() && leaf.suit_boxes() && leaf.are_exact() {
+        let boxed = BoxedLeaf { leaf: &*leaf };
+        return leaf_bound(alloc, &boxed, row, sum.scale, sum.given_back);
+    }
+    leaf_bound(alloc, leaf, row, sum.scale, sum.given_back)
+}
+
+// ---- the sets that two nodes are both in
+
+/// The most that the multipliers of a node's sets may come to where boxes bound its weights.
+const MOST_TAKEN: i64 = 3_000_000_000_000_000_000;
+
+/// Whether two places are the same.
+#[inline]
+fn is_same_place(place: SetPlace, other: SetPlace) -> bool
+    ensures { result ≡ is_same_place place other }
+{
+    other.family == place.family && other.set == place.set
+}
+
+/// Whether a list has a place.
+fn has_place(places: &[SetPlace], place: SetPlace) -> bool
+    ensures { result ≡ has_place places.now place }
+{
+    'places: for other in places {
+        if is_same_place(place, *other) {
+            return true;
+        }
+    }
+    false
+}
+
+/// What the sets of both nodes add to a weight, wrapped to 64 bits: the multipliers of their
+/// families twice.
+fn shared_by(multipliers: &Multipliers, others: &[SetPlace], places: &[SetPlace]) -> i64
+    requires { All (λ place. place.family < length multipliers.now.numbers.now) places.now }
+    ensures { int_wrap w64 result ≡ int_wrap w64 (shared_by multipliers.now.numbers.now others.now places.now) }
+{
+    let mut sum = 0;
+    'places: for place in places {
+        if has_place(others, *place) {
+            sum = sum_left(sum, 2 * multipliers.numbers[place.family as usize]);
+        }
+    }
+    sum
+}
+
+/// Whether the multipliers of the families of places sum to 3 * 10^18 at most.
+pub(crate) fn are_few(multipliers: &Multipliers, places: &[SetPlace]) -> bool
+    requires { All (λ place. place.family < length multipliers.now.numbers.now) places.now }
+    ensures { result ≡ true → IsFromTo (pos 0) (pos 3000000000000000000)
+        (sum_at_places multipliers.now.numbers.now places.now) }
+{
+    let mut sum = 0;
+    'places: for place in places {
+        sum += multipliers.numbers[place.family as usize];
+        if sum > MOST_TAKEN {
+            return false;
+        }
+    }
+    true
+}
+
+// ---- the bound of a leaf from its weights
+
+/// The bound of a leaf that has these weights: the least whole number that at the scale is no less
+/// than the weight of a least 1-tree plus a sum.
+///
+/// The sum has the numbers of the taken pairs and the least crossings of the combs, each times its
+/// multiplier, less each potential twice; with these it is the bound of each leaf that has these
+/// weights.
+///
+/// # Requires
+///
+/// Three or more nodes, symmetric weights, a sum of at most 2^99 in size, and a row of one place
+/// more than there are nodes, which is overwritten.
+///
+/// # Errors
+///
+/// Out of memory, of which it takes some for each node.
+pub fn leaf_bound<W: Growing>(
+    alloc: Global,
+    w: &W,
+    row: &mut [i64],
+    scale: i64,
+    given_back: i128,
+) -> Result<i128, Refused>
+    requires some { 3 ≤ W.nodes w.now }
+    requires room { length row.old ≡ W.nodes w.now + 1 }
+    requires even { (i j : ℕ) → W.at w.now i j ≡ W.at w.now j i }
+    requires scale { IsScale scale }
+    requires given_back { IsFromTo (neg_ℤ (pos (2 ^ 99))) (pos (2 ^ 99)) given_back }
+    ensures weights { IfOk result (λ bound.
+        IsBoundOfWeights (W.nodes w.now) (W.at w.now) scale given_back bound) }
+    ensures leaf { IfOk result (λ bound.
+        BoundsEachLeaf (W.nodes w.now) (W.at w.now) scale given_back bound) }
+    ensures size { IfOk result (λ bound. IsBoundSized bound) }
+{
+    let weight = least_weight(alloc, w, row)?;
+    Ok(rounded_up(scale, weight + given_back))
+}
+
+/// The least whole number that at a scale is no less than a sum.
+pub(crate) fn rounded_up(scale: i64, sum: i128) -> i128
+    requires scale { IsScale scale }
+    requires size { IsFromTo (neg_ℤ (pos (2 ^ 100))) (pos (2 ^ 100)) sum }
+    ensures value { IsLeastBound scale sum result }
+    ensures size { IsBoundSized result }
+{
+    // Euclid's quotient rounds down, so that of the negative sum rounds up.
+    -(-sum).div_euclid(i128::from(scale))
+}

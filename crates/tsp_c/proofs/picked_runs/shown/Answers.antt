@@ -1,0 +1,18 @@
+-- The goals of `shown` in src/picked_runs.rt, which returns what `show` prints of a text: what it ensures.
+use Rattle.std.proofs.Common.{◌∙◌, ap, refl}
+use Rattle.std.specs.Prelude.{Some}
+use Rattle.tsp_io.specs.Turn.{Turn}
+use Rattle.tsp_io.specs.states.Watched.{turn_of, sink_of}
+use Rattle.tsp_io.specs.Sink.{Sink}
+use Rattle.tsp_c.proofs.OnTexts.{shows}
+use Rattle.tsp_c.proofs.picked_runs.shown.Goals as goal
+
+-- plan: a reader over the text delivers its bytes, so the lines written show the file of the text (`shows`)
+pub returns : goal.returns
+returns c =
+    let run = c.show_file.ensures.answer in
+    let turn : Turn = turn_of (λ s. Some s.now) c.new-reader.result c.show_file.new.r run.0 in
+    let sink : Sink = sink_of (λ v. Some v.items) c.new-report.result c.show_file.new.out in
+    shows turn sink c.show_file.result _ _ _ _ run.2 (ap (λ s. Some s.now) c.new-reader.ensures.inner)
+    (record { held = ap (λ v. Some v.items) c.new-report.ensures.inner ∙ ap Some c.new.ensures.items; holds = refl })
+    (rw c.done-answer.ensures at c.ended.ensures)

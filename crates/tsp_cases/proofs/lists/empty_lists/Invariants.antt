@@ -1,8 +1,0 @@
--- The loop of `empty_lists` in src/lists.rt, which makes an empty list for each node.
-use Rattle.std.proofs.Common.{◌≡◌, ◌<◌, ℕ, [], length, get_or}
-use Rattle.std.specs.Global.{Vec}
-use Rattle.tsp_cases.proofs.lists.empty_lists.Given as goal
-
--- there is one list for each round so far, and each is empty
-abbrev pub invariant-lists : goal.invariant-lists
-invariant-lists g l = (length l.lists.items ≡ l.counter) × ((k : ℕ) (d : _) → k < l.counter → (get_or l.lists.items k d).items ≡ [])

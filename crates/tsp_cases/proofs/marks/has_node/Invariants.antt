@@ -1,8 +1,0 @@
--- The loop of `has_node` in src/marks.rt, which tests whether a list has a node with the mark, or without.
-use Rattle.std.proofs.Common.{◌≡◌, ◌<◌, ℕ, get_or}
-use Rattle.tsp_cases.specs.states.Marked.{is_marked}
-use Rattle.tsp_cases.proofs.marks.has_node.Given as goal
-
--- no node before this one is as wanted, with the mark or without it
-abbrev pub invariant-nodes : goal.invariant-nodes
-invariant-nodes l = (k default : ℕ) → k < l.node-index → is_marked l.marks l.mark (get_or l.nodes k default) ≡ l.wanted → ⊥

@@ -1,0 +1,14 @@
+-- The loop of `sum_with` in src/pass.rt, which sums the crossings of families times their multipliers.
+use Rattle.std.proofs.Common.{◌≡◌, ◌*◌, ◌^◌, drop}
+use Rattle.std.specs.Prelude.{pos, ◌+ℤ◌}
+use Rattle.tsp_theory.specs.CertificateNumbers.{IsFromTo}
+use Rattle.tsp_cases.specs.FamiliesOfSets.{sum_with}
+use Rattle.tsp_cases.proofs.pass.sum_with.Given as goal
+
+-- the sum so far plus the products left is the whole sum, with at most 2^94 for each product so far
+abbrev pub invariant-families : goal.invariant-families
+invariant-families l = record {
+  size : IsFromTo (pos 0) (pos (l.index * 2 ^ 94)) l.sum;
+  so_far : (l.sum +ℤ sum_with l.is_most (drop l.index l.multipliers.families.now.crossed.items) (drop l.index l.multipliers.numbers.now))
+      ≡ sum_with l.is_most l.multipliers.families.now.crossed.items l.multipliers.numbers.now;
+}

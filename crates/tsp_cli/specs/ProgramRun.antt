@@ -1,0 +1,137 @@
+-- A run of the program `tsp`, from the words of its command line to its exit status and the lines on standard error.
+-- For `run` (src/running.rt) and `opened` (src/running.rt), and so for `main` of tsp_tool.
+use Rattle.std.specs.Prelude.{◌≡◌, ◌≢◌, ◌⊎◌, ◌||◌, ℕ, Bool, List, [], ◌∷◌, codes, drop, Option, Result, Ok, Err, OnOk, true, false}
+use Rattle.std.specs.declared.io.Error.{Error}
+use Rattle.std.specs.Str.{bytes_eq}
+use Rattle.std.specs.declared.io.ErrorKind.{ErrorKind}
+use Rattle.std.specs.declared.io.ErrorKind.TheVariants as io_kinds
+use Rattle.clap.specs.Words.{Text, kind_of}
+use Rattle.clap.specs.declared.error.Error.{Error as Refusal}
+use Rattle.clap.specs.declared.error.kind.ErrorKind.TheVariants as kinds
+use Rattle.tsp_judge.specs.declared.Watched.{Watched}
+use Rattle.tsp_judge.specs.Sink.{Sink, IsUnwritten}
+use Rattle.tsp_cli.specs.declared.ends.RunEnd.{RunEnd}
+use Rattle.tsp_cli.specs.declared.ends.RunEnd.TheVariants.{NoJob, Printed, NoTask, Ended}
+use Rattle.tsp_cli.specs.declared.ends.RunEnd.TheVariants as run_ends
+use Rattle.tsp_judge.specs.declared.explained.Outcome.{Outcome}
+use Rattle.tsp_judge.specs.declared.compared.Compared.{Compared}
+use Rattle.tsp_judge.specs.declared.ends.RunFault.{RunFault}
+use Rattle.tsp_cli.specs.declared.job.Job.{Job}
+use Rattle.tsp_cli.specs.declared.job.JobFault.{JobFault}
+use Rattle.tsp_cli.specs.declared.job.InputPath.{InputPath}
+use Rattle.tsp_report.specs.declared.task.FileTask.{FileTask}
+use Rattle.tsp_report.specs.Mapped.{IsMapped}
+use Rattle.tsp_cli.specs.declared.job.JobFault.TheVariants.{OutOfMemory, Refused}
+use Rattle.tsp_cli.specs.CommandWords.{GivesJob, IsOtherRefusal}
+use Rattle.tsp_report.specs.declared.task.Comparison.{Comparison}
+use Rattle.tsp_report.specs.declared.task.Task.TheVariants as tasks
+use Rattle.tsp_cli.specs.Tasks.{GivesTask}
+use Rattle.tsp_cli.specs.ComparisonRun.{IsComparedAs, IsFresh}
+use Rattle.tsp_judge.specs.Outcomes.{AreReadOn, IsDone}
+use Rattle.tsp_io.specs.declared.piece.WriteFault.{WriteFault}
+use Rattle.tsp_cli.specs.RunEnd.{status_of_run_end, TellsAll}
+use Rattle.tsp_cli.specs.Printing.{Prints, PrintsSome, version_text}
+
+-- the same task with readers in place of paths, each of its opened file
+abbrev pub AreFresh : {F : Type 0} → (InputPath → F → Type 0) → FileTask InputPath → FileTask (Watched F) → Type 0
+AreFresh opens = IsMapped (IsFresh opens)
+
+-- the task is done on its opened files; each reader has failed where its last read has
+abbrev pub IsDoneAs : {F : Type 0} → (F → Option (List ℕ)) → (F → List ℕ → Result ℕ Error → List ℕ → F → Type 0)
+    → (InputPath → F → Type 0) → FileTask InputPath → Sink → Result Outcome RunFault → Type 0
+IsDoneAs {F = F} remaining gives opens task sink answer = (old new : FileTask (Watched F)) × AreFresh opens task old
+    × IsDone remaining old new sink answer × AreReadOn gives old new
+
+-- How a run with this job ends: it asks for no task, and then nothing is written; or the task was done on its opened
+-- files; or the solutions were compared.
+abbrev pub EndsWith : {F : Type 0} → (F → Option (List ℕ)) → (F → List ℕ → Result ℕ Error → List ℕ → F → Type 0)
+    → (InputPath → F → Type 0) → Job → Sink → RunEnd → Type 0
+EndsWith remaining gives opens job sink (NoJob fault) = ⊥
+EndsWith remaining gives opens job sink (Printed printed) = ⊥
+EndsWith remaining gives opens job sink (NoTask fault) = GivesTask job (Err fault) × IsUnwritten sink
+EndsWith remaining gives opens job sink (Ended answer) = (task : FileTask InputPath) × GivesTask job (Ok (tasks.Files task))
+    × IsDoneAs remaining gives opens task sink answer
+EndsWith remaining gives opens job sink (run_ends.Compared answer) = (comparison : Comparison InputPath) × GivesTask job
+    (Ok (tasks.Compare comparison))
+    × IsComparedAs remaining gives opens comparison sink answer
+
+-- the words ask for the version
+abbrev pub AsksVersion : JobFault → Type 0
+AsksVersion (Refused refusal) = kind_of refusal ≡ kinds.DisplayVersion
+AsksVersion OutOfMemory = ⊥
+
+-- the first of the words is the verb `help`
+abbrev pub begins_with_help : List Text → Bool
+begins_with_help [] = false
+begins_with_help (word ∷ rest) = bytes_eq word (codes "help")
+
+-- the words ask for help by that verb
+abbrev pub AsksHelp : List Text → JobFault → Type 0
+AsksHelp words (Refused refusal) = (kind_of refusal ≡ kinds.DisplayHelp) × (begins_with_help words ≡ true)
+AsksHelp words OutOfMemory = ⊥
+
+-- the version is printed, with the name of the build, or help is
+abbrev pub PrintsAsked : Text → List Text → JobFault → Sink → Result (Unit {0}) WriteFault → Type 0
+PrintsAsked build words fault sink printed = (AsksVersion fault × Prints sink (version_text build) printed)
+    ⊎ (AsksHelp words fault × PrintsSome sink printed)
+
+-- the end where clap refuses the words: the version or help is printed, or nothing is written
+abbrev pub EndsRefused : Text → List Text → Sink → Refusal → RunEnd → Type 0
+EndsRefused build words sink refusal (NoJob fault) = (fault ≡ Refused refusal) × (AsksVersion (Refused refusal) → ⊥)
+    × (AsksHelp words (Refused refusal) → ⊥) × IsUnwritten sink
+EndsRefused build words sink refusal (Printed printed) = PrintsAsked build words (Refused refusal) sink printed
+EndsRefused build words sink refusal other = ⊥
+
+-- How a run with these words ends; the first is the program's own name. Words that ask for no job are refused, and
+-- nothing is written; or the version or help is printed. Other words end with their job, which is explained where it
+-- says so, and on a terminal.
+abbrev pub EndsProgram : {F : Type 0} → (F → Option (List ℕ)) → (F → List ℕ → Result ℕ Error → List ℕ → F → Type 0)
+    → (InputPath → F → Type 0) → Bool → Text → List Text → Sink → Bool → RunEnd → Type 0
+EndsProgram remaining gives opens on_terminal build words sink explained (NoJob fault) = GivesJob (drop 1 words) (Err fault)
+    × (AsksVersion fault → ⊥) × (AsksHelp (drop 1 words) fault → ⊥) × IsUnwritten sink × (explained ≡ false)
+EndsProgram remaining gives opens on_terminal build words sink explained (Printed printed) = (fault : JobFault)
+    × GivesJob (drop 1 words) (Err fault)
+    × PrintsAsked build (drop 1 words) fault sink printed × (explained ≡ false)
+EndsProgram remaining gives opens on_terminal build words sink explained (NoTask fault) = (job : Job)
+    × GivesJob (drop 1 words) (Ok job)
+    × EndsWith remaining gives opens job sink (NoTask fault) × (explained ≡ (job.explain || on_terminal))
+EndsProgram remaining gives opens on_terminal build words sink explained (Ended answer) = (job : Job)
+    × GivesJob (drop 1 words) (Ok job)
+    × EndsWith remaining gives opens job sink (Ended answer) × (explained ≡ (job.explain || on_terminal))
+EndsProgram remaining gives opens on_terminal build words sink explained (run_ends.Compared answer) = (job : Job)
+    × GivesJob (drop 1 words)
+    (Ok job)
+    × EndsWith remaining gives opens job sink (run_ends.Compared answer) × (explained ≡ (job.explain || on_terminal))
+
+-- the end where the words can't be read: out of memory, or a word is no text, which is reported as refused words are
+abbrev pub HasNoWords : ErrorKind → Bool → RunEnd → Type 0
+HasNoWords kind explained (NoJob fault) = (kind ≡ io_kinds.OutOfMemory → fault ≡ OutOfMemory)
+    × (kind ≢ io_kinds.OutOfMemory → IsOtherRefusal fault) × (explained ≡ false)
+HasNoWords kind explained (Printed printed) = ⊥
+HasNoWords kind explained (NoTask fault) = ⊥
+HasNoWords kind explained (Ended answer) = ⊥
+HasNoWords kind explained (run_ends.Compared answer) = ⊥
+
+-- the exit status is that of the run's end; its line is written, if writing succeeded, and an explanation where one is
+-- asked for
+abbrev pub IsReported : Bool → RunEnd → Option (List ℕ) → Option (List ℕ) → ℕ × Result (Unit {0}) Error → Type 0
+IsReported explained run_end old new answer = (answer.0 ≡ status_of_run_end run_end) × OnOk answer.1 (TellsAll explained run_end old new)
+
+-- the run reports some end of a job of which Q holds
+abbrev pub RunsJob : (RunEnd → Type 0) → Bool → Option (List ℕ) → Option (List ℕ) → ℕ × Result (Unit {0}) Error → Type 0
+RunsJob Q explained old new answer = (run_end : RunEnd) × Q run_end × IsReported explained run_end old new answer
+
+-- the same of a task on files
+abbrev pub RunsFileTask : (Result Outcome RunFault → Type 0) → Bool → Option (List ℕ) → Option (List ℕ)
+    → ℕ × Result (Unit {0}) Error → Type 0
+RunsFileTask Q explained old new answer = (done : Result Outcome RunFault) × Q done × IsReported explained (Ended done) old new answer
+
+-- the same of a comparison
+abbrev pub RunsComparison : (Result Compared RunFault → Type 0) → Bool → Option (List ℕ) → Option (List ℕ)
+    → ℕ × Result (Unit {0}) Error → Type 0
+RunsComparison Q explained old new answer = (found : Result Compared RunFault) × Q found
+    × IsReported explained (run_ends.Compared found) old new answer
+
+-- the same of the whole program
+abbrev pub Runs : (Bool → RunEnd → Type 0) → Option (List ℕ) → Option (List ℕ) → ℕ × Result (Unit {0}) Error → Type 0
+Runs Q old new answer = (explained : Bool) × (run_end : RunEnd) × Q explained run_end × IsReported explained run_end old new answer

@@ -1,0 +1,88 @@
+-- The exit status of a run's end, and the line that it writes to standard error. For `status_of_run_end` and `tell`
+-- (src/ends.rt), and for ProgramRun.antt.
+use Rattle.std.specs.Prelude.{◌≡◌, ℕ, Bool, List, [], ◌++◌, ◌∷◌, true, false, Option, None, Some, Ok, Err, IfSome, codes, not, ◌==◌}
+use Rattle.std.specs.List.{list_all}
+use Rattle.std.specs.Io.KnownBytes.{Appends, Keeps}
+use Rattle.tsp_judge.specs.RunFaultText.{run_fault_text}
+use Rattle.tsp_judge.specs.declared.ends.RunFault.TheVariants.{Write}
+use Rattle.tsp_judge.specs.Status.{status_of}
+use Rattle.tsp_cli.specs.declared.job.JobFault.TheVariants as job_faults
+use Rattle.tsp_cli.specs.declared.job.TaskFault.TheVariants.{UnknownLayout, MissingPath, TwoCertificates, NoCertificate, NotALength, InputTwice, LineEndInPath}
+use Rattle.tsp_judge.specs.Outcomes.{is_yes_outcome}
+use Rattle.tsp_cli.specs.Telling.{MayTell}
+use Rattle.tsp_cli.specs.declared.ends.RunEnd.{RunEnd}
+use Rattle.tsp_cli.specs.declared.ends.RunEnd.TheVariants.{NoJob, Printed, NoTask, Ended, Compared}
+use Rattle.tsp_cli.specs.declared.ends.ErrorLine.{ErrorLine}
+use Rattle.tsp_cli.specs.declared.ends.ErrorLine.TheVariants as error_lines
+
+-- words: 3 out of memory, 4 refused; a version or help: 0 printed, else the status of the fault; a task: the status of
+-- its result; a comparison: the largest status of its solutions
+abbrev pub status_of_run_end : RunEnd → ℕ
+status_of_run_end (NoJob (job_faults.Refused refusal)) = 4
+status_of_run_end (NoJob job_faults.OutOfMemory) = 3
+status_of_run_end (Printed (Ok done)) = 0
+status_of_run_end (Printed (Err fault)) = status_of (Err (Write fault))
+status_of_run_end (NoTask fault) = 4
+status_of_run_end (Ended (Ok outcome)) = status_of (Ok (is_yes_outcome outcome))
+status_of_run_end (Ended (Err fault)) = status_of (Err fault)
+status_of_run_end (Compared (Ok compared)) = compared.status
+status_of_run_end (Compared (Err fault)) = status_of (Err fault)
+
+-- the line of a run's end; a result has none, nor has a printed text, since those are on standard output
+abbrev pub IsLineOf : RunEnd → Option ErrorLine → Type 0
+IsLineOf (NoJob (job_faults.Refused refusal)) (Some (error_lines.Refusal reported)) = reported.now ≡ refusal
+IsLineOf (NoJob job_faults.OutOfMemory) line = line ≡ Some error_lines.OutOfMemory
+IsLineOf (Printed (Ok done)) line = line ≡ None
+IsLineOf (Printed (Err fault)) line = line ≡ Some (error_lines.Fault (Write fault))
+IsLineOf (NoTask fault) line = line ≡ Some (error_lines.NoTask fault)
+IsLineOf (Ended (Ok answer)) line = line ≡ None
+IsLineOf (Ended (Err fault)) line = line ≡ Some (error_lines.Fault fault)
+IsLineOf (Compared (Ok compared)) line = line ≡ None
+IsLineOf (Compared (Err fault)) line = line ≡ Some (error_lines.Fault fault)
+IsLineOf (NoJob (job_faults.Refused refusal)) _ = ⊥
+
+-- a line of this program, with its end
+abbrev pub ended : List ℕ → Option (List ℕ)
+ended text = Some (text ++ 10 ∷ [])
+
+-- the bytes of the line, unless clap writes it
+abbrev pub line_text : ErrorLine → Option (List ℕ)
+line_text (error_lines.Refusal refusal) = None
+line_text error_lines.OutOfMemory = ended (codes "out of memory")
+line_text (error_lines.NoTask UnknownLayout) = ended (codes "unknown layout")
+line_text (error_lines.NoTask MissingPath) = ended (codes "missing path")
+line_text (error_lines.NoTask TwoCertificates) = ended (codes "both potentials and branches")
+line_text (error_lines.NoTask NoCertificate) = ended (codes "neither potentials nor branches")
+line_text (error_lines.NoTask NotALength) = ended (codes "not a length")
+line_text (error_lines.NoTask InputTwice) = ended (codes "standard input twice")
+line_text (error_lines.NoTask LineEndInPath) = ended (codes "line end in a path")
+line_text (error_lines.Fault fault) = ended (run_fault_text fault)
+
+-- no byte of the text ends a line
+abbrev pub is_one_line : List ℕ → Bool
+is_one_line text = list_all (λ b. not (b == 10)) text
+
+-- one line is written
+abbrev pub WritesLine : Option (List ℕ) → Option (List ℕ) → Type 0
+WritesLine old new = (text : List ℕ) × (is_one_line text ≡ true) × Appends old new (text ++ 10 ∷ [])
+
+-- the line of the run's end is written, where it has one
+abbrev pub IsWritten : Option ErrorLine → Option (List ℕ) → Option (List ℕ) → Type 0
+IsWritten None old new = Keeps old new
+IsWritten (Some line) old new = IfSome (line_text line) (Appends old new)
+
+-- the line of the run's end is written
+abbrev pub Tells : RunEnd → Option (List ℕ) → Option (List ℕ) → Type 0
+Tells run_end old new = (line : Option ErrorLine) × IsLineOf run_end line × IsWritten line old new
+
+-- the same, with an explanation after the line where one is asked for
+abbrev pub TellsAfter : Bool → RunEnd → Option (List ℕ) → Option (List ℕ) → Type 0
+TellsAfter false run_end old new = Tells run_end old new
+TellsAfter true run_end old new = (between : Option (List ℕ)) × (text : List ℕ) × Tells run_end old between
+    × Appends between new text
+
+-- the same; a comparison may explain its solutions before, each when its own line was written
+abbrev pub TellsAll : Bool → RunEnd → Option (List ℕ) → Option (List ℕ) → Type 0
+TellsAll explained (Compared answer) old new = (first : Option (List ℕ)) × MayTell explained old first
+    × TellsAfter explained (Compared answer) first new
+TellsAll explained run_end old new = TellsAfter explained run_end old new

@@ -1,0 +1,261 @@
+//! The text that explains the end of a task to a person. For `src/running.rt`, and for the files
+//! and names in `src/explained.rt`.
+
+ghost use Rattle.std.specs.Prelude.{map, true};
+ghost use Rattle.std.specs.String.{string_bytes};
+ghost use Rattle.tsp_cli.specs.ComparisonRun.{IsOpenedAt};
+ghost use Rattle.tsp_cli.specs.Telling.{MayTell};
+
+use crate::ends::RunEnd;
+use crate::input::Open;
+use crate::job::{InputPath, TaskFault, input_path_at};
+use std::alloc::{AllocError, Global};
+use std::io::{self, Read, Write};
+use std::marker::PhantomData;
+use tsp_explain::{explain_file, push_lines};
+use tsp_judge::{
+    Common, Follow, Found, RunFault, Solution, Solutions, explain_basis, explain_fault,
+    explain_outcome, explain_solution,
+};
+use tsp_report::{Role, Task};
+
+/// What explains why a job asks for nothing, line by line. It is cut short where there is no memory
+/// for more.
+pub(crate) fn fault_explanation(alloc: Global, fault: TaskFault) -> Vec<u8> {
+    let mut text = Vec::new(alloc);
+    let _ = match fault {
+        TaskFault::MissingPath => Ok(()),
+        TaskFault::UnknownLayout => push_lines(&mut text, LAYOUTS),
+        TaskFault::TwoCertificates => push_lines(&mut text, CERTIFICATES),
+        TaskFault::InputTwice => push_lines(&mut text, INPUT),
+        TaskFault::NoCertificate => push_lines(&mut text, NO_CERTIFICATE),
+        TaskFault::NotALength => push_lines(&mut text, LENGTHS),
+        TaskFault::LineEndInPath => push_lines(&mut text, LINE_ENDS),
+    };
+    text
+}
+
+/// What a layout is.
+const LAYOUTS: &str =
+    "A layout is FULL_MATRIX, UPPER_ROW, LOWER_ROW, UPPER_DIAG_ROW, LOWER_DIAG_ROW,\n\
+    UPPER_COL, LOWER_COL, UPPER_DIAG_COL or LOWER_DIAG_COL, in capital letters.";
+
+/// What certifies a bound.
+const CERTIFICATES: &str =
+    "A check takes one certificate: a file of potentials, or a tree of cases. Run it once with each.";
+
+/// What standard input is.
+const INPUT: &str =
+    "A path - is standard input, which can be one file of a call. The file with that name is ./-";
+
+/// What a bound needs.
+const NO_CERTIFICATE: &str =
+    "A bound needs a certificate: --potentials with a file of potentials, or --branches with a tree of cases.";
+
+/// What the path of a solution is for.
+const LINE_ENDS: &str =
+    "A line of a comparison ends with the path of its solution, so no path has two lines. Rename the file.";
+
+/// What a length is.
+const LENGTHS: &str =
+    "A length is a whole number that fits 64 bits, as 426 or 12.0. One below 0 is written --length=-34.\n\
+    Lengths of TSPLIB are whole. A cost in real numbers, as 524.61, can't be compared with them.";
+
+/// A task, of files that `files` opens, and how its end is reported.
+#[derive(Drop)]
+pub(crate) struct TaskRun<'a, F, O> {
+    pub(crate) alloc: Global,
+    pub(crate) task: &'a Task<'a, InputPath<'a>>,
+    pub(crate) files: &'a O,
+    /// Whether the end is explained, and each line of a comparison that accepts no solution.
+    pub(crate) explain: bool,
+    /// Whether solutions are counted besides, on a terminal.
+    pub(crate) counts: bool,
+    pub(crate) file: PhantomData<F>,
+}
+
+impl<'a, F: Read + Drop, O: Open<F>> TaskRun<'a, F, O> {
+    /// What the user calls the files.
+    pub(crate) fn names(&self) -> Task<'a, &'a str> {
+        self.task.map(|place| name_of(*place))
+    }
+
+    /// The file with this number opened once more, where it can be.
+    fn again(&self, number: u32) -> Option<F> {
+        let (_, place) = self.task.file(number)?;
+        again(*place, self.files)
+    }
+}
+
+/// What explains how a task ended, line by line; of a comparison, each solution was explained at
+/// its line. Files that can be are looked at once more for it. `error` is what the system said of a
+/// write that failed. It is cut short where there is no memory for more.
+pub(crate) fn explanation<F: Read + Drop, O: Open<F>>(
+    task_run: &TaskRun<'_, F, O>,
+    run_end: &RunEnd,
+    error: Option<&io::Error>,
+) -> Vec<u8> {
+    let alloc = task_run.alloc;
+    let names = task_run.names();
+    let mut text = Vec::new(alloc);
+    let _ = match run_end {
+        RunEnd::Ended(Ok(outcome)) => explain_outcome(alloc, &mut text, &names, outcome),
+        RunEnd::Compared(Ok(compared)) => explain_basis(alloc, &mut text, &names, &compared.common),
+        RunEnd::Ended(Err(run_error)) | RunEnd::Compared(Err(run_error)) => {
+            let fault = run_error.fault();
+            let again = match fault {
+                RunFault::File { file, fault: _ } => task_run.again(file),
+                RunFault::WrongKind
+                | RunFault::Write(_)
+                | RunFault::OutOfMemory
+                | RunFault::Relayout(_) => None,
+            };
+            explain_fault(alloc, &mut text, &names, again, error, fault)
+        }
+        RunEnd::NoJob(_) | RunEnd::Printed(_) | RunEnd::NoTask(_) => Ok(()),
+    };
+    text
+}
+
+/// What a file is called.
+fn name_of(place: InputPath<'_>) -> &str {
+    match place {
+        InputPath::Path(path) => path,
+        InputPath::Input => "standard input",
+    }
+}
+
+/// The file at a place opened once more, where it can be.
+fn again<F: Read, O: Open<F>>(place: InputPath<'_>, files: &O) -> Option<F> {
+    match place {
+        InputPath::Path(path) => files.open_again(path),
+        InputPath::Input => None,
+    }
+}
+
+// ---- the solutions of a comparison, opened one after the other
+
+/// The solutions of a comparison that is asked for, and how standard error tells of them.
+#[derive(Drop)]
+pub(crate) struct Followed<'a, F, O> {
+    pub(crate) task_run: &'a TaskRun<'a, F, O>,
+    /// Their paths.
+    pub(crate) solutions: &'a [String],
+}
+
+impl<F: Read + Drop, O: Open<F>> Solutions<F> for Followed<'_, F, O> {
+    ghost names = { λ followed. map string_bytes followed.solutions.now };
+
+    ghost opens = { λ followed. IsOpenedAt (O.opens followed.task_run.now.files.now) (map string_bytes followed.solutions.now) };
+
+    fn count(&self) -> usize {
+        self.solutions.len()
+    }
+
+    fn name(&self, index: usize) -> &[u8] {
+        self.solutions[index].as_bytes()
+    }
+
+    fn open(&self, index: usize) -> F {
+        self.task_run
+            .files
+            .open(input_path_at(&self.solutions[index]))
+    }
+}
+
+impl<F: Read + Drop, O: Open<F>, E: Write> Follow<E> for Followed<'_, F, O> {
+    ghost tells = { λ followed _ old new. MayTell followed.task_run.now.explain (E.contents old) (E.contents new) };
+
+    fn written(&self, to: &mut E, common: &Common, index: usize, found: &Found) {
+        if !self.task_run.explain {
+            return;
+        }
+        let mut text = Vec::new(self.task_run.alloc);
+        let _ = self.push_message(&mut text, common, index, found);
+        send_what_goes(to, &text);
+        drop(text);
+    }
+}
+
+/// What a terminal is sent to begin its line anew.
+const ANEW: &[u8] = b"\r\x1b[K";
+
+impl<F: Read + Drop, O: Open<F>> Followed<'_, F, O> {
+    /// Appends what standard error has of a solution.
+    fn push_message(
+        &self,
+        text: &mut Vec<u8>,
+        common: &Common,
+        index: usize,
+        found: &Found,
+    ) -> Result<(), AllocError> {
+        let Some(path) = self.solutions.get(index) else {
+            return Ok(());
+        };
+        if !self.task_run.counts {
+            return self.push_found(text, common, input_path_at(path), found);
+        }
+        text.extend_from_slice(ANEW)?;
+        self.push_found(text, common, input_path_at(path), found)?;
+        let done = index.saturating_add(1);
+        let _ = write!(text, "{} of {}", done, self.solutions.len());
+        Ok(())
+    }
+
+    /// Appends what explains why the solution at a place is rejected, or isn't read.
+    fn push_found(
+        &self,
+        text: &mut Vec<u8>,
+        common: &Common,
+        place: InputPath<'_>,
+        found: &Found,
+    ) -> Result<(), AllocError> {
+        let alloc = self.task_run.alloc;
+        let name = name_of(place);
+        match found {
+            Found::Solution {
+                verdict,
+                solution: _,
+            } if verdict.is_yes() => Ok(()),
+            Found::Solution { verdict, solution } => {
+                let solution = Solution {
+                    name,
+                    file: solution,
+                    verdict: *verdict,
+                };
+                explain_solution(alloc, text, &self.task_run.names(), common, solution)
+            }
+            Found::Fault(fault) => {
+                let again = again(place, self.task_run.files);
+                explain_file(alloc, text, name, Some(Role::Solution), again, *fault)
+            }
+        }
+    }
+}
+
+/// Ends the line that counts, where there is one.
+pub(crate) fn end_count<F, O, E: Write>(task_run: &TaskRun<'_, F, O>, to: &mut E)
+    ensures { MayTell task_run.now.explain (E.contents to.old) (E.contents to.new) }
+{
+    if !task_run.explain {
+        return;
+    }
+    if task_run.counts {
+        send_what_goes(to, ANEW);
+    } else {
+        send_what_goes(to, &[]);
+    }
+}
+
+/// Sends as much of a text as goes. Where standard error can't be written, lines and status tell.
+fn send_what_goes<E: Write>(to: &mut E, text: &[u8])
+    ensures { MayTell true (E.contents to.old) (E.contents to.new) }
+{
+    let mut rest = text;
+    'parts: while !rest.is_empty() {
+        match to.write(rest) {
+            Ok(0) | Err(_) => return,
+            Ok(count) => rest = &rest[count..],
+        }
+    }
+}

@@ -1,0 +1,98 @@
+//! A file to be read, standard input, or the error of a file that is missing. `src/main.rt` of
+//! tsp_tool opens them, for `src/running.rt` and `src/explained.rt`.
+
+ghost use Rattle.std.specs.Prelude.{◌≡◌, IsTrue, IsErr, MatchResult};
+ghost use Rattle.std.specs.Io.{ReadsAtMost};
+ghost use Rattle.std.specs.Io.KnownBytes.{ReadConsumes};
+ghost use Rattle.tsp_cli.specs.declared.job.InputPath.{InputPath};
+ghost use Rattle.tsp_cli.specs.states.InputFile.{remaining_of, is_missing, IsAskedOnce, GivesOnce, IsSameError};
+
+use crate::job::InputPath;
+use std::io::{self, Read};
+use tsp_io::Gives;
+
+/// The trait of what opens files, which `src/main.rt` of tsp_tool implements by calls of the host.
+pub trait Open<F> {
+    /// Whether this is what opening the file at a place may give.
+    ghost opens: { Self → InputPath → F → Type 0 };
+
+    /// The file at a place, opened to be read.
+    fn open(&self, place: InputPath<'_>) -> F
+        ensures { opens self.now place.entry result };
+
+    /// The file at a path, opened once more, or `None` where it can't be read twice.
+    fn open_again(&self, path: &str) -> Option<F>;
+}
+
+/// Standard input, a file that was opened, or why one couldn't be. Each read of a missing one fails
+/// with that error, so the task reports it when it comes to that file.
+#[derive(Drop)]
+pub enum InputFile<I, F> {
+    Input(I),
+    Opened(F),
+    Missing(io::Error),
+}
+
+impl<I, F> InputFile<I, F> {
+    /// The source that the opening of a file gives.
+    pub fn of(opened: io::Result<F>) -> InputFile<I, F>
+        ensures { MatchResult opened (λ file. result ≡ InputFile.Opened file) (λ error. result ≡ InputFile.Missing error) }
+    {
+        match opened {
+            Ok(file) => InputFile::Opened(file),
+            Err(error) => InputFile::Missing(error),
+        }
+    }
+}
+
+impl<I, F> InputFile<I, F> {
+    /// Asks standard input or the file once, with a buffer for its bytes, and returns its result as
+    /// it is. A missing file returns its error, and nothing is asked.
+    fn ask<A, OfInput, OfFile>(
+        &mut self,
+        room: &mut [u8],
+        of_input: OfInput,
+        of_file: OfFile,
+    ) -> io::Result<A>
+    where
+        OfInput: FnOnce(&mut I, &mut [u8]) -> io::Result<A> + Drop,
+        OfFile: FnOnce(&mut F, &mut [u8]) -> io::Result<A> + Drop,
+        requires input { OfInput.IsAlwaysCallable of_input }
+        requires file { OfFile.IsAlwaysCallable of_file }
+        ensures asked { IsAskedOnce OfInput.FnOnce of_input OfFile.FnOnce of_file self.old room.old result self.new room.new }
+    {
+        match self {
+            InputFile::Input(input) => of_input(input, room),
+            InputFile::Opened(file) => of_file(file, room),
+            InputFile::Missing(error) => Err(same_error(error)),
+        }
+    }
+}
+
+impl<I: Gives, F: Gives> Read for InputFile<I, F> {
+    ghost remaining = { remaining_of I.remaining F.remaining };
+
+    fn read(&mut self, buf: &mut [u8]) -> io::Result<usize>
+        ensures bound { ReadsAtMost result buf.new }
+        ensures bytes { ReadConsumes (remaining_of I.remaining F.remaining self.old)
+            (remaining_of I.remaining F.remaining self.new) result buf.new }
+        ensures once { GivesOnce I.gives F.gives self.old buf.old result buf.new self.new }
+        ensures missing { IsTrue (is_missing self.old) → IsErr result }
+    {
+        self.ask(
+            buf,
+            |input, room| input.give(room),
+            |file, room| file.give(room),
+        )
+    }
+}
+
+/// An error with the same number of the system, or, where it has none, of the same kind.
+fn same_error(error: &io::Error) -> io::Error
+    ensures { IsSameError error.now result }
+{
+    match error.raw_os_error() {
+        Some(code) => io::Error::from_raw_os_error(code),
+        None => io::Error::from(error.kind()),
+    }
+}

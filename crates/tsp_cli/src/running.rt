@@ -1,0 +1,385 @@
+//! A run of the program, from the words of its command line to its exit status. For `src/main.rt`
+//! of tsp_tool.
+
+ghost use Rattle.std.specs.Io.KnownBytes.{Appends, Keeps};
+ghost use Rattle.std.specs.IoError.{error_kind};
+ghost use Rattle.std.specs.Prelude.{◌≡◌, ◌||◌, IfOk, OnOk, drop, map, ◌≤◌, ◌<◌, true, false, length};
+ghost use Rattle.std.specs.String.{string_bytes};
+ghost use Rattle.tsp_judge.specs.Watched.{sink_of};
+ghost use Rattle.tsp_cli.specs.ComparisonRun.{IsComparedAs, AreOpened, IsFresh};
+ghost use Rattle.tsp_cli.specs.Printing.{Prints, PrintsSome, version_text};
+ghost use Rattle.tsp_cli.specs.ProgramRun.{EndsProgram, EndsRefused, EndsWith, HasNoWords, IsDoneAs, Runs, RunsComparison, RunsJob, RunsFileTask, begins_with_help, AreFresh};
+ghost use Rattle.tsp_cli.specs.RunEnd.{status_of_run_end, Tells, TellsAfter, TellsAll};
+ghost use Rattle.tsp_cli.specs.Waiting.{waiting_line};
+
+use crate::ends::{RunEnd, status_of_run_end, tell};
+use crate::explained::{Followed, TaskRun, end_count, explanation, fault_explanation};
+use crate::grammar::VERSION;
+use crate::input::Open;
+use crate::job::{InputPath, Job, JobFault, TaskFault, job_of, task_of, unread};
+use clap::Error as Refusal;
+use clap::error::ErrorKind;
+use std::alloc::{AllocError, Global};
+use std::fmt::{self, Display, Formatter};
+use std::io::{self, Read, Write};
+use std::marker::PhantomData;
+use tsp_io::{Gives, write_text};
+use tsp_judge::{Watched, WriteFault, compare, perform};
+use tsp_report::{Comparison, FileTask, Task};
+
+/// What a run knows of its surroundings.
+#[derive(Clone, Copy)]
+pub struct Surroundings {
+    /// Whether standard error is a terminal: then every outcome but the line `yes` is explained.
+    pub on_terminal: bool,
+    /// Whether a comparison counts there: it is a terminal, and standard output is another place.
+    pub counts: bool,
+    /// The text of the build.
+    pub build: &'static str,
+}
+
+/// Does what the words of a command line ask for, of which the first is the program's own name;
+/// what comes of it goes to the writer `out`, and where there is no answer the reason to `errors`.
+///
+/// The result is the exit status, and whether the reason could be written. Files are opened in the
+/// order in which they are read, each as `files` opens its place; a comparison opens each solution
+/// when it is to be read. The reason is explained where the words ask for that, and wherever
+/// `errors` is a terminal. Of a comparison each line that accepts no solution is explained when it
+/// was written, and on a terminal its solutions are counted. Where the words ask for the version,
+/// that is printed to `out` with the text of the build, and help where their verb is `help`.
+pub fn run<F: Gives + Drop, O: Open<F>, W: Write, E: Write>(
+    alloc: Global,
+    line: &[String],
+    files: &O,
+    out: &mut Watched<W>,
+    errors: &mut E,
+    surroundings: Surroundings,
+) -> (u8, io::Result<()>)
+    ensures { Runs (EndsProgram F.remaining F.gives (O.opens files.now) surroundings.on_terminal surroundings.build.now (map string_bytes line.now)
+        (sink_of W.contents out.old out.new)) (E.contents errors.old) (E.contents errors.new) result }
+{
+    let Ok(words) = words_after_first(alloc, line) else {
+        return end(&RunEnd::NoJob(JobFault::OutOfMemory), errors);
+    };
+    match job_of(alloc, &words) {
+        Err(JobFault::OutOfMemory) => end(&RunEnd::NoJob(JobFault::OutOfMemory), errors),
+        Err(JobFault::Refused(refusal)) => {
+            let run_end = end_of_refusal(alloc, refusal, &words, surroundings.build, out);
+            end(&run_end, errors)
+        }
+        Ok(job) => {
+            let answer = run_job(alloc, &job, files, out, errors, surroundings);
+            drop(job);
+            answer
+        }
+    }
+}
+
+/// The end where `clap` refuses the words: the version and, by the verb `help`, help are printed.
+fn end_of_refusal<W: Write>(
+    alloc: Global,
+    refusal: Refusal,
+    words: &[&str],
+    build: &str,
+    out: &mut Watched<W>,
+) -> RunEnd
+    ensures { EndsRefused build.now (map (λ word. word.now) words.now) (sink_of W.contents out.old out.new) refusal result }
+{
+    match refusal.kind() {
+        ErrorKind::DisplayVersion => RunEnd::Printed(print_version(alloc, build, out)),
+        ErrorKind::DisplayHelp if begins_with_help(words) => {
+            RunEnd::Printed(print_help(alloc, &refusal, out))
+        }
+        _ => RunEnd::NoJob(JobFault::Refused(refusal)),
+    }
+}
+
+/// Whether the first of the words is the verb `help`.
+fn begins_with_help(words: &[&str]) -> bool
+    ensures { result ≡ begins_with_help (map (λ word. word.now) words.now) }
+{
+    match words {
+        [] => false,
+        [word, ..] => *word == "help",
+    }
+}
+
+/// Tells why words that can't be had ask for nothing. The result is as that of `run`.
+pub fn tell_unread<E: Write>(
+    alloc: Global,
+    error: &io::Error,
+    errors: &mut E,
+) -> (u8, io::Result<()>)
+    ensures { Runs (HasNoWords (error_kind error.now)) (E.contents errors.old) (E.contents errors.new) result }
+{
+    end(&RunEnd::NoJob(unread(alloc, error)), errors)
+}
+
+/// The exit status of a run's end, and whether its line was written.
+fn end<E: Write>(run_end: &RunEnd, errors: &mut E) -> (u8, io::Result<()>)
+    ensures status { result.0 ≡ status_of_run_end run_end.now }
+    ensures reported { OnOk result.1 (Tells run_end.now (E.contents errors.old) (E.contents errors.new)) }
+{
+    let reported = tell(run_end, errors);
+    (status_of_run_end(run_end), reported)
+}
+
+/// Does the job, and tells how that ended, with its explanation where that is wanted. The result is
+/// as that of `run`.
+fn run_job<F: Gives + Drop, O: Open<F>, W: Write, E: Write>(
+    alloc: Global,
+    job: &Job,
+    files: &O,
+    out: &mut Watched<W>,
+    errors: &mut E,
+    surroundings: Surroundings,
+) -> (u8, io::Result<()>)
+    ensures { RunsJob (EndsWith F.remaining F.gives (O.opens files.now) job.now (sink_of W.contents out.old out.new))
+        (job.now.explain || surroundings.on_terminal) (E.contents errors.old) (E.contents errors.new) result }
+{
+    let explain = is_explained(job, surroundings);
+    let task = match task_of(job) {
+        Ok(task) => task,
+        Err(fault) => {
+            let reported = tell_fault_of_job(alloc, fault, errors, explain);
+            return (status_of_run_end(&RunEnd::NoTask(fault)), reported);
+        }
+    };
+    let task_run = TaskRun {
+        alloc,
+        task: &task,
+        files,
+        explain,
+        counts: surroundings.counts,
+        file: PhantomData,
+    };
+    match &task {
+        Task::Files(files) => run_file_task(&task_run, files, out, errors),
+        Task::Compare(comparison) => run_comparison(&task_run, comparison, out, errors),
+    }
+}
+
+/// Whether the job's end is explained.
+fn is_explained(job: &Job, surroundings: Surroundings) -> bool
+    ensures { result ≡ (job.now.explain || surroundings.on_terminal) }
+{
+    job.explain || surroundings.on_terminal
+}
+
+/// Tells why a job asks for nothing, and explains it where that is wanted.
+fn tell_fault_of_job<E: Write>(
+    alloc: Global,
+    fault: TaskFault,
+    errors: &mut E,
+    explain: bool,
+) -> io::Result<()>
+    ensures { OnOk result (TellsAll explain (RunEnd.NoTask fault) (E.contents errors.old) (E.contents errors.new)) }
+{
+    tell(&RunEnd::NoTask(fault), errors)?;
+    if !explain {
+        return Ok(());
+    }
+    append(errors, fault_explanation(alloc, fault))
+}
+
+/// Does a task on its files, each opened in its place, and tells how that ended.
+fn run_file_task<F: Gives + Drop, O: Open<F>, W: Write, E: Write>(
+    task_run: &TaskRun<'_, F, O>,
+    task: &FileTask<InputPath<'_>>,
+    out: &mut Watched<W>,
+    errors: &mut E,
+) -> (u8, io::Result<()>)
+    ensures { RunsFileTask (IsDoneAs F.remaining F.gives (O.opens task_run.now.files.now) task.now (sink_of W.contents out.old out.new))
+        task_run.now.explain (E.contents errors.old) (E.contents errors.new) result }
+{
+    let mut readers = opened(task, task_run.files);
+    let run_end = RunEnd::Ended(perform(task_run.alloc, &mut readers, out));
+    let reported = tell_end(task_run, &run_end, out.error(), errors);
+    (status_of_run_end(&run_end), reported)
+}
+
+/// Compares solutions, and tells how that ended. The instance is opened in its place, and the
+/// certificate where one is named, and after them each solution in its own place.
+fn run_comparison<F: Gives + Drop, O: Open<F>, W: Write, E: Write>(
+    task_run: &TaskRun<'_, F, O>,
+    comparison: &Comparison<'_, InputPath<'_>>,
+    out: &mut Watched<W>,
+    errors: &mut E,
+) -> (u8, io::Result<()>)
+    ensures { RunsComparison (IsComparedAs F.remaining F.gives (O.opens task_run.now.files.now) comparison.now
+        (sink_of W.contents out.old out.new)) task_run.now.explain (E.contents errors.old) (E.contents errors.new) result }
+{
+    let mut readers = opened_to_compare(comparison, task_run.files);
+    let solutions = comparison.solutions;
+    let followed = Followed {
+        task_run,
+        solutions,
+    };
+    let found = compare(task_run.alloc, &mut readers, &followed, out, errors);
+    let run_end = RunEnd::Compared(found);
+    end_count(task_run, errors);
+    let reported = tell_end(task_run, &run_end, out.error(), errors);
+    (status_of_run_end(&run_end), reported)
+}
+
+/// Reports how a task ended, and explains it where that is wanted, with the system's words on a
+/// write that failed. Where there is no memory for the explanation, it is left out.
+fn tell_end<F: Read + Drop, O: Open<F>, E: Write>(
+    task_run: &TaskRun<'_, F, O>,
+    run_end: &RunEnd,
+    error: Option<&io::Error>,
+    errors: &mut E,
+) -> io::Result<()>
+    ensures { OnOk result (TellsAfter task_run.now.explain run_end.now (E.contents errors.old) (E.contents errors.new)) }
+{
+    tell(run_end, errors)?;
+    if !task_run.explain {
+        return Ok(());
+    }
+    append(errors, explanation(task_run, run_end, error))
+}
+
+/// Writes a text.
+fn append<E: Write>(errors: &mut E, text: Vec<u8>) -> io::Result<()>
+    ensures { OnOk result (Appends (E.contents errors.old) (E.contents errors.new) text.items) }
+{
+    let reported = errors.write_all(&text);
+    drop(text);
+    reported
+}
+
+/// The words after the program's own name.
+fn words_after_first<'a>(alloc: Global, line: &'a [String]) -> Result<Vec<&'a str>, AllocError>
+    ensures { IfOk result (λ words. map (λ word. word.now) words.items ≡ drop 1 (map string_bytes line.now)) }
+{
+    match line {
+        [] => Ok(Vec::new(alloc)),
+        [_, words @ ..] => texts(alloc, words),
+    }
+}
+
+/// The words as texts.
+fn texts<'a>(alloc: Global, words: &'a [String]) -> Result<Vec<&'a str>, AllocError>
+    ensures { IfOk result (λ texts. map (λ text. text.now) texts.items ≡ map string_bytes words.now) }
+{
+    let mut texts = Vec::new(alloc);
+    'words: for word in words {
+        texts.push(word.as_str())?;
+    }
+    Ok(texts)
+}
+
+// ---- a task or a comparison with each file opened in its place
+
+/// The task with each file opened, and nothing read yet.
+fn opened<F: Read + Drop, O: Open<F>>(
+    task: &FileTask<InputPath<'_>>,
+    files: &O,
+) -> FileTask<Watched<F>>
+    ensures { AreFresh (O.opens files.now) task.now result }
+{
+    task.map(|place| fresh(*place, files))
+}
+
+/// The comparison with the instance and the certificate opened, and nothing read yet.
+fn opened_to_compare<'a, F: Read + Drop, O: Open<F>>(
+    comparison: &Comparison<'a, InputPath<'_>>,
+    files: &O,
+) -> Comparison<'a, Watched<F>>
+    ensures { AreOpened (O.opens files.now) comparison.now result }
+{
+    comparison.map(|place| fresh(*place, files))
+}
+
+/// The file at a place, opened, and nothing read yet.
+fn fresh<F: Read + Drop, O: Open<F>>(place: InputPath<'_>, files: &O) -> Watched<F>
+    ensures { IsFresh (O.opens files.now) place.entry result }
+{
+    Watched::new(files.open(place))
+}
+
+// ---- the version and the help, printed on standard output
+
+/// The version, with a text of the build.
+#[derive(Clone, Copy)]
+struct Version<'a> {
+    build: &'a str,
+}
+
+impl Display for Version<'_> {
+    ghost use Rattle.tsp_cli.specs.Printing.{version_written};
+
+    ghost output = { version_written };
+
+    fn fmt<W: fmt::Write>(&self, f: &mut Formatter<W>) -> fmt::Result {
+        f.write_str("tsp ")?;
+        f.write_str(VERSION)?;
+        f.write_str(" (")?;
+        f.write_str(self.build)?;
+        f.write_str(")\n")
+    }
+}
+
+/// Prints the version, with this text of the build.
+///
+/// # Errors
+///
+/// `Device` where the writer fails; `OutOfMemory`.
+fn print_version<W: Write>(
+    alloc: Global,
+    build: &str,
+    out: &mut Watched<W>,
+) -> Result<(), WriteFault>
+    ensures { Prints (sink_of W.contents out.old out.new) (version_text build.now) result }
+{
+    let version = Version { build };
+    match format!(in alloc; "{version}") {
+        Ok(text) => write_text(out, text.as_bytes()),
+        Err(AllocError) => Err(WriteFault::OutOfMemory),
+    }
+}
+
+/// Prints the help that `clap` answers with.
+///
+/// # Errors
+///
+/// `Device` where the writer fails; `OutOfMemory`.
+fn print_help<W: Write>(
+    alloc: Global,
+    help: &Refusal,
+    out: &mut Watched<W>,
+) -> Result<(), WriteFault>
+    ensures { PrintsSome (sink_of W.contents out.old out.new) result }
+{
+    match format!(in alloc; "{help}") {
+        Ok(text) => write_text(out, text.as_bytes()),
+        Err(AllocError) => Err(WriteFault::OutOfMemory),
+    }
+}
+
+// ---- the line for a person whose terminal is read, since no words were given
+
+/// The line on a terminal that is read.
+const WAITING: &str = "reading standard input; tsp --help tells more\n";
+
+/// Writes that standard input is read, where it is a terminal, as `reads_terminal` says, and no
+/// words follow the program's own name, which is the first of `line`. Else nothing is written.
+///
+/// # Errors
+///
+/// Those of the writer.
+pub fn tell_waiting<E: Write>(
+    line: &[String],
+    reads_terminal: bool,
+    errors: &mut E,
+) -> io::Result<()>
+    ensures reported { reads_terminal ≡ true → length line.now < 2
+        → OnOk result (Appends (E.contents errors.old) (E.contents errors.new) waiting_line) }
+    ensures elsewhere { reads_terminal ≡ false → Keeps (E.contents errors.old) (E.contents errors.new) }
+    ensures words { 2 ≤ length line.now → Keeps (E.contents errors.old) (E.contents errors.new) }
+{
+    if !reads_terminal || line.len() >= 2 {
+        return Ok(());
+    }
+    errors.write_all(WAITING.as_bytes())
+}

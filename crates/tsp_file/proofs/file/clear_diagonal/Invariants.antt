@@ -1,0 +1,13 @@
+-- The loop of `clear_diagonal` in src/file.rt, which sets the diagonal to 0.
+use Rattle.std.proofs.Common.{◌≡◌, ◌<◌, ◌*◌, ℕ, length}
+use Rattle.std.specs.Prelude.{ℤ, pos}
+use Rattle.tsp_file.specs.states.Whole.{Fills}
+use Rattle.tsp_file.proofs.file.clear_diagonal.Given as goal
+
+-- the diagonal is 0 before this node, and each cell that had its cost still has it
+abbrev pub invariant-nodes : goal.invariant-nodes
+invariant-nodes l = record {
+  size : length l.weights.items ≡ l.nodes * l.nodes;
+  costs : (cost : ℕ → ℕ → ℤ) → ((i : ℕ) → cost i i ≡ pos 0)
+      → Fills cost l.nodes l.fn.weights.items l.weights.items (λ i j. (i ≡ j) × (i < l.node));
+}

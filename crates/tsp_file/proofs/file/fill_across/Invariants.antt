@@ -1,0 +1,14 @@
+-- The loop of `fill_across` in src/file.rt, which fills the cells across the diagonal.
+use Rattle.std.proofs.Common.{◌≡◌, ◌+◌, ◌<◌, ◌*◌, ℕ, length}
+use Rattle.std.specs.Prelude.{ℤ}
+use Rattle.tsp_format.specs.Symmetry.{IsSymmetric}
+use Rattle.tsp_file.specs.states.Whole.{HasSide, Fills}
+use Rattle.tsp_file.proofs.file.fill_across.Given as goal
+
+-- each cell in a column before this band has its cost, and so has each that had it
+abbrev pub invariant-bands : goal.invariant-bands
+invariant-bands l = record {
+  size : length l.weights.items ≡ l.nodes * l.nodes;
+  costs : (cost : ℕ → ℕ → ℤ) → IsSymmetric cost → HasSide l.above cost l.nodes l.fn.weights.items
+      → Fills cost l.nodes l.fn.weights.items l.weights.items (λ i j. j < l.band * 64 + 1);
+}

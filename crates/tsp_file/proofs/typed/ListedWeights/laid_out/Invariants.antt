@@ -1,0 +1,13 @@
+-- The loop of `ListedWeights::laid_out` in src/typed.rt, which lists the costs in another layout.
+use Rattle.std.proofs.Common.{◌≡◌, ◌-◌, map, take}
+use Rattle.std.specs.List.{flat_map}
+use Rattle.tsp_format.specs.Nodes.{nodes_to}
+use Rattle.tsp_format.specs.Cells.{cells_of_line}
+use Rattle.tsp_file.specs.states.Weights.{costs_of}
+use Rattle.tsp_file.proofs.typed.ListedWeights.laid_out.Given as goal
+
+-- the vector has the costs of the lines before this one
+abbrev pub invariant-lines : goal.invariant-lines
+invariant-lines l =
+    l.weights.items ≡ map (λ cell. costs_of l.self cell.0 cell.1)
+    (flat_map (cells_of_line l.to l.self.nodes) (take (l.line - 1) (nodes_to l.self.nodes)))

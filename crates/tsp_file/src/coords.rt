@@ -1,0 +1,40 @@
+//! The points of a coordinate section: a list of points of the plane, which take 16 bytes each, or
+//! a list of points in space. For `Draft`.
+
+ghost use Rattle.std.specs.Prelude.{◌≡◌, length, slice_index_or, ◌<◌, SomeIff};
+ghost use Rattle.tsp_file.specs.states.Drafts.{points_of};
+ghost use Rattle.tsp_file.specs.Coords.{origin};
+
+use tsp_distance::{InSpace, PlanePoint, Point};
+
+/// A point for each node, in order.
+#[derive(Debug, Drop, PartialEq, Eq)]
+pub enum Coords {
+    /// Points of the plane: of each, the third coordinate is 0.
+    Plane(Vec<PlanePoint>),
+    /// Points in space.
+    Space(Vec<Point>),
+}
+
+impl Coords {
+    /// How many points there are.
+    pub fn len(&self) -> usize
+        ensures { result ≡ length (points_of self.now) }
+    {
+        match self {
+            Coords::Plane(points) => points.len(),
+            Coords::Space(points) => points.len(),
+        }
+    }
+
+    /// The point at an index, from 0 on, by its three coordinates.
+    pub fn get(&self, index: usize) -> Option<Point>
+        ensures { SomeIff result (index
+            < length (points_of self.now)) (slice_index_or (points_of self.now) index origin) }
+    {
+        match self {
+            Coords::Plane(points) => points.get(index).map(|point| point.in_space()),
+            Coords::Space(points) => points.get(index).copied(),
+        }
+    }
+}

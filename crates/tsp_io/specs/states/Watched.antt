@@ -1,0 +1,67 @@
+-- The fields of a watched reader or writer, and its `Turn` or `Sink` by what it was before a call and is after it. For
+-- `Watched` (src/watched.rt), and for every call that reads or writes. Six crates above import it too.
+use Rattle.std.specs.Prelude.{◌≡◌, ℕ, ◌<◌, Bool, true, List, length, Option, Some, Result, Ok, Err, ◌&&◌, ◌==◌, nat_lt}
+use Rattle.std.specs.IoError.{error_kind}
+use Rattle.std.specs.declared.io.Error.{Error}
+use Rattle.std.specs.declared.io.ErrorKind.TheVariants as kinds
+use denote.Ref.{MutBor}
+use denote.Param.Members.{Once}
+use Rattle.tsp_io.specs.Sink.{Sink}
+use Rattle.tsp_io.specs.Turn.{Turn}
+use Rattle.tsp_io.specs.declared.watched.Watched.{Watched}
+
+-- the reader or writer inside
+abbrev pub watched : {T : Type 0} → Watched T → T
+watched w = w.inner
+
+-- whether a read or a write of it has failed
+abbrev pub has_failed : {T : Type 0} → Watched T → Bool
+has_failed w = w.failed
+
+-- the error of the system at the failure, where it is known
+abbrev pub error_of : {T : Type 0} → Watched T → Option Error
+error_of w = w.error
+
+-- the error after a write of a part: that of the write; one of the kind WriteZero where it took nothing; else the one
+-- from before
+abbrev pub KeepsError : Result ℕ Error → Option Error → Option Error → Type 0
+KeepsError (Err error) old new = new ≡ Some error
+KeepsError (Ok count) old new = (count ≡ 0 → (error : Error) × (new ≡ Some error) × (error_kind error ≡ kinds.WriteZero))
+    × (0 < count → new ≡ old)
+
+-- a write fails by an error, or by taking no byte of a text that isn't empty
+abbrev pub write_fails : {E : Type 0} → Result ℕ E → List ℕ → Bool
+write_fails (Ok count) text = (count == 0) && nat_lt 0 (length text)
+write_fails (Err e) text = true
+
+-- one call at a `&mut` to x and one to y; it may return r, and leave x' and y' there
+pub record Calls {F T B R : Type 0} (g : Once F (MutBor T × (MutBor B × Unit {0})) (R × (MutBor T × (MutBor B × Unit {0}))))
+    (f : F) (x : T) (y : B) (r : R) (x' : T) (y' : B) : Type 0 where
+  pub first : MutBor T
+  pub second : MutBor B
+  pub shows : (first.now ≡ x) × (second.now ≡ y)
+  pub first_left : MutBor T
+  pub second_left : MutBor B
+  pub met : g.post f (first, (second, tt)) (r, (first_left, (second_left, tt)))
+  pub leaves : (first_left.now ≡ x') × (second_left.now ≡ y')
+
+-- ---- the turn or the sink of a call
+
+-- the turn of a watched reader
+abbrev pub turn_of : {R : Type 0} → (R → Option (List ℕ)) → Watched R → Watched R → List ℕ → Turn
+turn_of remaining old new given = record {
+  known = remaining (watched old);
+  left = remaining (watched new);
+  given = given;
+  had_failed = has_failed old;
+  failed = has_failed new;
+}
+
+-- the sink of a watched writer
+abbrev pub sink_of : {W : Type 0} → (W → Option (List ℕ)) → Watched W → Watched W → Sink
+sink_of contents old new = record {
+  held = contents (watched old);
+  holds = contents (watched new);
+  had_failed = has_failed old;
+  failed = has_failed new;
+}

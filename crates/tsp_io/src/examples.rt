@@ -1,0 +1,26 @@
+//! Laws that state values of the definitions in `specs/`, worked out by hand: which results of a
+//! writer are failures, and the texts of faults.
+
+ghost use Rattle.std.specs.Prelude.{◌≡◌, true, false, [], ◌∷◌, Ok, Err, codes};
+ghost use Rattle.std.specs.declared.io.Error.{Error};
+ghost use Rattle.tsp_io.specs.declared.piece.WriteFault.TheVariants as faults;
+ghost use Rattle.tsp_io.specs.WriteFaultText.{write_fault_text};
+ghost use Rattle.tsp_io.specs.states.Watched.{write_fails};
+
+/// Which writes fail: those that return an error, also of an empty text, and those that take no
+/// byte of a text that has some. A part that is taken is no failure, and neither is no byte of no
+/// text.
+pub fn examples_of_failed_writes()
+    ensures nothing_of_nothing { write_fails {E = Error} (Ok 0) [] ≡ false }
+    ensures nothing_of_a_byte { write_fails {E = Error} (Ok 0) (1 ∷ []) ≡ true }
+    ensures a_byte { write_fails {E = Error} (Ok 1) (1 ∷ []) ≡ false }
+    ensures part { write_fails {E = Error} (Ok 1) (1 ∷ 2 ∷ []) ≡ false }
+    ensures error_of_nothing { (error : Error) → write_fails (Err error) [] ≡ true }
+    ensures error { (error : Error) → write_fails (Err error) (1 ∷ []) ≡ true }
+{}
+
+/// The text of each fault.
+pub fn examples_of_fault_texts()
+    ensures device { write_fault_text faults.Device ≡ codes "device" }
+    ensures out_of_memory { write_fault_text faults.OutOfMemory ≡ codes "out of memory" }
+{}

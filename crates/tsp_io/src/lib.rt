@@ -1,0 +1,30 @@
+//! Readers and writers that remember a failure, and calls that write a text to such a writer.
+//!
+//! It knows nothing of TSPLIB. A [`Watched`] value that has failed isn't asked again by the calls
+//! of the crates above. There is no retry: an interrupted call has failed too.
+//!
+//! ```text
+//! let mut out = Watched::new(writer);
+//! write_text(&mut out, b"yes\n")?;
+//! ```
+#![tactic(auto)]
+
+mod asked;
+mod examples;
+mod list;
+mod piece;
+mod refused;
+mod script;
+mod set;
+mod watched;
+
+pub use asked::{Gives, Takes};
+pub use examples::{examples_of_failed_writes, examples_of_fault_texts};
+pub use list::{copied, filled, push, sort, with_capacity};
+pub use piece::{
+    PIECE, Piece, WriteFault, hand_over, put, put_next_number, put_number, send, write_text,
+};
+pub use refused::Refused;
+pub use script::{Script, answers_go_through};
+pub use set::insert;
+pub use watched::Watched;

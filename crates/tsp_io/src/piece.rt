@@ -1,0 +1,155 @@
+//! The buffer of 4,096 bytes between a text and its writer. The reports of tsp_report and the
+//! canonical texts of tsp_file are written through one.
+//!
+//! A failure sticks: a writer that has failed gets nothing more, so that whoever adds to a text
+//! need not look at each outcome.
+
+ghost use Rattle.std.specs.Io.KnownBytes.{Appends};
+ghost use Rattle.std.specs.Prelude.{◌≡◌, [], ◌∷◌, ◌≤◌, ◌<◌, Result, ℕ, true, false, length, take};
+ghost use Rattle.std.specs.declared.io.Error.{Error};
+ghost use Rattle.tsp_io.specs.Sink.{HasWritten, HasStopped, Writes};
+ghost use Rattle.tsp_io.specs.states.Watched.{watched, has_failed, error_of, KeepsError, sink_of};
+ghost use Rattle.tsp_io.specs.states.WriteProgress.{Puts};
+
+use crate::asked::Takes;
+use crate::watched::Watched;
+use arrayvec::ArrayVec;
+use itoa::{Buffer, Integer};
+use std::fmt;
+use std::io::{self, ErrorKind, Write};
+use thiserror::Error;
+
+/// The most bytes of a piece.
+pub const PIECE: usize = 4_096;
+
+/// The end of a text that hasn't been written yet.
+pub type Piece = ArrayVec<u8, PIECE>;
+
+/// Sends the piece to the writer and begins a new one.
+#[cold]
+pub fn hand_over<W: Write>(piece: &mut Piece, out: &mut Watched<W>)
+    ensures carried { Puts W.contents out.old piece.old out.new piece.new [] }
+    ensures empty { piece.new.items ≡ [] }
+{
+    send(out, piece.as_slice());
+    piece.clear();
+}
+
+/// Adds bytes to the text.
+#[inline(always)]
+pub fn put<W: Write>(piece: &mut Piece, out: &mut Watched<W>, bytes: &[u8])
+    ensures { Puts W.contents out.old piece.old out.new piece.new bytes.now }
+{
+    if piece.try_extend_from_slice(bytes).is_ok() {
+        return;
+    }
+    hand_over(piece, out);
+    if piece.try_extend_from_slice(bytes).is_err() {
+        // More than a whole piece: it goes to the writer as it is.
+        send(out, bytes);
+    }
+}
+
+/// Adds the digits of a whole number.
+#[inline(always)]
+pub fn put_number<W: Write, N: Integer>(piece: &mut Piece, out: &mut Watched<W>, number: N)
+    ensures { Puts W.contents out.old piece.old out.new piece.new (N.text number) }
+{
+    let mut buffer = Buffer::new();
+    put(piece, out, buffer.format(number).as_bytes());
+}
+
+/// Adds a blank and the digits of a whole number.
+#[inline(always)]
+pub fn put_next_number<W: Write, N: Integer>(piece: &mut Piece, out: &mut Watched<W>, number: N)
+    ensures { Puts W.contents out.old piece.old out.new piece.new (32 ∷ N.text number) }
+{
+    put(piece, out, b" ");
+    put_number(piece, out, number);
+}
+
+// ---- writes a text to a writer that may take any part of it at once, and stops where it fails
+
+/// Why a text could not be written.
+#[derive(Clone, Copy, Debug, PartialEq, Eq, Error)]
+pub enum WriteFault {
+    /// A write failed, or took nothing.
+    Device,
+    /// Out of memory for the text.
+    OutOfMemory,
+}
+
+impl fmt::Display for WriteFault {
+    ghost use Rattle.std.specs.Prelude.{Some};
+    ghost use Rattle.tsp_io.specs.WriteFaultText.{write_fault_text};
+
+    ghost output = { λ fault. Some (write_fault_text fault) };
+
+    fn fmt<W: fmt::Write>(&self, f: &mut fmt::Formatter<W>) -> fmt::Result {
+        match *self {
+            WriteFault::Device => f.write_str("device"),
+            WriteFault::OutOfMemory => f.write_str("out of memory"),
+        }
+    }
+}
+
+/// Sends a text to a writer that may take any part of it at once, and stops where the writer fails.
+///
+/// A writer that had failed before gets nothing.
+pub fn send<W: Write>(out: &mut Watched<W>, text: &[u8])
+    ensures stopped { has_failed out.new ≡ true →
+        HasStopped (sink_of W.contents out.old out.new) text.now }
+    ensures written { has_failed out.new ≡ false →
+        HasWritten (sink_of W.contents out.old out.new) text.now }
+{
+    if out.failed() {
+        return;
+    }
+    let mut rest = text;
+    'parts: while !rest.is_empty() {
+        let count = send_part(out, rest);
+        if count == 0 {
+            return;
+        }
+        let (_, left) = rest.split_at(count);
+        rest = left;
+    }
+}
+
+/// Sends what the writer takes at once of a text, and says how many bytes that is: none where it
+/// fails, which the writer then remembers, with what the system says of it.
+fn send_part<W: Takes>(out: &mut Watched<W>, text: &[u8]) -> usize
+    ensures part { result ≤ length text.now }
+    ensures bytes { Appends (W.contents (watched out.old))
+        (W.contents (watched out.new)) (take result text.now) }
+    ensures sound { 0 < result → has_failed out.new ≡ has_failed out.old }
+    ensures failed { result ≡ 0 → 0 < length text.now → has_failed out.new ≡ true }
+    ensures error { (answer : Result ℕ Error) × W.takes (watched out.old) text.now answer
+        (watched out.new) × KeepsError answer (error_of out.old) (error_of out.new) }
+{
+    match out.write(text) {
+        Err(error) => {
+            out.keep_error(error);
+            0
+        }
+        Ok(0) => {
+            out.keep_error(io::Error::from(ErrorKind::WriteZero));
+            0
+        }
+        Ok(count) => count,
+    }
+}
+
+/// Writes a text to a writer that may take any part of it at once.
+///
+/// At `Device` a prefix of the text was written, and nothing else. A writer that had failed before
+/// gets nothing. `OutOfMemory` is never returned.
+pub fn write_text<W: Write>(out: &mut Watched<W>, text: &[u8]) -> Result<(), WriteFault>
+    ensures { Writes (sink_of W.contents out.old out.new) text.now result }
+{
+    send(out, text);
+    if !out.failed() {
+        return Ok(());
+    }
+    Err(WriteFault::Device)
+}

@@ -1,0 +1,136 @@
+//! A reader or a writer that remembers whether it has failed. Each file, stream and terminal of a
+//! run is wrapped in one.
+
+ghost use Rattle.std.specs.Prelude.{◌≡◌, Bool, false, is_err, ◌||◌, None, Some};
+ghost use Rattle.std.specs.Option.{option_map};
+ghost use Rattle.std.specs.Io.{ReadsAtMost, WritesAtMost};
+ghost use Rattle.std.specs.Io.KnownBytes.{ReadConsumes, WriteAppends, Keeps};
+ghost use Rattle.tsp_io.specs.states.Watched.{watched, has_failed, error_of, write_fails, Calls};
+
+use crate::asked::{Gives, Takes};
+use std::io::{self, Read, Write};
+
+/// A reader or a writer that remembers whether one of its reads or writes has failed.
+///
+/// It is a `Read` where `T` is one and a `Write` where `T` is one, with `T`'s bytes. It has failed
+/// from the first read or write on that returns an error, an interruption among them, or that
+/// takes no byte of a text that isn't empty. An error of `flush` counts as one of a write.
+#[derive(Debug, Drop)]
+pub struct Watched<T> {
+    inner: T,
+    failed: bool,
+    /// What the system said of the failure, where a caller has kept it.
+    error: Option<io::Error>,
+}
+
+impl<T> Watched<T> {
+    /// A watched reader or writer that has not failed yet.
+    pub fn new(inner: T) -> Watched<T>
+        ensures inner { watched result ≡ inner }
+        ensures sound { has_failed result ≡ false }
+        ensures error { error_of result ≡ None }
+    {
+        Watched {
+            inner,
+            failed: false,
+            error: None,
+        }
+    }
+
+    /// Whether a read or a write has failed so far.
+    pub fn failed(&self) -> bool
+        ensures { result ≡ has_failed self.now }
+    {
+        self.failed
+    }
+
+    /// The reader or writer that was wrapped.
+    pub fn into_inner(self) -> T
+        ensures { result ≡ watched self }
+    {
+        let Watched {
+            inner,
+            failed: _,
+            error,
+        } = self;
+        drop(error);
+        inner
+    }
+
+    /// What the system said of the failure that ended a text; nothing where none was kept.
+    pub fn error(&self) -> Option<&io::Error>
+        ensures { option_map (λ error. error.now) result ≡ error_of self.now }
+    {
+        self.error.as_ref()
+    }
+
+    /// Keeps what the system said of a failure, for a person. Nothing else of the reader or writer
+    /// is changed.
+    pub fn keep_error(&mut self, error: io::Error)
+        ensures inner { watched self.new ≡ watched self.old }
+        ensures failed { has_failed self.new ≡ has_failed self.old }
+        ensures error { error_of self.new ≡ Some error }
+    {
+        self.error = Some(error);
+    }
+
+    /// Asks the inner value once, with a buffer for its bytes, returns its result as it is, and
+    /// remembers a failure. A failure is an error, or a result that, by the call, took nothing
+    /// although it could have.
+    pub(crate) fn ask<A, F>(&mut self, room: &mut [u8], call: F) -> io::Result<A>
+    where
+        F: FnOnce(&mut T, &mut [u8]) -> (io::Result<A>, bool),
+        requires { F.IsAlwaysCallable call }
+        ensures asked { (took_nothing : Bool) × Calls F.FnOnce call (watched self.old) room.old
+            (result, took_nothing) (watched self.new) room.new
+            × (has_failed self.new ≡ (has_failed self.old || is_err result || took_nothing)) }
+        ensures error { error_of self.new ≡ error_of self.old }
+    {
+        let (outcome, took_nothing) = call(&mut self.inner, room);
+        self.failed = self.failed || outcome.is_err() || took_nothing;
+        outcome
+    }
+}
+
+impl<R: Gives> Read for Watched<R> {
+    ghost remaining = { λ w. R.remaining (watched w) };
+
+    fn read(&mut self, buf: &mut [u8]) -> io::Result<usize>
+        ensures bound { ReadsAtMost result buf.new }
+        ensures bytes { ReadConsumes (R.remaining (watched self.old))
+            (R.remaining (watched self.new)) result buf.new }
+        ensures once { R.gives (watched self.old) buf.old result buf.new (watched self.new) }
+        ensures failed { has_failed self.new ≡ (has_failed self.old || is_err result) }
+        ensures error { error_of self.new ≡ error_of self.old }
+    {
+        self.ask(buf, |inner, room| (inner.give(room), false))
+    }
+}
+
+impl<W: Takes> Write for Watched<W> {
+    ghost contents = { λ w. W.contents (watched w) };
+
+    fn write(&mut self, buf: &[u8]) -> io::Result<usize>
+        ensures bound { WritesAtMost result buf.now }
+        ensures bytes { WriteAppends (W.contents (watched self.old)) (W.contents (watched self.new))
+            result buf.now }
+        ensures once { W.takes (watched self.old) buf.now result (watched self.new) }
+        ensures failed { has_failed self.new ≡ (has_failed self.old || write_fails result buf.now) }
+        ensures error { error_of self.new ≡ error_of self.old }
+    {
+        self.ask(&mut [], |inner, _| {
+            let outcome = inner.take_some(buf);
+            let took_nothing = matches!(outcome, Ok(0)) && !buf.is_empty();
+            (outcome, took_nothing)
+        })
+    }
+
+    fn flush(&mut self) -> io::Result<()>
+        ensures bytes { Keeps (W.contents (watched self.old)) (W.contents (watched self.new)) }
+        ensures once { W.flushes (watched self.old) result (watched self.new) }
+        ensures failed { has_failed self.new ≡ (has_failed self.old || is_err result) }
+        ensures error { error_of self.new ≡ error_of self.old }
+    {
+        self.ask(&mut [], |inner, _| (inner.flush_once(), false))
+    }
+}

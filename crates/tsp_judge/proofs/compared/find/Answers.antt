@@ -1,0 +1,19 @@
+-- The goals of `find` in src/compared.rt, which reads and judges one solution: what it ensures.
+use Rattle.std.proofs.Common.{inr}
+use Rattle.tsp_io.specs.states.Watched.{turn_of}
+use Rattle.tsp_judge.proofs.Comparing.{found_judged}
+use Rattle.tsp_judge.proofs.compared.find.Goals as goal
+
+-- plan: the verdict by what is known of all is that of a check of the files (`found_judged`)
+pub returns-in-Ok-judge_next-clause-found : goal.returns-in-Ok-judge_next-clause-found
+returns-in-Ok-judge_next-clause-found g c =
+    let read = c.in-Ok.ensures.answer in (
+      read.0,
+      read.1,
+      found_judged c.args.common.now (turn_of g.R.Read.remaining c.args.reader.now c.file_of_reader.new.reader read.0) c.in-Ok.solution c.in-Ok-judge_next.verdict
+          c.requires.problem c.requires.basis read.2 c.in-Ok-judge_next.ensures,
+    )
+
+pub returns-in-Err-judge_next-clause-found : goal.returns-in-Err-judge_next-clause-found
+returns-in-Err-judge_next-clause-found g c = let read = c.in-Ok.ensures.answer in
+    rw c.refused.ensures (read.0, read.1, inr (c.in-Ok.solution, read.2, c.in-Err-judge_next.ensures))

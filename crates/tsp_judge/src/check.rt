@@ -1,0 +1,201 @@
+//! The run of `tsp check`, from the bytes read to the bytes written: the files are read, then
+//! judged. For `src/explained.rt` of tsp_judge and `src/picked_runs.rt` of tsp_c.
+
+ghost use Rattle.std.specs.Prelude.{◌≡◌, None, option_map};
+ghost use Rattle.tsp_io.specs.Turn.{Turn, IsUnread, TakesAtMost};
+ghost use Rattle.tsp_io.specs.states.Watched.{sink_of, turn_of};
+ghost use Rattle.tsp_read.specs.Asked.{IsReadOn};
+ghost use Rattle.tsp_read.specs.Reads.{IsFile, most_taken};
+ghost use Rattle.tsp_verdict.specs.SolutionVerdict.{is_judged};
+ghost use Rattle.tsp_judge.specs.CheckRun.{Given, given_by, IsFileIn, ReadsGiven, JudgesFiles, ReadsFile};
+ghost use Rattle.tsp_judge.specs.Yes.{IsRunOf};
+
+use crate::ends::RunError;
+use std::alloc::Global;
+use std::io::Write;
+use tsp_cost::Instance;
+use tsp_file::File;
+use tsp_io::{Gives, Watched};
+use tsp_read::file_of_reader;
+use tsp_report::write_report;
+use tsp_verdict::{Certificate, Verdict, is_bounded, judge, strict_verdict};
+
+/// Judges a solution of an instance, writes the report, and returns the verdict, with the files
+/// that were read.
+///
+/// Where a certificate of a bound is asked for, it is the file of the third reader, and no tour of
+/// the instance is shorter than the bound of an accepted tour. Where it isn't, that reader isn't
+/// read. Where a length is claimed, a solution of another length is rejected with `LengthClaimed`:
+/// after all other reasons against the solution, and before those against the certificate. With
+/// `strict`, an instance with an unknown keyword is rejected with `NotJudged`, after all reasons.
+///
+/// Each file is read whole before the next, and the first file that is none decides. Nothing is
+/// written before the verdict exists.
+///
+/// # Errors
+///
+/// `File` where a file is none, or can't be read; `WrongKind` where all are files and solutions of
+/// the first one's TYPE aren't judged so: TYPE TOUR, POTENTIALS or BRANCHES, and with a certificate
+/// CVRP too; `OutOfMemory` where the judgement runs out of memory, and then no reason up to
+/// `NodeOutOfRange`, in the order of its TYPE, applies to the second; `Write` where the writer
+/// fails. Of each file at most 4,096 bytes past `MOST_FILE_BYTES` are read.
+pub fn run<I: Gives, S: Gives, C: Gives, W: Write>(
+    alloc: Global,
+    inst: &mut Watched<I>,
+    sol: &mut Watched<S>,
+    by: Option<Certificate>,
+    cert: &mut Watched<C>,
+    claimed: Option<i64>,
+    strict: bool,
+    out: &mut Watched<W>,
+) -> Result<Judged, RunError>
+    ensures answer { TakesAtMost most_taken (turn_of I.remaining inst.old inst.new) (λ first.
+        TakesAtMost most_taken (turn_of S.remaining sol.old sol.new) (λ second.
+        TakesAtMost most_taken (turn_of C.remaining cert.old cert.new) (λ third.
+        (by ≡ None → IsUnread third)
+        × IsRunOf (given_by by third) claimed strict first second (sink_of W.contents out.old out.new) result))) }
+    ensures asked { IsReadOn I.gives inst.old inst.new × IsReadOn S.gives sol.old sol.new
+        × IsReadOn C.gives cert.old cert.new }
+{
+    let instance = read_file(alloc, 1, inst)?;
+    let solution = read_file(alloc, 2, sol)?;
+    let certificate = read_certificate(alloc, 3, by, cert)?;
+    judge_read(alloc, instance, solution, certificate, claimed, strict, out)
+}
+
+/// Reads the file of the certificate that is asked for, where one is, which has this number.
+pub(crate) fn read_certificate<C: Gives>(
+    alloc: Global,
+    number: u32,
+    by: Option<Certificate>,
+    cert: &mut Watched<C>,
+) -> Result<Option<(Certificate, File)>, RunError>
+    ensures answer { TakesAtMost most_taken (turn_of C.remaining cert.old cert.new) (λ third.
+        (by ≡ None → IsUnread third) × ReadsGiven number (given_by by third) result) }
+    ensures asked { IsReadOn C.gives cert.old cert.new }
+{
+    let Some(by) = by else {
+        return Ok(None);
+    };
+    let file = read_file(alloc, number, cert)?;
+    Ok(Some((by, file)))
+}
+
+/// The run on these files, or the fault of the first that is none, whatever readers they came from.
+pub(crate) fn judge_read<W: Write>(
+    alloc: Global,
+    instance: File,
+    solution: File,
+    certificate: Option<(Certificate, File)>,
+    claimed: Option<i64>,
+    strict: bool,
+    out: &mut Watched<W>,
+) -> Result<Judged, RunError>
+    ensures { (given : Given) (first second : Turn) → IsFile first instance → IsFile second solution
+        → IsFileIn given certificate
+        → IsRunOf given claimed strict first second (sink_of W.contents out.old out.new) result }
+{
+    let Ok(instance) = Instance::of(instance) else {
+        return Err(RunError::wrong_kind());
+    };
+    match judge_files(
+        alloc,
+        &instance,
+        &solution,
+        &certificate,
+        claimed,
+        strict,
+        out,
+    ) {
+        Ok(verdict) => Ok(Judged {
+            verdict,
+            instance,
+            solution,
+            certificate,
+        }),
+        Err(error) => Err(error),
+    }
+}
+
+// ---- judges the files of a check and writes the report
+
+/// The files that a run has read, and the verdict on them.
+#[derive(Drop)]
+pub struct Judged {
+    /// The verdict, which the report prints.
+    pub verdict: Verdict,
+    /// The first file.
+    pub instance: Instance,
+    /// The second file.
+    pub solution: File,
+    /// The third file, where a certificate was asked for.
+    pub certificate: Option<(Certificate, File)>,
+}
+
+/// Judges a solution of an instance, with a certificate or without, and writes the report.
+fn judge_files<W: Write>(
+    alloc: Global,
+    instance: &Instance,
+    solution: &File,
+    certificate: &Option<(Certificate, File)>,
+    claimed: Option<i64>,
+    strict: bool,
+    out: &mut Watched<W>,
+) -> Result<Verdict, RunError>
+    ensures { JudgesFiles certificate.now claimed strict instance.now solution.now (sink_of W.contents out.old out.new) result }
+{
+    if !is_judged(certificate, instance) {
+        return Err(RunError::wrong_kind());
+    }
+    let verdict = match judge(alloc, instance, solution, lent(certificate), claimed) {
+        Ok(plain) => strict_verdict(strict, instance, plain),
+        Err(refused) => return Err(RunError::refused(refused)),
+    };
+    match write_report(instance.file(), verdict, out) {
+        Ok(()) => Ok(verdict),
+        Err(fault) => Err(RunError::unwritten(fault)),
+    }
+}
+
+/// Whether solutions of the instance are judged, with this certificate or with none.
+pub(crate) fn is_judged(certificate: &Option<(Certificate, File)>, instance: &Instance) -> bool
+    ensures { result ≡ is_judged certificate.now instance.now.kind }
+{
+    let kind = instance.kind();
+    match certificate {
+        None => true,
+        Some((by, _)) => is_bounded(*by, kind),
+    }
+}
+
+/// The certificate, lent.
+pub(crate) fn lent(certificate: &Option<(Certificate, File)>) -> Option<(Certificate, &File)>
+    ensures { option_map (λ given. (given.0, given.1.now)) result ≡ certificate.now }
+{
+    match certificate {
+        None => None,
+        Some((by, file)) => Some((*by, file)),
+    }
+}
+
+// ---- reads a file of a run, and adds its number to a fault
+
+/// Reads the file with this number, counted from 1, of those that a run is given.
+///
+/// # Errors
+///
+/// `File` with this number, where the file is none, or can't be read.
+pub(crate) fn read_file<R: Gives>(
+    alloc: Global,
+    number: u32,
+    reader: &mut Watched<R>,
+) -> Result<File, RunError>
+    ensures answer { TakesAtMost most_taken (turn_of R.remaining reader.old reader.new) (λ turn.
+        ReadsFile number turn result) }
+    ensures asked { IsReadOn R.gives reader.old reader.new }
+{
+    match file_of_reader(alloc, reader) {
+        Ok(file) => Ok(file),
+        Err(unread) => Err(RunError::unread(number, unread)),
+    }
+}

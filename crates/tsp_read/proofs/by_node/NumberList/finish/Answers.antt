@@ -1,0 +1,12 @@
+-- The goals of `NumberList::finish` in src/by_node.rt, which returns the list by node, and whether a group is
+-- missing: what it ensures.
+use Rattle.std.proofs.Common.{refl}
+use Rattle.tsp_text.specs.WordPlaces.{Amount}
+use Rattle.tsp_read.proofs.GroupSteps as groups
+use Rattle.tsp_read.proofs.by_node.NumberList.finish.Goals as goal
+
+-- plan: each group has set the entry of its node (`finish`); words are wanted exactly where groups are left to come
+-- (`to_come`)
+pub returns : goal.returns
+returns c = λ low high n words h.
+    (groups.finish (Amount low high) h.read, groups.to_come (Amount low high) h.read refl)

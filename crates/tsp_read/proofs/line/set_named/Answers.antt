@@ -1,0 +1,16 @@
+-- The goals of `set_named` in src/line.rt, which sets the value that a line names: what it ensures.
+use Rattle.std.proofs.Common.{refl, ◌∙◌, sym}
+use Rattle.std.specs.Prelude.{is_some}
+use Rattle.tsp_text.specs.Lines.{first_word}
+use Rattle.tsp_text.specs.Values.{is_left_out}
+use Rattle.tsp_read.proofs.NamedRows.{fault_of_value}
+use Rattle.tsp_read.proofs.line.set_named.Goals as goal
+
+-- plan: by the value: it is named, or has the fault of its row (`fault_of_value`)
+pub returns-in-Err : goal.returns-in-Err
+returns-in-Err g c =
+    let word = first_word c.args.value.now in (
+      refl,
+      fault_of_value (is_some c.args.slot.now) (is_left_out c.args.field word) _
+          c.args.late c.in-Err.fault (sym c.is_some.ensures ∙ c.if-is_some.false) c.in-Err.ensures,
+    )

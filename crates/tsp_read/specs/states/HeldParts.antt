@@ -1,0 +1,128 @@
+-- That the struct of a section's part has the words of the section so far, for each struct of src/parts/. For `open`
+-- and `push` of `Part` (src/part.rt), and for each file of src/parts/. Parts.antt says it of the fields one by one.
+use Rattle.std.specs.Prelude.{◌≡◌, ℕ, ◌+◌, ◌≤◌, ℤ, Bool, cond, List, length, map}
+use Rattle.tsp_read.specs.declared.by_node.NumberList.{NumberList}
+use Rattle.tsp_read.specs.declared.by_node.PointList.{PointList}
+use Rattle.tsp_read.specs.declared.lists.DepotList.{DepotList}
+use Rattle.tsp_read.specs.declared.lists.FixedList.{FixedList}
+use Rattle.tsp_read.specs.declared.part.TripleList.{TripleList}
+use Rattle.tsp_read.specs.declared.runs.WeightList.{WeightList}
+use Rattle.tsp_read.specs.declared.runs.TourList.{TourList}
+use Rattle.tsp_read.specs.declared.tree.CombList.{CombList}
+use Rattle.tsp_read.specs.declared.tree.TreeList.{TreeList}
+use Rattle.tsp_format.specs.Limits.{most_combs}
+use Rattle.tsp_format.specs.states.TreeSteps.{steps_of}
+use Rattle.tsp_file.specs.states.Drafts.{points_of, combs_of}
+use Rattle.tsp_text.specs.CombSection.{CombsSoFar, combs_after}
+use Rattle.tsp_text.specs.BranchSection.{TreeSoFar, tree_after}
+use Rattle.tsp_read.specs.declared.part.Part.{Part}
+use Rattle.tsp_read.specs.declared.part.Part.TheVariants as parts
+use Rattle.tsp_format.specs.declared.keyword.Shape.{Shape}
+use Rattle.tsp_format.specs.declared.keyword.Shape.TheVariants.{Numbers, Points, SpacePoints, Depots, Pairs, Weights, Tours, Triples, Combs, Steps}
+use Rattle.tsp_read.specs.states.Parts.{NumbersHold, CoordsHold, are_in_space, DepotsHold, PairsHold, TriplesHold, WeightsHold, ToursHold, EndsRun}
+
+-- a section by node with numbers of this range
+pub record HoldsNumbers (part : NumberList) (low high : ℤ) (n : ℕ) (words : List (List ℕ)) : Type 0 where
+  pub from : part.low ≡ low
+  pub to : part.high ≡ high
+  pub read : NumbersHold part.seen.items part.entries.items part.left part.begun low high n words
+
+-- a section of points, in space or in the plane
+pub record HoldsPoints (part : PointList) (in_space : Bool) (n : ℕ) (words : List (List ℕ)) : Type 0 where
+  pub kind : are_in_space part.entries ≡ in_space
+  pub read : CoordsHold in_space part.seen.items (points_of part.entries) part.left part.begun part.x part.y n words
+
+-- DEPOT_SECTION
+pub record HoldsDepots (part : DepotList) (n : ℕ) (words : List (List ℕ)) : Type 0 where
+  pub nodes : part.n ≡ n
+  pub read : DepotsHold part.depots.items part.ended n words
+
+-- FIXED_EDGES_SECTION
+pub record HoldsFixed (part : FixedList) (n : ℕ) (words : List (List ℕ)) : Type 0 where
+  pub nodes : part.n ≡ n
+  pub read : PairsHold part.pairs.items part.first part.ended n words
+
+-- FIXED_EDGE_POTENTIAL_SECTION
+pub record HoldsTriples (part : TripleList) (n : ℕ) (words : List (List ℕ)) : Type 0 where
+  pub nodes : part.n ≡ n
+  pub read : TriplesHold part.triples.items part.first part.second part.ended n words
+
+-- EDGE_WEIGHT_SECTION
+abbrev pub HoldsWeights : WeightList → ℕ → List (List ℕ) → Type 0
+HoldsWeights part n words = WeightsHold part.weights.items part.most n words
+
+-- TOUR_SECTION
+abbrev pub HoldsTours : TourList → List (List ℕ) → Type 0
+HoldsTours part words = ToursHold (map (λ tour. tour.items) part.done.items) part.run.items part.count words
+
+-- the tour that was open is among the tours
+abbrev pub EndsRunOf : TourList → List (List ℕ) → Type 0
+EndsRunOf part words = EndsRun (map (λ tour. tour.items) part.done.items) part.run.items words
+
+-- the contents of a part for COMB_SECTION, as CombSection.antt of tsp_text has them
+abbrev pub combs_held : CombList → CombsSoFar
+combs_held part = record {
+  combs = combs_of part.combs.items;
+  sets = map (λ set. set.items) part.sets.items;
+  nodes = part.nodes.items;
+  count = part.count;
+  ended = part.ended;
+}
+
+-- COMB_SECTION
+pub record HoldsCombs (part : CombList) (n : ℕ) (words : List (List ℕ)) : Type 0 where
+  pub nodes : part.n ≡ n
+  pub read : combs_held part ≡ combs_after n words
+
+-- the contents of a part for BRANCH_SECTION, as BranchSection.antt of tsp_text has them
+abbrev pub tree_held : TreeList → TreeSoFar
+tree_held part = record {
+  steps = steps_of part.steps.items;
+  first = part.first;
+  in_leaf = part.in_leaf;
+  leaf = part.leaf.items;
+  to_come = part.to_come;
+  branches = part.branches;
+  changes = part.changes;
+}
+
+-- BRANCH_SECTION; no more trees are to come than this many steps can ask for
+pub record HoldsTree (part : TreeList) (n : ℕ) (words : List (List ℕ)) : Type 0 where
+  pub nodes : part.n ≡ n
+  pub indices : part.last_index ≡ n + most_combs
+  pub read : tree_held part ≡ tree_after n words
+  pub few : part.to_come ≤ length part.steps.items + 1
+
+-- ---- the part of a section, whichever its shape
+
+-- the shape of a section of points
+abbrev pub shape_of_points : Bool → Shape
+shape_of_points in_space = cond in_space SpacePoints Points
+
+-- the shape of the section that a part is for
+abbrev pub shape_by : Part → Shape
+shape_by (parts.Numbers list) = Numbers list.low list.high
+shape_by (parts.Points list) = shape_of_points (are_in_space list.entries)
+shape_by (parts.Depots list) = Depots
+shape_by (parts.Pairs list) = Pairs
+shape_by (parts.Weights list) = Weights
+shape_by (parts.Tours list) = Tours
+shape_by (parts.Triples list) = Triples
+shape_by (parts.Combs list) = Combs
+shape_by (parts.Steps list) = Steps
+
+-- the part has these words of its section, which has n nodes
+abbrev pub HoldsPart : Part → ℕ → List (List ℕ) → Type 0
+HoldsPart (parts.Numbers list) n words = HoldsNumbers list list.low list.high n words
+HoldsPart (parts.Points list) n words = HoldsPoints list (are_in_space list.entries) n words
+HoldsPart (parts.Depots list) n words = HoldsDepots list n words
+HoldsPart (parts.Pairs list) n words = HoldsFixed list n words
+HoldsPart (parts.Weights list) n words = HoldsWeights list n words
+HoldsPart (parts.Tours list) n words = HoldsTours list words
+HoldsPart (parts.Triples list) n words = HoldsTriples list n words
+HoldsPart (parts.Combs list) n words = HoldsCombs list n words
+HoldsPart (parts.Steps list) n words = HoldsTree list n words
+
+-- the same, and the section has this shape
+abbrev pub HoldsShape : Shape → Part → ℕ → List (List ℕ) → Type 0
+HoldsShape shape part n words = (shape_by part ≡ shape) × HoldsPart part n words

@@ -1,0 +1,403 @@
+//! A word line, cut into keyword, colon and value, and the word, number or section that its value
+//! is read as. For `src/items.rt` and `src/reading.rt` of tsp_read.
+
+ghost use Rattle.std.specs.List.{position, prefix_len};
+ghost use Rattle.std.specs.Option.{option_map};
+ghost use Rattle.std.specs.Prelude.{◌≡◌, cond, drop, not, map, IfOk};
+ghost use Rattle.tsp_format.specs.Bytes.{is_blank, is_keyword_byte};
+ghost use Rattle.tsp_format.specs.declared.keyword.Field.TheVariants.{EdgeWeightTypeKey};
+ghost use Rattle.tsp_text.specs.FaultRows.{is_too_long_to_keep};
+ghost use Rattle.tsp_text.specs.Items.{line_item};
+ghost use Rattle.tsp_text.specs.Lines.{first_word, keyword_in, is_colon, begins, without_start, without_end};
+ghost use Rattle.tsp_text.specs.Values.{is_left_out, says_space};
+ghost use Rattle.tsp_read.specs.states.CutLine.{cut_item, NamesValue, GivesNumber, MayOpen, seen, SetsNamed, SetsName, AddsComment, AddsOther};
+
+use std::alloc::Global;
+use tsp_format::{
+    CoordKind, Field, Keyword, MOST_COMMENTS, MOST_KEPT_BYTES, MOST_MATRIX_NODES, MOST_OTHERS,
+    Shape, WeightKind, Word, is_blank, is_keyword_byte, value_of,
+};
+use tsp_io::{Refused, copied, push};
+use tsp_number::parse_whole;
+use tsp_text::LineFault;
+
+/// A word line, cut into its parts.
+#[derive(Clone, Copy)]
+pub struct CutLine<'a> {
+    /// How many bytes it has from the first that isn't blank to the line's end.
+    pub size: usize,
+    /// What the keyword is.
+    pub key: Keyword,
+    /// The bytes of the keyword.
+    pub keyword: &'a [u8],
+    /// Whether a colon follows the keyword.
+    pub has_colon: bool,
+    /// The value, without blanks at either end.
+    pub value: &'a [u8],
+}
+
+/// Where the keyword at the front ends.
+#[inline(always)]
+fn keyword_end(text: &[u8]) -> Option<usize>
+    ensures { result ≡ position (λ b. not (is_keyword_byte b)) text.now }
+{
+    text.iter().position(|byte| !is_keyword_byte(*byte))
+}
+
+/// The keyword at the beginning of a word line, and the rest.
+fn split_keyword(text: &[u8]) -> (&[u8], &[u8])
+    ensures keyword { result.0.now ≡ keyword_in text.now }
+    ensures rest { result.1.now ≡ drop (prefix_len is_keyword_byte text.now) text.now }
+{
+    match keyword_end(text) {
+        Some(end) => text.split_at(end),
+        None => text.split_at(text.len()),
+    }
+}
+
+/// Whether the text begins with a colon, and the rest after it; all of it where there is none.
+fn split_colon(text: &[u8]) -> (bool, &[u8])
+    ensures colon { result.0 ≡ begins is_colon text.now }
+    ensures rest { result.1.now ≡ drop (cond (begins is_colon text.now) 1 0) text.now }
+{
+    match text.split_first() {
+        Some((b':', rest)) => (true, rest),
+        _ => (false, text),
+    }
+}
+
+impl<'a> CutLine<'a> {
+    /// The parts of a word line: of its bytes from the first that isn't blank to its end.
+    pub fn of(text: &'a [u8]) -> CutLine<'a>
+        ensures { cut_item result ≡ line_item text.now }
+    {
+        let (keyword, rest) = split_keyword(text);
+        let (has_colon, value) = split_colon(without_start(rest));
+        CutLine {
+            size: text.len(),
+            key: Keyword::of(keyword),
+            keyword,
+            has_colon,
+            value: without_end(without_start(value)),
+        }
+    }
+}
+
+/// Where the first blank of a value is.
+fn first_blank(value: &[u8]) -> Option<usize>
+    ensures { result ≡ position is_blank value.now }
+{
+    value.iter().position(|byte| is_blank(*byte))
+}
+
+/// The first word of a value, or nothing of an empty one.
+fn first_word(value: &[u8]) -> &[u8]
+    ensures { result.now ≡ first_word value.now }
+{
+    match first_blank(value) {
+        Some(end) if end <= value.len() => {
+            let (word, _) = value.split_at(end);
+            word
+        }
+        _ => value,
+    }
+}
+
+/// Whether a word is one of TSPLIB 95 that the keyword doesn't take here.
+fn is_left_out(field: Field, word: &[u8]) -> bool
+    ensures { result ≡ is_left_out field word.now }
+{
+    match field {
+        Field::TypeKey => word == b"SOP".as_slice() || word == b"HCP".as_slice(),
+        Field::EdgeWeightTypeKey => is_weight_kind_left_out(word),
+        _ => false,
+    }
+}
+
+/// Whether a word is a weight kind of TSPLIB 95 that isn't taken here.
+fn is_weight_kind_left_out(word: &[u8]) -> bool
+    ensures { result ≡ is_left_out EdgeWeightTypeKey word.now }
+{
+    word == b"GEO".as_slice()
+        || word == b"XRAY1".as_slice()
+        || word == b"XRAY2".as_slice()
+        || word == b"SPECIAL".as_slice()
+}
+
+/// Whether the value of a keyword says that the nodes of the file have three coordinates each.
+pub fn says_space(field: Field, value: &[u8]) -> bool
+    ensures { result ≡ says_space field (first_word value.now) }
+{
+    match field {
+        Field::EdgeWeightTypeKey => match value_of::<WeightKind>(first_word(value)) {
+            Some(kind) => kind.weighs_three(),
+            None => false,
+        },
+        Field::NodeCoordTypeKey => match value_of::<CoordKind>(first_word(value)) {
+            Some(CoordKind::ThreeD) => true,
+            _ => false,
+        },
+        _ => false,
+    }
+}
+
+/// The value that the first word of a keyword's value names.
+fn named<V: Word>(field: Field, value: &[u8]) -> Result<V, LineFault>
+    ensures { NamesValue V.text V.values field (first_word value.now) result }
+{
+    let word = first_word(value);
+    if is_left_out(field, word) {
+        return Err(LineFault::Outside);
+    }
+    match value_of::<V>(word) {
+        Some(value) => Ok(value),
+        None => Err(LineFault::BadValue),
+    }
+}
+
+/// The number that a line has, of a keyword that hasn't come yet.
+///
+/// # Errors
+///
+/// The keyword has come (`Repeated`), the line has no value (`BadValue`), or its first word is no
+/// whole number from `low` to `high` (`Number`).
+pub fn number_of(stands: bool, value: &[u8], low: i64, high: i64) -> Result<i64, LineFault>
+    ensures { GivesNumber stands low high value.now result }
+{
+    if stands {
+        return Err(LineFault::Repeated);
+    }
+    if value.is_empty() {
+        return Err(LineFault::BadValue);
+    }
+    match parse_whole(first_word(value), low, high) {
+        Ok(number) => Ok(number),
+        Err(fault) => Err(LineFault::Number(fault)),
+    }
+}
+
+/// The number of nodes of a section that a line may open: one of this shape that hasn't come yet,
+/// whose line has no value, and but for tours after DIMENSION. Where there is no DIMENSION the
+/// result for tours is 0.
+///
+/// # Errors
+///
+/// The section has come (`Repeated`), its line has a value (`SectionValue`), no line of DIMENSION
+/// came before it (`SectionEarly`), or the file has more nodes than a matrix may have
+/// (`TooManyNodes`).
+pub fn may_open(
+    shape: Shape,
+    stands: bool,
+    value: &[u8],
+    dimension: Option<u32>,
+) -> Result<u32, LineFault>
+    ensures { MayOpen shape stands value.now dimension result }
+{
+    if stands {
+        return Err(LineFault::Repeated);
+    }
+    if !value.is_empty() {
+        return Err(LineFault::SectionValue);
+    }
+    match dimension {
+        None if shape != Shape::Tours => Err(LineFault::SectionEarly),
+        None => Ok(0),
+        Some(nodes) if shape == Shape::Weights && nodes > MOST_MATRIX_NODES => {
+            Err(LineFault::TooManyNodes)
+        }
+        Some(nodes) => Ok(nodes),
+    }
+}
+
+// ---- texts without the blanks at their ends
+
+/// Where the first byte is that isn't blank.
+#[inline(always)]
+fn first_filled(text: &[u8]) -> Option<usize>
+    ensures { result ≡ position (λ b. not (is_blank b)) text.now }
+{
+    text.iter().position(|byte| !is_blank(*byte))
+}
+
+/// A text from its first byte that isn't blank on.
+#[inline(always)]
+#[tactic(auto, using(crate::proofs::Scans::start_none, crate::proofs::Scans::start_some, crate::proofs::Scans::position_within))]
+pub fn without_start(text: &[u8]) -> &[u8]
+    ensures { result.now ≡ without_start text.now }
+{
+    match first_filled(text) {
+        Some(start) => text.split_at(start).1,
+        None => text.split_at(text.len()).1,
+    }
+}
+
+/// A text up to its last byte that isn't blank.
+#[tactic(auto, using(tsp_text::proofs::NoBlanks::end_blank, tsp_text::proofs::NoBlanks::end_filled, tsp_text::proofs::NoBlanks::end_none))]
+fn without_end(text: &[u8]) -> &[u8]
+    ensures { result.now ≡ without_end text.now }
+{
+    let mut front = text;
+    while let Some((last, shorter)) = front.split_last() {
+        if !is_blank(*last) {
+            return front;
+        }
+        front = shorter;
+    }
+    front
+}
+
+// ---- sets a field of the draft by a keyword line
+
+/// Sets the value that a line names, where none is set yet; `late` is whether it comes too late.
+///
+/// # Errors
+///
+/// `Fault`: one is set (`Repeated`), the value's first word is one of TSPLIB 95 that is left out
+/// (`Outside`), or none that the keyword accepts (`BadValue`), or it comes too late (`LateSpace`).
+pub fn set_named<V: Word + Drop>(
+    slot: &mut Option<V>,
+    field: Field,
+    value: &[u8],
+    late: bool,
+) -> Result<(), StepFault>
+    ensures { SetsNamed V.text V.values field (first_word value.now) late slot.old slot.new result }
+{
+    if slot.is_some() {
+        return Err(StepFault::Fault(LineFault::Repeated));
+    }
+    match named::<V>(field, value) {
+        Ok(_) if late => Err(StepFault::Fault(LineFault::LateSpace)),
+        Ok(value) => {
+            *slot = Some(value);
+            Ok(())
+        }
+        Err(fault) => Err(StepFault::Fault(fault)),
+    }
+}
+
+/// Whether a line's keyword and value together have more bytes than are kept.
+fn is_too_long_to_keep(line: &CutLine<'_>) -> bool
+    ensures { result ≡ is_too_long_to_keep (seen line.now) }
+{
+    line.keyword.len() > MOST_KEPT_BYTES || line.value.len() > MOST_KEPT_BYTES - line.keyword.len()
+}
+
+/// Sets the name, where none is set yet.
+///
+/// # Errors
+///
+/// - `Fault`: one is set (`Repeated`), or the line is too long to be kept (`BadValue`).
+/// - `Memory`: memory was refused.
+///
+/// The slot is as it was then.
+pub fn set_name(
+    alloc: Global,
+    slot: &mut Option<Vec<u8>>,
+    line: &CutLine<'_>,
+) -> Result<(), StepFault>
+    ensures { SetsName (seen line.now) (option_map (λ name. name.items) slot.old)
+        (option_map (λ name. name.items) slot.new) result }
+{
+    if slot.is_some() {
+        return Err(StepFault::Fault(LineFault::Repeated));
+    }
+    if is_too_long_to_keep(line) {
+        return Err(StepFault::Fault(LineFault::BadValue));
+    }
+    match copied(alloc, line.value) {
+        Ok(name) => {
+            *slot = Some(name);
+            Ok(())
+        }
+        Err(refused) => Err(StepFault::Memory(refused)),
+    }
+}
+
+/// Puts the value of a line COMMENT behind those before it.
+///
+/// # Errors
+///
+/// - `Fault`: the line is too long to be kept (`BadValue`), or there are as many comments as a file
+///   may have (`Surplus`).
+/// - `Memory`: memory was refused.
+///
+/// The comments are as they were then.
+pub fn add_comment(
+    alloc: Global,
+    comments: &mut Vec<Vec<u8>>,
+    line: &CutLine<'_>,
+) -> Result<(), StepFault>
+    ensures { AddsComment (seen line.now) (map (λ comment. comment.items) comments.old.items)
+        (map (λ comment. comment.items) comments.new.items) result }
+{
+    if is_too_long_to_keep(line) {
+        return Err(StepFault::Fault(LineFault::BadValue));
+    }
+    if comments.len() >= MOST_COMMENTS {
+        return Err(StepFault::Fault(LineFault::Surplus));
+    }
+    match copied(alloc, line.value) {
+        Ok(comment) => match push(comments, comment) {
+            Ok(()) => Ok(()),
+            Err(refused) => Err(StepFault::Memory(refused)),
+        },
+        Err(refused) => Err(StepFault::Memory(refused)),
+    }
+}
+
+/// Adds the line of an unknown keyword.
+///
+/// # Errors
+///
+/// - `Fault`: no colon follows the keyword (`UnknownLine`), the line is too long to be kept
+///   (`BadValue`), or there are as many such lines as a file may have (`Surplus`).
+/// - `Memory`: memory was refused.
+///
+/// The lines are as they were then.
+pub fn add_other(
+    alloc: Global,
+    others: &mut Vec<(Vec<u8>, Vec<u8>)>,
+    line: &CutLine<'_>,
+) -> Result<(), StepFault>
+    ensures { AddsOther (seen line.now)
+        (map (λ other. (other.0.items, other.1.items)) others.old.items)
+        (map (λ other. (other.0.items, other.1.items)) others.new.items) result }
+{
+    if !line.has_colon {
+        return Err(StepFault::Fault(LineFault::UnknownLine));
+    }
+    if is_too_long_to_keep(line) {
+        return Err(StepFault::Fault(LineFault::BadValue));
+    }
+    if others.len() >= MOST_OTHERS {
+        return Err(StepFault::Fault(LineFault::Surplus));
+    }
+    match kept(alloc, line) {
+        Ok(other) => match push(others, other) {
+            Ok(()) => Ok(()),
+            Err(refused) => Err(StepFault::Memory(refused)),
+        },
+        Err(refused) => Err(StepFault::Memory(refused)),
+    }
+}
+
+/// The keyword and the value of a line.
+fn kept(alloc: Global, line: &CutLine<'_>) -> Result<(Vec<u8>, Vec<u8>), Refused>
+    ensures { IfOk result (λ other. (other.0.items ≡ line.now.keyword.now)
+        × (other.1.items ≡ line.now.value.now)) }
+{
+    let keyword = copied(alloc, line.keyword)?;
+    let value = copied(alloc, line.value)?;
+    Ok((keyword, value))
+}
+
+// ---- why a line or a word isn't taken: a fault of the text, or no memory
+
+/// Why a line or a word isn't taken.
+#[derive(Clone, Copy, Debug)]
+pub enum StepFault {
+    /// Memory was refused.
+    Memory(Refused),
+    /// It has this fault.
+    Fault(LineFault),
+}

@@ -1,0 +1,197 @@
+//! The list that takes the words of DEPOT_SECTION. For `src/part.rt`.
+
+ghost use Rattle.std.specs.Prelude.{◌≡◌, [], ℕ, List, ◌∷◌, ◌++◌, IfErr, false, None, Some};
+
+use crate::line::StepFault;
+use crate::part::{is_minus_one, read_node, read_node_or_end};
+use std::alloc::Global;
+use tsp_format::{MOST_DEPOTS, MOST_FIXED};
+use tsp_io::push;
+use tsp_text::LineFault;
+
+/// What was read of the depots.
+#[derive(Drop)]
+pub struct DepotList {
+    n: u32,
+    depots: Vec<u32>,
+    ended: bool,
+}
+
+impl DepotList {
+    ghost use Rattle.tsp_text.specs.Lists.{place_of_depot, depots_in};
+    ghost use Rattle.tsp_read.specs.states.Parts.{Takes};
+    ghost use Rattle.tsp_read.specs.states.HeldParts.{HoldsDepots};
+
+    /// The section with no words so far, in a file of `n` nodes.
+    pub fn open(alloc: Global, n: u32) -> DepotList
+        ensures { HoldsDepots result n [] }
+    {
+        DepotList {
+            n,
+            depots: Vec::new(alloc),
+            ended: false,
+        }
+    }
+
+    /// Takes the next word.
+    ///
+    /// # Errors
+    ///
+    /// - `Fault`: the word is neither a node nor a -1 (`Number`), there are as many depots as a
+    ///   file may have (`Surplus`), or the list has ended (`AfterEnd`).
+    /// - `Memory`: memory was refused.
+    ///
+    /// The list has the words from before then.
+    pub fn push(&mut self, word: &[u8]) -> Result<(), StepFault>
+        ensures takes { (n : ℕ) (words : List (List ℕ)) → HoldsDepots self.old n words
+            → Takes n (place_of_depot n words) word.now
+            (HoldsDepots self.new n (words ++ word.now ∷ [])) result }
+        ensures kept { IfErr result (λ _. (n : ℕ) (words : List (List ℕ))
+            → HoldsDepots self.old n words → HoldsDepots self.new n words) }
+    {
+        if self.ended {
+            if is_minus_one(word) {
+                return Ok(());
+            }
+            return Err(StepFault::Fault(LineFault::AfterEnd));
+        }
+        match read_node_or_end(word, self.n) {
+            Err(fault) => Err(StepFault::Fault(LineFault::Number(fault))),
+            Ok(None) => {
+                self.ended = true;
+                Ok(())
+            }
+            Ok(Some(_)) if self.depots.len() >= MOST_DEPOTS => {
+                Err(StepFault::Fault(LineFault::Surplus))
+            }
+            Ok(Some(node)) => match push(&mut self.depots, node) {
+                Ok(()) => Ok(()),
+                Err(refused) => Err(StepFault::Memory(refused)),
+            },
+        }
+    }
+
+    /// The depots.
+    pub fn finish(self) -> Vec<u32>
+        ensures { (n : ℕ) (words : List (List ℕ)) → HoldsDepots self n words
+            → result.items ≡ depots_in n words }
+    {
+        self.depots
+    }
+}
+
+// ---- the list that takes the words of FIXED_EDGES_SECTION: pairs of nodes
+
+/// What was read of the fixed pairs.
+#[derive(Drop)]
+pub struct FixedList {
+    n: u32,
+    pairs: Vec<(u32, u32)>,
+    first: Option<u32>,
+    ended: bool,
+}
+
+impl FixedList {
+    ghost use Rattle.tsp_text.specs.Lists.{place_of_fixed, fixed_in};
+    ghost use Rattle.tsp_text.specs.Spells.{wants_more};
+    ghost use Rattle.tsp_read.specs.states.Parts.{Takes};
+    ghost use Rattle.tsp_read.specs.states.HeldParts.{HoldsFixed};
+
+    /// The section with no words so far, in a file of `n` nodes.
+    pub fn open(alloc: Global, n: u32) -> FixedList
+        ensures { HoldsFixed result n [] }
+    {
+        FixedList {
+            n,
+            pairs: Vec::new(alloc),
+            first: None,
+            ended: false,
+        }
+    }
+
+    /// Takes the next word.
+    ///
+    /// # Errors
+    ///
+    /// - `Fault`: the word is no node, and no -1 where the list may end (`Number`), the pair is of
+    ///   a node and itself (`SelfEdge`), there are as many pairs as a file may have (`Surplus`), or
+    ///   the list has ended (`AfterEnd`).
+    /// - `Memory`: memory was refused.
+    ///
+    /// The list has the words from before then.
+    pub fn push(&mut self, word: &[u8]) -> Result<(), StepFault>
+        ensures takes { (n : ℕ) (words : List (List ℕ)) → HoldsFixed self.old n words
+            → Takes n (place_of_fixed n words) word.now
+            (HoldsFixed self.new n (words ++ word.now ∷ [])) result }
+        ensures kept { IfErr result (λ _. (n : ℕ) (words : List (List ℕ))
+            → HoldsFixed self.old n words → HoldsFixed self.new n words) }
+    {
+        if self.ended {
+            if is_minus_one(word) {
+                return Ok(());
+            }
+            return Err(StepFault::Fault(LineFault::AfterEnd));
+        }
+        match self.first {
+            None => self.push_first(word),
+            Some(first) => self.push_second(first, word),
+        }
+    }
+
+    /// Takes the first node of a pair, or the -1 that ends the list.
+    fn push_first(&mut self, word: &[u8]) -> Result<(), StepFault>
+        ensures takes { (n : ℕ) (words : List (List ℕ)) → HoldsFixed self.old n words
+            → self.old.ended ≡ false → self.old.first ≡ None
+            → Takes n (place_of_fixed n words) word.now
+            (HoldsFixed self.new n (words ++ word.now ∷ [])) result }
+        ensures kept { IfErr result (λ _. (n : ℕ) (words : List (List ℕ))
+            → HoldsFixed self.old n words → HoldsFixed self.new n words) }
+    {
+        match read_node_or_end(word, self.n) {
+            Err(fault) => Err(StepFault::Fault(LineFault::Number(fault))),
+            Ok(None) => {
+                self.ended = true;
+                Ok(())
+            }
+            Ok(Some(_)) if self.pairs.len() >= MOST_FIXED => {
+                Err(StepFault::Fault(LineFault::Surplus))
+            }
+            Ok(Some(node)) => {
+                self.first = Some(node);
+                Ok(())
+            }
+        }
+    }
+
+    /// Takes the second node of a pair.
+    fn push_second(&mut self, first: u32, word: &[u8]) -> Result<(), StepFault>
+        ensures takes { (n : ℕ) (words : List (List ℕ)) → HoldsFixed self.old n words
+            → self.old.ended ≡ false → self.old.first ≡ Some first
+            → Takes n (place_of_fixed n words) word.now
+            (HoldsFixed self.new n (words ++ word.now ∷ [])) result }
+        ensures kept { IfErr result (λ _. (n : ℕ) (words : List (List ℕ))
+            → HoldsFixed self.old n words → HoldsFixed self.new n words) }
+    {
+        match read_node(word, self.n) {
+            Err(fault) => Err(StepFault::Fault(LineFault::Number(fault))),
+            Ok(second) if second == first => Err(StepFault::Fault(LineFault::SelfEdge)),
+            Ok(second) => match push(&mut self.pairs, (first, second)) {
+                Ok(()) => {
+                    self.first = None;
+                    Ok(())
+                }
+                Err(refused) => Err(StepFault::Memory(refused)),
+            },
+        }
+    }
+
+    /// The pairs, and whether one is cut short.
+    pub fn finish(self) -> (Vec<(u32, u32)>, bool)
+        ensures { (n : ℕ) (words : List (List ℕ)) → HoldsFixed self n words
+            → (result.0.items ≡ fixed_in n words)
+            × (result.1 ≡ wants_more (place_of_fixed n words)) }
+    {
+        let wants_more = self.first.is_some();
+        (self.pairs, wants_more)
+    }
+}

@@ -1,0 +1,490 @@
+//! The state of the reader: the draft of the lines and words so far, and the section that is open.
+//! For `src/items.rt`, and `src/items.rt`, which holds it.
+
+ghost use Rattle.std.specs.Prelude.{[], List, Some, IfErr, OnOk, ◌≡◌, is_some, true, ℕ, Bool, IfOk, None, Err};
+ghost use Rattle.tsp_format.specs.Shapes.{shape_of};
+ghost use Rattle.tsp_format.specs.Words.{fields_in_order};
+ghost use Rattle.tsp_file.specs.Fields.{spatial};
+ghost use Rattle.tsp_file.specs.Rules.{standing_of, end_fault, fault_of};
+ghost use Rattle.tsp_file.specs.states.Drafts.{fields_of};
+ghost use Rattle.tsp_text.specs.Cuts.{AreCut};
+ghost use Rattle.tsp_text.specs.Earlier.{same_field};
+ghost use Rattle.tsp_text.specs.Items.{Item, NumberWord};
+ghost use Rattle.tsp_text.specs.Sections.{place_in};
+ghost use Rattle.tsp_text.specs.Spells.{wants_more};
+ghost use Rattle.tsp_text.specs.declared.fault.ReadFault.TheVariants.{OutOfMemory, Line, End, TooLong, Device};
+ghost use Rattle.tsp_read.specs.Reads.{Completes};
+ghost use Rattle.tsp_read.specs.states.CutLine.{seen};
+ghost use Rattle.tsp_read.specs.states.Finishes.{FileOf};
+ghost use Rattle.tsp_read.specs.states.Holds.{LineAnswers, Holds, IsReadFrom};
+ghost use Rattle.tsp_read.specs.states.Incomplete.{is_either, first_of};
+ghost use Rattle.tsp_read.specs.states.OpenSection.{HoldsSection};
+ghost use Rattle.tsp_read.specs.states.Stored.{with_section};
+
+use crate::line::{
+    CutLine, StepFault, add_comment, add_other, may_open, number_of, says_space, set_name,
+    set_named,
+};
+use crate::part::Part;
+use std::alloc::Global;
+use std::marker::Model;
+use tsp_file::{Draft, EndFault, File, end_fault};
+use tsp_format::{Field, Keyword, MOST_LINE_BYTES, Shape, ValueShape};
+use tsp_io::Refused;
+use tsp_text::{LineFault, ReadFault};
+
+/// The section that is open, and the part that takes its words.
+#[derive(Drop)]
+pub(crate) struct OpenSection {
+    pub(crate) field: Field,
+    pub(crate) part: Part,
+}
+
+/// What was read so far: the fields of the lines and of the sections that are closed, the first of
+/// these in canonical order that is incomplete, and the section that is open.
+pub(crate) struct Reading {
+    pub(crate) draft: Draft,
+    pub(crate) incomplete: Option<Field>,
+    pub(crate) opened: Option<OpenSection>,
+}
+
+/// As a derive would do it. A function that drops a reading calls this.
+impl Drop for Reading {
+    fn drop(self) {
+        let Reading {
+            draft: _,
+            incomplete: _,
+            opened: _,
+        } = self;
+    }
+}
+
+/// The one of a section and another, if there is another, that comes first in canonical order.
+fn first_of(section: Field, other: Option<Field>) -> Option<Field>
+    ensures { result ≡ first_of section other fields_in_order }
+{
+    first_among(&Field::ALL, section, other)
+}
+
+/// The first of some fields that is this one, or the other.
+fn first_among(fields: &[Field], section: Field, other: Option<Field>) -> Option<Field>
+    ensures { result ≡ first_of section other fields.now }
+{
+    for field in fields {
+        if is_either(*field, section, other) {
+            return Some(*field);
+        }
+    }
+    None
+}
+
+/// Whether a field is this section, or the other.
+fn is_either(field: Field, section: Field, other: Option<Field>) -> bool
+    ensures { result ≡ is_either section other field }
+{
+    match other {
+        Some(other) => is_same(field, section) || is_same(field, other),
+        None => is_same(field, section),
+    }
+}
+
+/// Whether two fields have the same word, which no two have.
+fn is_same(field: Field, other: Field) -> bool
+    ensures { result ≡ same_field field other }
+{
+    field == other
+}
+
+impl Reading {
+    ghost use Rattle.tsp_read.specs.states.Holds.{Holds, Closed, AnswersItem};
+
+    /// The state before the first line.
+    pub(crate) fn new(alloc: Global) -> Reading
+        ensures { Holds result [] }
+    {
+        Reading {
+            draft: Draft::new(alloc),
+            incomplete: None,
+            opened: None,
+        }
+    }
+
+    /// The fields of what was read, and the first section that is incomplete, of those that are
+    /// closed.
+    pub(crate) fn into_draft(self) -> (Draft, Option<Field>)
+        ensures { result ≡ (self.draft, self.incomplete) }
+    {
+        let Reading {
+            draft,
+            incomplete,
+            opened: _,
+        } = self;
+        (draft, incomplete)
+    }
+
+    /// Begins with a section that a line opens. The one before it was closed.
+    pub(crate) fn begin(&mut self, section: OpenSection)
+        ensures draft { self.new.draft ≡ self.old.draft }
+        ensures incomplete { self.new.incomplete ≡ self.old.incomplete }
+        ensures begun { self.new.opened ≡ Some section }
+    {
+        let before = self.opened.replace(section);
+        drop(before);
+    }
+
+    /// Takes a word of a number line.
+    pub(crate) fn word(&mut self, alloc: Global, word: &[u8]) -> Result<(), StepFault>
+        ensures { (earlier : List Item) → Holds self.old earlier
+            → AnswersItem earlier (NumberWord word.now) self.new result }
+    {
+        match &mut self.opened {
+            None => Err(StepFault::Fault(LineFault::StrayNumber)),
+            Some(section) => section.part.push(alloc, word),
+        }
+    }
+
+    /// Closes the section that is open, if one is: what it has goes into the draft.
+    pub(crate) fn close(&mut self, alloc: Global) -> Result<(), Refused>
+        ensures closed { OnOk result ((earlier : List Item) → Holds self.old earlier
+            → Closed self.new earlier) }
+        ensures stood { IfErr result (λ _. is_some self.old.opened ≡ true) }
+    {
+        let Some(section) = self.opened.take() else {
+            return Ok(());
+        };
+        let field = section.field;
+        if store(&mut self.draft, alloc, section)? {
+            self.incomplete = first_of(field, self.incomplete);
+        }
+        Ok(())
+    }
+}
+
+// ---- what a word line does to the state of the reader
+
+impl Reading {
+    ghost use Rattle.std.specs.Prelude.{◌≡◌, ◌&&◌, not, is_some, Some, None, List};
+    ghost use Rattle.tsp_format.specs.declared.keyword.ValueShape.TheVariants.{Number};
+    ghost use Rattle.tsp_format.specs.Shapes.{shape_of, value_shape_of};
+    ghost use Rattle.tsp_file.specs.states.Drafts.{fields_of};
+    ghost use Rattle.tsp_file.specs.Fields.{spatial};
+    ghost use Rattle.tsp_text.specs.Lines.{first_word};
+    ghost use Rattle.tsp_text.specs.Values.{says_space};
+    ghost use Rattle.tsp_text.specs.Items.{Item};
+    ghost use Rattle.tsp_read.specs.states.CutLine.{seen, cut_item};
+    ghost use Rattle.tsp_read.specs.states.Holds.{Holds, AnswersItem, LineAnswers};
+
+    /// Takes a word line.
+    pub(crate) fn line(&mut self, alloc: Global, line: &CutLine<'_>) -> Result<(), StepFault>
+        ensures { (earlier : List Item) → Holds self.old earlier
+            → AnswersItem earlier (cut_item line.now) self.new result }
+    {
+        if line.size > MOST_LINE_BYTES {
+            return Err(StepFault::Fault(LineFault::LongLine));
+        }
+        if let Err(refused) = self.close(alloc) {
+            return Err(StepFault::Memory(refused));
+        }
+        match line.key {
+            Keyword::Known(field) => match field.shape(self.draft.is_spatial()) {
+                Some(shape) => self.open(alloc, field, shape, line),
+                None => self.known(alloc, field, line),
+            },
+            Keyword::EdgeDataFormat => Err(StepFault::Fault(LineFault::Outside)),
+            Keyword::EdgeDataSection => Err(StepFault::Fault(LineFault::Outside)),
+            Keyword::Eof => Ok(()),
+            Keyword::Unknown => add_other(alloc, &mut self.draft.others, line),
+        }
+    }
+
+    /// Whether a line says that the nodes have three coordinates, after a section of two of each.
+    fn is_late(&self, field: Field, value: &[u8]) -> bool
+        ensures { result ≡ (says_space field (first_word value.now) && is_some
+            (fields_of self.now.draft).coords && not (spatial (fields_of self.now.draft))) }
+    {
+        says_space(field, value) && self.draft.coords.is_some() && !self.draft.is_spatial()
+    }
+
+    /// Takes the line of a keyword, where no section is open. Those with numbers are taken by their
+    /// range, the others each by its own place in the draft.
+    fn known(&mut self, alloc: Global, field: Field, line: &CutLine<'_>) -> Result<(), StepFault>
+        requires { shape_of (spatial (fields_of self.old.draft)) field ≡ None }
+        ensures { LineAnswers self.old field (seen line.now) self.new result }
+    {
+        let value = line.value;
+        let late = self.is_late(field, value);
+        let draft = &mut self.draft;
+        match field {
+            Field::NameKey => set_name(alloc, &mut draft.name, line),
+            Field::TypeKey => set_named(&mut draft.kind, field, value, late),
+            Field::CommentKey => add_comment(alloc, &mut draft.comments, line),
+            Field::EdgeWeightTypeKey => set_named(&mut draft.weight_kind, field, value, late),
+            Field::EdgeWeightFormatKey => set_named(&mut draft.weight_format, field, value, late),
+            Field::NodeCoordTypeKey => set_named(&mut draft.coord_kind, field, value, late),
+            Field::DisplayDataTypeKey => set_named(&mut draft.display_kind, field, value, late),
+            _ => match field.value_shape() {
+                Some(ValueShape::Number { low, high }) => self.number(field, low, high, line),
+                _ => Ok(()),
+            },
+        }
+    }
+
+    /// Takes the line of a keyword with a number from `low` to `high`, where no section is open.
+    fn number(
+        &mut self,
+        field: Field,
+        low: i64,
+        high: i64,
+        line: &CutLine<'_>,
+    ) -> Result<(), StepFault>
+        requires { value_shape_of field ≡ Some (Number low high) }
+        ensures { LineAnswers self.old field (seen line.now) self.new result }
+    {
+        match number_of(self.draft.stands(field), line.value, low, high) {
+            Ok(number) => {
+                self.draft.set_number(field, number);
+                Ok(())
+            }
+            Err(fault) => Err(StepFault::Fault(fault)),
+        }
+    }
+}
+
+// ---- what a line that opens a section does to the state of the reader
+
+impl Reading {
+    /// Opens the section of a field, which has this shape, where no section is open.
+    pub(crate) fn open(
+        &mut self,
+        alloc: Global,
+        field: Field,
+        shape: Shape,
+        line: &CutLine<'_>,
+    ) -> Result<(), StepFault>
+        requires { shape_of (spatial (fields_of self.old.draft)) field ≡ Some shape }
+        ensures { LineAnswers self.old field (seen line.now) self.new result }
+    {
+        let stands = self.draft.stands(field);
+        match may_open(shape, stands, line.value, self.draft.dimension) {
+            Ok(n) => match Part::open(alloc, shape, n) {
+                Ok(part) => {
+                    self.begin(OpenSection { field, part });
+                    Ok(())
+                }
+                Err(refused) => Err(StepFault::Memory(refused)),
+            },
+            Err(fault) => Err(StepFault::Fault(fault)),
+        }
+    }
+}
+
+// ---- puts the words of a section into its field of the draft
+
+/// Puts the list of a section into its field. Returns whether the section is incomplete.
+fn store(draft: &mut Draft, alloc: Global, section: OpenSection) -> Result<bool, Refused>
+    ensures { IfOk result (λ more. (in_space : Bool) (n : ℕ) (words : List (List ℕ))
+        → HoldsSection in_space section n words
+        → (fields_of draft.new ≡ with_section in_space section.field n words (fields_of draft.old))
+        × (more ≡ wants_more (place_in in_space section.field n words))) }
+{
+    let OpenSection { field, part } = section;
+    match part {
+        Part::Numbers(part) => {
+            let (numbers, wants_more) = part.finish();
+            draft.set_numbers(field, numbers);
+            Ok(wants_more)
+        }
+        Part::Points(part) => {
+            let (points, wants_more) = part.finish();
+            draft.set_points(field, points);
+            Ok(wants_more)
+        }
+        Part::Depots(part) => {
+            draft.depots = Some(part.finish());
+            Ok(false)
+        }
+        Part::Pairs(part) => {
+            let (pairs, wants_more) = part.finish();
+            draft.fixed = Some(pairs);
+            Ok(wants_more)
+        }
+        Part::Weights(part) => {
+            draft.weights = Some(part.finish());
+            Ok(false)
+        }
+        Part::Tours(part) => {
+            draft.tours = Some(part.finish(alloc)?);
+            Ok(false)
+        }
+        Part::Triples(part) => {
+            let (triples, wants_more) = part.finish();
+            draft.fixed_potentials = Some(triples);
+            Ok(wants_more)
+        }
+        Part::Combs(part) => {
+            let (combs, wants_more) = part.finish();
+            draft.combs = Some(combs);
+            Ok(wants_more)
+        }
+        Part::Steps(part) => {
+            let (steps, wants_more) = part.finish();
+            draft.branches = Some(steps);
+            Ok(wants_more)
+        }
+    }
+}
+
+// ---- the end of a text
+
+/// Why what was read is no file.
+#[derive(Clone, Copy)]
+pub(crate) enum FinishFault {
+    /// Memory was refused.
+    Memory(Refused),
+    /// The lines together have this fault.
+    End(EndFault),
+}
+
+/// The file of the fields that were read, or the fault of the end table.
+fn file_of(draft: Draft, incomplete: Option<Field>) -> Result<File, EndFault>
+    requires { end_fault (standing_of (fields_of draft)) incomplete ≡ None
+        → fault_of (fields_of draft) ≡ None }
+    ensures { FileOf (fields_of draft) incomplete result }
+{
+    match end_fault(&draft, incomplete) {
+        Some(fault) => {
+            drop(draft);
+            Err(fault)
+        }
+        None => Ok(File::of_valid(draft)),
+    }
+}
+
+impl Reading {
+    ghost use Rattle.tsp_read.specs.declared.reading.FinishFault.TheVariants.{Memory};
+    ghost use Rattle.tsp_read.specs.states.Finishes.{Finishes};
+
+    /// The file that was read, or the fault of its end.
+    ///
+    /// # Requires
+    ///
+    /// Lines and words that it was read from: the fields of such are valid, so that they aren't
+    /// judged again.
+    pub(crate) fn finish(mut self, alloc: Global) -> Result<File, FinishFault>
+        requires { IsReadFrom self }
+        ensures file { (earlier : List Item) → Holds self earlier → AreCut earlier
+            → Finishes earlier result }
+        ensures stood { (refused : Refused) → result ≡ Err (Memory refused)
+            → is_some self.opened ≡ true }
+    {
+        match self.close(alloc) {
+            Ok(()) => {}
+            Err(refused) => {
+                drop(self);
+                return Err(FinishFault::Memory(refused));
+            }
+        }
+        let (draft, incomplete) = self.into_draft();
+        match file_of(draft, incomplete) {
+            Ok(file) => Ok(file),
+            Err(fault) => Err(FinishFault::End(fault)),
+        }
+    }
+}
+
+/// The file of all that was read.
+pub(crate) fn completed(reading: Reading, alloc: Global) -> Result<File, ReadError>
+    requires { IsReadFrom reading }
+    ensures file { (earlier : List Item) → Holds reading earlier → AreCut earlier
+        → Completes earlier result }
+    ensures stood { result ≡ Err OutOfMemory → is_some reading.opened ≡ true }
+{
+    match reading.finish(alloc) {
+        Ok(file) => Ok(file),
+        Err(FinishFault::Memory(refused)) => Err(ReadError::refused(refused)),
+        Err(FinishFault::End(fault)) => Err(ReadError::at_end(fault)),
+    }
+}
+
+// ---- why a file was not read
+
+/// Why a file wasn't read. Contracts see the fault.
+///
+/// Only a reading makes one, and out of memory only of the token of a refusal. So a function whose
+/// error this is can't report out of memory of a file on its own.
+#[derive(Clone, Copy, Debug, Drop)]
+pub struct ReadError {
+    found: ReadFault,
+}
+
+impl Model for ReadError {
+    ghost use Rattle.tsp_text.specs.declared.fault.ReadFault.{ReadFault};
+
+    ghost Value = { ReadFault };
+
+    ghost view = { λ error. error.found };
+
+    ghost inverse = { λ fault. record { found = fault } };
+}
+
+impl ReadError {
+    /// Why nothing was read, without the token of a refusal.
+    pub fn fault(self) -> ReadFault
+        ensures { result ≡ self }
+    {
+        self.found
+    }
+
+    /// Out of memory, by the token of a refusal.
+    pub(crate) fn refused(_refused: Refused) -> ReadError
+        ensures { result ≡ OutOfMemory }
+    {
+        ReadError {
+            found: ReadFault::OutOfMemory,
+        }
+    }
+
+    /// A line has this fault, by its word with this number; 0 for the line itself.
+    pub(crate) fn at(line: u32, word: u32, fault: LineFault) -> ReadError
+        ensures { result ≡ Line line word fault }
+    {
+        ReadError {
+            found: ReadFault::Line { line, word, fault },
+        }
+    }
+
+    /// The lines together have this fault.
+    pub(crate) fn at_end(fault: EndFault) -> ReadError
+        ensures { result ≡ End fault }
+    {
+        ReadError {
+            found: ReadFault::End(fault),
+        }
+    }
+
+    /// There are more bytes than a file may have.
+    pub(crate) fn too_long() -> ReadError
+        ensures { result ≡ TooLong }
+    {
+        ReadError {
+            found: ReadFault::TooLong,
+        }
+    }
+
+    /// A read failed.
+    pub(crate) fn by_device() -> ReadError
+        ensures { result ≡ Device }
+    {
+        ReadError {
+            found: ReadFault::Device,
+        }
+    }
+}
+
+impl From<ReadError> for ReadFault {
+    ghost from_gives = { λ error fault. fault ≡ error };
+
+    fn from(error: ReadError) -> ReadFault {
+        error.fault()
+    }
+}

@@ -1,0 +1,347 @@
+//! The list that takes the words of COMB_SECTION: families of sets of nodes. For `src/part.rt`.
+
+ghost use Rattle.std.specs.Prelude.{◌≡◌, [], ℕ, List, ◌∷◌, ◌++◌, ◌<◌, length, OnOk, IfErr, false, ◌≢◌, ◌+◌, ◌≤◌, None, Some, true};
+
+use crate::line::StepFault;
+use crate::part::{is_minus_one, move_to_end, read_index_or_leaf, read_node, read_node_or_end};
+use std::alloc::Global;
+use std::mem;
+use tsp_format::{
+    MOST_BRANCHES, MOST_CHANGES, MOST_COMB_NODES, MOST_COMBS, MOST_DIFFERENCE, MOST_NODES, TreeStep,
+};
+use tsp_io::{Refused, push};
+use tsp_number::parse_whole;
+use tsp_text::LineFault;
+
+/// What was read of the combs: those that are whole, of a comb that has begun the whole sets, of a
+/// set that has begun the nodes, and how many nodes came in all.
+#[derive(Drop)]
+pub struct CombList {
+    n: u32,
+    combs: Vec<Vec<Vec<u32>>>,
+    sets: Vec<Vec<u32>>,
+    nodes: Vec<u32>,
+    count: usize,
+    ended: bool,
+}
+
+impl CombList {
+    ghost use Rattle.tsp_file.specs.states.Drafts.{combs_of};
+    ghost use Rattle.tsp_text.specs.CombSection.{whole_combs, with_set, with_comb, with_end, has_begun_comb, place_of_comb};
+    ghost use Rattle.tsp_text.specs.FaultRows.{is_past_combs};
+    ghost use Rattle.tsp_text.specs.Spells.{wants_more};
+    ghost use Rattle.tsp_read.specs.states.Parts.{Takes};
+    ghost use Rattle.tsp_read.specs.states.HeldParts.{combs_held, HoldsCombs};
+
+    /// The section with no words so far, in a file of `n` nodes.
+    pub fn open(alloc: Global, n: u32) -> CombList
+        ensures { HoldsCombs result n [] }
+    {
+        CombList {
+            n,
+            combs: Vec::new(alloc),
+            sets: Vec::new(alloc),
+            nodes: Vec::new(alloc),
+            count: 0,
+            ended: false,
+        }
+    }
+
+    /// Takes the next word.
+    ///
+    /// # Errors
+    ///
+    /// - `Fault`: the word is neither a node nor a -1 (`Number`), there are as many nodes of combs
+    ///   as a file may have, or it would begin a comb after as many as a file may have (`Surplus`),
+    ///   or the section has ended (`AfterEnd`).
+    /// - `Memory`: memory was refused.
+    ///
+    /// The list has the words from before then.
+    pub fn push(&mut self, alloc: Global, word: &[u8]) -> Result<(), StepFault>
+        ensures takes { (n : ℕ) (words : List (List ℕ)) → HoldsCombs self.old n words
+            → Takes n (place_of_comb n words) word.now
+            (HoldsCombs self.new n (words ++ word.now ∷ [])) result }
+        ensures kept { IfErr result (λ _. (n : ℕ) (words : List (List ℕ))
+            → HoldsCombs self.old n words → HoldsCombs self.new n words) }
+    {
+        if self.ended {
+            if is_minus_one(word) {
+                return Ok(());
+            }
+            return Err(StepFault::Fault(LineFault::AfterEnd));
+        }
+        match read_node_or_end(word, self.n) {
+            Err(fault) => Err(StepFault::Fault(LineFault::Number(fault))),
+            Ok(None) => match self.push_end(alloc) {
+                Ok(()) => Ok(()),
+                Err(refused) => Err(StepFault::Memory(refused)),
+            },
+            Ok(Some(_)) if self.is_full() => Err(StepFault::Fault(LineFault::Surplus)),
+            Ok(Some(node)) => match push(&mut self.nodes, node) {
+                Ok(()) => {
+                    self.count += 1;
+                    Ok(())
+                }
+                Err(refused) => Err(StepFault::Memory(refused)),
+            },
+        }
+    }
+
+    /// Whether a comb has begun.
+    fn has_begun(&self) -> bool
+        ensures { result ≡ has_begun_comb (combs_held self.now) }
+    {
+        !self.nodes.is_empty() || !self.sets.is_empty()
+    }
+
+    /// Whether the limit leaves no place for one more node.
+    fn is_full(&self) -> bool
+        ensures full { result ≡ is_past_combs (has_begun_comb (combs_held self.now))
+            (length (combs_held self.now).combs) self.now.count }
+        ensures room { result ≡ false → self.now.count < MOST_COMB_NODES }
+    {
+        self.count >= MOST_COMB_NODES || (!self.has_begun() && self.combs.len() >= MOST_COMBS)
+    }
+
+    /// Takes a -1: it ends the set that has begun, else the comb, else the section.
+    fn push_end(&mut self, alloc: Global) -> Result<(), Refused>
+        ensures done { OnOk result (combs_held self.new ≡ with_end (combs_held self.old)) }
+        ensures kept { IfErr result (λ _. combs_held self.new ≡ combs_held self.old) }
+        ensures n { self.new.n ≡ self.old.n }
+    {
+        if !self.nodes.is_empty() {
+            return self.end_set(alloc);
+        }
+        if !self.sets.is_empty() {
+            return self.end_comb(alloc);
+        }
+        self.ended = true;
+        Ok(())
+    }
+
+    /// Ends the set that has begun.
+    fn end_set(&mut self, alloc: Global) -> Result<(), Refused>
+        ensures done { OnOk result (combs_held self.new ≡ with_set (combs_held self.old)) }
+        ensures kept { IfErr result (λ _. combs_held self.new ≡ combs_held self.old) }
+        ensures n { self.new.n ≡ self.old.n }
+    {
+        move_to_end(alloc, &mut self.sets, &mut self.nodes)
+    }
+
+    /// Ends the comb that has begun.
+    fn end_comb(&mut self, alloc: Global) -> Result<(), Refused>
+        ensures done { OnOk result (combs_held self.new ≡ with_comb (combs_held self.old)) }
+        ensures kept { IfErr result (λ _. combs_held self.new ≡ combs_held self.old) }
+        ensures n { self.new.n ≡ self.old.n }
+    {
+        move_to_end(alloc, &mut self.combs, &mut self.sets)
+    }
+
+    /// The combs, and whether one is cut short.
+    pub fn finish(self) -> (Vec<Vec<Vec<u32>>>, bool)
+        ensures { (n : ℕ) (words : List (List ℕ)) → HoldsCombs self n words
+            → (combs_of result.0.items ≡ whole_combs n words)
+            × (result.1 ≡ wants_more (place_of_comb n words)) }
+    {
+        let wants_more = !self.ended && self.has_begun();
+        (self.combs, wants_more)
+    }
+}
+
+// ---- the list that takes the words of BRANCH_SECTION
+
+/// What was read of a tree: its whole steps, the first number of a branch or of a difference that
+/// has begun, whether a leaf has begun and its whole differences, how many trees are still to come,
+/// and how many branches and differences have begun in all.
+#[derive(Drop)]
+pub struct TreeList {
+    n: u32,
+    last_index: u32,
+    steps: Vec<TreeStep>,
+    first: Option<u32>,
+    in_leaf: bool,
+    leaf: Vec<(u32, i64)>,
+    to_come: usize,
+    branches: usize,
+    changes: usize,
+}
+
+impl TreeList {
+    ghost use Rattle.tsp_format.specs.states.TreeSteps.{steps_of};
+    ghost use Rattle.tsp_text.specs.BranchSection.{whole_steps, with_leaf, place_of_step};
+    ghost use Rattle.tsp_text.specs.Spells.{wants_more};
+    ghost use Rattle.tsp_read.specs.states.Parts.{Takes};
+    ghost use Rattle.tsp_read.specs.states.HeldParts.{tree_held, HoldsTree};
+
+    /// The section with no words so far, in a file of `n` nodes, of which there are no more than a
+    /// file may have.
+    pub fn open(alloc: Global, n: u32) -> TreeList
+        ensures { n ≤ MOST_NODES → HoldsTree result n [] }
+    {
+        TreeList {
+            n,
+            last_index: n.saturating_add(MOST_COMBS as u32),
+            steps: Vec::new(alloc),
+            first: None,
+            in_leaf: false,
+            leaf: Vec::new(alloc),
+            to_come: 1,
+            branches: 0,
+            changes: 0,
+        }
+    }
+
+    /// Takes the next word.
+    ///
+    /// # Errors
+    ///
+    /// - `Fault`: the word isn't a number of the kind that its place requires (`Number`), a branch
+    ///   is on a node and itself (`SelfEdge`), there are as many branches or differences as a file
+    ///   may have, or the tree is whole (`Surplus`).
+    /// - `Memory`: memory was refused.
+    ///
+    /// The list has the words from before then.
+    pub fn push(&mut self, alloc: Global, word: &[u8]) -> Result<(), StepFault>
+        ensures takes { (n : ℕ) (words : List (List ℕ)) → HoldsTree self.old n words
+            → Takes n (place_of_step n words) word.now
+            (HoldsTree self.new n (words ++ word.now ∷ [])) result }
+        ensures kept { IfErr result (λ _. (n : ℕ) (words : List (List ℕ))
+            → HoldsTree self.old n words → HoldsTree self.new n words) }
+    {
+        if self.to_come == 0 {
+            if is_minus_one(word) {
+                return Ok(());
+            }
+            return Err(StepFault::Fault(LineFault::Surplus));
+        }
+        match (self.in_leaf, self.first) {
+            (false, None) => self.push_first(word),
+            (false, Some(first)) => self.push_second(first, word),
+            (true, None) => self.push_index(alloc, word),
+            (true, Some(index)) => self.push_difference(index, word),
+        }
+    }
+
+    /// Takes the first number of a branch, or the 0 that begins a leaf.
+    fn push_first(&mut self, word: &[u8]) -> Result<(), StepFault>
+        ensures takes { (n : ℕ) (words : List (List ℕ)) → HoldsTree self.old n words
+            → self.old.to_come ≢ 0 → self.old.in_leaf ≡ false → self.old.first ≡ None
+            → Takes n (place_of_step n words) word.now
+            (HoldsTree self.new n (words ++ word.now ∷ [])) result }
+        ensures kept { IfErr result (λ _. (n : ℕ) (words : List (List ℕ))
+            → HoldsTree self.old n words → HoldsTree self.new n words) }
+    {
+        match read_index_or_leaf(word, self.last_index) {
+            Err(fault) => Err(StepFault::Fault(LineFault::Number(fault))),
+            Ok(None) => {
+                self.in_leaf = true;
+                Ok(())
+            }
+            Ok(Some(_)) if self.branches >= MOST_BRANCHES => {
+                Err(StepFault::Fault(LineFault::Surplus))
+            }
+            Ok(Some(first)) => {
+                self.first = Some(first);
+                self.branches += 1;
+                Ok(())
+            }
+        }
+    }
+
+    /// Takes the second number of a branch: a node, or the limit of a family.
+    fn push_second(&mut self, first: u32, word: &[u8]) -> Result<(), StepFault>
+        ensures takes { (n : ℕ) (words : List (List ℕ)) → HoldsTree self.old n words
+            → self.old.to_come ≢ 0 → self.old.in_leaf ≡ false → self.old.first ≡ Some first
+            → Takes n (place_of_step n words) word.now
+            (HoldsTree self.new n (words ++ word.now ∷ [])) result }
+        ensures kept { IfErr result (λ _. (n : ℕ) (words : List (List ℕ))
+            → HoldsTree self.old n words → HoldsTree self.new n words) }
+    {
+        match read_node(word, self.n) {
+            Err(fault) => Err(StepFault::Fault(LineFault::Number(fault))),
+            Ok(second) if second == first => Err(StepFault::Fault(LineFault::SelfEdge)),
+            Ok(second) => match push(&mut self.steps, TreeStep::Branch(first, second)) {
+                Ok(()) => {
+                    self.first = None;
+                    self.to_come = self.to_come.saturating_add(1);
+                    Ok(())
+                }
+                Err(refused) => Err(StepFault::Memory(refused)),
+            },
+        }
+    }
+
+    /// Takes an index of a leaf, or the -1 that ends it.
+    fn push_index(&mut self, alloc: Global, word: &[u8]) -> Result<(), StepFault>
+        ensures takes { (n : ℕ) (words : List (List ℕ)) → HoldsTree self.old n words
+            → self.old.to_come ≢ 0 → self.old.in_leaf ≡ true → self.old.first ≡ None
+            → Takes n (place_of_step n words) word.now
+            (HoldsTree self.new n (words ++ word.now ∷ [])) result }
+        ensures kept { IfErr result (λ _. (n : ℕ) (words : List (List ℕ))
+            → HoldsTree self.old n words → HoldsTree self.new n words) }
+    {
+        match read_node_or_end(word, self.last_index) {
+            Err(fault) => Err(StepFault::Fault(LineFault::Number(fault))),
+            Ok(None) => match self.end_leaf(alloc) {
+                Ok(()) => Ok(()),
+                Err(refused) => Err(StepFault::Memory(refused)),
+            },
+            Ok(Some(_)) if self.changes >= MOST_CHANGES => {
+                Err(StepFault::Fault(LineFault::Surplus))
+            }
+            Ok(Some(index)) => {
+                self.first = Some(index);
+                self.changes += 1;
+                Ok(())
+            }
+        }
+    }
+
+    /// Ends the leaf that has begun, and with it a tree that was to come.
+    fn end_leaf(&mut self, alloc: Global) -> Result<(), Refused>
+        ensures done { OnOk result (tree_held self.new ≡ with_leaf (tree_held self.old)) }
+        ensures few { OnOk result ((n : ℕ) (words : List (List ℕ)) → HoldsTree self.old n words
+            → self.new.to_come ≤ length self.new.steps.items + 1) }
+        ensures kept { IfErr result (λ _. tree_held self.new ≡ tree_held self.old) }
+        ensures n { (self.new.n ≡ self.old.n) × (self.new.last_index ≡ self.old.last_index) }
+    {
+        push(&mut self.steps, TreeStep::Leaf(Vec::new(alloc)))?;
+        let last = self.steps.len() - 1;
+        let leaf = mem::replace(&mut self.leaf, Vec::new(alloc));
+        self.steps[last] = TreeStep::Leaf(leaf);
+        self.in_leaf = false;
+        self.to_come = self.to_come.saturating_sub(1);
+        Ok(())
+    }
+
+    /// Takes the difference of an index.
+    fn push_difference(&mut self, index: u32, word: &[u8]) -> Result<(), StepFault>
+        ensures takes { (n : ℕ) (words : List (List ℕ)) → HoldsTree self.old n words
+            → self.old.to_come ≢ 0 → self.old.in_leaf ≡ true → self.old.first ≡ Some index
+            → Takes n (place_of_step n words) word.now
+            (HoldsTree self.new n (words ++ word.now ∷ [])) result }
+        ensures kept { IfErr result (λ _. (n : ℕ) (words : List (List ℕ))
+            → HoldsTree self.old n words → HoldsTree self.new n words) }
+    {
+        match parse_whole(word, -MOST_DIFFERENCE, MOST_DIFFERENCE) {
+            Err(fault) => Err(StepFault::Fault(LineFault::Number(fault))),
+            Ok(difference) => match push(&mut self.leaf, (index, difference)) {
+                Ok(()) => {
+                    self.first = None;
+                    Ok(())
+                }
+                Err(refused) => Err(StepFault::Memory(refused)),
+            },
+        }
+    }
+
+    /// The steps, and whether the tree isn't whole.
+    pub fn finish(self) -> (Vec<TreeStep>, bool)
+        ensures { (n : ℕ) (words : List (List ℕ)) → HoldsTree self n words
+            → (steps_of result.0.items ≡ whole_steps n words)
+            × (result.1 ≡ wants_more (place_of_step n words)) }
+    {
+        let wants_more = self.to_come != 0;
+        (self.steps, wants_more)
+    }
+}

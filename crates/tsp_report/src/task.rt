@@ -1,0 +1,257 @@
+//! A task: a verb with its options and files. tsp_cli makes one of a command line, tsp_cli opens
+//! its files, tsp_judge does it; tsp_c makes one to explain.
+
+ghost use Rattle.std.specs.Fn.{FnReturnsAt};
+ghost use Rattle.std.specs.Prelude.{◌≡◌, option_map};
+ghost use Rattle.tsp_report.specs.Files.{files_of, files_compared, files_of_task, numbered};
+ghost use Rattle.tsp_report.specs.Mapped.{IsMapped, IsMappedCertificate, IsMappedComparison, IsMappedTask};
+ghost use Rattle.tsp_report.specs.ReasonRows.{role_of};
+ghost use Rattle.tsp_report.specs.Roles.{role_by};
+
+use crate::verdict::{Reason, row_of_reason};
+use tsp_format::Layout;
+
+/// A task. `F` is what is known of a file: its place, a reader, its text, or what a user calls
+/// it.
+#[derive(Drop)]
+pub enum Task<'a, F> {
+    /// A task on files that are all known when it begins.
+    Files(FileTask<F>),
+    /// To compare solutions.
+    Compare(Comparison<'a, F>),
+}
+
+/// An action on files that are all known when it begins.
+#[derive(Drop)]
+pub enum FileTask<F> {
+    /// Show the contents of a file.
+    Show {
+        file: F,
+    },
+    /// Write a file anew, its matrix in this layout where one is named.
+    Convert {
+        file: F,
+        layout: Option<Layout>,
+    },
+    /// Judge the solution of an instance, with this length where one is claimed, and bound every
+    /// tour by the certificate where one is named. With `strict`, unknown keywords of the instance
+    /// are a reason.
+    Check {
+        instance: F,
+        solution: F,
+        certificate: Option<(Certificate, F)>,
+        claimed: Option<i64>,
+        strict: bool,
+    },
+    /// Bound every tour of an instance by a certificate. With `strict`, unknown keywords of the
+    /// instance are a reason.
+    Bound {
+        instance: F,
+        certificate: (Certificate, F),
+        strict: bool,
+    },
+}
+
+/// The solutions that are compared, and by which files. They are opened one after the other, so
+/// their paths stay as they are given: `-` is standard input.
+#[derive(Drop)]
+pub struct Comparison<'a, F> {
+    /// The instance.
+    pub instance: F,
+    /// The certificate, where one is named.
+    pub certificate: Option<(Certificate, F)>,
+    /// The paths of the solutions, one at least, in the order in which they are judged.
+    pub solutions: &'a [String],
+    /// Whether unknown keywords of the instance are a reason.
+    pub strict: bool,
+}
+
+impl<'a, F> Task<'a, F> {
+    /// The file with this number, counted from 1 in the order in which they are read, and what it
+    /// is given for where that matters; or `None` where fewer are read. Solutions that are compared
+    /// have no number.
+    pub fn file(&self, number: u32) -> Option<(Option<Role>, &F)>
+        ensures { option_map (λ file. (file.0, file.1.now)) result
+            ≡ numbered number (files_of_task self.now) }
+    {
+        match self {
+            Task::Files(task) => task.file(number),
+            Task::Compare(comparison) => comparison.file(number),
+        }
+    }
+
+    /// The same task of what `map` gives for each file.
+    pub fn map<G, M: Fn(&F) -> G>(&self, map: M) -> Task<'a, G>
+        requires { M.IsAlwaysCallable map }
+        ensures { IsMappedTask (FnReturnsAt M.Fn map) self.now result }
+    {
+        match self {
+            Task::Files(task) => Task::Files(task.map(map)),
+            Task::Compare(comparison) => Task::Compare(comparison.map(map)),
+        }
+    }
+}
+
+impl<F> FileTask<F> {
+    /// The file with this number, counted from 1 in the order in which they are read, and what it
+    /// is given for where that matters; or `None` where the task reads fewer.
+    pub fn file(&self, number: u32) -> Option<(Option<Role>, &F)>
+        ensures { option_map (λ file. (file.0, file.1.now)) result
+            ≡ numbered number (files_of self.now) }
+    {
+        match (self, number) {
+            (FileTask::Show { file } | FileTask::Convert { file, .. }, 1) => Some((None, file)),
+            (FileTask::Check { instance, .. } | FileTask::Bound { instance, .. }, 1) => {
+                Some((Some(Role::Instance), instance))
+            }
+            (FileTask::Check { solution, .. }, 2) => Some((Some(Role::Solution), solution)),
+            (
+                FileTask::Check {
+                    certificate: Some((by, file)),
+                    ..
+                },
+                3,
+            )
+            | (
+                FileTask::Bound {
+                    certificate: (by, file),
+                    ..
+                },
+                2,
+            ) => Some((Some(role_by(*by)), file)),
+            _ => None,
+        }
+    }
+
+    /// The same task on what `map` gives for each file.
+    pub fn map<G, M: Fn(&F) -> G>(&self, map: M) -> FileTask<G>
+        requires { M.IsAlwaysCallable map }
+        ensures { IsMapped (FnReturnsAt M.Fn map) self.now result }
+    {
+        match self {
+            FileTask::Show { file } => FileTask::Show {
+                file: applied(&map, file),
+            },
+            FileTask::Convert { file, layout } => FileTask::Convert {
+                file: applied(&map, file),
+                layout: *layout,
+            },
+            FileTask::Check {
+                instance,
+                solution,
+                certificate,
+                claimed,
+                strict,
+            } => FileTask::Check {
+                instance: applied(&map, instance),
+                solution: applied(&map, solution),
+                certificate: mapped(certificate, map),
+                claimed: *claimed,
+                strict: *strict,
+            },
+            FileTask::Bound {
+                instance,
+                certificate: (by, file),
+                strict,
+            } => FileTask::Bound {
+                instance: applied(&map, instance),
+                certificate: (*by, applied(&map, file)),
+                strict: *strict,
+            },
+        }
+    }
+}
+
+impl<'a, F> Comparison<'a, F> {
+    /// The file with this number, counted from 1, and what it is given for: the instance, or the
+    /// certificate where one is named.
+    pub fn file(&self, number: u32) -> Option<(Option<Role>, &F)>
+        ensures { option_map (λ file. (file.0, file.1.now)) result
+            ≡ numbered number (files_compared self.now) }
+    {
+        match (number, &self.certificate) {
+            (1, _) => Some((Some(Role::Instance), &self.instance)),
+            (2, Some((by, file))) => Some((Some(role_by(*by)), file)),
+            _ => None,
+        }
+    }
+
+    /// The same comparison by what `map` gives for each file.
+    pub fn map<G, M: Fn(&F) -> G>(&self, map: M) -> Comparison<'a, G>
+        requires { M.IsAlwaysCallable map }
+        ensures { IsMappedComparison (FnReturnsAt M.Fn map) self.now result }
+    {
+        Comparison {
+            instance: applied(&map, &self.instance),
+            certificate: mapped(&self.certificate, map),
+            solutions: self.solutions,
+            strict: self.strict,
+        }
+    }
+}
+
+/// The same certificate, with what `map` gives for its file.
+fn mapped<F, G, M: Fn(&F) -> G>(
+    certificate: &Option<(Certificate, F)>,
+    map: M,
+) -> Option<(Certificate, G)>
+    requires { M.IsAlwaysCallable map }
+    ensures { IsMappedCertificate (FnReturnsAt M.Fn map) certificate.now result }
+{
+    match certificate {
+        Some((by, file)) => Some((*by, applied(&map, file))),
+        None => None,
+    }
+}
+
+/// What `map` gives for a file.
+fn applied<F, G, M: Fn(&F) -> G>(map: &M, file: &F) -> G
+    requires { M.IsAlwaysCallable map.now }
+    ensures { FnReturnsAt M.Fn map.now file.now result }
+{
+    map(file)
+}
+
+// ---- the kinds of certificates of a bound
+
+/// What a file that certifies a bound on the tours or the routes of an instance holds.
+#[derive(Clone, Copy, Debug, PartialEq, Eq)]
+pub enum Certificate {
+    /// Potentials of nodes and of fixed edges for a TSP, or of rows and columns for an ATSP.
+    Potentials,
+    /// A tree of cases, with families of sets and the potentials of each leaf, for a TSP, an ATSP
+    /// or a CVRP.
+    Branches,
+}
+
+// ---- what a file is given for, instance, solution or certificate
+
+/// What a file of a task is given for.
+#[derive(Clone, Copy, Debug, PartialEq, Eq)]
+pub enum Role {
+    /// The instance.
+    Instance,
+    /// The solution.
+    Solution,
+    /// The potentials, which certify a bound.
+    Potentials,
+    /// The tree of cases, which certifies a bound.
+    Branches,
+}
+
+/// What the file of a certificate is given for.
+pub fn role_by(by: Certificate) -> Role
+    ensures { result ≡ role_by by }
+{
+    match by {
+        Certificate::Potentials => Role::Potentials,
+        Certificate::Branches => Role::Branches,
+    }
+}
+
+/// The file that a reason is about.
+pub fn blamed(reason: Reason) -> Role
+    ensures { result ≡ role_of reason }
+{
+    row_of_reason(reason).role
+}

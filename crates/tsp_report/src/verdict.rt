@@ -1,0 +1,291 @@
+//! The verdict on a solution, the verdict on a bound, and the reasons against them. tsp_verdict
+//! finds them, tsp_report prints them, tsp_explain explains them.
+
+ghost use Rattle.std.specs.Prelude.{◌≡◌, None, Some, pos};
+ghost use Rattle.tsp_report.specs.ReasonRows.{row_of_reason};
+
+use crate::task::Role::{self, Branches, Instance, Potentials, Solution};
+
+/// Why a solution is refused, in the order in which reasons are judged.
+///
+/// Places, routes, fixed pairs, multipliers, combs, branches and leaves count from 1: places
+/// through all tours of the solution, one after the other, branches and leaves through their
+/// section.
+#[derive(Clone, Copy, Debug, PartialEq, Eq)]
+pub enum Reason {
+    /// The solution is not a file of TYPE TOUR.
+    NotASolution,
+    /// The instance has fewer than 3 nodes, or fewer than 2 where routes are judged.
+    TooFewNodes,
+    /// The instance is of TYPE TSP, and this is the first pair, the smaller node first, by rows,
+    /// whose two costs differ.
+    NotSymmetric { i: u32, j: u32 },
+    /// The solution has a DIMENSION other than that of the instance.
+    Dimension,
+    /// The solution does not hold exactly one tour.
+    TourCount,
+    /// The tour does not have as many nodes as the instance.
+    TourLength,
+    /// The instance does not list exactly one depot.
+    DepotCount,
+    /// The depot has a demand other than 0.
+    DepotDemand,
+    /// The instance lists a fixed pair.
+    FixedEdgesInRoutes,
+    /// The node at this place is the first one that is the depot.
+    DepotInRoute { place: u32 },
+    /// The node at this place is the first one larger than the number of nodes.
+    NodeOutOfRange { place: u32 },
+    /// The node at this place is the first one that is at an earlier place too.
+    RepeatedNode { place: u32 },
+    /// This fixed pair is the first one that the tour does not use: as neighbours in either
+    /// direction, and under TYPE ATSP from its first to its second node alone.
+    FixedEdgeUnused { index: u32 },
+    /// This node is the least one, the depot aside, that is in no route.
+    Unserved { node: u32 },
+    /// This route is the first one whose demands sum to more than the capacity.
+    Overload { route: u32 },
+    /// No other reason applies to the solution, and its length, which is this one, isn't the
+    /// length that is claimed.
+    LengthClaimed { length: i64 },
+    /// The certificate is not a file of TYPE POTENTIALS.
+    NotPotentials,
+    /// The certificate has a DIMENSION other than that of the instance.
+    PotentialsDimension,
+    /// The certificate has no potentials of nodes, which a TSP requires, or none of rows and
+    /// columns, which an ATSP requires.
+    PotentialsKind,
+    /// The instance is of TYPE TSP, and this multiplier is the first one whose pair isn't among the
+    /// fixed pairs of the instance, in either direction.
+    MultiplierNotFixed { index: u32 },
+    /// The instance is of TYPE TSP, and this multiplier is the first one whose pair an earlier one
+    /// has, in either direction.
+    MultiplierRepeated { index: u32 },
+    /// The instance is of TYPE ATSP, and this is the first pair of different nodes, by rows, whose
+    /// potentials of row and column sum to more than the cost at the scale.
+    DualInfeasible { i: u32, j: u32 },
+    /// The certificate is not a file of TYPE BRANCHES.
+    NotBranches,
+    /// The certificate by branching has a DIMENSION other than that of the instance.
+    BranchesDimension,
+    /// This family is the first one that isn't good: it has a node twice in a set, or is neither a
+    /// lone set nor a comb and has more than 63 sets, or sets that divide the nodes into more than
+    /// 14 parts, or into one.
+    BadComb { index: u32 },
+    /// This branch is the first one of the wrong kind: on a family where tours are judged, or where
+    /// routes are judged on something else than one of the certificate's families.
+    BadBranch { index: u32 },
+    /// This branch is the first one whose pair is decided above it or fixed: for a TSP in either
+    /// direction, for an ATSP the same arc.
+    BranchTwice { index: u32 },
+    /// This leaf is the first one that isn't good: it has an index past those of the nodes and the
+    /// families, a potential above 10^15 in size, a negative multiplier, or multipliers that sum to
+    /// more than 9 * 10^17, each times the most sets of its family that two nodes cross.
+    BadLeaf { index: u32 },
+    /// Routes are judged, and the number of nodes times one more than the capacity, which is
+    /// counted in loads, is more than 10^7.
+    TooManyLoads,
+    /// No other reason applies, a line of the instance has an unknown keyword, and the check asked
+    /// for this reason. The report names the first such keyword.
+    NotJudged,
+}
+
+/// The verdict on a solution: accepted with its length, or rejected with the first reason that
+/// applies.
+#[derive(Clone, Copy, Debug, PartialEq, Eq)]
+pub enum Verdict {
+    /// Accepted: the solution is a tour of this length. Where a certificate was judged too, no tour
+    /// of the instance is shorter than the bound.
+    Tour {
+        length: i64,
+        bound: Option<i128>,
+    },
+    /// Accepted: the solution is a plan of this many routes, of this length in all. No plan of the
+    /// instance has fewer than `least` routes. Where a certificate was judged too, no plan whose
+    /// routes each have a customer is shorter than the bound.
+    Routes {
+        length: i64,
+        routes: u32,
+        least: u64,
+        bound: Option<i128>,
+    },
+    /// Rejected, with the first reason that applies to the solution.
+    No(Reason),
+}
+
+impl Verdict {
+    ghost use Rattle.std.specs.Prelude.{◌≡◌};
+    ghost use Rattle.tsp_report.specs.Verdicts.{is_yes};
+
+    /// Whether the solution is accepted.
+    pub fn is_yes(self) -> bool
+        ensures { result ≡ is_yes self }
+    {
+        match self {
+            Verdict::Tour { .. } | Verdict::Routes { .. } => true,
+            Verdict::No(_) => false,
+        }
+    }
+}
+
+/// The verdict on an instance with a certificate, without a solution.
+#[derive(Clone, Copy, Debug, PartialEq, Eq)]
+pub enum BoundVerdict {
+    /// Accepted: no tour of the instance is shorter than this bound.
+    Bound(i128),
+    /// Accepted: the instance has no tour.
+    NoSolution,
+    /// Rejected, with the first reason that applies to the instance or the certificate.
+    No(Reason),
+}
+
+impl BoundVerdict {
+    ghost use Rattle.std.specs.Prelude.{◌≡◌};
+    ghost use Rattle.tsp_report.specs.Verdicts.{is_bound_yes};
+
+    /// Whether there is no reason against the instance and the certificate.
+    pub fn is_yes(self) -> bool
+        ensures { result ≡ is_bound_yes self }
+    {
+        match self {
+            BoundVerdict::Bound(_) | BoundVerdict::NoSolution => true,
+            BoundVerdict::No(_) => false,
+        }
+    }
+}
+
+// ---- the basis of all solutions of an instance, before any is read
+
+/// What is known of all solutions of an instance, before any is read.
+#[derive(Clone, Copy, Debug, PartialEq, Eq)]
+pub enum Basis {
+    /// Tours are judged. No tour of the instance is shorter than the bound, where there is one.
+    Tours { bound: Option<i128> },
+    /// The certificate shows that the instance has no tour.
+    NoSolution,
+    /// Routes are judged. No plan of the instance has fewer than `least` routes, and none whose
+    /// routes each have a customer is shorter than the bound, where there is one.
+    Routes { least: u64, bound: Option<i128> },
+    /// No solution is accepted, with the first reason that applies to the instance or the
+    /// certificate.
+    No(Reason),
+}
+
+impl Basis {
+    ghost use Rattle.std.specs.Prelude.{◌≡◌};
+    ghost use Rattle.tsp_report.specs.Verdicts.{is_clear};
+
+    /// Whether solutions are judged one by one: no reason applies to the instance or the
+    /// certificate.
+    pub fn is_clear(self) -> bool
+        ensures { result ≡ is_clear self }
+    {
+        match self {
+            Basis::Tours { .. } | Basis::NoSolution | Basis::Routes { .. } => true,
+            Basis::No(_) => false,
+        }
+    }
+}
+
+// ---- the table of reasons, a row each: name, rank, file and numbers
+
+/// The row of a reason: its name, its rank, the file that it is about, and its numbers.
+#[derive(Clone, Copy, Debug)]
+pub struct ReasonRow {
+    /// Its name in a report.
+    pub name: &'static str,
+    /// Its place in the order in which reasons are judged, from 1. That is its number for C.
+    pub rank: u32,
+    /// The file that it is about.
+    pub role: Role,
+    /// Its numbers, of which it has two at most.
+    pub numbers: (Option<i64>, Option<i64>),
+}
+
+/// The row of a reason.
+pub fn row_of_reason(reason: Reason) -> ReasonRow
+    ensures name { result.name.now ≡ (row_of_reason reason).name }
+    ensures rank { result.rank ≡ (row_of_reason reason).rank }
+    ensures role { result.role ≡ (row_of_reason reason).role }
+    ensures numbers { result.numbers ≡ (row_of_reason reason).numbers }
+{
+    match reason {
+        Reason::NotASolution => row("NotASolution", 1, Solution, NONE),
+        Reason::TooFewNodes => row("TooFewNodes", 2, Instance, NONE),
+        Reason::NotSymmetric { i, j } => row("NotSymmetric", 3, Instance, two(i, j)),
+        Reason::Dimension => row("Dimension", 4, Solution, NONE),
+        Reason::TourCount => row("TourCount", 5, Solution, NONE),
+        Reason::TourLength => row("TourLength", 6, Solution, NONE),
+        Reason::DepotCount => row("DepotCount", 7, Instance, NONE),
+        Reason::DepotDemand => row("DepotDemand", 8, Instance, NONE),
+        Reason::FixedEdgesInRoutes => row("FixedEdgesInRoutes", 9, Instance, NONE),
+        Reason::DepotInRoute { place } => row("DepotInRoute", 10, Solution, one(place)),
+        Reason::NodeOutOfRange { place } => row("NodeOutOfRange", 11, Solution, one(place)),
+        Reason::RepeatedNode { place } => row("RepeatedNode", 12, Solution, one(place)),
+        Reason::FixedEdgeUnused { index } => row("FixedEdgeUnused", 13, Solution, one(index)),
+        Reason::Unserved { node } => row("Unserved", 14, Solution, one(node)),
+        Reason::Overload { route } => row("Overload", 15, Solution, one(route)),
+        Reason::LengthClaimed { length } => row(
+            "LengthClaimed",
+            16,
+            Solution,
+            (Some(length), None),
+        ),
+        Reason::NotPotentials => row("NotPotentials", 17, Potentials, NONE),
+        Reason::PotentialsDimension => row("PotentialsDimension", 18, Potentials, NONE),
+        Reason::PotentialsKind => row("PotentialsKind", 19, Potentials, NONE),
+        Reason::MultiplierNotFixed { index } => row(
+            "MultiplierNotFixed",
+            20,
+            Potentials,
+            one(index),
+        ),
+        Reason::MultiplierRepeated { index } => row(
+            "MultiplierRepeated",
+            21,
+            Potentials,
+            one(index),
+        ),
+        Reason::DualInfeasible { i, j } => row("DualInfeasible", 22, Potentials, two(i, j)),
+        Reason::NotBranches => row("NotBranches", 23, Branches, NONE),
+        Reason::BranchesDimension => row("BranchesDimension", 24, Branches, NONE),
+        Reason::BadComb { index } => row("BadComb", 25, Branches, one(index)),
+        Reason::BadBranch { index } => row("BadBranch", 26, Branches, one(index)),
+        Reason::BranchTwice { index } => row("BranchTwice", 27, Branches, one(index)),
+        Reason::BadLeaf { index } => row("BadLeaf", 28, Branches, one(index)),
+        Reason::TooManyLoads => row("TooManyLoads", 29, Branches, NONE),
+        Reason::NotJudged => row("NotJudged", 30, Instance, NONE),
+    }
+}
+
+/// The numbers of a reason that has none.
+const NONE: (Option<i64>, Option<i64>) = (None, None);
+
+/// The numbers of a reason that has one.
+fn one(number: u32) -> (Option<i64>, Option<i64>)
+    ensures { result ≡ (Some (pos number), None) }
+{
+    (Some(i64::from(number)), None)
+}
+
+/// The numbers of a reason that has two.
+fn two(first: u32, second: u32) -> (Option<i64>, Option<i64>)
+    ensures { result ≡ (Some (pos first), Some (pos second)) }
+{
+    (Some(i64::from(first)), Some(i64::from(second)))
+}
+
+/// A row of these.
+fn row(name: &'static str, rank: u32, role: Role, numbers: (Option<i64>, Option<i64>)) -> ReasonRow
+    ensures name { result.name.now ≡ name.now }
+    ensures rank { result.rank ≡ rank }
+    ensures role { result.role ≡ role }
+    ensures numbers { result.numbers ≡ numbers }
+{
+    ReasonRow {
+        name,
+        rank,
+        role,
+        numbers,
+    }
+}

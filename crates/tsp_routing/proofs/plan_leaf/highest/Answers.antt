@@ -1,0 +1,30 @@
+-- The goals of `highest` in src/plan_leaf.rt, which counts how often plans of a case cross a set at most: its loop and
+-- what it ensures.
+use Rattle.std.proofs.Common.{◌∙◌, ℕ, List, [], ◌∷◌, take, get_or, false, sym, ap, arith}
+use Rattle.std.proofs.lemmas.List.{take_more}
+use Rattle.tsp_cases.specs.declared.open_case.Decision.{Decision}
+use Rattle.tsp_cases.specs.states.Decided.{stack_of}
+use Rattle.tsp_cases.proofs.NextCases.{stack_more}
+use Rattle.tsp_routing.specs.PlanBounds.{high_of}
+use Rattle.tsp_routing.proofs.TakenLimits.{taken_all}
+use Rattle.tsp_routing.proofs.plan_leaf.highest.Goals as goal
+
+-- plan: the number is lowered by the limits so far, as the definition lowers it, from the last one on
+abbrev zero_limit : Decision
+zero_limit = record { pair = (0, 0); taken = false }
+
+pub limits-preserved : goal.limits-preserved
+limits-preserved c =
+    let all : List Decision = c.args.decisions.now in
+    let index : ℕ = c.limits.limit-index in
+    record {
+      value = c.lowered-high.ensures.value ∙ ap (λ z. high_of c.args.place (get_or all index zero_limit ∷ []) z) c.limits.invariant.value
+          ∙ ap (λ (xs : List Decision). high_of c.args.place xs c.args.own)
+          (sym (ap stack_of (take_more all index zero_limit c.limits-test.true)
+          ∙ stack_more (take index all) (get_or all index zero_limit)));
+      most = omega (arith, c.lowered-high.ensures.most, c.limits.invariant.most);
+    }
+
+pub returns-clause-value : goal.returns-clause-value
+returns-clause-value c =
+    c.limits.invariant.value ∙ ap (λ (xs : List Decision). high_of c.args.place (stack_of xs) c.args.own) (taken_all c.args.decisions.now c.limits.limit-index (omega (arith, c.limits-test.false)))

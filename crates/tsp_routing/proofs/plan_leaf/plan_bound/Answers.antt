@@ -1,0 +1,35 @@
+-- The goals of `plan_bound` in src/plan_leaf.rt, which returns the bound of a leaf by the least weight of a route: what
+-- it ensures.
+use Rattle.std.proofs.Common.{◌≡◌, ◌∙◌, ◌-◌, ℕ, ℤ, ap, ap₂, subst₂, arith, rules, to_z, of_z, FitsSigned}
+use Rattle.std.specs.Prelude.{pos, ◌+ℤ◌, ◌-ℤ◌, ◌*ℤ◌}
+use Rattle.std.specs.Int.{w128}
+use Rattle.std.proofs.lemmas.Int.{ints, to_z-of_z}
+use Rattle.tsp_theory.specs.CertificateNumbers.{IsLeastBound}
+use Rattle.tsp_theory.proofs.Sizes.{same_scale}
+use Rattle.tsp_routing.specs.PlanBounds.{least_product, surplus}
+use Rattle.tsp_routing.proofs.RouteProducts.{surplus_is}
+use Rattle.tsp_routing.proofs.plan_leaf.plan_bound.Goals as goal
+
+-- plan: no sum overflows, so the quotient that is rounded up is the least bound
+pub returns-clause-bound : goal.returns-clause-bound
+returns-clause-bound c = λ problem potentials families multipliers case nodes fewest back own. record {
+  fewest = c.args.sum.fewest;
+  fewest_is = fewest;
+  bound_is =
+      let found = c.rounded_up.result in
+      let routes = c.of_routes-routes.result in
+      let most : c.args.sum.nodes - 1 ≡ problem.nodes - 1 = omega (arith, nodes) in
+      let left : routes ≡ least_product c.args.sum.fewest (problem.nodes - 1) (surplus problem potentials c.args.each) =
+      c.of_routes-routes.ensures.value
+      ∙ ap₂ (λ (k : ℕ) (z : ℤ). least_product c.args.sum.fewest k z) most
+      (surplus_is c.args.each c.args.sum.own c.from.result c.requires c.args.sum.own_size c.from.ensures
+      ∙ ap (λ z. c.args.each -ℤ (pos 2 *ℤ z)) own) in
+      let fits : FitsSigned w128 found = search rules in
+      let size = c.of_routes-routes.ensures.size in
+      let back_size = c.args.sum.back_size in
+      let total : to_z w128 (of_z w128 (to_z w128 (of_z w128 c.args.sum.back) +ℤ to_z w128 (of_z w128 routes))) ≡ c.args.sum.back +ℤ routes =
+      omega (arith, ints, size.0, size.1, back_size.0, back_size.1) in
+      rw (to_z-of_z w128 found fits)
+      (subst₂ (λ (s z : ℤ). IsLeastBound s z found) (same_scale c.args.sum.scale c.args.sum.scaled)
+      (total ∙ ap₂ (λ a b. a +ℤ b) back left) c.rounded_up.ensures.value);
+}

@@ -1,0 +1,14 @@
+-- The goals of `times_given_back` in src/plan_leaf.rt, which multiplies a number by a count: what it ensures.
+use Rattle.std.proofs.Common.{◌∙◌, rules, FitsSigned}
+use Rattle.std.specs.Int.{w64}
+use Rattle.std.proofs.lemmas.Int.{to_z-of_z}
+use Rattle.tsp_routing.proofs.SetProducts.{set_product}
+use Rattle.tsp_routing.proofs.plan_leaf.times_given_back.Goals as goal
+
+-- plan: the size of a product is the product of the sizes
+pub returns-clause-size : goal.returns-clause-size
+returns-clause-size c =
+    let fits : FitsSigned w64 c.args.number = search rules in
+    let is = set_product c.args.count c.args.number c.from.result c.from-2.result c.requires fits c.from.ensures
+    (c.from-2.ensures ∙ to_z-of_z w64 c.args.number fits) in
+    rw is.0 is.1

@@ -1,0 +1,19 @@
+-- The loop of `judge_cuts` in src/verdict.rt.
+use Rattle.std.proofs.Common.{◌≡◌, ◌<◌, ◌+◌, ℕ, length}
+use Rattle.std.specs.List.{All}
+use Rattle.tsp_cases.specs.FamilySets.{families_in}
+use Rattle.tsp_cases.specs.states.Marked.{AreUnmarked}
+use Rattle.tsp_routing.specs.states.JudgedCuts.{IsFewCrossed}
+use Rattle.tsp_routing.proofs.FirstBadSet.{HaveCuts}
+use Rattle.tsp_routing.proofs.verdict.judge_cuts.Given as goal
+
+-- each family before this one is a set of customers, with how often plans cross it; no node has the mark of a later
+-- family
+abbrev pub invariant-families : goal.invariant-families
+invariant-families l = record {
+  places : length l.marks.items ≡ l.demands.nodes + 1;
+  fresh : (mark : ℕ) → l.number < mark → AreUnmarked l.marks.items mark;
+  many : length l.crossed.items ≡ l.number;
+  have : HaveCuts l.demands (families_in l.lent) l.crossed.items;
+  few : All IsFewCrossed l.crossed.items;
+}

@@ -1,0 +1,20 @@
+-- The goals of `judge_numbers` in src/verdict.rt, which says whether the numbers of a leaf are good, and copies
+-- them: what it ensures.
+use Rattle.std.proofs.Common.{false, refl, length, drop}
+use Rattle.std.specs.Prelude.{pos, neg_ℤ}
+use Rattle.std.proofs.lemmas.Bool.{both_ways}
+use Rattle.std.proofs.lemmas.List.Elements.{All-from_recursion}
+use Rattle.tsp_format.specs.Ranges.{IsFromTo}
+use Rattle.tsp_routing.specs.GoodLeaves.{most_of_multipliers}
+use Rattle.tsp_routing.proofs.MultiplierSizes.{each_small}
+use Rattle.tsp_routing.proofs.verdict.judge_numbers.Goals as goal
+
+-- plan: by the potentials in their range, the multipliers in theirs, and the sum of the sizes of these within its limit
+pub returns-then-not-copy_within-2-clause-good : goal.returns-then-not-copy_within-2-clause-good
+returns-then-not-copy_within-2-clause-good c = (
+  λ none. absurd (both_ways false refl none),
+  λ good. c.if-not-copy_within-2.ensures.inside.1
+      (rw c.split_at.ensures.back (All-from_recursion (IsFromTo (neg_ℤ (pos most_of_multipliers)) (pos most_of_multipliers))
+      (drop (length c.args.potentials.now) c.args.numbers.now)
+      (each_small most_of_multipliers (drop (length c.args.potentials.now) c.args.numbers.now) good.sum))),
+)

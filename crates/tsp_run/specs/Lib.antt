@@ -1,8 +1,0 @@
--- The files of definitions of this crate. Crates above may import them.
-pub mod states
-pub mod RunEnd
-pub mod ComparisonRun
-pub mod ProgramRun
-pub mod Printing
-pub mod Telling
-pub mod Waiting

@@ -1,5 +1,0 @@
--- The files of definitions that look into structs of the code.
-pub mod Parts
-pub mod HeldParts
-pub mod CutLine
-pub mod PartRun

@@ -1,0 +1,16 @@
+-- The goals of `basis_of` in src/basis.rt, which makes the basis of a comparison from a bound: what it
+-- ensures.
+use Rattle.std.proofs.Common.{rules, sym}
+use Rattle.tsp_verdict.proofs.ByType.{routes_for, other_basis}
+use Rattle.tsp_verdict.proofs.basis.basis_of.Goals as goal
+
+-- plan: by the kind of the instance and what was found of the certificate
+pub returns-in-Cvrp : goal.returns-in-Cvrp
+returns-in-Cvrp c = λ by certificate found.
+    routes_for by c.args.instance.now certificate c.routes_basis_of.result (sym c.in-Cvrp.ensures.value)
+    (c.routes_basis_of.ensures by certificate found)
+
+pub returns-in_default : goal.returns-in_default
+returns-in_default c = λ by certificate found.
+    other_basis c.args.instance.now.kind by c.args.instance.now certificate c.tours_basis_of.result (search rules)
+    (c.tours_basis_of.ensures by c.args.instance.now certificate found)

@@ -1,0 +1,48 @@
+-- The goals of `first_overload` in src/routes.rt, which finds the first route above the capacity: its loop and what its
+-- calls require.
+use Rattle.std.proofs.Common.{◌≡◌, ℕ, List, length, take, refl, sym, ap, ◌∙◌, arith, rules}
+use Rattle.std.specs.Prelude.{FitsSigned, ◌≤ℤ◌}
+use Rattle.std.specs.Int.{w64}
+use Rattle.std.proofs.lemmas.Int.{to_z-of_z}
+use Rattle.tsp_format.specs.Nodes.{IsNode}
+use Rattle.tsp_verdict.specs.states.Marks.{StandsAfter}
+use Rattle.tsp_verdict.specs.Plan.{load_of}
+use Rattle.tsp_verdict.specs.states.RouteLists.{nodes_in}
+use Rattle.tsp_verdict.proofs.Pieces.{stands_here, all_here}
+use Rattle.tsp_verdict.proofs.RouteLoads.{carried_more, not_over}
+use Rattle.tsp_verdict.proofs.routes.first_overload.Goals as goal
+
+-- plan: route by route: the first whose load is too much, or none so far (`not_over`)
+pub load-requires-clause-range : goal.load-requires-clause-range
+load-requires-clause-range c =
+    let before : ℕ = length (nodes_in (take c.routes.route-index c.args.routes.now)) in
+    let nodes : List ℕ = c.as_slice-nodes.result.now in
+    let stands : StandsAfter before (nodes_in c.args.routes.now) nodes =
+    stands_here c.args.routes.now c.routes.route-index before c.route-item.result nodes c.routes-test.true c.route-item.is refl
+    c.as_slice-nodes.ensures.value in
+    all_here (IsNode (length c.args.demands.now)) (nodes_in c.args.routes.now) nodes before stands c.requires.range
+
+pub load-requires-clause-size : goal.load-requires-clause-size
+load-requires-clause-size c =
+    let before : ℕ = length (nodes_in (take c.routes.route-index c.args.routes.now)) in
+    let nodes : List ℕ = c.as_slice-nodes.result.now in
+    let stands : StandsAfter before (nodes_in c.args.routes.now) nodes =
+    stands_here c.args.routes.now c.routes.route-index before c.route-item.result nodes c.routes-test.true c.route-item.is refl
+    c.as_slice-nodes.ensures.value in
+    omega (arith, stands.inside, c.requires.size)
+
+pub routes-preserved : goal.routes-preserved
+routes-preserved c =
+    let capacity_fits : FitsSigned w64 c.args.capacity = search rules in
+    let load_fits : FitsSigned w64 c.load.result = search rules in
+    let below = simp to_z-of_z at c.if-load-capacity.false in
+    let value : load_of c.args.demands.now c.route-item.result.items ≡ c.load.result =
+    ap (load_of c.args.demands.now) (sym c.as_slice-nodes.ensures.value) ∙ sym c.load.ensures in
+    let carries : load_of c.args.demands.now c.route-item.result.items ≤ℤ c.args.capacity =
+    rw value (not_over c.load.result c.args.capacity below) in
+    let before = simp to_z-of_z at c.routes.invariant.so_far in
+    record {
+      counted = omega (arith, c.routes.invariant.counted);
+      so_far = simp to_z-of_z (carried_more c.args.demands.now c.args.capacity c.args.routes.now c.routes.route-index
+          c.route-item.result c.routes-test.true c.route-item.is carries before);
+    }

@@ -1,0 +1,16 @@
+-- The loop of `plan_length` in src/routes.rt.
+use Rattle.std.proofs.Common.{◌≡◌, ◌+◌, length, take, drop, map}
+use Rattle.std.specs.Prelude.{◌+ℤ◌}
+use Rattle.tsp_file.specs.Cost.{cost}
+use Rattle.tsp_verdict.specs.Plan.{plan_length}
+use Rattle.tsp_verdict.specs.states.RouteLists.{nodes_in}
+use Rattle.tsp_verdict.specs.states.Sums.{IsSumOf}
+use Rattle.tsp_verdict.proofs.routes.plan_length.Given as goal
+
+-- the length so far and that of the routes left are the length of the plan
+abbrev pub invariant-routes : goal.invariant-routes
+invariant-routes l = record {
+  size : IsSumOf (length (nodes_in (take l.route-index l.routes)) + l.route-index) l.length;
+  so_far : (l.length +ℤ plan_length (cost l.inst) l.depot (map (λ r. r.items) (drop l.route-index l.routes))) ≡ plan_length
+      (cost l.inst) l.depot (map (λ r. r.items) l.routes);
+}

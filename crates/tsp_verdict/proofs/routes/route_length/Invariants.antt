@@ -1,0 +1,18 @@
+-- The loop of `route_length` in src/routes.rt.
+use Rattle.std.proofs.Common.{◌≡◌, drop}
+use Rattle.std.specs.Prelude.{◌+ℤ◌}
+use Rattle.tsp_format.specs.Nodes.{IsNode}
+use Rattle.tsp_file.specs.Cost.{cost}
+use Rattle.tsp_file.specs.Fields.{nodes_of}
+use Rattle.tsp_verdict.specs.states.Sums.{IsSumOf}
+use Rattle.tsp_verdict.proofs.RouteLengths.{length_to}
+use Rattle.tsp_verdict.proofs.routes.route_length.Given as goal
+
+-- the length so far, and that from `from` through the nodes left back to the depot, are the length of the route
+abbrev pub invariant-nodes : goal.invariant-nodes
+invariant-nodes l = record {
+  from : IsNode (nodes_of l.inst) l.from;
+  size : IsSumOf l.node-index l.length;
+  so_far : (l.length +ℤ length_to (cost l.inst) l.depot l.from (drop l.node-index l.route)) ≡ length_to (cost l.inst) l.depot
+      l.depot l.route;
+}

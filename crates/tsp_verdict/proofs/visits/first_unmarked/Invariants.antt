@@ -1,8 +1,0 @@
--- The loop of `first_unmarked` in src/visits.rt.
-use Rattle.std.proofs.Common.{◌≡◌, ◌≢◌, ◌≤◌, ◌<◌, ℕ, true, false}
-use Rattle.std.specs.Prelude.{slice_index_or}
-use Rattle.tsp_verdict.proofs.visits.first_unmarked.Given as goal
-
--- each number from 1 to the one before this is marked, or is the depot
-abbrev pub invariant-nodes : goal.invariant-nodes
-invariant-nodes l = (other : ℕ) → 1 ≤ other → other < l.node → other ≢ l.depot → slice_index_or l.seen.items other false ≡ true

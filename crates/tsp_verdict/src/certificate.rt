@@ -1,0 +1,228 @@
+//! The bound that a certificate gives tours, by its kind, and which instances it can be for. For
+//! `src/solution_verdict.rt` and `src/basis.rt`.
+
+ghost use Rattle.std.specs.Prelude.{◌≡◌, ◌⊎◌, ◌≤◌, Some, IfOk, IsOk, IsErr, true, MatchResult};
+ghost use Rattle.tsp_format.specs.declared.kinds.Kind.TheVariants as kinds;
+ghost use Rattle.tsp_format.specs.states.TreeSteps.{steps_of};
+ghost use Rattle.tsp_file.specs.Fields.{nodes_of};
+ghost use Rattle.tsp_file.specs.Rules.{is_branches_file};
+ghost use Rattle.tsp_file.specs.Typed.{HoldsCases};
+ghost use Rattle.tsp_file.specs.states.Drafts.{combs_of};
+ghost use Rattle.tsp_cost.specs.states.Views.{HasCosts};
+ghost use Rattle.tsp_cases.specs.Decisions.{take_pairs};
+ghost use Rattle.tsp_verdict.specs.BranchesCertificate.{each_once};
+ghost use Rattle.tsp_verdict.specs.Certified.{is_bounded, FindsBound, NoneWithoutMemory, StandsAgainstCertificate};
+ghost use Rattle.tsp_verdict.specs.Reasons.{IsFirstReason};
+ghost use Rattle.tsp_verdict.specs.states.PairSets.{key_of};
+ghost use Rattle.tsp_verdict.specs.states.TourCosts.{AreTourCosts, IsSymmetricTsp};
+ghost use Rattle.tsp_report.specs.declared.task.Certificate.TheVariants as certificates;
+
+use crate::potentials::{bound_by_duals, bound_by_nodes};
+use crate::tour::{TourCosts, is_directed};
+use std::alloc::Global;
+use std::collections::BTreeSet;
+use tsp_branch::{
+    BranchVerdict, CaseTree, Decision, case_trees_bound_cycles, judge_branches, numbers_are_unique,
+};
+use tsp_cost::{Costs, Instance, View};
+use tsp_file::{File, TreeData};
+use tsp_format::Kind;
+use tsp_io::{Refused, insert, push};
+use tsp_report::{BoundVerdict, Certificate, Reason};
+
+/// Whether tours or routes of instances of this TYPE have a bound by a certificate.
+pub fn is_bounded(by: Certificate, kind: Kind) -> bool
+    ensures { result ≡ is_bounded by (Some kind) }
+{
+    match (by, kind) {
+        (Certificate::Potentials | Certificate::Branches, Kind::Tsp | Kind::Atsp) => true,
+        (Certificate::Branches, Kind::Cvrp) => true,
+        (Certificate::Potentials, Kind::Cvrp) => false,
+        (_, Kind::Tour | Kind::Potentials | Kind::Branches) => false,
+    }
+}
+
+/// The bound that a certificate gives tours, or that the instance has no tour; or the first reason
+/// against it. Of duals no memory is taken.
+///
+/// # Errors
+///
+/// Out of memory, and then no reason applies to the certificate that is found without it.
+pub(crate) fn bound_by(
+    alloc: Global,
+    by: Certificate,
+    instance: &Instance,
+    costs: TourCosts<'_>,
+    certificate: &File,
+) -> Result<BoundVerdict, Refused>
+    requires some { 3 ≤ nodes_of instance.now }
+    requires kind { (instance.now.kind ≡ Some kinds.Tsp) ⊎ (instance.now.kind ≡ Some kinds.Atsp) }
+    requires costs { AreTourCosts instance.now costs }
+    requires even { IsSymmetricTsp instance.now }
+    ensures found { IfOk result (λ found. FindsBound by instance.now certificate.now found) }
+    ensures refused { IsErr result → NoneWithoutMemory by instance.now certificate.now }
+    ensures memory { by ≡ certificates.Potentials
+        → instance.now.kind ≡ Some kinds.Atsp → IsOk result }
+{
+    match (by, costs) {
+        (Certificate::Potentials, TourCosts::Undirected(view)) => {
+            bound_by_nodes(alloc, instance, view, certificate)
+        }
+        (Certificate::Potentials, TourCosts::Directed(view)) => {
+            Ok(bound_by_duals(instance, view, certificate))
+        }
+        (Certificate::Branches, _) => bound_of_tree(alloc, instance, certificate),
+    }
+}
+
+// ---- the bound that a tree of cases gives tours, or the first reason against it
+
+/// The bound that a certificate by branching gives an instance of TYPE TSP or ATSP, or that it has
+/// no tour; or the first reason against the certificate.
+///
+/// # Errors
+///
+/// Out of memory, and then neither `NotBranches` nor `BranchesDimension` applies to the
+/// certificate.
+fn bound_of_tree(
+    alloc: Global,
+    instance: &Instance,
+    branches: &File,
+) -> Result<BoundVerdict, Refused>
+    requires kind { (instance.now.kind ≡ Some kinds.Tsp) ⊎ (instance.now.kind ≡ Some kinds.Atsp) }
+    requires some { 3 ≤ nodes_of instance.now }
+    requires even { IsSymmetricTsp instance.now }
+    ensures found { IfOk result
+        (λ found. FindsBound certificates.Branches instance.now branches.now found) }
+    ensures refused { IsErr result
+        → NoneWithoutMemory certificates.Branches instance.now branches.now }
+{
+    let tree = match tree_of(instance, branches) {
+        Ok(tree) => tree,
+        Err(reason) => return Ok(BoundVerdict::No(reason)),
+    };
+    // A view has found once and for all where the costs are.
+    match instance.view() {
+        View::Plane(points) => match points.euclidean() {
+            Some(euclidean) => judge_tree(alloc, instance, branches, &tree, &euclidean),
+            None => judge_tree(alloc, instance, branches, &tree, &points),
+        },
+        View::Space(points) => judge_tree(alloc, instance, branches, &tree, &points),
+        View::Triangle(triangle) => judge_tree(alloc, instance, branches, &tree, &triangle),
+        View::Matrix(matrix) => judge_tree(alloc, instance, branches, &tree, &matrix),
+    }
+}
+
+/// The tree that a certificate holds, or the first reason that needs no look at it.
+pub(crate) fn tree_of<'a>(instance: &Instance, branches: &'a File) -> Result<TreeData<'a>, Reason>
+    ensures { MatchResult result (λ tree. (is_branches_file branches.now.kind ≡ true)
+        × (nodes_of branches.now ≡ nodes_of instance.now)
+        × HoldsCases branches.now tree.scale tree.load_unit (combs_of tree.combs.now)
+        (steps_of tree.steps.now))
+        (λ reason. IsFirstReason
+        (StandsAgainstCertificate certificates.Branches instance.now branches.now) reason) }
+{
+    let Some(tree) = branches.as_tree() else {
+        return Err(Reason::NotBranches);
+    };
+    if branches.dimension() != Some(instance.count()) {
+        return Err(Reason::BranchesDimension);
+    }
+    Ok(tree)
+}
+
+/// The bound over the costs of a view, or the first reason against the families, the branches or
+/// the leaves.
+///
+/// # Errors
+///
+/// Out of memory.
+fn judge_tree<C: Costs>(
+    alloc: Global,
+    instance: &Instance,
+    branches: &File,
+    tree: &TreeData<'_>,
+    costs: &C,
+) -> Result<BoundVerdict, Refused>
+    requires keeps { HasCosts instance.now (C.nodes costs.now) (C.at costs.now) }
+    requires kind { (instance.now.kind ≡ Some kinds.Tsp) ⊎ (instance.now.kind ≡ Some kinds.Atsp) }
+    requires some { 3 ≤ nodes_of instance.now }
+    requires even { IsSymmetricTsp instance.now }
+    requires sort { is_branches_file branches.now.kind ≡ true }
+    requires count { nodes_of branches.now ≡ nodes_of instance.now }
+    requires held { HoldsCases branches.now tree.now.scale tree.now.load_unit
+        (combs_of tree.now.combs.now) (steps_of tree.now.steps.now) }
+    ensures { IfOk result
+        (λ found. FindsBound certificates.Branches instance.now branches.now found) }
+{
+    case_trees_bound_cycles();
+    numbers_are_unique();
+    let directed = is_directed(instance.kind());
+    let given = taken_once(alloc, directed, instance.fixed())?;
+    let cases = CaseTree {
+        costs,
+        directed,
+        scale: tree.scale,
+        families: tree.combs,
+        given: &given,
+        steps: tree.steps,
+    };
+    match judge_branches(alloc, &cases)? {
+        BranchVerdict::Bound(Some(bound)) => Ok(BoundVerdict::Bound(bound)),
+        BranchVerdict::Bound(None) => Ok(BoundVerdict::NoSolution),
+        BranchVerdict::BadFamily(index) => Ok(BoundVerdict::No(Reason::BadComb {
+            index: index as u32,
+        })),
+        BranchVerdict::BadBranch(index) => Ok(BoundVerdict::No(Reason::BadBranch {
+            index: index as u32,
+        })),
+        BranchVerdict::BranchTwice(index) => Ok(BoundVerdict::No(Reason::BranchTwice {
+            index: index as u32,
+        })),
+        BranchVerdict::BadLeaf(index) => Ok(BoundVerdict::No(Reason::BadLeaf {
+            index: index as u32,
+        })),
+    }
+}
+
+// ---- the fixed pairs of an instance as decisions of all cases, each once
+
+/// Pairs as decisions that take them, each once: without those that are an earlier one; where pairs
+/// have no direction, in either.
+///
+/// # Errors
+///
+/// Out of memory for the pairs.
+fn taken_once(alloc: Global, directed: bool, pairs: &[(u32, u32)]) -> Result<Vec<Decision>, Refused>
+    ensures { IfOk result (λ taken. taken.items ≡ take_pairs (each_once directed pairs.now)) }
+{
+    let mut seen = BTreeSet::new(alloc);
+    let mut taken = Vec::new(alloc);
+    'pairs: for pair in pairs {
+        let is_new = insert(&mut seen, key_of(directed, *pair))?;
+        if is_new {
+            push(
+                &mut taken,
+                Decision {
+                    pair: *pair,
+                    taken: true,
+                },
+            )?;
+        }
+    }
+    Ok(taken)
+}
+
+// ---- a pair of nodes as the key of a set of pairs
+
+/// A pair as a set of pairs has it: as it is, or with its smaller node first where pairs have no
+/// direction.
+pub(crate) fn key_of(directed: bool, pair: (u32, u32)) -> (u32, u32)
+    ensures { result ≡ key_of directed pair }
+{
+    if directed || pair.0 <= pair.1 {
+        pair
+    } else {
+        (pair.1, pair.0)
+    }
+}
