@@ -23,8 +23,8 @@ PATHS = {
     "bindings/python/examples/": "PREFIX/share/yokecairn/python/",
     "docs/tsp.1": "tsp",  # (for man)
 }
-SOURCES = ("CONTRIBUTING.md", "docs/ARCHITECTURE.md", "docs/BENCH.md", "docs/DECISIONS.md", "docs/TESTING.md", "docs/forms.md",
-           "docs/glossary.md", "docs/proof.md", "docs/rattle.md", "docs/trust.md")
+SOURCES = ("CONTRIBUTING.md", "docs/ARCHITECTURE.md", "docs/BENCH.md", "docs/DECISIONS.md", "docs/TESTING.md", "docs/glossary.md",
+           "docs/proof.md", "docs/rattle.md", "docs/trust.md")
 NOTE = "Commands and paths of this page are those of the sources at the commit of BUILT-FROM, which aren't in a release."
 
 MARKED = re.compile(r"<!-- (checkout|%s) -->(.*?)<!-- end -->" % "|".join(PARTS), re.S)
