@@ -6,6 +6,7 @@ What differs between them is marked in the pages, in comments of Markdown:
     <!-- page --> .. <!-- end -->        only where the release has the page for a browser
     <!-- release .. -->                  only in a release
 
+What scripts/walk prints is between two comments that begin with `printed`.
 Commands call `tsp` in a release and `./tsp` in the repository. PATHS has the files that are elsewhere there. A page
 of SOURCES is about the repository's sources, and says so in a release. scripts/release imports it; tests/repository/released
 sees how the pages read there.
@@ -28,6 +29,7 @@ SOURCES = ("CONTRIBUTING.md", "docs/ARCHITECTURE.md", "docs/BENCH.md", "docs/DEC
 NOTE = "Commands and paths of this page are those of the sources at the commit of BUILT-FROM, which aren't in a release."
 
 MARKED = re.compile(r"<!-- (checkout|%s) -->(.*?)<!-- end -->" % "|".join(PARTS), re.S)
+PRINTED = re.compile(r"<!-- printed\b.*? -->\n*")
 RELEASE = re.compile(r"<!-- release\s(.*?)\s*-->", re.S)
 # Links to files and parts of pages that only the repository has.
 BEYOND = re.compile(r"\[([^\]\n]+)\]\((?:\.\./)*(?:bench|bindings|crates|scripts|tests)/(?![^)]*README\.md)[^)]*\)"
@@ -39,7 +41,7 @@ def of_release(name: str, text: str, without: Iterable[str] = ()) -> str:
     """A page of the repository as a release has it, without these parts."""
     dropped = {"checkout", *without}
     text = MARKED.sub(lambda found: "" if found[1] in dropped else found[2], text)
-    text = RELEASE.sub(lambda found: found[1], text)
+    text = PRINTED.sub("", RELEASE.sub(lambda found: found[1], text))
     if left := re.search(r"<!--.*", text):
         raise ValueError(f"{name}: this mark has no other end: {left[0]}")
     text = BEYOND.sub(lambda found: found[1] or found[2], text)

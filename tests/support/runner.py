@@ -2,11 +2,13 @@
 from __future__ import annotations
 
 import argparse
+import io
 import json
 import os
 import re
 import sys
-from collections.abc import Callable
+import unittest
+from collections.abc import Callable, Iterator
 from pathlib import Path
 from typing import NoReturn
 
@@ -62,6 +64,15 @@ def counts_of_tap(said: str) -> Counted | None:
     return Counted(*(int(found.get(word, 0)) for word in ("pass", "fail", "skipped"))) if "fail" in found else None
 
 
+def tests_in(suite: unittest.TestSuite) -> Iterator[unittest.TestCase]:
+    """The tests of a suite and of those in it."""
+    for test in suite:
+        if isinstance(test, unittest.TestSuite):
+            yield from tests_in(test)
+        else:
+            yield test
+
+
 class Counts:
     """How many cases have passed, failed and been skipped. Where the variable CHECK_RECORD names a file, each case is
     written there, a line of JSON each, for the report of ./check."""
@@ -108,6 +119,18 @@ class Counts:
             print(f"{what}:\n{said}", flush=True)
         else:
             print(*skips_in(said), sep="\n", end="\n" * bool(found.skipped), flush=True)
+
+    def unittests(self, folder: Path, words: list[str] | None = None) -> None:
+        """Runs the modules test_NAME.py of a folder by unittest, or those with one of these words in their name."""
+        loader, suite = unittest.TestLoader(), unittest.TestSuite()
+        for path in sorted(folder.glob("test_*.py")):
+            if not words or any(word in path.stem for word in words):
+                suite.addTests(loader.loadTestsFromName(path.stem))
+        names = [test.id() for test in tests_in(suite)]
+        result = unittest.TextTestRunner(stream=io.StringIO()).run(suite)
+        faults = {test.id(): told for test, told in [*result.failures, *result.errors]}
+        for name in dict.fromkeys([*names, *faults]):
+            self.add(name not in faults, f"{name}:\n{faults.get(name, '')}", name)
 
     def end(self) -> int:
         """Prints the last line of a test, 'N passed, M failed', with ', K skipped' where something was; its exit

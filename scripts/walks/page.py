@@ -1,0 +1,100 @@
+"""What scripts/walk prints, and writes into docs/ARCHITECTURE.md: each part is there between a line `<!-- printed NAME -->` and one
+`<!-- printed -->`."""
+from __future__ import annotations
+
+import re
+from collections.abc import Iterable
+
+from code_text import Function
+from crates_text import ROOT, Crate
+
+from .walk import ROWS, RULE, Row, Walk
+from .world import World
+
+PAGE = ROOT / "docs/ARCHITECTURE.md"
+PART = re.compile(r"(^<!-- printed (?P<name>[^\n]+?) -->$\n).*?(^<!-- printed -->$)", re.M | re.S)
+WIDTH = 76  # of what a row says
+
+
+def about(function: Function, world: World) -> str:
+    """What a function does: its first sentence, or that of the trait's method; cut where it is long."""
+    asked = [it for it in world.methods[function.name] if it.is_asked and it.owner == function.trait]
+    text = next((it.summary for it in [function, *asked] if it.summary), "")
+    text = re.sub(r"\[(`[^`]+`)\](?:\([^)]*\))?", r"\1", text)
+    if len(text) <= WIDTH:
+        return text
+    cut = text[: WIDTH - 2]
+    return f"{cut[: max(cut.rfind(', '), cut.rfind(' '))].rstrip(',')} .."
+
+
+def lines_of(walk: Walk, rows: list[Row]) -> list[str]:
+    """Rows in columns: the function, its crate and file, and what it does."""
+    cells = [(f"{'  ' * depth}{it.shown}", f"{it.crate}/{walk.world.files[it.path].place}", about(it, walk.world))
+             for depth, it in walk.flat(rows)]
+    widths = [max((len(row[column]) for row in cells), default=0) for column in (0, 1)]
+    return [f"{name:{widths[0]}}  {file:{widths[1]}}  {told}".rstrip() for name, file, told in cells]
+
+
+def table_of_walks(all_walks: Iterable[Walk]) -> list[str]:
+    """How large each walk is."""
+    rows = [f"| `scripts/walk {walk.name}` | {' | '.join(map(str, walk.figures()))} |" for walk in all_walks]
+    return ["| Walk | Functions | Files | Crates | Rows | Changes of crate |", "|---|---|---|---|---|---|", *rows]
+
+
+def table_of_crates(crates: dict[str, Crate]) -> list[str]:
+    """Each crate with the first sentence of its lib.rt, what it depends on directly, and its size."""
+    rows = []
+    for name, crate in reversed(crates.items()):
+        head = next((file.head for file in crate.code if file.place in ("lib", "main")), "")
+        sentence = re.split(r"(?<=[^.\s])\.(?:\s|$)", head, maxsplit=1)[0]
+        rows.append(f"| {name} | {sentence} | {' '.join(nearest_needs(crates, name))} | {len(crate.code)} | {len(list(crate.functions))} |")
+    return ["| Crate | What it has | Uses | Files | Functions |", "|---|---|---|---|---|", *rows]
+
+
+def nearest_needs(crates: dict[str, Crate], name: str) -> list[str]:
+    """What a crate depends on, without what these depend on."""
+    def below(crate: str) -> set[str]:
+        return {crate}.union(*(below(it) for it in crates[crate].needs))
+
+    needs = crates[name].needs
+    return [it for it in needs if not any(it in below(other) for other in needs if other != it)]
+
+
+def drawing(crates: dict[str, Crate]) -> list[str]:
+    """The crates by layers: each uses crates of the lines below its own."""
+    layers: dict[str, int] = {}
+    for name, crate in crates.items():
+        layers[name] = 1 + max((layers[it] for it in crate.needs), default=-1)
+    return [f"    {'  '.join(name for name in crates if layers[name] == layer)}" for layer in range(max(layers.values()), -1, -1)]
+
+
+def parts(world: World, all_walks: list[Walk]) -> dict[str, list[str]]:
+    """The lines of each part."""
+    whole, *others = all_walks
+    known: set[Function] = {function for _, function in whole.flat()}
+    found = {
+        "drawing": drawing(world.crates),
+        "crates": table_of_crates(world.crates),
+        "rule": [RULE.format(aside=", ".join(sorted(whole.aside))), "", ROWS],
+        "figures": table_of_walks(all_walks),
+        whole.name: [f"    {line}" for line in lines_of(whole, whole.rows)],
+    }
+    for walk in others:
+        found[walk.name] = [f"    {line}" for line in lines_of(walk, walk.new_rows(known))]
+        known |= {function for _, function in walk.flat()}
+    return found
+
+
+def printed_into(page: str, world: World, all_walks: list[Walk]) -> str:
+    """The page with its parts as they are printed now."""
+    told = parts(world, all_walks)
+    names = [found["name"] for found in PART.finditer(page)]
+    if sorted(names) != sorted(told):
+        raise SystemExit(f"{PAGE.name}: its printed parts are {', '.join(names)}, and not {', '.join(told)}")
+    return PART.sub(lambda found: "\n".join([found[1], *told[found["name"]], "", found[3]]), page)
+
+
+def compared(page: str, world: World, all_walks: list[Walk]) -> list[tuple[str, bool]]:
+    """Each part, and whether the page has it as it is printed now."""
+    now = printed_into(page, world, all_walks)
+    return [(old["name"], old[0] == new[0]) for old, new in zip(PART.finditer(page), PART.finditer(now))]
