@@ -36,12 +36,13 @@ MOST_KEPT = 5_000_000  # distances
 MOST_EXACT = 2**53  # whole numbers below are exact as floats
 MOST_NODES = 100_000
 MOST_LOADS = 10**7  # nodes times loads of routes
+MOST_STATES = 10**7  # of the runs of a leaf
+FIRST_ROW = 10_001  # behind the nodes: the index of the first row's multiplier
 PLAIN = re.compile("[+-]?[0-9]+")
 HALF, MOST_QUICK = DECIDED, 3000  # of numpy: a weight without decisions is less, and tables have so many nodes
 # Sections and keywords whose words are whole numbers, but those of points.
-READ = {"DIMENSION", "SCALE", "LOAD_UNIT", "TOUR_SECTION", "COMB_SECTION", "BRANCH_SECTION", "FIXED_EDGE_POTENTIAL_SECTION"} | {
-    f"{it}_POTENTIAL_SECTION" for it in ("NODE", "ROW", "COLUMN")
-}
+READ = {"DIMENSION", "SCALE", "LOAD_UNIT", "TOUR_SECTION", "COMB_SECTION", "BRANCH_SECTION", "FIXED_EDGE_POTENTIAL_SECTION"}
+READ |= {"MEMORY_SECTION", "SUBSET_ROW_SECTION"} | {f"{it}_POTENTIAL_SECTION" for it in ("NODE", "ROW", "COLUMN")}
 
 
 class No(Exception):
@@ -480,6 +481,22 @@ def combs_of(numbers: list[int]) -> list[list[list[int]]]:
     return combs
 
 
+def parts_of(numbers: list[int], group: int) -> list[list[list[int]]]:
+    """Groups of as many parts, each ended by -1, until one would begin with -1."""
+    groups: list[list[list[int]]] = []
+    parts: list[list[int]] = [[]]
+    for number in numbers:
+        if number != -1:
+            parts[-1].append(number)
+        elif parts == [[]]:
+            break
+        elif len(parts) == group:
+            groups, parts = [*groups, parts], [[]]
+        else:
+            parts.append([])
+    return groups
+
+
 def steps_of(file: Fields) -> Iterator[list[int]]:
     """The steps of the tree: a branch's two nodes, or a leaf's 0 and its indices and differences."""
     name = "BRANCH_SECTION"
@@ -610,6 +627,9 @@ def bound_by_branches(instance: Fields, file: Fields, cost: Costs, count: int) -
         if found is None:
             raise No(f"BadComb {number}")
         crossed.append(found)
+    lists, rows = memory_in(file, count)
+    if lists or rows:  # which are for routes
+        raise No(f"BadMemory {lists[0][0]}" if lists else "BadRow 1")
     directed = instance["TYPE"][0] == "ATSP"
     fixed = ended(wholes(instance, "FIXED_EDGES_SECTION"), 2)
     open_cases: list[Case] = [{pair_of(directed, i, j): True for i, j in fixed}]
@@ -743,6 +763,98 @@ class Fleet:
 Rests = dict[int, tuple[int, int, Optional[int]]]
 
 
+def memory_in(file: Fields, count: int) -> tuple[list[list[int]], list[list[list[int]]]]:
+    """Lists of a customer and of those that it remembers, and rows of a set and of the further customers that keep it."""
+    lists = [parts[0] for parts in parts_of(wholes(file, "MEMORY_SECTION"), 1)]
+    rows = parts_of(wholes(file, "SUBSET_ROW_SECTION"), 2)
+    for name, groups in (("MEMORY_SECTION", [lists]), ("SUBSET_ROW_SECTION", rows)):
+        if not all(1 <= node <= count for parts in groups for nodes in parts for node in nodes):
+            raise file.faulty(name, f"nodes are 1 to {count}")
+    return lists, rows
+
+
+class Memory:
+    """What runs remember: customers and rows, by bits of one whole number. The bits of the rows are the first ones.
+
+    A run goes from the depot through customers and back. It may not go to a customer that its last one remembers. A row is
+    opened by a customer of its set and closed by the next one, which costs the multiplier of the row. A customer that
+    doesn't keep a row forgets that it is open."""
+
+    def __init__(self, fleet: Fleet, lists: list[list[int]], rows: list[list[list[int]]]) -> None:
+        self.fleet, self.rows, self.stands = fleet, rows, bool(lists or rows)
+        self.near: dict[int, list[int]] = {}
+        for customer, *others in lists:
+            if customer == fleet.depot or customer in self.near or self.again([customer, *others]):
+                raise No(f"BadMemory {customer}")
+            self.near[customer] = others
+        for number, (nodes, more) in enumerate(rows, 1):
+            if len(nodes) < 2 or self.again([*nodes, *more]):
+                raise No(f"BadRow {number}")
+        for customer in fleet.customers:
+            kept = sum(customer in nodes or customer in more for nodes, more in rows)
+            if len(self.near.get(customer, [])) + kept > 64:
+                raise No(f"BadMemory {customer}")
+
+    def again(self, nodes: list[int]) -> bool:
+        """Whether a node comes twice, or the depot comes."""
+        return len({self.fleet.depot, *nodes}) <= len(nodes)
+
+    def given_back(self, gains: list[int]) -> int:
+        """What the rows cost all routes together at most."""
+        return sum(gain * (len(nodes) // 2) for gain, (nodes, _) in zip(gains, self.rows))
+
+    def ways_home(self, rows: list[list[int]], loads: list[int], room: int) -> list[dict[int, int]]:
+        """By load and customer, the least weight back to the depot with nothing remembered."""
+        depot, ways = self.fleet.depot, [{} for _ in range(room + 1)]  # type: int, list[dict[int, int]]
+        for load in range(room, 0, -1):
+            for node in self.fleet.customers:
+                row, fits = rows[node], [to for to in self.fleet.customers if to != node and load + loads[to] <= room]
+                ways[load][node] = min([row[depot], *(row[to] + ways[load + loads[to]][to] for to in fits)])
+        return ways
+
+    def least_run(self, row: Row, gains: list[int], loads: list[int], room: int, most: int, leaf: int) -> int:
+        """The least weight of a run, or this where all weigh more. States by load and customer have the least weight of a
+        run so far, by what it remembers. Those that can't end below `most` are left out."""
+        depot, customers = self.fleet.depot, self.fleet.customers
+        rows = [row(max(1, node)) for node in range(self.fleet.count + 1)]
+        home, open_rows = self.ways_home(rows, loads, room), [(gain, *it) for gain, it in zip(gains, self.rows) if gain]
+        bit = {node: 1 << len(open_rows) + place for place, node in enumerate(customers)}
+        inside, keeps = dict.fromkeys(customers, 0), {node: sum(bit[it] for it in self.near.get(node, [])) for node in customers}
+        for place, (_, nodes, more) in enumerate(open_rows):
+            for node in (*nodes, *more):
+                keeps[node] |= 1 << place
+                inside[node] |= (1 << place) * (node in nodes)
+        costs: dict[int, int] = {0: 0}  # of open rows
+        layers: list[dict[int, dict[int, int]]] = [{} for _ in range(room + 1)]
+        for node in customers:
+            if loads[node] <= room and rows[depot][node] + home[loads[node]][node] < most:
+                layers[loads[node]].setdefault(node, {})[inside[node]] = rows[depot][node]
+        least, count = most, 0
+        for load, layer in enumerate(layers):
+            for node, states in layer.items():
+                count += len(states)
+                if count > MOST_STATES:
+                    raise No(f"TooManyStates {leaf}")
+                least = min(least, min(states.values()) + rows[node][depot])
+                ways = sorted((rows[node][to] + home[load + loads[to]][to], rows[node][to], to) for to in customers
+                              if to != node and load + loads[to] <= room)
+                for known, weight in states.items():
+                    for whole_way, link, to in ways:
+                        if weight + whole_way >= most:
+                            break
+                        if known & bit[to]:
+                            continue
+                        closed = known & inside[to]
+                        if closed not in costs:
+                            costs[closed] = sum(own[0] for place, own in enumerate(open_rows) if closed >> place & 1)
+                        if weight + whole_way + costs[closed] < most:
+                            after, sum_ = ((known | bit[node]) & keeps[to]) ^ inside[to], weight + link + costs[closed]
+                            others = layers[load + loads[to]].setdefault(to, {})
+                            others[after] = min(sum_, others.get(after, sum_))
+            layers[load] = {}
+        return least
+
+
 def routes_of(instance: Fields, solution: Fields, count: int) -> tuple[Fleet, list[list[int]]]:
     """The routes, if no reason is against them."""
     if solution.get("TYPE", [""])[0] != "TOUR":
@@ -782,6 +894,15 @@ def plan_cases(steps: list[list[int]], low: list[int], high: list[int], count: i
         open_cases += [(more, high), (low, fewer)]
 
 
+def by_places(step: list[int], count: int, first_row: int) -> list[int]:
+    """A step whose indices are places: multipliers of rows follow those of the families. What has no place gets a large one."""
+    if step[0] != 0:
+        return step
+    places = [index if index < first_row else index - count - FIRST_ROW + first_row if index >= count + FIRST_ROW else sys.maxsize
+              for index in step[1::2]]
+    return [0, *(number for pair in zip(places, step[2::2]) for number in pair)]
+
+
 def bound_of_routes(instance: Fields, file: Fields, cost: Costs, count: int) -> int:
     """The least of the bounds of the leaves on routes, if no reason is against the tree."""
     combs, steps = tree_in(file, count)
@@ -789,13 +910,17 @@ def bound_of_routes(instance: Fields, file: Fields, cost: Costs, count: int) -> 
     for number, comb in enumerate(combs, 1):
         if len(comb) != 1 or len(set(comb[0])) < len(comb[0]) or fleet.depot in comb[0]:
             raise No(f"BadComb {number}")
+    memory = Memory(fleet, *memory_in(file, count))
     sets = [set(comb[0]) for comb in combs]
     on_branches(file, count, [step for step in steps if step[0] != 0], range(count + 1, count + len(sets) + 1))
     scale, (loads, room) = scale_of(file), fleet.loads(unit_of(file))
-    numbers = [0] * (count + len(sets) + 1)
+    first_row = count + len(sets) + 1
+    numbers = [0] * (first_row + len(memory.rows))
+    steps = [by_places(step, count, first_row) for step in steps]
     for leaf, step in enumerate((step for step in steps if step[0] == 0), 1):
         add_step(file, numbers, leaf, step)
-        if max(map(abs, numbers[: count + 1])) > 10**15 or sum(map(abs, numbers[count + 1 :])) > 3 * 10**17:
+        sums = sum(map(abs, numbers[count + 1 :]))
+        if max(map(abs, numbers[: count + 1])) > 10**15 or sums > 3 * 10**17 or min(numbers[first_row:], default=0) < 0:
             raise No(f"BadLeaf {leaf}")
     if count * (room + 1) > MOST_LOADS:
         raise No("TooManyLoads")
@@ -804,13 +929,15 @@ def bound_of_routes(instance: Fields, file: Fields, cost: Costs, count: int) -> 
     for leaf, (step, low, high) in enumerate(plan_cases(steps, needs, [2 * (count - 1)] * len(sets), count), 1):
         show(f"leaf {leaf} of {leaves}")
         add_step(file, numbers, leaf, step)
-        p, m = numbers[: count + 1], numbers[count + 1 :]
+        p, m, gains = numbers[: count + 1], numbers[count + 1 : first_row], numbers[first_row:]
         active = [(number, nodes) for number, nodes in zip(m, sets) if number]
-        least = fleet.least_walk(weights_of(scale, cost, p, active, []), loads, room)
+        row = weights_of(scale, cost, p, active, [])
+        twice = 2 * p[fleet.depot]
+        least = memory.least_run(row, gains, loads, room, twice, leaf) if memory.stands else fleet.least_walk(row, loads, room)
         if least is not None:
-            each = least - 2 * p[fleet.depot]
+            each = least - twice
             value = min(fleet.need(fleet.customers) * each, len(fleet.customers) * each)
-            value -= 2 * sum(p[node] for node in fleet.customers)
+            value -= 2 * sum(p[node] for node in fleet.customers) + memory.given_back(gains)
             value += sum(number * (a if number > 0 else b) for number, a, b in zip(m, low, high))
             bounds.append(-(-value // scale))
     return min(bounds)

@@ -1,8 +1,8 @@
 #!/usr/bin/env python3
 """Runs one case of the tests of tsp-certify for routes: routes_cases.py CASE TSP_CERTIFY TSP
 
-Where the program TSP judges certificates of routes it does, else judge_routes.py. A wrong answer ends the case with
-status 1. CMakeLists.txt lists the cases, each as the test routes_CASE of ctest: a new case has to be named there too.
+The program TSP judges what tsp-certify makes; examples/recheck.py, which shares no code with either, judges worked cases
+too. A wrong answer ends the case with status 1. CMakeLists.txt lists the cases, each as the test routes_CASE of ctest: a new case has to be named there too.
 tests/libraries/producer runs them all, as the suite `producer` of ./check. What they share is in cases.py.
 """
 
@@ -19,9 +19,9 @@ from functools import cache
 from itertools import combinations, permutations
 from pathlib import Path
 
-import judge_routes
 from cases import CERTIFY, PATIENCE, TSP, certify, need, write_points
 
+RECHECK = Path(__file__).resolve().parents[2] / "examples/recheck.py"
 BOTH = ["-o", "out.branches", "--tour-out", "out.routes"]
 
 RECTANGLE = {"points": [(0, 0), (3, 0), (3, 4), (0, 4)], "demands": [0, 4, 4, 4], "capacity": 8}
@@ -77,23 +77,13 @@ def lines_by_program(instance, routes, certificate):
     return subprocess.run(words, capture_output=True, text=True, timeout=200 * PATIENCE).stdout.splitlines()
 
 
-@cache
-def program_judges():
-    """Whether the program knows certificates of routes: it has to say the worked answer."""
-    with tempfile.TemporaryDirectory() as folder:
-        before = os.getcwd()
-        os.chdir(folder)
-        write_vrp("a.vrp", **RECTANGLE)
-        write_routes("2 -1 3 4 -1")
-        write_certificate(4, "", "0 2 -3 3 -3 4 -3 -1")
-        lines = lines_by_program("a.vrp", "out.routes", "out.branches")
-        os.chdir(before)
-    return lines[-3:] == ["bound 18", "optimal", "yes"]
+def lines_by_recheck(instance, routes, certificate):
+    words = [sys.executable, RECHECK, instance, routes, "--branches", certificate]
+    return subprocess.run(words, capture_output=True, text=True, timeout=200 * PATIENCE).stdout.splitlines()
 
 
-def judged(instance, routes="out.routes", certificate="out.branches"):
+def judged(instance, routes="out.routes", certificate="out.branches", judge=lines_by_program):
     """The lines of the report as a dictionary."""
-    judge = lines_by_program if program_judges() else judge_routes.report
     lines = judge(instance, routes, certificate)
     need(lines and lines[-1] == "yes", f"{instance}: {lines}")
     return {line.partition(" ")[0]: line.partition(" ")[2] for line in lines}
@@ -108,9 +98,9 @@ def need_optimal(instance, *words):
 
 
 def judge():
-    """The judge gives what was worked out by hand, as the program does where it judges."""
+    """Both judges give what was worked out by hand."""
     write_vrp("a.vrp", **RECTANGLE)
-    judges = [judge_routes.report] + [lines_by_program] * program_judges()
+    judges = [lines_by_recheck, lines_by_program]
     for families, tree, more, routes, expected in WORKED:
         write_routes(routes)
         write_certificate(4, families, tree, more)

@@ -6,6 +6,7 @@ from collections.abc import Callable, Iterator
 from functools import cache
 
 from reader import File
+from runs import Memory
 
 MOST_POTENTIAL = 10**15
 MOST_CROSSED = 9 * 10**17
@@ -155,6 +156,7 @@ class Tree:
         combs = certificate.sections.get("COMB_SECTION")
         self.families = combs.families if combs else []
         self.crossings = [crossings_of(sets, self.nodes) for sets in self.families]
+        self.memory = Memory(certificate)
         self.fixed = [self.key(pair) for pair in fixed_of(instance)]
 
     def key(self, pair) -> Pair:
@@ -186,6 +188,8 @@ class Tree:
         for number, found in enumerate(self.crossings, 1):
             if found is None:
                 return f"BadComb {number}"
+        if bad := self.memory.reason_without_routes():
+            return bad
         branches = [words for kind, words in self.steps if kind == "branch"]
         for number, (first, _) in enumerate(branches, 1):
             if first > self.nodes:

@@ -14,7 +14,7 @@ from generate import Case, case_of
 from runner import Counts
 
 MOST = 40_000  # cases for a bug
-MODULES = ["reader", "bounds", "writer", "routes", "judge"]
+MODULES = ["reader", "runs", "bounds", "writer", "routes", "judge"]
 HERE = Path(__file__).resolve().parent
 
 # The file of the bug, what is there, what is put in its place, and what that is.
@@ -31,7 +31,7 @@ BUGS = [
     ("reader", 'if len(self.weights) == self.nodes**2:', 'if len(self.weights) == self.nodes**2 and word != CLOSED_WORD:', "-1 is ignored after the weights"),
     ("reader", "self.ended = not self.in_family\n", "self.ended = not self.in_set\n", "the -1 after a comb ends the list of combs"),
     ("reader", "if pair[0] == pair[1]:", "if pair[0] == pair[1] == 1:", "a branch may be one node twice"),
-    ("reader", "index = whole(word, -1, self.nodes + 10_000, but=0)", "index = whole(word, -1, self.nodes + 9_999, but=0)", "the largest index is refused"),
+    ("reader", "index = whole(word, -1, self.last, but=0)", "index = whole(word, -1, self.last - 1, but=0)", "the largest index is refused"),
     ("reader", "self.begin(whole(word, 0, self.nodes + 10_000))", "self.begin(whole(word, 0, self.nodes + 9_999))", "no branch is on family 10,000"),
     ("reader", 'if value:\n            raise Wrong("SectionValue")\n        if "DIMENSION" not in', 'if "DIMENSION" not in', "the line of a section may have a value"),
     ("reader", 'if "DIMENSION" not in file.values and name != "TOUR_SECTION":', 'if "DIMENSION" not in file.values and name not in ("TOUR_SECTION", "DEPOT_SECTION"):', "depots may come before DIMENSION"),
@@ -61,7 +61,7 @@ BUGS = [
     ("routes", "up(sum(self.demand[node] for node in nodes), self.capacity))", "sum(self.demand[node] for node in nodes) // self.capacity)", "the need of a set is rounded down"),
     ("routes", "or self.fleet.depot in sets[0]:", "or False:", "a family may have the depot"),
     ("routes", "if not 1 <= first - self.nodes <= len(self.families):", "if first > self.nodes + len(self.families):", "routes may be branched on by a pair"),
-    ("routes", "sum(map(abs, self.multipliers(leaf))) > MOST", "sum(self.multipliers(leaf)) > MOST", "multipliers below 0 have no limit"),
+    ("routes", "sum(map(abs, self.multipliers(leaf))) + sum(gains) > MOST", "sum(self.multipliers(leaf)) + sum(gains) > MOST", "multipliers below 0 have no limit"),
     ("routes", "demand // unit for", "-(-demand // unit) for", "loads are rounded up"),
     ("routes", "self.room = fleet.capacity // unit * parts + len(light)", "self.room = fleet.capacity // unit * parts", "there is no room for loads of 0"),
     ("routes", "if node not in (last, before) and", "if node != last and", "a walk may go back at once"),
@@ -74,8 +74,8 @@ BUGS = [
 ]
 
 
-def with_bug(name: str, old: str, new: str) -> types.ModuleType:
-    """The judge over a copy of the reader in which a text is another."""
+def with_bug(name: str, old: str, new: str, wanted: str = "judge") -> types.ModuleType:
+    """The judge, or another module, over a copy of the reader in which a text is another."""
     before = {module: sys.modules.get(module) for module in MODULES}
     try:
         for module in MODULES:
@@ -86,7 +86,7 @@ def with_bug(name: str, old: str, new: str) -> types.ModuleType:
                 text = text.replace(old, new)
             made = sys.modules[module] = types.ModuleType(module)
             exec(compile(text, f"{module}.py with a bug", "exec"), made.__dict__)
-        return sys.modules["judge"]
+        return sys.modules[wanted]
     finally:
         sys.modules.update({module: it for module, it in before.items() if it})
 

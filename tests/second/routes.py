@@ -1,5 +1,5 @@
 """Bounds of certificates for routes, and the reasons against them: walks by recursion, plans one by one. Written from
-docs/format.md alone. For judge.py and tests/second/run."""
+docs/format.md alone. Runs with a memory are in runs.py. For judge.py and tests/second/run."""
 from __future__ import annotations
 
 import sys
@@ -7,11 +7,13 @@ from collections.abc import Callable, Iterator
 from functools import cache
 from itertools import combinations, permutations
 
+import runs
 from reader import File
 
 MOST_POTENTIAL = 10**15
 MOST_MULTIPLIERS = 3 * 10**17
 MOST_LOADS = 10**7
+FIRST_ROW = 10_001  # behind the nodes: the index of the first row's multiplier
 MOST_ROUTES = 100_000  # that are counted
 Cost = Callable[[int, int], int]
 Limit = tuple[int, int, bool]  # a family, t, and whether it is crossed at most 2t times
@@ -91,12 +93,15 @@ class PlanTree:
         self.loads = Loads(fleet, certificate.values.get("LOAD_UNIT", 1))
         combs = certificate.sections.get("COMB_SECTION")
         self.families = combs.families if combs else []
+        self.memory = runs.Memory(certificate)
 
     def reason(self) -> str:
         """The first reason against the tree, or nothing."""
         for number, sets in enumerate(self.families, 1):
             if len(sets) != 1 or len(set(sets[0])) != len(sets[0]) or self.fleet.depot in sets[0]:
                 return f"BadComb {number}"
+        if bad := self.memory.reason(self.fleet.depot, self.fleet.customers):
+            return bad
         branches = [words for kind, words in self.steps if kind == "branch"]
         for number, (first, _) in enumerate(branches, 1):
             if not 1 <= first - self.nodes <= len(self.families):
@@ -104,7 +109,13 @@ class PlanTree:
         for number, leaf in enumerate(self.leaves(), 1):
             if self.is_bad(leaf):
                 return f"BadLeaf {number}"
-        return "TooManyLoads" if self.nodes * (self.loads.room + 1) > MOST_LOADS else ""
+        if self.nodes * (self.loads.room + 1) > MOST_LOADS:
+            return "TooManyLoads"
+        for number, leaf in enumerate(self.leaves() if self.memory.stands() else (), 1):
+            most = 2 * leaf.of.get(self.fleet.depot, 0)
+            if self.runs_at(leaf).kept_states(most, runs.MOST_STATES) > runs.MOST_STATES:
+                return f"TooManyStates {number}"
+        return ""
 
     def leaves(self) -> Iterator[Leaf]:
         """The leaves with their numbers, each those of the one before it plus its differences."""
@@ -123,12 +134,18 @@ class PlanTree:
     def multipliers(self, leaf: Leaf) -> list[int]:
         return [leaf.of.get(self.nodes + k, 0) for k in range(1, len(self.families) + 1)]
 
+    def gains(self, leaf: Leaf) -> list[int]:
+        """The multipliers of the rows."""
+        return [leaf.of.get(self.nodes + FIRST_ROW + row, 0) for row in range(len(self.memory.rows))]
+
     def is_bad(self, leaf: Leaf) -> bool:
-        if any(index > self.nodes + len(self.families) for index in leaf.of):
+        families, rows = self.nodes + len(self.families), self.nodes + FIRST_ROW
+        if any(families < index < rows or index >= rows + len(self.memory.rows) for index in leaf.of):
             return True
         if any(abs(number) > MOST_POTENTIAL for index, number in leaf.of.items() if index <= self.nodes):
             return True
-        return sum(map(abs, self.multipliers(leaf))) > MOST_MULTIPLIERS
+        gains = self.gains(leaf)
+        return min(gains, default=0) < 0 or sum(map(abs, self.multipliers(leaf))) + sum(gains) > MOST_MULTIPLIERS
 
     def bounds(self) -> Iterator[int]:
         """The bounds of the leaves that have one."""
@@ -139,15 +156,33 @@ class PlanTree:
 
     def bound_at(self, leaf: Leaf) -> int | None:
         """The bound of a leaf; None where there is no walk."""
+        if self.memory.stands():
+            return self.bound_by_runs(leaf)
         least = self.least_walk(self.weight_at(leaf))
         if least is None:
             return None
         potential = lambda node: leaf.of.get(node, 0)
         each, customers = least - 2 * potential(self.fleet.depot), self.fleet.customers
         value = min(self.fleet.need(customers) * each, len(customers) * each) - 2 * sum(map(potential, customers))
+        return up(value + self.given_back(leaf), self.scale)
+
+    def given_back(self, leaf: Leaf) -> int:
+        """What the families give back."""
+        found = 0
         for k, multiplier in enumerate(self.multipliers(leaf), 1):
-            value += multiplier * (self.low(leaf, k) if multiplier > 0 else self.high(leaf, k))
-        return up(value, self.scale)
+            found += multiplier * (self.low(leaf, k) if multiplier > 0 else self.high(leaf, k))
+        return found
+
+    def runs_at(self, leaf: Leaf) -> runs.Runs:
+        weight, loads = cache(self.weight_at(leaf)), self.loads
+        return runs.Runs(self.memory, weight, self.gains(leaf), self.fleet.depot, loads.of, loads.room)
+
+    def bound_by_runs(self, leaf: Leaf) -> int:
+        """The bound of a leaf where customers remember others or keep rows."""
+        at, customers = self.runs_at(leaf), self.fleet.customers
+        twice = 2 * leaf.of.get(self.fleet.depot, 0)
+        value = len(customers) * (at.least(twice) - twice) - 2 * sum(leaf.of.get(node, 0) for node in customers)
+        return up(value + self.given_back(leaf) - at.half_sum, self.scale)
 
     def low(self, leaf: Leaf, k: int) -> int:
         """How often family k is crossed at least."""

@@ -4,7 +4,7 @@ from __future__ import annotations
 
 from math import isqrt
 
-from reader import FINE, INSTANCES, LAYOUTS, SECTIONS, File, cells, lines_of
+from reader import ALL_SECTIONS, FINE, INSTANCES, LAYOUTS, File, cells, lines_of
 
 KEYWORDS = ["DIMENSION", "CAPACITY", "SCALE", "LOAD_UNIT", "EDGE_WEIGHT_TYPE", "EDGE_WEIGHT_FORMAT", "NODE_COORD_TYPE",
             "DISPLAY_DATA_TYPE"]
@@ -44,6 +44,10 @@ def section_lines(name: str, file: File) -> list[str]:
     if name == "COMB_SECTION":
         combs = [[" ".join(map(str, [*nodes, -1])) for nodes in family] + ["-1"] for family in section.families]
         return [line for comb in combs for line in comb] + ["-1"]
+    if name == "MEMORY_SECTION":
+        return [" ".join(map(str, [*nodes, -1])) for nodes in section.lists] + ["-1"]
+    if name == "SUBSET_ROW_SECTION":
+        return [" ".join(map(str, [*part, -1])) for row in section.rows for part in row] + ["-1"]
     if name == "BRANCH_SECTION":
         return [" ".join(map(str, words if kind == "branch" else [0, *sum(words, []), -1])) for kind, words in section.steps]
     if hasattr(section, "of"):
@@ -59,7 +63,7 @@ def canonical(file: File) -> bytes:
     text += b"".join(keyword_line(keyword.decode("latin-1"), value) if keyword.isascii() else
                      keyword + b" :" + (b" " + value if value else b"") + b"\n" for keyword, value in file.others)
     text += b"".join(keyword_line(key, file.values[key]) for key in KEYWORDS if key in file.values)
-    for name in SECTIONS:
+    for name in ALL_SECTIONS:
         if name in file.sections:
             text += "".join(f"{line}\n" for line in [name, *section_lines(name, file)]).encode()
     return text + b"EOF\n"
@@ -185,6 +189,10 @@ def shown(file: File) -> bytes:
             lines.append(f"load unit {values['LOAD_UNIT']}")
         if "COMB_SECTION" in sections:
             lines.append(f"combs {len(sections['COMB_SECTION'].families)}")
+        if "MEMORY_SECTION" in sections:
+            lines.append(f"memory {len(sections['MEMORY_SECTION'].lists)}")
+        if "SUBSET_ROW_SECTION" in sections:
+            lines.append(f"rows {len(sections['SUBSET_ROW_SECTION'].rows)}")
         lines.append(f"leaves {sum(kind == 'leaf' for kind, _ in sections['BRANCH_SECTION'].steps)}")
     return text + "".join(f"{line}\n" for line in lines).encode() + not_judged(file)
 
