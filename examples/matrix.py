@@ -2,21 +2,31 @@
 """Writes an instance with points as a full matrix: matrix.py F [--rounding trunc|dimacs] > OUT
 
 The distances are whole numbers, exact over the decimals of F. With --rounding distances of EUC_2D are rounded down, and
-not to the nearest: trunc takes whole units, and dimacs tenths, so its weights are ten times as large. It isn't proved. It
-needs Python 3.9 and its standard library alone.
+not to the nearest: trunc takes whole units, and dimacs tenths, so its weights are ten times as large. Lines with an unknown
+keyword stay, so that `tsp` says of OUT too what it doesn't judge. The script isn't proved. It needs Python 3.9 and its
+standard library alone.
 """
 from __future__ import annotations
 
 import argparse
 import sys
 from math import isqrt
-from typing import Callable, Optional
+from typing import Callable, Optional, Sequence
 
 from recheck import BILLION, Faulty, Fields, costs_of, fields_of, points_of, whole
 
 KINDS = ("EUC_2D", "CEIL_2D", "MAN_2D", "MAX_2D", "ATT", "EUC_3D", "MAN_3D", "MAX_3D")
 PARTS = {"trunc": 1, "dimacs": 10}  # of a unit
-SECTIONS = ("FIXED_EDGES_SECTION", "DEMAND_SECTION", "DEPOT_SECTION")
+POINTS = "NODE_COORD_SECTION"
+SECTIONS = ("DISPLAY_DATA_SECTION", "FIXED_EDGES_SECTION", "DEMAND_SECTION", "DEPOT_SECTION")
+
+
+def sections_of(fields: Fields, kept: Sequence[str]) -> list[str]:
+    """The lines of the sections that are kept. Another one than these and the points is refused."""
+    for name in fields.lines:
+        if name.endswith("_SECTION") and name != POINTS and name not in kept:
+            raise fields.faulty(name, "this section can't be kept")
+    return [line for name in kept if fields.get(name) for line in (name, " ".join(fields[name]))]
 
 
 def rounded_down(fields: Fields, count: int, parts: int) -> Callable[[int, int], int]:
@@ -44,13 +54,11 @@ def text_of(path: str, rounding: Optional[str]) -> str:
     lines += [f"TYPE : {fields['TYPE'][0]}"]
     if rounding:
         lines += [f"COMMENT : Weights are {'ten times ' * (rounding == 'dimacs')}the distances, rounded down"]
-    lines += [f"DIMENSION : {count}"]
+    lines += [*fields.unknown, f"DIMENSION : {count}"]
     lines += [f"CAPACITY : {fields['CAPACITY'][0]}"] if "CAPACITY" in fields else []
     lines += ["EDGE_WEIGHT_TYPE : EXPLICIT", "EDGE_WEIGHT_FORMAT : FULL_MATRIX", "EDGE_WEIGHT_SECTION"]
     lines += [" ".join(str(cost(i, j)) for j in nodes) for i in nodes]
-    for section in SECTIONS:
-        lines += [section, " ".join(fields[section])] if fields.get(section) else []
-    return "\n".join([*lines, "EOF", ""])
+    return "\n".join([*lines, *sections_of(fields, SECTIONS), "EOF", ""])
 
 
 def main() -> None:
@@ -59,7 +67,7 @@ def main() -> None:
     words.add_argument("--rounding", choices=sorted(PARTS), help="round distances down, to units or to tenths")
     given = words.parse_args()
     try:
-        sys.stdout.write(text_of(given.path, given.rounding))
+        sys.stdout.buffer.write(text_of(given.path, given.rounding).encode("latin-1"))
     except OSError as fault:
         sys.exit(f"matrix: {given.path}: {fault.strerror}")
     except Faulty as fault:

@@ -61,6 +61,7 @@ class Fields(dict[str, list[str]]):
         self.path = path
         self.lines: dict[str, list[tuple[int, int]]] = {}  # of each line its first word's place, and its number
         self.numbers: dict[str, list[int]] = {}  # of fields that were read as whole numbers
+        self.unknown: list[str] = []  # lines with a keyword that isn't one of the format
 
     def __missing__(self, name: str) -> NoReturn:
         raise Faulty(f"{self.path}: there is no {name}")
@@ -114,6 +115,7 @@ def fields_of(path: str) -> Fields:
                 fields.pop(keyword, None)
                 if keyword not in KNOWN:
                     fields["not judged"].append(keyword)
+                    fields.unknown.append(line)
             fields.add(keyword, number, [] if section else value.split())
     return fields
 

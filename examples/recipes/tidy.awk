@@ -54,6 +54,13 @@ keyword in known {
     over = keyword == "EOF"
     next
 }
+text ~ /^[ \t]*[A-Za-z]/ { # an unknown keyword ends the section, and stays
+    if (inside)
+        put_depot()
+    section = ""
+    put(text)
+    next
+}
 {
     ends = tolower($NF) == "eof" && text ~ /^[ \t]*[-+.0-9]/
     if (ends)

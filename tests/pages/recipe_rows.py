@@ -76,6 +76,9 @@ WRITTEN = [
     Written("-f examples/recipes/tidy.awk", "two-depots",
             lines("NODE_COORD_SECTION", "1 1 2", "2 1 2", "DEPOT_SECTION", "1", "2", "-1", "EOF"),
             "NODE_COORD_SECTION\n1 1 2\n2 1 2\nDEPOT_SECTION\n1 2 -1\nEOF\n"),
+    Written("-f examples/recipes/tidy.awk", "unknown-keywords",
+            lines("NODE_COORD_SECTION", "1 1 2", "2 5 2", "DEPOT_SECTION", "1", "-1", "DISTANCE : 5", "CAPACITY : 3", "vehicles : 2", "EOF"),
+            "NODE_COORD_SECTION\n1 1 2\n2 5 2\nDEPOT_SECTION\n1\nDISTANCE : 5\nCAPACITY : 3\nvehicles : 2\nEOF\n"),
     # 30 and 32 are no nodes of an instance with two.
     Written("-f examples/recipes/tidy.awk", "whole-coordinates",
             lines("NODE_COORD_SECTION", "1 30 32", "2 1 2", "DEPOT_SECTION", "1", "-1", "EOF"),

@@ -4,6 +4,12 @@
 const PI = 3.141592;
 const RADIUS = 6378.388;
 
+/** The keywords and sections that an instance of type GEO may have. */
+const KNOWN = new Set([
+    ...["NAME", "TYPE", "COMMENT", "DIMENSION", "EDGE_WEIGHT_TYPE", "EDGE_WEIGHT_FORMAT", "NODE_COORD_TYPE", "DISPLAY_DATA_TYPE"],
+    ...["NODE_COORD_SECTION", "DISPLAY_DATA_SECTION", "FIXED_EDGES_SECTION", "FIXED_EDGES"],
+]);
+
 /** A matrix of weights is read for so many nodes at most. */
 const MOST_NODES = 5000;
 
@@ -31,6 +37,7 @@ export function withoutGeo(bytes) {
     const lines = [
         ...(named ? [`NAME : ${named}`] : []),
         `TYPE : ${value("TYPE") ?? "TSP"}`,
+        ...unknownIn(text),
         `DIMENSION : ${nodes}`,
         "EDGE_WEIGHT_TYPE : EXPLICIT",
         "EDGE_WEIGHT_FORMAT : UPPER_ROW",
@@ -44,6 +51,19 @@ export function withoutGeo(bytes) {
         "",
     ];
     return new TextEncoder().encode(lines.join("\n"));
+}
+
+/**
+ * The lines of an instance with a keyword that isn't one of the format. They stay, so that the library says what it
+ * doesn't judge.
+ *
+ * @param {string} text
+ * @returns {string[]}
+ */
+function unknownIn(text) {
+    const [lines] = text.split(/^[ \t]*EOF\b/m, 1);
+    const wordLines = lines.match(/^[ \t]*[A-Za-z].*$/gm) ?? [];
+    return wordLines.map((line) => line.trim()).filter((line) => !KNOWN.has(/^[^\s:]+/.exec(line)?.[0] ?? ""));
 }
 
 /**

@@ -288,6 +288,11 @@ test("an instance of type GEO is one of weights", async () => {
     const points = "1 0 0\n2 0.0 9e1\n3 90.00 0\n";
     const weights = new TextDecoder().decode(withoutGeo(bytesOf(geo(points))));
     assert.match(weights, /^NAME : a quarter$[^]*^EDGE_WEIGHT_SECTION\n10020 10020\n10020\nEOF$/m);
+    for (const at of ["DIMENSION", "EOF"]) {
+        const kept = new TextDecoder().decode(withoutGeo(bytesOf(geo(points).replace(at, `DISTANCE : 5\n VEHICLES :\n${at}`))));
+        assert.match(kept, /^DISTANCE : 5\nVEHICLES :$/m, "lines with an unknown keyword stay");
+        assert.equal(kept.replace("DISTANCE : 5\nVEHICLES :\n", ""), weights);
+    }
     const library = await libraryOf(PAGE);
     const outcome = run(library, { ...alone, instance: text(geo(points)), solution: text("TYPE : TOUR\nTOUR_SECTION\n1 2 3 -1\nEOF\n") });
     assert.deepEqual([outcome.isGeo, outcome.report.length, outcome.scene.points.length], [true, 30060n, 6]);
