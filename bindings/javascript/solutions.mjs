@@ -22,8 +22,10 @@ const MOST = 999_999_999;
 /** A line of OR-Tools: 0 Load(0) -> 4 Load(3) -> .. */
 const WALK = /^[ \t]*\d+\b[^\n>]*->/m;
 
-/** The end of a COMMENT that claims a length, where explanations of the library look for it. */
-const CLAIM = /(?:\(([-.\d]+)\)|(?:Length[ \t]*=|Cost[ \t]*:?)[ \t]*([-.\d]+))[ \t\r\f]*$/;
+/** A COMMENT that claims a length: one of TSPLIB's optimal tours, or the end of what LKH and recipes write. A year in
+ * brackets behind other words claims nothing. */
+const CLAIM =
+    /(?:^[ \t]*Optim(?:al|um)[ \t]+(?:tour|solution)[ \t]+(?:for|of)[ \t]+[^ \t]+[ \t]*\(([-.\d]+)\)|(?:Length[ \t]*=|Cost[ \t]*:?)[ \t]*([-.\d]+))[ \t\r\f]*$/;
 
 /** A number as numpy writes it, with a point or a power of ten. */
 const DECIMAL = /^(\d{1,30})(?:\.(\d{0,30}))?(?:e([+-]?\d{1,2}))?$/i;

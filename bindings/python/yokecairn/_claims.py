@@ -9,7 +9,12 @@ from .faults import text_of
 
 _NUMBER = re.compile(r"[+-]?(?=\.?[0-9])([0-9]*)\.?([0-9]*)(?:[eE][+-]?[0-9]+)?")
 _COMMENT = re.compile(rb"^[ \t]*COMMENT[ \t]*:(.*)$", re.M)
-_CLAIM = re.compile(r"(?:\(([-.0-9]+)\)|(?:Length[ \t]*=|Cost[ \t]*:?)[ \t]*([-.0-9]+))\Z")
+# What TSPLIB's optimal tours say, and the end of what LKH, and recipes and readers of other forms, write. A year in brackets
+# behind other words claims nothing.
+_CLAIM = re.compile(
+    r"\A[ \t]*Optim(?:al|um)[ \t]+(?:tour|solution)[ \t]+(?:for|of)[ \t]+[^ \t]+[ \t]*\(([-.0-9]+)\)\Z"
+    r"|(?:Length[ \t]*=|Cost[ \t]*:?)[ \t]*([-.0-9]+)\Z"
+)
 
 
 def length_of(word: str) -> int:
@@ -30,8 +35,9 @@ def length_of(word: str) -> int:
 
 
 def claim_of(text: bytes) -> Optional[int]:
-    """The length that a text of TYPE TOUR claims: the whole number of its first COMMENT that ends in
-    `Length = N`, `(N)` or `Cost N`, where explanations look for one too. None where there is none."""
+    """The length that a text of TYPE TOUR claims: the whole number of its first COMMENT that ends in `Length = N` or
+    `Cost N`, or that is as TSPLIB's `Optimal tour for a280.tsp (2579)`. None where there is none. Explanations look at
+    every COMMENT that ends in `(N)`, and tell one with another number than the length."""
     for comment in _COMMENT.finditer(text):
         match = _CLAIM.search(text_of(comment[1]).rstrip(" \t\r\f"))
         if match is None:
