@@ -12,79 +12,18 @@ from collections.abc import Iterator
 from contextlib import contextmanager
 from functools import cache
 from pathlib import Path
-from typing import NamedTuple
 
-TRAIT = re.compile(r"(?:pub(?:\(\w+\))? )?trait (\w+)")
-FUNCTION = re.compile(r" {0,4}(?:pub(?:\(\w+\))? )?(?:const |unsafe |extern \"C\" )*fn (\w+)")
+from crates_text import Crate, Edit
+
 GOAL = re.compile(r"\s*pub (\S+) : goal\.|note: src/.*\(`([^`]+)`\)|fn .* did not prove `([^`]+)`")
 
 
-class Pair(NamedTuple):
-    """A text that appears once in a file of a crate, and the one that an edit puts in its place."""
-    path: str
-    old: str
-    new: str
-
-
-def pairs_of(edit: Path) -> Iterator[Pair]:
-    """The pairs of an edit, which apply one after the other."""
-    path = old = ""
-    for line in edit.read_text().splitlines():
-        word, _, rest = line.partition(": ")
-        if word == "file":
-            path = rest.strip()
-        elif word == "old":
-            old = rest
-        elif line.startswith("new:"):
-            yield Pair(path, old, rest)
-            old = ""
-
-
-def owner_of(head: str) -> str:
-    """What `proofs/` calls the methods of an impl: its type, and after it the trait, without their parameters."""
-    while (plain := re.sub(r"<[^<>]*>", "", head)) != head:
-        head = plain
-    trait, _, type_ = re.split(r" \{| where", head.removeprefix("impl"))[0].strip().rpartition(" for ")
-    return f"{type_}{trait}".replace("'", "")
-
-
-def home_of(owner: str, crate: Path) -> str:
-    """The file that declares a type, which names its methods wherever they are; nothing for an impl of a trait."""
-    declared = re.compile(rf"^(?:pub(?:\(\w+\))? )?(?:struct|enum) {re.escape(owner)}\b", re.M)
-    files = (crate / "src").rglob("*.rt") if owner else []
-    return next((str(file.relative_to(crate)) for file in files if declared.search(file.read_text())), "")
-
-
-def function_at(path: str, text: str, crate: Path) -> str:
-    """The function in which a text of a source file is, as its folder below `proofs/`; or nothing."""
-    source = (crate / path).read_text()
-    owner = name = ""
-    for line in source[:source.find(text) + len(text)].splitlines():
-        if line.startswith("impl"):
-            owner = owner_of(line)
-        elif found := TRAIT.match(line):
-            owner = found[1]
-        elif line.startswith("}"):
-            owner = name = ""
-        if found := FUNCTION.match(line):
-            name = found[1]
-    home = home_of(owner, crate) or path
-    module = re.sub(r"(^|/)(lib|main)$", "", home.removeprefix("src/").removesuffix(".rt"))
-    return "/".join(filter(None, (module, owner, name))) if name else ""
-
-
-def functions_of(edit: Path, crate: Path) -> list[str]:
-    """The functions that an edit changes."""
-    found = [function_at(path, old, crate) for path, old, _ in pairs_of(edit) if path.startswith("src/")]
-    return [*dict.fromkeys(function for function in found if function)]
-
-
-def edited(edit: Path, crate: Path) -> dict[Path, str | None]:
-    """The files that an edit changes, with their new texts."""
+def edited(edit: Edit, folder: Path) -> dict[Path, str | None]:
+    """The files that an edit changes in a crate's folder, with their new texts."""
     texts: dict[Path, str | None] = {}
-    for path, old, new in pairs_of(edit):
-        text = texts.get(crate / path) or (crate / path).read_text()
-        texts[crate / path] = text.replace(old, new)
+    for pair in edit.pairs:
+        text = texts.get(folder / pair.path) or (folder / pair.path).read_text()
+        texts[folder / pair.path] = text.replace(pair.old, pair.new)
     return texts
 
 
@@ -146,21 +85,21 @@ def open_anyway(function: str, crate: Path) -> set[str]:
         return open_goals(checked(crate, [function]), name_of(function, crate)) or set()
 
 
-def told_of(edit: Path, crate: Path) -> tuple[bool, str]:
+def told_of(edit: Edit, crate: Crate) -> tuple[bool, str]:
     """Whether a goal is open with an edit and without the proofs of the functions that it changes, and which are."""
-    functions = functions_of(edit, crate)
-    texts = edited(edit, crate)
+    functions, folder = crate.folders_of(edit), crate.folder
+    texts = edited(edit, folder)
     for function in functions:
-        texts |= proofs_of(function, crate)
+        texts |= proofs_of(function, folder)
     with put(texts):
-        lines = checked(crate, functions)
+        lines = checked(folder, functions)
     if not any(line.startswith("fn ") for line in lines):
         return False, f"not tried: {lines[-1] if lines else 'no answer'}"
     told, is_open = [], False
     for function in functions:
-        goals = open_goals(lines, name_of(function, crate))
+        goals = open_goals(lines, name_of(function, folder))
         if goals is not None:
-            anyway = goals & open_anyway(function, crate)
+            anyway = goals & open_anyway(function, folder)
             told.append(f"{function}: open: {', '.join(sorted(goals - anyway)) or 'none'}; without the edit too: "
                         f"{', '.join(sorted(anyway)) or 'none'}")
             is_open = is_open or bool(goals)

@@ -317,6 +317,17 @@ class Code:
         has_body = self.clear[place : place + 1] == "{"
         return " ".join(result.split()), tuple(clauses), place if has_body else None, end_of(self.clear, place) if has_body else place
 
+    @cached_property
+    def names(self) -> set[str]:
+        """What it declares: functions, clauses, types with their fields and variants, constants, facts, modules, its own name."""
+        found = {self.path.stem, *re.findall(r"^ *ghost (\w+):", self.clear, re.M), *re.findall(rf"^{VISIBLE}mod (\w+);", self.clear, re.M)}
+        for function in self.functions:
+            found |= {function.name, *(clause.name for clause in function.clauses)}
+        for item in self.items:
+            found |= {item.name, *item.fields, *item.variants}
+            found |= {name for variant in item.variants.values() for name in re.findall(r"(\w+):", variant)}
+        return found - {""}
+
     def function_at(self, place: int) -> Function | None:
         """The function whose head or body is at a place."""
         return next((function for function in self.functions if function.span[0] <= place <= function.span[1]), None)

@@ -18,7 +18,7 @@ ROOT = Path(__file__).resolve().parents[2]
 # ---- definitions and lemmas
 
 DEFINITION = re.compile(r"^(?:(?:abbrev|unfoldable) )*(?P<public>pub )?(?:(?P<sort>record|data) )?(?!pub |mod |use )(?P<name>[^\s:]+)(?= |$)")
-BEGINS = ("abbrev ", "pub ", "record ", "data ", "unfoldable ")
+BEGINS = re.compile(r"(?:abbrev|pub|record|data|unfoldable) |[^\s:(){}]+ :(?: |$)")
 IMPORT = re.compile(r"^(pub )?use (\S+?)(?:\.\{([^}]*)\})?(?: as (\S+))?$")
 NAME = r"[^\W\d]\w*(?:-\w+)*"
 Key = tuple[str, str]  # a module as `use` lines write it, and a name in it
@@ -86,7 +86,7 @@ class Definitions:
     @cached_property
     def definitions(self) -> dict[str, Definition]:
         """The definitions, or the lemmas, by their names."""
-        starts = [place for place, line in enumerate(self.lines) if line.startswith(BEGINS) and DEFINITION.match(line)]
+        starts = [place for place, line in enumerate(self.lines) if BEGINS.match(line) and DEFINITION.match(line)]
         return {it.name: it for it in map(self.read, starts, [*starts[1:], len(self.lines)])}
 
     def read(self, start: int, end: int) -> Definition:
@@ -106,6 +106,13 @@ class Definitions:
         """The constructors, each with its data type."""
         return {maker[1]: it.name for it in self.definitions.values() if it.sort == "data"
                 for line in it.code if (maker := re.match(rf"  ({NAME}) :", line))}
+
+
+    @cached_property
+    def names(self) -> set[str]:
+        """What it declares: definitions or lemmas with their fields, and its own name."""
+        fields = (re.match(rf"  (?:pub )?({NAME}) :", line) for it in self.definitions.values() for line in it.code)
+        return {self.path.stem, *self.definitions, *(field[1] for field in fields if field)}
 
 
 # ---- wrong edits
@@ -132,7 +139,31 @@ class Edit:
 
     @property
     def crate(self) -> Path:
+        """The folder of its crate."""
         return self.path.parent.parent
+
+    @property
+    def is_tried(self) -> bool:
+        """Whether the check tries it."""
+        return self.path.parent.name == "must-fail"
+
+    @property
+    def breaks(self) -> str:
+        """What its sentence names first in `code`."""
+        told = re.search(r"\Abreaks: .*?`(\w+)`.*\.$", self.text, re.M)
+        return told[1] if told else ""
+
+    @property
+    def refused(self) -> str:
+        """Its line on what refuses it, without the words `refused by`."""
+        told = re.search(r"^refused by:(.*)", self.text, re.M)
+        return told[1].strip() if told else ""
+
+    @property
+    def refused_by(self) -> tuple[str, str] | None:
+        """The clause that refuses it, and the function or the file that has it."""
+        told = re.fullmatch(r"(.+) \((\S+)\)", self.refused)
+        return (told[1], told[2]) if told else None
 
     @cached_property
     def pairs(self) -> list[Pair]:
@@ -177,6 +208,35 @@ class Crate:
     @cached_property
     def lemmas(self) -> list[Definitions]:
         return [definitions_at(path) for path in sorted((self.folder / "proofs").rglob("*.antt"))]
+
+    @cached_property
+    def names(self) -> set[str]:
+        """What it declares in code, definitions and lemmas, and the names of its files."""
+        of_code = {name for file in self.code for name in file.names}
+        return of_code | {name for file in (*self.specs, *self.lemmas) for name in file.names}
+
+    def folder_of(self, function: Function) -> str:
+        """The folder below proofs/ where the proof of a function is: the place of its file, its type with the trait, its name. Methods of
+        a type are at the place of the type's file, wherever they are."""
+        impl, place = function.impl, code_at(function.path).place
+        if impl.owner and not impl.trait and not impl.is_trait:
+            homes = (item.path for item in self.items if item.name == impl.owner and item.kind in ("struct", "enum"))
+            place = next((code_at(path).place for path in homes), place)
+        module = re.sub(r"(^|/)(lib|main)$", "", place)
+        return "/".join(filter(None, (module, f"{impl.owner}{impl.trait}", function.name)))
+
+    def folders_of(self, edit: Edit) -> list[str]:
+        """The folders of the functions that an edit changes."""
+        found = (self.function_of(pair) for pair in edit.pairs)
+        return list(dict.fromkeys(self.folder_of(function) for function in found if function))
+
+    def function_of(self, pair: Pair) -> Function | None:
+        """The function that a pair of an edit changes."""
+        if not pair.path.startswith("src/") or not (self.folder / pair.path).is_file():
+            return None
+        code = code_at(self.folder / pair.path)
+        place = code.text.find(pair.old)
+        return code.function_at(place + len(pair.old)) if place >= 0 else None
 
     @property
     def edits(self) -> list[Edit]:
