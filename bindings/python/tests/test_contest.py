@@ -3,13 +3,15 @@ form of the table."""
 
 import csv
 import io
+import json
+import os
 import shutil
 import tempfile
 import unittest
 from pathlib import Path
 
 import yokecairn
-from support import EXAMPLES, needs
+from support import EXAMPLES, PACKAGE, needs
 from test_command import run
 from yokecairn.contest import find
 
@@ -33,7 +35,8 @@ class Contests(unittest.TestCase):
             "bee/rectangle.txt": "0 1 2 3\n",
             "bee/dairy.sol": "Route #1: 4 5 3 6\nRoute #2: 1 7 2\nCost 231\n",
             "cat/rectangle.tour": TOUR.format("1 2 2 3"),
-            "cat/other.tour": TOUR.format("1 2 3"),
+            "cat/rectangle.log": "a log",
+            "cat/.hidden.tour": "",
             "best.txt": "harbour8 226\nrectangle 10\n",
         }
         for name, text in tours.items():
@@ -46,12 +49,130 @@ class Contests(unittest.TestCase):
     def table(self, **more):
         return yokecairn.table(self.top, best=self.top / "best.txt", workers=2, **more)
 
+    def refused(self, said, *places):
+        with self.assertRaises(ValueError) as caught:
+            find(places or [self.top])
+        self.assertIn(said, str(caught.exception))
+
     def test_what_is_found(self):
-        entries, unused = find([self.top])
-        self.assertEqual(len(entries), 7)
-        self.assertEqual([Path(path).name for path in unused], ["best.txt", "other.tour"])
-        harbour = next(it for it in entries if it.solver == "bee" and "harbour" in it.instance)
-        self.assertEqual((Path(harbour.solution).name, Path(harbour.potentials).name), ("harbour.run1.tour", "harbour.potentials"))
+        found = find([self.top])
+        self.assertEqual(len(found.entries), 7)
+        self.assertEqual((sorted(found.instances), sorted(found.solvers)), (["dairy", "harbour", "rectangle"], ["ant", "bee", "cat"]))
+        harbour = next(it for it in found.entries if it.solver == "bee" and "harbour" in it.instance)
+        self.assertEqual((Path(harbour.solution).name, Path(harbour.potentials).name, harbour.run), ("harbour.run1.tour", "harbour.potentials", "run1"))
+        apart = find([self.top / "instances", self.top / "ant", self.top / "cat"])
+        self.assertEqual((len(apart.entries), sorted(apart.solvers)), (4, ["ant", "cat"]))
+
+    def test_all_instances_and_solvers(self):
+        shutil.copy(EXAMPLES / "prism.tsp", self.top / "instances/aprism.tsp")
+        (self.top / "bare").mkdir()
+        found = self.table()
+        self.assertEqual(found.instances, ["aprism", "dairy", "harbour", "rectangle"])
+        self.assertEqual(found.solvers, ["ant", "bare", "bee", "cat"])
+        rows = {(row["instance"], row["solver"]): row for row in found.as_rows()}
+        self.assertEqual(len(rows), 16)
+        self.assertEqual({rows["aprism", solver]["verdict"] for solver in found.solvers}, {"missing"})
+        self.assertEqual({rows[instance, "bare"]["verdict"] for instance in found.instances}, {"missing"})
+        self.assertEqual((rows["harbour", "ant"]["rank"], rows["harbour", "bare"]["rank"]), (1, 4))
+        self.assertIn(("aprism", "bee", "missing"), found.rejected())
+        self.assertEqual(run("table", self.top)[0], 1)
+
+    def test_status_where_something_is_missing(self):
+        for name in ("ant/dairy.sol", "cat/rectangle.tour"):
+            (self.top / name).unlink()
+        shutil.copy(self.top / "bee/dairy.sol", self.top / "ant/dairy.sol")
+        shutil.rmtree(self.top / "cat")
+        self.assertEqual(run("table", self.top)[0], 0)
+        (self.top / "cat").mkdir()
+        status, out, _ = run("table", self.top)
+        self.assertEqual((status, out.splitlines()[:2]), (1, [b"not accepted: dairy, cat: missing", b"not accepted: harbour, cat: missing"]))
+        shutil.rmtree(self.top / "cat")
+        shutil.copy(EXAMPLES / "prism.tsp", self.top / "instances/prism.tsp")
+        self.assertEqual(run("table", self.top)[0], 1)
+
+    def test_wrong_names(self):
+        wrong = {
+            "ant/harbor.tour": "there is no instance harbor: is harbour meant?",
+            "ant/other.tour": "there is no instance other",
+            "ant/best.txt": "there is no instance best",
+            "cat/harbour.tuor": "the name of a solution ends in .tour, .sol",
+            "instances/harbor.branches": "there is no instance harbor beside it: is harbour meant?",
+            "ant/harbour.potentials": "there is no instance harbour beside it",
+            "bee/rectangle.vrp": "two instances have the name rectangle",
+        }
+        for name, said in wrong.items():
+            with self.subTest(name):
+                path = self.top / name
+                path.write_text("")
+                self.refused(said)
+                self.refused(name if "instances" not in said else "bee/rectangle.vrp")
+                status, out, err = run("table", self.top)
+                self.assertEqual((status, out), (2, b""))
+                self.assertIn(os.fsencode(said), err)
+                path.unlink()
+        for number in range(12):
+            (self.top / f"ant/x{number}.tour").touch()
+        self.refused("\nand 2 more")
+
+    def test_notes(self):
+        for name in ("instances/README.txt", "notes.txt", "README.md"):
+            (self.top / name).write_text("x\n")
+        self.assertEqual(sorted(find([self.top]).solvers), ["ant", "bee", "cat"])
+
+    def test_dots_in_names(self):
+        shutil.copy(EXAMPLES / "rectangle.tsp", self.top / "instances/a.b.tsp")
+        (self.top / "ant/a.b.run.2.tour").write_text(TOUR.format("1 2 3 4"))
+        found = self.table()
+        self.assertEqual((found.length("a.b", "ant"), list(found.runs("a.b", "ant"))), (14, ["run.2"]))
+
+    def test_runs(self):
+        for number, nodes in enumerate(("1 3 2 4", "1 2 4 3", "1 2 2 3"), 2):
+            (self.top / f"bee/rectangle.run{number}.tour").write_text(TOUR.format(nodes))
+        (self.top / "bee/times.csv").write_text("instance,run,seconds\nrectangle,run2,1.5\nrectangle,run3,2.5\nharbour,run1,4\n")
+        found = self.table()
+        row = found._row("rectangle", "bee")
+        self.assertEqual((row["runs"], row["accepted"], row["length"], row["mean"], row["worst"]), (4, 3, 14, 16.0, 18))
+        self.assertEqual((row["best_percent"], row["mean_best_percent"], row["seconds"], row["verdict"]), (40.0, 60.0, 2.0, "yes"))
+        self.assertEqual(row["detail"], "run4: RepeatedNode 3")
+        self.assertIn(("rectangle", "bee", "run4: RepeatedNode 3"), found.rejected())
+        self.assertEqual({run: it.length for run, it in found.runs("rectangle", "bee").items()}, {"": 14, "run2": 18, "run3": 16, "run4": None})
+        self.assertEqual(found["rectangle", "bee"].length, 14)
+        text = str(found)
+        self.assertIn("14 +40.00 %, mean 16.00, worst 18, 3 of 4 runs", text)
+        self.assertRegex(text, r"\nmean % over best, all runs .* 38.1858")
+        self.assertRegex(text, r"\nmean seconds .* 3.00")
+        self.assertEqual(found._row("harbour", "bee")["mean_gap_percent"], found._row("harbour", "bee")["gap_percent"])
+        (self.top / "bee/rectangle.run2.sol").write_text("Route #1: 1\n")
+        with self.assertRaisesRegex(ValueError, "bee has two solutions of rectangle, run run2"):
+            self.table()
+
+    def test_times(self):
+        path = self.top / "ant/times.csv"
+        for text, said in (
+            ("a,b\n", "times.csv:1: the columns instance and seconds"), ("instance,seconds\nharbour,x\n", "times.csv:2: this is no number of seconds: x"),
+            ("instance,seconds\nharbour,-1\n", "no number of seconds: -1"), ("instance,seconds\nharbour\n", "no number of seconds: None"),
+            ("instance,seconds\nharbor,1\n", "times.csv:2: there is no instance harbor: is harbour meant?"),
+            ("instance,seconds\nharbour,1\nharbour,2\n", "times.csv:3: a run of harbour comes twice"),
+        ):
+            with self.subTest(text):
+                path.write_text(text)
+                self.refused(said)
+
+    @needs("jsonschema")
+    def test_schema(self):
+        import jsonschema
+
+        schema = json.loads((PACKAGE / "yokecairn/standings.schema.json").read_text())
+        jsonschema.Draft202012Validator.check_schema(schema)
+        (self.top / "instances/broken.tsp").write_text("x\n")
+        (self.top / "bee/harbour.run2.tour").write_text(TOUR.format("1 2 3 4 8 5 6 7"))
+        found = json.loads(run("table", self.top, "--json")[1])
+        jsonschema.validate(found, schema)
+        self.assertEqual(found["instances"][0]["fault"], "line 1 word 0: UnknownLine: x")
+        runs = next(row["each"] for row in found["rows"] if (row["instance"], row["solver"]) == ("harbour", "bee"))
+        self.assertEqual([(it["run"], it["length"], it["gap"]) for it in runs], [("run1", 263, 37), ("run2", 226, 0)])
+        with self.assertRaises(jsonschema.ValidationError):
+            jsonschema.validate({**found, "rows": [{}]}, schema)
 
     def test_rows_and_ranks(self):
         done = []
@@ -91,11 +212,10 @@ class Contests(unittest.TestCase):
             "not accepted: dairy, ant: LengthClaimed 231: it claims 230", "not accepted: dairy, cat: missing",
             "not accepted: harbour, cat: missing", "not accepted: rectangle, cat: RepeatedNode 3",
         ])
-        self.assertEqual(lines[4], f"of no instance: {self.top / 'cat/other.tour'}")
-        self.assertEqual(lines[5].split(), ["instance", "best", "bound", "bee", "ant", "cat"])
-        self.assertEqual(lines[7].split()[:3] + lines[7].split()[-4:], ["harbour", "226", "226", "226", "+0.00", "%*", "-"])
-        self.assertEqual(lines[10].split(), ["shortest", "2", "1", "0"])
-        self.assertEqual(lines[11].split(), ["mean", "rank", "1.33", "2.00", "3.00"])
+        self.assertEqual(lines[4].split(), ["instance", "best", "bound", "ant", "bee", "cat"])
+        self.assertEqual(lines[6].split(), ["harbour", "226", "226", "226", "+0.00", "%*", "263", "+16.37", "%", "-"])
+        self.assertEqual(lines[9].split(), ["shortest", "1", "2", "0"])
+        self.assertEqual(lines[10].split(), ["mean", "rank", "2.00", "1.33", "3.00"])
 
     def test_what_is_not_judged(self):
         path = self.top / "instances/rectangle.tsp"
@@ -107,11 +227,15 @@ class Contests(unittest.TestCase):
         rows = list(csv.DictReader(io.StringIO(found.to_csv())))
         self.assertEqual((len(rows), rows[3]["solver"], rows[3]["length"], rows[3]["best_percent"]), (9, "ant", "226", "0.0000"))
         latex = found.to_latex()
-        self.assertIn("\\begin{tabular}{lrrrrr}\n\\hline\ninstance & best & bound & bee & ant & cat \\\\", latex)
+        self.assertIn("\\begin{tabular}{lrrrrr}\n\\hline\ninstance & best & bound & ant & bee & cat \\\\", latex)
         self.assertIn("% not accepted: dairy, ant: LengthClaimed 231: it claims 230\n", latex)
         self.assertIn("226 +0.00 \\%*", latex)
         text = found.to_html()
-        self.assertEqual((text.count("<li>"), text.count("<tr>"), text.count("<th>")), (5, 9, 6))
+        self.assertEqual((text.count("<li>"), text.count("<tr>"), text.count("<th>")), (4, 9, 6))
+        lines = found.to_markdown().splitlines()
+        self.assertEqual((lines[0], lines[4]), ("- not accepted: dairy, ant: LengthClaimed 231: it claims 230", ""))
+        self.assertEqual(lines[5:7], ["| instance | best | bound | ant | bee | cat |", "| --- | ---: | ---: | ---: | ---: | ---: |"])
+        self.assertEqual(lines[8], "| harbour | 226 | 226 | 226 +0.00 %\\* | 263 +16.37 % | - |")
         path = self.top / "table.csv"
         self.assertIsNone(found.to_csv(path))
         self.assertEqual(path.read_text(), found.to_csv())
@@ -136,8 +260,10 @@ class Contests(unittest.TestCase):
             yokecairn.table([entry, entry])
         with self.assertRaisesRegex(ValueError, "two instances have the name rectangle"):
             yokecairn.table([entry, entry._replace(instance=self.top / "instances/rectangle.tsp", solver="you")])
-        with self.assertRaisesRegex(ValueError, "there is no solution"):
+        with self.assertRaisesRegex(ValueError, "there is no folder of a solver"):
             yokecairn.table([self.top / "instances"])
+        with self.assertRaisesRegex(ValueError, "there is no instance dairy"):
+            yokecairn.table([self.top / "ant"])
 
     def test_a_list(self):
         lines = ["# a comment", "", "instances/harbour.tsp\tme\tant/harbour.tour\tpotentials=instances/harbour.potentials",
@@ -154,7 +280,6 @@ class Contests(unittest.TestCase):
                 yokecairn.table(path)
 
     def test_the_command(self):
-        (self.top / "cat/other.tour").unlink()
         words = ("table", self.top, "--best", self.top / "best.txt", "--jobs", "2")
         status, out, err = run(*words)
         self.assertEqual((status, err), (1, b""))
@@ -163,7 +288,7 @@ class Contests(unittest.TestCase):
         self.assertTrue(run(*words, "--csv")[1].startswith(b"instance,solver,verdict,"))
         self.assertEqual(run(*words, "--csv", "--html"), (4, b"", b"both --csv and --html\n"))
         self.assertEqual(run("table", self.top / "none")[0], 5)
-        self.assertEqual(run("table", self.top / "instances"), (2, b"", b"there is no solution of an instance\n"))
+        self.assertEqual(run("table", self.top / "instances"), (2, b"", b"there is no folder of a solver\n"))
 
 
 if __name__ == "__main__":

@@ -43,7 +43,7 @@ class Wheel(unittest.TestCase):
             sums = {hashlib.sha256(path.read_bytes()).hexdigest() for path in (wheel, other)}
             self.assertEqual(len(sums), 1)
             names = zipfile.ZipFile(wheel).namelist()
-            for name in ("libtsp.so", "py.typed", "__main__.py", "recheck.py"):
+            for name in ("libtsp.so", "py.typed", "__main__.py", "recheck.py", "standings.schema.json"):
                 self.assertIn(f"yokecairn/{name}", names)
             self.use(wheel, Path(two, "environment"))
 

@@ -26,7 +26,7 @@ _VERBS: Dict[str, Tuple[str, Tuple[str, ...], Tuple[str, ...]]] = {
     "table": (
         "judge solvers on many instances, and put them beside each other",
         ("folders",),
-        ("--best", "--csv", "--latex", "--html", "--jobs", "--no-claims"),
+        ("--best", "--csv", "--json", "--markdown", "--latex", "--html", "--jobs", "--no-claims"),
     ),
     "publish": (
         "put a result into a new folder, with all that a reader needs to check it",
@@ -66,6 +66,7 @@ _OPTIONS: Dict[str, Dict[str, Any]] = {
     "--tsv": {"action": "store_true", "help": "write a table with a tab between its columns"},
     "--json": {"action": "store_true", "help": "write JSON, when all are judged"},
     "--csv": {"action": "store_true", "help": "write a row for each instance and solver"},
+    "--markdown": {"action": "store_true", "help": "write a table of Markdown"},
     "--latex": {"action": "store_true", "help": "write a tabular of LaTeX"},
     "--html": {"action": "store_true", "help": "write HTML"},
     "--jobs": {"metavar": "N", "type": int, "help": "how many processes judge side by side"},
@@ -155,7 +156,7 @@ class Task:
         self.paths: List[str] = [path for path in paths if path is not None]
         self.solutions: List[str] = getattr(given, "solutions", [])
         self.best: Optional[str] = getattr(given, "best", None)
-        forms = [form for form in ("tsv", "json", "csv", "latex", "html") if getattr(given, form, False)]
+        forms = [form for form in ("tsv", "json", "csv", "latex", "html", "markdown") if getattr(given, form, False)]
         self.form = forms[0] if forms else "text"
         self.sums: bool = getattr(given, "summary", False)
         if len(forms) > 1:

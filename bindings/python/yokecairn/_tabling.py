@@ -6,7 +6,8 @@ from typing import Any, Optional
 from . import _library
 from ._grammar import Task
 from .compare import status_of
-from .contest import Table, table
+from .contest import table
+from .standings import Table
 
 _WIDE = 24  # signs of the bar
 
@@ -16,8 +17,8 @@ def _status(found: Table) -> int:
     most = _library.DONE
     for instance in found.instances:
         for solver in found.solvers:
-            outcome = found[instance, solver]
-            most = max(most, _library.NO if outcome is None else status_of(outcome))
+            outcomes = found.runs(instance, solver).values()
+            most = max(most, max(map(status_of, outcomes), default=_library.NO))
     return most
 
 
@@ -51,7 +52,9 @@ def tabled(run: Any, task: Task) -> int:
     except OSError as fault:
         run.explain(f"{fault.filename}: {fault.strerror}")
         return 5
-    forms = {"csv": found.to_csv, "latex": found.to_latex, "html": found.to_html}
+    forms = {
+        "csv": found.to_csv, "latex": found.to_latex, "html": found.to_html, "json": found.to_json, "markdown": found.to_markdown,
+    }
     written = forms[task.form]() if task.form in forms else f"{found}\n"
     run.write((written or "").encode("utf-8", "surrogateescape"))
     return _status(found)

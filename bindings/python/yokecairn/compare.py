@@ -496,13 +496,13 @@ def _shown(text: str) -> str:
     return text.encode("utf-8", "surrogateescape").decode("utf-8", "replace")
 
 
-def cells(row: Mapping[str, Any]) -> Dict[str, str]:
-    """The cells of a row as texts."""
+def cells(row: Mapping[str, Any], decimal: Sequence[str] = _PERCENTS) -> Dict[str, str]:
+    """The cells of a row as texts, those of the `decimal` columns with four decimals."""
 
     def cell(name: str, value: Any) -> str:
         if value is None:
             return ""
-        return f"{value:.4f}" if name in _PERCENTS else str(value)
+        return f"{value:.4f}" if name in decimal else str(value)
 
     return {name: cell(name, value) for name, value in row.items()}
 

@@ -1,84 +1,197 @@
-"""The call `table`: solvers beside each other on many instances, with ranks, gaps, and all that isn't accepted."""
+"""The call `table`: solvers beside each other on many instances. This module finds the files, and judges them; standings.py has
+the table that comes of it."""
 
-import html
-import importlib
-import io
+import csv
+import difflib
 import os
-import re
 from concurrent.futures import as_completed
 from pathlib import Path as _Path
-from typing import Any, Callable, Dict, Iterable, List, Mapping, NamedTuple, Optional, Sequence, Tuple, Union
+from typing import Any, Callable, Dict, Iterable, List, NamedTuple, Optional, Set, Tuple, Union
 
-from .compare import Basis, Best, BestUnknown, Judge, cells, rows_to, said_of
+from .compare import Best, BestUnknown, Judge
 from .faults import Error
-from .many import Outcome, executor_of
+from .many import executor_of
 from .problem import Path
-from .report import Report
+from .standings import Place, Standing, Table
 
 _INSTANCES = (".tsp", ".atsp", ".vrp")
 _CERTIFICATES = (".potentials", ".branches")
 _SOLUTIONS = (".tour", ".sol", ".json", ".txt", ".csv", ".edges", ".cyc")
-
-COLUMNS = (
-    "instance",
-    "solver",
-    "verdict",
-    "length",
-    "rank",
-    "best",
-    "best_percent",
-    "bound",
-    "gap",
-    "gap_percent",
-    "routes",
-    "detail",
-)
+_HOME = "instances"  # the folder of a contest in which its instances are
+_TIMES = "times.csv"
+_MOST_TOLD = 10  # files that a refusal names
 
 Progress = Callable[[int, int, str], None]
 
 
 class Entry(NamedTuple):
-    """A solution of an instance by a solver, with the certificate of the instance, where there is one."""
+    """A solution of an instance by a solver, with the certificate of the instance, where there is one. A solver that has
+    several solutions of an instance names each by its run."""
 
     instance: Path
     solver: str
     solution: Path
     potentials: Optional[Path] = None
     branches: Optional[Path] = None
+    run: str = ""
 
 
-class Found(NamedTuple):
-    """What comes of the solutions of an instance: of each solver, and what is known of all; its fault in their place."""
+class Contest:
+    """What the folders of a contest hold.
 
-    basis: Optional[Basis]
-    best: Optional[int]
-    outcomes: Dict[str, Outcome]
+    Attributes:
+        instances: the path of each instance, and its certificate, by its name.
+        entries: the solutions.
+        solvers: all that have a folder, also an empty one.
+        seconds: how long a run took, by its solver, instance and run, where a file `times.csv` says so.
+    """
+
+    def __init__(self) -> None:
+        self.instances: Dict[str, Tuple[str, Dict[str, str]]] = {}
+        self.entries: List[Entry] = []
+        self.solvers: Set[str] = set()
+        self.seconds: Dict[Place, float] = {}
+
+    def add_instances(self, files: Iterable[_Path]) -> None:
+        """Adds the instances of these files, each with the certificate beside it.
+
+        Raises:
+            ValueError: two instances have one name, or a certificate has no instance.
+        """
+        listed = list(files)
+        for file in listed:
+            if file.suffix in _INSTANCES:
+                other = self.instances.setdefault(file.stem, (str(file), {}))[0]
+                if other != str(file):
+                    raise ValueError(f"two instances have the name {file.stem}: {other} and {file}")
+        for file in listed:
+            if file.suffix in _CERTIFICATES:
+                path, certificate = self.instances.get(file.stem, ("", {}))
+                if not path or _Path(path).parent != file.parent:
+                    raise ValueError(f"{file}: there is no instance {file.stem} beside it{self._near(file.stem)}")
+                # (branches are tighter where there are potentials too)
+                if not certificate or file.suffix == ".branches":
+                    certificate.clear()
+                    certificate[file.suffix[1:]] = str(file)
+
+    def _near(self, name: str) -> str:
+        """Which instance may be meant by a name."""
+        near = difflib.get_close_matches(name, self.instances, 1)
+        return f": is {near[0]} meant?" if near else ""
+
+    def _parts(self, file: _Path) -> Tuple[str, str]:
+        """The instance and the run that the name of a file has: `harbour` and `run1` of harbour.run1.tour. The instance is
+        empty where there is none."""
+        parts = file.name.split(".")
+        for count in range(len(parts) - 1, 0, -1):
+            name = ".".join(parts[:count])
+            if name in self.instances:
+                return name, ".".join(parts[count:-1])
+        return "", ""
+
+    def add_solver(self, solver: str, files: Iterable[_Path]) -> List[str]:
+        """Adds the solutions of a solver; returns what is wrong with other files."""
+        self.solvers.add(solver)
+        wrong: List[str] = []
+        others: List[_Path] = []
+        for file in files:
+            name, run = self._parts(file)
+            if file.name == _TIMES:
+                self._add_times(solver, file)
+            elif file.suffix not in _SOLUTIONS:
+                others.append(file)
+            elif not name:
+                stem = file.name.partition(".")[0]
+                wrong.append(f"{file}: there is no instance {stem}{self._near(stem)}")
+            else:
+                path, certificate = self.instances[name]
+                self.entries.append(Entry(path, solver, str(file), run=run, **certificate))
+        solved = {_Path(entry.instance).stem for entry in self.entries if entry.solver == solver}
+        for file in others:  # (as a log beside a solution may be)
+            name, _ = self._parts(file)
+            if name and name not in solved:
+                wrong.append(f"{file}: the name of a solution ends in {', '.join(_SOLUTIONS)}")
+        return wrong
+
+    def _add_times(self, solver: str, file: _Path) -> None:
+        """Reads how many seconds runs took: columns `instance`, `seconds` and, if there are several runs, `run`.
+
+        Raises:
+            ValueError: a line has another form, or names no instance.
+        """
+        with open(file, encoding="utf-8-sig", newline="") as lines:
+            rows = csv.DictReader(lines)
+            if not {"instance", "seconds"} <= set(rows.fieldnames or ()):
+                raise ValueError(f"{file}:1: the columns instance and seconds are wanted, and run if there are several")
+            for row in rows:
+                name, run = row["instance"] or "", row.get("run") or ""
+                try:
+                    seconds = float(row["seconds"])
+                except (TypeError, ValueError):
+                    seconds = -1.0
+                if not 0 <= seconds < float("inf"):
+                    raise ValueError(f"{file}:{rows.line_num}: this is no number of seconds: {row['seconds']}")
+                if name not in self.instances:
+                    raise ValueError(f"{file}:{rows.line_num}: there is no instance {name}{self._near(name)}")
+                if (solver, name, run) in self.seconds:
+                    raise ValueError(f"{file}:{rows.line_num}: a run of {name} comes twice")
+                self.seconds[solver, name, run] = seconds
 
 
-def find(folders: Iterable[Path]) -> Tuple[List[Entry], List[str]]:
-    """The entries in these folders and all below, and the solutions that belong to no instance.
+def _visible(folder: _Path) -> List[_Path]:
+    """What is in a folder, in order, but for hidden files."""
+    return sorted(it for it in folder.iterdir() if not it.name.startswith("."))
+
+
+def _solvers_in(folder: _Path, is_top: bool, instances: Set[_Path]) -> Dict[_Path, List[_Path]]:
+    """The folders of solvers in this one and below, with their files. A folder is one if it has a solution, or if it is a
+    direct subfolder of a contest and has nothing that is known, as an empty one."""
+    inside = _visible(folder)
+    folders = [it for it in inside if it.is_dir()]
+    is_contest = is_top or folder / _HOME in folders
+    found: Dict[_Path, List[_Path]] = {}
+    for it in folders:
+        below = _solvers_in(it, False, instances)
+        found.update(below)
+        if is_contest and not below and not any(it == home or it in home.parents for home in instances):
+            found[it] = [file for file in _visible(it) if file.is_file()]
+    files = [it for it in inside if it.is_file()]
+    has_solution = any(it.suffix in _SOLUTIONS for it in files)
+    # what is beside the folders of a contest, as a list of best-known lengths, is no solution
+    if has_solution and not (is_contest and folders):
+        found[folder] = files
+    elif is_top and not folders and folder not in instances:
+        found[folder] = files
+    return found
+
+
+def find(folders: Iterable[Path], best: Optional[Path] = None) -> Contest:
+    """What these folders and all below hold.
 
     An instance is a file `NAME.tsp`, `NAME.atsp` or `NAME.vrp`; `NAME.potentials` or `NAME.branches` in its folder is its
-    certificate. A solution is a file `NAME.tour`, `.sol`, `.json` and so on, or `NAME.more.tour`, and its solver is the
-    name of its folder.
+    certificate. A solution is a file `NAME.tour`, `.sol`, `.json` and so on, or `NAME.RUN.tour`, and its solver is the
+    name of its folder. `best` is a file that is no solution.
+
+    Raises:
+        ValueError: a file has a name that belongs to nothing, or two have the same.
     """
-    files = sorted(file for folder in folders for file in _Path(folder).rglob("*") if file.is_file())
-    instances = {file.stem: file for file in files if file.suffix in _INSTANCES}
-    entries: List[Entry] = []
-    others: List[str] = []
-    for file in files:
-        if file.suffix not in _SOLUTIONS:
-            continue
-        stem = next((it for it in (file.stem, file.name.partition(".")[0]) if it in instances), None)
-        if stem is None:
-            others.append(str(file))
-            continue
-        instance = instances[stem]
-        own = (instance.with_suffix(suffix) for suffix in _CERTIFICATES)
-        potentials, branches = (str(it) if it.exists() else None for it in own)
-        certificates = (None, branches) if branches else (potentials, None)
-        entries.append(Entry(str(instance), file.parent.name, str(file), *certificates))
-    return entries, others
+    contest = Contest()
+    tops = [_Path(folder) for folder in folders]
+    contest.add_instances(sorted(file for top in tops for file in top.rglob("*") if file.is_file() and not file.name.startswith(".")))
+    homes = {_Path(path).parent for path, _ in contest.instances.values()}
+    wrong: List[str] = []
+    for top in tops:
+        for folder, files in _solvers_in(top, True, homes).items():
+            own = [file for file in files if best is None or file != _Path(best)]
+            if folder in homes:  # a folder of instances may have notes
+                own = [file for file in own if contest._parts(file)[0] and file.suffix in _SOLUTIONS]
+                if not own:
+                    continue
+            wrong += contest.add_solver(folder.resolve().name, own)
+    if wrong:
+        more = f"\nand {len(wrong) - _MOST_TOLD} more" if len(wrong) > _MOST_TOLD else ""
+        raise ValueError("\n".join(wrong[:_MOST_TOLD]) + more)
+    return contest
 
 
 def listed_in(path: Path) -> List[Entry]:
@@ -105,229 +218,32 @@ def listed_in(path: Path) -> List[Entry]:
     return entries
 
 
-class Table:
-    """What comes of each solver on each instance. As a text, and in a notebook, it is a table of lengths.
-
-    A rank is 1 for the shortest accepted solution of an instance; equal lengths share it. A solver without an accepted
-    solution has the last rank: the number of solvers.
-
-    Attributes:
-        instances, solvers: their names, in order.
-        unused: the solutions that belong to no instance.
-    """
-
-    def __init__(self, found: Mapping[str, Found], unused: Sequence[str] = ()) -> None:
-        self._found = dict(found)
-        self.instances = list(self._found)
-        self.solvers = sorted({solver for it in self._found.values() for solver in it.outcomes})
-        self.unused = list(unused)
-
-    def __getitem__(self, place: Tuple[str, str]) -> Optional[Outcome]:
-        """What came of a solver on an instance: `table["harbour8", "lkh"]`; None where it has no solution."""
-        instance, solver = place
-        return self._found[instance].outcomes.get(solver)
-
-    def length(self, instance: str, solver: str) -> Optional[int]:
-        """The length of an accepted solution; None where there is none."""
-        outcome = self[instance, solver]
-        return outcome.length if isinstance(outcome, Report) and outcome.yes else None
-
-    def rank(self, instance: str, solver: str) -> int:
-        """The rank of a solver on an instance."""
-        own = self.length(instance, solver)
-        if own is None:
-            return len(self.solvers)
-        lengths = (self.length(instance, other) for other in self.solvers)
-        return 1 + sum(length is not None and length < own for length in lengths)
-
-    def as_rows(self) -> List[Dict[str, Any]]:
-        """A row for each instance and solver, with the columns of `COLUMNS`. What isn't known is None.
-
-        `verdict` is `optimal`, `yes`, `no`, `fault`, `unread`, or `missing` where a solver has no solution.
-        """
-        return [self._row(instance, solver) for instance in self.instances for solver in self.solvers]
-
-    def _row(self, instance: str, solver: str) -> Dict[str, Any]:
-        basis, best, outcomes = self._found[instance]
-        row: Dict[str, Any] = dict.fromkeys(COLUMNS)
-        row.update(instance=instance, solver=solver, best=best, rank=self.rank(instance, solver))
-        row["bound"] = None if basis is None else basis.bound
-        outcome = outcomes.get(solver)
-        if outcome is None:
-            return {**row, "verdict": "missing"}
-        if not isinstance(outcome, Report):
-            return {**row, "verdict": "unread" if isinstance(outcome, OSError) else "fault", "detail": said_of(outcome)}
-        if not outcome.yes:
-            return {**row, "verdict": "no", "detail": outcome.detail}
-        row.update(length=outcome.length, gap=outcome.gap, gap_percent=outcome.gap_percent, routes=outcome.routes)
-        row["best_percent"] = None if best is None else outcome.percent_over(best)
-        return {**row, "verdict": "optimal" if outcome.optimal else "yes"}
-
-    def rejected(self) -> List[Tuple[str, str, str]]:
-        """The instance, the solver and what is wrong, of all that isn't accepted or is missing."""
-        rows = (row for row in self.as_rows() if row["verdict"] not in ("optimal", "yes"))
-        return [(row["instance"], row["solver"], row["detail"] or row["verdict"]) for row in rows]
-
-    def as_sums(self) -> List[Dict[str, Any]]:
-        """A row for each solver: how many solutions are `accepted` of how many instances (`of`), on how many it is the
-        shortest (`first`), and the means of its ranks, and of the percents over the best-known length and the bound."""
-        sums = []
-        for solver in self.solvers:
-            rows = [self._row(instance, solver) for instance in self.instances]
-            own = [row for row in rows if row["verdict"] in ("optimal", "yes")]
-            means = {name: _mean([row[name] for row in own]) for name in ("best_percent", "gap_percent")}
-            first = sum(row["rank"] == 1 for row in own)
-            rank = _mean([row["rank"] for row in rows])
-            sums.append({"solver": solver, "accepted": len(own), "of": len(rows), "first": first, "rank": rank, **means})
-        return sorted(sums, key=lambda row: (row["rank"] or 0, row["solver"]))
-
-    # ---- as a text, and for other programs
-
-    def _grid(self) -> List[List[str]]:
-        """The cells of the table: a line of names, one for each instance, and those of sums."""
-        order = [row["solver"] for row in self.as_sums()]
-        grid = [["instance", "best", "bound", *order]]
-        for instance in self.instances:
-            basis, best, _ = self._found[instance]
-            known = ["" if it is None else str(it) for it in (best, None if basis is None else basis.bound)]
-            grid.append([instance, *known, *(self._cell(instance, solver) for solver in order)])
-        sums = self.as_sums()
-        for name, told in (
-            ("accepted", [f"{row['accepted']} of {row['of']}" for row in sums]),
-            ("shortest", [str(row["first"]) for row in sums]),
-            ("mean rank", [f"{row['rank']:.2f}" for row in sums]),
-            ("mean % over best", [_percent(row["best_percent"]) for row in sums]),
-            ("mean % over bound", [_percent(row["gap_percent"]) for row in sums]),
-        ):
-            if any(told):
-                grid.append([name, "", "", *told])
-        used = [any(row[at] for row in grid[1:]) or at == 0 for at in range(len(grid[0]))]
-        return [[cell for cell, is_used in zip(row, used) if is_used] for row in grid]
-
-    def _cell(self, instance: str, solver: str) -> str:
-        """The length, with the percent over the best-known length, or else over the bound."""
-        row = self._row(instance, solver)
-        if row["length"] is None:
-            return "-" if row["verdict"] == "missing" else "no"
-        over = row["gap_percent"] if row["best"] is None else row["best_percent"]
-        return f"{row['length']}" + ("" if over is None else f" {over:+.2f} %") + ("*" if row["verdict"] == "optimal" else "")
-
-    def _above(self) -> List[str]:
-        """What is said above the table: each that isn't accepted, with its reason, what isn't judged of an instance, and each
-        unused file."""
-        told = [f"not accepted: {instance}, {solver}: {why}" for instance, solver, why in self.rejected()]
-        bases = ((instance, found.basis) for instance, found in self._found.items())
-        told += [f"not judged of {instance}: {', '.join(it.not_judged)}" for instance, it in bases if it and it.not_judged]
-        return told + [f"of no instance: {path}" for path in self.unused]
-
-    def __str__(self) -> str:
-        grid = self._grid()
-        wide = [max(map(len, column)) for column in zip(*grid)]
-        lines = []
-        for row in grid:
-            parts = [it.rjust(width) if at else it.ljust(width) for at, (it, width) in enumerate(zip(row, wide))]
-            lines.append("  ".join(parts).rstrip())
-        return "\n".join([*self._above(), *lines])
-
-    def to_csv(self, path: Optional[Path] = None) -> Optional[str]:
-        """Writes the rows to a path, below a line with the names of the columns; or returns that text."""
-        lines = io.StringIO()
-        writer = rows_to(lines, ",", COLUMNS)
-        writer.writeheader()
-        writer.writerows(map(cells, self.as_rows()))
-        return _put(lines.getvalue(), path)
-
-    def to_latex(self, path: Optional[Path] = None) -> Optional[str]:
-        """Writes the table as a `tabular` of LaTeX to a path, with what isn't accepted in comments above; or returns that
-        text."""
-        head, *rows = ([_latex(cell) for cell in row] for row in self._grid())
-        begin = f"\\begin{{tabular}}{{l{'r' * (len(head) - 1)}}}"
-        above = [f"% {line}" for line in self._above()]
-        lines = [f"{' & '.join(row)} \\\\" for row in rows]
-        count = len(self.instances)
-        body = [begin, "\\hline", f"{' & '.join(head)} \\\\", "\\hline", *lines[:count], "\\hline", *lines[count:], "\\hline"]
-        return _put("\n".join([*above, *body, "\\end{tabular}", ""]), path)
-
-    def to_html(self, path: Optional[Path] = None) -> Optional[str]:
-        """Writes the table as HTML to a path, below what isn't accepted; or returns that text."""
-
-        def line(tag: str, row: List[str]) -> str:
-            return "<tr>" + "".join(f"<{tag}>{html.escape(_plain(it))}</{tag}>" for it in row) + "</tr>"
-
-        head, *rows = self._grid()
-        above = "".join(f"<li>{html.escape(_plain(it))}</li>" for it in self._above())
-        body = "\n".join(line("td", row) for row in rows)
-        listed = f"<ul>{above}</ul>\n" if above else ""
-        return _put(f"{listed}<table>\n<thead>{line('th', head)}</thead>\n<tbody>\n{body}\n</tbody>\n</table>\n", path)
-
-    def _repr_html_(self) -> str:
-        return self.to_html() or ""
-
-    def to_dataframe(self) -> Any:
-        """The rows as a DataFrame of pandas, which has to be installed.
-
-        Raises:
-            ImportError: pandas isn't installed.
-        """
-        pandas = importlib.import_module("pandas")
-        frame = pandas.DataFrame(self.as_rows(), columns=list(COLUMNS))
-        whole = {name: "Int64" for name in ("length", "rank", "best", "bound", "gap", "routes")}
-        return frame.astype({**whole, "best_percent": "float64", "gap_percent": "float64"})
-
-
-def _mean(numbers: Sequence[Optional[float]]) -> Optional[float]:
-    known = [number for number in numbers if number is not None]
-    return sum(known) / len(known) if known else None
-
-
-def _percent(number: Optional[float]) -> str:
-    return "" if number is None else f"{number:.4f}"
-
-
-def _plain(text: str) -> str:
-    """A text with a sign in the place of each byte that is no UTF-8."""
-    return text.encode("utf-8", "surrogateescape").decode("utf-8", "replace")
-
-
-def _latex(text: str) -> str:
-    """A text of LaTeX that shows this one."""
-    named = {"\\": r"\textbackslash{}", "~": r"\textasciitilde{}", "^": r"\textasciicircum{}"}
-    return re.sub(r"[\\~^&%$#_{}]", lambda found: named.get(found[0], f"\\{found[0]}"), _plain(text))
-
-
-def _put(text: str, path: Optional[Path]) -> Optional[str]:
-    """Writes a text to a path; or returns it where there is none."""
-    if path is None:
-        return text
-    with open(path, "w", encoding="utf-8", errors="surrogateescape", newline="") as file:
-        file.write(text)
-    return None
+# ---- what comes of all
 
 
 class _Job(NamedTuple):
-    """The solutions of an instance, by their solvers."""
+    """The solutions of an instance, by their solvers and runs."""
 
     instance: Path
     potentials: Optional[Path]
     branches: Optional[Path]
-    solutions: Dict[str, Path]
+    solutions: Dict[Tuple[str, str], Path]
     best: Optional[Best]
     claims: bool
 
 
-def _found(job: _Job) -> Found:
+def _judged(job: _Job) -> Standing:
     """What comes of a job."""
     try:
         judge = Judge.of(job.instance, job.potentials, job.branches, True, job.claims)
         basis = judge.basis
     except (Error, OSError) as fault:
-        return Found(None, None, {solver: fault for solver in job.solutions})
+        return Standing(None, None, {place: fault for place in job.solutions}, fault)
     try:
         best = judge.best(job.best)
     except BestUnknown:
         best = None
-    outcomes = {solver: judge.outcome(path) for solver, path in job.solutions.items()}
-    return Found(basis, best, outcomes)
+    return Standing(basis, best, {place: judge.outcome(path) for place, path in job.solutions.items()})
 
 
 def table(
@@ -342,46 +258,52 @@ def table(
     """Judges the solutions of several solvers of many instances, some of them at once.
 
     `entries` are folders, in which instances and solutions are found as `find` says, lists as `listed_in` reads them, or
-    each an `Entry`. Solutions may
-    have the form of another program, and the length that one claims is taken; `claims=False` leaves it. `best` has
-    best-known lengths: by the NAME of instances, or a file of lines `NAME LENGTH`. `workers` are as many as there are
-    processors where they aren't named: threads, or with `processes` processes of their own, as in `check_many`.
+    each an `Entry`. The table has a row for each instance and a column for each solver of the folders, also where there is
+    no solution. Solutions may have the form of another program, and the length that one claims is taken; `claims=False`
+    leaves it. `best` has best-known lengths: by the NAME of instances, or a file of lines `NAME LENGTH`. `workers` are as
+    many as there are processors where they aren't named: threads, or with `processes` processes of their own, as in
+    `check_many`.
 
     `progress(done, all, instance)` is called when an instance is done.
 
     Raises:
-        ValueError: a solver has two solutions of an instance, or two instances have one name; there is no solution; or a
-            line of a list has another form.
+        ValueError: a file's name belongs to no instance; a solver has two solutions of an instance with one run, or two
+            instances have one name; there is no instance or no solver; or a line of a list has another form.
         OSError: a list, or the file of best-known lengths, can't be read.
     """
     given: List[Any] = [entries] if isinstance(entries, (str, os.PathLike)) else list(entries)
     places = [it for it in given if not isinstance(it, Entry)]
     listed = [it for it in given if isinstance(it, Entry)]
     listed += [entry for place in places if not os.path.isdir(place) for entry in listed_in(place)]
-    placed, others = find(place for place in places if os.path.isdir(place))
-    unused = [path for path in others if not (isinstance(best, (str, os.PathLike)) and _Path(path) == _Path(best))]
-    jobs = _jobs([*listed, *placed], best, claims)
-    if not jobs:
-        raise ValueError("there is no solution of an instance")
-    found: Dict[str, Found] = {}
+    contest = find((place for place in places if os.path.isdir(place)), best if isinstance(best, (str, os.PathLike)) else None)
+    jobs = {name: _Job(path, solutions={}, best=best, claims=claims, **_certificate(own)) for name, (path, own) in contest.instances.items()}
+    _add_entries(jobs, [*listed, *contest.entries], best, claims)
+    solvers = contest.solvers | {entry.solver for entry in listed}
+    if not jobs or not solvers:
+        raise ValueError("there is no folder of a solver" if jobs else "there is no instance")
+    found: Dict[str, Standing] = {}
     with executor_of(workers or os.cpu_count() or 1, processes) as pool:
-        running = {pool.submit(_found, job): name for name, job in jobs.items()}
+        running = {pool.submit(_judged, job): name for name, job in jobs.items()}
         for done, future in enumerate(as_completed(running), 1):
             found[running[future]] = future.result()
             if progress is not None:
                 progress(done, len(jobs), running[future])
-    return Table({name: found[name] for name in jobs}, unused)
+    return Table(found, solvers, contest.seconds)
 
 
-def _jobs(entries: Iterable[Entry], best: Optional[Best], claims: bool) -> Dict[str, _Job]:
-    """The job of each instance, by its name."""
-    jobs: Dict[str, _Job] = {}
+def _certificate(named: Dict[str, str]) -> Dict[str, Optional[str]]:
+    return {"potentials": named.get("potentials"), "branches": named.get("branches")}
+
+
+def _add_entries(jobs: Dict[str, _Job], entries: Iterable[Entry], best: Optional[Best], claims: bool) -> None:
+    """Adds solutions to the jobs of their instances."""
     for entry in entries:
         name = _Path(entry.instance).stem
         job = jobs.setdefault(name, _Job(entry.instance, entry.potentials, entry.branches, {}, best, claims))
         if str(job.instance) != str(entry.instance):
             raise ValueError(f"two instances have the name {name}: {job.instance} and {entry.instance}")
-        if entry.solver in job.solutions:
-            raise ValueError(f"{entry.solver} has two solutions of {name}: {job.solutions[entry.solver]} and {entry.solution}")
-        job.solutions[entry.solver] = entry.solution
-    return jobs
+        place = entry.solver, entry.run
+        if place in job.solutions:
+            of = f"{name}, run {entry.run}" if entry.run else name
+            raise ValueError(f"{entry.solver} has two solutions of {of}: {job.solutions[place]} and {entry.solution}")
+        job.solutions[place] = entry.solution
