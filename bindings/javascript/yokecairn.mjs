@@ -6,7 +6,7 @@ import { Fault, NodeError, OutOfMemory, SolutionError } from "./errors.mjs";
 import { Judge } from "./judge.mjs";
 import { By, Call, Library, Section, Status } from "./library.mjs";
 import { decimalOf, rounded, written } from "./numbers.mjs";
-import { reportOf } from "./report.mjs";
+import { plainOf, reportOf } from "./report.mjs";
 import { NoSolution, converted } from "./solutions.mjs";
 import { NOTHING, certificateOf, given, solutionOf, system } from "./sources.mjs";
 
@@ -87,9 +87,7 @@ export class Report {
 
     /** @returns {Record<string, unknown>} */
     toJSON() {
-        /** @param {unknown} value */
-        const plain = (value) => (typeof value === "bigint" ? (BigInt(Number(value)) === value ? Number(value) : String(value)) : value);
-        return Object.fromEntries(Object.entries(this).map(([name, value]) => [name, plain(value)]));
+        return Object.fromEntries(Object.entries(this).map(([name, value]) => [name, plainOf(value)]));
     }
 }
 

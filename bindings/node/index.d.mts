@@ -79,8 +79,8 @@ export class Report {
     readonly least: number | null;
     /** Why the verdict is a no, as `RepeatedNode`. */
     readonly reason: string | null;
-    /** The numbers of the reason. */
-    readonly numbers: readonly number[];
+    /** The numbers of the reason: a length is a bigint, all others are numbers. */
+    readonly numbers: readonly (number | bigint)[];
     /** The unknown keywords of the instance, which the verdict doesn't speak of. */
     readonly notJudged: readonly string[];
     /** The whole report, as the program prints it. */
@@ -91,7 +91,7 @@ export class Report {
     get gapPercent(): number | null;
     /** By how many percent the length is above another one. */
     percentOver(length: bigint | number): number | null;
-    /** What JSON.stringify writes: numbers of more than 53 bits are texts. */
+    /** What JSON.stringify writes: whole numbers from 2^53 on, and below -2^53, are texts. */
     toJSON(): Record<string, unknown>;
 }
 
@@ -119,7 +119,7 @@ export interface Basis {
     readonly noTour: boolean;
     /** Why no solution is accepted: against the instance or the certificate. */
     readonly reason: string | null;
-    readonly numbers: readonly number[];
+    readonly numbers: readonly (number | bigint)[];
 }
 
 /** Many solutions of one instance. */

@@ -63,7 +63,7 @@ test("files as paths, URLs, bytes, texts, problems and lists", () => {
 
 test("claims, reasons and explanations", () => {
     const claimed = check({ text: RECTANGLE }, [1, 2, 3, 4], { length: 15 });
-    assert.deepEqual([claimed.yes, claimed.reason, claimed.numbers], [false, "LengthClaimed", [14]]);
+    assert.deepEqual([claimed.yes, claimed.reason, claimed.numbers], [false, "LengthClaimed", [14n]]);
     assert.equal(check({ text: RECTANGLE }, [1, 2, 3, 4], { length: 14n }).yes, true);
     const limited = RECTANGLE.replace("DIMENSION", "DISTANCE : 9\nDIMENSION");
     const strict = check({ text: limited }, [1, 2, 3, 4], { strict: true, length: 14 });
@@ -81,6 +81,27 @@ test("claims, reasons and explanations", () => {
     assert.throws(() => check({ text: RECTANGLE }, [1, 2, 3, 4], { length: 1.5 }), TypeError);
     assert.throws(() => check({ text: RECTANGLE }, [1, 2, 3, 4], { length: 2n ** 63n }), RangeError);
     assert.throws(() => check({ text: RECTANGLE }, [1], { potentials: { text: "" }, branches: { text: "" } }), TypeError);
+});
+
+test("numbers above 2^53 are bigints, and texts in JSON", () => {
+    const large = 2n ** 53n + 1n;
+    const none = { kind: 1, nodes: 3, reason: 0, first: 0n, second: 0n, length: 0n, bound: null, routes: 0, least: 0n };
+    const accepted = new api.Report({ ...none, verdict: 1, length: 2n * large, bound: large }, "", "");
+    assert.deepEqual([accepted.length, accepted.bound, accepted.gap], [2n * large, large, large]);
+    const written = JSON.parse(JSON.stringify(accepted));
+    assert.deepEqual([written.length, written.bound, written.gap], ["18014398509481986", "9007199254740993", "9007199254740993"]);
+    const claimed = new api.Report({ ...none, verdict: 3, reason: 16, first: large }, "", "");
+    assert.deepEqual([claimed.reason, claimed.numbers], ["LengthClaimed", [large]]);
+    assert.deepEqual(JSON.parse(JSON.stringify(claimed)).numbers, ["9007199254740993"]);
+    for (const [length, plain] of [[2n ** 53n - 1n, 2 ** 53 - 1], [2n ** 53n, "9007199254740992"], [-large, "-9007199254740993"]]) {
+        assert.equal(JSON.parse(JSON.stringify(new api.Report({ ...none, verdict: 1, length }, "", ""))).length, plain);
+    }
+    const basis = { type: "TSP", nodes: 3, notJudged: [], least: null, bound: null, noTour: false, reason: null, numbers: [] };
+    const found = new api.Comparison(basis, ["a", "b"], [accepted, claimed]);
+    assert.equal(String(found), "type TSP\nnodes 3\n18014398509481986 gap 9007199254740993 a\nno LengthClaimed 9007199254740993 b\n");
+    assert.deepEqual(found.toTSV().split("\n").slice(1, 3).map((row) => row.split("\t").at(-1)), ["", "LengthClaimed 9007199254740993"]);
+    assert.throws(() => check({ text: RECTANGLE }, [1, 2, 3, 4], { length: 2 ** 53 }), TypeError, "a rounded length isn't taken");
+    assert.equal(check({ text: RECTANGLE }, [1, 2, 3, 4], { length: large }).reason, "LengthClaimed");
 });
 
 test("routes, bounds and branches", () => {

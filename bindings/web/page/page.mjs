@@ -309,7 +309,7 @@ function showStep(/** @type {number} */ at) {
     const others = step.degrees.filter((degree) => degree !== 2).length;
     /** @type {HTMLInputElement} */ (find("step")).value = String(at);
     fillPicture("tree", treeOf(outcome.scene, step, find("result").clientWidth));
-    fillPicture("curve", curveOf(steps, at, length === null ? null : Number(length), find("result").clientWidth));
+    fillPicture("curve", curveOf(steps, at, length, find("result").clientWidth));
     const rest = others === 0 ? "Each node has two edges: the 1-tree is a tour." : `${others} nodes, marked, don't have two edges: their potentials rise or fall.`;
     find("step-words").textContent = `Step ${at}: the least 1-tree gives the bound ${step.bound.toFixed(2)}. ${rest} The dashed edges are those of node 1.`;
 }

@@ -81,19 +81,19 @@ export function treeOf(scene, { edges, degrees }, room) {
  *
  * @param {import("./ascent.mjs").Step[]} steps
  * @param {number} at
- * @param {number | null} length
+ * @param {bigint | null} length
  * @param {number} room
  * @returns {Picture}
  */
 export function curveOf(steps, at, length, room) {
     const [width, height] = [Math.max(room, LEAST_WIDTH), 180];
     const bounds = steps.map(({ bound }) => bound);
-    const [low, high] = [Math.min(...bounds), Math.max(...bounds, length ?? -Infinity)];
+    const [low, high] = [Math.min(...bounds), Math.max(...bounds, length === null ? -Infinity : Number(length))];
     const x = (/** @type {number} */ step) => round(MARGIN + ((width - 2 * MARGIN) * step) / Math.max(1, steps.length - 1));
     const y = (/** @type {number} */ bound) => round(height - MARGIN - ((height - 2 * MARGIN) * (bound - low)) / (high - low || 1));
     const line = `M${bounds.map((bound, step) => `${x(step)} ${y(bound)}`).join("L")}`;
-    const above = length === null ? [] : [path(`M${MARGIN} ${y(length)}H${width - MARGIN}`, "upper")];
-    const told = length === null ? [] : [{ name: "text", attributes: { x: MARGIN, y: y(length) - 6, class: "scale" }, text: `length ${length}` }];
+    const above = length === null ? [] : [path(`M${MARGIN} ${y(Number(length))}H${width - MARGIN}`, "upper")];
+    const told = length === null ? [] : [{ name: "text", attributes: { x: MARGIN, y: y(Number(length)) - 6, class: "scale" }, text: `length ${length}` }];
     return { width, height, shapes: [...above, ...told, path(line, "rise"), { name: "circle", attributes: { cx: x(at), cy: y(bounds[at]), r: 5, class: "here" } }] };
 }
 

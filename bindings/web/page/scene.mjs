@@ -171,7 +171,7 @@ export function missingOf(nodes, tours, depot) {
  */
 export function marksOf(report, tours, fixed) {
     const none = { nodes: [], pair: null, route: null };
-    const [first, second] = report?.numbers ?? [];
+    const [first, second] = (report?.numbers ?? []).map(Number); // (nodes, places and indexes)
     switch (report?.reason) {
         case "RepeatedNode":
         case "NodeOutOfRange":

@@ -8,7 +8,7 @@ import { test } from "node:test";
 import { By, Section, Status, Verdict } from "../../javascript/library.mjs";
 import { ascentOf, canRise } from "../page/ascent.mjs";
 import { withoutGeo } from "../page/geo.mjs";
-import { barOf, pictureOf } from "../page/picture.mjs";
+import { barOf, curveOf, pictureOf } from "../page/picture.mjs";
 import { percentOf, reportOf, verdictOf } from "../../javascript/report.mjs";
 import { roleOf } from "../page/roles.mjs";
 import { risingOf, run, tableOf, verbOf } from "../page/run.mjs";
@@ -43,6 +43,23 @@ test("a report of a result in numbers", () => {
     const last = refusedReport(Number(number), 4n);
     assert.deepEqual([last.reason, last.numbers], [name, numbers.split(" ").filter(Boolean).map((_, at) => (at === 0 ? 4 : 0))]);
     assert.equal(reportWith({ kind: 3 }).type, "CVRP");
+});
+
+test("numbers above 2^53 aren't rounded", () => {
+    const large = 2n ** 53n + 1n;
+    assert.notEqual(BigInt(Number(large)), large, "a number would be rounded");
+    assert.deepEqual([refusedReport(16, large).numbers, refusedReport(16, -large).numbers, refusedReport(16, 14n).numbers], [[large], [-large], [14n]]);
+    assert.equal(verdictOf(refusedReport(16, large)).meaning, "The reason is LengthClaimed 9007199254740993.");
+    const { length, bound, gap } = tourReport(2n * large, large);
+    assert.deepEqual([length, bound, gap], [2n * large, large, large]);
+    assert.match(verdictOf(tourReport(large)).meaning, /length is 9007199254740993\.$/);
+    const texts = (picture) => picture.shapes.map(({ text }) => text).filter(Boolean);
+    assert.deepEqual(texts(barOf(tourReport(large, large - 1n), 600)), ["bound 9007199254740992", "length 9007199254740993: gap 1"]);
+    const steps = [{ bound: 1, edges: [], degrees: [] }];
+    assert.deepEqual(texts(curveOf(steps, 0, large, 600)), ["length 9007199254740993"]);
+    for (const kind of [3, 11, 12, 14, 15, 22, 25]) {
+        assert.equal(typeof refusedReport(kind, 7n).numbers[0], "number", "a node, a place or an index");
+    }
 });
 
 test("what a verdict means", () => {
