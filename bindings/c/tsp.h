@@ -48,8 +48,21 @@ enum {
     TSP_TOO_SMALL = 6      /* the buffer is too small, and as it was */
 };
 
-/* What a call has a certificate by. */
-enum { TSP_BY_NONE = 0, TSP_BY_POTENTIALS = 1, TSP_BY_BRANCHES = 2 };
+/* How a certificate gives a bound. The last two are for tsp_bound and tsp_bound_result alone: they also reject an instance
+ * with an unknown keyword, after all other reasons. */
+enum {
+    TSP_BY_NONE = 0,
+    TSP_BY_POTENTIALS = 1,
+    TSP_BY_BRANCHES = 2,
+    TSP_BY_POTENTIALS_STRICT = 3,
+    TSP_BY_BRANCHES_STRICT = 4
+};
+
+/* The flags of a check. Join them by |; 0 is none. */
+enum {
+    TSP_CLAIMED = 1, /* a solution of another length than `claimed` is a no; without this flag `claimed` counts for nothing */
+    TSP_STRICT = 2   /* an instance with an unknown keyword is a no, after all other reasons */
+};
 
 /* Layouts of the weights. */
 enum {
@@ -88,16 +101,14 @@ enum { TSP_TYPE_TSP = 1, TSP_TYPE_ATSP = 2, TSP_TYPE_CVRP = 3 };
  * is as it was, and *written is the length that is needed: call again with as much. */
 
 /* Judges a solution of an instance, and gives the report. by is TSP_BY_NONE without a certificate, and then
- * certificate_len may be 0. If has_claim is 1, a solution of another length than claimed is a no; if it is 0,
- * claimed counts for nothing. If it is 2, an instance with an unknown keyword is a no, after all other reasons; 3 is
- * both. TSP_YES comes only if the report ends in "yes". */
+ * certificate_len may be 0. flags are TSP_CLAIMED, TSP_STRICT, both or 0. TSP_YES comes only if the report ends in
+ * "yes". */
 uint32_t tsp_check(const uint8_t *instance, size_t instance_len, const uint8_t *solution, size_t solution_len,
                    const uint8_t *certificate, size_t certificate_len, uint32_t by, int64_t claimed,
-                   uint32_t has_claim, uint8_t *out, size_t out_len, size_t *written);
+                   uint32_t flags, uint8_t *out, size_t out_len, size_t *written);
 
-/* Bounds the tours or the routes of an instance by a certificate, and gives the report: by is TSP_BY_POTENTIALS or
- * TSP_BY_BRANCHES. With 2 more, 3 or 4, an instance with an unknown keyword is a no, after all other reasons. In the
- * line of a fault the certificate is file 2. */
+/* Bounds the tours or the routes of an instance by a certificate, and gives the report. by is one of TSP_BY_POTENTIALS, ..,
+ * not TSP_BY_NONE. In the line of a fault the certificate is file 2. */
 uint32_t tsp_bound(const uint8_t *instance, size_t instance_len, const uint8_t *certificate,
                    size_t certificate_len, uint32_t by, uint8_t *out, size_t out_len, size_t *written);
 
@@ -118,7 +129,7 @@ enum { TSP_OF_SHOW = 0, TSP_OF_CONVERT = 1, TSP_OF_CHECK = 2, TSP_OF_BOUND = 3 }
 uint32_t tsp_explain(uint32_t call, const uint8_t *instance, size_t instance_len, const uint8_t *solution,
                      size_t solution_len, const uint8_t *certificate, size_t certificate_len,
                      const uint8_t *names, size_t names_len, uint32_t number, int64_t claimed,
-                     uint32_t has_claim, uint8_t *out, size_t out_len, size_t *written);
+                     uint32_t flags, uint8_t *out, size_t out_len, size_t *written);
 
 /* How many nodes an instance has, 1 to 100000, at TSP_YES; else *count is as it was. */
 uint32_t tsp_count(const uint8_t *instance, size_t instance_len, uint32_t *count);
@@ -172,6 +183,24 @@ struct tsp_result {
     uint32_t number; /* of a TSP_NUMBER: one of TSP_LONG_WORD, .. */
     uint32_t field;  /* of a TSP_MISSING or TSP_INCOMPLETE: one of TSP_FIELD_NAME, .. */
 };
+
+/* The bound of a result, for all that need only 64 bits: TSP_YES, and *bound is it; TSP_NO if the result has no bound;
+ * TSP_TOO_SMALL if it has more bits. Else *bound is as it was. (This is written in C, and not proved.) */
+static inline uint32_t tsp_bound_i64(const struct tsp_result *result, int64_t *bound)
+{
+    if (result->has_bound != 1) {
+        return TSP_NO;
+    }
+    if (result->bound_high == 0 && result->bound_low <= INT64_MAX) {
+        *bound = (int64_t)result->bound_low;
+        return TSP_YES;
+    }
+    if (result->bound_high == -1 && result->bound_low > INT64_MAX) {
+        *bound = -1 - (int64_t)(UINT64_MAX - result->bound_low);
+        return TSP_YES;
+    }
+    return TSP_TOO_SMALL;
+}
 
 /* Verdicts. */
 enum {
@@ -278,7 +307,7 @@ enum {
  * those of the status that a larger buffer gives. */
 uint32_t tsp_check_result(const uint8_t *instance, size_t instance_len, const uint8_t *solution, size_t solution_len,
                           const uint8_t *certificate, size_t certificate_len, uint32_t by, int64_t claimed,
-                          uint32_t has_claim, struct tsp_result *result, uint8_t *out, size_t out_len,
+                          uint32_t flags, struct tsp_result *result, uint8_t *out, size_t out_len,
                           size_t *written);
 uint32_t tsp_bound_result(const uint8_t *instance, size_t instance_len, const uint8_t *certificate,
                           size_t certificate_len, uint32_t by, struct tsp_result *result, uint8_t *out,
@@ -309,9 +338,9 @@ uint32_t tsp_bind(struct tsp_instance *handle, const uint8_t *certificate, size_
                   struct tsp_result *result);
 
 /* Judges a solution, as tsp_check_result does of the texts that are open: the status, the report and the result are
- * the same, and so is what has_claim asks. */
+ * the same, and so is what flags ask for. */
 uint32_t tsp_instance_check(struct tsp_instance *handle, const uint8_t *solution, size_t solution_len,
-                            int64_t claimed, uint32_t has_claim, struct tsp_result *result, uint8_t *out,
+                            int64_t claimed, uint32_t flags, struct tsp_result *result, uint8_t *out,
                             size_t out_len, size_t *written);
 
 /* How many nodes the instance has, at TSP_YES; else *count is as it was. */

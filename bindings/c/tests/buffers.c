@@ -53,7 +53,7 @@ static void answers(void) {
     expect(tsp_check(TEXT(SQUARE), TEXT(TOUR), TEXT(""), 0, 15, 1, out, sizeof out, &written) == TSP_YES
                && written == sizeof REPORT - 1 && memcmp(out, REPORT, written) == 0, "the claimed length");
     static const char OTHER[] = "type TSP\nnodes 4\nno LengthClaimed 15\n";
-    expect(tsp_check(TEXT(SQUARE), TEXT(TOUR), TEXT(""), 0, 14, 1, out, sizeof out, &written) == TSP_NO
+    expect(tsp_check(TEXT(SQUARE), TEXT(TOUR), TEXT(""), 0, 14, TSP_CLAIMED, out, sizeof out, &written) == TSP_NO
                && written == sizeof OTHER - 1 && memcmp(out, OTHER, written) == 0, "another length than the claimed one");
     expect(tsp_check(TEXT(SQUARE), TEXT(TOUR), TEXT(""), 0, 14, 0, out, sizeof out, &written) == TSP_YES,
            "no length is claimed");
@@ -63,10 +63,10 @@ static void answers(void) {
     static const char CLAIMED[] = "type TSP\nnodes 4\nnot judged DISTANCE\nno LengthClaimed 14\n";
     static const char AROUND[] = "TYPE : TOUR\nTOUR_SECTION\n1 2 3 4 -1\nEOF\n";
     struct tsp_result told;
-    expect(tsp_check_result(TEXT(LIMITED), TEXT(AROUND), TEXT(""), 0, 99, 2, &told, out, sizeof out, &written) == TSP_NO
+    expect(tsp_check_result(TEXT(LIMITED), TEXT(AROUND), TEXT(""), 0, 99, TSP_STRICT, &told, out, sizeof out, &written) == TSP_NO
                && written == sizeof UNJUDGED - 1 && memcmp(out, UNJUDGED, written) == 0 && told.reason == TSP_NOT_JUDGED,
            "an unknown keyword as a reason");
-    expect(tsp_check(TEXT(LIMITED), TEXT(AROUND), TEXT(""), 0, 14, 3, out, sizeof out, &written) == TSP_NO
+    expect(tsp_check(TEXT(LIMITED), TEXT(AROUND), TEXT(""), 0, 14, TSP_CLAIMED | TSP_STRICT, out, sizeof out, &written) == TSP_NO
                && written == sizeof UNJUDGED - 1 && memcmp(out, UNJUDGED, written) == 0, "beside the claimed length");
     expect(tsp_check(TEXT(LIMITED), TEXT(AROUND), TEXT(""), 0, 15, 3, out, sizeof out, &written) == TSP_NO
                && written == sizeof CLAIMED - 1 && memcmp(out, CLAIMED, written) == 0, "after another length");
@@ -75,7 +75,7 @@ static void answers(void) {
     expect(tsp_check(TEXT(SQUARE), TEXT(TOUR), TEXT(""), 0, 15, 3, out, sizeof out, &written) == TSP_YES
                && written == sizeof REPORT - 1 && memcmp(out, REPORT, written) == 0, "no unknown keyword");
     expect(tsp_check(TEXT(SQUARE), TEXT(TOUR), TEXT(""), 0, 15, 4, out, sizeof out, &written) == TSP_REFUSED
-               && written == 0, "has_claim is 0 to 3");
+               && written == 0, "flags are 0 to 3");
 
     expect(tsp_bound(TEXT(SQUARE), TEXT(ZEROS), TSP_BY_POTENTIALS, out, sizeof BOUND - 2, &written) == TSP_TOO_SMALL
                && written == sizeof BOUND - 1, "a bound's report that is one byte too long");
@@ -87,9 +87,9 @@ static void answers(void) {
     expect(tsp_bound(TEXT(SQUARE), TEXT(ZEROS), 0, out, sizeof out, &written) == TSP_REFUSED && written == 0
                && tsp_bound(TEXT(SQUARE), TEXT(ZEROS), 5, out, sizeof out, &written) == TSP_REFUSED,
            "a bound is by 1 to 4");
-    expect(tsp_bound(TEXT(LIMITED), TEXT(ZEROS), TSP_BY_POTENTIALS + 2, out, sizeof out, &written) == TSP_NO
+    expect(tsp_bound(TEXT(LIMITED), TEXT(ZEROS), TSP_BY_POTENTIALS_STRICT, out, sizeof out, &written) == TSP_NO
                && written == sizeof UNJUDGED - 1 && memcmp(out, UNJUDGED, written) == 0, "a bound with an unknown keyword");
-    expect(tsp_bound(TEXT(SQUARE), TEXT(ZEROS), TSP_BY_POTENTIALS + 2, out, sizeof out, &written) == TSP_YES
+    expect(tsp_bound(TEXT(SQUARE), TEXT(ZEROS), TSP_BY_POTENTIALS_STRICT, out, sizeof out, &written) == TSP_YES
                && written == sizeof BOUND - 1 && memcmp(out, BOUND, written) == 0, "a bound without one");
     static const char FAULT[] = "file 2: end: Missing TYPE\n";
     expect(tsp_bound(TEXT(SQUARE), TEXT(""), TSP_BY_POTENTIALS, out, sizeof out, &written) == TSP_FAULT

@@ -89,7 +89,7 @@ static void checks(void) {
                && says("type TSP\nnodes 4\nno LengthClaimed 15\n") && r.reason == TSP_LENGTH_CLAIMED && r.first == 15,
            "another length than the claimed one");
     expect(tsp_instance_check(&handle, TEXT(TOUR), 15, 4, &r, out, sizeof out, &written) == TSP_REFUSED && written == 0
-               && r.verdict == 0, "has_claim is 0 to 3");
+               && r.verdict == 0, "flags are 0 to 3");
     expect(tsp_instance_check(&handle, TEXT(TOUR), 15, 3, &r, out, sizeof out, &written) == TSP_YES
                && says("type TSP\nnodes 4\nlength 15\nyes\n"), "no unknown keyword");
     out[0] = '#';
@@ -105,7 +105,8 @@ static void checks(void) {
     expect(tsp_bind(&handle, TEXT(""), TSP_BY_POTENTIALS, &r) == TSP_FAULT && r.file == 2 && r.fault == TSP_MISSING, "a certificate with a fault");
     expect(check(&handle, TOUR, &r) == TSP_YES && r.has_bound == 1 && r.bound_low == 15, "leaves the one before");
     expect(tsp_bind(&handle, TEXT(LOW), TSP_BY_POTENTIALS, &r) == TSP_YES && r.has_bound == 1 && r.bound_high == -1, "a negative bound");
-    int64_t bound = (int64_t)r.bound_low;
+    int64_t bound = 1;
+    expect(tsp_bound_i64(&r, &bound) == TSP_YES && bound == (int64_t)r.bound_low, "a negative bound of 64 bits");
     char report[100];
     snprintf(report, sizeof report, "type TSP\nnodes 4\nlength 15\nbound %lld\ngap %lld\nyes\n", (long long)bound, (long long)(15 - bound));
     expect(bound < -1000 && check(&handle, TOUR, &r) == TSP_YES && says(report), "its report");
@@ -157,10 +158,36 @@ static void known(void) {
                && r.reason == TSP_NOT_BRANCHES, "which comes last");
 
     tsp_open(TEXT(LIMITED), &handle, &r);
-    expect(tsp_instance_check(&handle, TEXT(AROUND), 0, 2, &r, out, sizeof out, &written) == TSP_NO
+    expect(tsp_instance_check(&handle, TEXT(AROUND), 0, TSP_STRICT, &r, out, sizeof out, &written) == TSP_NO
                && says("type TSP\nnodes 4\nnot judged DISTANCE\nno NotJudged DISTANCE\n") && r.reason == TSP_NOT_JUDGED, "an unknown keyword");
     expect(check(&handle, AROUND, &r) == TSP_YES && r.length == 14, "which is no reason where that isn't asked");
     tsp_close(&handle);
+}
+
+/* Bounds of 64 bits, and those just beyond them. */
+static void small_bounds(void) {
+    static const struct {
+        int64_t high;
+        uint64_t low;
+        uint32_t has, status;
+        int64_t bound;
+    } ROWS[] = {
+        {0, 0, 1, TSP_YES, 0},
+        {0, INT64_MAX, 1, TSP_YES, INT64_MAX},
+        {0, (uint64_t)INT64_MAX + 1, 1, TSP_TOO_SMALL, 7},
+        {-1, UINT64_MAX, 1, TSP_YES, -1},
+        {-1, (uint64_t)INT64_MAX + 1, 1, TSP_YES, INT64_MIN},
+        {-1, INT64_MAX, 1, TSP_TOO_SMALL, 7},
+        {1, 5, 1, TSP_TOO_SMALL, 7},
+        {0, 5, 0, TSP_NO, 7},
+    };
+    for (size_t k = 0; k < sizeof ROWS / sizeof *ROWS; k++) {
+        const struct tsp_result result = {.bound_high = ROWS[k].high, .bound_low = ROWS[k].low, .has_bound = ROWS[k].has};
+        int64_t bound = 7;
+        expect(tsp_bound_i64(&result, &bound) == ROWS[k].status && bound == ROWS[k].bound, "a bound as a number of 64 bits");
+    }
+    expect(TSP_BY_POTENTIALS_STRICT == TSP_BY_POTENTIALS + 2 && TSP_BY_BRANCHES_STRICT == TSP_BY_BRANCHES + 2
+               && (TSP_CLAIMED | TSP_STRICT) == 3, "the numbers before there were names");
 }
 
 #define POINTS "TYPE : TSP\nDIMENSION : 3\nEDGE_WEIGHT_TYPE : EUC_2D\nNODE_COORD_SECTION\n"
@@ -271,6 +298,7 @@ int main(void) {
     faults();
     results();
     numbers();
+    small_bounds();
     many();
     return counts();
 }

@@ -15,7 +15,7 @@ struct call {
     const char *paths[3]; /* the instance, the solution and the certificate; NULL for none */
     uint32_t number;      /* the kind of certificate, or the layout */
     int64_t claimed;
-    uint32_t has_claim;
+    uint32_t flags;
     int explains;
 };
 
@@ -97,9 +97,9 @@ static struct call call_of(int count, char **words) {
             call.number = TSP_BY_BRANCHES;
         } else if (strncmp(words[k], "--length=", 9) == 0) {
             call.claimed = length_of(words[k] + 9);
-            call.has_claim += 1;
+            call.flags |= TSP_CLAIMED;
         } else if (strcmp(words[k], "--strict") == 0) {
-            call.has_claim += 2;
+            call.flags |= TSP_STRICT;
         } else if (strcmp(words[k], "--explain") == 0) {
             call.explains = 1;
         } else if (paths < 2) {
@@ -113,14 +113,14 @@ static struct call call_of(int count, char **words) {
 
 /* A strict bound is 2 more. */
 static uint32_t number_of(const struct call *call) {
-    return call->number + (call->verb == TSP_OF_BOUND ? (call->has_claim & 2) : 0);
+    return call->number + (call->verb == TSP_OF_BOUND ? (call->flags & TSP_STRICT) : 0);
 }
 
 static uint32_t run(const struct call *call, const struct text *texts, uint8_t *out, size_t room, size_t *written) {
     switch (call->verb) {
     case TSP_OF_CHECK:
         return tsp_check(texts[0].bytes, texts[0].len, texts[1].bytes, texts[1].len, texts[2].bytes, texts[2].len,
-                         call->number, call->claimed, call->has_claim, out, room, written);
+                         call->number, call->claimed, call->flags, out, room, written);
     case TSP_OF_BOUND:
         return tsp_bound(texts[0].bytes, texts[0].len, texts[2].bytes, texts[2].len, number_of(call), out, room, written);
     case TSP_OF_CONVERT:
@@ -137,7 +137,7 @@ static uint32_t explain(const struct call *call, const struct text *texts, uint8
         len += snprintf(names + len, sizeof names / 3, "%s", call->paths[k] == NULL ? "" : call->paths[k]) + 1;
     return tsp_explain(call->verb, texts[0].bytes, texts[0].len, texts[1].bytes, texts[1].len, texts[2].bytes,
                        texts[2].len, (const uint8_t *)names, (size_t)len, number_of(call), call->claimed,
-                       call->has_claim, out, room, written);
+                       call->flags, out, room, written);
 }
 
 typedef uint32_t (*caller)(const struct call *, const struct text *, uint8_t *, size_t, size_t *);
