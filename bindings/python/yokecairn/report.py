@@ -11,13 +11,14 @@ from . import _library
 from ._forms import Shape, shape_of, told_by, tour_text
 from ._reasons import REASONS
 from .faults import SolutionError, error_of, explained, text_of
+from .objects import tours_of
 from .problem import Path, Problem
 
 # A path, the text itself, or a file that was read.
 Source = Union[Path, bytes, Problem]
 
-# Also the nodes of one tour, or of several routes.
-Solution = Union[Source, Sequence[int], Sequence[Sequence[int]]]
+# Also the nodes of one tour, or of several routes, or an object that objects.py knows.
+Solution = Union[Source, Sequence[int], Sequence[Sequence[int]], Any]
 
 # What an explanation says where distances are rounded to 0 and 1.
 _ROUNDED = ": every distance along the solution is 0 or 1, "
@@ -198,23 +199,11 @@ def _type(value: object) -> str:
     return type(value).__name__
 
 
-def solution_and_path(solution: Solution) -> Tuple[bytes, Optional[str]]:
-    """The text of a solution, and its path where it is one."""
+def solution_and_path(solution: Solution, shape: Callable[[], Shape]) -> Tuple[bytes, Optional[str]]:
+    """The text of a solution, and its path where it is one. `shape` tells the shape of the instance, if that is asked for."""
     if isinstance(solution, (Problem, bytes, bytearray, str, os.PathLike)):
         return text_and_path(solution)
-    parts: List[Sequence[int]] = []
-    try:
-        nodes = list(solution)
-    except TypeError:
-        raise TypeError(
-            "a solution is a path, the bytes of its text, a Problem, or a list of nodes, and this is of type"
-            f" {_type(solution)}"
-        ) from None
-    if nodes and isinstance(nodes[0], Iterable):
-        parts.extend(nodes)  # type: ignore[arg-type]
-    elif nodes:
-        parts.append(nodes)  # type: ignore[arg-type]
-    return tour_text(parts), None
+    return tour_text(tours_of(solution, shape)), None
 
 
 def certificate_of(
@@ -244,8 +233,9 @@ def check(
 ) -> Report:
     """Judges a tour, or routes, of an instance.
 
-    Each file is a path, the bytes of its text, or a `Problem`. The solution may also be a list of nodes,
-    or for routes a list of such lists. With a certificate, `potentials` or `branches`, the report has a
+    Each file is a path, the bytes of its text, or a `Problem`. The solution may also be a list or an array of nodes, for
+    routes a list of such lists, or an object: PyVRP's `Solution` or `Result`, OR-Tools' `(manager, routing, assignment)`, or
+    a networkx graph that is the tour. With a certificate, `potentials` or `branches`, the report has a
     bound. With `length`, another length than this is a no. With `explain`, a no is explained, and a
     yes whose solution has a comment with another length. With `strict`, an instance with an unknown keyword, one of
     `Report.not_judged`, is a no after all other reasons: `NotJudged`.
@@ -276,7 +266,7 @@ def solution_of(
     Raises:
         SolutionError: it is of another program, and isn't read.
     """
-    text, own_path = solution_and_path(solution)
+    text, own_path = solution_and_path(solution, shape)
     path = path or own_path
     if isinstance(solution, Problem):
         return text, path, solution.claimed_length if claims else None
