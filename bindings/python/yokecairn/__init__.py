@@ -13,7 +13,7 @@ and ctypes aren't, and so not how a canonical text becomes Python's values.
 """
 
 from . import _library
-from ._reasons import Reason
+from ._declared import Reason
 from .compare import Basis, BestUnknown, Comparison, compare
 from .contest import Entry, table
 from .faults import (

@@ -1,4 +1,4 @@
-"""The calls of libtsp over ctypes, as bindings/c/tsp.h declares them. No other module of the package knows their signatures.
+"""The calls of libtsp over ctypes. The module _declared.py has their signatures, made from bindings/c/tsp.h.
 
 Each call takes and returns Python's own types. The library keeps no pointer and has no state but that of a
 handle, so calls may run side by side; ctypes releases Python's lock while one runs. A handle serves one call
@@ -14,41 +14,42 @@ import sys
 import threading
 import weakref
 from array import array
-from ctypes import POINTER, byref, c_bool, c_char_p, c_int64, c_size_t, c_uint32, c_uint64, c_void_p
+from ctypes import byref, c_int64, c_size_t, c_uint32
 from pathlib import Path
-from typing import Any, Optional, Sequence, Tuple
+from typing import Any, Dict, Optional, Sequence, Tuple
 
-# What a call returns, as in bindings/c/tsp.h. DEVICE, 5, is a status of the program alone.
-DONE, NO, FAULT, OUT_OF_MEMORY, REFUSED, DEVICE, TOO_SMALL = range(7)
+from . import _declared
+
+
+def _words(prefix: str) -> Dict[str, int]:
+    """The words behind a prefix in the header with their numbers, without a word that stands for none."""
+    names = vars(_declared).items()
+    return {name[len(prefix) :]: number for name, number in names if name.startswith(prefix) and isinstance(number, int) and number}
+
+
+# What a call returns. DEVICE is a status of the program alone.
+DONE, NO, FAULT = _declared.YES, _declared.NO, _declared.FAULT
+OUT_OF_MEMORY, REFUSED, TOO_SMALL = _declared.OUT_OF_MEMORY, _declared.REFUSED, _declared.TOO_SMALL
+DEVICE = 5
 
 # How a check gets its bound.
-ALONE, POTENTIALS, BRANCHES = range(3)
+ALONE, POTENTIALS, BRANCHES = _declared.BY_NONE, _declared.BY_POTENTIALS, _declared.BY_BRANCHES
 
 # The sections of points.
-COORDS, DISPLAY = 1, 2
+COORDS, DISPLAY = _declared.POINTS_NODE_COORD, _declared.POINTS_DISPLAY_DATA
 
 # The distances, and the layouts, by their numbers.
-KINDS = {
-    word: number
-    for number, word in enumerate("EUC_2D CEIL_2D MAN_2D MAX_2D ATT EUC_3D MAN_3D MAX_3D".split(), 1)
-}
-LAYOUTS = {
-    word: number
-    for number, word in enumerate(
-        "FULL_MATRIX UPPER_ROW LOWER_ROW UPPER_DIAG_ROW LOWER_DIAG_ROW"
-        " UPPER_COL LOWER_COL UPPER_DIAG_COL LOWER_DIAG_COL".split(),
-        1,
-    )
-}
+KINDS, LAYOUTS = _words("DISTANCE_"), _words("LAYOUT_")
 
 # The calls that are explained, by their numbers.
-SHOW, CONVERT, CHECK, BOUND = range(4)
+SHOW, CONVERT, CHECK, BOUND = _declared.OF_SHOW, _declared.OF_CONVERT, _declared.OF_CHECK, _declared.OF_BOUND
 
 # The verdicts, by their numbers.
-TOUR, ROUTES, REJECTED, BOUNDED, NO_TOUR = range(1, 6)
+TOUR, ROUTES, REJECTED = _declared.TOUR, _declared.ROUTES, _declared.REJECTED
+BOUNDED, NO_TOUR = _declared.BOUND, _declared.NO_TOUR
 
 # The TYPEs of instances by their numbers from 1.
-TYPES = ("TSP", "ATSP", "CVRP")
+TYPES = tuple(_words("TYPE_"))
 
 # The most numbers that `lengths` takes.
 MOST_NODES = 1_000_000
@@ -76,36 +77,15 @@ except OSError as fault:
     ) from fault
 
 
-def _call(name: str, result: Any, *words: Any) -> Any:
+def _call(name: str) -> Any:
     """An export of the library with its signature."""
     call = getattr(_libtsp, name)
-    call.restype, call.argtypes = result, list(words)
+    call.restype, call.argtypes = _declared.CALLS[name]
     return call
 
 
-class Result(ctypes.Structure):
+class Result(_declared.tsp_result):
     """What a call answers, in numbers."""
-
-    _fields_ = [
-        ("kind", c_uint32),
-        ("nodes", c_uint32),
-        ("verdict", c_uint32),
-        ("reason", c_uint32),
-        ("first", c_int64),
-        ("second", c_int64),
-        ("length", c_int64),
-        ("bound_high", c_int64),
-        ("bound_low", c_uint64),
-        ("least", c_uint64),
-        ("has_bound", c_uint32),
-        ("routes", c_uint32),
-        ("fault", c_uint32),
-        ("file", c_uint32),
-        ("line", c_uint32),
-        ("word", c_uint32),
-        ("number", c_uint32),
-        ("field", c_uint32),
-    ]
 
     @property
     def bound(self) -> Optional[int]:
@@ -113,45 +93,15 @@ class Result(ctypes.Structure):
         return (self.bound_high << 64) + self.bound_low if self.has_bound else None
 
 
-class _Instance(ctypes.Structure):
-    """What the library keeps of an instance. It begins as zeros, which is closed."""
-
-    _fields_ = [("is_open", c_bool), ("at", c_void_p)]
-
-
-_TEXT = (c_char_p, c_size_t)
-_OUT = (c_void_p, c_size_t, POINTER(c_size_t))
-_NUMBERS = (c_void_p, c_size_t)
-
-_RESULT = POINTER(Result)
-_HANDLE = POINTER(_Instance)
-
-_check = _call(
-    "tsp_check_result", c_uint32, *_TEXT * 3, c_uint32, c_int64, c_uint32, _RESULT, *_OUT
-)
-_bound = _call("tsp_bound_result", c_uint32, *_TEXT, *_TEXT, c_uint32, _RESULT, *_OUT)
-_explain = _call(
-    "tsp_explain", c_uint32, c_uint32, *_TEXT * 4, c_uint32, c_int64, c_uint32, *_OUT
-)
-_show = _call("tsp_show", c_uint32, *_TEXT, *_OUT)
-_convert = _call("tsp_convert", c_uint32, *_TEXT, c_uint32, *_OUT)
-_count = _call("tsp_count", c_uint32, *_TEXT, POINTER(c_uint32))
-_points = _call("tsp_points", c_uint32, *_TEXT, c_uint32, *_NUMBERS)
-_version = _call("tsp_version", c_uint32)
-_open = _call("tsp_open", c_uint32, *_TEXT, _HANDLE, _RESULT)
-_close = _call("tsp_close", None, _HANDLE)
-_bind = _call("tsp_bind", c_uint32, _HANDLE, *_TEXT, c_uint32, _RESULT)
-_check_held = _call(
-    "tsp_instance_check", c_uint32, _HANDLE, *_TEXT, c_int64, c_uint32, _RESULT, *_OUT
-)
-_points_held = _call("tsp_instance_points", c_uint32, _HANDLE, c_uint32, *_NUMBERS)
-_weights_held = _call("tsp_instance_weights", c_uint32, _HANDLE, *_NUMBERS, *_NUMBERS)
-_matrix_held = _call("tsp_instance_matrix", c_uint32, _HANDLE, c_uint32, *_NUMBERS)
-_lengths_held = _call("tsp_instance_lengths", c_uint32, _HANDLE, *_NUMBERS, *_NUMBERS)
+_check, _bound, _explain = _call("tsp_check_result"), _call("tsp_bound_result"), _call("tsp_explain")
+_show, _convert, _count, _points = _call("tsp_show"), _call("tsp_convert"), _call("tsp_count"), _call("tsp_points")
+_open, _close, _bind, _version = _call("tsp_open"), _call("tsp_close"), _call("tsp_bind"), _call("tsp_version")
+_check_held, _points_held = _call("tsp_instance_check"), _call("tsp_instance_points")
+_weights_held, _matrix_held, _lengths_held = (_call(f"tsp_instance_{name}") for name in ("weights", "matrix", "lengths"))
 
 # The distance of two points: distance(kind, x, y, z, x, y, z), in counts of 10^-9; -1 where it is
 # refused. It is called once for each weight, so nothing is wrapped around it.
-distance = _call("tsp_distance", c_int64, c_uint32, *[c_int64] * 6)
+distance = _call("tsp_distance")
 
 
 def _written(call: Any, *words: Any, capacity: int) -> Tuple[int, bytes]:
@@ -243,7 +193,7 @@ class Handle:
     """
 
     def __init__(self, text: bytes) -> None:
-        self._held, self._lock, self.result = _Instance(), threading.Lock(), Result()
+        self._held, self._lock, self.result = _declared.tsp_instance(), threading.Lock(), Result()
         self._at = byref(self._held)
         self.status = int(_open(text, len(text), self._at, byref(self.result)))
         self.close = weakref.finalize(self, _close, self._at)

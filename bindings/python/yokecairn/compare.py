@@ -13,7 +13,7 @@ from typing import Any, Callable, Dict, Iterable, Iterator, List, Mapping, NoRet
 
 from . import _library, _plots
 from ._forms import Shape
-from ._reasons import REASONS
+from ._declared import REASONS
 from .faults import Error, Fault, OutOfMemory, text_of
 from .many import Outcome
 from .problem import Path, Problem, parse

@@ -9,7 +9,7 @@ from typing import Any, Callable, Dict, Iterable, List, Optional, Sequence, Tupl
 
 from . import _library
 from ._forms import Shape, shape_of, told_by, tour_text
-from ._reasons import REASONS
+from ._declared import REASONS
 from .faults import SolutionError, error_of, explained, text_of
 from .objects import tours_of
 from .problem import Path, Problem

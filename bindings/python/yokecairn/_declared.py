@@ -1,0 +1,494 @@
+"""What bindings/c/tsp.h declares, for ctypes, and the reasons for the line `no`.
+
+This file is made from the header and from bindings/reasons.tsv by `tests/repository/reasons --write`: change these. The
+suite `reasons` of ./check compares them.
+"""
+
+from ctypes import POINTER, Structure, c_bool, c_char_p, c_int64, c_size_t, c_uint32, c_uint64, c_void_p
+from enum import Enum
+from typing import Any, Dict, List, Tuple
+
+YES = 0
+NO = 1
+FAULT = 2
+OUT_OF_MEMORY = 3
+REFUSED = 4
+TOO_SMALL = 6
+BY_NONE = 0
+BY_POTENTIALS = 1
+BY_BRANCHES = 2
+BY_POTENTIALS_STRICT = 3
+BY_BRANCHES_STRICT = 4
+CLAIMED = 1
+STRICT = 2
+LAYOUT_AS_IT_IS = 0
+LAYOUT_FULL_MATRIX = 1
+LAYOUT_UPPER_ROW = 2
+LAYOUT_LOWER_ROW = 3
+LAYOUT_UPPER_DIAG_ROW = 4
+LAYOUT_LOWER_DIAG_ROW = 5
+LAYOUT_UPPER_COL = 6
+LAYOUT_LOWER_COL = 7
+LAYOUT_UPPER_DIAG_COL = 8
+LAYOUT_LOWER_DIAG_COL = 9
+POINTS_NODE_COORD = 1
+POINTS_DISPLAY_DATA = 2
+DISTANCE_EUC_2D = 1
+DISTANCE_CEIL_2D = 2
+DISTANCE_MAN_2D = 3
+DISTANCE_MAX_2D = 4
+DISTANCE_ATT = 5
+DISTANCE_EUC_3D = 6
+DISTANCE_MAN_3D = 7
+DISTANCE_MAX_3D = 8
+TYPE_TSP = 1
+TYPE_ATSP = 2
+TYPE_CVRP = 3
+OF_SHOW = 0
+OF_CONVERT = 1
+OF_CHECK = 2
+OF_BOUND = 3
+TOUR = 1
+ROUTES = 2
+REJECTED = 3
+BOUND = 4
+NO_TOUR = 5
+NOT_A_SOLUTION = 1
+TOO_FEW_NODES = 2
+NOT_SYMMETRIC = 3
+DIMENSION = 4
+TOUR_COUNT = 5
+TOUR_LENGTH = 6
+DEPOT_COUNT = 7
+DEPOT_DEMAND = 8
+FIXED_EDGES_IN_ROUTES = 9
+DEPOT_IN_ROUTE = 10
+NODE_OUT_OF_RANGE = 11
+REPEATED_NODE = 12
+FIXED_EDGE_UNUSED = 13
+UNSERVED = 14
+OVERLOAD = 15
+LENGTH_CLAIMED = 16
+NOT_POTENTIALS = 17
+POTENTIALS_DIMENSION = 18
+POTENTIALS_KIND = 19
+MULTIPLIER_NOT_FIXED = 20
+MULTIPLIER_REPEATED = 21
+DUAL_INFEASIBLE = 22
+NOT_BRANCHES = 23
+BRANCHES_DIMENSION = 24
+BAD_COMB = 25
+BAD_BRANCH = 26
+BRANCH_TWICE = 27
+BAD_LEAF = 28
+TOO_MANY_LOADS = 29
+NOT_JUDGED = 30
+LONG_LINE = 1
+UNKNOWN_LINE = 2
+REPEATED = 3
+OUTSIDE = 4
+BAD_VALUE = 5
+SECTION_VALUE = 6
+SECTION_EARLY = 7
+TOO_MANY_NODES = 8
+STRAY_NUMBER = 9
+NUMBER = 10
+NODE_REPEATED = 11
+SELF_EDGE = 12
+SURPLUS = 13
+AFTER_END = 14
+LATE_SPACE = 15
+MISSING = 16
+INCOMPLETE = 17
+WRONG_FORMAT = 18
+WRONG_COUNT = 19
+TOO_LONG = 20
+WRONG_KIND = 21
+LONG_WORD = 1
+BAD_NUMBER = 2
+TOO_FINE = 3
+OUT_OF_RANGE = 4
+NOT_WHOLE = 5
+FIELD_NAME = 1
+FIELD_TYPE = 2
+FIELD_COMMENT = 3
+FIELD_OTHERS = 4
+FIELD_DIMENSION = 5
+FIELD_CAPACITY = 6
+FIELD_SCALE = 7
+FIELD_EDGE_WEIGHT_TYPE = 8
+FIELD_EDGE_WEIGHT_FORMAT = 9
+FIELD_NODE_COORD_TYPE = 10
+FIELD_DISPLAY_DATA_TYPE = 11
+FIELD_NODE_COORD_SECTION = 12
+FIELD_DISPLAY_DATA_SECTION = 13
+FIELD_DEMAND_SECTION = 14
+FIELD_DEPOT_SECTION = 15
+FIELD_FIXED_EDGES_SECTION = 16
+FIELD_EDGE_WEIGHT_SECTION = 17
+FIELD_TOUR_SECTION = 18
+FIELD_NODE_POTENTIAL_SECTION = 19
+FIELD_ROW_POTENTIAL_SECTION = 20
+FIELD_COLUMN_POTENTIAL_SECTION = 21
+FIELD_FIXED_EDGE_POTENTIAL_SECTION = 22
+FIELD_COMB_SECTION = 23
+FIELD_BRANCH_SECTION = 24
+FIELD_LOAD_UNIT = 25
+
+
+class tsp_result(Structure):
+    _fields_ = [
+        ("kind", c_uint32),
+        ("nodes", c_uint32),
+        ("verdict", c_uint32),
+        ("reason", c_uint32),
+        ("first", c_int64),
+        ("second", c_int64),
+        ("length", c_int64),
+        ("bound_high", c_int64),
+        ("bound_low", c_uint64),
+        ("least", c_uint64),
+        ("has_bound", c_uint32),
+        ("routes", c_uint32),
+        ("fault", c_uint32),
+        ("file", c_uint32),
+        ("line", c_uint32),
+        ("word", c_uint32),
+        ("number", c_uint32),
+        ("field", c_uint32),
+    ]
+
+
+class tsp_instance(Structure):
+    _fields_ = [
+        ("is_open", c_bool),
+        ("at", c_void_p),
+    ]
+
+
+# The result and the parameters of each call.
+CALLS: Dict[str, Tuple[Any, List[Any]]] = {
+    "tsp_check": (
+        c_uint32,
+        [
+            c_char_p,
+            c_size_t,
+            c_char_p,
+            c_size_t,
+            c_char_p,
+            c_size_t,
+            c_uint32,
+            c_int64,
+            c_uint32,
+            c_void_p,
+            c_size_t,
+            POINTER(c_size_t),
+        ],
+    ),
+    "tsp_bound": (
+        c_uint32,
+        [
+            c_char_p,
+            c_size_t,
+            c_char_p,
+            c_size_t,
+            c_uint32,
+            c_void_p,
+            c_size_t,
+            POINTER(c_size_t),
+        ],
+    ),
+    "tsp_show": (
+        c_uint32,
+        [
+            c_char_p,
+            c_size_t,
+            c_void_p,
+            c_size_t,
+            POINTER(c_size_t),
+        ],
+    ),
+    "tsp_convert": (
+        c_uint32,
+        [
+            c_char_p,
+            c_size_t,
+            c_uint32,
+            c_void_p,
+            c_size_t,
+            POINTER(c_size_t),
+        ],
+    ),
+    "tsp_explain": (
+        c_uint32,
+        [
+            c_uint32,
+            c_char_p,
+            c_size_t,
+            c_char_p,
+            c_size_t,
+            c_char_p,
+            c_size_t,
+            c_char_p,
+            c_size_t,
+            c_uint32,
+            c_int64,
+            c_uint32,
+            c_void_p,
+            c_size_t,
+            POINTER(c_size_t),
+        ],
+    ),
+    "tsp_count": (
+        c_uint32,
+        [
+            c_char_p,
+            c_size_t,
+            POINTER(c_uint32),
+        ],
+    ),
+    "tsp_points": (
+        c_uint32,
+        [
+            c_char_p,
+            c_size_t,
+            c_uint32,
+            c_void_p,
+            c_size_t,
+        ],
+    ),
+    "tsp_weights": (
+        c_uint32,
+        [
+            c_char_p,
+            c_size_t,
+            c_void_p,
+            c_size_t,
+            c_void_p,
+            c_size_t,
+        ],
+    ),
+    "tsp_matrix": (
+        c_uint32,
+        [
+            c_char_p,
+            c_size_t,
+            c_uint32,
+            c_void_p,
+            c_size_t,
+        ],
+    ),
+    "tsp_lengths": (
+        c_uint32,
+        [
+            c_char_p,
+            c_size_t,
+            c_void_p,
+            c_size_t,
+            c_void_p,
+            c_size_t,
+        ],
+    ),
+    "tsp_distance": (
+        c_int64,
+        [
+            c_uint32,
+            c_int64,
+            c_int64,
+            c_int64,
+            c_int64,
+            c_int64,
+            c_int64,
+        ],
+    ),
+    "tsp_check_result": (
+        c_uint32,
+        [
+            c_char_p,
+            c_size_t,
+            c_char_p,
+            c_size_t,
+            c_char_p,
+            c_size_t,
+            c_uint32,
+            c_int64,
+            c_uint32,
+            POINTER(tsp_result),
+            c_void_p,
+            c_size_t,
+            POINTER(c_size_t),
+        ],
+    ),
+    "tsp_bound_result": (
+        c_uint32,
+        [
+            c_char_p,
+            c_size_t,
+            c_char_p,
+            c_size_t,
+            c_uint32,
+            POINTER(tsp_result),
+            c_void_p,
+            c_size_t,
+            POINTER(c_size_t),
+        ],
+    ),
+    "tsp_open": (
+        c_uint32,
+        [
+            c_char_p,
+            c_size_t,
+            POINTER(tsp_instance),
+            POINTER(tsp_result),
+        ],
+    ),
+    "tsp_close": (
+        None,
+        [
+            POINTER(tsp_instance),
+        ],
+    ),
+    "tsp_bind": (
+        c_uint32,
+        [
+            POINTER(tsp_instance),
+            c_char_p,
+            c_size_t,
+            c_uint32,
+            POINTER(tsp_result),
+        ],
+    ),
+    "tsp_instance_check": (
+        c_uint32,
+        [
+            POINTER(tsp_instance),
+            c_char_p,
+            c_size_t,
+            c_int64,
+            c_uint32,
+            POINTER(tsp_result),
+            c_void_p,
+            c_size_t,
+            POINTER(c_size_t),
+        ],
+    ),
+    "tsp_instance_count": (
+        c_uint32,
+        [
+            POINTER(tsp_instance),
+            POINTER(c_uint32),
+        ],
+    ),
+    "tsp_instance_points": (
+        c_uint32,
+        [
+            POINTER(tsp_instance),
+            c_uint32,
+            c_void_p,
+            c_size_t,
+        ],
+    ),
+    "tsp_instance_weights": (
+        c_uint32,
+        [
+            POINTER(tsp_instance),
+            c_void_p,
+            c_size_t,
+            c_void_p,
+            c_size_t,
+        ],
+    ),
+    "tsp_instance_matrix": (
+        c_uint32,
+        [
+            POINTER(tsp_instance),
+            c_uint32,
+            c_void_p,
+            c_size_t,
+        ],
+    ),
+    "tsp_instance_lengths": (
+        c_uint32,
+        [
+            POINTER(tsp_instance),
+            c_void_p,
+            c_size_t,
+            c_void_p,
+            c_size_t,
+        ],
+    ),
+    "tsp_version": (
+        c_uint32,
+        [],
+    ),
+}
+
+# Each reason, in the order of its number from 1, with how many numbers it has.
+REASONS = (
+    ("NotASolution", 0),
+    ("TooFewNodes", 0),
+    ("NotSymmetric", 2),
+    ("Dimension", 0),
+    ("TourCount", 0),
+    ("TourLength", 0),
+    ("DepotCount", 0),
+    ("DepotDemand", 0),
+    ("FixedEdgesInRoutes", 0),
+    ("DepotInRoute", 1),
+    ("NodeOutOfRange", 1),
+    ("RepeatedNode", 1),
+    ("FixedEdgeUnused", 1),
+    ("Unserved", 1),
+    ("Overload", 1),
+    ("LengthClaimed", 1),
+    ("NotPotentials", 0),
+    ("PotentialsDimension", 0),
+    ("PotentialsKind", 0),
+    ("MultiplierNotFixed", 1),
+    ("MultiplierRepeated", 1),
+    ("DualInfeasible", 2),
+    ("NotBranches", 0),
+    ("BranchesDimension", 0),
+    ("BadComb", 1),
+    ("BadBranch", 1),
+    ("BranchTwice", 1),
+    ("BadLeaf", 1),
+    ("TooManyLoads", 0),
+    ("NotJudged", 0),
+)
+
+
+class Reason(str, Enum):
+    """Why a solution is rejected, or a certificate shows nothing; docs/format.md says when. `Report.reason` is
+    its text: `report.reason == Reason.REPEATED_NODE`."""
+
+    NOT_A_SOLUTION = "NotASolution"
+    TOO_FEW_NODES = "TooFewNodes"
+    NOT_SYMMETRIC = "NotSymmetric"
+    DIMENSION = "Dimension"
+    TOUR_COUNT = "TourCount"
+    TOUR_LENGTH = "TourLength"
+    DEPOT_COUNT = "DepotCount"
+    DEPOT_DEMAND = "DepotDemand"
+    FIXED_EDGES_IN_ROUTES = "FixedEdgesInRoutes"
+    DEPOT_IN_ROUTE = "DepotInRoute"
+    NODE_OUT_OF_RANGE = "NodeOutOfRange"
+    REPEATED_NODE = "RepeatedNode"
+    FIXED_EDGE_UNUSED = "FixedEdgeUnused"
+    UNSERVED = "Unserved"
+    OVERLOAD = "Overload"
+    LENGTH_CLAIMED = "LengthClaimed"
+    NOT_POTENTIALS = "NotPotentials"
+    POTENTIALS_DIMENSION = "PotentialsDimension"
+    POTENTIALS_KIND = "PotentialsKind"
+    MULTIPLIER_NOT_FIXED = "MultiplierNotFixed"
+    MULTIPLIER_REPEATED = "MultiplierRepeated"
+    DUAL_INFEASIBLE = "DualInfeasible"
+    NOT_BRANCHES = "NotBranches"
+    BRANCHES_DIMENSION = "BranchesDimension"
+    BAD_COMB = "BadComb"
+    BAD_BRANCH = "BadBranch"
+    BRANCH_TWICE = "BranchTwice"
+    BAD_LEAF = "BadLeaf"
+    TOO_MANY_LOADS = "TooManyLoads"
+    NOT_JUDGED = "NotJudged"

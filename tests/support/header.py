@@ -1,0 +1,94 @@
+"""What bindings/c/tsp.h declares, and the module of the package for Python that is made from it and from bindings/reasons.tsv.
+
+tests/repository/reasons writes that module, and compares it.
+"""
+from __future__ import annotations
+
+import re
+from typing import NamedTuple
+
+# The types of ctypes. A text is bytes of Python; what a call fills in is an address.
+SCALARS = {"uint32_t": "c_uint32", "int64_t": "c_int64", "uint64_t": "c_uint64", "size_t": "c_size_t", "bool": "c_bool"}
+POINTERS = {"const uint8_t": "c_char_p", "uint8_t": "c_void_p", "int64_t": "c_void_p", "const uint32_t": "c_void_p", "void": "c_void_p"}
+POINTERS |= {"size_t": "POINTER(c_size_t)", "uint32_t": "POINTER(c_uint32)"}
+DECLARED = "bindings/python/yokecairn/_declared.py"
+
+
+class Header(NamedTuple):
+    """The numbers of all names of enums, the fields of each struct, and the result and the parameters of each call; each type is
+    that of ctypes."""
+
+    numbers: dict[str, int]
+    structs: dict[str, list[tuple[str, str]]]
+    calls: dict[str, tuple[str, list[str]]]
+
+
+def type_of(words: str) -> str:
+    """The type of ctypes for a type of C."""
+    words = " ".join(words.split())
+    if words == "void":
+        return "None"
+    if not words.endswith("*"):
+        return SCALARS[words]
+    inner = words[:-1].strip()
+    return f"POINTER({inner.removeprefix('struct ')})" if inner.startswith("struct ") else POINTERS[inner]
+
+
+def declared(declaration: str) -> tuple[str, str]:
+    """The name in a declaration, and its type."""
+    kind, star, name = re.fullmatch(r"\s*(.*?)\s*(\*?)\s*(\w+)\s*", declaration, re.S).groups()
+    return name, type_of(kind + star)
+
+
+def header_of(text: str) -> Header:
+    """What the text of the header declares.
+
+    Raises:
+        KeyError: a type isn't known here.
+    """
+    plain = re.sub(r"/\*.*?\*/|^#.*?$", "", text, flags=re.S | re.M)
+    numbers = {name: int(number) for body in re.findall(r"\benum \{(.*?)\}", plain, re.S) for name, number in re.findall(r"(\w+) = (\d+)", body)}
+    structs = {name: [declared(it) for it in body.split(";")[:-1]] for name, body in re.findall(r"^struct (\w+) \{(.*?)^\};", plain, re.S | re.M)}
+    calls = {}
+    for result, name, parameters in re.findall(r"^(\w+) (tsp_\w+)\(([^)]*)\);", plain, re.M):
+        given = [] if parameters == "void" else [declared(it)[1] for it in parameters.split(",")]
+        calls[name] = type_of(result), given
+    return Header(numbers, structs, calls)
+
+
+def reasons_of(reasons: list[tuple[str, str, int]]) -> str:
+    """The table of reasons, and the class of their names. A reason has its name, the same in capitals, and how many numbers."""
+    pairs = "".join(f'    ("{name}", {count}),\n' for name, _, count in reasons)
+    names = "".join(f'    {capitals} = "{name}"\n' for name, capitals, _ in reasons)
+    return (
+        "# Each reason, in the order of its number from 1, with how many numbers it has.\n"
+        f"REASONS = (\n{pairs})\n\n\n"
+        "class Reason(str, Enum):\n"
+        '    """Why a solution is rejected, or a certificate shows nothing; docs/format.md says when. `Report.reason` is\n'
+        '    its text: `report.reason == Reason.REPEATED_NODE`."""\n\n'
+        f"{names}"
+    )
+
+
+def module_of(header: Header, reasons: list[tuple[str, str, int]]) -> str:
+    """Python's module."""
+    numbers = "".join(f"{name.removeprefix('TSP_')} = {number}\n" for name, number in header.numbers.items())
+    structs = ""
+    for name, fields in header.structs.items():
+        rows = "".join(f'        ("{field}", {kind}),\n' for field, kind in fields)
+        structs += f"class {name}(Structure):\n    _fields_ = [\n{rows}    ]\n\n\n"
+    calls = ""
+    for name, (result, given) in header.calls.items():
+        rows = "".join(f"            {kind},\n" for kind in given)
+        calls += f'    "{name}": (\n        {result},\n' + (f"        [\n{rows}        ],\n" if given else "        [],\n") + "    ),\n"
+    used = sorted(set(re.findall(r"\b(?:c_\w+|POINTER)\b", structs + calls)) | {"Structure"})
+    return (
+        '"""What bindings/c/tsp.h declares, for ctypes, and the reasons for the line `no`.\n\n'
+        "This file is made from the header and from bindings/reasons.tsv by `tests/repository/reasons --write`: change these. The\n"
+        'suite `reasons` of ./check compares them.\n"""\n\n'
+        f"from ctypes import {', '.join(used)}\n"
+        "from enum import Enum\nfrom typing import Any, Dict, List, Tuple\n\n"
+        f"{numbers}\n\n{structs}"
+        "# The result and the parameters of each call.\n"
+        f"CALLS: Dict[str, Tuple[Any, List[Any]]] = {{\n{calls}}}\n\n{reasons_of(reasons)}"
+    )
