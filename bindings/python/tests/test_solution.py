@@ -10,8 +10,8 @@ from pathlib import Path
 import yokecairn
 from support import EXAMPLES, RECTANGLE, ROOT
 from yokecairn import SolutionError, best_known, check, read_solution
-from yokecairn._claims import claim_of
-from yokecairn._forms import is_marked
+from yokecairn.forms import claim_of
+from yokecairn.forms import is_marked
 
 FORMS = json.loads((ROOT / "tests/support/forms.json").read_text())
 # The recipes of the forms that show themselves by their words.

@@ -28,10 +28,9 @@ from .faults import (
     TooLong,
     WrongKind,
 )
-from .many import Job, check_many
 from .problem import Problem, load, parse, read
 from .publishing import Verification, publish, verify
-from .report import Report, bound, check, show
+from .report import Job, Report, bound, check, check_many, show
 from .solution import best_known, read_solution
 from .standings import Table
 

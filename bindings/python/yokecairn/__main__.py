@@ -17,13 +17,10 @@ import sys
 from typing import IO, Callable, List, Sequence, Tuple
 
 from . import _library
-from ._claims import length_of
-from ._comparing import Lines
-from ._grammar import Asked, Refused, Task, task_of
-from ._publishing import published
-from ._tabling import tabled
+from .command import Asked, Lines, Refused, Task, published, tabled, task_of
 from .compare import Judge
 from .faults import Fault, OutOfMemory, SolutionError, error_of, located
+from .forms import length_of
 
 __all__ = ["Run", "length_of", "main"]
 

@@ -11,22 +11,12 @@ from dataclasses import dataclass
 from functools import cached_property
 from typing import Any, Callable, Dict, Iterable, Iterator, List, Mapping, NoReturn, Optional, Sequence, Tuple, Union, overload
 
-from . import _library, _plots
-from ._forms import Shape
+from . import _library, plots
 from ._declared import REASONS
 from .faults import Error, Fault, OutOfMemory, text_of
-from .many import Outcome
-from .problem import Path, Problem, parse
-from .report import (
-    Report,
-    Solution,
-    Source,
-    bound_of,
-    certificate_of,
-    report_of,
-    solution_of,
-    text_and_path,
-)
+from .forms import Shape
+from .problem import Path, Problem, Source, parse, text_and_path
+from .report import Outcome, Report, Solution, bound_of, certificate_of, report_of, solution_of
 from .solution import best_known
 
 # The best-known length: itself, lengths by names, or a file of lines `NAME LENGTH`.
@@ -488,7 +478,7 @@ class Comparison(Sequence[Outcome]):
         Raises:
             ImportError: matplotlib isn't installed.
         """
-        return _plots.plot_comparison(self, ax)
+        return plots.plot_comparison(self, ax)
 
 
 def _shown(text: str) -> str:

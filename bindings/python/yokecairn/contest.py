@@ -10,8 +10,8 @@ from typing import Any, Callable, Dict, Iterable, List, NamedTuple, Optional, Se
 
 from .compare import Best, BestUnknown, Judge
 from .faults import Error
-from .many import executor_of
 from .problem import Path
+from .report import executor_of
 from .standings import Place, Standing, Table
 
 _INSTANCES = (".tsp", ".atsp", ".vrp")

@@ -8,7 +8,7 @@ from decimal import Decimal
 from itertools import chain, product
 from typing import IO, Any, Dict, Iterable, Iterator, List, Mapping, Optional, Sequence, Tuple, Union
 
-from . import _arrays, _canonical, _library, _plots
+from . import _library, arrays, fields as canonical_fields, plots
 from .faults import LineFault, NodeError, WrongKind, error_of, explained, text_of
 
 Path = Union[str, "os.PathLike[str]"]
@@ -95,7 +95,7 @@ class Problem:
     column_potentials: Dict[int, int]
     fixed_edge_potentials: List[Tuple[int, int, int]]
     combs: List[List[List[int]]]
-    branches: List[_canonical.Step]
+    branches: List[canonical_fields.Step]
     others: List[Tuple[str, str]]
     claimed_length: Optional[int]
 
@@ -107,10 +107,10 @@ class Problem:
             TypeError: no field has this name.
         """
         others = fields.pop("others", ())
-        unknown = fields.keys() - _canonical.KEYWORDS.keys() - _canonical.SECTIONS.keys()
+        unknown = fields.keys() - canonical_fields.KEYWORDS.keys() - canonical_fields.SECTIONS.keys()
         if unknown:
             raise TypeError(f"no field has the name {min(unknown)!r}")
-        self._fill(canonical(_canonical.text_of_fields(fields, others)), floats)
+        self._fill(canonical(canonical_fields.text_of_fields(fields, others)), floats)
 
     @classmethod
     def parse(cls, text: Union[str, bytes], *, floats: bool = False) -> "Problem":
@@ -158,8 +158,8 @@ class Problem:
         """
         if rounding != "nearest":
             return cls._rounded_down(points, edge_weight_type, scale, decimals, rounding, floats, fields)
-        rows = _arrays.points(points, 3 if edge_weight_type.endswith("_3D") else 2, scale, decimals)
-        notes = [fields.pop("comment", None), _arrays.note("Coordinates", scale, decimals)]
+        rows = arrays.points(points, 3 if edge_weight_type.endswith("_3D") else 2, scale, decimals)
+        notes = [fields.pop("comment", None), arrays.note("Coordinates", scale, decimals)]
         mine: Dict[str, Any] = {"type": "TSP", "comment": "\n".join(filter(None, notes)) or None, **fields}
         mine.update(dimension=len(rows), edge_weight_type=edge_weight_type)
         mine.update(node_coords=dict(enumerate(rows, 1)), floats=floats)
@@ -187,12 +187,12 @@ class Problem:
             raise ValueError(f"a rounding is one of nearest, {', '.join(_PARTS)}, and this is {rounding!r:.60}")
         if kind != "EUC_2D":
             raise ValueError(f"only distances of EUC_2D are rounded down, and this is {kind}")
-        rows = _arrays.points(points, 2, scale, decimals)
+        rows = arrays.points(points, 2, scale, decimals)
         told = f"Weights are {'ten times ' * (rounding == 'dimacs')}the distances, rounded down"
-        notes = [fields.pop("comment", None), _arrays.note("Coordinates", scale, decimals), told]
+        notes = [fields.pop("comment", None), arrays.note("Coordinates", scale, decimals), told]
         mine: Dict[str, Any] = {"type": "TSP", **fields, "comment": "\n".join(filter(None, notes)), "dimension": len(rows)}
         mine.update(edge_weight_type="EXPLICIT", edge_weight_format="FULL_MATRIX", display_data_type="TWOD_DISPLAY")
-        mine.update(edge_weights=_arrays.rounded_down(rows, _PARTS[rounding]), display_data=dict(enumerate(rows, 1)))
+        mine.update(edge_weights=arrays.rounded_down(rows, _PARTS[rounding]), display_data=dict(enumerate(rows, 1)))
         return cls(**mine, floats=floats)
 
     @classmethod
@@ -211,9 +211,9 @@ class Problem:
             TypeError: a weight is no number.
             ValueError: the rows aren't as long as there are rows, or a weight isn't whole.
         """
-        rows = _arrays.matrix(matrix, scale, rounded)
+        rows = arrays.matrix(matrix, scale, rounded)
         is_even = all(rows[i][j] == rows[j][i] for i in range(len(rows)) for j in range(i))
-        notes = [fields.pop("comment", None), _arrays.note("Weights", scale, 0 if rounded else None)]
+        notes = [fields.pop("comment", None), arrays.note("Weights", scale, 0 if rounded else None)]
         mine: Dict[str, Any] = {"type": "TSP" if is_even else "ATSP", **fields}
         mine.update(comment="\n".join(filter(None, notes)) or None)
         mine.update(dimension=len(rows), edge_weight_type="EXPLICIT", edge_weight_format="FULL_MATRIX")
@@ -227,9 +227,9 @@ class Problem:
         return problem
 
     def _fill(self, text: bytes, floats: bool, claimed_length: Optional[int] = None) -> None:
-        fields, others, start = _canonical.head_of(text)
+        fields, others, start = canonical_fields.head_of(text)
         mine: Dict[str, Any] = self.__dict__
-        mine.update(dict.fromkeys(_canonical.KEYWORDS))
+        mine.update(dict.fromkeys(canonical_fields.KEYWORDS))
         mine.update(fields, others=others, claimed_length=claimed_length, _text=text, _floats=floats, _start=start)
 
     _text: bytes
@@ -243,10 +243,10 @@ class Problem:
 
     def __getattr__(self, name: str) -> Any:
         """What is worked out when it is first asked for: a section, the points, the matrix, the handle."""
-        if name in _canonical.SECTIONS:
+        if name in canonical_fields.SECTIONS:
             made = self._section(name)
         elif name == "_sections":
-            made = _canonical.sections_of(self._text, self._start)
+            made = canonical_fields.sections_of(self._text, self._start)
         elif name == "_points":
             made = self._node_points()
         elif name == "_matrix":
@@ -280,24 +280,24 @@ class Problem:
     # ---- fields
 
     def _section(self, name: str) -> Any:
-        section, read = _canonical.SECTIONS[name], _canonical.READERS[name]
-        if self._floats and read is _canonical.points:
-            read = _canonical.float_points
+        section, read = canonical_fields.SECTIONS[name], canonical_fields.READERS[name]
+        if self._floats and read is canonical_fields.points:
+            read = canonical_fields.float_points
         begin, end = self._sections.get(section, (0, 0))
         return read(self._text[begin:end])
 
     def as_name_dict(self) -> Dict[str, Any]:
         """The fields that stand in the file, by their names."""
-        fields = {name: getattr(self, name) for name in _canonical.KEYWORDS}
+        fields = {name: getattr(self, name) for name in canonical_fields.KEYWORDS}
         found = {name: value for name, value in fields.items() if value is not None}
-        for name, section in _canonical.SECTIONS.items():
+        for name, section in canonical_fields.SECTIONS.items():
             if section in self._sections:
                 found[name] = getattr(self, name)
         return found
 
     def as_keyword_dict(self) -> Dict[str, Any]:
         """The fields that stand in the file, by their keywords and sections, and the unknown keywords."""
-        keywords = {**_canonical.KEYWORDS, **_canonical.SECTIONS}
+        keywords = {**canonical_fields.KEYWORDS, **canonical_fields.SECTIONS}
         found = {keywords[name]: value for name, value in self.as_name_dict().items()}
         return {**found, **dict(self.others)}
 
@@ -437,7 +437,7 @@ class Problem:
             ValueError: the nodes have no places.
             NodeError: a tour has a node that isn't there.
         """
-        return _plots.plot_problem(self, tour, other, ax)
+        return plots.plot_problem(self, tour, other, ax)
 
     # ---- nodes and weights
 
@@ -560,7 +560,7 @@ class Problem:
         self._weight_kind()
         found: List[int] = []
         nodes, count = array("I"), 0
-        for tour in _arrays.tours(tours):
+        for tour in arrays.tours(tours):
             more = self._tour(tour)
             if len(nodes) + len(more) > _library.MOST_NODES:
                 found += self._numbers(*self._handle.lengths(nodes, count))
@@ -673,3 +673,22 @@ def _checked(path: Path) -> Path:
     return path
 
 
+# A path, the text itself, or a file that was read.
+Source = Union[Path, bytes, Problem]
+
+
+
+def text_and_path(source: Source) -> Tuple[bytes, Optional[str]]:
+    """The text of a source, and its path where it is one."""
+    if isinstance(source, Problem):
+        return source.to_bytes(), None
+    if isinstance(source, (bytes, bytearray)):
+        return bytes(source), None
+    try:
+        path = os.fspath(source)
+    except TypeError:
+        raise TypeError(
+            f"a file is a path, the bytes of its text, or a Problem, and this is of type {type(source).__name__}"
+        ) from None
+    with open(path, "rb") as file:
+        return file.read(), path

@@ -14,7 +14,7 @@ from pathlib import Path as _Path
 from typing import Dict, Iterable, List, NamedTuple, Optional, Tuple
 
 from . import _library
-from ._forms import shape_of
+from .forms import shape_of
 from .faults import Error, text_of
 from .problem import Path
 from .report import Report, check, solution_of

@@ -8,9 +8,8 @@ import re
 from typing import Any, Dict, Iterable, List, Mapping, NamedTuple, Optional, Sequence, Tuple
 
 from .compare import Basis, cells, rows_to, said_of
-from .many import Outcome
 from .problem import Path
-from .report import Report
+from .report import Outcome, Report
 
 COLUMNS = (
     "instance",

@@ -1,12 +1,20 @@
-"""The words of the command line: one table of verbs, files and options, and the task that they ask for, which __main__.py does."""
+"""The words of the command line: one table of verbs, files and options, the task that they ask for, and what the verbs on many
+files and on folders write. __main__.py reads the files and does the task."""
 
 import argparse
-from typing import Any, Dict, List, NoReturn, Optional, Sequence, Tuple
+import io
+import json
+import os
+from typing import Any, Dict, List, NoReturn, Optional, Sequence, Tuple, Union
 
 from . import LAYOUTS, __version__, _library
-from ._claims import length_of
-from ._forms import is_tsplib, shape_of, solution_text, told_by
-from .faults import SolutionError, explained, text_of
+from .compare import Comparison, Judge, cells, line_of, rows_to, said_of, status_of
+from .contest import table
+from .faults import Error, SolutionError, explained, text_of
+from .forms import is_tsplib, length_of, shape_of, solution_text, told_by
+from .publishing import README, publish, verify
+from .report import Outcome, Report
+from .standings import Table
 
 # What is said of each verb, its files, and its options.
 _VERBS: Dict[str, Tuple[str, Tuple[str, ...], Tuple[str, ...]]] = {
@@ -235,3 +243,159 @@ def task_of(words: Sequence[str]) -> Tuple[Task, bool]:
             raise Refused("python3 -m yokecairn: a verb is missing\n")
         given.file = "-"
     return Task(given), getattr(given, "explain", False)
+
+
+# ---- the verb compare: a line, a row or a part of JSON for each solution
+
+class Lines:
+    """Writes what comes of the solutions in the form that the words ask for."""
+
+    def __init__(self, run: Any, judge: Judge, task: Task) -> None:
+        self.run, self.judge, self.task = run, judge, task
+        best = self.best_of(task.best) if task.best else None
+        self.found = Comparison(judge.basis, task.paths[0], judge.best(best))
+        self.counts = task.form != "json" and run.err.isatty() and not run.out.isatty()
+
+    def text_of(self, path: str) -> bytes:
+        """The text of a file of best-known lengths, or of a solution."""
+        if path == "-":
+            return self.run.stdin.read()  # type: ignore[no-any-return]
+        with open(path, "rb") as file:
+            return file.read()
+
+    def best_of(self, word: str) -> Union[int, bytes]:
+        """The best-known length: the word itself, where it is a whole number and no file; or the text of a file."""
+        is_length = word.isascii() and word.isdigit() and not os.path.exists(word)
+        return int(word) if is_length else self.text_of(word)
+
+    def write(self, text: str) -> None:
+        self.run.write(text.encode("utf-8", "surrogateescape"))
+
+    def row(self, *rows: Any) -> None:
+        """Writes rows of the table."""
+        lines = io.StringIO()
+        rows_to(lines, "\t").writerows(rows)
+        self.write(lines.getvalue())
+
+    def head(self) -> None:
+        """Writes what comes before all solutions."""
+        if self.task.form == "text":
+            self.write(self.judge.basis.text)
+        elif self.task.form == "tsv":
+            header = io.StringIO()
+            rows_to(header, "\t").writeheader()
+            self.write(header.getvalue())
+
+    def outcome(self, path: str) -> Outcome:
+        """What comes of the solution at a path."""
+        try:
+            text = self.text_of(path)
+        except OSError as fault:
+            return fault
+        return self.judge.outcome(text, explain=self.run.explains, path=path)
+
+    def add(self, path: str, outcome: Outcome) -> None:
+        """Writes what came of a solution."""
+        self.found.add(path, outcome)
+        if self.task.form == "text":
+            self.write(f"{line_of(path, outcome)}\n")
+        elif self.task.form == "tsv":
+            self.row(cells(self.found.row(path, outcome)))
+        if self.counts:
+            self.run.say(b"\r%d of %d" % (len(self.found), len(self.task.solutions)))
+        explanation = "" if isinstance(outcome, Report) and outcome.yes else getattr(outcome, "explanation", "")
+        if self.run.explains and explanation:
+            self.run.explain(("\n" if self.counts else "") + explanation)
+        elif self.task.form == "text" and not isinstance(outcome, Report) and not self.run.explains:
+            self.run.explain(f"{path}: {said_of(outcome)}")
+
+    def written(self) -> int:
+        """Writes all of it; the exit status."""
+        self.head()
+        if self.judge.basis.reason is None:
+            for path in self.task.solutions:
+                self.add(path, self.outcome(path))
+        if self.counts:
+            self.run.say(b"\n")
+        if self.task.form == "json":
+            self.write(json.dumps(self.found.as_dict(), indent=2) + "\n")
+        if self.task.sums:
+            self.run.explain(self.found.summary())
+        return self.found.status
+
+
+# ---- the verb table
+
+_WIDE = 24  # signs of the bar
+
+
+def _status(found: Table) -> int:
+    """The exit status: the largest of 0 all accepted, 1 a no or a missing solution, 2 a fault, 5 a file that can't be read."""
+    most = _library.DONE
+    for instance in found.instances:
+        for solver in found.solvers:
+            outcomes = found.runs(instance, solver).values()
+            most = max(most, max(map(status_of, outcomes), default=_library.NO))
+    return most
+
+
+class Bar:
+    """A bar on standard error, where that is a terminal: how many instances are done."""
+
+    def __init__(self, run: Any) -> None:
+        self.run = run
+        self.is_shown = run.err.isatty()
+
+    def __call__(self, done: int, count: int, instance: str) -> None:
+        if self.is_shown:
+            full = _WIDE * done // count
+            bar = "#" * full + "." * (_WIDE - full)
+            self.run.say(f"\r\x1b[K[{bar}] {done} of {count}: {instance}".encode("utf-8", "surrogateescape"))
+            if done == count:
+                self.run.say(b"\r\x1b[K")
+
+
+def tabled(run: Any, task: Task) -> int:
+    """Writes the table of the folders that the words name; the exit status."""
+    best: Optional[Any] = task.best
+    if task.best is not None and task.best.isdigit() and not os.path.exists(task.best):
+        run.explain(f"{task.best}: for several instances best-known lengths are in a file of lines NAME LENGTH")
+        return _library.FAULT
+    try:
+        found = table(task.folders, best=best, workers=task.jobs, processes=True, claims=task.claims, progress=Bar(run))
+    except ValueError as fault:
+        run.explain(str(fault))
+        return _library.FAULT
+    except OSError as fault:
+        run.explain(f"{fault.filename}: {fault.strerror}")
+        return _library.DEVICE
+    forms = {
+        "csv": found.to_csv, "latex": found.to_latex, "html": found.to_html, "json": found.to_json, "markdown": found.to_markdown,
+    }
+    written = forms[task.form]() if task.form in forms else f"{found}\n"
+    run.write((written or "").encode("utf-8", "surrogateescape"))
+    return _status(found)
+
+
+# ---- the verbs publish and verify
+
+
+def published(run: Any, task: Task) -> int:
+    """Puts a result into a folder, or checks one; the exit status."""
+    folder = task.folders[0]
+    try:
+        if task.verb == "verify":
+            found = verify(folder)
+            run.write(f"{found}\n".encode("utf-8", "surrogateescape"))
+            return _library.DONE if found.yes else _library.NO
+        files = (task.paths[0], task.paths[1], task.potentials, task.branches)
+        report = publish(folder, *files, length=task.claimed, claims=task.claims)
+        run.write(report.text.encode("utf-8", "surrogateescape"))
+        return _library.DONE
+    except OSError as fault:
+        is_none = task.verb == "verify" and os.path.basename(str(fault.filename)) == README
+        run.explain(f"{fault.filename}: {fault.strerror}{': publish made no such folder' if is_none else ''}")
+        return _library.DEVICE
+    except (Error, ValueError) as fault:
+        run.explain(str(fault))
+        return _library.NO if str(fault).startswith("nothing is published") else _library.FAULT
