@@ -1,6 +1,7 @@
 """Builds the wheel, with the library inside: YOKECAIRN_LIBRARY=PATH python3 setup.py bdist_wheel
 
-The script recheck.py is put beside it: YOKECAIRN_RECHECK names it, where this folder isn't in its repository.
+The script recheck.py is put beside it: YOKECAIRN_RECHECK names it, where this folder isn't in its repository. All files in
+the folder YOKECAIRN_LICENCES are put into yokecairn/licences; without it, those are the repository's own two.
 YOKECAIRN_SYSTEM names the system of the library, one of SYSTEMS, where it isn't Linux on x86-64; then YOKECAIRN_VERSION
 is the library's version, which else the library is asked for. Any Python 3 calls the library over ctypes. For Linux it
 needs no glibc above 2.17.
@@ -23,6 +24,18 @@ if not LIBRARY:
     raise SystemExit("setup.py: YOKECAIRN_LIBRARY has to be the path of libtsp.so")
 
 RECHECK = os.environ.get("YOKECAIRN_RECHECK") or Path(__file__).resolve().parents[2] / "examples/recheck.py"
+
+
+def licences():
+    """The file of each licence, and its path in the package's folder of licences."""
+    named = os.environ.get("YOKECAIRN_LICENCES")
+    base = Path(named) if named else Path(__file__).resolve().parents[2]
+    found = sorted(base.rglob("*") if named else base.glob("LICENSE-*"))
+    files = {path: path.relative_to(base) for path in found if path.is_file()}
+    if not files:
+        raise SystemExit(f"setup.py: there is no licence in {base}")
+    return files
+
 
 # The tag of each system, and what the library is called in the package there.
 SYSTEMS = {
@@ -56,8 +69,16 @@ class WithLibrary(build_py):
         super().run()
         for source in (LIBRARY, RECHECK):
             place = Path(self.build_lib, "yokecairn", NAME if source is LIBRARY else "recheck.py")
-            shutil.copyfile(source, place)
-            place.chmod(0o644)
+            put(source, place)
+        for source, place in licences().items():
+            put(source, Path(self.build_lib, "yokecairn/licences", place))
+
+
+def put(source, place):
+    """Copies a file, with the same mode wherever it was."""
+    place.parent.mkdir(parents=True, exist_ok=True)
+    shutil.copyfile(source, place)
+    place.chmod(0o644)
 
 
 class AnyPython(bdist_wheel):

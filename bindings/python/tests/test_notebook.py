@@ -1,6 +1,7 @@
 """The notebook examples/potentials.ipynb, whose cells run as a script."""
 
 import json
+import shutil
 import subprocess
 import tempfile
 import unittest
@@ -12,6 +13,20 @@ BOOK = PACKAGE / "examples/potentials.ipynb"
 
 
 class Notebook(unittest.TestCase):
+    @needs_python_with("matplotlib")
+    def test_places(self):
+        """The first cell finds the examples from its own folder, in the repository and as installed, and from the one above."""
+        cells = json.loads(BOOK.read_text())["cells"]
+        first = next("".join(cell["source"]) for cell in cells if cell["cell_type"] == "code")
+        script = f"import sys\nsys.path.insert(0, {str(PACKAGE)!r})\nimport matplotlib\nmatplotlib.use('Agg')\n{first}\nprint(problem)"
+        with tempfile.TemporaryDirectory() as folder:
+            installed = Path(folder, "share/yokecairn")
+            shutil.copytree(BOOK.parent, installed / "python")
+            shutil.copytree(ROOT / "examples", installed / "examples")
+            for place in (ROOT, BOOK.parent, installed / "python", installed):
+                ran = subprocess.run([python_with("matplotlib"), "-c", script], cwd=place, capture_output=True, text=True)
+                self.assertEqual((ran.returncode, ran.stderr), (0, ""), place)
+
     @needs_python_with("matplotlib")
     def test_cells(self):
         cells = json.loads(BOOK.read_text())["cells"]

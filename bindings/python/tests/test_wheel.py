@@ -23,11 +23,14 @@ class Wheel(unittest.TestCase):
         source = Path(folder, "source")
         skipped = shutil.ignore_patterns("__pycache__", "build", "dist", "*.egg-info")
         shutil.copytree(PACKAGE, source, ignore=skipped)
+        for name in ("LICENSE-MIT", "clap/LICENSE"):  # as ./release puts those of the code that is linked
+            Path(folder, "licences", name).parent.mkdir(parents=True, exist_ok=True)
+            Path(folder, "licences", name).write_text(name)
         subprocess.run(
             [python_with("setuptools", "wheel"), "setup.py", "-q", "bdist_wheel", "--dist-dir", str(Path(folder, "dist"))],
             cwd=source,
             env={**os.environ, "SOURCE_DATE_EPOCH": "1700000000", "YOKECAIRN_LIBRARY": _library.path(),
-                 "YOKECAIRN_RECHECK": str(EXAMPLES / "recheck.py")},
+                 "YOKECAIRN_RECHECK": str(EXAMPLES / "recheck.py"), "YOKECAIRN_LICENCES": str(Path(folder, "licences"))},
             check=True,
             capture_output=True,
         )
@@ -43,7 +46,7 @@ class Wheel(unittest.TestCase):
             sums = {hashlib.sha256(path.read_bytes()).hexdigest() for path in (wheel, other)}
             self.assertEqual(len(sums), 1)
             names = zipfile.ZipFile(wheel).namelist()
-            for name in ("libtsp.so", "py.typed", "__main__.py", "recheck.py", "standings.schema.json"):
+            for name in ("libtsp.so", "py.typed", "__main__.py", "recheck.py", "standings.schema.json", "licences/LICENSE-MIT", "licences/clap/LICENSE"):
                 self.assertIn(f"yokecairn/{name}", names)
             self.use(wheel, Path(two, "environment"))
 
