@@ -10,12 +10,14 @@ What differs between them is marked in the pages, in comments of Markdown:
     <!-- release .. -->                  only in a release
 
 What scripts/walk prints is between two comments that begin with `printed`.
-Commands call `tsp` in a release and `./tsp` in the repository. PATHS has the files that are elsewhere there. A page
-of SOURCES is about the repository's sources, and says so in a release. scripts/release imports it; tests/repository/released
-sees how the pages read there.
+Commands call `tsp` in a release and `./tsp` in the repository. PATHS has the files that are elsewhere there. The pages of
+DEVELOPERS are about the repository's sources: in a release they are in a folder of their own, and say so. Those of REFEREES
+are read beside the definitions, which a release has; what it hasn't is named as one of the sources. scripts/release imports
+it; tests/repository/released sees how the pages read there.
 """
 from __future__ import annotations
 
+import posixpath
 import re
 from collections.abc import Iterable
 
@@ -29,8 +31,10 @@ PATHS = {
     "bindings/python/examples/": "PREFIX/share/yokecairn/python/",
     "docs/tsp.1": "tsp",  # (for man)
 }
-SOURCES = ("CONTRIBUTING.md", "docs/ARCHITECTURE.md", "docs/BENCH.md", "docs/DECISIONS.md", "docs/TESTING.md", "docs/glossary.md",
-           "docs/proof.md", "docs/rattle.md", "docs/trust.md")
+# Pages for who changes the code, and where they are in a release's folder of pages.
+DEVELOPERS = {f"docs/{name}.md": f"developers/{name}.md" for name in ("ARCHITECTURE", "BENCH", "DECISIONS", "TESTING", "rattle")}
+DEVELOPERS |= {"CONTRIBUTING.md": "developers/CONTRIBUTING.md", "tests/program/README.md": "developers/tests.md"}
+REFEREES = ("docs/trust.md", "docs/proof.md", "docs/glossary.md")
 NOTE = "Commands and paths of this page are those of the sources at the commit of BUILT-FROM, which aren't in a release."
 
 MARKED = re.compile(r"<!-- (checkout|private|%s) -->(.*?)<!-- end -->" % "|".join(PARTS), re.S)
@@ -41,6 +45,22 @@ RELEASE = re.compile(r"<!-- release\s(.*?)\s*-->", re.S)
 BEYOND = re.compile(r"\[([^\]\n]+)\]\((?:\.\./)*(?:bench|bindings|crates|scripts|tests)/(?![^)]*README\.md)[^)]*\)"
                     r"|\[([^\]\n]+)\]\((?:\.\./)*README\.md#quick-start\)")
 PROGRAM = re.compile(r"(?<![\w/.])\./tsp\b")
+LINK = re.compile(r"\]\((?!\w+:)([^)\s#]+)(#[^)\s]*)?\)")
+# A path in a page of referees that a release hasn't.
+OF_SOURCES = re.compile(r"`((?:\./(?:build|check|release)\b|(?:bindings|bench|scripts|tests)/)[^`]*)`")
+
+
+def relinked(name: str, text: str) -> str:
+    """A page's text with links to the places that pages have in a release."""
+
+    def moved(found: re.Match[str]) -> str:
+        target = posixpath.normpath(posixpath.join(posixpath.dirname(name), found[1]))
+        here = posixpath.dirname(DEVELOPERS.get(name, name))
+        if name not in DEVELOPERS and target not in DEVELOPERS:
+            return found[0]
+        return f"]({posixpath.relpath(DEVELOPERS.get(target, target), here or '.')}{found[2] or ''})"
+
+    return LINK.sub(moved, text)
 
 
 def of_release(name: str, text: str, without: Iterable[str] = (), publisher: Publisher | None = None, date: str = "") -> str:
@@ -55,11 +75,14 @@ def of_release(name: str, text: str, without: Iterable[str] = (), publisher: Pub
     if left := re.search(r"<!--.*", text):
         raise ValueError(f"{name}: this mark has no other end: {left[0]}")
     text = BEYOND.sub(lambda found: found[1] or found[2], text)
-    if name in SOURCES or name.startswith("tests/"):
+    text = relinked(name, text)
+    if name in DEVELOPERS:
         head, _, rest = text.partition("\n")
         return f"{head}\n\n{NOTE}\n{rest}"
     for path, place in PATHS.items():
         text = text.replace(path, place)
     text = PROGRAM.sub("tsp", text)
+    if name in REFEREES:
+        text = OF_SOURCES.sub(r"`\1` of the sources", text)
     # (a block that was marked leaves its empty lines)
     return re.sub(r"\n{3,}", "\n\n", text)
