@@ -1,6 +1,6 @@
 // The ascent of Held and Karp, step by step: potentials of a small TSP, and the least 1-tree under them. Distances are
-// doubles here, and nothing has to be trusted: the library judges the potentials. run.mjs calls it in the worker; page.mjs
-// shows its steps.
+// doubles here, and nothing has to be trusted: the library judges the potentials. rising.mjs calls it in the worker, and
+// drawing.mjs shows its steps.
 
 /** Of larger instances the steps aren't shown. */
 export const MOST_RISING = 300;

@@ -1,20 +1,21 @@
 // Instances of type GEO as instances of weights, by TSPLIB's formula in doubles. The library doesn't read GEO, whose
-// distances need cosines; examples/geo.py does the same. For run.mjs. It imports nothing.
+// distances need cosines; examples/geo.py does the same. outcome.mjs asks for it. It imports nothing.
 
 const PI = 3.141592;
 const RADIUS = 6378.388;
 
-/** The keywords and sections that an instance of type GEO may have. */
-const KNOWN = new Set([
-    ...["NAME", "TYPE", "COMMENT", "DIMENSION", "EDGE_WEIGHT_TYPE", "EDGE_WEIGHT_FORMAT", "NODE_COORD_TYPE", "DISPLAY_DATA_TYPE"],
-    ...["NODE_COORD_SECTION", "DISPLAY_DATA_SECTION", "FIXED_EDGES_SECTION", "FIXED_EDGES"],
-]);
-
 /** A matrix of weights is read for so many nodes at most. */
 const MOST_NODES = 5000;
 
+/** The keywords whose lines are written anew. */
+const REPLACED = /^[ \t]*(?:EDGE_WEIGHT_TYPE|EDGE_WEIGHT_FORMAT|NODE_COORD_TYPE|DISPLAY_DATA_TYPE)[ \t]*:/;
+
+/** The sections whose words are written anew, or left out. */
+const LISTS = /^[ \t]*(NODE_COORD_SECTION|DISPLAY_DATA_SECTION)[ \t]*:?[ \t\r]*$/;
+
 /**
- * An instance of type GEO as one of weights, with its places for a drawing; null where it is another one, or isn't whole.
+ * An instance of type GEO as one of weights, with its places for a drawing; null where it is another one, or isn't whole. All
+ * other lines stay, so that an unknown keyword is still one.
  *
  * @param {Uint8Array} bytes
  * @returns {Uint8Array | null}
@@ -32,38 +33,38 @@ export function withoutGeo(bytes) {
     if (words.length < 3 * nodes || all.some((node) => !places.get(node)?.every((word) => Number.isFinite(Number(word))))) {
         return null;
     }
-    const named = value("NAME");
-    const fixed = numbersIn(text, "FIXED_EDGES_SECTION");
-    const lines = [
-        ...(named ? [`NAME : ${named}`] : []),
-        `TYPE : ${value("TYPE") ?? "TSP"}`,
-        ...unknownIn(text),
-        `DIMENSION : ${nodes}`,
-        "EDGE_WEIGHT_TYPE : EXPLICIT",
-        "EDGE_WEIGHT_FORMAT : UPPER_ROW",
-        "DISPLAY_DATA_TYPE : TWOD_DISPLAY",
+    const head = ["EDGE_WEIGHT_TYPE : EXPLICIT", "EDGE_WEIGHT_FORMAT : UPPER_ROW", "DISPLAY_DATA_TYPE : TWOD_DISPLAY"];
+    const lists = [
+        ...head,
         "DISPLAY_DATA_SECTION",
         ...all.map((node) => `${node} ${places.get(node)?.[1]} ${places.get(node)?.[0]}`), // (longitude to the right)
         "EDGE_WEIGHT_SECTION",
         ...rowsOfWeights(all.map((node) => (places.get(node) ?? []).map((word) => radians(Number(word))))),
-        ...(fixed.length > 0 ? ["FIXED_EDGES_SECTION", fixed.join(" ")] : []),
-        "EOF",
-        "",
     ];
-    return new TextEncoder().encode(lines.join("\n"));
+    return new TextEncoder().encode(linesWith(text.split("\n"), lists).join("\n"));
 }
 
 /**
- * The lines of an instance with a keyword that isn't one of the format. They stay, so that the library says what it
- * doesn't judge.
+ * The lines of an instance, with others in the place of its points.
  *
- * @param {string} text
+ * @param {string[]} lines
+ * @param {string[]} lists
  * @returns {string[]}
  */
-function unknownIn(text) {
-    const [lines] = text.split(/^[ \t]*EOF\b/m, 1);
-    const wordLines = lines.match(/^[ \t]*[A-Za-z].*$/gm) ?? [];
-    return wordLines.map((line) => line.trim()).filter((line) => !KNOWN.has(/^[^\s:]+/.exec(line)?.[0] ?? ""));
+function linesWith(lines, lists) {
+    /** @type {string[]} */
+    const kept = [];
+    let isInside = false;
+    for (const line of lines) {
+        const [, section] = LISTS.exec(line) ?? [];
+        isInside = section !== undefined || (isInside && /^[ \t]*[-+.\d]|^[ \t\r]*$/.test(line));
+        if (section === "NODE_COORD_SECTION") {
+            kept.push(...lists);
+        } else if (!isInside && !REPLACED.test(line)) {
+            kept.push(line.trim());
+        }
+    }
+    return kept;
 }
 
 /**

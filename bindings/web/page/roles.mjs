@@ -23,6 +23,9 @@ const OF_ENDS = { tour: "TOUR", sol: "TOUR", edges: "TOUR", cyc: "TOUR", potenti
  * @typedef {"instance" | "solution" | "certificate"} Slot
  */
 
+/** @type {Record<Slot, string>} */
+const CALLED = { instance: "instance", solution: "tour", certificate: "certificate" };
+
 /**
  * What a file is for, and for a certificate how it gives a bound.
  *
@@ -32,9 +35,37 @@ const OF_ENDS = { tour: "TOUR", sol: "TOUR", edges: "TOUR", cyc: "TOUR", potenti
  */
 export function roleOf(name, bytes) {
     const start = new TextDecoder().decode(bytes.subarray(0, LOOKED_AT));
-    const type = /^[ \t]*TYPE[ \t]*:[ \t]*(\w+)/m.exec(start)?.[1] ?? "";
+    const type = typeIn(start);
     const end = name.slice(name.lastIndexOf(".") + 1).toLowerCase();
     return OF_TYPES[type] ?? OF_TYPES[OF_ENDS[end] ?? (isForeign(start) ? "TOUR" : "TSP")];
+}
+
+/**
+ * The TYPE that the first lines of a file say; empty where they say none.
+ *
+ * @param {string} start
+ * @returns {string}
+ */
+function typeIn(start) {
+    return /^[ \t]*TYPE[ \t]*:[ \t]*(\w+)/m.exec(start)?.[1] ?? "";
+}
+
+/**
+ * What is wrong with the kinds of files in their slots, in words; empty where nothing is.
+ *
+ * @param {Record<Slot, { name: string, bytes: Uint8Array } | null>} given
+ * @returns {string}
+ */
+export function misplaced(given) {
+    const slots = /** @type {Slot[]} */ (Object.keys(given));
+    const wrong = slots.flatMap((slot) => {
+        const file = given[slot];
+        const type = file ? typeIn(new TextDecoder().decode(file.bytes.subarray(0, LOOKED_AT))) : "";
+        const wanted = OF_TYPES[type]?.slot ?? slot;
+        return file && wanted !== slot ? [{ wanted, slot, words: `${file.name} is of TYPE ${type}, which is no ${CALLED[slot]}` }] : [];
+    });
+    const areExchanged = wrong.some(({ slot, wanted }) => wrong.some((other) => other.slot === wanted && other.wanted === slot));
+    return wrong.length === 0 ? "" : `${wrong.map(({ words }) => words).join(", and ")}.${areExchanged ? " Are the two exchanged?" : ""}`;
 }
 
 /**

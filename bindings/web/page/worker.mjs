@@ -1,8 +1,9 @@
-// The worker of the page, which runs jobs (run.mjs) outside of the page's own thread. The first message is the module,
+// The worker of the page, which runs jobs (outcome.mjs) outside of the page's own thread. The first message is the module,
 // each later one a job. bindings/web/build joins it and what it imports into tsp.html.
 
 import { Library } from "../../javascript/library.mjs";
-import { risingOf, run } from "./run.mjs";
+import { run } from "./outcome.mjs";
+import { risingOf } from "./rising.mjs";
 
 /** @type {Promise<WebAssembly.Module> | null} */
 let module = null;
@@ -16,7 +17,8 @@ addEventListener("message", async ({ data }) => {
             postMessage({ rising: risingOf(await Library.of(await module), data) });
         } else {
             // (a new memory for each job)
-            postMessage({ outcome: run(await Library.of(await module), data) });
+            const library = await Library.of(await module);
+            postMessage({ outcome: run(library, data, (words, done = 0, all = 0) => postMessage({ progress: { words, done, all } })) });
         }
     } catch (error) {
         postMessage({ failed: String(error) });

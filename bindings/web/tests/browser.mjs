@@ -77,7 +77,10 @@ class Browser {
      * @param {string} expression
      */
     async value(expression) {
-        const { result } = await this.ask("Runtime.evaluate", { expression, returnByValue: true, awaitPromise: true });
+        const { result, exceptionDetails } = await this.ask("Runtime.evaluate", { expression, returnByValue: true, awaitPromise: true });
+        if (exceptionDetails) {
+            throw new Error(`${exceptionDetails.exception?.description ?? exceptionDetails.text}: ${expression}`);
+        }
         return result.value;
     }
 
@@ -88,7 +91,8 @@ class Browser {
      */
     async until(expression) {
         for (let tries = 0; tries < 20 * SECONDS; tries++) {
-            if (await this.value(expression)) {
+            // (a page that is still being loaded lacks elements)
+            if (await this.value(expression).catch(() => false)) {
                 return;
             }
             await new Promise((done) => setTimeout(done, 50));
@@ -109,7 +113,7 @@ class Browser {
 
     /** The verdict, once there is one. */
     async verdict() {
-        await this.until(`!document.body.classList.contains("busy") && document.getElementById("verdict").textContent !== ""`);
+        await this.until(`!document.body.classList.contains("busy") && !["", "Checking …"].includes(document.getElementById("verdict").textContent)`);
         return this.value(`document.getElementById("verdict").textContent`);
     }
 
@@ -123,6 +127,17 @@ class Browser {
         const { root } = await this.ask("DOM.getDocument");
         const { nodeId } = await this.ask("DOM.querySelector", { nodeId: root.nodeId, selector: `#${id}` });
         await this.ask("DOM.setFileInputFiles", { nodeId, files: names.map((name) => join(EXAMPLES, name)) });
+    }
+
+    /**
+     * Presses a key.
+     *
+     * @param {string} key
+     */
+    async press(key) {
+        const text = key === "Enter" ? "\r" : key.length === 1 ? key : undefined;
+        await this.ask("Input.dispatchKeyEvent", { type: text ? "keyDown" : "rawKeyDown", key, text, windowsVirtualKeyCode: key === "Enter" ? 13 : undefined });
+        await this.ask("Input.dispatchKeyEvent", { type: "keyUp", key });
     }
 
     /**
@@ -186,10 +201,10 @@ const TESTS = {
             HTMLAnchorElement.prototype.click = function () { saved.at(-1).name = this.download; }; 0`);
         await browser.choose("all", ["harbour.tsp", "solvers/harbour.concorde.sol"]);
         await browser.until(`document.getElementById("verdict").textContent === "Yes: a tour"`);
-        assert.equal(await browser.value(`document.getElementById("converted").hidden`), false);
-        assert.match(await browser.value(`document.getElementById("form").textContent`), /was read as a tour of Concorde/);
-        for (const id of ["save-converted", "save-report", "save-picture"]) {
-            await browser.value(`document.getElementById("${id}").click()`);
+        assert.match(await browser.value(`document.getElementById("made").textContent`), /was read as a tour of Concorde.* Save harbour\.concorde\.tour$/);
+        assert.match(await browser.value(`document.getElementById("command-note").textContent`), /^First save harbour\.concorde\.tour /);
+        for (const action of ["save-made", "save-report", "save-picture"]) {
+            await browser.value(`document.querySelector("[data-do=${action}]").click()`);
         }
         const texts = await browser.value(`Promise.all(saved.map(({ blob }) => blob.text()))`);
         assert.deepEqual(await browser.value(`saved.map(({ name }) => name)`), ["harbour.concorde.tour", "harbour.report", "harbour.svg"]);
@@ -205,11 +220,11 @@ const TESTS = {
         await browser.open("");
         await drop([["tour.csv", "order,node\n0,1\n1,2\n2,3\n3,4\n4,8\n5,5\n6,6\n7,7\n"], own("harbour.tsp")]);
         await browser.until(`document.getElementById("verdict").textContent === "Yes: a tour"`);
-        assert.match(await browser.value(`document.getElementById("form").textContent`), /^tour\.csv was read as a list of nodes, which count from 1\.$/);
+        assert.match(await browser.value(`document.getElementById("made").textContent`), /^tour\.csv was read as a list of nodes, which count from 1\. Save tour\.tour$/);
         await browser.open("");
         await drop([own("dairy.vrp"), ["lkh.tour", "TYPE : TOUR\nTOUR_SECTION\n1 5 6 4 7 9 2 8 3 -1\nEOF\n"]]);
         await browser.until(`document.getElementById("verdict").textContent === "Yes"`);
-        assert.match(await browser.value(`document.getElementById("form").textContent`), /copies of the depot\.$/);
+        assert.match(await browser.value(`document.getElementById("made").textContent`), /copies of the depot\. /);
     },
     "several tours are a table": async (browser) => {
         await browser.open("");
@@ -267,9 +282,146 @@ const TESTS = {
     "a page that isn't shown draws without a fault": async (browser) => {
         await browser.open("");
         await browser.value(`document.getElementById("result").style.display = "none"`);
-        await browser.value(`document.querySelector("button[data-example=harbour]").click()`);
+        await browser.value(`document.querySelector("[data-value=harbour]").click()`);
         assert.match(await browser.verdict(), /^Yes: gap/);
         assert.match(await browser.value(`document.getElementById("map").getAttribute("viewBox")`), /^0 0 [1-9]\d* [1-9]\d*$/);
+    },
+    "two instances in one drop are both offered, and the other one is chosen by a key": async (browser) => {
+        await browser.open("");
+        await browser.choose("all", ["harbour.tsp", "rectangle.tsp", "rectangle-1-2-3-4.tour"]);
+        await browser.verdict();
+        const names = `[...document.querySelectorAll("#instance-offered button")].map((it) => it.textContent).join("|")`;
+        assert.equal(await browser.value(names), "harbour.tsp|rectangle.tsp");
+        await browser.value(`document.querySelectorAll("#instance-offered button")[1].focus()`);
+        await browser.press("Enter");
+        await browser.until(`document.getElementById("verdict").textContent === "Yes: a tour"`);
+        assert.match(await browser.value(`document.getElementById("command").textContent`), /^tsp check rectangle\.tsp /);
+        assert.equal(await browser.value(`document.activeElement.textContent`), "rectangle.tsp", "the focus stays");
+    },
+    "the drawing is zoomed and moved by keys, the wheel and the mouse": async (browser) => {
+        await browser.open("orchard");
+        await browser.verdict();
+        const box = async () => (await browser.value(`document.getElementById("map").getAttribute("viewBox")`)).split(" ").map(Number);
+        const whole = await box();
+        await browser.value(`document.getElementById("map").focus()`);
+        await browser.press("+");
+        const near = await box();
+        assert.ok(Math.abs(near[2] - whole[2] / 1.5) < 0.01, String(near));
+        await browser.press("ArrowRight");
+        assert.ok((await box())[0] > near[0]);
+        await browser.press("0");
+        assert.deepEqual(await box(), whole);
+        const place = await browser.value(`(() => { const map = document.getElementById("map"); map.scrollIntoView();
+            const { left, top, width, height } = map.getBoundingClientRect(); return { x: left + width / 2, y: top + height / 4 }; })()`);
+        await browser.ask("Input.dispatchMouseEvent", { type: "mouseWheel", ...place, deltaX: 0, deltaY: -200, modifiers: 2 });
+        await browser.until(`document.getElementById("map").classList.contains("zoomed")`);
+        const zoomed = await box();
+        assert.ok(Math.abs(zoomed[2] - whole[2] / Math.E) < 0.5, String(zoomed));
+        await browser.ask("Input.dispatchMouseEvent", { type: "mousePressed", ...place, button: "left", clickCount: 1 });
+        await browser.ask("Input.dispatchMouseEvent", { type: "mouseMoved", x: place.x - 50, y: place.y, button: "left", buttons: 1 });
+        await browser.ask("Input.dispatchMouseEvent", { type: "mouseReleased", x: place.x - 50, y: place.y, button: "left" });
+        assert.ok((await box())[0] > zoomed[0] + 1, "dragging to the left shows what is to the right");
+        if (pictures) {
+            await browser.picture("zoomed");
+        }
+        await browser.value(`document.getElementById("zoom-whole").click()`);
+        assert.deepEqual(await box(), whole);
+    },
+    "routes are picked in their legend": async (browser) => {
+        await browser.open("dairy");
+        await browser.verdict();
+        assert.equal(await browser.value(`document.querySelectorAll("#routes li").length`), 2);
+        assert.match(await browser.value(`document.querySelector("#routes li").innerText`), /^Route 1: 4 customers, load \d+ of \d+$/);
+        await browser.value(`document.querySelectorAll("#routes button")[1].click()`);
+        assert.equal(await browser.value(`document.querySelectorAll("#map .picked").length`), 1);
+        assert.equal(await browser.value(`document.querySelectorAll("#routes [aria-pressed=true]").length`), 1);
+        if (pictures) {
+            await browser.picture("picked");
+        }
+    },
+    "the edges in which two tours differ": async (browser) => {
+        await browser.open("");
+        await browser.choose("all", ["rectangle.tsp", "rectangle-1-2-3-4.tour", "rectangle-1-3-4-2.tour"]);
+        await browser.until(`document.getElementById("verdict").textContent === "Yes: a tour"`);
+        const key = `[...document.querySelectorAll("#difference li")].map((it) => it.innerText.trim()).join("|")`;
+        assert.equal(await browser.value(key), "2 edges of both|2 only of the tour that is shown|2 only of rectangle-1-3-4-2.tour");
+        if (pictures) {
+            await browser.picture("difference");
+        }
+        await browser.value(`(() => { const it = document.getElementById("against"); it.value = ""; it.dispatchEvent(new Event("change")); })()`);
+        await browser.until(`document.getElementById("difference").hidden && document.getElementById("verdict").textContent === "Yes: a tour"`);
+    },
+    "families and the tree of branches are drawn": async (browser) => {
+        await browser.open("");
+        await browser.choose("all", ["valleys.tsp", "valleys.tour", "valleys.branches"]);
+        await browser.until(`document.getElementById("verdict").textContent === "Yes: optimal"`);
+        assert.match(await browser.value(`document.getElementById("branching-words").textContent`), /^The certificate has \d+ lea/);
+        await browser.open("orchard");
+        await browser.verdict();
+        assert.ok((await browser.value(`document.querySelectorAll("#map .hull").length`)) >= 2);
+        await browser.value(`(() => { const it = document.getElementById("family"); it.value = "2"; it.dispatchEvent(new Event("input")); })()`);
+        assert.match(await browser.value(`document.getElementById("family-words").textContent`), /^Family 2 of 2: a handle of \d+ nodes and \d+ teeth\.$/);
+    },
+    "a link carries the files": async (browser) => {
+        await browser.open("harbour");
+        const verdict = await browser.verdict();
+        await browser.value(`document.getElementById("share").click()`);
+        await browser.until(`location.hash.startsWith("#files=")`);
+        await browser.until(`/^The link is /.test(document.getElementById("link-told").textContent)`);
+        const hash = (await browser.value("location.hash")).slice(1);
+        await browser.open(hash);
+        assert.equal(await browser.verdict(), verdict);
+        assert.match(await browser.value(`document.getElementById("command").textContent`), /^tsp check harbour\.tsp harbour\.tour --potentials /);
+        await browser.open(`${hash.slice(0, 60)}`);
+        assert.equal(await browser.verdict(), "No files");
+    },
+    "JSON that is cut off is told so": async (browser) => {
+        await browser.open("");
+        await browser.value(`(() => { const all = new DataTransfer();
+            all.items.add(new File([${JSON.stringify(readFileSync(join(EXAMPLES, "harbour.tsp"), "utf8"))}], "harbour.tsp"));
+            all.items.add(new File(['{"tour": [1, 2, 3'], "tour.json"));
+            document.dispatchEvent(new DragEvent("drop", { dataTransfer: all })); })()`);
+        assert.equal(await browser.verdict(), "Fault");
+        assert.match(await browser.value(`document.getElementById("cautions").textContent`), /^tour\.json begins as JSON, but ends inside of it/);
+    },
+    "files that are held over the page show where they would go": async (browser) => {
+        await browser.open("");
+        const held = (id) => browser.value(`document.getElementById("${id}").dispatchEvent(new DragEvent("dragover", { bubbles: true, cancelable: true }))`);
+        await held("verdict");
+        assert.equal(await browser.value("document.body.className"), "over");
+        await held("solution-name");
+        assert.equal(await browser.value(`document.querySelector("[data-over]").id`), "solution-slot");
+        await browser.value(`document.dispatchEvent(new DragEvent("dragleave", { bubbles: true }))`);
+        assert.equal(await browser.value("document.body.className"), "");
+    },
+    "a check that takes long says how long, and is stopped by a key": async (browser) => {
+        await browser.open("");
+        await browser.value(`(() => { const all = new DataTransfer();
+            const nodes = Array.from({ length: 100000 }, (_, at) => at + 1);
+            const lines = nodes.map((node) => node + " " + (node * 7919) % 99991 + " " + (node * 104729) % 99989);
+            const head = (type) => ["TYPE : " + type, "DIMENSION : 100000"];
+            const one = [...head("TSP"), "EDGE_WEIGHT_TYPE : EUC_2D", "NODE_COORD_SECTION", ...lines, "EOF", ""].join("\\n");
+            const two = [...head("POTENTIALS"), "NODE_POTENTIAL_SECTION", ...nodes.map((node) => node + " 0"), "EOF", ""].join("\\n");
+            all.items.add(new File([one], "large.tsp"));
+            all.items.add(new File([two], "large.potentials"));
+            document.dispatchEvent(new DragEvent("drop", { dataTransfer: all })); })()`);
+        await browser.until(`/^judging, \\d+ s$/.test(document.getElementById("doing").textContent) || /^Yes/.test(document.getElementById("verdict").textContent)`);
+        await browser.press("Escape");
+        await browser.until(`["Stopped", "Yes: a bound"].includes(document.getElementById("verdict").textContent)`);
+        assert.equal(await browser.value(`document.getElementById("stop").hidden`), true);
+    },
+    "the table of several tours fits a phone": async (browser) => {
+        await browser.dress(PHONE, "light");
+        await browser.open("");
+        await browser.choose("all", ["harbour.tsp", "harbour.tour", "rectangle-1-2-3-4.tour", "harbour-zero.potentials"]);
+        await browser.until(`document.querySelectorAll("#rows-body tr").length === 2`);
+        const over = "document.documentElement.scrollWidth - document.documentElement.clientWidth";
+        assert.equal(await browser.value(over), 0);
+        assert.equal(await browser.value(`getComputedStyle(document.querySelector("#rows-body td:nth-child(2)"), "::before").content`), '"Verdict"');
+        if (pictures) {
+            await browser.picture("table-phone");
+        }
+        await browser.dress(WIDE, "light");
     },
     "the policy refuses connections": async (browser) => {
         await browser.open("");
@@ -282,7 +434,7 @@ const TESTS = {
         await browser.dress(PHONE, "light");
         await browser.open("orchard");
         await browser.verdict();
-        assert.equal(await browser.value(`[...document.querySelectorAll("input")].filter((it) => !it.labels.length).length`), 0);
+        assert.equal(await browser.value(`[...document.querySelectorAll("input, select")].filter((it) => !it.labels.length).length`), 0);
         const over = "document.documentElement.scrollWidth - document.documentElement.clientWidth";
         assert.equal(await browser.value(over), 0);
         await browser.dress(WIDE, "light");
@@ -290,10 +442,12 @@ const TESTS = {
     "a worker that fails is told once": async (browser) => {
         await browser.open("");
         await browser.value(`document.getElementById("module").textContent = "AAAA"`);
-        await browser.value(`document.body.classList.add("busy"); document.getElementById("stop").click()`);
+        await browser.value(`document.getElementById("claimed").focus()`);
+        await browser.choose("all", ["harbour.tsp", "harbour.tour"]);
+        await browser.until(`document.getElementById("verdict").textContent === "Yes: a tour"`);
+        await browser.value(`(() => { const best = document.getElementById("best"); best.value = "1"; best.dispatchEvent(new Event("change"));
+            document.getElementById("stop").click(); })()`);
         await browser.until(`document.getElementById("verdict").textContent === "Not judged"`);
-        await browser.value(`document.querySelector("button[data-example=harbour]").click()`);
-        assert.equal(await browser.verdict(), "Not judged");
     },
     "100,000 nodes are drawn": async (browser) => {
         await browser.open("");
@@ -323,6 +477,8 @@ const PICTURES = {
     phone: ["twice", PHONE, "light"],
     "phone-dark": ["orchard", PHONE, "dark"],
     routes: ["dairy", WIDE, "light"],
+    "routes-phone": ["dairy", PHONE, "dark"],
+    branches: ["orchard", WIDE, "light"],
     fault: ["zero", WIDE, "light"],
     empty: ["", WIDE, "light"],
 };

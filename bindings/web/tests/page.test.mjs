@@ -6,13 +6,19 @@ import { readFileSync } from "node:fs";
 import { test } from "node:test";
 
 import { By, Section, Status, Verdict } from "../../javascript/library.mjs";
-import { ascentOf, canRise } from "../page/ascent.mjs";
-import { withoutGeo } from "../page/geo.mjs";
-import { barOf, curveOf, pictureOf } from "../page/picture.mjs";
 import { percentOf, reportOf, verdictOf } from "../../javascript/report.mjs";
+import { ascentOf, canRise } from "../page/ascent.mjs";
+import { verbOf } from "../page/command.mjs";
+import { withoutGeo } from "../page/geo.mjs";
+import { pictureOf } from "../page/map.mjs";
+import { run } from "../page/outcome.mjs";
+import { barOf, curveOf } from "../page/plots.mjs";
+import { risingOf } from "../page/rising.mjs";
 import { roleOf } from "../page/roles.mjs";
-import { risingOf, run, tableOf, verbOf } from "../page/run.mjs";
-import { marksOf, missingOf, rowsOf, toursOf } from "../page/scene.mjs";
+import { tableOf } from "../page/rows.mjs";
+import { marksOf, missingOf } from "../page/scene.mjs";
+import { rowsOf, toursOf } from "../page/sections.mjs";
+import { WHOLE } from "../page/zoom.mjs";
 import { NoSolution, claimOf, converted } from "../../javascript/solutions.mjs";
 import { libraryOf } from "./module.mjs";
 
@@ -53,10 +59,10 @@ test("numbers above 2^53 aren't rounded", () => {
     const { length, bound, gap } = tourReport(2n * large, large);
     assert.deepEqual([length, bound, gap], [2n * large, large, large]);
     assert.match(verdictOf(tourReport(large)).meaning, /length is 9007199254740993\.$/);
-    const texts = (picture) => picture.shapes.map(({ text }) => text).filter(Boolean);
+    const texts = (picture) => picture.layers.flat().map(({ text }) => text).filter(Boolean);
     assert.deepEqual(texts(barOf(tourReport(large, large - 1n), 600)), ["bound 9007199254740992", "length 9007199254740993: gap 1"]);
     const steps = [{ bound: 1, edges: [], degrees: [] }];
-    assert.deepEqual(texts(curveOf(steps, 0, large, 600)), ["length 9007199254740993"]);
+    assert.ok(texts(curveOf(steps, 0, large, 600)).includes("length 9007199254740993"));
     for (const kind of [3, 11, 12, 14, 15, 22, 25]) {
         assert.equal(typeof refusedReport(kind, 7n).numbers[0], "number", "a node, a place or an index");
     }
@@ -196,14 +202,6 @@ test("routes and tours of LKH-3", () => {
     assert.equal(read("TYPE : TOUR\nTOUR_SECTION\n1 9 -1\n2 3 -1\n", 5, true), null, "of two tours none has copies");
 });
 
-test("a page that isn't shown has pictures of some width", () => {
-    const scene = { points: Float64Array.of(0, 0, 3, 4), note: "", tours: [], fixed: [], depot: null, missing: [], marks: { nodes: [], pair: null, route: null } };
-    const { width, height } = pictureOf(scene, 0, "plain");
-    assert.ok(width > 0 && height > 0);
-    const bar = barOf(tourReport(10n, 9n), 0);
-    assert.ok(bar.shapes.every(({ attributes }) => attributes.width === undefined || attributes.width >= 0));
-});
-
 test("which verb the files ask for", () => {
     assert.equal(verbOf(alone), null);
     assert.equal(verbOf(HARBOUR), "check");
@@ -228,14 +226,6 @@ test("a table that is saved", () => {
     assert.equal(tableOf([row]), `${head}a b\tYes: gap 2\t16\t2\t14.2857\t\t60.0000\n`);
 });
 
-test("a bar of length, bound and gap", () => {
-    const bar = (length, bound) => barOf(tourReport(length, bound), 100);
-    assert.deepEqual(bar(10n, 9n).shapes.slice(0, 2).map((it) => it.attributes.width), [90, 10]);
-    assert.equal(bar(10n, 10n).shapes[0].attributes.width, 100);
-    assert.equal(bar(10n), null);
-    assert.equal(bar(10n, -1n), null);
-});
-
 test("a check, from files to the drawing", async () => {
     const library = await libraryOf(PAGE);
     const certificate = example("harbour-zero.potentials");
@@ -248,8 +238,8 @@ test("a check, from files to the drawing", async () => {
     assert.deepEqual(scene.tours, [[1, 2, 3, 4, 8, 5, 6, 7]]);
     assert.deepEqual([...scene.points.slice(0, 4)], [12.5, 40, 30, 71.25]);
     assert.deepEqual([scene.fixed, scene.depot, scene.missing], [[], null, []]);
-    const { shapes, width, height } = pictureOf(scene, 600, "yes");
-    const numbers = shapes.flatMap(({ attributes: { d = "" } }) => [...d.matchAll(/[ML](\S+) ([^MLZh]+)/g)]);
+    const { layers, width, height } = pictureOf(scene, { room: 600, kind: "yes", zoom: WHOLE, route: null, sets: [], decisions: [] });
+    const numbers = layers.flat().flatMap(({ attributes: { d = "" } }) => [...d.matchAll(/[ML](\S+) ([^MLZh]+)/g)]);
     assert.equal(numbers.length, 16, "each node is drawn, and is in the tour");
     assert.ok(numbers.every(([, x, y]) => x >= 0 && x <= width && y >= 0 && y <= height));
 });
@@ -264,7 +254,7 @@ test("a bound below 0, and a claimed length", async () => {
     assert.deepEqual([report.length, report.bound, report.gap], [15n, -983n, 998n]);
     assert.equal(run(library, { ...job, solution: null }).report.bound, -983n);
     const claimed = run(library, { ...job, certificate: null, claimed: 14n });
-    assert.deepEqual([claimed.report.reason, claimed.report.numbers, claimed.report.length], ["LengthClaimed", [15], null]);
+    assert.deepEqual([claimed.report.reason, claimed.report.numbers, claimed.report.length], ["LengthClaimed", [15n], null]);
 });
 
 test("a tour of Concorde is read by itself, and can be saved", async () => {
@@ -272,9 +262,10 @@ test("a tour of Concorde is read by itself, and can be saved", async () => {
     const outcome = run(library, { ...HARBOUR, foreign: true, solution: { ...example("solvers/harbour.concorde.sol"), name: "harbour.sol" } });
     assert.deepEqual([outcome.status, outcome.report.length], [Status.YES, 226n]);
     assert.equal(outcome.command, "tsp check harbour.tsp harbour.tour");
-    assert.equal(outcome.converted.form, "a tour of Concorde, whose nodes count from 0");
-    assert.deepEqual(toursOf(new TextDecoder().decode(outcome.converted.given.bytes)), [[1, 2, 3, 4, 8, 5, 6, 7]]);
-    assert.equal(run(library, { ...HARBOUR, foreign: true }).converted, null);
+    const [{ slot, form, given }] = outcome.made;
+    assert.deepEqual([slot, form, given.name], ["solution", "a tour of Concorde, whose nodes count from 0", "harbour.tour"]);
+    assert.deepEqual(toursOf(new TextDecoder().decode(given.bytes)), [[1, 2, 3, 4, 8, 5, 6, 7]]);
+    assert.deepEqual(run(library, { ...HARBOUR, foreign: true }).made, []);
     const dairy = { ...alone, foreign: true, instance: example("dairy.vrp") };
     const copies = text("TYPE : TOUR\nTOUR_SECTION\n1 5 6 4 7 9 2 8 3 -1\nEOF\n");
     const routes = run(library, { ...dairy, solution: copies });
@@ -312,11 +303,17 @@ test("an instance of type GEO is one of weights", async () => {
     }
     const library = await libraryOf(PAGE);
     const outcome = run(library, { ...alone, instance: text(geo(points)), solution: text("TYPE : TOUR\nTOUR_SECTION\n1 2 3 -1\nEOF\n") });
-    assert.deepEqual([outcome.isGeo, outcome.report.length, outcome.scene.points.length], [true, 30060n, 6]);
+    assert.deepEqual([outcome.made[0].given.name, outcome.report.length, outcome.scene.points.length], ["text.weights.tsp", 30060n, 6]);
+    assert.match(outcome.scene.note, /^Longitude/, "not the places of a section that the file doesn't have");
+    const other = geo(points).replace("DIMENSION", "DISTANCE : 5\nCOMMENT : kept\nDIMENSION").replace("EOF\n", "FIXED_EDGES_SECTION\n1 2\n-1\nEOF\n");
+    const kept = new TextDecoder().decode(withoutGeo(bytesOf(other)));
+    assert.match(kept, /^DISTANCE : 5\nCOMMENT : kept\nDIMENSION : 3$[^]*^FIXED_EDGES_SECTION\n1 2\n-1\nEOF\n$/m, "what isn't of GEO stays");
+    const strict = { ...alone, instance: text(other), solution: text("TYPE : TOUR\nTOUR_SECTION\n1 2 3 -1\nEOF\n"), strict: true };
+    assert.deepEqual([run(library, strict).report.reason, run(library, { ...strict, strict: false }).report.yes], ["NotJudged", true]);
     for (const other of [geo("1 0 0\n2 0 90\n"), geo("1 0 0\n2 0 90\n2 90 0\n"), geo(points).replace("GEO", "EUC_2D")]) {
         assert.equal(withoutGeo(bytesOf(other)), null, other);
     }
-    assert.equal(run(library, HARBOUR).isGeo, false);
+    assert.deepEqual(run(library, HARBOUR).made, []);
 });
 
 test("potentials rise, and the library says what they are worth", async () => {
@@ -342,17 +339,6 @@ test("the least 1-tree of four nodes", () => {
     const { steps } = ascentOf(Float64Array.from([0, 0, 3, 0, 3, 4, 0, 4]), "EUC_2D", null);
     assert.equal(steps[0].bound, 14);
     assert.deepEqual([steps[0].degrees, steps.length], [[2, 2, 2, 2], 1], "a tour: there is no further step");
-});
-
-test("a long tour is drawn in parts", () => {
-    const nodes = 2500;
-    const tour = Array.from({ length: nodes }, (_, at) => at + 1);
-    const scene = { points: new Float64Array(2 * nodes).map((_, at) => at), note: "", tours: [tour], fixed: [], depot: null, missing: [],
-        marks: { nodes: [], pair: null, route: null } };
-    const parts = pictureOf(scene, 600, "yes").shapes.filter(({ attributes }) => String(attributes.class).startsWith("tour"));
-    const lines = parts.map(({ attributes }) => attributes.d.slice(1).split("L"));
-    assert.deepEqual(lines.map(({ length }) => length), [1001, 1001, 501], "edges and one");
-    assert.deepEqual(lines.map((line) => line.at(-1)), [lines[1][0], lines[2][0], lines[0][0]], "each begins where another ends");
 });
 
 test("rounded distances are told", async () => {

@@ -1,7 +1,7 @@
-// The program's verbs over the module of a built page: node program.mjs PAGE
+// The program's verbs over the module of a built page: node program.mjs PAGE [WORD..]
 //
-// Each line of standard input is a run, {"words": [..], "folder": PATH}, and for each one line is written,
-// {"status": N, "out": TEXT, "err": TEXT}, with texts in base64.
+// With words it is one run of the program in this folder. Else each line of standard input is a run,
+// {"words": [..], "folder": PATH}, and for each one line is written, {"status": N, "out": TEXT, "err": TEXT}, with texts in base64.
 // bindings/web/test runs it, in the suite `bindings` of ./check.
 
 import { existsSync, readFileSync } from "node:fs";
@@ -9,7 +9,7 @@ import { join } from "node:path";
 import { createInterface } from "node:readline";
 
 import { By, Status } from "../../javascript/library.mjs";
-import { run } from "../page/run.mjs";
+import { run } from "../page/outcome.mjs";
 import { libraryOf } from "./module.mjs";
 import { lengthOf, sorted } from "./words.mjs";
 
@@ -51,7 +51,7 @@ function called(library, words, folder) {
 
 /**
  * @param {import("../../javascript/library.mjs").Library} library
- * @param {import("../page/run.mjs").Job} job
+ * @param {import("../page/command.mjs").Job} job
  * @param {boolean} explains
  */
 function judged(library, job, explains) {
@@ -65,7 +65,7 @@ function judged(library, job, explains) {
 
 /**
  * @param {import("../../javascript/library.mjs").Library} library
- * @param {import("../page/run.mjs").Given} file
+ * @param {import("../page/command.mjs").Given} file
  * @param {string | undefined} layout
  */
 function converted(library, file, layout) {
@@ -77,12 +77,18 @@ function converted(library, file, layout) {
     return status === Status.YES ? { status, out: bytes, err: NOTHING } : { status, out: NOTHING, err: bytes };
 }
 
-const page = process.argv[2];
+const [page, ...words] = process.argv.slice(2);
 if (!page || !existsSync(page)) {
-    process.stderr.write("usage: node program.mjs PAGE\n");
+    process.stderr.write("usage: node program.mjs PAGE [WORD..]\n");
     process.exit(4);
 }
 const library = await libraryOf(page);
+if (words.length > 0) {
+    const { status, out, err } = called(library, words, process.cwd());
+    process.stdout.write(out);
+    process.stderr.write(err);
+    process.exit(status);
+}
 for await (const line of createInterface({ input: process.stdin })) {
     const { words, folder } = JSON.parse(line);
     const { status, out, err } = called(library, words, folder);
