@@ -89,9 +89,9 @@ def judged(instance, routes="out.routes", certificate="out.branches", judge=line
     return {line.partition(" ")[0]: line.partition(" ")[2] for line in lines}
 
 
-def need_optimal(instance, *words):
+def need_optimal(instance, *words, judge=lines_by_program):
     said = certify(instance, *BOTH, *words)
-    report = judged(instance)
+    report = judged(instance, judge=judge)
     need("optimal" in report, f"{instance}: not optimal: {report} {said}")
     need(f"bound {report['bound']} as reckoned" in said, f"{instance}: another bound was reckoned: {said}")
     return int(report["length"])
@@ -152,6 +152,37 @@ def small():
             write_vrp("a.vrp", demands, capacity, costs=costs, depot=depot + 1)
             least = least_plan(costs, demands, capacity, depot)
             need(need_optimal("a.vrp") == least, f"{nodes} nodes: another length than {least}")
+
+
+def memory():
+    """Runs with a memory, against all plans and of a tree, by recheck.py: the program doesn't read their sections yet."""
+    for nodes in range(2, 8):
+        chance = random.Random(nodes)
+        costs = [[chance.randint(-5, 30) if i != j else 0 for j in range(nodes)] for i in range(nodes)]
+        depot = chance.randrange(nodes)
+        demands = [0 if v == depot else chance.randint(0, 5) for v in range(nodes)]
+        write_vrp("a.vrp", demands, 8, costs=costs, depot=depot + 1)
+        least = least_plan(costs, demands, 8, depot)
+        need(need_optimal("a.vrp", "--memory", judge=lines_by_recheck) == least, f"{nodes} nodes: another length than {least}")
+    write_uniform("a.vrp", 30, random.Random(9))
+    texts = []
+    for count in ("1", "4"):
+        need_optimal("a.vrp", "--memory", "--threads", count, "--seconds", "0", judge=lines_by_recheck)
+        texts.append(Path("out.branches").read_bytes())
+    need(texts[0] == texts[1], "another number of threads gives other bytes")
+    need(b"MEMORY_SECTION" in texts[0], "the file has no memory")
+    certify("a.vrp", *BOTH, "--seconds", "0")
+    text = Path("out.branches").read_text()
+    need("MEMORY" not in text and "SUBSET" not in text, "a file has a memory that wasn't asked for")
+    need("no --tree" in certify("a.vrp", *BOTH, "--memory", "--split", "3", status=2), "a tree with a memory is split")
+
+
+def memory_limits():
+    """A limit of time leaves a gap, and the bound is the reckoned one."""
+    write_uniform("a.vrp", 60, random.Random(10), side=1000)
+    said = certify("a.vrp", *BOTH, "--memory", "--seconds", "3")
+    report = judged("a.vrp", judge=lines_by_recheck)
+    need(f"bound {report['bound']} as reckoned" in said, f"another bound was reckoned: {said} {report}")
 
 
 def optimal():
@@ -319,7 +350,7 @@ def bad_input():
         need(part in said, f"{words}: the fault doesn't tell of {part}: {said}")
 
 
-CASES = [judge, small, optimal, large_numbers, plan, threads, time_limit, interrupt, split, limits, log, bad_input]
+CASES = [judge, small, memory, memory_limits, optimal, large_numbers, plan, threads, time_limit, interrupt, split, limits, log, bad_input]
 
 
 def main():

@@ -64,6 +64,9 @@ void declare(CLI::App& app, Options& options) {
   app.add_flag(
       "--short-file", options.short_file,
       "a shorter file of a TSP, by numbers of leaves near each other: it may take longer than the tree");
+  app.add_flag("--memory", options.memory,
+               "of a CVRP: runs with a memory and subset rows in place of walks. examples/recheck.py judges "
+               "these certificates, and tsp doesn't read them yet");
   // of tests: an empty group is left out of the help
   app.add_flag("--sparse", options.sparse, "without a matrix, as more than 5,000 points")->group("");
   app.add_option_function<std::vector<std::size_t>>(

@@ -16,6 +16,7 @@ struct Options : CommonOptions {
   double seconds = 300;
   std::optional<Weight> upper;
   bool families = true;
+  bool memory = false;                // runs with a memory in place of walks, of a CVRP
   bool sparse = false;                // as instances of more nodes, without a matrix
   int threads = 0;                    // 0 for one by processor
   int window = kTree.window;          // cases that are begun and not ended

@@ -4,6 +4,7 @@
 #include <utility>
 
 #include "certify/report.h"
+#include "memory/run_search.h"
 #include "routes/route_search.h"
 #include "routes/string_removals.h"
 #include "running/refusal.h"
@@ -16,9 +17,33 @@ Loads loads_for(const CvrpInstance& instance, const std::optional<Certificate>& 
   if (auto loads = loads_in(instance, tree->load_unit)) return *loads;
   throw Refusal("the certificate's LOAD_UNIT gives too many loads");
 }
+
+// Writes the files of a search, and reports. Where the tree was split, the open leaves are listed.
+template <class Found>
+int end_search(const Options& options, const CvrpInstance& instance, const std::optional<Routes>& given,
+               Found& search, const std::vector<int>& open, Progress& progress) {
+  write_certificate(options.certificate, search.certificate(), options.split > 0, options.limits);
+  if (options.tour_out) write_routes(*options.tour_out, instance, search.routes());
+  progress.end();
+  if (options.split > 0) {
+    for (const int leaf : open) std::cout << leaf << "\n";
+  }
+  Ending ending{length_of(instance, search.routes()), search.bound(), search.leaves()};
+  if (given) ending.given = length_of(instance, *given);
+  const auto write = [&](const std::string& path) { write_routes(path, instance, search.routes()); };
+  keep_shorter(options, write, ending);
+  ending.limited = search.is_limited();
+  report(options, ending);
+  return Clock::signal() ? 128 + *Clock::signal() : 0;
+}
+
+void refuse_with_memory(const Options& options) {
+  if (options.tree || options.split > 0) throw Refusal("--memory: there is no --tree and no --split");
+}
 }  // namespace
 
 int certify_routes(const Options& options, const std::string& tsp, std::unique_ptr<Canonical> file) {
+  if (options.memory) refuse_with_memory(options);
   const CvrpInstance instance = read_cvrp(tsp, options.instance, *file);
   file.reset();
   std::optional<Routes> given;
@@ -39,21 +64,14 @@ int certify_routes(const Options& options, const std::string& tsp, std::unique_p
   begin.routes = std::move(found.best);
   begin.met = std::move(found.met);
   begin.named = given.has_value();
-  RouteSearch search(instance, loads, begin, clock, progress,
-                     {options.window, options.split, options.limits});
-  search.run();
-  write_certificate(options.certificate, search.certificate(), options.split > 0, options.limits);
-  if (options.tour_out) write_routes(*options.tour_out, instance, search.routes());
-  progress.end();
-  if (options.split > 0) {
-    for (const int leaf : search.open_leaves()) std::cout << leaf << "\n";
+  const Plan plan{options.window, options.split, options.limits};
+  if (options.memory) {
+    RunSearch search(instance, loads, begin, clock, progress, plan);
+    search.run();
+    return end_search(options, instance, given, search, {}, progress);
   }
-  Ending ending{length_of(instance, search.routes()), search.bound(), search.leaves()};
-  if (given) ending.given = length_of(instance, *given);
-  const auto write = [&](const std::string& path) { write_routes(path, instance, search.routes()); };
-  keep_shorter(options, write, ending);
-  ending.limited = search.is_limited();
-  report(options, ending);
-  return Clock::signal() ? 128 + *Clock::signal() : 0;
+  RouteSearch search(instance, loads, begin, clock, progress, plan);
+  search.run();
+  return end_search(options, instance, given, search, search.open_leaves(), progress);
 }
 }  // namespace certify::routes

@@ -97,7 +97,7 @@ std::map<int, int> number_families(const Certificate& certificate, std::vector<i
     const auto* numbers = std::get_if<Numbers>(&step);
     if (numbers == nullptr) continue;
     for (const auto& [family, multiplier] : numbers->multipliers) {
-      if (multiplier != 0) add(family);
+      if (multiplier != 0 && family < kFirstRow) add(family);
     }
   }
   return places;
@@ -129,6 +129,29 @@ void write_families(std::ostream& text, const Certificate& certificate, const st
   text << "-1\n";
 }
 
+void write_list(std::ostream& text, const NodeSet& nodes) {
+  for (const int v : nodes) text << v + 1 << ' ';
+  text << "-1\n";
+}
+
+void write_memory(std::ostream& text, const Certificate& certificate) {
+  if (!certificate.memory.empty()) {
+    text << "MEMORY_SECTION\n";
+    for (const auto& [node, others] : certificate.memory) {
+      text << node + 1 << ' ';
+      write_list(text, others);
+    }
+    text << "-1\n";
+  }
+  if (certificate.rows.empty()) return;
+  text << "SUBSET_ROW_SECTION\n";
+  for (const KeptRow& row : certificate.rows) {
+    write_list(text, row.set);
+    write_list(text, row.further);
+  }
+  text << "-1\n";
+}
+
 // By how much multipliers differ; some by 0.
 std::map<int, Weight> multiplier_differences(const Numbers& numbers, const Numbers& before) {
   std::map<int, Weight> differences;
@@ -147,7 +170,9 @@ void write_leaf(std::ostream& text, const Numbers& numbers, const Numbers& befor
   const std::size_t nodes = numbers.potentials.size();
   for (std::size_t v = 0; v < nodes; v++) add(v + 1, numbers.potentials[v] - before.potentials[v]);
   for (const auto& [family, difference] : multiplier_differences(numbers, before)) {
-    if (difference != 0) add(nodes + 1 + static_cast<std::size_t>(families.at(family)), difference);
+    if (difference == 0) continue;
+    const int place = family < kFirstRow ? families.at(family) : family;
+    add(nodes + 1 + static_cast<std::size_t>(place), difference);
   }
   text << " -1\n";
 }
@@ -240,6 +265,7 @@ void write_certificate(const std::string& path, const Certificate& certificate, 
   text << "DIMENSION : " << certificate.nodes << "\nSCALE : " << certificate.scale / divisor << "\n";
   if (certificate.load_unit != 1) text << "LOAD_UNIT : " << certificate.load_unit << "\n";
   write_families(text, certificate, order);
+  write_memory(text, certificate);
   text << "BRANCH_SECTION\n";
   Numbers before;
   before.potentials.assign(certificate.nodes, 0);

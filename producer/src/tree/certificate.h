@@ -18,6 +18,12 @@ struct FamilyBranch {
 // A branch on a pair or on a family, or a leaf with its numbers.
 using TreeStep = std::variant<Pair, FamilyBranch, Numbers>;
 
+// A subset row of a CVRP: a set, and the further nodes that keep it.
+struct KeptRow {
+  NodeSet set, further;
+};
+inline constexpr int kFirstRow = 10000;  // the multipliers of rows are numbered from here on
+
 struct Certificate {
   int nodes = 0;
   Weight scale = 1;
@@ -25,6 +31,8 @@ struct Certificate {
   std::vector<std::vector<NodeSet>> families{};  // as many as multipliers name, and more
   std::vector<TreeStep> steps{};                 // from the root on, a branch before its cases
   Weight load_unit = 1;                          // of a CVRP
+  std::map<int, NodeSet> memory{};               // of a CVRP: the nodes that each remembers
+  std::vector<KeptRow> rows{};
 };
 
 // How much a certificate has of all that docs/format.md limits.

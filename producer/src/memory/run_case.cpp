@@ -1,0 +1,185 @@
+#include "memory/run_case.h"
+
+#include <algorithm>
+#include <cmath>
+
+#include "memory/memory_growth.h"
+#include "memory/memory_parameters.h"
+#include "memory/run_branching.h"
+#include "routes/route_parameters.h"
+
+namespace certify::routes {
+// A case at hand.
+struct RunCaseSolver::Rounds {
+  RunProgram& program;
+  CapacityCuts cuts;
+  const std::vector<Limit>& limits;
+  RouteGoal goal;
+  const Note& note;
+  bool whole;
+  Best best{};
+  bool shorter = false;  // the goal's plan is a new one
+  double margin = kRunLeaves.margin;
+  double goal_value() const { return static_cast<double>(goal.target) - 1 + margin; }
+};
+
+RunCaseSolver::RunCaseSolver(const RouteProblem& problem, const Clock& clock)
+    : problem_(problem),
+      clock_(clock),
+      labels_(problem.instance, problem.loads),
+      bound_(problem.instance, problem.loads, problem.scale) {}
+
+void RunCaseSolver::load(const RunCase& here, RunProgram& program) const {
+  for (const NodeSet& set : here.start->sets) program.add_set(set);
+  for (const auto& [set, crossings] : limited_crossings(problem_.instance, here.limits)) {
+    program.limit(set, crossings);
+  }
+  program.add_runs(here.start->runs);
+  program.add_runs(here.goal.routes);
+}
+
+// With few labels, more, or all.
+LabelSearch::Found RunCaseSolver::price(const RunProgram& program, const RunDuals& duals, int turn) {
+  const Links<double> links = links_under<double>(problem_.instance, duals, 1);
+  const OpenRows<double> rows(program.memory(), duals.rows);
+  const LabelSearch::Effort efforts[] = {
+      {kRuns.first_labels, kRuns.few_links}, {kRuns.more_labels, 0}, {0, 0}};
+  return labels_.find(links, program.memory(), rows, efforts[turn],
+                      turn == 2 ? kRuns.at_once_of_all : kRuns.at_once);
+}
+
+// The multiplier of all customers takes what the least run weighs.
+void RunCaseSolver::take_bound(Rounds& rounds, RunDuals duals, double least) const {
+  duals.multipliers[problem_.instance.customers()] += least / 2;
+  const double bound = rounds.program.back_of(duals);
+  if (bound > rounds.best.bound) rounds.best = {bound, std::move(duals), rounds.program.memory()};
+}
+
+// Runs join the program until none weighs less than 0. True where the bound is above the goal.
+bool RunCaseSolver::generate(Rounds& rounds) {
+  for (int turn = 0;;) {
+    const RunDuals duals = rounds.program.duals();
+    const LabelSearch::Found found = price(rounds.program, duals, turn);
+    const int added = rounds.program.add_runs(found.runs);
+    if (turn == 2) {
+      if (!found.whole) return false;
+      take_bound(rounds, duals, found.least);
+      if (rounds.best.bound > rounds.goal_value()) return true;
+      const bool near = rounds.program.value() - rounds.best.bound < kRunLeaves.tolerance;
+      rounds.program.solve();
+      if (added == 0 || near || found.least > -kRuns.exact) return false;
+    } else {
+      if (added == 0 || found.least > -kRuns.enough) turn++;
+      if (added > 0) rounds.program.solve();
+    }
+    if (clock_.over(kRouteTree.part_of_time)) return false;
+  }
+}
+
+// A solution that uses each run wholly or not at all, and each customer once.
+void RunCaseSolver::look_for_plan(Rounds& rounds) const {
+  Routes routes;
+  for (const auto& [part, run] : rounds.program.used()) {
+    if (part > 1e-5 && part < 1 - 1e-5) return;
+    if (part > 0.5) routes.push_back(rounds.program.runs()[run]);
+  }
+  if (!is_plan(problem_.instance, routes)) return;
+  const Weight length = length_of(problem_.instance, routes);
+  if (length >= rounds.goal.length) return;
+  rounds.goal = {routes, length, std::min(rounds.goal.target, length)};
+  rounds.shorter = true;
+}
+
+// Sets first; where these are few, memory and rows. How many of all.
+int RunCaseSolver::add_cuts(Rounds& rounds) {
+  std::vector<NodeSet> sets;
+  const Graph support = rounds.program.support();
+  for (const CapacityCut& cut : rounds.cuts.violated(support, true, kCapacityCuts.least_violation)) {
+    if (sets.size() >= kCapacityCuts.most_at_once) break;
+    if (!rounds.program.has_set(cut.set)) sets.push_back(cut.set);
+  }
+  int more = 0;
+  if (static_cast<int>(sets.size()) < kSubsetRows.many_sets) {
+    std::vector<UsedRun> used;
+    for (const auto& [part, run] : rounds.program.used()) used.push_back({part, rounds.program.runs()[run]});
+    MemoryGrowth growth(rounds.program.memory(), std::move(used), kMemory.bits);
+    more = growth.forbid_cycles();
+    if (more <= kSubsetRows.much_memory) more += growth.add_rows();
+  }
+  for (const NodeSet& set : sets) rounds.program.add_set(set);
+  return more + static_cast<int>(sets.size());
+}
+
+// Runs and cuts in turn, until the bound is above the goal or the program's value stalls.
+void RunCaseSolver::cut(Rounds& rounds) {
+  const RunRounds& plan = rounds.whole ? kRunRoot : kRunTree;
+  std::vector<double> past;
+  for (int round = 1;; round++) {
+    const bool reached = generate(rounds);
+    look_for_plan(rounds);
+    if (rounds.note) {
+      rounds.note(rounds.goal.length, static_cast<Weight>(std::ceil(rounds.best.bound - 1e-6)),
+                  rounds.program);
+    }
+    if (reached || rounds.best.bound > rounds.goal_value() || clock_.over(kRouteTree.part_of_time)) return;
+    past.push_back(rounds.program.value());
+    const bool stalls = past.size() > plan.window && past.back() - past[past.size() - 1 - plan.window] <
+                                                         plan.least_gain * std::abs(past.back());
+    if (stalls || round >= plan.most) return;
+    rounds.program.note_slack();
+    if (add_cuts(rounds) == 0) return;
+    rounds.program.drop_slack(kCapacityCuts.slack_solutions / 2, kSubsetRows.slack_solutions - 1);
+    rounds.program.drop_runs();
+    rounds.program.rebuild();
+  }
+}
+
+// The best duals as whole numbers. Whether these reach the target.
+bool RunCaseSolver::settle(Rounds& rounds, RunOutcome& outcome) {
+  if (rounds.best.duals.potentials.empty()) return false;
+  SettledLeaf leaf{bound_.rounded(rounds.best.duals, rounds.best.memory, 1, kMemory.states),
+                   rounds.best.memory};
+  std::erase_if(leaf.memory.rows, [&](const SubsetRow& row) { return !leaf.numbers.rows.contains(row.set); });
+  const Value value = bound_.value(leaf.numbers, leaf.memory, rounds.limits, kMemory.states);
+  if (value <= outcome.value) return false;
+  outcome.value = value;
+  outcome.leaf = std::move(leaf);
+  return value >= value_to_reach(rounds.goal.target, problem_.scale);
+}
+
+void RunCaseSolver::branch(Rounds& rounds, RunOutcome& outcome) {
+  rounds.cuts.violated(rounds.program.support(), true, kCapacityCuts.least_violation);
+  outcome.branch = choose_run_branch({problem_.instance, problem_.loads, rounds.program, labels_,
+                                      static_cast<double>(rounds.goal.target) - 1},
+                                     rounds.cuts.between());
+  if (!outcome.branch) return;
+  std::vector<NodeSet> sets;
+  for (const CrossedSet& set : rounds.program.sets()) sets.push_back(set.set);
+  outcome.start = std::make_shared<const RunStart>(
+      RunStart{std::move(sets), rounds.program.best_runs(kRuns.kept), rounds.program.memory()});
+}
+
+RunOutcome RunCaseSolver::solve(const RunCase& here, const Note& note) {
+  RunProgram program(problem_.instance, here.start->memory);
+  load(here, program);
+  program.rebuild();
+  Rounds rounds{program,   CapacityCuts(problem_.instance, here.seed), here.limits, here.goal, note,
+                here.whole};
+  RunOutcome outcome;
+  cut(rounds);
+  outcome.done = settle(rounds, outcome);
+  // Rounding may lose what the bound has above the target. Then it has to have more.
+  while (!outcome.done && rounds.best.bound > rounds.goal_value() && rounds.margin < 0.5 &&
+         !clock_.over(kRouteTree.part_of_time)) {
+    rounds.margin *= 3;
+    cut(rounds);
+    outcome.done = settle(rounds, outcome);
+  }
+  if (rounds.shorter) outcome.routes = rounds.goal.routes;
+  outcome.sets = static_cast<int>(program.sets().size());
+  outcome.rows = static_cast<int>(program.memory().rows.size());
+  outcome.runs = static_cast<int>(program.runs().size());
+  if (!outcome.done && !clock_.over(kRouteTree.part_of_time)) branch(rounds, outcome);
+  return outcome;
+}
+}  // namespace certify::routes

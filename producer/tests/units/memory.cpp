@@ -1,0 +1,294 @@
+// Runs with a memory: payments, labels, exact bounds, rows that solutions break, the program, and the writer,
+// against results by hand and by trying all cases.
+#include "memory/memory.h"
+
+#include <algorithm>
+#include <cmath>
+#include <cstdio>
+#include <fstream>
+#include <sstream>
+
+#include "fixtures.h"
+#include "memory/label_search.h"
+#include "memory/memory_growth.h"
+#include "memory/run_bound.h"
+#include "memory/run_program.h"
+
+using namespace certify;
+using namespace certify::routes;
+
+namespace {
+// Costs of each direction, demands from 1 to 5, any lists, and rows of two to four customers.
+struct Sample {
+  CvrpInstance instance;
+  Memory memory;
+  std::map<NodeSet, Weight> rows{};
+};
+
+CvrpInstance any_instance(int nodes, Random& random) {
+  CvrpInstance instance{Matrix(nodes), {0}, 5 + random.below(4), {}, false};
+  for (int v = 0; v < nodes; v++) {
+    instance.file_nodes.push_back(v + 1);
+    if (v > 0) instance.demands.push_back(1 + random.below(5));
+    for (int j = 0; j < nodes; j++) {
+      if (j != v) instance.costs.set_arc(v, j, random.below(40) - 5);
+    }
+  }
+  return instance;
+}
+
+Sample sample(int nodes, Random& random) {
+  Sample sample{any_instance(nodes, random), {std::vector<Bits>(nodes)}};
+  for (int v = 1; v < nodes; v++) {
+    for (int u = 1; u < nodes; u++) {
+      if (u != v && random.below(3) == 0) sample.memory.near[v].add(u);
+    }
+  }
+  for (int k = 0; k < 3; k++) {
+    NodeSet set = sample.instance.customers();
+    random.shuffle(set);
+    set.resize(std::min<std::size_t>(set.size(), 2 + random.below(3)));
+    std::sort(set.begin(), set.end());
+    if (set.size() < 2 || sample.memory.place_of(set) >= 0) continue;
+    SubsetRow row = row_of(set);
+    for (int v = 1; v < nodes; v++) {
+      if (random.below(2) == 0) row.keepers.add(v);
+    }
+    sample.memory.rows.push_back(row);
+    sample.rows[set] = random.below(12);
+  }
+  return sample;
+}
+
+Weight weight_of(const Sample& sample, const Links<Weight>& links, const Route& run) {
+  const int nodes = sample.instance.nodes();
+  Weight sum = 0;
+  int last = 0;
+  for (const int v : run) {
+    sum += links[static_cast<std::size_t>(last * nodes + v)];
+    last = v;
+  }
+  for (const SubsetRow& row : sample.memory.rows) sum += sample.rows.at(row.set) * payments(row, run);
+  return sum + links[static_cast<std::size_t>(last * nodes)];
+}
+
+// take(run) for each run, by going on from each in turn.
+template <class Take>
+void each_run(const Sample& sample, const Loads& loads, Route& run, int load, const Take& take) {
+  if (!run.empty()) take(run);
+  for (const int v : sample.instance.customers()) {
+    if (load + loads.of[v] > loads.room) continue;
+    run.push_back(v);
+    if (is_run(sample.memory, run)) each_run(sample, loads, run, load + loads.of[v], take);
+    run.pop_back();
+  }
+}
+
+bool is_near(double a, double b) { return std::abs(a - b) < 1e-6; }
+
+NodeSet listed(const Bits& bits) {
+  NodeSet list;
+  bits.each([&](int k) { list.push_back(k); });
+  return list;
+}
+}  // namespace
+
+TEST_CASE("Bits are sets of whole numbers") {
+  Bits a, b;
+  for (const int k : {0, 63, 64, 200, 255}) a.add(k);
+  for (const int k : {63, 200}) b.add(k);
+  CHECK(listed(a) == NodeSet{0, 63, 64, 200, 255});
+  CHECK(listed(a & b) == NodeSet{63, 200});
+  CHECK(listed(a ^ b) == NodeSet{0, 64, 255});
+  CHECK(listed(a.without(b)) == NodeSet{0, 64, 255});
+  CHECK(a.count() == 5);
+  CHECK(b.is_within(a));
+  CHECK_FALSE(a.is_within(b));
+  CHECK(a.has(255));
+  CHECK_FALSE(a.has(254));
+}
+
+TEST_CASE("A row is paid for by each second customer of its set, unless it is forgotten between") {
+  SubsetRow row = row_of({1, 2, 3});
+  CHECK(row.half() == 1);
+  CHECK(payments(row, {1, 2}) == 1);
+  CHECK(payments(row, {1, 2, 3}) == 1);
+  CHECK(payments(row, {1, 2, 3, 1}) == 2);
+  CHECK(payments(row, {1, 4, 2}) == 0);
+  CHECK(payments(row, {4, 3}) == 0);
+  row.keepers.add(4);
+  CHECK(payments(row, {1, 4, 2}) == 1);
+  CHECK(payments(row, {1, 4, 5, 2}) == 0);
+  CHECK(row_of({1, 2, 3, 4}).half() == 2);
+}
+
+TEST_CASE("A run doesn't go to a customer that its last one remembers") {
+  Memory memory{std::vector<Bits>(5)};
+  CHECK(is_run(memory, {1, 2, 1}));
+  CHECK_FALSE(is_run(memory, {1, 1}));
+  memory.near[2].add(1);
+  CHECK_FALSE(is_run(memory, {1, 2, 1}));
+  CHECK(is_run(memory, {1, 2, 3, 1}));  // 3 forgets it
+  memory.near[3].add(1);
+  CHECK_FALSE(is_run(memory, {1, 2, 3, 1}));
+  CHECK(is_run(memory, {1, 4, 3, 1}));  // 4 has forgotten it
+}
+
+TEST_CASE("The least run by labels and by states is that of all runs") {
+  for (int seed = 0; seed < 60; seed++) {
+    Random random(seed);
+    const Sample one = sample(3 + seed % 4, random);
+    const int nodes = one.instance.nodes();
+    const auto loads = loads_in(one.instance, 1);
+    REQUIRE(loads);
+    RunLeaf numbers;
+    for (int v = 0; v < nodes; v++) numbers.potentials.push_back(v == 0 ? 0 : -random.below(25));
+    numbers.multipliers[one.instance.customers()] = random.below(9) - 4;
+    numbers.rows = one.rows;
+    const Links<Weight> links = links_under<Weight>(one.instance, numbers, 1);
+    Weight least = 1000;
+    Route run;
+    each_run(one, *loads, run, 0,
+             [&](const Route& all) { least = std::min(least, weight_of(one, links, all)); });
+    RunBound bound(one.instance, *loads, 1);
+    CHECK(bound.least_run(numbers, one.memory, 1000, 1000000) == least);
+    least = std::min<Weight>(least, 0);
+    CHECK(bound.least_run(numbers, one.memory, 0, 1000000) == least);
+    LabelSearch labels(one.instance, *loads);
+    RunDuals duals;
+    duals.potentials.assign(numbers.potentials.begin(), numbers.potentials.end());
+    for (const auto& [set, multiplier] : numbers.multipliers)
+      duals.multipliers[set] = static_cast<double>(multiplier);
+    for (const auto& [set, multiplier] : numbers.rows) duals.rows[set] = static_cast<double>(multiplier);
+    const OpenRows<double> rows(one.memory, duals.rows);
+    const LabelSearch::Found found =
+        labels.find(links_under<double>(one.instance, duals, 1), one.memory, rows, {}, 50);
+    CHECK(found.whole);
+    CHECK(is_near(found.least, static_cast<double>(least)));
+    for (const Route& light : found.runs) {
+      CHECK(is_run(one.memory, light));
+      CHECK(weight_of(one, links, light) < 0);
+    }
+    const LabelSearch::Found few =
+        labels.find(links_under<double>(one.instance, duals, 1), one.memory, rows, {1, 2}, 50);
+    CHECK(few.least >= found.least - 1e-6);
+  }
+}
+
+TEST_CASE("Too many states have no bound") {
+  Random random(5);
+  const Sample one = sample(6, random);
+  const auto loads = loads_in(one.instance, 1);
+  RunBound bound(one.instance, *loads, 1);
+  RunLeaf numbers;
+  numbers.potentials.assign(6, -20);
+  numbers.potentials[0] = 0;
+  CHECK(bound.value(numbers, one.memory, {}, 1000000) > kNoValue);
+  const std::size_t states = bound.states();
+  CHECK(states > 0);
+  CHECK(bound.value(numbers, one.memory, {}, states) > kNoValue);
+  CHECK(bound.value(numbers, one.memory, {}, states - 1) == kNoValue);
+}
+
+// The star of tests/second/memory: each route costs 10, and has room for two of the customers 1, 2 and 3, and
+// for customer 4 too.
+TEST_CASE("Bounds of the star are those by hand") {
+  CvrpInstance instance{Matrix(5), {0, 5, 5, 5, 2}, 12, {1, 2, 3, 4, 5}, true};
+  for (int v = 1; v < 5; v++) instance.costs.set(0, v, 5);
+  const auto loads = loads_in(instance, 1);
+  RunBound bound(instance, *loads, 1);
+  Memory memory{std::vector<Bits>(5), {row_of({1, 2, 3})}};
+  RunLeaf numbers;
+  numbers.potentials = {0, -5, -5, -5, 0};
+  numbers.rows[{1, 2, 3}] = 10;
+  CHECK(bound.value(numbers, memory, {}, 1000) == -20);  // 4 forgets it
+  memory.rows[0].keepers.add(4);
+  CHECK(bound.value(numbers, memory, {}, 1000) == 20);
+  numbers.rows[{1, 2, 3}] = 9;
+  CHECK(bound.value(numbers, memory, {}, 1000) == 17);
+}
+
+TEST_CASE("Rounded duals win back what is above 0") {
+  CvrpInstance instance{Matrix(5), {0, 5, 5, 5, 2}, 12, {1, 2, 3, 4, 5}, true};
+  for (int v = 1; v < 5; v++) instance.costs.set(0, v, 5);
+  const auto loads = loads_in(instance, 1);
+  RunBound bound(instance, *loads, 1000);
+  Memory memory{std::vector<Bits>(5), {row_of({1, 2, 3})}};
+  memory.rows[0].keepers.add(4);
+  RunDuals duals;
+  duals.potentials = {0, -4.9999, -4.9999, -4.9999, -0.0001};
+  duals.rows[{1, 2, 3}] = 9.9999;
+  const RunLeaf numbers = bound.rounded(duals, memory, 1, 1000);
+  CHECK(numbers.potentials == std::vector<Weight>{0, -4999, -4999, -4999, 0});
+  CHECK(numbers.rows.at({1, 2, 3}) == 10000);
+  // A route of one weighs 10000 - 2 * 4999 = 2. All others weigh more, so this is won back for two routes.
+  CHECK(numbers.multipliers.at(instance.customers()) == 1);
+  CHECK(bound.value(numbers, memory, {}, 1000) == 2 * 3 * 4999 - 10000 + 4);
+}
+
+TEST_CASE("Rows of three are found where runs share their customers") {
+  Memory memory{std::vector<Bits>(6)};
+  // Halves of runs of two of 1, 2 and 3; one goes by 4.
+  MemoryGrowth growth(memory, {{0.5, {1, 2}}, {0.5, {2, 4, 3}}, {0.5, {1, 3}}, {1, {5}}}, 20);
+  CHECK(growth.forbid_cycles() == 0);
+  CHECK(growth.add_rows() == 1);
+  REQUIRE(memory.rows.size() == 1);
+  CHECK(memory.rows[0].set == NodeSet{1, 2, 3});
+  CHECK(listed(memory.rows[0].keepers) == NodeSet{1, 2, 3, 4});
+  CHECK(MemoryGrowth(memory, {{0.5, {1, 2}}, {0.5, {2, 4, 3}}, {0.5, {1, 3}}}, 20).add_rows() == 0);
+  // Later a run goes by 5: one more customer keeps the row.
+  CHECK(MemoryGrowth(memory, {{0.5, {1, 5, 2}}, {0.5, {2, 4, 3}}, {0.5, {1, 3}}}, 20).add_rows() == 1);
+  CHECK(listed(memory.rows[0].keepers) == NodeSet{1, 2, 3, 4, 5});
+}
+
+TEST_CASE("No customer keeps more than there is room for") {
+  Memory memory{std::vector<Bits>(6)};
+  memory.near[4].add(5);
+  MemoryGrowth growth(memory, {{0.5, {1, 2}}, {0.5, {2, 4, 3}}, {0.5, {1, 3}}}, 1);
+  CHECK(growth.add_rows() == 0);  // 4 keeps one thing, and without it 1 / 2 + 1 / 2 isn't above 1
+  memory.near[4] = {};
+  CHECK(MemoryGrowth(memory, {{0.5, {1, 2}}, {0.5, {2, 4, 3}}, {0.5, {1, 3}}}, 1).add_rows() == 1);
+  CHECK(memory.kept_at(4) == 1);
+}
+
+TEST_CASE("Customers of a cycle remember where it began") {
+  Memory memory{std::vector<Bits>(6)};
+  MemoryGrowth growth(memory, {{0.5, {1, 2, 3, 1, 4}}, {0.5, {5, 2}}}, 20);
+  CHECK(growth.forbid_cycles() == 1);
+  CHECK(memory.near[2].has(1));
+  CHECK(memory.near[3].has(1));
+  CHECK(memory.near[1].count() == 0);
+  CHECK_FALSE(is_run(memory, {1, 2, 3, 1, 4}));
+  CHECK(growth.forbid_cycles() == 0);
+}
+
+TEST_CASE("The program over runs has a plan's length where its rows make it whole") {
+  CvrpInstance instance{Matrix(4), {0, 1, 1, 1}, 2, {1, 2, 3, 4}, true};
+  for (int v = 1; v < 4; v++) instance.costs.set(0, v, 5);
+  RunProgram program(instance, nearest_memory(instance, 2));
+  program.add_runs({{1, 2}, {1, 3}, {2, 3}});
+  program.rebuild();
+  CHECK(is_near(program.value(), 20));  // two routes at least: all customers are crossed four times
+  program.memory().rows.push_back(row_of({1, 2, 3}));
+  program.rebuild();
+  CHECK(is_near(program.value(), 20));
+  CHECK(is_near(program.back_of(program.duals()), 20));
+  const std::array<double, 2> gains = program.gains(instance.customers(), 2, 100);
+  CHECK(is_near(gains[0], 0));
+  CHECK(is_near(gains[1], 10));
+}
+
+TEST_CASE("The sections of a memory are written after the families") {
+  Certificate certificate{.nodes = 5, .families = {{{1, 2}}}};
+  certificate.memory[2] = {1, 3};
+  certificate.rows = {{{1, 2, 3}, {4}}, {{2, 4}, {}}};
+  certificate.steps = {Numbers{{0, -5, 0, 0, 0}, {{0, 3}, {kFirstRow, 2}, {kFirstRow + 1, 7}}}};
+  write_certificate("memory.branches", certificate, false);
+  std::stringstream text;
+  text << std::ifstream("memory.branches").rdbuf();
+  CHECK(text.str() ==
+        "TYPE : BRANCHES\nDIMENSION : 5\nSCALE : 1\nCOMB_SECTION\n2 3 -1\n-1\n-1\n"
+        "MEMORY_SECTION\n3 2 4 -1\n-1\nSUBSET_ROW_SECTION\n2 3 4 -1\n5 -1\n3 5 -1\n-1\n-1\n"
+        "BRANCH_SECTION\n0 2 -5 6 3 10006 2 10007 7 -1\nEOF\n");
+  std::remove("memory.branches");
+}
