@@ -36,8 +36,10 @@ def type_of(words: str) -> str:
 
 def declared(declaration: str) -> tuple[str, str]:
     """The name in a declaration, and its type."""
-    kind, star, name = re.fullmatch(r"\s*(.*?)\s*(\*?)\s*(\w+)\s*", declaration, re.S).groups()
-    return name, type_of(kind + star)
+    found = re.fullmatch(r"\s*(.*?)\s*(\*?)\s*(\w+)\s*", declaration, re.S)
+    if found is None:
+        raise KeyError(declaration)
+    return found[3], type_of(found[1] + found[2])
 
 
 def header_of(text: str) -> Header:
