@@ -109,7 +109,7 @@ function draw(id, { width, height, box, layers }) {
 }
 
 /**
- * A picture as a file of SVG, with the page's style.
+ * A picture as a file of SVG, with the page's style. Its variables are replaced, since not all programs know them.
  *
  * @param {string} id
  * @returns {string}
@@ -117,7 +117,9 @@ function draw(id, { width, height, box, layers }) {
 export function fileOfPicture(id) {
     const copy = /** @type {Element} */ (find(id).cloneNode(true));
     const style = document.createElementNS(SVG, "style");
-    style.textContent = document.querySelector("style")?.textContent ?? "";
+    const now = getComputedStyle(document.documentElement);
+    const written = document.querySelector("style")?.textContent ?? "";
+    style.textContent = written.replace(/var\((--\w+)\)/g, (_, name) => now.getPropertyValue(name).trim());
     copy.setAttribute("xmlns", SVG);
     copy.prepend(style);
     return new XMLSerializer().serializeToString(copy);

@@ -3,8 +3,9 @@
 
 import { canRise } from "./ascent.mjs";
 import { decisionsOf, wordsOfDecision } from "./branches.mjs";
-import { colourOf, pictureOf } from "./map.mjs";
+import { pictureOf } from "./map.mjs";
 import { barOf, curveOf, oneTreePicture } from "./plots.mjs";
+import { colourOf } from "./shapes.mjs";
 import { givenOf } from "./state.mjs";
 import { MOST_LEAVES, treePicture } from "./tree.mjs";
 import { WHOLE } from "./zoom.mjs";
@@ -142,9 +143,14 @@ function differenceItems({ other }) {
  * @param {State} state
  * @returns {{ nodes: number[], isTooth: boolean }[]}
  */
-function setsOf({ outcome, family }) {
-    const families = outcome?.branches?.families ?? [];
-    const shown = family > 0 ? families.slice(family - 1, family) : families.length <= MOST_FAMILIES ? families : [];
+function setsOf({ outcome, family, leaf }) {
+    const branches = outcome?.branches;
+    if (!branches) {
+        return [];
+    }
+    const { families } = branches;
+    const decided = decisionsOf(branches, leaf).flatMap((decision) => (decision.family === null ? [] : families.slice(decision.family - 1, decision.family)));
+    const shown = family > 0 ? families.slice(family - 1, family) : families.length <= MOST_FAMILIES ? families : decided;
     return shown.flatMap((sets) => sets.map((nodes, at) => ({ nodes, isTooth: at > 0 })));
 }
 
@@ -185,7 +191,7 @@ export function branchesView({ outcome, leaf, family, width }) {
  */
 function wordsOfFamily(families, family) {
     if (family === 0) {
-        return families.length <= MOST_FAMILIES ? "All families are drawn." : "No family is drawn.";
+        return families.length <= MOST_FAMILIES ? "All families are drawn." : "The families that this leaf branches on are drawn, if any.";
     }
     const [handle, ...teeth] = families[family - 1];
     const set = `${handle.length} ${handle.length === 1 ? "node" : "nodes"}`;

@@ -1,7 +1,7 @@
 // The drawing of a scene (scene.mjs): nodes, tours or routes, what a reason is about, the edges in which two solutions differ,
 // and the families and decisions of a certificate of branches. drawing.mjs asks for it.
 
-import { dotsShape, layOut, linesShape, once, pathShape, sizeOf } from "./shapes.mjs";
+import { colourOf, dotsShape, layOut, linesShape, once, pathShape, sizeOf } from "./shapes.mjs";
 import { boxOf } from "./zoom.mjs";
 
 /**
@@ -48,17 +48,6 @@ export function pictureOf(scene, look) {
         ...labelShapes(scene, layout, box, 1 / look.zoom.scale),
     ];
     return { width: layout.width, height: layout.height, box, layers: [groundOf(scene, layout, look.kind), above] };
-}
-
-/**
- * The colour of a route: neighbours in the list are far apart on the wheel of colours.
- *
- * @param {number} at the number of the route, from 0
- * @returns {string}
- */
-export function colourOf(at) {
-    const hue = Math.round(210 + at * 137.508) % 360;
-    return `hsl(${hue} 62% ${hue > 40 && hue < 190 ? 40 : 52}%)`;
 }
 
 /**

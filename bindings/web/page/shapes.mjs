@@ -116,6 +116,22 @@ export function sizeOf(nodes) {
 }
 
 /**
+ * The colour of a route, as all programs for SVG read it: neighbours in the list are far apart on the wheel of colours.
+ *
+ * @param {number} at the number of the route, from 0
+ * @returns {string}
+ */
+export function colourOf(at) {
+    const hue = (210 + at * 137.508) % 360;
+    const light = hue > 40 && hue < 190 ? 0.4 : 0.52; // (yellow and green seem lighter)
+    const part = (/** @type {number} */ shift) => {
+        const turn = (shift + hue / 30) % 12;
+        return light - 0.62 * Math.min(light, 1 - light) * Math.max(-1, Math.min(turn - 3, 9 - turn, 1));
+    };
+    return `#${[0, 8, 4].map((shift) => Math.round(255 * part(shift)).toString(16).padStart(2, "0")).join("")}`;
+}
+
+/**
  * Where nodes are drawn: as large as fits, with y upwards.
  *
  * @param {Float64Array} points x and y of node 1, of node 2 and so on

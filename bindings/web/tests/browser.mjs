@@ -211,6 +211,7 @@ const TESTS = {
         assert.equal(texts[0], "TYPE : TOUR\nTOUR_SECTION\n1\n2\n3\n4\n8\n5\n6\n7\n-1\nEOF\n");
         assert.equal(texts[1], "type TSP\nnodes 8\nlength 226\nyes\n");
         assert.match(texts[2], /^<svg [^>]*xmlns="http:\/\/www.w3.org\/2000\/svg".*<style.*<path /s);
+        assert.doesNotMatch(texts[2], /var\(/, "each program knows its colours");
     },
     "a table of nodes and routes with copies of the depot are read": async (browser) => {
         const drop = (files) => browser.value(`(() => { const all = new DataTransfer();

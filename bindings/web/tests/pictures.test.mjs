@@ -5,9 +5,10 @@ import assert from "node:assert/strict";
 import { test } from "node:test";
 
 import { branchesOf, decisionsOf, wordsOfDecision } from "../page/branches.mjs";
-import { colourOf, hullOf, pictureOf } from "../page/map.mjs";
+import { hullOf, pictureOf } from "../page/map.mjs";
 import { barOf, curveOf, ticksOf } from "../page/plots.mjs";
 import { differenceOf, loadsOf } from "../page/scene.mjs";
+import { colourOf } from "../page/shapes.mjs";
 import { treePicture } from "../page/tree.mjs";
 import { WHOLE, boxOf, movedBy, zoomByKey, zoomedBy } from "../page/zoom.mjs";
 
@@ -91,6 +92,7 @@ test("routes have colours and loads", () => {
     const [first, second] = classed(pictureOf(scene, LOOK), "route").map(({ attributes }) => attributes.stroke);
     assert.deepEqual([first, second], [colourOf(0), colourOf(1)]);
     assert.equal(new Set(Array.from({ length: 30 }, (_, at) => colourOf(at))).size, 30);
+    assert.ok(Array.from({ length: 30 }, (_, at) => colourOf(at)).every((colour) => /^#[0-9a-f]{6}$/.test(colour)));
     assert.equal(classed(pictureOf(scene, { ...LOOK, route: 1 }), "picked").length, 1);
 });
 
