@@ -212,6 +212,9 @@ class Contests(unittest.TestCase):
             "not accepted: dairy, ant: LengthClaimed 231: it claims 230", "not accepted: dairy, cat: missing",
             "not accepted: harbour, cat: missing", "not accepted: rectangle, cat: RepeatedNode 3",
         ])
+        self.assertEqual(lines[4], "no best-known length has the NAME of dairy")
+        self.assertNotIn("best-known", str(yokecairn.table(self.top, workers=2)))
+        lines = lines[1:]
         self.assertEqual(lines[4].split(), ["instance", "best", "bound", "ant", "bee", "cat"])
         self.assertEqual(lines[6].split(), ["harbour", "226", "226", "226", "+0.00", "%*", "263", "+16.37", "%", "-"])
         self.assertEqual(lines[9].split(), ["shortest", "1", "2", "0"])
@@ -231,9 +234,10 @@ class Contests(unittest.TestCase):
         self.assertIn("% not accepted: dairy, ant: LengthClaimed 231: it claims 230\n", latex)
         self.assertIn("226 +0.00 \\%*", latex)
         text = found.to_html()
-        self.assertEqual((text.count("<li>"), text.count("<tr>"), text.count("<th>")), (4, 9, 6))
+        self.assertEqual((text.count("<li>"), text.count("<tr>"), text.count("<th>")), (5, 9, 6))
         lines = found.to_markdown().splitlines()
-        self.assertEqual((lines[0], lines[4]), ("- not accepted: dairy, ant: LengthClaimed 231: it claims 230", ""))
+        self.assertEqual((lines[0], lines[5]), ("- not accepted: dairy, ant: LengthClaimed 231: it claims 230", ""))
+        lines = lines[1:]
         self.assertEqual(lines[5:7], ["| instance | best | bound | ant | bee | cat |", "| --- | ---: | ---: | ---: | ---: | ---: |"])
         self.assertEqual(lines[8], "| harbour | 226 | 226 | 226 +0.00 %\\* | 263 +16.37 % | - |")
         path = self.top / "table.csv"

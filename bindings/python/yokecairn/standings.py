@@ -205,10 +205,14 @@ class Table:
         return f"{told}, mean {row['mean']:.2f}, worst {row['worst']}, {row['accepted']} of {row['runs']} runs"
 
     def _above(self) -> List[str]:
-        """What is said above the table: each that isn't accepted, with its reason, and what isn't judged of an instance."""
+        """What is said above the table: each that isn't accepted, with its reason, what isn't judged of an instance, and which
+        have no best-known length where others have one."""
         told = [f"not accepted: {instance}, {solver}: {why}" for instance, solver, why in self.rejected()]
         bases = ((instance, self._found[instance].basis) for instance in self.instances)
-        return told + [f"not judged of {instance}: {', '.join(it.not_judged)}" for instance, it in bases if it and it.not_judged]
+        told += [f"not judged of {instance}: {', '.join(it.not_judged)}" for instance, it in bases if it and it.not_judged]
+        unknown = [name for name in self.instances if self._found[name].best is None and self._found[name].fault is None]
+        is_known = any(it.best is not None for it in self._found.values())
+        return told + [f"no best-known length has the NAME of {name}" for name in unknown if is_known]
 
     def __str__(self) -> str:
         grid = self._grid()
