@@ -6,6 +6,8 @@ import io
 import json
 import os
 import re
+import shutil
+import subprocess
 import sys
 import unittest
 from collections.abc import Callable, Iterator
@@ -105,19 +107,38 @@ class Counts:
         self.cases.append({"name": what, "outcome": "skipped", "told": needed})
         print(f"{SKIPPED}{what}: {needed}", flush=True)
 
-    def counted(self, what: str, said: str, status: int) -> None:
-        """Adds the counts of a test that wrote this and ended with this status. Its cases are in its own record, and what it
-        skipped is told again."""
+    def has(self, what: str, tools: dict[str, str]) -> bool:
+        """Whether these commands are there, each with the package that has it; else what needs them is skipped."""
+        lacking = next((package for tool, package in tools.items() if shutil.which(tool) is None), "")
+        if lacking:
+            self.skip(what, f"apt-get install {lacking}")
+        return not lacking
+
+    def run(self, *words: str | Path) -> None:
+        """Runs another test, shows what it writes, and adds its counts."""
+        ran = subprocess.run(words, stdin=subprocess.DEVNULL, stdout=subprocess.PIPE, stderr=subprocess.STDOUT, text=True, errors="replace",
+                             check=False)
+        print(ran.stdout, end="", flush=True)
+        self.take_counts(str(words[0]), ran.stdout, ran.returncode, "")
+
+    def take_counts(self, what: str, said: str, status: int, told: str) -> Counted | None:
+        """Adds the counts of a test that wrote this and ended with this status. One without them has failed."""
         found = counts_in(said)
         if found is None or (status and not found.failed):
-            self.add(False, f"{what} ended with status {status}: {said[-2000:]}", what)
-            return
+            self.add(False, f"{what} ended with status {status}{told}", what)
+            return None
         self.passed += found.passed
         self.failed += found.failed
         self.skipped += found.skipped
-        if found.failed:
+        return found
+
+    def counted(self, what: str, said: str, status: int) -> None:
+        """Adds the counts of a test that wrote this and ended with this status. Its cases are in its own record, and what it
+        skipped is told again."""
+        found = self.take_counts(what, said, status, f": {said[-2000:]}")
+        if found and found.failed:
             print(f"{what}:\n{said}", flush=True)
-        else:
+        elif found:
             print(*skips_in(said), sep="\n", end="\n" * bool(found.skipped), flush=True)
 
     def unittests(self, folder: Path, words: list[str] | None = None) -> None:
