@@ -699,6 +699,7 @@ def bad_input():
         (["a.tsp", *both, "--split", "0"], "--split"),
         (["a.tsp", "out.tour", "more", *out], "more"),
         (["a.tsp", *both, "--wrong"], "--wrong"),
+        (["a.tsp", *both, "--cpu-seconds", "1", "--seconds", "1"], "--seconds excludes --cpu-seconds"),
         (["none.tsp", "-o", "no/folder/out", "--tour-out", "out.tour"], "no/folder/out: No such file or directory"),
         (["none.tsp", "-o", ".", "--tour-out", "out.tour"], ".: Is a directory"),
     ]
@@ -707,7 +708,7 @@ def bad_input():
 
 
 def finding_tsp():
-    """tsp is looked for on PATH, and in the folders above the program. The script of a checkout needs PATH itself."""
+    """tsp is looked for beside the program, on PATH, and in the folders above. The script of a checkout needs PATH itself."""
     if Path(TSP).read_bytes()[:2] == b"#!":
         sys.exit(77)
     write_points("a.tsp", "EUC_2D", 12, random.Random(14))
@@ -727,6 +728,12 @@ def finding_tsp():
         need(place or "--tsp" in done.stderr, f"no word of a missing tsp: {done.stderr}")
         if place:
             os.remove(f"{place}/tsp")
+    os.makedirs("other")
+    Path("other/tsp").write_text("#!/bin/sh\necho Task Spooler v1.0\n")
+    os.chmod("other/tsp", 0o755)
+    os.symlink(TSP, "above/here/tsp")
+    need(find(os.path.abspath("other")).returncode == 0, "tsp beside the program isn't found before that on PATH")
+    os.remove("above/here/tsp")
     os.symlink(TSP, "on-path/tsp")
     os.symlink(TSP, "on-path/yokecairn")
     os.symlink(TSP, "tsp")

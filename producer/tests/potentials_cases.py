@@ -144,6 +144,17 @@ def newcomer():
     need(sums == ["a.tsp", "a.tour", "a.potentials"], f"the sums: {report}")
 
 
+def time_limits():
+    """A limit counts seconds of a clock, or processor seconds, which are fewer where the program has to wait."""
+    write_points("a.tsp", "EUC_2D", 500, random.Random(9), side=10**6)
+    for word in ("--seconds", "--cpu-seconds"):
+        said = certify("a.tsp", *BOTH, word, "2")
+        steps, kicks = (int(re.search(rf"{name} (\d+)", said)[1]) for name in ("steps", "kicks"))
+        clock, processor = (float(it) for it in re.search(r", seconds ([\d.]+), processor seconds ([\d.]+)", said).groups())
+        took = clock if word == "--seconds" else processor
+        need(steps >= 20 and kicks > 100 and 0.5 < took < 4 * PATIENCE, f"{word} 2: {said}")
+
+
 def same_bytes():
     """The same words give the same files, and so do the numbers that a run by seconds prints."""
     write_points("a.tsp", "EUC_2D", 500, random.Random(9), side=10**6)
@@ -237,6 +248,8 @@ def bad_input():
         (["a.tsp"], "-o"),
         ([], "INSTANCE"),
         (["a.tsp", *OUT, "--seconds", "0"], "--seconds"),
+        (["a.tsp", *OUT, "--cpu-seconds", "0"], "--cpu-seconds"),
+        (["a.tsp", *OUT, "--cpu-seconds", "1", "--seconds", "1"], "--seconds excludes --cpu-seconds"),
         (["a.tsp", *OUT, "--steps", "0"], "--steps"),
         (["a.tsp", *OUT, "--kicks", "-1"], "--kicks"),
         (["a.tsp", *OUT, "--wrong"], "--wrong"),
@@ -257,7 +270,7 @@ def installing():
 
 
 CASES = [
-    weights, small, matrix, fixed, atsp, named_tour, newcomer, same_bytes, interrupt, overwriting, log, bad_input, installing,
+    weights, small, matrix, fixed, atsp, named_tour, newcomer, time_limits, same_bytes, interrupt, overwriting, log, bad_input, installing,
 ]  # fmt: skip
 
 if __name__ == "__main__":

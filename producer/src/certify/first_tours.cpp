@@ -14,13 +14,17 @@
 #include "tours/tours.h"
 
 namespace certify {
+bool FirstTours::are_kicked() const {
+  return !instance_.directed && !options_.tour && instance_.nodes() > kTours.few_nodes;
+}
+
 // By the words and the number of threads, so that it doesn't depend on the clock.
 bool FirstTours::are_hurried() const {
-  if (instance_.directed || options_.tour || options_.seconds == 0) return false;
-  if (instance_.nodes() <= kTours.few_nodes) return false;
+  if (!are_kicked() || options_.limit.seconds == 0) return false;
   const double threads = oneapi::tbb::this_task_arena::max_concurrency();
   const double needed = kTours.seconds_of_member * kTours.population * instance_.nodes() / threads;
-  return needed > kTours.part_of_time * options_.seconds;
+  const double at_once = options_.limit.of_processors ? threads : 1;
+  return needed * at_once > kTours.part_of_time * options_.limit.seconds;
 }
 
 void FirstTours::kick(const potentials::Problem& problem) {
@@ -72,7 +76,7 @@ Start FirstTours::find() {
     find_arcs(start);
     return start;
   }
-  const bool small = options_.tour || !kicked_.empty();
+  const bool small = options_.tour || are_hurried();
   cross(start, small ? kTours.small_population : kTours.population);
   if (kicked_.empty() || !instance_.allows(kicked_)) return start;
   start.further.push_back(start.tour);

@@ -7,13 +7,16 @@
 #include "tree/case_solver.h"
 
 namespace certify {
-// Tours by edge assembly, and of an ATSP by exchanges of arcs. Where the time is too short for a population,
-// it is a small one, and the tour is the one that tsp-potentials finds, where that is shorter.
+// Tours by edge assembly, and of an ATSP by exchanges of arcs. Before edge assembly comes the tour that
+// tsp-potentials finds, since a clock that others keep busy may leave a population no time; the shorter one is
+// kept. Where the time is too short for a population by the words alone, it is a small one.
 class FirstTours {
  public:
   FirstTours(const Options& options, const Instance& instance, const Clock& clock, Progress& progress)
       : options_(options), instance_(instance), clock_(clock), progress_(progress) {}
-  // Whether kicks are needed, which begin with points where there are some.
+  // Whether kicks come first, which begin with points where there are some.
+  bool are_kicked() const;
+  // Whether the time is too short for a population.
   bool are_hurried() const;
   // The tour by kicks, of a problem of this instance.
   void kick(const potentials::Problem& problem);

@@ -42,7 +42,7 @@ int certify_large(const Options& options, const std::string& tsp, std::unique_pt
   }
   Progress progress(options.log);
   Clock::catch_signals();
-  const Clock clock(options.seconds);
+  const Clock clock(options.limit);
   sparse::SparseSearch search(*problem, {given, options.seed, options.upper}, clock, progress);
   search.run();
   write_certificate(options.certificate, search.certificate(), false);

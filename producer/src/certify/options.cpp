@@ -44,10 +44,16 @@ void declare(CLI::App& app, Options& options) {
   app.add_option("-o", options.certificate, "where the certificate is written")
       ->required()
       ->type_name("CERTIFICATE");
-  app.add_option("--seconds", options.seconds, "seconds, 0 for no limit")
+  CLI::Option* seconds = app.add_option("--seconds", options.limit.seconds, "seconds of a clock, 0 for no limit")
+                             ->type_name("S")
+                             ->check(CLI::NonNegativeNumber)
+                             ->capture_default_str();
+  app.add_option_function<double>(
+         "--cpu-seconds", [&options](double most) { options.limit = {most, true}; },
+         "processor seconds of all threads together, in place of --seconds")
       ->type_name("S")
-      ->check(CLI::NonNegativeNumber)
-      ->capture_default_str();
+      ->check(CLI::PositiveNumber)
+      ->excludes(seconds);
   app.add_option("--upper", options.upper, "a bound of L is enough")->type_name("L");
   app.add_flag_callback(
       "--no-families", [&options] { options.families = false; },

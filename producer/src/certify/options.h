@@ -6,6 +6,7 @@
 #include <vector>
 
 #include "graphs/tour.h"
+#include "running/clock.h"
 #include "running/command_line.h"
 #include "running/parameters.h"
 #include "tree/certificate.h"
@@ -13,7 +14,7 @@
 namespace certify {
 struct Options : CommonOptions {
   std::string certificate;
-  double seconds = 300;
+  TimeLimit limit{.seconds = 300};
   std::optional<Weight> upper;
   bool families = true;
   bool memory = false;                // runs with a memory in place of walks, of a CVRP

@@ -57,7 +57,7 @@ int certify_routes(const Options& options, const std::string& tsp, std::unique_p
   warn_of_lost_tour(options);
   Progress progress(options.log);
   Clock::catch_signals();
-  const Clock clock(options.seconds);
+  const Clock clock(options.limit);
   FoundRoutes found = find_routes(instance, given, options.seed, [&] {
     return Clock::signal() ? 1.0 : clock.used() / kRemovals.part_of_time;
   });

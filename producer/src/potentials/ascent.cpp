@@ -32,8 +32,9 @@ int renewals_until(double share) {
 }
 }  // namespace
 
-Ascent::Ascent(const Problem& problem)
+Ascent::Ascent(const Problem& problem, bool of_processors)
     : problem_(problem),
+      timing_{0, of_processors},
       lengths_(problem.nodes()),
       one_tree_(problem),
       numbers_(problem.nodes(), 0.0),
@@ -41,11 +42,11 @@ Ascent::Ascent(const Problem& problem)
   measure_lengths();
   near_ =
       in_space() ? near_edges(problem, kNearestInSpace, kOctant) : near_edges(problem, kNearest, kQuadrant);
-  const double begin = certify::Clock::processor();
+  const double begin = certify::Clock::since_start(timing_);
   edges_ = joined(near_, light());
   const std::vector<Edge> tree = exact_tree(problem, numbers_, edges_);
   edges_ = joined(edges_, tree);
-  search_seconds_ = certify::Clock::processor() - begin;
+  search_seconds_ = certify::Clock::since_start(timing_) - begin;
   one_tree_.set_edges(edges_);
   take_exact(tree);
   const double mean = std::accumulate(lengths_.begin(), lengths_.end(), 0.0) / problem.nodes();
@@ -77,9 +78,9 @@ std::vector<Edge> Ascent::light() const {
 
 double Ascent::seconds_for(int steps) {
   constexpr int kTimed = 3;
-  const double begin = certify::Clock::processor();
+  const double begin = certify::Clock::since_start(timing_);
   for (int k = 0; k < kTimed; k++) one_tree_.weigh(numbers_, degrees_);
-  const double step = (certify::Clock::processor() - begin) / kTimed;
+  const double step = (certify::Clock::since_start(timing_) - begin) / kTimed;
   one_tree_.set_edges(edges_);  // what it learned is forgotten, so that timing changes no file
   return step * steps + search_seconds_ * (kRenewals + 2);
 }

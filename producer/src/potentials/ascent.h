@@ -8,13 +8,15 @@
 #include <limits>
 
 #include "points/groups.h"
+#include "running/clock.h"
 #include "spanning/one_tree.h"
 
 namespace potentials {
 class Ascent {
  public:
-  explicit Ascent(const Problem& problem);
-  // Processor seconds that this many steps take, by timing a step and the search for candidates.
+  // What it times, it times by a clock, or as processor seconds.
+  explicit Ascent(const Problem& problem, bool of_processors = false);
+  // Seconds that this many steps take, by timing a step and the search for candidates.
   double seconds_for(int steps);
   // Called after each step with its number and the best bound of the candidate graph; false ends the ascent.
   using Watch = std::function<bool(int, double)>;
@@ -39,6 +41,7 @@ class Ascent {
   void move_groups(double size);
 
   const Problem& problem_;
+  certify::TimeLimit timing_;  // only how it counts
   std::vector<double> lengths_;  // near each node
   std::vector<Edge> near_, edges_, support_;
   OneTree one_tree_;

@@ -54,7 +54,7 @@ class Run {
   }
 
   Found search() {
-    Ascent ascent(problem_);
+    Ascent ascent(problem_, options_.limit.of_processors);
     const std::vector<double> numbers = climb(ascent);
     const NodePotentials whole = rounded(problem_, numbers);
     found_.bound = bound_of(problem_, whole, ascent.edges());
@@ -66,16 +66,19 @@ class Run {
   }
 
  private:
+  // Seconds since the program's start, by the clock of the limit.
+  double time() const { return Clock::since_start(options_.limit); }
+
   std::optional<Weight> length() const {
     return tour_ ? std::optional(std::llround(problem_.length(*tour_))) : std::nullopt;
   }
 
   int steps_for(Ascent& ascent) const {
-    if (options_.steps || !options_.seconds) return options_.steps.value_or(kSteps);
+    if (options_.steps || options_.limit.seconds == 0) return options_.steps.value_or(kSteps);
     const double part = options_.tour_out ? kPartForSteps : 1;
     const double none = ascent.seconds_for(0);
     const double step = std::max((ascent.seconds_for(100) - none) / 100, 1e-9);
-    const double left = part * *options_.seconds - Clock::processor() - none;
+    const double left = part * options_.limit.seconds - time() - none;
     return std::clamp(static_cast<int>(std::min(left / step, 1e9)), kLeastSteps, kMostSteps);
   }
 
@@ -88,7 +91,7 @@ class Run {
         progress_.log("steps", length(), whole, R"("steps": )" + std::to_string(step));
       }
       std::ostringstream line;
-      line << "seconds " << static_cast<int>(Clock::processor()) << " step " << step << " of " << steps
+      line << "seconds " << static_cast<int>(time()) << " step " << step << " of " << steps
            << " bound " << whole;
       progress_.show(line.str());
       return !Clock::signal();
@@ -100,19 +103,19 @@ class Run {
     search.seed = options_.seed;
     search.named = options_.tour.has_value();
     search.kicks = options_.kicks;
-    if (!options_.kicks && !options_.seconds) search.kicks = kKicksOfNode * problem_.nodes();
-    search.seconds = options_.seconds.value_or(0) - Clock::processor();
+    if (!options_.kicks && options_.limit.seconds == 0) search.kicks = kKicksOfNode * problem_.nodes();
+    search.limit = {options_.limit.seconds - time(), options_.limit.of_processors};
     const Weight before = *length();
-    const double begin = Clock::processor();
+    const double begin = time();
     double logged = begin;
     search.watch = [&](long kicks, double gain) {
       const Weight now = before - std::llround(gain);
-      if (Clock::processor() - logged > kLogEach * (logged - begin) + kLogFirst) {
-        logged = Clock::processor();
+      if (time() - logged > kLogEach * (logged - begin) + kLogFirst) {
+        logged = time();
         progress_.log("tour", now, found_.bound, R"("kicks": )" + std::to_string(kicks));
       }
       std::ostringstream line;
-      line << "seconds " << static_cast<int>(Clock::processor()) << " kicks " << kicks << " length " << now
+      line << "seconds " << static_cast<int>(time()) << " kicks " << kicks << " length " << now
            << " bound " << found_.bound;
       progress_.show(line.str());
       return !Clock::signal();
@@ -167,7 +170,8 @@ void report(const Options& options, const std::string& tsp, Found found, Progres
          << 100 * static_cast<double>(gap) / static_cast<double>(std::max(Weight{1}, std::abs(*found.length)))
          << " %";
   }
-  line << ", processor seconds " << std::fixed << std::setprecision(1) << Clock::processor() << "\n";
+  line << ", seconds " << std::fixed << std::setprecision(1) << Clock::now() << ", processor seconds "
+       << Clock::processor() << "\n";
   progress.log("end", found.length, bound.value_or(found.bound),
                R"("steps": )" + std::to_string(found.steps));
   progress.end();

@@ -24,10 +24,17 @@ void declare(CLI::App& app, Options& options) {
   app.add_option("--kicks", options.kicks, "kicks of the search for a tour (5 for each node)")
       ->type_name("K")
       ->check(CLI::Range(0L, 100000000000L));
-  app.add_option("--seconds", options.seconds,
-                 "processor seconds, from which steps and kicks are chosen once the first ones are timed")
+  CLI::Option* seconds =
+      app.add_option("--seconds", options.limit.seconds,
+                     "seconds of a clock, from which steps and kicks are chosen once the first ones are timed")
+          ->type_name("S")
+          ->check(CLI::PositiveNumber);
+  app.add_option_function<double>(
+         "--cpu-seconds", [&options](double most) { options.limit = {most, true}; },
+         "processor seconds, in place of --seconds")
       ->type_name("S")
-      ->check(CLI::PositiveNumber);
+      ->check(CLI::PositiveNumber)
+      ->excludes(seconds);
   certify::declare_common(app, options);
   app.footer(kFooter);
 }

@@ -4,6 +4,7 @@
 #include <string>
 #include <variant>
 
+#include "running/clock.h"
 #include "running/command_line.h"
 
 namespace potentials {
@@ -11,7 +12,7 @@ using certify::Help;
 
 struct Options : certify::CommonOptions {
   std::string potentials;
-  std::optional<double> seconds;
+  certify::TimeLimit limit;  // 0 for none
   std::optional<int> steps;
   std::optional<long> kicks;
 };

@@ -49,14 +49,15 @@ std::string place_of_tsp(const std::optional<std::string>& named) {
     if (runnable(*named)) return *named;
     throw Refusal(*named + ": there is no program of this name");
   }
+  std::error_code error;
+  const fs::path own = fs::read_symlink("/proc/self/exe", error);
+  const auto at = [&](const char* place) { return own.parent_path() / place; };
+  if (!named && !error && runnable(at("tsp"))) return at("tsp");
   const std::optional<std::string> found = on_path(named.value_or("tsp"));
   if (found) return *found;
   if (named) throw Refusal(*named + ": there is no program of this name on PATH; a path to it has a slash");
-  std::error_code error;
-  const fs::path own = fs::read_symlink("/proc/self/exe", error);
   for (const char* place : {"../tsp", "../../tsp"}) {
-    const fs::path beside = own.parent_path() / place;
-    if (!error && runnable(beside)) return beside;
+    if (!error && runnable(at(place))) return at(place);
   }
   throw Refusal("the program tsp is needed: name it by --tsp, or put it on PATH");
 }

@@ -20,8 +20,8 @@ void declare_common(CLI::App& app, CommonOptions& options) {
   app.add_option("--seed", options.seed, "of the choices by chance")->type_name("N")->capture_default_str();
   app.add_option(
          "--tsp", options.tsp,
-         "the program tsp: a path, or a name that is looked for on PATH; else it is tsp on PATH, then in the "
-         "folders above")
+         "the program tsp: a path, or a name on PATH; else tsp beside this program, then tsp on PATH, then tsp "
+         "in the two folders above this program's")
       ->type_name("PROGRAM");
   app.add_option("--log", options.log, "where each event is written as a line of JSON")->type_name("FILE");
 }

@@ -23,8 +23,8 @@ struct TourParameters {
   double part_of_later_time = 0.5;  // by which a later one has to end
   int few_nodes = 8;                // of which all orders are tried
   double seconds_of_member = 4e-5;  // for each of its nodes, until a population is alike
-  int steps_before_kicks = 400;     // of potentials, where the time is too short for a population
-  long kicks_of_node = 5;           // then
+  int steps_before_kicks = 400;     // of potentials
+  long kicks_of_node = 5;           // before edge assembly
 };
 inline constexpr TourParameters kTours{};
 

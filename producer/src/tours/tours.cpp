@@ -37,7 +37,8 @@ Shortened shorten(const Problem& problem, const Tour& tour, std::vector<double> 
                   const std::vector<Edge>& support, const TourSearch& search) {
   if (problem.nodes() <= kFewNodes) return {tour, 0};
   numbers = whole_numbers(std::move(numbers));
-  const double begin = certify::Clock::processor();
+  const auto time = [&] { return certify::Clock::since_start(search.limit); };
+  const double begin = time();
   const Neighbours near = neighbours_of(problem, numbers, kLightest, support);
   const Tour start = search.named ? tour : shorter_one(problem, tour, greedy_tour(problem, numbers, near));
   const double ahead = problem.length(tour) - problem.length(start);
@@ -52,10 +53,10 @@ Shortened shorten(const Problem& problem, const Tour& tour, std::vector<double> 
   if (search.kicks) {
     kick(*search.kicks);
   } else {
-    const double before = certify::Clock::processor();
+    const double before = time();
     kick(100 + static_cast<long>(kTimedPart * problem.nodes()));
-    const double now = certify::Clock::processor();
-    const double left = kReserve * search.seconds - (now - begin);
+    const double now = time();
+    const double left = kReserve * search.limit.seconds - (now - begin);
     const double each = std::max((now - before) / static_cast<double>(done), 1e-7);
     kick(std::max(0L, static_cast<long>(left / each)));
   }

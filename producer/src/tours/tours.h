@@ -5,6 +5,7 @@
 #include <optional>
 
 #include "points/problem.h"
+#include "running/clock.h"
 
 namespace potentials {
 // By the shortest edges; of a few nodes the shortest one, by all orders.
@@ -13,8 +14,8 @@ Tour first_tour(const Problem& problem);
 struct TourSearch {
   std::uint64_t seed = 1;
   bool named = false;         // the tour, so that the search has to begin with it
-  std::optional<long> kicks;  // else they are chosen so that the search takes these seconds
-  double seconds = 0;
+  std::optional<long> kicks;  // else they are chosen so that the search takes the seconds of the limit
+  certify::TimeLimit limit;
   // Called now and then with the kicks that are done, and how much shorter the tour is; false ends the
   // search.
   std::function<bool(long, double)> watch;

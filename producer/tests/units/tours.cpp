@@ -83,7 +83,7 @@ TEST_CASE("neighbours of each quadrant lead to other clusters") {
 }
 
 // The clock has no limit here, so that the tours are the same on each machine.
-TEST_CASE("in a short time kicks give the tour to begin with") {
+TEST_CASE("kicks give the tour to begin with, which edge assembly may only better") {
   Random random(21);
   const int nodes = 60;
   const potentials::Problem problem(random_points(nodes, 2, potentials::Metric::kEuclid, random),
@@ -99,13 +99,18 @@ TEST_CASE("in a short time kicks give the tour to begin with") {
   Progress progress(std::nullopt);
   FirstTours first(options, instance, clock, progress);
   for (const double seconds : {0.0, 300.0}) {
-    options.seconds = seconds;
+    options.limit.seconds = seconds;
     CHECK(!first.are_hurried());  // without a limit, and with a long one
+    CHECK(first.are_kicked());
   }
-  options.seconds = 0.01;
-  CHECK(first.are_hurried());
+  for (const bool of_processors : {false, true}) {
+    options.limit = {0.01, of_processors};
+    CHECK(first.are_hurried());
+    CHECK(first.are_kicked());
+  }
   options.tour = "named";
   CHECK(!first.are_hurried());  // a tour is there
+  CHECK(!first.are_kicked());
   options.tour.reset();
   first.kick(problem);
   const Start start = first.find();
