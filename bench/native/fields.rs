@@ -1,10 +1,8 @@
-//! The files of the native checks of certificates by branching: fields, costs and families.
-//!
-//! A module of bench/native_branches.rs and bench/native_routes.rs, which bench/trees builds and compares with the program.
+//! Files as certificates of branches need them, which are small: all fields, a matrix of costs, and families.
 
+use crate::fail;
 use std::collections::HashMap;
 use std::fs;
-use std::process::exit;
 
 const UNIT: i128 = 1_000_000_000;
 
@@ -12,11 +10,6 @@ pub type Pair = (usize, usize);
 
 /// The words of each keyword and section.
 pub struct Fields(HashMap<String, Vec<String>>);
-
-pub fn fail(text: &str) -> ! {
-    eprintln!("{text}");
-    exit(2)
-}
 
 impl Fields {
     pub fn read(path: &str) -> Fields {

@@ -1,12 +1,7 @@
-//! The work of `tsp compare` in plain Rust, by hand: native_compare INSTANCE SOLUTION..
-//!
-//! An instance has TYPE TSP or CVRP and EUC_2D, with at most nine decimals. Each file is read in pieces, and each
-//! word is checked. Each node of a solution is marked, and its length is the exact sum of the rounded distances, added
-//! up as its nodes come. For CVRP each route's load is compared with the capacity. A file with a fault ends the program.
-//!
-//! bench/compare builds it by rustc, and ends where its lengths aren't those of the program.
+//! Many solutions of one instance: each file is read in pieces, and each word is checked. Each node of a solution is marked, and
+//! its length is the exact sum of the rounded distances, added up as its nodes come. For a CVRP each route's load is compared
+//! with the capacity. An instance has TYPE TSP or CVRP and EUC_2D, with at most nine decimals.
 
-use std::env;
 use std::fs::File;
 use std::io::Read;
 
@@ -417,12 +412,12 @@ fn measured<P: Copy>(path: &str, points: &[P], routing: Option<&Routing>, distan
     solution.end()
 }
 
-fn main() {
-    let args: Vec<String> = env::args().collect();
+/// The lengths of solutions, a line for each.
+pub fn run(instance: &str, solutions: &[&str]) {
     let (points, demands, seen) = (Vec::new(), Vec::new(), Vec::new());
     let (section, kind, depots, loaded) = (Section::Head, String::new(), Vec::new(), Vec::new());
     let mut draft = Draft { section, kind, capacity: 0, points, demands, depots, placed: seen, loaded };
-    read(&args[1], &mut draft);
+    read(instance, &mut draft);
     assert!(draft.placed.iter().all(|seen| *seen));
     println!("type {}\nnodes {}", draft.kind, draft.points.len());
     let routing = (draft.kind == "CVRP").then(|| {
@@ -431,7 +426,7 @@ fn main() {
         Routing { demands: draft.demands, capacity: draft.capacity, depot: draft.depots[0] }
     });
     let points = Points::of(draft.points);
-    for path in &args[2..] {
+    for path in solutions {
         let length = match &points {
             Points::Whole(points) => measured(path, points, routing.as_ref(), whole_distance),
             Points::Counts(points) => measured(path, points, routing.as_ref(), distance),

@@ -1,5 +1,4 @@
 //! A file's words and lines, read in pieces; whole numbers and decimals in one pass, eight digits at once.
-//! A module of bench/native_whole.rs, which bench/whole builds.
 
 use crate::fail;
 use std::fs::File;

@@ -1,34 +1,10 @@
-//! Whole checks and bounds in plain Rust, by hand for speed: as exact as the program, and the same reports.
-//!
-//! usage: native_whole check INSTANCE SOLUTION
-//!        native_whole bound INSTANCE --potentials FILE
-//!
-//! bench/whole builds it by rustc, and ends where its report isn't that of the program.
-//!
-//! It reads each file in pieces, in one pass, and keeps what the program keeps: weights in 8 bytes, points in
-//! billionths. It is for files without faults, with plain numbers, and solutions and certificates that are
-//! accepted. All else ends it with status 2.
+//! Whole checks and bounds: each file is read in pieces, in one pass. What the program keeps is kept: weights in 8 bytes, points
+//! in billionths.
 
-#[path = "native_whole/file.rs"]
-mod file;
-#[path = "native_whole/matrix.rs"]
-mod matrix;
-#[path = "native_whole/points.rs"]
-mod points;
-#[path = "native_whole/text.rs"]
-mod text;
-#[path = "native_whole/tree.rs"]
-mod tree;
-
-use file::Fields;
-use points::{Att, Ceiling, Metric, Nearest};
-use std::env;
-
-#[cold]
-fn fail(why: &str) -> ! {
-    eprintln!("native_whole: {why}");
-    std::process::exit(2)
-}
+use crate::fail;
+use crate::file::Fields;
+use crate::points::{Att, Ceiling, Metric, Nearest};
+use crate::{matrix, tree};
 
 /// The sum of the costs from each node of a tour to the next.
 fn length_of(tour: &[u32], cost: impl Fn(usize, usize) -> i64) -> i64 {
@@ -119,14 +95,8 @@ fn bound(instance: &Fields, certificate: &Fields) {
     println!("bound {}\nyes", -(-value).div_euclid(i128::from(scale)));
 }
 
-fn main() {
-    let words: Vec<String> = env::args().skip(1).collect();
-    let words: Vec<&str> = words.iter().map(String::as_str).collect();
-    let (verb, path, other) = match words[..] {
-        ["check", instance, solution] => ("check", instance, solution),
-        ["bound", instance, "--potentials", certificate] => ("bound", instance, certificate),
-        _ => fail("check INSTANCE SOLUTION, or bound INSTANCE --potentials FILE"),
-    };
+/// The report of a check or a bound.
+pub fn run(verb: &str, path: &str, other: &str) {
     let (instance, other) = (Fields::read(path), Fields::read(other));
     if instance.kind == "TSP" && instance.layout == "FULL_MATRIX" && !matrix::is_symmetric(&instance.weights, instance.count) {
         fail("NotSymmetric");

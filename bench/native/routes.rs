@@ -1,20 +1,11 @@
-//! The check of a certificate for routes in plain Rust, by hand: exact too, over canonical files.
-//!
-//! usage: native_routes INSTANCE ROUTES BRANCHES
-//!
-//! It prints what the check of routes prints from their length on, of files without a reason against them.
-//!
-//! bench/trees builds it by rustc, and ends where it prints another bound than the program.
+//! A certificate of branches for routes, exact.
 //!
 //! The weights without the potentials are in one matrix through all leaves, by where a link ends, so that
 //! the steps to a customer read one row. A table has, for each load and customer, the least weight of a walk
 //! from the depot to there, the customer before, and the least over all others before.
 
-#[path = "native_trees/files.rs"]
-mod files;
-
-use files::{Fields, combs_of, costs_of, fail};
-use std::env;
+use crate::fail;
+use crate::fields::{Fields, combs_of, costs_of};
 
 const FAR: i64 = 1 << 61;
 const MOST_SUM: i128 = 1 << 60;
@@ -28,8 +19,7 @@ struct Instance {
 }
 
 impl Instance {
-    fn read(path: &str) -> Instance {
-        let fields = Fields::read(path);
+    fn of(fields: &Fields) -> Instance {
         let count = fields.number("DIMENSION").unwrap_or(0) as usize;
         let mut demands = vec![0; count];
         for entry in fields.numbers("DEMAND_SECTION").chunks_exact(2) {
@@ -37,7 +27,7 @@ impl Instance {
         }
         let depot = fields.number("DEPOT_SECTION").unwrap_or(1) as usize - 1;
         let capacity = fields.number("CAPACITY").unwrap_or_else(|| fail("CAPACITY"));
-        Instance { count, depot, costs: costs_of(&fields, count), demands, capacity }
+        Instance { count, depot, costs: costs_of(fields, count), demands, capacity }
     }
 
     /// How many routes carry this at the least.
@@ -245,16 +235,10 @@ fn bound_of(instance: &Instance, certificate: &Certificate) -> Option<i128> {
     least.map(|value| -(-value).div_euclid(i128::from(certificate.scale)))
 }
 
-fn main() {
-    let args: Vec<String> = env::args().collect();
-    let [_, instance, routes, branches] = args.as_slice() else { fail("usage: native_routes INSTANCE ROUTES BRANCHES") };
-    let instance = Instance::read(instance);
+/// The length of routes, and the bound of a certificate.
+pub fn judge(instance: &Fields, routes: &Fields, branches: &str) -> (i64, i128) {
+    let instance = Instance::of(instance);
     let certificate = Certificate::read(branches, &instance);
-    let length = instance.length(&Fields::read(routes).numbers("TOUR_SECTION"));
     let bound = bound_of(&instance, &certificate).unwrap_or_else(|| fail("no walk"));
-    println!("length {length}\nbound {bound}");
-    match i128::from(length) - bound {
-        0 => println!("optimal\nyes"),
-        gap => println!("gap {gap}\nyes"),
-    }
+    (instance.length(&routes.numbers("TOUR_SECTION")), bound)
 }

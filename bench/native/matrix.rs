@@ -1,5 +1,4 @@
 //! What is done with matrices: symmetry, a least 1-tree, duals.
-//! A module of bench/native_whole.rs, which bench/whole builds.
 
 use crate::fail;
 

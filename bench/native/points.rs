@@ -1,5 +1,4 @@
-//! Distances of points, exact: by doubles where all coordinates are whole, else in billionths by squares of 128 bits.
-//! A module of bench/native_whole.rs, which bench/whole builds.
+//! Distances of points, exact: by doubles if all coordinates are whole, else in billionths by squares of 128 bits.
 
 pub const UNIT: i64 = 1_000_000_000;
 const SQUARE_UNIT: i128 = 1_000_000_000_000_000_000;

@@ -1,26 +1,14 @@
-//! The check of a certificate of TYPE BRANCHES in plain Rust, by hand: exact too, over canonical files.
-//!
-//! usage: native_branches INSTANCE TOUR BRANCHES [ROUNDS]
-//!
-//! It prints what the check of a tour prints below the type and the nodes. With ROUNDS the last line
-//! is the nanoseconds that the verdict of files in memory took, the mean of all rounds.
-//!
-//! bench/trees builds it by rustc, and ends where it prints another bound than the program.
+//! A certificate of branches for a tour, exact.
 //!
 //! The weights without the potentials are in one matrix through all leaves: a branch marks two cells
 //! of it, and a multiplier that changes changes the pairs inside a set of its family. The crossings of a
 //! set by a pair are 1 at each end inside, less 2 where both are, so the ends go to the potentials.
 //! A leaf takes a least 1-tree under TYPE TSP, and the least open arc of each row under TYPE ATSP.
 
-#[path = "native_trees/files.rs"]
-mod files;
-
-use files::{Fields, Pair, combs_of, costs_of, fail, whole};
+use crate::fail;
+use crate::fields::{Fields, Pair, combs_of, costs_of};
 use std::collections::HashSet;
-use std::env;
-use std::hint::black_box;
 use std::process::exit;
-use std::time::Instant;
 
 const MARK: i64 = 4_000_000_000_000_000_000;
 const MOST_POTENTIAL: i128 = 1_000_000_000_000_000;
@@ -45,15 +33,14 @@ fn pair_of(directed: bool, i: i64, j: i64) -> Pair {
 }
 
 impl Instance {
-    fn read(path: &str) -> Instance {
-        let fields = Fields::read(path);
+    fn of(fields: &Fields) -> Instance {
         let directed = match fields.first("TYPE") {
             "TSP" => false,
             "ATSP" => true,
             _ => fail("wrong kind"),
         };
         let count = fields.number("DIMENSION").unwrap_or(0) as usize;
-        let costs = costs_of(&fields, count);
+        let costs = costs_of(fields, count);
         let listed = fields.numbers("FIXED_EDGES_SECTION");
         let fixed = listed.chunks_exact(2).take_while(|pair| pair[0] != -1);
         let fixed = fixed.map(|pair| pair_of(directed, pair[0], pair[1])).collect();
@@ -456,7 +443,7 @@ fn bound_of(instance: &Instance, certificate: &Certificate) -> i128 {
 }
 
 /// The bound of a file, or the reason against it.
-fn judge(instance: &Instance, fields: &Fields) -> Result<Certificate, String> {
+fn certificate_of(instance: &Instance, fields: &Fields) -> Result<Certificate, String> {
     if fields.first("TYPE") != "BRANCHES" {
         return Err("NotBranches".to_string());
     }
@@ -489,28 +476,10 @@ fn no(reason: String) -> ! {
     exit(1)
 }
 
-fn main() {
-    let args: Vec<String> = env::args().collect();
-    let (instance, tour, branches) = match args.as_slice() {
-        [_, instance, tour, branches] | [_, instance, tour, branches, _] => (instance, tour, branches),
-        _ => fail("usage: native_branches INSTANCE TOUR BRANCHES [ROUNDS]"),
-    };
-    let instance = Instance::read(instance);
-    let (tour, branches) = (Fields::read(tour), Fields::read(branches));
-    let length = length_of(&instance, &tour).unwrap_or_else(|reason| no(reason));
-    let certificate = judge(&instance, &branches).unwrap_or_else(|reason| no(reason));
-    let bound = bound_of(&instance, &certificate);
-    println!("length {length}\nbound {bound}");
-    match i128::from(length) - bound {
-        0 => println!("optimal\nyes"),
-        gap => println!("gap {gap}\nyes"),
-    }
-    if let Some(rounds) = args.get(4).map(|word| whole(word)) {
-        let start = Instant::now();
-        for _ in 0..rounds {
-            let (instance, certificate) = black_box((&instance, &certificate));
-            black_box(bound_of(instance, certificate));
-        }
-        println!("nanoseconds {}", start.elapsed().as_nanos() / rounds.max(1) as u128);
-    }
+/// The length of a tour, and the bound of a certificate; a reason against one of them ends the program.
+pub fn judge(instance: &Fields, tour: &Fields, branches: &str) -> (i64, i128) {
+    let instance = Instance::of(instance);
+    let length = length_of(&instance, tour).unwrap_or_else(|reason| no(reason));
+    let certificate = certificate_of(&instance, &Fields::read(branches)).unwrap_or_else(|reason| no(reason));
+    (length, bound_of(&instance, &certificate))
 }

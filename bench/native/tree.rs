@@ -1,6 +1,5 @@
 //! A least tree over points: rounds in which each component adds its least link, over a tree of boxes.
 //!
-//! A module of bench/native_whole.rs, which bench/whole builds.
 //!
 //! Boxes are left alone by doubles with a margin for their rounding. Weights are exact.
 

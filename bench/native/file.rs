@@ -1,5 +1,4 @@
-//! The fields of a file that the rows of bench/whole need. Another keyword, section or type ends the program.
-//! A module of bench/native_whole.rs, which bench/whole builds.
+//! The fields of a file that whole runs need. Another keyword, section or type ends the program.
 
 use crate::fail;
 use crate::text::Source;
