@@ -9,7 +9,7 @@ use Rattle.std.proofs.lemmas.Int.{ints}
 use Rattle.std.proofs.lemmas.List.Elements.{recursion_from_All}
 use Rattle.tsp_format.specs.Limits.{most_multiplier}
 use Rattle.tsp_theory.specs.NodeBound.{most_between}
-use Rattle.tsp_theory.specs.CertificateNumbers.{IsFromTo}
+use Rattle.tsp_format.specs.Ranges.{IsFromTo}
 use Rattle.tsp_theory.proofs.MostWeight.{most_64}
 use Rattle.tsp_bound.specs.states.Additions.{IsMoved}
 use Rattle.tsp_bound.proofs.Additions.{moved_to}

@@ -8,7 +8,8 @@ use Rattle.std.proofs.lemmas.List.{take_more, map-append, length-map}
 use Rattle.tsp_format.specs.Limits.{most_nodes}
 use Rattle.tsp_bound.specs.states.Boxes.{node_of}
 use Rattle.tsp_bound.specs.states.Numbering.{IsNumbering, on_both}
-use Rattle.tsp_theory.specs.CertificateNumbers.{IsFromTo, IsSumSized}
+use Rattle.tsp_format.specs.Ranges.{IsFromTo}
+use Rattle.tsp_theory.specs.CertificateNumbers.{IsSumSized}
 use Rattle.tsp_theory.specs.Tree.{IsInner, weight_of}
 use Rattle.tsp_theory.specs.Forest.{IsWholeForest}
 use Rattle.tsp_bound.specs.states.Components.{IsSpanning, IsWeighedForest}

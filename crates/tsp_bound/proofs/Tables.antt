@@ -11,7 +11,8 @@ use Rattle.std.proofs.lemmas.List.{get_or-set_same, get_or-set_other, append-nil
 use Rattle.std.proofs.lemmas.List.Elements.{recursion_from_All, All-from_recursion}
 use Rattle.tsp_format.specs.Nodes.{IsNode}
 use Rattle.tsp_format.specs.Limits.{most_multiplier}
-use Rattle.tsp_theory.specs.CertificateNumbers.{IsFromTo, IsMultiplier}
+use Rattle.tsp_format.specs.Ranges.{IsFromTo}
+use Rattle.tsp_theory.specs.CertificateNumbers.{IsMultiplier}
 use Rattle.tsp_theory.specs.Adjusted.{pair_of, is_same_pair, number_on, numbers_on, AreOnPairs}
 use Rattle.tsp_bound.specs.states.ByNode.{said_of, all_said_of, IsTable, lowered_by, AreLowerings}
 

@@ -6,7 +6,8 @@ ghost use Rattle.std.specs.Bool.{OnTrue};
 ghost use Rattle.tsp_distance.specs.declared.decimal.Point.{Point};
 ghost use Rattle.tsp_format.specs.Nodes.{IsNode};
 ghost use Rattle.tsp_theory.specs.Regions.{IsIn, IsSite};
-ghost use Rattle.tsp_theory.specs.CertificateNumbers.{IsFromTo, IsScale, most_number};
+ghost use Rattle.tsp_format.specs.Ranges.{IsFromTo};
+ghost use Rattle.tsp_theory.specs.CertificateNumbers.{IsScale, most_number};
 ghost use Rattle.tsp_bound.specs.states.NodeNumbers.{node_in};
 ghost use Rattle.tsp_bound.specs.states.NumberedSites.{IsNumberedSite};
 

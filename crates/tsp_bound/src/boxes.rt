@@ -4,7 +4,8 @@
 
 ghost use Rattle.std.specs.Prelude.{◌≡◌, ◌<◌, ◌*◌, ℕ, true, length, IfOk, ◌⊎◌, ◌≤◌, ◌+◌, ◌≤ℤ◌, ℤ, List, Bool, None, Some, pos, neg_ℤ, ◌^◌, IfSome};
 ghost use Rattle.tsp_distance.specs.declared.decimal.Point.{Point};
-ghost use Rattle.tsp_theory.specs.CertificateNumbers.{IsFromTo, most_number};
+ghost use Rattle.tsp_format.specs.Ranges.{IsFromTo};
+ghost use Rattle.tsp_theory.specs.CertificateNumbers.{most_number};
 ghost use Rattle.tsp_bound.specs.states.Boxes.{HoldsNode, AreHeld, AreHeld-prop, area_at, node_of, IsRefit};
 ghost use Rattle.tsp_bound.specs.states.Components.{AreTags, is_in_other_component, label_at, seen_area, IsTagOf};
 ghost use Rattle.tsp_bound.specs.states.NumberedSites.{AreNumberedSites, IsNumberedSite};

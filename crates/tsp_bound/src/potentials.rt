@@ -6,7 +6,8 @@ ghost use Rattle.std.specs.Prelude.{◌↔◌, IsTrue, ◌≡◌, ◌≤◌, ◌
 ghost use Rattle.tsp_format.specs.Limits.{most_nodes, most_potential, most_triples, most_multiplier, most_scale, most_weight};
 ghost use Rattle.tsp_format.specs.Nodes.{IsNode};
 ghost use Rattle.tsp_theory.specs.Adjusted.{triples_total};
-ghost use Rattle.tsp_theory.specs.CertificateNumbers.{AreNodePotentials, IsMultiplier, AreMultipliers, IsFromTo, IsScale, ArePotentials, total, IsLeastBound, IsBoundSized};
+ghost use Rattle.tsp_theory.specs.CertificateNumbers.{AreNodePotentials, IsMultiplier, AreMultipliers, IsScale, ArePotentials, total, IsLeastBound, IsBoundSized};
+ghost use Rattle.tsp_format.specs.Ranges.{IsFromTo};
 
 use tsp_format::{MOST_MULTIPLIER, MOST_MULTIPLIERS, MOST_POTENTIAL, MOST_SCALE};
 use tsp_theory::Costs;
@@ -22,7 +23,8 @@ pub struct Potentials<'a> {
 impl<'a> Potentials<'a> {
     ghost use Rattle.std.specs.Prelude.{◌≡◌, length, pos, neg_ℤ, MatchOption};
     ghost use Rattle.tsp_format.specs.Nodes.{IsNode};
-    ghost use Rattle.tsp_theory.specs.CertificateNumbers.{IsFromTo, entry};
+    ghost use Rattle.tsp_format.specs.Ranges.{IsFromTo};
+    ghost use Rattle.tsp_theory.specs.CertificateNumbers.{entry};
     ghost use Rattle.tsp_bound.specs.states.Potentials.{scale_of, numbers_of, weight_under};
     ghost use Rattle.tsp_theory.specs.NodeBound.{most_between};
 

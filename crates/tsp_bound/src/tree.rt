@@ -5,7 +5,7 @@ ghost use Rattle.std.specs.Int.{w64, int_wrap};
 ghost use Rattle.std.specs.Prelude.{◌≡◌, ◌≤◌, ◌+◌, ◌*◌, ◌^◌, ℕ, length, pos, neg_ℤ, IfOk, ◌<◌, slice_index, MatchOption, ◌<ℤ◌, ◌-◌, ℤ, ◌≢◌, ◌+ℤ◌};
 ghost use Rattle.tsp_format.specs.Limits.{most_nodes};
 ghost use Rattle.tsp_format.specs.Nodes.{IsNode};
-ghost use Rattle.tsp_theory.specs.CertificateNumbers.{IsFromTo};
+ghost use Rattle.tsp_format.specs.Ranges.{IsFromTo};
 ghost use Rattle.tsp_theory.specs.Forest.{IsWholeForest};
 ghost use Rattle.tsp_theory.specs.Growth.{IsWholeGrowth, AreNearest};
 ghost use Rattle.tsp_theory.specs.Tree.{weight_of};

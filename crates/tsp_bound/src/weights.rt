@@ -6,7 +6,7 @@ ghost use Rattle.std.specs.List.{All};
 ghost use Rattle.tsp_format.specs.Nodes.{IsNode};
 ghost use Rattle.tsp_format.specs.Limits.{most_multiplier};
 ghost use Rattle.tsp_theory.specs.NodeBound.{most_between};
-ghost use Rattle.tsp_theory.specs.CertificateNumbers.{IsFromTo};
+ghost use Rattle.tsp_format.specs.Ranges.{IsFromTo};
 ghost use Rattle.tsp_theory.specs.states.Nearest.{least_at};
 ghost use Rattle.tsp_bound.specs.states.Additions.{IsMoved};
 ghost use Rattle.tsp_bound.specs.states.ByNode.{lowered_by};

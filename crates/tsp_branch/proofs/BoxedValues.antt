@@ -8,7 +8,8 @@ use Rattle.std.proofs.Math.ListN.{get_or-map}
 use Rattle.std.proofs.lemmas.Bool.{cases_eq, eq-eqb, ne_eqb}
 use Rattle.std.proofs.lemmas.Int.{ints, int_wrap_fits, int_wrap-add_same}
 use Rattle.std.proofs.lemmas.List.{reverse-append}
-use Rattle.tsp_theory.specs.CertificateNumbers.{IsFromTo, entry}
+use Rattle.tsp_format.specs.Ranges.{IsFromTo}
+use Rattle.tsp_theory.specs.CertificateNumbers.{entry}
 use Rattle.tsp_theory.specs.NodeBound.{weight_between, most_between}
 use Rattle.tsp_bound.specs.states.NodeNumbers.{node_in}
 use Rattle.tsp_cases.specs.GoodNumbers.{most_crossed}

@@ -13,8 +13,9 @@ use Rattle.tsp_format.specs.declared.steps.TreeStep.{TreeStep}
 use Rattle.tsp_format.specs.Steps as listed
 use Rattle.tsp_format.specs.states.TreeSteps.{steps_of}
 use Rattle.tsp_format.specs.Steps.{are_whole}
-use Rattle.tsp_theory.specs.Costs.{IsSymmetric}
-use Rattle.tsp_theory.specs.CertificateNumbers.{IsFromTo, IsScale}
+use Rattle.tsp_format.specs.Symmetry.{IsSymmetric}
+use Rattle.tsp_format.specs.Ranges.{IsFromTo}
+use Rattle.tsp_theory.specs.CertificateNumbers.{IsScale}
 use Rattle.tsp_cases.specs.declared.family.Crossings.{Crossings}
 use Rattle.tsp_cases.specs.declared.judged.JudgedLeaves.{JudgedLeaves}
 use Rattle.tsp_cases.specs.declared.judged.JudgedLeaves.TheVariants as judged

@@ -9,7 +9,8 @@ use Rattle.std.proofs.lemmas.Int.{ints}
 use Rattle.tsp_format.specs.Nodes.{nodes_to}
 use Rattle.tsp_format.specs.Limits.{most_nodes}
 use Rattle.tsp_theory.specs.Length.{sum_int_by}
-use Rattle.tsp_theory.specs.CertificateNumbers.{IsFromTo, IsSumSized}
+use Rattle.tsp_format.specs.Ranges.{IsFromTo}
+use Rattle.tsp_theory.specs.CertificateNumbers.{IsSumSized}
 use Rattle.tsp_cases.specs.declared.open_case.Decision.{Decision}
 use Rattle.tsp_cases.specs.Rows.{IsLeastFrom, IsSumOfLeast}
 

@@ -6,7 +6,8 @@ ghost use Rattle.std.specs.List.{All, filter};
 ghost use Rattle.std.specs.Prelude.{◌≡◌, ◌+◌, ◌<◌, ◌^◌, length, pos, neg_ℤ, ◌-ℤ◌, ◌*ℤ◌, ℕ, ◌≤◌, List, true, ◌⊎◌, ℤ, ◌≤ℤ◌, ◌≢◌};
 ghost use Rattle.tsp_format.specs.Nodes.{IsNode};
 ghost use Rattle.tsp_theory.specs.Adjusted.{triples_total};
-ghost use Rattle.tsp_theory.specs.CertificateNumbers.{IsFromTo, total, IsScale};
+ghost use Rattle.tsp_format.specs.Ranges.{IsFromTo};
+ghost use Rattle.tsp_theory.specs.CertificateNumbers.{total, IsScale};
 ghost use Rattle.tsp_theory.specs.states.Nearest.{least_at};
 ghost use Rattle.tsp_cases.specs.CaseTrees.{multiplied};
 ghost use Rattle.tsp_cases.specs.Decisions.{DecideOnce, on_taken, decided_number};
@@ -19,7 +20,7 @@ ghost use Rattle.tsp_cases.specs.states.Decided.{marks_in, IsOnPlaces, IsChanged
 ghost use Rattle.tsp_cases.specs.states.Kept.{AreMoved, AreRowsIfAny, kept_weight};
 ghost use Rattle.tsp_cases.specs.states.Lent.{lent_in, good_in};
 ghost use Rattle.tsp_cases.specs.states.OpenCases.{IsOpenCase, decisions_in, bears_on};
-ghost use Rattle.tsp_cases.specs.states.Sets.{IsMoved};
+ghost use Rattle.tsp_bound.specs.states.Additions.{IsMoved};
 ghost use Rattle.tsp_branch.specs.states.Closed.{no_link, IsOpenRow, IsShut};
 
 use crate::boxed::{bound_of_trees, rounded_up};

@@ -6,7 +6,8 @@
 //! only the sets that hold its node.
 
 ghost use Rattle.std.specs.Prelude.{◌≡◌, true, pos, neg_ℤ};
-ghost use Rattle.tsp_theory.specs.CertificateNumbers.{IsFromTo, most_number};
+ghost use Rattle.tsp_format.specs.Ranges.{IsFromTo};
+ghost use Rattle.tsp_theory.specs.CertificateNumbers.{most_number};
 
 use crate::boxed::are_few;
 use crate::case_leaf::{CaseLeaf, change_row};
@@ -31,10 +32,11 @@ fn is_number(number: i64) -> bool
 impl<C: Costs> CaseLeaf<'_, C> {
     ghost use Rattle.std.specs.Prelude.{◌≡◌, ◌<◌, ◌≤◌, ◌+◌, ◌+ℤ◌, ℕ, length, slice_index, pos, neg_ℤ};
     ghost use Rattle.tsp_format.specs.Nodes.{IsNode};
-    ghost use Rattle.tsp_theory.specs.CertificateNumbers.{IsFromTo, IsScale, ArePotentials};
+    ghost use Rattle.tsp_format.specs.Ranges.{IsFromTo};
+    ghost use Rattle.tsp_theory.specs.CertificateNumbers.{IsScale, ArePotentials};
     ghost use Rattle.tsp_theory.specs.states.Nearest.{least_at};
     ghost use Rattle.tsp_theory.specs.NodeBound.{weight_between, most_between};
-    ghost use Rattle.tsp_cases.specs.states.Sets.{IsMoved};
+    ghost use Rattle.tsp_bound.specs.states.Additions.{IsMoved};
     ghost use Rattle.tsp_cases.specs.states.Lent.{lent_in};
     ghost use Rattle.tsp_cases.specs.states.Combed.{AreSmallMultipliers, multipliers_at, AreFewCrossings, IsApart, most_combed, set_weight};
     ghost use Rattle.tsp_cases.specs.states.Decided.{most_decided};

@@ -4,7 +4,7 @@
 ghost use Rattle.std.specs.List.{All};
 ghost use Rattle.std.specs.Prelude.{IfOk, ◌≡◌, ◌≤◌, ◌<◌, ◌^◌, false, length, ◌+◌};
 ghost use Rattle.tsp_format.specs.states.TreeSteps.{steps_of};
-ghost use Rattle.tsp_theory.specs.Costs.{IsSymmetric};
+ghost use Rattle.tsp_format.specs.Symmetry.{IsSymmetric};
 ghost use Rattle.tsp_cases.specs.CaseTrees.{IsFoundAt};
 ghost use Rattle.tsp_cases.specs.Decisions.{DecideOnce, decided_number};
 ghost use Rattle.tsp_cases.specs.Families.{IsFamily};

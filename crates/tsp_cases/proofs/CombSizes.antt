@@ -8,7 +8,8 @@ use Rattle.std.proofs.Math.IntN.{*ℤ-zero}
 use Rattle.std.proofs.lemmas.Bool.{cases_Bool}
 use Rattle.std.proofs.lemmas.Int.{ints, fits_signed_from_abs}
 use Rattle.tsp_theory.specs.Length.{sum_int_by}
-use Rattle.tsp_theory.specs.CertificateNumbers.{IsFromTo, total}
+use Rattle.tsp_format.specs.Ranges.{IsFromTo}
+use Rattle.tsp_theory.specs.CertificateNumbers.{total}
 use Rattle.tsp_theory.specs.Tree.{crossing}
 use Rattle.tsp_theory.specs.NodeBound.{most_between}
 use Rattle.tsp_theory.proofs.Crossings.{one_if, none_or_one}

@@ -6,7 +6,8 @@ use Rattle.std.specs.Int.{w128}
 use Rattle.std.specs.List.{All, AllByRecursion}
 use Rattle.std.proofs.lemmas.Int.{ints, to_z-of_z, fits_signed_from_abs}
 use Rattle.std.proofs.lemmas.List.Elements.{recursion_from_All}
-use Rattle.tsp_theory.specs.CertificateNumbers.{IsFromTo, total}
+use Rattle.tsp_format.specs.Ranges.{IsFromTo}
+use Rattle.tsp_theory.specs.CertificateNumbers.{total}
 use Rattle.tsp_theory.proofs.Sizes.{size_of}
 use Rattle.tsp_cases.specs.declared.family.Crossings.{Crossings}
 use Rattle.tsp_cases.specs.GoodNumbers.{most_crossed}

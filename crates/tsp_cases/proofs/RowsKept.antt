@@ -10,13 +10,15 @@ use Rattle.std.proofs.lemmas.Bool.{cases_Bool, cases_lt}
 use Rattle.std.proofs.lemmas.Int.{ints, int_wrap-add_left, int_wrap-add_same, int_wrap_fits, SFits-int_wrap}
 use Rattle.std.proofs.lemmas.List.{length-append, get_or_append_left, get_or-replicate, get_or_past, length-replicate, get_or_push}
 use Rattle.tsp_theory.specs.NodeBound.{weight_between, most_between}
-use Rattle.tsp_theory.specs.CertificateNumbers.{IsFromTo, entry}
+use Rattle.tsp_format.specs.Ranges.{IsFromTo}
+use Rattle.tsp_theory.specs.CertificateNumbers.{entry}
 use Rattle.tsp_theory.specs.states.Nearest.{least_at}
 use Rattle.tsp_theory.specs.Length.{sum_int_by}
 use Rattle.tsp_cases.specs.GoodFamilies.{HasEachOnce}
 use Rattle.tsp_cases.specs.GoodNumbers.{most_crossed}
 use Rattle.tsp_cases.specs.declared.sets.SetPlace.{SetPlace}
-use Rattle.tsp_cases.specs.states.Sets.{IsMoved, added, places_with, IsSetTable}
+use Rattle.tsp_bound.specs.states.Additions.{IsMoved}
+use Rattle.tsp_cases.specs.states.Sets.{added, places_with, IsSetTable}
 use Rattle.tsp_cases.specs.states.Combed.{AreSmallMultipliers, summed_from, multipliers_at, set_in, twice_in, inside_both, set_crossings, most_combed, set_weight}
 use Rattle.tsp_cases.specs.states.Kept.{kept_weight, unmarked, IsKeptRow, AreRows, AreRowsIfAny, AreAdded, AreDifferences, AreEnds}
 use Rattle.tsp_cases.proofs.CombedRows.{added_none}

@@ -18,7 +18,7 @@ use Rattle.tsp_cases.specs.declared.sets.SetPlace.{SetPlace}
 use Rattle.tsp_cases.specs.states.Sets.{added, times, places_in, places_with}
 use Rattle.tsp_cases.specs.states.Places.{place_at, IsPlaceIn}
 use Rattle.tsp_cases.specs.states.Combed.{summed_from, set_crossings, multipliers_at, twice_in, inside_both}
-pub use Rattle.tsp_bound.proofs.Additions.{moved_to}
+
 
 -- a node that isn't in a list
 absent : (node : ℕ) (nodes : List ℕ) (x : ℕ) → node ≡ x → AllByRecursion (λ other. node ≢ other) nodes → has nodes x ≡ false

@@ -6,7 +6,7 @@ use Rattle.std.specs.Global.{Vec}
 use Rattle.std.proofs.Math.ListN.{set}
 use Rattle.std.proofs.lemmas.Bool.{cases_eq, eq-eqb, ne_eqb}
 use Rattle.std.proofs.lemmas.List.{append_assoc, get_or-set_same, get_or-set_other}
-pub use Rattle.tsp_bound.proofs.Additions.{moved_on, node_moved}
+
 use Rattle.tsp_cases.specs.FamilySets.{lists_of, families_in}
 use Rattle.tsp_cases.specs.declared.sets.SetPlace.{SetPlace}
 use Rattle.tsp_cases.specs.states.Sets.{added, times, places_in, places_with}

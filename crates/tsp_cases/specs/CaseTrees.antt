@@ -3,7 +3,7 @@
 -- src/laws.rt and `CaseLeaf` (src/case_leaf.rt of tsp_branch).
 use Rattle.std.specs.Prelude.{◌≡◌, ◌⊎◌, ℕ, ◌≤◌, Bool, true, false, List, [], ◌∷◌, length, Option, Some, None, ℤ, pos, ◌≤ℤ◌}
 use Rattle.std.specs.List.{All, Any}
-use Rattle.tsp_theory.specs.Costs.{IsSymmetric}
+use Rattle.tsp_format.specs.Symmetry.{IsSymmetric}
 use Rattle.tsp_theory.specs.Tour.{Problem, BoundsTours, HasNoTour}
 use Rattle.tsp_theory.specs.CertificateNumbers.{IsScale}
 use Rattle.tsp_cases.specs.Families.{Family, IsFamily}

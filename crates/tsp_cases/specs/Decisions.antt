@@ -2,7 +2,7 @@
 -- `OpenCase` of src/open_case.rt), and for the fixed edges of an instance (src/certificate.rt of tsp_verdict).
 use Rattle.std.specs.Prelude.{ℕ, ◌≤◌, ◌≡◌, ◌==◌, ◌&&◌, Bool, true, false, if◌then◌else◌, List, [], ◌∷◌, length, map, ℤ, pos, ◌≤ℤ◌}
 use Rattle.std.specs.List.{All, AllPairs}
-use Rattle.tsp_theory.specs.Costs.{IsSymmetric}
+use Rattle.tsp_format.specs.Symmetry.{IsSymmetric}
 use Rattle.tsp_theory.specs.Cycle.{IsCycle, Uses}
 use Rattle.tsp_theory.specs.Length.{length_of}
 use Rattle.tsp_theory.specs.Tour.{Problem, BoundsTours}

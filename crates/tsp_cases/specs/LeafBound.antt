@@ -3,7 +3,7 @@
 -- families is in Adjusted.antt of tsp_theory.
 use Rattle.std.specs.Prelude.{◌≡◌, ℕ, ◌≤◌, List, [], length, ℤ, pos, ◌+ℤ◌, ◌-ℤ◌, ◌*ℤ◌, ◌≤ℤ◌}
 use Rattle.std.specs.List.{All}
-use Rattle.tsp_theory.specs.Costs.{IsSymmetric}
+use Rattle.tsp_format.specs.Symmetry.{IsSymmetric}
 use Rattle.tsp_theory.specs.Cycle.{IsCycle}
 use Rattle.tsp_theory.specs.Length.{sum_int_by, length_of}
 use Rattle.tsp_theory.specs.CertificateNumbers.{IsScale, total, IsLeastBound}

@@ -6,14 +6,16 @@ ghost use Rattle.std.specs.List.{All};
 ghost use Rattle.std.specs.Prelude.{◌<◌, ◌-◌, ◌^◌, ℕ, [], length, IfOk, ◌≡◌, ◌+◌, ◌+ℤ◌, ◌≤◌, pos, neg_ℤ, ◌*ℤ◌};
 ghost use Rattle.tsp_format.specs.Limits.{most_weight};
 ghost use Rattle.tsp_format.specs.Nodes.{IsNode};
-ghost use Rattle.tsp_theory.specs.CertificateNumbers.{IsFromTo, IsScale, entry};
+ghost use Rattle.tsp_format.specs.Ranges.{IsFromTo};
+ghost use Rattle.tsp_theory.specs.CertificateNumbers.{IsScale, entry};
 ghost use Rattle.tsp_theory.specs.Length.{sum_int_by};
 ghost use Rattle.tsp_theory.specs.states.Nearest.{least_at};
 ghost use Rattle.tsp_cases.specs.FamilySets.{lists_of};
 ghost use Rattle.tsp_cases.specs.states.Combed.{inside_both, multipliers_at};
 ghost use Rattle.tsp_cases.specs.states.Lent.{lent_in};
 ghost use Rattle.tsp_cases.specs.states.Places.{IsPlaceIn};
-ghost use Rattle.tsp_cases.specs.states.Sets.{IsMoved, added, times, places_in, AreLengthened, IsSetTable};
+ghost use Rattle.tsp_bound.specs.states.Additions.{IsMoved};
+ghost use Rattle.tsp_cases.specs.states.Sets.{added, times, places_in, AreLengthened, IsSetTable};
 
 use crate::families::Families;
 use crate::multipliers::MultipliedFamilies;

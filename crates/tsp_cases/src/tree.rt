@@ -6,7 +6,7 @@ ghost use Rattle.std.specs.Prelude.{IfOk, ◌≡◌, ◌≤◌, ◌<◌, ◌^◌
 ghost use Rattle.tsp_format.specs.Steps.{are_whole};
 ghost use Rattle.tsp_format.specs.states.TreeSteps.{steps_of};
 ghost use Rattle.tsp_theory.specs.CertificateNumbers.{IsScale};
-ghost use Rattle.tsp_theory.specs.Costs.{IsSymmetric};
+ghost use Rattle.tsp_format.specs.Symmetry.{IsSymmetric};
 ghost use Rattle.tsp_cases.specs.BadBranches.{AreBranchesWithin};
 ghost use Rattle.tsp_cases.specs.Decisions.{DecideOnce};
 ghost use Rattle.tsp_cases.specs.FamilySets.{AreFamiliesOf};

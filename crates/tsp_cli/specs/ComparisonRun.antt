@@ -5,8 +5,8 @@ use Rattle.std.specs.String.{string_bytes}
 use Rattle.std.specs.declared.io.Error.{Error}
 use Rattle.clap.specs.Words.{Text}
 use Rattle.tsp_judge.specs.declared.Watched.{Watched}
-use Rattle.tsp_judge.specs.Watched.{watched, has_failed}
-use Rattle.tsp_judge.specs.Sink.{Sink}
+use Rattle.tsp_io.specs.states.Watched.{watched, has_failed}
+use Rattle.tsp_io.specs.Sink.{Sink}
 use Rattle.tsp_judge.specs.declared.compared.Compared.{Compared}
 use Rattle.tsp_judge.specs.declared.ends.RunFault.{RunFault}
 use Rattle.tsp_cli.specs.declared.job.InputPath.{InputPath}

@@ -9,7 +9,7 @@ use Rattle.clap.specs.Words.{Text, kind_of}
 use Rattle.clap.specs.declared.error.Error.{Error as Refusal}
 use Rattle.clap.specs.declared.error.kind.ErrorKind.TheVariants as kinds
 use Rattle.tsp_judge.specs.declared.Watched.{Watched}
-use Rattle.tsp_judge.specs.Sink.{Sink, IsUnwritten}
+use Rattle.tsp_io.specs.Sink.{Sink, IsUnwritten}
 use Rattle.tsp_cli.specs.declared.ends.RunEnd.{RunEnd}
 use Rattle.tsp_cli.specs.declared.ends.RunEnd.TheVariants.{NoJob, Printed, NoTask, Ended}
 use Rattle.tsp_cli.specs.declared.ends.RunEnd.TheVariants as run_ends

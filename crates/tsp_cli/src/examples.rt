@@ -8,7 +8,7 @@ ghost use Rattle.tsp_report.specs.declared.task.FileTask.TheVariants as file_tas
 ghost use Rattle.tsp_report.specs.declared.task.Task.TheVariants as tasks;
 ghost use Rattle.tsp_judge.specs.Outcomes.{is_yes_outcome};
 ghost use Rattle.tsp_judge.specs.Status.{status_of, status_of_fault};
-ghost use Rattle.tsp_judge.specs.Watched.{watched};
+ghost use Rattle.tsp_io.specs.states.Watched.{watched};
 ghost use Rattle.tsp_judge.specs.declared.Certificate.{Certificate};
 ghost use Rattle.tsp_judge.specs.declared.EndFault.TheVariants as end_faults;
 ghost use Rattle.tsp_judge.specs.declared.LineFault.TheVariants as line_faults;

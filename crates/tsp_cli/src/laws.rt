@@ -3,7 +3,7 @@
 
 ghost use Rattle.std.specs.Prelude.{◌≡◌, ℕ, Bool, List, true, false, Option, Some, Ok, drop, Result};
 ghost use Rattle.clap.specs.Words.{Text};
-ghost use Rattle.tsp_judge.specs.Sink.{Sink};
+ghost use Rattle.tsp_io.specs.Sink.{Sink};
 ghost use Rattle.tsp_judge.specs.RunFaultText.{run_fault_text};
 ghost use Rattle.tsp_judge.specs.declared.ends.RunFault.{RunFault};
 ghost use Rattle.tsp_judge.specs.declared.compared.Compared.{Compared};

@@ -5,7 +5,7 @@ ghost use Rattle.std.specs.Io.KnownBytes.{Appends, Keeps};
 ghost use Rattle.std.specs.IoError.{error_kind};
 ghost use Rattle.std.specs.Prelude.{◌≡◌, ◌||◌, IfOk, OnOk, drop, map, ◌≤◌, ◌<◌, true, false, length};
 ghost use Rattle.std.specs.String.{string_bytes};
-ghost use Rattle.tsp_judge.specs.Watched.{sink_of};
+ghost use Rattle.tsp_io.specs.states.Watched.{sink_of};
 ghost use Rattle.tsp_cli.specs.ComparisonRun.{IsComparedAs, AreOpened, IsFresh};
 ghost use Rattle.tsp_cli.specs.Printing.{Prints, PrintsSome, version_text};
 ghost use Rattle.tsp_cli.specs.ProgramRun.{EndsProgram, EndsRefused, EndsWith, HasNoWords, IsDoneAs, Runs, RunsComparison, RunsJob, RunsFileTask, begins_with_help, AreFresh};

@@ -7,7 +7,7 @@ ghost use Rattle.tsp_format.specs.Nodes.{IsNode};
 ghost use Rattle.tsp_file.specs.Cost.{cost};
 ghost use Rattle.tsp_file.specs.Fields.{nodes_of};
 ghost use Rattle.tsp_file.specs.Rules.{is_instance};
-ghost use Rattle.tsp_theory.specs.Costs.{IsSymmetric, IsFirstAsymmetric, FindsAsymmetric};
+ghost use Rattle.tsp_format.specs.Symmetry.{IsSymmetric, IsFirstAsymmetric, FindsAsymmetric};
 ghost use Rattle.tsp_cost.specs.states.Sources.{HasFound};
 ghost use Rattle.tsp_cost.specs.states.Views.{ShowsEven};
 

@@ -29,7 +29,8 @@ use Rattle.tsp_format.specs.Steps.{Step, Branch, Leaf, are_whole, branch_count, 
 use Rattle.tsp_file.specs.Fields.{Fields, spatial}
 use Rattle.tsp_file.specs.Validity.{if_there, is_from_to, is_within, is_node, with_dimension, is_by_node, is_third, is_point, is_demand, section_fits, are_depots, is_pair_of, are_fixed, is_triple_of, are_triples, fit_matrix, is_node_list, are_tours, is_set_of, are_sets, are_combs, is_change, is_branch_of, is_step, are_tree_steps, fits, first_failing, bad_field}
 use Rattle.tsp_file.specs.Rules.{standing_of, count_of, is_instance, is_routing, is_tour_file, is_potentials_file, is_branches_file, is_explicit, is_function, has_explicit_weights, is_there, asked_in_order, has_wrong_format, is_count, has_wrong_count, has_row_or_column, has_node_or_multiplier, end_fault, format_or_count, fault_of}
-use Rattle.tsp_file.specs.Valid.{IsFromTo, IsWithin, IsByNode, IsThird, IsPoint, IsDemand, IsPairOf, IsNodeList, AreDepots, AreFixed, IsTripleOf, AreTriples, AreWeights, AreTours, IsInRange, HasInstance, HasRouting, HasPotentials, IsSetOf, AreSets, AreCombs, IsChange, IsBranchOf, IsStep, AreTreeSteps, HasBranches}
+use Rattle.tsp_format.specs.Ranges.{IsFromTo}
+use Rattle.tsp_file.specs.Valid.{IsWithin, IsByNode, IsThird, IsPoint, IsDemand, IsPairOf, IsNodeList, AreDepots, AreFixed, IsTripleOf, AreTriples, AreWeights, AreTours, IsInRange, HasInstance, HasRouting, HasPotentials, IsSetOf, AreSets, AreCombs, IsChange, IsBranchOf, IsStep, AreTreeSteps, HasBranches}
 
 -- ---- tests that hold
 

@@ -7,7 +7,8 @@ use Rattle.tsp_format.specs.Limits.{most_capacity, most_scale, most_load_unit, m
 use Rattle.tsp_format.specs.Steps.{Step}
 use Rattle.tsp_file.specs.Fields.{Fields, nodes_of}
 use Rattle.tsp_file.specs.Rules.{is_instance}
-use Rattle.tsp_file.specs.Valid.{IsInRange, HasInstance, HasRouting, HasPotentials, HasBranches, IsFromTo, IsWithin, IsByNode, IsDemand, IsTripleOf, AreDepots, AreSets, AreTreeSteps}
+use Rattle.tsp_file.specs.Valid.{IsInRange, HasInstance, HasRouting, HasPotentials, HasBranches, IsWithin, IsByNode, IsDemand, IsTripleOf, AreDepots, AreSets, AreTreeSteps}
+use Rattle.tsp_format.specs.Ranges.{IsFromTo}
 use Rattle.tsp_file.specs.Defaults.{scale_in, load_unit_in, multipliers_in, families_listed}
 
 -- a valid file has the fields that its TYPE asks for, each in its range

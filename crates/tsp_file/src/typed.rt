@@ -67,7 +67,8 @@ impl File {
     ghost use Rattle.tsp_format.specs.Limits.{most_scale, most_load_unit};
     ghost use Rattle.tsp_format.specs.states.TreeSteps.{steps_of};
     ghost use Rattle.tsp_file.specs.states.Drafts.{combs_of};
-    ghost use Rattle.tsp_file.specs.Valid.{IsFromTo, AreTours};
+    ghost use Rattle.tsp_format.specs.Ranges.{IsFromTo};
+    ghost use Rattle.tsp_file.specs.Valid.{AreTours};
     ghost use Rattle.tsp_file.specs.ListedWeights.{ListsWeights};
     ghost use Rattle.tsp_file.specs.Relayout.{HasListedWeights};
     ghost use Rattle.tsp_file.specs.Fields.{nodes_of};

@@ -21,7 +21,7 @@ use Rattle.tsp_report.specs.Verdicts.{is_yes}
 use Rattle.tsp_verdict.specs.Basis.{IsBasisAlone, IsBasisBy, IsBasis}
 use Rattle.tsp_verdict.specs.Bounded.{StandsAgainstTouring, StandsAgainstRouting, StandsAgainstInstanceBy, StandsAgainstBounded, IsBoundVerdict}
 use Rattle.tsp_verdict.specs.Certified.{StandsAgainstCertificate, HasNoSolutionBy, IsCertifiedTourVerdict, IsCertifiedRoutesVerdict, IsCertifiedVerdictBy, IsCertifiedVerdict}
-use Rattle.tsp_verdict.specs.Plan.{HasNoPlan}
+use Rattle.tsp_routing.specs.PlanLinks.{HasNoPlan}
 use Rattle.tsp_verdict.specs.Solution.{tours_of}
 use Rattle.tsp_verdict.specs.SolutionVerdict.{IsVerdictBy, IsVerdictWith}
 use Rattle.tsp_verdict.specs.Reasons.{IsFirstReason}

@@ -27,7 +27,8 @@ use Rattle.tsp_verdict.specs.SolutionVerdict.{is_judged, IsVerdictBy, IsUnclaime
 use Rattle.tsp_verdict.specs.Strict.{refuses, is_unjudged, strict_verdict}
 use Rattle.tsp_verdict.specs.Routes.{StandsAgainstRoutes, IsPlanned, IsRoutesVerdict}
 use Rattle.tsp_verdict.specs.Tours.{IsTourVerdict}
-use Rattle.tsp_verdict.specs.Plan.{plan_length, depot_of}
+use Rattle.tsp_theory.specs.Routing.{plan_length}
+use Rattle.tsp_cost.specs.ComputedProblems.{depot_of}
 use Rattle.tsp_report.specs.Report.{report_of}
 use Rattle.tsp_judge.specs.declared.ends.RunFault.{RunFault}
 use Rattle.tsp_judge.specs.declared.check.Judged.{Judged}

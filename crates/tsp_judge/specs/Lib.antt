@@ -1,11 +1,4 @@
 -- The files of definitions of this crate. Crates above may import them.
-pub use Rattle.tsp_read.specs.Reads
-pub use Rattle.tsp_read.specs.Asked
-pub use Rattle.tsp_io.specs.Sink
-pub use Rattle.tsp_io.specs.Turn
-pub use Rattle.tsp_io.specs.states.Watched
-pub use Rattle.tsp_format.specs.Layout
-pub use Rattle.tsp_report.specs.Verdicts
 pub mod Accepted
 pub mod BoundRun
 pub mod CompareRun

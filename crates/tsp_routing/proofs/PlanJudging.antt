@@ -11,7 +11,8 @@ use Rattle.tsp_format.specs.Nodes.{IsNode}
 use Rattle.tsp_format.specs.Ranges as Ranges
 use Rattle.tsp_format.specs.Steps as listed
 use Rattle.tsp_format.specs.Steps.{are_whole}
-use Rattle.tsp_theory.specs.CertificateNumbers.{IsFromTo, IsScale}
+use Rattle.tsp_format.specs.Ranges.{IsFromTo}
+use Rattle.tsp_theory.specs.CertificateNumbers.{IsScale}
 use Rattle.tsp_theory.specs.Routing.{RoutingProblem, demand_of}
 use Rattle.tsp_cases.specs.declared.family.Crossings.{Crossings}
 use Rattle.tsp_cases.specs.BadBranches.{BeginsWithin, branch_pairs}

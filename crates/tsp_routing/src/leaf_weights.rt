@@ -3,9 +3,11 @@
 
 ghost use Rattle.std.specs.Prelude.{◌≡◌, ◌≤◌, ◌+◌, ◌+ℤ◌, ℕ, length, pos, neg_ℤ};
 ghost use Rattle.tsp_format.specs.Nodes.{IsNode};
-ghost use Rattle.tsp_theory.specs.CertificateNumbers.{IsFromTo, IsScale, ArePotentials};
+ghost use Rattle.tsp_format.specs.Ranges.{IsFromTo};
+ghost use Rattle.tsp_theory.specs.CertificateNumbers.{IsScale, ArePotentials};
 ghost use Rattle.tsp_theory.specs.states.Nearest.{least_at};
-ghost use Rattle.tsp_cases.specs.states.Sets.{IsMoved, IsSetTable};
+ghost use Rattle.tsp_bound.specs.states.Additions.{IsMoved};
+ghost use Rattle.tsp_cases.specs.states.Sets.{IsSetTable};
 ghost use Rattle.tsp_cases.specs.states.Lent.{lent_in};
 ghost use Rattle.tsp_cases.specs.states.Combed.{AreSmallDifferences};
 ghost use Rattle.tsp_cases.specs.states.Kept.{AreMoved};
@@ -45,10 +47,10 @@ pub(crate) struct LeafWeights<'a, C: Costs> {
 impl<'a, C: Costs> LeafWeights<'a, C> {
     ghost use Rattle.std.specs.Prelude.{◌≡◌, ◌+◌, ◌+ℤ◌, ℕ, length, pos, neg_ℤ};
     ghost use Rattle.tsp_format.specs.Nodes.{IsNode};
-    ghost use Rattle.tsp_theory.specs.CertificateNumbers.{IsFromTo};
+    ghost use Rattle.tsp_format.specs.Ranges.{IsFromTo};
     ghost use Rattle.tsp_theory.specs.NodeBound.{weight_between, most_between};
     ghost use Rattle.tsp_theory.specs.states.Nearest.{least_at};
-    ghost use Rattle.tsp_cases.specs.states.Sets.{IsMoved};
+    ghost use Rattle.tsp_bound.specs.states.Additions.{IsMoved};
     ghost use Rattle.tsp_cases.specs.states.Lent.{lent_in};
     ghost use Rattle.tsp_cases.specs.states.Combed.{multipliers_at, set_weight};
     ghost use Rattle.tsp_routing.specs.Weights.{most_link};

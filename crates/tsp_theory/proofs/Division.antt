@@ -6,7 +6,8 @@ use Rattle.std.specs.Int.{int_div_euclid, int_rem_euclid, w64, w128}
 use Rattle.std.proofs.lemmas.Int.{ints, by_lt_z}
 use Rattle.std.proofs.Math.IntN.{suc_ℤ-*ℤ, zero-*ℤ, *ℤ-zero, pos-*ℤ-pos, pos-*ℤ-negsuc}
 use Rattle.std.proofs.Math.Nat.{mul-suc, div-le_self}
-use Rattle.tsp_theory.specs.CertificateNumbers.{IsFromTo, IsScale, IsLeastBound, IsBoundSized}
+use Rattle.tsp_format.specs.Ranges.{IsFromTo}
+use Rattle.tsp_theory.specs.CertificateNumbers.{IsScale, IsLeastBound, IsBoundSized}
 
 -- ---- products
 

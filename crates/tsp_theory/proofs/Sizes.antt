@@ -6,7 +6,8 @@ use Rattle.std.specs.Prelude.{ℤ, pos, negsuc, neg_ℤ, ◌+ℤ◌, ◌*ℤ◌,
 use Rattle.std.proofs.lemmas.Int.{ints, unsigned_abs-mul, fits_signed_mul, to_z-of_z}
 use Rattle.std.proofs.Math.Nat.{mul-le-mul}
 use Rattle.tsp_format.specs.Limits.{most_nodes, most_scale, most_weight, most_potential}
-use Rattle.tsp_theory.specs.CertificateNumbers.{IsFromTo, IsScale, IsLeastBound}
+use Rattle.tsp_format.specs.Ranges.{IsFromTo}
+use Rattle.tsp_theory.specs.CertificateNumbers.{IsScale, IsLeastBound}
 
 -- ---- sizes
 

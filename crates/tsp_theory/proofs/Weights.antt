@@ -6,8 +6,9 @@ use Rattle.std.specs.Prelude.{ℤ, pos, neg_ℤ, ◌+ℤ◌, ◌-ℤ◌, ◌*ℤ
 use Rattle.std.proofs.lemmas.Bool.{cases_eq}
 use Rattle.std.proofs.lemmas.Int.{ints, to_z-of_z, fits_signed_from_abs}
 use Rattle.tsp_format.specs.Limits.{most_nodes, most_scale, most_weight, most_potential, most_triples, most_multiplier}
-use Rattle.tsp_theory.specs.Costs.{IsSymmetric}
-use Rattle.tsp_theory.specs.CertificateNumbers.{IsFromTo, IsScale, IsLeastBound, entry}
+use Rattle.tsp_format.specs.Symmetry.{IsSymmetric}
+use Rattle.tsp_format.specs.Ranges.{IsFromTo}
+use Rattle.tsp_theory.specs.CertificateNumbers.{IsScale, IsLeastBound, entry}
 use Rattle.tsp_theory.specs.Tree.{weight_of}
 use Rattle.tsp_theory.specs.NodeBound.{weight_between, most_between}
 use Rattle.tsp_theory.specs.Growth.{tree_of}

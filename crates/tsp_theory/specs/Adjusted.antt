@@ -5,7 +5,7 @@
 use Rattle.std.specs.Prelude.{◌≡◌, ℕ, ◌≤◌, ◌==◌, ◌&&◌, ◌||◌, Bool, false, if◌then◌else◌, List, [], length, ℤ, pos, ◌+ℤ◌, ◌-ℤ◌, ◌*ℤ◌, ◌≤ℤ◌}
 use Rattle.std.specs.List.{All, AllPairs}
 use Rattle.tsp_format.specs.Nodes.{IsNode}
-use Rattle.tsp_theory.specs.Costs.{IsSymmetric}
+use Rattle.tsp_format.specs.Symmetry.{IsSymmetric}
 use Rattle.tsp_theory.specs.Cycle.{IsCycle, AreNeighbours}
 use Rattle.tsp_theory.specs.Length.{sum_int_by, length_of}
 use Rattle.tsp_theory.specs.CertificateNumbers.{IsScale, total, IsLeastBound}

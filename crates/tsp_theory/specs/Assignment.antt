@@ -4,7 +4,7 @@
 -- 1955; a cycle assigns to each node the next one.
 use Rattle.std.specs.Prelude.{◌≡◌, ◌≢◌, ℕ, ◌≤◌, List, length, ℤ, ◌+ℤ◌, ◌*ℤ◌, ◌≤ℤ◌, ◌<ℤ◌}
 use Rattle.tsp_format.specs.Nodes.{IsNode}
-use Rattle.tsp_theory.specs.Costs.{IsBefore}
+use Rattle.tsp_format.specs.Symmetry.{IsBefore}
 use Rattle.tsp_theory.specs.Cycle.{IsCycle}
 use Rattle.tsp_theory.specs.Length.{length_of}
 use Rattle.tsp_theory.specs.CertificateNumbers.{IsScale, entry, total, IsLeastBound}

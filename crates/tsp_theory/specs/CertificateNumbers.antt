@@ -2,7 +2,7 @@
 -- `Duals` and `Multipliers` of tsp_bound, and for the bounds of tsp_cases, tsp_branch and tsp_routing.
 use Rattle.std.specs.Prelude.{◌≡◌, ◌≢◌, ℕ, ◌-◌, ◌^◌, ◌*◌, ◌≤◌, List, length, slice_index_or, ℤ, pos, neg_ℤ, ◌*ℤ◌, ◌≤ℤ◌}
 use Rattle.std.specs.List.{All}
-pub use Rattle.tsp_format.specs.Ranges.{IsFromTo}
+use Rattle.tsp_format.specs.Ranges.{IsFromTo}
 use Rattle.tsp_format.specs.Limits.{most_scale, most_potential, most_triples, most_multiplier}
 use Rattle.tsp_theory.specs.Length.{sum_int_by}
 

@@ -4,7 +4,7 @@
 use Rattle.std.specs.Prelude.{◌≡◌, ℕ, ℤ, List, slice_index_or, pos, neg_ℤ, ◌≤ℤ◌}
 use Rattle.tsp_format.specs.Nodes.{IsNode}
 use Rattle.tsp_format.specs.Limits.{most_weight}
-pub use Rattle.tsp_format.specs.Symmetry.{IsSymmetric, IsBefore, IsFirstAsymmetric, FindsAsymmetric}
+
 
 -- the entry is the cost, which is within the limit of weights
 pub record IsCostEntry (cost entry : ℤ) : Type 0 where

@@ -131,7 +131,7 @@ pub trait Costs {
 
 /// Costs that are symmetric between different nodes.
 pub trait Symmetric: Costs {
-    ghost use Rattle.tsp_theory.specs.Costs.{IsSymmetric};
+    ghost use Rattle.tsp_format.specs.Symmetry.{IsSymmetric};
 
     ghost even: { (costs : Self) → IsSymmetric (Self.at costs) };
 }

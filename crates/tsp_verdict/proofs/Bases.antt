@@ -20,8 +20,11 @@ use Rattle.tsp_verdict.specs.Basis.{IsBasisOfTours, IsBasisOfRoutes, IsBasisAlon
 use Rattle.tsp_verdict.specs.Bounded.{StandsAgainstTouring, NoneAgainstTouring, StandsAgainstInstance, StandsAgainstBounded}
 use Rattle.tsp_verdict.specs.Certified.{is_bounded, StandsAgainstCertificate, HasNoSolutionBy, HasNoSolution}
 use Rattle.tsp_verdict.specs.SolutionVerdict.{IsVerdictBy, IsVerdictOn, HasLength, HasNoLength, IsAsClaimed, IsOtherClaimed, IsVerdictWith}
-use Rattle.tsp_verdict.specs.Plan.{total_of, IsLeastRoutes, HasNoPlan}
-use Rattle.tsp_verdict.specs.Reasons.{rank_of, IsFirstReason}
+use Rattle.tsp_verdict.specs.Plan.{total_of}
+use Rattle.tsp_theory.specs.Routing.{IsLeastRoutes}
+use Rattle.tsp_routing.specs.PlanLinks.{HasNoPlan}
+use Rattle.tsp_report.specs.ReasonRows.{rank_of}
+use Rattle.tsp_verdict.specs.Reasons.{IsFirstReason}
 use Rattle.tsp_verdict.specs.Routes.{IsFirstAgainstRoutes, IsRoutesVerdict}
 use Rattle.tsp_verdict.specs.Solution.{tours_of}
 use Rattle.tsp_verdict.specs.Tours.{NoneOfTourBefore, IsFirstAgainstTour, IsTourVerdict}

@@ -10,7 +10,8 @@ use Rattle.tsp_report.specs.declared.verdict.Reason.{Reason}
 use Rattle.tsp_report.specs.declared.verdict.Reason.TheVariants.{TooFewNodes, NotSymmetric, DepotCount, DepotDemand, FixedEdgesInRoutes, LengthClaimed}
 use Rattle.tsp_verdict.specs.Bounded.{StandsAgainstTouring, StandsAgainstRouting, StandsAgainstInstance, NoneAgainstInstance, StandsAgainstBounded, IsBoundVerdict}
 use Rattle.tsp_verdict.specs.Certified.{StandsAgainstCertificate, FindsBound}
-use Rattle.tsp_verdict.specs.Reasons.{rank_of, IsFirstReason}
+use Rattle.tsp_report.specs.ReasonRows.{rank_of}
+use Rattle.tsp_verdict.specs.Reasons.{IsFirstReason}
 use Rattle.tsp_verdict.proofs.Certificates.{certificate_rank}
 use Rattle.tsp_verdict.proofs.ByType.{HasTours, instance_either, first_for_tours}
 

@@ -14,7 +14,8 @@ use Rattle.tsp_report.specs.declared.verdict.Reason.{Reason}
 use Rattle.tsp_report.specs.declared.verdict.Reason.TheVariants.{NotASolution, TooFewNodes, Dimension, NodeOutOfRange, RepeatedNode, NotPotentials, PotentialsDimension, PotentialsKind, MultiplierNotFixed, MultiplierRepeated, DualInfeasible, DepotCount, DepotDemand, FixedEdgesInRoutes, DepotInRoute, Unserved, Overload, NotBranches, BranchesDimension, BadComb, BadBranch, BranchTwice, BadLeaf, TooManyLoads, LengthClaimed, NotJudged}
 use Rattle.tsp_verdict.specs.Multiplied.{AreListed, IsUnlisted, IsPairRepeated, pair_at}
 use Rattle.tsp_verdict.specs.Places.{IsFirstPlace}
-use Rattle.tsp_verdict.specs.Reasons.{rank_of, NoneBefore, IsFirstReason}
+use Rattle.tsp_report.specs.ReasonRows.{rank_of}
+use Rattle.tsp_verdict.specs.Reasons.{NoneBefore, IsFirstReason}
 use Rattle.tsp_file.specs.Defaults.{fixed_of, scale_in, multipliers_in}
 use Rattle.tsp_verdict.specs.Tours.{StandsAgainstTour}
 use Rattle.tsp_file.specs.Cost.{cost}

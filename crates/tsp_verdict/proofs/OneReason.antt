@@ -8,7 +8,7 @@ use Rattle.std.proofs.lemmas.List.Elements.{recursion_from_All}
 use Rattle.tsp_format.specs.Steps as listed
 use Rattle.tsp_file.specs.Fields.{Fields, nodes_of}
 use Rattle.tsp_file.specs.Cost.{cost}
-use Rattle.tsp_theory.specs.Costs.{IsFirstAsymmetric}
+use Rattle.tsp_format.specs.Symmetry.{IsFirstAsymmetric}
 use Rattle.tsp_theory.specs.Assignment.{IsFirstBroken}
 use Rattle.tsp_cases.specs.declared.family.Crossings.{Crossings}
 use Rattle.tsp_cases.specs.BadBranches as pairs
@@ -29,7 +29,7 @@ use Rattle.tsp_verdict.specs.Bounded.{StandsAgainstTouring, StandsAgainstRouting
 use Rattle.tsp_verdict.specs.BranchesCertificate.{given_in, AreNumbersOf, StandsAgainstBranches, families_with_numbers}
 use Rattle.tsp_verdict.specs.Certified.{StandsAgainstCertificate, StandsAgainstCertified, StandsAgainstCertifiedRoutes}
 use Rattle.tsp_verdict.specs.PotentialsCertificate.{BreaksDuals, StandsAgainstPotentials}
-use Rattle.tsp_verdict.specs.Reasons.{rank_of}
+use Rattle.tsp_report.specs.ReasonRows.{rank_of}
 use Rattle.tsp_verdict.specs.Routes.{IsFirstUnserved, StandsAgainstRoutes}
 use Rattle.tsp_verdict.specs.Tours.{StandsAgainstTour}
 use Rattle.tsp_verdict.specs.WalksCertificate.{StandsAgainstWalks}

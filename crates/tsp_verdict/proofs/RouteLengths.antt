@@ -9,7 +9,7 @@ use Rattle.std.proofs.Math.IntN.{+ℤ_assoc, +ℤ_idr}
 use Rattle.tsp_format.specs.Limits.{most_weight}
 use Rattle.tsp_theory.specs.Cycle.{links_to}
 use Rattle.tsp_theory.specs.Length.{sum_int_by, length_of}
-use Rattle.tsp_verdict.specs.Plan.{plan_length}
+use Rattle.tsp_theory.specs.Routing.{plan_length}
 use Rattle.tsp_verdict.specs.states.Sums.{IsSumOf}
 
 -- the sum of the costs from a node along others to an end

@@ -12,7 +12,7 @@ use Rattle.std.proofs.Math.Nat.{div-mul-le_self, lt-div-mul-add, mul-le-mul_righ
 use Rattle.tsp_format.specs.Limits.{most_demand}
 use Rattle.tsp_file.specs.Valid.{IsDemand}
 use Rattle.tsp_theory.specs.Length.{sum_int_by}
-use Rattle.tsp_verdict.specs.Plan.{load_of, demand_of, IsLeastRoutes}
+use Rattle.tsp_theory.specs.Routing.{load_of, demand_of, IsLeastRoutes}
 
 -- a sum of this many demands is of this size
 pub record IsLoadOf (count : ℕ) (sum : ℤ) : Type 0 where

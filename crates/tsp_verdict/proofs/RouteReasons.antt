@@ -5,11 +5,12 @@ use Rattle.tsp_file.specs.Fields.{Fields, nodes_of}
 use Rattle.tsp_report.specs.declared.verdict.Reason.{Reason}
 use Rattle.tsp_report.specs.declared.verdict.Reason.TheVariants.{DepotCount, DepotDemand, FixedEdgesInRoutes, NotPotentials, PotentialsDimension, PotentialsKind, MultiplierNotFixed, MultiplierRepeated, DualInfeasible, NotSymmetric, TourCount, TourLength, NodeOutOfRange, RepeatedNode, FixedEdgeUnused, DepotInRoute, Unserved, Overload, NotBranches, BranchesDimension, BadComb, BadBranch, BranchTwice, BadLeaf, TooManyLoads, LengthClaimed, NotJudged}
 use Rattle.tsp_verdict.specs.Places.{IsFirstPlace, IsLarger, IsAt, IsAtEarlierPlace}
-use Rattle.tsp_verdict.specs.Plan.{depot_of}
+use Rattle.tsp_cost.specs.ComputedProblems.{depot_of}
 use Rattle.tsp_cost.specs.ComputedProblems.{demands_of, capacity_of}
 use Rattle.tsp_verdict.specs.Solution.{visited, tours_of}
 use Rattle.tsp_verdict.specs.Bounded.{StandsAgainstRouting, NoneAgainstRouting}
-use Rattle.tsp_verdict.specs.Reasons.{NoneBefore, rank_of}
+use Rattle.tsp_verdict.specs.Reasons.{NoneBefore}
+use Rattle.tsp_report.specs.ReasonRows.{rank_of}
 use Rattle.tsp_verdict.specs.Routes.{IsFirstUnserved, IsOverloaded, StandsAgainstRoutes, NoneOfRoutesBefore, NoneOfRoutesBeforePlaces}
 
 -- ---- the reasons against the instance, whatever the routes

@@ -14,7 +14,9 @@ use Rattle.tsp_report.specs.declared.verdict.Reason.TheVariants.{DepotInRoute, N
 use Rattle.tsp_verdict.specs.states.Marks.{Marked}
 use Rattle.tsp_verdict.specs.Places.{IsFirstPlace, IsLarger, IsAt, IsAtEarlierPlace}
 use Rattle.tsp_cost.specs.ComputedProblems.{routing_of, demands_of, capacity_of}
-use Rattle.tsp_verdict.specs.Plan.{demand_of, load_of, IsCustomer, plan_length, IsLeastRoutes, depot_of, total_of, AreCustomers}
+use Rattle.tsp_theory.specs.Routing.{demand_of, load_of, IsCustomer, plan_length, IsLeastRoutes}
+use Rattle.tsp_cost.specs.ComputedProblems.{depot_of}
+use Rattle.tsp_verdict.specs.Plan.{total_of, AreCustomers}
 use Rattle.tsp_verdict.specs.Routes.{IsOverloaded, StandsAgainstRoutes, NoneOfRoutesBefore, IsFirstAgainstRoutes, IsRoutesVerdict}
 use Rattle.tsp_verdict.specs.Solution.{visited, tours_of}
 use Rattle.tsp_verdict.proofs.MarkedNodes.{all_apart, marked_there, there_marked}

@@ -35,7 +35,8 @@ use Rattle.tsp_report.specs.declared.verdict.BoundVerdict.TheVariants as bounds
 use Rattle.tsp_report.specs.declared.verdict.Reason.{Reason}
 use Rattle.tsp_report.specs.declared.verdict.Reason.TheVariants.{NotBranches, BranchesDimension, BadComb, BadBranch, BadLeaf, TooManyLoads}
 use Rattle.tsp_verdict.specs.Certified.{IsBoundBy, HasNoBoundBy, BoundsSolutionsBy, HasNoSolutionBy, StandsAgainstCertificateBy, StandsAgainstCertificate, FindsBound}
-use Rattle.tsp_verdict.specs.Reasons.{rank_of, NoneBefore, IsFirstReason}
+use Rattle.tsp_report.specs.ReasonRows.{rank_of}
+use Rattle.tsp_verdict.specs.Reasons.{NoneBefore, IsFirstReason}
 use Rattle.tsp_verdict.specs.WalksCertificate.{unit_in, StandsAgainstWalks, HasBoundByWalks}
 use Rattle.tsp_verdict.proofs.CarriedBounds.{fitting}
 use Rattle.tsp_verdict.proofs.OneReason.{one_value}

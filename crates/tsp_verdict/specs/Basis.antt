@@ -16,7 +16,8 @@ use Rattle.tsp_report.specs.declared.verdict.Verdict.TheVariants.{Tour, Routes, 
 use Rattle.tsp_verdict.specs.Bounded.{StandsAgainstTouring, NoneAgainstTouring, StandsAgainstRouting, NoneAgainstRouting, NoneAgainstInstance, IsBoundVerdict}
 use Rattle.tsp_verdict.specs.Certified.{NoneWithoutMemory}
 use Rattle.tsp_verdict.specs.SolutionVerdict.{is_judged, IsVerdictWith}
-use Rattle.tsp_verdict.specs.Plan.{total_of, IsLeastRoutes}
+use Rattle.tsp_verdict.specs.Plan.{total_of}
+use Rattle.tsp_theory.specs.Routing.{IsLeastRoutes}
 use Rattle.tsp_verdict.specs.Reasons.{IsFirstReason}
 
 -- ---- without a certificate, by the TYPE of the instance

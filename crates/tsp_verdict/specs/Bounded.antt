@@ -5,7 +5,7 @@ use Rattle.tsp_format.specs.declared.kinds.Kind.{Kind}
 use Rattle.tsp_format.specs.declared.kinds.Kind.TheVariants as kinds
 use Rattle.tsp_file.specs.Fields.{Fields, nodes_of}
 use Rattle.tsp_file.specs.Cost.{cost}
-use Rattle.tsp_theory.specs.Costs.{IsFirstAsymmetric}
+use Rattle.tsp_format.specs.Symmetry.{IsFirstAsymmetric}
 use Rattle.tsp_file.specs.Defaults.{fixed_of}
 use Rattle.tsp_cost.specs.ComputedProblems.{depots_of, demands_of}
 use Rattle.tsp_report.specs.declared.task.Certificate.{Certificate}
@@ -14,7 +14,8 @@ use Rattle.tsp_report.specs.declared.verdict.BoundVerdict.TheVariants as bounds
 use Rattle.tsp_report.specs.declared.verdict.Reason.{Reason}
 use Rattle.tsp_report.specs.declared.verdict.Reason.TheVariants.{TooFewNodes, NotSymmetric, DepotCount, DepotDemand, FixedEdgesInRoutes}
 use Rattle.tsp_verdict.specs.Certified.{StandsAgainstCertificate, IsCertified, HasNoBound, HasNoSolution}
-use Rattle.tsp_verdict.specs.Plan.{demand_of, depot_of}
+use Rattle.tsp_theory.specs.Routing.{demand_of}
+use Rattle.tsp_cost.specs.ComputedProblems.{depot_of}
 use Rattle.tsp_verdict.specs.Reasons.{IsFirstReason}
 
 -- When a reason applies to an instance, whatever the tour: the two that are judged of a tour too. No other reason does.

@@ -18,11 +18,12 @@ use Rattle.tsp_report.specs.declared.verdict.Reason.{Reason}
 use Rattle.tsp_report.specs.declared.verdict.Reason.TheVariants.{MultiplierNotFixed, BadComb}
 use Rattle.tsp_report.specs.declared.verdict.Verdict.{Verdict}
 use Rattle.tsp_report.specs.declared.verdict.Verdict.TheVariants as verdicts
-use Rattle.tsp_verdict.specs.Reasons.{rank_of, NoneBefore, IsFirstReason}
+use Rattle.tsp_report.specs.ReasonRows.{rank_of}
+use Rattle.tsp_verdict.specs.Reasons.{NoneBefore, IsFirstReason}
 use Rattle.tsp_verdict.specs.Solution.{tours_of}
 use Rattle.tsp_verdict.specs.Tours.{StandsAgainstTour}
 use Rattle.tsp_verdict.specs.PotentialsCertificate.{StandsAgainstPotentials, IsBoundByNodes, IsBoundByDuals}
-use Rattle.tsp_verdict.specs.Plan.{BoundsPlans, HasNoPlan}
+use Rattle.tsp_routing.specs.PlanLinks.{BoundsPlans, HasNoPlan}
 use Rattle.tsp_verdict.specs.Routes.{StandsAgainstRoutes, IsPlanned}
 use Rattle.tsp_verdict.specs.WalksCertificate.{StandsAgainstWalks, HasBoundByWalks}
 use Rattle.tsp_verdict.specs.BranchesCertificate.{StandsAgainstBranches, IsBoundByBranches, HasNoBoundByBranches}

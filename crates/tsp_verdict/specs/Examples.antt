@@ -5,9 +5,9 @@ use Rattle.tsp_format.specs.declared.kinds.Kind.{Kind}
 use Rattle.tsp_format.specs.declared.kinds.Kind.TheVariants as kinds
 use Rattle.tsp_format.specs.Steps.{Step, Branch, Leaf}
 use Rattle.tsp_file.specs.Fields.{Fields, blank_fields}
-pub use Rattle.tsp_theory.specs.CycleExamples.{two, three, four}
+
 use Rattle.tsp_report.specs.declared.verdict.Reason.{Reason}
-use Rattle.tsp_verdict.specs.Reasons.{rank_of}
+use Rattle.tsp_report.specs.ReasonRows.{rank_of}
 
 -- an instance with this many nodes and these fixed pairs
 abbrev pub instance_with : Kind → ℕ → List (ℕ × ℕ) → Fields

@@ -6,9 +6,9 @@ use Rattle.tsp_format.specs.Nodes.{nodes_to}
 use Rattle.tsp_file.specs.Fields.{Fields, nodes_of}
 use Rattle.tsp_cost.specs.ComputedProblems.{demands_of}
 use Rattle.tsp_verdict.specs.Solution.{visited}
-pub use Rattle.tsp_theory.specs.Routing.{demand_of, load_of, IsCustomer, IsPlan, plan_length, IsLeastRoutes}
-pub use Rattle.tsp_cost.specs.ComputedProblems.{depot_of, IsPlanOf}
-pub use Rattle.tsp_routing.specs.PlanLinks.{IsFilledPlan, BoundsPlans, HasNoPlan}
+use Rattle.tsp_theory.specs.Routing.{load_of, IsCustomer}
+use Rattle.tsp_cost.specs.ComputedProblems.{depot_of}
+
 
 -- the sum of all demands
 abbrev pub total_of : Fields → ℤ

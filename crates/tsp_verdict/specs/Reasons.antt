@@ -2,7 +2,7 @@
 -- Routes.antt, Bounded.antt and Certified.antt. `Stands` says which reasons apply.
 use Rattle.std.specs.Prelude.{ℕ, ◌<◌}
 use Rattle.tsp_report.specs.declared.verdict.Reason.{Reason}
-pub use Rattle.tsp_report.specs.ReasonRows.{rank_of}
+use Rattle.tsp_report.specs.ReasonRows.{rank_of}
 
 -- none of the reasons applies whose rank is below this one
 abbrev pub NoneBefore : (Reason → Type 0) → ℕ → Type 0

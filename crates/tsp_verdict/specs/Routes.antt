@@ -11,10 +11,13 @@ use Rattle.tsp_report.specs.declared.verdict.Reason.TheVariants.{NotASolution, T
 use Rattle.tsp_report.specs.declared.verdict.Verdict.{Verdict}
 use Rattle.tsp_report.specs.declared.verdict.Verdict.TheVariants as verdicts
 use Rattle.tsp_verdict.specs.Places.{IsFirstPlace, IsLarger, IsAt, IsAtEarlierPlace}
-use Rattle.tsp_verdict.specs.Plan.{demand_of, load_of, IsCustomer, plan_length, IsLeastRoutes, depot_of, total_of, IsPlanOf}
+use Rattle.tsp_theory.specs.Routing.{demand_of, load_of, IsCustomer, plan_length, IsLeastRoutes}
+use Rattle.tsp_cost.specs.ComputedProblems.{depot_of, IsPlanOf}
+use Rattle.tsp_verdict.specs.Plan.{total_of}
 use Rattle.tsp_file.specs.Defaults.{fixed_of}
 use Rattle.tsp_cost.specs.ComputedProblems.{depots_of, demands_of, capacity_of}
-use Rattle.tsp_verdict.specs.Reasons.{rank_of, NoneBefore, IsFirstReason}
+use Rattle.tsp_report.specs.ReasonRows.{rank_of}
+use Rattle.tsp_verdict.specs.Reasons.{NoneBefore, IsFirstReason}
 use Rattle.tsp_verdict.specs.Solution.{visited, tours_of}
 
 -- the least customer that isn't among the nodes

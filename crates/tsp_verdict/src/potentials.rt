@@ -12,7 +12,7 @@ ghost use Rattle.tsp_file.specs.Fields.{nodes_of};
 ghost use Rattle.tsp_file.specs.Rules.{is_potentials_file};
 ghost use Rattle.tsp_file.specs.Typed.{HoldsNodeNumbers, HoldsDuals};
 ghost use Rattle.tsp_theory.specs.Adjusted.{AreOnPairs, pair_of, is_same_pair};
-ghost use Rattle.tsp_theory.specs.Costs.{IsSymmetric};
+ghost use Rattle.tsp_format.specs.Symmetry.{IsSymmetric};
 ghost use Rattle.tsp_cost.specs.states.Views.{HasCosts, IsViewOf, ShowsEven};
 ghost use Rattle.tsp_bound.specs.states.Duals.{dual_scale as scale_of_duals, rows_of, columns_of};
 ghost use Rattle.tsp_bound.specs.states.Multipliers.{triples_of};

@@ -6,7 +6,7 @@ use Rattle.std.specs.List.{All, AllPairs}
 use Rattle.tsp_format.specs.Nodes.{IsNode}
 use Rattle.tsp_theory.specs.Length.{sum_int_by}
 use Rattle.tsp_format.specs.Limits.{most_multiplier}
-use Rattle.tsp_theory.specs.CertificateNumbers.{IsFromTo}
+use Rattle.tsp_format.specs.Ranges.{IsFromTo}
 
 -- of a triple whose pair has the node: the other node, and the number; of any other triple nothing
 abbrev pub said_of : ℕ → ℕ × ℕ × ℤ → List (ℕ × ℤ)

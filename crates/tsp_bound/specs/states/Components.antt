@@ -8,7 +8,7 @@ use Rattle.tsp_bound.specs.declared.search.Link.{Link}
 use Rattle.tsp_bound.specs.states.Boxes.{AreHeld, box_at}
 use Rattle.tsp_theory.specs.Forest.{AreLeastJoins, IsWholeForest}
 use Rattle.tsp_format.specs.Limits.{most_nodes}
-use Rattle.tsp_theory.specs.CertificateNumbers.{IsFromTo}
+use Rattle.tsp_format.specs.Ranges.{IsFromTo}
 use Rattle.tsp_theory.specs.Tree.{weight_of}
 
 -- x is a place of 0..n-1

@@ -4,7 +4,8 @@
 use Rattle.std.specs.Prelude.{◌≡◌, ℕ, ◌<◌, List, length, slice_index_or, ℤ, pos, neg_ℤ}
 use Rattle.tsp_distance.specs.declared.decimal.Point.{Point}
 use Rattle.tsp_theory.specs.Regions.{IsSite}
-use Rattle.tsp_theory.specs.CertificateNumbers.{IsFromTo, most_number}
+use Rattle.tsp_format.specs.Ranges.{IsFromTo}
+use Rattle.tsp_theory.specs.CertificateNumbers.{most_number}
 use Rattle.tsp_bound.specs.declared.boxes.NumberedSite.{NumberedSite}
 use Rattle.tsp_bound.specs.states.Boxes.{node_of}
 

@@ -2,7 +2,7 @@
 -- for `judge_leaf` (src/pass.rt, and src/verdict.rt of tsp_branch).
 use Rattle.std.specs.Prelude.{◌≡◌, ℕ, ◌+◌, ◌^◌, List, length, ℤ, pos, neg_ℤ}
 use Rattle.std.specs.List.{All}
-use Rattle.tsp_theory.specs.CertificateNumbers.{IsFromTo}
+use Rattle.tsp_format.specs.Ranges.{IsFromTo}
 use Rattle.tsp_cases.specs.declared.kept.Room.{Room}
 
 -- A potential for each node and a multiplier for each family. `row` and `moved` have a number for each node at its

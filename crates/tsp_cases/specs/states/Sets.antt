@@ -4,7 +4,7 @@
 use Rattle.std.specs.Prelude.{◌≡◌, ℕ, suc, ◌==◌, ◌+◌, ◌++◌, ◌<◌, ◌≤◌, if◌then◌else◌, List, [], ◌∷◌, length, slice_index_or, ℤ, pos}
 use Rattle.std.specs.Global.{Vec}
 use Rattle.tsp_theory.specs.Length.{sum_int_by}
-pub use Rattle.tsp_bound.specs.states.Additions.{IsMoved}
+
 use Rattle.tsp_cases.specs.states.Places.{place_at}
 use Rattle.tsp_cases.specs.declared.sets.SetPlace.{SetPlace}
 

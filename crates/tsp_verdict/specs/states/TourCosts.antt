@@ -4,7 +4,7 @@ use Rattle.std.specs.Prelude.{◌≡◌, Some}
 use Rattle.tsp_format.specs.declared.kinds.Kind.TheVariants as kinds
 use Rattle.tsp_file.specs.Fields.{Fields}
 use Rattle.tsp_file.specs.Cost.{cost}
-use Rattle.tsp_theory.specs.Costs.{IsSymmetric}
+use Rattle.tsp_format.specs.Symmetry.{IsSymmetric}
 use Rattle.tsp_cost.specs.states.Views.{IsViewOf, ShowsEven}
 use Rattle.tsp_verdict.specs.declared.tour.TourCosts.{TourCosts}
 use Rattle.tsp_verdict.specs.declared.tour.TourCosts.TheVariants.{Undirected, Directed}

@@ -1,7 +1,7 @@
 -- The loop of `grow` in src/tree.rt.
 use Rattle.std.proofs.Common.{◌≡◌, ◌-◌, ◌*◌, ◌^◌, length, MatchOption}
 use Rattle.std.specs.Prelude.{pos, neg_ℤ}
-use Rattle.tsp_theory.specs.CertificateNumbers.{IsFromTo}
+use Rattle.tsp_format.specs.Ranges.{IsFromTo}
 use Rattle.tsp_bound.specs.states.Outside.{IsLeastPlace}
 use Rattle.tsp_bound.proofs.GrowthStates.{IsState}
 use Rattle.tsp_bound.proofs.tree.grow.Given as goal

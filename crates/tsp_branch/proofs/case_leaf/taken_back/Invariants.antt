@@ -1,7 +1,8 @@
 -- The loop of `taken_back` in src/case_leaf.rt, which sums the numbers of the taken pairs.
 use Rattle.std.proofs.Common.{◌≡◌, ◌*◌, drop}
 use Rattle.std.specs.Prelude.{pos, ◌+ℤ◌}
-use Rattle.tsp_theory.specs.CertificateNumbers.{IsFromTo, most_number}
+use Rattle.tsp_format.specs.Ranges.{IsFromTo}
+use Rattle.tsp_theory.specs.CertificateNumbers.{most_number}
 use Rattle.tsp_theory.specs.Adjusted.{triples_total}
 use Rattle.tsp_cases.specs.Decisions.{on_taken, decided_number}
 use Rattle.tsp_branch.proofs.case_leaf.taken_back.Given as goal

@@ -1,7 +1,7 @@
 -- The loop of `sum_with` in src/pass.rt, which sums the crossings of families times their multipliers.
 use Rattle.std.proofs.Common.{◌≡◌, ◌*◌, ◌^◌, drop}
 use Rattle.std.specs.Prelude.{pos, ◌+ℤ◌}
-use Rattle.tsp_theory.specs.CertificateNumbers.{IsFromTo}
+use Rattle.tsp_format.specs.Ranges.{IsFromTo}
 use Rattle.tsp_cases.specs.FamiliesOfSets.{sum_with}
 use Rattle.tsp_cases.proofs.pass.sum_with.Given as goal
 

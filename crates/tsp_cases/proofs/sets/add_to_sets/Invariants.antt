@@ -3,7 +3,8 @@ use Rattle.std.proofs.Common.{ℕ, ℤ, drop}
 use Rattle.tsp_theory.specs.Length.{sum_int_by}
 use Rattle.tsp_theory.specs.states.Nearest.{least_at}
 use Rattle.tsp_cases.specs.FamilySets.{lists_of}
-use Rattle.tsp_cases.specs.states.Sets.{IsMoved, added}
+use Rattle.tsp_bound.specs.states.Additions.{IsMoved}
+use Rattle.tsp_cases.specs.states.Sets.{added}
 use Rattle.tsp_cases.proofs.sets.add_to_sets.Given as goal
 
 -- adding the number for the sets left to the row now gives the same as adding it for all to the row at the call

@@ -4,7 +4,7 @@ use Rattle.std.proofs.KnownBytes.{Keeps-refl}
 use Rattle.std.specs.declared.io.Error.{Error}
 use Rattle.clap.specs.Words.{Text}
 use Rattle.clap.specs.declared.error.Error.{Error as Refusal}
-use Rattle.tsp_judge.specs.Sink.{Sink}
+use Rattle.tsp_io.specs.Sink.{Sink}
 use Rattle.tsp_cli.specs.CommandWords.{GivesJob}
 use Rattle.tsp_cli.specs.declared.job.InputPath.{InputPath}
 use Rattle.tsp_cli.specs.declared.job.Job.{Job}
@@ -12,7 +12,7 @@ use Rattle.tsp_cli.specs.declared.job.JobFault.TheVariants.{OutOfMemory, Refused
 use Rattle.tsp_cli.specs.declared.ends.RunEnd.{RunEnd}
 use Rattle.tsp_cli.specs.declared.ends.RunEnd.TheVariants.{NoJob, Printed, NoTask, Ended, Compared}
 use Rattle.std.specs.String.{string_bytes}
-use Rattle.tsp_judge.specs.Watched.{sink_of}
+use Rattle.tsp_io.specs.states.Watched.{sink_of}
 use Rattle.tsp_cli.specs.RunEnd.{Tells, TellsAll}
 use Rattle.tsp_cli.specs.ProgramRun.{EndsProgram, EndsRefused, EndsWith}
 use Rattle.tsp_cli.proofs.running.run.Goals as goal

@@ -6,7 +6,7 @@ use Rattle.std.specs.Int.{w64}
 use Rattle.std.proofs.lemmas.Int.{to_z-of_z}
 use Rattle.tsp_format.specs.Nodes.{IsNode}
 use Rattle.tsp_verdict.specs.states.Marks.{StandsAfter}
-use Rattle.tsp_verdict.specs.Plan.{load_of}
+use Rattle.tsp_theory.specs.Routing.{load_of}
 use Rattle.tsp_verdict.specs.states.RouteLists.{nodes_in}
 use Rattle.tsp_verdict.proofs.Pieces.{stands_here, all_here}
 use Rattle.tsp_verdict.proofs.RouteLoads.{carried_more, not_over}

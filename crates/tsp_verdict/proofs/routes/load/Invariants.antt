@@ -1,7 +1,7 @@
 -- The loop of `load` in src/routes.rt.
 use Rattle.std.proofs.Common.{◌≡◌, drop}
 use Rattle.std.specs.Prelude.{◌+ℤ◌}
-use Rattle.tsp_verdict.specs.Plan.{load_of}
+use Rattle.tsp_theory.specs.Routing.{load_of}
 use Rattle.tsp_verdict.proofs.RouteLoads.{IsLoadOf}
 use Rattle.tsp_verdict.proofs.routes.load.Given as goal
 

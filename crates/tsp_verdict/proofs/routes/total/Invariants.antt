@@ -2,7 +2,7 @@
 use Rattle.std.proofs.Common.{◌≡◌, ◌+◌, ◌-◌, length}
 use Rattle.std.specs.Prelude.{◌+ℤ◌}
 use Rattle.std.specs.List.{range_with_len}
-use Rattle.tsp_verdict.specs.Plan.{load_of}
+use Rattle.tsp_theory.specs.Routing.{load_of}
 use Rattle.tsp_verdict.proofs.RouteLoads.{IsLoadOf}
 use Rattle.tsp_verdict.proofs.routes.total.Given as goal
 

@@ -4,7 +4,8 @@ use Rattle.std.proofs.Common.{◌-◌, ◌*◌, ℤ, ap, subst, arith}
 use Rattle.std.specs.Prelude.{pos, neg_ℤ, ◌*ℤ◌}
 use Rattle.std.proofs.lemmas.Int.{ints}
 use Rattle.tsp_format.specs.Limits.{most_scale, most_weight}
-use Rattle.tsp_theory.specs.CertificateNumbers.{IsFromTo, entry}
+use Rattle.tsp_format.specs.Ranges.{IsFromTo}
+use Rattle.tsp_theory.specs.CertificateNumbers.{entry}
 use Rattle.tsp_theory.proofs.Weights.{between_size}
 use Rattle.tsp_theory.proofs.Sizes.{product_fits, product_is, scaled_size}
 use Rattle.tsp_branch.proofs.boxed.BoxedLeaf.base.Goals as goal

@@ -4,7 +4,7 @@ use Rattle.std.specs.Int.{w64, int_wrap}
 use Rattle.std.specs.Prelude.{neg_ℤ}
 use Rattle.std.specs.List.{filter}
 use Rattle.std.proofs.lemmas.Int.{ints, to_z-of_z, int_wrap_fits}
-use Rattle.tsp_theory.specs.CertificateNumbers.{IsFromTo}
+use Rattle.tsp_format.specs.Ranges.{IsFromTo}
 use Rattle.tsp_cases.specs.declared.open_case.Decision.{Decision}
 use Rattle.tsp_cases.specs.Decisions.{decided_number}
 use Rattle.tsp_cases.specs.states.Decided.{changes, stack_of}

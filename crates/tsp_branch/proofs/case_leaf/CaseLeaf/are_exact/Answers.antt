@@ -7,7 +7,8 @@ use Rattle.std.specs.List.{All}
 use Rattle.std.proofs.lemmas.Bool.{cases_eq}
 use Rattle.std.proofs.lemmas.Int.{ints, int_wrap_fits}
 use Rattle.tsp_format.specs.Nodes.{IsNode}
-use Rattle.tsp_theory.specs.CertificateNumbers.{IsFromTo, entry, most_number}
+use Rattle.tsp_format.specs.Ranges.{IsFromTo}
+use Rattle.tsp_theory.specs.CertificateNumbers.{entry, most_number}
 use Rattle.tsp_theory.specs.states.Nearest.{least_at}
 use Rattle.tsp_cases.specs.states.Places.{IsPlaceIn}
 use Rattle.tsp_cases.specs.states.Sets.{places_with}
