@@ -1,7 +1,6 @@
 -- The files of lemmas of this crate. Crates above may import them.
 pub mod Outside
 pub mod GrowthStates
-pub mod Additions
 pub mod Boxed
 pub mod Joining
 pub mod Known

@@ -11,8 +11,8 @@ use Rattle.tsp_format.specs.Limits.{most_multiplier}
 use Rattle.tsp_theory.specs.NodeBound.{most_between}
 use Rattle.tsp_format.specs.Ranges.{IsFromTo}
 use Rattle.tsp_theory.proofs.MostWeight.{most_64}
-use Rattle.tsp_bound.specs.states.Additions.{IsMoved}
-use Rattle.tsp_bound.proofs.Additions.{moved_to}
+use Rattle.tsp_theory.specs.states.Additions.{IsMoved}
+use Rattle.tsp_theory.proofs.Additions.{moved_to}
 use Rattle.tsp_bound.specs.states.NodeNumbers.{node_in}
 use Rattle.tsp_bound.specs.states.ByNode.{lowered_by, AreLowerings}
 

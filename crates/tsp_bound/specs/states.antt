@@ -1,6 +1,5 @@
 -- The files of definitions that look into structs of the code.
 pub mod Outside
-pub mod Additions
 pub mod Boxes
 pub mod ByNode
 pub mod Components

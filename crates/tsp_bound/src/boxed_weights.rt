@@ -12,10 +12,9 @@ ghost use Rattle.tsp_bound.specs.states.NodeNumbers.{node_in};
 ghost use Rattle.tsp_bound.specs.states.NumberedSites.{IsNumberedSite};
 
 use crate::boxes::NumberedSite;
-use crate::tree::Weights;
 use std::alloc::Global;
 use tsp_io::Refused;
-use tsp_theory::{Region, Site};
+use tsp_theory::{Region, Site, Weights};
 
 /// Weights of which each is at least the cost at a scale and the numbers of both nodes, but for
 /// those of some pairs, which are lowered and listed by node.

@@ -30,5 +30,5 @@ pub use boxes::NumberedSite;
 pub use duals::Duals;
 pub use potentials::{Multipliers, Potentials};
 pub use rounds::grow_in_rounds;
-pub use tree::{Growing, Grown, Spoke, Weights, add_at, grow, least_weight, two_spokes, weight_in};
+pub use tree::{Growing, Grown, Spoke, grow, least_weight, two_spokes};
 pub use tsp_theory::{adjusted_bounds_bound_cycles, duals_bound_cycles};

@@ -9,9 +9,9 @@ use crate::boxed_weights::BoxedWeights;
 use crate::boxes::{lesser, own_labels, rename};
 use crate::rounds::{Components, better};
 use crate::search::{Link, Placed};
-use crate::tree::weight_in;
 use std::alloc::Global;
 use tsp_io::{Refused, filled};
+use tsp_theory::weight_in;
 
 /// How many links of each place are kept. Clauses here and in lists.rt, specs/states/Lists.antt
 /// and proofs say 12: change all of these.

@@ -1,7 +1,7 @@
 //! The weight of a least 1-tree, whose tree grows as its weights do it. For the leaves in
 //! `src/boxed.rt` of tsp_branch.
 
-ghost use Rattle.std.specs.Int.{w64, int_wrap};
+
 ghost use Rattle.std.specs.Prelude.{◌≡◌, ◌≤◌, ◌+◌, ◌*◌, ◌^◌, ℕ, length, pos, neg_ℤ, IfOk, ◌<◌, slice_index, MatchOption, ◌<ℤ◌, ◌-◌, ℤ, ◌≢◌, ◌+ℤ◌};
 ghost use Rattle.tsp_format.specs.Limits.{most_nodes};
 ghost use Rattle.tsp_format.specs.Nodes.{IsNode};
@@ -15,6 +15,7 @@ ghost use Rattle.tsp_bound.specs.states.Outside.{AreFromThree, AreBroughtNearer,
 
 use std::alloc::Global;
 use tsp_io::{Refused, filled, push, with_capacity};
+use tsp_theory::{Weights, weight_in};
 
 /// The weight of a 1-tree than which none weighs less, under symmetric weights.
 ///
@@ -268,72 +269,4 @@ fn spoke_to(weights: &[i64], node: u32) -> Spoke
         node,
         weight: weight_in(weights, node),
     }
-}
-
-// ---- the trait of weights of pairs of nodes, given row by row
-
-/// Weights between the nodes 1 to `count`, given row by row.
-pub trait Weights {
-    ghost nodes: { Self → ℕ };
-
-    ghost at: { Self → ℕ → ℕ → ℤ };
-
-    /// How many nodes there are: at most 100,000.
-    fn count(&self) -> u32
-        ensures value { result ≡ nodes self.now }
-        ensures most { result ≤ most_nodes };
-
-    /// Writes the weights between a node and each into a row, each at the place of its node; they
-    /// are below the largest number of 64 bits, and the same at each call.
-    ///
-    /// # Requires
-    ///
-    /// A node of 1 to `count`, and a row of one place more than there are nodes.
-    fn fill(&self, from: u32, row: &mut [i64])
-        requires from { IsNode (nodes self.now) from }
-        requires room { length row.old ≡ nodes self.now + 1 }
-        ensures values { (x : ℕ) → IsNode (nodes self.now) x
-            → least_at row.new x ≡ at self.now from x }
-        ensures small { (x : ℕ) → IsNode (nodes self.now) x
-            → least_at row.new x <ℤ i64.MAX };
-
-    /// Writes the weights between a node and some others, each at the place of its node. What it
-    /// writes at other places says nothing.
-    ///
-    /// # Requires
-    ///
-    /// Nodes of 1 to `count`, and a row of one place more than there are nodes.
-    fn fill_at(&self, from: u32, to: &[u32], row: &mut [i64])
-        requires from { IsNode (nodes self.now) from }
-        requires to { (k : ℕ) → k < length to.now → IsNode (nodes self.now) (slice_index to.now k) }
-        requires room { length row.old ≡ nodes self.now + 1 }
-        ensures values { (k : ℕ) → k < length to.now → least_at row.new (slice_index to.now k)
-            ≡ at self.now from (slice_index to.now k) }
-        ensures small { (k : ℕ)
-            → k < length to.now → least_at row.new (slice_index to.now k) <ℤ i64.MAX }
-    {
-        self.fill(from, row);
-    }
-}
-
-// ---- the number of a row at the place of a node, read or added to
-
-/// The weight of a row at a node.
-#[inline]
-pub fn weight_in(row: &[i64], node: u32) -> i64
-    requires { node < length row.now }
-    ensures { result ≡ least_at row.now node }
-{
-    row[node as usize]
-}
-
-/// Adds a number at a place; the sum is wrapped to 64 bits.
-#[inline]
-pub fn add_at(row: &mut [i64], node: u32, number: i64)
-    requires { node < length row.old }
-    ensures here { least_at row.new node ≡ int_wrap w64 (least_at row.old node +ℤ number) }
-    ensures others { (x : ℕ) → x ≢ node → least_at row.new x ≡ least_at row.old x }
-{
-    let old = weight_in(row, node);
-    row[node as usize] = old.wrapping_add(number);
 }

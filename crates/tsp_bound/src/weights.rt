@@ -8,7 +8,7 @@ ghost use Rattle.tsp_format.specs.Limits.{most_multiplier};
 ghost use Rattle.tsp_theory.specs.NodeBound.{most_between};
 ghost use Rattle.tsp_format.specs.Ranges.{IsFromTo};
 ghost use Rattle.tsp_theory.specs.states.Nearest.{least_at};
-ghost use Rattle.tsp_bound.specs.states.Additions.{IsMoved};
+ghost use Rattle.tsp_theory.specs.states.Additions.{IsMoved};
 ghost use Rattle.tsp_bound.specs.states.ByNode.{lowered_by};
 ghost use Rattle.tsp_bound.specs.states.Multipliers.{node_count};
 ghost use Rattle.tsp_bound.specs.states.Potentials.{numbers_of, weight_under};
@@ -17,10 +17,9 @@ use crate::boxed_weights::BoxedWeights;
 use crate::boxes::NumberedSite;
 use crate::by_node::ByNode;
 use crate::potentials::{Potentials, scaled};
-use crate::tree::add_at;
 use std::alloc::Global;
 use tsp_io::Refused;
-use tsp_theory::{Costs, Region, Site};
+use tsp_theory::{Costs, Region, Site, add_at};
 
 /// Costs of three or more nodes, and the potentials and the multipliers of these.
 #[derive(Drop)]
@@ -33,7 +32,7 @@ pub(crate) struct Weights<'a, C: Costs> {
     ghost over: { node_count m.now ≡ C.nodes c.now },
 }
 
-impl<C: Costs> crate::tree::Weights for Weights<'_, C> {
+impl<C: Costs> tsp_theory::Weights for Weights<'_, C> {
     ghost use Rattle.tsp_bound.specs.states.Multipliers.{triples_in, weight_less};
 
     ghost nodes = { λ w. C.nodes w.c.now };

@@ -11,11 +11,11 @@ use Rattle.tsp_cases.specs.Decisions.{DecideOnce}
 use Rattle.tsp_cases.specs.states.Combed.{most_combed}
 use Rattle.tsp_cases.specs.states.Decided.{changes, decided, marks_in, most_decided, stack_of}
 use Rattle.tsp_cases.specs.states.OpenCases.{bears_on}
-use Rattle.tsp_bound.specs.states.Additions.{IsMoved}
+use Rattle.tsp_theory.specs.states.Additions.{IsMoved}
 use Rattle.tsp_cases.proofs.Changes.{changes_are, within}
 use Rattle.tsp_cases.proofs.DecidedOnce.{few_changes}
 use Rattle.tsp_cases.proofs.OpenCases.{changes_listed}
-use Rattle.tsp_bound.proofs.Additions.{moved_to}
+use Rattle.tsp_theory.proofs.Additions.{moved_to}
 use Rattle.tsp_theory.proofs.MostWeight.{most_64}
 use Rattle.tsp_branch.specs.states.Shared.{decided_by}
 

@@ -20,13 +20,10 @@ ghost use Rattle.tsp_branch.specs.states.Shared.{AreExact, is_same_place, has_pl
 
 use crate::case_leaf::{CaseLeaf, LeafSum, change_between};
 use std::alloc::Global;
-use tsp_bound::{
-    BoxedWeights, Growing, Grown, NumberedSite, Weights, grow_in_rounds as grow, least_weight,
-    weight_in,
-};
+use tsp_bound::{BoxedWeights, Growing, Grown, NumberedSite, grow_in_rounds as grow, least_weight};
 use tsp_cases::{Multipliers, SetPlace, sum_left};
 use tsp_io::Refused;
-use tsp_theory::{Costs, Region, Site};
+use tsp_theory::{Costs, Region, Site, Weights, weight_in};
 
 /// The weights of a leaf, of which each node's potential less the multipliers of its sets isn't too
 /// large.

@@ -20,15 +20,14 @@ ghost use Rattle.tsp_cases.specs.states.Decided.{marks_in, IsOnPlaces, IsChanged
 ghost use Rattle.tsp_cases.specs.states.Kept.{AreMoved, AreRowsIfAny, kept_weight};
 ghost use Rattle.tsp_cases.specs.states.Lent.{lent_in, good_in};
 ghost use Rattle.tsp_cases.specs.states.OpenCases.{IsOpenCase, decisions_in, bears_on};
-ghost use Rattle.tsp_bound.specs.states.Additions.{IsMoved};
+ghost use Rattle.tsp_theory.specs.states.Additions.{IsMoved};
 ghost use Rattle.tsp_branch.specs.states.Closed.{no_link, IsOpenRow, IsShut};
 
 use crate::boxed::{bound_of_trees, rounded_up};
 use std::alloc::Global;
-use tsp_bound::{Weights, add_at};
 use tsp_cases::{DECIDED, Decision, Multipliers, OpenCase, Setting, sum_left, sum_with};
 use tsp_io::Refused;
-use tsp_theory::Costs;
+use tsp_theory::{Costs, Weights, add_at};
 
 /// A leaf: its case, the setting that it shares with all others, and its numbers, which are good.
 /// For its weights also by node the potential less the multipliers of its sets, and the rows that

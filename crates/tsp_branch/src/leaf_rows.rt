@@ -13,13 +13,13 @@ use crate::boxed::are_few;
 use crate::case_leaf::{CaseLeaf, change_row};
 use crate::verdict::suit_boxes;
 use std::alloc::Global;
-use tsp_bound::{Growing, Grown, Weights, grow, weight_in};
+use tsp_bound::{Growing, Grown, grow};
 use tsp_cases::{
     DECIDED, MultipliedFamilies, Multipliers, add_sets, fill_shifted, scale_row, shift_row,
     sum_left,
 };
 use tsp_io::Refused;
-use tsp_theory::Costs;
+use tsp_theory::{Costs, Weights, weight_in};
 
 /// Whether a number of a node is at most as large as that on a decided pair, as it has to be where
 /// boxes bound the weights.
@@ -36,7 +36,7 @@ impl<C: Costs> CaseLeaf<'_, C> {
     ghost use Rattle.tsp_theory.specs.CertificateNumbers.{IsScale, ArePotentials};
     ghost use Rattle.tsp_theory.specs.states.Nearest.{least_at};
     ghost use Rattle.tsp_theory.specs.NodeBound.{weight_between, most_between};
-    ghost use Rattle.tsp_bound.specs.states.Additions.{IsMoved};
+    ghost use Rattle.tsp_theory.specs.states.Additions.{IsMoved};
     ghost use Rattle.tsp_cases.specs.states.Lent.{lent_in};
     ghost use Rattle.tsp_cases.specs.states.Combed.{AreSmallMultipliers, multipliers_at, AreFewCrossings, IsApart, most_combed, set_weight};
     ghost use Rattle.tsp_cases.specs.states.Decided.{most_decided};

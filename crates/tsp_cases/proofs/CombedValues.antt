@@ -8,13 +8,13 @@ use Rattle.tsp_format.specs.Ranges.{IsFromTo}
 use Rattle.tsp_theory.specs.NodeBound.{weight_between}
 use Rattle.tsp_cases.specs.GoodNumbers.{most_crossed}
 use Rattle.tsp_cases.specs.GoodFamilies.{HasEachOnce}
-use Rattle.tsp_bound.specs.states.Additions.{IsMoved}
+use Rattle.tsp_theory.specs.states.Additions.{IsMoved}
 use Rattle.tsp_cases.specs.states.Sets.{places_with}
 use Rattle.tsp_cases.specs.states.Combed.{IsApart, inside_both, set_crossings, most_combed, set_weight}
 use Rattle.tsp_cases.proofs.CombSizes.{combed_size, combed_fits}
-use Rattle.tsp_bound.proofs.Additions.{moved_on}
+use Rattle.tsp_theory.proofs.Additions.{moved_on}
 use Rattle.tsp_cases.proofs.SetAlgebra.{sets_come_to}
-use Rattle.tsp_bound.proofs.Additions.{moved_to}
+use Rattle.tsp_theory.proofs.Additions.{moved_to}
 
 pub combed_at : (scale : ℤ) (potentials multipliers : List ℤ) (families : List (List (List ℕ))) (cost : ℕ → ℕ → ℤ) (from x : ℕ) (apart value : ℤ)
     → All (All HasEachOnce) families → IsFromTo (pos 0) (pos most_crossed) (set_crossings multipliers families from x) → IsApart scale potentials multipliers families cost from x apart

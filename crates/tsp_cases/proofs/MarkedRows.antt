@@ -14,7 +14,7 @@ use Rattle.tsp_theory.specs.states.Nearest.{least_at}
 use Rattle.tsp_cases.specs.declared.open_case.Decision.{Decision}
 use Rattle.tsp_cases.specs.declared.kept.KeptRows.{KeptRows}
 use Rattle.tsp_cases.specs.Cases.{decide, next_stack}
-use Rattle.tsp_bound.specs.states.Additions.{IsMoved}
+use Rattle.tsp_theory.specs.states.Additions.{IsMoved}
 use Rattle.tsp_cases.specs.states.Combed.{AreSmallMultipliers}
 use Rattle.tsp_cases.specs.states.Decided.{signed, changes, marks_in, IsNextStack, stack_of}
 use Rattle.tsp_cases.specs.states.Kept.{kept_weight, added_between, AreTwoNodes, IsAddedAt, AreRowsIfAny, AreEnds, HoldsRows}

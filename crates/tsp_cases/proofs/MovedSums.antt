@@ -8,7 +8,7 @@ use Rattle.std.proofs.lemmas.Int.{ints, int_wrap_fits, SFits-int_wrap}
 use Rattle.std.specs.Global.{Vec}
 use Rattle.tsp_theory.specs.Length.{sum_int_by}
 use Rattle.tsp_cases.specs.FamilySets.{lists_of, families_in}
-use Rattle.tsp_bound.specs.states.Additions.{IsMoved}
+use Rattle.tsp_theory.specs.states.Additions.{IsMoved}
 use Rattle.tsp_cases.specs.states.Sets.{added}
 use Rattle.tsp_cases.specs.states.Combed.{summed_from}
 

@@ -17,7 +17,7 @@ use Rattle.tsp_theory.specs.Length.{sum_int_by}
 use Rattle.tsp_cases.specs.GoodFamilies.{HasEachOnce}
 use Rattle.tsp_cases.specs.GoodNumbers.{most_crossed}
 use Rattle.tsp_cases.specs.declared.sets.SetPlace.{SetPlace}
-use Rattle.tsp_bound.specs.states.Additions.{IsMoved}
+use Rattle.tsp_theory.specs.states.Additions.{IsMoved}
 use Rattle.tsp_cases.specs.states.Sets.{added, places_with, IsSetTable}
 use Rattle.tsp_cases.specs.states.Combed.{AreSmallMultipliers, summed_from, multipliers_at, set_in, twice_in, inside_both, set_crossings, most_combed, set_weight}
 use Rattle.tsp_cases.specs.states.Kept.{kept_weight, unmarked, IsKeptRow, AreRows, AreRowsIfAny, AreAdded, AreDifferences, AreEnds}

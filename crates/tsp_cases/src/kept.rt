@@ -23,9 +23,8 @@ use crate::open_case::{DECIDED, Decision};
 use crate::sets::{SetPlace, add_to_row, scale_row, take_multipliers};
 use crate::tree_cases::Cases;
 use std::alloc::Global;
-use tsp_bound::add_at;
 use tsp_io::{Refused, filled, push, with_capacity};
-use tsp_theory::Costs;
+use tsp_theory::{Costs, add_at};
 
 /// The most nodes of which rows are kept, in 32 MB.
 const MOST_KEPT: u32 = 2_000;

@@ -14,15 +14,15 @@ ghost use Rattle.tsp_cases.specs.FamilySets.{lists_of};
 ghost use Rattle.tsp_cases.specs.states.Combed.{inside_both, multipliers_at};
 ghost use Rattle.tsp_cases.specs.states.Lent.{lent_in};
 ghost use Rattle.tsp_cases.specs.states.Places.{IsPlaceIn};
-ghost use Rattle.tsp_bound.specs.states.Additions.{IsMoved};
+ghost use Rattle.tsp_theory.specs.states.Additions.{IsMoved};
 ghost use Rattle.tsp_cases.specs.states.Sets.{added, times, places_in, AreLengthened, IsSetTable};
 
 use crate::families::Families;
 use crate::multipliers::MultipliedFamilies;
 use crate::open_case::empty_lists;
 use std::alloc::Global;
-use tsp_bound::add_at;
 use tsp_io::{Refused, push};
+use tsp_theory::add_at;
 
 /// Adds a number at each node of a list: nothing has to be done for 0.
 ///

@@ -12,9 +12,8 @@ ghost use Rattle.tsp_routing.specs.states.KeptWeights.{IsWeightRow, AreFirstRows
 use crate::leaf_weights::LeafWeights;
 use crate::sums::MOST_NARROW;
 use std::alloc::Global;
-use tsp_bound::Weights;
 use tsp_io::{Refused, filled, push};
-use tsp_theory::Costs;
+use tsp_theory::{Costs, Weights};
 
 /// The most nodes of which rows are kept, in 200 MB.
 const MOST_KEPT: u32 = 5_000;

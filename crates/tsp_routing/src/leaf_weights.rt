@@ -6,7 +6,7 @@ ghost use Rattle.tsp_format.specs.Nodes.{IsNode};
 ghost use Rattle.tsp_format.specs.Ranges.{IsFromTo};
 ghost use Rattle.tsp_theory.specs.CertificateNumbers.{IsScale, ArePotentials};
 ghost use Rattle.tsp_theory.specs.states.Nearest.{least_at};
-ghost use Rattle.tsp_bound.specs.states.Additions.{IsMoved};
+ghost use Rattle.tsp_theory.specs.states.Additions.{IsMoved};
 ghost use Rattle.tsp_cases.specs.states.Sets.{IsSetTable};
 ghost use Rattle.tsp_cases.specs.states.Lent.{lent_in};
 ghost use Rattle.tsp_cases.specs.states.Combed.{AreSmallDifferences};
@@ -14,9 +14,8 @@ ghost use Rattle.tsp_cases.specs.states.Kept.{AreMoved};
 ghost use Rattle.tsp_routing.specs.states.LeafWeights.{AreSignedCrossings};
 
 use crate::plan_leaf::PlanLeaf;
-use tsp_bound::weight_in;
 use tsp_cases::{Families, MultipliedFamilies, SetPlace, add_sets, scale_row, shift_row};
-use tsp_theory::Costs;
+use tsp_theory::{Costs, weight_in};
 
 /// Costs, a scale, potentials, and sets of customers with the multiplier of each.
 ///
@@ -50,7 +49,7 @@ impl<'a, C: Costs> LeafWeights<'a, C> {
     ghost use Rattle.tsp_format.specs.Ranges.{IsFromTo};
     ghost use Rattle.tsp_theory.specs.NodeBound.{weight_between, most_between};
     ghost use Rattle.tsp_theory.specs.states.Nearest.{least_at};
-    ghost use Rattle.tsp_bound.specs.states.Additions.{IsMoved};
+    ghost use Rattle.tsp_theory.specs.states.Additions.{IsMoved};
     ghost use Rattle.tsp_cases.specs.states.Lent.{lent_in};
     ghost use Rattle.tsp_cases.specs.states.Combed.{multipliers_at, set_weight};
     ghost use Rattle.tsp_routing.specs.Weights.{most_link};

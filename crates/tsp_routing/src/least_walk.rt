@@ -17,8 +17,8 @@ ghost use Rattle.tsp_routing.specs.states.Onwards.{load_at, AreLinks, onward_ent
 use crate::kept_weights::LentRows;
 use crate::sums::Sum;
 use std::alloc::Global;
-use tsp_bound::weight_in;
 use tsp_io::{Refused, push, with_capacity};
+use tsp_theory::weight_in;
 
 /// The nodes 1 to `nodes`, one of them the depot, and for each a load, with a place 0 that isn't
 /// read; and the weights between them.

@@ -1,4 +1,5 @@
 -- The files of lemmas of this crate. Crates above may import them.
+pub mod Additions
 pub mod Adjustments
 pub mod CostLaws
 pub mod Crossings

@@ -11,7 +11,7 @@ use Rattle.tsp_theory.specs.CertificateNumbers.{entry}
 use Rattle.tsp_theory.specs.states.Nearest.{least_at}
 use Rattle.tsp_theory.specs.Adjusted.{is_same_pair}
 use Rattle.tsp_cases.specs.declared.sets.SetPlace.{SetPlace}
-use Rattle.tsp_bound.specs.states.Additions.{IsMoved}
+use Rattle.tsp_theory.specs.states.Additions.{IsMoved}
 use Rattle.tsp_cases.specs.states.Sets.{places_with}
 use Rattle.tsp_cases.specs.states.Combed.{inside_both, multipliers_at, AreSmallMultipliers}
 use Rattle.tsp_cases.specs.declared.kept.KeptRows.{KeptRows}

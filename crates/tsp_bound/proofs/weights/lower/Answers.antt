@@ -5,8 +5,8 @@ use Rattle.std.specs.Prelude.{pos, neg_ℤ, ◌-ℤ◌, slice_index_or, ◌==◌
 use Rattle.std.proofs.lemmas.Int.{ints}
 use Rattle.std.proofs.lemmas.List.{drop_all}
 use Rattle.tsp_theory.specs.states.Nearest.{least_at}
-use Rattle.tsp_bound.specs.states.Additions.{IsMoved}
-use Rattle.tsp_bound.proofs.Additions.{moved_on, node_moved}
+use Rattle.tsp_theory.specs.states.Additions.{IsMoved}
+use Rattle.tsp_theory.proofs.Additions.{moved_on, node_moved}
 use Rattle.tsp_bound.specs.states.ByNode.{lowered_by}
 use Rattle.tsp_bound.proofs.Lowered.{lowered_left}
 use Rattle.tsp_bound.proofs.weights.lower.Goals as goal

@@ -6,7 +6,7 @@ use Rattle.tsp_theory.specs.states.Nearest.{least_at}
 use Rattle.tsp_cases.specs.declared.open_case.Decision.{Decision}
 use Rattle.tsp_cases.specs.states.Decided.{changes}
 use Rattle.tsp_cases.proofs.Changes.{changes_left}
-use Rattle.tsp_bound.proofs.Additions.{moved_on}
+use Rattle.tsp_theory.proofs.Additions.{moved_on}
 use Rattle.tsp_branch.proofs.case_leaf.change_row.Goals as goal
 
 -- plan: one decision more changes its own entry (`changes_left`), and no other (`moved_on`)

@@ -1,7 +1,7 @@
 -- The loop of `change_row` in src/case_leaf.rt, which changes a row of weights by decisions.
 use Rattle.std.proofs.Common.{ℕ, ℤ, drop}
 use Rattle.tsp_theory.specs.states.Nearest.{least_at}
-use Rattle.tsp_bound.specs.states.Additions.{IsMoved}
+use Rattle.tsp_theory.specs.states.Additions.{IsMoved}
 use Rattle.tsp_cases.specs.states.Decided.{changes}
 use Rattle.tsp_branch.proofs.case_leaf.change_row.Given as goal
 

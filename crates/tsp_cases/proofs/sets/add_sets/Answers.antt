@@ -7,12 +7,12 @@ use Rattle.std.proofs.lemmas.Int.{ints}
 use Rattle.std.proofs.lemmas.List.{drop_all}
 use Rattle.tsp_theory.specs.states.Nearest.{least_at}
 use Rattle.tsp_cases.specs.declared.sets.SetPlace.{SetPlace}
-use Rattle.tsp_bound.specs.states.Additions.{IsMoved}
+use Rattle.tsp_theory.specs.states.Additions.{IsMoved}
 use Rattle.tsp_cases.specs.states.Sets.{added}
 use Rattle.tsp_cases.specs.states.Places.{place_at}
 use Rattle.tsp_cases.specs.states.Lent.{lent_in}
 use Rattle.tsp_cases.specs.states.Combed.{twice_in, inside_both}
-use Rattle.tsp_bound.proofs.Additions.{moved_on}
+use Rattle.tsp_theory.proofs.Additions.{moved_on}
 use Rattle.tsp_cases.proofs.CombedRows.{inside_left}
 use Rattle.tsp_cases.proofs.sets.add_sets.Goals as goal
 

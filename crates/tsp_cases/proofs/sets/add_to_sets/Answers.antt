@@ -8,9 +8,9 @@ use Rattle.std.proofs.lemmas.List.{drop_all}
 use Rattle.tsp_theory.specs.Length.{sum_int_by}
 use Rattle.tsp_theory.specs.states.Nearest.{least_at}
 use Rattle.tsp_cases.specs.FamilySets.{lists_of}
-use Rattle.tsp_bound.specs.states.Additions.{IsMoved}
+use Rattle.tsp_theory.specs.states.Additions.{IsMoved}
 use Rattle.tsp_cases.specs.states.Sets.{added}
-use Rattle.tsp_bound.proofs.Additions.{moved_on}
+use Rattle.tsp_theory.proofs.Additions.{moved_on}
 use Rattle.tsp_cases.proofs.MovedSums.{sets_left}
 use Rattle.tsp_cases.proofs.sets.add_to_sets.Goals as goal
 

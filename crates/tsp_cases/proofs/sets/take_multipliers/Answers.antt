@@ -9,10 +9,10 @@ use Rattle.std.proofs.lemmas.List.{drop_all}
 use Rattle.tsp_theory.specs.Length.{sum_int_by}
 use Rattle.tsp_theory.specs.states.Nearest.{least_at}
 use Rattle.tsp_cases.specs.FamilySets.{lists_of, families_in}
-use Rattle.tsp_bound.specs.states.Additions.{IsMoved}
+use Rattle.tsp_theory.specs.states.Additions.{IsMoved}
 use Rattle.tsp_cases.specs.states.Sets.{added}
 use Rattle.tsp_cases.specs.states.Combed.{summed_from}
-use Rattle.tsp_bound.proofs.Additions.{moved_on}
+use Rattle.tsp_theory.proofs.Additions.{moved_on}
 use Rattle.tsp_cases.proofs.MovedSums.{all_less, multipliers_left}
 use Rattle.tsp_cases.proofs.sets.take_multipliers.Goals as goal
 

@@ -3,7 +3,7 @@ use Rattle.std.proofs.Common.{ℕ, ℤ, drop}
 use Rattle.std.specs.Prelude.{neg_ℤ}
 use Rattle.tsp_theory.specs.states.Nearest.{least_at}
 use Rattle.tsp_cases.specs.FamilySets.{families_in}
-use Rattle.tsp_bound.specs.states.Additions.{IsMoved}
+use Rattle.tsp_theory.specs.states.Additions.{IsMoved}
 use Rattle.tsp_cases.specs.states.Sets.{added}
 use Rattle.tsp_cases.specs.states.Lent.{lent_in}
 use Rattle.tsp_cases.specs.states.Combed.{summed_from, multipliers_at}

@@ -8,7 +8,7 @@ use Rattle.std.proofs.lemmas.Bool.Decides.{Decides-int_eq}
 use Rattle.std.specs.List.{All}
 use Rattle.std.proofs.lemmas.Slice.Eq.{slice_eq-Decides}
 use Rattle.tsp_cases.specs.declared.sets.SetPlace.{SetPlace}
-use Rattle.tsp_bound.specs.states.Additions.{IsMoved}
+use Rattle.tsp_theory.specs.states.Additions.{IsMoved}
 use Rattle.tsp_cases.specs.states.Places.{IsPlaceIn}
 use Rattle.tsp_cases.specs.states.Lent.{lent_in}
 use Rattle.tsp_cases.specs.states.Combed.{multipliers_at, AreSmallMultipliers, AreSmallDifferences}

@@ -6,7 +6,7 @@ use Rattle.std.specs.Prelude.{ℤ, pos, ◌+ℤ◌, if◌then◌else◌}
 use Rattle.std.proofs.lemmas.Bool.{cases_eq, eq-eqb, ne_eqb}
 use Rattle.std.proofs.lemmas.Int.{ints, int_wrap_fits, int_wrap-add_left}
 use Rattle.tsp_theory.specs.states.Nearest.{least_at}
-use Rattle.tsp_bound.specs.states.Additions.{IsMoved}
+use Rattle.tsp_theory.specs.states.Additions.{IsMoved}
 
 pub moved_on : (a b old between new : ℤ) → IsMoved a old between → IsMoved b between new → IsMoved (a +ℤ b) old new
 moved_on a b old between new (inl same) (inl kept) = inl (kept.0 ∙ same.0, let one = same.1 in let two = kept.1 in omega (arith, ints, one, two))

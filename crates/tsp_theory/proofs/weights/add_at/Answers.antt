@@ -4,7 +4,7 @@ use Rattle.std.specs.Prelude.{pos, ◌+ℤ◌}
 use Rattle.std.specs.Int.{w64, int_wrap}
 use Rattle.std.proofs.lemmas.Int.{wrapping_add_is}
 use Rattle.std.proofs.lemmas.List.{get_or-set_same}
-use Rattle.tsp_bound.proofs.tree.add_at.Goals as goal
+use Rattle.tsp_theory.proofs.weights.add_at.Goals as goal
 
 -- plan: at the node's own place the entry is the sum, and elsewhere it is as it was
 pub returns-clause-here : goal.returns-clause-here
