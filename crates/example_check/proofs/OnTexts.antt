@@ -2,15 +2,14 @@
 use Rattle.std.proofs.Common.{◌≡◌, ℕ, List, [], ◌⊎◌, subst, sym}
 use Rattle.std.specs.Prelude.{Option, None, Some, IfSome, false}
 use Rattle.std.specs.Io.KnownBytes.{Appends}
-use Rattle.tsp_io.specs.Turn.{Turn}
-use Rattle.tsp_io.specs.Sink.{Sink, HasWritten}
+use Rattle.tsp_io.specs.Streams.{Turn, Sink, HasWritten}
 use Rattle.tsp_file.specs.Fields.{Fields}
-use Rattle.tsp_text.specs.Text.{Spells}
+use Rattle.tsp_text.specs.Spells.{Spells}
 use Rattle.tsp_read.specs.Reads.{IsFile}
 use Rattle.tsp_report.specs.declared.task.Certificate.{Certificate}
 use Rattle.tsp_judge.specs.CheckRun.{IsFileIn}
 use Rattle.tsp_judge.specs.Accepted.{IsAccepted, IsAcceptedTour, AreAcceptedRoutes}
-use Rattle.tsp_judge.specs.Yes.{SaysYes}
+use Rattle.tsp_judge.specs.ConvertRun.{SaysYes}
 use Rattle.example_check.specs.Texts.{IsAcceptedOnTexts}
 
 -- the file of a reader whose bytes are known is that of its text

@@ -2,9 +2,9 @@
 -- (src/report.rt).
 use Rattle.std.specs.Prelude.{ℕ, ◌⊎◌, List, None}
 use Rattle.tsp_file.specs.Fields.{Fields}
-use Rattle.tsp_text.specs.Text.{Spells}
+use Rattle.tsp_text.specs.Spells.{Spells}
 use Rattle.tsp_report.specs.declared.verdict.Verdict.{Verdict}
-use Rattle.tsp_verdict.specs.Tours.{IsTourVerdict}
+use Rattle.tsp_verdict.specs.Solutions.{IsTourVerdict}
 use Rattle.tsp_judge.specs.Accepted.{IsAcceptedTour, AreAcceptedRoutes}
 
 -- the texts parse to files, and this is the verdict on the second one's tour of the first one's instance

@@ -6,9 +6,8 @@ use Rattle.std.proofs.lemmas.Int.{ints, to_z-of_z}
 use Rattle.std.proofs.lemmas.List.{get_or-set_same, get_or-set_other, get_or-take, get_or-drop}
 use Rattle.tsp_theory.specs.states.Nearest.{least_at}
 use Rattle.tsp_bound.specs.declared.search.Link.{Link}
-use Rattle.tsp_bound.specs.states.Components.{IsKeptLink, IsOffered}
-use Rattle.tsp_bound.specs.states.Lists.{kept_at, empty_link, IsOwnLink, IsKnown, IsPut, IsTaken, IsSeen, AreOffered}
-use Rattle.tsp_bound.proofs.Known.{IsReached}
+use Rattle.tsp_bound.specs.states.Components.{IsKeptLink, IsOffered, kept_at, empty_link, IsOwnLink, IsKnown, IsPut, IsTaken, IsSeen, AreOffered}
+use Rattle.tsp_bound.proofs.RoundJoins.{IsReached}
 
 pub no_more_where_not : (a b : ℤ) → (b <ℤ a → ⊥) → a ≤ℤ b
 no_more_where_not a b h = grind (arith, ints, h)

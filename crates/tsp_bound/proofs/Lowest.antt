@@ -7,9 +7,9 @@ use Rattle.std.proofs.lemmas.Bool.{cases_eq}
 use Rattle.std.proofs.lemmas.Int.{ints}
 use Rattle.tsp_bound.specs.declared.search.Best.{Best}
 use Rattle.tsp_bound.specs.states.Boxes.{node_of, IsFound, IsBest, IsSearched, no_best}
-use Rattle.tsp_bound.specs.states.NodeNumbers.{node_in}
+use Rattle.tsp_bound.specs.states.ByNode.{node_in}
 use Rattle.tsp_theory.specs.Tree.{IsInner}
-use Rattle.tsp_bound.proofs.Trees.{searched_all}
+use Rattle.tsp_bound.proofs.Searches.{searched_all}
 
 -- the place that the search of all boxes finds is the best
 pub searched_best : (w : ℕ → ℕ → ℤ) (order : List ℕ) (outside : ℕ → Bool) (from : ℕ) (best : Best) → IsSearched w order outside from 1 no_best best → IsBest w order outside from best

@@ -4,9 +4,4 @@ pub mod Boxes
 pub mod ByNode
 pub mod Components
 pub mod Duals
-pub mod Lists
-pub mod Multipliers
-pub mod NodeNumbers
-pub mod Numbering
 pub mod Potentials
-pub mod NumberedSites

@@ -2,8 +2,8 @@
 //! the tree of boxes in `src/boxes.rt`.
 
 ghost use Rattle.std.specs.Prelude.{pos, neg_ℤ};
-ghost use Rattle.tsp_format.specs.Ranges.{IsFromTo};
-ghost use Rattle.tsp_theory.specs.CertificateNumbers.{most_number};
+ghost use Rattle.tsp_format.specs.Steps.{IsFromTo};
+ghost use Rattle.tsp_theory.specs.Bounds.{most_number};
 
 use tsp_theory::Region;
 

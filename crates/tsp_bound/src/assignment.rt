@@ -3,10 +3,8 @@
 
 ghost use Rattle.std.specs.Prelude.{◌≡◌, ◌≢◌, ◌↔◌, ℕ, List, ◌≤◌, ◌<◌, length, IsTrue, IfOk, MatchOption, MatchResult, ◌≤ℤ◌, ◌<ℤ◌};
 ghost use Rattle.tsp_format.specs.Nodes.{IsNode};
-ghost use Rattle.tsp_theory.specs.Cycle.{IsCycle};
-ghost use Rattle.tsp_theory.specs.Length.{length_of};
-ghost use Rattle.tsp_theory.specs.CertificateNumbers.{IsBoundSized, entry};
-ghost use Rattle.tsp_theory.specs.Assignment.{AreGood, IsFirstBroken, IsDualBound};
+ghost use Rattle.tsp_theory.specs.Tour.{IsCycle, length_of};
+ghost use Rattle.tsp_theory.specs.Bounds.{IsBoundSized, entry, AreGood, IsFirstBroken, IsDualBound};
 ghost use Rattle.tsp_bound.specs.states.Duals.{dual_scale, rows_of, columns_of, dual_of, scaled};
 
 use crate::duals::Duals;

@@ -3,15 +3,11 @@
 
 ghost use Rattle.std.specs.Prelude.{◌≡◌, ◌≤◌, ◌+◌, ◌*◌, ◌^◌, ℕ, [], List, length, pos, neg_ℤ, ◌≤ℤ◌, IfOk};
 ghost use Rattle.tsp_format.specs.Limits.{most_nodes};
-ghost use Rattle.tsp_theory.specs.Cycle.{IsCycle};
-ghost use Rattle.tsp_theory.specs.Length.{length_of};
-ghost use Rattle.tsp_format.specs.Ranges.{IsFromTo};
-ghost use Rattle.tsp_theory.specs.CertificateNumbers.{IsBoundSized};
-ghost use Rattle.tsp_theory.specs.Tree.{IsOneTree, IsLeastOneTree, weight_of};
-ghost use Rattle.tsp_theory.specs.Growth.{tree_of};
-ghost use Rattle.tsp_theory.specs.Adjusted.{AreOnPairs, UsesEach, IsAdjustedBoundOf, IsAdjustedBound};
-ghost use Rattle.tsp_bound.specs.states.Potentials.{scale_of, numbers_of};
-ghost use Rattle.tsp_bound.specs.states.Multipliers.{triples_of, triples_in, node_count, weight_less};
+ghost use Rattle.tsp_theory.specs.Tour.{IsCycle, length_of};
+ghost use Rattle.tsp_format.specs.Steps.{IsFromTo};
+ghost use Rattle.tsp_theory.specs.Bounds.{IsBoundSized, AreOnPairs, UsesEach, IsAdjustedBoundOf, IsAdjustedBound};
+ghost use Rattle.tsp_theory.specs.Tree.{IsOneTree, IsLeastOneTree, weight_of, tree_of};
+ghost use Rattle.tsp_bound.specs.states.Potentials.{scale_of, numbers_of, triples_of, triples_in, node_count, weight_less};
 
 use crate::by_node::ByNode;
 use crate::potentials::{Multipliers, Potentials, least_bound, total, total_of};

@@ -3,13 +3,13 @@
 
 ghost use Rattle.std.specs.Prelude.{◌≡◌, ◌≢◌, ◌<◌, ◌+ℤ◌, ◌*ℤ◌, ◌≤ℤ◌, ◌<ℤ◌, ℕ, ℤ, List, length, pos, neg_ℤ, IfSome};
 ghost use Rattle.std.specs.Bool.{OnTrue};
-ghost use Rattle.tsp_distance.specs.declared.decimal.Point.{Point};
+ghost use Rattle.tsp_number.specs.declared.decimal.Point.{Point};
 ghost use Rattle.tsp_format.specs.Nodes.{IsNode};
-ghost use Rattle.tsp_theory.specs.Regions.{IsIn, IsSite};
-ghost use Rattle.tsp_format.specs.Ranges.{IsFromTo};
-ghost use Rattle.tsp_theory.specs.CertificateNumbers.{IsScale, most_number};
-ghost use Rattle.tsp_bound.specs.states.NodeNumbers.{node_in};
-ghost use Rattle.tsp_bound.specs.states.NumberedSites.{IsNumberedSite};
+ghost use Rattle.tsp_theory.specs.Costs.{IsIn, IsSite};
+ghost use Rattle.tsp_format.specs.Steps.{IsFromTo};
+ghost use Rattle.tsp_theory.specs.Bounds.{IsScale, most_number};
+ghost use Rattle.tsp_bound.specs.states.ByNode.{node_in};
+ghost use Rattle.tsp_bound.specs.states.Boxes.{IsNumberedSite};
 
 use crate::boxes::NumberedSite;
 use std::alloc::Global;

@@ -3,12 +3,11 @@
 //! `src/rounds.rt` and `src/rounds.rt`.
 
 ghost use Rattle.std.specs.Prelude.{◌≡◌, ◌<◌, ◌*◌, ℕ, true, length, IfOk, ◌⊎◌, ◌≤◌, ◌+◌, ◌≤ℤ◌, ℤ, List, Bool, None, Some, pos, neg_ℤ, ◌^◌, IfSome};
-ghost use Rattle.tsp_distance.specs.declared.decimal.Point.{Point};
-ghost use Rattle.tsp_format.specs.Ranges.{IsFromTo};
-ghost use Rattle.tsp_theory.specs.CertificateNumbers.{most_number};
-ghost use Rattle.tsp_bound.specs.states.Boxes.{HoldsNode, AreHeld, AreHeld-prop, area_at, node_of, IsRefit};
+ghost use Rattle.tsp_number.specs.declared.decimal.Point.{Point};
+ghost use Rattle.tsp_format.specs.Steps.{IsFromTo};
+ghost use Rattle.tsp_theory.specs.Bounds.{most_number};
+ghost use Rattle.tsp_bound.specs.states.Boxes.{HoldsNode, AreHeld, AreHeld-prop, area_at, node_of, IsRefit, AreNumberedSites, IsNumberedSite};
 ghost use Rattle.tsp_bound.specs.states.Components.{AreTags, is_in_other_component, label_at, seen_area, IsTagOf};
-ghost use Rattle.tsp_bound.specs.states.NumberedSites.{AreNumberedSites, IsNumberedSite};
 
 use crate::area::Area;
 use crate::boxed_weights::BoxedWeights;

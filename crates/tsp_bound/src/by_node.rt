@@ -4,9 +4,8 @@
 ghost use Rattle.std.specs.Prelude.{◌≡◌, ◌≢◌, ◌-◌, ◌<◌, ◌^◌, [], pos, IfOk};
 ghost use Rattle.std.specs.List.{All, AllPairs};
 ghost use Rattle.tsp_format.specs.Limits.{most_multiplier};
-ghost use Rattle.tsp_format.specs.Ranges.{IsFromTo};
-ghost use Rattle.tsp_theory.specs.CertificateNumbers.{IsMultiplier, AreMultipliers};
-ghost use Rattle.tsp_theory.specs.Adjusted.{AreOnPairs};
+ghost use Rattle.tsp_format.specs.Steps.{IsFromTo};
+ghost use Rattle.tsp_theory.specs.Bounds.{IsMultiplier, AreMultipliers, AreOnPairs};
 ghost use Rattle.tsp_bound.specs.states.ByNode.{IsTable, lowered_by};
 
 use crate::potentials::Multipliers;
@@ -27,9 +26,9 @@ pub(crate) struct ByNode<'a> {
 impl<'a> ByNode<'a> {
     ghost use Rattle.std.specs.Prelude.{ℕ};
     ghost use Rattle.tsp_format.specs.Nodes.{IsNode};
-    ghost use Rattle.tsp_theory.specs.Adjusted.{numbers_on};
+    ghost use Rattle.tsp_theory.specs.Bounds.{numbers_on};
     ghost use Rattle.tsp_bound.specs.states.ByNode.{AreLowerings, all_said_of};
-    ghost use Rattle.tsp_bound.specs.states.Multipliers.{triples_of, triples_in, node_count};
+    ghost use Rattle.tsp_bound.specs.states.Potentials.{triples_of, triples_in, node_count};
 
     /// The multipliers of different pairs of the nodes 1 to `nodes`, by node.
     ///

@@ -1,7 +1,7 @@
 //! Duals of an assignment: the certificate of a bound for costs that needn't be symmetric. For
 //! `src/assignment.rt`, and `src/potentials.rt` of tsp_verdict, which makes them of a file.
 
-ghost use Rattle.tsp_theory.specs.CertificateNumbers.{AreDuals};
+ghost use Rattle.tsp_theory.specs.Bounds.{AreDuals};
 
 use crate::potentials::{are_potentials, is_scale};
 

@@ -2,8 +2,7 @@
 //! costs without points whose rows aren't near in memory (`pairs_over` in `src/rounds.rt`).
 
 ghost use Rattle.std.specs.Prelude.{◌≡◌, ◌≤◌, ◌<◌, ◌+◌, ◌*◌, ◌^◌, ℕ, length};
-ghost use Rattle.tsp_bound.specs.states.Components.{label_at};
-ghost use Rattle.tsp_bound.specs.states.Lists.{weight_over, AreOffered, IsPut, IsTaken};
+ghost use Rattle.tsp_bound.specs.states.Components.{label_at, weight_over, AreOffered, IsPut, IsTaken};
 
 use crate::boxed_weights::BoxedWeights;
 use crate::boxes::{lesser, own_labels, rename};
@@ -13,7 +12,7 @@ use std::alloc::Global;
 use tsp_io::{Refused, filled};
 use tsp_theory::weight_in;
 
-/// How many links of each place are kept. Clauses here and in lists.rt, specs/states/Lists.antt
+/// How many links of each place are kept. Clauses here and in lists.rt, specs/states/Components.antt
 /// and proofs say 12: change all of these.
 const KEPT: usize = 12;
 
@@ -196,7 +195,7 @@ pub(crate) struct Listed<'a, W: BoxedWeights> {
 impl<'a, W: BoxedWeights> Listed<'a, W> {
     ghost use Rattle.std.specs.Prelude.{◌≢◌, ◌≤ℤ◌, pos, IfOk, IfSome};
     ghost use Rattle.tsp_bound.specs.states.Components.{IsKeptLink};
-    ghost use Rattle.tsp_bound.specs.states.Lists.{kept_at, IsOwnLink};
+    ghost use Rattle.tsp_bound.specs.states.Components.{kept_at, IsOwnLink};
 
     /// Nodes that are a component each, with their least links. The row that is lent is written
     /// over.

@@ -5,9 +5,8 @@ ghost use Rattle.std.specs.List.{All};
 ghost use Rattle.std.specs.Prelude.{◌↔◌, IsTrue, ◌≡◌, ◌≤◌, ◌*◌, ◌^◌, length, pos, neg_ℤ, ◌*ℤ◌, ◌≤ℤ◌};
 ghost use Rattle.tsp_format.specs.Limits.{most_nodes, most_potential, most_triples, most_multiplier, most_scale, most_weight};
 ghost use Rattle.tsp_format.specs.Nodes.{IsNode};
-ghost use Rattle.tsp_theory.specs.Adjusted.{triples_total};
-ghost use Rattle.tsp_theory.specs.CertificateNumbers.{AreNodePotentials, IsMultiplier, AreMultipliers, IsScale, ArePotentials, total, IsLeastBound, IsBoundSized};
-ghost use Rattle.tsp_format.specs.Ranges.{IsFromTo};
+ghost use Rattle.tsp_theory.specs.Bounds.{triples_total, AreNodePotentials, IsMultiplier, AreMultipliers, IsScale, ArePotentials, total, IsLeastBound, IsBoundSized};
+ghost use Rattle.tsp_format.specs.Steps.{IsFromTo};
 
 use tsp_format::{MOST_MULTIPLIER, MOST_MULTIPLIERS, MOST_POTENTIAL, MOST_SCALE};
 use tsp_theory::Costs;
@@ -23,10 +22,10 @@ pub struct Potentials<'a> {
 impl<'a> Potentials<'a> {
     ghost use Rattle.std.specs.Prelude.{◌≡◌, length, pos, neg_ℤ, MatchOption};
     ghost use Rattle.tsp_format.specs.Nodes.{IsNode};
-    ghost use Rattle.tsp_format.specs.Ranges.{IsFromTo};
-    ghost use Rattle.tsp_theory.specs.CertificateNumbers.{entry};
+    ghost use Rattle.tsp_format.specs.Steps.{IsFromTo};
+    ghost use Rattle.tsp_theory.specs.Bounds.{entry};
     ghost use Rattle.tsp_bound.specs.states.Potentials.{scale_of, numbers_of, weight_under};
-    ghost use Rattle.tsp_theory.specs.NodeBound.{most_between};
+    ghost use Rattle.tsp_theory.specs.Bounds.{most_between};
 
     /// The potentials of these numbers, each a count of 1 / scale.
     ///
@@ -93,7 +92,7 @@ pub struct Multipliers<'a> {
 
 impl<'a> Multipliers<'a> {
     ghost use Rattle.std.specs.Prelude.{◌≡◌, MatchOption};
-    ghost use Rattle.tsp_bound.specs.states.Multipliers.{triples_of};
+    ghost use Rattle.tsp_bound.specs.states.Potentials.{triples_of};
 
     /// The multipliers of these triples, each number a count of 1 / scale.
     ///

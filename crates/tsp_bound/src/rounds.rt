@@ -6,13 +6,12 @@ ghost use Rattle.std.specs.List.{All};
 ghost use Rattle.std.specs.Prelude.{◌≡◌, ◌≤◌, ◌<◌, ◌+◌, ◌*◌, ◌^◌, ℕ, length, slice_index_or, map, pos, neg_ℤ, IfOk, IfSome, true, false, MatchOption, ◌≤ℤ◌, ℤ};
 ghost use Rattle.tsp_format.specs.Limits.{most_nodes};
 ghost use Rattle.tsp_format.specs.Nodes.{IsNode};
-ghost use Rattle.tsp_format.specs.Ranges.{IsFromTo};
-ghost use Rattle.tsp_theory.specs.CertificateNumbers.{IsSumSized};
+ghost use Rattle.tsp_format.specs.Steps.{IsFromTo};
+ghost use Rattle.tsp_theory.specs.Bounds.{IsSumSized};
 ghost use Rattle.tsp_theory.specs.Forest.{IsWholeForest};
 ghost use Rattle.tsp_theory.specs.Tree.{IsInner, weight_of};
-ghost use Rattle.tsp_bound.specs.states.Boxes.{node_of};
+ghost use Rattle.tsp_bound.specs.states.Boxes.{node_of, IsNumbering, on_both};
 ghost use Rattle.tsp_bound.specs.states.Components.{IsSpanning, IsWeighedForest, AreKept, AreLeast, AreLeaving, IsOffered, IsForest, label_at, IsKeptLink};
-ghost use Rattle.tsp_bound.specs.states.Numbering.{IsNumbering, on_both};
 
 use crate::boxed_weights::BoxedWeights;
 use crate::boxes::{Labelled, own_labels};

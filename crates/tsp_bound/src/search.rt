@@ -7,12 +7,10 @@
 ghost use Rattle.std.specs.Bool.{OnTrue};
 ghost use Rattle.std.specs.Prelude.{◌≡◌, ◌<◌, ◌+◌, ◌^◌, ℕ, length, slice_index_or, ◌≤◌, ◌*◌, ◌≤ℤ◌, ◌*ℤ◌, Bool, Option, None, Some, MatchOption};
 ghost use Rattle.tsp_format.specs.Nodes.{IsNode};
-ghost use Rattle.tsp_theory.specs.CertificateNumbers.{IsScale};
+ghost use Rattle.tsp_theory.specs.Bounds.{IsScale};
 ghost use Rattle.tsp_theory.specs.Tree.{IsInner};
 ghost use Rattle.tsp_bound.specs.declared.area.Area.{Area};
-ghost use Rattle.tsp_bound.specs.states.Boxes.{node_of, IsSearched, no_best, HoldsNode, AreHeld, AreHeld-prop, IsBelowAll};
-ghost use Rattle.tsp_bound.specs.states.NumberedSites.{AreNumberedSites, IsNumberedSite};
-ghost use Rattle.tsp_bound.specs.states.Numbering.{IsNumbering};
+ghost use Rattle.tsp_bound.specs.states.Boxes.{node_of, IsSearched, no_best, HoldsNode, AreHeld, AreHeld-prop, IsBelowAll, AreNumberedSites, IsNumberedSite, IsNumbering};
 ghost use Rattle.tsp_bound.specs.states.Potentials.{IsInverse};
 
 use crate::area::Area;

@@ -1,14 +1,12 @@
 //! The weight of a least 1-tree, whose tree grows as its weights do it. For the leaves in
 //! `src/boxed.rt` of tsp_branch.
 
-
 ghost use Rattle.std.specs.Prelude.{◌≡◌, ◌≤◌, ◌+◌, ◌*◌, ◌^◌, ℕ, length, pos, neg_ℤ, IfOk, ◌<◌, slice_index, MatchOption, ◌<ℤ◌, ◌-◌, ℤ, ◌≢◌, ◌+ℤ◌};
 ghost use Rattle.tsp_format.specs.Limits.{most_nodes};
 ghost use Rattle.tsp_format.specs.Nodes.{IsNode};
-ghost use Rattle.tsp_format.specs.Ranges.{IsFromTo};
+ghost use Rattle.tsp_format.specs.Steps.{IsFromTo};
 ghost use Rattle.tsp_theory.specs.Forest.{IsWholeForest};
-ghost use Rattle.tsp_theory.specs.Growth.{IsWholeGrowth, AreNearest};
-ghost use Rattle.tsp_theory.specs.Tree.{weight_of};
+ghost use Rattle.tsp_theory.specs.Tree.{IsWholeGrowth, AreNearest, weight_of};
 ghost use Rattle.tsp_theory.specs.states.Nearest.{least_at, IsNearer};
 ghost use Rattle.tsp_bound.specs.Weighed.{IsLeastWeight};
 ghost use Rattle.tsp_bound.specs.states.Outside.{AreFromThree, AreBroughtNearer, AreInner, IsLeastPlace};

@@ -5,13 +5,11 @@ ghost use Rattle.std.specs.Prelude.{◌≡◌, ◌≤◌, ◌<◌, ◌+◌, ℕ,
 ghost use Rattle.std.specs.List.{All};
 ghost use Rattle.tsp_format.specs.Nodes.{IsNode};
 ghost use Rattle.tsp_format.specs.Limits.{most_multiplier};
-ghost use Rattle.tsp_theory.specs.NodeBound.{most_between};
-ghost use Rattle.tsp_format.specs.Ranges.{IsFromTo};
-ghost use Rattle.tsp_theory.specs.states.Nearest.{least_at};
-ghost use Rattle.tsp_theory.specs.states.Additions.{IsMoved};
+ghost use Rattle.tsp_theory.specs.Bounds.{most_between};
+ghost use Rattle.tsp_format.specs.Steps.{IsFromTo};
+ghost use Rattle.tsp_theory.specs.states.Nearest.{least_at, IsMoved};
 ghost use Rattle.tsp_bound.specs.states.ByNode.{lowered_by};
-ghost use Rattle.tsp_bound.specs.states.Multipliers.{node_count};
-ghost use Rattle.tsp_bound.specs.states.Potentials.{numbers_of, weight_under};
+ghost use Rattle.tsp_bound.specs.states.Potentials.{node_count, numbers_of, weight_under};
 
 use crate::boxed_weights::BoxedWeights;
 use crate::boxes::NumberedSite;
@@ -33,7 +31,7 @@ pub(crate) struct Weights<'a, C: Costs> {
 }
 
 impl<C: Costs> tsp_theory::Weights for Weights<'_, C> {
-    ghost use Rattle.tsp_bound.specs.states.Multipliers.{triples_in, weight_less};
+    ghost use Rattle.tsp_bound.specs.states.Potentials.{triples_in, weight_less};
 
     ghost nodes = { λ w. C.nodes w.c.now };
 
@@ -108,10 +106,10 @@ fn lower(row: &mut [i64], lowerings: &[(u32, i64)])
 
 impl<C: Costs> BoxedWeights for Weights<'_, C> {
     ghost use Rattle.std.specs.Prelude.{map};
-    ghost use Rattle.tsp_theory.specs.CertificateNumbers.{entry};
+    ghost use Rattle.tsp_theory.specs.Bounds.{entry};
     ghost use Rattle.tsp_bound.specs.states.ByNode.{all_said_of};
     ghost use Rattle.tsp_bound.specs.states.Potentials.{scale_of};
-    ghost use Rattle.tsp_bound.specs.states.Multipliers.{triples_in};
+    ghost use Rattle.tsp_bound.specs.states.Potentials.{triples_in};
 
     ghost place_of = { λ w. C.place w.c.now };
 

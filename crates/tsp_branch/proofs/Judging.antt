@@ -12,28 +12,25 @@ use Rattle.tsp_format.specs.Limits.{most_potential}
 use Rattle.tsp_format.specs.declared.steps.TreeStep.{TreeStep}
 use Rattle.tsp_format.specs.Steps as listed
 use Rattle.tsp_format.specs.states.TreeSteps.{steps_of}
-use Rattle.tsp_format.specs.Steps.{are_whole}
-use Rattle.tsp_format.specs.Symmetry.{IsSymmetric}
-use Rattle.tsp_format.specs.Ranges.{IsFromTo}
-use Rattle.tsp_theory.specs.CertificateNumbers.{IsScale}
+use Rattle.tsp_format.specs.Steps.{are_whole, IsFromTo}
+use Rattle.tsp_format.specs.Words.{IsSymmetric}
+use Rattle.tsp_theory.specs.Bounds.{IsScale}
 use Rattle.tsp_cases.specs.declared.family.Crossings.{Crossings}
 use Rattle.tsp_cases.specs.declared.judged.JudgedLeaves.{JudgedLeaves}
 use Rattle.tsp_cases.specs.declared.judged.JudgedLeaves.TheVariants as judged
 use Rattle.tsp_cases.specs.declared.judged.JudgedLeaf.TheVariants as leaves
 use Rattle.tsp_cases.specs.Families.{Family, IsFamily}
 use Rattle.tsp_cases.specs.declared.open_case.Decision.{Decision}
-use Rattle.tsp_cases.specs.Decisions.{decided_number}
-use Rattle.tsp_cases.specs.Cases.{LeafNumbers, leaves_of}
+use Rattle.tsp_cases.specs.Cases.{decided_number, LeafNumbers, leaves_of}
 use Rattle.tsp_cases.specs.CaseTrees.{AreLeafNumbers, IsFoundAt, AreCostsFor, BoundsIfAny, CaseTreesBoundCycles}
-use Rattle.tsp_cases.specs.GoodNumbers.{AreGoodNumbers, as_leaf_numbers, most_crossed}
-use Rattle.tsp_cases.specs.Listed.{split_at, no_numbers_of, listed_steps}
+use Rattle.tsp_cases.specs.ListedCases.{AreGoodNumbers, as_leaf_numbers, most_crossed, split_at, no_numbers_of, listed_steps}
 use Rattle.tsp_cases.specs.JudgedTrees.{AreCasesOf}
 use Rattle.tsp_cases.specs.declared.tree_cases.Cases.{Cases}
-use Rattle.tsp_cases.specs.states.Rooms.{AreSmall}
+use Rattle.tsp_cases.specs.states.Kept.{AreSmall}
 use Rattle.tsp_cases.specs.JudgedLeaves.{AreJudgedBy, IsFoundOfCase}
-use Rattle.tsp_cases.proofs.CaseWeights.{small_multipliers}
-use Rattle.tsp_cases.proofs.LeafPasses.{whole_trees}
-use Rattle.tsp_branch.specs.JudgedLeaves.{AreJudgedLeaves, BoundsCycles}
+use Rattle.tsp_cases.proofs.SetSums.{small_multipliers}
+use Rattle.tsp_cases.proofs.Passes.{whole_trees}
+use Rattle.tsp_branch.specs.BranchVerdicts.{AreJudgedLeaves, BoundsCycles}
 
 pub good_are_small : (n : ℕ) (crossed : List Crossings) (numbers : List ℤ) → All (λ own. 1 ≤ own.most) crossed
     → AreGoodNumbers n crossed (split_at n numbers) → AreSmall numbers

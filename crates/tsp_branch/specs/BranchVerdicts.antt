@@ -1,20 +1,55 @@
--- The verdict on a certificate by branching, for a TSP or an ATSP: its bound, or the first reason against it. For
--- `judge_branches` (src/verdict.rt). tsp_verdict imports it too.
-use Rattle.std.specs.Prelude.{ℕ, Bool, None, Some, IfSome, List, ℤ}
+-- The bound that the weight of a least 1-tree gives for a leaf. For `leaf_bound` (src/boxed.rt) and `bound_of_trees`
+-- (src/boxed.rt).
+use Rattle.std.specs.Prelude.{◌≡◌, ℕ, List, ℤ, pos, ◌+ℤ◌, ◌-ℤ◌, ◌*ℤ◌, length, Bool, None, Some, IfSome}
 use Rattle.tsp_format.specs.Steps as listed
-use Rattle.tsp_theory.specs.CertificateNumbers.{IsBoundSized}
+use Rattle.tsp_theory.specs.Bounds.{total, IsLeastBound, triples_total, IsBoundSized}
+use Rattle.tsp_bound.specs.Weighed.{IsLeastWeight}
+use Rattle.tsp_cases.specs.CaseTrees.{least_of, leaf_weight, IsLeafBound, IsCaseTree, IsCaseTreeBound, BoundsIfAny}
+use Rattle.tsp_cases.specs.Cases.{decided_number}
+use Rattle.tsp_cases.specs.Families.{Family, families_with, AreFamilies, IsFirstBadFamily}
+use Rattle.tsp_cases.specs.ListedCases.{listed_steps, AreGoodLeaves, IsFirstBadLeaf, AreBranchesWithin, AreBranchesJudged}
+use Rattle.tsp_cases.specs.declared.family.Crossings.{Crossings}
 use Rattle.tsp_cases.specs.declared.judged.JudgedLeaves.{JudgedLeaves}
 use Rattle.tsp_cases.specs.declared.judged.JudgedLeaves.TheVariants as judged
+use Rattle.tsp_cases.specs.declared.open_case.Decision.{Decision}
 use Rattle.tsp_branch.specs.declared.verdict.BranchVerdict.{BranchVerdict}
 use Rattle.tsp_branch.specs.declared.verdict.BranchVerdict.TheVariants as verdict
-use Rattle.tsp_cases.specs.declared.family.Crossings.{Crossings}
-use Rattle.tsp_cases.specs.CaseTrees.{BoundsIfAny}
-use Rattle.tsp_cases.specs.FamiliesOfSets.{families_with}
-use Rattle.tsp_cases.specs.declared.open_case.Decision.{Decision}
-use Rattle.tsp_cases.specs.GoodFamilies.{AreFamilies, IsFirstBadFamily}
-use Rattle.tsp_branch.specs.JudgedLeaves.{AreJudgedLeaves}
-use Rattle.tsp_cases.specs.BadBranches.{AreBranchesWithin}
-use Rattle.tsp_cases.specs.Twice.{AreBranchesJudged}
+
+-- the least whole number that, times the scale, is no less than the weight of a least 1-tree and the number given back
+pub record IsBoundOfWeights (n : ℕ) (w : ℕ → ℕ → ℤ) (scale given_back bound : ℤ) : Type 0 where
+  pub weight : ℤ
+  pub weighs : IsLeastWeight n w weight
+  pub bound_is : IsLeastBound scale (weight +ℤ given_back) bound
+
+-- what a leaf gives back: the numbers of its taken pairs and the least crossings of its families, each times its
+-- multiplier, less each potential twice
+abbrev pub given_back_of : List ℤ → List (ℕ × ℕ × ℤ) → List (Family × ℤ) → ℤ
+given_back_of potentials taken combs = (triples_total taken +ℤ least_of combs) -ℤ (pos 2 *ℤ total potentials)
+
+-- the bound is that of each leaf that has these weights and gives this back
+abbrev pub BoundsEachLeaf : ℕ → (ℕ → ℕ → ℤ) → ℤ → ℤ → ℤ → Type 0
+BoundsEachLeaf n w scale given_back bound = (cost : ℕ → ℕ → ℤ) (potentials : List ℤ) (taken avoided : List (ℕ × ℕ × ℤ))
+    (combs : List (Family × ℤ)) → ((i j : ℕ) → w i j ≡ leaf_weight scale potentials taken avoided combs cost i j)
+    → given_back ≡ given_back_of potentials taken combs → IsLeafBound n cost scale potentials taken avoided combs bound
+
+-- ---- the judgement on the leaves of a tree of cases by 1-trees or least links
+
+-- Where all leaves are good, the bound, or none where no leaf has one; else the first leaf that isn't.
+abbrev pub AreJudgedLeaves : Bool → ℕ → (ℕ → ℕ → ℤ) → ℤ → List Family → List Crossings → List Decision → List listed.Step
+    → JudgedLeaves
+    → Type 0
+AreJudgedLeaves directed n cost scale families crossed given steps (judged.Bound found) =
+    IsCaseTree n families given (listed_steps n (length crossed) steps)
+    × IsCaseTreeBound directed n cost scale decided_number families given (listed_steps n (length crossed) steps) found
+    × AreGoodLeaves n crossed steps
+AreJudgedLeaves directed n cost scale families crossed given steps (judged.BadLeaf leaf) = IsFirstBadLeaf n crossed steps leaf
+
+-- The bound is at most the length of every cycle that keeps the given decisions; if there is none, no cycle does.
+abbrev pub BoundsCycles : Bool → ℕ → (ℕ → ℕ → ℤ) → List Decision → JudgedLeaves → Type 0
+BoundsCycles directed n cost given (judged.Bound found) = BoundsIfAny directed n cost given found
+BoundsCycles directed n cost given (judged.BadLeaf leaf) = Unit {0}
+
+-- ---- the verdict on a certificate by branching, for a TSP or an ATSP
 
 -- the judgement on the leaves, where all families are good, each branch begins with a node, and none comes twice
 pub record AreLeavesJudged (directed : Bool) (n : ℕ) (cost : ℕ → ℕ → ℤ) (scale : ℤ)

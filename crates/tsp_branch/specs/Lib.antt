@@ -1,5 +1,3 @@
 -- The files of definitions of this crate. Crates above may import them.
 pub mod states
-pub mod LeafWeight
 pub mod BranchVerdicts
-pub mod JudgedLeaves

@@ -6,17 +6,14 @@ ghost use Rattle.std.specs.List.{All};
 ghost use Rattle.std.specs.Prelude.{◌≡◌, ◌+◌, false, ◌+ℤ◌, ◌*ℤ◌, ◌≤ℤ◌, length, pos, neg_ℤ, IfOk, ◌<◌, ◌*◌, true, ◌≤◌, ◌^◌, ℕ};
 ghost use Rattle.tsp_format.specs.Limits.{most_weight};
 ghost use Rattle.tsp_format.specs.Nodes.{IsNode};
-ghost use Rattle.tsp_format.specs.Ranges.{IsFromTo};
-ghost use Rattle.tsp_theory.specs.CertificateNumbers.{IsBoundSized, IsScale, IsLeastBound};
-ghost use Rattle.tsp_theory.specs.NodeBound.{weight_between, most_between};
+ghost use Rattle.tsp_format.specs.Steps.{IsFromTo};
+ghost use Rattle.tsp_theory.specs.Bounds.{IsBoundSized, IsScale, IsLeastBound, weight_between, most_between};
 ghost use Rattle.tsp_theory.specs.states.Nearest.{least_at};
-ghost use Rattle.tsp_cases.specs.Decisions.{decided_number};
-ghost use Rattle.tsp_cases.specs.states.Combed.{most_combed, set_weight};
-ghost use Rattle.tsp_cases.specs.states.Decided.{AreFewChanges, changes, decided};
-ghost use Rattle.tsp_cases.specs.states.Lent.{lent_in};
-ghost use Rattle.tsp_cases.specs.states.OpenCases.{decisions_in};
-ghost use Rattle.tsp_branch.specs.LeafWeight.{BoundsEachLeaf, IsBoundOfWeights};
-ghost use Rattle.tsp_branch.specs.states.Shared.{AreExact, is_same_place, has_place, shared_by, sum_at_places};
+ghost use Rattle.tsp_cases.specs.Cases.{decided_number};
+ghost use Rattle.tsp_cases.specs.states.Sets.{most_combed, set_weight, lent_in};
+ghost use Rattle.tsp_cases.specs.states.OpenCases.{AreFewChanges, changes, decided, decisions_in};
+ghost use Rattle.tsp_branch.specs.BranchVerdicts.{BoundsEachLeaf, IsBoundOfWeights};
+ghost use Rattle.tsp_branch.specs.states.LeafRows.{AreExact, is_same_place, has_place, shared_by, sum_at_places};
 
 use crate::case_leaf::{CaseLeaf, LeafSum, change_between};
 use std::alloc::Global;
@@ -142,7 +139,7 @@ impl<C: Costs> Growing for BoxedLeaf<'_, C> {
 }
 
 impl<C: Costs> BoxedWeights for BoxedLeaf<'_, C> {
-    ghost use Rattle.tsp_branch.specs.states.Shared.{raised, others_of};
+    ghost use Rattle.tsp_branch.specs.states.LeafRows.{raised, others_of};
 
     ghost place_of = { λ w. C.place w.leaf.now.setting.now.costs.now };
 

@@ -5,23 +5,17 @@ ghost use Rattle.std.specs.Int.{w64, int_wrap};
 ghost use Rattle.std.specs.List.{All, filter};
 ghost use Rattle.std.specs.Prelude.{◌≡◌, ◌+◌, ◌<◌, ◌^◌, length, pos, neg_ℤ, ◌-ℤ◌, ◌*ℤ◌, ℕ, ◌≤◌, List, true, ◌⊎◌, ℤ, ◌≤ℤ◌, ◌≢◌};
 ghost use Rattle.tsp_format.specs.Nodes.{IsNode};
-ghost use Rattle.tsp_theory.specs.Adjusted.{triples_total};
-ghost use Rattle.tsp_format.specs.Ranges.{IsFromTo};
-ghost use Rattle.tsp_theory.specs.CertificateNumbers.{total, IsScale};
-ghost use Rattle.tsp_theory.specs.states.Nearest.{least_at};
-ghost use Rattle.tsp_cases.specs.CaseTrees.{multiplied};
-ghost use Rattle.tsp_cases.specs.Decisions.{DecideOnce, on_taken, decided_number};
-ghost use Rattle.tsp_cases.specs.GoodNumbers.{AreGoodNumbers, as_leaf_numbers};
-ghost use Rattle.tsp_cases.specs.LeafBound.{least_of};
-ghost use Rattle.tsp_cases.specs.Rows.{Allows};
+ghost use Rattle.tsp_theory.specs.Bounds.{triples_total, total, IsScale};
+ghost use Rattle.tsp_format.specs.Steps.{IsFromTo};
+ghost use Rattle.tsp_theory.specs.states.Nearest.{least_at, IsMoved};
+ghost use Rattle.tsp_cases.specs.CaseTrees.{multiplied, least_of, Allows};
+ghost use Rattle.tsp_cases.specs.Cases.{DecideOnce, on_taken, decided_number};
+ghost use Rattle.tsp_cases.specs.ListedCases.{AreGoodNumbers, as_leaf_numbers};
 ghost use Rattle.tsp_cases.specs.declared.open_case.Decision.{Decision};
-ghost use Rattle.tsp_cases.specs.states.Combed.{AreFewCrossings};
-ghost use Rattle.tsp_cases.specs.states.Decided.{marks_in, IsOnPlaces, IsChanged, change_of, changes, stack_of};
+ghost use Rattle.tsp_cases.specs.states.Sets.{AreFewCrossings, lent_in, good_in};
+ghost use Rattle.tsp_cases.specs.states.OpenCases.{marks_in, IsOnPlaces, IsChanged, change_of, changes, stack_of, IsOpenCase, decisions_in, bears_on};
 ghost use Rattle.tsp_cases.specs.states.Kept.{AreMoved, AreRowsIfAny, kept_weight};
-ghost use Rattle.tsp_cases.specs.states.Lent.{lent_in, good_in};
-ghost use Rattle.tsp_cases.specs.states.OpenCases.{IsOpenCase, decisions_in, bears_on};
-ghost use Rattle.tsp_theory.specs.states.Additions.{IsMoved};
-ghost use Rattle.tsp_branch.specs.states.Closed.{no_link, IsOpenRow, IsShut};
+ghost use Rattle.tsp_branch.specs.states.LeafRows.{no_link, IsOpenRow, IsShut};
 
 use crate::boxed::{bound_of_trees, rounded_up};
 use std::alloc::Global;
@@ -57,12 +51,12 @@ pub(crate) struct CaseLeaf<'a, C: Costs> {
 
 impl<C: Costs> CaseLeaf<'_, C> {
     ghost use Rattle.std.specs.Prelude.{◌≡◌, ◌+◌, true, false, length, Some, IfOk, IfSome};
-    ghost use Rattle.tsp_theory.specs.CertificateNumbers.{IsBoundSized};
-    ghost use Rattle.tsp_cases.specs.Decisions.{decided_number};
+    ghost use Rattle.tsp_theory.specs.Bounds.{IsBoundSized};
+    ghost use Rattle.tsp_cases.specs.Cases.{decided_number};
     ghost use Rattle.tsp_cases.specs.CaseTrees.{IsFoundAt};
-    ghost use Rattle.tsp_cases.specs.states.Lent.{good_in};
+    ghost use Rattle.tsp_cases.specs.states.Sets.{good_in};
     ghost use Rattle.tsp_cases.specs.states.OpenCases.{decisions_in};
-    ghost use Rattle.tsp_cases.specs.GoodNumbers.{as_leaf_numbers};
+    ghost use Rattle.tsp_cases.specs.ListedCases.{as_leaf_numbers};
 
     /// The bound of the leaf under the decisions of its case; `None` where it has none, since some
     /// node has no link that these allow. A row is lent, which is written over.
@@ -261,9 +255,9 @@ impl<W: Weights> AllowedRows<'_, W> {
     ghost use Rattle.std.specs.Prelude.{◌≡◌, ◌+◌, ℕ, length, MatchOption, IfSome};
     ghost use Rattle.tsp_format.specs.Nodes.{IsNode};
     ghost use Rattle.tsp_format.specs.Limits.{most_nodes};
-    ghost use Rattle.tsp_theory.specs.CertificateNumbers.{IsBoundSized, IsSumSized};
+    ghost use Rattle.tsp_theory.specs.Bounds.{IsBoundSized, IsSumSized};
     ghost use Rattle.tsp_cases.specs.states.OpenCases.{decisions_in};
-    ghost use Rattle.tsp_cases.specs.Rows.{IsAllowed, HasNoLink, IsLeastFrom, IsSumOfLeast, IsRowBound};
+    ghost use Rattle.tsp_cases.specs.CaseTrees.{IsAllowed, HasNoLink, IsLeastFrom, IsSumOfLeast, IsRowBound};
 
     /// The bound of a leaf that has these weights: the least whole number that at the scale is no
     /// less than the least weights from all nodes plus a sum. `None` where the decisions allow no

@@ -6,8 +6,8 @@
 //! only the sets that hold its node.
 
 ghost use Rattle.std.specs.Prelude.{◌≡◌, true, pos, neg_ℤ};
-ghost use Rattle.tsp_format.specs.Ranges.{IsFromTo};
-ghost use Rattle.tsp_theory.specs.CertificateNumbers.{most_number};
+ghost use Rattle.tsp_format.specs.Steps.{IsFromTo};
+ghost use Rattle.tsp_theory.specs.Bounds.{most_number};
 
 use crate::boxed::are_few;
 use crate::case_leaf::{CaseLeaf, change_row};
@@ -32,16 +32,16 @@ fn is_number(number: i64) -> bool
 impl<C: Costs> CaseLeaf<'_, C> {
     ghost use Rattle.std.specs.Prelude.{◌≡◌, ◌<◌, ◌≤◌, ◌+◌, ◌+ℤ◌, ℕ, length, slice_index, pos, neg_ℤ};
     ghost use Rattle.tsp_format.specs.Nodes.{IsNode};
-    ghost use Rattle.tsp_format.specs.Ranges.{IsFromTo};
-    ghost use Rattle.tsp_theory.specs.CertificateNumbers.{IsScale, ArePotentials};
+    ghost use Rattle.tsp_format.specs.Steps.{IsFromTo};
+    ghost use Rattle.tsp_theory.specs.Bounds.{IsScale, ArePotentials};
     ghost use Rattle.tsp_theory.specs.states.Nearest.{least_at};
-    ghost use Rattle.tsp_theory.specs.NodeBound.{weight_between, most_between};
-    ghost use Rattle.tsp_theory.specs.states.Additions.{IsMoved};
-    ghost use Rattle.tsp_cases.specs.states.Lent.{lent_in};
-    ghost use Rattle.tsp_cases.specs.states.Combed.{AreSmallMultipliers, multipliers_at, AreFewCrossings, IsApart, most_combed, set_weight};
-    ghost use Rattle.tsp_cases.specs.states.Decided.{most_decided};
+    ghost use Rattle.tsp_theory.specs.Bounds.{weight_between, most_between};
+    ghost use Rattle.tsp_theory.specs.states.Nearest.{IsMoved};
+    ghost use Rattle.tsp_cases.specs.states.Sets.{lent_in};
+    ghost use Rattle.tsp_cases.specs.states.Sets.{AreSmallMultipliers, multipliers_at, AreFewCrossings, IsApart, most_combed, set_weight};
+    ghost use Rattle.tsp_cases.specs.states.OpenCases.{most_decided};
     ghost use Rattle.tsp_cases.specs.states.OpenCases.{decisions_in};
-    ghost use Rattle.tsp_branch.specs.states.Shared.{AreExact, decided_by};
+    ghost use Rattle.tsp_branch.specs.states.LeafRows.{AreExact, decided_by};
     ghost use Rattle.std.specs.Prelude.{true};
 
     /// Whether boxes seem to take no more time than rows that aren't kept.
@@ -177,10 +177,10 @@ impl<C: Costs> CaseLeaf<'_, C> {
 }
 
 impl<C: Costs> Weights for CaseLeaf<'_, C> {
-    ghost use Rattle.tsp_cases.specs.states.Lent.{lent_in};
-    ghost use Rattle.tsp_cases.specs.states.Combed.{set_weight};
+    ghost use Rattle.tsp_cases.specs.states.Sets.{lent_in};
+    ghost use Rattle.tsp_cases.specs.states.Sets.{set_weight};
     ghost use Rattle.tsp_cases.specs.states.OpenCases.{decisions_in};
-    ghost use Rattle.tsp_branch.specs.states.Shared.{decided_by};
+    ghost use Rattle.tsp_branch.specs.states.LeafRows.{decided_by};
 
     ghost nodes = { λ leaf. C.nodes leaf.setting.now.costs.now };
 

@@ -4,20 +4,17 @@
 ghost use Rattle.std.specs.List.{All};
 ghost use Rattle.std.specs.Prelude.{IfOk, ◌≡◌, ◌≤◌, ◌<◌, ◌^◌, false, length, ◌+◌};
 ghost use Rattle.tsp_format.specs.states.TreeSteps.{steps_of};
-ghost use Rattle.tsp_format.specs.Symmetry.{IsSymmetric};
+ghost use Rattle.tsp_format.specs.Words.{IsSymmetric};
 ghost use Rattle.tsp_cases.specs.CaseTrees.{IsFoundAt};
-ghost use Rattle.tsp_cases.specs.Decisions.{DecideOnce, decided_number};
+ghost use Rattle.tsp_cases.specs.Cases.{DecideOnce, decided_number};
 ghost use Rattle.tsp_cases.specs.Families.{IsFamily};
-ghost use Rattle.tsp_cases.specs.FamilySets.{families_in};
-ghost use Rattle.tsp_cases.specs.GoodNumbers.{AreGoodNumbers};
+ghost use Rattle.tsp_cases.specs.Crossings.{families_in};
+ghost use Rattle.tsp_cases.specs.ListedCases.{AreGoodNumbers};
 ghost use Rattle.tsp_cases.specs.JudgedLeaves.{AreSizedLeaves, IsFoundOfCase, IsSizedLeaf};
-ghost use Rattle.tsp_cases.specs.states.Decided.{marks_in};
-ghost use Rattle.tsp_cases.specs.states.Kept.{HoldsRows};
-ghost use Rattle.tsp_cases.specs.states.Lent.{good_in, lent_in};
-ghost use Rattle.tsp_cases.specs.states.OpenCases.{IsOpenCase, decisions_in};
-ghost use Rattle.tsp_cases.specs.states.Rooms.{IsRoom};
-ghost use Rattle.tsp_branch.specs.BranchVerdicts.{IsBranchVerdict, VerdictBoundsCycles, IsSizedVerdict};
-ghost use Rattle.tsp_branch.specs.JudgedLeaves.{AreJudgedLeaves, BoundsCycles};
+ghost use Rattle.tsp_cases.specs.states.OpenCases.{marks_in, IsOpenCase, decisions_in};
+ghost use Rattle.tsp_cases.specs.states.Kept.{HoldsRows, IsRoom};
+ghost use Rattle.tsp_cases.specs.states.Sets.{good_in, lent_in};
+ghost use Rattle.tsp_branch.specs.BranchVerdicts.{IsBranchVerdict, VerdictBoundsCycles, IsSizedVerdict, AreJudgedLeaves, BoundsCycles};
 
 use crate::case_leaf::CaseLeaf;
 use std::alloc::Global;
@@ -249,13 +246,13 @@ pub(crate) struct CycleJudge<'a, C: Costs> {
 
 impl<C: Costs> LeafJudge for CycleJudge<'_, C> {
     ghost use Rattle.std.specs.Prelude.{length};
-    ghost use Rattle.tsp_cases.specs.Decisions.{DecideOnce, decided_number};
-    ghost use Rattle.tsp_cases.specs.GoodNumbers.{AreGoodNumbers};
+    ghost use Rattle.tsp_cases.specs.Cases.{DecideOnce, decided_number};
+    ghost use Rattle.tsp_cases.specs.ListedCases.{AreGoodNumbers};
     ghost use Rattle.tsp_cases.specs.CaseTrees.{IsFoundAt};
-    ghost use Rattle.tsp_cases.specs.states.Lent.{lent_in, good_in};
-    ghost use Rattle.tsp_cases.specs.states.Decided.{marks_in};
+    ghost use Rattle.tsp_cases.specs.states.Sets.{lent_in, good_in};
+    ghost use Rattle.tsp_cases.specs.states.OpenCases.{marks_in};
     ghost use Rattle.tsp_cases.specs.states.Kept.{HoldsRows};
-    ghost use Rattle.tsp_cases.specs.states.Rooms.{IsRoom};
+    ghost use Rattle.tsp_cases.specs.states.Kept.{IsRoom};
 
     type Memory = Room;
 

@@ -3,8 +3,7 @@
 use Rattle.std.proofs.Common.{◌≡◌, ◌≢◌, ℕ, ◌≤◌, ◌^◌, List, Bool, true, false, Result, Ok, Err, inl, inr, sym, subst, ◌∙◌, arith}
 use Rattle.std.specs.Prelude.{Option, Some, ℤ, pos, negsuc, IfOk, unsigned_abs}
 use Rattle.std.proofs.lemmas.Int.{ints}
-use Rattle.tsp_io.specs.Turn.{Turn}
-use Rattle.tsp_io.specs.Sink.{Sink}
+use Rattle.tsp_io.specs.Streams.{Turn, Sink}
 use Rattle.tsp_file.specs.Fields.{Fields}
 use Rattle.tsp_report.specs.declared.task.Certificate.{Certificate}
 use Rattle.tsp_report.specs.declared.verdict.BoundVerdict.{BoundVerdict}
@@ -12,23 +11,18 @@ use Rattle.tsp_report.specs.declared.verdict.BoundVerdict.TheVariants as bounds
 use Rattle.tsp_report.specs.declared.verdict.Verdict.{Verdict}
 use Rattle.tsp_report.specs.Verdicts.{is_yes, is_bound_yes}
 use Rattle.tsp_report.specs.Report.{IsSized}
-use Rattle.tsp_verdict.specs.Bounded.{IsBoundVerdict}
-use Rattle.tsp_verdict.specs.Certified.{IsBoundFitting}
-use Rattle.tsp_verdict.specs.SolutionVerdict.{IsVerdictWith}
+use Rattle.tsp_verdict.specs.Certified.{IsBoundVerdict, IsBoundFitting}
+use Rattle.tsp_verdict.specs.SolutionVerdict.{IsVerdictWith, is_unjudged, strict_bound, strict_verdict}
 use Rattle.tsp_judge.specs.declared.bound.Bounded.{Bounded}
 use Rattle.tsp_judge.specs.declared.check.Judged.{Judged}
 use Rattle.tsp_judge.specs.declared.ends.RunFault.{RunFault}
-use Rattle.tsp_judge.specs.Status.{status_of_fault}
-use Rattle.tsp_judge.specs.CheckRun.{Given, given_by, EndsWithout, IsRun, acceptance}
-use Rattle.tsp_judge.specs.BoundRun.{EndsUnbounded, IsBoundRun}
+use Rattle.tsp_judge.specs.CheckRun.{status_of_fault, Given, given_by, EndsWithout, IsRun, acceptance, EndsUnbounded, IsBoundRun}
 use Rattle.tsp_c.specs.declared.call_result.CallResult.{CallResult}
-use Rattle.tsp_c.specs.Ended.{without_devices, bound_answer, EndsOnTexts}
+use Rattle.tsp_c.specs.NumberCalls.{without_devices, bound_answer, EndsOnTexts}
 use Rattle.tsp_c.specs.Texts.{with_certificate}
 use Rattle.tsp_c.specs.CallResult.{IsSizedBound, blank_result, result_of_run, result_of_bound_run, TellsTexts, TellsBound}
-use Rattle.tsp_c.proofs.StatusMeanings.{fault_status}
-use Rattle.tsp_c.proofs.OnHandles.{not_two}
-use Rattle.tsp_c.proofs.OnTexts.{Reads2, Reads3, are_spelled, unchecked, no_relayout, unbounded, not_relaid, spelled}
-use Rattle.tsp_verdict.specs.Strict.{is_unjudged, strict_bound, strict_verdict}
+use Rattle.tsp_c.proofs.PickedRuns.{fault_status, Reads2, Reads3, are_spelled, unchecked, no_relayout, unbounded, not_relaid, spelled}
+use Rattle.tsp_c.proofs.HandleCalls.{not_two}
 use Rattle.tsp_report.specs.declared.verdict.Verdict.TheVariants as verdicts
 
 -- ---- bounds that fit

@@ -1,10 +1,4 @@
 -- The files of lemmas of this crate. Crates above may import those that are public.
-pub mod AsBox
-mod Counted
-mod Distances
-mod StatusMeanings
-mod Filled
+pub mod HandleCalls
+mod PickedRuns
 mod InNumbers
-pub mod Lists
-mod OnHandles
-mod OnTexts

@@ -14,26 +14,24 @@ use Rattle.tsp_text.specs.declared.fault.LineFault.{LineFault}
 use Rattle.tsp_text.specs.declared.fault.LineFault.TheVariants as line_faults
 use Rattle.tsp_text.specs.declared.fault.ReadFault.{ReadFault}
 use Rattle.tsp_text.specs.declared.fault.ReadFault.TheVariants as read_faults
-use Rattle.tsp_text.specs.Text.{Spells}
+use Rattle.tsp_text.specs.Spells.{Spells}
 use Rattle.tsp_report.specs.declared.task.Certificate.{Certificate}
 use Rattle.tsp_report.specs.declared.verdict.BoundVerdict.{BoundVerdict}
 use Rattle.tsp_report.specs.declared.verdict.BoundVerdict.TheVariants as bounds
 use Rattle.tsp_report.specs.declared.verdict.Reason.{Reason}
 use Rattle.tsp_report.specs.declared.verdict.Verdict.{Verdict}
 use Rattle.tsp_report.specs.declared.verdict.Verdict.TheVariants as verdicts
-use Rattle.tsp_report.specs.ReasonRows.{rank_of, row_of_reason}
-use Rattle.tsp_report.specs.Verdicts.{is_yes, is_bound_yes}
+use Rattle.tsp_report.specs.Verdicts.{rank_of, row_of_reason, is_yes, is_bound_yes}
 use Rattle.tsp_report.specs.Report.{IsGapSized}
 use Rattle.tsp_verdict.specs.Certified.{is_bounded}
-use Rattle.tsp_verdict.specs.SolutionVerdict.{is_judged}
-use Rattle.tsp_verdict.specs.Strict.{IsBoundAsked, IsVerdictAsked}
+use Rattle.tsp_verdict.specs.SolutionVerdict.{is_judged, IsBoundAsked, IsVerdictAsked}
 use Rattle.tsp_judge.specs.declared.bound.Bounded.{Bounded}
 use Rattle.tsp_judge.specs.declared.check.Judged.{Judged}
 use Rattle.tsp_judge.specs.declared.ends.RunFault.{RunFault}
 use Rattle.tsp_judge.specs.declared.ends.RunFault.TheVariants.{File, WrongKind}
-use Rattle.tsp_judge.specs.Status.{status_of}
+use Rattle.tsp_judge.specs.CheckRun.{status_of}
 use Rattle.tsp_c.specs.declared.call_result.CallResult.{CallResult}
-use Rattle.tsp_c.specs.Ended.{nth}
+use Rattle.tsp_c.specs.NumberCalls.{nth}
 use Rattle.tsp_c.specs.Texts.{GivenText, AreSpelled, IsUnchecked, IsUnbounded, with_certificate, certificates, claim_of, strict_of}
 
 -- no number at all

@@ -1,6 +1,4 @@
 -- The files of definitions of this crate. Crates above may import them.
-pub mod Ended
-pub mod Held
 pub mod NumberCalls
 pub mod Opened
 pub mod Texts

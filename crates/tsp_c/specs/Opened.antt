@@ -1,21 +1,29 @@
 -- The results of the calls on a handle, which is open on an instance, with a certificate that may be bound to it. For
 -- src/handle_calls.rt. Texts.antt has the same calls on texts.
+use Rattle.std.specs.Coded.{coded_option}
 use Rattle.std.specs.Prelude.{◌≡◌, ◌⊎◌, ℕ, ◌≤◌, ◌<◌, Bool, List, Option, None, Some, Ok, ℤ}
-use Rattle.tsp_file.specs.Fields.{Fields}
-use Rattle.tsp_text.specs.Text.{Spells}
+use base.Fml.{Fml, ftrue}
+use base.Stored.{Coded}
+use denote.RawPtr.{Ptr}
+use Rattle.tsp_file.specs.Fields.{Fields, blank_fields}
+use Rattle.tsp_text.specs.Spells.{Spells}
+use Rattle.tsp_report.specs.Verdicts.{is_yes, is_bound_yes}
 use Rattle.tsp_report.specs.declared.task.Certificate.{Certificate}
 use Rattle.tsp_report.specs.declared.verdict.BoundVerdict.{BoundVerdict}
 use Rattle.tsp_report.specs.declared.verdict.Verdict.{Verdict}
-use Rattle.tsp_report.specs.Verdicts.{is_yes, is_bound_yes}
-use Rattle.tsp_verdict.specs.Strict.{is_unjudged, strict_verdict}
+use Rattle.tsp_verdict.specs.SolutionVerdict.{is_unjudged, strict_verdict}
+use Rattle.tsp_judge.specs.CheckRun.{status_of, status_of_fault}
+use Rattle.tsp_judge.specs.Open.{Open, IsOpened, IsUnopened, IsBoundTo, IsUnbound, IsHeldVerdict, IsNotJudged}
+use Rattle.tsp_judge.specs.contracts.opened.Opened.{the_row}
 use Rattle.tsp_judge.specs.declared.ends.RunFault.{RunFault}
 use Rattle.tsp_judge.specs.declared.ends.RunFault.TheVariants.{OutOfMemory}
-use Rattle.tsp_judge.specs.Status.{status_of, status_of_fault}
-use Rattle.tsp_judge.specs.Open.{Open, IsOpened, IsUnopened, IsBoundTo, IsUnbound, IsHeldVerdict, IsNotJudged}
-use Rattle.tsp_c.specs.declared.call_result.CallResult.{CallResult}
+use Rattle.std_alloc.specs.Box.Ownership.{box_owns}
+use Rattle.std_heap.specs.contracts.GlobalAllocator.TheImpl.{ghosts}
+use Rattle.std_heap.specs.declared.Global.{Global}
 use Rattle.tsp_c.specs.CallResult.{blank_result, result_of_instance, result_of_verdict, result_of_bound, result_of_fault}
 use Rattle.tsp_c.specs.NumberCalls.{section_points, IsSection, EndsPoints}
 use Rattle.tsp_c.specs.Texts.{GivenText, SpellsGiven, ChecksTexts, IsRefusedNumber, claim_of, strict_of}
+use Rattle.tsp_c.specs.declared.call_result.CallResult.{CallResult}
 
 -- the instance on which a handle is open, with its certificate; None where it is closed
 abbrev pub Held : Type 0
@@ -104,3 +112,19 @@ abbrev pub EndsSection : Fields → ℕ → List ℤ → List ℤ → ℕ → Ty
 EndsSection instance section old new status =
     (IsSection section × EndsPoints (section_points section instance) old new status)
     ⊎ ((status ≡ 4) × (new ≡ old) × ¬ IsSection section)
+
+-- ---- the ownership of a handle
+
+-- the box at this pointer is owned, with the open instance; nothing where none is open
+abbrev pub held_owns : Global → Ptr → Option Open → Fml
+held_owns alloc p None = ftrue
+held_owns alloc p (Some x) = box_owns (ghosts.dealloc_token alloc) the_row p x
+
+-- the open instance, if any, as a value in memory
+abbrev pub held_coded : Coded (Option Open)
+held_coded = coded_option the_row.coded
+
+-- the open instance; a blank one where none is open
+abbrev pub open_of : Option Open → Open
+open_of None = record { instance = blank_fields; certificate = None }
+open_of (Some opened) = opened

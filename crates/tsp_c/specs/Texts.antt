@@ -9,7 +9,7 @@ use Rattle.tsp_file.specs.Rules.{fault_of}
 use Rattle.tsp_file.specs.CanonicalText.{text_of}
 use Rattle.tsp_io.specs.declared.piece.WriteFault.TheVariants as write_faults
 use Rattle.tsp_text.specs.declared.fault.ReadFault.TheVariants as read_faults
-use Rattle.tsp_text.specs.Text.{fault, Spells}
+use Rattle.tsp_text.specs.Spells.{fault, Spells}
 use Rattle.tsp_report.specs.declared.task.Certificate.{Certificate}
 use Rattle.tsp_report.specs.declared.task.Certificate.TheVariants.{Potentials, Branches}
 use Rattle.tsp_report.specs.declared.verdict.BoundVerdict.{BoundVerdict}
@@ -17,10 +17,8 @@ use Rattle.tsp_report.specs.declared.verdict.BoundVerdict.TheVariants as bounds
 use Rattle.tsp_report.specs.declared.verdict.Reason.{Reason}
 use Rattle.tsp_report.specs.declared.verdict.Verdict.{Verdict}
 use Rattle.tsp_report.specs.declared.verdict.Verdict.TheVariants.{No}
-use Rattle.tsp_verdict.specs.Bounded.{NoneAgainstInstance}
-use Rattle.tsp_verdict.specs.Certified.{is_bounded, NoneWithoutMemory}
-use Rattle.tsp_verdict.specs.SolutionVerdict.{is_judged, NoneBeforeRepeatsOn}
-use Rattle.tsp_verdict.specs.Strict.{IsBoundAsked, IsVerdictAsked}
+use Rattle.tsp_verdict.specs.Certified.{NoneAgainstInstance, is_bounded, NoneWithoutMemory}
+use Rattle.tsp_verdict.specs.SolutionVerdict.{is_judged, NoneBeforeRepeatsOn, IsBoundAsked, IsVerdictAsked}
 use Rattle.tsp_report.specs.Report.{report_of, bound_report_of}
 use Rattle.tsp_report.specs.Show.{shown}
 use Rattle.tsp_judge.specs.Accepted.{IsAccepted, IsAcceptedAlone}
@@ -28,7 +26,7 @@ use Rattle.tsp_judge.specs.ConvertRun.{Becomes}
 use Rattle.tsp_judge.specs.declared.ends.RunFault.{RunFault}
 use Rattle.tsp_judge.specs.declared.ends.RunFault.TheVariants.{File, WrongKind, Write, OutOfMemory, Relayout}
 use Rattle.tsp_judge.specs.Open.{IsTextFault}
-use Rattle.tsp_c.specs.Ended.{EndsWithText, nth}
+use Rattle.tsp_c.specs.NumberCalls.{EndsWithText, nth}
 
 -- ---- a number that is refused
 

@@ -2,7 +2,7 @@
 //! `src/pair_costs.rt` and the other calls that fill in numbers.
 
 ghost use Rattle.std.specs.Prelude.{◌≡◌, Ok};
-ghost use Rattle.tsp_judge.specs.Status.{status_of, status_of_fault};
+ghost use Rattle.tsp_judge.specs.CheckRun.{status_of, status_of_fault};
 ghost use Rattle.tsp_judge.specs.declared.ends.RunFault.TheVariants.{OutOfMemory};
 
 use crate::in_box::NoBox;

@@ -1,13 +1,12 @@
 //! The distance of two points by the number of a weight type. For `tsp_distance` in `src/lib.rt`.
 
 ghost use Rattle.std.specs.Prelude.{◌≡◌, Some, option_map, SomeIff};
-ghost use Rattle.tsp_distance.specs.declared.decimal.Point.{Point};
-ghost use Rattle.tsp_distance.specs.Distances.{IsInSpace};
+ghost use Rattle.tsp_number.specs.declared.decimal.Point.{Point};
+ghost use Rattle.tsp_number.specs.Distances.{IsInSpace};
 ghost use Rattle.tsp_file.specs.Cost.{distance};
-ghost use Rattle.tsp_c.specs.Ended.{nth};
-ghost use Rattle.tsp_c.specs.NumberCalls.{GivesDistance, distance_kinds};
+ghost use Rattle.tsp_c.specs.NumberCalls.{nth, GivesDistance, distance_kinds};
 
-use tsp_distance::{Decimal, Point, att, ceil_2d, euc_2d, euc_3d, man_2d, man_3d, max_2d, max_3d};
+use tsp_number::{Decimal, Point, att, ceil_2d, euc_2d, euc_3d, man_2d, man_3d, max_2d, max_3d};
 
 /// There is no such distance.
 const NO_DISTANCE: i64 = -1;

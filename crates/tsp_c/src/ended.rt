@@ -4,7 +4,7 @@
 ghost use Rattle.std.specs.Prelude.{◌≡◌, ◌≢◌, IsErr, MatchResult, [], IfOk};
 ghost use Rattle.tsp_io.specs.states.Watched.{watched};
 ghost use Rattle.tsp_c.specs.CallResult.{blank_result};
-ghost use Rattle.tsp_c.specs.Ended.{EndsOnTexts, IsPlaced, IsPrinted, without_devices, fault_line};
+ghost use Rattle.tsp_c.specs.NumberCalls.{EndsOnTexts, IsPlaced, IsPrinted, without_devices, fault_line};
 ghost use Rattle.tsp_c.specs.Texts.{IsRefusedNumber};
 
 use crate::call_end::TOO_SMALL;

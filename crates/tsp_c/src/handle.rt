@@ -5,7 +5,7 @@ ghost use Rattle.std.specs.Option.{option_map};
 ghost use Rattle.std.specs.Prelude.{◌≡◌, None, Some, is_some, Option};
 ghost use Rattle.tsp_judge.specs.Open.{Open};
 ghost use Rattle.std_alloc.specs.Box.Ownership.{box_owns};
-ghost use Rattle.tsp_c.specs.Held.{held_coded, open_of};
+ghost use Rattle.tsp_c.specs.Opened.{held_coded, open_of};
 
 use std::alloc::{Allocator, Global};
 use std::boxed::Box;
@@ -78,7 +78,7 @@ pub struct Loose {
 }
 
 impl Model for Loose {
-    ghost use Rattle.tsp_c.specs.Held.{held_owns};
+    ghost use Rattle.tsp_c.specs.Opened.{held_owns};
 
     ghost also_owns = { λ l. held_owns l.alloc l.at l.value };
 }

@@ -4,17 +4,16 @@
 ghost use Rattle.std.specs.List.{All, count_by, position};
 ghost use Rattle.std.specs.Prelude.{◌≡◌, None, Some, MatchResult, ◌≤◌, ◌<◌, ◌*◌, length, option_map, slice_index_or, ◌-◌, ◌==◌, ◌↔◌, IsTrue, slice_index};
 ghost use Rattle.tsp_io.specs.states.Watched.{sink_of};
-ghost use Rattle.tsp_file.specs.Coords.{origin};
+ghost use Rattle.tsp_file.specs.Cost.{origin};
 ghost use Rattle.tsp_file.specs.Fields.{nodes_of};
 ghost use Rattle.tsp_file.specs.states.Drafts.{points_of};
 ghost use Rattle.tsp_report.specs.Report.{report_of, IsSized};
 ghost use Rattle.tsp_report.specs.Verdicts.{is_yes};
 ghost use Rattle.tsp_judge.specs.Open.{Open, IsOpened, IsUnopened};
-ghost use Rattle.tsp_judge.specs.Status.{status_of_fault};
+ghost use Rattle.tsp_judge.specs.CheckRun.{status_of_fault};
 ghost use Rattle.tsp_judge.specs.declared.ends.RunFault.TheVariants.{OutOfMemory};
 ghost use Rattle.tsp_c.specs.CallResult.{result_of_fault};
-ghost use Rattle.tsp_c.specs.Ended.{Reports, nth};
-ghost use Rattle.tsp_c.specs.NumberCalls.{EndsCount, EndsLengths, EndsMatrix, EndsWeights, EndsPoints, FillsPoints, IsFilled, IsSection, coordinate, point_number, section_points, AreLists, FillsLengths, list_count, list_length};
+ghost use Rattle.tsp_c.specs.NumberCalls.{Reports, nth, EndsCount, EndsLengths, EndsMatrix, EndsWeights, EndsPoints, FillsPoints, IsFilled, IsSection, coordinate, point_number, section_points, AreLists, FillsLengths, list_count, list_length};
 ghost use Rattle.tsp_c.specs.Opened.{BindsOpen, BindsText, ChecksAsTexts, ChecksHeld, EndsSection, OfHeld, OpensText, TellsJudged};
 ghost use Rattle.tsp_c.specs.Texts.{certificates};
 
@@ -31,11 +30,9 @@ use std::alloc::Global;
 use std::boxed::Box;
 use std::io::Write;
 use tsp_cost::{Costs, Instance, tour_length};
-use tsp_distance::{InSpace, Point};
 use tsp_file::{Coords, File};
-use tsp_judge::{
-    Certificate, Opened, RunError, Verdict, Watched, read_text, verdicts_mean_reports,
-};
+use tsp_judge::{Certificate, Opened, RunError, Verdict, Watched, read_text, verdicts_mean_reports};
+use tsp_number::{InSpace, Point};
 use tsp_report::write_report;
 use tsp_verdict::strict_verdict;
 
@@ -421,7 +418,7 @@ pub(crate) fn fill_lengths(alloc: Global, text: &[u8], nodes: &[u32], out: &mut 
 }
 
 /// Fills in the lengths of lists of nodes of an instance; the status.
-#[tactic(auto, using(crate::proofs::Lists::lists_counted))]
+#[tactic(auto, using(crate::proofs::HandleCalls::lists_counted))]
 fn lengths_of(instance: &Instance, nodes: &[u32], out: &mut [i64]) -> CallEnd
     ensures { EndsLengths instance.now nodes.now out.old out.new result }
 {

@@ -9,10 +9,9 @@
 #![tactic(auto)]
 
 ghost use Rattle.std.specs.Prelude.{◌≡◌, None};
-ghost use Rattle.tsp_distance.specs.declared.decimal.Point.{Point};
+ghost use Rattle.tsp_number.specs.declared.decimal.Point.{Point};
 ghost use Rattle.tsp_c.specs.CallResult.{TellsBoundBy, TellsBy};
-ghost use Rattle.tsp_c.specs.Ended.{PlacesText, nth};
-ghost use Rattle.tsp_c.specs.NumberCalls.{EndsCount, EndsLengths, EndsMatrix, EndsWeights, FillsCount, FillsLengths, FillsMatrix, FillsPoints, FillsWeights, GivesDistance};
+ghost use Rattle.tsp_c.specs.NumberCalls.{PlacesText, nth, EndsCount, EndsLengths, EndsMatrix, EndsWeights, FillsCount, FillsLengths, FillsMatrix, FillsPoints, FillsWeights, GivesDistance};
 ghost use Rattle.tsp_c.specs.Opened.{BindsText, ChecksHeld, EndsSection, OfHeld, OpensText};
 ghost use Rattle.tsp_c.specs.Texts.{BoundsBy, ChecksBy, ConvertsBy, ExplainsTexts, ShowsText, bounds_asked, certificates};
 

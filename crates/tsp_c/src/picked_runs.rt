@@ -5,7 +5,7 @@ ghost use Rattle.std.specs.Prelude.{◌≡◌, ◌≤◌};
 ghost use Rattle.tsp_format.specs.Words.{layouts};
 ghost use Rattle.tsp_judge.specs.CheckRun.{acceptance};
 ghost use Rattle.tsp_c.specs.CallResult.{TellsBoundBy, TellsBy, TellsBound, TellsTexts};
-ghost use Rattle.tsp_c.specs.Ended.{nth, done, bound_answer};
+ghost use Rattle.tsp_c.specs.NumberCalls.{nth, done, bound_answer};
 ghost use Rattle.tsp_c.specs.Texts.{BoundsBy, ChecksBy, ConvertsBy, bounds_asked, certificates, claim_of, strict_of, BoundsTexts, ChecksTexts, ConvertsText, ShowsText, with_certificate};
 
 use crate::call_result::CallResult;

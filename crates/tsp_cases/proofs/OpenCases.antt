@@ -1,25 +1,105 @@
--- The decisions of the open case, listed at the nodes of their pairs, after one decision is added or dropped. For
--- `NodeDecisions::add` in src/open_case.rt and others.
-use Rattle.std.proofs.Common.{◌≡◌, ◌≢◌, ℕ, suc, ◌+◌, ◌-◌, ◌<◌, ◌≤◌, ◌==◌, Bool, true, false, List, [], ◌∷◌, ◌++◌, get_or, length, take, drop, inl, inr, refl, ap, sym, subst, ap₂, ◌∙◌, arith}
-use Rattle.std.specs.Prelude.{◌⊎◌, pos}
-use Rattle.std.specs.Global.{Vec}
-use Rattle.std.specs.List.{All, filter, list_any}
+-- The next case after a leaf: the topmost taken pair of the stack becomes avoided, where code has the top at the end of
+-- a list. For `OpenCase::next` in src/open_case.rt.
+use Rattle.std.proofs.Common.{◌≡◌, ◌+◌, false, List, [], ◌∷◌, ◌++◌, refl, ap, ◌∙◌, ℕ, zero, suc, ◌==◌, ◌&&◌, Bool, true, ◌⊎◌, inl, inr, sym, arith, ◌≢◌, ◌-◌, ◌<◌, ◌≤◌, get_or, length, take, drop, subst, ap₂}
 use Rattle.std.proofs.Math.Bool.{or-true}
-use Rattle.std.proofs.lemmas.Bool.{cases_eq, eq-eqb, ne_eqb, eqb-true, and_parts}
+use Rattle.std.proofs.lemmas.Bool.{cases_Bool, both_ways, or_cases, and_parts, eqb-true, eq-eqb, cases_eq, ne_eqb}
 use Rattle.std.proofs.lemmas.Int.{ints}
-use Rattle.std.proofs.lemmas.List.{length-reverse, take_all, take_more}
-use Rattle.std.proofs.lemmas.List.Elements.{All-from_recursion, recursion_from_All}
+use Rattle.std.proofs.lemmas.List.{reverse-append, length-reverse, take_all, take_more}
+use Rattle.std.proofs.lemmas.List.Elements.{recursion_from_All, All-from_recursion}
 use Rattle.std.proofs.lemmas.List.Sorted.{IsPermutation-reverse, list_any-IsPermutation}
 use Rattle.std.proofs.lemmas.Map.Views.{any-filter_same}
+use Rattle.std.specs.Global.{Vec}
+use Rattle.std.specs.List.{AllByRecursion, All, filter, list_any}
+use Rattle.std.specs.Prelude.{pos, neg_ℤ, ◌+ℤ◌, reverse}
+use Rattle.tsp_format.specs.Steps.{IsFromTo}
+use Rattle.tsp_theory.specs.Bounds.{is_same_pair}
+use Rattle.tsp_cases.specs.Cases.{next_stack, DecideOnce, decided_number, is_same}
+use Rattle.tsp_cases.specs.ListedCases.{is_decided}
 use Rattle.tsp_cases.specs.declared.open_case.Decision.{Decision}
-use Rattle.tsp_cases.specs.Decisions.{is_same}
-use Rattle.tsp_cases.specs.Twice.{is_decided}
 use Rattle.tsp_cases.specs.declared.open_case.NodeDecisions.{NodeDecisions}
 use Rattle.tsp_cases.specs.declared.open_case.OpenCase.{OpenCase}
-use Rattle.tsp_cases.specs.states.Decided.{IsDecision, stack_of, change_of, changes}
-use Rattle.tsp_cases.specs.states.OpenCases.{bears_on, listed_at, AreByNode, HaveOneMore, HaveOneLess, decisions_in, IsOpenCase}
-use Rattle.tsp_cases.proofs.DecidedOnce.{told, changes_turned}
-use Rattle.tsp_cases.proofs.NextCases.{stack_more}
+use Rattle.tsp_cases.specs.states.OpenCases.{stack_of, signed, changes, AreFewChanges, IsDecision, change_of, bears_on, listed_at, AreByNode, HaveOneMore, HaveOneLess, decisions_in, IsOpenCase}
+
+pub stack_more : (xs : List Decision) (d : Decision) → stack_of (xs ++ d ∷ []) ≡ d ∷ stack_of xs
+stack_more xs d = reverse-append xs (d ∷ [])
+
+pub next_avoided : (d : Decision) (xs : List Decision) → d.taken ≡ false → next_stack (stack_of (xs ++ d ∷ [])) ≡ next_stack (stack_of xs)
+next_avoided d xs h = ap next_stack (stack_more xs d) ∙ rw h refl
+
+-- ---- where no two decisions are on the same pair, the decisions of a case change a weight by
+
+-- two pairs on the same two nodes are the same pair, in either order
+abbrev pub Same : ℕ × ℕ → ℕ → ℕ → Type 0
+Same p i j = ((p.0 ≡ i) × (p.1 ≡ j)) ⊎ ((p.1 ≡ i) × (p.0 ≡ j))
+
+pub told : (p : ℕ × ℕ) (i j : ℕ) → is_same_pair p (i, j) ≡ true → Same p i j
+told p i j h = elim (or_cases ((p.0 == i) && (p.1 == j)) ((p.1 == i) && (p.0 == j)) h) [
+  | inl one ↦ let two = and_parts (p.0 == i) (p.1 == j) one in inl (eqb-true p.0 i two.0, eqb-true p.1 j two.1)
+  | inr one ↦ let two = and_parts (p.1 == i) (p.0 == j) one in inr (eqb-true p.1 i two.0, eqb-true p.0 j two.1)
+]
+
+both_on : (p q : ℕ × ℕ) (i j : ℕ) → Same p i j → Same q i j → is_same_pair p q ≡ true
+both_on p q i j (inl a) (inl b) = rw (eq-eqb p.0 q.0 (a.0 ∙ sym b.0), eq-eqb p.1 q.1 (a.1 ∙ sym b.1)) refl
+both_on p q i j (inr a) (inr b) = rw (eq-eqb p.0 q.0 (a.1 ∙ sym b.1), eq-eqb p.1 q.1 (a.0 ∙ sym b.0)) refl
+both_on p q i j (inl a) (inr b) = rw (eq-eqb p.1 q.0 (a.1 ∙ sym b.1), eq-eqb p.0 q.1 (a.0 ∙ sym b.0)) (or-true ((p.0 == q.0) && (p.1 == q.1)))
+both_on p q i j (inr a) (inl b) = rw (eq-eqb p.1 q.0 (a.0 ∙ sym b.0), eq-eqb p.0 q.1 (a.1 ∙ sym b.1)) (or-true ((p.0 == q.0) && (p.1 == q.1)))
+
+-- ---- what decisions change, in any order
+
+pub changes_both : (ds es : List Decision) (i j : ℕ) → changes (ds ++ es) i j ≡ changes ds i j +ℤ changes es i j
+changes_both [] es i j = omega (arith, ints)
+changes_both (d ∷ ds) es i j = let rest = changes_both ds es i j in omega (arith, ints, rest)
+
+pub changes_turned : (ds : List Decision) (i j : ℕ) → changes (reverse ds) i j ≡ changes ds i j
+changes_turned [] i j = refl
+changes_turned (d ∷ ds) i j =
+    let split = ap (λ es. changes es i j) (reverse-append (d ∷ []) ds) in
+    let both = changes_both (reverse ds) (d ∷ []) i j in
+    let rest = changes_turned ds i j in
+    omega (arith, ints, split, both, rest)
+
+-- ---- decisions on different pairs
+
+abbrev Apart : List Decision → Type 0
+Apart [] = Unit {0}
+Apart (d ∷ ds) = AllByRecursion (λ e. is_same_pair d.pair e.pair ≡ false) ds × Apart ds
+
+apart : (ds : List Decision) → DecideOnce false ds → Apart ds
+apart [] h = tt
+apart (d ∷ ds) h = (
+  recursion_from_All (λ e. is_same_pair d.pair e.pair ≡ false) ds (λ k e lt. h zero (suc k) e (omega arith) (omega arith)),
+  apart ds (λ i j e below lt. h (suc i) (suc j) e (omega arith) (omega arith)),
+)
+
+none_else : (d : Decision) (ds : List Decision) (i j : ℕ) → is_same_pair d.pair (i, j) ≡ true → AllByRecursion (λ e. is_same_pair d.pair e.pair ≡ false) ds → changes ds i j ≡ pos 0
+none_else d [] i j h k = refl
+none_else d (e ∷ es) i j h k =
+    let rest = none_else d es i j h k.1 in
+    elim (cases_Bool (is_same_pair e.pair (i, j))) [
+      | inl same ↦ absurd (both_ways (is_same_pair d.pair e.pair) k.0 (both_on d.pair e.pair i j (told d.pair i j h) (told e.pair i j same)))
+      | inr other ↦ rw other (omega (arith, ints, rest))
+    ]
+
+signed_size : (taken : Bool) → IsFromTo (neg_ℤ decided_number) decided_number (signed taken)
+signed_size true = (omega (arith, ints), omega (arith, ints))
+signed_size false = (omega (arith, ints), omega (arith, ints))
+
+changed_once : (ds : List Decision) (i j : ℕ) → Apart ds → IsFromTo (neg_ℤ decided_number) decided_number (changes ds i j)
+changed_once [] i j h = (omega (arith, ints), omega (arith, ints))
+changed_once (d ∷ ds) i j h = elim (cases_Bool (is_same_pair d.pair (i, j))) [
+  | inl same ↦
+      let none = none_else d ds i j same h.0 in
+      let own = signed_size d.taken in
+      rw same (omega (arith, ints, none, own.0), omega (arith, ints, none, own.1))
+  | inr other ↦
+      let rest = changed_once ds i j h.1 in
+      rw other (omega (arith, ints, rest.0), omega (arith, ints, rest.1))
+]
+
+pub few_changes : (case : List Decision) → DecideOnce false case → AreFewChanges case
+few_changes case once i j = changed_once case i j (apart case once)
+
+-- ---- the decisions of the open case, listed at the nodes of their pairs, after one decision
 
 -- ---- the stack of decisions
 

@@ -1,22 +1,242 @@
--- Every cycle crosses sets as often as a walk through their parts, and some cycle as often as the best cyclic order of
--- these. For the law `least_lengths_are_unique` in src/laws.rt and others.
-use Rattle.std.proofs.Common.{◌≡◌, ◌≢◌, ℕ, zero, suc, ◌-◌, Bool, true, false, not, cond, List, [], ◌∷◌, length, get_or, ◌+ℤ◌, ◌≤ℤ◌, inl, inr, refl, arith, ap, ap₂, sym, ◌∙◌, subst}
-use Rattle.std.specs.Prelude.{pos, slice_index}
-use Rattle.std.specs.List.{AllZip, AllByRecursion, range_with_len}
-use Rattle.std.proofs.lemmas.Bool.{cases_order}
+-- Lists of different numbers, and which numbers they have. For `best_path` in src/family.rt and others.
+use Rattle.std.proofs.Common.{◌≡◌, ◌≢◌, ℕ, zero, suc, ◌+◌, ◌<◌, ◌≤◌, ◌==◌, ◌⊎◌, cond, List, [], ◌∷◌, length, inl, inr, refl, arith, ap, sym, ◌∙◌, subst, Bool, true, false, ◌++◌, ℤ, ◌+ℤ◌, ◌≤ℤ◌, ◌-◌, not, get_or, ap₂}
+use Rattle.std.proofs.lemmas.Bool.{cases_eq, eq-eqb, ne_eqb, cases_Bool, both_ways, or_parts, or_from, eqb-false, cases_order}
 use Rattle.std.proofs.lemmas.Int.{ints}
-use Rattle.std.proofs.lemmas.List.{get_or_default}
-use Rattle.std.proofs.lemmas.List.Elements.{recursion_from_All}
+use Rattle.std.proofs.lemmas.List.{append-nil, get_or_default}
+use Rattle.std.proofs.lemmas.List.Elements.{recursion_from_All, All-from_recursion}
 use Rattle.std.proofs.lemmas.List.FromFn.{length-range_with_len}
+use Rattle.std.proofs.lemmas.List.Kept.{AllPairs-cons}
+use Rattle.std.specs.List.{AllPairs, AllByRecursion, range_with_len, AllZip}
+use Rattle.std.specs.Prelude.{if◌then◌else◌, pos, slice_index}
 use Rattle.tsp_format.specs.Nodes.{IsNode}
-use Rattle.tsp_theory.specs.Cycle.{IsCycle}
-use Rattle.tsp_theory.specs.Length.{length_of}
-use Rattle.tsp_theory.proofs.Crossings.{one_if}
-use Rattle.tsp_cases.specs.Crossed.{sets_crossed, AreAlike, AreUnlike}
-use Rattle.tsp_cases.specs.SetParts.{ArePartsOf, between, PartsBoundCycles, LeastLengthsAreUnique, MostCostsAreUnique, UnlikeNodesNeedParts}
-use Rattle.tsp_cases.specs.Paths.{AllApart}
-use Rattle.tsp_cases.proofs.Lists.{Within, weaker, within_or_apart, no_more, run_has, apart_from_pairs}
-use Rattle.tsp_cases.proofs.Walks.{length_to, shorter_cycle}
+use Rattle.tsp_theory.proofs.Neighbours.{one_if}
+use Rattle.tsp_theory.specs.Tour.{IsCycle, links_to, sum_int_by, length_of}
+use Rattle.tsp_theory.specs.Tree.{and_node}
+use Rattle.tsp_cases.specs.Crossings.{AllApart, sets_crossed, AreAlike, AreUnlike, ArePartsOf, between, PartsBoundCycles, LeastLengthsAreUnique, MostCostsAreUnique, UnlikeNodesNeedParts}
+
+-- ---- membership, by recursion
+
+abbrev pub Within : List ℕ → ℕ → Type 0
+Within [] x = ⊥
+Within (y ∷ ys) x = (y ≡ x) ⊎ Within ys x
+
+-- a statement on each number of a list is one on a number within it
+pub at_within : (P : ℕ → Type 0) (xs : List ℕ) (x : ℕ) → AllByRecursion P xs → Within xs x → P x
+at_within P [] x all h = absurd h
+at_within P (y ∷ ys) x all (inl same) = subst P same all.0
+at_within P (y ∷ ys) x all (inr later) = at_within P ys x all.1 later
+
+pub weaker : (P Q : ℕ → Type 0) → ((x : ℕ) → P x → Q x) → (xs : List ℕ) → AllByRecursion P xs → AllByRecursion Q xs
+weaker P Q f [] h = tt
+weaker P Q f (x ∷ xs) h = (f x h.0, weaker P Q f xs h.1)
+
+-- a number is within a list, or differs from each of its numbers
+pub within_or_apart : (x : ℕ) (xs : List ℕ) → Within xs x ⊎ AllByRecursion (λ y. x ≢ y) xs
+within_or_apart x [] = inr tt
+within_or_apart x (y ∷ ys) = elim (cases_eq x y) [
+  | inl same ↦ inl (inl (sym same))
+  | inr other ↦ elim (within_or_apart x ys) [ inl h ↦ inl (inr h) | inr h ↦ inr (other, h) ]
+]
+
+-- ---- different elements
+
+pub apart_from_pairs : (xs : List ℕ) → AllPairs (λ a b. a ≢ b) xs → AllApart xs
+apart_from_pairs [] h = tt
+apart_from_pairs (x ∷ xs) h = (
+  recursion_from_All (λ y. x ≢ y) xs (λ k d lt. h zero (suc k) d (omega arith) (omega arith)),
+  apart_from_pairs xs (λ i j d below lt. h (suc i) (suc j) d (omega arith) (omega arith)),
+)
+
+pub pairs_from_apart : (xs : List ℕ) → AllApart xs → AllPairs (λ a b. a ≢ b) xs
+pairs_from_apart [] h = λ i j d below lt. absurd (omega (arith, lt))
+pairs_from_apart (x ∷ xs) h = AllPairs-cons (λ a b. a ≢ b) x xs (All-from_recursion (λ y. x ≢ y) xs h.0) (pairs_from_apart xs h.1)
+
+-- a list without the first place of a number
+abbrev without : ℕ → List ℕ → List ℕ
+without x [] = []
+without x (y ∷ ys) = cond (x == y) ys (y ∷ without x ys)
+
+without_long : (x : ℕ) (ys : List ℕ) → Within ys x → length ys ≡ suc (length (without x ys))
+without_long x [] h = absurd h
+without_long x (y ∷ ys) h = elim (cases_eq x y) [
+  | inl same ↦ rw (eq-eqb x y same) refl
+  | inr other ↦ rw (ne_eqb x y other) (ap suc (without_long x ys (later other h)))
+]
+  where
+    later : x ≢ y → (y ≡ x) ⊎ Within ys x → Within ys x
+    later other (inl same) = absurd (other (sym same))
+    later other (inr w) = w
+
+without_has : (x z : ℕ) (ys : List ℕ) → x ≢ z → Within ys z → Within (without x ys) z
+without_has x z [] other h = absurd h
+without_has x z (y ∷ ys) other h = elim (cases_eq x y) [
+  | inl same ↦ rw (eq-eqb x y same) (later same h)
+  | inr apart ↦ rw (ne_eqb x y apart) (kept (without_has x z ys other) h)
+]
+  where
+    later : x ≡ y → (y ≡ z) ⊎ Within ys z → Within ys z
+    later same (inl is) = absurd (other (same ∙ is))
+    later same (inr h) = h
+
+    kept : (Within ys z → Within (without x ys) z) → (y ≡ z) ⊎ Within ys z → (y ≡ z) ⊎ Within (without x ys) z
+    kept rest (inl is) = inl is
+    kept rest (inr w) = inr (rest w)
+
+-- different elements that are all in a list are no more than it has
+pub no_more : (xs ys : List ℕ) → AllApart xs → AllByRecursion (Within ys) xs → length xs ≤ length ys
+no_more [] ys apart inside = omega arith
+no_more (x ∷ xs) ys apart inside =
+    let rest = no_more xs (without x ys) apart.1 (left xs apart.0 inside.1) in
+    let long = without_long x ys inside.0 in
+    omega (arith, rest, long)
+  where
+    left : (zs : List ℕ) → AllByRecursion (λ z. x ≢ z) zs → AllByRecursion (Within ys) zs → AllByRecursion (Within (without x ys)) zs
+    left [] other h = tt
+    left (z ∷ zs) other h = (without_has x z ys other.0 h.0, left zs other.1 h.1)
+
+-- ---- runs of numbers
+
+pub run_apart : (a b k : ℕ) → a < b → AllByRecursion (λ y. a ≢ y) (range_with_len b k)
+run_apart a b zero h = tt
+run_apart a b (suc k) h = (omega arith, run_apart a (b + 1) k (omega arith))
+
+pub run_once : (a k : ℕ) → AllApart (range_with_len a k)
+run_once a zero = tt
+run_once a (suc k) = (run_apart a (a + 1) k (omega arith), run_once (a + 1) k)
+
+pub run_has : (a k x : ℕ) → a ≤ x → x < a + k → Within (range_with_len a k) x
+run_has a zero x low high = absurd (omega arith)
+run_has a (suc k) x low high = elim (cases_eq a x) [
+  | inl same ↦ inl same
+  | inr other ↦ inr (run_has (a + 1) k x (omega arith) (omega arith))
+]
+
+pub run_range : (P : ℕ → Type 0) (a k : ℕ) → ((x : ℕ) → a ≤ x → x < a + k → P x) → AllByRecursion P (range_with_len a k)
+run_range P a zero h = tt
+run_range P a (suc k) h = (h a (omega arith) (omega arith), run_range P (a + 1) k (λ x low high. h x (omega arith) (omega arith)))
+
+-- ---- cycles
+
+-- different nodes of 1..n, and all of them
+pub cycle_from : (n : ℕ) (xs : List ℕ) → AllByRecursion (IsNode n) xs → AllApart xs → ((x : ℕ) → IsNode n x → Within xs x)
+    → IsCycle n xs
+cycle_from n xs range apart all =
+    let inside = weaker (IsNode n) (Within (range_with_len 1 n)) (λ x h. run_has 1 n x h.0 (omega (arith, h.1))) xs range in
+    let most = no_more xs (range_with_len 1 n) apart inside in
+    let least = no_more (range_with_len 1 n) xs (run_once 1 n) (run_range (Within xs) 1 n (λ x low high. all x (low, omega (arith, high)))) in
+    let long = length-range_with_len 1 n in
+    record {
+      count = omega (arith, most, least, long);
+      range = All-from_recursion (IsNode n) xs range;
+      once = pairs_from_apart xs apart;
+    }
+
+-- ---- a closed walk in which nothing is repeated is no longer
+
+-- from a node along others to an end
+abbrev pub length_to : (ℕ → ℕ → ℤ) → ℕ → ℕ → List ℕ → ℤ
+length_to cost end from others = sum_int_by (λ link. cost link.0 link.1) (links_to end from others)
+
+length_through : (cost : ℕ → ℕ → ℤ) (end from middle : ℕ) (before after : List ℕ)
+    → length_to cost end from (before ++ middle ∷ after) ≡ length_to cost middle from before +ℤ length_to cost end middle after
+length_through cost end from middle [] after = omega (arith, ints)
+length_through cost end from middle (next ∷ before) after = let rest = length_through cost end next middle before after in omega (arith, ints)
+
+-- a cycle from another of its nodes on
+pub turned_length : (cost : ℕ → ℕ → ℤ) (node : ℕ) (before after : List ℕ)
+    → length_of cost (before ++ node ∷ after) ≡ length_of cost (node ∷ (after ++ before))
+turned_length cost node [] after = ap (λ xs. length_of cost (node ∷ xs)) (sym (append-nil after))
+turned_length cost node (first ∷ before) after =
+    let one = length_through cost first first node before after in
+    let two = length_through cost node node first after before in
+    omega (arith, ints)
+
+-- ---- a walk without its repetitions
+
+abbrev pub KeepsTriangles : (ℕ → ℕ → ℤ) → Type 0
+KeepsTriangles cost = (a b c : ℕ) → cost a c ≤ℤ (cost a b +ℤ cost b c)
+
+-- the elements that aren't seen before
+abbrev kept : (ℕ → Bool) → List ℕ → List ℕ
+kept seen [] = []
+kept seen (x ∷ xs) = if seen x then kept seen xs else (x ∷ kept (and_node seen x) xs)
+
+skipped : (cost : ℕ → ℕ → ℤ) → KeepsTriangles cost → (end from x : ℕ) (xs : List ℕ)
+    → length_to cost end from xs ≤ℤ (cost from x +ℤ length_to cost end x xs)
+skipped cost keeps end from x [] = omega (arith, ints, keeps from x end)
+skipped cost keeps end from x (y ∷ ys) = omega (arith, ints, keeps from x y)
+
+kept_shorter : (cost : ℕ → ℕ → ℤ) → KeepsTriangles cost → (end from : ℕ) (seen : ℕ → Bool) (xs : List ℕ)
+    → length_to cost end from (kept seen xs) ≤ℤ length_to cost end from xs
+kept_shorter cost keeps end from seen [] = omega (arith, ints)
+kept_shorter cost keeps end from seen (x ∷ xs) = elim (cases_Bool (seen x)) [
+  | inl h ↦ rw h (omega (arith, ints, kept_shorter cost keeps end from seen xs, skipped cost keeps end from x xs))
+  | inr h ↦ rw h (omega (arith, ints, kept_shorter cost keeps end x (and_node seen x) xs))
+]
+
+kept_all : (P : ℕ → Type 0) (seen : ℕ → Bool) (xs : List ℕ) → AllByRecursion P xs → AllByRecursion P (kept seen xs)
+kept_all P seen [] h = tt
+kept_all P seen (x ∷ xs) h = elim (cases_Bool (seen x)) [
+  | inl e ↦ rw e (kept_all P seen xs h.1)
+  | inr e ↦ rw e (h.0, kept_all P (and_node seen x) xs h.1)
+]
+
+kept_unseen : (seen : ℕ → Bool) (xs : List ℕ) → AllByRecursion (λ y. seen y ≡ false) (kept seen xs)
+kept_unseen seen [] = tt
+kept_unseen seen (x ∷ xs) = elim (cases_Bool (seen x)) [
+  | inl e ↦ rw e (kept_unseen seen xs)
+  | inr e ↦ rw e (e, weaker (λ y. and_node seen x y ≡ false) (λ y. seen y ≡ false) (λ y h. (or_parts (y == x) (seen y) h).1) (kept (and_node seen x) xs) (kept_unseen (and_node seen x) xs))
+]
+
+kept_once : (seen : ℕ → Bool) (xs : List ℕ) → AllApart (kept seen xs)
+kept_once seen [] = tt
+kept_once seen (x ∷ xs) = elim (cases_Bool (seen x)) [
+  | inl e ↦ rw e (kept_once seen xs)
+  | inr e ↦ rw e (
+    weaker (λ y. and_node seen x y ≡ false) (λ y. x ≢ y) (λ y h. λ same. eqb-false y x (or_parts (y == x) (seen y) h).0 (sym same)) (kept (and_node seen x) xs) (kept_unseen (and_node seen x) xs),
+    kept_once (and_node seen x) xs,
+  )
+]
+
+kept_has : (seen : ℕ → Bool) (xs : List ℕ) (x : ℕ) → seen x ≡ false → Within xs x → Within (kept seen xs) x
+kept_has seen [] x unseen h = absurd h
+kept_has seen (y ∷ ys) x unseen h = elim (cases_Bool (seen y)) [
+  | inl e ↦ rw e (kept_has seen ys x unseen (later e h))
+  | inr e ↦ rw e (elim (cases_eq x y) [
+    | inl same ↦ inl (sym same)
+    | inr other ↦ inr (kept_has (and_node seen y) ys x (or_from (x == y) (seen x) (ne_eqb x y other) unseen) (tail other h))
+  ])
+]
+  where
+    later : seen y ≡ true → (y ≡ x) ⊎ Within ys x → Within ys x
+    later e (inl same) = absurd (both_ways (seen y) (ap seen same ∙ unseen) e)
+    later e (inr w) = w
+
+    tail : x ≢ y → (y ≡ x) ⊎ Within ys x → Within ys x
+    tail other (inl same) = absurd (other (sym same))
+    tail other (inr w) = w
+
+-- a closed walk through all nodes of 1..n has a cycle that is no longer
+pub shorter_cycle : (n : ℕ) (cost : ℕ → ℕ → ℤ) (x : ℕ) (xs : List ℕ) → KeepsTriangles cost → AllByRecursion (IsNode n) (x ∷ xs)
+    → ((y : ℕ) → IsNode n y → Within (x ∷ xs) y)
+    → (nodes : List ℕ) × IsCycle n nodes × (length_of cost nodes ≤ℤ length_of cost (x ∷ xs))
+shorter_cycle n cost x xs keeps range all =
+    let seen : ℕ → Bool = λ y. y == x in (
+      x ∷ kept seen xs,
+      cycle_from n (x ∷ kept seen xs) (range.0, kept_all (IsNode n) seen xs range.1)
+          (weaker (λ y. seen y ≡ false) (λ y. x ≢ y) (λ y h. λ same. eqb-false y x h (sym same)) (kept seen xs) (kept_unseen seen xs), kept_once seen xs)
+          (λ y node. has y (all y node)),
+      kept_shorter cost keeps x x seen xs,
+    )
+  where
+    has : (y : ℕ) → (x ≡ y) ⊎ Within xs y → (x ≡ y) ⊎ Within (kept (λ z. z == x) xs) y
+    has y (inl same) = inl same
+    has y (inr w) = elim (cases_eq y x) [
+      | inl same ↦ inl (sym same)
+      | inr other ↦ inr (kept_has (λ z. z == x) xs y (ne_eqb y x other) w)
+    ]
+
+-- ---- every cycle crosses sets as often as a walk through their parts
 
 -- ---- crossings
 

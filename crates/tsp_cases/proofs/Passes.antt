@@ -1,23 +1,216 @@
--- One pass over the steps with a stack of decisions: the lowest bound so far, with the leaves still to come, has the
--- least bound of all leaves. For `judge_leaves` in src/pass.rt.
-use Rattle.std.proofs.Common.{◌≡◌, ◌∙◌, ℕ, suc, Bool, true, false, List, [], ◌∷◌, ◌++◌, length, ℤ, ◌≤ℤ◌, inl, inr, refl, ap, sym, subst, arith}
-use Rattle.std.specs.Prelude.{◌⊎◌, Option, Some, None, IfSome}
-use Rattle.std.specs.List.{All, Any, AllByRecursion}
+-- A list that a call has written over, and the step at an index of a tree of cases. For `judge_leaves` in src/pass.rt
+-- and others.
+use Rattle.std.proofs.Common.{◌≡◌, ◌∙◌, ℕ, ◌+◌, ◌<◌, List, ◌∷◌, ◌++◌, length, take, drop, get_or, sym, ap, subst, arith, drop-cons, add-one, zero, suc, ◌-◌, Bool, true, false, [], ℤ, inl, inr, ◌≤ℤ◌, refl, ◌^◌, ◌≤◌, length-append}
 use Rattle.std.proofs.lemmas.Bool.{both_ways}
 use Rattle.std.proofs.lemmas.Int.{ints}
+use Rattle.std.proofs.lemmas.List.{get_or-map, length-map, take-append-le, take_all, length-reverse, drop_all}
 use Rattle.std.proofs.lemmas.List.Elements.{recursion_from_All, All-from_recursion}
+use Rattle.std.specs.List.{All, Any, AllByRecursion}
+use Rattle.std.specs.Prelude.{◌⊎◌, Option, Some, None, IfSome}
+use Rattle.tsp_format.specs.Steps.{are_whole}
 use Rattle.tsp_format.specs.Steps as listed
-use Rattle.tsp_cases.specs.declared.open_case.Decision.{Decision}
-use Rattle.tsp_cases.specs.Cases.{LeafNumbers, are_case_trees, decide, leaves_of, cases_of, later_cases, open_cases, next_stack}
-use Rattle.tsp_cases.specs.CaseTrees.{IsAbove, IsLeastFound}
-use Rattle.tsp_cases.specs.states.Decided.{stack_of}
-use Rattle.tsp_cases.specs.Listed.{all_grown, split_at, steps_from, no_numbers_of, listed_steps, IsGoodLeafBy, AreGoodLeavesBy}
-use Rattle.tsp_cases.specs.LeafBounds.{IsLowest}
-use Rattle.tsp_cases.specs.JudgedLeaves.{AreJudgedBy}
-use Rattle.tsp_cases.specs.declared.judged.JudgedLeaves.TheVariants as judged
+use Rattle.tsp_format.specs.declared.steps.TreeStep.{TreeStep}
+use Rattle.tsp_format.specs.states.TreeSteps.{step_of, steps_of}
+use Rattle.tsp_theory.specs.Bounds.{IsBoundSized}
 use Rattle.tsp_cases.proofs.CaseLaws.{stacks_hold_cases}
-use Rattle.tsp_cases.proofs.NextCases.{stack_more}
-use Rattle.tsp_cases.proofs.OnePass.{AreGoodFrom, IsFirstBadFrom, all_good_by_place}
+use Rattle.tsp_cases.proofs.OpenCases.{stack_more}
+use Rattle.tsp_cases.specs.CaseTrees.{IsAbove, IsLeastFound}
+use Rattle.tsp_cases.specs.Cases.{LeafNumbers, decide, are_case_trees, leaves_of, cases_of, later_cases, open_cases, next_stack}
+use Rattle.tsp_cases.specs.JudgedLeaves.{IsLowest, AreJudgedBy, IsJudgedLeaf, IsSizedLeaf}
+use Rattle.tsp_cases.specs.ListedCases.{IsStepOf, all_grown, no_numbers_of, leaf_changes, after_leaves, IsGoodLeafBy, AreGoodLeavesBy, IsFirstBadLeafBy, is_decided, Divided, branches_of_cases, IsFirstTwice, split_at, steps_from, listed_steps}
+use Rattle.tsp_cases.specs.declared.judged.JudgedLeaf.{JudgedLeaf}
+use Rattle.tsp_cases.specs.declared.judged.JudgedLeaf.TheVariants as leaves
+use Rattle.tsp_cases.specs.declared.judged.JudgedLeaves.TheVariants as judged
+use Rattle.tsp_cases.specs.declared.open_case.Decision.{Decision}
+use Rattle.tsp_cases.specs.states.Kept.{AreSmall}
+use Rattle.tsp_cases.specs.states.OpenCases.{stack_of, IsNextStack}
+
+-- a list that was written over whole
+pub written : {A : Type 0} (len : ℕ) (xs rest : List A) → length xs ≡ len → take len (xs ++ rest) ≡ xs
+written len xs rest long = take-append-le len xs rest (omega (arith, long)) ∙ take_all len xs (omega (arith, long))
+
+pub left_at : (steps : List TreeStep) (index : ℕ) (step : TreeStep) → index < length steps → step ≡ get_or steps index step
+    → drop index steps ≡ step ∷ drop (index + 1) steps
+left_at steps index step lt is =
+    drop-cons steps index step lt ∙ ap (λ (k : ℕ). get_or steps index step ∷ drop k steps) (sym (add-one index)) ∙ ap
+    (λ (s : TreeStep). s ∷ drop (index + 1) steps) (sym is)
+
+pub own_step : (n : ℕ) (steps : List TreeStep) (index : ℕ) (step other : TreeStep) → All (IsStepOf n) (steps_of steps)
+    → index < length steps → step ≡ get_or steps index step → step ≡ other
+    → IsStepOf n (step_of other)
+own_step n steps index step other each lt is same =
+    subst (λ (s : TreeStep). IsStepOf n (step_of s)) (sym is ∙ same)
+    (subst (IsStepOf n) (get_or-map step_of steps index step (step_of step) lt)
+    (each index (step_of step) (subst (λ (k : ℕ). index < k) (sym (length-map steps step_of)) lt)))
+
+-- ---- the first bad leaf is the same in one pass over the steps and by index
+
+-- ---- leaves
+
+-- all leaves are good, if the leaf before them had these numbers
+abbrev pub AreGoodFrom : (LeafNumbers → Type 0) → ℕ → ℕ → List ℤ → List listed.Step → Type 0
+AreGoodFrom Good n combs numbers [] = Unit {0}
+AreGoodFrom Good n combs numbers (listed.Branch a b ∷ steps) = AreGoodFrom Good n combs numbers steps
+AreGoodFrom Good n combs numbers (listed.Leaf changes ∷ steps) =
+    IsGoodLeafBy Good n combs numbers changes × AreGoodFrom Good n combs (all_grown changes numbers) steps
+
+-- the index of the first leaf that isn't good, counted from the leaf before
+abbrev pub IsFirstBadFrom : (LeafNumbers → Type 0) → ℕ → ℕ → List ℤ → ℕ → List listed.Step → ℕ → Type 0
+IsFirstBadFrom Good n combs numbers leaf [] bad = ⊥
+IsFirstBadFrom Good n combs numbers leaf (listed.Branch a b ∷ steps) bad = IsFirstBadFrom Good n combs numbers leaf steps bad
+IsFirstBadFrom Good n combs numbers leaf (listed.Leaf changes ∷ steps) bad =
+    ((bad ≡ suc leaf) × (IsGoodLeafBy Good n combs numbers changes → ⊥))
+    ⊎ (IsGoodLeafBy Good n combs numbers changes × IsFirstBadFrom Good n combs (all_grown changes numbers) (suc leaf) steps bad)
+
+-- the leaf after k others is good
+abbrev GoodAfter : (LeafNumbers → Type 0) → ℕ → ℕ → List ℤ → List (List (ℕ × ℤ)) → ℕ → Type 0
+GoodAfter Good n combs numbers leaves k = IsGoodLeafBy Good n combs (after_leaves (take k leaves) numbers) (get_or leaves k [])
+
+-- the first bad one is after k others
+record IsBadAfter (Good : LeafNumbers → Type 0) (n combs : ℕ) (numbers : List ℤ) (leaves : List (List (ℕ × ℤ))) (k : ℕ) : Type 0 where
+  inside : k < length leaves
+  bad : GoodAfter Good n combs numbers leaves k → ⊥
+  before : (j : ℕ) → j < k → GoodAfter Good n combs numbers leaves j
+
+bad_by_place : (Good : LeafNumbers → Type 0) (n combs : ℕ) (numbers : List ℤ) (leaf : ℕ) (steps : List listed.Step) (bad : ℕ) → IsFirstBadFrom Good n combs numbers leaf steps bad
+    → (k : ℕ) × (bad ≡ leaf + suc k) × IsBadAfter Good n combs numbers (leaf_changes steps) k
+bad_by_place Good n combs numbers leaf [] bad h = absurd h
+bad_by_place Good n combs numbers leaf (listed.Branch a b ∷ steps) bad h = bad_by_place Good n combs numbers leaf steps bad h
+bad_by_place Good n combs numbers leaf (listed.Leaf changes ∷ steps) bad (inl here) = (
+  0,
+  omega (arith, here.0),
+  record { inside = omega arith; bad = here.1; before = λ j lt. absurd (omega (arith, lt)) },
+)
+bad_by_place Good n combs numbers leaf (listed.Leaf changes ∷ steps) bad (inr later) =
+    let rest = bad_by_place Good n combs (all_grown changes numbers) (suc leaf) steps bad later.1 in (
+      suc rest.0,
+      omega (arith, rest.1),
+      record {
+        inside = omega (arith, rest.2.inside);
+        bad = rest.2.bad;
+        before = one_more (GoodAfter Good n combs numbers (changes ∷ leaf_changes steps)) rest.0 later.0 rest.2.before;
+      },
+    )
+  where
+    one_more : (P : ℕ → Type 0) (k : ℕ) → P 0 → ((j : ℕ) → j < k → P (suc j)) → (j : ℕ) → j < suc k → P j
+    one_more P k first more zero lt = first
+    one_more P k first more (suc j) lt = more j (omega (arith, lt))
+
+good_by_place : (Good : LeafNumbers → Type 0) (n combs : ℕ) (numbers : List ℤ) (steps : List listed.Step) → AreGoodFrom Good n combs numbers steps → (k : ℕ) → k < length (leaf_changes steps)
+    → GoodAfter Good n combs numbers (leaf_changes steps) k
+good_by_place Good n combs numbers [] h k lt = absurd (omega (arith, lt))
+good_by_place Good n combs numbers (listed.Branch a b ∷ steps) h k lt = good_by_place Good n combs numbers steps h k lt
+good_by_place Good n combs numbers (listed.Leaf changes ∷ steps) h zero lt = h.0
+good_by_place Good n combs numbers (listed.Leaf changes ∷ steps) h (suc k) lt = good_by_place Good n combs (all_grown changes numbers) steps h.1 k (omega (arith, lt))
+
+-- of a whole tree, before whose first leaf all numbers are 0
+pub first_bad_by_place : (Good : LeafNumbers → Type 0) (n combs : ℕ) (steps : List listed.Step) (bad : ℕ) → IsFirstBadFrom Good n combs (no_numbers_of n combs) 0 steps bad
+    → IsFirstBadLeafBy Good n combs steps bad
+first_bad_by_place Good n combs steps bad h =
+    let found = bad_by_place Good n combs (no_numbers_of n combs) 0 steps bad h in
+    let place : found.0 ≡ bad - 1 = omega (arith, found.1) in
+    record {
+      least = omega (arith, found.1);
+      most = omega (arith, found.1, found.2.inside);
+      bad = subst (λ (k : ℕ). GoodAfter Good n combs (no_numbers_of n combs) (leaf_changes steps) k → ⊥) place found.2.bad;
+      before = λ earlier from lt. found.2.before (earlier - 1) (omega (arith, from, lt, found.1));
+    }
+
+pub all_good_by_place : (Good : LeafNumbers → Type 0) (n combs : ℕ) (steps : List listed.Step) → AreGoodFrom Good n combs (no_numbers_of n combs) steps → AreGoodLeavesBy Good n combs steps
+all_good_by_place Good n combs steps h place from within = good_by_place Good n combs (no_numbers_of n combs) steps h (place - 1) (omega (arith, from, within))
+
+-- ---- branches
+
+-- the first branch on a pair that the case decides which it divides, counted on from the branches before it
+abbrev pub IsFirstTwiceFrom : Bool → ℕ → List (List Decision) → List listed.Step → ℕ → Type 0
+IsFirstTwiceFrom directed branch [] steps first = ⊥
+IsFirstTwiceFrom directed branch (case ∷ cases) [] first = ⊥
+IsFirstTwiceFrom directed branch (case ∷ cases) (listed.Branch a b ∷ steps) first =
+    ((first ≡ suc branch) × (is_decided directed case (a, b) ≡ true))
+    ⊎ ((is_decided directed case (a, b) ≡ false)
+    × IsFirstTwiceFrom directed (suc branch) (decide (a, b) true case ∷ decide (a, b) false case ∷ cases) steps first)
+IsFirstTwiceFrom directed branch (case ∷ cases) (listed.Leaf changes ∷ steps) first = IsFirstTwiceFrom directed branch cases steps first
+
+-- the branch after k others is on a pair that its case decides
+abbrev twice_after : Bool → List Divided → ℕ → Bool
+twice_after directed branches k =
+    is_decided directed (get_or branches k (record { case = []; pair = (0, 0) })).case (get_or branches k (record { case = []; pair = (0, 0) })).pair
+
+record IsTwiceAfter (directed : Bool) (branches : List Divided) (k : ℕ) : Type 0 where
+  inside : k < length branches
+  twice : twice_after directed branches k ≡ true
+  before : (j : ℕ) → j < k → twice_after directed branches j ≡ false
+
+twice_by_place : (directed : Bool) (branch : ℕ) (cases : List (List Decision)) (steps : List listed.Step) (first : ℕ) → IsFirstTwiceFrom directed branch cases steps first
+    → (k : ℕ) × (first ≡ branch + suc k) × IsTwiceAfter directed (branches_of_cases cases steps) k
+twice_by_place directed branch [] steps first h = absurd h
+twice_by_place directed branch (case ∷ cases) [] first h = absurd h
+twice_by_place directed branch (case ∷ cases) (listed.Branch a b ∷ steps) first (inl here) = (
+  0,
+  omega (arith, here.0),
+  record { inside = omega arith; twice = here.1; before = λ j lt. absurd (omega (arith, lt)) },
+)
+twice_by_place directed branch (case ∷ cases) (listed.Branch a b ∷ steps) first (inr later) =
+    let after : List (List Decision) = decide (a, b) true case ∷ decide (a, b) false case ∷ cases in
+    let rest = twice_by_place directed (suc branch) after steps first later.1 in (
+      suc rest.0,
+      omega (arith, rest.1),
+      record {
+        inside = omega (arith, rest.2.inside);
+        twice = rest.2.twice;
+        before = one_more (λ j. twice_after directed (record { case = case; pair = (a, b) } ∷ branches_of_cases after steps) j ≡ false) rest.0 later.0 rest.2.before;
+      },
+    )
+  where
+    one_more : (P : ℕ → Type 0) (k : ℕ) → P 0 → ((j : ℕ) → j < k → P (suc j)) → (j : ℕ) → j < suc k → P j
+    one_more P k none more zero lt = none
+    one_more P k none more (suc j) lt = more j (omega (arith, lt))
+twice_by_place directed branch (case ∷ cases) (listed.Leaf changes ∷ steps) first h = twice_by_place directed branch cases steps first h
+
+twice_in_pass : (directed : Bool) (branch : ℕ) (cases : List (List Decision)) (steps : List listed.Step) (k : ℕ) → IsTwiceAfter directed (branches_of_cases cases steps) k
+    → IsFirstTwiceFrom directed branch cases steps (branch + suc k)
+twice_in_pass directed branch [] steps k h = absurd (omega (arith, h.inside))
+twice_in_pass directed branch (case ∷ cases) [] k h = absurd (omega (arith, h.inside))
+twice_in_pass directed branch (case ∷ cases) (listed.Branch a b ∷ steps) zero h = inl (omega arith, h.twice)
+twice_in_pass directed branch (case ∷ cases) (listed.Branch a b ∷ steps) (suc k) h =
+    let after : List (List Decision) = decide (a, b) true case ∷ decide (a, b) false case ∷ cases in
+    let same : suc branch + suc k ≡ branch + suc (suc k) = omega arith in
+    inr (
+      h.before 0 (omega arith),
+      subst (IsFirstTwiceFrom directed (suc branch) after steps) same (twice_in_pass directed (suc branch) after steps k (record {
+        inside = omega (arith, h.inside);
+        twice = h.twice;
+        before = λ j lt. h.before (suc j) (omega (arith, lt));
+      })),
+    )
+twice_in_pass directed branch (case ∷ cases) (listed.Leaf changes ∷ steps) k h = twice_in_pass directed branch cases steps k h
+
+-- of a whole tree, which begins with the given decisions
+pub first_twice_by_place : (directed : Bool) (given : List Decision) (steps : List listed.Step) (first : ℕ) → IsFirstTwiceFrom directed 0 (given ∷ []) steps first
+    → IsFirstTwice directed given steps first
+first_twice_by_place directed given steps first h =
+    let found = twice_by_place directed 0 (given ∷ []) steps first h in
+    let place : found.0 ≡ first - 1 = omega (arith, found.1) in
+    record {
+      least = omega (arith, found.1);
+      most = omega (arith, found.1, found.2.inside);
+      twice = subst (λ (k : ℕ). twice_after directed (branches_of_cases (given ∷ []) steps) k ≡ true) place found.2.twice;
+      before = λ earlier from lt. found.2.before (earlier - 1) (omega (arith, from, lt, found.1));
+    }
+
+pub first_twice_in_pass : (directed : Bool) (given : List Decision) (steps : List listed.Step) (first : ℕ) → IsFirstTwice directed given steps first
+    → IsFirstTwiceFrom directed 0 (given ∷ []) steps first
+first_twice_in_pass directed given steps first h =
+    let place : 0 + suc (first - 1) ≡ first = omega (arith, h.least) in
+    subst (IsFirstTwiceFrom directed 0 (given ∷ []) steps) place (twice_in_pass directed 0 (given ∷ []) steps (first - 1) (record {
+      inside = omega (arith, h.least, h.most);
+      twice = h.twice;
+      before = λ j lt.
+          let same : suc j - 1 ≡ j = omega arith in
+          subst (λ (k : ℕ). twice_after directed (branches_of_cases (given ∷ []) steps) k ≡ false) same (h.before (suc j) (omega arith) (omega (arith, lt)));
+    }))
+
+-- ---- one pass over the steps with a stack of decisions
 
 -- ---- the least of the bounds so far and of those of leaves, whichever judge finds these
 
@@ -236,3 +429,113 @@ module _ (Found : List Decision × LeafNumbers → Option ℤ → Type 0) (Good 
       → IsPassing numbers stack lowest leaf [] → AreJudgedBy Found Good n combs given all (judged.Bound lowest)
   passed numbers stack lowest leaf (inl h) = at_end numbers (Some (stack_of stack)) lowest leaf h
   passed numbers stack lowest leaf (inr h) = at_end numbers None lowest leaf h
+
+-- ---- a round of the loop over the steps: what code finds at a branch or a leaf
+
+-- the decisions of a case are those on its stack and the given ones
+pub few_decided : (stack given : List Decision) → length stack < 2 ^ 32 → length given < 2 ^ 32 → length (stack_of stack ++ given) < 2 ^ 33
+few_decided stack given few few_given =
+    let sum = length-append (stack_of stack) given in
+    let same = length-reverse stack in
+    omega (arith, sum, same, few, few_given)
+
+-- ---- the step that is next
+
+-- whether steps are a whole tree doesn't depend on the numbers of its leaves
+pub whole_trees : (n : ℕ) (numbers : List ℤ) (count : ℕ) (steps : List listed.Step) → are_whole count steps ≡ are_case_trees count
+    (steps_from n numbers steps)
+whole_trees n numbers zero [] = refl
+whole_trees n numbers zero (listed.Branch a b ∷ steps) = refl
+whole_trees n numbers zero (listed.Leaf changes ∷ steps) = refl
+whole_trees n numbers (suc count) [] = refl
+whole_trees n numbers (suc count) (listed.Branch a b ∷ steps) = whole_trees n numbers (suc (suc count)) steps
+whole_trees n numbers (suc count) (listed.Leaf changes ∷ steps) = whole_trees n (all_grown changes numbers) count steps
+
+module _ (Found : List Decision × LeafNumbers → Option ℤ → Type 0) (Good : LeafNumbers → Type 0) (Fits : List Decision → Type 0)
+    (n combs : ℕ)
+    (given : List Decision) where
+  pub at_next : (all : List TreeStep) (numbers : List ℤ) (stack : List Decision) (lowest : Option ℤ)
+      (leaf index : ℕ) (step other : TreeStep) → index < length all → step ≡ get_or all index step → step ≡ other
+      → IsPassing Found Good Fits n combs given (steps_of all) numbers stack lowest leaf (steps_of (drop index all))
+      → IsAtStep Found Good Fits n combs given (steps_of all) numbers (Some (stack_of stack)) lowest leaf
+      (step_of other ∷ steps_of (drop (index + 1) all))
+  at_next all numbers stack lowest leaf index step other lt is same at =
+      at_step Found Good Fits n combs given (steps_of all) numbers stack lowest leaf (step_of other)
+      (steps_of (drop (index + 1) all))
+      (subst (λ (steps : List TreeStep). IsPassing Found Good Fits n combs given (steps_of all) numbers stack lowest leaf
+      (steps_of steps))
+      (left_at all index step lt is ∙ ap (λ (s : TreeStep). s ∷ drop (index + 1) all) same) at)
+
+  -- where no step is left
+  pub all_passed : (all : List TreeStep) (numbers : List ℤ) (stack : List Decision) (lowest : Option ℤ) (leaf index : ℕ)
+      → length all ≤ index
+      → IsPassing Found Good Fits n combs given (steps_of all) numbers stack lowest leaf (steps_of (drop index all))
+      → AreJudgedBy Found Good n combs given (steps_of all) (judged.Bound lowest)
+  all_passed all numbers stack lowest leaf index past at =
+      passed Found Good Fits n combs given (steps_of all) numbers stack lowest leaf
+      (subst (λ (steps : List TreeStep). IsPassing Found Good Fits n combs given (steps_of all) numbers stack lowest leaf
+      (steps_of steps)) (drop_all index all past) at)
+
+module _ (Found : List Decision × LeafNumbers → Option ℤ → Type 0) (Good : LeafNumbers → Type 0) (Fits : List Decision → Type 0)
+    (n combs : ℕ)
+    (given : List Decision) (all : List listed.Step) where
+  abbrev pub AtNext : List ℤ → List Decision → Option ℤ → ℕ → List listed.Step → Type 0
+  AtNext numbers stack lowest leaf steps = IsAtStep Found Good Fits n combs given all numbers
+      (Some (stack_of stack)) lowest leaf steps
+
+  abbrev JudgedAs : List ℤ → List Decision → List (ℕ × ℤ) → List ℤ → JudgedLeaf → Type 0
+  JudgedAs numbers stack changes new found = IsJudgedLeaf Found Good n combs (stack_of stack ++ given) numbers changes new found
+
+  pub bad_here : (numbers : List ℤ) (stack : List Decision) (lowest : Option ℤ) (leaf : ℕ) (changes : List (ℕ × ℤ))
+      (rest : List listed.Step) (new : List ℤ) (found : JudgedLeaf)
+      → AtNext numbers stack lowest leaf (listed.Leaf changes ∷ rest) → JudgedAs numbers stack changes new found
+      → found ≡ leaves.Bad
+      → IsFirstBadLeafBy Good n combs all (leaf + 1)
+  bad_here numbers stack lowest leaf changes rest new found at judged none =
+      first_bad_by_place Good n combs all (leaf + 1) (at.bad (leaf + 1)
+      (inl (add-one leaf, subst (JudgedAs numbers stack changes new) none judged)))
+
+  after_leaf : (numbers : List ℤ) (stack : List Decision) (lowest : Option ℤ) (leaf : ℕ) (changes : List (ℕ × ℤ))
+      (rest : List listed.Step) (new : List ℤ) (next : Option (List Decision))
+      (found : JudgedLeaf) (own lower : Option ℤ) → AtNext numbers stack lowest leaf (listed.Leaf changes ∷ rest)
+      → JudgedAs numbers stack changes new found → found ≡ leaves.Found own → IsLowest lowest own lower → next_stack
+      (stack_of stack) ≡ next
+      → IsAtStep Found Good Fits n combs given all new next lower (leaf + 1) rest
+  after_leaf numbers stack lowest leaf changes rest new next found own lower at judged some low turned =
+      let is = subst (JudgedAs numbers stack changes new) some judged in
+      subst (λ (k : ℕ). IsAtStep Found Good Fits n combs given all new next lower k rest) (sym (add-one leaf))
+      (subst (λ (ns : List ℤ). IsAtStep Found Good Fits n combs given all ns next lower (suc leaf) rest) (sym is.1)
+      (at_leaf Found Good Fits n combs given all numbers stack lowest leaf changes rest next own lower at is.0 is.3 low turned))
+
+  pub after_found : (numbers : List ℤ) (stack : List Decision) (lowest : Option ℤ) (leaf : ℕ) (changes : List (ℕ × ℤ))
+      (rest : List listed.Step) (new : List ℤ) (is_open : Bool) (next : List Decision)
+      (found : JudgedLeaf) (own lower : Option ℤ) → AtNext numbers stack lowest leaf (listed.Leaf changes ∷ rest)
+      → JudgedAs numbers stack changes new found → found ≡ leaves.Found own → IsLowest lowest own lower → IsNextStack stack is_open next
+      → IsPassing Found Good Fits n combs given all new next lower (leaf + 1) rest
+  after_found numbers stack lowest leaf changes rest new true next found own lower at judged some low turned =
+      inl (after_leaf numbers stack lowest leaf changes rest new (Some (stack_of next)) found own lower at judged some low turned)
+  after_found numbers stack lowest leaf changes rest new false next found own lower at judged some low turned =
+      inr (after_leaf numbers stack lowest leaf changes rest new None found own lower at judged some low turned.0)
+
+  pub small_found : (numbers : List ℤ) (stack : List Decision) (changes : List (ℕ × ℤ)) (new : List ℤ) (found : JudgedLeaf)
+      (own : Option ℤ) → JudgedAs numbers stack changes new found → found ≡ leaves.Found own
+      → AreSmall new
+  small_found numbers stack changes new found own judged some = (subst (JudgedAs numbers stack changes new) some judged).2
+
+  -- a statement on the cases of all leaves is one on the case of this leaf
+  pub fits_here : (numbers : List ℤ) (stack : List Decision) (lowest : Option ℤ) (leaf : ℕ) (changes : List (ℕ × ℤ))
+      (rest : List listed.Step)
+      → AtNext numbers stack lowest leaf (listed.Leaf changes ∷ rest) → Fits (stack_of stack ++ given)
+  fits_here numbers stack lowest leaf changes rest at = at.once.0
+
+-- the lowest bound so far fits, as the bound of each leaf does
+pub low_sized : (lowest own lower : Option ℤ) (found : JudgedLeaf) → IfSome lowest IsBoundSized → IsSizedLeaf found
+    → found ≡ leaves.Found own → IsLowest lowest own lower → IfSome lower IsBoundSized
+low_sized lowest own lower found before here some is = sized lowest own before (subst IsSizedLeaf some here) is
+  where
+    sized : (lowest own : Option ℤ) → IfSome lowest IsBoundSized → IfSome own IsBoundSized → IsLowest lowest own lower
+        → IfSome lower IsBoundSized
+    sized None own p q is = subst (λ (o : Option ℤ). IfSome o IsBoundSized) (sym is) q
+    sized (Some low) None p q is = subst (λ (o : Option ℤ). IfSome o IsBoundSized) (sym is) p
+    sized (Some low) (Some own) p q (inl is) = subst (λ (o : Option ℤ). IfSome o IsBoundSized) (sym is.0) p
+    sized (Some low) (Some own) p q (inr is) = subst (λ (o : Option ℤ). IfSome o IsBoundSized) (sym is.0) q

@@ -1,18 +1,142 @@
--- The bound of a certificate by branching, as a theorem: families of sets, and a tree of cases with numbers at its
--- leaves. A leaf's bound is by a least 1-tree where pairs have no direction, else by the least link from each node. For
--- src/laws.rt and `CaseLeaf` (src/case_leaf.rt of tsp_branch).
-use Rattle.std.specs.Prelude.{◌≡◌, ◌⊎◌, ℕ, ◌≤◌, Bool, true, false, List, [], ◌∷◌, length, Option, Some, None, ℤ, pos, ◌≤ℤ◌}
+-- Which links decisions allow, and the bound by the least weight of the links from each node. For `close_all`
+-- (src/case_leaf.rt) and `AllowedRows` (src/case_leaf.rt) of tsp_branch, and for the laws of src/laws.rt.
 use Rattle.std.specs.List.{All, Any}
-use Rattle.tsp_format.specs.Symmetry.{IsSymmetric}
-use Rattle.tsp_theory.specs.Tour.{Problem, BoundsTours, HasNoTour}
-use Rattle.tsp_theory.specs.CertificateNumbers.{IsScale}
-use Rattle.tsp_cases.specs.Families.{Family, IsFamily}
+use Rattle.std.specs.Prelude.{◌≡◌, ◌≢◌, ℕ, ◌≤◌, Bool, true, false, List, ◌↔◌, ℤ, ◌+ℤ◌, ◌≤ℤ◌, [], length, pos, ◌-ℤ◌, ◌*ℤ◌, ◌⊎◌, ◌∷◌, Option, Some, None}
+use Rattle.tsp_format.specs.Nodes.{IsNode, nodes_to}
+use Rattle.tsp_format.specs.Words.{IsSymmetric}
+use Rattle.tsp_theory.specs.Bounds.{IsLeastBound, IsScale, total, weight_between, adjusted, triples_total, UsesEach, UsesNone, IsAdjustedBound}
+use Rattle.tsp_theory.specs.Tour.{IsCycle, Follows, sum_int_by, length_of, Problem, BoundsTours, HasNoTour}
+use Rattle.tsp_theory.specs.Tree.{weight_of, IsLeastOneTree}
+use Rattle.tsp_cases.specs.Cases.{KeepsAll, HasNoCycle, BoundsCase, take_pairs, on_taken, on_avoided, LeafNumbers, CaseStep, are_case_trees, leaves_of}
+use Rattle.tsp_cases.specs.Families.{family_crossings, Family, IsFamily}
 use Rattle.tsp_cases.specs.declared.open_case.Decision.{Decision}
-use Rattle.tsp_cases.specs.Decisions.{take_pairs, on_taken, on_avoided}
-use Rattle.tsp_cases.specs.LeafBound.{IsLeafBound}
-use Rattle.tsp_cases.specs.Rows.{HasNoLink}
-use Rattle.tsp_cases.specs.RowLeaves.{IsRowLeafBound}
-use Rattle.tsp_cases.specs.Cases.{LeafNumbers, CaseStep, are_case_trees, leaves_of, BoundsCase, HasNoCycle}
+
+-- a taken pair (a, b) allows the link from a to b, and links that neither start at a nor end at b; an avoided pair
+-- allows all links but that from a to b
+abbrev pub AllowsLink : Bool → ℕ × ℕ → ℕ → ℕ → Type 0
+AllowsLink true (a, b) i j = (i ≡ a) ↔ (j ≡ b)
+AllowsLink false (a, b) i j = i ≡ a → j ≢ b
+
+-- a decision allows the link from i to j
+abbrev pub Allows : ℕ → ℕ → Decision → Type 0
+Allows i j decision = AllowsLink decision.taken decision.pair i j
+
+-- a link from i to another node of 1..n that all decisions allow
+pub record IsAllowed (n : ℕ) (decisions : List Decision) (i j : ℕ) : Type 0 where
+  pub node : IsNode n j
+  pub other : i ≢ j
+  pub each : All (Allows i j) decisions
+
+-- the least weight of the allowed links from i, of which there is one at least
+pub record IsLeastFrom (n : ℕ) (w : ℕ → ℕ → ℤ) (decisions : List Decision) (i : ℕ) (least : ℤ) : Type 0 where
+  pub to : ℕ
+  pub allowed : IsAllowed n decisions i to
+  pub reached : least ≡ w i to
+  pub below : (j : ℕ) → IsAllowed n decisions i j → least ≤ℤ w i j
+
+-- from some node of 1..n no link is allowed
+pub record HasNoLink (n : ℕ) (decisions : List Decision) : Type 0 where
+  pub from : ℕ
+  pub node : IsNode n from
+  pub none : (j : ℕ) → IsAllowed n decisions from j → ⊥
+
+-- the sum over the nodes 1..last of the least weights from them
+pub record IsSumOfLeast (n : ℕ) (w : ℕ → ℕ → ℤ) (decisions : List Decision) (last : ℕ) (sum : ℤ) : Type 0 where
+  pub least : ℕ → ℤ
+  pub each : (i : ℕ) → IsNode last i → IsLeastFrom n w decisions i (least i)
+  pub sum_is : sum ≡ sum_int_by least (nodes_to last)
+
+-- the bound by rows: the least whole number that, times the scale, is no less than that sum over all nodes and the
+-- number given back
+pub record IsRowBound (n : ℕ) (w : ℕ → ℕ → ℤ) (decisions : List Decision) (scale given_back bound : ℤ) : Type 0 where
+  pub sum : ℤ
+  pub least : IsSumOfLeast n w decisions n sum
+  pub bound_is : IsLeastBound scale (sum +ℤ given_back) bound
+
+-- ---- the theorems
+
+-- Each link of a cycle is allowed by the decisions that the cycle keeps.
+abbrev pub LinksAreAllowed : Type 0
+LinksAreAllowed = (n : ℕ) (decisions : List Decision) (nodes : List ℕ) (i j : ℕ)
+    → 2 ≤ n → IsCycle n nodes → KeepsAll true nodes decisions → Follows nodes (i, j) → IsNode n i × IsAllowed n decisions i j
+
+-- Where no link from some node is allowed, no cycle keeps the decisions.
+abbrev pub NoLinkNoCycle : Type 0
+NoLinkNoCycle = (n : ℕ) (decisions : List Decision) → 2 ≤ n → HasNoLink n decisions → HasNoCycle true n decisions
+
+-- The sum of the least weights is at most the weight of every cycle that keeps the decisions.
+abbrev pub SumsAreBelowCycles : Type 0
+SumsAreBelowCycles = (n : ℕ) (w : ℕ → ℕ → ℤ) (decisions : List Decision) (sum : ℤ) (nodes : List ℕ)
+    → 2 ≤ n → IsSumOfLeast n w decisions n sum → IsCycle n nodes → KeepsAll true nodes decisions → sum ≤ℤ length_of w nodes
+
+-- ---- the bound of a leaf by a least 1-tree, under potentials, numbers on pairs
+
+-- families of n nodes, each with a multiplier that isn't negative
+abbrev pub AreMultiplied : ℕ → List (Family × ℤ) → Type 0
+AreMultiplied n families = All (λ multiplied. IsFamily n multiplied.0 × (pos 0 ≤ℤ multiplied.1)) families
+
+-- how often two nodes cross the sets of families, each family times its multiplier
+abbrev pub crossings_of : List (Family × ℤ) → ℕ → ℕ → ℤ
+crossings_of families i j = sum_int_by (λ multiplied. multiplied.1 *ℤ family_crossings multiplied.0.sets i j) families
+
+-- how often a cycle crosses them at least, each family times its multiplier
+abbrev pub least_of : List (Family × ℤ) → ℤ
+least_of families = sum_int_by (λ multiplied. multiplied.1 *ℤ pos multiplied.0.numbers.least) families
+
+-- weights less those crossings
+abbrev pub combed : List (Family × ℤ) → (ℕ → ℕ → ℤ) → ℕ → ℕ → ℤ
+combed families w i j = w i j -ℤ crossings_of families i j
+
+-- the weight between two nodes: the cost at the scale and the potentials of both, less the numbers of taken pairs, more
+-- by those of avoided ones, and less the crossings
+abbrev pub leaf_weight : ℤ → List ℤ → List (ℕ × ℕ × ℤ) → List (ℕ × ℕ × ℤ) → List (Family × ℤ) → (ℕ → ℕ → ℤ) → ℕ → ℕ → ℤ
+leaf_weight scale potentials taken avoided families cost =
+    combed families (adjusted taken avoided (weight_between scale potentials cost))
+
+-- the bound of a 1-tree of this weight: each potential is taken off twice, and what the numbers of taken pairs and the
+-- families take off every cycle is given back
+abbrev pub IsLeafBoundOf : ℤ → List ℤ → List (ℕ × ℕ × ℤ) → List (Family × ℤ) → ℤ → ℤ → Type 0
+IsLeafBoundOf scale potentials taken families weight bound =
+    IsLeastBound scale (((weight -ℤ (pos 2 *ℤ total potentials)) +ℤ triples_total taken) +ℤ least_of families) bound
+
+-- the bound of potentials, of numbers on taken and avoided pairs, and of families: that of a least 1-tree
+pub record IsLeafBound (n : ℕ) (cost : ℕ → ℕ → ℤ) (scale : ℤ) (potentials : List ℤ) (taken avoided : List (ℕ × ℕ × ℤ))
+    (families : List (Family × ℤ)) (bound : ℤ) : Type 0 where
+  pub tree : List (ℕ × ℕ)
+  pub least : IsLeastOneTree n (leaf_weight scale potentials taken avoided families cost) tree
+  pub bound_is : IsLeafBoundOf scale potentials taken families
+      (weight_of (leaf_weight scale potentials taken avoided families cost) tree) bound
+
+-- That bound is at most the length of every cycle that uses the taken pairs and none of the avoided.
+abbrev pub LeafBoundsBoundCycles : Type 0
+LeafBoundsBoundCycles = (n : ℕ) (cost : ℕ → ℕ → ℤ) (scale : ℤ) (potentials : List ℤ) (taken avoided : List (ℕ × ℕ × ℤ))
+    (families : List (Family × ℤ)) (bound : ℤ) (nodes : List ℕ)
+    → 3 ≤ n → IsSymmetric cost → IsScale scale → length potentials ≡ n → AreMultiplied n families
+    → IsLeafBound n cost scale potentials taken avoided families bound
+    → IsCycle n nodes → UsesEach taken nodes → UsesNone avoided nodes → bound ≤ℤ length_of cost nodes
+
+-- Without families it is the bound of Bounds.antt of tsp_theory.
+abbrev pub UncombedBoundsAreAdjustedBounds : Type 0
+UncombedBoundsAreAdjustedBounds = (n : ℕ) (cost : ℕ → ℕ → ℤ) (scale : ℤ) (potentials : List ℤ) (taken avoided : List (ℕ × ℕ × ℤ))
+    (bound : ℤ) → IsLeafBound n cost scale potentials taken avoided [] bound
+    → IsAdjustedBound n cost scale potentials taken avoided bound
+
+-- ---- the bound of a leaf by the least link from each node, under potentials and multipliers
+
+-- the bound by rows of such weights; it gives back the least crossings of the families, each times its multiplier, less
+-- each potential twice
+abbrev pub IsRowLeafBound : ℕ → (ℕ → ℕ → ℤ) → ℤ → List ℤ → List (Family × ℤ) → List Decision → ℤ → Type 0
+IsRowLeafBound n cost scale potentials families decisions bound =
+    IsRowBound n (combed families (weight_between scale potentials cost)) decisions scale
+    (least_of families -ℤ (pos 2 *ℤ total potentials)) bound
+
+-- That bound is at most the length of every cycle that keeps the decisions.
+abbrev pub RowLeafBoundsBoundCycles : Type 0
+RowLeafBoundsBoundCycles = (n : ℕ) (cost : ℕ → ℕ → ℤ) (scale : ℤ) (potentials : List ℤ) (families : List (Family × ℤ))
+    (decisions : List Decision) (bound : ℤ) → 2 ≤ n → IsScale scale → length potentials ≡ n → AreMultiplied n families
+    → IsRowLeafBound n cost scale potentials families decisions bound → BoundsCase true n cost bound decisions
+
+-- ---- the bound of a certificate by branching
 
 -- each family with its multiplier
 abbrev pub multiplied : List Family → List ℤ → List (Family × ℤ)

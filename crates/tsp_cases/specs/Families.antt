@@ -1,13 +1,62 @@
--- Families of sets of nodes: lone sets, combs and others, and how often a cycle crosses them at least. For the law
--- `cycles_cross_families` (src/laws.rt), for `judge_families` (src/good_families.rt), and for `Families`
--- (src/families.rt). tsp_routing, tsp_branch and tsp_verdict import it too.
-use Rattle.std.specs.Prelude.{◌≡◌, ℕ, zero, suc, ◌+◌, ◌*◌, ◌≤◌, true, false, List, [], ◌∷◌, length, ◌⊎◌, pos, ◌≤ℤ◌}
+-- Combs: a handle and its teeth, which are sets of nodes that every cycle crosses often. For the law
+-- `cycles_cross_combs` (src/laws.rt), and for `is_comb` and `is_tooth` (src/good_families.rt).
+-- Source: M. Grötschel and M. W. Padberg, On the symmetric travelling salesman problem, 1979.
+use Rattle.std.specs.List.{All, AllPairs}
+use Rattle.std.specs.Prelude.{◌≡◌, ℕ, ◌+◌, ◌*◌, ◌≤◌, map, Bool, true, false, List, length, ℤ, pos, ◌+ℤ◌, ◌≤ℤ◌, zero, suc, [], ◌∷◌, ◌⊎◌, if◌then◌else◌, ◌*ℤ◌, ◌≢◌, ◌<◌, slice_index_or}
 use Rattle.tsp_format.specs.Nodes.{IsNode}
-use Rattle.tsp_theory.specs.Cycle.{IsCycle}
-use Rattle.tsp_theory.specs.Length.{length_of}
-use Rattle.tsp_cases.specs.Crossed.{IsLeastLength, IsMostCost, AreTooMany}
+use Rattle.tsp_theory.specs.Tour.{IsCycle, sum_int_by, length_of}
+use Rattle.tsp_theory.specs.Tree.{crossing}
+use Rattle.tsp_cases.specs.Crossings.{has, IsLeastLength, IsMostCost, AreTooMany}
 use Rattle.tsp_cases.specs.declared.family.Crossings.{Crossings}
-use Rattle.tsp_cases.specs.Combs.{Comb, IsComb, family_crossings}
+
+-- a set of nodes, the handle, and sets that have nodes in it and others, the teeth
+pub record Comb : Type 0 where
+  pub handle : ℕ → Bool
+  pub teeth : List (ℕ → Bool)
+
+-- a tooth has a node in the handle and one that isn't
+pub record IsTooth (n : ℕ) (handle tooth : ℕ → Bool) : Type 0 where
+  pub inside : ℕ
+  pub outside : ℕ
+  pub inside_node : IsNode n inside
+  pub outside_node : IsNode n outside
+  pub inside_tooth : tooth inside ≡ true
+  pub outside_tooth : tooth outside ≡ true
+  pub in_handle : handle inside ≡ true
+  pub off_handle : handle outside ≡ false
+
+-- no node is in both sets
+abbrev pub AreApart : (ℕ → Bool) → (ℕ → Bool) → Type 0
+AreApart a b = (node : ℕ) → a node ≡ true → b node ≡ false
+
+-- a comb of n nodes has an odd number of teeth, at least three, of which no two have a node in common
+pub record IsComb (n : ℕ) (comb : Comb) : Type 0 where
+  pub half : ℕ
+  pub some : 1 ≤ half
+  pub odd : length comb.teeth ≡ 2 * half + 1
+  pub reach : All (IsTooth n comb.handle) comb.teeth
+  pub apart : AllPairs AreApart comb.teeth
+
+-- how many sets of the comb have one of the two nodes and not the other
+abbrev pub family_crossings : Comb → ℕ → ℕ → ℤ
+family_crossings comb i j = crossing comb.handle i j +ℤ sum_int_by (λ tooth. crossing tooth i j) comb.teeth
+
+-- how often a cycle crosses the sets of a comb of k teeth at least: 3k + 1 times
+abbrev pub least_crossings : Comb → ℤ
+least_crossings comb = pos (3 * length comb.teeth + 1)
+
+-- Each cycle crosses the sets of a comb of k teeth at least 3k + 1 times.
+abbrev pub CyclesCrossCombs : Type 0
+CyclesCrossCombs = (n : ℕ) (comb : Comb) (nodes : List ℕ)
+    → IsComb n comb → IsCycle n nodes → least_crossings comb ≤ℤ length_of (family_crossings comb) nodes
+
+-- ---- combs by lists of nodes
+
+-- the comb of a handle and teeth that are lists of nodes
+abbrev pub comb_of : List ℕ → List (List ℕ) → Comb
+comb_of handle teeth = record { handle = has handle; teeth = map has teeth }
+
+-- ---- families of sets of nodes: lone sets, combs and others
 
 -- sets of nodes, the first as the handle of a comb and the others as its teeth, whether they are a comb or not; and two
 -- numbers: how often a cycle crosses them at least, and how many of them two nodes cross at most
@@ -63,3 +112,66 @@ CyclesCrossFamilies = (n : ℕ) (family : Family) (nodes : List ℕ) → IsFamil
 -- Sets have these numbers in one way only.
 abbrev pub NumbersAreUnique : Type 0
 NumbersAreUnique = (n : ℕ) (a b : Family) → a.sets ≡ b.sets → IsFamily n a → IsFamily n b → a.numbers ≡ b.numbers
+
+-- ---- families whose sets are lists of nodes, as a file has them
+
+-- a handle and teeth by their lists of nodes
+abbrev pub comb_with : List (List ℕ) → Comb
+comb_with [] = record { handle = λ node. false; teeth = [] }
+comb_with (handle ∷ teeth) = comb_of handle teeth
+
+-- the family of sets, with its numbers
+abbrev pub family_with : Crossings → List (List ℕ) → Family
+family_with numbers sets = record { sets = comb_with sets; numbers = numbers }
+
+-- the families of these sets, each with its numbers
+abbrev pub families_with : List Crossings → List (List (List ℕ)) → List Family
+families_with [] families = []
+families_with (own ∷ crossed) [] = []
+families_with (own ∷ crossed) (sets ∷ families) = family_with own sets ∷ families_with crossed families
+
+-- of a family's two numbers the most that two nodes cross, or the least that a cycle crosses
+abbrev pub most_or_least : Bool → Crossings → ℕ
+most_or_least is_most own = if is_most then own.most else own.least
+
+-- the sum of one of these numbers over families, each times its multiplier
+abbrev pub sum_with : Bool → List Crossings → List ℤ → ℤ
+sum_with is_most [] multipliers = pos 0
+sum_with is_most (own ∷ crossed) [] = pos 0
+sum_with is_most (own ∷ crossed) (multiplier ∷ multipliers) = (multiplier *ℤ pos (most_or_least is_most own))
+    +ℤ sum_with is_most crossed multipliers
+
+-- ---- whether the sets of COMB_SECTION are good families
+
+-- no node is twice in a set
+abbrev pub HasEachOnce : List ℕ → Type 0
+HasEachOnce set = AllPairs (λ a b. a ≢ b) set
+
+-- sets that are a lone set or a comb, and have no node twice
+pub record IsGoodComb (n : ℕ) (sets : List (List ℕ)) : Type 0 where
+  pub kind : IsLoneOrComb n (comb_with sets)
+  pub once : All HasEachOnce sets
+
+-- sets that are a family, and have no node twice
+pub record IsGoodFamily (n : ℕ) (sets : List (List ℕ)) : Type 0 where
+  pub numbers : Crossings
+  pub family : IsFamily n (family_with numbers sets)
+  pub once : All HasEachOnce sets
+
+-- how many teeth a comb may have: an odd number, at least three
+abbrev pub IsToothCount : ℕ → Type 0
+IsToothCount count = (half : ℕ) × (1 ≤ half) × (count ≡ 2 * half + 1)
+
+-- the first family that isn't good, counted from 1
+pub record IsFirstBadFamily (n : ℕ) (families : List (List (List ℕ))) (first : ℕ) : Type 0 where
+  pub least : 1 ≤ first
+  pub most : first ≤ length families
+  pub before : (place : ℕ) → place + 1 < first → IsGoodFamily n (slice_index_or families place [])
+  pub bad : (place : ℕ) → place + 1 ≡ first → IsGoodFamily n (slice_index_or families place []) → ⊥
+
+-- all are good, and `crossed` has the two numbers of each
+pub record AreFamilies (n : ℕ) (families : List (List (List ℕ))) (crossed : List Crossings) : Type 0 where
+  pub many : length crossed ≡ length families
+  pub good : (place : ℕ) → place < length families → IsGoodFamily n (slice_index_or families place [])
+  pub are : All (IsFamily n) (families_with crossed families)
+  pub once : All (All HasEachOnce) families

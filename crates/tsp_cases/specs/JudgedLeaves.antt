@@ -1,19 +1,25 @@
--- The judgement on the leaves of a tree, whatever gives a leaf's bound: the least bound, or the first bad leaf. For
--- `judge_leaves` (src/pass.rt) and `LeafJudge` (src/pass.rt). JudgedLeaves.antt of tsp_branch has it for 1-trees
--- and least links.
-use Rattle.std.specs.Prelude.{◌≡◌, ℕ, List, [], ◌∷◌, Option, IfSome, ℤ}
+-- The lowest bound of the leaves so far, with one leaf more. For `lower` (src/pass.rt).
 use Rattle.std.specs.List.{All}
+use Rattle.std.specs.Prelude.{◌≡◌, Option, Some, None, ◌⊎◌, ℤ, ◌≤ℤ◌, ℕ, List, [], ◌∷◌, IfSome}
 use Rattle.tsp_format.specs.Steps as listed
-use Rattle.tsp_theory.specs.CertificateNumbers.{IsBoundSized}
-use Rattle.tsp_cases.specs.declared.open_case.Decision.{Decision}
-use Rattle.tsp_cases.specs.declared.judged.JudgedLeaves.{JudgedLeaves}
-use Rattle.tsp_cases.specs.declared.judged.JudgedLeaves.TheVariants as judged
+use Rattle.tsp_theory.specs.Bounds.{IsBoundSized}
+use Rattle.tsp_cases.specs.CaseTrees.{IsLeastFound}
+use Rattle.tsp_cases.specs.Cases.{LeafNumbers, leaves_of}
+use Rattle.tsp_cases.specs.ListedCases.{listed_steps, all_grown, split_at, IsGoodLeafBy, AreGoodLeavesBy, IsFirstBadLeafBy}
 use Rattle.tsp_cases.specs.declared.judged.JudgedLeaf.{JudgedLeaf}
 use Rattle.tsp_cases.specs.declared.judged.JudgedLeaf.TheVariants as leaves
-use Rattle.tsp_cases.specs.Cases.{LeafNumbers, leaves_of}
-use Rattle.tsp_cases.specs.CaseTrees.{IsLeastFound}
-use Rattle.tsp_cases.specs.Listed.{listed_steps, all_grown, split_at, IsGoodLeafBy, AreGoodLeavesBy, IsFirstBadLeafBy}
-use Rattle.tsp_cases.specs.states.Rooms.{AreSmall}
+use Rattle.tsp_cases.specs.declared.judged.JudgedLeaves.{JudgedLeaves}
+use Rattle.tsp_cases.specs.declared.judged.JudgedLeaves.TheVariants as judged
+use Rattle.tsp_cases.specs.declared.open_case.Decision.{Decision}
+use Rattle.tsp_cases.specs.states.Kept.{AreSmall}
+
+-- the lower one of the lowest bound so far and that of a leaf, where there are both; else the one that there is
+abbrev pub IsLowest : Option ℤ → Option ℤ → Option ℤ → Type 0
+IsLowest None own lower = lower ≡ own
+IsLowest (Some lowest) None lower = lower ≡ Some lowest
+IsLowest (Some lowest) (Some own) lower = ((lower ≡ Some lowest) × (lowest ≤ℤ own)) ⊎ ((lower ≡ Some own) × (own ≤ℤ lowest))
+
+-- ---- the judgement on the leaves of a tree, whatever gives a leaf's bound
 
 -- Where the numbers of all leaves are good, the least bound that is found of a leaf, or none where no leaf has one;
 -- else the first bad leaf.

@@ -2,8 +2,8 @@
 -- reported. For `judge_families` (src/good_families.rt).
 use Rattle.std.specs.Prelude.{◌≡◌, ℕ, List}
 use Rattle.std.specs.Global.{Vec}
-use Rattle.tsp_cases.specs.FamilySets.{families_in}
-use Rattle.tsp_cases.specs.GoodFamilies.{AreFamilies, IsFirstBadFamily}
+use Rattle.tsp_cases.specs.Crossings.{families_in}
+use Rattle.tsp_cases.specs.Families.{AreFamilies, IsFirstBadFamily}
 use Rattle.tsp_cases.specs.declared.judged.JudgedFamilies.{JudgedFamilies}
 use Rattle.tsp_cases.specs.declared.judged.JudgedFamilies.TheVariants as judged
 

@@ -4,8 +4,7 @@ use Rattle.std.specs.Prelude.{◌≡◌, ℕ, Bool, List, ℤ, Some, None}
 use Rattle.tsp_format.specs.declared.steps.TreeStep.{TreeStep}
 use Rattle.tsp_format.specs.states.TreeSteps.{steps_of}
 use Rattle.tsp_cases.specs.declared.open_case.Decision.{Decision}
-use Rattle.tsp_cases.specs.BadBranches.{AreBranchesWithin}
-use Rattle.tsp_cases.specs.Twice.{AreBranchesJudged}
+use Rattle.tsp_cases.specs.ListedCases.{AreBranchesWithin, AreBranchesJudged}
 use Rattle.tsp_cases.specs.declared.tree_cases.Cases.{Cases}
 use Rattle.tsp_cases.specs.declared.judged.JudgedCases.{JudgedCases}
 use Rattle.tsp_cases.specs.declared.judged.JudgedCases.TheVariants as judged

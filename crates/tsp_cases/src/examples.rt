@@ -3,22 +3,12 @@
 
 ghost use Rattle.std.specs.Prelude.{◌≡◌, ℕ, ℤ, List, [], ◌∷◌, true, false, pos, ◌-ℤ◌, ◌+ℤ◌, ◌+◌, ◌-◌, ◌*◌, ◌^◌, negsuc};
 ghost use Rattle.tsp_format.specs.Steps as listed;
-ghost use Rattle.tsp_cases.specs.BadBranches.{IsFirstBadBranch};
-ghost use Rattle.tsp_cases.specs.CaseExamples.{AreOnce, AreNotOnce, branched};
-ghost use Rattle.tsp_cases.specs.Cases.{Branch, Leaf};
-ghost use Rattle.tsp_cases.specs.Combs.{least_crossings};
-ghost use Rattle.tsp_cases.specs.Crossed.{AreTooMany};
-ghost use Rattle.tsp_cases.specs.Decisions.{decided_number};
-ghost use Rattle.tsp_cases.specs.Examples.{small_comb, PairCrosses, CrossesInAll, large, no_numbers, one_at_two, WeighsAt, WeighsUnderComb, four_rows, six_rows, LengthIs, FourHave, SixHave, IsTreeOf, IsNoTree, with_pair, without_pair};
-ghost use Rattle.tsp_cases.specs.Families.{least_crossings_of};
-ghost use Rattle.tsp_cases.specs.FamilyExamples.{one_set_twice, beside_all_six, all_six, IsCrossed, IsNoFamily};
-ghost use Rattle.tsp_cases.specs.GoodNumbers.{AreGoodNumbers};
-ghost use Rattle.tsp_cases.specs.Listed.{IsListedStep, listed_steps};
-ghost use Rattle.tsp_cases.specs.NumberExamples.{by_differences, by_numbers, two_combs, known_three, crossed_by, multiplied_by, moved_at_three};
-ghost use Rattle.tsp_cases.specs.RowExamples.{cost_of_three, ThreeHave, LeafOfThreeHas};
-ghost use Rattle.tsp_cases.specs.Rows.{IsAllowed, HasNoLink, IsRowBound};
-ghost use Rattle.tsp_cases.specs.SetExamples.{one_set_times, single_sets};
-ghost use Rattle.tsp_cases.specs.VerdictExamples.{IsNotGood, IsGood, three_teeth, TwiceAt, branches, branches_apart, on_both_sides};
+ghost use Rattle.tsp_cases.specs.ListedCases.{IsFirstBadBranch, AreGoodNumbers, IsListedStep, listed_steps};
+ghost use Rattle.tsp_cases.specs.Examples.{AreOnce, AreNotOnce, branched, small_comb, PairCrosses, CrossesInAll, large, no_numbers, one_at_two, WeighsAt, WeighsUnderComb, four_rows, six_rows, LengthIs, FourHave, SixHave, IsTreeOf, IsNoTree, with_pair, without_pair, one_set_twice, beside_all_six, all_six, IsCrossed, IsNoFamily, by_differences, by_numbers, two_combs, known_three, crossed_by, multiplied_by, moved_at_three, cost_of_three, ThreeHave, LeafOfThreeHas, one_set_times, single_sets, IsNotGood, IsGood, three_teeth, TwiceAt, branches, branches_apart, on_both_sides};
+ghost use Rattle.tsp_cases.specs.Cases.{Branch, Leaf, decided_number};
+ghost use Rattle.tsp_cases.specs.Families.{least_crossings, least_crossings_of};
+ghost use Rattle.tsp_cases.specs.Crossings.{AreTooMany};
+ghost use Rattle.tsp_cases.specs.CaseTrees.{IsAllowed, HasNoLink, IsRowBound};
 
 use crate::laws::{cycles_cross_families, numbers_are_unique, unlike_nodes_need_parts};
 use crate::open_case::DECIDED;

@@ -3,11 +3,9 @@
 
 ghost use Rattle.std.specs.Prelude.{◌≡◌, ◌≤◌, ◌<◌, ◌-◌, ◌^◌, length};
 ghost use Rattle.std.specs.List.{All};
-ghost use Rattle.tsp_cases.specs.FamilySets.{families_in, AreFamiliesOf};
-ghost use Rattle.tsp_cases.specs.Families.{IsFamily};
-ghost use Rattle.tsp_cases.specs.FamiliesOfSets.{families_with};
-ghost use Rattle.tsp_cases.specs.GoodFamilies.{HasEachOnce};
-ghost use Rattle.tsp_cases.specs.states.FamilyNumbers.{AreSmallCrossings};
+ghost use Rattle.tsp_cases.specs.Crossings.{families_in, AreFamiliesOf};
+ghost use Rattle.tsp_cases.specs.Families.{IsFamily, families_with, HasEachOnce};
+ghost use Rattle.tsp_cases.specs.states.GoodFamilies.{AreSmallCrossings};
 
 use crate::family::Crossings;
 use crate::sets::SetPlace;
@@ -37,8 +35,8 @@ impl Families<'_> {
     ghost use Rattle.std.specs.Prelude.{◌≡◌, [], slice_index_or};
     ghost use Rattle.std.specs.List.{All};
     ghost use Rattle.tsp_format.specs.Nodes.{IsNode};
-    ghost use Rattle.tsp_cases.specs.states.Places.{IsPlaceIn};
-    ghost use Rattle.tsp_cases.specs.states.Lent.{lent_in};
+    ghost use Rattle.tsp_cases.specs.states.Sets.{IsPlaceIn};
+    ghost use Rattle.tsp_cases.specs.states.Sets.{lent_in};
 
     /// The nodes of the set at a place.
     #[inline]

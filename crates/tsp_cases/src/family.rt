@@ -3,11 +3,7 @@
 
 ghost use Rattle.std.specs.List.{All, Any};
 ghost use Rattle.std.specs.Prelude.{◌≤◌, pos, MatchOption, IfOk, IfSome, ◌≡◌, ◌<◌, ◌+◌, ◌^◌, ◌↔◌, ℕ, List, IsTrue, length, slice_index, if◌then◌else◌, ◌*◌, count_ones, bit_xor, ◌-◌};
-ghost use Rattle.tsp_cases.specs.Crossed.{sets_of, sets_crossed, IsLeastLength, IsMostCost, AreTooMany, HasUnlike, has};
-ghost use Rattle.tsp_cases.specs.FamilySets.{lists_of, AreSetsOf};
-ghost use Rattle.tsp_cases.specs.Memberships.{IsLargest, AreMemberships, IsNodePlace, AreDifferent, AreFirsts};
-ghost use Rattle.tsp_cases.specs.Paths.{cost_by_rows, as_whole, no_path, IsBestPath, AreBestPaths, IsLeastSum};
-ghost use Rattle.tsp_cases.specs.SetParts.{ArePartsOf};
+ghost use Rattle.tsp_cases.specs.Crossings.{sets_of, sets_crossed, IsLeastLength, IsMostCost, AreTooMany, HasUnlike, has, lists_of, AreSetsOf, IsLargest, AreMemberships, IsNodePlace, AreDifferent, AreFirsts, cost_by_rows, as_whole, no_path, IsBestPath, AreBestPaths, IsLeastSum, ArePartsOf};
 
 use crate::laws::parts_tell_cycles;
 use std::alloc::Global;

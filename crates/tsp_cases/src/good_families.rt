@@ -4,14 +4,10 @@
 ghost use Rattle.std.specs.List.{All, Any};
 ghost use Rattle.std.specs.Prelude.{◌≡◌, ◌≤◌, ◌<◌, ◌-◌, ◌+◌, ◌^◌, ◌↔◌, ℕ, IsTrue, [], length, true, IfOk, IfSome, Bool, false};
 ghost use Rattle.tsp_format.specs.Nodes.{IsNode};
-ghost use Rattle.tsp_cases.specs.Combs.{IsTooth, comb_of};
-ghost use Rattle.tsp_cases.specs.Crossed.{has};
-ghost use Rattle.tsp_cases.specs.Families.{IsLoneSet, least_crossings_of};
-ghost use Rattle.tsp_cases.specs.FamilySets.{AreSetsOf, lists_of};
-ghost use Rattle.tsp_cases.specs.GoodFamilies.{IsGoodComb, IsToothCount, HasEachOnce};
+ghost use Rattle.tsp_cases.specs.Families.{IsTooth, comb_of, IsLoneSet, least_crossings_of, IsGoodComb, IsToothCount, HasEachOnce};
+ghost use Rattle.tsp_cases.specs.Crossings.{has, AreSetsOf, lists_of};
 ghost use Rattle.tsp_cases.specs.JudgedSets.{AreFamiliesJudged};
-ghost use Rattle.tsp_cases.specs.states.FamilyNumbers.{AreFamilyNumbers, IsSmall};
-ghost use Rattle.tsp_cases.specs.states.Marked.{is_marked, AreUnmarked, HavePlaces, AddsNoOther, AreTeeth, AreNew, AreMarked};
+ghost use Rattle.tsp_cases.specs.states.GoodFamilies.{AreFamilyNumbers, IsSmall, is_marked, AreUnmarked, HavePlaces, AddsNoOther, AreTeeth, AreNew, AreMarked};
 
 use crate::families::Families;
 use crate::family::{Crossings, NodeSets, family_crossings};

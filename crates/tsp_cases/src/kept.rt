@@ -6,16 +6,13 @@ ghost use Rattle.std.specs.Int.{w64, int_wrap};
 ghost use Rattle.std.specs.List.{All};
 ghost use Rattle.std.specs.Prelude.{◌≡◌, ◌≤◌, ◌<◌, ◌+◌, ◌-◌, ◌≢◌, ℕ, ℤ, length, slice_index_or, IfOk, neg_ℤ, ◌+ℤ◌, ◌*ℤ◌, false};
 ghost use Rattle.tsp_format.specs.Nodes.{IsNode};
-ghost use Rattle.tsp_format.specs.Ranges.{IsFromTo};
-ghost use Rattle.tsp_format.specs.Symmetry.{IsSymmetric};
+ghost use Rattle.tsp_format.specs.Steps.{IsFromTo};
+ghost use Rattle.tsp_format.specs.Words.{IsSymmetric};
 ghost use Rattle.tsp_theory.specs.states.Nearest.{least_at};
-ghost use Rattle.tsp_cases.specs.Decisions.{decided_number};
-ghost use Rattle.tsp_cases.specs.states.Combed.{AreSmallDifferences};
-ghost use Rattle.tsp_cases.specs.states.Decided.{signed};
+ghost use Rattle.tsp_cases.specs.Cases.{decided_number};
+ghost use Rattle.tsp_cases.specs.states.Sets.{AreSmallDifferences, lent_in, IsPlaceIn, IsSetTable};
+ghost use Rattle.tsp_cases.specs.states.OpenCases.{signed};
 ghost use Rattle.tsp_cases.specs.states.Kept.{IsKeptRow, AreRows, AreRowsIfAny, AreAdded, IsAddedAt, AreDifferences};
-ghost use Rattle.tsp_cases.specs.states.Lent.{lent_in};
-ghost use Rattle.tsp_cases.specs.states.Places.{IsPlaceIn};
-ghost use Rattle.tsp_cases.specs.states.Sets.{IsSetTable};
 
 use crate::families::Families;
 use crate::multipliers::{MultipliedFamilies, Multipliers};
@@ -51,9 +48,9 @@ impl KeptRows {
     ghost use Rattle.std.specs.Prelude.{◌≡◌, ◌+ℤ◌, ◌++◌, ◌∷◌, [], ℕ, ℤ, Bool, false, List, length, IfOk};
     ghost use Rattle.std.specs.List.{All};
     ghost use Rattle.tsp_cases.specs.states.Sets.{IsSetTable};
-    ghost use Rattle.tsp_cases.specs.states.Lent.{lent_in};
+    ghost use Rattle.tsp_cases.specs.states.Sets.{lent_in};
     ghost use Rattle.tsp_cases.specs.declared.open_case.Decision.{Decision};
-    ghost use Rattle.tsp_cases.specs.states.Decided.{IsDecision, IsNextStack, marks_in, stack_of};
+    ghost use Rattle.tsp_cases.specs.states.OpenCases.{IsDecision, IsNextStack, marks_in, stack_of};
     ghost use Rattle.tsp_cases.specs.states.Kept.{HoldsRows, AreTwoNodes, added_between};
 
     /// The rows where all multipliers are 0, under the given decisions, if they are to be kept.
@@ -326,10 +323,10 @@ pub struct Room {
 
 impl Room {
     ghost use Rattle.std.specs.Prelude.{◌≡◌, length, IfOk};
-    ghost use Rattle.tsp_cases.specs.states.Lent.{lent_in};
-    ghost use Rattle.tsp_cases.specs.states.Decided.{marks_in};
+    ghost use Rattle.tsp_cases.specs.states.Sets.{lent_in};
+    ghost use Rattle.tsp_cases.specs.states.OpenCases.{marks_in};
     ghost use Rattle.tsp_cases.specs.states.Kept.{HoldsRows};
-    ghost use Rattle.tsp_cases.specs.states.Rooms.{IsRoom};
+    ghost use Rattle.tsp_cases.specs.states.Kept.{IsRoom};
 
     /// Memory for the leaves of a setting. Rows are in it if they are to be kept, and there aren't
     /// too many nodes.

@@ -2,18 +2,12 @@
 //! cases. For `src/verdict.rt` of tsp_branch, and the bounds of tsp_verdict.
 
 ghost use Rattle.std.specs.Prelude.{ℕ, ℤ, List, [], ◌∷◌, ◌≤ℤ◌, Bool, true, false};
-ghost use Rattle.tsp_cases.specs.CaseTrees.{CaseTreesBoundCycles, CaseTreesBoundTours, NoBoundNoTour, CaseTreeBoundsAreUnique};
-ghost use Rattle.tsp_cases.specs.Cases.{decide, BoundsCase, HasNoCycle, BoundsButOpen, CyclesKeepLeaves, CasesBoundCycles, CasesHaveNoCycle, StacksBegin, StacksBranch, StacksHoldCases};
-ghost use Rattle.tsp_cases.specs.Combs.{CyclesCrossCombs};
-ghost use Rattle.tsp_cases.specs.Decisions.{DecidedBoundsBoundCycles, FixedBoundsBoundTours};
-ghost use Rattle.tsp_cases.specs.Families.{CyclesCrossFamilies, NumbersAreUnique};
-ghost use Rattle.tsp_cases.specs.LeafBound.{LeafBoundsBoundCycles, UncombedBoundsAreAdjustedBounds};
-ghost use Rattle.tsp_cases.specs.Memberships.{MembershipsTellSets};
-ghost use Rattle.tsp_cases.specs.RowLeaves.{RowLeafBoundsBoundCycles};
-ghost use Rattle.tsp_cases.specs.Rows.{LinksAreAllowed, NoLinkNoCycle, SumsAreBelowCycles};
-ghost use Rattle.tsp_cases.specs.SetParts.{PartsBoundCycles, PartsTellCycles, DivisionsBoundCycles, LeastLengthsAreUnique, MostCostsAreUnique, UnlikeNodesNeedParts};
+ghost use Rattle.tsp_cases.specs.CaseTrees.{CaseTreesBoundCycles, CaseTreesBoundTours, NoBoundNoTour, CaseTreeBoundsAreUnique, LeafBoundsBoundCycles, UncombedBoundsAreAdjustedBounds, RowLeafBoundsBoundCycles, LinksAreAllowed, NoLinkNoCycle, SumsAreBelowCycles};
+ghost use Rattle.tsp_cases.specs.Cases.{decide, BoundsCase, HasNoCycle, BoundsButOpen, CyclesKeepLeaves, CasesBoundCycles, CasesHaveNoCycle, StacksBegin, StacksBranch, StacksHoldCases, DecidedBoundsBoundCycles, FixedBoundsBoundTours};
+ghost use Rattle.tsp_cases.specs.Families.{CyclesCrossCombs, CyclesCrossFamilies, NumbersAreUnique};
+ghost use Rattle.tsp_cases.specs.Crossings.{MembershipsTellSets, PartsBoundCycles, PartsTellCycles, DivisionsBoundCycles, LeastLengthsAreUnique, MostCostsAreUnique, UnlikeNodesNeedParts};
 ghost use Rattle.tsp_cases.specs.declared.open_case.Decision.{Decision};
-ghost use Rattle.tsp_cases.specs.states.Combed.{SetsTellCombs, SetsGiveLeaves};
+ghost use Rattle.tsp_cases.specs.states.Sets.{SetsTellCombs, SetsGiveLeaves};
 
 use tsp_theory::{
     adjusted_bounds_bound_cycles, cycles_are_permutations, cycles_have_no_loops, lengths_add_up,

@@ -2,7 +2,7 @@
 //! tsp_branch.
 
 ghost use Rattle.std.specs.Prelude.{◌≡◌, length};
-ghost use Rattle.tsp_cases.specs.states.Combed.{AreSmallMultipliers, AreSmallDifferences};
+ghost use Rattle.tsp_cases.specs.states.Sets.{AreSmallMultipliers, AreSmallDifferences};
 
 use crate::families::Families;
 

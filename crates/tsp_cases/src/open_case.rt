@@ -3,7 +3,7 @@
 
 ghost use Rattle.std.specs.Global.{Vec};
 ghost use Rattle.std.specs.Prelude.{◌≡◌, ◌≤◌, ◌<◌, ◌+◌, ◌-◌, ◌^◌, ℕ, [], length, slice_index_or, IfOk};
-ghost use Rattle.tsp_cases.specs.Decisions.{is_same};
+ghost use Rattle.tsp_cases.specs.Cases.{is_same};
 ghost use Rattle.tsp_cases.specs.declared.open_case.Decision.{Decision};
 ghost use Rattle.tsp_cases.specs.states.OpenCases.{HaveOneMore, HaveOneLess};
 
@@ -23,9 +23,9 @@ impl<'a> OpenCase<'a> {
     ghost use Rattle.std.specs.Prelude.{◌≡◌, ◌≤◌, ◌<◌, ◌+◌, ◌-◌, ◌^◌, ◌++◌, ℕ, [], ◌∷◌, true, length, IfOk};
     ghost use Rattle.std.specs.List.{All, filter};
     ghost use Rattle.tsp_cases.specs.declared.open_case.Decision.{Decision};
-    ghost use Rattle.tsp_cases.specs.states.Decided.{IsDecision, IsNextStack, stack_of};
+    ghost use Rattle.tsp_cases.specs.states.OpenCases.{IsDecision, IsNextStack, stack_of};
     ghost use Rattle.tsp_cases.specs.states.OpenCases.{IsOpenCase, bears_on, decisions_in};
-    ghost use Rattle.tsp_cases.specs.Twice.{is_decided};
+    ghost use Rattle.tsp_cases.specs.ListedCases.{is_decided};
 
     /// The case of the given decisions alone.
     ///
@@ -160,7 +160,7 @@ pub struct NodeDecisions {
 impl NodeDecisions {
     ghost use Rattle.std.specs.Prelude.{◌≡◌, ◌<◌, ◌-◌, ◌^◌, ℕ, List, [], ◌∷◌, IfOk, length};
     ghost use Rattle.tsp_cases.specs.declared.open_case.Decision.{Decision};
-    ghost use Rattle.tsp_cases.specs.states.Decided.{IsOnPlaces};
+    ghost use Rattle.tsp_cases.specs.states.OpenCases.{IsOnPlaces};
     ghost use Rattle.tsp_cases.specs.states.OpenCases.{AreByNode};
 
     /// No decisions on pairs of these nodes.

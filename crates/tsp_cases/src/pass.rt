@@ -4,19 +4,15 @@
 ghost use Rattle.std.specs.List.{All};
 ghost use Rattle.std.specs.Prelude.{◌≡◌, ◌+◌, ◌<◌, ◌^◌, [], ◌∷◌, length, IfOk, ◌++◌, ℕ, ℤ, Bool, List, Option, true, ◌↔◌, IsTrue, pos, neg_ℤ, take, drop};
 ghost use Rattle.tsp_format.specs.Nodes.{IsNode};
-ghost use Rattle.tsp_format.specs.Steps.{are_whole};
+ghost use Rattle.tsp_format.specs.Steps.{are_whole, IsFromTo};
 ghost use Rattle.tsp_format.specs.states.TreeSteps.{steps_of};
-ghost use Rattle.tsp_format.specs.Ranges.{IsFromTo};
 ghost use Rattle.tsp_cases.specs.Cases.{cases_of, leaves_of, LeafNumbers};
-ghost use Rattle.tsp_cases.specs.FamiliesOfSets.{most_or_least, sum_with};
-ghost use Rattle.tsp_cases.specs.GoodNumbers.{AreGoodNumbers, as_leaf_numbers};
-ghost use Rattle.tsp_cases.specs.JudgedLeaves.{AreJudgedBy, AreSizedLeaves, IsJudgedLeaf, IsSizedLeaf, IsFoundOfCase};
-ghost use Rattle.tsp_cases.specs.LeafBounds.{IsLowest};
-ghost use Rattle.tsp_cases.specs.Listed.{listed_steps, IsStepOf, all_grown};
+ghost use Rattle.tsp_cases.specs.Families.{most_or_least, sum_with};
+ghost use Rattle.tsp_cases.specs.ListedCases.{AreGoodNumbers, as_leaf_numbers, listed_steps, IsStepOf, all_grown};
+ghost use Rattle.tsp_cases.specs.JudgedLeaves.{AreJudgedBy, AreSizedLeaves, IsJudgedLeaf, IsSizedLeaf, IsFoundOfCase, IsLowest};
 ghost use Rattle.tsp_cases.specs.declared.open_case.Decision.{Decision};
-ghost use Rattle.tsp_cases.specs.states.Decided.{IsDecision, IsNextStack, stack_of};
-ghost use Rattle.tsp_cases.specs.states.OpenCases.{IsOpenCase, decisions_in};
-ghost use Rattle.tsp_cases.specs.states.Rooms.{AreSmall};
+ghost use Rattle.tsp_cases.specs.states.OpenCases.{IsDecision, IsNextStack, stack_of, IsOpenCase, decisions_in};
+ghost use Rattle.tsp_cases.specs.states.Kept.{AreSmall};
 
 use crate::families::Families;
 use crate::family::Crossings;

@@ -5,11 +5,10 @@ ghost use Rattle.std.specs.Prelude.{◌≡◌, ◌<◌, ◌-◌, ◌^◌, ℕ, [
 ghost use Rattle.std.specs.List.{All};
 ghost use Rattle.tsp_format.specs.states.TreeSteps.{steps_of};
 ghost use Rattle.tsp_format.specs.Steps.{are_whole};
-ghost use Rattle.tsp_theory.specs.CertificateNumbers.{IsScale};
-ghost use Rattle.tsp_cases.specs.Decisions.{DecideOnce};
-ghost use Rattle.tsp_cases.specs.Cases.{cases_of, leaves_of};
-ghost use Rattle.tsp_cases.specs.Listed.{IsStepOf, listed_steps};
-ghost use Rattle.tsp_cases.specs.states.Decided.{IsDecision};
+ghost use Rattle.tsp_theory.specs.Bounds.{IsScale};
+ghost use Rattle.tsp_cases.specs.Cases.{DecideOnce, cases_of, leaves_of};
+ghost use Rattle.tsp_cases.specs.ListedCases.{IsStepOf, listed_steps};
+ghost use Rattle.tsp_cases.specs.states.OpenCases.{IsDecision};
 
 use crate::open_case::Decision;
 use tsp_format::TreeStep;

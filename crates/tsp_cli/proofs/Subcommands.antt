@@ -1,24 +1,74 @@
--- The subcommand that a parse with no fault enters is never `help`: `help` is itself a fault. For `job_of` in
--- src/job.rt.
-use Rattle.std.proofs.Common.{◌≡◌, ◌∙◌, ◌⊎◌, inl, inr, ap₂, subst, unwrap_or, Bool, true, false, List, [], ◌∷◌, Option, Some, None, refl, sym, ap, codes, fold, is_some, option_map}
+-- A command of the grammar that its definition states has no global argument. For `bound` in src/grammar.rt and others.
+use Rattle.std.proofs.Common.{◌≡◌, false, IfOk, Result, Ok, Err, ◌⊎◌, ◌∙◌, inl, inr, List, sym, subst, ap₂, unwrap_or, Bool, true, [], ◌∷◌, Option, Some, None, refl, ap, codes, fold, is_some, option_map, ℕ, suc, zero, ◌<◌, ◌/◌, ◌%◌, ◌==◌, ◌++◌, rules, arith}
+use Rattle.std.proofs.Math.Nat.{mod-lt}
 use Rattle.std.proofs.lemmas.Bool.{true≢false}
-use Rattle.std.specs.Str.{bytes_eq}
-use Rattle.std.specs.Box.{box_value}
-use Rattle.std.specs.Prelude.{Box}
+use Rattle.std.proofs.lemmas.List.Folds.{list_all-append}
 use Rattle.std.proofs.lemmas.Slice.Eq.{bytes_eq-Decides}
-use Rattle.clap.specs.Walk.{Rule, Row, Text, Names, Held, Walk, Waiting, Outcome, idle, option, positional, done, waits, plain, refused, after_step, after_flag, arg_by_index, arg_by_long, bundle, long_met, long_or_other, nothing_held, plain_word, short_or_plain, stop_after, subcommand_met, subcommand_or_other, to_positional, walk_from, walked, word_met}
-use Rattle.clap.specs.Lexer.{long_of, short_of}
-use Rattle.clap.specs.Simple.{App, Shape, built, entered, names_of, subcommand_of, subcommand_rows}
-use Rattle.clap.specs.Kinds.{Kinds, or_else}
-use Rattle.clap.specs.Faults.{fault_of, walk_fault, turn_fault, word_fault, other_fault}
-use Rattle.clap.specs.declared.error.kind.ErrorKind.TheVariants.{DisplayHelp, InvalidSubcommand}
-use Rattle.clap.specs.declared.parser.matches.SubCommand.{SubCommand}
-use Rattle.clap.specs.declared.parser.matches.ArgMatches.TheViews.{out-SubCommand}
+use Rattle.std.specs.Box.{box_value}
+use Rattle.std.specs.Fmt.{digits, digits_onto, digit_glyph}
+use Rattle.std.specs.Prelude.{Box, ◌&&◌, not, decimal, if◌then◌else◌}
+use Rattle.std.specs.Str.{bytes_eq}
+use Rattle.tsp_number.specs.NumberWord.{number_fault_text}
+use Rattle.tsp_number.specs.declared.word.NumberFault.{NumberFault}
+use Rattle.tsp_number.specs.declared.word.NumberFault.TheVariants as numbers
+use Rattle.tsp_io.specs.Streams.{write_fault_text}
+use Rattle.tsp_format.specs.Words.{field_word}
+use Rattle.tsp_format.specs.declared.keyword.Field.{Field}
+use Rattle.tsp_format.specs.declared.keyword.Field.TheVariants as fields
+use Rattle.tsp_file.specs.Relayout.{relayout_fault_text}
+use Rattle.tsp_file.specs.Rules.{end_fault_text}
+use Rattle.tsp_text.specs.Spells.{line_fault_text, read_fault_text}
+use Rattle.tsp_judge.specs.CheckRun.{run_fault_text}
+use Rattle.tsp_judge.specs.declared.EndFault.{EndFault}
+use Rattle.tsp_judge.specs.declared.EndFault.TheVariants as ends
+use Rattle.tsp_judge.specs.declared.LineFault.{LineFault}
+use Rattle.tsp_judge.specs.declared.LineFault.TheVariants as line_faults
+use Rattle.tsp_judge.specs.declared.ReadFault.{ReadFault}
+use Rattle.tsp_judge.specs.declared.ReadFault.TheVariants as reads
+use Rattle.tsp_judge.specs.declared.RelayoutFault.{RelayoutFault}
+use Rattle.tsp_judge.specs.declared.RelayoutFault.TheVariants as relayouts
+use Rattle.tsp_judge.specs.declared.WriteFault.{WriteFault}
+use Rattle.tsp_judge.specs.declared.WriteFault.TheVariants as writes
+use Rattle.tsp_judge.specs.declared.ends.RunFault.{RunFault}
+use Rattle.tsp_judge.specs.declared.ends.RunFault.TheVariants as runs
 use Rattle.clap.proofs.WalkLemmas.{walk_stopped}
-use Rattle.tsp_cli.specs.Grammar.{tsp}
-use Rattle.tsp_cli.specs.CommandWords.{IsVerbOf, word_of}
+use Rattle.clap.specs.Faults.{walk_fault, turn_fault, word_fault, other_fault}
+use Rattle.clap.specs.Kinds.{Kinds, or_else}
+use Rattle.clap.specs.Lexer.{long_of, short_of}
+use Rattle.clap.specs.Simple.{Shape, built, entered, names_of, subcommand_of, subcommand_rows}
+use Rattle.clap.specs.Walk.{Rule, Row, Names, Held, Walk, Waiting, Outcome, idle, option, positional, done, waits, plain, refused, after_step, after_flag, arg_by_index, arg_by_long, bundle, long_met, long_or_other, nothing_held, plain_word, short_or_plain, stop_after, subcommand_met, subcommand_or_other, to_positional, walk_from, walked, word_met}
+use Rattle.clap.specs.Words.{App, HasKind, IsAmong, Text, fault_of, kind_of}
+use Rattle.clap.specs.declared.builder.command.Command.{Command}
+use Rattle.clap.specs.declared.error.Error.{Error}
+use Rattle.clap.specs.declared.error.kind.ErrorKind.TheVariants.{DisplayHelp, InvalidSubcommand}
+use Rattle.clap.specs.declared.error.kind.ErrorKind.TheVariants as kinds
+use Rattle.clap.specs.declared.parser.matches.ArgMatches.TheViews.{out-SubCommand}
+use Rattle.clap.specs.declared.parser.matches.SubCommand.{SubCommand}
+use Rattle.tsp_cli.specs.Grammar.{IsCommandOf, has_globals, tsp, IsFaultOf, GivesJob, IsVerbOf, word_of}
+use Rattle.tsp_cli.specs.RunEnd.{is_one_line}
+use Rattle.tsp_cli.specs.declared.job.JobFault.{JobFault}
+use Rattle.tsp_cli.specs.declared.job.JobFault.TheVariants.{Refused, OutOfMemory}
 use Rattle.tsp_cli.specs.declared.job.Verb.{Verb}
 use Rattle.tsp_cli.specs.declared.job.Verb.TheVariants.{Show, Convert, Check, Compare, Bound}
+
+-- from the definition of a command to the premise of the next call that adds to it
+pub free : {E : Type 0} (app : App) (o : Result Command E) → IfOk o (IsCommandOf app) → IfOk o (λ made. has_globals made ≡ false)
+free app (Ok made) is = is.1
+free app (Err e) is = tt
+
+-- ---- a refusal of clap is the fault of the command line
+
+pub word_refused : (words : List Text) (refusal : Error) (fault : JobFault) → IsFaultOf (kind_of refusal) fault
+    → HasKind (fault_of tsp words) refusal
+    → GivesJob words (Err fault)
+word_refused words refusal (Refused other) is has = by_cause has
+  where
+    by_cause : (kind_of refusal ≡ kinds.OutOfMemory) ⊎ IsAmong (kind_of refusal) (fault_of tsp words) → GivesJob words (Err (Refused other))
+    by_cause (inl memory) = absurd (is.1 memory)
+    by_cause (inr among) = (subst (λ k. IsAmong k (fault_of tsp words)) (sym is.0) among, λ memory. is.1 (sym is.0 ∙ memory))
+word_refused words refusal OutOfMemory is has = tt
+
+-- ---- the subcommand that a parse with no fault enters is never `help`
 
 -- the walk hasn't met a subcommand
 abbrev GoesOn : Walk → Type 0
@@ -170,3 +220,128 @@ pub verb_found : (name : Text) (found : Option Verb) (verb : Verb) → name ≡ 
     → option_map word_of found ≡ Some name
 verb_found name None verb is none = absurd (none verb is)
 verb_found name (Some v) verb is some = ap (λ n. Some n) (sym some)
+
+-- ---- the text of each fault is one line
+
+pub is_one : List ℕ → Type 0
+is_one text = is_one_line text ≡ true
+
+one : (text : List ℕ) → is_one_line text ≡ true → is_one text
+unfolding is_one
+one text is = is
+
+pub both_lines : (front rest : List ℕ) → is_one front → is_one rest → is_one (front ++ rest)
+unfolding is_one
+both_lines front rest a b = list_all-append (λ byte. not (byte == 10)) front rest ∙ ap (λ x. x && is_one_line rest) a ∙ b
+
+glyph : (d : ℕ) → d < 10 → not (digit_glyph false d == 10) ≡ true
+glyph d small = search rules
+
+onto : (d : ℕ) (rest : List ℕ) → d < 10 → is_one rest → is_one (digit_glyph false d ∷ rest)
+unfolding is_one
+onto d rest small b = ap (λ x. x && is_one_line rest) (glyph d small) ∙ b
+
+either : (stops : Bool) (a b : List ℕ) → is_one a → is_one b → is_one (if stops then a else b)
+either true a b x y = x
+either false a b x y = y
+
+digits_are : (k n : ℕ) (rest : List ℕ) → is_one rest → is_one (digits_onto k 10 false n rest)
+digits_are zero n rest b = b
+digits_are (suc k) n rest b =
+    let more = onto (n % 10) rest (mod-lt n (omega arith)) b in
+    either (n / 10 == 0) _ _ more (digits_are k (n / 10) _ more)
+
+pub number : (n : ℕ) → is_one (decimal n)
+unfolding digits
+number n = digits_are 64 n [] (one [] refl)
+
+-- ---- the texts, from the inner ones to the outer
+
+of_field : (field : Field) → is_one (field_word field)
+of_field fields.NameKey = one _ refl
+of_field fields.TypeKey = one _ refl
+of_field fields.CommentKey = one _ refl
+of_field fields.OtherKey = one _ refl
+of_field fields.DimensionKey = one _ refl
+of_field fields.CapacityKey = one _ refl
+of_field fields.ScaleKey = one _ refl
+of_field fields.LoadUnitKey = one _ refl
+of_field fields.EdgeWeightTypeKey = one _ refl
+of_field fields.EdgeWeightFormatKey = one _ refl
+of_field fields.NodeCoordTypeKey = one _ refl
+of_field fields.DisplayDataTypeKey = one _ refl
+of_field fields.NodeCoordPart = one _ refl
+of_field fields.DisplayDataPart = one _ refl
+of_field fields.DemandPart = one _ refl
+of_field fields.DepotPart = one _ refl
+of_field fields.FixedEdgesPart = one _ refl
+of_field fields.EdgeWeightPart = one _ refl
+of_field fields.TourPart = one _ refl
+of_field fields.NodePotentialPart = one _ refl
+of_field fields.RowPotentialPart = one _ refl
+of_field fields.ColumnPotentialPart = one _ refl
+of_field fields.FixedEdgePotentialPart = one _ refl
+of_field fields.CombPart = one _ refl
+of_field fields.BranchPart = one _ refl
+
+of_number : (fault : NumberFault) → is_one (number_fault_text fault)
+of_number numbers.LongWord = one _ refl
+of_number numbers.BadNumber = one _ refl
+of_number numbers.TooFine = one _ refl
+of_number numbers.OutOfRange = one _ refl
+of_number numbers.NotWhole = one _ refl
+
+of_end : (fault : EndFault) → is_one (end_fault_text fault)
+of_end (ends.Missing field) = both_lines (codes "Missing ") _ (one _ refl) (of_field field)
+of_end (ends.Incomplete field) = both_lines (codes "Incomplete ") _ (one _ refl) (of_field field)
+of_end ends.WrongFormat = one _ refl
+of_end ends.WrongCount = one _ refl
+
+of_line : (fault : LineFault) → is_one (line_fault_text fault)
+of_line line_faults.LongLine = one _ refl
+of_line line_faults.UnknownLine = one _ refl
+of_line line_faults.Repeated = one _ refl
+of_line line_faults.Outside = one _ refl
+of_line line_faults.BadValue = one _ refl
+of_line line_faults.SectionValue = one _ refl
+of_line line_faults.SectionEarly = one _ refl
+of_line line_faults.TooManyNodes = one _ refl
+of_line line_faults.StrayNumber = one _ refl
+of_line (line_faults.Number fault) = both_lines (codes "Number ") _ (one _ refl) (of_number fault)
+of_line line_faults.RepeatedNode = one _ refl
+of_line line_faults.SelfEdge = one _ refl
+of_line line_faults.Surplus = one _ refl
+of_line line_faults.AfterEnd = one _ refl
+of_line line_faults.LateSpace = one _ refl
+
+of_read : (fault : ReadFault) → is_one (read_fault_text fault)
+of_read (reads.Line line word fault) = both_lines (codes "line ") _ (one _ refl) (both_lines (decimal line) _ (number line)
+    (both_lines (codes " word ") _ (one _ refl) (both_lines (decimal word) _ (number word) (both_lines (codes ": ") _ (one _ refl) (of_line fault)))))
+of_read (reads.End fault) = both_lines (codes "end: ") _ (one _ refl) (of_end fault)
+of_read reads.OutOfMemory = one _ refl
+of_read reads.Device = one _ refl
+of_read reads.TooLong = one _ refl
+
+of_write : (fault : WriteFault) → is_one (write_fault_text fault)
+of_write writes.Device = one _ refl
+of_write writes.OutOfMemory = one _ refl
+
+of_relayout : (fault : RelayoutFault) → is_one (relayout_fault_text fault)
+of_relayout relayouts.NotExplicit = one _ refl
+of_relayout (relayouts.NotSymmetric i j) = both_lines (codes "NotSymmetric ") _ (one _ refl) (both_lines (decimal i) _ (number i)
+    (both_lines (codes " ") _ (one _ refl) (number j)))
+of_relayout (relayouts.DiagonalLost i) = both_lines (codes "DiagonalLost ") _ (one _ refl) (number i)
+of_relayout relayouts.OutOfMemory = one _ refl
+
+pub of_run : (fault : RunFault) → is_one (run_fault_text fault)
+of_run (runs.File file fault) = both_lines (codes "file ") _ (one _ refl) (both_lines (decimal file) _ (number file)
+    (both_lines (codes ": ") _ (one _ refl) (of_read fault)))
+of_run runs.WrongKind = one _ refl
+of_run (runs.Write fault) = both_lines (codes "output: ") _ (one _ refl) (of_write fault)
+of_run runs.OutOfMemory = one _ refl
+of_run (runs.Relayout fault) = both_lines (codes "relayout: ") _ (one _ refl) (of_relayout fault)
+
+-- what a fault's text says of its bytes
+pub line_of_run : (fault : RunFault) → is_one_line (run_fault_text fault) ≡ true
+unfolding is_one
+line_of_run fault = of_run fault

@@ -2,8 +2,7 @@
 use Rattle.std.specs.Prelude.{◌≡◌, List, [], Option, None, Some}
 use Rattle.std.specs.Option.{option_map, option_map_or}
 use Rattle.clap.specs.Words.{Text, first_of, fault_of, subcommand_of}
-use Rattle.tsp_cli.specs.Grammar.{tsp}
-use Rattle.tsp_cli.specs.CommandWords.{values_of}
+use Rattle.tsp_cli.specs.Grammar.{tsp, values_of}
 
 -- the words are accepted, and are of this verb
 abbrev pub IsWholeLine : Text → List Text → Type 0

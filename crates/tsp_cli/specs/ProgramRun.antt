@@ -1,36 +1,63 @@
--- A run of the program `tsp`, from the words of its command line to its exit status and the lines on standard error.
--- For `run` (src/running.rt) and `opened` (src/running.rt), and so for `main` of tsp_tool.
-use Rattle.std.specs.Prelude.{◌≡◌, ◌≢◌, ◌⊎◌, ◌||◌, ℕ, Bool, List, [], ◌∷◌, codes, drop, Option, Result, Ok, Err, OnOk, true, false}
-use Rattle.std.specs.declared.io.Error.{Error}
+-- A run of `tsp compare` from its paths: which files are opened, and the result. For `run_comparison` (src/running.rt),
+-- `opened_to_compare` (src/running.rt) and `Followed` (src/explained.rt).
+use Rattle.std.specs.Prelude.{◌≡◌, ℕ, false, List, [], Option, Result, map, slice_index_or, ◌≢◌, ◌⊎◌, ◌||◌, Bool, ◌∷◌, codes, drop, Ok, Err, OnOk, true}
 use Rattle.std.specs.Str.{bytes_eq}
+use Rattle.std.specs.String.{string_bytes}
+use Rattle.std.specs.declared.io.Error.{Error}
 use Rattle.std.specs.declared.io.ErrorKind.{ErrorKind}
 use Rattle.std.specs.declared.io.ErrorKind.TheVariants as io_kinds
+use Rattle.tsp_io.specs.Streams.{Sink, IsUnwritten}
+use Rattle.tsp_io.specs.declared.piece.WriteFault.{WriteFault}
+use Rattle.tsp_io.specs.states.Watched.{watched, has_failed}
+use Rattle.tsp_report.specs.Tasks.{IsMappedComparison, IsMapped}
+use Rattle.tsp_report.specs.declared.task.Comparison.{Comparison}
+use Rattle.tsp_report.specs.declared.task.FileTask.{FileTask}
+use Rattle.tsp_report.specs.declared.task.Task.TheVariants as tasks
+use Rattle.tsp_judge.specs.ConvertRun.{AreComparedOn, IsCompared, AreReadOn, IsDone}
+use Rattle.tsp_judge.specs.declared.Watched.{Watched}
+use Rattle.tsp_judge.specs.declared.compared.Compared.{Compared}
+use Rattle.tsp_judge.specs.declared.ends.RunFault.{RunFault}
+use Rattle.tsp_judge.specs.declared.explained.Outcome.{Outcome}
 use Rattle.clap.specs.Words.{Text, kind_of}
 use Rattle.clap.specs.declared.error.Error.{Error as Refusal}
 use Rattle.clap.specs.declared.error.kind.ErrorKind.TheVariants as kinds
-use Rattle.tsp_judge.specs.declared.Watched.{Watched}
-use Rattle.tsp_io.specs.Sink.{Sink, IsUnwritten}
+use Rattle.tsp_cli.specs.Grammar.{GivesJob, IsOtherRefusal}
+use Rattle.tsp_cli.specs.RunEnd.{status_of_run_end, TellsAll, Prints, PrintsSome, version_text}
+use Rattle.tsp_cli.specs.Tasks.{IsInputPathAt, GivesTask}
 use Rattle.tsp_cli.specs.declared.ends.RunEnd.{RunEnd}
 use Rattle.tsp_cli.specs.declared.ends.RunEnd.TheVariants.{NoJob, Printed, NoTask, Ended}
 use Rattle.tsp_cli.specs.declared.ends.RunEnd.TheVariants as run_ends
-use Rattle.tsp_judge.specs.declared.explained.Outcome.{Outcome}
-use Rattle.tsp_judge.specs.declared.compared.Compared.{Compared}
-use Rattle.tsp_judge.specs.declared.ends.RunFault.{RunFault}
+use Rattle.tsp_cli.specs.declared.job.InputPath.{InputPath}
 use Rattle.tsp_cli.specs.declared.job.Job.{Job}
 use Rattle.tsp_cli.specs.declared.job.JobFault.{JobFault}
-use Rattle.tsp_cli.specs.declared.job.InputPath.{InputPath}
-use Rattle.tsp_report.specs.declared.task.FileTask.{FileTask}
-use Rattle.tsp_report.specs.Mapped.{IsMapped}
 use Rattle.tsp_cli.specs.declared.job.JobFault.TheVariants.{OutOfMemory, Refused}
-use Rattle.tsp_cli.specs.CommandWords.{GivesJob, IsOtherRefusal}
-use Rattle.tsp_report.specs.declared.task.Comparison.{Comparison}
-use Rattle.tsp_report.specs.declared.task.Task.TheVariants as tasks
-use Rattle.tsp_cli.specs.Tasks.{GivesTask}
-use Rattle.tsp_cli.specs.ComparisonRun.{IsComparedAs, IsFresh}
-use Rattle.tsp_judge.specs.Outcomes.{AreReadOn, IsDone}
-use Rattle.tsp_io.specs.declared.piece.WriteFault.{WriteFault}
-use Rattle.tsp_cli.specs.RunEnd.{status_of_run_end, TellsAll}
-use Rattle.tsp_cli.specs.Printing.{Prints, PrintsSome, version_text}
+
+-- the reader is that of the opened file, and hasn't failed
+abbrev pub IsFresh : {F : Type 0} → (InputPath → F → Type 0) → InputPath → Watched F → Type 0
+IsFresh opens place reader = opens place (watched reader) × (has_failed reader ≡ false)
+
+-- the paths of the solutions
+abbrev pub paths_of : Comparison InputPath → List Text
+paths_of comparison = map string_bytes comparison.solutions.now
+
+-- opening the path with this index, counted from 0, may give this file
+abbrev pub IsOpenedAt : {F : Type 0} → (InputPath → F → Type 0) → List Text → ℕ → F → Type 0
+IsOpenedAt opens paths index file = (place : InputPath) × IsInputPathAt (slice_index_or paths index []) place × opens place file
+
+-- the readers of the instance and the certificate, each of its opened file
+abbrev pub AreOpened : {F : Type 0} → (InputPath → F → Type 0) → Comparison InputPath → Comparison (Watched F) → Type 0
+AreOpened opens = IsMappedComparison (IsFresh opens)
+
+-- The instance is opened, then the certificate, and after them each solution, when it is to be read. Each reader has
+-- failed where its last read has.
+abbrev pub IsComparedAs : {F : Type 0} → (F → Option (List ℕ)) → (F → List ℕ → Result ℕ Error → List ℕ → F → Type 0)
+    → (InputPath → F → Type 0) → Comparison InputPath → Sink → Result Compared RunFault → Type 0
+IsComparedAs {F = F} remaining gives opens comparison sink answer = (old new : Comparison (Watched F))
+    × AreOpened opens comparison old
+    × IsCompared remaining gives (IsOpenedAt opens (paths_of comparison)) (paths_of comparison) old new sink answer
+    × AreComparedOn gives old new
+
+-- ---- a run of the program `tsp`, from the words of its command line to its exit status and
 
 -- the same task with readers in place of paths, each of its opened file
 abbrev pub AreFresh : {F : Type 0} → (InputPath → F → Type 0) → FileTask InputPath → FileTask (Watched F) → Type 0

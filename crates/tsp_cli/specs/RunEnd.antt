@@ -1,19 +1,46 @@
--- The exit status of a run's end, and the line that it writes to standard error. For `status_of_run_end` and `tell`
--- (src/ends.rt), and for ProgramRun.antt.
-use Rattle.std.specs.Prelude.{◌≡◌, ℕ, Bool, List, [], ◌++◌, ◌∷◌, true, false, Option, None, Some, Ok, Err, IfSome, codes, not, ◌==◌}
-use Rattle.std.specs.List.{list_all}
+-- The version and the help on standard output, and how printing them ends. For `print_version` and `print_help`
+-- (src/running.rt).
 use Rattle.std.specs.Io.KnownBytes.{Appends, Keeps}
-use Rattle.tsp_judge.specs.RunFaultText.{run_fault_text}
+use Rattle.std.specs.List.{list_all}
+use Rattle.std.specs.Prelude.{◌≡◌, ◌⊎◌, ◌++◌, List, ℕ, Result, Err, Some, Option, codes, Bool, true, false, [], ◌∷◌, None, Ok, IfSome, not, ◌==◌}
+use Rattle.tsp_io.specs.Streams.{Sink, IsUnwritten, Writes}
+use Rattle.tsp_io.specs.declared.piece.WriteFault.{WriteFault}
+use Rattle.tsp_io.specs.declared.piece.WriteFault.TheVariants.{OutOfMemory}
+use Rattle.tsp_judge.specs.CheckRun.{run_fault_text, status_of}
+use Rattle.tsp_judge.specs.ConvertRun.{is_yes_outcome}
 use Rattle.tsp_judge.specs.declared.ends.RunFault.TheVariants.{Write}
-use Rattle.tsp_judge.specs.Status.{status_of}
-use Rattle.tsp_cli.specs.declared.job.JobFault.TheVariants as job_faults
-use Rattle.tsp_cli.specs.declared.job.TaskFault.TheVariants.{UnknownLayout, MissingPath, TwoCertificates, NoCertificate, NotALength, InputTwice, LineEndInPath}
-use Rattle.tsp_judge.specs.Outcomes.{is_yes_outcome}
-use Rattle.tsp_cli.specs.Telling.{MayTell}
-use Rattle.tsp_cli.specs.declared.ends.RunEnd.{RunEnd}
-use Rattle.tsp_cli.specs.declared.ends.RunEnd.TheVariants.{NoJob, Printed, NoTask, Ended, Compared}
 use Rattle.tsp_cli.specs.declared.ends.ErrorLine.{ErrorLine}
 use Rattle.tsp_cli.specs.declared.ends.ErrorLine.TheVariants as error_lines
+use Rattle.tsp_cli.specs.declared.ends.RunEnd.{RunEnd}
+use Rattle.tsp_cli.specs.declared.ends.RunEnd.TheVariants.{NoJob, Printed, NoTask, Ended, Compared}
+use Rattle.tsp_cli.specs.declared.job.JobFault.TheVariants as job_faults
+use Rattle.tsp_cli.specs.declared.job.TaskFault.TheVariants.{UnknownLayout, MissingPath, TwoCertificates, NoCertificate, NotALength, InputTwice, LineEndInPath}
+use Rattle.tsp_cli.specs.declared.running.Version.{Version}
+
+-- the line of the version, with the name of the build
+abbrev pub version_text : List ℕ → List ℕ
+version_text build = codes "tsp 1.1.0 (" ++ build ++ codes ")\n"
+
+-- what `Version` writes
+abbrev pub version_written : Version → Option (List ℕ)
+version_written version = Some (version_text version.build.now)
+
+-- the result of printing this text; where there is no memory for it, nothing is written
+abbrev pub Prints : Sink → List ℕ → Result (Unit {0}) WriteFault → Type 0
+Prints sink text printed = Writes sink text printed ⊎ ((printed ≡ Err OutOfMemory) × IsUnwritten sink)
+
+-- the result of printing some text
+abbrev pub PrintsSome : Sink → Result (Unit {0}) WriteFault → Type 0
+PrintsSome sink printed = (text : List ℕ) × Prints sink text printed
+
+-- ---- the explanations of single solutions of a comparison on standard error
+
+-- without explanations nothing is written, with them some text
+abbrev pub MayTell : Bool → Option (List ℕ) → Option (List ℕ) → Type 0
+MayTell false old new = new ≡ old
+MayTell true old new = (text : List ℕ) × Appends old new text
+
+-- ---- the exit status of a run's end, and the line that it writes to standard error
 
 -- words: 3 out of memory, 4 refused; a version or help: 0 printed, else the status of the fault; a task: the status of
 -- its result; a comparison: the largest status of its solutions
@@ -86,3 +113,9 @@ abbrev pub TellsAll : Bool → RunEnd → Option (List ℕ) → Option (List ℕ
 TellsAll explained (Compared answer) old new = (first : Option (List ℕ)) × MayTell explained old first
     × TellsAfter explained (Compared answer) first new
 TellsAll explained run_end old new = TellsAfter explained run_end old new
+
+-- ---- the line on standard error for a person at a terminal, from which the program then reads
+
+-- its bytes
+abbrev pub waiting_line : List ℕ
+waiting_line = codes "reading standard input; tsp --help tells more\n"

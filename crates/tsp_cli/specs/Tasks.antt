@@ -8,12 +8,12 @@ use Rattle.clap.specs.Words.{Text}
 use Rattle.tsp_number.specs.declared.word.NumberFault.{NumberFault}
 use Rattle.tsp_number.specs.NumberWord.{ReadsWhole}
 use Rattle.tsp_format.specs.declared.layout.Layout.{Layout}
-use Rattle.tsp_format.specs.Layout.{layout_word}
+use Rattle.tsp_format.specs.Words.{layout_word}
 use Rattle.tsp_report.specs.declared.task.Certificate.{Certificate}
 use Rattle.tsp_report.specs.declared.task.Certificate.TheVariants.{Potentials, Branches}
 use Rattle.tsp_report.specs.declared.task.Role.{Role}
-use Rattle.tsp_report.specs.Files.{files_of, files_compared}
-use Rattle.tsp_cli.specs.CommandWords.{text_in}
+use Rattle.tsp_report.specs.Tasks.{files_of, files_compared}
+use Rattle.tsp_cli.specs.Grammar.{text_in}
 use Rattle.tsp_cli.specs.declared.job.Job.{Job}
 use Rattle.tsp_cli.specs.declared.job.Verb.TheVariants as verbs
 use Rattle.tsp_cli.specs.declared.job.InputPath.{InputPath}

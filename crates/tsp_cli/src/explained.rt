@@ -3,8 +3,8 @@
 
 ghost use Rattle.std.specs.Prelude.{map, true};
 ghost use Rattle.std.specs.String.{string_bytes};
-ghost use Rattle.tsp_cli.specs.ComparisonRun.{IsOpenedAt};
-ghost use Rattle.tsp_cli.specs.Telling.{MayTell};
+ghost use Rattle.tsp_cli.specs.ProgramRun.{IsOpenedAt};
+ghost use Rattle.tsp_cli.specs.RunEnd.{MayTell};
 
 use crate::ends::RunEnd;
 use crate::input::Open;

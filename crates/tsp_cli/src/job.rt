@@ -4,14 +4,14 @@
 ghost use Rattle.std.specs.IoError.{error_kind};
 ghost use Rattle.std.specs.Prelude.{◌≡◌, ◌≢◌, ◌↔◌, IfOk, IsTrue, Some, codes, map, option_map, ◌≤◌};
 ghost use Rattle.std.specs.String.{string_bytes};
-ghost use Rattle.tsp_report.specs.Files.{files_of_task, numbered};
+ghost use Rattle.tsp_report.specs.Tasks.{files_of_task, numbered};
 ghost use Rattle.clap.specs.Words.{first_of, found_of, kind_of, rows_of};
-ghost use Rattle.tsp_cli.specs.CommandWords.{GivesJob, IsFaultOf, IsOtherRefusal, IsVerbOf, HasValues, text_in, values_of};
+ghost use Rattle.tsp_cli.specs.Grammar.{GivesJob, IsFaultOf, IsOtherRefusal, IsVerbOf, HasValues, text_in, values_of};
 ghost use Rattle.tsp_cli.specs.Tasks.{GivesInputPath, GivesLayout, GivesClaim, GivesCertificate, IsInputPathAt, any_line_end, has_line_end, NamesTask, NamesCheck, NamesComparison, NamesBound, GivesTask, input_at, inputs_at, inputs_of_task};
 
-use crate::grammar;
-use clap::error::ErrorKind;
 use clap::{ArgMatches, Error as Refusal};
+use clap::error::ErrorKind;
+use crate::grammar;
 use std::alloc::{AllocError, Global};
 use std::io::{self, ErrorKind as IoKind};
 use tsp_format::Layout;

@@ -6,19 +6,16 @@ ghost use Rattle.std.specs.IoError.{error_kind};
 ghost use Rattle.std.specs.Prelude.{◌≡◌, ◌||◌, IfOk, OnOk, drop, map, ◌≤◌, ◌<◌, true, false, length};
 ghost use Rattle.std.specs.String.{string_bytes};
 ghost use Rattle.tsp_io.specs.states.Watched.{sink_of};
-ghost use Rattle.tsp_cli.specs.ComparisonRun.{IsComparedAs, AreOpened, IsFresh};
-ghost use Rattle.tsp_cli.specs.Printing.{Prints, PrintsSome, version_text};
-ghost use Rattle.tsp_cli.specs.ProgramRun.{EndsProgram, EndsRefused, EndsWith, HasNoWords, IsDoneAs, Runs, RunsComparison, RunsJob, RunsFileTask, begins_with_help, AreFresh};
-ghost use Rattle.tsp_cli.specs.RunEnd.{status_of_run_end, Tells, TellsAfter, TellsAll};
-ghost use Rattle.tsp_cli.specs.Waiting.{waiting_line};
+ghost use Rattle.tsp_cli.specs.ProgramRun.{IsComparedAs, AreOpened, IsFresh, EndsProgram, EndsRefused, EndsWith, HasNoWords, IsDoneAs, Runs, RunsComparison, RunsJob, RunsFileTask, begins_with_help, AreFresh};
+ghost use Rattle.tsp_cli.specs.RunEnd.{Prints, PrintsSome, version_text, status_of_run_end, Tells, TellsAfter, TellsAll, waiting_line};
 
+use clap::Error as Refusal;
+use clap::error::ErrorKind;
 use crate::ends::{RunEnd, status_of_run_end, tell};
 use crate::explained::{Followed, TaskRun, end_count, explanation, fault_explanation};
 use crate::grammar::VERSION;
 use crate::input::Open;
 use crate::job::{InputPath, Job, JobFault, TaskFault, job_of, task_of, unread};
-use clap::Error as Refusal;
-use clap::error::ErrorKind;
 use std::alloc::{AllocError, Global};
 use std::fmt::{self, Display, Formatter};
 use std::io::{self, Read, Write};
@@ -307,7 +304,7 @@ struct Version<'a> {
 }
 
 impl Display for Version<'_> {
-    ghost use Rattle.tsp_cli.specs.Printing.{version_written};
+    ghost use Rattle.tsp_cli.specs.RunEnd.{version_written};
 
     ghost output = { version_written };
 

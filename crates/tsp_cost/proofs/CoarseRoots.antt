@@ -3,10 +3,10 @@
 use Rattle.std.proofs.Common.{◌≡◌, ℕ, ◌+◌, ◌*◌, ◌-◌, ◌<◌, ◌≤◌, ◌^◌, ℤ, pos, negsuc, ◌*ℤ◌, ◌-ℤ◌, unsigned_abs, FitsSigned, to_z, of_z, w64, sym, ap, ◌∙◌, Option, None, Some, rules, arith}
 use Rattle.std.specs.Prelude.{IfSome}
 use Rattle.std.proofs.lemmas.Int.{to_z-of_z, unsigned_abs-mul}
-use Rattle.tsp_distance.specs.declared.decimal.Point.{Point}
-use Rattle.tsp_distance.specs.Decimal.{unit}
-use Rattle.tsp_distance.specs.Distances.{squared, dx, dy, square_apart, euc_2d_of, IsEuc2d, IsNearestRoot, IsDistance}
-use Rattle.tsp_cost.specs.states.Coarse.{RoundsTo}
+use Rattle.tsp_number.specs.declared.decimal.Point.{Point}
+use Rattle.tsp_number.specs.Decimal.{unit}
+use Rattle.tsp_number.specs.Distances.{squared, dx, dy, square_apart, euc_2d_of, IsEuc2d, IsNearestRoot, IsDistance}
+use Rattle.tsp_cost.specs.states.Metrics.{RoundsTo}
 
 -- the sum of both squares, in counts of 10^-9
 square_is : (w h : ℕ) → squared (w * 1953125) + squared (h * 1953125) ≡ (squared w + squared h) * 3814697265625

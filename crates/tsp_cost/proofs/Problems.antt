@@ -1,40 +1,127 @@
--- Each valid instance is one problem: its fields give nodes, costs, fixed edges and routing data, and no other ones.
--- For the law `instances_are_problems` in src/laws.rt.
-use Rattle.std.proofs.Common.{◌≡◌, ◌≢◌, ℕ, ◌+◌, ◌-◌, ◌<◌, eqb, ltb-false, Bool, true, false, List, [], ◌∷◌, length, map, Option, None, Some, refl, sym, ap, subst, ◌∙◌, inl, inr, arith}
-use Rattle.std.specs.Prelude.{◌⊎◌, ℤ, pos, unsigned_abs, unwrap_or, is_some, IsSome, slice_index, slice_index_or, nat_lt, nat_le, if◌then◌else◌}
-use Rattle.std.specs.List.{range_with_len}
+-- The costs of an instance by their source: distances of its points, or weights that a layout lists. For
+-- `Instance::distance_view` in src/instance.rt and others.
+use Rattle.std.proofs.Common.{◌≡◌, ◌≢◌, ℕ, true, false, List, [], Option, None, Some, refl, sym, ap, ◌∙◌, length, subst, ◌+◌, ◌-◌, ◌<◌, eqb, ltb-false, Bool, ◌∷◌, map, inl, inr, arith}
 use Rattle.std.proofs.lemmas.Bool.{false≢true, leb-false}
 use Rattle.std.proofs.lemmas.Bool.Decides.{eqb_tells}
 use Rattle.std.proofs.lemmas.List.{length-map, get_or-map, ext_get_or}
 use Rattle.std.proofs.lemmas.List.FromFn.{length-range_with_len, get_or-range_with_len}
-use Rattle.tsp_distance.specs.declared.decimal.Point.{Point}
+use Rattle.std.specs.List.{All, range_with_len}
+use Rattle.std.specs.Prelude.{unwrap_or, ℤ, ◌⊎◌, pos, unsigned_abs, is_some, IsSome, slice_index, slice_index_or, nat_lt, nat_le, if◌then◌else◌}
+use Rattle.tsp_number.specs.declared.decimal.Point.{Point}
+use Rattle.tsp_format.proofs.Pairs.{cell_is}
+use Rattle.tsp_format.proofs.Places.{placed, place_within, no_place}
+use Rattle.tsp_format.specs.Nodes.{IsNode, nodes_to, is_listed, cells}
+use Rattle.tsp_format.specs.Place.{place_of, place_by_table}
 use Rattle.tsp_format.specs.declared.kinds.Kind.{Kind}
 use Rattle.tsp_format.specs.declared.kinds.Kind.TheVariants as kinds
 use Rattle.tsp_format.specs.declared.kinds.WeightKind.{WeightKind}
-use Rattle.tsp_format.specs.declared.kinds.WeightKind.TheVariants.{Explicit}
+use Rattle.tsp_format.specs.declared.kinds.WeightKind.TheVariants.{Explicit, Euc2d, Ceil2d, Man2d, Max2d, Att, Euc3d, Man3d, Max3d}
 use Rattle.tsp_format.specs.declared.layout.Layout.{Layout}
 use Rattle.tsp_format.specs.declared.layout.Layout.TheVariants.{FullMatrix, UpperRow, LowerRow, UpperDiagRow, LowerDiagRow, UpperCol, LowerCol, UpperDiagCol, LowerDiagCol}
-use Rattle.tsp_format.specs.Nodes.{IsNode, nodes_to}
-use Rattle.tsp_format.specs.Cells.{is_listed, cells}
-use Rattle.tsp_format.specs.Place.{place_of, place_by_table}
-use Rattle.tsp_format.proofs.Pairs.{cell_is}
-use Rattle.tsp_format.proofs.Places.{placed, place_within, no_place}
-use Rattle.tsp_file.specs.Coords.{origin}
-use Rattle.tsp_file.specs.Fields.{Fields, nodes_of}
-use Rattle.tsp_file.specs.Rules.{is_explicit}
-use Rattle.tsp_file.specs.Valid.{IsInRange, HasInstance, HasRouting}
+use Rattle.tsp_file.proofs.Relaid.{lists, cost_of_listed, cost_of_cell, cost_unlisted, triangle_even, unlisted_has_no_place, laid_at, own_costs}
 use Rattle.tsp_file.specs.ByInequalities.{IsDistanceBy}
-use Rattle.tsp_file.specs.Cost.{cost, cost_by, listed_cost, point_of, layout_of}
-use Rattle.tsp_file.specs.ListedWeights.{UnlistedHaveNoPlace}
+use Rattle.tsp_file.specs.Cost.{distance, point_of, cost_by, cost, listed_cost, ListsWeights, origin, layout_of, UnlistedHaveNoPlace}
+use Rattle.tsp_file.specs.Fields.{Fields, nodes_of}
 use Rattle.tsp_file.specs.Relayout.{costs_in}
-use Rattle.tsp_file.proofs.Listed.{lists, cost_of_listed, cost_of_cell, cost_unlisted, triangle_even, unlisted_has_no_place}
-use Rattle.tsp_file.proofs.Relaid.{laid_at, own_costs}
-use Rattle.tsp_theory.specs.Routing.{RoutingProblem, demand_of}
-use Rattle.tsp_theory.specs.Tour.{Problem}
-use Rattle.tsp_cost.specs.Problems.{CostsAreListed, CostsAreDistances, IsProblemOf, IsRoutingOf}
-use Rattle.tsp_cost.specs.ProblemLaws.{IsProblem, HaveSameCosts, AreSame, AreSameRouting}
-use Rattle.tsp_cost.specs.ComputedProblems.{is_directed, problem_of, routing_of, depots_of, demands_of}
-use Rattle.tsp_cost.proofs.Instances.{distance_kind, is_listed_kind}
+use Rattle.tsp_file.specs.Rules.{is_explicit}
+use Rattle.tsp_file.specs.Valid.{IsPairOf, AreFixed, IsInRange, HasInstance, HasRouting}
+use Rattle.tsp_theory.specs.Tour.{RoutingProblem, demand_of, Problem}
+use Rattle.tsp_cost.specs.Problems.{CostsAreListed, CostsAreDistances, IsProblemOf, IsRoutingOf, IsProblem, HaveSameCosts, AreSame, AreSameRouting, is_directed, problem_of, routing_of, depots_of, demands_of}
+use Rattle.tsp_cost.specs.declared.instance.CostSource.{CostSource}
+use Rattle.tsp_cost.specs.declared.instance.CostSource.TheVariants.{Distances, Weights}
+use Rattle.tsp_cost.specs.declared.metric.Metric.{Metric}
+use Rattle.tsp_cost.specs.declared.metric.Metric.TheVariants as metrics
+use Rattle.tsp_cost.specs.states.Metrics.{weight_kind_of}
+use Rattle.tsp_cost.specs.states.Views.{ComesFrom, HasFound}
+
+-- ---- the costs of an instance by its EDGE_WEIGHT_TYPE
+
+-- the cost from the coordinates
+by_distance : (kind : WeightKind) (f : Fields) (i j : ℕ) → kind ≢ Explicit
+    → cost_by (Some kind) f i j ≡ distance kind (point_of (unwrap_or f.coords []) i) (point_of (unwrap_or f.coords []) j)
+by_distance Explicit f i j other = absurd (other refl)
+by_distance Euc2d f i j other = refl
+by_distance Ceil2d f i j other = refl
+by_distance Man2d f i j other = refl
+by_distance Max2d f i j other = refl
+by_distance Att f i j other = refl
+by_distance Euc3d f i j other = refl
+by_distance Man3d f i j other = refl
+by_distance Max3d f i j other = refl
+
+pub cost_of_points : (f : Fields) (kind : WeightKind) (points : List Point) → f.weight_kind ≡ Some kind → kind ≢ Explicit
+    → f.coords ≡ Some points → (i j : ℕ)
+    → distance kind (point_of points i) (point_of points j) ≡ cost f i j
+unfolding cost
+cost_of_points f kind points is_kind other stand i j = sym (
+    ap (λ k. cost_by k f i j) is_kind
+    ∙ by_distance kind f i j other
+    ∙ ap (λ o. distance kind (point_of (unwrap_or o []) i) (point_of (unwrap_or o []) j)) stand)
+
+pub is_listed_kind : (o : Option WeightKind) → is_explicit o ≡ true → o ≡ Some Explicit
+is_listed_kind None is = absurd (false≢true is)
+is_listed_kind (Some Explicit) is = refl
+is_listed_kind (Some Euc2d) is = absurd (false≢true is)
+is_listed_kind (Some Ceil2d) is = absurd (false≢true is)
+is_listed_kind (Some Man2d) is = absurd (false≢true is)
+is_listed_kind (Some Max2d) is = absurd (false≢true is)
+is_listed_kind (Some Att) is = absurd (false≢true is)
+is_listed_kind (Some Euc3d) is = absurd (false≢true is)
+is_listed_kind (Some Man3d) is = absurd (false≢true is)
+is_listed_kind (Some Max3d) is = absurd (false≢true is)
+
+pub distance_kind : (f : Fields) (kind : WeightKind) → is_explicit f.weight_kind ≡ false → f.weight_kind ≡ Some kind
+    → kind ≢ Explicit
+distance_kind f kind other is explicit = false≢true (sym other ∙ ap is_explicit (is ∙ ap (λ k. Some k) explicit))
+
+-- ---- the costs of an instance by their source
+
+none_listed : (metric : Metric) → is_explicit (Some (weight_kind_of metric)) ≡ false
+none_listed metrics.Euc2d = refl
+none_listed metrics.Euc3d = refl
+none_listed metrics.Ceil2d = refl
+none_listed metrics.Man2d = refl
+none_listed metrics.Man3d = refl
+none_listed metrics.Max2d = refl
+none_listed metrics.Max3d = refl
+none_listed metrics.Att = refl
+
+is_distance : (metric : Metric) → weight_kind_of metric ≢ Explicit
+is_distance metric same = false≢true (sym (none_listed metric) ∙ ap (λ kind. is_explicit (Some kind)) same)
+
+-- the costs are the distances of these points
+pub record AreOfPoints (f : Fields) (metric : Metric) (points : List Point) : Type 0 where
+  pub kind : is_explicit f.weight_kind ≡ false
+  pub count : f.dimension ≡ Some (length points)
+  pub every : (i j : ℕ) → distance (weight_kind_of metric) (point_of points i) (point_of points j) ≡ cost f i j
+
+pub of_points : (f : Fields) (nodes : ℕ) (source : CostSource) (metric : Metric) (points : List Point) → HasFound f nodes source
+    → ComesFrom f (Distances metric)
+    → f.coords ≡ Some points → AreOfPoints f metric points
+of_points f nodes source metric points found comes stand = record {
+  kind = ap is_explicit comes.0 ∙ none_listed metric;
+  count = (found.range.coords points stand).0;
+  every = cost_of_points f (weight_kind_of metric) points comes.0 (is_distance metric) stand;
+}
+
+-- the costs are these weights in a layout
+pub record AreOfWeights (f : Fields) (layout : Layout) (nodes : ℕ) (weights : List ℤ) : Type 0 where
+  pub kind : is_explicit f.weight_kind ≡ true
+  pub lists : ListsWeights f layout nodes weights
+  pub every : (i j : ℕ) → listed_cost layout nodes weights i j ≡ cost f i j
+
+pub of_weights : (f : Fields) (nodes : ℕ) (source : CostSource) (layout : Layout) (weights : List ℤ) → HasFound f nodes source
+    → ComesFrom f (Weights layout)
+    → f.weights ≡ Some weights → AreOfWeights f layout nodes weights
+of_weights f nodes source layout weights found comes stand =
+    let held : ListsWeights f layout nodes weights = lists f layout nodes weights found.range comes.1 found.dimension stand in
+    record { kind = ap is_explicit comes.0; lists = held; every = cost_of_listed f layout nodes weights comes.0 held }
+
+pub pairs_of : (f : Fields) (pairs : List (ℕ × ℕ)) → AreFixed f pairs → All (IsPairOf (nodes_of f)) pairs
+pairs_of f pairs held =
+    subst (λ n. All (IsPairOf n) pairs) (sym (ap (λ o. unwrap_or o 0) held.dimension)) held.pairs_of_nodes
+
+-- ---- each valid instance is one problem
 
 -- the law of the distances: each is defined, and unique
 abbrev pub AreDefined : Type 0

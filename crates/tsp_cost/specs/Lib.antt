@@ -1,6 +1,4 @@
 -- The files of definitions of this crate. Crates above may import them.
 pub mod states
 pub mod Examples
-pub mod ComputedProblems
 pub mod Problems
-pub mod ProblemLaws

@@ -1,20 +1,21 @@
 -- Which problem a valid instance is: of TYPE TSP or ATSP a travelling salesman problem, of TYPE CVRP a routing problem.
 -- For the meanings of the line `yes` (Accepted.antt of tsp_judge).
 -- Source: TSPLIB 95 (G. Reinelt), TYPE, EDGE_WEIGHT_TYPE and the sections of data.
-use Rattle.std.specs.Prelude.{◌≡◌, ◌≢◌, ◌⊎◌, ℕ, false, if◌then◌else◌, [], ◌∷◌, map, Some, unwrap_or, ℤ, pos}
-use Rattle.tsp_distance.specs.declared.decimal.Point.{Point}
+use Rattle.std.specs.Prelude.{◌≡◌, ◌≢◌, ◌⊎◌, ℕ, false, if◌then◌else◌, [], ◌∷◌, map, Some, unwrap_or, ℤ, pos, Bool, true, List, Option, None, slice_index, length}
+use Rattle.tsp_number.specs.declared.decimal.Point.{Point}
+use Rattle.tsp_format.specs.Nodes.{IsNode, nodes_to, is_listed, cells}
+use Rattle.tsp_format.specs.declared.kinds.Kind.{Kind}
+use Rattle.tsp_format.specs.declared.kinds.Kind.TheVariants.{Tsp, Atsp, Cvrp, Tour, Potentials, Branches}
 use Rattle.tsp_format.specs.declared.kinds.Kind.TheVariants as kinds
 use Rattle.tsp_format.specs.declared.kinds.WeightFormat.TheVariants.{Listed}
 use Rattle.tsp_format.specs.declared.kinds.WeightKind.{WeightKind}
 use Rattle.tsp_format.specs.declared.kinds.WeightKind.TheVariants.{Explicit}
 use Rattle.tsp_format.specs.declared.layout.Layout.{Layout}
 use Rattle.tsp_format.specs.declared.layout.Layout.TheVariants.{FullMatrix}
-use Rattle.tsp_format.specs.Nodes.{IsNode, nodes_to}
-use Rattle.tsp_format.specs.Cells.{is_listed, cells}
-use Rattle.tsp_file.specs.Fields.{Fields}
 use Rattle.tsp_file.specs.ByInequalities.{IsDistanceBy}
-use Rattle.tsp_theory.specs.Routing.{RoutingProblem}
-use Rattle.tsp_theory.specs.Tour.{Problem}
+use Rattle.tsp_file.specs.Cost.{cost, fixed_of}
+use Rattle.tsp_file.specs.Fields.{Fields, nodes_of}
+use Rattle.tsp_theory.specs.Tour.{RoutingProblem, Problem, demand_of, IsPlan, IsTour}
 
 -- The costs are weights that the instance lists, each that of its cell in the layout. Half a matrix has the same costs
 -- in both directions, and a diagonal that isn't listed has 0. Only the costs between nodes are looked at.
@@ -49,3 +50,79 @@ pub record IsRoutingOf (instance : Fields) (problem : RoutingProblem) : Type 0 w
   pub depot : instance.depots ≡ Some (problem.depot ∷ [])
   pub demands : instance.demands ≡ Some (map problem.demand (nodes_to problem.nodes))
   pub capacity : instance.capacity ≡ Some problem.capacity
+
+-- ---- the problem of an instance as a function of its fields, which can be evaluated
+
+-- whether pairs have a direction
+abbrev pub is_directed : Option Kind → Bool
+is_directed (Some Atsp) = true
+is_directed (Some Tsp) = false
+is_directed (Some Cvrp) = false
+is_directed (Some Tour) = false
+is_directed (Some Potentials) = false
+is_directed (Some Branches) = false
+is_directed None = false
+
+-- the travelling salesman problem of an instance
+abbrev pub problem_of : Fields → Problem
+problem_of f = record { nodes = nodes_of f; directed = is_directed f.kind; cost = cost f; fixed = fixed_of f }
+
+-- a tour of an instance
+abbrev pub IsTourOf : Fields → List ℕ → Type 0
+IsTourOf f nodes = IsTour (problem_of f) nodes
+
+-- the depots of a routing problem; none of another file
+abbrev pub depots_of : Fields → List ℕ
+depots_of f = unwrap_or f.depots []
+
+-- its demands, node by node; none of another file
+abbrev pub demands_of : Fields → List ℤ
+demands_of f = unwrap_or f.demands []
+
+-- its capacity; 0 of another file
+abbrev pub capacity_of : Fields → ℤ
+capacity_of f = unwrap_or f.capacity (pos 0)
+
+-- the depot of an instance that lists one
+abbrev pub depot_of : Fields → ℕ
+depot_of f = slice_index (depots_of f) 0
+
+-- the routing problem of an instance
+abbrev pub routing_of : Fields → RoutingProblem
+routing_of f = record {
+  nodes = nodes_of f;
+  cost = cost f;
+  depot = depot_of f;
+  demand = demand_of (demands_of f);
+  capacity = capacity_of f;
+}
+
+-- routes that are a plan of an instance
+abbrev pub IsPlanOf : Fields → List (List ℕ) → Type 0
+IsPlanOf f routes = IsPlan (routing_of f) routes
+
+-- ---- that each valid instance is one problem
+
+-- the functions give the problem of a valid instance; of a CVRP where it lists one depot
+pub record IsProblem (instance : Fields) : Type 0 where
+  pub of_tours : (instance.kind ≡ Some kinds.Tsp) ⊎ (instance.kind ≡ Some kinds.Atsp) → IsProblemOf instance (problem_of instance)
+  pub of_routes : instance.kind ≡ Some kinds.Cvrp → length (depots_of instance) ≡ 1 → IsRoutingOf instance (routing_of instance)
+
+-- the costs between nodes are equal
+abbrev pub HaveSameCosts : ℕ → (ℕ → ℕ → ℤ) → (ℕ → ℕ → ℤ) → Type 0
+HaveSameCosts n a b = (i j : ℕ) → IsNode n i → IsNode n j → a i j ≡ b i j
+
+-- two travelling salesman problems are equal, but for costs that aren't between nodes
+pub record AreSame (a b : Problem) : Type 0 where
+  pub nodes : a.nodes ≡ b.nodes
+  pub directed : a.directed ≡ b.directed
+  pub costs : HaveSameCosts a.nodes a.cost b.cost
+  pub fixed : a.fixed ≡ b.fixed
+
+-- two routing problems are equal, but for costs and demands that aren't of nodes
+pub record AreSameRouting (a b : RoutingProblem) : Type 0 where
+  pub nodes : a.nodes ≡ b.nodes
+  pub costs : HaveSameCosts a.nodes a.cost b.cost
+  pub depot : a.depot ≡ b.depot
+  pub demands : (i : ℕ) → IsNode a.nodes i → a.demand i ≡ b.demand i
+  pub capacity : a.capacity ≡ b.capacity

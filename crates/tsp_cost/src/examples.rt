@@ -3,8 +3,8 @@
 
 ghost use Rattle.std.specs.Prelude.{[], ◌∷◌};
 ghost use Rattle.tsp_format.specs.declared.kinds.Kind.TheVariants as kinds;
-ghost use Rattle.tsp_theory.specs.CycleExamples.{three, four};
-ghost use Rattle.tsp_cost.specs.ComputedProblems.{IsTourOf};
+ghost use Rattle.tsp_theory.specs.Examples.{three, four};
+ghost use Rattle.tsp_cost.specs.Problems.{IsTourOf};
 ghost use Rattle.tsp_cost.specs.Examples.{with_fixed};
 
 /// Which cycles use a fixed pair: under ATSP from its first to its second node, else either way.

@@ -4,8 +4,8 @@
 ghost use Rattle.std.specs.Prelude.{◌≡◌, ◌≤◌, ◌<◌, ◌*◌, ◌^◌, length};
 
 use std::alloc::Global;
-use tsp_distance::{Decimal, InSpace, Point};
 use tsp_io::{Refused, filled, push, with_capacity};
+use tsp_number::{Decimal, InSpace, Point};
 use tsp_theory::Region;
 
 /// A node and its point.

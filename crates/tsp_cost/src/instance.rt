@@ -7,9 +7,8 @@ ghost use Rattle.tsp_format.specs.Nodes.{IsNode};
 ghost use Rattle.tsp_file.specs.Cost.{cost};
 ghost use Rattle.tsp_file.specs.Fields.{nodes_of};
 ghost use Rattle.tsp_file.specs.Rules.{is_instance};
-ghost use Rattle.tsp_format.specs.Symmetry.{IsSymmetric, IsFirstAsymmetric, FindsAsymmetric};
-ghost use Rattle.tsp_cost.specs.states.Sources.{HasFound};
-ghost use Rattle.tsp_cost.specs.states.Views.{ShowsEven};
+ghost use Rattle.tsp_format.specs.Words.{IsSymmetric, IsFirstAsymmetric, FindsAsymmetric};
+ghost use Rattle.tsp_cost.specs.states.Views.{HasFound, ShowsEven};
 
 use crate::laws::instances_are_problems;
 use crate::matrix::{EvenMatrix, Matrix, Triangle};
@@ -17,9 +16,9 @@ use crate::metric::Metric;
 use crate::points::Points;
 use std::marker::Model;
 use thiserror::Error;
-use tsp_distance::{PlanePoint, Point};
 use tsp_file::{Coords, File, RoutingData};
 use tsp_format::{Kind, Layout};
+use tsp_number::{PlanePoint, Point};
 use tsp_theory::Costs;
 
 /// A valid file of TYPE TSP, ATSP or CVRP, with the costs between its nodes.
@@ -34,7 +33,7 @@ pub struct Instance {
 
 impl Model for Instance {
     ghost use Rattle.tsp_file.specs.Fields.{Fields};
-    ghost use Rattle.tsp_cost.specs.states.Sources.{HasFound};
+    ghost use Rattle.tsp_cost.specs.states.Views.{HasFound};
 
     ghost Value = { Fields };
 
@@ -53,10 +52,10 @@ impl Instance {
     ghost use Rattle.tsp_cost.specs.declared.instance.CostFault.TheVariants.{NotInstance};
     ghost use Rattle.tsp_cost.specs.declared.instance.CostSource.TheVariants.{Distances, Weights};
     ghost use Rattle.tsp_file.specs.Fields.{nodes_of};
-    ghost use Rattle.tsp_file.specs.Defaults.{fixed_of};
-    ghost use Rattle.tsp_file.specs.Typed.{HoldsRouting};
-    ghost use Rattle.tsp_cost.specs.ProblemLaws.{IsProblem};
-    ghost use Rattle.tsp_cost.specs.states.Sources.{ComesFrom};
+    ghost use Rattle.tsp_file.specs.Cost.{fixed_of};
+    ghost use Rattle.tsp_file.specs.Cost.{HoldsRouting};
+    ghost use Rattle.tsp_cost.specs.Problems.{IsProblem};
+    ghost use Rattle.tsp_cost.specs.states.Views.{ComesFrom};
     ghost use Rattle.tsp_cost.specs.states.Views.{IsViewOf};
 
     /// The instance that a file is, which is one problem, or why it is none, and the file itself,

@@ -4,11 +4,8 @@
 ghost use Rattle.std.specs.Prelude.{◌≡◌, None, IsTrue};
 ghost use Rattle.tsp_file.specs.Fields.{Fields};
 ghost use Rattle.tsp_file.specs.Rules.{fault_of, is_instance};
-ghost use Rattle.tsp_theory.specs.Routing.{RoutingProblem};
-ghost use Rattle.tsp_theory.specs.Tour.{Problem};
-ghost use Rattle.tsp_cost.specs.Problems.{IsProblemOf, IsRoutingOf};
-ghost use Rattle.tsp_cost.specs.ProblemLaws.{IsProblem, AreSame, AreSameRouting};
-ghost use Rattle.tsp_cost.specs.ComputedProblems.{problem_of, routing_of};
+ghost use Rattle.tsp_theory.specs.Tour.{RoutingProblem, Problem};
+ghost use Rattle.tsp_cost.specs.Problems.{IsProblemOf, IsRoutingOf, IsProblem, AreSame, AreSameRouting, problem_of, routing_of};
 
 use tsp_file::{costs_are_by_inequalities, valid_fields_are_in_range, valid_files_are_complete};
 

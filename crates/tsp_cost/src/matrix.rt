@@ -2,13 +2,12 @@
 
 ghost use Rattle.std.specs.List.{All};
 ghost use Rattle.std.specs.Prelude.{◌≡◌, ◌≤◌, length, ◌≢◌, ◌⊎◌, IsTrue};
-ghost use Rattle.tsp_format.specs.Cells.{cells, is_listed};
+ghost use Rattle.tsp_format.specs.Nodes.{cells, is_listed};
 ghost use Rattle.tsp_format.specs.Limits.{most_matrix_nodes, most_weight};
 ghost use Rattle.tsp_format.specs.declared.layout.Layout.TheVariants.{FullMatrix};
-ghost use Rattle.tsp_file.specs.Cost.{listed_cost};
-ghost use Rattle.tsp_file.specs.ListedWeights.{UnlistedHaveNoPlace};
+ghost use Rattle.tsp_file.specs.Cost.{listed_cost, UnlistedHaveNoPlace};
 ghost use Rattle.tsp_file.specs.Valid.{IsWithin};
-ghost use Rattle.tsp_format.specs.Symmetry.{IsSymmetric};
+ghost use Rattle.tsp_format.specs.Words.{IsSymmetric};
 
 use tsp_file::first_asymmetric;
 use tsp_format::{Layout, cells_are_the_listed_pairs, only_cells_have_places};
@@ -34,7 +33,7 @@ pub struct EvenMatrix<'a> {
 
 impl<'a> Matrix<'a> {
     ghost use Rattle.std.specs.Prelude.{ℕ, MatchResult};
-    ghost use Rattle.tsp_format.specs.Symmetry.{IsFirstAsymmetric, FindsAsymmetric};
+    ghost use Rattle.tsp_format.specs.Words.{IsFirstAsymmetric, FindsAsymmetric};
     ghost use Rattle.tsp_cost.specs.states.Views.{matrix_nodes, matrix_cost, even_nodes, even_cost};
 
     /// The costs over this many nodes that these weights list.

@@ -1,19 +1,18 @@
-//! The weight types that are distances, and the function of tsp_distance for each. For
+//! The weight types that are distances, and the function of tsp_number for each. For
 //! `src/points.rt`, `src/points.rt`, `src/points.rt` and others.
 
 ghost use Rattle.std.specs.Prelude.{◌≡◌, IsTrue, ◌↔◌, pos, ◌≤ℤ◌, MatchOption, ◌<◌, ◌≤◌, ◌*◌, ◌^◌, ◌*ℤ◌, ◌-ℤ◌, IfSome, unsigned_abs};
-ghost use Rattle.tsp_distance.specs.Distances.{squared, euc_2d_of};
+ghost use Rattle.tsp_number.specs.Distances.{squared, euc_2d_of};
 ghost use Rattle.tsp_format.specs.declared.kinds.WeightKind.TheVariants.{Explicit};
 ghost use Rattle.tsp_file.specs.Cost.{distance};
-ghost use Rattle.tsp_cost.specs.states.Coarse.{RoundsTo};
-ghost use Rattle.tsp_cost.specs.states.Metrics.{weight_kind_of};
+ghost use Rattle.tsp_cost.specs.states.Metrics.{RoundsTo, weight_kind_of};
 
 use std::num;
-use tsp_distance::{
+use tsp_format::WeightKind;
+use tsp_number::{
     Decimal, Point, att, ceil_2d, distance_laws, euc_2d, euc_3d, is_att_at_least,
     is_ceil_2d_at_least, is_euc_2d_at_least, is_euc_3d_at_least, man_2d, man_3d, max_2d, max_3d,
 };
-use tsp_format::WeightKind;
 
 /// A weight type that is a distance of points.
 #[derive(Clone, Copy, Debug)]

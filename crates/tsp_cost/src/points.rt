@@ -2,7 +2,7 @@
 //! For `src/instance.rt` and others.
 
 ghost use Rattle.std.specs.Prelude.{◌≡◌, ◌≤◌, ◌-◌, ℕ, length, map};
-ghost use Rattle.tsp_distance.specs.declared.decimal.Point.{Point};
+ghost use Rattle.tsp_number.specs.declared.decimal.Point.{Point};
 ghost use Rattle.tsp_format.specs.Limits.{most_nodes};
 ghost use Rattle.tsp_file.specs.Cost.{distance, point_of};
 ghost use Rattle.tsp_cost.specs.declared.metric.Metric.TheVariants.{Euc2d};
@@ -11,8 +11,8 @@ ghost use Rattle.tsp_cost.specs.states.Metrics.{weight_kind_of};
 use crate::halves::by_halves;
 use crate::metric::Metric;
 use std::alloc::{AllocError, Global};
-use tsp_distance::{InSpace, PlanePoint, Point, distance_laws, monotone_laws};
 use tsp_io::Refused;
+use tsp_number::{InSpace, PlanePoint, Point, distance_laws, monotone_laws};
 use tsp_theory::{Costs, Region, Site, Symmetric};
 
 /// How many points are looked up before the first of their distances.
@@ -35,9 +35,9 @@ impl<'a, P: InSpace> Points<'a, P> {
     ghost use Rattle.std.specs.List.{All};
     ghost use Rattle.tsp_format.specs.Nodes.{IsNode};
     ghost use Rattle.tsp_format.specs.Limits.{most_tour_nodes};
-    ghost use Rattle.tsp_theory.specs.Length.{length_of};
+    ghost use Rattle.tsp_theory.specs.Tour.{length_of};
     ghost use Rattle.tsp_cost.specs.states.Views.{points_nodes, points_cost, points_place};
-    ghost use Rattle.tsp_cost.specs.states.Ways.{ArePlaces, IsSumOfCosts, IsWayThrough};
+    ghost use Rattle.tsp_cost.specs.states.Metrics.{ArePlaces, IsSumOfCosts, IsWayThrough};
 
     /// The costs by a distance, over points of which there is one for each node.
     pub(crate) fn of(metric: Metric, points: &'a [P]) -> Points<'a, P>
@@ -232,7 +232,7 @@ impl<'a> Points<'a, PlanePoint> {
 }
 
 impl Costs for Euclidean<'_> {
-    ghost use Rattle.tsp_distance.specs.Distances.{on_plane};
+    ghost use Rattle.tsp_number.specs.Distances.{on_plane};
     ghost use Rattle.tsp_cost.specs.states.Views.{points_nodes, points_cost, points_place};
 
     ghost nodes = { λ e. points_nodes e.points };
@@ -282,7 +282,7 @@ impl<P: InSpace> Points<'_, P> {
     ghost use Rattle.std.specs.Prelude.{◌≡◌, ◌≤ℤ◌, ℕ};
     ghost use Rattle.std.specs.Bool.{OnTrue};
     ghost use Rattle.tsp_format.specs.Nodes.{IsNode};
-    ghost use Rattle.tsp_theory.specs.Regions.{IsIn, IsSite};
+    ghost use Rattle.tsp_theory.specs.Costs.{IsIn, IsSite};
     ghost use Rattle.tsp_cost.specs.states.Views.{points_nodes, points_cost, points_place};
 
     /// What [`Costs::is_beyond`](tsp_theory::Costs::is_beyond) says, by the metric of the points.

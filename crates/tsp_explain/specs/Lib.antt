@@ -1,3 +1,2 @@
 -- The files of definitions of this crate. Crates above may import them.
-pub mod Indented
 pub mod ShownBytes

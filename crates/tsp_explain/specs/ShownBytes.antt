@@ -1,7 +1,17 @@
--- How an explanation shows bytes of a file: as the command `cat -v` does. For `push_shown` and `push_name`
--- (src/text.rt).
-use Rattle.std.specs.Prelude.{ℕ, List, [], ◌∷◌, ◌++◌, ◌+◌, ◌-◌, ◌==◌, cond, map, codes, nat_lt}
+-- The lines of an explanation: sentences, each line of them indented by two blanks. For `push_lines` and
+-- `push_indented` (src/text.rt).
 use Rattle.std.specs.List.{concat}
+use Rattle.std.specs.Prelude.{ℕ, List, [], ◌∷◌, ◌++◌, ◌==◌, cond, map, codes, ◌+◌, ◌-◌, nat_lt}
+
+-- a byte of the sentences: after byte 10 a new line begins, with two blanks
+abbrev pub indented_byte : ℕ → List ℕ
+indented_byte byte = cond (byte == 10) (10 ∷ codes "  ") (byte ∷ [])
+
+-- the sentences as lines, and the end of the last one
+abbrev pub indented : List ℕ → List ℕ
+indented sentences = codes "  " ++ concat (map indented_byte sentences) ++ 10 ∷ []
+
+-- ---- how an explanation shows bytes of a file: as the command `cat -v` does
 
 -- a byte below 128: a caret and the byte with bit 64 turned, where it is 127 or below 32, but not the tab; else itself
 abbrev pub shown_low : ℕ → List ℕ

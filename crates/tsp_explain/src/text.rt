@@ -4,8 +4,7 @@
 ghost use Rattle.std.specs.Prelude.{◌≡◌, ◌++◌, ◌≤◌, ◌<◌, OnOk, [], ◌∷◌, codes, map};
 ghost use Rattle.std.specs.List.{concat};
 ghost use Rattle.std.specs.Io.{StartsWith};
-ghost use Rattle.tsp_explain.specs.ShownBytes.{shown_byte, shown_low, shown_high, all_shown, named_byte, name_shown};
-ghost use Rattle.tsp_explain.specs.Indented.{indented, indented_byte};
+ghost use Rattle.tsp_explain.specs.ShownBytes.{shown_byte, shown_low, shown_high, all_shown, named_byte, name_shown, indented, indented_byte};
 
 use itoa::{Buffer, Integer};
 use std::alloc::{AllocError, Global};

@@ -1,34 +1,141 @@
--- The length of each field's text in a valid file is limited, and so is the length of the whole text. For the law
--- `a_valid_text_is_short` in src/laws.rt.
-use Rattle.std.proofs.Common.{sym, ◌≡◌, ℕ, ◌+◌, ◌*◌, ◌<◌, ◌≤◌, Bool, true, false, cond, List, [], ◌∷◌, ◌++◌, length, Option, None, Some, arith, refl, ℤ, pos, length-append}
-use Rattle.std.specs.Prelude.{not, ◌==◌, ◌&&◌, nat_le, neg_ℤ, unsigned_abs, codes}
-use Rattle.std.specs.List.{flat_map, list_all, sum_by}
-use Rattle.std.specs.Option.{option_map_or}
-use Rattle.std.specs.Ordering.{int_eq}
-use Rattle.std.specs.Fmt.{decimal, signed_decimal}
+-- Where all elements of a list pass a test, each one passes it, so each field of a valid file is valid on its own. For
+-- the law `a_valid_text_is_short` in src/laws.rt.
+use Rattle.std.proofs.Common.{◌≡◌, Bool, true, false, cond, List, [], ◌∷◌, Option, None, Some, refl, sym, subst, ℕ, ◌+◌, ◌≤◌, ◌++◌, length, arith, length-append, ◌*◌, ◌<◌, ℤ, pos}
+use Rattle.std.proofs.Math.Nat.{mul-le-mul}
 use Rattle.std.proofs.lemmas.Bool.{and_parts, leb-true, eqb-true, false≢true}
-use Rattle.std.proofs.lemmas.Option.{none-some}
 use Rattle.std.proofs.lemmas.List.Concat.{length-flat_map}
 use Rattle.std.proofs.lemmas.List.Sums.{sum_by-le-sum_by}
-use Rattle.std.proofs.Math.Nat.{mul-le-mul}
-use Rattle.tsp_distance.specs.declared.decimal.Point.{Point}
-use Rattle.tsp_number.specs.Spelling.{spelling}
+use Rattle.std.proofs.lemmas.Option.{none-some, same_Some}
+use Rattle.std.specs.Fmt.{decimal, signed_decimal}
+use Rattle.std.specs.List.{find, list_all, flat_map, sum_by}
+use Rattle.std.specs.Option.{option_map, option_or, option_map_or}
+use Rattle.std.specs.Ordering.{int_eq}
+use Rattle.std.specs.Prelude.{◌&&◌, not, slice_index, ◌-◌, ◌==◌, nat_le, codes, neg_ℤ, unsigned_abs}
+use Rattle.std.specs.Str.{bytes_eq}
 use Rattle.tsp_number.proofs.Spelled.{spelling_short}
+use Rattle.tsp_number.specs.NumberWord.{spelling}
+use Rattle.tsp_number.specs.declared.decimal.Point.{Point}
+use Rattle.tsp_format.specs.Limits.{most_kept_bytes, shape_of, most_nodes, most_matrix_nodes, most_coordinate, most_weight, most_demand, most_capacity, most_scale, most_load_unit, most_potential, most_comments, most_others, most_depots, most_fixed, most_triples, most_multiplier, most_tour_nodes}
+use Rattle.tsp_format.specs.Words.{field_word, fields_in_order, field_found, is_blank, IsFirstWithWord, kind_word, weight_kind_word, weight_format_word, coord_kind_word, display_kind_word, kinds, weight_kinds, weight_formats, coord_kinds, display_kinds, kind_found, weight_kind_found, weight_format_found, coord_kind_found, display_kind_found}
 use Rattle.tsp_format.specs.declared.keyword.Field.{Field}
+use Rattle.tsp_format.specs.declared.keyword.Field.TheVariants.{NameKey, TypeKey, CommentKey, OtherKey, DimensionKey, CapacityKey, ScaleKey, LoadUnitKey, EdgeWeightTypeKey, EdgeWeightFormatKey, NodeCoordTypeKey, DisplayDataTypeKey, NodeCoordPart, DisplayDataPart, DemandPart, DepotPart, FixedEdgesPart, EdgeWeightPart, TourPart, NodePotentialPart, RowPotentialPart, ColumnPotentialPart, FixedEdgePotentialPart, CombPart, BranchPart}
 use Rattle.tsp_format.specs.declared.keyword.Shape.{Shape}
 use Rattle.tsp_format.specs.declared.keyword.Shape.TheVariants.{Numbers, Points, SpacePoints, Depots, Pairs, Weights, Tours, Triples, Combs, Steps}
-use Rattle.tsp_format.specs.Shapes.{shape_of}
-use Rattle.tsp_format.specs.declared.keyword.Field.TheVariants.{NameKey, TypeKey, CommentKey, OtherKey, DimensionKey, CapacityKey, ScaleKey, LoadUnitKey, EdgeWeightTypeKey, EdgeWeightFormatKey, NodeCoordTypeKey, DisplayDataTypeKey, NodeCoordPart, DisplayDataPart, DemandPart, DepotPart, FixedEdgesPart, EdgeWeightPart, TourPart, NodePotentialPart, RowPotentialPart, ColumnPotentialPart, FixedEdgePotentialPart, CombPart, BranchPart}
-use Rattle.tsp_format.specs.Limits.{most_nodes, most_matrix_nodes, most_coordinate, most_weight, most_demand, most_capacity, most_scale, most_load_unit, most_potential, most_comments, most_others, most_depots, most_fixed, most_triples, most_multiplier, most_tour_nodes}
-use Rattle.tsp_format.specs.Words.{field_word, kind_word, weight_kind_word, weight_format_word, coord_kind_word, display_kind_word, fields_in_order}
-use Rattle.tsp_file.specs.Fields.{Fields, spatial, numbers_in, points_in}
-use Rattle.tsp_file.specs.Validity.{if_there, with_dimension, is_kept, is_other, is_node, is_pair_of, is_triple_of, is_from_to, is_within, is_point, is_by_node, are_comments, are_others, are_depots, are_fixed, are_triples, fit_matrix, is_node_list, are_tours, are_combs, are_tree_steps, section_fits, fits}
-use Rattle.tsp_file.specs.Rules.{fault_of}
-use Rattle.tsp_file.specs.CanonicalText.{line_end, keyword_line, other_line, number_line, section_text, lines_by_node, node_list, pair_list, triple_list, comb_list, case_tree_lines, coordinate_words, whole_number, line_lens, matrix_lines, optional, text_of_section, text_of_field, text_of}
+use Rattle.tsp_format.specs.declared.kinds.CoordKind.{CoordKind}
+use Rattle.tsp_format.specs.declared.kinds.DisplayKind.{DisplayKind}
+use Rattle.tsp_format.specs.declared.kinds.Kind.{Kind}
+use Rattle.tsp_format.specs.declared.kinds.WeightFormat.{WeightFormat}
+use Rattle.tsp_format.specs.declared.kinds.WeightKind.{WeightKind}
 use Rattle.tsp_file.proofs.TextLengths.{within_abs, three_parts, positive_short, between_short, decimal_short, node_short, flat_short_of, by_node_short, pair_list_short, triple_list_short, node_list_short, tours_short, matrix_lines_short}
-use Rattle.tsp_file.proofs.TreeLengths.{combs_short, steps_short}
-use Rattle.tsp_file.proofs.KeywordLengths.{kept_short, other_short, keyword_short, keyword_line_short, kind_short, weight_kind_short, weight_format_short, coord_kind_short, display_kind_short}
-use Rattle.tsp_file.proofs.AllFit.{all_fit}
+use Rattle.tsp_file.proofs.WrittenLines.{combs_short, steps_short}
+use Rattle.tsp_file.specs.CanonicalText.{line_end, blank_before, value_line, keyword_line, other_line, number_line, section_text, lines_by_node, node_list, pair_list, triple_list, comb_list, case_tree_lines, coordinate_words, whole_number, line_lens, matrix_lines, optional, text_of_section, text_of_field, text_of}
+use Rattle.tsp_file.specs.Fields.{Fields, spatial, numbers_in, points_in}
+use Rattle.tsp_file.specs.Rules.{standing_of, end_fault, fault_of}
+use Rattle.tsp_file.specs.Validity.{fits, first_failing, bad_field, is_kept, is_unknown_keyword, is_other, if_there, with_dimension, is_node, is_pair_of, is_triple_of, is_from_to, is_within, is_point, is_by_node, are_comments, are_others, are_depots, are_fixed, are_triples, fit_matrix, is_node_list, are_tours, are_combs, are_tree_steps, section_fits}
+use Rattle.tsp_file.specs.declared.rules.DraftFault.{DraftFault}
+use Rattle.tsp_file.specs.declared.rules.DraftFault.TheVariants.{BadField, Rule}
+
+-- one element more
+found_more : {V : Type 0} (test : V → Bool) (is_it others_pass : Bool) (value first : V) (found : Option V)
+    → (test first && others_pass) ≡ true → cond is_it (Some first) found ≡ Some value
+    → (others_pass ≡ true → found ≡ Some value → test value ≡ true) → test value ≡ true
+found_more test true others_pass value first found all is_found others =
+    subst (λ other. test other ≡ true) (same_Some first value is_found) (and_parts (test first) others_pass all).0
+found_more test false others_pass value first found all is_found others =
+    others (and_parts (test first) others_pass all).1 is_found
+
+-- where all elements pass the test, the one that a search finds passes it
+pub found_passes : {V : Type 0} (test is_it : V → Bool) (value : V) (values : List V) → list_all test values ≡ true
+    → find is_it values ≡ Some value → test value ≡ true
+found_passes test is_it value [] all is_found = absurd (none-some value is_found)
+found_passes test is_it value (first ∷ values) all is_found =
+    found_more test (is_it first) (list_all test values) value first (find is_it values) all is_found
+    (found_passes test is_it value values)
+
+-- where there is no first fault, no field is bad
+no_first : (bad : Option Field) (other : Option DraftFault) → option_or (option_map (λ field. BadField field) bad) other ≡ None
+    → bad ≡ None
+no_first None other none = refl
+no_first (Some field) other none = absurd (none-some (BadField field) (sym none))
+
+none_more : (passes others_pass : Bool) (first : Field) (failing : Option Field) → cond (not passes) (Some first) failing ≡ None
+    → (failing ≡ None → others_pass ≡ true)
+    → (passes && others_pass) ≡ true
+none_more true others_pass first failing none others = others none
+none_more false others_pass first failing none others = absurd (none-some first (sym none))
+
+-- where no field fails the test, all pass it
+none_failing : (test : Field → Bool) (fields : List Field) → first_failing test fields ≡ None → list_all test fields ≡ true
+none_failing test [] none = refl
+none_failing test (first ∷ fields) none =
+    none_more (test first) (list_all test fields) first (first_failing test fields) none (none_failing test fields)
+
+pub all_fit : (f : Fields) → fault_of f ≡ None → (field : Field) → fits f field ≡ true
+all_fit f none field =
+    let no_bad = no_first (bad_field f) (option_map (λ fault. Rule fault) (end_fault (standing_of f) None)) none in
+    found_passes (fits f) (λ other. bytes_eq (field_word field) (field_word other)) field fields_in_order
+    (none_failing (fits f) fields_in_order no_bad) (field_found field)
+
+-- ---- the length of a line with a keyword and its value is limited, as words and values are
+
+-- ---- words
+
+-- a word is as short as all of the list are
+word_short : {V : Type 0} (word : V → List ℕ) (most : ℕ) (values : List V) (value : V)
+    → list_all (λ v. nat_le (length (word v)) most) values ≡ true → IsFirstWithWord word values value
+    → length (word value) ≤ most
+word_short word most values value all found =
+    leb-true (length (word value)) most
+    (found_passes (λ v. nat_le (length (word v)) most) (λ other. bytes_eq (word value) (word other)) value values all found)
+
+pub keyword_short : (field : Field) → length (field_word field) ≤ 28
+keyword_short field = word_short field_word 28 fields_in_order field refl (field_found field)
+
+pub kind_short : (kind : Kind) → length (kind_word kind) ≤ 20
+kind_short kind = word_short kind_word 20 kinds kind refl (kind_found kind)
+
+pub weight_kind_short : (kind : WeightKind) → length (weight_kind_word kind) ≤ 20
+weight_kind_short kind = word_short weight_kind_word 20 weight_kinds kind refl (weight_kind_found kind)
+
+pub weight_format_short : (format : WeightFormat) → length (weight_format_word format) ≤ 20
+weight_format_short format = word_short weight_format_word 20 weight_formats format refl (weight_format_found format)
+
+pub coord_kind_short : (kind : CoordKind) → length (coord_kind_word kind) ≤ 20
+coord_kind_short kind = word_short coord_kind_word 20 coord_kinds kind refl (coord_kind_found kind)
+
+pub display_kind_short : (kind : DisplayKind) → length (display_kind_word kind) ≤ 20
+display_kind_short kind = word_short display_kind_word 20 display_kinds kind refl (display_kind_found kind)
+
+-- ---- lines of a keyword and a value
+
+blank_short : (value : List ℕ) → length (blank_before value) ≤ length value + 1
+blank_short [] = omega arith
+blank_short (first ∷ rest) = omega arith
+
+value_line_short : (keyword value : List ℕ) → length (value_line keyword value) ≤ length keyword + length value + 4
+value_line_short keyword value =
+    let ending = length-append (blank_before value) line_end in
+    omega (arith, length-append keyword (codes " :" ++ (blank_before value ++ line_end)), ending, blank_short value)
+
+-- the first of four tests that all pass
+first_of_four : (a b c d : Bool) → (a && b && c && d) ≡ true → a ≡ true
+first_of_four true b c d e = refl
+first_of_four false b c d e = e
+
+pub kept_short : (keyword value : List ℕ) → is_kept keyword value ≡ true → length (value_line keyword value) ≤ 4004
+kept_short keyword value kept =
+    let few = first_of_four (nat_le (length keyword + length value) most_kept_bytes) (list_all (λ b. not (b == 10)) value)
+    (not (is_blank (slice_index value 0))) (not (is_blank (slice_index value (length value - 1)))) kept in
+    omega (arith, value_line_short keyword value, leb-true (length keyword + length value) most_kept_bytes few)
+
+pub other_short : (line : List ℕ × List ℕ) → is_other line ≡ true → length (other_line line) ≤ 4004
+other_short line fits = kept_short line.0 line.1 (and_parts (is_unknown_keyword line.0) (is_kept line.0 line.1) fits).1
+
+-- the line of a value with at most 20 bytes
+pub keyword_line_short : (field : Field) (value : List ℕ) → length value ≤ 20 → length (keyword_line field value) ≤ 60
+keyword_line_short field value short = omega (arith, value_line_short (field_word field) value, keyword_short field, short)
+
+-- ---- the length of each field's text in a valid file is limited
 
 -- ---- fields that may be missing
 

@@ -9,19 +9,15 @@ use Rattle.std.proofs.lemmas.List.{length-map, get_or-map, get_or_default, lengt
 use Rattle.std.proofs.lemmas.Option.{none-some}
 use Rattle.tsp_format.specs.declared.layout.Layout.{Layout}
 use Rattle.tsp_format.specs.declared.layout.Layout.TheVariants.{FullMatrix, UpperRow, LowerRow, UpperDiagRow, LowerDiagRow, UpperCol, LowerCol, UpperDiagCol, LowerDiagCol}
-use Rattle.tsp_format.specs.Nodes.{IsNode, nodes_to}
-use Rattle.tsp_format.specs.Cells.{is_listed, cells, cells_of_line, line_len_of}
+use Rattle.tsp_format.specs.Nodes.{IsNode, nodes_to, is_listed, cells, cells_of_line, line_len_of}
 use Rattle.tsp_format.specs.Place.{place_of}
-use Rattle.tsp_format.specs.Symmetry.{IsSymmetric}
-use Rattle.tsp_format.proofs.Counts.{line_counted, cells_counted}
+use Rattle.tsp_format.specs.Words.{IsSymmetric}
+use Rattle.tsp_format.proofs.Pairs.{line_counted, cells_counted}
 use Rattle.tsp_format.proofs.Places.{placed, place_from, stands_at, line_at}
 use Rattle.tsp_file.specs.Cost.{listed_cost}
 use Rattle.tsp_file.specs.Relayout.{costs_in}
-use Rattle.tsp_file.specs.states.Side.{first_own, past_own}
-use Rattle.tsp_file.specs.states.Halves.{places_before, line_start_of}
-use Rattle.tsp_file.specs.states.Whole.{goes_above, is_on_side, IsCostOfCell, HasSide, KeepsCosts, HasLaterLines, Fills}
-use Rattle.tsp_file.proofs.Listed.{turned, nodes_or_not, diagonal_unlisted, cost_unlisted}
-use Rattle.tsp_file.proofs.Relaid.{line_more, lines_all, own_costs, no_cell, outside}
+use Rattle.tsp_file.specs.states.Drafts.{first_own, past_own, places_before, line_start_of, goes_above, is_on_side, IsCostOfCell, HasSide, KeepsCosts, HasLaterLines, Fills}
+use Rattle.tsp_file.proofs.Relaid.{turned, nodes_or_not, diagonal_unlisted, cost_unlisted, line_more, lines_all, own_costs, no_cell, outside}
 
 -- ---- the cells of the lines before one
 

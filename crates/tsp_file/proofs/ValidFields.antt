@@ -1,36 +1,163 @@
--- A file without a fault has the fields that its TYPE wants, each in its range. tsp_file and tsp_text import it too.
--- For the laws `valid_files_are_complete` and `valid_fields_are_in_range` in src/laws.rt.
-use Rattle.std.proofs.Common.{◌≡◌, ℕ, suc, ◌*◌, Bool, true, false, cond, List, [], ◌∷◌, length, Option, None, Some, refl, sym, ap, subst, ◌∙◌, inl, inr, arith}
-use Rattle.std.specs.Prelude.{◌+◌, not, ◌&&◌, ◌||◌, ◌==◌, nat_le, IsTrue, IsSome, is_some, ◌⊎◌, ℤ, pos, neg_ℤ, int_le, slice_index_or as get_or}
-use Rattle.std.specs.Option.{option_map, option_or}
-use Rattle.std.specs.Str.{bytes_eq}
-use Rattle.std.specs.List.{All, AllByRecursion, Contains, find, list_all, sum_by}
-use Rattle.std.proofs.lemmas.Bool.{false≢true, leb-true, eqb-true}
+-- Tests of the values of a draft, which are vectors, are the tests of the lists in these: texts, tours, combs, steps.
+-- For `are_combs` in src/validity.rt and others.
+use Rattle.std.proofs.Common.{◌≡◌, ℕ, zero, suc, ◌+◌, [], ◌∷◌, ◌≤◌, Bool, true, false, List, length, map, refl, sym, ap, ◌∙◌, arith, ◌<◌, drop, ◌^◌, pos, ◌≤ℤ◌, to_z, of_z, FitsSigned, rules, ◌*◌, cond, Option, None, Some, subst, inl, inr}
+use Rattle.std.proofs.lemmas.Bool.{le-leb, false≢true, leb-true, eqb-true}
 use Rattle.std.proofs.lemmas.Bool.Decides.{Decides-int_eq, nat_tests}
-use Rattle.std.proofs.lemmas.Int.{ints}
-use Rattle.std.proofs.lemmas.List.Elements.{All-from_recursion, All-contains}
-use Rattle.std.proofs.lemmas.List.Sums.{AllPass-from_list_all}
-use Rattle.tsp_distance.specs.declared.decimal.Point.{Point}
+use Rattle.std.proofs.lemmas.Int.{ints, to_z-of_z}
+use Rattle.std.proofs.lemmas.List.{length-map, at_drop_more}
+use Rattle.std.proofs.lemmas.List.Elements.{All-weaker, All-from_recursion, All-contains}
+use Rattle.std.proofs.lemmas.List.Folds.{list_all-map}
+use Rattle.std.proofs.lemmas.List.Sums.{list_all-from_AllPass, AllPass-from_list_all}
+use Rattle.std.specs.Global.{Vec}
+use Rattle.std.specs.Int.{w64}
+use Rattle.std.specs.List.{fold, list_all, sum_by, All, AllByRecursion, Contains, find}
+use Rattle.std.specs.Option.{option_map, option_or}
+use Rattle.std.specs.Prelude.{◌&&◌, nat_le, replicate, ℤ, slice_index_or as get_or, not, ◌||◌, ◌==◌, IsTrue, IsSome, is_some, ◌⊎◌, neg_ℤ, int_le}
+use Rattle.std.specs.Str.{bytes_eq}
+use Rattle.tsp_number.specs.declared.decimal.Point.{Point}
+use Rattle.tsp_format.specs.Limits.{most_tour_nodes, most_combs, most_comb_nodes, most_branches, most_changes, most_nodes, most_matrix_nodes, most_coordinate, most_weight, most_demand, most_capacity, most_scale, most_load_unit, most_potential, most_depots, most_fixed, most_triples, most_multiplier, most_difference}
+use Rattle.tsp_format.specs.Nodes.{IsNode, cells}
+use Rattle.tsp_format.specs.Steps.{are_whole, branch_count, change_count, Step, Branch, Leaf, IsFromTo}
+use Rattle.tsp_format.specs.Words.{field_word, fields_in_order, field_found}
 use Rattle.tsp_format.specs.declared.keyword.Field.{Field}
 use Rattle.tsp_format.specs.declared.keyword.Field.TheVariants as fields
-use Rattle.tsp_file.specs.declared.rules.EndFault.TheVariants.{Missing, WrongFormat, WrongCount}
-use Rattle.tsp_file.specs.declared.rules.DraftFault.TheVariants.{BadField, Rule}
-use Rattle.tsp_format.specs.declared.layout.Layout.{Layout}
+use Rattle.tsp_format.specs.declared.keyword.Shape.TheVariants.{Points, SpacePoints}
 use Rattle.tsp_format.specs.declared.kinds.Kind.{Kind}
 use Rattle.tsp_format.specs.declared.kinds.Kind.TheVariants as kinds
 use Rattle.tsp_format.specs.declared.kinds.WeightFormat.{WeightFormat}
 use Rattle.tsp_format.specs.declared.kinds.WeightFormat.TheVariants.{ByFunction, Listed}
-use Rattle.tsp_format.specs.Nodes.{IsNode}
-use Rattle.tsp_format.specs.Cells.{cells}
-use Rattle.tsp_format.specs.Limits.{most_nodes, most_matrix_nodes, most_coordinate, most_weight, most_demand, most_capacity, most_scale, most_load_unit, most_potential, most_depots, most_fixed, most_triples, most_multiplier, most_tour_nodes, most_combs, most_comb_nodes, most_branches, most_changes, most_difference}
-use Rattle.tsp_format.specs.Words.{field_word, fields_in_order, field_found}
-use Rattle.tsp_format.specs.declared.keyword.Shape.TheVariants.{Points, SpacePoints}
-use Rattle.tsp_format.specs.Steps.{Step, Branch, Leaf, are_whole, branch_count, change_count}
+use Rattle.tsp_format.specs.declared.layout.Layout.{Layout}
+use Rattle.tsp_format.specs.declared.steps.TreeStep.{TreeStep}
+use Rattle.tsp_format.specs.declared.steps.TreeStep.TheVariants as listed
+use Rattle.tsp_format.specs.states.TreeSteps.{step_of, steps_of}
 use Rattle.tsp_file.specs.Fields.{Fields, spatial}
-use Rattle.tsp_file.specs.Validity.{if_there, is_from_to, is_within, is_node, with_dimension, is_by_node, is_third, is_point, is_demand, section_fits, are_depots, is_pair_of, are_fixed, is_triple_of, are_triples, fit_matrix, is_node_list, are_tours, is_set_of, are_sets, are_combs, is_change, is_branch_of, is_step, are_tree_steps, fits, first_failing, bad_field}
 use Rattle.tsp_file.specs.Rules.{standing_of, count_of, is_instance, is_routing, is_tour_file, is_potentials_file, is_branches_file, is_explicit, is_function, has_explicit_weights, is_there, asked_in_order, has_wrong_format, is_count, has_wrong_count, has_row_or_column, has_node_or_multiplier, end_fault, format_or_count, fault_of}
-use Rattle.tsp_format.specs.Ranges.{IsFromTo}
 use Rattle.tsp_file.specs.Valid.{IsWithin, IsByNode, IsThird, IsPoint, IsDemand, IsPairOf, IsNodeList, AreDepots, AreFixed, IsTripleOf, AreTriples, AreWeights, AreTours, IsInRange, HasInstance, HasRouting, HasPotentials, IsSetOf, AreSets, AreCombs, IsChange, IsBranchOf, IsStep, AreTreeSteps, HasBranches}
+use Rattle.tsp_file.specs.Validity.{is_node_list, are_tours, is_set_of, are_sets, are_combs, is_step, are_tree_steps, is_from_to, if_there, is_within, is_node, with_dimension, is_by_node, is_third, is_point, is_demand, section_fits, are_depots, is_pair_of, are_fixed, is_triple_of, are_triples, fit_matrix, is_change, is_branch_of, fits, first_failing, bad_field}
+use Rattle.tsp_file.specs.declared.rules.DraftFault.TheVariants.{BadField, Rule}
+use Rattle.tsp_file.specs.declared.rules.EndFault.TheVariants.{Missing, WrongFormat, WrongCount}
+use Rattle.tsp_file.specs.states.Drafts.{combs_of}
+
+pub mapped_all : {X Y : Type 0} (h : Y → X) (p : X → Bool) (ys : List Y) (r : Bool) (most count : ℕ)
+    → r ≡ list_all (λ y. p (h y)) ys → count ≤ most → count ≡ length ys
+    → r ≡ (nat_le (length (map h ys)) most && list_all p (map h ys))
+mapped_all h p ys r most count e le counted =
+    let short : nat_le (length (map h ys)) most ≡ true = le-leb (length (map h ys)) most (omega (arith, length-map ys h, le, counted)) in
+    e ∙ sym (list_all-map p h ys) ∙ sym (ap (λ (b : Bool). b && list_all p (map h ys)) short)
+
+fold_mapped : {X Y : Type 0} (f : X → ℕ) (h : Y → X) (total : ℕ) (ys : List Y)
+    → fold (λ a x. a + f x) total (map h ys) ≡ fold (λ a y. a + f (h y)) total ys
+fold_mapped f h total [] = refl
+fold_mapped f h total (y ∷ ys) = fold_mapped f h (total + f (h y)) ys
+
+sum_by_mapped : {X Y : Type 0} (f : X → ℕ) (h : Y → X) (ys : List Y) → sum_by f (map h ys) ≡ sum_by (λ y. f (h y)) ys
+sum_by_mapped f h ys = fold_mapped f h 0 ys
+
+pub mapped_tours : (tours : List (Vec ℕ)) (r : Bool)
+    → r ≡ (list_all (λ tour. is_node_list tour.items) tours && nat_le (sum_by (λ tour. length tour.items) tours) most_tour_nodes)
+    → r ≡ are_tours (map (λ tour. tour.items) tours)
+mapped_tours tours r e =
+    e ∙ rw (list_all-map is_node_list (λ (tour : Vec ℕ). tour.items) tours, sum_by_mapped (λ (t : List ℕ). length t) (λ (tour : Vec ℕ). tour.items) tours) refl
+
+-- ---- combs
+
+pub comb_seen : (n : ℕ) (sets : List (Vec ℕ))
+    → are_sets n (map (λ set. set.items) sets) ≡ (nat_le 1 (length sets) && list_all (λ set. is_set_of n set.items) sets)
+comb_seen n sets =
+    rw (length-map sets (λ (set : Vec ℕ). set.items), list_all-map (is_set_of n) (λ (set : Vec ℕ). set.items) sets) refl
+
+-- the number of nodes in the sets of combs
+nodes_seen : (combs : List (Vec (Vec ℕ)))
+    → sum_by (sum_by length) (combs_of combs) ≡ sum_by (λ comb. sum_by (λ set. length set.items) comb.items) combs
+nodes_seen combs = sum_by_mapped (sum_by length) (λ (comb : Vec (Vec ℕ)). map (λ set. set.items) comb.items) combs ∙ each combs 0
+  where
+    each : (combs : List (Vec (Vec ℕ))) (total : ℕ) → fold (λ a comb. a + sum_by length (map (λ set. set.items) comb.items)) total combs
+        ≡ fold (λ a comb. a + sum_by (λ set. length set.items) comb.items) total combs
+    each [] total = refl
+    each (comb ∷ combs) total =
+        rw (sum_by_mapped (λ (set : List ℕ). length set) (λ (set : Vec ℕ). set.items) comb.items)
+        (each combs (total + sum_by (λ set. length set.items) comb.items))
+
+pub combs_seen : (n : ℕ) (combs : List (Vec (Vec ℕ))) → are_combs n (combs_of combs)
+    ≡ (nat_le (length combs) most_combs && list_all (λ comb. are_sets n (map (λ set. set.items) comb.items)) combs
+    && nat_le (sum_by (λ comb. sum_by (λ set. length set.items) comb.items) combs) most_comb_nodes)
+combs_seen n combs =
+    rw (
+      length-map combs (λ (comb : Vec (Vec ℕ)). map (λ set. set.items) comb.items),
+      list_all-map (are_sets n) (λ (comb : Vec (Vec ℕ)). map (λ set. set.items) comb.items) combs,
+      nodes_seen combs,
+    ) refl
+
+-- ---- steps
+
+all_four : (a b c d : Bool) → (a && b && c && d) ≡ (a && (b && c) && d)
+all_four true b c d = refl
+all_four false b c d = refl
+
+pub steps_seen : (n : ℕ) (steps : List TreeStep) → are_tree_steps n (steps_of steps)
+    ≡ (list_all (λ step. is_step n (step_of step)) steps
+    && (nat_le (branch_count (steps_of steps)) most_branches && nat_le (change_count (steps_of steps)) most_changes)
+    && are_whole 1 (steps_of steps))
+steps_seen n steps = rw (list_all-map (is_step n) step_of steps)
+    (all_four (list_all (λ step. is_step n (step_of step)) steps) (nat_le (branch_count (steps_of steps)) most_branches)
+    (nat_le (change_count (steps_of steps)) most_changes) (are_whole 1 (steps_of steps)))
+
+pub judged_steps : (n : ℕ) (steps : List TreeStep) (each few whole r : Bool)
+    → each ≡ list_all (λ step. is_step n (step_of step)) steps
+    → few ≡ (nat_le (branch_count (steps_of steps)) most_branches && nat_le (change_count (steps_of steps)) most_changes)
+    → whole ≡ are_whole 1 (steps_of steps) → r ≡ (each && few && whole) → r ≡ are_tree_steps n (steps_of steps)
+judged_steps n steps each few whole r of_each of_few of_whole is =
+    is ∙ ap (λ (b : Bool). b && few && whole) of_each
+    ∙ ap (λ (b : Bool). list_all (λ step. is_step n (step_of step)) steps && b && whole) of_few
+    ∙ ap (λ (b : Bool). list_all (λ step. is_step n (step_of step)) steps
+    && (nat_le (branch_count (steps_of steps)) most_branches && nat_le (change_count (steps_of steps)) most_changes) && b) of_whole
+    ∙ sym (steps_seen n steps)
+
+-- a list of equal elements, each mapped
+pub map_replicate : {X Y : Type 0} (f : X → Y) (n : ℕ) (x : X) → map f (replicate n x) ≡ replicate n (f x)
+map_replicate f zero x = refl
+map_replicate f (suc n) x = ap (λ ys. f x ∷ ys) (map_replicate f n x)
+
+-- ---- the steps of trees of cases, one after the other
+
+-- where a tree is still to come, a branch makes one more
+pub after_branch : (steps : List TreeStep) (i : ℕ) (d : TreeStep) (left first second : ℕ) → i < length steps
+    → get_or steps i d ≡ listed.Branch first second → (left ≡ 0 → ⊥)
+    → are_whole (left + 1) (steps_of (drop (i + 1) steps)) ≡ are_whole left (steps_of (drop i steps))
+after_branch steps i d zero first second lt is some = absurd (some refl)
+after_branch steps i d (suc left) first second lt is some =
+    let more : suc (suc left) ≡ suc left + 1 = omega arith in
+    sym (at_drop_more (λ rest. are_whole (suc left) (steps_of rest)) steps i d lt
+    ∙ ap (λ (step : TreeStep). are_whole (suc left) (steps_of (step ∷ drop (i + 1) steps))) is
+    ∙ ap (λ (k : ℕ). are_whole k (steps_of (drop (i + 1) steps))) more)
+
+-- and a leaf one less
+pub after_leaf : (steps : List TreeStep) (i : ℕ) (d : TreeStep) (left less : ℕ) (changes : Vec (ℕ × ℤ)) → i < length steps
+    → get_or steps i d ≡ listed.Leaf changes → less + 1 ≡ left
+    → are_whole less (steps_of (drop (i + 1) steps)) ≡ are_whole left (steps_of (drop i steps))
+after_leaf steps i d left less changes lt is one =
+    let more : suc less ≡ left = omega (arith, one) in
+    sym (at_drop_more (λ rest. are_whole left (steps_of rest)) steps i d lt
+    ∙ ap (λ (step : TreeStep). are_whole left (steps_of (step ∷ drop (i + 1) steps))) is
+    ∙ ap (λ (k : ℕ). are_whole k (steps_of (listed.Leaf changes ∷ drop (i + 1) steps))) (sym more))
+
+-- ---- the bits that some number of a list has give its range, without a comparison for each
+
+-- a number without the highest bit has the value of its bits
+pub own_bits : (z : ℤ) → FitsSigned w64 z → of_z w64 z < 2 ^ 63 → (pos 0 ≤ℤ z) × (z ≤ℤ pos (of_z w64 z))
+own_bits z fits small = let same : to_z w64 (of_z w64 z) ≡ z = to_z-of_z w64 z fits in search rules
+
+range_from_to : (low high z : ℤ) → low ≤ℤ z → z ≤ℤ high → is_from_to low high z ≡ true
+range_from_to low high z under over = search rules
+
+-- numbers from 0 to the number with all their bits are in each range that contains both of these
+pub all_from_to : (low high : ℤ) (bits : ℕ) (numbers : List ℤ) → low ≤ℤ pos 0 → pos bits ≤ℤ high
+    → All (λ number. (pos 0 ≤ℤ number) × (number ≤ℤ pos bits)) numbers → list_all (is_from_to low high) numbers ≡ true
+all_from_to low high bits numbers under over all = list_all-from_AllPass (is_from_to low high) numbers
+    (All-weaker (λ number. (pos 0 ≤ℤ number) × (number ≤ℤ pos bits)) (λ number. is_from_to low high number ≡ true)
+    (λ number own. range_from_to low high number (omega (arith, ints, under, own.0)) (omega (arith, ints, over, own.1))) numbers all)
+
+-- ---- a file without a fault has the fields that its TYPE wants, each in its range
 
 -- ---- tests that hold
 

@@ -4,8 +4,8 @@ use Rattle.std.specs.Prelude.{ℕ, Bool, true, false, cond, List, [], ◌∷◌,
 use Rattle.std.specs.Option.{option_map_or}
 use Rattle.std.specs.List.{flat_map, enumerate_from}
 use Rattle.std.specs.Fmt.{decimal, signed_decimal}
-use Rattle.tsp_distance.specs.declared.decimal.Point.{Point}
-use Rattle.tsp_number.specs.Spelling.{spelling}
+use Rattle.tsp_number.specs.declared.decimal.Point.{Point}
+use Rattle.tsp_number.specs.NumberWord.{spelling}
 use Rattle.tsp_format.specs.declared.kinds.WeightFormat.{WeightFormat}
 use Rattle.tsp_format.specs.declared.kinds.WeightFormat.TheVariants.{Listed}
 use Rattle.tsp_format.specs.declared.keyword.Field.{Field}
@@ -14,10 +14,9 @@ use Rattle.tsp_format.specs.declared.keyword.Shape.{Shape}
 use Rattle.tsp_format.specs.declared.keyword.Shape.TheVariants.{Numbers, Points, SpacePoints, Depots, Pairs, Weights, Tours, Triples, Combs, Steps}
 use Rattle.tsp_format.specs.declared.keyword.ValueShape.{ValueShape}
 use Rattle.tsp_format.specs.declared.keyword.ValueShape.TheVariants.{Kept, KeptEach, Number, Word}
-use Rattle.tsp_format.specs.Shapes.{shape_of, value_shape_of}
+use Rattle.tsp_format.specs.Limits.{shape_of, value_shape_of}
 use Rattle.tsp_format.specs.Words.{field_word, kind_word, weight_kind_word, weight_format_word, coord_kind_word, display_kind_word, fields_in_order}
-use Rattle.tsp_format.specs.Nodes.{nodes_to}
-use Rattle.tsp_format.specs.Cells.{cells_of_line}
+use Rattle.tsp_format.specs.Nodes.{nodes_to, cells_of_line}
 use Rattle.tsp_format.specs.Steps.{Step, Branch, Leaf}
 use Rattle.tsp_file.specs.Fields.{Fields, spatial, one_number_in, numbers_in, points_in}
 

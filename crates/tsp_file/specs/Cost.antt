@@ -1,19 +1,137 @@
--- The cost from one node of an instance to another, as a function of its fields, which can be evaluated. For `cost` of
--- `Instance` (src/instance.rt of tsp_cost), Relayout.antt, and the verdicts of tsp_verdict.
--- Source: TSPLIB 95 (G. Reinelt), EDGE_WEIGHT_TYPE, EDGE_WEIGHT_FORMAT and the distance functions.
-use Rattle.std.specs.Prelude.{ℕ, ◌-◌, List, [], Option, None, Some, unwrap_or, slice_index_or, ℤ, pos}
+-- The point (0, 0), which definitions take for a node without a point. For `get` of `Coords` (src/coords.rt), and for
+-- `point_of` in Cost.antt of tsp_file. Five crates above import it too.
+use Rattle.std.specs.List.{All, sum_by}
 use Rattle.std.specs.Option.{option_map, option_or}
-use Rattle.tsp_distance.specs.declared.decimal.Point.{Point}
-use Rattle.tsp_distance.specs.Distances.{euc_2d_of, ceil_2d_of, man_2d_of, max_2d_of, att_of, euc_3d_of, man_3d_of, max_3d_of}
-use Rattle.tsp_format.specs.declared.layout.Layout.{Layout}
-use Rattle.tsp_format.specs.declared.layout.Layout.TheVariants.{FullMatrix}
+use Rattle.std.specs.Prelude.{pos, ◌≡◌, ℕ, ◌≤◌, false, List, length, Some, None, ℤ, [], Option, unwrap_or, IsSome, IsTrue, ◌-◌, slice_index_or}
+use Rattle.tsp_number.specs.Distances.{on_plane, euc_2d_of, ceil_2d_of, man_2d_of, max_2d_of, att_of, euc_3d_of, man_3d_of, max_3d_of}
+use Rattle.tsp_number.specs.declared.decimal.Point.{Point}
+use Rattle.tsp_format.specs.Limits.{most_matrix_nodes, most_weight, most_capacity, most_scale, most_load_unit, most_potential, most_triples, most_combs, most_comb_nodes}
+use Rattle.tsp_format.specs.Nodes.{is_listed, cells}
+use Rattle.tsp_format.specs.Place.{place_of}
+use Rattle.tsp_format.specs.Steps.{Step, IsFromTo}
+use Rattle.tsp_format.specs.declared.kinds.Kind.TheVariants as kinds
 use Rattle.tsp_format.specs.declared.kinds.WeightFormat.{WeightFormat}
-use Rattle.tsp_format.specs.declared.kinds.WeightFormat.TheVariants.{ByFunction, Listed}
+use Rattle.tsp_format.specs.declared.kinds.WeightFormat.TheVariants.{Listed, ByFunction}
 use Rattle.tsp_format.specs.declared.kinds.WeightKind.{WeightKind}
 use Rattle.tsp_format.specs.declared.kinds.WeightKind.TheVariants.{Explicit, Euc2d, Ceil2d, Man2d, Max2d, Att, Euc3d, Man3d, Max3d}
-use Rattle.tsp_format.specs.Place.{place_of}
-use Rattle.tsp_file.specs.Coords.{origin}
+use Rattle.tsp_format.specs.declared.layout.Layout.{Layout}
+use Rattle.tsp_format.specs.declared.layout.Layout.TheVariants.{FullMatrix}
 use Rattle.tsp_file.specs.Fields.{Fields, nodes_of}
+use Rattle.tsp_file.specs.Rules.{is_instance}
+use Rattle.tsp_file.specs.Valid.{IsWithin, IsInRange, HasInstance, HasRouting, HasPotentials, HasBranches, IsByNode, IsDemand, IsTripleOf, AreDepots, AreSets, AreTreeSteps}
+
+-- the point whose coordinates are 0
+abbrev pub origin : Point
+origin = on_plane (pos 0) (pos 0)
+
+-- ---- that a file lists weights in a layout
+
+-- the file lists these weights over n nodes in this layout
+pub record ListsWeights (f : Fields) (layout : Layout) (n : ℕ) (weights : List ℤ) : Type 0 where
+  pub format : f.weight_format ≡ Some (Listed layout)
+  pub dimension : f.dimension ≡ Some n
+  pub weights_are : f.weights ≡ Some weights
+  pub some : 1 ≤ n
+  pub most : n ≤ most_matrix_nodes
+  pub filled : length weights ≡ length (cells layout n)
+  pub sizes : All (IsWithin most_weight) weights
+
+-- pairs that the layout doesn't list have no place among its cells
+abbrev pub UnlistedHaveNoPlace : Layout → ℕ → Type 0
+UnlistedHaveNoPlace layout n = (i j : ℕ) → is_listed layout (i, j) ≡ false → place_of layout n (i, j) ≡ None
+
+-- ---- the value of a field that a file lacks
+
+-- SCALE, or 1 where it is missing
+abbrev pub meant_scale : Option ℤ → ℤ
+meant_scale scale = unwrap_or scale (pos 1)
+
+-- the scale of a file
+abbrev pub scale_in : Fields → ℤ
+scale_in f = meant_scale f.scale
+
+-- LOAD_UNIT, or 1 where it is missing
+abbrev pub load_unit_in : Fields → ℤ
+load_unit_in f = unwrap_or f.load_unit (pos 1)
+
+-- the fixed pairs; there are none where no section lists them
+abbrev pub fixed_of : Fields → List (ℕ × ℕ)
+fixed_of f = unwrap_or f.fixed []
+
+-- the multipliers of fixed pairs; none without their section
+abbrev pub multipliers_in : Fields → List (ℕ × ℕ × ℤ)
+multipliers_in f = unwrap_or f.fixed_potentials []
+
+-- the families of a tree of cases, each as its sets, the handle first; none without their section
+abbrev pub families_listed : Fields → List (List (List ℕ))
+families_listed f = unwrap_or f.combs []
+
+-- ---- the fields that a file of each TYPE always has, with their ranges
+
+-- a valid file has the fields that its TYPE asks for, each in its range
+pub record HoldsItsType (f : Fields) : Type 0 where
+  pub range : IsInRange f
+  pub kind : IsSome f.kind
+  pub instance : IsTrue (is_instance f.kind) → HasInstance f
+  pub routing : f.kind ≡ Some kinds.Cvrp → HasRouting f
+  pub tours : f.kind ≡ Some kinds.Tour → IsSome f.tours
+  pub potentials : f.kind ≡ Some kinds.Potentials → HasPotentials f
+  pub branches : f.kind ≡ Some kinds.Branches → HasBranches f
+
+-- the fields of a routing problem, without its costs
+pub record HoldsRouting (f : Fields) (capacity : ℤ) (demands : List ℤ) (depots : List ℕ) : Type 0 where
+  pub kind : f.kind ≡ Some kinds.Cvrp
+  pub capacity_is : f.capacity ≡ Some capacity
+  pub demands_are : f.demands ≡ Some demands
+  pub depots_are : f.depots ≡ Some depots
+  pub loadable : IsFromTo (pos 1) (pos most_capacity) capacity
+  pub each_demand : IsByNode IsDemand f demands
+  pub each_depot : AreDepots f depots
+
+-- multipliers, each of two different nodes of the file
+pub record AreMultipliersIn (f : Fields) (multipliers : List (ℕ × ℕ × ℤ)) : Type 0 where
+  pub few : length multipliers ≤ most_triples
+  pub each : All (IsTripleOf (nodes_of f)) multipliers
+
+-- the fields of potentials of nodes, with the scale and the multipliers, or their defaults
+pub record HoldsNodeNumbers (f : Fields) (scale : ℤ) (numbers : List ℤ) (multipliers : List (ℕ × ℕ × ℤ)) : Type 0 where
+  pub kind : f.kind ≡ Some kinds.Potentials
+  pub scale_is : scale ≡ scale_in f
+  pub numbers_are : f.node_potentials ≡ Some numbers
+  pub multipliers_are : multipliers ≡ multipliers_in f
+  pub scaled : IsFromTo (pos 1) (pos most_scale) scale
+  pub each_number : IsByNode (IsWithin most_potential) f numbers
+  pub each_multiplier : AreMultipliersIn f multipliers
+
+-- the fields of potentials of rows and of columns, with the scale or its default
+pub record HoldsDuals (f : Fields) (scale : ℤ) (rows columns : List ℤ) : Type 0 where
+  pub kind : f.kind ≡ Some kinds.Potentials
+  pub scale_is : scale ≡ scale_in f
+  pub rows_are : f.row_potentials ≡ Some rows
+  pub columns_are : f.column_potentials ≡ Some columns
+  pub scaled : IsFromTo (pos 1) (pos most_scale) scale
+  pub each_row : IsByNode (IsWithin most_potential) f rows
+  pub each_column : IsByNode (IsWithin most_potential) f columns
+
+-- families as a file has them: as many as the limits allow, each of sets of nodes that aren't empty
+pub record AreSomeSets (n : ℕ) (combs : List (List (List ℕ))) : Type 0 where
+  pub few : length combs ≤ most_combs
+  pub sets : All (AreSets n) combs
+  pub few_nodes : sum_by (sum_by length) combs ≤ most_comb_nodes
+
+-- the fields of a tree of cases, with the scale, the load unit and the families, or their defaults
+pub record HoldsCases (f : Fields) (scale load_unit : ℤ) (combs : List (List (List ℕ))) (steps : List Step) : Type 0 where
+  pub kind : f.kind ≡ Some kinds.Branches
+  pub scale_is : scale ≡ scale_in f
+  pub load_unit_is : load_unit ≡ load_unit_in f
+  pub combs_are : combs ≡ families_listed f
+  pub steps_are : f.branches ≡ Some steps
+  pub scaled : IsFromTo (pos 1) (pos most_scale) scale
+  pub united : IsFromTo (pos 1) (pos most_load_unit) load_unit
+  pub each_comb : AreSomeSets (nodes_of f) combs
+  pub each_step : AreTreeSteps f steps
+
+-- ---- the cost from one node of an instance to another, as a function of its fields
 
 -- ---- weights that are listed
 

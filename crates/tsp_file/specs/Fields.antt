@@ -2,11 +2,11 @@
 -- all definitions on files in the crates above.
 use Rattle.std.specs.Prelude.{ℕ, Bool, true, List, [], Option, None, Some, unwrap_or, ℤ, pos, nat_abs, is_some}
 use Rattle.std.specs.Option.{option_map}
-use Rattle.tsp_distance.specs.declared.decimal.Point.{Point}
+use Rattle.tsp_number.specs.declared.decimal.Point.{Point}
 use Rattle.tsp_format.specs.declared.keyword.Field.{Field}
 use Rattle.tsp_format.specs.declared.keyword.Field.TheVariants.{NameKey, TypeKey, CommentKey, OtherKey, DimensionKey, CapacityKey, ScaleKey, LoadUnitKey, EdgeWeightTypeKey, EdgeWeightFormatKey, NodeCoordTypeKey, DisplayDataTypeKey, NodeCoordPart, DisplayDataPart, DemandPart, DepotPart, FixedEdgesPart, EdgeWeightPart, TourPart, NodePotentialPart, RowPotentialPart, ColumnPotentialPart, FixedEdgePotentialPart, CombPart, BranchPart}
 use Rattle.tsp_format.specs.declared.kinds.Kind.{Kind}
-use Rattle.tsp_format.specs.Space.{is_spatial}
+use Rattle.tsp_format.specs.Words.{is_spatial}
 use Rattle.tsp_format.specs.declared.kinds.WeightKind.{WeightKind}
 use Rattle.tsp_format.specs.declared.kinds.WeightFormat.{WeightFormat}
 use Rattle.tsp_format.specs.declared.kinds.CoordKind.{CoordKind}

@@ -1,19 +1,11 @@
 -- The files of definitions of this crate. Crates above may import them.
 pub mod states
-pub mod Coords
-pub mod DraftFaultText
-pub mod Fields
+pub mod Cost
 pub mod Rules
+pub mod Fields
 pub mod Valid
 pub mod Validity
-pub mod DraftExamples
-pub mod Defaults
-pub mod Cost
-pub mod ByInequalities
-pub mod RelayoutFaultText
-pub mod ListedWeights
-pub mod Relayout
-pub mod Typed
 pub mod Examples
+pub mod ByInequalities
+pub mod Relayout
 pub mod CanonicalText
-pub mod TextExamples

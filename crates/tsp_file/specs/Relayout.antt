@@ -1,18 +1,25 @@
--- The file after its weights are put into another layout, and which costs a layout can hold. For `relayout`
--- (src/relayout.rt), and so for `tsp convert --layout`.
--- Source: TSPLIB 95 (G. Reinelt), the values of EDGE_WEIGHT_FORMAT.
-use Rattle.std.specs.Prelude.{◌≡◌, ◌≢◌, ℕ, ◌<◌, ◌⊎◌, Bool, false, List, map, Some, IsSome, IsTrue, Result, Ok, Err, ℤ, pos}
+-- The text of each fault of a change of layout: its name, and its nodes. For `RelayoutFault` (src/relayout.rt), and for
+-- CheckRun.antt of tsp_judge.
+use Rattle.std.specs.Prelude.{ℕ, List, ◌++◌, codes, decimal, ◌≡◌, ◌≢◌, ◌<◌, ◌⊎◌, Bool, false, map, Some, IsSome, IsTrue, Result, Ok, Err, ℤ, pos}
+use Rattle.tsp_format.specs.Nodes.{IsNode, is_listed, cells}
+use Rattle.tsp_format.specs.Words.{IsSymmetric, IsFirstAsymmetric}
+use Rattle.tsp_format.specs.declared.kinds.WeightFormat.TheVariants.{Listed}
+use Rattle.tsp_format.specs.declared.kinds.WeightKind.TheVariants.{Explicit}
 use Rattle.tsp_format.specs.declared.layout.Layout.{Layout}
 use Rattle.tsp_format.specs.declared.layout.Layout.TheVariants.{FullMatrix}
-use Rattle.tsp_format.specs.declared.kinds.WeightKind.TheVariants.{Explicit}
-use Rattle.tsp_format.specs.declared.kinds.WeightFormat.TheVariants.{Listed}
-use Rattle.tsp_format.specs.Nodes.{IsNode}
-use Rattle.tsp_format.specs.Cells.{is_listed, cells}
-use Rattle.tsp_format.specs.Symmetry.{IsSymmetric, IsFirstAsymmetric}
+use Rattle.tsp_file.specs.Cost.{cost}
+use Rattle.tsp_file.specs.Fields.{Fields, nodes_of}
 use Rattle.tsp_file.specs.declared.relayout.RelayoutFault.{RelayoutFault}
 use Rattle.tsp_file.specs.declared.relayout.RelayoutFault.TheVariants.{NotExplicit, NotSymmetric, DiagonalLost, OutOfMemory}
-use Rattle.tsp_file.specs.Fields.{Fields, nodes_of}
-use Rattle.tsp_file.specs.Cost.{cost}
+
+-- its name, and the nodes whose cost the layout can't hold
+abbrev pub relayout_fault_text : RelayoutFault → List ℕ
+relayout_fault_text NotExplicit = codes "NotExplicit"
+relayout_fault_text (NotSymmetric i j) = codes "NotSymmetric " ++ (decimal i ++ (codes " " ++ decimal j))
+relayout_fault_text (DiagonalLost i) = codes "DiagonalLost " ++ decimal i
+relayout_fault_text OutOfMemory = codes "OutOfMemory"
+
+-- ---- the file after its weights are put into another layout
 
 -- ---- which costs a layout can hold
 

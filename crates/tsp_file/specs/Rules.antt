@@ -1,23 +1,37 @@
--- The rules over several fields of a file, which are judged by which fields it has; and the first fault of a draft. For
--- `end_fault` (src/rules.rt), `File::of` of tsp_file, and the reader. Which keyword and section each TYPE asks for is
--- TSPLIB 95 (G. Reinelt) and this project's profile of it. Eight crates above import this file too.
-use Rattle.std.specs.Prelude.{ℕ, Bool, true, false, cond, not, ◌&&◌, ◌||◌, ◌==◌, List, [], ◌∷◌, length, Option, None, Some, is_some}
+-- The text of each fault of a draft: its name, and the field. For `DraftFault` and `EndFault` (src/rules.rt), and for
+-- the fault of a text (Spells.antt of tsp_text).
 use Rattle.std.specs.Option.{option_map, option_or}
-use Rattle.tsp_format.specs.declared.kinds.Kind.{Kind}
-use Rattle.tsp_format.specs.declared.kinds.Kind.TheVariants as kinds
-use Rattle.tsp_format.specs.declared.kinds.WeightKind.{WeightKind}
-use Rattle.tsp_format.specs.declared.kinds.WeightKind.TheVariants as weight_kinds
-use Rattle.tsp_format.specs.declared.kinds.WeightFormat.{WeightFormat}
-use Rattle.tsp_format.specs.declared.kinds.WeightFormat.TheVariants as formats
+use Rattle.std.specs.Prelude.{ℕ, List, ◌++◌, codes, Bool, true, false, cond, not, ◌&&◌, ◌||◌, ◌==◌, [], ◌∷◌, length, Option, None, Some, is_some}
+use Rattle.tsp_format.specs.Nodes.{cells}
+use Rattle.tsp_format.specs.Words.{field_word}
 use Rattle.tsp_format.specs.declared.keyword.Field.{Field}
 use Rattle.tsp_format.specs.declared.keyword.Field.TheVariants.{TypeKey, DimensionKey, CapacityKey, EdgeWeightTypeKey, EdgeWeightFormatKey, NodeCoordPart, DemandPart, DepotPart, EdgeWeightPart, TourPart, NodePotentialPart, RowPotentialPart, ColumnPotentialPart, FixedEdgePotentialPart, BranchPart}
-use Rattle.tsp_file.specs.declared.rules.EndFault.{EndFault}
-use Rattle.tsp_file.specs.declared.rules.EndFault.TheVariants.{Missing, Incomplete, WrongFormat, WrongCount}
-use Rattle.tsp_file.specs.declared.rules.DraftFault.{DraftFault}
-use Rattle.tsp_file.specs.declared.rules.DraftFault.TheVariants.{BadField, Rule}
-use Rattle.tsp_format.specs.Cells.{cells}
+use Rattle.tsp_format.specs.declared.kinds.Kind.{Kind}
+use Rattle.tsp_format.specs.declared.kinds.Kind.TheVariants as kinds
+use Rattle.tsp_format.specs.declared.kinds.WeightFormat.{WeightFormat}
+use Rattle.tsp_format.specs.declared.kinds.WeightFormat.TheVariants as formats
+use Rattle.tsp_format.specs.declared.kinds.WeightKind.{WeightKind}
+use Rattle.tsp_format.specs.declared.kinds.WeightKind.TheVariants as weight_kinds
 use Rattle.tsp_file.specs.Fields.{Fields, stands_in}
 use Rattle.tsp_file.specs.Validity.{first_failing, bad_field}
+use Rattle.tsp_file.specs.declared.rules.DraftFault.{DraftFault}
+use Rattle.tsp_file.specs.declared.rules.DraftFault.TheVariants.{BadField, Rule}
+use Rattle.tsp_file.specs.declared.rules.EndFault.{EndFault}
+use Rattle.tsp_file.specs.declared.rules.EndFault.TheVariants.{Missing, Incomplete, WrongFormat, WrongCount}
+
+-- a rule over several fields that fails
+abbrev pub end_fault_text : EndFault → List ℕ
+end_fault_text (Missing field) = codes "Missing " ++ field_word field
+end_fault_text (Incomplete field) = codes "Incomplete " ++ field_word field
+end_fault_text WrongFormat = codes "WrongFormat"
+end_fault_text WrongCount = codes "WrongCount"
+
+-- a field that is invalid on its own, or such a rule
+abbrev pub draft_fault_text : DraftFault → List ℕ
+draft_fault_text (BadField field) = codes "BadField " ++ field_word field
+draft_fault_text (Rule fault) = end_fault_text fault
+
+-- ---- the rules over several fields of a file, which are judged by which fields it has
 
 -- ---- the present fields
 

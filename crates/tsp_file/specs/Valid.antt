@@ -3,14 +3,12 @@
 -- tsp_cost import it too.
 use Rattle.std.specs.Prelude.{◌≡◌, ◌≢◌, ℕ, ◌+◌, ◌≤◌, ◌⊎◌, Bool, true, false, List, length, None, Some, IsSome, ℤ, pos, neg_ℤ}
 use Rattle.std.specs.List.{All, sum_by}
-use Rattle.tsp_distance.specs.declared.decimal.Point.{Point}
+use Rattle.tsp_number.specs.declared.decimal.Point.{Point}
 use Rattle.tsp_format.specs.declared.layout.Layout.{Layout}
 use Rattle.tsp_format.specs.declared.kinds.WeightFormat.TheVariants.{Listed}
-use Rattle.tsp_format.specs.Ranges.{IsFromTo}
-use Rattle.tsp_format.specs.Nodes.{IsNode}
-use Rattle.tsp_format.specs.Cells.{cells}
+use Rattle.tsp_format.specs.Steps.{IsFromTo, Step, Branch, Leaf, are_whole, branch_count, change_count}
+use Rattle.tsp_format.specs.Nodes.{IsNode, cells}
 use Rattle.tsp_format.specs.Limits.{most_nodes, most_matrix_nodes, most_coordinate, most_weight, most_demand, most_capacity, most_scale, most_load_unit, most_potential, most_depots, most_fixed, most_triples, most_multiplier, most_tour_nodes, most_combs, most_comb_nodes, most_branches, most_changes, most_difference}
-use Rattle.tsp_format.specs.Steps.{Step, Branch, Leaf, are_whole, branch_count, change_count}
 use Rattle.tsp_file.specs.Fields.{Fields, spatial}
 use Rattle.tsp_file.specs.Rules.{is_explicit}
 

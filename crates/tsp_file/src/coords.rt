@@ -3,9 +3,9 @@
 
 ghost use Rattle.std.specs.Prelude.{◌≡◌, length, slice_index_or, ◌<◌, SomeIff};
 ghost use Rattle.tsp_file.specs.states.Drafts.{points_of};
-ghost use Rattle.tsp_file.specs.Coords.{origin};
+ghost use Rattle.tsp_file.specs.Cost.{origin};
 
-use tsp_distance::{InSpace, PlanePoint, Point};
+use tsp_number::{InSpace, PlanePoint, Point};
 
 /// A point for each node, in order.
 #[derive(Debug, Drop, PartialEq, Eq)]

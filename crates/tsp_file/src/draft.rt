@@ -100,7 +100,7 @@ impl Draft {
     ghost use Rattle.std.specs.Prelude.{◌≡◌};
     ghost use Rattle.std.specs.Option.{option_map};
     ghost use Rattle.tsp_file.specs.states.Drafts.{points_of, fields_of};
-    ghost use Rattle.tsp_format.specs.Shapes.{value_shape_of, IsNumberOf};
+    ghost use Rattle.tsp_format.specs.Limits.{value_shape_of, IsNumberOf};
     ghost use Rattle.tsp_file.specs.Fields.{blank_fields, spatial, stands_in, one_number_in, with_one_number, numbers_in, with_numbers, points_in, with_points};
 
     /// A draft with no field set: each is `None` or an empty list. No memory is taken.

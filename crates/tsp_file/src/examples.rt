@@ -2,22 +2,18 @@
 //! first faults of small drafts, the end table, texts of faults.
 
 ghost use Rattle.std.specs.Prelude.{◌≡◌, ◌+◌, ◌-◌, ◌*◌, ◌^◌, true, false, [], ◌∷◌, None, Some, pos, negsuc, codes, replicate, ◌++◌, decimal};
-ghost use Rattle.tsp_distance.specs.Distances.{euc_2d_of, ceil_2d_of, man_2d_of, max_2d_of, att_of, euc_3d_of, man_3d_of, max_3d_of};
-ghost use Rattle.tsp_distance.specs.declared.decimal.Point.{Point};
+ghost use Rattle.tsp_number.specs.Distances.{euc_2d_of, ceil_2d_of, man_2d_of, max_2d_of, att_of, euc_3d_of, man_3d_of, max_3d_of};
+ghost use Rattle.tsp_number.specs.declared.decimal.Point.{Point};
 ghost use Rattle.tsp_format.specs.Limits.{most_coordinate};
 ghost use Rattle.tsp_format.specs.declared.keyword.Field.TheVariants as fields;
 ghost use Rattle.tsp_format.specs.declared.kinds.WeightKind.TheVariants as weight_kinds;
 ghost use Rattle.tsp_format.specs.declared.layout.Layout.TheVariants as layouts;
 ghost use Rattle.tsp_file.specs.CanonicalText.{text_of, text_of_field};
 ghost use Rattle.tsp_file.specs.Cost.{cost, distance};
-ghost use Rattle.tsp_file.specs.DraftExamples.{directed_matrix, plane, no_nodes, one_weight, bare_routes, routing_nodes, routing_listed, routing_full, routing_capacity, routing_weights, routing_demands, routing_depots, routing_plane, bare_tours, touring_weights, touring_whole, touring_function, touring_surplus, bare_potentials, with_node_numbers, with_column_numbers, with_row_numbers, with_both_numbers, with_all_numbers, with_both_and_pairs, with_all_and_weights, bare_tree};
-ghost use Rattle.tsp_file.specs.DraftFaultText.{end_fault_text, draft_fault_text};
-ghost use Rattle.tsp_file.specs.Examples.{CostIs, LaysOutAs, six};
+ghost use Rattle.tsp_file.specs.Examples.{directed_matrix, plane, no_nodes, one_weight, bare_routes, routing_nodes, routing_listed, routing_full, routing_capacity, routing_weights, routing_demands, routing_depots, routing_plane, bare_tours, touring_weights, touring_whole, touring_function, touring_surplus, bare_potentials, with_node_numbers, with_column_numbers, with_row_numbers, with_both_numbers, with_all_numbers, with_both_and_pairs, with_all_and_weights, bare_tree, CostIs, LaysOutAs, six, IsSmallText, small, small_text, spatial_node, two_tours, without_combs};
+ghost use Rattle.tsp_file.specs.Rules.{end_fault_text, draft_fault_text, fault_of, end_fault, standing_of};
 ghost use Rattle.tsp_file.specs.Fields.{blank_fields};
-ghost use Rattle.tsp_file.specs.Relayout.{lists_diagonal, IsFirstOnDiagonal, IsRefused};
-ghost use Rattle.tsp_file.specs.RelayoutFaultText.{relayout_fault_text};
-ghost use Rattle.tsp_file.specs.Rules.{fault_of, end_fault, standing_of};
-ghost use Rattle.tsp_file.specs.TextExamples.{IsSmallText, small, small_text, spatial_node, two_tours, without_combs};
+ghost use Rattle.tsp_file.specs.Relayout.{lists_diagonal, IsFirstOnDiagonal, IsRefused, relayout_fault_text};
 ghost use Rattle.tsp_file.specs.Validity.{is_kept, are_comments, are_others, is_within, is_third, is_demand, is_node, is_pair_of, fit_matrix, are_depots, are_fixed, is_triple_of, are_triples, is_node_list, is_set_of, are_sets, is_change};
 ghost use Rattle.tsp_file.specs.declared.relayout.RelayoutFault.TheVariants as faults;
 ghost use Rattle.tsp_file.specs.declared.rules.DraftFault.TheVariants as drafts;
@@ -76,7 +72,7 @@ pub fn examples_of_validity()
 {}
 
 /// The first faults of small files.
-#[tactic(auto, unfolding(tsp_format::specs::Cells::cells, tsp_format::specs::Nodes::nodes_to))]
+#[tactic(auto, unfolding(tsp_format::specs::Nodes::cells, tsp_format::specs::Nodes::nodes_to))]
 pub fn examples_of_faults()
     ensures valid { fault_of directed_matrix ≡ None }
     ensures nothing { fault_of blank_fields ≡ Some (drafts.Rule (ends.Missing fields.TypeKey)) }
@@ -86,7 +82,7 @@ pub fn examples_of_faults()
 {}
 
 /// The end table, each row beside the next one that applies too.
-#[tactic(auto, unfolding(tsp_format::specs::Cells::cells, tsp_format::specs::Nodes::nodes_to))]
+#[tactic(auto, unfolding(tsp_format::specs::Nodes::cells, tsp_format::specs::Nodes::nodes_to))]
 pub fn examples_of_the_end_table()
     ensures dimension { end_fault (standing_of bare_routes) None
         ≡ Some (ends.Missing fields.DimensionKey) }
@@ -145,7 +141,7 @@ pub fn examples_of_draft_fault_texts()
 {}
 
 /// The costs of two nodes under the layouts, and which layouts list the diagonal.
-#[tactic(auto, unfolding(crate::specs::Cost::listed_cost, tsp_format::specs::Place::place_of, tsp_format::specs::Cells::cells, tsp_format::specs::Nodes::nodes_to))]
+#[tactic(auto, unfolding(crate::specs::Cost::listed_cost, tsp_format::specs::Place::place_of, tsp_format::specs::Nodes::cells, tsp_format::specs::Nodes::nodes_to))]
 pub fn examples_of_costs()
     ensures upper_row { CostIs layouts.UpperRow 1 4 (pos 3) }
     ensures lower_row { CostIs layouts.LowerRow 1 4 (pos 4) }
@@ -161,7 +157,7 @@ pub fn examples_of_costs()
 {}
 
 /// The weights in another layout.
-#[tactic(auto, unfolding(crate::specs::Cost::listed_cost, tsp_format::specs::Place::place_of, tsp_format::specs::Cells::cells, tsp_format::specs::Nodes::nodes_to))]
+#[tactic(auto, unfolding(crate::specs::Cost::listed_cost, tsp_format::specs::Place::place_of, tsp_format::specs::Nodes::cells, tsp_format::specs::Nodes::nodes_to))]
 pub fn examples_of_relayouts()
     ensures the_same { LaysOutAs layouts.UpperDiagRow layouts.UpperDiagRow
         (six (pos 1) (pos 2) (pos 3) (pos 4) (pos 5) (pos 6)) }
@@ -176,7 +172,7 @@ pub fn examples_of_relayouts()
 {}
 
 /// Why weights aren't put into another layout.
-#[tactic(auto, unfolding(crate::specs::Cost::cost, crate::specs::Cost::listed_cost, tsp_format::specs::Place::place_of, tsp_format::specs::Cells::cells, tsp_format::specs::Nodes::nodes_to))]
+#[tactic(auto, unfolding(crate::specs::Cost::cost, crate::specs::Cost::listed_cost, tsp_format::specs::Place::place_of, tsp_format::specs::Nodes::cells, tsp_format::specs::Nodes::nodes_to))]
 pub fn examples_of_lost_costs()
     ensures uneven { IsRefused directed_matrix layouts.UpperRow (faults.NotSymmetric 1 2) }
     ensures not_listed { IsRefused plane layouts.UpperRow faults.NotExplicit }

@@ -2,14 +2,13 @@
 //! tsp_verdict and tsp_report take its fields.
 
 ghost use Rattle.std.specs.Prelude.{◌≡◌, ◌≢◌, ◌≤◌, ◌<◌, ◌+◌, ◌*◌, ℕ, ℤ, List, length, take, true, ◌⊎◌, OnErr, OnOk};
-ghost use Rattle.tsp_format.specs.Cells.{cells};
+ghost use Rattle.tsp_format.specs.Nodes.{cells, IsNode};
 ghost use Rattle.tsp_format.specs.Limits.{most_matrix_nodes};
-ghost use Rattle.tsp_format.specs.Nodes.{IsNode};
-ghost use Rattle.tsp_format.specs.Symmetry.{IsSymmetric};
+ghost use Rattle.tsp_format.specs.Words.{IsSymmetric};
 ghost use Rattle.tsp_format.specs.declared.layout.Layout.TheVariants.{FullMatrix};
 ghost use Rattle.tsp_file.specs.Cost.{listed_cost};
 ghost use Rattle.tsp_file.specs.Relayout.{costs_in};
-ghost use Rattle.tsp_file.specs.states.Whole.{goes_above, is_on_side, IsCostOfCell, HasLaterLines, HasSide, Fills};
+ghost use Rattle.tsp_file.specs.states.Drafts.{goes_above, is_on_side, IsCostOfCell, HasLaterLines, HasSide, Fills};
 
 use crate::coords::Coords;
 use crate::draft::Draft;
@@ -53,7 +52,7 @@ impl File {
     ghost use Rattle.std.specs.Prelude.{◌≡◌, ◌≢◌, Some, None, IsSome, length, map, MatchResult};
     ghost use Rattle.std.specs.List.{All};
     ghost use Rattle.std.specs.Option.{option_map};
-    ghost use Rattle.tsp_format.specs.Cells.{cells};
+    ghost use Rattle.tsp_format.specs.Nodes.{cells};
     ghost use Rattle.tsp_format.specs.Limits.{most_weight};
     ghost use Rattle.tsp_file.specs.states.Drafts.{points_of, fields_of, combs_of};
     ghost use Rattle.tsp_file.specs.Valid.{IsWithin};
@@ -62,7 +61,7 @@ impl File {
     ghost use Rattle.tsp_file.specs.Cost.{cost};
     ghost use Rattle.tsp_file.specs.Relayout.{CanGo, with_weights, costs_in};
     ghost use Rattle.tsp_file.specs.Fields.{nodes_of};
-    ghost use Rattle.tsp_file.specs.Typed.{HoldsItsType};
+    ghost use Rattle.tsp_file.specs.Cost.{HoldsItsType};
     ghost use Rattle.tsp_format.specs.states.TreeSteps.{steps_of};
     ghost use Rattle.tsp_file.specs.Rules.{fault_of};
 

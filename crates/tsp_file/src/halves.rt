@@ -3,12 +3,11 @@
 
 ghost use Rattle.std.specs.Prelude.{◌≡◌, ◌≤◌, ◌+◌, ◌-◌, ◌*◌, length};
 ghost use Rattle.tsp_format.specs.declared.layout.Layout.TheVariants.{FullMatrix};
-ghost use Rattle.tsp_format.specs.Nodes.{IsNode};
-ghost use Rattle.tsp_format.specs.Cells.{cells, line_len_of};
+ghost use Rattle.tsp_format.specs.Nodes.{IsNode, cells, line_len_of};
 ghost use Rattle.tsp_format.specs.Limits.{most_matrix_nodes};
 ghost use Rattle.tsp_file.specs.Cost.{listed_cost};
 ghost use Rattle.tsp_file.specs.Relayout.{HoldsPairs, costs_in};
-ghost use Rattle.tsp_file.specs.states.Halves.{line_start_of};
+ghost use Rattle.tsp_file.specs.states.Drafts.{line_start_of};
 
 use tsp_format::Layout;
 

@@ -11,7 +11,7 @@ ghost use Rattle.tsp_file.specs.Fields.{Fields};
 ghost use Rattle.tsp_file.specs.Rules.{fault_of, is_instance, is_routing, is_tour_file, is_potentials_file, is_branches_file};
 ghost use Rattle.tsp_file.specs.Valid.{IsInRange, HasInstance, HasRouting, HasPotentials, HasBranches};
 
-use tsp_distance::distance_laws;
+use tsp_number::distance_laws;
 
 /// The fields of a valid file are in their ranges: the number of nodes, the lists by node, the
 /// nodes that lists speak of, the sizes of numbers. Weights are as many as the cells of a layout.

@@ -3,7 +3,7 @@
 
 ghost use Rattle.std.specs.Prelude.{MatchResult};
 ghost use Rattle.tsp_file.specs.Relayout.{CanGo, IsRefused, IsRelayout};
-ghost use Rattle.tsp_file.specs.states.Way.{LeadsTo};
+ghost use Rattle.tsp_file.specs.states.Drafts.{LeadsTo};
 
 use crate::file::File;
 use std::alloc::Global;
@@ -103,7 +103,7 @@ pub enum RelayoutFault {
 
 impl fmt::Display for RelayoutFault {
     ghost use Rattle.std.specs.Prelude.{Some};
-    ghost use Rattle.tsp_file.specs.RelayoutFaultText.{relayout_fault_text};
+    ghost use Rattle.tsp_file.specs.Relayout.{relayout_fault_text};
 
     ghost output = { λ fault. Some (relayout_fault_text fault) };
 

@@ -201,7 +201,7 @@ pub enum EndFault {
 
 impl fmt::Display for EndFault {
     ghost use Rattle.std.specs.Prelude.{Some};
-    ghost use Rattle.tsp_file.specs.DraftFaultText.{end_fault_text};
+    ghost use Rattle.tsp_file.specs.Rules.{end_fault_text};
 
     ghost output = { λ fault. Some (end_fault_text fault) };
 
@@ -226,7 +226,7 @@ pub enum DraftFault {
 
 impl fmt::Display for DraftFault {
     ghost use Rattle.std.specs.Prelude.{Some};
-    ghost use Rattle.tsp_file.specs.DraftFaultText.{draft_fault_text};
+    ghost use Rattle.tsp_file.specs.Rules.{draft_fault_text};
 
     ghost output = { λ fault. Some (draft_fault_text fault) };
 

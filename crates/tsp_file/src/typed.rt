@@ -3,9 +3,9 @@
 
 ghost use Rattle.std.specs.List.{All};
 ghost use Rattle.std.specs.Prelude.{◌≡◌, ◌≤◌, length};
-ghost use Rattle.tsp_format.specs.Cells.{cells};
+ghost use Rattle.tsp_format.specs.Nodes.{cells};
 ghost use Rattle.tsp_format.specs.Limits.{most_matrix_nodes, most_weight};
-ghost use Rattle.tsp_format.specs.Symmetry.{FindsAsymmetric};
+ghost use Rattle.tsp_format.specs.Words.{FindsAsymmetric};
 ghost use Rattle.tsp_format.specs.declared.layout.Layout.TheVariants.{FullMatrix};
 ghost use Rattle.tsp_file.specs.Cost.{listed_cost};
 ghost use Rattle.tsp_file.specs.Valid.{IsWithin};
@@ -67,12 +67,12 @@ impl File {
     ghost use Rattle.tsp_format.specs.Limits.{most_scale, most_load_unit};
     ghost use Rattle.tsp_format.specs.states.TreeSteps.{steps_of};
     ghost use Rattle.tsp_file.specs.states.Drafts.{combs_of};
-    ghost use Rattle.tsp_format.specs.Ranges.{IsFromTo};
+    ghost use Rattle.tsp_format.specs.Steps.{IsFromTo};
     ghost use Rattle.tsp_file.specs.Valid.{AreTours};
-    ghost use Rattle.tsp_file.specs.ListedWeights.{ListsWeights};
+    ghost use Rattle.tsp_file.specs.Cost.{ListsWeights};
     ghost use Rattle.tsp_file.specs.Relayout.{HasListedWeights};
     ghost use Rattle.tsp_file.specs.Fields.{nodes_of};
-    ghost use Rattle.tsp_file.specs.Typed.{HoldsNodeNumbers, HoldsDuals, HoldsCases, AreMultipliersIn, AreSomeSets};
+    ghost use Rattle.tsp_file.specs.Cost.{HoldsNodeNumbers, HoldsDuals, HoldsCases, AreMultipliersIn, AreSomeSets};
 
     /// The weights of this file with their layout; none where its weights aren't listed.
     #[inline]
@@ -241,10 +241,10 @@ pub struct ListedWeights<'a> {
 impl<'a> ListedWeights<'a> {
     ghost use Rattle.std.specs.Prelude.{ℕ, ◌<◌, ◌+◌, ◌*◌, ◌≢◌, ◌++◌, false, map, pos, ◌↔◌, IsTrue, MatchOption, IfOk, OnOk, ◌-◌};
     ghost use Rattle.tsp_format.specs.Nodes.{IsNode};
-    ghost use Rattle.tsp_format.specs.Cells.{cells_of_line};
-    ghost use Rattle.tsp_format.specs.Symmetry.{IsFirstAsymmetric};
+    ghost use Rattle.tsp_format.specs.Nodes.{cells_of_line};
+    ghost use Rattle.tsp_format.specs.Words.{IsFirstAsymmetric};
     ghost use Rattle.tsp_file.specs.Fields.{Fields};
-    ghost use Rattle.tsp_file.specs.ListedWeights.{ListsWeights};
+    ghost use Rattle.tsp_file.specs.Cost.{ListsWeights};
     ghost use Rattle.tsp_file.specs.Relayout.{HoldsPairs, HoldsDiagonal, lists_diagonal, IsFirstOnDiagonal, costs_in};
     ghost use Rattle.tsp_file.specs.states.Weights.{costs_of};
 

@@ -3,10 +3,9 @@
 
 ghost use Rattle.std.specs.Prelude.{◌≡◌, ◌+◌, ◌-◌, ◌==◌, ◌||◌, not, ◌&&◌, cond, Some, None, length, slice_index, nat_le, map};
 ghost use Rattle.std.specs.List.{list_all, sum_by};
-ghost use Rattle.tsp_format.specs.Words.{field_word};
-ghost use Rattle.tsp_format.specs.Bytes.{is_blank, is_keyword_byte};
+ghost use Rattle.tsp_format.specs.Words.{field_word, is_blank, is_keyword_byte};
 ghost use Rattle.tsp_format.specs.Limits.{most_coordinate, most_tour_nodes, most_combs, most_comb_nodes, most_branches, most_changes};
-ghost use Rattle.tsp_distance.specs.Distances.{on_plane};
+ghost use Rattle.tsp_number.specs.Distances.{on_plane};
 ghost use Rattle.tsp_format.specs.states.TreeSteps.{step_of, steps_of};
 ghost use Rattle.tsp_format.specs.Steps.{are_whole, branch_count, change_count};
 ghost use Rattle.tsp_file.specs.states.Drafts.{points_of, combs_of};
@@ -14,13 +13,13 @@ ghost use Rattle.tsp_file.specs.Validity.{is_kept, is_unknown_keyword, is_other,
 
 use crate::coords::Coords;
 use crate::range::{are_from_to, is_from_to};
-use tsp_distance::{Decimal, InSpace, PlanePoint, Point};
 use tsp_format::{
-    Field, Keyword, MOST_BRANCHES, MOST_CHANGES, MOST_COMB_NODES, MOST_COMBS, MOST_COORDINATE,
+    Field, Keyword, MOST_BRANCHES, MOST_CHANGES, MOST_COMBS, MOST_COMB_NODES, MOST_COORDINATE,
     MOST_DEMAND, MOST_DEPOTS, MOST_DIFFERENCE, MOST_FIXED, MOST_KEPT_BYTES, MOST_MATRIX_NODES,
     MOST_MULTIPLIER, MOST_MULTIPLIERS, MOST_NODES, MOST_POTENTIAL, MOST_TOUR_NODES, MOST_WEIGHT,
     TreeStep, Word, is_blank, is_keyword_byte, is_letter,
 };
+use tsp_number::{Decimal, InSpace, PlanePoint, Point};
 
 /// Whether no byte is a byte 10.
 fn is_one_line(text: &[u8]) -> bool
@@ -255,7 +254,7 @@ fn is_set_of(n: u32, set: &[u32]) -> bool
 }
 
 /// Whether there are sets, none of them empty, of nodes of 1..n.
-#[tactic(auto, using(crate::proofs::Mapped::comb_seen))]
+#[tactic(auto, using(crate::proofs::ValidFields::comb_seen))]
 fn are_sets(n: u32, comb: &[Vec<u32>]) -> bool
     ensures { result ≡ are_sets n (map (λ set. set.items) comb.now) }
 {
@@ -308,7 +307,7 @@ fn have_few_comb_nodes(combs: &[Vec<Vec<u32>>]) -> bool
 
 /// Whether the combs are of sets of nodes of 1..n, at most `MOST_COMBS` with together at most
 /// `MOST_COMB_NODES` nodes.
-#[tactic(auto, using(crate::proofs::Mapped::combs_seen))]
+#[tactic(auto, using(crate::proofs::ValidFields::combs_seen))]
 pub(crate) fn are_combs(n: u32, combs: &[Vec<Vec<u32>>]) -> bool
     ensures { result ≡ are_combs n (combs_of combs.now) }
 {

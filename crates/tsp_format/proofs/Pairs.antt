@@ -1,15 +1,31 @@
--- Which pairs are cells, and that no cell appears twice. For the laws `cells_are_distinct` and
--- `cells_are_the_listed_pairs` in src/layout.rt.
-use Rattle.std.proofs.Common.{◌≡◌, ◌≢◌, ℕ, suc, zero, ◌+◌, ◌-◌, ◌<◌, Bool, true, false, cond, List, [], ◌∷◌, ◌++◌, length, get_or, map, refl, sym, ap, subst, ◌∙◌, arith}
-use Rattle.std.specs.Prelude.{◌↔◌, IsTrue, if◌then◌else◌}
-use Rattle.std.specs.List.{filter, flat_map, range_with_len, All, AllPairs, Contains}
+-- The cells of a layout, as a list, are those of line 1, then those of line 2, and so on. For the law
+-- `cells_go_line_by_line` in src/layout.rt.
+use Rattle.std.proofs.Common.{◌≡◌, ℕ, Bool, List, [], ◌∷◌, ◌++◌, refl, ap, ◌∙◌, ◌≢◌, suc, zero, ◌+◌, ◌-◌, ◌<◌, true, false, cond, length, get_or, map, sym, subst, arith, min, ◌*◌, ◌/◌, ◌≤◌, Option, None, Some}
+use Rattle.std.proofs.lemmas.Bool.Decides.{nat_tests}
 use Rattle.std.proofs.lemmas.List.{length-map, get_or-map}
+use Rattle.std.proofs.lemmas.List.Concat.{length-flat_map}
+use Rattle.std.proofs.lemmas.List.Elements.{filter-append, All-nil, All-head, All-tail, All-append, All-map, All-filter, All-contains, filter_passes, Contains-append_left, Contains-append_right}
 use Rattle.std.proofs.lemmas.List.FromFn.{length-range_with_len, get_or-range_with_len}
-use Rattle.std.proofs.lemmas.List.Elements.{All-nil, All-head, All-tail, All-append, All-map, All-filter, All-contains, filter_passes, Contains-append_left, Contains-append_right}
 use Rattle.std.proofs.lemmas.List.Kept.{AllPairs-cons, AllPairs-filter}
+use Rattle.std.proofs.lemmas.List.Sums.{sum_by-cons}
+use Rattle.std.proofs.lemmas.Slice.Eq.{bytes_eq-Decides}
+use Rattle.std.specs.List.{filter, flat_map, range_with_len, All, AllPairs, Contains, sum_by, find}
+use Rattle.std.specs.Prelude.{◌↔◌, IsTrue, if◌then◌else◌, nat_lt, nat_le, IsNone}
+use Rattle.std.specs.Str.{bytes_eq}
+use Rattle.tsp_format.specs.Nodes.{nodes_to, is_listed, pairs_of_line, cells, cells_of_line, IsNode, goes_by_columns, cell_count_of, line_len_of}
 use Rattle.tsp_format.specs.declared.layout.Layout.{Layout}
-use Rattle.tsp_format.specs.Nodes.{nodes_to, IsNode}
-use Rattle.tsp_format.specs.Cells.{is_listed, goes_by_columns, cells}
+use Rattle.tsp_format.specs.declared.layout.Layout.TheVariants.{FullMatrix, UpperRow, LowerRow, UpperDiagRow, LowerDiagRow, UpperCol, LowerCol, UpperDiagCol, LowerDiagCol}
+
+filter-flat_map : {X Y : Type 0} (p : Y → Bool) (f : X → List Y) (xs : List X)
+    → filter p (flat_map f xs) ≡ flat_map (λ x. filter p (f x)) xs
+filter-flat_map p f [] = refl
+filter-flat_map p f (x ∷ xs) = filter-append p (f x) (flat_map f xs) ∙ ap (λ ys. filter p (f x) ++ ys) (filter-flat_map p f xs)
+
+pub cells-lines : (layout : Layout) (n : ℕ) → cells layout n ≡ flat_map (cells_of_line layout n) (nodes_to n)
+unfolding cells cells_of_line
+cells-lines layout n = filter-flat_map (is_listed layout) (pairs_of_line layout n) (nodes_to n)
+
+-- ---- which pairs are cells, and that no cell appears twice
 
 -- ---- elements of lists
 
@@ -176,3 +192,184 @@ pub cells_differ : (layout : Layout) (n : ℕ) → AllPairs (λ a b. a ≢ b) (c
 unfolding cells
 cells_differ layout n =
     AllPairs-filter (λ a b. a ≢ b) (is_listed layout) (pairs (goes_by_columns layout) n) (pairs_differ (goes_by_columns layout) n)
+
+-- ---- how many cells a line has, and how many there are in all
+
+-- ---- how many of a run of numbers pass a test
+
+one_more : {X : Type 0} (b : Bool) (x : X) (xs : List X) → length (cond b (x ∷ xs) xs) ≡ cond b 1 0 + length xs
+one_more true x xs = omega arith
+one_more false x xs = omega arith
+
+alike : {X Y : Type 0} (b : Bool) (x : X) (xs : List X) (y : Y) (ys : List Y) → length xs ≡ length ys
+    → length (cond b (x ∷ xs) xs) ≡ length (cond b (y ∷ ys) ys)
+alike true x xs y ys e = ap suc e
+alike false x xs y ys e = e
+
+length-filter-map : {X Y : Type 0} (p : Y → Bool) (f : X → Y) (xs : List X)
+    → length (filter p (map f xs)) ≡ length (filter (λ x. p (f x)) xs)
+length-filter-map p f [] = refl
+length-filter-map p f (x ∷ xs) =
+    alike (p (f x)) (f x) (filter p (map f xs)) x (filter (λ y. p (f y)) xs) (length-filter-map p f xs)
+
+above_step : (k a n count : ℕ) → count ≡ n - (k - (a + 1)) → cond (nat_le k a) 1 0 + count ≡ suc n - (k - a)
+above_step k a n count e = grind (arith, nat_tests)
+
+-- of n numbers from a on, those from k on
+above : (k a n : ℕ) → length (filter (λ m. nat_le k m) (range_with_len a n)) ≡ n - (k - a)
+above k a zero = omega arith
+above k a (suc n) = one_more (nat_le k a) a (filter (λ m. nat_le k m) (range_with_len (a + 1) n))
+    ∙ above_step k a n (length (filter (λ m. nat_le k m) (range_with_len (a + 1) n))) (above k (a + 1) n)
+
+below_step : (k a n count : ℕ) → count ≡ min n (k - (a + 1)) → cond (nat_lt a k) 1 0 + count ≡ min (suc n) (k - a)
+below_step k a n count e = grind (arith, nat_tests)
+
+-- of n numbers from a on, those below k
+below : (k a n : ℕ) → length (filter (λ m. nat_lt m k) (range_with_len a n)) ≡ min n (k - a)
+below k a zero = omega arith
+below k a (suc n) = one_more (nat_lt a k) a (filter (λ m. nat_lt m k) (range_with_len (a + 1) n))
+    ∙ below_step k a n (length (filter (λ m. nat_lt m k) (range_with_len (a + 1) n))) (below k (a + 1) n)
+
+upto_step : (k a n count : ℕ) → count ≡ min n (suc k - (a + 1)) → cond (nat_le a k) 1 0 + count ≡ min (suc n) (suc k - a)
+upto_step k a n count e = grind (arith, nat_tests)
+
+-- of n numbers from a on, those up to k
+upto : (k a n : ℕ) → length (filter (λ m. nat_le m k) (range_with_len a n)) ≡ min n (suc k - a)
+upto k a zero = omega arith
+upto k a (suc n) = one_more (nat_le a k) a (filter (λ m. nat_le m k) (range_with_len (a + 1) n))
+    ∙ upto_step k a n (length (filter (λ m. nat_le m k) (range_with_len (a + 1) n))) (upto k (a + 1) n)
+
+all_pass : {X : Type 0} (xs : List X) → length (filter (λ x. true) xs) ≡ length xs
+all_pass [] = refl
+all_pass (x ∷ xs) = ap suc (all_pass xs)
+
+-- ---- lines
+
+pub line_counted : (layout : Layout) (n k : ℕ) → 1 ≤ k → k ≤ n → length (cells_of_line layout n k) ≡ line_len_of layout n k
+unfolding cells_of_line nodes_to
+line_counted FullMatrix n k low high =
+    length-filter-map (is_listed FullMatrix) (λ j. (k, j)) (range_with_len 1 n) ∙ all_pass (range_with_len 1 n) ∙ length-range_with_len 1 n
+line_counted UpperRow n k low high =
+    length-filter-map (is_listed UpperRow) (λ j. (k, j)) (range_with_len 1 n) ∙ above (suc k) 1 n ∙ omega arith
+line_counted LowerRow n k low high =
+    length-filter-map (is_listed LowerRow) (λ j. (k, j)) (range_with_len 1 n) ∙ below k 1 n ∙ omega arith
+line_counted UpperDiagRow n k low high =
+    length-filter-map (is_listed UpperDiagRow) (λ j. (k, j)) (range_with_len 1 n) ∙ above k 1 n ∙ omega arith
+line_counted LowerDiagRow n k low high =
+    length-filter-map (is_listed LowerDiagRow) (λ j. (k, j)) (range_with_len 1 n) ∙ upto k 1 n ∙ omega arith
+line_counted UpperCol n k low high =
+    length-filter-map (is_listed UpperCol) (λ i. (i, k)) (range_with_len 1 n) ∙ below k 1 n ∙ omega arith
+line_counted LowerCol n k low high =
+    length-filter-map (is_listed LowerCol) (λ i. (i, k)) (range_with_len 1 n) ∙ above (suc k) 1 n ∙ omega arith
+line_counted UpperDiagCol n k low high =
+    length-filter-map (is_listed UpperDiagCol) (λ i. (i, k)) (range_with_len 1 n) ∙ upto k 1 n ∙ omega arith
+line_counted LowerDiagCol n k low high =
+    length-filter-map (is_listed LowerDiagCol) (λ i. (i, k)) (range_with_len 1 n) ∙ above k 1 n ∙ omega arith
+
+-- ---- sums over a run of numbers
+
+sum_alike : (f g : ℕ → ℕ) (a m : ℕ) → ((k : ℕ) → a ≤ k → k < a + m → f k ≡ g k)
+    → sum_by f (range_with_len a m) ≡ sum_by g (range_with_len a m)
+sum_alike f g a zero same = refl
+sum_alike f g a (suc m) same =
+    let first : f a ≡ g a = same a (omega arith) (omega arith) in
+    let rest : sum_by f (range_with_len (a + 1) m) ≡ sum_by g (range_with_len (a + 1) m) = sum_alike f g (a + 1) m (λ k low high. same k (omega arith) (omega arith)) in
+    omega (arith, sum_by-cons f a (range_with_len (a + 1) m), sum_by-cons g a (range_with_len (a + 1) m))
+
+sum_level : (n a m : ℕ) → sum_by (λ k. n) (range_with_len a m) ≡ m * n
+sum_level n a zero = omega arith
+sum_level n a (suc m) = let rest = sum_level n (a + 1) m in omega (arith, rest, sum_by-cons (λ k. n) a (range_with_len (a + 1) m))
+
+-- n - a, .., 1, 0
+sum_down : (n a m : ℕ) → a + m ≡ n + 1 → 2 * sum_by (λ k. n - k) (range_with_len a m) + m ≡ m * m
+sum_down n a zero e = omega arith
+sum_down n a (suc m) e =
+    let rest = sum_down n (a + 1) m (omega arith) in
+    let first : n - a ≡ m = omega arith in
+    omega (arith, rest, first, sum_by-cons (λ k. n - k) a (range_with_len (a + 1) m))
+
+-- n - a + 1, .., 2, 1
+sum_down_to_one : (n a m : ℕ) → a + m ≡ n + 1 → 2 * sum_by (λ k. n - k + 1) (range_with_len a m) ≡ m * m + m
+sum_down_to_one n a zero e = omega arith
+sum_down_to_one n a (suc m) e =
+    let rest = sum_down_to_one n (a + 1) m (omega arith) in
+    let first : n - a + 1 ≡ suc m = omega arith in
+    omega (arith, rest, first, sum_by-cons (λ k. n - k + 1) a (range_with_len (a + 1) m))
+
+-- a - 1, a, ..
+sum_up : (a m : ℕ) → 1 ≤ a → 2 * sum_by (λ k. k - 1) (range_with_len a m) + 3 * m ≡ m * (2 * a + m)
+sum_up a zero low = omega arith
+sum_up a (suc m) low =
+    let rest = sum_up (a + 1) m (omega arith) in
+    let first : a - 1 + 1 ≡ a = omega arith in
+    omega (arith, rest, first, sum_by-cons (λ k. k - 1) a (range_with_len (a + 1) m))
+
+-- a, a + 1, ..
+sum_up_from : (a m : ℕ) → 2 * sum_by (λ k. k) (range_with_len a m) + m ≡ m * (2 * a + m)
+sum_up_from a zero = omega arith
+sum_up_from a (suc m) = let rest = sum_up_from (a + 1) m in omega (arith, rest, sum_by-cons (λ k. k) a (range_with_len (a + 1) m))
+
+half_without : (n sum : ℕ) → 2 * sum + n ≡ n * n → sum ≡ n * (n - 1) / 2
+half_without n sum e = by_cases n e
+  where
+    by_cases : (n : ℕ) → 2 * sum + n ≡ n * n → sum ≡ n * (n - 1) / 2
+    by_cases zero e = omega arith
+    by_cases (suc m) e = let less : suc m - 1 ≡ m = omega arith in rw less (omega arith)
+
+half_with : (n sum : ℕ) → 2 * sum ≡ n * n + n → sum ≡ n * (n + 1) / 2
+half_with n sum e = omega arith
+
+-- ---- all cells
+
+-- the numbers of cells of all lines sum to that of the layout
+total : (layout : Layout) (n : ℕ) → sum_by (line_len_of layout n) (range_with_len 1 n) ≡ cell_count_of layout n
+total FullMatrix n = sum_level n 1 n
+total UpperRow n = half_without n _ (sum_down n 1 n (omega arith))
+total LowerRow n = half_without n _ (let all = sum_up 1 n (omega arith) in omega (arith, all))
+total UpperDiagRow n = half_with n _ (sum_down_to_one n 1 n (omega arith))
+total LowerDiagRow n = half_with n _ (let all = sum_up_from 1 n in omega (arith, all))
+total UpperCol n = half_without n _ (let all = sum_up 1 n (omega arith) in omega (arith, all))
+total LowerCol n = half_without n _ (sum_down n 1 n (omega arith))
+total UpperDiagCol n = half_with n _ (let all = sum_up_from 1 n in omega (arith, all))
+total LowerDiagCol n = half_with n _ (sum_down_to_one n 1 n (omega arith))
+
+pub cells_counted : (layout : Layout) (n : ℕ) → length (cells layout n) ≡ cell_count_of layout n
+unfolding nodes_to
+cells_counted layout n = ap length (cells-lines layout n)
+    ∙ length-flat_map (cells_of_line layout n) (range_with_len 1 n)
+    ∙ sum_alike (λ k. length (cells_of_line layout n k)) (line_len_of layout n) 1 n (λ k low high. line_counted layout n k low (omega arith))
+    ∙ total layout n
+
+-- ---- the value with a word, found in the list of all values
+
+passes_at : {X : Type 0} (b : Bool) (test : X → Bool) (x found : X) (rest : Option X) → test x ≡ b
+    → (rest ≡ Some found → test found ≡ true) → cond b (Some x) rest ≡ Some found → test found ≡ true
+passes_at true test x found rest e later h = let same : x ≡ found = cc in subst (λ y. test y ≡ true) same e
+passes_at false test x found rest e later h = later h
+
+-- the value that is found passes the test
+pub found_passes : {X : Type 0} (test : X → Bool) (xs : List X) (found : X) → find test xs ≡ Some found → test found ≡ true
+found_passes test [] found h = absurd cc
+found_passes test (x ∷ xs) found h = passes_at (test x) test x found (find test xs) refl (found_passes test xs found) h
+
+-- Where each value is found by its own word, the one that is found is the one with the word.
+pub found_is_known : {V : Type 0} (text : V → List ℕ) (values : List V)
+    → ((value : V) → find (λ other. bytes_eq (text value) (text other)) values ≡ Some value)
+    → (word : List ℕ) (found : Option V) → found ≡ find (λ value. bytes_eq word (text value)) values → (value : V)
+    → (found ≡ Some value) ↔ (word ≡ text value)
+found_is_known text values each word found e value = (
+  λ h. (bytes_eq-Decides word (text value)).0 (found_passes (λ v. bytes_eq word (text v)) values value (sym e ∙ h)),
+  λ same. e ∙ subst (λ w. find (λ v. bytes_eq w (text v)) values ≡ Some value) (sym same) (each value),
+)
+
+none_has : {V : Type 0} (text : V → List ℕ) (word : List ℕ) (found : Option V)
+    → ((value : V) → (found ≡ Some value) ↔ (word ≡ text value)) → IsNone found ↔ ((value : V) → word ≢ text value)
+none_has text word None known = ((λ none value same. let h = (known value).1 same in absurd cc), λ h. refl)
+none_has text word (Some v) known = ((λ h. absurd cc), (λ h. absurd (h v ((known v).0 refl))))
+
+-- and none is found where no value has it
+pub none_is_unknown : {V : Type 0} (text : V → List ℕ) (values : List V)
+    → ((value : V) → find (λ other. bytes_eq (text value) (text other)) values ≡ Some value)
+    → (word : List ℕ) (found : Option V) → found ≡ find (λ value. bytes_eq word (text value)) values
+    → IsNone found ↔ ((value : V) → word ≢ text value)
+none_is_unknown text values each word found e = none_has text word found (found_is_known text values each word found e)

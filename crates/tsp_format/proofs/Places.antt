@@ -11,12 +11,9 @@ use Rattle.std.proofs.lemmas.List.Quantifiers.{position-Some}
 use Rattle.std.proofs.lemmas.List.Sums.{position_or_len_is, passes_at_first}
 use Rattle.tsp_format.specs.declared.layout.Layout.{Layout}
 use Rattle.tsp_format.specs.declared.layout.Layout.TheVariants.{FullMatrix, UpperRow, LowerRow, UpperDiagRow, LowerDiagRow, UpperCol, LowerCol, UpperDiagCol, LowerDiagCol}
-use Rattle.tsp_format.specs.Nodes.{nodes_to, IsNode}
-use Rattle.tsp_format.specs.Cells.{is_listed, cells, cells_of_line, line_len_of}
+use Rattle.tsp_format.specs.Nodes.{nodes_to, IsNode, is_listed, cells, cells_of_line, line_len_of}
 use Rattle.tsp_format.specs.Place.{is_same_cell, place_of, place_by_table}
-use Rattle.tsp_format.proofs.Lines.{cells-lines}
-use Rattle.tsp_format.proofs.Counts.{line_counted}
-use Rattle.tsp_format.proofs.Pairs.{cells_differ}
+use Rattle.tsp_format.proofs.Pairs.{cells-lines, line_counted, cells_differ}
 
 -- ---- the numbers of a run that pass a test are a run
 

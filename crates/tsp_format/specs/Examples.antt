@@ -5,8 +5,8 @@ use Rattle.tsp_format.specs.declared.keyword.Field.{Field}
 use Rattle.tsp_format.specs.declared.keyword.Field.TheVariants.{OtherKey}
 use Rattle.tsp_format.specs.declared.keyword.Keyword.TheVariants.{Known}
 use Rattle.tsp_format.specs.declared.layout.Layout.{Layout}
-use Rattle.tsp_format.specs.Cells.{cells}
-use Rattle.tsp_format.specs.Keywords.{keyword_of}
+use Rattle.tsp_format.specs.Nodes.{cells}
+use Rattle.tsp_format.specs.Limits.{keyword_of}
 use Rattle.tsp_format.specs.Words.{field_word, fields_in_order}
 
 -- the field is at this place of the canonical order, counted from 1, and has this word, which as a keyword is its own

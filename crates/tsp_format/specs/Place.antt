@@ -4,7 +4,7 @@ use Rattle.std.specs.Prelude.{ℕ, ◌+◌, ◌-◌, ◌*◌, ◌/◌, Bool, ◌
 use Rattle.std.specs.List.{position}
 use Rattle.tsp_format.specs.declared.layout.Layout.{Layout}
 use Rattle.tsp_format.specs.declared.layout.Layout.TheVariants.{FullMatrix, UpperRow, LowerRow, UpperDiagRow, LowerDiagRow, UpperCol, LowerCol, UpperDiagCol, LowerDiagCol}
-use Rattle.tsp_format.specs.Cells.{cells}
+use Rattle.tsp_format.specs.Nodes.{cells}
 
 -- whether a cell is this pair
 abbrev pub is_same_cell : ℕ × ℕ → ℕ × ℕ → Bool

@@ -1,7 +1,12 @@
--- The steps of a tree of cases, as BRANCH_SECTION lists them. For `TreeStep` (src/steps.rt), and for the trees of
--- tsp_cases and tsp_routing. They are this project's own: a branch divides the first open case by a pair of nodes, or
--- by how often a family of sets is crossed, and a leaf closes it by numbers. Nine crates above import this file too.
-use Rattle.std.specs.Prelude.{ℕ, zero, suc, ◌+◌, Bool, true, false, List, [], ◌∷◌, length, ℤ}
+-- A range of whole numbers. For Valid.antt of tsp_file, for Bounds.antt of tsp_theory, and for the sums of
+-- tsp_routing.
+use Rattle.std.specs.Prelude.{ℤ, ◌≤ℤ◌, ℕ, zero, suc, ◌+◌, Bool, true, false, List, [], ◌∷◌, length}
+
+-- z is from `least` to `most`
+abbrev pub IsFromTo : ℤ → ℤ → ℤ → Type 0
+IsFromTo least most z = (least ≤ℤ z) × (z ≤ℤ most)
+
+-- ---- the steps of a tree of cases, as BRANCH_SECTION lists them
 
 pub data Step : Type 0 where
   -- a pair of nodes; or the index of a family, which comes after those of the nodes, and half of a number of crossings

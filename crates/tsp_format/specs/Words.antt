@@ -1,24 +1,97 @@
--- The words of TSPLIB 95 (G. Reinelt) and of this project's own keywords, and the lists of all values that have a word.
--- For `Field` (src/keyword.rt), the enums of src/kinds.rt, and `Layout` (src/layout.rt). Eight crates above import it
+-- Which bytes are blanks, letters, and bytes of a keyword, by this project's profile of TSPLIB 95. For src/bytes.rt,
+-- and for how a text is cut into lines and words (Items.antt and Items.antt of tsp_text). Five crates above import it
 -- too.
-use Rattle.std.specs.Prelude.{◌≡◌, ℕ, List, [], ◌∷◌, Some, refl, codes}
 use Rattle.std.specs.List.{find}
+use Rattle.std.specs.Option.{option_map_or}
+use Rattle.std.specs.Prelude.{ℕ, Bool, not, ◌&&◌, ◌||◌, ◌==◌, nat_le, List, codes, true, false, Option, ◌≡◌, ◌≢◌, ◌<◌, ◌⊎◌, None, Some, ℤ, [], ◌∷◌, refl}
 use Rattle.std.specs.Str.{bytes_eq}
-use Rattle.tsp_format.specs.declared.kinds.Kind.{Kind}
-use Rattle.tsp_format.specs.declared.kinds.Kind.TheVariants as kind
-use Rattle.tsp_format.specs.declared.kinds.WeightKind.{WeightKind}
-use Rattle.tsp_format.specs.declared.kinds.WeightKind.TheVariants as weight_kind
-use Rattle.tsp_format.specs.declared.kinds.WeightFormat.{WeightFormat}
-use Rattle.tsp_format.specs.declared.kinds.WeightFormat.TheVariants as format
+use Rattle.tsp_format.specs.Nodes.{IsNode}
+use Rattle.tsp_format.specs.declared.keyword.Field.{Field}
+use Rattle.tsp_format.specs.declared.keyword.Field.TheVariants as field
 use Rattle.tsp_format.specs.declared.kinds.CoordKind.{CoordKind}
+use Rattle.tsp_format.specs.declared.kinds.CoordKind.TheVariants.{ThreeD}
 use Rattle.tsp_format.specs.declared.kinds.CoordKind.TheVariants as coord_kind
 use Rattle.tsp_format.specs.declared.kinds.DisplayKind.{DisplayKind}
 use Rattle.tsp_format.specs.declared.kinds.DisplayKind.TheVariants as display_kind
+use Rattle.tsp_format.specs.declared.kinds.Kind.{Kind}
+use Rattle.tsp_format.specs.declared.kinds.Kind.TheVariants as kind
+use Rattle.tsp_format.specs.declared.kinds.WeightFormat.{WeightFormat}
+use Rattle.tsp_format.specs.declared.kinds.WeightFormat.TheVariants as format
+use Rattle.tsp_format.specs.declared.kinds.WeightKind.{WeightKind}
+use Rattle.tsp_format.specs.declared.kinds.WeightKind.TheVariants.{Euc3d, Man3d, Max3d}
+use Rattle.tsp_format.specs.declared.kinds.WeightKind.TheVariants as weight_kind
 use Rattle.tsp_format.specs.declared.layout.Layout.{Layout}
+use Rattle.tsp_format.specs.declared.layout.Layout.TheVariants.{FullMatrix, UpperRow, LowerRow, UpperDiagRow, LowerDiagRow, UpperCol, LowerCol, UpperDiagCol, LowerDiagCol}
 use Rattle.tsp_format.specs.declared.layout.Layout.TheVariants as layout
-use Rattle.tsp_format.specs.declared.keyword.Field.{Field}
-use Rattle.tsp_format.specs.declared.keyword.Field.TheVariants as field
-use Rattle.tsp_format.specs.Layout.{layout_word}
+
+-- the blanks: bytes 9, 11, 12, 13 and 32
+abbrev pub is_blank : ℕ → Bool
+is_blank b = (b == 9) || (b == 11) || (b == 12) || (b == 13) || (b == 32)
+
+-- the bytes of the letters A to Z and a to z
+abbrev pub is_letter : ℕ → Bool
+is_letter b = (nat_le 65 b && nat_le b 90) || (nat_le 97 b && nat_le b 122)
+
+-- a byte that a keyword can have: no blank, no byte 10 and no colon
+abbrev pub is_keyword_byte : ℕ → Bool
+is_keyword_byte b = not (is_blank b || (b == 10) || (b == 58))
+
+-- ---- the word of each layout of a matrix of weights
+
+-- the word of a layout, as bytes
+abbrev pub layout_word : Layout → List ℕ
+layout_word FullMatrix = codes "FULL_MATRIX"
+layout_word UpperRow = codes "UPPER_ROW"
+layout_word LowerRow = codes "LOWER_ROW"
+layout_word UpperDiagRow = codes "UPPER_DIAG_ROW"
+layout_word LowerDiagRow = codes "LOWER_DIAG_ROW"
+layout_word UpperCol = codes "UPPER_COL"
+layout_word LowerCol = codes "LOWER_COL"
+layout_word UpperDiagCol = codes "UPPER_DIAG_COL"
+layout_word LowerDiagCol = codes "LOWER_DIAG_COL"
+
+-- ---- when a file is spatial, which is that its nodes have three coordinates
+
+-- the weight type is a distance in space
+abbrev pub weighs_three : WeightKind → Bool
+weighs_three Euc3d = true
+weighs_three Man3d = true
+weighs_three Max3d = true
+weighs_three other = false
+
+-- NODE_COORD_TYPE says three coordinates
+abbrev pub has_three : CoordKind → Bool
+has_three ThreeD = true
+has_three other = false
+
+-- a file is spatial by NODE_COORD_TYPE or by its weight type
+abbrev pub is_spatial : Option CoordKind → Option WeightKind → Bool
+is_spatial coords weights = option_map_or has_three coords false || option_map_or weighs_three weights false
+
+-- ---- symmetric costs between nodes, and the first pair of nodes whose costs differ
+
+-- the costs between two different nodes are the same in both directions
+abbrev pub IsSymmetric : (ℕ → ℕ → ℤ) → Type 0
+IsSymmetric cost = (i j : ℕ) → i ≢ j → cost i j ≡ cost j i
+
+-- the pair (a, b) comes before (i, j), by rows
+abbrev pub IsBefore : ℕ × ℕ → ℕ × ℕ → Type 0
+IsBefore (a, b) (i, j) = (a < i) ⊎ ((a ≡ i) × (b < j))
+
+-- the first pair of nodes of 1..n, the smaller one first, by rows, whose two costs differ
+pub record IsFirstAsymmetric (n : ℕ) (cost : ℕ → ℕ → ℤ) (pair : ℕ × ℕ) : Type 0 where
+  pub row : IsNode n pair.0
+  pub column : IsNode n pair.1
+  pub upper : pair.0 < pair.1
+  pub differ : cost pair.0 pair.1 ≢ cost pair.1 pair.0
+  pub first : (a b : ℕ) → IsNode n a → IsNode n b → a < b → IsBefore (a, b) pair → cost a b ≡ cost b a
+
+-- the first pair whose costs differ, or none where costs are symmetric
+abbrev pub FindsAsymmetric : ℕ → (ℕ → ℕ → ℤ) → Option (ℕ × ℕ) → Type 0
+FindsAsymmetric n cost None = IsSymmetric cost
+FindsAsymmetric n cost (Some pair) = IsFirstAsymmetric n cost pair
+
+-- ---- the words of TSPLIB 95 (G
 
 -- ---- words
 

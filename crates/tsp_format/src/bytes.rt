@@ -2,7 +2,7 @@
 //! word cutter of tsp_read, and the values that tsp_file judges.
 
 ghost use Rattle.std.specs.Prelude.{◌≡◌};
-ghost use Rattle.tsp_format.specs.Bytes.{is_blank, is_letter, is_keyword_byte};
+ghost use Rattle.tsp_format.specs.Words.{is_blank, is_letter, is_keyword_byte};
 
 /// Whether a byte is a blank: 9, 11, 12, 13 or 32.
 pub fn is_blank(byte: u8) -> bool

@@ -12,14 +12,9 @@ ghost use Rattle.tsp_format.specs.declared.kinds.WeightFormat.TheVariants as for
 ghost use Rattle.tsp_format.specs.declared.kinds.CoordKind.TheVariants as coord_kinds;
 ghost use Rattle.tsp_format.specs.declared.kinds.DisplayKind.TheVariants as display_kinds;
 ghost use Rattle.tsp_format.specs.declared.layout.Layout.TheVariants as layouts;
-ghost use Rattle.tsp_format.specs.Bytes.{is_blank, is_letter, is_keyword_byte};
-ghost use Rattle.tsp_format.specs.Symmetry.{IsFirstAsymmetric};
-ghost use Rattle.tsp_format.specs.Keywords.{keyword_of};
-ghost use Rattle.tsp_format.specs.Layout.{layout_word};
+ghost use Rattle.tsp_format.specs.Words.{is_blank, is_letter, is_keyword_byte, IsFirstAsymmetric, layout_word, is_spatial, field_word, kind_word, weight_kind_word, weight_format_word, coord_kind_word, display_kind_word, fields_in_order};
+ghost use Rattle.tsp_format.specs.Limits.{keyword_of, shape_of, value_shape_of};
 ghost use Rattle.tsp_format.specs.Limits as limits;
-ghost use Rattle.tsp_format.specs.Shapes.{shape_of, value_shape_of};
-ghost use Rattle.tsp_format.specs.Space.{is_spatial};
-ghost use Rattle.tsp_format.specs.Words.{field_word, kind_word, weight_kind_word, weight_format_word, coord_kind_word, display_kind_word, fields_in_order};
 ghost use Rattle.tsp_format.specs.Examples.{StandsAt, CellsAre, by_rows};
 
 /// The fields in canonical order, and their words.
@@ -122,7 +117,7 @@ pub fn examples_of_words()
 {}
 
 /// Which pairs the layouts list, in which order, and the first pair whose costs differ.
-#[tactic(auto, unfolding(crate::specs::Cells::cells, crate::specs::Nodes::nodes_to))]
+#[tactic(auto, unfolding(crate::specs::Nodes::cells, crate::specs::Nodes::nodes_to))]
 pub fn examples_of_cells()
     ensures full { CellsAre layouts.FullMatrix 2 (11 ∷ 12 ∷ 21 ∷ 22 ∷ []) }
     ensures upper_row { CellsAre layouts.UpperRow 4 (12 ∷ 13 ∷ 14 ∷ 23 ∷ 24 ∷ 34 ∷ []) }

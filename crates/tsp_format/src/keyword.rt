@@ -3,9 +3,7 @@
 
 ghost use Rattle.std.specs.List.{find};
 ghost use Rattle.std.specs.Prelude.{◌≡◌, pos};
-ghost use Rattle.tsp_format.specs.Keywords.{keyword_of, field_of, known_or_not};
-ghost use Rattle.tsp_format.specs.Limits.{most_nodes, most_matrix_nodes, most_coordinate, most_weight, most_demand, most_capacity, most_scale, most_load_unit, most_potential, most_word_bytes, most_line_bytes, most_kept_bytes, most_comments, most_others, most_depots, most_fixed, most_triples, most_multiplier, most_tour_nodes, most_combs, most_comb_nodes, most_branches, most_changes, most_difference, most_file_bytes};
-ghost use Rattle.tsp_format.specs.Shapes.{shape_of, value_shape_of};
+ghost use Rattle.tsp_format.specs.Limits.{keyword_of, field_of, known_or_not, most_nodes, most_matrix_nodes, most_coordinate, most_weight, most_demand, most_capacity, most_scale, most_load_unit, most_potential, most_word_bytes, most_line_bytes, most_kept_bytes, most_comments, most_others, most_depots, most_fixed, most_triples, most_multiplier, most_tour_nodes, most_combs, most_comb_nodes, most_branches, most_changes, most_difference, most_file_bytes, shape_of, value_shape_of};
 ghost use Rattle.tsp_format.specs.Words.{field_word, fields_in_order, field_found};
 ghost use Rattle.tsp_format.specs.declared.keyword.TheConstants.{MOST_NODES, MOST_MATRIX_NODES, MOST_COORDINATE, MOST_WEIGHT, MOST_DEMAND, MOST_CAPACITY, MOST_SCALE, MOST_LOAD_UNIT, MOST_POTENTIAL, MOST_WORD_BYTES, MOST_LINE_BYTES, MOST_KEPT_BYTES, MOST_COMMENTS, MOST_OTHERS, MOST_DEPOTS, MOST_FIXED, MOST_MULTIPLIERS, MOST_MULTIPLIER, MOST_TOUR_NODES, MOST_COMBS, MOST_COMB_NODES, MOST_BRANCHES, MOST_CHANGES, MOST_DIFFERENCE, MOST_FILE_BYTES};
 

@@ -2,9 +2,7 @@
 //! DISPLAY_DATA_TYPE, as enums. For the fields of `Draft` in tsp_file.
 
 ghost use Rattle.std.specs.Prelude.{◌≡◌};
-ghost use Rattle.tsp_format.specs.Space.{weighs_three, is_spatial};
-ghost use Rattle.tsp_format.specs.Words.{kind_word, weight_kind_word, weight_format_word, coord_kind_word, display_kind_word};
-ghost use Rattle.tsp_format.specs.Words.{kinds, weight_kinds, weight_formats, coord_kinds, display_kinds, kind_found, weight_kind_found, weight_format_found, coord_kind_found, display_kind_found};
+ghost use Rattle.tsp_format.specs.Words.{weighs_three, is_spatial, kind_word, weight_kind_word, weight_format_word, coord_kind_word, display_kind_word, kinds, weight_kinds, weight_formats, coord_kinds, display_kinds, kind_found, weight_kind_found, weight_format_found, coord_kind_found, display_kind_found};
 
 use crate::layout::Layout;
 use crate::word::Word;

@@ -4,11 +4,8 @@
 ghost use Rattle.std.specs.Prelude.{◌≡◌, ◌≢◌, ℕ, ◌≤◌, ◌↔◌, IsTrue, IsNone, length};
 ghost use Rattle.std.specs.List.{Contains, AllPairs, flat_map};
 ghost use Rattle.tsp_format.specs.declared.layout.Layout.{Layout};
-ghost use Rattle.tsp_format.specs.Layout.{layout_word};
-ghost use Rattle.tsp_format.specs.Words.{layouts, layout_found};
-ghost use Rattle.tsp_format.specs.Nodes.{nodes_to, IsNode};
-ghost use Rattle.tsp_format.specs.Cells.{is_listed, goes_by_columns, cells};
-ghost use Rattle.tsp_format.specs.Cells.{cells_of_line, cell_count_of, line_len_of};
+ghost use Rattle.tsp_format.specs.Words.{layout_word, layouts, layout_found};
+ghost use Rattle.tsp_format.specs.Nodes.{nodes_to, IsNode, is_listed, goes_by_columns, cells, cells_of_line, cell_count_of, line_len_of};
 
 use crate::word::{Word, value_of};
 
@@ -63,7 +60,7 @@ impl Layout {
     }
 
     /// The number of cells in a matrix over this many nodes.
-    #[tactic(auto, using(crate::proofs::Counts::cells_counted))]
+    #[tactic(auto, using(crate::proofs::Pairs::cells_counted))]
     pub fn cell_count(self, nodes: u32) -> u64
         ensures count { result ≡ length (cells self nodes) }
         ensures table { result ≡ cell_count_of self nodes }
@@ -82,7 +79,7 @@ impl Layout {
     }
 
     /// The number of cells in one row, or in one column for a layout by columns.
-    #[tactic(auto, using(crate::proofs::Counts::line_counted))]
+    #[tactic(auto, using(crate::proofs::Pairs::line_counted))]
     pub fn line_len(self, nodes: u32, line: u32) -> u32
         requires from_one { 1 ≤ line }
         requires to_nodes { line ≤ nodes }

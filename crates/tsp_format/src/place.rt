@@ -4,8 +4,7 @@
 ghost use Rattle.std.specs.Prelude.{◌≡◌, ◌<◌, ◌≤◌, ◌^◌, ◌+◌, ◌*◌, Some, None, ℕ, IsTrue, length, slice_index_or};
 ghost use Rattle.std.specs.List.{Contains};
 ghost use Rattle.tsp_format.specs.declared.layout.Layout.{Layout};
-ghost use Rattle.tsp_format.specs.Nodes.{IsNode};
-ghost use Rattle.tsp_format.specs.Cells.{is_listed, cells, cells_of_line, line_len_of};
+ghost use Rattle.tsp_format.specs.Nodes.{IsNode, is_listed, cells, cells_of_line, line_len_of};
 ghost use Rattle.tsp_format.specs.Place.{place_of, place_by_table, upper_place, lower_place, upper_diag_place, lower_diag_place};
 
 use crate::layout::Layout;

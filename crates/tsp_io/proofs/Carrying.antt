@@ -1,15 +1,16 @@
 -- A text that is written part by part: each part is in the buffer or with the writer, until the writer fails.
 -- tsp_report and tsp_file import it too. For `put` in src/piece.rt and others.
-use Rattle.std.proofs.Common.{◌≡◌, ℕ, ◌+◌, Bool, true, false, List, [], ◌∷◌, ◌++◌, length, take, drop, Option, refl, sym, ap, subst, ◌∙◌, append_assoc, append-nil, arith, ◌<◌, ◌≤◌, get_or, map}
-use Rattle.std.specs.Io.KnownBytes.{Appends}
-use Rattle.std.proofs.lemmas.List.{take-append-drop, take_all, take_more, get_or_default}
-use Rattle.std.proofs.Math.Seq.{take-append_seam}
-use Rattle.std.proofs.lemmas.Grind.{flat_map-append}
-use Rattle.std.proofs.lemmas.List.FromFn.{length-enumerate_from, get_or-enumerate_from}
-use Rattle.std.specs.List.{flat_map, enumerate_from}
-use Rattle.tsp_io.specs.Sink.{HasWritten, HasStopped, Sink}
-use Rattle.tsp_io.specs.states.WriteProgress.{Way, Carries, Carried}
+use Rattle.std.proofs.Common.{◌≡◌, ℕ, ◌+◌, Bool, true, false, List, [], ◌∷◌, ◌++◌, length, take, drop, Option, refl, sym, ap, subst, ◌∙◌, append_assoc, append-nil, arith, ◌<◌, ◌≤◌, get_or, map, ◌==◌}
 use Rattle.std.proofs.KnownBytes.{Appends-nil, Appends-trans, Appends-kept}
+use Rattle.std.proofs.Math.Seq.{take-append_seam}
+use Rattle.std.proofs.lemmas.Bool.Decides.{nat_tests}
+use Rattle.std.proofs.lemmas.Grind.{flat_map-append}
+use Rattle.std.proofs.lemmas.List.{take-append-drop, take_all, take_more, get_or_default}
+use Rattle.std.proofs.lemmas.List.FromFn.{length-enumerate_from, get_or-enumerate_from}
+use Rattle.std.specs.Io.KnownBytes.{Appends}
+use Rattle.std.specs.List.{flat_map, enumerate_from}
+use Rattle.tsp_io.specs.Streams.{HasWritten, HasStopped, Sink}
+use Rattle.tsp_io.specs.states.Watched.{Way, Carries, Carried}
 
 -- the sink between two states
 abbrev pub between : Way → Way → Sink
@@ -159,3 +160,36 @@ text_written a b text empty sound h left failed =
     let done : Carries a.held b text = h a.held [] (begun a empty) in
     let whole : done.front ≡ text = sym (append-nil done.front) ∙ ap (λ (t : List ℕ). done.front ++ t) (sym (done.waits failed ∙ left)) ∙ done.parts in
     (sound, failed, subst (λ t. Appends a.held b.held t) whole done.written)
+
+-- ---- what a writer holds after one part and the next
+
+-- A prefix of the text has come to the writer, and the rest is left.
+pub record Sent (start held : Option (List ℕ)) (text rest : List ℕ) : Type 0 where
+  pub front : List ℕ
+  pub parts : front ++ rest ≡ text
+  pub written : Appends start held front
+
+-- the next part of the rest
+pub sent_more : (a b c : Option (List ℕ)) (text rest left : List ℕ) (n : ℕ) → Sent a b text rest → Appends b c (take n rest)
+    → left ≡ drop n rest → Sent a c text left
+sent_more a b c text rest left n h k e = record {
+  front = h.front ++ take n rest;
+  parts = append_assoc h.front (take n rest) left ∙ ap (λ t. h.front ++ t) (ap (λ t. take n rest ++ t) e ∙ take-append-drop n rest) ∙ h.parts;
+  written = Appends-trans a b c h.front (take n rest) h.written k;
+}
+
+-- the bytes sent are a prefix of the text
+pub sent_front : (a b : Option (List ℕ)) (text rest : List ℕ) → Sent a b text rest → (count : ℕ) × Appends a b (take count text)
+sent_front a b text rest h =
+    let front : take (length h.front) text ≡ h.front = ap (λ (t : List ℕ). take (length h.front) t) (sym h.parts) ∙ take-append_seam h.front rest in
+    (length h.front, subst (λ t. Appends a b t) (sym front) h.written)
+
+-- nothing of the rest is left: the text was sent
+pub sent_all : (a b : Option (List ℕ)) (text rest : List ℕ) → (length rest == 0) ≡ true → Sent a b text rest → Appends a b text
+sent_all a b text [] empty h = subst (λ t. Appends a b t) (sym (append-nil h.front) ∙ h.parts) h.written
+sent_all a b text (x ∷ rest) empty h = absurd (grind (arith, nat_tests))
+
+-- something of the rest is left
+pub some_left : (rest : List ℕ) → (length rest == 0) ≡ false → 0 < length rest
+some_left [] full = absurd (cc)
+some_left (x ∷ rest) full = omega arith

@@ -1,3 +1,2 @@
 -- The files of lemmas of this crate. Crates above may import them.
 pub mod Carrying
-pub mod Sinks

@@ -1,5 +1,3 @@
 -- The files of definitions of this crate. Crates above may import them.
 pub mod states
-pub mod WriteFaultText
-pub mod Sink
-pub mod Turn
+pub mod Streams

@@ -4,7 +4,7 @@
 ghost use Rattle.std.specs.Prelude.{◌≡◌, true, false, [], ◌∷◌, Ok, Err, codes};
 ghost use Rattle.std.specs.declared.io.Error.{Error};
 ghost use Rattle.tsp_io.specs.declared.piece.WriteFault.TheVariants as faults;
-ghost use Rattle.tsp_io.specs.WriteFaultText.{write_fault_text};
+ghost use Rattle.tsp_io.specs.Streams.{write_fault_text};
 ghost use Rattle.tsp_io.specs.states.Watched.{write_fails};
 
 /// Which writes fail: those that return an error, also of an empty text, and those that take no

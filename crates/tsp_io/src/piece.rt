@@ -7,13 +7,12 @@
 ghost use Rattle.std.specs.Io.KnownBytes.{Appends};
 ghost use Rattle.std.specs.Prelude.{◌≡◌, [], ◌∷◌, ◌≤◌, ◌<◌, Result, ℕ, true, false, length, take};
 ghost use Rattle.std.specs.declared.io.Error.{Error};
-ghost use Rattle.tsp_io.specs.Sink.{HasWritten, HasStopped, Writes};
-ghost use Rattle.tsp_io.specs.states.Watched.{watched, has_failed, error_of, KeepsError, sink_of};
-ghost use Rattle.tsp_io.specs.states.WriteProgress.{Puts};
+ghost use Rattle.tsp_io.specs.Streams.{HasWritten, HasStopped, Writes};
+ghost use Rattle.tsp_io.specs.states.Watched.{watched, has_failed, error_of, KeepsError, sink_of, Puts};
 
+use arrayvec::ArrayVec;
 use crate::asked::Takes;
 use crate::watched::Watched;
-use arrayvec::ArrayVec;
 use itoa::{Buffer, Integer};
 use std::fmt;
 use std::io::{self, ErrorKind, Write};
@@ -81,7 +80,7 @@ pub enum WriteFault {
 
 impl fmt::Display for WriteFault {
     ghost use Rattle.std.specs.Prelude.{Some};
-    ghost use Rattle.tsp_io.specs.WriteFaultText.{write_fault_text};
+    ghost use Rattle.tsp_io.specs.Streams.{write_fault_text};
 
     ghost output = { λ fault. Some (write_fault_text fault) };
 

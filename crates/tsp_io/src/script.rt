@@ -3,8 +3,7 @@
 //! is.
 
 ghost use Rattle.std.specs.Prelude.{◌≡◌, is_err, ◌||◌};
-ghost use Rattle.tsp_io.specs.states.Watched.{watched, has_failed};
-ghost use Rattle.tsp_io.specs.states.Script.{answers_of, AnswersNext};
+ghost use Rattle.tsp_io.specs.states.Watched.{watched, has_failed, answers_of, AnswersNext};
 
 use crate::watched::Watched;
 use std::io;

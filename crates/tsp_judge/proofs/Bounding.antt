@@ -1,33 +1,36 @@
 -- How a run that bounds the solutions of an instance ends: at a file with a fault, with a reason, or with a bound. For
 -- `bound_read` and `run_bound` in src/bound.rt.
-use Rattle.std.specs.Prelude.{IsTrue, ℤ}
-use Rattle.std.proofs.Common.{◌≡◌, ◌∙◌, length, Some, sym, Bool, true, false, Result, Ok, Err, refl, subst, inl, inr}
+use Rattle.std.proofs.Common.{◌≡◌, ◌∙◌, length, Some, sym, Bool, true, false, Result, Ok, Err, refl, subst, inl, inr, Option, None, ℕ, List}
 use Rattle.std.proofs.lemmas.Bool.{false≢true}
-use Rattle.tsp_io.specs.Turn.{Turn, IsUnread}
-use Rattle.tsp_io.specs.Sink.{Sink, IsUnwritten}
+use Rattle.std.specs.Prelude.{IsTrue, ℤ}
+use Rattle.tsp_io.specs.Streams.{Turn, IsUnread, Sink, IsUnwritten, Writes}
+use Rattle.tsp_io.specs.declared.piece.WriteFault.{WriteFault}
+use Rattle.tsp_io.specs.declared.piece.WriteFault.TheVariants as faults
+use Rattle.tsp_format.specs.declared.kinds.Kind.TheVariants as kinds
+use Rattle.tsp_format.specs.declared.layout.Layout.{Layout}
+use Rattle.tsp_file.specs.CanonicalText.{text_of}
 use Rattle.tsp_file.specs.Fields.{Fields}
+use Rattle.tsp_file.specs.Rules.{fault_of}
 use Rattle.tsp_read.specs.Reads.{IsFile}
+use Rattle.tsp_cost.specs.Problems.{IsProblem, problem_of, routing_of, depots_of}
+use Rattle.tsp_report.specs.Report.{bound_report_of}
+use Rattle.tsp_report.specs.Show.{shown}
+use Rattle.tsp_report.specs.Verdicts.{is_bound_yes}
 use Rattle.tsp_report.specs.declared.task.Certificate.{Certificate}
 use Rattle.tsp_report.specs.declared.verdict.BoundVerdict.{BoundVerdict}
 use Rattle.tsp_report.specs.declared.verdict.BoundVerdict.TheVariants as bounds
-use Rattle.tsp_report.specs.Verdicts.{is_bound_yes}
 use Rattle.tsp_report.specs.declared.verdict.Reason.{Reason}
 use Rattle.tsp_report.specs.declared.verdict.Reason.TheVariants.{DepotCount}
-use Rattle.tsp_format.specs.declared.kinds.Kind.TheVariants as kinds
-use Rattle.tsp_verdict.specs.Bounded.{StandsAgainstInstanceBy, StandsAgainstBounded, IsBoundVerdict}
-use Rattle.tsp_verdict.specs.Certified.{is_bounded, BoundsSolutionsBy, BoundsSolutions, HasNoSolutionBy, HasNoSolution}
-use Rattle.tsp_report.specs.Report.{bound_report_of}
+use Rattle.tsp_verdict.specs.Certified.{StandsAgainstInstanceBy, StandsAgainstBounded, IsBoundVerdict, is_bounded, BoundsSolutionsBy, BoundsSolutions, HasNoSolutionBy, HasNoSolution}
+use Rattle.tsp_verdict.specs.SolutionVerdict.{is_unjudged, strict_bound}
+use Rattle.tsp_judge.proofs.Yeses.{one_value, IsBoundedType, of_type, types_bounded, one_depot, none_unknown}
+use Rattle.tsp_judge.specs.Accepted.{BoundsAll, HasNone, IsAcceptedAlone}
+use Rattle.tsp_judge.specs.CheckRun.{BoundsFiles, EndsUnbounded, IsBoundRun, SaysBound, IsBoundRunOf, ReadsFile}
+use Rattle.tsp_judge.specs.ConvertRun.{Becomes, IsConverted, IsConvertRun, IsShowRun}
+use Rattle.tsp_judge.specs.Open.{Open, ReadsText, IsUnopened, IsUnbound, IsNotJudged}
 use Rattle.tsp_judge.specs.declared.bound.Bounded.{Bounded}
 use Rattle.tsp_judge.specs.declared.ends.RunFault.{RunFault}
 use Rattle.tsp_judge.specs.declared.ends.RunFault.TheVariants.{File, WrongKind, Write, OutOfMemory, Relayout}
-use Rattle.tsp_judge.specs.BoundRun.{BoundsFiles, EndsUnbounded, IsBoundRun, SaysBound, IsBoundRunOf}
-use Rattle.tsp_cost.specs.ProblemLaws.{IsProblem}
-use Rattle.tsp_cost.specs.ComputedProblems.{problem_of, routing_of, depots_of}
-use Rattle.tsp_judge.specs.Accepted.{BoundsAll, HasNone, IsAcceptedAlone}
-use Rattle.tsp_judge.specs.CheckRun.{ReadsFile}
-use Rattle.tsp_judge.proofs.OneValue.{one_value}
-use Rattle.tsp_judge.proofs.Yeses.{IsBoundedType, of_type, types_bounded, one_depot, none_unknown}
-use Rattle.tsp_verdict.specs.Strict.{is_unjudged, strict_bound}
 
 pub bound_first_stops : (strict : Bool) (by : Certificate) (first second : Turn) (sink : Sink) (fault : RunFault) → ReadsFile 1 first (Err fault) → IsUnread second → IsUnwritten sink
     → EndsUnbounded by strict first second sink fault
@@ -133,3 +136,60 @@ bound_run_of strict by first second sink bounded problem run = (
 pub bound_fault_of : (strict : Bool) (by : Certificate) (first second : Turn) (sink : Sink) (fault : RunFault) → EndsUnbounded by strict first second sink fault
     → IsBoundRunOf by strict first second sink (Err fault)
 bound_fault_of strict by first second sink fault ends = (ends, λ other ended is. absurd cc)
+
+-- ---- how a run that converts a file ends
+
+pub converted : (to : Option Layout) (turn : Turn) (old new : Fields) → IsFile turn old → Becomes to old (Ok new) → fault_of new ≡ None → IsConverted to turn new
+converted to turn old new whole becomes valid = record { old = old; whole = whole; becomes = becomes; valid = valid }
+
+pub convert_stopped : (to : Option Layout) (turn : Turn) (sink : Sink) (new : Fields) (fault : WriteFault) → IsConverted to turn new → Writes sink (text_of new) (Err fault)
+    → IsConvertRun to turn sink (Err (Write fault))
+convert_stopped to turn sink new faults.Device done w = (new, done, w)
+convert_stopped to turn sink new faults.OutOfMemory done w = absurd w
+
+-- a run that stops at its file
+pub convert_stops : (to : Option Layout) (turn : Turn) (sink : Sink) (fault : RunFault) → ReadsFile 1 turn (Err fault) → IsUnwritten sink
+    → IsConvertRun to turn sink (Err fault)
+convert_stops to turn sink (File place fault) stops unwritten = (stops.0, stops.1, unwritten)
+convert_stops to turn sink WrongKind stops unwritten = absurd stops
+convert_stops to turn sink (Write fault) stops unwritten = absurd stops
+convert_stops to turn sink OutOfMemory stops unwritten = absurd stops
+convert_stops to turn sink (Relayout fault) stops unwritten = absurd stops
+
+-- ---- how a run that shows a file ends
+
+pub show_stopped : (turn : Turn) (sink : Sink) (file : Fields) (fault : WriteFault) → IsFile turn file → Writes sink (shown file) (Err fault)
+    → IsShowRun turn sink (Err (Write fault))
+show_stopped turn sink file faults.Device whole w = (file, whole, w)
+show_stopped turn sink file faults.OutOfMemory whole w = absurd w
+
+-- a run that stops at its file
+pub show_stops : (turn : Turn) (sink : Sink) (fault : RunFault) → ReadsFile 1 turn (Err fault) → IsUnwritten sink → IsShowRun turn sink (Err fault)
+show_stops turn sink (File place fault) stops unwritten = (stops.0, stops.1, unwritten)
+show_stops turn sink WrongKind stops unwritten = absurd stops
+show_stops turn sink (Write fault) stops unwritten = absurd stops
+show_stops turn sink OutOfMemory stops unwritten = absurd stops
+show_stops turn sink (Relayout fault) stops unwritten = absurd stops
+
+-- ---- the fault of a text that a call on an open instance reads
+
+pub unopened : (text : List ℕ) (fault : RunFault) → ReadsText 1 text (Err fault) → IsUnopened text fault
+unopened text (File file fault) stops = stops
+unopened text WrongKind stops = absurd stops
+unopened text (Write fault) stops = absurd stops
+unopened text OutOfMemory stops = absurd stops
+unopened text (Relayout fault) stops = absurd stops
+
+pub unbound : (by : Certificate) (text : List ℕ) (opened : Open) (fault : RunFault) → ReadsText 2 text (Err fault) → IsUnbound by text opened fault
+unbound by text opened (File file fault) stops = stops
+unbound by text opened WrongKind stops = absurd stops
+unbound by text opened (Write fault) stops = absurd stops
+unbound by text opened OutOfMemory stops = absurd stops
+unbound by text opened (Relayout fault) stops = absurd stops
+
+pub not_judged : (text : List ℕ) (opened : Open) (fault : RunFault) → ReadsText 2 text (Err fault) → IsNotJudged text opened fault
+not_judged text opened (File file fault) stops = stops
+not_judged text opened WrongKind stops = absurd stops
+not_judged text opened (Write fault) stops = absurd stops
+not_judged text opened OutOfMemory stops = absurd stops
+not_judged text opened (Relayout fault) stops = absurd stops

@@ -1,22 +1,20 @@
--- The six meanings of the line `yes`, over the files that were read and the report that was printed. For Yes.antt and
--- BoundRun.antt, which relate them to the bytes of readers, for Texts.antt of tsp_c, and for the law
+-- The six meanings of the line `yes`, over the files that were read and the report that was printed. For ConvertRun.antt and
+-- CheckRun.antt, which relate them to the bytes of readers, for Texts.antt of tsp_c, and for the law
 -- `verdicts_mean_reports` (src/laws.rt).
 use Rattle.std.specs.Prelude.{◌≡◌, ◌⊎◌, ℕ, ◌≤◌, List, [], ◌∷◌, length, Option, None, Some, ℤ, ◌≤ℤ◌}
+use Rattle.tsp_format.specs.Nodes.{nodes_to}
 use Rattle.tsp_format.specs.declared.kinds.Kind.{Kind}
 use Rattle.tsp_format.specs.declared.kinds.Kind.TheVariants as kinds
-use Rattle.tsp_format.specs.Nodes.{nodes_to}
 use Rattle.tsp_file.specs.Fields.{Fields}
-use Rattle.tsp_theory.specs.Length.{sum_int_by, length_of}
-use Rattle.tsp_theory.specs.Routing.{RoutingProblem, IsPlan, plan_length, IsLeastRoutes}
-use Rattle.tsp_theory.specs.Tour.{Problem, IsTour, BoundsTours, HasNoTour}
-use Rattle.tsp_routing.specs.PlanLinks.{IsFilledPlan, BoundsPlans, HasNoPlan}
+use Rattle.tsp_theory.specs.Tour.{sum_int_by, length_of, RoutingProblem, IsPlan, plan_length, IsLeastRoutes, Problem, IsTour, BoundsTours, HasNoTour}
 use Rattle.tsp_cost.specs.Problems.{IsProblemOf, IsRoutingOf}
+use Rattle.tsp_routing.specs.PlanLinks.{IsFilledPlan, BoundsPlans, HasNoPlan}
+use Rattle.tsp_report.specs.Report.{report_of, bound_report_of}
 use Rattle.tsp_report.specs.declared.task.Certificate.{Certificate}
 use Rattle.tsp_report.specs.declared.verdict.BoundVerdict.{BoundVerdict}
 use Rattle.tsp_report.specs.declared.verdict.BoundVerdict.TheVariants.{Bound, NoSolution, No}
 use Rattle.tsp_report.specs.declared.verdict.Verdict.TheVariants.{Tour, Routes}
 use Rattle.tsp_verdict.specs.Certified.{kind_of, IsBoundOf}
-use Rattle.tsp_report.specs.Report.{report_of, bound_report_of}
 
 -- The solution's one tour visits every node of the instance once and uses every fixed edge. Its length is the claimed
 -- one, where one is claimed.
@@ -123,3 +121,16 @@ abbrev pub IsAcceptedAlone : Certificate → Fields → Fields → BoundVerdict 
 IsAcceptedAlone by instance certificate (Bound bound) report = IsAcceptedBound by instance certificate bound report
 IsAcceptedAlone by instance certificate NoSolution report = IsShownUnsolvable by instance certificate report
 IsAcceptedAlone by instance certificate (No reason) report = ⊥
+
+-- ---- the meaning of the length and the bound on a line of `tsp compare`
+
+-- The solution's one tour visits every node of the instance once, uses every fixed edge, and has this length. No tour
+-- of the instance is shorter than the bound.
+pub record IsBoundedTour (instance solution : Fields) (length_is bound : ℤ) : Type 0 where
+  pub problem : Problem
+  pub of_instance : IsProblemOf instance problem
+  pub tour : List ℕ
+  pub only : solution.tours ≡ Some (tour ∷ [])
+  pub is_tour : IsTour problem tour
+  pub measured : length_is ≡ length_of problem.cost tour
+  pub below_tours : (other : List ℕ) → IsTour problem other → bound ≤ℤ length_of problem.cost other

@@ -1,22 +1,73 @@
--- A run of `tsp check`: the bytes that its readers delivered, the report that was written, and the result; with a
--- certificate or without, with a claimed length or without, with unknown keywords as a reason or not. For `run`
--- (src/check.rt) and the calls of src/asked_runs.rt.
-use Rattle.std.specs.Prelude.{◌≡◌, ℕ, ◌⊎◌, Bool, false, Option, None, Some, Result, Ok, Err, IsTrue, ℤ}
+-- The text of each fault of a run, which goes to standard error. For `RunFault` (src/ends.rt), `tell_fault`
+-- (src/ends.rt of tsp_cli), and the fault lines of tsp_c.
+use Rattle.std.specs.Prelude.{ℕ, List, ◌++◌, codes, decimal, Bool, true, false, Result, Ok, Err, ◌≡◌, ◌⊎◌, Option, None, Some, IsTrue, ℤ, []}
+use Rattle.tsp_io.specs.Streams.{write_fault_text, Turn, IsUnread, Sink, IsUnwritten, HasWritten, HasStopped}
 use Rattle.tsp_io.specs.declared.piece.WriteFault.TheVariants as write_faults
-use Rattle.tsp_io.specs.Turn.{Turn, IsUnread}
-use Rattle.tsp_io.specs.Sink.{Sink, IsUnwritten, HasWritten, HasStopped}
 use Rattle.tsp_file.specs.Fields.{Fields}
-use Rattle.tsp_read.specs.declared.ReadFault.{ReadFault}
+use Rattle.tsp_file.specs.Relayout.{relayout_fault_text}
+use Rattle.tsp_file.specs.declared.relayout.RelayoutFault.TheVariants as relayout_faults
+use Rattle.tsp_text.specs.Spells.{read_fault_text}
 use Rattle.tsp_read.specs.Reads.{IsFile, StopsAt}
+use Rattle.tsp_read.specs.declared.ReadFault.{ReadFault}
+use Rattle.tsp_read.specs.declared.ReadFault.TheVariants as read_faults
+use Rattle.tsp_report.specs.Report.{report_of, bound_report_of}
+use Rattle.tsp_report.specs.Verdicts.{is_yes, is_bound_yes}
 use Rattle.tsp_report.specs.declared.task.Certificate.{Certificate}
+use Rattle.tsp_report.specs.declared.verdict.BoundVerdict.{BoundVerdict}
 use Rattle.tsp_report.specs.declared.verdict.Verdict.{Verdict}
-use Rattle.tsp_report.specs.Verdicts.{is_yes}
-use Rattle.tsp_verdict.specs.SolutionVerdict.{is_judged, NoneBeforeRepeatsOn}
-use Rattle.tsp_verdict.specs.Strict.{IsVerdictAsked}
+use Rattle.tsp_verdict.specs.Certified.{NoneAgainstInstance, is_bounded, NoneWithoutMemory}
+use Rattle.tsp_verdict.specs.SolutionVerdict.{is_judged, NoneBeforeRepeatsOn, IsVerdictAsked, IsBoundAsked}
+use Rattle.tsp_judge.specs.Accepted.{IsAcceptedAlone}
+use Rattle.tsp_judge.specs.declared.bound.Bounded.{Bounded}
 use Rattle.tsp_judge.specs.declared.check.Judged.{Judged}
 use Rattle.tsp_judge.specs.declared.ends.RunFault.{RunFault}
-use Rattle.tsp_judge.specs.declared.ends.RunFault.TheVariants.{File, WrongKind, Write, OutOfMemory}
-use Rattle.tsp_report.specs.Report.{report_of}
+use Rattle.tsp_judge.specs.declared.ends.RunFault.TheVariants.{File, WrongKind, Write, OutOfMemory, Relayout}
+use Rattle.tsp_judge.specs.declared.ends.RunFault.TheVariants as run_faults
+use Rattle.tsp_judge.specs.declared.ends.Status.{Status}
+use Rattle.tsp_judge.specs.declared.ends.Status.TheVariants as statuses
+
+-- the file's number with its own fault, or what else failed
+abbrev pub run_fault_text : RunFault → List ℕ
+run_fault_text (File file fault) = codes "file " ++ (decimal file ++ (codes ": " ++ read_fault_text fault))
+run_fault_text WrongKind = codes "file 1: wrong kind"
+run_fault_text (Write fault) = codes "output: " ++ write_fault_text fault
+run_fault_text OutOfMemory = codes "out of memory"
+run_fault_text (Relayout fault) = codes "relayout: " ++ relayout_fault_text fault
+
+-- ---- the exit status of a run, by its result
+
+-- the number of a status
+abbrev pub status_number : Status → ℕ
+status_number statuses.Yes = 0
+status_number statuses.No = 1
+status_number statuses.NotJudged = 2
+status_number statuses.OutOfMemory = 3
+status_number statuses.Refused = 4
+status_number statuses.Device = 5
+status_number statuses.TooSmall = 6
+
+-- the status of a fault: 1 the weights can't have the layout, 2 a file isn't valid or is of the wrong kind, 3 out of
+-- memory, 5 a device failed
+abbrev pub status_of_fault : RunFault → ℕ
+status_of_fault (File file (read_faults.Line line word fault)) = 2
+status_of_fault (File file (read_faults.End fault)) = 2
+status_of_fault (File file read_faults.TooLong) = 2
+status_of_fault (File file read_faults.OutOfMemory) = 3
+status_of_fault (File file read_faults.Device) = 5
+status_of_fault WrongKind = 2
+status_of_fault run_faults.OutOfMemory = 3
+status_of_fault (Write write_faults.OutOfMemory) = 3
+status_of_fault (Write write_faults.Device) = 5
+status_of_fault (Relayout relayout_faults.OutOfMemory) = 3
+status_of_fault (Relayout fault) = 1
+
+-- 0 means accepted or done, 1 rejected
+abbrev pub status_of : Result Bool RunFault → ℕ
+status_of (Ok true) = 0
+status_of (Ok false) = 1
+status_of (Err fault) = status_of_fault fault
+
+-- ---- a run of `tsp check`
 
 -- ---- the files
 
@@ -118,3 +169,53 @@ IsCheckAnswer given claimed strict first second sink (Err fault) = EndsWithout g
 abbrev pub acceptance : Result Judged RunFault → Result Bool RunFault
 acceptance (Ok judged) = Ok (is_yes judged.verdict)
 acceptance (Err fault) = Err fault
+
+-- ---- a run of `tsp bound`
+
+-- The result for an instance and a certificate that were read. Ok: this is the bound, or the first reason against them,
+-- and the whole report was written. WrongKind: tours of the instance have no bound by such a certificate. OutOfMemory:
+-- no reason applies to the instance, nor one to the certificate that is found without memory. Of both nothing is
+-- written. Where the writer fails, a prefix of the report was written.
+abbrev pub BoundsFiles : Certificate → Bool → Fields → Fields → Sink → Result BoundVerdict RunFault → Type 0
+BoundsFiles by strict instance certificate sink (Ok found) = IsTrue (is_bounded by instance.kind)
+    × IsBoundAsked strict by instance certificate found
+    × HasWritten sink (bound_report_of instance found)
+BoundsFiles by strict instance certificate sink (Err WrongKind) = (is_bounded by instance.kind ≡ false) × IsUnwritten sink
+BoundsFiles by strict instance certificate sink (Err OutOfMemory) = IsTrue (is_bounded by instance.kind) × NoneAgainstInstance instance
+    × NoneWithoutMemory by instance certificate × IsUnwritten sink
+BoundsFiles by strict instance certificate sink (Err (Write write_faults.Device)) = IsTrue (is_bounded by instance.kind)
+    × ((found : BoundVerdict) × IsBoundAsked strict by instance certificate found
+    × HasStopped sink (bound_report_of instance found))
+BoundsFiles by strict instance certificate sink (Err other) = ⊥
+
+-- Why a run has no bound and no reason. The first file that isn't valid decides, in order, and nothing is written then.
+abbrev pub EndsUnbounded : Certificate → Bool → Turn → Turn → Sink → RunFault → Type 0
+EndsUnbounded by strict first second sink (File file fault) = IsUnwritten sink
+    × (((file ≡ 1) × StopsAt fault first × IsUnread second)
+    ⊎ ((file ≡ 2) × IsSomeFile first × StopsAt fault second))
+EndsUnbounded by strict first second sink fault = (instance certificate : Fields) × IsFile first instance × IsFile second certificate
+    × BoundsFiles by strict instance certificate sink (Err fault)
+
+-- The result of a run: the files that were read, and the bound, or the first reason against them.
+abbrev pub IsBoundRun : Certificate → Bool → Turn → Turn → Sink → Result Bounded RunFault → Type 0
+IsBoundRun by strict first second sink (Ok bounded) = IsFile first bounded.instance × IsFile second bounded.certificate
+    × BoundsFiles by strict bounded.instance bounded.certificate sink (Ok bounded.found)
+IsBoundRun by strict first second sink (Err fault) = EndsUnbounded by strict first second sink fault
+
+-- At `yes` the bytes that were read parse to these files, the whole report was written, and it means that the bound is
+-- one. Where unknown keywords are a reason, the instance has none.
+pub record SaysBound (by : Certificate) (strict : Bool) (first second : Turn) (sink : Sink) (found : BoundVerdict) : Type 0 where
+  pub instance : Fields
+  pub certificate : Fields
+  pub report : List ℕ
+  pub first_file : IsFile first instance
+  pub second_file : IsFile second certificate
+  pub written : HasWritten sink report
+  pub meaning : IsAcceptedAlone by instance certificate found report
+  pub all_judged : strict ≡ true → instance.others ≡ []
+
+-- the result of the run, and what its line `yes` means
+abbrev pub IsBoundRunOf : Certificate → Bool → Turn → Turn → Sink → Result Bounded RunFault → Type 0
+IsBoundRunOf by strict first second sink result = IsBoundRun by strict first second sink result
+    × ((bounded : Bounded) → result ≡ Ok bounded → is_bound_yes bounded.found ≡ true
+    → SaysBound by strict first second sink bounded.found)

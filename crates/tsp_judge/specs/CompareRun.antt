@@ -1,34 +1,28 @@
 -- A run of `tsp compare`: an instance and a certificate that are read once, solutions that are opened, judged and
 -- dropped one by one, the lines that were written, and the result. For `run_compare` (src/compared.rt) and `find`
 -- (src/compared.rt).
-use Rattle.std.specs.Prelude.{◌≡◌, ◌≢◌, ◌⊎◌, ℕ, suc, ◌<◌, ◌≤◌, max, Bool, true, false, List, [], ◌∷◌, ◌++◌, length, Option, None, Some, Result, Ok, Err, IsTrue, slice_index_or}
+use Rattle.std.specs.Prelude.{◌≡◌, ◌≢◌, ◌⊎◌, ℕ, suc, ◌<◌, ◌≤◌, max, Bool, true, false, List, [], ◌∷◌, ◌++◌, length, Option, None, Some, Result, Ok, Err, IsTrue, slice_index_or, zero, ◌-◌}
 use Rattle.std.specs.declared.io.Error.{Error}
+use Rattle.tsp_io.specs.Streams.{Turn, Sink, IsUnwritten, HasWritten, HasStopped}
 use Rattle.tsp_io.specs.declared.piece.WriteFault.TheVariants as write_faults
-use Rattle.tsp_io.specs.Turn.{Turn}
-use Rattle.tsp_io.specs.Sink.{Sink, IsUnwritten, HasWritten, HasStopped}
 use Rattle.tsp_file.specs.Fields.{Fields}
+use Rattle.tsp_read.specs.Reads.{HasReads, IsFile, StopsAt, most_taken}
 use Rattle.tsp_read.specs.declared.ReadFault.{ReadFault}
 use Rattle.tsp_read.specs.declared.ReadFault.TheVariants as read_faults
-use Rattle.tsp_read.specs.Asked.{HasReads}
-use Rattle.tsp_read.specs.Reads.{IsFile, StopsAt, most_taken}
-use Rattle.tsp_cost.specs.ProblemLaws.{IsProblem}
+use Rattle.tsp_cost.specs.Problems.{IsProblem}
+use Rattle.tsp_report.specs.Report.{head_of, solution_line, report_of}
+use Rattle.tsp_report.specs.Verdicts.{is_yes, is_clear}
 use Rattle.tsp_report.specs.declared.task.Certificate.{Certificate}
 use Rattle.tsp_report.specs.declared.verdict.Verdict.{Verdict}
-use Rattle.tsp_report.specs.Verdicts.{is_yes, is_clear}
-use Rattle.tsp_verdict.specs.Basis.{NoneOfBasisWithoutMemory, HasBasis}
-use Rattle.tsp_verdict.specs.SolutionVerdict.{is_judged, NoneBeforeRepeatsOn, IsVerdictWith}
-use Rattle.tsp_verdict.specs.Strict.{IsBasisAsked}
+use Rattle.tsp_verdict.specs.SolutionVerdict.{NoneOfBasisWithoutMemory, HasBasis, is_judged, NoneBeforeRepeatsOn, IsVerdictWith, IsBasisAsked}
+use Rattle.tsp_judge.specs.Accepted.{IsAccepted}
+use Rattle.tsp_judge.specs.CheckRun.{Given, IsUnreadIn, IsFileIn, IsSomeFile, status_of}
 use Rattle.tsp_judge.specs.declared.compared.Common.{Common}
+use Rattle.tsp_judge.specs.declared.compared.Compared.{Compared}
 use Rattle.tsp_judge.specs.declared.compared.Found.{Found}
 use Rattle.tsp_judge.specs.declared.compared.Found.TheVariants as founds
-use Rattle.tsp_judge.specs.declared.compared.Compared.{Compared}
 use Rattle.tsp_judge.specs.declared.ends.RunFault.{RunFault}
 use Rattle.tsp_judge.specs.declared.ends.RunFault.TheVariants.{File, WrongKind, Write, OutOfMemory}
-use Rattle.tsp_judge.specs.Accepted.{IsAccepted}
-use Rattle.tsp_judge.specs.CheckRun.{Given, IsUnreadIn, IsFileIn, IsSomeFile}
-use Rattle.tsp_judge.specs.Status.{status_of}
-use Rattle.tsp_report.specs.ComparisonText.{head_of, solution_line}
-use Rattle.tsp_report.specs.Report.{report_of}
 
 -- ---- the instance and the certificate
 
@@ -179,3 +173,32 @@ abbrev pub IsCompareRun : {R : Type 0} → Bool → (R → Option (List ℕ)) �
     → (ℕ → R → Type 0) → List (List ℕ) → Given → Turn → Sink → Result Compared RunFault → Type 0
 IsCompareRun strict remaining gives opens paths given first sink result =
     IsComparison strict (IsTurnAt remaining gives opens) paths given first sink result
+
+-- ---- which lines of a comparison its follower gets while they are written
+
+-- of the first lines, as many as this, each once and in their order
+abbrev pub AreReported : {E : Type 0} → (ℕ → E → E → Type 0) → ℕ → E → E → Type 0
+AreReported tells zero old new = new ≡ old
+AreReported {E = E} tells (suc count) old new = (next : E) × AreReported tells count old next × tells count next new
+
+-- of all lines, or of none where a reason applies whatever the solution
+abbrev pub AreAllReported : {E : Type 0} → Bool → (ℕ → E → E → Type 0) → ℕ → E → E → Type 0
+AreAllReported true tells count old new = AreReported tells count old new
+AreAllReported false tells count old new = new ≡ old
+
+-- How many lines the follower gets at most where the comparison ends early. The line at which the writer fails, or
+-- memory is refused, isn't among them. At another fault no solution is compared.
+abbrev pub most_reported : RunFault → ℕ → ℕ
+most_reported (Write fault) count = count - 1
+most_reported OutOfMemory count = count - 1
+most_reported other count = 0
+
+-- of all lines, as far as the comparison came
+abbrev pub IsFollowedBy : {E : Type 0} → Bool → (ℕ → E → E → Type 0) → ℕ → E → E → Result ℕ RunFault → Type 0
+IsFollowedBy clear tells count old new (Ok status) = AreAllReported clear tells count old new
+IsFollowedBy clear tells count old new (Err fault) = (reported : ℕ) × (reported ≤ most_reported fault count) × AreReported tells reported old new
+
+-- by the result of a comparison of as many solutions as this
+abbrev pub IsFollowed : {E : Type 0} → (ℕ → E → E → Type 0) → ℕ → E → E → Result Compared RunFault → Type 0
+IsFollowed tells count old new (Ok compared) = AreAllReported (is_clear compared.common.basis) tells count old new
+IsFollowed tells count old new (Err fault) = (reported : ℕ) × (reported ≤ most_reported fault count) × AreReported tells reported old new

@@ -3,14 +3,13 @@
 use Rattle.std.specs.Prelude.{◌≡◌, ℕ, false, List, Option, None, Some, Result, Ok, Err, IsTrue, ℤ}
 use Rattle.tsp_file.specs.Fields.{Fields}
 use Rattle.tsp_file.specs.Rules.{is_instance}
-use Rattle.tsp_text.specs.Text.{Spells}
+use Rattle.tsp_text.specs.Spells.{Spells}
 use Rattle.tsp_read.specs.Reads.{Reads}
-use Rattle.tsp_cost.specs.ProblemLaws.{IsProblem}
+use Rattle.tsp_cost.specs.Problems.{IsProblem}
 use Rattle.tsp_report.specs.declared.task.Certificate.{Certificate}
 use Rattle.tsp_report.specs.declared.verdict.BoundVerdict.{BoundVerdict}
 use Rattle.tsp_report.specs.declared.verdict.Verdict.{Verdict}
-use Rattle.tsp_verdict.specs.Bounded.{IsBoundVerdict, NoneAgainstInstance}
-use Rattle.tsp_verdict.specs.Certified.{is_bounded, NoneWithoutMemory}
+use Rattle.tsp_verdict.specs.Certified.{IsBoundVerdict, NoneAgainstInstance, is_bounded, NoneWithoutMemory}
 use Rattle.tsp_verdict.specs.SolutionVerdict.{is_judged, NoneBeforeRepeatsOn, IsVerdictWith}
 use Rattle.tsp_judge.specs.declared.ends.RunFault.{RunFault}
 use Rattle.tsp_judge.specs.declared.ends.RunFault.TheVariants.{File, WrongKind, OutOfMemory}

@@ -2,17 +2,13 @@
 //! verb, such as `run` in `src/check.rt`, and returns its fault without the token of a refusal.
 
 ghost use Rattle.std.specs.Prelude.{◌≡◌, None, length};
-ghost use Rattle.tsp_io.specs.Turn.{TakesAtMost};
+ghost use Rattle.tsp_io.specs.Streams.{TakesAtMost};
 ghost use Rattle.tsp_io.specs.states.Watched.{sink_of, turn_of};
-ghost use Rattle.tsp_read.specs.Asked.{IsReadOn};
-ghost use Rattle.tsp_read.specs.Reads.{most_taken};
+ghost use Rattle.tsp_read.specs.Reads.{IsReadOn, most_taken};
 ghost use Rattle.tsp_report.specs.declared.task.Certificate.TheVariants as certificates;
 ghost use Rattle.tsp_judge.specs.CheckRun.{acceptance};
-ghost use Rattle.tsp_judge.specs.CompareRun.{IsCompareRun};
-ghost use Rattle.tsp_judge.specs.ConvertRun.{IsConvertRun};
-ghost use Rattle.tsp_judge.specs.Following.{IsFollowed};
-ghost use Rattle.tsp_judge.specs.ShowRun.{IsShowRun};
-ghost use Rattle.tsp_judge.specs.Yes.{IsCheck, IsCheckBy, IsRunOf};
+ghost use Rattle.tsp_judge.specs.CompareRun.{IsCompareRun, IsFollowed};
+ghost use Rattle.tsp_judge.specs.ConvertRun.{IsConvertRun, IsShowRun, IsCheck, IsCheckBy, IsRunOf};
 
 use crate::bound::{convert_file, show_file};
 use crate::check::{Judged, judge_read, read_file, run};

@@ -1,13 +1,11 @@
 //! The run of `tsp bound`, from the bytes read to the bytes written: a bound on the tours of an
 //! instance, without a solution. For `src/explained.rt` of tsp_judge and `src/picked_runs.rt` of tsp_c.
 
-ghost use Rattle.tsp_io.specs.Turn.{Turn, TakesAtMost};
+ghost use Rattle.tsp_io.specs.Streams.{Turn, TakesAtMost};
 ghost use Rattle.tsp_io.specs.states.Watched.{sink_of, turn_of};
-ghost use Rattle.tsp_read.specs.Asked.{IsReadOn};
-ghost use Rattle.tsp_read.specs.Reads.{IsFile, most_taken};
-ghost use Rattle.tsp_judge.specs.BoundRun.{BoundsFiles, IsBoundRunOf};
-ghost use Rattle.tsp_judge.specs.ConvertRun.{Becomes, IsConvertRun};
-ghost use Rattle.tsp_judge.specs.ShowRun.{IsShowRun};
+ghost use Rattle.tsp_read.specs.Reads.{IsReadOn, IsFile, most_taken};
+ghost use Rattle.tsp_judge.specs.CheckRun.{BoundsFiles, IsBoundRunOf};
+ghost use Rattle.tsp_judge.specs.ConvertRun.{Becomes, IsConvertRun, IsShowRun};
 
 use crate::check::read_file;
 use crate::ends::RunError;

@@ -2,13 +2,12 @@
 //! judged. For `src/explained.rt` of tsp_judge and `src/picked_runs.rt` of tsp_c.
 
 ghost use Rattle.std.specs.Prelude.{◌≡◌, None, option_map};
-ghost use Rattle.tsp_io.specs.Turn.{Turn, IsUnread, TakesAtMost};
+ghost use Rattle.tsp_io.specs.Streams.{Turn, IsUnread, TakesAtMost};
 ghost use Rattle.tsp_io.specs.states.Watched.{sink_of, turn_of};
-ghost use Rattle.tsp_read.specs.Asked.{IsReadOn};
-ghost use Rattle.tsp_read.specs.Reads.{IsFile, most_taken};
+ghost use Rattle.tsp_read.specs.Reads.{IsReadOn, IsFile, most_taken};
 ghost use Rattle.tsp_verdict.specs.SolutionVerdict.{is_judged};
 ghost use Rattle.tsp_judge.specs.CheckRun.{Given, given_by, IsFileIn, ReadsGiven, JudgesFiles, ReadsFile};
-ghost use Rattle.tsp_judge.specs.Yes.{IsRunOf};
+ghost use Rattle.tsp_judge.specs.ConvertRun.{IsRunOf};
 
 use crate::ends::RunError;
 use std::alloc::Global;

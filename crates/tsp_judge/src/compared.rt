@@ -2,17 +2,14 @@
 //! judged, and dropped. For `src/explained.rt` of tsp_judge.
 
 ghost use Rattle.std.specs.Prelude.{◌≡◌, ◌<◌, max, false, true, [], length, None, MatchResult, ℕ, List, slice_index_or};
-ghost use Rattle.tsp_io.specs.Turn.{Turn, IsUnread, TakesAtMost};
+ghost use Rattle.tsp_io.specs.Streams.{Turn, IsUnread, TakesAtMost};
 ghost use Rattle.tsp_io.specs.states.Watched.{has_failed, sink_of, turn_of};
-ghost use Rattle.tsp_read.specs.Asked.{IsReadOn};
-ghost use Rattle.tsp_read.specs.Reads.{IsFile, most_taken};
-ghost use Rattle.tsp_cost.specs.ProblemLaws.{IsProblem};
-ghost use Rattle.tsp_verdict.specs.Basis.{IsBasis};
-ghost use Rattle.tsp_verdict.specs.Strict.{IsBasisAsked};
+ghost use Rattle.tsp_read.specs.Reads.{IsReadOn, IsFile, most_taken};
+ghost use Rattle.tsp_cost.specs.Problems.{IsProblem};
+ghost use Rattle.tsp_verdict.specs.SolutionVerdict.{IsBasis, IsBasisAsked};
 ghost use Rattle.tsp_report.specs.Verdicts.{is_clear};
 ghost use Rattle.tsp_judge.specs.CheckRun.{Given, given_by, IsFileIn};
-ghost use Rattle.tsp_judge.specs.CompareRun.{IsTurnAt, ComparesOne, ComparesAll, ComparesBy, IsCompareRun, LacksBasis, Finds, result_of, status_of_found};
-ghost use Rattle.tsp_judge.specs.Following.{IsFollowedBy, IsFollowed};
+ghost use Rattle.tsp_judge.specs.CompareRun.{IsTurnAt, ComparesOne, ComparesAll, ComparesBy, IsCompareRun, LacksBasis, Finds, result_of, status_of_found, IsFollowedBy, IsFollowed};
 
 use crate::check::{is_judged, lent, read_certificate, read_file};
 use crate::ends::{RunError, RunFault, Status, status_of};

@@ -3,13 +3,11 @@
 
 ghost use Rattle.std.specs.Io.{StartsWith};
 ghost use Rattle.std.specs.Prelude.{◌≡◌, length};
-ghost use Rattle.tsp_read.specs.Asked.{IsReadOn};
-ghost use Rattle.tsp_judge.specs.Following.{IsFollowed};
-ghost use Rattle.tsp_judge.specs.Outcomes.{AreComparedOn, AreReadOn, IsCompared, IsDone, IsNamedReadOn, TakesNamed, is_yes_outcome, outcome_of_writing, outcome_of_check, outcome_of_bound};
-ghost use Rattle.tsp_read.specs.Reads.{most_taken};
-ghost use Rattle.tsp_io.specs.Turn.{TakesAtMost};
+ghost use Rattle.tsp_read.specs.Reads.{IsReadOn, most_taken};
+ghost use Rattle.tsp_judge.specs.CompareRun.{IsFollowed};
+ghost use Rattle.tsp_judge.specs.ConvertRun.{AreComparedOn, AreReadOn, IsCompared, IsDone, IsNamedReadOn, TakesNamed, is_yes_outcome, outcome_of_writing, outcome_of_check, outcome_of_bound, IsRunOf};
+ghost use Rattle.tsp_io.specs.Streams.{TakesAtMost};
 ghost use Rattle.tsp_io.specs.states.Watched.{sink_of, turn_of};
-ghost use Rattle.tsp_judge.specs.Yes.{IsRunOf};
 
 use crate::asked_runs::{run_compare_uncertified, run_uncertified};
 use crate::bound::{Bounded, convert_file, run_bound, show_file};

@@ -3,14 +3,12 @@
 
 ghost use Rattle.std.specs.Fmt.{signed_decimal};
 ghost use Rattle.std.specs.Prelude.{◌≡◌, ◌++◌, ℕ, List, true, false, Option, None, Some, Ok, IsTrue, ℤ, codes};
-ghost use Rattle.tsp_io.specs.Turn.{Turn};
+ghost use Rattle.tsp_io.specs.Streams.{Turn};
 ghost use Rattle.tsp_file.specs.Fields.{Fields};
 ghost use Rattle.tsp_read.specs.Reads.{IsFile};
-ghost use Rattle.tsp_cost.specs.ProblemLaws.{IsProblem};
-ghost use Rattle.tsp_verdict.specs.Basis.{IsBasis};
-ghost use Rattle.tsp_verdict.specs.SolutionVerdict.{IsVerdictWith, is_judged};
-ghost use Rattle.tsp_report.specs.ComparisonText.{solution_line};
-ghost use Rattle.tsp_report.specs.Report.{report_of, IsSized};
+ghost use Rattle.tsp_cost.specs.Problems.{IsProblem};
+ghost use Rattle.tsp_verdict.specs.SolutionVerdict.{IsBasis, IsVerdictWith, is_judged};
+ghost use Rattle.tsp_report.specs.Report.{solution_line, report_of, IsSized};
 ghost use Rattle.tsp_report.specs.Verdicts.{is_yes};
 ghost use Rattle.tsp_report.specs.declared.task.Certificate.{Certificate};
 ghost use Rattle.tsp_report.specs.declared.verdict.Basis.{Basis};
@@ -18,9 +16,8 @@ ghost use Rattle.tsp_report.specs.declared.verdict.Basis.TheVariants as bases;
 ghost use Rattle.tsp_report.specs.declared.verdict.Reason.{Reason};
 ghost use Rattle.tsp_report.specs.declared.verdict.Verdict.{Verdict};
 ghost use Rattle.tsp_report.specs.declared.verdict.Verdict.TheVariants as verdicts;
-ghost use Rattle.tsp_judge.specs.Accepted.{IsAccepted};
+ghost use Rattle.tsp_judge.specs.Accepted.{IsAccepted, IsBoundedTour};
 ghost use Rattle.tsp_judge.specs.CompareRun.{IsFoundIn};
-ghost use Rattle.tsp_judge.specs.Optimal.{IsBoundedTour};
 ghost use Rattle.tsp_judge.specs.declared.compared.Common.{Common};
 
 /// With a certificate, a line with a length and `optimal` means that the file of its solution has

@@ -23,8 +23,8 @@ pub struct Opened {
 }
 
 impl Model for Opened {
-    ghost use Rattle.tsp_cost.specs.ProblemLaws.{IsProblem};
-    ghost use Rattle.tsp_verdict.specs.Basis.{IsBasis};
+    ghost use Rattle.tsp_cost.specs.Problems.{IsProblem};
+    ghost use Rattle.tsp_verdict.specs.SolutionVerdict.{IsBasis};
     ghost use Rattle.tsp_judge.specs.Open.{Open};
 
     ghost Value = { Open };

@@ -1,7 +1,6 @@
--- The number that a text begins with: its digits, one by one or eight at once, its point, and where its word ends. For
--- `front_decimal` in src/word.rt and others.
-use Rattle.std.proofs.Common.{◌≡◌, ℕ, ◌+◌, ◌*◌, ◌-◌, ◌^◌, ◌<◌, ◌≤◌, ◌≢◌, Bool, true, false, None, Some, List, [], ◌∷◌, ◌++◌, length, take, drop, get_or, ℤ, pos, ◌*ℤ◌, ◌≤ℤ◌, ◌<ℤ◌, ◌⊎◌, Ok, Err, unsigned_abs, inl, inr, ⊎_elim, refl, arith, ap, sym, ◌∙◌, subst, pow-add, add-one, append_assoc, append-nil, length-drop}
-use Rattle.std.specs.Prelude.{nat_le, nat_lt, ◌&&◌}
+-- How many elements pass a test from the beginning of a list on, one more at a time. For `single_digits` in
+-- src/word.rt.
+use Rattle.std.proofs.Common.{◌≡◌, ℕ, zero, suc, ◌+◌, ◌<◌, ◌≤◌, Bool, true, false, cond, List, [], ◌∷◌, length, take, drop, ap, arith, ◌*◌, ◌-◌, ◌^◌, ◌≢◌, None, Some, ◌++◌, ℤ, pos, ◌*ℤ◌, ◌≤ℤ◌, ◌<ℤ◌, ◌⊎◌, Ok, Err, unsigned_abs, inl, inr, ⊎_elim, refl, sym, ◌∙◌, subst, pow-add, add-one, append_assoc, append-nil, length-drop}
 use Rattle.std.proofs.Math.Nat.{pow-suc, pow-le-pow_right, mul-le-mul}
 use Rattle.std.proofs.Math.Seq.{take-add, take-suc, take-length}
 use Rattle.std.proofs.lemmas.Bool.Decides.{nat_tests}
@@ -13,15 +12,62 @@ use Rattle.std.proofs.lemmas.Str.{digit_value_digit}
 use Rattle.std.specs.Array.{IsFirstChunk}
 use Rattle.std.specs.Char.{is_ascii_digit}
 use Rattle.std.specs.List.{prefix_len}
+use Rattle.std.specs.Prelude.{min, slice_index_or as get_or, nat_le, nat_lt, ◌&&◌}
 use Rattle.std.specs.Str.Parse.{AllDigits, digits_value}
-use Rattle.tsp_distance.specs.Decimal.{unit, most_count}
+use Rattle.tsp_number.proofs.NumberGrammar.{to_signed}
+use Rattle.tsp_number.proofs.Scaling.{digits_value-append, AllDigits-append}
+use Rattle.tsp_number.specs.Decimal.{unit, most_count}
 use Rattle.tsp_number.specs.NumberWord.{IsShort, ReadsDecimal, ReadsWhole, point, IsSign, IsFraction, Numeral, StandsFor, IsShifted, with_sign, mantissa, digits_of, shift_of}
 use Rattle.tsp_number.specs.declared.word.NumberFault.TheVariants.{OutOfRange}
-use Rattle.tsp_number.specs.states.NumberFront.{BeginsWithNumber, sign_count, digit_count, end_of_digits, end_with_point, few_end, decimal_end}
-use Rattle.tsp_number.proofs.Prefixes.{prefix_of_front, prefix_goes_on}
-use Rattle.tsp_number.proofs.Reading.{to_signed}
-use Rattle.tsp_number.proofs.Scaling.{digits_value-append}
-use Rattle.tsp_number.proofs.Scanning.{AllDigits-append}
+use Rattle.tsp_number.specs.states.Digits.{BeginsWithNumber, sign_count, digit_count, end_of_digits, end_with_point, few_end, decimal_end}
+
+-- of the first m elements as many pass as of all, but no more than m
+pub prefix_of_front : {X : Type 0} (p : X → Bool) (m : ℕ) (xs : List X) → prefix_len p (take m xs) ≡ min m (prefix_len p xs)
+prefix_of_front p zero xs = omega arith
+prefix_of_front p (suc m) [] = omega arith
+prefix_of_front {X} p (suc m) (x ∷ xs) = by_test (p x) (prefix_of_front p m xs)
+  where
+    by_test : (b : Bool) → prefix_len p (take m xs) ≡ min m (prefix_len p xs) → cond b (1 + prefix_len p (take m xs)) 0 ≡ min (suc m) (cond b (1 + prefix_len p xs) 0)
+    by_test true so = omega (arith, so)
+    by_test false so = omega arith
+
+-- where the first m elements pass, those after them are counted on
+pub prefix_goes_on : {X : Type 0} (p : X → Bool) (m : ℕ) (xs : List X) → m ≤ prefix_len p xs
+    → prefix_len p xs ≡ m + prefix_len p (drop m xs)
+prefix_goes_on p zero xs le = omega arith
+prefix_goes_on p (suc m) [] le = absurd (omega (arith, le))
+prefix_goes_on {X} p (suc m) (x ∷ xs) le = by_test (p x) le (prefix_goes_on p m xs)
+  where
+    by_test : (b : Bool) → suc m ≤ cond b (1 + prefix_len p xs) 0 → (m ≤ prefix_len p xs → prefix_len p xs ≡ m + prefix_len p (drop m xs))
+        → cond b (1 + prefix_len p xs) 0 ≡ suc m + prefix_len p (drop m xs)
+    by_test true le so = omega (arith, so (omega (arith, le)))
+    by_test false le so = absurd (omega (arith, le))
+
+-- the element after the first k passes too: one more
+pub prefix_one_more : {X : Type 0} (p : X → Bool) (k : ℕ) (xs : List X) (d : X) → k < length xs → k ≤ prefix_len p xs
+    → p (get_or xs k d) ≡ true → suc k ≤ prefix_len p xs
+prefix_one_more p k [] d lt le e = absurd (omega (arith, lt))
+prefix_one_more p zero (x ∷ xs) d lt le e = omega (arith, ap (λ b. cond b (1 + prefix_len p xs) 0) e)
+prefix_one_more {X} p (suc k) (x ∷ xs) d lt le e = by_test (p x) le (prefix_one_more p k xs d (omega (arith, lt)))
+  where
+    by_test : (b : Bool) → suc k ≤ cond b (1 + prefix_len p xs) 0 → (k ≤ prefix_len p xs → p (get_or xs k d) ≡ true → suc k ≤ prefix_len p xs)
+        → suc (suc k) ≤ cond b (1 + prefix_len p xs) 0
+    by_test true le so = omega (arith, so (omega (arith, le)) e)
+    by_test false le so = absurd (omega (arith, le))
+
+-- the element after the first k doesn't pass: there are k
+pub prefix_ends : {X : Type 0} (p : X → Bool) (k : ℕ) (xs : List X) (d : X) → k < length xs → k ≤ prefix_len p xs
+    → p (get_or xs k d) ≡ false → prefix_len p xs ≡ k
+prefix_ends p k [] d lt le e = absurd (omega (arith, lt))
+prefix_ends p zero (x ∷ xs) d lt le e = ap (λ b. cond b (1 + prefix_len p xs) 0) e
+prefix_ends {X} p (suc k) (x ∷ xs) d lt le e = by_test (p x) le (prefix_ends p k xs d (omega (arith, lt)))
+  where
+    by_test : (b : Bool) → suc k ≤ cond b (1 + prefix_len p xs) 0 → (k ≤ prefix_len p xs → p (get_or xs k d) ≡ false → prefix_len p xs ≡ k)
+        → cond b (1 + prefix_len p xs) 0 ≡ suc k
+    by_test true le so = omega (arith, so (omega (arith, le)) e)
+    by_test false le so = absurd (omega (arith, le))
+
+-- ---- the number that a text begins with: its digits, one by one or eight at once, its point
 
 -- the first `count` bytes are digits, and `value` is their number
 pub record ReadsFront (bytes : List ℕ) (count value : ℕ) : Type 0 where

@@ -9,13 +9,10 @@ use Rattle.std.proofs.lemmas.Int.{ints}
 use Rattle.std.specs.Option.{option_map}
 use Rattle.tsp_number.specs.declared.word.NumberFault.{NumberFault}
 use Rattle.tsp_number.specs.declared.word.NumberFault.TheVariants.{LongWord, BadNumber, TooFine, OutOfRange, NotWhole}
-use Rattle.tsp_distance.specs.Decimal.{unit, most_count}
-use Rattle.tsp_number.specs.NumberWord.{Numeral, IsNumberWord, StandsFor, IsShort, with_sign, digits_of, shift_of, ReadsDecimal, ReadsWhole}
-use Rattle.tsp_number.specs.Reading.{shifted_size, number_in, decimal_within, decimal_from, decimal_of, whole_within, whole_from, whole_of}
-use Rattle.tsp_number.specs.Scan.{numeral_in}
-use Rattle.tsp_number.specs.states.Written.{IsShiftedSize}
-use Rattle.tsp_number.proofs.Grammar.{spells_in, found}
-use Rattle.tsp_number.proofs.Reading.{bad_number, stands_by, size_by, signed-mul, divided, unit_up, unit_down, unit_places}
+use Rattle.tsp_number.specs.Decimal.{unit, most_count}
+use Rattle.tsp_number.specs.NumberWord.{Numeral, IsNumberWord, StandsFor, IsShort, with_sign, digits_of, shift_of, ReadsDecimal, ReadsWhole, shifted_size, number_in, decimal_within, decimal_from, decimal_of, whole_within, whole_from, whole_of, numeral_in}
+use Rattle.tsp_number.specs.states.Digits.{IsShiftedSize}
+use Rattle.tsp_number.proofs.NumberGrammar.{spells_in, found, bad_number, stands_by, size_by, signed-mul, divided, unit_up, unit_down, unit_places}
 use Rattle.tsp_number.proofs.Scaling.{pow_above_zero}
 
 -- ---- a word means one number

@@ -1,8 +1,6 @@
 -- The files of definitions of this crate. Crates above may import them.
 pub mod states
-pub mod NumberFaultText
-pub mod NumberWord
-pub mod Scan
-pub mod Spelling
-pub mod Reading
+pub mod Decimal
+pub mod Distances
 pub mod Examples
+pub mod NumberWord

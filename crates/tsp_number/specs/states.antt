@@ -1,3 +1,3 @@
 -- The files of definitions that look into structs of the code.
-pub mod Written
-pub mod NumberFront
+pub mod Rounding
+pub mod Digits

@@ -1,30 +1,31 @@
-//! Number words of TSPLIB 95, read and written in exact decimal arithmetic.
+//! Numbers: decimals, points and their distances; number words, and the text of a decimal.
 //!
-//! It isn't a general parser: a word has at most 64 bytes, and a decimal at most nine places. The
-//! names of tsp_distance are re-exported. No call takes memory.
-//!
-//! ```text
-//! let x = parse_decimal(b"1.50e+01")?;
-//! let n = parse_whole(b"12.0", 1, 100_000)?;
-//! let text = write_decimal(x);
-//! ```
+//! Distances are exact whole numbers over the decimals as written. A number word is read to a whole
+//! number or a decimal, or refused with a named fault; a decimal is spelled in one way.
 #![tactic(auto)]
 
+mod compared;
+mod decimal;
+mod distance;
 mod examples;
 mod laws;
+mod monotone;
+mod root;
 mod scan;
 mod shift;
+mod space;
 mod spelling;
 mod word;
 
+pub use compared::{is_att_at_least, is_ceil_2d_at_least, is_euc_2d_at_least, is_euc_3d_at_least};
+pub use decimal::{Decimal, InSpace, PlanePoint, Point, UNIT};
+pub use distance::{att, ceil_2d, euc_2d, man_2d, max_2d};
 pub use examples::{
-    examples_of_decimals, examples_of_fault_texts, examples_of_fronts, examples_of_spellings,
-    examples_of_whole_numbers,
+    examples_of_decimals, examples_of_distances, examples_of_distances_in_space,
+    examples_of_fault_texts, examples_of_fronts, examples_of_spellings, examples_of_whole_numbers,
 };
-pub use laws::{number_word_laws, spelling_laws};
+pub use laws::{distance_laws, number_word_laws, spelling_laws};
+pub use monotone::monotone_laws;
+pub use space::{euc_3d, man_3d, max_3d};
 pub use spelling::{MOST_SPELLING, write_decimal, write_pair, write_spelling};
-pub use tsp_distance::{
-    Decimal, InSpace, PlanePoint, Point, att, ceil_2d, euc_2d, euc_3d, man_2d, man_3d, max_2d,
-    max_3d,
-};
 pub use word::{NumberFault, front_decimal, front_few, front_whole, parse_decimal, parse_whole};

@@ -4,8 +4,8 @@
 ghost use Rattle.std.specs.Prelude.{◌≡◌, ◌+◌, ◌<◌, ◌≤◌, length, MatchOption, ℕ, None, Some};
 ghost use Rattle.std.specs.Option.{option_map};
 ghost use Rattle.std.specs.Str.Parse.{digits_value_after};
-ghost use Rattle.tsp_number.specs.Scan.{has_minus, after_sign, after_point, front_digits, after_digits, exponent_in, numeral_in};
-ghost use Rattle.tsp_number.specs.states.Written.{saturated, clamped, HoldsWord};
+ghost use Rattle.tsp_number.specs.NumberWord.{has_minus, after_sign, after_point, front_digits, after_digits, exponent_in, numeral_in};
+ghost use Rattle.tsp_number.specs.states.Digits.{saturated, clamped, HoldsWord};
 
 /// The largest size of an exponent that is distinguished from larger ones. With a larger one a
 /// number word of at most 64 bytes means 0, or a number that is too fine or too large, all the

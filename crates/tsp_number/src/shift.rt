@@ -4,7 +4,7 @@ ghost use Rattle.std.specs.Prelude.{◌≡◌, ◌+◌, ◌*◌, ◌^◌, ◌<�
 ghost use Rattle.std.specs.List.{list_all};
 ghost use Rattle.std.specs.Str.Parse.{AllDigits, digits_value};
 ghost use Rattle.tsp_number.specs.NumberWord.{Numeral, digits_of, shift_of as places_of};
-ghost use Rattle.tsp_number.specs.states.Written.{saturated, clamped, KeepsNumeral, ShiftsTo, DropsZeros};
+ghost use Rattle.tsp_number.specs.states.Digits.{saturated, clamped, KeepsNumeral, ShiftsTo, DropsZeros};
 
 use crate::scan::{Written, split_digits};
 

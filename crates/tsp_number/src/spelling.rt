@@ -2,14 +2,13 @@
 //! points that `src/writer/sections.rt` of tsp_file writes.
 
 ghost use Rattle.std.specs.Prelude.{◌≡◌, ◌+◌, ◌<◌, ◌≤◌, ◌++◌, length, drop, ◌-◌, ◌/◌, ◌%◌, ◌∷◌};
-ghost use Rattle.tsp_distance.specs.Decimal.{unit, most_count};
+ghost use Rattle.tsp_number.specs.Decimal.{unit, most_count};
 ghost use Rattle.arrayvec.specs.ArrayVec.{array_vec_len};
-ghost use Rattle.tsp_number.specs.NumberWord.{StandsFor};
-ghost use Rattle.tsp_number.specs.Spelling.{decimals, fraction_spelling, size_spelling, spelling, three_digits};
+ghost use Rattle.tsp_number.specs.NumberWord.{StandsFor, decimals, fraction_spelling, size_spelling, spelling, three_digits};
 
 use arrayvec::ArrayVec;
+use crate::decimal::{Decimal, UNIT};
 use itoa::write_digits;
-use tsp_distance::{Decimal, UNIT};
 
 /// The most bytes of a decimal's text.
 pub const MOST_SPELLING: usize = 21;

@@ -8,17 +8,16 @@ ghost use Rattle.std.specs.List.{prefix_len};
 ghost use Rattle.std.specs.Option.{option_map};
 ghost use Rattle.std.specs.Prelude.{◌≡◌, ◌≤ℤ◌, SomeIff, ◌+◌, ◌*◌, ◌^◌, ◌<◌, ◌≤◌, ◌*ℤ◌, pos, length, take, unsigned_abs, IfSome};
 ghost use Rattle.std.specs.Str.Parse.{AllDigits, digits_value};
-ghost use Rattle.tsp_distance.specs.Decimal.{unit, most_count};
-ghost use Rattle.tsp_number.specs.NumberWord.{ReadsDecimal, ReadsWhole, with_sign as signed_of, IsSign};
-ghost use Rattle.tsp_number.specs.Reading.{decimal_of, whole_of};
-ghost use Rattle.tsp_number.specs.states.NumberFront.{BeginsWithNumber, sign_count, digit_count, whole_end, few_end, decimal_end};
+ghost use Rattle.tsp_number.specs.Decimal.{unit, most_count};
+ghost use Rattle.tsp_number.specs.NumberWord.{ReadsDecimal, ReadsWhole, with_sign as signed_of, IsSign, decimal_of, whole_of};
+ghost use Rattle.tsp_number.specs.states.Digits.{BeginsWithNumber, sign_count, digit_count, whole_end, few_end, decimal_end};
 
+use crate::decimal::{Decimal, UNIT};
 use crate::scan::split_word;
 use crate::shift::{power_of_ten, shifted};
 use std::fmt;
 use std::simd::prelude::*;
 use thiserror::Error;
-use tsp_distance::{Decimal, UNIT};
 
 /// The most bytes that a number word has.
 const MOST_BYTES: usize = 64;
@@ -164,7 +163,7 @@ pub enum NumberFault {
 
 impl fmt::Display for NumberFault {
     ghost use Rattle.std.specs.Prelude.{Some};
-    ghost use Rattle.tsp_number.specs.NumberFaultText.{number_fault_text};
+    ghost use Rattle.tsp_number.specs.NumberWord.{number_fault_text};
 
     ghost output = { λ fault. Some (number_fault_text fault) };
 

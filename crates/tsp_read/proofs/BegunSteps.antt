@@ -1,28 +1,31 @@
--- A line or a word that the end of a piece cuts: its bytes are kept, and with the next piece it is an item. For
--- `Begun::join` in src/items.rt and others.
-use Rattle.std.proofs.Common.{◌≡◌, ℕ, ◌+◌, ◌<◌, ◌≤◌, Bool, true, false, List, [], ◌∷◌, ◌++◌, length, refl, sym, ap, subst, ◌∙◌, arith, Result, Ok, Err, append-nil, append_assoc, length-append}
-use Rattle.std.specs.Prelude.{not, ◌&&◌, ◌||◌, nat_lt, ◌↔◌, ◌==◌, IsOk, OnOk}
+-- The error that `?` propagates is the one of the call before it. tsp_judge and tsp_c import it too. For `feed_all` in
+-- src/asked_reads.rt and others.
+use Rattle.std.proofs.Common.{◌≡◌, ap, Result, Ok, Err, ℕ, ◌+◌, ◌<◌, ◌≤◌, Bool, true, false, List, [], ◌∷◌, ◌++◌, length, refl, sym, subst, ◌∙◌, arith, append-nil, append_assoc, length-append}
 use Rattle.std.proofs.lemmas.Bool.{true≢false, false≢true, ltb-false, lt-ltb, le-ltb, eqb-true}
 use Rattle.std.proofs.lemmas.List.{nil_from_length}
-use Rattle.tsp_format.specs.Bytes.{is_blank, is_letter}
+use Rattle.std.specs.Prelude.{not, ◌&&◌, ◌||◌, nat_lt, ◌↔◌, ◌==◌, IsOk, OnOk}
+use Rattle.std.specs.Result.{IsErrAnd}
 use Rattle.tsp_format.specs.Limits.{most_line_bytes}
+use Rattle.tsp_format.specs.Words.{is_blank, is_letter}
+use Rattle.tsp_text.proofs.SettledItems.{start_filled}
+use Rattle.tsp_text.specs.Items.{ends_line, is_not_empty, without_start, Item, LineEnd}
 use Rattle.tsp_text.specs.declared.fault.ReadFault.{ReadFault}
+use Rattle.tsp_read.proofs.IntakeSteps.{read_further, read_to_end, read_to_fault}
+use Rattle.tsp_read.proofs.LeftSteps.{letter_filled, left_none}
+use Rattle.tsp_read.proofs.Onwards.{end_next, line_begins, token_next, token_missing_next, on_before, on_from, at_from, cuts_alike}
+use Rattle.tsp_read.specs.declared.items.Begun.{Begun}
 use Rattle.tsp_read.specs.declared.items.Intake.{Intake}
 use Rattle.tsp_read.specs.declared.items.Token.{Token}
 use Rattle.tsp_read.specs.declared.items.Token.TheVariants.{Line, Word}
-use Rattle.tsp_read.specs.declared.items.Begun.{Begun}
-use Rattle.tsp_text.specs.Lines.{ends_line, is_not_empty, without_start}
-use Rattle.tsp_text.specs.Items.{Item, LineEnd}
-use Rattle.tsp_read.specs.states.Left.{items_left, ends_word, up_to_first, from, is_settled}
-use Rattle.tsp_read.specs.states.Token.{token_at, ends_token, most_bytes, token_item}
-use Rattle.tsp_read.specs.states.Onward.{GivesNext}
-use Rattle.tsp_read.specs.states.Intake.{HasTakenItems, TakesNext, IsReadTo, HasEnded, IsStoppedBy}
-use Rattle.tsp_read.specs.states.Begun.{HasBegunToken, HasBegun, kept, IsFedTo, IsJoinedTo}
-use Rattle.tsp_read.proofs.IntakeSteps.{read_further, read_to_end, read_to_fault}
-use Rattle.tsp_text.proofs.NoBlanks.{start_filled}
-use Rattle.tsp_read.proofs.LeftSteps.{letter_filled, left_none}
-use Rattle.tsp_read.proofs.NextSteps.{end_next, line_begins, token_next, token_missing_next}
-use Rattle.tsp_read.proofs.Onwards.{on_before, on_from, at_from, cuts_alike}
+use Rattle.tsp_read.specs.states.Left.{items_left, ends_word, up_to_first, from, is_settled, token_at, ends_token, most_bytes, token_item}
+use Rattle.tsp_read.specs.states.Onward.{GivesNext, HasTakenItems, TakesNext, IsReadTo, HasEnded, IsStoppedBy, HasBegunToken, HasBegun, kept, IsFedTo, IsJoinedTo}
+
+-- the error that it was given
+pub propagated : {T E : Type 0} (r : Result T E) (e : E) → IsErrAnd r (λ y. y ≡ e) → r ≡ Err e
+propagated (Ok x) e h = absurd h
+propagated (Err y) e h = ap (λ z. Err z) h
+
+-- ---- a line or a word that the end of a piece cuts: its bytes are kept
 
 -- ---- a list in which none passes, and more behind it
 

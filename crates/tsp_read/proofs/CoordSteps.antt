@@ -1,26 +1,26 @@
 -- One word more of a by-node section with a point for each node, of the plane or in space. For `PointList::push` in
 -- src/by_node.rt and others.
 use Rattle.std.proofs.Common.{◌≡◌, ℕ, ◌+◌, ◌-◌, ◌<◌, Bool, true, false, List, [], ◌∷◌, ◌++◌, length, map, set, refl, sym, ap, ap₂, subst, ◌∙◌, Option, None, Some, Ok, Err, arith}
-use Rattle.std.specs.Prelude.{ℤ, ◌==◌, nat_lt, replicate}
 use Rattle.std.proofs.lemmas.Bool.{false≢true}
-use Rattle.tsp_distance.specs.declared.decimal.Point.{Point}
-use Rattle.tsp_distance.specs.declared.decimal.PlanePoint.{PlanePoint}
-use Rattle.tsp_distance.specs.Distances.{on_plane}
-use Rattle.tsp_file.specs.Coords.{origin}
+use Rattle.std.specs.Prelude.{ℤ, ◌==◌, nat_lt, replicate}
+use Rattle.tsp_number.specs.Distances.{on_plane}
+use Rattle.tsp_number.specs.NumberWord.{decimal_of, whole_of}
+use Rattle.tsp_number.specs.declared.decimal.PlanePoint.{PlanePoint}
+use Rattle.tsp_number.specs.declared.decimal.Point.{Point}
 use Rattle.tsp_number.specs.declared.word.NumberFault.{NumberFault}
-use Rattle.tsp_number.specs.Reading.{decimal_of}
+use Rattle.tsp_file.specs.Cost.{origin}
+use Rattle.tsp_text.proofs.GroupWords.{Words}
+use Rattle.tsp_text.specs.Earlier.{place_by}
+use Rattle.tsp_text.specs.FaultRows.{word_fault}
+use Rattle.tsp_text.specs.Groups.{point_in, space_point_in, coords_by_node, number_value, place_of_number}
+use Rattle.tsp_text.specs.SectionWords.{number, is_minus_one, Coordinate, Amount}
+use Rattle.tsp_text.specs.Spells.{wants_more}
 use Rattle.tsp_text.specs.declared.fault.LineFault.{LineFault}
 use Rattle.tsp_text.specs.declared.fault.LineFault.TheVariants as row
-use Rattle.tsp_text.specs.SectionNumbers.{number, is_minus_one}
-use Rattle.tsp_text.specs.WordPlaces.{Coordinate}
-use Rattle.tsp_text.specs.Groups.{point_in, space_point_in, coords_by_node}
-use Rattle.tsp_text.specs.Sections.{place_by}
-use Rattle.tsp_text.specs.Spells.{wants_more}
-use Rattle.tsp_text.specs.FaultRows.{word_fault}
-use Rattle.tsp_text.proofs.GroupWords.{Words}
-use Rattle.tsp_read.specs.states.Parts.{AreReadAs, IsNewNode, PointsHold, SpacePointsHold, CoordsHold}
-use Rattle.tsp_read.specs.states.HeldParts.{shape_of_points}
+use Rattle.tsp_read.proofs.GroupSteps.{number_faulty, entry_taken}
 use Rattle.tsp_read.proofs.GroupSteps as groups
+use Rattle.tsp_read.specs.states.HeldParts.{shape_of_points}
+use Rattle.tsp_read.specs.states.Parts.{AreReadAs, IsNewNode, PointsHold, SpacePointsHold, CoordsHold, NumbersHold}
 
 -- the points as they are kept
 abbrev pub plane_points : List PlanePoint → List Point
@@ -136,3 +136,21 @@ module _ (seen : List Bool) (entries : List Point) (left : ℕ) (begun : Option 
       → (entries ≡ coords_by_node in_space n words) × (nat_lt 0 left ≡ wants_more (place_by (shape_of_points in_space) n words))
   all_taken false h = (groups.finish Coordinate h, groups.to_come Coordinate h refl)
   all_taken true h = (groups.finish Coordinate h, groups.to_come Coordinate h refl)
+
+-- ---- the number of a group of a by-node section with a whole number for each node
+
+number_read : (low high : ℤ) (word : List ℕ) (z : ℤ) → whole_of word low high ≡ Ok z → (first : List ℕ) (rest : Words) → AreReadAs [] [] rest
+    → ((length (first ∷ rest) + 1 == 2) ≡ true) × (number_value low high (first ∷ (rest ++ word ∷ [])) ≡ z)
+number_read low high word z read first [] kept = (refl, ap number read)
+number_read low high word z read first (other ∷ rest) kept = absurd kept
+
+module _ {seen : List Bool} {entries : List ℤ} {left : ℕ} {begun : Option ℕ} {n : ℕ} {words : Words} (low high : ℤ) (h : NumbersHold seen entries left begun low high n words) where
+  pub number_bad : (word : List ℕ) (k : ℕ) (fault : NumberFault) → 0 < left → begun ≡ Some k → whole_of word low high ≡ Err fault
+      → word_fault n (place_of_number low high n words) word ≡ Some (row.Number fault)
+  number_bad word k fault some is read = number_faulty (Amount low high) h word k (row.Number fault) some is (rw read refl)
+
+  pub number_taken : (word : List ℕ) (k : ℕ) (z : ℤ) → 0 < left → begun ≡ Some k → whole_of word low high ≡ Ok z
+      → (word_fault n (place_of_number low high n words) word ≡ None)
+      × NumbersHold (set seen (k - 1) true) (set entries (k - 1) z) (left - 1) None low high n (words ++ word ∷ [])
+  number_taken word k z some is read =
+      entry_taken (Amount low high) h z [] word k (omega arith) tt (number_read low high word z read) some is (rw read refl)

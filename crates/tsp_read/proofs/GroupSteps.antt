@@ -8,15 +8,14 @@ use Rattle.std.proofs.lemmas.List.{map_push, length_push, length-map, take-appen
 use Rattle.std.proofs.lemmas.Bool.Decides.{nat_tests}
 use Rattle.tsp_text.specs.declared.fault.LineFault.{LineFault}
 use Rattle.tsp_text.specs.declared.fault.LineFault.TheVariants as row
-use Rattle.tsp_text.specs.SectionNumbers.{number, node, is_minus_one}
-use Rattle.tsp_text.specs.WordPlaces.{Place, NodeAfter, PastGroups}
+use Rattle.tsp_text.specs.SectionWords.{number, node, is_minus_one, Place, NodeAfter, PastGroups}
 use Rattle.tsp_text.specs.Groups.{groups_in, begun_in, word_at, node_groups, nodes_of_groups, place_by_node, by_node}
 use Rattle.tsp_text.specs.Spells.{wants_more}
 use Rattle.tsp_text.specs.FaultRows.{word_fault}
 use Rattle.tsp_text.proofs.GroupWords.{Words, length_groups, begun_short, goes_on, group_ends, all_groups}
 use Rattle.tsp_read.specs.states.Parts.{AreReadAs, IsNewNode, NodesHold, GroupsHold}
-use Rattle.tsp_read.proofs.KeptWords.{Reader, none_kept, some_kept, keeps_more}
-use Rattle.tsp_read.proofs.NodeGroups as nodes
+use Rattle.tsp_read.proofs.ListSteps.{Reader, none_kept, some_kept, keeps_more}
+use Rattle.tsp_read.proofs.SectionLists as nodes
 
 le_times : (size a b : ℕ) → a ≤ b → size * a ≤ size * b
 le_times size a b le = grind arith

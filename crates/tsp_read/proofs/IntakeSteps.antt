@@ -1,35 +1,36 @@
 -- The items of a piece, taken one after the other: one item more, and the stop at a fault or an end line. For
 -- `Intake::take_items` and `Intake::long_word` in src/items.rt.
 use Rattle.std.proofs.Common.{◌≡◌, ℕ, Bool, true, false, List, [], ◌∷◌, ◌++◌, reverse, refl, sym, ap, subst, ◌∙◌, Option, Some, None, Ok, Err, append-nil, append_assoc}
-use Rattle.std.specs.List.{list_all}
-use Rattle.std.specs.Prelude.{◌&&◌, ◌||◌}
 use Rattle.std.proofs.lemmas.Bool.{true≢false, false≢true, eqb-true}
 use Rattle.std.proofs.lemmas.List.{reverse-append}
 use Rattle.std.proofs.lemmas.Option.{none-some}
-use Rattle.tsp_format.specs.Bytes.{is_blank}
+use Rattle.std.specs.List.{list_all}
+use Rattle.std.specs.Prelude.{◌&&◌, ◌||◌, cond, is_some, take}
+use Rattle.tsp_format.specs.Limits.{most_file_bytes}
+use Rattle.tsp_format.specs.Words.{is_blank}
 use Rattle.tsp_format.specs.declared.keyword.Field.{Field}
+use Rattle.tsp_format.specs.declared.keyword.Keyword.TheVariants.{Known, EdgeDataFormat, EdgeDataSection, Eof, Unknown}
+use Rattle.tsp_text.proofs.SettledFaults.{long_row, long_fault, same_fault, clean_more}
+use Rattle.tsp_text.proofs.ValidRows.{rows_of_word, long_line, clean_parts}
+use Rattle.tsp_text.specs.Earlier.{open_section, words_of, spatial_after, place_in, dimension_in}
+use Rattle.tsp_text.specs.FaultRows.{row_of}
+use Rattle.tsp_text.specs.Items.{ends_line, Item, Line, NumberWord, LineEnd, settled_items, is_end_line, has_end_line, words_before, word_number, to_end_line}
+use Rattle.tsp_text.specs.Spells.{IsClean, part, settled_part}
 use Rattle.tsp_text.specs.declared.fault.LineFault.{LineFault}
 use Rattle.tsp_text.specs.declared.fault.LineFault.TheVariants as row
 use Rattle.tsp_text.specs.declared.fault.ReadFault.{ReadFault}
 use Rattle.tsp_text.specs.declared.fault.ReadFault.TheVariants as faults
-use Rattle.tsp_read.specs.declared.items.Intake.{Intake}
-use Rattle.tsp_text.specs.Lines.{ends_line}
-use Rattle.tsp_text.specs.Items.{Item, Line, NumberWord, LineEnd, settled_items, is_end_line, has_end_line}
-use Rattle.tsp_text.specs.Earlier.{open_section, words_of}
-use Rattle.tsp_text.specs.Values.{spatial_after}
-use Rattle.tsp_text.specs.Sections.{place_in, dimension_in}
-use Rattle.tsp_text.specs.FaultRows.{row_of}
-use Rattle.tsp_text.specs.FirstFault.{IsClean}
-use Rattle.tsp_read.specs.states.Holds.{Holds}
-use Rattle.tsp_read.specs.states.Left.{items_left, ends_word}
-use Rattle.tsp_read.specs.states.Walk.{Walked}
-use Rattle.tsp_read.specs.states.Onward.{is_bare, is_line_end, is_over_long, GivesNext, GoesOn}
-use Rattle.tsp_read.specs.states.Intake.{HasTakenItems, TakesNext, IsReadTo, settled_so_far, HasEnded, IsStoppedBy}
 use Rattle.tsp_read.proofs.LeftSteps.{all_settled, left_blank, left_end, left_none}
-use Rattle.tsp_text.proofs.ItemRows.{word_rows, long_line}
-use Rattle.tsp_text.proofs.ValidRows.{clean_parts}
-use Rattle.tsp_text.proofs.SettledFaults.{long_row, long_fault, same_fault}
-use Rattle.tsp_read.proofs.Walks.{walked_to_end, walked_found}
+use Rattle.tsp_read.proofs.Onwards.{walked_to_end, walked_found}
+use Rattle.tsp_read.specs.Reads.{IsEnded}
+use Rattle.tsp_read.specs.declared.items.Intake.{Intake}
+use Rattle.tsp_read.specs.declared.items.Next.{Next}
+use Rattle.tsp_read.specs.declared.items.Next.TheVariants as next
+use Rattle.tsp_read.specs.declared.reading.OpenSection.{OpenSection}
+use Rattle.tsp_read.specs.declared.reading.Reading.{Reading}
+use Rattle.tsp_read.specs.states.Holds.{Holds, OpenHolds}
+use Rattle.tsp_read.specs.states.Left.{items_left, ends_word, item_next}
+use Rattle.tsp_read.specs.states.Onward.{Walked, is_bare, is_line_end, is_over_long, GivesNext, GoesOn, HasTakenItems, TakesNext, IsReadTo, settled_so_far, HasEnded, IsStoppedBy, TakesItem}
 
 -- ---- an item that is too long has a row
 
@@ -188,3 +189,101 @@ same_long earlier long word new faults.TooLong a b taken = taken
 pub never_long : (earlier : List Item) (item : Item) (new : Intake) (ended : Bool) → is_over_long item ≡ true
     → TakesNext earlier item new (Ok ended) → ⊥
 never_long earlier item new ended long taken = true≢false (sym long ∙ clean_is_short earlier item taken.0.holds.clean)
+
+-- ---- one item that the reader takes
+
+-- ---- one item
+
+still_open : (part : Option OpenSection) (earlier : List Item) → OpenHolds part earlier → OpenHolds part (LineEnd ∷ earlier)
+still_open None earlier h = h
+still_open (Some part) earlier h = h
+
+-- a line's end changes nothing
+pub line_ends : (reading : Reading) (earlier : List Item) → Holds reading earlier → Holds reading (LineEnd ∷ earlier)
+line_ends reading earlier h = record {
+  clean = clean_more earlier LineEnd h.clean refl;
+  stand = h.stand;
+  spelled = h.spelled;
+  incomplete = h.incomplete;
+  part = still_open reading.opened earlier h.part;
+}
+
+pub line_ended : (reading : Reading) (earlier : List Item) (item : Next) → item ≡ next.LineEnd → Holds reading earlier
+    → TakesItem earlier (item_next item) reading (Ok false)
+line_ended reading earlier item is h =
+    let P : Next → Type 0 = λ i. TakesItem earlier (item_next i) reading (Ok false) in
+    subst P (sym is) (line_ends reading earlier h, refl)
+
+pub word_taken : (new : Reading) (earlier : List Item) (item : Next) (word : List ℕ) → item_next item ≡ NumberWord word
+    → Holds new (NumberWord word ∷ earlier)
+    → TakesItem earlier (item_next item) new (Ok false)
+word_taken new earlier item word is h = let P : Item → Type 0 = λ i. TakesItem earlier i new (Ok false) in subst P (sym is) (h, refl)
+
+pub takes_ok : (earlier : List Item) (cut item : Item) (new : Reading) (ended : Bool) → cut ≡ item → Holds new (cut ∷ earlier)
+    → ended ≡ is_end_line cut → TakesItem earlier item new (Ok ended)
+takes_ok earlier cut item new ended same h e = let P : Item → Type 0 = λ i. TakesItem earlier i new (Ok ended) in subst P same (h, e)
+
+-- ---- counts
+
+-- after an item the line has as many words as the number of that item
+pub words_next : (earlier : List Item) (item : Item) → word_number earlier item ≡ words_before (item ∷ earlier)
+words_next earlier (Line key line) = refl
+words_next earlier (NumberWord word) = refl
+words_next earlier LineEnd = refl
+
+-- ---- after an end line, as EOF, no section is open
+
+end_opens_none : (item : Item) (earlier : List Item) → is_end_line item ≡ true → open_section (item ∷ earlier) ≡ None
+end_opens_none (Line (Known field) line) earlier e = absurd (false≢true e)
+end_opens_none (Line EdgeDataFormat line) earlier e = absurd (false≢true e)
+end_opens_none (Line EdgeDataSection line) earlier e = absurd (false≢true e)
+end_opens_none (Line Eof line) earlier e = refl
+end_opens_none (Line Unknown line) earlier e = absurd (false≢true e)
+end_opens_none (NumberWord word) earlier e = absurd (false≢true e)
+end_opens_none LineEnd earlier e = absurd (false≢true e)
+
+any_behind : (first all front : Bool) → (all ≡ true → front ≡ true) → (first || all) ≡ true → (first || front) ≡ true
+any_behind true all front back any = refl
+any_behind false all front back any = back any
+
+-- a test that the last element fails is passed before it
+any_front : (items : List Item) (last : Item) → is_end_line last ≡ false → has_end_line (items ++ last ∷ []) ≡ true
+    → has_end_line items ≡ true
+any_front [] last fails any = absurd (false≢true (ap (λ b. b || false) (sym fails) ∙ any))
+any_front (item ∷ items) last fails any =
+    any_behind (is_end_line item) (has_end_line (items ++ last ∷ [])) (has_end_line items) (any_front items last fails) any
+
+-- the text behind a line doesn't count
+front_decides : (items : List Item) (last : Item) → has_end_line items ≡ true
+    → open_section (items ++ last ∷ []) ≡ open_section items
+front_decides [] last any = absurd (false≢true any)
+front_decides (Line key line ∷ items) last any = refl
+front_decides (NumberWord word ∷ items) last any = front_decides items last any
+front_decides (LineEnd ∷ items) last any = front_decides items last any
+
+turned : (item : Item) (items : List Item) → reverse (item ∷ items) ≡ reverse items ++ item ∷ []
+turned item items = reverse-append (item ∷ []) items
+
+closed_by_end : (items : List Item) → has_end_line (reverse (to_end_line items)) ≡ true
+    → open_section (reverse (to_end_line items)) ≡ None
+closed_by_end [] any = absurd (false≢true any)
+closed_by_end (item ∷ items) any = by_case (is_end_line item) refl (closed_by_end items)
+  where
+    by_case : (b : Bool) → is_end_line item ≡ b → (has_end_line (reverse (to_end_line items)) ≡ true → open_section (reverse (to_end_line items)) ≡ None)
+        → open_section (reverse (to_end_line (item ∷ items))) ≡ None
+    by_case true e rest = ap (λ b. open_section (reverse (item ∷ cond b [] (to_end_line items)))) e ∙ end_opens_none item [] e
+    by_case false e rest =
+        let same : reverse (to_end_line (item ∷ items)) ≡ reverse (to_end_line items) ++ item ∷ [] =
+        ap (λ b. reverse (item ∷ cond b [] (to_end_line items))) e ∙ turned item (to_end_line items) in
+        let before : has_end_line (reverse (to_end_line items)) ≡ true =
+        any_front (reverse (to_end_line items)) item e (sym (ap has_end_line same) ∙ any) in
+        ap open_section same ∙ front_decides (reverse (to_end_line items)) item before ∙ rest before
+
+no_part : (opened : Option OpenSection) (items : List Item) → OpenHolds opened items → open_section items ≡ None
+    → is_some opened ≡ false
+no_part None items h none = refl
+no_part (Some p) items h none = absurd (none-some p.field (sym none ∙ h.0))
+
+pub ended_none : (reading : Reading) (bytes : List ℕ) → IsEnded reading bytes → is_some reading.opened ≡ false
+ended_none reading bytes h =
+    no_part reading.opened (settled_part bytes) h.holds.part (closed_by_end (settled_items (take most_file_bytes bytes)) h.ended)

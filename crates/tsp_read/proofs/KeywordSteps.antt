@@ -1,46 +1,126 @@
--- The line of a keyword with a word or a number as its value: the field that it gives, or its fault. For
--- `Reading::number` and `Reading::known` in src/reading.rt.
-use Rattle.std.proofs.Common.{cond, ◌≡◌, ℕ, Bool, true, false, List, ◌∷◌, set, get_or, refl, sym, ap, subst, ◌∙◌, Option, Some, None, Result, Ok, Err}
+-- A statement of every keyword, from one proof of it for each keyword: NAME, TYPE and so on. For `Reading::known` in
+-- src/reading.rt.
+use Rattle.std.proofs.Common.{◌≡◌, ◌≢◌, Bool, refl, subst, Some, None, cond, ℕ, true, false, List, ◌∷◌, set, get_or, sym, ap, ◌∙◌, Option, Result, Ok, Err}
+use Rattle.std.specs.List.{find}
 use Rattle.std.specs.Prelude.{ℤ, pos, nat_abs, nat_lt, is_some, is_none, not, ◌&&◌}
 use Rattle.std.specs.Result.{result_ok}
-use Rattle.std.specs.List.{find}
+use Rattle.tsp_number.specs.NumberWord.{whole_of}
+use Rattle.tsp_number.specs.declared.decimal.Point.{Point}
 use Rattle.tsp_number.specs.declared.word.NumberFault.{NumberFault}
-use Rattle.tsp_number.specs.Reading.{whole_of}
-use Rattle.tsp_format.specs.declared.kinds.Kind.{Kind}
-use Rattle.tsp_format.specs.declared.kinds.WeightKind.{WeightKind}
-use Rattle.tsp_format.specs.declared.kinds.WeightFormat.{WeightFormat}
+use Rattle.tsp_format.specs.Limits.{most_nodes, most_capacity, most_scale, most_load_unit, shape_of, value_shape_of, most_line_bytes, is_section_field}
+use Rattle.tsp_format.specs.Words.{kind_word, weight_kind_word, weight_format_word, coord_kind_word, display_kind_word, kinds, weight_kinds, weight_formats, coord_kinds, display_kinds}
+use Rattle.tsp_format.specs.declared.keyword.Field.{Field}
+use Rattle.tsp_format.specs.declared.keyword.Field.TheVariants.{NameKey, TypeKey, CommentKey, OtherKey, DimensionKey, CapacityKey, ScaleKey, LoadUnitKey, EdgeWeightTypeKey, EdgeWeightFormatKey, NodeCoordTypeKey, DisplayDataTypeKey, NodeCoordPart, DisplayDataPart, DemandPart, DepotPart, FixedEdgesPart, EdgeWeightPart, TourPart, NodePotentialPart, RowPotentialPart, ColumnPotentialPart, FixedEdgePotentialPart, CombPart, BranchPart}
+use Rattle.tsp_format.specs.declared.keyword.Keyword.TheVariants.{Known}
+use Rattle.tsp_format.specs.declared.keyword.ValueShape.{ValueShape}
+use Rattle.tsp_format.specs.declared.keyword.ValueShape.TheVariants.{Kept, KeptEach, Number, Word}
 use Rattle.tsp_format.specs.declared.kinds.CoordKind.{CoordKind}
 use Rattle.tsp_format.specs.declared.kinds.DisplayKind.{DisplayKind}
-use Rattle.tsp_format.specs.declared.keyword.Field.{Field}
-use Rattle.tsp_format.specs.declared.keyword.Field.TheVariants.{TypeKey, DimensionKey, CapacityKey, ScaleKey, LoadUnitKey, EdgeWeightTypeKey, EdgeWeightFormatKey, NodeCoordTypeKey, DisplayDataTypeKey, NodeCoordPart, DisplayDataPart, DemandPart, DepotPart, FixedEdgesPart, EdgeWeightPart, TourPart, NodePotentialPart, RowPotentialPart, ColumnPotentialPart, FixedEdgePotentialPart, CombPart, BranchPart}
-use Rattle.tsp_format.specs.declared.keyword.Keyword.TheVariants.{Known}
-use Rattle.tsp_format.specs.Limits.{most_nodes, most_capacity, most_scale, most_load_unit, most_line_bytes}
-use Rattle.tsp_format.specs.Words.{kind_word, weight_kind_word, weight_format_word, coord_kind_word, display_kind_word, kinds, weight_kinds, weight_formats, coord_kinds, display_kinds}
-use Rattle.tsp_distance.specs.declared.decimal.Point.{Point}
+use Rattle.tsp_format.specs.declared.kinds.Kind.{Kind}
+use Rattle.tsp_format.specs.declared.kinds.WeightFormat.{WeightFormat}
+use Rattle.tsp_format.specs.declared.kinds.WeightKind.{WeightKind}
 use Rattle.tsp_file.specs.Fields.{Fields, spatial, stands_in, with_one_number}
 use Rattle.tsp_file.specs.states.Drafts.{fields_of}
+use Rattle.tsp_text.proofs.SettledFaults.{clean_more}
+use Rattle.tsp_text.proofs.ValidItems.{after_dimension}
+use Rattle.tsp_text.proofs.ValidRows.{space_kept, coords_stay, first_stays}
+use Rattle.tsp_text.specs.Earlier.{same_field, has_line, open_section, words_of, kind_named, weight_kind_named, weight_format_named, coord_kind_named, display_kind_named, is_left_out, says_space, spatial_after, dimension_in}
+use Rattle.tsp_text.specs.FaultRows.{row_of, is_late}
+use Rattle.tsp_text.specs.Groups.{coords_by_node}
+use Rattle.tsp_text.specs.Items.{is_not_empty, first_word, WordLine, Item, Line}
+use Rattle.tsp_text.specs.Spells.{IsClean, fields_by, sections_in_order, first_incomplete}
 use Rattle.tsp_text.specs.declared.fault.LineFault.{LineFault}
 use Rattle.tsp_read.specs.declared.line.StepFault.{StepFault}
 use Rattle.tsp_read.specs.declared.line.StepFault.TheVariants as steps
 use Rattle.tsp_read.specs.declared.reading.OpenSection.{OpenSection}
 use Rattle.tsp_read.specs.declared.reading.Reading.{Reading}
-use Rattle.tsp_text.specs.Lines.{is_not_empty, first_word}
-use Rattle.tsp_text.specs.Items.{WordLine, Item, Line}
-use Rattle.tsp_text.specs.Earlier.{same_field, has_line, open_section, words_of}
-use Rattle.tsp_text.specs.Values.{kind_named, weight_kind_named, weight_format_named, coord_kind_named, display_kind_named, is_left_out, says_space, spatial_after}
-use Rattle.tsp_text.specs.Groups.{coords_by_node}
-use Rattle.tsp_text.specs.Sections.{dimension_in}
-use Rattle.tsp_text.specs.FaultRows.{row_of, is_late}
-use Rattle.tsp_text.specs.FirstFault.{IsClean}
-use Rattle.tsp_format.specs.declared.keyword.ValueShape.TheVariants.{Number}
-use Rattle.tsp_format.specs.Shapes.{is_section_field, value_shape_of}
-use Rattle.tsp_text.specs.Spells.{fields_by, sections_in_order, first_incomplete}
-use Rattle.tsp_read.specs.states.CutLine.{named_rows, SetsNamed, numbered_rows, GivesNumber}
-use Rattle.tsp_read.specs.states.Holds.{fields_there, is_closed, is_closed_incomplete, OpenHolds, Closed, LineAnswers}
-use Rattle.tsp_text.proofs.Clean.{clean_more}
-use Rattle.tsp_read.proofs.KeywordCases.{by_number}
-use Rattle.tsp_text.proofs.SpaceSteps.{space_kept, coords_stay, first_stays}
-use Rattle.tsp_text.proofs.ValidStanding.{after_dimension}
+use Rattle.tsp_read.specs.states.Holds.{named_rows, SetsNamed, numbered_rows, GivesNumber, fields_there, is_closed, is_closed_incomplete, OpenHolds, Closed, LineAnswers}
+
+shaped : (P : ValueShape → Type 0) (a b : ValueShape) → P a → Some a ≡ Some b → P b
+shaped P a b p is = let same : a ≡ b = cc in subst P same p
+
+-- what holds of each keyword holds of every field whose value is read as something
+-- plan: by the field: a keyword has one shape (`shaped`), and a section has none
+pub by_keyword : (P : Field → ValueShape → Type 0) → P NameKey Kept → P TypeKey Word → P CommentKey KeptEach
+    → P DimensionKey (Number (pos 1) (pos most_nodes)) → P CapacityKey (Number (pos 1) (pos most_capacity))
+    → P ScaleKey (Number (pos 1) (pos most_scale)) → P LoadUnitKey (Number (pos 1) (pos most_load_unit))
+    → P EdgeWeightTypeKey Word → P EdgeWeightFormatKey Word
+    → P NodeCoordTypeKey Word → P DisplayDataTypeKey Word
+    → (f : Field) (shape : ValueShape) → value_shape_of f ≡ Some shape → P f shape
+by_keyword P p0 p1 p2 p3 p4 p5 p6 p7 p8 p9 p10 NameKey shape e = shaped (P NameKey) _ shape p0 e
+by_keyword P p0 p1 p2 p3 p4 p5 p6 p7 p8 p9 p10 TypeKey shape e = shaped (P TypeKey) _ shape p1 e
+by_keyword P p0 p1 p2 p3 p4 p5 p6 p7 p8 p9 p10 CommentKey shape e = shaped (P CommentKey) _ shape p2 e
+by_keyword P p0 p1 p2 p3 p4 p5 p6 p7 p8 p9 p10 OtherKey shape e = absurd cc
+by_keyword P p0 p1 p2 p3 p4 p5 p6 p7 p8 p9 p10 DimensionKey shape e = shaped (P DimensionKey) _ shape p3 e
+by_keyword P p0 p1 p2 p3 p4 p5 p6 p7 p8 p9 p10 CapacityKey shape e = shaped (P CapacityKey) _ shape p4 e
+by_keyword P p0 p1 p2 p3 p4 p5 p6 p7 p8 p9 p10 ScaleKey shape e = shaped (P ScaleKey) _ shape p5 e
+by_keyword P p0 p1 p2 p3 p4 p5 p6 p7 p8 p9 p10 LoadUnitKey shape e = shaped (P LoadUnitKey) _ shape p6 e
+by_keyword P p0 p1 p2 p3 p4 p5 p6 p7 p8 p9 p10 EdgeWeightTypeKey shape e = shaped (P EdgeWeightTypeKey) _ shape p7 e
+by_keyword P p0 p1 p2 p3 p4 p5 p6 p7 p8 p9 p10 EdgeWeightFormatKey shape e = shaped (P EdgeWeightFormatKey) _ shape p8 e
+by_keyword P p0 p1 p2 p3 p4 p5 p6 p7 p8 p9 p10 NodeCoordTypeKey shape e = shaped (P NodeCoordTypeKey) _ shape p9 e
+by_keyword P p0 p1 p2 p3 p4 p5 p6 p7 p8 p9 p10 DisplayDataTypeKey shape e = shaped (P DisplayDataTypeKey) _ shape p10 e
+by_keyword P p0 p1 p2 p3 p4 p5 p6 p7 p8 p9 p10 NodeCoordPart shape e = absurd cc
+by_keyword P p0 p1 p2 p3 p4 p5 p6 p7 p8 p9 p10 DisplayDataPart shape e = absurd cc
+by_keyword P p0 p1 p2 p3 p4 p5 p6 p7 p8 p9 p10 DemandPart shape e = absurd cc
+by_keyword P p0 p1 p2 p3 p4 p5 p6 p7 p8 p9 p10 DepotPart shape e = absurd cc
+by_keyword P p0 p1 p2 p3 p4 p5 p6 p7 p8 p9 p10 FixedEdgesPart shape e = absurd cc
+by_keyword P p0 p1 p2 p3 p4 p5 p6 p7 p8 p9 p10 EdgeWeightPart shape e = absurd cc
+by_keyword P p0 p1 p2 p3 p4 p5 p6 p7 p8 p9 p10 TourPart shape e = absurd cc
+by_keyword P p0 p1 p2 p3 p4 p5 p6 p7 p8 p9 p10 NodePotentialPart shape e = absurd cc
+by_keyword P p0 p1 p2 p3 p4 p5 p6 p7 p8 p9 p10 RowPotentialPart shape e = absurd cc
+by_keyword P p0 p1 p2 p3 p4 p5 p6 p7 p8 p9 p10 ColumnPotentialPart shape e = absurd cc
+by_keyword P p0 p1 p2 p3 p4 p5 p6 p7 p8 p9 p10 FixedEdgePotentialPart shape e = absurd cc
+by_keyword P p0 p1 p2 p3 p4 p5 p6 p7 p8 p9 p10 CombPart shape e = absurd cc
+by_keyword P p0 p1 p2 p3 p4 p5 p6 p7 p8 p9 p10 BranchPart shape e = absurd cc
+
+ranged : (P : ℤ → ℤ → Type 0) (l h low high : ℤ) → P l h → Number l h ≡ Number low high → P low high
+ranged P l h low high p is =
+    let first : l ≡ low = cc in
+    let last : h ≡ high = cc in
+    subst (λ (k : ℤ). P k high) first (subst (λ (k : ℤ). P l k) last p)
+
+-- what holds of each keyword with a number holds of every field with one
+pub by_number : (P : Field → ℤ → ℤ → Type 0) → P DimensionKey (pos 1) (pos most_nodes) → P CapacityKey (pos 1) (pos most_capacity)
+    → P ScaleKey (pos 1) (pos most_scale) → P LoadUnitKey (pos 1) (pos most_load_unit)
+    → (f : Field) (low high : ℤ) → value_shape_of f ≡ Some (Number low high) → P f low high
+by_number P p0 p1 p2 p3 f low high e = by_keyword (λ field shape. shape ≡ Number low high → P field low high)
+    (λ is. absurd cc) (λ is. absurd cc) (λ is. absurd cc) (ranged (P DimensionKey) _ _ low high p0)
+    (ranged (P CapacityKey) _ _ low high p1) (ranged (P ScaleKey) _ _ low high p2)
+    (ranged (P LoadUnitKey) _ _ low high p3) (λ is. absurd cc) (λ is. absurd cc)
+    (λ is. absurd cc) (λ is. absurd cc) f (Number low high) e refl
+
+-- a field that is no section, no keyword with a number, and none with its own place
+-- plan: by the field: each but the last has a premise against it
+pub other_alone : (in_space : Bool) (f : Field) → shape_of in_space f ≡ None → f ≢ NameKey → f ≢ TypeKey → f ≢ CommentKey
+    → f ≢ EdgeWeightTypeKey → f ≢ EdgeWeightFormatKey
+    → f ≢ NodeCoordTypeKey → f ≢ DisplayDataTypeKey → ((low high : ℤ) → value_shape_of f ≢ Some (Number low high)) → f ≡ OtherKey
+other_alone in_space NameKey shape k0 k1 k2 k3 k4 k5 k6 numbered = absurd (k0 refl)
+other_alone in_space TypeKey shape k0 k1 k2 k3 k4 k5 k6 numbered = absurd (k1 refl)
+other_alone in_space CommentKey shape k0 k1 k2 k3 k4 k5 k6 numbered = absurd (k2 refl)
+other_alone in_space OtherKey shape k0 k1 k2 k3 k4 k5 k6 numbered = refl
+other_alone in_space DimensionKey shape k0 k1 k2 k3 k4 k5 k6 numbered = absurd (numbered (pos 1) (pos most_nodes) refl)
+other_alone in_space CapacityKey shape k0 k1 k2 k3 k4 k5 k6 numbered = absurd (numbered (pos 1) (pos most_capacity) refl)
+other_alone in_space ScaleKey shape k0 k1 k2 k3 k4 k5 k6 numbered = absurd (numbered (pos 1) (pos most_scale) refl)
+other_alone in_space LoadUnitKey shape k0 k1 k2 k3 k4 k5 k6 numbered = absurd (numbered (pos 1) (pos most_load_unit) refl)
+other_alone in_space EdgeWeightTypeKey shape k0 k1 k2 k3 k4 k5 k6 numbered = absurd (k3 refl)
+other_alone in_space EdgeWeightFormatKey shape k0 k1 k2 k3 k4 k5 k6 numbered = absurd (k4 refl)
+other_alone in_space NodeCoordTypeKey shape k0 k1 k2 k3 k4 k5 k6 numbered = absurd (k5 refl)
+other_alone in_space DisplayDataTypeKey shape k0 k1 k2 k3 k4 k5 k6 numbered = absurd (k6 refl)
+other_alone in_space NodeCoordPart shape k0 k1 k2 k3 k4 k5 k6 numbered = cc
+other_alone in_space DisplayDataPart shape k0 k1 k2 k3 k4 k5 k6 numbered = cc
+other_alone in_space DemandPart shape k0 k1 k2 k3 k4 k5 k6 numbered = cc
+other_alone in_space DepotPart shape k0 k1 k2 k3 k4 k5 k6 numbered = cc
+other_alone in_space FixedEdgesPart shape k0 k1 k2 k3 k4 k5 k6 numbered = cc
+other_alone in_space EdgeWeightPart shape k0 k1 k2 k3 k4 k5 k6 numbered = cc
+other_alone in_space TourPart shape k0 k1 k2 k3 k4 k5 k6 numbered = cc
+other_alone in_space NodePotentialPart shape k0 k1 k2 k3 k4 k5 k6 numbered = cc
+other_alone in_space RowPotentialPart shape k0 k1 k2 k3 k4 k5 k6 numbered = cc
+other_alone in_space ColumnPotentialPart shape k0 k1 k2 k3 k4 k5 k6 numbered = cc
+other_alone in_space FixedEdgePotentialPart shape k0 k1 k2 k3 k4 k5 k6 numbered = cc
+other_alone in_space CombPart shape k0 k1 k2 k3 k4 k5 k6 numbered = cc
+other_alone in_space BranchPart shape k0 k1 k2 k3 k4 k5 k6 numbered = cc
+
+-- ---- the line of a keyword with a word or a number as its value
 
 -- no section is open after a line that opens none
 pub still_none : (old new : Reading) (items : List Item) → open_section items ≡ None → new.opened ≡ old.opened → old.opened ≡ None

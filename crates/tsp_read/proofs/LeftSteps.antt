@@ -5,11 +5,10 @@ use Rattle.std.specs.Prelude.{not, ◌||◌, ◌&&◌, nat_lt}
 use Rattle.std.specs.List.{slice_split, onto_first, position_or_len, filter}
 use Rattle.std.proofs.lemmas.Bool.{eqb-true, ne_eqb}
 use Rattle.std.proofs.lemmas.Bool.Decides.{nat_tests}
-use Rattle.tsp_format.specs.Bytes.{is_blank, is_letter}
+use Rattle.tsp_format.specs.Words.{is_blank, is_letter}
 use Rattle.tsp_format.specs.Limits.{most_word_bytes, most_line_bytes}
-use Rattle.tsp_text.specs.Lines.{lines_of, words_in, ends_line, is_not_empty, without_start, begins}
-use Rattle.tsp_text.specs.Items.{Item, NumberWord, LineEnd, line_item, items_in, items_by, items_of, settled_pieces, settled_words, settled_line, settled_in, settled_items}
-use Rattle.tsp_text.proofs.NoBlanks.{start_blank, start_filled}
+use Rattle.tsp_text.specs.Items.{lines_of, words_in, ends_line, is_not_empty, without_start, begins, Item, NumberWord, LineEnd, line_item, items_in, items_by, items_of, settled_pieces, settled_words, settled_line, settled_in, settled_items}
+use Rattle.tsp_text.proofs.SettledItems.{start_blank, start_filled}
 use Rattle.tsp_read.specs.states.Left.{items_of_rest, last_items, items_left_by, items_left, ends_word, up_to_first, from, is_settled}
 
 -- ---- pieces

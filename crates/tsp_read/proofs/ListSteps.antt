@@ -1,27 +1,130 @@
--- One word more of groups that -1 ends, as fixed pairs and multipliers are. For `FixedList::push_first` in
--- src/lists.rt and others.
-use Rattle.std.proofs.Common.{◌≡◌, ◌≢◌, ℕ, suc, ◌+◌, ◌<◌, ◌≤◌, Bool, true, false, List, [], ◌∷◌, ◌++◌, length, map, get_or, refl, sym, ap, subst, ◌∙◌, Option, None, Some, Ok, Err}
-use Rattle.std.specs.Prelude.{ℤ, pos, negsuc, ◌==◌, nat_le, is_some}
-use Rattle.std.specs.Option.{option_map}
-use Rattle.std.specs.List.{list_any}
-use Rattle.std.specs.Ordering.{int_eq}
+-- The words of a group that has begun, and the numbers that its list keeps of them. For `NumberList::push` in
+-- src/by_node.rt and others.
+use Rattle.std.proofs.Common.{◌≡◌, ℕ, suc, List, [], ◌∷◌, ◌++◌, length, map, get_or, refl, ap, Option, None, Some, Ok, ◌+◌, ◌<◌, Bool, true, false, sym, ◌∙◌, arith, ◌≢◌, ◌≤◌, subst, Err, ap₂, cond, drop}
+use Rattle.std.proofs.lemmas.Bool.{lt-leb, le-leb, false_from_ne_true, ltb-true, ltb-false}
+use Rattle.std.proofs.lemmas.Bool.Decides.{nat_tests, Decides-int_eq}
 use Rattle.std.proofs.lemmas.List.{map_push, length_push}
-use Rattle.std.proofs.lemmas.Bool.{lt-leb, le-leb, false_from_ne_true}
-use Rattle.std.proofs.lemmas.Bool.Decides.{Decides-int_eq}
+use Rattle.std.proofs.lemmas.List.Sums.{prefix_len-le-length}
+use Rattle.std.proofs.lemmas.Option.{cond_some}
+use Rattle.std.specs.List.{list_any, prefix_len, position, position_or_len}
+use Rattle.std.specs.Option.{option_map}
+use Rattle.std.specs.Ordering.{int_eq}
+use Rattle.std.specs.Prelude.{ℤ, Result, pos, negsuc, nat_abs, nat_le, ◌==◌, is_some, not}
 use Rattle.tsp_number.specs.declared.word.NumberFault.{NumberFault}
-use Rattle.tsp_format.specs.Limits.{most_fixed}
-use Rattle.tsp_text.specs.declared.fault.LineFault.TheVariants as row
-use Rattle.tsp_text.specs.SectionNumbers.{number, node, node_or_end, is_end, is_minus_one}
-use Rattle.tsp_text.specs.WordPlaces.{Place, PastEnd, FirstAfter, SecondOf}
-use Rattle.tsp_text.specs.Groups.{groups_in, begun_in}
-use Rattle.tsp_text.specs.Lists.{firsts_in, place_in_list}
-use Rattle.tsp_text.specs.Spells.{wants_more}
-use Rattle.tsp_text.specs.FaultRows.{word_fault}
-use Rattle.tsp_text.proofs.Ended.{any_push, and_false}
+use Rattle.tsp_format.specs.Limits.{most_depots, most_fixed}
 use Rattle.tsp_text.proofs.GroupWords.{Words, goes_on, group_ends, firsts_begin, firsts_on, firsts_kept, groups_kept, groups_none}
-use Rattle.tsp_read.specs.states.Parts.{AreReadAs, ListHolds}
-use Rattle.tsp_read.proofs.DepotSteps.{past_end_clean}
-use Rattle.tsp_read.proofs.KeptWords.{Reader, none_kept, some_kept, keeps_more}
+use Rattle.tsp_text.proofs.ValidKeywords.{and_false, any_kept, any_push, before_kept, before_none, before_end, before_push}
+use Rattle.tsp_text.specs.FaultRows.{word_fault, when, first_row}
+use Rattle.tsp_text.specs.Groups.{place_of_depot, groups_in, begun_in, firsts_in, place_in_list, fixed_pair, place_in_pair, place_of_fixed}
+use Rattle.tsp_text.specs.SectionWords.{number, node_or_end, is_end, is_minus_one, Place, PastEnd, DepotAfter, node, FirstAfter, SecondOf}
+use Rattle.tsp_text.specs.Spells.{wants_more}
+use Rattle.tsp_text.specs.declared.fault.LineFault.{LineFault}
+use Rattle.tsp_text.specs.declared.fault.LineFault.TheVariants as row
+use Rattle.tsp_read.specs.states.Parts.{AreReadAs, DepotsHold, ListHolds, PairsHold}
+
+abbrev pub Reader : Type 0
+Reader = List ℕ → Result ℤ NumberFault
+
+-- where nothing is kept of the first, no group has begun
+pub none_kept : (read : Reader) (reads : List Reader) (kept : List (Option ℤ)) (words : Words) → AreReadAs (read ∷ reads) (None ∷ kept) words
+    → (words ≡ []) × AreReadAs reads kept []
+none_kept read reads kept [] h = (refl, h)
+none_kept read reads kept (word ∷ words) h = absurd h
+
+-- where something is kept of it, it is there
+pub some_kept : (read : Reader) (reads : List Reader) (z : ℤ) (kept : List (Option ℤ)) (words : Words) → AreReadAs (read ∷ reads) (Some z ∷ kept) words
+    → (first : List ℕ) × (rest : Words) × (words ≡ first ∷ rest) × (read first ≡ Ok z) × AreReadAs reads kept rest
+some_kept read reads z kept [] h = absurd h
+some_kept read reads z kept (word ∷ words) h = (word, words, refl, h.0, h.1)
+
+-- one word more, that is kept too
+pub keeps_more : (other : Reader) (reads : List Reader) (done : List ℤ) (rest : List (Option ℤ)) (words : Words) (word : List ℕ) (z : ℤ)
+    → AreReadAs reads (map (λ y. Some y) done ++ None ∷ rest) words → get_or reads (length done) other word ≡ Ok z
+    → AreReadAs reads (map (λ y. Some y) done ++ Some z ∷ rest) (words ++ word ∷ []) × (length words ≡ length done)
+keeps_more other [] [] rest [] word z h e = absurd h
+keeps_more other [] [] rest (first ∷ words) word z h e = absurd h
+keeps_more other [] (y ∷ done) rest [] word z h e = absurd h
+keeps_more other [] (y ∷ done) rest (first ∷ words) word z h e = absurd h
+keeps_more other (read ∷ reads) [] rest [] word z h e = ((e, h), refl)
+keeps_more other (read ∷ reads) [] rest (first ∷ words) word z h e = absurd h
+keeps_more other (read ∷ reads) (y ∷ done) rest [] word z h e = absurd h
+keeps_more other (read ∷ reads) (y ∷ done) rest (first ∷ words) word z h e =
+    let more = keeps_more other reads done rest words word z h.1 e in
+    ((h.0, more.0), ap suc more.1)
+
+-- ---- one word more of DEPOT_SECTION, which -1 ends
+
+-- ---- words without a fault
+
+-- `-1` past the end
+pub past_end_clean : (n : ℕ) (place : Place) (word : List ℕ) → place ≡ PastEnd → is_minus_one word ≡ true
+    → word_fault n place word ≡ None
+past_end_clean n place word e minus_one = rw (e, minus_one) refl
+
+-- the end
+end_clean : (n : ℕ) (place : Place) (word : List ℕ) (count : ℕ) → place ≡ DepotAfter count → node_or_end n word ≡ Ok (negsuc 0)
+    → word_fault n place word ≡ None
+end_clean n place word count e read = rw (e, read, and_false (nat_le most_depots count)) refl
+
+-- a depot within the limit
+depot_clean : (n : ℕ) (place : Place) (word : List ℕ) (count k : ℕ) → place ≡ DepotAfter count → node_or_end n word ≡ Ok (pos k)
+    → nat_le most_depots count ≡ false
+    → word_fault n place word ≡ None
+depot_clean n place word count k e read room = rw (e, read, room) refl
+
+-- ---- the part after the word
+
+pub depot_past_end : (depots : List ℕ) (ended : Bool) (n : ℕ) (words : List (List ℕ)) (word : List ℕ) → ended ≡ true
+    → is_minus_one word ≡ true
+    → DepotsHold depots ended n words
+    → (word_fault n (place_of_depot n words) word ≡ None) × DepotsHold depots ended n (words ++ word ∷ [])
+depot_past_end depots ended n words word e minus_one h =
+    let any : list_any (is_end n) words ≡ true = sym h.closed ∙ e in (
+      past_end_clean n (place_of_depot n words) word (rw any refl) minus_one,
+      record {
+        list = h.list ∙ ap (map (λ word. nat_abs (number (node_or_end n word)))) (sym (before_kept (is_end n) words word any));
+        closed = e ∙ sym (any_kept (is_end n) words word any);
+        count = λ open_ended. cc;
+      },
+    )
+
+pub depot_end : (depots : List ℕ) (ended : Bool) (n : ℕ) (words : List (List ℕ)) (word : List ℕ) → ended ≡ false
+    → node_or_end n word ≡ Ok (negsuc 0)
+    → DepotsHold depots ended n words
+    → (word_fault n (place_of_depot n words) word ≡ None) × DepotsHold depots true n (words ++ word ∷ [])
+depot_end depots ended n words word e read h =
+    let none : list_any (is_end n) words ≡ false = sym h.closed ∙ e in
+    let end : is_end n word ≡ true = rw read refl in (
+      end_clean n (place_of_depot n words) word (length words) (rw none refl) read,
+      record {
+        list = h.list ∙ ap (map (λ word. nat_abs (number (node_or_end n word)))) (before_none (is_end n) words none ∙ sym (before_end (is_end n) words word end none));
+        closed = sym (any_push (is_end n) words word none ∙ end);
+        count = λ open_ended. cc;
+      },
+    )
+
+pub depot_more : (depots : List ℕ) (ended : Bool) (n : ℕ) (words : List (List ℕ)) (word : List ℕ) (k : ℕ) → ended ≡ false
+    → node_or_end n word ≡ Ok (pos k)
+    → length depots < most_depots → DepotsHold depots ended n words
+    → (word_fault n (place_of_depot n words) word ≡ None) × DepotsHold (depots ++ k ∷ []) ended n (words ++ word ∷ [])
+depot_more depots ended n words word k e read room h =
+    let none : list_any (is_end n) words ≡ false = sym h.closed ∙ e in
+    let on : is_end n word ≡ false = rw read refl in
+    let f : List ℕ → ℕ = λ word. nat_abs (number (node_or_end n word)) in
+    let is : f word ≡ k = rw read refl in
+    let same : length depots ≡ length words = h.count e in
+    let few : nat_le most_depots (length words) ≡ false = grind (arith, nat_tests) in (
+      depot_clean n (place_of_depot n words) word (length words) k (rw none refl) read few,
+      record {
+        list = ap (λ ks. ks ++ k ∷ []) (h.list ∙ ap (map f) (before_none (is_end n) words none))
+            ∙ ap (λ j. map f words ++ j ∷ []) (sym is) ∙ sym (map_push f words word)
+            ∙ ap (map f) (sym (before_push (is_end n) words word on none));
+        closed = e ∙ sym (any_push (is_end n) words word none ∙ on);
+        count = λ open_ended. length_push depots k ∙ ap (λ i. i + 1) same ∙ sym (length_push words word);
+      },
+    )
+
+-- ---- one word more of groups that -1 ends, as fixed pairs and multipliers are
 
 -- the places of a list in which a group begins with two nodes
 pub record HasNodes (n : ℕ) (in_group : ℕ → Words → Place) : Type 0 where
@@ -185,3 +288,80 @@ module _ {X : Type 0} {size : ℕ} {value : Words → X} {reads : List Reader} {
       by_case (Some k) false is e =
           let begun = one_begun k e is in
           sym (ap wants_more (place_open (begun.0 ∷ begun.1) e begun.2) ∙ places.more (length groups) begun.0 begun.1)
+
+-- ---- one word more of FIXED_EDGES_SECTION, of which two are a pair
+
+pub pair_places : (n : ℕ) → HasNodes n (place_in_pair n)
+pair_places n = record { first = λ count. refl; second = λ count word. refl; more = λ count word begun. refl }
+
+-- of a pair only the first node is kept
+pub alone : (rest : Words) → AreReadAs [] [] rest → rest ≡ []
+alone [] kept = refl
+alone (word ∷ rest) kept = absurd kept
+
+pair_read : (n k j : ℕ) (word one : List ℕ) (rest : Words) → node n word ≡ Ok (pos j) → node_or_end n one ≡ Ok (pos k) → AreReadAs [] [] rest
+    → ((length (one ∷ rest) + 1 == 2) ≡ true) × (fixed_pair n (one ∷ (rest ++ word ∷ [])) ≡ (k, j))
+pair_read n k j word one [] read first kept = (refl, ap₂ (λ r s. (nat_abs (number r), nat_abs (number s))) first read)
+pair_read n k j word one (other ∷ rest) read first kept = absurd kept
+
+pub pair_ends : {pairs : List (ℕ × ℕ)} {first : Option ℕ} {ended : Bool} {n : ℕ} {words : Words} → PairsHold pairs first ended n words
+    → (word : List ℕ) (k j : ℕ) → ended ≡ false → first ≡ Some k → node n word ≡ Ok (pos j) → j ≢ k
+    → (word_fault n (place_of_fixed n words) word ≡ None) × PairsHold (pairs ++ (k, j) ∷ []) None ended n (words ++ word ∷ [])
+pair_ends {n = n} h word k j e is read apart = (
+  second_clean (pair_places n) h word k j alone e is read apart,
+  group_taken (pair_places n) h (k, j) [] word k tt (λ one rest. pair_read n k j word one rest read) e is,
+)
+
+-- ---- a keyword's line that isn't repeated
+
+-- a row of the value alone is the first, in time or not
+pub fault_of_value : (stands out none late : Bool) (fault : LineFault) → stands ≡ false
+    → first_row (when out row.Outside ∷ when none row.BadValue ∷ []) ≡ Some fault
+    → first_row (when stands row.Repeated ∷ when out row.Outside ∷ when none row.BadValue ∷ when late row.LateSpace ∷ []) ≡ Some fault
+fault_of_value false true none late fault e h = h
+fault_of_value false false true late fault e h = h
+fault_of_value false false false late fault e h = cc
+fault_of_value true out none late fault e h = cc
+
+-- ---- the first place of a list at which a test is passed
+
+none_cond : {X : Type 0} (b : Bool) (x : X) → cond b (Some x) None ≡ None → b ≡ false
+none_cond true x e = absurd cc
+none_cond false x e = refl
+
+-- no element passes: the place is the length of the list
+pub past : {X : Type 0} (p : X → Bool) (xs : List X) → position p xs ≡ None → position_or_len p xs ≡ length xs
+past p xs e =
+    let low : length xs ≤ position_or_len p xs = ltb-false _ _ (none_cond _ _ e) in
+    omega (arith, prefix_len-le-length (λ x. not (p x)) xs)
+
+-- the first element that passes is at the place k
+pub position_at : {X : Type 0} (p : X → Bool) (xs : List X) (k : ℕ) → position p xs ≡ Some k
+    → (position_or_len p xs ≡ k) × (k < length xs)
+position_at p xs k e =
+    let at = cond_some _ _ _ e in
+    let here : position_or_len p xs ≡ k = at.1 in
+    let below : position_or_len p xs < length xs = ltb-true _ _ at.0 in
+    (here, omega (arith, here, below))
+
+pub position_within : {X : Type 0} (p : X → Bool) (xs : List X) (k : ℕ) → position p xs ≡ Some k → k < length xs
+position_within p xs k e = (position_at p xs k e).1
+
+-- ---- the elements that pass at the front, by the first that doesn't
+
+not_not : (b : Bool) → not (not b) ≡ b
+not_not true = refl
+not_not false = refl
+
+pub front_len : {X : Type 0} (p : X → Bool) (xs : List X) → position_or_len (λ x. not (p x)) xs ≡ prefix_len p xs
+front_len p [] = refl
+front_len p (x ∷ xs) =
+    ap (λ b. cond b (1 + position_or_len (λ x. not (p x)) xs) 0) (not_not (p x)) ∙ ap (λ n. cond (p x) (1 + n) 0) (front_len p xs)
+
+pub start_none : {X : Type 0} (p : X → Bool) (xs : List X) → position (λ x. not (p x)) xs ≡ None
+    → drop (length xs) xs ≡ drop (prefix_len p xs) xs
+start_none p xs e = ap (λ n. drop n xs) (sym (past (λ x. not (p x)) xs e) ∙ front_len p xs)
+
+pub start_some : {X : Type 0} (p : X → Bool) (xs : List X) (k : ℕ) → position (λ x. not (p x)) xs ≡ Some k
+    → drop k xs ≡ drop (prefix_len p xs) xs
+start_some p xs k e = ap (λ n. drop n xs) (sym (position_at (λ x. not (p x)) xs k e).0 ∙ front_len p xs)

@@ -5,11 +5,11 @@ use Rattle.std.specs.Prelude.{ℤ, nat_le, nat_lt, is_some, unwrap_or, not, ◌&
 use Rattle.std.specs.Option.{option_map_or}
 use Rattle.std.specs.List.{find}
 use Rattle.std.proofs.lemmas.Bool.{and_parts, leb-true}
-use Rattle.tsp_distance.specs.declared.decimal.Point.{Point}
+use Rattle.tsp_number.specs.declared.decimal.Point.{Point}
 use Rattle.tsp_format.specs.declared.keyword.Field.{Field}
 use Rattle.tsp_format.specs.declared.keyword.Field.TheVariants.{DimensionKey}
 use Rattle.tsp_format.specs.declared.keyword.Keyword.TheVariants.{Known}
-use Rattle.tsp_format.specs.Limits.{most_nodes, most_line_bytes, most_matrix_nodes}
+use Rattle.tsp_format.specs.Limits.{most_nodes, most_line_bytes, most_matrix_nodes, shape_of, is_section_field}
 use Rattle.tsp_format.specs.Steps.{Step}
 use Rattle.tsp_format.specs.Words.{fields_in_order}
 use Rattle.tsp_file.specs.Fields.{Fields, stands_in, with_numbers, with_points, spatial}
@@ -27,34 +27,21 @@ use Rattle.tsp_read.specs.declared.lists.FixedList.{FixedList}
 use Rattle.tsp_read.specs.declared.part.TripleList.{TripleList}
 use Rattle.tsp_read.specs.declared.tree.CombList.{CombList}
 use Rattle.tsp_read.specs.declared.tree.TreeList.{TreeList}
-use Rattle.tsp_text.specs.Groups.{numbers_by_node, place_of_number, coords_by_node}
-use Rattle.tsp_text.specs.Lists.{fixed_in, place_of_fixed, fixed_triples_in, place_of_triple}
-use Rattle.tsp_text.specs.CombSection.{whole_combs, place_of_comb}
-use Rattle.tsp_text.specs.BranchSection.{whole_steps, place_of_step}
-use Rattle.tsp_text.specs.WordPlaces.{PastEnd}
-use Rattle.tsp_text.specs.Lines.{is_not_empty}
-use Rattle.tsp_text.specs.Items.{WordLine, Item, Line}
-use Rattle.tsp_format.specs.Shapes.{shape_of, is_section_field}
-use Rattle.tsp_text.specs.Earlier.{is_open, has_line, open_section, words_of}
-use Rattle.tsp_text.specs.Values.{dimension_of, spatial_after}
-use Rattle.tsp_text.specs.Sections.{place_by, place_in, dimension_in}
+use Rattle.tsp_text.specs.Groups.{numbers_by_node, place_of_number, coords_by_node, fixed_in, place_of_fixed, fixed_triples_in, place_of_triple, whole_combs, place_of_comb}
+use Rattle.tsp_text.specs.SectionWords.{whole_steps, place_of_step, PastEnd}
+use Rattle.tsp_text.specs.Items.{is_not_empty, WordLine, Item, Line}
+use Rattle.tsp_text.specs.Earlier.{is_open, has_line, open_section, words_of, dimension_of, spatial_after, place_by, place_in, dimension_in}
 use Rattle.tsp_text.specs.FaultRows.{row_of, when, first_row}
-use Rattle.tsp_read.specs.states.CutLine.{MayOpen}
+use Rattle.tsp_read.specs.states.Holds.{MayOpen, HoldsSection, with_words, with_section, first_of, fields_there, OpenHolds, Holds, Closed}
 use Rattle.tsp_read.specs.states.Parts.{are_in_space}
-use Rattle.tsp_text.specs.Opening.{needs_nodes, is_matrix, opening_rows}
+use Rattle.tsp_text.specs.Spells.{needs_nodes, is_matrix, opening_rows, wants_more, is_incomplete, sections_in_order, first_incomplete}
 use Rattle.tsp_read.specs.states.HeldParts.{HoldsNumbers, HoldsPoints, HoldsFixed, HoldsTriples, HoldsCombs, HoldsTree, shape_of_points, shape_by, HoldsPart, HoldsShape}
-use Rattle.tsp_text.specs.Spells.{wants_more, is_incomplete, sections_in_order, first_incomplete}
 use Rattle.tsp_read.specs.declared.reading.OpenSection.{OpenSection}
 use Rattle.tsp_read.specs.declared.reading.Reading.{Reading}
-use Rattle.tsp_read.specs.states.OpenSection.{HoldsSection}
-use Rattle.tsp_read.specs.states.Stored.{with_words, with_section}
-use Rattle.tsp_read.specs.states.Incomplete.{first_of}
-use Rattle.tsp_read.specs.states.Holds.{fields_there, OpenHolds, Holds, Closed}
-use Rattle.tsp_text.proofs.Clean.{clean_more}
-use Rattle.tsp_read.proofs.FirstSteps.{but, first_without, first_more}
-use Rattle.tsp_text.proofs.Opened.{was_opened, no_words}
+use Rattle.tsp_text.proofs.SettledFaults.{clean_more}
+use Rattle.tsp_read.proofs.TextSteps.{but, first_without, first_more, opened_fields, opened_first, keywords_stay, closed_fields, stored_keywords}
+use Rattle.tsp_text.proofs.ValidRows.{was_opened, no_words}
 use Rattle.tsp_text.proofs.Sections.{section_of, opening, standing, nodes_stay}
-use Rattle.tsp_read.proofs.SectionCases.{opened_fields, opened_first, keywords_stay, closed_fields, stored_keywords}
 use Rattle.tsp_text.proofs.ValidKeywords.{dimension_fits}
 
 -- ---- a line opens a section

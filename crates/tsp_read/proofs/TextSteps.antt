@@ -1,27 +1,318 @@
--- Lines of NAME, COMMENT and unknown keywords, whose values are kept as they are, and lines that give no field. For
--- `Reading::known` and `Reading::line` in src/reading.rt.
-use Rattle.std.proofs.Common.{◌≡◌, ℕ, Bool, true, false, List, [], ◌∷◌, ◌++◌, set, get_or, refl, sym, ap, subst, ◌∙◌, Option, Some, None, Result, Ok, Err, length}
-use Rattle.std.specs.Prelude.{nat_lt, nat_le, is_some, not}
-use Rattle.std.specs.Option.{option_map}
+-- The first field of a list that passes a test, where the test changes at one field alone. For `Reading::close` in
+-- src/reading.rt and others.
+use Rattle.std.proofs.Common.{◌≡◌, Bool, true, false, cond, List, [], ◌∷◌, refl, sym, ap, ◌∙◌, Option, Some, None, subst, ◌++◌, Result, Ok, Err, set, get_or, length}
+use Rattle.std.proofs.Math.Logic.{∥∥₁_elim}
+use Rattle.std.proofs.lemmas.Bool.{false≢true}
+use Rattle.std.specs.List.{find, filter}
+use Rattle.std.specs.Option.{option_map_or, option_map}
+use Rattle.std.specs.Prelude.{not, ◌&&◌, ◌||◌, is_some, ℕ, nat_lt, nat_le}
+use mathlib.Core.Bool.{Bool-set}
+use Rattle.tsp_format.specs.Limits.{is_section_field, shape_of, most_line_bytes, most_comments, most_others}
 use Rattle.tsp_format.specs.declared.keyword.Field.{Field}
-use Rattle.tsp_format.specs.declared.keyword.Field.TheVariants.{NameKey, CommentKey, OtherKey}
+use Rattle.tsp_format.specs.declared.keyword.Field.TheVariants.{NodeCoordPart, NameKey, CommentKey, OtherKey}
 use Rattle.tsp_format.specs.declared.keyword.Keyword.TheVariants.{Known, EdgeDataFormat, EdgeDataSection, Eof, Unknown}
-use Rattle.tsp_format.specs.Limits.{most_line_bytes, most_comments, most_others}
+use Rattle.tsp_format.specs.declared.keyword.Shape.{Shape}
+use Rattle.tsp_format.specs.declared.keyword.Shape.TheVariants.{Points, SpacePoints}
 use Rattle.tsp_file.specs.Fields.{Fields}
+use Rattle.tsp_file.specs.Rules.{standing_of, end_fault, fault_of}
+use Rattle.tsp_file.specs.declared.rules.DraftFault.{DraftFault}
 use Rattle.tsp_file.specs.states.Drafts.{fields_of}
+use Rattle.tsp_text.proofs.Sections.{by_section, section_of}
+use Rattle.tsp_text.proofs.SettledFaults.{clean_more}
+use Rattle.tsp_text.proofs.ValidItems.{is_file}
+use Rattle.tsp_text.proofs.ValidRows.{same_field_is, same_self, rows_of_word, words_more}
+use Rattle.tsp_text.specs.Earlier.{same_field, has_line, open_section, words_of, spatial_after, dimension_in, place_by, place_in, values_at, others_in}
+use Rattle.tsp_text.specs.FaultRows.{word_fault, row_of, when, first_row, is_too_long_to_keep}
+use Rattle.tsp_text.specs.Groups.{coords_by_node}
+use Rattle.tsp_text.specs.Items.{Item, AreCut, WordLine, Line, NumberWord}
+use Rattle.tsp_text.specs.SectionWords.{PastEnd}
+use Rattle.tsp_text.specs.Spells.{spelled, fault_at_end, fields_by, is_incomplete, sections_in_order}
 use Rattle.tsp_text.specs.declared.fault.LineFault.{LineFault}
 use Rattle.tsp_text.specs.declared.fault.LineFault.TheVariants as row
+use Rattle.tsp_read.proofs.KeywordSteps.{still_none}
 use Rattle.tsp_read.specs.declared.line.StepFault.{StepFault}
 use Rattle.tsp_read.specs.declared.line.StepFault.TheVariants as steps
+use Rattle.tsp_read.specs.declared.reading.OpenSection.{OpenSection}
 use Rattle.tsp_read.specs.declared.reading.Reading.{Reading}
-use Rattle.tsp_text.specs.Items.{WordLine, Item, Line}
-use Rattle.tsp_text.specs.Earlier.{has_line, values_at, others_in}
-use Rattle.tsp_text.specs.FaultRows.{row_of, when, first_row, is_too_long_to_keep}
-use Rattle.tsp_text.specs.Spells.{fields_by}
-use Rattle.tsp_read.specs.states.CutLine.{SetsName, AddsComment, AddsOther}
-use Rattle.tsp_read.specs.states.Holds.{fields_there, Holds, Closed, LineAnswers, OtherAnswers}
-use Rattle.tsp_text.proofs.Clean.{clean_more}
-use Rattle.tsp_read.proofs.KeywordSteps.{still_none}
+use Rattle.tsp_read.specs.states.HeldParts.{shape_by, HoldsPart, HoldsShape}
+use Rattle.tsp_read.specs.states.Holds.{is_it, first_of, Holds, Closed, IsReadFrom, is_closed, is_closed_incomplete, fields_there, keywords_there, with_words, with_section, OpenHolds, AnswersItem, SetsName, AddsComment, AddsOther, LineAnswers, OtherAnswers}
+use Rattle.tsp_read.specs.states.Parts.{Takes}
+
+-- what is found passes
+found_passes : {A : Type 0} (p : A → Bool) (xs : List A) (y : A) → find p xs ≡ Some y → p y ≡ true
+found_passes p [] y e = cc
+found_passes p (x ∷ xs) y e = by_case (p x) refl (found_passes p xs y) e
+  where
+    by_case : (b : Bool) → p x ≡ b → (find p xs ≡ Some y → p y ≡ true) → cond b (Some x) (find p xs) ≡ Some y → p y ≡ true
+    by_case true is rest e = let same : x ≡ y = cc in ap p (sym same) ∙ is
+    by_case false is rest e = rest e
+
+-- the same test finds the same
+found_alike : {A : Type 0} (p q : A → Bool) (xs : List A) → ((x : A) → p x ≡ q x) → find p xs ≡ find q xs
+found_alike p q [] same = refl
+found_alike p q (x ∷ xs) same =
+    ap (λ b. cond b (Some x) (find p xs)) (same x) ∙ ap (λ o. cond (q x) (Some x) o) (found_alike p q xs same)
+
+-- among the elements that pass p the first is that of all, where others aren't found
+found_among : {A : Type 0} (p q : A → Bool) (xs : List A) → ((x : A) → q x ≡ true → p x ≡ true) → find q (filter p xs) ≡ find q xs
+found_among p q [] only = refl
+found_among p q (x ∷ xs) only = by_case (p x) (q x) refl refl (found_among p q xs only)
+  where
+    by_case : (b c : Bool) → p x ≡ b → q x ≡ c → find q (filter p xs) ≡ find q xs → find q (cond b (x ∷ filter p xs) (filter p xs)) ≡ cond c (Some x) (find q xs)
+    by_case true c is passes rest = ap (λ d. cond d (Some x) (find q (filter p xs))) passes ∙ ap (λ o. cond c (Some x) o) rest
+    by_case false true is passes rest = absurd (false≢true (sym is ∙ only x passes))
+    by_case false false is passes rest = rest
+
+-- what is found among the elements that pass p passes it
+among_passes : {A : Type 0} (p q : A → Bool) (xs : List A) (y : A) → find q (filter p xs) ≡ Some y → p y ≡ true
+among_passes p q [] y e = cc
+among_passes p q (x ∷ xs) y e = by_case (p x) (q x) refl refl (among_passes p q xs y) e
+  where
+    by_case : (b c : Bool) → p x ≡ b → q x ≡ c → (find q (filter p xs) ≡ Some y → p y ≡ true) → find q (cond b (x ∷ filter p xs) (filter p xs)) ≡ Some y → p y ≡ true
+    by_case true true is passes rest e =
+        let found : Some x ≡ Some y = ap (λ d. cond d (Some x) (find q (filter p xs))) (sym passes) ∙ e in
+        let same : x ≡ y = cc in
+        ap p (sym same) ∙ is
+    by_case true false is passes rest e = rest (ap (λ d. cond d (Some x) (find q (filter p xs))) (sym passes) ∙ e)
+    by_case false c is passes rest e = rest e
+
+-- ---- one field more may pass
+
+-- the test at all fields but one
+abbrev pub but : Field → (Field → Bool) → Field → Bool
+but f test = λ x. not (same_field x f) && test x
+
+-- where that one doesn't pass, nothing changes
+pub first_without : (test : Field → Bool) (f : Field) (xs : List Field) → test f ≡ false → find (but f test) xs ≡ find test xs
+first_without test f xs fails = found_alike (but f test) test xs each
+  where
+    by_case : (x : Field) (b : Bool) → same_field x f ≡ b → (not b && test x) ≡ test x
+    by_case x true e = sym (ap test (same_field_is x f e) ∙ fails)
+    by_case x false e = refl
+
+    each : (x : Field) → but f test x ≡ test x
+    each x = by_case x (same_field x f) refl
+
+not_it : (x : Field) (test : Field → Bool) (o : Option Field) → ((y : Field) → o ≡ Some y → test y ≡ true) → test x ≡ false
+    → is_it x o ≡ false
+not_it x test None passes fails = refl
+not_it x test (Some y) passes fails = by_case (same_field x y) refl
+  where
+    by_case : (b : Bool) → same_field x y ≡ b → b ≡ false
+    by_case true e = sym (passes y refl) ∙ ap test (sym (same_field_is x y e)) ∙ fails
+    by_case false e = refl
+
+-- where it passes, the first is the one of it and the first of the others that comes first
+first_with : (test : Field → Bool) (f : Field) (xs : List Field) → test f ≡ true
+    → find test xs ≡ first_of f (find (but f test) xs) xs
+first_with test f [] passes = refl
+first_with test f (x ∷ xs) passes = by_case (same_field x f) (test x) refl refl (first_with test f xs passes)
+  where
+    others : List Field → Option Field
+    others ys = find (but f test) ys
+
+    by_case : (b c : Bool) → same_field x f ≡ b → test x ≡ c → find test xs ≡ first_of f (others xs) xs
+        → cond c (Some x) (find test xs) ≡ (let o = cond (not b && c) (Some x) (others xs) in cond (b || is_it x o) (Some x) (first_of f o xs))
+    by_case true true same is rest = refl
+    by_case true false same is rest = absurd (false≢true (sym is ∙ ap test (same_field_is x f same) ∙ passes))
+    by_case false true same is rest = ap (λ d. cond d (Some x) (first_of f (Some x) xs)) (sym (same_self x))
+    by_case false false same is rest =
+        let fails : but f test x ≡ false = rw (same, is) refl in
+        let away : is_it x (others xs) ≡ false = not_it x (but f test) (others xs) (found_passes (but f test) xs) fails in
+        rest ∙ ap (λ d. cond d (Some x) (first_of f (others xs) xs)) (sym away)
+
+-- the same of the elements that pass p, as this one does, found among all
+pub first_more : (p test : Field → Bool) (f : Field) (xs : List Field) → p f ≡ true → test f ≡ true
+    → first_of f (find (but f test) (filter p xs)) xs ≡ find test (filter p xs)
+first_more p test f xs there passes =
+    sym (first_with test f (filter p xs) passes ∙ found_among p (λ x. same_field x f || is_it x (find (but f test) (filter p xs))) xs only)
+  where
+    others : Option Field
+    others = find (but f test) (filter p xs)
+
+    second : (x : Field) (o : Option Field) → others ≡ o → is_it x o ≡ true → p x ≡ true
+    second x None e it = cc
+    second x (Some y) e it = ap p (same_field_is x y it) ∙ among_passes p (but f test) xs y e
+
+    by_case : (x : Field) (b : Bool) → same_field x f ≡ b → (b || is_it x others) ≡ true → p x ≡ true
+    by_case x true same e = ap p (same_field_is x f same) ∙ there
+    by_case x false same e = second x others refl e
+
+    only : (x : Field) → (same_field x f || is_it x others) ≡ true → p x ≡ true
+    only x e = by_case x (same_field x f) refl e
+
+-- ---- at the end of a text the draft has the fault that the items have
+
+-- the end table over the draft is that over the items
+pub end_is : (reading : Reading) (items : List Item) → Closed reading items
+    → end_fault (standing_of (fields_of reading.draft)) reading.incomplete ≡ fault_at_end items
+end_is reading items h =
+    ap (λ (fields : Fields). end_fault (standing_of fields) reading.incomplete) h.spelled
+    ∙ ap (λ (o : Option Field). end_fault (standing_of (spelled items)) o) h.incomplete
+
+-- a draft that was read has no fault where the end table has none
+is_valid : (reading : Reading) (items : List Item) → Closed reading items → AreCut items
+    → end_fault (standing_of (fields_of reading.draft)) reading.incomplete ≡ None
+    → is_some (fault_of (fields_of reading.draft)) ≡ false
+is_valid reading items h cut ended =
+    ap is_some (ap fault_of h.spelled ∙ is_file items cut h.clean (sym (end_is reading items h) ∙ ended))
+
+none_of : (found : Option DraftFault) → is_some found ≡ false → found ≡ None
+none_of None is = refl
+none_of (Some fault) is = absurd (false≢true (sym is))
+
+pub valid_draft : (old new : Reading) → IsReadFrom old → ((earlier : List Item) → Holds old earlier → Closed new earlier)
+    → end_fault (standing_of (fields_of new.draft)) new.incomplete ≡ None → fault_of (fields_of new.draft) ≡ None
+valid_draft old new read closed ended =
+    none_of (fault_of (fields_of new.draft)) (∥∥₁_elim read (Bool-set _ _) (λ there. is_valid new there.0 (closed there.0 there.1) there.2 ended))
+
+-- ---- the fields of the closed sections
+
+-- ---- a line that opens a section
+
+-- the fields of the closed sections are those from before
+pub opened_fields : (earlier : List Item) (line : WordLine) (f : Field) → is_section_field f ≡ true → has_line f earlier ≡ false
+    → fields_by (λ field. has_line field earlier) earlier
+    ≡ fields_by (is_closed (Line (Known f) line ∷ earlier)) (Line (Known f) line ∷ earlier)
+opened_fields earlier line = by_section (λ f. has_line f earlier ≡ false → fields_by (λ field. has_line field earlier) earlier
+    ≡ fields_by (is_closed (Line (Known f) line ∷ earlier)) (Line (Known f) line ∷ earlier))
+    (λ none. rw none refl) (λ none. rw none refl) (λ none. rw none refl) (λ none. rw none refl) (λ none. rw none refl)
+    (λ none. rw none refl) (λ none. rw none refl) (λ none. rw none refl) (λ none. rw none refl) (λ none. rw none refl)
+    (λ none. rw none refl) (λ none. rw none refl) (λ none. rw none refl)
+
+-- the first closed section that is incomplete is the one from before
+pub opened_first : (earlier : List Item) (line : WordLine) (f : Field) → is_section_field f ≡ true → has_line f earlier ≡ false
+    → find (is_incomplete earlier) sections_in_order ≡ find (is_closed_incomplete (Line (Known f) line ∷ earlier)) sections_in_order
+opened_first earlier line = by_section (λ f. has_line f earlier ≡ false
+    → find (is_incomplete earlier) sections_in_order ≡ find (is_closed_incomplete (Line (Known f) line ∷ earlier)) sections_in_order)
+    (λ none. rw none refl) (λ none. rw none refl) (λ none. rw none refl) (λ none. rw none refl) (λ none. rw none refl)
+    (λ none. rw none refl) (λ none. rw none refl) (λ none. rw none refl) (λ none. rw none refl) (λ none. rw none refl)
+    (λ none. rw none refl) (λ none. rw none refl) (λ none. rw none refl)
+
+-- what the keywords say stays
+pub keywords_stay : (earlier : List Item) (line : WordLine) (f : Field) → is_section_field f ≡ true
+    → keywords_there (Line (Known f) line ∷ earlier) ≡ keywords_there earlier
+keywords_stay earlier line = by_section (λ f. keywords_there (Line (Known f) line ∷ earlier) ≡ keywords_there earlier)
+    refl refl refl refl refl refl refl refl refl refl refl refl refl
+
+-- ---- a word of the open section: the closed ones stay
+
+pub word_fields : (earlier : List Item) (word : List ℕ) (f : Field) → is_section_field f ≡ true → open_section earlier ≡ Some f
+    → fields_by (is_closed (NumberWord word ∷ earlier)) (NumberWord word ∷ earlier) ≡ fields_by (is_closed earlier) earlier
+word_fields earlier word = by_section (λ f. open_section earlier ≡ Some f
+    → fields_by (is_closed (NumberWord word ∷ earlier)) (NumberWord word ∷ earlier) ≡ fields_by (is_closed earlier) earlier)
+    (λ o. rw o refl) (λ o. rw o refl) (λ o. rw o refl) (λ o. rw o refl) (λ o. rw o refl)
+    (λ o. rw o refl) (λ o. rw o refl) (λ o. rw o refl) (λ o. rw o refl) (λ o. rw o refl)
+    (λ o. rw o refl) (λ o. rw o refl) (λ o. rw o refl)
+
+pub word_first : (earlier : List Item) (word : List ℕ) (f : Field) → is_section_field f ≡ true → open_section earlier ≡ Some f
+    → find (is_closed_incomplete (NumberWord word ∷ earlier)) sections_in_order ≡ find (is_closed_incomplete earlier) sections_in_order
+word_first earlier word = by_section (λ f. open_section earlier ≡ Some f
+    → find (is_closed_incomplete (NumberWord word ∷ earlier)) sections_in_order ≡ find (is_closed_incomplete earlier) sections_in_order)
+    (λ o. rw o refl) (λ o. rw o refl) (λ o. rw o refl) (λ o. rw o refl) (λ o. rw o refl)
+    (λ o. rw o refl) (λ o. rw o refl) (λ o. rw o refl) (λ o. rw o refl) (λ o. rw o refl)
+    (λ o. rw o refl) (λ o. rw o refl) (λ o. rw o refl)
+
+-- ---- the open section is closed
+
+-- the points of nodes go to their field in a spatial file as in another
+points_stored : (in_space : Bool) (n : ℕ) (words : List (List ℕ)) (fields : Fields)
+    → with_words (cond in_space SpacePoints Points) NodeCoordPart n words fields ≡ record fields { coords = Some (coords_by_node in_space n words) }
+points_stored true n words fields = refl
+points_stored false n words fields = refl
+
+pub closed_fields : (earlier : List Item) (f : Field) → is_section_field f ≡ true → open_section earlier ≡ Some f
+    → has_line f earlier ≡ true
+    → with_section (spatial_after earlier) f (dimension_in earlier) (words_of f earlier) (fields_by (is_closed earlier) earlier) ≡ fields_by (λ field. has_line field earlier) earlier
+closed_fields earlier = by_section (λ f. open_section earlier ≡ Some f → has_line f earlier ≡ true
+    → with_section (spatial_after earlier) f (dimension_in earlier) (words_of f earlier) (fields_by (is_closed earlier) earlier) ≡ fields_by (λ field. has_line field earlier) earlier)
+    (λ o there. points_stored (spatial_after earlier) (dimension_in earlier) (words_of NodeCoordPart earlier) (fields_by (is_closed earlier) earlier)
+    ∙ rw (o, there) refl) (λ o there. rw (o, there) refl) (λ o there. rw (o, there) refl) (λ o there. rw (o, there) refl) (λ o there. rw (o, there) refl)
+    (λ o there. rw (o, there) refl) (λ o there. rw (o, there) refl) (λ o there. rw (o, there) refl) (λ o there. rw (o, there) refl) (λ o there. rw (o, there) refl)
+    (λ o there. rw (o, there) refl) (λ o there. rw (o, there) refl) (λ o there. rw (o, there) refl)
+
+-- what the keywords say stays
+pub stored_keywords : (in_space : Bool) (n : ℕ) (words : List (List ℕ)) (fields : Fields) (f : Field) → is_section_field f ≡ true
+    → fields_there (with_section in_space f n words fields) ≡ fields_there fields
+stored_keywords in_space n words fields =
+    by_section (λ f. fields_there (with_section in_space f n words fields) ≡ fields_there fields)
+    (ap fields_there (points_stored in_space n words fields)) refl refl refl refl
+    refl refl refl refl refl
+    refl refl refl
+
+-- ---- a word of the open section: nothing changes but the words of that section
+
+-- the open section after the word
+open_more : (section after : OpenSection) (earlier : List Item) (word : List ℕ) → open_section earlier ≡ Some section.field
+    → shape_of (spatial_after earlier) section.field ≡ Some (shape_by section.part) → after.field ≡ section.field
+    → HoldsShape (shape_by section.part) after.part (dimension_in earlier) (words_of section.field earlier ++ word ∷ [])
+    → OpenHolds (Some after) (NumberWord word ∷ earlier)
+open_more section after earlier word o shape same h =
+    let words : words_of after.field (NumberWord word ∷ earlier) ≡ words_of section.field earlier ++ word ∷ [] =
+    ap (λ f. words_of f (NumberWord word ∷ earlier)) same ∙ words_more earlier word section.field o in (
+      o ∙ ap (λ f. Some f) (sym same),
+      (ap (shape_of (spatial_after earlier)) same ∙ shape ∙ ap (λ s. Some s) (sym h.0), subst (λ (ws : List (List ℕ)). HoldsPart after.part (dimension_in earlier) ws) (sym words) h.1),
+    )
+
+-- what the part of the open section returns
+abbrev pub SectionTakes : OpenSection → OpenSection → List ℕ → Result (Unit {0}) StepFault → Type 0
+SectionTakes section after word r = (n : ℕ) (words : List (List ℕ)) → HoldsPart section.part n words
+    → Takes n (place_by (shape_by section.part) n words) word (HoldsShape (shape_by section.part) after.part n (words ++ word ∷ [])) r
+
+place_is : (in_space : Bool) (field : Field) (shape : Shape) (n : ℕ) (words : List (List ℕ))
+    → shape_of in_space field ≡ Some shape
+    → place_in in_space field n words ≡ place_by shape n words
+place_is in_space field shape n words is = ap (λ o. option_map_or (λ shape. place_by shape n words) o PastEnd) is
+
+-- What the part returns is what the reader returns. The new state is the old one with the part after the word.
+pub word_answer : (old new : Reading) (section after : OpenSection) (word : List ℕ) (r : Result (Unit {0}) StepFault) (earlier : List Item)
+    → old.opened ≡ Some section → after.field ≡ section.field → new.draft ≡ old.draft → new.incomplete ≡ old.incomplete
+    → new.opened ≡ Some after
+    → SectionTakes section after word r → Holds old earlier → AnswersItem earlier (NumberWord word) new r
+word_answer old new section after word (Ok done) earlier there same same_draft same_first is step h =
+    let held : OpenHolds (Some section) earlier = rw there at h.part in
+    let f = section.field in
+    let kind : is_section_field f ≡ true = section_of (spatial_after earlier) f (shape_by section.part) held.1.0 in
+    let next = step (dimension_in earlier) (words_of f earlier) held.1.1 in
+    record {
+      clean = clean_more earlier (NumberWord word) h.clean (word_rows earlier word f held.0
+          ∙ ap (λ p. word_fault (dimension_in earlier) p word) (place_is (spatial_after earlier) f (shape_by section.part) (dimension_in earlier) (words_of f earlier) held.1.0) ∙ next.0);
+      stand = rw same_draft h.stand;
+      spelled = rw same_draft (h.spelled ∙ sym (word_fields earlier word f kind held.0));
+      incomplete = same_first ∙ h.incomplete ∙ sym (word_first earlier word f kind held.0);
+      part = rw is (open_more section after earlier word held.0 held.1.0 same next.1);
+    }
+word_answer old new section after word (Err (steps.Memory refused)) earlier there same same_draft same_first is step h = tt
+word_answer old new section after word (Err (steps.Fault fault)) earlier there same same_draft same_first is step h =
+    let held : OpenHolds (Some section) earlier = rw there at h.part in
+    word_rows earlier word section.field held.0
+    ∙ ap (λ p. word_fault (dimension_in earlier) p word) (place_is (spatial_after earlier) section.field (shape_by section.part) (dimension_in earlier) (words_of section.field earlier) held.1.0)
+    ∙ step (dimension_in earlier) (words_of section.field earlier) held.1.1
+
+-- nothing changes where a word isn't taken
+pub kept_answer : (old new : Reading) (section after : OpenSection) (earlier : List Item)
+    → old.opened ≡ Some section → after.field ≡ section.field → new.draft ≡ old.draft → new.incomplete ≡ old.incomplete
+    → new.opened ≡ Some after
+    → ((n : ℕ) (words : List (List ℕ)) → HoldsPart section.part n words → HoldsShape (shape_by section.part) after.part n words)
+    → Holds old earlier → Holds new earlier
+kept_answer old new section after earlier there same same_draft same_first is step h =
+    let held : OpenHolds (Some section) earlier = rw there at h.part in
+    let kept = step (dimension_in earlier) (words_of section.field earlier) held.1.1 in
+    record {
+      clean = h.clean;
+      stand = rw same_draft h.stand;
+      spelled = rw same_draft h.spelled;
+      incomplete = same_first ∙ h.incomplete;
+      part = rw is (
+        held.0 ∙ ap (λ f. Some f) (sym same),
+        (
+          ap (shape_of (spatial_after earlier)) same ∙ held.1.0 ∙ ap (λ s. Some s) (sym kept.0),
+          subst (λ f. HoldsPart after.part (dimension_in earlier) (words_of f earlier)) (sym same) kept.1,
+        ),
+      );
+    }
+
+-- ---- lines of NAME, COMMENT and unknown keywords, whose values are kept as they are
 
 -- two rows and three rows that don't apply
 pub two_none : (a b : Bool) (f g : LineFault) → a ≡ false → b ≡ false → first_row (when a f ∷ when b g ∷ []) ≡ None

@@ -1,20 +1,7 @@
 -- The files of definitions that look into structs of the code.
 pub mod Parts
 pub mod HeldParts
-pub mod CutLine
-pub mod PartRun
-pub mod OpenSection
-pub mod Stored
-pub mod Incomplete
 pub mod Holds
-pub mod Intake
-pub mod Begun
-pub mod Left
-pub mod Token
-pub mod Paused
-pub mod ReadingRun
-pub mod Walk
-pub mod WordFront
 pub mod Onward
-pub mod Finishes
-pub mod Taken
+pub mod Left
+pub mod ReadingRun

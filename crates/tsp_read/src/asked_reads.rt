@@ -5,10 +5,7 @@
 ghost use Rattle.std.specs.Prelude.{◌≡◌, Err, false, []};
 ghost use Rattle.tsp_io.specs.states.Watched.{turn_of, has_failed};
 ghost use Rattle.tsp_text.specs.declared.fault.ReadFault.TheVariants.{OutOfMemory};
-ghost use Rattle.tsp_read.specs.Asked.{IsReadOn};
-ghost use Rattle.tsp_read.specs.Feed.{HasTaken};
-ghost use Rattle.tsp_read.specs.Reads.{Reads, ReadsFrom};
-ghost use Rattle.tsp_read.specs.Timely.{ReadsInTime, FeedsAll};
+ghost use Rattle.tsp_read.specs.Reads.{IsReadOn, HasTaken, Reads, ReadsFrom, ReadsInTime, FeedsAll};
 ghost use Rattle.tsp_read.specs.states.Onward.{is_bare};
 
 use crate::feed::Feed;
@@ -64,10 +61,10 @@ impl Feed {
     ghost use Rattle.tsp_text.specs.declared.fault.ReadFault.{ReadFault};
     ghost use Rattle.tsp_text.specs.declared.fault.ReadFault.TheVariants.{OutOfMemory};
     ghost use Rattle.tsp_text.specs.Items.{has_end_line};
-    ghost use Rattle.tsp_text.specs.Text.{settled_part, settled_fault};
+    ghost use Rattle.tsp_text.specs.Spells.{settled_part, settled_fault};
     ghost use Rattle.tsp_read.specs.states.Onward.{is_bare};
     ghost use Rattle.tsp_read.specs.Reads.{Reads};
-    ghost use Rattle.tsp_read.specs.Feed.{HasTaken, refusal, Feeds};
+    ghost use Rattle.tsp_read.specs.Reads.{HasTaken, refusal, Feeds};
 
     /// Takes the next piece. After an end line everything is taken, and nothing is looked at.
     ///

@@ -3,17 +3,16 @@
 
 ghost use Rattle.std.specs.Option.{ForSome};
 ghost use Rattle.std.specs.Prelude.{◌≡◌, ◌<◌, ◌≤◌, ◌^◌, None, Some, Ok, [], ℕ, List, length, ◌∷◌, ◌++◌, vec_len, IfOk, IfErr, Err, ◌≢◌, is_some, true, false, ◌-◌, pos, slice_index_or, replicate, Bool, ◌≤ℤ◌, ℤ};
-ghost use Rattle.tsp_file.specs.Coords.{origin};
+ghost use Rattle.tsp_file.specs.Cost.{origin};
 ghost use Rattle.tsp_file.specs.states.Drafts.{points_of};
 ghost use Rattle.tsp_read.specs.states.Parts.{are_in_space};
 
 use crate::line::StepFault;
 use crate::part::{is_minus_one, new_node, unmarked_node};
 use std::alloc::Global;
-use tsp_distance::{Decimal, PlanePoint, Point};
 use tsp_file::Coords;
 use tsp_io::{Refused, filled};
-use tsp_number::{parse_decimal, parse_whole};
+use tsp_number::{Decimal, PlanePoint, Point, parse_decimal, parse_whole};
 use tsp_text::LineFault;
 
 /// What was read of a section of groups of a node and its coordinates, two or three by the kind of
@@ -55,10 +54,10 @@ fn at_origin(alloc: Global, n: u32, in_space: bool) -> Result<Coords, Refused>
 
 impl PointList {
     ghost use Rattle.tsp_read.specs.declared.line.StepFault.TheVariants.{Memory};
-    ghost use Rattle.tsp_number.specs.Reading.{decimal_of};
-    ghost use Rattle.tsp_text.specs.SectionNumbers.{IsWhole};
+    ghost use Rattle.tsp_number.specs.NumberWord.{decimal_of};
+    ghost use Rattle.tsp_text.specs.SectionWords.{IsWhole};
     ghost use Rattle.tsp_text.specs.Groups.{coords_by_node};
-    ghost use Rattle.tsp_text.specs.Sections.{place_by};
+    ghost use Rattle.tsp_text.specs.Earlier.{place_by};
     ghost use Rattle.tsp_text.specs.Spells.{wants_more};
     ghost use Rattle.tsp_read.specs.states.Parts.{Takes, IsNodeOf};
     ghost use Rattle.tsp_text.specs.FaultRows.{word_fault};
@@ -246,7 +245,7 @@ pub struct NumberList {
 impl NumberList {
     ghost use Rattle.tsp_read.specs.declared.line.StepFault.TheVariants.{Memory};
     ghost use Rattle.tsp_text.specs.Groups.{place_of_number, numbers_by_node};
-    ghost use Rattle.tsp_text.specs.SectionNumbers.{IsWhole};
+    ghost use Rattle.tsp_text.specs.SectionWords.{IsWhole};
     ghost use Rattle.tsp_text.specs.Spells.{wants_more};
     ghost use Rattle.tsp_read.specs.states.Parts.{Takes, IsNodeOf};
     ghost use Rattle.tsp_read.specs.states.HeldParts.{HoldsNumbers};

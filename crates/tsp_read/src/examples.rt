@@ -3,8 +3,7 @@
 
 ghost use Rattle.std.specs.Prelude.{◌≡◌, ◌+◌, ◌^◌, true, false, [], ◌∷◌, replicate};
 ghost use Rattle.tsp_read.specs.states.Onward.{is_bare};
-ghost use Rattle.tsp_read.specs.Reads.{most_taken};
-ghost use Rattle.tsp_read.specs.Timely.{before_last, may_go_on};
+ghost use Rattle.tsp_read.specs.Reads.{most_taken, before_last, may_go_on};
 ghost use Rattle.tsp_read.specs.declared.feed.Stage.TheVariants as stages;
 ghost use Rattle.tsp_text.specs.declared.fault.ReadFault.{ReadFault};
 

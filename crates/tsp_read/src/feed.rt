@@ -3,9 +3,8 @@
 
 ghost use Rattle.std.specs.Prelude.{◌≡◌, ◌+◌, ◌≤◌, ◌++◌, [], List, ℕ, length, Ok, true, false};
 ghost use Rattle.tsp_format.specs.Limits.{most_file_bytes};
-ghost use Rattle.tsp_text.specs.Lines.{is_not_empty};
-ghost use Rattle.tsp_read.specs.states.Begun.{IsFedTo, most_lines, most_words, KeepRoom};
-ghost use Rattle.tsp_read.specs.states.Paused.{FeedsOn, HasRoom, HasBytes, stage_after, outcome_of};
+ghost use Rattle.tsp_text.specs.Items.{is_not_empty};
+ghost use Rattle.tsp_read.specs.states.Onward.{IsFedTo, most_lines, most_words, KeepRoom, FeedsOn, HasRoom, HasBytes, stage_after, outcome_of};
 
 use crate::items::{Begun, Intake};
 use crate::reading::{ReadError, Reading, completed};
@@ -120,13 +119,13 @@ impl Feed {
     ghost use Rattle.tsp_text.specs.declared.fault.ReadFault.{ReadFault};
     ghost use Rattle.tsp_read.specs.declared.feed.Stage.TheVariants.{Going};
     ghost use Rattle.tsp_text.specs.Items.{has_end_line};
-    ghost use Rattle.tsp_text.specs.Text.{settled_part, settled_fault};
+    ghost use Rattle.tsp_text.specs.Spells.{settled_part, settled_fault};
     ghost use Rattle.tsp_text.specs.declared.fault.ReadFault.TheVariants.{OutOfMemory};
     ghost use Rattle.tsp_read.specs.states.Holds.{IsReadFrom};
     ghost use Rattle.tsp_read.specs.states.Onward.{is_bare};
     ghost use Rattle.tsp_read.specs.Reads.{Reads};
-    ghost use Rattle.tsp_read.specs.Timely.{may_go_on};
-    ghost use Rattle.tsp_read.specs.Feed.{IsGoing, HasTaken, refusal, Feeds, ComesTo, EndsReading, EndsClosed};
+    ghost use Rattle.tsp_read.specs.Reads.{may_go_on};
+    ghost use Rattle.tsp_read.specs.Reads.{IsGoing, HasTaken, refusal, Feeds, ComesTo, EndsReading, EndsClosed};
 
     /// The start of a file. It takes no memory.
     pub fn new(alloc: Global) -> Feed

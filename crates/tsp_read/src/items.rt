@@ -4,23 +4,19 @@
 ghost use Rattle.std.specs.List.{position};
 ghost use Rattle.std.specs.Prelude.{◌≡◌, ◌+◌, ◌≤◌, ◌<◌, [], List, ℕ, length, IfOk, IfSome, Err, true, ◌∷◌, IsTrue, Ok, false, MatchOption};
 ghost use Rattle.tsp_format.specs.Limits.{most_file_bytes};
-ghost use Rattle.tsp_text.specs.Items.{Item, NumberWord, line_item, WordLine, Line, is_end_line, line_number, words_before, word_number};
-ghost use Rattle.tsp_text.specs.Lines.{without_start};
+ghost use Rattle.tsp_text.specs.Items.{Item, NumberWord, line_item, WordLine, Line, is_end_line, line_number, words_before, word_number, without_start};
 ghost use Rattle.tsp_read.specs.states.Holds.{Holds};
-ghost use Rattle.tsp_read.specs.states.Intake.{ReadsOn};
-ghost use Rattle.tsp_read.specs.states.Left.{items_left, item_next, is_in_line, up_to_first, from, is_settled};
-ghost use Rattle.tsp_read.specs.states.Onward.{is_over_long, is_line_end, GivesNext};
-ghost use Rattle.tsp_read.specs.states.Taken.{TakesItem};
-ghost use Rattle.tsp_read.specs.states.Token.{token_item, token_at, ends_token, most_bytes};
+ghost use Rattle.tsp_read.specs.states.Onward.{ReadsOn, is_over_long, is_line_end, GivesNext, TakesItem};
+ghost use Rattle.tsp_read.specs.states.Left.{items_left, item_next, is_in_line, up_to_first, from, is_settled, token_item, token_at, ends_token, most_bytes};
 
-pub(crate) use crate::line::without_start;
+use arrayvec::ArrayVec;
 use crate::line::{CutLine, StepFault};
 use crate::reading::{ReadError, Reading};
-use arrayvec::ArrayVec;
 use std::alloc::Global;
 use tsp_format::{Keyword, MOST_LINE_BYTES, MOST_WORD_BYTES, is_blank, is_letter};
 use tsp_number::NumberFault;
 use tsp_text::LineFault;
+pub(crate) use crate::line::without_start;
 
 /// A word that is too long.
 const LONG_WORD: [u8; MOST_WORD_BYTES + 1] = [b'1'; MOST_WORD_BYTES + 1];
@@ -38,7 +34,7 @@ pub(crate) struct Intake {
 }
 
 impl Intake {
-    ghost use Rattle.tsp_read.specs.states.Intake.{HasTakenItems, TakesNext, IsReadTo, ReadsOn};
+    ghost use Rattle.tsp_read.specs.states.Onward.{HasTakenItems, TakesNext, IsReadTo, ReadsOn};
 
     /// The start of a text.
     pub(crate) fn new(alloc: Global) -> Intake
@@ -381,8 +377,8 @@ pub(crate) struct Begun {
 }
 
 impl Begun {
-    ghost use Rattle.tsp_read.specs.states.Paused.{IsPaused, TakesAll};
-    ghost use Rattle.tsp_read.specs.states.Begun.{HasBegun, kept, IsFedTo, IsJoinedTo, most_lines, most_words, KeepRoom};
+    ghost use Rattle.tsp_read.specs.states.Onward.{IsPaused, TakesAll};
+    ghost use Rattle.tsp_read.specs.states.Onward.{HasBegun, kept, IsFedTo, IsJoinedTo, most_lines, most_words, KeepRoom};
 
     /// The start, where no line or word has begun.
     pub(crate) fn new() -> Begun

@@ -17,6 +17,7 @@ mod line;
 mod lists;
 mod part;
 mod reading;
+mod round_trip;
 mod run;
 mod runs;
 mod tree;
@@ -32,6 +33,7 @@ pub use line::{
 pub use lists::{DepotList, FixedList};
 pub use part::{Part, TripleList};
 pub use reading::ReadError;
+pub use round_trip::{canonical_texts_are_read_back, written_numbers_are_read_back};
 pub use run::RunList;
 pub use runs::{Gathered, GatheredNodes, TourList, WeightList};
 pub use tree::{CombList, TreeList};

@@ -4,13 +4,12 @@
 ghost use Rattle.std.specs.List.{position, prefix_len};
 ghost use Rattle.std.specs.Option.{option_map};
 ghost use Rattle.std.specs.Prelude.{◌≡◌, cond, drop, not, map, IfOk};
-ghost use Rattle.tsp_format.specs.Bytes.{is_blank, is_keyword_byte};
+ghost use Rattle.tsp_format.specs.Words.{is_blank, is_keyword_byte};
 ghost use Rattle.tsp_format.specs.declared.keyword.Field.TheVariants.{EdgeWeightTypeKey};
 ghost use Rattle.tsp_text.specs.FaultRows.{is_too_long_to_keep};
-ghost use Rattle.tsp_text.specs.Items.{line_item};
-ghost use Rattle.tsp_text.specs.Lines.{first_word, keyword_in, is_colon, begins, without_start, without_end};
-ghost use Rattle.tsp_text.specs.Values.{is_left_out, says_space};
-ghost use Rattle.tsp_read.specs.states.CutLine.{cut_item, NamesValue, GivesNumber, MayOpen, seen, SetsNamed, SetsName, AddsComment, AddsOther};
+ghost use Rattle.tsp_text.specs.Items.{line_item, first_word, keyword_in, is_colon, begins, without_start, without_end};
+ghost use Rattle.tsp_text.specs.Earlier.{is_left_out, says_space};
+ghost use Rattle.tsp_read.specs.states.Holds.{cut_item, NamesValue, GivesNumber, MayOpen, seen, SetsNamed, SetsName, AddsComment, AddsOther};
 
 use std::alloc::Global;
 use tsp_format::{
@@ -221,7 +220,7 @@ fn first_filled(text: &[u8]) -> Option<usize>
 
 /// A text from its first byte that isn't blank on.
 #[inline(always)]
-#[tactic(auto, using(crate::proofs::Scans::start_none, crate::proofs::Scans::start_some, crate::proofs::Scans::position_within))]
+#[tactic(auto, using(crate::proofs::ListSteps::start_none, crate::proofs::ListSteps::start_some, crate::proofs::ListSteps::position_within))]
 pub fn without_start(text: &[u8]) -> &[u8]
     ensures { result.now ≡ without_start text.now }
 {
@@ -232,7 +231,7 @@ pub fn without_start(text: &[u8]) -> &[u8]
 }
 
 /// A text up to its last byte that isn't blank.
-#[tactic(auto, using(tsp_text::proofs::NoBlanks::end_blank, tsp_text::proofs::NoBlanks::end_filled, tsp_text::proofs::NoBlanks::end_none))]
+#[tactic(auto, using(tsp_text::proofs::SettledItems::end_blank, tsp_text::proofs::SettledItems::end_filled, tsp_text::proofs::SettledItems::end_none))]
 fn without_end(text: &[u8]) -> &[u8]
     ensures { result.now ≡ without_end text.now }
 {

@@ -18,7 +18,7 @@ pub struct DepotList {
 }
 
 impl DepotList {
-    ghost use Rattle.tsp_text.specs.Lists.{place_of_depot, depots_in};
+    ghost use Rattle.tsp_text.specs.Groups.{place_of_depot, depots_in};
     ghost use Rattle.tsp_read.specs.states.Parts.{Takes};
     ghost use Rattle.tsp_read.specs.states.HeldParts.{HoldsDepots};
 
@@ -92,7 +92,7 @@ pub struct FixedList {
 }
 
 impl FixedList {
-    ghost use Rattle.tsp_text.specs.Lists.{place_of_fixed, fixed_in};
+    ghost use Rattle.tsp_text.specs.Groups.{place_of_fixed, fixed_in};
     ghost use Rattle.tsp_text.specs.Spells.{wants_more};
     ghost use Rattle.tsp_read.specs.states.Parts.{Takes};
     ghost use Rattle.tsp_read.specs.states.HeldParts.{HoldsFixed};

@@ -3,8 +3,8 @@
 
 ghost use Rattle.std.specs.Option.{ForSome};
 ghost use Rattle.std.specs.Prelude.{◌≡◌, ◌≤◌, [], ℕ, List, ◌∷◌, ◌++◌, IfOk, IfErr, ◌<◌, ◌-◌, ◌^◌, pos, true, false, length, slice_index_or, Ok, None, IfSome, MatchResult, Some};
-ghost use Rattle.tsp_number.specs.Reading.{whole_of};
-ghost use Rattle.tsp_text.specs.SectionNumbers.{node, node_or_end, is_minus_one, IsWhole};
+ghost use Rattle.tsp_number.specs.NumberWord.{whole_of};
+ghost use Rattle.tsp_text.specs.SectionWords.{node, node_or_end, is_minus_one, IsWhole};
 ghost use Rattle.tsp_read.specs.states.Parts.{as_number, as_node_or_end, as_index_or_leaf, IsNodeOf, IsNewNode};
 
 use crate::by_node::{NumberList, PointList};
@@ -35,7 +35,7 @@ pub enum Part {
 
 impl Part {
     ghost use Rattle.tsp_format.specs.declared.keyword.Shape.TheVariants as shapes;
-    ghost use Rattle.tsp_text.specs.Sections.{place_by};
+    ghost use Rattle.tsp_text.specs.Earlier.{place_by};
     ghost use Rattle.tsp_read.specs.states.Parts.{Takes};
     ghost use Rattle.tsp_read.specs.states.HeldParts.{shape_by, HoldsPart, HoldsShape};
 
@@ -207,7 +207,7 @@ pub struct TripleList {
 }
 
 impl TripleList {
-    ghost use Rattle.tsp_text.specs.Lists.{place_of_triple, fixed_triples_in};
+    ghost use Rattle.tsp_text.specs.Groups.{place_of_triple, fixed_triples_in};
     ghost use Rattle.tsp_text.specs.Spells.{wants_more};
     ghost use Rattle.tsp_read.specs.states.Parts.{Takes};
     ghost use Rattle.tsp_read.specs.states.HeldParts.{HoldsTriples};

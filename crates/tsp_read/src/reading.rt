@@ -2,24 +2,17 @@
 //! For `src/items.rt`, and `src/items.rt`, which holds it.
 
 ghost use Rattle.std.specs.Prelude.{[], List, Some, IfErr, OnOk, ◌≡◌, is_some, true, ℕ, Bool, IfOk, None, Err};
-ghost use Rattle.tsp_format.specs.Shapes.{shape_of};
+ghost use Rattle.tsp_format.specs.Limits.{shape_of};
 ghost use Rattle.tsp_format.specs.Words.{fields_in_order};
 ghost use Rattle.tsp_file.specs.Fields.{spatial};
 ghost use Rattle.tsp_file.specs.Rules.{standing_of, end_fault, fault_of};
 ghost use Rattle.tsp_file.specs.states.Drafts.{fields_of};
-ghost use Rattle.tsp_text.specs.Cuts.{AreCut};
-ghost use Rattle.tsp_text.specs.Earlier.{same_field};
-ghost use Rattle.tsp_text.specs.Items.{Item, NumberWord};
-ghost use Rattle.tsp_text.specs.Sections.{place_in};
+ghost use Rattle.tsp_text.specs.Items.{AreCut, Item, NumberWord};
+ghost use Rattle.tsp_text.specs.Earlier.{same_field, place_in};
 ghost use Rattle.tsp_text.specs.Spells.{wants_more};
 ghost use Rattle.tsp_text.specs.declared.fault.ReadFault.TheVariants.{OutOfMemory, Line, End, TooLong, Device};
 ghost use Rattle.tsp_read.specs.Reads.{Completes};
-ghost use Rattle.tsp_read.specs.states.CutLine.{seen};
-ghost use Rattle.tsp_read.specs.states.Finishes.{FileOf};
-ghost use Rattle.tsp_read.specs.states.Holds.{LineAnswers, Holds, IsReadFrom};
-ghost use Rattle.tsp_read.specs.states.Incomplete.{is_either, first_of};
-ghost use Rattle.tsp_read.specs.states.OpenSection.{HoldsSection};
-ghost use Rattle.tsp_read.specs.states.Stored.{with_section};
+ghost use Rattle.tsp_read.specs.states.Holds.{seen, FileOf, LineAnswers, Holds, IsReadFrom, is_either, first_of, HoldsSection, with_section};
 
 use crate::line::{
     CutLine, StepFault, add_comment, add_other, may_open, number_of, says_space, set_name,
@@ -165,13 +158,13 @@ impl Reading {
 impl Reading {
     ghost use Rattle.std.specs.Prelude.{◌≡◌, ◌&&◌, not, is_some, Some, None, List};
     ghost use Rattle.tsp_format.specs.declared.keyword.ValueShape.TheVariants.{Number};
-    ghost use Rattle.tsp_format.specs.Shapes.{shape_of, value_shape_of};
+    ghost use Rattle.tsp_format.specs.Limits.{shape_of, value_shape_of};
     ghost use Rattle.tsp_file.specs.states.Drafts.{fields_of};
     ghost use Rattle.tsp_file.specs.Fields.{spatial};
-    ghost use Rattle.tsp_text.specs.Lines.{first_word};
-    ghost use Rattle.tsp_text.specs.Values.{says_space};
+    ghost use Rattle.tsp_text.specs.Items.{first_word};
+    ghost use Rattle.tsp_text.specs.Earlier.{says_space};
     ghost use Rattle.tsp_text.specs.Items.{Item};
-    ghost use Rattle.tsp_read.specs.states.CutLine.{seen, cut_item};
+    ghost use Rattle.tsp_read.specs.states.Holds.{seen, cut_item};
     ghost use Rattle.tsp_read.specs.states.Holds.{Holds, AnswersItem, LineAnswers};
 
     /// Takes a word line.
@@ -362,7 +355,7 @@ fn file_of(draft: Draft, incomplete: Option<Field>) -> Result<File, EndFault>
 
 impl Reading {
     ghost use Rattle.tsp_read.specs.declared.reading.FinishFault.TheVariants.{Memory};
-    ghost use Rattle.tsp_read.specs.states.Finishes.{Finishes};
+    ghost use Rattle.tsp_read.specs.states.Holds.{Finishes};
 
     /// The file that was read, or the fault of its end.
     ///

@@ -10,17 +10,16 @@
 
 ghost use Rattle.std.specs.Option.{option_map};
 ghost use Rattle.std.specs.Prelude.{◌≡◌, ◌+◌, ◌<◌, ◌≤◌, ℕ, Bool, true, List, length, Some, IfSome, Ok, ◌-◌, pos, slice_index_or, false};
-ghost use Rattle.tsp_number.specs.Reading.{decimal_of};
+ghost use Rattle.tsp_number.specs.NumberWord.{decimal_of};
 ghost use Rattle.tsp_format.specs.Limits.{most_file_bytes};
 ghost use Rattle.tsp_text.specs.Items.{NumberWord};
-ghost use Rattle.tsp_text.specs.SectionNumbers.{IsWhole};
+ghost use Rattle.tsp_text.specs.SectionWords.{IsWhole};
 ghost use Rattle.tsp_read.specs.declared.part.Part.{Part};
 ghost use Rattle.tsp_read.specs.declared.part.Part.TheVariants as parts;
 ghost use Rattle.tsp_read.specs.states.Onward.{GivesNext};
-ghost use Rattle.tsp_read.specs.states.PartRun.{TakesRead, in_group, groups_left, marks_of, KeepsWords};
+ghost use Rattle.tsp_read.specs.states.HeldParts.{TakesRead, in_group, groups_left, marks_of, KeepsWords};
 ghost use Rattle.tsp_read.specs.states.Parts.{IsNodeOf};
-ghost use Rattle.tsp_read.specs.states.ReadingRun.{RunsTo, StepsTo};
-ghost use Rattle.tsp_read.specs.states.WordFront.{front_word, left_from, IsFrontWord, LeavesEnd};
+ghost use Rattle.tsp_read.specs.states.ReadingRun.{RunsTo, StepsTo, front_word, left_from, IsFrontWord, LeavesEnd};
 
 use crate::by_node::{NumberList, PointList};
 use crate::items::{Intake, without_start};
@@ -28,9 +27,8 @@ use crate::part::Part;
 use crate::reading::Reading;
 use crate::runs::{Gathered, GatheredNodes, TourList, WeightList};
 use std::alloc::Global;
-use tsp_distance::Decimal;
 use tsp_format::is_blank;
-use tsp_number::{front_decimal, front_few, front_whole};
+use tsp_number::{Decimal, front_decimal, front_few, front_whole};
 
 // ---- a number at the beginning of a text
 
@@ -388,7 +386,7 @@ fn take_part<'a>(part: &mut Part, alloc: Global, count: Count, text: &'a [u8]) -
 
 impl Reading {
     ghost use Rattle.std.specs.Prelude.{ℕ, List};
-    ghost use Rattle.tsp_read.specs.states.Intake.{IsReadTo};
+    ghost use Rattle.tsp_read.specs.states.Onward.{IsReadTo};
     ghost use Rattle.tsp_read.specs.states.ReadingRun.{counted};
 
     /// Does what `take_part` does, for the section that is open, if one is.
@@ -410,7 +408,7 @@ impl Reading {
 
 impl Intake {
     ghost use Rattle.std.specs.Prelude.{ℕ, List};
-    ghost use Rattle.tsp_read.specs.states.Intake.{IsReadTo};
+    ghost use Rattle.tsp_read.specs.states.Onward.{IsReadTo};
 
     /// Takes the words that can be taken so at the beginning of a text, where the open section is
     /// of weights, tours, points or numbers by node, and returns the rest.

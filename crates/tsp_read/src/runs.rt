@@ -3,7 +3,7 @@
 
 ghost use Rattle.std.specs.Prelude.{◌≡◌, ◌+◌, ◌-◌, ◌≤◌, [], ℕ, List, ◌∷◌, ◌++◌, Ok, OnOk, IfOk, IfErr, map, vec_len, vec_capacity, true, false};
 ghost use Rattle.tsp_format.specs.Limits.{most_tour_nodes};
-ghost use Rattle.tsp_text.specs.SectionNumbers.{IsWhole};
+ghost use Rattle.tsp_text.specs.SectionWords.{IsWhole};
 
 use crate::line::StepFault;
 use crate::part::{move_to_end, read_node_or_end};
@@ -27,7 +27,7 @@ pub struct TourList {
 }
 
 impl TourList {
-    ghost use Rattle.tsp_text.specs.TourSection.{place_of_tour, tours_in};
+    ghost use Rattle.tsp_text.specs.SectionWords.{place_of_tour, tours_in};
     ghost use Rattle.tsp_read.specs.states.Parts.{Takes};
     ghost use Rattle.tsp_read.specs.states.HeldParts.{HoldsTours, EndsRunOf};
 
@@ -140,7 +140,7 @@ pub struct GatheredNodes {
 }
 
 impl GatheredNodes {
-    ghost use Rattle.tsp_text.specs.TourSection.{place_of_tour};
+    ghost use Rattle.tsp_text.specs.SectionWords.{place_of_tour};
     ghost use Rattle.tsp_read.specs.states.Parts.{Takes};
     ghost use Rattle.tsp_read.specs.states.HeldParts.{HoldsTours};
 
@@ -197,7 +197,7 @@ pub struct WeightList {
 }
 
 impl WeightList {
-    ghost use Rattle.tsp_text.specs.WeightSection.{place_of_weight, weights_in};
+    ghost use Rattle.tsp_text.specs.SectionWords.{place_of_weight, weights_in};
     ghost use Rattle.tsp_read.specs.states.Parts.{Takes};
     ghost use Rattle.tsp_read.specs.states.HeldParts.{HoldsWeights};
 
@@ -287,7 +287,7 @@ pub struct Gathered {
 impl Gathered {
     ghost use Rattle.std.specs.Prelude.{◌<◌, unsigned_abs};
     ghost use Rattle.tsp_format.specs.Limits.{most_weight};
-    ghost use Rattle.tsp_text.specs.WeightSection.{place_of_weight};
+    ghost use Rattle.tsp_text.specs.SectionWords.{place_of_weight};
     ghost use Rattle.tsp_read.specs.states.Parts.{Takes};
     ghost use Rattle.tsp_read.specs.states.HeldParts.{HoldsWeights};
 

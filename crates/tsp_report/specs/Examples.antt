@@ -1,12 +1,14 @@
 -- A small file of each TYPE. For the laws of src/examples.rt, src/examples.rt and
 -- src/examples.rt, which state reports and what `tsp show` prints of them.
-use Rattle.std.specs.Prelude.{List, ℕ, [], ◌∷◌, Some, pos, codes}
-use Rattle.tsp_format.specs.declared.kinds.Kind.TheVariants.{Tsp, Cvrp, Tour, Potentials, Branches}
-use Rattle.tsp_format.specs.declared.kinds.WeightKind.TheVariants.{Explicit}
-use Rattle.tsp_format.specs.declared.kinds.WeightFormat.TheVariants.{Listed}
-use Rattle.tsp_format.specs.declared.layout.Layout.TheVariants.{FullMatrix}
+use Rattle.std.specs.Prelude.{List, ℕ, [], ◌∷◌, Some, pos, codes, negsuc}
 use Rattle.tsp_format.specs.Steps.{Leaf}
+use Rattle.tsp_format.specs.declared.kinds.Kind.TheVariants.{Tsp, Cvrp, Tour, Potentials, Branches}
+use Rattle.tsp_format.specs.declared.kinds.WeightFormat.TheVariants.{Listed}
+use Rattle.tsp_format.specs.declared.kinds.WeightKind.TheVariants.{Explicit}
+use Rattle.tsp_format.specs.declared.layout.Layout.TheVariants.{FullMatrix}
 use Rattle.tsp_file.specs.Fields.{Fields, blank_fields}
+use Rattle.tsp_report.specs.declared.verdict.Reason.{Reason}
+use Rattle.tsp_report.specs.declared.verdict.Reason.TheVariants.{NotASolution, TooFewNodes, NotSymmetric, Dimension, TourCount, TourLength, DepotCount, DepotDemand, FixedEdgesInRoutes, DepotInRoute, NodeOutOfRange, RepeatedNode, FixedEdgeUnused, Unserved, Overload, LengthClaimed, NotPotentials, PotentialsDimension, PotentialsKind, MultiplierNotFixed, MultiplierRepeated, DualInfeasible, NotBranches, BranchesDimension, BadComb, BadBranch, BranchTwice, BadLeaf, TooManyLoads, NotJudged}
 
 -- one line of an unknown keyword
 abbrev pub foo : List (List ℕ × List ℕ)
@@ -56,3 +58,14 @@ shown_tree = record blank_fields {
 -- a file without a TYPE
 abbrev pub untyped : Fields
 untyped = record blank_fields { others = foo }
+
+-- ---- a reason of each kind
+
+-- in the order in which reasons are judged
+abbrev pub each_reason : List Reason
+each_reason =
+    NotASolution ∷ TooFewNodes ∷ NotSymmetric 1 20 ∷ Dimension ∷ TourCount ∷ TourLength ∷ DepotCount ∷ DepotDemand
+    ∷ FixedEdgesInRoutes ∷ DepotInRoute 2 ∷ NodeOutOfRange 3 ∷ RepeatedNode 4 ∷ FixedEdgeUnused 5 ∷ Unserved 6 ∷ Overload 7
+    ∷ LengthClaimed (negsuc 4) ∷ NotPotentials ∷ PotentialsDimension ∷ PotentialsKind ∷ MultiplierNotFixed 8
+    ∷ MultiplierRepeated 9 ∷ DualInfeasible 10 30 ∷ NotBranches ∷ BranchesDimension ∷ BadComb 11 ∷ BadBranch 12 ∷ BranchTwice 13
+    ∷ BadLeaf 14 ∷ TooManyLoads ∷ NotJudged ∷ []

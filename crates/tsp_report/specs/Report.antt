@@ -1,21 +1,25 @@
 -- The bytes of the reports of `tsp check` and `tsp bound`, line by line. Each line ends with byte 10, and one blank is
 -- between words. For `write_report` (src/report.rt) and `write_bound` (src/report.rt), and for the meanings of
 -- `yes` (Accepted.antt of tsp_judge).
-use Rattle.std.specs.Prelude.{ℕ, List, ◌∷◌, ◌++◌, map, codes, decimal, cond, ℤ, pos, ◌-ℤ◌, Option, None, Some, [], IfSome, unsigned_abs, ◌≤◌, ◌^◌}
+use Rattle.std.specs.Fmt.{signed_decimal}
 use Rattle.std.specs.List.{concat}
 use Rattle.std.specs.Option.{option_map_or}
 use Rattle.std.specs.Ordering.{int_eq}
-use Rattle.std.specs.Fmt.{signed_decimal}
-use Rattle.tsp_format.specs.declared.kinds.Kind.{Kind}
+use Rattle.std.specs.Prelude.{ℕ, List, ◌∷◌, ◌++◌, map, codes, decimal, cond, ℤ, pos, ◌-ℤ◌, Option, None, Some, [], IfSome, unsigned_abs, ◌≤◌, ◌^◌, Result, Ok, Err}
 use Rattle.tsp_format.specs.Words.{kind_word}
+use Rattle.tsp_format.specs.declared.kinds.Kind.{Kind}
 use Rattle.tsp_file.specs.Fields.{Fields, nodes_of}
+use Rattle.tsp_text.specs.Spells.{read_fault_text}
+use Rattle.tsp_text.specs.declared.fault.ReadFault.{ReadFault}
+use Rattle.tsp_report.specs.Verdicts.{ReasonRow, row_of_reason}
+use Rattle.tsp_report.specs.declared.verdict.Basis.{Basis}
+use Rattle.tsp_report.specs.declared.verdict.Basis.TheVariants as bases
 use Rattle.tsp_report.specs.declared.verdict.BoundVerdict.{BoundVerdict}
 use Rattle.tsp_report.specs.declared.verdict.BoundVerdict.TheVariants as bounds
 use Rattle.tsp_report.specs.declared.verdict.Reason.{Reason}
 use Rattle.tsp_report.specs.declared.verdict.Reason.TheVariants.{NotJudged}
 use Rattle.tsp_report.specs.declared.verdict.Verdict.{Verdict}
 use Rattle.tsp_report.specs.declared.verdict.Verdict.TheVariants.{Tour, Routes, No}
-use Rattle.tsp_report.specs.ReasonRows.{ReasonRow, row_of_reason}
 
 -- ---- the instance
 
@@ -110,3 +114,51 @@ bound_found_lines instance (bounds.No reason) = no_line instance reason
 -- the report of a bound without a solution
 abbrev pub bound_report_of : Fields → BoundVerdict → List ℕ
 bound_report_of instance found = instance_lines instance ++ bound_found_lines instance found
+
+-- ---- the text of `tsp compare`: a head on the instance and the certificate
+
+-- ---- the head
+
+-- the line of the bound, if there is one
+abbrev pub basis_bound : Option ℤ → List ℕ
+basis_bound None = []
+basis_bound (Some bound) = codes "bound " ++ signed_decimal bound ++ codes "\n"
+
+-- the bound, or `none` where the instance has no solution, after the least number of routes; or the first reason
+-- against the instance or the certificate
+abbrev pub basis_lines : Fields → Basis → List ℕ
+basis_lines instance (bases.Tours bound) = basis_bound bound
+basis_lines instance bases.NoSolution = codes "bound none\n"
+basis_lines instance (bases.Routes least bound) = codes "least " ++ decimal least ++ codes "\n" ++ basis_bound bound
+basis_lines instance (bases.No reason) = no_line instance reason
+
+-- the head: the lines of the instance, then those of the basis
+abbrev pub head_of : Fields → Basis → List ℕ
+head_of instance basis = instance_lines instance ++ basis_lines instance basis
+
+-- ---- a solution
+
+-- the gap of a length to the bound; `optimal` where it is 0
+abbrev pub gap_words : ℤ → List ℕ
+gap_words gap = cond (int_eq gap (pos 0)) (codes " optimal") (codes " gap " ++ signed_decimal gap)
+
+-- the same where there is a bound
+abbrev pub bound_words : ℤ → Option ℤ → List ℕ
+bound_words length None = []
+bound_words length (Some bound) = gap_words (length -ℤ bound)
+
+-- the length of an accepted solution, or the reason against it
+abbrev pub verdict_words : Verdict → List ℕ
+verdict_words (Tour length bound) = signed_decimal length ++ bound_words length bound
+verdict_words (Routes length routes least bound) = signed_decimal length ++ codes " routes " ++ decimal routes
+    ++ bound_words length bound
+verdict_words (No reason) = codes "no " ++ reason_text reason
+
+-- the words of the verdict on a solution, or the fault of its file
+abbrev pub found_words : Result Verdict ReadFault → List ℕ
+found_words (Ok verdict) = verdict_words verdict
+found_words (Err fault) = read_fault_text fault
+
+-- the line of a solution: these words, and its path as it was given
+abbrev pub solution_line : Result Verdict ReadFault → List ℕ → List ℕ
+solution_line found path = found_words found ++ codes " " ++ path ++ codes "\n"

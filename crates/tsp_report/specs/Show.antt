@@ -1,5 +1,5 @@
 -- The lines that `tsp show` prints of a file. Each line ends with byte 10, and one blank is between words. For
--- `write_shown` (src/shown.rt), and for ShowRun.antt of tsp_judge.
+-- `write_shown` (src/shown.rt), and for ConvertRun.antt of tsp_judge.
 use Rattle.std.specs.Prelude.{ℕ, List, [], ◌∷◌, ◌++◌, length, codes, decimal, cond, ℤ, Option, None, Some, unwrap_or}
 use Rattle.std.specs.List.{flat_map, enumerate_from}
 use Rattle.std.specs.Option.{option_map_or}
@@ -13,9 +13,8 @@ use Rattle.tsp_format.specs.Nodes.{nodes_to}
 use Rattle.tsp_format.specs.Steps.{Step, leaf_count}
 use Rattle.tsp_file.specs.Fields.{Fields, nodes_of}
 use Rattle.tsp_file.specs.Rules.{is_explicit}
-use Rattle.tsp_file.specs.Defaults.{meant_scale}
-use Rattle.tsp_file.specs.Cost.{cost}
-use Rattle.tsp_theory.specs.Length.{length_of}
+use Rattle.tsp_file.specs.Cost.{meant_scale, cost}
+use Rattle.tsp_theory.specs.Tour.{length_of}
 use Rattle.tsp_report.specs.Report.{type_line, nodes_line, not_judged}
 
 -- ---- any file

@@ -1,14 +1,12 @@
 //! Writes the head and the lines of `tsp compare`. For `src/compared.rt` of tsp_judge.
 
 ghost use Rattle.std.specs.Prelude.{◌++◌, codes, IfOk, ◌≡◌};
-ghost use Rattle.tsp_number.specs.NumberFaultText.{number_fault_text};
-ghost use Rattle.tsp_io.specs.Sink.{Writes};
-ghost use Rattle.tsp_io.specs.states.Watched.{sink_of};
-ghost use Rattle.tsp_io.specs.states.WriteProgress.{Puts};
-ghost use Rattle.tsp_file.specs.DraftFaultText.{end_fault_text};
-ghost use Rattle.tsp_text.specs.ReadFaultText.{line_fault_text, read_fault_text};
-ghost use Rattle.tsp_report.specs.ComparisonText.{head_of, basis_lines, basis_bound, gap_words, bound_words, verdict_words, found_words, solution_line};
-ghost use Rattle.tsp_report.specs.Report.{IsGapSized, IsSized};
+ghost use Rattle.tsp_number.specs.NumberWord.{number_fault_text};
+ghost use Rattle.tsp_io.specs.Streams.{Writes};
+ghost use Rattle.tsp_io.specs.states.Watched.{sink_of, Puts};
+ghost use Rattle.tsp_file.specs.Rules.{end_fault_text};
+ghost use Rattle.tsp_text.specs.Spells.{line_fault_text, read_fault_text};
+ghost use Rattle.tsp_report.specs.Report.{head_of, basis_lines, basis_bound, gap_words, bound_words, verdict_words, found_words, solution_line, IsGapSized, IsSized};
 
 use crate::report::{gap_of, put_instance, put_named, put_no, put_reason};
 use crate::verdict::{Basis, Verdict};

@@ -2,9 +2,8 @@
 //! tsp_c; other reports share its lines.
 
 ghost use Rattle.std.specs.Prelude.{◌≡◌, ◌++◌, ◌≤◌, ◌^◌, ◌-ℤ◌, Some, map, codes, unsigned_abs};
-ghost use Rattle.tsp_io.specs.Sink.{Writes};
-ghost use Rattle.tsp_io.specs.states.Watched.{sink_of};
-ghost use Rattle.tsp_io.specs.states.WriteProgress.{Puts};
+ghost use Rattle.tsp_io.specs.Streams.{Writes};
+ghost use Rattle.tsp_io.specs.states.Watched.{sink_of, Puts};
 ghost use Rattle.tsp_report.specs.Report.{report_of, instance_lines, type_line, nodes_line, not_judged, first_keyword, keyword_after_blank, no_line, verdict_lines, accepted_lines, bound_lines, gap_lines, IsGapSized, IsSized, after_blank, reason_text, bound_report_of, bound_found_lines};
 
 use crate::verdict::{BoundVerdict, Reason, Verdict, row_of_reason};

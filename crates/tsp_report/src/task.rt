@@ -3,10 +3,8 @@
 
 ghost use Rattle.std.specs.Fn.{FnReturnsAt};
 ghost use Rattle.std.specs.Prelude.{◌≡◌, option_map};
-ghost use Rattle.tsp_report.specs.Files.{files_of, files_compared, files_of_task, numbered};
-ghost use Rattle.tsp_report.specs.Mapped.{IsMapped, IsMappedCertificate, IsMappedComparison, IsMappedTask};
-ghost use Rattle.tsp_report.specs.ReasonRows.{role_of};
-ghost use Rattle.tsp_report.specs.Roles.{role_by};
+ghost use Rattle.tsp_report.specs.Tasks.{files_of, files_compared, files_of_task, numbered, IsMapped, IsMappedCertificate, IsMappedComparison, IsMappedTask, role_by};
+ghost use Rattle.tsp_report.specs.Verdicts.{role_of};
 
 use crate::verdict::{Reason, row_of_reason};
 use tsp_format::Layout;

@@ -2,7 +2,7 @@
 //! finds them, tsp_report prints them, tsp_explain explains them.
 
 ghost use Rattle.std.specs.Prelude.{◌≡◌, None, Some, pos};
-ghost use Rattle.tsp_report.specs.ReasonRows.{row_of_reason};
+ghost use Rattle.tsp_report.specs.Verdicts.{row_of_reason};
 
 use crate::task::Role::{self, Branches, Instance, Potentials, Solution};
 

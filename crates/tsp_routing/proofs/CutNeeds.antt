@@ -1,25 +1,24 @@
 -- What the customers of a cut demand, summed one by one, and how many routes carry that at least. For `Demands::all` in
 -- src/needs.rt and others.
-use Rattle.std.proofs.Common.{◌≡◌, ◌≢◌, ℕ, zero, suc, ◌+◌, ◌-◌, ◌*◌, ◌/◌, ◌<◌, ◌≤◌, ◌==◌, ◌||◌, false, List, [], ◌∷◌, refl, sym, ap, ◌∙◌, subst, arith, to_z, of_z, inl, inr, add-one}
-use Rattle.std.specs.Prelude.{◌⊎◌, max, min, if◌then◌else◌, nat_abs, ℤ, pos, negsuc, ◌+ℤ◌, ◌*ℤ◌, ◌≤ℤ◌}
-use Rattle.std.specs.Int.{w64}
-use Rattle.std.specs.List.{All, AllPairs, AllByRecursion, range_with_len}
-use Rattle.std.proofs.lemmas.Bool.{cases_Bool, cases_eq, cases_lt, or_left, ne_eqb, eq-eqb, eqb-true}
-use Rattle.std.proofs.lemmas.Int.{ints}
-use Rattle.std.proofs.lemmas.List.Elements.{recursion_from_All}
+use Rattle.std.proofs.Common.{◌≡◌, ◌≢◌, ℕ, zero, suc, ◌+◌, ◌-◌, ◌*◌, ◌/◌, ◌<◌, ◌≤◌, ◌==◌, ◌||◌, false, List, [], ◌∷◌, refl, sym, ap, ◌∙◌, subst, arith, to_z, of_z, inl, inr, add-one, ap₂, ◌++◌}
 use Rattle.std.proofs.Math.IntN.{+ℤ_assoc}
-use Rattle.std.proofs.Math.Nat.{div-mul-le_self, lt-div-mul-add, mul-le-mul_right}
-use Rattle.tsp_format.specs.Nodes.{IsNode, nodes_to}
+use Rattle.std.proofs.Math.Nat.{div-mul-le_self, lt-div-mul-add, mul-le-mul_right, add-mul}
+use Rattle.std.proofs.lemmas.Bool.{cases_Bool, cases_eq, cases_lt, or_left, ne_eqb, eq-eqb, eqb-true, both_ways}
+use Rattle.std.proofs.lemmas.Int.{ints}
+use Rattle.std.proofs.lemmas.List.Elements.{recursion_from_All, All-from_recursion}
+use Rattle.std.specs.Int.{w64}
+use Rattle.std.specs.List.{All, AllPairs, AllByRecursion, range_with_len, concat}
+use Rattle.std.specs.Prelude.{◌⊎◌, max, min, if◌then◌else◌, nat_abs, ℤ, pos, negsuc, ◌+ℤ◌, ◌*ℤ◌, ◌≤ℤ◌}
 use Rattle.tsp_format.specs.Limits.{most_demand, most_nodes}
-use Rattle.tsp_format.specs.Ranges.{IsFromTo}
-use Rattle.tsp_cases.specs.Crossed.{has}
-use Rattle.tsp_theory.specs.Length.{sum_int_by}
-use Rattle.tsp_theory.specs.Routing.{RoutingProblem, IsCustomer, IsLeastRoutes}
+use Rattle.tsp_format.specs.Nodes.{IsNode, nodes_to}
+use Rattle.tsp_format.specs.Steps.{IsFromTo}
 use Rattle.tsp_theory.proofs.Sums.{sum_int_by-add}
-use Rattle.tsp_routing.specs.PlanLinks.{sum_of_customers}
-use Rattle.tsp_routing.specs.Cuts.{IsCapacityCut}
-use Rattle.tsp_routing.specs.states.Demands.{of_others}
-use Rattle.tsp_routing.proofs.LeftCuts.{all_same}
+use Rattle.tsp_theory.specs.Tour.{sum_int_by, RoutingProblem, IsCustomer, IsLeastRoutes}
+use Rattle.tsp_cases.specs.Crossings.{has}
+use Rattle.tsp_routing.proofs.Plans.{all_same, sum_append, sum_of_plan, parts_all, demands_low}
+use Rattle.tsp_routing.specs.PlanLinks.{sum_of_customers, IsCapacityCut, units_of, is_light, load_in, room_in, RoutesHaveRoom, LoadsAreSome}
+use Rattle.tsp_routing.specs.Walks.{BeginsOther, IsStraightFrom, IsStraight, IsWalk, RoutesAreWalks}
+use Rattle.tsp_routing.specs.states.Demands.{of_others, light_in}
 
 -- a run of nodes with one more at its end
 pub run_more : (f : ℕ → ℤ) (a n : ℕ) → sum_int_by f (range_with_len a (suc n)) ≡ sum_int_by f (range_with_len a n) +ℤ f (a + n)
@@ -196,3 +195,203 @@ nodes_more f last =
 pub nodes_none : (f : ℕ → ℤ) → pos 0 ≡ sum_int_by f (nodes_to 0)
 unfolding nodes_to
 nodes_none f = refl
+
+-- ---- the load of one node in units: whether it demands less than a unit
+
+module _ (problem : RoutingProblem) (unit node : ℕ) where
+  pub light_depot : node ≡ problem.depot → pos 0 ≡ light_in problem unit node
+  light_depot same = sym (ap (λ b. if b then pos 0 else is_light problem unit node) (eq-eqb node problem.depot same))
+
+  other : node ≢ problem.depot → light_in problem unit node ≡ is_light problem unit node
+  other differs = ap (λ b. if b then pos 0 else is_light problem unit node) (ne_eqb node problem.depot differs)
+
+  pub light_some : node ≢ problem.depot → 1 ≤ units_of problem unit node → pos 0 ≡ light_in problem unit node
+  light_some differs some = sym (other differs
+      ∙ ap (λ b. if b then pos 1 else pos 0) (ne_eqb (units_of problem unit node) 0 (λ is. omega (arith, some, is))))
+
+  pub light_none : node ≢ problem.depot → units_of problem unit node ≡ 0 → pos 1 ≡ light_in problem unit node
+  light_none differs is = sym (other differs ∙ ap (λ b. if b then pos 1 else pos 0) (eq-eqb (units_of problem unit node) 0 is))
+
+  pub load_is : (units parts light : ℕ) → units ≡ units_of problem unit node → light + 1 ≡ parts
+      → (if units == 0 then 1 else (units * parts)) ≡ load_in problem unit light node
+  load_is units parts light same is = ap₂ (λ (u p : ℕ). if u == 0 then 1 else (u * p)) same (sym is)
+
+-- ---- the loads of a route are within the capacity in units
+
+not_none : (k : ℕ) → (k == 0) ≡ false → 1 ≤ k
+not_none zero h = absurd (both_ways (0 == 0) h refl)
+not_none (suc k) h = omega arith
+
+pub loads_are_some : LoadsAreSome
+loads_are_some problem unit none node =
+    elim (cases_Bool (units_of problem unit node == 0)) [
+      | inl t ↦ rw t (omega arith)
+      | inr f ↦
+          let some = not_none (units_of problem unit node) f in
+          let more : 1 * (none + 1) ≤ units_of problem unit node * (none + 1) = mul-le-mul_right (none + 1) some in
+          rw f (omega (arith, more))
+    ]
+
+small_low : (problem : RoutingProblem) (unit node : ℕ) → pos 0 ≤ℤ is_light problem unit node
+small_low problem unit node = elim (cases_Bool (units_of problem unit node == 0)) [
+  | inl t ↦ rw t (omega (arith, ints))
+  | inr f ↦ rw f (omega (arith, ints))
+]
+
+-- whole units and small customers of some nodes, and what these make
+record Rough (problem : RoutingProblem) (unit none : ℕ) (nodes : List ℕ) : Type 0 where
+  whole : ℕ
+  small : ℕ
+  small_is : pos small ≡ sum_int_by (is_light problem unit) nodes
+  below : pos (whole * unit) ≤ℤ sum_int_by problem.demand nodes
+  loads_are : sum_int_by (λ node. pos (load_in problem unit none node)) nodes ≡ pos (whole * (none + 1) + small)
+
+from_nat : (z : ℤ) → pos 0 ≤ℤ z → pos (nat_abs z) ≡ z
+from_nat (pos n) low = refl
+from_nat (negsuc n) low = absurd (omega (arith, ints, low))
+
+rough : (problem : RoutingProblem) (unit none : ℕ) (nodes : List ℕ) → AllByRecursion (λ x. pos 0 ≤ℤ problem.demand x) nodes
+    → Rough problem unit none nodes
+rough problem unit none [] low = record {
+  whole = 0;
+  small = 0;
+  small_is = refl;
+  below = omega (arith, ints);
+  loads_are = omega (arith, ints);
+}
+rough problem unit none (x ∷ nodes) low =
+    let rest = rough problem unit none nodes low.1 in
+    let own = units_of problem unit x in
+    let rounded : own * unit ≤ nat_abs (problem.demand x) = div-mul-le_self (nat_abs (problem.demand x)) unit in
+    let demand_is = from_nat (problem.demand x) low.0 in
+    let products = add-mul own rest.whole unit in
+    let parts = add-mul own rest.whole (none + 1) in
+    elim (cases_Bool (own == 0)) [
+      | inl t ↦
+          let nothing : own ≡ 0 = eqb-true own 0 t in
+          let one : is_light problem unit x ≡ pos 1 = ap (λ b. if b then pos 1 else pos 0) t in
+          let load : load_in problem unit none x ≡ 1 = ap (λ b. if b then 1 else (own * (none + 1))) t in
+          let before = rest.small_is in
+          let so_far = rest.below in
+          let all = rest.loads_are in
+          record {
+            whole = rest.whole;
+            small = suc rest.small;
+            small_is = omega (arith, ints, before, one);
+            below = omega (arith, ints, so_far, low.0);
+            loads_are = omega (arith, ints, all, load);
+          }
+      | inr f ↦
+          let none_small : is_light problem unit x ≡ pos 0 = ap (λ b. if b then pos 1 else pos 0) f in
+          let load : load_in problem unit none x ≡ own * (none + 1) = ap (λ b. if b then 1 else (own * (none + 1))) f in
+          let before = rest.small_is in
+          let so_far = rest.below in
+          let all = rest.loads_are in
+          record {
+            whole = own + rest.whole;
+            small = rest.small;
+            small_is = omega (arith, ints, before, none_small);
+            below = omega (arith, ints, so_far, rounded, demand_is, products);
+            loads_are = omega (arith, ints, all, load, parts);
+          }
+    ]
+
+sum_low : (f : ℕ → ℤ) → ((x : ℕ) → pos 0 ≤ℤ f x) → (nodes : List ℕ) → pos 0 ≤ℤ sum_int_by f nodes
+sum_low f low [] = omega (arith, ints)
+sum_low f low (x ∷ nodes) = omega (arith, ints, low x, sum_low f low nodes)
+
+-- whole units that fit are at most those of the capacity
+fit : (whole unit room : ℕ) → 1 ≤ unit → whole * unit ≤ room → whole ≤ room / unit
+fit whole unit room some le = elim (cases_lt (room / unit) whole) [
+  | inl lt ↦
+      let above = lt-div-mul-add {a = room} {b = unit} some in
+      let more : suc (room / unit) * unit ≤ whole * unit = mul-le-mul_right unit lt in
+      absurd (omega (arith, above, more, le))
+  | inr high ↦ high
+]
+
+to_nat : (k : ℕ) (z : ℤ) → pos k ≤ℤ z → k ≤ nat_abs z
+to_nat k (pos n) le = omega (arith, ints, le)
+to_nat k (negsuc n) le = absurd (omega (arith, ints, le))
+
+have_room : (problem : RoutingProblem) (unit none : ℕ) (routes : List (List ℕ)) → 1 ≤ unit
+    → AllByRecursion (λ x. pos 0 ≤ℤ problem.demand x) (concat routes)
+    → AllByRecursion (λ route. sum_int_by problem.demand route ≤ℤ problem.capacity) routes
+    → sum_int_by (is_light problem unit) (concat routes) ≤ℤ pos none
+    → AllByRecursion (λ route. sum_int_by (λ node. pos (load_in problem unit none node)) route ≤ℤ pos (room_in problem unit none)) routes
+have_room problem unit none [] some low within few = tt
+have_room problem unit none (route ∷ routes) some low within few =
+    let lows = parts_all (λ x. pos 0 ≤ℤ problem.demand x) route (concat routes) low in
+    let own = rough problem unit none route lows.0 in
+    let both = sum_append (is_light problem unit) route (concat routes) in
+    let first = sum_low (is_light problem unit) (small_low problem unit) route in
+    let others = sum_low (is_light problem unit) (small_low problem unit) (concat routes) in
+    let fits : own.whole * unit ≤ nat_abs problem.capacity =
+    to_nat (own.whole * unit) problem.capacity (let below = own.below in omega (arith, ints, below, within.0)) in
+    let whole = fit own.whole unit (nat_abs problem.capacity) some fits in
+    let times : own.whole * (none + 1) ≤ nat_abs problem.capacity / unit * (none + 1) = mul-le-mul_right (none + 1) whole in
+    let loads = own.loads_are in
+    let small = own.small_is in (
+      omega (arith, ints, loads, times, small, both, others, few),
+      have_room problem unit none routes some lows.1 within.1 (omega (arith, ints, both, first, few)),
+    )
+
+pub routes_have_room : RoutesHaveRoom
+routes_have_room problem unit none routes routing units plan =
+    let all = sum_of_plan problem routes (is_light problem unit) routing plan in
+    let light_is = units.light_is in
+    All-from_recursion
+    (λ route. sum_int_by (λ node. pos (load_in problem unit none node)) route ≤ℤ pos (room_in problem unit none)) routes
+    (have_room problem unit none routes units.some (demands_low problem routes routing plan)
+    (recursion_from_All (λ route. sum_int_by problem.demand route ≤ℤ problem.capacity) routes plan.within)
+    (omega (arith, ints, all, light_is)))
+
+-- ---- each route of a plan is a walk
+
+begins_other : (x : ℕ) (xs : List ℕ) → AllByRecursion (λ y. x ≢ y) xs → BeginsOther x xs
+begins_other x [] h = tt
+begins_other x (y ∷ xs) h = h.0
+
+straight_from : (x : ℕ) (xs : List ℕ) → AllByRecursion (λ y. x ≢ y) xs → IsStraightFrom x xs
+straight_from x [] h = tt
+straight_from x (y ∷ xs) h = (h.0, begins_other x xs h.1)
+
+straight : (xs : List ℕ) → Apart xs → IsStraight xs
+straight [] h = tt
+straight (x ∷ xs) h = (straight_from x xs h.0, straight xs h.1)
+
+apart_parts : (xs ys : List ℕ) → Apart (xs ++ ys) → Apart xs × Apart ys
+apart_parts [] ys h = (tt, h)
+apart_parts (x ∷ xs) ys h =
+    let rest = apart_parts xs ys h.1 in
+    (((parts_all (λ y. x ≢ y) xs ys h.0).0, rest.0), rest.1)
+
+walks : (problem : RoutingProblem) (unit none : ℕ) (routes : List (List ℕ))
+    → AllByRecursion (IsCustomer problem.nodes problem.depot) (concat routes) → Apart (concat routes)
+    → AllByRecursion (λ route. route ≢ []) routes
+    → AllByRecursion (λ route. sum_int_by (λ node. pos (load_in problem unit none node)) route ≤ℤ pos (room_in problem unit none)) routes
+    → AllByRecursion
+    (IsWalk problem.nodes problem.depot (load_in problem unit none) (room_in problem unit none)) routes
+walks problem unit none [] customers apart each within = tt
+walks problem unit none (route ∷ routes) customers apart each within =
+    let own = parts_all (IsCustomer problem.nodes problem.depot) route (concat routes) customers in
+    let aparts = apart_parts route (concat routes) apart in (
+      record {
+        some = each.0;
+        customers = All-from_recursion (IsCustomer problem.nodes problem.depot) route own.0;
+        within = within.0;
+        straight = straight route aparts.0;
+      },
+      walks problem unit none routes own.1 aparts.1 each.1 within.1,
+    )
+
+pub routes_are_walks : RoutesAreWalks
+routes_are_walks problem unit none routes routing units filled =
+    All-from_recursion (IsWalk problem.nodes problem.depot (load_in problem unit none) (room_in problem unit none)) routes
+    (walks problem unit none routes
+    (recursion_from_All (IsCustomer problem.nodes problem.depot) (concat routes) filled.plan.customers)
+    (apart_from_pairs (concat routes) filled.plan.once)
+    (recursion_from_All (λ route. route ≢ []) routes filled.each)
+    (recursion_from_All
+    (λ route. sum_int_by (λ node. pos (load_in problem unit none node)) route ≤ℤ pos (room_in problem unit none)) routes
+    (routes_have_room problem unit none routes routing units filled.plan)))

@@ -1,36 +1,154 @@
--- What the limits of a case and the multipliers of the sets give back is at most what they take off a plan. For the law
--- `plan_bounds_bound_plans` in src/laws.rt.
-use Rattle.std.proofs.Common.{◌≡◌, ℕ, zero, suc, ◌+◌, ◌-◌, ◌*◌, ◌==◌, ◌&&◌, Bool, true, false, not, cond, List, [], ◌∷◌, length, refl, sym, ap, ap₂, ◌∙◌, subst, arith, inl, inr}
-use Rattle.std.specs.Prelude.{max, min, ℤ, pos, negsuc, ◌+ℤ◌, ◌*ℤ◌, ◌≤ℤ◌}
-use Rattle.std.specs.List.{AllByRecursion, concat}
-use Rattle.std.proofs.lemmas.Int.{ints}
-use Rattle.std.proofs.lemmas.Bool.{cases_Bool, both_ways, and_parts, eqb-true}
-use Rattle.std.proofs.lemmas.List.Elements.{recursion_from_All}
+-- Routes cross each part an even number of times, so they keep the limits of an open case until that is closed. For the
+-- law `plans_keep_limits` in src/laws.rt.
+use Rattle.std.proofs.Common.{◌≡◌, ℕ, ◌+◌, ◌-◌, ◌*◌, Bool, true, false, List, [], ◌∷◌, length, ◌≤ℤ◌, inl, inr, refl, arith, Option, None, Some, ap, subst, zero, suc, ◌==◌, ◌&&◌, not, cond, sym, ap₂, ◌∙◌, ◌≤◌}
 use Rattle.std.proofs.Math.IntN.{suc_ℤ-*ℤ, zero-*ℤ, *ℤ-zero, *ℤ_comm}
-use Rattle.tsp_theory.specs.Cycle.{links}
-use Rattle.tsp_theory.specs.Length.{sum_int_by, length_of}
-use Rattle.tsp_theory.specs.Tree.{weight_of, crossing}
-use Rattle.tsp_theory.specs.Routing.{RoutingProblem, IsPlan, plan_length}
-use Rattle.tsp_theory.specs.CertificateNumbers.{entry}
-use Rattle.tsp_theory.specs.NodeBound.{weight_between}
+use Rattle.std.proofs.lemmas.Bool.{cases_lt, both_ways, cases_Bool, and_parts, eqb-true}
+use Rattle.std.proofs.lemmas.Int.{ints}
+use Rattle.std.proofs.lemmas.List.Elements.{All-cons, All-contains, recursion_from_All, All-from_recursion}
+use Rattle.std.specs.List.{AllByRecursion, concat, All}
+use Rattle.std.specs.Prelude.{ℤ, pos, negsuc, ◌+ℤ◌, max, min, ◌*ℤ◌}
+use Rattle.tsp_theory.proofs.Neighbours.{none_or_one, evenly, sum_below, sum_zero, one_if, difference}
 use Rattle.tsp_theory.proofs.Sums.{sum_int_by-add}
-use Rattle.tsp_theory.proofs.Crossings.{one_if, none_or_one}
-use Rattle.tsp_theory.proofs.Neighbours.{sum_below}
-use Rattle.tsp_theory.proofs.Adjustments.{difference, sum_zero}
-use Rattle.tsp_cases.specs.Combs.{family_crossings}
-use Rattle.tsp_cases.specs.Families.{Family}
+use Rattle.tsp_theory.specs.Bounds.{entry, weight_between, IsScale}
+use Rattle.tsp_theory.specs.Tour.{links, length_of, RoutingProblem, sum_int_by, IsPlan, plan_length}
+use Rattle.tsp_theory.specs.Tree.{crossing, crosses, weight_of}
+use Rattle.tsp_cases.specs.CaseTrees.{IsAbove, IsLeastFound, multiplied, crossings_of}
+use Rattle.tsp_cases.specs.Cases.{CaseStep, Branch, Leaf, are_case_trees, decide, leaves_of, cases_of, LeafNumbers}
+use Rattle.tsp_cases.specs.Families.{Family, family_crossings, family_with, families_with}
+use Rattle.tsp_cases.specs.ListedCases.{listed_steps}
+use Rattle.tsp_cases.specs.declared.family.Crossings.{Crossings}
 use Rattle.tsp_cases.specs.declared.open_case.Decision.{Decision}
-use Rattle.tsp_cases.specs.CaseTrees.{multiplied}
-use Rattle.tsp_cases.specs.LeafBound.{crossings_of}
-use Rattle.tsp_routing.specs.PlanLinks.{plan_links, IsRoutable}
-use Rattle.tsp_routing.specs.Cuts.{IsCutFamily}
-use Rattle.tsp_routing.specs.Limits.{part_crossed, set_at, IsWithinLimit, KeepsLimit}
-use Rattle.tsp_routing.specs.PlanBounds.{surplus, least_times, low_of, high_of, limits_total, walk_weight, PlanBoundsBoundPlans}
-use Rattle.tsp_routing.proofs.Plans.{lengths_are_weights, plan_firsts, plan_seconds, count_of_plan}
-use Rattle.tsp_routing.proofs.FewRoutes.{plans_have_few_routes}
-use Rattle.tsp_routing.proofs.LeftCuts.{all_same, plans_cross_cuts, lone_crossings, fewest_routes}
-use Rattle.tsp_routing.proofs.Surplus.{least_at, least_between, split_surplus, between_weight}
-use Rattle.tsp_routing.proofs.EvenCrossings.{plans_cross_evenly}
+use Rattle.tsp_routing.proofs.CutNeeds.{routes_are_walks}
+use Rattle.tsp_routing.proofs.Plans.{lengths_are_weights, plan_firsts, plan_seconds, count_of_plan, plans_have_few_routes, all_same, plans_cross_cuts, lone_crossings, fewest_routes, least_at, least_between, split_surplus, between_weight}
+use Rattle.tsp_routing.specs.PlanBounds.{surplus, least_times, low_of, high_of, limits_total, walk_weight, PlanBoundsBoundPlans, least_product, IsPlanBound, IsWalkBound, IsFoundByWalks, PlanTreesBoundPlans, PlanTreeBoundsAreUnique, IsPlanTreeBound}
+use Rattle.tsp_routing.specs.PlanLinks.{part_crossed, set_at, KeepsLimit, KeepsLimitsOfOne, PlansCrossEvenly, PlansKeepEitherLimit, PlansKeepLeaves, IsFewest, plan_links, IsRoutable, IsCutFamily, IsWithinLimit, IsFilledPlan, AreUnits, load_in, room_in, KeepsEachLimit}
+use Rattle.tsp_routing.specs.PlanVerdicts.{PlanBoundsFoundAreUnique}
+use Rattle.tsp_routing.specs.Walks.{IsLeastAmong, IsWalk, IsBelowWalks}
+
+-- ---- parity
+
+even : (part : ℕ → Bool) (depot : ℕ) (routes : List (List ℕ)) → (half : ℤ) × (part_crossed part depot routes ≡ half +ℤ half)
+even part depot [] = (pos 0, refl)
+even part depot (route ∷ routes) =
+    let own = evenly part (depot ∷ route) in
+    let rest = even part depot routes in
+    (own.0 +ℤ rest.0, omega (arith, ints, own.1, rest.1))
+
+crossed_low : (part : ℕ → Bool) (nodes : List ℕ) → pos 0 ≤ℤ length_of (crossing part) nodes
+crossed_low part nodes =
+    let below = sum_below (λ (link : ℕ × ℕ). pos 0) (λ (link : ℕ × ℕ). crossing part link.0 link.1) (links nodes)
+    (λ link. (none_or_one (crosses part (link.0, link.1))).0) in
+    omega (arith, ints, below, sum_zero (links nodes))
+
+part_low : (part : ℕ → Bool) (depot : ℕ) (routes : List (List ℕ)) → pos 0 ≤ℤ part_crossed part depot routes
+part_low part depot [] = omega (arith, ints)
+part_low part depot (route ∷ routes) = omega (arith, ints, crossed_low part (depot ∷ route), part_low part depot routes)
+
+half_of : (crossed half : ℤ) → crossed ≡ half +ℤ half → pos 0 ≤ℤ crossed → (count : ℕ) × (crossed ≡ pos (2 * count))
+half_of crossed (pos h) is low = (h, omega (arith, ints, is))
+half_of crossed (negsuc h) is low = absurd (omega (arith, ints, is, low))
+
+pub plans_cross_evenly : PlansCrossEvenly
+plans_cross_evenly part depot routes =
+    let halves = even part depot routes in
+    half_of (part_crossed part depot routes) halves.0 halves.1 (part_low part depot routes)
+
+pub plans_keep_either_limit : PlansKeepEitherLimit
+plans_keep_either_limit part depot routes half =
+    let own = plans_cross_evenly part depot routes in
+    elim (cases_lt half own.0) [
+      | inl lt ↦ inr (omega (arith, ints, own.1, lt))
+      | inr le ↦ inl (omega (arith, ints, own.1, le))
+    ]
+
+-- ---- the tree
+
+module _ (n : ℕ) (families : List Family) (depot : ℕ) (routes : List (List ℕ)) where
+  -- a branch leaves out no routes
+  branched : (pair : ℕ × ℕ) (case : List Decision) (cases : List (List Decision))
+      → KeepsLimitsOfOne n families depot routes (case ∷ cases)
+      → KeepsLimitsOfOne n families depot routes (decide pair true case ∷ decide pair false case ∷ cases)
+  branched pair case cases (inr later) = inr (inr later)
+  branched pair case cases (inl here) =
+      let keeps = KeepsLimit n families depot routes in
+      elim (plans_keep_either_limit (set_at families (pair.0 - (n + 1))) depot routes pair.1) [
+        | inl few ↦ inl (All-cons keeps (record { pair = pair; taken = true }) case few here)
+        | inr many ↦ inr (inl (All-cons keeps (record { pair = pair; taken = false }) case many here))
+      ]
+
+  kept : (cases : List (List Decision)) (steps : List CaseStep) → are_case_trees (length cases) steps ≡ true
+      → KeepsLimitsOfOne n families depot routes cases
+      → KeepsLimitsOfOne n families depot routes (cases_of (leaves_of cases steps))
+  kept [] steps whole keeps = absurd keeps
+  kept (case ∷ cases) [] whole keeps = absurd (both_ways false refl whole)
+  kept (case ∷ cases) (Branch pair ∷ steps) whole keeps =
+      kept (decide pair true case ∷ decide pair false case ∷ cases) steps whole (branched pair case cases keeps)
+  kept (case ∷ cases) (Leaf numbers ∷ steps) whole (inl here) = inl here
+  kept (case ∷ cases) (Leaf numbers ∷ steps) whole (inr later) = inr (kept cases steps whole later)
+
+pub plans_keep_leaves : PlansKeepLeaves
+plans_keep_leaves n families depot given steps routes whole keeps =
+    kept n families depot routes (given ∷ []) steps whole (inl keeps)
+
+-- ---- the least of some numbers is one number, and so is the least bound of the leaves
+
+pub one_least : {X : Type 0} (P : X → Type 0) (f : X → ℤ) (a b : ℤ) → IsLeastAmong P f (Some a) → IsLeastAmong P f (Some b) → a ≡ b
+one_least {X} P f a b p q =
+    let first = p.1 q.0.0 q.0.1 in
+    let second = q.1 p.0.0 p.0.1 in
+    omega (arith, ints, first, second, p.0.2, q.0.2)
+
+pub one_fewest : (problem : RoutingProblem) (a b : ℕ) → IsFewest problem a → IsFewest problem b → a ≡ b
+one_fewest problem a b p q =
+    let first = p.least_is.none_less q.least q.least_is.enough in
+    let second = q.least_is.none_less p.least p.least_is.enough in
+    omega (arith, first, second, p.fewest_is, q.fewest_is)
+
+-- ---- whatever is found of a leaf
+
+module _ (found : List Decision × LeafNumbers → Option ℤ → Type 0)
+    (one : (leaf : List Decision × LeafNumbers) (x y : Option ℤ) → found leaf x → found leaf y → x ≡ y)
+    (leaves : List (List Decision × LeafNumbers)) where
+  apart : (a : ℤ) → None ≡ Some a → ⊥
+  apart a same = subst (λ (o : Option ℤ). is_none o) same tt
+    where
+      is_none : Option ℤ → Type 0
+      is_none None = Unit {0}
+      is_none (Some z) = ⊥
+
+  inside : (a b : ℤ) → Some a ≡ Some b → a ≡ b
+  inside a b same = ap (λ o. value a o) same
+    where
+      value : ℤ → Option ℤ → ℤ
+      value d None = d
+      value d (Some z) = z
+
+  at_most : (a b : ℤ) → IsLeastFound found leaves (Some a) → IsLeastFound found leaves (Some b) → a ≤ℤ b
+  at_most a b p q =
+      let there = q.1 in
+      let leaf = there.1 in
+      elim (All-contains (IsAbove found a) leaves leaf p.0 (there.0, there.2, there.3)) [
+        | inl none ↦ absurd (apart b (one leaf None (Some b) none there.4))
+        | inr own ↦ let same = inside own.0 b (one leaf (Some own.0) (Some b) own.1 there.4) in omega (arith, ints, own.2, same)
+      ]
+
+  never_both : (a : ℤ) → IsLeastFound found leaves (Some a) → IsLeastFound found leaves None → ⊥
+  never_both a p none =
+      let there = p.1 in
+      let leaf = there.1 in
+      apart a (one leaf None (Some a)
+      (All-contains (λ l. found l None) leaves leaf none (there.0, there.2, there.3)) there.4)
+
+  pub one_found : (a b : Option ℤ) → IsLeastFound found leaves a → IsLeastFound found leaves b → a ≡ b
+  one_found (Some a) (Some b) p q =
+      let first = at_most a b p q in
+      let second = at_most b a q p in
+      ap (λ (z : ℤ). Some z) (omega (arith, ints, first, second))
+  one_found (Some a) None p q = absurd (never_both a p q)
+  one_found None (Some b) p q = absurd (never_both b q p)
+  one_found None None p q = refl
+
+-- ---- what the limits of a case and the multipliers of the sets give back is at most what they
 
 -- ---- products
 
@@ -237,3 +355,156 @@ plan_bounds_bound_plans problem scale potentials families multipliers case each 
     is.bound_is.least (plan_length problem.cost problem.depot routes)
     (let whole = ap (λ z. scale *ℤ z) length_is in
     omega (arith, ints, weighs, all, split, between, crossed, least, parts, whole))
+
+-- ---- the bound that a certificate for routes shows is at most the length of every plan
+
+weighs : (n depot : ℕ) (load : ℕ → ℕ) (room : ℕ) (w : ℕ → ℕ → ℤ) (each : ℤ) (routes : List (List ℕ))
+    → IsBelowWalks n depot load room w each → AllByRecursion (IsWalk n depot load room) routes
+    → (pos (length routes) *ℤ each) ≤ℤ plan_length w depot routes
+weighs n depot load room w each [] below are = let none = zero-*ℤ each in omega (arith, ints, none)
+weighs n depot load room w each (route ∷ routes) below are =
+    let own = below route are.0 in
+    let rest = weighs n depot load room w each routes below are.1 in
+    let times = suc_ℤ-*ℤ (pos (length routes)) each in
+    omega (arith, ints, own, rest, times)
+
+-- ---- one leaf
+
+module _ (problem : RoutingProblem) (scale : ℤ) (unit light : ℕ) (families : List Family) (routing : IsRoutable problem)
+    (scale_in : IsScale scale) (units : AreUnits problem unit light) (cuts : All (IsCutFamily problem) families)
+    (routes : List (List ℕ)) (filled : IsFilledPlan problem routes) where
+  abbrev load : ℕ → ℕ
+  load = load_in problem unit light
+
+  abbrev room : ℕ
+  room = room_in problem unit light
+
+  walks : AllByRecursion (IsWalk problem.nodes problem.depot load room) routes
+  walks = recursion_from_All (IsWalk problem.nodes problem.depot load room) routes
+      (routes_are_walks problem unit light routes routing units filled)
+
+  leaf_bounds : (case : List Decision) (numbers : LeafNumbers) (bound : ℤ)
+      → IsWalkBound problem scale unit light families case numbers bound
+      → KeepsEachLimit problem.nodes families problem.depot routes case
+      → bound ≤ℤ plan_length problem.cost problem.depot routes
+  leaf_bounds case numbers bound is keeps =
+      let w = walk_weight scale numbers.potentials families numbers.multipliers problem.cost in
+      plan_bounds_bound_plans problem scale numbers.potentials families numbers.multipliers case is.each
+      bound routes routing scale_in cuts is.bound_is filled keeps
+      (weighs problem.nodes problem.depot load room w is.each routes is.least.1 walks)
+
+  no_walk : ((nodes : List ℕ) → IsWalk problem.nodes problem.depot load room nodes → ⊥) → ⊥
+  no_walk never = first routes (plans_have_few_routes problem routes routing filled).0 walks
+    where
+      first : (others : List (List ℕ)) → 1 ≤ length others → AllByRecursion (IsWalk problem.nodes problem.depot load room) others → ⊥
+      first [] some all = absurd (omega (arith, some))
+      first (route ∷ others) some all = never route all.0
+
+  -- ---- the leaf whose case the plan keeps
+
+  abbrev found : List Decision × LeafNumbers → Option ℤ → Type 0
+  found = IsFoundByWalks problem scale unit light families
+
+  one_kept : (bound : ℤ) (leaves : List (List Decision × LeafNumbers)) → AllByRecursion (IsAbove found bound) leaves
+      → KeepsLimitsOfOne problem.nodes families problem.depot routes (cases_of leaves)
+      → bound ≤ℤ plan_length problem.cost problem.depot routes
+  one_kept bound [] above keeps = absurd keeps
+  one_kept bound (leaf ∷ leaves) (inl never, above) (inl here) = absurd (no_walk never)
+  one_kept bound (leaf ∷ leaves) (inr has, above) (inl here) =
+      let own = leaf_bounds leaf.0 leaf.1 has.0 has.1 here in
+      omega (arith, ints, own, has.2)
+  one_kept bound (leaf ∷ leaves) above (inr later) = one_kept bound leaves above.1 later
+
+  none_kept : (leaves : List (List Decision × LeafNumbers)) → AllByRecursion (λ leaf. found leaf None) leaves
+      → KeepsLimitsOfOne problem.nodes families problem.depot routes (cases_of leaves) → ⊥
+  none_kept [] never keeps = absurd keeps
+  none_kept (leaf ∷ leaves) never keeps = no_walk never.0
+
+-- ---- the tree
+
+pub plan_trees_bound_plans : PlanTreesBoundPlans
+plan_trees_bound_plans problem scale unit light families steps (Some bound) routing scale_in units cuts whole is = λ routes filled.
+    let leaves = leaves_of ([] ∷ []) steps in
+    one_kept problem scale unit light families routing scale_in units cuts routes filled bound leaves
+    (recursion_from_All (IsAbove (IsFoundByWalks problem scale unit light families) bound) leaves is.0)
+    (plans_keep_leaves problem.nodes families problem.depot [] steps routes whole
+    (All-from_recursion (KeepsLimit problem.nodes families problem.depot routes) [] tt))
+plan_trees_bound_plans problem scale unit light families steps None routing scale_in units cuts whole is = λ routes filled.
+    let leaves = leaves_of ([] ∷ []) steps in
+    none_kept problem scale unit light families routing scale_in units cuts routes filled leaves
+    (recursion_from_All (λ leaf. IsFoundByWalks problem scale unit light families leaf None) leaves is)
+    (plans_keep_leaves problem.nodes families problem.depot [] steps routes whole
+    (All-from_recursion (KeepsLimit problem.nodes families problem.depot routes) [] tt))
+
+-- ---- one bound
+
+one_plan_bound : (problem : RoutingProblem) (scale : ℤ) (potentials : List ℤ) (families : List Family) (multipliers : List ℤ)
+    (case : List Decision) (each own a b : ℤ) → each ≡ own → IsPlanBound problem scale potentials families multipliers case each a
+    → IsPlanBound problem scale potentials families multipliers case own b → a ≡ b
+one_plan_bound problem scale potentials families multipliers case each own a b each_is x y =
+    let same = ap₂ (λ f (e : ℤ). least_product f (problem.nodes - 1) (surplus problem potentials e))
+    (one_fewest problem x.fewest y.fewest x.fewest_is y.fewest_is) each_is in
+    let first = x.bound_is.least b (let above = y.bound_is.above in omega (arith, ints, above, same)) in
+    let second = y.bound_is.least a (let above = x.bound_is.above in omega (arith, ints, above, same)) in
+    omega (arith, ints, first, second)
+
+pub plan_tree_bounds_are_unique : PlanTreeBoundsAreUnique
+plan_tree_bounds_are_unique problem scale unit light families steps a b p q =
+    one_found (IsFoundByWalks problem scale unit light families) (λ leaf x y s t. one leaf x y s t) (leaves_of ([] ∷ []) steps) a b p q
+  where
+    one : (leaf : List Decision × LeafNumbers) (x y : Option ℤ) → IsFoundByWalks problem scale unit light families leaf x
+        → IsFoundByWalks problem scale unit light families leaf y → x ≡ y
+    one leaf (Some x) (Some y) s t =
+        ap (λ (z : ℤ). Some z) (one_plan_bound problem scale leaf.1.potentials families leaf.1.multipliers
+        leaf.0 s.each t.each x y (one_least _ _ s.each t.each s.least t.least) s.bound_is t.bound_is)
+    one leaf (Some x) None s t = absurd (t s.least.0.0 s.least.0.1)
+    one leaf None (Some y) s t = absurd (s t.least.0.0 t.least.0.1)
+    one leaf None None s t = refl
+
+-- ---- a certificate for routes has one bound, or none: how often plans cross its cuts
+
+one_crossed : (problem : RoutingProblem) (sets : List (List ℕ)) (x y : Crossings) → IsCutFamily problem (family_with x sets)
+    → IsCutFamily problem (family_with y sets) → x ≡ y
+one_crossed problem sets x y p q =
+    let first = p.cut.least_is.none_less q.cut.least q.cut.least_is.enough in
+    let second = q.cut.least_is.none_less p.cut.least p.cut.least_is.enough in
+    let p_need = p.cut.need_is in
+    let q_need = q.cut.need_is in
+    let p_least = p.least_is in
+    let q_least = q.least_is in
+    let least : x.least ≡ y.least = omega (arith, first, second, p_need, q_need, p_least, q_least) in
+    let p_most = p.most_is in
+    let q_most = q.most_is in
+    let most : x.most ≡ y.most = omega (arith, p_most, q_most) in
+    ap₂ (λ (l m : ℕ). let own : Crossings = record { least = l; most = m } in own) least most
+
+all_crossed : (problem : RoutingProblem) (families : List (List (List ℕ))) (xs ys : List Crossings)
+    → length xs ≡ length families → length ys ≡ length families
+    → AllByRecursion (IsCutFamily problem) (families_with xs families)
+    → AllByRecursion (IsCutFamily problem) (families_with ys families) → xs ≡ ys
+all_crossed problem [] [] [] long also p q = refl
+all_crossed problem [] (x ∷ xs) ys long also p q = absurd (omega (arith, long))
+all_crossed problem [] [] (y ∷ ys) long also p q = absurd (omega (arith, also))
+all_crossed problem (sets ∷ families) [] ys long also p q = absurd (omega (arith, long))
+all_crossed problem (sets ∷ families) (x ∷ xs) [] long also p q = absurd (omega (arith, also))
+all_crossed problem (sets ∷ families) (x ∷ xs) (y ∷ ys) long also p q =
+    ap₂ (λ (z : Crossings) (zs : List Crossings). z ∷ zs) (one_crossed problem sets x y p.0 q.0)
+    (all_crossed problem families xs ys (omega (arith, long)) (omega (arith, also)) p.1 q.1)
+
+one_light : (problem : RoutingProblem) (unit a b : ℕ) → AreUnits problem unit a → AreUnits problem unit b → a ≡ b
+one_light problem unit a b p q =
+    let first = p.light_is in
+    let second = q.light_is in
+    omega (arith, ints, first, second)
+
+pub one_plan_bound_found : PlanBoundsFoundAreUnique
+one_plan_bound_found problem scale unit families steps a b p q =
+    let crossed : p.crossed ≡ q.crossed = all_crossed problem families p.crossed q.crossed p.cuts.many q.cuts.many
+    (recursion_from_All (IsCutFamily problem) (families_with p.crossed families) p.cuts.are)
+    (recursion_from_All (IsCutFamily problem) (families_with q.crossed families) q.cuts.are) in
+    let light : p.light ≡ q.light = one_light problem unit p.light q.light p.units q.units in
+    let listed = listed_steps problem.nodes (length families) steps in
+    plan_tree_bounds_are_unique problem scale unit q.light (families_with q.crossed families) listed a b
+    (subst (λ (l : ℕ). IsPlanTreeBound problem scale unit l (families_with q.crossed families) listed a) light
+    (subst (λ (cs : List Crossings). IsPlanTreeBound problem scale unit p.light (families_with cs families) listed a) crossed p.bound))
+    q.bound

@@ -1,43 +1,248 @@
--- The judge of leaves for routes: numbers that are in range, what is found of one leaf, and the least of all leaves.
--- For `judge_leaf` in src/verdict.rt and others.
-use Rattle.std.proofs.Common.{◌≡◌, ◌∙◌, ℕ, ◌+◌, ◌-◌, ◌^◌, ◌<◌, true, List, [], ◌∷◌, length, take, drop, get_or, ℤ, ◌≤ℤ◌, inl, inr, sym, ap, subst, arith}
-use Rattle.std.specs.Prelude.{Option, None, Some, pos, neg_ℤ}
-use Rattle.std.specs.List.{All, AllByRecursion}
+-- A family that is one set of customers, each once, without the depot; and that such a set has no more nodes than there
+-- are. For `cut_crossings` in src/verdict.rt.
+use Rattle.std.proofs.Common.{◌≡◌, ◌≢◌, ℕ, zero, suc, ◌+◌, ◌≤◌, ◌<◌, ◌==◌, Bool, true, false, List, [], ◌∷◌, length, get_or, refl, sym, ap, ◌∙◌, subst, arith, inl, inr, ◌^◌, ◌++◌, length-append, ◌-◌, take, drop}
+use Rattle.std.proofs.lemmas.Bool.{cases_Bool, both_ways, or_left, or_right, eq-eqb, cases_lt}
 use Rattle.std.proofs.lemmas.Int.{ints}
-use Rattle.std.proofs.lemmas.List.{take-append-drop, get_or_default}
-use Rattle.std.proofs.lemmas.List.Elements.{All-append, All-weaker, All-from_recursion, recursion_from_All}
+use Rattle.std.proofs.lemmas.List.{get_or_append_left, get_or_push, get_or_default, get_or-map, length-map, take-append-drop}
+use Rattle.std.proofs.lemmas.List.Elements.{recursion_from_All, All-from_recursion, All-append, All-weaker}
+use Rattle.std.specs.Global.{Vec}
+use Rattle.std.specs.List.{All, range_with_len, AllByRecursion}
+use Rattle.std.specs.Prelude.{ℤ, pos, if◌then◌else◌, ◌≤ℤ◌, Some, replicate, Option, None, neg_ℤ}
 use Rattle.tsp_format.specs.Limits.{most_potential, most_demand}
-use Rattle.tsp_format.specs.Nodes.{IsNode}
-use Rattle.tsp_format.specs.Ranges as Ranges
+use Rattle.tsp_format.specs.Nodes.{IsNode, nodes_to}
+use Rattle.tsp_format.specs.Steps.{are_whole, IsFromTo}
+use Rattle.tsp_format.specs.Steps as Ranges
 use Rattle.tsp_format.specs.Steps as listed
-use Rattle.tsp_format.specs.Steps.{are_whole}
-use Rattle.tsp_format.specs.Ranges.{IsFromTo}
-use Rattle.tsp_theory.specs.CertificateNumbers.{IsScale}
-use Rattle.tsp_theory.specs.Routing.{RoutingProblem, demand_of}
-use Rattle.tsp_cases.specs.declared.family.Crossings.{Crossings}
-use Rattle.tsp_cases.specs.BadBranches.{BeginsWithin, branch_pairs}
-use Rattle.tsp_cases.specs.FamiliesOfSets.{families_with}
-use Rattle.tsp_cases.specs.declared.open_case.Decision.{Decision}
-use Rattle.tsp_cases.specs.declared.judged.JudgedLeaf.TheVariants as leaves
-use Rattle.tsp_cases.specs.Cases.{LeafNumbers}
+use Rattle.tsp_theory.specs.Bounds.{IsScale}
+use Rattle.tsp_theory.specs.Tour.{sum_int_by, IsCustomer, RoutingProblem, demand_of}
+use Rattle.tsp_cases.proofs.Passes.{whole_trees}
 use Rattle.tsp_cases.specs.CaseTrees.{IsAbove, IsLeastFound}
-use Rattle.tsp_cases.specs.GoodNumbers.{as_leaf_numbers}
-use Rattle.tsp_cases.specs.Listed.{IsStepOf, split_at, no_numbers_of, listed_steps}
+use Rattle.tsp_cases.specs.Cases.{LeafNumbers}
+use Rattle.tsp_cases.specs.Crossings.{has, AreSetsOf, lists_of, families_in}
+use Rattle.tsp_cases.specs.Families.{HasEachOnce, IsFamily, family_with, families_with}
 use Rattle.tsp_cases.specs.JudgedLeaves.{IsFoundOfCase}
-use Rattle.tsp_cases.specs.states.Rooms.{AreSmall}
-use Rattle.tsp_cases.proofs.LeafPasses.{whole_trees}
-use Rattle.tsp_routing.specs.GoodLeaves.{most_of_multipliers, ArePlanNumbers}
-use Rattle.tsp_routing.specs.GoodBranches.{AreGoodBranches}
-use Rattle.tsp_routing.specs.GoodSets.{IsGoodSet, AreCapacityCuts}
-use Rattle.tsp_routing.specs.Loads.{AreUnits}
-use Rattle.tsp_routing.specs.PlanLinks.{IsRoutable}
-use Rattle.tsp_routing.specs.PlanTrees.{PlanTreesBoundPlans}
-use Rattle.tsp_routing.specs.PlanVerdicts.{IsPlanVerdict, VerdictBoundsPlans}
+use Rattle.tsp_cases.specs.ListedCases.{BeginsWithin, branch_pairs, as_leaf_numbers, IsStepOf, split_at, no_numbers_of, listed_steps}
+use Rattle.tsp_cases.specs.declared.family.Crossings.{Crossings}
+use Rattle.tsp_cases.specs.declared.judged.JudgedLeaf.TheVariants as leaves
+use Rattle.tsp_cases.specs.declared.open_case.Decision.{Decision}
+use Rattle.tsp_cases.specs.states.Kept.{AreSmall}
+use Rattle.tsp_routing.proofs.CutNeeds.{apart_from_pairs, held, no_depot}
+use Rattle.tsp_routing.proofs.RouteProducts.{each_small}
+use Rattle.tsp_routing.specs.PlanBounds.{PlanTreesBoundPlans}
+use Rattle.tsp_routing.specs.PlanLinks.{IsCutFamily, AreUnits, IsRoutable}
+use Rattle.tsp_routing.specs.PlanVerdicts.{IsGoodSet, IsFirstBadSet, AreCapacityCuts, most_of_multipliers, ArePlanNumbers, AreGoodBranches, IsPlanVerdict, VerdictBoundsPlans}
+use Rattle.tsp_routing.specs.declared.demands.Demands.{Demands}
 use Rattle.tsp_routing.specs.declared.verdict.PlanVerdict.{PlanVerdict}
 use Rattle.tsp_routing.specs.declared.verdict.PlanVerdict.TheVariants as verdict
-use Rattle.tsp_routing.specs.states.Trees.{IsPlanStep}
-use Rattle.tsp_routing.specs.states.PlanRooms.{IsLeafVerdict}
-use Rattle.tsp_routing.proofs.MultiplierSizes.{each_small}
+use Rattle.tsp_routing.specs.states.Demands.{loads_problem}
+use Rattle.tsp_routing.specs.states.Judged.{AreCutNumbers, IsLeafVerdict}
+use Rattle.tsp_routing.specs.states.LeafWeights.{IsPlanStep}
+
+-- ---- how many customers a set has
+
+ones : (xs : List ℕ) → sum_int_by (λ (x : ℕ). pos 1) xs ≡ pos (length xs)
+ones [] = refl
+ones (x ∷ xs) = let rest = ones xs in omega (arith, ints, rest)
+
+at_most : (test : ℕ → Bool) (a m : ℕ) → sum_int_by (λ x. if test x then pos 1 else pos 0) (range_with_len a m) ≤ℤ pos m
+at_most test a zero = omega (arith, ints)
+at_most test a (suc m) =
+    let rest = at_most test (a + 1) m in
+    elim (cases_Bool (test a)) [
+      | inl t ↦ rw t (omega (arith, ints, rest))
+      | inr f ↦ rw f (omega (arith, ints, rest))
+    ]
+
+few_in : (n : ℕ) (test : ℕ → Bool) → sum_int_by (λ x. if test x then pos 1 else pos 0) (nodes_to n) ≤ℤ pos n
+unfolding nodes_to
+few_in n test = at_most test 1 n
+
+pub few_customers : (n depot : ℕ) (nodes : List ℕ) → All (IsNode n) nodes → HasEachOnce nodes → length nodes ≤ n
+unfolding nodes_to
+few_customers n depot nodes inside once =
+    let all = held (λ x. pos 1) n nodes (apart_from_pairs nodes once) (recursion_from_All (IsNode n) nodes inside) in
+    let sum : sum_int_by (λ (x : ℕ). pos 1) nodes ≡ sum_int_by (λ x. if has nodes x then pos 1 else pos 0) (nodes_to n) = sym all in
+    below (length nodes) n (sum_int_by (λ (x : ℕ). pos 1) nodes) (sum_int_by (λ x. if has nodes x then pos 1 else pos 0) (nodes_to n))
+    (ones nodes) sum (few_in n (has nodes))
+  where
+    below : (k m : ℕ) (a b : ℤ) → a ≡ pos k → a ≡ b → b ≤ℤ pos m → k ≤ m
+    below k m a b first same few = omega (arith, ints, first, same, few)
+
+-- ---- one set
+
+pub one_set : (sets : List (Vec ℕ)) (v : Vec ℕ) → length sets ≡ 1 → v ≡ get_or sets 0 v → lists_of sets ≡ v.items ∷ []
+one_set [] v is at = absurd (omega (arith, is))
+one_set (s ∷ []) v is at = ap (λ (t : Vec ℕ). t.items ∷ []) (sym at)
+one_set (s ∷ t ∷ sets) v is at = absurd (omega (arith, is))
+
+pub one_list : (sets : List (Vec ℕ)) (v : Vec ℕ) (nodes : List ℕ) → length sets ≡ 1 → v ≡ get_or sets 0 v → nodes ≡ v.items
+    → lists_of sets ≡ nodes ∷ []
+one_list sets v nodes is at same = one_set sets v is at ∙ ap (λ (xs : List ℕ). xs ∷ []) (sym same)
+
+pub nodes_inside : (n : ℕ) (sets : List (Vec ℕ)) (v : Vec ℕ) (nodes : List ℕ) → AreSetsOf n sets → length sets ≡ 1 → v ≡ get_or sets 0 v
+    → nodes ≡ v.items → All (IsNode n) nodes
+nodes_inside n sets v nodes inside is at same =
+    subst (All (IsNode n)) (sym same) (subst (λ (u : Vec ℕ). All (IsNode n) u.items) (sym at) (inside 0 v (omega (arith, is))))
+
+first : List (List ℕ) → List ℕ
+first [] = []
+first (x ∷ xs) = x
+
+pub depot_inside : (n depot : ℕ) (sets : List (List ℕ)) (nodes : List ℕ) → sets ≡ nodes ∷ [] → has nodes depot ≡ true
+    → IsGoodSet n depot sets → ⊥
+unfolding first
+depot_inside n depot sets nodes is inside good =
+    let same : good.customers ≡ nodes = ap first (sym good.alone ∙ is) in
+    let off = no_depot n depot good.customers (recursion_from_All (IsCustomer n depot) good.customers good.inside) in
+    both_ways (has nodes depot) (subst (λ (xs : List ℕ). has xs depot ≡ false) same off) inside
+
+pub is_one_set : (n depot : ℕ) (sets : List (List ℕ)) (nodes : List ℕ) → sets ≡ nodes ∷ [] → nodes ≢ [] → All (IsNode n) nodes
+    → HasEachOnce nodes → has nodes depot ≡ false → IsGoodSet n depot sets
+is_one_set n depot sets nodes is some inside once off = record {
+  customers = nodes;
+  alone = is;
+  some = some;
+  inside = λ k d lt. (inside k d lt, λ same. both_ways (has nodes depot) off (others nodes k d lt same));
+  once = once;
+}
+  where
+    others : (xs : List ℕ) (k d : ℕ) → k < length xs → get_or xs k d ≡ depot → has xs depot ≡ true
+    others [] k d lt same = absurd (omega (arith, lt))
+    others (x ∷ xs) zero d lt same = or_left (x == depot) (has xs depot) (eq-eqb x depot same)
+    others (x ∷ xs) (suc k) d lt same = or_right (x == depot) (has xs depot) (others xs k d (omega (arith, lt)) same)
+
+pub customers_of : (n depot : ℕ) (nodes : List ℕ) → IsGoodSet n depot (nodes ∷ []) → All (IsCustomer n depot) nodes
+unfolding first
+customers_of n depot nodes good = subst (All (IsCustomer n depot)) (ap first (sym good.alone)) good.inside
+
+-- ---- the families of a certificate, one after the other: how often plans cross each
+
+-- the families so far have their numbers
+abbrev pub HaveCuts : Demands → List (List (List ℕ)) → List Crossings → Type 0
+HaveCuts demands families crossed = (k : ℕ) (default : Crossings) → k < length crossed
+    → AreCutNumbers demands (get_or families k []) (Some (get_or crossed k default))
+
+pub cuts_more : (demands : Demands) (families : List (List (List ℕ))) (crossed : List Crossings) (own : Crossings)
+    → HaveCuts demands families crossed → AreCutNumbers demands (get_or families (length crossed) []) (Some own)
+    → HaveCuts demands families (crossed ++ own ∷ [])
+cuts_more demands families crossed own before here k default lt = elim (cases_lt k (length crossed)) [
+  | inl old ↦
+      subst (λ (c : Crossings). AreCutNumbers demands (get_or families k []) (Some c))
+      (sym (get_or_append_left crossed (own ∷ []) default k old)) (before k default old)
+  | inr new ↦
+      let last : length crossed ≡ k = omega (arith, new, lt, length-append crossed (own ∷ [])) in
+      subst (λ (c : Crossings). AreCutNumbers demands (get_or families k []) (Some c)) (sym (get_or_push crossed own default k last))
+      (subst (λ (m : ℕ). AreCutNumbers demands (get_or families m []) (Some own)) last here)
+]
+
+abbrev zero_crossed : Crossings
+zero_crossed = record { least = 0; most = 0 }
+
+-- so each of them is good
+pub good_so_far : (demands : Demands) (place : ℕ) (families : List (List (List ℕ))) (crossed : List Crossings) → length crossed ≡ place
+    → HaveCuts demands families crossed → (other : ℕ) → other < place
+    → IsGoodSet demands.nodes demands.depot (get_or families other [])
+good_so_far demands place families crossed many have other lt = (have other zero_crossed (omega (arith, lt, many))).0
+
+cuts_all : (demands : Demands) (cost : ℕ → ℕ → ℤ) (crossed : List Crossings) (families : List (List (List ℕ)))
+    → length crossed ≡ length families → HaveCuts demands families crossed
+    → AllByRecursion (IsCutFamily (loads_problem demands cost)) (families_with crossed families)
+cuts_all demands cost [] families many h = tt
+cuts_all demands cost (own ∷ crossed) [] many h = absurd (omega (arith, many))
+cuts_all demands cost (own ∷ crossed) (sets ∷ families) many h = (
+  (h 0 own (omega arith)).2 cost,
+  cuts_all demands cost crossed families (omega (arith, many)) (λ k default lt. h (suc k) default (omega (arith, lt))),
+)
+
+pub all_cuts : (demands : Demands) (families : List (List (List ℕ))) (crossed : List Crossings) → length crossed ≡ length families
+    → HaveCuts demands families crossed → (cost : ℕ → ℕ → ℤ) → AreCapacityCuts (loads_problem demands cost) families crossed
+all_cuts demands families crossed many have cost = record {
+  many = many;
+  good = good_so_far demands (length families) families crossed many have;
+  are = All-from_recursion (IsCutFamily (loads_problem demands cost)) (families_with crossed families)
+      (cuts_all demands cost crossed families many have);
+}
+
+pub first_bad : (n depot place : ℕ) (families : List (List (List ℕ))) → place < length families
+    → ((other : ℕ) → other < place → IsGoodSet n depot (get_or families other []))
+    → (IsGoodSet n depot (get_or families place []) → ⊥) → IsFirstBadSet n depot families (place + 1)
+first_bad n depot place families lt before bad = record {
+  least = omega arith;
+  most = omega (arith, lt);
+  before = λ other less. before other (omega (arith, less));
+  bad = λ other same good. bad (subst (λ (k : ℕ). IsGoodSet n depot (get_or families k []))
+      (let e : other ≡ place = omega (arith, same) in e) good);
+}
+
+-- ---- as families of cycles
+
+abbrev pub lone_numbers : Crossings
+lone_numbers = record { least = 2; most = 3 }
+
+pub lone_hold : (P : Crossings → Type 0) → P lone_numbers → (k : ℕ) → All P (replicate k lone_numbers)
+lone_hold P own k = All-from_recursion P (replicate k lone_numbers) (each k)
+  where
+    each : (k : ℕ) → AllByRecursion P (replicate k lone_numbers)
+    each zero = tt
+    each (suc k) = (own, each k)
+
+-- one set of customers is a lone set: it leaves the depot out
+lone : (n depot : ℕ) (sets : List (List ℕ)) (customers : List ℕ) → sets ≡ customers ∷ [] → IsNode n depot → customers ≢ []
+    → All (IsCustomer n depot) customers → IsFamily n (family_with lone_numbers sets)
+lone n depot sets [] is depot_in some inside = absurd (some refl)
+lone n depot sets (x ∷ xs) is depot_in some inside =
+    subst (λ (ss : List (List ℕ)). IsFamily n (family_with lone_numbers ss)) (sym is) (inl (record {
+      kind = inl (record {
+        alone = refl;
+        inside = x;
+        outside = depot;
+        inside_node = (inside 0 x (omega arith)).0;
+        outside_node = depot_in;
+        has_inside = or_left (x == x) (has xs x) (eq-eqb x x refl);
+        lacks_outside = no_depot n depot (x ∷ xs) (recursion_from_All (IsCustomer n depot) (x ∷ xs) inside);
+      });
+      least_is = refl;
+      most_is = refl;
+    }))
+
+lone_all : (n depot : ℕ) (families : List (List (List ℕ))) (k : ℕ) → k ≡ length families → IsNode n depot
+    → ((place : ℕ) → place < length families → IsGoodSet n depot (get_or families place []))
+    → AllByRecursion (IsFamily n) (families_with (replicate k lone_numbers) families)
+lone_all n depot [] zero many depot_in good = tt
+lone_all n depot [] (suc k) many depot_in good = absurd (omega (arith, many))
+lone_all n depot (sets ∷ families) zero many depot_in good = absurd (omega (arith, many))
+lone_all n depot (sets ∷ families) (suc k) many depot_in good =
+    let own = good 0 (omega arith) in (
+      lone n depot sets own.customers own.alone depot_in own.some own.inside,
+      lone_all n depot families k (omega (arith, many)) depot_in (λ place lt. good (suc place) (omega (arith, lt))),
+    )
+
+pub all_lone : (n depot : ℕ) (families : List (List (List ℕ))) (k : ℕ) → k ≡ length families → IsNode n depot
+    → ((place : ℕ) → place < length families → IsGoodSet n depot (get_or families place []))
+    → All (IsFamily n) (families_with (replicate k lone_numbers) families)
+all_lone n depot families k many depot_in good =
+    All-from_recursion (IsFamily n) (families_with (replicate k lone_numbers) families) (lone_all n depot families k many depot_in good)
+
+pub all_once : (n depot : ℕ) (families : List (List (List ℕ)))
+    → ((place : ℕ) → place < length families → IsGoodSet n depot (get_or families place [])) → All (All HasEachOnce) families
+all_once n depot families good = λ k d lt.
+    let own = good k lt in
+    subst (All HasEachOnce) (get_or_default families k [] d lt) (subst (All HasEachOnce) (sym own.alone)
+    (All-from_recursion HasEachOnce (own.customers ∷ []) (own.once, tt)))
+
+pub few_sets : (n depot : ℕ) (families : List (Vec (Vec ℕ)))
+    → ((place : ℕ) → place < length (families_in families) → IsGoodSet n depot (get_or (families_in families) place []))
+    → All (λ sets. length sets.items < 2 ^ 32) families
+few_sets n depot families good = λ k d lt.
+    let long = length-map families (λ (f : Vec (Vec ℕ)). lists_of f.items) in
+    let own = good k (omega (arith, lt, long)) in
+    let here = get_or-map (λ (f : Vec (Vec ℕ)). lists_of f.items) families k d [] lt in
+    let count = length-map (get_or families k d).items (λ (set : Vec ℕ). set.items) in
+    let one = ap length own.alone in
+    let same = ap length here in
+    omega (arith, count, one, same)
+
+-- ---- the judge of leaves for routes: numbers that are in range, what is found of one leaf
 
 -- ---- one leaf
 

@@ -1,17 +1,40 @@
--- The entries of the table of walks are at most what each walk weighs from a node on, by induction along the walk. Some
--- walk weighs that. For `entry` in src/least_walk.rt and others.
-use Rattle.std.proofs.Common.{◌≡◌, ◌≢◌, ℕ, ◌-◌, ◌*◌, ◌≤◌, ◌==◌, List, [], ◌∷◌, length, refl, sym, ap, ◌∙◌, subst, arith, inl, inr}
-use Rattle.std.specs.Prelude.{Option, None, Some, MatchOption, if◌then◌else◌, ℤ, pos, ◌+ℤ◌, ◌≤ℤ◌}
+-- A list with one element more at its end: what holds of each element by its place still holds. For `least_walk` in
+-- src/least_walk.rt.
+use Rattle.std.proofs.Common.{◌≡◌, ℕ, zero, suc, ◌<◌, List, [], ◌∷◌, ◌++◌, length, get_or, refl, arith, ◌≢◌, ◌-◌, ◌*◌, ◌≤◌, ◌==◌, sym, ap, ◌∙◌, subst, inl, inr, ◌+◌, add-one}
+use Rattle.std.proofs.Math.Nat.{suc-mul, mul-le-mul_right}
+use Rattle.std.proofs.lemmas.Bool.{cases_Bool, both_ways, eqb-true, eq-eqb, cases_eq}
 use Rattle.std.proofs.lemmas.Int.{ints}
-use Rattle.std.proofs.lemmas.Bool.{cases_Bool, both_ways, eqb-true, eq-eqb}
 use Rattle.std.proofs.lemmas.List.Elements.{recursion_from_All, All-from_recursion}
+use Rattle.std.specs.Prelude.{Option, None, Some, MatchOption, if◌then◌else◌, ℤ, pos, ◌+ℤ◌, ◌≤ℤ◌, ◌⊎◌, neg_ℤ}
 use Rattle.tsp_format.specs.Nodes.{IsNode}
-use Rattle.tsp_theory.specs.Length.{sum_int_by, length_of}
-use Rattle.tsp_theory.specs.Routing.{IsCustomer}
-use Rattle.tsp_routing.specs.LeastOf.{IsLeastAmong}
-use Rattle.tsp_routing.specs.Walks.{BeginsOther, IsWalk, IsBelowWalks}
-use Rattle.tsp_routing.specs.WalkTables.{onward_weight, IsWalkRest, first_or_depot, WalkEntry, least_from, IsAtMost, IsEntryBelowTo, IsStartBelow, IsLow, IsReal, IsStepTo, IsEntryMetTo, IsMet, IsStartMet}
-use Rattle.tsp_routing.specs.states.Onwards.{AreLinks}
+use Rattle.tsp_format.specs.Steps.{IsFromTo}
+use Rattle.tsp_theory.specs.Tour.{sum_int_by, length_of, IsCustomer}
+use Rattle.tsp_routing.specs.Walks.{IsLeastAmong, BeginsOther, IsWalk, IsBelowWalks, onward_weight, IsWalkRest, first_or_depot, WalkEntry, least_from, IsAtMost, IsEntryBelowTo, IsStartBelow, IsLow, IsReal, IsStepTo, IsEntryMetTo, IsMet, IsStartMet}
+use Rattle.tsp_routing.specs.declared.least_walk.Onward.{Onward}
+use Rattle.tsp_routing.specs.states.Demands.{AreLinks, IsChosen, entry_at, IsNearOrFar, IsEntryNumber, IsEntrySized, IsRowSized}
+
+-- an element more at the end, with what holds of each by its place
+pub places_push : {X : Type 0} (P : ℕ → X → Type 0) (xs : List X) (x : X)
+    → ((k : ℕ) (d : X) → k < length xs → P k (get_or xs k d)) → P (length xs) x
+    → (k : ℕ) (d : X) → k < length (xs ++ x ∷ []) → P k (get_or (xs ++ x ∷ []) k d)
+places_push {X} P [] x all last zero d lt = last
+places_push {X} P [] x all last (suc k) d lt = absurd (omega (arith, lt))
+places_push {X} P (y ∷ xs) x all last zero d lt = all zero d (omega arith)
+places_push {X} P (y ∷ xs) x all last (suc k) d lt =
+    places_push (λ j. P (suc j)) xs x (λ j e short. all (suc j) e (omega (arith, short))) last k d (omega (arith, lt))
+
+pub get_append_left : {X : Type 0} (xs : List X) (x : X) (k : ℕ) (d : X) → k < length xs → get_or (xs ++ x ∷ []) k d ≡ get_or xs k d
+get_append_left [] x k d lt = absurd (omega (arith, lt))
+get_append_left (y ∷ xs) x zero d lt = refl
+get_append_left (y ∷ xs) x (suc k) d lt = get_append_left xs x k d (omega (arith, lt))
+
+pub get_append_last : {X : Type 0} (xs : List X) (x : X) (k : ℕ) (d : X) → k ≡ length xs → get_or (xs ++ x ∷ []) k d ≡ x
+get_append_last [] x zero d is = refl
+get_append_last [] x (suc k) d is = absurd (omega (arith, is))
+get_append_last (y ∷ xs) x zero d is = absurd (omega (arith, is))
+get_append_last (y ∷ xs) x (suc k) d is = get_append_last xs x k d (omega (arith, is))
+
+-- ---- the entries of the table of walks are at most what each walk weighs from a node on
 
 loads_low : (load : ℕ → ℕ) (nodes : List ℕ) → pos 0 ≤ℤ sum_int_by (λ node. pos (load node)) nodes
 loads_low load [] = omega (arith, ints)
@@ -200,3 +223,221 @@ pub found_least : {X : Type 0} (P : X → Type 0) (f : X → ℤ) (half : ℕ) (
 found_least P f half value None is exact none = none is
 found_least P f half value (Some weight) is exact none =
     subst (λ (z : ℤ). IsLeastAmong P f (Some z)) (sym is.0) (exact is.1)
+
+-- ---- an entry of the table of walks, the least weight on from a node, with one next node more
+
+-- ---- rows
+
+-- an element more at the end, where all but the first have a property by their places
+pub entry_pushed : {X : Type 0} (C : ℕ → Type 0) (P : ℕ → X → Type 0) (entries : List X) (own : X) (last : ℕ)
+    → length entries ≡ last + 1 → ((k : ℕ) (d : X) → C k → k ≤ last → P k (get_or entries k d))
+    → (C (last + 1) → P (last + 1) own)
+    → (k : ℕ) (d : X) → C k → k ≤ last + 1 → P k (get_or (entries ++ own ∷ []) k d)
+entry_pushed {X} C P entries own last long all here k d is high = elim (cases_eq k (last + 1)) [
+  | inl same ↦
+      subst (P k) (sym (get_append_last entries own k d (omega (arith, same, long))))
+      (subst (λ (j : ℕ). P j own) (sym same) (here (subst C same is)))
+  | inr other ↦
+      subst (P k) (sym (get_append_left entries own k d (omega (arith, high, other, long)))) (all k d is (omega (arith, high, other)))
+]
+
+-- ---- entries
+
+module _ (half n depot : ℕ) (w : ℕ → ℕ → ℤ) (known : ℕ → WalkEntry) (node : ℕ) where
+  -- at first there is the way back
+  pub back_only : (entry : WalkEntry) → depot ≡ entry.next → entry.least ≡ w node depot
+      → IsEntryBelowTo n depot w known node 0 entry
+  back_only entry here is = record {
+    back = (omega (arith, ints, is), λ other. absurd (other here));
+    on = λ next customer other few. absurd (omega (arith, customer.0.0, few));
+  }
+
+  pub below_more : (next : ℕ) (best new : WalkEntry) → 1 ≤ next → ((key : ℕ) (z : ℤ) → IsAtMost best key z → IsAtMost new key z)
+      → IsAtMost new next (w node next +ℤ least_from (known next) node)
+      → IsEntryBelowTo n depot w known node (next - 1) best → IsEntryBelowTo n depot w known node next new
+  below_more next best new some keeps own so_far = record {
+    back = keeps depot (w node depot) so_far.back;
+    on = λ key customer other few. elim (cases_eq key next) [
+      | inl same ↦ subst (λ (k : ℕ). IsAtMost new k (w node k +ℤ least_from (known k) node)) (sym same) own
+      | inr differs ↦ keeps key (w node key +ℤ least_from (known key) node)
+          (so_far.on key customer other (omega (arith, few, differs)))
+    ];
+  }
+
+  pub below_skip : (next : ℕ) (best : WalkEntry) → (IsCustomer n depot next → node ≢ next → ⊥)
+      → IsEntryBelowTo n depot w known node (next - 1) best → IsEntryBelowTo n depot w known node next best
+  below_skip next best none so_far = record {
+    back = so_far.back;
+    on = λ key customer other few. elim (cases_eq key next) [
+      | inl same ↦ absurd (none (subst (IsCustomer n depot) same customer) (λ is. other (is ∙ sym same)))
+      | inr differs ↦ so_far.on key customer other (omega (arith, few, differs))
+    ];
+  }
+
+  -- the same of the numbers that steps have
+  at_step : (next same : ℕ) (number value : ℤ) → same ≡ next → value ≡ number → IsStepTo half n depot w known node next number
+      → IsStepTo half n depot w known node same value
+  at_step next same number value first second step =
+      subst (λ (k : ℕ). IsStepTo half n depot w known node k value) (sym first)
+      (subst (IsStepTo half n depot w known node next) (sym second) step)
+
+  pub met_first : (entry : WalkEntry) → entry.next ≡ depot → entry.least ≡ w node depot → entry.other ≡ pos (2 * half)
+      → IsEntryMetTo half n depot w known node 0 entry
+  met_first entry here is none = record { least = inl (here, is); other = inl none; tried = inl here }
+
+  pub met_skip : (next : ℕ) (best : WalkEntry) → IsEntryMetTo half n depot w known node (next - 1) best
+      → IsEntryMetTo half n depot w known node next best
+  met_skip next best met = record {
+    least = met.least;
+    other = met.other;
+    tried = elim met.tried [
+      | inl here ↦ inl here
+      | inr le ↦ inr (omega (arith, le))
+    ];
+  }
+
+  pub met_more : (next : ℕ) (weight : ℤ) (best new : WalkEntry) → IsCustomer n depot next → node ≢ next
+      → weight ≡ w node next +ℤ least_from (known next) node → (IsReal half weight → IsReal half (least_from (known next) node))
+      → IsChosen best next weight new → IsEntryMetTo half n depot w known node (next - 1) best
+      → IsEntryMetTo half n depot w known node next new
+  met_more next weight best new customer other is real chosen met =
+      elim chosen [
+        | inl first ↦ record {
+          least = at_step next new.next weight new.least first.1 first.0 step;
+          other = inr (
+            best.next,
+            λ same. apart (same ∙ first.1),
+            at_step best.next best.next best.least new.other refl first.2 met.least,
+          );
+          tried = inr (let at = first.1 in omega (arith, at));
+        }
+        | inr (inl second) ↦ record {
+          least = at_step best.next new.next best.least new.least second.1 second.0 met.least;
+          other = inr (
+            next,
+            λ same. apart (sym (same ∙ second.1)),
+            at_step next next weight new.other refl second.2 step,
+          );
+          tried = tried_too new.next second.1;
+        }
+        | inr (inr neither) ↦ record {
+          least = at_step best.next new.next best.least new.least neither.1 neither.0 met.least;
+          other = elim met.other [
+            | inl none ↦ inl (neither.2 ∙ none)
+            | inr has ↦ inr (
+              has.0,
+              λ same. has.1 (same ∙ neither.1),
+              at_step has.0 has.0 best.other new.other refl neither.2 has.2,
+            )
+          ];
+          tried = tried_too new.next neither.1;
+        }
+      ]
+    where
+      step : IsStepTo half n depot w known node next weight
+      step = inr (customer, other, is, real)
+
+      apart : best.next ≢ next
+      apart = elim met.tried [
+        | inl here ↦ λ same. customer.1 (sym same ∙ here)
+        | inr le ↦ λ same. let low = customer.0.0 in omega (arith, le, same, low)
+      ]
+
+      tried_too : (k : ℕ) → k ≡ best.next → (k ≡ depot) ⊎ (k ≤ next)
+      tried_too k same = elim met.tried [
+        | inl here ↦ inl (same ∙ here)
+        | inr le ↦ inr (omega (arith, le, same))
+      ]
+
+-- a load above the capacity that is left
+pub nowhere_low : (n depot : ℕ) (w : ℕ → ℕ → ℤ) (load : ℕ → ℕ) (left node : ℕ) (entry : WalkEntry) → (load node ≤ left → ⊥)
+    → IsLow n depot w load left node entry
+nowhere_low n depot w load left node entry more =
+    entry_low n depot w load left node (λ next. entry) entry (λ le. absurd (more le)) (λ le. absurd (more le))
+
+-- ---- the two nodes that no walk goes on to from a node: itself and the depot
+
+-- another node than these is neither
+pub apart_from : (depot node first last next : ℕ) → ((first ≡ node) × (last ≡ depot)) ⊎ ((first ≡ depot) × (last ≡ node))
+    → next ≢ first → next ≢ last → (next ≢ depot) × (node ≢ next)
+apart_from depot node first last next (inl are) low high =
+    (λ same. high (same ∙ sym are.1), λ same. low (sym (are.0 ∙ same)))
+apart_from depot node first last next (inr are) low high =
+    (λ same. low (same ∙ sym are.0), λ same. high (sym (are.1 ∙ same)))
+
+-- neither of them is a next customer
+pub no_way : (n depot node first last : ℕ) → ((first ≡ node) × (last ≡ depot)) ⊎ ((first ≡ depot) × (last ≡ node))
+    → (IsCustomer n depot first → node ≢ first → ⊥) × (IsCustomer n depot last → node ≢ last → ⊥)
+no_way n depot node first last (inl are) = (λ customer other. other (sym are.0), λ customer other. customer.1 are.1)
+no_way n depot node first last (inr are) = (λ customer other. customer.1 are.0, λ customer other. other (sym are.1))
+
+-- ---- how large the numbers in the table of walks are
+
+pub get_same : {X : Type 0} (xs : List X) (k : ℕ) (d e : X) → k < length xs → get_or xs k d ≡ get_or xs k e
+get_same [] k d e lt = absurd (omega (arith, lt))
+get_same (x ∷ xs) zero d e lt = refl
+get_same (x ∷ xs) (suc k) d e lt = get_same xs k d e (omega (arith, lt))
+
+-- ---- numbers of links
+
+-- one link more
+pub links_more : (count link : ℕ) → (count + 1) * link ≡ count * link + link
+links_more count link = ap (λ (k : ℕ). k * link) (add-one count) ∙ suc-mul count link
+
+pub links_up : (count most link : ℕ) → count ≤ most → count * link ≤ most * link
+links_up count most link le = mul-le-mul_right link le
+
+-- ---- entries
+
+pub number_up : (half size most : ℕ) (z : ℤ) → size ≤ most → IsEntryNumber half size z → IsEntryNumber half most z
+number_up half size most z few own = (
+  omega (arith, ints, few, own.0),
+  own.1,
+  elim own.2 [
+    | inl near ↦ inl (omega (arith, ints, few, near))
+    | inr far ↦ inr (omega (arith, ints, few, far))
+  ],
+)
+
+pub entry_up : (half size most : ℕ) (entry : WalkEntry) → size ≤ most → IsEntrySized half size entry → IsEntrySized half most entry
+entry_up half size most entry few own = record {
+  least = number_up half size most entry.least few own.least;
+  other = number_up half size most entry.other few own.other;
+}
+
+pub known_sized : {S : Type 0} (value : S → ℤ) (half nodes size next : ℕ) (row : List (Onward S)) (d : Onward S) → IsNode nodes next
+    → IsRowSized value half nodes size row → IsEntrySized half size (entry_at value row d next)
+known_sized value half nodes size next row d node own = own.sizes next d (omega (arith, node.1, own.places))
+
+-- ---- sums
+
+module _ (half link size : ℕ) (a b sum : ℤ) (is : sum ≡ b +ℤ a) (small : IsFromTo (neg_ℤ (pos link)) (pos link) a)
+    (own : IsEntryNumber half size b) where
+  pub sum_low : neg_ℤ (pos (size + link)) ≤ℤ sum
+  sum_low = omega (arith, ints, is, small.0, own.0)
+
+  pub sum_near : IsNearOrFar half (size + link) sum
+  sum_near = elim own.2 [
+    | inl near ↦ inl (omega (arith, ints, is, small.1, near))
+    | inr far ↦ inr (omega (arith, ints, is, small.0, far))
+  ]
+
+  -- a sum that a walk weighs has a part that one weighs
+  pub sum_real : size + link < half → IsReal half sum → IsReal half b
+  sum_real fits real = elim own.2 [
+    | inl near ↦ omega (arith, ints, fits, near)
+    | inr far ↦ absurd (omega (arith, ints, fits, is, small.0, far, real))
+  ]
+
+pub first_sized : (half link size : ℕ) (z : ℤ) → size + link < half → IsFromTo (neg_ℤ (pos link)) (pos link) z
+    → IsEntryNumber half (size + link) z
+first_sized half link size z fits small =
+    (omega (arith, ints, small.0), omega (arith, ints, small.1, fits), inl (omega (arith, ints, small.1)))
+
+pub none_sized : (half size : ℕ) → IsEntryNumber half size (pos (2 * half))
+none_sized half size = (omega (arith, ints), omega (arith, ints), inr (omega (arith, ints)))
+
+-- a number that a walk weighs is no larger than its half
+pub real_sized : (half size : ℕ) (z : ℤ) → size < half → IsEntryNumber half size z → IsReal half z
+    → IsFromTo (neg_ℤ (pos half)) (pos half) z
+real_sized half size z fits own real = (omega (arith, ints, fits, own.0), real)

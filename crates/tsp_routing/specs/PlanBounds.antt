@@ -1,18 +1,29 @@
--- The bound of a leaf for routes, from the least weight of a walk, under limits on sets and multipliers of any sign.
--- For `plan_bound` (src/plan_leaf.rt), `limits_total` (src/plan_leaf.rt), and the law `plan_bounds_bound_plans`
--- (src/laws.rt).
-use Rattle.std.specs.Prelude.{ℕ, negsuc, int_lt, ◌+◌, ◌*◌, ◌-◌, max, min, ◌==◌, ◌&&◌, not, if◌then◌else◌, List, [], ◌∷◌, length, ℤ, pos, ◌+ℤ◌, ◌-ℤ◌, ◌*ℤ◌, ◌≤ℤ◌}
+-- How large the weights of links, walks and routes can be, so that sums fit. For `are_narrow` (src/kept_weights.rt),
+-- `times` (src/plan_leaf.rt), and the contracts of src/least_walk.rt.
 use Rattle.std.specs.List.{All}
-use Rattle.tsp_theory.specs.Routing.{RoutingProblem, plan_length}
-use Rattle.tsp_theory.specs.CertificateNumbers.{IsScale, entry, IsLeastBound}
-use Rattle.tsp_theory.specs.NodeBound.{weight_between}
+use Rattle.std.specs.Prelude.{ℕ, ◌+◌, ◌^◌, negsuc, int_lt, ◌*◌, ◌-◌, max, min, ◌==◌, ◌&&◌, not, if◌then◌else◌, List, [], ◌∷◌, length, ℤ, pos, ◌+ℤ◌, ◌-ℤ◌, ◌*ℤ◌, ◌≤ℤ◌, ◌≡◌, true, Option, Some, None}
+use Rattle.tsp_theory.specs.Bounds.{IsScale, entry, IsLeastBound, weight_between}
+use Rattle.tsp_theory.specs.Tour.{RoutingProblem, plan_length, length_of}
+use Rattle.tsp_cases.specs.CaseTrees.{multiplied, combed, IsLeastFound}
+use Rattle.tsp_cases.specs.Cases.{LeafNumbers, CaseStep, are_case_trees, leaves_of}
 use Rattle.tsp_cases.specs.Families.{Family}
 use Rattle.tsp_cases.specs.declared.open_case.Decision.{Decision}
-use Rattle.tsp_cases.specs.CaseTrees.{multiplied}
-use Rattle.tsp_cases.specs.LeafBound.{combed}
-use Rattle.tsp_routing.specs.PlanLinks.{IsRoutable, IsFilledPlan, sum_of_customers}
-use Rattle.tsp_routing.specs.Cuts.{IsCutFamily, IsFewest}
-use Rattle.tsp_routing.specs.Limits.{KeepsEachLimit}
+use Rattle.tsp_routing.specs.PlanLinks.{IsRoutable, IsFilledPlan, sum_of_customers, IsCutFamily, IsFewest, KeepsEachLimit, BoundsPlans, HasNoPlan, AreUnits, load_in, room_in}
+use Rattle.tsp_routing.specs.Walks.{IsWalk, IsLeastAmong}
+
+-- the weight of a link: two potentials of 10^15, a cost of 10^12 times a scale of 10^6, and multipliers of 3 * 10^17
+abbrev pub most_link : ℕ
+most_link = 1302000000000000000
+
+-- the capacity of a route, in parts of units, where a table of two nodes or more has 10,000,000 entries
+abbrev pub most_room : ℕ
+most_room = 5000000
+
+-- what a route adds to the bound: the weight of a walk, and twice the potential of the depot
+abbrev pub most_surplus : ℕ
+most_surplus = 2 ^ 83 + 2000000000000000
+
+-- ---- the bound of a leaf for routes, from the least weight of a walk, under limits on sets
 
 -- what each route adds to the bound: the least weight of a walk, less the depot's potential twice
 abbrev pub surplus : RoutingProblem → List ℤ → ℤ → ℤ
@@ -79,3 +90,51 @@ PlanBoundsBoundPlans = (problem : RoutingProblem) (scale : ℤ) (potentials : Li
     → (pos (length routes) *ℤ each)
     ≤ℤ plan_length (walk_weight scale potentials families multipliers problem.cost) problem.depot routes
     → bound ≤ℤ plan_length problem.cost problem.depot routes
+
+-- ---- the bound of a certificate for routes
+
+-- the least weight of a walk under the numbers of a leaf; None where there is no walk
+abbrev pub IsLeastWalk : RoutingProblem → ℤ → ℕ → ℕ → List Family → LeafNumbers → Option ℤ → Type 0
+IsLeastWalk problem scale unit light families numbers least =
+    IsLeastAmong (IsWalk problem.nodes problem.depot (load_in problem unit light) (room_in problem unit light))
+    (λ nodes. length_of (walk_weight scale numbers.potentials families numbers.multipliers problem.cost) (problem.depot ∷ nodes)) least
+
+-- the bound of a leaf: each route weighs at least as much as the least walk
+pub record IsWalkBound (problem : RoutingProblem) (scale : ℤ) (unit light : ℕ) (families : List Family) (case : List Decision)
+    (numbers : LeafNumbers) (bound : ℤ) : Type 0 where
+  pub each : ℤ
+  pub least : IsLeastWalk problem scale unit light families numbers (Some each)
+  pub bound_is : IsPlanBound problem scale numbers.potentials families numbers.multipliers case each bound
+
+-- what is found of a leaf: its bound, or none where there is no walk
+abbrev pub IsFoundByWalks : RoutingProblem → ℤ → ℕ → ℕ → List Family → List Decision × LeafNumbers → Option ℤ → Type 0
+IsFoundByWalks problem scale unit light families (case, numbers) (Some bound) =
+    IsWalkBound problem scale unit light families case numbers bound
+IsFoundByWalks problem scale unit light families (case, numbers) None =
+    IsLeastWalk problem scale unit light families numbers None
+
+-- the bound of a tree: the least bound of a leaf; None where no leaf has one
+abbrev pub IsPlanTreeBound : RoutingProblem → ℤ → ℕ → ℕ → List Family → List CaseStep → Option ℤ → Type 0
+IsPlanTreeBound problem scale unit light families steps found =
+    IsLeastFound (IsFoundByWalks problem scale unit light families) (leaves_of ([] ∷ []) steps) found
+
+-- a bound is at most the length of every filled plan; where there is none, there is no filled plan
+abbrev pub BoundsPlansIfAny : RoutingProblem → Option ℤ → Type 0
+BoundsPlansIfAny problem (Some bound) = BoundsPlans problem bound
+BoundsPlansIfAny problem None = HasNoPlan problem
+
+-- ---- the theorems
+
+-- So is the bound of a whole tree, or that it has none.
+abbrev pub PlanTreesBoundPlans : Type 0
+PlanTreesBoundPlans = (problem : RoutingProblem) (scale : ℤ) (unit light : ℕ) (families : List Family) (steps : List CaseStep)
+    (found : Option ℤ)
+    → IsRoutable problem → IsScale scale → AreUnits problem unit light → All (IsCutFamily problem) families
+    → are_case_trees 1 steps ≡ true → IsPlanTreeBound problem scale unit light families steps found
+    → BoundsPlansIfAny problem found
+
+-- A tree has one bound, or none.
+abbrev pub PlanTreeBoundsAreUnique : Type 0
+PlanTreeBoundsAreUnique = (problem : RoutingProblem) (scale : ℤ) (unit light : ℕ) (families : List Family) (steps : List CaseStep)
+    (a b : Option ℤ) → IsPlanTreeBound problem scale unit light families steps a
+    → IsPlanTreeBound problem scale unit light families steps b → a ≡ b

@@ -1,19 +1,76 @@
--- The verdict on a certificate for routes: its bound, or the first reason against it. For `judge_plans`
--- (src/verdict.rt), and for WalksCertificate.antt of tsp_verdict.
-use Rattle.std.specs.Prelude.{◌≡◌, ℕ, ◌+◌, ◌*◌, ◌≤◌, ◌<◌, length, IfSome, List, Option, ℤ}
+-- Whether the branches of a certificate for routes are good: each begins with the number of a family, n + k for family
+-- k. For the verdict on such a certificate (PlanVerdicts.antt), and for Certificates.antt of tsp_verdict.
+use Rattle.std.specs.List.{All}
+use Rattle.std.specs.Prelude.{ℕ, ◌+◌, List, ◌≡◌, unsigned_abs, length, ℤ, pos, ◌≤ℤ◌, ◌≢◌, ◌≤◌, ◌<◌, [], ◌∷◌, slice_index_or, ◌*◌, IfSome, Option}
 use Rattle.tsp_format.specs.Steps.{Step}
-use Rattle.tsp_theory.specs.CertificateNumbers.{IsBoundSized}
-use Rattle.tsp_theory.specs.Routing.{RoutingProblem, demand_of}
+use Rattle.tsp_theory.specs.Bounds.{ArePotentials, IsBoundSized}
+use Rattle.tsp_theory.specs.Tour.{sum_int_by, RoutingProblem, IsCustomer, demand_of}
+use Rattle.tsp_cases.specs.Cases.{LeafNumbers}
+use Rattle.tsp_cases.specs.Families.{families_with, HasEachOnce}
+use Rattle.tsp_cases.specs.ListedCases.{BeginsWithin, branch_pairs, IsFirstBadBranch, AreGoodLeavesBy, IsFirstBadLeafBy, listed_steps}
 use Rattle.tsp_cases.specs.declared.family.Crossings.{Crossings}
-use Rattle.tsp_cases.specs.FamiliesOfSets.{families_with}
-use Rattle.tsp_cases.specs.Listed.{listed_steps}
+use Rattle.tsp_routing.specs.PlanBounds.{IsPlanTreeBound, BoundsPlansIfAny}
+use Rattle.tsp_routing.specs.PlanLinks.{IsCutFamily, AreUnits, room_in}
 use Rattle.tsp_routing.specs.declared.verdict.PlanVerdict.{PlanVerdict}
 use Rattle.tsp_routing.specs.declared.verdict.PlanVerdict.TheVariants as verdict
-use Rattle.tsp_routing.specs.Loads.{AreUnits, room_in}
-use Rattle.tsp_routing.specs.GoodSets.{IsFirstBadSet, AreCapacityCuts}
-use Rattle.tsp_routing.specs.GoodBranches.{AreGoodBranches, IsFirstBadPlanBranch}
-use Rattle.tsp_routing.specs.GoodLeaves.{AreGoodPlanLeaves, IsFirstBadPlanLeaf}
-use Rattle.tsp_routing.specs.PlanTrees.{IsPlanTreeBound, BoundsPlansIfAny}
+
+-- each branch begins with the number of a family
+abbrev pub AreGoodBranches : ℕ → ℕ → List Step → Type 0
+AreGoodBranches n families steps = All (BeginsWithin (n + 1) (n + families)) (branch_pairs steps)
+
+-- the first branch that doesn't, counted from 1
+abbrev pub IsFirstBadPlanBranch : ℕ → ℕ → List Step → ℕ → Type 0
+IsFirstBadPlanBranch n families steps first = IsFirstBadBranch (n + 1) (n + families) steps first
+
+-- ---- whether the leaves of a certificate for routes are good
+
+-- the largest sum of the sizes of multipliers
+abbrev pub most_of_multipliers : ℕ
+most_of_multipliers = 300000000000000000
+
+-- the sum of the sizes of multipliers
+abbrev pub sizes_total : List ℤ → ℤ
+sizes_total multipliers = sum_int_by (λ multiplier. pos (unsigned_abs multiplier)) multipliers
+
+-- a potential for each node, none too large; a multiplier for each family, the sum of whose sizes isn't too large
+pub record ArePlanNumbers (n families : ℕ) (numbers : LeafNumbers) : Type 0 where
+  pub each_node : length numbers.potentials ≡ n
+  pub each_family : length numbers.multipliers ≡ families
+  pub potentials_are : ArePotentials numbers.potentials
+  pub sum : sizes_total numbers.multipliers ≤ℤ pos most_of_multipliers
+
+-- each index is that of a node or of a family, and the numbers of each leaf are good
+abbrev pub AreGoodPlanLeaves : ℕ → ℕ → List Step → Type 0
+AreGoodPlanLeaves n families steps = AreGoodLeavesBy (ArePlanNumbers n families) n families steps
+
+-- the first leaf that isn't good, counted from 1
+abbrev pub IsFirstBadPlanLeaf : ℕ → ℕ → List Step → ℕ → Type 0
+IsFirstBadPlanLeaf n families steps leaf = IsFirstBadLeafBy (ArePlanNumbers n families) n families steps leaf
+
+-- ---- whether the families of a certificate for routes are good: each is one set of customers
+
+-- the family is one set, which isn't empty, has customers alone, and none twice
+pub record IsGoodSet (n depot : ℕ) (sets : List (List ℕ)) : Type 0 where
+  pub customers : List ℕ
+  pub alone : sets ≡ customers ∷ []
+  pub some : customers ≢ []
+  pub inside : All (IsCustomer n depot) customers
+  pub once : HasEachOnce customers
+
+-- the first family that isn't such a set, counted from 1
+pub record IsFirstBadSet (n depot : ℕ) (families : List (List (List ℕ))) (first : ℕ) : Type 0 where
+  pub least : 1 ≤ first
+  pub most : first ≤ length families
+  pub before : (place : ℕ) → place + 1 < first → IsGoodSet n depot (slice_index_or families place [])
+  pub bad : (place : ℕ) → place + 1 ≡ first → IsGoodSet n depot (slice_index_or families place []) → ⊥
+
+-- all families are such sets, and `crossed` says how often a plan crosses each at least
+pub record AreCapacityCuts (problem : RoutingProblem) (families : List (List (List ℕ))) (crossed : List Crossings) : Type 0 where
+  pub many : length crossed ≡ length families
+  pub good : (place : ℕ) → place < length families → IsGoodSet problem.nodes problem.depot (slice_index_or families place [])
+  pub are : All (IsCutFamily problem) (families_with crossed families)
+
+-- ---- the verdict on a certificate for routes: its bound, or the first reason against it
 
 -- the routing problem with these nodes, costs, depot, demands and capacity
 abbrev pub routing_with : ℕ → (ℕ → ℕ → ℤ) → ℕ → List ℤ → ℤ → RoutingProblem

@@ -1,10 +1,4 @@
 -- The files of definitions that look into structs of the code.
-pub mod Trees
-pub mod Demands
-pub mod Onwards
-pub mod Units
-pub mod JudgedCuts
 pub mod LeafWeights
-pub mod KeptWeights
-pub mod GivenBack
-pub mod PlanRooms
+pub mod Demands
+pub mod Judged

@@ -15,8 +15,8 @@ impl Demands<'_> {
     ghost use Rattle.std.specs.Prelude.{◌≡◌, pos};
     ghost use Rattle.tsp_format.specs.Nodes.{IsNode};
     ghost use Rattle.tsp_format.specs.Limits.{most_demand};
-    ghost use Rattle.tsp_format.specs.Ranges.{IsFromTo};
-    ghost use Rattle.tsp_theory.specs.Routing.{demand_of};
+    ghost use Rattle.tsp_format.specs.Steps.{IsFromTo};
+    ghost use Rattle.tsp_theory.specs.Tour.{demand_of};
     ghost use Rattle.tsp_routing.specs.states.Demands.{AreDemands};
 
     /// The demand of a node.

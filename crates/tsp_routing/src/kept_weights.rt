@@ -3,11 +3,10 @@
 
 ghost use Rattle.std.specs.Prelude.{◌≡◌, ◌≤◌, ◌<◌, ◌+◌, ◌^◌, ℕ, length, true, pos, neg_ℤ, IfOk, IfSome};
 ghost use Rattle.tsp_format.specs.Nodes.{IsNode};
-ghost use Rattle.tsp_format.specs.Ranges.{IsFromTo};
+ghost use Rattle.tsp_format.specs.Steps.{IsFromTo};
 ghost use Rattle.tsp_theory.specs.states.Nearest.{least_at};
-ghost use Rattle.tsp_cases.specs.states.Lent.{lent_in};
-ghost use Rattle.tsp_cases.specs.states.Combed.{set_weight};
-ghost use Rattle.tsp_routing.specs.states.KeptWeights.{IsWeightRow, AreFirstRows, AreKeptRows};
+ghost use Rattle.tsp_cases.specs.states.Sets.{lent_in, set_weight};
+ghost use Rattle.tsp_routing.specs.states.LeafWeights.{IsWeightRow, AreFirstRows, AreKeptRows};
 
 use crate::leaf_weights::LeafWeights;
 use crate::sums::MOST_NARROW;
@@ -103,11 +102,11 @@ fn row_of<C: Costs>(
 impl<C: Costs> KeptWeights<'_, C> {
     ghost use Rattle.std.specs.Prelude.{◌≡◌, ◌+◌, ◌^◌, length, true, pos, neg_ℤ};
     ghost use Rattle.tsp_format.specs.Nodes.{IsNode};
-    ghost use Rattle.tsp_cases.specs.states.Lent.{lent_in};
-    ghost use Rattle.tsp_cases.specs.states.Combed.{set_weight};
-    ghost use Rattle.tsp_routing.specs.Weights.{most_link};
-    ghost use Rattle.tsp_routing.specs.states.KeptWeights.{IsWeightRow};
-    ghost use Rattle.tsp_routing.specs.states.Onwards.{AreLinks};
+    ghost use Rattle.tsp_cases.specs.states.Sets.{lent_in};
+    ghost use Rattle.tsp_cases.specs.states.Sets.{set_weight};
+    ghost use Rattle.tsp_routing.specs.PlanBounds.{most_link};
+    ghost use Rattle.tsp_routing.specs.states.LeafWeights.{IsWeightRow};
+    ghost use Rattle.tsp_routing.specs.states.Demands.{AreLinks};
 
     /// Writes a row, as it is kept where it is.
     fn fill_kept(&self, from: u32, row: &mut [i64])
@@ -168,8 +167,8 @@ fn is_narrow_row(others: bool, row: &[i64]) -> bool
 }
 
 impl<C: Costs> Weights for KeptWeights<'_, C> {
-    ghost use Rattle.tsp_cases.specs.states.Lent.{lent_in};
-    ghost use Rattle.tsp_cases.specs.states.Combed.{set_weight};
+    ghost use Rattle.tsp_cases.specs.states.Sets.{lent_in};
+    ghost use Rattle.tsp_cases.specs.states.Sets.{set_weight};
 
     ghost nodes = { λ w. C.nodes w.weights.now.costs.now };
 

@@ -1,13 +1,9 @@
 //! Laws: how often plans cross sets, that routes are walks, and that no plan is shorter than the
 //! bound of a tree of cases. For `src/verdict.rt`, and `src/one_verdict.rt` of tsp_verdict.
 
-ghost use Rattle.tsp_routing.specs.PlanLinks.{LengthsAreWeights, PlanSums, PlansHaveFewRoutes};
-ghost use Rattle.tsp_routing.specs.Cuts.{PlansLeaveCuts, PlansCrossCuts};
-ghost use Rattle.tsp_routing.specs.Limits.{PlansCrossEvenly, PlansKeepEitherLimit, PlansKeepLeaves};
-ghost use Rattle.tsp_routing.specs.Loads.{RoutesHaveRoom, LoadsAreSome};
+ghost use Rattle.tsp_routing.specs.PlanLinks.{LengthsAreWeights, PlanSums, PlansHaveFewRoutes, PlansLeaveCuts, PlansCrossCuts, PlansCrossEvenly, PlansKeepEitherLimit, PlansKeepLeaves, RoutesHaveRoom, LoadsAreSome};
 ghost use Rattle.tsp_routing.specs.Walks.{RoutesAreWalks};
-ghost use Rattle.tsp_routing.specs.PlanBounds.{PlanBoundsBoundPlans};
-ghost use Rattle.tsp_routing.specs.PlanTrees.{PlanTreesBoundPlans, PlanTreeBoundsAreUnique};
+ghost use Rattle.tsp_routing.specs.PlanBounds.{PlanBoundsBoundPlans, PlanTreesBoundPlans, PlanTreeBoundsAreUnique};
 ghost use Rattle.tsp_routing.specs.PlanVerdicts.{PlanBoundsFoundAreUnique};
 
 /// The length of a plan is the weight of its links; each customer begins one and ends one, and the

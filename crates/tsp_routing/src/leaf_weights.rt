@@ -3,13 +3,10 @@
 
 ghost use Rattle.std.specs.Prelude.{◌≡◌, ◌≤◌, ◌+◌, ◌+ℤ◌, ℕ, length, pos, neg_ℤ};
 ghost use Rattle.tsp_format.specs.Nodes.{IsNode};
-ghost use Rattle.tsp_format.specs.Ranges.{IsFromTo};
-ghost use Rattle.tsp_theory.specs.CertificateNumbers.{IsScale, ArePotentials};
-ghost use Rattle.tsp_theory.specs.states.Nearest.{least_at};
-ghost use Rattle.tsp_theory.specs.states.Additions.{IsMoved};
-ghost use Rattle.tsp_cases.specs.states.Sets.{IsSetTable};
-ghost use Rattle.tsp_cases.specs.states.Lent.{lent_in};
-ghost use Rattle.tsp_cases.specs.states.Combed.{AreSmallDifferences};
+ghost use Rattle.tsp_format.specs.Steps.{IsFromTo};
+ghost use Rattle.tsp_theory.specs.Bounds.{IsScale, ArePotentials};
+ghost use Rattle.tsp_theory.specs.states.Nearest.{least_at, IsMoved};
+ghost use Rattle.tsp_cases.specs.states.Sets.{IsSetTable, lent_in, AreSmallDifferences};
 ghost use Rattle.tsp_cases.specs.states.Kept.{AreMoved};
 ghost use Rattle.tsp_routing.specs.states.LeafWeights.{AreSignedCrossings};
 
@@ -46,13 +43,13 @@ pub(crate) struct LeafWeights<'a, C: Costs> {
 impl<'a, C: Costs> LeafWeights<'a, C> {
     ghost use Rattle.std.specs.Prelude.{◌≡◌, ◌+◌, ◌+ℤ◌, ℕ, length, pos, neg_ℤ};
     ghost use Rattle.tsp_format.specs.Nodes.{IsNode};
-    ghost use Rattle.tsp_format.specs.Ranges.{IsFromTo};
-    ghost use Rattle.tsp_theory.specs.NodeBound.{weight_between, most_between};
+    ghost use Rattle.tsp_format.specs.Steps.{IsFromTo};
+    ghost use Rattle.tsp_theory.specs.Bounds.{weight_between, most_between};
     ghost use Rattle.tsp_theory.specs.states.Nearest.{least_at};
-    ghost use Rattle.tsp_theory.specs.states.Additions.{IsMoved};
-    ghost use Rattle.tsp_cases.specs.states.Lent.{lent_in};
-    ghost use Rattle.tsp_cases.specs.states.Combed.{multipliers_at, set_weight};
-    ghost use Rattle.tsp_routing.specs.Weights.{most_link};
+    ghost use Rattle.tsp_theory.specs.states.Nearest.{IsMoved};
+    ghost use Rattle.tsp_cases.specs.states.Sets.{lent_in};
+    ghost use Rattle.tsp_cases.specs.states.Sets.{multipliers_at, set_weight};
+    ghost use Rattle.tsp_routing.specs.PlanBounds.{most_link};
 
     /// The weights of a leaf.
     pub(crate) fn of(leaf: &PlanLeaf<'a, C>) -> LeafWeights<'a, C>

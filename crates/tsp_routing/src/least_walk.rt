@@ -4,15 +4,12 @@
 ghost use Rattle.std.specs.Prelude.{◌≡◌, ◌≢◌, ◌⊎◌, ◌≤◌, ◌<◌, ◌+◌, ◌-◌, ◌*◌, ◌^◌, ℕ, ℤ, ◌∷◌, length, pos, neg_ℤ, ◌+ℤ◌, ◌≤ℤ◌, Some, IfOk, IfSome};
 ghost use Rattle.tsp_format.specs.Limits.{most_nodes};
 ghost use Rattle.tsp_format.specs.Nodes.{IsNode};
-ghost use Rattle.tsp_format.specs.Ranges.{IsFromTo};
-ghost use Rattle.tsp_theory.specs.Length.{length_of};
-ghost use Rattle.tsp_theory.specs.Routing.{IsCustomer};
+ghost use Rattle.tsp_format.specs.Steps.{IsFromTo};
+ghost use Rattle.tsp_theory.specs.Tour.{length_of, IsCustomer};
 ghost use Rattle.tsp_theory.specs.states.Nearest.{least_at};
-ghost use Rattle.tsp_routing.specs.LeastOf.{IsLeastAmong};
-ghost use Rattle.tsp_routing.specs.WalkTables.{WalkEntry, IsLow, IsMet, IsReal, IsEntryBelowTo, IsEntryMetTo, IsStartMet, IsStartBelow, IsAtMost, least_from};
-ghost use Rattle.tsp_routing.specs.Walks.{IsWalk, IsBelowWalks};
-ghost use Rattle.tsp_routing.specs.Weights.{most_room};
-ghost use Rattle.tsp_routing.specs.states.Onwards.{load_at, AreLinks, onward_entry, entry_at, IsEntryNumber, IsEntrySized, IsRowSized, AreRowsSized, IsRowLow, AreRowsLow, IsRowMet, AreRowsMet, IsNearOrFar, IsChosen};
+ghost use Rattle.tsp_routing.specs.Walks.{IsLeastAmong, WalkEntry, IsLow, IsMet, IsReal, IsEntryBelowTo, IsEntryMetTo, IsStartMet, IsStartBelow, IsAtMost, least_from, IsWalk, IsBelowWalks};
+ghost use Rattle.tsp_routing.specs.PlanBounds.{most_room};
+ghost use Rattle.tsp_routing.specs.states.Demands.{load_at, AreLinks, onward_entry, entry_at, IsEntryNumber, IsEntrySized, IsRowSized, AreRowsSized, IsRowLow, AreRowsLow, IsRowMet, AreRowsMet, IsNearOrFar, IsChosen};
 
 use crate::kept_weights::LentRows;
 use crate::sums::Sum;

@@ -11,13 +11,13 @@ impl Demands<'_> {
     ghost use Rattle.std.specs.Prelude.{◌≡◌, ◌≢◌, ◌≤◌, ℕ, ℤ, [], length, pos, ◌≤ℤ◌};
     ghost use Rattle.std.specs.List.{All, AllPairs};
     ghost use Rattle.tsp_format.specs.Nodes.{IsNode};
-    ghost use Rattle.tsp_format.specs.Ranges.{IsFromTo};
+    ghost use Rattle.tsp_format.specs.Steps.{IsFromTo};
     ghost use Rattle.tsp_format.specs.Limits.{most_nodes, most_demand};
-    ghost use Rattle.tsp_cases.specs.Crossed.{has};
-    ghost use Rattle.tsp_theory.specs.Routing.{IsCustomer, demand_of, load_of, IsLeastRoutes};
+    ghost use Rattle.tsp_cases.specs.Crossings.{has};
+    ghost use Rattle.tsp_theory.specs.Tour.{IsCustomer, demand_of, load_of, IsLeastRoutes};
     ghost use Rattle.tsp_routing.specs.PlanLinks.{sum_of_customers};
-    ghost use Rattle.tsp_routing.specs.Cuts.{IsFewest};
-    ghost use Rattle.tsp_routing.specs.Cuts.{IsCapacityCut};
+    ghost use Rattle.tsp_routing.specs.PlanLinks.{IsFewest};
+    ghost use Rattle.tsp_routing.specs.PlanLinks.{IsCapacityCut};
     ghost use Rattle.tsp_routing.specs.states.Demands.{loads_problem, AreDemands, of_others};
 
     /// How many routes a cut of these customers needs: as many as carry what they demand, and one

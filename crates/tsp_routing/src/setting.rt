@@ -3,12 +3,10 @@
 
 ghost use Rattle.std.specs.Prelude.{◌≡◌, ◌≤◌, length};
 ghost use Rattle.std.specs.List.{All};
-ghost use Rattle.tsp_theory.specs.CertificateNumbers.{IsScale};
-ghost use Rattle.tsp_cases.specs.states.Sets.{IsSetTable};
-ghost use Rattle.tsp_cases.specs.states.Lent.{lent_in};
-ghost use Rattle.tsp_routing.specs.states.Demands.{AreDemands};
-ghost use Rattle.tsp_routing.specs.states.JudgedCuts.{IsFewCrossed};
-ghost use Rattle.tsp_routing.specs.states.Units.{AreUnitLoads};
+ghost use Rattle.tsp_theory.specs.Bounds.{IsScale};
+ghost use Rattle.tsp_cases.specs.states.Sets.{IsSetTable, lent_in};
+ghost use Rattle.tsp_routing.specs.states.Demands.{AreDemands, AreUnitLoads};
+ghost use Rattle.tsp_routing.specs.states.Judged.{IsFewCrossed};
 
 use crate::demands::Demands;
 use crate::units::UnitLoads;

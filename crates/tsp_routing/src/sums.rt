@@ -3,9 +3,9 @@
 
 ghost use Rattle.std.proofs.Common.{rules};
 ghost use Rattle.std.specs.Prelude.{◌≡◌, ◌≤◌, ◌<◌, ◌+◌, ◌*◌, ◌^◌, ℕ, ℤ, pos, neg_ℤ, ◌+ℤ◌, int_lt, MatchOption};
-ghost use Rattle.tsp_format.specs.Ranges.{IsFromTo};
-ghost use Rattle.tsp_routing.specs.WalkTables.{IsReal};
-ghost use Rattle.tsp_routing.specs.Weights.{most_link, most_room};
+ghost use Rattle.tsp_format.specs.Steps.{IsFromTo};
+ghost use Rattle.tsp_routing.specs.Walks.{IsReal};
+ghost use Rattle.tsp_routing.specs.PlanBounds.{most_link, most_room};
 
 /// The most that a weight is in size where sums fit 64 bits: then 5,000,000 of them do.
 pub(crate) const MOST_NARROW: i64 = 1 << 38;

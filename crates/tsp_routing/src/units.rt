@@ -3,10 +3,8 @@
 
 ghost use Rattle.std.specs.Prelude.{◌≡◌, ◌≤◌, ◌<◌, ◌+◌, ◌*◌, ◌/◌, ◌==◌, ◌^◌, ℕ, ℤ, if◌then◌else◌, length, pos, nat_abs, ◌≤ℤ◌, IfOk};
 ghost use Rattle.tsp_format.specs.Nodes.{IsNode};
-ghost use Rattle.tsp_routing.specs.states.Demands.{loads_problem, AreDemands};
-ghost use Rattle.tsp_routing.specs.Loads.{units_of, AreUnits, load_in, room_in};
-ghost use Rattle.tsp_routing.specs.states.Onwards.{load_at};
-ghost use Rattle.tsp_routing.specs.states.Units.{AreUnitLoads, light_in};
+ghost use Rattle.tsp_routing.specs.states.Demands.{loads_problem, AreDemands, load_at, AreUnitLoads, light_in};
+ghost use Rattle.tsp_routing.specs.PlanLinks.{units_of, AreUnits, load_in, room_in};
 
 use crate::demands::Demands;
 use std::alloc::Global;

@@ -5,27 +5,22 @@ ghost use Rattle.std.specs.List.{All};
 ghost use Rattle.std.specs.Prelude.{◌≡◌, ◌≤◌, ◌<◌, ◌+◌, ◌*◌, ◌^◌, true, [], length, nat_abs, IfOk, pos, ℕ, ℤ, MatchOption, ◌↔◌, IsTrue, take, drop, neg_ℤ};
 ghost use Rattle.tsp_format.specs.Limits.{most_demand, most_capacity};
 ghost use Rattle.tsp_format.specs.Nodes.{IsNode};
-ghost use Rattle.tsp_format.specs.Ranges.{IsFromTo};
-ghost use Rattle.tsp_format.specs.Steps.{are_whole};
+ghost use Rattle.tsp_format.specs.Steps.{IsFromTo, are_whole};
 ghost use Rattle.tsp_format.specs.states.TreeSteps.{steps_of};
-ghost use Rattle.tsp_theory.specs.CertificateNumbers.{IsScale};
-ghost use Rattle.tsp_cases.specs.FamiliesOfSets.{families_with, family_with};
-ghost use Rattle.tsp_cases.specs.FamilySets.{families_in, AreFamiliesOf, AreSetsOf, lists_of};
-ghost use Rattle.tsp_cases.specs.GoodNumbers.{as_leaf_numbers};
+ghost use Rattle.tsp_theory.specs.Bounds.{IsScale};
+ghost use Rattle.tsp_cases.specs.Families.{families_with, family_with};
+ghost use Rattle.tsp_cases.specs.Crossings.{families_in, AreFamiliesOf, AreSetsOf, lists_of};
+ghost use Rattle.tsp_cases.specs.ListedCases.{as_leaf_numbers, IsStepOf};
 ghost use Rattle.tsp_cases.specs.JudgedLeaves.{AreJudgedBy, AreSizedLeaves, IsFoundOfCase, IsSizedLeaf};
-ghost use Rattle.tsp_cases.specs.Listed.{IsStepOf};
-ghost use Rattle.tsp_cases.specs.states.Lent.{lent_in};
-ghost use Rattle.tsp_cases.specs.states.Marked.{AreUnmarked, AddsNoOther};
+ghost use Rattle.tsp_cases.specs.states.Sets.{lent_in};
+ghost use Rattle.tsp_cases.specs.states.GoodFamilies.{AreUnmarked, AddsNoOther};
 ghost use Rattle.tsp_cases.specs.states.OpenCases.{IsOpenCase, decisions_in};
-ghost use Rattle.tsp_routing.specs.Cuts.{IsCutFamily};
-ghost use Rattle.tsp_routing.specs.GoodLeaves.{ArePlanNumbers, most_of_multipliers, sizes_total};
-ghost use Rattle.tsp_routing.specs.GoodSets.{IsGoodSet};
-ghost use Rattle.tsp_routing.specs.PlanVerdicts.{routing_with, IsPlanVerdict, VerdictBoundsPlans, IsSizedPlanVerdict};
-ghost use Rattle.tsp_routing.specs.Weights.{most_room};
+ghost use Rattle.tsp_routing.specs.PlanLinks.{IsCutFamily};
+ghost use Rattle.tsp_routing.specs.PlanVerdicts.{ArePlanNumbers, most_of_multipliers, sizes_total, IsGoodSet, routing_with, IsPlanVerdict, VerdictBoundsPlans, IsSizedPlanVerdict};
+ghost use Rattle.tsp_routing.specs.PlanBounds.{most_room};
 ghost use Rattle.tsp_routing.specs.states.Demands.{loads_problem, AreDemands};
-ghost use Rattle.tsp_routing.specs.states.JudgedCuts.{AreCutsJudged, AreCutNumbers};
-ghost use Rattle.tsp_routing.specs.states.PlanRooms.{IsFoundOfFew, IsLeafVerdict, IsPlanRoom};
-ghost use Rattle.tsp_routing.specs.states.Trees.{IsPlanStep};
+ghost use Rattle.tsp_routing.specs.states.Judged.{AreCutsJudged, AreCutNumbers, IsFoundOfFew, IsLeafVerdict, IsPlanRoom};
+ghost use Rattle.tsp_routing.specs.states.LeafWeights.{IsPlanStep};
 
 use crate::demands::Demands;
 use crate::laws::plan_trees_bound_plans;
@@ -337,11 +332,11 @@ pub(crate) struct PlanJudge<'a, C: Costs> {
 
 impl<C: Costs> LeafJudge for PlanJudge<'_, C> {
     ghost use Rattle.std.specs.Prelude.{◌+◌, true, length};
-    ghost use Rattle.tsp_cases.specs.FamiliesOfSets.{families_with};
-    ghost use Rattle.tsp_cases.specs.states.Lent.{lent_in};
-    ghost use Rattle.tsp_routing.specs.GoodLeaves.{ArePlanNumbers};
+    ghost use Rattle.tsp_cases.specs.Families.{families_with};
+    ghost use Rattle.tsp_cases.specs.states.Sets.{lent_in};
+    ghost use Rattle.tsp_routing.specs.PlanVerdicts.{ArePlanNumbers};
     ghost use Rattle.tsp_routing.specs.states.Demands.{loads_problem};
-    ghost use Rattle.tsp_routing.specs.states.PlanRooms.{IsPlanRoom, IsFoundOfFew};
+    ghost use Rattle.tsp_routing.specs.states.Judged.{IsPlanRoom, IsFoundOfFew};
 
     type Memory = PlanRoom;
 

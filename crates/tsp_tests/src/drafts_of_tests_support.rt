@@ -2,9 +2,9 @@
 
 use std::alloc::{AllocError, Global};
 use std::test::Fail;
-use tsp_distance::{Decimal, PlanePoint};
 use tsp_file::{Coords, Draft, File};
 use tsp_format::{CoordKind, DisplayKind, Kind, Layout, TreeStep, WeightFormat, WeightKind};
+use tsp_number::{Decimal, PlanePoint};
 
 /// A file of tours.
 pub fn tours(alloc: Global, lists: &[&[u32]]) -> Result<Draft, AllocError> {

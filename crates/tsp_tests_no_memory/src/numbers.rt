@@ -2,15 +2,12 @@
 //! memory. For `src/main.rt`.
 
 use tsp_bound::{Duals, Multipliers, Potentials};
-use tsp_distance::{
-    Decimal, InSpace, PlanePoint, Point, att, ceil_2d, euc_2d, euc_3d, man_2d, man_3d, max_2d,
-    max_3d,
-};
 use tsp_format::Layout;
 use tsp_io::Watched;
 use tsp_judge::{ReadFault, RunFault, WriteFault, status_of};
 use tsp_number::{
-    NumberFault, front_decimal, front_whole, parse_decimal, parse_whole, write_decimal,
+    Decimal, InSpace, NumberFault, PlanePoint, Point, att, ceil_2d, euc_2d, euc_3d, front_decimal,
+    front_whole, man_2d, man_3d, max_2d, max_3d, parse_decimal, parse_whole, write_decimal,
 };
 
 /// Whether each call has the answer that is wanted.

@@ -3,9 +3,9 @@
 
 use std::alloc::{AllocError, Global};
 use tsp_cost::{Costs, Instance, View, tour_length, trace_tours};
-use tsp_distance::{Decimal, PlanePoint};
 use tsp_file::{Coords, Draft, File};
 use tsp_format::{Kind, Layout, WeightFormat, WeightKind};
+use tsp_number::{Decimal, PlanePoint};
 
 /// Whether the instances have the costs that are wanted, and tours of them the lengths.
 ///

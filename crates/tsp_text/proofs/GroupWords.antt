@@ -1,15 +1,23 @@
 -- The words of a section in groups, as pairs, or a node with its number. One word more begins a group, goes on with it
 -- or ends it. For `NumberList::push` in src/by_node.rt of tsp_read and others.
-use Rattle.std.proofs.Common.{◌≡◌, ℕ, suc, ◌+◌, ◌*◌, ◌<◌, ◌≤◌, Bool, true, false, cond, ◌||◌, List, [], ◌∷◌, ◌++◌, length, map, refl, sym, ap, ◌∙◌, append_assoc, append-nil, arith}
-use Rattle.std.specs.Prelude.{◌==◌, ℤ, take}
-use Rattle.std.specs.List.{list_any}
-use Rattle.std.proofs.lemmas.Bool.{eqb-true, eqb-false}
-use Rattle.std.proofs.lemmas.List.{length_push, map_push, take_all}
+use Rattle.std.proofs.Common.{◌≡◌, ℕ, suc, ◌+◌, ◌*◌, ◌<◌, ◌≤◌, Bool, true, false, cond, ◌||◌, List, [], ◌∷◌, ◌++◌, length, map, refl, sym, ap, ◌∙◌, append_assoc, append-nil, arith, subst, None}
+use Rattle.std.proofs.lemmas.Bool.{eqb-true, eqb-false, true≢false, and_from, not_from_false, false≢true}
+use Rattle.std.proofs.lemmas.List.{length_push, map_push, take_all, length-map}
 use Rattle.std.proofs.lemmas.List.Folds.{list_any-append}
-use Rattle.tsp_text.specs.SectionNumbers.{number, node}
-use Rattle.tsp_text.specs.Groups.{groups_after, begun_after, groups_in, begun_in, word_at, node_groups, nodes_of_groups}
-use Rattle.tsp_text.specs.Lists.{before, firsts_in}
-use Rattle.tsp_text.proofs.Ended.{any_kept, before_kept, before_none, before_end}
+use Rattle.std.specs.List.{list_any, list_all}
+use Rattle.std.specs.Prelude.{◌==◌, ℤ, take, not, ◌&&◌, nat_le}
+use Rattle.std.specs.Result.{result_err}
+use Rattle.tsp_format.specs.Limits.{most_fixed}
+use Rattle.tsp_format.specs.declared.keyword.Field.TheVariants.{FixedEdgesPart}
+use Rattle.tsp_file.specs.Validity.{is_node, is_pair_of, are_fixed}
+use Rattle.tsp_text.proofs.ValidKeywords.{any_kept, before_kept, before_none, before_end, any_push, read_node, read_listed, differ, few_more, first_of_both}
+use Rattle.tsp_text.proofs.ValidRows.{is_taken, Grows, grown}
+use Rattle.tsp_text.specs.Earlier.{words_of, dimension_in}
+use Rattle.tsp_text.specs.FaultRows.{word_fault}
+use Rattle.tsp_text.specs.Groups.{groups_after, begun_after, groups_in, begun_in, word_at, node_groups, nodes_of_groups, before, firsts_in, listed_in, fixed_pair, fixed_in, place_in_pair}
+use Rattle.tsp_text.specs.Items.{Item}
+use Rattle.tsp_text.specs.SectionWords.{number, node, reads_as, node_or_end, is_end, FirstAfter, SecondOf, PastEnd}
+use Rattle.tsp_text.specs.Spells.{IsClean}
 
 abbrev pub Words : Type 0
 Words = List (List ℕ)
@@ -197,3 +205,121 @@ pub nodes_read : {X : Type 0} (value : Words → X) (n : ℕ) (groups : List Wor
     → nodes_of_groups (map (λ group. (number (node n (word_at group 0)), value group)) groups) ≡ map (λ group. number (node n (word_at group 0))) groups
 nodes_read value n [] = refl
 nodes_read value n (group ∷ groups) = ap (λ (nodes : List ℤ). number (node n (word_at group 0)) ∷ nodes) (nodes_read value n groups)
+
+-- ---- the groups before a -1, in a section without a fault: no more than may be
+
+-- the words of a group that has begun: a node, or two different ones
+abbrev pub Begins : ℕ → Words → Type 0
+Begins n [] = ⊥
+Begins n (first ∷ []) = (result_err (node_or_end n first) ≡ None) × (is_end n first ≡ false)
+Begins n (first ∷ second ∷ rest) = is_pair_of n (fixed_pair n (first ∷ second ∷ [])) ≡ true
+
+-- two different nodes
+pub valid_pair : (n : ℕ) (first word : List ℕ) → Begins n (first ∷ []) → result_err (node n word) ≡ None
+    → reads_as (number (node_or_end n first)) (node n word) ≡ false → Begins n (first ∷ word ∷ [])
+valid_pair n first word begun read_second other =
+    let a = read_listed n first begun.0 begun.1 in
+    let b = read_node n word read_second in
+    let differs = differ a.0 b.0 (rw (a.1, b.1) at other) in
+    rw (a.1, b.1) (and_from (is_node n a.0 && is_node n b.0) (not (a.0 == b.0)) (and_from (is_node n a.0) (is_node n b.0) a.2 b.2) (not_from_false (a.0 == b.0) differs))
+
+-- the whole groups are valid, and so are the words of one that has begun, with the group within the limit
+pub record AreListed {X : Type 0} (size : ℕ) (value : ℕ → Words → X) (fits : ℕ → X → Bool) (n : ℕ) (words : Words) : Type 0 where
+  pub list : (nat_le (length (map (value n) (listed_in size n words))) most_fixed && list_all (fits n) (map (value n) (listed_in size n words))) ≡ true
+  pub begun : list_any (is_end n) (firsts_in size words) ≡ false → (first : List ℕ) (rest : Words) → begun_in size words ≡ first ∷ rest
+      → Begins n (first ∷ rest) × (nat_le most_fixed (length (groups_in size words)) ≡ false)
+
+-- ---- one word more
+
+module _ {X : Type 0} (size : ℕ) (value : ℕ → Words → X) (fits : ℕ → X → Bool) (n : ℕ) (words : Words) (word : List ℕ) (held : AreListed size value fits n words) where
+  same_list : (groups : List Words) → before (λ group. is_end n (word_at group 0)) groups ≡ listed_in size n words
+      → (nat_le (length (map (value n) (before (λ group. is_end n (word_at group 0)) groups))) most_fixed
+      && list_all (fits n) (map (value n) (before (λ group. is_end n (word_at group 0)) groups))) ≡ true
+  same_list groups same =
+      ap (λ (gs : List Words). nat_le (length (map (value n) gs)) most_fixed && list_all (fits n) (map (value n) gs)) same ∙ held.list
+
+  pub past_end : list_any (is_end n) (firsts_in size words) ≡ true → AreListed size value fits n (words ++ word ∷ [])
+  past_end ended = record {
+    list = same_list (groups_in size (words ++ word ∷ [])) (groups_kept (is_end n) size words word ended);
+    begun = λ none first rest e. absurd (true≢false (sym (firsts_kept (is_end n) size words word ended) ∙ none));
+  }
+
+  -- a first node, or the -1
+  pub begins : (1 == size) ≡ false → list_any (is_end n) (firsts_in size words) ≡ false → begun_in size words ≡ []
+      → word_fault n (FirstAfter (length (groups_in size words))) word ≡ None → AreListed size value fits n (words ++ word ∷ [])
+  begins more open_ended is row =
+      let t = is_taken n (FirstAfter (length (groups_in size words))) word row in
+      let next = goes_on size words [] word is more in
+      let end = sym (any_push (is_end n) (firsts_in size words) word open_ended) ∙ sym (ap (list_any (is_end n)) (firsts_begin size words word is)) in
+      record {
+        list = same_list (groups_in size (words ++ word ∷ [])) (ap (before (λ group. is_end n (word_at group 0))) next.0);
+        begun = λ none first rest e. (
+          subst (Begins n) (sym next.1 ∙ e) (t.is_read, end ∙ none),
+          ap (λ (groups : List Words). nat_le most_fixed (length groups)) next.0
+              ∙ first_of_both (nat_le most_fixed (length (groups_in size words))) (is_end n word) t.has_room (end ∙ none),
+        );
+      }
+
+  -- a word in the middle of a group
+  pub middle : (first : List ℕ) (rest : Words) → (length (first ∷ rest) + 1 == size) ≡ false → list_any (is_end n) (firsts_in size words) ≡ false
+      → begun_in size words ≡ first ∷ rest → Begins n (first ∷ (rest ++ word ∷ [])) → AreListed size value fits n (words ++ word ∷ [])
+  middle first rest more open_ended is begins_so =
+      let next = goes_on size words (first ∷ rest) word is more in
+      record {
+        list = same_list (groups_in size (words ++ word ∷ [])) (ap (before (λ group. is_end n (word_at group 0))) next.0);
+        begun = λ none other others e. (
+          subst (Begins n) (sym next.1 ∙ e) begins_so,
+          ap (λ (groups : List Words). nat_le most_fixed (length groups)) next.0 ∙ (held.begun open_ended first rest is).1,
+        );
+      }
+
+  -- the last word of a group
+  pub group_fits : (first : List ℕ) (rest : Words) → (length (first ∷ rest) + 1 == size) ≡ true → list_any (is_end n) (firsts_in size words) ≡ false
+      → begun_in size words ≡ first ∷ rest → fits n (value n (first ∷ (rest ++ word ∷ []))) ≡ true → AreListed size value fits n (words ++ word ∷ [])
+  group_fits first rest whole open_ended is valid =
+      let next = group_ends size words (first ∷ rest) word is whole in
+      let groups = groups_in size words in
+      let one : Words = first ∷ (rest ++ word ∷ []) in
+      let few : List X → Bool = λ xs. nat_le (length xs) most_fixed && list_all (fits n) xs in
+      let still : list_any (is_end n) (firsts_in size (words ++ word ∷ [])) ≡ false = ap (list_any (is_end n)) (firsts_on size words first rest word is) ∙ open_ended in
+      let so_far : few (map (value n) groups) ≡ true = ap (λ (gs : List Words). few (map (value n) gs)) (sym (groups_none (is_end n) size words open_ended)) ∙ held.list in
+      record {
+        list = ap (λ (gs : List Words). few (map (value n) gs)) (groups_none (is_end n) size (words ++ word ∷ []) still ∙ next.0) ∙ ap few (map_push (value n) groups one)
+            ∙ few_more most_fixed (fits n) (map (value n) groups) (value n one) so_far
+            (ap (λ k. nat_le most_fixed k) (length-map groups (value n)) ∙ (held.begun open_ended first rest is).1) valid;
+        begun = λ none other others e. none_begun (begun_in size (words ++ word ∷ [])) other others next.1 e;
+      }
+    where
+      none_begun : (begun : Words) (other : List ℕ) (others : Words) → begun ≡ [] → begun ≡ other ∷ others
+          → Begins n (other ∷ others) × (nat_le most_fixed (length (groups_in size (words ++ word ∷ []))) ≡ false)
+      none_begun begun other others none some = absurd cc
+
+-- ---- the fixed pairs of a section without a fault
+
+abbrev ArePaired : ℕ → Words → Type 0
+ArePaired n words = AreListed 2 fixed_pair is_pair_of n words
+
+taken : (n : ℕ) (words : Words) (word : List ℕ) (ended : Bool) (begun : Words) → list_any (is_end n) (firsts_in 2 words) ≡ ended
+    → begun_in 2 words ≡ begun
+    → word_fault n (cond ended PastEnd (place_in_pair n (length (groups_in 2 words)) begun)) word ≡ None → ArePaired n words
+    → ArePaired n (words ++ word ∷ [])
+taken n words word true begun e is row held = past_end 2 fixed_pair is_pair_of n words word held e
+taken n words word false [] e is row held = begins 2 fixed_pair is_pair_of n words word held refl e is row
+taken n words word false (first ∷ []) e is row held =
+    let t = is_taken n (SecondOf (number (node_or_end n first))) word row in
+    group_fits 2 fixed_pair is_pair_of n words word held first [] refl e is (valid_pair n first word (held.begun e first [] is).0 t.is_read t.other_node)
+taken n words word false (first ∷ second ∷ rest) e is row held =
+    absurd (omega (arith, ap length is, begun_short 2 words (omega arith)))
+
+all_taken : Grows false FixedEdgesPart ArePaired
+all_taken = record {
+  none = λ n. record { list = refl; begun = λ none first rest e. absurd cc };
+  more = λ b same n words word held row. taken n words word (list_any (is_end n) (firsts_in 2 words)) (begun_in 2 words) refl refl row held;
+  any_nodes = λ n m words tours held. absurd (false≢true tours);
+}
+
+pub fixed_fit : (items : List Item) → IsClean items
+    → are_fixed (dimension_in items) (fixed_in (dimension_in items) (words_of FixedEdgesPart items)) ≡ true
+fixed_fit items clean =
+    let held : ArePaired (dimension_in items) (words_of FixedEdgesPart items) = grown FixedEdgesPart ArePaired refl all_taken items clean in
+    held.list

@@ -8,16 +8,12 @@ use Rattle.tsp_format.specs.declared.keyword.Field.TheVariants.{NameKey, TypeKey
 use Rattle.tsp_format.specs.declared.keyword.Keyword.TheVariants.{Known}
 use Rattle.tsp_format.specs.declared.keyword.Shape.{Shape}
 use Rattle.tsp_format.specs.declared.keyword.Shape.TheVariants.{Points, SpacePoints}
-use Rattle.tsp_format.specs.Limits.{most_line_bytes}
-use Rattle.tsp_format.specs.Shapes.{shape_of, is_section_field}
+use Rattle.tsp_format.specs.Limits.{most_line_bytes, shape_of, is_section_field}
 use Rattle.tsp_file.specs.Fields.{stands_in}
 use Rattle.tsp_text.specs.Items.{WordLine, Item, Line}
-use Rattle.tsp_text.specs.Earlier.{has_line}
-use Rattle.tsp_text.specs.Values.{spatial_after}
-use Rattle.tsp_text.specs.Sections.{dimension_in}
+use Rattle.tsp_text.specs.Earlier.{has_line, spatial_after, dimension_in}
 use Rattle.tsp_text.specs.FaultRows.{row_of}
-use Rattle.tsp_text.specs.Opening.{opening_rows}
-use Rattle.tsp_text.specs.Spells.{fields_by}
+use Rattle.tsp_text.specs.Spells.{opening_rows, fields_by}
 
 -- what holds of each section holds of every field that is one
 -- plan: by the field: each section is a premise, and a keyword is none

@@ -1,38 +1,164 @@
--- A settled fault stays the fault of every longer text, and a settled end line its end. tsp_read imports it too. For
--- the laws `settled_ends_stay` and `settled_faults_stay` in src/settled.rt.
-use Rattle.std.proofs.Common.{◌≡◌, ℕ, ◌+◌, ◌-◌, Bool, true, false, cond, List, [], ◌∷◌, ◌++◌, length, reverse, refl, sym, ap, subst, ◌∙◌, arith, inl, inr, Option, Some, None, Err, append_assoc}
-use Rattle.std.specs.Prelude.{◌&&◌, ◌||◌, not, nat_lt, codes, ℤ, pos, negsuc, neg_ℤ, if◌then◌else◌}
-use Rattle.std.specs.Option.{option_or, option_map}
+-- Items without a fault, and one more to which no row of the table of faults applies, have no fault. tsp_read imports
+-- it too. For `Reading::known` in src/reading.rt of tsp_read and others.
+use Rattle.std.proofs.Common.{◌≡◌, List, ◌∷◌, None, ap, ◌∙◌, [], ◌++◌, refl, sym, Option, Some, ◌≢◌, ℕ, Bool, true, false, Result, Ok, Err, ◌+◌, ◌-◌, cond, length, reverse, subst, arith, inl, inr, append_assoc}
 use Rattle.std.proofs.Math.ListN.{take}
 use Rattle.std.proofs.Math.Seq.{take-append-add}
 use Rattle.std.proofs.lemmas.Bool.{true≢false, false≢true, ltb-true, ltb-false, lt-leb}
 use Rattle.std.proofs.lemmas.List.{append-nil, reverse-append, take_all, take-append-le}
 use Rattle.std.proofs.lemmas.List.Folds.{list_any-append}
-use Rattle.std.proofs.lemmas.Option.{none-some}
+use Rattle.std.proofs.lemmas.Option.{none-some, same_Some}
 use Rattle.std.proofs.lemmas.Slice.Eq.{bytes_eq-Decides}
+use Rattle.std.specs.Option.{option_or, option_map}
+use Rattle.std.specs.Prelude.{◌&&◌, ◌||◌, not, nat_lt, codes, ℤ, pos, negsuc, neg_ℤ, if◌then◌else◌}
+use Rattle.tsp_number.specs.NumberWord.{numeral_in, whole_from, whole_of, decimal_from, decimal_of}
 use Rattle.tsp_number.specs.declared.word.NumberFault.TheVariants.{LongWord}
-use Rattle.tsp_number.specs.Scan.{numeral_in}
-use Rattle.tsp_number.specs.Reading.{whole_from, whole_of, decimal_from, decimal_of}
-use Rattle.tsp_format.specs.declared.keyword.Field.{Field}
 use Rattle.tsp_format.specs.Limits.{most_word_bytes, most_weight, most_nodes, most_combs, most_file_bytes}
+use Rattle.tsp_format.specs.declared.keyword.Field.{Field}
+use Rattle.tsp_file.specs.Fields.{Fields}
+use Rattle.tsp_file.specs.declared.rules.EndFault.{EndFault}
+use Rattle.tsp_text.proofs.SettledItems.{AreLong, Stay, longer, items_stay, items_settled}
+use Rattle.tsp_text.proofs.ValidRows.{clean_parts, rows_of_word, long_line}
+use Rattle.tsp_text.specs.Earlier.{open_section, words_of, spatial_after, place_in, dimension_in}
+use Rattle.tsp_text.specs.FaultRows.{row_of, when, first_row, word_fault}
+use Rattle.tsp_text.specs.Items.{Item, Line, NumberWord, LineEnd, items_of, settled_items, is_end_line, has_end_line, to_end_line}
+use Rattle.tsp_text.specs.SectionWords.{is_minus_one, Place, NodeAfter, Coordinate, Amount, PastGroups, DepotAfter, FirstAfter, SecondOf, PastEnd, Weight, PastWeights, TourNode, SetNode, StepAfter, IndexAfter}
+use Rattle.tsp_text.specs.Spells.{fault_here, IsClean, fault_in, IsFirstFault, NoneHasRow, spelled, fault_at_end, part, fault, Spells, IsAnswer, HasOneAnswer, is_of_text, is_too_long, settled_part, settled_fault}
 use Rattle.tsp_text.specs.declared.fault.LineFault.{LineFault}
 use Rattle.tsp_text.specs.declared.fault.LineFault.TheVariants as row
 use Rattle.tsp_text.specs.declared.fault.ReadFault.{ReadFault}
 use Rattle.tsp_text.specs.declared.fault.ReadFault.TheVariants as faults
-use Rattle.tsp_text.specs.SectionNumbers.{is_minus_one}
-use Rattle.tsp_text.specs.Items.{Item, Line, NumberWord, LineEnd, items_of, settled_items, is_end_line, has_end_line, to_end_line}
-use Rattle.tsp_text.specs.Earlier.{open_section, words_of}
-use Rattle.tsp_text.specs.WordPlaces.{Place, NodeAfter, Coordinate, Amount, PastGroups, DepotAfter, FirstAfter, SecondOf, PastEnd, Weight, PastWeights, TourNode, SetNode, StepAfter, IndexAfter}
-use Rattle.tsp_text.specs.Values.{spatial_after}
-use Rattle.tsp_text.specs.Sections.{place_in, dimension_in}
-use Rattle.tsp_text.specs.FaultRows.{when, first_row, row_of, word_fault}
-use Rattle.tsp_text.specs.FirstFault.{fault_here, fault_in, IsClean}
-use Rattle.tsp_text.specs.Spells.{fault_at_end}
-use Rattle.tsp_text.specs.Text.{is_too_long, part, fault, settled_part, settled_fault}
-use Rattle.tsp_text.proofs.ItemRows.{word_rows, long_line}
-use Rattle.tsp_text.proofs.FirstFaults.{fault_stays}
-use Rattle.tsp_text.proofs.ValidRows.{clean_parts}
-use Rattle.tsp_text.proofs.SettledItems.{AreLong, Stay, longer, items_stay, items_settled}
+
+pub clean_more : (earlier : List Item) (item : Item) → IsClean earlier → row_of earlier item ≡ None → IsClean (item ∷ earlier)
+clean_more earlier item clean row =
+    ap (λ found. option_or found (option_map (fault_here earlier item) (row_of earlier item))) clean
+    ∙ ap (λ found. option_map (fault_here earlier item) found) row
+
+-- ---- the first fault of items is that of the first item to which a row applies
+
+-- an item with a row, where there was no fault
+pub found_here : (earlier : List Item) (item : Item) (fault : LineFault) → IsClean earlier → row_of earlier item ≡ Some fault
+    → fault_in (item ∷ earlier) ≡ Some (fault_here earlier item fault)
+found_here earlier item fault clean row =
+    ap (λ found. option_or found (option_map (fault_here earlier item) (row_of earlier item))) clean
+    ∙ ap (λ found. option_map (fault_here earlier item) found) row
+
+-- a fault stays the first, whatever follows
+pub fault_stays : (later earlier : List Item) (found : ReadFault) → fault_in earlier ≡ Some found
+    → fault_in (later ++ earlier) ≡ Some found
+fault_stays [] earlier found e = e
+fault_stays (item ∷ later) earlier found e =
+    ap (λ o. option_or o (option_map (fault_here (later ++ earlier) item) (row_of (later ++ earlier) item))) (fault_stays later earlier found e)
+
+pub first_found : (items : List Item) (found : ReadFault) → IsFirstFault items found → fault_in items ≡ Some found
+first_found items found h =
+    ap fault_in h.parts
+    ∙ fault_stays h.later (h.item ∷ h.earlier) found (found_here h.earlier h.item h.fault h.clean h.row ∙ ap (λ x. Some x) (sym h.here))
+
+-- plan: by whether an earlier item has a fault, which is the first then; else the row of this item decides
+first_step : (item : Item) (earlier : List Item) (found : ReadFault) (before : Option ReadFault) (row : Option LineFault)
+    → fault_in earlier ≡ before → row_of earlier item ≡ row
+    → ((other : ReadFault) → fault_in earlier ≡ Some other → IsFirstFault earlier other)
+    → option_or before (option_map (fault_here earlier item) row) ≡ Some found → IsFirstFault (item ∷ earlier) found
+first_step item earlier found (Some other) row e f before_is h =
+    let first = before_is other e in
+    record {
+      later = item ∷ first.later;
+      item = first.item;
+      earlier = first.earlier;
+      fault = first.fault;
+      parts = ap (λ (xs : List Item). item ∷ xs) first.parts;
+      clean = first.clean;
+      row = first.row;
+      here = sym (same_Some other found h) ∙ first.here;
+    }
+first_step item earlier found None (Some fault) e f before_is h = record {
+  later = [];
+  item = item;
+  earlier = earlier;
+  fault = fault;
+  parts = refl;
+  clean = e;
+  row = f;
+  here = sym (same_Some (fault_here earlier item fault) found h);
+}
+first_step item earlier found None None e f before_is h = absurd (none-some found h)
+
+pub found_first : (items : List Item) (found : ReadFault) → fault_in items ≡ Some found → IsFirstFault items found
+found_first [] found e = absurd (none-some found e)
+found_first (item ∷ earlier) found e =
+    first_step item earlier found (fault_in earlier) (row_of earlier item) refl refl (λ other h. found_first earlier other h) e
+
+-- ---- without a fault
+
+clean_before : (later earlier : List Item) → IsClean (later ++ earlier) → IsClean earlier
+clean_before [] earlier clean = clean
+clean_before (item ∷ later) earlier clean = clean_before later earlier (clean_parts (later ++ earlier) item clean).0
+
+pub none_has_row : (items : List Item) → IsClean items → NoneHasRow items
+none_has_row items clean later item earlier parts =
+    (clean_parts earlier item (clean_before later (item ∷ earlier) (ap fault_in (sym parts) ∙ clean))).1
+
+pub clean_items : (items : List Item) → NoneHasRow items → IsClean items
+clean_items [] none = refl
+clean_items (item ∷ items) none =
+    clean_more items item
+    (clean_items items (λ later other earlier parts. none (item ∷ later) other earlier (ap (λ (xs : List Item). item ∷ xs) parts)))
+    (none [] item items refl)
+
+-- ---- every text has exactly one answer
+
+only_file : (bytes : List ℕ) (other : Result Fields ReadFault) → fault bytes ≡ None → IsAnswer bytes other
+    → other ≡ Ok (spelled (part bytes))
+only_file bytes (Ok file) none h = ap (λ f. Ok f) h.fields
+only_file bytes (Err found) none h = absurd (none-some found (sym none ∙ h))
+
+only_fault : (bytes : List ℕ) (found : ReadFault) (other : Result Fields ReadFault) → fault bytes ≡ Some found
+    → IsAnswer bytes other → other ≡ Err found
+only_fault bytes found (Ok file) e h = absurd (none-some found (sym h.no_fault ∙ e))
+only_fault bytes found (Err other) e h = ap (λ f. Err f) (same_Some other found (sym h ∙ e))
+
+answer_of : (bytes : List ℕ) (found : Option ReadFault) → fault bytes ≡ found → HasOneAnswer bytes
+answer_of bytes None e = (Ok (spelled (part bytes)), record { no_fault = e; fields = refl }, λ other h. only_file bytes other e h)
+answer_of bytes (Some found) e = (Err found, e, λ other h. only_fault bytes found other e h)
+
+pub one_answer : (bytes : List ℕ) → HasOneAnswer bytes
+one_answer bytes = answer_of bytes (fault bytes) refl
+
+pub never_both : (bytes : List ℕ) (file : Fields) (found : ReadFault) → Spells bytes file → fault bytes ≢ Some found
+never_both bytes file found spells e = none-some found (sym spells.no_fault ∙ e)
+
+pub one_file : (bytes : List ℕ) (file other : Fields) → Spells bytes file → Spells bytes other → file ≡ other
+one_file bytes file other spells also = spells.fields ∙ sym also.fields
+
+-- ---- the fault lies in the text
+
+item_fault : (item : Item) (earlier : List Item) (found : ReadFault) (before : Option ReadFault) (row : Option LineFault)
+    → ((other : ReadFault) → before ≡ Some other → is_of_text other ≡ true)
+    → option_or before (option_map (fault_here earlier item) row) ≡ Some found → is_of_text found ≡ true
+item_fault item earlier found (Some other) row before_is e = before_is found e
+item_fault item earlier found None (Some fault) before_is e =
+    ap is_of_text (sym (same_Some (fault_here earlier item fault) found e))
+item_fault item earlier found None None before_is e = absurd (none-some found e)
+
+items_fault : (items : List Item) (found : ReadFault) → fault_in items ≡ Some found → is_of_text found ≡ true
+items_fault [] found e = absurd (none-some found e)
+items_fault (item ∷ earlier) found e =
+    item_fault item earlier found (fault_in earlier) (row_of earlier item) (λ other h. items_fault earlier other h) e
+
+rows_fault : (found : ReadFault) (before : Option ReadFault) (long : Bool) (ended : Option EndFault)
+    → ((other : ReadFault) → before ≡ Some other → is_of_text other ≡ true)
+    → first_row (before ∷ when long faults.TooLong ∷ option_map (λ fault. faults.End fault) ended ∷ []) ≡ Some found
+    → is_of_text found ≡ true
+rows_fault found (Some other) long ended before_is e = before_is found e
+rows_fault found None true ended before_is e = ap is_of_text (sym (same_Some faults.TooLong found e))
+rows_fault found None false (Some fault) before_is e = ap is_of_text (sym (same_Some (faults.End fault) found e))
+rows_fault found None false None before_is e = absurd (none-some found e)
+
+pub fault_of_text : (bytes : List ℕ) (found : ReadFault) → fault bytes ≡ Some found → is_of_text found ≡ true
+fault_of_text bytes found e =
+    rows_fault found (fault_in (part bytes)) _ (fault_at_end (part bytes)) (λ other h. items_fault (part bytes) other h) e
+
+-- ---- a settled fault stays the fault of every longer text, and a settled end line its end
 
 -- ---- a word that is too long has the same row whatever its bytes are
 

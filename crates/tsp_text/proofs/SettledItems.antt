@@ -1,14 +1,47 @@
--- The settled items of a text are those of every longer one, but for a last one that is too long, which may go on. For
--- the laws `settled_ends_stay` and `settled_faults_stay` in src/settled.rt.
-use Rattle.std.proofs.Common.{◌≡◌, ℕ, Bool, true, false, cond, List, [], ◌∷◌, ◌++◌, length, map, refl, sym, ap, subst, ◌∙◌, arith, inl, inr, length-append}
-use Rattle.std.specs.Prelude.{◌⊎◌, nat_lt}
-use Rattle.std.specs.List.{filter, slice_split, onto_first}
+-- A text without the blanks at its start and at its end, one byte at a time. tsp_read imports it too. For `without_end`
+-- in src/line.rt of tsp_read.
+use Rattle.std.proofs.Common.{◌≡◌, ℕ, suc, ◌+◌, true, false, cond, List, [], ◌∷◌, ◌++◌, length, drop, reverse, sym, ap, ◌∙◌, arith, Bool, map, refl, subst, inl, inr, length-append}
 use Rattle.std.proofs.lemmas.Bool.{false≢true, ltb-true, lt-ltb}
-use Rattle.tsp_format.specs.Bytes.{is_blank, is_letter}
+use Rattle.std.proofs.lemmas.List.{nil_from_length, reverse-append, reverse-reverse}
+use Rattle.std.specs.List.{prefix_len, filter, slice_split, onto_first}
+use Rattle.std.specs.Prelude.{◌⊎◌, nat_lt}
 use Rattle.tsp_format.specs.Limits.{most_word_bytes, most_line_bytes}
-use Rattle.tsp_text.specs.Lines.{ends_line, lines_of, words_in, is_not_empty, without_start, begins}
-use Rattle.tsp_text.proofs.NoBlanks.{start_blank, start_filled}
-use Rattle.tsp_text.specs.Items.{Item, Line, NumberWord, LineEnd, line_item, items_in, items_by, items_of, settled_pieces, settled_words, settled_line, settled_in, settled_items}
+use Rattle.tsp_format.specs.Words.{is_blank, is_letter}
+use Rattle.tsp_text.specs.Items.{without_start, without_end, ends_line, lines_of, words_in, is_not_empty, begins, Item, Line, NumberWord, LineEnd, line_item, items_in, items_by, items_of, settled_pieces, settled_words, settled_line, settled_in, settled_items}
+
+-- ---- at the start
+
+one_more : (n : ℕ) → 1 + n ≡ suc n
+one_more n = omega arith
+
+pub start_blank : (b : ℕ) (bytes : List ℕ) → is_blank b ≡ true → without_start (b ∷ bytes) ≡ without_start bytes
+start_blank b bytes e =
+    ap (λ c. drop (cond c (1 + prefix_len is_blank bytes) 0) (b ∷ bytes)) e
+    ∙ ap (λ n. drop n (b ∷ bytes)) (one_more (prefix_len is_blank bytes))
+
+pub start_filled : (b : ℕ) (bytes : List ℕ) → is_blank b ≡ false → without_start (b ∷ bytes) ≡ b ∷ bytes
+start_filled b bytes e = ap (λ c. drop (cond c (1 + prefix_len is_blank bytes) 0) (b ∷ bytes)) e
+
+-- ---- at the end
+
+reversed : (front : List ℕ) (last : ℕ) → reverse (front ++ last ∷ []) ≡ last ∷ reverse front
+reversed front last = reverse-append front (last ∷ [])
+
+pub end_blank : (text front : List ℕ) (last : ℕ) → text ≡ front ++ last ∷ [] → is_blank last ≡ true
+    → without_end front ≡ without_end text
+end_blank text front last parts e =
+    sym (ap without_end parts ∙ ap (λ xs. reverse (without_start xs)) (reversed front last) ∙ ap reverse (start_blank last (reverse front) e))
+
+pub end_filled : (text front : List ℕ) (last : ℕ) → text ≡ front ++ last ∷ [] → is_blank last ≡ false → text ≡ without_end text
+end_filled text front last parts e =
+    sym (ap (λ xs. reverse (without_start xs)) (ap reverse parts ∙ reversed front last)
+    ∙ ap reverse (start_filled last (reverse front) e ∙ sym (ap reverse parts ∙ reversed front last))
+    ∙ reverse-reverse text)
+
+pub end_none : (text : List ℕ) → length text ≡ 0 → text ≡ without_end text
+end_none text short = let none = nil_from_length text short in none ∙ sym (ap without_end none)
+
+-- ---- the settled items of a text are those of every longer one, but for a last one that is
 
 -- ---- parts of a list that goes on
 

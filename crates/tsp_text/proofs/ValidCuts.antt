@@ -1,21 +1,267 @@
--- The items of a text are cut from it: keywords begin with a letter, and values have no byte 10 and no blank at either
--- end. For the law `clean_fields_are_valid` in src/validity.rt.
-use Rattle.std.proofs.Common.{◌≡◌, ℕ, suc, zero, ◌+◌, ◌-◌, Bool, true, false, cond, List, [], ◌∷◌, ◌++◌, length, get_or, map, reverse, refl, sym, ap, subst, ◌∙◌, arith}
-use Rattle.std.specs.Prelude.{not, ◌&&◌, ◌||◌, nat_lt, slice_index}
-use Rattle.std.specs.List.{list_all, prefix_len, take_while}
+-- The tours of a section without a fault: none is empty, each node is one that some file can have, and they are few
+-- enough. For the laws `clean_fields_are_valid` and `spelled_files_are_valid` in src/validity.rt.
+use Rattle.std.proofs.Common.{◌≡◌, ℕ, suc, ◌+◌, Bool, true, false, cond, List, [], ◌∷◌, ◌++◌, length, map, refl, sym, ap, ◌∙◌, arith, None, ◌<◌, ◌≤◌, subst, zero, ◌-◌, get_or, reverse}
 use Rattle.std.proofs.Math.ListN.{take, drop}
-use Rattle.std.proofs.lemmas.Bool.{false≢true, and_from, and_parts}
+use Rattle.std.proofs.lemmas.Bool.{and_from, and_parts, le-leb, leb-false, true≢false, false≢true}
 use Rattle.std.proofs.lemmas.Bool.Decides.{nat_tests}
-use Rattle.std.proofs.lemmas.List.{reverse-append, reverse-reverse, take-append-drop, length_push, get_or_push}
-use Rattle.std.proofs.lemmas.List.Folds.{list_all-append}
-use Rattle.tsp_format.specs.Bytes.{is_blank, is_letter, is_keyword_byte}
-use Rattle.tsp_format.specs.Limits.{most_line_bytes, most_file_bytes}
-use Rattle.tsp_text.specs.Lines.{ends_line, lines_of, words_in, without_start, without_end, begins, is_word_line, keyword_in, after_keyword, has_colon, value_in}
-use Rattle.tsp_text.specs.Items.{Item, NumberWord, LineEnd, line_item, items_in, items_by, items_of, settled_words, settled_in, settled_items, is_end_line, to_end_line}
-use Rattle.tsp_text.specs.Cuts.{has_no_line_end, IsCut, AreCut}
-use Rattle.tsp_text.specs.Text.{part, is_too_long}
-use Rattle.tsp_text.proofs.ValidNumbers.{all_pass}
-use Rattle.tsp_text.proofs.ValidTours.{pieces_pass}
+use Rattle.std.proofs.lemmas.List.{length-map, length_push, append-nil, reverse-append, reverse-reverse, take-append-drop, get_or_push}
+use Rattle.std.proofs.lemmas.List.Elements.{filter-append}
+use Rattle.std.proofs.lemmas.List.Folds.{list_all-append, list_all-map}
+use Rattle.std.proofs.lemmas.List.Sums.{sum_by-cons, fold-append, sum_by_push}
+use Rattle.std.specs.List.{list_all, filter, slice_split, onto_first, sum_by, prefix_len, take_while}
+use Rattle.std.specs.Prelude.{not, ◌&&◌, ◌||◌, nat_le, nat_abs, nat_lt, slice_index}
+use Rattle.tsp_format.specs.Limits.{most_nodes, most_tour_nodes, most_combs, most_comb_nodes, most_line_bytes, most_file_bytes}
+use Rattle.tsp_format.specs.Words.{is_blank, is_letter, is_keyword_byte}
+use Rattle.tsp_format.specs.declared.keyword.Field.TheVariants.{TourPart, CombPart}
+use Rattle.tsp_file.specs.Validity.{is_node, is_node_list, are_tours, is_set_of, are_sets, are_combs}
+use Rattle.tsp_text.proofs.ValidKeywords.{read_listed, first_of_both, all_pass}
+use Rattle.tsp_text.proofs.ValidRows.{is_taken, Grows, grown}
+use Rattle.tsp_text.specs.Earlier.{words_of, dimension_in}
+use Rattle.tsp_text.specs.FaultRows.{word_fault, is_past_combs}
+use Rattle.tsp_text.specs.Groups.{CombsSoFar, no_combs, comb_node, with_end, with_comb_word, combs_after, whole_combs, has_begun_comb, place_in_combs}
+use Rattle.tsp_text.specs.Items.{is_not_empty, Item, ends_line, lines_of, words_in, without_start, without_end, begins, is_word_line, keyword_in, after_keyword, has_colon, value_in, NumberWord, LineEnd, line_item, items_in, items_by, items_of, settled_words, settled_in, settled_items, is_end_line, to_end_line, has_no_line_end, IsCut, AreCut}
+use Rattle.tsp_text.specs.SectionWords.{number, TourNode, ends_tour, tour_node, tours_in, is_end, SetNode, PastEnd}
+use Rattle.tsp_text.specs.Spells.{IsClean, part, is_too_long}
+
+-- ---- pieces of a list
+
+onto_passes : {A : Type 0} (good : A → Bool) (x : A) (pieces : List (List A)) → good x ≡ true
+    → list_all (list_all good) pieces ≡ true → list_all (list_all good) (onto_first x pieces) ≡ true
+onto_passes good x [] here all = and_from (good x && true) true (and_from (good x) true here refl) refl
+onto_passes good x (piece ∷ pieces) here all =
+    let both = and_parts (list_all good piece) (list_all (list_all good) pieces) all in
+    and_from (good x && list_all good piece) (list_all (list_all good) pieces) (and_from (good x) (list_all good piece) here both.0) both.1
+
+-- what passes or ends a piece passes in its piece
+pub pieces_pass : {A : Type 0} (test good : A → Bool) (xs : List A) → list_all (λ x. test x || good x) xs ≡ true
+    → list_all (list_all good) (slice_split test xs) ≡ true
+pieces_pass test good [] all = refl
+pieces_pass test good (x ∷ xs) all =
+    let both = and_parts (test x || good x) (list_all (λ x. test x || good x) xs) all in
+    by_case (test x) both.0 (pieces_pass test good xs both.1)
+  where
+    by_case : (b : Bool) → (b || good x) ≡ true → list_all (list_all good) (slice_split test xs) ≡ true
+        → list_all (list_all good) (cond b ([] ∷ slice_split test xs) (onto_first x (slice_split test xs))) ≡ true
+    by_case true here later = later
+    by_case false here later = onto_passes good x (slice_split test xs) here later
+
+onto_longer : {A : Type 0} (x : A) (pieces : List (List A)) → sum_by length (onto_first x pieces) ≡ suc (sum_by length pieces)
+onto_longer x [] = refl
+onto_longer {A} x (piece ∷ pieces) =
+    omega (arith, sum_by-cons (λ (p : List A). length p) (x ∷ piece) pieces, sum_by-cons (λ (p : List A). length p) piece pieces)
+
+-- the pieces together have all that doesn't end one
+pieces_long : {A : Type 0} (test : A → Bool) (xs : List A)
+    → sum_by length (slice_split test xs) ≡ length (filter (λ x. not (test x)) xs)
+pieces_long test [] = refl
+pieces_long {A} test (x ∷ xs) = by_case (test x) (pieces_long test xs)
+  where
+    by_case : (b : Bool) → sum_by length (slice_split test xs) ≡ length (filter (λ x. not (test x)) xs)
+        → sum_by length (cond b ([] ∷ slice_split test xs) (onto_first x (slice_split test xs))) ≡ length (cond (not b) (x ∷ filter (λ x. not (test x)) xs) (filter (λ x. not (test x)) xs))
+    by_case true later = omega (arith, sum_by-cons (λ (p : List A). length p) [] (slice_split test xs))
+    by_case false later = onto_longer x (slice_split test xs) ∙ ap (λ k. suc k) later
+
+-- ---- runs of nodes
+
+-- a word that is a node that some file can have
+abbrev is_tour_node : List ℕ → Bool
+is_tour_node word = is_node most_nodes (tour_node word)
+
+filled_runs : (pieces : List (List (List ℕ))) → list_all (list_all is_tour_node) pieces ≡ true
+    → list_all is_node_list (map (map tour_node) (filter is_not_empty pieces)) ≡ true
+filled_runs [] all = refl
+filled_runs ([] ∷ pieces) all = filled_runs pieces all
+filled_runs ((word ∷ words) ∷ pieces) all =
+    let both = and_parts (is_tour_node word && list_all is_tour_node words) (list_all (list_all is_tour_node) pieces) all in
+    let here : is_node_list (map tour_node (word ∷ words)) ≡ true =
+    and_from (nat_le 1 (suc (length (map tour_node words)))) (list_all (is_node most_nodes) (map tour_node (word ∷ words))) (le-leb 1 (suc (length (map tour_node words))) (omega arith))
+    (list_all-map (is_node most_nodes) tour_node (word ∷ words) ∙ both.0) in
+    and_from (is_node_list (map tour_node (word ∷ words))) (list_all is_node_list (map (map tour_node) (filter is_not_empty pieces))) here (filled_runs pieces both.1)
+
+runs_long : (pieces : List (List (List ℕ))) → sum_by length (map (map tour_node) (filter is_not_empty pieces)) ≡ sum_by length pieces
+runs_long [] = refl
+runs_long ([] ∷ pieces) = omega (arith, runs_long pieces, sum_by-cons (λ (p : List (List ℕ)). length p) [] pieces)
+runs_long ((word ∷ words) ∷ pieces) =
+    sum_by-cons (λ (p : List ℕ). length p) (map tour_node (word ∷ words)) (map (map tour_node) (filter is_not_empty pieces))
+    ∙ ap (λ k. k + sum_by length (map (map tour_node) (filter is_not_empty pieces))) (length-map (word ∷ words) tour_node)
+    ∙ ap (λ k. length (word ∷ words) + k) (runs_long pieces)
+    ∙ sym (sum_by-cons (λ (p : List (List ℕ)). length p) (word ∷ words) pieces)
+
+-- ---- the words as they come
+
+pub record AreTourWords (words : List (List ℕ)) : Type 0 where
+  pub nodes : list_all (λ word. ends_tour word || is_tour_node word) words ≡ true
+  pub few : nat_le (length (filter (λ word. not (ends_tour word)) words)) most_tour_nodes ≡ true
+
+-- plan: by whether the word ends a tour; else it is a node, and one more of them is within the limit (`read_listed`)
+taken : (words : List (List ℕ)) (word : List ℕ) (end : Bool) → ends_tour word ≡ end
+    → word_fault 0 (TourNode (length (filter (λ word. not (ends_tour word)) words))) word ≡ None
+    → AreTourWords words → AreTourWords (words ++ word ∷ [])
+taken words word true is row held = record {
+  nodes = list_all-append (λ w. ends_tour w || is_tour_node w) words (word ∷ [])
+      ∙ and_from (list_all (λ w. ends_tour w || is_tour_node w) words) ((ends_tour word || is_tour_node word) && true) held.nodes (ap (λ b. (b || is_tour_node word) && true) is);
+  few =
+      let same : filter (λ w. not (ends_tour w)) (words ++ word ∷ []) ≡ filter (λ w. not (ends_tour w)) words =
+      filter-append (λ w. not (ends_tour w)) words (word ∷ []) ∙ ap (λ b. filter (λ w. not (ends_tour w)) words ++ cond (not b) (word ∷ []) []) is
+      ∙ append-nil (filter (λ w. not (ends_tour w)) words) in
+      ap (λ (ws : List (List ℕ)). nat_le (length ws) most_tour_nodes) same ∙ held.few;
+}
+taken words word false is row held =
+    let count = length (filter (λ w. not (ends_tour w)) words) in
+    let t = is_taken 0 (TourNode count) word row in
+    let found = read_listed most_nodes word t.is_read is in
+    let node : is_tour_node word ≡ true = ap (λ r. is_node most_nodes (nat_abs (number r))) found.1 ∙ found.2 in
+    let room : nat_le most_tour_nodes count ≡ false = first_of_both (nat_le most_tour_nodes count) (ends_tour word) t.has_room is in
+    let more : filter (λ w. not (ends_tour w)) (words ++ word ∷ []) ≡ filter (λ w. not (ends_tour w)) words ++ word ∷ [] =
+    filter-append (λ w. not (ends_tour w)) words (word ∷ []) ∙ ap (λ b. filter (λ w. not (ends_tour w)) words ++ cond (not b) (word ∷ []) []) is in
+    record {
+      nodes = list_all-append (λ w. ends_tour w || is_tour_node w) words (word ∷ [])
+          ∙ and_from (list_all (λ w. ends_tour w || is_tour_node w) words) ((ends_tour word || is_tour_node word) && true) held.nodes
+          (and_from (ends_tour word || is_tour_node word) true (ap (λ b. b || is_tour_node word) is ∙ node) refl);
+      few = ap (λ (ws : List (List ℕ)). nat_le (length ws) most_tour_nodes) more
+          ∙ le-leb (length (filter (λ w. not (ends_tour w)) words ++ word ∷ [])) most_tour_nodes
+          (omega (arith, length_push (filter (λ w. not (ends_tour w)) words) word, leb-false most_tour_nodes count room));
+    }
+
+all_taken : Grows false TourPart (λ n words. AreTourWords words)
+all_taken = record {
+  none = λ n. record { nodes = refl; few = refl };
+  more = λ b same n words word held row. taken words word (ends_tour word) refl row held;
+  any_nodes = λ n m words tours held. held;
+}
+
+pub tours_fit : (items : List Item) → IsClean items → are_tours (tours_in (words_of TourPart items)) ≡ true
+tours_fit items clean =
+    let words = words_of TourPart items in
+    let held : AreTourWords words = grown TourPart (λ n words. AreTourWords words) refl all_taken items clean in
+    let pieces = slice_split ends_tour words in
+    and_from (list_all is_node_list (tours_in words)) (nat_le (sum_by length (tours_in words)) most_tour_nodes)
+    (filled_runs pieces (pieces_pass ends_tour is_tour_node words held.nodes))
+    (ap (λ k. nat_le k most_tour_nodes) (runs_long pieces ∙ pieces_long ends_tour words) ∙ held.few)
+
+-- ---- the combs of a section without a fault: no more than may be, each of sets of nodes
+
+-- whole combs, and the sets and nodes of one that has begun, are valid, with the comb within the limit
+pub record CombsHold (n : ℕ) (combs : List (List (List ℕ))) (sets : List (List ℕ)) (nodes : List ℕ) (count : ℕ) : Type 0 where
+  pub all_combs : list_all (are_sets n) combs ≡ true
+  pub all_sets : list_all (is_set_of n) sets ≡ true
+  pub all_nodes : list_all (is_node n) nodes ≡ true
+  pub few : length combs ≤ most_combs
+  pub room : (is_not_empty nodes || is_not_empty sets) ≡ true → length combs < most_combs
+  pub total : sum_by (sum_by length) combs + sum_by length sets + length nodes ≡ count
+  pub few_nodes : count ≤ most_comb_nodes
+
+abbrev AreSoFar : ℕ → CombsSoFar → Type 0
+AreSoFar n s = CombsHold n s.combs s.sets s.nodes s.count
+
+all_push : {A : Type 0} (test : A → Bool) (xs : List A) (x : A) → list_all test xs ≡ true → test x ≡ true
+    → list_all test (xs ++ x ∷ []) ≡ true
+all_push test xs x held passes =
+    list_all-append test xs (x ∷ []) ∙ and_from (list_all test xs) (test x && true) held (and_from (test x) true passes refl)
+
+-- ---- a -1
+
+end_holds : (n : ℕ) (combs : List (List (List ℕ))) (sets : List (List ℕ)) (nodes : List ℕ) (count : ℕ)
+    → CombsHold n combs sets nodes count
+    → AreSoFar n (with_end (record { combs = combs; sets = sets; nodes = nodes; count = count; ended = false }))
+end_holds n combs sets (k ∷ nodes) count h = record {
+  all_combs = h.all_combs;
+  all_sets = all_push (is_set_of n) sets (k ∷ nodes) h.all_sets
+      (and_from (nat_le 1 (length (k ∷ nodes))) (list_all (is_node n) (k ∷ nodes)) (le-leb 1 (length (k ∷ nodes)) (omega arith)) h.all_nodes);
+  all_nodes = refl;
+  few = h.few;
+  room = λ begun. h.room refl;
+  total = omega (arith, h.total, sum_by_push (λ (set : List ℕ). length set) sets (k ∷ nodes));
+  few_nodes = h.few_nodes;
+}
+end_holds n combs (set ∷ sets) [] count h = record {
+  all_combs = all_push (are_sets n) combs (set ∷ sets) h.all_combs
+      (and_from (nat_le 1 (length (set ∷ sets))) (list_all (is_set_of n) (set ∷ sets)) (le-leb 1 (length (set ∷ sets)) (omega arith)) h.all_sets);
+  all_sets = refl;
+  all_nodes = refl;
+  few = omega (arith, h.room refl, length_push combs (set ∷ sets));
+  room = λ begun. absurd (false≢true begun);
+  total = omega (arith, h.total, sum_by_push (λ (comb : List (List ℕ)). sum_by length comb) combs (set ∷ sets));
+  few_nodes = h.few_nodes;
+}
+end_holds n combs [] [] count h = h
+
+-- ---- a node
+
+-- its comb is within the limit
+has_room : (begun : Bool) (combs count : ℕ) → is_past_combs begun combs count ≡ false → (begun ≡ true → combs < most_combs)
+    → (count < most_comb_nodes) × (combs < most_combs)
+has_room begun combs count room other = by_count (nat_le most_comb_nodes count) refl room
+  where
+    by_begun : (b over : Bool) → begun ≡ b → nat_le most_combs combs ≡ over → (not b && over) ≡ false → combs < most_combs
+    by_begun true over is e none = other is
+    by_begun false true is e none = absurd (true≢false none)
+    by_begun false false is e none = leb-false most_combs combs e
+
+    by_count : (over : Bool) → nat_le most_comb_nodes count ≡ over → (over || (not begun && nat_le most_combs combs)) ≡ false
+        → (count < most_comb_nodes) × (combs < most_combs)
+    by_count true e none = absurd (true≢false none)
+    by_count false e none = (leb-false most_comb_nodes count e, by_begun begun (nat_le most_combs combs) refl refl none)
+
+node_holds : (n : ℕ) (combs : List (List (List ℕ))) (sets : List (List ℕ)) (nodes : List ℕ) (count node : ℕ)
+    → CombsHold n combs sets nodes count
+    → is_node n node ≡ true → count < most_comb_nodes → length combs < most_combs
+    → CombsHold n combs sets (nodes ++ node ∷ []) (count + 1)
+node_holds n combs sets nodes count node h passes few room = record {
+  all_combs = h.all_combs;
+  all_sets = h.all_sets;
+  all_nodes = all_push (is_node n) nodes node h.all_nodes passes;
+  few = h.few;
+  room = λ begun. room;
+  total = omega (arith, h.total, length_push nodes node);
+  few_nodes = omega (arith, few);
+}
+
+-- ---- one word more
+
+word_holds : (n : ℕ) (s : CombsSoFar) (word : List ℕ) (ended end : Bool) → s.ended ≡ ended → is_end n word ≡ end
+    → word_fault n (place_in_combs s) word ≡ None
+    → AreSoFar n s → AreSoFar n (with_comb_word n s word)
+word_holds n s word true end e is row h = rw e h
+word_holds n s word false true e is row h = rw (e, is) (end_holds n s.combs s.sets s.nodes s.count h)
+word_holds n s word false false e is row h =
+    let begun = has_begun_comb s in
+    let place = SetNode begun (length s.combs) s.count in
+    let t = is_taken n place word (subst (λ (b : Bool). word_fault n (cond b PastEnd place) word ≡ None) e row) in
+    let found = read_listed n word t.is_read is in
+    let node : is_node n (comb_node n word) ≡ true = ap (λ r. is_node n (nat_abs (number r))) found.1 ∙ found.2 in
+    let past = first_of_both (is_past_combs begun (length s.combs) s.count) (is_end n word) t.has_room is in
+    let room = has_room begun (length s.combs) s.count past h.room in
+    rw (e, is) (node_holds n s.combs s.sets s.nodes s.count (comb_node n word) h node room.0 room.1)
+
+all_combs_taken : Grows false CombPart (λ n words. AreSoFar n (combs_after n words))
+all_combs_taken = record {
+  none = λ n. record {
+    all_combs = refl;
+    all_sets = refl;
+    all_nodes = refl;
+    few = omega arith;
+    room = λ begun. absurd (false≢true begun);
+    total = refl;
+    few_nodes = omega arith;
+  };
+  more = λ b same n words word held row.
+      let s = combs_after n words in
+      subst (AreSoFar n) (sym (fold-append (with_comb_word n) no_combs words (word ∷ []))) (word_holds n s word s.ended (is_end n word) refl refl row held);
+  any_nodes = λ n m words tours held. absurd (false≢true tours);
+}
+
+pub combs_fit : (items : List Item) → IsClean items
+    → are_combs (dimension_in items) (whole_combs (dimension_in items) (words_of CombPart items)) ≡ true
+combs_fit items clean =
+    let n = dimension_in items in
+    let combs = whole_combs n (words_of CombPart items) in
+    let h : AreSoFar n (combs_after n (words_of CombPart items)) = grown CombPart (λ n words. AreSoFar n (combs_after n words)) refl all_combs_taken items clean in
+    and_from (nat_le (length combs) most_combs && list_all (are_sets n) combs) (nat_le (sum_by (sum_by length) combs) most_comb_nodes)
+    (and_from (nat_le (length combs) most_combs) (list_all (are_sets n) combs) (le-leb (length combs) most_combs h.few) h.all_combs)
+    (le-leb (sum_by (sum_by length) combs) most_comb_nodes (omega (arith, h.total, h.few_nodes)))
+
+-- ---- the items of a text are cut from it: keywords begin with a letter
 
 -- ---- parts of a list all of which passes
 

@@ -1,50 +1,196 @@
--- The fields of cut items without a fault are valid, field by field; and with no fault at the end they are a file. For
--- the laws `spelled_files_are_valid` and `clean_fields_are_valid` in src/validity.rt.
-use Rattle.std.proofs.Common.{◌≡◌, ℕ, Bool, true, false, cond, List, [], ◌∷◌, refl, ap, ◌∙◌, Option, Some, None}
-use Rattle.std.specs.Prelude.{not, ◌&&◌, ◌||◌, pos, neg_ℤ}
-use Rattle.tsp_format.specs.declared.keyword.Field.{Field}
-use Rattle.tsp_format.specs.declared.keyword.Field.TheVariants.{NameKey, TypeKey, CommentKey, OtherKey, DimensionKey, CapacityKey, ScaleKey, LoadUnitKey, EdgeWeightTypeKey, EdgeWeightFormatKey, NodeCoordTypeKey, DisplayDataTypeKey, NodeCoordPart, DisplayDataPart, DemandPart, DepotPart, FixedEdgesPart, EdgeWeightPart, TourPart, NodePotentialPart, RowPotentialPart, ColumnPotentialPart, FixedEdgePotentialPart, CombPart, BranchPart}
-use Rattle.tsp_format.specs.Limits.{most_demand, most_potential}
-use Rattle.tsp_format.specs.Words.{fields_in_order}
+-- A section other than the tours comes after DIMENSION, and its value is judged with that number of nodes. For the laws
+-- `spelled_files_are_valid` and `clean_fields_are_valid` in src/validity.rt.
+use Rattle.std.proofs.Common.{◌≡◌, ℕ, Bool, true, false, cond, List, [], ◌∷◌, refl, sym, ap, subst, ◌∙◌, Option, Some, None, ◌++◌, length, arith, ◌*◌}
+use Rattle.std.proofs.lemmas.Bool.{false≢true, and_from, true≢false, le-leb, leb-false, ltb-false}
+use Rattle.std.proofs.lemmas.List.{length-map, length_push}
+use Rattle.std.proofs.lemmas.List.Folds.{list_all-map}
+use Rattle.std.specs.List.{list_any, list_all, find}
 use Rattle.std.specs.Option.{option_or, option_map}
-use Rattle.std.specs.List.{find, list_any}
-use Rattle.std.proofs.lemmas.Bool.{false≢true}
-use Rattle.tsp_file.specs.declared.rules.EndFault.{EndFault}
-use Rattle.tsp_file.specs.declared.rules.EndFault.TheVariants.{Missing, Incomplete}
-use Rattle.tsp_file.specs.declared.rules.DraftFault.TheVariants.{BadField, Rule}
+use Rattle.std.specs.Prelude.{pos, ◌&&◌, nat_le, nat_lt, neg_ℤ, not, ◌||◌}
+use Rattle.tsp_number.specs.NumberWord.{whole_of}
+use Rattle.tsp_format.specs.Limits.{is_section_field, most_multiplier, most_matrix_nodes, most_weight, most_demand, most_potential}
+use Rattle.tsp_format.specs.Words.{fields_in_order}
+use Rattle.tsp_format.specs.declared.keyword.Field.{Field}
+use Rattle.tsp_format.specs.declared.keyword.Field.TheVariants.{DimensionKey, TourPart, FixedEdgePotentialPart, EdgeWeightPart, NameKey, TypeKey, CommentKey, OtherKey, CapacityKey, ScaleKey, LoadUnitKey, EdgeWeightTypeKey, EdgeWeightFormatKey, NodeCoordTypeKey, DisplayDataTypeKey, NodeCoordPart, DisplayDataPart, DemandPart, DepotPart, FixedEdgesPart, NodePotentialPart, RowPotentialPart, ColumnPotentialPart, CombPart, BranchPart}
+use Rattle.tsp_format.specs.declared.keyword.Keyword.TheVariants.{Known, EdgeDataFormat, EdgeDataSection, Eof, Unknown}
+use Rattle.tsp_file.proofs.ValidFields.{nodes_fit}
 use Rattle.tsp_file.specs.Fields.{Fields}
 use Rattle.tsp_file.specs.Rules.{standing_of, is_there, asked_in_order, format_or_count, end_fault, fault_of}
-use Rattle.tsp_file.specs.Validity.{if_there, is_by_node, is_point, is_demand, is_within, are_depots, are_fixed, are_triples, fit_matrix, are_tours, are_combs, are_tree_steps, fits, first_failing, bad_field}
-use Rattle.tsp_text.specs.Items.{Item, has_end_line}
-use Rattle.tsp_text.specs.Earlier.{same_field, has_line, words_of}
-use Rattle.tsp_text.specs.Cuts.{AreCut}
-use Rattle.tsp_text.specs.Sections.{dimension_in}
-use Rattle.tsp_text.specs.Values.{spatial_after}
-use Rattle.tsp_text.specs.Groups.{points_by_node, coords_by_node}
-use Rattle.tsp_file.proofs.ValidFields.{nodes_fit}
-use Rattle.tsp_text.specs.Lists.{depots_in, fixed_in, fixed_triples_in}
-use Rattle.tsp_text.specs.WeightSection.{weights_in}
-use Rattle.tsp_text.specs.TourSection.{tours_in}
-use Rattle.tsp_text.specs.CombSection.{whole_combs}
-use Rattle.tsp_text.specs.BranchSection.{whole_steps, place_of_step}
-use Rattle.tsp_text.specs.FirstFault.{fault_in, IsClean}
-use Rattle.tsp_text.specs.declared.fault.ReadFault.TheVariants as faults
-use Rattle.tsp_text.specs.FaultRows.{when}
-use Rattle.tsp_text.specs.Spells.{potentials_by_node, demands_in, spelled, wants_more, is_incomplete, sections_in_order, first_incomplete, fault_at_end}
-use Rattle.tsp_text.specs.Text.{is_too_long, part, Spells}
-use Rattle.tsp_text.proofs.ValidRows.{none_applies, map_none}
-use Rattle.tsp_text.proofs.ValidCuts.{part_cut}
-use Rattle.tsp_text.proofs.ValidKeywords.{name_fits, comments_fit, others_fit, dimension_fits, capacity_fits, scale_fits, load_unit_fits}
-use Rattle.tsp_text.proofs.ValidNumbers.{numbers_fit, points_fit, coords_fit}
-use Rattle.tsp_text.proofs.ValidStanding.{section_fits}
-use Rattle.tsp_text.proofs.ValidWeights.{weights_fit}
-use Rattle.tsp_text.proofs.ValidDepots.{depots_fit}
-use Rattle.tsp_text.proofs.ValidFixed.{fixed_fit}
-use Rattle.tsp_text.proofs.ValidTriples.{triples_fit}
-use Rattle.tsp_text.proofs.ValidTours.{tours_fit}
-use Rattle.tsp_text.proofs.ValidCombs.{combs_fit}
+use Rattle.tsp_file.specs.Validity.{if_there, with_dimension, is_from_to, is_pair_of, is_triple_of, are_triples, is_within, fit_matrix, is_by_node, is_point, is_demand, are_depots, are_fixed, are_tours, are_combs, are_tree_steps, fits, first_failing, bad_field}
+use Rattle.tsp_file.specs.declared.rules.DraftFault.TheVariants.{BadField, Rule}
+use Rattle.tsp_file.specs.declared.rules.EndFault.{EndFault}
+use Rattle.tsp_file.specs.declared.rules.EndFault.TheVariants.{Missing, Incomplete}
+use Rattle.tsp_text.proofs.GroupWords.{Words, begun_short, AreListed, valid_pair, past_end, begins, middle, group_fits, fixed_fit}
+use Rattle.tsp_text.proofs.ValidCuts.{part_cut, tours_fit, combs_fit}
+use Rattle.tsp_text.proofs.ValidKeywords.{whole_passes, all_pass, name_fits, comments_fit, others_fit, dimension_fits, capacity_fits, scale_fits, load_unit_fits, numbers_fit, points_fit, coords_fit, depots_fit}
+use Rattle.tsp_text.proofs.ValidRows.{clean_parts, no_row, same_field_is, late, dimension_there, is_taken, Grows, grown, nodes_kept, none_applies, map_none}
 use Rattle.tsp_text.proofs.ValidTree.{steps_fit}
-use Rattle.tsp_text.proofs.ValidSections.{same_field_is}
+use Rattle.tsp_text.specs.Earlier.{same_field, has_line, words_of, dimension_of, dimension_in, spatial_after}
+use Rattle.tsp_text.specs.FaultRows.{is_early, word_fault, row_of, when}
+use Rattle.tsp_text.specs.Groups.{groups_in, begun_in, firsts_in, fixed_pair, fixed_triple, fixed_triples_in, place_in_triple, points_by_node, coords_by_node, depots_in, fixed_in, whole_combs}
+use Rattle.tsp_text.specs.Items.{WordLine, Item, Line, NumberWord, LineEnd, has_end_line, AreCut}
+use Rattle.tsp_text.specs.SectionWords.{number, node_or_end, is_end, SecondOf, PastEnd, whole_of_size, Weight, PastWeights, weights_in, tours_in, whole_steps, place_of_step}
+use Rattle.tsp_text.specs.Spells.{IsClean, section_value, stands, fault_in, potentials_by_node, demands_in, spelled, wants_more, is_incomplete, sections_in_order, first_incomplete, fault_at_end, is_too_long, part, Spells}
+use Rattle.tsp_text.specs.declared.fault.ReadFault.TheVariants as faults
+
+still : (key dimension : Bool) → dimension ≡ true → cond key true dimension ≡ true
+still true dimension e = refl
+still false dimension e = e
+
+late_line : (field f : Field) (line : WordLine) (earlier : List Item) (b : Bool) → same_field field f ≡ b
+    → is_section_field field ≡ true → same_field TourPart field ≡ false
+    → is_early earlier (Line (Known f) line) ≡ false → (has_line field earlier ≡ true → has_line DimensionKey earlier ≡ true)
+    → cond b true (has_line field earlier) ≡ true
+    → has_line DimensionKey (Line (Known f) line ∷ earlier) ≡ true
+late_line field f line earlier false e section_value other in_time before stands =
+    still (same_field DimensionKey f) (has_line DimensionKey earlier) (before stands)
+late_line field f line earlier true e section_value other in_time before stands =
+    let same = same_field_is field f e in
+    late (is_section_field f) (same_field TourPart f) (has_line DimensionKey earlier) (same_field DimensionKey f)
+    (ap is_section_field (sym same) ∙ section_value) (ap (same_field TourPart) (sym same) ∙ other) in_time
+
+stands_late : (field : Field) → is_section_field field ≡ true → same_field TourPart field ≡ false → (items : List Item)
+    → IsClean items
+    → has_line field items ≡ true → has_line DimensionKey items ≡ true
+stands_late field section_value other [] clean stands = absurd (false≢true stands)
+stands_late field section_value other (NumberWord word ∷ earlier) clean stands =
+    stands_late field section_value other earlier (clean_parts earlier (NumberWord word) clean).0 stands
+stands_late field section_value other (LineEnd ∷ earlier) clean stands =
+    stands_late field section_value other earlier (clean_parts earlier LineEnd clean).0 stands
+stands_late field section_value other (Line (Known f) line ∷ earlier) clean stands =
+    let parts = clean_parts earlier (Line (Known f) line) clean in
+    late_line field f line earlier (same_field field f) refl section_value other (no_row earlier (Line (Known f) line) parts.1).in_time (stands_late field section_value other earlier parts.0) stands
+stands_late field section_value other (Line EdgeDataFormat line ∷ earlier) clean stands =
+    stands_late field section_value other earlier (clean_parts earlier (Line EdgeDataFormat line) clean).0 stands
+stands_late field section_value other (Line EdgeDataSection line ∷ earlier) clean stands =
+    stands_late field section_value other earlier (clean_parts earlier (Line EdgeDataSection line) clean).0 stands
+stands_late field section_value other (Line Eof line ∷ earlier) clean stands =
+    stands_late field section_value other earlier (clean_parts earlier (Line Eof line) clean).0 stands
+stands_late field section_value other (Line Unknown line ∷ earlier) clean stands =
+    stands_late field section_value other earlier (clean_parts earlier (Line Unknown line) clean).0 stands
+
+pub after_dimension : (field : Field) → is_section_field field ≡ true → same_field TourPart field ≡ false → (items : List Item)
+    → IsClean items
+    → has_line field items ≡ true → has_line DimensionKey items ≡ true
+after_dimension field section_value other items clean stands = stands_late field section_value other items clean stands
+
+-- a section is valid where its value fits that number of nodes
+standing_fits : {A : Type 0} (fits : ℕ → A → Bool) (value : List (List ℕ) → A) (words : List (List ℕ)) (n : ℕ) (dimension : Option ℕ) (b : Bool)
+    → (b ≡ true → dimension ≡ Some n) → (b ≡ true → fits n (value words) ≡ true)
+    → if_there (with_dimension fits dimension) (cond b (Some (value words)) None) ≡ true
+standing_fits fits value words n dimension false known each = refl
+standing_fits fits value words n dimension true known each =
+    subst (λ d. with_dimension fits d (value words) ≡ true) (sym (known refl)) (each refl)
+
+pub section_fits : {A : Type 0} (fits : ℕ → A → Bool) (value : List (List ℕ) → A) (field : Field) → is_section_field field ≡ true
+    → same_field TourPart field ≡ false → (items : List Item) → IsClean items
+    → (has_line field items ≡ true → fits (dimension_in items) (value (words_of field items)) ≡ true)
+    → if_there (with_dimension fits (dimension_of items)) (section_value (stands items) value field items) ≡ true
+section_fits fits value field is_one other items clean each =
+    standing_fits fits value (words_of field items) (dimension_in items) (dimension_of items) (has_line field items)
+    (λ stands. dimension_there items clean (stands_late field is_one other items clean stands)) each
+
+-- ---- the multipliers of a section without a fault
+
+abbrev AreTripled : ℕ → Words → Type 0
+AreTripled n words = AreListed 3 fixed_triple is_triple_of n words
+
+taken : (n : ℕ) (words : Words) (word : List ℕ) (ended : Bool) (begun : Words) → list_any (is_end n) (firsts_in 3 words) ≡ ended
+    → begun_in 3 words ≡ begun
+    → word_fault n (cond ended PastEnd (place_in_triple n (length (groups_in 3 words)) begun)) word ≡ None → AreTripled n words
+    → AreTripled n (words ++ word ∷ [])
+taken n words word true begun e is row held = past_end 3 fixed_triple is_triple_of n words word held e
+taken n words word false [] e is row held = begins 3 fixed_triple is_triple_of n words word held refl e is row
+taken n words word false (first ∷ []) e is row held =
+    let t = is_taken n (SecondOf (number (node_or_end n first))) word row in
+    middle 3 fixed_triple is_triple_of n words word held first [] refl e is (valid_pair n first word (held.begun e first [] is).0 t.is_read t.other_node)
+taken n words word false (first ∷ second ∷ []) e is row held =
+    group_fits 3 fixed_triple is_triple_of n words word held first (second ∷ []) refl e is
+    (and_from (is_pair_of n (fixed_pair n (first ∷ second ∷ []))) (is_from_to (pos 0) (pos most_multiplier) (number (whole_of word (pos 0) (pos most_multiplier))))
+    (held.begun e first (second ∷ []) is).0 (whole_passes (pos 0) (pos most_multiplier) word refl))
+taken n words word false (first ∷ second ∷ third ∷ rest) e is row held =
+    absurd (omega (arith, ap length is, begun_short 3 words (omega arith)))
+
+all_taken : Grows false FixedEdgePotentialPart AreTripled
+all_taken = record {
+  none = λ n. record { list = refl; begun = λ none first rest e. absurd cc };
+  more = λ b same n words word held row. taken n words word (list_any (is_end n) (firsts_in 3 words)) (begun_in 3 words) refl refl row held;
+  any_nodes = λ n m words tours held. absurd (false≢true tours);
+}
+
+pub triples_fit : (items : List Item) → IsClean items
+    → are_triples (dimension_in items) (fixed_triples_in (dimension_in items) (words_of FixedEdgePotentialPart items)) ≡ true
+triples_fit items clean =
+    let held : AreTripled (dimension_in items) (words_of FixedEdgePotentialPart items) = grown FixedEdgePotentialPart AreTripled refl all_taken items clean in
+    held.list
+
+-- ---- the weights of a matrix are valid
+
+-- ---- no more weights than the limit
+
+has_room : (n : ℕ) (words : List (List ℕ)) (word : List ℕ) (b : Bool) → nat_le (n * n) (length words) ≡ b
+    → word_fault n (cond b PastWeights Weight) word ≡ None
+    → nat_le (length (words ++ word ∷ [])) (n * n) ≡ true
+has_room n words word true e row = absurd (true≢false (is_taken n PastWeights word row).has_room)
+has_room n words word false e row =
+    le-leb (length (words ++ word ∷ [])) (n * n) (omega (arith, length_push words word, leb-false (n * n) (length words) e))
+
+few_weights : Grows false EdgeWeightPart (λ n words. nat_le (length words) (n * n) ≡ true)
+few_weights = record {
+  none = λ n. le-leb 0 (n * n) (omega arith);
+  more = λ b same n words word held row. has_room n words word (nat_le (n * n) (length words)) refl row;
+  any_nodes = λ n m words tours held. absurd (false≢true tours);
+}
+
+-- ---- no more nodes than a matrix may have
+
+few_at : (f : Field) (line : WordLine) (earlier : List Item) (b : Bool) → same_field EdgeWeightPart f ≡ b → IsClean earlier
+    → row_of earlier (Line (Known f) line) ≡ None
+    → (has_line EdgeWeightPart earlier ≡ true → nat_le (dimension_in earlier) most_matrix_nodes ≡ true)
+    → cond b true (has_line EdgeWeightPart earlier) ≡ true
+    → nat_le (dimension_in (Line (Known f) line ∷ earlier)) most_matrix_nodes ≡ true
+few_at f line earlier false e clean row before stands =
+    let kept = nodes_kept earlier (Line (Known f) line) (after_dimension EdgeWeightPart refl refl earlier clean stands) row in
+    ap (λ n. nat_le n most_matrix_nodes) kept ∙ before stands
+few_at f line earlier true e clean row before stands =
+    let same = same_field_is EdgeWeightPart f e in
+    let few : (same_field EdgeWeightPart EdgeWeightPart && nat_lt most_matrix_nodes (dimension_in earlier)) ≡ false =
+    subst (λ (g : Field). (same_field EdgeWeightPart g && nat_lt most_matrix_nodes (dimension_in earlier)) ≡ false) (sym same) (no_row earlier (Line (Known f) line) row).few_nodes in
+    subst (λ (g : Field). nat_le (dimension_in (Line (Known g) line ∷ earlier)) most_matrix_nodes ≡ true) same
+    (le-leb (dimension_in earlier) most_matrix_nodes (ltb-false most_matrix_nodes (dimension_in earlier) few))
+
+few_nodes : (items : List Item) → IsClean items → has_line EdgeWeightPart items ≡ true
+    → nat_le (dimension_in items) most_matrix_nodes ≡ true
+few_nodes [] clean stands = absurd (false≢true stands)
+few_nodes (NumberWord word ∷ earlier) clean stands = few_nodes earlier (clean_parts earlier (NumberWord word) clean).0 stands
+few_nodes (LineEnd ∷ earlier) clean stands = few_nodes earlier (clean_parts earlier LineEnd clean).0 stands
+few_nodes (Line (Known f) line ∷ earlier) clean stands =
+    let parts = clean_parts earlier (Line (Known f) line) clean in
+    few_at f line earlier (same_field EdgeWeightPart f) refl parts.0 parts.1 (few_nodes earlier parts.0) stands
+few_nodes (Line EdgeDataFormat line ∷ earlier) clean stands =
+    few_nodes earlier (clean_parts earlier (Line EdgeDataFormat line) clean).0 stands
+few_nodes (Line EdgeDataSection line ∷ earlier) clean stands =
+    few_nodes earlier (clean_parts earlier (Line EdgeDataSection line) clean).0 stands
+few_nodes (Line Eof line ∷ earlier) clean stands = few_nodes earlier (clean_parts earlier (Line Eof line) clean).0 stands
+few_nodes (Line Unknown line ∷ earlier) clean stands = few_nodes earlier (clean_parts earlier (Line Unknown line) clean).0 stands
+
+-- ---- together
+
+weights_sized : (words : List (List ℕ)) → list_all (is_within most_weight) (weights_in words) ≡ true
+weights_sized words = list_all-map (is_within most_weight) (λ word. number (whole_of_size most_weight word)) words
+    ∙ all_pass (λ word. is_within most_weight (number (whole_of_size most_weight word))) words (λ word. whole_passes (neg_ℤ (pos most_weight)) (pos most_weight) word refl)
+
+pub weights_fit : (items : List Item) → IsClean items → has_line EdgeWeightPart items ≡ true
+    → fit_matrix (dimension_in items) (weights_in (words_of EdgeWeightPart items)) ≡ true
+weights_fit items clean stands =
+    let n = dimension_in items in
+    let words = words_of EdgeWeightPart items in
+    let room : nat_le (length words) (n * n) ≡ true = grown EdgeWeightPart (λ n words. nat_le (length words) (n * n) ≡ true) refl few_weights items clean in
+    let size : nat_le (length (weights_in words)) (n * n) ≡ true = ap (λ k. nat_le k (n * n)) (length-map words (λ word. number (whole_of_size most_weight word))) ∙ room in
+    and_from (nat_le n most_matrix_nodes && nat_le (length (weights_in words)) (n * n)) (list_all (is_within most_weight) (weights_in words))
+    (and_from (nat_le n most_matrix_nodes) (nat_le (length (weights_in words)) (n * n)) (few_nodes items clean stands) size) (weights_sized words)
+
+-- ---- the fields of cut items without a fault are valid, field by field
 
 tours_there : (items : List Item) (b : Bool) → IsClean items
     → if_there are_tours (cond b (Some (tours_in (words_of TourPart items))) None) ≡ true

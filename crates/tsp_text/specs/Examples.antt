@@ -4,17 +4,16 @@ use Rattle.std.specs.Prelude.{◌≡◌, ℕ, ◌==◌, true, false, cond, List,
 use Rattle.tsp_format.specs.declared.keyword.Field.{Field}
 use Rattle.tsp_format.specs.Steps.{Branch, Leaf}
 use Rattle.tsp_number.specs.declared.word.NumberFault.{NumberFault}
-use Rattle.tsp_distance.specs.Distances.{on_plane}
+use Rattle.tsp_number.specs.Distances.{on_plane}
 use Rattle.tsp_file.specs.declared.rules.EndFault.{EndFault}
 use Rattle.tsp_file.specs.declared.rules.EndFault.TheVariants.{Missing}
 use Rattle.tsp_text.specs.declared.fault.LineFault.{LineFault}
 use Rattle.tsp_text.specs.declared.fault.LineFault.TheVariants.{Number}
 use Rattle.tsp_text.specs.declared.fault.ReadFault.TheVariants as faults
 use Rattle.tsp_text.specs.Items.{line_item}
-use Rattle.tsp_text.specs.WordPlaces.{Place}
+use Rattle.tsp_text.specs.SectionWords.{Place}
 use Rattle.tsp_text.specs.FaultRows.{is_surplus, is_surplus_at}
-use Rattle.tsp_text.specs.Spells.{spelled}
-use Rattle.tsp_text.specs.Text.{part, fault}
+use Rattle.tsp_text.specs.Spells.{spelled, part, fault}
 
 -- byte 10 in place of `/`
 abbrev pub newline : ℕ → ℕ

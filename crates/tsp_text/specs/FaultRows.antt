@@ -1,5 +1,5 @@
 -- The table of the faults of a line or a word, a section `----` for each row: it says when the row applies to an item
--- after the items before it, the last one first. For FirstFault.antt, and so for the fault that the reader reports
+-- after the items before it, the last one first. For Spells.antt, and so for the fault that the reader reports
 -- (`src/state/` of tsp_read). Source: TSPLIB 95 (G. Reinelt) for the place of each word; the rows and their order are
 -- this project's profile.
 use Rattle.std.specs.Prelude.{ℕ, ◌+◌, Bool, true, false, cond, not, ◌&&◌, ◌||◌, nat_lt, nat_le, List, [], ◌∷◌, length, Option, None, Some, is_none}
@@ -7,22 +7,16 @@ use Rattle.std.specs.Option.{option_map, option_and_then, option_map_or, option_
 use Rattle.std.specs.Result.{result_err}
 use Rattle.std.specs.List.{list_any}
 use Rattle.tsp_number.specs.declared.word.NumberFault.{NumberFault}
-use Rattle.tsp_number.specs.Reading.{decimal_of, whole_of}
+use Rattle.tsp_number.specs.NumberWord.{decimal_of, whole_of}
 use Rattle.tsp_format.specs.declared.keyword.Field.{Field}
 use Rattle.tsp_format.specs.declared.keyword.Field.TheVariants.{CommentKey, OtherKey, DimensionKey, NodeCoordPart, EdgeWeightPart, TourPart}
 use Rattle.tsp_format.specs.declared.keyword.Keyword.TheVariants.{Known, EdgeDataFormat, EdgeDataSection, Eof, Unknown}
-use Rattle.tsp_format.specs.Limits.{most_nodes, most_matrix_nodes, most_weight, most_line_bytes, most_kept_bytes, most_comments, most_others, most_depots, most_fixed, most_tour_nodes, most_combs, most_comb_nodes, most_branches, most_changes}
+use Rattle.tsp_format.specs.Limits.{most_nodes, most_matrix_nodes, most_weight, most_line_bytes, most_kept_bytes, most_comments, most_others, most_depots, most_fixed, most_tour_nodes, most_combs, most_comb_nodes, most_branches, most_changes, is_section_field}
 use Rattle.tsp_text.specs.declared.fault.LineFault.{LineFault}
 use Rattle.tsp_text.specs.declared.fault.LineFault.TheVariants as row
-use Rattle.tsp_text.specs.Lines.{is_not_empty, first_word}
-use Rattle.tsp_text.specs.Items.{WordLine, Item, Line, NumberWord, LineEnd}
-use Rattle.tsp_format.specs.Shapes.{is_section_field}
-use Rattle.tsp_text.specs.Earlier.{same_field, has_line, values_at, others_in, open_section}
-use Rattle.tsp_text.specs.Values.{is_unknown_word, is_left_out, has_number, read_as, is_kept_as_is, says_space, spatial_after}
-use Rattle.tsp_text.specs.SectionNumbers.{reads_as, node, whole_of_size, node_or_end, is_end, is_minus_one}
-use Rattle.tsp_text.specs.WordPlaces.{Place, NodeAfter, Coordinate, Amount, PastGroups, DepotAfter, FirstAfter, SecondOf, PastEnd, Weight, PastWeights, TourNode, SetNode, StepAfter, IndexAfter}
-use Rattle.tsp_text.specs.BranchSection.{index_or_leaf, begins_leaf, index_or_end, ends_leaf}
-use Rattle.tsp_text.specs.Sections.{dimension_in, next_place}
+use Rattle.tsp_text.specs.Items.{is_not_empty, first_word, WordLine, Item, Line, NumberWord, LineEnd}
+use Rattle.tsp_text.specs.Earlier.{same_field, has_line, values_at, others_in, open_section, is_unknown_word, is_left_out, has_number, read_as, is_kept_as_is, says_space, spatial_after, dimension_in, next_place}
+use Rattle.tsp_text.specs.SectionWords.{reads_as, node, whole_of_size, node_or_end, is_end, is_minus_one, Place, NodeAfter, Coordinate, Amount, PastGroups, DepotAfter, FirstAfter, SecondOf, PastEnd, Weight, PastWeights, TourNode, SetNode, StepAfter, IndexAfter, index_or_leaf, begins_leaf, index_or_end, ends_leaf}
 
 -- a test of a word at its place, where a section is open
 abbrev pub at_place : (ℕ → Place → List ℕ → Bool) → List Item → List ℕ → Bool

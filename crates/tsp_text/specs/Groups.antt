@@ -1,15 +1,21 @@
 -- Sections by node: their words in groups, each with a node and its numbers, in any order of the nodes. For
 -- src/by_node.rt and src/by_node.rt of tsp_read, and for `Spells.antt`. TSPLIB 95 (G. Reinelt):
 -- NODE_COORD_SECTION, DISPLAY_DATA_SECTION, DEMAND_SECTION. This project's profile adds the sections of potentials.
-use Rattle.std.specs.Prelude.{ℕ, ◌+◌, ◌*◌, ◌==◌, Bool, cond, nat_le, List, [], ◌∷◌, ◌++◌, length, map, take, get_or, Option, None, Some, ℤ, pos, unwrap_or}
+use Rattle.std.specs.List.{list_any, fold}
+use Rattle.std.specs.List.Sorted.{IsPermutation}
 use Rattle.std.specs.Ordering.{int_eq}
-use Rattle.tsp_distance.specs.declared.decimal.Point.{Point}
-use Rattle.tsp_distance.specs.Distances.{on_plane}
-use Rattle.tsp_file.specs.Coords.{origin}
-use Rattle.tsp_number.specs.Reading.{decimal_of, whole_of}
+use Rattle.std.specs.Prelude.{ℕ, ◌+◌, ◌*◌, ◌==◌, Bool, cond, nat_le, List, [], ◌∷◌, ◌++◌, length, map, take, get_or, Option, None, Some, ℤ, pos, unwrap_or, nat_abs, true, false, ◌||◌}
+use Rattle.tsp_number.specs.Distances.{on_plane}
+use Rattle.tsp_number.specs.NumberWord.{decimal_of, whole_of}
+use Rattle.tsp_number.specs.declared.decimal.Point.{Point}
+use Rattle.tsp_format.specs.Limits.{most_multiplier, shape_of}
 use Rattle.tsp_format.specs.Nodes.{nodes_to}
-use Rattle.tsp_text.specs.SectionNumbers.{number, node}
-use Rattle.tsp_text.specs.WordPlaces.{Place, NodeAfter, Coordinate, Amount, PastGroups}
+use Rattle.tsp_format.specs.declared.keyword.Field.{Field}
+use Rattle.tsp_format.specs.declared.keyword.Shape.{Shape}
+use Rattle.tsp_format.specs.declared.keyword.Shape.TheVariants.{Numbers, Points, SpacePoints}
+use Rattle.tsp_file.specs.Cost.{origin}
+use Rattle.tsp_text.specs.Items.{is_not_empty}
+use Rattle.tsp_text.specs.SectionWords.{number, node, Place, NodeAfter, Coordinate, Amount, PastGroups, node_or_end, is_end, DepotAfter, FirstAfter, SecondOf, PastEnd, SetNode}
 
 -- ---- words in groups
 
@@ -124,3 +130,176 @@ place_of_point n words = place_by_node 3 Coordinate (point_groups n words) n wor
 -- the same in a section of points in space
 abbrev pub place_of_space_point : ℕ → List (List ℕ) → Place
 place_of_space_point n words = place_by_node 4 Coordinate (space_point_groups n words) n words
+
+-- ---- sections that -1 ends
+
+-- the elements before the first that passes the test
+abbrev pub before : {A : Type 0} → (A → Bool) → List A → List A
+before test [] = []
+before test (x ∷ xs) = cond (test x) [] (x ∷ before test xs)
+
+-- ---- depots
+
+-- the depots: the words before the first -1
+abbrev pub depots_in : ℕ → List (List ℕ) → List ℕ
+depots_in n words = map (λ word. nat_abs (number (node_or_end n word))) (before (is_end n) words)
+
+-- the place of the next word
+abbrev pub place_of_depot : ℕ → List (List ℕ) → Place
+place_of_depot n words = cond (list_any (is_end n) words) PastEnd (DepotAfter (length words))
+
+-- ---- groups
+
+-- the groups before the first whose first word is -1
+abbrev pub listed_in : ℕ → ℕ → List (List ℕ) → List (List (List ℕ))
+listed_in size n words = before (λ group. is_end n (word_at group 0)) (groups_in size words)
+
+-- the first word of each group, also of one that isn't whole
+abbrev pub firsts_in : ℕ → List (List ℕ) → List (List ℕ)
+firsts_in size words = map (λ group. word_at group 0) (groups_in size words) ++ take 1 (begun_in size words)
+
+-- the place of the next word; before the -1 it depends on how many groups are whole, and on the words of one that isn't
+abbrev pub place_in_list : ℕ → (ℕ → List (List ℕ) → Place) → ℕ → List (List ℕ) → Place
+place_in_list size in_group n words = cond (list_any (is_end n) (firsts_in size words)) PastEnd
+    (in_group (length (groups_in size words)) (begun_in size words))
+
+-- ---- fixed pairs
+
+-- the two nodes that a group of two words is read as
+abbrev pub fixed_pair : ℕ → List (List ℕ) → ℕ × ℕ
+fixed_pair n pair = (nat_abs (number (node_or_end n (word_at pair 0))), nat_abs (number (node n (word_at pair 1))))
+
+-- the fixed pairs
+abbrev pub fixed_in : ℕ → List (List ℕ) → List (ℕ × ℕ)
+fixed_in n words = map (fixed_pair n) (listed_in 2 n words)
+
+-- the next word is the first node of a pair, or its second one
+abbrev pub place_in_pair : ℕ → ℕ → List (List ℕ) → Place
+place_in_pair n count [] = FirstAfter count
+place_in_pair n count (first ∷ begun) = SecondOf (number (node_or_end n first))
+
+-- the place of the next word among fixed pairs
+abbrev pub place_of_fixed : ℕ → List (List ℕ) → Place
+place_of_fixed n words = place_in_list 2 (place_in_pair n) n words
+
+-- ---- multipliers of fixed edges
+
+-- the two nodes and the multiplier that a group of three words is read as
+abbrev pub fixed_triple : ℕ → List (List ℕ) → ℕ × ℕ × ℤ
+fixed_triple n triple = (
+  nat_abs (number (node_or_end n (word_at triple 0))),
+  nat_abs (number (node n (word_at triple 1))),
+  number (whole_of (word_at triple 2) (pos 0) (pos most_multiplier)),
+)
+
+-- the multipliers of fixed pairs
+abbrev pub fixed_triples_in : ℕ → List (List ℕ) → List (ℕ × ℕ × ℤ)
+fixed_triples_in n words = map (fixed_triple n) (listed_in 3 n words)
+
+-- the next word is the first node of a triple, its second one, or its multiplier
+abbrev pub place_in_triple : ℕ → ℕ → List (List ℕ) → Place
+place_in_triple n count [] = FirstAfter count
+place_in_triple n count (first ∷ []) = SecondOf (number (node_or_end n first))
+place_in_triple n count (first ∷ second ∷ begun) = Amount (pos 0) (pos most_multiplier)
+
+-- the place of the next word among multipliers
+abbrev pub place_of_triple : ℕ → List (List ℕ) → Place
+place_of_triple n words = place_in_list 3 (place_in_triple n) n words
+
+-- ---- the nodes of the groups in a section by node, and that each node has one group
+
+-- a section of this shape has a group for each node
+abbrev pub has_groups : Option Shape → Bool
+has_groups (Some (Numbers low high)) = true
+has_groups (Some Points) = true
+has_groups (Some SpacePoints) = true
+has_groups shape = false
+
+-- the section is one by node
+abbrev pub is_by_node_field : Field → Bool
+is_by_node_field field = has_groups (shape_of false field)
+
+-- the nodes of the groups of such a section with n nodes, as they are read
+abbrev pub nodes_by : Option Shape → ℕ → List (List ℕ) → List ℤ
+nodes_by (Some (Numbers low high)) n words = nodes_of_groups (number_groups low high n words)
+nodes_by (Some Points) n words = nodes_of_groups (point_groups n words)
+nodes_by (Some SpacePoints) n words = nodes_of_groups (space_point_groups n words)
+nodes_by shape n words = []
+
+-- the same of a section, in a spatial file or in another
+abbrev pub group_nodes : Bool → Field → ℕ → List (List ℕ) → List ℤ
+group_nodes in_space field n words = nodes_by (shape_of in_space field) n words
+
+-- the nodes are 1..n, each once, in any order
+abbrev pub HasEachNodeOnce : ℕ → List ℤ → Type 0
+HasEachNodeOnce n nodes = IsPermutation nodes (map (λ k. pos k) (nodes_to n))
+
+-- ---- COMB_SECTION, this project's own: its words, as families of sets of nodes
+
+-- the contents after some words of the section
+pub record CombsSoFar : Type 0 where
+  -- the whole combs
+  pub combs : List (List (List ℕ))
+  -- of a comb that has begun the whole sets, and of a set that has begun the nodes
+  pub sets : List (List ℕ)
+  pub nodes : List ℕ
+  -- how many nodes came in all
+  pub count : ℕ
+  -- whether the section has ended
+  pub ended : Bool
+
+-- the contents before the first word
+abbrev pub no_combs : CombsSoFar
+no_combs = record { combs = []; sets = []; nodes = []; count = 0; ended = false }
+
+-- ---- one word more
+
+-- the node that a word is read as
+abbrev pub comb_node : ℕ → List ℕ → ℕ
+comb_node n word = nat_abs (number (node_or_end n word))
+
+-- a node: the next one of the set that isn't whole, or the first of a new set
+abbrev pub with_node : CombsSoFar → ℕ → CombsSoFar
+with_node so_far node = record so_far { nodes = so_far.nodes ++ node ∷ []; count = so_far.count + 1 }
+
+-- the end of a set
+abbrev pub with_set : CombsSoFar → CombsSoFar
+with_set so_far = record so_far { sets = so_far.sets ++ so_far.nodes ∷ []; nodes = [] }
+
+-- the end of a family
+abbrev pub with_comb : CombsSoFar → CombsSoFar
+with_comb so_far = record so_far { combs = so_far.combs ++ so_far.sets ∷ []; sets = [] }
+
+-- a -1: it ends the set that isn't whole; where there is none, the family; where there is none, the section
+abbrev pub with_end : CombsSoFar → CombsSoFar
+with_end so_far = cond (is_not_empty so_far.nodes) (with_set so_far)
+    (cond (is_not_empty so_far.sets) (with_comb so_far) (record so_far { ended = true }))
+
+-- a word; after the end of the section nothing changes
+abbrev pub with_comb_word : ℕ → CombsSoFar → List ℕ → CombsSoFar
+with_comb_word n so_far word =
+    cond so_far.ended so_far (cond (is_end n word) (with_end so_far) (with_node so_far (comb_node n word)))
+
+-- ---- all words
+
+-- the contents after all these words
+abbrev pub combs_after : ℕ → List (List ℕ) → CombsSoFar
+combs_after n words = fold (with_comb_word n) no_combs words
+
+-- the families that are whole
+abbrev pub whole_combs : ℕ → List (List ℕ) → List (List (List ℕ))
+whole_combs n words = (combs_after n words).combs
+
+-- ---- the place of the next word
+
+-- a family has begun that isn't whole
+abbrev pub has_begun_comb : CombsSoFar → Bool
+has_begun_comb so_far = is_not_empty so_far.nodes || is_not_empty so_far.sets
+
+-- the place of the next word, by the contents
+abbrev pub place_in_combs : CombsSoFar → Place
+place_in_combs so_far = cond so_far.ended PastEnd (SetNode (has_begun_comb so_far) (length so_far.combs) so_far.count)
+
+-- the place of the next word, by the words before it
+abbrev pub place_of_comb : ℕ → List (List ℕ) → Place
+place_of_comb n words = place_in_combs (combs_after n words)

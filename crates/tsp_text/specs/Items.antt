@@ -1,14 +1,73 @@
--- A text as items, in order: its word lines, the words of its number lines, and the ends of its lines; and which items
--- are settled, whatever bytes follow. For `take_items` (src/items.rt of tsp_read), and for Text.antt. Which items are
--- settled is this project's profile.
-use Rattle.std.specs.Prelude.{ℕ, ◌+◌, Bool, true, false, cond, nat_lt, List, [], ◌∷◌, ◌++◌, length, map}
-use Rattle.std.specs.List.{filter, slice_split, list_any}
+-- How a text is cut into lines and words, and a word line into keyword and value. For src/line.rt and src/line.rt of
+-- tsp_read, and for Items.antt. tsp_read and tsp_read import it too. TSPLIB 95 (G. Reinelt) has lines of a keyword
+-- and a value, and lines of numbers; what exactly ends a line, parts words and begins a keyword is this project's
+-- profile.
+use Rattle.std.specs.List.{filter, slice_split, prefix_len, take_while, before_first, list_any, list_all, AllByRecursion}
+use Rattle.std.specs.Prelude.{ℕ, Bool, true, false, cond, ◌==◌, List, [], ◌∷◌, drop, reverse, ◌+◌, nat_lt, ◌++◌, length, map, ◌≡◌, ◌-◌, not, slice_index}
+use Rattle.tsp_format.specs.Limits.{keyword_of, most_word_bytes, most_line_bytes}
+use Rattle.tsp_format.specs.Words.{is_blank, is_letter, is_keyword_byte}
 use Rattle.tsp_format.specs.declared.keyword.Keyword.{Keyword}
 use Rattle.tsp_format.specs.declared.keyword.Keyword.TheVariants.{Known, EdgeDataFormat, EdgeDataSection, Eof, Unknown}
-use Rattle.tsp_format.specs.Bytes.{is_blank}
-use Rattle.tsp_format.specs.Keywords.{keyword_of}
-use Rattle.tsp_format.specs.Limits.{most_word_bytes, most_line_bytes}
-use Rattle.tsp_text.specs.Lines.{lines_of, words_in, is_not_empty, without_start, is_word_line, keyword_in, has_colon, value_in}
+
+-- byte 10 ends a line
+abbrev pub ends_line : ℕ → Bool
+ends_line b = b == 10
+
+-- the lines of a text are its pieces between bytes 10
+abbrev pub lines_of : List ℕ → List (List ℕ)
+lines_of bytes = slice_split ends_line bytes
+
+abbrev pub is_not_empty : {A : Type 0} → List A → Bool
+is_not_empty [] = false
+is_not_empty (x ∷ xs) = true
+
+-- the words of a line are its longest runs of bytes that aren't blank
+abbrev pub words_in : List ℕ → List (List ℕ)
+words_in line = filter is_not_empty (slice_split is_blank line)
+
+-- without the blanks at the beginning
+abbrev pub without_start : List ℕ → List ℕ
+without_start bytes = drop (prefix_len is_blank bytes) bytes
+
+-- without the blanks at the end
+abbrev pub without_end : List ℕ → List ℕ
+without_end bytes = reverse (without_start (reverse bytes))
+
+-- the first byte passes the test
+abbrev pub begins : (ℕ → Bool) → List ℕ → Bool
+begins test [] = false
+begins test (b ∷ bytes) = test b
+
+-- a word line: its first byte that isn't blank is a letter
+abbrev pub is_word_line : List ℕ → Bool
+is_word_line line = begins is_letter (without_start line)
+
+-- ---- the parts of a word line, in its bytes from the first that isn't blank on
+
+-- the keyword: the longest run of bytes that are neither blank nor a colon
+abbrev pub keyword_in : List ℕ → List ℕ
+keyword_in text = take_while is_keyword_byte text
+
+-- the bytes after the keyword and the blanks that follow it
+abbrev pub after_keyword : List ℕ → List ℕ
+after_keyword text = without_start (drop (prefix_len is_keyword_byte text) text)
+
+abbrev pub is_colon : ℕ → Bool
+is_colon b = b == 58
+
+-- a colon follows the keyword
+abbrev pub has_colon : List ℕ → Bool
+has_colon text = begins is_colon (after_keyword text)
+
+-- the value: the bytes after the colon, or after the keyword where there is none, without blanks at either end
+abbrev pub value_in : List ℕ → List ℕ
+value_in text = without_end (without_start (drop (cond (has_colon text) 1 0) (after_keyword text)))
+
+-- the first word of a value; of an empty value nothing
+abbrev pub first_word : List ℕ → List ℕ
+first_word value = before_first is_blank value
+
+-- ---- a text as items, in order: its word lines, the words of its number lines
 
 -- a word line: how many bytes it has from the first that isn't blank, its keyword, whether a colon follows, its value
 pub record WordLine : Type 0 where
@@ -114,3 +173,28 @@ abbrev pub word_number : List Item → Item → ℕ
 word_number earlier (Line key line) = 0
 word_number earlier (NumberWord word) = words_before earlier + 1
 word_number earlier LineEnd = 0
+
+-- ---- what holds of every item that is cut from a text
+
+-- no byte ends a line
+abbrev pub has_no_line_end : List ℕ → Bool
+has_no_line_end bytes = list_all (λ b. not (ends_line b)) bytes
+
+-- a word line: the keyword begins with a letter, and the value has no byte 10 and no blank at either end
+pub record IsCutLine (key : Keyword) (line : WordLine) : Type 0 where
+  pub of_keyword : key ≡ keyword_of line.keyword
+  pub letter_first : is_letter (slice_index line.keyword 0) ≡ true
+  pub keyword_bytes : list_all is_keyword_byte line.keyword ≡ true
+  pub one_line : has_no_line_end line.value ≡ true
+  pub begins_filled : is_blank (slice_index line.value 0) ≡ false
+  pub ends_filled : is_blank (slice_index line.value (length line.value - 1)) ≡ false
+
+-- an item; words and line ends can be any
+abbrev pub IsCut : Item → Type 0
+IsCut (Line key line) = IsCutLine key line
+IsCut (NumberWord word) = Unit {0}
+IsCut LineEnd = Unit {0}
+
+-- all of these items
+abbrev pub AreCut : List Item → Type 0
+AreCut items = AllByRecursion IsCut items

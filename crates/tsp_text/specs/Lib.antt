@@ -1,24 +1,8 @@
 -- The files of definitions of this crate. Crates above may import them.
-pub mod ReadFaultText
-pub mod Lines
+pub mod Spells
 pub mod Items
 pub mod Earlier
-pub mod Values
-pub mod SectionNumbers
-pub mod WordPlaces
+pub mod SectionWords
 pub mod Groups
-pub mod Lists
-pub mod WeightSection
-pub mod TourSection
-pub mod CombSection
-pub mod BranchSection
-pub mod Sections
 pub mod FaultRows
-pub mod Opening
-pub mod FirstFault
-pub mod Spells
-pub mod Text
 pub mod Examples
-pub mod Cuts
-pub mod Answering
-pub mod GroupNodes

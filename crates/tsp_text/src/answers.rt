@@ -1,13 +1,11 @@
 //! Laws: every text has exactly one answer, its file or its first fault. For `src/round_trip.rt` of
-//! tsp_round.
+//! tsp_read.
 
 ghost use Rattle.std.specs.Prelude.{◌≡◌, ◌≢◌, ℕ, List, Some, true};
 ghost use Rattle.tsp_file.specs.Fields.{Fields};
 ghost use Rattle.tsp_text.specs.declared.fault.ReadFault.{ReadFault};
 ghost use Rattle.tsp_text.specs.Items.{Item};
-ghost use Rattle.tsp_text.specs.FirstFault.{fault_in, IsClean, IsFirstFault};
-ghost use Rattle.tsp_text.specs.Text.{fault, Spells};
-ghost use Rattle.tsp_text.specs.Answering.{NoneHasRow, HasOneAnswer, is_of_text};
+ghost use Rattle.tsp_text.specs.Spells.{fault_in, IsClean, IsFirstFault, fault, Spells, NoneHasRow, HasOneAnswer, is_of_text};
 
 /// The first fault of items is that of the first item to which a row applies, and of its first row.
 ///

@@ -1,15 +1,12 @@
 //! A law: a complete section by node has one group for each node. No code calls it: it shows that
-//! the definitions of `specs/Sections.antt` mean what they should.
+//! the definitions of `specs/Earlier.antt` mean what they should.
 
 ghost use Rattle.std.specs.Prelude.{◌≡◌, List, true, false};
 ghost use Rattle.tsp_format.specs.declared.keyword.Field.{Field};
 ghost use Rattle.tsp_text.specs.Items.{Item};
-ghost use Rattle.tsp_text.specs.Earlier.{has_line, words_of};
-ghost use Rattle.tsp_text.specs.Values.{spatial_after};
-ghost use Rattle.tsp_text.specs.Sections.{dimension_in};
-ghost use Rattle.tsp_text.specs.FirstFault.{IsClean};
-ghost use Rattle.tsp_text.specs.Spells.{is_incomplete};
-ghost use Rattle.tsp_text.specs.GroupNodes.{is_by_node_field, group_nodes, HasEachNodeOnce};
+ghost use Rattle.tsp_text.specs.Earlier.{has_line, words_of, spatial_after, dimension_in};
+ghost use Rattle.tsp_text.specs.Spells.{IsClean, is_incomplete};
+ghost use Rattle.tsp_text.specs.Groups.{is_by_node_field, group_nodes, HasEachNodeOnce};
 
 /// A section by node that is present, has no fault and isn't incomplete has one group for each
 /// node.

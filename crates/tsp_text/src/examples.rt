@@ -2,7 +2,7 @@
 //! small texts, the limits of lines and sections, the files of texts, texts of faults.
 
 ghost use Rattle.std.specs.Prelude.{codes, decimal, ◌≡◌, ◌≤◌, ◌++◌, ℕ, List, length, IsTrue, true, false};
-ghost use Rattle.tsp_distance.specs.Decimal.{most_count};
+ghost use Rattle.tsp_number.specs.Decimal.{most_count};
 ghost use Rattle.tsp_number.specs.NumberWord.{IsShort};
 ghost use Rattle.tsp_format.specs.Limits.{most_coordinate, most_word_bytes};
 ghost use Rattle.tsp_number.specs.declared.word.NumberFault.TheVariants as numbers;
@@ -10,13 +10,13 @@ ghost use Rattle.tsp_format.specs.declared.keyword.Field.TheVariants as fields;
 ghost use Rattle.tsp_file.specs.declared.rules.EndFault.TheVariants as ends;
 ghost use Rattle.tsp_text.specs.declared.fault.LineFault.TheVariants as faults;
 ghost use Rattle.tsp_text.specs.declared.fault.ReadFault.TheVariants as reads;
-ghost use Rattle.tsp_text.specs.ReadFaultText.{line_fault_text, read_fault_text};
+ghost use Rattle.tsp_text.specs.Spells.{line_fault_text, read_fault_text};
 ghost use Rattle.tsp_text.specs.Examples.{FaultAt, IsNumberFault, MissingAtEnd, EndsWithFault, OthersAre, ToursAre, PairsAre, TriplesAre, CombIs, TreeIs, DemandsAre, HasSpacePoint, HasPlanePoint, quad, longest_line, long_line, long_word, filled_line, IsLimit, IsLimitOfLines};
 ghost use Rattle.tsp_text.specs.FaultRows.{is_surplus_at};
-ghost use Rattle.tsp_text.specs.WordPlaces.{DepotAfter, FirstAfter, TourNode, SetNode, StepAfter, IndexAfter};
+ghost use Rattle.tsp_text.specs.SectionWords.{DepotAfter, FirstAfter, TourNode, SetNode, StepAfter, IndexAfter};
 
 /// The first faults of some texts of word lines. In the texts `/` parts lines.
-#[tactic(auto, unfolding(tsp_number::specs::Reading::decimal_of, tsp_number::specs::Reading::whole_of))]
+#[tactic(auto, unfolding(tsp_number::specs::NumberWord::decimal_of, tsp_number::specs::NumberWord::whole_of))]
 pub fn faults_of_word_lines()
     ensures unknown { FaultAt (codes "TYPE : TSP/FOO") 2 0 faults.UnknownLine }
     ensures second_word_no_colon { FaultAt (codes "FOO BAR : 1") 1 0 faults.UnknownLine }
@@ -49,7 +49,7 @@ pub fn faults_of_word_lines()
 {}
 
 /// The first faults of some texts of numbers.
-#[tactic(auto, unfolding(tsp_number::specs::Reading::decimal_of, tsp_number::specs::Reading::whole_of))]
+#[tactic(auto, unfolding(tsp_number::specs::NumberWord::decimal_of, tsp_number::specs::NumberWord::whole_of))]
 pub fn faults_of_words()
     ensures stray { FaultAt (codes "1 2") 1 1 faults.StrayNumber }
     ensures stray_after_comment { FaultAt (codes "TOUR_SECTION/1/COMMENT : x/2")
@@ -115,7 +115,7 @@ pub fn faults_of_words()
 {}
 
 /// The faults at the end of some texts.
-#[tactic(auto, unfolding(tsp_number::specs::Reading::decimal_of, tsp_number::specs::Reading::whole_of, tsp_format::specs::Cells::cells, tsp_format::specs::Nodes::nodes_to))]
+#[tactic(auto, unfolding(tsp_number::specs::NumberWord::decimal_of, tsp_number::specs::NumberWord::whole_of, tsp_format::specs::Nodes::cells, tsp_format::specs::Nodes::nodes_to))]
 pub fn faults_at_the_end()
     ensures no_type { MissingAtEnd (codes "DIMENSION 3") fields.TypeKey }
     ensures small_letters { MissingAtEnd (codes "dimension : 3") fields.TypeKey }
@@ -171,7 +171,7 @@ pub fn faults_at_the_end()
 {}
 
 /// Numbers and lines at their limits, and past them by one.
-#[tactic(auto, unfolding(tsp_number::specs::Reading::decimal_of, tsp_number::specs::Reading::whole_of, tsp_format::specs::Cells::cells, tsp_format::specs::Nodes::nodes_to))]
+#[tactic(auto, unfolding(tsp_number::specs::NumberWord::decimal_of, tsp_number::specs::NumberWord::whole_of, tsp_format::specs::Nodes::cells, tsp_format::specs::Nodes::nodes_to))]
 pub fn limits_of_lines()
     ensures most_nodes { MissingAtEnd (codes "DIMENSION : 100000") fields.TypeKey }
     ensures more_nodes { IsNumberFault (codes "DIMENSION : 100001") 1 0 numbers.OutOfRange }
@@ -210,7 +210,7 @@ pub fn limits_of_lines()
 {}
 
 /// The last word within the limit of a list, and the first beyond it.
-#[tactic(auto, unfolding(tsp_number::specs::Reading::decimal_of, tsp_number::specs::Reading::whole_of))]
+#[tactic(auto, unfolding(tsp_number::specs::NumberWord::decimal_of, tsp_number::specs::NumberWord::whole_of))]
 pub fn limits_of_sections()
     ensures depots { IsLimit (DepotAfter 100000) (DepotAfter 99999) (codes "1") }
     ensures pairs { IsLimit (FirstAfter 100000) (FirstAfter 99999) (codes "1") }
@@ -229,7 +229,7 @@ pub fn limits_of_sections()
 {}
 
 /// The fields of the files that some texts parse to.
-#[tactic(auto, unfolding(tsp_number::specs::Reading::decimal_of, tsp_number::specs::Reading::whole_of, tsp_format::specs::Nodes::nodes_to))]
+#[tactic(auto, unfolding(tsp_number::specs::NumberWord::decimal_of, tsp_number::specs::NumberWord::whole_of, tsp_format::specs::Nodes::nodes_to))]
 pub fn fields_of_texts()
     ensures value { OthersAre (codes "FOO : BAR") (codes "FOO") (codes "BAR") }
     ensures no_value { OthersAre (codes "FOO: ") (codes "FOO") (codes "") }

@@ -1,16 +1,13 @@
 //! Laws: the fields of a text without a fault are valid, one by one and together.
-//! `src/round_trip.rt` of tsp_round calls the second one.
+//! `src/round_trip.rt` of tsp_read calls the second one.
 
 ghost use Rattle.std.specs.Prelude.{◌≡◌, ℕ, List, None, false};
 ghost use Rattle.tsp_format.specs.declared.keyword.Field.TheVariants.{BranchPart};
 ghost use Rattle.tsp_file.specs.Fields.{Fields};
 ghost use Rattle.tsp_file.specs.Validity.{bad_field};
 ghost use Rattle.tsp_file.specs.Rules.{fault_of};
-ghost use Rattle.tsp_text.specs.Items.{Item};
-ghost use Rattle.tsp_text.specs.Cuts.{AreCut};
-ghost use Rattle.tsp_text.specs.FirstFault.{IsClean};
-ghost use Rattle.tsp_text.specs.Spells.{spelled, is_incomplete, fault_at_end};
-ghost use Rattle.tsp_text.specs.Text.{part, Spells};
+ghost use Rattle.tsp_text.specs.Items.{Item, AreCut};
+ghost use Rattle.tsp_text.specs.Spells.{IsClean, spelled, is_incomplete, fault_at_end, part, Spells};
 
 /// The fields of items without a fault are valid, field by field, if the tree of cases, where there
 /// is one, is whole.

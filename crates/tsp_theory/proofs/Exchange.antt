@@ -8,8 +8,7 @@ use Rattle.std.proofs.lemmas.List.Folds.{list_any_none}
 use Rattle.std.proofs.lemmas.List.Sorted.{IsPermutation-refl, IsPermutation-sym, IsPermutation-trans, IsPermutation-cons, IsPermutation-append_right, IsPermutation-middle, IsPermutation-filter_both, All-permutation}
 use Rattle.std.specs.List.{All, list_any, filter}
 use Rattle.std.specs.List.Sorted.{IsPermutation}
-use Rattle.tsp_theory.specs.Tree.{crosses}
-use Rattle.tsp_theory.specs.Growth.{and_node, IsLeastLeaving}
+use Rattle.tsp_theory.specs.Tree.{crosses, and_node, IsLeastLeaving}
 use Rattle.tsp_theory.specs.Forest.{IsUncrossed, IsLeastJoin}
 
 -- some pair crosses

@@ -1,22 +1,7 @@
 -- The files of lemmas of this crate. Crates above may import them.
-pub mod Additions
-pub mod Adjustments
-pub mod CostLaws
-pub mod Crossings
-pub mod CycleLinks
-pub mod Cycles
-pub mod Division
-pub mod Duality
-pub mod Exchange
-pub mod Forests
-pub mod Lengths
-pub mod MostWeight
-pub mod Neighbours
-pub mod OneTrees
-pub mod Sizes
-pub mod SmallTrees
-pub mod Steps
 pub mod Sums
-pub mod Tours
-pub mod TwoNearest
-pub mod Weights
+pub mod Neighbours
+pub mod Cycles
+pub mod Exchange
+pub mod Trees
+pub mod SmallTrees

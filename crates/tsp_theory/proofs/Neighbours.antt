@@ -1,20 +1,95 @@
--- Two nodes that are neighbours in a cycle of three nodes or more are joined by exactly one of its links. tsp_routing
--- and tsp_cases import it too. For the law `adjusted_bounds_bound_cycles` in src/laws.rt.
-use Rattle.std.proofs.Common.{◌≡◌, ◌≢◌, ℕ, zero, suc, ◌≤◌, ◌==◌, ◌&&◌, ◌||◌, Bool, true, false, not, cond, List, [], ◌∷◌, ℤ, ◌+ℤ◌, ◌≤ℤ◌, ◌⊎◌, inl, inr, refl, arith, ap, sym, ◌∙◌, subst}
-use Rattle.std.specs.Prelude.{pos, if◌then◌else◌}
-use Rattle.std.specs.List.{AllPairs, AllByRecursion, Contains, list_any}
-use Rattle.std.proofs.lemmas.Bool.{cases_Bool, cases_eq, both_ways, false_from_ne_true, and_parts, and_from, or_cases, or_left, or_right, eqb-true, eq-eqb, ne_eqb}
+-- How often a cycle crosses a part of its nodes: an even number of times, and so at least twice where it crosses at
+-- all. tsp_routing and tsp_cases import it too. For the law `cycles_cross_combs` in src/laws.rt of tsp_cases and
+-- others.
+use Rattle.std.proofs.Common.{◌≡◌, ℕ, Bool, true, false, not, cond, List, [], ◌∷◌, ℤ, ◌+ℤ◌, ◌≤ℤ◌, ◌⊎◌, inl, inr, refl, arith, ap, sym, ◌∙◌, ◌≢◌, zero, suc, ◌≤◌, ◌==◌, ◌&&◌, ◌||◌, subst, length, ap₂, subst₂}
+use Rattle.std.proofs.lemmas.Bool.{cases_Bool, both_ways, cases_eq, false_from_ne_true, and_parts, and_from, or_cases, or_left, or_right, eqb-true, eq-eqb, ne_eqb}
 use Rattle.std.proofs.lemmas.Bool.Decides.{nat_tests}
 use Rattle.std.proofs.lemmas.Int.{ints}
-use Rattle.std.proofs.lemmas.List.Elements.{recursion_from_All}
+use Rattle.std.proofs.lemmas.List.Elements.{All-from_recursion, All-contains, recursion_from_All}
 use Rattle.std.proofs.lemmas.List.Folds.{Any-from_list_any, list_any_at}
-use Rattle.tsp_theory.specs.Cycle.{IsCycle, links, AreNeighbours}
-use Rattle.tsp_theory.specs.Length.{sum_int_by, length_of}
-use Rattle.tsp_theory.specs.Tree.{crosses, crossing}
-use Rattle.tsp_theory.specs.Adjusted.{is_same_pair}
-use Rattle.tsp_theory.proofs.CostLaws.{Laws}
-use Rattle.tsp_theory.proofs.Crossings.{one_if, none_or_one, twice}
-use Rattle.tsp_theory.proofs.Cycles.{has_node}
+use Rattle.std.specs.List.{AllByRecursion, Contains, AllPairs, list_any}
+use Rattle.std.specs.Prelude.{pos, if◌then◌else◌, ◌-ℤ◌, ◌*ℤ◌}
+use Rattle.tsp_theory.proofs.Cycles.{Laws, has_node, entries_of_links, scaled_length, weight_even, least_tree_below}
+use Rattle.tsp_theory.specs.Bounds.{is_same_pair, IsScale, entry, total, weight_between, pair_of, number_on, numbers_on, triples_total, adjusted, UsesEach, UsesNone, AdjustedBoundsBoundCycles, UnadjustedBoundsAreNodeBounds}
+use Rattle.tsp_theory.specs.Tour.{links_to, sum_int_by, length_of, IsCycle, links, AreNeighbours}
+use Rattle.tsp_theory.specs.Tree.{crosses, crossing, weight_of}
+
+abbrev pub one_if : Bool → ℤ
+one_if b = if b then pos 1 else pos 0
+
+pub none_or_one : (b : Bool) → (pos 0 ≤ℤ one_if b) × (one_if b ≤ℤ pos 1)
+none_or_one true = (omega (arith, ints), omega (arith, ints))
+none_or_one false = (omega (arith, ints), omega (arith, ints))
+
+-- the sum over the links from a node along others to an end
+abbrev sum_to : (ℕ → ℕ → ℤ) → ℕ → ℕ → List ℕ → ℤ
+sum_to f end from others = sum_int_by (λ link. f link.0 link.1) (links_to end from others)
+
+-- ---- evenly often
+
+turns : (a b c : Bool)
+    → (half : ℤ) × (one_if (cond a (not b) b) +ℤ one_if (cond b (not c) c) ≡ (half +ℤ half) +ℤ one_if (cond a (not c) c))
+turns true true c = (pos 0, omega (arith, ints))
+turns true false true = (pos 1, refl)
+turns true false false = (pos 0, refl)
+turns false true true = (pos 0, refl)
+turns false true false = (pos 1, refl)
+turns false false c = (pos 0, omega (arith, ints))
+
+-- from one node to another a list crosses as often as the two ends do alone, or by an even number more
+parity : (part : ℕ → Bool) (end from : ℕ) (others : List ℕ)
+    → (half : ℤ) × (sum_to (crossing part) end from others ≡ (half +ℤ half) +ℤ crossing part from end)
+parity part end from [] = (pos 0, omega (arith, ints))
+parity part end from (next ∷ others) =
+    let rest = parity part end next others in
+    let turn = turns (part from) (part next) (part end) in
+    (rest.0 +ℤ turn.0, omega (arith, ints, rest.1, turn.1))
+
+pub evenly : (part : ℕ → Bool) (nodes : List ℕ) → (half : ℤ) × (length_of (crossing part) nodes ≡ half +ℤ half)
+evenly part [] = (pos 0, refl)
+evenly part (x ∷ xs) = let p = parity part x x xs in (p.0, omega (arith, ints, p.1, none (part x)))
+  where
+    none : (a : Bool) → one_if (cond a (not a) a) ≡ pos 0
+    none true = refl
+    none false = refl
+
+-- ---- at least twice
+
+crossed : (part : ℕ → Bool) (side : Bool) (end from : ℕ) (others : List ℕ) → part from ≡ side
+    → AllByRecursion (λ y. part y ≡ side) others ⊎ (pos 1 ≤ℤ sum_to (crossing part) end from others)
+crossed part side end from [] h = inl tt
+crossed part side end from (next ∷ others) h = elim (cases_Bool (crosses part (from, next))) [
+  | inl t ↦ inr (omega (arith, ints, ap one_if t, positive next others))
+  | inr f ↦
+      let here : part next ≡ side = same (part from) (part next) f ∙ h in
+      elim (crossed part side end next others here) [
+        | inl all ↦ inl (here, all)
+        | inr more ↦ inr (omega (arith, ints, ap one_if f, more))
+      ]
+]
+  where
+    same : (x y : Bool) → cond x (not y) y ≡ false → y ≡ x
+    same true true k = refl
+    same true false k = sym k
+    same false y k = k
+
+    positive : (from : ℕ) (others : List ℕ) → pos 0 ≤ℤ sum_to (crossing part) end from others
+    positive from [] = omega (arith, ints, (none_or_one (crosses part (from, end))).0)
+    positive from (next ∷ others) = omega (arith, ints, (none_or_one (crosses part (from, next))).0, positive next others)
+
+pub twice : (part : ℕ → Bool) (nodes : List ℕ) (inside outside : ℕ) → Contains nodes inside → Contains nodes outside
+    → part inside ≡ true → part outside ≡ false → pos 2 ≤ℤ length_of (crossing part) nodes
+twice part [] inside outside in_nodes out_nodes p q = absurd (omega (arith, in_nodes.1))
+twice part (x ∷ xs) inside outside in_nodes out_nodes p q = elim (crossed part (part x) x x xs refl) [
+  | inl all ↦
+      let each = All-from_recursion (λ y. part y ≡ part x) (x ∷ xs) (refl, all) in
+      let first : part inside ≡ part x = All-contains (λ y. part y ≡ part x) (x ∷ xs) inside each in_nodes in
+      let second : part outside ≡ part x = All-contains (λ y. part y ≡ part x) (x ∷ xs) outside each out_nodes in
+      absurd (both_ways (part inside) (first ∙ (sym second ∙ q)) p)
+  | inr more ↦ let even = evenly part (x ∷ xs) in omega (arith, ints, more, even.1)
+]
+
+-- ---- two nodes that are neighbours in a cycle of three nodes or more are joined by exactly
 
 -- ---- sums and counts
 
@@ -220,3 +295,124 @@ pub count_others : (nodes : List ℕ) (pair : ℕ × ℕ) → (AreNeighbours nod
 count_others nodes pair h =
     count_none (is_same_pair pair) (links nodes)
     (false_from_ne_true (list_any (is_same_pair pair) (links nodes)) (λ t. h (neighbours_found nodes pair t)))
+
+-- ---- a least 1-tree under weights with numbers on taken and avoided pairs bounds each cycle
+
+-- ---- adjusted weights are symmetric
+
+and_turned : (x y : Bool) → (x && y) ≡ (y && x)
+and_turned true true = refl
+and_turned true false = refl
+and_turned false true = refl
+and_turned false false = refl
+
+or_turned : (x y : Bool) → (x || y) ≡ (y || x)
+or_turned true true = refl
+or_turned true false = refl
+or_turned false true = refl
+or_turned false false = refl
+
+pub same_turned : (pair : ℕ × ℕ) (i j : ℕ) → is_same_pair pair (i, j) ≡ is_same_pair pair (j, i)
+same_turned pair i j =
+    or_turned ((pair.0 == i) && (pair.1 == j)) ((pair.1 == i) && (pair.0 == j))
+    ∙ ap (λ b. b || ((pair.0 == i) && (pair.1 == j))) (and_turned (pair.1 == i) (pair.0 == j))
+    ∙ ap (λ b. ((pair.0 == j) && (pair.1 == i)) || b) (and_turned (pair.0 == i) (pair.1 == j))
+
+pub numbers_turned : (triples : List (ℕ × ℕ × ℤ)) (i j : ℕ) → numbers_on triples i j ≡ numbers_on triples j i
+numbers_turned [] i j = refl
+numbers_turned (t ∷ ts) i j =
+    let first : number_on t i j ≡ number_on t j i = ap (λ b. if b then t.2 else pos 0) (same_turned (pair_of t) i j) in
+    ap₂ (λ a b. a +ℤ b) first (numbers_turned ts i j)
+
+pub adjusted_even : (taken avoided : List (ℕ × ℕ × ℤ)) (w : ℕ → ℕ → ℤ) → ((i j : ℕ) → w i j ≡ w j i) → (i j : ℕ)
+    → adjusted taken avoided w i j ≡ adjusted taken avoided w j i
+adjusted_even taken avoided w even i j =
+    ap₂ (λ a b. a +ℤ b) (ap₂ (λ a b. a -ℤ b) (even i j) (numbers_turned taken i j)) (numbers_turned avoided i j)
+
+-- ---- the numbers along a cycle
+
+pub sum_zero : {X : Type 0} (xs : List X) → sum_int_by (λ x. pos 0) xs ≡ pos 0
+sum_zero [] = refl
+sum_zero (x ∷ xs) = omega (arith, ints, sum_zero xs)
+
+-- of pairs that the cycle uses, the numbers of all
+numbers_of_used : (n : ℕ) (nodes : List ℕ) (triples : List (ℕ × ℕ × ℤ)) → Laws → 3 ≤ n → IsCycle n nodes
+    → AllByRecursion (λ t. AreNeighbours nodes (pair_of t)) triples → length_of (numbers_on triples) nodes ≡ triples_total triples
+numbers_of_used n nodes [] laws some cycle used = sum_zero (links nodes)
+numbers_of_used n nodes (t ∷ ts) laws some cycle used =
+    let split = laws.sum (number_on t) (numbers_on ts) nodes in
+    let first = (sum_counted (is_same_pair (pair_of t)) t.2 (links nodes)).1
+    (count_neighbours n nodes (pair_of t) laws some cycle used.0) in
+    let rest = numbers_of_used n nodes ts laws some cycle used.1 in
+    omega (arith, ints, split, first, rest)
+
+-- of pairs that the cycle doesn't use, the numbers of none
+numbers_of_unused : (nodes : List ℕ) (triples : List (ℕ × ℕ × ℤ)) → Laws
+    → AllByRecursion (λ t. AreNeighbours nodes (pair_of t) → ⊥) triples → length_of (numbers_on triples) nodes ≡ pos 0
+numbers_of_unused nodes [] laws unused = sum_zero (links nodes)
+numbers_of_unused nodes (t ∷ ts) laws unused =
+    let split = laws.sum (number_on t) (numbers_on ts) nodes in
+    let first = (sum_counted (is_same_pair (pair_of t)) t.2 (links nodes)).0 (count_others nodes (pair_of t) unused.0) in
+    let rest = numbers_of_unused nodes ts laws unused.1 in
+    omega (arith, ints, split, first, rest)
+
+pub difference : {X : Type 0} (f g : X → ℤ) (xs : List X) → sum_int_by (λ x. f x -ℤ g x) xs ≡ sum_int_by f xs -ℤ sum_int_by g xs
+difference f g [] = omega (arith, ints)
+difference f g (x ∷ xs) = let rest = difference f g xs in omega (arith, ints, rest)
+
+-- the length under adjusted weights
+adjusted_length : (taken avoided : List (ℕ × ℕ × ℤ)) (w : ℕ → ℕ → ℤ) (nodes : List ℕ) → Laws
+    → length_of (adjusted taken avoided w) nodes ≡ (length_of w nodes -ℤ length_of (numbers_on taken) nodes) +ℤ length_of
+    (numbers_on avoided) nodes
+adjusted_length taken avoided w nodes laws =
+    let outer = laws.sum (λ i j. w i j -ℤ numbers_on taken i j) (numbers_on avoided) nodes in
+    let inner = difference (λ (link : ℕ × ℕ). w link.0 link.1) (λ (link : ℕ × ℕ). numbers_on taken link.0 link.1) (links nodes) in
+    omega (arith, ints, outer, inner)
+
+-- what a cycle weighs that uses each taken pair and no avoided one
+pub adjusted_cycle : (n : ℕ) (cost : ℕ → ℕ → ℤ) (scale : ℤ) (potentials : List ℤ) (taken avoided : List (ℕ × ℕ × ℤ))
+    (nodes : List ℕ)
+    → Laws → 3 ≤ n → IsScale scale → length potentials ≡ n
+    → IsCycle n nodes → UsesEach taken nodes → UsesNone avoided nodes
+    → length_of (adjusted taken avoided (weight_between scale potentials cost)) nodes
+    ≡ ((scale *ℤ length_of cost nodes) +ℤ (pos 2 *ℤ total potentials)) -ℤ triples_total taken
+adjusted_cycle n cost scale potentials taken avoided nodes laws some scale_in long cycle used unused =
+    let own = adjusted_length taken avoided (weight_between scale potentials cost) nodes laws in
+    let less = numbers_of_used n nodes taken laws some cycle
+    (recursion_from_All (λ t. AreNeighbours nodes (pair_of t)) taken used) in
+    let more = numbers_of_unused nodes avoided laws
+    (recursion_from_All (λ t. AreNeighbours nodes (pair_of t) → ⊥) avoided unused) in
+    let split = laws.sum (λ i j. scale *ℤ cost i j) (λ i j. entry potentials i +ℤ entry potentials j) nodes in
+    let sums = entries_of_links n nodes potentials potentials laws long long cycle in
+    let whole = scaled_length scale cost nodes laws scale_in in
+    omega (arith, ints, own, less, more, split, sums, whole)
+
+pub adjusted_bounds_bound_cycles : Laws → AdjustedBoundsBoundCycles
+adjusted_bounds_bound_cycles laws n cost scale potentials taken avoided bound nodes some even scale_in long is cycle used unused =
+    let w = weight_between scale potentials cost in
+    let below = least_tree_below laws n (adjusted taken avoided w) is.tree nodes some
+    (adjusted_even taken avoided w (weight_even scale potentials cost even)) is.least cycle in
+    let own = adjusted_cycle n cost scale potentials taken avoided nodes laws some scale_in long cycle used unused in
+    is.bound_is.least (length_of cost nodes) (omega (arith, ints, below, own))
+
+-- ---- nothing taken or avoided
+
+unadjusted_weight : (w : ℕ → ℕ → ℤ) (pairs : List (ℕ × ℕ)) → weight_of (adjusted [] [] w) pairs ≡ weight_of w pairs
+unadjusted_weight w [] = refl
+unadjusted_weight w (pair ∷ pairs) = let rest = unadjusted_weight w pairs in omega (arith, ints, rest)
+
+pub unadjusted_bounds_are_node_bounds : UnadjustedBoundsAreNodeBounds
+unadjusted_bounds_are_node_bounds n cost scale potentials bound is =
+    let w = weight_between scale potentials cost in
+    record {
+      tree = is.tree;
+      least = record {
+        tree = is.least.tree;
+        least = λ others tree. subst₂ (λ a b. a ≤ℤ b) (unadjusted_weight w is.tree) (unadjusted_weight w others)
+            (is.least.least others tree);
+      };
+      bound_is = record {
+        above = let own = is.bound_is.above in omega (arith, ints, own, unadjusted_weight w is.tree);
+        least = λ other above. is.bound_is.least other (omega (arith, ints, above, unadjusted_weight w is.tree));
+      };
+    }

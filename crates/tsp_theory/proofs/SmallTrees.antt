@@ -3,13 +3,12 @@
 use Rattle.std.proofs.Common.{◌≡◌, ◌≢◌, ℕ, zero, suc, ◌==◌, true, false, List, [], ◌∷◌, rules, arith, refl, sym, subst}
 use Rattle.std.specs.Prelude.{ℤ, ◌≤ℤ◌}
 use Rattle.std.proofs.lemmas.Bool.{both_ways, eq-eqb, eqb-true}
-use Rattle.tsp_theory.specs.Tree.{weight_of, IsInner, IsLeastOneTree}
-use Rattle.tsp_theory.specs.NodeBound.{weight_between, IsBoundOfPotentials, IsNodeBound}
-use Rattle.tsp_theory.specs.Growth.{and_node, IsLeastLeaving, grown_by, AreNearest, IsWholeGrowth, tree_of}
+use Rattle.tsp_theory.specs.Tree.{weight_of, IsInner, IsLeastOneTree, and_node, IsLeastLeaving, grown_by, AreNearest, IsWholeGrowth, tree_of}
+use Rattle.tsp_theory.specs.Bounds.{weight_between, IsBoundOfPotentials, IsNodeBound}
 use Rattle.tsp_theory.specs.Forest.{IsUncrossed, IsLeastJoin}
 use Rattle.tsp_theory.specs.Examples.{symmetric_costs}
-use Rattle.tsp_theory.proofs.OneTrees.{least_from_growth}
-use Rattle.tsp_theory.proofs.Weights.{weight_even}
+use Rattle.tsp_theory.proofs.Trees.{least_from_growth}
+use Rattle.tsp_theory.proofs.Cycles.{weight_even}
 
 -- the nodes 2, 3 and 4
 pub inner : (P : ℕ → Type 0) → P 2 → P 3 → P 4 → (x : ℕ) → IsInner 4 x → P x

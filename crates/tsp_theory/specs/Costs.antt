@@ -1,10 +1,12 @@
--- Rows of costs as code has them; and symmetric costs, re-exported from Symmetry.antt of tsp_format. For `costs_from`
+-- Rows of costs as code has them; and symmetric costs, re-exported from Words.antt of tsp_format. For `costs_from`
 -- of `Costs` (src/costs.rt), and for the bounds by 1-trees, which need symmetric costs. Four crates above import it
 -- too.
 use Rattle.std.specs.Prelude.{◌≡◌, ℕ, ℤ, List, slice_index_or, pos, neg_ℤ, ◌≤ℤ◌}
-use Rattle.tsp_format.specs.Nodes.{IsNode}
+use Rattle.tsp_number.specs.declared.decimal.Point.{Point}
 use Rattle.tsp_format.specs.Limits.{most_weight}
-
+use Rattle.tsp_format.specs.Nodes.{IsNode}
+use Rattle.tsp_theory.specs.declared.costs.Region.{Region}
+use Rattle.tsp_theory.specs.declared.costs.Site.{Site}
 
 -- the entry is the cost, which is within the limit of weights
 pub record IsCostEntry (cost entry : ℤ) : Type 0 where
@@ -15,3 +17,19 @@ pub record IsCostEntry (cost entry : ℤ) : Type 0 where
 -- a row has the cost to each node at the node's index
 abbrev pub IsCostRow : ℕ → (ℕ → ℤ) → List ℤ → Type 0
 IsCostRow n cost row = (j : ℕ) → IsNode n j → IsCostEntry (cost j) (slice_index_or row j (pos 0))
+
+-- ---- boxes of points along the axes, and nodes with their points
+
+-- the point lies in the box
+pub record IsIn (region : Region) (p : Point) : Type 0 where
+  pub low_x : region.low.x ≤ℤ p.x
+  pub high_x : p.x ≤ℤ region.high.x
+  pub low_y : region.low.y ≤ℤ p.y
+  pub high_y : p.y ≤ℤ region.high.y
+  pub low_z : region.low.z ≤ℤ p.z
+  pub high_z : p.z ≤ℤ region.high.z
+
+-- a node with its point
+pub record IsSite (nodes : ℕ) (place : ℕ → Point) (site : Site) : Type 0 where
+  pub node_in : IsNode nodes site.node
+  pub there : site.place ≡ place site.node

@@ -1,6 +1,7 @@
 -- Small costs, trees and numbers of nodes. For the laws of src/examples.rt, which state 1-trees, duals and bounds
--- worked out by hand; CycleExamples.antt imports `directed`.
-use Rattle.std.specs.Prelude.{ℕ, ◌+◌, ◌-◌, ◌*◌, ◌/◌, ◌==◌, if◌then◌else◌, min, max, List, [], ◌∷◌, slice_index_or, ℤ, pos, negsuc}
+-- worked out by hand; Examples.antt imports `directed`.
+use Rattle.std.specs.Prelude.{ℕ, ◌+◌, ◌-◌, ◌*◌, ◌/◌, ◌==◌, if◌then◌else◌, min, max, List, [], ◌∷◌, slice_index_or, ℤ, pos, negsuc, ◌≡◌}
+use Rattle.tsp_theory.specs.Tour.{length_of}
 
 -- symmetric costs, from those between 2 and 1, 3 and 1, 3 and 2, 4 and 1, 4 and 2, 4 and 3
 abbrev pub symmetric_costs : List ℤ → ℕ → ℕ → ℤ
@@ -69,3 +70,21 @@ pairs_of first second p q = (1, first) ∷ (1, second) ∷ p ∷ q ∷ []
 -- a number on the pair 1 and 3, and one on 2 and 4
 abbrev pub on_diagonals : ℤ → ℤ → List (ℕ × ℕ × ℤ)
 on_diagonals a b = (1, 3, a) ∷ (4, 2, b) ∷ []
+
+-- ---- lists of two to four nodes
+
+-- a list of two nodes
+abbrev pub two : ℕ → ℕ → List ℕ
+two a b = a ∷ b ∷ []
+
+-- a list of three nodes
+abbrev pub three : ℕ → ℕ → ℕ → List ℕ
+three a b c = a ∷ two b c
+
+-- a list of four nodes
+abbrev pub four : ℕ → ℕ → ℕ → ℕ → List ℕ
+four a b c d = a ∷ three b c d
+
+-- the cycle through these nodes has this length under costs that depend on the direction
+abbrev pub HasDirectedLength : List ℕ → ℤ → Type 0
+HasDirectedLength nodes length = length_of directed nodes ≡ length

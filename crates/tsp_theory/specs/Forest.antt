@@ -4,8 +4,7 @@
 -- and network algorithms, 1983, chapter 6: the blue rule.
 use Rattle.std.specs.Prelude.{◌≡◌, ℕ, ◌+◌, Bool, false, List, [], ◌∷◌, ◌++◌, length, ℤ}
 use Rattle.std.specs.List.{All}
-use Rattle.tsp_theory.specs.Growth.{IsLeastLeaving}
-use Rattle.tsp_theory.specs.Tree.{IsInner, crosses}
+use Rattle.tsp_theory.specs.Tree.{IsLeastLeaving, IsInner, crosses}
 
 -- no pair leaves the set `part`
 abbrev pub IsUncrossed : (ℕ → Bool) → List (ℕ × ℕ) → Type 0

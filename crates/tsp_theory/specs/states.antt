@@ -1,3 +1,2 @@
 -- The files of definitions that look into structs of the code.
-pub mod Additions
 pub mod Nearest

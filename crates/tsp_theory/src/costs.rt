@@ -4,17 +4,16 @@
 ghost use Rattle.std.specs.Bool.{OnTrue};
 ghost use Rattle.std.specs.List.{All};
 ghost use Rattle.std.specs.Prelude.{◌≡◌, ◌≢◌, ◌≤◌, ◌+◌, ℕ, ℤ, length, pos, neg_ℤ, ◌≤ℤ◌, IfSome, ◌-ℤ◌, unsigned_abs};
-ghost use Rattle.tsp_distance.specs.Distances.{on_plane};
-ghost use Rattle.tsp_distance.specs.declared.decimal.Point.{Point};
+ghost use Rattle.tsp_number.specs.Distances.{on_plane};
+ghost use Rattle.tsp_number.specs.declared.decimal.Point.{Point};
 ghost use Rattle.tsp_format.specs.Limits.{most_nodes, most_tour_nodes, most_weight};
 ghost use Rattle.tsp_format.specs.Nodes.{IsNode};
-ghost use Rattle.tsp_theory.specs.Costs.{IsCostRow};
-ghost use Rattle.tsp_theory.specs.Length.{length_of};
-ghost use Rattle.tsp_theory.specs.Regions.{IsIn, IsSite};
+ghost use Rattle.tsp_theory.specs.Costs.{IsCostRow, IsIn, IsSite};
+ghost use Rattle.tsp_theory.specs.Tour.{length_of};
 
 use std::alloc::Global;
-use tsp_distance::{Decimal, Point};
 use tsp_io::Refused;
+use tsp_number::{Decimal, Point};
 
 /// Costs between the nodes 1 to `count`, which needn't be symmetric.
 ///
@@ -131,7 +130,7 @@ pub trait Costs {
 
 /// Costs that are symmetric between different nodes.
 pub trait Symmetric: Costs {
-    ghost use Rattle.tsp_format.specs.Symmetry.{IsSymmetric};
+    ghost use Rattle.tsp_format.specs.Words.{IsSymmetric};
 
     ghost even: { (costs : Self) → IsSymmetric (Self.at costs) };
 }
@@ -148,9 +147,9 @@ pub struct Region {
 }
 
 impl Region {
-    ghost use Rattle.tsp_distance.specs.declared.decimal.Point.{Point};
-    ghost use Rattle.tsp_distance.specs.Distances.{dx, dy, dz};
-    ghost use Rattle.tsp_theory.specs.Regions.{IsIn};
+    ghost use Rattle.tsp_number.specs.declared.decimal.Point.{Point};
+    ghost use Rattle.tsp_number.specs.Distances.{dx, dy, dz};
+    ghost use Rattle.tsp_theory.specs.Costs.{IsIn};
 
     /// The region of a single point.
     #[inline]

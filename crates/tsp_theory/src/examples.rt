@@ -2,16 +2,11 @@
 //! cycles, the next node on one, and lengths.
 
 ghost use Rattle.std.specs.Prelude.{◌≡◌, [], ◌∷◌, pos, ℤ, negsuc};
-ghost use Rattle.tsp_theory.specs.Adjusted.{adjusted, triples_total, UsesEach, UsesNone, IsAdjustedBoundOf};
-ghost use Rattle.tsp_theory.specs.Assignment.{AreGood, IsFirstBroken, IsDualBound};
-ghost use Rattle.tsp_theory.specs.CertificateNumbers.{entry, total, IsLeastBound};
-ghost use Rattle.tsp_theory.specs.Cycle.{IsCycle, links};
-ghost use Rattle.tsp_theory.specs.CycleExamples.{two, three, four, HasDirectedLength};
-ghost use Rattle.tsp_theory.specs.Examples.{rectangle, star, star_below_zero, directed, with_loops, three_zeros, three_numbers, four_numbers, zeros, one_on_two, pairs_of, on_diagonals};
+ghost use Rattle.tsp_theory.specs.Bounds.{adjusted, triples_total, UsesEach, UsesNone, IsAdjustedBoundOf, AreGood, IsFirstBroken, IsDualBound, entry, total, IsLeastBound, weight_between, IsNodeBound};
+ghost use Rattle.tsp_theory.specs.Tour.{IsCycle, links};
+ghost use Rattle.tsp_theory.specs.Examples.{two, three, four, HasDirectedLength, rectangle, star, star_below_zero, directed, with_loops, three_zeros, three_numbers, four_numbers, zeros, one_on_two, pairs_of, on_diagonals};
 ghost use Rattle.tsp_theory.specs.Forest.{IsWholeForest};
-ghost use Rattle.tsp_theory.specs.Growth.{tree_of};
-ghost use Rattle.tsp_theory.specs.NodeBound.{weight_between, IsNodeBound};
-ghost use Rattle.tsp_theory.specs.Tree.{IsOneTree, weight_of, IsLeastOneTree};
+ghost use Rattle.tsp_theory.specs.Tree.{tree_of, IsOneTree, weight_of, IsLeastOneTree};
 
 /// What is a cycle, what comes next on it, and how long some lists of nodes are.
 pub fn examples_of_cycles()

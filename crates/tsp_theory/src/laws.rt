@@ -4,12 +4,8 @@
 ghost use Rattle.std.specs.List.Sorted.{IsPermutation};
 ghost use Rattle.std.specs.Prelude.{◌≡◌, ◌≢◌, ◌≤◌, ℕ, ℤ, List, pos, ◌+ℤ◌, ◌*ℤ◌, ◌≤ℤ◌};
 ghost use Rattle.tsp_format.specs.Nodes.{IsNode, nodes_to};
-ghost use Rattle.tsp_theory.specs.Adjusted.{LeastOneTreesAreBelowCycles, AdjustedBoundsBoundCycles, UnadjustedBoundsAreNodeBounds};
-ghost use Rattle.tsp_theory.specs.Assignment.{DualsBoundCycles};
-ghost use Rattle.tsp_theory.specs.CertificateNumbers.{IsLeastBound};
-ghost use Rattle.tsp_theory.specs.Cycle.{IsCycle};
-ghost use Rattle.tsp_theory.specs.Length.{sum_int_by, length_of};
-ghost use Rattle.tsp_theory.specs.NodeBound.{IsNodeBound, NodeBoundsBoundCycles};
+ghost use Rattle.tsp_theory.specs.Bounds.{LeastOneTreesAreBelowCycles, AdjustedBoundsBoundCycles, UnadjustedBoundsAreNodeBounds, DualsBoundCycles, IsLeastBound, IsNodeBound, NodeBoundsBoundCycles};
+ghost use Rattle.tsp_theory.specs.Tour.{IsCycle, sum_int_by, length_of};
 
 /// A cycle has the nodes of 1..n in another order, so that sums over its nodes are those over 1..n.
 pub fn cycles_are_permutations()

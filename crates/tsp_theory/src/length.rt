@@ -5,7 +5,7 @@ ghost use Rattle.std.specs.Prelude.{◌≡◌, ◌≤◌, ◌++◌, ◌∷◌, [
 ghost use Rattle.std.specs.List.{All};
 ghost use Rattle.tsp_format.specs.Nodes.{IsNode, nodes_to};
 ghost use Rattle.tsp_format.specs.Limits.{most_tour_nodes};
-ghost use Rattle.tsp_theory.specs.Length.{length_of};
+ghost use Rattle.tsp_theory.specs.Tour.{length_of};
 
 use crate::costs::Costs;
 use std::alloc::{AllocError, Global};

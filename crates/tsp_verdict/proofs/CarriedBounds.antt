@@ -1,29 +1,23 @@
 -- A certificate's bound for the costs that the code looks up is its bound for the instance, whose costs are the same.
 -- For `assignment_bound` and `tree_bound` in src/potentials.rt.
-use Rattle.std.proofs.Common.{◌≡◌, ℕ, List, [], ◌∷◌, get_or, inl, inr, refl, sym, ap, ap₂, subst, subst₂, arith}
-use Rattle.std.specs.Prelude.{Some, ◌≤◌, length, unwrap_or, ℤ, ◌+ℤ◌, ◌-ℤ◌, ◌*ℤ◌, ◌≤ℤ◌, ◌<ℤ◌}
-use Rattle.std.specs.List.{All}
+use Rattle.std.proofs.Common.{◌≡◌, ℕ, List, [], ◌∷◌, get_or, inl, inr, refl, sym, ap, ap₂, subst, subst₂, arith, Option}
 use Rattle.std.proofs.lemmas.Int.{ints}
 use Rattle.std.proofs.lemmas.List.Elements.{All-contains}
-use Rattle.tsp_file.specs.Fields.{Fields, nodes_of}
-use Rattle.tsp_file.specs.Cost.{cost}
-use Rattle.tsp_format.specs.Symmetry.{IsSymmetric}
-use Rattle.tsp_theory.specs.Length.{length_of}
-use Rattle.tsp_cost.specs.ComputedProblems.{is_directed}
-use Rattle.tsp_cost.specs.states.Views.{HasCosts}
-use Rattle.tsp_theory.specs.Cycle.{IsCycle, AreNeighbours, Uses}
+use Rattle.std.specs.List.{All}
+use Rattle.std.specs.Prelude.{Some, ◌≤◌, length, unwrap_or, ℤ, ◌+ℤ◌, ◌-ℤ◌, ◌*ℤ◌, ◌≤ℤ◌, ◌<ℤ◌}
+use Rattle.tsp_format.specs.Words.{IsSymmetric}
 use Rattle.tsp_format.specs.declared.kinds.Kind.TheVariants as kinds
-use Rattle.tsp_theory.specs.CertificateNumbers.{IsScale, entry, IsBoundSized}
+use Rattle.tsp_file.specs.Cost.{cost, fixed_of, scale_in, multipliers_in, HoldsNodeNumbers, HoldsDuals}
+use Rattle.tsp_file.specs.Fields.{Fields, nodes_of}
+use Rattle.tsp_theory.specs.Bounds.{IsScale, entry, IsBoundSized, weight_between, pair_of, numbers_on, adjusted, UsesEach, IsAdjustedBoundOf, IsAdjustedBound, AdjustedBoundsBoundCycles, AreGood, IsFirstBroken, IsDualBound, DualsBoundCycles}
+use Rattle.tsp_theory.specs.Tour.{length_of, IsCycle, AreNeighbours, Uses}
 use Rattle.tsp_theory.specs.Tree.{weight_of, IsLeastOneTree}
-use Rattle.tsp_theory.specs.NodeBound.{weight_between}
-use Rattle.tsp_theory.specs.Adjusted.{pair_of, numbers_on, adjusted, UsesEach, IsAdjustedBoundOf, IsAdjustedBound, AdjustedBoundsBoundCycles}
-use Rattle.tsp_theory.specs.Assignment.{AreGood, IsFirstBroken, IsDualBound, DualsBoundCycles}
-use Rattle.tsp_report.specs.declared.verdict.Reason.TheVariants.{DualInfeasible}
-use Rattle.tsp_verdict.specs.Multiplied.{AreListed}
-use Rattle.tsp_file.specs.Defaults.{fixed_of, scale_in, multipliers_in}
-use Rattle.tsp_verdict.specs.PotentialsCertificate.{StandsAgainstPotentials, IsBoundByNodes, IsBoundByDuals}
-use Rattle.tsp_verdict.specs.Certified.{IsBoundBy, BoundsSolutionsBy, IsBoundFitting, IsCertified}
+use Rattle.tsp_cost.specs.Problems.{is_directed}
+use Rattle.tsp_cost.specs.states.Views.{HasCosts}
 use Rattle.tsp_report.specs.declared.task.Certificate.TheVariants.{Potentials}
+use Rattle.tsp_report.specs.declared.verdict.Reason.TheVariants.{DualInfeasible}
+use Rattle.tsp_verdict.specs.Certificates.{AreListed, StandsAgainstPotentials, IsBoundByNodes, IsBoundByDuals}
+use Rattle.tsp_verdict.specs.Certified.{IsBoundBy, BoundsSolutionsBy, IsBoundFitting, IsCertified}
 
 -- the bounds of the crates below are as large at most
 pub fitting : (bound : ℤ) → IsBoundSized bound → IsBoundFitting bound
@@ -171,3 +165,32 @@ broken_stands inst pot n costs scale rows columns i j kind are keeps pair =
         first = subst (λ s. IsFirstBroken (nodes_of inst) (cost inst) s rows columns i j) are.scale_is here;
       },
     )
+
+-- ---- the potentials that a valid file lends are one for each node, and so are its duals
+
+counted : {A : Type 0} (pot : Fields) (entries : List A) → pot.dimension ≡ Some (length entries) → length entries ≡ nodes_of pot
+counted pot entries dimension = sym (ap (λ (o : Option ℕ). unwrap_or o 0) dimension)
+
+-- ---- potentials of nodes
+
+pub numbers_counted : (pot : Fields) (scale : ℤ) (numbers : List ℤ) (triples : List (ℕ × ℕ × ℤ))
+    → HoldsNodeNumbers pot scale numbers triples → length numbers ≡ nodes_of pot
+numbers_counted pot scale numbers triples held = counted pot numbers held.each_number.0
+
+-- ---- duals
+
+pub duals_are : (pot : Fields) (scale : ℤ) (rows columns : List ℤ) → HoldsDuals pot scale rows columns
+    → AreOf pot scale rows columns
+duals_are pot scale rows columns held = record {
+  scale_is = held.scale_is;
+  rows_are = held.rows_are;
+  columns_are = held.columns_are;
+}
+
+pub rows_counted : (pot : Fields) (scale : ℤ) (rows columns : List ℤ) → HoldsDuals pot scale rows columns
+    → length rows ≡ nodes_of pot
+rows_counted pot scale rows columns held = counted pot rows held.each_row.0
+
+pub columns_counted : (pot : Fields) (scale : ℤ) (rows columns : List ℤ) → HoldsDuals pot scale rows columns
+    → length columns ≡ nodes_of pot
+columns_counted pot scale rows columns held = counted pot columns held.each_column.0

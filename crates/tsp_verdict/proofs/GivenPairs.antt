@@ -1,22 +1,132 @@
--- The fixed pairs of an instance, each once, as decisions that take them, found in one pass over the pairs. For
--- `taken_once` in src/certificate.rt and others.
-use Rattle.std.proofs.Common.{◌≡◌, ◌∙◌, ℕ, ◌+◌, ◌<◌, ◌≤◌, ◌||◌, ◌&&◌, not, Bool, true, false, List, [], ◌∷◌, ◌++◌, get_or, length, take, drop, refl, sym, ap, subst, arith, inl, inr, drop-cons, add-one}
-use Rattle.std.specs.Prelude.{if◌then◌else◌, cond, filter}
-use Rattle.std.specs.BTreeSet.{BTreeSet, contains}
-use Rattle.std.specs.List.{All, AllByRecursion, list_any}
-use Rattle.std.proofs.lemmas.Bool.{cases_Bool}
-use Rattle.std.proofs.lemmas.List.{append_assoc, drop_all, append-nil, length-map, take_more}
+-- The keys of a set of pairs: those of two pairs are equal exactly where the pairs are the same, with a direction or
+-- without. For `taken_once` in src/certificate.rt and others.
+use Rattle.std.proofs.Common.{◌≡◌, ℕ, ◌||◌, Bool, true, false, cond, eqb, leb, refl, sym, ap, ap₂, subst, ◌∙◌, inl, inr, arith, ◌+◌, ◌<◌, ◌≤◌, ◌&&◌, not, List, [], ◌∷◌, ◌++◌, get_or, length, take, drop, drop-cons, add-one, ◌-◌}
+use Rattle.std.proofs.lemmas.Bool.{and_from, and_parts, cases_cond, cases_order, eq-eqb, eqb-true, false≢true, le-leb, le-ltb, lt-leb, or_cases, cases_Bool, cases_lt}
+use Rattle.std.proofs.lemmas.List.{append_assoc, drop_all, append-nil, length-map, take_more, get_or-take, get_or_default, length-take-le}
 use Rattle.std.proofs.lemmas.List.Elements.{All-from_recursion, recursion_from_All}
-use Rattle.std.proofs.lemmas.List.Folds.{list_any-append}
+use Rattle.std.proofs.lemmas.List.Folds.{list_any-append, Any-from_list_any, list_any_at, list_any_more}
 use Rattle.std.proofs.lemmas.List.Kept.{AllPairs-cons}
+use Rattle.std.proofs.lemmas.Map.Lookups.{exact_pairs, exact_unsigned}
+use Rattle.std.specs.BTreeMap.{is_at}
+use Rattle.std.specs.BTreeSet.{BTreeSet, contains, Updates}
+use Rattle.std.specs.List.{All, AllByRecursion, list_any, AllPairs}
+use Rattle.std.specs.Ordering.{is_eq, nat_cmp}
+use Rattle.std.specs.Prelude.{◌⊎◌, if◌then◌else◌, filter, ℤ, pos}
+use Rattle.std.specs.declared.cmp.Ordering.{Ordering}
+use Rattle.std.specs.declared.cmp.Ordering.TheVariants.{Less, Equal, Greater}
 use Rattle.tsp_file.specs.Valid.{IsPairOf}
-use Rattle.tsp_theory.specs.Cycle.{Uses}
-use Rattle.tsp_cases.specs.states.Decided.{IsDecision}
+use Rattle.tsp_theory.specs.Bounds.{is_same_pair, pair_of}
+use Rattle.tsp_theory.specs.Tour.{Uses}
+use Rattle.tsp_cases.specs.Cases.{is_same, KeepsAll, KeepsDecision, DecideOnce, take_pairs}
 use Rattle.tsp_cases.specs.declared.open_case.Decision.{Decision}
-use Rattle.tsp_cases.specs.Decisions.{KeepsAll, KeepsDecision, DecideOnce, take_pairs, is_same}
-use Rattle.tsp_verdict.specs.states.PairSets.{key_of, pair_cmp, HasKeys}
-use Rattle.tsp_verdict.specs.BranchesCertificate.{each_once}
-use Rattle.tsp_verdict.proofs.PairKeys.{turned_same}
+use Rattle.tsp_cases.specs.states.OpenCases.{IsDecision}
+use Rattle.tsp_verdict.specs.Certificates.{each_once, IsListedEitherWay, pair_at, IsUnlisted, IsPairRepeated}
+use Rattle.tsp_verdict.specs.Solutions.{IsFirstPlace}
+use Rattle.tsp_verdict.specs.states.PairSets.{undirected, pair_cmp, key_of, HasKeys, HasPairs}
+
+-- ---- the two directions of a pair
+
+or_right : (x y : Bool) → y ≡ true → (x || y) ≡ true
+or_right true y h = refl
+or_right false y h = h
+
+pub straight : (p q : ℕ × ℕ) → p.0 ≡ q.0 → p.1 ≡ q.1 → is_same_pair p q ≡ true
+straight p q e f = rw (and_from (eqb p.0 q.0) (eqb p.1 q.1) (eq-eqb p.0 q.0 e) (eq-eqb p.1 q.1 f)) refl
+
+pub crossed : (p q : ℕ × ℕ) → p.1 ≡ q.0 → p.0 ≡ q.1 → is_same_pair p q ≡ true
+crossed p q e f = or_right _ _ (and_from (eqb p.1 q.0) (eqb p.0 q.1) (eq-eqb p.1 q.0 e) (eq-eqb p.0 q.1 f))
+
+turned : (a b : ℕ) → undirected (a, b) ≡ undirected (b, a)
+turned a b = elim (cases_order a b) [
+  | inl e ↦ rw e refl
+  | inr (inl lt) ↦ rw (le-leb a b (omega (arith, lt))) (rw (lt-leb b a lt) refl)
+  | inr (inr lt) ↦ rw (lt-leb a b lt) (rw (le-leb b a (omega (arith, lt))) refl)
+]
+
+pub from_same : (p q : ℕ × ℕ) → is_same_pair p q ≡ true → undirected p ≡ undirected q
+from_same p q same = elim (or_cases _ _ same) [
+  | inl on ↦ let e = and_parts (eqb p.0 q.0) (eqb p.1 q.1) on in ap₂ (λ a b. undirected (a, b)) (eqb-true p.0 q.0 e.0) (eqb-true p.1 q.1 e.1)
+  | inr back ↦ let e = and_parts (eqb p.1 q.0) (eqb p.0 q.1) back in turned p.0 p.1 ∙ ap₂ (λ a b. undirected (a, b)) (eqb-true p.1 q.0 e.0) (eqb-true p.0 q.1 e.1)
+]
+
+one_way : (p : ℕ × ℕ) → (undirected p ≡ p) ⊎ (undirected p ≡ (p.1, p.0))
+one_way p = cases_cond (leb p.0 p.1) p (p.1, p.0) (undirected p) refl
+
+pub to_same : (p q : ℕ × ℕ) → undirected p ≡ undirected q → is_same_pair p q ≡ true
+to_same p q e = by_ways (one_way p) (one_way q)
+  where
+    by_ways : (undirected p ≡ p) ⊎ (undirected p ≡ (p.1, p.0)) → (undirected q ≡ q) ⊎ (undirected q ≡ (q.1, q.0)) → is_same_pair p q ≡ true
+    by_ways (inl f) (inl g) = let s : p ≡ q = sym f ∙ e ∙ g in straight p q (ap (λ r. r.0) s) (ap (λ r. r.1) s)
+    by_ways (inl f) (inr g) = let s : p ≡ (q.1, q.0) = sym f ∙ e ∙ g in crossed p q (ap (λ r. r.1) s) (ap (λ r. r.0) s)
+    by_ways (inr f) (inl g) = let s : (p.1, p.0) ≡ q = sym f ∙ e ∙ g in crossed p q (ap (λ r. r.0) s) (ap (λ r. r.1) s)
+    by_ways (inr f) (inr g) = let s : (p.1, p.0) ≡ (q.1, q.0) = sym f ∙ e ∙ g in straight p q (ap (λ r. r.1) s) (ap (λ r. r.0) s)
+
+-- ---- keys of a set
+
+same_bool : (a b : Bool) → (a ≡ true → b ≡ true) → (b ≡ true → a ≡ true) → a ≡ b
+same_bool true b f g = sym (f refl)
+same_bool false true f g = g refl
+same_bool false false f g = refl
+
+is_equal : (o : Ordering) → is_eq o ≡ true → o ≡ Equal
+is_equal Less h = absurd (false≢true h)
+is_equal Equal h = refl
+is_equal Greater h = absurd (false≢true h)
+
+nat_same : (a : ℕ) → nat_cmp a a ≡ Equal
+nat_same a = rw (le-ltb a a (omega arith)) (rw (eq-eqb a a refl) refl)
+
+key_same : (p : ℕ × ℕ) → is_eq (pair_cmp p p) ≡ true
+key_same p = rw (nat_same p.0) (rw (nat_same p.1) refl)
+
+pub same_keys : (p q : ℕ × ℕ) → is_at (pair_cmp (undirected p)) (undirected q) ≡ is_same_pair q p
+same_keys p q = same_bool _ _ there back
+  where
+    there : is_at (pair_cmp (undirected p)) (undirected q) ≡ true → is_same_pair q p ≡ true
+    there h = to_same q p (sym (exact_pairs nat_cmp nat_cmp exact_unsigned exact_unsigned (undirected p) (undirected q) (is_equal _ h)))
+
+    back : is_same_pair q p ≡ true → is_at (pair_cmp (undirected p)) (undirected q) ≡ true
+    back h = subst (λ r. is_eq (pair_cmp (undirected p) r) ≡ true) (sym (from_same q p h)) (key_same (undirected p))
+
+pub cond_or : (b c : Bool) → cond b true c ≡ (c || b)
+cond_or true true = refl
+cond_or true false = refl
+cond_or false true = refl
+cond_or false false = refl
+
+-- ---- the same of pairs that may have a direction
+
+arc_keys : (p q : ℕ × ℕ) → is_at (pair_cmp p) q ≡ is_same true q p
+arc_keys p q = same_bool _ _ there back
+  where
+    there : is_at (pair_cmp p) q ≡ true → is_same true q p ≡ true
+    there h =
+        let e : p ≡ q = exact_pairs nat_cmp nat_cmp exact_unsigned exact_unsigned p q (is_equal _ h) in
+        and_from (eqb q.0 p.0) (eqb q.1 p.1) (eq-eqb q.0 p.0 (ap (λ r. r.0) (sym e))) (eq-eqb q.1 p.1 (ap (λ r. r.1) (sym e)))
+
+    back : is_same true q p ≡ true → is_at (pair_cmp p) q ≡ true
+    back h =
+        let e = and_parts (eqb q.0 p.0) (eqb q.1 p.1) h in
+        let same : q ≡ p = ap₂ (λ (a b : ℕ). (a, b)) (eqb-true q.0 p.0 e.0) (eqb-true q.1 p.1 e.1) in
+        subst (λ (r : ℕ × ℕ). is_eq (pair_cmp p r) ≡ true) (sym same) (key_same p)
+
+pub key_at : (directed : Bool) (p q : ℕ × ℕ) → is_at (pair_cmp (key_of directed p)) (key_of directed q) ≡ is_same directed q p
+key_at true p q = arc_keys p q
+key_at false p q = same_keys p q
+
+pub same_turn : (p q : ℕ × ℕ) → is_same_pair p q ≡ is_same_pair q p
+same_turn p q = same_bool _ _ (λ h. to_same q p (sym (from_same p q h))) (λ h. to_same p q (sym (from_same q p h)))
+
+turned_arc : (p q : ℕ × ℕ) → is_same true p q ≡ true → is_same true q p ≡ true
+turned_arc p q h =
+    let e = and_parts (eqb p.0 q.0) (eqb p.1 q.1) h in
+    and_from (eqb q.0 p.0) (eqb q.1 p.1) (eq-eqb q.0 p.0 (sym (eqb-true p.0 q.0 e.0))) (eq-eqb q.1 p.1 (sym (eqb-true p.1 q.1 e.1)))
+
+pub turned_same : (directed : Bool) (p q : ℕ × ℕ) → is_same directed p q ≡ is_same directed q p
+turned_same true p q = same_bool _ _ (turned_arc p q) (turned_arc q p)
+turned_same false p q = same_turn p q
+
+-- ---- the fixed pairs of an instance, each once
 
 -- ---- as one pass over the pairs has them
 
@@ -272,3 +382,155 @@ taken_all directed pairs taken index past so_far =
     let none : drop index pairs ≡ [] = drop_all index pairs past in
     sym (append-nil taken) ∙ ap (λ (xs : List (ℕ × ℕ)). taken ++ take_pairs (each_once_after directed (take index pairs) xs))
     (sym none) ∙ so_far ∙ ap take_pairs (once_all directed pairs)
+
+-- ---- a set of pairs without direction, with one pair more
+
+-- ---- a set that looks at no direction
+
+-- one pair more
+pub has_more : {X : Type 0} (pair_in : X → ℕ × ℕ) (s n : BTreeSet (ℕ × ℕ)) (xs : List X) (i : ℕ) (d : X) → i < length xs
+    → Updates pair_cmp s n (undirected (pair_in (get_or xs i d))) true
+    → HasPairs pair_in s (take i xs) → HasPairs pair_in n (take (i + 1) xs)
+has_more pair_in s n xs i d lt updates has = λ pair.
+    let here : is_at (pair_cmp (undirected (pair_in (get_or xs i d)))) (undirected pair) ≡ is_same_pair pair
+    (pair_in (get_or xs i d)) = same_keys (pair_in (get_or xs i d)) pair in
+    updates.0 (undirected pair) ∙ ap₂ (λ a b. cond a true b) here (has pair)
+    ∙ cond_or (is_same_pair pair (pair_in (get_or xs i d))) (list_any (λ x. is_same_pair pair (pair_in x)) (take i xs))
+    ∙ sym (list_any_more (λ x. is_same_pair pair (pair_in x)) xs i d lt)
+
+-- ---- what it says of a list of pairs
+
+listed : (pairs : List (ℕ × ℕ)) (pair : ℕ × ℕ) → list_any (λ x. is_same_pair pair x) pairs ≡ true → IsListedEitherWay pairs pair
+listed pairs pair h =
+    let found = Any-from_list_any (λ x. is_same_pair pair x) pairs h in
+    elim (or_cases _ _ found.4) [
+      | inl on ↦
+          let e = and_parts (eqb pair.0 found.1.0) (eqb pair.1 found.1.1) on in
+          let s : found.1 ≡ pair = ap₂ (λ a b. (a, b)) (sym (eqb-true _ _ e.0)) (sym (eqb-true _ _ e.1)) in
+          inl (found.0, found.2, get_or_default pairs found.0 pair found.1 found.2 ∙ found.3 ∙ s)
+      | inr back ↦
+          let e = and_parts (eqb pair.1 found.1.0) (eqb pair.0 found.1.1) back in
+          let s : found.1 ≡ (pair.1, pair.0) = ap₂ (λ a b. (a, b)) (sym (eqb-true _ _ e.0)) (sym (eqb-true _ _ e.1)) in
+          inr (found.0, found.2, get_or_default pairs found.0 (pair.1, pair.0) found.1 found.2 ∙ found.3 ∙ s)
+    ]
+
+found_listed : (pairs : List (ℕ × ℕ)) (pair : ℕ × ℕ) → IsListedEitherWay pairs pair
+    → list_any (λ x. is_same_pair pair x) pairs ≡ true
+found_listed pairs pair (inl at) =
+    list_any_at (λ x. is_same_pair pair x) pairs at.0 pair at.1 (rw at.2 (straight pair pair refl refl))
+found_listed pairs pair (inr at) =
+    list_any_at (λ x. is_same_pair pair x) pairs at.0 (pair.1, pair.0) at.1 (rw at.2 (crossed pair (pair.1, pair.0) refl refl))
+
+pub has_listed : (pairs : List (ℕ × ℕ)) (s : BTreeSet (ℕ × ℕ)) (pair : ℕ × ℕ) → HasPairs (λ p. p) s pairs
+    → contains pair_cmp s (undirected pair) ≡ true → IsListedEitherWay pairs pair
+has_listed pairs s pair has is = listed pairs pair (sym (has pair) ∙ is)
+
+pub lacks_unlisted : (pairs : List (ℕ × ℕ)) (s : BTreeSet (ℕ × ℕ)) (pair : ℕ × ℕ) → HasPairs (λ p. p) s pairs
+    → contains pair_cmp s (undirected pair) ≡ false → IsListedEitherWay pairs pair → ⊥
+lacks_unlisted pairs s pair has isnt is = false≢true (sym isnt ∙ has pair ∙ found_listed pairs pair is)
+
+-- ---- the same of pairs that may have a direction
+
+pub has_more_keys : (directed : Bool) (s n : BTreeSet (ℕ × ℕ)) (pairs : List (ℕ × ℕ)) (i : ℕ) (d : ℕ × ℕ) → i < length pairs
+    → Updates pair_cmp s n (key_of directed (get_or pairs i d)) true
+    → HasKeys directed s (take i pairs) → HasKeys directed n (take (i + 1) pairs)
+has_more_keys directed s n pairs i d lt updates has = λ pair.
+    let here = key_at directed (get_or pairs i d) pair in
+    updates.0 (key_of directed pair) ∙ ap₂ (λ a b. cond a true b) here (has pair)
+    ∙ cond_or (is_same directed pair (get_or pairs i d)) (list_any (is_same directed pair) (take i pairs))
+    ∙ sym (list_any_more (is_same directed pair) pairs i d lt)
+
+-- ---- what it says of a list of triples, none of which has the pair of an earlier one
+
+abbrev none : ℕ × ℕ × ℤ
+none = (0, 0, pos 0)
+
+abbrev pub AreApart : List (ℕ × ℕ × ℤ) → ℕ → Type 0
+AreApart triples count =
+    (i j : ℕ) → i < j → j < count → is_same_pair (pair_of (get_or triples i (0, 0, pos 0)))
+    (pair_of (get_or triples j (0, 0, pos 0))) ≡ false
+
+at_place : (triples : List (ℕ × ℕ × ℤ)) (k : ℕ) → pair_at triples (k + 1) ≡ pair_of (get_or triples k none)
+at_place triples k = let e : (k + 1) - 1 ≡ k = omega arith in ap (λ m. pair_of (get_or triples m none)) e
+
+-- the set has the pair of the next triple: it is the first that is repeated
+pub repeated_pair : (triples : List (ℕ × ℕ × ℤ)) (s : BTreeSet (ℕ × ℕ)) (i : ℕ) → i < length triples
+    → HasPairs pair_of s (take i triples) → AreApart triples i
+    → contains pair_cmp s (undirected (pair_of (get_or triples i (0, 0, pos 0)))) ≡ true
+    → IsFirstPlace (IsPairRepeated triples) triples (i + 1)
+repeated_pair triples s i lt has apart there =
+    let pair = pair_of (get_or triples i none) in
+    let found = Any-from_list_any (λ x. is_same_pair pair (pair_of x)) (take i triples) (sym (has pair) ∙ there) in
+    let low : found.0 < i = omega (arith, found.2, length-take-le i triples (omega (arith, lt))) in
+    let same : get_or triples found.0 none ≡ found.1 = get_or_default triples found.0 none found.1 (omega (arith, low, lt))
+    ∙ sym (get_or-take i triples found.0 found.1 low) ∙ found.3 in
+    let known : is_same_pair (pair_of (get_or triples found.0 none)) pair ≡ true = ap (λ x. is_same_pair (pair_of x) pair) same
+    ∙ same_turn (pair_of found.1) pair ∙ found.4 in
+    record {
+      here = (omega arith, omega (arith, lt));
+      holds = (
+        found.0 + 1,
+        omega arith,
+        omega (arith, low),
+        ap₂ (λ p q. is_same_pair p q) (at_place triples found.0) (at_place triples i) ∙ known,
+      );
+      first = λ earlier from before again.
+          let e : is_same_pair (pair_at triples again.0) (pair_at triples earlier) ≡ false =
+          apart (again.0 - 1) (earlier - 1) (omega (arith, again.1, again.2)) (omega (arith, before, from)) in
+          false≢true (sym e ∙ again.3);
+    }
+
+not_same : (b : Bool) → (b ≡ true → ⊥) → b ≡ false
+not_same true h = absurd (h refl)
+not_same false h = refl
+
+-- it hasn't: they are apart up to that one too
+pub apart_more : (triples : List (ℕ × ℕ × ℤ)) (s : BTreeSet (ℕ × ℕ)) (i : ℕ) → i < length triples
+    → HasPairs pair_of s (take i triples) → AreApart triples i
+    → contains pair_cmp s (undirected (pair_of (get_or triples i (0, 0, pos 0)))) ≡ false → AreApart triples (i + 1)
+apart_more triples s i lt has apart lacks k j before inside = elim (cases_lt j i) [
+  | inl low ↦ apart k j before low
+  | inr high ↦ let e : j ≡ i = omega (arith, high, inside) in rw e (last (omega (arith, before, e)))
+]
+  where
+    known : k < i → is_same_pair (pair_of (get_or triples k none)) (pair_of (get_or triples i none)) ≡ true
+        → list_any (λ x. is_same_pair (pair_of (get_or triples i none)) (pair_of x)) (take i triples) ≡ true
+    known low same =
+        let fits : k < length (take i triples) = omega (arith, low, length-take-le i triples (omega (arith, lt))) in
+        let here : is_same_pair (pair_of (get_or triples i none)) (pair_of (get_or (take i triples) k none)) ≡ true =
+        ap (λ x. is_same_pair (pair_of (get_or triples i none)) (pair_of x)) (get_or-take i triples k none low)
+        ∙ same_turn (pair_of (get_or triples i none)) (pair_of (get_or triples k none)) ∙ same in
+        list_any_at (λ x. is_same_pair (pair_of (get_or triples i none)) (pair_of x)) (take i triples) k none fits here
+
+    last : k < i → is_same_pair (pair_of (get_or triples k (0, 0, pos 0))) (pair_of (get_or triples i (0, 0, pos 0))) ≡ false
+    last low = not_same _ (λ same. false≢true (sym lacks ∙ has (pair_of (get_or triples i none)) ∙ known low same))
+
+pub apart_all : (triples : List (ℕ × ℕ × ℤ)) → AreApart triples (length triples)
+    → AllPairs (λ s t. is_same_pair (pair_of s) (pair_of t) ≡ false) triples
+apart_all triples apart i j d before inside =
+    ap₂ (λ s t. is_same_pair (pair_of s) (pair_of t)) (get_or_default triples i d none (omega (arith, before, inside)))
+    (get_or_default triples j d none inside) ∙ apart i j before inside
+
+-- ---- of triples whose pairs are looked up
+
+pub outside_here : (pairs : List (ℕ × ℕ)) (s : BTreeSet (ℕ × ℕ)) (triples : List (ℕ × ℕ × ℤ)) (i : ℕ) → HasPairs (λ p. p) s pairs
+    → i < length triples
+    → ((k : ℕ) (d : ℕ × ℕ × ℤ) → k < i → contains pair_cmp s (undirected (pair_of (get_or triples k d))) ≡ true)
+    → contains pair_cmp s (undirected (pair_of (get_or triples i (0, 0, pos 0)))) ≡ false
+    → IsFirstPlace (IsUnlisted pairs triples) triples (i + 1)
+outside_here pairs s triples i has lt inside lacks = record {
+  here = (omega arith, omega (arith, lt));
+  holds = λ is. lacks_unlisted pairs s (pair_of (get_or triples i none)) has lacks
+      (subst (IsListedEitherWay pairs) (at_place triples i) is);
+  first = λ earlier from before isnt. isnt
+      (has_listed pairs s (pair_at triples earlier) has (inside (earlier - 1) none (omega (arith, from, before))));
+}
+
+pub inside_more : (s : BTreeSet (ℕ × ℕ)) (triples : List (ℕ × ℕ × ℤ)) (i : ℕ) → i < length triples
+    → ((k : ℕ) (d : ℕ × ℕ × ℤ) → k < i → contains pair_cmp s (undirected (pair_of (get_or triples k d))) ≡ true)
+    → contains pair_cmp s (undirected (pair_of (get_or triples i (0, 0, pos 0)))) ≡ true
+    → (k : ℕ) (d : ℕ × ℕ × ℤ) → k < i + 1 → contains pair_cmp s (undirected (pair_of (get_or triples k d))) ≡ true
+inside_more s triples i lt inside there k d low = elim (cases_lt k i) [
+  | inl before ↦ inside k d before
+  | inr after ↦ let e : k ≡ i = omega (arith, low, after) in rw e (rw (get_or_default triples i d none lt) there)
+]

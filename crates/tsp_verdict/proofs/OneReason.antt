@@ -1,43 +1,97 @@
--- Two reasons of one rank that apply to a solution, to an instance or to a certificate have the same numbers. For the
--- law `files_have_one_verdict` in src/one_verdict.rt and others.
-use Rattle.std.proofs.Common.{◌≡◌, ◌∙◌, ℕ, ◌+◌, ◌-◌, List, length, inl, inr, refl, sym, ap, ap₂, subst, arith}
-use Rattle.std.specs.Prelude.{Option, None, Some, Bool, ℤ}
+-- The reasons against an instance and then against its certificate, of which the first one is the answer of a bound.
+-- For `Subject::basis_on` in src/solution_verdict.rt.
+use Rattle.std.proofs.Common.{◌<◌, ◌⊎◌, inl, inr, arith, ◌≡◌, ◌∙◌, ℕ, ◌+◌, ◌-◌, List, length, refl, sym, ap, ap₂, subst}
 use Rattle.std.proofs.lemmas.Bool.{cases_order, false≢true}
 use Rattle.std.proofs.lemmas.Int.{ints}
 use Rattle.std.proofs.lemmas.List.Elements.{recursion_from_All}
+use Rattle.std.specs.Prelude.{pos, Option, None, Some, Bool, ℤ}
 use Rattle.tsp_format.specs.Steps as listed
+use Rattle.tsp_format.specs.Words.{IsFirstAsymmetric}
+use Rattle.tsp_file.specs.Cost.{cost, scale_in, families_listed}
 use Rattle.tsp_file.specs.Fields.{Fields, nodes_of}
-use Rattle.tsp_file.specs.Cost.{cost}
-use Rattle.tsp_format.specs.Symmetry.{IsFirstAsymmetric}
-use Rattle.tsp_theory.specs.Assignment.{IsFirstBroken}
-use Rattle.tsp_cases.specs.declared.family.Crossings.{Crossings}
-use Rattle.tsp_cases.specs.BadBranches as pairs
+use Rattle.tsp_theory.specs.Bounds.{IsFirstBroken}
+use Rattle.tsp_cost.specs.Problems.{is_directed}
 use Rattle.tsp_cases.specs.Families.{IsFamily, NumbersAreUnique}
+use Rattle.tsp_cases.specs.ListedCases.{IsFirstBadLeaf, IsFirstTwice}
+use Rattle.tsp_cases.specs.ListedCases as pairs
+use Rattle.tsp_cases.specs.declared.family.Crossings.{Crossings}
 use Rattle.tsp_cases.specs.declared.open_case.Decision.{Decision}
-use Rattle.tsp_cases.specs.Listed.{IsFirstBadLeaf}
-use Rattle.tsp_cases.specs.Twice.{IsFirstTwice}
-use Rattle.tsp_cost.specs.ComputedProblems.{is_directed}
-use Rattle.tsp_file.specs.Defaults.{scale_in, families_listed}
+use Rattle.tsp_routing.specs.PlanVerdicts.{IsFirstBadSet, IsFirstBadPlanBranch, IsFirstBadPlanLeaf}
+use Rattle.tsp_report.specs.Verdicts.{rank_of}
 use Rattle.tsp_report.specs.declared.task.Certificate.{Certificate}
 use Rattle.tsp_report.specs.declared.task.Certificate.TheVariants.{Potentials, Branches}
+use Rattle.tsp_report.specs.declared.verdict.BoundVerdict.{BoundVerdict}
+use Rattle.tsp_report.specs.declared.verdict.BoundVerdict.TheVariants as bounds
 use Rattle.tsp_report.specs.declared.verdict.Reason.{Reason}
-use Rattle.tsp_report.specs.declared.verdict.Reason.TheVariants.{NotASolution, TooFewNodes, NotSymmetric, Dimension, TourCount, TourLength, DepotCount, DepotDemand, FixedEdgesInRoutes, DepotInRoute, NodeOutOfRange, RepeatedNode, FixedEdgeUnused, Unserved, Overload, LengthClaimed, NotPotentials, PotentialsDimension, PotentialsKind, MultiplierNotFixed, MultiplierRepeated, DualInfeasible, NotBranches, BranchesDimension, BadComb, BadBranch, BranchTwice, BadLeaf, TooManyLoads, NotJudged}
-use Rattle.tsp_routing.specs.GoodSets.{IsFirstBadSet}
-use Rattle.tsp_routing.specs.GoodBranches.{IsFirstBadPlanBranch}
-use Rattle.tsp_routing.specs.GoodLeaves.{IsFirstBadPlanLeaf}
-use Rattle.tsp_verdict.specs.Bounded.{StandsAgainstTouring, StandsAgainstRouting, StandsAgainstInstance, StandsAgainstBounded}
-use Rattle.tsp_verdict.specs.BranchesCertificate.{given_in, AreNumbersOf, StandsAgainstBranches, families_with_numbers}
-use Rattle.tsp_verdict.specs.Certified.{StandsAgainstCertificate, StandsAgainstCertified, StandsAgainstCertifiedRoutes}
-use Rattle.tsp_verdict.specs.PotentialsCertificate.{BreaksDuals, StandsAgainstPotentials}
-use Rattle.tsp_report.specs.ReasonRows.{rank_of}
-use Rattle.tsp_verdict.specs.Routes.{IsFirstUnserved, StandsAgainstRoutes}
-use Rattle.tsp_verdict.specs.Tours.{StandsAgainstTour}
-use Rattle.tsp_verdict.specs.WalksCertificate.{StandsAgainstWalks}
-use Rattle.tsp_verdict.proofs.Bounds.{instance_rank}
-use Rattle.tsp_verdict.proofs.Certificates.{tour_rank, routes_rank, certificate_rank, AreOwn, Both}
-use Rattle.tsp_verdict.proofs.FamiliesHold.{one_numbers}
-use Rattle.tsp_verdict.proofs.FirstReasons.{Carried, reason_of, IsOneByRank, one_place, one_pair}
-use Rattle.tsp_verdict.proofs.ByType.{instance_either, tree_either}
+use Rattle.tsp_report.specs.declared.verdict.Reason.TheVariants.{TooFewNodes, NotSymmetric, DepotCount, DepotDemand, FixedEdgesInRoutes, LengthClaimed, NotASolution, Dimension, TourCount, TourLength, DepotInRoute, NodeOutOfRange, RepeatedNode, FixedEdgeUnused, Unserved, Overload, NotPotentials, PotentialsDimension, PotentialsKind, MultiplierNotFixed, MultiplierRepeated, DualInfeasible, NotBranches, BranchesDimension, BadComb, BadBranch, BranchTwice, BadLeaf, TooManyLoads, NotJudged}
+use Rattle.tsp_verdict.proofs.FirstReasons.{certificate_rank, HasTours, instance_either, first_for_tours, tour_rank, routes_rank, AreOwn, Both, Carried, reason_of, IsOneByRank, one_place, one_pair, tree_either}
+use Rattle.tsp_verdict.proofs.TreeReasons.{one_numbers}
+use Rattle.tsp_verdict.specs.Certificates.{given_in, AreNumbersOf, StandsAgainstBranches, families_with_numbers, BreaksDuals, StandsAgainstPotentials, StandsAgainstWalks}
+use Rattle.tsp_verdict.specs.Certified.{StandsAgainstTouring, StandsAgainstRouting, StandsAgainstInstance, NoneAgainstInstance, StandsAgainstBounded, IsBoundVerdict, StandsAgainstCertificate, FindsBound, StandsAgainstCertified, StandsAgainstCertifiedRoutes}
+use Rattle.tsp_verdict.specs.Solutions.{IsFirstReason, IsFirstUnserved, StandsAgainstRoutes, StandsAgainstTour}
+
+tours_rank : (inst : Fields) (reason : Reason) → StandsAgainstTouring inst reason
+    → rank_of reason < rank_of (LengthClaimed (pos 0))
+tours_rank inst TooFewNodes stands = omega arith
+tours_rank inst (NotSymmetric i j) stands = omega arith
+tours_rank inst reason stands = absurd stands
+
+routing_rank : (inst : Fields) (reason : Reason) → StandsAgainstRouting inst reason
+    → rank_of reason < rank_of (LengthClaimed (pos 0))
+routing_rank inst TooFewNodes stands = omega arith
+routing_rank inst DepotCount stands = omega arith
+routing_rank inst DepotDemand stands = omega arith
+routing_rank inst FixedEdgesInRoutes stands = omega arith
+routing_rank inst reason stands = absurd stands
+
+pub instance_rank : (inst : Fields) (reason : Reason) → StandsAgainstInstance inst reason
+    → rank_of reason < rank_of (LengthClaimed (pos 0))
+instance_rank inst reason stands =
+    instance_either inst.kind (λ Stands. (reason : Reason) → Stands reason → rank_of reason < rank_of (LengthClaimed (pos 0))) inst
+    (tours_rank inst) (routing_rank inst) reason stands
+
+-- the first reason against the instance is the first of all
+pub instance_refused : (by : Certificate) (inst cert : Fields) (reason : Reason)
+    → IsFirstReason (StandsAgainstInstance inst) reason → IsBoundVerdict by inst cert (bounds.No reason)
+instance_refused by inst cert reason first = record {
+  stands = inl first.stands;
+  none_before = λ other low stands. by_side other low stands;
+}
+  where
+    by_side : (other : Reason) → rank_of other < rank_of reason
+        → StandsAgainstInstance inst other ⊎ StandsAgainstCertificate by inst cert other → ⊥
+    by_side other low (inl stands) = first.none_before other low stands
+    by_side other low (inr stands) =
+        omega (arith, low, instance_rank inst reason first.stands, certificate_rank by inst cert other stands)
+
+none_of_both : (by : Certificate) (inst cert : Fields) → NoneAgainstInstance inst
+    → ((other : Reason) → StandsAgainstCertificate by inst cert other → ⊥)
+    → (reason : Reason) → StandsAgainstBounded by inst cert reason → ⊥
+none_of_both by inst cert none certificate reason (inl stands) = none reason stands
+none_of_both by inst cert none certificate reason (inr stands) = certificate reason stands
+
+-- where none applies to the instance, it is the certificate that decides
+pub certificate_decides : (by : Certificate) (inst cert : Fields) (found : BoundVerdict) → NoneAgainstInstance inst
+    → FindsBound by inst cert found
+    → IsBoundVerdict by inst cert found
+certificate_decides by inst cert (bounds.Bound bound) none b = (none_of_both by inst cert none b.0, b.1)
+certificate_decides by inst cert bounds.NoSolution none b = (none_of_both by inst cert none b.0, b.1, b.2)
+certificate_decides by inst cert (bounds.No reason) none first = record {
+  stands = inr first.stands;
+  none_before = λ other low stands. by_side other low stands;
+}
+  where
+    by_side : (other : Reason) → rank_of other < rank_of reason
+        → StandsAgainstInstance inst other ⊎ StandsAgainstCertificate by inst cert other → ⊥
+    by_side other low (inl stands) = none other stands
+    by_side other low (inr stands) = first.none_before other low stands
+
+-- the same of an instance of tours, by the reasons against its tours
+pub tours_refused : (by : Certificate) (inst cert : Fields) (reason : Reason) → HasTours inst
+    → IsFirstReason (StandsAgainstTouring inst) reason → IsBoundVerdict by inst cert (bounds.No reason)
+tours_refused by inst cert reason kind first = instance_refused by inst cert reason (first_for_tours inst reason kind first)
+
+-- ---- two reasons of one rank that apply to a solution, to an instance or to a certificate
 
 -- the one value of an option
 pub one_value : {X : Type 0} (option : Option X) (a b : X) → option ≡ Some a → option ≡ Some b → a ≡ b

@@ -8,18 +8,14 @@ use Rattle.tsp_format.specs.declared.kinds.Kind.{Kind}
 use Rattle.tsp_format.specs.declared.kinds.Kind.TheVariants as kinds
 use Rattle.tsp_format.specs.Steps as listed
 use Rattle.tsp_file.specs.Fields.{Fields, nodes_of}
-use Rattle.tsp_file.specs.Cost.{cost}
-use Rattle.tsp_file.specs.Defaults.{scale_in, multipliers_in, families_listed}
-use Rattle.tsp_theory.specs.Length.{length_of}
-use Rattle.tsp_theory.specs.CertificateNumbers.{total, IsLeastBound}
-use Rattle.tsp_theory.specs.Routing.{IsLeastRoutes}
-use Rattle.tsp_theory.specs.Adjusted.{IsAdjustedBound}
-use Rattle.tsp_theory.specs.Assignment.{IsDualBound}
-use Rattle.tsp_cost.specs.ComputedProblems.{is_directed, routing_of, capacity_of}
+use Rattle.tsp_file.specs.Cost.{cost, scale_in, multipliers_in, families_listed}
+use Rattle.tsp_theory.specs.Tour.{length_of, IsLeastRoutes}
+use Rattle.tsp_theory.specs.Bounds.{total, IsLeastBound, IsAdjustedBound, IsDualBound}
+use Rattle.tsp_cost.specs.Problems.{is_directed, routing_of, capacity_of}
 use Rattle.tsp_cases.specs.declared.family.Crossings.{Crossings}
 use Rattle.tsp_cases.specs.Families.{NumbersAreUnique}
 use Rattle.tsp_cases.specs.CaseTrees.{IsCaseTreeBound, CaseTreeBoundsAreUnique}
-use Rattle.tsp_cases.specs.Decisions.{decided_number}
+use Rattle.tsp_cases.specs.Cases.{decided_number}
 use Rattle.tsp_report.specs.declared.verdict.Basis.{Basis}
 use Rattle.tsp_report.specs.declared.verdict.Basis.TheVariants as bases
 use Rattle.tsp_report.specs.declared.task.Certificate.{Certificate}
@@ -30,19 +26,11 @@ use Rattle.tsp_report.specs.declared.verdict.Reason.{Reason}
 use Rattle.tsp_report.specs.declared.verdict.Reason.TheVariants.{LengthClaimed}
 use Rattle.tsp_report.specs.declared.verdict.Verdict.{Verdict}
 use Rattle.tsp_report.specs.declared.verdict.Verdict.TheVariants.{Tour, Routes, No}
-use Rattle.tsp_verdict.specs.Basis.{IsBasisOfTours, IsBasisOfRoutes, IsBasisAlone, IsBasisOfToursBy, IsBasisOfRoutesBy, IsBasisBy, IsBasisWith}
-use Rattle.tsp_verdict.specs.Bounded.{StandsAgainstTouring, StandsAgainstRouting, StandsAgainstBounded, IsBoundVerdict}
-use Rattle.tsp_verdict.specs.BranchesCertificate.{given_in, case_steps_in, families_with_numbers, HasBoundByBranches}
-use Rattle.tsp_verdict.specs.Certified.{is_bounded, IsBoundBy, IsBoundOf, HasNoBoundBy, StandsAgainstCertificate, IsCertified, StandsAgainstCertified, IsCertifiedTourVerdict, StandsAgainstCertifiedRoutes, IsCertifiedRoutesVerdict, IsCertifiedVerdictBy, IsCertifiedVerdict}
-use Rattle.tsp_verdict.specs.SolutionVerdict.{IsVerdictBy, IsVerdictOn, IsUnclaimedVerdict, IsFirstAgainstGiven, HasLength, IsOfLength, IsClaimedVerdict}
-use Rattle.tsp_verdict.specs.OneVerdict.{FilesHaveOneVerdict, FilesHaveOneBound, FilesHaveOneBasis, SolutionsHaveOneVerdict}
-use Rattle.tsp_verdict.specs.Plan.{total_of}
-use Rattle.tsp_verdict.specs.PotentialsCertificate.{IsBoundByNodes, IsBoundByDuals}
-use Rattle.tsp_verdict.specs.Routes.{StandsAgainstRoutes, IsPlanned, IsRoutesVerdict}
-use Rattle.tsp_verdict.specs.WalksCertificate.{unit_in, HasBoundByWalks}
+use Rattle.tsp_verdict.specs.SolutionVerdict.{IsBasisOfTours, IsBasisOfRoutes, IsBasisAlone, IsBasisOfToursBy, IsBasisOfRoutesBy, IsBasisBy, IsBasisWith, IsVerdictBy, IsVerdictOn, IsUnclaimedVerdict, IsFirstAgainstGiven, HasLength, IsOfLength, IsClaimedVerdict, FilesHaveOneVerdict, FilesHaveOneBound, FilesHaveOneBasis, SolutionsHaveOneVerdict}
+use Rattle.tsp_verdict.specs.Certified.{StandsAgainstTouring, StandsAgainstRouting, StandsAgainstBounded, IsBoundVerdict, is_bounded, IsBoundBy, IsBoundOf, HasNoBoundBy, StandsAgainstCertificate, IsCertified, StandsAgainstCertified, IsCertifiedTourVerdict, StandsAgainstCertifiedRoutes, IsCertifiedRoutesVerdict, IsCertifiedVerdictBy, IsCertifiedVerdict}
+use Rattle.tsp_verdict.specs.Certificates.{given_in, case_steps_in, families_with_numbers, HasBoundByBranches, IsBoundByNodes, IsBoundByDuals, unit_in, HasBoundByWalks}
+use Rattle.tsp_verdict.specs.Solutions.{total_of, StandsAgainstRoutes, IsPlanned, IsRoutesVerdict, tours_of, StandsAgainstTour, IsTourVerdict}
 use Rattle.tsp_routing.specs.PlanVerdicts.{IsBoundFound, PlanBoundsFoundAreUnique}
-use Rattle.tsp_verdict.specs.Solution.{tours_of}
-use Rattle.tsp_verdict.specs.Tours.{StandsAgainstTour, IsTourVerdict}
 use Rattle.tsp_verdict.proofs.FirstReasons.{one_first}
 use Rattle.tsp_verdict.proofs.OneReason.{one_value, tours_by_rank, instances_by_rank, routings_by_rank, routes_by_rank, certificates_by_rank, certified_by_rank, certified_routes_by_rank, bounded_by_rank, one_crossed}
 

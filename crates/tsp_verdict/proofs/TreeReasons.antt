@@ -1,52 +1,108 @@
--- Reasons against a certificate by branching, ruled out one by one, and its bound. For `judge_tree` in
--- src/certificate.rt and others.
-use Rattle.std.proofs.Common.{◌≡◌, ◌≢◌, ◌∙◌, ℕ, ◌-◌, ◌<◌, ◌≤◌, Bool, true, false, List, [], ◌∷◌, get_or, length, inl, inr, refl, sym, ap, subst, subst₂, arith}
-use Rattle.std.specs.Prelude.{◌⊎◌, Option, None, Some, unwrap_or, ℤ}
-use Rattle.std.specs.Global.{Vec}
-use Rattle.std.specs.List.{All}
+-- The families of a valid file are sets of its nodes, and few enough. How often cycles cross them is one list of
+-- numbers. For `judge_tree` in src/certificate.rt and others.
+use Rattle.std.proofs.Common.{◌≡◌, ℕ, ◌<◌, ◌≤◌, List, [], ◌∷◌, length, refl, ap₂, arith, ◌≢◌, ◌∙◌, ◌-◌, Bool, true, false, get_or, inl, inr, sym, ap, subst, subst₂}
 use Rattle.std.proofs.Math.Path.{fun_ext}
 use Rattle.std.proofs.lemmas.Bool.{false≢true}
 use Rattle.std.proofs.lemmas.List.{length-map}
-use Rattle.std.proofs.lemmas.List.Elements.{recursion_from_All}
+use Rattle.std.proofs.lemmas.List.Elements.{All-weaker, All-from_recursion, recursion_from_All}
+use Rattle.std.proofs.lemmas.List.Sums.{sum_by-cons}
+use Rattle.std.specs.Global.{Vec}
+use Rattle.std.specs.List.{All, AllByRecursion, sum_by}
+use Rattle.std.specs.Prelude.{◌^◌, ◌⊎◌, Option, None, Some, unwrap_or, ℤ}
+use Rattle.tsp_format.specs.Limits.{most_comb_nodes}
+use Rattle.tsp_format.specs.Nodes.{IsNode}
+use Rattle.tsp_format.specs.Steps as listed
+use Rattle.tsp_format.specs.Words.{IsSymmetric}
 use Rattle.tsp_format.specs.declared.kinds.Kind.{Kind}
 use Rattle.tsp_format.specs.declared.kinds.Kind.TheVariants as kinds
-use Rattle.tsp_format.specs.Steps as listed
+use Rattle.tsp_file.specs.Cost.{AreSomeSets, cost, scale_in, fixed_of, families_listed}
 use Rattle.tsp_file.specs.Fields.{Fields, nodes_of}
-use Rattle.tsp_file.specs.states.Drafts.{combs_of as lists_of_combs}
 use Rattle.tsp_file.specs.Rules.{is_branches_file}
-use Rattle.tsp_file.specs.Cost.{cost}
-use Rattle.tsp_format.specs.Symmetry.{IsSymmetric}
+use Rattle.tsp_file.specs.Valid.{IsSetOf, AreSets}
+use Rattle.tsp_file.specs.states.Drafts.{combs_of as lists_of_combs}
+use Rattle.tsp_theory.specs.Bounds.{IsScale, IsBoundSized}
 use Rattle.tsp_theory.specs.Tour.{BoundsTours, HasNoTour}
-use Rattle.tsp_cost.specs.ComputedProblems.{is_directed, problem_of, IsTourOf}
-use Rattle.tsp_theory.specs.CertificateNumbers.{IsScale, IsBoundSized}
+use Rattle.tsp_cost.specs.Problems.{is_directed, problem_of, IsTourOf}
+use Rattle.tsp_cases.specs.CaseTrees.{IsCaseTree, IsCaseTreeBound, AreCostsFor, BoundsIfAny, CaseTreesBoundCycles}
+use Rattle.tsp_cases.specs.Cases.{decide, KeepsAll, take_pairs, decided_number}
+use Rattle.tsp_cases.specs.Crossings.{AreSetsOf, AreFamiliesOf, lists_of, families_in}
+use Rattle.tsp_cases.specs.Families.{IsFamily, NumbersAreUnique, family_with, families_with, Family, IsGoodFamily, IsFirstBadFamily, AreFamilies}
+use Rattle.tsp_cases.specs.ListedCases.{branch_pairs, IsFirstBadBranch, leaf_changes, listed_steps, AreGoodLeaves, IsFirstBadLeaf, branches_of_cases, IsFirstTwice}
+use Rattle.tsp_cases.specs.declared.family.Crossings.{Crossings}
+use Rattle.tsp_cases.specs.declared.open_case.Decision.{Decision}
+use Rattle.tsp_branch.specs.BranchVerdicts.{IsBranchVerdict}
 use Rattle.tsp_branch.specs.declared.verdict.BranchVerdict.{BranchVerdict}
 use Rattle.tsp_branch.specs.declared.verdict.BranchVerdict.TheVariants as found
-use Rattle.tsp_branch.specs.BranchVerdicts.{IsBranchVerdict}
-use Rattle.tsp_cases.specs.BadBranches.{branch_pairs, IsFirstBadBranch}
-use Rattle.tsp_cases.specs.Cases.{decide}
-use Rattle.tsp_cases.specs.CaseTrees.{IsCaseTree, IsCaseTreeBound, AreCostsFor, BoundsIfAny, CaseTreesBoundCycles}
-use Rattle.tsp_cases.specs.declared.family.Crossings.{Crossings}
-use Rattle.tsp_cases.specs.Families.{Family, IsFamily, NumbersAreUnique}
-use Rattle.tsp_cases.specs.declared.open_case.Decision.{Decision}
-use Rattle.tsp_cases.specs.Decisions.{KeepsAll, take_pairs, decided_number}
-use Rattle.tsp_cases.specs.GoodFamilies.{IsGoodFamily, IsFirstBadFamily, AreFamilies}
-use Rattle.tsp_cases.specs.Listed.{leaf_changes, listed_steps, AreGoodLeaves, IsFirstBadLeaf}
-use Rattle.tsp_cases.specs.Twice.{branches_of_cases, IsFirstTwice}
+use Rattle.tsp_report.specs.Verdicts.{rank_of}
+use Rattle.tsp_report.specs.declared.task.Certificate.TheVariants.{Branches}
 use Rattle.tsp_report.specs.declared.verdict.Reason.{Reason}
 use Rattle.tsp_report.specs.declared.verdict.Reason.TheVariants.{NotBranches, BranchesDimension, BadComb, BadBranch, BranchTwice, BadLeaf, TooManyLoads}
-use Rattle.tsp_file.specs.Defaults.{scale_in, fixed_of, families_listed}
-use Rattle.tsp_verdict.specs.Places.{IsFirstPlace}
-use Rattle.tsp_verdict.specs.Reasons.{NoneBefore, IsFirstReason}
-use Rattle.tsp_report.specs.ReasonRows.{rank_of}
-use Rattle.tsp_verdict.specs.states.TourCosts.{IsSymmetricTsp}
-use Rattle.tsp_verdict.specs.BranchesCertificate.{each_once, given_in, case_steps_in, families_with_numbers, AreNumbersOf, IsBadFamily, StandsAgainstBranches, HasBoundByBranches, IsBoundByBranches, HasNoBoundByBranches}
-use Rattle.tsp_verdict.specs.Certified.{IsBoundBy, HasNoBoundBy, HasNoBound, StandsAgainstCertificateBy, StandsAgainstCertificate, BoundsSolutionsBy, BoundsSolutions, HasNoSolutionBy, HasNoSolution, IsCertified}
-use Rattle.tsp_verdict.specs.WalksCertificate.{StandsAgainstWalks}
-use Rattle.tsp_verdict.proofs.ByType.{tree_either}
-use Rattle.tsp_report.specs.declared.task.Certificate.TheVariants.{Branches}
 use Rattle.tsp_verdict.proofs.CarriedBounds.{Same, fitting}
+use Rattle.tsp_verdict.proofs.FirstReasons.{tree_either}
 use Rattle.tsp_verdict.proofs.GivenPairs.{keeps_given}
-use Rattle.tsp_verdict.proofs.FamiliesHold.{one_numbers}
+use Rattle.tsp_verdict.specs.Certificates.{each_once, given_in, case_steps_in, families_with_numbers, AreNumbersOf, IsBadFamily, StandsAgainstBranches, HasBoundByBranches, IsBoundByBranches, HasNoBoundByBranches, StandsAgainstWalks}
+use Rattle.tsp_verdict.specs.Certified.{IsBoundBy, HasNoBoundBy, HasNoBound, StandsAgainstCertificateBy, StandsAgainstCertificate, BoundsSolutionsBy, BoundsSolutions, HasNoSolutionBy, HasNoSolution, IsCertified}
+use Rattle.tsp_verdict.specs.Solutions.{IsFirstPlace, NoneBefore, IsFirstReason}
+use Rattle.tsp_verdict.specs.states.TourBases.{IsSymmetricTsp}
+
+-- ---- sets of nodes
+
+from_lists : (P : List ℕ → Type 0) (sets : List (Vec ℕ)) → AllByRecursion P (lists_of sets)
+    → AllByRecursion (λ set. P set.items) sets
+from_lists P [] h = tt
+from_lists P (set ∷ sets) h = (h.0, from_lists P sets h.1)
+
+sets_hold : (n : ℕ) (sets : List (Vec ℕ)) → AreSets n (lists_of sets) → AreSetsOf n sets
+sets_hold n sets are = All-from_recursion (λ (set : Vec ℕ). All (IsNode n) set.items) sets (from_lists (All (IsNode n)) sets
+    (recursion_from_All (All (IsNode n)) (lists_of sets)
+    (All-weaker (IsSetOf n) (All (IsNode n)) (λ set is. is.1) (lists_of sets) are.1)))
+
+families_by : (n : ℕ) (families : List (Vec (Vec ℕ))) → AllByRecursion (AreSets n) (families_in families)
+    → AllByRecursion (λ sets. AreSetsOf n sets.items) families
+families_by n [] h = tt
+families_by n (sets ∷ families) h = (sets_hold n sets.items h.0, families_by n families h.1)
+
+pub families_hold : (n : ℕ) (families : List (Vec (Vec ℕ))) → AreSomeSets n (families_in families) → AreFamiliesOf n families
+families_hold n families some =
+    All-from_recursion (λ (sets : Vec (Vec ℕ)). AreSetsOf n sets.items) families
+    (families_by n families (recursion_from_All (AreSets n) (families_in families) some.sets))
+
+-- ---- how many
+
+set_nodes : (n : ℕ) (sets : List (List ℕ)) → AllByRecursion (IsSetOf n) sets → length sets ≤ sum_by length sets
+set_nodes n [] are = omega arith
+set_nodes n (set ∷ sets) are = omega (arith, are.0.0, set_nodes n sets are.1, sum_by-cons length set sets)
+
+few_by : (n : ℕ) (families : List (Vec (Vec ℕ))) → AllByRecursion (AreSets n) (families_in families)
+    → sum_by (sum_by length) (families_in families) ≤ most_comb_nodes
+    → AllByRecursion (λ sets. length sets.items < 2 ^ 32) families
+few_by n [] h most = tt
+few_by n (sets ∷ families) h most =
+    let lists : List (List ℕ) = lists_of sets.items in
+    let all = sum_by-cons (sum_by length) lists (families_in families) in
+    let own = set_nodes n lists (recursion_from_All (IsSetOf n) lists h.0.1) in
+    let long = length-map sets.items (λ (set : Vec ℕ). set.items) in
+    (omega (arith, all, own, long, most), few_by n families h.1 (omega (arith, all, most)))
+
+pub families_few : (n : ℕ) (families : List (Vec (Vec ℕ))) → AreSomeSets n (families_in families)
+    → All (λ sets. length sets.items < 2 ^ 32) families
+families_few n families some = All-from_recursion (λ (sets : Vec (Vec ℕ)). length sets.items < 2 ^ 32) families
+    (few_by n families (recursion_from_All (AreSets n) (families_in families) some.sets) some.few_nodes)
+
+-- ---- their numbers
+
+pub one_numbers : NumbersAreUnique → (n : ℕ) (a b : List Crossings) (combs : List (List (List ℕ))) → length a ≡ length combs
+    → length b ≡ length combs
+    → AllByRecursion (IsFamily n) (families_with a combs) → AllByRecursion (IsFamily n) (families_with b combs) → a ≡ b
+one_numbers unique n [] [] combs p q f g = refl
+one_numbers unique n [] (b ∷ bs) combs p q f g = absurd (omega (arith, p, q))
+one_numbers unique n (a ∷ more) [] combs p q f g = absurd (omega (arith, p, q))
+one_numbers unique n (a ∷ more) (b ∷ bs) [] p q f g = absurd (omega (arith, p))
+one_numbers unique n (a ∷ more) (b ∷ bs) (sets ∷ combs) p q f g =
+    ap₂ (λ (c : Crossings) (cs : List Crossings). c ∷ cs) (unique n (family_with a sets) (family_with b sets) refl f.0 g.0)
+    (one_numbers unique n more bs combs (omega (arith, p)) (omega (arith, q)) f.1 g.1)
+
+-- ---- reasons against a certificate by branching, ruled out one by one, and its bound
 
 -- ---- where indexes end
 

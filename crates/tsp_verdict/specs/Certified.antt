@@ -1,32 +1,27 @@
 -- The bound of a certificate, by its kind and the TYPE of the instance, and the verdict on a solution with a
 -- certificate. For `bound_by` (src/certificate.rt), SolutionVerdict.antt, and the meanings of `yes`
 -- (Accepted.antt of tsp_judge). The files `..Certificate.antt` have the reasons and the bound of each kind.
-use Rattle.std.specs.Prelude.{◌≡◌, ◌⊎◌, ℕ, Bool, true, false, List, [], ◌∷◌, Option, None, Some, ◌^◌, ℤ, pos, neg_ℤ}
+use Rattle.std.specs.Prelude.{◌≡◌, ◌⊎◌, ℕ, Bool, true, false, List, [], ◌∷◌, Option, None, Some, ◌^◌, ℤ, pos, neg_ℤ, ◌≢◌, ◌<◌, ◌≤◌, length}
+use Rattle.tsp_format.specs.Steps.{IsFromTo}
+use Rattle.tsp_format.specs.Words.{IsFirstAsymmetric}
 use Rattle.tsp_format.specs.declared.kinds.Kind.{Kind}
 use Rattle.tsp_format.specs.declared.kinds.Kind.TheVariants as kinds
-use Rattle.tsp_format.specs.Ranges.{IsFromTo}
-use Rattle.tsp_file.specs.Fields.{Fields}
-use Rattle.tsp_file.specs.Cost.{cost}
-use Rattle.tsp_theory.specs.Length.{length_of}
-use Rattle.tsp_theory.specs.Tour.{BoundsTours, HasNoTour}
-use Rattle.tsp_cost.specs.ComputedProblems.{problem_of, routing_of, IsTourOf}
+use Rattle.tsp_file.specs.Cost.{cost, fixed_of}
+use Rattle.tsp_file.specs.Fields.{Fields, nodes_of}
+use Rattle.tsp_theory.specs.Tour.{length_of, BoundsTours, HasNoTour, demand_of}
+use Rattle.tsp_cost.specs.Problems.{problem_of, routing_of, IsTourOf, depots_of, demands_of, depot_of}
+use Rattle.tsp_routing.specs.PlanLinks.{BoundsPlans, HasNoPlan}
+use Rattle.tsp_report.specs.Verdicts.{rank_of}
 use Rattle.tsp_report.specs.declared.task.Certificate.{Certificate}
 use Rattle.tsp_report.specs.declared.task.Certificate.TheVariants.{Potentials, Branches}
 use Rattle.tsp_report.specs.declared.verdict.BoundVerdict.{BoundVerdict}
 use Rattle.tsp_report.specs.declared.verdict.BoundVerdict.TheVariants as bounds
 use Rattle.tsp_report.specs.declared.verdict.Reason.{Reason}
-use Rattle.tsp_report.specs.declared.verdict.Reason.TheVariants.{MultiplierNotFixed, BadComb}
+use Rattle.tsp_report.specs.declared.verdict.Reason.TheVariants.{MultiplierNotFixed, BadComb, TooFewNodes, NotSymmetric, DepotCount, DepotDemand, FixedEdgesInRoutes}
 use Rattle.tsp_report.specs.declared.verdict.Verdict.{Verdict}
 use Rattle.tsp_report.specs.declared.verdict.Verdict.TheVariants as verdicts
-use Rattle.tsp_report.specs.ReasonRows.{rank_of}
-use Rattle.tsp_verdict.specs.Reasons.{NoneBefore, IsFirstReason}
-use Rattle.tsp_verdict.specs.Solution.{tours_of}
-use Rattle.tsp_verdict.specs.Tours.{StandsAgainstTour}
-use Rattle.tsp_verdict.specs.PotentialsCertificate.{StandsAgainstPotentials, IsBoundByNodes, IsBoundByDuals}
-use Rattle.tsp_routing.specs.PlanLinks.{BoundsPlans, HasNoPlan}
-use Rattle.tsp_verdict.specs.Routes.{StandsAgainstRoutes, IsPlanned}
-use Rattle.tsp_verdict.specs.WalksCertificate.{StandsAgainstWalks, HasBoundByWalks}
-use Rattle.tsp_verdict.specs.BranchesCertificate.{StandsAgainstBranches, IsBoundByBranches, HasNoBoundByBranches}
+use Rattle.tsp_verdict.specs.Certificates.{StandsAgainstPotentials, IsBoundByNodes, IsBoundByDuals, StandsAgainstWalks, HasBoundByWalks, StandsAgainstBranches, IsBoundByBranches, HasNoBoundByBranches}
+use Rattle.tsp_verdict.specs.Solutions.{NoneBefore, IsFirstReason, tours_of, StandsAgainstTour, StandsAgainstRoutes, IsPlanned}
 
 -- ---- by the certificate, and by the TYPE of the instance
 
@@ -202,3 +197,56 @@ IsCertifiedVerdictBy other by instance solution certificate verdict =
 abbrev pub IsCertifiedVerdict : Certificate → Fields → Fields → Fields → Verdict → Type 0
 IsCertifiedVerdict by instance solution certificate verdict =
     IsCertifiedVerdictBy instance.kind by instance solution certificate verdict
+
+-- ---- the verdict on an instance and a certificate without a solution
+
+-- When a reason applies to an instance, whatever the tour: the two that are judged of a tour too. No other reason does.
+abbrev pub StandsAgainstTouring : Fields → Reason → Type 0
+StandsAgainstTouring instance TooFewNodes = nodes_of instance < 3
+StandsAgainstTouring instance (NotSymmetric i j) = (instance.kind ≡ Some kinds.Tsp)
+    × IsFirstAsymmetric (nodes_of instance) (cost instance) (i, j)
+StandsAgainstTouring instance reason = ⊥
+
+-- no such reason applies
+abbrev pub NoneAgainstTouring : Fields → Type 0
+NoneAgainstTouring instance = (reason : Reason) → StandsAgainstTouring instance reason → ⊥
+
+-- When a reason applies to an instance, whatever the routes: those that are judged of routes too. No other reason does.
+abbrev pub StandsAgainstRouting : Fields → Reason → Type 0
+StandsAgainstRouting instance TooFewNodes = nodes_of instance < 2
+StandsAgainstRouting instance DepotCount = length (depots_of instance) ≢ 1
+StandsAgainstRouting instance DepotDemand = demand_of (demands_of instance) (depot_of instance) ≢ pos 0
+StandsAgainstRouting instance FixedEdgesInRoutes = 1 ≤ length (fixed_of instance)
+StandsAgainstRouting instance reason = ⊥
+
+-- no such reason applies
+abbrev pub NoneAgainstRouting : Fields → Type 0
+NoneAgainstRouting instance = (reason : Reason) → StandsAgainstRouting instance reason → ⊥
+
+-- when a reason applies to an instance of this TYPE, whatever the solution
+abbrev pub StandsAgainstInstanceBy : Option Kind → Fields → Reason → Type 0
+StandsAgainstInstanceBy (Some kinds.Cvrp) instance reason = StandsAgainstRouting instance reason
+StandsAgainstInstanceBy other instance reason = StandsAgainstTouring instance reason
+
+-- when a reason applies to the instance, whatever the solution
+abbrev pub StandsAgainstInstance : Fields → Reason → Type 0
+StandsAgainstInstance instance reason = StandsAgainstInstanceBy instance.kind instance reason
+
+-- no such reason applies
+abbrev pub NoneAgainstInstance : Fields → Type 0
+NoneAgainstInstance instance = (reason : Reason) → StandsAgainstInstance instance reason → ⊥
+
+-- when a reason applies to the instance or to the certificate
+abbrev pub StandsAgainstBounded : Certificate → Fields → Fields → Reason → Type 0
+StandsAgainstBounded by instance certificate reason = StandsAgainstInstance instance reason
+    ⊎ StandsAgainstCertificate by instance certificate reason
+
+-- Bound: no reason applies, and this is the certificate's bound, which no solution is below. NoSolution: no reason
+-- applies, and the instance has no solution. No: the first reason that applies.
+abbrev pub IsBoundVerdict : Certificate → Fields → Fields → BoundVerdict → Type 0
+IsBoundVerdict by instance certificate (bounds.Bound bound) =
+    ((reason : Reason) → StandsAgainstBounded by instance certificate reason → ⊥) × IsCertified by instance certificate bound
+IsBoundVerdict by instance certificate bounds.NoSolution =
+    ((reason : Reason) → StandsAgainstBounded by instance certificate reason → ⊥) × HasNoBound by instance certificate
+    × HasNoSolution instance
+IsBoundVerdict by instance certificate (bounds.No reason) = IsFirstReason (StandsAgainstBounded by instance certificate) reason

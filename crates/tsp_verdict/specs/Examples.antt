@@ -7,7 +7,7 @@ use Rattle.tsp_format.specs.Steps.{Step, Branch, Leaf}
 use Rattle.tsp_file.specs.Fields.{Fields, blank_fields}
 
 use Rattle.tsp_report.specs.declared.verdict.Reason.{Reason}
-use Rattle.tsp_report.specs.ReasonRows.{rank_of}
+use Rattle.tsp_report.specs.Verdicts.{rank_of}
 
 -- an instance with this many nodes and these fixed pairs
 abbrev pub instance_with : Kind → ℕ → List (ℕ × ℕ) → Fields

@@ -1,19 +1,7 @@
 -- The files of definitions of this crate. Crates above may import them.
 pub mod states
-pub mod Multiplied
-pub mod Places
-pub mod Plan
-pub mod Reasons
-pub mod Routes
-pub mod Solution
-pub mod Tours
-pub mod PotentialsCertificate
-pub mod BranchesCertificate
-pub mod WalksCertificate
+pub mod Certificates
+pub mod Solutions
 pub mod Certified
 pub mod SolutionVerdict
-pub mod Bounded
 pub mod Examples
-pub mod Basis
-pub mod Strict
-pub mod OneVerdict

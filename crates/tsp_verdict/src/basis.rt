@@ -4,16 +4,12 @@
 ghost use Rattle.std.specs.Prelude.{◌≡◌, IsTrue, None, Some, MatchResult, option_map, ◌⊎◌, ◌≤◌};
 ghost use Rattle.tsp_format.specs.declared.kinds.Kind.TheVariants as kinds;
 ghost use Rattle.tsp_file.specs.Fields.{Fields, nodes_of};
-ghost use Rattle.tsp_cost.specs.ComputedProblems.{capacity_of};
-ghost use Rattle.tsp_verdict.specs.Basis.{IsBasis, IsBasisBy, IsBasisOfToursBy, IsBasisOfRoutesBy, IsBasisOfRoutes, NoneOfBasisWithoutMemory};
-ghost use Rattle.tsp_verdict.specs.Bounded.{IsBoundVerdict, StandsAgainstTouring, NoneAgainstTouring, NoneAgainstInstance};
-ghost use Rattle.tsp_verdict.specs.Certified.{is_bounded, NoneWithoutMemory};
-ghost use Rattle.tsp_verdict.specs.Plan.{total_of};
-ghost use Rattle.tsp_theory.specs.Routing.{IsLeastRoutes};
-ghost use Rattle.tsp_verdict.specs.Reasons.{IsFirstReason};
-ghost use Rattle.tsp_verdict.specs.SolutionVerdict.{is_judged};
-ghost use Rattle.tsp_verdict.specs.states.Known.{against_instance};
-ghost use Rattle.tsp_verdict.specs.states.TourCosts.{AreTourCosts};
+ghost use Rattle.tsp_cost.specs.Problems.{capacity_of};
+ghost use Rattle.tsp_verdict.specs.SolutionVerdict.{IsBasis, IsBasisBy, IsBasisOfToursBy, IsBasisOfRoutesBy, IsBasisOfRoutes, NoneOfBasisWithoutMemory, is_judged};
+ghost use Rattle.tsp_verdict.specs.Certified.{IsBoundVerdict, StandsAgainstTouring, NoneAgainstTouring, NoneAgainstInstance, is_bounded, NoneWithoutMemory};
+ghost use Rattle.tsp_verdict.specs.Solutions.{total_of, IsFirstReason};
+ghost use Rattle.tsp_theory.specs.Tour.{IsLeastRoutes};
+ghost use Rattle.tsp_verdict.specs.states.TourBases.{against_instance, AreTourCosts};
 ghost use Rattle.tsp_report.specs.declared.task.Certificate.{Certificate};
 ghost use Rattle.tsp_report.specs.declared.task.Certificate.TheVariants as certificates;
 

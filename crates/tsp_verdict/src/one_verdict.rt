@@ -1,6 +1,6 @@
 //! A law: files have one verdict, and an instance with a certificate one bound. No code calls it.
 
-ghost use Rattle.tsp_verdict.specs.OneVerdict.{FilesHaveOneVerdict, FilesHaveOneBound, FilesHaveOneBasis, SolutionsHaveOneVerdict};
+ghost use Rattle.tsp_verdict.specs.SolutionVerdict.{FilesHaveOneVerdict, FilesHaveOneBound, FilesHaveOneBasis, SolutionsHaveOneVerdict};
 
 use tsp_branch::{case_tree_bounds_are_unique, numbers_are_unique};
 use tsp_routing::plan_bounds_are_unique;

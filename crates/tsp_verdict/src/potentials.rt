@@ -6,22 +6,17 @@ ghost use Rattle.std.specs.Prelude.{◌≡◌, ◌≤◌, false, true, length, S
 ghost use Rattle.tsp_format.specs.Limits.{most_triples};
 ghost use Rattle.tsp_format.specs.Nodes.{IsNode};
 ghost use Rattle.tsp_format.specs.declared.kinds.Kind.TheVariants as kinds;
-ghost use Rattle.tsp_file.specs.Cost.{cost};
-ghost use Rattle.tsp_file.specs.Defaults.{fixed_of, multipliers_in};
+ghost use Rattle.tsp_file.specs.Cost.{cost, fixed_of, multipliers_in, HoldsNodeNumbers, HoldsDuals};
 ghost use Rattle.tsp_file.specs.Fields.{nodes_of};
 ghost use Rattle.tsp_file.specs.Rules.{is_potentials_file};
-ghost use Rattle.tsp_file.specs.Typed.{HoldsNodeNumbers, HoldsDuals};
-ghost use Rattle.tsp_theory.specs.Adjusted.{AreOnPairs, pair_of, is_same_pair};
-ghost use Rattle.tsp_format.specs.Symmetry.{IsSymmetric};
+ghost use Rattle.tsp_theory.specs.Bounds.{AreOnPairs, pair_of, is_same_pair};
+ghost use Rattle.tsp_format.specs.Words.{IsSymmetric};
 ghost use Rattle.tsp_cost.specs.states.Views.{HasCosts, IsViewOf, ShowsEven};
 ghost use Rattle.tsp_bound.specs.states.Duals.{dual_scale as scale_of_duals, rows_of, columns_of};
-ghost use Rattle.tsp_bound.specs.states.Multipliers.{triples_of};
-ghost use Rattle.tsp_bound.specs.states.Potentials.{scale_of, numbers_of};
+ghost use Rattle.tsp_bound.specs.states.Potentials.{triples_of, scale_of, numbers_of};
 ghost use Rattle.tsp_verdict.specs.Certified.{IsCertified, FindsBound, NoneWithoutMemory};
-ghost use Rattle.tsp_verdict.specs.Multiplied.{AreListed, IsUnlisted, IsPairRepeated};
-ghost use Rattle.tsp_verdict.specs.Places.{IsFirstPlace};
-ghost use Rattle.tsp_verdict.specs.PotentialsCertificate.{has_wanted, BreaksDuals, StandsAgainstPotentials};
-ghost use Rattle.tsp_verdict.specs.Reasons.{IsFirstReason};
+ghost use Rattle.tsp_verdict.specs.Certificates.{AreListed, IsUnlisted, IsPairRepeated, has_wanted, BreaksDuals, StandsAgainstPotentials};
+ghost use Rattle.tsp_verdict.specs.Solutions.{IsFirstPlace, IsFirstReason};
 ghost use Rattle.tsp_verdict.specs.states.PairSets.{HasPairs};
 ghost use Rattle.tsp_report.specs.declared.task.Certificate.TheVariants as certificates;
 

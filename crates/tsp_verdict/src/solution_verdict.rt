@@ -4,10 +4,8 @@
 ghost use Rattle.std.specs.Prelude.{IsTrue, MatchResult, Option, option_map, ◌≡◌, true, false, [], ◌∷◌, None, Some, pos, MatchOption};
 ghost use Rattle.tsp_format.specs.declared.kinds.Kind.TheVariants as kinds;
 ghost use Rattle.tsp_file.specs.Fields.{Fields};
-ghost use Rattle.tsp_verdict.specs.Basis.{IsBasis, IsVerdictFrom};
+ghost use Rattle.tsp_verdict.specs.SolutionVerdict.{IsBasis, IsVerdictFrom, is_judged, NoneBeforeRepeatsOn, IsVerdictWith, HasLength, HasNoLength, IsAsClaimed, IsOtherClaimed, is_unjudged, strict_verdict, strict_bound, strict_basis};
 ghost use Rattle.tsp_verdict.specs.Examples.{instance_with, with_unknown};
-ghost use Rattle.tsp_verdict.specs.SolutionVerdict.{is_judged, NoneBeforeRepeatsOn, IsVerdictWith, HasLength, HasNoLength, IsAsClaimed, IsOtherClaimed};
-ghost use Rattle.tsp_verdict.specs.Strict.{is_unjudged, strict_verdict, strict_bound, strict_basis};
 ghost use Rattle.tsp_verdict.specs.states.TourBases.{verdict_by, verdict_with};
 ghost use Rattle.tsp_report.specs.Verdicts.{is_yes, is_bound_yes, is_clear};
 ghost use Rattle.tsp_report.specs.declared.task.Certificate.{Certificate};
@@ -111,11 +109,11 @@ pub(crate) struct Subject<'a> {
 impl<'a> Subject<'a> {
     ghost use Rattle.std.specs.Prelude.{◌≡◌, ◌⊎◌, Some, IfOk, MatchResult};
     ghost use Rattle.tsp_format.specs.declared.kinds.Kind.TheVariants as kinds;
-    ghost use Rattle.tsp_verdict.specs.Bounded.{StandsAgainstTouring, NoneAgainstTouring};
+    ghost use Rattle.tsp_verdict.specs.Certified.{StandsAgainstTouring, NoneAgainstTouring};
     ghost use Rattle.tsp_verdict.specs.SolutionVerdict.{NoneBeforeRepeatsOn};
-    ghost use Rattle.tsp_verdict.specs.Reasons.{IsFirstReason};
-    ghost use Rattle.tsp_verdict.specs.Routes.{NoneOfRoutesBeforeRepeats};
-    ghost use Rattle.tsp_verdict.specs.Tours.{NoneOfTourBeforeRepeats};
+    ghost use Rattle.tsp_verdict.specs.Solutions.{IsFirstReason};
+    ghost use Rattle.tsp_verdict.specs.Solutions.{NoneOfRoutesBeforeRepeats};
+    ghost use Rattle.tsp_verdict.specs.Solutions.{NoneOfTourBeforeRepeats};
     ghost use Rattle.tsp_verdict.specs.states.TourBases.{IsSubject, IsVerdictGiven, IsBasisGiven, IsTourBasis};
 
     /// The verdict on a solution: on a tour, or for TYPE CVRP on routes. Where a length is claimed,
@@ -425,7 +423,7 @@ pub fn strict_yes_leaves_nothing_unjudged()
 /// Where unknown keywords are a reason, and what becomes of verdicts, bounds and bases. A reason
 /// that was found before stays.
 ///
-/// No code calls it: it evaluates the definitions of `specs/Strict.antt` on examples.
+/// No code calls it: it evaluates the definitions of `specs/SolutionVerdict.antt` on examples.
 pub fn examples_of_strictness()
     ensures refused { is_unjudged true (with_unknown kinds.Tsp 4) ≡ true }
     ensures not_asked { is_unjudged false (with_unknown kinds.Tsp 4) ≡ false }

@@ -1,6 +1,6 @@
 -- The goals of `verdict_on` in src/lib.rt, which reads two texts and judges the tour of the second: what it ensures.
 use Rattle.std.proofs.Common.{sym, subst}
-use Rattle.tsp_text.specs.Text.{Spells}
+use Rattle.tsp_text.specs.Spells.{Spells}
 use Rattle.example_check.proofs.verdict_on.Goals as goal
 
 -- plan: each text parses to a file, as the reader ensures, and the verdict is the one on these files

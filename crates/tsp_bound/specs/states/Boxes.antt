@@ -1,12 +1,15 @@
 -- A tree of boxes over the nodes of an order, with one node in each leaf, and the nearest node that a search of it
 -- finds. For `boxes_of` (src/boxes.rt), and for `Search` (src/search.rt), which finds a `Best` (src/search.rt).
 -- `outside j`: the node at the place j of the order is in another component, so it may be found.
-use Rattle.std.specs.Prelude.{◌≡◌, ℕ, zero, suc, ◌+◌, ◌*◌, ◌/◌, ◌<◌, ◌≤◌, Bool, true, List, Option, None, Some, length, slice_index_or, slice_set, ℤ, pos, ◌≤ℤ◌, ◌⊎◌}
+use Rattle.std.specs.Prelude.{◌≡◌, ℕ, zero, suc, ◌+◌, ◌*◌, ◌/◌, ◌<◌, ◌≤◌, Bool, true, List, Option, None, Some, length, slice_index_or, slice_set, ℤ, pos, ◌≤ℤ◌, ◌⊎◌, neg_ℤ}
 use denote.Struct.Props as logic
 use mathlib.Core.HLevel.{Π_prop, ⊥_prop}
-use Rattle.tsp_distance.specs.declared.decimal.Point.{Point}
-use Rattle.tsp_theory.specs.Regions.{IsIn}
+use Rattle.tsp_number.specs.declared.decimal.Point.{Point}
+use Rattle.tsp_format.specs.Steps.{IsFromTo}
+use Rattle.tsp_theory.specs.Bounds.{most_number}
+use Rattle.tsp_theory.specs.Costs.{IsIn, IsSite}
 use Rattle.tsp_bound.specs.declared.area.Area.{Area}
+use Rattle.tsp_bound.specs.declared.boxes.NumberedSite.{NumberedSite}
 use Rattle.tsp_bound.specs.declared.search.Best.{Best}
 
 -- the box is there, the node's point lies in it, and the node's number is no less than the box's least number
@@ -89,3 +92,34 @@ pub AreHeld-prop : (place : ℕ → Point) (number : ℕ → ℤ) (order : List 
 AreHeld-prop place number order outside area =
     Π_prop λ j. Π_prop λ height. Π_prop λ _. Π_prop λ _. Π_prop λ _.
     HoldsNode-prop place number (area (up height (length order + j))) (node_of order j)
+
+-- ---- nodes with their points and their numbers
+
+-- a node with its point and its number, which is within its limit
+pub record IsNumberedSite (nodes : ℕ) (place : ℕ → Point) (number : ℕ → ℤ) (numbered : NumberedSite) : Type 0 where
+  pub site : IsSite nodes place numbered.site
+  pub value : numbered.number ≡ number numbered.site.node
+  pub size : IsFromTo (neg_ℤ (pos most_number)) (pos most_number) numbered.number
+
+-- the same of this node
+pub record IsNumberedSiteOf (nodes : ℕ) (place : ℕ → Point) (number : ℕ → ℤ) (node : ℕ) (numbered : NumberedSite) : Type 0 where
+  pub here : numbered.site.node ≡ node
+  pub known : IsNumberedSite nodes place number numbered
+
+-- the list has each node of the order so, at its index
+abbrev pub AreNumberedSites : ℕ → (ℕ → Point) → (ℕ → ℤ) → List ℕ → List NumberedSite → Type 0
+AreNumberedSites nodes place number order sites = (j : ℕ) (other : NumberedSite) → j < length order
+    → IsNumberedSiteOf nodes place number (node_of order j) (slice_index_or sites j other)
+
+-- ---- nodes that are numbered by their places in a list
+
+-- `node` and `place` are inverse to each other, between 0..n-1 and the nodes
+pub record IsNumbering (n : ℕ) (Node : ℕ → Type 0) (node place : ℕ → ℕ) : Type 0 where
+  pub node_in : (i : ℕ) → i < n → Node (node i)
+  pub place_in : (x : ℕ) → Node x → place x < n
+  pub back : (i : ℕ) → i < n → place (node i) ≡ i
+  pub there : (x : ℕ) → Node x → node (place x) ≡ x
+
+-- the nodes at the two places of a pair
+abbrev pub on_both : (ℕ → ℕ) → ℕ × ℕ → ℕ × ℕ
+on_both node pair = (node pair.0, node pair.1)

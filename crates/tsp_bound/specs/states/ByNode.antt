@@ -1,12 +1,18 @@
--- Multipliers of pairs, listed by node: a triple (a, b, number) is the multiplier of the pair of a and b. For `ByNode`
--- (src/by_node.rt), and for `lower` of `Weights` (src/weights.rt).
-use Rattle.std.specs.Prelude.{◌≡◌, ◌≢◌, ℕ, ◌+◌, ◌≤◌, ◌==◌, if◌then◌else◌, List, [], ◌∷◌, ◌++◌, length, slice_index_or, ℤ, pos}
+-- The node at a place of a list of nodes. For `count_lowered` and `lowered`, which list nodes, of `BoxedWeights`
+-- (src/boxed_weights.rt).
 use Rattle.std.specs.Global.{Vec}
 use Rattle.std.specs.List.{All, AllPairs}
-use Rattle.tsp_format.specs.Nodes.{IsNode}
-use Rattle.tsp_theory.specs.Length.{sum_int_by}
+use Rattle.std.specs.Prelude.{ℕ, List, slice_index_or, ◌≡◌, ◌≢◌, ◌+◌, ◌≤◌, ◌==◌, if◌then◌else◌, [], ◌∷◌, ◌++◌, length, ℤ, pos}
 use Rattle.tsp_format.specs.Limits.{most_multiplier}
-use Rattle.tsp_format.specs.Ranges.{IsFromTo}
+use Rattle.tsp_format.specs.Nodes.{IsNode}
+use Rattle.tsp_format.specs.Steps.{IsFromTo}
+use Rattle.tsp_theory.specs.Tour.{sum_int_by}
+
+-- the node at the index k; 0 beyond the list's end
+abbrev pub node_in : List ℕ → ℕ → ℕ
+node_in nodes k = slice_index_or nodes k 0
+
+-- ---- multipliers of pairs, listed by node
 
 -- of a triple whose pair has the node: the other node, and the number; of any other triple nothing
 abbrev pub said_of : ℕ → ℕ × ℕ × ℤ → List (ℕ × ℤ)

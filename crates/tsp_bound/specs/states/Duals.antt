@@ -2,7 +2,7 @@
 -- `dual_bound` (src/assignment.rt), and for src/potentials.rt of tsp_verdict.
 use Rattle.std.specs.Prelude.{ℕ, List, ℤ, ◌+ℤ◌, ◌*ℤ◌}
 use Rattle.tsp_bound.specs.declared.duals.Duals.{Duals}
-use Rattle.tsp_theory.specs.CertificateNumbers.{entry}
+use Rattle.tsp_theory.specs.Bounds.{entry}
 
 abbrev pub dual_scale : Duals → ℤ
 dual_scale d = d.scale

@@ -3,7 +3,7 @@
 use Rattle.std.proofs.Common.{◌≡◌, ℕ, subst, rules, FitsSigned, w64}
 use Rattle.std.specs.Prelude.{ℤ}
 use Rattle.std.proofs.lemmas.Int.{to_z-of_z}
-use Rattle.tsp_distance.specs.declared.decimal.Point.{Point}
+use Rattle.tsp_number.specs.declared.decimal.Point.{Point}
 use Rattle.tsp_c.specs.NumberCalls.{GivesDistance}
 use Rattle.tsp_c.proofs.tsp_distance.Goals as goal
 

@@ -1,20 +1,19 @@
 -- A row of weights for each node, kept from leaf to leaf: it has what doesn't depend on potentials, and changes where
 -- multipliers or decisions do. For `KeptRows` (src/kept.rt) and its users in src/case_leaf.rt of tsp_branch and
 -- src/plan_leaf.rt of tsp_routing.
-use Rattle.std.specs.Prelude.{◌≡◌, ◌≢◌, ℕ, ◌+◌, ◌<◌, ◌≤◌, if◌then◌else◌, List, length, slice_index_or, ℤ, pos, neg_ℤ, ◌+ℤ◌, ◌*ℤ◌}
-use Rattle.std.specs.Int.{w64, int_wrap}
 use Rattle.std.specs.Global.{Vec}
-use Rattle.tsp_format.specs.Nodes.{IsNode}
+use Rattle.std.specs.Int.{w64, int_wrap}
+use Rattle.std.specs.List.{All}
+use Rattle.std.specs.Prelude.{◌≡◌, ◌≢◌, ℕ, ◌+◌, ◌<◌, ◌≤◌, if◌then◌else◌, List, length, slice_index_or, ℤ, pos, neg_ℤ, ◌+ℤ◌, ◌*ℤ◌, ◌^◌}
 use Rattle.tsp_format.specs.Limits.{most_weight}
-use Rattle.tsp_format.specs.Ranges.{IsFromTo}
-use Rattle.tsp_theory.specs.CertificateNumbers.{entry}
-use Rattle.tsp_theory.specs.states.Nearest.{least_at}
-use Rattle.tsp_theory.specs.Adjusted.{is_same_pair}
-use Rattle.tsp_cases.specs.declared.sets.SetPlace.{SetPlace}
-use Rattle.tsp_theory.specs.states.Additions.{IsMoved}
-use Rattle.tsp_cases.specs.states.Sets.{places_with}
-use Rattle.tsp_cases.specs.states.Combed.{inside_both, multipliers_at, AreSmallMultipliers}
+use Rattle.tsp_format.specs.Nodes.{IsNode}
+use Rattle.tsp_format.specs.Steps.{IsFromTo}
+use Rattle.tsp_theory.specs.Bounds.{entry, is_same_pair}
+use Rattle.tsp_theory.specs.states.Nearest.{least_at, IsMoved}
 use Rattle.tsp_cases.specs.declared.kept.KeptRows.{KeptRows}
+use Rattle.tsp_cases.specs.declared.kept.Room.{Room}
+use Rattle.tsp_cases.specs.declared.sets.SetPlace.{SetPlace}
+use Rattle.tsp_cases.specs.states.Sets.{places_with, inside_both, multipliers_at, AreSmallMultipliers}
 
 -- the entry of two nodes: their cost times the scale, twice the multipliers of the sets that have both, and the mark
 abbrev pub kept_weight : ℤ → List (List (List ℕ)) → (ℕ → ℕ → ℤ) → (ℕ → ℕ → ℤ) → List ℤ → ℕ → ℕ → ℤ
@@ -94,3 +93,18 @@ pub record HoldsRows (n combs : ℕ) (scale : ℤ) (families : List (List (List 
 abbrev pub AreMoved : ℕ → List ℤ → List ℤ → List (List (List ℕ)) → List ℤ → Type 0
 AreMoved n potentials multipliers families moved = (x : ℕ) → IsNode n x → int_wrap w64 (least_at moved x)
     ≡ int_wrap w64 (entry potentials x +ℤ neg_ℤ (multipliers_at multipliers families x))
+
+-- ---- the memory that a pass over the leaves writes over: `Room` (`src/kept.rt`)
+
+-- A potential for each node and a multiplier for each family. `row` and `moved` have a number for each node at its
+-- index, and one at 0. In `moved`, `fill_moved` (src/sets.rt) puts the potential of each node less the multipliers of
+-- its sets.
+pub record IsRoom (n combs : ℕ) (room : Room) : Type 0 where
+  pub potentials : length room.potentials.items ≡ n
+  pub multipliers : length room.multipliers.items ≡ combs
+  pub row : length room.row.items ≡ n + 1
+  pub moved : length room.moved.items ≡ n + 1
+
+-- numbers of a leaf of at most 2^64, to which src/pass.rt can add the differences of the next leaf
+abbrev pub AreSmall : List ℤ → Type 0
+AreSmall numbers = All (IsFromTo (neg_ℤ (pos (2 ^ 64))) (pos (2 ^ 64))) numbers

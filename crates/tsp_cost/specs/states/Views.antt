@@ -1,24 +1,44 @@
--- The number of nodes and the costs of each view of an instance: points, a matrix or a triangle. For `View` and
--- `EvenView` (src/instance.rt) and the structs in them. An `EvenView` has costs that are the same in both directions.
-use Rattle.std.specs.Prelude.{◌≡◌, ◌≢◌, ℕ, true, false, length, map, Some, ℤ}
-use Rattle.tsp_distance.specs.declared.decimal.Point.{Point}
-use Rattle.tsp_distance.specs.Distances.{on_plane}
-use Rattle.tsp_format.specs.declared.layout.Layout.TheVariants.{FullMatrix}
+-- What `Instance` (src/instance.rt) has found out of its file when it was made: the number of nodes, and where the
+-- costs come from, as a `CostSource` (src/instance.rt).
+use Rattle.std.specs.Prelude.{◌≡◌, ℕ, Some, IsSome, IsTrue, ◌≢◌, true, false, length, map, ℤ}
+use Rattle.tsp_number.specs.Distances.{on_plane}
+use Rattle.tsp_number.specs.declared.decimal.PlanePoint.{PlanePoint}
+use Rattle.tsp_number.specs.declared.decimal.Point.{Point}
+use Rattle.tsp_format.specs.declared.kinds.Kind.TheVariants as kinds
 use Rattle.tsp_format.specs.declared.kinds.WeightFormat.TheVariants.{Listed}
-use Rattle.tsp_file.specs.Fields.{Fields}
-use Rattle.tsp_file.specs.Rules.{is_explicit}
+use Rattle.tsp_format.specs.declared.kinds.WeightKind.TheVariants.{Explicit}
+use Rattle.tsp_format.specs.declared.layout.Layout.TheVariants.{FullMatrix}
 use Rattle.tsp_file.specs.Cost.{listed_cost, distance, point_of, cost}
-use Rattle.tsp_distance.specs.declared.decimal.PlanePoint.{PlanePoint}
-use Rattle.tsp_cost.specs.declared.points.Points.{Points}
-use Rattle.tsp_cost.specs.declared.points.Euclidean.{Euclidean}
-use Rattle.tsp_cost.specs.states.Metrics.{weight_kind_of}
-use Rattle.tsp_cost.specs.declared.matrix.Matrix.{Matrix}
-use Rattle.tsp_cost.specs.declared.matrix.EvenMatrix.{EvenMatrix}
-use Rattle.tsp_cost.specs.declared.matrix.Triangle.{Triangle}
-use Rattle.tsp_cost.specs.declared.instance.View.{View}
-use Rattle.tsp_cost.specs.declared.instance.View.TheVariants as views
+use Rattle.tsp_file.specs.Fields.{Fields}
+use Rattle.tsp_file.specs.Rules.{is_instance, is_explicit}
+use Rattle.tsp_file.specs.Valid.{IsInRange, HasRouting}
+use Rattle.tsp_cost.specs.declared.instance.CostSource.{CostSource}
+use Rattle.tsp_cost.specs.declared.instance.CostSource.TheVariants.{Distances, Weights}
 use Rattle.tsp_cost.specs.declared.instance.EvenView.{EvenView}
 use Rattle.tsp_cost.specs.declared.instance.EvenView.TheVariants as even_views
+use Rattle.tsp_cost.specs.declared.instance.View.{View}
+use Rattle.tsp_cost.specs.declared.instance.View.TheVariants as views
+use Rattle.tsp_cost.specs.declared.matrix.EvenMatrix.{EvenMatrix}
+use Rattle.tsp_cost.specs.declared.matrix.Matrix.{Matrix}
+use Rattle.tsp_cost.specs.declared.matrix.Triangle.{Triangle}
+use Rattle.tsp_cost.specs.declared.points.Euclidean.{Euclidean}
+use Rattle.tsp_cost.specs.declared.points.Points.{Points}
+use Rattle.tsp_cost.specs.states.Metrics.{weight_kind_of}
+
+-- the costs are distances of its points, or weights that it lists in a layout
+abbrev pub ComesFrom : Fields → CostSource → Type 0
+ComesFrom f (Distances metric) = (f.weight_kind ≡ Some (weight_kind_of metric)) × IsSome f.coords
+ComesFrom f (Weights layout) = (f.weight_kind ≡ Some Explicit) × (f.weight_format ≡ Some (Listed layout)) × IsSome f.weights
+
+-- the file is a valid instance with these nodes, and its costs come from there
+pub record HasFound (f : Fields) (nodes : ℕ) (source : CostSource) : Type 0 where
+  pub instance : IsTrue (is_instance f.kind)
+  pub range : IsInRange f
+  pub dimension : f.dimension ≡ Some nodes
+  pub costs : ComesFrom f source
+  pub routing : f.kind ≡ Some kinds.Cvrp → HasRouting f
+
+-- ---- the number of nodes and the costs of each view of an instance
 
 -- how many nodes a view of points has
 abbrev pub points_nodes : {P : Type 0} → Points P → ℕ

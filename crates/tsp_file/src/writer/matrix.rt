@@ -4,9 +4,8 @@ ghost use Rattle.std.specs.Fmt.{signed_decimal, decimal};
 ghost use Rattle.std.specs.List.{flat_map};
 ghost use Rattle.std.specs.Option.{option_map};
 ghost use Rattle.std.specs.Prelude.{◌≡◌, ◌∷◌, length, map, ◌≤◌, drop, IfSome, ◌+◌, ◌/◌, ◌%◌, ◌<◌, ◌++◌};
-ghost use Rattle.tsp_format.specs.Cells.{cells_of_line};
-ghost use Rattle.tsp_format.specs.Nodes.{nodes_to};
-ghost use Rattle.tsp_io.specs.states.WriteProgress.{Puts};
+ghost use Rattle.tsp_format.specs.Nodes.{cells_of_line, nodes_to};
+ghost use Rattle.tsp_io.specs.states.Watched.{Puts};
 ghost use Rattle.tsp_file.specs.CanonicalText.{weight_line, matrix_lines, line_lens, section_text, optional};
 
 use crate::writer::sections::put_opening;

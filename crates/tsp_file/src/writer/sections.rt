@@ -6,19 +6,18 @@ ghost use Rattle.std.specs.Fmt.{decimal, signed_decimal};
 ghost use Rattle.std.specs.List.{flat_map};
 ghost use Rattle.std.specs.Option.{option_map};
 ghost use Rattle.std.specs.Prelude.{◌≡◌, ◌+◌, ◌<◌, ◌^◌, [], ◌∷◌, ◌++◌, map, ◌≤◌, cond, length, drop};
-ghost use Rattle.tsp_number.specs.Spelling.{spelling};
+ghost use Rattle.tsp_number.specs.NumberWord.{spelling};
 ghost use Rattle.tsp_format.specs.Words.{field_word};
-ghost use Rattle.tsp_io.specs.states.WriteProgress.{Puts};
+ghost use Rattle.tsp_io.specs.states.Watched.{Puts};
 ghost use Rattle.tsp_file.specs.CanonicalText.{line_end, number_line, section_text, lines_by_node, node_list, pair_list, triple_list, coordinate_words, whole_number, optional};
 ghost use Rattle.tsp_file.specs.states.Drafts.{points_of};
 
 use crate::coords::Coords;
 use itoa::write_digits;
 use std::io::Write;
-use tsp_distance::{Decimal, InSpace, Point};
 use tsp_format::{Field, Word};
 use tsp_io::{Piece, Watched, put, put_next_number, put_number};
-use tsp_number::write_spelling;
+use tsp_number::{Decimal, InSpace, Point, write_spelling};
 
 /// Adds the line that opens a section.
 pub(crate) fn put_opening<W: Write>(piece: &mut Piece, out: &mut Watched<W>, field: Field)

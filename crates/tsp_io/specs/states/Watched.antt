@@ -1,13 +1,15 @@
 -- The fields of a watched reader or writer, and its `Turn` or `Sink` by what it was before a call and is after it. For
 -- `Watched` (src/watched.rt), and for every call that reads or writes. Six crates above import it too.
-use Rattle.std.specs.Prelude.{◌≡◌, ℕ, ◌<◌, Bool, true, List, length, Option, Some, Result, Ok, Err, ◌&&◌, ◌==◌, nat_lt}
+use Rattle.std.specs.Io.KnownBytes.{Appends}
 use Rattle.std.specs.IoError.{error_kind}
+use Rattle.std.specs.Prelude.{◌≡◌, ℕ, ◌<◌, Bool, true, List, length, Option, Some, Result, Ok, Err, ◌&&◌, ◌==◌, nat_lt, false, ◌++◌, ◌⊎◌, [], ◌∷◌}
 use Rattle.std.specs.declared.io.Error.{Error}
 use Rattle.std.specs.declared.io.ErrorKind.TheVariants as kinds
-use denote.Ref.{MutBor}
 use denote.Param.Members.{Once}
-use Rattle.tsp_io.specs.Sink.{Sink}
-use Rattle.tsp_io.specs.Turn.{Turn}
+use denote.Ref.{MutBor}
+use Rattle.arrayvec.specs.ArrayVec.{ArrayVec}
+use Rattle.tsp_io.specs.Streams.{Sink, Turn}
+use Rattle.tsp_io.specs.declared.script.Script.{Script}
 use Rattle.tsp_io.specs.declared.watched.Watched.{Watched}
 
 -- the reader or writer inside
@@ -65,3 +67,46 @@ sink_of contents old new = record {
   had_failed = has_failed old;
   failed = has_failed new;
 }
+
+-- ---- how far a text has come on its way to a writer
+
+-- the bytes that the writer has, where they are known; whether it has failed; and the buffer's bytes, which wait to be
+-- written
+pub record Way : Type 0 where
+  pub held : Option (List ℕ)
+  pub failed : Bool
+  pub piece : List ℕ
+
+-- the same of a watched writer and its buffer
+abbrev pub way_of : {W : Type 0} → (W → Option (List ℕ)) → Watched W → List ℕ → Way
+way_of contents out piece = record { held = contents (watched out); failed = has_failed out; piece = piece }
+
+-- A prefix of the text has come to the writer that had `start`, and nothing else. While the writer hasn't failed, the
+-- buffer has the rest of the text.
+pub record Carries (start : Option (List ℕ)) (way : Way) (text : List ℕ) : Type 0 where
+  pub front : List ℕ
+  pub rest : List ℕ
+  pub parts : front ++ rest ≡ text
+  pub written : Appends start way.held front
+  pub waits : way.failed ≡ false → rest ≡ way.piece
+
+-- from `old` to `new` these bytes were added to whatever text was on its way
+abbrev pub Carried : Way → Way → List ℕ → Type 0
+Carried old new bytes = (start : Option (List ℕ)) (text : List ℕ)
+    → Carries start old text → Carries start new (text ++ bytes)
+
+-- a call with a writer and its buffer added these bytes to whatever text was on its way
+abbrev pub Puts : {W : Type 0} → (W → Option (List ℕ))
+    → Watched W → ArrayVec ℕ → Watched W → ArrayVec ℕ → List ℕ → Type 0
+Puts contents out piece new_out new_piece bytes =
+    Carried (way_of contents out piece.items) (way_of contents new_out new_piece.items) bytes
+
+-- ---- a reader or writer whose answers are a list
+
+-- the answers that it has left; the last of the list comes first
+abbrev pub answers_of : Script → List (Result ℕ Error)
+answers_of script = script.answers.items
+
+-- this is the next answer, and the others are left; without an answer it is 0, the end of a text
+abbrev pub AnswersNext : List (Result ℕ Error) → Result ℕ Error → List (Result ℕ Error) → Type 0
+AnswersNext old answer new = (old ≡ new ++ answer ∷ []) ⊎ ((old ≡ []) × (new ≡ []) × (answer ≡ Ok 0))

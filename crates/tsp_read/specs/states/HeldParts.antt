@@ -1,25 +1,26 @@
 -- That the struct of a section's part has the words of the section so far, for each struct of src/parts/. For `open`
 -- and `push` of `Part` (src/part.rt), and for each file of src/parts/. Parts.antt says it of the fields one by one.
-use Rattle.std.specs.Prelude.{◌≡◌, ℕ, ◌+◌, ◌≤◌, ℤ, Bool, cond, List, length, map}
+use Rattle.std.specs.Prelude.{◌≡◌, ℕ, ◌+◌, ◌≤◌, ℤ, Bool, cond, List, length, map, false, is_some, [], ◌∷◌, ◌++◌, Ok}
+use Rattle.tsp_format.specs.Limits.{most_combs}
+use Rattle.tsp_format.specs.declared.keyword.Shape.{Shape}
+use Rattle.tsp_format.specs.declared.keyword.Shape.TheVariants.{Numbers, Points, SpacePoints, Depots, Pairs, Weights, Tours, Triples, Combs, Steps}
+use Rattle.tsp_format.specs.states.TreeSteps.{steps_of}
+use Rattle.tsp_file.specs.states.Drafts.{points_of, combs_of}
+use Rattle.tsp_text.specs.Earlier.{place_by}
+use Rattle.tsp_text.specs.Groups.{CombsSoFar, combs_after}
+use Rattle.tsp_text.specs.SectionWords.{TreeSoFar, tree_after}
 use Rattle.tsp_read.specs.declared.by_node.NumberList.{NumberList}
 use Rattle.tsp_read.specs.declared.by_node.PointList.{PointList}
 use Rattle.tsp_read.specs.declared.lists.DepotList.{DepotList}
 use Rattle.tsp_read.specs.declared.lists.FixedList.{FixedList}
-use Rattle.tsp_read.specs.declared.part.TripleList.{TripleList}
-use Rattle.tsp_read.specs.declared.runs.WeightList.{WeightList}
-use Rattle.tsp_read.specs.declared.runs.TourList.{TourList}
-use Rattle.tsp_read.specs.declared.tree.CombList.{CombList}
-use Rattle.tsp_read.specs.declared.tree.TreeList.{TreeList}
-use Rattle.tsp_format.specs.Limits.{most_combs}
-use Rattle.tsp_format.specs.states.TreeSteps.{steps_of}
-use Rattle.tsp_file.specs.states.Drafts.{points_of, combs_of}
-use Rattle.tsp_text.specs.CombSection.{CombsSoFar, combs_after}
-use Rattle.tsp_text.specs.BranchSection.{TreeSoFar, tree_after}
 use Rattle.tsp_read.specs.declared.part.Part.{Part}
 use Rattle.tsp_read.specs.declared.part.Part.TheVariants as parts
-use Rattle.tsp_format.specs.declared.keyword.Shape.{Shape}
-use Rattle.tsp_format.specs.declared.keyword.Shape.TheVariants.{Numbers, Points, SpacePoints, Depots, Pairs, Weights, Tours, Triples, Combs, Steps}
-use Rattle.tsp_read.specs.states.Parts.{NumbersHold, CoordsHold, are_in_space, DepotsHold, PairsHold, TriplesHold, WeightsHold, ToursHold, EndsRun}
+use Rattle.tsp_read.specs.declared.part.TripleList.{TripleList}
+use Rattle.tsp_read.specs.declared.runs.TourList.{TourList}
+use Rattle.tsp_read.specs.declared.runs.WeightList.{WeightList}
+use Rattle.tsp_read.specs.declared.tree.CombList.{CombList}
+use Rattle.tsp_read.specs.declared.tree.TreeList.{TreeList}
+use Rattle.tsp_read.specs.states.Parts.{NumbersHold, CoordsHold, are_in_space, DepotsHold, PairsHold, TriplesHold, WeightsHold, ToursHold, EndsRun, Takes}
 
 -- a section by node with numbers of this range
 pub record HoldsNumbers (part : NumberList) (low high : ℤ) (n : ℕ) (words : List (List ℕ)) : Type 0 where
@@ -59,7 +60,7 @@ HoldsTours part words = ToursHold (map (λ tour. tour.items) part.done.items) pa
 abbrev pub EndsRunOf : TourList → List (List ℕ) → Type 0
 EndsRunOf part words = EndsRun (map (λ tour. tour.items) part.done.items) part.run.items words
 
--- the contents of a part for COMB_SECTION, as CombSection.antt of tsp_text has them
+-- the contents of a part for COMB_SECTION, as Groups.antt of tsp_text has them
 abbrev pub combs_held : CombList → CombsSoFar
 combs_held part = record {
   combs = combs_of part.combs.items;
@@ -74,7 +75,7 @@ pub record HoldsCombs (part : CombList) (n : ℕ) (words : List (List ℕ)) : Ty
   pub nodes : part.n ≡ n
   pub read : combs_held part ≡ combs_after n words
 
--- the contents of a part for BRANCH_SECTION, as BranchSection.antt of tsp_text has them
+-- the contents of a part for BRANCH_SECTION, as SectionWords.antt of tsp_text has them
 abbrev pub tree_held : TreeList → TreeSoFar
 tree_held part = record {
   steps = steps_of part.steps.items;
@@ -126,3 +127,29 @@ HoldsPart (parts.Steps list) n words = HoldsTree list n words
 -- the same, and the section has this shape
 abbrev pub HoldsShape : Shape → Part → ℕ → List (List ℕ) → Type 0
 HoldsShape shape part n words = (shape_by part ≡ shape) × HoldsPart part n words
+
+-- ---- how a section's part takes one word of a run, which code reads in one pass
+
+-- a part that had some words has this one too, which has no fault at its place
+abbrev pub TakesRead : Part → Part → List ℕ → Type 0
+TakesRead old new word = (n : ℕ) (words : List (List ℕ)) → HoldsPart old n words
+    → Takes n (place_by (shape_by old) n words) word (HoldsShape (shape_by old) new n (words ++ word ∷ [])) (Ok tt)
+
+-- a part still has the words that it had
+abbrev pub KeepsWords : Part → Part → Type 0
+KeepsWords old new = (n : ℕ) (words : List (List ℕ)) → HoldsPart old n words → HoldsShape (shape_by old) new n words
+
+-- the part has the node of a point that isn't whole, so that its next word is a coordinate
+abbrev pub in_group : Part → Bool
+in_group (parts.Points list) = is_some list.begun
+in_group part = false
+
+-- how many points are still to come; 0 for another section
+abbrev pub groups_left : Part → ℕ
+groups_left (parts.Points list) = list.left
+groups_left part = 0
+
+-- for each node whether it has a point; none for another section
+abbrev pub marks_of : Part → List Bool
+marks_of (parts.Points list) = list.seen.items
+marks_of part = []

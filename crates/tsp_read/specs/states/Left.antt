@@ -1,13 +1,15 @@
 -- The items of the part of a text that isn't taken yet, and where its next line or word ends. For `next_item`
 -- (src/items.rt), `Token` (src/items.rt) and `take_items` (src/items.rt). `inside` says whether an item of the line was
 -- taken before.
-use Rattle.std.specs.Prelude.{ℕ, Bool, true, false, not, ◌||◌, nat_lt, List, [], ◌∷◌, ◌++◌, length, map, take, drop}
 use Rattle.std.specs.List.{position_or_len}
-use Rattle.tsp_format.specs.Bytes.{is_blank}
+use Rattle.std.specs.Prelude.{ℕ, Bool, true, false, not, ◌||◌, nat_lt, List, [], ◌∷◌, ◌++◌, length, map, take, drop, ◌&&◌, cond}
+use Rattle.tsp_format.specs.Limits.{most_word_bytes, most_line_bytes}
+use Rattle.tsp_format.specs.Words.{is_blank, is_letter}
+use Rattle.tsp_text.specs.Items.{lines_of, words_in, ends_line, is_not_empty, Item, NumberWord, LineEnd, line_item, items_in, items_by, settled_words, settled_in}
 use Rattle.tsp_read.specs.declared.items.Next.{Next}
 use Rattle.tsp_read.specs.declared.items.Next.TheVariants as next
-use Rattle.tsp_text.specs.Lines.{lines_of, words_in, ends_line, is_not_empty}
-use Rattle.tsp_text.specs.Items.{Item, NumberWord, LineEnd, line_item, items_in, items_by, settled_words, settled_in}
+use Rattle.tsp_read.specs.declared.items.Token.{Token}
+use Rattle.tsp_read.specs.declared.items.Token.TheVariants.{Line, Word}
 
 -- ---- the items of the rest of a text
 
@@ -66,3 +68,24 @@ from test text = drop (position_or_len test text) text
 -- may be.
 abbrev pub is_settled : ℕ → Bool → List ℕ → List ℕ → Bool
 is_settled most goes_on piece rest = is_not_empty rest || not goes_on || nat_lt most (length piece)
+
+-- ---- a word line, or a word of a number line: which byte begins it
+
+-- a letter that is the first of its line begins a word line; every other byte that isn't blank begins a word
+abbrev pub token_at : Bool → ℕ → Token
+token_at inside first = cond (not inside && is_letter first) Line Word
+
+-- the bytes that end it
+abbrev pub ends_token : Token → (ℕ → Bool)
+ends_token Line = ends_line
+ends_token Word = ends_word
+
+-- how long it may be
+abbrev pub most_bytes : Token → ℕ
+most_bytes Line = most_line_bytes
+most_bytes Word = most_word_bytes
+
+-- the item that it is
+abbrev pub token_item : Token → List ℕ → Item
+token_item Line line = line_item line
+token_item Word word = NumberWord word

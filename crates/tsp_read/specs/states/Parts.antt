@@ -4,23 +4,19 @@
 use Rattle.std.specs.Prelude.{◌≡◌, ℕ, ◌+◌, ◌*◌, ◌<◌, ◌≤◌, ◌-◌, ℤ, pos, negsuc, Bool, true, false, not, List, [], ◌∷◌, ◌++◌, length, map, slice_index_or, Option, None, Some, is_some, unwrap_or, Result, Ok, Err}
 use Rattle.std.specs.Option.{option_map}
 use Rattle.std.specs.List.{filter, slice_split, list_any}
-use Rattle.tsp_distance.specs.declared.decimal.Point.{Point}
+use Rattle.tsp_number.specs.declared.decimal.Point.{Point}
 use Rattle.tsp_number.specs.declared.word.NumberFault.{NumberFault}
-use Rattle.tsp_number.specs.Reading.{decimal_of}
+use Rattle.tsp_number.specs.NumberWord.{decimal_of}
 use Rattle.tsp_file.specs.declared.coords.Coords.{Coords}
 use Rattle.tsp_file.specs.declared.coords.Coords.TheVariants.{Plane, Space}
-use Rattle.tsp_file.specs.Coords.{origin}
+use Rattle.tsp_file.specs.Cost.{origin}
 use Rattle.tsp_text.specs.declared.fault.LineFault.{LineFault}
 use Rattle.tsp_text.specs.declared.fault.LineFault.TheVariants as row
 use Rattle.tsp_read.specs.declared.line.StepFault.{StepFault}
 use Rattle.tsp_read.specs.declared.line.StepFault.TheVariants as steps
-use Rattle.tsp_text.specs.Lines.{is_not_empty}
-use Rattle.tsp_text.specs.SectionNumbers.{node, node_or_end, is_end}
-use Rattle.tsp_text.specs.WordPlaces.{Place}
-use Rattle.tsp_text.specs.Groups.{groups_in, begun_in, node_groups, number_value, point_in, space_point_in, entry_of}
-use Rattle.tsp_text.specs.Lists.{depots_in, listed_in, firsts_in, fixed_pair, fixed_triple}
-use Rattle.tsp_text.specs.WeightSection.{weights_in}
-use Rattle.tsp_text.specs.TourSection.{ends_tour, tour_node, tours_in}
+use Rattle.tsp_text.specs.Items.{is_not_empty}
+use Rattle.tsp_text.specs.SectionWords.{node, node_or_end, is_end, Place, weights_in, ends_tour, tour_node, tours_in}
+use Rattle.tsp_text.specs.Groups.{groups_in, begun_in, node_groups, number_value, point_in, space_point_in, entry_of, depots_in, listed_in, firsts_in, fixed_pair, fixed_triple}
 use Rattle.tsp_text.specs.FaultRows.{word_fault}
 
 -- ---- a word at its place

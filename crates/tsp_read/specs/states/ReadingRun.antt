@@ -1,13 +1,18 @@
 -- A run of plain numbers in the open section, which is read in one pass: only the section's part and the counts change.
 -- For `take_run` (src/run.rt), with `Count` (src/run.rt) and `Part` of tsp_read.
-use Rattle.std.specs.Prelude.{ℕ, ◌+◌, ◌≤◌, ◌<◌, List, length, Option, None, Some}
+use Rattle.std.specs.Prelude.{ℕ, ◌+◌, ◌≤◌, ◌<◌, List, length, Option, None, Some, ◌≡◌, Bool, true, [], ◌∷◌, ◌⊎◌}
+use Rattle.tsp_format.specs.Words.{is_blank}
 use Rattle.tsp_format.specs.declared.keyword.Field.{Field}
 use Rattle.tsp_file.specs.declared.draft.Draft.{Draft}
-use Rattle.tsp_read.specs.declared.part.Part.{Part}
-use Rattle.tsp_read.specs.declared.run.Count.{Count}
+use Rattle.tsp_text.specs.Items.{ends_line, without_start, NumberWord}
 use Rattle.tsp_read.specs.declared.items.Intake.{Intake}
+use Rattle.tsp_read.specs.declared.part.Part.{Part}
 use Rattle.tsp_read.specs.declared.reading.Reading.{Reading}
-use Rattle.tsp_read.specs.states.Intake.{IsReadTo}
+use Rattle.tsp_read.specs.declared.run.Count.{Count}
+use Rattle.tsp_read.specs.declared.run.End.{End}
+use Rattle.tsp_read.specs.declared.run.End.TheVariants.{Blank, Line}
+use Rattle.tsp_read.specs.states.Left.{ends_word, up_to_first}
+use Rattle.tsp_read.specs.states.Onward.{IsReadTo, GivesNext}
 
 -- the intake with this state and these counts
 abbrev pub counted : Reading → Count → Intake
@@ -36,3 +41,26 @@ pub record RunsTo (old : Part) (before : Count) (text : List ℕ) (new : Part) (
 abbrev pub StepsTo : Part → Count → List ℕ → Part → Count → Option (List ℕ) → Type 0
 StepsTo old before text new after None = RunsTo old before text new after text
 StepsTo old before text new after (Some rest) = RunsTo old before text new after rest × (length rest < length text)
+
+-- ---- the word at the beginning of a text, and what is left after it
+
+-- the bytes of the word: from the first that isn't blank to the first blank or byte 10
+abbrev pub front_word : List ℕ → List ℕ
+front_word text = up_to_first ends_word (without_start text)
+
+-- what is left after a word that ends here: the bytes after a blank, or those from byte 10 on
+abbrev pub LeavesEnd : List ℕ → List ℕ → Type 0
+LeavesEnd [] left = ⊥
+LeavesEnd (b ∷ later) left = ((is_blank b ≡ true) × (left ≡ later)) ⊎ ((ends_line b ≡ true) × (left ≡ b ∷ later))
+
+-- the same, by the end that code found
+abbrev pub left_from : End → List ℕ
+left_from (Blank later) = later.now
+left_from (Line later) = 10 ∷ later.now
+
+-- The word at the beginning is the next item, whether or not an item of the line was taken before. `Reads` says what it
+-- is read as, and `left` is shorter than the text.
+pub record IsFrontWord (text : List ℕ) (Reads : Type 0) (left : List ℕ) : Type 0 where
+  pub word : (inside : Bool) → GivesNext inside text (NumberWord (front_word text)) true left
+  pub reads : Reads
+  pub shorter : length left < length text

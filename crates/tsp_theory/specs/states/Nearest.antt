@@ -1,7 +1,8 @@
 -- The entry of a row of weights at an index, for every crate that reads rows. And of a growing tree the nearest grown
 -- node of a node that isn't grown, with the weight between the two: for `take_nearer` and `bring` (src/tree.rt of
 -- tsp_bound).
-use Rattle.std.specs.Prelude.{◌≡◌, ℕ, Bool, false, List, slice_index_or, ◌⊎◌, ℤ, pos, ◌≤ℤ◌, ◌<ℤ◌}
+use Rattle.std.specs.Int.{w64, int_wrap}
+use Rattle.std.specs.Prelude.{◌≡◌, ℕ, Bool, false, List, slice_index_or, ◌⊎◌, ℤ, pos, ◌≤ℤ◌, ◌<ℤ◌, ◌+ℤ◌}
 
 -- the node x is grown
 abbrev pub is_inside : List Bool → ℕ → Bool
@@ -17,3 +18,9 @@ abbrev pub IsNearer : ℤ → ℕ → ℕ → ℤ → ℕ → ℤ → Type 0
 IsNearer weight next old_near old_least new_near new_least =
     ((new_near ≡ old_near) × (new_least ≡ old_least) × (old_least ≤ℤ weight))
     ⊎ ((new_near ≡ next) × (new_least ≡ weight) × (weight <ℤ old_least))
+
+-- ---- an entry of a row after a number was added to it in 64 bits
+
+-- the entry as it was, where 0 is added; else what is left of the sum in 64 bits
+abbrev pub IsMoved : ℤ → ℤ → ℤ → Type 0
+IsMoved change old new = ((new ≡ old) × (change ≡ pos 0)) ⊎ (new ≡ int_wrap w64 (old +ℤ change))

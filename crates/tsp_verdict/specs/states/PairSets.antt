@@ -5,8 +5,8 @@ use Rattle.std.specs.BTreeSet.{BTreeSet, contains}
 use Rattle.std.specs.List.{list_any}
 use Rattle.std.specs.Ordering.{nat_cmp, ordering_then}
 use Rattle.std.specs.declared.cmp.Ordering.{Ordering}
-use Rattle.tsp_theory.specs.Adjusted.{is_same_pair}
-use Rattle.tsp_cases.specs.Decisions.{is_same}
+use Rattle.tsp_theory.specs.Bounds.{is_same_pair}
+use Rattle.tsp_cases.specs.Cases.{is_same}
 
 -- the pair with its smaller node first
 abbrev pub undirected : ℕ × ℕ → ℕ × ℕ

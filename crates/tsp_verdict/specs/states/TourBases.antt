@@ -1,19 +1,51 @@
--- The verdict on a solution where the bound comes from a certificate, or from a basis that was found before. For
--- `Subject` (src/solution_verdict.rt), with `BoundOrigin` and `TourBasis` (src/solution_verdict.rt).
-use Rattle.std.specs.Prelude.{◌≡◌, ◌≤◌, Option, None, ℤ, IsTrue, option_map}
+-- The reason against the instance that a basis of tours has, if it has one. For `against_instance`
+-- (src/basis.rt).
+use Rattle.std.specs.Prelude.{Option, None, Some, MatchOption, ◌≡◌, ◌≤◌, ℤ, IsTrue, option_map}
+use Rattle.tsp_format.specs.Words.{IsSymmetric}
+use Rattle.tsp_format.specs.declared.kinds.Kind.TheVariants as kinds
+use Rattle.tsp_file.specs.Cost.{cost}
 use Rattle.tsp_file.specs.Fields.{Fields, nodes_of}
+use Rattle.tsp_cost.specs.states.Views.{IsViewOf, ShowsEven}
+use Rattle.tsp_report.specs.declared.task.Certificate.{Certificate}
 use Rattle.tsp_report.specs.declared.verdict.Basis.{Basis}
 use Rattle.tsp_report.specs.declared.verdict.Basis.TheVariants as bases
-use Rattle.tsp_report.specs.declared.task.Certificate.{Certificate}
+use Rattle.tsp_report.specs.declared.verdict.Reason.{Reason}
+use Rattle.tsp_report.specs.declared.verdict.Reason.TheVariants.{TooFewNodes, NotSymmetric}
 use Rattle.tsp_report.specs.declared.verdict.Verdict.{Verdict}
 use Rattle.tsp_report.specs.declared.verdict.Verdict.TheVariants as verdicts
-use Rattle.tsp_verdict.specs.Basis.{IsBasis, IsVerdictFrom}
-use Rattle.tsp_verdict.specs.SolutionVerdict.{is_judged, IsVerdictWith}
+use Rattle.tsp_verdict.specs.Certified.{StandsAgainstTouring, NoneAgainstTouring}
+use Rattle.tsp_verdict.specs.SolutionVerdict.{IsBasis, IsVerdictFrom, is_judged, IsVerdictWith}
+use Rattle.tsp_verdict.specs.Solutions.{IsFirstReason}
 use Rattle.tsp_verdict.specs.declared.solution_verdict.BoundOrigin.{BoundOrigin}
 use Rattle.tsp_verdict.specs.declared.solution_verdict.BoundOrigin.TheVariants as origins
 use Rattle.tsp_verdict.specs.declared.solution_verdict.TourBasis.{TourBasis}
 use Rattle.tsp_verdict.specs.declared.solution_verdict.TourBasis.TheVariants as tour_bases
-use Rattle.tsp_verdict.specs.states.TourCosts.{AreTourCosts}
+use Rattle.tsp_verdict.specs.declared.tour.TourCosts.{TourCosts}
+use Rattle.tsp_verdict.specs.declared.tour.TourCosts.TheVariants.{Undirected, Directed}
+
+-- the reason of a basis, where it is one against the instance
+abbrev pub against_instance : Basis → Option Reason
+against_instance (bases.No TooFewNodes) = Some TooFewNodes
+against_instance (bases.No (NotSymmetric i j)) = Some (NotSymmetric i j)
+against_instance basis = None
+
+-- it is the first one against the instance; without it none applies to the instance
+abbrev pub KnowsInstance : Fields → Basis → Type 0
+KnowsInstance instance basis = MatchOption (against_instance basis) (NoneAgainstTouring instance)
+    (λ reason. IsFirstReason (StandsAgainstTouring instance) reason)
+
+-- ---- the costs of an instance of TYPE TSP or ATSP while its tours are judged: a view of it
+
+-- the costs are those of the instance; under TYPE TSP they are the same in both directions
+abbrev pub AreTourCosts : Fields → TourCosts → Type 0
+AreTourCosts instance (Undirected view) = (instance.kind ≡ Some kinds.Tsp) × ShowsEven instance view × IsSymmetric (cost instance)
+AreTourCosts instance (Directed view) = (instance.kind ≡ Some kinds.Atsp) × IsViewOf instance view
+
+-- under TYPE TSP the costs are the same in both directions
+abbrev pub IsSymmetricTsp : Fields → Type 0
+IsSymmetricTsp instance = instance.kind ≡ Some kinds.Tsp → IsSymmetric (cost instance)
+
+-- ---- the verdict on a solution where the bound comes from a certificate, or from a basis that
 
 -- ---- a certificate, or a basis that was found before
 

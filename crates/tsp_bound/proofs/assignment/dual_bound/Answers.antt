@@ -5,12 +5,11 @@ use Rattle.std.specs.Prelude.{ℤ, pos, neg_ℤ, ◌+ℤ◌, ◌≤ℤ◌}
 use Rattle.std.specs.Int.{w128}
 use Rattle.std.proofs.lemmas.Int.{ints, to_z-of_z, fits_signed_from_abs}
 use Rattle.tsp_format.specs.Limits.{most_nodes, most_potential}
-use Rattle.tsp_format.specs.Ranges.{IsFromTo}
-use Rattle.tsp_theory.specs.CertificateNumbers.{total}
-use Rattle.tsp_theory.specs.Assignment.{AreGood, IsDualBound}
-use Rattle.tsp_theory.proofs.Sizes.{size_of, bound_of_sums}
+use Rattle.tsp_format.specs.Steps.{IsFromTo}
+use Rattle.tsp_theory.specs.Bounds.{total, AreGood, IsDualBound}
+use Rattle.tsp_theory.proofs.Sums.{size_of, bound_of_sums}
 use Rattle.tsp_bound.specs.states.Duals.{dual_of, scaled}
-use Rattle.tsp_bound.proofs.Passed.{rows_passed}
+use Rattle.tsp_bound.proofs.LoweredWeights.{rows_passed}
 use Rattle.tsp_bound.proofs.assignment.dual_bound.Goals as goal
 
 -- the size of a sum of numbers

@@ -4,9 +4,9 @@ use Rattle.std.proofs.Common.{ℕ, ◌-◌, ◌<◌, length, refl, arith}
 use Rattle.std.specs.Prelude.{pos, ◌≤ℤ◌, slice_index_or}
 use Rattle.std.proofs.lemmas.Bool.{false≢true}
 use Rattle.tsp_format.specs.Limits.{most_potential}
-use Rattle.tsp_theory.proofs.Sizes.{same_64}
+use Rattle.tsp_theory.proofs.Sums.{same_64}
 use Rattle.tsp_bound.specs.states.Duals.{dual_of, scaled}
-use Rattle.tsp_bound.proofs.Passed.{columns_passed, above_where_not}
+use Rattle.tsp_bound.proofs.LoweredWeights.{columns_passed, above_where_not}
 use Rattle.tsp_bound.proofs.assignment.first_broken_of_row.Goals as goal
 use Rattle.tsp_bound.proofs.assignment.first_broken_of_row.Goals.{else-not-fits-via-then-not-fits+else-i-j, else-not-fits-via-else-not-fits}
 

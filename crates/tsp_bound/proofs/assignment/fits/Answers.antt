@@ -2,7 +2,7 @@
 -- it ensures.
 use Rattle.std.proofs.Common.{◌-◌, ◌<◌, length, arith}
 use Rattle.std.specs.Prelude.{pos, slice_index_or}
-use Rattle.tsp_theory.proofs.Sizes.{fit_decided}
+use Rattle.tsp_theory.proofs.Sums.{fit_decided}
 use Rattle.tsp_bound.proofs.assignment.fits.Goals as goal
 
 -- plan: the sum in 64 bits is the whole one, so the test decides (`fit_decided`)

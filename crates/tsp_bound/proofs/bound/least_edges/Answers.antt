@@ -4,13 +4,11 @@ use Rattle.std.proofs.Common.{◌≡◌, ◌∙◌, [], ap, ap₂, sym, arith, r
 use Rattle.std.specs.Prelude.{◌+ℤ◌}
 use Rattle.std.specs.Int.{w64}
 use Rattle.std.proofs.lemmas.Int.{ints}
-use Rattle.tsp_theory.specs.Tree.{weight_of}
-use Rattle.tsp_theory.specs.Growth.{tree_of}
-use Rattle.tsp_bound.specs.states.Potentials.{weight_under}
-use Rattle.tsp_bound.specs.states.Multipliers.{triples_in, weight_less}
-use Rattle.tsp_theory.proofs.Adjustments.{adjusted_even}
-use Rattle.tsp_theory.proofs.OneTrees.{least_from_forest}
-use Rattle.tsp_theory.proofs.Weights.{weight_even, tree_fits, tree_size, tree_computed, weight_of_tree}
+use Rattle.tsp_theory.specs.Tree.{weight_of, tree_of}
+use Rattle.tsp_bound.specs.states.Potentials.{weight_under, triples_in, weight_less}
+use Rattle.tsp_theory.proofs.Neighbours.{adjusted_even}
+use Rattle.tsp_theory.proofs.Trees.{least_from_forest}
+use Rattle.tsp_theory.proofs.Cycles.{weight_even, tree_fits, tree_size, tree_computed, weight_of_tree}
 use Rattle.tsp_bound.proofs.bound.least_edges.Goals as goal
 
 pub grow_in_rounds-requires-clause-even : goal.grow_in_rounds-requires-clause-even

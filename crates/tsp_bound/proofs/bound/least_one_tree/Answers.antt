@@ -4,11 +4,10 @@ use Rattle.std.proofs.Common.{◌≡◌, ℕ, List, [], subst, ◌∙◌, arith,
 use Rattle.std.specs.Prelude.{ℤ}
 use Rattle.std.specs.Int.{w128}
 use Rattle.std.proofs.lemmas.Int.{to_z-of_z}
-use Rattle.tsp_theory.specs.CertificateNumbers.{total}
+use Rattle.tsp_theory.specs.Bounds.{total, triples_total, IsAdjustedBoundOf, IsAdjustedBound}
 use Rattle.tsp_theory.specs.Tree.{weight_of, IsLeastOneTree}
-use Rattle.tsp_theory.specs.Adjusted.{triples_total, IsAdjustedBoundOf, IsAdjustedBound}
-use Rattle.tsp_bound.specs.states.Multipliers.{weight_less}
-use Rattle.tsp_theory.proofs.Weights.{sum_of_bound, bound_of_weight, tree_same}
+use Rattle.tsp_bound.specs.states.Potentials.{weight_less}
+use Rattle.tsp_theory.proofs.Cycles.{sum_of_bound, bound_of_weight, tree_same}
 use Rattle.tsp_bound.proofs.bound.least_one_tree.Goals as goal
 
 pub least_bound-bound-requires-clause-size : goal.least_bound-bound-requires-clause-size

@@ -3,10 +3,9 @@
 use Rattle.std.proofs.Common.{◌≡◌, ◌-◌, ◌+◌, ℕ, Option, None, Some, length, arith, sym, subst, ◌∙◌}
 use Rattle.std.proofs.Math.ListN.{length-set}
 use Rattle.tsp_bound.specs.declared.area.Area.{Area}
-use Rattle.tsp_bound.specs.states.Boxes.{HoldsNode, AreHeldFrom, area_at, node_of}
+use Rattle.tsp_bound.specs.states.Boxes.{HoldsNode, AreHeldFrom, area_at, node_of, IsNumberedSiteOf}
 use Rattle.tsp_bound.specs.declared.boxes.NumberedSite.{NumberedSite}
-use Rattle.tsp_bound.specs.states.NumberedSites.{IsNumberedSiteOf}
-use Rattle.tsp_bound.proofs.Trees.{leaf_more, held_leaves, refit_more}
+use Rattle.tsp_bound.proofs.Searches.{leaf_more, held_leaves, refit_more}
 use Rattle.tsp_bound.proofs.boxes.boxes_of.Goals as goal
 
 -- plan: each leaf has the area of its place (`leaf_more`), then each box from the last on that of both halves

@@ -5,11 +5,10 @@ use Rattle.std.specs.Prelude.{slice_index_or, ℤ, pos, neg_ℤ}
 use Rattle.std.proofs.lemmas.Bool.{cases_eq}
 use Rattle.std.proofs.lemmas.Int.{to_z-of_z}
 use Rattle.std.proofs.lemmas.List.{length-append, get_or_append_left, get_or_push}
-use Rattle.tsp_format.specs.Ranges.{IsFromTo}
-use Rattle.tsp_theory.specs.CertificateNumbers.{most_number}
+use Rattle.tsp_format.specs.Steps.{IsFromTo}
+use Rattle.tsp_theory.specs.Bounds.{most_number}
 use Rattle.tsp_bound.specs.declared.boxes.NumberedSite.{NumberedSite}
-use Rattle.tsp_bound.specs.states.Boxes.{node_of}
-use Rattle.tsp_bound.specs.states.NumberedSites.{IsNumberedSiteOf}
+use Rattle.tsp_bound.specs.states.Boxes.{node_of, IsNumberedSiteOf}
 use Rattle.tsp_bound.proofs.boxes.numbered_sites_of.Goals as goal
 
 -- plan: the pushed site has the node's own point and number (`own`); those before it are as they were

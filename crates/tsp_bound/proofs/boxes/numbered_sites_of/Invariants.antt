@@ -2,8 +2,7 @@
 use Rattle.std.proofs.Common.{◌≡◌, ◌<◌, ℕ, length}
 use Rattle.std.specs.Prelude.{slice_index_or}
 use Rattle.tsp_bound.specs.declared.boxes.NumberedSite.{NumberedSite}
-use Rattle.tsp_bound.specs.states.Boxes.{node_of}
-use Rattle.tsp_bound.specs.states.NumberedSites.{IsNumberedSiteOf}
+use Rattle.tsp_bound.specs.states.Boxes.{node_of, IsNumberedSiteOf}
 use Rattle.tsp_bound.proofs.boxes.numbered_sites_of.Given as goal
 
 -- each numbered site so far has the node at its place, with the node's point and number

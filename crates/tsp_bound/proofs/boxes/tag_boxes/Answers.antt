@@ -4,7 +4,7 @@ use Rattle.std.proofs.Common.{◌≡◌, ◌-◌, ◌+◌, ℕ, true, get_or, le
 use Rattle.std.proofs.Math.ListN.{length-set}
 use Rattle.tsp_bound.specs.states.Boxes.{AreHeldFrom, box_at}
 use Rattle.tsp_bound.specs.states.Components.{IsTagOf}
-use Rattle.tsp_bound.proofs.Trees.{leaf_more, held_leaves, refit_more}
+use Rattle.tsp_bound.proofs.Searches.{leaf_more, held_leaves, refit_more}
 use Rattle.tsp_bound.proofs.boxes.tag_boxes.Goals as goal
 
 -- plan: each leaf has the tag of its place (`leaf_more`), then each box that of both halves (`refit_more`)

@@ -3,8 +3,8 @@ use Rattle.std.proofs.Common.{◌≡◌, ℕ, refl, arith, to_z, of_z}
 use Rattle.std.specs.Prelude.{ℤ, pos, slice_index_or}
 use Rattle.std.specs.Int.{w64}
 use Rattle.std.proofs.lemmas.Int.{ints}
-use Rattle.tsp_theory.specs.CertificateNumbers.{IsMultiplier}
-use Rattle.tsp_bound.proofs.Tables.{table_pushed}
+use Rattle.tsp_theory.specs.Bounds.{IsMultiplier}
+use Rattle.tsp_bound.proofs.LoweredWeights.{table_pushed}
 use Rattle.tsp_bound.proofs.by_node.lists_of.Goals as goal
 
 -- plan: one pair more is in the lists of both of its nodes (`table_pushed`)

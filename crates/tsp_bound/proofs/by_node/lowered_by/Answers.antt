@@ -5,7 +5,7 @@ use Rattle.std.specs.Prelude.{ℤ, pos, slice_index_or}
 use Rattle.std.proofs.lemmas.Int.{ints}
 use Rattle.std.proofs.lemmas.List.{get_or_default}
 use Rattle.std.proofs.lemmas.List.Elements.{recursion_from_All}
-use Rattle.tsp_bound.proofs.Lowered.{one_lowered, none_lowered}
+use Rattle.tsp_bound.proofs.LoweredWeights.{one_lowered, none_lowered}
 use Rattle.tsp_bound.proofs.by_node.lowered_by.Goals as goal
 
 -- plan: by whether the lowering is the node's (`one_lowered`) or another's (`none_lowered`)

@@ -2,7 +2,7 @@
 use Rattle.std.proofs.Common.{◌≡◌, ◌-◌, ◌+◌, ◌*◌, ◌<◌, ◌≤ℤ◌, ◌∙◌, ℤ, ℕ, List, refl, length, get_or, arith, rules, ap, sym, subst, set, pos, w64, to_z, of_z, SFits}
 use Rattle.std.proofs.lemmas.List.{get_or_default}
 use Rattle.tsp_bound.specs.declared.search.Link.{Link}
-use Rattle.tsp_bound.specs.states.Lists.{kept_at, empty_link}
+use Rattle.tsp_bound.specs.states.Components.{kept_at, empty_link}
 use Rattle.tsp_theory.specs.states.Nearest.{least_at}
 use Rattle.tsp_bound.proofs.Listing.{bound_seen}
 use Rattle.tsp_bound.proofs.lists.put.Goals as goal

@@ -1,6 +1,6 @@
 -- The loop of `take_all` in src/lists.rt, which offers the links of all pairs to the lists of both places.
 use Rattle.std.proofs.Common.{◌≤◌, ◌-◌, length}
-use Rattle.tsp_bound.specs.states.Lists.{weight_over, AreOffered}
+use Rattle.tsp_bound.specs.states.Components.{weight_over, AreOffered}
 use Rattle.tsp_bound.proofs.lists.take_all.Given as goal
 
 -- all pairs whose later place is before `first` are taken

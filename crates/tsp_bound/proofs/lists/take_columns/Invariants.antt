@@ -1,6 +1,6 @@
 -- The loop of `take_columns` in src/lists.rt, which offers the links of a block of columns to the lists.
 use Rattle.std.proofs.Common.{length}
-use Rattle.tsp_bound.specs.states.Lists.{weight_over, AreOffered}
+use Rattle.tsp_bound.specs.states.Components.{weight_over, AreOffered}
 use Rattle.tsp_bound.proofs.lists.take_columns.Given as goal
 
 -- of these columns the pairs of the rows before this one are taken, and all pairs of the columns before them

@@ -4,7 +4,7 @@ use Rattle.std.proofs.Common.{◌≡◌, ◌+◌, ◌-◌, ◌*◌, ◌<◌, ◌
 use Rattle.std.proofs.lemmas.Int.{to_z-of_z}
 use Rattle.tsp_bound.specs.declared.search.Link.{Link}
 use Rattle.tsp_bound.specs.states.Boxes.{node_of}
-use Rattle.tsp_bound.specs.states.Lists.{weight_over}
+use Rattle.tsp_bound.specs.states.Components.{weight_over}
 use Rattle.tsp_theory.specs.states.Nearest.{least_at}
 use Rattle.tsp_bound.proofs.Listing.{listed_more, row_ended, node_in_part}
 use Rattle.tsp_bound.proofs.lists.take_row.Goals as goal

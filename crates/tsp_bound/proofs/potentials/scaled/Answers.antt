@@ -1,6 +1,6 @@
 -- The goals of `scaled` in src/potentials.rt, which counts a cost in 1 / scale: that no product overflows and what it
 -- ensures.
-use Rattle.tsp_theory.proofs.Sizes.{product_fits, product_is, scaled_size}
+use Rattle.tsp_theory.proofs.Sums.{product_fits, product_is, scaled_size}
 use Rattle.tsp_bound.proofs.potentials.scaled.Goals as goal
 
 pub overflow_mul-result : goal.overflow_mul-result

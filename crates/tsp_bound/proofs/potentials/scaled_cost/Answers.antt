@@ -2,7 +2,7 @@
 use Rattle.std.proofs.Common.{ap₂, ◌∙◌, rules, w64, SFits}
 use Rattle.std.specs.Prelude.{◌*ℤ◌}
 use Rattle.std.proofs.lemmas.Int.{to_z-of_z}
-use Rattle.tsp_theory.proofs.Sizes.{same_scale}
+use Rattle.tsp_theory.proofs.Sums.{same_scale}
 use Rattle.tsp_bound.proofs.potentials.scaled_cost.Goals as goal
 
 -- plan: the scale in 64 bits is the whole one (`same_scale`)

@@ -3,8 +3,8 @@ use Rattle.std.proofs.Common.{◌≡◌, ◌+◌, ◌≤◌, ℕ, List, drop, ap
 use Rattle.std.specs.Prelude.{ℤ, pos, ◌+ℤ◌, slice_index_or}
 use Rattle.std.specs.Int.{w128}
 use Rattle.std.proofs.Math.IntN.{+ℤ_assoc}
-use Rattle.tsp_theory.specs.CertificateNumbers.{total}
-use Rattle.tsp_theory.proofs.Sizes.{sum_more, sum_computed}
+use Rattle.tsp_theory.specs.Bounds.{total}
+use Rattle.tsp_theory.proofs.Sums.{sum_more, sum_computed}
 use Rattle.tsp_bound.proofs.potentials.total.Goals as goal
 
 -- plan: one number more (`sum_more`), which fits 64 bits (`sum_computed`)

@@ -2,8 +2,8 @@
 use Rattle.std.proofs.Common.{◌≡◌, ◌*◌, drop}
 use Rattle.std.specs.Prelude.{pos, neg_ℤ, ◌+ℤ◌}
 use Rattle.tsp_format.specs.Limits.{most_potential}
-use Rattle.tsp_format.specs.Ranges.{IsFromTo}
-use Rattle.tsp_theory.specs.CertificateNumbers.{total}
+use Rattle.tsp_format.specs.Steps.{IsFromTo}
+use Rattle.tsp_theory.specs.Bounds.{total}
 use Rattle.tsp_bound.proofs.potentials.total.Given as goal
 
 -- the sum so far plus the numbers left is the whole sum; it is no larger than as many potentials can sum to

@@ -6,9 +6,9 @@ use Rattle.std.specs.Int.{w64, w128}
 use Rattle.std.proofs.Math.IntN.{+ℤ_assoc}
 use Rattle.std.proofs.lemmas.Int.{ints, to_z-of_z, fits_signed_from_abs}
 use Rattle.tsp_format.specs.Limits.{most_triples, most_multiplier}
-use Rattle.tsp_format.specs.Ranges.{IsFromTo}
-use Rattle.tsp_theory.specs.Adjusted.{triples_total}
-use Rattle.tsp_theory.proofs.Sizes.{size_of}
+use Rattle.tsp_format.specs.Steps.{IsFromTo}
+use Rattle.tsp_theory.specs.Bounds.{triples_total}
+use Rattle.tsp_theory.proofs.Sums.{size_of}
 use Rattle.tsp_bound.proofs.potentials.total_of.Goals as goal
 
 sum_more : (sum number : ℤ) (index : ℕ) → IsFromTo (pos 0) (pos (index * most_multiplier)) sum → IsFromTo (pos 0) (pos most_multiplier) number

@@ -6,7 +6,7 @@ use Rattle.std.proofs.lemmas.Bool.{cases_eq}
 use Rattle.tsp_bound.specs.declared.search.Link.{Link}
 use Rattle.tsp_bound.specs.states.Boxes.{box_at}
 use Rattle.tsp_bound.specs.states.Components.{label_at, IsLeastOf}
-use Rattle.tsp_bound.proofs.Joining.{IsJoining, joining_start, joining_more, set_kept}
+use Rattle.tsp_bound.proofs.RoundJoins.{IsJoining, joining_start, joining_more, set_kept}
 use Rattle.tsp_bound.proofs.rounds.join.Goals as goal
 use Rattle.tsp_bound.proofs.rounds.join.Goals.{in-Some+in_ok-push, in_default}
 

@@ -2,7 +2,7 @@
 use Rattle.std.proofs.Common.{◌≡◌, ◌<◌, ℕ, false, length}
 use Rattle.tsp_bound.specs.states.Boxes.{box_at}
 use Rattle.tsp_bound.specs.states.Components.{label_at}
-use Rattle.tsp_bound.proofs.Joining.{IsJoining}
+use Rattle.tsp_bound.proofs.RoundJoins.{IsJoining}
 use Rattle.tsp_bound.proofs.rounds.join.Given as goal
 
 -- the pairs so far are least joins; both ends of each have one label, or equal new labels

@@ -1,9 +1,8 @@
 -- The goals of `joined_over` in src/rounds.rt, which finds a least tree over nodes in an order: what it ensures.
 use Rattle.std.proofs.Common.{◌≡◌, ◌∙◌, ℕ, List, length, map, arith, ap, subst}
-use Rattle.tsp_bound.specs.states.Boxes.{node_of}
+use Rattle.tsp_bound.specs.states.Boxes.{node_of, on_both}
 use Rattle.tsp_bound.specs.states.Components.{IsSpanning, IsWeighedForest}
-use Rattle.tsp_bound.specs.states.Numbering.{on_both}
-use Rattle.tsp_bound.proofs.Parts.{forest_of}
+use Rattle.tsp_bound.proofs.RoundJoins.{forest_of}
 use Rattle.tsp_bound.proofs.rounds.joined_over.Goals as goal
 
 -- plan: the pairs over the places are the forest over their nodes (`forest_of`)

@@ -1,6 +1,6 @@
 -- The goals of `pairs_over` in src/rounds.rt, which finds the pairs of a least tree in rounds: what it ensures.
 use Rattle.std.proofs.Common.{◌∙◌, ap}
-use Rattle.tsp_bound.proofs.Parts.{spanning_seen}
+use Rattle.tsp_bound.proofs.RoundJoins.{spanning_seen}
 use Rattle.tsp_bound.proofs.rounds.pairs_over.Goals as goal
 
 -- plan: by boxes or by the least links of each place: a spanning tree of the places is one of their nodes

@@ -4,7 +4,7 @@ use Rattle.std.proofs.Common.{◌≡◌, ◌≢◌, ◌<◌, ◌+◌, ◌∙◌,
 use Rattle.std.proofs.lemmas.List.{get_or_read}
 use Rattle.tsp_bound.specs.declared.search.Link.{Link}
 use Rattle.tsp_bound.specs.states.Components.{AreLeaving, IsLeaving, IsOffered, link_of}
-use Rattle.tsp_bound.proofs.Known.{IsReached, AreReached, leaving_kept, reached_set, kept_set, leaving_offered, reached_more, reached_again, reached_all, end_in}
+use Rattle.tsp_bound.proofs.RoundJoins.{IsReached, AreReached, leaving_kept, reached_set, kept_set, leaving_offered, reached_more, reached_again, reached_all, end_in}
 use Rattle.tsp_bound.proofs.rounds.search_again.Goals as goal
 use Rattle.tsp_bound.proofs.rounds.search_again.Goals.{then-is_better+in-Some+else-steps-most_steps+then-label, then-is_better+in-Some+else-steps-most_steps+else-label+else-is_better-2, else-is_better}
 

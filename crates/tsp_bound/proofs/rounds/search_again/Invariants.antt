@@ -1,6 +1,6 @@
 -- The loop of `search_again` in src/rounds.rt, which finds the best link of each component for the next round.
 use Rattle.tsp_bound.specs.states.Components.{AreKept, AreLeaving}
-use Rattle.tsp_bound.proofs.Known.{AreReached}
+use Rattle.tsp_bound.proofs.RoundJoins.{AreReached}
 use Rattle.tsp_bound.proofs.rounds.search_again.Given as goal
 
 -- the best link of each component weighs no more than the known link of each of its nodes before this one

@@ -4,11 +4,10 @@ use Rattle.std.proofs.Common.{◌≡◌, ◌≤◌, ◌+◌, ◌++◌, ◌∷◌
 use Rattle.std.specs.Prelude.{ℤ, ◌+ℤ◌}
 use Rattle.std.specs.Int.{w64, w128}
 use Rattle.tsp_format.specs.Limits.{most_nodes}
-use Rattle.tsp_bound.specs.states.Boxes.{node_of}
-use Rattle.tsp_bound.specs.states.Numbering.{on_both}
+use Rattle.tsp_bound.specs.states.Boxes.{node_of, on_both}
 use Rattle.tsp_theory.specs.Tree.{weight_of}
-use Rattle.tsp_bound.proofs.Parts.{map_more}
-use Rattle.tsp_theory.proofs.Weights.{sum_more, sum_fits, sum_computed, weight_added}
+use Rattle.tsp_bound.proofs.RoundJoins.{map_more}
+use Rattle.tsp_theory.proofs.Cycles.{sum_more, sum_fits, sum_computed, weight_added}
 use Rattle.tsp_bound.proofs.rounds.weighed.Goals as goal
 
 -- plan: one pair more (`weight_added`), whose weight fits 128 bits (`sum_fits`)

@@ -3,7 +3,7 @@ use Rattle.std.proofs.Common.{ℕ, ◌≡◌, ◌≢◌, ◌/◌, Option, arith,
 use Rattle.tsp_format.specs.Nodes.{IsNode}
 use Rattle.tsp_bound.specs.declared.area.Area.{Area}
 use Rattle.tsp_bound.specs.states.Boxes.{HoldsNode, IsSearched, no_best}
-use Rattle.tsp_bound.proofs.Trees.{searched_alone, searched_both}
+use Rattle.tsp_bound.proofs.Searches.{searched_alone, searched_both}
 use Rattle.tsp_bound.proofs.search.nearest_from.Goals as goal
 use Rattle.tsp_bound.proofs.search.nearest_from.Goals.{then-v-eq0, else-v-eq0, then-not-is_left_alone, else-not-is_left_alone}
 

@@ -5,8 +5,8 @@ use Rattle.std.specs.Int.{w64}
 use Rattle.std.specs.Prelude.{◌≤ℤ◌, ◌<ℤ◌}
 use Rattle.std.proofs.lemmas.Int.{ints, to_z-of_z}
 use Rattle.tsp_theory.specs.states.Nearest.{least_at, IsNearer}
-use Rattle.tsp_theory.proofs.MostWeight.{most_64}
-use Rattle.tsp_bound.proofs.Outside.{passed_more, nearer_small, found_lower, found_higher}
+use Rattle.tsp_theory.proofs.Sums.{most_64}
+use Rattle.tsp_bound.proofs.GrowingTrees.{passed_more, nearer_small, found_lower, found_higher}
 use Rattle.tsp_bound.proofs.tree.bring.Goals as goal
 use Rattle.tsp_bound.proofs.tree.bring.Goals.{then-own-best, else-own-best}
 

@@ -1,6 +1,6 @@
 -- The loop of `bring` in src/tree.rt.
 use Rattle.tsp_theory.specs.states.Nearest.{least_at}
-use Rattle.tsp_bound.proofs.Outside.{IsPassed, FindsLeast}
+use Rattle.tsp_bound.proofs.GrowingTrees.{IsPassed, FindsLeast}
 use Rattle.tsp_bound.proofs.tree.bring.Given as goal
 
 -- the places before this one have the nearer one of two nodes, and `nearest` is the least place of them

@@ -7,12 +7,11 @@ use Rattle.std.proofs.lemmas.Int.{ints}
 use Rattle.std.proofs.lemmas.List.{get_or-replicate, get_or_default}
 use Rattle.tsp_format.specs.Limits.{most_nodes}
 use Rattle.tsp_theory.specs.states.Nearest.{least_at}
-use Rattle.tsp_theory.proofs.MostWeight.{most_64}
-use Rattle.tsp_theory.proofs.Steps.{written_back}
-use Rattle.tsp_theory.proofs.Weights.{sum_more, sum_computed}
+use Rattle.tsp_theory.proofs.Sums.{most_64}
+use Rattle.tsp_theory.proofs.Trees.{written_back}
+use Rattle.tsp_theory.proofs.Cycles.{sum_more, sum_computed}
 use Rattle.tsp_bound.specs.states.Outside.{AreFromThree, AreBroughtNearer, AreInner, IsLeastPlace}
-use Rattle.tsp_bound.proofs.Outside.{removed_length}
-use Rattle.tsp_bound.proofs.GrowthStates.{IsState, state_start, state_more, inner_left}
+use Rattle.tsp_bound.proofs.GrowingTrees.{removed_length, IsState, state_start, state_more, inner_left}
 use Rattle.tsp_bound.proofs.tree.grow.Goals as goal
 
 -- plan: the lists are what the code fills in, and `state_start` is the state with node 2

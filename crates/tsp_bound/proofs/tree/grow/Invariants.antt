@@ -1,9 +1,9 @@
 -- The loop of `grow` in src/tree.rt.
 use Rattle.std.proofs.Common.{◌≡◌, ◌-◌, ◌*◌, ◌^◌, length, MatchOption}
 use Rattle.std.specs.Prelude.{pos, neg_ℤ}
-use Rattle.tsp_format.specs.Ranges.{IsFromTo}
+use Rattle.tsp_format.specs.Steps.{IsFromTo}
 use Rattle.tsp_bound.specs.states.Outside.{IsLeastPlace}
-use Rattle.tsp_bound.proofs.GrowthStates.{IsState}
+use Rattle.tsp_bound.proofs.GrowingTrees.{IsState}
 use Rattle.tsp_bound.proofs.tree.grow.Given as goal
 
 -- the pairs grow a tree from node 2; each node outside is listed once, with the nearest node inside, and `nearest` is

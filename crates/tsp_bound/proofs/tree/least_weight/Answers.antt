@@ -3,10 +3,9 @@
 use Rattle.std.proofs.Common.{◌≡◌, ◌∙◌, ℕ, ℤ, List, ap₂, refl, sym, rules, FitsSigned}
 use Rattle.std.specs.Prelude.{◌+ℤ◌}
 use Rattle.std.specs.Int.{w64}
-use Rattle.tsp_theory.specs.Tree.{weight_of}
-use Rattle.tsp_theory.specs.Growth.{tree_of}
-use Rattle.tsp_theory.proofs.OneTrees.{least_from_forest}
-use Rattle.tsp_theory.proofs.Weights.{tree_fits, tree_size, tree_computed, weight_of_tree}
+use Rattle.tsp_theory.specs.Tree.{weight_of, tree_of}
+use Rattle.tsp_theory.proofs.Trees.{least_from_forest}
+use Rattle.tsp_theory.proofs.Cycles.{tree_fits, tree_size, tree_computed, weight_of_tree}
 use Rattle.tsp_bound.proofs.tree.least_weight.Goals as goal
 
 pub overflow_add-result : goal.overflow_add-result

@@ -4,7 +4,7 @@ use Rattle.std.proofs.Common.{◌-◌, ◌<◌, ◌≤◌, ℕ, length, arith, r
 use Rattle.std.specs.Prelude.{ℤ, ◌≤ℤ◌, ◌<ℤ◌}
 use Rattle.std.specs.Int.{w64}
 use Rattle.tsp_theory.specs.states.Nearest.{least_at}
-use Rattle.tsp_theory.proofs.TwoNearest.{two_first, three_first, nearer_first, nearer_second, nearer_none, nearest_of_all, less_of, not_less_of}
+use Rattle.tsp_theory.proofs.Trees.{two_first, three_first, nearer_first, nearer_second, nearer_none, nearest_of_all, less_of, not_less_of}
 use Rattle.tsp_bound.proofs.tree.nearest_two.Goals as goal
 use Rattle.tsp_bound.proofs.tree.nearest_two.Goals.{then-three-two, else-three-two, then-next-first, else-next-first+then-next-second, else-next-first+else-next-second}
 

@@ -1,6 +1,6 @@
 -- The loop of `nodes_from_three` in src/tree.rt.
 use Rattle.std.proofs.Common.{◌≡◌, ◌+◌, length}
-use Rattle.tsp_bound.proofs.Outside.{AreCounted}
+use Rattle.tsp_bound.proofs.GrowingTrees.{AreCounted}
 use Rattle.tsp_bound.proofs.tree.nodes_from_three.Given as goal
 
 -- the list is 3, 4, .. up to the node before this one

@@ -2,10 +2,9 @@
 -- what it ensures.
 use Rattle.std.proofs.Common.{◌≡◌, ◌∙◌, ◌-◌, ℕ, List, length, subst, arith}
 use Rattle.std.specs.Prelude.{ℤ}
-use Rattle.tsp_theory.specs.Growth.{AreNearest}
+use Rattle.tsp_theory.specs.Tree.{AreNearest, IsInner}
 use Rattle.tsp_theory.specs.states.Nearest.{least_at}
-use Rattle.tsp_theory.proofs.TwoNearest.{nearest_by_row}
-use Rattle.tsp_theory.specs.Tree.{IsInner}
+use Rattle.tsp_theory.proofs.Trees.{nearest_by_row}
 use Rattle.tsp_bound.proofs.tree.two_spokes.Goals as goal
 
 pub nearest_two-requires-clause-some : goal.nearest_two-requires-clause-some

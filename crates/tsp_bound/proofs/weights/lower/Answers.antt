@@ -4,11 +4,10 @@ use Rattle.std.specs.Int.{w64}
 use Rattle.std.specs.Prelude.{pos, neg_ℤ, ◌-ℤ◌, slice_index_or, ◌==◌, if◌then◌else◌}
 use Rattle.std.proofs.lemmas.Int.{ints}
 use Rattle.std.proofs.lemmas.List.{drop_all}
-use Rattle.tsp_theory.specs.states.Nearest.{least_at}
-use Rattle.tsp_theory.specs.states.Additions.{IsMoved}
-use Rattle.tsp_theory.proofs.Additions.{moved_on, node_moved}
+use Rattle.tsp_theory.specs.states.Nearest.{least_at, IsMoved}
+use Rattle.tsp_theory.proofs.Sums.{moved_on, node_moved}
 use Rattle.tsp_bound.specs.states.ByNode.{lowered_by}
-use Rattle.tsp_bound.proofs.Lowered.{lowered_left}
+use Rattle.tsp_bound.proofs.LoweredWeights.{lowered_left}
 use Rattle.tsp_bound.proofs.weights.lower.Goals as goal
 
 -- plan: one pair more lowers the entry of its other node (`node_moved`), and no other

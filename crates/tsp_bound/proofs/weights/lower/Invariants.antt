@@ -1,8 +1,7 @@
 -- The loop of `lower` in src/weights.rt, which takes multipliers off a row of weights.
 use Rattle.std.proofs.Common.{ℕ, ℤ, drop}
 use Rattle.std.specs.Prelude.{neg_ℤ}
-use Rattle.tsp_theory.specs.states.Nearest.{least_at}
-use Rattle.tsp_theory.specs.states.Additions.{IsMoved}
+use Rattle.tsp_theory.specs.states.Nearest.{least_at, IsMoved}
 use Rattle.tsp_bound.specs.states.ByNode.{lowered_by}
 use Rattle.tsp_bound.proofs.weights.lower.Given as goal
 

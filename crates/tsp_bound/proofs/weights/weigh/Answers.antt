@@ -6,8 +6,8 @@ use Rattle.std.proofs.Math.ListN.{set}
 use Rattle.std.proofs.lemmas.Bool.{cases_eq}
 use Rattle.std.proofs.lemmas.Int.{to_z-of_z}
 use Rattle.std.proofs.lemmas.List.{get_or-set_same, get_or-set_other}
-use Rattle.tsp_theory.specs.NodeBound.{most_between}
-use Rattle.tsp_format.specs.Ranges.{IsFromTo}
+use Rattle.tsp_theory.specs.Bounds.{most_between}
+use Rattle.tsp_format.specs.Steps.{IsFromTo}
 use Rattle.tsp_theory.specs.states.Nearest.{least_at}
 use Rattle.tsp_bound.specs.states.Potentials.{weight_under}
 use Rattle.tsp_bound.proofs.weights.weigh.Goals as goal

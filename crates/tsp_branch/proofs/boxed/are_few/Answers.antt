@@ -5,8 +5,8 @@ use Rattle.std.specs.Int.{w64}
 use Rattle.std.specs.Prelude.{pos, ◌+ℤ◌}
 use Rattle.std.proofs.lemmas.Int.{ints}
 use Rattle.tsp_cases.specs.declared.sets.SetPlace.{SetPlace}
-use Rattle.tsp_cases.specs.states.Places.{place_at}
-use Rattle.tsp_branch.specs.states.Shared.{sum_at_places}
+use Rattle.tsp_cases.specs.states.Sets.{place_at}
+use Rattle.tsp_branch.specs.states.LeafRows.{sum_at_places}
 use Rattle.tsp_branch.proofs.boxed.are_few.Goals as goal
 
 pub overflow_add-sum : goal.overflow_add-sum

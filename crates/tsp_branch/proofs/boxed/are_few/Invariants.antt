@@ -1,8 +1,8 @@
 -- The loop of `are_few` in src/boxed.rt, which tests whether multipliers are few enough for boxes.
 use Rattle.std.proofs.Common.{◌≡◌, drop}
 use Rattle.std.specs.Prelude.{pos, ◌+ℤ◌}
-use Rattle.tsp_format.specs.Ranges.{IsFromTo}
-use Rattle.tsp_branch.specs.states.Shared.{sum_at_places}
+use Rattle.tsp_format.specs.Steps.{IsFromTo}
+use Rattle.tsp_branch.specs.states.LeafRows.{sum_at_places}
 use Rattle.tsp_branch.proofs.boxed.are_few.Given as goal
 
 -- the sum so far plus the multipliers left is the whole sum; so far it is at most 3 * 10^18

@@ -4,16 +4,15 @@ use Rattle.std.proofs.Common.{◌≡◌, ◌∙◌, ℕ, ℤ, Bool, List, refl, 
 use Rattle.std.specs.Int.{w64, w128}
 use Rattle.std.proofs.lemmas.Int.{to_z-of_z}
 use Rattle.std.proofs.lemmas.Result.{IfOk-weaker}
-use Rattle.tsp_theory.proofs.Sizes.{same_scale}
+use Rattle.tsp_theory.proofs.Sums.{same_scale}
 use Rattle.tsp_cases.specs.declared.open_case.Decision.{Decision}
-use Rattle.tsp_cases.specs.Decisions.{DecideOnce}
-use Rattle.tsp_cases.specs.states.Lent.{lent_in}
-use Rattle.tsp_cases.specs.states.Combed.{set_weight}
+use Rattle.tsp_cases.specs.Cases.{DecideOnce}
+use Rattle.tsp_cases.specs.states.Sets.{lent_in, set_weight}
 use Rattle.tsp_cases.specs.states.OpenCases.{decisions_in}
-use Rattle.tsp_cases.proofs.DecidedOnce.{few_changes}
-use Rattle.tsp_branch.specs.LeafWeight.{BoundsEachLeaf}
-use Rattle.tsp_branch.specs.states.Shared.{decided_by}
-use Rattle.tsp_branch.proofs.Leaves.{decided_even}
+use Rattle.tsp_cases.proofs.OpenCases.{few_changes}
+use Rattle.tsp_branch.specs.BranchVerdicts.{BoundsEachLeaf}
+use Rattle.tsp_branch.specs.states.LeafRows.{decided_by}
+use Rattle.tsp_branch.proofs.BoxedLeaves.{decided_even}
 use Rattle.tsp_branch.proofs.boxed.bound_of_trees.Goals as goal
 
 -- plan: by whether boxes suit the leaf: its 1-tree is found by boxes, or by rows. The weights are symmetric as the

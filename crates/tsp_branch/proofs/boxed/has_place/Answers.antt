@@ -3,9 +3,9 @@
 use Rattle.std.proofs.Common.{◌≤◌, ◌+◌, ◌||◌, List, length, drop, ap, sym, ◌∙◌, arith}
 use Rattle.std.proofs.lemmas.List.{drop_all}
 use Rattle.tsp_cases.specs.declared.sets.SetPlace.{SetPlace}
-use Rattle.tsp_cases.specs.states.Places.{place_at}
-use Rattle.tsp_branch.specs.states.Shared.{has_place}
-use Rattle.tsp_branch.proofs.SharedSets.{has_left}
+use Rattle.tsp_cases.specs.states.Sets.{place_at}
+use Rattle.tsp_branch.specs.states.LeafRows.{has_place}
+use Rattle.tsp_branch.proofs.BoxedLeaves.{has_left}
 use Rattle.tsp_branch.proofs.boxed.has_place.Goals as goal
 
 -- plan: by whether the place is the next one of the list, or among those behind it (`has_left`)

@@ -3,10 +3,10 @@ use Rattle.std.proofs.Common.{◌≡◌, sym, subst, rules, ℤ, FitsSigned, to_
 use Rattle.std.specs.Prelude.{◌+ℤ◌}
 use Rattle.std.specs.Int.{w128}
 use Rattle.std.proofs.lemmas.Int.{to_z-of_z}
-use Rattle.tsp_theory.specs.CertificateNumbers.{IsLeastBound}
-use Rattle.tsp_theory.proofs.Sizes.{same_scale}
-use Rattle.tsp_branch.specs.LeafWeight.{IsBoundOfWeights}
-use Rattle.tsp_branch.proofs.Leaves.{bounds_each_leaf, sum_is}
+use Rattle.tsp_theory.specs.Bounds.{IsLeastBound}
+use Rattle.tsp_theory.proofs.Sums.{same_scale}
+use Rattle.tsp_branch.specs.BranchVerdicts.{IsBoundOfWeights}
+use Rattle.tsp_branch.proofs.BoxedLeaves.{bounds_each_leaf, sum_is}
 use Rattle.tsp_branch.proofs.boxed.leaf_bound.Goals as goal
 
 -- plan: the weight of a least 1-tree plus the sum given back, rounded up, bounds each leaf that has these weights

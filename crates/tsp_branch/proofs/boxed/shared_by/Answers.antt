@@ -6,9 +6,9 @@ use Rattle.std.specs.Prelude.{pos, ◌+ℤ◌, ◌*ℤ◌, if◌then◌else◌}
 use Rattle.std.proofs.lemmas.Int.{ints, to_z-of_z, int_wrap-add_left}
 use Rattle.std.proofs.lemmas.List.{drop_all}
 use Rattle.tsp_cases.specs.declared.sets.SetPlace.{SetPlace}
-use Rattle.tsp_cases.specs.states.Places.{place_at}
-use Rattle.tsp_branch.specs.states.Shared.{has_place, shared_by}
-use Rattle.tsp_branch.proofs.SharedSets.{shared_left}
+use Rattle.tsp_cases.specs.states.Sets.{place_at}
+use Rattle.tsp_branch.specs.states.LeafRows.{has_place, shared_by}
+use Rattle.tsp_branch.proofs.BoxedLeaves.{shared_left}
 use Rattle.tsp_branch.proofs.boxed.shared_by.Goals as goal
 use Rattle.tsp_branch.proofs.boxed.shared_by.Goals.{then-has_place, else-has_place}
 

@@ -2,7 +2,7 @@
 use Rattle.std.proofs.Common.{◌≡◌, drop}
 use Rattle.std.specs.Prelude.{◌+ℤ◌}
 use Rattle.std.specs.Int.{w64, int_wrap}
-use Rattle.tsp_branch.specs.states.Shared.{shared_by}
+use Rattle.tsp_branch.specs.states.LeafRows.{shared_by}
 use Rattle.tsp_branch.proofs.boxed.shared_by.Given as goal
 
 -- the sum so far plus the multipliers at the places left is the whole sum, in 64 bits

@@ -6,8 +6,8 @@ use Rattle.std.specs.Prelude.{pos, ◌+ℤ◌}
 use Rattle.std.proofs.lemmas.Int.{ints, to_z-of_z, int_wrap-add_left}
 use Rattle.std.proofs.lemmas.List.{drop_all}
 use Rattle.tsp_cases.specs.declared.open_case.Decision.{Decision}
-use Rattle.tsp_cases.specs.states.Decided.{changes}
-use Rattle.tsp_cases.proofs.Changes.{changes_left}
+use Rattle.tsp_cases.specs.states.OpenCases.{changes}
+use Rattle.tsp_cases.proofs.SetSums.{changes_left}
 use Rattle.tsp_branch.proofs.case_leaf.change_between.Goals as goal
 
 -- plan: one decision more of the node changes the pair or doesn't (`changes_left`)

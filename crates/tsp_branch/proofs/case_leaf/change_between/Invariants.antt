@@ -2,7 +2,7 @@
 use Rattle.std.proofs.Common.{◌≡◌, drop}
 use Rattle.std.specs.Prelude.{◌+ℤ◌}
 use Rattle.std.specs.Int.{w64, int_wrap}
-use Rattle.tsp_cases.specs.states.Decided.{changes}
+use Rattle.tsp_cases.specs.states.OpenCases.{changes}
 use Rattle.tsp_branch.proofs.case_leaf.change_between.Given as goal
 
 -- the sum so far plus the numbers of the decisions left is the whole sum, in 64 bits

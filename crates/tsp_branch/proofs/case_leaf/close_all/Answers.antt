@@ -4,8 +4,8 @@ use Rattle.std.proofs.Common.{List, arith}
 use Rattle.std.specs.List.{All}
 use Rattle.tsp_theory.specs.states.Nearest.{least_at}
 use Rattle.tsp_cases.specs.declared.open_case.Decision.{Decision}
-use Rattle.tsp_cases.specs.Rows.{Allows}
-use Rattle.tsp_branch.proofs.Closed.{shut_none, shut_more, shut_same}
+use Rattle.tsp_cases.specs.CaseTrees.{Allows}
+use Rattle.tsp_branch.proofs.CaseLeaves.{shut_none, shut_more, shut_same}
 use Rattle.tsp_branch.proofs.case_leaf.close_all.Goals as goal
 
 -- plan: one decision more closes the links that it doesn't allow (`shut_more`). After the last, those are open that all

@@ -1,7 +1,7 @@
 -- The goals of `close_row` in src/case_leaf.rt, which closes the links from a node that a case doesn't allow: what it
 -- ensures.
 use Rattle.std.proofs.Common.{arith, length}
-use Rattle.tsp_branch.proofs.OpenRows.{opened}
+use Rattle.tsp_branch.proofs.CaseLeaves.{opened}
 use Rattle.tsp_branch.proofs.case_leaf.close_row.Goals as goal
 
 -- plan: the node itself, then its decisions, then the taken pairs are closed, so the open links are the allowed ones

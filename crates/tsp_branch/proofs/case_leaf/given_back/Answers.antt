@@ -2,13 +2,12 @@
 -- overflows, the facts of the values that it makes and what it ensures.
 use Rattle.std.proofs.Common.{◌∙◌, ℤ, List, ap, sym}
 use Rattle.std.specs.Prelude.{pos, ◌-ℤ◌, ◌*ℤ◌}
-use Rattle.tsp_cases.specs.LeafBound.{least_of}
-use Rattle.tsp_cases.specs.FamiliesOfSets.{sum_with}
-use Rattle.tsp_cases.specs.CaseTrees.{multiplied}
-use Rattle.tsp_cases.specs.states.Lent.{lent_in, good_in}
-use Rattle.tsp_cases.proofs.CaseWeights.{few_multipliers, small_multipliers}
-use Rattle.tsp_cases.proofs.FamilySums.{least_fits}
-use Rattle.tsp_branch.proofs.GivenBack.{least_told, less_fits, less_held, less_sized}
+use Rattle.tsp_cases.specs.CaseTrees.{least_of, multiplied}
+use Rattle.tsp_cases.specs.Families.{sum_with}
+use Rattle.tsp_cases.specs.states.Sets.{lent_in, good_in}
+use Rattle.tsp_cases.proofs.SetSums.{few_multipliers, small_multipliers}
+use Rattle.tsp_cases.proofs.FamilyCrossings.{least_fits}
+use Rattle.tsp_branch.proofs.CaseLeaves.{least_told, less_fits, less_held, less_sized}
 use Rattle.tsp_branch.proofs.case_leaf.given_back.Goals as goal
 
 -- plan: the least crossings times their multipliers, less twice the potentials, fit 128 bits (`less_fits`)

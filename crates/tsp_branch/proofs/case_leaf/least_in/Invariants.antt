@@ -2,7 +2,7 @@
 use Rattle.std.proofs.Common.{◌≡◌, ◌≤◌, ◌<◌, ℕ}
 use Rattle.std.specs.Prelude.{◌⊎◌, ◌≤ℤ◌}
 use Rattle.tsp_theory.specs.states.Nearest.{least_at}
-use Rattle.tsp_branch.specs.states.Closed.{no_link}
+use Rattle.tsp_branch.specs.states.LeafRows.{no_link}
 use Rattle.tsp_branch.proofs.case_leaf.least_in.Given as goal
 
 -- no number from place 1 to the one before this is below `least`, which is one of them or means no link

@@ -4,8 +4,8 @@ use Rattle.std.specs.Prelude.{pos, ◌+ℤ◌}
 use Rattle.std.specs.Int.{w64, w128}
 use Rattle.std.proofs.Math.IntN.{+ℤ_assoc}
 use Rattle.std.proofs.lemmas.Int.{to_z-of_z}
-use Rattle.tsp_theory.specs.CertificateNumbers.{total}
-use Rattle.tsp_branch.proofs.GivenBack.{more_of_64, computed_of_64, total_left}
+use Rattle.tsp_theory.specs.Bounds.{total}
+use Rattle.tsp_branch.proofs.CaseLeaves.{more_of_64, computed_of_64, total_left}
 use Rattle.tsp_branch.proofs.case_leaf.total.Goals as goal
 
 -- plan: one number more (`total_left`), which fits 128 bits (`computed_of_64`)

@@ -5,7 +5,7 @@ use Rattle.std.specs.List.{All}
 use Rattle.std.proofs.lemmas.Result.{IfOk-weaker}
 use Rattle.tsp_format.specs.states.TreeSteps.{steps_of}
 use Rattle.tsp_cases.specs.Families.{IsFamily}
-use Rattle.tsp_cases.specs.states.Lent.{good_in}
+use Rattle.tsp_cases.specs.states.Sets.{good_in}
 use Rattle.tsp_branch.proofs.Judging.{cycles_of, costs_for}
 use Rattle.tsp_branch.proofs.verdict.branch_bound.Goals as goal
 

@@ -4,21 +4,18 @@ use Rattle.std.proofs.Common.{◌≡◌, ◌∙◌, ℕ, ℤ, List, length, take
 use Rattle.std.specs.Prelude.{neg_ℤ, ◌+ℤ◌}
 use Rattle.std.specs.Int.{w64, int_wrap}
 use Rattle.std.specs.List.{All}
-use Rattle.tsp_theory.specs.CertificateNumbers.{entry}
+use Rattle.tsp_theory.specs.Bounds.{entry}
 use Rattle.tsp_theory.specs.states.Nearest.{least_at}
 use Rattle.tsp_cases.specs.Families.{IsFamily}
-use Rattle.tsp_cases.specs.states.Lent.{lent_in, good_in}
-use Rattle.tsp_cases.specs.states.Combed.{AreSmallMultipliers, multipliers_at}
+use Rattle.tsp_cases.specs.states.Sets.{lent_in, good_in, AreSmallMultipliers, multipliers_at}
 use Rattle.tsp_cases.specs.states.Kept.{kept_weight, AreRowsIfAny, AreEnds, HoldsRows}
-use Rattle.tsp_cases.specs.Cases.{LeafNumbers}
+use Rattle.tsp_cases.specs.Cases.{LeafNumbers, decided_number}
 use Rattle.tsp_cases.specs.CaseTrees.{IsFoundAt}
 use Rattle.tsp_cases.specs.declared.open_case.Decision.{Decision}
-use Rattle.tsp_cases.specs.Decisions.{decided_number}
-use Rattle.tsp_cases.specs.states.Decided.{marks_in}
-use Rattle.tsp_cases.specs.states.OpenCases.{decisions_in}
-use Rattle.tsp_cases.proofs.CaseWeights.{small_multipliers, few_crossings}
+use Rattle.tsp_cases.specs.states.OpenCases.{marks_in, decisions_in}
+use Rattle.tsp_cases.proofs.SetSums.{small_multipliers, few_crossings}
 use Rattle.tsp_cases.proofs.RowsKept.{moved_from_ends}
-use Rattle.tsp_cases.proofs.ListPlaces.{written}
+use Rattle.tsp_cases.proofs.Passes.{written}
 use Rattle.tsp_branch.proofs.Judging.{good_read, found_of_case, numbers_are}
 use Rattle.tsp_branch.proofs.verdict.judge_leaf.Goals as goal
 

@@ -3,7 +3,7 @@
 use Rattle.std.proofs.Common.{ℕ}
 use Rattle.std.proofs.lemmas.Result.{IfOk-weaker}
 use Rattle.tsp_format.specs.states.TreeSteps.{steps_of}
-use Rattle.tsp_cases.specs.states.Lent.{good_in}
+use Rattle.tsp_cases.specs.states.Sets.{good_in}
 use Rattle.tsp_branch.proofs.Judging.{certificate_judged}
 use Rattle.tsp_branch.proofs.verdict.judge_setting.Goals as goal
 

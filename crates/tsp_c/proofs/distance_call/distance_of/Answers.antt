@@ -2,12 +2,11 @@
 -- what it ensures.
 use Rattle.std.proofs.Common.{◌≡◌, ◌∙◌, ap, inl, rules, FitsSigned, w64}
 use Rattle.std.proofs.lemmas.Int.{to_z-of_z}
-use Rattle.tsp_distance.specs.declared.decimal.Point.{Point}
-use Rattle.tsp_distance.specs.Distances.{IsInSpace}
+use Rattle.tsp_number.specs.declared.decimal.Point.{Point}
+use Rattle.tsp_number.specs.Distances.{IsInSpace}
 use Rattle.tsp_file.specs.Cost.{distance}
-use Rattle.tsp_c.specs.Ended.{nth}
-use Rattle.tsp_c.specs.NumberCalls.{distance_kinds}
-use Rattle.tsp_c.proofs.Distances.{kind_found}
+use Rattle.tsp_c.specs.NumberCalls.{nth, distance_kinds}
+use Rattle.tsp_c.proofs.HandleCalls.{kind_found}
 use Rattle.tsp_c.proofs.distance_call.distance_of.Goals as goal
 
 -- plan: by the number of the kind: the distance by that kind is returned (`kind_found`), or no kind has the number

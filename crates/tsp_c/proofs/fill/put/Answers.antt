@@ -1,7 +1,7 @@
 -- The goals of `put` in src/fill.rt, which puts a number at the next place of a buffer: what it ensures.
 use Rattle.std.proofs.Common.{FitsSigned, w64}
 use Rattle.std.proofs.lemmas.Int.{to_z-of_z}
-use Rattle.tsp_c.proofs.Filled.{one_more}
+use Rattle.tsp_c.proofs.HandleCalls.{one_more}
 use Rattle.tsp_c.proofs.fill.put.Goals as goal
 
 -- plan: the place has the number, and each other place the number it had (`one_more`)

@@ -4,7 +4,7 @@ use Rattle.std.proofs.Common.{◌≡◌, subst, rules}
 use Rattle.std.specs.Prelude.{Option, Some}
 use Rattle.tsp_report.specs.declared.task.Certificate.{Certificate}
 use Rattle.tsp_judge.specs.Open.{Open}
-use Rattle.tsp_c.specs.Ended.{nth}
+use Rattle.tsp_c.specs.NumberCalls.{nth}
 use Rattle.tsp_c.specs.Opened.{Held, BindsOpen, BindsText}
 use Rattle.tsp_c.specs.Texts.{certificates}
 use Rattle.tsp_c.proofs.handle_calls.bind_text.Goals as goal

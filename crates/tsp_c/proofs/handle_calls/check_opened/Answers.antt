@@ -2,16 +2,16 @@
 -- calls require and what it ensures.
 use Rattle.std.proofs.Common.{◌≡◌, ◌∙◌, [], ap, refl, subst}
 use Rattle.std.specs.Prelude.{Some}
-use Rattle.tsp_io.specs.Sink.{Sink}
+use Rattle.tsp_io.specs.Streams.{Sink}
 use Rattle.tsp_io.specs.states.Watched.{sink_of}
 use Rattle.tsp_file.specs.Fields.{Fields}
 use Rattle.tsp_report.specs.declared.verdict.Verdict.{Verdict}
 use Rattle.tsp_report.specs.Verdicts.{is_yes}
-use Rattle.tsp_verdict.specs.Strict.{is_unjudged, strict_verdict}
+use Rattle.tsp_verdict.specs.SolutionVerdict.{is_unjudged, strict_verdict}
 use Rattle.tsp_report.specs.Report.{report_of, IsSized}
-use Rattle.tsp_c.specs.Ended.{Reports}
+use Rattle.tsp_c.specs.NumberCalls.{Reports}
 use Rattle.tsp_c.specs.CallResult.{result_of_verdict}
-use Rattle.tsp_c.proofs.OnHandles.{fault_as_texts, fault_in_numbers, means_asked, reported_as_texts, reported_in_numbers, sized_asked}
+use Rattle.tsp_c.proofs.HandleCalls.{fault_as_texts, fault_in_numbers, means_asked, reported_as_texts, reported_in_numbers, sized_asked}
 use Rattle.tsp_c.proofs.handle_calls.check_opened.Goals as goal
 
 -- plan: by how the check ends: a fault (`fault_as_texts`, `fault_in_numbers`), or a verdict (`reported_as_texts`,

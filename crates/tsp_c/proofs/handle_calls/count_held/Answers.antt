@@ -5,7 +5,7 @@ use Rattle.tsp_file.specs.Fields.{Fields}
 use Rattle.tsp_judge.specs.Open.{Open}
 use Rattle.tsp_c.specs.NumberCalls.{EndsCount}
 use Rattle.tsp_c.specs.Opened.{Held, OfHeld}
-use Rattle.tsp_c.proofs.Counted.{some_count}
+use Rattle.tsp_c.proofs.HandleCalls.{some_count}
 use Rattle.tsp_c.proofs.handle_calls.count_held.Goals as goal
 
 -- plan: the handle has an open instance, whose text says this DIMENSION (`some_count`)

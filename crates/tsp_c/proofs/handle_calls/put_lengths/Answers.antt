@@ -6,11 +6,11 @@ use Rattle.std.proofs.lemmas.Int.{to_z-of_z}
 use Rattle.std.proofs.lemmas.List.{drop-drop}
 use Rattle.std.proofs.lemmas.List.Elements.{All-drop}
 use Rattle.tsp_format.specs.Nodes.{IsNode}
-use Rattle.tsp_theory.specs.Length.{length_of}
+use Rattle.tsp_theory.specs.Tour.{length_of}
 use Rattle.tsp_file.specs.Cost.{cost}
 use Rattle.tsp_c.specs.NumberCalls.{IsFilled, list_length, lists_in}
 use Rattle.tsp_file.specs.Fields.{nodes_of}
-use Rattle.tsp_c.proofs.Lists.{end_found, end_missing, lists_none, next_list, nodes_before}
+use Rattle.tsp_c.proofs.HandleCalls.{end_found, end_missing, lists_none, next_list, nodes_before}
 use Rattle.tsp_c.proofs.handle_calls.put_lengths.Goals as goal
 
 -- plan: the lists so far are those of the nodes before (`nodes_before`); each ends at its 0, or has no end

@@ -3,7 +3,7 @@ use Rattle.std.proofs.Common.{◌≡◌, ℕ, ◌+◌, ◌-◌, ◌/◌, ◌%◌
 use Rattle.std.specs.Prelude.{slice_index_or}
 use Rattle.std.proofs.lemmas.Int.{to_z-of_z}
 use Rattle.tsp_file.specs.states.Drafts.{points_of}
-use Rattle.tsp_file.specs.Coords.{origin}
+use Rattle.tsp_file.specs.Cost.{origin}
 use Rattle.tsp_c.specs.NumberCalls.{point_number, coordinate}
 use Rattle.tsp_c.proofs.handle_calls.put_points.Goals as goal
 

@@ -2,11 +2,10 @@
 -- what its calls require and what it ensures.
 use Rattle.std.proofs.Common.{◌∙◌, ap, refl}
 use Rattle.std.specs.Prelude.{Some}
-use Rattle.tsp_io.specs.Sink.{Sink}
-use Rattle.tsp_io.specs.Turn.{Turn}
+use Rattle.tsp_io.specs.Streams.{Sink, Turn}
 use Rattle.tsp_io.specs.states.Watched.{sink_of, turn_of}
 use Rattle.tsp_c.proofs.InNumbers.{sized_bound_run, tells_bound}
-use Rattle.tsp_c.proofs.OnTexts.{bounds_texts}
+use Rattle.tsp_c.proofs.PickedRuns.{bounds_texts}
 use Rattle.tsp_c.proofs.picked_runs.bounded.Goals as goal
 
 -- plan: the bound fits (`sized_bound_run`). The readers deliver the texts, so the end of the run is of these, in words

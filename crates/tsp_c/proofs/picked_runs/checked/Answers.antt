@@ -4,7 +4,7 @@ use Rattle.std.proofs.Common.{◌∙◌, ap, refl}
 use Rattle.std.specs.Prelude.{Some}
 use Rattle.tsp_io.specs.states.Watched.{sink_of}
 use Rattle.tsp_c.proofs.InNumbers.{sized_run, tells_texts}
-use Rattle.tsp_c.proofs.OnTexts.{checks}
+use Rattle.tsp_c.proofs.PickedRuns.{checks}
 use Rattle.tsp_c.proofs.picked_runs.checked.Goals as goal
 
 -- plan: length and bound fit (`sized_run`). The readers deliver the texts, so the end of the run is of these, in words

@@ -1,7 +1,7 @@
 -- The goals of `converted` in src/picked_runs.rt, which converts a text: what it ensures.
 use Rattle.std.proofs.Common.{◌∙◌, ap, refl}
 use Rattle.std.specs.Prelude.{Some}
-use Rattle.tsp_c.proofs.OnTexts.{converts}
+use Rattle.tsp_c.proofs.PickedRuns.{converts}
 use Rattle.tsp_c.proofs.picked_runs.converted.Goals as goal
 
 -- plan: a reader over the text delivers its bytes, so the file written is that of the text in its new layout

@@ -1,10 +1,9 @@
 -- The goals of `shown` in src/picked_runs.rt, which returns what `show` prints of a text: what it ensures.
 use Rattle.std.proofs.Common.{◌∙◌, ap, refl}
 use Rattle.std.specs.Prelude.{Some}
-use Rattle.tsp_io.specs.Turn.{Turn}
+use Rattle.tsp_io.specs.Streams.{Turn, Sink}
 use Rattle.tsp_io.specs.states.Watched.{turn_of, sink_of}
-use Rattle.tsp_io.specs.Sink.{Sink}
-use Rattle.tsp_c.proofs.OnTexts.{shows}
+use Rattle.tsp_c.proofs.PickedRuns.{shows}
 use Rattle.tsp_c.proofs.picked_runs.shown.Goals as goal
 
 -- plan: a reader over the text delivers its bytes, so the lines written show the file of the text (`shows`)

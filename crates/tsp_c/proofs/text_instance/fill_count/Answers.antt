@@ -1,6 +1,6 @@
 -- The goals of `fill_count` in src/text_instance.rt, which counts the nodes of a text's instance: what it ensures.
 use Rattle.std.proofs.Common.{inl, inr, refl}
-use Rattle.tsp_c.proofs.Counted.{some_count}
+use Rattle.tsp_c.proofs.HandleCalls.{some_count}
 use Rattle.tsp_c.proofs.text_instance.fill_count.Goals as goal
 
 pub returns-in-Err : goal.returns-in-Err

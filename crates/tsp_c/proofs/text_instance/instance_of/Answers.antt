@@ -1,7 +1,7 @@
 -- The goals of `instance_of` in src/text_instance.rt, which reads the instance of a text: what it ensures.
 use Rattle.std.proofs.Common.{◌≡◌, Err}
-use Rattle.tsp_read.proofs.Propagated.{propagated}
-use Rattle.tsp_c.proofs.OnTexts.{no_instance}
+use Rattle.tsp_read.proofs.BegunSteps.{propagated}
+use Rattle.tsp_c.proofs.PickedRuns.{no_instance}
 use Rattle.tsp_c.proofs.text_instance.instance_of.Goals as goal
 
 -- plan: an early return passes the fault of the run unchanged (`propagated`), and it is why the text is no instance

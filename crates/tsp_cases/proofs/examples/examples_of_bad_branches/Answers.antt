@@ -1,9 +1,9 @@
 -- The goals of `examples_of_bad_branches` in src/examples.rt: what it ensures.
 use Rattle.std.proofs.Common.{[], ◌∷◌, refl, arith}
 use Rattle.std.proofs.lemmas.List.Elements.{All-from_recursion}
-use Rattle.tsp_cases.specs.BadBranches.{BeginsWithin}
-use Rattle.tsp_cases.specs.VerdictExamples.{branches, branches_apart}
-use Rattle.tsp_cases.proofs.BranchesWithin.{within_at_start, bad_at_branch, none_bad}
+use Rattle.tsp_cases.specs.ListedCases.{BeginsWithin}
+use Rattle.tsp_cases.specs.Examples.{branches, branches_apart}
+use Rattle.tsp_cases.proofs.TreeBranches.{within_at_start, bad_at_branch, none_bad}
 use Rattle.tsp_cases.proofs.examples.examples_of_bad_branches.Goals as goal
 
 -- plan: for each example, the branches before the bad one are good (`bad_at_branch`), or all are (`none_bad`)

@@ -1,5 +1,5 @@
 -- The goals of `examples_of_bounds` in src/examples.rt: what it ensures.
-use Rattle.tsp_cases.proofs.SmallBounds.{four_have_five, four_have_six, six_have_nine, six_have_ten}
+use Rattle.tsp_cases.proofs.SmallFamilies.{four_have_five, four_have_six, six_have_nine, six_have_ten}
 use Rattle.tsp_cases.proofs.examples.examples_of_bounds.Goals as goal
 
 -- plan: for each example the least 1-tree is found by Prim's method, tested pair by pair, and its bound computed

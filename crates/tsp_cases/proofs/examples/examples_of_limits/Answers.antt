@@ -1,5 +1,5 @@
 -- The goals of `examples_of_limits` in src/examples.rt: what it ensures.
-use Rattle.tsp_cases.proofs.SmallSets.{most_sets, most_parts, more_parts}
+use Rattle.tsp_cases.proofs.SmallFamilies.{most_sets, most_parts, more_parts}
 use Rattle.tsp_cases.proofs.examples.examples_of_limits.Goals as goal
 
 -- plan: 63 sets are few enough (`most_sets`), and so are 14 parts (`most_parts`); a 15th part is too many

@@ -1,7 +1,7 @@
 -- The goals of `examples_of_verdicts` in src/examples.rt: what it ensures.
 use Rattle.std.proofs.Common.{refl, inl, inr}
-use Rattle.tsp_cases.proofs.SmallVerdicts.{no_sets, one_tooth, two_teeth, node_twice, teeth_meet, tooth_inside, tooth_outside, lone_set, no_node, all_nodes, lone_node_twice, never_twice}
-use Rattle.tsp_cases.proofs.OnePass.{first_twice_by_place}
+use Rattle.tsp_cases.proofs.SmallTrees.{no_sets, one_tooth, two_teeth, node_twice, teeth_meet, tooth_inside, tooth_outside, lone_set, no_node, all_nodes, lone_node_twice, never_twice}
+use Rattle.tsp_cases.proofs.Passes.{first_twice_by_place}
 use Rattle.tsp_cases.proofs.examples.examples_of_verdicts.Goals as goal
 
 -- plan: each example breaks one condition of a comb, of a lone set or of a tree, or has all of them

@@ -1,6 +1,6 @@
 -- The loop of `add_bit` in src/family.rt, which adds the bit of a set at its nodes.
 use Rattle.std.proofs.Common.{◌≡◌, ℕ, ◌<◌, length, get_or, take}
-use Rattle.tsp_cases.proofs.NodeMembers.{with_bit}
+use Rattle.tsp_cases.proofs.Divisions.{with_bit}
 use Rattle.tsp_cases.proofs.family.add_bit.Given as goal
 
 -- each of the nodes before this one has the bit, and nothing else has changed

@@ -1,8 +1,8 @@
 -- The goals of `best_path` in src/family.rt, which finds the best path through a set of parts: what it ensures.
 use Rattle.std.proofs.Common.{◌≡◌, ℕ, ◌+◌, ◌-◌, ◌*◌, ◌/◌, ◌%◌, ◌^◌, inl, inr, ap, sym, ◌∙◌, subst, arith, rules}
 use Rattle.std.specs.Int.{bit_at}
-use Rattle.tsp_cases.specs.Paths.{cost_by_rows, IsLeastSum}
-use Rattle.tsp_cases.proofs.BestPaths.{StartsWith, no_best, best_from}
+use Rattle.tsp_cases.specs.Crossings.{cost_by_rows, IsLeastSum}
+use Rattle.tsp_cases.proofs.LeastCycles.{StartsWith, no_best, best_from}
 use Rattle.tsp_cases.proofs.family.best_path.Goals.{then-rest-eq0, else-rest-eq0}
 use Rattle.tsp_cases.proofs.family.best_path.Goals as goal
 

@@ -2,8 +2,8 @@
 use Rattle.std.proofs.Common.{ℕ, ◌+◌, ◌-◌, ◌≤◌, List, [], ◌∷◌, length, ap, sym, ◌∙◌, subst, arith, length-append}
 use Rattle.std.specs.List.{All}
 use Rattle.std.proofs.lemmas.List.Elements.{All-push}
-use Rattle.tsp_cases.specs.Paths.{cost_by_rows, no_path, IsBestPath, AreBestPaths}
-use Rattle.tsp_cases.proofs.Tables.{by_rows_push}
+use Rattle.tsp_cases.specs.Crossings.{cost_by_rows, no_path, IsBestPath, AreBestPaths}
+use Rattle.tsp_cases.proofs.LeastCycles.{by_rows_push}
 use Rattle.tsp_cases.proofs.family.best_paths.Goals as goal
 
 -- plan: one cell more has the best path through its set from its part (`by_rows_push`)

@@ -1,7 +1,7 @@
 -- The loop of `best_paths` in src/family.rt, which finds the best paths through all sets of parts.
 use Rattle.std.proofs.Common.{◌≡◌, ◌+◌, ◌-◌, ◌*◌, ◌≤◌, length}
 use Rattle.std.specs.List.{All}
-use Rattle.tsp_cases.specs.Paths.{cost_by_rows, no_path, AreBestPaths}
+use Rattle.tsp_cases.specs.Crossings.{cost_by_rows, no_path, AreBestPaths}
 use Rattle.tsp_cases.proofs.family.best_paths.Given as goal
 
 -- the table has the best paths of the sets before this one

@@ -3,7 +3,7 @@ use Rattle.std.proofs.Common.{◌≡◌, ℕ, ◌<◌, ◌≤◌, ◌^◌, List,
 use Rattle.std.specs.List.{All}
 use Rattle.std.proofs.lemmas.List.Elements.{All-push}
 use Rattle.std.proofs.lemmas.Nat.{ones-le, xor_lt}
-use Rattle.tsp_cases.proofs.Tables.{HoldsByRows, by_rows_push}
+use Rattle.tsp_cases.proofs.LeastCycles.{HoldsByRows, by_rows_push}
 use Rattle.tsp_cases.proofs.family.crossings_between.Goals as goal
 
 -- plan: one cell more has its row, its column and the count of bits that differ (`by_rows_push`)

@@ -1,7 +1,7 @@
 -- The loop of `crossings_between` in src/family.rt, which counts the crossings of each two parts.
 use Rattle.std.proofs.Common.{◌≡◌, ◌≤◌, ◌+◌, ◌*◌, length, get_or, bit_xor, count_ones}
 use Rattle.std.specs.List.{All}
-use Rattle.tsp_cases.proofs.Tables.{HoldsByRows}
+use Rattle.tsp_cases.proofs.LeastCycles.{HoldsByRows}
 use Rattle.tsp_cases.proofs.family.crossings_between.Given as goal
 
 -- the rows before this one are written: in how many bits two memberships differ, at most 64

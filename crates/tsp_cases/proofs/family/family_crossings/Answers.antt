@@ -2,13 +2,9 @@
 use Rattle.std.proofs.Common.{◌≡◌, ℕ, Bool, List, length, arith, ap, sym, ◌∙◌, subst}
 use Rattle.std.specs.Prelude.{pos, ◌≤◌}
 use Rattle.std.specs.List.{All}
-use Rattle.tsp_cases.specs.Crossed.{sets_of, sets_crossed, IsLeastLength, IsMostCost}
-use Rattle.tsp_cases.specs.SetParts.{ArePartsOf}
-use Rattle.tsp_cases.specs.Memberships.{AreMemberships, IsLargest}
-use Rattle.tsp_cases.specs.FamilySets.{lists_of}
-use Rattle.tsp_cases.specs.Paths.{cost_by_rows, as_whole}
+use Rattle.tsp_cases.specs.Crossings.{sets_of, sets_crossed, IsLeastLength, IsMostCost, ArePartsOf, AreMemberships, IsLargest, lists_of, cost_by_rows, as_whole}
 use Rattle.tsp_cases.proofs.LeastCycles.{small_cycle, small_largest}
-use Rattle.tsp_cases.proofs.NodeMembers.{places_from, least_between, most_between, few_parts, sets_long}
+use Rattle.tsp_cases.proofs.Divisions.{places_from, least_between, most_between, few_parts, sets_long}
 use Rattle.tsp_cases.proofs.family.family_crossings.Goals as goal
 
 -- plan: nodes of one part are crossed alike. So the best cycle of the parts gives the least crossings

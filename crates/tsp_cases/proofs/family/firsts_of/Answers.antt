@@ -4,8 +4,8 @@ use Rattle.std.specs.List.{All, Any}
 use Rattle.std.proofs.lemmas.Bool.{cases_eq, iff_false}
 use Rattle.std.proofs.lemmas.List.Elements.{All-push}
 use Rattle.std.proofs.lemmas.List.Quantifiers.{Any-push}
-use Rattle.tsp_cases.specs.Memberships.{IsNodePlace, AreDifferent}
-use Rattle.tsp_cases.proofs.NodeMembers.{any_more, differ_more}
+use Rattle.tsp_cases.specs.Crossings.{IsNodePlace, AreDifferent}
+use Rattle.tsp_cases.proofs.Divisions.{any_more, differ_more}
 use Rattle.tsp_cases.proofs.family.firsts_of.Goals.{then-not-has_membership+else-len-ge-MOST_PARTS+in_ok-push, else-not-has_membership}
 use Rattle.tsp_cases.proofs.family.firsts_of.Goals as goal
 

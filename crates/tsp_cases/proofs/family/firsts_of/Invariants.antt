@@ -1,7 +1,7 @@
 -- The loop of `firsts_of` in src/family.rt, which finds the first node of each part.
 use Rattle.std.proofs.Common.{◌≡◌, ℕ, ◌<◌, ◌≤◌, length, get_or}
 use Rattle.std.specs.List.{All, Any}
-use Rattle.tsp_cases.specs.Memberships.{IsNodePlace, AreDifferent}
+use Rattle.tsp_cases.specs.Crossings.{IsNodePlace, AreDifferent}
 use Rattle.tsp_cases.proofs.family.firsts_of.Given as goal
 
 -- each node before this one has the membership of one of `firsts`, whose memberships differ

@@ -2,8 +2,7 @@
 -- ensures.
 use Rattle.std.proofs.Common.{ℕ, ◌-◌, ◌*◌, ◌≤◌, List, sym, subst, arith}
 use Rattle.std.specs.Prelude.{pos}
-use Rattle.tsp_cases.specs.Crossed.{IsLeastLength}
-use Rattle.tsp_cases.specs.Paths.{cost_by_rows, as_whole, no_path, IsLeastSum}
+use Rattle.tsp_cases.specs.Crossings.{IsLeastLength, cost_by_rows, as_whole, no_path, IsLeastSum}
 use Rattle.tsp_cases.proofs.LeastCycles.{alone, small_costs, least_of_paths}
 use Rattle.tsp_cases.proofs.family.least_cycle.Goals as goal
 

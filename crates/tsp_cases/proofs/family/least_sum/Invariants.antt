@@ -1,5 +1,5 @@
 -- The loop of `least_sum` in src/family.rt, which finds the least sum of a step and a best path.
-use Rattle.tsp_cases.specs.Paths.{IsLeastSum}
+use Rattle.tsp_cases.specs.Crossings.{IsLeastSum}
 use Rattle.tsp_cases.proofs.family.least_sum.Given as goal
 
 -- `least` is the least of `start` and of the sums at the places before this one

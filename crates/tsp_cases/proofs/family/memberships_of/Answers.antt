@@ -4,9 +4,8 @@ use Rattle.std.proofs.Common.{◌≡◌, ℕ, ◌+◌, ◌*◌, ◌%◌, ◌^◌
 use Rattle.std.specs.Prelude.{if◌then◌else◌}
 use Rattle.std.proofs.lemmas.List.{take-append-le, take_all}
 use Rattle.std.proofs.lemmas.Nat.{one_shl, pow_below}
-use Rattle.tsp_cases.specs.Crossed.{has, sets_of}
-use Rattle.tsp_cases.specs.FamilySets.{lists_of}
-use Rattle.tsp_cases.proofs.NodeMembers.{IsSoFar, set_at, sets_long, so_far_more}
+use Rattle.tsp_cases.specs.Crossings.{has, sets_of, lists_of}
+use Rattle.tsp_cases.proofs.Divisions.{IsSoFar, set_at, sets_long, so_far_more}
 use Rattle.tsp_cases.proofs.family.memberships_of.Goals as goal
 
 -- a slice of all elements that was written over

@@ -1,8 +1,7 @@
 -- The loop of `memberships_of` in src/family.rt, which computes the membership of each node.
 use Rattle.std.proofs.Common.{◌≡◌, ℕ, ◌+◌, ◌<◌, length, get_or}
-use Rattle.tsp_cases.specs.Crossed.{sets_of}
-use Rattle.tsp_cases.specs.FamilySets.{lists_of}
-use Rattle.tsp_cases.proofs.NodeMembers.{IsSoFar}
+use Rattle.tsp_cases.specs.Crossings.{sets_of, lists_of}
+use Rattle.tsp_cases.proofs.Divisions.{IsSoFar}
 use Rattle.tsp_cases.proofs.family.memberships_of.Given as goal
 
 -- each node's number has the bit of each set before this one that has the node, and no other bit

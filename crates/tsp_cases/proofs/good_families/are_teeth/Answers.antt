@@ -2,8 +2,8 @@
 -- it ensures.
 use Rattle.std.proofs.Common.{◌∙◌, ℕ, Bool, refl, false}
 use Rattle.std.proofs.lemmas.Bool.{both_ways, iff_false}
-use Rattle.tsp_cases.specs.states.Marked.{is_marked}
-use Rattle.tsp_cases.proofs.Teeth.{nodes_here, teeth_on, tooth_here}
+use Rattle.tsp_cases.specs.states.GoodFamilies.{is_marked}
+use Rattle.tsp_cases.proofs.GoodFamilies.{nodes_here, teeth_on, tooth_here}
 use Rattle.tsp_cases.proofs.good_families.are_teeth.Goals as goal
 
 pub returns-then-not-is_tooth-clause-teeth : goal.returns-then-not-is_tooth-clause-teeth

@@ -2,8 +2,8 @@
 -- it is bad: what it ensures.
 use Rattle.std.proofs.Common.{length}
 use Rattle.std.proofs.lemmas.Bool.{iff_false}
-use Rattle.tsp_cases.specs.FamilySets.{lists_of}
-use Rattle.tsp_cases.proofs.FamilyKinds.{known_found, lists_long}
+use Rattle.tsp_cases.specs.Crossings.{lists_of}
+use Rattle.tsp_cases.proofs.GoodFamilies.{known_found, lists_long}
 use Rattle.tsp_cases.proofs.good_families.crossings_of.Goals as goal
 
 -- plan: by whether the sets are a comb or a lone set, whose crossings the number of sets gives (`known_found`), or

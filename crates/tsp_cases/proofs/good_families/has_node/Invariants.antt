@@ -1,6 +1,6 @@
 -- The loop of `has_node` in src/good_families.rt, which tests whether a list has a node with the mark, or without.
 use Rattle.std.proofs.Common.{◌≡◌, ◌<◌, ℕ, get_or}
-use Rattle.tsp_cases.specs.states.Marked.{is_marked}
+use Rattle.tsp_cases.specs.states.GoodFamilies.{is_marked}
 use Rattle.tsp_cases.proofs.good_families.has_node.Given as goal
 
 -- no node before this one is as wanted, with the mark or without it

@@ -3,10 +3,10 @@
 use Rattle.std.proofs.Common.{◌≡◌, ◌∙◌, ◌+◌, ℕ, List, [], length, get_or, false, refl, ap, sym, subst, arith}
 use Rattle.std.proofs.lemmas.Bool.{both_ways, iff_false}
 use Rattle.std.specs.Global.{Vec}
-use Rattle.tsp_cases.specs.GoodFamilies.{HasEachOnce}
-use Rattle.tsp_cases.specs.states.Marked.{AreUnmarked}
-use Rattle.tsp_cases.proofs.ListPlaces.{written}
-use Rattle.tsp_cases.proofs.FamilyKinds.{set_here, lists_long, new_once, once_more}
+use Rattle.tsp_cases.specs.Families.{HasEachOnce}
+use Rattle.tsp_cases.specs.states.GoodFamilies.{AreUnmarked}
+use Rattle.tsp_cases.proofs.Passes.{written}
+use Rattle.tsp_cases.proofs.GoodFamilies.{set_here, lists_long, new_once, once_more}
 use Rattle.tsp_cases.proofs.good_families.have_each_once.Goals as goal
 
 -- plan: the nodes of one set more are marked, none of them twice (`once_more`), or a node is in the set twice

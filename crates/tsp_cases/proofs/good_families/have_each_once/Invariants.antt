@@ -1,8 +1,8 @@
 -- The loop of `have_each_once` in src/good_families.rt, which tests whether no set has a node twice.
 use Rattle.std.proofs.Common.{◌≡◌, ◌<◌, ◌+◌, ℕ, List, length, get_or}
-use Rattle.tsp_cases.specs.FamilySets.{lists_of}
-use Rattle.tsp_cases.specs.GoodFamilies.{HasEachOnce}
-use Rattle.tsp_cases.specs.states.Marked.{AreUnmarked}
+use Rattle.tsp_cases.specs.Crossings.{lists_of}
+use Rattle.tsp_cases.specs.Families.{HasEachOnce}
+use Rattle.tsp_cases.specs.states.GoodFamilies.{AreUnmarked}
 use Rattle.tsp_cases.proofs.good_families.have_each_once.Given as goal
 
 -- no set before this one has a node twice, and no node has the mark of a later one

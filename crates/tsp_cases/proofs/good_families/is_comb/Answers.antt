@@ -5,12 +5,11 @@ use Rattle.std.specs.Prelude.{◌↔◌, IsTrue}
 use Rattle.std.specs.List.{All}
 use Rattle.std.proofs.lemmas.Bool.{both_ways, iff_false, eqb-true}
 use Rattle.tsp_format.specs.Nodes.{IsNode}
-use Rattle.tsp_cases.specs.Crossed.{has}
-use Rattle.tsp_cases.specs.Combs.{comb_of}
-use Rattle.tsp_cases.specs.Families.{IsLoneSet}
-use Rattle.tsp_cases.specs.states.Marked.{is_marked}
+use Rattle.tsp_cases.specs.Crossings.{has}
+use Rattle.tsp_cases.specs.Families.{comb_of, IsLoneSet}
+use Rattle.tsp_cases.specs.states.GoodFamilies.{is_marked}
 use Rattle.std.specs.Global.{Vec}
-use Rattle.tsp_cases.proofs.Teeth.{rest_all, first_all, counted, handle_new, comb_found, teeth_found, own_marks, lone_found, lone_in, no_sets}
+use Rattle.tsp_cases.proofs.GoodFamilies.{rest_all, first_all, counted, handle_new, comb_found, teeth_found, own_marks, lone_found, lone_in, no_sets}
 use Rattle.tsp_cases.proofs.good_families.is_comb.Goals as goal
 
 -- plan: by the sets: a handle, an odd number of teeth that don't meet (`comb_found`), or a lone set (`lone_found`)

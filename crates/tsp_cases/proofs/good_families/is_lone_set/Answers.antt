@@ -1,7 +1,7 @@
 -- The goals of `is_lone_set` in src/good_families.rt, which says whether marked nodes are a lone set: what it ensures.
 use Rattle.std.proofs.Common.{length, rules}
-use Rattle.tsp_cases.specs.states.Marked.{is_marked}
-use Rattle.tsp_cases.proofs.Teeth.{lone_by_marks, lone_left_out}
+use Rattle.tsp_cases.specs.states.GoodFamilies.{is_marked}
+use Rattle.tsp_cases.proofs.GoodFamilies.{lone_by_marks, lone_left_out}
 use Rattle.tsp_cases.proofs.good_families.is_lone_set.Goals as goal
 
 -- plan: by the marks of nodes: the set has a node, has none twice, and leaves one out (`lone_by_marks`)

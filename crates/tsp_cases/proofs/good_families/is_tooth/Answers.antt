@@ -1,8 +1,8 @@
 -- The goals of `is_tooth` in src/good_families.rt, which says whether nodes are a tooth of the marked handle: what it
 -- ensures.
 use Rattle.std.proofs.lemmas.Bool.{both_ways, iff_false}
-use Rattle.tsp_cases.specs.states.Marked.{is_marked}
-use Rattle.tsp_cases.proofs.Teeth.{tooth_found, tooth_inside, tooth_outside}
+use Rattle.tsp_cases.specs.states.GoodFamilies.{is_marked}
+use Rattle.tsp_cases.proofs.GoodFamilies.{tooth_found, tooth_inside, tooth_outside}
 use Rattle.tsp_cases.proofs.good_families.is_tooth.Goals as goal
 
 -- plan: the marks of the handle say whether a node is inside (`tooth_inside`) and one outside (`tooth_outside`)

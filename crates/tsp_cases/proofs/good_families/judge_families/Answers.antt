@@ -6,15 +6,12 @@ use Rattle.std.specs.Global.{Vec}
 use Rattle.std.specs.List.{All}
 use Rattle.std.proofs.lemmas.List.{length-map}
 use Rattle.std.proofs.lemmas.List.Elements.{All-push}
-use Rattle.tsp_cases.specs.FamilySets.{AreSetsOf, AreFamiliesOf, lists_of, families_in}
+use Rattle.tsp_cases.specs.Crossings.{AreSetsOf, AreFamiliesOf, lists_of, families_in}
 use Rattle.tsp_cases.specs.declared.family.Crossings.{Crossings}
-use Rattle.tsp_cases.specs.Families.{IsFamily}
-use Rattle.tsp_cases.specs.FamiliesOfSets.{families_with}
-use Rattle.tsp_cases.specs.GoodFamilies.{IsGoodFamily, AreFamilies}
-use Rattle.tsp_cases.specs.states.Marked.{AreUnmarked}
-use Rattle.tsp_cases.specs.states.FamilyNumbers.{AreFamilyNumbers, IsSmall, AreSmallCrossings}
-use Rattle.tsp_cases.proofs.FirstBad.{all_some, sets_here, holds_here, all_good, first_found, HaveNumbers, numbers_more, good_so_far}
-use Rattle.tsp_cases.proofs.ListPlaces.{written}
+use Rattle.tsp_cases.specs.Families.{IsFamily, families_with, IsGoodFamily, AreFamilies}
+use Rattle.tsp_cases.specs.states.GoodFamilies.{AreUnmarked, AreFamilyNumbers, IsSmall, AreSmallCrossings}
+use Rattle.tsp_cases.proofs.GoodFamilies.{all_some, sets_here, holds_here, all_good, first_found, HaveNumbers, numbers_more, good_so_far}
+use Rattle.tsp_cases.proofs.Passes.{written}
 use Rattle.tsp_cases.proofs.good_families.judge_families.Goals as goal
 
 pub invariant_of-own : goal.invariant_of-own

@@ -1,9 +1,8 @@
 -- The loop of `judge_families` in src/good_families.rt, which finds the crossings of each family, or the first bad one.
 use Rattle.std.proofs.Common.{◌≡◌, ◌<◌, ◌+◌, ℕ, length}
-use Rattle.tsp_cases.specs.FamilySets.{families_in}
-use Rattle.tsp_cases.specs.states.FamilyNumbers.{AreSmallCrossings}
-use Rattle.tsp_cases.specs.states.Marked.{AreUnmarked}
-use Rattle.tsp_cases.proofs.FirstBad.{HaveNumbers}
+use Rattle.tsp_cases.specs.Crossings.{families_in}
+use Rattle.tsp_cases.specs.states.GoodFamilies.{AreSmallCrossings, AreUnmarked}
+use Rattle.tsp_cases.proofs.GoodFamilies.{HaveNumbers}
 use Rattle.tsp_cases.proofs.good_families.judge_families.Given as goal
 
 -- each family before this one is good and has its numbers; no node has the mark of a later one

@@ -1,6 +1,6 @@
 -- The loop of `leaves_one_out` in src/good_families.rt, which tests whether some node has no mark.
 use Rattle.std.proofs.Common.{◌≡◌, ◌≤◌, ◌<◌, ℕ, true}
-use Rattle.tsp_cases.specs.states.Marked.{is_marked}
+use Rattle.tsp_cases.specs.states.GoodFamilies.{is_marked}
 use Rattle.tsp_cases.proofs.good_families.leaves_one_out.Given as goal
 
 -- each node before this one has the mark

@@ -3,7 +3,7 @@ use Rattle.std.proofs.Common.{ℕ, ◌<◌, List, length, get_or, refl, ◌∙�
 use Rattle.std.proofs.Math.ListN.{length-set}
 use Rattle.std.proofs.lemmas.Bool.{eq-eqb, ne_eqb, both_ways}
 use Rattle.std.proofs.lemmas.List.{get_or_default}
-use Rattle.tsp_cases.proofs.NodeMarks.{marked_more, new_more, marked_twice, others_kept}
+use Rattle.tsp_cases.proofs.GoodFamilies.{marked_more, new_more, marked_twice, others_kept}
 use Rattle.tsp_cases.proofs.good_families.mark_nodes.Goals as goal
 
 -- plan: by whether the next node has the mark already (`marked_twice`), or is marked now (`marked_more`)

@@ -1,7 +1,7 @@
 -- The loop of `mark_nodes` in src/good_families.rt, which marks the nodes of a set.
 use Rattle.std.proofs.Common.{◌≡◌, ◌||◌, ℕ, length, take}
-use Rattle.tsp_cases.specs.Crossed.{has}
-use Rattle.tsp_cases.specs.states.Marked.{is_marked, AreNew, AddsNoOther}
+use Rattle.tsp_cases.specs.Crossings.{has}
+use Rattle.tsp_cases.specs.states.GoodFamilies.{is_marked, AreNew, AddsNoOther}
 use Rattle.tsp_cases.proofs.good_families.mark_nodes.Given as goal
 
 -- the nodes before this one have been marked: they are different, and none of them had the mark

@@ -2,8 +2,8 @@
 -- it ensures.
 use Rattle.std.proofs.Common.{arith}
 use Rattle.std.proofs.lemmas.Bool.{iff_false}
-use Rattle.tsp_cases.specs.FamilySets.{lists_of}
-use Rattle.tsp_cases.proofs.FamilyKinds.{other_found, too_many, one_part}
+use Rattle.tsp_cases.specs.Crossings.{lists_of}
+use Rattle.tsp_cases.proofs.GoodFamilies.{other_found, too_many, one_part}
 use Rattle.tsp_cases.proofs.good_families.other_crossings.Goals as goal
 
 -- plan: by how the search ends: a set has a node twice, there are too many parts (`too_many`), all nodes are in one

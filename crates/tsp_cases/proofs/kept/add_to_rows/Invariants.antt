@@ -1,5 +1,5 @@
 -- The loop of `add_to_rows` in src/kept.rt, which adds multipliers to the kept rows.
-use Rattle.tsp_cases.specs.states.Lent.{lent_in}
+use Rattle.tsp_cases.specs.states.Sets.{lent_in}
 use Rattle.tsp_cases.proofs.RowsKept.{IsAddedTo}
 use Rattle.tsp_cases.proofs.kept.add_to_rows.Given as goal
 

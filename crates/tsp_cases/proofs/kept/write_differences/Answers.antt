@@ -7,9 +7,9 @@ use Rattle.std.proofs.Math.ListN.{set, length-set}
 use Rattle.std.proofs.lemmas.Bool.{cases_eq}
 use Rattle.std.proofs.lemmas.Int.{ints}
 use Rattle.std.proofs.lemmas.List.{get_or-set_same, get_or-set_other, get_or_default}
-use Rattle.tsp_format.specs.Ranges.{IsFromTo}
+use Rattle.tsp_format.specs.Steps.{IsFromTo}
 use Rattle.tsp_theory.specs.states.Nearest.{least_at}
-use Rattle.tsp_cases.specs.GoodNumbers.{most_crossed}
+use Rattle.tsp_cases.specs.ListedCases.{most_crossed}
 use Rattle.tsp_cases.proofs.kept.write_differences.Goals as goal
 
 -- plan: by whether a place is the one just written, with a difference of two small multipliers, or one before, which is

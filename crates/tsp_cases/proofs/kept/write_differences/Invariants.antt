@@ -1,9 +1,9 @@
 -- The loop of `write_differences` in src/kept.rt, which writes how much each multiplier has grown.
 use Rattle.std.proofs.Common.{◌≡◌, ◌<◌, ℕ, length}
 use Rattle.std.specs.Prelude.{pos, neg_ℤ, ◌+ℤ◌}
-use Rattle.tsp_format.specs.Ranges.{IsFromTo}
+use Rattle.tsp_format.specs.Steps.{IsFromTo}
 use Rattle.tsp_theory.specs.states.Nearest.{least_at}
-use Rattle.tsp_cases.specs.GoodNumbers.{most_crossed}
+use Rattle.tsp_cases.specs.ListedCases.{most_crossed}
 use Rattle.tsp_cases.proofs.kept.write_differences.Given as goal
 
 -- each difference before this one is how much its number has grown, and as small as one of multipliers

@@ -1,6 +1,6 @@
 -- The goals of `cycles_cross_combs` in src/laws.rt: what it ensures.
-use Rattle.tsp_theory.proofs.CostLaws.{Laws}
-use Rattle.tsp_cases.proofs.Combs.{cycles_cross_combs}
+use Rattle.tsp_theory.proofs.Cycles.{Laws}
+use Rattle.tsp_cases.proofs.FamilyCrossings.{cycles_cross_combs}
 use Rattle.tsp_cases.proofs.laws.cycles_cross_combs.Goals as goal
 
 -- plan: for each tooth a cycle crosses the tooth or, inside it, the handle three times. In all that is 3k times, and an

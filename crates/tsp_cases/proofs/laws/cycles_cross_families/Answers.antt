@@ -1,6 +1,6 @@
 -- The goals of `cycles_cross_families` in src/laws.rt: what it ensures.
-use Rattle.tsp_theory.proofs.CostLaws.{Laws}
-use Rattle.tsp_cases.proofs.FamilyLaws.{cycles_cross_families}
+use Rattle.tsp_theory.proofs.Cycles.{Laws}
+use Rattle.tsp_cases.proofs.FamilyCrossings.{cycles_cross_families}
 use Rattle.tsp_cases.proofs.laws.cycles_cross_families.Goals as goal
 
 -- plan: by the kind of family: a lone set is left and entered, a comb is crossed 3k + 1 times, and for other sets the

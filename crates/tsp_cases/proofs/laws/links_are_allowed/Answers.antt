@@ -1,7 +1,6 @@
 -- The goals of `links_are_allowed` in src/laws.rt: what it ensures.
-use Rattle.tsp_theory.proofs.CostLaws.{Laws}
-use Rattle.tsp_cases.proofs.Links.{links_are_allowed}
-use Rattle.tsp_cases.proofs.LeastLinks.{no_link_no_cycle}
+use Rattle.tsp_theory.proofs.Cycles.{Laws}
+use Rattle.tsp_cases.proofs.CaseLaws.{links_are_allowed, no_link_no_cycle}
 use Rattle.tsp_cases.proofs.laws.links_are_allowed.Goals as goal
 
 -- plan: a cycle has one link out of each node and one into it: beside a taken pair it has no other link there

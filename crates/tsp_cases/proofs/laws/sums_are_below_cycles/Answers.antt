@@ -1,6 +1,6 @@
 -- The goals of `sums_are_below_cycles` in src/laws.rt: what it ensures.
-use Rattle.tsp_theory.proofs.CostLaws.{Laws}
-use Rattle.tsp_cases.proofs.LeastLinks.{sums_are_below_cycles}
+use Rattle.tsp_theory.proofs.Cycles.{Laws}
+use Rattle.tsp_cases.proofs.CaseLaws.{sums_are_below_cycles}
 use Rattle.tsp_cases.proofs.laws.sums_are_below_cycles.Goals as goal
 
 -- plan: each link of a cycle is allowed, so it weighs no less than the least allowed link from its first node; a cycle

@@ -6,8 +6,8 @@ use Rattle.std.proofs.Math.ListN.{set, length-set}
 use Rattle.std.proofs.lemmas.Bool.{cases_eq}
 use Rattle.std.proofs.lemmas.Int.{to_z-of_z}
 use Rattle.std.proofs.lemmas.List.{get_or_default}
-use Rattle.tsp_cases.specs.Listed.{all_grown}
-use Rattle.tsp_cases.proofs.Grown.{grown_left, sum_held, more_sized}
+use Rattle.tsp_cases.specs.ListedCases.{all_grown}
+use Rattle.tsp_cases.proofs.TreeBranches.{grown_left, sum_held, more_sized}
 use Rattle.tsp_cases.proofs.pass.add_differences.Goals as goal
 
 -- plan: one difference more is added to its number (`grown_left`), which stays small enough for 128 bits (`more_sized`)

@@ -1,8 +1,8 @@
 -- The loop of `add_differences` in src/pass.rt, which adds the differences of a leaf to its numbers.
 use Rattle.std.proofs.Common.{◌≡◌, ◌<◌, ℕ, ℤ, drop, length, get_or}
 use Rattle.tsp_format.specs.Nodes.{IsNode}
-use Rattle.tsp_cases.specs.Listed.{all_grown}
-use Rattle.tsp_cases.proofs.Grown.{AreSized}
+use Rattle.tsp_cases.specs.ListedCases.{all_grown}
+use Rattle.tsp_cases.proofs.TreeBranches.{AreSized}
 use Rattle.tsp_cases.proofs.pass.add_differences.Given as goal
 
 -- each difference before this one is for a number that exists. Adding those left to the numbers now gives the same as

@@ -12,15 +12,12 @@ use Rattle.tsp_format.specs.declared.steps.TreeStep.TheVariants as code
 use Rattle.tsp_format.specs.Steps as listed
 use Rattle.tsp_format.specs.states.TreeSteps.{steps_of}
 use Rattle.tsp_cases.specs.Cases.{LeafNumbers}
-use Rattle.tsp_cases.specs.Listed.{no_numbers_of}
+use Rattle.tsp_cases.specs.ListedCases.{no_numbers_of}
 use Rattle.tsp_cases.specs.declared.open_case.Decision.{Decision}
-use Rattle.tsp_cases.specs.states.Decided.{IsDecision, IsNextStack, stack_of}
-use Rattle.tsp_cases.specs.states.OpenCases.{IsOpenCase, decisions_in}
-use Rattle.tsp_cases.specs.states.Rooms.{AreSmall}
+use Rattle.tsp_cases.specs.states.OpenCases.{IsDecision, IsNextStack, stack_of, IsOpenCase, decisions_in}
+use Rattle.tsp_cases.specs.states.Kept.{AreSmall}
 use Rattle.tsp_cases.specs.JudgedLeaves.{IsJudgedLeaf}
-use Rattle.tsp_cases.proofs.Passes.{IsAtStep, IsPassing, at_start, at_branch}
-use Rattle.tsp_cases.proofs.LeafPasses.{few_decided, whole_trees, at_next, all_passed, bad_here, after_found, small_found, fits_here, low_sized}
-use Rattle.tsp_cases.proofs.ListPlaces.{own_step, written}
+use Rattle.tsp_cases.proofs.Passes.{IsAtStep, IsPassing, at_start, at_branch, few_decided, whole_trees, at_next, all_passed, bad_here, after_found, small_found, fits_here, low_sized, own_step, written}
 use Rattle.tsp_cases.proofs.OpenCases.{one_above}
 use Rattle.tsp_cases.proofs.pass.judge_leaves.Goals as goal
 use Rattle.tsp_cases.proofs.pass.judge_leaves.Goals.{in-Branch+in_ok-take-in-Branch, in-Leaf+in_ok-judged-in-Leaf+in-Found+in_ok-next-in-Leaf}

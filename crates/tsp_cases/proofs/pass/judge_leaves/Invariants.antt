@@ -2,9 +2,9 @@
 use Rattle.std.proofs.Common.{◌≡◌, ◌≤◌, ◌+◌, ℕ, length, drop}
 use Rattle.std.specs.Prelude.{IfSome}
 use Rattle.tsp_format.specs.states.TreeSteps.{steps_of}
-use Rattle.tsp_theory.specs.CertificateNumbers.{IsBoundSized}
+use Rattle.tsp_theory.specs.Bounds.{IsBoundSized}
 use Rattle.tsp_cases.specs.states.OpenCases.{IsOpenCase, decisions_in}
-use Rattle.tsp_cases.specs.states.Rooms.{AreSmall}
+use Rattle.tsp_cases.specs.states.Kept.{AreSmall}
 use Rattle.tsp_cases.proofs.Passes.{IsPassing}
 use Rattle.tsp_cases.proofs.pass.judge_leaves.Given as goal
 

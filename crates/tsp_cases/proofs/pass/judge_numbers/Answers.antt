@@ -2,7 +2,7 @@
 -- them: what it ensures.
 use Rattle.std.proofs.Common.{false, refl, length, take, drop, ℤ, List}
 use Rattle.std.proofs.lemmas.Bool.{both_ways}
-use Rattle.tsp_cases.proofs.CaseWeights.{small_multipliers}
+use Rattle.tsp_cases.proofs.SetSums.{small_multipliers}
 use Rattle.tsp_cases.proofs.pass.judge_numbers.Goals as goal
 
 -- plan: potentials and multipliers are within their limits, and the multipliers of a family times its most crossings

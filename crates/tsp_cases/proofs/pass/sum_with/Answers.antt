@@ -6,8 +6,8 @@ use Rattle.std.specs.Int.{w64, w128}
 use Rattle.std.proofs.Math.IntN.{+ℤ_assoc}
 use Rattle.std.proofs.lemmas.Int.{to_z-of_z}
 use Rattle.tsp_cases.specs.declared.family.Crossings.{Crossings}
-use Rattle.tsp_cases.specs.FamiliesOfSets.{most_or_least, sum_with}
-use Rattle.tsp_cases.proofs.FamilySums.{sum_left, number_small, AddsFamily, adds_family}
+use Rattle.tsp_cases.specs.Families.{most_or_least, sum_with}
+use Rattle.tsp_cases.proofs.FamilyCrossings.{sum_left, number_small, AddsFamily, adds_family}
 use Rattle.tsp_cases.proofs.pass.sum_with.Goals as goal
 
 -- the crossings of the next family

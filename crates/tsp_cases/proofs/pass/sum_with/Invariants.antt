@@ -1,8 +1,8 @@
 -- The loop of `sum_with` in src/pass.rt, which sums the crossings of families times their multipliers.
 use Rattle.std.proofs.Common.{◌≡◌, ◌*◌, ◌^◌, drop}
 use Rattle.std.specs.Prelude.{pos, ◌+ℤ◌}
-use Rattle.tsp_format.specs.Ranges.{IsFromTo}
-use Rattle.tsp_cases.specs.FamiliesOfSets.{sum_with}
+use Rattle.tsp_format.specs.Steps.{IsFromTo}
+use Rattle.tsp_cases.specs.Families.{sum_with}
 use Rattle.tsp_cases.proofs.pass.sum_with.Given as goal
 
 -- the sum so far plus the products left is the whole sum, with at most 2^94 for each product so far

@@ -5,15 +5,11 @@ use Rattle.std.specs.Int.{w64}
 use Rattle.std.specs.Prelude.{pos, ◌*ℤ◌}
 use Rattle.std.proofs.lemmas.Int.{ints}
 use Rattle.std.proofs.lemmas.List.{drop_all}
-use Rattle.tsp_theory.specs.states.Nearest.{least_at}
+use Rattle.tsp_theory.specs.states.Nearest.{least_at, IsMoved}
 use Rattle.tsp_cases.specs.declared.sets.SetPlace.{SetPlace}
-use Rattle.tsp_theory.specs.states.Additions.{IsMoved}
-use Rattle.tsp_cases.specs.states.Sets.{added}
-use Rattle.tsp_cases.specs.states.Places.{place_at}
-use Rattle.tsp_cases.specs.states.Lent.{lent_in}
-use Rattle.tsp_cases.specs.states.Combed.{twice_in, inside_both}
-use Rattle.tsp_theory.proofs.Additions.{moved_on}
-use Rattle.tsp_cases.proofs.CombedRows.{inside_left}
+use Rattle.tsp_cases.specs.states.Sets.{added, place_at, lent_in, twice_in, inside_both}
+use Rattle.tsp_theory.proofs.Sums.{moved_on}
+use Rattle.tsp_cases.proofs.SetSums.{inside_left}
 use Rattle.tsp_cases.proofs.sets.add_sets.Goals as goal
 
 -- plan: one set more that has the node adds twice its multiplier to the entries of its nodes (`inside_left`)

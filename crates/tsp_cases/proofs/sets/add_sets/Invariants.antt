@@ -1,9 +1,7 @@
 -- The loop of `add_sets` in src/sets.rt, which adds the multipliers of a node's sets to its row.
 use Rattle.std.proofs.Common.{ℕ, ℤ, drop}
-use Rattle.tsp_theory.specs.states.Nearest.{least_at}
-use Rattle.tsp_theory.specs.states.Additions.{IsMoved}
-use Rattle.tsp_cases.specs.states.Lent.{lent_in}
-use Rattle.tsp_cases.specs.states.Combed.{inside_both}
+use Rattle.tsp_theory.specs.states.Nearest.{least_at, IsMoved}
+use Rattle.tsp_cases.specs.states.Sets.{lent_in, inside_both}
 use Rattle.tsp_cases.proofs.sets.add_sets.Given as goal
 
 -- adding the sets at the places left to the row now gives the same as adding all to the row at the call

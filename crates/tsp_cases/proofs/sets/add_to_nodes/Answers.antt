@@ -4,12 +4,10 @@ use Rattle.std.specs.Int.{w64}
 use Rattle.std.specs.Prelude.{pos}
 use Rattle.std.proofs.lemmas.Int.{to_z-of_z}
 use Rattle.std.proofs.lemmas.List.{drop_all}
-use Rattle.tsp_theory.specs.states.Nearest.{least_at}
-use Rattle.tsp_theory.specs.states.Additions.{IsMoved}
+use Rattle.tsp_theory.specs.states.Nearest.{least_at, IsMoved}
 use Rattle.tsp_cases.specs.states.Sets.{added}
-use Rattle.tsp_theory.proofs.Additions.{moved_on, node_moved}
-use Rattle.tsp_cases.proofs.SetSums.{added_left}
-use Rattle.tsp_cases.proofs.CombedRows.{added_none}
+use Rattle.tsp_theory.proofs.Sums.{moved_on, node_moved}
+use Rattle.tsp_cases.proofs.SetSums.{added_left, added_none}
 use Rattle.tsp_cases.proofs.sets.add_to_nodes.Goals as goal
 
 -- plan: the number is added at one node more (`node_moved`), unless it is 0 and changes nothing (`added_none`)

@@ -5,13 +5,12 @@ use Rattle.std.specs.Int.{w64}
 use Rattle.std.specs.Global.{Vec}
 use Rattle.std.proofs.lemmas.Int.{to_z-of_z}
 use Rattle.std.proofs.lemmas.List.{drop_all}
-use Rattle.tsp_theory.specs.Length.{sum_int_by}
-use Rattle.tsp_theory.specs.states.Nearest.{least_at}
-use Rattle.tsp_cases.specs.FamilySets.{lists_of}
-use Rattle.tsp_theory.specs.states.Additions.{IsMoved}
+use Rattle.tsp_theory.specs.Tour.{sum_int_by}
+use Rattle.tsp_theory.specs.states.Nearest.{least_at, IsMoved}
+use Rattle.tsp_cases.specs.Crossings.{lists_of}
 use Rattle.tsp_cases.specs.states.Sets.{added}
-use Rattle.tsp_theory.proofs.Additions.{moved_on}
-use Rattle.tsp_cases.proofs.MovedSums.{sets_left}
+use Rattle.tsp_theory.proofs.Sums.{moved_on}
+use Rattle.tsp_cases.proofs.SetSums.{sets_left}
 use Rattle.tsp_cases.proofs.sets.add_to_sets.Goals as goal
 
 pub sets-preserved : goal.sets-preserved

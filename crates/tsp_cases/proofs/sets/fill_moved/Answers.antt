@@ -7,7 +7,7 @@ use Rattle.std.proofs.Math.ListN.{set, length-set}
 use Rattle.std.proofs.lemmas.Bool.{cases_eq}
 use Rattle.std.proofs.lemmas.Int.{to_z-of_z}
 use Rattle.std.proofs.lemmas.List.{get_or-set_same, get_or-set_other}
-use Rattle.tsp_theory.specs.CertificateNumbers.{entry}
+use Rattle.tsp_theory.specs.Bounds.{entry}
 use Rattle.tsp_theory.specs.states.Nearest.{least_at}
 use Rattle.tsp_cases.proofs.sets.fill_moved.Goals as goal
 

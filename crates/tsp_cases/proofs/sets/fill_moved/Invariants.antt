@@ -2,7 +2,7 @@
 use Rattle.std.proofs.Common.{◌≡◌, ◌≤◌, ◌+◌, ℕ, length}
 use Rattle.std.specs.Int.{w64, int_wrap}
 use Rattle.std.specs.Prelude.{◌+ℤ◌}
-use Rattle.tsp_theory.specs.CertificateNumbers.{entry}
+use Rattle.tsp_theory.specs.Bounds.{entry}
 use Rattle.tsp_theory.specs.states.Nearest.{least_at}
 use Rattle.tsp_cases.proofs.sets.fill_moved.Given as goal
 

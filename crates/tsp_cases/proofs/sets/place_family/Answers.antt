@@ -3,9 +3,8 @@
 use Rattle.std.proofs.Common.{◌≤◌, ◌<◌, ◌++◌, ℕ, List, length, get_or, ap, sym, ◌∙◌, arith}
 use Rattle.std.specs.Global.{Vec}
 use Rattle.std.proofs.lemmas.List.{drop_all, append-nil}
-use Rattle.tsp_cases.specs.FamilySets.{lists_of}
-use Rattle.tsp_cases.specs.states.Places.{place_at}
-use Rattle.tsp_cases.specs.states.Sets.{times, places_in}
+use Rattle.tsp_cases.specs.Crossings.{lists_of}
+use Rattle.tsp_cases.specs.states.Sets.{place_at, times, places_in}
 use Rattle.tsp_cases.proofs.SetSums.{set_listed}
 use Rattle.tsp_cases.proofs.sets.place_family.Goals as goal
 

@@ -6,9 +6,9 @@ use Rattle.std.proofs.lemmas.Bool.{cases_eq}
 use Rattle.std.proofs.lemmas.List.{get_or-set_same, get_or-set_other}
 use Rattle.std.proofs.Math.ListN.{set}
 use Rattle.tsp_format.specs.Limits.{most_weight}
-use Rattle.tsp_format.specs.Ranges.{IsFromTo}
+use Rattle.tsp_format.specs.Steps.{IsFromTo}
 use Rattle.tsp_theory.specs.states.Nearest.{least_at}
-use Rattle.tsp_theory.proofs.Sizes.{product_is, same_scale}
+use Rattle.tsp_theory.proofs.Sums.{product_is, same_scale}
 use Rattle.tsp_cases.proofs.sets.scale_row.Goals as goal
 
 -- plan: one entry more is multiplied by the scale, which fits 64 bits (`product_is`)

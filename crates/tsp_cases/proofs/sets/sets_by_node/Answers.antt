@@ -3,7 +3,7 @@
 use Rattle.std.proofs.Common.{◌≤◌, ◌<◌, ◌++◌, ℕ, List, length, get_or, ap, sym, ◌∙◌, arith}
 use Rattle.std.specs.Global.{Vec}
 use Rattle.std.proofs.lemmas.List.{drop_all, append-nil}
-use Rattle.tsp_cases.specs.FamilySets.{lists_of, families_in}
+use Rattle.tsp_cases.specs.Crossings.{lists_of, families_in}
 use Rattle.tsp_cases.specs.states.Sets.{places_in, places_with}
 use Rattle.tsp_cases.proofs.SetSums.{family_listed}
 use Rattle.tsp_cases.proofs.sets.sets_by_node.Goals as goal

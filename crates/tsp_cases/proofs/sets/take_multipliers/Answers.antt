@@ -6,14 +6,12 @@ use Rattle.std.specs.Global.{Vec}
 use Rattle.std.specs.Prelude.{pos, neg_ℤ, ◌+ℤ◌, ◌-ℤ◌}
 use Rattle.std.proofs.lemmas.Int.{ints}
 use Rattle.std.proofs.lemmas.List.{drop_all}
-use Rattle.tsp_theory.specs.Length.{sum_int_by}
-use Rattle.tsp_theory.specs.states.Nearest.{least_at}
-use Rattle.tsp_cases.specs.FamilySets.{lists_of, families_in}
-use Rattle.tsp_theory.specs.states.Additions.{IsMoved}
-use Rattle.tsp_cases.specs.states.Sets.{added}
-use Rattle.tsp_cases.specs.states.Combed.{summed_from}
-use Rattle.tsp_theory.proofs.Additions.{moved_on}
-use Rattle.tsp_cases.proofs.MovedSums.{all_less, multipliers_left}
+use Rattle.tsp_theory.specs.Tour.{sum_int_by}
+use Rattle.tsp_theory.specs.states.Nearest.{least_at, IsMoved}
+use Rattle.tsp_cases.specs.Crossings.{lists_of, families_in}
+use Rattle.tsp_cases.specs.states.Sets.{added, summed_from}
+use Rattle.tsp_theory.proofs.Sums.{moved_on}
+use Rattle.tsp_cases.proofs.SetSums.{all_less, multipliers_left}
 use Rattle.tsp_cases.proofs.sets.take_multipliers.Goals as goal
 
 -- plan: the multiplier of one family more is taken off the ends of the nodes of its sets (`multipliers_left`)

@@ -5,7 +5,7 @@ use Rattle.tsp_format.specs.declared.steps.TreeStep.{TreeStep}
 use Rattle.tsp_format.specs.declared.steps.TreeStep.TheVariants as code
 use Rattle.tsp_format.specs.Steps as listed
 use Rattle.tsp_format.specs.states.TreeSteps.{steps_of}
-use Rattle.tsp_cases.proofs.BranchesWithin.{within_next, within_at_branch, within_at_leaf, within_at_end}
+use Rattle.tsp_cases.proofs.TreeBranches.{within_next, within_at_branch, within_at_leaf, within_at_end}
 use Rattle.tsp_cases.proofs.tree.first_bad_branch.Goals as goal
 use Rattle.tsp_cases.proofs.tree.first_bad_branch.Goals.{in-Branch+else-first-least+else-most-first, in_default}
 

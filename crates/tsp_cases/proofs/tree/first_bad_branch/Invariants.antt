@@ -2,7 +2,7 @@
 -- limits.
 use Rattle.std.proofs.Common.{◌≤◌, drop}
 use Rattle.tsp_format.specs.states.TreeSteps.{steps_of}
-use Rattle.tsp_cases.proofs.BranchesWithin.{AreWithinSoFar}
+use Rattle.tsp_cases.proofs.TreeBranches.{AreWithinSoFar}
 use Rattle.tsp_cases.proofs.tree.first_bad_branch.Given as goal
 
 -- each branch so far begins with a number from `least` to `most`, and there are `count` of them

@@ -9,10 +9,9 @@ use Rattle.tsp_format.specs.declared.steps.TreeStep.TheVariants as code
 use Rattle.tsp_format.specs.Steps as listed
 use Rattle.tsp_format.specs.states.TreeSteps.{steps_of}
 use Rattle.tsp_cases.specs.declared.open_case.Decision.{Decision}
-use Rattle.tsp_cases.specs.states.Decided.{IsDecision, IsNextStack, stack_of}
-use Rattle.tsp_cases.specs.states.OpenCases.{IsOpenCase}
-use Rattle.tsp_cases.proofs.BranchesOnce.{IsOnceSoFar, once_at_start, once_next, once_pushed, twice_found, once_at_leaf, once_at_last, once_at_end, decided_here}
-use Rattle.tsp_cases.proofs.ListPlaces.{own_step}
+use Rattle.tsp_cases.specs.states.OpenCases.{IsDecision, IsNextStack, stack_of, IsOpenCase}
+use Rattle.tsp_cases.proofs.TreeBranches.{IsOnceSoFar, once_at_start, once_next, once_pushed, twice_found, once_at_leaf, once_at_last, once_at_end, decided_here}
+use Rattle.tsp_cases.proofs.Passes.{own_step}
 use Rattle.tsp_cases.proofs.tree.first_twice.Goals as goal
 use Rattle.tsp_cases.proofs.tree.first_twice.Goals.{in-Branch+else-decides+in_ok-take-in-Branch, in-Leaf+in_ok-next-in-Leaf+else-not-branch}
 

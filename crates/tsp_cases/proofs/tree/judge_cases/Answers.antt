@@ -6,13 +6,11 @@ use Rattle.std.specs.List.{All}
 use Rattle.std.proofs.Math.Logic.{∥∥₁_elim}
 use Rattle.std.proofs.Props.{props}
 use Rattle.tsp_format.specs.states.TreeSteps.{steps_of}
-use Rattle.tsp_theory.specs.CertificateNumbers.{IsScale}
-use Rattle.tsp_theory.proofs.Sizes.{same_scale}
-use Rattle.tsp_cases.specs.Listed.{IsListedStep}
-use Rattle.tsp_cases.specs.BadBranches.{branch_pairs, BeginsWithin, AreBranchesWithin}
-use Rattle.tsp_cases.specs.Twice.{AreBranchesJudged}
-use Rattle.tsp_cases.specs.states.Decided.{IsDecision}
-use Rattle.tsp_cases.proofs.BranchesWithin.{steps_on_nodes}
+use Rattle.tsp_theory.specs.Bounds.{IsScale}
+use Rattle.tsp_theory.proofs.Sums.{same_scale}
+use Rattle.tsp_cases.specs.ListedCases.{IsListedStep, branch_pairs, BeginsWithin, AreBranchesWithin, AreBranchesJudged}
+use Rattle.tsp_cases.specs.states.OpenCases.{IsDecision}
+use Rattle.tsp_cases.proofs.TreeBranches.{steps_on_nodes}
 use Rattle.tsp_cases.proofs.tree.judge_cases.Goals as goal
 
 -- plan: where no branch begins out of the limits, all pairs are of nodes (`steps_on_nodes`). Whether one is decided

@@ -3,7 +3,7 @@ use Rattle.std.proofs.Common.{◌≡◌, ◌∙◌, ap, subst, ℕ, List, [], �
 use Rattle.std.specs.Prelude.{OnOk}
 use Rattle.std.specs.Io.KnownBytes.{Appends}
 use Rattle.std.proofs.lemmas.Fmt.{contents_after_writes}
-use Rattle.tsp_judge.specs.RunFaultText.{run_fault_text}
+use Rattle.tsp_judge.specs.CheckRun.{run_fault_text}
 use Rattle.tsp_cli.proofs.ends.tell_fault.Goals as goal
 
 -- plan: the text fits the buffer, which is written with its end

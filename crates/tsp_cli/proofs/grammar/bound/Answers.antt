@@ -2,7 +2,7 @@
 -- and what it ensures.
 use Rattle.clap.specs.Words.{with_rule}
 use Rattle.tsp_cli.specs.Grammar.{bound_certified, explain, strict}
-use Rattle.tsp_cli.proofs.Commands.{free}
+use Rattle.tsp_cli.proofs.Subcommands.{free}
 use Rattle.tsp_cli.proofs.grammar.bound.Goals as goal
 
 -- plan: the command is built argument by argument, and none of them is global (`free`)

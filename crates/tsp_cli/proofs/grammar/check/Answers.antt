@@ -3,7 +3,7 @@
 use Rattle.std.proofs.Common.{codes}
 use Rattle.clap.specs.Words.{with_rule}
 use Rattle.tsp_cli.specs.Grammar.{check_certified, explain, option, strict}
-use Rattle.tsp_cli.proofs.Commands.{free}
+use Rattle.tsp_cli.proofs.Subcommands.{free}
 use Rattle.tsp_cli.proofs.grammar.check.Goals as goal
 
 -- plan: the command is built argument by argument, and none of them is global (`free`)

@@ -2,7 +2,7 @@
 -- what the calls require, and what it ensures.
 use Rattle.clap.specs.Words.{with_rule}
 use Rattle.tsp_cli.specs.Grammar.{check_files, of_branches, of_potentials}
-use Rattle.tsp_cli.proofs.Commands.{free}
+use Rattle.tsp_cli.proofs.Subcommands.{free}
 use Rattle.tsp_cli.proofs.grammar.check_certified.Goals as goal
 
 -- plan: the command is built argument by argument, and none of them is global (`free`)

@@ -3,7 +3,7 @@
 use Rattle.std.proofs.Common.{codes}
 use Rattle.clap.specs.Words.{new_app, with_rule}
 use Rattle.tsp_cli.specs.Grammar.{path}
-use Rattle.tsp_cli.proofs.Commands.{free}
+use Rattle.tsp_cli.proofs.Subcommands.{free}
 use Rattle.tsp_cli.proofs.grammar.check_files.Goals as goal
 
 pub then-requires-clause-globals : goal.then-requires-clause-globals

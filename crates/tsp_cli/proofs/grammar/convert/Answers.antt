@@ -3,7 +3,7 @@
 use Rattle.std.proofs.Common.{codes}
 use Rattle.clap.specs.Words.{new_app, with_rule}
 use Rattle.tsp_cli.specs.Grammar.{explain, option, path}
-use Rattle.tsp_cli.proofs.Commands.{free}
+use Rattle.tsp_cli.proofs.Subcommands.{free}
 use Rattle.tsp_cli.proofs.grammar.convert.Goals as goal
 
 -- plan: the command is built argument by argument, and none of them is global (`free`)

@@ -2,7 +2,7 @@
 -- require, and what it ensures.
 use Rattle.clap.specs.Words.{App, with_subcommand}
 use Rattle.tsp_cli.specs.Grammar.{bound, check, compare, convert, show, start}
-use Rattle.tsp_cli.proofs.Commands.{free}
+use Rattle.tsp_cli.proofs.Subcommands.{free}
 use Rattle.tsp_cli.proofs.grammar.tsp.Goals as goal
 
 abbrev shown : App

@@ -3,10 +3,8 @@ use Rattle.std.proofs.Common.{◌≡◌, ◌∙◌, sym, ap, subst, List, map, [
 use Rattle.clap.specs.Words.{App, HasKind, Row, Text, fault_of, found_of, is_simple, rows_of, subcommand_of, subcommand_rows_of}
 use Rattle.clap.specs.Faults.{is_simple_and_free}
 use Rattle.clap.specs.declared.parser.matches.ArgMatches.TheViews.{out-ArgMatches}
-use Rattle.tsp_cli.specs.Grammar.{tsp}
-use Rattle.tsp_cli.specs.CommandWords.{IsJobOf, word_of}
-use Rattle.tsp_cli.proofs.Refusals.{refused}
-use Rattle.tsp_cli.proofs.Subcommands.{both, named, verb_found}
+use Rattle.tsp_cli.specs.Grammar.{tsp, IsJobOf, word_of}
+use Rattle.tsp_cli.proofs.Subcommands.{refused, both, named, verb_found}
 use Rattle.tsp_cli.proofs.job.job_of.Goals as goal
 
 -- plan: by the answer of clap: a parse enters the subcommand of a verb (`named`), whose job is returned (`verb_found`);

@@ -1,6 +1,6 @@
 -- The goals of `faults_are_one_line` in src/laws.rt: what it ensures.
-use Rattle.tsp_judge.specs.RunFaultText.{run_fault_text}
-use Rattle.tsp_cli.proofs.OneLines.{line_of_run}
+use Rattle.tsp_judge.specs.CheckRun.{run_fault_text}
+use Rattle.tsp_cli.proofs.Subcommands.{line_of_run}
 use Rattle.tsp_cli.proofs.laws.faults_are_one_line.Goals as goal
 
 -- plan: by the fault: no part of its text has a byte 10, so neither has the text (`line_of_run`)

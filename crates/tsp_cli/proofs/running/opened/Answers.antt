@@ -1,6 +1,6 @@
 -- The goals of `opened` in src/running.rt, which opens the files of a task: what it ensures.
 use Rattle.std.proofs.Common.{rules}
-use Rattle.tsp_cli.specs.ComparisonRun.{IsFresh}
+use Rattle.tsp_cli.specs.ProgramRun.{IsFresh}
 use Rattle.tsp_cli.proofs.Openings.{task_by}
 use Rattle.tsp_cli.proofs.running.opened.Goals as goal
 

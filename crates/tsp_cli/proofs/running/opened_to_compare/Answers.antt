@@ -1,7 +1,7 @@
 -- The goals of `opened_to_compare` in src/running.rt, which opens the files of a comparison but the solutions:
 -- what it ensures.
 use Rattle.std.proofs.Common.{rules}
-use Rattle.tsp_cli.specs.ComparisonRun.{IsFresh}
+use Rattle.tsp_cli.specs.ProgramRun.{IsFresh}
 use Rattle.tsp_cli.proofs.Openings.{comparison_by}
 use Rattle.tsp_cli.proofs.running.opened_to_compare.Goals as goal
 

@@ -1,7 +1,7 @@
 -- The goals of `print_version` in src/running.rt, which prints the version: what it ensures.
 use Rattle.std.proofs.Common.{◌∙◌, subst, inl}
 use Rattle.tsp_io.specs.states.Watched.{sink_of}
-use Rattle.tsp_io.specs.Sink.{Writes}
+use Rattle.tsp_io.specs.Streams.{Writes}
 use Rattle.tsp_cli.proofs.running.print_version.Goals as goal
 
 pub returns-in-Ok : goal.returns-in-Ok

@@ -4,8 +4,8 @@ use Rattle.std.proofs.KnownBytes.{Keeps-refl}
 use Rattle.std.specs.declared.io.Error.{Error}
 use Rattle.clap.specs.Words.{Text}
 use Rattle.clap.specs.declared.error.Error.{Error as Refusal}
-use Rattle.tsp_io.specs.Sink.{Sink}
-use Rattle.tsp_cli.specs.CommandWords.{GivesJob}
+use Rattle.tsp_io.specs.Streams.{Sink}
+use Rattle.tsp_cli.specs.Grammar.{GivesJob}
 use Rattle.tsp_cli.specs.declared.job.InputPath.{InputPath}
 use Rattle.tsp_cli.specs.declared.job.Job.{Job}
 use Rattle.tsp_cli.specs.declared.job.JobFault.TheVariants.{OutOfMemory, Refused}

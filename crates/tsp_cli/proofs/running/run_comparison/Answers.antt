@@ -1,6 +1,6 @@
 -- The goals of `run_comparison` in src/running.rt, which runs a comparison and returns how it ended: what it ensures.
 use Rattle.std.proofs.Common.{Result, Ok, Err, OnOk}
-use Rattle.tsp_cli.proofs.Tellings.{tells_compared, tells_more}
+use Rattle.tsp_cli.proofs.Openings.{tells_compared, tells_more}
 use Rattle.tsp_cli.proofs.running.run_comparison.Goals as goal
 
 on_ok : {A B : Type 0} (r : Result A B) (P Q : Type 0) → (P → Q) → OnOk r P → OnOk r Q

@@ -1,8 +1,8 @@
 -- The goals of `examples_of_tours` in src/examples.rt: what it ensures.
 use Rattle.std.proofs.Common.{◌≡◌, ℕ, zero, suc, ◌<◌, inl, inr, arith, ap}
 use Rattle.std.specs.Prelude.{slice_index_or}
-use Rattle.tsp_theory.specs.Cycle.{links, Follows, AreNeighbours}
-use Rattle.tsp_theory.specs.CycleExamples.{three, four}
+use Rattle.tsp_theory.specs.Tour.{links, Follows, AreNeighbours}
+use Rattle.tsp_theory.specs.Examples.{three, four}
 use Rattle.tsp_cost.proofs.examples.examples_of_tours.Goals as goal
 
 -- no link of 1 2 3 goes from 2 to 1, and none of 1 2 3 4 from 1 to 3 or back

@@ -1,9 +1,8 @@
 -- The goals of `examples_of_sections` in src/examples.rt: what it ensures.
 use Rattle.std.proofs.Common.{rules, refl}
 use Rattle.std.specs.Fmt.{digits}
-use Rattle.tsp_number.specs.Spelling.{decimals}
-use Rattle.tsp_format.specs.Nodes.{nodes_to}
-use Rattle.tsp_format.specs.Cells.{cells_of_line}
+use Rattle.tsp_number.specs.NumberWord.{decimals}
+use Rattle.tsp_format.specs.Nodes.{nodes_to, cells_of_line}
 use Rattle.tsp_file.proofs.examples.examples_of_sections.Goals as goal
 
 -- plan: the text of each small file is computed

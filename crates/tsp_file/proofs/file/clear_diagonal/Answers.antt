@@ -4,7 +4,7 @@ use Rattle.std.proofs.lemmas.Bool.{false≢true}
 use Rattle.std.proofs.lemmas.List.{length-set}
 use Rattle.tsp_format.specs.Nodes.{IsNode}
 use Rattle.tsp_format.specs.declared.layout.Layout.TheVariants.{FullMatrix}
-use Rattle.tsp_format.proofs.Counts.{cells_counted}
+use Rattle.tsp_format.proofs.Pairs.{cells_counted}
 use Rattle.tsp_file.specs.Cost.{listed_cost}
 use Rattle.tsp_file.proofs.Relaid.{triangle_holds}
 use Rattle.tsp_file.proofs.Spread.{side_filled, zero_diagonal, diagonal_more}

@@ -1,8 +1,8 @@
 -- The loop of `fill_band` in src/file.rt, which fills the cells of a band across the diagonal.
 use Rattle.std.proofs.Common.{◌≡◌, ◌+◌, ◌<◌, ◌≤◌, ◌*◌, ℕ, length}
 use Rattle.std.specs.Prelude.{ℤ}
-use Rattle.tsp_format.specs.Symmetry.{IsSymmetric}
-use Rattle.tsp_file.specs.states.Whole.{HasSide, Fills}
+use Rattle.tsp_format.specs.Words.{IsSymmetric}
+use Rattle.tsp_file.specs.states.Drafts.{HasSide, Fills}
 use Rattle.tsp_file.proofs.file.fill_band.Given as goal
 
 -- each cell of this band in a row before this one has its cost, and so has each that had it

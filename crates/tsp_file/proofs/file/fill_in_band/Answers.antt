@@ -5,7 +5,7 @@ use Rattle.std.proofs.lemmas.Int.{to_z-of_z}
 use Rattle.std.proofs.lemmas.List.{length-set, get_or_default}
 use Rattle.tsp_format.specs.Nodes.{IsNode}
 use Rattle.tsp_format.specs.declared.layout.Layout.TheVariants.{FullMatrix}
-use Rattle.tsp_format.proofs.Counts.{cells_counted}
+use Rattle.tsp_format.proofs.Pairs.{cells_counted}
 use Rattle.tsp_file.proofs.Spread.{column_more}
 use Rattle.tsp_file.proofs.file.fill_in_band.Goals as goal
 

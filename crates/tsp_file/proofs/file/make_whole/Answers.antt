@@ -2,11 +2,11 @@
 use Rattle.std.proofs.Common.{◌≡◌, ◌*◌, ◌≤◌, length, take, ap, sym, subst, ◌∙◌, arith}
 use Rattle.std.proofs.Math.Seq.{take-append_seam}
 use Rattle.std.proofs.lemmas.List.{take_all}
-use Rattle.tsp_format.proofs.Counts.{cells_counted}
+use Rattle.tsp_format.proofs.Pairs.{cells_counted}
 use Rattle.tsp_file.specs.Cost.{listed_cost}
-use Rattle.tsp_file.specs.states.Whole.{HasSide}
+use Rattle.tsp_file.specs.states.Drafts.{HasSide}
 use Rattle.tsp_file.proofs.Relaid.{triangle_holds}
-use Rattle.tsp_file.proofs.WithWeights.{few_cells}
+use Rattle.tsp_file.proofs.FileFields.{few_cells}
 use Rattle.tsp_file.proofs.Spread.{whole_is}
 use Rattle.tsp_file.proofs.file.make_whole.Goals as goal
 

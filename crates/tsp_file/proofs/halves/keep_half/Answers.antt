@@ -1,7 +1,7 @@
 -- The goals of `keep_half` in src/halves.rt, which copies half of a full matrix to its beginning: its loop, what its
 -- calls require and what it ensures.
 use Rattle.std.proofs.Common.{◌+◌, sym, ap, ◌∙◌, arith}
-use Rattle.tsp_file.proofs.Fronts.{line_kept, all_kept, row_within}
+use Rattle.tsp_file.proofs.FileFields.{line_kept, all_kept, row_within}
 use Rattle.tsp_file.proofs.halves.keep_half.Goals as goal
 
 -- plan: one line more is copied to the beginning (`line_kept`), where nothing is lost, since a row is no shorter. All

@@ -1,5 +1,5 @@
 -- The goals of `costs_are_by_inequalities` in src/laws.rt: what it ensures.
-use Rattle.tsp_file.proofs.Distances.{DistanceLaws, cost_defined, cost_unique}
+use Rattle.tsp_file.proofs.TextLengths.{DistanceLaws, cost_defined, cost_unique}
 use Rattle.tsp_file.proofs.laws.costs_are_by_inequalities.Goals as goal
 
 -- plan: the cost has the inequalities of its distance (`cost_defined`), and no other number does (`cost_unique`)

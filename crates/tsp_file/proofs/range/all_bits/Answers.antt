@@ -5,7 +5,7 @@ use Rattle.std.proofs.lemmas.Nat.{le_or_l, le_or_r}
 use Rattle.std.proofs.lemmas.List.{take_all}
 use Rattle.std.proofs.lemmas.List.Elements.{All-more, All-weaker}
 use Rattle.std.specs.List.{All}
-use Rattle.tsp_file.proofs.Ranges.{own_bits}
+use Rattle.tsp_file.proofs.ValidFields.{own_bits}
 use Rattle.tsp_file.proofs.range.all_bits.Goals as goal
 
 -- plan: one number more has only these bits, and a number without the highest bit is its bits (`own_bits`)

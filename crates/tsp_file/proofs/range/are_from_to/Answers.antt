@@ -1,6 +1,6 @@
 -- The goals of `are_from_to` in src/range.rt, which says whether every number is in a range: what it ensures.
 use Rattle.std.proofs.Common.{sym, rules}
-use Rattle.tsp_file.proofs.Ranges.{all_from_to}
+use Rattle.tsp_file.proofs.ValidFields.{all_from_to}
 use Rattle.tsp_file.proofs.range.are_from_to.Goals as goal
 
 -- plan: where the bits of all numbers are within the limit and none is negative, each number is in the range

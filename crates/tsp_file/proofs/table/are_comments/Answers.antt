@@ -6,7 +6,7 @@ use Rattle.tsp_format.specs.declared.keyword.Field.TheVariants.{CommentKey}
 use Rattle.tsp_format.specs.Words.{field_word}
 use Rattle.tsp_format.specs.Limits.{most_comments}
 use Rattle.tsp_file.specs.Validity.{is_kept}
-use Rattle.tsp_file.proofs.Mapped.{mapped_all}
+use Rattle.tsp_file.proofs.ValidFields.{mapped_all}
 use Rattle.tsp_file.proofs.table.are_comments.Goals as goal
 
 -- plan: a value fits if its bytes do, so the test of the values is that of the list of their bytes (`mapped_all`)

@@ -4,7 +4,7 @@ use Rattle.std.proofs.Common.{ℕ, ◌∙◌}
 use Rattle.std.specs.Global.{Vec}
 use Rattle.tsp_format.specs.Limits.{most_others}
 use Rattle.tsp_file.specs.Validity.{is_other}
-use Rattle.tsp_file.proofs.Mapped.{mapped_all}
+use Rattle.tsp_file.proofs.ValidFields.{mapped_all}
 use Rattle.tsp_file.proofs.table.are_others.Goals as goal
 
 -- plan: a line of an unknown keyword fits if its bytes do. So the test of the lines is that of the list of their bytes

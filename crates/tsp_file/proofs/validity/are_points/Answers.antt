@@ -2,9 +2,9 @@
 use Rattle.std.proofs.Common.{◌≡◌, map, sym, ap, ◌∙◌}
 use Rattle.std.specs.List.{list_all}
 use Rattle.std.proofs.lemmas.List.Folds.{list_all-map}
-use Rattle.tsp_distance.specs.declared.decimal.PlanePoint.{PlanePoint}
-use Rattle.tsp_distance.specs.declared.decimal.Point.{Point}
-use Rattle.tsp_distance.specs.Distances.{on_plane}
+use Rattle.tsp_number.specs.declared.decimal.PlanePoint.{PlanePoint}
+use Rattle.tsp_number.specs.declared.decimal.Point.{Point}
+use Rattle.tsp_number.specs.Distances.{on_plane}
 use Rattle.tsp_file.specs.states.Drafts.{points_of}
 use Rattle.tsp_file.specs.Validity.{is_point}
 use Rattle.tsp_file.proofs.validity.are_points.Goals as goal

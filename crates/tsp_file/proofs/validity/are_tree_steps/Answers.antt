@@ -4,7 +4,7 @@ use Rattle.std.specs.Prelude.{nat_le, ◌&&◌}
 use Rattle.tsp_format.specs.Limits.{most_branches, most_changes}
 use Rattle.tsp_format.specs.states.TreeSteps.{steps_of}
 use Rattle.tsp_format.specs.Steps.{are_whole, branch_count, change_count}
-use Rattle.tsp_file.proofs.Mapped.{judged_steps}
+use Rattle.tsp_file.proofs.ValidFields.{judged_steps}
 use Rattle.tsp_file.proofs.validity.are_tree_steps.Goals as goal
 use Rattle.tsp_file.proofs.validity.are_tree_steps.Goals.{then-is_each_step, else-is_each_step}
 

@@ -1,6 +1,6 @@
 -- The goals of `is_whole_tree` in src/validity.rt, which tests whether steps are one whole tree of cases: its loop.
 use Rattle.std.proofs.Common.{◌≡◌, ◌+◌, ◌-◌, ℕ, sym, ◌∙◌, arith}
-use Rattle.tsp_file.proofs.Trees.{after_branch, after_leaf}
+use Rattle.tsp_file.proofs.ValidFields.{after_branch, after_leaf}
 use Rattle.tsp_file.proofs.validity.is_whole_tree.Goals as goal
 use Rattle.tsp_file.proofs.validity.is_whole_tree.Goals.{in-Branch, in-Leaf}
 

@@ -2,7 +2,7 @@
 -- ensures.
 use Rattle.std.proofs.Common.{[], ◌++◌, rules}
 use Rattle.std.specs.Fmt.{decimal, signed_decimal}
-use Rattle.tsp_io.specs.states.WriteProgress.{way_of}
+use Rattle.tsp_io.specs.states.Watched.{way_of}
 use Rattle.tsp_io.proofs.Carrying.{carried_none, carried_then}
 use Rattle.tsp_file.specs.CanonicalText.{before_blank}
 use Rattle.std.specs.Int.{w64}

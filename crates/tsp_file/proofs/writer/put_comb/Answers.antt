@@ -3,7 +3,7 @@ use Rattle.std.proofs.Common.{map, arith}
 use Rattle.std.specs.Prelude.{codes}
 use Rattle.std.specs.List.{flat_map}
 use Rattle.tsp_file.specs.CanonicalText.{set_line}
-use Rattle.tsp_io.specs.states.WriteProgress.{way_of}
+use Rattle.tsp_io.specs.states.Watched.{way_of}
 use Rattle.tsp_io.proofs.Carrying.{carried_then, carried_mapped, carried_none, carried_next}
 use Rattle.tsp_file.proofs.writer.put_comb.Goals as goal
 

@@ -3,7 +3,7 @@ use Rattle.std.proofs.Common.{take}
 use Rattle.std.specs.List.{flat_map}
 use Rattle.tsp_format.specs.declared.keyword.Field.TheVariants.{CommentKey}
 use Rattle.tsp_file.specs.CanonicalText.{keyword_line}
-use Rattle.tsp_io.specs.states.WriteProgress.{way_of, Carried}
+use Rattle.tsp_io.specs.states.Watched.{way_of, Carried}
 use Rattle.tsp_file.proofs.writer.put_comments.Given as goal
 
 -- the bytes added so far are the lines of the comments before this one

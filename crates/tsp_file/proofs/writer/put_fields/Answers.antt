@@ -3,7 +3,7 @@
 use Rattle.std.proofs.Common.{arith}
 use Rattle.tsp_file.specs.states.Drafts.{fields_of}
 use Rattle.tsp_file.specs.CanonicalText.{text_of_field}
-use Rattle.tsp_io.specs.states.WriteProgress.{way_of}
+use Rattle.tsp_io.specs.states.Watched.{way_of}
 use Rattle.tsp_io.proofs.Carrying.{carried_all, carried_none, carried_next_or}
 use Rattle.tsp_file.proofs.writer.put_fields.Goals as goal
 

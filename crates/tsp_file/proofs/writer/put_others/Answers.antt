@@ -2,7 +2,7 @@
 -- ensures.
 use Rattle.std.proofs.Common.{arith}
 use Rattle.tsp_file.specs.CanonicalText.{other_line, value_line}
-use Rattle.tsp_io.specs.states.WriteProgress.{way_of}
+use Rattle.tsp_io.specs.states.Watched.{way_of}
 use Rattle.tsp_io.proofs.Carrying.{carried_mapped, carried_none, carried_next}
 use Rattle.tsp_file.proofs.writer.put_others.Goals as goal
 

@@ -4,7 +4,7 @@ use Rattle.std.specs.Prelude.{codes}
 use Rattle.std.specs.List.{flat_map}
 use Rattle.std.specs.Fmt.{decimal}
 use Rattle.tsp_file.specs.CanonicalText.{before_blank}
-use Rattle.tsp_io.specs.states.WriteProgress.{way_of}
+use Rattle.tsp_io.specs.states.Watched.{way_of}
 use Rattle.tsp_io.proofs.Carrying.{carried_then, carried_mapped, carried_none, carried_next_or}
 use Rattle.tsp_file.proofs.writer.put_set.Goals as goal
 

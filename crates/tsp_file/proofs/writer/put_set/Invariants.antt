@@ -3,7 +3,7 @@ use Rattle.std.proofs.Common.{take}
 use Rattle.std.specs.List.{flat_map}
 use Rattle.std.specs.Fmt.{decimal}
 use Rattle.tsp_file.specs.CanonicalText.{before_blank}
-use Rattle.tsp_io.specs.states.WriteProgress.{way_of, Carried}
+use Rattle.tsp_io.specs.states.Watched.{way_of, Carried}
 use Rattle.tsp_file.proofs.writer.put_set.Given as goal
 
 -- the bytes added so far are the nodes before this one, each before a blank

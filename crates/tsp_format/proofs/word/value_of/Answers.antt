@@ -1,5 +1,5 @@
 -- The goals of `value_of` in src/word.rt, which finds the value of a word: what it ensures.
-use Rattle.tsp_format.proofs.FoundWords.{found_is_known, none_is_unknown}
+use Rattle.tsp_format.proofs.Pairs.{found_is_known, none_is_unknown}
 use Rattle.tsp_format.proofs.word.value_of.Goals as goal
 
 -- plan: the search finds the value with the word (`found_is_known`), or no value has it (`none_is_unknown`)

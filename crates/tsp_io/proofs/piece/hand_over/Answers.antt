@@ -1,6 +1,6 @@
 -- The goals of `hand_over` in src/piece.rt, which sends the piece and begins another: what it ensures.
 use Rattle.std.proofs.Common.{[], ◌∙◌, sym, append-nil}
-use Rattle.tsp_io.specs.states.WriteProgress.{way_of}
+use Rattle.tsp_io.specs.states.Watched.{way_of}
 use Rattle.tsp_io.proofs.Carrying.{carried_sent}
 use Rattle.tsp_io.proofs.piece.hand_over.Goals as goal
 

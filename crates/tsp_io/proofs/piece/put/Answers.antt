@@ -1,7 +1,7 @@
 -- The goals of `put` in src/piece.rt, which adds bytes to the text: what it ensures.
 use Rattle.std.proofs.Common.{◌≡◌, List, ℕ, [], ◌++◌, ◌∙◌, sym, refl, ap, true, false, Result, Ok, Err, append-nil}
 use Rattle.std.specs.Prelude.{OnOk, OnErr, is_ok, is_err}
-use Rattle.tsp_io.specs.states.WriteProgress.{way_of}
+use Rattle.tsp_io.specs.states.Watched.{way_of}
 use Rattle.tsp_io.proofs.Carrying.{carried_sent, carried_waits, carried_then}
 use Rattle.tsp_io.proofs.piece.put.Goals as goal
 

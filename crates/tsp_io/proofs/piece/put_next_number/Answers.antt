@@ -1,6 +1,6 @@
 -- The goals of `put_next_number` in src/piece.rt, which adds a blank and a number: what it ensures.
 use Rattle.std.proofs.Common.{[], ◌∷◌}
-use Rattle.tsp_io.specs.states.WriteProgress.{way_of}
+use Rattle.tsp_io.specs.states.Watched.{way_of}
 use Rattle.tsp_io.proofs.Carrying.{carried_then}
 use Rattle.tsp_io.proofs.piece.put_next_number.Goals as goal
 

@@ -3,7 +3,7 @@
 use Rattle.std.proofs.Common.{[], refl, ◌∙◌, arith}
 use Rattle.std.proofs.KnownBytes.{Appends-nil}
 use Rattle.tsp_io.specs.states.Watched.{watched}
-use Rattle.tsp_io.proofs.Sinks.{sent_more, sent_front, sent_all, some_left}
+use Rattle.tsp_io.proofs.Carrying.{sent_more, sent_front, sent_all, some_left}
 use Rattle.tsp_io.proofs.piece.send.Goals as goal
 
 -- plan: the parts that were sent are a prefix of the text (`sent_more`); at the end nothing is left (`sent_all`)

@@ -1,7 +1,7 @@
 -- The loop of `send` in src/piece.rt.
 use Rattle.std.proofs.Common.{◌≡◌, false, length}
 use Rattle.tsp_io.specs.states.Watched.{watched, has_failed}
-use Rattle.tsp_io.proofs.Sinks.{Sent}
+use Rattle.tsp_io.proofs.Carrying.{Sent}
 use Rattle.tsp_io.proofs.piece.send.Given as goal
 
 -- the text before `rest` came to the writer, which hasn't failed

@@ -1,7 +1,7 @@
 -- The goals of `run_branch_check` in src/asked_runs.rt, which checks a tour with a certificate of branches: what it
 -- ensures.
 use Rattle.std.proofs.Common.{sym, subst}
-use Rattle.tsp_judge.specs.Yes.{IsCheckBy}
+use Rattle.tsp_judge.specs.ConvertRun.{IsCheckBy}
 use Rattle.tsp_judge.proofs.asked_runs.run_branch_check.Goals as goal
 
 -- plan: both clauses are those of the run, whose verdict becomes true or false

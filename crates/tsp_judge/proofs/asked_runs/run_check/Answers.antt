@@ -1,6 +1,6 @@
 -- The goals of `run_check` in src/asked_runs.rt, which checks a solution without a certificate: what it ensures.
 use Rattle.std.proofs.Common.{sym, subst}
-use Rattle.tsp_judge.specs.Yes.{IsCheck}
+use Rattle.tsp_judge.specs.ConvertRun.{IsCheck}
 use Rattle.tsp_judge.proofs.asked_runs.run_check.Goals as goal
 
 -- plan: both clauses are those of `run_uncertified`, whose verdict becomes true or false

@@ -3,7 +3,7 @@
 use Rattle.std.proofs.Common.{◌≡◌, None, Err, arith, refl}
 use Rattle.std.proofs.KnownBytes.{Keeps-refl}
 use Rattle.tsp_io.specs.states.Watched.{turn_of}
-use Rattle.tsp_read.proofs.Propagated.{propagated}
+use Rattle.tsp_read.proofs.BegunSteps.{propagated}
 use Rattle.tsp_judge.proofs.Comparing.{compare_first_stops}
 use Rattle.tsp_judge.proofs.asked_runs.run_compare_uncertified.Goals as goal
 

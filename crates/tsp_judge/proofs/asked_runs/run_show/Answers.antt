@@ -1,6 +1,6 @@
 -- The goals of `run_show` in src/asked_runs.rt: what it ensures.
 use Rattle.std.proofs.Common.{◌≡◌, Err}
-use Rattle.tsp_read.proofs.Propagated.{propagated}
+use Rattle.tsp_read.proofs.BegunSteps.{propagated}
 use Rattle.tsp_judge.proofs.asked_runs.run_show.Goals as goal
 
 -- plan: a fault is that of the run

@@ -3,8 +3,8 @@
 use Rattle.std.proofs.Common.{refl, sym, subst}
 use Rattle.std.proofs.KnownBytes.{Keeps-refl}
 use Rattle.tsp_read.specs.Reads.{IsFile}
-use Rattle.tsp_cost.specs.ProblemLaws.{IsProblem}
-use Rattle.tsp_judge.proofs.Runs.{none_bounded}
+use Rattle.tsp_cost.specs.Problems.{IsProblem}
+use Rattle.tsp_judge.proofs.Yeses.{none_bounded}
 use Rattle.tsp_judge.proofs.Bounding.{ends_unbounded, bound_run_of, bound_fault_of}
 use Rattle.tsp_judge.proofs.bound.bound_read.Goals as goal
 

@@ -2,8 +2,8 @@
 use Rattle.std.proofs.Common.{◌≡◌, Err, refl}
 use Rattle.std.proofs.KnownBytes.{Keeps-refl}
 use Rattle.tsp_io.specs.states.Watched.{turn_of, sink_of}
-use Rattle.tsp_read.proofs.Propagated.{propagated}
-use Rattle.tsp_judge.proofs.Converts.{converted, convert_stopped, convert_stops}
+use Rattle.tsp_read.proofs.BegunSteps.{propagated}
+use Rattle.tsp_judge.proofs.Bounding.{converted, convert_stopped, convert_stops}
 use Rattle.tsp_judge.proofs.bound.convert_file.Goals as goal
 
 pub returns-in_err-file-clause-answer : goal.returns-in_err-file-clause-answer

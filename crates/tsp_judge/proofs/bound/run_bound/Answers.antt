@@ -2,9 +2,9 @@
 use Rattle.std.proofs.Common.{◌≡◌, Err, [], refl}
 use Rattle.std.proofs.KnownBytes.{Keeps-refl}
 use Rattle.tsp_io.specs.states.Watched.{turn_of}
-use Rattle.tsp_read.proofs.Asking.{read_none}
-use Rattle.tsp_read.proofs.Propagated.{propagated}
-use Rattle.tsp_judge.proofs.Runs.{none_taken}
+use Rattle.tsp_read.proofs.PieceSteps.{read_none}
+use Rattle.tsp_read.proofs.BegunSteps.{propagated}
+use Rattle.tsp_judge.proofs.Yeses.{none_taken}
 use Rattle.tsp_judge.proofs.Bounding.{bound_first_stops, bound_second_stops, bound_fault_of}
 use Rattle.tsp_judge.proofs.bound.run_bound.Goals as goal
 

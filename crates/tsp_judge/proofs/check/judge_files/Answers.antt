@@ -1,6 +1,6 @@
 -- The goals of `judge_files` in src/check.rt, which judges a solution and writes the report: what the report
 -- requires.
-use Rattle.tsp_judge.proofs.Runs.{asked_sized}
+use Rattle.tsp_judge.proofs.Yeses.{asked_sized}
 use Rattle.tsp_judge.proofs.check.judge_files.Goals as goal
 
 -- plan: a bound of the verdict fits, and so does that of the strict one (`asked_sized`)

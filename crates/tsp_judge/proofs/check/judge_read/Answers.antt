@@ -3,9 +3,8 @@
 use Rattle.std.proofs.Common.{refl, sym, subst}
 use Rattle.std.proofs.KnownBytes.{Keeps-refl}
 use Rattle.tsp_read.specs.Reads.{IsFile}
-use Rattle.tsp_cost.specs.ProblemLaws.{IsProblem}
-use Rattle.tsp_judge.proofs.Runs.{are_read, ends_without, none_judged}
-use Rattle.tsp_judge.proofs.Yeses.{run_of, fault_of_run}
+use Rattle.tsp_cost.specs.Problems.{IsProblem}
+use Rattle.tsp_judge.proofs.Yeses.{are_read, ends_without, none_judged, run_of, fault_of_run}
 use Rattle.tsp_judge.proofs.check.judge_read.Goals as goal
 
 -- plan: by how it ends: of the wrong kind, out of memory, or with a report (`run_of`)

@@ -2,9 +2,9 @@
 -- ensures.
 use Rattle.std.proofs.Common.{◌≡◌, Err, [], refl}
 use Rattle.std.proofs.KnownBytes.{Keeps-refl}
-use Rattle.tsp_read.proofs.Asking.{read_none}
-use Rattle.tsp_read.proofs.Propagated.{propagated}
-use Rattle.tsp_judge.proofs.Runs.{none_taken, not_none}
+use Rattle.tsp_read.proofs.PieceSteps.{read_none}
+use Rattle.tsp_read.proofs.BegunSteps.{propagated}
+use Rattle.tsp_judge.proofs.Yeses.{none_taken, not_none}
 use Rattle.tsp_judge.proofs.check.read_certificate.Goals as goal
 
 -- plan: by whether a certificate is asked for; then its file is read or is none

@@ -3,10 +3,9 @@
 use Rattle.std.proofs.Common.{◌≡◌, Err, [], refl}
 use Rattle.std.proofs.KnownBytes.{Keeps-refl}
 use Rattle.tsp_io.specs.states.Watched.{turn_of}
-use Rattle.tsp_read.proofs.Asking.{read_none}
-use Rattle.tsp_read.proofs.Propagated.{propagated}
-use Rattle.tsp_judge.proofs.Runs.{none_taken, unread_in, first_stops, second_stops, third_stops}
-use Rattle.tsp_judge.proofs.Yeses.{fault_of_run}
+use Rattle.tsp_read.proofs.PieceSteps.{read_none}
+use Rattle.tsp_read.proofs.BegunSteps.{propagated}
+use Rattle.tsp_judge.proofs.Yeses.{none_taken, unread_in, first_stops, second_stops, third_stops, fault_of_run}
 use Rattle.tsp_judge.proofs.check.run.Goals as goal
 
 -- plan: by the first file that is none (`first_stops`, `second_stops`, `third_stops`); else all are files

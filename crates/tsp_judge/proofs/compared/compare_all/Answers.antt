@@ -2,11 +2,9 @@
 use Rattle.std.proofs.Common.{◌≡◌, Err, arith, ap, sym, subst, ◌∙◌, ◌<◌, ◌+◌, length}
 use Rattle.std.specs.Prelude.{max}
 use Rattle.tsp_io.specs.states.Watched.{sink_of}
-use Rattle.tsp_read.proofs.Propagated.{propagated}
-use Rattle.tsp_judge.proofs.Comparing.{HasCompared, compared_none, compared_next, compared_ends, compared_all}
-use Rattle.tsp_judge.proofs.Tellings.{reported_next, reported_before}
-use Rattle.tsp_judge.specs.CompareRun.{IsTurnAt, status_of_found}
-use Rattle.tsp_judge.specs.Following.{AreReported}
+use Rattle.tsp_read.proofs.BegunSteps.{propagated}
+use Rattle.tsp_judge.proofs.Comparing.{HasCompared, compared_none, compared_next, compared_ends, compared_all, reported_next, reported_before}
+use Rattle.tsp_judge.specs.CompareRun.{IsTurnAt, status_of_found, AreReported}
 use Rattle.tsp_judge.proofs.compared.compare_all.Goals as goal
 
 -- plan: one solution more is compared (`compared_next`), or ends the comparison (`compared_ends`)

@@ -1,7 +1,6 @@
 -- The loop of `compare_all` in src/compared.rt.
 use Rattle.tsp_io.specs.states.Watched.{sink_of}
-use Rattle.tsp_judge.specs.CompareRun.{IsTurnAt}
-use Rattle.tsp_judge.specs.Following.{AreReported}
+use Rattle.tsp_judge.specs.CompareRun.{IsTurnAt, AreReported}
 use Rattle.tsp_judge.proofs.Comparing.{HasCompared}
 use Rattle.tsp_judge.proofs.compared.compare_all.Given as goal
 

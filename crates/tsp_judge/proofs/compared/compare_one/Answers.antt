@@ -4,12 +4,11 @@ use Rattle.std.proofs.Common.{◌≡◌, List, [], refl, sym, subst, subst₂}
 use Rattle.std.proofs.KnownBytes.{Keeps-refl}
 use Rattle.std.specs.Prelude.{IfOk, Result, Err, slice_index_or}
 use Rattle.tsp_io.specs.states.Watched.{sink_of, turn_of}
-use Rattle.tsp_io.specs.Sink.{HasWritten, Writes}
+use Rattle.tsp_io.specs.Streams.{HasWritten, Writes}
 use Rattle.tsp_judge.proofs.Comparing.{found_sized, one_refused, one_stopped, turn_at}
 use Rattle.tsp_judge.specs.CompareRun.{IsTurnAt, result_of}
-use Rattle.tsp_report.specs.ComparisonText.{solution_line}
-use Rattle.tsp_report.specs.Report.{IsSized}
-use Rattle.tsp_read.proofs.Propagated.{propagated}
+use Rattle.tsp_report.specs.Report.{solution_line, IsSized}
+use Rattle.tsp_read.proofs.BegunSteps.{propagated}
 use Rattle.tsp_judge.proofs.compared.compare_one.Goals as goal
 
 -- plan: by the solution: memory is refused (`one_refused`), the writer fails (`one_stopped`), or its line is written

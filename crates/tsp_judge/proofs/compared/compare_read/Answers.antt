@@ -4,12 +4,12 @@ use Rattle.std.proofs.Common.{◌≡◌, Err, arith, refl, sym, subst, ◌∙◌
 use Rattle.std.proofs.KnownBytes.{Keeps-refl}
 use Rattle.tsp_read.specs.Reads.{IsFile}
 use Rattle.tsp_io.specs.states.Watched.{sink_of}
-use Rattle.tsp_cost.specs.ProblemLaws.{IsProblem}
+use Rattle.tsp_cost.specs.Problems.{IsProblem}
 use Rattle.tsp_judge.specs.declared.ends.RunFault.TheVariants.{WrongKind}
 use Rattle.tsp_judge.specs.CheckRun.{IsFileIn}
 use Rattle.tsp_judge.specs.CompareRun.{IsTurnAt}
-use Rattle.tsp_read.proofs.Propagated.{propagated}
-use Rattle.tsp_judge.proofs.Runs.{none_judged}
+use Rattle.tsp_read.proofs.BegunSteps.{propagated}
+use Rattle.tsp_judge.proofs.Yeses.{none_judged}
 use Rattle.tsp_judge.proofs.Comparing.{ends_lacking, ends_comparing, clear_basis}
 use Rattle.tsp_judge.proofs.compared.compare_read.Goals as goal
 

@@ -2,13 +2,12 @@
 -- ensures.
 use Rattle.std.proofs.Common.{◌≡◌, true, false, length, refl, arith, rules, sym, subst}
 use Rattle.tsp_io.specs.states.Watched.{sink_of}
-use Rattle.tsp_io.specs.Sink.{HasWritten}
+use Rattle.tsp_io.specs.Streams.{HasWritten}
 use Rattle.tsp_file.specs.Fields.{Fields}
 use Rattle.tsp_report.specs.Verdicts.{is_clear}
 use Rattle.tsp_judge.proofs.Comparing.{after_head}
-use Rattle.tsp_judge.specs.CompareRun.{IsTurnAt, ComparesBy}
-use Rattle.tsp_judge.specs.Following.{AreAllReported, IsFollowedBy}
-use Rattle.tsp_report.specs.ComparisonText.{head_of}
+use Rattle.tsp_judge.specs.CompareRun.{IsTurnAt, ComparesBy, AreAllReported, IsFollowedBy}
+use Rattle.tsp_report.specs.Report.{head_of}
 use Rattle.tsp_judge.proofs.compared.compare_with.Goals as goal
 
 -- plan: the head is written, then the line of each solution (`after_head`)

@@ -3,9 +3,9 @@
 use Rattle.std.proofs.Common.{◌≡◌, Err, [], arith, refl}
 use Rattle.std.proofs.KnownBytes.{Keeps-refl}
 use Rattle.tsp_io.specs.states.Watched.{turn_of}
-use Rattle.tsp_read.proofs.Asking.{read_none}
-use Rattle.tsp_read.proofs.Propagated.{propagated}
-use Rattle.tsp_judge.proofs.Runs.{none_taken, unread_in}
+use Rattle.tsp_read.proofs.PieceSteps.{read_none}
+use Rattle.tsp_read.proofs.BegunSteps.{propagated}
+use Rattle.tsp_judge.proofs.Yeses.{none_taken, unread_in}
 use Rattle.tsp_judge.proofs.Comparing.{compare_first_stops, compare_second_stops}
 use Rattle.tsp_judge.proofs.compared.run_compare.Goals as goal
 

@@ -1,6 +1,6 @@
 -- The goals of `examples_of_faulty_files` in src/examples.rt: what it ensures.
 use Rattle.std.proofs.Common.{◌≡◌, ◌⊎◌, ℕ, Option, None, Some, refl, inl, inr, arith}
-use Rattle.tsp_io.specs.Turn.{Turn, IsUnread}
+use Rattle.tsp_io.specs.Streams.{Turn, IsUnread}
 use Rattle.tsp_read.specs.Reads.{StopsAt}
 use Rattle.tsp_read.specs.declared.ReadFault.{ReadFault}
 use Rattle.tsp_report.specs.declared.task.Certificate.{Certificate}

@@ -1,6 +1,6 @@
 -- The goals of `examples_of_faulty_files_of_bounds` in src/examples.rt: what it ensures.
 use Rattle.std.proofs.Common.{◌≡◌, ◌⊎◌, ℕ, refl, inl, inr, arith}
-use Rattle.tsp_io.specs.Turn.{Turn, IsUnread}
+use Rattle.tsp_io.specs.Streams.{Turn, IsUnread}
 use Rattle.tsp_read.specs.Reads.{StopsAt}
 use Rattle.tsp_read.specs.declared.ReadFault.{ReadFault}
 use Rattle.tsp_judge.specs.CheckRun.{IsSomeFile}

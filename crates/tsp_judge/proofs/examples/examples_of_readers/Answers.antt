@@ -7,7 +7,7 @@ use Rattle.tsp_judge.specs.CheckRun.{Given}
 use Rattle.tsp_judge.specs.CompareRun.{IsCompareRun}
 use Rattle.tsp_io.specs.states.Watched.{turn_of}
 use Rattle.tsp_report.specs.declared.task.Certificate.{Certificate}
-use Rattle.tsp_judge.specs.Outcomes.{TakesNamed}
+use Rattle.tsp_judge.specs.ConvertRun.{TakesNamed}
 use Rattle.tsp_judge.proofs.examples.examples_of_readers.Goals as goal
 
 -- plan: each example is what its premises say of the readers and of the writer, one after the other

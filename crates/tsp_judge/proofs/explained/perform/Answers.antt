@@ -3,7 +3,7 @@ use Rattle.std.proofs.Common.{ℕ, List, Option, None, Some, sym, subst}
 use Rattle.tsp_judge.specs.CheckRun.{Given}
 use Rattle.tsp_io.specs.states.Watched.{sink_of}
 use Rattle.tsp_io.specs.declared.watched.Watched.{Watched}
-use Rattle.tsp_judge.specs.Outcomes.{AreReadOn, IsDone, TakesNamed}
+use Rattle.tsp_judge.specs.ConvertRun.{AreReadOn, IsDone, TakesNamed}
 use Rattle.tsp_report.specs.declared.task.Certificate.{Certificate}
 use Rattle.tsp_report.specs.declared.task.FileTask.TheVariants.{Check, Bound}
 use Rattle.tsp_judge.proofs.explained.perform.Goals as goal

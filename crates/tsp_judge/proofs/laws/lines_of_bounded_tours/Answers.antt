@@ -1,5 +1,5 @@
 -- The goals of `lines_of_bounded_tours` in src/laws.rt: what it ensures.
-use Rattle.tsp_judge.proofs.CompareMeaning.{bounded_line}
+use Rattle.tsp_judge.proofs.Comparing.{bounded_line}
 use Rattle.tsp_judge.proofs.laws.lines_of_bounded_tours.Goals as goal
 
 -- plan: the line has a tour that is accepted with this bound, so no tour is shorter than the bound (`bounded_line`)

@@ -1,5 +1,5 @@
 -- The goals of `lines_of_checks` in src/laws.rt: what it ensures.
-use Rattle.tsp_judge.proofs.CompareMeaning.{one_answer}
+use Rattle.tsp_judge.proofs.Comparing.{one_answer}
 use Rattle.tsp_judge.proofs.laws.lines_of_checks.Goals as goal
 
 -- plan: a verdict that accepts a solution says that no reason applies, so no other verdict rejects it (`one_answer`)

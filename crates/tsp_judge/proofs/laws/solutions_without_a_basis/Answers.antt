@@ -1,5 +1,5 @@
 -- The goals of `solutions_without_a_basis` in src/laws.rt: what it ensures.
-use Rattle.tsp_judge.proofs.CompareMeaning.{none_accepted, none_without_tours}
+use Rattle.tsp_judge.proofs.Comparing.{none_accepted, none_without_tours}
 use Rattle.tsp_judge.proofs.laws.solutions_without_a_basis.Goals as goal
 
 -- plan: the reason applies to each solution (`none_accepted`); an instance without tours has no tour to accept

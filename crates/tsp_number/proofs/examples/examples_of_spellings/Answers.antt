@@ -1,7 +1,7 @@
 -- The goals of `examples_of_spellings` in src/examples.rt: what it ensures.
 use Rattle.std.proofs.Common.{rules}
 use Rattle.std.specs.Fmt.{digits}
-use Rattle.tsp_number.specs.Spelling.{decimals}
+use Rattle.tsp_number.specs.NumberWord.{decimals}
 use Rattle.tsp_number.proofs.examples.examples_of_spellings.Goals as goal
 
 -- plan: each example is computed from the definition

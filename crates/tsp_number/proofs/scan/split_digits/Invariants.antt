@@ -1,6 +1,6 @@
 -- The loop of `split_digits` in src/scan.rt.
 use Rattle.std.proofs.Common.{length, ◌-◌}
-use Rattle.tsp_number.proofs.Scanning.{HasRead}
+use Rattle.tsp_number.proofs.Scaling.{HasRead}
 use Rattle.tsp_number.proofs.scan.split_digits.Given as goal
 
 -- the bytes before `end` are digits; those behind them go on with the digits and with the value

@@ -4,9 +4,9 @@ use Rattle.std.proofs.lemmas.Int.{to_z-of_z}
 use Rattle.std.proofs.lemmas.Grind.{common_steps}
 use Rattle.std.specs.Option.{option_map}
 use Rattle.std.specs.Str.Parse.{digits_value, digits_value_after}
-use Rattle.tsp_number.specs.Scan.{front_digits, whole_in, fraction_in, past_point, past_mantissa, exponent_in}
-use Rattle.tsp_number.specs.states.Written.{clamped, saturated}
-use Rattle.tsp_number.proofs.Scanning.{holds}
+use Rattle.tsp_number.specs.NumberWord.{front_digits, whole_in, fraction_in, past_point, past_mantissa, exponent_in}
+use Rattle.tsp_number.specs.states.Digits.{clamped, saturated}
+use Rattle.tsp_number.proofs.Scaling.{holds}
 use Rattle.tsp_number.proofs.scan.split_word.Goals as goal
 
 -- plan: the parts that the calls found are those of the definition, one after the other

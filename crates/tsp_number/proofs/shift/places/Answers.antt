@@ -3,7 +3,7 @@
 use Rattle.std.proofs.Common.{refl, ◌≡◌, ◌≤◌, ◌++◌, ℕ, ℤ, ◌≤ℤ◌, ◌+ℤ◌, ◌-ℤ◌, pos, negsuc, List, length, length-append, arith, w64}
 use Rattle.std.proofs.lemmas.Int.{to_z-of_z, to_z_pos, ints}
 use mir.Val.{SFits, to_z, of_z}
-use Rattle.tsp_number.specs.states.Written.{clamped}
+use Rattle.tsp_number.specs.states.Digits.{clamped}
 use Rattle.tsp_number.proofs.shift.places.Goals as goal
 
 -- an exponent that is kept is from -10,000 to 10,000

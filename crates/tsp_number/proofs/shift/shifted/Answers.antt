@@ -3,7 +3,7 @@ use Rattle.std.proofs.Common.{◌≡◌, ℕ, ◌<◌, ℤ, pos, ◌+ℤ◌, ◌
 use Rattle.std.proofs.lemmas.Int.{ints}
 use Rattle.std.specs.Str.Parse.{digits_value}
 use Rattle.tsp_number.specs.NumberWord.{digits_of}
-use Rattle.tsp_number.specs.states.Written.{clamped, DropsZeros}
+use Rattle.tsp_number.specs.states.Digits.{clamped, DropsZeros}
 use Rattle.tsp_number.proofs.Scaling.{near_places, few_in_fraction, digits_of-lt, shifts_up, shifts_down}
 use Rattle.tsp_number.proofs.shift.shifted.Goals as goal
 

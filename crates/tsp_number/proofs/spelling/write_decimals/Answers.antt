@@ -1,8 +1,8 @@
 -- The goals of `write_decimals` in src/spelling.rt, which writes decimals without the zeros at their end: where the
 -- decimals begin, and what they are.
 use Rattle.std.proofs.Common.{◌≡◌, ◌+◌, ◌-◌, ◌/◌, ◌%◌, ◌++◌, suc, ℕ, List, length, drop, ap, ◌∙◌, arith}
-use Rattle.tsp_number.specs.Spelling.{decimals, three_digits}
-use Rattle.tsp_number.proofs.Spellings.{decimals-zeros, two_groups, three_groups, nine_decimals}
+use Rattle.tsp_number.specs.NumberWord.{decimals, three_digits}
+use Rattle.tsp_number.proofs.Spelled.{decimals-zeros, two_groups, three_groups, nine_decimals}
 use Rattle.tsp_number.proofs.spelling.write_decimals.Goals as goal
 
 -- plan: by which groups of three digits are 0: the last that isn't ends the text (`three_groups`, `two_groups`)

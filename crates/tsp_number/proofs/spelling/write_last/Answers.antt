@@ -2,8 +2,8 @@
 -- decimals begin, and what they are.
 use Rattle.std.proofs.Common.{◌≡◌, ◌+◌, ◌-◌, ◌/◌, ◌%◌, ◌∷◌, ℕ, List, length, drop, ap, ◌∙◌, arith}
 use Rattle.std.proofs.lemmas.List.{drop-set}
-use Rattle.tsp_number.specs.Spelling.{decimals}
-use Rattle.tsp_number.proofs.Spellings.{last_three, last_two, last_one}
+use Rattle.tsp_number.specs.NumberWord.{decimals}
+use Rattle.tsp_number.proofs.Spelled.{last_three, last_two, last_one}
 use Rattle.tsp_number.proofs.spelling.write_last.Goals as goal
 
 -- plan: by which digits of the group are 0: one, two or three of them are written (`last_one`, `last_two`,

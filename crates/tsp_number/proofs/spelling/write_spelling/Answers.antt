@@ -6,11 +6,9 @@ use Rattle.std.specs.Fmt.{decimal}
 use Rattle.std.specs.Int.{w64}
 use Rattle.std.proofs.lemmas.Int.{to_z-of_z}
 use Rattle.std.proofs.lemmas.List.{drop-set}
-use Rattle.tsp_distance.specs.Decimal.{unit, most_count}
-use Rattle.tsp_number.specs.NumberWord.{minus}
-use Rattle.tsp_number.specs.Spelling.{fraction_spelling, spelling}
-use Rattle.tsp_number.proofs.Spellings.{length_whole}
-use Rattle.tsp_number.proofs.Spelled.{stands_for, spelling_short, negative_text, negative_begins}
+use Rattle.tsp_number.specs.Decimal.{unit, most_count}
+use Rattle.tsp_number.specs.NumberWord.{minus, fraction_spelling, spelling}
+use Rattle.tsp_number.proofs.Spelled.{length_whole, stands_for, spelling_short, negative_text, negative_begins}
 use Rattle.tsp_number.proofs.spelling.write_spelling.Goals.{Else-count-ge0}
 use Rattle.tsp_number.proofs.spelling.write_spelling.Goals as goal
 use lib.Signed.{le_z}

@@ -1,6 +1,6 @@
 -- The goals of `count_in` in src/word.rt, which counts the digits at the beginning of eight bytes: what it ensures.
 use Rattle.std.proofs.Common.{arith}
-use Rattle.tsp_number.proofs.DigitLanes.{all_digits, some_digits}
+use Rattle.tsp_number.proofs.EightDigits.{all_digits, some_digits}
 use Rattle.tsp_number.proofs.word.count_in.Goals as goal
 
 -- plan: by the lanes that are no digits: there is none (`all_digits`), or the first one ends the digits (`some_digits`)

@@ -3,9 +3,9 @@
 use Rattle.std.proofs.Common.{◌≡◌, ◌≢◌, ◌∙◌, ◌+◌, ◌<◌, ◌≤◌, ◌⊎◌, ap, sym, inl, inr, length, get_or, arith, rules, FitsSigned, w64}
 use Rattle.std.proofs.lemmas.Int.{to_z-of_z}
 use Rattle.std.proofs.lemmas.List.{take_rest}
-use Rattle.tsp_number.specs.states.NumberFront.{end_of_digits}
+use Rattle.tsp_number.specs.states.Digits.{end_of_digits}
 use Rattle.tsp_number.proofs.FrontNumbers.{HasWhole, whole_front, decimal_front, small_unit, small_decimal, decimal_ends, ends_past_point, no_end_at_point, ends_without_point, some_end}
-use Rattle.tsp_number.proofs.Reading.{unsigned_abs-signed}
+use Rattle.tsp_number.proofs.NumberGrammar.{unsigned_abs-signed}
 use Rattle.tsp_number.proofs.word.front_decimal.Goals as goal
 use Rattle.tsp_number.proofs.word.front_decimal.Goals.{else-point-bytes-via-then-point-bytes+else-bytes-point-eq46, else-point-bytes-via-else-point-bytes, else-count-eq0-via-then-count-eq0+else-places-eq0, else-count-eq0-via-else-count-eq0}
 

@@ -3,10 +3,10 @@
 use Rattle.std.proofs.Common.{◌≡◌, ◌*◌, pos, ◌*ℤ◌, ℤ, arith, rules, ap, ◌∙◌, FitsSigned, w64, to_z, of_z}
 use Rattle.std.proofs.lemmas.Int.{to_z-of_z}
 use Rattle.std.proofs.lemmas.List.{take_rest}
-use Rattle.tsp_distance.specs.Decimal.{unit}
+use Rattle.tsp_number.specs.Decimal.{unit}
 use Rattle.tsp_number.specs.NumberWord.{with_sign}
 use Rattle.tsp_number.proofs.FrontNumbers.{HasWhole, whole_front, small_whole}
-use Rattle.tsp_number.proofs.Reading.{signed-mul}
+use Rattle.tsp_number.proofs.NumberGrammar.{signed-mul}
 use Rattle.tsp_number.proofs.word.front_whole.Goals as goal
 
 pub signed_front-requires : goal.signed_front-requires

@@ -3,8 +3,7 @@
 use Rattle.std.proofs.Common.{◌<◌, length, arith, rules, sym, ◌∙◌}
 use Rattle.std.proofs.lemmas.List.Sums.{prefix_len-le-length}
 use Rattle.std.specs.Char.{is_ascii_digit}
-use Rattle.tsp_number.proofs.FrontNumbers.{one_more, room_for_one}
-use Rattle.tsp_number.proofs.Prefixes.{prefix_one_more, prefix_ends}
+use Rattle.tsp_number.proofs.FrontNumbers.{one_more, room_for_one, prefix_one_more, prefix_ends}
 use Rattle.tsp_number.proofs.word.single_digits.Goals as goal
 
 -- plan: one digit more extends the value (`one_more`), which fits (`room_for_one`); at another byte they end

@@ -4,9 +4,8 @@ use Rattle.std.proofs.Common.{◌≡◌, Err, refl, sym, ap, subst, ◌∙◌, �
 use Rattle.std.specs.Io.KnownBytes.{Consumes}
 use Rattle.std.proofs.lemmas.Bool.{true≢false}
 use Rattle.tsp_io.specs.states.Watched.{turn_of, watched}
-use Rattle.tsp_read.proofs.Asking.{read_none, read_more}
-use Rattle.tsp_read.proofs.PieceSteps.{gathered_start, gathered_more, gathered_none, gathered_kept, piece_stops, fed_from, not_going}
-use Rattle.tsp_read.proofs.Propagated.{propagated}
+use Rattle.tsp_read.proofs.PieceSteps.{read_none, read_more, gathered_start, gathered_more, gathered_none, gathered_kept, piece_stops, fed_from, not_going}
+use Rattle.tsp_read.proofs.BegunSteps.{propagated}
 use Rattle.tsp_read.proofs.asked_reads.feed_all.Goals as goal
 
 -- plan: one read more is one piece more (`read_more`, `gathered_more`), until one gives nothing, fails or is the last

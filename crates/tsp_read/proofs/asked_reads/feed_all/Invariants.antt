@@ -2,8 +2,7 @@
 use Rattle.std.proofs.Common.{◌≡◌, ◌+◌, ◌-◌, ◌≤◌, false}
 use Rattle.tsp_format.specs.Limits.{most_file_bytes}
 use Rattle.tsp_io.specs.states.Watched.{watched, has_failed}
-use Rattle.tsp_read.specs.Asked.{IsReadOn}
-use Rattle.tsp_read.specs.Reads.{most_taken}
+use Rattle.tsp_read.specs.Reads.{IsReadOn, most_taken}
 use Rattle.tsp_read.proofs.PieceSteps.{Gathered}
 use Rattle.tsp_read.proofs.asked_reads.feed_all.Given as goal
 

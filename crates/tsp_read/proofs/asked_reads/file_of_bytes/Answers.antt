@@ -1,6 +1,6 @@
 -- The goals of `file_of_bytes` in src/asked_reads.rt, which reads a file from the bytes of a text: what it ensures.
 use Rattle.std.proofs.Common.{[], refl}
-use Rattle.tsp_read.proofs.InTime.{bytes_fault, bytes_memory}
+use Rattle.tsp_read.proofs.PieceSteps.{bytes_fault, bytes_memory}
 use Rattle.tsp_read.proofs.asked_reads.file_of_bytes.Goals as goal
 
 -- plan: the bytes are one piece: a fault of it (`bytes_fault`), or the file at its end

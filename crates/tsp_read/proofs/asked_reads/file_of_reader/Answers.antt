@@ -1,7 +1,6 @@
 -- The goals of `file_of_reader` in src/asked_reads.rt, which reads a file from a reader: what it ensures.
 use Rattle.tsp_io.specs.states.Watched.{turn_of}
-use Rattle.tsp_read.proofs.Asking.{read_none}
-use Rattle.tsp_read.proofs.InTime.{in_time, answer_of}
+use Rattle.tsp_read.proofs.PieceSteps.{read_none, in_time, answer_of}
 use Rattle.tsp_read.proofs.asked_reads.file_of_reader.Goals as goal
 
 -- plan: the pieces are the bytes that were given, so the answer is that of all of them (`answer_of`)

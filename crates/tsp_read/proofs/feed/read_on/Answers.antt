@@ -1,8 +1,7 @@
 -- The goals of `read_on` in src/feed.rt, which takes the items of a piece and keeps the rest: what it ensures.
 use Rattle.std.proofs.Common.{◌≡◌, Err, sym, ◌∙◌}
-use Rattle.tsp_read.proofs.BegunSteps.{empty_rest, filled_rest}
-use Rattle.tsp_read.proofs.PausedSteps.{paused_joined, joined_read, paused_kept, to_the_end, to_a_place, of_some}
-use Rattle.tsp_read.proofs.Propagated.{propagated}
+use Rattle.tsp_read.proofs.BegunSteps.{empty_rest, filled_rest, propagated}
+use Rattle.tsp_read.proofs.Onwards.{paused_joined, joined_read, paused_kept, to_the_end, to_a_place, of_some}
 use Rattle.tsp_read.proofs.feed.read_on.Goals as goal
 
 -- plan: the begun item is joined (`joined_read`), the whole items are read, and what is left is kept (`paused_kept`)

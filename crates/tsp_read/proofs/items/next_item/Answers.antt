@@ -2,11 +2,8 @@
 use Rattle.std.proofs.Common.{◌≡◌, ◌≤◌, ℕ, Bool, false, List, ◌∷◌, length, ap, sym, ◌∙◌, length-drop, arith}
 use Rattle.std.proofs.lemmas.Bool.{ne_eqb}
 use Rattle.std.proofs.lemmas.Grind.{common_steps}
-use Rattle.tsp_read.specs.states.Left.{from}
-use Rattle.tsp_read.specs.states.Token.{token_at, ends_token}
-use Rattle.tsp_read.proofs.PausedSteps.{start_shorter}
-use Rattle.tsp_read.proofs.NextSteps.{filled_first, goes_on_past, none_next, end_next, token_next, token_missing_next}
-use Rattle.tsp_read.proofs.Onwards.{end_follows, token_follows, token_short}
+use Rattle.tsp_read.specs.states.Left.{from, token_at, ends_token}
+use Rattle.tsp_read.proofs.Onwards.{start_shorter, filled_first, goes_on_past, none_next, end_next, token_next, token_missing_next, end_follows, token_follows, token_short}
 use Rattle.tsp_read.proofs.items.next_item.Goals as goal
 
 -- plan: by the first byte that is no blank: none (`none_next`), a line's end (`end_next`), or a token (`token_next`)

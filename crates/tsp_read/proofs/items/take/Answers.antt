@@ -1,6 +1,6 @@
 -- The goals of `take` in src/items.rt, which takes an item into the state: what it ensures.
 use Rattle.std.proofs.Common.{refl}
-use Rattle.tsp_read.proofs.ReadSteps.{line_ended, word_taken}
+use Rattle.tsp_read.proofs.IntakeSteps.{line_ended, word_taken}
 use Rattle.tsp_read.proofs.items.take.Goals as goal
 
 pub returns-in-LineEnd-clause-item : goal.returns-in-LineEnd-clause-item

@@ -1,7 +1,7 @@
 -- The goals of `take_line` in src/items.rt, which takes a word line into the state: what it ensures.
 use Rattle.tsp_text.specs.Items.{line_item}
-use Rattle.tsp_read.specs.states.CutLine.{seen, cut_item}
-use Rattle.tsp_read.proofs.ReadSteps.{takes_ok}
+use Rattle.tsp_read.specs.states.Holds.{seen, cut_item}
+use Rattle.tsp_read.proofs.IntakeSteps.{takes_ok}
 use Rattle.tsp_read.proofs.items.take_line.Goals as goal
 
 -- plan: the line that was cut and read is the item of the text (`takes_ok`)

@@ -2,7 +2,7 @@
 -- group has it: what it ensures.
 use Rattle.std.proofs.Common.{◌≡◌, ◌-◌, false, slice_index_or, rules, arith, FitsSigned, w64}
 use Rattle.std.proofs.lemmas.Int.{to_z-of_z}
-use Rattle.tsp_read.proofs.NodeGroups.{unmarked}
+use Rattle.tsp_read.proofs.SectionLists.{unmarked}
 use Rattle.tsp_read.proofs.part.unmarked_node.Goals as goal
 
 -- plan: the node isn't marked, so it is a new one (`unmarked`)

@@ -1,6 +1,6 @@
 -- The loop of `first_among` in src/reading.rt.
 use Rattle.std.proofs.Common.{◌≡◌, drop}
-use Rattle.tsp_read.specs.states.Incomplete.{first_of}
+use Rattle.tsp_read.specs.states.Holds.{first_of}
 use Rattle.tsp_read.proofs.reading.first_among.Given as goal
 
 -- the first of all fields that is one of the two is the first of the fields left

@@ -3,9 +3,9 @@ use Rattle.std.proofs.Common.{rules, arith, FitsSigned, w64}
 use Rattle.std.proofs.lemmas.Grind.{common_steps}
 use Rattle.std.specs.Prelude.{pos, ◌*ℤ◌}
 use Rattle.std.proofs.lemmas.Int.{to_z-of_z}
-use Rattle.tsp_distance.specs.Decimal.{unit}
-use Rattle.tsp_read.specs.states.WordFront.{left_from}
-use Rattle.tsp_read.proofs.FrontSteps.{EndsNumber, begins_filled, front_gives, front_reads}
+use Rattle.tsp_number.specs.Decimal.{unit}
+use Rattle.tsp_read.specs.states.ReadingRun.{left_from}
+use Rattle.tsp_read.proofs.RunSteps.{EndsNumber, begins_filled, front_gives, front_reads}
 use Rattle.tsp_read.proofs.run.few_number.Goals as goal
 
 number_at_front : (c : goal.In-Some-word_end)

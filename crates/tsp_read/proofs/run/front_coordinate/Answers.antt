@@ -1,8 +1,8 @@
 -- The goals of `front_coordinate` in src/run.rt, which reads the word of a short decimal: what it ensures.
 use Rattle.std.proofs.Common.{arith}
 use Rattle.std.proofs.lemmas.Grind.{common_steps}
-use Rattle.tsp_read.specs.states.WordFront.{left_from}
-use Rattle.tsp_read.proofs.FrontSteps.{EndsNumber, front_gives, front_reads_decimal}
+use Rattle.tsp_read.specs.states.ReadingRun.{left_from}
+use Rattle.tsp_read.proofs.RunSteps.{EndsNumber, front_gives, front_reads_decimal}
 use Rattle.tsp_read.proofs.run.front_coordinate.Goals as goal
 
 number_at_front : (c : goal.In-Some-word_end)

@@ -1,5 +1,5 @@
 -- The goals of `take_coordinate` in src/run.rt, which takes a coordinate, if the list takes it: what it ensures.
-use Rattle.tsp_read.specs.states.WordFront.{front_word}
+use Rattle.tsp_read.specs.states.ReadingRun.{front_word}
 use Rattle.tsp_read.proofs.run.take_coordinate.Goals as goal
 
 pub returns : goal.returns

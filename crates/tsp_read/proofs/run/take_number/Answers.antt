@@ -1,8 +1,8 @@
 -- The goals of `take_number` in src/run.rt, which takes a number that was found, if the list takes it: what it ensures.
 use Rattle.std.proofs.Common.{rules, FitsSigned, w64}
 use Rattle.std.proofs.lemmas.Int.{to_z-of_z}
-use Rattle.tsp_text.specs.SectionNumbers.{IsWhole}
-use Rattle.tsp_read.specs.states.WordFront.{front_word, left_from, IsFrontWord}
+use Rattle.tsp_text.specs.SectionWords.{IsWhole}
+use Rattle.tsp_read.specs.states.ReadingRun.{front_word, left_from, IsFrontWord}
 use Rattle.tsp_read.proofs.run.take_number.Goals as goal
 
 -- plan: the number is taken, and its word is counted

@@ -2,9 +2,9 @@
 -- ensures.
 use Rattle.std.proofs.Common.{◌++◌}
 use Rattle.std.specs.Prelude.{codes, decimal}
-use Rattle.tsp_io.specs.states.WriteProgress.{way_of}
+use Rattle.tsp_io.specs.states.Watched.{way_of}
 use Rattle.tsp_io.proofs.Carrying.{carried_then}
-use Rattle.tsp_report.specs.ComparisonText.{basis_bound}
+use Rattle.tsp_report.specs.Report.{basis_bound}
 use Rattle.tsp_report.proofs.compared.put_basis.Goals as goal
 
 -- plan: by the basis: the text of each is put, of routes two lines after each other

@@ -4,7 +4,7 @@ use Rattle.std.specs.Prelude.{codes, FitsSigned}
 use Rattle.std.specs.Fmt.{signed_decimal}
 use Rattle.std.specs.Int.{w128}
 use Rattle.std.proofs.lemmas.Int.{to_z-of_z}
-use Rattle.tsp_io.specs.states.WriteProgress.{way_of}
+use Rattle.tsp_io.specs.states.Watched.{way_of}
 use Rattle.tsp_io.proofs.Carrying.{carried_none, carried_then}
 use Rattle.tsp_report.proofs.compared.put_bound_line.Goals as goal
 

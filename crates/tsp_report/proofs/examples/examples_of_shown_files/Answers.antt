@@ -3,8 +3,7 @@ use Rattle.std.proofs.Common.{refl}
 use Rattle.std.specs.Fmt.{digits}
 use Rattle.tsp_file.specs.Cost.{cost, listed_cost}
 use Rattle.tsp_format.specs.Place.{place_of}
-use Rattle.tsp_format.specs.Nodes.{nodes_to}
-use Rattle.tsp_format.specs.Cells.{cells}
+use Rattle.tsp_format.specs.Nodes.{nodes_to, cells}
 use Rattle.tsp_report.proofs.examples.examples_of_shown_files.Goals as goal
 
 -- plan: each example is computed

@@ -4,7 +4,7 @@ use Rattle.std.specs.Prelude.{codes, FitsSigned}
 use Rattle.std.specs.Fmt.{signed_decimal}
 use Rattle.std.specs.Int.{w64}
 use Rattle.std.proofs.lemmas.Int.{to_z-of_z}
-use Rattle.tsp_io.specs.states.WriteProgress.{way_of}
+use Rattle.tsp_io.specs.states.Watched.{way_of}
 use Rattle.tsp_io.proofs.Carrying.{carried_then}
 use Rattle.tsp_report.specs.Report.{bound_lines}
 use Rattle.tsp_report.proofs.report.put_accepted.Goals as goal

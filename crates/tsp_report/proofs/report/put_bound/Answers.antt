@@ -4,7 +4,7 @@ use Rattle.std.specs.Prelude.{codes, FitsSigned, ◌-ℤ◌}
 use Rattle.std.specs.Int.{w64, w128}
 use Rattle.std.proofs.lemmas.Int.{to_z-of_z}
 use Rattle.std.specs.Fmt.{signed_decimal}
-use Rattle.tsp_io.specs.states.WriteProgress.{way_of}
+use Rattle.tsp_io.specs.states.Watched.{way_of}
 use Rattle.tsp_io.proofs.Carrying.{carried_none, carried_then}
 use Rattle.tsp_report.specs.Report.{gap_lines}
 use Rattle.tsp_report.proofs.report.put_bound.Goals as goal

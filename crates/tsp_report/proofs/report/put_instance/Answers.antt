@@ -1,7 +1,7 @@
 -- The goals of `put_instance` in src/report.rt, which adds the lines on an instance: what it ensures.
 use Rattle.std.proofs.Common.{◌++◌, ◌∙◌, ap, subst, Option, ℕ, List}
 use Rattle.std.specs.Prelude.{unwrap_or}
-use Rattle.tsp_io.specs.states.WriteProgress.{Carried, way_of}
+use Rattle.tsp_io.specs.states.Watched.{Carried, way_of}
 use Rattle.tsp_io.proofs.Carrying.{carried_then}
 use Rattle.tsp_report.specs.Report.{type_line, nodes_line, not_judged}
 use Rattle.tsp_format.specs.declared.kinds.Kind.{Kind}

@@ -1,6 +1,6 @@
 -- The goals of `put_others` in src/report.rt, which adds the lines of unknown keywords: its loop and what it ensures.
 use Rattle.std.proofs.Common.{rules, subst, map, arith}
-use Rattle.tsp_io.specs.states.WriteProgress.{way_of, Carried}
+use Rattle.tsp_io.specs.states.Watched.{way_of, Carried}
 use Rattle.tsp_io.proofs.Carrying.{carried_mapped, carried_next}
 use Rattle.tsp_report.proofs.Texts.{unknown_line, not_judged_each}
 use Rattle.tsp_report.proofs.report.put_others.Goals as goal

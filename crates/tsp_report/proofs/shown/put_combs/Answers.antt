@@ -1,7 +1,7 @@
 -- The goals of `put_combs` in src/shown.rt: what it ensures.
 use Rattle.std.proofs.Common.{◌++◌, length, ℕ, subst, sym, map}
 use Rattle.std.specs.Prelude.{codes}
-use Rattle.tsp_io.specs.states.WriteProgress.{Carried, way_of}
+use Rattle.tsp_io.specs.states.Watched.{Carried, way_of}
 use Rattle.tsp_io.proofs.Carrying.{carried_then, carried_none}
 use Rattle.std.specs.Fmt.{decimal}
 use Rattle.std.proofs.lemmas.List.{length-map}

@@ -1,7 +1,7 @@
 -- The goals of `put_each_tour` in src/shown.rt: its loop and what it ensures.
 use Rattle.std.proofs.Common.{rules, map, arith}
 use Rattle.std.proofs.lemmas.List.{length-map}
-use Rattle.tsp_io.specs.states.WriteProgress.{way_of}
+use Rattle.tsp_io.specs.states.Watched.{way_of}
 use Rattle.tsp_io.proofs.Carrying.{carried_nodes}
 use Rattle.tsp_report.specs.Show.{tour_line}
 use Rattle.tsp_report.proofs.Texts.{next_mapped}

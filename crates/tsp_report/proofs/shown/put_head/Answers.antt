@@ -1,7 +1,7 @@
 -- The goals of `put_head` in src/shown.rt, which adds the lines that every file has: what it ensures.
 use Rattle.std.proofs.Common.{◌++◌, subst, Option, ℕ, List, []}
 use Rattle.std.specs.Option.{option_map_or}
-use Rattle.tsp_io.specs.states.WriteProgress.{Carried, way_of}
+use Rattle.tsp_io.specs.states.Watched.{Carried, way_of}
 use Rattle.tsp_io.proofs.Carrying.{carried_then}
 use Rattle.tsp_report.specs.Report.{type_line, nodes_line}
 use Rattle.tsp_report.specs.Show.{name_line}

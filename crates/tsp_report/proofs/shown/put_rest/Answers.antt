@@ -2,8 +2,8 @@
 -- ensures.
 use Rattle.std.proofs.Common.{ap, ◌∙◌, map}
 use Rattle.tsp_file.specs.Fields.{Fields}
-use Rattle.tsp_io.specs.states.WriteProgress.{way_of}
-use Rattle.tsp_report.proofs.Instances.{rest_of_instance, rest_of_other}
+use Rattle.tsp_io.specs.states.Watched.{way_of}
+use Rattle.tsp_report.proofs.Texts.{rest_of_instance, rest_of_other}
 use Rattle.tsp_report.proofs.shown.put_rest.Goals as goal
 
 pub returns-in-Ok : goal.returns-in-Ok

@@ -1,7 +1,7 @@
 -- The goals of `put_scale` in src/shown.rt: what it ensures.
 use Rattle.std.proofs.Common.{◌++◌, rules}
 use Rattle.std.specs.Prelude.{codes, FitsSigned, unwrap_or, pos}
-use Rattle.tsp_io.specs.states.WriteProgress.{way_of}
+use Rattle.tsp_io.specs.states.Watched.{way_of}
 use Rattle.tsp_io.proofs.Carrying.{carried_then}
 use Rattle.std.specs.Fmt.{signed_decimal}
 use Rattle.std.specs.Int.{w64}

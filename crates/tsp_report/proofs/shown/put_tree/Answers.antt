@@ -1,7 +1,7 @@
 -- The goals of `put_tree` in src/shown.rt: what it ensures.
 use Rattle.std.proofs.Common.{◌≡◌, ◌++◌, subst, Option, ℕ, List, [], rules}
 use Rattle.std.specs.Prelude.{unwrap_or, ℤ}
-use Rattle.tsp_io.specs.states.WriteProgress.{Carried, way_of}
+use Rattle.tsp_io.specs.states.Watched.{Carried, way_of}
 use Rattle.tsp_io.proofs.Carrying.{carried_then}
 use Rattle.tsp_format.specs.Steps.{Step}
 use Rattle.tsp_format.specs.states.TreeSteps.{steps_of}

@@ -1,9 +1,8 @@
 -- The goals of `rows_of` in src/kept_weights.rt, which makes the rows of all nodes: its loop.
 use Rattle.std.proofs.Common.{◌≡◌, ◌+◌, ◌++◌, [], ◌∷◌, ℕ, subst, sym}
-use Rattle.tsp_cases.specs.states.Lent.{lent_in}
-use Rattle.tsp_cases.specs.states.Combed.{set_weight}
-use Rattle.tsp_routing.specs.states.KeptWeights.{AreFirstRows}
-use Rattle.tsp_routing.proofs.WeightRows.{weights_more}
+use Rattle.tsp_cases.specs.states.Sets.{lent_in, set_weight}
+use Rattle.tsp_routing.specs.states.LeafWeights.{AreFirstRows}
+use Rattle.tsp_routing.proofs.RouteProducts.{weights_more}
 use Rattle.tsp_routing.proofs.kept_weights.rows_of.Goals as goal
 
 -- plan: the rows so far with the row of the next node are the rows of one node more

@@ -1,7 +1,6 @@
 -- The loop of `rows_of` in src/kept_weights.rt.
-use Rattle.tsp_cases.specs.states.Lent.{lent_in}
-use Rattle.tsp_cases.specs.states.Combed.{set_weight}
-use Rattle.tsp_routing.specs.states.KeptWeights.{AreFirstRows}
+use Rattle.tsp_cases.specs.states.Sets.{lent_in, set_weight}
+use Rattle.tsp_routing.specs.states.LeafWeights.{AreFirstRows}
 use Rattle.tsp_routing.proofs.kept_weights.rows_of.Given as goal
 
 -- there are the rows of the first nodes, as many as `index`, with their weights

@@ -1,6 +1,6 @@
 -- The goals of `best_entry` in src/least_walk.rt, which finds the entry of a node by those of the next nodes: what it
 -- ensures.
-use Rattle.tsp_routing.specs.states.Onwards.{entry_at}
+use Rattle.tsp_routing.specs.states.Demands.{entry_at}
 use Rattle.tsp_routing.proofs.least_walk.best_entry.Goals as goal
 
 -- plan: the entry of the way back to the depot, then one by all customers but the node

@@ -3,10 +3,8 @@
 use Rattle.std.proofs.Common.{◌≡◌, ◌+◌, ◌-◌, ◌*◌, ◌<◌, ◌∙◌, ℕ, length, get_or, ap, subst, sym, arith}
 use Rattle.std.specs.Global.{Vec}
 use Rattle.tsp_routing.specs.declared.least_walk.Onward.{Onward}
-use Rattle.tsp_routing.specs.states.Onwards.{load_at, onward_entry, entry_at, IsRowSized, IsRowLow, IsRowMet}
-use Rattle.tsp_routing.proofs.WalkSizes.{links_more, links_up, entry_up}
-use Rattle.tsp_routing.proofs.WalkEntries.{nowhere_low}
-use Rattle.tsp_routing.proofs.WalkRests.{entry_low, entry_met, nowhere_met}
+use Rattle.tsp_routing.specs.states.Demands.{load_at, onward_entry, entry_at, IsRowSized, IsRowLow, IsRowMet}
+use Rattle.tsp_routing.proofs.WalkRests.{links_more, links_up, entry_up, nowhere_low, entry_low, entry_met, nowhere_met}
 use Rattle.tsp_routing.proofs.least_walk.entry.Goals as goal
 
 -- plan: no walk goes to the depot, or to a load above what is left; else the best entry by those of the next nodes

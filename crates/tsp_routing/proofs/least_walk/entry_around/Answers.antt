@@ -1,10 +1,10 @@
 -- The goals of `entry_around` in src/least_walk.rt, which finds the entry with every next node but the node itself and
 -- the depot: what its calls require and what it ensures.
 use Rattle.std.proofs.Common.{◌≡◌, ◌≢◌, ◌<◌, ℕ, sym, ◌∙◌, arith, inl, inr}
-use Rattle.tsp_theory.specs.Routing.{IsCustomer}
-use Rattle.tsp_routing.specs.WalkTables.{IsEntryBelowTo, IsEntryMetTo}
-use Rattle.tsp_routing.specs.states.Onwards.{onward_entry, entry_at}
-use Rattle.tsp_routing.proofs.WalkEntries.{below_skip, met_skip, apart_from, no_way}
+use Rattle.tsp_theory.specs.Tour.{IsCustomer}
+use Rattle.tsp_routing.specs.Walks.{IsEntryBelowTo, IsEntryMetTo}
+use Rattle.tsp_routing.specs.states.Demands.{onward_entry, entry_at}
+use Rattle.tsp_routing.proofs.WalkRests.{below_skip, met_skip, apart_from, no_way}
 use Rattle.tsp_routing.proofs.least_walk.entry_around.Goals as goal
 
 -- plan: the nodes below, between and above two: the node itself and the depot, which are passed over

@@ -4,10 +4,9 @@ use Rattle.std.specs.Prelude.{ℤ, ◌+ℤ◌}
 use Rattle.std.proofs.lemmas.Int.{ints}
 use Rattle.tsp_theory.specs.states.Nearest.{least_at}
 use Rattle.tsp_routing.specs.declared.least_walk.Onward.{Onward}
-use Rattle.tsp_routing.specs.WalkTables.{WalkEntry, least_from, IsReal}
-use Rattle.tsp_routing.specs.states.Onwards.{onward_entry, entry_at, IsEntrySized}
-use Rattle.tsp_routing.proofs.WalkSizes.{get_same, known_sized, sum_low, sum_near, sum_real}
-use Rattle.tsp_routing.proofs.WalkEntries.{below_more, met_more}
+use Rattle.tsp_routing.specs.Walks.{WalkEntry, least_from, IsReal}
+use Rattle.tsp_routing.specs.states.Demands.{onward_entry, entry_at, IsEntrySized}
+use Rattle.tsp_routing.proofs.WalkRests.{get_same, known_sized, sum_low, sum_near, sum_real, below_more, met_more}
 use Rattle.tsp_routing.proofs.least_walk.entry_by.Goals as goal
 
 -- plan: a step to the next node, and its least weight on, or the other one where that comes back to this node

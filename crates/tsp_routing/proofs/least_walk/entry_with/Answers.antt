@@ -1,8 +1,8 @@
 -- The goals of `entry_with` in src/least_walk.rt, which improves an entry by the next nodes of a range: its loop, what
 -- its call requires and what it ensures.
 use Rattle.std.proofs.Common.{◌≡◌, ℕ, ◌+◌, ◌-◌, subst, arith}
-use Rattle.tsp_routing.specs.WalkTables.{IsEntryBelowTo, IsEntryMetTo}
-use Rattle.tsp_routing.specs.states.Onwards.{onward_entry, entry_at}
+use Rattle.tsp_routing.specs.Walks.{IsEntryBelowTo, IsEntryMetTo}
+use Rattle.tsp_routing.specs.states.Demands.{onward_entry, entry_at}
 use Rattle.tsp_routing.proofs.least_walk.entry_with.Goals as goal
 
 -- plan: the loop has the best entry of the nodes so far, as low as any way on and met by a walk

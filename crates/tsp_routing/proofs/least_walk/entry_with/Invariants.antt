@@ -3,9 +3,9 @@ use Rattle.std.proofs.Common.{◌≡◌, ◌<◌, ◌≤◌, ℕ, ◌+◌}
 use Rattle.std.specs.Prelude.{ℤ, ◌≤ℤ◌}
 use Rattle.tsp_format.specs.Nodes.{IsNode}
 use Rattle.tsp_theory.specs.states.Nearest.{least_at}
-use Rattle.tsp_routing.specs.WalkTables.{IsEntryBelowTo, IsEntryMetTo}
+use Rattle.tsp_routing.specs.Walks.{IsEntryBelowTo, IsEntryMetTo}
 use Rattle.tsp_routing.specs.declared.least_walk.Onward.{Onward}
-use Rattle.tsp_routing.specs.states.Onwards.{onward_entry, entry_at, IsEntrySized, IsRowSized}
+use Rattle.tsp_routing.specs.states.Demands.{onward_entry, entry_at, IsEntrySized, IsRowSized}
 use Rattle.tsp_routing.proofs.least_walk.entry_with.Given as goal
 
 -- if `begun` is the entry by steps to the depot and to customers up to `after`, `best` is that by steps up to `index`

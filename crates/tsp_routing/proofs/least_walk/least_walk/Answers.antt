@@ -2,13 +2,11 @@
 use Rattle.std.proofs.Common.{◌≡◌, ◌+◌, ◌-◌, ◌*◌, ◌∙◌, ℕ, ℤ, List, [], ◌∷◌, ◌++◌, length, subst, sym, ap, arith, length-append}
 use Rattle.std.specs.Prelude.{Some}
 use Rattle.std.specs.Global.{Vec}
-use Rattle.tsp_theory.specs.Length.{length_of}
-use Rattle.tsp_routing.specs.LeastOf.{IsLeastAmong}
-use Rattle.tsp_routing.specs.Walks.{IsWalk, IsBelowWalks}
+use Rattle.tsp_theory.specs.Tour.{length_of}
+use Rattle.tsp_routing.specs.Walks.{IsLeastAmong, IsWalk, IsBelowWalks}
 use Rattle.tsp_routing.specs.declared.least_walk.Onward.{Onward}
-use Rattle.tsp_routing.specs.states.Onwards.{load_at, IsRowSized, AreRowsSized, IsRowLow, AreRowsLow, IsRowMet, AreRowsMet}
-use Rattle.tsp_routing.proofs.Places.{places_push}
-use Rattle.tsp_routing.proofs.WalkRests.{no_number_no_walk, found_least}
+use Rattle.tsp_routing.specs.states.Demands.{load_at, IsRowSized, AreRowsSized, IsRowLow, AreRowsLow, IsRowMet, AreRowsMet}
+use Rattle.tsp_routing.proofs.WalkRests.{places_push, no_number_no_walk, found_least}
 use Rattle.tsp_routing.proofs.least_walk.least_walk.Goals as goal
 
 -- plan: the loop has the rows of the loads so far; the start by the last row is the least walk

@@ -1,6 +1,6 @@
 -- The loop of `least_walk` in src/least_walk.rt.
 use Rattle.std.proofs.Common.{◌≡◌, ◌+◌, length}
-use Rattle.tsp_routing.specs.states.Onwards.{load_at, AreRowsSized, AreRowsLow, AreRowsMet}
+use Rattle.tsp_routing.specs.states.Demands.{load_at, AreRowsSized, AreRowsLow, AreRowsMet}
 use Rattle.tsp_routing.proofs.least_walk.least_walk.Given as goal
 
 -- the table has a row for each load before this one. Its entries are at most each rest of a walk, and one rest has that

@@ -2,11 +2,11 @@
 use Rattle.std.proofs.Common.{◌≡◌, ◌+◌, ◌*◌, ◌∙◌, ℕ, List, [], ◌∷◌, ◌++◌, length, subst, sym, ap, arith, length-append}
 use Rattle.std.specs.List.{All}
 use Rattle.std.proofs.lemmas.List.Elements.{All-push, All-from_recursion}
-use Rattle.tsp_theory.specs.Routing.{IsCustomer}
-use Rattle.tsp_routing.specs.WalkTables.{IsLow, IsMet}
+use Rattle.tsp_theory.specs.Tour.{IsCustomer}
+use Rattle.tsp_routing.specs.Walks.{IsLow, IsMet}
 use Rattle.tsp_routing.specs.declared.least_walk.Onward.{Onward}
-use Rattle.tsp_routing.specs.states.Onwards.{load_at, onward_entry, entry_at, IsEntrySized}
-use Rattle.tsp_routing.proofs.WalkEntries.{entry_pushed}
+use Rattle.tsp_routing.specs.states.Demands.{load_at, onward_entry, entry_at, IsEntrySized}
+use Rattle.tsp_routing.proofs.WalkRests.{entry_pushed}
 use Rattle.tsp_routing.proofs.least_walk.next_row.Goals as goal
 
 -- plan: the entries so far are those of the nodes so far, each by the rows of smaller loads

@@ -1,10 +1,10 @@
 -- The loop of `next_row` in src/least_walk.rt.
 use Rattle.std.proofs.Common.{◌≡◌, ◌≤◌, ◌+◌, ◌*◌, ℕ, length}
 use Rattle.std.specs.List.{All}
-use Rattle.tsp_theory.specs.Routing.{IsCustomer}
-use Rattle.tsp_routing.specs.WalkTables.{IsLow, IsMet}
+use Rattle.tsp_theory.specs.Tour.{IsCustomer}
+use Rattle.tsp_routing.specs.Walks.{IsLow, IsMet}
 use Rattle.tsp_routing.specs.declared.least_walk.Onward.{Onward}
-use Rattle.tsp_routing.specs.states.Onwards.{load_at, onward_entry, entry_at, IsEntrySized, AreRowsLow, AreRowsMet}
+use Rattle.tsp_routing.specs.states.Demands.{load_at, onward_entry, entry_at, IsEntrySized, AreRowsLow, AreRowsMet}
 use Rattle.tsp_routing.proofs.least_walk.next_row.Given as goal
 
 -- where the rows before are right, so are the entries of this row for the customers up to `index`

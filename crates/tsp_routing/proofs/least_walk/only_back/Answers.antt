@@ -3,11 +3,10 @@
 use Rattle.std.proofs.Common.{◌≡◌, ℕ, ◌+◌, subst, sym, refl, arith}
 use Rattle.std.specs.Prelude.{pos, neg_ℤ}
 use Rattle.std.proofs.lemmas.Int.{ints}
-use Rattle.tsp_format.specs.Ranges.{IsFromTo}
+use Rattle.tsp_format.specs.Steps.{IsFromTo}
 use Rattle.tsp_theory.specs.states.Nearest.{least_at}
-use Rattle.tsp_routing.specs.states.Onwards.{onward_entry, IsEntryNumber}
-use Rattle.tsp_routing.proofs.WalkSizes.{first_sized, none_sized}
-use Rattle.tsp_routing.proofs.WalkEntries.{back_only, met_first}
+use Rattle.tsp_routing.specs.states.Demands.{onward_entry, IsEntryNumber}
+use Rattle.tsp_routing.proofs.WalkRests.{first_sized, none_sized, back_only, met_first}
 use Rattle.tsp_routing.proofs.least_walk.only_back.Goals as goal
 
 -- plan: at first there is the way back, and no other

@@ -4,12 +4,11 @@ use Rattle.std.proofs.Common.{◌≡◌, ◌+◌, ◌-◌, ◌*◌, ◌<◌, ◌
 use Rattle.std.specs.Prelude.{pos, neg_ℤ}
 use Rattle.std.specs.Global.{Vec}
 use Rattle.tsp_format.specs.Nodes.{IsNode}
-use Rattle.tsp_format.specs.Ranges.{IsFromTo}
+use Rattle.tsp_format.specs.Steps.{IsFromTo}
 use Rattle.tsp_theory.specs.states.Nearest.{least_at}
 use Rattle.tsp_routing.specs.declared.least_walk.Onward.{Onward}
-use Rattle.tsp_routing.specs.states.Onwards.{load_at, entry_at, IsRowSized, IsRowLow, IsRowMet}
-use Rattle.tsp_routing.proofs.WalkSizes.{real_sized}
-use Rattle.tsp_routing.proofs.WalkRests.{start_low, start_exact}
+use Rattle.tsp_routing.specs.states.Demands.{load_at, entry_at, IsRowSized, IsRowLow, IsRowMet}
+use Rattle.tsp_routing.proofs.WalkRests.{real_sized, start_low, start_exact}
 use Rattle.tsp_routing.proofs.least_walk.start.Goals as goal
 
 -- plan: the last row has the entries with the whole capacity left, so a step from the depot and such an entry are a

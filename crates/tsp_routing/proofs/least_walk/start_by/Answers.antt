@@ -5,7 +5,7 @@ use Rattle.std.specs.Prelude.{◌+ℤ◌}
 use Rattle.std.proofs.lemmas.Int.{ints}
 use Rattle.std.proofs.lemmas.Bool.{cases_eq}
 use Rattle.tsp_theory.specs.states.Nearest.{least_at}
-use Rattle.tsp_routing.specs.states.Onwards.{entry_at}
+use Rattle.tsp_routing.specs.states.Demands.{entry_at}
 use Rattle.tsp_routing.proofs.least_walk.start_by.Goals as goal
 
 -- plan: by whether a customer is the one just tried, whose start `own` bounds, or an earlier one, which the start

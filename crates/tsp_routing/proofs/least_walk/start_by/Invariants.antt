@@ -2,11 +2,11 @@
 use Rattle.std.proofs.Common.{◌≡◌, ◌<◌, ◌≤◌, ℕ, ◌+◌}
 use Rattle.std.specs.Prelude.{ℤ, ◌+ℤ◌, ◌≤ℤ◌}
 use Rattle.tsp_format.specs.Nodes.{IsNode}
-use Rattle.tsp_theory.specs.Routing.{IsCustomer}
+use Rattle.tsp_theory.specs.Tour.{IsCustomer}
 use Rattle.tsp_theory.specs.states.Nearest.{least_at}
-use Rattle.tsp_routing.specs.WalkTables.{IsStartMet}
+use Rattle.tsp_routing.specs.Walks.{IsStartMet}
 use Rattle.tsp_routing.specs.declared.least_walk.Onward.{Onward}
-use Rattle.tsp_routing.specs.states.Onwards.{entry_at, IsEntryNumber, IsRowSized}
+use Rattle.tsp_routing.specs.states.Demands.{entry_at, IsEntryNumber, IsRowSized}
 use Rattle.tsp_routing.proofs.least_walk.start_by.Given as goal
 
 -- `least` is at most what a step from the depot to each customer up to `index` weighs with its entry. One of them

@@ -5,7 +5,7 @@ use Rattle.std.specs.Prelude.{ℤ, ◌+ℤ◌}
 use Rattle.std.proofs.lemmas.Int.{ints}
 use Rattle.tsp_theory.specs.states.Nearest.{least_at}
 use Rattle.tsp_routing.specs.declared.least_walk.Onward.{Onward}
-use Rattle.tsp_routing.proofs.WalkSizes.{get_same, known_sized, sum_low, sum_near, sum_real}
+use Rattle.tsp_routing.proofs.WalkRests.{get_same, known_sized, sum_low, sum_near, sum_real}
 use Rattle.tsp_routing.proofs.least_walk.start_with.Goals as goal
 
 -- plan: the lower one of the least weight so far and that of walks whose first customer is this node

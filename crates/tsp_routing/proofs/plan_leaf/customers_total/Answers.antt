@@ -5,8 +5,8 @@ use Rattle.std.specs.Prelude.{pos, ◌+ℤ◌, if◌then◌else◌}
 use Rattle.std.specs.Int.{w64, w128}
 use Rattle.std.proofs.lemmas.Int.{ints, to_z-of_z}
 use Rattle.tsp_format.specs.Nodes.{nodes_to}
-use Rattle.tsp_theory.specs.Length.{sum_int_by}
-use Rattle.tsp_theory.specs.CertificateNumbers.{entry}
+use Rattle.tsp_theory.specs.Tour.{sum_int_by}
+use Rattle.tsp_theory.specs.Bounds.{entry}
 use Rattle.tsp_routing.specs.states.Demands.{of_others}
 use Rattle.tsp_routing.proofs.CutNeeds.{others_sum, nodes_more, nodes_none}
 use Rattle.tsp_routing.proofs.plan_leaf.customers_total.Goals as goal

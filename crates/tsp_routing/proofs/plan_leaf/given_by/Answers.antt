@@ -5,11 +5,9 @@ use Rattle.std.specs.Int.{w64, w128}
 use Rattle.std.specs.List.{filter}
 use Rattle.std.proofs.lemmas.Int.{to_z-of_z}
 use Rattle.tsp_cases.specs.declared.open_case.Decision.{Decision}
-use Rattle.tsp_cases.specs.states.Decided.{stack_of}
-use Rattle.tsp_cases.specs.states.OpenCases.{bears_on, decisions_in}
+use Rattle.tsp_cases.specs.states.OpenCases.{stack_of, bears_on, decisions_in}
 use Rattle.tsp_routing.specs.PlanBounds.{low_of, high_of}
-use Rattle.tsp_routing.proofs.OwnLimits.{low_own, high_own}
-use Rattle.tsp_routing.proofs.SetProducts.{below_zero, from_zero}
+use Rattle.tsp_routing.proofs.RouteProducts.{low_own, high_own, below_zero, from_zero}
 use Rattle.tsp_routing.proofs.plan_leaf.given_by.Goals as goal
 
 -- plan: by the sign of the multiplier: it times_given_back the least or the most number of crossings

@@ -3,10 +3,10 @@
 use Rattle.std.proofs.Common.{◌∙◌, ℕ, List, [], ◌∷◌, take, get_or, false, sym, ap, arith}
 use Rattle.std.proofs.lemmas.List.{take_more}
 use Rattle.tsp_cases.specs.declared.open_case.Decision.{Decision}
-use Rattle.tsp_cases.specs.states.Decided.{stack_of}
-use Rattle.tsp_cases.proofs.NextCases.{stack_more}
+use Rattle.tsp_cases.specs.states.OpenCases.{stack_of}
+use Rattle.tsp_cases.proofs.OpenCases.{stack_more}
 use Rattle.tsp_routing.specs.PlanBounds.{high_of}
-use Rattle.tsp_routing.proofs.TakenLimits.{taken_all}
+use Rattle.tsp_routing.proofs.RouteProducts.{taken_all}
 use Rattle.tsp_routing.proofs.plan_leaf.highest.Goals as goal
 
 -- plan: the number is lowered by the limits so far, as the definition lowers it, from the last one on

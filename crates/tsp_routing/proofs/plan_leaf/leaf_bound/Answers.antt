@@ -6,17 +6,16 @@ use Rattle.std.specs.Global.{Vec}
 use Rattle.std.specs.Int.{w64, w128}
 use Rattle.std.proofs.lemmas.Int.{ints, to_z-of_z}
 use Rattle.std.proofs.lemmas.List.{length-map}
-use Rattle.tsp_theory.specs.CertificateNumbers.{entry}
-use Rattle.tsp_cases.specs.FamilySets.{lists_of}
-use Rattle.tsp_cases.specs.FamiliesOfSets.{families_with}
-use Rattle.tsp_cases.specs.GoodNumbers.{as_leaf_numbers}
-use Rattle.tsp_cases.specs.states.Lent.{lent_in}
+use Rattle.tsp_theory.specs.Bounds.{entry}
+use Rattle.tsp_cases.specs.Crossings.{lists_of}
+use Rattle.tsp_cases.specs.Families.{families_with}
+use Rattle.tsp_cases.specs.ListedCases.{as_leaf_numbers}
+use Rattle.tsp_cases.specs.states.Sets.{lent_in}
 use Rattle.tsp_cases.specs.states.OpenCases.{decisions_in}
-use Rattle.tsp_routing.specs.PlanBounds.{limits_total, IsPlanBound}
+use Rattle.tsp_routing.specs.PlanBounds.{limits_total, IsPlanBound, IsLeastWalk}
 use Rattle.tsp_routing.specs.PlanLinks.{sum_of_customers}
-use Rattle.tsp_routing.specs.PlanTrees.{IsLeastWalk}
 use Rattle.tsp_routing.specs.states.Demands.{loads_problem}
-use Rattle.tsp_routing.proofs.SetProducts.{numbers_of_families}
+use Rattle.tsp_routing.proofs.RouteProducts.{numbers_of_families}
 use Rattle.tsp_routing.proofs.plan_leaf.leaf_bound.Goals as goal
 
 -- plan: the sum that is given back fits 128 bits, and is that of the families (`numbers_of_families`)

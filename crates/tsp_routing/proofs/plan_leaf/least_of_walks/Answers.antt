@@ -5,18 +5,16 @@ use Rattle.std.specs.Prelude.{◌-ℤ◌}
 use Rattle.std.proofs.lemmas.List.{length-map}
 use Rattle.std.proofs.lemmas.Result.{IfOk-weaker}
 use Rattle.std.specs.Global.{Vec}
-use Rattle.tsp_theory.specs.NodeBound.{weight_between}
-use Rattle.tsp_cases.specs.FamilySets.{lists_of}
-use Rattle.tsp_cases.specs.states.Lent.{lent_in}
-use Rattle.tsp_cases.specs.states.Combed.{set_weight}
-use Rattle.tsp_cases.specs.FamiliesOfSets.{families_with}
-use Rattle.tsp_cases.proofs.CombsBySets.{sets_tell_combs}
-use Rattle.tsp_routing.specs.Loads.{load_in, room_in}
+use Rattle.tsp_theory.specs.Bounds.{weight_between}
+use Rattle.tsp_cases.specs.Crossings.{lists_of}
+use Rattle.tsp_cases.specs.states.Sets.{lent_in, set_weight}
+use Rattle.tsp_cases.specs.Families.{families_with}
+use Rattle.tsp_cases.proofs.FamilyCrossings.{sets_tell_combs}
+use Rattle.tsp_routing.specs.PlanLinks.{load_in, room_in}
 use Rattle.tsp_routing.specs.PlanBounds.{walk_weight}
-use Rattle.tsp_routing.specs.states.Demands.{loads_problem}
-use Rattle.tsp_routing.specs.states.Onwards.{load_at}
-use Rattle.tsp_routing.proofs.SignedSets.{least_same}
-use Rattle.tsp_routing.proofs.UnitLoads.{loads_are_some}
+use Rattle.tsp_routing.specs.states.Demands.{loads_problem, load_at}
+use Rattle.tsp_routing.proofs.RouteProducts.{least_same}
+use Rattle.tsp_routing.proofs.CutNeeds.{loads_are_some}
 use Rattle.tsp_routing.proofs.plan_leaf.least_of_walks.Goals as goal
 
 -- plan: loads and weights of the code are those of the problem (`least_same`), for narrow sums and for others

@@ -4,15 +4,14 @@ use Rattle.std.proofs.Common.{◌≡◌, ◌∙◌, ◌+◌, ◌-◌, ◌*◌, �
 use Rattle.std.specs.Prelude.{pos, neg_ℤ, unsigned_abs, ◌+ℤ◌}
 use Rattle.std.specs.Int.{w64, w128}
 use Rattle.std.proofs.lemmas.Int.{ints, to_z-of_z, fits_signed_from_abs}
-use Rattle.tsp_format.specs.Ranges.{IsFromTo}
-use Rattle.tsp_theory.proofs.Sizes.{size_of}
+use Rattle.tsp_format.specs.Steps.{IsFromTo}
+use Rattle.tsp_theory.proofs.Sums.{size_of}
 use Rattle.tsp_cases.specs.declared.family.Crossings.{Crossings}
 use Rattle.tsp_cases.specs.declared.open_case.Decision.{Decision}
 use Rattle.tsp_cases.specs.states.OpenCases.{decisions_in}
 use Rattle.tsp_routing.specs.PlanBounds.{low_of, high_of, least_times}
-use Rattle.tsp_routing.specs.states.GivenBack.{numbers_total}
-use Rattle.tsp_routing.proofs.MultiplierSizes.{sizes_low}
-use Rattle.tsp_routing.proofs.SetProducts.{sizes_left, numbers_left}
+use Rattle.tsp_routing.specs.states.LeafWeights.{numbers_total}
+use Rattle.tsp_routing.proofs.RouteProducts.{sizes_low, sizes_left, numbers_left}
 use Rattle.tsp_routing.proofs.plan_leaf.limits_total.Goals as goal
 
 -- plan: what the families so far give back, and what those left do, is the sum of all; sizes of multipliers bound it

@@ -2,8 +2,8 @@
 use Rattle.std.proofs.Common.{◌≡◌, ◌+◌, ◌-◌, ◌*◌, ◌^◌, drop}
 use Rattle.std.specs.Prelude.{pos, neg_ℤ, ◌+ℤ◌, ◌-ℤ◌, ◌*ℤ◌, ◌≤ℤ◌}
 use Rattle.tsp_cases.specs.states.OpenCases.{decisions_in}
-use Rattle.tsp_routing.specs.GoodLeaves.{sizes_total}
-use Rattle.tsp_routing.specs.states.GivenBack.{numbers_total}
+use Rattle.tsp_routing.specs.PlanVerdicts.{sizes_total}
+use Rattle.tsp_routing.specs.states.LeafWeights.{numbers_total}
 use Rattle.tsp_routing.proofs.plan_leaf.limits_total.Given as goal
 
 -- the sum so far, and what the multipliers left give back, are what all give back. So far it is at most 2^33 times_given_back the

@@ -6,16 +6,15 @@ use Rattle.std.specs.Int.{w64, int_wrap}
 use Rattle.std.proofs.lemmas.Int.{ints}
 use Rattle.std.proofs.lemmas.List.{get_or-replicate, length-replicate}
 use Rattle.std.proofs.lemmas.List.Elements.{All-from_recursion}
-use Rattle.tsp_format.specs.Ranges.{IsFromTo}
-use Rattle.tsp_theory.specs.CertificateNumbers.{entry}
+use Rattle.tsp_format.specs.Steps.{IsFromTo}
+use Rattle.tsp_theory.specs.Bounds.{entry}
 use Rattle.tsp_theory.specs.states.Nearest.{least_at}
-use Rattle.tsp_cases.specs.states.Combed.{multipliers_at}
-use Rattle.tsp_cases.specs.states.Lent.{lent_in}
-use Rattle.tsp_cases.proofs.ListPlaces.{written}
-use Rattle.tsp_cases.proofs.MovedSums.{wrapped_by}
+use Rattle.tsp_cases.specs.states.Sets.{multipliers_at, lent_in}
+use Rattle.tsp_cases.proofs.Passes.{written}
+use Rattle.tsp_cases.proofs.SetSums.{wrapped_by}
 use Rattle.tsp_cases.proofs.RowsKept.{moved_from_ends}
-use Rattle.tsp_routing.specs.GoodLeaves.{most_of_multipliers}
-use Rattle.tsp_routing.proofs.MultiplierSizes.{each_small}
+use Rattle.tsp_routing.specs.PlanVerdicts.{most_of_multipliers}
+use Rattle.tsp_routing.proofs.RouteProducts.{each_small}
 use Rattle.tsp_routing.proofs.plan_leaf.moved_of.Goals as goal
 
 -- plan: what the multipliers take off each node, then its potential

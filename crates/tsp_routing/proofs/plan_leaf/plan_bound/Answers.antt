@@ -4,8 +4,8 @@ use Rattle.std.proofs.Common.{◌≡◌, ◌∙◌, ◌-◌, ℕ, ℤ, ap, ap₂
 use Rattle.std.specs.Prelude.{pos, ◌+ℤ◌, ◌-ℤ◌, ◌*ℤ◌}
 use Rattle.std.specs.Int.{w128}
 use Rattle.std.proofs.lemmas.Int.{ints, to_z-of_z}
-use Rattle.tsp_theory.specs.CertificateNumbers.{IsLeastBound}
-use Rattle.tsp_theory.proofs.Sizes.{same_scale}
+use Rattle.tsp_theory.specs.Bounds.{IsLeastBound}
+use Rattle.tsp_theory.proofs.Sums.{same_scale}
 use Rattle.tsp_routing.specs.PlanBounds.{least_product, surplus}
 use Rattle.tsp_routing.proofs.RouteProducts.{surplus_is}
 use Rattle.tsp_routing.proofs.plan_leaf.plan_bound.Goals as goal

@@ -1,5 +1,5 @@
 -- The goals of `rounded_up` in src/plan_leaf.rt, which rounds a sum up to a whole number at a scale: what it ensures.
-use Rattle.tsp_theory.proofs.Division.{least_computed}
+use Rattle.tsp_theory.proofs.Sums.{least_computed}
 use Rattle.tsp_routing.proofs.plan_leaf.rounded_up.Goals as goal
 
 -- plan: the negative of the quotient of the negative sum, rounded down, is the quotient rounded up (`least_computed`)

@@ -2,7 +2,7 @@
 use Rattle.std.proofs.Common.{◌∙◌, rules, FitsSigned}
 use Rattle.std.specs.Int.{w64}
 use Rattle.std.proofs.lemmas.Int.{to_z-of_z}
-use Rattle.tsp_routing.proofs.SetProducts.{set_product}
+use Rattle.tsp_routing.proofs.RouteProducts.{set_product}
 use Rattle.tsp_routing.proofs.plan_leaf.times_given_back.Goals as goal
 
 -- plan: the size of a product is the product of the sizes

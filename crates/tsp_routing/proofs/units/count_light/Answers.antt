@@ -3,10 +3,9 @@
 use Rattle.std.proofs.Common.{◌≡◌, ◌∙◌, ℕ, ap, arith}
 use Rattle.std.proofs.lemmas.Int.{ints}
 use Rattle.tsp_format.specs.Nodes.{nodes_to}
-use Rattle.tsp_theory.specs.Length.{sum_int_by}
-use Rattle.tsp_routing.specs.Loads.{is_light}
-use Rattle.tsp_routing.specs.states.Demands.{loads_problem}
-use Rattle.tsp_routing.specs.states.Units.{light_in}
+use Rattle.tsp_theory.specs.Tour.{sum_int_by}
+use Rattle.tsp_routing.specs.PlanLinks.{is_light}
+use Rattle.tsp_routing.specs.states.Demands.{loads_problem, light_in}
 use Rattle.tsp_routing.proofs.CutNeeds.{others_sum, nodes_more, nodes_none}
 use Rattle.tsp_routing.proofs.units.count_light.Goals as goal
 

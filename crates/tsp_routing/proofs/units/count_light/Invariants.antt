@@ -2,9 +2,8 @@
 use Rattle.std.proofs.Common.{◌≡◌, ◌≤◌, ℕ}
 use Rattle.std.specs.Prelude.{ℤ, pos}
 use Rattle.tsp_format.specs.Nodes.{nodes_to}
-use Rattle.tsp_theory.specs.Length.{sum_int_by}
-use Rattle.tsp_routing.specs.states.Demands.{loads_problem}
-use Rattle.tsp_routing.specs.states.Units.{light_in}
+use Rattle.tsp_theory.specs.Tour.{sum_int_by}
+use Rattle.tsp_routing.specs.states.Demands.{loads_problem, light_in}
 use Rattle.tsp_routing.proofs.units.count_light.Given as goal
 
 -- `count` is how many customers up to `index` demand less than a unit

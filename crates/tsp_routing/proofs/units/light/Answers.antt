@@ -1,7 +1,7 @@
 -- The goals of `light` in src/units.rt, which is 1 for a customer that demands less than a unit: what it ensures.
 use Rattle.std.proofs.Common.{arith}
 use Rattle.tsp_routing.specs.states.Demands.{loads_problem}
-use Rattle.tsp_routing.proofs.LightNodes.{light_depot, light_some, light_none}
+use Rattle.tsp_routing.proofs.CutNeeds.{light_depot, light_some, light_none}
 use Rattle.tsp_routing.proofs.units.light.Goals as goal
 
 -- plan: by whether it is the depot, and whether it demands a whole unit

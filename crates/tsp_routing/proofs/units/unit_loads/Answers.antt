@@ -7,10 +7,9 @@ use Rattle.std.proofs.lemmas.Int.{ints}
 use Rattle.std.proofs.Math.ListN.{set}
 use Rattle.std.proofs.lemmas.Bool.{cases_eq}
 use Rattle.std.proofs.lemmas.List.{get_or-set_same, get_or-set_other, length-set}
-use Rattle.tsp_routing.specs.Loads.{load_in}
-use Rattle.tsp_routing.specs.states.Demands.{loads_problem}
-use Rattle.tsp_routing.specs.states.Onwards.{load_at}
-use Rattle.tsp_routing.proofs.LightNodes.{load_is}
+use Rattle.tsp_routing.specs.PlanLinks.{load_in}
+use Rattle.tsp_routing.specs.states.Demands.{loads_problem, load_at}
+use Rattle.tsp_routing.proofs.CutNeeds.{load_is}
 use Rattle.tsp_routing.proofs.units.unit_loads.Goals as goal
 
 -- plan: the load just written is that of its node (`load_is`), and the other loads are as they were

@@ -2,9 +2,8 @@
 use Rattle.std.proofs.Common.{◌≡◌, ◌<◌, ℕ, ◌+◌, length}
 use Rattle.std.specs.Prelude.{ℤ}
 use Rattle.tsp_format.specs.Nodes.{IsNode}
-use Rattle.tsp_routing.specs.Loads.{load_in}
-use Rattle.tsp_routing.specs.states.Demands.{loads_problem}
-use Rattle.tsp_routing.specs.states.Onwards.{load_at}
+use Rattle.tsp_routing.specs.PlanLinks.{load_in}
+use Rattle.tsp_routing.specs.states.Demands.{loads_problem, load_at}
 use Rattle.tsp_routing.proofs.units.unit_loads.Given as goal
 
 -- each node before this one has its load in units

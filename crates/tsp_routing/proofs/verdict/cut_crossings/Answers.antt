@@ -5,16 +5,14 @@ use Rattle.std.specs.Prelude.{◌||◌, ◌==◌}
 use Rattle.std.specs.List.{All}
 use Rattle.std.proofs.lemmas.Bool.{eq-eqb, ne_eqb, both_ways}
 use Rattle.tsp_format.specs.Nodes.{IsNode}
-use Rattle.tsp_cases.specs.Crossed.{has}
-use Rattle.tsp_cases.specs.FamilySets.{lists_of}
+use Rattle.tsp_cases.specs.Crossings.{has, lists_of}
 use Rattle.tsp_cases.specs.declared.family.Crossings.{Crossings}
-use Rattle.tsp_cases.specs.FamiliesOfSets.{family_with}
-use Rattle.tsp_cases.specs.GoodFamilies.{HasEachOnce}
-use Rattle.tsp_cases.specs.states.Marked.{AreUnmarked, AreMarked}
-use Rattle.tsp_routing.specs.Cuts.{IsCutFamily}
-use Rattle.tsp_routing.specs.GoodSets.{IsGoodSet}
+use Rattle.tsp_cases.specs.Families.{family_with, HasEachOnce}
+use Rattle.tsp_cases.specs.states.GoodFamilies.{AreUnmarked, AreMarked}
+use Rattle.tsp_routing.specs.PlanLinks.{IsCutFamily}
+use Rattle.tsp_routing.specs.PlanVerdicts.{IsGoodSet}
 use Rattle.tsp_routing.specs.states.Demands.{loads_problem}
-use Rattle.tsp_routing.proofs.CustomerSets.{few_customers, one_list, nodes_inside, depot_inside, is_one_set, customers_of}
+use Rattle.tsp_routing.proofs.PlanJudging.{few_customers, one_list, nodes_inside, depot_inside, is_one_set, customers_of}
 use Rattle.tsp_routing.proofs.verdict.cut_crossings.Goals as goal
 
 -- plan: each node gets a new mark, so none comes twice. If the depot has none, the set is of customers (`good`)

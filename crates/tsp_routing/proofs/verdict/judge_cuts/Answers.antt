@@ -6,17 +6,15 @@ use Rattle.std.specs.Global.{Vec}
 use Rattle.std.specs.List.{All}
 use Rattle.std.proofs.lemmas.List.{length-map, length-replicate}
 use Rattle.std.proofs.lemmas.List.Elements.{All-push}
-use Rattle.tsp_cases.specs.FamilySets.{lists_of, families_in}
+use Rattle.tsp_cases.specs.Crossings.{lists_of, families_in}
 use Rattle.tsp_cases.specs.declared.family.Crossings.{Crossings}
-use Rattle.tsp_cases.specs.Families.{IsFamily}
-use Rattle.tsp_cases.specs.FamiliesOfSets.{families_with}
-use Rattle.tsp_cases.specs.states.FamilyNumbers.{IsSmall}
-use Rattle.tsp_cases.specs.states.Marked.{AreUnmarked}
-use Rattle.tsp_cases.proofs.ListPlaces.{written}
-use Rattle.tsp_cases.proofs.FirstBad.{sets_here}
-use Rattle.tsp_routing.specs.GoodSets.{IsGoodSet}
-use Rattle.tsp_routing.specs.states.JudgedCuts.{IsFewCrossed, AreCutNumbers}
-use Rattle.tsp_routing.proofs.FirstBadSet.{HaveCuts, cuts_more, good_so_far, all_cuts, first_bad, lone_numbers, lone_hold, all_lone, all_once, few_sets}
+use Rattle.tsp_cases.specs.Families.{IsFamily, families_with}
+use Rattle.tsp_cases.specs.states.GoodFamilies.{IsSmall, AreUnmarked}
+use Rattle.tsp_cases.proofs.Passes.{written}
+use Rattle.tsp_cases.proofs.GoodFamilies.{sets_here}
+use Rattle.tsp_routing.specs.PlanVerdicts.{IsGoodSet}
+use Rattle.tsp_routing.specs.states.Judged.{IsFewCrossed, AreCutNumbers}
+use Rattle.tsp_routing.proofs.PlanJudging.{HaveCuts, cuts_more, good_so_far, all_cuts, first_bad, lone_numbers, lone_hold, all_lone, all_once, few_sets}
 use Rattle.tsp_routing.proofs.verdict.judge_cuts.Goals as goal
 
 -- plan: the loop has how often plans cross each family before this one. A bad family that it finds is the first; at its

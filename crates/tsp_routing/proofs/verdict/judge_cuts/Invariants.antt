@@ -1,10 +1,10 @@
 -- The loop of `judge_cuts` in src/verdict.rt.
 use Rattle.std.proofs.Common.{◌≡◌, ◌<◌, ◌+◌, ℕ, length}
 use Rattle.std.specs.List.{All}
-use Rattle.tsp_cases.specs.FamilySets.{families_in}
-use Rattle.tsp_cases.specs.states.Marked.{AreUnmarked}
-use Rattle.tsp_routing.specs.states.JudgedCuts.{IsFewCrossed}
-use Rattle.tsp_routing.proofs.FirstBadSet.{HaveCuts}
+use Rattle.tsp_cases.specs.Crossings.{families_in}
+use Rattle.tsp_cases.specs.states.GoodFamilies.{AreUnmarked}
+use Rattle.tsp_routing.specs.states.Judged.{IsFewCrossed}
+use Rattle.tsp_routing.proofs.PlanJudging.{HaveCuts}
 use Rattle.tsp_routing.proofs.verdict.judge_cuts.Given as goal
 
 -- each family before this one is a set of customers, with how often plans cross it; no node has the mark of a later

@@ -5,13 +5,13 @@ use Rattle.std.specs.Prelude.{Option, None}
 use Rattle.std.proofs.lemmas.Bool.{false≢true}
 use Rattle.tsp_cases.specs.declared.open_case.Decision.{Decision}
 use Rattle.tsp_cases.specs.Cases.{LeafNumbers}
-use Rattle.tsp_cases.specs.FamiliesOfSets.{families_with}
+use Rattle.tsp_cases.specs.Families.{families_with}
 use Rattle.tsp_cases.specs.states.Kept.{AreMoved}
-use Rattle.tsp_cases.specs.states.Lent.{lent_in}
+use Rattle.tsp_cases.specs.states.Sets.{lent_in}
 use Rattle.tsp_cases.specs.states.OpenCases.{decisions_in}
-use Rattle.tsp_cases.proofs.ListPlaces.{written}
+use Rattle.tsp_cases.proofs.Passes.{written}
 use Rattle.tsp_routing.specs.states.Demands.{loads_problem}
-use Rattle.tsp_routing.specs.states.PlanRooms.{IsFoundOfFew}
+use Rattle.tsp_routing.specs.states.Judged.{IsFoundOfFew}
 use Rattle.tsp_routing.proofs.PlanJudging.{found_of_plan_leaf, plan_numbers_read, plan_numbers_kept}
 use Rattle.tsp_routing.proofs.verdict.judge_leaf.Goals as goal
 

@@ -4,9 +4,9 @@ use Rattle.std.proofs.Common.{false, refl, length, drop}
 use Rattle.std.specs.Prelude.{pos, neg_ℤ}
 use Rattle.std.proofs.lemmas.Bool.{both_ways}
 use Rattle.std.proofs.lemmas.List.Elements.{All-from_recursion}
-use Rattle.tsp_format.specs.Ranges.{IsFromTo}
-use Rattle.tsp_routing.specs.GoodLeaves.{most_of_multipliers}
-use Rattle.tsp_routing.proofs.MultiplierSizes.{each_small}
+use Rattle.tsp_format.specs.Steps.{IsFromTo}
+use Rattle.tsp_routing.specs.PlanVerdicts.{most_of_multipliers}
+use Rattle.tsp_routing.proofs.RouteProducts.{each_small}
 use Rattle.tsp_routing.proofs.verdict.judge_numbers.Goals as goal
 
 -- plan: by the potentials in their range, the multipliers in theirs, and the sum of the sizes of these within its limit

@@ -13,22 +13,18 @@ use Rattle.std.proofs.lemmas.Result.{IfOk-weaker}
 use Rattle.tsp_format.specs.Nodes.{IsNode}
 use Rattle.tsp_format.specs.Steps as listed
 use Rattle.tsp_format.specs.states.TreeSteps.{steps_of}
-use Rattle.tsp_theory.specs.Routing.{RoutingProblem}
-use Rattle.tsp_cases.specs.FamilySets.{lists_of, families_in}
+use Rattle.tsp_theory.specs.Tour.{RoutingProblem}
+use Rattle.tsp_cases.specs.Crossings.{lists_of, families_in}
 use Rattle.tsp_cases.specs.declared.family.Crossings.{Crossings}
-use Rattle.tsp_cases.specs.BadBranches.{BeginsWithin, branch_pairs, IsFirstBadBranch}
-use Rattle.tsp_cases.specs.FamiliesOfSets.{families_with}
-use Rattle.tsp_cases.specs.Listed.{IsStepOf}
-use Rattle.tsp_cases.specs.states.Lent.{lent_in}
-use Rattle.tsp_cases.specs.states.Sets.{IsSetTable}
-use Rattle.tsp_routing.specs.GoodSets.{AreCapacityCuts}
-use Rattle.tsp_routing.specs.Loads.{AreUnits}
-use Rattle.tsp_routing.specs.PlanVerdicts.{routing_with}
+use Rattle.tsp_cases.specs.ListedCases.{BeginsWithin, branch_pairs, IsFirstBadBranch, IsStepOf}
+use Rattle.tsp_cases.specs.Families.{families_with}
+use Rattle.tsp_cases.specs.states.Sets.{lent_in, IsSetTable}
+use Rattle.tsp_routing.specs.PlanVerdicts.{AreCapacityCuts, routing_with}
+use Rattle.tsp_routing.specs.PlanLinks.{AreUnits}
 use Rattle.tsp_routing.specs.declared.demands.Demands.{Demands}
 use Rattle.tsp_routing.specs.states.Demands.{loads_problem}
-use Rattle.tsp_routing.specs.states.JudgedCuts.{IsFewCrossed, AreCutsJudged}
-use Rattle.tsp_routing.specs.states.PlanRooms.{IsLeafVerdict}
-use Rattle.tsp_routing.specs.states.Trees.{IsPlanStep}
+use Rattle.tsp_routing.specs.states.Judged.{IsFewCrossed, AreCutsJudged, IsLeafVerdict}
+use Rattle.tsp_routing.specs.states.LeafWeights.{IsPlanStep}
 use Rattle.tsp_routing.proofs.PlanJudging.{single_sets, steps_on_families, verdict_of_leaves}
 use Rattle.tsp_routing.proofs.verdict.judged_plans.Goals as goal
 

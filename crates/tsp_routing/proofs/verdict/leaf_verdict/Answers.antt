@@ -4,15 +4,14 @@ use Rattle.std.specs.Prelude.{nat_le}
 use Rattle.std.proofs.lemmas.Bool.{le-leb}
 use Rattle.tsp_format.specs.states.TreeSteps.{steps_of}
 use Rattle.tsp_cases.specs.Cases.{leaves_of}
-use Rattle.tsp_cases.specs.FamiliesOfSets.{families_with}
+use Rattle.tsp_cases.specs.Families.{families_with}
 use Rattle.tsp_cases.specs.JudgedLeaves.{AreJudgedBy}
-use Rattle.tsp_cases.specs.Listed.{listed_steps}
-use Rattle.tsp_cases.specs.states.Lent.{lent_in}
-use Rattle.tsp_routing.specs.GoodLeaves.{ArePlanNumbers}
-use Rattle.tsp_routing.specs.PlanTrees.{IsFoundByWalks}
-use Rattle.tsp_routing.specs.PlanVerdicts.{most_entries}
+use Rattle.tsp_cases.specs.ListedCases.{listed_steps}
+use Rattle.tsp_cases.specs.states.Sets.{lent_in}
+use Rattle.tsp_routing.specs.PlanVerdicts.{ArePlanNumbers, most_entries}
+use Rattle.tsp_routing.specs.PlanBounds.{IsFoundByWalks}
 use Rattle.tsp_routing.specs.states.Demands.{loads_problem}
-use Rattle.tsp_routing.specs.states.PlanRooms.{IsFoundOfFew}
+use Rattle.tsp_routing.specs.states.Judged.{IsFoundOfFew}
 use Rattle.tsp_routing.proofs.PlanJudging.{least_if}
 use Rattle.tsp_routing.proofs.verdict.leaf_verdict.Goals as goal
 

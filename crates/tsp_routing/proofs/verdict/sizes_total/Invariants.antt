@@ -1,8 +1,8 @@
 -- The loop of `sizes_total` in src/verdict.rt.
 use Rattle.std.proofs.Common.{◌≡◌, ◌*◌, drop}
 use Rattle.std.specs.Prelude.{pos, ◌+ℤ◌}
-use Rattle.tsp_format.specs.Ranges.{IsFromTo}
-use Rattle.tsp_routing.specs.GoodLeaves.{most_of_multipliers, sizes_total}
+use Rattle.tsp_format.specs.Steps.{IsFromTo}
+use Rattle.tsp_routing.specs.PlanVerdicts.{most_of_multipliers, sizes_total}
 use Rattle.tsp_routing.proofs.verdict.sizes_total.Given as goal
 
 -- the sum so far and the sizes left are the sum of all sizes, no more than as many multipliers can have

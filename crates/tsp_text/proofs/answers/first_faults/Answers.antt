@@ -1,6 +1,6 @@
 -- The goals of `first_faults` in src/answers.rt. The first fault of items is that of the first item to which a row
 -- applies.
-use Rattle.tsp_text.proofs.FirstFaults.{found_first, first_found, none_has_row, clean_items}
+use Rattle.tsp_text.proofs.SettledFaults.{found_first, first_found, none_has_row, clean_items}
 use Rattle.tsp_text.proofs.answers.first_faults.Goals as goal
 
 -- plan: item by item: a fault of an earlier item stays the first; else the row of the next item decides

@@ -1,5 +1,5 @@
 -- The goals of `texts_have_one_answer` in src/answers.rt. Every text has exactly one answer.
-use Rattle.tsp_text.proofs.OneAnswer.{one_answer, never_both, one_file, fault_of_text}
+use Rattle.tsp_text.proofs.SettledFaults.{one_answer, never_both, one_file, fault_of_text}
 use Rattle.tsp_text.proofs.answers.texts_have_one_answer.Goals as goal
 
 -- plan: by whether the text has a fault, which is then the answer; else the one file that its items give

@@ -1,6 +1,6 @@
 -- The goals of `each_node_has_one_group` in src/by_node.rt. A section by node that isn't incomplete has one group for
 -- each node.
-use Rattle.tsp_text.proofs.ByNodeWords.{each_once}
+use Rattle.tsp_text.proofs.EachOnce.{each_once}
 use Rattle.tsp_text.proofs.by_node.each_node_has_one_group.Goals as goal
 
 -- plan: each group has begun with a new node, and there are as many groups as nodes, so each node comes once

@@ -8,7 +8,7 @@ use Rattle.tsp_theory.specs.Tree.{crosses}
 use Rattle.tsp_theory.specs.Forest.{IsWholeForest}
 use Rattle.tsp_theory.specs.Examples.{rectangle_costs, rectangle}
 use Rattle.tsp_theory.proofs.Exchange.{same_side}
-use Rattle.tsp_theory.proofs.OneTrees.{least_from_forest}
+use Rattle.tsp_theory.proofs.Trees.{least_from_forest}
 use Rattle.tsp_theory.proofs.SmallTrees.{inner, nearest_so, join_so, costs_even}
 use Rattle.tsp_theory.proofs.examples.examples_of_forests.Goals as goal
 

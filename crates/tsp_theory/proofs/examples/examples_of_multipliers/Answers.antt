@@ -2,8 +2,8 @@
 use Rattle.std.proofs.Common.{rules, arith, refl, inl, inr, [], ◌∷◌}
 use Rattle.std.specs.Prelude.{pos}
 use Rattle.std.proofs.lemmas.List.Elements.{All-from_recursion}
-use Rattle.tsp_theory.specs.Cycle.{AreNeighbours}
-use Rattle.tsp_theory.specs.Adjusted.{pair_of, UsesNone}
+use Rattle.tsp_theory.specs.Tour.{AreNeighbours}
+use Rattle.tsp_theory.specs.Bounds.{pair_of, UsesNone}
 use Rattle.tsp_theory.specs.Examples.{on_diagonals}
 use Rattle.tsp_theory.proofs.examples.examples_of_multipliers.Goals as goal
 

@@ -1,6 +1,6 @@
 -- The goals of `adjusted_bounds_bound_cycles` in src/laws.rt: what it ensures.
-use Rattle.tsp_theory.proofs.CostLaws.{Laws}
-use Rattle.tsp_theory.proofs.Adjustments.{adjusted_bounds_bound_cycles, unadjusted_bounds_are_node_bounds}
+use Rattle.tsp_theory.proofs.Cycles.{Laws}
+use Rattle.tsp_theory.proofs.Neighbours.{adjusted_bounds_bound_cycles, unadjusted_bounds_are_node_bounds}
 use Rattle.tsp_theory.proofs.laws.adjusted_bounds_bound_cycles.Goals as goal
 
 -- plan: a cycle weighs no less than a least 1-tree; it has the number of each taken pair and of no avoided one. `Laws`

@@ -1,5 +1,5 @@
 -- The goals of `bounds_are_unique` in src/laws.rt: what it ensures.
-use Rattle.tsp_theory.proofs.Duality.{one_bound, one_node_bound}
+use Rattle.tsp_theory.proofs.Cycles.{one_bound, one_node_bound}
 use Rattle.tsp_theory.proofs.laws.bounds_are_unique.Goals as goal
 
 -- plan: two least numbers are each at most the other (`one_bound`); two least 1-trees weigh the same (`one_node_bound`)

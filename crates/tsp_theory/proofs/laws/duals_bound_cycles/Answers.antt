@@ -1,6 +1,5 @@
 -- The goals of `duals_bound_cycles` in src/laws.rt: what it ensures.
-use Rattle.tsp_theory.proofs.CostLaws.{Laws}
-use Rattle.tsp_theory.proofs.Duality.{duals_bound_cycles}
+use Rattle.tsp_theory.proofs.Cycles.{Laws, duals_bound_cycles}
 use Rattle.tsp_theory.proofs.laws.duals_bound_cycles.Goals as goal
 
 -- plan: each link costs no less than its two duals, and the links of a cycle have each dual once. `Laws` has the laws

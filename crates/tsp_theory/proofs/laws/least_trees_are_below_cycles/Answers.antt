@@ -1,6 +1,5 @@
 -- The goals of `least_trees_are_below_cycles` in src/laws.rt: what it ensures.
-use Rattle.tsp_theory.proofs.CostLaws.{Laws}
-use Rattle.tsp_theory.proofs.Cycles.{least_tree_below}
+use Rattle.tsp_theory.proofs.Cycles.{Laws, least_tree_below}
 use Rattle.tsp_theory.proofs.laws.least_trees_are_below_cycles.Goals as goal
 
 -- plan: a cycle, from node 1 on, is a 1-tree, so a least one weighs no more (`least_tree_below`). `Laws` has the laws

@@ -1,5 +1,5 @@
 -- The goals of `lengths_add_up` in src/laws.rt: what it ensures.
-use Rattle.tsp_theory.proofs.CycleLinks.{length_by_first, length_by_second, length_of_sum, length_scaled}
+use Rattle.tsp_theory.proofs.Sums.{length_by_first, length_by_second, length_of_sum, length_scaled}
 use Rattle.tsp_theory.proofs.laws.lengths_add_up.Goals as goal
 
 pub returns : goal.returns

@@ -1,6 +1,5 @@
 -- The goals of `node_bounds_bound_cycles` in src/laws.rt: what it ensures.
-use Rattle.tsp_theory.proofs.CostLaws.{Laws}
-use Rattle.tsp_theory.proofs.Cycles.{node_bounds_bound_cycles}
+use Rattle.tsp_theory.proofs.Cycles.{Laws, node_bounds_bound_cycles}
 use Rattle.tsp_theory.proofs.laws.node_bounds_bound_cycles.Goals as goal
 
 -- plan: a cycle weighs its length and each potential twice, and no less than a least 1-tree. `Laws` has the laws of

@@ -5,8 +5,8 @@ use Rattle.std.specs.Prelude.{ℤ, ◌+ℤ◌}
 use Rattle.std.specs.Int.{w64}
 use Rattle.std.specs.List.{range_with_len}
 use Rattle.tsp_format.specs.Nodes.{nodes_to}
-use Rattle.tsp_theory.specs.Length.{length_of}
-use Rattle.tsp_theory.proofs.Lengths.{sum_fits, sum_more, length_more, length_last, run_parts, canonical}
+use Rattle.tsp_theory.specs.Tour.{length_of}
+use Rattle.tsp_theory.proofs.Sums.{sum_fits, sum_more, length_more, length_last, run_parts, canonical}
 use Rattle.tsp_theory.proofs.length.canonical_length.Goals as goal
 
 -- plan: one node more is one cost more (`length_more`); the last one goes back to node 1 (`length_last`)

@@ -2,7 +2,7 @@
 use Rattle.std.proofs.Common.{◌≡◌, ◌+◌, ◌-◌}
 use Rattle.std.specs.Prelude.{◌+ℤ◌}
 use Rattle.std.specs.List.{range_with_len}
-use Rattle.tsp_theory.proofs.Lengths.{length_to, IsSumOf}
+use Rattle.tsp_theory.proofs.Sums.{length_to, IsSumOf}
 use Rattle.tsp_theory.proofs.length.canonical_length.Given as goal
 
 -- the length so far, and that from this node through the later ones back to node 1, are the canonical length

@@ -1,6 +1,6 @@
 -- The loop of `trace_tours` in src/length.rt.
 use Rattle.std.proofs.Common.{◌≡◌, map, take}
-use Rattle.tsp_theory.specs.Length.{length_of}
+use Rattle.tsp_theory.specs.Tour.{length_of}
 use Rattle.tsp_theory.proofs.length.trace_tours.Given as goal
 
 -- the lengths so far are those of the tours before this one

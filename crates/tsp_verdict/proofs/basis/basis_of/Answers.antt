@@ -1,7 +1,7 @@
 -- The goals of `basis_of` in src/basis.rt, which makes the basis of a comparison from a bound: what it
 -- ensures.
 use Rattle.std.proofs.Common.{rules, sym}
-use Rattle.tsp_verdict.proofs.ByType.{routes_for, other_basis}
+use Rattle.tsp_verdict.proofs.FirstReasons.{routes_for, other_basis}
 use Rattle.tsp_verdict.proofs.basis.basis_of.Goals as goal
 
 -- plan: by the kind of the instance and what was found of the certificate

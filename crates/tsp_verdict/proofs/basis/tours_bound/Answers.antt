@@ -1,6 +1,6 @@
 -- The goals of `tours_bound` in src/basis.rt, which bounds the tours of an instance by a certificate: what it
 -- ensures where a reason applies to the instance.
-use Rattle.tsp_verdict.proofs.Bounds.{tours_refused}
+use Rattle.tsp_verdict.proofs.OneReason.{tours_refused}
 use Rattle.tsp_verdict.proofs.basis.tours_bound.Goals as goal
 
 pub returns-in-Err : goal.returns-in-Err

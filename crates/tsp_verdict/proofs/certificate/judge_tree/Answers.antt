@@ -11,16 +11,15 @@ use Rattle.tsp_format.specs.Limits.{most_fixed}
 use Rattle.tsp_format.specs.states.TreeSteps.{step_of, steps_of}
 use Rattle.tsp_file.specs.states.Drafts.{combs_of}
 use Rattle.tsp_file.specs.Valid.{IsPairOf}
-use Rattle.tsp_theory.specs.CertificateNumbers.{IsScale}
+use Rattle.tsp_theory.specs.Bounds.{IsScale}
 use Rattle.tsp_branch.specs.declared.verdict.BranchVerdict.TheVariants as found
 use Rattle.tsp_branch.specs.BranchVerdicts.{IsBranchVerdict, IsSizedVerdict}
-use Rattle.tsp_cases.specs.Listed.{IsListedStep}
-use Rattle.tsp_cases.specs.FamilySets.{AreFamiliesOf, lists_of}
+use Rattle.tsp_cases.specs.ListedCases.{IsListedStep}
+use Rattle.tsp_cases.specs.Crossings.{AreFamiliesOf, lists_of}
 use Rattle.tsp_file.specs.Fields.{nodes_of}
-use Rattle.tsp_verdict.proofs.FilesHold.{steps_hold, steps_few}
+use Rattle.tsp_verdict.proofs.RouteFiles.{steps_hold, steps_few}
 use Rattle.tsp_verdict.proofs.GivenPairs.{given_once, given_are, given_few}
-use Rattle.tsp_verdict.proofs.FamiliesHold.{families_hold, families_few}
-use Rattle.tsp_verdict.proofs.TreeReasons.{directed_is, even_view, no_tour, are_of, reported, twice_within, bad_within, comb_first, pairs_few, pair_first, twice_first, leaf_first, none_stands, certified}
+use Rattle.tsp_verdict.proofs.TreeReasons.{families_hold, families_few, directed_is, even_view, no_tour, are_of, reported, twice_within, bad_within, comb_first, pairs_few, pair_first, twice_first, leaf_first, none_stands, certified}
 use Rattle.tsp_verdict.proofs.certificate.judge_tree.Goals as goal
 
 -- plan: by the verdict on the tree: each of its reasons is the first of the file's, and its bound is the certificate's

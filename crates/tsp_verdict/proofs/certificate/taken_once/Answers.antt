@@ -5,8 +5,7 @@ use Rattle.std.specs.BTreeSet.{contains, Updates}
 use Rattle.std.specs.Prelude.{slice_index_or}
 use Rattle.std.proofs.lemmas.Bool.{not-false, not-true}
 use Rattle.tsp_verdict.specs.states.PairSets.{key_of, pair_cmp}
-use Rattle.tsp_verdict.proofs.PairSets.{has_more_keys}
-use Rattle.tsp_verdict.proofs.GivenPairs.{taken_known, taken_new, taken_all}
+use Rattle.tsp_verdict.proofs.GivenPairs.{has_more_keys, taken_known, taken_new, taken_all}
 use Rattle.tsp_verdict.proofs.certificate.taken_once.Goals as goal
 use Rattle.tsp_verdict.proofs.certificate.taken_once.Goals.{then-is_new+in_ok-push, else-is_new}
 

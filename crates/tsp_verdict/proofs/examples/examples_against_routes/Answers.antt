@@ -1,7 +1,7 @@
 -- The goals of `examples_against_routes` in src/examples.rt: what it ensures.
 use Rattle.std.proofs.Common.{◌<◌, [], ◌∷◌, rules, arith, refl}
 use Rattle.std.specs.List.{Contains}
-use Rattle.tsp_verdict.proofs.SmallPlans.{customer}
+use Rattle.tsp_verdict.proofs.RouteVerdicts.{customer}
 use Rattle.tsp_verdict.proofs.examples.examples_against_routes.Goals as goal
 
 -- plan: the example is computed, customer by customer (`customer`)

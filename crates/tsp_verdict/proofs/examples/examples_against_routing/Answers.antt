@@ -2,7 +2,7 @@
 use Rattle.std.proofs.Common.{subst₂, arith}
 use Rattle.std.specs.Prelude.{pos}
 use Rattle.std.proofs.lemmas.Int.{ints}
-use Rattle.tsp_theory.specs.Routing.{IsLeastRoutes}
+use Rattle.tsp_theory.specs.Tour.{IsLeastRoutes}
 use Rattle.tsp_verdict.proofs.examples.examples_against_routing.Goals as goal
 
 -- plan: the example is computed

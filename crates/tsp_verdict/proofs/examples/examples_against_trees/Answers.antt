@@ -2,7 +2,7 @@
 use Rattle.std.proofs.Common.{[], refl, inl, inr, arith, pos}
 use Rattle.std.proofs.lemmas.List.Elements.{All-nil}
 use Rattle.tsp_cases.specs.Families.{IsFamily}
-use Rattle.tsp_cases.proofs.OnePass.{first_bad_by_place, first_twice_by_place}
+use Rattle.tsp_cases.proofs.Passes.{first_bad_by_place, first_twice_by_place}
 use Rattle.tsp_verdict.proofs.examples.examples_against_trees.Goals as goal
 
 -- plan: each example by its place (`first_bad_by_place`, `first_twice_by_place`)

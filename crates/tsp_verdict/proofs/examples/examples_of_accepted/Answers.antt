@@ -3,9 +3,8 @@ use Rattle.std.proofs.Common.{◌≡◌, ℕ, List, [], ◌∷◌, get_or, ap, s
 use Rattle.std.proofs.lemmas.Int.{ints}
 use Rattle.std.specs.Prelude.{pos}
 use Rattle.tsp_file.specs.Cost.{cost}
-use Rattle.tsp_theory.specs.Length.{length_of}
-use Rattle.tsp_theory.specs.Routing.{plan_length, IsLeastRoutes}
-use Rattle.tsp_theory.specs.CycleExamples.{two, three}
+use Rattle.tsp_theory.specs.Tour.{length_of, plan_length, IsLeastRoutes}
+use Rattle.tsp_theory.specs.Examples.{two, three}
 use Rattle.tsp_verdict.proofs.examples.examples_of_accepted.Goals as goal
 
 -- the one list of a list

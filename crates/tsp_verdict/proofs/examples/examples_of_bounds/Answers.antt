@@ -5,15 +5,13 @@ use Rattle.std.proofs.lemmas.Int.{ints}
 use Rattle.tsp_format.specs.Steps as listed
 use Rattle.tsp_file.specs.Fields.{nodes_of}
 use Rattle.tsp_file.specs.Cost.{cost}
-use Rattle.tsp_theory.specs.Adjusted.{IsAdjustedBound}
-use Rattle.tsp_theory.specs.Assignment.{IsDualBound}
-use Rattle.tsp_cost.specs.ComputedProblems.{is_directed}
+use Rattle.tsp_theory.specs.Bounds.{IsAdjustedBound, IsDualBound}
+use Rattle.tsp_cost.specs.Problems.{is_directed}
 use Rattle.tsp_cases.specs.declared.family.Crossings.{Crossings}
 use Rattle.tsp_cases.specs.CaseTrees.{IsCaseTreeBound}
-use Rattle.tsp_cases.specs.Decisions.{decided_number}
-use Rattle.tsp_cases.specs.Families.{Family}
-use Rattle.tsp_cases.specs.FamiliesOfSets.{families_with}
-use Rattle.tsp_verdict.specs.BranchesCertificate.{given_in, case_steps_in}
+use Rattle.tsp_cases.specs.Cases.{decided_number}
+use Rattle.tsp_cases.specs.Families.{Family, families_with}
+use Rattle.tsp_verdict.specs.Certificates.{given_in, case_steps_in}
 use Rattle.tsp_verdict.specs.Examples.{halves_of_leaf}
 use Rattle.tsp_verdict.proofs.examples.examples_of_bounds.Goals as goal
 

@@ -3,8 +3,8 @@ use Rattle.std.proofs.Common.{◌<◌, [], ◌∷◌, rules, arith, refl, inl, p
 use Rattle.std.specs.List.{Contains}
 use Rattle.std.proofs.lemmas.List.Elements.{All-nil}
 use Rattle.tsp_cases.specs.Families.{IsFamily}
-use Rattle.tsp_cases.proofs.OnePass.{first_bad_by_place}
-use Rattle.tsp_verdict.proofs.SmallPlans.{customer}
+use Rattle.tsp_cases.proofs.Passes.{first_bad_by_place}
+use Rattle.tsp_verdict.proofs.RouteVerdicts.{customer}
 use Rattle.tsp_verdict.proofs.examples.examples_of_first_reasons.Goals as goal
 
 -- plan: each example is computed, customer by customer or leaf by leaf

@@ -2,7 +2,7 @@
 use Rattle.std.proofs.Common.{◌≡◌, List, [], ◌∷◌, Some, ap, sym, subst₂}
 use Rattle.std.specs.Prelude.{unwrap_or, ℤ, pos, ◌+ℤ◌, ◌*ℤ◌, ◌<ℤ◌}
 use Rattle.tsp_file.specs.Cost.{cost}
-use Rattle.tsp_theory.specs.CertificateNumbers.{entry}
+use Rattle.tsp_theory.specs.Bounds.{entry}
 use Rattle.tsp_verdict.proofs.examples.examples_of_pairs.Goals as goal
 
 the_list : (xs ys : List ℤ) → Some xs ≡ Some ys → ys ≡ xs

@@ -1,7 +1,7 @@
 -- The goals of `examples_of_plans` in src/examples.rt: what it ensures.
 use Rattle.std.proofs.Common.{[], ◌∷◌, rules, arith, refl}
 use Rattle.std.specs.List.{Contains}
-use Rattle.tsp_verdict.proofs.SmallPlans.{customer}
+use Rattle.tsp_verdict.proofs.RouteVerdicts.{customer}
 use Rattle.tsp_verdict.proofs.examples.examples_of_plans.Goals as goal
 
 -- plan: each example is computed, customer by customer (`customer`)

@@ -3,8 +3,7 @@
 use Rattle.std.proofs.Common.{◌∙◌, rules, FitsSigned}
 use Rattle.std.specs.Int.{w128}
 use Rattle.std.proofs.lemmas.Int.{to_z-of_z}
-use Rattle.tsp_verdict.proofs.CarriedBounds.{assigned, broken_stands}
-use Rattle.tsp_verdict.proofs.HeldNumbers.{duals_are, rows_counted, columns_counted}
+use Rattle.tsp_verdict.proofs.CarriedBounds.{assigned, broken_stands, duals_are, rows_counted, columns_counted}
 use Rattle.tsp_verdict.proofs.potentials.assignment_bound.Goals as goal
 
 -- plan: by the duals: a pair that breaks them is the first reason (`broken_stands`), else their bound (`assigned`)

@@ -3,8 +3,8 @@
 use Rattle.std.proofs.Common.{◌≡◌, false, subst, sym, rules, FitsSigned}
 use Rattle.std.specs.Int.{w128}
 use Rattle.std.proofs.lemmas.Int.{to_z-of_z}
-use Rattle.tsp_verdict.specs.PotentialsCertificate.{has_wanted}
-use Rattle.tsp_verdict.proofs.Certificates.{kind_first, broken_first, none_of_atsp}
+use Rattle.tsp_verdict.specs.Certificates.{has_wanted}
+use Rattle.tsp_verdict.proofs.FirstReasons.{kind_first, broken_first, none_of_atsp}
 use Rattle.tsp_verdict.proofs.potentials.bound_by_duals.Goals as goal
 
 -- plan: by what is there: other potentials (`kind_first`), duals that break (`broken_first`), or a bound

@@ -5,13 +5,12 @@ use Rattle.std.specs.Prelude.{MatchOption}
 use Rattle.std.specs.Int.{w128}
 use Rattle.std.proofs.lemmas.Int.{to_z-of_z}
 use Rattle.tsp_format.specs.declared.kinds.Kind.TheVariants as kinds
-use Rattle.tsp_theory.specs.Adjusted.{AreOnPairs}
-use Rattle.tsp_verdict.specs.PotentialsCertificate.{has_wanted, StandsAgainstPotentials}
+use Rattle.tsp_theory.specs.Bounds.{AreOnPairs}
+use Rattle.tsp_verdict.specs.Certificates.{has_wanted, StandsAgainstPotentials, AreListed}
 use Rattle.tsp_file.specs.Fields.{nodes_of}
-use Rattle.tsp_file.specs.Defaults.{multipliers_in, fixed_of}
-use Rattle.tsp_verdict.specs.Multiplied.{AreListed}
-use Rattle.tsp_verdict.specs.Reasons.{IsFirstReason}
-use Rattle.tsp_verdict.proofs.Certificates.{none_of_tsp, none_of_potentials}
+use Rattle.tsp_file.specs.Cost.{multipliers_in, fixed_of}
+use Rattle.tsp_verdict.specs.Solutions.{IsFirstReason}
+use Rattle.tsp_verdict.proofs.FirstReasons.{none_of_tsp, none_of_potentials}
 use Rattle.tsp_verdict.proofs.potentials.bound_by_nodes.Goals as goal
 
 pub returns-in_err-reason-clause-refused : goal.returns-in_err-reason-clause-refused

@@ -3,10 +3,10 @@
 use Rattle.std.proofs.Common.{◌≡◌, false, subst}
 use Rattle.std.specs.Prelude.{MatchOption}
 use Rattle.std.specs.List.{AllPairs}
-use Rattle.tsp_theory.specs.Adjusted.{pair_of, is_same_pair}
-use Rattle.tsp_verdict.specs.Multiplied.{AreListed, IsUnlisted, IsPairRepeated}
-use Rattle.tsp_verdict.specs.Places.{IsFirstPlace}
-use Rattle.tsp_verdict.proofs.Certificates.{not_fixed, repeats, multiplied}
+use Rattle.tsp_theory.specs.Bounds.{pair_of, is_same_pair}
+use Rattle.tsp_verdict.specs.Certificates.{AreListed, IsUnlisted, IsPairRepeated}
+use Rattle.tsp_verdict.specs.Solutions.{IsFirstPlace}
+use Rattle.tsp_verdict.proofs.FirstReasons.{not_fixed, repeats, multiplied}
 use Rattle.tsp_verdict.proofs.potentials.first_against_multipliers.Goals as goal
 
 -- plan: by the triples: one not on a fixed pair (`not_fixed`), one repeated (`repeats`), or neither (`multiplied`)

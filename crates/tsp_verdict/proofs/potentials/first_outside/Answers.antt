@@ -3,11 +3,11 @@
 use Rattle.std.proofs.Common.{◌≡◌, ◌+◌, false, true, sym, subst, ◌∙◌, arith}
 use Rattle.std.specs.BTreeSet.{contains}
 use Rattle.std.specs.Prelude.{pos, slice_index_or}
-use Rattle.tsp_theory.specs.Adjusted.{pair_of}
-use Rattle.tsp_verdict.specs.Multiplied.{IsUnlisted}
+use Rattle.tsp_theory.specs.Bounds.{pair_of}
+use Rattle.tsp_verdict.specs.Certificates.{IsUnlisted}
 use Rattle.tsp_verdict.specs.states.PairSets.{undirected, pair_cmp}
-use Rattle.tsp_verdict.specs.Places.{IsFirstPlace}
-use Rattle.tsp_verdict.proofs.PairSets.{has_listed, inside_more, outside_here}
+use Rattle.tsp_verdict.specs.Solutions.{IsFirstPlace}
+use Rattle.tsp_verdict.proofs.GivenPairs.{has_listed, inside_more, outside_here}
 use Rattle.tsp_verdict.proofs.potentials.first_outside.Goals as goal
 
 -- plan: triple by triple: the first that isn't in the set (`outside_here`), or all are (`inside_more`)

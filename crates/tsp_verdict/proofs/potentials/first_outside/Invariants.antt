@@ -2,7 +2,7 @@
 use Rattle.std.proofs.Common.{◌≡◌, ◌<◌, ℕ, true}
 use Rattle.std.specs.Prelude.{slice_index_or, ℤ}
 use Rattle.std.specs.BTreeSet.{contains}
-use Rattle.tsp_theory.specs.Adjusted.{pair_of}
+use Rattle.tsp_theory.specs.Bounds.{pair_of}
 use Rattle.tsp_verdict.specs.states.PairSets.{undirected, pair_cmp}
 use Rattle.tsp_verdict.proofs.potentials.first_outside.Given as goal
 

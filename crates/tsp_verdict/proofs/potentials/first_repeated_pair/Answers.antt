@@ -4,11 +4,11 @@ use Rattle.std.proofs.Common.{◌≡◌, ◌+◌, false, true, sym, subst, ◌�
 use Rattle.std.specs.BTreeSet.{contains, Updates}
 use Rattle.std.specs.Prelude.{pos, slice_index_or}
 use Rattle.std.proofs.lemmas.Bool.{not-false, not-true}
-use Rattle.tsp_theory.specs.Adjusted.{pair_of}
-use Rattle.tsp_verdict.specs.Multiplied.{IsPairRepeated}
+use Rattle.tsp_theory.specs.Bounds.{pair_of}
+use Rattle.tsp_verdict.specs.Certificates.{IsPairRepeated}
 use Rattle.tsp_verdict.specs.states.PairSets.{undirected, pair_cmp}
-use Rattle.tsp_verdict.specs.Places.{IsFirstPlace}
-use Rattle.tsp_verdict.proofs.PairSets.{has_more, repeated_pair, apart_more, apart_all}
+use Rattle.tsp_verdict.specs.Solutions.{IsFirstPlace}
+use Rattle.tsp_verdict.proofs.GivenPairs.{has_more, repeated_pair, apart_more, apart_all}
 use Rattle.tsp_verdict.proofs.potentials.first_repeated_pair.Goals as goal
 
 pub returns-then-not-is_new : goal.returns-then-not-is_new

@@ -4,7 +4,7 @@ use Rattle.std.proofs.Common.{true, subst, arith}
 use Rattle.std.specs.BTreeSet.{Updates}
 use Rattle.std.proofs.lemmas.List.{take_all}
 use Rattle.tsp_verdict.specs.states.PairSets.{pair_cmp, HasPairs}
-use Rattle.tsp_verdict.proofs.PairSets.{has_more}
+use Rattle.tsp_verdict.proofs.GivenPairs.{has_more}
 use Rattle.tsp_verdict.proofs.potentials.set_of.Goals as goal
 
 -- plan: one pair more is in the set (`has_more`)

@@ -4,8 +4,7 @@ use Rattle.std.specs.Int.{w128}
 use Rattle.std.proofs.lemmas.Int.{to_z-of_z}
 use Rattle.tsp_report.specs.declared.task.Certificate.TheVariants.{Potentials}
 use Rattle.tsp_verdict.specs.Certified.{IsCertified}
-use Rattle.tsp_verdict.proofs.CarriedBounds.{certified}
-use Rattle.tsp_verdict.proofs.HeldNumbers.{numbers_counted}
+use Rattle.tsp_verdict.proofs.CarriedBounds.{certified, numbers_counted}
 use Rattle.tsp_verdict.proofs.potentials.tree_bound.Goals as goal
 
 -- plan: the bound that the costs give is the certificate's (`certified`)

@@ -1,9 +1,8 @@
 -- The goals of `first_of_in` in src/routes.rt, which finds the first place of a node: that no sum overflows, its loop,
 -- what its call requires and what it ensures.
 use Rattle.std.proofs.Common.{◌≡◌, ◌≢◌, ℕ, List, arith}
-use Rattle.tsp_verdict.specs.states.Marks.{StandsAfter}
-use Rattle.tsp_verdict.specs.states.RouteLists.{nodes_in}
-use Rattle.tsp_verdict.proofs.Pieces.{stands_here, count_here, first_after, all_more}
+use Rattle.tsp_verdict.specs.states.Marks.{StandsAfter, nodes_in}
+use Rattle.tsp_verdict.proofs.RouteFiles.{stands_here, count_here, first_after, all_more}
 use Rattle.tsp_verdict.proofs.routes.first_of_in.Goals as goal
 
 -- plan: route by route: the first such place of the next route is the first of all (`first_after`)

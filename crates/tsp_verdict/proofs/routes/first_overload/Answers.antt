@@ -5,11 +5,9 @@ use Rattle.std.specs.Prelude.{FitsSigned, ◌≤ℤ◌}
 use Rattle.std.specs.Int.{w64}
 use Rattle.std.proofs.lemmas.Int.{to_z-of_z}
 use Rattle.tsp_format.specs.Nodes.{IsNode}
-use Rattle.tsp_verdict.specs.states.Marks.{StandsAfter}
-use Rattle.tsp_theory.specs.Routing.{load_of}
-use Rattle.tsp_verdict.specs.states.RouteLists.{nodes_in}
-use Rattle.tsp_verdict.proofs.Pieces.{stands_here, all_here}
-use Rattle.tsp_verdict.proofs.RouteLoads.{carried_more, not_over}
+use Rattle.tsp_verdict.specs.states.Marks.{StandsAfter, nodes_in}
+use Rattle.tsp_theory.specs.Tour.{load_of}
+use Rattle.tsp_verdict.proofs.RouteFiles.{stands_here, all_here, carried_more, not_over}
 use Rattle.tsp_verdict.proofs.routes.first_overload.Goals as goal
 
 -- plan: route by route: the first whose load is too much, or none so far (`not_over`)

@@ -11,14 +11,13 @@ use Rattle.tsp_format.specs.states.TreeSteps.{step_of, steps_of}
 use Rattle.tsp_file.specs.Fields.{nodes_of}
 use Rattle.tsp_file.specs.states.Drafts.{combs_of}
 use Rattle.tsp_file.specs.Cost.{cost}
-use Rattle.tsp_cases.specs.FamilySets.{AreFamiliesOf, lists_of}
+use Rattle.tsp_cases.specs.Crossings.{AreFamiliesOf, lists_of}
 use Rattle.tsp_routing.specs.declared.verdict.PlanVerdict.TheVariants as found
-use Rattle.tsp_routing.specs.states.Trees.{IsPlanStep}
+use Rattle.tsp_routing.specs.states.LeafWeights.{IsPlanStep}
 use Rattle.tsp_routing.specs.PlanVerdicts.{routing_with, IsPlanVerdict, VerdictBoundsPlans, IsSizedPlanVerdict}
-use Rattle.tsp_verdict.proofs.FilesHold.{steps_few}
-use Rattle.tsp_verdict.proofs.FamiliesHold.{families_hold}
-use Rattle.tsp_verdict.proofs.TreeReasons.{pairs_few}
-use Rattle.tsp_verdict.proofs.WalkReasons.{leaves_few, plan_steps, of_files, reported_of_routes, bounds_of_routes, set_first, branch_first, plan_leaf_first, loads_first, plans_bounded, plans_missing}
+use Rattle.tsp_verdict.proofs.RouteFiles.{steps_few}
+use Rattle.tsp_verdict.proofs.TreeReasons.{families_hold, pairs_few}
+use Rattle.tsp_verdict.proofs.RouteVerdicts.{leaves_few, plan_steps, of_files, reported_of_routes, bounds_of_routes, set_first, branch_first, plan_leaf_first, loads_first, plans_bounded, plans_missing}
 use Rattle.tsp_verdict.proofs.routes.judge_walks.Goals as goal
 
 -- plan: each verdict on plans is reported in the words of the files: a reason, a bound, or that there is no solution

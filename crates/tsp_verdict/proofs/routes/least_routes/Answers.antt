@@ -4,8 +4,8 @@ use Rattle.std.proofs.Common.{◌+◌, ◌-◌, ◌/◌, rules, subst}
 use Rattle.std.specs.Prelude.{FitsSigned, nat_abs, ℤ}
 use Rattle.std.specs.Int.{w64}
 use Rattle.std.proofs.lemmas.Int.{to_z-of_z}
-use Rattle.tsp_theory.specs.Routing.{IsLeastRoutes}
-use Rattle.tsp_verdict.proofs.RouteLoads.{least_of}
+use Rattle.tsp_theory.specs.Tour.{IsLeastRoutes}
+use Rattle.tsp_verdict.proofs.RouteFiles.{least_of}
 use Rattle.tsp_verdict.proofs.routes.least_routes.Goals as goal
 
 -- plan: the sum of all demands, divided and rounded up (`least_of`)

@@ -5,8 +5,8 @@ use Rattle.std.specs.Int.{w64}
 use Rattle.std.proofs.lemmas.Int.{ints}
 use Rattle.tsp_format.specs.Nodes.{IsNode}
 use Rattle.tsp_file.specs.Valid.{IsDemand}
-use Rattle.tsp_theory.specs.Routing.{load_of, demand_of}
-use Rattle.tsp_verdict.proofs.RouteLoads.{load_fits, load_more, sum_step}
+use Rattle.tsp_theory.specs.Tour.{load_of, demand_of}
+use Rattle.tsp_verdict.proofs.RouteFiles.{load_fits, load_more, sum_step}
 use Rattle.tsp_verdict.proofs.routes.load.Goals as goal
 
 pub overflow_add-sum : goal.overflow_add-sum

@@ -1,8 +1,8 @@
 -- The loop of `load` in src/routes.rt.
 use Rattle.std.proofs.Common.{◌≡◌, drop}
 use Rattle.std.specs.Prelude.{◌+ℤ◌}
-use Rattle.tsp_theory.specs.Routing.{load_of}
-use Rattle.tsp_verdict.proofs.RouteLoads.{IsLoadOf}
+use Rattle.tsp_theory.specs.Tour.{load_of}
+use Rattle.tsp_verdict.proofs.RouteFiles.{IsLoadOf}
 use Rattle.tsp_verdict.proofs.routes.load.Given as goal
 
 -- the sum so far, and what the nodes left demand, are the demand of all nodes of the route

@@ -3,9 +3,8 @@
 use Rattle.std.proofs.Common.{◌<◌, ℕ, List, sym, subst, ◌∙◌, arith}
 use Rattle.std.specs.Prelude.{vec_len}
 use Rattle.std.specs.List.{All}
-use Rattle.tsp_verdict.specs.states.Marks.{StandsAfter}
-use Rattle.tsp_verdict.specs.states.RouteLists.{nodes_in}
-use Rattle.tsp_verdict.proofs.Pieces.{stands_here, count_here, all_here}
+use Rattle.tsp_verdict.specs.states.Marks.{StandsAfter, nodes_in}
+use Rattle.tsp_verdict.proofs.RouteFiles.{stands_here, count_here, all_here}
 use Rattle.tsp_verdict.proofs.routes.mark_all.Goals as goal
 
 -- plan: one route's nodes more are marked, or one of them has a mark already

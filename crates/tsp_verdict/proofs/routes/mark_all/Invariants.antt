@@ -1,8 +1,7 @@
 -- The loop of `mark_all` in src/routes.rt.
 use Rattle.std.proofs.Common.{◌≡◌, length, take}
 use Rattle.std.specs.Prelude.{vec_len}
-use Rattle.tsp_verdict.specs.states.Marks.{Marked}
-use Rattle.tsp_verdict.specs.states.RouteLists.{nodes_in}
+use Rattle.tsp_verdict.specs.states.Marks.{Marked, nodes_in}
 use Rattle.tsp_verdict.proofs.routes.mark_all.Given as goal
 
 -- just the nodes of the routes before this one are marked; no two of them are the same, and `before` is how many they

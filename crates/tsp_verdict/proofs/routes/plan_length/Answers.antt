@@ -6,13 +6,10 @@ use Rattle.std.specs.Int.{w64}
 use Rattle.std.proofs.lemmas.Int.{ints}
 use Rattle.tsp_format.specs.Nodes.{IsNode}
 use Rattle.tsp_file.specs.Cost.{cost}
-use Rattle.tsp_theory.specs.Length.{length_of}
-use Rattle.tsp_verdict.specs.states.Marks.{StandsAfter}
-use Rattle.tsp_verdict.specs.states.RouteLists.{nodes_in}
+use Rattle.tsp_theory.specs.Tour.{length_of}
+use Rattle.tsp_verdict.specs.states.Marks.{StandsAfter, nodes_in, IsSumOf}
 use Rattle.tsp_file.specs.Fields.{nodes_of}
-use Rattle.tsp_verdict.specs.states.Sums.{IsSumOf}
-use Rattle.tsp_verdict.proofs.Pieces.{stands_here, count_here, all_here}
-use Rattle.tsp_verdict.proofs.RouteLengths.{sum_more, sum_fits, plan_more}
+use Rattle.tsp_verdict.proofs.RouteFiles.{stands_here, count_here, all_here, sum_more, sum_fits, plan_more}
 use Rattle.tsp_verdict.proofs.routes.plan_length.Goals as goal
 
 pub route_length-length-requires-clause-range : goal.route_length-length-requires-clause-range

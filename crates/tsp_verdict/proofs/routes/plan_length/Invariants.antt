@@ -2,9 +2,8 @@
 use Rattle.std.proofs.Common.{◌≡◌, ◌+◌, length, take, drop, map}
 use Rattle.std.specs.Prelude.{◌+ℤ◌}
 use Rattle.tsp_file.specs.Cost.{cost}
-use Rattle.tsp_theory.specs.Routing.{plan_length}
-use Rattle.tsp_verdict.specs.states.RouteLists.{nodes_in}
-use Rattle.tsp_verdict.specs.states.Sums.{IsSumOf}
+use Rattle.tsp_theory.specs.Tour.{plan_length}
+use Rattle.tsp_verdict.specs.states.Marks.{nodes_in, IsSumOf}
 use Rattle.tsp_verdict.proofs.routes.plan_length.Given as goal
 
 -- the length so far and that of the routes left are the length of the plan

@@ -8,8 +8,8 @@ use Rattle.std.proofs.lemmas.List.{drop_all}
 use Rattle.tsp_format.specs.Nodes.{IsNode}
 use Rattle.tsp_file.specs.Cost.{cost}
 use Rattle.tsp_file.specs.Fields.{nodes_of}
-use Rattle.tsp_verdict.specs.states.Sums.{IsSumOf}
-use Rattle.tsp_verdict.proofs.RouteLengths.{length_to, length_more, length_last, sum_more, sum_one, sum_fits}
+use Rattle.tsp_verdict.specs.states.Marks.{IsSumOf}
+use Rattle.tsp_verdict.proofs.RouteFiles.{length_to, length_more, length_last, sum_more, sum_one, sum_fits}
 use Rattle.tsp_verdict.proofs.routes.route_length.Goals as goal
 
 -- plan: one step more is one cost more (`length_more`), and the last goes back to the depot (`length_last`)

@@ -4,8 +4,8 @@ use Rattle.std.specs.Prelude.{◌+ℤ◌}
 use Rattle.tsp_format.specs.Nodes.{IsNode}
 use Rattle.tsp_file.specs.Cost.{cost}
 use Rattle.tsp_file.specs.Fields.{nodes_of}
-use Rattle.tsp_verdict.specs.states.Sums.{IsSumOf}
-use Rattle.tsp_verdict.proofs.RouteLengths.{length_to}
+use Rattle.tsp_verdict.specs.states.Marks.{IsSumOf}
+use Rattle.tsp_verdict.proofs.RouteFiles.{length_to}
 use Rattle.tsp_verdict.proofs.routes.route_length.Given as goal
 
 -- the length so far, and that from `from` through the nodes left back to the depot, are the length of the route

@@ -4,7 +4,7 @@ use Rattle.std.specs.Prelude.{ℤ, pos, slice_index_or}
 use Rattle.std.specs.Int.{w64}
 use Rattle.tsp_format.specs.Nodes.{nodes_to}
 use Rattle.tsp_file.specs.Valid.{IsDemand}
-use Rattle.tsp_verdict.proofs.RouteLoads.{load_fits, load_more, total_more, total_end}
+use Rattle.tsp_verdict.proofs.RouteFiles.{load_fits, load_more, total_more, total_end}
 use Rattle.tsp_verdict.proofs.routes.total.Goals as goal
 
 -- plan: one node's demand more (`total_more`), to the last (`total_end`)

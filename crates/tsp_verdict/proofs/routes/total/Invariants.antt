@@ -2,8 +2,8 @@
 use Rattle.std.proofs.Common.{◌≡◌, ◌+◌, ◌-◌, length}
 use Rattle.std.specs.Prelude.{◌+ℤ◌}
 use Rattle.std.specs.List.{range_with_len}
-use Rattle.tsp_theory.specs.Routing.{load_of}
-use Rattle.tsp_verdict.proofs.RouteLoads.{IsLoadOf}
+use Rattle.tsp_theory.specs.Tour.{load_of}
+use Rattle.tsp_verdict.proofs.RouteFiles.{IsLoadOf}
 use Rattle.tsp_verdict.proofs.routes.total.Given as goal
 
 -- the sum so far and the demands of the nodes left are the demand of all nodes

@@ -6,10 +6,9 @@ use Rattle.std.specs.Int.{w64}
 use Rattle.std.proofs.lemmas.Int.{to_z-of_z}
 use Rattle.tsp_file.specs.Fields.{Fields, nodes_of}
 use Rattle.tsp_report.specs.declared.verdict.Reason.TheVariants.{DepotCount}
-use Rattle.tsp_verdict.specs.Routes.{NoneOfRoutesBefore}
-use Rattle.tsp_verdict.proofs.RouteReasons.{after_routing}
-use Rattle.tsp_verdict.proofs.FilesHold.{as_many}
-use Rattle.tsp_verdict.proofs.RouteVerdicts.{customers_in, IsMarked, is_marked, repeated_first, unserved_first, all_served, none_unserved, overload_first, is_planned}
+use Rattle.tsp_verdict.specs.Solutions.{NoneOfRoutesBefore}
+use Rattle.tsp_verdict.proofs.RouteVerdicts.{after_routing, customers_in, IsMarked, is_marked, repeated_first, unserved_first, all_served, none_unserved, overload_first, is_planned}
+use Rattle.tsp_verdict.proofs.RouteFiles.{as_many}
 use Rattle.tsp_verdict.proofs.routes.verdict_on_routes.Goals as goal
 
 -- plan: by what is found first: a node twice, one unserved, an overload; else the plan is accepted (`is_planned`)

@@ -3,7 +3,7 @@
 use Rattle.std.proofs.Common.{List, ℕ, ◌≤◌, subst, rules}
 use Rattle.std.specs.List.{All}
 use Rattle.tsp_file.specs.Fields.{Fields, nodes_of}
-use Rattle.tsp_verdict.specs.Tours.{NoneOfTourBeforeRepeats}
+use Rattle.tsp_verdict.specs.Solutions.{NoneOfTourBeforeRepeats}
 use Rattle.tsp_verdict.proofs.TourVerdicts.{cycle_found, larger_first, none_up_to_repeats, repeated_first}
 use Rattle.tsp_verdict.proofs.tour.first_against_nodes.Goals as goal
 

@@ -2,7 +2,7 @@
 -- what it ensures.
 use Rattle.std.proofs.Common.{◌≡◌, ◌+◌, ℕ, Bool, false, List, replicate, sym, subst, rules}
 use Rattle.tsp_verdict.specs.states.Marks.{Marked}
-use Rattle.tsp_verdict.proofs.MarkedNodes.{none_marked, stands_whole, found_whole}
+use Rattle.tsp_verdict.proofs.TourVerdicts.{none_marked, stands_whole, found_whole}
 use Rattle.tsp_verdict.proofs.tour.first_repeated.Goals as goal
 
 -- plan: at first no node is marked (`none_marked`), so the place found is the first of the list (`found_whole`)

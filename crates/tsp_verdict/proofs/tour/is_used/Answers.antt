@@ -1,6 +1,6 @@
 -- The goals of `is_used` in src/tour.rt, which says whether a cycle uses a pair: what it ensures.
 use Rattle.std.proofs.Common.{refl}
-use Rattle.tsp_verdict.proofs.FixedPairs.{uses_other, uses_none}
+use Rattle.tsp_verdict.proofs.TourVerdicts.{uses_other, uses_none}
 use Rattle.tsp_verdict.proofs.tour.is_used.Goals as goal
 
 -- plan: the table says what comes after a node, so the pair is used or isn't (`uses_other`, `uses_none`)

@@ -2,7 +2,7 @@
 -- its loop and what it ensures.
 use Rattle.std.proofs.Common.{◌≡◌, ◌≤◌, ◌<◌, ℕ, true, false, length, get_or, ◌∙◌, arith}
 use Rattle.std.proofs.lemmas.List.{length-set}
-use Rattle.tsp_verdict.proofs.MarkedNodes.{mark_more, small_next}
+use Rattle.tsp_verdict.proofs.TourVerdicts.{mark_more, small_next}
 use Rattle.tsp_verdict.proofs.tour.mark_different.Goals as goal
 
 -- plan: one node more is marked and small (`mark_more`, `small_next`)

@@ -2,9 +2,9 @@
 -- range, its loop and what it ensures.
 use Rattle.std.proofs.Common.{◌≡◌, ◌+◌, ◌∷◌, [], ◌++◌, List, ℕ, suc, length, get_or, set, sym, ap, subst, ◌∙◌, arith}
 use Rattle.std.specs.Prelude.{vec_len}
-use Rattle.tsp_theory.specs.Cycle.{IsCycle}
-use Rattle.tsp_verdict.specs.states.Next.{AreNext}
-use Rattle.tsp_verdict.proofs.Links.{SetUpTo, set_next, are_next, from_in, further, next_at, last_at}
+use Rattle.tsp_theory.specs.Tour.{IsCycle}
+use Rattle.tsp_verdict.specs.states.Marks.{AreNext}
+use Rattle.tsp_verdict.proofs.TourVerdicts.{SetUpTo, set_next, are_next, from_in, further, next_at, last_at}
 use Rattle.tsp_verdict.proofs.tour.next_nodes.Goals as goal
 
 -- plan: one link more is in the table (`set_next`); with all of them it says what comes next (`are_next`)

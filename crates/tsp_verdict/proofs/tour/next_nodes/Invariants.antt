@@ -1,7 +1,7 @@
 -- The loop of `next_nodes` in src/tour.rt.
 use Rattle.std.proofs.Common.{◌≡◌, ◌+◌, ◌∷◌, [], ◌++◌, get_or}
 use Rattle.std.specs.Prelude.{vec_len}
-use Rattle.tsp_verdict.proofs.Links.{SetUpTo}
+use Rattle.tsp_verdict.proofs.TourVerdicts.{SetUpTo}
 use Rattle.tsp_verdict.proofs.tour.next_nodes.Given as goal
 
 -- the table has the next node of each node before `from`, and nothing else

@@ -2,7 +2,7 @@
 -- ensures.
 use Rattle.std.proofs.Common.{Option, None, Some}
 use Rattle.std.specs.Prelude.{MatchOption}
-use Rattle.tsp_verdict.proofs.FilesHold.{tours_held, no_tours}
+use Rattle.tsp_verdict.proofs.RouteFiles.{tours_held, no_tours}
 use Rattle.tsp_verdict.proofs.tour.solution_tours.Goals as goal
 
 both : {A : Type 0} (found : Option A) (P R : Type 0) (Q S : A → Type 0) → MatchOption found P Q → (P → R) → ((x : A) → Q x → S x)

@@ -4,7 +4,7 @@ use Rattle.std.proofs.Common.{◌≡◌, ℕ, ℤ, List, length, IfSome, arith, 
 use Rattle.std.proofs.lemmas.List.{get_or_read}
 use Rattle.tsp_bound.specs.states.Boxes.{node_of}
 use Rattle.tsp_bound.specs.states.Components.{label_at, is_in_other_component, IsNearest}
-use Rattle.tsp_bound.proofs.Known.{kept_of_nearest}
+use Rattle.tsp_bound.proofs.RoundJoins.{kept_of_nearest}
 use Rattle.tsp_bound.proofs.boxes.LabelledComponents.nearest.Goals as goal
 
 -- plan: the link to the nearest place outside weighs no more than any out of the component (`kept_of_nearest`)

@@ -1,8 +1,8 @@
 -- The goals of `ByNode::at` in src/by_node.rt, which returns the multipliers of a node's pairs: what it ensures.
 use Rattle.std.proofs.Common.{ℕ, ap, ◌∙◌}
 use Rattle.std.proofs.lemmas.List.Elements.{recursion_from_All}
-use Rattle.tsp_theory.specs.CertificateNumbers.{IsMultiplier}
-use Rattle.tsp_bound.proofs.Tables.{are_lowerings, lowered_said}
+use Rattle.tsp_theory.specs.Bounds.{IsMultiplier}
+use Rattle.tsp_bound.proofs.LoweredWeights.{are_lowerings, lowered_said}
 use Rattle.tsp_bound.proofs.by_node.ByNode.at.Goals as goal
 
 -- plan: the node's list in the table is that of its pairs (`are_lowerings`, `lowered_said`)

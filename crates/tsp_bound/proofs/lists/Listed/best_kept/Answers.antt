@@ -5,8 +5,7 @@ use Rattle.std.proofs.lemmas.Bool.{cases_eq}
 use Rattle.std.proofs.lemmas.Int.{to_z-of_z}
 use Rattle.std.proofs.lemmas.List.{get_or_read}
 use Rattle.tsp_bound.specs.declared.search.Link.{Link}
-use Rattle.tsp_bound.specs.states.Components.{label_at}
-use Rattle.tsp_bound.specs.states.Lists.{weight_over, kept_at, empty_link, IsOwnLink}
+use Rattle.tsp_bound.specs.states.Components.{label_at, weight_over, kept_at, empty_link, IsOwnLink}
 use Rattle.tsp_bound.proofs.Listing.{IsEnding, ending_offered, reached_offered}
 use Rattle.tsp_bound.proofs.lists.Listed.best_kept.Goals as goal
 use Rattle.tsp_bound.proofs.lists.Listed.best_kept.Goals.{then-link-ne9223372036854775807+then-index-own, else-link-ne9223372036854775807, else-link-ne9223372036854775807-via-then-link-ne9223372036854775807+else-index-own, else-link-ne9223372036854775807-via-else-link-ne9223372036854775807}

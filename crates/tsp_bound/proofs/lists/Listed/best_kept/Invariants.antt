@@ -1,8 +1,7 @@
 -- The loop of `Listed::best_kept` in src/lists.rt, which finds the least listed link out of a component.
 use Rattle.std.proofs.Common.{◌≢◌, ◌<◌, ℕ, pos, length, IfSome}
-use Rattle.tsp_bound.specs.states.Components.{label_at}
-use Rattle.tsp_bound.specs.states.Lists.{weight_over, kept_at}
-use Rattle.tsp_bound.proofs.Known.{IsReached}
+use Rattle.tsp_bound.specs.states.Components.{label_at, weight_over, kept_at}
+use Rattle.tsp_bound.proofs.RoundJoins.{IsReached}
 use Rattle.tsp_bound.proofs.Listing.{IsEnding}
 use Rattle.tsp_bound.proofs.lists.Listed.best_kept.Given as goal
 

@@ -5,8 +5,7 @@ use Rattle.std.proofs.lemmas.Bool.{cases_eq}
 use Rattle.std.proofs.lemmas.Int.{to_z-of_z}
 use Rattle.std.proofs.lemmas.List.{get_or_read}
 use Rattle.tsp_bound.specs.declared.search.Link.{Link}
-use Rattle.tsp_bound.specs.states.Components.{label_at}
-use Rattle.tsp_bound.specs.states.Lists.{weight_over}
+use Rattle.tsp_bound.specs.states.Components.{label_at, weight_over}
 use Rattle.tsp_bound.proofs.Listing.{IsEnding, ending_offered, reached_offered}
 use Rattle.tsp_bound.proofs.lists.Listed.least_of_all.Goals as goal
 use Rattle.tsp_bound.proofs.lists.Listed.least_of_all.Goals.{then-index-own, else-index-own}

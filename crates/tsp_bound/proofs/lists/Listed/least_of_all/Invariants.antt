@@ -1,9 +1,8 @@
 -- The loop of `Listed::least_of_all` in src/lists.rt, which finds the least link out of a component by all pairs of a
 -- place.
 use Rattle.std.proofs.Common.{◌≢◌, ◌<◌, ℕ, length, IfSome}
-use Rattle.tsp_bound.specs.states.Components.{label_at}
-use Rattle.tsp_bound.specs.states.Lists.{weight_over}
-use Rattle.tsp_bound.proofs.Known.{IsReached}
+use Rattle.tsp_bound.specs.states.Components.{label_at, weight_over}
+use Rattle.tsp_bound.proofs.RoundJoins.{IsReached}
 use Rattle.tsp_bound.proofs.Listing.{IsEnding}
 use Rattle.tsp_bound.proofs.lists.Listed.least_of_all.Given as goal
 

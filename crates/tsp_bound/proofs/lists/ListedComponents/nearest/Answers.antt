@@ -4,10 +4,9 @@ use Rattle.std.proofs.Common.{◌≡◌, ◌≢◌, ◌≤ℤ◌, ◌∙◌, ℕ
 use Rattle.std.proofs.lemmas.Int.{ints, to_z-of_z}
 use Rattle.std.proofs.lemmas.List.{get_or_read}
 use Rattle.tsp_bound.specs.declared.search.Link.{Link}
-use Rattle.tsp_bound.specs.states.Components.{label_at}
-use Rattle.tsp_bound.specs.states.Lists.{weight_over}
+use Rattle.tsp_bound.specs.states.Components.{label_at, weight_over}
 use Rattle.tsp_theory.specs.states.Nearest.{least_at}
-use Rattle.tsp_bound.proofs.Boxed.{no_more_seen}
+use Rattle.tsp_bound.proofs.Searches.{no_more_seen}
 use Rattle.tsp_bound.proofs.Listing.{kept_link}
 use Rattle.tsp_bound.proofs.lists.ListedComponents.nearest.Goals as goal
 

@@ -4,7 +4,7 @@ use Rattle.std.proofs.Common.{◌≡◌, ◌≤ℤ◌, ◌∙◌, ℕ, ℤ, arit
 use Rattle.std.proofs.lemmas.Bool.{false≢true}
 use Rattle.std.proofs.lemmas.Int.{to_z-of_z}
 use Rattle.tsp_bound.specs.states.Boxes.{node_of}
-use Rattle.tsp_bound.proofs.Boxed.{less_seen, not_less_seen}
+use Rattle.tsp_bound.proofs.Searches.{less_seen, not_less_seen}
 use Rattle.tsp_bound.proofs.Lowest.{ArePlaces, AreLowered, lowest_kept, lowest_taken, lowest_end}
 use Rattle.tsp_bound.proofs.search.Placed.lowered.Goals as goal
 use Rattle.tsp_bound.proofs.search.Placed.lowered.Goals.{in-Some+then-weight-best, in-Some+else-weight-best, in_default}

@@ -5,7 +5,7 @@ use Rattle.std.proofs.lemmas.Int.{to_z-of_z}
 use Rattle.tsp_bound.specs.declared.boxes.NumberedSite.{NumberedSite}
 use Rattle.tsp_bound.specs.states.Boxes.{node_of, IsSearched, no_best}
 use Rattle.tsp_bound.proofs.Lowest.{searched_best}
-use Rattle.tsp_bound.proofs.Trees.{found_some, nearest_is}
+use Rattle.tsp_bound.proofs.Searches.{found_some, nearest_is}
 use Rattle.tsp_bound.proofs.search.Placed.nearest.Goals as goal
 
 -- plan: the place that the search finds is no farther than any place outside (`searched_best`), so it is the nearest

@@ -3,7 +3,7 @@ use Rattle.std.proofs.Common.{ℕ, ◌+◌, ◌*◌, Option, arith, rules, w64, 
 use Rattle.tsp_format.specs.Nodes.{IsNode}
 use Rattle.tsp_bound.specs.declared.area.Area.{Area}
 use Rattle.tsp_bound.specs.states.Boxes.{HoldsNode, IsSearched}
-use Rattle.tsp_bound.proofs.Trees.{searched_alone, searched_both}
+use Rattle.tsp_bound.proofs.Searches.{searched_alone, searched_both}
 use Rattle.tsp_bound.proofs.search.Search.+below.Goals as goal
 use Rattle.tsp_bound.proofs.search.Search.+below.Goals.{then-is_left_alone, else-is_left_alone}
 

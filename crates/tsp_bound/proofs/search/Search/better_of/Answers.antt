@@ -4,8 +4,7 @@ use Rattle.std.proofs.Common.{◌≡◌, ◌≤ℤ◌, ◌<ℤ◌, ◌+◌, ℕ,
 use Rattle.std.proofs.lemmas.Int.{ints, to_z-of_z}
 use Rattle.std.proofs.lemmas.Bool.{false≢true}
 use Rattle.tsp_bound.specs.states.Boxes.{node_of}
-use Rattle.tsp_bound.proofs.Boxed.{less_seen, below_seen, not_less_seen}
-use Rattle.tsp_bound.proofs.Trees.{searched_none, leaf_below}
+use Rattle.tsp_bound.proofs.Searches.{less_seen, below_seen, not_less_seen, searched_none, leaf_below}
 use Rattle.tsp_bound.proofs.search.Search.better_of.Goals as goal
 
 -- plan: by whether the place is outside and lighter: it is the best (`less_seen`), or isn't (`not_less_seen`)

@@ -5,8 +5,8 @@ use Rattle.std.proofs.lemmas.Int.{to_z-of_z}
 use Rattle.tsp_bound.specs.declared.area.Area.{Area}
 use Rattle.tsp_bound.specs.states.Potentials.{IsInverse}
 use Rattle.tsp_bound.specs.states.Boxes.{HoldsNode}
-use Rattle.tsp_bound.proofs.Boxed.{on_true_still, left_is, enough_is, best_below}
-use Rattle.tsp_theory.proofs.Sizes.{same_scale}
+use Rattle.tsp_bound.proofs.Searches.{on_true_still, left_is, enough_is, best_below}
+use Rattle.tsp_theory.proofs.Sums.{same_scale}
 use Rattle.tsp_bound.proofs.search.Search.is_left_alone.Goals as goal
 
 pub cost_of-least-requires-clause-inverse : goal.cost_of-least-requires-clause-inverse

@@ -2,8 +2,8 @@
 -- the nodes to which a node's weight may be lowered.
 use Rattle.std.proofs.Common.{◌≢◌, ◌<◌, ℕ, List, ℤ, length, map, arith, sym, subst}
 use Rattle.std.proofs.lemmas.Int.{ints}
-use Rattle.tsp_bound.specs.states.NodeNumbers.{node_in}
-use Rattle.tsp_bound.proofs.Lowered.{none_lowered, none_listed, lowered_size}
+use Rattle.tsp_bound.specs.states.ByNode.{node_in}
+use Rattle.tsp_bound.proofs.LoweredWeights.{none_lowered, none_listed, lowered_size}
 use Rattle.tsp_bound.proofs.weights.WeightsBoxedWeights.count_lowered.Goals as goal
 
 pub returns-clause-no_more : goal.returns-clause-no_more

@@ -6,10 +6,10 @@ use Rattle.std.specs.Prelude.{pos}
 use Rattle.std.proofs.Math.ListN.{get_or-map}
 use Rattle.std.proofs.lemmas.Int.{ints, to_z-of_z}
 use Rattle.std.proofs.lemmas.List.{get_or_default, length-map}
-use Rattle.tsp_theory.proofs.Weights.{lower_fits, lower_is}
+use Rattle.tsp_theory.proofs.Cycles.{lower_fits, lower_is}
 use Rattle.tsp_bound.specs.states.ByNode.{all_said_of}
-use Rattle.tsp_bound.specs.states.Multipliers.{triples_in}
-use Rattle.tsp_bound.proofs.Lowered.{one_lowered}
+use Rattle.tsp_bound.specs.states.Potentials.{triples_in}
+use Rattle.tsp_bound.proofs.LoweredWeights.{one_lowered}
 use Rattle.tsp_bound.proofs.weights.WeightsBoxedWeights.lowered.Goals as goal
 
 pub overflow_sub-result : goal.overflow_sub-result

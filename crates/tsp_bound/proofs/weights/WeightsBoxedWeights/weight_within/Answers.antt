@@ -3,9 +3,9 @@
 use Rattle.std.proofs.Common.{◌-◌, ◌∙◌, ℤ, arith, rules, ap, ap₂, sym, subst, w64, to_z, of_z, SFits}
 use Rattle.std.specs.Prelude.{pos, neg_ℤ, ◌+ℤ◌, ◌*ℤ◌, ◌≤ℤ◌}
 use Rattle.tsp_format.specs.Limits.{most_potential}
-use Rattle.tsp_format.specs.Ranges.{IsFromTo}
+use Rattle.tsp_format.specs.Steps.{IsFromTo}
 use Rattle.std.proofs.lemmas.Int.{to_z-of_z}
-use Rattle.tsp_theory.proofs.Weights.{weight_fits, weight_computed, scaled_by}
+use Rattle.tsp_theory.proofs.Cycles.{weight_fits, weight_computed, scaled_by}
 use Rattle.tsp_bound.proofs.weights.WeightsBoxedWeights.weight_within.Goals as goal
 
 pub overflow_add-result : goal.overflow_add-result

@@ -5,11 +5,10 @@ use Rattle.std.specs.Prelude.{◌<ℤ◌}
 use Rattle.std.proofs.lemmas.Int.{ints}
 use Rattle.tsp_format.specs.Nodes.{IsNode}
 use Rattle.tsp_theory.specs.states.Nearest.{least_at}
-use Rattle.tsp_theory.proofs.MostWeight.{most_64}
-use Rattle.tsp_bound.specs.states.Potentials.{weight_under}
+use Rattle.tsp_theory.proofs.Sums.{most_64}
+use Rattle.tsp_bound.specs.states.Potentials.{weight_under, triples_in, weight_less}
 use Rattle.tsp_bound.specs.states.ByNode.{AreLowerings}
-use Rattle.tsp_bound.specs.states.Multipliers.{triples_in, weight_less}
-use Rattle.tsp_bound.proofs.Lowered.{lowered_to}
+use Rattle.tsp_bound.proofs.LoweredWeights.{lowered_to}
 use Rattle.tsp_bound.proofs.weights.WeightsWeights.fill.Goals as goal
 
 -- plan: each weight of the row, less the multiplier of its pair, is the lowered weight (`lowered_to`)

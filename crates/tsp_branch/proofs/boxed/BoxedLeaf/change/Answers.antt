@@ -4,12 +4,11 @@ use Rattle.std.specs.Int.{w64, int_wrap}
 use Rattle.std.specs.Prelude.{neg_ℤ}
 use Rattle.std.specs.List.{filter}
 use Rattle.std.proofs.lemmas.Int.{ints, to_z-of_z, int_wrap_fits}
-use Rattle.tsp_format.specs.Ranges.{IsFromTo}
+use Rattle.tsp_format.specs.Steps.{IsFromTo}
 use Rattle.tsp_cases.specs.declared.open_case.Decision.{Decision}
-use Rattle.tsp_cases.specs.Decisions.{decided_number}
-use Rattle.tsp_cases.specs.states.Decided.{changes, stack_of}
-use Rattle.tsp_cases.specs.states.OpenCases.{bears_on, decisions_in}
-use Rattle.tsp_cases.proofs.Changes.{within}
+use Rattle.tsp_cases.specs.Cases.{decided_number}
+use Rattle.tsp_cases.specs.states.OpenCases.{changes, stack_of, bears_on, decisions_in}
+use Rattle.tsp_cases.proofs.SetSums.{within}
 use Rattle.tsp_cases.proofs.OpenCases.{changes_listed}
 use Rattle.tsp_branch.proofs.boxed.BoxedLeaf.change.Goals as goal
 

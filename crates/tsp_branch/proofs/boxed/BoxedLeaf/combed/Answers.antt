@@ -7,15 +7,10 @@ use Rattle.std.specs.List.{All}
 use Rattle.std.proofs.lemmas.Int.{to_z-of_z}
 use Rattle.tsp_theory.specs.states.Nearest.{least_at}
 use Rattle.tsp_cases.specs.declared.sets.SetPlace.{SetPlace}
-use Rattle.tsp_cases.specs.states.Places.{IsPlaceIn}
-use Rattle.tsp_cases.specs.states.Sets.{places_with}
-use Rattle.tsp_cases.specs.states.Lent.{lent_in}
-use Rattle.tsp_cases.specs.states.Combed.{inside_both}
-use Rattle.tsp_branch.specs.states.Shared.{shared_by}
-use Rattle.tsp_cases.proofs.SetAlgebra.{places_inside}
-use Rattle.tsp_cases.proofs.CaseWeights.{small_multipliers}
-use Rattle.tsp_branch.proofs.SharedSets.{shared_is}
-use Rattle.tsp_branch.proofs.BoxedValues.{boxed_at}
+use Rattle.tsp_cases.specs.states.Sets.{IsPlaceIn, places_with, lent_in, inside_both}
+use Rattle.tsp_branch.specs.states.LeafRows.{shared_by}
+use Rattle.tsp_cases.proofs.SetSums.{places_inside, small_multipliers}
+use Rattle.tsp_branch.proofs.BoxedLeaves.{shared_is, boxed_at}
 use Rattle.tsp_branch.proofs.boxed.BoxedLeaf.combed.Goals as goal
 
 pub invariant_of-multipliers : goal.invariant_of-multipliers

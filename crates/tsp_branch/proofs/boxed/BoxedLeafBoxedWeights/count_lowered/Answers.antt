@@ -4,12 +4,10 @@ use Rattle.std.proofs.Common.{◌≡◌, ◌∙◌, Bool, List, length, ap, sym,
 use Rattle.std.specs.List.{filter}
 use Rattle.std.proofs.lemmas.List.{length-map}
 use Rattle.tsp_cases.specs.declared.open_case.Decision.{Decision}
-use Rattle.tsp_cases.specs.states.Decided.{stack_of}
-use Rattle.tsp_branch.specs.states.Shared.{other_of}
-use Rattle.tsp_cases.specs.states.Lent.{lent_in}
-use Rattle.tsp_cases.specs.states.Combed.{set_weight}
-use Rattle.tsp_cases.specs.states.OpenCases.{bears_on, decisions_in}
-use Rattle.tsp_branch.proofs.BoxedValues.{listed_is, lowered_no_more, others_same}
+use Rattle.tsp_cases.specs.states.OpenCases.{stack_of, bears_on, decisions_in}
+use Rattle.tsp_branch.specs.states.LeafRows.{other_of}
+use Rattle.tsp_cases.specs.states.Sets.{lent_in, set_weight}
+use Rattle.tsp_branch.proofs.BoxedLeaves.{listed_is, lowered_no_more, others_same}
 use Rattle.tsp_branch.proofs.boxed.BoxedLeafBoxedWeights.count_lowered.Goals as goal
 
 -- plan: a node's pairs are listed with it (`listed_is`), and no other pair lowers it (`others_same`)

@@ -2,10 +2,10 @@
 -- whether all nodes of a region are known to cost at least a number.
 use Rattle.std.proofs.Common.{◌∙◌, refl}
 use Rattle.tsp_theory.specs.states.Nearest.{least_at}
-use Rattle.tsp_cases.specs.states.Lent.{lent_in}
+use Rattle.tsp_cases.specs.states.Sets.{lent_in}
 use Rattle.tsp_cases.specs.states.OpenCases.{decisions_in}
-use Rattle.tsp_cases.proofs.CaseWeights.{small_multipliers}
-use Rattle.tsp_branch.proofs.BoxedValues.{base_below}
+use Rattle.tsp_cases.proofs.SetSums.{small_multipliers}
+use Rattle.tsp_branch.proofs.BoxedLeaves.{base_below}
 use Rattle.tsp_branch.proofs.boxed.BoxedLeafBoxedWeights.is_beyond.Goals as goal
 
 -- plan: the base is at most the weight (`base_below`), so a region that is too far by its base is too far by its

@@ -10,14 +10,12 @@ use Rattle.std.proofs.lemmas.Int.{to_z-of_z}
 use Rattle.std.proofs.lemmas.List.{length-map}
 use Rattle.tsp_format.specs.Nodes.{IsNode}
 use Rattle.tsp_cases.specs.declared.open_case.Decision.{Decision}
-use Rattle.tsp_cases.specs.states.Lent.{lent_in}
-use Rattle.tsp_cases.specs.states.Combed.{set_weight}
-use Rattle.tsp_cases.specs.states.Decided.{IsDecision, stack_of}
-use Rattle.tsp_cases.specs.states.OpenCases.{bears_on, decisions_in}
-use Rattle.tsp_branch.specs.states.Shared.{other_of, others_of}
-use Rattle.tsp_cases.proofs.Changes.{changes_are}
-use Rattle.tsp_branch.proofs.OpenRows.{all_passed}
-use Rattle.tsp_branch.proofs.BoxedValues.{listed_is, listed_at_index}
+use Rattle.tsp_cases.specs.states.Sets.{lent_in, set_weight}
+use Rattle.tsp_cases.specs.states.OpenCases.{IsDecision, stack_of, bears_on, decisions_in}
+use Rattle.tsp_branch.specs.states.LeafRows.{other_of, others_of}
+use Rattle.tsp_cases.proofs.SetSums.{changes_are}
+use Rattle.tsp_branch.proofs.CaseLeaves.{all_passed}
+use Rattle.tsp_branch.proofs.BoxedLeaves.{listed_is, listed_at_index}
 use Rattle.tsp_branch.proofs.boxed.BoxedLeafBoxedWeights.lowered.Goals as goal
 use Rattle.tsp_branch.proofs.boxed.BoxedLeafBoxedWeights.lowered.Goals.{then-first-from, else-first-from}
 

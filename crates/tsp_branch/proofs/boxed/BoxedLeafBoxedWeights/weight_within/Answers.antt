@@ -5,15 +5,13 @@ use Rattle.std.specs.Int.{w64}
 use Rattle.std.specs.Prelude.{pos, ◌+ℤ◌}
 use Rattle.std.proofs.lemmas.Int.{ints, to_z-of_z}
 use Rattle.tsp_theory.specs.states.Nearest.{least_at}
-use Rattle.tsp_bound.proofs.Boxed.{below_seen, not_less_seen}
+use Rattle.tsp_bound.proofs.Searches.{below_seen, not_less_seen}
 use Rattle.tsp_cases.specs.declared.open_case.Decision.{Decision}
-use Rattle.tsp_cases.specs.states.Lent.{lent_in}
-use Rattle.tsp_cases.specs.states.Combed.{set_weight}
-use Rattle.tsp_cases.specs.states.Decided.{changes}
-use Rattle.tsp_cases.specs.states.OpenCases.{decisions_in}
-use Rattle.tsp_branch.specs.states.Shared.{upwards, raised}
-use Rattle.tsp_cases.proofs.CaseWeights.{small_multipliers}
-use Rattle.tsp_branch.proofs.BoxedValues.{base_below, upwards_less, upwards_same}
+use Rattle.tsp_cases.specs.states.Sets.{lent_in, set_weight}
+use Rattle.tsp_cases.specs.states.OpenCases.{changes, decisions_in}
+use Rattle.tsp_branch.specs.states.LeafRows.{upwards, raised}
+use Rattle.tsp_cases.proofs.SetSums.{small_multipliers}
+use Rattle.tsp_branch.proofs.BoxedLeaves.{base_below, upwards_less, upwards_same}
 use Rattle.tsp_branch.proofs.boxed.BoxedLeafBoxedWeights.weight_within.Goals as goal
 
 -- plan: the base is at most the weight without lowerings (`base_below`), as sets and decisions only add. So a sum that

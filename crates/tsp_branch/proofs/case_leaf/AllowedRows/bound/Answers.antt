@@ -3,9 +3,9 @@ use Rattle.std.proofs.Common.{ℤ, rules, FitsSigned, to_z, of_z, subst, sym}
 use Rattle.std.specs.Prelude.{◌+ℤ◌}
 use Rattle.std.specs.Int.{w128}
 use Rattle.std.proofs.lemmas.Int.{to_z-of_z}
-use Rattle.tsp_theory.specs.CertificateNumbers.{IsLeastBound}
-use Rattle.tsp_theory.proofs.Sizes.{same_scale}
-use Rattle.tsp_branch.proofs.Sums.{with_back}
+use Rattle.tsp_theory.specs.Bounds.{IsLeastBound}
+use Rattle.tsp_theory.proofs.Sums.{same_scale}
+use Rattle.tsp_branch.proofs.CaseLeaves.{with_back}
 use Rattle.tsp_branch.proofs.case_leaf.AllowedRows.bound.Goals as goal
 
 -- plan: the sum of the least links plus the number given back fits 128 bits (`with_back`), and is rounded up

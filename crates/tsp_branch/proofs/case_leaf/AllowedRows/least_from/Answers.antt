@@ -4,11 +4,10 @@ use Rattle.std.proofs.Common.{◌≡◌, ◌+◌, ◌∙◌, Bool, length, inl, 
 use Rattle.std.specs.Int.{w64}
 use Rattle.std.specs.List.{filter}
 use Rattle.std.proofs.lemmas.Int.{ints, to_z-of_z}
-use Rattle.tsp_cases.specs.Rows.{IsLeastFrom}
-use Rattle.tsp_branch.specs.states.Closed.{no_link, IsOpenRow}
-use Rattle.tsp_cases.specs.states.Decided.{stack_of}
-use Rattle.tsp_cases.specs.states.OpenCases.{bears_on, decisions_in}
-use Rattle.tsp_branch.proofs.OpenRows.{ends_inside, none_allowed, least_allowed}
+use Rattle.tsp_cases.specs.CaseTrees.{IsLeastFrom}
+use Rattle.tsp_branch.specs.states.LeafRows.{no_link, IsOpenRow}
+use Rattle.tsp_cases.specs.states.OpenCases.{stack_of, bears_on, decisions_in}
+use Rattle.tsp_branch.proofs.CaseLeaves.{ends_inside, none_allowed, least_allowed}
 use Rattle.tsp_branch.proofs.case_leaf.AllowedRows.least_from.Goals as goal
 
 -- plan: the open links of the row are the allowed ones: there is none (`none_allowed`), or the least of them

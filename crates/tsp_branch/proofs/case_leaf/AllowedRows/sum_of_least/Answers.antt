@@ -5,7 +5,7 @@ use Rattle.std.specs.Int.{w64, w128}
 use Rattle.std.proofs.lemmas.Int.{ints, to_z-of_z}
 use Rattle.tsp_format.specs.Limits.{most_nodes}
 use Rattle.tsp_cases.specs.states.OpenCases.{decisions_in}
-use Rattle.tsp_branch.proofs.Sums.{sum_none, sum_more, size_more, sum_computed}
+use Rattle.tsp_branch.proofs.CaseLeaves.{sum_none, sum_more, size_more, sum_computed}
 use Rattle.tsp_branch.proofs.case_leaf.AllowedRows.sum_of_least.Goals as goal
 
 pub nodes-init : goal.nodes-init

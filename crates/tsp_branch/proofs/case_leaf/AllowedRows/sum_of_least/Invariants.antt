@@ -1,6 +1,6 @@
 -- The loop of `AllowedRows::sum_of_least` in src/case_leaf.rt, which sums the least links of all nodes of an ATSP.
-use Rattle.tsp_theory.specs.CertificateNumbers.{IsSumSized}
-use Rattle.tsp_cases.specs.Rows.{IsSumOfLeast}
+use Rattle.tsp_theory.specs.Bounds.{IsSumSized}
+use Rattle.tsp_cases.specs.CaseTrees.{IsSumOfLeast}
 use Rattle.tsp_cases.specs.states.OpenCases.{decisions_in}
 use Rattle.tsp_branch.proofs.case_leaf.AllowedRows.sum_of_least.Given as goal
 

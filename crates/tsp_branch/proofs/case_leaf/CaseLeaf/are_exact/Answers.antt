@@ -7,18 +7,13 @@ use Rattle.std.specs.List.{All}
 use Rattle.std.proofs.lemmas.Bool.{cases_eq}
 use Rattle.std.proofs.lemmas.Int.{ints, int_wrap_fits}
 use Rattle.tsp_format.specs.Nodes.{IsNode}
-use Rattle.tsp_format.specs.Ranges.{IsFromTo}
-use Rattle.tsp_theory.specs.CertificateNumbers.{entry, most_number}
+use Rattle.tsp_format.specs.Steps.{IsFromTo}
+use Rattle.tsp_theory.specs.Bounds.{entry, most_number}
 use Rattle.tsp_theory.specs.states.Nearest.{least_at}
-use Rattle.tsp_cases.specs.states.Places.{IsPlaceIn}
-use Rattle.tsp_cases.specs.states.Sets.{places_with}
-use Rattle.tsp_cases.specs.states.Lent.{lent_in}
-use Rattle.tsp_cases.specs.states.Combed.{multipliers_at}
-use Rattle.tsp_branch.specs.states.Shared.{sum_at_places}
-use Rattle.tsp_cases.proofs.Changes.{within}
-use Rattle.tsp_cases.proofs.SetAlgebra.{places_inside}
-use Rattle.tsp_cases.proofs.CaseWeights.{small_multipliers}
-use Rattle.tsp_branch.proofs.SharedSets.{number_is}
+use Rattle.tsp_cases.specs.states.Sets.{IsPlaceIn, places_with, lent_in, multipliers_at}
+use Rattle.tsp_branch.specs.states.LeafRows.{sum_at_places}
+use Rattle.tsp_cases.proofs.SetSums.{within, places_inside, small_multipliers}
+use Rattle.tsp_branch.proofs.BoxedLeaves.{number_is}
 use Rattle.tsp_branch.proofs.case_leaf.CaseLeaf.are_exact.Goals as goal
 
 pub invariant_of-multipliers : goal.invariant_of-multipliers

@@ -4,20 +4,17 @@ use Rattle.std.proofs.Common.{◌≡◌, ◌∙◌, ◌^◌, ℕ, ℤ, Bool, Lis
 use Rattle.std.specs.Prelude.{pos, neg_ℤ, ◌-ℤ◌, ◌*ℤ◌}
 use Rattle.std.specs.Int.{w128}
 use Rattle.std.proofs.lemmas.Int.{ints, to_z-of_z}
-use Rattle.tsp_format.specs.Ranges.{IsFromTo}
-use Rattle.tsp_theory.specs.CertificateNumbers.{IsScale, total}
-use Rattle.tsp_theory.specs.NodeBound.{weight_between}
-use Rattle.tsp_theory.proofs.Sizes.{same_scale}
+use Rattle.tsp_format.specs.Steps.{IsFromTo}
+use Rattle.tsp_theory.specs.Bounds.{IsScale, total, weight_between}
+use Rattle.tsp_theory.proofs.Sums.{same_scale}
 use Rattle.tsp_cases.specs.Families.{Family}
 use Rattle.tsp_cases.specs.declared.open_case.Decision.{Decision}
-use Rattle.tsp_cases.specs.Decisions.{decided_number}
-use Rattle.tsp_cases.specs.LeafBound.{combed, least_of}
-use Rattle.tsp_cases.specs.CaseTrees.{multiplied}
-use Rattle.tsp_cases.specs.states.Lent.{lent_in, good_in}
-use Rattle.tsp_cases.specs.states.Combed.{set_weight}
+use Rattle.tsp_cases.specs.Cases.{decided_number}
+use Rattle.tsp_cases.specs.CaseTrees.{combed, least_of, multiplied}
+use Rattle.tsp_cases.specs.states.Sets.{lent_in, good_in, set_weight}
 use Rattle.tsp_cases.specs.states.OpenCases.{decisions_in}
-use Rattle.tsp_branch.specs.states.Shared.{decided_by}
-use Rattle.tsp_cases.proofs.CaseWeights.{row_weight, found_by_rows}
+use Rattle.tsp_branch.specs.states.LeafRows.{decided_by}
+use Rattle.tsp_cases.proofs.SetSums.{row_weight, found_by_rows}
 use Rattle.tsp_branch.proofs.case_leaf.CaseLeaf.bound_by_rows.Goals as goal
 
 pub invariant_of-rows : goal.invariant_of-rows

@@ -5,24 +5,21 @@ use Rattle.std.specs.Prelude.{pos, neg_ℤ, ◌+ℤ◌}
 use Rattle.std.specs.Int.{w128}
 use Rattle.std.proofs.lemmas.Int.{ints}
 use Rattle.std.proofs.lemmas.Result.{IfOk-weaker}
-use Rattle.tsp_format.specs.Ranges.{IsFromTo}
-use Rattle.tsp_theory.specs.CertificateNumbers.{IsScale}
-use Rattle.tsp_theory.proofs.Sizes.{same_scale}
+use Rattle.tsp_format.specs.Steps.{IsFromTo}
+use Rattle.tsp_theory.specs.Bounds.{IsScale}
+use Rattle.tsp_theory.proofs.Sums.{same_scale}
 use Rattle.tsp_cases.specs.Families.{Family}
 use Rattle.tsp_cases.specs.declared.open_case.Decision.{Decision}
-use Rattle.tsp_cases.specs.Decisions.{DecideOnce, on_taken, on_avoided, decided_number}
-use Rattle.tsp_cases.specs.LeafBound.{IsLeafBound}
-use Rattle.tsp_cases.specs.CaseTrees.{multiplied}
-use Rattle.tsp_branch.specs.LeafWeight.{BoundsEachLeaf, given_back_of}
-use Rattle.tsp_cases.specs.states.Lent.{lent_in, good_in}
-use Rattle.tsp_cases.specs.states.Combed.{set_weight}
-use Rattle.tsp_cases.specs.states.Decided.{stack_of, decided, marks_in}
+use Rattle.tsp_cases.specs.Cases.{DecideOnce, on_taken, on_avoided, decided_number}
+use Rattle.tsp_cases.specs.CaseTrees.{IsLeafBound, multiplied}
+use Rattle.tsp_branch.specs.BranchVerdicts.{BoundsEachLeaf, given_back_of}
+use Rattle.tsp_cases.specs.states.Sets.{lent_in, good_in, set_weight}
+use Rattle.tsp_cases.specs.states.OpenCases.{stack_of, decided, marks_in, IsOpenCase, decisions_in}
 use Rattle.tsp_cases.specs.states.Kept.{kept_weight, AreRowsIfAny}
-use Rattle.tsp_cases.specs.states.OpenCases.{IsOpenCase, decisions_in}
-use Rattle.tsp_cases.proofs.LeafBounds.{leaf_even}
-use Rattle.tsp_cases.proofs.DecidedOnce.{few_changes}
-use Rattle.tsp_cases.proofs.CaseWeights.{case_weight, back_of}
-use Rattle.tsp_branch.proofs.GivenBack.{back_held, taken_listed, taken_few}
+use Rattle.tsp_cases.proofs.CaseTrees.{leaf_even}
+use Rattle.tsp_cases.proofs.OpenCases.{few_changes}
+use Rattle.tsp_cases.proofs.SetSums.{case_weight, back_of}
+use Rattle.tsp_branch.proofs.CaseLeaves.{back_held, taken_listed, taken_few}
 use Rattle.tsp_branch.proofs.case_leaf.CaseLeaf.bound_by_trees.Goals as goal
 
 pub taken_back-taken-requires : goal.taken_back-taken-requires

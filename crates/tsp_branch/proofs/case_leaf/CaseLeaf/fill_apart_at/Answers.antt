@@ -8,8 +8,7 @@ use Rattle.std.proofs.lemmas.Bool.{cases_eq}
 use Rattle.std.proofs.lemmas.Int.{to_z-of_z}
 use Rattle.std.proofs.lemmas.List.{get_or-set_same, get_or-set_other}
 use Rattle.tsp_theory.specs.states.Nearest.{least_at}
-use Rattle.tsp_cases.specs.states.Lent.{lent_in}
-use Rattle.tsp_cases.specs.states.Combed.{IsApart}
+use Rattle.tsp_cases.specs.states.Sets.{lent_in, IsApart}
 use Rattle.tsp_branch.proofs.case_leaf.CaseLeaf.fill_apart_at.Goals as goal
 
 -- plan: one place more has its weight without sets

@@ -2,8 +2,7 @@
 -- nodes.
 use Rattle.std.proofs.Common.{◌<◌, ℕ, length, slice_index}
 use Rattle.tsp_theory.specs.states.Nearest.{least_at}
-use Rattle.tsp_cases.specs.states.Lent.{lent_in}
-use Rattle.tsp_cases.specs.states.Combed.{IsApart}
+use Rattle.tsp_cases.specs.states.Sets.{lent_in, IsApart}
 use Rattle.tsp_branch.proofs.case_leaf.CaseLeaf.fill_apart_at.Given as goal
 
 -- for each node before this place the row has the weight as if no set had two nodes, in 64 bits

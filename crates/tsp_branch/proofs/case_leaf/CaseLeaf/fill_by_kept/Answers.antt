@@ -6,20 +6,18 @@ use Rattle.std.specs.Prelude.{pos, neg_ℤ, ◌*ℤ◌}
 use Rattle.std.specs.Global.{Vec}
 use Rattle.std.proofs.lemmas.Int.{ints, to_z-of_z}
 use Rattle.tsp_format.specs.Nodes.{IsNode}
-use Rattle.tsp_format.specs.Ranges.{IsFromTo}
-use Rattle.tsp_theory.specs.CertificateNumbers.{entry}
+use Rattle.tsp_format.specs.Steps.{IsFromTo}
+use Rattle.tsp_theory.specs.Bounds.{entry}
 use Rattle.tsp_theory.specs.states.Nearest.{least_at}
-use Rattle.tsp_theory.proofs.Weights.{between_size}
-use Rattle.tsp_theory.proofs.Sizes.{scaled_size}
-use Rattle.tsp_cases.specs.states.Lent.{lent_in}
-use Rattle.tsp_cases.specs.states.Combed.{set_weight}
+use Rattle.tsp_theory.proofs.Cycles.{between_size}
+use Rattle.tsp_theory.proofs.Sums.{scaled_size}
+use Rattle.tsp_cases.specs.states.Sets.{lent_in, set_weight}
 use Rattle.tsp_cases.specs.declared.open_case.Decision.{Decision}
-use Rattle.tsp_cases.specs.states.Decided.{marks_in, most_decided}
-use Rattle.tsp_cases.specs.states.OpenCases.{decisions_in}
+use Rattle.tsp_cases.specs.states.OpenCases.{marks_in, most_decided, decisions_in}
 use Rattle.tsp_cases.specs.states.Kept.{kept_weight, IsKeptRow}
 use Rattle.tsp_cases.proofs.RowsKept.{marked_at}
-use Rattle.tsp_branch.specs.states.Shared.{decided_by}
-use Rattle.tsp_branch.proofs.DecidedLeaves.{marked_is}
+use Rattle.tsp_branch.specs.states.LeafRows.{decided_by}
+use Rattle.tsp_branch.proofs.CaseLeaves.{marked_is}
 use Rattle.tsp_branch.proofs.case_leaf.CaseLeaf.fill_by_kept.Goals as goal
 
 -- plan: the row kept from leaf to leaf plus both numbers is the weight with marks (`marked_at`), which is the one with

@@ -4,17 +4,11 @@ use Rattle.std.proofs.Common.{◌≡◌, ◌<◌, ℕ, ℤ, List, length, slice_
 use Rattle.std.specs.Prelude.{pos, neg_ℤ}
 use Rattle.std.specs.List.{All}
 use Rattle.std.proofs.lemmas.Int.{ints}
-use Rattle.tsp_format.specs.Ranges.{IsFromTo}
-use Rattle.tsp_theory.specs.states.Nearest.{least_at}
+use Rattle.tsp_format.specs.Steps.{IsFromTo}
+use Rattle.tsp_theory.specs.states.Nearest.{least_at, IsMoved}
 use Rattle.tsp_cases.specs.declared.sets.SetPlace.{SetPlace}
-use Rattle.tsp_theory.specs.states.Additions.{IsMoved}
-use Rattle.tsp_cases.specs.states.Sets.{places_with}
-use Rattle.tsp_cases.specs.states.Places.{IsPlaceIn}
-use Rattle.tsp_cases.specs.states.Lent.{lent_in}
-use Rattle.tsp_cases.specs.states.Combed.{inside_both, most_combed, set_weight}
-use Rattle.tsp_cases.proofs.SetAlgebra.{places_inside}
-use Rattle.tsp_cases.proofs.CaseWeights.{small_multipliers}
-use Rattle.tsp_cases.proofs.CombedValues.{combed_at}
+use Rattle.tsp_cases.specs.states.Sets.{places_with, IsPlaceIn, lent_in, inside_both, most_combed, set_weight}
+use Rattle.tsp_cases.proofs.SetSums.{places_inside, small_multipliers, combed_at}
 use Rattle.tsp_branch.proofs.case_leaf.CaseLeaf.fill_combed_at.Goals as goal
 
 pub invariant_of-multiplied : goal.invariant_of-multiplied

@@ -2,11 +2,10 @@
 -- the nodes 2..n by least weights.
 use Rattle.std.proofs.Common.{arith, ℕ, ℤ}
 use Rattle.std.proofs.lemmas.Result.{IfOk-weaker}
-use Rattle.tsp_theory.proofs.Forests.{growth_is_forest}
-use Rattle.tsp_cases.specs.states.Lent.{lent_in}
-use Rattle.tsp_cases.specs.states.Combed.{set_weight}
+use Rattle.tsp_theory.proofs.Trees.{growth_is_forest}
+use Rattle.tsp_cases.specs.states.Sets.{lent_in, set_weight}
 use Rattle.tsp_cases.specs.states.OpenCases.{decisions_in}
-use Rattle.tsp_branch.specs.states.Shared.{decided_by}
+use Rattle.tsp_branch.specs.states.LeafRows.{decided_by}
 use Rattle.tsp_bound.specs.declared.tree.Grown.{Grown}
 use Rattle.tsp_branch.proofs.leaf_rows.CaseLeafGrowing.grow.Goals as goal
 

@@ -4,13 +4,10 @@ use Rattle.std.proofs.Common.{◌≡◌, ◌∙◌, ℕ, ℤ, Bool, List, slice_
 use Rattle.std.specs.List.{filter}
 use Rattle.std.proofs.lemmas.Int.{ints}
 use Rattle.tsp_theory.specs.states.Nearest.{least_at}
-use Rattle.tsp_cases.specs.states.Lent.{lent_in}
-use Rattle.tsp_cases.specs.states.Combed.{set_weight}
+use Rattle.tsp_cases.specs.states.Sets.{lent_in, set_weight}
 use Rattle.tsp_cases.specs.declared.open_case.Decision.{Decision}
-use Rattle.tsp_cases.specs.states.Decided.{stack_of}
-use Rattle.tsp_cases.specs.states.OpenCases.{bears_on, decisions_in}
-use Rattle.tsp_branch.proofs.OpenRows.{both_inside}
-use Rattle.tsp_branch.proofs.DecidedLeaves.{changed_is}
+use Rattle.tsp_cases.specs.states.OpenCases.{stack_of, bears_on, decisions_in}
+use Rattle.tsp_branch.proofs.CaseLeaves.{both_inside, changed_is}
 use Rattle.tsp_branch.proofs.leaf_rows.CaseLeafWeights.fill_at.Goals as goal
 
 pub change_row-requires : goal.change_row-requires

@@ -27,9 +27,9 @@ use denote.Triple.Walked.{says, Stays, stay_dropped, walk_of, ends_at, Goes-drop
 use Rattle.std_alloc.proofs.BoxSteps.Form.{D, B, word, box_typed}
 use Rattle.std_alloc.proofs.BoxSteps.Steps.{box_out, box_in}
 use Rattle.tsp_judge.specs.Open.{Open}
-use Rattle.tsp_c.specs.Held.{open_of}
+use Rattle.tsp_c.specs.Opened.{open_of}
 use Rattle.tsp_c.specs.contracts.handle.Loose as Loose
-use Rattle.tsp_c.proofs.AsBox.{E, FromLoose as From}
+use Rattle.tsp_c.proofs.HandleCalls.{E, FromLoose as From}
 use Rattle.tsp_c.specs.contracts.handle.Loose.into_parts as F
 use Rattle.tsp_c.specs.contracts.handle.Loose.into_parts.Key.{name as #self}
 use Rattle.tsp_c.proofs.handle.Loose.into_parts.Statement as stated

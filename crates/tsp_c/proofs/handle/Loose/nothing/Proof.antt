@@ -32,7 +32,7 @@ use denote.Steps.{nothing}
 use denote.Triple.Spec.{triple_of}
 use denote.Triple.Table.{entered}
 use denote.Triple.Walked.{says, Stays, stay_dropped, walk_of, ends_at, Goes-dropped, walk_Meets}
-use Rattle.tsp_c.proofs.AsBox.{E, FromHeap as From}
+use Rattle.tsp_c.proofs.HandleCalls.{E, FromHeap as From}
 use Rattle.tsp_c.specs.contracts.handle.Loose.nothing as F
 use Rattle.tsp_c.specs.contracts.handle.Loose.nothing.Key.{name as #self}
 use Rattle.tsp_c.proofs.handle.Loose.nothing.Statement as stated

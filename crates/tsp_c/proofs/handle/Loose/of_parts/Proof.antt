@@ -26,7 +26,7 @@ use denote.Triple.Table.{entered}
 use denote.Triple.Walked.{says, Stays, stay_dropped, walk_of, ends_at, Goes-dropped, walk_Meets}
 use Rattle.std_alloc.proofs.BoxSteps.Form.{D, B, word, box_typed}
 use Rattle.std_alloc.proofs.BoxSteps.Steps.{box_out, box_in}
-use Rattle.tsp_c.proofs.AsBox.{E, FromParts as From}
+use Rattle.tsp_c.proofs.HandleCalls.{E, FromParts as From}
 use Rattle.tsp_c.specs.contracts.handle.Loose.of_parts as F
 use Rattle.tsp_c.specs.contracts.handle.Loose.of_parts.Key.{name as #self}
 use Rattle.tsp_c.proofs.handle.Loose.of_parts.Statement as stated

@@ -7,7 +7,7 @@ use Rattle.std.specs.Global.{Vec}
 use Rattle.std.proofs.lemmas.Bool.{eqb-true}
 use Rattle.std.proofs.lemmas.Int.{to_z-of_z}
 use Rattle.tsp_cases.specs.states.Kept.{IsAddedAt}
-use Rattle.tsp_cases.proofs.MarkedRows.{rows_marked, some_left}
+use Rattle.tsp_cases.proofs.RowsKept.{rows_marked, some_left}
 use Rattle.tsp_cases.proofs.kept.KeptRows.add_between.Goals as goal
 
 -- plan: by whether rows are kept: the number is added in the rows of both nodes of the pair (`rows_marked`), or nothing

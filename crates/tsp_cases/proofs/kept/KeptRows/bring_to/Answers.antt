@@ -3,19 +3,16 @@
 use Rattle.std.proofs.Common.{◌≡◌, ◌∙◌, ℕ, ℤ, List, length, ap, sym, subst, arith}
 use Rattle.std.specs.Global.{Vec}
 use Rattle.std.specs.Prelude.{neg_ℤ}
-use Rattle.tsp_theory.specs.states.Nearest.{least_at}
+use Rattle.tsp_theory.specs.states.Nearest.{least_at, IsMoved}
 use Rattle.std.proofs.lemmas.Bool.Decides.{Decides-int_eq}
 use Rattle.std.specs.List.{All}
 use Rattle.std.proofs.lemmas.Slice.Eq.{slice_eq-Decides}
 use Rattle.tsp_cases.specs.declared.sets.SetPlace.{SetPlace}
-use Rattle.tsp_theory.specs.states.Additions.{IsMoved}
-use Rattle.tsp_cases.specs.states.Places.{IsPlaceIn}
-use Rattle.tsp_cases.specs.states.Lent.{lent_in}
-use Rattle.tsp_cases.specs.states.Combed.{multipliers_at, AreSmallMultipliers, AreSmallDifferences}
+use Rattle.tsp_cases.specs.states.Sets.{IsPlaceIn, lent_in, multipliers_at, AreSmallMultipliers, AreSmallDifferences}
 use Rattle.tsp_cases.specs.states.Kept.{kept_weight, AreRowsIfAny, AreAdded, AreDifferences, AreEnds}
-use Rattle.tsp_cases.proofs.ListPlaces.{written}
+use Rattle.tsp_cases.proofs.Passes.{written}
 use Rattle.tsp_cases.proofs.RowsKept.{rows_brought, ends_brought}
-use Rattle.tsp_cases.proofs.SetAlgebra.{places_inside}
+use Rattle.tsp_cases.proofs.SetSums.{places_inside}
 use Rattle.tsp_cases.proofs.kept.KeptRows.bring_to.Goals as goal
 
 pub returns-then-eq-clause-multipliers : goal.returns-then-eq-clause-multipliers

@@ -6,9 +6,9 @@ use Rattle.std.proofs.lemmas.List.{take_all}
 use Rattle.std.proofs.lemmas.List.Elements.{All-from_recursion, recursion_from_All}
 use Rattle.tsp_cases.specs.declared.open_case.Decision.{Decision}
 use Rattle.tsp_cases.specs.Cases.{decide, next_stack}
-use Rattle.tsp_cases.specs.states.Decided.{IsDecision, marks_in, stack_of}
+use Rattle.tsp_cases.specs.states.OpenCases.{IsDecision, marks_in, stack_of}
 use Rattle.tsp_cases.specs.states.Kept.{HoldsRows}
-use Rattle.tsp_cases.proofs.MarkedRows.{same_marks, directed_same, stack_to, turned_next, none_next}
+use Rattle.tsp_cases.proofs.RowsKept.{same_marks, directed_same, stack_to, turned_next, none_next}
 use Rattle.tsp_cases.proofs.kept.KeptRows.leave.Goals as goal
 
 pub returns-then-directed : goal.returns-then-directed

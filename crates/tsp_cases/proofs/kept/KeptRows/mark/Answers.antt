@@ -3,8 +3,8 @@
 use Rattle.std.proofs.Common.{◌∙◌, rules, FitsSigned, to_z, of_z}
 use Rattle.std.specs.Int.{w64}
 use Rattle.std.proofs.lemmas.Int.{to_z-of_z}
-use Rattle.tsp_cases.specs.states.Decided.{marks_in}
-use Rattle.tsp_cases.proofs.MarkedRows.{same_marks, decision_more, directed_same}
+use Rattle.tsp_cases.specs.states.OpenCases.{marks_in}
+use Rattle.tsp_cases.proofs.RowsKept.{same_marks, decision_more, directed_same}
 use Rattle.tsp_cases.proofs.kept.KeptRows.mark.Goals as goal
 
 -- plan: by whether pairs have a direction: nothing is marked (`directed_same`), or the number of the decision is added

@@ -2,10 +2,10 @@
 -- what its calls require and what it ensures.
 use Rattle.std.proofs.Common.{◌≡◌, ◌+◌, ℕ, length, subst, arith}
 use Rattle.std.specs.List.{All}
-use Rattle.tsp_cases.specs.states.Lent.{lent_in}
-use Rattle.tsp_cases.specs.states.Decided.{IsDecision, marks_in}
+use Rattle.tsp_cases.specs.states.Sets.{lent_in}
+use Rattle.tsp_cases.specs.states.OpenCases.{IsDecision, marks_in}
 use Rattle.tsp_cases.specs.states.Kept.{HoldsRows}
-use Rattle.tsp_cases.proofs.MarkedRows.{held_at_start}
+use Rattle.tsp_cases.proofs.RowsKept.{held_at_start}
 use Rattle.tsp_cases.proofs.kept.KeptRows.new.Goals as goal
 
 -- plan: all multipliers are 0, so a row has its scaled costs alone (`held_at_start`), to which the given decisions are

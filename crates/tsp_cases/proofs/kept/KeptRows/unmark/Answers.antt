@@ -4,8 +4,8 @@ use Rattle.std.proofs.Common.{◌≡◌, ◌∷◌, ℤ, false, arith, to_z, of_
 use Rattle.std.specs.Int.{w64}
 use Rattle.std.specs.Prelude.{pos, neg_ℤ, ◌-ℤ◌}
 use Rattle.std.proofs.lemmas.Int.{ints}
-use Rattle.tsp_cases.specs.states.Decided.{marks_in, signed}
-use Rattle.tsp_cases.proofs.MarkedRows.{same_marks, decision_less}
+use Rattle.tsp_cases.specs.states.OpenCases.{marks_in, signed}
+use Rattle.tsp_cases.proofs.RowsKept.{same_marks, decision_less}
 use Rattle.tsp_cases.proofs.kept.KeptRows.unmark.Goals as goal
 
 pub add_between-requires : goal.add_between-requires

@@ -3,7 +3,7 @@
 use Rattle.std.proofs.Common.{◌∙◌, Bool, false, sym, arith}
 use Rattle.std.proofs.lemmas.List.Folds.{list_any_at, list_any_none}
 use Rattle.tsp_cases.specs.declared.open_case.Decision.{Decision}
-use Rattle.tsp_cases.specs.Decisions.{is_same}
+use Rattle.tsp_cases.specs.Cases.{is_same}
 use Rattle.tsp_cases.specs.states.OpenCases.{decisions_in}
 use Rattle.tsp_cases.proofs.OpenCases.{decided_at}
 use Rattle.tsp_cases.proofs.open_case.OpenCase.decides.Goals as goal

@@ -2,7 +2,7 @@
 use Rattle.std.proofs.Common.{◌≡◌, ◌<◌, ℕ, false}
 use Rattle.std.specs.Prelude.{slice_index_or}
 use Rattle.tsp_cases.specs.declared.open_case.Decision.{Decision}
-use Rattle.tsp_cases.specs.Decisions.{is_same}
+use Rattle.tsp_cases.specs.Cases.{is_same}
 use Rattle.tsp_cases.proofs.open_case.OpenCase.decides.Given as goal
 
 -- no decision before this one is on the pair

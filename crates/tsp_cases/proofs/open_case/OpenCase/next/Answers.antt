@@ -5,10 +5,8 @@ use Rattle.std.proofs.lemmas.List.{append-nil}
 use Rattle.tsp_cases.specs.declared.open_case.Decision.{Decision}
 use Rattle.tsp_cases.specs.declared.open_case.OpenCase.{OpenCase}
 use Rattle.tsp_cases.specs.Cases.{next_stack}
-use Rattle.tsp_cases.specs.states.Decided.{IsDecision, stack_of}
-use Rattle.tsp_cases.specs.states.OpenCases.{AreByNode, decisions_in}
-use Rattle.tsp_cases.proofs.NextCases.{next_avoided}
-use Rattle.tsp_cases.proofs.OpenCases.{one_above, case_less, case_more, case_same, first_pair}
+use Rattle.tsp_cases.specs.states.OpenCases.{IsDecision, stack_of, AreByNode, decisions_in}
+use Rattle.tsp_cases.proofs.OpenCases.{next_avoided, one_above, case_less, case_more, case_same, first_pair}
 use Rattle.tsp_cases.proofs.open_case.OpenCase.next.Goals as goal
 
 -- plan: the avoided pairs above are dropped (`case_less`), and the topmost taken pair becomes avoided (`next_avoided`)

@@ -1,8 +1,7 @@
 -- The loop of `OpenCase::next` in src/open_case.rt, which goes from a leaf to the next open case.
 use Rattle.std.proofs.Common.{◌≡◌, ◌≤◌, ℕ, length}
 use Rattle.tsp_cases.specs.Cases.{next_stack}
-use Rattle.tsp_cases.specs.states.Decided.{stack_of}
-use Rattle.tsp_cases.specs.states.OpenCases.{IsOpenCase}
+use Rattle.tsp_cases.specs.states.OpenCases.{stack_of, IsOpenCase}
 use Rattle.tsp_cases.proofs.open_case.OpenCase.next.Given as goal
 
 -- the shorter stack is that of an open case too, and the same case comes next after it

@@ -3,15 +3,15 @@
 use Rattle.std.proofs.Common.{◌≡◌, List, Some, length, map, sym, ap, subst, ◌∙◌}
 use Rattle.std.specs.Option.{option_map}
 use Rattle.std.proofs.lemmas.List.{length-map, map-id}
-use Rattle.tsp_distance.specs.declared.decimal.Point.{Point}
-use Rattle.tsp_distance.specs.declared.decimal.PlanePoint.{PlanePoint}
-use Rattle.tsp_distance.specs.Distances.{on_plane}
+use Rattle.tsp_number.specs.declared.decimal.Point.{Point}
+use Rattle.tsp_number.specs.declared.decimal.PlanePoint.{PlanePoint}
+use Rattle.tsp_number.specs.Distances.{on_plane}
 use Rattle.tsp_file.specs.states.Drafts.{points_of}
 use Rattle.tsp_file.specs.Fields.{Fields}
 use Rattle.tsp_file.specs.Cost.{distance, point_of}
 use Rattle.tsp_cost.specs.states.Metrics.{weight_kind_of}
-use Rattle.tsp_cost.specs.states.Sources.{HasFound}
-use Rattle.tsp_cost.proofs.Sources.{AreOfPoints, of_points}
+use Rattle.tsp_cost.specs.states.Views.{HasFound}
+use Rattle.tsp_cost.proofs.Problems.{AreOfPoints, of_points}
 use Rattle.tsp_cost.proofs.instance.Instance.distance_view.Goals as goal
 
 -- plan: by the coordinates, of the plane or of space: the costs are the distances of the points (`of_points`)

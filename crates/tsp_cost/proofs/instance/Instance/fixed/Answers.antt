@@ -2,8 +2,8 @@
 use Rattle.std.proofs.Common.{◌≡◌, ℕ, List, Some, sym, ap, subst, ◌∙◌}
 use Rattle.tsp_file.specs.Fields.{Fields}
 use Rattle.tsp_file.specs.Valid.{AreFixed}
-use Rattle.tsp_cost.specs.states.Sources.{HasFound}
-use Rattle.tsp_cost.proofs.Sources.{pairs_of}
+use Rattle.tsp_cost.specs.states.Views.{HasFound}
+use Rattle.tsp_cost.proofs.Problems.{pairs_of}
 use Rattle.tsp_cost.proofs.instance.Instance.fixed.Goals as goal
 
 pub returns-in-Some-clause-few : goal.returns-in-Some-clause-few

@@ -6,9 +6,9 @@ use Rattle.tsp_format.specs.declared.layout.Layout.TheVariants.{FullMatrix}
 use Rattle.tsp_format.specs.declared.kinds.WeightFormat.TheVariants.{Listed}
 use Rattle.tsp_file.specs.Fields.{Fields}
 use Rattle.tsp_file.specs.Cost.{listed_cost}
-use Rattle.tsp_file.proofs.Listed.{same_layout}
-use Rattle.tsp_cost.specs.states.Sources.{HasFound}
-use Rattle.tsp_cost.proofs.Sources.{of_weights}
+use Rattle.tsp_file.proofs.Relaid.{same_layout}
+use Rattle.tsp_cost.specs.states.Views.{HasFound}
+use Rattle.tsp_cost.proofs.Problems.{of_weights}
 use Rattle.tsp_cost.proofs.instance.Instance.listed_view.Goals as goal
 
 -- plan: by the layout, full or half: the costs are those of the listed weights (`of_weights`)

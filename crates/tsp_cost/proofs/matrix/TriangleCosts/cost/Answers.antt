@@ -2,9 +2,9 @@
 -- weight of the pair, in either direction.
 use Rattle.std.proofs.Common.{◌≡◌, ◌<◌, ℕ, length, false, ap, sym, ◌∙◌, arith}
 use Rattle.std.specs.Prelude.{pos, slice_index_or}
-use Rattle.tsp_format.specs.Cells.{is_listed}
+use Rattle.tsp_format.specs.Nodes.{is_listed}
 use Rattle.tsp_file.specs.Cost.{listed_cost}
-use Rattle.tsp_file.proofs.Listed.{cost_of_cell, cost_unlisted, diagonal_unlisted, either_way, weight_read}
+use Rattle.tsp_file.proofs.Relaid.{cost_of_cell, cost_unlisted, diagonal_unlisted, either_way, weight_read}
 use Rattle.tsp_cost.proofs.matrix.TriangleCosts.cost.Goals as goal
 
 -- plan: an unlisted diagonal costs 0 (`cost_unlisted`); else the weight at the place is the cell's (`cost_of_cell`)

@@ -9,9 +9,9 @@ use Rattle.std.proofs.lemmas.List.Elements.{All-tail, All-drop}
 use Rattle.std.proofs.Math.IntN.{+ℤ_assoc, +ℤ_idl, +ℤ_idr}
 use Rattle.std.proofs.lemmas.Bool.{eqb-true}
 use Rattle.tsp_format.specs.Nodes.{IsNode}
-use Rattle.tsp_theory.specs.Length.{length_of}
+use Rattle.tsp_theory.specs.Tour.{length_of}
 use Rattle.tsp_cost.specs.states.Views.{points_nodes, points_cost}
-use Rattle.tsp_cost.specs.states.Ways.{length_to, IsSumOfCosts}
+use Rattle.tsp_cost.specs.states.Metrics.{length_to, IsSumOfCosts}
 use Rattle.tsp_cost.proofs.Ways.{sum_none, sum_both, sum_fits, cost_fits}
 use Rattle.tsp_cost.proofs.points.Points.along.Goals as goal
 

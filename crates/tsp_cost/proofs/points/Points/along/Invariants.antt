@@ -3,9 +3,9 @@ use Rattle.std.proofs.Common.{◌≡◌, ◌+◌, ◌-◌, ◌≤◌, length}
 use Rattle.std.specs.Prelude.{◌+ℤ◌}
 use Rattle.std.specs.List.{All}
 use Rattle.tsp_format.specs.Nodes.{IsNode}
-use Rattle.tsp_theory.specs.Length.{length_of}
+use Rattle.tsp_theory.specs.Tour.{length_of}
 use Rattle.tsp_cost.specs.states.Views.{points_nodes, points_cost}
-use Rattle.tsp_cost.specs.states.Ways.{length_to, IsSumOfCosts}
+use Rattle.tsp_cost.specs.states.Metrics.{length_to, IsSumOfCosts}
 use Rattle.tsp_cost.proofs.points.Points.along.Given as goal
 
 -- the length so far plus that from `from` through `rest` back to the first node is the whole length

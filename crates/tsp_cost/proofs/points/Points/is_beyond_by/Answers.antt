@@ -2,12 +2,12 @@
 -- the metric: what it ensures.
 use Rattle.std.proofs.Common.{ℤ, ◌≤ℤ◌, subst, w64}
 use Rattle.std.proofs.lemmas.Int.{to_z-of_z}
-use Rattle.tsp_distance.specs.declared.decimal.Point.{Point}
+use Rattle.tsp_number.specs.declared.decimal.Point.{Point}
 use Rattle.tsp_file.specs.Cost.{distance}
 use Rattle.tsp_cost.specs.declared.metric.Metric.{Metric}
 use Rattle.tsp_cost.specs.states.Metrics.{weight_kind_of}
 use Rattle.tsp_cost.specs.states.Views.{points_place}
-use Rattle.tsp_cost.proofs.Growing.{distance_grows, at_least_further, known_true}
+use Rattle.tsp_cost.proofs.Ways.{distance_grows, at_least_further, known_true}
 use Rattle.tsp_cost.proofs.points.Points.is_beyond_by.Goals as goal
 
 -- plan: the nearest place of the region is no farther than any other of it (`distance_grows`), so its distance is a

@@ -1,6 +1,6 @@
 -- The loop of `Points::look_up` in src/points.rt, which reads the points of a block of nodes.
 use Rattle.tsp_cost.specs.states.Views.{points_place}
-use Rattle.tsp_cost.specs.states.Ways.{ArePlaces}
+use Rattle.tsp_cost.specs.states.Metrics.{ArePlaces}
 use Rattle.tsp_cost.proofs.points.Points.look_up.Given as goal
 
 -- the points of `from` and of the nodes before this one are looked up

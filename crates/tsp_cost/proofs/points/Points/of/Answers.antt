@@ -1,10 +1,10 @@
 -- The goals of `Points::of` in src/points.rt, which makes costs of a distance and of the nodes' points: the facts of
 -- the value that it makes.
-use Rattle.tsp_file.proofs.Distances.{DistanceLaws, distance_symmetric}
+use Rattle.tsp_file.proofs.TextLengths.{DistanceLaws, distance_symmetric}
 use Rattle.tsp_cost.specs.states.Metrics.{weight_kind_of}
 use Rattle.tsp_cost.proofs.points.Points.of.Goals as goal
 
--- plan: the distance is symmetric by the laws of tsp_distance (`distance_symmetric`)
+-- plan: the distance is symmetric by the laws of tsp_number (`distance_symmetric`)
 pub invariant_of-result : goal.invariant_of-result
 invariant_of-result g c =
     let known = c.distance_laws.ensures in

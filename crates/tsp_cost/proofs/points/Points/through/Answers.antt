@@ -3,7 +3,7 @@ use Rattle.std.proofs.Common.{◌≡◌, ◌≤◌, ℕ, suc, ◌+◌, ◌∷◌
 use Rattle.std.specs.Prelude.{ℤ, pos, neg_ℤ, slice_index_or, ◌≤ℤ◌}
 use Rattle.std.specs.Int.{w64}
 use Rattle.std.proofs.lemmas.Int.{ints}
-use Rattle.tsp_distance.specs.declared.decimal.Point.{Point}
+use Rattle.tsp_number.specs.declared.decimal.Point.{Point}
 use Rattle.tsp_file.specs.Cost.{distance}
 use Rattle.tsp_cost.specs.states.Metrics.{weight_kind_of}
 use Rattle.tsp_cost.specs.states.Views.{points_cost, points_place}

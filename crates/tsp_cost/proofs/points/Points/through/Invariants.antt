@@ -3,7 +3,7 @@ use Rattle.std.proofs.Common.{◌≡◌, ℕ, List, ◌∷◌, ◌++◌, drop}
 use Rattle.std.specs.Prelude.{◌+ℤ◌, slice_index_or}
 use Rattle.tsp_format.specs.Nodes.{IsNode}
 use Rattle.tsp_cost.specs.states.Views.{points_nodes, points_cost}
-use Rattle.tsp_cost.specs.states.Ways.{length_to, IsSumOfCosts}
+use Rattle.tsp_cost.specs.states.Metrics.{length_to, IsSumOfCosts}
 use Rattle.tsp_cost.proofs.points.Points.through.Given as goal
 
 -- the sum so far plus the length from `last` on is the length from `from` on, whichever nodes come after these

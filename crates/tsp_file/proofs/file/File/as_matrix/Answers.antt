@@ -6,7 +6,7 @@ use Rattle.tsp_format.specs.declared.layout.Layout.{Layout}
 use Rattle.tsp_format.specs.declared.kinds.WeightFormat.TheVariants.{Listed}
 use Rattle.tsp_file.specs.Fields.{Fields}
 use Rattle.tsp_file.specs.Valid.{AreWeights}
-use Rattle.tsp_file.proofs.Listed.{lists, not_by_function, not_missing}
+use Rattle.tsp_file.proofs.Relaid.{lists, not_by_function, not_missing}
 use Rattle.tsp_file.proofs.file.File.as_matrix.Goals as goal
 
 -- plan: a valid file with weights has a format (`not_missing`), which is a layout and not FUNCTION (`not_by_function`)

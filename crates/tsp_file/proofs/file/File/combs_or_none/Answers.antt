@@ -3,7 +3,7 @@ use Rattle.std.proofs.Common.{◌≡◌, Some, sym, ap, ◌∙◌}
 use Rattle.std.specs.Option.{option_map}
 use Rattle.tsp_file.specs.Fields.{Fields}
 use Rattle.tsp_file.specs.states.Drafts.{combs_of}
-use Rattle.tsp_file.proofs.TypedFields.{combs_hold}
+use Rattle.tsp_file.proofs.FileFields.{combs_hold}
 use Rattle.tsp_file.proofs.file.File.combs_or_none.Goals as goal
 
 -- plan: a valid COMB_SECTION has sets of nodes, each within its limits (`combs_hold`)

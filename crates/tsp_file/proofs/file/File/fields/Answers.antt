@@ -2,7 +2,7 @@
 use Rattle.std.proofs.Common.{◌≡◌, None, subst}
 use Rattle.tsp_file.specs.Fields.{Fields}
 use Rattle.tsp_file.specs.Rules.{fault_of}
-use Rattle.tsp_file.proofs.TypedFields.{holds_its_type}
+use Rattle.tsp_file.proofs.FileFields.{holds_its_type}
 use Rattle.tsp_file.proofs.file.File.fields.Goals as goal
 
 -- plan: the draft has no fault, so the fields that its TYPE requires are present and in their ranges (`holds_its_type`)

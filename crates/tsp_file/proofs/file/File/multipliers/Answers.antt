@@ -2,7 +2,7 @@
 use Rattle.std.proofs.Common.{◌≡◌, Some, sym, ap, ◌∙◌}
 use Rattle.std.specs.Option.{option_map}
 use Rattle.tsp_file.specs.Fields.{Fields}
-use Rattle.tsp_file.proofs.TypedFields.{multipliers_hold}
+use Rattle.tsp_file.proofs.FileFields.{multipliers_hold}
 use Rattle.tsp_file.proofs.file.File.multipliers.Goals as goal
 
 -- plan: a valid section of multipliers has pairs of nodes with a number each, within its limits (`multipliers_hold`)

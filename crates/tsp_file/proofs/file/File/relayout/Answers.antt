@@ -4,7 +4,7 @@ use Rattle.std.proofs.Common.{subst, ap, sym, ◌∙◌}
 use Rattle.tsp_file.specs.Fields.{Fields, nodes_of}
 use Rattle.tsp_file.specs.Cost.{cost}
 use Rattle.tsp_file.specs.Relayout.{with_weights, costs_in}
-use Rattle.tsp_file.specs.states.Way.{LeadsTo}
+use Rattle.tsp_file.specs.states.Drafts.{LeadsTo}
 use Rattle.tsp_file.proofs.Relaid.{relaid, already}
 use Rattle.tsp_file.proofs.file.File.relayout.Goals as goal
 

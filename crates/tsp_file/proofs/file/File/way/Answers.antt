@@ -2,10 +2,9 @@
 use Rattle.std.proofs.Common.{◌≡◌, Some, sym, ap, ◌∙◌}
 use Rattle.std.proofs.lemmas.Bool.{false≢true}
 use Rattle.tsp_format.specs.declared.kinds.WeightFormat.TheVariants.{Listed}
-use Rattle.tsp_format.specs.Symmetry.{IsFirstAsymmetric}
+use Rattle.tsp_format.specs.Words.{IsFirstAsymmetric}
 use Rattle.tsp_file.specs.Relayout.{IsFirstOnDiagonal, costs_in}
-use Rattle.tsp_file.proofs.Listed.{same_layout}
-use Rattle.tsp_file.proofs.Relaid.{of_file, has_weights, pairs_held, can_go, own_layout}
+use Rattle.tsp_file.proofs.Relaid.{same_layout, of_file, has_weights, pairs_held, can_go, own_layout}
 use Rattle.tsp_file.proofs.file.File.way.Goals as goal
 
 -- plan: by the first reason against it: no weights, a pair or a diagonal that would be lost; else it can go (`can_go`)

@@ -9,14 +9,11 @@ use Rattle.tsp_format.specs.declared.kinds.WeightFormat.TheVariants.{Listed}
 use Rattle.tsp_file.specs.Fields.{Fields, nodes_of}
 use Rattle.tsp_file.specs.states.Drafts.{fields_of}
 use Rattle.tsp_file.specs.Rules.{fault_of}
-use Rattle.tsp_file.specs.Cost.{cost}
-use Rattle.tsp_file.specs.ListedWeights.{ListsWeights}
+use Rattle.tsp_file.specs.Cost.{cost, ListsWeights}
 use Rattle.tsp_file.specs.Relayout.{HoldsPairs, CanGo, with_weights, costs_in}
 use Rattle.tsp_file.proofs.ValidFields.{in_range}
-use Rattle.tsp_file.proofs.WithWeights.{some_is}
-use Rattle.tsp_file.proofs.Listed.{lists}
-use Rattle.tsp_file.proofs.Relaid.{of_weights}
-use Rattle.tsp_file.proofs.Fronts.{laid_of}
+use Rattle.tsp_file.proofs.FileFields.{some_is, laid_of}
+use Rattle.tsp_file.proofs.Relaid.{lists, of_weights}
 use Rattle.tsp_file.proofs.file.File.with_half.Goals as goal
 
 as_held : (f g : Fields) (to : Layout) → f ≡ g → CanGo g to → CanGo f to

@@ -3,7 +3,7 @@ use Rattle.std.proofs.Common.{◌≡◌, None, sym, subst}
 use Rattle.tsp_file.specs.Fields.{Fields}
 use Rattle.tsp_file.specs.Rules.{fault_of}
 use Rattle.tsp_file.specs.Relayout.{with_weights}
-use Rattle.tsp_file.proofs.WithWeights.{stays_valid}
+use Rattle.tsp_file.proofs.FileFields.{stays_valid}
 use Rattle.tsp_file.proofs.file.File.with_weights.Goals as goal
 
 -- plan: other weights, as many as the layout has cells, leave the file valid (`stays_valid`)

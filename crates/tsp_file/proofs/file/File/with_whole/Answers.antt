@@ -11,9 +11,8 @@ use Rattle.tsp_file.specs.states.Drafts.{fields_of}
 use Rattle.tsp_file.specs.Cost.{cost}
 use Rattle.tsp_file.specs.Relayout.{CanGo, with_weights, costs_in}
 use Rattle.tsp_file.proofs.ValidFields.{in_range}
-use Rattle.tsp_file.proofs.Listed.{lists}
-use Rattle.tsp_file.proofs.WithWeights.{some_is}
-use Rattle.tsp_file.proofs.Fronts.{laid_of}
+use Rattle.tsp_file.proofs.Relaid.{lists}
+use Rattle.tsp_file.proofs.FileFields.{some_is, laid_of}
 use Rattle.tsp_file.proofs.file.File.with_whole.Goals as goal
 
 can_go : (f g : Fields) → f ≡ g → CanGo g FullMatrix → CanGo f FullMatrix

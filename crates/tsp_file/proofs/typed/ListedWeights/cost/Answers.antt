@@ -3,8 +3,7 @@
 use Rattle.std.proofs.Common.{◌≡◌, ◌<◌, None, length, sym, ◌∙◌, arith}
 use Rattle.std.specs.Prelude.{pos, slice_index_or}
 use Rattle.tsp_format.specs.Place.{place_of}
-use Rattle.tsp_file.proofs.Listed.{cost_of_cell, cost_mirrored, cost_unlisted, weight_read}
-use Rattle.tsp_file.proofs.Relaid.{no_cell}
+use Rattle.tsp_file.proofs.Relaid.{cost_of_cell, cost_mirrored, cost_unlisted, weight_read, no_cell}
 use Rattle.tsp_file.proofs.typed.ListedWeights.cost.Goals as goal
 
 -- plan: by the layout: it lists the cell (`cost_of_cell`), the mirrored one (`cost_mirrored`), or neither

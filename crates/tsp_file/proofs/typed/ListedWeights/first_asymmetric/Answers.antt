@@ -1,7 +1,6 @@
 -- The goals of `ListedWeights::first_asymmetric` in src/typed.rt, which finds the first pair whose two costs differ:
 -- what it ensures.
-use Rattle.tsp_file.proofs.Listed.{even_between_nodes}
-use Rattle.tsp_file.proofs.Relaid.{outside}
+use Rattle.tsp_file.proofs.Relaid.{even_between_nodes, outside}
 use Rattle.tsp_file.proofs.typed.ListedWeights.first_asymmetric.Goals as goal
 
 -- plan: other numbers than nodes cost 0 in both directions (`outside`), so costs that are symmetric between nodes are

@@ -1,8 +1,7 @@
 -- The goals of `ListedWeights::first_asymmetric_by_rows` in src/typed.rt, which finds the first pair whose two costs
 -- differ, one pair after another: what it ensures.
 use Rattle.std.proofs.Common.{◌<◌, arith}
-use Rattle.tsp_file.proofs.Listed.{even_between_nodes}
-use Rattle.tsp_file.proofs.Relaid.{outside}
+use Rattle.tsp_file.proofs.Relaid.{even_between_nodes, outside}
 use Rattle.tsp_file.proofs.typed.ListedWeights.first_asymmetric_by_rows.Goals as goal
 
 -- plan: other numbers than nodes cost 0 in both directions (`outside`), so after all pairs of nodes the costs are

@@ -1,8 +1,7 @@
 -- The goals of `ListedWeights::first_on_diagonal` in src/typed.rt, which finds the first node that doesn't cost 0 to
 -- itself: what it ensures.
 use Rattle.std.proofs.Common.{◌<◌, ⊎_elim, arith}
-use Rattle.tsp_file.proofs.Listed.{nodes_or_not}
-use Rattle.tsp_file.proofs.Relaid.{cost_outside}
+use Rattle.tsp_file.proofs.Relaid.{nodes_or_not, cost_outside}
 use Rattle.tsp_file.proofs.typed.ListedWeights.first_on_diagonal.Goals as goal
 
 -- plan: other numbers than nodes cost 0 to themselves (`cost_outside`), so it is enough to look at the nodes

@@ -3,7 +3,7 @@
 use Rattle.std.proofs.Common.{sym, subst, arith}
 use Rattle.std.specs.List.{All}
 use Rattle.tsp_format.specs.Limits.{most_weight}
-use Rattle.tsp_format.specs.Cells.{cells_of_line}
+use Rattle.tsp_format.specs.Nodes.{cells_of_line}
 use Rattle.tsp_file.specs.Valid.{IsWithin}
 use Rattle.tsp_file.specs.states.Weights.{costs_of}
 use Rattle.tsp_file.proofs.Relaid.{line_more, lines_all, cost_within, all_within}

@@ -3,12 +3,11 @@
 use Rattle.std.proofs.Common.{◌<◌, List, ◌++◌, length, map, ap, sym, subst, ◌∙◌, arith}
 use Rattle.std.specs.Prelude.{ℤ}
 use Rattle.std.proofs.lemmas.List.{take_all}
-use Rattle.tsp_format.specs.Cells.{cells_of_line}
+use Rattle.tsp_format.specs.Nodes.{cells_of_line}
 use Rattle.tsp_format.specs.Limits.{most_weight}
 use Rattle.tsp_file.specs.Valid.{IsWithin}
 use Rattle.tsp_file.specs.states.Weights.{costs_of}
-use Rattle.tsp_file.proofs.Listed.{weight_read}
-use Rattle.tsp_file.proofs.Relaid.{cell_more, cost_within}
+use Rattle.tsp_file.proofs.Relaid.{weight_read, cell_more, cost_within}
 use Rattle.tsp_file.proofs.typed.ListedWeights.lay_line.Goals as goal
 
 -- plan: the cost of one cell more is appended (`cell_more`), which is as small as a weight (`cost_within`)

@@ -3,8 +3,8 @@
 use Rattle.std.proofs.Common.{◌≡◌, ◌<◌, Some, length, sym, ap, ◌∙◌, arith}
 use Rattle.std.specs.Prelude.{pos, slice_index_or}
 use Rattle.tsp_format.specs.Place.{place_of}
-use Rattle.tsp_format.specs.Cells.{cells}
-use Rattle.tsp_file.proofs.Listed.{cost_of_cell, weight_read}
+use Rattle.tsp_format.specs.Nodes.{cells}
+use Rattle.tsp_file.proofs.Relaid.{cost_of_cell, weight_read}
 use Rattle.tsp_file.proofs.typed.ListedWeights.weight.Goals as goal
 
 -- plan: the weight at the cell's place is its cost (`cost_of_cell`)

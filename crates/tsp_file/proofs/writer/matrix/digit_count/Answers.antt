@@ -1,6 +1,6 @@
 -- The goals of `digit_count` in src/writer/matrix.rt, which counts the digits of a number: what it ensures.
 use Rattle.std.proofs.Common.{arith}
-use Rattle.tsp_file.proofs.Digits.{counted}
+use Rattle.tsp_file.proofs.WrittenLines.{counted}
 use Rattle.tsp_file.proofs.writer.matrix.digit_count.Goals as goal
 
 -- plan: the number is compared with powers of ten, and it has one digit more than the exponent of the largest that

@@ -1,10 +1,9 @@
 -- The loop of `put_lines` in src/writer/matrix.rt.
 use Rattle.std.proofs.Common.{◌+◌, ◌-◌, length, map}
-use Rattle.tsp_format.specs.Nodes.{nodes_to}
-use Rattle.tsp_format.specs.Cells.{cells_of_line}
+use Rattle.tsp_format.specs.Nodes.{nodes_to, cells_of_line}
 use Rattle.tsp_file.specs.CanonicalText.{matrix_lines}
-use Rattle.tsp_io.specs.states.WriteProgress.{way_of}
-use Rattle.tsp_file.proofs.Matrices.{Comes, lines_from}
+use Rattle.tsp_io.specs.states.Watched.{way_of}
+use Rattle.tsp_file.proofs.WrittenLines.{Comes, lines_from}
 use Rattle.tsp_file.proofs.writer.matrix.put_lines.Given as goal
 
 -- the bytes added so far, with the lines of the weights in `rest` behind them, are the lines of the whole matrix

@@ -1,9 +1,9 @@
 -- The goals of `put_more_weights` in src/writer/matrix.rt, which adds weights, by a block or one by one: its loop and
 -- what it ensures.
 use Rattle.std.proofs.Common.{[], refl}
-use Rattle.tsp_io.specs.states.WriteProgress.{way_of}
+use Rattle.tsp_io.specs.states.Watched.{way_of}
 use Rattle.tsp_io.proofs.Carrying.{carried_none}
-use Rattle.tsp_file.proofs.Matrices.{after_blanks, comes_block, comes_blocks}
+use Rattle.tsp_file.proofs.WrittenLines.{after_blanks, comes_block, comes_blocks}
 use Rattle.tsp_file.proofs.writer.matrix.put_more_weights.Goals as goal
 
 -- plan: one block of weights more is written (`comes_block`), until none is left (`comes_blocks`)

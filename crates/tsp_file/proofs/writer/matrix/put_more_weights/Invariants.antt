@@ -2,8 +2,8 @@
 use Rattle.std.proofs.Common.{◌∷◌, length}
 use Rattle.std.specs.List.{flat_map}
 use Rattle.std.specs.Fmt.{signed_decimal}
-use Rattle.tsp_io.specs.states.WriteProgress.{way_of}
-use Rattle.tsp_file.proofs.Matrices.{Comes}
+use Rattle.tsp_io.specs.states.Watched.{way_of}
+use Rattle.tsp_file.proofs.WrittenLines.{Comes}
 use Rattle.tsp_file.proofs.writer.matrix.put_more_weights.Given as goal
 
 -- the bytes added so far, and the weights in `rest` after a blank each, are the text of all weights

@@ -1,6 +1,6 @@
 -- The goals of `put_weight_line` in src/writer/matrix.rt, which adds a line of weights: what it ensures.
-use Rattle.tsp_io.specs.states.WriteProgress.{way_of}
-use Rattle.tsp_file.proofs.Lines.{no_weights, some_weights}
+use Rattle.tsp_io.specs.states.Watched.{way_of}
+use Rattle.tsp_file.proofs.WrittenLines.{no_weights, some_weights}
 use Rattle.std.specs.Int.{w64}
 use Rattle.std.proofs.lemmas.Int.{to_z-of_z}
 use Rattle.std.specs.Prelude.{FitsSigned}

@@ -1,7 +1,7 @@
 -- The goals of `write_digits` in src/writer/matrix.rt, which writes eight digits so that they end at a place: that no
 -- difference overflows and what it ensures.
 use Rattle.std.proofs.Common.{◌≡◌, ◌+◌, ◌-◌, ◌/◌, ◌%◌, ◌++◌, ℕ, List, drop, ap, ◌∙◌, arith}
-use Rattle.tsp_file.proofs.Digits.{pair, at_most_eight, digits_written}
+use Rattle.tsp_file.proofs.WrittenLines.{pair, at_most_eight, digits_written}
 use Rattle.tsp_file.proofs.writer.matrix.write_digits.Goals as goal
 
 pub overflow_sub-result : goal.overflow_sub-result

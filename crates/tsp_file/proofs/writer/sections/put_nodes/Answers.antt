@@ -3,7 +3,7 @@ use Rattle.std.proofs.Common.{ℕ, []}
 use Rattle.std.specs.Prelude.{codes}
 use Rattle.std.specs.List.{flat_map}
 use Rattle.std.specs.Fmt.{decimal}
-use Rattle.tsp_io.specs.states.WriteProgress.{way_of}
+use Rattle.tsp_io.specs.states.Watched.{way_of}
 use Rattle.tsp_io.proofs.Carrying.{carried_none, carried_then, carried_all, carried_next_or}
 use Rattle.tsp_file.specs.CanonicalText.{number_line}
 use Rattle.tsp_file.proofs.writer.sections.put_nodes.Goals as goal

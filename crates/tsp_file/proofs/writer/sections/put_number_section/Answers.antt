@@ -1,8 +1,8 @@
 -- The goals of `put_number_section` in src/writer/sections.rt: what it ensures.
 use Rattle.tsp_file.specs.CanonicalText.{lines_by_node, whole_number}
-use Rattle.tsp_io.specs.states.WriteProgress.{way_of}
+use Rattle.tsp_io.specs.states.Watched.{way_of}
 use Rattle.tsp_io.proofs.Carrying.{carried_none}
-use Rattle.tsp_file.proofs.Lines.{opened}
+use Rattle.tsp_file.proofs.WrittenLines.{opened}
 use Rattle.tsp_file.proofs.writer.sections.put_number_section.Goals as goal
 
 -- plan: by whether the section is present: its word and its lines are added (`opened`), or nothing

@@ -1,7 +1,7 @@
 -- The goals of `put_pair_line` in src/writer/sections.rt: what it ensures.
 use Rattle.std.specs.Fmt.{decimal}
-use Rattle.tsp_io.specs.states.WriteProgress.{way_of}
-use Rattle.tsp_file.proofs.Lines.{two_numbers}
+use Rattle.tsp_io.specs.states.Watched.{way_of}
+use Rattle.tsp_file.proofs.WrittenLines.{two_numbers}
 use Rattle.tsp_file.proofs.writer.sections.put_pair_line.Goals as goal
 
 -- plan: two numbers in a line (`two_numbers`)

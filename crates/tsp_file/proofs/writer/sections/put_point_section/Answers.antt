@@ -3,9 +3,9 @@ use Rattle.std.proofs.Common.{◌∙◌}
 use Rattle.std.proofs.lemmas.List.{map-id}
 use Rattle.tsp_file.specs.states.Drafts.{points_of}
 use Rattle.tsp_file.specs.CanonicalText.{lines_by_node, coordinate_words}
-use Rattle.tsp_io.specs.states.WriteProgress.{way_of}
+use Rattle.tsp_io.specs.states.Watched.{way_of}
 use Rattle.tsp_io.proofs.Carrying.{carried_none}
-use Rattle.tsp_file.proofs.Lines.{opened}
+use Rattle.tsp_file.proofs.WrittenLines.{opened}
 use Rattle.tsp_file.proofs.writer.sections.put_point_section.Goals as goal
 
 -- plan: by whether there are points, of the plane or of space: the section's word and its lines are added (`opened`),

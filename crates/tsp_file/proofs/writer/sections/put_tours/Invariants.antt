@@ -2,7 +2,7 @@
 use Rattle.std.proofs.Common.{take}
 use Rattle.std.specs.List.{flat_map}
 use Rattle.tsp_file.specs.CanonicalText.{node_list}
-use Rattle.tsp_io.specs.states.WriteProgress.{way_of, Carried}
+use Rattle.tsp_io.specs.states.Watched.{way_of, Carried}
 use Rattle.tsp_file.proofs.writer.sections.put_tours.Given as goal
 
 -- the bytes added so far are the tours before this one, each with its line -1

@@ -1,8 +1,8 @@
 -- The goals of `put_triple_line` in src/writer/sections.rt: what it ensures.
 use Rattle.std.proofs.Common.{rules}
 use Rattle.std.specs.Fmt.{decimal, signed_decimal}
-use Rattle.tsp_io.specs.states.WriteProgress.{way_of}
-use Rattle.tsp_file.proofs.Lines.{three_numbers}
+use Rattle.tsp_io.specs.states.Watched.{way_of}
+use Rattle.tsp_file.proofs.WrittenLines.{three_numbers}
 use Rattle.std.specs.Int.{w64}
 use Rattle.std.proofs.lemmas.Int.{to_z-of_z}
 use Rattle.std.specs.Prelude.{FitsSigned}

@@ -2,7 +2,7 @@
 -- line: what it ensures.
 use Rattle.std.proofs.Common.{◌≡◌, ◌∷◌, ◌++◌, ℕ, List, length, drop, set, ap, sym, ◌∙◌, append-nil, arith, rules}
 use Rattle.std.proofs.lemmas.List.{drop-set, drop_all}
-use Rattle.tsp_number.specs.Spelling.{spelling}
+use Rattle.tsp_number.specs.NumberWord.{spelling}
 use Rattle.tsp_file.specs.CanonicalText.{line_end}
 use Rattle.tsp_file.proofs.writer.sections.write_line_end.Goals as goal
 

@@ -4,7 +4,7 @@ use Rattle.std.proofs.Common.{[], ◌∷◌, ◌++◌, ℕ, List, cond, ap, sym,
 use Rattle.std.proofs.lemmas.Fmt.{length-decimal-le}
 use Rattle.std.specs.List.{flat_map}
 use Rattle.std.specs.Fmt.{decimal}
-use Rattle.tsp_number.specs.Spelling.{spelling}
+use Rattle.tsp_number.specs.NumberWord.{spelling}
 use Rattle.tsp_file.specs.CanonicalText.{line_end}
 use Rattle.tsp_file.proofs.writer.sections.write_point_line.Goals as goal
 

@@ -2,12 +2,11 @@
 -- the basis, and what it ensures.
 use Rattle.std.proofs.Common.{◌≡◌, Err, ap, refl, rules, subst}
 use Rattle.std.specs.Prelude.{IsTrue}
-use Rattle.tsp_verdict.specs.Bounded.{IsBoundVerdict}
-use Rattle.tsp_verdict.specs.Certified.{is_bounded}
+use Rattle.tsp_verdict.specs.Certified.{IsBoundVerdict, is_bounded}
 use Rattle.tsp_judge.specs.declared.ends.RunFault.TheVariants.{OutOfMemory}
 use Rattle.tsp_judge.specs.Open.{Open, IsUnbound}
-use Rattle.tsp_read.proofs.Propagated.{propagated}
-use Rattle.tsp_judge.proofs.Openings.{unbound}
+use Rattle.tsp_read.proofs.BegunSteps.{propagated}
+use Rattle.tsp_judge.proofs.Bounding.{unbound}
 use Rattle.tsp_judge.proofs.opened.Opened.bind.Goals as goal
 
 -- plan: by how it ends: no file, no memory for the bound (`unbound`), or the new basis

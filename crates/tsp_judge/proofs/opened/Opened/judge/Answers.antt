@@ -2,8 +2,8 @@
 -- and what it ensures.
 use Rattle.std.proofs.Common.{◌≡◌, Err, subst}
 use Rattle.tsp_judge.specs.Open.{Open, IsHeldVerdict}
-use Rattle.tsp_read.proofs.Propagated.{propagated}
-use Rattle.tsp_judge.proofs.Openings.{not_judged}
+use Rattle.tsp_read.proofs.BegunSteps.{propagated}
+use Rattle.tsp_judge.proofs.Bounding.{not_judged}
 use Rattle.tsp_judge.proofs.opened.Opened.judge.Goals as goal
 
 pub judge_next-requires : goal.judge_next-requires

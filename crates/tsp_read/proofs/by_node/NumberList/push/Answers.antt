@@ -3,11 +3,11 @@
 use Rattle.std.proofs.Common.{◌≡◌, ◌∙◌, refl, sym, subst, Ok, Err, arith, rules, w64}
 use mir.Val.{SFits}
 use Rattle.std.proofs.lemmas.Int.{to_z-of_z}
-use Rattle.tsp_number.specs.Reading.{whole_of}
+use Rattle.tsp_number.specs.NumberWord.{whole_of}
 use Rattle.tsp_read.specs.states.Parts.{IsNewNode}
-use Rattle.tsp_text.specs.WordPlaces.{Amount}
+use Rattle.tsp_text.specs.SectionWords.{Amount}
 use Rattle.tsp_read.proofs.GroupSteps as groups
-use Rattle.tsp_read.proofs.NumberSteps.{number_bad, number_taken}
+use Rattle.tsp_read.proofs.CoordSteps.{number_bad, number_taken}
 use Rattle.tsp_read.proofs.by_node.NumberList.push.Goals as goal
 
 -- plan: by the word's place: past the groups, a node (`node_taken`), or the node's number (`number_taken`)

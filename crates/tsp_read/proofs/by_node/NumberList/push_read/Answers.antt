@@ -4,10 +4,10 @@ use Rattle.std.proofs.Common.{◌≡◌, refl, Ok, arith, rules, w64, FitsSigned
 use mir.Val.{SFits}
 use Rattle.std.specs.Prelude.{◌≤ℤ◌}
 use Rattle.std.proofs.lemmas.Int.{to_z-of_z, ints}
-use Rattle.tsp_number.specs.Reading.{whole_of}
-use Rattle.tsp_text.specs.WordPlaces.{Amount}
+use Rattle.tsp_number.specs.NumberWord.{whole_of}
+use Rattle.tsp_text.specs.SectionWords.{Amount}
 use Rattle.tsp_read.proofs.GroupSteps.{node_taken}
-use Rattle.tsp_read.proofs.NumberSteps.{number_taken}
+use Rattle.tsp_read.proofs.CoordSteps.{number_taken}
 use Rattle.tsp_read.proofs.by_node.NumberList.push_read.Goals as goal
 
 pub returns-in-Some-unmarked_node-clause-taken : goal.returns-in-Some-unmarked_node-clause-taken

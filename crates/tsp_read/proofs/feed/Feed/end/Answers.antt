@@ -2,13 +2,12 @@
 -- what it ensures.
 use Rattle.std.proofs.Common.{subst, sym, ◌≡◌, false}
 use Rattle.tsp_read.specs.declared.reading.Reading.{Reading}
-use Rattle.tsp_read.specs.Feed.{SpellsWhole}
+use Rattle.tsp_read.specs.Reads.{SpellsWhole}
 use Rattle.std.specs.Prelude.{is_some}
-use Rattle.tsp_read.proofs.FeedSteps.{taken_at, not_refused, still_going}
-use Rattle.tsp_read.proofs.EndLines.{ended_none}
+use Rattle.tsp_read.proofs.FeedSteps.{taken_at, not_refused, still_going, ended_read, going_read, ended_whole, taken_whole, taken_fault, refused_fault}
+use Rattle.tsp_read.proofs.IntakeSteps.{ended_none}
 use Rattle.tsp_read.specs.declared.feed.Stage.TheVariants.{Ended}
 use Rattle.tsp_read.specs.states.Holds.{IsReadFrom}
-use Rattle.tsp_read.proofs.LastSteps.{ended_read, going_read, ended_whole, taken_whole, taken_fault, refused_fault}
 use Rattle.tsp_read.proofs.feed.Feed.end.Goals as goal
 
 -- plan: by the stage: refused, ended, or going on; the last item is read, and what was read is the file or a fault

@@ -3,7 +3,7 @@
 use Rattle.std.proofs.Common.{refl, sym, ap, subst, ◌∙◌, ◌+◌, ◌++◌, length, arith, rules, length-append}
 use Rattle.std.proofs.Math.Logic.{∥∥₁_map}
 use Rattle.tsp_read.specs.declared.feed.Stage.{Stage}
-use Rattle.tsp_read.specs.states.Paused.{HasBytes}
+use Rattle.tsp_read.specs.states.Onward.{HasBytes}
 use Rattle.tsp_read.proofs.FeedSteps.{fed_longer, comes_to, going_bytes, goes_on}
 use Rattle.tsp_read.proofs.feed.Feed.go_on.Goals as goal
 

@@ -1,6 +1,6 @@
 -- The goals of `Feed::new` in src/feed.rt, which is the state before the first byte: the invariants of its types.
 use Rattle.std.proofs.Common.{[], refl, arith, rules}
-use Rattle.tsp_read.specs.states.Paused.{IsPaused}
+use Rattle.tsp_read.specs.states.Onward.{IsPaused}
 use Rattle.tsp_read.proofs.feed.Feed.new.Goals as goal
 
 pub invariant_of-result : goal.invariant_of-result

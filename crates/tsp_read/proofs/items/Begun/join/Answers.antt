@@ -1,15 +1,12 @@
 -- The goals of `Begun::join` in src/items.rt, which takes the item that has begun, if the piece has its end: what it
 -- ensures.
 use Rattle.std.proofs.Common.{◌≡◌, Ok, Err, true, sym, ap, ◌∙◌, ◌<◌, ◌≤◌, ◌+◌, ◌++◌, List, ℕ, length, subst, length-append, refl, arith}
-use Rattle.tsp_text.specs.Lines.{is_not_empty}
-use Rattle.tsp_text.specs.Items.{Item}
+use Rattle.tsp_text.specs.Items.{is_not_empty, Item}
 use Rattle.tsp_read.specs.declared.items.Token.{Token}
-use Rattle.tsp_read.specs.states.Left.{up_to_first, from}
-use Rattle.tsp_read.specs.states.Token.{ends_token, most_bytes}
-use Rattle.tsp_read.specs.states.Intake.{HasTakenItems, TakesNext, IsReadTo}
-use Rattle.tsp_read.proofs.BegunSteps.{token_here, token_joins, fed_longer, fed_none, joined_none, joined_fault, joined_end, joined_more, settled_filled, settled_long, has_taken, empty_rest, filled_rest}
+use Rattle.tsp_read.specs.states.Left.{up_to_first, from, ends_token, most_bytes}
+use Rattle.tsp_read.specs.states.Onward.{HasTakenItems, TakesNext, IsReadTo}
+use Rattle.tsp_read.proofs.BegunSteps.{token_here, token_joins, fed_longer, fed_none, joined_none, joined_fault, joined_end, joined_more, settled_filled, settled_long, has_taken, empty_rest, filled_rest, propagated}
 use Rattle.tsp_read.proofs.Onwards.{token_long}
-use Rattle.tsp_read.proofs.Propagated.{propagated}
 use Rattle.tsp_read.proofs.items.Begun.join.Goals as goal
 
 -- plan: by where the begun item ends: not yet, in the new piece (`token_joins`), or past its limit (`settled_long`)

@@ -1,6 +1,6 @@
 -- The goals of `Begun::keep` in src/items.rt, which keeps what is left of a piece: what it ensures.
 use Rattle.std.proofs.Common.{arith, ◌≤◌, ◌+◌, ◌++◌, List, ℕ, length, sym, ap, subst, ◌∙◌}
-use Rattle.tsp_read.specs.states.Token.{most_bytes}
+use Rattle.tsp_read.specs.states.Left.{most_bytes}
 use Rattle.tsp_read.proofs.BegunSteps.{begun_token, open_token, has_taken}
 use Rattle.tsp_read.proofs.items.Begun.keep.Goals as goal
 

@@ -2,8 +2,8 @@
 -- ensures.
 use Rattle.std.proofs.Common.{sym, ◌∙◌, subst, List}
 use Rattle.tsp_text.specs.Items.{Item}
-use Rattle.tsp_read.specs.states.Intake.{HasTakenItems, TakesNext}
-use Rattle.tsp_read.proofs.LastSteps.{last_token, last_none}
+use Rattle.tsp_read.specs.states.Onward.{HasTakenItems, TakesNext}
+use Rattle.tsp_read.proofs.FeedSteps.{last_token, last_none}
 use Rattle.tsp_read.proofs.items.Begun.take_last.Goals as goal
 
 pub returns-then-is_empty : goal.returns-then-is_empty

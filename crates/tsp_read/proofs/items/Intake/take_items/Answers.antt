@@ -2,7 +2,7 @@
 use Rattle.std.proofs.Common.{◌≡◌, Err, refl, arith, true}
 use Rattle.tsp_read.specs.states.Left.{item_next, is_in_line, items_left}
 use Rattle.tsp_read.proofs.IntakeSteps.{read_further, read_to_end, read_to_fault}
-use Rattle.tsp_read.proofs.Propagated.{propagated}
+use Rattle.tsp_read.proofs.BegunSteps.{propagated}
 use Rattle.tsp_read.proofs.items.Intake.take_items.Goals as goal
 
 -- plan: one item more is read (`read_further`), until a fault (`read_to_fault`) or the line EOF (`read_to_end`)

@@ -1,6 +1,6 @@
 -- The loop of `Intake::take_items` in src/items.rt.
 use Rattle.std.proofs.Common.{ℕ, ◌+◌, ◌≤◌, List, length}
-use Rattle.tsp_read.specs.states.Intake.{IsReadTo}
+use Rattle.tsp_read.specs.states.Onward.{IsReadTo}
 use Rattle.tsp_read.proofs.items.Intake.take_items.Given as goal
 
 -- the items before `rest` are taken, none of them an end line; no more lines or words were counted than bytes read

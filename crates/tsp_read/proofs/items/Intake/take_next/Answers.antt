@@ -1,7 +1,7 @@
 -- The goals of `Intake::take_next` in src/items.rt, which takes the next item: what it ensures.
 use Rattle.std.proofs.Common.{◌∙◌}
 use Rattle.tsp_read.specs.states.Left.{item_next}
-use Rattle.tsp_read.proofs.ReadSteps.{words_next}
+use Rattle.tsp_read.proofs.IntakeSteps.{words_next}
 use Rattle.tsp_read.proofs.items.Intake.take_next.Goals as goal
 
 -- plan: the item is counted: a word more of its line, or a line more (`words_next`)

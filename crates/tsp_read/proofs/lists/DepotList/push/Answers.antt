@@ -1,9 +1,9 @@
 -- The goals of `DepotList::push` in src/lists.rt, which takes the next word: what it ensures.
 use Rattle.std.proofs.Common.{◌≡◌, ◌∙◌, sym, ap, Ok, arith}
 use Rattle.std.specs.Prelude.{pos, negsuc}
-use Rattle.tsp_text.specs.SectionNumbers.{node_or_end}
+use Rattle.tsp_text.specs.SectionWords.{node_or_end}
 use Rattle.tsp_read.specs.states.Parts.{as_node_or_end}
-use Rattle.tsp_read.proofs.DepotSteps.{depot_past_end, depot_end, depot_more}
+use Rattle.tsp_read.proofs.ListSteps.{depot_past_end, depot_end, depot_more}
 use Rattle.tsp_read.proofs.lists.DepotList.push.Goals as goal
 
 -- plan: by the word: past the end (`depot_past_end`), the end (`depot_end`), or a depot more (`depot_more`)

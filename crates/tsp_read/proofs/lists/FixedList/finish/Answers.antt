@@ -1,8 +1,7 @@
 -- The goals of `FixedList::finish` in src/lists.rt, which returns the pairs, and whether one is incomplete: what
 -- it ensures.
 use Rattle.std.proofs.Common.{◌∙◌}
-use Rattle.tsp_read.proofs.ListSteps.{cut_short}
-use Rattle.tsp_read.proofs.FixedSteps.{pair_places}
+use Rattle.tsp_read.proofs.ListSteps.{cut_short, pair_places}
 use Rattle.tsp_read.proofs.lists.FixedList.finish.Goals as goal
 
 -- plan: a pair is cut short exactly where its first node has come, so that more words are wanted (`cut_short`)

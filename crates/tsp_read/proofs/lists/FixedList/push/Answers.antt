@@ -1,7 +1,6 @@
 -- The goals of `FixedList::push` in src/lists.rt, which takes the next word: what it ensures.
 use Rattle.std.proofs.Common.{◌∙◌, sym}
-use Rattle.tsp_read.proofs.ListSteps.{past_end}
-use Rattle.tsp_read.proofs.FixedSteps.{pair_places}
+use Rattle.tsp_read.proofs.ListSteps.{past_end, pair_places}
 use Rattle.tsp_read.proofs.lists.FixedList.push.Goals as goal
 
 -- plan: past the end a -1 is left out (`past_end`); else it is the first or the second word of a pair

@@ -2,10 +2,9 @@
 -- ensures.
 use Rattle.std.proofs.Common.{◌≡◌, ◌∙◌, refl, ap, Ok, Err, arith}
 use Rattle.std.specs.Prelude.{pos, negsuc}
-use Rattle.tsp_text.specs.SectionNumbers.{node_or_end}
+use Rattle.tsp_text.specs.SectionWords.{node_or_end}
 use Rattle.tsp_read.specs.states.Parts.{as_node_or_end}
-use Rattle.tsp_read.proofs.ListSteps.{first_bad, first_surplus, list_ends, group_begins}
-use Rattle.tsp_read.proofs.FixedSteps.{pair_places}
+use Rattle.tsp_read.proofs.ListSteps.{first_bad, first_surplus, list_ends, group_begins, pair_places}
 use Rattle.tsp_read.proofs.lists.FixedList.push_first.Goals as goal
 
 -- plan: by the word: bad, one too many (`first_surplus`), the end (`list_ends`), or a pair begins (`group_begins`)

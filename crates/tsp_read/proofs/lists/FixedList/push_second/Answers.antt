@@ -1,10 +1,9 @@
 -- The goals of `FixedList::push_second` in src/lists.rt, which takes the second node of a pair: what it ensures.
 use Rattle.std.proofs.Common.{◌≡◌, ◌∙◌, ap, Ok, Err}
 use Rattle.std.specs.Prelude.{pos}
-use Rattle.tsp_text.specs.SectionNumbers.{node}
+use Rattle.tsp_text.specs.SectionWords.{node}
 use Rattle.tsp_read.specs.states.Parts.{as_number}
-use Rattle.tsp_read.proofs.ListSteps.{second_bad, second_same}
-use Rattle.tsp_read.proofs.FixedSteps.{pair_places, alone, pair_ends}
+use Rattle.tsp_read.proofs.ListSteps.{second_bad, second_same, pair_places, alone, pair_ends}
 use Rattle.tsp_read.proofs.lists.FixedList.push_second.Goals as goal
 
 -- plan: by the word: bad, the same node again (`second_same`), or the pair ends (`pair_ends`)

@@ -1,7 +1,7 @@
 -- The goals of `Part::push` in src/part.rt, which takes the next word of the open section: what it ensures.
 use Rattle.std.proofs.Common.{refl}
 use Rattle.tsp_read.specs.declared.part.Part.TheVariants as parts
-use Rattle.tsp_read.proofs.PartSteps as steps
+use Rattle.tsp_read.proofs.RunSteps as steps
 use Rattle.tsp_read.proofs.part.Part.push.Goals as goal
 
 -- plan: by the section: the part takes or refuses the word as `push` of the section's list does (`steps`)

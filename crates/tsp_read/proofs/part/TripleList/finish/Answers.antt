@@ -2,7 +2,7 @@
 -- what it ensures.
 use Rattle.std.proofs.Common.{◌∙◌}
 use Rattle.tsp_read.proofs.ListSteps.{cut_short}
-use Rattle.tsp_read.proofs.TripleSteps.{triple_places}
+use Rattle.tsp_read.proofs.SectionLists.{triple_places}
 use Rattle.tsp_read.proofs.part.TripleList.finish.Goals as goal
 
 -- plan: a triple is cut short exactly where its first node has come, so that more words are wanted (`cut_short`)

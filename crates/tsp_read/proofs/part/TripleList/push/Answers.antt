@@ -1,7 +1,7 @@
 -- The goals of `TripleList::push` in src/part.rt, which takes the next word: what it ensures.
 use Rattle.std.proofs.Common.{◌∙◌, sym}
 use Rattle.tsp_read.proofs.ListSteps.{past_end}
-use Rattle.tsp_read.proofs.TripleSteps.{triple_places}
+use Rattle.tsp_read.proofs.SectionLists.{triple_places}
 use Rattle.tsp_read.proofs.part.TripleList.push.Goals as goal
 
 -- plan: after the -1 that ends the list another -1 changes nothing (`past_end`)

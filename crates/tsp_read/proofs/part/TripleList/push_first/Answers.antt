@@ -2,10 +2,10 @@
 -- ensures.
 use Rattle.std.proofs.Common.{◌≡◌, ◌∙◌, refl, ap, Ok, Err, arith}
 use Rattle.std.specs.Prelude.{pos, negsuc}
-use Rattle.tsp_text.specs.SectionNumbers.{node_or_end}
+use Rattle.tsp_text.specs.SectionWords.{node_or_end}
 use Rattle.tsp_read.specs.states.Parts.{as_node_or_end}
 use Rattle.tsp_read.proofs.ListSteps.{first_bad, first_surplus, list_ends, group_begins}
-use Rattle.tsp_read.proofs.TripleSteps.{triple_places}
+use Rattle.tsp_read.proofs.SectionLists.{triple_places}
 use Rattle.tsp_read.proofs.part.TripleList.push_first.Goals as goal
 
 -- plan: by the word: bad, one too many (`first_surplus`), the end (`list_ends`), or a triple begins (`group_begins`)

@@ -3,9 +3,9 @@
 use Rattle.std.proofs.Common.{◌≡◌, ◌∙◌, sym, Ok, Err, FitsSigned, rules, w64}
 use Rattle.std.specs.Prelude.{pos}
 use Rattle.std.proofs.lemmas.Int.{to_z-of_z}
-use Rattle.tsp_number.specs.Reading.{whole_of}
+use Rattle.tsp_number.specs.NumberWord.{whole_of}
 use Rattle.tsp_format.specs.Limits.{most_multiplier}
-use Rattle.tsp_read.proofs.TripleSteps.{multiplier_bad, triple_ends}
+use Rattle.tsp_read.proofs.SectionLists.{multiplier_bad, triple_ends}
 use Rattle.tsp_read.proofs.part.TripleList.push_multiplier.Goals as goal
 
 pub returns-in-Err-clause-takes : goal.returns-in-Err-clause-takes

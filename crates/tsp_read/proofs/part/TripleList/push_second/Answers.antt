@@ -2,9 +2,9 @@
 -- ensures.
 use Rattle.std.proofs.Common.{◌≡◌, ◌∙◌, ap, Ok, Err}
 use Rattle.std.specs.Prelude.{pos}
-use Rattle.tsp_text.specs.SectionNumbers.{node}
+use Rattle.tsp_text.specs.SectionWords.{node}
 use Rattle.tsp_read.specs.states.Parts.{as_number}
-use Rattle.tsp_read.proofs.TripleSteps.{second_bad, second_same, triple_goes_on}
+use Rattle.tsp_read.proofs.SectionLists.{second_bad, second_same, triple_goes_on}
 use Rattle.tsp_read.proofs.part.TripleList.push_second.Goals as goal
 
 -- plan: by the word: bad, the same node again (`second_same`), or the triple goes on (`triple_goes_on`)

@@ -5,7 +5,7 @@ use Rattle.tsp_file.specs.declared.draft.Draft.{Draft}
 use Rattle.tsp_file.specs.states.Drafts.{fields_of}
 use Rattle.tsp_file.specs.Rules.{standing_of, end_fault, fault_of}
 use Rattle.tsp_format.specs.declared.keyword.Field.{Field}
-use Rattle.tsp_read.proofs.FinishSteps.{valid_draft}
+use Rattle.tsp_read.proofs.TextSteps.{valid_draft}
 use Rattle.tsp_read.proofs.reading.Reading.finish.Goals as goal
 
 -- plan: the draft of a text without a fault is valid (`valid_draft`)

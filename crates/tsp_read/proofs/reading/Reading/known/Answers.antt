@@ -3,8 +3,8 @@ use Rattle.std.proofs.Common.{refl, rules, map}
 use Rattle.std.specs.Option.{option_map}
 use Rattle.tsp_file.specs.states.Drafts.{fields_of}
 use Rattle.tsp_file.specs.Fields.{spatial}
-use Rattle.tsp_read.specs.states.CutLine.{seen}
-use Rattle.tsp_read.proofs.KeywordCases.{other_alone}
+use Rattle.tsp_read.specs.states.Holds.{seen}
+use Rattle.tsp_read.proofs.KeywordSteps.{other_alone}
 use Rattle.tsp_read.proofs.KeywordSteps as keywords
 use Rattle.tsp_read.proofs.TextSteps as texts
 use Rattle.tsp_read.proofs.reading.Reading.known.Goals as goal

@@ -2,7 +2,7 @@
 use Rattle.std.proofs.Common.{refl, map}
 use Rattle.std.proofs.lemmas.Bool.{lt-ltb, le-ltb}
 use Rattle.tsp_format.specs.Limits.{most_line_bytes}
-use Rattle.tsp_read.specs.states.CutLine.{seen}
+use Rattle.tsp_read.specs.states.Holds.{seen}
 use Rattle.tsp_read.proofs.TextSteps as texts
 use Rattle.tsp_read.proofs.reading.Reading.line.Goals as goal
 

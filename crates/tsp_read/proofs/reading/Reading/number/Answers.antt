@@ -2,7 +2,7 @@
 -- ensures.
 use Rattle.std.proofs.Common.{refl, FitsSigned, rules, w64}
 use Rattle.std.proofs.lemmas.Int.{to_z-of_z}
-use Rattle.tsp_read.specs.states.CutLine.{seen}
+use Rattle.tsp_read.specs.states.Holds.{seen}
 use Rattle.tsp_read.proofs.KeywordSteps.{number_taken, number_refused}
 use Rattle.tsp_read.proofs.reading.Reading.number.Goals as goal
 

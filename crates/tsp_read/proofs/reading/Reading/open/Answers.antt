@@ -1,6 +1,6 @@
 -- The goals of `Reading::open` in src/reading.rt, which opens the section of a field: what it ensures.
 use Rattle.std.proofs.Common.{refl}
-use Rattle.tsp_read.specs.states.CutLine.{seen}
+use Rattle.tsp_read.specs.states.Holds.{seen}
 use Rattle.tsp_read.proofs.SectionSteps as steps
 use Rattle.tsp_read.proofs.reading.Reading.open.Goals as goal
 

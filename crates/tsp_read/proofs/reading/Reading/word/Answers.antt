@@ -1,6 +1,6 @@
 -- The goals of `Reading::word` in src/reading.rt, which takes a word of a number line: what it ensures.
 use Rattle.std.proofs.Common.{refl}
-use Rattle.tsp_read.proofs.WordSteps.{word_answer}
+use Rattle.tsp_read.proofs.TextSteps.{word_answer}
 use Rattle.tsp_read.proofs.reading.Reading.word.Goals as goal
 
 -- plan: the answer is that of the open section's part, and no other section changes (`word_answer`)

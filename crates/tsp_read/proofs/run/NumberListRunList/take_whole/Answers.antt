@@ -3,7 +3,7 @@
 use Rattle.std.proofs.Common.{Ok, refl, rules, FitsSigned, w64}
 use Rattle.std.proofs.lemmas.Int.{to_z-of_z}
 use Rattle.tsp_read.specs.declared.part.Part.TheVariants as parts
-use Rattle.tsp_read.proofs.PartSteps as steps
+use Rattle.tsp_read.proofs.RunSteps as steps
 use Rattle.tsp_read.proofs.run.NumberListRunList.take_whole.Goals as goal
 
 -- plan: a number that was read is taken as its word is

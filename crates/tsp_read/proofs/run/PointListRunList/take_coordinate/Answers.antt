@@ -1,7 +1,7 @@
 -- The goals of `PointListRunList::take_coordinate` in src/run.rt, which takes a coordinate if it fits: what it ensures.
 use Rattle.std.proofs.Common.{Ok, refl}
 use Rattle.tsp_read.specs.declared.part.Part.TheVariants as parts
-use Rattle.tsp_read.proofs.PartSteps as steps
+use Rattle.tsp_read.proofs.RunSteps as steps
 use Rattle.tsp_read.proofs.run.PointListRunList.take_coordinate.Goals as goal
 
 pub returns-clause-taken : goal.returns-clause-taken

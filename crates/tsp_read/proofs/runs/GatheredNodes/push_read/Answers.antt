@@ -3,9 +3,9 @@
 use Rattle.std.proofs.Common.{◌+◌, ◌≡◌, ◌++◌, ◌∷◌, [], false, refl, arith, tests, rules, Ok, FitsSigned, w64}
 use Rattle.std.specs.Prelude.{nat_le, pos}
 use Rattle.std.proofs.lemmas.Int.{to_z-of_z}
-use Rattle.tsp_text.specs.SectionNumbers.{node_or_end}
+use Rattle.tsp_text.specs.SectionWords.{node_or_end}
 use Rattle.tsp_read.specs.declared.runs.TourList.{TourList}
-use Rattle.tsp_read.proofs.TourSteps.{whole_node, after_node, few_left}
+use Rattle.tsp_read.proofs.SectionLists.{whole_node, after_node, few_left}
 use Rattle.tsp_read.proofs.runs.GatheredNodes.push_read.Goals as goal
 
 -- plan: the number is a node (`whole_node`) that has a place (`few_left`), and comes after the others (`after_node`)

@@ -1,10 +1,10 @@
 -- The goals of `TourList::push` in src/runs.rt, which takes the next word: what it ensures.
 use Rattle.std.proofs.Common.{◌+◌, ◌≡◌, ◌∙◌, ap, false, refl, tests, rules, Ok}
 use Rattle.std.specs.Prelude.{nat_le, negsuc, pos}
-use Rattle.tsp_text.specs.SectionNumbers.{node_or_end}
+use Rattle.tsp_text.specs.SectionWords.{node_or_end}
 use Rattle.tsp_read.specs.states.Parts.{as_node_or_end}
 use Rattle.tsp_read.specs.declared.runs.TourList.{TourList}
-use Rattle.tsp_read.proofs.TourSteps.{after_end, after_node}
+use Rattle.tsp_read.proofs.SectionLists.{after_end, after_node}
 use Rattle.tsp_read.proofs.runs.TourList.push.Goals as goal
 
 pub returns-in-Ok-clause-takes : goal.returns-in-Ok-clause-takes

@@ -3,8 +3,8 @@ use Rattle.std.proofs.Common.{◌≡◌, ◌∙◌, sym, Ok, arith, w64}
 use mir.Val.{SFits}
 use Rattle.std.proofs.lemmas.Int.{ints, to_z-of_z}
 use Rattle.tsp_format.specs.Limits.{most_weight}
-use Rattle.tsp_text.specs.SectionNumbers.{whole_of_size}
-use Rattle.tsp_read.proofs.WeightSteps.{weight_more}
+use Rattle.tsp_text.specs.SectionWords.{whole_of_size}
+use Rattle.tsp_read.proofs.SectionLists.{weight_more}
 use Rattle.tsp_read.proofs.runs.WeightList.push.Goals as goal
 
 -- plan: the word is one weight more (`weight_more`)

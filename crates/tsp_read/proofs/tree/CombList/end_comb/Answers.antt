@@ -2,7 +2,7 @@
 use Rattle.std.proofs.Common.{◌∙◌, ap, map, refl}
 use Rattle.std.proofs.lemmas.List.{map_push}
 use Rattle.tsp_file.specs.states.Drafts.{combs_of}
-use Rattle.tsp_read.proofs.HandedOver.{where_moved}
+use Rattle.tsp_read.proofs.SectionLists.{where_moved}
 use Rattle.tsp_read.proofs.tree.CombList.end_comb.Goals as goal
 
 -- plan: the gathered comb is moved to the end of the list (`where_moved`)

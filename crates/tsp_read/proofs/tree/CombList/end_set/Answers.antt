@@ -1,7 +1,7 @@
 -- The goals of `CombList::end_set` in src/tree.rt, which ends a set: what it ensures.
 use Rattle.std.proofs.Common.{◌∙◌, ap, map, refl}
 use Rattle.std.proofs.lemmas.List.{map_push}
-use Rattle.tsp_read.proofs.HandedOver.{where_moved}
+use Rattle.tsp_read.proofs.SectionLists.{where_moved}
 use Rattle.tsp_read.proofs.tree.CombList.end_set.Goals as goal
 
 -- plan: the gathered set is moved to the end of the comb (`where_moved`)

@@ -2,10 +2,10 @@
 use Rattle.std.proofs.Common.{◌≡◌, ◌∙◌, sym, Ok, FitsSigned, rules, w64}
 use Rattle.std.specs.Prelude.{pos, neg_ℤ}
 use Rattle.std.proofs.lemmas.Int.{to_z-of_z}
-use Rattle.tsp_number.specs.Reading.{whole_of}
+use Rattle.tsp_number.specs.NumberWord.{whole_of}
 use Rattle.tsp_format.specs.Limits.{most_difference}
 use Rattle.tsp_read.specs.states.HeldParts.{tree_held}
-use Rattle.tsp_read.proofs.TreeSteps.{difference_taken}
+use Rattle.tsp_read.proofs.SectionLists.{difference_taken}
 use Rattle.tsp_read.proofs.tree.TreeList.push_difference.Goals as goal
 
 -- plan: the pair of index and number is one difference more (`difference_taken`)

@@ -4,8 +4,7 @@ use Rattle.std.specs.Int.{w64}
 use Rattle.std.proofs.lemmas.Int.{ints}
 use Rattle.tsp_format.specs.Limits.{most_nodes}
 use Rattle.tsp_format.specs.Nodes.{nodes_to}
-use Rattle.tsp_theory.specs.Length.{sum_int_by}
-use Rattle.tsp_theory.specs.Routing.{demand_of}
+use Rattle.tsp_theory.specs.Tour.{sum_int_by, demand_of}
 use Rattle.tsp_routing.specs.states.Demands.{of_others}
 use Rattle.tsp_routing.proofs.CutNeeds.{load_more, load_fits, others_sum, nodes_more, nodes_none}
 use Rattle.tsp_routing.proofs.demands.Demands.all.Goals as goal

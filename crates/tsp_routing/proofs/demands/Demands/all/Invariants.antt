@@ -1,8 +1,7 @@
 -- The loop of `Demands::all` in src/needs.rt.
 use Rattle.std.proofs.Common.{◌≡◌}
 use Rattle.tsp_format.specs.Nodes.{nodes_to}
-use Rattle.tsp_theory.specs.Length.{sum_int_by}
-use Rattle.tsp_theory.specs.Routing.{demand_of}
+use Rattle.tsp_theory.specs.Tour.{sum_int_by, demand_of}
 use Rattle.tsp_routing.specs.states.Demands.{of_others}
 use Rattle.tsp_routing.proofs.CutNeeds.{IsLoadOf}
 use Rattle.tsp_routing.proofs.demands.Demands.all.Given as goal

@@ -2,7 +2,7 @@
 use Rattle.std.proofs.Common.{◌∙◌, subst, rules, ℤ}
 use Rattle.std.specs.Int.{w64}
 use Rattle.std.proofs.lemmas.Int.{to_z-of_z}
-use Rattle.tsp_theory.specs.Routing.{IsLeastRoutes}
+use Rattle.tsp_theory.specs.Tour.{IsLeastRoutes}
 use Rattle.tsp_routing.proofs.demands.Demands.fewest.Goals as goal
 
 -- plan: the least routes that carry the sum of all demands, which fits 64 bits, counted up to 100,000

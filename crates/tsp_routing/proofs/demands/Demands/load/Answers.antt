@@ -2,7 +2,7 @@
 use Rattle.std.proofs.Common.{◌≡◌, ◌∷◌, ◌∙◌, ◌+◌, ◌≤◌, ℕ, ℤ, List, get_or, drop, refl, arith, to_z, drop-cons, add-one}
 use Rattle.std.specs.Int.{w64}
 use Rattle.tsp_format.specs.Limits.{most_nodes}
-use Rattle.tsp_theory.specs.Routing.{demand_of, load_of}
+use Rattle.tsp_theory.specs.Tour.{demand_of, load_of}
 use Rattle.tsp_routing.proofs.CutNeeds.{load_fits, load_more, sum_step}
 use Rattle.tsp_routing.proofs.demands.Demands.load.Goals as goal
 

@@ -1,7 +1,7 @@
 -- The loop of `Demands::load` in src/needs.rt.
 use Rattle.std.proofs.Common.{◌≡◌, drop}
 use Rattle.std.specs.Prelude.{◌+ℤ◌}
-use Rattle.tsp_theory.specs.Routing.{load_of}
+use Rattle.tsp_theory.specs.Tour.{load_of}
 use Rattle.tsp_routing.proofs.CutNeeds.{IsLoadOf}
 use Rattle.tsp_routing.proofs.demands.Demands.load.Given as goal
 

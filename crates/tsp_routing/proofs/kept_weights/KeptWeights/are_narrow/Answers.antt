@@ -3,10 +3,9 @@
 use Rattle.std.proofs.Common.{◌+◌, ◌^◌, ℕ, ℤ, subst, sym, arith, inl, inr}
 use Rattle.std.specs.Prelude.{pos, neg_ℤ}
 use Rattle.std.proofs.lemmas.Bool.{cases_eq}
-use Rattle.tsp_format.specs.Ranges.{IsFromTo}
-use Rattle.tsp_cases.specs.states.Lent.{lent_in}
-use Rattle.tsp_cases.specs.states.Combed.{set_weight}
-use Rattle.tsp_routing.specs.Weights.{most_link}
+use Rattle.tsp_format.specs.Steps.{IsFromTo}
+use Rattle.tsp_cases.specs.states.Sets.{lent_in, set_weight}
+use Rattle.tsp_routing.specs.PlanBounds.{most_link}
 use Rattle.tsp_routing.proofs.kept_weights.KeptWeights.are_narrow.Goals as goal
 
 -- plan: the weights of all rows so far are within the limit of a link, and within 2^38 where each row so far was

@@ -2,10 +2,9 @@
 use Rattle.std.proofs.Common.{◌≡◌, ◌≤◌, ◌+◌, ◌^◌, ℕ, true, length}
 use Rattle.std.specs.Prelude.{pos, neg_ℤ}
 use Rattle.tsp_format.specs.Nodes.{IsNode}
-use Rattle.tsp_format.specs.Ranges.{IsFromTo}
-use Rattle.tsp_cases.specs.states.Lent.{lent_in}
-use Rattle.tsp_cases.specs.states.Combed.{set_weight}
-use Rattle.tsp_routing.specs.Weights.{most_link}
+use Rattle.tsp_format.specs.Steps.{IsFromTo}
+use Rattle.tsp_cases.specs.states.Sets.{lent_in, set_weight}
+use Rattle.tsp_routing.specs.PlanBounds.{most_link}
 use Rattle.tsp_routing.proofs.kept_weights.KeptWeights.are_narrow.Given as goal
 
 -- the weights from the nodes up to `index` are at most `most_link` in size, and where `narrow` holds at most 2^38

@@ -5,14 +5,13 @@ use Rattle.std.specs.Int.{w64, int_wrap}
 use Rattle.std.specs.Prelude.{pos, neg_ℤ, ◌+ℤ◌, ◌*ℤ◌}
 use Rattle.std.proofs.lemmas.Int.{to_z-of_z}
 use Rattle.tsp_format.specs.Limits.{most_scale, most_weight}
-use Rattle.tsp_format.specs.Ranges.{IsFromTo}
-use Rattle.tsp_theory.specs.CertificateNumbers.{entry}
+use Rattle.tsp_format.specs.Steps.{IsFromTo}
+use Rattle.tsp_theory.specs.Bounds.{entry}
 use Rattle.tsp_theory.specs.states.Nearest.{least_at}
-use Rattle.tsp_theory.proofs.Weights.{between_size}
-use Rattle.tsp_theory.proofs.Sizes.{same_scale, scaled_size}
-use Rattle.tsp_cases.specs.states.Lent.{lent_in}
-use Rattle.tsp_cases.specs.states.Combed.{multipliers_at}
-use Rattle.tsp_cases.proofs.SetAlgebra.{apart_is}
+use Rattle.tsp_theory.proofs.Cycles.{between_size}
+use Rattle.tsp_theory.proofs.Sums.{same_scale, scaled_size}
+use Rattle.tsp_cases.specs.states.Sets.{lent_in, multipliers_at}
+use Rattle.tsp_cases.proofs.SetSums.{apart_is}
 use Rattle.tsp_routing.proofs.leaf_weights.LeafWeights.fill_apart.Goals as goal
 
 -- plan: the sum in 64 bits is the weight without the sets that have both nodes (`apart_is`); its size by the limits

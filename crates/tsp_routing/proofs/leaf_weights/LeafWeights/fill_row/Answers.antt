@@ -4,17 +4,13 @@ use Rattle.std.proofs.Common.{◌≡◌, ℕ, ℤ, List, sym, subst, ◌∙◌}
 use Rattle.std.specs.Prelude.{pos, neg_ℤ}
 use Rattle.std.specs.List.{All}
 use Rattle.tsp_format.specs.Nodes.{IsNode}
-use Rattle.tsp_format.specs.Ranges.{IsFromTo}
-use Rattle.tsp_theory.specs.states.Nearest.{least_at}
+use Rattle.tsp_format.specs.Steps.{IsFromTo}
+use Rattle.tsp_theory.specs.states.Nearest.{least_at, IsMoved}
 use Rattle.tsp_cases.specs.declared.sets.SetPlace.{SetPlace}
-use Rattle.tsp_theory.specs.states.Additions.{IsMoved}
-use Rattle.tsp_cases.specs.states.Sets.{places_with}
-use Rattle.tsp_cases.specs.states.Places.{IsPlaceIn}
-use Rattle.tsp_cases.specs.states.Lent.{lent_in}
-use Rattle.tsp_cases.specs.states.Combed.{inside_both, set_weight}
-use Rattle.tsp_routing.specs.Weights.{most_link}
-use Rattle.tsp_cases.proofs.SetAlgebra.{places_inside}
-use Rattle.tsp_routing.proofs.SignedValues.{signed_at}
+use Rattle.tsp_cases.specs.states.Sets.{places_with, IsPlaceIn, lent_in, inside_both, set_weight}
+use Rattle.tsp_routing.specs.PlanBounds.{most_link}
+use Rattle.tsp_cases.proofs.SetSums.{places_inside}
+use Rattle.tsp_routing.proofs.RouteProducts.{signed_at}
 use Rattle.tsp_routing.proofs.leaf_weights.LeafWeights.fill_row.Goals as goal
 
 -- plan: a row without sets of two nodes, and what these add, are the weights, whose remainders in 64 bits are

@@ -6,15 +6,13 @@ use Rattle.std.specs.Int.{w64}
 use Rattle.std.proofs.lemmas.Int.{ints, to_z-of_z}
 use Rattle.std.proofs.lemmas.List.{length-map}
 use Rattle.std.proofs.lemmas.List.Elements.{recursion_from_All, All-from_recursion}
-use Rattle.tsp_format.specs.Ranges.{IsFromTo}
-use Rattle.tsp_cases.specs.FamilySets.{lists_of}
+use Rattle.tsp_format.specs.Steps.{IsFromTo}
+use Rattle.tsp_cases.specs.Crossings.{lists_of}
 use Rattle.tsp_cases.specs.states.Kept.{AreMoved}
-use Rattle.tsp_cases.specs.states.Lent.{lent_in}
-use Rattle.tsp_cases.specs.states.Sets.{IsSetTable}
-use Rattle.tsp_cases.proofs.CombsBySets.{sets_tell_combs}
-use Rattle.tsp_routing.specs.GoodLeaves.{most_of_multipliers}
-use Rattle.tsp_routing.proofs.MultiplierSizes.{each_small}
-use Rattle.tsp_routing.proofs.SignedSets.{signed_crossings}
+use Rattle.tsp_cases.specs.states.Sets.{lent_in, IsSetTable}
+use Rattle.tsp_cases.proofs.FamilyCrossings.{sets_tell_combs}
+use Rattle.tsp_routing.specs.PlanVerdicts.{most_of_multipliers}
+use Rattle.tsp_routing.proofs.RouteProducts.{each_small, signed_crossings}
 use Rattle.tsp_routing.proofs.leaf_weights.LeafWeights.of.Goals as goal
 
 -- plan: each fact is one of the leaf or of its setting; single sets are crossed no more often than multipliers sum to

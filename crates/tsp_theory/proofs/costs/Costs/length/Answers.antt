@@ -6,7 +6,7 @@ use Rattle.std.specs.Int.{w64}
 use Rattle.std.specs.List.{All}
 use Rattle.std.proofs.lemmas.List.Elements.{All-tail}
 use Rattle.tsp_format.specs.Nodes.{IsNode}
-use Rattle.tsp_theory.proofs.Lengths.{sum_fits, sum_more, length_more}
+use Rattle.tsp_theory.proofs.Sums.{sum_fits, sum_more, length_more}
 use Rattle.tsp_theory.proofs.costs.Costs.length.Goals as goal
 
 pub cost-length-requires-clause-to : goal.cost-length-requires-clause-to

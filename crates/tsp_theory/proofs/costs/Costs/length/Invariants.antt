@@ -2,7 +2,7 @@
 use Rattle.std.proofs.Common.{◌≡◌, drop}
 use Rattle.std.specs.Prelude.{◌+ℤ◌}
 use Rattle.tsp_format.specs.Nodes.{IsNode}
-use Rattle.tsp_theory.proofs.Lengths.{length_to, IsSumOf}
+use Rattle.tsp_theory.proofs.Sums.{length_to, IsSumOf}
 use Rattle.tsp_theory.proofs.costs.Costs.length.Given as goal
 
 -- the length so far, and that from `from` through the nodes left back to the first, are the length of the cycle

@@ -4,8 +4,8 @@ use Rattle.std.proofs.Common.{subst}
 use Rattle.tsp_verdict.specs.declared.solution_verdict.TourBasis.{TourBasis}
 use Rattle.tsp_verdict.specs.states.TourBases.{IsTourBasis}
 use Rattle.tsp_verdict.proofs.Bases.{bounded_so}
-use Rattle.tsp_verdict.proofs.Bounds.{certificate_decides}
-use Rattle.tsp_verdict.proofs.ByType.{none_for_tours}
+use Rattle.tsp_verdict.proofs.OneReason.{certificate_decides}
+use Rattle.tsp_verdict.proofs.FirstReasons.{none_for_tours}
 use Rattle.tsp_verdict.proofs.solution_verdict.Subject.basis_on.Goals as goal
 
 -- plan: where no reason is against the instance, the certificate decides (`certificate_decides`)

@@ -6,15 +6,14 @@ use Rattle.std.specs.Prelude.{FitsSigned, Some}
 use Rattle.std.proofs.lemmas.Int.{to_z-of_z}
 use Rattle.tsp_file.specs.Fields.{nodes_of}
 use Rattle.tsp_file.specs.Rules.{is_tour_file}
-use Rattle.tsp_cost.specs.ComputedProblems.{is_directed}
+use Rattle.tsp_cost.specs.Problems.{is_directed}
 use Rattle.tsp_report.specs.declared.verdict.Reason.TheVariants.{NotASolution, Dimension, FixedEdgeUnused}
 use Rattle.tsp_report.specs.declared.verdict.Verdict.{Verdict}
 use Rattle.tsp_verdict.specs.SolutionVerdict.{IsAsClaimed, IsOtherClaimed}
-use Rattle.tsp_verdict.specs.Tours.{IsFirstAgainstTour}
+use Rattle.tsp_verdict.specs.Solutions.{IsFirstAgainstTour}
 use Rattle.tsp_verdict.specs.states.TourBases.{IsVerdictGiven, verdict_by}
 use Rattle.tsp_verdict.proofs.Bases.{up_to_dimension, subject_rejected, subject_disclaimed, subject_judged}
-use Rattle.tsp_verdict.proofs.TourReasons.{after_dimension}
-use Rattle.tsp_verdict.proofs.TourVerdicts.{unused_first, is_yes}
+use Rattle.tsp_verdict.proofs.TourVerdicts.{after_dimension, unused_first, is_yes}
 use Rattle.tsp_verdict.proofs.solution_verdict.Subject.verdict_on_tour.Goals as goal
 
 -- plan: by the first reason (`subject_rejected`), by another length than claimed (`subject_disclaimed`), or by the

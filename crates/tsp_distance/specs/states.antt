@@ -1,2 +1,0 @@
--- The files of definitions that look into structs of the code.
-pub mod Rounding

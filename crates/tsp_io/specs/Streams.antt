@@ -1,0 +1,77 @@
+-- A reader before and after a call: the bytes that it delivered, and whether it failed. For every call that reads:
+-- `read_from` of tsp_read, and the runs of tsp_judge.
+use Rattle.std.specs.Io.KnownBytes.{Keeps, Consumes, Appends}
+use Rattle.std.specs.Prelude.{◌≡◌, ℕ, ◌≤◌, Bool, true, false, List, length, Option, IfSome, take, Result, Ok, Err, codes}
+use Rattle.tsp_io.specs.declared.piece.WriteFault.{WriteFault}
+use Rattle.tsp_io.specs.declared.piece.WriteFault.TheVariants.{Device, OutOfMemory}
+use Rattle.tsp_io.specs.declared.piece.WriteFault.TheVariants as write_faults
+
+-- A reader's turn: the bytes that it had left before the call and after it, where they are known, the bytes that it
+-- delivered, and whether it had failed before the call and has failed after it.
+pub record Turn : Type 0 where
+  pub known : Option (List ℕ)
+  pub left : Option (List ℕ)
+  pub given : List ℕ
+  pub had_failed : Bool
+  pub failed : Bool
+
+-- the reader delivered these bytes
+abbrev pub Gave : Turn → Type 0
+Gave turn = Consumes turn.known turn.left turn.given
+
+-- it had not failed before, and hasn't failed
+abbrev pub IsSound : Turn → Type 0
+IsSound turn = (turn.had_failed ≡ false) × (turn.failed ≡ false)
+
+-- It delivered bytes of which P holds, without a failure. Where its bytes are known, P holds of all of them too:
+-- reading didn't stop too early.
+abbrev pub GaveAll : Turn → (List ℕ → Type 0) → Type 0
+GaveAll turn P = Gave turn × IsSound turn × P turn.given × IfSome turn.known P
+
+-- It has failed, in this call or before. A reader that had failed before is not read.
+abbrev pub HasBrokenOff : Turn → Type 0
+HasBrokenOff turn = Gave turn × (turn.failed ≡ true)
+    × (turn.had_failed ≡ true → Keeps turn.known turn.left)
+
+-- the reader was not asked
+abbrev pub IsUnread : Turn → Type 0
+IsUnread turn = Keeps turn.known turn.left × (turn.failed ≡ turn.had_failed)
+
+-- for some bytes that the reader delivered, at most `most` of them, P holds of the turn
+abbrev pub TakesAtMost : ℕ → (List ℕ → Turn) → (Turn → Type 0) → Type 0
+TakesAtMost most turn P = (given : List ℕ) × (length given ≤ most) × P (turn given)
+
+-- ---- a writer before and after a call
+
+-- The bytes that a writer has before the call and after it, where these are known, and whether it had failed before and
+-- has failed after it.
+pub record Sink : Type 0 where
+  pub held : Option (List ℕ)
+  pub holds : Option (List ℕ)
+  pub had_failed : Bool
+  pub failed : Bool
+
+-- nothing was written
+abbrev pub IsUnwritten : Sink → Type 0
+IsUnwritten sink = Keeps sink.held sink.holds × (sink.failed ≡ sink.had_failed)
+
+-- the whole text was written to a writer that had not failed before and has not failed
+abbrev pub HasWritten : Sink → List ℕ → Type 0
+HasWritten sink text = (sink.had_failed ≡ false) × (sink.failed ≡ false) × Appends sink.held sink.holds text
+
+-- A prefix of the text was written, and nothing else, before the writer failed. A writer that had failed gets nothing.
+abbrev pub HasStopped : Sink → List ℕ → Type 0
+HasStopped sink text = (sink.failed ≡ true) × (sink.had_failed ≡ true → Keeps sink.held sink.holds)
+    × ((count : ℕ) × Appends sink.held sink.holds (take count text))
+
+-- The result of writing a text. It takes no memory, so the result isn't `OutOfMemory`.
+abbrev pub Writes : Sink → List ℕ → Result (Unit {0}) WriteFault → Type 0
+Writes sink text (Ok done) = HasWritten sink text
+Writes sink text (Err write_faults.Device) = HasStopped sink text
+Writes sink text (Err write_faults.OutOfMemory) = ⊥
+
+-- ---- the text of each fault of a writer
+
+abbrev pub write_fault_text : WriteFault → List ℕ
+write_fault_text Device = codes "device"
+write_fault_text OutOfMemory = codes "out of memory"

@@ -1,0 +1,12 @@
+-- The goals of `is_euc_2d_at_least` in src/compared.rt: what it ensures.
+use Rattle.std.proofs.Common.{w64}
+use Rattle.std.proofs.lemmas.Int.{to_z-of_z}
+use Rattle.tsp_number.proofs.Comparisons.{euc_2d_cover}
+use Rattle.tsp_number.proofs.compared.is_euc_2d_at_least.Goals as goal
+
+-- plan: the distance is the least number whose next half covers the square of the straight distance (`euc_2d_cover`),
+-- so squares are compared
+pub returns : goal.returns
+returns c =
+    let same = to_z-of_z w64 c.args.least c.ranges.least in
+    rw same at c.is_straight_at_least.ensures _ (euc_2d_cover c.args.a c.args.b)

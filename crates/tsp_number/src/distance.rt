@@ -1,0 +1,118 @@
+//! The five distances of TSPLIB 95 between points in the plane. For `src/metric.rt` of tsp_cost and
+//! `src/distance_call.rt` of tsp_c.
+
+ghost use Rattle.std.specs.Prelude.{◌≡◌, pos, ◌≤ℤ◌, ◌<◌, ◌≤◌, ◌-ℤ◌, ◌+◌, ◌-◌, ◌*◌, ◌^◌, unsigned_abs};
+ghost use Rattle.tsp_number.specs.Decimal.{unit};
+ghost use Rattle.tsp_number.specs.Distances.{IsEuc2d, IsCeil2d, IsMan2d, IsMax2d, IsAtt, square_apart, euc_2d_of, ceil_2d_of, man_2d_of, max_2d_of, att_of};
+ghost use Rattle.tsp_number.specs.states.Rounding.{IsLeastCover};
+
+use crate::decimal::{Decimal, Point, UNIT};
+use crate::root::{Rounding, rounded_root};
+
+/// The signed difference from one coordinate to another, in counts of 10^-9.
+#[inline(always)]
+pub(crate) fn way(a: Decimal, b: Decimal) -> i64
+    ensures value { result ≡ a -ℤ b }
+    ensures most { unsigned_abs result ≤ 2 * 10 ^ 18 }
+{
+    a.nanos() - b.nanos()
+}
+
+/// How far two numbers are apart, in counts of 10^-9.
+#[inline(always)]
+pub(crate) fn gap(a: Decimal, b: Decimal) -> u64
+    ensures value { result ≡ unsigned_abs (a -ℤ b) }
+    ensures most { result ≤ 2 * 10 ^ 18 }
+{
+    a.nanos().abs_diff(b.nanos())
+}
+
+/// The count as whole numbers, to the nearest, a half upward.
+#[inline(always)]
+pub(crate) fn nearest_whole(count: u64) -> i64
+    requires { count ≤ 6 * 10 ^ 18 }
+    ensures below_next_half { 2 * count < (2 * unsigned_abs result + 1) * unit }
+    ensures from_last_half { 0 < unsigned_abs result → (2 * unsigned_abs result - 1) * unit ≤ 2 * count }
+    ensures low { pos 0 ≤ℤ result }
+    ensures high { result ≤ℤ pos 6000000000 }
+{
+    ((count + UNIT / 2) / UNIT) as i64
+}
+
+/// The straight distance in the plane, rounded by `rounding`: from 0 to 2,828,427,125.
+#[inline(always)]
+fn straight(rounding: Rounding, a: Point, b: Point) -> i64
+    ensures value { IsLeastCover rounding (square_apart a b) (unsigned_abs result) }
+    ensures apart { square_apart a b ≤ 8 * 10 ^ 36 }
+    ensures low { pos 0 ≤ℤ result }
+    ensures high { result ≤ℤ pos 2828427125 }
+{
+    i64::from(rounded_root(rounding, way(a.x, b.x), way(a.y, b.y)))
+}
+
+/// The distance EUC_2D: the straight distance, rounded to the nearest whole number, a half upward.
+///
+/// It is `nint(sqrt(dx^2 + dy^2))` of Reinelt's TSPLIB 95, over the exact coordinates: from 0 to
+/// 2,828,427,125.
+pub fn euc_2d(a: Point, b: Point) -> i64
+    ensures value { IsEuc2d a b (unsigned_abs result) }
+    ensures distance { result ≡ pos (euc_2d_of a b) }
+    ensures low { pos 0 ≤ℤ result }
+    ensures high { result ≤ℤ pos 2828427125 }
+{
+    straight(Rounding::Nearest, a, b)
+}
+
+/// The distance CEIL_2D: the straight distance, rounded up.
+///
+/// It is `sqrt(dx^2 + dy^2)` of Reinelt's TSPLIB 95 rounded up to a whole number, over the exact
+/// coordinates: from 0 to 2,828,427,125.
+pub fn ceil_2d(a: Point, b: Point) -> i64
+    ensures value { IsCeil2d a b (unsigned_abs result) }
+    ensures distance { result ≡ pos (ceil_2d_of a b) }
+    ensures low { pos 0 ≤ℤ result }
+    ensures high { result ≤ℤ pos 2828427125 }
+{
+    straight(Rounding::Up, a, b)
+}
+
+/// The distance ATT: the root of a tenth of the straight distance's square, rounded up.
+///
+/// Reinelt's TSPLIB 95 rounds `sqrt((dx^2 + dy^2) / 10)` to the nearest whole number and adds 1
+/// where that is less, which rounds it up. It is from 0 to 894,427,191.
+pub fn att(a: Point, b: Point) -> i64
+    ensures value { IsAtt a b (unsigned_abs result) }
+    ensures distance { result ≡ pos (att_of a b) }
+    ensures low { pos 0 ≤ℤ result }
+    ensures high { result ≤ℤ pos 894427191 }
+{
+    straight(Rounding::TenthUp, a, b)
+}
+
+/// The distance MAN_2D: the sum of the ways along both axes, rounded to the nearest whole number,
+/// a half upward.
+///
+/// It is `nint(|dx| + |dy|)` of Reinelt's TSPLIB 95, over the exact coordinates: from 0 to
+/// 4,000,000,000.
+pub fn man_2d(a: Point, b: Point) -> i64
+    ensures value { IsMan2d a b (unsigned_abs result) }
+    ensures distance { result ≡ pos (man_2d_of a b) }
+    ensures low { pos 0 ≤ℤ result }
+    ensures high { result ≤ℤ pos 4000000000 }
+{
+    nearest_whole(gap(a.x, b.x) + gap(a.y, b.y))
+}
+
+/// The distance MAX_2D: the longer of the ways along both axes, rounded to the nearest whole
+/// number, a half upward.
+///
+/// It is `max(nint(|dx|), nint(|dy|))` of Reinelt's TSPLIB 95, over the exact coordinates: from 0
+/// to 2,000,000,000.
+pub fn max_2d(a: Point, b: Point) -> i64
+    ensures value { IsMax2d a b (unsigned_abs result) }
+    ensures distance { result ≡ pos (max_2d_of a b) }
+    ensures low { pos 0 ≤ℤ result }
+    ensures high { result ≤ℤ pos 2000000000 }
+{
+    nearest_whole(gap(a.x, b.x).max(gap(a.y, b.y)))
+}

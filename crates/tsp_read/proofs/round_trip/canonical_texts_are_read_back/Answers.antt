@@ -1,0 +1,53 @@
+-- The goals of `canonical_texts_are_read_back` in src/round_trip.rt. The canonical text of a valid file parses to that
+-- file, and to no other: from the one answer of every text.
+use Rattle.std.proofs.Common.{ℕ, List, sym, subst, ◌∙◌, Result, Ok, Err}
+use Rattle.std.proofs.lemmas.Option.{none-some}
+use Rattle.tsp_file.specs.Fields.{Fields}
+use Rattle.tsp_file.specs.CanonicalText.{text_of}
+use Rattle.tsp_text.specs.declared.fault.ReadFault.{ReadFault}
+use Rattle.tsp_text.specs.declared.fault.ReadFault.TheVariants as faults
+use Rattle.tsp_read.specs.Reads.{Reads}
+use Rattle.tsp_text.specs.Spells.{Spells}
+use Rattle.tsp_read.specs.Answers.{IsThisFile}
+use Rattle.tsp_read.proofs.NumbersReadBack.{NumberLaws}
+use Rattle.tsp_read.proofs.KeyFields.{text_spelled}
+use Rattle.tsp_read.proofs.round_trip.canonical_texts_are_read_back.Goals as goal
+
+-- plan: the text parses to the file (`text_spelled`), and a text has one answer, so it is read as no other
+-- (`only_this`)
+pub returns-clause-spelled : goal.returns-clause-spelled
+returns-clause-spelled c =
+    let numbers = c.written_numbers_are_read_back.ensures in
+    let laws : NumberLaws = record { whole_back = numbers.whole; decimal_back = numbers.coordinate } in
+    λ f valid. text_spelled laws f valid (c.a_valid_text_is_short.ensures.whole f valid)
+
+pub returns-clause-alone : goal.returns-clause-alone
+returns-clause-alone c =
+    let spells = returns-clause-spelled c in
+    λ f other valid also. c.texts_have_one_answer.ensures.one_file (text_of f) other f also (spells f valid)
+
+-- a text that parses to a file is read as that file
+only_this : (bytes : List ℕ) (file : Fields) (answer : Result Fields ReadFault) → Spells bytes file → Reads bytes answer
+    → IsThisFile file answer
+only_this bytes file (Ok other) spells reads = reads.fields ∙ sym spells.fields
+only_this bytes file (Err (faults.Line line word found)) spells reads =
+    absurd (none-some (faults.Line line word found) (sym spells.no_fault ∙ reads))
+only_this bytes file (Err (faults.End found)) spells reads = absurd (none-some (faults.End found) (sym spells.no_fault ∙ reads))
+only_this bytes file (Err faults.OutOfMemory) spells reads = tt
+only_this bytes file (Err faults.Device) spells reads = reads
+only_this bytes file (Err faults.TooLong) spells reads = absurd (none-some faults.TooLong (sym spells.no_fault ∙ reads))
+
+pub returns-clause-read : goal.returns-clause-read
+returns-clause-read c =
+    let spells = returns-clause-spelled c in
+    λ f answer valid reads. only_this (text_of f) f answer (spells f valid) reads
+
+pub returns-clause-told_apart : goal.returns-clause-told_apart
+returns-clause-told_apart c =
+    let spells = returns-clause-spelled c in
+    λ f other valid also same. c.texts_have_one_answer.ensures.one_file (text_of other) f other (subst (λ (bytes : List ℕ). Spells bytes f) same (spells f valid)) (spells other also)
+
+pub returns-clause-again : goal.returns-clause-again
+returns-clause-again c =
+    let spells = returns-clause-spelled c in
+    λ bytes f h. spells f (c.spelled_files_are_valid.ensures.of_text bytes f h)

@@ -1,2 +1,0 @@
--- The files of definitions of this crate. Crates above may import them.
-pub mod Answers

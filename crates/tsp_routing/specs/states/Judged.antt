@@ -1,0 +1,69 @@
+-- The memory of a leaf for routes, which is `PlanRoom` (src/verdict.rt), and what is found of one leaf or of all.
+-- For `judge_leaf` there, and for `leaf_verdict` (src/verdict.rt).
+use Rattle.std.specs.Global.{Vec}
+use Rattle.std.specs.List.{All}
+use Rattle.std.specs.Prelude.{◌≡◌, ℕ, ◌+◌, ◌*◌, ◌≤◌, ◌<◌, Bool, true, List, length, Option, ℤ, Some, None}
+use Rattle.tsp_format.specs.Steps.{Step}
+use Rattle.tsp_theory.specs.Tour.{RoutingProblem}
+use Rattle.tsp_cases.specs.Cases.{LeafNumbers}
+use Rattle.tsp_cases.specs.Crossings.{families_in}
+use Rattle.tsp_cases.specs.Families.{Family, family_with}
+use Rattle.tsp_cases.specs.ListedCases.{listed_steps}
+use Rattle.tsp_cases.specs.declared.family.Crossings.{Crossings}
+use Rattle.tsp_cases.specs.declared.open_case.Decision.{Decision}
+use Rattle.tsp_routing.specs.PlanBounds.{IsFoundByWalks, IsPlanTreeBound}
+use Rattle.tsp_routing.specs.PlanLinks.{room_in, IsCutFamily}
+use Rattle.tsp_routing.specs.PlanVerdicts.{AreGoodPlanLeaves, IsFirstBadPlanLeaf, most_entries, IsGoodSet, IsFirstBadSet, AreCapacityCuts}
+use Rattle.tsp_routing.specs.declared.demands.Demands.{Demands}
+use Rattle.tsp_routing.specs.declared.verdict.JudgedCuts.{JudgedCuts}
+use Rattle.tsp_routing.specs.declared.verdict.JudgedCuts.TheVariants as judged
+use Rattle.tsp_routing.specs.declared.verdict.PlanRoom.{PlanRoom}
+use Rattle.tsp_routing.specs.declared.verdict.PlanVerdict.{PlanVerdict}
+use Rattle.tsp_routing.specs.declared.verdict.PlanVerdict.TheVariants as verdict
+use Rattle.tsp_routing.specs.states.Demands.{loads_problem}
+
+-- a potential for each node, a multiplier for each family, and a row of numbers by node
+pub record IsPlanRoom (n families : ℕ) (room : PlanRoom) : Type 0 where
+  pub potentials : length room.potentials.items ≡ n
+  pub multipliers : length room.multipliers.items ≡ families
+  pub row : length room.row.items ≡ n + 1
+
+-- what is found of a leaf where there are few loads; where there are too many, a leaf is good or bad alone
+abbrev pub IsFoundOfFew : Bool → RoutingProblem → ℤ → ℕ → ℕ → List Family → List Decision × LeafNumbers → Option ℤ → Type 0
+IsFoundOfFew few problem scale unit light families leaf found =
+    few ≡ true → IsFoundByWalks problem scale unit light families leaf found
+
+-- how many entries the table by node and load has
+abbrev pub entries_in : RoutingProblem → ℕ → ℕ → ℕ
+entries_in problem unit light = problem.nodes * (room_in problem unit light + 1)
+
+-- the verdict on the leaves, where families and branches are good
+abbrev pub IsLeafVerdict : RoutingProblem → ℤ → ℕ → ℕ → ℕ → List Family → List Step → PlanVerdict → Type 0
+IsLeafVerdict problem scale unit light count families steps (verdict.BadLeaf leaf) =
+    IsFirstBadPlanLeaf problem.nodes count steps leaf
+IsLeafVerdict problem scale unit light count families steps verdict.TooManyLoads =
+    AreGoodPlanLeaves problem.nodes count steps × (most_entries < entries_in problem unit light)
+IsLeafVerdict problem scale unit light count families steps (verdict.Bound found) =
+    AreGoodPlanLeaves problem.nodes count steps × (entries_in problem unit light ≤ most_entries)
+    × IsPlanTreeBound problem scale unit light families (listed_steps problem.nodes count steps) found
+IsLeafVerdict problem scale unit light count families steps (verdict.BadFamily family) = ⊥
+IsLeafVerdict problem scale unit light count families steps (verdict.BadBranch branch) = ⊥
+
+-- ---- the judgement on the families of a certificate for routes
+
+-- how often a plan crosses the set at least is a count that fits
+abbrev pub IsFewCrossed : Crossings → Type 0
+IsFewCrossed own = own.least ≤ 200000
+
+-- how often a plan crosses the set at least; None where the family isn't a set of customers
+abbrev pub AreCutNumbers : Demands → List (List ℕ) → Option Crossings → Type 0
+AreCutNumbers demands sets None = IsGoodSet demands.nodes demands.depot sets → ⊥
+AreCutNumbers demands sets (Some own) = IsGoodSet demands.nodes demands.depot sets × IsFewCrossed own
+    × ((cost : ℕ → ℕ → ℤ) → IsCutFamily (loads_problem demands cost) (family_with own sets))
+
+-- Good: the families, each with its number. Bad: the number of the first bad one.
+abbrev pub AreCutsJudged : Demands → List (Vec (Vec ℕ)) → JudgedCuts → Type 0
+AreCutsJudged demands lent (judged.Good families crossed) = (families.nodes ≡ demands.nodes) × (families.lent.now ≡ lent)
+    × All IsFewCrossed crossed.items
+    × ((cost : ℕ → ℕ → ℤ) → AreCapacityCuts (loads_problem demands cost) (families_in lent) crossed.items)
+AreCutsJudged demands lent (judged.Bad first) = IsFirstBadSet demands.nodes demands.depot (families_in lent) first

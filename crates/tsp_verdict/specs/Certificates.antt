@@ -1,0 +1,193 @@
+-- Which multipliers of a file are on a pair that isn't fixed, or on the pair of an earlier one. For `first_outside` and
+-- `first_repeated_pair` (src/potentials.rt), and for Certificates.antt.
+use Rattle.std.specs.List.{All, Contains}
+use Rattle.std.specs.Prelude.{◌≡◌, ℕ, ◌-◌, ◌<◌, ◌≤◌, true, List, slice_index_or, ℤ, pos, ◌⊎◌, ◌≢◌, Bool, false, ◌&&◌, [], Option, None, Some, is_some, not, ◌∷◌, length, filter, nat_abs}
+use Rattle.tsp_format.specs.Steps as listed
+use Rattle.tsp_format.specs.declared.kinds.Kind.{Kind}
+use Rattle.tsp_format.specs.declared.kinds.Kind.TheVariants as kinds
+use Rattle.tsp_file.specs.Cost.{fixed_of, scale_in, multipliers_in, cost, families_listed, load_unit_in}
+use Rattle.tsp_file.specs.Fields.{Fields, nodes_of}
+use Rattle.tsp_file.specs.Rules.{is_potentials_file, is_branches_file}
+use Rattle.tsp_theory.specs.Bounds.{pair_of, is_same_pair, AreGood, IsFirstBroken, IsDualBound, IsAdjustedBound}
+use Rattle.tsp_cost.specs.Problems.{is_directed, depot_of, routing_of}
+use Rattle.tsp_cases.specs.CaseTrees.{IsCaseTree, IsCaseTreeBound}
+use Rattle.tsp_cases.specs.Cases.{CaseStep, take_pairs, is_same, decided_number}
+use Rattle.tsp_cases.specs.Families.{Family, IsFamily, families_with, IsGoodFamily}
+use Rattle.tsp_cases.specs.ListedCases.{IsFirstBadBranch, listed_steps, IsFirstBadLeaf, IsFirstTwice}
+use Rattle.tsp_cases.specs.declared.family.Crossings.{Crossings}
+use Rattle.tsp_cases.specs.declared.open_case.Decision.{Decision}
+use Rattle.tsp_routing.specs.PlanVerdicts.{IsFirstBadSet, IsFirstBadPlanBranch, IsFirstBadPlanLeaf, HasTooManyLoads, IsBoundFound}
+use Rattle.tsp_report.specs.declared.verdict.Reason.{Reason}
+use Rattle.tsp_report.specs.declared.verdict.Reason.TheVariants.{NotPotentials, PotentialsDimension, PotentialsKind, MultiplierNotFixed, MultiplierRepeated, DualInfeasible, NotBranches, BranchesDimension, BadComb, BadBranch, BranchTwice, BadLeaf, TooManyLoads}
+use Rattle.tsp_verdict.specs.Solutions.{IsFirstPlace}
+
+-- a pair is listed, in either direction
+abbrev pub IsListedEitherWay : List (ℕ × ℕ) → ℕ × ℕ → Type 0
+IsListedEitherWay pairs pair = Contains pairs pair ⊎ Contains pairs (pair.1, pair.0)
+
+-- the pair of each triple is listed so
+abbrev pub AreListed : List (ℕ × ℕ) → List (ℕ × ℕ × ℤ) → Type 0
+AreListed pairs triples = All (λ triple. IsListedEitherWay pairs (pair_of triple)) triples
+
+-- the pair of the triple at a place, counted from 1
+abbrev pub pair_at : List (ℕ × ℕ × ℤ) → ℕ → ℕ × ℕ
+pair_at triples place = pair_of (slice_index_or triples (place - 1) (0, 0, pos 0))
+
+-- the pair at the place isn't listed
+abbrev pub IsUnlisted : List (ℕ × ℕ) → List (ℕ × ℕ × ℤ) → ℕ → Type 0
+IsUnlisted pairs triples place = IsListedEitherWay pairs (pair_at triples place) → ⊥
+
+-- the pair at the place is at an earlier place too, in either direction
+abbrev pub IsPairRepeated : List (ℕ × ℕ × ℤ) → ℕ → Type 0
+IsPairRepeated triples place =
+    (earlier : ℕ) × (1 ≤ earlier) × (earlier < place) × (is_same_pair (pair_at triples earlier) (pair_at triples place) ≡ true)
+
+-- ---- a certificate by potentials: when a reason applies to its file
+
+-- ---- its numbers
+
+-- the file has potentials of nodes for a TSP, or of rows and of columns for an ATSP
+abbrev pub has_wanted : Option Kind → Fields → Bool
+has_wanted (Some kinds.Tsp) f = is_some f.node_potentials
+has_wanted (Some kinds.Atsp) f = is_some f.row_potentials && is_some f.column_potentials
+has_wanted other f = false
+
+-- the first pair whose cost is below the sum of its duals
+pub record BreaksDuals (instance certificate : Fields) (i j : ℕ) : Type 0 where
+  pub rows : List ℤ
+  pub rows_are : certificate.row_potentials ≡ Some rows
+  pub columns : List ℤ
+  pub columns_are : certificate.column_potentials ≡ Some columns
+  pub first : IsFirstBroken (nodes_of instance) (cost instance) (scale_in certificate) rows columns i j
+
+-- ---- when a reason applies to it; reasons of tours and of routes never do
+
+-- when a reason applies to the certificate
+abbrev pub StandsAgainstPotentials : Fields → Fields → Reason → Type 0
+StandsAgainstPotentials instance certificate NotPotentials = is_potentials_file certificate.kind ≡ false
+StandsAgainstPotentials instance certificate PotentialsDimension = nodes_of certificate ≢ nodes_of instance
+StandsAgainstPotentials instance certificate PotentialsKind = has_wanted instance.kind certificate ≡ false
+StandsAgainstPotentials instance certificate (MultiplierNotFixed index) = (instance.kind ≡ Some kinds.Tsp)
+    × IsFirstPlace (IsUnlisted (fixed_of instance) (multipliers_in certificate)) (multipliers_in certificate) index
+StandsAgainstPotentials instance certificate (MultiplierRepeated index) = (instance.kind ≡ Some kinds.Tsp)
+    × IsFirstPlace (IsPairRepeated (multipliers_in certificate)) (multipliers_in certificate) index
+StandsAgainstPotentials instance certificate (DualInfeasible i j) = (instance.kind ≡ Some kinds.Atsp)
+    × BreaksDuals instance certificate i j
+StandsAgainstPotentials instance certificate reason = ⊥
+
+-- ---- its bound
+
+-- for a TSP: the bound of a least 1-tree under the potentials of nodes and the multipliers
+pub record IsBoundByNodes (instance certificate : Fields) (bound : ℤ) : Type 0 where
+  pub potentials : List ℤ
+  pub potentials_are : certificate.node_potentials ≡ Some potentials
+  pub of_tree : IsAdjustedBound (nodes_of instance) (cost instance) (scale_in certificate) potentials
+      (multipliers_in certificate) [] bound
+
+-- for an ATSP: the bound of the duals, which are good
+pub record IsBoundByDuals (instance certificate : Fields) (bound : ℤ) : Type 0 where
+  pub rows : List ℤ
+  pub rows_are : certificate.row_potentials ≡ Some rows
+  pub columns : List ℤ
+  pub columns_are : certificate.column_potentials ≡ Some columns
+  pub good : AreGood (nodes_of instance) (cost instance) (scale_in certificate) rows columns
+  pub of_duals : IsDualBound (scale_in certificate) rows columns bound
+
+-- ---- a certificate by branches for a TSP or an ATSP: when a reason applies to its file
+
+-- ---- the cases, the steps and the families, by the fields of both files
+
+-- pairs without those that come again; undirected: in either direction
+abbrev pub each_once : Bool → List (ℕ × ℕ) → List (ℕ × ℕ)
+each_once directed [] = []
+each_once directed (pair ∷ pairs) = pair ∷ filter (λ other. not (is_same directed pair other)) (each_once directed pairs)
+
+-- the decisions of all cases: the fixed pairs of the instance are taken
+abbrev pub given_in : Fields → List Decision
+given_in instance = take_pairs (each_once (is_directed instance.kind) (fixed_of instance))
+
+-- the steps of the certificate's tree, with the potentials and the multipliers of each leaf
+abbrev pub case_steps_in : Fields → Fields → List listed.Step → List CaseStep
+case_steps_in instance tree steps = listed_steps (nodes_of instance) (length (families_listed tree)) steps
+
+-- the families of the certificate, with these numbers
+abbrev pub families_with_numbers : Fields → List Crossings → List Family
+families_with_numbers tree crossed = families_with crossed (families_listed tree)
+
+-- the two numbers of each family: how often a cycle crosses it at least, and how many of its sets two nodes cross at
+-- most
+pub record AreNumbersOf (instance tree : Fields) (crossed : List Crossings) : Type 0 where
+  pub many : length crossed ≡ length (families_listed tree)
+  pub are : All (IsFamily (nodes_of instance)) (families_with_numbers tree crossed)
+
+-- ---- when a reason applies to it; reasons of tours, of routes and of potentials never do
+
+-- the sets at the place are no family, or have a node twice
+abbrev pub IsBadFamily : ℕ → List (List (List ℕ)) → ℕ → Type 0
+IsBadFamily n families place = IsGoodFamily n (slice_index_or families (place - 1) []) → ⊥
+
+-- when a reason applies to the certificate
+abbrev pub StandsAgainstBranches : Fields → Fields → Reason → Type 0
+StandsAgainstBranches instance tree NotBranches = is_branches_file tree.kind ≡ false
+StandsAgainstBranches instance tree BranchesDimension = nodes_of tree ≢ nodes_of instance
+StandsAgainstBranches instance tree (BadComb index) = IsFirstPlace (IsBadFamily (nodes_of instance) (families_listed tree))
+    (families_listed tree) index
+StandsAgainstBranches instance tree (BadBranch index) = (steps : List listed.Step) × (tree.branches ≡ Some steps)
+    × IsFirstBadBranch 1 (nodes_of instance) steps index
+StandsAgainstBranches instance tree (BranchTwice index) = (steps : List listed.Step) × (tree.branches ≡ Some steps)
+    × IsFirstTwice (is_directed instance.kind) (given_in instance) steps index
+StandsAgainstBranches instance tree (BadLeaf index) = (steps : List listed.Step) × (tree.branches ≡ Some steps)
+    × (crossed : List Crossings) × AreNumbersOf instance tree crossed × IsFirstBadLeaf (nodes_of instance) crossed steps index
+StandsAgainstBranches instance tree reason = ⊥
+
+-- ---- its bound
+
+-- the families are good, the tree is whole with good numbers at its leaves, and the least of the bounds of these is
+-- `found`: by 1-trees, for an ATSP by least links
+pub record HasBoundByBranches (instance tree : Fields) (found : Option ℤ) : Type 0 where
+  pub steps : List listed.Step
+  pub steps_are : tree.branches ≡ Some steps
+  pub crossed : List Crossings
+  pub numbers : AreNumbersOf instance tree crossed
+  pub certificate : IsCaseTree (nodes_of instance) (families_with_numbers tree crossed) (given_in instance)
+      (case_steps_in instance tree steps)
+  pub bound : IsCaseTreeBound (is_directed instance.kind) (nodes_of instance) (cost instance) (scale_in tree) decided_number
+      (families_with_numbers tree crossed) (given_in instance) (case_steps_in instance tree steps) found
+
+-- the bound of the certificate
+abbrev pub IsBoundByBranches : Fields → Fields → ℤ → Type 0
+IsBoundByBranches instance tree bound = HasBoundByBranches instance tree (Some bound)
+
+-- No leaf has a bound. For an ATSP that can be: the decisions of each leaf leave some node without a link.
+abbrev pub HasNoBoundByBranches : Fields → Fields → Type 0
+HasNoBoundByBranches instance tree = HasBoundByBranches instance tree None
+
+-- ---- a certificate by branches for routes: when a reason applies to its file
+
+-- the unit in which the certificate counts demands
+abbrev pub unit_in : Fields → ℕ
+unit_in tree = nat_abs (load_unit_in tree)
+
+-- ---- when a reason applies to it; reasons of routes and of other certificates never do
+
+-- when a reason applies to the certificate
+abbrev pub StandsAgainstWalks : Fields → Fields → Reason → Type 0
+StandsAgainstWalks instance tree NotBranches = is_branches_file tree.kind ≡ false
+StandsAgainstWalks instance tree BranchesDimension = nodes_of tree ≢ nodes_of instance
+StandsAgainstWalks instance tree (BadComb index) =
+    IsFirstBadSet (nodes_of instance) (depot_of instance) (families_listed tree) index
+StandsAgainstWalks instance tree (BadBranch index) = (steps : List listed.Step) × (tree.branches ≡ Some steps)
+    × IsFirstBadPlanBranch (nodes_of instance) (length (families_listed tree)) steps index
+StandsAgainstWalks instance tree (BadLeaf index) = (steps : List listed.Step) × (tree.branches ≡ Some steps)
+    × IsFirstBadPlanLeaf (nodes_of instance) (length (families_listed tree)) steps index
+StandsAgainstWalks instance tree TooManyLoads = HasTooManyLoads (routing_of instance) (unit_in tree)
+StandsAgainstWalks instance tree reason = ⊥
+
+-- ---- its bound
+
+-- the families are sets of customers, the tree is whole with good numbers at its leaves, and the least of the bounds of
+-- these, by least walks, is `found`; None where there is no walk
+pub record HasBoundByWalks (instance tree : Fields) (found : Option ℤ) : Type 0 where
+  pub steps : List listed.Step
+  pub steps_are : tree.branches ≡ Some steps
+  pub bound : IsBoundFound (routing_of instance) (scale_in tree) (unit_in tree) (families_listed tree) steps found
