@@ -1,4 +1,4 @@
-//! Least 1-trees, and their bound on the length of every cycle. For `src/potentials.rt` of
+//! Least 1-trees, and their bound on the length of every cycle. For `src/potentials_certificate.rt` of
 //! tsp_verdict.
 
 ghost use Rattle.std.specs.Prelude.{◌≡◌, ◌≤◌, ◌+◌, ◌*◌, ◌^◌, ℕ, [], List, length, pos, neg_ℤ, ◌≤ℤ◌, IfOk};

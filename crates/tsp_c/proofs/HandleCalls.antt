@@ -29,8 +29,8 @@ use Rattle.tsp_judge.specs.Accepted.{IsAccepted}
 use Rattle.tsp_judge.specs.CheckRun.{status_of, status_of_fault}
 use Rattle.tsp_judge.specs.Open.{Open, IsHeldVerdict, IsNotJudged}
 use Rattle.tsp_judge.specs.contracts.opened.Opened
-use Rattle.tsp_judge.specs.declared.ends.RunFault.{RunFault}
-use Rattle.tsp_judge.specs.declared.ends.RunFault.TheVariants.{File, WrongKind, Write, OutOfMemory, Relayout}
+use Rattle.tsp_judge.specs.declared.run_status.RunFault.{RunFault}
+use Rattle.tsp_judge.specs.declared.run_status.RunFault.TheVariants.{File, WrongKind, Write, OutOfMemory, Relayout}
 use Rattle.std_alloc.proofs.BoxSteps.Form.{Bx}
 use Rattle.std_heap.proofs.Global.TheLaws as heap
 use Rattle.std_heap.specs.contracts.Global as Heap

@@ -13,9 +13,9 @@ use Rattle.tsp_report.specs.Verdicts.{is_yes, is_bound_yes}
 use Rattle.tsp_report.specs.Report.{IsSized}
 use Rattle.tsp_verdict.specs.Certified.{IsBoundVerdict, IsBoundFitting}
 use Rattle.tsp_verdict.specs.SolutionVerdict.{IsVerdictWith, is_unjudged, strict_bound, strict_verdict}
-use Rattle.tsp_judge.specs.declared.bound.Bounded.{Bounded}
+use Rattle.tsp_judge.specs.declared.bound_run.Bounded.{Bounded}
 use Rattle.tsp_judge.specs.declared.check.Judged.{Judged}
-use Rattle.tsp_judge.specs.declared.ends.RunFault.{RunFault}
+use Rattle.tsp_judge.specs.declared.run_status.RunFault.{RunFault}
 use Rattle.tsp_judge.specs.CheckRun.{status_of_fault, Given, given_by, EndsWithout, IsRun, acceptance, EndsUnbounded, IsBoundRun}
 use Rattle.tsp_c.specs.declared.call_result.CallResult.{CallResult}
 use Rattle.tsp_c.specs.NumberCalls.{without_devices, bound_answer, EndsOnTexts}

@@ -19,9 +19,9 @@ use Rattle.tsp_theory.specs.Tour.{length_of}
 use Rattle.tsp_report.specs.Verdicts.{is_bound_yes}
 use Rattle.tsp_judge.specs.CheckRun.{run_fault_text, status_of, status_of_fault}
 use Rattle.tsp_judge.specs.Open.{IsTextFault, IsUnopened}
-use Rattle.tsp_judge.specs.declared.bound.Bounded.{Bounded}
-use Rattle.tsp_judge.specs.declared.ends.RunFault.{RunFault}
-use Rattle.tsp_judge.specs.declared.ends.RunFault.TheVariants.{File, Write}
+use Rattle.tsp_judge.specs.declared.bound_run.Bounded.{Bounded}
+use Rattle.tsp_judge.specs.declared.run_status.RunFault.{RunFault}
+use Rattle.tsp_judge.specs.declared.run_status.RunFault.TheVariants.{File, Write}
 
 -- ---- the caller's buffer
 

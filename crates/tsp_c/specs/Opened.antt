@@ -15,8 +15,8 @@ use Rattle.tsp_verdict.specs.SolutionVerdict.{is_unjudged, strict_verdict}
 use Rattle.tsp_judge.specs.CheckRun.{status_of, status_of_fault}
 use Rattle.tsp_judge.specs.Open.{Open, IsOpened, IsUnopened, IsBoundTo, IsUnbound, IsHeldVerdict, IsNotJudged}
 use Rattle.tsp_judge.specs.contracts.opened.Opened.{the_row}
-use Rattle.tsp_judge.specs.declared.ends.RunFault.{RunFault}
-use Rattle.tsp_judge.specs.declared.ends.RunFault.TheVariants.{OutOfMemory}
+use Rattle.tsp_judge.specs.declared.run_status.RunFault.{RunFault}
+use Rattle.tsp_judge.specs.declared.run_status.RunFault.TheVariants.{OutOfMemory}
 use Rattle.std_alloc.specs.Box.Ownership.{box_owns}
 use Rattle.std_heap.specs.contracts.GlobalAllocator.TheImpl.{ghosts}
 use Rattle.std_heap.specs.declared.Global.{Global}

@@ -3,7 +3,7 @@
 
 ghost use Rattle.std.specs.Prelude.{◌≡◌, Ok};
 ghost use Rattle.tsp_judge.specs.CheckRun.{status_of, status_of_fault};
-ghost use Rattle.tsp_judge.specs.declared.ends.RunFault.TheVariants.{OutOfMemory};
+ghost use Rattle.tsp_judge.specs.declared.run_status.RunFault.TheVariants.{OutOfMemory};
 
 use crate::in_box::NoBox;
 use std::marker::Model;

@@ -24,8 +24,8 @@ ghost use Rattle.tsp_report.specs.declared.verdict.Reason.TheVariants as reasons
 ghost use Rattle.tsp_report.specs.declared.verdict.Verdict.TheVariants as verdicts;
 ghost use Rattle.tsp_judge.specs.Open.{IsNotJudged, IsUnbound, IsUnopened, Open};
 ghost use Rattle.tsp_judge.specs.CheckRun.{status_of_fault};
-ghost use Rattle.tsp_judge.specs.declared.ends.RunFault.{RunFault};
-ghost use Rattle.tsp_judge.specs.declared.ends.RunFault.TheVariants as run_faults;
+ghost use Rattle.tsp_judge.specs.declared.run_status.RunFault.{RunFault};
+ghost use Rattle.tsp_judge.specs.declared.run_status.RunFault.TheVariants as run_faults;
 ghost use Rattle.tsp_c.specs.CallResult.{blank_result, high_half, low_half, result_of_bound, result_of_fault, result_of_verdict, field_number, first_number, kind_number, line_fault_number, number_fault_number, read_fault_number, second_number, field_of_fault, number_of_fault, result_of_instance};
 ghost use Rattle.tsp_c.specs.NumberCalls.{IsPlaced, fault_line, nth, without_devices, EndsBuffer, distance_kinds, lists_in, pair_cost, row_cost, row_count, EndsPoints, coordinate, section_points};
 ghost use Rattle.tsp_c.specs.Opened.{EndsSection};

@@ -11,7 +11,7 @@ ghost use Rattle.tsp_report.specs.Report.{report_of, IsSized};
 ghost use Rattle.tsp_report.specs.Verdicts.{is_yes};
 ghost use Rattle.tsp_judge.specs.Open.{Open, IsOpened, IsUnopened};
 ghost use Rattle.tsp_judge.specs.CheckRun.{status_of_fault};
-ghost use Rattle.tsp_judge.specs.declared.ends.RunFault.TheVariants.{OutOfMemory};
+ghost use Rattle.tsp_judge.specs.declared.run_status.RunFault.TheVariants.{OutOfMemory};
 ghost use Rattle.tsp_c.specs.CallResult.{result_of_fault};
 ghost use Rattle.tsp_c.specs.NumberCalls.{Reports, nth, EndsCount, EndsLengths, EndsMatrix, EndsWeights, EndsPoints, FillsPoints, IsFilled, IsSection, coordinate, point_number, section_points, AreLists, FillsLengths, list_count, list_length};
 ghost use Rattle.tsp_c.specs.Opened.{BindsOpen, BindsText, ChecksAsTexts, ChecksHeld, EndsSection, OfHeld, OpensText, TellsJudged};

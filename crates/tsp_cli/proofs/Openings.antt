@@ -10,7 +10,7 @@ use Rattle.tsp_report.specs.declared.task.FileTask.{FileTask}
 use Rattle.tsp_report.specs.declared.task.FileTask.TheVariants.{Show, Convert, Check, Bound}
 use Rattle.tsp_judge.specs.CompareRun.{AreReported, AreAllReported, IsFollowed}
 use Rattle.tsp_judge.specs.declared.compared.Compared.{Compared}
-use Rattle.tsp_judge.specs.declared.ends.RunFault.{RunFault}
+use Rattle.tsp_judge.specs.declared.run_status.RunFault.{RunFault}
 use Rattle.tsp_cli.specs.RunEnd.{MayTell}
 
 certificate_by : {F G : Type 0} (P Q : F → G → Type 0) → ((a : F) (x : G) → P a x → Q a x) → (old : Option (Certificate × F)) (new : Option (Certificate × G))

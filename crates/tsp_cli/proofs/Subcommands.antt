@@ -29,8 +29,8 @@ use Rattle.tsp_judge.specs.declared.RelayoutFault.{RelayoutFault}
 use Rattle.tsp_judge.specs.declared.RelayoutFault.TheVariants as relayouts
 use Rattle.tsp_judge.specs.declared.WriteFault.{WriteFault}
 use Rattle.tsp_judge.specs.declared.WriteFault.TheVariants as writes
-use Rattle.tsp_judge.specs.declared.ends.RunFault.{RunFault}
-use Rattle.tsp_judge.specs.declared.ends.RunFault.TheVariants as runs
+use Rattle.tsp_judge.specs.declared.run_status.RunFault.{RunFault}
+use Rattle.tsp_judge.specs.declared.run_status.RunFault.TheVariants as runs
 use Rattle.clap.proofs.WalkLemmas.{walk_stopped}
 use Rattle.clap.specs.Faults.{walk_fault, turn_fault, word_fault, other_fault}
 use Rattle.clap.specs.Kinds.{Kinds, or_else}

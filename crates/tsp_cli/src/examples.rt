@@ -17,9 +17,9 @@ ghost use Rattle.tsp_judge.specs.declared.RelayoutFault.TheVariants as relayout_
 ghost use Rattle.tsp_judge.specs.declared.Watched.{Watched};
 ghost use Rattle.tsp_judge.specs.declared.WriteFault.TheVariants as write_faults;
 ghost use Rattle.tsp_judge.specs.declared.compared.Compared.{Compared};
-ghost use Rattle.tsp_judge.specs.declared.ends.RunFault.TheVariants as run_faults;
-ghost use Rattle.tsp_judge.specs.declared.explained.Outcome.{Outcome};
-ghost use Rattle.tsp_judge.specs.declared.explained.Outcome.TheVariants as outcomes;
+ghost use Rattle.tsp_judge.specs.declared.run_status.RunFault.TheVariants as run_faults;
+ghost use Rattle.tsp_judge.specs.declared.explanation.Outcome.{Outcome};
+ghost use Rattle.tsp_judge.specs.declared.explanation.Outcome.TheVariants as outcomes;
 ghost use Rattle.clap.specs.Words.{fault_of};
 ghost use Rattle.clap.specs.declared.error.Error.{Error};
 ghost use Rattle.clap.specs.declared.error.kind.ErrorKind.TheVariants as kinds;

@@ -1,5 +1,5 @@
 //! Lines of `--explain` on a file that isn't read: the place, the rule, and a likely cause. For
-//! `src/explained.rt` of tsp_judge and `src/explained.rt` of tsp_cli.
+//! `src/explanation.rt` of tsp_judge and `src/explained.rt` of tsp_cli.
 
 ghost use Rattle.std.specs.Io.{StartsWith};
 

@@ -1,5 +1,5 @@
 //! Writes the canonical text of a file, field by field, by the files of `src/writer/`. For `tsp
-//! convert`, in `src/bound.rt` of tsp_judge.
+//! convert`, in `src/bound_run.rt` of tsp_judge.
 
 ghost use Rattle.std.specs.List.{flat_map};
 ghost use Rattle.std.specs.Option.{option_map};

@@ -1,5 +1,5 @@
 -- How a run that bounds the solutions of an instance ends: at a file with a fault, with a reason, or with a bound. For
--- `bound_read` and `run_bound` in src/bound.rt.
+-- `bound_read` and `run_bound` in src/bound_run.rt.
 use Rattle.std.proofs.Common.{◌≡◌, ◌∙◌, length, Some, sym, Bool, true, false, Result, Ok, Err, refl, subst, inl, inr, Option, None, ℕ, List}
 use Rattle.std.proofs.lemmas.Bool.{false≢true}
 use Rattle.std.specs.Prelude.{IsTrue, ℤ}
@@ -28,9 +28,9 @@ use Rattle.tsp_judge.specs.Accepted.{BoundsAll, HasNone, IsAcceptedAlone}
 use Rattle.tsp_judge.specs.CheckRun.{BoundsFiles, EndsUnbounded, IsBoundRun, SaysBound, IsBoundRunOf, ReadsFile}
 use Rattle.tsp_judge.specs.ConvertRun.{Becomes, IsConverted, IsConvertRun, IsShowRun}
 use Rattle.tsp_judge.specs.Open.{Open, ReadsText, IsUnopened, IsUnbound, IsNotJudged}
-use Rattle.tsp_judge.specs.declared.bound.Bounded.{Bounded}
-use Rattle.tsp_judge.specs.declared.ends.RunFault.{RunFault}
-use Rattle.tsp_judge.specs.declared.ends.RunFault.TheVariants.{File, WrongKind, Write, OutOfMemory, Relayout}
+use Rattle.tsp_judge.specs.declared.bound_run.Bounded.{Bounded}
+use Rattle.tsp_judge.specs.declared.run_status.RunFault.{RunFault}
+use Rattle.tsp_judge.specs.declared.run_status.RunFault.TheVariants.{File, WrongKind, Write, OutOfMemory, Relayout}
 
 pub bound_first_stops : (strict : Bool) (by : Certificate) (first second : Turn) (sink : Sink) (fault : RunFault) → ReadsFile 1 first (Err fault) → IsUnread second → IsUnwritten sink
     → EndsUnbounded by strict first second sink fault

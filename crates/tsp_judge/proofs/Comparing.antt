@@ -38,8 +38,8 @@ use Rattle.tsp_judge.specs.CheckRun.{Given, IsUnreadIn, IsFileIn, ReadsFile, Rea
 use Rattle.tsp_judge.specs.CompareRun.{IsTurnAt, IsFoundIn, Finds, result_of, status_of_found, ComparesOne, AreFound, all_solution_lines, largest_status, ComparesAll, ComparesBy, ComparesOn, LacksBasis, AreReadOnce, EndsCompare, AreReported, most_reported}
 use Rattle.tsp_judge.specs.declared.compared.Common.{Common}
 use Rattle.tsp_judge.specs.declared.compared.Found.{Found}
-use Rattle.tsp_judge.specs.declared.ends.RunFault.{RunFault}
-use Rattle.tsp_judge.specs.declared.ends.RunFault.TheVariants.{File, WrongKind, Write, OutOfMemory, Relayout}
+use Rattle.tsp_judge.specs.declared.run_status.RunFault.{RunFault}
+use Rattle.tsp_judge.specs.declared.run_status.RunFault.TheVariants.{File, WrongKind, Write, OutOfMemory, Relayout}
 
 -- ---- one text after another
 

@@ -28,8 +28,8 @@ use Rattle.tsp_judge.specs.Accepted.{IsAcceptedTour, AreOnlyRoutes, AreAcceptedR
 use Rattle.tsp_judge.specs.CheckRun.{ReadsFile, Given, given_by, IsUnreadIn, IsFileIn, ReadsGiven, AreRead, JudgesFiles, EndsWithout, IsRun, acceptance}
 use Rattle.tsp_judge.specs.ConvertRun.{SaysYes, IsRunOf}
 use Rattle.tsp_judge.specs.declared.check.Judged.{Judged}
-use Rattle.tsp_judge.specs.declared.ends.RunFault.{RunFault}
-use Rattle.tsp_judge.specs.declared.ends.RunFault.TheVariants.{File, WrongKind, Write, OutOfMemory, Relayout}
+use Rattle.tsp_judge.specs.declared.run_status.RunFault.{RunFault}
+use Rattle.tsp_judge.specs.declared.run_status.RunFault.TheVariants.{File, WrongKind, Write, OutOfMemory, Relayout}
 
 pub one_value : {T E : Type 0} (r : Result T E) (a b : T) → r ≡ Ok a → r ≡ Ok b → a ≡ b
 one_value r a b first second = cc

@@ -1,4 +1,4 @@
--- The text of each fault of a run, which goes to standard error. For `RunFault` (src/ends.rt), `tell_fault`
+-- The text of each fault of a run, which goes to standard error. For `RunFault` (src/run_status.rt), `tell_fault`
 -- (src/ends.rt of tsp_cli), and the fault lines of tsp_c.
 use Rattle.std.specs.Prelude.{ℕ, List, ◌++◌, codes, decimal, Bool, true, false, Result, Ok, Err, ◌≡◌, ◌⊎◌, Option, None, Some, IsTrue, ℤ, []}
 use Rattle.tsp_io.specs.Streams.{write_fault_text, Turn, IsUnread, Sink, IsUnwritten, HasWritten, HasStopped}
@@ -18,13 +18,13 @@ use Rattle.tsp_report.specs.declared.verdict.Verdict.{Verdict}
 use Rattle.tsp_verdict.specs.Certified.{NoneAgainstInstance, is_bounded, NoneWithoutMemory}
 use Rattle.tsp_verdict.specs.SolutionVerdict.{is_judged, NoneBeforeRepeatsOn, IsVerdictAsked, IsBoundAsked}
 use Rattle.tsp_judge.specs.Accepted.{IsAcceptedAlone}
-use Rattle.tsp_judge.specs.declared.bound.Bounded.{Bounded}
+use Rattle.tsp_judge.specs.declared.bound_run.Bounded.{Bounded}
 use Rattle.tsp_judge.specs.declared.check.Judged.{Judged}
-use Rattle.tsp_judge.specs.declared.ends.RunFault.{RunFault}
-use Rattle.tsp_judge.specs.declared.ends.RunFault.TheVariants.{File, WrongKind, Write, OutOfMemory, Relayout}
-use Rattle.tsp_judge.specs.declared.ends.RunFault.TheVariants as run_faults
-use Rattle.tsp_judge.specs.declared.ends.Status.{Status}
-use Rattle.tsp_judge.specs.declared.ends.Status.TheVariants as statuses
+use Rattle.tsp_judge.specs.declared.run_status.RunFault.{RunFault}
+use Rattle.tsp_judge.specs.declared.run_status.RunFault.TheVariants.{File, WrongKind, Write, OutOfMemory, Relayout}
+use Rattle.tsp_judge.specs.declared.run_status.RunFault.TheVariants as run_faults
+use Rattle.tsp_judge.specs.declared.run_status.Status.{Status}
+use Rattle.tsp_judge.specs.declared.run_status.Status.TheVariants as statuses
 
 -- the file's number with its own fault, or what else failed
 abbrev pub run_fault_text : RunFault → List ℕ

@@ -21,8 +21,8 @@ use Rattle.tsp_judge.specs.declared.compared.Common.{Common}
 use Rattle.tsp_judge.specs.declared.compared.Compared.{Compared}
 use Rattle.tsp_judge.specs.declared.compared.Found.{Found}
 use Rattle.tsp_judge.specs.declared.compared.Found.TheVariants as founds
-use Rattle.tsp_judge.specs.declared.ends.RunFault.{RunFault}
-use Rattle.tsp_judge.specs.declared.ends.RunFault.TheVariants.{File, WrongKind, Write, OutOfMemory}
+use Rattle.tsp_judge.specs.declared.run_status.RunFault.{RunFault}
+use Rattle.tsp_judge.specs.declared.run_status.RunFault.TheVariants.{File, WrongKind, Write, OutOfMemory}
 
 -- ---- the instance and the certificate
 

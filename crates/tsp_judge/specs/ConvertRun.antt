@@ -1,5 +1,5 @@
 -- A run of `tsp show`: the bytes that its reader delivered, the lines that were written, and the result. For `run_show`
--- (src/asked_runs.rt) and `show_file` (src/bound.rt).
+-- (src/asked_runs.rt) and `show_file` (src/bound_run.rt).
 use Rattle.std.specs.Prelude.{◌≡◌, Result, Ok, Err, Option, None, Some, ℕ, Bool, true, false, List, [], ℤ}
 use Rattle.std.specs.declared.io.Error.{Error}
 use Rattle.tsp_io.specs.Streams.{Turn, Sink, IsUnwritten, HasWritten, HasStopped, TakesAtMost}
@@ -22,13 +22,13 @@ use Rattle.tsp_report.specs.declared.task.FileTask.TheVariants.{Show, Convert, C
 use Rattle.tsp_judge.specs.Accepted.{IsAccepted}
 use Rattle.tsp_judge.specs.CheckRun.{Given, AreRead, IsRun, IsCheckAnswer, acceptance, IsBoundRunOf}
 use Rattle.tsp_judge.specs.CompareRun.{IsCompareRun}
-use Rattle.tsp_judge.specs.declared.bound.Bounded.{Bounded}
+use Rattle.tsp_judge.specs.declared.bound_run.Bounded.{Bounded}
 use Rattle.tsp_judge.specs.declared.check.Judged.{Judged}
 use Rattle.tsp_judge.specs.declared.compared.Compared.{Compared}
-use Rattle.tsp_judge.specs.declared.ends.RunFault.{RunFault}
-use Rattle.tsp_judge.specs.declared.ends.RunFault.TheVariants.{File, Write, Relayout}
-use Rattle.tsp_judge.specs.declared.explained.Outcome.{Outcome}
-use Rattle.tsp_judge.specs.declared.explained.Outcome.TheVariants as outcomes
+use Rattle.tsp_judge.specs.declared.run_status.RunFault.{RunFault}
+use Rattle.tsp_judge.specs.declared.run_status.RunFault.TheVariants.{File, Write, Relayout}
+use Rattle.tsp_judge.specs.declared.explanation.Outcome.{Outcome}
+use Rattle.tsp_judge.specs.declared.explanation.Outcome.TheVariants as outcomes
 
 -- The result of `show`. Ok: all its lines were written. Where the file isn't valid, nothing is written. Memory may be
 -- lacking for reading; writing takes none. Where the writer fails, a prefix of the lines was written.

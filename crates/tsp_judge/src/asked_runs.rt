@@ -10,10 +10,10 @@ ghost use Rattle.tsp_judge.specs.CheckRun.{acceptance};
 ghost use Rattle.tsp_judge.specs.CompareRun.{IsCompareRun, IsFollowed};
 ghost use Rattle.tsp_judge.specs.ConvertRun.{IsConvertRun, IsShowRun, IsCheck, IsCheckBy, IsRunOf};
 
-use crate::bound::{convert_file, show_file};
+use crate::bound_run::{convert_file, show_file};
 use crate::check::{Judged, judge_read, read_file, run};
 use crate::compared::{Compared, Follow, Solutions, compare_read};
-use crate::ends::{RunError, RunFault};
+use crate::run_status::{RunError, RunFault};
 use std::alloc::Global;
 use std::io::Write;
 use tsp_format::Layout;

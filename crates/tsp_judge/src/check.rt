@@ -1,5 +1,5 @@
 //! The run of `tsp check`, from the bytes read to the bytes written: the files are read, then
-//! judged. For `src/explained.rt` of tsp_judge and `src/picked_runs.rt` of tsp_c.
+//! judged. For `src/explanation.rt` of tsp_judge and `src/picked_runs.rt` of tsp_c.
 
 ghost use Rattle.std.specs.Prelude.{◌≡◌, None, option_map};
 ghost use Rattle.tsp_io.specs.Streams.{Turn, IsUnread, TakesAtMost};
@@ -9,7 +9,7 @@ ghost use Rattle.tsp_verdict.specs.SolutionVerdict.{is_judged};
 ghost use Rattle.tsp_judge.specs.CheckRun.{Given, given_by, IsFileIn, ReadsGiven, JudgesFiles, ReadsFile};
 ghost use Rattle.tsp_judge.specs.ConvertRun.{IsRunOf};
 
-use crate::ends::RunError;
+use crate::run_status::RunError;
 use std::alloc::Global;
 use std::io::Write;
 use tsp_cost::Instance;

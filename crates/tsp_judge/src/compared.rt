@@ -1,5 +1,5 @@
 //! The run of `tsp compare`, from the bytes read to the bytes written: each solution is read,
-//! judged, and dropped. For `src/explained.rt` of tsp_judge.
+//! judged, and dropped. For `src/explanation.rt` of tsp_judge.
 
 ghost use Rattle.std.specs.Prelude.{◌≡◌, ◌<◌, max, false, true, [], length, None, MatchResult, ℕ, List, slice_index_or};
 ghost use Rattle.tsp_io.specs.Streams.{Turn, IsUnread, TakesAtMost};
@@ -12,7 +12,7 @@ ghost use Rattle.tsp_judge.specs.CheckRun.{Given, given_by, IsFileIn};
 ghost use Rattle.tsp_judge.specs.CompareRun.{IsTurnAt, ComparesOne, ComparesAll, ComparesBy, IsCompareRun, LacksBasis, Finds, result_of, status_of_found, IsFollowedBy, IsFollowed};
 
 use crate::check::{is_judged, lent, read_certificate, read_file};
-use crate::ends::{RunError, RunFault, Status, status_of};
+use crate::run_status::{RunError, RunFault, Status, status_of};
 use std::alloc::Global;
 use std::io::Write;
 use tsp_cost::Instance;

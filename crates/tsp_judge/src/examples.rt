@@ -29,13 +29,13 @@ ghost use Rattle.tsp_judge.specs.CompareRun.{ComparesNone, IsFaultOfCompare, IsT
 ghost use Rattle.tsp_judge.specs.ConvertRun.{IsConvertRun, AreComparedOn, AreReadOn, IsCompared, IsDone, is_yes_outcome, outcome_of_bound, outcome_of_check, IsShowRun, IsRunOf};
 ghost use Rattle.tsp_io.specs.states.Watched.{turn_of};
 ghost use Rattle.tsp_io.specs.declared.watched.Watched.{Watched};
-ghost use Rattle.tsp_judge.specs.declared.bound.Bounded.{Bounded};
+ghost use Rattle.tsp_judge.specs.declared.bound_run.Bounded.{Bounded};
 ghost use Rattle.tsp_judge.specs.declared.check.Judged.{Judged};
-ghost use Rattle.tsp_judge.specs.declared.ends.RunFault.{RunFault};
-ghost use Rattle.tsp_judge.specs.declared.ends.RunFault.TheVariants as run_faults;
-ghost use Rattle.tsp_judge.specs.declared.ends.Status.TheVariants as statuses;
-ghost use Rattle.tsp_judge.specs.declared.explained.Outcome.{Outcome};
-ghost use Rattle.tsp_judge.specs.declared.explained.Outcome.TheVariants as outcomes;
+ghost use Rattle.tsp_judge.specs.declared.run_status.RunFault.{RunFault};
+ghost use Rattle.tsp_judge.specs.declared.run_status.RunFault.TheVariants as run_faults;
+ghost use Rattle.tsp_judge.specs.declared.run_status.Status.TheVariants as statuses;
+ghost use Rattle.tsp_judge.specs.declared.explanation.Outcome.{Outcome};
+ghost use Rattle.tsp_judge.specs.declared.explanation.Outcome.TheVariants as outcomes;
 
 use std::io::Read;
 use tsp_io::Gives;

@@ -14,23 +14,22 @@
 #![tactic(auto)]
 
 mod asked_runs;
-mod bound;
+mod bound_run;
 mod check;
 mod compared;
-mod ends;
 mod examples;
-mod explained;
+mod explanation;
 mod laws;
 mod opened;
+mod run_status;
 
 pub use asked_runs::{
     run_bound_check, run_branch_check, run_check, run_compare_uncertified, run_convert, run_show,
     run_uncertified,
 };
-pub use bound::{Bounded, convert_file, run_bound, show_file};
+pub use bound_run::{Bounded, convert_file, run_bound, show_file};
 pub use check::{Judged, run};
 pub use compared::{Common, Compared, Follow, Found, Solutions, run_compare};
-pub use ends::{RunError, RunFault, Status, status_of};
 pub use examples::{
     examples_of_answers, examples_of_asked_readers, examples_of_bases, examples_of_certificates,
     examples_of_done_tasks, examples_of_fault_texts, examples_of_faulty_files,
@@ -39,7 +38,7 @@ pub use examples::{
     examples_of_opened_solutions, examples_of_outcomes, examples_of_readers,
     examples_of_runs_over_one_file, examples_of_wrong_kinds,
 };
-pub use explained::{
+pub use explanation::{
     Outcome, Solution, compare, explain_basis, explain_fault, explain_outcome, explain_solution,
     is_yes_outcome, perform,
 };
@@ -47,6 +46,7 @@ pub use laws::{
     lines_of_bounded_tours, lines_of_checks, solutions_without_a_basis, verdicts_mean_reports,
 };
 pub use opened::{Opened, read_text};
+pub use run_status::{RunError, RunFault, Status, status_of};
 pub use tsp_file::{EndFault, RelayoutFault};
 pub use tsp_format::Layout;
 pub use tsp_io::{Watched, WriteFault};

@@ -3,7 +3,7 @@
 
 ghost use Rattle.tsp_judge.specs.Open.{ReadsText};
 
-use crate::ends::RunError;
+use crate::run_status::RunError;
 use std::alloc::Global;
 use std::marker::Model;
 use tsp_cost::Instance;

@@ -13,7 +13,7 @@ mod costs;
 mod examples;
 mod laws;
 mod length;
-mod weights;
+mod row_weights;
 
 pub use costs::{Costs, Region, Site, Symmetric};
 pub use examples::{
@@ -25,4 +25,4 @@ pub use laws::{
     duals_bound_cycles, least_trees_are_below_cycles, lengths_add_up, node_bounds_bound_cycles,
 };
 pub use length::{canonical_length, tour_length, trace_tours};
-pub use weights::{Weights, add_at, weight_in};
+pub use row_weights::{Weights, add_at, weight_in};

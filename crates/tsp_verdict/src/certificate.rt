@@ -17,7 +17,7 @@ ghost use Rattle.tsp_verdict.specs.states.PairSets.{key_of};
 ghost use Rattle.tsp_verdict.specs.states.TourBases.{AreTourCosts, IsSymmetricTsp};
 ghost use Rattle.tsp_report.specs.declared.task.Certificate.TheVariants as certificates;
 
-use crate::potentials::{bound_by_duals, bound_by_nodes};
+use crate::potentials_certificate::{bound_by_duals, bound_by_nodes};
 use crate::tour::{TourCosts, is_directed};
 use std::alloc::Global;
 use std::collections::BTreeSet;

@@ -16,7 +16,7 @@ mod basis;
 mod certificate;
 mod examples;
 mod one_verdict;
-mod potentials;
+mod potentials_certificate;
 mod routes;
 mod solution_verdict;
 mod tour;

@@ -5,7 +5,7 @@ use Rattle.std.proofs.KnownBytes.{Keeps-refl}
 use Rattle.tsp_read.specs.Reads.{IsFile}
 use Rattle.tsp_io.specs.states.Watched.{sink_of}
 use Rattle.tsp_cost.specs.Problems.{IsProblem}
-use Rattle.tsp_judge.specs.declared.ends.RunFault.TheVariants.{WrongKind}
+use Rattle.tsp_judge.specs.declared.run_status.RunFault.TheVariants.{WrongKind}
 use Rattle.tsp_judge.specs.CheckRun.{IsFileIn}
 use Rattle.tsp_judge.specs.CompareRun.{IsTurnAt}
 use Rattle.tsp_read.proofs.BegunSteps.{propagated}

@@ -2,7 +2,7 @@
 use Rattle.std.proofs.Common.{Err, inl, inr, refl, sym, subst}
 use Rattle.std.specs.Prelude.{Option, Some}
 use Rattle.tsp_io.specs.declared.watched.Watched.{Watched}
-use Rattle.tsp_judge.specs.declared.ends.RunFault.TheVariants as run_faults
+use Rattle.tsp_judge.specs.declared.run_status.RunFault.TheVariants as run_faults
 use Rattle.tsp_judge.specs.CheckRun.{Given}
 use Rattle.tsp_judge.specs.CompareRun.{IsCompareRun}
 use Rattle.tsp_io.specs.states.Watched.{turn_of}

@@ -3,7 +3,7 @@
 use Rattle.std.proofs.Common.{◌≡◌, Err, ap, refl, rules, subst}
 use Rattle.std.specs.Prelude.{IsTrue}
 use Rattle.tsp_verdict.specs.Certified.{IsBoundVerdict, is_bounded}
-use Rattle.tsp_judge.specs.declared.ends.RunFault.TheVariants.{OutOfMemory}
+use Rattle.tsp_judge.specs.declared.run_status.RunFault.TheVariants.{OutOfMemory}
 use Rattle.tsp_judge.specs.Open.{Open, IsUnbound}
 use Rattle.tsp_read.proofs.BegunSteps.{propagated}
 use Rattle.tsp_judge.proofs.Bounding.{unbound}

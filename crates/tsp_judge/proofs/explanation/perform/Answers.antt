@@ -1,0 +1,38 @@
+-- The goals of `perform` in src/explanation.rt, which does a task and returns its outcome: what it ensures.
+use Rattle.std.proofs.Common.{ℕ, List, Option, None, Some, sym, subst}
+use Rattle.tsp_judge.specs.CheckRun.{Given}
+use Rattle.tsp_io.specs.states.Watched.{sink_of}
+use Rattle.tsp_io.specs.declared.watched.Watched.{Watched}
+use Rattle.tsp_judge.specs.ConvertRun.{AreReadOn, IsDone, TakesNamed}
+use Rattle.tsp_report.specs.declared.task.Certificate.{Certificate}
+use Rattle.tsp_report.specs.declared.task.FileTask.TheVariants.{Check, Bound}
+use Rattle.tsp_judge.proofs.explanation.perform.Goals as goal
+
+-- a statement on the certificate that is named, by one that implies it
+named_by : {R : Type 0} (remaining : R → Option (List ℕ)) (old new : Option (Certificate × Watched R)) (P Q : Given → Type 0)
+    → ((given : Given) → P given → Q given) → TakesNamed remaining old new P → TakesNamed remaining old new Q
+named_by remaining None None P Q implies taken = implies None taken
+named_by remaining None (Some left) P Q implies taken = absurd taken
+named_by remaining (Some named) None P Q implies taken = absurd taken
+named_by remaining (Some named) (Some left) P Q implies taken = (taken.0, taken.1, implies _ taken.2)
+
+-- plan: by the task: what the call of its verb gives is what the task comes to (`named_by`)
+pub returns-in-Check-clause-done : goal.returns-in-Check-clause-done
+returns-in-Check-clause-done g c = let one = c.check-ended.ensures.answer in let two = one.2 in let left = c.check-ended.new in
+    subst (λ task. IsDone g.R.Read.remaining task (Check left.instance left.solution left.certificate c.in-Check.claimed c.in-Check.strict)
+    (sink_of g.W.Write.contents c.args.out.now left.out) c.judged.result) (sym c.in-Check.is)
+    (one.0, one.1, (two.0, two.1, named_by g.R.Read.remaining c.in-Check.certificate left.certificate _ _ (λ given ran. (c.check-ended.result, c.judged.ensures, ran)) two.2))
+
+pub returns-in-Bound-clause-done : goal.returns-in-Bound-clause-done
+returns-in-Bound-clause-done g c = let one = c.run_bound.ensures.answer in let two = one.2 in
+    subst (λ task. IsDone g.R.Read.remaining task (Bound c.run_bound.new.inst (c.in-Bound.by, c.run_bound.new.cert) c.in-Bound.strict)
+    (sink_of g.W.Write.contents c.args.out.now c.run_bound.new.out) c.bounded.result) (sym c.in-Bound.is)
+    (one.0, one.1, (two.0, two.1, (c.run_bound.result, c.bounded.ensures, two.2)))
+
+pub returns-in-Check-clause-asked : goal.returns-in-Check-clause-asked
+returns-in-Check-clause-asked g c = let left = c.check-ended.new in
+    subst (λ task. AreReadOn g.R.Gives.gives task (Check left.instance left.solution left.certificate c.in-Check.claimed c.in-Check.strict)) (sym c.in-Check.is) c.check-ended.ensures.asked
+
+pub returns-in-Bound-clause-asked : goal.returns-in-Bound-clause-asked
+returns-in-Bound-clause-asked g c =
+    subst (λ task. AreReadOn g.R.Gives.gives task (Bound c.run_bound.new.inst (c.in-Bound.by, c.run_bound.new.cert) c.in-Bound.strict)) (sym c.in-Bound.is) c.run_bound.ensures.asked

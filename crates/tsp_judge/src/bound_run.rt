@@ -1,0 +1,185 @@
+//! The run of `tsp bound`, from the bytes read to the bytes written: a bound on the tours of an
+//! instance, without a solution. For `src/explanation.rt` of tsp_judge and `src/picked_runs.rt` of tsp_c.
+
+ghost use Rattle.tsp_io.specs.Streams.{Turn, TakesAtMost};
+ghost use Rattle.tsp_io.specs.states.Watched.{sink_of, turn_of};
+ghost use Rattle.tsp_read.specs.Reads.{IsReadOn, IsFile, most_taken};
+ghost use Rattle.tsp_judge.specs.CheckRun.{BoundsFiles, IsBoundRunOf};
+ghost use Rattle.tsp_judge.specs.ConvertRun.{Becomes, IsConvertRun, IsShowRun};
+
+use crate::check::read_file;
+use crate::run_status::RunError;
+use std::alloc::Global;
+use std::io::Write;
+use tsp_cost::Instance;
+use tsp_file::{File, RelayoutFault, write_file};
+use tsp_format::Layout;
+use tsp_io::{Gives, Watched};
+use tsp_report::{write_bound, write_shown};
+use tsp_verdict::{BoundVerdict, Certificate, is_bounded, judge_bound, strict_bound};
+
+/// The files that a run has read, and the bound that it found.
+#[derive(Drop)]
+pub struct Bounded {
+    /// The bound, or that the instance has no tour; or the first reason against the files. The
+    /// report is of it.
+    pub found: BoundVerdict,
+    /// The first file.
+    pub instance: Instance,
+    /// The second file.
+    pub certificate: File,
+}
+
+/// Bounds the tours of an instance by a certificate, writes the report, and returns the bound, with
+/// the files that were read.
+///
+/// Every tour of the instance is at least as long as the bound. Where the instance has no tour,
+/// which a tree of cases may show, there is none. Where the report has the line `no`, the result
+/// has its reason: `TooFewNodes`, `NotSymmetric`, or one against the certificate, in this order;
+/// with `strict` then `NotJudged`, where the instance has an unknown keyword.
+///
+/// Each file is read whole before the next, and the first file that is none decides. Nothing is
+/// written before the bound exists.
+///
+/// # Errors
+///
+/// `File` where a file is none, or can't be read; `WrongKind` where both are files and tours of the
+/// first one's TYPE have no bound by the certificate; `OutOfMemory` where the judgement runs out of
+/// memory, and then no reason applies to the instance, nor one to the certificate that is found
+/// without memory; `Write` where the writer fails. Of each file at most 4,096 bytes past
+/// `MOST_FILE_BYTES` are read.
+pub fn run_bound<I: Gives, C: Gives, W: Write>(
+    alloc: Global,
+    inst: &mut Watched<I>,
+    by: Certificate,
+    cert: &mut Watched<C>,
+    strict: bool,
+    out: &mut Watched<W>,
+) -> Result<Bounded, RunError>
+    ensures answer { TakesAtMost most_taken (turn_of I.remaining inst.old inst.new) (λ first.
+        TakesAtMost most_taken (turn_of C.remaining cert.old cert.new) (λ second.
+        IsBoundRunOf by strict first second (sink_of W.contents out.old out.new) result)) }
+    ensures asked { IsReadOn I.gives inst.old inst.new × IsReadOn C.gives cert.old cert.new }
+{
+    let instance = read_file(alloc, 1, inst)?;
+    let certificate = read_file(alloc, 2, cert)?;
+    bound_read(alloc, by, instance, certificate, strict, out)
+}
+
+/// The run on these files, or the fault of the first that is none, whatever readers they came from.
+fn bound_read<W: Write>(
+    alloc: Global,
+    by: Certificate,
+    instance: File,
+    certificate: File,
+    strict: bool,
+    out: &mut Watched<W>,
+) -> Result<Bounded, RunError>
+    ensures { (first second : Turn) → IsFile first instance → IsFile second certificate
+        → IsBoundRunOf by strict first second (sink_of W.contents out.old out.new) result }
+{
+    let Ok(instance) = Instance::of(instance) else {
+        return Err(RunError::wrong_kind());
+    };
+    match bound_files(alloc, by, &instance, &certificate, strict, out) {
+        Ok(found) => Ok(Bounded {
+            found,
+            instance,
+            certificate,
+        }),
+        Err(error) => Err(error),
+    }
+}
+
+/// Bounds the tours of an instance, and writes the report.
+fn bound_files<W: Write>(
+    alloc: Global,
+    by: Certificate,
+    instance: &Instance,
+    certificate: &File,
+    strict: bool,
+    out: &mut Watched<W>,
+) -> Result<BoundVerdict, RunError>
+    ensures { BoundsFiles by strict instance.now certificate.now (sink_of W.contents out.old out.new) result }
+{
+    if !is_bounded(by, instance.kind()) {
+        return Err(RunError::wrong_kind());
+    }
+    let found = match judge_bound(alloc, by, instance, certificate) {
+        Ok(plain) => strict_bound(strict, instance, plain),
+        Err(refused) => return Err(RunError::refused(refused)),
+    };
+    match write_bound(instance.file(), found, out) {
+        Ok(()) => Ok(found),
+        Err(fault) => Err(RunError::unwritten(fault)),
+    }
+}
+
+// ---- the run of `tsp show`, from the bytes read to the bytes written
+
+/// Shows a file, as `run_show` says.
+///
+/// # Errors
+///
+/// Those of `run_show`.
+pub fn show_file<R: Gives, W: Write>(
+    alloc: Global,
+    r: &mut Watched<R>,
+    out: &mut Watched<W>,
+) -> Result<(), RunError>
+    ensures answer { TakesAtMost most_taken (turn_of R.remaining r.old r.new) (λ turn.
+        IsShowRun turn (sink_of W.contents out.old out.new) result) }
+    ensures asked { IsReadOn R.gives r.old r.new }
+{
+    let file = read_file(alloc, 1, r)?;
+    match write_shown(file, out) {
+        Err(fault) => Err(RunError::unwritten(fault)),
+        Ok(()) => Ok(()),
+    }
+}
+
+// ---- the run of `tsp convert`, from the bytes read to the bytes written
+
+/// Converts a file, as `run_convert` says.
+///
+/// # Errors
+///
+/// Those of `run_convert`.
+pub fn convert_file<R: Gives, W: Write>(
+    alloc: Global,
+    r: &mut Watched<R>,
+    to: Option<Layout>,
+    out: &mut Watched<W>,
+) -> Result<(), RunError>
+    ensures answer { TakesAtMost most_taken (turn_of R.remaining r.old r.new) (λ turn.
+        IsConvertRun to turn (sink_of W.contents out.old out.new) result) }
+    ensures asked { IsReadOn R.gives r.old r.new }
+{
+    let file = read_file(alloc, 1, r)?;
+    let converted = match in_layout(alloc, file, to) {
+        Err(fault) => return Err(RunError::not_relaid(fault)),
+        Ok(converted) => converted,
+    };
+    let written = write_file(alloc, &converted, out);
+    drop(converted);
+    match written {
+        Err(fault) => Err(RunError::unwritten(fault)),
+        Ok(()) => Ok(()),
+    }
+}
+
+/// The file with its weights in a layout, or as it is where none is given.
+fn in_layout(alloc: Global, file: File, to: Option<Layout>) -> Result<File, RelayoutFault>
+    ensures { Becomes to file result }
+{
+    let Some(to) = to else {
+        return Ok(file);
+    };
+    match file.relayout(alloc, to) {
+        Err((fault, file)) => {
+            drop(file);
+            Err(fault)
+        }
+        Ok(relaid) => Ok(relaid),
+    }
+}
