@@ -1,5 +1,4 @@
--- The verdict on two texts in memory, and what the report on them means. For `verdict_on` (src/lib.rt) and `report_on`
--- (src/report.rt).
+-- The verdict on two texts in memory, and what the report on them means.
 use Rattle.std.specs.Prelude.{ℕ, ◌⊎◌, List, None}
 use Rattle.tsp_file.specs.Fields.{Fields}
 use Rattle.tsp_text.specs.Spells.{Spells}

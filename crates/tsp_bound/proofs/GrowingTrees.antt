@@ -1,5 +1,4 @@
--- A list of the nodes outside a growing tree, with the least weight to each: one pass over it, and one node taken from
--- it. For `bring` in src/tree.rt and others.
+-- A tree that grows row by row from node 2: the nodes outside, the nearest node inside for each, and one node more.
 use Rattle.std.proofs.Common.{◌≡◌, ◌≢◌, ℕ, ◌+◌, ◌-◌, ◌<◌, ◌≤◌, ◌==◌, List, [], length, slice_index, get_or, inl, inr, refl, ap, sym, subst, ◌∙◌, arith, Bool, true, false, ◌∷◌, ◌++◌, length-append}
 use Rattle.std.proofs.Math.ListN.{set}
 use Rattle.std.proofs.lemmas.Bool.{cases_eq, eq-eqb, ne_eqb, or_parts, or_cases, eqb-true, eqb-false}

@@ -1,5 +1,4 @@
--- The twelve least links of each place, by one pass over all pairs, and the number that no unlisted link is below. For
--- `put` and `take_row` in src/lists.rt and others.
+-- The twelve least links of each place, by one pass over all pairs, and the number that no unlisted link is below.
 use Rattle.std.proofs.Common.{◌≡◌, ◌≢◌, ℕ, ◌+◌, ◌*◌, ◌<◌, ◌≤◌, List, Option, None, Some, length, set, drop, take, get_or, ℤ, pos, ◌≤ℤ◌, ◌<ℤ◌, ◌⊎◌, inl, inr, refl, arith, ap, sym, subst, ◌∙◌, IfSome, w64, to_z, of_z, SFits}
 use Rattle.std.proofs.lemmas.Bool.{cases_eq, cases_lt}
 use Rattle.std.proofs.lemmas.Int.{ints, to_z-of_z}

@@ -1,5 +1,4 @@
--- What the multipliers of a node's pairs take off the weights of these. For `lower` and `count_lowered` in
--- src/weights.rt and others.
+-- What the multipliers of pairs take off weights, the table of multipliers by node, and the duals of all rows.
 use Rattle.std.proofs.Common.{◌≡◌, ◌≢◌, ℕ, zero, suc, ◌+◌, ◌<◌, ◌==◌, List, [], ◌∷◌, drop, length, map, get_or, ℤ, FitsSigned, inl, inr, refl, arith, ap, sym, ◌∙◌, drop-cons, add-one, ◌≤◌, ◌&&◌, ◌||◌, Bool, true, false, ◌++◌, take, ap₂, subst, below_more}
 use Rattle.std.proofs.Math.ListN.{set, length-set}
 use Rattle.std.proofs.lemmas.Bool.{cases_eq, eq-eqb, ne_eqb, cases_Bool, both_ways, and_from, or_left, or_right, eqb-true}

@@ -1,5 +1,4 @@
--- The nearest node of another component, where multipliers lower the weights to listed nodes. For `Placed::lowered` and
--- `Placed::nearest` in src/search.rt.
+-- The nearest node of another component, where multipliers lower the weights to listed nodes.
 use Rattle.std.proofs.Common.{◌≡◌, ◌≢◌, ℕ, zero, suc, ◌+◌, ◌<◌, Bool, true, List, [], ◌∷◌, length, ℤ, ◌≤ℤ◌, ◌⊎◌, inl, inr, arith, ap, sym, subst, ◌∙◌}
 use Rattle.std.specs.Int.{w64}
 use Rattle.std.specs.Prelude.{slice_index_or, FitsSigned}

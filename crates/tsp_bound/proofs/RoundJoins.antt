@@ -1,5 +1,4 @@
--- Least joins between places stay least joins when each place is renamed to its node: `forest_of` in RoundJoins.antt uses
--- it. For `grow` in src/rounds.rt.
+-- Rounds that join each component by its least link give a least tree, over places as over nodes.
 use Rattle.std.proofs.Common.{◌≡◌, ℕ, ◌<◌, not, Bool, false, List, [], ◌∷◌, ◌++◌, get_or, map, ℤ, ◌≤ℤ◌, ap, ap₂, ◌∙◌, subst, ◌+◌, ◌*◌, ◌^◌, ◌≤◌, take, length, refl, arith, sym, Option, Result, Ok, Err, IfOk, IfSome, ◌≢◌, zero, suc, ◌==◌, true, cond, ◌⊎◌, inl, inr, set, None, Some}
 use Rattle.std.proofs.Math.ListN.{length-set}
 use Rattle.std.proofs.lemmas.Bool.{false≢true, eqb-true, eq-eqb, ne_eqb, cases_eq}

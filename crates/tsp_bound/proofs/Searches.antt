@@ -1,5 +1,4 @@
--- The tree of boxes: a box still has the nodes below it after a write, and a search of both halves is one of the box.
--- For `boxes_of` in src/boxes.rt and others.
+-- The tree of boxes and its search: what a write changes, orders of 64-bit weights, and divisions by the scale.
 use Rattle.std.proofs.Common.{◌≡◌, ◌≢◌, ℕ, zero, suc, ◌+◌, ◌*◌, ◌/◌, ◌<◌, ◌≤◌, Bool, true, List, length, Option, ℤ, pos, ◌≤ℤ◌, ◌⊎◌, inl, inr, refl, arith, ap, sym, ◌∙◌, subst, w64, to_z, of_z, SFits, false, negsuc, neg_ℤ, ◌+ℤ◌, ◌-ℤ◌, ◌*ℤ◌, ◌<ℤ◌, ◌-◌, ◌^◌}
 use Rattle.std.proofs.Math.ListN.{set}
 use Rattle.std.proofs.lemmas.Bool.{cases_eq}

@@ -1,4 +1,4 @@
--- The weight of a least 1-tree. For `least_weight` (src/tree.rt), and for BranchVerdicts.antt of tsp_branch.
+-- The weight of a least 1-tree.
 use Rattle.std.specs.Prelude.{◌≡◌, ℕ, List, ℤ}
 use Rattle.tsp_theory.specs.Tree.{weight_of, IsLeastOneTree}
 

@@ -1,5 +1,4 @@
-//! A box of space with nodes in it, and a number that is at most that of each of these nodes. For
-//! the tree of boxes in `src/boxes.rt`.
+//! A box of space with nodes in it, and a number that is at most that of each of these nodes.
 
 ghost use Rattle.std.specs.Prelude.{pos, neg_ℤ};
 ghost use Rattle.tsp_format.specs.Steps.{IsFromTo};

@@ -1,5 +1,5 @@
 //! The bound of the duals of rows and columns on the length of every cycle, under costs that need
-//! not be symmetric. For `src/potentials_certificate.rt` of tsp_verdict.
+//! not be symmetric.
 
 ghost use Rattle.std.specs.Prelude.{◌≡◌, ◌≢◌, ◌↔◌, ℕ, List, ◌≤◌, ◌<◌, length, IsTrue, IfOk, MatchOption, MatchResult, ◌≤ℤ◌, ◌<ℤ◌};
 ghost use Rattle.tsp_format.specs.Nodes.{IsNode};

@@ -1,5 +1,4 @@
-//! Least 1-trees, and their bound on the length of every cycle. For `src/potentials_certificate.rt` of
-//! tsp_verdict.
+//! Least 1-trees, and their bound on the length of every cycle.
 
 ghost use Rattle.std.specs.Prelude.{◌≡◌, ◌≤◌, ◌+◌, ◌*◌, ◌^◌, ℕ, [], List, length, pos, neg_ℤ, ◌≤ℤ◌, IfOk};
 ghost use Rattle.tsp_format.specs.Limits.{most_nodes};

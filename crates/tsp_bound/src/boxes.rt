@@ -1,6 +1,5 @@
 //! The forest of nodes that have points: the component of each node, and boxes to search for its
-//! nearest node. It implements `Components`, as `src/lists.rt` does without points. For
-//! `src/rounds.rt` and `src/rounds.rt`.
+//! nearest node. It implements `Components`, as `src/lists.rt` does without points.
 
 ghost use Rattle.std.specs.Prelude.{◌≡◌, ◌<◌, ◌*◌, ℕ, true, length, IfOk, ◌⊎◌, ◌≤◌, ◌+◌, ◌≤ℤ◌, ℤ, List, Bool, None, Some, pos, neg_ℤ, ◌^◌, IfSome};
 ghost use Rattle.tsp_number.specs.declared.decimal.Point.{Point};

@@ -1,5 +1,4 @@
-//! The multipliers of fixed edges, listed at both nodes of each. For the weights in
-//! `src/weights.rt`.
+//! The multipliers of fixed edges, listed at both nodes of each.
 
 ghost use Rattle.std.specs.Prelude.{◌≡◌, ◌≢◌, ◌-◌, ◌<◌, ◌^◌, [], pos, IfOk};
 ghost use Rattle.std.specs.List.{All, AllPairs};

@@ -1,5 +1,4 @@
-//! Duals of an assignment: the certificate of a bound for costs that needn't be symmetric. For
-//! `src/assignment.rt`, and `src/potentials_certificate.rt` of tsp_verdict, which makes them of a file.
+//! Duals of an assignment: the certificate of a bound for costs that needn't be symmetric.
 
 ghost use Rattle.tsp_theory.specs.Bounds.{AreDuals};
 

@@ -1,11 +1,13 @@
-//! Least 1-trees, under weights that are given by rows.
+//! Least 1-trees and duals of an assignment, and the lower bounds on every cycle that they give.
 //!
-//! A trait of weights, the growth of a least tree over the nodes 2..n row by row or as weights know
-//! it, the two least edges at node 1, and the weight of both. It knows no costs and no
-//! certificates: those are tsp_bound's and tsp_branch's, which make the weights.
+//! A least tree grows row by row (`tree`), or in rounds over boxes of points or lists of light
+//! edges (`rounds`). Potentials, with multipliers or without, give a bound by a least 1-tree
+//! (`bound`), and duals by weak duality (`assignment`). It knows costs by their traits alone, and
+//! searches for no certificates.
 //!
 //! ```text
-//! let weight = least_weight(alloc, &weights, &mut row)?;
+//! let tree = one_tree(alloc, &costs, &potentials, &multipliers)?;
+//! let bound = dual_bound(&costs, &duals)?;
 //! ```
 #![tactic(auto)]
 

@@ -1,5 +1,4 @@
-//! The twelve lightest edges of each node, by one pass over all pairs. For `src/lists.rt`, under
-//! costs without points whose rows aren't near in memory (`pairs_over` in `src/rounds.rt`).
+//! The twelve lightest edges of each node, by one pass over all pairs.
 
 ghost use Rattle.std.specs.Prelude.{◌≡◌, ◌≤◌, ◌<◌, ◌+◌, ◌*◌, ◌^◌, ℕ, length};
 ghost use Rattle.tsp_bound.specs.states.Components.{label_at, weight_over, AreOffered, IsPut, IsTaken};
@@ -12,8 +11,8 @@ use std::alloc::Global;
 use tsp_io::{Refused, filled};
 use tsp_theory::weight_in;
 
-/// How many links of each place are kept. Clauses here and in lists.rt, specs/states/Components.antt
-/// and proofs say 12: change all of these.
+/// How many links of each place are kept. Clauses here, specs/states/Components.antt and proofs say
+/// 12: change all of these.
 const KEPT: usize = 12;
 
 /// How many columns of the rows are passed at a time.

@@ -1,5 +1,4 @@
-//! Potentials of nodes: the certificate of a bound for symmetric costs. For `src/bound.rt`, and
-//! `src/potentials_certificate.rt` of tsp_verdict, which makes them of a file.
+//! Potentials of nodes: the certificate of a bound for symmetric costs.
 
 ghost use Rattle.std.specs.List.{All};
 ghost use Rattle.std.specs.Prelude.{◌↔◌, IsTrue, ◌≡◌, ◌≤◌, ◌*◌, ◌^◌, length, pos, neg_ℤ, ◌*ℤ◌, ◌≤ℤ◌};

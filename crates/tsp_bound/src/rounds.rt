@@ -1,5 +1,5 @@
 //! A least tree over the nodes 2 to n: in rounds, by boxes or by lists of lightest edges, or pair
-//! by pair. For `src/bound.rt`, and the leaves in `src/boxed.rt` of tsp_branch.
+//! by pair.
 
 ghost use Rattle.std.specs.Bool.{OnTrue};
 ghost use Rattle.std.specs.List.{All};

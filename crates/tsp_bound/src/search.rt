@@ -1,4 +1,4 @@
-//! Nodes in an order, and the search for the nearest one outside. For `src/boxes.rt` and others.
+//! Nodes in an order, and the search for the nearest one outside.
 //!
 //! A place is the index of a node in the order. Outside: in another component than the node that
 //! the search is from. `steps` counts the boxes and nodes that a search looks at. Past a budget the

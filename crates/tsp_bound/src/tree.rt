@@ -1,5 +1,4 @@
-//! The weight of a least 1-tree, whose tree grows as its weights do it. For the leaves in
-//! `src/boxed.rt` of tsp_branch.
+//! The weight of a least 1-tree, whose tree grows as its weights do it.
 
 ghost use Rattle.std.specs.Prelude.{◌≡◌, ◌≤◌, ◌+◌, ◌*◌, ◌^◌, ℕ, length, pos, neg_ℤ, IfOk, ◌<◌, slice_index, MatchOption, ◌<ℤ◌, ◌-◌, ℤ, ◌≢◌, ◌+ℤ◌};
 ghost use Rattle.tsp_format.specs.Limits.{most_nodes};

@@ -1,5 +1,5 @@
 //! The weight of a pair under potentials: its cost at the scale and both potentials, less the
-//! multiplier of a fixed edge. For the least 1-trees in `src/bound.rt`.
+//! multiplier of a fixed edge.
 
 ghost use Rattle.std.specs.Prelude.{◌≡◌, ◌≤◌, ◌<◌, ◌+◌, ℕ, length, slice_index, pos, neg_ℤ};
 ghost use Rattle.std.specs.List.{All};

@@ -1,5 +1,4 @@
--- The sets that have both of two nodes, by the lists of each node's sets: their multipliers are in the weight twice.
--- For `shared_by` and `has_place` in src/boxed.rt and others.
+-- Leaves by boxes: the sets that have both of two nodes, the least weight of an edge, and equal weights.
 use Rattle.std.proofs.Common.{◌≡◌, ◌≢◌, ℕ, zero, suc, ◌+◌, ◌<◌, ◌==◌, ◌&&◌, ◌||◌, Bool, true, false, List, [], ◌∷◌, ◌++◌, length, drop, drop-cons, add-one, get_or, inl, inr, refl, ap, sym, ◌∙◌, arith, map, subst, ◌*◌, ◌^◌, ap₂, to_z, of_z}
 use Rattle.std.proofs.Math.ListN.{get_or-map}
 use Rattle.std.proofs.lemmas.Bool.{cases_Bool, eq-eqb, ne_eqb, cases_eq}

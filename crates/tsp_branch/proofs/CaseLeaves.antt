@@ -1,5 +1,4 @@
--- Links that decisions close one after the other: after the last one, a link is closed if some decision doesn't allow
--- it. For `close_all` in src/case_leaf.rt.
+-- The bound of a leaf: closed links, least open links and their sum, decisions, and what is given back.
 use Rattle.std.proofs.Common.{ℕ, ◌+◌, ◌<◌, List, get_or, length, inl, inr, refl, ◌∙◌, arith, ◌≡◌, Bool, false, ◌*◌, ◌^◌, [], ◌∷◌, ◌++◌, drop, FitsSigned, ap, sym, to_z, of_z, drop-cons, add-one, ◌≢◌, true, subst, zero, suc, ◌≤◌, ◌==◌}
 use Rattle.std.proofs.lemmas.Bool.{cases_eq, cases_Bool, eq-eqb, ne_eqb}
 use Rattle.std.proofs.lemmas.Int.{ints}

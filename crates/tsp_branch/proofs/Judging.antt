@@ -1,5 +1,4 @@
--- What judging the leaves finds is the judgement on a certificate, and bounds every cycle. For `judge_leaf` in
--- src/verdict.rt and others.
+-- What judging the leaves finds is the judgement on a certificate, and bounds every cycle.
 use Rattle.std.proofs.Common.{◌≡◌, ◌∙◌, ℕ, ◌^◌, ◌≤◌, Bool, true, false, List, [], ◌∷◌, length, take, drop, ℤ, refl, sym, subst, arith}
 use Rattle.std.specs.Prelude.{Option, None, Some, pos, neg_ℤ}
 use Rattle.std.specs.List.{All}

@@ -1,5 +1,5 @@
--- The bound that the weight of a least 1-tree gives for a leaf. For `leaf_bound` (src/boxed.rt) and `bound_of_trees`
--- (src/boxed.rt).
+-- The verdict on a certificate by branching, for a TSP or an ATSP, from the bound of each leaf: its bound, or the first
+-- reason against it.
 use Rattle.std.specs.Prelude.{◌≡◌, ℕ, List, ℤ, pos, ◌+ℤ◌, ◌-ℤ◌, ◌*ℤ◌, length, Bool, None, Some, IfSome}
 use Rattle.tsp_format.specs.Steps as listed
 use Rattle.tsp_theory.specs.Bounds.{total, IsLeastBound, triples_total, IsBoundSized}

@@ -1,5 +1,5 @@
 //! The bound of a leaf by a least 1-tree: by boxes of points where these suit its sets, else by
-//! rows. For `src/case_leaf.rt`.
+//! rows.
 
 ghost use Rattle.std.specs.Int.{w64, int_wrap};
 ghost use Rattle.std.specs.List.{All};

@@ -1,5 +1,4 @@
 //! A leaf of a tree of cases, and its bound: by a least 1-tree, or by the least arc from each node.
-//! For `src/verdict.rt` and others.
 
 ghost use Rattle.std.specs.Int.{w64, int_wrap};
 ghost use Rattle.std.specs.List.{All, filter};

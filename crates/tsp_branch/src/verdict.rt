@@ -1,5 +1,4 @@
-//! Judges a certificate by branching: its families, then its branches, then its leaves. For
-//! `src/certificate.rt` of tsp_verdict.
+//! Judges a certificate by branching: its families, then its branches, then its leaves.
 
 ghost use Rattle.std.specs.List.{All};
 ghost use Rattle.std.specs.Prelude.{IfOk, ◌≡◌, ◌≤◌, ◌<◌, ◌^◌, false, length, ◌+◌};

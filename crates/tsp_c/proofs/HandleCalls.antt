@@ -1,5 +1,4 @@
--- A handle and the parts of a box own what a box of an open instance owns. For `Loose::into_parts` in src/handle.rt and
--- others.
+-- The calls on a handle say of an open instance what the calls on texts say of its text.
 use Rattle.std.proofs.Common.{◌≡◌, ℕ, ◌≤◌, sym, ap, arith, refl, ◌≢◌, ◌+◌, ◌<◌, List, length, ◌∙◌, below_more, get_or-set_same, get_or-set_other, zero, suc, Bool, true, false, cond, ◌∷◌, take, drop, length-drop, drop-cons, add-one, ltb-true, ltb-false, subst, Result, Ok, Err, inl, inr}
 use Rattle.std.proofs.Math.ListN.{set}
 use Rattle.std.proofs.lemmas.Bool.{false≢true}

@@ -1,5 +1,4 @@
--- The numbers that C gets of a run on texts: each fits, and they say the verdict or the fault on these texts. For
--- `bounded` and `checked` in src/picked_runs.rt.
+-- The numbers that C gets of a run on texts: each fits, and they say the verdict or the fault on these texts.
 use Rattle.std.proofs.Common.{◌≡◌, ◌≢◌, ℕ, ◌≤◌, ◌^◌, List, Bool, true, false, Result, Ok, Err, inl, inr, sym, subst, ◌∙◌, arith}
 use Rattle.std.specs.Prelude.{Option, Some, ℤ, pos, negsuc, IfOk, unsigned_abs}
 use Rattle.std.proofs.lemmas.Int.{ints}

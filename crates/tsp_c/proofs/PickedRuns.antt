@@ -1,5 +1,4 @@
--- The status 0, 1, 2 or 3 of a run on texts, with the text that C gets: an answer or a fault. For `ended` in
--- src/ended.rt.
+-- Runs on readers over texts in memory, as statements on these texts, and the status that C gets.
 use Rattle.std.proofs.Common.{◌≡◌, ℕ, ◌≤◌, List, [], Bool, true, false, Result, Ok, Err, inl, inr, refl, sym, subst, arith}
 use Rattle.std.proofs.lemmas.Bool.{false≢true}
 use Rattle.std.specs.Io.KnownBytes.{Appends}

@@ -1,5 +1,5 @@
 -- The result of a call of the C library in numbers: the struct of bindings/c/tsp.h, whose numbers are 0 where the call
--- doesn't have them. For `CallResult` (src/call_result.rt), `bounded` and `checked` (src/picked_runs.rt), and Opened.antt.
+-- doesn't have them.
 use Rattle.std.specs.Prelude.{◌≡◌, ℕ, ◌≤◌, ◌<◌, ◌^◌, Bool, List, Option, None, Some, Result, Ok, Err, IsTrue, unwrap_or, ℤ, pos, unsigned_abs}
 use Rattle.std.specs.Int.{int_div_euclid, int_rem_euclid}
 use Rattle.tsp_format.specs.declared.kinds.Kind.{Kind}

@@ -1,5 +1,5 @@
--- How a call on texts ends: its status, and the text that is put into the caller's buffer. For `ended` and `place`
--- (src/ended.rt, src/ended.rt), and for Texts.antt, which says it of each call.
+-- How a call for C ends, and the results of the calls that fill in numbers: nodes, costs, lengths, coordinates,
+-- distances.
 use Rattle.std.specs.List.{All}
 use Rattle.std.specs.Prelude.{◌≡◌, ◌⊎◌, ℕ, zero, suc, ◌≤◌, ◌<◌, Bool, true, false, List, [], ◌∷◌, ◌++◌, length, drop, Option, None, Some, Result, Ok, Err, ◌+◌, ◌-◌, ◌*◌, ◌/◌, ◌%◌, ◌==◌, min, cond, slice_index_or, IsTrue, ℤ, pos, negsuc}
 use Rattle.tsp_number.specs.Distances.{IsInSpace}

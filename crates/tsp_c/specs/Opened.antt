@@ -1,5 +1,5 @@
--- The results of the calls on a handle, which is open on an instance, with a certificate that may be bound to it. For
--- src/handle_calls.rt. Texts.antt has the same calls on texts.
+-- The results of the calls on a handle: an instance that is open, a certificate that may be bound to it, and who owns
+-- the box.
 use Rattle.std.specs.Coded.{coded_option}
 use Rattle.std.specs.Prelude.{◌≡◌, ◌⊎◌, ℕ, ◌≤◌, ◌<◌, Bool, List, Option, None, Some, Ok, ℤ}
 use base.Fml.{Fml, ftrue}

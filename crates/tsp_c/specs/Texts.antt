@@ -1,6 +1,5 @@
 -- The results of the calls on texts, over the bytes of these texts alone: `show`, conversions, checks, bounds and
--- explanations. For src/picked_runs.rt, src/picked_runs.rt and src/explain.rt. `IsAcceptedText` and `IsBoundText` are the
--- meanings of the status 0.
+-- explanations. `IsAcceptedText` and `IsBoundText` are the meanings of the status 0.
 use Rattle.std.specs.Prelude.{◌≡◌, ◌⊎◌, ℕ, ◌==◌, ◌||◌, if◌then◌else◌, ◌≤◌, ◌<◌, Bool, true, false, List, [], ◌∷◌, Option, None, Some, Ok, Err, IsTrue, ℤ}
 use Rattle.tsp_format.specs.declared.layout.Layout.{Layout}
 use Rattle.tsp_format.specs.Words.{layouts}

@@ -1,5 +1,4 @@
-//! The status of a call that fills in numbers, or of a call on a handle. For `src/handle_calls.rt`,
-//! `src/pair_costs.rt` and the other calls that fill in numbers.
+//! The status of a call that fills in numbers, or of a call on a handle.
 
 ghost use Rattle.std.specs.Prelude.{◌≡◌, Ok};
 ghost use Rattle.tsp_judge.specs.CheckRun.{status_of, status_of_fault};

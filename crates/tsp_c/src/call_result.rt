@@ -1,5 +1,4 @@
 //! The result of a call in numbers, as `tsp.h` declares it: verdict, length, bound, reason, fault.
-//! For `src/picked_runs.rt`, `src/handle_calls.rt` and others.
 
 ghost use Rattle.std.specs.Prelude.{◌≡◌, ◌≢◌, Some, IfOk};
 ghost use Rattle.tsp_report.specs.Report.{IsGapSized, IsSized};

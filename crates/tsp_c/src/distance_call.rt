@@ -1,4 +1,4 @@
-//! The distance of two points by the number of a weight type. For `tsp_distance` in `src/lib.rt`.
+//! The distance of two points by the number of a weight type.
 
 ghost use Rattle.std.specs.Prelude.{◌≡◌, Some, option_map, SomeIff};
 ghost use Rattle.tsp_number.specs.declared.decimal.Point.{Point};

@@ -1,5 +1,4 @@
-//! The status and the text with which a call on texts ends. For `src/picked_runs.rt`,
-//! `src/picked_runs.rt` and `src/handle_calls.rt`.
+//! The status and the text with which a call on texts ends.
 
 ghost use Rattle.std.specs.Prelude.{◌≡◌, ◌≢◌, IsErr, MatchResult, [], IfOk};
 ghost use Rattle.tsp_io.specs.states.Watched.{watched};

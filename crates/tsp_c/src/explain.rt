@@ -1,5 +1,4 @@
-//! Explains the result of a call on texts to a person, by doing the call again as a task. For
-//! `tsp_explain` in `src/lib.rt`.
+//! Explains the result of a call on texts to a person, by doing the call again as a task.
 
 ghost use Rattle.std.specs.Prelude.{◌↔◌, IsSome};
 ghost use Rattle.tsp_c.specs.Texts.{ExplainsTexts, IsExplained};

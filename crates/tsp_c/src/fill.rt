@@ -1,5 +1,4 @@
-//! Puts a number into a caller's buffer. For `src/pair_costs.rt`, `src/handle_calls.rt` and
-//! `src/handle_calls.rt`.
+//! Puts a number into a caller's buffer.
 
 ghost use Rattle.std.specs.Prelude.{◌≡◌, ◌+◌, ◌<◌, ℕ, ℤ, List, length};
 ghost use Rattle.tsp_c.specs.NumberCalls.{IsFilled};

@@ -1,5 +1,4 @@
-//! The handle that a caller in C holds: closed, or open on an instance. For `src/handle_calls.rt`,
-//! and the calls on a handle in `src/lib.rt`.
+//! The handle that a caller in C holds: closed, or open on an instance.
 
 ghost use Rattle.std.specs.Option.{option_map};
 ghost use Rattle.std.specs.Prelude.{◌≡◌, None, Some, is_some, Option};

@@ -1,5 +1,4 @@
-//! The calls on a handle: open, bind, check, costs, lengths, points, close. For the functions
-//! `tsp_open` to `tsp_instance_lengths` of `src/lib.rt`.
+//! The calls on a handle: open, bind, check, costs, lengths, points, close.
 
 ghost use Rattle.std.specs.List.{All, count_by, position};
 ghost use Rattle.std.specs.Prelude.{◌≡◌, None, Some, MatchResult, ◌≤◌, ◌<◌, ◌*◌, length, option_map, slice_index_or, ◌-◌, ◌==◌, ◌↔◌, IsTrue, slice_index};

@@ -1,5 +1,4 @@
-//! Puts a value into a box, or returns `NoBox`, which no other call makes. For
-//! `src/handle_calls.rt` and `src/call_end.rt`.
+//! Puts a value into a box, or returns `NoBox`, which no other call makes.
 
 ghost use Rattle.std.specs.Prelude.{◌≡◌, IfOk};
 

@@ -1,5 +1,4 @@
-//! Costs of pairs of nodes, and rows of the matrix. For `tsp_weights` and `tsp_matrix` in
-//! `src/lib.rt`, and `src/handle_calls.rt`.
+//! Costs of pairs of nodes, and rows of the matrix.
 
 ghost use Rattle.std.specs.Prelude.{◌+◌, ◌≤◌, ◌*◌, ◌↔◌, IsTrue, length};
 ghost use Rattle.std.specs.List.{All};

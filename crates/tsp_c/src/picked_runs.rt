@@ -1,5 +1,4 @@
-//! The runs that a number picks by its certificate or layout, and the numbers that are refused. For
-//! the calls on texts in `src/lib.rt`.
+//! The runs that a number picks by its certificate or layout, and the numbers that are refused.
 
 ghost use Rattle.std.specs.Prelude.{◌≡◌, ◌≤◌};
 ghost use Rattle.tsp_format.specs.Words.{layouts};

@@ -1,5 +1,4 @@
--- A cycle uses the pair of a branch or not, so it is in one of both cases. In the end it is in the case of a leaf. For
--- the law `steps_leave_cases` in src/laws.rt and others.
+-- A cycle is in one of both cases of a branch, and uses no link that the decisions of its case forbid.
 use Rattle.std.proofs.Common.{◌≡◌, ℕ, ◌==◌, ◌&&◌, Bool, true, false, List, [], ◌∷◌, length, ℤ, ◌≤ℤ◌, ◌⊎◌, inl, inr, refl, sym, ap, ◌∙◌, subst, arith, ◌≢◌, zero, suc, ◌≤◌, ◌||◌, ◌+ℤ◌, get_or}
 use Rattle.std.proofs.lemmas.Bool.{cases_Bool, both_ways, and_parts, and_from, eqb-true, eq-eqb, cases_eq, ne_eqb}
 use Rattle.std.proofs.lemmas.Int.{ints}

@@ -1,5 +1,5 @@
--- A cycle that keeps decisions uses the taken pairs and none of the avoided ones, so bounds of tsp_theory are bounds of
--- it. For the laws `decided_bounds_bound_cycles` and `fixed_bounds_bound_tours` in src/laws.rt.
+-- The bound of a leaf, by a 1-tree or by rows, and the least bound of all leaves bounds every cycle that keeps the
+-- given decisions.
 use Rattle.std.proofs.Common.{ℕ, Bool, true, false, List, [], ◌∷◌, map, ℤ, sym, subst, ◌≡◌, zero, suc, ◌≤ℤ◌, refl, arith, ap, ap₂, subst₂, get_or, Option, None, Some, inl, inr}
 use Rattle.std.proofs.Math.IntN.{suc_ℤ-*ℤ, zero-*ℤ}
 use Rattle.std.proofs.Math.Path.{fun_ext}

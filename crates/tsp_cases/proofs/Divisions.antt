@@ -1,5 +1,5 @@
--- The membership of a node, a number whose bits say which sets have it: two nodes are in one part if theirs are equal.
--- For `family_crossings` in src/family.rt and others.
+-- Sets divide the nodes into parts: members as bits of a number, parts by any numbers of the nodes, and cycles through
+-- parts that are widened.
 use Rattle.std.proofs.Common.{◌≡◌, ◌≢◌, ℕ, ◌+◌, ◌-◌, ◌*◌, ◌/◌, ◌%◌, ◌^◌, ◌<◌, ◌≤◌, ◌⊎◌, Bool, true, false, zero, not, cond, List, [], ◌∷◌, ◌++◌, length, get_or, drop, ℤ, ◌+ℤ◌, ◌≤ℤ◌, inl, inr, refl, arith, ap, ap₂, sym, ◌∙◌, subst, pow-suc, bit_xor, length-append, suc, ◌==◌, map}
 use Rattle.std.proofs.Math.Nat.{div-lt_iff_lt-mul, mod-lt}
 use Rattle.std.proofs.lemmas.Bool.{cases_lt, cases_eq, eq-eqb, ne_eqb}

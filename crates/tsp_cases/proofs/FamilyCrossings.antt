@@ -1,5 +1,4 @@
--- A cycle crosses a comb of k teeth at least 3k + 1 times: each tooth three times, with its crossings of the handle
--- inside the tooth, and in all an even number of times. For the law `cycles_cross_combs` in src/laws.rt.
+-- How often a cycle crosses a family, and how large crossings times multipliers are.
 use Rattle.std.proofs.Common.{◌≡◌, ℕ, zero, suc, ◌*◌, ◌≤◌, ◌&&◌, Bool, true, false, not, cond, List, [], ◌∷◌, length, ℤ, ◌+ℤ◌, ◌≤ℤ◌, inl, inr, refl, arith, ap, ◌+◌, ap₂, sym, ◌∙◌, subst, get_or, map, FitsSigned, ◌<◌, ◌^◌, drop, to_z, of_z, drop-cons, add-one}
 use Rattle.std.proofs.Math.IntN.{suc_ℤ-*ℤ, pred_ℤ-*ℤ, zero-*ℤ, *ℤ-zero}
 use Rattle.std.proofs.lemmas.Bool.{cases_Bool, both_ways, and_right, and_from, and_parts, false_from_ne_true}

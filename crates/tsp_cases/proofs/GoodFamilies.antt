@@ -1,5 +1,4 @@
--- Marks by node: a list of nodes is marked if no node comes twice, and none had the mark before. For `mark_nodes` in
--- src/good_families.rt.
+-- Which families are good, found by marks of nodes: teeth, handles, and the first bad family.
 use Rattle.std.proofs.Common.{◌≡◌, ◌≢◌, ◌∙◌, ℕ, ◌+◌, ◌<◌, ◌==◌, ◌||◌, true, false, List, [], ◌∷◌, ◌++◌, take, length, get_or, inl, inr, ap, sym, subst, arith, zero, suc, ◌*◌, ◌≤◌, Bool, map, drop, refl, drop-cons, add-one, ◌-◌, length-append}
 use Rattle.std.proofs.Math.Bool.{or-true, or-false, or_assoc}
 use Rattle.std.proofs.Math.ListN.{set}

@@ -1,5 +1,4 @@
--- A table listed row by row that gets one cell more, and least sums over a list. For `crossings_between` in
--- src/family.rt and others.
+-- The least length of a cycle through few parts, from best paths by dynamic programming.
 use Rattle.std.proofs.Common.{◌≡◌, ℕ, ◌+◌, ◌*◌, ◌<◌, List, [], ◌∷◌, ◌++◌, length, inl, inr, arith, sym, ◌∙◌, subst, length-append, ◌≢◌, zero, suc, ◌-◌, ◌/◌, ◌%◌, ◌^◌, ◌≤◌, ◌⊎◌, refl, ap, pow-suc, mul_comm, eqb, false, ◌≤ℤ◌}
 use Rattle.std.proofs.Math.Nat.{div-eq_of_lt}
 use Rattle.std.proofs.lemmas.Bool.{cases_lt, cases_eq, cases_order, eqb-false}

@@ -1,5 +1,4 @@
--- The next case after a leaf: the topmost taken pair of the stack becomes avoided, where code has the top at the end of
--- a list. For `OpenCase::next` in src/open_case.rt.
+-- The stack of decisions of the open case, one step further, and that each pair is decided once.
 use Rattle.std.proofs.Common.{◌≡◌, ◌+◌, false, List, [], ◌∷◌, ◌++◌, refl, ap, ◌∙◌, ℕ, zero, suc, ◌==◌, ◌&&◌, Bool, true, ◌⊎◌, inl, inr, sym, arith, ◌≢◌, ◌-◌, ◌<◌, ◌≤◌, get_or, length, take, drop, subst, ap₂}
 use Rattle.std.proofs.Math.Bool.{or-true}
 use Rattle.std.proofs.lemmas.Bool.{cases_Bool, both_ways, or_cases, and_parts, eqb-true, eq-eqb, cases_eq, ne_eqb}

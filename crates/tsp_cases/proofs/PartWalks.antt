@@ -1,4 +1,4 @@
--- Lists of different numbers, and which numbers they have. For `best_path` in src/family.rt and others.
+-- A cycle through nodes is a closed walk through the parts of sets, which crosses the sets as often.
 use Rattle.std.proofs.Common.{◌≡◌, ◌≢◌, ℕ, zero, suc, ◌+◌, ◌<◌, ◌≤◌, ◌==◌, ◌⊎◌, cond, List, [], ◌∷◌, length, inl, inr, refl, arith, ap, sym, ◌∙◌, subst, Bool, true, false, ◌++◌, ℤ, ◌+ℤ◌, ◌≤ℤ◌, ◌-◌, not, get_or, ap₂}
 use Rattle.std.proofs.lemmas.Bool.{cases_eq, eq-eqb, ne_eqb, cases_Bool, both_ways, or_parts, or_from, eqb-false, cases_order}
 use Rattle.std.proofs.lemmas.Int.{ints}

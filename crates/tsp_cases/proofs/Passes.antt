@@ -1,5 +1,4 @@
--- A list that a call has written over, and the step at an index of a tree of cases. For `judge_leaves` in src/pass.rt
--- and others.
+-- One pass over the steps of a tree of cases, and what it finds at a branch, at a leaf and at the end.
 use Rattle.std.proofs.Common.{◌≡◌, ◌∙◌, ℕ, ◌+◌, ◌<◌, List, ◌∷◌, ◌++◌, length, take, drop, get_or, sym, ap, subst, arith, drop-cons, add-one, zero, suc, ◌-◌, Bool, true, false, [], ℤ, inl, inr, ◌≤ℤ◌, refl, ◌^◌, ◌≤◌, length-append}
 use Rattle.std.proofs.lemmas.Bool.{both_ways}
 use Rattle.std.proofs.lemmas.Int.{ints}

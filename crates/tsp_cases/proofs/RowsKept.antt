@@ -1,5 +1,4 @@
--- The rows kept from leaf to leaf, without decisions: scaled costs with what sets of two nodes add, brought to the
--- multipliers of the next leaf. For `KeptRows::bring_to` in src/kept.rt and others.
+-- Rows that are kept from leaf to leaf, changed by marks where multipliers or decisions differ.
 use Rattle.std.proofs.Common.{◌≡◌, ℕ, zero, suc, ◌+◌, ◌<◌, ◌==◌, List, [], ◌∷◌, ◌++◌, length, replicate, inl, inr, refl, sym, ap, subst, ◌∙◌, arith, ◌≢◌, ◌-◌, ◌≤◌, ◌&&◌, Bool, true, false, Option, None, take}
 use Rattle.std.proofs.Math.Bool.{or-true}
 use Rattle.std.proofs.Math.ListN.{set}

@@ -1,5 +1,4 @@
--- The crossings of two nodes by sets: each set takes its multiplier off every node that it has, and gives it back twice
--- where it has both. tsp_branch and tsp_routing import it too. For `KeptRows::bring_to` in src/kept.rt.
+-- Sums over the sets that have a node, set by set, and the weights that they and the decisions give.
 use Rattle.std.proofs.Common.{◌≡◌, ◌≢◌, ℕ, suc, ◌+◌, ◌<◌, ◌==◌, Bool, true, false, not, List, [], ◌∷◌, ◌++◌, length, get_or, inl, inr, refl, ap, sym, subst, ◌∙◌, arith, drop, drop-cons, add-one, ◌≤◌, Option, None, Some, ◌≤ℤ◌}
 use Rattle.std.proofs.Math.ListN.{set}
 use Rattle.std.proofs.Math.Logic.{∥∥₁_elim}

@@ -1,5 +1,4 @@
--- As many sets as a family may have, and as many parts; and one part more than there may be. For the law
--- `examples_of_limits` in src/examples.rt.
+-- Small families and bounds, evaluated.
 use Rattle.std.proofs.Common.{◌≡◌, ◌≢◌, ℕ, ◌+◌, ◌-◌, ◌≤◌, Bool, true, false, [], ◌∷◌, inl, inr, refl, sym, arith, subst, ◌∙◌, ◌⊎◌, suc, not, cond, List, length, ◌+ℤ◌, ◌≤ℤ◌, ap, ◌==◌, ◌||◌, ap₂}
 use Rattle.std.proofs.Math.Nat.{min_comm, max_comm}
 use Rattle.std.proofs.lemmas.Bool.{both_ways, eq-eqb, ne_eqb, cases_eq, or_cases, eqb-true}

@@ -1,5 +1,4 @@
--- Small trees of cases: some that decide each pair once, and some that don't. For the law `examples_of_cases` in
--- src/examples.rt.
+-- Small trees of cases, rows and verdicts, evaluated.
 use Rattle.std.proofs.Common.{◌≡◌, ℕ, Bool, true, false, List, [], ◌∷◌, refl, arith, zero, suc, ◌+◌, ◌-◌, ◌<◌, ◌≤◌, ◌==◌, ◌&&◌, ◌||◌, not, leb, length, ℤ, ◌≤ℤ◌, inl, inr, subst, ◌≢◌, sym}
 use Rattle.std.proofs.lemmas.Bool.{both_ways, cases_eq, and_parts, or_cases, leb-true, eqb-true, eqb-false, not-true}
 use Rattle.std.proofs.lemmas.Float.{T_from_true}

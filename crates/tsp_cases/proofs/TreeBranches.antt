@@ -1,5 +1,5 @@
--- One pass over the steps of a tree of cases that finds the first branch on a pair that its case decides already. For
--- `first_twice` in src/tree.rt.
+-- One pass over the branches of a tree: the first that is out of range, and the first on a pair that is decided
+-- already.
 use Rattle.std.proofs.Common.{◌≡◌, ◌∙◌, ℕ, suc, ◌+◌, ◌<◌, ◌≤◌, Bool, true, false, List, [], ◌∷◌, ◌++◌, drop, length, get_or, ℤ, inl, inr, refl, ap, ap₂, sym, subst, add-one, ◌-◌, arith, ◌*◌, ◌^◌, FitsSigned, to_z, of_z, drop-cons}
 use Rattle.std.proofs.Math.ListN.{set}
 use Rattle.std.proofs.Math.Seq.{get_or-append_seam}

@@ -1,5 +1,5 @@
--- Which links decisions allow, and the bound by the least weight of the links from each node. For `close_all`
--- (src/case_leaf.rt) and `AllowedRows` (src/case_leaf.rt) of tsp_branch, and for the laws of src/laws.rt.
+-- The bound of a certificate by branching, as a theorem: the bound of a leaf by a least 1-tree or by the least link
+-- from each node, and the least bound of all leaves.
 use Rattle.std.specs.List.{All, Any}
 use Rattle.std.specs.Prelude.{◌≡◌, ◌≢◌, ℕ, ◌≤◌, Bool, true, false, List, ◌↔◌, ℤ, ◌+ℤ◌, ◌≤ℤ◌, [], length, pos, ◌-ℤ◌, ◌*ℤ◌, ◌⊎◌, ◌∷◌, Option, Some, None}
 use Rattle.tsp_format.specs.Nodes.{IsNode, nodes_to}

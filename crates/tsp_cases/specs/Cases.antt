@@ -1,5 +1,4 @@
--- Decisions: pairs of nodes that a cycle uses, and pairs that it doesn't use. For the cases of a tree (Cases.antt,
--- `OpenCase` of src/open_case.rt), and for the fixed edges of an instance (src/certificate.rt of tsp_verdict).
+-- Trees of cases: a branch divides the first open case by a decision on a pair, and a leaf closes it by numbers.
 use Rattle.std.specs.List.{All, AllPairs}
 use Rattle.std.specs.Prelude.{ℕ, ◌≤◌, ◌≡◌, ◌==◌, ◌&&◌, Bool, true, false, if◌then◌else◌, List, [], ◌∷◌, length, map, ℤ, pos, ◌≤ℤ◌, zero, suc, ◌++◌, Option, None, Some, ◌⊎◌}
 use Rattle.tsp_format.specs.Words.{IsSymmetric}

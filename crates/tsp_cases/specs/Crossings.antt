@@ -1,5 +1,5 @@
--- How often families of sets of nodes are crossed: by a cycle at least, by two nodes at most; and the parts that sets
--- make of the nodes. For `family_crossings` (src/family.rt), and for Families.antt of tsp_cases.
+-- How often families of sets of nodes are crossed: by a cycle at least, by two nodes at most. The parts that sets make
+-- of the nodes, and the least cycle through them.
 use Rattle.std.specs.Global.{Vec}
 use Rattle.std.specs.List.{All, AllPairs, list_any, Any, AllByRecursion}
 use Rattle.std.specs.Prelude.{◌≡◌, ◌<◌, ◌⊎◌, ◌==◌, ℕ, Bool, List, length, map, ℤ, ◌≤ℤ◌, ◌≢◌, ◌+◌, ◌*◌, ◌≤◌, ◌↔◌, if◌then◌else◌, [], ◌∷◌, slice_index, ◌-◌, ◌^◌, pos}

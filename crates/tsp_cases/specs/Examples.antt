@@ -1,4 +1,4 @@
--- Small trees of cases: some that decide each pair once, and some that don't. For the laws in src/examples.rt.
+-- Small sets, families, costs, numbers and trees of cases, on which the definitions are evaluated.
 use Rattle.std.specs.List.{All, range_with_len}
 use Rattle.std.specs.Prelude.{ℕ, Bool, List, [], ◌∷◌, ◌≡◌, ◌-◌, true, false, Some, replicate, min, max, slice_index, slice_index_or, ℤ, pos, ◌*◌, negsuc, map}
 use Rattle.tsp_format.specs.Steps as listed

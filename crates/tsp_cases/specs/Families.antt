@@ -1,6 +1,5 @@
--- Combs: a handle and its teeth, which are sets of nodes that every cycle crosses often. For the law
--- `cycles_cross_combs` (src/laws.rt), and for `is_comb` and `is_tooth` (src/good_families.rt).
--- Source: M. Grötschel and M. W. Padberg, On the symmetric travelling salesman problem, 1979.
+-- Families of sets of nodes: combs, lone sets and others, the least number of times that a cycle crosses each, and
+-- which families of a file are good.
 use Rattle.std.specs.List.{All, AllPairs}
 use Rattle.std.specs.Prelude.{◌≡◌, ℕ, ◌+◌, ◌*◌, ◌≤◌, map, Bool, true, false, List, length, ℤ, pos, ◌+ℤ◌, ◌≤ℤ◌, zero, suc, [], ◌∷◌, ◌⊎◌, if◌then◌else◌, ◌*ℤ◌, ◌≢◌, ◌<◌, slice_index_or}
 use Rattle.tsp_format.specs.Nodes.{IsNode}

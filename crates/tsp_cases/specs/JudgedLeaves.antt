@@ -1,4 +1,4 @@
--- The lowest bound of the leaves so far, with one leaf more. For `lower` (src/pass.rt).
+-- The judgement on the leaves of a tree, whatever gives a leaf's bound: the least bound, or the first bad leaf.
 use Rattle.std.specs.List.{All}
 use Rattle.std.specs.Prelude.{◌≡◌, Option, Some, None, ◌⊎◌, ℤ, ◌≤ℤ◌, ℕ, List, [], ◌∷◌, IfSome}
 use Rattle.tsp_format.specs.Steps as listed

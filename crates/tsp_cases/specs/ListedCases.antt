@@ -1,5 +1,5 @@
--- Whether the numbers of a leaf for cycles are good: of the right count and signs, and so small that weights fit 64
--- bits. For `judge_numbers` (src/pass.rt), and for `CaseLeaf` (src/case_leaf.rt of tsp_branch).
+-- A tree of cases as BRANCH_SECTION lists it, and what makes it good: the numbers of its leaves, branches within their
+-- limits, and no branch twice.
 use Rattle.std.specs.List.{All, list_any}
 use Rattle.std.specs.Prelude.{◌≡◌, ℕ, true, List, length, ℤ, pos, ◌≤ℤ◌, ◌≢◌, ◌+◌, ◌-◌, ◌^◌, ◌<◌, ◌≤◌, [], ◌∷◌, take, drop, replicate, slice_set, slice_index_or, ◌+ℤ◌, Bool, false, Option, None, Some}
 use Rattle.tsp_format.specs.Nodes.{IsNode}

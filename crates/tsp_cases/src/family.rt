@@ -1,5 +1,4 @@
-//! How often every cycle crosses the sets of a family at least, and one edge at most. For
-//! `src/good_families.rt` of tsp_cases.
+//! How often every cycle crosses the sets of a family at least, and one edge at most.
 
 ghost use Rattle.std.specs.List.{All, Any};
 ghost use Rattle.std.specs.Prelude.{◌≤◌, pos, MatchOption, IfOk, IfSome, ◌≡◌, ◌<◌, ◌+◌, ◌^◌, ◌↔◌, ℕ, List, IsTrue, length, slice_index, if◌then◌else◌, ◌*◌, count_ones, bit_xor, ◌-◌};

@@ -1,5 +1,5 @@
 //! Judges the families of a certificate for tours: the first that is bad, or how often cycles cross
-//! each. For `src/verdict.rt` of tsp_branch.
+//! each.
 
 ghost use Rattle.std.specs.List.{All, Any};
 ghost use Rattle.std.specs.Prelude.{◌≡◌, ◌≤◌, ◌<◌, ◌-◌, ◌+◌, ◌^◌, ◌↔◌, ℕ, IsTrue, [], length, true, IfOk, IfSome, Bool, false};

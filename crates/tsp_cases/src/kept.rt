@@ -1,5 +1,5 @@
 //! Rows of weights of all nodes that are kept from leaf to leaf: a leaf changes them by its
-//! multipliers and decisions alone. For `src/kept.rt`, and `src/verdict.rt` of tsp_branch.
+//! multipliers and decisions alone.
 
 ghost use Rattle.std.specs.Global.{Vec};
 ghost use Rattle.std.specs.Int.{w64, int_wrap};

@@ -1,5 +1,5 @@
 //! Laws: no cycle that keeps the decisions is shorter than the bound of a leaf, or of a tree of
-//! cases. For `src/verdict.rt` of tsp_branch, and the bounds of tsp_verdict.
+//! cases.
 
 ghost use Rattle.std.specs.Prelude.{ℕ, ℤ, List, [], ◌∷◌, ◌≤ℤ◌, Bool, true, false};
 ghost use Rattle.tsp_cases.specs.CaseTrees.{CaseTreesBoundCycles, CaseTreesBoundTours, NoBoundNoTour, CaseTreeBoundsAreUnique, LeafBoundsBoundCycles, UncombedBoundsAreAdjustedBounds, RowLeafBoundsBoundCycles, LinksAreAllowed, NoLinkNoCycle, SumsAreBelowCycles};

@@ -1,8 +1,14 @@
-//! How often cycles cross families of sets of nodes: the least number of crossings of any cycle,
-//! for all sets that divide the nodes into few parts.
+//! Families of sets of nodes and trees of cases: theorems on lower bounds, and their judges.
+//!
+//! How often a cycle crosses a family is found by a dynamic programme over the parts that its sets
+//! make (`family`). [`judge_families`] finds the first family that isn't good, [`judge_cases`] the
+//! first branch that is bad or comes twice, and `judge_leaves` passes over the leaves, for any judge
+//! of a leaf. The bound of a leaf is the task of tsp_branch and tsp_routing.
 //!
 //! ```text
 //! let crossings = family_crossings(alloc, &family)?;
+//! let families = judge_families(alloc, &tree)?;
+//! let cases = judge_cases(alloc, &tree)?;
 //! ```
 #![tactic(auto)]
 

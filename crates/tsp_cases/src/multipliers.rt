@@ -1,5 +1,4 @@
-//! The multipliers of the families at a leaf, none of them negative. For the bound of the leaf in
-//! tsp_branch.
+//! The multipliers of the families at a leaf, none of them negative.
 
 ghost use Rattle.std.specs.Prelude.{◌≡◌, length};
 ghost use Rattle.tsp_cases.specs.states.Sets.{AreSmallMultipliers, AreSmallDifferences};

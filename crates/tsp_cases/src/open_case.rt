@@ -1,5 +1,4 @@
-//! The decisions of the case that is open in a pass over the steps of a tree. For `src/pass.rt` and
-//! `src/tree.rt`, and the leaves of tsp_branch and tsp_routing.
+//! The decisions of the case that is open in a pass over the steps of a tree.
 
 ghost use Rattle.std.specs.Global.{Vec};
 ghost use Rattle.std.specs.Prelude.{◌≡◌, ◌≤◌, ◌<◌, ◌+◌, ◌-◌, ◌^◌, ℕ, [], length, slice_index_or, IfOk};

@@ -1,5 +1,4 @@
-//! One pass over the steps of a tree of cases, which has each leaf judged by a `LeafJudge`. For
-//! `src/verdict.rt` of tsp_branch and `src/verdict.rt` of tsp_routing.
+//! One pass over the steps of a tree of cases, which has each leaf judged by a `LeafJudge`.
 
 ghost use Rattle.std.specs.List.{All};
 ghost use Rattle.std.specs.Prelude.{◌≡◌, ◌+◌, ◌<◌, ◌^◌, [], ◌∷◌, length, IfOk, ◌++◌, ℕ, ℤ, Bool, List, Option, true, ◌↔◌, IsTrue, pos, neg_ℤ, take, drop};

@@ -1,5 +1,5 @@
 //! Judges the branches of a tree of cases, before any leaf: the first bad one, else the first on a
-//! pair that is decided already. For `src/verdict.rt` of tsp_branch.
+//! pair that is decided already.
 
 ghost use Rattle.std.specs.List.{All};
 ghost use Rattle.std.specs.Prelude.{IfOk, ◌≡◌, ◌≤◌, ◌<◌, ◌^◌, true, false, length};

@@ -1,5 +1,4 @@
--- A task or a comparison whose files were opened: a fact of each opened file may be replaced by one that follows from
--- it. For `opened` and `opened_to_compare` in src/running.rt.
+-- Files that are opened for a task, and explanations of single solutions.
 use Rattle.std.proofs.Common.{Option, None, Some, ℕ, zero, suc, Bool, true, false, List, [], ◌++◌, refl, sym, subst, ◌∙◌}
 use Rattle.std.proofs.KnownBytes.{Appends-nil, Appends-trans}
 use Rattle.std.specs.Prelude.{Result, Ok, Err}

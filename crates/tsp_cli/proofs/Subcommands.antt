@@ -1,4 +1,4 @@
--- A command of the grammar that its definition states has no global argument. For `bound` in src/grammar.rt and others.
+-- Which values the words of each command give, which words are refused, and that one line has one meaning.
 use Rattle.std.proofs.Common.{◌≡◌, false, IfOk, Result, Ok, Err, ◌⊎◌, ◌∙◌, inl, inr, List, sym, subst, ap₂, unwrap_or, Bool, true, [], ◌∷◌, Option, Some, None, refl, ap, codes, fold, is_some, option_map, ℕ, suc, zero, ◌<◌, ◌/◌, ◌%◌, ◌==◌, ◌++◌, rules, arith}
 use Rattle.std.proofs.Math.Nat.{mod-lt}
 use Rattle.std.proofs.lemmas.Bool.{true≢false}

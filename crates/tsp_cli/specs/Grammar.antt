@@ -1,5 +1,5 @@
--- Which verb and which values the words of a command line give, or with what fault they are refused, as clap's own
--- definitions say. For `job_of` (src/job.rt).
+-- The commands, arguments and options of the program `tsp`, and which verb and values the words of a command line give,
+-- or why they are refused.
 use Rattle.std.specs.Prelude.{◌≡◌, Bool, true, false, Some, codes, ◌≢◌, List, [], Option, None, Result, Ok, Err, ⊤, map, option_map, unwrap_or, String, IsTrue, ◌↔◌}
 use Rattle.std.specs.String.{string_bytes}
 use Rattle.clap.specs.Kinds.{IsAmong}

@@ -1,5 +1,5 @@
--- A run of `tsp compare` from its paths: which files are opened, and the result. For `run_comparison` (src/running.rt),
--- `opened_to_compare` (src/running.rt) and `Followed` (src/explained.rt).
+-- A run of the program `tsp`, from the words of its command line to its exit status, and a run of `tsp compare` from
+-- its paths.
 use Rattle.std.specs.Prelude.{◌≡◌, ℕ, false, List, [], Option, Result, map, slice_index_or, ◌≢◌, ◌⊎◌, ◌||◌, Bool, ◌∷◌, codes, drop, Ok, Err, OnOk, true}
 use Rattle.std.specs.Str.{bytes_eq}
 use Rattle.std.specs.String.{string_bytes}

@@ -1,5 +1,4 @@
--- The version and the help on standard output, and how printing them ends. For `print_version` and `print_help`
--- (src/running.rt).
+-- How a run ends: what is printed for help and version, the line on standard error, and the exit status.
 use Rattle.std.specs.Io.KnownBytes.{Appends, Keeps}
 use Rattle.std.specs.List.{list_all}
 use Rattle.std.specs.Prelude.{◌≡◌, ◌⊎◌, ◌++◌, List, ℕ, Result, Err, Some, Option, codes, Bool, true, false, [], ◌∷◌, None, Ok, IfSome, not, ◌==◌}

@@ -1,5 +1,4 @@
--- Which task a job asks for, on which files, or why it is none. For `task_of` (src/job.rt), and for the runs of
--- tsp_cli (ProgramRun.antt).
+-- Which task a job asks for, on which files, or why it is none.
 use Rattle.std.specs.Prelude.{◌≡◌, ◌≢◌, ◌⊎◌, ◌≤◌, ◌+◌, ℕ, Bool, true, false, ◌==◌, List, [], Option, None, Some, Result, Ok, Err, String, codes, map, ℤ, pos, negsuc}
 use Rattle.std.specs.List.{count_by, list_any, sum_by}
 use Rattle.std.specs.Str.{bytes_eq}

@@ -1,5 +1,4 @@
 //! The ends of a run of the program, with the exit status and the line on standard error of each.
-//! For `src/running.rt` and `src/explained.rt`.
 
 ghost use Rattle.std.specs.Prelude.{◌≡◌, ◌++◌, ◌∷◌, [], OnOk};
 ghost use Rattle.std.specs.Io.KnownBytes.{Appends};

@@ -1,5 +1,4 @@
-//! The text that explains the end of a task to a person. For `src/running.rt`, and for the files
-//! and names in `src/explained.rt`.
+//! The text that explains the end of a task to a person.
 
 ghost use Rattle.std.specs.Prelude.{map, true};
 ghost use Rattle.std.specs.String.{string_bytes};

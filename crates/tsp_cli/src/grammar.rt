@@ -1,5 +1,4 @@
 //! The command line as `clap` knows it: five subcommands, what each takes, and the texts of help.
-//! For `src/job.rt`.
 
 ghost use Rattle.std.specs.Prelude.{◌≡◌, IfOk, false};
 ghost use Rattle.clap.specs.Words.{App, Rule, new_app, rule_of, with_rule, with_subcommand};

@@ -1,5 +1,5 @@
 //! Turns the words of a command line into a job, a verb with its options and paths, or says why
-//! they are none. For `src/running.rt` of tsp_cli.
+//! they are none.
 
 ghost use Rattle.std.specs.IoError.{error_kind};
 ghost use Rattle.std.specs.Prelude.{◌≡◌, ◌≢◌, ◌↔◌, IfOk, IsTrue, Some, codes, map, option_map, ◌≤◌};

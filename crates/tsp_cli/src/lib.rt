@@ -1,11 +1,14 @@
-//! The words of a command line of the program `tsp`, turned into a task on files. For tsp_cli.
+//! A run of the program `tsp`, from the words of its command line to its exit status.
 //!
-//! The words are a job (`words`), by the commands that the program has (`grammar`). A job asks for
-//! a task on files, or to compare solutions (`task_of_job`). It opens no files and runs nothing.
+//! The words are a job (`job`, by the commands in `grammar`), and the job is a task on files or a
+//! comparison. Each file is opened or missing (`input`), the task is done (`running`), and the end
+//! is reported on standard error and by the exit status (`ends`). Where the words ask for it, an
+//! explanation follows (`explained`). The calls of the host are tsp_tool's.
 //!
 //! ```text
 //! let job = job_of(alloc, &["check", "a.tsp", "a.tour"])?;
 //! let task = task_of(&job)?;
+//! let (status, written) = run(alloc, &words, &files, &mut out, &mut errors, surroundings);
 //! ```
 #![tactic(auto)]
 

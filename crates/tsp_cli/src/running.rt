@@ -1,5 +1,4 @@
-//! A run of the program, from the words of its command line to its exit status. For `src/main.rt`
-//! of tsp_tool.
+//! A run of the program, from the words of its command line to its exit status.
 
 ghost use Rattle.std.specs.Io.KnownBytes.{Appends, Keeps};
 ghost use Rattle.std.specs.IoError.{error_kind};

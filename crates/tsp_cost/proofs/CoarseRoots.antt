@@ -1,5 +1,4 @@
--- EUC_2D where both differences are whole numbers of steps, which are 512ths: the sum of squares fits 64 bits. For
--- `coarse_euc_2d` in src/metric.rt.
+-- EUC_2D where both differences are whole numbers of steps, which are 512ths: the sum of squares fits 64 bits.
 use Rattle.std.proofs.Common.{◌≡◌, ℕ, ◌+◌, ◌*◌, ◌-◌, ◌<◌, ◌≤◌, ◌^◌, ℤ, pos, negsuc, ◌*ℤ◌, ◌-ℤ◌, unsigned_abs, FitsSigned, to_z, of_z, w64, sym, ap, ◌∙◌, Option, None, Some, rules, arith}
 use Rattle.std.specs.Prelude.{IfSome}
 use Rattle.std.proofs.lemmas.Int.{to_z-of_z, unsigned_abs-mul}

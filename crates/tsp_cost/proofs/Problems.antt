@@ -1,5 +1,4 @@
--- The costs of an instance by their source: distances of its points, or weights that a layout lists. For
--- `Instance::distance_view` in src/instance.rt and others.
+-- A valid instance is one problem, whose costs are those that the code looks up.
 use Rattle.std.proofs.Common.{◌≡◌, ◌≢◌, ℕ, true, false, List, [], Option, None, Some, refl, sym, ap, ◌∙◌, length, subst, ◌+◌, ◌-◌, ◌<◌, eqb, ltb-false, Bool, ◌∷◌, map, inl, inr, arith}
 use Rattle.std.proofs.lemmas.Bool.{false≢true, leb-false}
 use Rattle.std.proofs.lemmas.Bool.Decides.{eqb_tells}

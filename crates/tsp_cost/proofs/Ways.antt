@@ -1,5 +1,4 @@
--- The distance to the nearest point of a box is at most that to its other points, for each weight type. For
--- `Points::is_beyond_by` in src/points.rt.
+-- Sums of costs along a list of nodes, and distances that grow as points move apart.
 use Rattle.std.proofs.Common.{◌≤◌, ◌≤ℤ◌, ℕ, ℤ, Bool, true, false, refl, arith, ◌≡◌, suc, ◌+◌, ◌-◌, ◌*◌, ◌<◌, List, [], ◌++◌, take, drop, length, sym, ap, subst, ◌∙◌, to_z, of_z, drop-cons, take-append-drop, append_assoc}
 use Rattle.std.proofs.Math.IntN.{+ℤ_assoc, +ℤ_idr}
 use Rattle.std.proofs.lemmas.Int.{ints}

@@ -1,5 +1,4 @@
--- Small instances with fixed pairs. For the law `examples_of_tours` (src/examples.rt), which says whether lists of
--- nodes are their tours.
+-- Small instances with fixed pairs.
 use Rattle.std.specs.Prelude.{ℕ, List, Some}
 use Rattle.tsp_format.specs.declared.kinds.Kind.{Kind}
 use Rattle.tsp_file.specs.Fields.{Fields, blank_fields}

@@ -1,6 +1,5 @@
 -- Which problem a valid instance is: of TYPE TSP or ATSP a travelling salesman problem, of TYPE CVRP a routing problem.
--- For the meanings of the line `yes` (Accepted.antt of tsp_judge).
--- Source: TSPLIB 95 (G. Reinelt), TYPE, EDGE_WEIGHT_TYPE and the sections of data.
+-- Each valid instance is one problem.
 use Rattle.std.specs.Prelude.{◌≡◌, ◌≢◌, ◌⊎◌, ℕ, false, if◌then◌else◌, [], ◌∷◌, map, Some, unwrap_or, ℤ, pos, Bool, true, List, Option, None, slice_index, length}
 use Rattle.tsp_number.specs.declared.decimal.Point.{Point}
 use Rattle.tsp_format.specs.Nodes.{IsNode, nodes_to, is_listed, cells}

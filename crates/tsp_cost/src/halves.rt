@@ -1,5 +1,4 @@
-//! An order of nodes in which neighbours are near each other. Nothing is promised of it. For
-//! `order` in `src/points.rt`, from which tsp_bound makes boxes.
+//! An order of nodes in which neighbours are near each other. Nothing is promised of it.
 
 ghost use Rattle.std.specs.Prelude.{◌≡◌, ◌≤◌, ◌<◌, ◌*◌, ◌^◌, length};
 

@@ -1,5 +1,4 @@
-//! A law: each valid instance is one problem, with one cost from each node to each. For
-//! `Instance::of` in `src/instance.rt`.
+//! A law: each valid instance is one problem, with one cost from each node to each.
 
 ghost use Rattle.std.specs.Prelude.{◌≡◌, None, IsTrue};
 ghost use Rattle.tsp_file.specs.Fields.{Fields};

@@ -1,4 +1,4 @@
-//! Costs that a full matrix lists, symmetric or not. For `src/instance.rt` and `src/instance.rt`.
+//! Costs that a full matrix lists, symmetric or not.
 
 ghost use Rattle.std.specs.List.{All};
 ghost use Rattle.std.specs.Prelude.{◌≡◌, ◌≤◌, length, ◌≢◌, ◌⊎◌, IsTrue};

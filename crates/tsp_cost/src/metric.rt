@@ -1,5 +1,4 @@
-//! The weight types that are distances, and the function of tsp_number for each. For
-//! `src/points.rt`, `src/points.rt`, `src/points.rt` and others.
+//! The weight types that are distances, and the function of tsp_number for each.
 
 ghost use Rattle.std.specs.Prelude.{◌≡◌, IsTrue, ◌↔◌, pos, ◌≤ℤ◌, MatchOption, ◌<◌, ◌≤◌, ◌*◌, ◌^◌, ◌*ℤ◌, ◌-ℤ◌, IfSome, unsigned_abs};
 ghost use Rattle.tsp_number.specs.Distances.{squared, euc_2d_of};

@@ -1,5 +1,4 @@
 //! Costs that are distances of points, of the plane or in space, by the metric of the weight type.
-//! For `src/instance.rt` and others.
 
 ghost use Rattle.std.specs.Prelude.{◌≡◌, ◌≤◌, ◌-◌, ℕ, length, map};
 ghost use Rattle.tsp_number.specs.declared.decimal.Point.{Point};

@@ -1,5 +1,4 @@
--- The lines of an explanation: sentences, each line of them indented by two blanks. For `push_lines` and
--- `push_indented` (src/text.rt).
+-- The lines of an explanation, indented by two blanks, and how it shows the bytes of a file.
 use Rattle.std.specs.List.{concat}
 use Rattle.std.specs.Prelude.{ℕ, List, [], ◌∷◌, ◌++◌, ◌==◌, cond, map, codes, ◌+◌, ◌-◌, nat_lt}
 

@@ -1,5 +1,5 @@
 //! Likely causes of a fault of a file, such as compressed bytes, as far as the part that was read
-//! shows one. For `src/file_fault.rt`.
+//! shows one.
 
 use crate::look::Look;
 use tsp_file::EndFault;

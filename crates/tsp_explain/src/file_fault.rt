@@ -1,5 +1,4 @@
-//! Lines of `--explain` on a file that isn't read: the place, the rule, and a likely cause. For
-//! `src/explanation.rt` of tsp_judge and `src/explained.rt` of tsp_cli.
+//! Lines of `--explain` on a file that isn't read: the place, the rule, and a likely cause.
 
 ghost use Rattle.std.specs.Io.{StartsWith};
 

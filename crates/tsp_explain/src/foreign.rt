@@ -1,5 +1,4 @@
 //! Files in the forms of other programs: which form one looks like, and which recipe converts it.
-//! For `src/file_fault.rt`.
 
 use crate::look::Look;
 use crate::text::{LinePart, push_line, push_lines};

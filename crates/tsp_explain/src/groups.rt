@@ -1,5 +1,4 @@
 //! Sections with a group of words for each node: the first line whose words are no whole groups.
-//! For `src/look.rt`, `src/guess.rt` and `src/file_fault.rt`.
 
 use crate::text::{LinePart, push_line, push_lines};
 use crate::wanted::group;

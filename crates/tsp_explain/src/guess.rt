@@ -1,5 +1,5 @@
 //! The likely meaning of a line or a word at fault, such as a misspelled keyword, as far as the
-//! file shows it. For `src/file_fault.rt`.
+//! file shows it.
 
 use crate::groups::{Shift, push_shift};
 use crate::look::{Look, first_run};

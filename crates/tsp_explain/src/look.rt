@@ -1,5 +1,5 @@
 //! A second look at a file that has a fault: the text at its place, counts of words, keywords
-//! before it. For `src/file_fault.rt` and others.
+//! before it.
 
 ghost use Rattle.std.specs.Prelude.{◌≤◌, length};
 

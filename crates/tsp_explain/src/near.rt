@@ -1,5 +1,5 @@
 //! Words that differ from one of TSPLIB 95 by a letter or two, or by small and capital letters
-//! alone. For `src/guess.rt` and `src/look.rt`.
+//! alone.
 
 use tsp_format::{Field, Word};
 

@@ -1,5 +1,5 @@
 //! Lines of `--explain` on a solution that is refused: the rule, and the nodes and numbers that the
-//! reason is about. For `src/verdict_reasons.rt` and `src/certificate_reasons.rt`.
+//! reason is about.
 
 ghost use Rattle.std.specs.Io.{StartsWith};
 

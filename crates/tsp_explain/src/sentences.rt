@@ -1,5 +1,4 @@
 //! The sentences of `--explain`: what each fault and each reason means, as a rule with its numbers.
-//! For `src/file_fault.rt`, `src/refusal.rt` and `src/guess.rt`.
 //!
 //! Each is a `match` that names every variant, so that a new one needs its sentence.
 

@@ -1,5 +1,5 @@
 //! Lookups in the tours of a file: the node at a place, the place of a node, a missing or repeated
-//! node. For `src/refusal.rt` and `src/certificate_reasons.rt`.
+//! node.
 
 use tsp_format::MOST_NODES;
 

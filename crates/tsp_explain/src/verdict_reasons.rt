@@ -1,5 +1,5 @@
 //! Lines of `--explain` on a verdict or a bound: the reason against it, or a doubt about an
-//! accepted solution. For `src/explanation.rt` of tsp_judge.
+//! accepted solution.
 
 ghost use Rattle.std.specs.Io.{StartsWith};
 ghost use Rattle.std.specs.Prelude.{◌≡◌};

@@ -1,5 +1,4 @@
-//! What each keyword and each section takes, with its numbers, as sentences of `--explain`. For
-//! `src/guess.rt`, `src/file_fault.rt` and `src/groups.rt`.
+//! What each keyword and each section takes, with its numbers, as sentences of `--explain`.
 
 use tsp_format::{Field, Shape};
 

@@ -1,5 +1,4 @@
--- Where all elements of a list pass a test, each one passes it, so each field of a valid file is valid on its own. For
--- the law `a_valid_text_is_short` in src/laws.rt.
+-- How long the text of each field is at most.
 use Rattle.std.proofs.Common.{◌≡◌, Bool, true, false, cond, List, [], ◌∷◌, Option, None, Some, refl, sym, subst, ℕ, ◌+◌, ◌≤◌, ◌++◌, length, arith, length-append, ◌*◌, ◌<◌, ℤ, pos}
 use Rattle.std.proofs.Math.Nat.{mul-le-mul}
 use Rattle.std.proofs.lemmas.Bool.{and_parts, leb-true, eqb-true, false≢true}

@@ -1,5 +1,4 @@
--- A valid file is still valid with the weights of another layout, and that layout as its format. For `make_whole` in
--- src/file.rt and others.
+-- The fields of a file after a change of its weights.
 use Rattle.std.proofs.Common.{◌≡◌, ℕ, suc, zero, ◌+◌, ◌-◌, ◌*◌, ◌/◌, ◌≤◌, Bool, true, false, cond, List, [], ◌∷◌, length, Option, None, Some, refl, sym, ap, subst, ◌∙◌, arith, ◌≢◌, ◌<◌, ◌++◌, map, take, ⊎_elim}
 use Rattle.std.proofs.lemmas.Bool.{false≢true, le-leb, eq-eqb, cases_lt}
 use Rattle.std.proofs.lemmas.Int.{ints}

@@ -1,5 +1,4 @@
--- The cost between two nodes from listed weights: the weight of the cell, that of the mirrored cell, or 0. For
--- `ListedWeights::cost` in src/typed.rt and others.
+-- Weights that are listed in a layout, and the same costs listed in another.
 use Rattle.std.proofs.Common.{◌≡◌, ◌≢◌, ℕ, ◌<◌, false, List, [], length, Option, Some, None, refl, sym, ap, ◌∙◌, inl, inr, ⊎_elim, arith, to_z, of_z, ◌+◌, ◌-◌, ◌≤◌, Bool, true, ◌∷◌, ◌++◌, map, take, subst}
 use Rattle.std.proofs.lemmas.Bool.{cases_lt, le-ltb, lt-leb, false≢true, le-leb}
 use Rattle.std.proofs.lemmas.Bool.Decides.{nat_tests}

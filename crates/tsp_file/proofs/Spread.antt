@@ -1,5 +1,5 @@
 -- A full matrix from its listed half: lines moved to their rows from the last on, then the diagonal and the mirrored
--- cells. For `spread_lines` in src/file.rt and others.
+-- cells.
 use Rattle.std.proofs.Common.{◌≡◌, ◌≢◌, ℕ, suc, zero, ◌+◌, ◌-◌, ◌*◌, ◌<◌, ◌≤◌, Bool, true, false, List, ◌++◌, length, map, take, Some, refl, sym, ap, subst, ◌∙◌, inl, inr, ⊎_elim, arith}
 use Rattle.std.specs.Prelude.{slice_index_or as get_or, slice_set, unwrap_or, ◌⊎◌, nat_le, ℤ, pos}
 use Rattle.std.specs.List.{flat_map, CopiedTo, SameBelow, SameFrom}

@@ -1,5 +1,4 @@
--- The cost by coordinates is the one number that has the inequalities of its weight type, and is symmetric. For the law
--- `costs_are_by_inequalities` in src/laws.rt.
+-- How long the canonical text of a file is at most.
 use Rattle.std.proofs.Common.{◌≡◌, ◌≢◌, ◌∙◌, ℕ, refl, sym, ap, subst, ◌+◌, ◌*◌, ◌^◌, ◌<◌, ◌≤◌, Bool, true, false, List, ◌∷◌, ◌++◌, length, take, drop, map, arith, ℤ, length-append}
 use Rattle.std.proofs.lemmas.Bool.{and_parts, leb-true, false≢true}
 use Rattle.std.proofs.lemmas.Fmt.{length-decimal-le, length_signed_le}

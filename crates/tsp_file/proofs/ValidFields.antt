@@ -1,5 +1,4 @@
--- Tests of the values of a draft, which are vectors, are the tests of the lists in these: texts, tours, combs, steps.
--- For `are_combs` in src/validity.rt and others.
+-- Which fields are valid, and that the first bad field is found.
 use Rattle.std.proofs.Common.{◌≡◌, ℕ, zero, suc, ◌+◌, [], ◌∷◌, ◌≤◌, Bool, true, false, List, length, map, refl, sym, ap, ◌∙◌, arith, ◌<◌, drop, ◌^◌, pos, ◌≤ℤ◌, to_z, of_z, FitsSigned, rules, ◌*◌, cond, Option, None, Some, subst, inl, inr}
 use Rattle.std.proofs.lemmas.Bool.{le-leb, false≢true, leb-true, eqb-true}
 use Rattle.std.proofs.lemmas.Bool.Decides.{Decides-int_eq, nat_tests}

@@ -1,5 +1,4 @@
--- The bytes of a line or a section, written part by part: a value after a blank, numbers, weights. For `put_value` in
--- src/writer.rt and others.
+-- Lines, digits, blocks and matrices as they are written, part by part.
 use Rattle.std.proofs.Common.{◌≡◌, ℕ, ◌==◌, true, false, List, [], ◌∷◌, ◌++◌, length, map, sym, subst, append_assoc, arith, zero, suc, ◌+◌, ◌-◌, ◌*◌, ◌/◌, ◌%◌, ◌^◌, ◌<◌, ◌≤◌, drop, max, refl, ap, ◌∙◌, inl, inr, length-append, take, min}
 use Rattle.std.proofs.Math.Nat.{pow-suc}
 use Rattle.std.proofs.lemmas.Bool.{cases_lt, and_parts, leb-true, false≢true}

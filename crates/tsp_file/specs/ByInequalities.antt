@@ -1,5 +1,4 @@
--- The distance by each weight type, by its inequalities: so nobody has to read the functions that compute it. For
--- Problems.antt of tsp_cost, and for the law `costs_are_by_inequalities` (src/laws.rt).
+-- The distance by each weight type, by its inequalities: so nobody has to read the functions that compute it.
 use Rattle.std.specs.Prelude.{ℕ}
 use Rattle.tsp_number.specs.declared.decimal.Point.{Point}
 use Rattle.tsp_number.specs.Distances.{IsEuc2d, IsCeil2d, IsMan2d, IsMax2d, IsAtt, IsEuc3d, IsMan3d, IsMax3d}

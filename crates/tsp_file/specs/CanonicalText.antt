@@ -1,5 +1,5 @@
 -- The canonical text of a file: the texts of its fields in canonical order, then the line EOF. A field that is missing
--- has no text. For `write_file` (src/writer.rt), and so for `tsp convert` (ConvertRun.antt of tsp_judge).
+-- has no text.
 use Rattle.std.specs.Prelude.{ℕ, Bool, true, false, cond, List, [], ◌∷◌, ◌++◌, take, drop, map, length, codes, Option, Some, None, ℤ}
 use Rattle.std.specs.Option.{option_map_or}
 use Rattle.std.specs.List.{flat_map, enumerate_from}

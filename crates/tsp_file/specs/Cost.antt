@@ -1,5 +1,4 @@
--- The point (0, 0), which definitions take for a node without a point. For `get` of `Coords` (src/coords.rt), and for
--- `point_of` in Cost.antt of tsp_file. Five crates above import it too.
+-- The cost from one node of an instance to another, from the fields that a file of its TYPE has or lacks.
 use Rattle.std.specs.List.{All, sum_by}
 use Rattle.std.specs.Option.{option_map, option_or}
 use Rattle.std.specs.Prelude.{pos, ◌≡◌, ℕ, ◌≤◌, false, List, length, Some, None, ℤ, [], Option, unwrap_or, IsSome, IsTrue, ◌-◌, slice_index_or}

@@ -1,5 +1,5 @@
--- Small files that lack fields or have wrong ones. For the laws of src/examples.rt, which state the first fault of
--- each, and for `examples_of_lost_costs` (src/examples.rt of tsp_file).
+-- Small files on which the definitions are evaluated: files that lack fields or have wrong ones, matrices in several
+-- layouts, and a text with a field of each sort.
 use Rattle.std.specs.Prelude.{[], ◌∷◌, Some, pos, ◌≡◌, ℕ, List, ℤ, ◌++◌, negsuc, codes}
 use Rattle.tsp_number.specs.Distances.{on_plane}
 use Rattle.tsp_format.specs.Steps.{Branch, Leaf}

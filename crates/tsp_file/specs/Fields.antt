@@ -1,5 +1,4 @@
--- The fields of a file, as lists and numbers. For `Draft` (src/draft.rt), for `File` (src/file.rt of tsp_file), and for
--- all definitions on files in the crates above.
+-- The fields of a file, as lists and numbers.
 use Rattle.std.specs.Prelude.{ℕ, Bool, true, List, [], Option, None, Some, unwrap_or, ℤ, pos, nat_abs, is_some}
 use Rattle.std.specs.Option.{option_map}
 use Rattle.tsp_number.specs.declared.decimal.Point.{Point}

@@ -1,5 +1,4 @@
--- The text of each fault of a change of layout: its name, and its nodes. For `RelayoutFault` (src/relayout.rt), and for
--- CheckRun.antt of tsp_judge.
+-- The file after its weights are put into another layout, and the faults of such a change.
 use Rattle.std.specs.Prelude.{ℕ, List, ◌++◌, codes, decimal, ◌≡◌, ◌≢◌, ◌<◌, ◌⊎◌, Bool, false, map, Some, IsSome, IsTrue, Result, Ok, Err, ℤ, pos}
 use Rattle.tsp_format.specs.Nodes.{IsNode, is_listed, cells}
 use Rattle.tsp_format.specs.Words.{IsSymmetric, IsFirstAsymmetric}

@@ -1,5 +1,5 @@
--- The text of each fault of a draft: its name, and the field. For `DraftFault` and `EndFault` (src/rules.rt), and for
--- the fault of a text (Spells.antt of tsp_text).
+-- The rules over several fields of a file, which decide its first fault: what a file is, what may be missing, and what
+-- may not go together.
 use Rattle.std.specs.Option.{option_map, option_or}
 use Rattle.std.specs.Prelude.{ℕ, List, ◌++◌, codes, Bool, true, false, cond, not, ◌&&◌, ◌||◌, ◌==◌, [], ◌∷◌, length, Option, None, Some, is_some}
 use Rattle.tsp_format.specs.Nodes.{cells}

@@ -1,6 +1,4 @@
--- What always holds of a valid file: its fields are in these ranges, and it has those that its TYPE asks for. For the
--- laws of src/laws.rt, and for the calls of tsp_file that lend the fields of a TYPE (src/typed.rt). tsp_verdict and
--- tsp_cost import it too.
+-- What always holds of a valid file: its fields are in these ranges, and it has those that its TYPE asks for.
 use Rattle.std.specs.Prelude.{◌≡◌, ◌≢◌, ℕ, ◌+◌, ◌≤◌, ◌⊎◌, Bool, true, false, List, length, None, Some, IsSome, ℤ, pos, neg_ℤ}
 use Rattle.std.specs.List.{All, sum_by}
 use Rattle.tsp_number.specs.declared.decimal.Point.{Point}

@@ -1,5 +1,5 @@
--- When a field is valid on its own, as tests. For `bad_field` (src/table.rt) and the tests of src/validity.rt. The
--- ranges are this project's profile of TSPLIB 95. Valid.antt has them as statements. Four crates above import it too.
+-- When a field is valid on its own, as tests. The ranges are this project's profile of TSPLIB 95. Valid.antt has them
+-- as statements. Four crates above import it too.
 use Rattle.std.specs.Prelude.{ℕ, ◌+◌, ◌-◌, ◌*◌, Bool, true, false, cond, not, ◌&&◌, ◌==◌, nat_le, List, length, slice_index, Option, None, Some, ℤ, pos, neg_ℤ, int_le}
 use Rattle.std.specs.Option.{option_map_or}
 use Rattle.std.specs.Ordering.{int_eq}

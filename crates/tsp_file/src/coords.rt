@@ -1,5 +1,5 @@
 //! The points of a coordinate section: a list of points of the plane, which take 16 bytes each, or
-//! a list of points in space. For `Draft`.
+//! a list of points in space.
 
 ghost use Rattle.std.specs.Prelude.{◌≡◌, length, slice_index_or, ◌<◌, SomeIff};
 ghost use Rattle.tsp_file.specs.states.Drafts.{points_of};

@@ -1,5 +1,5 @@
 //! Half of a full symmetric matrix, moved to the beginning of its vector, so that no memory is
-//! taken. For `File::with_half` in `src/file.rt`.
+//! taken.
 
 ghost use Rattle.std.specs.Prelude.{◌≡◌, ◌≤◌, ◌+◌, ◌-◌, ◌*◌, length};
 ghost use Rattle.tsp_format.specs.declared.layout.Layout.TheVariants.{FullMatrix};

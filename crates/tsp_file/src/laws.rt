@@ -1,5 +1,5 @@
 //! Laws: the fields of a valid file are in their ranges, and those that its TYPE requires are
-//! present. For `src/laws.rt` of tsp_cost.
+//! present.
 
 ghost use Rattle.std.specs.Prelude.{◌≡◌, None, IsTrue, IsSome, ◌≢◌, ◌<◌, ℕ, [], length, Some, unwrap_or, pos, unsigned_abs};
 ghost use Rattle.tsp_format.specs.declared.kinds.WeightKind.{WeightKind};

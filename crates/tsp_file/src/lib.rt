@@ -1,12 +1,14 @@
-//! The fields of a TSPLIB 95 file, as a draft, and when they are valid.
+//! The fields of a TSPLIB 95 file, when they are valid, their costs and their canonical text.
 //!
-//! It knows no bytes of a file's text, and judges no tours: a draft with a field of each sort is
-//! made by hand or by tsp_read.
+//! A [`Draft`] has fields of any kind, and a [`File`] is a draft without a fault. A file's matrix
+//! can be laid out anew. This crate reads no text: tsp_read makes drafts and files from bytes.
 //!
 //! ```text
 //! let mut draft = Draft::new(alloc);
 //! draft.kind = Some(Kind::Tour);
 //! let fault = end_fault(&draft, None);
+//! let file = File::of(draft)?;
+//! write_file(alloc, &file, &mut out)?;
 //! ```
 #![tactic(auto)]
 

@@ -1,5 +1,4 @@
-//! Whether numbers of a section or a keyword are in a range. For `src/table.rt` and
-//! `src/validity.rt`.
+//! Whether numbers of a section or a keyword are in a range.
 
 ghost use Rattle.std.specs.Prelude.{◌≡◌, ◌<◌, ◌^◌, pos, ◌≤ℤ◌};
 ghost use Rattle.std.specs.List.{All, list_all};

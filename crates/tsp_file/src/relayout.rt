@@ -1,5 +1,5 @@
 //! `File::relayout`, which puts the weights of a file into another layout if each cost stays as it
-//! is. For `tsp convert --layout`, in `src/bound_run.rt` of tsp_judge.
+//! is.
 
 ghost use Rattle.std.specs.Prelude.{MatchResult};
 ghost use Rattle.tsp_file.specs.Relayout.{CanGo, IsRefused, IsRelayout};

@@ -1,5 +1,5 @@
 //! The fields that a file of a TYPE always has, without `Option`: matrices, tours, routes,
-//! potentials, trees of cases. For tsp_verdict and `src/instance.rt` of tsp_cost.
+//! potentials, trees of cases.
 
 ghost use Rattle.std.specs.List.{All};
 ghost use Rattle.std.specs.Prelude.{◌≡◌, ◌≤◌, length};

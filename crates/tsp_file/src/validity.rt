@@ -1,5 +1,4 @@
 //! Tests of the value of one field: texts, points, nodes, weights, tours, combs, steps of a tree.
-//! For the table of fields in `src/table.rt`.
 
 ghost use Rattle.std.specs.Prelude.{◌≡◌, ◌+◌, ◌-◌, ◌==◌, ◌||◌, not, ◌&&◌, cond, Some, None, length, slice_index, nat_le, map};
 ghost use Rattle.std.specs.List.{list_all, sum_by};

@@ -1,5 +1,4 @@
-//! Writes the canonical text of a file, field by field, by the files of `src/writer/`. For `tsp
-//! convert`, in `src/bound_run.rt` of tsp_judge.
+//! Writes the canonical text of a file, field by field, by the files of `src/writer/`.
 
 ghost use Rattle.std.specs.List.{flat_map};
 ghost use Rattle.std.specs.Option.{option_map};

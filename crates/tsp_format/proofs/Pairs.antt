@@ -1,5 +1,4 @@
--- The cells of a layout, as a list, are those of line 1, then those of line 2, and so on. For the law
--- `cells_go_line_by_line` in src/layout.rt.
+-- The pairs of a layout in the order of its cells, and words that are found in a list.
 use Rattle.std.proofs.Common.{◌≡◌, ℕ, Bool, List, [], ◌∷◌, ◌++◌, refl, ap, ◌∙◌, ◌≢◌, suc, zero, ◌+◌, ◌-◌, ◌<◌, true, false, cond, length, get_or, map, sym, subst, arith, min, ◌*◌, ◌/◌, ◌≤◌, Option, None, Some}
 use Rattle.std.proofs.lemmas.Bool.Decides.{nat_tests}
 use Rattle.std.proofs.lemmas.List.{length-map, get_or-map}

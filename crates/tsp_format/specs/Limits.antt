@@ -1,6 +1,4 @@
--- Which field the first word of a line names, or whether it is EOF, unknown or refused. For `Keyword::of`
--- (src/keyword.rt), and for Items.antt of tsp_text. Source: TSPLIB 95 (G. Reinelt); which words are refused, kept or
--- this project's own is its profile's choice.
+-- The limits of files, which field a line's first word names, and the shape of each section.
 use Rattle.std.specs.List.{find}
 use Rattle.std.specs.Prelude.{ℕ, Bool, true, false, cond, List, Option, None, Some, codes, is_some, ℤ, pos, neg_ℤ, ◌≤ℤ◌}
 use Rattle.std.specs.Str.{bytes_eq}

@@ -1,4 +1,4 @@
--- The nodes of a problem: the numbers 1 to n. For the contracts of every crate that speaks of nodes.
+-- The nodes 1 to n of a problem, and the cells of a layout of its matrix, in order.
 use Rattle.std.specs.List.{range_with_len, filter, flat_map}
 use Rattle.std.specs.Prelude.{ℕ, ◌≤◌, List, ◌+◌, ◌-◌, ◌*◌, ◌/◌, Bool, true, false, map, nat_lt, nat_le, if◌then◌else◌}
 use Rattle.tsp_format.specs.declared.layout.Layout.{Layout}

@@ -1,5 +1,4 @@
--- The place of a pair among the cells of a layout, and so of its weight in the list. For `place` (src/place.rt), and
--- for the cost that a file lists (Cost.antt of tsp_file).
+-- The place of a pair among the cells of a layout, and so of its weight in the list.
 use Rattle.std.specs.Prelude.{ℕ, ◌+◌, ◌-◌, ◌*◌, ◌/◌, Bool, ◌&&◌, ◌==◌, Option}
 use Rattle.std.specs.List.{position}
 use Rattle.tsp_format.specs.declared.layout.Layout.{Layout}

@@ -1,5 +1,4 @@
--- A range of whole numbers. For Valid.antt of tsp_file, for Bounds.antt of tsp_theory, and for the sums of
--- tsp_routing.
+-- The steps of a tree of cases, as BRANCH_SECTION lists them, and ranges of whole numbers.
 use Rattle.std.specs.Prelude.{ℤ, ◌≤ℤ◌, ℕ, zero, suc, ◌+◌, Bool, true, false, List, [], ◌∷◌, length}
 
 -- z is from `least` to `most`

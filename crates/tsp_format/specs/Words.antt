@@ -1,6 +1,5 @@
--- Which bytes are blanks, letters, and bytes of a keyword, by this project's profile of TSPLIB 95. For src/bytes.rt,
--- and for how a text is cut into lines and words (Items.antt and Items.antt of tsp_text). Five crates above import it
--- too.
+-- The words of TSPLIB 95 as values: bytes, layouts, kinds and weight types, which files are spatial, and which costs
+-- are symmetric.
 use Rattle.std.specs.List.{find}
 use Rattle.std.specs.Option.{option_map_or}
 use Rattle.std.specs.Prelude.{ℕ, Bool, not, ◌&&◌, ◌||◌, ◌==◌, nat_le, List, codes, true, false, Option, ◌≡◌, ◌≢◌, ◌<◌, ◌⊎◌, None, Some, ℤ, [], ◌∷◌, refl}

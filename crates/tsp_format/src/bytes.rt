@@ -1,5 +1,4 @@
-//! Which bytes are blanks, letters, and bytes of a keyword. For the line cutter of tsp_read, the
-//! word cutter of tsp_read, and the values that tsp_file judges.
+//! Which bytes are blanks, letters, and bytes of a keyword.
 
 ghost use Rattle.std.specs.Prelude.{◌≡◌};
 ghost use Rattle.tsp_format.specs.Words.{is_blank, is_letter, is_keyword_byte};

@@ -1,5 +1,4 @@
-//! Which field the first word of a line names, or whether it is EOF, unknown or refused. For
-//! `src/line.rt` of tsp_read and the lines that tsp_read reads.
+//! Which field the first word of a line names, or whether it is EOF, unknown or refused.
 
 ghost use Rattle.std.specs.List.{find};
 ghost use Rattle.std.specs.Prelude.{◌≡◌, pos};

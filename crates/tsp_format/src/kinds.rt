@@ -1,5 +1,5 @@
 //! The accepted values of TYPE, EDGE_WEIGHT_TYPE, EDGE_WEIGHT_FORMAT, NODE_COORD_TYPE and
-//! DISPLAY_DATA_TYPE, as enums. For the fields of `Draft` in tsp_file.
+//! DISPLAY_DATA_TYPE, as enums.
 
 ghost use Rattle.std.specs.Prelude.{◌≡◌};
 ghost use Rattle.tsp_format.specs.Words.{weighs_three, is_spatial, kind_word, weight_kind_word, weight_format_word, coord_kind_word, display_kind_word, kinds, weight_kinds, weight_formats, coord_kinds, display_kinds, kind_found, weight_kind_found, weight_format_found, coord_kind_found, display_kind_found};

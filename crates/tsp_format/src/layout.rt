@@ -1,5 +1,4 @@
-//! The layouts of a matrix of weights, as G. Reinelt's TSPLIB 95 names them, and their cells. For
-//! `ListedWeights` of tsp_file and the matrices of tsp_cost.
+//! The layouts of a matrix of weights, as G. Reinelt's TSPLIB 95 names them, and their cells.
 
 ghost use Rattle.std.specs.Prelude.{◌≡◌, ◌≢◌, ℕ, ◌≤◌, ◌↔◌, IsTrue, IsNone, length};
 ghost use Rattle.std.specs.List.{Contains, AllPairs, flat_map};

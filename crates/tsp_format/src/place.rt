@@ -1,5 +1,4 @@
-//! The place of a cell in the list of its layout, by arithmetic. For `src/typed.rt` of tsp_file
-//! and the matrices of tsp_cost.
+//! The place of a cell in the list of its layout, by arithmetic.
 
 ghost use Rattle.std.specs.Prelude.{◌≡◌, ◌<◌, ◌≤◌, ◌^◌, ◌+◌, ◌*◌, Some, None, ℕ, IsTrue, length, slice_index_or};
 ghost use Rattle.std.specs.List.{Contains};

@@ -1,5 +1,4 @@
-//! The steps of a tree of cases, branches and leaves, as BRANCH_SECTION lists them. For `Draft` of
-//! tsp_file and the pass of tsp_cases over the leaves.
+//! The steps of a tree of cases, branches and leaves, as BRANCH_SECTION lists them.
 
 /// A step of a tree of cases. The steps come one after another, each for the first open case.
 #[derive(Debug, Drop)]

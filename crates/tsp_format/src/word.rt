@@ -1,5 +1,5 @@
 //! The trait of values that TSPLIB 95 has a word for, and `value_of`, which finds the value of a
-//! word. For the keywords and their values in tsp_read.
+//! word.
 
 ghost use Rattle.std.specs.Prelude.{◌≡◌, ◌≢◌, ℕ, List, ◌↔◌, IsNone, Some};
 ghost use Rattle.std.specs.List.{find};

@@ -1,5 +1,4 @@
--- A text that is written part by part: each part is in the buffer or with the writer, until the writer fails.
--- tsp_report and tsp_file import it too. For `put` in src/piece.rt and others.
+-- Texts that are carried to a writer part by part, and what the writer has taken.
 use Rattle.std.proofs.Common.{◌≡◌, ℕ, ◌+◌, Bool, true, false, List, [], ◌∷◌, ◌++◌, length, take, drop, Option, refl, sym, ap, subst, ◌∙◌, append_assoc, append-nil, arith, ◌<◌, ◌≤◌, get_or, map, ◌==◌}
 use Rattle.std.proofs.KnownBytes.{Appends-nil, Appends-trans, Appends-kept}
 use Rattle.std.proofs.Math.Seq.{take-append_seam}

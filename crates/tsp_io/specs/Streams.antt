@@ -1,5 +1,4 @@
--- A reader before and after a call: the bytes that it delivered, and whether it failed. For every call that reads:
--- `read_from` of tsp_read, and the runs of tsp_judge.
+-- A reader and a writer before and after a call: the bytes that were delivered or taken, and whether it failed.
 use Rattle.std.specs.Io.KnownBytes.{Keeps, Consumes, Appends}
 use Rattle.std.specs.Prelude.{◌≡◌, ℕ, ◌≤◌, Bool, true, false, List, length, Option, IfSome, take, Result, Ok, Err, codes}
 use Rattle.tsp_io.specs.declared.piece.WriteFault.{WriteFault}

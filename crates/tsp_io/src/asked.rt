@@ -1,5 +1,5 @@
 //! The traits of a reader and of a writer that is called once. A contract over them says that the
-//! reader was asked once and its result returned. For `Watched` and the readers of tsp_judge.
+//! reader was asked once and its result returned.
 
 ghost use Rattle.std.specs.Prelude.{ℕ, List, Result, ⊤};
 ghost use Rattle.std.specs.Io.{ReadsAtMost, WritesAtMost};

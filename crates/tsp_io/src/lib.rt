@@ -1,7 +1,8 @@
-//! Readers and writers that remember a failure, and calls that write a text to such a writer.
+//! Readers and writers that remember a failure, and calls that take memory.
 //!
-//! It knows nothing of TSPLIB. A [`Watched`] value that has failed isn't asked again by the calls
-//! of the crates above. There is no retry: an interrupted call has failed too.
+//! It knows nothing of TSPLIB. A [`Watched`] value that has failed isn't asked again by the crates
+//! above, and an interrupted call counts as failed. Only the calls here make the token [`Refused`],
+//! so a function whose error it is can't claim to be out of memory on its own.
 //!
 //! ```text
 //! let mut out = Watched::new(writer);

@@ -1,5 +1,4 @@
-//! The call that adds a key to an ordered set, or returns `Refused`. For `src/certificate.rt`
-//! and `src/potentials_certificate.rt` of tsp_verdict.
+//! The call that adds a key to an ordered set, or returns `Refused`.
 
 ghost use Rattle.std.specs.Prelude.{◌≡◌, true, not, IfOk, OnOk};
 ghost use Rattle.std.specs.BTreeSet.{contains, Updates};

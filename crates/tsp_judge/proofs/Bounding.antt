@@ -1,5 +1,4 @@
--- How a run that bounds the solutions of an instance ends: at a file with a fault, with a reason, or with a bound. For
--- `bound_read` and `run_bound` in src/bound_run.rt.
+-- Runs of `tsp bound`, `show` and `convert`, and instances that are open.
 use Rattle.std.proofs.Common.{◌≡◌, ◌∙◌, length, Some, sym, Bool, true, false, Result, Ok, Err, refl, subst, inl, inr, Option, None, ℕ, List}
 use Rattle.std.proofs.lemmas.Bool.{false≢true}
 use Rattle.std.specs.Prelude.{IsTrue, ℤ}

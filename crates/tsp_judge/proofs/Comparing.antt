@@ -1,5 +1,4 @@
--- How a comparison ends: with its head and the line of each solution, or with a prefix of them where the writer fails.
--- For `compare_all` in src/compared.rt and others.
+-- What a comparison has written after each solution, and what its lines mean.
 use Rattle.std.proofs.Common.{◌≡◌, ◌||◌, ℕ, suc, ◌+◌, ◌<◌, ◌≤◌, List, [], ◌∷◌, ◌++◌, length, take, Option, true, false, Bool, refl, sym, ap, subst, ◌∙◌, append_assoc, append-nil, arith, inl, inr, add-one, ◌⊎◌}
 use Rattle.std.proofs.KnownBytes.{Appends-nil, Appends-trans, Appends-kept}
 use Rattle.std.proofs.lemmas.Bool.{false≢true}

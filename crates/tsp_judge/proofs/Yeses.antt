@@ -1,4 +1,4 @@
--- A result that is both `Ok a` and `Ok b` has one value. For `run` in src/check.rt and others.
+-- What a run that ends with `yes` means for the files that it has read.
 use Rattle.std.proofs.Common.{◌≡◌, Result, Ok, ℕ, [], length, Bool, true, false, Option, Some, None, Err, refl, sym, subst, inl, inr, arith, ◌≢◌, ◌<◌, eqb, List, ◌∷◌, ap, ◌∙◌}
 use Rattle.std.proofs.lemmas.Bool.{false≢true, cases_lt}
 use Rattle.std.proofs.lemmas.Bool.Decides.{eqb_tells}

@@ -1,6 +1,5 @@
--- The six meanings of the line `yes`, over the files that were read and the report that was printed. For ConvertRun.antt and
--- CheckRun.antt, which relate them to the bytes of readers, for Texts.antt of tsp_c, and for the law
--- `verdicts_mean_reports` (src/laws.rt).
+-- The six meanings of the line `yes`, over the files that were read and the report that was printed, and the meaning of
+-- `optimal` in a comparison.
 use Rattle.std.specs.Prelude.{◌≡◌, ◌⊎◌, ℕ, ◌≤◌, List, [], ◌∷◌, length, Option, None, Some, ℤ, ◌≤ℤ◌}
 use Rattle.tsp_format.specs.Nodes.{nodes_to}
 use Rattle.tsp_format.specs.declared.kinds.Kind.{Kind}

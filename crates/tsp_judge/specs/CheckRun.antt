@@ -1,5 +1,4 @@
--- The text of each fault of a run, which goes to standard error. For `RunFault` (src/run_status.rt), `tell_fault`
--- (src/ends.rt of tsp_cli), and the fault lines of tsp_c.
+-- Runs of `tsp check` and `tsp bound`: the files that are read, the verdict, the report and the exit status.
 use Rattle.std.specs.Prelude.{ℕ, List, ◌++◌, codes, decimal, Bool, true, false, Result, Ok, Err, ◌≡◌, ◌⊎◌, Option, None, Some, IsTrue, ℤ, []}
 use Rattle.tsp_io.specs.Streams.{write_fault_text, Turn, IsUnread, Sink, IsUnwritten, HasWritten, HasStopped}
 use Rattle.tsp_io.specs.declared.piece.WriteFault.TheVariants as write_faults

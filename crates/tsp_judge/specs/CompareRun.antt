@@ -1,6 +1,5 @@
 -- A run of `tsp compare`: an instance and a certificate that are read once, solutions that are opened, judged and
--- dropped one by one, the lines that were written, and the result. For `run_compare` (src/compared.rt) and `find`
--- (src/compared.rt).
+-- reported one after the other, and the lines that a follower gets.
 use Rattle.std.specs.Prelude.{◌≡◌, ◌≢◌, ◌⊎◌, ℕ, suc, ◌<◌, ◌≤◌, max, Bool, true, false, List, [], ◌∷◌, ◌++◌, length, Option, None, Some, Result, Ok, Err, IsTrue, slice_index_or, zero, ◌-◌}
 use Rattle.std.specs.declared.io.Error.{Error}
 use Rattle.tsp_io.specs.Streams.{Turn, Sink, IsUnwritten, HasWritten, HasStopped}

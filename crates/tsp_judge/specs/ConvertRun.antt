@@ -1,5 +1,4 @@
--- A run of `tsp show`: the bytes that its reader delivered, the lines that were written, and the result. For `run_show`
--- (src/asked_runs.rt) and `show_file` (src/bound_run.rt).
+-- Runs of `tsp show` and `tsp convert`, the meaning of `yes` over bytes, and a task done on its readers.
 use Rattle.std.specs.Prelude.{◌≡◌, Result, Ok, Err, Option, None, Some, ℕ, Bool, true, false, List, [], ℤ}
 use Rattle.std.specs.declared.io.Error.{Error}
 use Rattle.tsp_io.specs.Streams.{Turn, Sink, IsUnwritten, HasWritten, HasStopped, TakesAtMost}

@@ -1,5 +1,5 @@
 -- An instance that stays open between calls, and the results of opening it, binding a certificate to it, and judging a
--- solution, over the bytes of texts. For `Opened` (src/opened.rt), and so for the handles of tsp_c.
+-- solution, over the bytes of texts.
 use Rattle.std.specs.Prelude.{◌≡◌, ℕ, false, List, Option, None, Some, Result, Ok, Err, IsTrue, ℤ}
 use Rattle.tsp_file.specs.Fields.{Fields}
 use Rattle.tsp_file.specs.Rules.{is_instance}

@@ -1,5 +1,5 @@
 //! The run of `tsp bound`, from the bytes read to the bytes written: a bound on the tours of an
-//! instance, without a solution. For `src/explanation.rt` of tsp_judge and `src/picked_runs.rt` of tsp_c.
+//! instance, without a solution.
 
 ghost use Rattle.tsp_io.specs.Streams.{Turn, TakesAtMost};
 ghost use Rattle.tsp_io.specs.states.Watched.{sink_of, turn_of};

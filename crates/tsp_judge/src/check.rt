@@ -1,5 +1,5 @@
 //! The run of `tsp check`, from the bytes read to the bytes written: the files are read, then
-//! judged. For `src/explanation.rt` of tsp_judge and `src/picked_runs.rt` of tsp_c.
+//! judged.
 
 ghost use Rattle.std.specs.Prelude.{◌≡◌, None, option_map};
 ghost use Rattle.tsp_io.specs.Streams.{Turn, IsUnread, TakesAtMost};

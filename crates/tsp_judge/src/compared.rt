@@ -1,5 +1,5 @@
 //! The run of `tsp compare`, from the bytes read to the bytes written: each solution is read,
-//! judged, and dropped. For `src/explanation.rt` of tsp_judge.
+//! judged, and dropped.
 
 ghost use Rattle.std.specs.Prelude.{◌≡◌, ◌<◌, max, false, true, [], length, None, MatchResult, ℕ, List, slice_index_or};
 ghost use Rattle.tsp_io.specs.Streams.{Turn, IsUnread, TakesAtMost};

@@ -1,5 +1,4 @@
-//! Explains the outcome or the fault of a task to a person, by the names of its files. For
-//! `src/explained.rt` of tsp_cli and `src/explain.rt` of tsp_c.
+//! Explains the outcome or the fault of a task to a person, by the names of its files.
 
 ghost use Rattle.std.specs.Io.{StartsWith};
 ghost use Rattle.std.specs.Prelude.{◌≡◌, length};

@@ -1,7 +1,8 @@
 //! The calls behind the verbs of the program, from readers to a writer.
 //!
 //! A check reads an instance, a solution and a certificate, and writes a report. Its contract says
-//! what the line `yes` means. It opens no files, and knows no command line: that is tsp_cli's.
+//! what the line `yes` means. [`perform`] does a task by the call of its verb. It opens no files,
+//! and knows no command line: that is tsp_cli's.
 //!
 //! As example_check does it, with two texts in memory:
 //!

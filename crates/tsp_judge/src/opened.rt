@@ -1,5 +1,4 @@
-//! An instance that stays open between calls, with the certificate that is bound to it, if any. For
-//! the handles of tsp_c, in `src/handle_calls.rt` there.
+//! An instance that stays open between calls, with the certificate that is bound to it, if any.
 
 ghost use Rattle.tsp_judge.specs.Open.{ReadsText};
 

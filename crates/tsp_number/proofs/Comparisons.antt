@@ -1,5 +1,4 @@
--- The three distances of space: each is one number, symmetric, 0 between equal points and never long. For the law
--- `distance_laws` in src/laws.rt and others.
+-- Distances in space, distances that are at least a number, and distances that don't shrink.
 use Rattle.std.proofs.Common.{◌≡◌, ℕ, ◌+◌, ◌*◌, ◌<◌, ◌≤◌, ◌^◌, nat_lt, refl, sym, ap, arith, ◌-◌, max}
 use Rattle.tsp_number.proofs.Distances.{squared-le, rounded, rounded_square, rounded_apart, rounded_square_apart, rounded-most, rounded_square-most, only_one, unsigned_abs-self, unsigned_abs-sub, unsigned_abs-most, dx-comm, dy-comm, euc_2d_laws, ceil_2d_laws, att_laws, covered_apart, man_2d_laws, max_2d_laws}
 use Rattle.tsp_number.specs.Decimal.{unit, most_count}

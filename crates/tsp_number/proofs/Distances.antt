@@ -1,5 +1,4 @@
--- Whole-number tests on squares give the rounded roots of the distances, in 64 and 128 bits. For `straight` in
--- src/distance.rt and others.
+-- Rounded roots, and that each distance is the one number with its inequalities.
 use Rattle.std.proofs.Common.{◌≡◌, ℕ, ◌+◌, ◌*◌, ◌-◌, ◌<◌, ◌≤◌, ◌^◌, ℤ, pos, negsuc, ◌*ℤ◌, ◌-ℤ◌, unsigned_abs, w64, Bool, true, false, nat_lt, zero, suc, refl, inl, inr, ap, ◌∙◌, FitsSigned, to_z, of_z, rules, arith, neg_ℤ, ◌+ℤ◌, ◌≤ℤ◌, nat_le, if◌then◌else◌, max, sym}
 use Rattle.std.proofs.lemmas.Bool.{cases_lt}
 use Rattle.std.proofs.lemmas.Bool.Decides.{nat_tests}

@@ -1,4 +1,4 @@
--- Eight bytes in the lanes of a vector, and how many of them are digits before another. For `count_in` in src/word.rt.
+-- Eight digits at once, as lanes of a 64-bit word.
 use Rattle.std.proofs.Common.{◌≡◌, ℕ, ◌+◌, ◌-◌, ◌%◌, ◌^◌, ◌<◌, leb, Bool, not, cond, List, [], ◌∷◌, map, length, replicate, Fits, w8, refl, arith, ap, sym, ◌∙◌, zero, suc, ◌*◌, ◌/◌, ◌≤◌, true, false, ◌++◌, take, drop, get_or, subst, bit_and, w64, length-append, take-append-drop, pow-add}
 use Rattle.std.proofs.Math.Nat.{pow-suc, pow-zero, add-mul-mod_self_left, mod-eq_of_lt, mul-lt-mul_of_pos_right, mul-le-mul_left, one-le-pow}
 use Rattle.std.proofs.lemmas.Bool.{agree_below_at}

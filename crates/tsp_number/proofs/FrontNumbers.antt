@@ -1,5 +1,4 @@
--- How many elements pass a test from the beginning of a list on, one more at a time. For `single_digits` in
--- src/word.rt.
+-- The number word at the beginning of some bytes, digit by digit.
 use Rattle.std.proofs.Common.{◌≡◌, ℕ, zero, suc, ◌+◌, ◌<◌, ◌≤◌, Bool, true, false, cond, List, [], ◌∷◌, length, take, drop, ap, arith, ◌*◌, ◌-◌, ◌^◌, ◌≢◌, None, Some, ◌++◌, ℤ, pos, ◌*ℤ◌, ◌≤ℤ◌, ◌<ℤ◌, ◌⊎◌, Ok, Err, unsigned_abs, inl, inr, ⊎_elim, refl, sym, ◌∙◌, subst, pow-add, add-one, append_assoc, append-nil, length-drop}
 use Rattle.std.proofs.Math.Nat.{pow-suc, pow-le-pow_right, mul-le-mul}
 use Rattle.std.proofs.Math.Seq.{take-add, take-suc, take-length}

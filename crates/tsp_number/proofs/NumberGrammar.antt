@@ -1,5 +1,4 @@
--- A number word is written in one way by its grammar: with the sign, digits, point and exponent that are found from the
--- left. For `any_whole` in src/word.rt and others.
+-- The grammar of number words, read from the left.
 use Rattle.std.proofs.Common.{◌≡◌, ◌≢◌, ℕ, ◌+◌, ◌<◌, Bool, true, false, ◌==◌, ◌||◌, ◌&&◌, List, [], ◌∷◌, ◌++◌, length, Option, Some, None, ℤ, ◌⊎◌, inl, inr, refl, arith, ap, sym, ◌∙◌, subst, append-nil, nat_lt, if◌then◌else◌, ◌*◌, ◌^◌, ◌≤◌, pos, negsuc, ◌+ℤ◌, ◌*ℤ◌, suc, zero, unsigned_abs, pow-add, FitsSigned, w64, ◌<ℤ◌}
 use Rattle.std.proofs.Math.Nat.{mul-le-mul, eq_of_mul-eq-mul_right}
 use Rattle.std.proofs.lemmas.Bool.{cases_eq}

@@ -1,5 +1,4 @@
--- A number shifted by decimal places: zeros added to it, or digits dropped, all of them zeros or not. For
--- `drop_long_zeros` in src/shift.rt and others.
+-- The digits of a number word, moved by its exponent, and found by one scan.
 use Rattle.std.proofs.Common.{◌≡◌, ℕ, ◌+◌, ◌*◌, ◌<◌, ◌≤◌, List, [], ◌∷◌, ◌++◌, length, take, drop, Option, Some, None, ℤ, refl, arith, true, false, Bool, suc, ◌==◌, ◌||◌, length-append, ap, ◌∙◌, if◌then◌else◌, nat_lt, ◌≢◌, ◌-◌, ◌^◌, ◌/◌, ◌%◌, ◌&&◌, append_assoc, length-drop, take-append-drop, pos, negsuc, ◌+ℤ◌, ◌-ℤ◌, ◌≤ℤ◌, ◌⊎◌, inl, inr, sym, zero, subst}
 use Rattle.std.proofs.Math.Nat.{pow-le-pow_right, pow-suc, mul-le-mul, mul-mod_left, one-le-pow}
 use Rattle.std.proofs.lemmas.Bool.{cases_eq, cases_lt}

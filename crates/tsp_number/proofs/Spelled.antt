@@ -1,5 +1,4 @@
--- The decimals of a fraction, digit by digit and in groups of three, without zeros at the end. For `write_decimals` in
--- src/spelling.rt and others.
+-- The text of a decimal: its digits in pairs, without zeros that aren't needed, reads back as the decimal.
 use Rattle.std.proofs.Common.{◌≡◌, ℕ, ◌+◌, ◌*◌, ◌/◌, ◌%◌, ◌^◌, ◌<◌, ◌≤◌, [], ◌∷◌, ◌++◌, ◌==◌, ◌≢◌, inl, inr, false, zero, suc, refl, sym, ap, ◌∙◌, arith, pow-add, length, ◌-◌, Bool, true, List, Result, Ok, ℤ, pos, negsuc, subst, unsigned_abs, append-nil, length-append, ◌&&◌, T, eqb, get_or, eqb→eq}
 use Rattle.std.proofs.Math.Nat.{pow-suc, div-div-eq-div-mul, add-mul-mod_self_right, add-mul-div_right, mod-eq_of_lt, div-one, mul-div-mul_right, mod-le, zero-mod}
 use Rattle.std.proofs.lemmas.Bool.{cases_eq, cases_lt}

@@ -1,5 +1,4 @@
--- The scale of decimals: a number is a whole count of 10^-9. For `Decimal` (src/decimal.rt), the distances
--- (Distances.antt), and the number words of tsp_number.
+-- The scale of decimals: a number is a whole count of 10^-9.
 use Rattle.std.specs.Prelude.{ℕ}
 
 -- the count of the number 1

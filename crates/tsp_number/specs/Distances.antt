@@ -1,6 +1,5 @@
--- The eight distances of TSPLIB 95 (Reinelt), each as the one whole number with its inequalities. For src/distance.rt
--- and src/space.rt. Coordinates are counts of 10^-9. Both sides are multiplied out, so that no root and no quotient
--- occurs. Seven crates above import it too.
+-- The eight distances of TSPLIB 95 (Reinelt), each as the one whole number with its inequalities, and which of them
+-- grow as points move apart.
 use Rattle.std.specs.Prelude.{◌≡◌, ℕ, zero, suc, Bool, nat_lt, nat_le, if◌then◌else◌, ◌+◌, ◌-◌, ◌*◌, ◌<◌, ◌≤◌, ◌-ℤ◌, unsigned_abs, max, ℤ, pos}
 use Rattle.tsp_number.specs.Decimal.{unit, most_count}
 use Rattle.tsp_number.specs.declared.decimal.Point.{Point}

@@ -1,5 +1,4 @@
--- Points with round coordinates, and the distances from one to another. For the laws of src/examples.rt, which state
--- distances worked out by hand.
+-- Points with round coordinates, and the distances from one to another.
 use Rattle.std.specs.Prelude.{ℕ, ℤ, pos, negsuc, ◌*ℤ◌, ◌≡◌, List, Ok, Err}
 use Rattle.tsp_number.specs.Distances.{on_plane}
 use Rattle.tsp_number.specs.NumberWord.{decimal_of, whole_of, spelling}

@@ -1,5 +1,5 @@
--- Number words by the grammar of decimal notation, and the number that a word means, or its fault. For `parse_decimal`
--- and `parse_whole` (src/word.rt). Reading.antt has the same as functions.
+-- Number words by the grammar of decimal notation: the number that a word means or its fault, and the one way in which
+-- a decimal is spelled.
 use Rattle.std.specs.Char.{is_ascii_digit}
 use Rattle.std.specs.Fmt.{decimal}
 use Rattle.std.specs.Option.{option_map}

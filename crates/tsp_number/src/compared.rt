@@ -1,5 +1,4 @@
-//! Whether a distance is at least a number, decided by squares, without a root. For `is_at_least`
-//! in `src/metric.rt` of tsp_cost, by which a search leaves out pairs that are too far apart.
+//! Whether a distance is at least a number, decided by squares, without a root.
 
 ghost use Rattle.std.specs.Prelude.{◌≤ℤ◌, ◌↔◌, ℕ, IsTrue, pos};
 ghost use Rattle.tsp_number.specs.Distances.{square_apart, euc_2d_of, ceil_2d_of, att_of, euc_3d_of};

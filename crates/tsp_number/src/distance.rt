@@ -1,5 +1,4 @@
-//! The five distances of TSPLIB 95 between points in the plane. For `src/metric.rt` of tsp_cost and
-//! `src/distance_call.rt` of tsp_c.
+//! The five distances of TSPLIB 95 between points in the plane.
 
 ghost use Rattle.std.specs.Prelude.{◌≡◌, pos, ◌≤ℤ◌, ◌<◌, ◌≤◌, ◌-ℤ◌, ◌+◌, ◌-◌, ◌*◌, ◌^◌, unsigned_abs};
 ghost use Rattle.tsp_number.specs.Decimal.{unit};

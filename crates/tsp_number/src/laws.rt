@@ -1,5 +1,4 @@
-//! A law: each distance has one value, is symmetric and bounded. For `src/points.rt` and
-//! `src/metric.rt` of tsp_cost.
+//! A law: each distance has one value, is symmetric and bounded.
 
 ghost use Rattle.std.specs.Prelude.{◌≡◌, ◌≤◌, ℕ, ℤ, List, Result, Ok, unsigned_abs};
 ghost use Rattle.tsp_number.specs.Decimal.{most_count};

@@ -1,7 +1,15 @@
-//! Numbers: decimals, points and their distances; number words, and the text of a decimal.
+//! Decimals and points, the distances of TSPLIB 95 between them, and number words.
 //!
-//! Distances are exact whole numbers over the decimals as written. A number word is read to a whole
-//! number or a decimal, or refused with a named fault; a decimal is spelled in one way.
+//! A [`Decimal`] has at most nine places after the point and is kept as a count of 10^-9, so the
+//! eight distances are exact over the decimals as written. A number word is read as a whole number
+//! or a decimal, or refused with a named fault, and a decimal is spelled in one way. No call takes
+//! memory.
+//!
+//! ```text
+//! let x = parse_decimal(b"1.50e+01")?;
+//! let n = parse_whole(b"12.0", 1, 100_000)?;
+//! let length = euc_2d(from, to);
+//! ```
 #![tactic(auto)]
 
 mod compared;

@@ -1,5 +1,4 @@
-//! A law: points no farther apart along each axis are no farther apart by any distance. For
-//! `src/points.rt` of tsp_cost, which compares a point with a box of points.
+//! A law: points no farther apart along each axis are no farther apart by any distance.
 
 ghost use Rattle.tsp_number.specs.Distances.{euc_2d_of, ceil_2d_of, man_2d_of, max_2d_of, att_of, euc_3d_of, man_3d_of, max_3d_of, IsMonotone};
 

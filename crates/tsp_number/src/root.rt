@@ -1,5 +1,4 @@
-//! Roots of squares of distances, rounded to whole numbers exactly. For `src/distance.rt`,
-//! `src/space.rt` and `src/compared.rt`.
+//! Roots of squares of distances, rounded to whole numbers exactly.
 
 ghost use Rattle.std.specs.Prelude.{◌≡◌, ◌+◌, ◌-◌, ◌*◌, ◌<◌, ◌≤◌, ◌≤ℤ◌, ◌^◌, ◌↔◌, ℕ, IsTrue, pos, unsigned_abs};
 ghost use Rattle.std.specs.Bool.{OnTrue};

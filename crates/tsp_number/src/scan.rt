@@ -1,5 +1,4 @@
-//! The sign, digits, point and exponent of a number word, found from the left. For `src/word.rt`
-//! and `src/shift.rt`.
+//! The sign, digits, point and exponent of a number word, found from the left.
 
 ghost use Rattle.std.specs.Prelude.{◌≡◌, ◌+◌, ◌<◌, ◌≤◌, length, MatchOption, ℕ, None, Some};
 ghost use Rattle.std.specs.Option.{option_map};

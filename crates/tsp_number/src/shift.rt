@@ -1,4 +1,4 @@
-//! The digits of a number word, shifted by its exponent. For `src/word.rt` and `src/word.rt`.
+//! The digits of a number word, shifted by its exponent.
 
 ghost use Rattle.std.specs.Prelude.{◌≡◌, ◌+◌, ◌*◌, ◌^◌, ◌<◌, ◌≤◌, ◌++◌, length, ◌==◌, pos, ◌+ℤ◌, ◌-ℤ◌};
 ghost use Rattle.std.specs.List.{list_all};

@@ -1,5 +1,4 @@
-//! The three distances of TSPLIB 95 between points in space. For `src/metric.rt` of tsp_cost and
-//! `src/distance_call.rt` of tsp_c.
+//! The three distances of TSPLIB 95 between points in space.
 
 ghost use Rattle.std.specs.Prelude.{◌≡◌, pos, ◌≤ℤ◌, unsigned_abs};
 ghost use Rattle.tsp_number.specs.Distances.{IsEuc3d, IsMan3d, IsMax3d, euc_3d_of, man_3d_of, max_3d_of};

@@ -1,5 +1,4 @@
-//! The text of a decimal, written into a block of bytes from the last byte to the first. For the
-//! points that `src/writer/sections.rt` of tsp_file writes.
+//! The text of a decimal, written into a block of bytes from the last byte to the first.
 
 ghost use Rattle.std.specs.Prelude.{◌≡◌, ◌+◌, ◌<◌, ◌≤◌, ◌++◌, length, drop, ◌-◌, ◌/◌, ◌%◌, ◌∷◌};
 ghost use Rattle.tsp_number.specs.Decimal.{unit, most_count};

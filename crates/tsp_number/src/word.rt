@@ -1,5 +1,4 @@
-//! Number words, read as decimals and as whole numbers. For the sections and keywords that
-//! tsp_read reads.
+//! Number words, read as decimals and as whole numbers.
 
 ghost use Rattle.std.specs.Char.{is_ascii_digit};
 ghost use Rattle.std.specs.Int.{to_le_bytes, w64};

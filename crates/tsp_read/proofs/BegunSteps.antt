@@ -1,5 +1,4 @@
--- The error that `?` propagates is the one of the call before it. tsp_judge and tsp_c import it too. For `feed_all` in
--- src/asked_reads.rt and others.
+-- A line or word that begins in one piece of a text and ends in a later one.
 use Rattle.std.proofs.Common.{◌≡◌, ap, Result, Ok, Err, ℕ, ◌+◌, ◌<◌, ◌≤◌, Bool, true, false, List, [], ◌∷◌, ◌++◌, length, refl, sym, subst, ◌∙◌, arith, append-nil, append_assoc, length-append}
 use Rattle.std.proofs.lemmas.Bool.{true≢false, false≢true, ltb-false, lt-ltb, le-ltb, eqb-true}
 use Rattle.std.proofs.lemmas.List.{nil_from_length}

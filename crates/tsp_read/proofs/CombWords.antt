@@ -1,5 +1,4 @@
--- Combs as they are written: each word is taken at its place, and they are read back. For the law
--- `canonical_texts_are_read_back` in src/round_trip.rt.
+-- Families and steps of trees as they are written are read back.
 use Rattle.std.proofs.Common.{◌≡◌, ℕ, suc, ◌+◌, ◌^◌, ◌<◌, ◌≤◌, Bool, true, false, cond, List, [], ◌∷◌, ◌++◌, length, map, refl, sym, ap, subst, ◌∙◌, append_assoc, append-nil, arith, None, Result}
 use Rattle.std.proofs.lemmas.Bool.{and_parts, and_left, and_right, leb-true, not_from_true, false≢true, and_from}
 use Rattle.std.proofs.lemmas.List.{length-append}

@@ -1,5 +1,4 @@
--- One word more of a by-node section with a point for each node, of the plane or in space. For `PointList::push` in
--- src/by_node.rt and others.
+-- Coordinates by node, one word more.
 use Rattle.std.proofs.Common.{◌≡◌, ℕ, ◌+◌, ◌-◌, ◌<◌, Bool, true, false, List, [], ◌∷◌, ◌++◌, length, map, set, refl, sym, ap, ap₂, subst, ◌∙◌, Option, None, Some, Ok, Err, arith}
 use Rattle.std.proofs.lemmas.Bool.{false≢true}
 use Rattle.std.specs.Prelude.{ℤ, ◌==◌, nat_lt, replicate}

@@ -1,5 +1,4 @@
--- A file that is read in pieces: the stage of the feed after one piece more, and the answer that is settled by then.
--- For `Feed::take` in src/feed.rt and others.
+-- One piece more of a text, and its last line and word.
 use Rattle.std.proofs.Common.{◌≡◌, ℕ, ◌+◌, ◌-◌, ◌≤◌, ◌<◌, Bool, true, false, List, [], ◌∷◌, ◌++◌, length, take, reverse, refl, sym, ap, subst, ◌∙◌, arith, Option, Some, None, Result, Ok, Err, append-nil, append_assoc, length-append, drop, take-append-drop}
 use Rattle.std.proofs.Math.Logic.{∥∥₁_map}
 use Rattle.std.proofs.Math.Seq.{take-append-add}

@@ -1,5 +1,4 @@
--- One word more of a by-node section: a group of a node and the words of its value for each node. For
--- `NumberList::push` in src/by_node.rt and others.
+-- One word more of a by-node section: a group of a node and the words of its value for each node.
 use Rattle.std.proofs.Common.{◌≡◌, ℕ, zero, suc, ◌+◌, ◌-◌, ◌*◌, ◌<◌, ◌≤◌, Bool, true, false, List, [], ◌∷◌, ◌++◌, length, map, set, get_or, refl, sym, ap, subst, ◌∙◌, Option, None, Some, Ok, Err, arith}
 use Rattle.std.specs.Prelude.{ℤ, pos, ◌==◌, nat_lt, replicate}
 use Rattle.std.specs.Option.{option_map}

@@ -1,5 +1,4 @@
--- By-node sections as they are written: each word is taken at its place, and they are read back. For the law
--- `canonical_texts_are_read_back` in src/round_trip.rt.
+-- Sections by node as they are written are read back.
 use Rattle.std.proofs.Common.{◌≡◌, ℕ, suc, zero, ◌+◌, ◌*◌, ◌^◌, ◌<◌, ◌≤◌, Bool, true, false, cond, List, [], ◌∷◌, ◌++◌, length, map, refl, sym, ap, ◌∙◌, arith, Some, None, Result, ap₂, Ok}
 use Rattle.std.proofs.lemmas.Bool.{and_from, and_parts, le-leb, lt-leb, or_from, ne_eqb, false_from_ne_true}
 use Rattle.std.proofs.lemmas.Bool.Decides.{Decides-int_eq}

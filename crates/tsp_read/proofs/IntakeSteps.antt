@@ -1,5 +1,4 @@
--- The items of a piece, taken one after the other: one item more, and the stop at a fault or an end line. For
--- `Intake::take_items` and `Intake::long_word` in src/items.rt.
+-- Items that are taken from a piece one after the other, and line ends.
 use Rattle.std.proofs.Common.{◌≡◌, ℕ, Bool, true, false, List, [], ◌∷◌, ◌++◌, reverse, refl, sym, ap, subst, ◌∙◌, Option, Some, None, Ok, Err, append-nil, append_assoc}
 use Rattle.std.proofs.lemmas.Bool.{true≢false, false≢true, eqb-true}
 use Rattle.std.proofs.lemmas.List.{reverse-append}

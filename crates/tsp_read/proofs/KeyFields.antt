@@ -1,5 +1,4 @@
--- The lines of keywords, as they are written. Where the field is valid, its line has no fault, and its value is read
--- back. For the law `canonical_texts_are_read_back` in src/round_trip.rt.
+-- The lines of keywords as they are written are read back, field by field.
 use Rattle.std.proofs.Common.{◌≡◌, ℕ, ◌-◌, ◌^◌, ◌<◌, ◌≤◌, Bool, true, false, cond, List, [], ◌∷◌, ◌++◌, length, refl, sym, ap, ◌∙◌, arith, Option, Some, None, Result, reverse, take, append-nil}
 use Rattle.std.proofs.lemmas.Bool.{false≢true, true≢false, and_parts, leb-true, not-true, false_from_ne_true, le-ltb}
 use Rattle.std.proofs.lemmas.List.{reverse-append}

@@ -1,5 +1,4 @@
--- A statement of every keyword, from one proof of it for each keyword: NAME, TYPE and so on. For `Reading::known` in
--- src/reading.rt.
+-- A keyword's line sets its field, or is the first fault.
 use Rattle.std.proofs.Common.{◌≡◌, ◌≢◌, Bool, refl, subst, Some, None, cond, ℕ, true, false, List, ◌∷◌, set, get_or, sym, ap, ◌∙◌, Option, Result, Ok, Err}
 use Rattle.std.specs.List.{find}
 use Rattle.std.specs.Prelude.{ℤ, pos, nat_abs, nat_lt, is_some, is_none, not, ◌&&◌}

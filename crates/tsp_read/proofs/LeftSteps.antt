@@ -1,5 +1,4 @@
--- The items of the rest of a text, by what it begins with: a blank, a line's end, a word line or a word. For
--- `Begun::join` in src/items.rt and others.
+-- The items of the rest of a text, by what it begins with: a blank, a line's end, a word line or a word.
 use Rattle.std.proofs.Common.{◌≡◌, ℕ, suc, ◌+◌, Bool, true, false, cond, List, [], ◌∷◌, ◌++◌, length, map, take, drop, refl, sym, ap, subst, ◌∙◌, arith, append-nil, take-append-drop}
 use Rattle.std.specs.Prelude.{not, ◌||◌, ◌&&◌, nat_lt}
 use Rattle.std.specs.List.{slice_split, onto_first, position_or_len, filter}

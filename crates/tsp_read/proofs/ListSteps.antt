@@ -1,5 +1,4 @@
--- The words of a group that has begun, and the numbers that its list keeps of them. For `NumberList::push` in
--- src/by_node.rt and others.
+-- Lists of nodes that -1 ends, one word more, and lines that are scanned.
 use Rattle.std.proofs.Common.{◌≡◌, ℕ, suc, List, [], ◌∷◌, ◌++◌, length, map, get_or, refl, ap, Option, None, Some, Ok, ◌+◌, ◌<◌, Bool, true, false, sym, ◌∙◌, arith, ◌≢◌, ◌≤◌, subst, Err, ap₂, cond, drop}
 use Rattle.std.proofs.lemmas.Bool.{lt-leb, le-leb, false_from_ne_true, ltb-true, ltb-false}
 use Rattle.std.proofs.lemmas.Bool.Decides.{nat_tests, Decides-int_eq}

@@ -1,5 +1,4 @@
--- A number that is written is read back: words of the canonical text are plain, and each means its number. For the laws
--- `written_numbers_are_read_back` and `canonical_texts_are_read_back` in src/round_trip.rt.
+-- Numbers that the canonical text writes, alone or in lists, are read back.
 use Rattle.std.proofs.Common.{◌≡◌, ℕ, suc, zero, ◌+◌, ◌/◌, ◌%◌, ◌^◌, ◌<◌, ◌≤◌, Bool, true, false, cond, List, [], ◌∷◌, ◌++◌, length, refl, sym, ap, ◌∙◌, arith, append-nil, inl, inr, Result, Ok, Err, ◌*◌, map, Option, None, ap₂, append_assoc}
 use Rattle.std.proofs.Math.Nat.{pow-suc}
 use Rattle.std.proofs.lemmas.Bool.{true≢false, and_from, and_parts, le-leb, leb-true, false_from_ne_true, lt-leb, eq-eqb, and_right, and_left, not_from_true, not-true, or_right}

@@ -1,5 +1,4 @@
--- The items of a keyword's line and of a section's line, as they are written. For the law
--- `canonical_texts_are_read_back` in src/round_trip.rt.
+-- Items in front of a text that is read on: lines, keywords and words.
 use Rattle.std.proofs.Common.{◌≡◌, ℕ, suc, ◌+◌, ◌-◌, Bool, true, false, cond, List, [], ◌∷◌, ◌++◌, length, get_or, map, reverse, refl, sym, ap, ◌∙◌, arith, append_assoc, subst, append-nil, None, Some, ◌≤◌, length-append}
 use Rattle.std.proofs.Math.ListN.{take, drop}
 use Rattle.std.proofs.lemmas.Bool.{false≢true, and_from, and_parts, true≢false, leb-true, le-ltb, lt-leb, not-true, false_from_ne_true}

@@ -1,5 +1,4 @@
--- A text that goes on after a piece: the bytes that are kept for the next piece, and the items that are settled. For
--- `read_on` in src/feed.rt and others.
+-- The next item of a text that comes in pieces, and what holds whatever bytes follow.
 use Rattle.std.proofs.Common.{◌≡◌, ℕ, ◌≤◌, Bool, true, false, List, [], ◌∷◌, ◌++◌, length, refl, sym, ap, subst, ◌∙◌, arith, append-nil, Option, None, Some, Ok, cond, append_assoc, suc, ◌+◌, ◌<◌, take, drop}
 use Rattle.std.proofs.lemmas.Bool.{ne_eqb, lt-ltb}
 use Rattle.std.proofs.lemmas.List.{reverse-append, reverse-reverse, nil_from_length}

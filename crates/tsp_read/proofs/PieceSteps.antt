@@ -1,5 +1,4 @@
--- A reader that is read in pieces: the bytes gathered so far, one piece more, a fault in it, and the end. For
--- `feed_all` in src/asked_reads.rt.
+-- Pieces that are asked of a reader, and that none is asked for in vain.
 use Rattle.std.proofs.Common.{◌≡◌, ℕ, ◌+◌, ◌-◌, ◌≤◌, ◌<◌, Bool, true, false, List, [], ◌∷◌, ◌++◌, length, take, drop, take-append-drop, refl, sym, ap, subst, ◌∙◌, arith, Option, Some, None, Ok, Err, append-nil, length-append, ◌||◌, suc, Result, inl, inr}
 use Rattle.std.proofs.KnownBytes.{Consumes-nil, Consumes-trans, Consumes-kept}
 use Rattle.std.proofs.lemmas.Bool.{true≢false, false≢true}

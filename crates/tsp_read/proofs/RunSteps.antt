@@ -1,5 +1,4 @@
--- A number word at the beginning of a text, whose end is where the number's is. For `few_number` in src/run.rt and
--- others.
+-- Runs of plain numbers, read in one pass, are read as word by word.
 use Rattle.std.proofs.Common.{◌≡◌, ℕ, ◌+◌, ◌<◌, ◌≤◌, Bool, true, false, List, [], ◌∷◌, ◌++◌, length, take, drop, refl, sym, ap, subst, ◌∙◌, arith, inl, inr, Ok, ℤ, pos, ◌*ℤ◌, take-append-drop, Result, Err, IfErr, Option, None, Some}
 use Rattle.std.proofs.lemmas.Bool.{true≢false, le-ltb}
 use Rattle.std.proofs.lemmas.Bool.Decides.{nat_tests}

@@ -1,5 +1,4 @@
--- DIMENSION is read back as it is written, so each section after it is read for as many nodes as the file has. For the
--- law `canonical_texts_are_read_back` in src/round_trip.rt.
+-- Sections as they are written are read back, and are complete.
 use Rattle.std.proofs.Common.{◌≡◌, ℕ, ◌+◌, ◌≤◌, Bool, true, false, cond, List, [], ◌∷◌, length, refl, ap, subst, ◌∙◌, arith, Option, Some, None, Result, ◌^◌, ◌<◌, append_assoc, ◌++◌, sym}
 use Rattle.std.proofs.lemmas.Bool.{false≢true, and_parts, leb-true, and_left, and_right, true≢false}
 use Rattle.std.proofs.lemmas.List.{take_all}

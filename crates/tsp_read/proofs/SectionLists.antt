@@ -1,5 +1,4 @@
--- By-node sections: the mark and the entry of each node whose group has come, and a group more. For `unmarked_node` in
--- src/part.rt.
+-- The parts of sections whose words come in groups: points, triples, tours, weights and the steps of trees.
 use Rattle.std.proofs.Common.{◌≡◌, ◌≢◌, ℕ, ◌+◌, ◌-◌, ◌<◌, ◌≤◌, Bool, true, false, cond, ◌||◌, List, [], ◌∷◌, ◌++◌, length, set, refl, sym, ap, ◌∙◌, Option, None, Some, Ok, Err, inl, inr, arith, rules, get_or-set_other, get_or-set_same, ap₂, subst, zero, suc, map, Result, ◌*◌}
 use Rattle.std.proofs.lemmas.Bool.{false_from_ne_true}
 use Rattle.std.proofs.lemmas.Bool.Decides.{Decides-int_eq, same_from_decides, nat_tests}

@@ -1,5 +1,4 @@
--- A section is opened by its line, and closed: its field has its value, and no other field changes. For
--- `Reading::close` in src/reading.rt and others.
+-- A section is opened by its line, and closed: its field has its value, and no other field changes.
 use Rattle.std.proofs.Common.{◌≡◌, ℕ, Bool, true, false, List, [], ◌∷◌, ◌≤◌, cond, get_or, arith, refl, sym, ap, subst, ◌∙◌, Option, Some, None, Ok, Err}
 use Rattle.std.specs.Prelude.{ℤ, nat_le, nat_lt, is_some, unwrap_or, not, ◌&&◌}
 use Rattle.std.specs.Option.{option_map_or}

@@ -1,5 +1,5 @@
 -- Sections by their shape, as they are written: each word is taken at its place, none is left to come, and the entries
--- are read back. For the law `canonical_texts_are_read_back` in src/round_trip.rt.
+-- are read back.
 use Rattle.std.proofs.Common.{◌≡◌, ℕ, ◌+◌, ◌*◌, ◌^◌, ◌<◌, ◌≤◌, Bool, true, false, cond, List, [], ◌∷◌, ◌++◌, length, map, refl, ap, arith, Option}
 use Rattle.std.specs.Prelude.{ℤ, pos, ◌&&◌, ◌||◌, ◌==◌, nat_le, nat_lt, unsigned_abs, codes}
 use Rattle.std.specs.List.{list_all, list_any, flat_map, enumerate_from, sum_by}

@@ -1,5 +1,4 @@
--- A text by fields: what the items read so far say of each field, while the texts of the fields come one after the
--- other. For the law `canonical_texts_are_read_back` in src/round_trip.rt.
+-- A text field by field: what the items so far say of each field.
 use Rattle.std.proofs.Common.{◌≡◌, ℕ, Bool, true, false, cond, List, [], ◌∷◌, ◌++◌, refl, sym, ap, subst, ◌∙◌, Option, Some, None}
 use Rattle.std.proofs.lemmas.Bool.{and_parts, or_parts, or_from, not-true, true≢false}
 use Rattle.std.proofs.lemmas.Option.{none-some}

@@ -1,5 +1,4 @@
--- What a text made of lines has as items: those of its lines, one after the other. For the laws
--- `written_numbers_are_read_back` and `canonical_texts_are_read_back` in src/round_trip.rt.
+-- What a text made of lines has as items: those of its lines, one after the other.
 use Rattle.std.proofs.Common.{◌≡◌, ℕ, Bool, true, false, cond, List, [], ◌∷◌, ◌++◌, map, refl, sym, ap, ◌∙◌, arith, append_assoc, append-nil}
 use Rattle.std.specs.Prelude.{not, ◌&&◌, nat_le}
 use Rattle.std.specs.List.{list_all, filter, slice_split, onto_first, flat_map}

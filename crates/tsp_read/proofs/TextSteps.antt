@@ -1,5 +1,4 @@
--- The first field of a list that passes a test, where the test changes at one field alone. For `Reading::close` in
--- src/reading.rt and others.
+-- One item more: lines that open and close sections, words, and the end of the text.
 use Rattle.std.proofs.Common.{◌≡◌, Bool, true, false, cond, List, [], ◌∷◌, refl, sym, ap, ◌∙◌, Option, Some, None, subst, ◌++◌, Result, Ok, Err, set, get_or, length}
 use Rattle.std.proofs.Math.Logic.{∥∥₁_elim}
 use Rattle.std.proofs.lemmas.Bool.{false≢true}

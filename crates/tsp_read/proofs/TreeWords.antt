@@ -1,5 +1,4 @@
--- The steps of a tree as they are written: each word is taken at its place, and they are read back. For the law
--- `canonical_texts_are_read_back` in src/round_trip.rt.
+-- The steps of a tree as they are written: each word is taken at its place, and they are read back.
 use Rattle.std.proofs.Common.{◌≡◌, ℕ, zero, suc, ◌+◌, ◌-◌, ◌^◌, ◌<◌, ◌≤◌, true, false, cond, List, [], ◌∷◌, ◌++◌, length, refl, sym, ap, subst, ◌∙◌, append_assoc, append-nil, arith, None, Some, Result, Ok}
 use Rattle.std.specs.Prelude.{ℤ, pos, neg_ℤ, not, ◌&&◌, ◌==◌, nat_le, nat_abs, codes}
 use Rattle.std.specs.Result.{result_err}

@@ -1,5 +1,4 @@
--- Tours as they are written: each word is taken at its place, and they are read back. For the law
--- `canonical_texts_are_read_back` in src/round_trip.rt.
+-- The words of tours and matrices as they are written are the items of their lines.
 use Rattle.std.proofs.Common.{◌≡◌, ℕ, ◌+◌, ◌≤◌, true, false, cond, List, [], ◌∷◌, ◌++◌, length, map, refl, sym, ap, ◌∙◌, arith, append_assoc, Result, ◌^◌, ◌<◌, Bool, subst, take, drop, Some, None}
 use Rattle.std.proofs.lemmas.Bool.{and_from, and_parts, not_from_true, not_from_false, and_left, and_right, false≢true, leb-true}
 use Rattle.std.proofs.lemmas.List.{length-append, take-append-drop, map-append}

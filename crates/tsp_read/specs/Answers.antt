@@ -1,4 +1,4 @@
--- The result of reading the canonical text of a file. For the law `canonical_texts_are_read_back` (src/round_trip.rt).
+-- The result of reading the canonical text of a file.
 use Rattle.std.specs.Prelude.{◌≡◌, Result, Ok, Err}
 use Rattle.tsp_file.specs.Fields.{Fields}
 use Rattle.tsp_text.specs.declared.fault.ReadFault.{ReadFault}

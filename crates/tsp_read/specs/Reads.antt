@@ -1,5 +1,5 @@
--- The reads that a call asked of a reader, one after the other, and so why it has failed. For `read_from`
--- (src/asked_reads.rt), and for the runs of tsp_judge (src/asked_runs.rt).
+-- The result of reading a text whole, from a reader or in pieces: its file, or its first fault; and that a reader is
+-- asked for no piece more than its text needs.
 use Rattle.std.specs.Io.KnownBytes.{IsAtEnd}
 use Rattle.std.specs.Prelude.{◌≡◌, ◌||◌, ℕ, zero, suc, Bool, false, List, Result, is_err, ◌+◌, Some, Ok, Err, ◌≤◌, true, not, ◌&&◌, length, Option, None, is_some, ◌-◌, take, ◌⊎◌}
 use Rattle.std.specs.declared.io.Error.{Error}

@@ -1,5 +1,5 @@
 //! The list that takes the words of a section with a point for each node: of the plane, or in
-//! space. For `src/part.rt`, and `src/run.rt` for many words at once.
+//! space.
 
 ghost use Rattle.std.specs.Option.{ForSome};
 ghost use Rattle.std.specs.Prelude.{◌≡◌, ◌<◌, ◌≤◌, ◌^◌, None, Some, Ok, [], ℕ, List, length, ◌∷◌, ◌++◌, vec_len, IfOk, IfErr, Err, ◌≢◌, is_some, true, false, ◌-◌, pos, slice_index_or, replicate, Bool, ◌≤ℤ◌, ℤ};

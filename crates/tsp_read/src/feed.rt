@@ -1,5 +1,4 @@
 //! `Feed`, which reads a file in pieces and finds the fault as soon as no later byte can change it.
-//! For `src/asked_reads.rt`, which feeds it a text or a reader.
 
 ghost use Rattle.std.specs.Prelude.{◌≡◌, ◌+◌, ◌≤◌, ◌++◌, [], List, ℕ, length, Ok, true, false};
 ghost use Rattle.tsp_format.specs.Limits.{most_file_bytes};

@@ -1,5 +1,5 @@
 //! `Intake`: the fields read so far, with the numbers of the line and the word, and the items of a
-//! piece that it takes. For `src/feed.rt`, `src/items.rt` and `src/run.rt`.
+//! piece that it takes.
 
 ghost use Rattle.std.specs.List.{position};
 ghost use Rattle.std.specs.Prelude.{◌≡◌, ◌+◌, ◌≤◌, ◌<◌, [], List, ℕ, length, IfOk, IfSome, Err, true, ◌∷◌, IsTrue, Ok, false, MatchOption};

@@ -1,10 +1,14 @@
-//! The parts of a reader that take the words of each section and the value of each keyword.
+//! Reads TSPLIB 95 files: the file that bytes parse to, or the first fault and its place.
 //!
-//! A part knows no other part, and not how a text is cut into lines and words: that is tsp_read's.
+//! It reads a text, a reader, or pieces ([`Feed`]), with one answer. Lines and words are cut from
+//! the bytes (`items`), a state takes each (`reading`), and a part takes the words of a section
+//! (`part`). The law [`canonical_texts_are_read_back`] says that the canonical text of a valid file
+//! parses to that file. It judges nothing, and opens no files.
+//!
+//! As example_check does it, with a text in memory:
 //!
 //! ```text
-//! let mut part = Part::open(alloc, Shape::Depots, nodes)?;
-//! part.push(alloc, word)?;
+//! let file = read_bytes(alloc, instance)?;
 //! ```
 #![tactic(auto)]
 

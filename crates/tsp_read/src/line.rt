@@ -1,5 +1,5 @@
 //! A word line, cut into keyword, colon and value, and the word, number or section that its value
-//! is read as. For `src/items.rt` and `src/reading.rt` of tsp_read.
+//! is read as.
 
 ghost use Rattle.std.specs.List.{position, prefix_len};
 ghost use Rattle.std.specs.Option.{option_map};

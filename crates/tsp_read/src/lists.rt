@@ -1,4 +1,4 @@
-//! The list that takes the words of DEPOT_SECTION. For `src/part.rt`.
+//! The list that takes the words of DEPOT_SECTION.
 
 ghost use Rattle.std.specs.Prelude.{◌≡◌, [], ℕ, List, ◌∷◌, ◌++◌, IfErr, false, None, Some};
 

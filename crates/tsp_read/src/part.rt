@@ -1,5 +1,4 @@
-//! The list that takes the words of a section, whichever its shape. For the open section in
-//! `src/reading.rt` of tsp_read.
+//! The list that takes the words of a section, whichever its shape.
 
 ghost use Rattle.std.specs.Option.{ForSome};
 ghost use Rattle.std.specs.Prelude.{◌≡◌, ◌≤◌, [], ℕ, List, ◌∷◌, ◌++◌, IfOk, IfErr, ◌<◌, ◌-◌, ◌^◌, pos, true, false, length, slice_index_or, Ok, None, IfSome, MatchResult, Some};

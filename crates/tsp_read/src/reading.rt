@@ -1,5 +1,4 @@
 //! The state of the reader: the draft of the lines and words so far, and the section that is open.
-//! For `src/items.rt`, and `src/items.rt`, which holds it.
 
 ghost use Rattle.std.specs.Prelude.{[], List, Some, IfErr, OnOk, ◌≡◌, is_some, true, ℕ, Bool, IfOk, None, Err};
 ghost use Rattle.tsp_format.specs.Limits.{shape_of};

@@ -1,5 +1,5 @@
 //! A run of numbers: the words of a matrix, of tours, of points or of numbers by node, each looked
-//! at once. For `src/items.rt`.
+//! at once.
 //!
 //! Most words there are plain numbers, and most of a matrix have a few digits. Such a word is read
 //! here where its end is found, so that it is not searched for first. Every other word, and every

@@ -1,5 +1,4 @@
-//! The list that takes the words of TOUR_SECTION. For `src/part.rt`, and `src/run.rt` for many
-//! words at once.
+//! The list that takes the words of TOUR_SECTION.
 
 ghost use Rattle.std.specs.Prelude.{◌≡◌, ◌+◌, ◌-◌, ◌≤◌, [], ℕ, List, ◌∷◌, ◌++◌, Ok, OnOk, IfOk, IfErr, map, vec_len, vec_capacity, true, false};
 ghost use Rattle.tsp_format.specs.Limits.{most_tour_nodes};

@@ -1,4 +1,4 @@
-//! The list that takes the words of COMB_SECTION: families of sets of nodes. For `src/part.rt`.
+//! The list that takes the words of COMB_SECTION: families of sets of nodes.
 
 ghost use Rattle.std.specs.Prelude.{◌≡◌, [], ℕ, List, ◌∷◌, ◌++◌, ◌<◌, length, OnOk, IfErr, false, ◌≢◌, ◌+◌, ◌≤◌, None, Some, true};
 

@@ -1,5 +1,4 @@
--- The texts of a report, written part by part: a path, a word with its number, or one line for each entry of a list.
--- For `put_others` in src/report.rt and others.
+-- The lines of reports, put together.
 use Rattle.std.proofs.Common.{◌≡◌, ℕ, ◌+◌, ◌<◌, List, [], ◌∷◌, ◌++◌, length, take, map, get_or, false, Some, refl, sym, ap, subst, ◌∙◌, append-nil, append_assoc, arith, Option, None}
 use Rattle.std.proofs.lemmas.Bool.{false≢true}
 use Rattle.std.proofs.lemmas.List.{length-map, get_or-map}

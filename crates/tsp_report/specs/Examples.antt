@@ -1,5 +1,4 @@
--- A small file of each TYPE. For the laws of src/examples.rt, src/examples.rt and
--- src/examples.rt, which state reports and what `tsp show` prints of them.
+-- Small verdicts and files, whose reports are evaluated.
 use Rattle.std.specs.Prelude.{List, ℕ, [], ◌∷◌, Some, pos, codes, negsuc}
 use Rattle.tsp_format.specs.Steps.{Leaf}
 use Rattle.tsp_format.specs.declared.kinds.Kind.TheVariants.{Tsp, Cvrp, Tour, Potentials, Branches}

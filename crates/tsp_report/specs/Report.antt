@@ -1,6 +1,5 @@
--- The bytes of the reports of `tsp check` and `tsp bound`, line by line. Each line ends with byte 10, and one blank is
--- between words. For `write_report` (src/report.rt) and `write_bound` (src/report.rt), and for the meanings of
--- `yes` (Accepted.antt of tsp_judge).
+-- The bytes of the reports of `tsp check`, `tsp bound` and `tsp compare`, line by line. Each line ends with byte 10,
+-- and one blank is between words.
 use Rattle.std.specs.Fmt.{signed_decimal}
 use Rattle.std.specs.List.{concat}
 use Rattle.std.specs.Option.{option_map_or}

@@ -1,5 +1,4 @@
--- The lines that `tsp show` prints of a file. Each line ends with byte 10, and one blank is between words. For
--- `write_shown` (src/shown.rt), and for ConvertRun.antt of tsp_judge.
+-- The lines that `tsp show` prints of a file. Each line ends with byte 10, and one blank is between words.
 use Rattle.std.specs.Prelude.{ℕ, List, [], ◌∷◌, ◌++◌, length, codes, decimal, cond, ℤ, Option, None, Some, unwrap_or}
 use Rattle.std.specs.List.{flat_map, enumerate_from}
 use Rattle.std.specs.Option.{option_map_or}

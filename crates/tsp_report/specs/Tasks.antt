@@ -1,4 +1,4 @@
--- The role of a certificate's file. For `role_by` (src/task.rt), and for Tasks.antt.
+-- A task on files: its files in the order in which they are read, the role of each, and the same task on other files.
 use Rattle.std.specs.Prelude.{ℕ, List, [], ◌∷◌, ◌-◌, ◌==◌, Option, None, Some, cond, slice_get, ◌≡◌}
 use Rattle.tsp_report.specs.declared.task.Certificate.{Certificate}
 use Rattle.tsp_report.specs.declared.task.Certificate.TheVariants as certificates

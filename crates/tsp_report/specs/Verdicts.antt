@@ -1,5 +1,4 @@
--- Which verdicts end with the line `yes`. For `is_yes` (src/verdict.rt), and for the runs of tsp_judge. `is_clear` is
--- for src/verdict.rt.
+-- The table of reasons, one row each, and which verdicts end with the line `yes`.
 use Rattle.std.specs.Prelude.{Bool, true, false, ℕ, List, Option, None, Some, codes, ℤ, pos}
 use Rattle.tsp_report.specs.declared.task.Role.{Role}
 use Rattle.tsp_report.specs.declared.task.Role.TheVariants.{Instance, Solution, Potentials, Branches}

@@ -1,4 +1,4 @@
-//! Writes the head and the lines of `tsp compare`. For `src/compared.rt` of tsp_judge.
+//! Writes the head and the lines of `tsp compare`.
 
 ghost use Rattle.std.specs.Prelude.{◌++◌, codes, IfOk, ◌≡◌};
 ghost use Rattle.tsp_number.specs.NumberWord.{number_fault_text};

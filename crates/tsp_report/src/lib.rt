@@ -1,14 +1,15 @@
-//! Tasks on files and their verdicts: kinds of certificates, and the reasons to reject a
-//! solution, each with the file that it is about.
+//! Tasks on files, verdicts with their reasons, and the texts that the program prints of them.
 //!
-//! A command line asks for a task, and so does a call for C. No verdict is found here, so that
-//! crates which print or explain a verdict don't depend on the one that finds it, tsp_verdict.
+//! A command line asks for a task (`task`), and so does a call for C. A verdict (`verdict`) isn't
+//! found here, so a crate that prints or explains one doesn't depend on tsp_verdict. The contracts
+//! of `report`, `compared` and `shown` name every byte. No call takes memory.
 //!
 //! ```text
 //! let task = FileTask::Show { file: path };
 //! let mut opened = task.map(|path| open(path));
 //! let (given, file) = task.file(1)?;
 //! let rejected = Verdict::No(Reason::TourCount);
+//! write_report(instance.file(), verdict, &mut out)?;
 //! ```
 #![tactic(auto)]
 

@@ -1,5 +1,4 @@
-//! Writes the report of `tsp check`. For `src/check.rt` of tsp_judge and `src/handle_calls.rt` of
-//! tsp_c; other reports share its lines.
+//! Writes the report of `tsp check`.
 
 ghost use Rattle.std.specs.Prelude.{◌≡◌, ◌++◌, ◌≤◌, ◌^◌, ◌-ℤ◌, Some, map, codes, unsigned_abs};
 ghost use Rattle.tsp_io.specs.Streams.{Writes};

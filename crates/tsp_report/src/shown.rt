@@ -1,4 +1,4 @@
-//! Writes the lines of `tsp show`. For `src/bound_run.rt` of tsp_judge.
+//! Writes the lines of `tsp show`.
 
 ghost use Rattle.std.specs.List.{flat_map, enumerate_from};
 ghost use Rattle.std.specs.Option.{option_map, option_map_or};

@@ -1,5 +1,4 @@
--- What the customers of a cut demand, summed one by one, and how many routes carry that at least. For `Demands::all` in
--- src/needs.rt and others.
+-- What customers demand, in units, how many routes that needs, and that each route is a walk within the capacity.
 use Rattle.std.proofs.Common.{◌≡◌, ◌≢◌, ℕ, zero, suc, ◌+◌, ◌-◌, ◌*◌, ◌/◌, ◌<◌, ◌≤◌, ◌==◌, ◌||◌, false, List, [], ◌∷◌, refl, sym, ap, ◌∙◌, subst, arith, to_z, of_z, inl, inr, add-one, ap₂, ◌++◌}
 use Rattle.std.proofs.Math.IntN.{+ℤ_assoc}
 use Rattle.std.proofs.Math.Nat.{div-mul-le_self, lt-div-mul-add, mul-le-mul_right, add-mul}

@@ -1,5 +1,5 @@
--- Routes cross each part an even number of times, so they keep the limits of an open case until that is closed. For the
--- law `plans_keep_limits` in src/laws.rt.
+-- Crossings of routes are even, the limits of a case hold, and the bound of a certificate is at most the length of each
+-- plan.
 use Rattle.std.proofs.Common.{◌≡◌, ℕ, ◌+◌, ◌-◌, ◌*◌, Bool, true, false, List, [], ◌∷◌, length, ◌≤ℤ◌, inl, inr, refl, arith, Option, None, Some, ap, subst, zero, suc, ◌==◌, ◌&&◌, not, cond, sym, ap₂, ◌∙◌, ◌≤◌}
 use Rattle.std.proofs.Math.IntN.{suc_ℤ-*ℤ, zero-*ℤ, *ℤ-zero, *ℤ_comm}
 use Rattle.std.proofs.lemmas.Bool.{cases_lt, both_ways, cases_Bool, and_parts, eqb-true}

@@ -1,5 +1,4 @@
--- A family that is one set of customers, each once, without the depot; and that such a set has no more nodes than there
--- are. For `cut_crossings` in src/verdict.rt.
+-- Which families are sets of customers, the first that isn't, and the pass over the leaves.
 use Rattle.std.proofs.Common.{◌≡◌, ◌≢◌, ℕ, zero, suc, ◌+◌, ◌≤◌, ◌<◌, ◌==◌, Bool, true, false, List, [], ◌∷◌, length, get_or, refl, sym, ap, ◌∙◌, subst, arith, inl, inr, ◌^◌, ◌++◌, length-append, ◌-◌, take, drop}
 use Rattle.std.proofs.lemmas.Bool.{cases_Bool, both_ways, or_left, or_right, eq-eqb, cases_lt}
 use Rattle.std.proofs.lemmas.Int.{ints}

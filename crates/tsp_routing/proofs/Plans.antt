@@ -1,5 +1,4 @@
--- Sums over the links of a plan, by first nodes or by second ones, are over the customers and, once for each route, the
--- depot. For the law `plan_links_add_up` in src/laws.rt.
+-- Sums over the links of a plan, the number of its routes, and how often it leaves a set of customers.
 use Rattle.std.proofs.Common.{◌≡◌, ◌≢◌, ℕ, zero, suc, ◌+◌, ◌<◌, ◌≤◌, true, false, eqb, List, [], ◌∷◌, ◌++◌, length, refl, sym, ap, ◌∙◌, arith, inl, inr, ◌&&◌, ◌||◌, Bool, not, cond}
 use Rattle.std.proofs.Math.IntN.{suc_ℤ-*ℤ, zero-*ℤ}
 use Rattle.std.proofs.lemmas.Bool.{cases_eq, ne_eqb, eqb-false, cases_Bool, both_ways, or_left}

@@ -1,5 +1,4 @@
--- Where the sizes of multipliers sum to no more than a number, each of them is no larger. For `judge_numbers` in
--- src/verdict.rt and others.
+-- The sums of a leaf for routes fit 128 bits: multipliers, counts of routes, kept rows.
 use Rattle.std.proofs.Common.{ℕ, List, [], ◌∷◌, ℤ, ◌≤ℤ◌, arith, ◌≡◌, ◌∙◌, ◌+◌, ◌*◌, ◌==◌, ◌&&◌, ◌||◌, Bool, true, false, not, cond, refl, sym, ap, ◌^◌, ◌≤◌, ap₂, subst, to_z, of_z, FitsSigned, ◌<◌, drop, length, get_or, drop-cons, add-one, zero, suc, take, ◌++◌, inl, inr, length-append}
 use Rattle.std.proofs.lemmas.Bool.{cases_lt}
 use Rattle.std.proofs.lemmas.Int.{ints, fits_signed_from_abs, to_z-of_z}

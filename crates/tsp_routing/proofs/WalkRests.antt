@@ -1,5 +1,4 @@
--- A list with one element more at its end: what holds of each element by its place still holds. For `least_walk` in
--- src/least_walk.rt.
+-- The entries of the table of walks are the least weights on from a node.
 use Rattle.std.proofs.Common.{◌≡◌, ℕ, zero, suc, ◌<◌, List, [], ◌∷◌, ◌++◌, length, get_or, refl, arith, ◌≢◌, ◌-◌, ◌*◌, ◌≤◌, ◌==◌, sym, ap, ◌∙◌, subst, inl, inr, ◌+◌, add-one}
 use Rattle.std.proofs.Math.Nat.{suc-mul, mul-le-mul_right}
 use Rattle.std.proofs.lemmas.Bool.{cases_Bool, both_ways, eqb-true, eq-eqb, cases_eq}

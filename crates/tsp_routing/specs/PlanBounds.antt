@@ -1,5 +1,4 @@
--- How large the weights of links, walks and routes can be, so that sums fit. For `are_narrow` (src/kept_weights.rt),
--- `times` (src/plan_leaf.rt), and the contracts of src/least_walk.rt.
+-- The bound of a certificate for routes, as a theorem: of a leaf by its least walk, and of the tree by its leaves.
 use Rattle.std.specs.List.{All}
 use Rattle.std.specs.Prelude.{ℕ, ◌+◌, ◌^◌, negsuc, int_lt, ◌*◌, ◌-◌, max, min, ◌==◌, ◌&&◌, not, if◌then◌else◌, List, [], ◌∷◌, length, ℤ, pos, ◌+ℤ◌, ◌-ℤ◌, ◌*ℤ◌, ◌≤ℤ◌, ◌≡◌, true, Option, Some, None}
 use Rattle.tsp_theory.specs.Bounds.{IsScale, entry, IsLeastBound, weight_between}

@@ -1,5 +1,5 @@
--- The links of a plan of routes, which plans a bound is about, and how sums over a plan add up. For the meanings of
--- `yes` (Accepted.antt of tsp_judge), the laws of src/laws.rt, and `customers_total` (src/plan_leaf.rt).
+-- The links of a plan, the sets of customers that routes cross, what a set demands, and how often a plan crosses it: at
+-- least, and at most.
 use Rattle.std.specs.List.{All}
 use Rattle.std.specs.Prelude.{◌≡◌, ◌≢◌, ℕ, List, [], ◌∷◌, ◌++◌, length, ◌≤◌, ℤ, pos, ◌-◌, ◌+ℤ◌, ◌-ℤ◌, ◌*ℤ◌, ◌≤ℤ◌, ◌+◌, ◌*◌, ◌/◌, ◌==◌, if◌then◌else◌, nat_abs, max, min, ◌&&◌, Bool, true, false, not, zero, suc, ◌⊎◌}
 use Rattle.tsp_format.specs.Limits.{most_nodes}

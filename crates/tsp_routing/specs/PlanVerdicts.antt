@@ -1,5 +1,4 @@
--- Whether the branches of a certificate for routes are good: each begins with the number of a family, n + k for family
--- k. For the verdict on such a certificate (PlanVerdicts.antt), and for Certificates.antt of tsp_verdict.
+-- The verdict on a certificate for routes: its first bad set, branch or leaf, or its bound.
 use Rattle.std.specs.List.{All}
 use Rattle.std.specs.Prelude.{ℕ, ◌+◌, List, ◌≡◌, unsigned_abs, length, ℤ, pos, ◌≤ℤ◌, ◌≢◌, ◌≤◌, ◌<◌, [], ◌∷◌, slice_index_or, ◌*◌, IfSome, Option}
 use Rattle.tsp_format.specs.Steps.{Step}

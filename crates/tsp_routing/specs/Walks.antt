@@ -1,5 +1,4 @@
--- The least of the numbers of some elements. For `least_walk` (src/least_walk.rt), by the weights of walks
--- (PlanTrees.antt).
+-- The least walk from the depot and back under a load, and the table by which it is found.
 use Rattle.std.specs.List.{All, AllByRecursion}
 use Rattle.std.specs.Prelude.{◌≡◌, Option, Some, None, ℤ, ◌≤ℤ◌, ◌≢◌, ℕ, List, [], ◌∷◌, pos, ◌⊎◌, ◌*◌, ◌≤◌, ◌==◌, if◌then◌else◌, ◌+ℤ◌}
 use Rattle.tsp_theory.specs.Tour.{sum_int_by, length_of, RoutingProblem, IsCustomer, links_to}

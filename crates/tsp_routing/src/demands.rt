@@ -1,5 +1,4 @@
-//! The depot, the demand of each node and the capacity of a route. For `src/needs.rt`,
-//! `src/verdict.rt`, `src/units.rt` and others.
+//! The depot, the demand of each node and the capacity of a route.
 
 /// The nodes 1 to `nodes`, one of them the depot, the demand of each, and what a route carries at
 /// most.

@@ -1,5 +1,5 @@
 //! Laws: how often plans cross sets, that routes are walks, and that no plan is shorter than the
-//! bound of a tree of cases. For `src/verdict.rt`, and `src/one_verdict.rt` of tsp_verdict.
+//! bound of a tree of cases.
 
 ghost use Rattle.tsp_routing.specs.PlanLinks.{LengthsAreWeights, PlanSums, PlansHaveFewRoutes, PlansLeaveCuts, PlansCrossCuts, PlansCrossEvenly, PlansKeepEitherLimit, PlansKeepLeaves, RoutesHaveRoom, LoadsAreSome};
 ghost use Rattle.tsp_routing.specs.Walks.{RoutesAreWalks};

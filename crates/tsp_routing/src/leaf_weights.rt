@@ -1,5 +1,5 @@
 //! The weights of a leaf for routes, row by row: costs at the scale, potentials, and multipliers of
-//! sets. For `src/kept_weights.rt` and `src/plan_leaf.rt`.
+//! sets.
 
 ghost use Rattle.std.specs.Prelude.{◌≡◌, ◌≤◌, ◌+◌, ◌+ℤ◌, ℕ, length, pos, neg_ℤ};
 ghost use Rattle.tsp_format.specs.Nodes.{IsNode};

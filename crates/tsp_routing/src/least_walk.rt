@@ -1,5 +1,4 @@
-//! The least weight of a walk within the capacity, by dynamic programming over loads and nodes. For
-//! `src/plan_leaf.rt`.
+//! The least weight of a walk within the capacity, by dynamic programming over loads and nodes.
 
 ghost use Rattle.std.specs.Prelude.{◌≡◌, ◌≢◌, ◌⊎◌, ◌≤◌, ◌<◌, ◌+◌, ◌-◌, ◌*◌, ◌^◌, ℕ, ℤ, ◌∷◌, length, pos, neg_ℤ, ◌+ℤ◌, ◌≤ℤ◌, Some, IfOk, IfSome};
 ghost use Rattle.tsp_format.specs.Limits.{most_nodes};

@@ -1,5 +1,4 @@
-//! How many routes a set of customers needs, by its demands. For `src/verdict.rt` and
-//! `src/plan_leaf.rt`.
+//! How many routes a set of customers needs, by its demands.
 
 ghost use Rattle.std.specs.Prelude.{◌≡◌, ◌≤◌, max, min};
 ghost use Rattle.tsp_format.specs.Limits.{most_nodes};

@@ -1,5 +1,4 @@
-//! The bound of a leaf of a certificate for routes, from the least weight of a walk. For
-//! `src/verdict.rt` and `src/leaf_weights.rt`.
+//! The bound of a leaf of a certificate for routes, from the least weight of a walk.
 
 ghost use Rattle.std.specs.List.{All};
 ghost use Rattle.std.specs.Prelude.{◌≡◌, ◌≤◌, ◌+◌, ◌-◌, ◌^◌, ℕ, ℤ, length, true, pos, neg_ℤ, IfOk, IfSome, ◌-ℤ◌, ◌*ℤ◌, ◌*◌, List, ◌<◌, unsigned_abs, ◌≤ℤ◌, ◌==◌, if◌then◌else◌, [], ◌∷◌};
@@ -234,8 +233,8 @@ struct Limits {
     high: u64,
 }
 
-/// What the multipliers of sets give back: one of at least 0 times_given_back the least number of crossings
-/// that the case allows, one below 0 times_given_back the most.
+/// What the multipliers of sets give back: one of at least 0 times the least number of crossings
+/// that the case allows, one below 0 times the most.
 fn limits_total(case: &OpenCase, nodes: u32, crossed: &[Crossings], multipliers: &[i64]) -> i128
     requires some { 1 ≤ nodes }
     requires nodes { nodes ≤ most_nodes }
@@ -276,7 +275,7 @@ fn given_by(case: &OpenCase, place: u32, limits: Limits, multiplier: i64) -> i12
     times_given_back(lowest(place, decisions, limits.low), multiplier)
 }
 
-/// A number times_given_back a count.
+/// A number times a count.
 fn times_given_back(count: u64, number: i64) -> i128
     requires { count ≤ 2 ^ 33 }
     ensures value { result ≡ pos count *ℤ number }

@@ -1,5 +1,4 @@
-//! Sums of the weights of walks, in 64 bits where weights are small, else in 128. For
-//! `src/least_walk.rt`, `src/kept_weights.rt` and `src/least_walk.rt`.
+//! Sums of the weights of walks, in 64 bits where weights are small, else in 128.
 
 ghost use Rattle.std.proofs.Common.{rules};
 ghost use Rattle.std.specs.Prelude.{◌≡◌, ◌≤◌, ◌<◌, ◌+◌, ◌*◌, ◌^◌, ℕ, ℤ, pos, neg_ℤ, ◌+ℤ◌, int_lt, MatchOption};

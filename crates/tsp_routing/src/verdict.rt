@@ -1,5 +1,4 @@
-//! Judges a certificate for routes: its families, then its branches, then its leaves. For
-//! `src/routes.rt` of tsp_verdict.
+//! Judges a certificate for routes: its families, then its branches, then its leaves.
 
 ghost use Rattle.std.specs.List.{All};
 ghost use Rattle.std.specs.Prelude.{◌≡◌, ◌≤◌, ◌<◌, ◌+◌, ◌*◌, ◌^◌, true, [], length, nat_abs, IfOk, pos, ℕ, ℤ, MatchOption, ◌↔◌, IsTrue, take, drop, neg_ℤ};

@@ -1,5 +1,4 @@
-//! Readers and writers that do little at a time, fail, or never end, and count their calls. For the
-//! tests of tsp_tests.
+//! Readers and writers that do little at a time, fail, or never end, and count their calls.
 
 use std::alloc::Global;
 use std::io::{self, ErrorKind, Read, Write};

@@ -1,4 +1,4 @@
-//! Drafts and files that are made by hand. For the tests of tsp_tests.
+//! Drafts and files that are made by hand.
 
 use std::alloc::{AllocError, Global};
 use std::test::Fail;

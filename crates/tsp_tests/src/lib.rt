@@ -1,5 +1,4 @@
-//! What the tests of the libraries share: readers and writers that do little at a time or fail, and
-//! drafts of files made by hand.
+//! Unit tests of the libraries, with readers and writers that do little at a time or fail.
 #![tactic(auto)]
 
 #[cfg(test)]

@@ -1,5 +1,4 @@
-//! Calls on drafts, files, instances of one node, and texts of line ends, which take no memory. For
-//! `src/main.rt`.
+//! Calls on drafts, files, instances of one node, and texts of line ends, which take no memory.
 
 use std::alloc::Global;
 use tsp_bound::{Duals, dual_bound};

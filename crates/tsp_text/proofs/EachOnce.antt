@@ -1,5 +1,4 @@
--- Different nodes of 1..n, as many as n, are 1..n in another order. For the law `each_node_has_one_group` in
--- src/by_node.rt.
+-- A complete section by node has each node once.
 use Rattle.std.proofs.Common.{◌≡◌, ◌≢◌, ℕ, zero, suc, ◌-◌, ◌<◌, ◌≤◌, true, false, List, [], ◌∷◌, ◌++◌, length, get_or, map, sym, ap, subst, ◌∙◌, arith, None, ◌+◌, ◌*◌, Bool, cond, refl}
 use Rattle.std.proofs.Math.ListN.{take}
 use Rattle.std.proofs.lemmas.Bool.{true≢false, and_parts, or_parts, leb-true, false≢true, le-leb, leb-false}

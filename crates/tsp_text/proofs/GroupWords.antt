@@ -1,5 +1,4 @@
--- The words of a section in groups, as pairs, or a node with its number. One word more begins a group, goes on with it
--- or ends it. For `NumberList::push` in src/by_node.rt of tsp_read and others.
+-- The words of a section in groups, and its pairs and fixed pairs without a fault.
 use Rattle.std.proofs.Common.{◌≡◌, ℕ, suc, ◌+◌, ◌*◌, ◌<◌, ◌≤◌, Bool, true, false, cond, ◌||◌, List, [], ◌∷◌, ◌++◌, length, map, refl, sym, ap, ◌∙◌, append_assoc, append-nil, arith, subst, None}
 use Rattle.std.proofs.lemmas.Bool.{eqb-true, eqb-false, true≢false, and_from, not_from_false, false≢true}
 use Rattle.std.proofs.lemmas.List.{length_push, map_push, take_all, length-map}

@@ -1,5 +1,4 @@
--- A statement of every section, from one proof of it for each section; and the line that opens one. For
--- `Reading::close` in src/reading.rt of tsp_read and others.
+-- A statement of every section, from one proof of it for each section; and the line that opens one.
 use Rattle.std.proofs.Common.{◌≡◌, Bool, true, false, cond, List, ◌∷◌, refl, Some, None}
 use Rattle.std.specs.Prelude.{ℕ, nat_lt, is_some}
 use Rattle.std.specs.Option.{option_map_or}

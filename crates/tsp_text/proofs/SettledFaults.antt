@@ -1,5 +1,4 @@
--- Items without a fault, and one more to which no row of the table of faults applies, have no fault. tsp_read imports
--- it too. For `Reading::known` in src/reading.rt of tsp_read and others.
+-- The first fault of a text, which is the fault of every longer text, and that every text has one answer.
 use Rattle.std.proofs.Common.{◌≡◌, List, ◌∷◌, None, ap, ◌∙◌, [], ◌++◌, refl, sym, Option, Some, ◌≢◌, ℕ, Bool, true, false, Result, Ok, Err, ◌+◌, ◌-◌, cond, length, reverse, subst, arith, inl, inr, append_assoc}
 use Rattle.std.proofs.Math.ListN.{take}
 use Rattle.std.proofs.Math.Seq.{take-append-add}

@@ -1,5 +1,4 @@
--- A text without the blanks at its start and at its end, one byte at a time. tsp_read imports it too. For `without_end`
--- in src/line.rt of tsp_read.
+-- Blanks around lines, and the settled items of a text, which are those of every longer text.
 use Rattle.std.proofs.Common.{◌≡◌, ℕ, suc, ◌+◌, true, false, cond, List, [], ◌∷◌, ◌++◌, length, drop, reverse, sym, ap, ◌∙◌, arith, Bool, map, refl, subst, inl, inr, length-append}
 use Rattle.std.proofs.lemmas.Bool.{false≢true, ltb-true, lt-ltb}
 use Rattle.std.proofs.lemmas.List.{nil_from_length, reverse-append, reverse-reverse}

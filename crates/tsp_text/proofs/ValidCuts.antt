@@ -1,5 +1,4 @@
--- The tours of a section without a fault: none is empty, each node is one that some file can have, and they are few
--- enough. For the laws `clean_fields_are_valid` and `spelled_files_are_valid` in src/validity.rt.
+-- Tours and families of a section without a fault, and the items that are cut from a text.
 use Rattle.std.proofs.Common.{◌≡◌, ℕ, suc, ◌+◌, Bool, true, false, cond, List, [], ◌∷◌, ◌++◌, length, map, refl, sym, ap, ◌∙◌, arith, None, ◌<◌, ◌≤◌, subst, zero, ◌-◌, get_or, reverse}
 use Rattle.std.proofs.Math.ListN.{take, drop}
 use Rattle.std.proofs.lemmas.Bool.{and_from, and_parts, le-leb, leb-false, true≢false, false≢true}

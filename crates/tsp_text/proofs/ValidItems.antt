@@ -1,5 +1,4 @@
--- A section other than the tours comes after DIMENSION, and its value is judged with that number of nodes. For the laws
--- `spelled_files_are_valid` and `clean_fields_are_valid` in src/validity.rt.
+-- The fields of cut items without a fault are valid, field by field.
 use Rattle.std.proofs.Common.{◌≡◌, ℕ, Bool, true, false, cond, List, [], ◌∷◌, refl, sym, ap, subst, ◌∙◌, Option, Some, None, ◌++◌, length, arith, ◌*◌}
 use Rattle.std.proofs.lemmas.Bool.{false≢true, and_from, true≢false, le-leb, leb-false, ltb-false}
 use Rattle.std.proofs.lemmas.List.{length-map, length_push}

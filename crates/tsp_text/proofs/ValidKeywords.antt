@@ -1,5 +1,4 @@
--- Lists that end before the first element which passes a test, as a list before its -1: one element more. For
--- `FixedList::push_first` in src/lists.rt of tsp_read and others.
+-- The keywords of items without a fault are valid, as are numbers, lists and depots.
 use Rattle.std.proofs.Common.{◌≡◌, Bool, true, false, ◌||◌, ◌&&◌, cond, List, [], ◌∷◌, ◌++◌, refl, ap, ◌∙◌, ℕ, length, arith, suc, zero, ◌*◌, ◌≤◌, map, sym, subst, Option, Some, None, Result, Ok, Err, ◌+◌}
 use Rattle.std.proofs.Math.ListN.{take}
 use Rattle.std.proofs.lemmas.Bool.{true≢false, and_from, and_parts, le-leb, leb-false, false≢true, leb-true, eq-eqb, ne_eqb, ltb-false, not_from_false}

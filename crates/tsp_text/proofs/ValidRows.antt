@@ -1,5 +1,4 @@
--- What follows where no row of the table of faults applies to an item, or to a word at its place. For the law
--- `first_faults` in src/answers.rt and others.
+-- What follows where no row of the table of faults applies to an item, and what stays true as a text grows.
 use Rattle.std.proofs.Common.{◌≡◌, ℕ, Bool, true, false, List, [], ◌∷◌, refl, Option, Some, None, cond, sym, ap, subst, ◌∙◌, Result, Ok, Err, ◌++◌}
 use Rattle.std.proofs.lemmas.Bool.{true≢false, false≢true}
 use Rattle.std.proofs.lemmas.Option.{none-some, same_Some, cond_some}

@@ -1,5 +1,5 @@
 -- The steps of a section without a fault: no more than may be, each in its range, and a whole tree where no more are
--- wanted. For the laws `spelled_files_are_valid` and `clean_fields_are_valid` in src/validity.rt.
+-- wanted.
 use Rattle.std.proofs.Common.{◌≡◌, ℕ, zero, suc, ◌+◌, ◌-◌, ◌≤◌, Bool, true, false, cond, List, [], ◌∷◌, ◌++◌, length, refl, sym, ap, subst, ◌∙◌, Option, None, Some, Result, Ok, Err, arith}
 use Rattle.std.specs.Prelude.{not, ◌==◌, ◌&&◌, ℤ, pos, negsuc, neg_ℤ, nat_le, nat_abs, int_le}
 use Rattle.std.specs.Ordering.{int_eq}

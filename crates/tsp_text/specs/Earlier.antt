@@ -1,5 +1,4 @@
--- What the items before a place say, the last one first: keywords, their values, the open section and its words. For
--- FaultRows.antt, `Spells.antt`, Earlier.antt and Sections.antt, and for `Reading` of tsp_read.
+-- What earlier items of a text say of it: the values of its lines, and the words of its sections.
 use Rattle.std.specs.List.{find, list_any}
 use Rattle.std.specs.Option.{option_map, option_map_or, option_and_then}
 use Rattle.std.specs.Prelude.{ℕ, Bool, true, false, cond, List, [], ◌∷◌, ◌++◌, Option, None, Some, is_some, is_none, ℤ, codes, Result, nat_abs, unwrap_or}

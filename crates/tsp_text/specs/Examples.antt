@@ -1,5 +1,4 @@
--- Small texts, and what they parse to or their first fault. In them `/` means byte 10. For the laws of src/examples.rt,
--- which state them as worked out by hand.
+-- Small texts, and what they parse to or their first fault. In them `/` means byte 10.
 use Rattle.std.specs.Prelude.{◌≡◌, ℕ, ◌==◌, true, false, cond, List, [], ◌∷◌, ◌++◌, map, replicate, None, Some, codes, pos, negsuc}
 use Rattle.tsp_format.specs.declared.keyword.Field.{Field}
 use Rattle.tsp_format.specs.Steps.{Branch, Leaf}

@@ -1,7 +1,6 @@
 -- The table of the faults of a line or a word, a section `----` for each row: it says when the row applies to an item
--- after the items before it, the last one first. For Spells.antt, and so for the fault that the reader reports
--- (`src/state/` of tsp_read). Source: TSPLIB 95 (G. Reinelt) for the place of each word; the rows and their order are
--- this project's profile.
+-- after the items before it, the last one first. Source: TSPLIB 95 (G. Reinelt) for the place of each word; the rows
+-- and their order are this project's profile.
 use Rattle.std.specs.Prelude.{ℕ, ◌+◌, Bool, true, false, cond, not, ◌&&◌, ◌||◌, nat_lt, nat_le, List, [], ◌∷◌, length, Option, None, Some, is_none}
 use Rattle.std.specs.Option.{option_map, option_and_then, option_map_or, option_or}
 use Rattle.std.specs.Result.{result_err}

@@ -1,6 +1,4 @@
--- Sections by node: their words in groups, each with a node and its numbers, in any order of the nodes. For
--- src/by_node.rt and src/by_node.rt of tsp_read, and for `Spells.antt`. TSPLIB 95 (G. Reinelt):
--- NODE_COORD_SECTION, DISPLAY_DATA_SECTION, DEMAND_SECTION. This project's profile adds the sections of potentials.
+-- Sections whose words come in groups, in lists that -1 ends, or by node, and the sets of families.
 use Rattle.std.specs.List.{list_any, fold}
 use Rattle.std.specs.List.Sorted.{IsPermutation}
 use Rattle.std.specs.Ordering.{int_eq}

@@ -1,7 +1,4 @@
--- How a text is cut into lines and words, and a word line into keyword and value. For src/line.rt and src/line.rt of
--- tsp_read, and for Items.antt. tsp_read and tsp_read import it too. TSPLIB 95 (G. Reinelt) has lines of a keyword
--- and a value, and lines of numbers; what exactly ends a line, parts words and begins a keyword is this project's
--- profile.
+-- The lines of a text, cut into items: lines, words and line ends.
 use Rattle.std.specs.List.{filter, slice_split, prefix_len, take_while, before_first, list_any, list_all, AllByRecursion}
 use Rattle.std.specs.Prelude.{ℕ, Bool, true, false, cond, ◌==◌, List, [], ◌∷◌, drop, reverse, ◌+◌, nat_lt, ◌++◌, length, map, ◌≡◌, ◌-◌, not, slice_index}
 use Rattle.tsp_format.specs.Limits.{keyword_of, most_word_bytes, most_line_bytes}

@@ -1,6 +1,4 @@
--- The place of a word in its section, which says how the word is read and which faults it may have. For the definitions
--- of each section (Sections.antt lists them), and for FaultRows.antt. tsp_read, tsp_read and tsp_read import it
--- too.
+-- The words of each section at their places, and the numbers that they are: tours, weights, and the steps of a tree.
 use Rattle.std.specs.List.{slice_split, filter, fold}
 use Rattle.std.specs.Ordering.{int_eq}
 use Rattle.std.specs.Prelude.{ℕ, ℤ, Bool, List, ◌≡◌, ◌≤ℤ◌, false, cond, Result, Ok, Err, pos, negsuc, neg_ℤ, codes, not, length, map, nat_abs, ◌*◌, nat_le, ◌+◌, ◌-◌, ◌==◌, true, [], ◌∷◌, ◌++◌, Option, None, Some}

@@ -1,5 +1,4 @@
--- The text of each fault of a text: line, word and name. For `ReadFault` (src/fault.rt), `put_fault` of tsp_report, and
--- CheckRun.antt of tsp_judge.
+-- Which file a text parses to, or its first fault, and its text. Every text has exactly one answer.
 use Rattle.std.specs.List.{find, filter}
 use Rattle.std.specs.Option.{option_or, option_map}
 use Rattle.std.specs.Prelude.{ℕ, List, ◌++◌, codes, decimal, ◌≡◌, [], ◌∷◌, Option, None, Some, Bool, true, false, cond, ◌&&◌, ℤ, pos, neg_ℤ, not, nat_lt, length, take, reverse, Result, Ok, Err}

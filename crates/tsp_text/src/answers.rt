@@ -1,5 +1,4 @@
-//! Laws: every text has exactly one answer, its file or its first fault. For `src/round_trip.rt` of
-//! tsp_read.
+//! Laws: every text has exactly one answer, its file or its first fault.
 
 ghost use Rattle.std.specs.Prelude.{◌≡◌, ◌≢◌, ℕ, List, Some, true};
 ghost use Rattle.tsp_file.specs.Fields.{Fields};

@@ -1,5 +1,4 @@
--- The laws of src/laws.rt as a record, which lemmas take as an argument; and sums over the nodes and the links of
--- a cycle. tsp_cases imports it too. For the law `adjusted_bounds_bound_cycles` in src/laws.rt and others.
+-- No cycle is shorter than the bound by duals or by a least 1-tree: sums along cycles, tours as 1-trees, weak duality.
 use Rattle.std.proofs.Common.{◌≡◌, ◌≢◌, ℕ, ◌≤◌, ◌<◌, suc, ◌+◌, List, [], ◌∷◌, length, get_or, refl, sym, ap, subst, ◌∙◌, arith, Bool, true, false, not, eqb, cond, map, inl, inr, ◌*◌, ◌^◌, ◌++◌, to_z, of_z, zero, ◌-◌, take, drop, length-append, drop-cons}
 use Rattle.std.proofs.lemmas.Bool.{cases_Bool, or_parts, or_cases, both_ways, ne_eqb, eqb-true, eqb-false, cases_eq}
 use Rattle.std.proofs.lemmas.Int.{ints, to_z-of_z, fits_signed_from_abs}

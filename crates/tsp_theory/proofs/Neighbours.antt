@@ -1,6 +1,4 @@
--- How often a cycle crosses a part of its nodes: an even number of times, and so at least twice where it crosses at
--- all. tsp_routing and tsp_cases import it too. For the law `cycles_cross_combs` in src/laws.rt of tsp_cases and
--- others.
+-- How often a cycle crosses a part of its nodes, the links that join a pair, and bounds with numbers on pairs.
 use Rattle.std.proofs.Common.{◌≡◌, ℕ, Bool, true, false, not, cond, List, [], ◌∷◌, ℤ, ◌+ℤ◌, ◌≤ℤ◌, ◌⊎◌, inl, inr, refl, arith, ap, sym, ◌∙◌, ◌≢◌, zero, suc, ◌≤◌, ◌==◌, ◌&&◌, ◌||◌, subst, length, ap₂, subst₂}
 use Rattle.std.proofs.lemmas.Bool.{cases_Bool, both_ways, cases_eq, false_from_ne_true, and_parts, and_from, or_cases, or_left, or_right, eqb-true, eq-eqb, ne_eqb}
 use Rattle.std.proofs.lemmas.Bool.Decides.{nat_tests}

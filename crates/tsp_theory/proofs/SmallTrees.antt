@@ -1,5 +1,4 @@
--- Least 1-trees of four nodes in which node 3 joins node 2, and node 4 one of both; and least pairs at a node. For the
--- laws `examples_of_forests` and `examples_of_trees` in src/examples.rt.
+-- Least 1-trees of four nodes in which node 3 joins node 2, and node 4 one of both; and least pairs at a node.
 use Rattle.std.proofs.Common.{◌≡◌, ◌≢◌, ℕ, zero, suc, ◌==◌, true, false, List, [], ◌∷◌, rules, arith, refl, sym, subst}
 use Rattle.std.specs.Prelude.{ℤ, ◌≤ℤ◌}
 use Rattle.std.proofs.lemmas.Bool.{both_ways, eq-eqb, eqb-true}

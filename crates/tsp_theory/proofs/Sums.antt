@@ -1,5 +1,4 @@
--- Sums of whole numbers over lists: in another order, of two sums, of multiples and of smaller numbers. tsp_routing and
--- tsp_cases import it too. For the law `lengths_add_up` in src/laws.rt and others.
+-- Sums over lists, nodes and links, their sizes in 64 and 128 bits, and division by the scale.
 use Rattle.std.proofs.Common.{◌≡◌, ℕ, zero, suc, List, [], ◌∷◌, refl, arith, ◌≢◌, ◌-◌, ◌<◌, ◌≤◌, length, get_or, sym, ap, ◌∙◌, ◌+◌, ◌*◌, to_z, of_z, subst, ◌/◌, ◌^◌, ◌==◌, inl, inr}
 use Rattle.std.proofs.Math.IntN.{suc_ℤ-*ℤ, zero-*ℤ, *ℤ-zero, +ℤ_assoc, +ℤ_idr, pos-*ℤ-pos, pos-*ℤ-negsuc}
 use Rattle.std.proofs.Math.Nat.{mul-le-mul, mul-suc, div-le_self}

@@ -1,5 +1,4 @@
--- The cut property: least joins, as many as a tree has, join all nodes and weigh no more than any pairs that do.
--- Growths are such. For `grow` in src/rounds.rt of tsp_bound and others.
+-- Least joins make a least tree and a least 1-tree, as they are found step by step.
 use Rattle.std.proofs.Common.{◌≡◌, ℕ, zero, suc, ◌+◌, ◌≤◌, ◌==◌, Bool, true, false, List, [], ◌∷◌, ◌++◌, length, append_assoc, append-nil, ℤ, ◌+ℤ◌, ◌≤ℤ◌, inl, inr, refl, arith, ap, sym, ◌∙◌, subst, ◌≢◌, ◌<◌, not, ◌||◌, cond, map, ltb, take, drop, to_z, of_z}
 use Rattle.std.proofs.Math.ListN.{set}
 use Rattle.std.proofs.Math.Seq.{take-append_seam}

@@ -1,5 +1,5 @@
--- The numbers of a certificate, their limits, and the bound that a sum of them gives at a scale. For `Potentials`,
--- `Duals` and `Multipliers` of tsp_bound, and for the bounds of tsp_cases, tsp_branch and tsp_routing.
+-- The lower bounds that numbers on nodes give: least 1-trees under potentials, with numbers on pairs or without, and
+-- duals of an assignment.
 use Rattle.std.specs.List.{All, AllPairs}
 use Rattle.std.specs.Prelude.{◌≡◌, ◌≢◌, ℕ, ◌-◌, ◌^◌, ◌*◌, ◌≤◌, List, length, slice_index_or, ℤ, pos, neg_ℤ, ◌*ℤ◌, ◌≤ℤ◌, ◌+◌, ◌+ℤ◌, ◌-ℤ◌, ◌==◌, ◌&&◌, ◌||◌, Bool, false, if◌then◌else◌, [], ◌<ℤ◌}
 use Rattle.tsp_format.specs.Limits.{most_scale, most_potential, most_triples, most_multiplier, most_weight}

@@ -1,6 +1,4 @@
--- Rows of costs as code has them; and symmetric costs, re-exported from Words.antt of tsp_format. For `costs_from`
--- of `Costs` (src/costs.rt), and for the bounds by 1-trees, which need symmetric costs. Four crates above import it
--- too.
+-- Costs between nodes, as functions, and boxes of the plane or space.
 use Rattle.std.specs.Prelude.{◌≡◌, ℕ, ℤ, List, slice_index_or, pos, neg_ℤ, ◌≤ℤ◌}
 use Rattle.tsp_number.specs.declared.decimal.Point.{Point}
 use Rattle.tsp_format.specs.Limits.{most_weight}

@@ -1,5 +1,4 @@
--- Small costs, trees and numbers of nodes. For the laws of src/examples.rt, which state 1-trees, duals and bounds
--- worked out by hand; Examples.antt imports `directed`.
+-- Small costs, cycles, trees and duals, on which the definitions are evaluated.
 use Rattle.std.specs.Prelude.{ℕ, ◌+◌, ◌-◌, ◌*◌, ◌/◌, ◌==◌, if◌then◌else◌, min, max, List, [], ◌∷◌, slice_index_or, ℤ, pos, negsuc, ◌≡◌}
 use Rattle.tsp_theory.specs.Tour.{length_of}
 

@@ -1,7 +1,6 @@
 -- Least trees over the nodes 2..n that are put together by least pairs: each pair is a least one that leaves a set of
--- nodes which no earlier pair leaves. For `grow` (src/rounds.rt of tsp_bound, src/tree.rt of tsp_bound). R. C. Prim's
--- growth takes the set of grown nodes, O. Boruvka's rounds (1926) any component. Source: R. E. Tarjan, Data structures
--- and network algorithms, 1983, chapter 6: the blue rule.
+-- nodes which no earlier pair leaves. R. C. Prim's growth takes the set of grown nodes, O. Boruvka's rounds (1926) any
+-- component. Source: R. E. Tarjan, Data structures and network algorithms, 1983, chapter 6: the blue rule.
 use Rattle.std.specs.Prelude.{◌≡◌, ℕ, ◌+◌, Bool, false, List, [], ◌∷◌, ◌++◌, length, ℤ}
 use Rattle.std.specs.List.{All}
 use Rattle.tsp_theory.specs.Tree.{IsLeastLeaving, IsInner, crosses}

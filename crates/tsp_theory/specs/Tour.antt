@@ -1,5 +1,5 @@
--- Travelling salesman problems, their tours, and bounds on the lengths of these. For the meanings of `yes`
--- (Accepted.antt of tsp_judge), and for Problems.antt of tsp_cost. Source: TSPLIB 95 (G. Reinelt), FIXED_EDGES_SECTION.
+-- Tours of a travelling salesman problem and plans of a routing problem: cycles, their lengths, and which nodes and
+-- customers they serve.
 use Rattle.std.specs.List.{All, AllPairs, Contains, concat}
 use Rattle.std.specs.Prelude.{◌≡◌, ◌≢◌, ℕ, Bool, true, false, List, [], ◌∷◌, length, ◌⊎◌, ℤ, pos, ◌+ℤ◌, ◌≤ℤ◌, ◌-◌, ◌≤◌, slice_index_or, ◌*ℤ◌}
 use Rattle.tsp_format.specs.Nodes.{IsNode}

@@ -1,6 +1,4 @@
--- 1-trees, by their cuts: a pair leaves each set of the nodes 2..n that is neither empty nor all of them. For the
--- bounds of Bounds.antt and Bounds.antt, and for `least_one_tree` (src/bound.rt of tsp_bound). Six crates above
--- import it too. Source: M. Held and R. M. Karp, The traveling-salesman problem and minimum spanning trees, 1970.
+-- Trees and 1-trees over the nodes of a problem, their weights, and least growths.
 use Rattle.std.specs.List.{All, list_any, filter}
 use Rattle.std.specs.Prelude.{◌≡◌, ◌≢◌, ℕ, ◌==◌, ◌<◌, ◌≤◌, Bool, true, false, not, if◌then◌else◌, List, [], ◌∷◌, length, ℤ, pos, ◌≤ℤ◌, ◌+◌, ◌||◌, map, nat_lt}
 use Rattle.tsp_theory.specs.Tour.{sum_int_by}

@@ -1,5 +1,4 @@
 //! Laws on cycles and their lengths: a cycle has each node once and no loop, and lengths add up.
-//! For `src/laws.rt`, and `src/laws.rt` of tsp_cases.
 
 ghost use Rattle.std.specs.List.Sorted.{IsPermutation};
 ghost use Rattle.std.specs.Prelude.{◌≡◌, ◌≢◌, ◌≤◌, ℕ, ℤ, List, pos, ◌+ℤ◌, ◌*ℤ◌, ◌≤ℤ◌};

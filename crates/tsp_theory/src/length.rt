@@ -1,5 +1,4 @@
-//! The lengths of lists of nodes. For tours in `src/solution_verdict.rt` of tsp_verdict, and the line
-//! `canonical` in `src/shown.rt` of tsp_report.
+//! The lengths of lists of nodes.
 
 ghost use Rattle.std.specs.Prelude.{◌≡◌, ◌≤◌, ◌++◌, ◌∷◌, [], map, length, vec_len, IfOk, OnOk};
 ghost use Rattle.std.specs.List.{All};

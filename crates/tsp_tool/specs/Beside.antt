@@ -1,4 +1,4 @@
--- Opened files that aren't a standard stream. For `opened` of `Host` (src/main.rt), which opens the files of a task.
+-- Opened files that aren't a standard stream.
 use Rattle.std.specs.Prelude.{ℤ, pos, ◌<ℤ◌}
 use Rattle.std.specs.Fd.{file_raw_fd}
 use Rattle.std.specs.declared.fs.File.{File}

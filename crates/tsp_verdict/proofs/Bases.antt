@@ -1,5 +1,4 @@
--- What is found of an instance with a certificate, where a solution is accepted without it: then no reason applies to
--- the instance. For `Subject::verdict_on_tour` in src/solution_verdict.rt and others.
+-- The verdict on a solution by what is known of its instance before it is read.
 use Rattle.std.proofs.Common.{◌≡◌, Some, inl, inr, Option, None, ℕ, refl, sym, subst, ◌∙◌, ◌<◌, ◌≤◌, true, ap₂, arith}
 use Rattle.std.proofs.lemmas.Bool.{false≢true}
 use Rattle.std.specs.Prelude.{◌⊎◌, ℤ, IsTrue, MatchOption, option_map}

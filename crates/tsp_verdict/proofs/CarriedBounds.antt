@@ -1,5 +1,4 @@
--- A certificate's bound for the costs that the code looks up is its bound for the instance, whose costs are the same.
--- For `assignment_bound` and `tree_bound` in src/potentials_certificate.rt.
+-- A certificate's bound for the costs that the code looks up is its bound for the instance.
 use Rattle.std.proofs.Common.{◌≡◌, ℕ, List, [], ◌∷◌, get_or, inl, inr, refl, sym, ap, ap₂, subst, subst₂, arith, Option}
 use Rattle.std.proofs.lemmas.Int.{ints}
 use Rattle.std.proofs.lemmas.List.Elements.{All-contains}

@@ -1,5 +1,4 @@
--- There is one first reason: reasons of one rank differ in their numbers alone, and a definition says which numbers
--- those are. For the law `files_have_one_verdict` in src/one_verdict.rt.
+-- There is one first reason, by the TYPE of the instance and of the certificate.
 use Rattle.std.proofs.Common.{◌≡◌, ◌∙◌, ℕ, zero, suc, List, [], ◌∷◌, inl, inr, refl, sym, ap, subst, ◌≢◌, ◌⊎◌, Option, Some, None, ◌-◌, ◌<◌, ◌≤◌, true, false, subst₂, arith}
 use Rattle.std.proofs.lemmas.Bool.{cases_order, false≢true}
 use Rattle.std.proofs.lemmas.Int.{ints}

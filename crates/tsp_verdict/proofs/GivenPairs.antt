@@ -1,5 +1,4 @@
--- The keys of a set of pairs: those of two pairs are equal exactly where the pairs are the same, with a direction or
--- without. For `taken_once` in src/certificate.rt and others.
+-- The keys of a set of pairs, and the fixed pairs of an instance, each once.
 use Rattle.std.proofs.Common.{◌≡◌, ℕ, ◌||◌, Bool, true, false, cond, eqb, leb, refl, sym, ap, ap₂, subst, ◌∙◌, inl, inr, arith, ◌+◌, ◌<◌, ◌≤◌, ◌&&◌, not, List, [], ◌∷◌, ◌++◌, get_or, length, take, drop, drop-cons, add-one, ◌-◌}
 use Rattle.std.proofs.lemmas.Bool.{and_from, and_parts, cases_cond, cases_order, eq-eqb, eqb-true, false≢true, le-leb, le-ltb, lt-leb, or_cases, cases_Bool, cases_lt}
 use Rattle.std.proofs.lemmas.List.{append_assoc, drop_all, append-nil, length-map, take_more, get_or-take, get_or_default, length-take-le}

@@ -1,5 +1,4 @@
--- The reasons against an instance and then against its certificate, of which the first one is the answer of a bound.
--- For `Subject::basis_on` in src/solution_verdict.rt.
+-- Two reasons of one rank that apply to the same files have the same numbers.
 use Rattle.std.proofs.Common.{◌<◌, ◌⊎◌, inl, inr, arith, ◌≡◌, ◌∙◌, ℕ, ◌+◌, ◌-◌, List, length, refl, sym, ap, ap₂, subst}
 use Rattle.std.proofs.lemmas.Bool.{cases_order, false≢true}
 use Rattle.std.proofs.lemmas.Int.{ints}

@@ -1,5 +1,5 @@
 -- Files have one verdict: its reason has one rank and numbers, its length is that of the tour or plan, its bound one
--- number. For the law `files_have_one_verdict` in src/one_verdict.rt.
+-- number.
 use Rattle.std.proofs.Common.{◌≡◌, ◌∙◌, ℕ, false, List, [], ◌∷◌, get_or, inl, inr, refl, sym, ap, ap₂, subst, arith}
 use Rattle.std.specs.Prelude.{Option, None, Some, ℤ}
 use Rattle.std.proofs.lemmas.Bool.{false≢true}

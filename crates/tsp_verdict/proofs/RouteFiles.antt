@@ -1,5 +1,4 @@
--- Places in a plan: the nodes of its routes as one list, and the first place in it, found route by route. For
--- `first_larger_in` in src/routes.rt and others.
+-- Routes as they stand in a file: places, lengths, loads, and the least number of routes.
 use Rattle.std.proofs.Common.{◌≡◌, ℕ, zero, suc, ◌+◌, ◌-◌, ◌<◌, ◌≤◌, List, [], ◌∷◌, ◌++◌, length, get_or, take, refl, sym, ap, subst, ◌∙◌, inl, inr, arith, length-append, ◌≢◌, true, false, Option, None, Some, eqb, drop, to_z, of_z, drop-cons, add-one, ◌*◌, ◌/◌}
 use Rattle.std.proofs.Math.IntN.{suc_ℤ-*ℤ, zero-*ℤ, +ℤ_assoc, +ℤ_idr}
 use Rattle.std.proofs.Math.Nat.{div-mul-le_self, lt-div-mul-add, mul-le-mul_right}

@@ -1,5 +1,4 @@
--- After each test that finds nothing, the reasons against routes up to that test are ruled out. For `verdict_on_routes`
--- in src/routes.rt.
+-- Reasons against routes and their certificate, ruled out one by one, and the verdict.
 use Rattle.std.proofs.Common.{ℕ, ◌≤◌, arith, ◌≡◌, ◌≢◌, ◌+◌, ◌-◌, ◌<◌, Bool, true, false, List, [], length, None, refl, sym, ap, subst, ◌∙◌, zero, suc, ◌*◌, ◌∷◌, to_z, of_z}
 use Rattle.std.proofs.lemmas.Bool.{false≢true}
 use Rattle.std.proofs.lemmas.Int.{ints, to_z-of_z}

@@ -1,5 +1,4 @@
--- Marks of nodes: a node is marked exactly where it is at one of the first places of a list. For `first_repeated` in
--- src/tour.rt and others.
+-- Reasons against a tour, ruled out one by one: marks of nodes, fixed pairs, and the verdict.
 use Rattle.std.proofs.Common.{◌≡◌, ◌≢◌, ℕ, zero, suc, ◌+◌, ◌-◌, ◌<◌, ◌≤◌, Bool, true, false, List, [], ◌∷◌, length, Option, None, Some, get_or, set, replicate, refl, sym, ap, subst, ◌∙◌, arith, inl, inr, map, eqb, ◌++◌, add-one}
 use Rattle.std.proofs.lemmas.Bool.{cases_lt, false≢true, eqb-true, eq-eqb}
 use Rattle.std.proofs.lemmas.List.{get_or_default, append-nil}

@@ -1,5 +1,4 @@
--- The families of a valid file are sets of its nodes, and few enough. How often cycles cross them is one list of
--- numbers. For `judge_tree` in src/certificate.rt and others.
+-- Reasons against a certificate by branching, ruled out one by one, and the bound that it gives.
 use Rattle.std.proofs.Common.{◌≡◌, ℕ, ◌<◌, ◌≤◌, List, [], ◌∷◌, length, refl, ap₂, arith, ◌≢◌, ◌∙◌, ◌-◌, Bool, true, false, get_or, inl, inr, sym, ap, subst, subst₂}
 use Rattle.std.proofs.Math.Path.{fun_ext}
 use Rattle.std.proofs.lemmas.Bool.{false≢true}

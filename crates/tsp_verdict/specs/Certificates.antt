@@ -1,5 +1,5 @@
--- Which multipliers of a file are on a pair that isn't fixed, or on the pair of an earlier one. For `first_outside` and
--- `first_repeated_pair` (src/potentials_certificate.rt), and for Certificates.antt.
+-- When a reason applies to a certificate, and its bound: by potentials, by branches for tours, and by branches for
+-- routes.
 use Rattle.std.specs.List.{All, Contains}
 use Rattle.std.specs.Prelude.{◌≡◌, ℕ, ◌-◌, ◌<◌, ◌≤◌, true, List, slice_index_or, ℤ, pos, ◌⊎◌, ◌≢◌, Bool, false, ◌&&◌, [], Option, None, Some, is_some, not, ◌∷◌, length, filter, nat_abs}
 use Rattle.tsp_format.specs.Steps as listed

@@ -1,6 +1,4 @@
--- The bound of a certificate, by its kind and the TYPE of the instance, and the verdict on a solution with a
--- certificate. For `bound_by` (src/certificate.rt), SolutionVerdict.antt, and the meanings of `yes`
--- (Accepted.antt of tsp_judge). The files `..Certificate.antt` have the reasons and the bound of each kind.
+-- The bound of a certificate of each TYPE, and the verdict on an instance and a certificate without a solution.
 use Rattle.std.specs.Prelude.{◌≡◌, ◌⊎◌, ℕ, Bool, true, false, List, [], ◌∷◌, Option, None, Some, ◌^◌, ℤ, pos, neg_ℤ, ◌≢◌, ◌<◌, ◌≤◌, length}
 use Rattle.tsp_format.specs.Steps.{IsFromTo}
 use Rattle.tsp_format.specs.Words.{IsFirstAsymmetric}

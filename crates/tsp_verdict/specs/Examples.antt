@@ -1,5 +1,4 @@
--- Small instances, solutions and certificates. For the laws of src/examples.rt, src/examples.rt,
--- src/examples.rt and src/solution_verdict.rt, which state the verdicts on them, and for src/examples.rt of tsp_judge.
+-- Small instances, solutions and certificates.
 use Rattle.std.specs.Prelude.{codes, ℕ, ◌<◌, List, [], ◌∷◌, Option, None, Some, ℤ, pos}
 use Rattle.tsp_format.specs.declared.kinds.Kind.{Kind}
 use Rattle.tsp_format.specs.declared.kinds.Kind.TheVariants as kinds

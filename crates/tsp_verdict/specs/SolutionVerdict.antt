@@ -1,5 +1,5 @@
--- The verdict on a solution: without a certificate, by the TYPE of the instance; with a certificate; and with a claimed
--- length. For `judge` (src/solution_verdict.rt), and so for a check (CheckRun.antt of tsp_judge).
+-- The verdict on a solution, with a certificate or without, by what is known of its instance, and with unknown keywords
+-- as a reason.
 use Rattle.std.specs.Prelude.{◌≡◌, ◌≢◌, ◌⊎◌, Bool, Option, None, Some, ℤ, IsTrue, true, false, List, [], ◌∷◌, ℕ}
 use Rattle.tsp_format.specs.declared.kinds.Kind.{Kind}
 use Rattle.tsp_format.specs.declared.kinds.Kind.TheVariants as kinds

@@ -1,6 +1,5 @@
--- The first place of a list at which something holds; places count from 1. For `first_repeated` and `first_larger`
--- (src/tour.rt), `first_overload` (src/routes.rt), and for the reasons with a place in Solutions.antt and
--- Solutions.antt.
+-- The verdict on a tour or on routes without a certificate: the first reason that applies, in the order in which
+-- reasons are judged.
 use Rattle.std.specs.List.{concat, All, Contains}
 use Rattle.std.specs.Prelude.{◌≡◌, ℕ, ◌-◌, ◌<◌, ◌≤◌, Bool, List, length, slice_index, slice_index_or, [], unwrap_or, ◌≢◌, false, ◌∷◌, None, Some, ℤ, pos, ◌<ℤ◌}
 use Rattle.tsp_format.specs.Nodes.{nodes_to}

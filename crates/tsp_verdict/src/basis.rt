@@ -1,5 +1,5 @@
 //! The basis of all solutions of an instance, before any is read: their bounds, or the reason
-//! against all. For `src/solution_verdict.rt`, and comparisons and open instances in tsp_judge.
+//! against all.
 
 ghost use Rattle.std.specs.Prelude.{◌≡◌, IsTrue, None, Some, MatchResult, option_map, ◌⊎◌, ◌≤◌};
 ghost use Rattle.tsp_format.specs.declared.kinds.Kind.TheVariants as kinds;

@@ -1,5 +1,4 @@
-//! The bound that a certificate gives tours, by its kind, and which instances it can be for. For
-//! `src/solution_verdict.rt` and `src/basis.rt`.
+//! The bound that a certificate gives tours, by its kind, and which instances it can be for.
 
 ghost use Rattle.std.specs.Prelude.{◌≡◌, ◌⊎◌, ◌≤◌, Some, IfOk, IsOk, IsErr, true, MatchResult};
 ghost use Rattle.tsp_format.specs.declared.kinds.Kind.TheVariants as kinds;

@@ -1,5 +1,4 @@
-//! The bound that a file of potentials gives tours, or the first reason against it. For
-//! `src/certificate.rt`.
+//! The bound that a file of potentials gives tours, or the first reason against it.
 
 ghost use Rattle.std.specs.List.{All, AllPairs};
 ghost use Rattle.std.specs.Prelude.{◌≡◌, ◌≤◌, false, true, length, Some, IfOk, IsErr, MatchOption, MatchResult, ◌^◌, ◌<◌, ℕ, List};

@@ -1,6 +1,5 @@
 //! The verdict on routes: the first reason against the instance or the plan, or its number of
-//! routes and its length. For `src/solution_verdict.rt`, `src/basis.rt` and
-//! `src/basis.rt`.
+//! routes and its length.
 
 ghost use Rattle.std.specs.List.{All};
 ghost use Rattle.std.specs.Prelude.{◌≡◌, ◌≤◌, length, pos, Some, MatchOption, MatchResult, ◌≢◌, ◌+◌, ◌^◌, ◌<◌, ℕ, true, false, vec_len, slice_index_or, map, ◌≤ℤ◌, ◌∷◌, IfOk, IsErr};

@@ -1,5 +1,5 @@
 //! The verdict on a solution, by a certificate or by the basis of all solutions, and by a claimed
-//! length, if any. For `src/check.rt`, `src/compared.rt` and `src/opened.rt` of tsp_judge.
+//! length, if any.
 
 ghost use Rattle.std.specs.Prelude.{IsTrue, MatchResult, Option, option_map, ◌≡◌, true, false, [], ◌∷◌, None, Some, pos, MatchOption};
 ghost use Rattle.tsp_format.specs.declared.kinds.Kind.TheVariants as kinds;

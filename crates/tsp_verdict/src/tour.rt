@@ -1,5 +1,4 @@
 //! The tour of a solution, the reasons that its nodes show, and the costs of an instance of tours.
-//! For `src/solution_verdict.rt`, `src/basis.rt` and others.
 
 ghost use Rattle.std.specs.Bool.{OnTrue};
 ghost use Rattle.std.specs.List.{All};

@@ -1,6 +1,5 @@
 -- A tree of boxes over the nodes of an order, with one node in each leaf, and the nearest node that a search of it
--- finds. For `boxes_of` (src/boxes.rt), and for `Search` (src/search.rt), which finds a `Best` (src/search.rt).
--- `outside j`: the node at the place j of the order is in another component, so it may be found.
+-- finds; nodes with their points and numbers, by their places.
 use Rattle.std.specs.Prelude.{◌≡◌, ℕ, zero, suc, ◌+◌, ◌*◌, ◌/◌, ◌<◌, ◌≤◌, Bool, true, List, Option, None, Some, length, slice_index_or, slice_set, ℤ, pos, ◌≤ℤ◌, ◌⊎◌, neg_ℤ}
 use denote.Struct.Props as logic
 use mathlib.Core.HLevel.{Π_prop, ⊥_prop}

@@ -1,5 +1,4 @@
--- The node at a place of a list of nodes. For `count_lowered` and `lowered`, which list nodes, of `BoxedWeights`
--- (src/boxed_weights.rt).
+-- The multipliers of pairs, listed at both nodes of each, and a list of nodes by its places.
 use Rattle.std.specs.Global.{Vec}
 use Rattle.std.specs.List.{All, AllPairs}
 use Rattle.std.specs.Prelude.{ℕ, List, slice_index_or, ◌≡◌, ◌≢◌, ◌+◌, ◌≤◌, ◌==◌, if◌then◌else◌, [], ◌∷◌, ◌++◌, length, ℤ, pos}

@@ -1,6 +1,5 @@
--- The components of a forest over the places 0..n-1 of an order, each with a label, and the lightest links between
--- them. For `Labelled` (src/boxes.rt) and `Listed` (src/lists.rt), whose components the rounds of src/rounds.rt
--- join.
+-- The components of a forest over the places 0..n-1 of an order, each with a label, the lightest links between them,
+-- and the twelve lightest links of each place.
 use Rattle.std.specs.List.{All}
 use Rattle.std.specs.Prelude.{◌≡◌, ◌≢◌, ℕ, ◌+◌, ◌*◌, ◌^◌, ◌==◌, ◌<◌, Bool, true, not, if◌then◌else◌, List, [], length, slice_index_or, Option, None, Some, ℤ, pos, neg_ℤ, ◌≤ℤ◌, IfSome, ◌⊎◌, slice_set}
 use Rattle.tsp_format.specs.Limits.{most_nodes}

@@ -1,5 +1,4 @@
--- The fields of `Duals` (src/duals.rt): a number for each row and each column of the costs, at a scale. For
--- `dual_bound` (src/assignment.rt), and for src/potentials_certificate.rt of tsp_verdict.
+-- The fields of `Duals` (src/duals.rt): a number for each row and each column of the costs, at a scale.
 use Rattle.std.specs.Prelude.{ℕ, List, ℤ, ◌+ℤ◌, ◌*ℤ◌}
 use Rattle.tsp_bound.specs.declared.duals.Duals.{Duals}
 use Rattle.tsp_theory.specs.Bounds.{entry}

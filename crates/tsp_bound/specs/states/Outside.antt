@@ -1,5 +1,5 @@
 -- The state of a growing tree by the list of the nodes that aren't grown, in any order, each with the nearest grown
--- node and the weight between the two. For `grow`, `bring` and `reach` (src/tree.rt).
+-- node and the weight between the two.
 use Rattle.std.specs.Prelude.{◌≡◌, ℕ, ◌<◌, ◌+◌, List, length, slice_index, ℤ, ◌≤ℤ◌}
 use Rattle.tsp_theory.specs.Tree.{IsInner}
 use Rattle.tsp_theory.specs.states.Nearest.{least_at, IsNearer}

@@ -1,5 +1,4 @@
--- The fields of `Potentials` (src/potentials.rt), a number for each node at a scale, and the weights that they give.
--- For `Weights` (src/weights.rt) and `least_one_tree` (src/bound.rt). `IsInverse` is for `inverse_of` (src/search.rt).
+-- The fields of `Potentials` and the triples of `Multipliers`, and the weights of pairs that they give.
 use Rattle.std.specs.Prelude.{ℕ, ◌≢◌, ◌*◌, ◌^◌, ◌≤◌, List, ℤ, pos, nat_abs, []}
 use Rattle.tsp_theory.specs.Bounds.{weight_between, adjusted}
 use Rattle.tsp_bound.specs.declared.by_node.ByNode.{ByNode}

@@ -1,5 +1,4 @@
--- Rows of weights in which the links that decisions don't allow are closed. For `close_all` (src/case_leaf.rt) and
--- `AllowedRows` (src/case_leaf.rt). A row has the weights from one node, each at the index of the other node.
+-- Rows of a leaf's weights: the links that decisions close, and what sets and decisions add between two nodes.
 use Rattle.std.specs.List.{list_any, filter}
 use Rattle.std.specs.Prelude.{◌≡◌, ℕ, List, ◌⊎◌, ℤ, pos, ◌==◌, ◌&&◌, Bool, true, false, if◌then◌else◌, map, reverse, slice_index_or, negsuc, neg_ℤ, ◌+ℤ◌, ◌*ℤ◌}
 use Rattle.tsp_format.specs.Nodes.{IsNode}

@@ -1,6 +1,4 @@
--- The two numbers of a family as code finds them: a value of `Crossings` of tsp_cases, with how often a cycle
--- crosses the sets at least, and how many of them two nodes cross at most. For src/good_families.rt and
--- src/good_families.rt.
+-- The two numbers of a family as code finds them, and the marks by which it finds a node that comes twice.
 use Rattle.std.specs.Global.{Vec}
 use Rattle.std.specs.List.{All}
 use Rattle.std.specs.Prelude.{◌<◌, ◌^◌, ℕ, List, Option, Some, None, ◌≡◌, ◌≢◌, ◌==◌, ◌||◌, length, Bool, false, [], ◌∷◌, slice_index}

@@ -1,6 +1,4 @@
--- A row of weights for each node, kept from leaf to leaf: it has what doesn't depend on potentials, and changes where
--- multipliers or decisions do. For `KeptRows` (src/kept.rt) and its users in src/case_leaf.rt of tsp_branch and
--- src/plan_leaf.rt of tsp_routing.
+-- Rows of weights that are kept from leaf to leaf, and the memory that a pass over the leaves writes over.
 use Rattle.std.specs.Global.{Vec}
 use Rattle.std.specs.Int.{w64, int_wrap}
 use Rattle.std.specs.List.{All}

@@ -1,5 +1,4 @@
--- How decisions change weights: each that of its pair, by the same number; and the stack of decisions of the open case.
--- For `Decision` (src/open_case.rt), `OpenCase` (src/open_case.rt), and src/case_leaf.rt of tsp_branch.
+-- The decisions of the open case as code has them: a stack, a list for each node, and how they change weights.
 use Rattle.std.specs.Global.{Vec}
 use Rattle.std.specs.Int.{w64, int_wrap}
 use Rattle.std.specs.List.{All, filter}

@@ -1,6 +1,4 @@
--- The place of a set among families: the index of its family, and its index in the family, both from 0 on. For
--- `SetPlace` (src/sets.rt), `set_at` of `Families` (src/families.rt) and `add_sets` (src/sets.rt). tsp_branch
--- and tsp_routing import it too.
+-- The places of the sets that have a node, the fields of `Families`, and what multipliers of sets add to weights.
 use Rattle.std.specs.Global.{Vec}
 use Rattle.std.specs.List.{All}
 use Rattle.std.specs.Prelude.{ℕ, ◌<◌, List, [], length, slice_index_or, ◌≡◌, suc, ◌==◌, ◌+◌, ◌++◌, ◌≤◌, if◌then◌else◌, ◌∷◌, ℤ, pos, neg_ℤ, ◌+ℤ◌, ◌-ℤ◌, ◌*ℤ◌}

@@ -1,5 +1,4 @@
--- A file to be read that is standard input, an opened file, or missing, and what a read of it does. For `InputFile`
--- (src/input.rt), which src/main.rt of tsp_tool makes.
+-- A file to be read that is standard input, an opened file, or missing, and what a read of it does.
 use Rattle.std.specs.Prelude.{◌≡◌, ℕ, ℤ, Bool, true, false, List, Option, None, Some, Result, Err}
 use Rattle.std.specs.IoError.{error_kind, raw_os_error}
 use Rattle.std.specs.declared.io.Error.{Error}

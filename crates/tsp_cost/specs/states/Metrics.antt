@@ -1,5 +1,4 @@
--- The distance EUC_2D of points whose coordinates differ by whole numbers of steps; a step is a 512th of a unit. For
--- `nearest_root` (src/metric.rt).
+-- The weight type of each `Metric`, distances of points on a grid, and the sum of costs along a list of nodes.
 use Rattle.std.specs.Prelude.{ℕ, ◌+◌, ◌-◌, ◌*◌, ◌<◌, ◌≤◌, ◌≡◌, List, ◌∷◌, ◌++◌, length, slice_index_or, ℤ, pos, ◌+ℤ◌, ◌≤ℤ◌}
 use Rattle.tsp_number.specs.Distances.{squared}
 use Rattle.tsp_number.specs.declared.decimal.Point.{Point}

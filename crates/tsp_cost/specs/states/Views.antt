@@ -1,5 +1,4 @@
--- What `Instance` (src/instance.rt) has found out of its file when it was made: the number of nodes, and where the
--- costs come from, as a `CostSource` (src/instance.rt).
+-- What `Instance` has found out of its file when it was made: the number of nodes, and where their costs are.
 use Rattle.std.specs.Prelude.{◌≡◌, ℕ, Some, IsSome, IsTrue, ◌≢◌, true, false, length, map, ℤ}
 use Rattle.tsp_number.specs.Distances.{on_plane}
 use Rattle.tsp_number.specs.declared.decimal.PlanePoint.{PlanePoint}

@@ -1,5 +1,4 @@
--- The columns of a row whose costs are next to each other among the listed weights of a layout, if costs are symmetric.
--- For the lemmas of proofs/Spread.antt alone.
+-- The fields of a draft as lists, and the states of a change of layout: half and full matrices, rows and columns.
 use Rattle.std.specs.Global.{Vec}
 use Rattle.std.specs.List.{All}
 use Rattle.std.specs.Option.{option_map}

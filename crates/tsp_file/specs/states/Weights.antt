@@ -1,4 +1,4 @@
--- The costs that the listed weights of a file give. For the calls of `ListedWeights` (src/typed.rt).
+-- The costs that the listed weights of a file give.
 use Rattle.std.specs.Prelude.{ℕ, ℤ}
 use Rattle.tsp_file.specs.declared.typed.ListedWeights.{ListedWeights}
 use Rattle.tsp_file.specs.Cost.{listed_cost}

@@ -1,4 +1,4 @@
-//! Writes EDGE_WEIGHT_SECTION, a line for each line of its layout. For `src/writer.rt`.
+//! Writes EDGE_WEIGHT_SECTION, a line for each line of its layout.
 
 ghost use Rattle.std.specs.Fmt.{signed_decimal, decimal};
 ghost use Rattle.std.specs.List.{flat_map};

@@ -1,6 +1,5 @@
 //! Writes the sections of a canonical text but for weights and trees of cases: numbers and points
-//! by node, nodes, pairs, triples, tours. For `src/writer.rt`, `src/writer/matrix.rt` and
-//! `src/writer.rt`.
+//! by node, nodes, pairs, triples, tours.
 
 ghost use Rattle.std.specs.Fmt.{decimal, signed_decimal};
 ghost use Rattle.std.specs.List.{flat_map};

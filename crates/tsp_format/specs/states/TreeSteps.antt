@@ -1,5 +1,5 @@
 -- The steps of a tree of cases where code has them as vectors: `TreeStep` (src/steps.rt), as the definitions of
--- Steps.antt. For the draft, the writer, and the passes of tsp_cases and tsp_routing. Seven crates above import it too.
+-- Steps.antt. Seven crates above import it too.
 use Rattle.std.specs.Prelude.{List, map}
 use Rattle.tsp_format.specs.declared.steps.TreeStep.{TreeStep}
 use Rattle.tsp_format.specs.declared.steps.TreeStep.TheVariants as listed

@@ -1,5 +1,4 @@
--- The fields of a watched reader or writer, and its `Turn` or `Sink` by what it was before a call and is after it. For
--- `Watched` (src/watched.rt), and for every call that reads or writes. Six crates above import it too.
+-- The fields of a watched reader or writer, and how far a text has come on its way to a writer.
 use Rattle.std.specs.Io.KnownBytes.{Appends}
 use Rattle.std.specs.IoError.{error_kind}
 use Rattle.std.specs.Prelude.{◌≡◌, ℕ, ◌<◌, Bool, true, List, length, Option, Some, Result, Ok, Err, ◌&&◌, ◌==◌, nat_lt, false, ◌++◌, ◌⊎◌, [], ◌∷◌}

@@ -1,5 +1,4 @@
--- Where a number word at the beginning of some bytes ends. For `front_decimal`, `front_whole` and `front_few`
--- (src/word.rt), by which tsp_read reads plain numbers fast.
+-- The number word at the beginning of some bytes, and the parts of a number word as code has them.
 use Rattle.std.specs.Char.{is_ascii_digit}
 use Rattle.std.specs.List.{prefix_len}
 use Rattle.std.specs.Prelude.{ℕ, ◌≤◌, ◌+◌, ◌==◌, ◌||◌, ◌&&◌, cond, nat_le, nat_lt, min, List, [], ◌∷◌, length, take, drop, slice_index, Option, None, Some, ℤ, ◌≡◌, ◌≢◌, ◌*◌, ◌-◌, ◌^◌, ◌++◌, pos, negsuc}

@@ -1,5 +1,4 @@
--- When a whole number is large enough to be the rounded root of a square, which is what the search for it tests. For
--- `rounded_root` and `is_root_at_least` (src/root.rt), by each variant of `Rounding` there.
+-- When a whole number is large enough to be the rounded root of a square, which is what the search for it tests.
 use Rattle.std.specs.Prelude.{ℕ, ◌+◌, ◌-◌, ◌*◌, ◌^◌, ◌<◌, ◌≤◌}
 use Rattle.tsp_number.specs.declared.root.Rounding.{Rounding}
 use Rattle.tsp_number.specs.declared.root.Rounding.TheVariants.{Nearest, Up, TenthUp}

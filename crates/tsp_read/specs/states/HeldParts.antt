@@ -1,5 +1,4 @@
--- That the struct of a section's part has the words of the section so far, for each struct of src/parts/. For `open`
--- and `push` of `Part` (src/part.rt), and for each file of src/parts/. Parts.antt says it of the fields one by one.
+-- That the part of an open section has the words of the section so far, for each shape.
 use Rattle.std.specs.Prelude.{◌≡◌, ℕ, ◌+◌, ◌≤◌, ℤ, Bool, cond, List, length, map, false, is_some, [], ◌∷◌, ◌++◌, Ok}
 use Rattle.tsp_format.specs.Limits.{most_combs}
 use Rattle.tsp_format.specs.declared.keyword.Shape.{Shape}

@@ -1,5 +1,5 @@
--- That the open section's part has the words of the section so far. For `OpenSection` (src/reading.rt), for
--- `store` (src/reading.rt), and for Holds.antt.
+-- The reader's state after some items of a text: its fields, its open section, and what a line that opens or closes a
+-- section does to them.
 use Rattle.std.specs.List.{find}
 use Rattle.std.specs.Option.{option_map, option_map_or}
 use Rattle.std.specs.Prelude.{◌≡◌, ℕ, Bool, List, Some, false, not, ◌&&◌, [], ◌∷◌, Option, None, is_some, Result, Ok, Err, nat_lt, ℤ, true, is_none, unwrap_or, ◌≤ℤ◌, length, ◌++◌, nat_le, ◌||◌}

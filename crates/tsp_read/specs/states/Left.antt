@@ -1,6 +1,4 @@
--- The items of the part of a text that isn't taken yet, and where its next line or word ends. For `next_item`
--- (src/items.rt), `Token` (src/items.rt) and `take_items` (src/items.rt). `inside` says whether an item of the line was
--- taken before.
+-- The items of the text that isn't taken yet, and where its next line or word ends.
 use Rattle.std.specs.List.{position_or_len}
 use Rattle.std.specs.Prelude.{ℕ, Bool, true, false, not, ◌||◌, nat_lt, List, [], ◌∷◌, ◌++◌, length, map, take, drop, ◌&&◌, cond}
 use Rattle.tsp_format.specs.Limits.{most_word_bytes, most_line_bytes}

@@ -1,5 +1,5 @@
--- What holds of the items of a text whatever bytes follow. For the cutter (src/items.rt), for `take` (src/items.rt), and
--- for Onward.antt and Reads.antt.
+-- The state while a text comes in pieces: the items that were taken, the line or word that is cut, and what holds
+-- whatever bytes follow.
 use Rattle.std.specs.List.{list_all}
 use Rattle.std.specs.Prelude.{◌≡◌, ℕ, Bool, true, false, nat_lt, List, ◌∷◌, ◌++◌, length, reverse, Option, None, Some, Result, Ok, Err, ◌+◌, ◌≤◌, []}
 use Rattle.tsp_format.specs.Limits.{most_word_bytes, most_line_bytes, most_file_bytes}

@@ -1,6 +1,5 @@
 -- What the fields of a section's part say of the words so far, section by section, and how the part takes the next
--- word. For the functions of src/parts/ over the fields of their structs, and for HeldParts.antt, which says it of each
--- struct.
+-- word.
 use Rattle.std.specs.Prelude.{◌≡◌, ℕ, ◌+◌, ◌*◌, ◌<◌, ◌≤◌, ◌-◌, ℤ, pos, negsuc, Bool, true, false, not, List, [], ◌∷◌, ◌++◌, length, map, slice_index_or, Option, None, Some, is_some, unwrap_or, Result, Ok, Err}
 use Rattle.std.specs.Option.{option_map}
 use Rattle.std.specs.List.{filter, slice_split, list_any}

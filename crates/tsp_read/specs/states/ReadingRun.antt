@@ -1,5 +1,4 @@
--- A run of plain numbers in the open section, which is read in one pass: only the section's part and the counts change.
--- For `take_run` (src/run.rt), with `Count` (src/run.rt) and `Part` of tsp_read.
+-- A run of plain numbers in the open section, which is read in one pass, and the word at the beginning of a text.
 use Rattle.std.specs.Prelude.{ℕ, ◌+◌, ◌≤◌, ◌<◌, List, length, Option, None, Some, ◌≡◌, Bool, true, [], ◌∷◌, ◌⊎◌}
 use Rattle.tsp_format.specs.Words.{is_blank}
 use Rattle.tsp_format.specs.declared.keyword.Field.{Field}

@@ -1,5 +1,4 @@
--- The loads of all nodes and the capacity of a route, in parts of units, whatever the costs. For `UnitLoads`
--- (src/units.rt): `light` counts the customers that demand less than a unit, and `room` is the capacity.
+-- What customers demand, in units, and the entries of the table of walks while it is filled.
 use Rattle.std.specs.Global.{Vec}
 use Rattle.std.specs.List.{All}
 use Rattle.std.specs.Prelude.{◌≡◌, ℕ, ◌≤◌, ◌==◌, if◌then◌else◌, length, ℤ, pos, ◌⊎◌, ◌+◌, ◌*◌, ◌<◌, List, slice_index_or, neg_ℤ, ◌+ℤ◌, ◌≤ℤ◌}

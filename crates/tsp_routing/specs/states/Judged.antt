@@ -1,5 +1,4 @@
--- The memory of a leaf for routes, which is `PlanRoom` (src/verdict.rt), and what is found of one leaf or of all.
--- For `judge_leaf` there, and for `leaf_verdict` (src/verdict.rt).
+-- What is judged of a certificate for routes before its leaves, and the sizes of what a leaf needs.
 use Rattle.std.specs.Global.{Vec}
 use Rattle.std.specs.List.{All}
 use Rattle.std.specs.Prelude.{◌≡◌, ℕ, ◌+◌, ◌*◌, ◌≤◌, ◌<◌, Bool, true, List, length, Option, ℤ, Some, None}

@@ -1,5 +1,4 @@
--- Rows of the weights of a leaf, one for each node, that are made once and read for each load. For `rows_of` and
--- `row_of` of `KeptWeights` (src/kept_weights.rt).
+-- The weights of a leaf between customers: kept rows, the multipliers of sets, and what is given back.
 use Rattle.std.specs.Global.{Vec}
 use Rattle.std.specs.Prelude.{◌≡◌, ℕ, ◌+◌, ◌<◌, ◌≤◌, List, length, slice_index_or, ℤ, pos, neg_ℤ, [], ◌∷◌, ◌+ℤ◌, ◌^◌}
 use Rattle.tsp_format.specs.Nodes.{IsNode}

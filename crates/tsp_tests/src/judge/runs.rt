@@ -1,5 +1,4 @@
-//! Runs of the verbs on texts, from the bytes read to the bytes written. For the tests in
-//! `src/judge/failures.rt` and `src/judge/pieces.rt`.
+//! Runs of the verbs on texts, from the bytes read to the bytes written.
 
 use crate::devices::{Drip, Trickle};
 use std::alloc::Global;

@@ -1,5 +1,4 @@
-//! What a reading returns, as the canonical text of its file or its fault. For the tests of
-//! `src/read/` and `src/writer.rt`.
+//! What a reading returns, as the canonical text of its file or its fault.
 
 use crate::asserts::{same, same_at};
 use crate::devices::Drip;

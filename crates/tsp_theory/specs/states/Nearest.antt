@@ -1,6 +1,4 @@
--- The entry of a row of weights at an index, for every crate that reads rows. And of a growing tree the nearest grown
--- node of a node that isn't grown, with the weight between the two: for `take_nearer` and `bring` (src/tree.rt of
--- tsp_bound).
+-- A row of weights by node, its nearest nodes, and an entry after a number was added to it.
 use Rattle.std.specs.Int.{w64, int_wrap}
 use Rattle.std.specs.Prelude.{◌≡◌, ℕ, Bool, false, List, slice_index_or, ◌⊎◌, ℤ, pos, ◌≤ℤ◌, ◌<ℤ◌, ◌+ℤ◌}
 

@@ -1,5 +1,4 @@
--- Marks of the nodes at the first places of a list, by which a repeated node is found. For `mark` (src/tour.rt)
--- and `mark_all` (src/routes.rt). `seen` has the mark of each node at its index.
+-- Marks of nodes, the next node on a cycle, and routes as vectors of nodes.
 use Rattle.std.specs.Global.{Vec}
 use Rattle.std.specs.List.{All, flat_map}
 use Rattle.std.specs.Prelude.{◌≡◌, ℕ, ◌+◌, ◌<◌, ◌≤◌, Bool, true, false, List, length, slice_index, slice_index_or, ◌≢◌, [], map, ◌*◌, ℤ, pos, ◌+ℤ◌, ◌≤ℤ◌}

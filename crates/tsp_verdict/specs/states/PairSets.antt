@@ -1,5 +1,4 @@
--- Sets of pairs of nodes, where an undirected pair has its smaller node first. For `key_of` (src/certificate.rt), `set_of`
--- (src/potentials_certificate.rt) and `taken_once` (src/certificate.rt).
+-- Sets of pairs of nodes, where an undirected pair has its smaller node first.
 use Rattle.std.specs.Prelude.{◌≡◌, ℕ, Bool, true, false, List, if◌then◌else◌, nat_le}
 use Rattle.std.specs.BTreeSet.{BTreeSet, contains}
 use Rattle.std.specs.List.{list_any}

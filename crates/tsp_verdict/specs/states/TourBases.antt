@@ -1,5 +1,4 @@
--- The reason against the instance that a basis of tours has, if it has one. For `against_instance`
--- (src/basis.rt).
+-- The costs of an instance while its tours are judged, and the verdict by a bound that was found before.
 use Rattle.std.specs.Prelude.{Option, None, Some, MatchOption, ◌≡◌, ◌≤◌, ℤ, IsTrue, option_map}
 use Rattle.tsp_format.specs.Words.{IsSymmetric}
 use Rattle.tsp_format.specs.declared.kinds.Kind.TheVariants as kinds

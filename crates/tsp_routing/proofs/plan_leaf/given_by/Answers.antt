@@ -10,7 +10,7 @@ use Rattle.tsp_routing.specs.PlanBounds.{low_of, high_of}
 use Rattle.tsp_routing.proofs.RouteProducts.{low_own, high_own, below_zero, from_zero}
 use Rattle.tsp_routing.proofs.plan_leaf.given_by.Goals as goal
 
--- plan: by the sign of the multiplier: it times_given_back the least or the most number of crossings
+-- plan: by the sign of the multiplier: it times the least or the most number of crossings
 pub returns-then-multiplier-lt0-clause-value : goal.returns-then-multiplier-lt0-clause-value
 returns-then-multiplier-lt0-clause-value c =
     let case : List Decision = decisions_in c.args.case.now in

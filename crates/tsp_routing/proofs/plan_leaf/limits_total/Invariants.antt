@@ -6,7 +6,7 @@ use Rattle.tsp_routing.specs.PlanVerdicts.{sizes_total}
 use Rattle.tsp_routing.specs.states.LeafWeights.{numbers_total}
 use Rattle.tsp_routing.proofs.plan_leaf.limits_total.Given as goal
 
--- the sum so far, and what the multipliers left give back, are what all give back. So far it is at most 2^33 times_given_back the
+-- the sum so far, and what the multipliers left give back, are what all give back. So far it is at most 2^33 times the
 -- sizes of those before
 abbrev pub invariant-families : goal.invariant-families
 invariant-families l = record {
