@@ -2,19 +2,19 @@
 use Rattle.std.proofs.Common.{◌≡◌, ℕ, List, [], ◌⊎◌, subst, sym}
 use Rattle.std.specs.Prelude.{Option, None, Some, IfSome, false}
 use Rattle.std.specs.Io.KnownBytes.{Appends}
-use Rattle.tsp_io.specs.Streams.{Turn, Sink, HasWritten}
+use Rattle.tsp_io.specs.Streams.{ReadTrace, Sink, HasWritten}
 use Rattle.tsp_file.specs.Fields.{Fields}
-use Rattle.tsp_text.specs.Spells.{Spells}
+use Rattle.tsp_text.specs.ParsesTo.{ParsesTo}
 use Rattle.tsp_read.specs.Reads.{IsFile}
-use Rattle.tsp_report.specs.declared.task.Certificate.{Certificate}
+use Rattle.tsp_report.specs.declared.task.CertificateKind.{CertificateKind}
 use Rattle.tsp_judge.specs.CheckRun.{IsFileIn}
 use Rattle.tsp_judge.specs.Accepted.{IsAccepted, IsAcceptedTour, AreAcceptedRoutes}
 use Rattle.tsp_judge.specs.ConvertRun.{SaysYes}
 use Rattle.example_check.specs.Texts.{IsAcceptedOnTexts}
 
 -- the file of a reader whose bytes are known is that of its text
-spelled : (turn : Turn) (text : List ℕ) (file : Fields) → turn.known ≡ Some text → IsFile turn file → Spells text file
-spelled turn text file known is = subst (λ (k : Option (List ℕ)). IfSome k (λ xs. Spells xs file)) known is.3
+spelled : (read_trace : ReadTrace) (text : List ℕ) (file : Fields) → read_trace.known ≡ Some text → IsFile read_trace file → ParsesTo text file
+spelled read_trace text file known is = subst (λ (k : Option (List ℕ)). IfSome k (λ xs. ParsesTo xs file)) known is.3
 
 -- a writer that held nothing holds the report
 printed : (sink : Sink) (written report : List ℕ) → sink.held ≡ Some [] → sink.holds ≡ Some written → HasWritten sink report
@@ -24,7 +24,7 @@ printed sink written report held holds has =
     subst (λ (k : Option (List ℕ)). Appends (Some []) k report) holds a
 
 -- without a certificate the line `yes` is about a tour, or about routes
-alone : (certificate : Option (Certificate × Fields)) (instance solution : Fields) (report : List ℕ) → IsFileIn None certificate
+alone : (certificate : Option (CertificateKind × Fields)) (instance solution : Fields) (report : List ℕ) → IsFileIn None certificate
     → IsAccepted certificate None instance solution report
     → IsAcceptedTour None instance solution report ⊎ AreAcceptedRoutes None instance solution report
 alone None instance solution report is accepted = accepted
@@ -32,7 +32,7 @@ alone (Some given) instance solution report is accepted = absurd is
 
 -- plan: the readers deliver the bytes of both texts, so the files are those of the texts (`spelled`), and the writer
 -- holds the report (`printed`)
-pub accepted_on : (first second : Turn) (sink : Sink) (one two written : List ℕ) → first.known ≡ Some one → second.known ≡ Some two
+pub accepted_on : (first second : ReadTrace) (sink : Sink) (one two written : List ℕ) → first.known ≡ Some one → second.known ≡ Some two
     → sink.held ≡ Some [] → sink.holds ≡ Some written → SaysYes None None false first second sink → IsAcceptedOnTexts one two written
 accepted_on first second sink one two written first_is second_is held holds says = record {
   instance = says.instance;

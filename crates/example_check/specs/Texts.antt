@@ -1,7 +1,7 @@
 -- The verdict on two texts in memory, and what the report on them means.
 use Rattle.std.specs.Prelude.{ℕ, ◌⊎◌, List, None}
 use Rattle.tsp_file.specs.Fields.{Fields}
-use Rattle.tsp_text.specs.Spells.{Spells}
+use Rattle.tsp_text.specs.ParsesTo.{ParsesTo}
 use Rattle.tsp_report.specs.declared.verdict.Verdict.{Verdict}
 use Rattle.tsp_verdict.specs.Solutions.{IsTourVerdict}
 use Rattle.tsp_judge.specs.Accepted.{IsAcceptedTour, AreAcceptedRoutes}
@@ -10,8 +10,8 @@ use Rattle.tsp_judge.specs.Accepted.{IsAcceptedTour, AreAcceptedRoutes}
 pub record IsVerdictOnTexts (instance_text solution_text : List ℕ) (verdict : Verdict) : Type 0 where
   pub instance : Fields
   pub solution : Fields
-  pub first_file : Spells instance_text instance
-  pub second_file : Spells solution_text solution
+  pub first_file : ParsesTo instance_text instance
+  pub second_file : ParsesTo solution_text solution
   pub judged : IsTourVerdict instance solution verdict
 
 -- the texts parse to files, the second one is an accepted tour or plan of the first one's instance, and this is the
@@ -19,6 +19,6 @@ pub record IsVerdictOnTexts (instance_text solution_text : List ℕ) (verdict : 
 pub record IsAcceptedOnTexts (instance_text solution_text report : List ℕ) : Type 0 where
   pub instance : Fields
   pub solution : Fields
-  pub first_file : Spells instance_text instance
-  pub second_file : Spells solution_text solution
+  pub first_file : ParsesTo instance_text instance
+  pub second_file : ParsesTo solution_text solution
   pub accepted : IsAcceptedTour None instance solution report ⊎ AreAcceptedRoutes None instance solution report

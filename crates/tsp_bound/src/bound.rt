@@ -11,7 +11,7 @@ ghost use Rattle.tsp_bound.specs.states.Potentials.{scale_of, numbers_of, triple
 use crate::by_node::ByNode;
 use crate::potentials::{Multipliers, Potentials, least_bound, total, total_of};
 use crate::rounds::grow_in_rounds as grow;
-use crate::tree::two_spokes;
+use crate::tree::two_root_edges;
 use crate::weights::Weights;
 use std::alloc::{AllocError, Global};
 use tsp_io::{Refused, filled, push, with_capacity};
@@ -140,7 +140,7 @@ fn least_edges<'a, C: Symmetric>(
 {
     let weights = Weights { c, p, m };
     let mut row = filled(alloc, 0, c.count() as usize + 1)?;
-    let (first, second) = two_spokes(&weights, &mut row);
+    let (first, second) = two_root_edges(&weights, &mut row);
     let grown = grow(alloc, &weights, &mut row)?;
     let edges = tree_of(
         alloc,
@@ -149,10 +149,10 @@ fn least_edges<'a, C: Symmetric>(
         second.node,
         &grown.pairs,
     )?;
-    let spokes = i128::from(first.weight) + i128::from(second.weight);
+    let root_edges = i128::from(first.weight) + i128::from(second.weight);
     Ok(Weighed {
         edges,
-        weight: spokes + grown.weight,
+        weight: root_edges + grown.weight,
     })
 }
 

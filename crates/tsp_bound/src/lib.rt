@@ -32,5 +32,5 @@ pub use boxes::NumberedSite;
 pub use duals::Duals;
 pub use potentials::{Multipliers, Potentials};
 pub use rounds::grow_in_rounds;
-pub use tree::{Growing, Grown, Spoke, grow, least_weight, two_spokes};
+pub use tree::{Growing, Grown, RootEdge, grow, least_weight, two_root_edges};
 pub use tsp_theory::{adjusted_bounds_bound_cycles, duals_bound_cycles};

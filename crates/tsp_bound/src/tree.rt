@@ -37,10 +37,10 @@ pub fn least_weight<W: Growing>(alloc: Global, w: &W, row: &mut [i64]) -> Result
 {
     // The count shows that there are at most 100,000 nodes.
     w.count();
-    let (first, second) = two_spokes(w, row);
+    let (first, second) = two_root_edges(w, row);
     let grown = w.grow(alloc, row)?;
-    let spokes = i128::from(first.weight) + i128::from(second.weight);
-    Ok(spokes + grown.weight)
+    let root_edges = i128::from(first.weight) + i128::from(second.weight);
+    Ok(root_edges + grown.weight)
 }
 
 // ---- the growth of a least tree over the nodes 2 to n, row by row, by Prim's method
@@ -208,14 +208,14 @@ pub trait Growing: Weights {
 
 /// A node of 2..n, and the weight between node 1 and it.
 #[derive(Clone, Copy)]
-pub struct Spoke {
+pub struct RootEdge {
     pub node: u32,
     pub weight: i64,
 }
 
 /// The two nodes of 2..n that are nearest to node 1, by its row; the row that is lent is written
 /// over.
-pub fn two_spokes<W: Weights>(w: &W, row: &mut [i64]) -> (Spoke, Spoke)
+pub fn two_root_edges<W: Weights>(w: &W, row: &mut [i64]) -> (RootEdge, RootEdge)
     requires some { 3 ≤ W.nodes w.now }
     requires few { W.nodes w.now ≤ most_nodes }
     requires room { length row.old ≡ W.nodes w.now + 1 }
@@ -228,7 +228,7 @@ pub fn two_spokes<W: Weights>(w: &W, row: &mut [i64]) -> (Spoke, Spoke)
 }
 
 /// The two nodes from 2 on with the least weights, in one pass.
-fn nearest_two(weights: &[i64]) -> (Spoke, Spoke)
+fn nearest_two(weights: &[i64]) -> (RootEdge, RootEdge)
     requires some { 4 ≤ length weights.now }
     requires few { length weights.now < 2 ^ 32 }
     ensures nearest { AreNearest (length weights.now - 1) (λ i j. least_at weights.now j)
@@ -236,8 +236,8 @@ fn nearest_two(weights: &[i64]) -> (Spoke, Spoke)
     ensures first { result.0.weight ≡ least_at weights.now result.0.node }
     ensures second { result.1.weight ≡ least_at weights.now result.1.node }
 {
-    let two = spoke_to(weights, 2);
-    let three = spoke_to(weights, 3);
+    let two = root_edge_to(weights, 2);
+    let three = root_edge_to(weights, 3);
     let mut first = two;
     let mut second = three;
     if three.weight < two.weight {
@@ -245,7 +245,7 @@ fn nearest_two(weights: &[i64]) -> (Spoke, Spoke)
         second = two;
     }
     'nodes: for node in 4..weights.len() as u32 {
-        let next = spoke_to(weights, node);
+        let next = root_edge_to(weights, node);
         if next.weight < first.weight {
             second = first;
             first = next;
@@ -257,12 +257,12 @@ fn nearest_two(weights: &[i64]) -> (Spoke, Spoke)
 }
 
 /// The pair of node 1 and another node.
-fn spoke_to(weights: &[i64], node: u32) -> Spoke
+fn root_edge_to(weights: &[i64], node: u32) -> RootEdge
     requires { node < length weights.now }
     ensures node { result.node ≡ node }
     ensures weight { result.weight ≡ least_at weights.now node }
 {
-    Spoke {
+    RootEdge {
         node,
         weight: weight_in(weights, node),
     }

@@ -24,7 +24,7 @@ use Rattle.tsp_cases.specs.Cases.{decided_number, LeafNumbers, leaves_of}
 use Rattle.tsp_cases.specs.CaseTrees.{AreLeafNumbers, IsFoundAt, AreCostsFor, BoundsIfAny, CaseTreesBoundCycles}
 use Rattle.tsp_cases.specs.ListedCases.{AreGoodNumbers, as_leaf_numbers, most_crossed, split_at, no_numbers_of, listed_steps}
 use Rattle.tsp_cases.specs.JudgedTrees.{AreCasesOf}
-use Rattle.tsp_cases.specs.declared.tree_cases.Cases.{Cases}
+use Rattle.tsp_cases.specs.declared.checked_tree.CheckedTree.{CheckedTree}
 use Rattle.tsp_cases.specs.states.Kept.{AreSmall}
 use Rattle.tsp_cases.specs.JudgedLeaves.{AreJudgedBy, IsFoundOfCase}
 use Rattle.tsp_cases.proofs.SetSums.{small_multipliers}
@@ -117,7 +117,7 @@ costs_for true n cost some even = omega (arith, some)
 -- ---- the same of the judgement on a tree of cases
 
 module _ (n : ℕ) (cost : ℕ → ℕ → ℤ) where
-  pub judged_of : (families : List Family) (crossed : List Crossings) (found : JudgedLeaves) (cases : Cases) (directed : Bool) (scale : ℤ) (given : List Decision) (steps : List TreeStep)
+  pub judged_of : (families : List Family) (crossed : List Crossings) (found : JudgedLeaves) (cases : CheckedTree) (directed : Bool) (scale : ℤ) (given : List Decision) (steps : List TreeStep)
       → AreCasesOf n directed scale given steps cases
       → AreJudgedLeaves cases.directed n cost cases.scale families crossed cases.given.now (steps_of cases.steps.now) found
       → AreJudgedLeaves directed n cost scale families crossed given (steps_of steps) found
@@ -127,7 +127,7 @@ module _ (n : ℕ) (cost : ℕ → ℕ → ℤ) where
       (subst (λ (ds : List Decision). AreJudgedLeaves cases.directed n cost cases.scale families crossed ds (steps_of steps) found) are.given_are
       (subst (λ (ss : List TreeStep). AreJudgedLeaves cases.directed n cost cases.scale families crossed cases.given.now (steps_of ss) found) are.steps_are is)))
 
-  pub cycles_of_cases : (found : JudgedLeaves) (cases : Cases) (directed : Bool) (scale : ℤ) (given : List Decision) (steps : List TreeStep)
+  pub cycles_of_cases : (found : JudgedLeaves) (cases : CheckedTree) (directed : Bool) (scale : ℤ) (given : List Decision) (steps : List TreeStep)
       → AreCasesOf n directed scale given steps cases
       → BoundsCycles cases.directed n cost cases.given.now found → BoundsCycles directed n cost given found
   cycles_of_cases found cases directed scale given steps are is =

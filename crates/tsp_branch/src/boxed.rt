@@ -30,65 +30,65 @@ use tsp_theory::{Costs, Region, Site, Weights, weight_in};
 #[derive(Drop)]
 pub(crate) struct BoxedLeaf<'a, C: Costs> {
     pub(crate) leaf: &'a CaseLeaf<'a, C>,
-    ghost undirected: { leaf.now.setting.now.cases.now.directed ≡ false },
+    ghost undirected: { leaf.now.context.now.cases.now.directed ≡ false },
     ghost once: { AreFewChanges (decisions_in leaf.now.case.now) },
-    ghost exact: { AreExact (C.nodes leaf.now.setting.now.costs.now) leaf.now.potentials.now
-        leaf.now.multipliers.now (lent_in leaf.now.setting.now.families.now) leaf.now.moved.now },
+    ghost exact: { AreExact (C.nodes leaf.now.context.now.costs.now) leaf.now.potentials.now
+        leaf.now.multipliers.now (lent_in leaf.now.context.now.families.now) leaf.now.moved.now },
 }
 
 impl<C: Costs> BoxedLeaf<'_, C> {
     /// The cost at the scale and the numbers of both nodes, where the caller passes the cost.
     #[inline]
     fn base(&self, cost: i64, from: u32, to: u32) -> i64
-        requires from { IsNode (C.nodes self.now.leaf.now.setting.now.costs.now) from }
-        requires to { IsNode (C.nodes self.now.leaf.now.setting.now.costs.now) to }
-        requires cost { cost ≡ C.at self.now.leaf.now.setting.now.costs.now from to }
+        requires from { IsNode (C.nodes self.now.leaf.now.context.now.costs.now) from }
+        requires to { IsNode (C.nodes self.now.leaf.now.context.now.costs.now) to }
+        requires cost { cost ≡ C.at self.now.leaf.now.context.now.costs.now from to }
         requires low { neg_ℤ (pos most_weight) ≤ℤ cost }
         requires high { cost ≤ℤ pos most_weight }
-        ensures value { result ≡ (self.now.leaf.now.setting.now.cases.now.scale *ℤ C.at self.now.leaf.now.setting.now.costs.now from to)
+        ensures value { result ≡ (self.now.leaf.now.context.now.cases.now.scale *ℤ C.at self.now.leaf.now.context.now.costs.now from to)
             +ℤ (least_at self.now.leaf.now.moved.now from
             +ℤ least_at self.now.leaf.now.moved.now to) }
         ensures size { IsFromTo (neg_ℤ (pos most_between)) (pos most_between)
-            (weight_between self.now.leaf.now.setting.now.cases.now.scale
-            self.now.leaf.now.potentials.now (C.at self.now.leaf.now.setting.now.costs.now) from to) }
+            (weight_between self.now.leaf.now.context.now.cases.now.scale
+            self.now.leaf.now.potentials.now (C.at self.now.leaf.now.context.now.costs.now) from to) }
     {
         let leaf = self.leaf;
         let both = weight_in(leaf.moved, from) + weight_in(leaf.moved, to);
-        leaf.setting.cases.scale * cost + both
+        leaf.context.cases.scale * cost + both
     }
 
     /// The weight without decisions, where the caller passes what it is without the sets of both
     /// nodes.
     fn combed(&self, base: i64, from: u32, to: u32) -> i64
-        requires from { IsNode (C.nodes self.now.leaf.now.setting.now.costs.now) from }
-        requires to { IsNode (C.nodes self.now.leaf.now.setting.now.costs.now) to }
-        requires base { base ≡ (self.now.leaf.now.setting.now.cases.now.scale *ℤ C.at self.now.leaf.now.setting.now.costs.now from to)
+        requires from { IsNode (C.nodes self.now.leaf.now.context.now.costs.now) from }
+        requires to { IsNode (C.nodes self.now.leaf.now.context.now.costs.now) to }
+        requires base { base ≡ (self.now.leaf.now.context.now.cases.now.scale *ℤ C.at self.now.leaf.now.context.now.costs.now from to)
             +ℤ (least_at self.now.leaf.now.moved.now from
             +ℤ least_at self.now.leaf.now.moved.now to) }
         requires size { IsFromTo (neg_ℤ (pos most_between)) (pos most_between)
-            (weight_between self.now.leaf.now.setting.now.cases.now.scale
-            self.now.leaf.now.potentials.now (C.at self.now.leaf.now.setting.now.costs.now) from to) }
-        ensures value { result ≡ set_weight self.now.leaf.now.setting.now.cases.now.scale self.now.leaf.now.potentials.now
-            self.now.leaf.now.multipliers.now (lent_in self.now.leaf.now.setting.now.families.now)
-            (C.at self.now.leaf.now.setting.now.costs.now) from to }
+            (weight_between self.now.leaf.now.context.now.cases.now.scale
+            self.now.leaf.now.potentials.now (C.at self.now.leaf.now.context.now.costs.now) from to) }
+        ensures value { result ≡ set_weight self.now.leaf.now.context.now.cases.now.scale self.now.leaf.now.potentials.now
+            self.now.leaf.now.multipliers.now (lent_in self.now.leaf.now.context.now.families.now)
+            (C.at self.now.leaf.now.context.now.costs.now) from to }
         ensures size { IsFromTo (neg_ℤ (pos most_combed)) (pos most_combed) result }
     {
-        let setting = self.leaf.setting;
+        let context = self.leaf.context;
         let multipliers = Multipliers {
-            families: setting.families,
+            families: context.families,
             numbers: self.leaf.multipliers,
         };
         let shared = shared_by(
             &multipliers,
-            &setting.by_node[to as usize],
-            &setting.by_node[from as usize],
+            &context.by_node[to as usize],
+            &context.by_node[from as usize],
         );
         sum_left(base, shared)
     }
 
     /// What the decisions of the case add to a weight.
     fn change(&self, from: u32, to: u32) -> i64
-        requires { IsNode (C.nodes self.now.leaf.now.setting.now.costs.now) from }
+        requires { IsNode (C.nodes self.now.leaf.now.context.now.costs.now) from }
         ensures value { result ≡ changes (decisions_in self.now.leaf.now.case.now) from to }
         ensures size { IsFromTo (neg_ℤ decided_number) decided_number result }
     {
@@ -97,26 +97,26 @@ impl<C: Costs> BoxedLeaf<'_, C> {
 
     /// The weight between two nodes.
     fn decided(&self, from: u32, to: u32) -> i64
-        requires from { IsNode (C.nodes self.now.leaf.now.setting.now.costs.now) from }
-        requires to { IsNode (C.nodes self.now.leaf.now.setting.now.costs.now) to }
-        ensures { result ≡ set_weight self.now.leaf.now.setting.now.cases.now.scale self.now.leaf.now.potentials.now
-            self.now.leaf.now.multipliers.now (lent_in self.now.leaf.now.setting.now.families.now)
-            (C.at self.now.leaf.now.setting.now.costs.now) from to
+        requires from { IsNode (C.nodes self.now.leaf.now.context.now.costs.now) from }
+        requires to { IsNode (C.nodes self.now.leaf.now.context.now.costs.now) to }
+        ensures { result ≡ set_weight self.now.leaf.now.context.now.cases.now.scale self.now.leaf.now.potentials.now
+            self.now.leaf.now.multipliers.now (lent_in self.now.leaf.now.context.now.families.now)
+            (C.at self.now.leaf.now.context.now.costs.now) from to
             +ℤ changes (decisions_in self.now.leaf.now.case.now) from to }
     {
-        let cost = self.leaf.setting.costs.cost(from, to);
+        let cost = self.leaf.context.costs.cost(from, to);
         let combed = self.combed(self.base(cost, from, to), from, to);
         combed + self.change(from, to)
     }
 }
 
 impl<C: Costs> Weights for BoxedLeaf<'_, C> {
-    ghost nodes = { λ w. C.nodes w.leaf.now.setting.now.costs.now };
+    ghost nodes = { λ w. C.nodes w.leaf.now.context.now.costs.now };
 
-    ghost at = { λ w. decided (decisions_in w.leaf.now.case.now) (set_weight w.leaf.now.setting.now.cases.now.scale
+    ghost at = { λ w. decided (decisions_in w.leaf.now.case.now) (set_weight w.leaf.now.context.now.cases.now.scale
         w.leaf.now.potentials.now w.leaf.now.multipliers.now
-        (lent_in w.leaf.now.setting.now.families.now)
-        (C.at w.leaf.now.setting.now.costs.now)) };
+        (lent_in w.leaf.now.context.now.families.now)
+        (C.at w.leaf.now.context.now.costs.now)) };
 
     #[inline]
     fn count(&self) -> u32 {
@@ -141,24 +141,24 @@ impl<C: Costs> Growing for BoxedLeaf<'_, C> {
 impl<C: Costs> BoxedWeights for BoxedLeaf<'_, C> {
     ghost use Rattle.tsp_branch.specs.states.LeafRows.{raised, others_of};
 
-    ghost place_of = { λ w. C.place w.leaf.now.setting.now.costs.now };
+    ghost place_of = { λ w. C.place w.leaf.now.context.now.costs.now };
 
-    ghost scale_of = { λ w. w.leaf.now.setting.now.cases.now.scale };
+    ghost scale_of = { λ w. w.leaf.now.context.now.cases.now.scale };
 
-    ghost cost_of = { λ w. C.at w.leaf.now.setting.now.costs.now };
+    ghost cost_of = { λ w. C.at w.leaf.now.context.now.costs.now };
 
     ghost number_of = { λ w. least_at w.leaf.now.moved.now };
 
-    ghost unlowered = { λ w. raised (decisions_in w.leaf.now.case.now) (set_weight w.leaf.now.setting.now.cases.now.scale
+    ghost unlowered = { λ w. raised (decisions_in w.leaf.now.case.now) (set_weight w.leaf.now.context.now.cases.now.scale
         w.leaf.now.potentials.now w.leaf.now.multipliers.now
-        (lent_in w.leaf.now.setting.now.families.now)
-        (C.at w.leaf.now.setting.now.costs.now)) };
+        (lent_in w.leaf.now.context.now.families.now)
+        (C.at w.leaf.now.context.now.costs.now)) };
 
     ghost lowered_of = { λ w. others_of (decisions_in w.leaf.now.case.now) };
 
     #[inline]
     fn scale(&self) -> i64 {
-        self.leaf.setting.cases.scale
+        self.leaf.context.cases.scale
     }
 
     #[inline]
@@ -167,21 +167,21 @@ impl<C: Costs> BoxedWeights for BoxedLeaf<'_, C> {
     }
 
     fn order(&self, alloc: Global) -> Result<Vec<u32>, Refused> {
-        self.leaf.setting.costs.order(alloc)
+        self.leaf.context.costs.order(alloc)
     }
 
     #[inline]
     fn site(&self, node: u32) -> Option<Site> {
-        self.leaf.setting.costs.site(node)
+        self.leaf.context.costs.site(node)
     }
 
     #[inline(always)]
     fn is_beyond(&self, from: &Site, region: &Region, least: i64) -> bool {
-        self.leaf.setting.costs.is_beyond(from, region, least)
+        self.leaf.context.costs.is_beyond(from, region, least)
     }
 
     fn weight_within(&self, from: &NumberedSite, to: &NumberedSite, most: i64) -> i64 {
-        let cost = self.leaf.setting.costs.cost_between(&from.site, &to.site);
+        let cost = self.leaf.context.costs.cost_between(&from.site, &to.site);
         let (from, to) = (from.site.node, to.site.node);
         let base = self.base(cost, from, to);
         if base >= most {
@@ -221,12 +221,12 @@ pub(crate) fn bound_of_trees<C: Costs>(
     row: &mut [i64],
     sum: LeafSum,
 ) -> Result<i128, Refused>
-    requires undirected { leaf.now.setting.now.cases.now.directed ≡ false }
-    requires room { length row.old ≡ C.nodes leaf.now.setting.now.costs.now + 1 }
-    ensures leaf { IfOk result (λ bound. BoundsEachLeaf (C.nodes leaf.now.setting.now.costs.now)
-        (decided (decisions_in leaf.now.case.now) (set_weight leaf.now.setting.now.cases.now.scale
-        leaf.now.potentials.now leaf.now.multipliers.now (lent_in leaf.now.setting.now.families.now)
-        (C.at leaf.now.setting.now.costs.now))) sum.scale sum.given_back bound) }
+    requires undirected { leaf.now.context.now.cases.now.directed ≡ false }
+    requires room { length row.old ≡ C.nodes leaf.now.context.now.costs.now + 1 }
+    ensures leaf { IfOk result (λ bound. BoundsEachLeaf (C.nodes leaf.now.context.now.costs.now)
+        (decided (decisions_in leaf.now.case.now) (set_weight leaf.now.context.now.cases.now.scale
+        leaf.now.potentials.now leaf.now.multipliers.now (lent_in leaf.now.context.now.families.now)
+        (C.at leaf.now.context.now.costs.now))) sum.scale sum.given_back bound) }
     ensures size { IfOk result (λ bound. IsBoundSized bound) }
 {
     if leaf.kept.is_empty() && leaf.suit_boxes() && leaf.are_exact() {

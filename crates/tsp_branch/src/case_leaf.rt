@@ -18,7 +18,7 @@ ghost use Rattle.tsp_branch.specs.states.LeafRows.{no_link, IsOpenRow, IsShut};
 
 use crate::boxed::{bound_of_trees, rounded_up};
 use std::alloc::Global;
-use tsp_cases::{DECIDED, Decision, Multipliers, OpenCase, Setting, sum_left, sum_with};
+use tsp_cases::{DECIDED, Decision, LeafContext, Multipliers, OpenCase, sum_left, sum_with};
 use tsp_io::Refused;
 use tsp_theory::{Costs, Weights, add_at};
 
@@ -27,25 +27,25 @@ use tsp_theory::{Costs, Weights, add_at};
 /// are kept, if any, at these multipliers and under the decisions of the case.
 #[derive(Drop)]
 pub(crate) struct CaseLeaf<'a, C: Costs> {
-    pub(crate) setting: &'a Setting<'a, C>,
+    pub(crate) context: &'a LeafContext<'a, C>,
     pub(crate) case: &'a OpenCase<'a>,
     pub(crate) potentials: &'a [i64],
     pub(crate) multipliers: &'a [i64],
     pub(crate) moved: &'a [i64],
     pub(crate) kept: &'a [Vec<i64>],
-    ghost is_case: { IsOpenCase (C.nodes setting.now.costs.now) case.now },
-    ghost direction: { case.now.by_node.directed ≡ setting.now.cases.now.directed },
-    ghost once: { DecideOnce setting.now.cases.now.directed (decisions_in case.now) },
+    ghost is_case: { IsOpenCase (C.nodes context.now.costs.now) case.now },
+    ghost direction: { case.now.by_node.directed ≡ context.now.cases.now.directed },
+    ghost once: { DecideOnce context.now.cases.now.directed (decisions_in case.now) },
     ghost few: { length (decisions_in case.now) < 2 ^ 33 },
-    ghost numbers: { AreGoodNumbers (C.nodes setting.now.costs.now) setting.now.families.now.crossed.items
+    ghost numbers: { AreGoodNumbers (C.nodes context.now.costs.now) context.now.families.now.crossed.items
         (as_leaf_numbers potentials.now multipliers.now) },
-    ghost crossed: { AreFewCrossings (C.nodes setting.now.costs.now) multipliers.now (lent_in setting.now.families.now) },
-    ghost places: { length moved.now ≡ C.nodes setting.now.costs.now + 1 },
-    ghost are_moved: { AreMoved (C.nodes setting.now.costs.now) potentials.now multipliers.now
-        (lent_in setting.now.families.now) moved.now },
-    ghost are_kept: { AreRowsIfAny (C.nodes setting.now.costs.now) (C.at setting.now.costs.now)
-        (kept_weight setting.now.cases.now.scale (lent_in setting.now.families.now) (C.at setting.now.costs.now)
-        (marks_in setting.now.cases.now.directed (decisions_in case.now)) multipliers.now) kept.now },
+    ghost crossed: { AreFewCrossings (C.nodes context.now.costs.now) multipliers.now (lent_in context.now.families.now) },
+    ghost places: { length moved.now ≡ C.nodes context.now.costs.now + 1 },
+    ghost are_moved: { AreMoved (C.nodes context.now.costs.now) potentials.now multipliers.now
+        (lent_in context.now.families.now) moved.now },
+    ghost are_kept: { AreRowsIfAny (C.nodes context.now.costs.now) (C.at context.now.costs.now)
+        (kept_weight context.now.cases.now.scale (lent_in context.now.families.now) (C.at context.now.costs.now)
+        (marks_in context.now.cases.now.directed (decisions_in case.now)) multipliers.now) kept.now },
 }
 
 impl<C: Costs> CaseLeaf<'_, C> {
@@ -64,15 +64,15 @@ impl<C: Costs> CaseLeaf<'_, C> {
     ///
     /// Out of memory.
     pub(crate) fn bound(&self, alloc: Global, row: &mut [i64]) -> Result<Option<i128>, Refused>
-        requires { length row.old ≡ C.nodes self.now.setting.now.costs.now + 1 }
-        ensures bound { IfOk result (IsFoundAt self.now.setting.now.cases.now.directed
-            (C.nodes self.now.setting.now.costs.now)
-            (C.at self.now.setting.now.costs.now) self.now.setting.now.cases.now.scale decided_number
-            (good_in self.now.setting.now.families.now)
+        requires { length row.old ≡ C.nodes self.now.context.now.costs.now + 1 }
+        ensures bound { IfOk result (IsFoundAt self.now.context.now.cases.now.directed
+            (C.nodes self.now.context.now.costs.now)
+            (C.at self.now.context.now.costs.now) self.now.context.now.cases.now.scale decided_number
+            (good_in self.now.context.now.families.now)
             (decisions_in self.now.case.now, as_leaf_numbers self.now.potentials.now self.now.multipliers.now)) }
         ensures size { IfOk result (λ bound. IfSome bound IsBoundSized) }
     {
-        if self.setting.cases.directed {
+        if self.context.cases.directed {
             return Ok(self.bound_by_rows(row));
         }
         let bound = self.bound_by_trees(alloc, row)?;
@@ -86,20 +86,20 @@ impl<C: Costs> CaseLeaf<'_, C> {
     ///
     /// Out of memory.
     fn bound_by_trees(&self, alloc: Global, row: &mut [i64]) -> Result<i128, Refused>
-        requires undirected { self.now.setting.now.cases.now.directed ≡ false }
-        requires row { length row.old ≡ C.nodes self.now.setting.now.costs.now + 1 }
-        ensures bound { IfOk result (λ bound. IsFoundAt false (C.nodes self.now.setting.now.costs.now)
-            (C.at self.now.setting.now.costs.now) self.now.setting.now.cases.now.scale decided_number
-            (good_in self.now.setting.now.families.now)
+        requires undirected { self.now.context.now.cases.now.directed ≡ false }
+        requires row { length row.old ≡ C.nodes self.now.context.now.costs.now + 1 }
+        ensures bound { IfOk result (λ bound. IsFoundAt false (C.nodes self.now.context.now.costs.now)
+            (C.at self.now.context.now.costs.now) self.now.context.now.cases.now.scale decided_number
+            (good_in self.now.context.now.families.now)
             (decisions_in self.now.case.now, as_leaf_numbers self.now.potentials.now self.now.multipliers.now)
             (Some bound)) }
         ensures size { IfOk result (λ bound. IsBoundSized bound) }
     {
         // The count shows that there are at most 100,000 nodes.
-        self.setting.costs.count();
+        self.context.costs.count();
         let taken = taken_back(&self.case.by_node.taken);
         let sum = LeafSum {
-            scale: self.setting.cases.scale,
+            scale: self.context.cases.scale,
             given_back: taken + given_back(self),
         };
         bound_of_trees(alloc, self, row, sum)
@@ -108,23 +108,23 @@ impl<C: Costs> CaseLeaf<'_, C> {
     /// The bound of the least link from each node; `None` where some node has no link that the
     /// decisions allow.
     fn bound_by_rows(&self, row: &mut [i64]) -> Option<i128>
-        requires directed { self.now.setting.now.cases.now.directed ≡ true }
-        requires row { length row.old ≡ C.nodes self.now.setting.now.costs.now + 1 }
-        ensures bound { IsFoundAt true (C.nodes self.now.setting.now.costs.now)
-            (C.at self.now.setting.now.costs.now) self.now.setting.now.cases.now.scale decided_number
-            (good_in self.now.setting.now.families.now)
+        requires directed { self.now.context.now.cases.now.directed ≡ true }
+        requires row { length row.old ≡ C.nodes self.now.context.now.costs.now + 1 }
+        ensures bound { IsFoundAt true (C.nodes self.now.context.now.costs.now)
+            (C.at self.now.context.now.costs.now) self.now.context.now.cases.now.scale decided_number
+            (good_in self.now.context.now.families.now)
             (decisions_in self.now.case.now, as_leaf_numbers self.now.potentials.now self.now.multipliers.now)
             result }
         ensures size { IfSome result IsBoundSized }
     {
         // The contract of `count` says that there are at most 100,000 nodes.
-        self.setting.costs.count();
+        self.context.costs.count();
         let rows = AllowedRows {
             weights: self,
             case: self.case,
         };
         let sum = LeafSum {
-            scale: self.setting.cases.scale,
+            scale: self.context.cases.scale,
             given_back: given_back(self),
         };
         rows.bound(row, sum)
@@ -136,12 +136,12 @@ impl<C: Costs> CaseLeaf<'_, C> {
 /// The least crossings of a leaf's families, each times its multiplier, less each potential twice:
 /// at most 2^98 in size.
 fn given_back<C: Costs>(leaf: &CaseLeaf<C>) -> i128
-    ensures value { result ≡ least_of (multiplied (good_in leaf.now.setting.now.families.now) leaf.now.multipliers.now)
+    ensures value { result ≡ least_of (multiplied (good_in leaf.now.context.now.families.now) leaf.now.multipliers.now)
         -ℤ (pos 2 *ℤ total leaf.now.potentials.now) }
     ensures size { IsFromTo (neg_ℤ (pos (2 ^ 98))) (pos (2 ^ 98)) result }
 {
     let multipliers = Multipliers {
-        families: leaf.setting.families,
+        families: leaf.context.families,
         numbers: leaf.multipliers,
     };
     sum_with(false, &multipliers) - 2 * total(leaf)

@@ -46,20 +46,20 @@ impl<C: Costs> CaseLeaf<'_, C> {
 
     /// Whether boxes seem to take no more time than rows that aren't kept.
     pub(crate) fn suit_boxes(&self) -> bool {
-        suit_boxes(self.setting.by_node, self.setting.families.lent)
+        suit_boxes(self.context.by_node, self.context.families.lent)
     }
 
     /// Whether each node's potential less the multipliers of its sets is at most 4 * 10^18 in size.
     pub(crate) fn are_exact(&self) -> bool
-        ensures { result ≡ true → AreExact (C.nodes self.now.setting.now.costs.now) self.now.potentials.now self.now.multipliers.now
-            (lent_in self.now.setting.now.families.now) self.now.moved.now }
+        ensures { result ≡ true → AreExact (C.nodes self.now.context.now.costs.now) self.now.potentials.now self.now.multipliers.now
+            (lent_in self.now.context.now.families.now) self.now.moved.now }
     {
         let multipliers = Multipliers {
-            families: self.setting.families,
+            families: self.context.families,
             numbers: self.multipliers,
         };
-        'nodes: for node in 1..self.setting.costs.count() + 1 {
-            if !are_few(&multipliers, &self.setting.by_node[node as usize])
+        'nodes: for node in 1..self.context.costs.count() + 1 {
+            if !are_few(&multipliers, &self.context.by_node[node as usize])
                 || !is_number(weight_in(self.moved, node))
             {
                 return false;
@@ -71,19 +71,19 @@ impl<C: Costs> CaseLeaf<'_, C> {
     /// A row of these as if no set had two nodes; and how large the weights between the node and
     /// others are without combs.
     fn fill_apart(&self, from: u32, row: &mut [i64])
-        requires from { IsNode (C.nodes self.now.setting.now.costs.now) from }
-        requires room { length row.old ≡ C.nodes self.now.setting.now.costs.now + 1 }
-        ensures values { (x : ℕ) → IsNode (C.nodes self.now.setting.now.costs.now) x
-            → IsMoved (neg_ℤ (multipliers_at self.now.multipliers.now (lent_in self.now.setting.now.families.now) from)
-            +ℤ neg_ℤ (multipliers_at self.now.multipliers.now (lent_in self.now.setting.now.families.now) x))
-            (weight_between self.now.setting.now.cases.now.scale self.now.potentials.now (C.at self.now.setting.now.costs.now) from x)
+        requires from { IsNode (C.nodes self.now.context.now.costs.now) from }
+        requires room { length row.old ≡ C.nodes self.now.context.now.costs.now + 1 }
+        ensures values { (x : ℕ) → IsNode (C.nodes self.now.context.now.costs.now) x
+            → IsMoved (neg_ℤ (multipliers_at self.now.multipliers.now (lent_in self.now.context.now.families.now) from)
+            +ℤ neg_ℤ (multipliers_at self.now.multipliers.now (lent_in self.now.context.now.families.now) x))
+            (weight_between self.now.context.now.cases.now.scale self.now.potentials.now (C.at self.now.context.now.costs.now) from x)
             (least_at row.new x) }
-        ensures sizes { (x : ℕ) → IsNode (C.nodes self.now.setting.now.costs.now) x
+        ensures sizes { (x : ℕ) → IsNode (C.nodes self.now.context.now.costs.now) x
             → IsFromTo (neg_ℤ (pos most_between)) (pos most_between)
-            (weight_between self.now.setting.now.cases.now.scale self.now.potentials.now (C.at self.now.setting.now.costs.now) from x) }
+            (weight_between self.now.context.now.cases.now.scale self.now.potentials.now (C.at self.now.context.now.costs.now) from x) }
     {
-        self.setting.costs.costs_from(from, row);
-        scale_row(row, self.setting.cases.scale);
+        self.context.costs.costs_from(from, row);
+        scale_row(row, self.context.cases.scale);
         shift_row(row, self.moved, weight_in(self.moved, from));
     }
 
@@ -92,27 +92,27 @@ impl<C: Costs> CaseLeaf<'_, C> {
     #[inline]
     fn weight_apart(&self, own: i64, from: u32, to: u32) -> i64
         requires own { own ≡ least_at self.now.moved.now from }
-        requires from { IsNode (C.nodes self.now.setting.now.costs.now) from }
-        requires to { IsNode (C.nodes self.now.setting.now.costs.now) to }
-        ensures value { IsMoved (neg_ℤ (multipliers_at self.now.multipliers.now (lent_in self.now.setting.now.families.now) from)
-            +ℤ neg_ℤ (multipliers_at self.now.multipliers.now (lent_in self.now.setting.now.families.now) to))
-            (weight_between self.now.setting.now.cases.now.scale self.now.potentials.now (C.at self.now.setting.now.costs.now) from to) result }
+        requires from { IsNode (C.nodes self.now.context.now.costs.now) from }
+        requires to { IsNode (C.nodes self.now.context.now.costs.now) to }
+        ensures value { IsMoved (neg_ℤ (multipliers_at self.now.multipliers.now (lent_in self.now.context.now.families.now) from)
+            +ℤ neg_ℤ (multipliers_at self.now.multipliers.now (lent_in self.now.context.now.families.now) to))
+            (weight_between self.now.context.now.cases.now.scale self.now.potentials.now (C.at self.now.context.now.costs.now) from to) result }
         ensures size { IsFromTo (neg_ℤ (pos most_between)) (pos most_between)
-            (weight_between self.now.setting.now.cases.now.scale self.now.potentials.now (C.at self.now.setting.now.costs.now) from to) }
+            (weight_between self.now.context.now.cases.now.scale self.now.potentials.now (C.at self.now.context.now.costs.now) from to) }
     {
         sum_left(
-            self.setting.cases.scale * self.setting.costs.cost(from, to),
+            self.context.cases.scale * self.context.costs.cost(from, to),
             sum_left(own, weight_in(self.moved, to)),
         )
     }
 
     /// The same as `fill_apart` at some nodes.
     fn fill_apart_at(&self, from: u32, to: &[u32], row: &mut [i64])
-        requires from { IsNode (C.nodes self.now.setting.now.costs.now) from }
-        requires to { (k : ℕ) → k < length to.now → IsNode (C.nodes self.now.setting.now.costs.now) (slice_index to.now k) }
-        requires room { length row.old ≡ C.nodes self.now.setting.now.costs.now + 1 }
-        ensures { (k : ℕ) → k < length to.now → IsApart self.now.setting.now.cases.now.scale self.now.potentials.now self.now.multipliers.now
-            (lent_in self.now.setting.now.families.now) (C.at self.now.setting.now.costs.now) from (slice_index to.now k)
+        requires from { IsNode (C.nodes self.now.context.now.costs.now) from }
+        requires to { (k : ℕ) → k < length to.now → IsNode (C.nodes self.now.context.now.costs.now) (slice_index to.now k) }
+        requires room { length row.old ≡ C.nodes self.now.context.now.costs.now + 1 }
+        ensures { (k : ℕ) → k < length to.now → IsApart self.now.context.now.cases.now.scale self.now.potentials.now self.now.multipliers.now
+            (lent_in self.now.context.now.families.now) (C.at self.now.context.now.costs.now) from (slice_index to.now k)
             (least_at row.new (slice_index to.now k)) }
     {
         let own = weight_in(self.moved, from);
@@ -124,51 +124,51 @@ impl<C: Costs> CaseLeaf<'_, C> {
 
     /// Writes a row as `fill_at` does, of weights that are at most 2 * 10^18 in size.
     pub(crate) fn fill_combed_at(&self, from: u32, to: &[u32], row: &mut [i64])
-        requires from { IsNode (C.nodes self.now.setting.now.costs.now) from }
-        requires to { (k : ℕ) → k < length to.now → IsNode (C.nodes self.now.setting.now.costs.now) (slice_index to.now k) }
-        requires room { length row.old ≡ C.nodes self.now.setting.now.costs.now + 1 }
+        requires from { IsNode (C.nodes self.now.context.now.costs.now) from }
+        requires to { (k : ℕ) → k < length to.now → IsNode (C.nodes self.now.context.now.costs.now) (slice_index to.now k) }
+        requires room { length row.old ≡ C.nodes self.now.context.now.costs.now + 1 }
         ensures values { (k : ℕ) → k < length to.now → least_at row.new (slice_index to.now k)
-            ≡ set_weight self.now.setting.now.cases.now.scale self.now.potentials.now self.now.multipliers.now
-            (lent_in self.now.setting.now.families.now) (C.at self.now.setting.now.costs.now) from (slice_index to.now k) }
+            ≡ set_weight self.now.context.now.cases.now.scale self.now.potentials.now self.now.multipliers.now
+            (lent_in self.now.context.now.families.now) (C.at self.now.context.now.costs.now) from (slice_index to.now k) }
         ensures sizes { (k : ℕ) → k < length to.now
             → IsFromTo (neg_ℤ (pos most_combed)) (pos most_combed) (least_at row.new (slice_index to.now k)) }
     {
         self.fill_apart_at(from, to, row);
         let multiplied = MultipliedFamilies {
-            families: self.setting.families,
+            families: self.context.families,
             numbers: self.multipliers,
         };
-        add_sets(row, &self.setting.by_node[from as usize], &multiplied);
+        add_sets(row, &self.context.by_node[from as usize], &multiplied);
     }
 
     /// Writes a row as `fill` does, of weights that are at most 2 * 10^18 in size.
     pub(crate) fn fill_combed(&self, from: u32, row: &mut [i64])
-        requires from { IsNode (C.nodes self.now.setting.now.costs.now) from }
-        requires room { length row.old ≡ C.nodes self.now.setting.now.costs.now + 1 }
-        ensures values { (x : ℕ) → IsNode (C.nodes self.now.setting.now.costs.now) x → least_at row.new x
-            ≡ set_weight self.now.setting.now.cases.now.scale self.now.potentials.now self.now.multipliers.now
-            (lent_in self.now.setting.now.families.now) (C.at self.now.setting.now.costs.now) from x }
-        ensures sizes { (x : ℕ) → IsNode (C.nodes self.now.setting.now.costs.now) x
+        requires from { IsNode (C.nodes self.now.context.now.costs.now) from }
+        requires room { length row.old ≡ C.nodes self.now.context.now.costs.now + 1 }
+        ensures values { (x : ℕ) → IsNode (C.nodes self.now.context.now.costs.now) x → least_at row.new x
+            ≡ set_weight self.now.context.now.cases.now.scale self.now.potentials.now self.now.multipliers.now
+            (lent_in self.now.context.now.families.now) (C.at self.now.context.now.costs.now) from x }
+        ensures sizes { (x : ℕ) → IsNode (C.nodes self.now.context.now.costs.now) x
             → IsFromTo (neg_ℤ (pos most_combed)) (pos most_combed) (least_at row.new x) }
     {
         self.fill_apart(from, row);
         let multiplied = MultipliedFamilies {
-            families: self.setting.families,
+            families: self.context.families,
             numbers: self.multipliers,
         };
-        add_sets(row, &self.setting.by_node[from as usize], &multiplied);
+        add_sets(row, &self.context.by_node[from as usize], &multiplied);
     }
 
     /// A row of these by the one that is kept.
     fn fill_by_kept(&self, from: u32, row: &mut [i64])
         requires kept { 1 ≤ length self.now.kept.now }
-        requires from { IsNode (C.nodes self.now.setting.now.costs.now) from }
-        requires room { length row.old ≡ C.nodes self.now.setting.now.costs.now + 1 }
-        ensures values { (x : ℕ) → IsNode (C.nodes self.now.setting.now.costs.now) x → least_at row.new x
-            ≡ decided_by self.now.setting.now.cases.now.directed (decisions_in self.now.case.now)
-            (set_weight self.now.setting.now.cases.now.scale self.now.potentials.now self.now.multipliers.now
-            (lent_in self.now.setting.now.families.now) (C.at self.now.setting.now.costs.now)) from x }
-        ensures sizes { (x : ℕ) → IsNode (C.nodes self.now.setting.now.costs.now) x
+        requires from { IsNode (C.nodes self.now.context.now.costs.now) from }
+        requires room { length row.old ≡ C.nodes self.now.context.now.costs.now + 1 }
+        ensures values { (x : ℕ) → IsNode (C.nodes self.now.context.now.costs.now) x → least_at row.new x
+            ≡ decided_by self.now.context.now.cases.now.directed (decisions_in self.now.case.now)
+            (set_weight self.now.context.now.cases.now.scale self.now.potentials.now self.now.multipliers.now
+            (lent_in self.now.context.now.families.now) (C.at self.now.context.now.costs.now)) from x }
+        ensures sizes { (x : ℕ) → IsNode (C.nodes self.now.context.now.costs.now) x
             → IsFromTo (neg_ℤ (pos most_decided)) (pos most_decided) (least_at row.new x) }
     {
         let own = weight_in(self.moved, from);
@@ -182,15 +182,15 @@ impl<C: Costs> Weights for CaseLeaf<'_, C> {
     ghost use Rattle.tsp_cases.specs.states.OpenCases.{decisions_in};
     ghost use Rattle.tsp_branch.specs.states.LeafRows.{decided_by};
 
-    ghost nodes = { λ leaf. C.nodes leaf.setting.now.costs.now };
+    ghost nodes = { λ leaf. C.nodes leaf.context.now.costs.now };
 
-    ghost at = { λ leaf. decided_by leaf.setting.now.cases.now.directed (decisions_in leaf.case.now)
-        (set_weight leaf.setting.now.cases.now.scale leaf.potentials.now leaf.multipliers.now
-        (lent_in leaf.setting.now.families.now) (C.at leaf.setting.now.costs.now)) };
+    ghost at = { λ leaf. decided_by leaf.context.now.cases.now.directed (decisions_in leaf.case.now)
+        (set_weight leaf.context.now.cases.now.scale leaf.potentials.now leaf.multipliers.now
+        (lent_in leaf.context.now.families.now) (C.at leaf.context.now.costs.now)) };
 
     #[inline]
     fn count(&self) -> u32 {
-        self.setting.costs.count()
+        self.context.costs.count()
     }
 
     fn fill(&self, from: u32, row: &mut [i64]) {
@@ -199,7 +199,7 @@ impl<C: Costs> Weights for CaseLeaf<'_, C> {
             return;
         }
         self.fill_combed(from, row);
-        if !self.setting.cases.directed {
+        if !self.context.cases.directed {
             change_row(row, self.case.at(from), from);
         }
     }
@@ -211,7 +211,7 @@ impl<C: Costs> Weights for CaseLeaf<'_, C> {
             return;
         }
         self.fill_combed_at(from, to, row);
-        if !self.setting.cases.directed {
+        if !self.context.cases.directed {
             change_row(row, self.case.at(from), from);
         }
     }

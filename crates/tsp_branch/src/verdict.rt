@@ -11,15 +11,15 @@ ghost use Rattle.tsp_cases.specs.Crossings.{families_in};
 ghost use Rattle.tsp_cases.specs.ListedCases.{AreGoodNumbers};
 ghost use Rattle.tsp_cases.specs.JudgedLeaves.{AreSizedLeaves, IsFoundOfCase, IsSizedLeaf};
 ghost use Rattle.tsp_cases.specs.states.OpenCases.{marks_in, IsOpenCase, decisions_in};
-ghost use Rattle.tsp_cases.specs.states.Kept.{HoldsRows, IsRoom};
+ghost use Rattle.tsp_cases.specs.states.Kept.{HoldsRows, IsScratch};
 ghost use Rattle.tsp_cases.specs.states.Sets.{good_in, lent_in};
 ghost use Rattle.tsp_branch.specs.BranchVerdicts.{IsBranchVerdict, VerdictBoundsCycles, IsSizedVerdict, AreJudgedLeaves, BoundsCycles};
 
 use crate::case_leaf::CaseLeaf;
 use std::alloc::Global;
 use tsp_cases::{
-    CaseSteps, CaseTree, Cases, Decision, Families, JudgedCases, JudgedFamilies, JudgedLeaf,
-    JudgedLeaves, LeafJudge, Multipliers, OpenCase, Room, SetPlace, Setting,
+    BranchingCertificate, CheckedTree, Decision, Families, JudgedCases, JudgedFamilies, JudgedLeaf,
+    JudgedLeaves, LeafContext, LeafJudge, Multipliers, OpenCase, Scratch, SetPlace, WholeTree,
     case_trees_bound_cycles, fill_moved, judge_cases, judge_families, judge_leaves, judge_numbers,
     sets_by_node,
 };
@@ -41,7 +41,10 @@ use tsp_theory::Costs;
 /// Out of memory, of which it takes some for each node, each comb, each node of a set, and
 /// each decision of a case. For trees of several leaves it also takes some for each pair of up to
 /// 2,000 nodes, where there is any.
-pub fn judge_branches<C: Costs>(alloc: Global, tree: &CaseTree<C>) -> Result<BranchVerdict, Refused>
+pub fn judge_branches<C: Costs>(
+    alloc: Global,
+    tree: &BranchingCertificate<C>,
+) -> Result<BranchVerdict, Refused>
     ensures verdict { IfOk result (IsBranchVerdict tree.now.directed (C.nodes tree.now.costs.now) (C.at tree.now.costs.now)
         tree.now.scale (families_in tree.now.families.now) tree.now.given.now (steps_of tree.now.steps.now)) }
     ensures cycles { IfOk result (VerdictBoundsCycles tree.now.directed (C.nodes tree.now.costs.now) (C.at tree.now.costs.now)
@@ -106,7 +109,7 @@ pub fn branch_bound<C: Costs>(
     alloc: Global,
     costs: &C,
     families: &Families,
-    cases: &Cases,
+    cases: &CheckedTree,
 ) -> Result<JudgedLeaves, Refused>
     requires some { 3 ≤ C.nodes costs.now }
     requires even { cases.now.directed ≡ false → IsSymmetric (C.at costs.now) }
@@ -121,13 +124,13 @@ pub fn branch_bound<C: Costs>(
 {
     case_trees_bound_cycles();
     let by_node = sets_by_node(alloc, families)?;
-    let setting = Setting {
+    let context = LeafContext {
         costs,
         cases,
         families,
         by_node: &by_node,
     };
-    judge_setting(alloc, &setting)
+    judge_context(alloc, &context)
 }
 
 /// The least of the bounds of the leaves, or the first leaf that isn't good.
@@ -135,22 +138,22 @@ pub fn branch_bound<C: Costs>(
 /// # Errors
 ///
 /// Out of memory.
-fn judge_setting<C: Costs>(alloc: Global, setting: &Setting<C>) -> Result<JudgedLeaves, Refused>
-    ensures judged { IfOk result (λ judged. All (IsFamily (C.nodes setting.now.costs.now)) (good_in setting.now.families.now)
-        → AreJudgedLeaves setting.now.cases.now.directed (C.nodes setting.now.costs.now) (C.at setting.now.costs.now)
-        setting.now.cases.now.scale (good_in setting.now.families.now) setting.now.families.now.crossed.items
-        setting.now.cases.now.given.now (steps_of setting.now.cases.now.steps.now) judged) }
+fn judge_context<C: Costs>(alloc: Global, context: &LeafContext<C>) -> Result<JudgedLeaves, Refused>
+    ensures judged { IfOk result (λ judged. All (IsFamily (C.nodes context.now.costs.now)) (good_in context.now.families.now)
+        → AreJudgedLeaves context.now.cases.now.directed (C.nodes context.now.costs.now) (C.at context.now.costs.now)
+        context.now.cases.now.scale (good_in context.now.families.now) context.now.families.now.crossed.items
+        context.now.cases.now.given.now (steps_of context.now.cases.now.steps.now) judged) }
     ensures size { IfOk result AreSizedLeaves }
 {
-    let mut room = Room::new(alloc, setting, keeps_rows(setting))?;
-    let steps = CaseSteps {
-        places: setting.cases.nodes,
-        directed: setting.cases.directed,
-        given: setting.cases.given,
-        steps: setting.cases.steps,
+    let mut room = Scratch::new(alloc, context, keeps_rows(context))?;
+    let steps = WholeTree {
+        places: context.cases.nodes,
+        directed: context.cases.directed,
+        given: context.cases.given,
+        steps: context.cases.steps,
     };
-    let count = setting.costs.count() as usize + setting.families.crossed.len();
-    let judge = CycleJudge { setting };
+    let count = context.costs.count() as usize + context.families.crossed.len();
+    let judge = CycleJudge { context };
     judge_leaves(alloc, &judge, &steps, &mut room, count)
 }
 
@@ -173,19 +176,19 @@ const PAIR_BY_ROWS: u64 = 9;
 
 /// Whether a tree of cases keeps rows: where it has several leaves, unless all of them seem to take
 /// less time by boxes.
-fn keeps_rows<C: Costs>(setting: &Setting<C>) -> bool {
-    let steps = setting.cases.steps.len() as u64;
+fn keeps_rows<C: Costs>(context: &LeafContext<C>) -> bool {
+    let steps = context.cases.steps.len() as u64;
     if steps <= 1 {
         return false;
     }
-    if setting.cases.directed || setting.costs.site(1).is_none() {
+    if context.cases.directed || context.costs.site(1).is_none() {
         return true;
     }
     let leaves = steps / 2 + 1;
-    let nodes = setting.by_node.len() as u64;
+    let nodes = context.by_node.len() as u64;
     let pair = PAIR_OF_COSTS.saturating_add(PAIR_BY_KEPT_ROWS.saturating_mul(leaves));
     let boxes = NODE_BY_BOXES.saturating_mul(nodes);
-    let leaf = boxes.saturating_add(time_of_comparing(setting.by_node));
+    let leaf = boxes.saturating_add(time_of_comparing(context.by_node));
     pair.saturating_mul(squared(nodes)) < leaves.saturating_mul(leaf)
 }
 
@@ -240,7 +243,7 @@ fn steps_of_family(sets: &[Vec<u32>]) -> u64 {
 /// Judges leaves by least 1-trees, or by the least links where pairs have a direction.
 #[derive(Drop)]
 pub(crate) struct CycleJudge<'a, C: Costs> {
-    pub(crate) setting: &'a Setting<'a, C>,
+    pub(crate) context: &'a LeafContext<'a, C>,
 }
 
 impl<C: Costs> LeafJudge for CycleJudge<'_, C> {
@@ -251,39 +254,39 @@ impl<C: Costs> LeafJudge for CycleJudge<'_, C> {
     ghost use Rattle.tsp_cases.specs.states.Sets.{lent_in, good_in};
     ghost use Rattle.tsp_cases.specs.states.OpenCases.{marks_in};
     ghost use Rattle.tsp_cases.specs.states.Kept.{HoldsRows};
-    ghost use Rattle.tsp_cases.specs.states.Kept.{IsRoom};
+    ghost use Rattle.tsp_cases.specs.states.Kept.{IsScratch};
 
-    type Memory = Room;
+    type Memory = Scratch;
 
-    ghost nodes = { λ judge. C.nodes judge.setting.now.costs.now };
+    ghost nodes = { λ judge. C.nodes judge.context.now.costs.now };
 
-    ghost combs = { λ judge. length judge.setting.now.families.now.crossed.items };
+    ghost combs = { λ judge. length judge.context.now.families.now.crossed.items };
 
-    ghost places = { λ judge. C.nodes judge.setting.now.costs.now };
+    ghost places = { λ judge. C.nodes judge.context.now.costs.now };
 
-    ghost directed = { λ judge. judge.setting.now.cases.now.directed };
+    ghost directed = { λ judge. judge.context.now.cases.now.directed };
 
-    ghost fits = { λ judge case. DecideOnce judge.setting.now.cases.now.directed case };
+    ghost fits = { λ judge case. DecideOnce judge.context.now.cases.now.directed case };
 
-    ghost good = { λ judge numbers. AreGoodNumbers (C.nodes judge.setting.now.costs.now)
-        judge.setting.now.families.now.crossed.items numbers };
+    ghost good = { λ judge numbers. AreGoodNumbers (C.nodes judge.context.now.costs.now)
+        judge.context.now.families.now.crossed.items numbers };
 
-    ghost found = { λ judge. IsFoundAt judge.setting.now.cases.now.directed (C.nodes judge.setting.now.costs.now)
-        (C.at judge.setting.now.costs.now) judge.setting.now.cases.now.scale decided_number
-        (good_in judge.setting.now.families.now) };
+    ghost found = { λ judge. IsFoundAt judge.context.now.cases.now.directed (C.nodes judge.context.now.costs.now)
+        (C.at judge.context.now.costs.now) judge.context.now.cases.now.scale decided_number
+        (good_in judge.context.now.families.now) };
 
-    ghost holds = { λ judge room case. IsRoom (C.nodes judge.setting.now.costs.now)
-        (length judge.setting.now.families.now.crossed.items) room
-        × HoldsRows (C.nodes judge.setting.now.costs.now) (length judge.setting.now.families.now.crossed.items)
-        judge.setting.now.cases.now.scale (lent_in judge.setting.now.families.now) (C.at judge.setting.now.costs.now)
-        (marks_in judge.setting.now.cases.now.directed case) room.kept };
+    ghost holds = { λ judge room case. IsScratch (C.nodes judge.context.now.costs.now)
+        (length judge.context.now.families.now.crossed.items) room
+        × HoldsRows (C.nodes judge.context.now.costs.now) (length judge.context.now.families.now.crossed.items)
+        judge.context.now.cases.now.scale (lent_in judge.context.now.families.now) (C.at judge.context.now.costs.now)
+        (marks_in judge.context.now.cases.now.directed case) room.kept };
 
-    fn enter(&self, memory: &mut Room, decision: Decision) {
-        memory.kept.mark(self.setting.cases.directed, decision);
+    fn enter(&self, memory: &mut Scratch, decision: Decision) {
+        memory.kept.mark(self.context.cases.directed, decision);
     }
 
-    fn leave(&self, memory: &mut Room, stack: &[Decision]) {
-        memory.kept.leave(self.setting.cases.directed, stack);
+    fn leave(&self, memory: &mut Scratch, stack: &[Decision]) {
+        memory.kept.leave(self.context.cases.directed, stack);
     }
 
     fn judge(
@@ -291,10 +294,10 @@ impl<C: Costs> LeafJudge for CycleJudge<'_, C> {
         alloc: Global,
         case: &OpenCase,
         numbers: &[i128],
-        memory: &mut Room,
+        memory: &mut Scratch,
     ) -> Result<JudgedLeaf, Refused> {
         // The setting is lent again, since the case changes before the next leaf.
-        judge_leaf(alloc, &*self.setting, case, numbers, memory)
+        judge_leaf(alloc, &*self.context, case, numbers, memory)
     }
 }
 
@@ -305,52 +308,52 @@ impl<C: Costs> LeafJudge for CycleJudge<'_, C> {
 /// Out of memory.
 fn judge_leaf<C: Costs>(
     alloc: Global,
-    setting: &Setting<C>,
+    context: &LeafContext<C>,
     case: &OpenCase,
     numbers: &[i128],
-    room: &mut Room,
+    room: &mut Scratch,
 ) -> Result<JudgedLeaf, Refused>
-    requires case { IsOpenCase (C.nodes setting.now.costs.now) case.now }
-    requires direction { case.now.by_node.directed ≡ setting.now.cases.now.directed }
-    requires once { DecideOnce setting.now.cases.now.directed (decisions_in case.now) }
+    requires case { IsOpenCase (C.nodes context.now.costs.now) case.now }
+    requires direction { case.now.by_node.directed ≡ context.now.cases.now.directed }
+    requires once { DecideOnce context.now.cases.now.directed (decisions_in case.now) }
     requires few { length (decisions_in case.now) < 2 ^ 33 }
     requires numbers { length numbers.now
-        ≡ C.nodes setting.now.costs.now + length setting.now.families.now.crossed.items }
-    requires room { IsRoom (C.nodes setting.now.costs.now)
-        (length setting.now.families.now.crossed.items) room.old }
-    requires kept { HoldsRows (C.nodes setting.now.costs.now)
-        (length setting.now.families.now.crossed.items) setting.now.cases.now.scale
-        (lent_in setting.now.families.now) (C.at setting.now.costs.now)
-        (marks_in setting.now.cases.now.directed (decisions_in case.now)) room.old.kept }
-    ensures judged { IfOk result (IsFoundOfCase (IsFoundAt setting.now.cases.now.directed
-        (C.nodes setting.now.costs.now) (C.at setting.now.costs.now)
-        setting.now.cases.now.scale decided_number (good_in setting.now.families.now))
-        (AreGoodNumbers (C.nodes setting.now.costs.now) setting.now.families.now.crossed.items)
-        (C.nodes setting.now.costs.now) (decisions_in case.now) numbers.now) }
-    ensures room { IfOk result (λ own. IsRoom (C.nodes setting.now.costs.now)
-        (length setting.now.families.now.crossed.items) room.new) }
-    ensures kept { IfOk result (λ own. HoldsRows (C.nodes setting.now.costs.now)
-        (length setting.now.families.now.crossed.items) setting.now.cases.now.scale
-        (lent_in setting.now.families.now) (C.at setting.now.costs.now)
-        (marks_in setting.now.cases.now.directed (decisions_in case.now)) room.new.kept) }
+        ≡ C.nodes context.now.costs.now + length context.now.families.now.crossed.items }
+    requires room { IsScratch (C.nodes context.now.costs.now)
+        (length context.now.families.now.crossed.items) room.old }
+    requires kept { HoldsRows (C.nodes context.now.costs.now)
+        (length context.now.families.now.crossed.items) context.now.cases.now.scale
+        (lent_in context.now.families.now) (C.at context.now.costs.now)
+        (marks_in context.now.cases.now.directed (decisions_in case.now)) room.old.kept }
+    ensures judged { IfOk result (IsFoundOfCase (IsFoundAt context.now.cases.now.directed
+        (C.nodes context.now.costs.now) (C.at context.now.costs.now)
+        context.now.cases.now.scale decided_number (good_in context.now.families.now))
+        (AreGoodNumbers (C.nodes context.now.costs.now) context.now.families.now.crossed.items)
+        (C.nodes context.now.costs.now) (decisions_in case.now) numbers.now) }
+    ensures room { IfOk result (λ own. IsScratch (C.nodes context.now.costs.now)
+        (length context.now.families.now.crossed.items) room.new) }
+    ensures kept { IfOk result (λ own. HoldsRows (C.nodes context.now.costs.now)
+        (length context.now.families.now.crossed.items) context.now.cases.now.scale
+        (lent_in context.now.families.now) (C.at context.now.costs.now)
+        (marks_in context.now.cases.now.directed (decisions_in case.now)) room.new.kept) }
     ensures size { IfOk result IsSizedLeaf }
 {
     if !judge_numbers(
         numbers,
-        setting.families,
+        context.families,
         &mut room.potentials,
         &mut room.multipliers,
     ) {
         return Ok(JudgedLeaf::Bad);
     }
     let multipliers = Multipliers {
-        families: setting.families,
+        families: context.families,
         numbers: &room.multipliers,
     };
-    room.kept.bring_to(&multipliers, setting.by_node);
+    room.kept.bring_to(&multipliers, context.by_node);
     fill_moved(&mut room.moved, &room.potentials, &room.kept.ends);
     let leaf = CaseLeaf {
-        setting: &*setting,
+        context: &*context,
         case,
         potentials: &room.potentials,
         multipliers: &room.multipliers,

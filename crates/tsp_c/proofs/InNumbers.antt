@@ -2,9 +2,9 @@
 use Rattle.std.proofs.Common.{◌≡◌, ◌≢◌, ℕ, ◌≤◌, ◌^◌, List, Bool, true, false, Result, Ok, Err, inl, inr, sym, subst, ◌∙◌, arith}
 use Rattle.std.specs.Prelude.{Option, Some, ℤ, pos, negsuc, IfOk, unsigned_abs}
 use Rattle.std.proofs.lemmas.Int.{ints}
-use Rattle.tsp_io.specs.Streams.{Turn, Sink}
+use Rattle.tsp_io.specs.Streams.{ReadTrace, Sink}
 use Rattle.tsp_file.specs.Fields.{Fields}
-use Rattle.tsp_report.specs.declared.task.Certificate.{Certificate}
+use Rattle.tsp_report.specs.declared.task.CertificateKind.{CertificateKind}
 use Rattle.tsp_report.specs.declared.verdict.BoundVerdict.{BoundVerdict}
 use Rattle.tsp_report.specs.declared.verdict.BoundVerdict.TheVariants as bounds
 use Rattle.tsp_report.specs.declared.verdict.Verdict.{Verdict}
@@ -30,7 +30,7 @@ small : (z : ℤ) → IsBoundFitting z → unsigned_abs z ≤ 2 ^ 126
 small (pos n) sized = omega (arith, ints, sized.0, sized.1)
 small (negsuc n) sized = omega (arith, ints, sized.0, sized.1)
 
-pub sized_bound : (by : Certificate) (instance certificate : Fields) (found : BoundVerdict) → IsBoundVerdict by instance certificate found
+pub sized_bound : (by : CertificateKind) (instance certificate : Fields) (found : BoundVerdict) → IsBoundVerdict by instance certificate found
     → IsSizedBound found
 sized_bound by instance certificate (bounds.Bound bound) is = small bound is.1.2
 sized_bound by instance certificate bounds.NoSolution is = tt
@@ -42,7 +42,7 @@ sized_bound_kept true (bounds.Bound bound) is = tt
 sized_bound_kept true bounds.NoSolution is = tt
 sized_bound_kept true (bounds.No reason) is = tt
 
-pub sized_bound_run : (by : Certificate) (strict : Bool) (first second : Turn) (sink : Sink) (ended : Result Bounded RunFault)
+pub sized_bound_run : (by : CertificateKind) (strict : Bool) (first second : ReadTrace) (sink : Sink) (ended : Result Bounded RunFault)
     → IsBoundRun by strict first second sink ended → IfOk ended (λ bounded. IsSizedBound bounded.found)
 sized_bound_run by strict first second sink (Ok bounded) run =
     let asked = run.2.1 in
@@ -52,7 +52,7 @@ sized_bound_run by strict first second sink (Err fault) run = tt
 
 -- each verdict has a length and a bound that fit
 abbrev AreSized : Type 0
-AreSized = (given : Option (Certificate × Fields)) (claimed : Option ℤ) (instance solution : Fields) (verdict : Verdict)
+AreSized = (given : Option (CertificateKind × Fields)) (claimed : Option ℤ) (instance solution : Fields) (verdict : Verdict)
     → IsVerdictWith given claimed instance solution verdict → IsSized verdict
 
 -- a reason has no bound
@@ -62,7 +62,7 @@ sized_kept true (verdicts.Tour length_is bound) is = tt
 sized_kept true (verdicts.Routes length_is routes least bound) is = tt
 sized_kept true (verdicts.No reason) is = tt
 
-pub sized_run : (given : Given) (claimed : Option ℤ) (strict : Bool) (first second : Turn) (sink : Sink) (ended : Result Judged RunFault)
+pub sized_run : (given : Given) (claimed : Option ℤ) (strict : Bool) (first second : ReadTrace) (sink : Sink) (ended : Result Judged RunFault)
     → AreSized → IsRun given claimed strict first second sink ended → IfOk ended (λ judged. IsSized judged.verdict)
 sized_run given claimed strict first second sink (Ok judged) sized run =
     let asked = run.1.1 in
@@ -91,7 +91,7 @@ fault_is fault written status text (inr e) two = let three : status ≡ 3 = e.0 
 
 -- plan: by the end of the run: a verdict, over the files of the texts (`are_spelled`); or a fault, by its status
 -- (`unchecked`)
-pub tells_texts : (by : Option Certificate) (claimed : Option ℤ) (strict : Bool) (first second third : Turn) (sink : Sink) (ended : Result Judged RunFault)
+pub tells_texts : (by : Option CertificateKind) (claimed : Option ℤ) (strict : Bool) (first second third : ReadTrace) (sink : Sink) (ended : Result Judged RunFault)
     (one two three written : List ℕ) (status : ℕ) (text : List ℕ) (made numbers : CallResult) → Reads3 first second third one two three
     → IsRun (given_by by third) claimed strict first second sink ended → made ≡ result_of_run ended
     → (status ≢ 3 → numbers ≡ made) → (status ≡ 3 → numbers ≡ blank_result) → EndsOnTexts (acceptance ended) written status text → TellsTexts (with_certificate by three) claimed strict one two status numbers
@@ -121,7 +121,7 @@ tells_texts by claimed strict first second third sink (Err fault) one two three 
 
 -- plan: by the end of the run: a bound, over the files of the texts (`spelled`); or a fault, by its status
 -- (`unbounded`)
-pub tells_bound : (by : Certificate) (strict : Bool) (first second : Turn) (sink : Sink) (ended : Result Bounded RunFault)
+pub tells_bound : (by : CertificateKind) (strict : Bool) (first second : ReadTrace) (sink : Sink) (ended : Result Bounded RunFault)
     (one two written : List ℕ) (status : ℕ) (text : List ℕ) (made numbers : CallResult) → Reads2 first second one two
     → IsBoundRun by strict first second sink ended → made ≡ result_of_bound_run ended
     → (status ≢ 3 → numbers ≡ made) → (status ≡ 3 → numbers ≡ blank_result) → EndsOnTexts (bound_answer ended) written status text → TellsBound by strict one two status numbers

@@ -3,18 +3,18 @@ use Rattle.std.proofs.Common.{◌≡◌, ℕ, ◌≤◌, List, [], Bool, true, f
 use Rattle.std.proofs.lemmas.Bool.{false≢true}
 use Rattle.std.specs.Io.KnownBytes.{Appends}
 use Rattle.std.specs.Prelude.{IsErr, Option, None, Some, IfSome, ℤ}
-use Rattle.tsp_io.specs.Streams.{Turn, Sink, HasWritten}
+use Rattle.tsp_io.specs.Streams.{ReadTrace, Sink, HasWritten}
 use Rattle.tsp_io.specs.declared.piece.WriteFault.TheVariants as write_faults
 use Rattle.tsp_format.specs.declared.layout.Layout.{Layout}
 use Rattle.tsp_file.specs.Fields.{Fields}
 use Rattle.tsp_file.specs.declared.relayout.RelayoutFault.{RelayoutFault}
 use Rattle.tsp_file.specs.declared.relayout.RelayoutFault.TheVariants as relayout_faults
-use Rattle.tsp_text.specs.Spells.{fault, Spells}
+use Rattle.tsp_text.specs.ParsesTo.{fault, ParsesTo}
 use Rattle.tsp_text.specs.declared.fault.ReadFault.{ReadFault}
 use Rattle.tsp_text.specs.declared.fault.ReadFault.TheVariants as read_faults
 use Rattle.tsp_read.specs.Reads.{IsFile, HasFault, StopsAt}
 use Rattle.tsp_report.specs.Verdicts.{is_yes, is_bound_yes}
-use Rattle.tsp_report.specs.declared.task.Certificate.{Certificate}
+use Rattle.tsp_report.specs.declared.task.CertificateKind.{CertificateKind}
 use Rattle.tsp_report.specs.declared.verdict.BoundVerdict.{BoundVerdict}
 use Rattle.tsp_report.specs.declared.verdict.BoundVerdict.TheVariants as bounds
 use Rattle.tsp_report.specs.declared.verdict.Verdict.{Verdict}
@@ -27,7 +27,7 @@ use Rattle.tsp_judge.specs.declared.bound_run.Bounded.{Bounded}
 use Rattle.tsp_judge.specs.declared.run_status.RunFault.{RunFault}
 use Rattle.tsp_judge.specs.declared.run_status.RunFault.TheVariants.{File, WrongKind, Write, OutOfMemory, Relayout}
 use Rattle.tsp_c.specs.NumberCalls.{without_devices, IsPrinted, EndsOnTexts, EndsWithText, done, bound_answer}
-use Rattle.tsp_c.specs.Texts.{IsFileText, StopsShowing, ShowsText, BecomesFile, StopsConverting, ConvertsText, with_certificate, SpellsGiven, AreSpelled, IsAcceptedText, IsRejected, IsUnchecked, IsReached, StopsCheck, ChecksTexts, IsBoundText, IsUnbounded, StopsBound, BoundsTexts}
+use Rattle.tsp_c.specs.Texts.{IsFileText, StopsShowing, ShowsText, BecomesFile, StopsConverting, ConvertsText, with_certificate, ParsesToGiven, AreSpelled, IsAcceptedText, IsRejected, IsUnchecked, IsReached, StopsCheck, ChecksTexts, IsBoundText, IsUnbounded, StopsBound, BoundsTexts}
 
 -- the status of a fault in memory: 2, 3, or 1 where weights can't go into a layout
 pub record FaultStatus (fault : RunFault) (status : ℕ) : Type 0 where
@@ -100,36 +100,36 @@ no_instance text (Write found) stops = absurd stops
 no_instance text OutOfMemory stops = absurd stops
 no_instance text (Relayout found) stops = absurd stops
 
-pub spelled : (turn : Turn) (text : List ℕ) (file : Fields) → turn.known ≡ Some text → IsFile turn file → Spells text file
-spelled turn text file known is = subst (λ (k : Option (List ℕ)). IfSome k (λ xs. Spells xs file)) known is.3
+pub spelled : (read_trace : ReadTrace) (text : List ℕ) (file : Fields) → read_trace.known ≡ Some text → IsFile read_trace file → ParsesTo text file
+spelled read_trace text file known is = subst (λ (k : Option (List ℕ)). IfSome k (λ xs. ParsesTo xs file)) known is.3
 
-some_file : (turn : Turn) (text : List ℕ) → turn.known ≡ Some text → IsSomeFile turn → IsFileText text
-some_file turn text known is = (is.0, spelled turn text is.0 known is.1)
+some_file : (read_trace : ReadTrace) (text : List ℕ) → read_trace.known ≡ Some text → IsSomeFile read_trace → IsFileText text
+some_file read_trace text known is = (is.0, spelled read_trace text is.0 known is.1)
 
-faulty : (turn : Turn) (text : List ℕ) (found : ReadFault) → turn.known ≡ Some text → HasFault found turn → fault text ≡ Some found
-faulty turn text found known has = subst (λ (k : Option (List ℕ)). IfSome k (λ xs. fault xs ≡ Some found)) known has.3
+faulty : (read_trace : ReadTrace) (text : List ℕ) (found : ReadFault) → read_trace.known ≡ Some text → HasFault found read_trace → fault text ≡ Some found
+faulty read_trace text found known has = subst (λ (k : Option (List ℕ)). IfSome k (λ xs. fault xs ≡ Some found)) known has.3
 
 -- a text at which a run stops has a fault, where the status is that of a fault of a text
-stopped : (turn : Turn) (text : List ℕ) (file : ℕ) (found : ReadFault) → turn.known ≡ Some text → StopsAt found turn
+stopped : (read_trace : ReadTrace) (text : List ℕ) (file : ℕ) (found : ReadFault) → read_trace.known ≡ Some text → StopsAt found read_trace
     → status_of_fault (without_devices (File file found)) ≡ 2 → fault text ≡ Some found
-stopped turn text file (read_faults.Line line word found) known stops two = faulty turn text (read_faults.Line line word found) known stops
-stopped turn text file (read_faults.End found) known stops two = faulty turn text (read_faults.End found) known stops
-stopped turn text file read_faults.TooLong known stops two = faulty turn text read_faults.TooLong known stops
-stopped turn text file read_faults.OutOfMemory known stops two = let n : 3 ≡ 2 = two in absurd (omega arith)
-stopped turn text file read_faults.Device known stops two = let n : 3 ≡ 2 = two in absurd (omega arith)
+stopped read_trace text file (read_faults.Line line word found) known stops two = faulty read_trace text (read_faults.Line line word found) known stops
+stopped read_trace text file (read_faults.End found) known stops two = faulty read_trace text (read_faults.End found) known stops
+stopped read_trace text file read_faults.TooLong known stops two = faulty read_trace text read_faults.TooLong known stops
+stopped read_trace text file read_faults.OutOfMemory known stops two = let n : 3 ≡ 2 = two in absurd (omega arith)
+stopped read_trace text file read_faults.Device known stops two = let n : 3 ≡ 2 = two in absurd (omega arith)
 
 -- a file at which a run stops in memory is its text, which has the fault, or there is no memory for it
-text_stops : (P : RunFault → Type 0) (turn : Turn) (text : List ℕ) (number file : ℕ) (found : ReadFault)
-    → ((other : ReadFault) → IsTextFault number text (File file other) → P (File file other)) → turn.known ≡ Some text
-    → file ≡ number → StopsAt found turn → P (without_devices (File file found))
-text_stops P turn text number file (read_faults.Line line word found) holds known is stops =
-    holds (read_faults.Line line word found) (is, faulty turn text (read_faults.Line line word found) known stops)
-text_stops P turn text number file (read_faults.End found) holds known is stops =
-    holds (read_faults.End found) (is, faulty turn text (read_faults.End found) known stops)
-text_stops P turn text number file read_faults.TooLong holds known is stops =
-    holds read_faults.TooLong (is, faulty turn text read_faults.TooLong known stops)
-text_stops P turn text number file read_faults.OutOfMemory holds known is stops = holds read_faults.OutOfMemory (is, tt)
-text_stops P turn text number file read_faults.Device holds known is stops = holds read_faults.OutOfMemory (is, tt)
+text_stops : (P : RunFault → Type 0) (read_trace : ReadTrace) (text : List ℕ) (number file : ℕ) (found : ReadFault)
+    → ((other : ReadFault) → IsTextFault number text (File file other) → P (File file other)) → read_trace.known ≡ Some text
+    → file ≡ number → StopsAt found read_trace → P (without_devices (File file found))
+text_stops P read_trace text number file (read_faults.Line line word found) holds known is stops =
+    holds (read_faults.Line line word found) (is, faulty read_trace text (read_faults.Line line word found) known stops)
+text_stops P read_trace text number file (read_faults.End found) holds known is stops =
+    holds (read_faults.End found) (is, faulty read_trace text (read_faults.End found) known stops)
+text_stops P read_trace text number file read_faults.TooLong holds known is stops =
+    holds read_faults.TooLong (is, faulty read_trace text read_faults.TooLong known stops)
+text_stops P read_trace text number file read_faults.OutOfMemory holds known is stops = holds read_faults.OutOfMemory (is, tt)
+text_stops P read_trace text number file read_faults.Device holds known is stops = holds read_faults.OutOfMemory (is, tt)
 
 -- the writer of a run on texts was empty before, and holds the written text after
 pub record Collects (sink : Sink) (written : List ℕ) : Type 0 where
@@ -143,58 +143,58 @@ printed_is sink written report is has =
 
 -- ---- a text that is shown or converted
 
-pub shows : (turn : Turn) (sink : Sink) (ended : Result (Unit {0}) RunFault) (one written : List ℕ) (status : ℕ) (text : List ℕ)
-    → IsShowRun turn sink ended → turn.known ≡ Some one → Collects sink written → EndsOnTexts (done ended) written status text
+pub shows : (read_trace : ReadTrace) (sink : Sink) (ended : Result (Unit {0}) RunFault) (one written : List ℕ) (status : ℕ) (text : List ℕ)
+    → IsShowRun read_trace sink ended → read_trace.known ≡ Some one → Collects sink written → EndsOnTexts (done ended) written status text
     → ShowsText one status text
-shows turn sink (Ok is) one written status text run known collects e =
-    yes_ends written status text (run.0, spelled turn one run.0 known run.1, printed_is sink written _ collects run.2) e
-shows turn sink (Err (File file found)) one written status text run known collects e =
+shows read_trace sink (Ok is) one written status text run known collects e =
+    yes_ends written status text (run.0, spelled read_trace one run.0 known run.1, printed_is sink written _ collects run.2) e
+shows read_trace sink (Err (File file found)) one written status text run known collects e =
     fault_ends (File file found) written status text
-    (text_stops (StopsShowing one) turn one 1 file found (λ other is. is) known run.0 run.1) e
-shows turn sink (Err WrongKind) one written status text run known collects e = absurd run
-shows turn sink (Err OutOfMemory) one written status text run known collects e = absurd run
-shows turn sink (Err (Relayout refused)) one written status text run known collects e = absurd run
-shows turn sink (Err (Write write_faults.OutOfMemory)) one written status text run known collects e = absurd run
-shows turn sink (Err (Write write_faults.Device)) one written status text run known collects e =
-    fault_ends (Write write_faults.Device) written status text (run.0, spelled turn one run.0 known run.1) e
+    (text_stops (StopsShowing one) read_trace one 1 file found (λ other is. is) known run.0 run.1) e
+shows read_trace sink (Err WrongKind) one written status text run known collects e = absurd run
+shows read_trace sink (Err OutOfMemory) one written status text run known collects e = absurd run
+shows read_trace sink (Err (Relayout refused)) one written status text run known collects e = absurd run
+shows read_trace sink (Err (Write write_faults.OutOfMemory)) one written status text run known collects e = absurd run
+shows read_trace sink (Err (Write write_faults.Device)) one written status text run known collects e =
+    fault_ends (Write write_faults.Device) written status text (run.0, spelled read_trace one run.0 known run.1) e
 
-becomes : (to : Option Layout) (turn : Turn) (one : List ℕ) (new : Fields) → turn.known ≡ Some one → IsConverted to turn new
+becomes : (to : Option Layout) (read_trace : ReadTrace) (one : List ℕ) (new : Fields) → read_trace.known ≡ Some one → IsConverted to read_trace new
     → BecomesFile to one new
-becomes to turn one new known is = (is.old, spelled turn one is.old known is.whole, is.becomes, is.valid)
+becomes to read_trace one new known is = (is.old, spelled read_trace one is.old known is.whole, is.becomes, is.valid)
 
-pub converts : (to : Option Layout) (turn : Turn) (sink : Sink) (ended : Result (Unit {0}) RunFault) (one written : List ℕ) (status : ℕ)
-    (text : List ℕ) → turn.known ≡ Some one → Collects sink written → IsConvertRun to turn sink ended
+pub converts : (to : Option Layout) (read_trace : ReadTrace) (sink : Sink) (ended : Result (Unit {0}) RunFault) (one written : List ℕ) (status : ℕ)
+    (text : List ℕ) → read_trace.known ≡ Some one → Collects sink written → IsConvertRun to read_trace sink ended
     → EndsOnTexts (done ended) written status text → ConvertsText to one status text
-converts to turn sink (Ok is) one written status text known collects run e =
-    yes_ends written status text (run.0, becomes to turn one run.0 known run.1, printed_is sink written _ collects run.2) e
-converts to turn sink (Err (File file found)) one written status text known collects run e =
+converts to read_trace sink (Ok is) one written status text known collects run e =
+    yes_ends written status text (run.0, becomes to read_trace one run.0 known run.1, printed_is sink written _ collects run.2) e
+converts to read_trace sink (Err (File file found)) one written status text known collects run e =
     fault_ends (File file found) written status text
-    (text_stops (StopsConverting to one) turn one 1 file found (λ other is. is) known run.0 run.1) e
-converts to turn sink (Err WrongKind) one written status text known collects run e = absurd run
-converts to turn sink (Err OutOfMemory) one written status text known collects run e = absurd run
-converts to turn sink (Err (Relayout refused)) one written status text known collects run e =
-    fault_ends (Relayout refused) written status text (run.0, spelled turn one run.0 known run.1, run.2) e
-converts to turn sink (Err (Write write_faults.OutOfMemory)) one written status text known collects run e = absurd run
-converts to turn sink (Err (Write write_faults.Device)) one written status text known collects run e =
-    fault_ends (Write write_faults.Device) written status text (run.0, becomes to turn one run.0 known run.1) e
+    (text_stops (StopsConverting to one) read_trace one 1 file found (λ other is. is) known run.0 run.1) e
+converts to read_trace sink (Err WrongKind) one written status text known collects run e = absurd run
+converts to read_trace sink (Err OutOfMemory) one written status text known collects run e = absurd run
+converts to read_trace sink (Err (Relayout refused)) one written status text known collects run e =
+    fault_ends (Relayout refused) written status text (run.0, spelled read_trace one run.0 known run.1, run.2) e
+converts to read_trace sink (Err (Write write_faults.OutOfMemory)) one written status text known collects run e = absurd run
+converts to read_trace sink (Err (Write write_faults.Device)) one written status text known collects run e =
+    fault_ends (Write write_faults.Device) written status text (run.0, becomes to read_trace one run.0 known run.1) e
 
 -- ---- the check of texts
 
 -- the three texts that a run may read, and the files that they parse to
-pub record Reads3 (first second third : Turn) (one two three : List ℕ) : Type 0 where
+pub record Reads3 (first second third : ReadTrace) (one two three : List ℕ) : Type 0 where
   pub first_is : first.known ≡ Some one
   pub second_is : second.known ≡ Some two
   pub third_is : third.known ≡ Some three
 
-spelled_given : (by : Option Certificate) (third : Turn) (three : List ℕ) (certificate : Option (Certificate × Fields))
-    → third.known ≡ Some three → IsFileIn (given_by by third) certificate → SpellsGiven (with_certificate by three) certificate
+spelled_given : (by : Option CertificateKind) (third : ReadTrace) (three : List ℕ) (certificate : Option (CertificateKind × Fields))
+    → third.known ≡ Some three → IsFileIn (given_by by third) certificate → ParsesToGiven (with_certificate by three) certificate
 spelled_given None third three None known is = is
 spelled_given None third three (Some certificate) known is = absurd is
 spelled_given (Some by) third three None known is = absurd is
 spelled_given (Some by) third three (Some certificate) known is = (is.0, spelled third three certificate.1 known is.1)
 
-pub are_spelled : (by : Option Certificate) (first second third : Turn) (one two three : List ℕ) (instance solution : Fields)
-    (certificate : Option (Certificate × Fields)) → Reads3 first second third one two three
+pub are_spelled : (by : Option CertificateKind) (first second third : ReadTrace) (one two three : List ℕ) (instance solution : Fields)
+    (certificate : Option (CertificateKind × Fields)) → Reads3 first second third one two three
     → AreRead (given_by by third) first second instance solution certificate
     → AreSpelled (with_certificate by three) one two instance solution certificate
 are_spelled by first second third one two three instance solution certificate reads read = record {
@@ -203,7 +203,7 @@ are_spelled by first second third one two three instance solution certificate re
   third_file = spelled_given by third three certificate reads.third_is read.third_file;
 }
 
-accepted : (by : Option Certificate) (claimed : Option ℤ) (strict : Bool) (first second third : Turn) (sink : Sink) (one two three written : List ℕ)
+accepted : (by : Option CertificateKind) (claimed : Option ℤ) (strict : Bool) (first second third : ReadTrace) (sink : Sink) (one two three written : List ℕ)
     → Reads3 first second third one two three → Collects sink written → SaysYes (given_by by third) claimed strict first second sink
     → IsAcceptedText (with_certificate by three) claimed strict one two written
 accepted by claimed strict first second third sink one two three written reads collects says = record {
@@ -216,8 +216,8 @@ accepted by claimed strict first second third sink one two three written reads c
   all_judged = says.all_judged;
 }
 
-rejected : (by : Option Certificate) (claimed : Option ℤ) (strict : Bool) (first second third : Turn) (sink : Sink) (one two three written : List ℕ)
-    (instance solution : Fields) (certificate : Option (Certificate × Fields)) (verdict : Verdict)
+rejected : (by : Option CertificateKind) (claimed : Option ℤ) (strict : Bool) (first second third : ReadTrace) (sink : Sink) (one two three written : List ℕ)
+    (instance solution : Fields) (certificate : Option (CertificateKind × Fields)) (verdict : Verdict)
     → Reads3 first second third one two three → Collects sink written
     → AreRead (given_by by third) first second instance solution certificate
     → JudgesFiles certificate claimed strict instance solution sink (Ok verdict) → false ≡ is_yes verdict
@@ -238,18 +238,18 @@ rejected by claimed strict first second third sink one two three written instanc
 }
 
 -- a text of a certificate that is given, at which a run stops
-stopped_given : (by : Option Certificate) (third : Turn) (three : List ℕ) (given : Certificate × Turn) (file : ℕ) (found : ReadFault)
+stopped_given : (by : Option CertificateKind) (third : ReadTrace) (three : List ℕ) (given : CertificateKind × ReadTrace) (file : ℕ) (found : ReadFault)
     → given_by by third ≡ Some given → third.known ≡ Some three → StopsAt found given.1
     → status_of_fault (without_devices (File file found)) ≡ 2
-    → (text : Certificate × List ℕ) × (with_certificate by three ≡ Some text) × (fault text.1 ≡ Some found)
+    → (text : CertificateKind × List ℕ) × (with_certificate by three ≡ Some text) × (fault text.1 ≡ Some found)
 stopped_given None third three given file found is known stops two = absurd cc
 stopped_given (Some by) third three given file found is known stops two =
-    ((by, three), refl, stopped third three file found known (subst (λ (g : Certificate × Turn). StopsAt found g.1) (sym (some_is _ _ is)) stops) two)
+    ((by, three), refl, stopped third three file found known (subst (λ (g : Certificate × ReadTrace). StopsAt found g.1) (sym (some_is _ _ is)) stops) two)
   where
-    some_is : (a b : Certificate × Turn) → Some a ≡ Some b → a ≡ b
+    some_is : (a b : CertificateKind × ReadTrace) → Some a ≡ Some b → a ≡ b
     some_is a b e = cc
 
-pub unchecked : (by : Option Certificate) (claimed : Option ℤ) (strict : Bool) (first second third : Turn) (sink : Sink) (one two three : List ℕ)
+pub unchecked : (by : Option CertificateKind) (claimed : Option ℤ) (strict : Bool) (first second third : ReadTrace) (sink : Sink) (one two three : List ℕ)
     (fault : RunFault) → Reads3 first second third one two three
     → EndsWithout (given_by by third) claimed strict first second sink fault
     → status_of_fault (without_devices fault) ≡ 2 → IsUnchecked (with_certificate by three) one two fault
@@ -273,7 +273,7 @@ unchecked by claimed strict first second third sink one two three (Relayout refu
 unchecked by claimed strict first second third sink one two three (Write write_faults.OutOfMemory) reads run s = absurd run.4
 unchecked by claimed strict first second third sink one two three (Write write_faults.Device) reads run s = let n : 3 ≡ 2 = s in absurd (omega arith)
 
-pub no_relayout : (by : Option Certificate) (claimed : Option ℤ) (strict : Bool) (first second third : Turn) (sink : Sink) (fault : RunFault)
+pub no_relayout : (by : Option CertificateKind) (claimed : Option ℤ) (strict : Bool) (first second third : ReadTrace) (sink : Sink) (fault : RunFault)
     (refused : RelayoutFault) → fault ≡ Relayout refused → EndsWithout (given_by by third) claimed strict first second sink fault → ⊥
 no_relayout by claimed strict first second third sink fault refused is run =
     none (subst (λ (f : RunFault). EndsWithout (given_by by third) claimed strict first second sink f) is run)
@@ -282,7 +282,7 @@ no_relayout by claimed strict first second third sink fault refused is run =
     none ended = ended.4
 
 -- the texts before the one at which a run stops are files
-reached : (by : Option Certificate) (first second third : Turn) (one two three : List ℕ) (file : ℕ) (found : ReadFault)
+reached : (by : Option CertificateKind) (first second third : ReadTrace) (one two three : List ℕ) (file : ℕ) (found : ReadFault)
     → Reads3 first second third one two three → IsFaultOfRun (given_by by third) first second file found
     → IsReached (with_certificate by three) one two file
 reached by first second third one two three file found reads run = elim run [
@@ -299,13 +299,13 @@ reached by first second third one two three file found reads run = elim run [
   ]
 ]
   where
-    given_is : (by : Option Certificate) (third : Turn) (three : List ℕ) (given : Certificate × Turn) → given_by by third ≡ Some given
-        → (text : Certificate × List ℕ) × (with_certificate by three ≡ Some text)
+    given_is : (by : Option CertificateKind) (third : ReadTrace) (three : List ℕ) (given : CertificateKind × ReadTrace) → given_by by third ≡ Some given
+        → (text : CertificateKind × List ℕ) × (with_certificate by three ≡ Some text)
     given_is None third three given is = absurd cc
     given_is (Some by) third three given is = ((by, three), refl)
 
 -- plan: by the fault: each case is the one of the run, with the texts for the readers (`reached`, `are_spelled`)
-stops_check : (by : Option Certificate) (claimed : Option ℤ) (strict : Bool) (first second third : Turn) (sink : Sink) (one two three : List ℕ)
+stops_check : (by : Option CertificateKind) (claimed : Option ℤ) (strict : Bool) (first second third : ReadTrace) (sink : Sink) (one two three : List ℕ)
     (fault : RunFault) → Reads3 first second third one two three → EndsWithout (given_by by third) claimed strict first second sink fault
     → StopsCheck (with_certificate by three) claimed strict one two (without_devices fault)
 stops_check by claimed strict first second third sink one two three (File file (read_faults.Line line word found)) reads run =
@@ -336,7 +336,7 @@ stops_check by claimed strict first second third sink one two three (Write write
   ),
 )
 
-pub checks : (by : Option Certificate) (claimed : Option ℤ) (strict : Bool) (first second third : Turn) (sink : Sink) (answer : Result Bool RunFault)
+pub checks : (by : Option CertificateKind) (claimed : Option ℤ) (strict : Bool) (first second third : ReadTrace) (sink : Sink) (answer : Result Bool RunFault)
     (one two three written : List ℕ) (status : ℕ) (text : List ℕ) → Reads3 first second third one two three → Collects sink written
     → IsCheckOf (given_by by third) claimed strict first second sink answer → EndsOnTexts answer written status text
     → ChecksTexts (with_certificate by three) claimed strict one two status text
@@ -351,11 +351,11 @@ checks by claimed strict first second third sink (Err fault) one two three writt
 -- ---- a bound
 
 -- the two texts that a run reads, and the files that they parse to
-pub record Reads2 (first second : Turn) (one two : List ℕ) : Type 0 where
+pub record Reads2 (first second : ReadTrace) (one two : List ℕ) : Type 0 where
   pub first_is : first.known ≡ Some one
   pub second_is : second.known ≡ Some two
 
-bound_says : (by : Certificate) (strict : Bool) (first second : Turn) (sink : Sink) (one two written : List ℕ) (found : BoundVerdict)
+bound_says : (by : CertificateKind) (strict : Bool) (first second : ReadTrace) (sink : Sink) (one two written : List ℕ) (found : BoundVerdict)
     → Reads2 first second one two → Collects sink written → SaysBound by strict first second sink found → IsBoundText by strict one two written
 bound_says by strict first second sink one two written found reads collects says = record {
   instance = says.instance;
@@ -368,7 +368,7 @@ bound_says by strict first second sink one two written found reads collects says
   all_judged = says.all_judged;
 }
 
-bound_found : (by : Certificate) (strict : Bool) (first second : Turn) (sink : Sink) (one two written : List ℕ) (status : ℕ) (text : List ℕ)
+bound_found : (by : CertificateKind) (strict : Bool) (first second : ReadTrace) (sink : Sink) (one two written : List ℕ) (status : ℕ) (text : List ℕ)
     (instance certificate : Fields) (found : BoundVerdict) → Reads2 first second one two → Collects sink written
     → IsFile first instance → IsFile second certificate → BoundsFiles by strict instance certificate sink (Ok found)
     → (is_bound_yes found ≡ true → SaysBound by strict first second sink found)
@@ -389,7 +389,7 @@ bound_found by strict first second sink one two written status text instance cer
       printed = printed_is sink written _ collects judged.2;
     }) e
 
-pub unbounded : (by : Certificate) (strict : Bool) (first second : Turn) (sink : Sink) (one two : List ℕ) (fault : RunFault)
+pub unbounded : (by : CertificateKind) (strict : Bool) (first second : ReadTrace) (sink : Sink) (one two : List ℕ) (fault : RunFault)
     → Reads2 first second one two → EndsUnbounded by strict first second sink fault
     → status_of_fault (without_devices fault) ≡ 2 → IsUnbounded by one two fault
 unbounded by strict first second sink one two (File file found) reads run s = elim run.1 [
@@ -408,7 +408,7 @@ unbounded by strict first second sink one two (Relayout refused) reads run s = a
 unbounded by strict first second sink one two (Write write_faults.OutOfMemory) reads run s = absurd run.4
 unbounded by strict first second sink one two (Write write_faults.Device) reads run s = let n : 3 ≡ 2 = s in absurd (omega arith)
 
-pub not_relaid : (by : Certificate) (strict : Bool) (first second : Turn) (sink : Sink) (fault : RunFault) (refused : RelayoutFault)
+pub not_relaid : (by : CertificateKind) (strict : Bool) (first second : ReadTrace) (sink : Sink) (fault : RunFault) (refused : RelayoutFault)
     → fault ≡ Relayout refused → EndsUnbounded by strict first second sink fault → ⊥
 not_relaid by strict first second sink fault refused is run = none (subst (λ (f : RunFault). EndsUnbounded by strict first second sink f) is run)
   where
@@ -416,7 +416,7 @@ not_relaid by strict first second sink fault refused is run = none (subst (λ (f
     none ended = ended.4
 
 -- plan: by the fault: each case is the one of the run, with the texts for the readers (`some_file`, `spelled`)
-stops_bound : (by : Certificate) (strict : Bool) (first second : Turn) (sink : Sink) (one two : List ℕ) (fault : RunFault)
+stops_bound : (by : CertificateKind) (strict : Bool) (first second : ReadTrace) (sink : Sink) (one two : List ℕ) (fault : RunFault)
     → Reads2 first second one two → EndsUnbounded by strict first second sink fault → StopsBound by strict one two (without_devices fault)
 stops_bound by strict first second sink one two (File file (read_faults.Line line word found)) reads run =
     unbounded by strict first second sink one two (File file (read_faults.Line line word found)) reads run refl
@@ -456,7 +456,7 @@ stops_bound by strict first second sink one two (Write write_faults.Device) read
   ),
 )
 
-pub bounds_texts : (by : Certificate) (strict : Bool) (first second : Turn) (sink : Sink) (ended : Result Bounded RunFault) (one two written : List ℕ)
+pub bounds_texts : (by : CertificateKind) (strict : Bool) (first second : ReadTrace) (sink : Sink) (ended : Result Bounded RunFault) (one two written : List ℕ)
     (status : ℕ) (text : List ℕ) → Reads2 first second one two → Collects sink written → IsBoundRunOf by strict first second sink ended
     → EndsOnTexts (bound_answer ended) written status text → BoundsTexts by strict one two status text
 bounds_texts by strict first second sink (Ok bounded) one two written status text reads collects run e =

@@ -14,8 +14,8 @@ use Rattle.tsp_text.specs.declared.fault.LineFault.{LineFault}
 use Rattle.tsp_text.specs.declared.fault.LineFault.TheVariants as line_faults
 use Rattle.tsp_text.specs.declared.fault.ReadFault.{ReadFault}
 use Rattle.tsp_text.specs.declared.fault.ReadFault.TheVariants as read_faults
-use Rattle.tsp_text.specs.Spells.{Spells}
-use Rattle.tsp_report.specs.declared.task.Certificate.{Certificate}
+use Rattle.tsp_text.specs.ParsesTo.{ParsesTo}
+use Rattle.tsp_report.specs.declared.task.CertificateKind.{CertificateKind}
 use Rattle.tsp_report.specs.declared.verdict.BoundVerdict.{BoundVerdict}
 use Rattle.tsp_report.specs.declared.verdict.BoundVerdict.TheVariants as bounds
 use Rattle.tsp_report.specs.declared.verdict.Reason.{Reason}
@@ -247,7 +247,7 @@ result_of_bound_run (Err fault) = result_of_fault fault
 pub record IsTextVerdict (given : GivenText) (claimed : Option ℤ) (strict : Bool) (one two : List ℕ) (status : ℕ) (call_result : CallResult) : Type 0 where
   pub instance : Fields
   pub solution : Fields
-  pub certificate : Option (Certificate × Fields)
+  pub certificate : Option (CertificateKind × Fields)
   pub verdict : Verdict
   pub spelled : AreSpelled given one two instance solution certificate
   pub of_type : IsTrue (is_judged certificate instance.kind)
@@ -271,24 +271,24 @@ TellsBy by has_claim claimed one two three status call_result =
     × (3 < has_claim → call_result ≡ blank_result)
 
 -- the numbers and the status are those of the bound, or of the reason, for the files that the texts parse to
-pub record IsTextBound (by : Certificate) (strict : Bool) (one two : List ℕ) (status : ℕ) (call_result : CallResult) : Type 0 where
+pub record IsTextBound (by : CertificateKind) (strict : Bool) (one two : List ℕ) (status : ℕ) (call_result : CallResult) : Type 0 where
   pub instance : Fields
   pub certificate : Fields
   pub found : BoundVerdict
-  pub first_file : Spells one instance
-  pub second_file : Spells two certificate
+  pub first_file : ParsesTo one instance
+  pub second_file : ParsesTo two certificate
   pub of_type : IsTrue (is_bounded by instance.kind)
   pub judged : IsBoundAsked strict by instance certificate found
   pub numbers : call_result ≡ result_of_bound instance found
   pub status_is : status ≡ status_of (Ok (is_bound_yes found))
 
 -- the numbers of a bound without a solution, by its status
-pub record TellsBound (by : Certificate) (strict : Bool) (one two : List ℕ) (status : ℕ) (call_result : CallResult) : Type 0 where
+pub record TellsBound (by : CertificateKind) (strict : Bool) (one two : List ℕ) (status : ℕ) (call_result : CallResult) : Type 0 where
   pub bounded : status ≤ 1 → IsTextBound by strict one two status call_result
   pub faulty : status ≡ 2 → (fault : RunFault) × IsUnbounded by one two fault × (call_result ≡ result_of_fault fault)
   pub refused : status ≡ 3 → call_result ≡ blank_result
 
 -- the same, by what the caller's number asks for; where it asks nothing, all numbers are 0
-abbrev pub TellsBoundBy : Option (Certificate × Bool) → List ℕ → List ℕ → ℕ → CallResult → Type 0
+abbrev pub TellsBoundBy : Option (CertificateKind × Bool) → List ℕ → List ℕ → ℕ → CallResult → Type 0
 TellsBoundBy None one two status call_result = call_result ≡ blank_result
 TellsBoundBy (Some asked) one two status call_result = TellsBound asked.0 asked.1 one two status call_result

@@ -13,7 +13,7 @@ use Rattle.tsp_format.specs.declared.kinds.WeightKind.TheVariants.{Euc2d, Ceil2d
 use Rattle.tsp_file.specs.Cost.{cost, distance, point_of}
 use Rattle.tsp_file.specs.Fields.{Fields, nodes_of}
 use Rattle.tsp_file.specs.Rules.{is_instance}
-use Rattle.tsp_text.specs.Spells.{Spells}
+use Rattle.tsp_text.specs.ParsesTo.{ParsesTo}
 use Rattle.tsp_text.specs.declared.fault.ReadFault.TheVariants as read_faults
 use Rattle.tsp_theory.specs.Tour.{length_of}
 use Rattle.tsp_report.specs.Verdicts.{is_bound_yes}
@@ -115,7 +115,7 @@ pub record IsFilled (count : ℕ) (number : ℕ → ℤ) (old new : List ℤ) : 
 
 -- the text parses to this instance
 abbrev pub IsInstanceText : List ℕ → Fields → Type 0
-IsInstanceText text instance = Spells text instance × IsTrue (is_instance instance.kind)
+IsInstanceText text instance = ParsesTo text instance × IsTrue (is_instance instance.kind)
 
 -- the instance of a text, or the fault by which it has none
 abbrev pub FindsInstance : List ℕ → Result Fields RunFault → Type 0
@@ -261,7 +261,7 @@ EndsPoints (Some points) old new status =
 -- the same of the file that a text parses to; 4 where there is no such section
 abbrev pub FillsPoints : List ℕ → ℕ → List ℤ → List ℤ → ℕ → Type 0
 FillsPoints text section old new status =
-    (IsSection section × ((file : Fields) × Spells text file × EndsPoints (section_points section file) old new status))
+    (IsSection section × ((file : Fields) × ParsesTo text file × EndsPoints (section_points section file) old new status))
     ⊎ (IsSection section × ((fault : RunFault) × IsTextFault 1 text fault × StopsWith fault old new status))
     ⊎ ((status ≡ 4) × (new ≡ old) × ¬ IsSection section)
 

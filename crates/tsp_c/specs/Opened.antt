@@ -6,9 +6,9 @@ use base.Fml.{Fml, ftrue}
 use base.Stored.{Coded}
 use denote.RawPtr.{Ptr}
 use Rattle.tsp_file.specs.Fields.{Fields, blank_fields}
-use Rattle.tsp_text.specs.Spells.{Spells}
+use Rattle.tsp_text.specs.ParsesTo.{ParsesTo}
 use Rattle.tsp_report.specs.Verdicts.{is_yes, is_bound_yes}
-use Rattle.tsp_report.specs.declared.task.Certificate.{Certificate}
+use Rattle.tsp_report.specs.declared.task.CertificateKind.{CertificateKind}
 use Rattle.tsp_report.specs.declared.verdict.BoundVerdict.{BoundVerdict}
 use Rattle.tsp_report.specs.declared.verdict.Verdict.{Verdict}
 use Rattle.tsp_verdict.specs.SolutionVerdict.{is_unjudged, strict_verdict}
@@ -22,7 +22,7 @@ use Rattle.std_heap.specs.contracts.GlobalAllocator.TheImpl.{ghosts}
 use Rattle.std_heap.specs.declared.Global.{Global}
 use Rattle.tsp_c.specs.CallResult.{blank_result, result_of_instance, result_of_verdict, result_of_bound, result_of_fault}
 use Rattle.tsp_c.specs.NumberCalls.{section_points, IsSection, EndsPoints}
-use Rattle.tsp_c.specs.Texts.{GivenText, SpellsGiven, ChecksTexts, IsRefusedNumber, claim_of, strict_of}
+use Rattle.tsp_c.specs.Texts.{GivenText, ParsesToGiven, ChecksTexts, IsRefusedNumber, claim_of, strict_of}
 use Rattle.tsp_c.specs.declared.call_result.CallResult.{CallResult}
 
 -- the instance on which a handle is open, with its certificate; None where it is closed
@@ -46,7 +46,7 @@ OpensText text held call_result status =
 -- ---- binding a certificate to it
 
 -- The certificate is bound, with its bound or the reason against it. Or nothing changes, with a fault and its status.
-abbrev pub BindsOpen : Certificate → List ℕ → Open → Held → CallResult → ℕ → Type 0
+abbrev pub BindsOpen : CertificateKind → List ℕ → Open → Held → CallResult → ℕ → Type 0
 BindsOpen by text opened held call_result status =
     ((new : Open) × (found : BoundVerdict) × (held ≡ Some new) × IsBoundTo by text opened new found
     × (call_result ≡ result_of_bound opened.instance found) × (status ≡ status_of (Ok (is_bound_yes found))))
@@ -58,7 +58,7 @@ abbrev pub IsRefusedCall : Held → Held → CallResult → ℕ → Type 0
 IsRefusedCall old new call_result status = (status ≡ 4) × (new ≡ old) × (call_result ≡ blank_result)
 
 -- the same, where the caller's number is that of a certificate and the handle is open; else the call is refused
-abbrev pub BindsText : Option Certificate → List ℕ → Held → Held → CallResult → ℕ → Type 0
+abbrev pub BindsText : Option CertificateKind → List ℕ → Held → Held → CallResult → ℕ → Type 0
 BindsText None text old new call_result status = IsRefusedCall old new call_result status
 BindsText (Some by) text None new call_result status = IsRefusedCall None new call_result status
 BindsText (Some by) text (Some opened) new call_result status = BindsOpen by text opened new call_result status
@@ -67,7 +67,7 @@ BindsText (Some by) text (Some opened) new call_result status = BindsOpen by tex
 
 -- the first text parses to the instance, and the given one to the certificate
 abbrev pub IsOpenOn : List ℕ → GivenText → Open → Type 0
-IsOpenOn one given opened = Spells one opened.instance × SpellsGiven given opened.certificate
+IsOpenOn one given opened = ParsesTo one opened.instance × ParsesToGiven given opened.certificate
 
 -- the status and the text are those of a check of such texts, whichever the handle was opened with
 abbrev pub ChecksAsTexts : Open → Option ℤ → Bool → List ℕ → ℕ → List ℕ → Type 0

@@ -8,9 +8,9 @@ use Rattle.tsp_file.specs.Rules.{fault_of}
 use Rattle.tsp_file.specs.CanonicalText.{text_of}
 use Rattle.tsp_io.specs.declared.piece.WriteFault.TheVariants as write_faults
 use Rattle.tsp_text.specs.declared.fault.ReadFault.TheVariants as read_faults
-use Rattle.tsp_text.specs.Spells.{fault, Spells}
-use Rattle.tsp_report.specs.declared.task.Certificate.{Certificate}
-use Rattle.tsp_report.specs.declared.task.Certificate.TheVariants.{Potentials, Branches}
+use Rattle.tsp_text.specs.ParsesTo.{fault, ParsesTo}
+use Rattle.tsp_report.specs.declared.task.CertificateKind.{CertificateKind}
+use Rattle.tsp_report.specs.declared.task.CertificateKind.TheVariants.{Potentials, Branches}
 use Rattle.tsp_report.specs.declared.verdict.BoundVerdict.{BoundVerdict}
 use Rattle.tsp_report.specs.declared.verdict.BoundVerdict.TheVariants as bounds
 use Rattle.tsp_report.specs.declared.verdict.Reason.{Reason}
@@ -37,7 +37,7 @@ IsRefusedNumber status text = (status ≡ 4) × (text ≡ [])
 
 -- the text parses to a file
 abbrev pub IsFileText : List ℕ → Type 0
-IsFileText text = (file : Fields) × Spells text file
+IsFileText text = (file : Fields) × ParsesTo text file
 
 -- the fault is the first one of the text with this number
 abbrev pub IsFaultyText : ℕ → List ℕ → RunFault → Type 0
@@ -54,18 +54,18 @@ StopsShowing one fault = IsTextFault 1 one fault
 -- the result of `show`
 abbrev pub ShowsText : List ℕ → ℕ → List ℕ → Type 0
 ShowsText one status text = EndsWithText
-    (λ out. (file : Fields) × Spells one file × (out ≡ shown file))
+    (λ out. (file : Fields) × ParsesTo one file × (out ≡ shown file))
     (λ out. ⊥)
     (StopsShowing one) status text
 
 -- the text parses to a file that becomes this valid one in the layout
 abbrev pub BecomesFile : Option Layout → List ℕ → Fields → Type 0
-BecomesFile to one new = (old : Fields) × Spells one old × Becomes to old (Ok new) × (fault_of new ≡ None)
+BecomesFile to one new = (old : Fields) × ParsesTo one old × Becomes to old (Ok new) × (fault_of new ≡ None)
 
 -- The text isn't valid; or its weights can't have the layout, or there is no memory for that; or there is none for the
 -- text of the new file.
 abbrev pub StopsConverting : Option Layout → List ℕ → RunFault → Type 0
-StopsConverting to one (Relayout refused) = (old : Fields) × Spells one old × Becomes to old (Err refused)
+StopsConverting to one (Relayout refused) = (old : Fields) × ParsesTo one old × Becomes to old (Err refused)
 StopsConverting to one (Write write_faults.OutOfMemory) = (new : Fields) × BecomesFile to one new
 StopsConverting to one fault = IsTextFault 1 one fault
 
@@ -84,24 +84,24 @@ ConvertsBy number one status text = (number ≤ 9 → ConvertsText (nth number l
 -- ---- a check: the files, and a claimed length
 
 -- the certificates by their numbers
-abbrev pub certificates : List Certificate
+abbrev pub certificates : List CertificateKind
 certificates = Potentials ∷ Branches ∷ []
 
 -- A certificate may be given, with its text.
 abbrev pub GivenText : Type 0
-GivenText = Option (Certificate × List ℕ)
+GivenText = Option (CertificateKind × List ℕ)
 
 -- a certificate with its text, or none
-abbrev pub with_certificate : Option Certificate → List ℕ → GivenText
+abbrev pub with_certificate : Option CertificateKind → List ℕ → GivenText
 with_certificate None three = None
 with_certificate (Some by) three = Some (by, three)
 
 -- the certificate's text parses to this file
-abbrev pub SpellsGiven : GivenText → Option (Certificate × Fields) → Type 0
-SpellsGiven None None = Unit {0}
-SpellsGiven None (Some certificate) = ⊥
-SpellsGiven (Some given) None = ⊥
-SpellsGiven (Some given) (Some certificate) = (certificate.0 ≡ given.0) × Spells given.1 certificate.1
+abbrev pub ParsesToGiven : GivenText → Option (CertificateKind × Fields) → Type 0
+ParsesToGiven None None = Unit {0}
+ParsesToGiven None (Some certificate) = ⊥
+ParsesToGiven (Some given) None = ⊥
+ParsesToGiven (Some given) (Some certificate) = (certificate.0 ≡ given.0) × ParsesTo given.1 certificate.1
 
 -- A check by 0 asks nothing more, by 1 for a length, by 2 that unknown keywords be a reason, by 3 for both. This is the
 -- claimed length, if there is one.
@@ -114,10 +114,10 @@ strict_of has = has == 2 || has == 3
 
 -- the texts parse to these files
 pub record AreSpelled (given : GivenText) (one two : List ℕ) (instance solution : Fields)
-    (certificate : Option (Certificate × Fields)) : Type 0 where
-  pub first_file : Spells one instance
-  pub second_file : Spells two solution
-  pub third_file : SpellsGiven given certificate
+    (certificate : Option (CertificateKind × Fields)) : Type 0 where
+  pub first_file : ParsesTo one instance
+  pub second_file : ParsesTo two solution
+  pub third_file : ParsesToGiven given certificate
 
 -- ---- a solution that is accepted, and one that isn't
 
@@ -125,7 +125,7 @@ pub record AreSpelled (given : GivenText) (one two : List ℕ) (instance solutio
 pub record IsAcceptedText (given : GivenText) (claimed : Option ℤ) (strict : Bool) (one two text : List ℕ) : Type 0 where
   pub instance : Fields
   pub solution : Fields
-  pub certificate : Option (Certificate × Fields)
+  pub certificate : Option (CertificateKind × Fields)
   pub spelled : AreSpelled given one two instance solution certificate
   pub meaning : IsAccepted certificate claimed instance solution text
   pub all_judged : strict ≡ true → instance.others ≡ []
@@ -134,7 +134,7 @@ pub record IsAcceptedText (given : GivenText) (claimed : Option ℤ) (strict : B
 pub record IsRejected (given : GivenText) (claimed : Option ℤ) (strict : Bool) (one two text : List ℕ) : Type 0 where
   pub instance : Fields
   pub solution : Fields
-  pub certificate : Option (Certificate × Fields)
+  pub certificate : Option (CertificateKind × Fields)
   pub spelled : AreSpelled given one two instance solution certificate
   pub of_type : IsTrue (is_judged certificate instance.kind)
   pub reason : Reason
@@ -143,7 +143,7 @@ pub record IsRejected (given : GivenText) (claimed : Option ℤ) (strict : Bool)
 
 -- all texts are valid, but solutions of the instance's TYPE aren't judged so
 abbrev pub IsOfWrongKind : GivenText → List ℕ → List ℕ → Type 0
-IsOfWrongKind given one two = (instance solution : Fields) × (certificate : Option (Certificate × Fields))
+IsOfWrongKind given one two = (instance solution : Fields) × (certificate : Option (CertificateKind × Fields))
     × AreSpelled given one two instance solution certificate × (is_judged certificate instance.kind ≡ false)
 
 -- the first text, in order, that isn't valid, has this fault
@@ -151,22 +151,22 @@ abbrev pub IsUnchecked : GivenText → List ℕ → List ℕ → RunFault → Ty
 IsUnchecked given one two WrongKind = IsOfWrongKind given one two
 IsUnchecked given one two fault = IsFaultyText 1 one fault
     ⊎ (IsFileText one × IsFaultyText 2 two fault)
-    ⊎ ((third : Certificate × List ℕ) × (given ≡ Some third) × IsFileText one × IsFileText two × IsFaultyText 3 third.1 fault)
+    ⊎ ((third : CertificateKind × List ℕ) × (given ≡ Some third) × IsFileText one × IsFileText two × IsFaultyText 3 third.1 fault)
 
 -- the texts before the one with this number are valid
 abbrev pub IsReached : GivenText → List ℕ → List ℕ → ℕ → Type 0
 IsReached given one two number = (number ≡ 1)
     ⊎ ((number ≡ 2) × IsFileText one)
-    ⊎ ((third : Certificate × List ℕ) × (given ≡ Some third) × (number ≡ 3) × IsFileText one × IsFileText two)
+    ⊎ ((third : CertificateKind × List ℕ) × (given ≡ Some third) × (number ≡ 3) × IsFileText one × IsFileText two)
 
 -- all texts are valid, and none of the reasons applies that are found without memory
 abbrev pub IsUndecided : GivenText → List ℕ → List ℕ → Type 0
-IsUndecided given one two = (instance solution : Fields) × (certificate : Option (Certificate × Fields))
+IsUndecided given one two = (instance solution : Fields) × (certificate : Option (CertificateKind × Fields))
     × AreSpelled given one two instance solution certificate × NoneBeforeRepeatsOn instance solution
 
 -- the files of the texts have this verdict
 abbrev pub HasVerdict : GivenText → Option ℤ → Bool → List ℕ → List ℕ → Verdict → Type 0
-HasVerdict given claimed strict one two verdict = (instance solution : Fields) × (certificate : Option (Certificate × Fields))
+HasVerdict given claimed strict one two verdict = (instance solution : Fields) × (certificate : Option (CertificateKind × Fields))
     × AreSpelled given one two instance solution certificate
     × IsTrue (is_judged certificate instance.kind) × IsVerdictAsked strict certificate claimed instance solution verdict
 
@@ -197,26 +197,26 @@ ChecksBy by has_claim claimed one two three status text =
 -- ---- a bound without a solution
 
 -- the certificate of a bound by its number, 1 to 4: for 3 and 4 unknown keywords are a reason too
-abbrev pub bounds_asked : List (Certificate × Bool)
+abbrev pub bounds_asked : List (CertificateKind × Bool)
 bounds_asked = (Potentials, false) ∷ (Branches, false) ∷ (Potentials, true) ∷ (Branches, true) ∷ []
 
 -- The certificate gives a bound, or shows that there is no solution: the meaning of the status 0 of a bound, over the
 -- texts.
-pub record IsBoundText (by : Certificate) (strict : Bool) (one two text : List ℕ) : Type 0 where
+pub record IsBoundText (by : CertificateKind) (strict : Bool) (one two text : List ℕ) : Type 0 where
   pub instance : Fields
   pub certificate : Fields
   pub found : BoundVerdict
-  pub first_file : Spells one instance
-  pub second_file : Spells two certificate
+  pub first_file : ParsesTo one instance
+  pub second_file : ParsesTo two certificate
   pub meaning : IsAcceptedAlone by instance certificate found text
   pub all_judged : strict ≡ true → instance.others ≡ []
 
 -- the text is the report with the first reason against instance or certificate
-pub record IsBoundRejected (by : Certificate) (strict : Bool) (one two text : List ℕ) : Type 0 where
+pub record IsBoundRejected (by : CertificateKind) (strict : Bool) (one two text : List ℕ) : Type 0 where
   pub instance : Fields
   pub certificate : Fields
-  pub first_file : Spells one instance
-  pub second_file : Spells two certificate
+  pub first_file : ParsesTo one instance
+  pub second_file : ParsesTo two certificate
   pub bounded : IsTrue (is_bounded by instance.kind)
   pub reason : Reason
   pub judged : IsBoundAsked strict by instance certificate (bounds.No reason)
@@ -224,38 +224,38 @@ pub record IsBoundRejected (by : Certificate) (strict : Bool) (one two text : Li
 
 -- the first text, in order, that isn't valid, has this fault; or both are valid, and such a certificate bounds no
 -- solutions of the instance's TYPE
-abbrev pub IsUnbounded : Certificate → List ℕ → List ℕ → RunFault → Type 0
-IsUnbounded by one two WrongKind = (instance certificate : Fields) × Spells one instance × Spells two certificate
+abbrev pub IsUnbounded : CertificateKind → List ℕ → List ℕ → RunFault → Type 0
+IsUnbounded by one two WrongKind = (instance certificate : Fields) × ParsesTo one instance × ParsesTo two certificate
     × (is_bounded by instance.kind ≡ false)
 IsUnbounded by one two fault = IsFaultyText 1 one fault ⊎ (IsFileText one × IsFaultyText 2 two fault)
 
 -- both texts are valid, and no reason applies to the instance, nor one to the certificate that is found without memory
-abbrev pub IsUndecidedBound : Certificate → List ℕ → List ℕ → Type 0
-IsUndecidedBound by one two = (instance certificate : Fields) × Spells one instance × Spells two certificate
+abbrev pub IsUndecidedBound : CertificateKind → List ℕ → List ℕ → Type 0
+IsUndecidedBound by one two = (instance certificate : Fields) × ParsesTo one instance × ParsesTo two certificate
     × IsTrue (is_bounded by instance.kind) × NoneAgainstInstance instance × NoneWithoutMemory by instance certificate
 
 -- the files of both texts have this verdict
-abbrev pub HasBound : Certificate → Bool → List ℕ → List ℕ → BoundVerdict → Type 0
-HasBound by strict one two found = (instance certificate : Fields) × Spells one instance × Spells two certificate
+abbrev pub HasBound : CertificateKind → Bool → List ℕ → List ℕ → BoundVerdict → Type 0
+HasBound by strict one two found = (instance certificate : Fields) × ParsesTo one instance × ParsesTo two certificate
     × IsTrue (is_bounded by instance.kind) × IsBoundAsked strict by instance certificate found
 
 -- Why there is no bound and no reason: out of memory for a file, for the bound or for the report; or a text that isn't
 -- valid.
-abbrev pub StopsBound : Certificate → Bool → List ℕ → List ℕ → RunFault → Type 0
+abbrev pub StopsBound : CertificateKind → Bool → List ℕ → List ℕ → RunFault → Type 0
 StopsBound by strict one two (File number read_faults.OutOfMemory) = (number ≡ 1) ⊎ ((number ≡ 2) × IsFileText one)
 StopsBound by strict one two OutOfMemory = IsUndecidedBound by one two
 StopsBound by strict one two (Write write_faults.OutOfMemory) = (found : BoundVerdict) × HasBound by strict one two found
 StopsBound by strict one two fault = IsUnbounded by one two fault
 
 -- the result of a bound without a solution
-abbrev pub BoundsTexts : Certificate → Bool → List ℕ → List ℕ → ℕ → List ℕ → Type 0
+abbrev pub BoundsTexts : CertificateKind → Bool → List ℕ → List ℕ → ℕ → List ℕ → Type 0
 BoundsTexts by strict one two status text = EndsWithText
     (IsBoundText by strict one two)
     (IsBoundRejected by strict one two)
     (StopsBound by strict one two) status text
 
 -- the same by the certificate that a number asks for; a number that asks for none is refused
-abbrev pub BoundsBy : Option (Certificate × Bool) → List ℕ → List ℕ → ℕ → List ℕ → Type 0
+abbrev pub BoundsBy : Option (CertificateKind × Bool) → List ℕ → List ℕ → ℕ → List ℕ → Type 0
 BoundsBy None one two status text = IsRefusedNumber status text
 BoundsBy (Some asked) one two status text = BoundsTexts asked.0 asked.1 one two status text
 

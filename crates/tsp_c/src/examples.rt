@@ -17,8 +17,8 @@ ghost use Rattle.tsp_text.specs.declared.fault.LineFault.TheVariants as line_fau
 ghost use Rattle.tsp_text.specs.declared.fault.ReadFault.{ReadFault};
 ghost use Rattle.tsp_text.specs.declared.fault.ReadFault.TheVariants as read_faults;
 ghost use Rattle.tsp_read.specs.Reads.{Reads};
-ghost use Rattle.tsp_report.specs.declared.task.Certificate.{Certificate};
-ghost use Rattle.tsp_report.specs.declared.task.Certificate.TheVariants as certificate;
+ghost use Rattle.tsp_report.specs.declared.task.CertificateKind.{CertificateKind};
+ghost use Rattle.tsp_report.specs.declared.task.CertificateKind.TheVariants as certificate;
 ghost use Rattle.tsp_report.specs.declared.verdict.BoundVerdict.TheVariants as bounds;
 ghost use Rattle.tsp_report.specs.declared.verdict.Reason.TheVariants as reasons;
 ghost use Rattle.tsp_report.specs.declared.verdict.Verdict.TheVariants as verdicts;
@@ -63,9 +63,9 @@ pub fn examples_of_faulty_files()
     ensures opened { (text : List ℕ) (fault : ReadFault) → Reads text (Err fault)
         → IsUnopened text (run_faults.File 1 fault) }
     ensures not_opened { (text : List ℕ) (fault : ReadFault) → ¬ IsUnopened text (run_faults.File 2 fault) }
-    ensures bound { (by : Certificate) (text : List ℕ) (instance : Open) (fault : ReadFault)
+    ensures bound { (by : CertificateKind) (text : List ℕ) (instance : Open) (fault : ReadFault)
         → Reads text (Err fault) → IsUnbound by text instance (run_faults.File 2 fault) }
-    ensures not_bound { (by : Certificate) (text : List ℕ) (instance : Open) (fault : ReadFault)
+    ensures not_bound { (by : CertificateKind) (text : List ℕ) (instance : Open) (fault : ReadFault)
         → ¬ IsUnbound by text instance (run_faults.File 3 fault) }
     ensures judged { (text : List ℕ) (instance : Open) (fault : ReadFault) → Reads text (Err fault)
         → IsNotJudged text instance (run_faults.File 2 fault) }

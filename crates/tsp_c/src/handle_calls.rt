@@ -30,7 +30,9 @@ use std::boxed::Box;
 use std::io::Write;
 use tsp_cost::{Costs, Instance, tour_length};
 use tsp_file::{Coords, File};
-use tsp_judge::{Certificate, Opened, RunError, Verdict, Watched, read_text, verdicts_mean_reports};
+use tsp_judge::{
+    CertificateKind, Opened, RunError, Verdict, Watched, read_text, verdicts_mean_reports,
+};
 use tsp_number::{InSpace, Point};
 use tsp_report::write_report;
 use tsp_verdict::strict_verdict;
@@ -128,7 +130,7 @@ pub(crate) fn bind_text(
 fn bind_opened(
     alloc: Global,
     opened: &mut Opened,
-    by: Certificate,
+    by: CertificateKind,
     text: &[u8],
     call_result: &mut CallResult,
 ) -> CallEnd

@@ -11,7 +11,7 @@ use crate::call_result::CallResult;
 use crate::ended::{Answer, ended};
 use std::alloc::Global;
 use tsp_judge::{
-    Bounded, Certificate, Judged, Layout, RunError, Watched, convert_file, run, run_bound,
+    Bounded, CertificateKind, Judged, Layout, RunError, Watched, convert_file, run, run_bound,
     show_file, verdicts_mean_reports,
 };
 
@@ -68,25 +68,25 @@ pub(crate) fn bound_by(
 }
 
 /// What a number asks of a bound: the certificate, and whether unknown keywords are a reason.
-pub(crate) fn bound_asked(number: u32) -> Option<(Certificate, bool)>
+pub(crate) fn bound_asked(number: u32) -> Option<(CertificateKind, bool)>
     ensures { result ≡ nth number bounds_asked }
 {
     match number {
-        1 => Some((Certificate::Potentials, false)),
-        2 => Some((Certificate::Branches, false)),
-        3 => Some((Certificate::Potentials, true)),
-        4 => Some((Certificate::Branches, true)),
+        1 => Some((CertificateKind::Potentials, false)),
+        2 => Some((CertificateKind::Branches, false)),
+        3 => Some((CertificateKind::Potentials, true)),
+        4 => Some((CertificateKind::Branches, true)),
         _ => None,
     }
 }
 
 /// The certificate with a number, or `None` where it has none.
-pub(crate) fn certificate_of(number: u32) -> Option<Certificate>
+pub(crate) fn certificate_of(number: u32) -> Option<CertificateKind>
     ensures { result ≡ nth number certificates }
 {
     match number {
-        1 => Some(Certificate::Potentials),
-        2 => Some(Certificate::Branches),
+        1 => Some(CertificateKind::Potentials),
+        2 => Some(CertificateKind::Branches),
         _ => None,
     }
 }
@@ -167,7 +167,7 @@ fn checked(
     alloc: Global,
     instance: &[u8],
     solution: &[u8],
-    by: Option<Certificate>,
+    by: Option<CertificateKind>,
     certificate: &[u8],
     claimed: Option<i64>,
     strict: bool,
@@ -200,7 +200,7 @@ fn checked(
 /// and with unknown keywords as a reason, where that is asked; with its status, and in numbers.
 fn bounded(
     alloc: Global,
-    by: Certificate,
+    by: CertificateKind,
     instance: &[u8],
     certificate: &[u8],
     strict: bool,

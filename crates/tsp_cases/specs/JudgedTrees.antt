@@ -1,17 +1,17 @@
--- The judgement on the branches of a tree: all are good and are returned as `Cases`, or the first bad one is reported,
--- or the first that comes twice.
+-- The judgement on the branches of a tree: all are good and are returned as `CheckedTree`, or the first bad one is
+-- reported, or the first that comes twice.
 use Rattle.std.specs.Prelude.{◌≡◌, ℕ, Bool, List, ℤ, Some, None}
 use Rattle.tsp_format.specs.declared.steps.TreeStep.{TreeStep}
 use Rattle.tsp_format.specs.states.TreeSteps.{steps_of}
 use Rattle.tsp_cases.specs.declared.open_case.Decision.{Decision}
 use Rattle.tsp_cases.specs.ListedCases.{AreBranchesWithin, AreBranchesJudged}
-use Rattle.tsp_cases.specs.declared.tree_cases.Cases.{Cases}
+use Rattle.tsp_cases.specs.declared.checked_tree.CheckedTree.{CheckedTree}
 use Rattle.tsp_cases.specs.declared.judged.JudgedCases.{JudgedCases}
 use Rattle.tsp_cases.specs.declared.judged.JudgedCases.TheVariants as judged
 
--- the fields of `Cases` are these: the nodes, the scale, the given decisions and the steps
+-- the fields of `CheckedTree` are these: the nodes, the scale, the given decisions and the steps
 pub record AreCasesOf (n : ℕ) (directed : Bool) (scale : ℤ) (given : List Decision) (steps : List TreeStep)
-    (cases : Cases) : Type 0 where
+    (cases : CheckedTree) : Type 0 where
   pub nodes : cases.nodes ≡ n
   pub direction : cases.directed ≡ directed
   pub scale_is : cases.scale ≡ scale

@@ -13,7 +13,7 @@ use crate::families::Families;
 use crate::family::{Crossings, NodeSets, family_crossings};
 use crate::judged::JudgedFamilies;
 use crate::laws::most_costs_are_unique;
-use crate::tree::CaseTree;
+use crate::tree::BranchingCertificate;
 use std::alloc::Global;
 use tsp_io::{Refused, filled, push};
 use tsp_theory::Costs;
@@ -28,7 +28,7 @@ use tsp_theory::Costs;
 /// Out of memory, of which it takes some for each node and for each family.
 pub fn judge_families<'a, C: Costs>(
     alloc: Global,
-    tree: &CaseTree<'a, C>,
+    tree: &BranchingCertificate<'a, C>,
 ) -> Result<JudgedFamilies<'a>, Refused>
     ensures { IfOk result (AreFamiliesJudged (C.nodes tree.now.costs.now) tree.now.families.now) }
 {

@@ -1,8 +1,8 @@
 //! The judgements on families, cases and leaves, as enums. `src/good_families.rt`, `src/tree.rt`
 //! and `src/pass.rt` return them to tsp_branch and tsp_routing.
 
+use crate::checked_tree::CheckedTree;
 use crate::families::Families;
-use crate::tree_cases::Cases;
 
 /// The judgement on the families of a certificate: all of them, or the first bad one.
 #[derive(Drop)]
@@ -17,7 +17,7 @@ pub enum JudgedFamilies<'a> {
 #[derive(Drop)]
 pub enum JudgedCases<'a> {
     /// Each branch is on two nodes, and no case decides a pair twice.
-    Good(Cases<'a>),
+    Good(CheckedTree<'a>),
     /// The first branch that isn't on two nodes, counted from 1.
     BadBranch(usize),
     /// The first branch on a pair that is decided above it or given, counted from 1.

@@ -14,11 +14,11 @@ ghost use Rattle.tsp_cases.specs.states.Sets.{AreSmallDifferences, lent_in, IsPl
 ghost use Rattle.tsp_cases.specs.states.OpenCases.{signed};
 ghost use Rattle.tsp_cases.specs.states.Kept.{IsKeptRow, AreRows, AreRowsIfAny, AreAdded, IsAddedAt, AreDifferences};
 
+use crate::checked_tree::CheckedTree;
 use crate::families::Families;
 use crate::multipliers::{MultipliedFamilies, Multipliers};
 use crate::open_case::{DECIDED, Decision};
 use crate::sets::{SetPlace, add_to_row, scale_row, take_multipliers};
-use crate::tree_cases::Cases;
 use std::alloc::Global;
 use tsp_io::{Refused, filled, push, with_capacity};
 use tsp_theory::{Costs, add_at};
@@ -60,29 +60,29 @@ impl KeptRows {
     /// Out of memory, where there is none for a number of each comb and each node.
     pub(crate) fn new<C: Costs>(
         alloc: Global,
-        setting: &Setting<C>,
+        context: &LeafContext<C>,
         are_kept: bool,
     ) -> Result<KeptRows, Refused>
-        ensures { IfOk result (HoldsRows (C.nodes setting.now.costs.now) (length setting.now.families.now.crossed.items)
-            setting.now.cases.now.scale (lent_in setting.now.families.now) (C.at setting.now.costs.now)
-            (marks_in setting.now.cases.now.directed setting.now.cases.now.given.now)) }
+        ensures { IfOk result (HoldsRows (C.nodes context.now.costs.now) (length context.now.families.now.crossed.items)
+            context.now.cases.now.scale (lent_in context.now.families.now) (C.at context.now.costs.now)
+            (marks_in context.now.cases.now.directed context.now.cases.now.given.now)) }
     {
-        let combs = setting.families.crossed.len();
+        let combs = context.families.crossed.len();
         let multipliers = filled(alloc, 0, combs)?;
         let differences = filled(alloc, 0, combs)?;
-        let ends = filled(alloc, 0, setting.costs.count() as usize + 1)?;
+        let ends = filled(alloc, 0, context.costs.count() as usize + 1)?;
         let mut kept = KeptRows {
-            rows: rows_if_any(alloc, setting, are_kept),
+            rows: rows_if_any(alloc, context, are_kept),
             ends,
             multipliers,
             differences,
         };
-        kept.mark_given(setting.cases);
+        kept.mark_given(context.cases);
         Ok(kept)
     }
 
     /// Marks the decisions that are given for all cases.
-    fn mark_given(&mut self, cases: &Cases)
+    fn mark_given(&mut self, cases: &CheckedTree)
         requires { (n : ℕ) × (combs : ℕ) × (scale : ℤ) × (families : List (List (List ℕ))) × (cost : ℕ → ℕ → ℤ)
             × HoldsRows n combs scale families cost (marks_in cases.now.directed []) self.old
             × All (IsDecision n) cases.now.given.now }
@@ -204,14 +204,14 @@ impl KeptRows {
 
 /// The rows of all nodes without combs; none where they aren't to be kept, there are too many
 /// nodes, or no memory is left.
-fn rows_if_any<C: Costs>(alloc: Global, setting: &Setting<C>, are_kept: bool) -> Vec<Vec<i64>>
-    ensures { AreRowsIfAny (C.nodes setting.now.costs.now) (C.at setting.now.costs.now)
-        (λ i x. setting.now.cases.now.scale *ℤ C.at setting.now.costs.now i x) result.items }
+fn rows_if_any<C: Costs>(alloc: Global, context: &LeafContext<C>, are_kept: bool) -> Vec<Vec<i64>>
+    ensures { AreRowsIfAny (C.nodes context.now.costs.now) (C.at context.now.costs.now)
+        (λ i x. context.now.cases.now.scale *ℤ C.at context.now.costs.now i x) result.items }
 {
-    if !are_kept || setting.costs.count() > MOST_KEPT {
+    if !are_kept || context.costs.count() > MOST_KEPT {
         return Vec::new(alloc);
     }
-    match rows_of(alloc, setting) {
+    match rows_of(alloc, context) {
         Ok(rows) => rows,
         Err(_) => Vec::new(alloc),
     }
@@ -223,14 +223,14 @@ fn rows_if_any<C: Costs>(alloc: Global, setting: &Setting<C>, are_kept: bool) ->
 ///
 /// Out of memory.
 #[tactic(auto, using(crate::proofs::RowsKept::rows_more))]
-fn rows_of<C: Costs>(alloc: Global, setting: &Setting<C>) -> Result<Vec<Vec<i64>>, Refused>
-    ensures { IfOk result (λ rows. AreRows (C.nodes setting.now.costs.now) (C.at setting.now.costs.now)
-        (λ i x. setting.now.cases.now.scale *ℤ C.at setting.now.costs.now i x) (C.nodes setting.now.costs.now) rows.items) }
+fn rows_of<C: Costs>(alloc: Global, context: &LeafContext<C>) -> Result<Vec<Vec<i64>>, Refused>
+    ensures { IfOk result (λ rows. AreRows (C.nodes context.now.costs.now) (C.at context.now.costs.now)
+        (λ i x. context.now.cases.now.scale *ℤ C.at context.now.costs.now i x) (C.nodes context.now.costs.now) rows.items) }
 {
-    let count = setting.costs.count();
+    let count = context.costs.count();
     let mut rows = with_capacity(alloc, count as usize)?;
     'rows: for index in 0..count {
-        push(&mut rows, row_of(alloc, setting, index + 1)?)?;
+        push(&mut rows, row_of(alloc, context, index + 1)?)?;
     }
     Ok(rows)
 }
@@ -240,14 +240,14 @@ fn rows_of<C: Costs>(alloc: Global, setting: &Setting<C>) -> Result<Vec<Vec<i64>
 /// # Errors
 ///
 /// Out of memory.
-fn row_of<C: Costs>(alloc: Global, setting: &Setting<C>, from: u32) -> Result<Vec<i64>, Refused>
-    requires { IsNode (C.nodes setting.now.costs.now) from }
-    ensures { IfOk result (λ row. IsKeptRow (C.nodes setting.now.costs.now) (C.at setting.now.costs.now from)
-        (λ x. setting.now.cases.now.scale *ℤ C.at setting.now.costs.now from x) row.items) }
+fn row_of<C: Costs>(alloc: Global, context: &LeafContext<C>, from: u32) -> Result<Vec<i64>, Refused>
+    requires { IsNode (C.nodes context.now.costs.now) from }
+    ensures { IfOk result (λ row. IsKeptRow (C.nodes context.now.costs.now) (C.at context.now.costs.now from)
+        (λ x. context.now.cases.now.scale *ℤ C.at context.now.costs.now from x) row.items) }
 {
-    let mut row = filled(alloc, 0, setting.costs.count() as usize + 1)?;
-    setting.costs.costs_from(from, &mut row);
-    scale_row(&mut row, setting.cases.scale);
+    let mut row = filled(alloc, 0, context.costs.count() as usize + 1)?;
+    context.costs.costs_from(from, &mut row);
+    scale_row(&mut row, context.cases.scale);
     Ok(row)
 }
 
@@ -308,7 +308,7 @@ fn add_to_place(row: &mut Vec<i64>, place: u32, number: i64)
 /// The rows that are kept at the multipliers of the leaf before, and memory for the numbers of a
 /// leaf and for two rows of its weights.
 #[derive(Drop)]
-pub struct Room {
+pub struct Scratch {
     /// The number of each node.
     pub potentials: Vec<i64>,
     /// The number of each family.
@@ -321,12 +321,12 @@ pub struct Room {
     pub kept: KeptRows,
 }
 
-impl Room {
+impl Scratch {
     ghost use Rattle.std.specs.Prelude.{◌≡◌, length, IfOk};
     ghost use Rattle.tsp_cases.specs.states.Sets.{lent_in};
     ghost use Rattle.tsp_cases.specs.states.OpenCases.{marks_in};
     ghost use Rattle.tsp_cases.specs.states.Kept.{HoldsRows};
-    ghost use Rattle.tsp_cases.specs.states.Kept.{IsRoom};
+    ghost use Rattle.tsp_cases.specs.states.Kept.{IsScratch};
 
     /// Memory for the leaves of a setting. Rows are in it if they are to be kept, and there aren't
     /// too many nodes.
@@ -336,23 +336,23 @@ impl Room {
     /// Out of memory.
     pub fn new<C: Costs>(
         alloc: Global,
-        setting: &Setting<C>,
+        context: &LeafContext<C>,
         are_kept: bool,
-    ) -> Result<Room, Refused>
-        ensures room { IfOk result (IsRoom (C.nodes setting.now.costs.now) (length setting.now.families.now.crossed.items)) }
-        ensures kept { IfOk result (λ room. HoldsRows (C.nodes setting.now.costs.now)
-            (length setting.now.families.now.crossed.items) setting.now.cases.now.scale
-            (lent_in setting.now.families.now) (C.at setting.now.costs.now)
-            (marks_in setting.now.cases.now.directed setting.now.cases.now.given.now) room.kept) }
+    ) -> Result<Scratch, Refused>
+        ensures room { IfOk result (IsScratch (C.nodes context.now.costs.now) (length context.now.families.now.crossed.items)) }
+        ensures kept { IfOk result (λ room. HoldsRows (C.nodes context.now.costs.now)
+            (length context.now.families.now.crossed.items) context.now.cases.now.scale
+            (lent_in context.now.families.now) (C.at context.now.costs.now)
+            (marks_in context.now.cases.now.directed context.now.cases.now.given.now) room.kept) }
     {
-        let nodes = setting.costs.count() as usize;
-        let combs = setting.families.crossed.len();
-        Ok(Room {
+        let nodes = context.costs.count() as usize;
+        let combs = context.families.crossed.len();
+        Ok(Scratch {
             potentials: filled(alloc, 0, nodes)?,
             multipliers: filled(alloc, 0, combs)?,
             row: filled(alloc, 0, nodes + 1)?,
             moved: filled(alloc, 0, nodes + 1)?,
-            kept: KeptRows::new(alloc, setting, are_kept)?,
+            kept: KeptRows::new(alloc, context, are_kept)?,
         })
     }
 }
@@ -364,9 +364,9 @@ impl Room {
 /// Where pairs have no direction the costs are the same in both, and the bound of a leaf is that of
 /// a least 1-tree; else it is that of the least link from each node.
 #[derive(Drop)]
-pub struct Setting<'a, C: Costs> {
+pub struct LeafContext<'a, C: Costs> {
     pub costs: &'a C,
-    pub cases: &'a Cases<'a>,
+    pub cases: &'a CheckedTree<'a>,
     pub families: &'a Families<'a>,
     pub by_node: &'a [Vec<SetPlace>],
     pub ghost some: { 3 ≤ C.nodes costs.now },

@@ -2,8 +2,8 @@
 //!
 //! How often a cycle crosses a family is found by a dynamic programme over the parts that its sets
 //! make (`family`). [`judge_families`] finds the first family that isn't good, [`judge_cases`] the
-//! first branch that is bad or comes twice, and `judge_leaves` passes over the leaves, for any judge
-//! of a leaf. The bound of a leaf is the task of tsp_branch and tsp_routing.
+//! first branch that is bad or comes twice, and `judge_leaves` passes over the leaves, for any
+//! judge of a leaf. The bound of a leaf is the task of tsp_branch and tsp_routing.
 //!
 //! ```text
 //! let crossings = family_crossings(alloc, &family)?;
@@ -12,6 +12,7 @@
 //! ```
 #![tactic(auto)]
 
+mod checked_tree;
 mod examples;
 mod families;
 mod family;
@@ -24,8 +25,8 @@ mod open_case;
 mod pass;
 mod sets;
 mod tree;
-mod tree_cases;
 
+pub use checked_tree::CheckedTree;
 pub use examples::{
     examples_of_arcs, examples_of_bad_branches, examples_of_bounds, examples_of_cases,
     examples_of_crossings, examples_of_differences, examples_of_families, examples_of_good_numbers,
@@ -36,7 +37,7 @@ pub use families::Families;
 pub use family::{CostSquare, Crossings, NodeSets, family_crossings, least_cycle, parts_of};
 pub use good_families::{judge_families, mark_nodes};
 pub use judged::{JudgedCases, JudgedFamilies, JudgedLeaf, JudgedLeaves};
-pub use kept::{KeptRows, Room, Setting};
+pub use kept::{KeptRows, LeafContext, Scratch};
 pub use laws::{
     case_tree_bounds_are_unique, case_trees_bound_cycles, cases_bound_cycles, cases_have_no_cycle,
     cycles_cross_combs, cycles_cross_families, cycles_keep_leaves, decided_bounds_bound_cycles,
@@ -49,12 +50,11 @@ pub use laws::{
 pub use multipliers::{MultipliedFamilies, Multipliers};
 pub use open_case::{DECIDED, Decision, NodeDecisions, OpenCase};
 pub use pass::{
-    CaseSteps, LeafJudge, add_differences, copy_within, judge_leaves, judge_numbers, lower,
+    LeafJudge, WholeTree, add_differences, copy_within, judge_leaves, judge_numbers, lower,
     sum_with,
 };
 pub use sets::{
     SetPlace, add_sets, fill_moved, fill_shifted, scale_row, sets_by_node, shift_row, sum_left,
     take_multipliers,
 };
-pub use tree::{CaseTree, first_bad_branch, judge_cases};
-pub use tree_cases::Cases;
+pub use tree::{BranchingCertificate, first_bad_branch, judge_cases};

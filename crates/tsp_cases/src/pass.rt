@@ -32,7 +32,7 @@ use tsp_io::{Refused, filled};
 pub fn judge_leaves<J: LeafJudge>(
     alloc: Global,
     judge: &J,
-    tree: &CaseSteps,
+    tree: &WholeTree,
     memory: &mut J::Memory,
     count: usize,
 ) -> Result<JudgedLeaves, Refused>
@@ -181,7 +181,7 @@ pub trait LeafJudge {
 /// The steps of one whole tree, each branch on a pair of different places, and the decisions of all
 /// its cases. Places are the nodes, for cycles.
 #[derive(Drop)]
-pub struct CaseSteps<'a> {
+pub struct WholeTree<'a> {
     pub places: u32,
     /// Whether pairs have a direction.
     pub directed: bool,

@@ -13,9 +13,9 @@ ghost use Rattle.tsp_cases.specs.Crossings.{AreFamiliesOf};
 ghost use Rattle.tsp_cases.specs.JudgedTrees.{AreCasesJudged};
 ghost use Rattle.tsp_cases.specs.states.OpenCases.{IsDecision};
 
+use crate::checked_tree::CheckedTree;
 use crate::judged::JudgedCases;
 use crate::open_case::{Decision, OpenCase};
-use crate::tree_cases::Cases;
 use std::alloc::Global;
 use tsp_format::TreeStep;
 use tsp_io::Refused;
@@ -29,7 +29,7 @@ use tsp_theory::Costs;
 /// Out of memory, of which it takes some for each node, each decision of a case and each given one.
 pub fn judge_cases<'a, C: Costs>(
     alloc: Global,
-    tree: &CaseTree<'a, C>,
+    tree: &BranchingCertificate<'a, C>,
 ) -> Result<JudgedCases<'a>, Refused>
     ensures { IfOk result (AreCasesJudged (C.nodes tree.now.costs.now) tree.now.directed tree.now.scale tree.now.given.now
         tree.now.steps.now) }
@@ -41,7 +41,7 @@ pub fn judge_cases<'a, C: Costs>(
     if let Some(branch) = first_twice(alloc, tree)? {
         return Ok(JudgedCases::Twice(branch));
     }
-    Ok(JudgedCases::Good(Cases {
+    Ok(JudgedCases::Good(CheckedTree {
         nodes,
         directed: tree.directed,
         scale: tree.scale,
@@ -57,7 +57,10 @@ pub fn judge_cases<'a, C: Costs>(
 /// # Errors
 ///
 /// Out of memory.
-fn first_twice<C: Costs>(alloc: Global, tree: &CaseTree<C>) -> Result<Option<usize>, Refused>
+fn first_twice<C: Costs>(
+    alloc: Global,
+    tree: &BranchingCertificate<C>,
+) -> Result<Option<usize>, Refused>
     requires { ∥ All (IsStepOf (C.nodes tree.now.costs.now)) (steps_of tree.now.steps.now) ∥₁ }
     ensures { IfOk result (AreBranchesJudged tree.now.directed tree.now.given.now (steps_of tree.now.steps.now)) }
 {
@@ -110,7 +113,7 @@ pub fn first_bad_branch(steps: &[TreeStep], least: u32, most: u32) -> Option<usi
 /// Sets and decisions are of these nodes, and so are the branches that begin at a node. No pair is
 /// given twice, and the steps are one whole tree.
 #[derive(Drop)]
-pub struct CaseTree<'a, C: Costs> {
+pub struct BranchingCertificate<'a, C: Costs> {
     pub costs: &'a C,
     /// Whether pairs have a direction.
     pub directed: bool,

@@ -3,7 +3,7 @@ use Rattle.std.proofs.Common.{Option, None, Some, ℕ, zero, suc, Bool, true, fa
 use Rattle.std.proofs.KnownBytes.{Appends-nil, Appends-trans}
 use Rattle.std.specs.Prelude.{Result, Ok, Err}
 use Rattle.tsp_report.specs.Tasks.{IsMapped, IsMappedCertificate, IsMappedComparison}
-use Rattle.tsp_report.specs.declared.task.Certificate.{Certificate}
+use Rattle.tsp_report.specs.declared.task.CertificateKind.{CertificateKind}
 use Rattle.tsp_report.specs.declared.task.Comparison.{Comparison}
 use Rattle.tsp_report.specs.declared.task.FileTask.{FileTask}
 use Rattle.tsp_report.specs.declared.task.FileTask.TheVariants.{Show, Convert, Check, Bound}
@@ -12,7 +12,7 @@ use Rattle.tsp_judge.specs.declared.compared.Compared.{Compared}
 use Rattle.tsp_judge.specs.declared.run_status.RunFault.{RunFault}
 use Rattle.tsp_cli.specs.RunEnd.{MayTell}
 
-certificate_by : {F G : Type 0} (P Q : F → G → Type 0) → ((a : F) (x : G) → P a x → Q a x) → (old : Option (Certificate × F)) (new : Option (Certificate × G))
+certificate_by : {F G : Type 0} (P Q : F → G → Type 0) → ((a : F) (x : G) → P a x → Q a x) → (old : Option (CertificateKind × F)) (new : Option (CertificateKind × G))
     → IsMappedCertificate P old new → IsMappedCertificate Q old new
 certificate_by P Q implies None None same = same
 certificate_by P Q implies None (Some x) same = absurd same

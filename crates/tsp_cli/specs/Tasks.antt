@@ -8,8 +8,8 @@ use Rattle.tsp_number.specs.declared.word.NumberFault.{NumberFault}
 use Rattle.tsp_number.specs.NumberWord.{ReadsWhole}
 use Rattle.tsp_format.specs.declared.layout.Layout.{Layout}
 use Rattle.tsp_format.specs.Words.{layout_word}
-use Rattle.tsp_report.specs.declared.task.Certificate.{Certificate}
-use Rattle.tsp_report.specs.declared.task.Certificate.TheVariants.{Potentials, Branches}
+use Rattle.tsp_report.specs.declared.task.CertificateKind.{CertificateKind}
+use Rattle.tsp_report.specs.declared.task.CertificateKind.TheVariants.{Potentials, Branches}
 use Rattle.tsp_report.specs.declared.task.Role.{Role}
 use Rattle.tsp_report.specs.Tasks.{files_of, files_compared}
 use Rattle.tsp_cli.specs.Grammar.{text_in}
@@ -62,7 +62,7 @@ IsNoLength word = (text : Text) × (text_in word ≡ Some text)
     × ((fault : NumberFault) × ReadsWhole text least_length most_length (Err fault))
 
 -- the job names this kind of certificate alone, and this is its file
-abbrev pub IsNamed : Job → Certificate → InputPath → Type 0
+abbrev pub IsNamed : Job → CertificateKind → InputPath → Type 0
 IsNamed job Potentials place = IsInputPathOf (text_in job.potentials) place × (job.branches ≡ None)
 IsNamed job Branches place = (job.potentials ≡ None) × IsInputPathOf (text_in job.branches) place
 
@@ -90,7 +90,7 @@ GivesClaim word (Ok claimed) = IsClaim word claimed
 GivesClaim word (Err fault) = (fault ≡ NotALength) × IsNoLength word
 
 -- the certificate that the job names, if any, or that it names two
-abbrev pub GivesCertificate : Job → Result (Option (Certificate × InputPath)) TaskFault → Type 0
+abbrev pub GivesCertificate : Job → Result (Option (CertificateKind × InputPath)) TaskFault → Type 0
 GivesCertificate job (Ok None) = NamesNone job
 GivesCertificate job (Ok (Some named)) = IsNamed job named.0 named.1
 GivesCertificate job (Err fault) = (fault ≡ TwoCertificates) × NamesBoth job

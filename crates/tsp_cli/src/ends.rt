@@ -5,9 +5,9 @@ ghost use Rattle.std.specs.Io.KnownBytes.{Appends};
 ghost use Rattle.tsp_judge.specs.CheckRun.{run_fault_text, status_of};
 ghost use Rattle.tsp_cli.specs.RunEnd.{IsLineOf, Tells, status_of_run_end};
 
+use crate::job::{JobFault, TaskFault};
 use arrayvec::ArrayString;
 use clap::Error as Refusal;
-use crate::job::{JobFault, TaskFault};
 use std::fmt::{self, Display, Formatter, Write as _};
 use std::io::{self, Write};
 use tsp_judge::{

@@ -2,14 +2,14 @@
 
 ghost use Rattle.std.specs.Prelude.{◌≡◌, codes, ◌≢◌, Bool, [], ◌∷◌, Option, None, Some, ℤ, ◌++◌, length, true, false, Ok, Err, decimal};
 ghost use Rattle.tsp_format.specs.declared.layout.Layout.{Layout};
-ghost use Rattle.tsp_report.specs.declared.task.Certificate.TheVariants as certificates;
+ghost use Rattle.tsp_report.specs.declared.task.CertificateKind.TheVariants as certificates;
 ghost use Rattle.tsp_report.specs.declared.task.Comparison.{Comparison};
 ghost use Rattle.tsp_report.specs.declared.task.FileTask.TheVariants as file_tasks;
 ghost use Rattle.tsp_report.specs.declared.task.Task.TheVariants as tasks;
 ghost use Rattle.tsp_judge.specs.ConvertRun.{is_yes_outcome};
 ghost use Rattle.tsp_judge.specs.CheckRun.{status_of, status_of_fault};
 ghost use Rattle.tsp_io.specs.states.Watched.{watched};
-ghost use Rattle.tsp_judge.specs.declared.Certificate.{Certificate};
+ghost use Rattle.tsp_judge.specs.declared.CertificateKind.{CertificateKind};
 ghost use Rattle.tsp_judge.specs.declared.EndFault.TheVariants as end_faults;
 ghost use Rattle.tsp_judge.specs.declared.LineFault.TheVariants as line_faults;
 ghost use Rattle.tsp_judge.specs.declared.ReadFault.TheVariants as read_faults;
@@ -233,14 +233,14 @@ pub fn examples_of_opened_files()
     ensures check { (a b : InputPath) (claimed same : Option ℤ) (strict also : Bool) (x y : Watched InputPath)
         → AreFresh (λ place file. file ≡ place) (file_tasks.Check a b None claimed strict) (file_tasks.Check x y None same also)
         → (watched x ≡ a) × (watched y ≡ b) × (same ≡ claimed) × (also ≡ strict) }
-    ensures certified { (by kept : Certificate) (a b c : InputPath) (claimed same : Option ℤ) (strict also : Bool) (x y z : Watched InputPath)
+    ensures certified { (by kept : CertificateKind) (a b c : InputPath) (claimed same : Option ℤ) (strict also : Bool) (x y z : Watched InputPath)
         → AreFresh (λ place file. file ≡ place) (file_tasks.Check a b (Some (by, c)) claimed strict)
         (file_tasks.Check x y (Some (kept, z)) same also)
         → (kept ≡ by) × (watched x ≡ a) × (watched y ≡ b) × (watched z ≡ c) × (same ≡ claimed) × (also ≡ strict) }
-    ensures bound { (by kept : Certificate) (a c : InputPath) (strict also : Bool) (x z : Watched InputPath)
+    ensures bound { (by kept : CertificateKind) (a c : InputPath) (strict also : Bool) (x z : Watched InputPath)
         → AreFresh (λ place file. file ≡ place) (file_tasks.Bound a (by, c) strict) (file_tasks.Bound x (kept, z) also)
         → (kept ≡ by) × (watched x ≡ a) × (watched z ≡ c) × (also ≡ strict) }
-    ensures another_task { (by kept : Certificate) (a b c : InputPath) (claimed : Option ℤ) (strict also : Bool) (x z : Watched InputPath)
+    ensures another_task { (by kept : CertificateKind) (a b c : InputPath) (claimed : Option ℤ) (strict also : Bool) (x z : Watched InputPath)
         → ¬ AreFresh (λ place file. file ≡ place) (file_tasks.Check a b (Some (by, c)) claimed strict)
         (file_tasks.Bound x (kept, z) also) }
     ensures first_solution { (file : InputPath) → IsOpenedAt (λ place file. file ≡ place) (codes "a" ∷ codes "b" ∷ []) 0 file
@@ -249,6 +249,6 @@ pub fn examples_of_opened_files()
         → (place : InputPath) × IsInputPathAt (codes "b") place × (file ≡ place) }
     ensures each_solution { (comparison : Comparison InputPath)
         → length (paths_of comparison) ≡ length comparison.solutions.now }
-    ensures certificate_dropped { (by : Certificate) (a b c : InputPath) (claimed same : Option ℤ) (strict also : Bool) (x y : Watched InputPath)
+    ensures certificate_dropped { (by : CertificateKind) (a b c : InputPath) (claimed same : Option ℤ) (strict also : Bool) (x y : Watched InputPath)
         → ¬ AreFresh (λ place file. file ≡ place) (file_tasks.Check a b (Some (by, c)) claimed strict) (file_tasks.Check x y None same also) }
 {}

@@ -13,8 +13,8 @@ use std::io::{self, Read, Write};
 use std::marker::PhantomData;
 use tsp_explain::{explain_file, push_lines};
 use tsp_judge::{
-    Common, Follow, Found, RunFault, Solution, Solutions, explain_basis, explain_fault,
-    explain_outcome, explain_solution,
+    ComparisonContext, Follow, Found, RunFault, Solution, Solutions, explain_fault,
+    explain_known_bound, explain_outcome, explain_solution,
 };
 use tsp_report::{Role, Task};
 
@@ -99,7 +99,12 @@ pub(crate) fn explanation<F: Read + Drop, O: Open<F>>(
     let mut text = Vec::new(alloc);
     let _ = match run_end {
         RunEnd::Ended(Ok(outcome)) => explain_outcome(alloc, &mut text, &names, outcome),
-        RunEnd::Compared(Ok(compared)) => explain_basis(alloc, &mut text, &names, &compared.common),
+        RunEnd::Compared(Ok(compared)) => explain_known_bound(
+            alloc,
+            &mut text,
+            &names,
+            &compared.common,
+        ),
         RunEnd::Ended(Err(run_error)) | RunEnd::Compared(Err(run_error)) => {
             let fault = run_error.fault();
             let again = match fault {
@@ -165,7 +170,7 @@ impl<F: Read + Drop, O: Open<F>> Solutions<F> for Followed<'_, F, O> {
 impl<F: Read + Drop, O: Open<F>, E: Write> Follow<E> for Followed<'_, F, O> {
     ghost tells = { λ followed _ old new. MayTell followed.task_run.now.explain (E.contents old) (E.contents new) };
 
-    fn written(&self, to: &mut E, common: &Common, index: usize, found: &Found) {
+    fn written(&self, to: &mut E, common: &ComparisonContext, index: usize, found: &Found) {
         if !self.task_run.explain {
             return;
         }
@@ -184,7 +189,7 @@ impl<F: Read + Drop, O: Open<F>> Followed<'_, F, O> {
     fn push_message(
         &self,
         text: &mut Vec<u8>,
-        common: &Common,
+        common: &ComparisonContext,
         index: usize,
         found: &Found,
     ) -> Result<(), AllocError> {
@@ -205,7 +210,7 @@ impl<F: Read + Drop, O: Open<F>> Followed<'_, F, O> {
     fn push_found(
         &self,
         text: &mut Vec<u8>,
-        common: &Common,
+        common: &ComparisonContext,
         place: InputPath<'_>,
         found: &Found,
     ) -> Result<(), AllocError> {

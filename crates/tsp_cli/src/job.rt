@@ -9,14 +9,14 @@ ghost use Rattle.clap.specs.Words.{first_of, found_of, kind_of, rows_of};
 ghost use Rattle.tsp_cli.specs.Grammar.{GivesJob, IsFaultOf, IsOtherRefusal, IsVerbOf, HasValues, text_in, values_of};
 ghost use Rattle.tsp_cli.specs.Tasks.{GivesInputPath, GivesLayout, GivesClaim, GivesCertificate, IsInputPathAt, any_line_end, has_line_end, NamesTask, NamesCheck, NamesComparison, NamesBound, GivesTask, input_at, inputs_at, inputs_of_task};
 
-use clap::{ArgMatches, Error as Refusal};
-use clap::error::ErrorKind;
 use crate::grammar;
+use clap::error::ErrorKind;
+use clap::{ArgMatches, Error as Refusal};
 use std::alloc::{AllocError, Global};
 use std::io::{self, ErrorKind as IoKind};
 use tsp_format::Layout;
 use tsp_number::parse_whole;
-use tsp_report::{Certificate, Comparison, FileTask, Task};
+use tsp_report::{CertificateKind, Comparison, FileTask, Task};
 
 /// The verbs of the program.
 #[derive(Clone, Copy)]
@@ -466,13 +466,13 @@ fn length_of(word: &Option<String>) -> Result<Option<i64>, TaskFault>
 }
 
 /// The certificate that is named, with the place of its file, where one is.
-fn certificate_of(job: &Job) -> Result<Option<(Certificate, InputPath<'_>)>, TaskFault>
+fn certificate_of(job: &Job) -> Result<Option<(CertificateKind, InputPath<'_>)>, TaskFault>
     ensures { GivesCertificate job.now result }
 {
     match (&job.potentials, &job.branches) {
         (None, None) => Ok(None),
-        (Some(path), None) => Ok(Some((Certificate::Potentials, input_path_at(path)))),
-        (None, Some(path)) => Ok(Some((Certificate::Branches, input_path_at(path)))),
+        (Some(path), None) => Ok(Some((CertificateKind::Potentials, input_path_at(path)))),
+        (None, Some(path)) => Ok(Some((CertificateKind::Branches, input_path_at(path)))),
         (Some(_), Some(_)) => Err(TaskFault::TwoCertificates),
     }
 }

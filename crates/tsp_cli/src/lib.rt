@@ -31,6 +31,6 @@ pub use grammar::VERSION;
 pub use input::{InputFile, Open};
 pub use job::{InputPath, Job, JobFault, TaskFault, Verb, input_path_at, job_of, task_of, unread};
 pub use laws::{explained_on_a_terminal, faults_are_one_line};
-pub use running::{Surroundings, run, tell_unread, tell_waiting};
+pub use running::{HostContext, run, tell_unread, tell_waiting};
 pub use tsp_judge::{Outcome, Watched, WriteFault, perform};
 pub use tsp_report::FileTask;

@@ -8,13 +8,13 @@ ghost use Rattle.tsp_io.specs.states.Watched.{sink_of};
 ghost use Rattle.tsp_cli.specs.ProgramRun.{IsComparedAs, AreOpened, IsFresh, EndsProgram, EndsRefused, EndsWith, HasNoWords, IsDoneAs, Runs, RunsComparison, RunsJob, RunsFileTask, begins_with_help, AreFresh};
 ghost use Rattle.tsp_cli.specs.RunEnd.{Prints, PrintsSome, version_text, status_of_run_end, Tells, TellsAfter, TellsAll, waiting_line};
 
-use clap::Error as Refusal;
-use clap::error::ErrorKind;
 use crate::ends::{RunEnd, status_of_run_end, tell};
 use crate::explained::{Followed, TaskRun, end_count, explanation, fault_explanation};
 use crate::grammar::VERSION;
 use crate::input::Open;
 use crate::job::{InputPath, Job, JobFault, TaskFault, job_of, task_of, unread};
+use clap::Error as Refusal;
+use clap::error::ErrorKind;
 use std::alloc::{AllocError, Global};
 use std::fmt::{self, Display, Formatter};
 use std::io::{self, Read, Write};
@@ -25,7 +25,7 @@ use tsp_report::{Comparison, FileTask, Task};
 
 /// What a run knows of its surroundings.
 #[derive(Clone, Copy)]
-pub struct Surroundings {
+pub struct HostContext {
     /// Whether standard error is a terminal: then every outcome but the line `yes` is explained.
     pub on_terminal: bool,
     /// Whether a comparison counts there: it is a terminal, and standard output is another place.
@@ -49,9 +49,9 @@ pub fn run<F: Gives + Drop, O: Open<F>, W: Write, E: Write>(
     files: &O,
     out: &mut Watched<W>,
     errors: &mut E,
-    surroundings: Surroundings,
+    host_context: HostContext,
 ) -> (u8, io::Result<()>)
-    ensures { Runs (EndsProgram F.remaining F.gives (O.opens files.now) surroundings.on_terminal surroundings.build.now (map string_bytes line.now)
+    ensures { Runs (EndsProgram F.remaining F.gives (O.opens files.now) host_context.on_terminal host_context.build.now (map string_bytes line.now)
         (sink_of W.contents out.old out.new)) (E.contents errors.old) (E.contents errors.new) result }
 {
     let Ok(words) = words_after_first(alloc, line) else {
@@ -60,11 +60,11 @@ pub fn run<F: Gives + Drop, O: Open<F>, W: Write, E: Write>(
     match job_of(alloc, &words) {
         Err(JobFault::OutOfMemory) => end(&RunEnd::NoJob(JobFault::OutOfMemory), errors),
         Err(JobFault::Refused(refusal)) => {
-            let run_end = end_of_refusal(alloc, refusal, &words, surroundings.build, out);
+            let run_end = end_of_refusal(alloc, refusal, &words, host_context.build, out);
             end(&run_end, errors)
         }
         Ok(job) => {
-            let answer = run_job(alloc, &job, files, out, errors, surroundings);
+            let answer = run_job(alloc, &job, files, out, errors, host_context);
             drop(job);
             answer
         }
@@ -128,12 +128,12 @@ fn run_job<F: Gives + Drop, O: Open<F>, W: Write, E: Write>(
     files: &O,
     out: &mut Watched<W>,
     errors: &mut E,
-    surroundings: Surroundings,
+    host_context: HostContext,
 ) -> (u8, io::Result<()>)
     ensures { RunsJob (EndsWith F.remaining F.gives (O.opens files.now) job.now (sink_of W.contents out.old out.new))
-        (job.now.explain || surroundings.on_terminal) (E.contents errors.old) (E.contents errors.new) result }
+        (job.now.explain || host_context.on_terminal) (E.contents errors.old) (E.contents errors.new) result }
 {
-    let explain = is_explained(job, surroundings);
+    let explain = is_explained(job, host_context);
     let task = match task_of(job) {
         Ok(task) => task,
         Err(fault) => {
@@ -146,7 +146,7 @@ fn run_job<F: Gives + Drop, O: Open<F>, W: Write, E: Write>(
         task: &task,
         files,
         explain,
-        counts: surroundings.counts,
+        counts: host_context.counts,
         file: PhantomData,
     };
     match &task {
@@ -156,10 +156,10 @@ fn run_job<F: Gives + Drop, O: Open<F>, W: Write, E: Write>(
 }
 
 /// Whether the job's end is explained.
-fn is_explained(job: &Job, surroundings: Surroundings) -> bool
-    ensures { result ≡ (job.now.explain || surroundings.on_terminal) }
+fn is_explained(job: &Job, host_context: HostContext) -> bool
+    ensures { result ≡ (job.now.explain || host_context.on_terminal) }
 {
-    job.explain || surroundings.on_terminal
+    job.explain || host_context.on_terminal
 }
 
 /// Tells why a job asks for nothing, and explains it where that is wanted.

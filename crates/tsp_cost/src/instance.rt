@@ -8,7 +8,7 @@ ghost use Rattle.tsp_file.specs.Cost.{cost};
 ghost use Rattle.tsp_file.specs.Fields.{nodes_of};
 ghost use Rattle.tsp_file.specs.Rules.{is_instance};
 ghost use Rattle.tsp_format.specs.Words.{IsSymmetric, IsFirstAsymmetric, FindsAsymmetric};
-ghost use Rattle.tsp_cost.specs.states.Views.{HasFound, ShowsEven};
+ghost use Rattle.tsp_cost.specs.states.Views.{HasFound, ShowsSymmetric};
 
 use crate::laws::instances_are_problems;
 use crate::matrix::{EvenMatrix, Matrix, Triangle};
@@ -241,17 +241,17 @@ impl Costs for Instance {
 ///
 /// Costs from a node to itself aren't compared. No pair is looked at under a distance or a
 /// triangle.
-pub fn even_view(inst: &Instance) -> Result<EvenView<'_>, (u32, u32)>
+pub fn symmetric_view(inst: &Instance) -> Result<SymmetricView<'_>, (u32, u32)>
     ensures { MatchResult result
-        (λ view. ShowsEven inst.now view × IsSymmetric (cost inst.now))
+        (λ view. ShowsSymmetric inst.now view × IsSymmetric (cost inst.now))
         (λ pair. IsFirstAsymmetric (unwrap_or inst.now.dimension 0) (cost inst.now) pair) }
 {
     match inst.view() {
-        View::Plane(points) => Ok(EvenView::Plane(points)),
-        View::Space(points) => Ok(EvenView::Space(points)),
-        View::Triangle(triangle) => Ok(EvenView::Triangle(triangle)),
+        View::Plane(points) => Ok(SymmetricView::Plane(points)),
+        View::Space(points) => Ok(SymmetricView::Space(points)),
+        View::Triangle(triangle) => Ok(SymmetricView::Triangle(triangle)),
         View::Matrix(matrix) => match matrix.even() {
-            Ok(even) => Ok(EvenView::Matrix(even)),
+            Ok(even) => Ok(SymmetricView::Matrix(even)),
             Err(pair) => Err(pair),
         },
     }
@@ -264,7 +264,7 @@ pub fn even_view(inst: &Instance) -> Result<EvenView<'_>, (u32, u32)>
 pub fn symmetric_fault(inst: &Instance) -> Option<(u32, u32)>
     ensures { FindsAsymmetric (unwrap_or inst.now.dimension 0) (cost inst.now) result }
 {
-    match even_view(inst) {
+    match symmetric_view(inst) {
         Ok(_) => None,
         Err(pair) => Some(pair),
     }
@@ -287,7 +287,7 @@ pub enum View<'a> {
 
 /// The costs of an instance, by the type that has them, where they are the same in both directions.
 #[derive(Clone, Copy, Debug)]
-pub enum EvenView<'a> {
+pub enum SymmetricView<'a> {
     /// The weight type is a distance, of points of the plane.
     Plane(Points<'a, PlanePoint>),
     /// The weight type is a distance, of points in space.

@@ -21,7 +21,7 @@ mod metric;
 mod points;
 
 pub use examples::examples_of_tours;
-pub use instance::{CostFault, EvenView, Instance, View, even_view, symmetric_fault};
+pub use instance::{CostFault, Instance, SymmetricView, View, symmetric_fault, symmetric_view};
 pub use laws::instances_are_problems;
 pub use matrix::{EvenMatrix, Matrix, Triangle};
 pub use points::{Euclidean, Points};

@@ -13,7 +13,7 @@ ghost use Rattle.tsp_file.specs.Validity.{is_kept, is_unknown_keyword, is_other,
 use crate::coords::Coords;
 use crate::range::{are_from_to, is_from_to};
 use tsp_format::{
-    Field, Keyword, MOST_BRANCHES, MOST_CHANGES, MOST_COMBS, MOST_COMB_NODES, MOST_COORDINATE,
+    Field, Keyword, MOST_BRANCHES, MOST_CHANGES, MOST_COMB_NODES, MOST_COMBS, MOST_COORDINATE,
     MOST_DEMAND, MOST_DEPOTS, MOST_DIFFERENCE, MOST_FIXED, MOST_KEPT_BYTES, MOST_MATRIX_NODES,
     MOST_MULTIPLIER, MOST_MULTIPLIERS, MOST_NODES, MOST_POTENTIAL, MOST_TOUR_NODES, MOST_WEIGHT,
     TreeStep, Word, is_blank, is_keyword_byte, is_letter,

@@ -7,7 +7,7 @@ use Rattle.tsp_io.specs.declared.piece.WriteFault.TheVariants as write_faults
 
 -- A reader's turn: the bytes that it had left before the call and after it, where they are known, the bytes that it
 -- delivered, and whether it had failed before the call and has failed after it.
-pub record Turn : Type 0 where
+pub record ReadTrace : Type 0 where
   pub known : Option (List ℕ)
   pub left : Option (List ℕ)
   pub given : List ℕ
@@ -15,30 +15,30 @@ pub record Turn : Type 0 where
   pub failed : Bool
 
 -- the reader delivered these bytes
-abbrev pub Gave : Turn → Type 0
-Gave turn = Consumes turn.known turn.left turn.given
+abbrev pub Gave : ReadTrace → Type 0
+Gave read_trace = Consumes read_trace.known read_trace.left read_trace.given
 
 -- it had not failed before, and hasn't failed
-abbrev pub IsSound : Turn → Type 0
-IsSound turn = (turn.had_failed ≡ false) × (turn.failed ≡ false)
+abbrev pub IsSound : ReadTrace → Type 0
+IsSound read_trace = (read_trace.had_failed ≡ false) × (read_trace.failed ≡ false)
 
 -- It delivered bytes of which P holds, without a failure. Where its bytes are known, P holds of all of them too:
 -- reading didn't stop too early.
-abbrev pub GaveAll : Turn → (List ℕ → Type 0) → Type 0
-GaveAll turn P = Gave turn × IsSound turn × P turn.given × IfSome turn.known P
+abbrev pub GaveAll : ReadTrace → (List ℕ → Type 0) → Type 0
+GaveAll read_trace P = Gave read_trace × IsSound read_trace × P read_trace.given × IfSome read_trace.known P
 
 -- It has failed, in this call or before. A reader that had failed before is not read.
-abbrev pub HasBrokenOff : Turn → Type 0
-HasBrokenOff turn = Gave turn × (turn.failed ≡ true)
-    × (turn.had_failed ≡ true → Keeps turn.known turn.left)
+abbrev pub HasBrokenOff : ReadTrace → Type 0
+HasBrokenOff read_trace = Gave read_trace × (read_trace.failed ≡ true)
+    × (read_trace.had_failed ≡ true → Keeps read_trace.known read_trace.left)
 
 -- the reader was not asked
-abbrev pub IsUnread : Turn → Type 0
-IsUnread turn = Keeps turn.known turn.left × (turn.failed ≡ turn.had_failed)
+abbrev pub IsUnread : ReadTrace → Type 0
+IsUnread read_trace = Keeps read_trace.known read_trace.left × (read_trace.failed ≡ read_trace.had_failed)
 
 -- for some bytes that the reader delivered, at most `most` of them, P holds of the turn
-abbrev pub TakesAtMost : ℕ → (List ℕ → Turn) → (Turn → Type 0) → Type 0
-TakesAtMost most turn P = (given : List ℕ) × (length given ≤ most) × P (turn given)
+abbrev pub TakesAtMost : ℕ → (List ℕ → ReadTrace) → (ReadTrace → Type 0) → Type 0
+TakesAtMost most read_trace P = (given : List ℕ) × (length given ≤ most) × P (read_trace given)
 
 -- ---- a writer before and after a call
 

@@ -10,9 +10,9 @@ ghost use Rattle.std.specs.declared.io.Error.{Error};
 ghost use Rattle.tsp_io.specs.Streams.{HasWritten, HasStopped, Writes};
 ghost use Rattle.tsp_io.specs.states.Watched.{watched, has_failed, error_of, KeepsError, sink_of, Puts};
 
-use arrayvec::ArrayVec;
 use crate::asked::Takes;
 use crate::watched::Watched;
+use arrayvec::ArrayVec;
 use itoa::{Buffer, Integer};
 use std::fmt;
 use std::io::{self, ErrorKind, Write};

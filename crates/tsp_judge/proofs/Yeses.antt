@@ -4,7 +4,7 @@ use Rattle.std.proofs.lemmas.Bool.{false≢true, cases_lt}
 use Rattle.std.proofs.lemmas.Bool.Decides.{eqb_tells}
 use Rattle.std.proofs.lemmas.Int.{ints}
 use Rattle.std.specs.Prelude.{ℤ, pos, negsuc, ◌≤◌, ◌^◌, unsigned_abs, ◌⊎◌, ◌≤ℤ◌, IsTrue, unwrap_or, if◌then◌else◌}
-use Rattle.tsp_io.specs.Streams.{Turn, IsUnread, Sink, IsUnwritten}
+use Rattle.tsp_io.specs.Streams.{ReadTrace, IsUnread, Sink, IsUnwritten}
 use Rattle.tsp_format.specs.declared.kinds.Kind.{Kind}
 use Rattle.tsp_format.specs.declared.kinds.Kind.TheVariants as kinds
 use Rattle.tsp_file.specs.Cost.{cost}
@@ -15,15 +15,15 @@ use Rattle.tsp_theory.specs.Tour.{length_of, RoutingProblem, IsPlan, IsCustomer,
 use Rattle.tsp_cost.specs.Problems.{IsProblem, depot_of, problem_of, routing_of, depots_of}
 use Rattle.tsp_report.specs.Report.{IsGapSized, IsSized, report_of}
 use Rattle.tsp_report.specs.Verdicts.{is_yes}
-use Rattle.tsp_report.specs.declared.task.Certificate.{Certificate}
-use Rattle.tsp_report.specs.declared.task.Certificate.TheVariants.{Potentials, Branches}
+use Rattle.tsp_report.specs.declared.task.CertificateKind.{CertificateKind}
+use Rattle.tsp_report.specs.declared.task.CertificateKind.TheVariants.{Potentials, Branches}
 use Rattle.tsp_report.specs.declared.verdict.Reason.{Reason}
 use Rattle.tsp_report.specs.declared.verdict.Reason.TheVariants.{NotASolution, TooFewNodes, DepotCount, NotPotentials, NotBranches}
 use Rattle.tsp_report.specs.declared.verdict.Verdict.{Verdict}
 use Rattle.tsp_report.specs.declared.verdict.Verdict.TheVariants as verdicts
-use Rattle.tsp_verdict.specs.Certified.{is_bounded, IsBoundFitting, IsCertifiedTourVerdict, IsCertifiedRoutesVerdict, IsCertifiedVerdictBy, kind_of, StandsAgainstCertificateBy, StandsAgainstCertificate, IsCertifiedVerdict}
+use Rattle.tsp_verdict.specs.Certified.{is_bounded, IsBoundFitting, IsCertifiedTourVerdict, IsCertifiedRoutesVerdict, IsCertifiedVerdictBy, kind_of, AppliesToCertificateBy, AppliesToCertificate, IsCertifiedVerdict}
 use Rattle.tsp_verdict.specs.SolutionVerdict.{is_judged, IsVerdictBy, IsUnclaimedVerdict, IsVerdictWith, is_unjudged, strict_verdict, IsVerdictAsked, HasLength, IsAsClaimed, refuses}
-use Rattle.tsp_verdict.specs.Solutions.{tours_of, StandsAgainstRoutes, IsPlanned, IsRoutesVerdict, IsTourVerdict}
+use Rattle.tsp_verdict.specs.Solutions.{tours_of, AppliesToRoutes, IsPlanned, IsRoutesVerdict, IsTourVerdict}
 use Rattle.tsp_judge.specs.Accepted.{IsAcceptedTour, AreOnlyRoutes, AreAcceptedRoutes, IsTourWithBound, AreRoutesWithBound, IsAccepted}
 use Rattle.tsp_judge.specs.CheckRun.{ReadsFile, Given, given_by, IsUnreadIn, IsFileIn, ReadsGiven, AreRead, JudgesFiles, EndsWithout, IsRun, acceptance}
 use Rattle.tsp_judge.specs.ConvertRun.{SaysYes, IsRunOf}
@@ -64,17 +64,17 @@ sized_by (Some kinds.Potentials) instance solution verdict v = absurd v
 sized_by (Some kinds.Branches) instance solution verdict v = absurd v
 sized_by None instance solution verdict v = absurd v
 
-of_tours : (by : Certificate) (instance solution certificate : Fields) (verdict : Verdict) → IsCertifiedTourVerdict by instance solution certificate verdict → IsSized verdict
+of_tours : (by : CertificateKind) (instance solution certificate : Fields) (verdict : Verdict) → IsCertifiedTourVerdict by instance solution certificate verdict → IsSized verdict
 of_tours by instance solution certificate (verdicts.Tour length bound) v = subst IsGapSized (sym v.1.bound_is) (few v.1.least v.1.sized)
 of_tours by instance solution certificate (verdicts.Routes length routes least bound) v = absurd v
 of_tours by instance solution certificate (verdicts.No reason) v = tt
 
-of_routes : (by : Certificate) (instance solution certificate : Fields) (verdict : Verdict) → IsCertifiedRoutesVerdict by instance solution certificate verdict → IsSized verdict
+of_routes : (by : CertificateKind) (instance solution certificate : Fields) (verdict : Verdict) → IsCertifiedRoutesVerdict by instance solution certificate verdict → IsSized verdict
 of_routes by instance solution certificate (verdicts.Routes length routes least bound) v = subst IsGapSized (sym v.1.bound_is) (few v.1.least v.1.sized)
 of_routes by instance solution certificate (verdicts.Tour length bound) v = absurd v
 of_routes by instance solution certificate (verdicts.No reason) v = tt
 
-certified : (kind : Option Kind) (by : Certificate) (instance solution certificate : Fields) (verdict : Verdict) → IsCertifiedVerdictBy kind by instance solution certificate verdict
+certified : (kind : Option Kind) (by : CertificateKind) (instance solution certificate : Fields) (verdict : Verdict) → IsCertifiedVerdictBy kind by instance solution certificate verdict
     → IsSized verdict
 certified (Some kinds.Cvrp) by instance solution certificate verdict v = of_routes by instance solution certificate verdict v
 certified (Some kinds.Tsp) by instance solution certificate verdict v = of_tours by instance solution certificate verdict v
@@ -84,11 +84,11 @@ certified (Some kinds.Potentials) by instance solution certificate verdict v = o
 certified (Some kinds.Branches) by instance solution certificate verdict v = of_tours by instance solution certificate verdict v
 certified None by instance solution certificate verdict v = of_tours by instance solution certificate verdict v
 
-unclaimed : (certificate : Option (Certificate × Fields)) (instance solution : Fields) (verdict : Verdict) → IsUnclaimedVerdict certificate instance solution verdict → IsSized verdict
+unclaimed : (certificate : Option (CertificateKind × Fields)) (instance solution : Fields) (verdict : Verdict) → IsUnclaimedVerdict certificate instance solution verdict → IsSized verdict
 unclaimed None instance solution verdict v = sized_by instance.kind instance solution verdict v
 unclaimed (Some given) instance solution verdict v = certified instance.kind given.0 instance solution given.1 verdict v
 
-pub sized : (certificate : Option (Certificate × Fields)) (claimed : Option ℤ) (instance solution : Fields) (verdict : Verdict)
+pub sized : (certificate : Option (CertificateKind × Fields)) (claimed : Option ℤ) (instance solution : Fields) (verdict : Verdict)
     → IsVerdictWith certificate claimed instance solution verdict → IsSized verdict
 sized certificate None instance solution verdict v = unclaimed certificate instance solution verdict v
 sized certificate (Some claim) instance solution (verdicts.Tour length bound) v = unclaimed certificate instance solution (verdicts.Tour length bound) v.0
@@ -96,7 +96,7 @@ sized certificate (Some claim) instance solution (verdicts.Routes length routes 
 sized certificate (Some claim) instance solution (verdicts.No reason) v = tt
 
 -- where unknown keywords are a reason too
-pub asked_sized : (strict : Bool) (certificate : Option (Certificate × Fields)) (claimed : Option ℤ) (instance solution : Fields) (verdict : Verdict)
+pub asked_sized : (strict : Bool) (certificate : Option (CertificateKind × Fields)) (claimed : Option ℤ) (instance solution : Fields) (verdict : Verdict)
     → IsVerdictAsked strict certificate claimed instance solution verdict → IsSized verdict
 asked_sized strict certificate claimed instance solution verdict asked =
     subst IsSized (sym asked.2) (kept (is_unjudged strict instance) asked.0 (sized certificate claimed instance solution asked.0 asked.1))
@@ -109,7 +109,7 @@ asked_sized strict certificate claimed instance solution verdict asked =
 
 -- ---- the TYPE
 
-bounded_none : (by : Certificate) (kind : Option Kind) → is_instance kind ≡ false → is_bounded by kind ≡ false
+bounded_none : (by : CertificateKind) (kind : Option Kind) → is_instance kind ≡ false → is_bounded by kind ≡ false
 bounded_none by (Some kinds.Tsp) none = absurd (false≢true (sym none))
 bounded_none by (Some kinds.Atsp) none = absurd (false≢true (sym none))
 bounded_none by (Some kinds.Cvrp) none = absurd (false≢true (sym none))
@@ -118,16 +118,16 @@ bounded_none by (Some kinds.Potentials) none = refl
 bounded_none by (Some kinds.Branches) none = refl
 bounded_none by None none = refl
 
-pub none_bounded : (by : Certificate) (kind : Option Kind) → is_instance kind ≡ false → is_bounded by kind ≡ false
+pub none_bounded : (by : CertificateKind) (kind : Option Kind) → is_instance kind ≡ false → is_bounded by kind ≡ false
 none_bounded by kind none = bounded_none by kind none
 
-pub none_judged : (certificate : Option (Certificate × Fields)) (kind : Option Kind) → is_instance kind ≡ false → is_judged certificate kind ≡ false
+pub none_judged : (certificate : Option (CertificateKind × Fields)) (kind : Option Kind) → is_instance kind ≡ false → is_judged certificate kind ≡ false
 none_judged None kind none = none
 none_judged (Some given) kind none = none_bounded given.0 kind none
 
 -- ---- the files
 
-pub first_stops : (strict : Bool) (given : Given) (claimed : Option ℤ) (first second : Turn) (sink : Sink) (fault : RunFault) → ReadsFile 1 first (Err fault) → IsUnread second → IsUnreadIn given
+pub first_stops : (strict : Bool) (given : Given) (claimed : Option ℤ) (first second : ReadTrace) (sink : Sink) (fault : RunFault) → ReadsFile 1 first (Err fault) → IsUnread second → IsUnreadIn given
     → IsUnwritten sink → EndsWithout given claimed strict first second sink fault
 first_stops strict given claimed first second sink (File place fault) stops two three unwritten = (unwritten, inl (stops.0, stops.1, two, three))
 first_stops strict given claimed first second sink WrongKind stops two three unwritten = absurd stops
@@ -135,7 +135,7 @@ first_stops strict given claimed first second sink (Write fault) stops two three
 first_stops strict given claimed first second sink OutOfMemory stops two three unwritten = absurd stops
 first_stops strict given claimed first second sink (Relayout fault) stops two three unwritten = absurd stops
 
-pub second_stops : (strict : Bool) (given : Given) (claimed : Option ℤ) (first second : Turn) (instance : Fields) (sink : Sink) (fault : RunFault) → IsFile first instance
+pub second_stops : (strict : Bool) (given : Given) (claimed : Option ℤ) (first second : ReadTrace) (instance : Fields) (sink : Sink) (fault : RunFault) → IsFile first instance
     → ReadsFile 2 second (Err fault) → IsUnreadIn given → IsUnwritten sink → EndsWithout given claimed strict first second sink fault
 second_stops strict given claimed first second instance sink (File place fault) one stops three unwritten =
     (unwritten, inr (inl (stops.0, (instance, one), stops.1, three)))
@@ -144,7 +144,7 @@ second_stops strict given claimed first second instance sink (Write fault) one s
 second_stops strict given claimed first second instance sink OutOfMemory one stops three unwritten = absurd stops
 second_stops strict given claimed first second instance sink (Relayout fault) one stops three unwritten = absurd stops
 
-pub third_stops : (strict : Bool) (given : Given) (claimed : Option ℤ) (first second : Turn) (instance solution : Fields) (sink : Sink) (fault : RunFault) → IsFile first instance
+pub third_stops : (strict : Bool) (given : Given) (claimed : Option ℤ) (first second : ReadTrace) (instance solution : Fields) (sink : Sink) (fault : RunFault) → IsFile first instance
     → IsFile second solution → ReadsGiven 3 given (Err fault) → IsUnwritten sink → EndsWithout given claimed strict first second sink fault
 third_stops strict None claimed first second instance solution sink fault one two stops unwritten = absurd stops
 third_stops strict (Some third) claimed first second instance solution sink (File place fault) one two stops unwritten =
@@ -156,12 +156,12 @@ third_stops strict (Some third) claimed first second instance solution sink (Rel
 
 -- ---- files that were read
 
-pub are_read : (given : Given) (first second : Turn) (instance solution : Fields) (certificate : Option (Certificate × Fields)) → IsFile first instance → IsFile second solution
+pub are_read : (given : Given) (first second : ReadTrace) (instance solution : Fields) (certificate : Option (CertificateKind × Fields)) → IsFile first instance → IsFile second solution
     → IsFileIn given certificate → AreRead given first second instance solution certificate
 are_read given first second instance solution certificate one two three = record { first_file = one; second_file = two; third_file = three }
 
 -- a run of which no verdict comes
-pub ends_without : (strict : Bool) (given : Given) (claimed : Option ℤ) (first second : Turn) (instance solution : Fields) (certificate : Option (Certificate × Fields)) (sink : Sink) (fault : RunFault)
+pub ends_without : (strict : Bool) (given : Given) (claimed : Option ℤ) (first second : ReadTrace) (instance solution : Fields) (certificate : Option (CertificateKind × Fields)) (sink : Sink) (fault : RunFault)
     → AreRead given first second instance solution certificate → JudgesFiles certificate claimed strict instance solution sink (Err fault)
     → EndsWithout given claimed strict first second sink fault
 ends_without strict given claimed first second instance solution certificate sink (File place fault) read judges = absurd judges
@@ -172,7 +172,7 @@ ends_without strict given claimed first second instance solution certificate sin
 
 -- ---- the third reader
 
-pub unread_in : (by : Option Certificate) (third : Turn) → IsUnread third → IsUnreadIn (given_by by third)
+pub unread_in : (by : Option CertificateKind) (third : ReadTrace) → IsUnread third → IsUnreadIn (given_by by third)
 unread_in None third unread = tt
 unread_in (Some by) third unread = unread
 
@@ -210,12 +210,12 @@ tree (Some kinds.Potentials) not = absurd (not refl)
 tree (Some kinds.Branches) not = refl
 tree None not = absurd (not refl)
 
-pub of_type : (by : Certificate) (instance certificate : Fields) → ((reason : Reason) → StandsAgainstCertificate by instance certificate reason → ⊥)
+pub of_type : (by : CertificateKind) (instance certificate : Fields) → ((reason : Reason) → AppliesToCertificate by instance certificate reason → ⊥)
     → certificate.kind ≡ Some (kind_of by)
 of_type Potentials instance certificate none = potentials certificate.kind (λ other. none NotPotentials other)
 of_type Branches instance certificate none = tree certificate.kind (λ other. none NotBranches (not_branches instance.kind other))
   where
-    not_branches : (kind : Option Kind) → is_branches_file certificate.kind ≡ false → StandsAgainstCertificateBy Branches kind instance certificate NotBranches
+    not_branches : (kind : Option Kind) → is_branches_file certificate.kind ≡ false → AppliesToCertificateBy Branches kind instance certificate NotBranches
     not_branches (Some kinds.Tsp) other = other
     not_branches (Some kinds.Atsp) other = other
     not_branches (Some kinds.Cvrp) other = other
@@ -237,7 +237,7 @@ type_of_tours false kind is = inl is
 abbrev pub IsBoundedType : Option Kind → Type 0
 IsBoundedType kind = IsTspOrAtsp kind ⊎ (kind ≡ Some kinds.Cvrp)
 
-pub types_bounded : (by : Certificate) (kind : Option Kind) → IsTrue (is_bounded by kind) → IsBoundedType kind
+pub types_bounded : (by : CertificateKind) (kind : Option Kind) → IsTrue (is_bounded by kind) → IsBoundedType kind
 types_bounded by (Some kinds.Tsp) is = inl (inl refl)
 types_bounded by (Some kinds.Atsp) is = inl (inr refl)
 types_bounded by (Some kinds.Cvrp) is = inr refl
@@ -248,13 +248,13 @@ types_bounded by None is = absurd (false≢true is)
 
 -- ---- a claim: a solution accepted with it is accepted without it too, with the claimed length
 
-tour_as_claimed : (certificate : Option (Certificate × Fields)) (claimed : Option ℤ) (instance solution : Fields) (length : ℤ) (bound : Option ℤ)
+tour_as_claimed : (certificate : Option (CertificateKind × Fields)) (claimed : Option ℤ) (instance solution : Fields) (length : ℤ) (bound : Option ℤ)
     → IsVerdictWith certificate claimed instance solution (verdicts.Tour length bound)
     → IsUnclaimedVerdict certificate instance solution (verdicts.Tour length bound) × IsAsClaimed claimed length
 tour_as_claimed certificate None instance solution length bound v = (v, tt)
 tour_as_claimed certificate (Some claim) instance solution length bound v = (v.0, v.1)
 
-routes_as_claimed : (certificate : Option (Certificate × Fields)) (claimed : Option ℤ) (instance solution : Fields) (length : ℤ) (routes least : ℕ) (bound : Option ℤ)
+routes_as_claimed : (certificate : Option (CertificateKind × Fields)) (claimed : Option ℤ) (instance solution : Fields) (length : ℤ) (routes least : ℕ) (bound : Option ℤ)
     → IsVerdictWith certificate claimed instance solution (verdicts.Routes length routes least bound)
     → IsUnclaimedVerdict certificate instance solution (verdicts.Routes length routes least bound) × IsAsClaimed claimed length
 routes_as_claimed certificate None instance solution length routes least bound v = (v, tt)
@@ -314,7 +314,7 @@ one_depot count not = by_test (eqb_tells count 1)
 -- plan: no reason applies, so there is one depot and a customer; a plan serves it, so the file lists routes
 -- (`served_by_none`)
 only_routes : (claimed : Option ℤ) (instance solution : Fields) (length_is : ℤ) (count least : ℕ) → IsProblem instance → instance.kind ≡ Some kinds.Cvrp
-    → ((reason : Reason) → StandsAgainstRoutes instance solution reason → ⊥) → IsPlanned instance (tours_of solution) length_is count least
+    → ((reason : Reason) → AppliesToRoutes instance solution reason → ⊥) → IsPlanned instance (tours_of solution) length_is count least
     → IsAsClaimed claimed length_is → AreOnlyRoutes claimed instance solution (routing_of instance) (tours_of solution) least
 only_routes claimed instance solution length_is count least problem type none planned claims =
     let depot : length (depots_of instance) ≡ 1 = one_depot (length (depots_of instance)) (λ other. none DepotCount other) in
@@ -384,7 +384,7 @@ routes_by_type None claimed instance solution length count least bound problem s
 
 -- ---- with a certificate
 
-bounded_tour : (by : Certificate) (claimed : Option ℤ) (instance solution certificate : Fields) (length : ℤ) (bound : Option ℤ) → IsProblem instance
+bounded_tour : (by : CertificateKind) (claimed : Option ℤ) (instance solution certificate : Fields) (length : ℤ) (bound : Option ℤ) → IsProblem instance
     → IsTspOrAtsp instance.kind → IsCertifiedTourVerdict by instance solution certificate (verdicts.Tour length bound) → IsAsClaimed claimed length
     → IsTourWithBound by claimed instance solution certificate (report_of instance (verdicts.Tour length bound))
 bounded_tour by claimed instance solution certificate length bound problem tours v claims =
@@ -400,7 +400,7 @@ bounded_tour by claimed instance solution certificate length bound problem tours
         as_claimed = claim_is claimed length (length_of (cost instance) b.tour) claims b.measured;
       };
       bound = b.least;
-      certificate_type = of_type by instance certificate (λ reason stands. v.0 reason (inr stands));
+      certificate_type = of_type by instance certificate (λ reason applies. v.0 reason (inr applies));
       of_certificate = b.of_certificate;
       printed = ap (λ l. report_of instance (verdicts.Tour l bound)) b.measured
           ∙ ap (λ o. report_of instance (verdicts.Tour (length_of (cost instance) b.tour) o)) b.bound_is;
@@ -408,7 +408,7 @@ bounded_tour by claimed instance solution certificate length bound problem tours
       optimal = λ same other is. subst (λ l. l ≤ℤ length_of (cost instance) other) (sym same) (b.below_tours other is);
     }
 
-bounded_routes : (by : Certificate) (claimed : Option ℤ) (instance solution certificate : Fields) (length_is : ℤ) (count fewest : ℕ) (bound : Option ℤ) → IsProblem instance
+bounded_routes : (by : CertificateKind) (claimed : Option ℤ) (instance solution certificate : Fields) (length_is : ℤ) (count fewest : ℕ) (bound : Option ℤ) → IsProblem instance
     → instance.kind ≡ Some kinds.Cvrp → IsCertifiedRoutesVerdict by instance solution certificate (verdicts.Routes length_is count fewest bound) → IsAsClaimed claimed length_is
     → AreRoutesWithBound by claimed instance solution certificate (report_of instance (verdicts.Routes length_is count fewest bound))
 bounded_routes by claimed instance solution certificate length_is count fewest bound problem type v claims =
@@ -418,10 +418,10 @@ bounded_routes by claimed instance solution certificate length_is count fewest b
       problem = routing_of instance;
       routes = tours_of solution;
       least = fewest;
-      only_routes = only_routes claimed instance solution length_is count fewest problem type (λ reason stands. v.0 reason (inl stands)) b.planned claims;
+      only_routes = only_routes claimed instance solution length_is count fewest problem type (λ reason applies. v.0 reason (inl applies)) b.planned claims;
       filled = record { plan = b.planned.plan_of; each = b.planned.filled };
       bound = b.least;
-      certificate_type = of_type by instance certificate (λ reason stands. v.0 reason (inr stands));
+      certificate_type = of_type by instance certificate (λ reason applies. v.0 reason (inr applies));
       of_certificate = b.of_certificate;
       printed = routes_printed instance solution length_is count fewest bound (Some b.least) b.planned b.bound_is;
       below_plans = b.below_plans;
@@ -429,7 +429,7 @@ bounded_routes by claimed instance solution certificate length_is count fewest b
     }
 
 -- plan: by the TYPE: tours or routes
-bounded_by_type : (by : Certificate) (claimed : Option ℤ) (instance solution certificate : Fields) (verdict : Verdict) (length : ℤ) → IsProblem instance → IsBoundedType instance.kind
+bounded_by_type : (by : CertificateKind) (claimed : Option ℤ) (instance solution certificate : Fields) (verdict : Verdict) (length : ℤ) → IsProblem instance → IsBoundedType instance.kind
     → IsCertifiedVerdict by instance solution certificate verdict → HasLength verdict length → IsAsClaimed claimed length
     → IsAccepted (Some (by, certificate)) claimed instance solution (report_of instance verdict)
 bounded_by_type by claimed instance solution certificate (verdicts.Tour found bound) length problem (inl (inl tsp)) v has claims =
@@ -451,7 +451,7 @@ bounded_by_type by claimed instance solution certificate (verdicts.No reason) le
 
 -- ---- either
 
-pub accepted : (certificate : Option (Certificate × Fields)) (claimed : Option ℤ) (instance solution : Fields) (verdict : Verdict) → IsProblem instance
+pub accepted : (certificate : Option (CertificateKind × Fields)) (claimed : Option ℤ) (instance solution : Fields) (verdict : Verdict) → IsProblem instance
     → IsTrue (is_judged certificate instance.kind) → IsVerdictWith certificate claimed instance solution verdict → true ≡ is_yes verdict
     → IsAccepted certificate claimed instance solution (report_of instance verdict)
 accepted None claimed instance solution (verdicts.Tour length bound) problem type v is =
@@ -485,7 +485,7 @@ none_unknown true (line ∷ lines) refused is = absurd (false≢true (sym refuse
 
 -- ---- the run
 
-says_yes : (given : Given) (claimed : Option ℤ) (strict : Bool) (first second : Turn) (sink : Sink) (judged : Judged) → IsProblem judged.instance
+says_yes : (given : Given) (claimed : Option ℤ) (strict : Bool) (first second : ReadTrace) (sink : Sink) (judged : Judged) → IsProblem judged.instance
     → IsRun given claimed strict first second sink (Ok judged) → true ≡ is_yes judged.verdict → SaysYes given claimed strict first second sink
 says_yes given claimed strict first second sink judged problem run is =
     let asked = run.1.1 in
@@ -503,7 +503,7 @@ says_yes given claimed strict first second sink judged problem run is =
     }
 
 -- the whole contract of a run with a verdict, and of one without
-pub run_of : (strict : Bool) (given : Given) (claimed : Option ℤ) (first second : Turn) (sink : Sink) (judged : Judged) → IsProblem judged.instance
+pub run_of : (strict : Bool) (given : Given) (claimed : Option ℤ) (first second : ReadTrace) (sink : Sink) (judged : Judged) → IsProblem judged.instance
     → IsRun given claimed strict first second sink (Ok judged) → IsRunOf given claimed strict first second sink (Ok judged)
 run_of strict given claimed first second sink judged problem run = (
   run,
@@ -513,6 +513,6 @@ run_of strict given claimed first second sink judged problem run = (
   ),
 )
 
-pub fault_of_run : (strict : Bool) (given : Given) (claimed : Option ℤ) (first second : Turn) (sink : Sink) (fault : RunFault) → EndsWithout given claimed strict first second sink fault
+pub fault_of_run : (strict : Bool) (given : Given) (claimed : Option ℤ) (first second : ReadTrace) (sink : Sink) (fault : RunFault) → EndsWithout given claimed strict first second sink fault
     → IsRunOf given claimed strict first second sink (Err fault)
 fault_of_run strict given claimed first second sink fault ends = (ends, (ends, λ is. absurd cc))

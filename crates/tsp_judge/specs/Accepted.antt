@@ -9,7 +9,7 @@ use Rattle.tsp_theory.specs.Tour.{sum_int_by, length_of, RoutingProblem, IsPlan,
 use Rattle.tsp_cost.specs.Problems.{IsProblemOf, IsRoutingOf}
 use Rattle.tsp_routing.specs.PlanLinks.{IsFilledPlan, BoundsPlans, HasNoPlan}
 use Rattle.tsp_report.specs.Report.{report_of, bound_report_of}
-use Rattle.tsp_report.specs.declared.task.Certificate.{Certificate}
+use Rattle.tsp_report.specs.declared.task.CertificateKind.{CertificateKind}
 use Rattle.tsp_report.specs.declared.verdict.BoundVerdict.{BoundVerdict}
 use Rattle.tsp_report.specs.declared.verdict.BoundVerdict.TheVariants.{Bound, NoSolution, No}
 use Rattle.tsp_report.specs.declared.verdict.Verdict.TheVariants.{Tour, Routes}
@@ -53,7 +53,7 @@ pub record AreAcceptedRoutes (claimed : Option ℤ) (instance solution : Fields)
 
 -- A tour with a certificate: it is the solution's only one; its length and the certificate's bound are printed. No tour
 -- of the instance is shorter than the bound, so that where the length equals it no tour is shorter than this one.
-pub record IsTourWithBound (by : Certificate) (claimed : Option ℤ) (instance solution certificate : Fields) (report : List ℕ)
+pub record IsTourWithBound (by : CertificateKind) (claimed : Option ℤ) (instance solution certificate : Fields) (report : List ℕ)
     : Type 0 where
   pub problem : Problem
   pub tour : List ℕ
@@ -68,7 +68,7 @@ pub record IsTourWithBound (by : Certificate) (claimed : Option ℤ) (instance s
 
 -- Routes with a certificate: its bound is printed too. No plan of the instance whose routes each have a customer is
 -- shorter than the bound. So where the length equals it, no such plan is shorter than this one, which is such a plan.
-pub record AreRoutesWithBound (by : Certificate) (claimed : Option ℤ) (instance solution certificate : Fields) (report : List ℕ)
+pub record AreRoutesWithBound (by : CertificateKind) (claimed : Option ℤ) (instance solution certificate : Fields) (report : List ℕ)
     : Type 0 where
   pub problem : RoutingProblem
   pub routes : List (List ℕ)
@@ -95,20 +95,20 @@ HasNone instance = ((problem : Problem) × IsProblemOf instance problem × HasNo
     ⊎ ((problem : RoutingProblem) × IsRoutingOf instance problem × HasNoPlan problem)
 
 -- A bound without a solution: the certificate's bound is printed, and no solution of the instance is shorter.
-pub record IsAcceptedBound (by : Certificate) (instance certificate : Fields) (bound : ℤ) (report : List ℕ) : Type 0 where
+pub record IsAcceptedBound (by : CertificateKind) (instance certificate : Fields) (bound : ℤ) (report : List ℕ) : Type 0 where
   pub certificate_type : certificate.kind ≡ Some (kind_of by)
   pub of_certificate : IsBoundOf by instance certificate bound
   pub printed : report ≡ bound_report_of instance (Bound bound)
   pub below : BoundsAll instance bound
 
 -- With the line `bound none`: the instance has no solution.
-pub record IsShownUnsolvable (by : Certificate) (instance certificate : Fields) (report : List ℕ) : Type 0 where
+pub record IsShownUnsolvable (by : CertificateKind) (instance certificate : Fields) (report : List ℕ) : Type 0 where
   pub certificate_type : certificate.kind ≡ Some (kind_of by)
   pub printed : report ≡ bound_report_of instance NoSolution
   pub none : HasNone instance
 
 -- The meaning of `yes` in a check: without a certificate, or with one.
-abbrev pub IsAccepted : Option (Certificate × Fields) → Option ℤ → Fields → Fields → List ℕ → Type 0
+abbrev pub IsAccepted : Option (CertificateKind × Fields) → Option ℤ → Fields → Fields → List ℕ → Type 0
 IsAccepted None claimed instance solution report =
     IsAcceptedTour claimed instance solution report ⊎ AreAcceptedRoutes claimed instance solution report
 IsAccepted (Some given) claimed instance solution report =
@@ -116,7 +116,7 @@ IsAccepted (Some given) claimed instance solution report =
     ⊎ AreRoutesWithBound given.0 claimed instance solution given.1 report
 
 -- The meaning of `yes` in a bound without a solution.
-abbrev pub IsAcceptedAlone : Certificate → Fields → Fields → BoundVerdict → List ℕ → Type 0
+abbrev pub IsAcceptedAlone : CertificateKind → Fields → Fields → BoundVerdict → List ℕ → Type 0
 IsAcceptedAlone by instance certificate (Bound bound) report = IsAcceptedBound by instance certificate bound report
 IsAcceptedAlone by instance certificate NoSolution report = IsShownUnsolvable by instance certificate report
 IsAcceptedAlone by instance certificate (No reason) report = ⊥

@@ -1,17 +1,17 @@
 -- Runs of `tsp check` and `tsp bound`: the files that are read, the verdict, the report and the exit status.
 use Rattle.std.specs.Prelude.{ℕ, List, ◌++◌, codes, decimal, Bool, true, false, Result, Ok, Err, ◌≡◌, ◌⊎◌, Option, None, Some, IsTrue, ℤ, []}
-use Rattle.tsp_io.specs.Streams.{write_fault_text, Turn, IsUnread, Sink, IsUnwritten, HasWritten, HasStopped}
+use Rattle.tsp_io.specs.Streams.{write_fault_text, ReadTrace, IsUnread, Sink, IsUnwritten, HasWritten, HasStopped}
 use Rattle.tsp_io.specs.declared.piece.WriteFault.TheVariants as write_faults
 use Rattle.tsp_file.specs.Fields.{Fields}
 use Rattle.tsp_file.specs.Relayout.{relayout_fault_text}
 use Rattle.tsp_file.specs.declared.relayout.RelayoutFault.TheVariants as relayout_faults
-use Rattle.tsp_text.specs.Spells.{read_fault_text}
+use Rattle.tsp_text.specs.ParsesTo.{read_fault_text}
 use Rattle.tsp_read.specs.Reads.{IsFile, StopsAt}
 use Rattle.tsp_read.specs.declared.ReadFault.{ReadFault}
 use Rattle.tsp_read.specs.declared.ReadFault.TheVariants as read_faults
 use Rattle.tsp_report.specs.Report.{report_of, bound_report_of}
 use Rattle.tsp_report.specs.Verdicts.{is_yes, is_bound_yes}
-use Rattle.tsp_report.specs.declared.task.Certificate.{Certificate}
+use Rattle.tsp_report.specs.declared.task.CertificateKind.{CertificateKind}
 use Rattle.tsp_report.specs.declared.verdict.BoundVerdict.{BoundVerdict}
 use Rattle.tsp_report.specs.declared.verdict.Verdict.{Verdict}
 use Rattle.tsp_verdict.specs.Certified.{NoneAgainstInstance, is_bounded, NoneWithoutMemory}
@@ -71,21 +71,21 @@ status_of (Err fault) = status_of_fault fault
 -- ---- the files
 
 -- the bytes that the reader delivered parse to a file
-abbrev pub IsSomeFile : Turn → Type 0
-IsSomeFile turn = (file : Fields) × IsFile turn file
+abbrev pub IsSomeFile : ReadTrace → Type 0
+IsSomeFile read_trace = (file : Fields) × IsFile read_trace file
 
 -- the file with this number was read; or it isn't valid, and the run ends with its fault
-abbrev pub ReadsFile : ℕ → Turn → Result Fields RunFault → Type 0
-ReadsFile number turn (Ok file) = IsFile turn file
-ReadsFile number turn (Err (File place fault)) = (place ≡ number) × StopsAt fault turn
-ReadsFile number turn (Err other) = ⊥
+abbrev pub ReadsFile : ℕ → ReadTrace → Result Fields RunFault → Type 0
+ReadsFile number read_trace (Ok file) = IsFile read_trace file
+ReadsFile number read_trace (Err (File place fault)) = (place ≡ number) × StopsAt fault read_trace
+ReadsFile number read_trace (Err other) = ⊥
 
 -- A certificate may be given, with the turn of its reader.
 abbrev pub Given : Type 0
-Given = Option (Certificate × Turn)
+Given = Option (CertificateKind × ReadTrace)
 
 -- the certificate of the third reader, or none
-abbrev pub given_by : Option Certificate → Turn → Given
+abbrev pub given_by : Option CertificateKind → ReadTrace → Given
 given_by None third = None
 given_by (Some by) third = Some (by, third)
 
@@ -95,30 +95,30 @@ IsUnreadIn None = Unit {0}
 IsUnreadIn (Some given) = IsUnread given.1
 
 -- the certificate's reader delivered this file
-abbrev pub IsFileIn : Given → Option (Certificate × Fields) → Type 0
+abbrev pub IsFileIn : Given → Option (CertificateKind × Fields) → Type 0
 IsFileIn None None = Unit {0}
 IsFileIn None (Some certificate) = ⊥
 IsFileIn (Some given) None = ⊥
 IsFileIn (Some given) (Some certificate) = (certificate.0 ≡ given.0) × IsFile given.1 certificate.1
 
 -- the certificate, as the file with this number, was read; or it isn't valid, and the run ends with its fault
-abbrev pub ReadsGiven : ℕ → Given → Result (Option (Certificate × Fields)) RunFault → Type 0
+abbrev pub ReadsGiven : ℕ → Given → Result (Option (CertificateKind × Fields)) RunFault → Type 0
 ReadsGiven number given (Ok certificate) = IsFileIn given certificate
 ReadsGiven number None (Err fault) = ⊥
 ReadsGiven number (Some given) (Err fault) = ReadsFile number given.1 (Err fault)
 
 -- the readers delivered these files
-pub record AreRead (given : Given) (first second : Turn) (instance solution : Fields)
-    (certificate : Option (Certificate × Fields)) : Type 0 where
+pub record AreRead (given : Given) (first second : ReadTrace) (instance solution : Fields)
+    (certificate : Option (CertificateKind × Fields)) : Type 0 where
   pub first_file : IsFile first instance
   pub second_file : IsFile second solution
   pub third_file : IsFileIn given certificate
 
 -- The first file, in order, that isn't valid has this number and this fault. Later ones aren't read.
-abbrev pub IsFaultOfRun : Given → Turn → Turn → ℕ → ReadFault → Type 0
+abbrev pub IsFaultOfRun : Given → ReadTrace → ReadTrace → ℕ → ReadFault → Type 0
 IsFaultOfRun given first second file fault = ((file ≡ 1) × StopsAt fault first × IsUnread second × IsUnreadIn given)
     ⊎ ((file ≡ 2) × IsSomeFile first × StopsAt fault second × IsUnreadIn given)
-    ⊎ ((third : Certificate × Turn) × (given ≡ Some third) × (file ≡ 3) × IsSomeFile first × IsSomeFile second
+    ⊎ ((third : CertificateKind × ReadTrace) × (given ≡ Some third) × (file ≡ 3) × IsSomeFile first × IsSomeFile second
     × StopsAt fault third.1)
 
 -- ---- the verdict
@@ -126,7 +126,7 @@ IsFaultOfRun given first second file fault = ((file ≡ 1) × StopsAt fault firs
 -- The result for files that were read. Ok: this is the verdict, and the whole report was written. WrongKind: solutions
 -- of the instance's TYPE aren't judged so. OutOfMemory: none of the reasons applies that are found without memory. Of
 -- both nothing is written, and writing takes no memory. Where the writer fails, a prefix of the report was written.
-abbrev pub JudgesFiles : Option (Certificate × Fields) → Option ℤ → Bool → Fields → Fields → Sink → Result Verdict RunFault
+abbrev pub JudgesFiles : Option (CertificateKind × Fields) → Option ℤ → Bool → Fields → Fields → Sink → Result Verdict RunFault
     → Type 0
 JudgesFiles certificate claimed strict instance solution sink (Ok verdict) = IsTrue (is_judged certificate instance.kind)
     × IsVerdictAsked strict certificate claimed instance solution verdict × HasWritten sink (report_of instance verdict)
@@ -143,23 +143,23 @@ JudgesFiles certificate claimed strict instance solution sink (Err other) = ⊥
 -- ---- the run
 
 -- Why a run has no verdict. The first file, in order, that isn't valid decides, and then nothing is written.
-abbrev pub EndsWithout : Given → Option ℤ → Bool → Turn → Turn → Sink → RunFault → Type 0
+abbrev pub EndsWithout : Given → Option ℤ → Bool → ReadTrace → ReadTrace → Sink → RunFault → Type 0
 EndsWithout given claimed strict first second sink (File file fault) = IsUnwritten sink × IsFaultOfRun given first second file fault
-EndsWithout given claimed strict first second sink fault = (instance solution : Fields) × (certificate : Option (Certificate × Fields))
+EndsWithout given claimed strict first second sink fault = (instance solution : Fields) × (certificate : Option (CertificateKind × Fields))
     × AreRead given first second instance solution certificate
     × JudgesFiles certificate claimed strict instance solution sink (Err fault)
 
 -- The result of a run: the files that were read, and the verdict on them.
-abbrev pub IsRun : Given → Option ℤ → Bool → Turn → Turn → Sink → Result Judged RunFault → Type 0
+abbrev pub IsRun : Given → Option ℤ → Bool → ReadTrace → ReadTrace → Sink → Result Judged RunFault → Type 0
 IsRun given claimed strict first second sink (Ok judged) =
     AreRead given first second judged.instance judged.solution judged.certificate
     × JudgesFiles judged.certificate claimed strict judged.instance judged.solution sink (Ok judged.verdict)
 IsRun given claimed strict first second sink (Err fault) = EndsWithout given claimed strict first second sink fault
 
 -- The result of a check: whether the solution is accepted.
-abbrev pub IsCheckAnswer : Given → Option ℤ → Bool → Turn → Turn → Sink → Result Bool RunFault → Type 0
+abbrev pub IsCheckAnswer : Given → Option ℤ → Bool → ReadTrace → ReadTrace → Sink → Result Bool RunFault → Type 0
 IsCheckAnswer given claimed strict first second sink (Ok answer) = (instance solution : Fields)
-    × (certificate : Option (Certificate × Fields))
+    × (certificate : Option (CertificateKind × Fields))
     × (verdict : Verdict) × AreRead given first second instance solution certificate
     × JudgesFiles certificate claimed strict instance solution sink (Ok verdict) × (answer ≡ is_yes verdict)
 IsCheckAnswer given claimed strict first second sink (Err fault) = EndsWithout given claimed strict first second sink fault
@@ -175,7 +175,7 @@ acceptance (Err fault) = Err fault
 -- and the whole report was written. WrongKind: tours of the instance have no bound by such a certificate. OutOfMemory:
 -- no reason applies to the instance, nor one to the certificate that is found without memory. Of both nothing is
 -- written. Where the writer fails, a prefix of the report was written.
-abbrev pub BoundsFiles : Certificate → Bool → Fields → Fields → Sink → Result BoundVerdict RunFault → Type 0
+abbrev pub BoundsFiles : CertificateKind → Bool → Fields → Fields → Sink → Result BoundVerdict RunFault → Type 0
 BoundsFiles by strict instance certificate sink (Ok found) = IsTrue (is_bounded by instance.kind)
     × IsBoundAsked strict by instance certificate found
     × HasWritten sink (bound_report_of instance found)
@@ -188,7 +188,7 @@ BoundsFiles by strict instance certificate sink (Err (Write write_faults.Device)
 BoundsFiles by strict instance certificate sink (Err other) = ⊥
 
 -- Why a run has no bound and no reason. The first file that isn't valid decides, in order, and nothing is written then.
-abbrev pub EndsUnbounded : Certificate → Bool → Turn → Turn → Sink → RunFault → Type 0
+abbrev pub EndsUnbounded : CertificateKind → Bool → ReadTrace → ReadTrace → Sink → RunFault → Type 0
 EndsUnbounded by strict first second sink (File file fault) = IsUnwritten sink
     × (((file ≡ 1) × StopsAt fault first × IsUnread second)
     ⊎ ((file ≡ 2) × IsSomeFile first × StopsAt fault second))
@@ -196,14 +196,14 @@ EndsUnbounded by strict first second sink fault = (instance certificate : Fields
     × BoundsFiles by strict instance certificate sink (Err fault)
 
 -- The result of a run: the files that were read, and the bound, or the first reason against them.
-abbrev pub IsBoundRun : Certificate → Bool → Turn → Turn → Sink → Result Bounded RunFault → Type 0
+abbrev pub IsBoundRun : CertificateKind → Bool → ReadTrace → ReadTrace → Sink → Result Bounded RunFault → Type 0
 IsBoundRun by strict first second sink (Ok bounded) = IsFile first bounded.instance × IsFile second bounded.certificate
     × BoundsFiles by strict bounded.instance bounded.certificate sink (Ok bounded.found)
 IsBoundRun by strict first second sink (Err fault) = EndsUnbounded by strict first second sink fault
 
 -- At `yes` the bytes that were read parse to these files, the whole report was written, and it means that the bound is
 -- one. Where unknown keywords are a reason, the instance has none.
-pub record SaysBound (by : Certificate) (strict : Bool) (first second : Turn) (sink : Sink) (found : BoundVerdict) : Type 0 where
+pub record SaysBound (by : CertificateKind) (strict : Bool) (first second : ReadTrace) (sink : Sink) (found : BoundVerdict) : Type 0 where
   pub instance : Fields
   pub certificate : Fields
   pub report : List ℕ
@@ -214,7 +214,7 @@ pub record SaysBound (by : Certificate) (strict : Bool) (first second : Turn) (s
   pub all_judged : strict ≡ true → instance.others ≡ []
 
 -- the result of the run, and what its line `yes` means
-abbrev pub IsBoundRunOf : Certificate → Bool → Turn → Turn → Sink → Result Bounded RunFault → Type 0
+abbrev pub IsBoundRunOf : CertificateKind → Bool → ReadTrace → ReadTrace → Sink → Result Bounded RunFault → Type 0
 IsBoundRunOf by strict first second sink result = IsBoundRun by strict first second sink result
     × ((bounded : Bounded) → result ≡ Ok bounded → is_bound_yes bounded.found ≡ true
     → SaysBound by strict first second sink bounded.found)

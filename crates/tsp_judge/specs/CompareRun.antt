@@ -2,7 +2,7 @@
 -- reported one after the other, and the lines that a follower gets.
 use Rattle.std.specs.Prelude.{◌≡◌, ◌≢◌, ◌⊎◌, ℕ, suc, ◌<◌, ◌≤◌, max, Bool, true, false, List, [], ◌∷◌, ◌++◌, length, Option, None, Some, Result, Ok, Err, IsTrue, slice_index_or, zero, ◌-◌}
 use Rattle.std.specs.declared.io.Error.{Error}
-use Rattle.tsp_io.specs.Streams.{Turn, Sink, IsUnwritten, HasWritten, HasStopped}
+use Rattle.tsp_io.specs.Streams.{ReadTrace, Sink, IsUnwritten, HasWritten, HasStopped}
 use Rattle.tsp_io.specs.declared.piece.WriteFault.TheVariants as write_faults
 use Rattle.tsp_file.specs.Fields.{Fields}
 use Rattle.tsp_read.specs.Reads.{HasReads, IsFile, StopsAt, most_taken}
@@ -11,12 +11,12 @@ use Rattle.tsp_read.specs.declared.ReadFault.TheVariants as read_faults
 use Rattle.tsp_cost.specs.Problems.{IsProblem}
 use Rattle.tsp_report.specs.Report.{head_of, solution_line, report_of}
 use Rattle.tsp_report.specs.Verdicts.{is_yes, is_clear}
-use Rattle.tsp_report.specs.declared.task.Certificate.{Certificate}
+use Rattle.tsp_report.specs.declared.task.CertificateKind.{CertificateKind}
 use Rattle.tsp_report.specs.declared.verdict.Verdict.{Verdict}
-use Rattle.tsp_verdict.specs.SolutionVerdict.{NoneOfBasisWithoutMemory, HasBasis, is_judged, NoneBeforeRepeatsOn, IsVerdictWith, IsBasisAsked}
+use Rattle.tsp_verdict.specs.SolutionVerdict.{NoneOfKnownBoundWithoutMemory, HasKnownBound, is_judged, NoneBeforeRepeatsOn, IsVerdictWith, IsKnownBoundAsked}
 use Rattle.tsp_judge.specs.Accepted.{IsAccepted}
 use Rattle.tsp_judge.specs.CheckRun.{Given, IsUnreadIn, IsFileIn, IsSomeFile, status_of}
-use Rattle.tsp_judge.specs.declared.compared.Common.{Common}
+use Rattle.tsp_judge.specs.declared.compared.ComparisonContext.{ComparisonContext}
 use Rattle.tsp_judge.specs.declared.compared.Compared.{Compared}
 use Rattle.tsp_judge.specs.declared.compared.Found.{Found}
 use Rattle.tsp_judge.specs.declared.compared.Found.TheVariants as founds
@@ -27,36 +27,36 @@ use Rattle.tsp_judge.specs.declared.run_status.RunFault.TheVariants.{File, Wrong
 
 -- The first of instance and certificate that isn't valid has this number and this fault. After such an instance the
 -- certificate isn't read.
-abbrev pub IsFaultOfCompare : Given → Turn → ℕ → ReadFault → Type 0
+abbrev pub IsFaultOfCompare : Given → ReadTrace → ℕ → ReadFault → Type 0
 IsFaultOfCompare given first file fault = ((file ≡ 1) × StopsAt fault first × IsUnreadIn given)
-    ⊎ ((second : Certificate × Turn) × (given ≡ Some second) × (file ≡ 2) × IsSomeFile first × StopsAt fault second.1)
+    ⊎ ((second : CertificateKind × ReadTrace) × (given ≡ Some second) × (file ≡ 2) × IsSomeFile first × StopsAt fault second.1)
 
 -- ---- one solution
 
 -- the turn of a reader that was opened for the solution at this place, counted from 0; the reader has failed where its
 -- last read returned an error
-pub record IsTurnAt {R : Type 0} (remaining : R → Option (List ℕ)) (gives : R → List ℕ → Result ℕ Error → List ℕ → R → Type 0)
-    (opens : ℕ → R → Type 0) (place : ℕ) (turn : Turn)
+pub record IsReadTraceAt {R : Type 0} (remaining : R → Option (List ℕ)) (gives : R → List ℕ → Result ℕ Error → List ℕ → R → Type 0)
+    (opens : ℕ → R → Type 0) (place : ℕ) (read_trace : ReadTrace)
     : Type 0 where
   pub reader : R
   pub opened : opens place reader
-  pub known : turn.known ≡ remaining reader
-  pub sound : turn.had_failed ≡ false
-  pub asked : (count : ℕ) × (after : R) × HasReads gives count reader after turn.failed
-  pub few : length turn.given ≤ most_taken
+  pub known : read_trace.known ≡ remaining reader
+  pub sound : read_trace.had_failed ≡ false
+  pub asked : (count : ℕ) × (after : R) × HasReads gives count reader after read_trace.failed
+  pub few : length read_trace.given ≤ most_taken
 
 -- What is found of the solution that a reader delivers: the verdict of a check of the three files, and its meaning
 -- where the solution is accepted; or the fault of the file.
-abbrev pub IsFoundIn : Common → Turn → Result Verdict ReadFault → Type 0
-IsFoundIn common turn (Ok verdict) = (solution : Fields) × IsFile turn solution
-    × IsVerdictWith common.certificate None common.instance solution verdict × HasBasis verdict common.basis
+abbrev pub IsFoundIn : ComparisonContext → ReadTrace → Result Verdict ReadFault → Type 0
+IsFoundIn common read_trace (Ok verdict) = (solution : Fields) × IsFile read_trace solution
+    × IsVerdictWith common.certificate None common.instance solution verdict × HasKnownBound verdict common.known_bound
     × (is_yes verdict ≡ true → IsAccepted common.certificate None common.instance solution (report_of common.instance verdict))
-IsFoundIn common turn (Err fault) = StopsAt fault turn × (fault ≢ read_faults.OutOfMemory)
+IsFoundIn common read_trace (Err fault) = StopsAt fault read_trace × (fault ≢ read_faults.OutOfMemory)
 
 -- Memory is refused for the solution: to read it, or to judge it, and then no reason applies that is found without.
-abbrev pub IsRefusedIn : Common → Turn → Type 0
-IsRefusedIn common turn = StopsAt read_faults.OutOfMemory turn
-    ⊎ ((solution : Fields) × IsFile turn solution × NoneBeforeRepeatsOn common.instance solution)
+abbrev pub IsRefusedIn : ComparisonContext → ReadTrace → Type 0
+IsRefusedIn common read_trace = StopsAt read_faults.OutOfMemory read_trace
+    ⊎ ((solution : Fields) × IsFile read_trace solution × NoneBeforeRepeatsOn common.instance solution)
 
 -- the verdict or the fault alone
 abbrev pub result_of : Found → Result Verdict ReadFault
@@ -64,10 +64,10 @@ result_of (founds.Solution verdict solution) = Ok verdict
 result_of (founds.Fault fault) = Err fault
 
 -- what is found, or that memory is refused
-abbrev pub Finds : Common → Turn → Result Found RunFault → Type 0
-Finds common turn (Ok found) = IsFoundIn common turn (result_of found)
-Finds common turn (Err OutOfMemory) = IsRefusedIn common turn
-Finds common turn (Err other) = ⊥
+abbrev pub Finds : ComparisonContext → ReadTrace → Result Found RunFault → Type 0
+Finds common read_trace (Ok found) = IsFoundIn common read_trace (result_of found)
+Finds common read_trace (Err OutOfMemory) = IsRefusedIn common read_trace
+Finds common read_trace (Err other) = ⊥
 
 -- the exit status of a check of that solution, which is its second file
 abbrev pub status_of_found : Result Verdict ReadFault → ℕ
@@ -75,24 +75,24 @@ status_of_found (Ok verdict) = status_of (Ok (is_yes verdict))
 status_of_found (Err fault) = status_of (Err (File 2 fault))
 
 -- the result for the solution at a place: its line was written, or a prefix of it, or memory is refused
-abbrev pub ComparesOne : (ℕ → Turn → Type 0) → List (List ℕ) → Common → ℕ → Sink → Result Found RunFault → Type 0
-ComparesOne IsTurn paths common place sink (Ok found) = (turn : Turn) × IsTurn place turn
-    × IsFoundIn common turn (result_of found)
+abbrev pub ComparesOne : (ℕ → ReadTrace → Type 0) → List (List ℕ) → ComparisonContext → ℕ → Sink → Result Found RunFault → Type 0
+ComparesOne IsReadTrace paths common place sink (Ok found) = (read_trace : ReadTrace) × IsReadTrace place read_trace
+    × IsFoundIn common read_trace (result_of found)
     × HasWritten sink (solution_line (result_of found) (slice_index_or paths place []))
-ComparesOne IsTurn paths common place sink (Err OutOfMemory) = ((turn : Turn) × IsTurn place turn × IsRefusedIn common turn)
+ComparesOne IsReadTrace paths common place sink (Err OutOfMemory) = ((read_trace : ReadTrace) × IsReadTrace place read_trace × IsRefusedIn common read_trace)
     × IsUnwritten sink
-ComparesOne IsTurn paths common place sink (Err (Write write_faults.Device)) = (turn : Turn) × IsTurn place turn
-    × ((found : Result Verdict ReadFault) × IsFoundIn common turn found
+ComparesOne IsReadTrace paths common place sink (Err (Write write_faults.Device)) = (read_trace : ReadTrace) × IsReadTrace place read_trace
+    × ((found : Result Verdict ReadFault) × IsFoundIn common read_trace found
     × HasStopped sink (solution_line found (slice_index_or paths place [])))
-ComparesOne IsTurn paths common place sink (Err other) = ⊥
+ComparesOne IsReadTrace paths common place sink (Err other) = ⊥
 
 -- ---- all solutions
 
 -- These were found, in order, of the solutions from this place on; each reader was opened for its place.
-abbrev pub AreFound : (ℕ → Turn → Type 0) → Common → ℕ → List (Result Verdict ReadFault) → Type 0
-AreFound IsTurn common place [] = Unit {0}
-AreFound IsTurn common place (found ∷ rest) = ((turn : Turn) × IsTurn place turn × IsFoundIn common turn found)
-    × AreFound IsTurn common (suc place) rest
+abbrev pub AreFound : (ℕ → ReadTrace → Type 0) → ComparisonContext → ℕ → List (Result Verdict ReadFault) → Type 0
+AreFound IsReadTrace common place [] = Unit {0}
+AreFound IsReadTrace common place (found ∷ rest) = ((read_trace : ReadTrace) × IsReadTrace place read_trace × IsFoundIn common read_trace found)
+    × AreFound IsReadTrace common (suc place) rest
 
 -- the lines of what was found, each with its solution's path
 abbrev pub all_solution_lines : List (Result Verdict ReadFault) → List (List ℕ) → List ℕ
@@ -108,17 +108,17 @@ largest_status (found ∷ rest) = max (status_of_found found) (largest_status re
 -- The result for the solutions with these paths; `before` is the text before their lines. Ok: the line of each was
 -- written, and the result is the largest status. OutOfMemory: the lines of the solutions before were written, and
 -- nothing else. Where the writer fails, a prefix of such a text was written.
-abbrev pub ComparesAll : (ℕ → Turn → Type 0) → List (List ℕ) → Common → List ℕ → Sink → Result ℕ RunFault → Type 0
-ComparesAll IsTurn paths common before sink (Ok status) = (found : List (Result Verdict ReadFault))
-    × AreFound IsTurn common 0 found × (length found ≡ length paths) × HasWritten sink (before ++ all_solution_lines found paths)
+abbrev pub ComparesAll : (ℕ → ReadTrace → Type 0) → List (List ℕ) → ComparisonContext → List ℕ → Sink → Result ℕ RunFault → Type 0
+ComparesAll IsReadTrace paths common before sink (Ok status) = (found : List (Result Verdict ReadFault))
+    × AreFound IsReadTrace common 0 found × (length found ≡ length paths) × HasWritten sink (before ++ all_solution_lines found paths)
     × (status ≡ largest_status found)
-ComparesAll IsTurn paths common before sink (Err OutOfMemory) = (found : List (Result Verdict ReadFault))
-    × AreFound IsTurn common 0 found × (length found < length paths)
-    × ((turn : Turn) × IsTurn (length found) turn × IsRefusedIn common turn)
+ComparesAll IsReadTrace paths common before sink (Err OutOfMemory) = (found : List (Result Verdict ReadFault))
+    × AreFound IsReadTrace common 0 found × (length found < length paths)
+    × ((read_trace : ReadTrace) × IsReadTrace (length found) read_trace × IsRefusedIn common read_trace)
     × HasWritten sink (before ++ all_solution_lines found paths)
-ComparesAll IsTurn paths common before sink (Err (Write write_faults.Device)) = (found : List (Result Verdict ReadFault))
-    × AreFound IsTurn common 0 found × (length found ≤ length paths) × HasStopped sink (before ++ all_solution_lines found paths)
-ComparesAll IsTurn paths common before sink (Err other) = ⊥
+ComparesAll IsReadTrace paths common before sink (Err (Write write_faults.Device)) = (found : List (Result Verdict ReadFault))
+    × AreFound IsReadTrace common 0 found × (length found ≤ length paths) × HasStopped sink (before ++ all_solution_lines found paths)
+ComparesAll IsReadTrace paths common before sink (Err other) = ⊥
 
 -- Where a reason applies whatever the solution, the head of the comparison is the whole text.
 abbrev pub ComparesNone : List ℕ → Sink → Result ℕ RunFault → Type 0
@@ -127,51 +127,51 @@ ComparesNone head sink (Err (Write write_faults.Device)) = HasStopped sink head
 ComparesNone head sink (Err other) = ⊥
 
 -- the result for all solutions: each is judged, or none is
-abbrev pub ComparesBy : Bool → (ℕ → Turn → Type 0) → List (List ℕ) → Common → Sink → Result ℕ RunFault → Type 0
-ComparesBy true IsTurn paths common sink ended =
-    ComparesAll IsTurn paths common (head_of common.instance common.basis) sink ended
-ComparesBy false IsTurn paths common sink ended = ComparesNone (head_of common.instance common.basis) sink ended
+abbrev pub ComparesBy : Bool → (ℕ → ReadTrace → Type 0) → List (List ℕ) → ComparisonContext → Sink → Result ℕ RunFault → Type 0
+ComparesBy true IsReadTrace paths common sink ended =
+    ComparesAll IsReadTrace paths common (head_of common.instance common.known_bound) sink ended
+ComparesBy false IsReadTrace paths common sink ended = ComparesNone (head_of common.instance common.known_bound) sink ended
 
 -- the same, where the basis is that of the instance and the certificate, with unknown keywords as a reason or not
-abbrev pub ComparesOn : Bool → (ℕ → Turn → Type 0) → List (List ℕ) → Common → Sink → Result ℕ RunFault → Type 0
-ComparesOn strict IsTurn paths common sink ended = IsBasisAsked strict common.certificate common.instance common.basis
-    × ComparesBy (is_clear common.basis) IsTurn paths common sink ended
+abbrev pub ComparesOn : Bool → (ℕ → ReadTrace → Type 0) → List (List ℕ) → ComparisonContext → Sink → Result ℕ RunFault → Type 0
+ComparesOn strict IsReadTrace paths common sink ended = IsKnownBoundAsked strict common.certificate common.instance common.known_bound
+    × ComparesBy (is_clear common.known_bound) IsReadTrace paths common sink ended
 
 -- ---- the run
 
 -- the instance is of a TYPE that isn't judged so, or memory is refused for the bound
-abbrev pub LacksBasis : Option (Certificate × Fields) → Fields → RunFault → Type 0
-LacksBasis certificate instance WrongKind = is_judged certificate instance.kind ≡ false
-LacksBasis certificate instance OutOfMemory = IsTrue (is_judged certificate instance.kind)
-    × NoneOfBasisWithoutMemory certificate instance
-LacksBasis certificate instance other = ⊥
+abbrev pub LacksKnownBound : Option (CertificateKind × Fields) → Fields → RunFault → Type 0
+LacksKnownBound certificate instance WrongKind = is_judged certificate instance.kind ≡ false
+LacksKnownBound certificate instance OutOfMemory = IsTrue (is_judged certificate instance.kind)
+    × NoneOfKnownBoundWithoutMemory certificate instance
+LacksKnownBound certificate instance other = ⊥
 
 -- the readers delivered this instance and this certificate, and the instance is one problem
-abbrev pub AreReadOnce : Given → Turn → Common → Type 0
+abbrev pub AreReadOnce : Given → ReadTrace → ComparisonContext → Type 0
 AreReadOnce given first common = IsFile first common.instance × IsFileIn given common.certificate × IsProblem common.instance
 
 -- the instance and the certificate were read, but have no basis, and nothing is written
-abbrev pub EndsLacking : Given → Turn → Sink → RunFault → Type 0
-EndsLacking given first sink fault = (instance : Fields) × (certificate : Option (Certificate × Fields))
-    × IsFile first instance × IsFileIn given certificate × LacksBasis certificate instance fault × IsUnwritten sink
+abbrev pub EndsLacking : Given → ReadTrace → Sink → RunFault → Type 0
+EndsLacking given first sink fault = (instance : Fields) × (certificate : Option (CertificateKind × Fields))
+    × IsFile first instance × IsFileIn given certificate × LacksKnownBound certificate instance fault × IsUnwritten sink
 
 -- why a comparison ends early: a file that isn't valid, no basis, or a solution at which memory or the writer failed
-abbrev pub EndsCompare : Bool → (ℕ → Turn → Type 0) → List (List ℕ) → Given → Turn → Sink → RunFault → Type 0
-EndsCompare strict IsTurn paths given first sink (File file fault) = IsUnwritten sink × IsFaultOfCompare given first file fault
-EndsCompare strict IsTurn paths given first sink fault = EndsLacking given first sink fault
-    ⊎ ((common : Common) × AreReadOnce given first common × ComparesOn strict IsTurn paths common sink (Err fault))
+abbrev pub EndsCompare : Bool → (ℕ → ReadTrace → Type 0) → List (List ℕ) → Given → ReadTrace → Sink → RunFault → Type 0
+EndsCompare strict IsReadTrace paths given first sink (File file fault) = IsUnwritten sink × IsFaultOfCompare given first file fault
+EndsCompare strict IsReadTrace paths given first sink fault = EndsLacking given first sink fault
+    ⊎ ((common : ComparisonContext) × AreReadOnce given first common × ComparesOn strict IsReadTrace paths common sink (Err fault))
 
 -- The result of a comparison of the solutions with these paths, each of a reader that was opened for its place.
-abbrev pub IsComparison : Bool → (ℕ → Turn → Type 0) → List (List ℕ) → Given → Turn → Sink → Result Compared RunFault → Type 0
-IsComparison strict IsTurn paths given first sink (Ok compared) = AreReadOnce given first compared.common
-    × ComparesOn strict IsTurn paths compared.common sink (Ok compared.status)
-IsComparison strict IsTurn paths given first sink (Err fault) = EndsCompare strict IsTurn paths given first sink fault
+abbrev pub IsComparison : Bool → (ℕ → ReadTrace → Type 0) → List (List ℕ) → Given → ReadTrace → Sink → Result Compared RunFault → Type 0
+IsComparison strict IsReadTrace paths given first sink (Ok compared) = AreReadOnce given first compared.common
+    × ComparesOn strict IsReadTrace paths compared.common sink (Ok compared.status)
+IsComparison strict IsReadTrace paths given first sink (Err fault) = EndsCompare strict IsReadTrace paths given first sink fault
 
 -- The same for readers of type R: what each has left, gives at a read, and is opened for.
 abbrev pub IsCompareRun : {R : Type 0} → Bool → (R → Option (List ℕ)) → (R → List ℕ → Result ℕ Error → List ℕ → R → Type 0)
-    → (ℕ → R → Type 0) → List (List ℕ) → Given → Turn → Sink → Result Compared RunFault → Type 0
+    → (ℕ → R → Type 0) → List (List ℕ) → Given → ReadTrace → Sink → Result Compared RunFault → Type 0
 IsCompareRun strict remaining gives opens paths given first sink result =
-    IsComparison strict (IsTurnAt remaining gives opens) paths given first sink result
+    IsComparison strict (IsReadTraceAt remaining gives opens) paths given first sink result
 
 -- ---- which lines of a comparison its follower gets while they are written
 
@@ -199,5 +199,5 @@ IsFollowedBy clear tells count old new (Err fault) = (reported : ℕ) × (report
 
 -- by the result of a comparison of as many solutions as this
 abbrev pub IsFollowed : {E : Type 0} → (ℕ → E → E → Type 0) → ℕ → E → E → Result Compared RunFault → Type 0
-IsFollowed tells count old new (Ok compared) = AreAllReported (is_clear compared.common.basis) tells count old new
+IsFollowed tells count old new (Ok compared) = AreAllReported (is_clear compared.common.known_bound) tells count old new
 IsFollowed tells count old new (Err fault) = (reported : ℕ) × (reported ≤ most_reported fault count) × AreReported tells reported old new

@@ -1,10 +1,10 @@
 -- Runs of `tsp show` and `tsp convert`, the meaning of `yes` over bytes, and a task done on its readers.
 use Rattle.std.specs.Prelude.{◌≡◌, Result, Ok, Err, Option, None, Some, ℕ, Bool, true, false, List, [], ℤ}
 use Rattle.std.specs.declared.io.Error.{Error}
-use Rattle.tsp_io.specs.Streams.{Turn, Sink, IsUnwritten, HasWritten, HasStopped, TakesAtMost}
+use Rattle.tsp_io.specs.Streams.{ReadTrace, Sink, IsUnwritten, HasWritten, HasStopped, TakesAtMost}
 use Rattle.tsp_io.specs.declared.piece.WriteFault.TheVariants as write_faults
 use Rattle.tsp_io.specs.declared.watched.Watched.{Watched}
-use Rattle.tsp_io.specs.states.Watched.{turn_of}
+use Rattle.tsp_io.specs.states.Watched.{read_trace_of}
 use Rattle.tsp_format.specs.declared.layout.Layout.{Layout}
 use Rattle.tsp_file.specs.CanonicalText.{text_of}
 use Rattle.tsp_file.specs.Fields.{Fields}
@@ -14,7 +14,7 @@ use Rattle.tsp_file.specs.declared.relayout.RelayoutFault.{RelayoutFault}
 use Rattle.tsp_read.specs.Reads.{IsFile, StopsAt, most_taken, IsReadOn}
 use Rattle.tsp_report.specs.Show.{shown}
 use Rattle.tsp_report.specs.Verdicts.{is_yes, is_bound_yes}
-use Rattle.tsp_report.specs.declared.task.Certificate.{Certificate}
+use Rattle.tsp_report.specs.declared.task.CertificateKind.{CertificateKind}
 use Rattle.tsp_report.specs.declared.task.Comparison.{Comparison}
 use Rattle.tsp_report.specs.declared.task.FileTask.{FileTask}
 use Rattle.tsp_report.specs.declared.task.FileTask.TheVariants.{Show, Convert, Check, Bound}
@@ -31,11 +31,11 @@ use Rattle.tsp_judge.specs.declared.explanation.Outcome.TheVariants as outcomes
 
 -- The result of `show`. Ok: all its lines were written. Where the file isn't valid, nothing is written. Memory may be
 -- lacking for reading; writing takes none. Where the writer fails, a prefix of the lines was written.
-abbrev pub IsShowRun : Turn → Sink → Result (Unit {0}) RunFault → Type 0
-IsShowRun turn sink (Ok done) = (file : Fields) × IsFile turn file × HasWritten sink (shown file)
-IsShowRun turn sink (Err (File place fault)) = (place ≡ 1) × StopsAt fault turn × IsUnwritten sink
-IsShowRun turn sink (Err (Write write_faults.Device)) = (file : Fields) × IsFile turn file × HasStopped sink (shown file)
-IsShowRun turn sink (Err other) = ⊥
+abbrev pub IsShowRun : ReadTrace → Sink → Result (Unit {0}) RunFault → Type 0
+IsShowRun read_trace sink (Ok done) = (file : Fields) × IsFile read_trace file × HasWritten sink (shown file)
+IsShowRun read_trace sink (Err (File place fault)) = (place ≡ 1) × StopsAt fault read_trace × IsUnwritten sink
+IsShowRun read_trace sink (Err (Write write_faults.Device)) = (file : Fields) × IsFile read_trace file × HasStopped sink (shown file)
+IsShowRun read_trace sink (Err other) = ⊥
 
 -- ---- a run of `tsp convert`
 
@@ -47,32 +47,32 @@ Becomes (Some to) old (Ok new) = IsRelaid old to new
 Becomes (Some to) old (Err fault) = IsRefused old to fault
 
 -- the reader's bytes parse to a file that becomes this one, and this one is valid
-pub record IsConverted (to : Option Layout) (turn : Turn) (new : Fields) : Type 0 where
+pub record IsConverted (to : Option Layout) (read_trace : ReadTrace) (new : Fields) : Type 0 where
   pub old : Fields
-  pub whole : IsFile turn old
+  pub whole : IsFile read_trace old
   pub becomes : Becomes to old (Ok new)
   pub valid : fault_of new ≡ None
 
 -- The result of a conversion. Ok: the canonical text of the new file was written. Where the file isn't valid, or can't
 -- have the layout, nothing is written. Memory may be lacking for reading, or for the layout; writing takes none. Where
 -- the writer fails, a prefix of the text was written.
-abbrev pub IsConvertRun : Option Layout → Turn → Sink → Result (Unit {0}) RunFault → Type 0
-IsConvertRun to turn sink (Ok done) = (new : Fields) × IsConverted to turn new × HasWritten sink (text_of new)
-IsConvertRun to turn sink (Err (File place fault)) = (place ≡ 1) × StopsAt fault turn × IsUnwritten sink
-IsConvertRun to turn sink (Err (Relayout fault)) =
-    (old : Fields) × IsFile turn old × Becomes to old (Err fault) × IsUnwritten sink
-IsConvertRun to turn sink (Err (Write write_faults.Device)) =
-    (new : Fields) × IsConverted to turn new × HasStopped sink (text_of new)
-IsConvertRun to turn sink (Err other) = ⊥
+abbrev pub IsConvertRun : Option Layout → ReadTrace → Sink → Result (Unit {0}) RunFault → Type 0
+IsConvertRun to read_trace sink (Ok done) = (new : Fields) × IsConverted to read_trace new × HasWritten sink (text_of new)
+IsConvertRun to read_trace sink (Err (File place fault)) = (place ≡ 1) × StopsAt fault read_trace × IsUnwritten sink
+IsConvertRun to read_trace sink (Err (Relayout fault)) =
+    (old : Fields) × IsFile read_trace old × Becomes to old (Err fault) × IsUnwritten sink
+IsConvertRun to read_trace sink (Err (Write write_faults.Device)) =
+    (new : Fields) × IsConverted to read_trace new × HasStopped sink (text_of new)
+IsConvertRun to read_trace sink (Err other) = ⊥
 
 -- ---- a run of `tsp check` with the meaning of its line `yes`, from the bytes read to the
 
 -- At `yes` the bytes that were read parse to these files, the whole report was written, and it means that the solution
 -- is accepted. Where unknown keywords are a reason, the instance has none.
-pub record SaysYes (given : Given) (claimed : Option ℤ) (strict : Bool) (first second : Turn) (sink : Sink) : Type 0 where
+pub record SaysYes (given : Given) (claimed : Option ℤ) (strict : Bool) (first second : ReadTrace) (sink : Sink) : Type 0 where
   pub instance : Fields
   pub solution : Fields
-  pub certificate : Option (Certificate × Fields)
+  pub certificate : Option (CertificateKind × Fields)
   pub report : List ℕ
   pub read : AreRead given first second instance solution certificate
   pub written : HasWritten sink report
@@ -80,20 +80,20 @@ pub record SaysYes (given : Given) (claimed : Option ℤ) (strict : Bool) (first
   pub all_judged : strict ≡ true → instance.others ≡ []
 
 -- the result of a check, which is whether the solution is accepted, and what its line `yes` means
-abbrev pub IsCheckOf : Given → Option ℤ → Bool → Turn → Turn → Sink → Result Bool RunFault → Type 0
+abbrev pub IsCheckOf : Given → Option ℤ → Bool → ReadTrace → ReadTrace → Sink → Result Bool RunFault → Type 0
 IsCheckOf given claimed strict first second sink result = IsCheckAnswer given claimed strict first second sink result
     × (result ≡ Ok true → SaysYes given claimed strict first second sink)
 
 -- a check without a certificate
-abbrev pub IsCheck : Turn → Turn → Sink → Result Bool RunFault → Type 0
+abbrev pub IsCheck : ReadTrace → ReadTrace → Sink → Result Bool RunFault → Type 0
 IsCheck first second sink result = IsCheckOf None None false first second sink result
 
 -- a check with a certificate, whose file is the third one
-abbrev pub IsCheckBy : Certificate → Turn → Turn → Turn → Sink → Result Bool RunFault → Type 0
+abbrev pub IsCheckBy : CertificateKind → ReadTrace → ReadTrace → ReadTrace → Sink → Result Bool RunFault → Type 0
 IsCheckBy by first second third sink result = IsCheckOf (Some (by, third)) None false first second sink result
 
 -- the same with the files and the verdict as the result
-abbrev pub IsRunOf : Given → Option ℤ → Bool → Turn → Turn → Sink → Result Judged RunFault → Type 0
+abbrev pub IsRunOf : Given → Option ℤ → Bool → ReadTrace → ReadTrace → Sink → Result Judged RunFault → Type 0
 IsRunOf given claimed strict first second sink result = IsRun given claimed strict first second sink result
     × IsCheckOf given claimed strict first second sink (acceptance result)
 
@@ -121,37 +121,37 @@ outcome_of_bound (Ok bounded) = Ok (outcomes.Bounded bounded)
 outcome_of_bound (Err fault) = Err fault
 
 -- Q of the certificate that is named and the turn of its reader, or of none
-abbrev pub TakesNamed : {R : Type 0} → (R → Option (List ℕ)) → Option (Certificate × Watched R) → Option (Certificate × Watched R)
+abbrev pub TakesNamed : {R : Type 0} → (R → Option (List ℕ)) → Option (CertificateKind × Watched R) → Option (CertificateKind × Watched R)
     → (Given → Type 0) → Type 0
 TakesNamed remaining None None Q = Q None
-TakesNamed remaining (Some named) (Some left) Q = TakesAtMost most_taken (turn_of remaining named.1 left.1)
-    (λ turn. Q (Some (named.0, turn)))
+TakesNamed remaining (Some named) (Some left) Q = TakesAtMost most_taken (read_trace_of remaining named.1 left.1)
+    (λ read_trace. Q (Some (named.0, read_trace)))
 TakesNamed remaining _ _ Q = ⊥
 
 -- The task is done on these readers. The first task has them as they were, the second one as they are left.
 abbrev pub IsDone : {R : Type 0} → (R → Option (List ℕ)) → FileTask (Watched R) → FileTask (Watched R) → Sink
     → Result Outcome RunFault → Type 0
-IsDone remaining (Show file) (Show left) sink outcome = TakesAtMost most_taken (turn_of remaining file left) (λ turn.
-    (ended : Result (Unit {0}) RunFault) × (outcome ≡ outcome_of_writing ended) × IsShowRun turn sink ended)
-IsDone remaining (Convert file to) (Convert left same) sink outcome = TakesAtMost most_taken (turn_of remaining file left)
-    (λ turn.
-    (ended : Result (Unit {0}) RunFault) × (outcome ≡ outcome_of_writing ended) × IsConvertRun to turn sink ended)
+IsDone remaining (Show file) (Show left) sink outcome = TakesAtMost most_taken (read_trace_of remaining file left) (λ read_trace.
+    (ended : Result (Unit {0}) RunFault) × (outcome ≡ outcome_of_writing ended) × IsShowRun read_trace sink ended)
+IsDone remaining (Convert file to) (Convert left same) sink outcome = TakesAtMost most_taken (read_trace_of remaining file left)
+    (λ read_trace.
+    (ended : Result (Unit {0}) RunFault) × (outcome ≡ outcome_of_writing ended) × IsConvertRun to read_trace sink ended)
 IsDone remaining (Check instance solution certificate claimed strict) (Check instance_left solution_left certificate_left same also)
     sink outcome =
-    TakesAtMost most_taken (turn_of remaining instance instance_left) (λ first.
-    TakesAtMost most_taken (turn_of remaining solution solution_left) (λ second.
+    TakesAtMost most_taken (read_trace_of remaining instance instance_left) (λ first.
+    TakesAtMost most_taken (read_trace_of remaining solution solution_left) (λ second.
     TakesNamed remaining certificate certificate_left (λ given.
     (ended : Result Judged RunFault) × (outcome ≡ outcome_of_check ended) × IsRunOf given claimed strict first second sink ended)))
 IsDone remaining (Bound instance certificate strict) (Bound instance_left certificate_left same) sink outcome =
-    TakesAtMost most_taken (turn_of remaining instance instance_left) (λ first.
-    TakesAtMost most_taken (turn_of remaining certificate.1 certificate_left.1) (λ second.
+    TakesAtMost most_taken (read_trace_of remaining instance instance_left) (λ first.
+    TakesAtMost most_taken (read_trace_of remaining certificate.1 certificate_left.1) (λ second.
     (ended : Result Bounded RunFault) × (outcome ≡ outcome_of_bound ended)
     × IsBoundRunOf certificate.0 strict first second sink ended))
 IsDone remaining _ _ sink outcome = ⊥
 
 -- Where a certificate is named, some reads were asked of its reader, which has failed where the last read has.
-abbrev pub IsNamedReadOn : {R : Type 0} → (R → List ℕ → Result ℕ Error → List ℕ → R → Type 0) → Option (Certificate × Watched R)
-    → Option (Certificate × Watched R) → Type 0
+abbrev pub IsNamedReadOn : {R : Type 0} → (R → List ℕ → Result ℕ Error → List ℕ → R → Type 0) → Option (CertificateKind × Watched R)
+    → Option (CertificateKind × Watched R) → Type 0
 IsNamedReadOn gives None None = Unit {0}
 IsNamedReadOn gives (Some named) (Some left) = IsReadOn gives named.1 left.1
 IsNamedReadOn gives _ _ = ⊥
@@ -177,6 +177,6 @@ AreComparedOn gives old new = IsReadOn gives old.instance new.instance × IsName
 -- The reader of each solution is one that opening its index gives.
 abbrev pub IsCompared : {R : Type 0} → (R → Option (List ℕ)) → (R → List ℕ → Result ℕ Error → List ℕ → R → Type 0)
     → (ℕ → R → Type 0) → List (List ℕ) → Comparison (Watched R) → Comparison (Watched R) → Sink → Result Compared RunFault → Type 0
-IsCompared remaining gives opens names old new sink answer = TakesAtMost most_taken (turn_of remaining old.instance new.instance)
+IsCompared remaining gives opens names old new sink answer = TakesAtMost most_taken (read_trace_of remaining old.instance new.instance)
     (λ first. TakesNamed remaining old.certificate new.certificate (λ given.
     IsCompareRun old.strict remaining gives opens names given first sink answer))

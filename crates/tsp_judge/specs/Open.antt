@@ -3,10 +3,10 @@
 use Rattle.std.specs.Prelude.{◌≡◌, ℕ, false, List, Option, None, Some, Result, Ok, Err, IsTrue, ℤ}
 use Rattle.tsp_file.specs.Fields.{Fields}
 use Rattle.tsp_file.specs.Rules.{is_instance}
-use Rattle.tsp_text.specs.Spells.{Spells}
+use Rattle.tsp_text.specs.ParsesTo.{ParsesTo}
 use Rattle.tsp_read.specs.Reads.{Reads}
 use Rattle.tsp_cost.specs.Problems.{IsProblem}
-use Rattle.tsp_report.specs.declared.task.Certificate.{Certificate}
+use Rattle.tsp_report.specs.declared.task.CertificateKind.{CertificateKind}
 use Rattle.tsp_report.specs.declared.verdict.BoundVerdict.{BoundVerdict}
 use Rattle.tsp_report.specs.declared.verdict.Verdict.{Verdict}
 use Rattle.tsp_verdict.specs.Certified.{IsBoundVerdict, NoneAgainstInstance, is_bounded, NoneWithoutMemory}
@@ -17,7 +17,7 @@ use Rattle.tsp_judge.specs.declared.run_status.RunFault.TheVariants.{File, Wrong
 -- an instance, and the certificate that is bound to it, where one is
 pub record Open : Type 0 where
   pub instance : Fields
-  pub certificate : Option (Certificate × Fields)
+  pub certificate : Option (CertificateKind × Fields)
 
 -- ---- a text, which has this number among those of a call
 
@@ -28,39 +28,39 @@ IsTextFault number text other = ⊥
 
 -- the text parses to this file, or has this fault
 abbrev pub ReadsText : ℕ → List ℕ → Result Fields RunFault → Type 0
-ReadsText number text (Ok file) = Spells text file
+ReadsText number text (Ok file) = ParsesTo text file
 ReadsText number text (Err fault) = IsTextFault number text fault
 
 -- ---- opening
 
 -- the text parses to this instance, and no certificate is bound to it
 pub record IsOpened (text : List ℕ) (opened : Open) : Type 0 where
-  pub spelled : Spells text opened.instance
+  pub spelled : ParsesTo text opened.instance
   pub of_type : IsTrue (is_instance opened.instance.kind)
   pub alone : opened.certificate ≡ None
 
 -- the text isn't valid, or is no instance
 abbrev pub IsUnopened : List ℕ → RunFault → Type 0
-IsUnopened text WrongKind = (file : Fields) × Spells text file × (is_instance file.kind ≡ false)
+IsUnopened text WrongKind = (file : Fields) × ParsesTo text file × (is_instance file.kind ≡ false)
 IsUnopened text fault = IsTextFault 1 text fault
 
 -- ---- binding a certificate
 
 -- the text parses to a certificate, which is now bound to the same instance; `found` is its bound, or the reason
 -- against it
-pub record IsBoundTo (by : Certificate) (text : List ℕ) (old new : Open) (found : BoundVerdict) : Type 0 where
+pub record IsBoundTo (by : CertificateKind) (text : List ℕ) (old new : Open) (found : BoundVerdict) : Type 0 where
   pub same : new.instance ≡ old.instance
   pub certificate : Fields
-  pub spelled : Spells text certificate
+  pub spelled : ParsesTo text certificate
   pub held : new.certificate ≡ Some (by, certificate)
   pub of_type : IsTrue (is_bounded by old.instance.kind)
   pub judged : IsBoundVerdict by old.instance certificate found
 
 -- The text isn't valid; or its certificate gives tours of the instance no bound; or memory was refused.
-abbrev pub IsUnbound : Certificate → List ℕ → Open → RunFault → Type 0
-IsUnbound by text opened WrongKind = (certificate : Fields) × Spells text certificate
+abbrev pub IsUnbound : CertificateKind → List ℕ → Open → RunFault → Type 0
+IsUnbound by text opened WrongKind = (certificate : Fields) × ParsesTo text certificate
     × (is_bounded by opened.instance.kind ≡ false)
-IsUnbound by text opened OutOfMemory = (certificate : Fields) × Spells text certificate
+IsUnbound by text opened OutOfMemory = (certificate : Fields) × ParsesTo text certificate
     × IsTrue (is_bounded by opened.instance.kind) × NoneAgainstInstance opened.instance
     × NoneWithoutMemory by opened.instance certificate
 IsUnbound by text opened fault = IsTextFault 2 text fault
@@ -70,12 +70,12 @@ IsUnbound by text opened fault = IsTextFault 2 text fault
 -- the verdict on the solution that the text parses to
 pub record IsHeldVerdict (text : List ℕ) (claimed : Option ℤ) (opened : Open) (verdict : Verdict) : Type 0 where
   pub solution : Fields
-  pub spelled : Spells text solution
+  pub spelled : ParsesTo text solution
   pub of_type : IsTrue (is_judged opened.certificate opened.instance.kind)
   pub judged : IsVerdictWith opened.certificate claimed opened.instance solution verdict
   pub problem : IsProblem opened.instance
 
 -- The text isn't valid; or memory was refused for the verdict.
 abbrev pub IsNotJudged : List ℕ → Open → RunFault → Type 0
-IsNotJudged text opened OutOfMemory = (solution : Fields) × Spells text solution × NoneBeforeRepeatsOn opened.instance solution
+IsNotJudged text opened OutOfMemory = (solution : Fields) × ParsesTo text solution × NoneBeforeRepeatsOn opened.instance solution
 IsNotJudged text opened fault = IsTextFault 2 text fault

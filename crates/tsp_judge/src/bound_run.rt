@@ -1,8 +1,8 @@
 //! The run of `tsp bound`, from the bytes read to the bytes written: a bound on the tours of an
 //! instance, without a solution.
 
-ghost use Rattle.tsp_io.specs.Streams.{Turn, TakesAtMost};
-ghost use Rattle.tsp_io.specs.states.Watched.{sink_of, turn_of};
+ghost use Rattle.tsp_io.specs.Streams.{ReadTrace, TakesAtMost};
+ghost use Rattle.tsp_io.specs.states.Watched.{sink_of, read_trace_of};
 ghost use Rattle.tsp_read.specs.Reads.{IsReadOn, IsFile, most_taken};
 ghost use Rattle.tsp_judge.specs.CheckRun.{BoundsFiles, IsBoundRunOf};
 ghost use Rattle.tsp_judge.specs.ConvertRun.{Becomes, IsConvertRun, IsShowRun};
@@ -16,7 +16,7 @@ use tsp_file::{File, RelayoutFault, write_file};
 use tsp_format::Layout;
 use tsp_io::{Gives, Watched};
 use tsp_report::{write_bound, write_shown};
-use tsp_verdict::{BoundVerdict, Certificate, is_bounded, judge_bound, strict_bound};
+use tsp_verdict::{BoundVerdict, CertificateKind, is_bounded, judge_bound, strict_bound};
 
 /// The files that a run has read, and the bound that it found.
 #[derive(Drop)]
@@ -51,13 +51,13 @@ pub struct Bounded {
 pub fn run_bound<I: Gives, C: Gives, W: Write>(
     alloc: Global,
     inst: &mut Watched<I>,
-    by: Certificate,
+    by: CertificateKind,
     cert: &mut Watched<C>,
     strict: bool,
     out: &mut Watched<W>,
 ) -> Result<Bounded, RunError>
-    ensures answer { TakesAtMost most_taken (turn_of I.remaining inst.old inst.new) (λ first.
-        TakesAtMost most_taken (turn_of C.remaining cert.old cert.new) (λ second.
+    ensures answer { TakesAtMost most_taken (read_trace_of I.remaining inst.old inst.new) (λ first.
+        TakesAtMost most_taken (read_trace_of C.remaining cert.old cert.new) (λ second.
         IsBoundRunOf by strict first second (sink_of W.contents out.old out.new) result)) }
     ensures asked { IsReadOn I.gives inst.old inst.new × IsReadOn C.gives cert.old cert.new }
 {
@@ -69,13 +69,13 @@ pub fn run_bound<I: Gives, C: Gives, W: Write>(
 /// The run on these files, or the fault of the first that is none, whatever readers they came from.
 fn bound_read<W: Write>(
     alloc: Global,
-    by: Certificate,
+    by: CertificateKind,
     instance: File,
     certificate: File,
     strict: bool,
     out: &mut Watched<W>,
 ) -> Result<Bounded, RunError>
-    ensures { (first second : Turn) → IsFile first instance → IsFile second certificate
+    ensures { (first second : ReadTrace) → IsFile first instance → IsFile second certificate
         → IsBoundRunOf by strict first second (sink_of W.contents out.old out.new) result }
 {
     let Ok(instance) = Instance::of(instance) else {
@@ -94,7 +94,7 @@ fn bound_read<W: Write>(
 /// Bounds the tours of an instance, and writes the report.
 fn bound_files<W: Write>(
     alloc: Global,
-    by: Certificate,
+    by: CertificateKind,
     instance: &Instance,
     certificate: &File,
     strict: bool,
@@ -127,8 +127,8 @@ pub fn show_file<R: Gives, W: Write>(
     r: &mut Watched<R>,
     out: &mut Watched<W>,
 ) -> Result<(), RunError>
-    ensures answer { TakesAtMost most_taken (turn_of R.remaining r.old r.new) (λ turn.
-        IsShowRun turn (sink_of W.contents out.old out.new) result) }
+    ensures answer { TakesAtMost most_taken (read_trace_of R.remaining r.old r.new) (λ read_trace.
+        IsShowRun read_trace (sink_of W.contents out.old out.new) result) }
     ensures asked { IsReadOn R.gives r.old r.new }
 {
     let file = read_file(alloc, 1, r)?;
@@ -151,8 +151,8 @@ pub fn convert_file<R: Gives, W: Write>(
     to: Option<Layout>,
     out: &mut Watched<W>,
 ) -> Result<(), RunError>
-    ensures answer { TakesAtMost most_taken (turn_of R.remaining r.old r.new) (λ turn.
-        IsConvertRun to turn (sink_of W.contents out.old out.new) result) }
+    ensures answer { TakesAtMost most_taken (read_trace_of R.remaining r.old r.new) (λ read_trace.
+        IsConvertRun to read_trace (sink_of W.contents out.old out.new) result) }
     ensures asked { IsReadOn R.gives r.old r.new }
 {
     let file = read_file(alloc, 1, r)?;

@@ -2,8 +2,8 @@
 //! judged.
 
 ghost use Rattle.std.specs.Prelude.{◌≡◌, None, option_map};
-ghost use Rattle.tsp_io.specs.Streams.{Turn, IsUnread, TakesAtMost};
-ghost use Rattle.tsp_io.specs.states.Watched.{sink_of, turn_of};
+ghost use Rattle.tsp_io.specs.Streams.{ReadTrace, IsUnread, TakesAtMost};
+ghost use Rattle.tsp_io.specs.states.Watched.{sink_of, read_trace_of};
 ghost use Rattle.tsp_read.specs.Reads.{IsReadOn, IsFile, most_taken};
 ghost use Rattle.tsp_verdict.specs.SolutionVerdict.{is_judged};
 ghost use Rattle.tsp_judge.specs.CheckRun.{Given, given_by, IsFileIn, ReadsGiven, JudgesFiles, ReadsFile};
@@ -17,7 +17,7 @@ use tsp_file::File;
 use tsp_io::{Gives, Watched};
 use tsp_read::file_of_reader;
 use tsp_report::write_report;
-use tsp_verdict::{Certificate, Verdict, is_bounded, judge, strict_verdict};
+use tsp_verdict::{CertificateKind, Verdict, is_bounded, judge, strict_verdict};
 
 /// Judges a solution of an instance, writes the report, and returns the verdict, with the files
 /// that were read.
@@ -42,15 +42,15 @@ pub fn run<I: Gives, S: Gives, C: Gives, W: Write>(
     alloc: Global,
     inst: &mut Watched<I>,
     sol: &mut Watched<S>,
-    by: Option<Certificate>,
+    by: Option<CertificateKind>,
     cert: &mut Watched<C>,
     claimed: Option<i64>,
     strict: bool,
     out: &mut Watched<W>,
 ) -> Result<Judged, RunError>
-    ensures answer { TakesAtMost most_taken (turn_of I.remaining inst.old inst.new) (λ first.
-        TakesAtMost most_taken (turn_of S.remaining sol.old sol.new) (λ second.
-        TakesAtMost most_taken (turn_of C.remaining cert.old cert.new) (λ third.
+    ensures answer { TakesAtMost most_taken (read_trace_of I.remaining inst.old inst.new) (λ first.
+        TakesAtMost most_taken (read_trace_of S.remaining sol.old sol.new) (λ second.
+        TakesAtMost most_taken (read_trace_of C.remaining cert.old cert.new) (λ third.
         (by ≡ None → IsUnread third)
         × IsRunOf (given_by by third) claimed strict first second (sink_of W.contents out.old out.new) result))) }
     ensures asked { IsReadOn I.gives inst.old inst.new × IsReadOn S.gives sol.old sol.new
@@ -66,10 +66,10 @@ pub fn run<I: Gives, S: Gives, C: Gives, W: Write>(
 pub(crate) fn read_certificate<C: Gives>(
     alloc: Global,
     number: u32,
-    by: Option<Certificate>,
+    by: Option<CertificateKind>,
     cert: &mut Watched<C>,
-) -> Result<Option<(Certificate, File)>, RunError>
-    ensures answer { TakesAtMost most_taken (turn_of C.remaining cert.old cert.new) (λ third.
+) -> Result<Option<(CertificateKind, File)>, RunError>
+    ensures answer { TakesAtMost most_taken (read_trace_of C.remaining cert.old cert.new) (λ third.
         (by ≡ None → IsUnread third) × ReadsGiven number (given_by by third) result) }
     ensures asked { IsReadOn C.gives cert.old cert.new }
 {
@@ -85,12 +85,12 @@ pub(crate) fn judge_read<W: Write>(
     alloc: Global,
     instance: File,
     solution: File,
-    certificate: Option<(Certificate, File)>,
+    certificate: Option<(CertificateKind, File)>,
     claimed: Option<i64>,
     strict: bool,
     out: &mut Watched<W>,
 ) -> Result<Judged, RunError>
-    ensures { (given : Given) (first second : Turn) → IsFile first instance → IsFile second solution
+    ensures { (given : Given) (first second : ReadTrace) → IsFile first instance → IsFile second solution
         → IsFileIn given certificate
         → IsRunOf given claimed strict first second (sink_of W.contents out.old out.new) result }
 {
@@ -128,7 +128,7 @@ pub struct Judged {
     /// The second file.
     pub solution: File,
     /// The third file, where a certificate was asked for.
-    pub certificate: Option<(Certificate, File)>,
+    pub certificate: Option<(CertificateKind, File)>,
 }
 
 /// Judges a solution of an instance, with a certificate or without, and writes the report.
@@ -136,7 +136,7 @@ fn judge_files<W: Write>(
     alloc: Global,
     instance: &Instance,
     solution: &File,
-    certificate: &Option<(Certificate, File)>,
+    certificate: &Option<(CertificateKind, File)>,
     claimed: Option<i64>,
     strict: bool,
     out: &mut Watched<W>,
@@ -157,7 +157,7 @@ fn judge_files<W: Write>(
 }
 
 /// Whether solutions of the instance are judged, with this certificate or with none.
-pub(crate) fn is_judged(certificate: &Option<(Certificate, File)>, instance: &Instance) -> bool
+pub(crate) fn is_judged(certificate: &Option<(CertificateKind, File)>, instance: &Instance) -> bool
     ensures { result ≡ is_judged certificate.now instance.now.kind }
 {
     let kind = instance.kind();
@@ -168,7 +168,9 @@ pub(crate) fn is_judged(certificate: &Option<(Certificate, File)>, instance: &In
 }
 
 /// The certificate, lent.
-pub(crate) fn lent(certificate: &Option<(Certificate, File)>) -> Option<(Certificate, &File)>
+pub(crate) fn lent(
+    certificate: &Option<(CertificateKind, File)>,
+) -> Option<(CertificateKind, &File)>
     ensures { option_map (λ given. (given.0, given.1.now)) result ≡ certificate.now }
 {
     match certificate {
@@ -189,8 +191,8 @@ pub(crate) fn read_file<R: Gives>(
     number: u32,
     reader: &mut Watched<R>,
 ) -> Result<File, RunError>
-    ensures answer { TakesAtMost most_taken (turn_of R.remaining reader.old reader.new) (λ turn.
-        ReadsFile number turn result) }
+    ensures answer { TakesAtMost most_taken (read_trace_of R.remaining reader.old reader.new) (λ read_trace.
+        ReadsFile number read_trace result) }
     ensures asked { IsReadOn R.gives reader.old reader.new }
 {
     match file_of_reader(alloc, reader) {

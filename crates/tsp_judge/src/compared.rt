@@ -2,14 +2,14 @@
 //! judged, and dropped.
 
 ghost use Rattle.std.specs.Prelude.{◌≡◌, ◌<◌, max, false, true, [], length, None, MatchResult, ℕ, List, slice_index_or};
-ghost use Rattle.tsp_io.specs.Streams.{Turn, IsUnread, TakesAtMost};
-ghost use Rattle.tsp_io.specs.states.Watched.{has_failed, sink_of, turn_of};
+ghost use Rattle.tsp_io.specs.Streams.{ReadTrace, IsUnread, TakesAtMost};
+ghost use Rattle.tsp_io.specs.states.Watched.{has_failed, sink_of, read_trace_of};
 ghost use Rattle.tsp_read.specs.Reads.{IsReadOn, IsFile, most_taken};
 ghost use Rattle.tsp_cost.specs.Problems.{IsProblem};
-ghost use Rattle.tsp_verdict.specs.SolutionVerdict.{IsBasis, IsBasisAsked};
+ghost use Rattle.tsp_verdict.specs.SolutionVerdict.{IsKnownBound, IsKnownBoundAsked};
 ghost use Rattle.tsp_report.specs.Verdicts.{is_clear};
 ghost use Rattle.tsp_judge.specs.CheckRun.{Given, given_by, IsFileIn};
-ghost use Rattle.tsp_judge.specs.CompareRun.{IsTurnAt, ComparesOne, ComparesAll, ComparesBy, IsCompareRun, LacksBasis, Finds, result_of, status_of_found, IsFollowedBy, IsFollowed};
+ghost use Rattle.tsp_judge.specs.CompareRun.{IsReadTraceAt, ComparesOne, ComparesAll, ComparesBy, IsCompareRun, LacksKnownBound, Finds, result_of, status_of_found, IsFollowedBy, IsFollowed};
 
 use crate::check::{is_judged, lent, read_certificate, read_file};
 use crate::run_status::{RunError, RunFault, Status, status_of};
@@ -20,13 +20,15 @@ use tsp_file::File;
 use tsp_io::{Gives, Watched};
 use tsp_read::{ReadFault, file_of_reader};
 use tsp_report::{write_head, write_line};
-use tsp_verdict::{Basis, Certificate, Verdict, judge_basis, judge_next, strict_basis};
+use tsp_verdict::{
+    CertificateKind, KnownBound, Verdict, judge_known_bound, judge_next, strict_known_bound,
+};
 
 /// What a comparison came to.
 #[derive(Drop)]
 pub struct Compared {
     /// What the solutions were judged by. Where its basis is a reason, none was opened.
-    pub common: Common,
+    pub common: ComparisonContext,
     /// The exit status: the largest of those of the solutions.
     pub status: u8,
 }
@@ -56,15 +58,15 @@ pub struct Compared {
 pub fn run_compare<I: Gives, C: Gives, R: Gives + Drop, E, S: Solutions<R> + Follow<E>, W: Write>(
     alloc: Global,
     inst: &mut Watched<I>,
-    by: Option<Certificate>,
+    by: Option<CertificateKind>,
     cert: &mut Watched<C>,
     solutions: &S,
     strict: bool,
     out: &mut Watched<W>,
     to: &mut E,
 ) -> Result<Compared, RunError>
-    ensures text { TakesAtMost most_taken (turn_of I.remaining inst.old inst.new) (λ first.
-        TakesAtMost most_taken (turn_of C.remaining cert.old cert.new) (λ second.
+    ensures text { TakesAtMost most_taken (read_trace_of I.remaining inst.old inst.new) (λ first.
+        TakesAtMost most_taken (read_trace_of C.remaining cert.old cert.new) (λ second.
         (by ≡ None → IsUnread second)
         × IsCompareRun strict R.remaining R.gives (S.opens solutions.now) (S.names solutions.now) (given_by by second) first
         (sink_of W.contents out.old out.new) result)) }
@@ -80,13 +82,13 @@ pub fn run_compare<I: Gives, C: Gives, R: Gives + Drop, E, S: Solutions<R> + Fol
 pub(crate) fn compare_read<R: Gives + Drop, E, S: Solutions<R> + Follow<E>, W: Write>(
     alloc: Global,
     instance: File,
-    certificate: Option<(Certificate, File)>,
+    certificate: Option<(CertificateKind, File)>,
     solutions: &S,
     strict: bool,
     out: &mut Watched<W>,
     to: &mut E,
 ) -> Result<Compared, RunError>
-    ensures text { (given : Given) (first : Turn) → IsFile first instance → IsFileIn given certificate
+    ensures text { (given : Given) (first : ReadTrace) → IsFile first instance → IsFileIn given certificate
         → IsCompareRun strict R.remaining R.gives (S.opens solutions.now) (S.names solutions.now) given first
         (sink_of W.contents out.old out.new) result }
     ensures reported { IsFollowed (S.tells solutions.now) (length (S.names solutions.now)) to.old to.new result }
@@ -94,7 +96,7 @@ pub(crate) fn compare_read<R: Gives + Drop, E, S: Solutions<R> + Follow<E>, W: W
     let Ok(instance) = Instance::of(instance) else {
         return Err(RunError::wrong_kind());
     };
-    let common = common_of(alloc, instance, certificate, strict)?;
+    let common = comparison_context_of(alloc, instance, certificate, strict)?;
     match compare_with(alloc, &common, solutions, out, to) {
         Ok(status) => Ok(Compared { common, status }),
         Err(error) => Err(error),
@@ -104,24 +106,24 @@ pub(crate) fn compare_read<R: Gives + Drop, E, S: Solutions<R> + Follow<E>, W: W
 /// Writes the head, and compares the solutions where no reason applies to all of them.
 fn compare_with<R: Gives + Drop, E, S: Solutions<R> + Follow<E>, W: Write>(
     alloc: Global,
-    common: &Common,
+    common: &ComparisonContext,
     solutions: &S,
     out: &mut Watched<W>,
     to: &mut E,
 ) -> Result<u8, RunError>
-    requires basis { is_clear common.now.basis ≡ true
-        → IsBasis common.now.certificate common.now.instance common.now.basis }
+    requires known_bound { is_clear common.now.known_bound ≡ true
+        → IsKnownBound common.now.certificate common.now.instance common.now.known_bound }
     requires problem { IsProblem common.now.instance }
-    ensures text { ComparesBy (is_clear common.now.basis) (IsTurnAt R.remaining R.gives (S.opens solutions.now))
+    ensures text { ComparesBy (is_clear common.now.known_bound) (IsReadTraceAt R.remaining R.gives (S.opens solutions.now))
         (S.names solutions.now) common.now (sink_of W.contents out.old out.new) result }
-    ensures reported { IsFollowedBy (is_clear common.now.basis) (S.tells solutions.now) (length (S.names solutions.now))
+    ensures reported { IsFollowedBy (is_clear common.now.known_bound) (S.tells solutions.now) (length (S.names solutions.now))
         to.old to.new result }
 {
-    match write_head(common.instance.file(), common.basis, out) {
+    match write_head(common.instance.file(), common.known_bound, out) {
         Ok(()) => {}
         Err(fault) => return Err(RunError::unwritten(fault)),
     }
-    if !common.basis.is_clear() {
+    if !common.known_bound.is_clear() {
         return Ok(Status::No as u8);
     }
     compare_all(alloc, common, solutions, out, to)
@@ -130,15 +132,15 @@ fn compare_with<R: Gives + Drop, E, S: Solutions<R> + Follow<E>, W: Write>(
 /// Compares all solutions, in order.
 fn compare_all<R: Gives + Drop, E, S: Solutions<R> + Follow<E>, W: Write>(
     alloc: Global,
-    common: &Common,
+    common: &ComparisonContext,
     solutions: &S,
     out: &mut Watched<W>,
     to: &mut E,
 ) -> Result<u8, RunError>
-    requires basis { IsBasis common.now.certificate common.now.instance common.now.basis }
+    requires known_bound { IsKnownBound common.now.certificate common.now.instance common.now.known_bound }
     requires problem { IsProblem common.now.instance }
     requires sound { has_failed out.old ≡ false }
-    ensures text { ComparesAll (IsTurnAt R.remaining R.gives (S.opens solutions.now)) (S.names solutions.now) common.now []
+    ensures text { ComparesAll (IsReadTraceAt R.remaining R.gives (S.opens solutions.now)) (S.names solutions.now) common.now []
         (sink_of W.contents out.old out.new) result }
     ensures reported { IsFollowedBy true (S.tells solutions.now) (length (S.names solutions.now)) to.old to.new result }
 {
@@ -161,15 +163,15 @@ fn larger(a: u8, b: u8) -> u8
 /// Opens a solution, reads and judges it, and writes its line.
 fn compare_one<R: Gives + Drop, S: Solutions<R>, W: Write>(
     alloc: Global,
-    common: &Common,
+    common: &ComparisonContext,
     solutions: &S,
     index: usize,
     out: &mut Watched<W>,
 ) -> Result<Found, RunError>
-    requires basis { IsBasis common.now.certificate common.now.instance common.now.basis }
+    requires known_bound { IsKnownBound common.now.certificate common.now.instance common.now.known_bound }
     requires problem { IsProblem common.now.instance }
     requires index { index < length (S.names solutions.now) }
-    ensures { ComparesOne (IsTurnAt R.remaining R.gives (S.opens solutions.now)) (S.names solutions.now) common.now index
+    ensures { ComparesOne (IsReadTraceAt R.remaining R.gives (S.opens solutions.now)) (S.names solutions.now) common.now index
         (sink_of W.contents out.old out.new) result }
 {
     let mut reader = Watched::new(solutions.open(index));
@@ -184,14 +186,14 @@ fn compare_one<R: Gives + Drop, S: Solutions<R>, W: Write>(
 
 /// The files that all solutions of a comparison are judged by, and the basis that these give.
 #[derive(Drop)]
-pub struct Common {
+pub struct ComparisonContext {
     /// What all of them have in common, found before any is read: the bound of the certificate, the
     /// least number of routes, or the reason for which none is opened.
-    pub basis: Basis,
+    pub known_bound: KnownBound,
     /// The first file.
     pub instance: Instance,
     /// The second file, where a certificate was asked for.
-    pub certificate: Option<(Certificate, File)>,
+    pub certificate: Option<(CertificateKind, File)>,
 }
 
 /// The verdict on one solution, or the fault of its file.
@@ -231,23 +233,23 @@ fn status_of_found(found: Result<Verdict, ReadFault>) -> u8
 /// # Errors
 ///
 /// `WrongKind` where the solutions aren't judged so, and `OutOfMemory`.
-fn common_of(
+fn comparison_context_of(
     alloc: Global,
     instance: Instance,
-    certificate: Option<(Certificate, File)>,
+    certificate: Option<(CertificateKind, File)>,
     strict: bool,
-) -> Result<Common, RunError>
+) -> Result<ComparisonContext, RunError>
     ensures { MatchResult result
         (λ common. (common.instance ≡ instance) × (common.certificate ≡ certificate)
-        × IsBasisAsked strict common.certificate common.instance common.basis)
-        (λ fault. LacksBasis certificate instance fault) }
+        × IsKnownBoundAsked strict common.certificate common.instance common.known_bound)
+        (λ fault. LacksKnownBound certificate instance fault) }
 {
     if !is_judged(&certificate, &instance) {
         return Err(RunError::wrong_kind());
     }
-    match judge_basis(alloc, &instance, lent(&certificate)) {
-        Ok(plain) => Ok(Common {
-            basis: strict_basis(strict, &instance, plain),
+    match judge_known_bound(alloc, &instance, lent(&certificate)) {
+        Ok(plain) => Ok(ComparisonContext {
+            known_bound: strict_known_bound(strict, &instance, plain),
             instance,
             certificate,
         }),
@@ -262,12 +264,12 @@ fn common_of(
 /// `OutOfMemory`, to read it or to judge it.
 fn find<R: Gives>(
     alloc: Global,
-    common: &Common,
+    common: &ComparisonContext,
     reader: &mut Watched<R>,
 ) -> Result<Found, RunError>
-    requires basis { IsBasis common.now.certificate common.now.instance common.now.basis }
+    requires known_bound { IsKnownBound common.now.certificate common.now.instance common.now.known_bound }
     requires problem { IsProblem common.now.instance }
-    ensures found { TakesAtMost most_taken (turn_of R.remaining reader.old reader.new) (λ turn. Finds common.now turn result) }
+    ensures found { TakesAtMost most_taken (read_trace_of R.remaining reader.old reader.new) (λ read_trace. Finds common.now read_trace result) }
     ensures asked { IsReadOn R.gives reader.old reader.new }
 {
     let solution = match file_of_reader(alloc, reader) {
@@ -279,7 +281,7 @@ fn find<R: Gives>(
             };
         }
     };
-    match judge_next(alloc, &common.instance, common.basis, &solution, None) {
+    match judge_next(alloc, &common.instance, common.known_bound, &solution, None) {
         Ok(verdict) => Ok(Found::Solution { verdict, solution }),
         Err(refused) => Err(RunError::refused(refused)),
     }
@@ -317,6 +319,6 @@ pub trait Follow<E> {
     ghost tells: { Self → ℕ → E → E → Type 0 };
 
     /// Tells of the line of the solution at a place, counted from 0, which was written.
-    fn written(&self, to: &mut E, common: &Common, index: usize, found: &Found)
+    fn written(&self, to: &mut E, common: &ComparisonContext, index: usize, found: &Found)
         ensures { tells self.now index to.old to.new };
 }

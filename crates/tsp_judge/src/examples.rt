@@ -4,7 +4,7 @@
 ghost use Rattle.std.specs.Prelude.{◌≡◌, ℕ, List, [], ◌∷◌, true, false, None, Some, Ok, Err, pos, codes, ◌++◌, Bool, Option, ℤ, decimal, Result};
 ghost use Rattle.tsp_format.specs.declared.kinds.Kind.TheVariants as kinds;
 ghost use Rattle.tsp_format.specs.declared.layout.Layout.{Layout};
-ghost use Rattle.tsp_io.specs.Streams.{Sink, HasWritten, IsUnwritten, Turn, IsUnread, TakesAtMost};
+ghost use Rattle.tsp_io.specs.Streams.{Sink, HasWritten, IsUnwritten, ReadTrace, IsUnread, TakesAtMost};
 ghost use Rattle.tsp_io.specs.declared.piece.WriteFault.TheVariants as write_faults;
 ghost use Rattle.tsp_file.specs.Fields.{Fields};
 ghost use Rattle.tsp_file.specs.declared.relayout.RelayoutFault.{RelayoutFault};
@@ -15,19 +15,19 @@ ghost use Rattle.tsp_read.specs.declared.ReadFault.TheVariants as read_faults;
 ghost use Rattle.tsp_verdict.specs.Certified.{kind_of, is_bounded};
 ghost use Rattle.tsp_verdict.specs.Examples.{instance_with};
 ghost use Rattle.tsp_report.specs.Verdicts.{is_bound_yes, is_clear, is_yes};
-ghost use Rattle.tsp_report.specs.declared.task.Certificate.{Certificate};
-ghost use Rattle.tsp_report.specs.declared.task.Certificate.TheVariants as certificates;
+ghost use Rattle.tsp_report.specs.declared.task.CertificateKind.{CertificateKind};
+ghost use Rattle.tsp_report.specs.declared.task.CertificateKind.TheVariants as certificates;
 ghost use Rattle.tsp_report.specs.declared.task.Comparison.{Comparison};
 ghost use Rattle.tsp_report.specs.declared.task.FileTask.TheVariants as file_tasks;
-ghost use Rattle.tsp_report.specs.declared.verdict.Basis.TheVariants as bases;
+ghost use Rattle.tsp_report.specs.declared.verdict.KnownBound.TheVariants as known_bounds;
 ghost use Rattle.tsp_report.specs.declared.verdict.BoundVerdict.TheVariants as bounds;
 ghost use Rattle.tsp_report.specs.declared.verdict.Reason.{Reason};
 ghost use Rattle.tsp_report.specs.declared.verdict.Reason.TheVariants as reasons;
 ghost use Rattle.tsp_report.specs.declared.verdict.Verdict.TheVariants as verdicts;
 ghost use Rattle.tsp_judge.specs.CheckRun.{IsBoundRun, BoundsFiles, IsBoundRunOf, Given, IsUnreadIn, IsSomeFile, IsRun, JudgesFiles, run_fault_text, status_number};
-ghost use Rattle.tsp_judge.specs.CompareRun.{ComparesNone, IsFaultOfCompare, IsTurnAt, largest_status, all_solution_lines};
+ghost use Rattle.tsp_judge.specs.CompareRun.{ComparesNone, IsFaultOfCompare, IsReadTraceAt, largest_status, all_solution_lines};
 ghost use Rattle.tsp_judge.specs.ConvertRun.{IsConvertRun, AreComparedOn, AreReadOn, IsCompared, IsDone, is_yes_outcome, outcome_of_bound, outcome_of_check, IsShowRun, IsRunOf};
-ghost use Rattle.tsp_io.specs.states.Watched.{turn_of};
+ghost use Rattle.tsp_io.specs.states.Watched.{read_trace_of};
 ghost use Rattle.tsp_io.specs.declared.watched.Watched.{Watched};
 ghost use Rattle.tsp_judge.specs.declared.bound_run.Bounded.{Bounded};
 ghost use Rattle.tsp_judge.specs.declared.check.Judged.{Judged};
@@ -51,18 +51,18 @@ pub fn examples_of_largest_statuses()
 
 /// Which verdicts accept, and after which bases solutions are judged one by one: all but a reason,
 /// which ends the text, and the status is 1 then.
-pub fn examples_of_bases()
+pub fn examples_of_known_bounds()
     ensures tour { is_yes (verdicts.Tour (pos 14) None) ≡ true }
     ensures routes { is_yes (verdicts.Routes (pos 20) 3 2 None) ≡ true }
     ensures rejected { is_yes (verdicts.No reasons.TourCount) ≡ false }
     ensures bounded { is_bound_yes (bounds.Bound (pos 12)) ≡ true }
     ensures without_tours { is_bound_yes bounds.NoSolution ≡ true }
     ensures unbounded { is_bound_yes (bounds.No reasons.TooFewNodes) ≡ false }
-    ensures clear { is_clear (bases.Tours None) ≡ true }
-    ensures clear_by_a_bound { is_clear (bases.Tours (Some (pos 12))) ≡ true }
-    ensures clear_without_tours { is_clear bases.NoSolution ≡ true }
-    ensures clear_for_routes { is_clear (bases.Routes 2 None) ≡ true }
-    ensures reason { is_clear (bases.No reasons.TooFewNodes) ≡ false }
+    ensures clear { is_clear (known_bounds.Tours None) ≡ true }
+    ensures clear_by_a_bound { is_clear (known_bounds.Tours (Some (pos 12))) ≡ true }
+    ensures clear_without_tours { is_clear known_bounds.NoSolution ≡ true }
+    ensures clear_for_routes { is_clear (known_bounds.Routes 2 None) ≡ true }
+    ensures reason { is_clear (known_bounds.No reasons.TooFewNodes) ≡ false }
     ensures status { (head : List ℕ) (sink : Sink) → HasWritten sink head → ComparesNone head sink (Ok 1) }
     ensures no_other_status { (head : List ℕ) (sink : Sink) → ¬ ComparesNone head sink (Ok 2) }
 {}
@@ -79,23 +79,23 @@ pub fn examples_of_lines_of_solutions()
 
 /// Which file a fault is of: the first that is none. The certificate is the second one.
 pub fn examples_of_faulty_files_of_comparisons()
-    ensures first { (given : Given) (fault : ReadFault) (first : Turn) → StopsAt fault first → IsUnreadIn given
+    ensures first { (given : Given) (fault : ReadFault) (first : ReadTrace) → StopsAt fault first → IsUnreadIn given
         → IsFaultOfCompare given first 1 fault }
-    ensures second { (by : Certificate) (fault : ReadFault) (first second : Turn) → IsSomeFile first
+    ensures second { (by : CertificateKind) (fault : ReadFault) (first second : ReadTrace) → IsSomeFile first
         → StopsAt fault second → IsFaultOfCompare (Some (by, second)) first 2 fault }
-    ensures no_second { (fault : ReadFault) (first : Turn) → ¬ IsFaultOfCompare None first 2 fault }
-    ensures no_third { (given : Given) (fault : ReadFault) (first : Turn) → ¬ IsFaultOfCompare given first 3 fault }
+    ensures no_second { (fault : ReadFault) (first : ReadTrace) → ¬ IsFaultOfCompare None first 2 fault }
+    ensures no_third { (given : Given) (fault : ReadFault) (first : ReadTrace) → ¬ IsFaultOfCompare given first 3 fault }
 {}
 
 /// Each solution is read from the reader that is opened for its place. Here that of place k holds
 /// the byte k.
 pub fn examples_of_opened_solutions()
-    ensures first { (turn : Turn)
-        → IsTurnAt (λ reader. Some (reader ∷ [])) (λ reader room given left after. reader ≡ after)
-        (λ place reader. reader ≡ place) 0 turn → turn.known ≡ Some (0 ∷ []) }
-    ensures second { (turn : Turn)
-        → IsTurnAt (λ reader. Some (reader ∷ [])) (λ reader room given left after. reader ≡ after)
-        (λ place reader. reader ≡ place) 1 turn → turn.known ≡ Some (1 ∷ []) }
+    ensures first { (read_trace : ReadTrace)
+        → IsReadTraceAt (λ reader. Some (reader ∷ [])) (λ reader room given left after. reader ≡ after)
+        (λ place reader. reader ≡ place) 0 read_trace → read_trace.known ≡ Some (0 ∷ []) }
+    ensures second { (read_trace : ReadTrace)
+        → IsReadTraceAt (λ reader. Some (reader ∷ [])) (λ reader room given left after. reader ≡ after)
+        (λ place reader. reader ≡ place) 1 read_trace → read_trace.known ≡ Some (1 ∷ []) }
 {}
 
 /// Which verdicts are accepted.
@@ -145,48 +145,48 @@ pub fn examples_of_fault_texts()
 /// Which file a fault of a check is of, with a certificate or without: the first that is none, and
 /// no later one is read.
 pub fn examples_of_faulty_files()
-    ensures first { (given : Given) (claimed : Option ℤ) (strict : Bool) (fault : ReadFault) (first second : Turn) (sink : Sink)
+    ensures first { (given : Given) (claimed : Option ℤ) (strict : Bool) (fault : ReadFault) (first second : ReadTrace) (sink : Sink)
         → IsUnwritten sink → StopsAt fault first → IsUnread second → IsUnreadIn given
         → IsRun given claimed strict first second sink (Err (run_faults.File 1 fault)) }
-    ensures second { (given : Given) (claimed : Option ℤ) (strict : Bool) (fault : ReadFault) (first second : Turn) (sink : Sink)
+    ensures second { (given : Given) (claimed : Option ℤ) (strict : Bool) (fault : ReadFault) (first second : ReadTrace) (sink : Sink)
         → IsUnwritten sink → IsSomeFile first → StopsAt fault second → IsUnreadIn given
         → IsRun given claimed strict first second sink (Err (run_faults.File 2 fault)) }
-    ensures third { (by : Certificate) (claimed : Option ℤ) (strict : Bool) (fault : ReadFault) (first second third : Turn) (sink : Sink)
+    ensures third { (by : CertificateKind) (claimed : Option ℤ) (strict : Bool) (fault : ReadFault) (first second third : ReadTrace) (sink : Sink)
         → IsUnwritten sink → IsSomeFile first → IsSomeFile second → StopsAt fault third
         → IsRun (Some (by, third)) claimed strict first second sink (Err (run_faults.File 3 fault)) }
-    ensures unread { (given : Given) (claimed : Option ℤ) (strict : Bool) (fault : ReadFault) (first second : Turn) (sink : Sink)
+    ensures unread { (given : Given) (claimed : Option ℤ) (strict : Bool) (fault : ReadFault) (first second : ReadTrace) (sink : Sink)
         → IsRun given claimed strict first second sink (Err (run_faults.File 2 fault)) → StopsAt fault second × IsUnreadIn given }
-    ensures no_third { (claimed : Option ℤ) (strict : Bool) (fault : ReadFault) (first second : Turn) (sink : Sink)
+    ensures no_third { (claimed : Option ℤ) (strict : Bool) (fault : ReadFault) (first second : ReadTrace) (sink : Sink)
         → ¬ IsRun None claimed strict first second sink (Err (run_faults.File 3 fault)) }
-    ensures no_fourth { (given : Given) (claimed : Option ℤ) (strict : Bool) (fault : ReadFault) (first second : Turn) (sink : Sink)
+    ensures no_fourth { (given : Given) (claimed : Option ℤ) (strict : Bool) (fault : ReadFault) (first second : ReadTrace) (sink : Sink)
         → ¬ IsRun given claimed strict first second sink (Err (run_faults.File 4 fault)) }
-    ensures no_other { (given : Given) (claimed : Option ℤ) (strict : Bool) (fault : ReadFault) (first second : Turn) (sink : Sink)
+    ensures no_other { (given : Given) (claimed : Option ℤ) (strict : Bool) (fault : ReadFault) (first second : ReadTrace) (sink : Sink)
         → ¬ IsRun given claimed strict first second sink (Err (run_faults.File 0 fault)) }
 {}
 
 /// Which file a fault of a bound is of. The certificate is the second file.
 pub fn examples_of_faulty_files_of_bounds()
-    ensures first { (by : Certificate) (strict : Bool) (fault : ReadFault) (first second : Turn) (sink : Sink) → IsUnwritten sink
+    ensures first { (by : CertificateKind) (strict : Bool) (fault : ReadFault) (first second : ReadTrace) (sink : Sink) → IsUnwritten sink
         → StopsAt fault first → IsUnread second → IsBoundRun by strict first second sink (Err (run_faults.File 1 fault)) }
-    ensures second { (by : Certificate) (strict : Bool) (fault : ReadFault) (first second : Turn) (sink : Sink) → IsUnwritten sink
+    ensures second { (by : CertificateKind) (strict : Bool) (fault : ReadFault) (first second : ReadTrace) (sink : Sink) → IsUnwritten sink
         → IsSomeFile first → StopsAt fault second → IsBoundRun by strict first second sink (Err (run_faults.File 2 fault)) }
-    ensures no_third { (by : Certificate) (strict : Bool) (fault : ReadFault) (first second : Turn) (sink : Sink)
+    ensures no_third { (by : CertificateKind) (strict : Bool) (fault : ReadFault) (first second : ReadTrace) (sink : Sink)
         → ¬ IsBoundRun by strict first second sink (Err (run_faults.File 3 fault)) }
 {}
 
 /// A fault of the one file of `show` and of `convert` is of file 1, and no kind is wrong there.
 pub fn examples_of_runs_over_one_file()
-    ensures shown { (fault : ReadFault) (turn : Turn) (sink : Sink) → StopsAt fault turn → IsUnwritten sink
-        → IsShowRun turn sink (Err (run_faults.File 1 fault)) }
-    ensures shown_second { (fault : ReadFault) (turn : Turn) (sink : Sink)
-        → ¬ IsShowRun turn sink (Err (run_faults.File 2 fault)) }
-    ensures shown_kind { (turn : Turn) (sink : Sink) → ¬ IsShowRun turn sink (Err run_faults.WrongKind) }
-    ensures converted { (to : Option Layout) (fault : ReadFault) (turn : Turn) (sink : Sink) → StopsAt fault turn
-        → IsUnwritten sink → IsConvertRun to turn sink (Err (run_faults.File 1 fault)) }
-    ensures converted_second { (to : Option Layout) (fault : ReadFault) (turn : Turn) (sink : Sink)
-        → ¬ IsConvertRun to turn sink (Err (run_faults.File 2 fault)) }
-    ensures converted_kind { (to : Option Layout) (turn : Turn) (sink : Sink)
-        → ¬ IsConvertRun to turn sink (Err run_faults.WrongKind) }
+    ensures shown { (fault : ReadFault) (read_trace : ReadTrace) (sink : Sink) → StopsAt fault read_trace → IsUnwritten sink
+        → IsShowRun read_trace sink (Err (run_faults.File 1 fault)) }
+    ensures shown_second { (fault : ReadFault) (read_trace : ReadTrace) (sink : Sink)
+        → ¬ IsShowRun read_trace sink (Err (run_faults.File 2 fault)) }
+    ensures shown_kind { (read_trace : ReadTrace) (sink : Sink) → ¬ IsShowRun read_trace sink (Err run_faults.WrongKind) }
+    ensures converted { (to : Option Layout) (fault : ReadFault) (read_trace : ReadTrace) (sink : Sink) → StopsAt fault read_trace
+        → IsUnwritten sink → IsConvertRun to read_trace sink (Err (run_faults.File 1 fault)) }
+    ensures converted_second { (to : Option Layout) (fault : ReadFault) (read_trace : ReadTrace) (sink : Sink)
+        → ¬ IsConvertRun to read_trace sink (Err (run_faults.File 2 fault)) }
+    ensures converted_kind { (to : Option Layout) (read_trace : ReadTrace) (sink : Sink)
+        → ¬ IsConvertRun to read_trace sink (Err run_faults.WrongKind) }
 {}
 
 /// A first file that can't be judged is of the wrong kind, which is no reason of a line `no`. One
@@ -233,19 +233,19 @@ pub fn examples_of_done_tasks<R: Read>()
         (outcome : Result Outcome RunFault)
         → IsDone R.remaining (file_tasks.Check instance solution None claimed strict)
         (file_tasks.Check instance_left solution_left None claimed strict) sink outcome
-        → (first second : Turn) × (ended : Result Judged RunFault) × (outcome ≡ outcome_of_check ended)
+        → (first second : ReadTrace) × (ended : Result Judged RunFault) × (outcome ≡ outcome_of_check ended)
         × IsRunOf None claimed strict first second sink ended }
-    ensures certified { (by : Certificate) (instance solution certificate instance_left solution_left certificate_left : Watched R)
+    ensures certified { (by : CertificateKind) (instance solution certificate instance_left solution_left certificate_left : Watched R)
         (claimed : Option ℤ) (strict : Bool) (sink : Sink) (outcome : Result Outcome RunFault)
         → IsDone R.remaining (file_tasks.Check instance solution (Some (by, certificate)) claimed strict)
         (file_tasks.Check instance_left solution_left (Some (by, certificate_left)) claimed strict) sink outcome
-        → (first second third : Turn) × (ended : Result Judged RunFault) × (outcome ≡ outcome_of_check ended)
+        → (first second third : ReadTrace) × (ended : Result Judged RunFault) × (outcome ≡ outcome_of_check ended)
         × IsRunOf (Some (by, third)) claimed strict first second sink ended }
-    ensures bounded { (by : Certificate) (instance certificate instance_left certificate_left : Watched R) (strict : Bool) (sink : Sink)
+    ensures bounded { (by : CertificateKind) (instance certificate instance_left certificate_left : Watched R) (strict : Bool) (sink : Sink)
         (outcome : Result Outcome RunFault)
         → IsDone R.remaining (file_tasks.Bound instance (by, certificate) strict)
         (file_tasks.Bound instance_left (by, certificate_left) strict) sink outcome
-        → (first second : Turn) × (ended : Result Bounded RunFault) × (outcome ≡ outcome_of_bound ended)
+        → (first second : ReadTrace) × (ended : Result Bounded RunFault) × (outcome ≡ outcome_of_bound ended)
         × IsBoundRunOf by strict first second sink ended }
 {}
 
@@ -253,21 +253,21 @@ pub fn examples_of_done_tasks<R: Read>()
 /// of a comparison one of file 2; and a file is put into the layout of its task.
 pub fn examples_of_readers<R: Gives>()
     ensures instance { (instance solution instance_left solution_left : Watched R) (sink : Sink) (fault : ReadFault)
-        → TakesAtMost most_taken (turn_of R.remaining instance instance_left) (StopsAt fault)
-        → TakesAtMost most_taken (turn_of R.remaining solution solution_left) IsUnread → IsUnwritten sink
+        → TakesAtMost most_taken (read_trace_of R.remaining instance instance_left) (StopsAt fault)
+        → TakesAtMost most_taken (read_trace_of R.remaining solution solution_left) IsUnread → IsUnwritten sink
         → IsDone R.remaining (file_tasks.Check instance solution None None false)
         (file_tasks.Check instance_left solution_left None None false)
         sink (Err (run_faults.File 1 fault)) }
     ensures layout { (file left : Watched R) (to : Layout) (sink : Sink) (fault : RelayoutFault)
-        → TakesAtMost most_taken (turn_of R.remaining file left) (λ turn.
-        IsConvertRun (Some to) turn sink (Err (run_faults.Relayout fault)))
+        → TakesAtMost most_taken (read_trace_of R.remaining file left) (λ read_trace.
+        IsConvertRun (Some to) read_trace sink (Err (run_faults.Relayout fault)))
         → IsDone R.remaining (file_tasks.Convert file (Some to)) (file_tasks.Convert left (Some to)) sink
         (Err (run_faults.Relayout fault)) }
-    ensures compared { (by : Certificate) (old new : Comparison (Watched R)) (certificate left : Watched R)
+    ensures compared { (by : CertificateKind) (old new : Comparison (Watched R)) (certificate left : Watched R)
         (names : List (List ℕ)) (sink : Sink) (fault : ReadFault)
         → old.certificate ≡ Some (by, certificate) → new.certificate ≡ Some (by, left)
-        → TakesAtMost most_taken (turn_of R.remaining old.instance new.instance) IsSomeFile
-        → TakesAtMost most_taken (turn_of R.remaining certificate left) (StopsAt fault) → IsUnwritten sink
+        → TakesAtMost most_taken (read_trace_of R.remaining old.instance new.instance) IsSomeFile
+        → TakesAtMost most_taken (read_trace_of R.remaining certificate left) (StopsAt fault) → IsUnwritten sink
         → IsCompared R.remaining R.gives (λ index reader. index ≡ index) names old new sink (Err (run_faults.File 2 fault)) }
 {}
 
@@ -277,12 +277,12 @@ pub fn examples_of_asked_readers<R: Gives>()
     ensures solution { (instance solution instance_left solution_left : Watched R) (claimed same : Option ℤ) (strict also : Bool)
         → AreReadOn R.gives (file_tasks.Check instance solution None claimed strict) (file_tasks.Check instance_left solution_left None same also)
         → IsReadOn R.gives solution solution_left }
-    ensures certificate { (by kept : Certificate) (a b c x y z : Watched R) (claimed same : Option ℤ) (strict also : Bool)
+    ensures certificate { (by kept : CertificateKind) (a b c x y z : Watched R) (claimed same : Option ℤ) (strict also : Bool)
         → AreReadOn R.gives (file_tasks.Check a b (Some (by, c)) claimed strict) (file_tasks.Check x y (Some (kept, z)) same also)
         → IsReadOn R.gives c z }
-    ensures bound { (by kept : Certificate) (a c x z : Watched R) (strict also : Bool)
+    ensures bound { (by kept : CertificateKind) (a c x z : Watched R) (strict also : Bool)
         → AreReadOn R.gives (file_tasks.Bound a (by, c) strict) (file_tasks.Bound x (kept, z) also) → IsReadOn R.gives c z }
-    ensures compared { (by : Certificate) (old new : Comparison (Watched R)) (c z : Watched R)
+    ensures compared { (by : CertificateKind) (old new : Comparison (Watched R)) (c z : Watched R)
         → old.certificate ≡ Some (by, c) → new.certificate ≡ Some (by, z) → AreComparedOn R.gives old new
         → IsReadOn R.gives c z }
 {}

@@ -6,12 +6,12 @@ ghost use Rattle.tsp_read.specs.Reads.{IsReadOn, most_taken};
 ghost use Rattle.tsp_judge.specs.CompareRun.{IsFollowed};
 ghost use Rattle.tsp_judge.specs.ConvertRun.{AreComparedOn, AreReadOn, IsCompared, IsDone, IsNamedReadOn, TakesNamed, is_yes_outcome, outcome_of_writing, outcome_of_check, outcome_of_bound, IsRunOf};
 ghost use Rattle.tsp_io.specs.Streams.{TakesAtMost};
-ghost use Rattle.tsp_io.specs.states.Watched.{sink_of, turn_of};
+ghost use Rattle.tsp_io.specs.states.Watched.{sink_of, read_trace_of};
 
-use crate::asked_runs::{run_compare_uncertified, run_uncertified};
+use crate::api::{run_compare_uncertified, run_uncertified};
 use crate::bound_run::{Bounded, convert_file, run_bound, show_file};
 use crate::check::{Judged, run};
-use crate::compared::{Common, Compared, Follow, Solutions, run_compare};
+use crate::compared::{Compared, ComparisonContext, Follow, Solutions, run_compare};
 use crate::run_status::{RunError, RunFault};
 use std::alloc::{AllocError, Global};
 use std::io::{self, Read, Write};
@@ -21,8 +21,8 @@ use tsp_explain::{
 };
 use tsp_file::File;
 use tsp_io::{Gives, Watched, WriteFault};
-use tsp_report::{Certificate, Comparison, FileTask, Role, Task};
-use tsp_verdict::{Basis, BoundVerdict, Verdict};
+use tsp_report::{CertificateKind, Comparison, FileTask, Role, Task};
+use tsp_verdict::{BoundVerdict, KnownBound, Verdict};
 
 /// Appends what explains the line `no`, from the files that were judged, and after `yes` whether a
 /// comment of the solution claims another length.
@@ -66,15 +66,15 @@ pub fn explain_outcome<'a>(
 /// # Errors
 ///
 /// Out of memory; part of the explanation may be appended then.
-pub fn explain_basis<'a>(
+pub fn explain_known_bound<'a>(
     alloc: Global,
     text: &mut Vec<u8>,
     names: &Task<'_, &'a str>,
-    common: &'a Common,
+    common: &'a ComparisonContext,
 ) -> Result<(), AllocError>
     ensures { StartsWith text.new.items text.old.items }
 {
-    let Basis::No(reason) = common.basis else {
+    let KnownBound::No(reason) = common.known_bound else {
         return Ok(());
     };
     let files = Files {
@@ -104,7 +104,7 @@ pub fn explain_solution<'a>(
     alloc: Global,
     text: &mut Vec<u8>,
     names: &Task<'_, &'a str>,
-    common: &'a Common,
+    common: &'a ComparisonContext,
     solution: Solution<'a>,
 ) -> Result<(), AllocError>
     ensures { StartsWith text.new.items text.old.items }
@@ -194,7 +194,7 @@ fn names_of<'a>(names: &Task<'_, &'a str>, solution: &'a str) -> Names<'a> {
 }
 
 /// The file of a certificate, where one was read.
-fn file_of(certificate: &Option<(Certificate, File)>) -> Option<&File> {
+fn file_of(certificate: &Option<(CertificateKind, File)>) -> Option<&File> {
     match certificate {
         Some((_, file)) => Some(file),
         None => None,
@@ -278,13 +278,13 @@ fn check<R: Gives, W: Write>(
     alloc: Global,
     instance: &mut Watched<R>,
     solution: &mut Watched<R>,
-    certificate: &mut Option<(Certificate, Watched<R>)>,
+    certificate: &mut Option<(CertificateKind, Watched<R>)>,
     claimed: Option<i64>,
     strict: bool,
     out: &mut Watched<W>,
 ) -> Result<Judged, RunError>
-    ensures answer { TakesAtMost most_taken (turn_of R.remaining instance.old instance.new) (λ first.
-        TakesAtMost most_taken (turn_of R.remaining solution.old solution.new) (λ second.
+    ensures answer { TakesAtMost most_taken (read_trace_of R.remaining instance.old instance.new) (λ first.
+        TakesAtMost most_taken (read_trace_of R.remaining solution.old solution.new) (λ second.
         TakesNamed R.remaining certificate.old certificate.new (λ given.
         IsRunOf given claimed strict first second (sink_of W.contents out.old out.new) result))) }
     ensures asked { IsReadOn R.gives instance.old instance.new × IsReadOn R.gives solution.old solution.new

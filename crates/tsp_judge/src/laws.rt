@@ -3,64 +3,64 @@
 
 ghost use Rattle.std.specs.Fmt.{signed_decimal};
 ghost use Rattle.std.specs.Prelude.{◌≡◌, ◌++◌, ℕ, List, true, false, Option, None, Some, Ok, IsTrue, ℤ, codes};
-ghost use Rattle.tsp_io.specs.Streams.{Turn};
+ghost use Rattle.tsp_io.specs.Streams.{ReadTrace};
 ghost use Rattle.tsp_file.specs.Fields.{Fields};
 ghost use Rattle.tsp_read.specs.Reads.{IsFile};
 ghost use Rattle.tsp_cost.specs.Problems.{IsProblem};
-ghost use Rattle.tsp_verdict.specs.SolutionVerdict.{IsBasis, IsVerdictWith, is_judged};
+ghost use Rattle.tsp_verdict.specs.SolutionVerdict.{IsKnownBound, IsVerdictWith, is_judged};
 ghost use Rattle.tsp_report.specs.Report.{solution_line, report_of, IsSized};
 ghost use Rattle.tsp_report.specs.Verdicts.{is_yes};
-ghost use Rattle.tsp_report.specs.declared.task.Certificate.{Certificate};
-ghost use Rattle.tsp_report.specs.declared.verdict.Basis.{Basis};
-ghost use Rattle.tsp_report.specs.declared.verdict.Basis.TheVariants as bases;
+ghost use Rattle.tsp_report.specs.declared.task.CertificateKind.{CertificateKind};
+ghost use Rattle.tsp_report.specs.declared.verdict.KnownBound.{KnownBound};
+ghost use Rattle.tsp_report.specs.declared.verdict.KnownBound.TheVariants as known_bounds;
 ghost use Rattle.tsp_report.specs.declared.verdict.Reason.{Reason};
 ghost use Rattle.tsp_report.specs.declared.verdict.Verdict.{Verdict};
 ghost use Rattle.tsp_report.specs.declared.verdict.Verdict.TheVariants as verdicts;
 ghost use Rattle.tsp_judge.specs.Accepted.{IsAccepted, IsBoundedTour};
 ghost use Rattle.tsp_judge.specs.CompareRun.{IsFoundIn};
-ghost use Rattle.tsp_judge.specs.declared.compared.Common.{Common};
+ghost use Rattle.tsp_judge.specs.declared.compared.ComparisonContext.{ComparisonContext};
 
 /// With a certificate, a line with a length and `optimal` means that the file of its solution has
 /// one tour of the instance, of this length, and that no tour of the instance is shorter. With a
 /// bound that isn't the length, no tour is shorter than the bound.
 pub fn lines_of_bounded_tours()
-    ensures optimal { (common : Common) (turn : Turn) (by : Certificate) (certificate : Fields) (length : ℤ)
+    ensures optimal { (common : ComparisonContext) (read_trace : ReadTrace) (by : CertificateKind) (certificate : Fields) (length : ℤ)
         → IsProblem common.instance → common.certificate ≡ Some (by, certificate)
-        → IsFoundIn common turn (Ok (verdicts.Tour length (Some length)))
-        → (solution : Fields) × IsFile turn solution × IsBoundedTour common.instance solution length length }
-    ensures bounded { (common : Common) (turn : Turn) (by : Certificate) (certificate : Fields) (length bound : ℤ)
+        → IsFoundIn common read_trace (Ok (verdicts.Tour length (Some length)))
+        → (solution : Fields) × IsFile read_trace solution × IsBoundedTour common.instance solution length length }
+    ensures bounded { (common : ComparisonContext) (read_trace : ReadTrace) (by : CertificateKind) (certificate : Fields) (length bound : ℤ)
         → IsProblem common.instance → common.certificate ≡ Some (by, certificate)
-        → IsFoundIn common turn (Ok (verdicts.Tour length (Some bound)))
-        → (solution : Fields) × IsFile turn solution × IsBoundedTour common.instance solution length bound }
+        → IsFoundIn common read_trace (Ok (verdicts.Tour length (Some bound)))
+        → (solution : Fields) × IsFile read_trace solution × IsBoundedTour common.instance solution length bound }
     ensures words { (length : ℤ) (path : List ℕ) → solution_line (Ok (verdicts.Tour length (Some length))) path
         ≡ signed_decimal length ++ codes " optimal" ++ codes " " ++ path ++ codes "\n" }
 {}
 
 /// A check of the same three files has the same answer as a line of a comparison.
 pub fn lines_of_checks()
-    ensures { (common : Common) (turn : Turn) (verdict : Verdict) → IsFoundIn common turn (Ok verdict)
-        → (solution : Fields) × IsFile turn solution × ((other : Verdict)
+    ensures { (common : ComparisonContext) (read_trace : ReadTrace) (verdict : Verdict) → IsFoundIn common read_trace (Ok verdict)
+        → (solution : Fields) × IsFile read_trace solution × ((other : Verdict)
         → IsVerdictWith common.certificate None common.instance solution other → is_yes other ≡ is_yes verdict) }
 {}
 
 /// Where a reason applies to the instance or to the certificate, and where the instance has no
 /// tour, a check accepts no solution at all.
-pub fn solutions_without_a_basis()
-    ensures reason { (given : Option (Certificate × Fields)) (instance solution : Fields) (reason : Reason) (verdict : Verdict)
-        → IsBasis given instance (bases.No reason) → IsVerdictWith given None instance solution verdict
+pub fn solutions_without_a_known_bound()
+    ensures reason { (given : Option (CertificateKind × Fields)) (instance solution : Fields) (reason : Reason) (verdict : Verdict)
+        → IsKnownBound given instance (known_bounds.No reason) → IsVerdictWith given None instance solution verdict
         → is_yes verdict ≡ false }
-    ensures no_tour { (given : Option (Certificate × Fields)) (instance solution : Fields) (verdict : Verdict)
-        → IsBasis given instance bases.NoSolution → IsVerdictWith given None instance solution verdict
+    ensures no_tour { (given : Option (CertificateKind × Fields)) (instance solution : Fields) (verdict : Verdict)
+        → IsKnownBound given instance known_bounds.NoSolution → IsVerdictWith given None instance solution verdict
         → is_yes verdict ≡ false }
 {}
 
 /// A verdict that accepts a solution means what the line `yes` of its report does. Each verdict has
 /// a report.
 pub fn verdicts_mean_reports()
-    ensures accepted { (given : Option (Certificate × Fields)) (claimed : Option ℤ) (instance solution : Fields)
+    ensures accepted { (given : Option (CertificateKind × Fields)) (claimed : Option ℤ) (instance solution : Fields)
         (verdict : Verdict) → IsProblem instance → IsTrue (is_judged given instance.kind)
         → IsVerdictWith given claimed instance solution verdict → true ≡ is_yes verdict
         → IsAccepted given claimed instance solution (report_of instance verdict) }
-    ensures sized { (given : Option (Certificate × Fields)) (claimed : Option ℤ) (instance solution : Fields)
+    ensures sized { (given : Option (CertificateKind × Fields)) (claimed : Option ℤ) (instance solution : Fields)
         (verdict : Verdict) → IsVerdictWith given claimed instance solution verdict → IsSized verdict }
 {}

@@ -14,7 +14,7 @@
 //! ```
 #![tactic(auto)]
 
-mod asked_runs;
+mod api;
 mod bound_run;
 mod check;
 mod compared;
@@ -24,27 +24,27 @@ mod laws;
 mod opened;
 mod run_status;
 
-pub use asked_runs::{
+pub use api::{
     run_bound_check, run_branch_check, run_check, run_compare_uncertified, run_convert, run_show,
     run_uncertified,
 };
 pub use bound_run::{Bounded, convert_file, run_bound, show_file};
 pub use check::{Judged, run};
-pub use compared::{Common, Compared, Follow, Found, Solutions, run_compare};
+pub use compared::{Compared, ComparisonContext, Follow, Found, Solutions, run_compare};
 pub use examples::{
-    examples_of_answers, examples_of_asked_readers, examples_of_bases, examples_of_certificates,
+    examples_of_answers, examples_of_asked_readers, examples_of_certificates,
     examples_of_done_tasks, examples_of_fault_texts, examples_of_faulty_files,
     examples_of_faulty_files_of_bounds, examples_of_faulty_files_of_comparisons,
-    examples_of_largest_statuses, examples_of_lines_of_solutions, examples_of_numbers_of_statuses,
-    examples_of_opened_solutions, examples_of_outcomes, examples_of_readers,
-    examples_of_runs_over_one_file, examples_of_wrong_kinds,
+    examples_of_known_bounds, examples_of_largest_statuses, examples_of_lines_of_solutions,
+    examples_of_numbers_of_statuses, examples_of_opened_solutions, examples_of_outcomes,
+    examples_of_readers, examples_of_runs_over_one_file, examples_of_wrong_kinds,
 };
 pub use explanation::{
-    Outcome, Solution, compare, explain_basis, explain_fault, explain_outcome, explain_solution,
-    is_yes_outcome, perform,
+    Outcome, Solution, compare, explain_fault, explain_known_bound, explain_outcome,
+    explain_solution, is_yes_outcome, perform,
 };
 pub use laws::{
-    lines_of_bounded_tours, lines_of_checks, solutions_without_a_basis, verdicts_mean_reports,
+    lines_of_bounded_tours, lines_of_checks, solutions_without_a_known_bound, verdicts_mean_reports,
 };
 pub use opened::{Opened, read_text};
 pub use run_status::{RunError, RunFault, Status, status_of};
@@ -53,6 +53,6 @@ pub use tsp_format::Layout;
 pub use tsp_io::{Watched, WriteFault};
 pub use tsp_read::{LineFault, ReadFault};
 pub use tsp_verdict::{
-    Basis, BoundVerdict, Certificate, Reason, Verdict, judge_routes, judge_tour, judge_tour_bound,
-    judge_tour_branches,
+    BoundVerdict, CertificateKind, KnownBound, Reason, Verdict, judge_routes, judge_tour,
+    judge_tour_bound, judge_tour_branches,
 };

@@ -8,8 +8,8 @@ use std::marker::Model;
 use tsp_cost::Instance;
 use tsp_file::File;
 use tsp_read::file_of_bytes;
-use tsp_report::{Basis, BoundVerdict, Certificate, Verdict};
-use tsp_verdict::{basis_alone, basis_of, is_bounded, judge_bound, judge_next};
+use tsp_report::{BoundVerdict, CertificateKind, KnownBound, Verdict};
+use tsp_verdict::{is_bounded, judge_bound, judge_next, known_bound_alone, known_bound_of};
 
 /// An instance, the certificate that is bound to it, where one is, and what is known of all
 /// solutions by the two: that is found once, when the certificate is bound or the instance is
@@ -17,20 +17,20 @@ use tsp_verdict::{basis_alone, basis_of, is_bounded, judge_bound, judge_next};
 #[derive(Drop)]
 pub struct Opened {
     instance: Instance,
-    certificate: Option<(Certificate, File)>,
-    basis: Basis,
+    certificate: Option<(CertificateKind, File)>,
+    known_bound: KnownBound,
 }
 
 impl Model for Opened {
     ghost use Rattle.tsp_cost.specs.Problems.{IsProblem};
-    ghost use Rattle.tsp_verdict.specs.SolutionVerdict.{IsBasis};
+    ghost use Rattle.tsp_verdict.specs.SolutionVerdict.{IsKnownBound};
     ghost use Rattle.tsp_judge.specs.Open.{Open};
 
     ghost Value = { Open };
 
     ghost view = { λ o. record { instance = o.instance; certificate = o.certificate } };
 
-    ghost invariant = { λ o. IsProblem o.instance × IsBasis o.certificate o.instance o.basis };
+    ghost invariant = { λ o. IsProblem o.instance × IsKnownBound o.certificate o.instance o.known_bound };
 }
 
 impl Opened {
@@ -50,7 +50,7 @@ impl Opened {
         let file = read_text(alloc, 1, text)?;
         match Instance::of(file) {
             Ok(instance) => Ok(Opened {
-                basis: basis_alone(&instance),
+                known_bound: known_bound_alone(&instance),
                 instance,
                 certificate: None,
             }),
@@ -79,7 +79,7 @@ impl Opened {
     pub fn bind(
         &mut self,
         alloc: Global,
-        by: Certificate,
+        by: CertificateKind,
         text: &[u8],
     ) -> Result<BoundVerdict, RunError>
         ensures { MatchResult result
@@ -94,7 +94,7 @@ impl Opened {
             Ok(found) => found,
             Err(refused) => return Err(RunError::refused(refused)),
         };
-        self.basis = basis_of(&self.instance, found);
+        self.known_bound = known_bound_of(&self.instance, found);
         self.certificate = Some((by, file));
         Ok(found)
     }
@@ -116,7 +116,7 @@ impl Opened {
             (λ fault. IsNotJudged text.now self.now fault) }
     {
         let solution = read_text(alloc, 2, text)?;
-        match judge_next(alloc, &self.instance, self.basis, &solution, claimed) {
+        match judge_next(alloc, &self.instance, self.known_bound, &solution, claimed) {
             Ok(verdict) => Ok(verdict),
             Err(refused) => Err(RunError::refused(refused)),
         }

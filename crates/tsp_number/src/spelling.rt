@@ -5,8 +5,8 @@ ghost use Rattle.tsp_number.specs.Decimal.{unit, most_count};
 ghost use Rattle.arrayvec.specs.ArrayVec.{array_vec_len};
 ghost use Rattle.tsp_number.specs.NumberWord.{StandsFor, decimals, fraction_spelling, size_spelling, spelling, three_digits};
 
-use arrayvec::ArrayVec;
 use crate::decimal::{Decimal, UNIT};
+use arrayvec::ArrayVec;
 use itoa::write_digits;
 
 /// The most bytes of a decimal's text.

@@ -17,7 +17,7 @@ use Rattle.tsp_text.specs.FaultRows.{word_fault, is_past_combs}
 use Rattle.tsp_text.specs.Groups.{CombsSoFar, no_combs, with_node, with_end, with_comb_word, whole_combs, place_in_combs, place_of_comb}
 use Rattle.tsp_text.specs.Items.{is_not_empty}
 use Rattle.tsp_text.specs.SectionWords.{number, node_or_end, is_end, SetNode}
-use Rattle.tsp_text.specs.Spells.{wants_more}
+use Rattle.tsp_text.specs.ParsesTo.{wants_more}
 use Rattle.tsp_read.proofs.NumbersReadBack.{NumberLaws, listed_back, node_goes_on, end_read, end_ends, no_rows, has_room, signed_plain, size_in, are_branch}
 use Rattle.tsp_read.proofs.Onto.{AllTaken, Runs, runs_none, runs_one, runs_then, all_taken}
 use Rattle.tsp_read.proofs.Text.{is_plain_word, WritesWords, number_line_written}

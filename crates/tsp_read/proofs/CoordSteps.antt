@@ -13,7 +13,7 @@ use Rattle.tsp_text.specs.Earlier.{place_by}
 use Rattle.tsp_text.specs.FaultRows.{word_fault}
 use Rattle.tsp_text.specs.Groups.{point_in, space_point_in, coords_by_node, number_value, place_of_number}
 use Rattle.tsp_text.specs.SectionWords.{number, is_minus_one, Coordinate, Amount}
-use Rattle.tsp_text.specs.Spells.{wants_more}
+use Rattle.tsp_text.specs.ParsesTo.{wants_more}
 use Rattle.tsp_text.specs.declared.fault.LineFault.{LineFault}
 use Rattle.tsp_text.specs.declared.fault.LineFault.TheVariants as row
 use Rattle.tsp_read.proofs.GroupSteps.{number_faulty, entry_taken}

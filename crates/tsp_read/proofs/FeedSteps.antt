@@ -15,7 +15,7 @@ use Rattle.tsp_text.proofs.ValidCuts.{part_cut}
 use Rattle.tsp_text.specs.Earlier.{open_section}
 use Rattle.tsp_text.specs.FaultRows.{when, first_row}
 use Rattle.tsp_text.specs.Items.{is_not_empty, Item, settled_items, has_end_line, AreCut, Line, NumberWord, LineEnd, items_of, is_end_line, to_end_line}
-use Rattle.tsp_text.specs.Spells.{fault_in, IsClean, is_too_long, settled_part, settled_fault, part, fault}
+use Rattle.tsp_text.specs.ParsesTo.{fault_in, IsClean, is_too_long, settled_part, settled_fault, part, fault}
 use Rattle.tsp_text.specs.declared.fault.ReadFault.{ReadFault}
 use Rattle.tsp_text.specs.declared.fault.ReadFault.TheVariants as faults
 use Rattle.tsp_read.proofs.BegunSteps.{token_here, token_joins, empty_rest}

@@ -9,7 +9,7 @@ use Rattle.tsp_text.specs.declared.fault.LineFault.{LineFault}
 use Rattle.tsp_text.specs.declared.fault.LineFault.TheVariants as row
 use Rattle.tsp_text.specs.SectionWords.{number, node, is_minus_one, Place, NodeAfter, PastGroups}
 use Rattle.tsp_text.specs.Groups.{groups_in, begun_in, word_at, node_groups, nodes_of_groups, place_by_node, by_node}
-use Rattle.tsp_text.specs.Spells.{wants_more}
+use Rattle.tsp_text.specs.ParsesTo.{wants_more}
 use Rattle.tsp_text.specs.FaultRows.{word_fault}
 use Rattle.tsp_text.proofs.GroupWords.{Words, length_groups, begun_short, goes_on, group_ends, all_groups}
 use Rattle.tsp_read.specs.states.Parts.{AreReadAs, IsNewNode, NodesHold, GroupsHold}

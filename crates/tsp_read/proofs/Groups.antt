@@ -19,7 +19,7 @@ use Rattle.tsp_text.proofs.GroupWords.{Words, goes_on, all_groups, nodes_read, g
 use Rattle.tsp_text.specs.FaultRows.{word_fault}
 use Rattle.tsp_text.specs.Groups.{groups_in, begun_in, word_at, node_groups, number_value, entry_of, by_node, place_in_group, place_by_node, nodes_of_groups, point_in, space_point_in}
 use Rattle.tsp_text.specs.SectionWords.{number, node, reads_as, Place, NodeAfter, Amount, PastGroups, Coordinate}
-use Rattle.tsp_text.specs.Spells.{wants_more}
+use Rattle.tsp_text.specs.ParsesTo.{wants_more}
 use Rattle.tsp_read.proofs.NumbersReadBack.{NumberLaws, node_back, signed_plain, no_rows, size_in, spelling_plain}
 use Rattle.tsp_read.proofs.Onto.{AllTaken, taken-append}
 use Rattle.tsp_read.proofs.Text.{is_plain_word}

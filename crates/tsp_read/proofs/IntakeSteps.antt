@@ -14,7 +14,7 @@ use Rattle.tsp_text.proofs.ValidRows.{rows_of_word, long_line, clean_parts}
 use Rattle.tsp_text.specs.Earlier.{open_section, words_of, spatial_after, place_in, dimension_in}
 use Rattle.tsp_text.specs.FaultRows.{row_of}
 use Rattle.tsp_text.specs.Items.{ends_line, Item, Line, NumberWord, LineEnd, settled_items, is_end_line, has_end_line, words_before, word_number, to_end_line}
-use Rattle.tsp_text.specs.Spells.{IsClean, part, settled_part}
+use Rattle.tsp_text.specs.ParsesTo.{IsClean, part, settled_part}
 use Rattle.tsp_text.specs.declared.fault.LineFault.{LineFault}
 use Rattle.tsp_text.specs.declared.fault.LineFault.TheVariants as row
 use Rattle.tsp_text.specs.declared.fault.ReadFault.{ReadFault}
@@ -41,7 +41,7 @@ long_word_row : (earlier : List Item) (word : List ℕ) (opened : Option Field) 
 long_word_row earlier word None e long = (row.StrayNumber, rw e refl)
 long_word_row earlier word (Some f) e long =
     let place = place_in (spatial_after earlier) f (dimension_in earlier) (words_of f earlier) in
-    (long_row place, word_rows earlier word f e ∙ long_fault (dimension_in earlier) place word long)
+    (long_row place, rows_of_word earlier word f e ∙ long_fault (dimension_in earlier) place word long)
 
 long_has_row : (earlier : List Item) (item : Item) → is_over_long item ≡ true → HasRow earlier item
 long_has_row earlier (Line key line) long = (row.LongLine, long_line key line earlier long)

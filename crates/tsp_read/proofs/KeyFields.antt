@@ -30,7 +30,7 @@ use Rattle.tsp_text.specs.Earlier.{same_field, value_at, values_at, others_in, w
 use Rattle.tsp_text.specs.FaultRows.{may_repeat, row_of, when, first_row}
 use Rattle.tsp_text.specs.Groups.{coords_by_node}
 use Rattle.tsp_text.specs.Items.{is_not_empty, first_word, Item, Line, LineEnd, word_line_of, items_of, settled_items, to_end_line, has_end_line}
-use Rattle.tsp_text.specs.Spells.{spelled, fault_in, IsClean, first_incomplete, fault_at_end, is_too_long, part, fault, Spells}
+use Rattle.tsp_text.specs.ParsesTo.{spelled, fault_in, IsClean, first_incomplete, fault_at_end, is_too_long, part, fault, ParsesTo}
 use Rattle.tsp_text.specs.declared.fault.ReadFault.{ReadFault}
 use Rattle.tsp_text.specs.declared.fault.ReadFault.TheVariants as faults
 use Rattle.tsp_read.proofs.NumbersReadBack.{NumberLaws, signed_plain, short_signed, size_from}
@@ -393,7 +393,7 @@ part_is bytes items short items_are no_end =
     ∙ sym (ap (λ (all : List Item). end_line ∷ all) (onto_reversed items [] ∙ append-nil (reverse items)))
 
 spelled_by : (bytes : List ℕ) (f : Fields) (items : List Item) → is_too_long bytes ≡ false → part bytes ≡ items → IsClean items
-    → fault_at_end items ≡ None → spelled items ≡ f → Spells bytes f
+    → fault_at_end items ≡ None → spelled items ≡ f → ParsesTo bytes f
 spelled_by bytes f items short part_are clean at_end spelled_are = record {
   no_fault = ap (λ (all : List Item). first_row (fault_in all ∷ when (is_too_long bytes && not (has_end_line all)) faults.TooLong
       ∷ option_map (λ fault. faults.End fault) (fault_at_end all) ∷ [])) part_are
@@ -420,7 +420,7 @@ no_end_fault f items valid spelled_are complete =
 
 -- ---- the law
 
-pub text_spelled : NumberLaws → (f : Fields) → fault_of f ≡ None → length (text_of f) < 750000000 → Spells (text_of f) f
+pub text_spelled : NumberLaws → (f : Fields) → fault_of f ≡ None → length (text_of f) < 750000000 → ParsesTo (text_of f) f
 text_spelled laws f valid few =
     let each = all_fit f valid in
     let whole = all_fields f (text_of_field f) (field_step laws f each) fields_in_order fields_ordered [] (first_stage f) in

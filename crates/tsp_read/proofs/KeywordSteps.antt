@@ -27,7 +27,7 @@ use Rattle.tsp_text.specs.Earlier.{same_field, has_line, open_section, words_of,
 use Rattle.tsp_text.specs.FaultRows.{row_of, is_late}
 use Rattle.tsp_text.specs.Groups.{coords_by_node}
 use Rattle.tsp_text.specs.Items.{is_not_empty, first_word, WordLine, Item, Line}
-use Rattle.tsp_text.specs.Spells.{IsClean, fields_by, sections_in_order, first_incomplete}
+use Rattle.tsp_text.specs.ParsesTo.{IsClean, fields_by, sections_in_order, first_incomplete}
 use Rattle.tsp_text.specs.declared.fault.LineFault.{LineFault}
 use Rattle.tsp_read.specs.declared.line.StepFault.{StepFault}
 use Rattle.tsp_read.specs.declared.line.StepFault.TheVariants as steps

@@ -16,7 +16,7 @@ use Rattle.tsp_text.proofs.ValidKeywords.{and_false, any_kept, any_push, before_
 use Rattle.tsp_text.specs.FaultRows.{word_fault, when, first_row}
 use Rattle.tsp_text.specs.Groups.{place_of_depot, groups_in, begun_in, firsts_in, place_in_list, fixed_pair, place_in_pair, place_of_fixed}
 use Rattle.tsp_text.specs.SectionWords.{number, node_or_end, is_end, is_minus_one, Place, PastEnd, DepotAfter, node, FirstAfter, SecondOf}
-use Rattle.tsp_text.specs.Spells.{wants_more}
+use Rattle.tsp_text.specs.ParsesTo.{wants_more}
 use Rattle.tsp_text.specs.declared.fault.LineFault.{LineFault}
 use Rattle.tsp_text.specs.declared.fault.LineFault.TheVariants as row
 use Rattle.tsp_read.specs.states.Parts.{AreReadAs, DepotsHold, ListHolds, PairsHold}

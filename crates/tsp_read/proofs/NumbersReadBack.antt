@@ -29,7 +29,7 @@ use Rattle.tsp_text.specs.FaultRows.{when, first_row, word_fault}
 use Rattle.tsp_text.specs.Groups.{before, depots_in, place_of_depot, groups_in, begun_in, word_at, listed_in, firsts_in, place_in_list, fixed_pair, place_in_pair, fixed_triple, place_in_triple}
 use Rattle.tsp_text.specs.Items.{is_not_empty}
 use Rattle.tsp_text.specs.SectionWords.{node, node_or_end, is_end, not_zero, reads_as, number, whole_of_size, DepotAfter, FirstAfter, SecondOf, PastEnd, Weight, PastWeights, weights_in, place_of_weight, Place, Amount}
-use Rattle.tsp_text.specs.Spells.{wants_more}
+use Rattle.tsp_text.specs.ParsesTo.{wants_more}
 use Rattle.tsp_text.specs.declared.fault.LineFault.TheVariants as row
 use Rattle.tsp_read.proofs.Onto.{AllTaken, taken-append}
 use Rattle.tsp_read.proofs.Text.{is_plain, is_plain_word}

@@ -23,7 +23,7 @@ use Rattle.tsp_text.specs.Earlier.{is_key, has_line, value_at, values_at, others
 use Rattle.tsp_text.specs.FaultRows.{word_fault, row_of, may_repeat, is_too_long_to_keep}
 use Rattle.tsp_text.specs.Items.{ends_line, without_start, without_end, begins, is_word_line, keyword_in, after_keyword, is_colon, has_colon, value_in, words_in, WordLine, Item, Line, NumberWord, LineEnd, word_line_of, line_item, items_in, items_of, has_no_line_end, has_end_line, to_end_line, is_end_line, is_not_empty}
 use Rattle.tsp_text.specs.SectionWords.{Place}
-use Rattle.tsp_text.specs.Spells.{IsClean}
+use Rattle.tsp_text.specs.ParsesTo.{IsClean}
 use Rattle.tsp_read.proofs.Text.{Writes, line_written, all_such, number_words, are_numbers, nothing_written, both_written}
 
 -- ---- blanks

@@ -11,7 +11,7 @@ use Rattle.tsp_file.specs.declared.rules.EndFault.{EndFault}
 use Rattle.tsp_text.proofs.SettledItems.{start_blank, start_filled}
 use Rattle.tsp_text.specs.FaultRows.{row_of, when, first_row}
 use Rattle.tsp_text.specs.Items.{is_not_empty, without_start, Item, is_end_line, has_end_line, to_end_line, ends_line, NumberWord, LineEnd, line_item}
-use Rattle.tsp_text.specs.Spells.{fault_here, fault_in, IsClean, fault_at_end, is_too_long, part, fault}
+use Rattle.tsp_text.specs.ParsesTo.{fault_here, fault_in, IsClean, fault_at_end, is_too_long, part, fault}
 use Rattle.tsp_text.specs.declared.fault.ReadFault.{ReadFault}
 use Rattle.tsp_text.specs.declared.fault.ReadFault.TheVariants as faults
 use Rattle.tsp_read.proofs.LeftSteps.{left_blank, left_start, Filled, start_is_filled, left_none, left_end, line_taken, line_not_taken, word_taken, word_not_taken}

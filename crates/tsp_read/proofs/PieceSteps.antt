@@ -7,7 +7,7 @@ use Rattle.std.proofs.lemmas.Option.{none-some}
 use Rattle.std.specs.Io.KnownBytes.{Consumes, Keeps, IsAtEnd}
 use Rattle.std.specs.Prelude.{◌⊎◌, IfSome, not, ◌&&◌, is_err}
 use Rattle.std.specs.declared.io.Error.{Error}
-use Rattle.tsp_io.specs.Streams.{Turn, Gave, IsSound, GaveAll, TakesAtMost}
+use Rattle.tsp_io.specs.Streams.{ReadTrace, Gave, IsSound, GaveAll, TakesAtMost}
 use Rattle.tsp_io.specs.declared.watched.Watched.{Watched}
 use Rattle.tsp_io.specs.states.Watched.{watched, has_failed}
 use Rattle.tsp_format.specs.Limits.{most_file_bytes}
@@ -15,7 +15,7 @@ use Rattle.tsp_file.specs.Fields.{Fields}
 use Rattle.tsp_text.proofs.SettledFaults.{fault_kept, settled_kept, ended_stays, part_kept, ended_kept}
 use Rattle.tsp_text.specs.FaultRows.{when, first_row}
 use Rattle.tsp_text.specs.Items.{has_end_line}
-use Rattle.tsp_text.specs.Spells.{fault_in, IsClean, is_too_long, settled_part, settled_fault, fault, spelled, part, Spells}
+use Rattle.tsp_text.specs.ParsesTo.{fault_in, IsClean, is_too_long, settled_part, settled_fault, fault, spelled, part, ParsesTo}
 use Rattle.tsp_text.specs.declared.fault.ReadFault.{ReadFault}
 use Rattle.tsp_text.specs.declared.fault.ReadFault.TheVariants as faults
 use Rattle.tsp_read.proofs.FeedSteps.{taken_at, going_on, not_refused, settled_reads}
@@ -125,38 +125,38 @@ rest_fault None left given found gave e = tt
 rest_fault (Some rest) None given found gave e = absurd gave
 rest_fault (Some rest) (Some more) given found gave e = ap fault gave ∙ fault_kept given more found e
 
-whole_fault : (turn : Turn) (found : ReadFault) → Gave turn → IsSound turn → settled_fault turn.given ≡ Some found
-    → GaveAll turn (λ bytes. fault bytes ≡ Some found)
-whole_fault turn found gave sound e =
-    (gave, sound, ap fault (sym (append-nil turn.given)) ∙ fault_kept turn.given [] found e, rest_fault turn.known turn.left turn.given found gave e)
+whole_fault : (read_trace : ReadTrace) (found : ReadFault) → Gave read_trace → IsSound read_trace → settled_fault read_trace.given ≡ Some found
+    → GaveAll read_trace (λ bytes. fault bytes ≡ Some found)
+whole_fault read_trace found gave sound e =
+    (gave, sound, ap fault (sym (append-nil read_trace.given)) ∙ fault_kept read_trace.given [] found e, rest_fault read_trace.known read_trace.left read_trace.given found gave e)
 
-stops_by : (turn : Turn) (feed : Feed) (found : ReadFault) → Gave turn → IsSound turn → Feeds turn.given feed (Err found)
-    → StopsAt found turn
-stops_by turn feed (faults.Line line word found) gave sound h = whole_fault turn (faults.Line line word found) gave sound h.1
-stops_by turn feed (faults.End found) gave sound h = absurd h
-stops_by turn feed faults.OutOfMemory gave sound h = (gave, sound)
-stops_by turn feed faults.Device gave sound h = absurd h
-stops_by turn feed faults.TooLong gave sound h = whole_fault turn faults.TooLong gave sound h.1
+stops_by : (read_trace : ReadTrace) (feed : Feed) (found : ReadFault) → Gave read_trace → IsSound read_trace → Feeds read_trace.given feed (Err found)
+    → StopsAt found read_trace
+stops_by read_trace feed (faults.Line line word found) gave sound h = whole_fault read_trace (faults.Line line word found) gave sound h.1
+stops_by read_trace feed (faults.End found) gave sound h = absurd h
+stops_by read_trace feed faults.OutOfMemory gave sound h = (gave, sound)
+stops_by read_trace feed faults.Device gave sound h = absurd h
+stops_by read_trace feed faults.TooLong gave sound h = whole_fault read_trace faults.TooLong gave sound h.1
 
 memory_caused : (bytes : List ℕ) (feed : Feed) (found : ReadFault) → found ≡ faults.OutOfMemory → Feeds bytes feed (Err found)
     → is_bare bytes ≡ false
 memory_caused bytes feed found wants h = subst (λ (f : ReadFault). Feeds bytes feed (Err f)) wants h
 
-pub piece_stops : (turn : List ℕ → Turn) (known left next : Option (List ℕ)) (old new : Feed) (taken : ℕ) (piece : List ℕ) (found : ReadFault)
-    → ((given : List ℕ) → (turn given).given ≡ given)
-    → ((given : List ℕ) → Consumes known next given → Gave (turn given)) → ((given : List ℕ) → IsSound (turn given))
+pub piece_stops : (read_trace : List ℕ → ReadTrace) (known left next : Option (List ℕ)) (old new : Feed) (taken : ℕ) (piece : List ℕ) (found : ReadFault)
+    → ((given : List ℕ) → (read_trace given).given ≡ given)
+    → ((given : List ℕ) → Consumes known next given → Gave (read_trace given)) → ((given : List ℕ) → IsSound (read_trace given))
     → taken ≤ most_file_bytes → Gathered known left old taken → may_go_on old.stage ≡ true → length piece ≤ 4096
     → Consumes left next piece → ((bytes : List ℕ) → HasTaken old bytes → Feeds (bytes ++ piece) new (Err found))
-    → TakesAtMost most_taken turn (λ whole. StopsAt found whole × IsTimely whole.given × HasCause found whole.given)
-piece_stops turn known left next old new taken piece found same gives sound room g going few gave feeds =
+    → TakesAtMost most_taken read_trace (λ whole. StopsAt found whole × IsTimely whole.given × HasCause found whole.given)
+piece_stops read_trace known left next old new taken piece found same gives sound room g going few gave feeds =
     let given = g.given ++ piece in (
       given,
       omega (arith, length-append g.given piece, g.counted, room, few),
       (
-        stops_by (turn given) new found (gives given (Consumes-trans known left next g.given piece g.gave gave)) (sound given)
+        stops_by (read_trace given) new found (gives given (Consumes-trans known left next g.given piece g.gave gave)) (sound given)
             (subst (λ (xs : List ℕ). Feeds xs new (Err found)) (sym (same given)) (feeds g.given g.held)),
         subst IsTimely (sym (same given)) (timely_next known left old taken piece g going few),
-        λ wants. memory_caused (turn given).given new found wants (subst (λ (xs : List ℕ). Feeds xs new (Err found)) (sym (same given)) (feeds g.given g.held)),
+        λ wants. memory_caused (read_trace given).given new found wants (subst (λ (xs : List ℕ). Feeds xs new (Err found)) (sym (same given)) (feeds g.given g.held)),
       ),
     )
 
@@ -173,13 +173,13 @@ pub not_going : (known left : Option (List ℕ)) (feed : Feed) (taken : ℕ) →
 not_going known left feed taken g long =
     past_limit feed g.given feed.stage refl g.held (subst (λ (n : ℕ). most_file_bytes < n) (sym g.counted) long)
 
-pub fed_from : (turn : List ℕ → Turn) (known left : Option (List ℕ)) (feed : Feed) (taken : ℕ)
-    → ((given : List ℕ) → (turn given).given ≡ given)
-    → ((given : List ℕ) → Consumes known left given → Gave (turn given)) → ((given : List ℕ) → IsSound (turn given))
+pub fed_from : (read_trace : List ℕ → ReadTrace) (known left : Option (List ℕ)) (feed : Feed) (taken : ℕ)
+    → ((given : List ℕ) → (read_trace given).given ≡ given)
+    → ((given : List ℕ) → Consumes known left given → Gave (read_trace given)) → ((given : List ℕ) → IsSound (read_trace given))
     → taken ≤ most_taken → Gathered known left feed taken
-    → ((given : List ℕ) → IsAtEnd (turn given).left ⊎ (may_go_on feed.stage ≡ false))
-    → TakesAtMost most_taken turn (λ whole. IsFedFrom whole feed)
-fed_from turn known left feed taken same gives sound room g over =
+    → ((given : List ℕ) → IsAtEnd (read_trace given).left ⊎ (may_go_on feed.stage ≡ false))
+    → TakesAtMost most_taken read_trace (λ whole. IsFedFrom whole feed)
+fed_from read_trace known left feed taken same gives sound room g over =
     let e = same g.given in (
       g.given,
       omega (arith, g.counted, room),
@@ -283,43 +283,43 @@ whole_alike P back (Some rest) (Some more) given feed gave h none over p =
     subst P (sym gave) (back (given ++ more) given (alike_by feed given more h none over) p)
 
 gave_alike : (P : List ℕ → Type 0) → ((rest given : List ℕ) → AreAlike rest given → P given → P rest)
-    → (turn : Turn) (feed : Feed) → IsFedFrom turn feed → P turn.given → GaveAll turn P
-gave_alike P back turn feed f p =
-    (f.gave, f.sound, p, whole_alike P back turn.known turn.left turn.given feed f.gave f.held f.no_fault f.over p)
+    → (read_trace : ReadTrace) (feed : Feed) → IsFedFrom read_trace feed → P read_trace.given → GaveAll read_trace P
+gave_alike P back read_trace feed f p =
+    (f.gave, f.sound, p, whole_alike P back read_trace.known read_trace.left read_trace.given feed f.gave f.held f.no_fault f.over p)
 
 fault_back : (found : ReadFault) (rest given : List ℕ) → AreAlike rest given → fault given ≡ Some found → fault rest ≡ Some found
 fault_back found rest given h e = h.same_fault ∙ e
 
-spells_back : (file : Fields) (rest given : List ℕ) → AreAlike rest given → Spells given file → Spells rest file
+spells_back : (file : Fields) (rest given : List ℕ) → AreAlike rest given → ParsesTo given file → ParsesTo rest file
 spells_back file rest given h s =
     record { no_fault = h.same_fault ∙ s.no_fault; fields = s.fields ∙ ap spelled (sym h.same_part) }
 
 -- ---- the answer
 
-stops_in_time_by : (turn : Turn) (feed : Feed) (found : ReadFault) → IsFedFrom turn feed → Reads turn.given (Err found)
-    → StopsAt found turn
-stops_in_time_by turn feed (faults.Line line word found) f h =
-    gave_alike (λ bytes. fault bytes ≡ Some (faults.Line line word found)) (fault_back (faults.Line line word found)) turn feed f h
-stops_in_time_by turn feed (faults.End found) f h =
-    gave_alike (λ bytes. fault bytes ≡ Some (faults.End found)) (fault_back (faults.End found)) turn feed f h
-stops_in_time_by turn feed faults.OutOfMemory f h = (f.gave, f.sound)
-stops_in_time_by turn feed faults.Device f h = absurd h
-stops_in_time_by turn feed faults.TooLong f h =
-    gave_alike (λ bytes. fault bytes ≡ Some faults.TooLong) (fault_back faults.TooLong) turn feed f h
+stops_in_time_by : (read_trace : ReadTrace) (feed : Feed) (found : ReadFault) → IsFedFrom read_trace feed → Reads read_trace.given (Err found)
+    → StopsAt found read_trace
+stops_in_time_by read_trace feed (faults.Line line word found) f h =
+    gave_alike (λ bytes. fault bytes ≡ Some (faults.Line line word found)) (fault_back (faults.Line line word found)) read_trace feed f h
+stops_in_time_by read_trace feed (faults.End found) f h =
+    gave_alike (λ bytes. fault bytes ≡ Some (faults.End found)) (fault_back (faults.End found)) read_trace feed f h
+stops_in_time_by read_trace feed faults.OutOfMemory f h = (f.gave, f.sound)
+stops_in_time_by read_trace feed faults.Device f h = absurd h
+stops_in_time_by read_trace feed faults.TooLong f h =
+    gave_alike (λ bytes. fault bytes ≡ Some faults.TooLong) (fault_back faults.TooLong) read_trace feed f h
 
-pub in_time : (turn : List ℕ → Turn) (feed : Feed) (result : Result Fields ReadFault)
-    → TakesAtMost most_taken turn (λ whole. IsFedFrom whole feed)
+pub in_time : (read_trace : List ℕ → ReadTrace) (feed : Feed) (result : Result Fields ReadFault)
+    → TakesAtMost most_taken read_trace (λ whole. IsFedFrom whole feed)
     → ((bytes : List ℕ) → HasTaken feed bytes → Reads bytes result)
-    → ((bytes : List ℕ) → HasTaken feed bytes → result ≡ Err faults.OutOfMemory → is_bare bytes ≡ false) → ReadsInTime turn result
-in_time turn feed (Ok file) (given, few, f) reads memory =
-    (given, few, (gave_alike (λ bytes. Spells bytes file) (spells_back file) (turn given) feed f (reads (turn given).given f.held), f.timely))
-in_time turn feed (Err found) (given, few, f) reads memory =
-    (given, few, (stops_in_time_by (turn given) feed found f (reads (turn given).given f.held), f.timely, λ wants. memory (turn given).given f.held (ap (λ f. Err f) wants)))
+    → ((bytes : List ℕ) → HasTaken feed bytes → result ≡ Err faults.OutOfMemory → is_bare bytes ≡ false) → ReadsInTime read_trace result
+in_time read_trace feed (Ok file) (given, few, f) reads memory =
+    (given, few, (gave_alike (λ bytes. ParsesTo bytes file) (spells_back file) (read_trace given) feed f (reads (read_trace given).given f.held), f.timely))
+in_time read_trace feed (Err found) (given, few, f) reads memory =
+    (given, few, (stops_in_time_by (read_trace given) feed found f (reads (read_trace given).given f.held), f.timely, λ wants. memory (read_trace given).given f.held (ap (λ f. Err f) wants)))
 
 -- the answer, without when the reading stopped
-pub answer_of : (turn : List ℕ → Turn) (result : Result Fields ReadFault) → ReadsInTime turn result → ReadsFrom turn result
-answer_of turn (Ok file) (given, few, h) = (given, few, h.0)
-answer_of turn (Err found) (given, few, h) = (given, few, h.0)
+pub answer_of : (read_trace : List ℕ → ReadTrace) (result : Result Fields ReadFault) → ReadsInTime read_trace result → ReadsFrom read_trace result
+answer_of read_trace (Ok file) (given, few, h) = (given, few, h.0)
+answer_of read_trace (Err found) (given, few, h) = (given, few, h.0)
 
 -- ---- a text
 

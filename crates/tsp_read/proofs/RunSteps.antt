@@ -26,11 +26,11 @@ use Rattle.tsp_read.specs.declared.by_node.PointList.{PointList}
 use Rattle.tsp_read.specs.declared.items.Intake.{Intake}
 use Rattle.tsp_read.specs.declared.line.StepFault.{StepFault}
 use Rattle.tsp_read.specs.declared.line.StepFault.TheVariants as steps
-use Rattle.tsp_read.specs.declared.part.Part.{Part}
-use Rattle.tsp_read.specs.declared.part.Part.TheVariants as parts
+use Rattle.tsp_read.specs.declared.section_builder.SectionBuilder.{SectionBuilder}
+use Rattle.tsp_read.specs.declared.section_builder.SectionBuilder.TheVariants as parts
 use Rattle.tsp_read.specs.declared.reading.OpenSection.{OpenSection}
 use Rattle.tsp_read.specs.declared.reading.Reading.{Reading}
-use Rattle.tsp_read.specs.declared.run.Count.{Count}
+use Rattle.tsp_read.specs.declared.digits.Count.{Count}
 use Rattle.tsp_read.specs.states.HeldParts.{HoldsNumbers, HoldsPoints, shape_of_points, shape_by, HoldsPart, HoldsShape, TakesRead, KeepsWords}
 use Rattle.tsp_read.specs.states.Left.{items_left, ends_word, up_to_first, from}
 use Rattle.tsp_read.specs.states.Onward.{is_over_long, GivesNext, IsReadTo}
@@ -256,26 +256,26 @@ takes_also n place word A B (Ok done) f h = (h.0, f h.1)
 takes_also n place word A B (Err (steps.Memory refused)) f h = tt
 takes_also n place word A B (Err (steps.Fault fault)) f h = h
 
--- ---- a `Part` takes a word, or refuses it, as the list of its section does
+-- ---- a `SectionBuilder` takes a word, or refuses it, as the list of its section does
 
 -- how a part takes a word
-abbrev pub PartTakes : Part → Part → ℕ → List (List ℕ) → List ℕ → Result (Unit {0}) StepFault → Type 0
+abbrev pub PartTakes : SectionBuilder → SectionBuilder → ℕ → List (List ℕ) → List ℕ → Result (Unit {0}) StepFault → Type 0
 PartTakes old new n words word r =
     Takes n (place_by (shape_by old) n words) word (HoldsShape (shape_by old) new n (words ++ word ∷ [])) r
 
 -- a part of the same shape takes a word as its list does
-pub as_list : (old part after : Part) (n : ℕ) (words : List (List ℕ)) (word : List ℕ) (r : Result (Unit {0}) StepFault)
+pub as_list : (old part after : SectionBuilder) (n : ℕ) (words : List (List ℕ)) (word : List ℕ) (r : Result (Unit {0}) StepFault)
     → old ≡ part → shape_by after ≡ shape_by part
     → (HoldsPart part n words → Takes n (place_by (shape_by part) n words) word (HoldsPart after n (words ++ word ∷ [])) r)
     → HoldsPart old n words → PartTakes old after n words word r
 as_list old part after n words word r is same step h =
-    let P : Part → Type 0 = λ p. HoldsPart p n words in
-    let Q : Part → Type 0 = λ p. PartTakes p after n words word r in
+    let P : SectionBuilder → Type 0 = λ p. HoldsPart p n words in
+    let Q : SectionBuilder → Type 0 = λ p. PartTakes p after n words word r in
     subst Q (sym is) (takes_also n (place_by (shape_by part) n words) word (HoldsPart after n (words ++ word ∷ []))
     (HoldsShape (shape_by part) after n (words ++ word ∷ [])) r (λ held. (same, held)) (step (subst P is h)))
 
 -- and what it refuses leaves it as it is
-pub kept_list : (old part after : Part) (r : Result (Unit {0}) StepFault) → old ≡ part → shape_by after ≡ shape_by part
+pub kept_list : (old part after : SectionBuilder) (r : Result (Unit {0}) StepFault) → old ≡ part → shape_by after ≡ shape_by part
     → IfErr r (λ fault. (n : ℕ) (words : List (List ℕ)) → HoldsPart part n words → HoldsPart after n words)
     → IfErr r (λ fault. (n : ℕ) (words : List (List ℕ)) → HoldsPart old n words → HoldsShape (shape_by old) after n words)
 kept_list old part after (Ok done) is same kept = tt
@@ -289,14 +289,14 @@ kept_range low high after n words h =
     let Q : ℤ → Type 0 = λ z. HoldsNumbers after after.low z n words in
     (ap (λ z. Numbers z after.high) h.from ∙ ap (λ z. Numbers low z) h.to, subst Q (sym h.to) (subst P (sym h.from) h))
 
-pub numbers : (old : Part) (part after : NumberList) (n : ℕ) (words : List (List ℕ)) (word : List ℕ) (r : Result (Unit {0}) StepFault)
+pub numbers : (old : SectionBuilder) (part after : NumberList) (n : ℕ) (words : List (List ℕ)) (word : List ℕ) (r : Result (Unit {0}) StepFault)
     → old ≡ parts.Numbers part
     → ((low high : ℤ) (n : ℕ) (words : List (List ℕ)) → HoldsNumbers part low high n words
     → Takes n (place_of_number low high n words) word (HoldsNumbers after low high n (words ++ word ∷ [])) r)
     → HoldsPart old n words → PartTakes old (parts.Numbers after) n words word r
 numbers old part after n words word r is step h =
-    let P : Part → Type 0 = λ p. HoldsPart p n words in
-    let Q : Part → Type 0 = λ p. PartTakes p (parts.Numbers after) n words word r in
+    let P : SectionBuilder → Type 0 = λ p. HoldsPart p n words in
+    let Q : SectionBuilder → Type 0 = λ p. PartTakes p (parts.Numbers after) n words word r in
     subst Q (sym is) (takes_also n (place_of_number part.low part.high n words) word
     (HoldsNumbers after part.low part.high n (words ++ word ∷ []))
     (HoldsShape (Numbers part.low part.high) (parts.Numbers after) n (words ++ word ∷ [])) r
@@ -308,14 +308,14 @@ kept_kind : (in_space : Bool) (after : PointList) (n : ℕ) (words : List (List 
 kept_kind in_space after n words h =
     (ap shape_of_points h.kind, subst (λ b. HoldsPoints after b n words) (sym h.kind) h)
 
-pub points : (old : Part) (part after : PointList) (n : ℕ) (words : List (List ℕ)) (word : List ℕ) (r : Result (Unit {0}) StepFault)
+pub points : (old : SectionBuilder) (part after : PointList) (n : ℕ) (words : List (List ℕ)) (word : List ℕ) (r : Result (Unit {0}) StepFault)
     → old ≡ parts.Points part
     → ((in_space : Bool) (n : ℕ) (words : List (List ℕ)) → HoldsPoints part in_space n words
     → Takes n (place_by (shape_of_points in_space) n words) word (HoldsPoints after in_space n (words ++ word ∷ [])) r)
     → HoldsPart old n words → PartTakes old (parts.Points after) n words word r
 points old part after n words word r is step h =
-    let P : Part → Type 0 = λ p. HoldsPart p n words in
-    let Q : Part → Type 0 = λ p. PartTakes p (parts.Points after) n words word r in
+    let P : SectionBuilder → Type 0 = λ p. HoldsPart p n words in
+    let Q : SectionBuilder → Type 0 = λ p. PartTakes p (parts.Points after) n words word r in
     let kind : Bool = are_in_space part.entries in
     subst Q (sym is) (takes_also n (place_by (shape_of_points kind) n words) word (HoldsPoints after kind n (words ++ word ∷ []))
     (HoldsShape (shape_of_points kind) (parts.Points after) n (words ++ word ∷ [])) r
@@ -324,7 +324,7 @@ points old part after n words word r is step h =
 -- ---- a run, which takes plain numbers and line ends in one pass, leaves what taking them item
 
 -- a run of one word, which the part takes
-pub word_runs : (old new : Part) (before after : Count) (text rest word : List ℕ) → TakesRead old new word
+pub word_runs : (old new : SectionBuilder) (before after : Count) (text rest word : List ℕ) → TakesRead old new word
     → ((inside : Bool) → GivesNext inside text (NumberWord word) true rest)
     → after.line ≡ before.line → after.words ≡ before.words + 1 → after.inside ≡ true → length rest < length text
     → RunsTo old before text new after rest
@@ -348,7 +348,7 @@ word_runs old new before after text rest word takes gives line words inside shor
 }
 
 -- a run of no words: a part that holds what it held
-pub keeps_run : (old new : Part) (count : Count) (text : List ℕ) → KeepsWords old new → RunsTo old count text new count text
+pub keeps_run : (old new : SectionBuilder) (count : Count) (text : List ℕ) → KeepsWords old new → RunsTo old count text new count text
 keeps_run old new count text keeps = record {
   read = λ draft incomplete field bytes h.
       let was : Intake = in_run draft incomplete field old count in
@@ -369,12 +369,12 @@ keeps_run old new count text keeps = record {
   shorter = omega arith;
 }
 
-pub same_run : (part : Part) (count : Count) (text : List ℕ) → RunsTo part count text part count text
+pub same_run : (part : SectionBuilder) (count : Count) (text : List ℕ) → RunsTo part count text part count text
 same_run part count text =
     record { read = λ draft incomplete field bytes h. h; line = omega arith; words = omega arith; shorter = omega arith }
 
 -- a run of one line's end
-pub line_runs : (part : Part) (before after : Count) (text rest : List ℕ) → text ≡ 10 ∷ rest → after.line ≡ before.line + 1
+pub line_runs : (part : SectionBuilder) (before after : Count) (text rest : List ℕ) → text ≡ 10 ∷ rest → after.line ≡ before.line + 1
     → after.words ≡ 0 → after.inside ≡ false
     → RunsTo part before text part after rest
 line_runs part before after text rest parts line words inside =
@@ -398,7 +398,7 @@ line_runs part before after text rest parts line words inside =
     }
 
 -- one run after another
-pub run_then : (old mid new : Part) (before between after : Count) (text middle rest : List ℕ)
+pub run_then : (old mid new : SectionBuilder) (before between after : Count) (text middle rest : List ℕ)
     → RunsTo old before text mid between middle
     → RunsTo mid between middle new after rest → RunsTo old before text new after rest
 run_then old mid new before between after text middle rest first then = record {
@@ -409,7 +409,7 @@ run_then old mid new before between after text middle rest first then = record {
 }
 
 -- a step after a try that took nothing
-pub step_then : (old mid new : Part) (before between after : Count) (text : List ℕ) (found : Option (List ℕ))
+pub step_then : (old mid new : SectionBuilder) (before between after : Count) (text : List ℕ) (found : Option (List ℕ))
     → RunsTo old before text mid between text
     → StepsTo mid between text new after found → StepsTo old before text new after found
 step_then old mid new before between after text None first then =

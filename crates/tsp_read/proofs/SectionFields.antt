@@ -28,7 +28,7 @@ use Rattle.tsp_text.specs.Earlier.{has_line, value_at, read_as, dimension_in, na
 use Rattle.tsp_text.specs.FaultRows.{may_repeat, row_of}
 use Rattle.tsp_text.specs.Items.{first_word, Item, WordLine, Line, LineEnd, items_in, items_of, has_no_line_end}
 use Rattle.tsp_text.specs.SectionWords.{PastEnd}
-use Rattle.tsp_text.specs.Spells.{IsClean, needs_nodes, is_matrix, opening_rows, wants_more, is_incomplete, first_incomplete}
+use Rattle.tsp_text.specs.ParsesTo.{IsClean, needs_nodes, is_matrix, opening_rows, wants_more, is_incomplete, first_incomplete}
 use Rattle.tsp_read.proofs.NumbersReadBack.{NumberLaws, decimal_plain, signed_plain, size_from}
 use Rattle.tsp_read.proofs.Onto.{has_value, onto, value_kept, values_kept, others_kept, no_end_line, other_words, section_words, words_clean, AllTaken}
 use Rattle.tsp_read.proofs.Shapes.{Entries, entries_in, are_valid, lines_for, words_for, text_for, text_by, fit_for, fits_by, is_writable, body}

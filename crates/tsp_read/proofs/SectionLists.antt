@@ -18,7 +18,7 @@ use Rattle.tsp_text.proofs.GroupWords.{Words}
 use Rattle.tsp_text.specs.FaultRows.{word_fault}
 use Rattle.tsp_text.specs.Groups.{entry_of, nodes_of_groups, by_node, place_in_group, fixed_triple, place_in_triple, place_of_triple}
 use Rattle.tsp_text.specs.SectionWords.{node, reads_as, IsWhole, Place, NodeAfter, number, node_or_end, Amount, TourNode, ends_tour, tour_node, place_of_tour, whole_of_size, Weight, place_of_weight, TreeSoFar, no_steps, with_tree_word, tree_after, place_in_tree, place_of_step}
-use Rattle.tsp_text.specs.Spells.{wants_more}
+use Rattle.tsp_text.specs.ParsesTo.{wants_more}
 use Rattle.tsp_text.specs.declared.fault.LineFault.{LineFault}
 use Rattle.tsp_text.specs.declared.fault.LineFault.TheVariants as row
 use Rattle.tsp_read.proofs.ListSteps.{HasNodes, one_begun, place_open, second_bad as second_bad_of, second_same as second_same_of, second_clean, group_goes_on, group_taken}

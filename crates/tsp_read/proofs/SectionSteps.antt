@@ -18,12 +18,12 @@ use Rattle.tsp_text.specs.declared.fault.LineFault.{LineFault}
 use Rattle.tsp_text.specs.declared.fault.LineFault.TheVariants as row
 use Rattle.tsp_format.specs.declared.keyword.Shape.{Shape}
 use Rattle.tsp_format.specs.declared.keyword.Shape.TheVariants.{Numbers, Pairs, Triples, Combs, Steps}
-use Rattle.tsp_read.specs.declared.part.Part.{Part}
-use Rattle.tsp_read.specs.declared.part.Part.TheVariants as parts
+use Rattle.tsp_read.specs.declared.section_builder.SectionBuilder.{SectionBuilder}
+use Rattle.tsp_read.specs.declared.section_builder.SectionBuilder.TheVariants as parts
 use Rattle.tsp_read.specs.declared.by_node.NumberList.{NumberList}
 use Rattle.tsp_read.specs.declared.by_node.PointList.{PointList}
 use Rattle.tsp_read.specs.declared.lists.FixedList.{FixedList}
-use Rattle.tsp_read.specs.declared.part.TripleList.{TripleList}
+use Rattle.tsp_read.specs.declared.section_builder.TripleList.{TripleList}
 use Rattle.tsp_read.specs.declared.tree.CombList.{CombList}
 use Rattle.tsp_read.specs.declared.tree.TreeList.{TreeList}
 use Rattle.tsp_text.specs.Groups.{numbers_by_node, place_of_number, coords_by_node, fixed_in, place_of_fixed, fixed_triples_in, place_of_triple, whole_combs, place_of_comb}
@@ -33,13 +33,13 @@ use Rattle.tsp_text.specs.Earlier.{is_open, has_line, open_section, words_of, di
 use Rattle.tsp_text.specs.FaultRows.{row_of, when, first_row}
 use Rattle.tsp_read.specs.states.Holds.{MayOpen, HoldsSection, with_words, with_section, first_of, fields_there, OpenHolds, Holds, Closed}
 use Rattle.tsp_read.specs.states.Parts.{are_in_space}
-use Rattle.tsp_text.specs.Spells.{needs_nodes, is_matrix, opening_rows, wants_more, is_incomplete, sections_in_order, first_incomplete}
+use Rattle.tsp_text.specs.ParsesTo.{needs_nodes, is_matrix, opening_rows, wants_more, is_incomplete, sections_in_order, first_incomplete}
 use Rattle.tsp_read.specs.states.HeldParts.{HoldsNumbers, HoldsPoints, HoldsFixed, HoldsTriples, HoldsCombs, HoldsTree, shape_of_points, shape_by, HoldsPart, HoldsShape}
 use Rattle.tsp_read.specs.declared.reading.OpenSection.{OpenSection}
 use Rattle.tsp_read.specs.declared.reading.Reading.{Reading}
 use Rattle.tsp_text.proofs.SettledFaults.{clean_more}
 use Rattle.tsp_read.proofs.TextSteps.{but, first_without, first_more, opened_fields, opened_first, keywords_stay, closed_fields, stored_keywords}
-use Rattle.tsp_text.proofs.ValidRows.{was_opened, no_words}
+use Rattle.tsp_text.proofs.ValidRows.{was_opened, no_words_opened}
 use Rattle.tsp_text.proofs.Sections.{section_of, opening, standing, nodes_stay}
 use Rattle.tsp_text.proofs.ValidKeywords.{dimension_fits}
 
@@ -71,7 +71,7 @@ few_nodes : (dimension : Option ℕ) → if_there (is_node most_nodes) dimension
 few_nodes None e = omega arith
 few_nodes (Some n) e = leb-true n most_nodes (and_parts (nat_le 1 n) (nat_le n most_nodes) e).1
 
--- plan: the line adds no word, so the section is begun with none (`no_words`), and all other parts are as before it
+-- plan: the line adds no word, so the section is begun with none (`no_words_opened`), and all other parts are as before it
 pub opens : (old new : Reading) (field : Field) (shape : Shape) (line : WordLine) (n : ℕ) (section : OpenSection)
     → shape_of (spatial (fields_of old.draft)) field ≡ Some shape
     → MayOpen shape (stands_in (fields_of old.draft) field) line.value old.draft.dimension (Ok n) → section.field ≡ field
@@ -89,7 +89,7 @@ opens old new field shape line n section is may of begins same_draft same_first 
     ∷ when (is_matrix shape && nat_lt most_matrix_nodes (unwrap_or old.draft.dimension 0)) row.TooManyNodes ∷ []) rows in
     let none : has_line field earlier ≡ false = sym (standing earlier field kind) ∙ sym (ap (λ (fields : Fields). stands_in fields field) h.spelled) ∙ absent in
     let nodes : dimension_in earlier ≡ n = sym (ap (λ (fields : Fields). unwrap_or fields.dimension 0) h.spelled) ∙ sym may.0 in
-    let words : words_of field earlier ≡ [] = no_words field earlier none in
+    let words : words_of field earlier ≡ [] = no_words_opened field earlier none in
     let start = begins (subst (λ (m : ℕ). m ≤ most_nodes) nodes (few_nodes (dimension_of earlier) (dimension_fits earlier))) in
     let held : HoldsPart section.part (dimension_in (Line (Known field) line ∷ earlier)) (words_of section.field earlier) =
     subst (λ (m : ℕ). HoldsPart section.part m (words_of section.field earlier)) (sym (stays.0 ∙ nodes))
@@ -174,7 +174,7 @@ pub numbers_stored : (section : OpenSection) (part : NumberList) (numbers : List
     → (in_space : Bool) (n : ℕ) (words : List (List ℕ)) → HoldsSection in_space section n words
     → (new ≡ with_section in_space section.field n words old) × (more ≡ wants_more (place_in in_space section.field n words))
 numbers_stored section part numbers more old new is put finished in_space n words h =
-    let got = finished part.low part.high n words (subst (λ (p : Part). HoldsPart p n words) is h.1) in
+    let got = finished part.low part.high n words (subst (λ (p : SectionBuilder). HoldsPart p n words) is h.1) in
     stored_as section (Numbers part.low part.high) old new more in_space n words (h.0 ∙ ap (λ p. Some (shape_by p)) is)
     (put ∙ ap (λ xs. with_numbers section.field xs old) got.0) got.1
 
@@ -187,7 +187,7 @@ pub points_stored : (section : OpenSection) (part : PointList) (points : List Po
     → (new ≡ with_section in_space section.field n words old) × (more ≡ wants_more (place_in in_space section.field n words))
 points_stored section part points more old new is put finished in_space n words h =
     let kind = are_in_space part.entries in
-    let got = finished kind n words (subst (λ (p : Part). HoldsPart p n words) is h.1) in
+    let got = finished kind n words (subst (λ (p : SectionBuilder). HoldsPart p n words) is h.1) in
     stored_as section (shape_of_points kind) old new more in_space n words (h.0 ∙ ap (λ p. Some (shape_by p)) is)
     (put ∙ ap (λ xs. with_points section.field xs old) got.0 ∙ with_coords kind section.field n words old) got.1
 
@@ -198,7 +198,7 @@ pub pairs_stored : (section : OpenSection) (part : FixedList) (pairs : List (ℕ
     → (in_space : Bool) (n : ℕ) (words : List (List ℕ)) → HoldsSection in_space section n words
     → (new ≡ with_section in_space section.field n words old) × (more ≡ wants_more (place_in in_space section.field n words))
 pairs_stored section part pairs more old new is put finished in_space n words h =
-    let got = finished n words (subst (λ (p : Part). HoldsPart p n words) is h.1) in
+    let got = finished n words (subst (λ (p : SectionBuilder). HoldsPart p n words) is h.1) in
     stored_as section Pairs old new more in_space n words (h.0 ∙ ap (λ p. Some (shape_by p)) is) (put ∙ ap (λ xs. record old { fixed = Some xs }) got.0) got.1
 
 pub triples_stored : (section : OpenSection) (part : TripleList) (triples : List (ℕ × ℕ × ℤ)) (more : Bool) (old new : Fields)
@@ -208,7 +208,7 @@ pub triples_stored : (section : OpenSection) (part : TripleList) (triples : List
     → (in_space : Bool) (n : ℕ) (words : List (List ℕ)) → HoldsSection in_space section n words
     → (new ≡ with_section in_space section.field n words old) × (more ≡ wants_more (place_in in_space section.field n words))
 triples_stored section part triples more old new is put finished in_space n words h =
-    let got = finished n words (subst (λ (p : Part). HoldsPart p n words) is h.1) in
+    let got = finished n words (subst (λ (p : SectionBuilder). HoldsPart p n words) is h.1) in
     stored_as section Triples old new more in_space n words (h.0 ∙ ap (λ p. Some (shape_by p)) is)
     (put ∙ ap (λ xs. record old { fixed_potentials = Some xs }) got.0) got.1
 
@@ -219,7 +219,7 @@ pub combs_stored : (section : OpenSection) (part : CombList) (combs : List (List
     → (in_space : Bool) (n : ℕ) (words : List (List ℕ)) → HoldsSection in_space section n words
     → (new ≡ with_section in_space section.field n words old) × (more ≡ wants_more (place_in in_space section.field n words))
 combs_stored section part combs more old new is put finished in_space n words h =
-    let got = finished n words (subst (λ (p : Part). HoldsPart p n words) is h.1) in
+    let got = finished n words (subst (λ (p : SectionBuilder). HoldsPart p n words) is h.1) in
     stored_as section Combs old new more in_space n words (h.0 ∙ ap (λ p. Some (shape_by p)) is)
     (put ∙ ap (λ xs. record old { combs = Some xs }) got.0) got.1
 
@@ -230,6 +230,6 @@ pub steps_stored : (section : OpenSection) (part : TreeList) (steps : List Step)
     → (in_space : Bool) (n : ℕ) (words : List (List ℕ)) → HoldsSection in_space section n words
     → (new ≡ with_section in_space section.field n words old) × (more ≡ wants_more (place_in in_space section.field n words))
 steps_stored section part steps more old new is put finished in_space n words h =
-    let got = finished n words (subst (λ (p : Part). HoldsPart p n words) is h.1) in
+    let got = finished n words (subst (λ (p : SectionBuilder). HoldsPart p n words) is h.1) in
     stored_as section Steps old new more in_space n words (h.0 ∙ ap (λ p. Some (shape_by p)) is)
     (put ∙ ap (λ xs. record old { branches = Some xs }) got.0) got.1

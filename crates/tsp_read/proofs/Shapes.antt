@@ -19,7 +19,7 @@ use Rattle.tsp_text.specs.SectionWords.{is_end, PastEnd, Weight, PastWeights, De
 use Rattle.tsp_file.specs.Cost.{origin}
 use Rattle.tsp_text.specs.Groups.{numbers_by_node, points_by_node, space_points_by_node, depots_in, fixed_in, fixed_triples_in, whole_combs}
 use Rattle.tsp_text.specs.Earlier.{place_by}
-use Rattle.tsp_text.specs.Spells.{wants_more, needs_nodes, is_matrix}
+use Rattle.tsp_text.specs.ParsesTo.{wants_more, needs_nodes, is_matrix}
 use Rattle.tsp_read.proofs.Text.{WritesWords}
 use Rattle.tsp_read.proofs.NumbersReadBack.{NumberLaws, end_ends, depots_taken, depots_back, weights_taken, weights_back, pair_words, pairs_listed, triple_words, triples_listed}
 use Rattle.tsp_read.proofs.Onto.{AllTaken}

@@ -18,7 +18,7 @@ use Rattle.tsp_text.proofs.ValidRows.{same_field_is, same_self}
 use Rattle.tsp_text.specs.Earlier.{same_field, value_at, values_at, others_in, words_of}
 use Rattle.tsp_text.specs.FaultRows.{may_repeat, row_of}
 use Rattle.tsp_text.specs.Items.{Item, has_end_line, is_end_line, WordLine, Line, LineEnd, word_line_of, items_of}
-use Rattle.tsp_text.specs.Spells.{IsClean}
+use Rattle.tsp_text.specs.ParsesTo.{IsClean}
 use Rattle.tsp_read.proofs.Onto.{onto, onto-append, IsWhole, IsKeyword, written_line, value_written}
 use Rattle.tsp_read.proofs.Shapes.{entries_in, words_for}
 use Rattle.tsp_read.proofs.Text.{Writes, nothing_written, both_written}

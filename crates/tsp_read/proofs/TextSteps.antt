@@ -25,7 +25,7 @@ use Rattle.tsp_text.specs.FaultRows.{word_fault, row_of, when, first_row, is_too
 use Rattle.tsp_text.specs.Groups.{coords_by_node}
 use Rattle.tsp_text.specs.Items.{Item, AreCut, WordLine, Line, NumberWord}
 use Rattle.tsp_text.specs.SectionWords.{PastEnd}
-use Rattle.tsp_text.specs.Spells.{spelled, fault_at_end, fields_by, is_incomplete, sections_in_order}
+use Rattle.tsp_text.specs.ParsesTo.{spelled, fault_at_end, fields_by, is_incomplete, sections_in_order}
 use Rattle.tsp_text.specs.declared.fault.LineFault.{LineFault}
 use Rattle.tsp_text.specs.declared.fault.LineFault.TheVariants as row
 use Rattle.tsp_read.proofs.KeywordSteps.{still_none}
@@ -274,7 +274,7 @@ word_answer old new section after word (Ok done) earlier there same same_draft s
     let kind : is_section_field f ≡ true = section_of (spatial_after earlier) f (shape_by section.part) held.1.0 in
     let next = step (dimension_in earlier) (words_of f earlier) held.1.1 in
     record {
-      clean = clean_more earlier (NumberWord word) h.clean (word_rows earlier word f held.0
+      clean = clean_more earlier (NumberWord word) h.clean (rows_of_word earlier word f held.0
           ∙ ap (λ p. word_fault (dimension_in earlier) p word) (place_is (spatial_after earlier) f (shape_by section.part) (dimension_in earlier) (words_of f earlier) held.1.0) ∙ next.0);
       stand = rw same_draft h.stand;
       spelled = rw same_draft (h.spelled ∙ sym (word_fields earlier word f kind held.0));
@@ -284,7 +284,7 @@ word_answer old new section after word (Ok done) earlier there same same_draft s
 word_answer old new section after word (Err (steps.Memory refused)) earlier there same same_draft same_first is step h = tt
 word_answer old new section after word (Err (steps.Fault fault)) earlier there same same_draft same_first is step h =
     let held : OpenHolds (Some section) earlier = rw there at h.part in
-    word_rows earlier word section.field held.0
+    rows_of_word earlier word section.field held.0
     ∙ ap (λ p. word_fault (dimension_in earlier) p word) (place_is (spatial_after earlier) section.field (shape_by section.part) (dimension_in earlier) (words_of section.field earlier) held.1.0)
     ∙ step (dimension_in earlier) (words_of section.field earlier) held.1.1
 

@@ -14,7 +14,7 @@ use Rattle.tsp_file.specs.Validity.{is_within, is_node, is_branch_of, is_change,
 use Rattle.tsp_file.specs.CanonicalText.{change_words}
 use Rattle.tsp_text.specs.SectionWords.{number, reads_as, whole_of_size, StepAfter, IndexAfter, Amount, PastGroups, TreeSoFar, no_steps, index_or_leaf, begins_leaf, index_or_end, ends_leaf, with_leaf, with_word_of, with_tree_word, whole_steps, place_in_step, place_in_tree, place_of_step}
 use Rattle.tsp_text.specs.FaultRows.{word_fault}
-use Rattle.tsp_text.specs.Spells.{wants_more}
+use Rattle.tsp_text.specs.ParsesTo.{wants_more}
 use Rattle.tsp_read.proofs.NumbersReadBack.{NumberLaws, node_back, listed_back, node_goes_on, end_read, end_ends, no_zero, size_in, no_rows, has_room, second_taken, are_branch}
 use Rattle.tsp_read.proofs.Onto.{AllTaken, Runs, runs_none, runs_one, runs_then, all_taken}
 

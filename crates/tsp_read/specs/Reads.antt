@@ -3,13 +3,13 @@
 use Rattle.std.specs.Io.KnownBytes.{IsAtEnd}
 use Rattle.std.specs.Prelude.{◌≡◌, ◌||◌, ℕ, zero, suc, Bool, false, List, Result, is_err, ◌+◌, Some, Ok, Err, ◌≤◌, true, not, ◌&&◌, length, Option, None, is_some, ◌-◌, take, ◌⊎◌}
 use Rattle.std.specs.declared.io.Error.{Error}
-use Rattle.tsp_io.specs.Streams.{Turn, Gave, IsSound, GaveAll, HasBrokenOff, TakesAtMost}
+use Rattle.tsp_io.specs.Streams.{ReadTrace, Gave, IsSound, GaveAll, HasBrokenOff, TakesAtMost}
 use Rattle.tsp_io.specs.declared.watched.Watched.{Watched}
 use Rattle.tsp_io.specs.states.Watched.{watched, has_failed}
 use Rattle.tsp_format.specs.Limits.{most_file_bytes}
 use Rattle.tsp_file.specs.Fields.{Fields}
 use Rattle.tsp_text.specs.Items.{Item, has_end_line}
-use Rattle.tsp_text.specs.Spells.{fault, Spells, is_too_long, part, settled_part, settled_fault}
+use Rattle.tsp_text.specs.ParsesTo.{fault, ParsesTo, is_too_long, part, settled_part, settled_fault}
 use Rattle.tsp_text.specs.declared.fault.ReadFault.{ReadFault}
 use Rattle.tsp_text.specs.declared.fault.ReadFault.TheVariants as faults
 use Rattle.tsp_read.specs.declared.feed.Feed.{Feed}
@@ -37,7 +37,7 @@ IsReadOn gives old new = (count : ℕ) × (failed : Bool) × HasReads gives coun
 
 -- The text parses to this file, or this is its first fault. Out of memory says nothing.
 abbrev pub Reads : List ℕ → Result Fields ReadFault → Type 0
-Reads bytes (Ok file) = Spells bytes file
+Reads bytes (Ok file) = ParsesTo bytes file
 Reads bytes (Err (faults.Line line word found)) = fault bytes ≡ Some (faults.Line line word found)
 Reads bytes (Err (faults.End found)) = fault bytes ≡ Some (faults.End found)
 Reads bytes (Err faults.OutOfMemory) = Unit {0}
@@ -60,26 +60,26 @@ abbrev pub most_taken : ℕ
 most_taken = most_file_bytes + 4096
 
 -- the bytes that the reader delivered parse to the file, and so do all its bytes, where these are known
-abbrev pub IsFile : Turn → Fields → Type 0
-IsFile turn file = GaveAll turn (λ bytes. Spells bytes file)
+abbrev pub IsFile : ReadTrace → Fields → Type 0
+IsFile read_trace file = GaveAll read_trace (λ bytes. ParsesTo bytes file)
 
 -- the bytes that the reader delivered have this first fault, and so do all its bytes, where these are known
-abbrev pub HasFault : ReadFault → Turn → Type 0
-HasFault found turn = GaveAll turn (λ bytes. fault bytes ≡ Some found)
+abbrev pub HasFault : ReadFault → ReadTrace → Type 0
+HasFault found read_trace = GaveAll read_trace (λ bytes. fault bytes ≡ Some found)
 
 -- Reading ended without a file: by the first fault of the bytes; or memory was refused, and the reader hasn't failed;
 -- or it has failed.
-abbrev pub StopsAt : ReadFault → Turn → Type 0
-StopsAt (faults.Line line word found) turn = HasFault (faults.Line line word found) turn
-StopsAt (faults.End found) turn = HasFault (faults.End found) turn
-StopsAt faults.OutOfMemory turn = Gave turn × IsSound turn
-StopsAt faults.Device turn = HasBrokenOff turn
-StopsAt faults.TooLong turn = HasFault faults.TooLong turn
+abbrev pub StopsAt : ReadFault → ReadTrace → Type 0
+StopsAt (faults.Line line word found) read_trace = HasFault (faults.Line line word found) read_trace
+StopsAt (faults.End found) read_trace = HasFault (faults.End found) read_trace
+StopsAt faults.OutOfMemory read_trace = Gave read_trace × IsSound read_trace
+StopsAt faults.Device read_trace = HasBrokenOff read_trace
+StopsAt faults.TooLong read_trace = HasFault faults.TooLong read_trace
 
 -- The file of a reader, or why it has none; no more bytes than that are taken.
-abbrev pub ReadsFrom : (List ℕ → Turn) → Result Fields ReadFault → Type 0
-ReadsFrom turn (Ok file) = TakesAtMost most_taken turn (λ whole. IsFile whole file)
-ReadsFrom turn (Err found) = TakesAtMost most_taken turn (StopsAt found)
+abbrev pub ReadsFrom : (List ℕ → ReadTrace) → Result Fields ReadFault → Type 0
+ReadsFrom read_trace (Ok file) = TakesAtMost most_taken read_trace (λ whole. IsFile whole file)
+ReadsFrom read_trace (Err found) = TakesAtMost most_taken read_trace (StopsAt found)
 
 -- ---- a text that comes in pieces: which bytes a `Feed` (src/feed.rt) has taken so far
 
@@ -179,23 +179,23 @@ may_go_on Ended = false
 may_go_on (Refused found) = false
 
 -- a feed has taken all bytes of the reader, or needs no more
-pub record IsFedFrom (turn : Turn) (feed : Feed) : Type 0 where
-  pub gave : Gave turn
-  pub sound : IsSound turn
-  pub held : HasTaken feed turn.given
-  pub no_fault : settled_fault turn.given ≡ None
-  pub timely : IsTimely turn.given
-  pub over : IsAtEnd turn.left ⊎ (may_go_on feed.stage ≡ false)
+pub record IsFedFrom (read_trace : ReadTrace) (feed : Feed) : Type 0 where
+  pub gave : Gave read_trace
+  pub sound : IsSound read_trace
+  pub held : HasTaken feed read_trace.given
+  pub no_fault : settled_fault read_trace.given ≡ None
+  pub timely : IsTimely read_trace.given
+  pub over : IsAtEnd read_trace.left ⊎ (may_go_on feed.stage ≡ false)
 
 -- The feed after all pieces of a reader, or why reading ended.
-abbrev pub FeedsAll : (List ℕ → Turn) → Feed → Result (Unit {0}) ReadFault → Type 0
-FeedsAll turn feed (Ok done) = TakesAtMost most_taken turn (λ whole. IsFedFrom whole feed)
-FeedsAll turn feed (Err found) =
-    TakesAtMost most_taken turn (λ whole. StopsAt found whole × IsTimely whole.given × HasCause found whole.given)
+abbrev pub FeedsAll : (List ℕ → ReadTrace) → Feed → Result (Unit {0}) ReadFault → Type 0
+FeedsAll read_trace feed (Ok done) = TakesAtMost most_taken read_trace (λ whole. IsFedFrom whole feed)
+FeedsAll read_trace feed (Err found) =
+    TakesAtMost most_taken read_trace (λ whole. StopsAt found whole × IsTimely whole.given × HasCause found whole.given)
 
 -- The file of a reader, or why it has none; no piece more than needed is taken, and memory only for more than blanks
 -- and line ends.
-abbrev pub ReadsInTime : (List ℕ → Turn) → Result Fields ReadFault → Type 0
-ReadsInTime turn (Ok file) = TakesAtMost most_taken turn (λ whole. IsFile whole file × IsTimely whole.given)
-ReadsInTime turn (Err found) =
-    TakesAtMost most_taken turn (λ whole. StopsAt found whole × IsTimely whole.given × HasCause found whole.given)
+abbrev pub ReadsInTime : (List ℕ → ReadTrace) → Result Fields ReadFault → Type 0
+ReadsInTime read_trace (Ok file) = TakesAtMost most_taken read_trace (λ whole. IsFile whole file × IsTimely whole.given)
+ReadsInTime read_trace (Err found) =
+    TakesAtMost most_taken read_trace (λ whole. StopsAt found whole × IsTimely whole.given × HasCause found whole.given)

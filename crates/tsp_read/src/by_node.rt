@@ -8,7 +8,7 @@ ghost use Rattle.tsp_file.specs.states.Drafts.{points_of};
 ghost use Rattle.tsp_read.specs.states.Parts.{are_in_space};
 
 use crate::line::StepFault;
-use crate::part::{is_minus_one, new_node, unmarked_node};
+use crate::section_builder::{is_minus_one, new_node, unmarked_node};
 use std::alloc::Global;
 use tsp_file::Coords;
 use tsp_io::{Refused, filled};
@@ -58,7 +58,7 @@ impl PointList {
     ghost use Rattle.tsp_text.specs.SectionWords.{IsWhole};
     ghost use Rattle.tsp_text.specs.Groups.{coords_by_node};
     ghost use Rattle.tsp_text.specs.Earlier.{place_by};
-    ghost use Rattle.tsp_text.specs.Spells.{wants_more};
+    ghost use Rattle.tsp_text.specs.ParsesTo.{wants_more};
     ghost use Rattle.tsp_read.specs.states.Parts.{Takes, IsNodeOf};
     ghost use Rattle.tsp_text.specs.FaultRows.{word_fault};
     ghost use Rattle.tsp_read.specs.states.HeldParts.{shape_of_points, HoldsPoints};
@@ -246,7 +246,7 @@ impl NumberList {
     ghost use Rattle.tsp_read.specs.declared.line.StepFault.TheVariants.{Memory};
     ghost use Rattle.tsp_text.specs.Groups.{place_of_number, numbers_by_node};
     ghost use Rattle.tsp_text.specs.SectionWords.{IsWhole};
-    ghost use Rattle.tsp_text.specs.Spells.{wants_more};
+    ghost use Rattle.tsp_text.specs.ParsesTo.{wants_more};
     ghost use Rattle.tsp_read.specs.states.Parts.{Takes, IsNodeOf};
     ghost use Rattle.tsp_read.specs.states.HeldParts.{HoldsNumbers};
 

@@ -118,7 +118,7 @@ impl Feed {
     ghost use Rattle.tsp_text.specs.declared.fault.ReadFault.{ReadFault};
     ghost use Rattle.tsp_read.specs.declared.feed.Stage.TheVariants.{Going};
     ghost use Rattle.tsp_text.specs.Items.{has_end_line};
-    ghost use Rattle.tsp_text.specs.Spells.{settled_part, settled_fault};
+    ghost use Rattle.tsp_text.specs.ParsesTo.{settled_part, settled_fault};
     ghost use Rattle.tsp_text.specs.declared.fault.ReadFault.TheVariants.{OutOfMemory};
     ghost use Rattle.tsp_read.specs.states.Holds.{IsReadFrom};
     ghost use Rattle.tsp_read.specs.states.Onward.{is_bare};

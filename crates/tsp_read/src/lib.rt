@@ -12,22 +12,23 @@
 //! ```
 #![tactic(auto)]
 
-mod asked_reads;
+mod api;
 mod by_node;
+mod digits;
 mod examples;
 mod feed;
 mod items;
 mod line;
 mod lists;
-mod part;
 mod reading;
 mod round_trip;
-mod run;
 mod runs;
+mod section_builder;
 mod tree;
 
-pub use asked_reads::{file_of_bytes, file_of_reader, read_bytes, read_from};
+pub use api::{file_of_bytes, file_of_reader, read_bytes, read_from};
 pub use by_node::{NumberList, PointList};
+pub use digits::RunList;
 pub use examples::examples_of_reading;
 pub use feed::Feed;
 pub use line::{
@@ -35,11 +36,10 @@ pub use line::{
     set_named, without_start,
 };
 pub use lists::{DepotList, FixedList};
-pub use part::{Part, TripleList};
 pub use reading::ReadError;
 pub use round_trip::{canonical_texts_are_read_back, written_numbers_are_read_back};
-pub use run::RunList;
 pub use runs::{Gathered, GatheredNodes, TourList, WeightList};
+pub use section_builder::{SectionBuilder, TripleList};
 pub use tree::{CombList, TreeList};
 pub use tsp_file::EndFault;
 pub use tsp_text::{LineFault, ReadFault};

@@ -3,7 +3,7 @@
 ghost use Rattle.std.specs.Prelude.{◌≡◌, [], ℕ, List, ◌∷◌, ◌++◌, IfErr, false, None, Some};
 
 use crate::line::StepFault;
-use crate::part::{is_minus_one, read_node, read_node_or_end};
+use crate::section_builder::{is_minus_one, read_node, read_node_or_end};
 use std::alloc::Global;
 use tsp_format::{MOST_DEPOTS, MOST_FIXED};
 use tsp_io::push;
@@ -93,7 +93,7 @@ pub struct FixedList {
 
 impl FixedList {
     ghost use Rattle.tsp_text.specs.Groups.{place_of_fixed, fixed_in};
-    ghost use Rattle.tsp_text.specs.Spells.{wants_more};
+    ghost use Rattle.tsp_text.specs.ParsesTo.{wants_more};
     ghost use Rattle.tsp_read.specs.states.Parts.{Takes};
     ghost use Rattle.tsp_read.specs.states.HeldParts.{HoldsFixed};
 

@@ -8,7 +8,7 @@ ghost use Rattle.tsp_file.specs.Rules.{standing_of, end_fault, fault_of};
 ghost use Rattle.tsp_file.specs.states.Drafts.{fields_of};
 ghost use Rattle.tsp_text.specs.Items.{AreCut, Item, NumberWord};
 ghost use Rattle.tsp_text.specs.Earlier.{same_field, place_in};
-ghost use Rattle.tsp_text.specs.Spells.{wants_more};
+ghost use Rattle.tsp_text.specs.ParsesTo.{wants_more};
 ghost use Rattle.tsp_text.specs.declared.fault.ReadFault.TheVariants.{OutOfMemory, Line, End, TooLong, Device};
 ghost use Rattle.tsp_read.specs.Reads.{Completes};
 ghost use Rattle.tsp_read.specs.states.Holds.{seen, FileOf, LineAnswers, Holds, IsReadFrom, is_either, first_of, HoldsSection, with_section};
@@ -17,7 +17,7 @@ use crate::line::{
     CutLine, StepFault, add_comment, add_other, may_open, number_of, says_space, set_name,
     set_named,
 };
-use crate::part::Part;
+use crate::section_builder::SectionBuilder;
 use std::alloc::Global;
 use std::marker::Model;
 use tsp_file::{Draft, EndFault, File, end_fault};
@@ -29,7 +29,7 @@ use tsp_text::{LineFault, ReadFault};
 #[derive(Drop)]
 pub(crate) struct OpenSection {
     pub(crate) field: Field,
-    pub(crate) part: Part,
+    pub(crate) part: SectionBuilder,
 }
 
 /// What was read so far: the fields of the lines and of the sections that are closed, the first of
@@ -258,7 +258,7 @@ impl Reading {
     {
         let stands = self.draft.stands(field);
         match may_open(shape, stands, line.value, self.draft.dimension) {
-            Ok(n) => match Part::open(alloc, shape, n) {
+            Ok(n) => match SectionBuilder::open(alloc, shape, n) {
                 Ok(part) => {
                     self.begin(OpenSection { field, part });
                     Ok(())
@@ -281,44 +281,44 @@ fn store(draft: &mut Draft, alloc: Global, section: OpenSection) -> Result<bool,
 {
     let OpenSection { field, part } = section;
     match part {
-        Part::Numbers(part) => {
+        SectionBuilder::Numbers(part) => {
             let (numbers, wants_more) = part.finish();
             draft.set_numbers(field, numbers);
             Ok(wants_more)
         }
-        Part::Points(part) => {
+        SectionBuilder::Points(part) => {
             let (points, wants_more) = part.finish();
             draft.set_points(field, points);
             Ok(wants_more)
         }
-        Part::Depots(part) => {
+        SectionBuilder::Depots(part) => {
             draft.depots = Some(part.finish());
             Ok(false)
         }
-        Part::Pairs(part) => {
+        SectionBuilder::Pairs(part) => {
             let (pairs, wants_more) = part.finish();
             draft.fixed = Some(pairs);
             Ok(wants_more)
         }
-        Part::Weights(part) => {
+        SectionBuilder::Weights(part) => {
             draft.weights = Some(part.finish());
             Ok(false)
         }
-        Part::Tours(part) => {
+        SectionBuilder::Tours(part) => {
             draft.tours = Some(part.finish(alloc)?);
             Ok(false)
         }
-        Part::Triples(part) => {
+        SectionBuilder::Triples(part) => {
             let (triples, wants_more) = part.finish();
             draft.fixed_potentials = Some(triples);
             Ok(wants_more)
         }
-        Part::Combs(part) => {
+        SectionBuilder::Combs(part) => {
             let (combs, wants_more) = part.finish();
             draft.combs = Some(combs);
             Ok(wants_more)
         }
-        Part::Steps(part) => {
+        SectionBuilder::Steps(part) => {
             let (steps, wants_more) = part.finish();
             draft.branches = Some(steps);
             Ok(wants_more)

@@ -11,7 +11,7 @@ ghost use Rattle.tsp_file.specs.Validity.{is_from_to};
 ghost use Rattle.tsp_file.specs.CanonicalText.{text_of};
 ghost use Rattle.tsp_text.specs.declared.fault.ReadFault.{ReadFault};
 ghost use Rattle.tsp_read.specs.Reads.{Reads};
-ghost use Rattle.tsp_text.specs.Spells.{Spells};
+ghost use Rattle.tsp_text.specs.ParsesTo.{ParsesTo};
 ghost use Rattle.tsp_read.specs.Answers.{IsThisFile};
 
 use tsp_file::a_valid_text_is_short;
@@ -34,13 +34,13 @@ pub fn written_numbers_are_read_back()
 /// So reading it returns that file, or out of memory. No two valid files have the same canonical
 /// text. The canonical text of the file that a text parses to parses to the same file.
 pub fn canonical_texts_are_read_back()
-    ensures spelled { (f : Fields) → fault_of f ≡ None → Spells (text_of f) f }
-    ensures alone { (f other : Fields) → fault_of f ≡ None → Spells (text_of f) other → other ≡ f }
+    ensures spelled { (f : Fields) → fault_of f ≡ None → ParsesTo (text_of f) f }
+    ensures alone { (f other : Fields) → fault_of f ≡ None → ParsesTo (text_of f) other → other ≡ f }
     ensures read { (f : Fields) (answer : Result Fields ReadFault) → fault_of f ≡ None
         → Reads (text_of f) answer → IsThisFile f answer }
     ensures told_apart { (f other : Fields) → fault_of f ≡ None → fault_of other ≡ None
         → text_of f ≡ text_of other → f ≡ other }
-    ensures again { (bytes : List ℕ) (f : Fields) → Spells bytes f → Spells (text_of f) f }
+    ensures again { (bytes : List ℕ) (f : Fields) → ParsesTo bytes f → ParsesTo (text_of f) f }
 {
     written_numbers_are_read_back();
     a_valid_text_is_short();

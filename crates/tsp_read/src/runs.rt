@@ -5,7 +5,7 @@ ghost use Rattle.tsp_format.specs.Limits.{most_tour_nodes};
 ghost use Rattle.tsp_text.specs.SectionWords.{IsWhole};
 
 use crate::line::StepFault;
-use crate::part::{move_to_end, read_node_or_end};
+use crate::section_builder::{move_to_end, read_node_or_end};
 use std::alloc::Global;
 use std::mem;
 use tsp_format::{MOST_MATRIX_NODES, MOST_NODES, MOST_TOUR_NODES, MOST_WEIGHT};

@@ -3,11 +3,13 @@
 ghost use Rattle.std.specs.Prelude.{◌≡◌, [], ℕ, List, ◌∷◌, ◌++◌, ◌<◌, length, OnOk, IfErr, false, ◌≢◌, ◌+◌, ◌≤◌, None, Some, true};
 
 use crate::line::StepFault;
-use crate::part::{is_minus_one, move_to_end, read_index_or_leaf, read_node, read_node_or_end};
+use crate::section_builder::{
+    is_minus_one, move_to_end, read_index_or_leaf, read_node, read_node_or_end,
+};
 use std::alloc::Global;
 use std::mem;
 use tsp_format::{
-    MOST_BRANCHES, MOST_CHANGES, MOST_COMBS, MOST_COMB_NODES, MOST_DIFFERENCE, MOST_NODES, TreeStep,
+    MOST_BRANCHES, MOST_CHANGES, MOST_COMB_NODES, MOST_COMBS, MOST_DIFFERENCE, MOST_NODES, TreeStep,
 };
 use tsp_io::{Refused, push};
 use tsp_number::parse_whole;
@@ -29,7 +31,7 @@ impl CombList {
     ghost use Rattle.tsp_file.specs.states.Drafts.{combs_of};
     ghost use Rattle.tsp_text.specs.Groups.{whole_combs, with_set, with_comb, with_end, has_begun_comb, place_of_comb};
     ghost use Rattle.tsp_text.specs.FaultRows.{is_past_combs};
-    ghost use Rattle.tsp_text.specs.Spells.{wants_more};
+    ghost use Rattle.tsp_text.specs.ParsesTo.{wants_more};
     ghost use Rattle.tsp_read.specs.states.Parts.{Takes};
     ghost use Rattle.tsp_read.specs.states.HeldParts.{combs_held, HoldsCombs};
 
@@ -169,7 +171,7 @@ pub struct TreeList {
 impl TreeList {
     ghost use Rattle.tsp_format.specs.states.TreeSteps.{steps_of};
     ghost use Rattle.tsp_text.specs.SectionWords.{whole_steps, with_leaf, place_of_step};
-    ghost use Rattle.tsp_text.specs.Spells.{wants_more};
+    ghost use Rattle.tsp_text.specs.ParsesTo.{wants_more};
     ghost use Rattle.tsp_read.specs.states.Parts.{Takes};
     ghost use Rattle.tsp_read.specs.states.HeldParts.{tree_held, HoldsTree};
 

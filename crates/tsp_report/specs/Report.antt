@@ -8,11 +8,11 @@ use Rattle.std.specs.Prelude.{ℕ, List, ◌∷◌, ◌++◌, map, codes, decima
 use Rattle.tsp_format.specs.Words.{kind_word}
 use Rattle.tsp_format.specs.declared.kinds.Kind.{Kind}
 use Rattle.tsp_file.specs.Fields.{Fields, nodes_of}
-use Rattle.tsp_text.specs.Spells.{read_fault_text}
+use Rattle.tsp_text.specs.ParsesTo.{read_fault_text}
 use Rattle.tsp_text.specs.declared.fault.ReadFault.{ReadFault}
 use Rattle.tsp_report.specs.Verdicts.{ReasonRow, row_of_reason}
-use Rattle.tsp_report.specs.declared.verdict.Basis.{Basis}
-use Rattle.tsp_report.specs.declared.verdict.Basis.TheVariants as bases
+use Rattle.tsp_report.specs.declared.verdict.KnownBound.{KnownBound}
+use Rattle.tsp_report.specs.declared.verdict.KnownBound.TheVariants as known_bounds
 use Rattle.tsp_report.specs.declared.verdict.BoundVerdict.{BoundVerdict}
 use Rattle.tsp_report.specs.declared.verdict.BoundVerdict.TheVariants as bounds
 use Rattle.tsp_report.specs.declared.verdict.Reason.{Reason}
@@ -119,21 +119,21 @@ bound_report_of instance found = instance_lines instance ++ bound_found_lines in
 -- ---- the head
 
 -- the line of the bound, if there is one
-abbrev pub basis_bound : Option ℤ → List ℕ
-basis_bound None = []
-basis_bound (Some bound) = codes "bound " ++ signed_decimal bound ++ codes "\n"
+abbrev pub known_bound_bound : Option ℤ → List ℕ
+known_bound_bound None = []
+known_bound_bound (Some bound) = codes "bound " ++ signed_decimal bound ++ codes "\n"
 
 -- the bound, or `none` where the instance has no solution, after the least number of routes; or the first reason
 -- against the instance or the certificate
-abbrev pub basis_lines : Fields → Basis → List ℕ
-basis_lines instance (bases.Tours bound) = basis_bound bound
-basis_lines instance bases.NoSolution = codes "bound none\n"
-basis_lines instance (bases.Routes least bound) = codes "least " ++ decimal least ++ codes "\n" ++ basis_bound bound
-basis_lines instance (bases.No reason) = no_line instance reason
+abbrev pub known_bound_lines : Fields → KnownBound → List ℕ
+known_bound_lines instance (known_bounds.Tours bound) = known_bound_bound bound
+known_bound_lines instance known_bounds.NoSolution = codes "bound none\n"
+known_bound_lines instance (known_bounds.Routes least bound) = codes "least " ++ decimal least ++ codes "\n" ++ known_bound_bound bound
+known_bound_lines instance (known_bounds.No reason) = no_line instance reason
 
 -- the head: the lines of the instance, then those of the basis
-abbrev pub head_of : Fields → Basis → List ℕ
-head_of instance basis = instance_lines instance ++ basis_lines instance basis
+abbrev pub head_of : Fields → KnownBound → List ℕ
+head_of instance known_bound = instance_lines instance ++ known_bound_lines instance known_bound
 
 -- ---- a solution
 

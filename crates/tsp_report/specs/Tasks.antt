@@ -1,7 +1,7 @@
 -- A task on files: its files in the order in which they are read, the role of each, and the same task on other files.
 use Rattle.std.specs.Prelude.{ℕ, List, [], ◌∷◌, ◌-◌, ◌==◌, Option, None, Some, cond, slice_get, ◌≡◌}
-use Rattle.tsp_report.specs.declared.task.Certificate.{Certificate}
-use Rattle.tsp_report.specs.declared.task.Certificate.TheVariants as certificates
+use Rattle.tsp_report.specs.declared.task.CertificateKind.{CertificateKind}
+use Rattle.tsp_report.specs.declared.task.CertificateKind.TheVariants as certificates
 use Rattle.tsp_report.specs.declared.task.Comparison.{Comparison}
 use Rattle.tsp_report.specs.declared.task.FileTask.{FileTask}
 use Rattle.tsp_report.specs.declared.task.FileTask.TheVariants.{Show, Convert, Check, Bound}
@@ -11,14 +11,14 @@ use Rattle.tsp_report.specs.declared.task.Task.{Task}
 use Rattle.tsp_report.specs.declared.task.Task.TheVariants as tasks
 
 -- each kind of certificate has its role
-abbrev pub role_by : Certificate → Role
+abbrev pub role_by : CertificateKind → Role
 role_by certificates.Potentials = Potentials
 role_by certificates.Branches = Branches
 
 -- ---- the files of a task in the order in which they are read, each with its role
 
 -- the file of a certificate, where one is named
-abbrev pub file_named : {F : Type 0} → Option (Certificate × F) → List (Option Role × F)
+abbrev pub file_named : {F : Type 0} → Option (CertificateKind × F) → List (Option Role × F)
 file_named None = []
 file_named (Some named) = (Some (role_by named.0), named.1) ∷ []
 
@@ -46,7 +46,7 @@ numbered number xs = cond (number == 0) None (slice_get xs (number - 1))
 -- ---- a task with its files replaced by others, as paths by opened files
 
 -- the same kind of certificate with such a file, or none
-abbrev pub IsMappedCertificate : {F G : Type 0} → (F → G → Type 0) → Option (Certificate × F) → Option (Certificate × G) → Type 0
+abbrev pub IsMappedCertificate : {F G : Type 0} → (F → G → Type 0) → Option (CertificateKind × F) → Option (CertificateKind × G) → Type 0
 IsMappedCertificate gives None None = Unit {0}
 IsMappedCertificate gives (Some a) (Some x) = (x.0 ≡ a.0) × gives a.1 x.1
 IsMappedCertificate gives _ _ = ⊥

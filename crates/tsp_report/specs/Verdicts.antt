@@ -2,8 +2,8 @@
 use Rattle.std.specs.Prelude.{Bool, true, false, ℕ, List, Option, None, Some, codes, ℤ, pos}
 use Rattle.tsp_report.specs.declared.task.Role.{Role}
 use Rattle.tsp_report.specs.declared.task.Role.TheVariants.{Instance, Solution, Potentials, Branches}
-use Rattle.tsp_report.specs.declared.verdict.Basis.{Basis}
-use Rattle.tsp_report.specs.declared.verdict.Basis.TheVariants as bases
+use Rattle.tsp_report.specs.declared.verdict.KnownBound.{KnownBound}
+use Rattle.tsp_report.specs.declared.verdict.KnownBound.TheVariants as known_bounds
 use Rattle.tsp_report.specs.declared.verdict.BoundVerdict.{BoundVerdict}
 use Rattle.tsp_report.specs.declared.verdict.BoundVerdict.TheVariants as bounds
 use Rattle.tsp_report.specs.declared.verdict.Reason.{Reason}
@@ -24,11 +24,11 @@ is_bound_yes bounds.NoSolution = true
 is_bound_yes (bounds.No reason) = false
 
 -- no reason applies whatever the solution, so solutions are judged one by one
-abbrev pub is_clear : Basis → Bool
-is_clear (bases.Tours bound) = true
-is_clear bases.NoSolution = true
-is_clear (bases.Routes least bound) = true
-is_clear (bases.No reason) = false
+abbrev pub is_clear : KnownBound → Bool
+is_clear (known_bounds.Tours bound) = true
+is_clear known_bounds.NoSolution = true
+is_clear (known_bounds.Routes least bound) = true
+is_clear (known_bounds.No reason) = false
 
 -- ---- the table of reasons, one row each
 

@@ -5,11 +5,11 @@ ghost use Rattle.tsp_number.specs.NumberWord.{number_fault_text};
 ghost use Rattle.tsp_io.specs.Streams.{Writes};
 ghost use Rattle.tsp_io.specs.states.Watched.{sink_of, Puts};
 ghost use Rattle.tsp_file.specs.Rules.{end_fault_text};
-ghost use Rattle.tsp_text.specs.Spells.{line_fault_text, read_fault_text};
-ghost use Rattle.tsp_report.specs.Report.{head_of, basis_lines, basis_bound, gap_words, bound_words, verdict_words, found_words, solution_line, IsGapSized, IsSized};
+ghost use Rattle.tsp_text.specs.ParsesTo.{line_fault_text, read_fault_text};
+ghost use Rattle.tsp_report.specs.Report.{head_of, known_bound_lines, known_bound_bound, gap_words, bound_words, verdict_words, found_words, solution_line, IsGapSized, IsSized};
 
 use crate::report::{gap_of, put_instance, put_named, put_no, put_reason};
-use crate::verdict::{Basis, Verdict};
+use crate::verdict::{KnownBound, Verdict};
 use std::io::Write;
 use tsp_file::{EndFault, File};
 use tsp_format::Word;
@@ -27,17 +27,17 @@ use tsp_text::{LineFault, ReadFault};
 /// and nothing else. No memory is taken, so `OutOfMemory` is never returned.
 pub fn write_head<W: Write>(
     instance: &File,
-    basis: Basis,
+    known_bound: KnownBound,
     out: &mut Watched<W>,
 ) -> Result<(), WriteFault>
-    ensures { Writes (sink_of W.contents out.old out.new) (head_of instance.now basis) result }
+    ensures { Writes (sink_of W.contents out.old out.new) (head_of instance.now known_bound) result }
 {
     if out.failed() {
         return Err(WriteFault::Device);
     }
     let mut piece = Piece::new();
     put_instance(&mut piece, out, instance);
-    put_basis(&mut piece, out, instance, basis);
+    put_known_bound(&mut piece, out, instance, known_bound);
     hand_over(&mut piece, out);
     if out.failed() {
         Err(WriteFault::Device)
@@ -79,24 +79,29 @@ pub fn write_line<W: Write>(
 }
 
 /// Adds the lines on what all solutions have in common.
-fn put_basis<W: Write>(piece: &mut Piece, out: &mut Watched<W>, instance: &File, basis: Basis)
-    ensures { Puts W.contents out.old piece.old out.new piece.new (basis_lines instance.now basis) }
+fn put_known_bound<W: Write>(
+    piece: &mut Piece,
+    out: &mut Watched<W>,
+    instance: &File,
+    known_bound: KnownBound,
+)
+    ensures { Puts W.contents out.old piece.old out.new piece.new (known_bound_lines instance.now known_bound) }
 {
-    match basis {
-        Basis::Tours { bound } => put_bound_line(piece, out, bound),
-        Basis::NoSolution => put(piece, out, b"bound none\n"),
-        Basis::Routes { least, bound } => {
+    match known_bound {
+        KnownBound::Tours { bound } => put_bound_line(piece, out, bound),
+        KnownBound::NoSolution => put(piece, out, b"bound none\n"),
+        KnownBound::Routes { least, bound } => {
             put_named(piece, out, b"least ", least);
             put(piece, out, b"\n");
             put_bound_line(piece, out, bound);
         }
-        Basis::No(reason) => put_no(piece, out, instance, reason),
+        KnownBound::No(reason) => put_no(piece, out, instance, reason),
     }
 }
 
 /// Adds the line of a bound, where there is one.
 fn put_bound_line<W: Write>(piece: &mut Piece, out: &mut Watched<W>, bound: Option<i128>)
-    ensures { Puts W.contents out.old piece.old out.new piece.new (basis_bound bound) }
+    ensures { Puts W.contents out.old piece.old out.new piece.new (known_bound_bound bound) }
 {
     if let Some(bound) = bound {
         put_named(piece, out, b"bound ", bound);

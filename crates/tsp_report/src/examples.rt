@@ -20,33 +20,33 @@ ghost use Rattle.tsp_report.specs.Examples.{matrix, shown_routes, shown_tours, s
 ghost use Rattle.tsp_report.specs.Tasks.{files_of, files_of_task, numbered, IsMapped, IsMappedTask};
 ghost use Rattle.tsp_report.specs.Verdicts.{rank_of, row_of_reason, role_of};
 ghost use Rattle.tsp_report.specs.Show.{name_line, weights_line, canonical_line, fixed_line, all_tour_lines, scale_line, load_unit_line, combs_line, leaves_line, shown};
-ghost use Rattle.tsp_report.specs.declared.task.Certificate.{Certificate};
-ghost use Rattle.tsp_report.specs.declared.task.Certificate.TheVariants as certificates;
+ghost use Rattle.tsp_report.specs.declared.task.CertificateKind.{CertificateKind};
+ghost use Rattle.tsp_report.specs.declared.task.CertificateKind.TheVariants as certificates;
 ghost use Rattle.tsp_report.specs.declared.task.Comparison.{Comparison};
 ghost use Rattle.tsp_report.specs.declared.task.FileTask.{FileTask};
 ghost use Rattle.tsp_report.specs.declared.task.FileTask.TheVariants as file_tasks;
 ghost use Rattle.tsp_report.specs.declared.task.Role.TheVariants.{Instance, Solution, Potentials, Branches};
 ghost use Rattle.tsp_report.specs.declared.task.Role.TheVariants as roles;
 ghost use Rattle.tsp_report.specs.declared.task.Task.TheVariants as tasks;
-ghost use Rattle.tsp_report.specs.declared.verdict.Basis.TheVariants as bases;
+ghost use Rattle.tsp_report.specs.declared.verdict.KnownBound.TheVariants as known_bounds;
 ghost use Rattle.tsp_report.specs.declared.verdict.BoundVerdict.TheVariants as bounds;
 ghost use Rattle.tsp_report.specs.declared.verdict.Reason.TheVariants as reasons;
 ghost use Rattle.tsp_report.specs.declared.verdict.Verdict.TheVariants as verdicts;
 
 /// The head, with a bound or without, for an instance without tours, for routes, and with a reason.
 pub fn examples_of_heads()
-    ensures alone { head_of matrix (bases.Tours None)
+    ensures alone { head_of matrix (known_bounds.Tours None)
         ≡ codes "type TSP\nnodes 2\nnot judged FOO\nnot judged BAR\n" }
-    ensures bounded { head_of matrix (bases.Tours (Some (pos 12)))
+    ensures bounded { head_of matrix (known_bounds.Tours (Some (pos 12)))
         ≡ codes "type TSP\nnodes 2\nnot judged FOO\nnot judged BAR\nbound 12\n" }
-    ensures no_tour { head_of matrix bases.NoSolution
+    ensures no_tour { head_of matrix known_bounds.NoSolution
         ≡ codes "type TSP\nnodes 2\nnot judged FOO\nnot judged BAR\nbound none\n" }
-    ensures routes { head_of shown_routes (bases.Routes 3 None) ≡ codes "type CVRP\nnodes 2\nleast 3\n" }
-    ensures bounded_routes { head_of shown_routes (bases.Routes 3 (Some (pos 12)))
+    ensures routes { head_of shown_routes (known_bounds.Routes 3 None) ≡ codes "type CVRP\nnodes 2\nleast 3\n" }
+    ensures bounded_routes { head_of shown_routes (known_bounds.Routes 3 (Some (pos 12)))
         ≡ codes "type CVRP\nnodes 2\nleast 3\nbound 12\n" }
-    ensures no { head_of matrix (bases.No reasons.TooFewNodes)
+    ensures no { head_of matrix (known_bounds.No reasons.TooFewNodes)
         ≡ codes "type TSP\nnodes 2\nnot judged FOO\nnot judged BAR\nno TooFewNodes\n" }
-    ensures unjudged { head_of matrix (bases.No reasons.NotJudged)
+    ensures unjudged { head_of matrix (known_bounds.No reasons.NotJudged)
         ≡ codes "type TSP\nnodes 2\nnot judged FOO\nnot judged BAR\nno NotJudged FOO\n" }
 {}
 
@@ -199,9 +199,9 @@ pub fn examples_of_shown_files()
 pub fn examples_of_files()
     ensures shown { (a : ℕ) → numbered 1 (files_of (file_tasks.Show a)) ≡ Some (None, a) }
     ensures converted { (a : ℕ) (to : Option Layout) → numbered 1 (files_of (file_tasks.Convert a to)) ≡ Some (None, a) }
-    ensures instance { (a b : ℕ) (c : Option (Certificate × ℕ)) (claimed : Option ℤ) (strict : Bool)
+    ensures instance { (a b : ℕ) (c : Option (CertificateKind × ℕ)) (claimed : Option ℤ) (strict : Bool)
         → numbered 1 (files_of (file_tasks.Check a b c claimed strict)) ≡ Some (Some roles.Instance, a) }
-    ensures solution { (a b : ℕ) (c : Option (Certificate × ℕ)) (claimed : Option ℤ) (strict : Bool)
+    ensures solution { (a b : ℕ) (c : Option (CertificateKind × ℕ)) (claimed : Option ℤ) (strict : Bool)
         → numbered 2 (files_of (file_tasks.Check a b c claimed strict)) ≡ Some (Some roles.Solution, b) }
     ensures certificate { (a b c : ℕ) (claimed : Option ℤ) (strict : Bool)
         → numbered 3 (files_of (file_tasks.Check a b (Some (certificates.Branches, c)) claimed strict)) ≡ Some (Some roles.Branches, c) }

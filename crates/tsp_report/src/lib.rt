@@ -28,5 +28,5 @@ pub use examples::{
 };
 pub use report::{write_bound, write_report};
 pub use shown::write_shown;
-pub use task::{Certificate, Comparison, FileTask, Role, Task, blamed, role_by};
-pub use verdict::{Basis, BoundVerdict, Reason, ReasonRow, Verdict, row_of_reason};
+pub use task::{CertificateKind, Comparison, FileTask, Role, Task, blamed, role_by};
+pub use verdict::{BoundVerdict, KnownBound, Reason, ReasonRow, Verdict, row_of_reason};

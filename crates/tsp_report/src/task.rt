@@ -37,7 +37,7 @@ pub enum FileTask<F> {
     Check {
         instance: F,
         solution: F,
-        certificate: Option<(Certificate, F)>,
+        certificate: Option<(CertificateKind, F)>,
         claimed: Option<i64>,
         strict: bool,
     },
@@ -45,7 +45,7 @@ pub enum FileTask<F> {
     /// instance are a reason.
     Bound {
         instance: F,
-        certificate: (Certificate, F),
+        certificate: (CertificateKind, F),
         strict: bool,
     },
 }
@@ -57,7 +57,7 @@ pub struct Comparison<'a, F> {
     /// The instance.
     pub instance: F,
     /// The certificate, where one is named.
-    pub certificate: Option<(Certificate, F)>,
+    pub certificate: Option<(CertificateKind, F)>,
     /// The paths of the solutions, one at least, in the order in which they are judged.
     pub solutions: &'a [String],
     /// Whether unknown keywords of the instance are a reason.
@@ -190,9 +190,9 @@ impl<'a, F> Comparison<'a, F> {
 
 /// The same certificate, with what `map` gives for its file.
 fn mapped<F, G, M: Fn(&F) -> G>(
-    certificate: &Option<(Certificate, F)>,
+    certificate: &Option<(CertificateKind, F)>,
     map: M,
-) -> Option<(Certificate, G)>
+) -> Option<(CertificateKind, G)>
     requires { M.IsAlwaysCallable map }
     ensures { IsMappedCertificate (FnReturnsAt M.Fn map) certificate.now result }
 {
@@ -214,7 +214,7 @@ fn applied<F, G, M: Fn(&F) -> G>(map: &M, file: &F) -> G
 
 /// What a file that certifies a bound on the tours or the routes of an instance holds.
 #[derive(Clone, Copy, Debug, PartialEq, Eq)]
-pub enum Certificate {
+pub enum CertificateKind {
     /// Potentials of nodes and of fixed edges for a TSP, or of rows and columns for an ATSP.
     Potentials,
     /// A tree of cases, with families of sets and the potentials of each leaf, for a TSP, an ATSP
@@ -238,12 +238,12 @@ pub enum Role {
 }
 
 /// What the file of a certificate is given for.
-pub fn role_by(by: Certificate) -> Role
+pub fn role_by(by: CertificateKind) -> Role
     ensures { result ≡ role_by by }
 {
     match by {
-        Certificate::Potentials => Role::Potentials,
-        Certificate::Branches => Role::Branches,
+        CertificateKind::Potentials => Role::Potentials,
+        CertificateKind::Branches => Role::Branches,
     }
 }
 

@@ -158,7 +158,7 @@ impl BoundVerdict {
 
 /// What is known of all solutions of an instance, before any is read.
 #[derive(Clone, Copy, Debug, PartialEq, Eq)]
-pub enum Basis {
+pub enum KnownBound {
     /// Tours are judged. No tour of the instance is shorter than the bound, where there is one.
     Tours { bound: Option<i128> },
     /// The certificate shows that the instance has no tour.
@@ -171,7 +171,7 @@ pub enum Basis {
     No(Reason),
 }
 
-impl Basis {
+impl KnownBound {
     ghost use Rattle.std.specs.Prelude.{◌≡◌};
     ghost use Rattle.tsp_report.specs.Verdicts.{is_clear};
 
@@ -181,8 +181,8 @@ impl Basis {
         ensures { result ≡ is_clear self }
     {
         match self {
-            Basis::Tours { .. } | Basis::NoSolution | Basis::Routes { .. } => true,
-            Basis::No(_) => false,
+            KnownBound::Tours { .. } | KnownBound::NoSolution | KnownBound::Routes { .. } => true,
+            KnownBound::No(_) => false,
         }
     }
 }

@@ -15,8 +15,8 @@ use Rattle.tsp_theory.proofs.Sums.{sum_int_by-add}
 use Rattle.tsp_theory.specs.Tour.{sum_int_by, RoutingProblem, IsCustomer, IsLeastRoutes}
 use Rattle.tsp_cases.specs.Crossings.{has}
 use Rattle.tsp_routing.proofs.Plans.{all_same, sum_append, sum_of_plan, parts_all, demands_low}
-use Rattle.tsp_routing.specs.PlanLinks.{sum_of_customers, IsCapacityCut, units_of, is_light, load_in, room_in, RoutesHaveRoom, LoadsAreSome}
-use Rattle.tsp_routing.specs.Walks.{BeginsOther, IsStraightFrom, IsStraight, IsWalk, RoutesAreWalks}
+use Rattle.tsp_routing.specs.PlanLinks.{sum_of_customers, IsCapacityCut, units_of, is_light, load_in, capacity_in_parts, RoutesFitCapacity, LoadsAreSome}
+use Rattle.tsp_routing.specs.QRoutes.{BeginsOther, IsStraightFrom, IsStraight, IsQRoute, RoutesAreQRoutes}
 use Rattle.tsp_routing.specs.states.Demands.{of_others, light_in}
 
 -- a run of nodes with one more at its end
@@ -317,7 +317,7 @@ have_room : (problem : RoutingProblem) (unit none : ℕ) (routes : List (List �
     → AllByRecursion (λ x. pos 0 ≤ℤ problem.demand x) (concat routes)
     → AllByRecursion (λ route. sum_int_by problem.demand route ≤ℤ problem.capacity) routes
     → sum_int_by (is_light problem unit) (concat routes) ≤ℤ pos none
-    → AllByRecursion (λ route. sum_int_by (λ node. pos (load_in problem unit none node)) route ≤ℤ pos (room_in problem unit none)) routes
+    → AllByRecursion (λ route. sum_int_by (λ node. pos (load_in problem unit none node)) route ≤ℤ pos (capacity_in_parts problem unit none)) routes
 have_room problem unit none [] some low within few = tt
 have_room problem unit none (route ∷ routes) some low within few =
     let lows = parts_all (λ x. pos 0 ≤ℤ problem.demand x) route (concat routes) low in
@@ -335,12 +335,12 @@ have_room problem unit none (route ∷ routes) some low within few =
       have_room problem unit none routes some lows.1 within.1 (omega (arith, ints, both, first, few)),
     )
 
-pub routes_have_room : RoutesHaveRoom
-routes_have_room problem unit none routes routing units plan =
+pub routes_fit_capacity : RoutesFitCapacity
+routes_fit_capacity problem unit none routes routing units plan =
     let all = sum_of_plan problem routes (is_light problem unit) routing plan in
     let light_is = units.light_is in
     All-from_recursion
-    (λ route. sum_int_by (λ node. pos (load_in problem unit none node)) route ≤ℤ pos (room_in problem unit none)) routes
+    (λ route. sum_int_by (λ node. pos (load_in problem unit none node)) route ≤ℤ pos (capacity_in_parts problem unit none)) routes
     (have_room problem unit none routes units.some (demands_low problem routes routing plan)
     (recursion_from_All (λ route. sum_int_by problem.demand route ≤ℤ problem.capacity) routes plan.within)
     (omega (arith, ints, all, light_is)))
@@ -365,14 +365,14 @@ apart_parts (x ∷ xs) ys h =
     let rest = apart_parts xs ys h.1 in
     (((parts_all (λ y. x ≢ y) xs ys h.0).0, rest.0), rest.1)
 
-walks : (problem : RoutingProblem) (unit none : ℕ) (routes : List (List ℕ))
+q_routes : (problem : RoutingProblem) (unit none : ℕ) (routes : List (List ℕ))
     → AllByRecursion (IsCustomer problem.nodes problem.depot) (concat routes) → Apart (concat routes)
     → AllByRecursion (λ route. route ≢ []) routes
-    → AllByRecursion (λ route. sum_int_by (λ node. pos (load_in problem unit none node)) route ≤ℤ pos (room_in problem unit none)) routes
+    → AllByRecursion (λ route. sum_int_by (λ node. pos (load_in problem unit none node)) route ≤ℤ pos (capacity_in_parts problem unit none)) routes
     → AllByRecursion
-    (IsWalk problem.nodes problem.depot (load_in problem unit none) (room_in problem unit none)) routes
-walks problem unit none [] customers apart each within = tt
-walks problem unit none (route ∷ routes) customers apart each within =
+    (IsQRoute problem.nodes problem.depot (load_in problem unit none) (capacity_in_parts problem unit none)) routes
+q_routes problem unit none [] customers apart each within = tt
+q_routes problem unit none (route ∷ routes) customers apart each within =
     let own = parts_all (IsCustomer problem.nodes problem.depot) route (concat routes) customers in
     let aparts = apart_parts route (concat routes) apart in (
       record {
@@ -381,16 +381,16 @@ walks problem unit none (route ∷ routes) customers apart each within =
         within = within.0;
         straight = straight route aparts.0;
       },
-      walks problem unit none routes own.1 aparts.1 each.1 within.1,
+      q_routes problem unit none routes own.1 aparts.1 each.1 within.1,
     )
 
-pub routes_are_walks : RoutesAreWalks
-routes_are_walks problem unit none routes routing units filled =
-    All-from_recursion (IsWalk problem.nodes problem.depot (load_in problem unit none) (room_in problem unit none)) routes
-    (walks problem unit none routes
+pub routes_are_q_routes : RoutesAreQRoutes
+routes_are_q_routes problem unit none routes routing units filled =
+    All-from_recursion (IsQRoute problem.nodes problem.depot (load_in problem unit none) (capacity_in_parts problem unit none)) routes
+    (q_routes problem unit none routes
     (recursion_from_All (IsCustomer problem.nodes problem.depot) (concat routes) filled.plan.customers)
     (apart_from_pairs (concat routes) filled.plan.once)
     (recursion_from_All (λ route. route ≢ []) routes filled.each)
     (recursion_from_All
-    (λ route. sum_int_by (λ node. pos (load_in problem unit none node)) route ≤ℤ pos (room_in problem unit none)) routes
-    (routes_have_room problem unit none routes routing units filled.plan)))
+    (λ route. sum_int_by (λ node. pos (load_in problem unit none node)) route ≤ℤ pos (capacity_in_parts problem unit none)) routes
+    (routes_fit_capacity problem unit none routes routing units filled.plan)))

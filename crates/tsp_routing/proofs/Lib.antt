@@ -4,4 +4,4 @@ pub mod CutNeeds
 pub mod PlanBounds
 pub mod RouteProducts
 pub mod PlanJudging
-pub mod WalkRests
+pub mod QRouteRests

@@ -18,12 +18,12 @@ use Rattle.tsp_cases.specs.Families.{Family, family_crossings, family_with, fami
 use Rattle.tsp_cases.specs.ListedCases.{listed_steps}
 use Rattle.tsp_cases.specs.declared.family.Crossings.{Crossings}
 use Rattle.tsp_cases.specs.declared.open_case.Decision.{Decision}
-use Rattle.tsp_routing.proofs.CutNeeds.{routes_are_walks}
+use Rattle.tsp_routing.proofs.CutNeeds.{routes_are_q_routes}
 use Rattle.tsp_routing.proofs.Plans.{lengths_are_weights, plan_firsts, plan_seconds, count_of_plan, plans_have_few_routes, all_same, plans_cross_cuts, lone_crossings, fewest_routes, least_at, least_between, split_surplus, between_weight}
-use Rattle.tsp_routing.specs.PlanBounds.{surplus, least_times, low_of, high_of, limits_total, walk_weight, PlanBoundsBoundPlans, least_product, IsPlanBound, IsWalkBound, IsFoundByWalks, PlanTreesBoundPlans, PlanTreeBoundsAreUnique, IsPlanTreeBound}
-use Rattle.tsp_routing.specs.PlanLinks.{part_crossed, set_at, KeepsLimit, KeepsLimitsOfOne, PlansCrossEvenly, PlansKeepEitherLimit, PlansKeepLeaves, IsFewest, plan_links, IsRoutable, IsCutFamily, IsWithinLimit, IsFilledPlan, AreUnits, load_in, room_in, KeepsEachLimit}
+use Rattle.tsp_routing.specs.PlanBounds.{surplus, least_times, low_of, high_of, limits_total, q_route_weight, PlanBoundsBoundPlans, least_product, IsPlanBound, IsQRouteBound, IsFoundByQRoutes, PlanTreesBoundPlans, PlanTreeBoundsAreUnique, IsPlanTreeBound}
+use Rattle.tsp_routing.specs.PlanLinks.{part_crossed, set_at, KeepsLimit, KeepsLimitsOfOne, PlansCrossEvenly, PlansKeepEitherLimit, PlansKeepLeaves, IsFewest, plan_links, IsRoutable, IsCutFamily, IsWithinLimit, IsFilledPlan, AreUnits, load_in, capacity_in_parts, KeepsEachLimit}
 use Rattle.tsp_routing.specs.PlanVerdicts.{PlanBoundsFoundAreUnique}
-use Rattle.tsp_routing.specs.Walks.{IsLeastAmong, IsWalk, IsBelowWalks}
+use Rattle.tsp_routing.specs.QRoutes.{IsLeastAmong, IsQRoute, IsBelowQRoutes}
 
 -- ---- parity
 
@@ -340,7 +340,7 @@ plan_bounds_bound_plans problem scale potentials families multipliers case each 
     let pairs = plan_links problem.depot routes in
     let count = length routes in
     let own = entry potentials problem.depot in
-    let all = lengths_are_weights (walk_weight scale potentials families multipliers problem.cost) problem.depot routes in
+    let all = lengths_are_weights (q_route_weight scale potentials families multipliers problem.cost) problem.depot routes in
     let split = difference (λ (link : ℕ × ℕ). weight_between scale potentials problem.cost link.0 link.1)
     (λ (link : ℕ × ℕ). crossings_of (multiplied families multipliers) link.0 link.1) pairs in
     let between = between_weight problem scale potentials routes routing scale_in filled.plan in
@@ -359,7 +359,7 @@ plan_bounds_bound_plans problem scale potentials families multipliers case each 
 -- ---- the bound that a certificate for routes shows is at most the length of every plan
 
 weighs : (n depot : ℕ) (load : ℕ → ℕ) (room : ℕ) (w : ℕ → ℕ → ℤ) (each : ℤ) (routes : List (List ℕ))
-    → IsBelowWalks n depot load room w each → AllByRecursion (IsWalk n depot load room) routes
+    → IsBelowQRoutes n depot load room w each → AllByRecursion (IsQRoute n depot load room) routes
     → (pos (length routes) *ℤ each) ≤ℤ plan_length w depot routes
 weighs n depot load room w each [] below are = let none = zero-*ℤ each in omega (arith, ints, none)
 weighs n depot load room w each (route ∷ routes) below are =
@@ -377,39 +377,39 @@ module _ (problem : RoutingProblem) (scale : ℤ) (unit light : ℕ) (families :
   load = load_in problem unit light
 
   abbrev room : ℕ
-  room = room_in problem unit light
+  room = capacity_in_parts problem unit light
 
-  walks : AllByRecursion (IsWalk problem.nodes problem.depot load room) routes
-  walks = recursion_from_All (IsWalk problem.nodes problem.depot load room) routes
-      (routes_are_walks problem unit light routes routing units filled)
+  q_routes : AllByRecursion (IsQRoute problem.nodes problem.depot load room) routes
+  q_routes = recursion_from_All (IsQRoute problem.nodes problem.depot load room) routes
+      (routes_are_q_routes problem unit light routes routing units filled)
 
   leaf_bounds : (case : List Decision) (numbers : LeafNumbers) (bound : ℤ)
-      → IsWalkBound problem scale unit light families case numbers bound
+      → IsQRouteBound problem scale unit light families case numbers bound
       → KeepsEachLimit problem.nodes families problem.depot routes case
       → bound ≤ℤ plan_length problem.cost problem.depot routes
   leaf_bounds case numbers bound is keeps =
-      let w = walk_weight scale numbers.potentials families numbers.multipliers problem.cost in
+      let w = q_route_weight scale numbers.potentials families numbers.multipliers problem.cost in
       plan_bounds_bound_plans problem scale numbers.potentials families numbers.multipliers case is.each
       bound routes routing scale_in cuts is.bound_is filled keeps
-      (weighs problem.nodes problem.depot load room w is.each routes is.least.1 walks)
+      (weighs problem.nodes problem.depot load room w is.each routes is.least.1 q_routes)
 
-  no_walk : ((nodes : List ℕ) → IsWalk problem.nodes problem.depot load room nodes → ⊥) → ⊥
-  no_walk never = first routes (plans_have_few_routes problem routes routing filled).0 walks
+  no_q_route : ((nodes : List ℕ) → IsQRoute problem.nodes problem.depot load room nodes → ⊥) → ⊥
+  no_q_route never = first routes (plans_have_few_routes problem routes routing filled).0 q_routes
     where
-      first : (others : List (List ℕ)) → 1 ≤ length others → AllByRecursion (IsWalk problem.nodes problem.depot load room) others → ⊥
+      first : (others : List (List ℕ)) → 1 ≤ length others → AllByRecursion (IsQRoute problem.nodes problem.depot load room) others → ⊥
       first [] some all = absurd (omega (arith, some))
       first (route ∷ others) some all = never route all.0
 
   -- ---- the leaf whose case the plan keeps
 
   abbrev found : List Decision × LeafNumbers → Option ℤ → Type 0
-  found = IsFoundByWalks problem scale unit light families
+  found = IsFoundByQRoutes problem scale unit light families
 
   one_kept : (bound : ℤ) (leaves : List (List Decision × LeafNumbers)) → AllByRecursion (IsAbove found bound) leaves
       → KeepsLimitsOfOne problem.nodes families problem.depot routes (cases_of leaves)
       → bound ≤ℤ plan_length problem.cost problem.depot routes
   one_kept bound [] above keeps = absurd keeps
-  one_kept bound (leaf ∷ leaves) (inl never, above) (inl here) = absurd (no_walk never)
+  one_kept bound (leaf ∷ leaves) (inl never, above) (inl here) = absurd (no_q_route never)
   one_kept bound (leaf ∷ leaves) (inr has, above) (inl here) =
       let own = leaf_bounds leaf.0 leaf.1 has.0 has.1 here in
       omega (arith, ints, own, has.2)
@@ -418,7 +418,7 @@ module _ (problem : RoutingProblem) (scale : ℤ) (unit light : ℕ) (families :
   none_kept : (leaves : List (List Decision × LeafNumbers)) → AllByRecursion (λ leaf. found leaf None) leaves
       → KeepsLimitsOfOne problem.nodes families problem.depot routes (cases_of leaves) → ⊥
   none_kept [] never keeps = absurd keeps
-  none_kept (leaf ∷ leaves) never keeps = no_walk never.0
+  none_kept (leaf ∷ leaves) never keeps = no_q_route never.0
 
 -- ---- the tree
 
@@ -426,13 +426,13 @@ pub plan_trees_bound_plans : PlanTreesBoundPlans
 plan_trees_bound_plans problem scale unit light families steps (Some bound) routing scale_in units cuts whole is = λ routes filled.
     let leaves = leaves_of ([] ∷ []) steps in
     one_kept problem scale unit light families routing scale_in units cuts routes filled bound leaves
-    (recursion_from_All (IsAbove (IsFoundByWalks problem scale unit light families) bound) leaves is.0)
+    (recursion_from_All (IsAbove (IsFoundByQRoutes problem scale unit light families) bound) leaves is.0)
     (plans_keep_leaves problem.nodes families problem.depot [] steps routes whole
     (All-from_recursion (KeepsLimit problem.nodes families problem.depot routes) [] tt))
 plan_trees_bound_plans problem scale unit light families steps None routing scale_in units cuts whole is = λ routes filled.
     let leaves = leaves_of ([] ∷ []) steps in
     none_kept problem scale unit light families routing scale_in units cuts routes filled leaves
-    (recursion_from_All (λ leaf. IsFoundByWalks problem scale unit light families leaf None) leaves is)
+    (recursion_from_All (λ leaf. IsFoundByQRoutes problem scale unit light families leaf None) leaves is)
     (plans_keep_leaves problem.nodes families problem.depot [] steps routes whole
     (All-from_recursion (KeepsLimit problem.nodes families problem.depot routes) [] tt))
 
@@ -450,10 +450,10 @@ one_plan_bound problem scale potentials families multipliers case each own a b e
 
 pub plan_tree_bounds_are_unique : PlanTreeBoundsAreUnique
 plan_tree_bounds_are_unique problem scale unit light families steps a b p q =
-    one_found (IsFoundByWalks problem scale unit light families) (λ leaf x y s t. one leaf x y s t) (leaves_of ([] ∷ []) steps) a b p q
+    one_found (IsFoundByQRoutes problem scale unit light families) (λ leaf x y s t. one leaf x y s t) (leaves_of ([] ∷ []) steps) a b p q
   where
-    one : (leaf : List Decision × LeafNumbers) (x y : Option ℤ) → IsFoundByWalks problem scale unit light families leaf x
-        → IsFoundByWalks problem scale unit light families leaf y → x ≡ y
+    one : (leaf : List Decision × LeafNumbers) (x y : Option ℤ) → IsFoundByQRoutes problem scale unit light families leaf x
+        → IsFoundByQRoutes problem scale unit light families leaf y → x ≡ y
     one leaf (Some x) (Some y) s t =
         ap (λ (z : ℤ). Some z) (one_plan_bound problem scale leaf.1.potentials families leaf.1.multipliers
         leaf.0 s.each t.each x y (one_least _ _ s.each t.each s.least t.least) s.bound_is t.bound_is)

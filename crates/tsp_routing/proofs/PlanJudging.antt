@@ -10,7 +10,6 @@ use Rattle.std.specs.Prelude.{ℤ, pos, if◌then◌else◌, ◌≤ℤ◌, Some,
 use Rattle.tsp_format.specs.Limits.{most_potential, most_demand}
 use Rattle.tsp_format.specs.Nodes.{IsNode, nodes_to}
 use Rattle.tsp_format.specs.Steps.{are_whole, IsFromTo}
-use Rattle.tsp_format.specs.Steps as Ranges
 use Rattle.tsp_format.specs.Steps as listed
 use Rattle.tsp_theory.specs.Bounds.{IsScale}
 use Rattle.tsp_theory.specs.Tour.{sum_int_by, IsCustomer, RoutingProblem, demand_of}
@@ -330,7 +329,7 @@ pub single_sets : (n depot : ℕ) (families : List (List (List ℕ)))
 single_sets n depot families good = λ k d lt. ap length (sym (get_or_default families k [] d lt)) ∙ ap length (good k lt).alone
 
 -- no node's demand is below 0
-pub no_demand_below : (n : ℕ) (demands : List ℤ) → length demands ≡ n → All (Ranges.IsFromTo (pos 0) (pos most_demand)) demands
+pub no_demand_below : (n : ℕ) (demands : List ℤ) → length demands ≡ n → All (IsFromTo (pos 0) (pos most_demand)) demands
     → (node : ℕ) → IsNode n node → pos 0 ≤ℤ demand_of demands node
 no_demand_below n demands each are node inside = (are (node - 1) (pos 0) (omega (arith, each, inside.0, inside.1))).0
 

@@ -27,7 +27,7 @@ use Rattle.tsp_cases.specs.states.OpenCases.{bears_on}
 use Rattle.tsp_cases.specs.states.Sets.{places_with, IsApart, inside_both, set_crossings, set_weight}
 use Rattle.tsp_routing.specs.PlanBounds.{low_of, high_of, most_surplus, least_times, limits_total, most_link}
 use Rattle.tsp_routing.specs.PlanVerdicts.{sizes_total, most_of_multipliers}
-use Rattle.tsp_routing.specs.Walks.{IsLeastAmong, IsWalk}
+use Rattle.tsp_routing.specs.QRoutes.{IsLeastAmong, IsQRoute}
 use Rattle.tsp_routing.specs.states.LeafWeights.{numbers_total, IsWeightRow, AreFirstRows}
 
 pub sizes_low : (ms : List ℤ) → pos 0 ≤ℤ sizes_total ms
@@ -236,12 +236,12 @@ sums_same n depot a b [] same customers = refl
 sums_same n depot a b (x ∷ nodes) same customers =
     ap₂ (λ (k : ℕ) z. pos k +ℤ z) (same x customers.0.0) (sums_same n depot a b nodes same customers.1)
 
-walk_same : (n depot : ℕ) (a b : ℕ → ℕ) (room other : ℕ) (nodes : List ℕ) → ((x : ℕ) → IsNode n x → a x ≡ b x) → room ≡ other
-    → IsWalk n depot a room nodes → IsWalk n depot b other nodes
-walk_same n depot a b room other nodes same is walk =
-    let sum = sums_same n depot a b nodes same (recursion_from_All (IsCustomer n depot) nodes walk.customers) in
-    let within = walk.within in
-    record { some = walk.some; customers = walk.customers; within = omega (arith, ints, sum, is, within); straight = walk.straight }
+q_route_same : (n depot : ℕ) (a b : ℕ → ℕ) (room other : ℕ) (nodes : List ℕ) → ((x : ℕ) → IsNode n x → a x ≡ b x) → room ≡ other
+    → IsQRoute n depot a room nodes → IsQRoute n depot b other nodes
+q_route_same n depot a b room other nodes same is q_route =
+    let sum = sums_same n depot a b nodes same (recursion_from_All (IsCustomer n depot) nodes q_route.customers) in
+    let within = q_route.within in
+    record { some = q_route.some; customers = q_route.customers; within = omega (arith, ints, sum, is, within); straight = q_route.straight }
 
 weights_same : (v w : ℕ → ℕ → ℤ) (pairs : List (ℕ × ℕ)) → ((i j : ℕ) → v i j ≡ w i j)
     → sum_int_by (λ link. v link.0 link.1) pairs ≡ sum_int_by (λ link. w link.0 link.1) pairs
@@ -250,18 +250,18 @@ weights_same v w (link ∷ pairs) same = ap₂ (λ x y. x +ℤ y) (same link.0 l
 
 pub least_same : (n depot : ℕ) (a b : ℕ → ℕ) (room other : ℕ) (v w : ℕ → ℕ → ℤ) (found : Option ℤ)
     → ((x : ℕ) → IsNode n x → a x ≡ b x) → room ≡ other → ((i j : ℕ) → v i j ≡ w i j)
-    → IsLeastAmong (IsWalk n depot a room) (λ nodes. length_of v (depot ∷ nodes)) found
-    → IsLeastAmong (IsWalk n depot b other) (λ nodes. length_of w (depot ∷ nodes)) found
-least_same n depot a b room other v w None loads is weights least = λ nodes walk.
-    least nodes (walk_same n depot b a other room nodes (λ x x_in. sym (loads x x_in)) (sym is) walk)
+    → IsLeastAmong (IsQRoute n depot a room) (λ nodes. length_of v (depot ∷ nodes)) found
+    → IsLeastAmong (IsQRoute n depot b other) (λ nodes. length_of w (depot ∷ nodes)) found
+least_same n depot a b room other v w None loads is weights least = λ nodes q_route.
+    least nodes (q_route_same n depot b a other room nodes (λ x x_in. sym (loads x x_in)) (sym is) q_route)
 least_same n depot a b room other v w (Some each) loads is weights least = (
   (
     least.0.0,
-    walk_same n depot a b room other least.0.0 loads is least.0.1,
+    q_route_same n depot a b room other least.0.0 loads is least.0.1,
     least.0.2 ∙ weights_same v w (links (depot ∷ least.0.0)) weights,
   ),
-  λ nodes walk.
-      let own = least.1 nodes (walk_same n depot b a other room nodes (λ x x_in. sym (loads x x_in)) (sym is) walk) in
+  λ nodes q_route.
+      let own = least.1 nodes (q_route_same n depot b a other room nodes (λ x x_in. sym (loads x x_in)) (sym is) q_route) in
       subst (λ (z : ℤ). each ≤ℤ z) (weights_same v w (links (depot ∷ nodes)) weights) own,
 )
 

@@ -1,6 +1,6 @@
 -- The files of definitions of this crate. Crates above may import them.
 pub mod states
 pub mod PlanLinks
-pub mod Walks
+pub mod QRoutes
 pub mod PlanBounds
 pub mod PlanVerdicts

@@ -7,16 +7,16 @@ use Rattle.tsp_cases.specs.CaseTrees.{multiplied, combed, IsLeastFound}
 use Rattle.tsp_cases.specs.Cases.{LeafNumbers, CaseStep, are_case_trees, leaves_of}
 use Rattle.tsp_cases.specs.Families.{Family}
 use Rattle.tsp_cases.specs.declared.open_case.Decision.{Decision}
-use Rattle.tsp_routing.specs.PlanLinks.{IsRoutable, IsFilledPlan, sum_of_customers, IsCutFamily, IsFewest, KeepsEachLimit, BoundsPlans, HasNoPlan, AreUnits, load_in, room_in}
-use Rattle.tsp_routing.specs.Walks.{IsWalk, IsLeastAmong}
+use Rattle.tsp_routing.specs.PlanLinks.{IsRoutable, IsFilledPlan, sum_of_customers, IsCutFamily, IsFewest, KeepsEachLimit, BoundsPlans, HasNoPlan, AreUnits, load_in, capacity_in_parts}
+use Rattle.tsp_routing.specs.QRoutes.{IsQRoute, IsLeastAmong}
 
 -- the weight of a link: two potentials of 10^15, a cost of 10^12 times a scale of 10^6, and multipliers of 3 * 10^17
 abbrev pub most_link : ℕ
 most_link = 1302000000000000000
 
 -- the capacity of a route, in parts of units, where a table of two nodes or more has 10,000,000 entries
-abbrev pub most_room : ℕ
-most_room = 5000000
+abbrev pub most_capacity_in_parts : ℕ
+most_capacity_in_parts = 5000000
 
 -- what a route adds to the bound: the weight of a walk, and twice the potential of the depot
 abbrev pub most_surplus : ℕ
@@ -63,8 +63,8 @@ limits_total case own place (family ∷ families) (multiplier ∷ multipliers) =
 
 -- the weight between two nodes: the cost times the scale and both potentials, less the multipliers of the sets that
 -- have one of them
-abbrev pub walk_weight : ℤ → List ℤ → List Family → List ℤ → (ℕ → ℕ → ℤ) → ℕ → ℕ → ℤ
-walk_weight scale potentials families multipliers cost =
+abbrev pub q_route_weight : ℤ → List ℤ → List Family → List ℤ → (ℕ → ℕ → ℤ) → ℕ → ℕ → ℤ
+q_route_weight scale potentials families multipliers cost =
     combed (multiplied families multipliers) (weight_between scale potentials cost)
 
 -- the bound of a leaf where each route weighs `each` at least: there are `fewest` routes or more, and at most as many
@@ -87,35 +87,35 @@ PlanBoundsBoundPlans = (problem : RoutingProblem) (scale : ℤ) (potentials : Li
     → IsPlanBound problem scale potentials families multipliers case each bound
     → IsFilledPlan problem routes → KeepsEachLimit problem.nodes families problem.depot routes case
     → (pos (length routes) *ℤ each)
-    ≤ℤ plan_length (walk_weight scale potentials families multipliers problem.cost) problem.depot routes
+    ≤ℤ plan_length (q_route_weight scale potentials families multipliers problem.cost) problem.depot routes
     → bound ≤ℤ plan_length problem.cost problem.depot routes
 
 -- ---- the bound of a certificate for routes
 
 -- the least weight of a walk under the numbers of a leaf; None where there is no walk
-abbrev pub IsLeastWalk : RoutingProblem → ℤ → ℕ → ℕ → List Family → LeafNumbers → Option ℤ → Type 0
-IsLeastWalk problem scale unit light families numbers least =
-    IsLeastAmong (IsWalk problem.nodes problem.depot (load_in problem unit light) (room_in problem unit light))
-    (λ nodes. length_of (walk_weight scale numbers.potentials families numbers.multipliers problem.cost) (problem.depot ∷ nodes)) least
+abbrev pub IsLeastQRoute : RoutingProblem → ℤ → ℕ → ℕ → List Family → LeafNumbers → Option ℤ → Type 0
+IsLeastQRoute problem scale unit light families numbers least =
+    IsLeastAmong (IsQRoute problem.nodes problem.depot (load_in problem unit light) (capacity_in_parts problem unit light))
+    (λ nodes. length_of (q_route_weight scale numbers.potentials families numbers.multipliers problem.cost) (problem.depot ∷ nodes)) least
 
 -- the bound of a leaf: each route weighs at least as much as the least walk
-pub record IsWalkBound (problem : RoutingProblem) (scale : ℤ) (unit light : ℕ) (families : List Family) (case : List Decision)
+pub record IsQRouteBound (problem : RoutingProblem) (scale : ℤ) (unit light : ℕ) (families : List Family) (case : List Decision)
     (numbers : LeafNumbers) (bound : ℤ) : Type 0 where
   pub each : ℤ
-  pub least : IsLeastWalk problem scale unit light families numbers (Some each)
+  pub least : IsLeastQRoute problem scale unit light families numbers (Some each)
   pub bound_is : IsPlanBound problem scale numbers.potentials families numbers.multipliers case each bound
 
 -- what is found of a leaf: its bound, or none where there is no walk
-abbrev pub IsFoundByWalks : RoutingProblem → ℤ → ℕ → ℕ → List Family → List Decision × LeafNumbers → Option ℤ → Type 0
-IsFoundByWalks problem scale unit light families (case, numbers) (Some bound) =
-    IsWalkBound problem scale unit light families case numbers bound
-IsFoundByWalks problem scale unit light families (case, numbers) None =
-    IsLeastWalk problem scale unit light families numbers None
+abbrev pub IsFoundByQRoutes : RoutingProblem → ℤ → ℕ → ℕ → List Family → List Decision × LeafNumbers → Option ℤ → Type 0
+IsFoundByQRoutes problem scale unit light families (case, numbers) (Some bound) =
+    IsQRouteBound problem scale unit light families case numbers bound
+IsFoundByQRoutes problem scale unit light families (case, numbers) None =
+    IsLeastQRoute problem scale unit light families numbers None
 
 -- the bound of a tree: the least bound of a leaf; None where no leaf has one
 abbrev pub IsPlanTreeBound : RoutingProblem → ℤ → ℕ → ℕ → List Family → List CaseStep → Option ℤ → Type 0
 IsPlanTreeBound problem scale unit light families steps found =
-    IsLeastFound (IsFoundByWalks problem scale unit light families) (leaves_of ([] ∷ []) steps) found
+    IsLeastFound (IsFoundByQRoutes problem scale unit light families) (leaves_of ([] ∷ []) steps) found
 
 -- a bound is at most the length of every filled plan; where there is none, there is no filled plan
 abbrev pub BoundsPlansIfAny : RoutingProblem → Option ℤ → Type 0

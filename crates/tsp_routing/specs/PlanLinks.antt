@@ -82,16 +82,16 @@ load_in problem unit light node =
     if units_of problem unit node == 0 then 1 else (units_of problem unit node * (light + 1))
 
 -- the capacity of a route in the same parts, and one part for each such customer
-abbrev pub room_in : RoutingProblem → ℕ → ℕ → ℕ
-room_in problem unit light = nat_abs problem.capacity / unit * (light + 1) + light
+abbrev pub capacity_in_parts : RoutingProblem → ℕ → ℕ → ℕ
+capacity_in_parts problem unit light = nat_abs problem.capacity / unit * (light + 1) + light
 
 -- ---- the theorems
 
 -- Each route of a plan loads no more than that capacity.
-abbrev pub RoutesHaveRoom : Type 0
-RoutesHaveRoom = (problem : RoutingProblem) (unit light : ℕ) (routes : List (List ℕ))
+abbrev pub RoutesFitCapacity : Type 0
+RoutesFitCapacity = (problem : RoutingProblem) (unit light : ℕ) (routes : List (List ℕ))
     → IsRoutable problem → AreUnits problem unit light → IsPlan problem routes
-    → All (λ route. sum_int_by (λ node. pos (load_in problem unit light node)) route ≤ℤ pos (room_in problem unit light)) routes
+    → All (λ route. sum_int_by (λ node. pos (load_in problem unit light node)) route ≤ℤ pos (capacity_in_parts problem unit light)) routes
 
 -- Each node's load is at least 1.
 abbrev pub LoadsAreSome : Type 0

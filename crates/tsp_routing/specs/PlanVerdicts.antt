@@ -9,7 +9,7 @@ use Rattle.tsp_cases.specs.Families.{families_with, HasEachOnce}
 use Rattle.tsp_cases.specs.ListedCases.{BeginsWithin, branch_pairs, IsFirstBadBranch, AreGoodLeavesBy, IsFirstBadLeafBy, listed_steps}
 use Rattle.tsp_cases.specs.declared.family.Crossings.{Crossings}
 use Rattle.tsp_routing.specs.PlanBounds.{IsPlanTreeBound, BoundsPlansIfAny}
-use Rattle.tsp_routing.specs.PlanLinks.{IsCutFamily, AreUnits, room_in}
+use Rattle.tsp_routing.specs.PlanLinks.{IsCutFamily, AreUnits, capacity_in_parts}
 use Rattle.tsp_routing.specs.declared.verdict.PlanVerdict.{PlanVerdict}
 use Rattle.tsp_routing.specs.declared.verdict.PlanVerdict.TheVariants as verdict
 
@@ -89,7 +89,7 @@ most_entries = 10000000
 pub record HasTooManyLoads (problem : RoutingProblem) (unit : ℕ) : Type 0 where
   pub light : ℕ
   pub units : AreUnits problem unit light
-  pub many : most_entries < problem.nodes * (room_in problem unit light + 1)
+  pub many : most_entries < problem.nodes * (capacity_in_parts problem unit light + 1)
 
 -- the families and the branches are good
 abbrev pub HasGoodTree : RoutingProblem → List (List (List ℕ)) → List Step → Type 0
@@ -105,7 +105,7 @@ pub record IsBoundFound (problem : RoutingProblem) (scale : ℤ) (unit : ℕ) (f
   pub leaves : AreGoodPlanLeaves problem.nodes (length families) steps
   pub light : ℕ
   pub units : AreUnits problem unit light
-  pub few : problem.nodes * (room_in problem unit light + 1) ≤ most_entries
+  pub few : problem.nodes * (capacity_in_parts problem unit light + 1) ≤ most_entries
   pub bound : IsPlanTreeBound problem scale unit light (families_with crossed families)
       (listed_steps problem.nodes (length families) steps) found
 

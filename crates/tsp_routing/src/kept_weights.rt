@@ -1,5 +1,5 @@
 //! The weights of a leaf for routes, with the rows of all nodes unless there are too many.
-//! `src/plan_leaf.rt` makes them for the walks of `src/least_walk.rt`.
+//! `src/plan_leaf.rt` makes them for the walks of `src/least_q_route.rt`.
 
 ghost use Rattle.std.specs.Prelude.{◌≡◌, ◌≤◌, ◌<◌, ◌+◌, ◌^◌, ℕ, length, true, pos, neg_ℤ, IfOk, IfSome};
 ghost use Rattle.tsp_format.specs.Nodes.{IsNode};

@@ -1,8 +1,8 @@
 //! Laws: how often plans cross sets, that routes are walks, and that no plan is shorter than the
 //! bound of a tree of cases.
 
-ghost use Rattle.tsp_routing.specs.PlanLinks.{LengthsAreWeights, PlanSums, PlansHaveFewRoutes, PlansLeaveCuts, PlansCrossCuts, PlansCrossEvenly, PlansKeepEitherLimit, PlansKeepLeaves, RoutesHaveRoom, LoadsAreSome};
-ghost use Rattle.tsp_routing.specs.Walks.{RoutesAreWalks};
+ghost use Rattle.tsp_routing.specs.PlanLinks.{LengthsAreWeights, PlanSums, PlansHaveFewRoutes, PlansLeaveCuts, PlansCrossCuts, PlansCrossEvenly, PlansKeepEitherLimit, PlansKeepLeaves, RoutesFitCapacity, LoadsAreSome};
+ghost use Rattle.tsp_routing.specs.QRoutes.{RoutesAreQRoutes};
 ghost use Rattle.tsp_routing.specs.PlanBounds.{PlanBoundsBoundPlans, PlanTreesBoundPlans, PlanTreeBoundsAreUnique};
 ghost use Rattle.tsp_routing.specs.PlanVerdicts.{PlanBoundsFoundAreUnique};
 
@@ -39,10 +39,10 @@ pub fn plans_keep_limits()
 /// in units; so each route is a walk.
 ///
 /// No code calls it. It shows a reader that no route weighs less than a least walk.
-pub fn routes_are_walks()
-    ensures room { RoutesHaveRoom }
+pub fn routes_are_q_routes()
+    ensures room { RoutesFitCapacity }
     ensures some { LoadsAreSome }
-    ensures walks { RoutesAreWalks }
+    ensures q_routes { RoutesAreQRoutes }
 {}
 
 /// A plan that keeps limits on sets, and whose weight is bounded, is no shorter than the bound that

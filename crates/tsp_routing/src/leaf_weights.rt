@@ -53,19 +53,19 @@ impl<'a, C: Costs> LeafWeights<'a, C> {
 
     /// The weights of a leaf.
     pub(crate) fn of(leaf: &PlanLeaf<'a, C>) -> LeafWeights<'a, C>
-        ensures nodes { C.nodes result.costs.now ≡ C.nodes leaf.now.setting.now.costs.now }
+        ensures nodes { C.nodes result.costs.now ≡ C.nodes leaf.now.context.now.costs.now }
         ensures weights { (i j : ℕ) → set_weight result.scale result.potentials.now result.multipliers.now
             (lent_in result.families.now) (C.at result.costs.now) i j
-            ≡ set_weight leaf.now.setting.now.scale leaf.now.potentials.now leaf.now.multipliers.now
-            (lent_in leaf.now.setting.now.families.now) (C.at leaf.now.setting.now.costs.now) i j }
+            ≡ set_weight leaf.now.context.now.scale leaf.now.potentials.now leaf.now.multipliers.now
+            (lent_in leaf.now.context.now.families.now) (C.at leaf.now.context.now.costs.now) i j }
     {
         LeafWeights {
-            costs: leaf.setting.costs,
-            scale: leaf.setting.scale,
+            costs: leaf.context.costs,
+            scale: leaf.context.scale,
             potentials: leaf.potentials,
             multipliers: leaf.multipliers,
-            families: leaf.setting.families,
-            by_node: leaf.setting.by_node,
+            families: leaf.context.families,
+            by_node: leaf.context.by_node,
             moved: leaf.moved,
         }
     }

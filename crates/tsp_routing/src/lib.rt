@@ -9,20 +9,20 @@
 //! ```
 #![tactic(auto)]
 
+mod context;
 mod demands;
 mod kept_weights;
 mod laws;
 mod leaf_weights;
-mod least_walk;
+mod least_q_route;
 mod needs;
 mod plan_leaf;
-mod setting;
 mod sums;
 mod units;
 mod verdict;
 
 pub use laws::{
     plan_bounds_are_unique, plan_bounds_bound_plans, plan_links_add_up, plan_trees_bound_plans,
-    plans_keep_limits, plans_leave_cuts, routes_are_walks,
+    plans_keep_limits, plans_leave_cuts, routes_are_q_routes,
 };
 pub use verdict::{PlanTree, PlanVerdict, judge_plans};

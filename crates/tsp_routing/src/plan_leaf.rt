@@ -15,15 +15,15 @@ ghost use Rattle.tsp_cases.specs.states.Kept.{AreMoved};
 ghost use Rattle.tsp_cases.specs.states.Sets.{lent_in};
 ghost use Rattle.tsp_routing.specs.PlanLinks.{IsFewest, sum_of_customers};
 ghost use Rattle.tsp_routing.specs.PlanVerdicts.{ArePlanNumbers, most_of_multipliers, sizes_total};
-ghost use Rattle.tsp_routing.specs.PlanBounds.{limits_total, least_product, IsPlanBound, low_of, high_of, least_times, IsFoundByWalks, IsLeastWalk, most_room, most_surplus};
+ghost use Rattle.tsp_routing.specs.PlanBounds.{limits_total, least_product, IsPlanBound, low_of, high_of, least_times, IsFoundByQRoutes, IsLeastQRoute, most_capacity_in_parts, most_surplus};
 ghost use Rattle.tsp_routing.specs.states.Demands.{loads_problem};
 ghost use Rattle.tsp_routing.specs.states.LeafWeights.{numbers_total};
 ghost use Rattle.tsp_routing.specs.states.Judged.{IsFewCrossed};
 
+use crate::context::PlanContext;
 use crate::kept_weights::{KeptWeights, kept_rows};
 use crate::leaf_weights::LeafWeights;
-use crate::least_walk::{Walks, least_walk};
-use crate::setting::PlanSetting;
+use crate::least_q_route::{QRoutes, least_q_route};
 use std::alloc::Global;
 use tsp_cases::{Crossings, Decision, MultipliedFamilies, OpenCase, fill_moved, take_multipliers};
 use tsp_io::{Refused, filled};
@@ -33,15 +33,15 @@ use tsp_theory::Costs;
 /// potential less the multipliers of its sets.
 #[derive(Drop)]
 pub(crate) struct PlanLeaf<'a, C: Costs> {
-    pub(crate) setting: &'a PlanSetting<'a, C>,
+    pub(crate) context: &'a PlanContext<'a, C>,
     pub(crate) potentials: &'a [i64],
     pub(crate) multipliers: &'a [i64],
     pub(crate) moved: &'a [i64],
-    ghost numbers: { ArePlanNumbers setting.now.demands.nodes (length setting.now.crossed.now)
+    ghost numbers: { ArePlanNumbers context.now.demands.nodes (length context.now.crossed.now)
         (as_leaf_numbers potentials.now multipliers.now) },
-    ghost places: { length moved.now ≡ setting.now.demands.nodes + 1 },
-    ghost are_moved: { AreMoved setting.now.demands.nodes potentials.now multipliers.now
-        (lent_in setting.now.families.now) moved.now },
+    ghost places: { length moved.now ≡ context.now.demands.nodes + 1 },
+    ghost are_moved: { AreMoved context.now.demands.nodes potentials.now multipliers.now
+        (lent_in context.now.families.now) moved.now },
 }
 
 /// The bound of a leaf at a case; `None` where there is no walk. A row is lent, which is written
@@ -56,31 +56,31 @@ pub(crate) fn leaf_bound<C: Costs>(
     case: &OpenCase,
     row: &mut [i64],
 ) -> Result<Option<i128>, Refused>
-    requires case { IsOpenCase (leaf.now.setting.now.demands.nodes + length leaf.now.setting.now.crossed.now) case.now }
+    requires case { IsOpenCase (leaf.now.context.now.demands.nodes + length leaf.now.context.now.crossed.now) case.now }
     requires direction { case.now.by_node.directed ≡ true }
-    requires row { length row.old ≡ leaf.now.setting.now.demands.nodes + 1 }
-    requires few { leaf.now.setting.now.units.now.room ≤ most_room }
-    ensures found { IfOk result (IsFoundByWalks
-        (loads_problem leaf.now.setting.now.demands (C.at leaf.now.setting.now.costs.now)) leaf.now.setting.now.scale
-        leaf.now.setting.now.unit leaf.now.setting.now.units.now.light
-        (families_with leaf.now.setting.now.crossed.now (lent_in leaf.now.setting.now.families.now))
+    requires row { length row.old ≡ leaf.now.context.now.demands.nodes + 1 }
+    requires few { leaf.now.context.now.units.now.room ≤ most_capacity_in_parts }
+    ensures found { IfOk result (IsFoundByQRoutes
+        (loads_problem leaf.now.context.now.demands (C.at leaf.now.context.now.costs.now)) leaf.now.context.now.scale
+        leaf.now.context.now.unit leaf.now.context.now.units.now.light
+        (families_with leaf.now.context.now.crossed.now (lent_in leaf.now.context.now.families.now))
         (decisions_in case.now, as_leaf_numbers leaf.now.potentials.now leaf.now.multipliers.now)) }
     ensures size { IfOk result (λ found. IfSome found IsBoundSized) }
     ensures row { length row.new ≡ length row.old }
 {
-    let found = least_of_walks(alloc, leaf, row)?;
+    let found = least_of_q_routes(alloc, leaf, row)?;
     let Some(each) = found else {
         return Ok(None);
     };
-    let setting = leaf.setting;
-    let nodes = setting.demands.nodes;
-    let limits = limits_total(case, nodes, setting.crossed, leaf.multipliers);
+    let context = leaf.context;
+    let nodes = context.demands.nodes;
+    let limits = limits_total(case, nodes, context.crossed, leaf.multipliers);
     let sum = LeafSum {
         nodes,
-        scale: setting.scale,
-        back: limits - 2 * customers_total(setting.demands.depot, leaf.potentials),
-        own: leaf.potentials[setting.demands.depot as usize - 1],
-        fewest: setting.demands.fewest(),
+        scale: context.scale,
+        back: limits - 2 * customers_total(context.demands.depot, leaf.potentials),
+        own: leaf.potentials[context.demands.depot as usize - 1],
+        fewest: context.demands.fewest(),
     };
     Ok(Some(plan_bound(sum, each)))
 }
@@ -91,17 +91,17 @@ pub(crate) fn leaf_bound<C: Costs>(
 ///
 /// Out of memory, of which it takes some for each pair of up to 5,000 nodes, and for each node and
 /// load.
-fn least_of_walks<C: Costs>(
+fn least_of_q_routes<C: Costs>(
     alloc: Global,
     leaf: &PlanLeaf<C>,
     row: &mut [i64],
 ) -> Result<Option<i128>, Refused>
-    requires row { length row.old ≡ leaf.now.setting.now.demands.nodes + 1 }
-    requires few { leaf.now.setting.now.units.now.room ≤ most_room }
-    ensures least { IfOk result (IsLeastWalk
-        (loads_problem leaf.now.setting.now.demands (C.at leaf.now.setting.now.costs.now)) leaf.now.setting.now.scale
-        leaf.now.setting.now.unit leaf.now.setting.now.units.now.light
-        (families_with leaf.now.setting.now.crossed.now (lent_in leaf.now.setting.now.families.now))
+    requires row { length row.old ≡ leaf.now.context.now.demands.nodes + 1 }
+    requires few { leaf.now.context.now.units.now.room ≤ most_capacity_in_parts }
+    ensures least { IfOk result (IsLeastQRoute
+        (loads_problem leaf.now.context.now.demands (C.at leaf.now.context.now.costs.now)) leaf.now.context.now.scale
+        leaf.now.context.now.unit leaf.now.context.now.units.now.light
+        (families_with leaf.now.context.now.crossed.now (lent_in leaf.now.context.now.families.now))
         (as_leaf_numbers leaf.now.potentials.now leaf.now.multipliers.now)) }
     ensures size { IfOk result (λ found. IfSome found (IsFromTo (neg_ℤ (pos (2 ^ 83))) (pos (2 ^ 83)))) }
     ensures row { length row.new ≡ length row.old }
@@ -112,17 +112,17 @@ fn least_of_walks<C: Costs>(
         weights: &weights,
         rows: &rows,
     };
-    let walks = Walks {
-        nodes: leaf.setting.demands.nodes,
-        depot: leaf.setting.demands.depot,
-        loads: &leaf.setting.units.loads,
+    let q_routes = QRoutes {
+        nodes: leaf.context.demands.nodes,
+        depot: leaf.context.demands.depot,
+        loads: &leaf.context.units.loads,
         weights: &kept,
     };
-    let room = leaf.setting.units.room as usize;
+    let room = leaf.context.units.room as usize;
     if kept.are_narrow(row) {
-        return least_walk::<i64, KeptWeights<C>>(alloc, &walks, room, row);
+        return least_q_route::<i64, KeptWeights<C>>(alloc, &q_routes, room, row);
     }
-    least_walk::<i128, KeptWeights<C>>(alloc, &walks, room, row)
+    least_q_route::<i128, KeptWeights<C>>(alloc, &q_routes, room, row)
 }
 
 /// What is left in 64 bits of each node's potential less the multipliers of its sets.
@@ -132,20 +132,20 @@ fn least_of_walks<C: Costs>(
 /// Out of memory, of which it takes some for each node.
 pub(crate) fn moved_of<C: Costs>(
     alloc: Global,
-    setting: &PlanSetting<C>,
+    context: &PlanContext<C>,
     potentials: &[i64],
     multipliers: &[i64],
 ) -> Result<Vec<i64>, Refused>
-    requires numbers { ArePlanNumbers setting.now.demands.nodes (length setting.now.crossed.now)
+    requires numbers { ArePlanNumbers context.now.demands.nodes (length context.now.crossed.now)
         (as_leaf_numbers potentials.now multipliers.now) }
-    ensures long { IfOk result (λ moved. length moved.items ≡ setting.now.demands.nodes + 1) }
-    ensures moved { IfOk result (λ moved. AreMoved setting.now.demands.nodes potentials.now multipliers.now
-        (lent_in setting.now.families.now) moved.items) }
+    ensures long { IfOk result (λ moved. length moved.items ≡ context.now.demands.nodes + 1) }
+    ensures moved { IfOk result (λ moved. AreMoved context.now.demands.nodes potentials.now multipliers.now
+        (lent_in context.now.families.now) moved.items) }
 {
-    let places = setting.demands.nodes as usize + 1;
+    let places = context.demands.nodes as usize + 1;
     let mut ends = filled(alloc, 0, places)?;
     let multiplied = MultipliedFamilies {
-        families: setting.families,
+        families: context.families,
         numbers: multipliers,
     };
     take_multipliers(&mut ends, &multiplied);

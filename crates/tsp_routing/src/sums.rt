@@ -3,8 +3,8 @@
 ghost use Rattle.std.proofs.Common.{rules};
 ghost use Rattle.std.specs.Prelude.{◌≡◌, ◌≤◌, ◌<◌, ◌+◌, ◌*◌, ◌^◌, ℕ, ℤ, pos, neg_ℤ, ◌+ℤ◌, int_lt, MatchOption};
 ghost use Rattle.tsp_format.specs.Steps.{IsFromTo};
-ghost use Rattle.tsp_routing.specs.Walks.{IsReal};
-ghost use Rattle.tsp_routing.specs.PlanBounds.{most_link, most_room};
+ghost use Rattle.tsp_routing.specs.QRoutes.{IsReal};
+ghost use Rattle.tsp_routing.specs.PlanBounds.{most_link, most_capacity_in_parts};
 
 /// The most that a weight is in size where sums fit 64 bits: then 5,000,000 of them do.
 pub(crate) const MOST_NARROW: i64 = 1 << 38;
@@ -43,7 +43,7 @@ pub(crate) trait Sum: Copy {
         ensures { MatchOption result (IsReal half (value self) → ⊥)
             (λ weight. (weight ≡ value self) × IsReal half (value self)) };
 
-    ghost fits: { (count : ℕ) → count ≤ most_room + 2 → (count * link) + link < half };
+    ghost fits: { (count : ℕ) → count ≤ most_capacity_in_parts + 2 → (count * link) + link < half };
 
     ghost small: { half ≤ 2 ^ 83 };
 }

@@ -1,10 +1,10 @@
 //! The load of each node and the capacity of a route, in units. `src/verdict.rt` counts them, and
-//! `src/setting.rt` holds them.
+//! `src/context.rt` holds them.
 
 ghost use Rattle.std.specs.Prelude.{◌≡◌, ◌≤◌, ◌<◌, ◌+◌, ◌*◌, ◌/◌, ◌==◌, ◌^◌, ℕ, ℤ, if◌then◌else◌, length, pos, nat_abs, ◌≤ℤ◌, IfOk};
 ghost use Rattle.tsp_format.specs.Nodes.{IsNode};
 ghost use Rattle.tsp_routing.specs.states.Demands.{loads_problem, AreDemands, load_at, AreUnitLoads, light_in};
-ghost use Rattle.tsp_routing.specs.PlanLinks.{units_of, AreUnits, load_in, room_in};
+ghost use Rattle.tsp_routing.specs.PlanLinks.{units_of, AreUnits, load_in, capacity_in_parts};
 
 use crate::demands::Demands;
 use std::alloc::Global;

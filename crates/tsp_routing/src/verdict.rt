@@ -16,19 +16,19 @@ ghost use Rattle.tsp_cases.specs.states.GoodFamilies.{AreUnmarked, AddsNoOther};
 ghost use Rattle.tsp_cases.specs.states.OpenCases.{IsOpenCase, decisions_in};
 ghost use Rattle.tsp_routing.specs.PlanLinks.{IsCutFamily};
 ghost use Rattle.tsp_routing.specs.PlanVerdicts.{ArePlanNumbers, most_of_multipliers, sizes_total, IsGoodSet, routing_with, IsPlanVerdict, VerdictBoundsPlans, IsSizedPlanVerdict};
-ghost use Rattle.tsp_routing.specs.PlanBounds.{most_room};
+ghost use Rattle.tsp_routing.specs.PlanBounds.{most_capacity_in_parts};
 ghost use Rattle.tsp_routing.specs.states.Demands.{loads_problem, AreDemands};
-ghost use Rattle.tsp_routing.specs.states.Judged.{AreCutsJudged, AreCutNumbers, IsFoundOfFew, IsLeafVerdict, IsPlanRoom};
+ghost use Rattle.tsp_routing.specs.states.Judged.{AreCutsJudged, AreCutNumbers, IsFoundOfFew, IsLeafVerdict, IsPlanScratch};
 ghost use Rattle.tsp_routing.specs.states.LeafWeights.{IsPlanStep};
 
+use crate::context::PlanContext;
 use crate::demands::Demands;
 use crate::laws::plan_trees_bound_plans;
 use crate::plan_leaf::{PlanLeaf, leaf_bound, moved_of};
-use crate::setting::PlanSetting;
 use crate::units::unit_loads;
 use std::alloc::Global;
 use tsp_cases::{
-    CaseSteps, Crossings, Decision, Families, JudgedLeaf, JudgedLeaves, LeafJudge, OpenCase,
+    Crossings, Decision, Families, JudgedLeaf, JudgedLeaves, LeafJudge, OpenCase, WholeTree,
     copy_within, first_bad_branch, judge_leaves, mark_nodes, sets_by_node,
 };
 use tsp_format::{MOST_POTENTIAL, TreeStep};
@@ -89,7 +89,7 @@ fn judged_plans<C: Costs>(alloc: Global, tree: &PlanTree<C>) -> Result<PlanVerdi
     let by_node = sets_by_node(alloc, &families)?;
     let unit = tree.unit as u64;
     let units = unit_loads(alloc, &demands, unit)?;
-    let setting = PlanSetting {
+    let context = PlanContext {
         costs: tree.costs,
         demands,
         scale: tree.scale,
@@ -99,7 +99,7 @@ fn judged_plans<C: Costs>(alloc: Global, tree: &PlanTree<C>) -> Result<PlanVerdi
         unit,
         units: &units,
     };
-    leaf_verdict(alloc, &setting, tree.steps)
+    leaf_verdict(alloc, &context, tree.steps)
 }
 
 /// The verdict on leaves, where families and branches are good.
@@ -109,19 +109,19 @@ fn judged_plans<C: Costs>(alloc: Global, tree: &PlanTree<C>) -> Result<PlanVerdi
 /// Out of memory.
 fn leaf_verdict<C: Costs>(
     alloc: Global,
-    setting: &PlanSetting<C>,
+    context: &PlanContext<C>,
     steps: &[TreeStep],
 ) -> Result<PlanVerdict, Refused>
     requires few { length steps.now < 2 ^ 32 }
-    requires steps { ∥ All (IsStepOf (setting.now.demands.nodes + length setting.now.crossed.now)) (steps_of steps.now) ∥₁ }
+    requires steps { ∥ All (IsStepOf (context.now.demands.nodes + length context.now.crossed.now)) (steps_of steps.now) ∥₁ }
     requires whole { are_whole 1 (steps_of steps.now) ≡ true }
-    ensures verdict { IfOk result (IsLeafVerdict (loads_problem setting.now.demands (C.at setting.now.costs.now))
-        setting.now.scale setting.now.unit setting.now.units.now.light (length setting.now.crossed.now)
-        (families_with setting.now.crossed.now (lent_in setting.now.families.now)) (steps_of steps.now)) }
+    ensures verdict { IfOk result (IsLeafVerdict (loads_problem context.now.demands (C.at context.now.costs.now))
+        context.now.scale context.now.unit context.now.units.now.light (length context.now.crossed.now)
+        (families_with context.now.crossed.now (lent_in context.now.families.now)) (steps_of steps.now)) }
     ensures size { IfOk result IsSizedPlanVerdict }
 {
-    let few = entries(setting.demands.nodes, setting.units.room) <= MOST_ENTRIES;
-    match judge_all(alloc, setting, few, steps)? {
+    let few = entries(context.demands.nodes, context.units.room) <= MOST_ENTRIES;
+    match judge_all(alloc, context, few, steps)? {
         JudgedLeaves::BadLeaf(leaf) => Ok(PlanVerdict::BadLeaf(leaf)),
         JudgedLeaves::Bound(found) => {
             if few {
@@ -146,36 +146,36 @@ fn entries(nodes: u32, room: u64) -> u128
 /// Out of memory.
 fn judge_all<C: Costs>(
     alloc: Global,
-    setting: &PlanSetting<C>,
+    context: &PlanContext<C>,
     few: bool,
     steps: &[TreeStep],
 ) -> Result<JudgedLeaves, Refused>
-    requires room { few ≡ true → setting.now.units.now.room ≤ most_room }
+    requires room { few ≡ true → context.now.units.now.room ≤ most_capacity_in_parts }
     requires few { length steps.now < 2 ^ 32 }
-    requires steps { ∥ All (IsStepOf (setting.now.demands.nodes + length setting.now.crossed.now)) (steps_of steps.now) ∥₁ }
+    requires steps { ∥ All (IsStepOf (context.now.demands.nodes + length context.now.crossed.now)) (steps_of steps.now) ∥₁ }
     requires whole { are_whole 1 (steps_of steps.now) ≡ true }
     ensures judged { IfOk result (AreJudgedBy (IsFoundOfFew few
-        (loads_problem setting.now.demands (C.at setting.now.costs.now)) setting.now.scale
-        setting.now.unit setting.now.units.now.light
-        (families_with setting.now.crossed.now (lent_in setting.now.families.now)))
-        (ArePlanNumbers setting.now.demands.nodes (length setting.now.crossed.now))
-        setting.now.demands.nodes (length setting.now.crossed.now) [] (steps_of steps.now)) }
+        (loads_problem context.now.demands (C.at context.now.costs.now)) context.now.scale
+        context.now.unit context.now.units.now.light
+        (families_with context.now.crossed.now (lent_in context.now.families.now)))
+        (ArePlanNumbers context.now.demands.nodes (length context.now.crossed.now))
+        context.now.demands.nodes (length context.now.crossed.now) [] (steps_of steps.now)) }
     ensures size { IfOk result AreSizedLeaves }
 {
-    let nodes = setting.demands.nodes as usize;
-    let combs = setting.crossed.len();
-    let mut room = PlanRoom {
+    let nodes = context.demands.nodes as usize;
+    let combs = context.crossed.len();
+    let mut room = PlanScratch {
         potentials: filled(alloc, 0, nodes)?,
         multipliers: filled(alloc, 0, combs)?,
         row: filled(alloc, 0, nodes + 1)?,
     };
-    let tree = CaseSteps {
-        places: setting.demands.nodes + combs as u32,
+    let tree = WholeTree {
+        places: context.demands.nodes + combs as u32,
         directed: true,
         given: &[],
         steps,
     };
-    let judge = PlanJudge { setting, few };
+    let judge = PlanJudge { context, few };
     judge_leaves(alloc, &judge, &tree, &mut room, nodes + combs)
 }
 
@@ -315,7 +315,7 @@ fn cut_crossings(
 
 /// The numbers of a leaf, and a row, which are written over by the next one.
 #[derive(Drop)]
-pub(crate) struct PlanRoom {
+pub(crate) struct PlanScratch {
     pub(crate) potentials: Vec<i64>,
     pub(crate) multipliers: Vec<i64>,
     pub(crate) row: Vec<i64>,
@@ -324,9 +324,9 @@ pub(crate) struct PlanRoom {
 /// Judges leaves by least walks, where there are few loads; else it only says which are good.
 #[derive(Drop)]
 pub(crate) struct PlanJudge<'a, C: Costs> {
-    pub(crate) setting: &'a PlanSetting<'a, C>,
+    pub(crate) context: &'a PlanContext<'a, C>,
     pub(crate) few: bool,
-    ghost room: { few ≡ true → setting.now.units.now.room ≤ most_room },
+    ghost room: { few ≡ true → context.now.units.now.room ≤ most_capacity_in_parts },
 }
 
 impl<C: Costs> LeafJudge for PlanJudge<'_, C> {
@@ -335,44 +335,44 @@ impl<C: Costs> LeafJudge for PlanJudge<'_, C> {
     ghost use Rattle.tsp_cases.specs.states.Sets.{lent_in};
     ghost use Rattle.tsp_routing.specs.PlanVerdicts.{ArePlanNumbers};
     ghost use Rattle.tsp_routing.specs.states.Demands.{loads_problem};
-    ghost use Rattle.tsp_routing.specs.states.Judged.{IsPlanRoom, IsFoundOfFew};
+    ghost use Rattle.tsp_routing.specs.states.Judged.{IsPlanScratch, IsFoundOfFew};
 
-    type Memory = PlanRoom;
+    type Memory = PlanScratch;
 
-    ghost nodes = { λ judge. judge.setting.now.demands.nodes };
+    ghost nodes = { λ judge. judge.context.now.demands.nodes };
 
-    ghost combs = { λ judge. length judge.setting.now.crossed.now };
+    ghost combs = { λ judge. length judge.context.now.crossed.now };
 
-    ghost places = { λ judge. judge.setting.now.demands.nodes + length judge.setting.now.crossed.now };
+    ghost places = { λ judge. judge.context.now.demands.nodes + length judge.context.now.crossed.now };
 
     ghost directed = { λ judge. true };
 
     ghost fits = { λ judge case. Unit {0} };
 
-    ghost good = { λ judge numbers. ArePlanNumbers judge.setting.now.demands.nodes (length judge.setting.now.crossed.now)
+    ghost good = { λ judge numbers. ArePlanNumbers judge.context.now.demands.nodes (length judge.context.now.crossed.now)
         numbers };
 
     ghost found = { λ judge. IsFoundOfFew judge.few
-        (loads_problem judge.setting.now.demands (C.at judge.setting.now.costs.now)) judge.setting.now.scale
-        judge.setting.now.unit judge.setting.now.units.now.light
-        (families_with judge.setting.now.crossed.now (lent_in judge.setting.now.families.now)) };
+        (loads_problem judge.context.now.demands (C.at judge.context.now.costs.now)) judge.context.now.scale
+        judge.context.now.unit judge.context.now.units.now.light
+        (families_with judge.context.now.crossed.now (lent_in judge.context.now.families.now)) };
 
-    ghost holds = { λ judge room case. IsPlanRoom judge.setting.now.demands.nodes
-        (length judge.setting.now.crossed.now) room };
+    ghost holds = { λ judge room case. IsPlanScratch judge.context.now.demands.nodes
+        (length judge.context.now.crossed.now) room };
 
-    fn enter(&self, memory: &mut PlanRoom, decision: Decision) {}
+    fn enter(&self, memory: &mut PlanScratch, decision: Decision) {}
 
-    fn leave(&self, memory: &mut PlanRoom, stack: &[Decision]) {}
+    fn leave(&self, memory: &mut PlanScratch, stack: &[Decision]) {}
 
     fn judge(
         &self,
         alloc: Global,
         case: &OpenCase,
         numbers: &[i128],
-        memory: &mut PlanRoom,
+        memory: &mut PlanScratch,
     ) -> Result<JudgedLeaf, Refused> {
         // The setting is lent again, since the case changes before the next leaf.
-        judge_leaf(alloc, &*self.setting, self.few, case, numbers, memory)
+        judge_leaf(alloc, &*self.context, self.few, case, numbers, memory)
     }
 }
 
@@ -383,24 +383,24 @@ impl<C: Costs> LeafJudge for PlanJudge<'_, C> {
 /// Out of memory.
 fn judge_leaf<C: Costs>(
     alloc: Global,
-    setting: &PlanSetting<C>,
+    context: &PlanContext<C>,
     few: bool,
     case: &OpenCase,
     numbers: &[i128],
-    room: &mut PlanRoom,
+    room: &mut PlanScratch,
 ) -> Result<JudgedLeaf, Refused>
-    requires few { few ≡ true → setting.now.units.now.room ≤ most_room }
-    requires case { IsOpenCase (setting.now.demands.nodes + length setting.now.crossed.now) case.now }
+    requires few { few ≡ true → context.now.units.now.room ≤ most_capacity_in_parts }
+    requires case { IsOpenCase (context.now.demands.nodes + length context.now.crossed.now) case.now }
     requires direction { case.now.by_node.directed ≡ true }
-    requires numbers { length numbers.now ≡ setting.now.demands.nodes + length setting.now.crossed.now }
-    requires room { IsPlanRoom setting.now.demands.nodes (length setting.now.crossed.now) room.old }
+    requires numbers { length numbers.now ≡ context.now.demands.nodes + length context.now.crossed.now }
+    requires room { IsPlanScratch context.now.demands.nodes (length context.now.crossed.now) room.old }
     ensures judged { IfOk result (IsFoundOfCase (IsFoundOfFew few
-        (loads_problem setting.now.demands (C.at setting.now.costs.now)) setting.now.scale
-        setting.now.unit setting.now.units.now.light
-        (families_with setting.now.crossed.now (lent_in setting.now.families.now)))
-        (ArePlanNumbers setting.now.demands.nodes (length setting.now.crossed.now))
-        setting.now.demands.nodes (decisions_in case.now) numbers.now) }
-    ensures room { IfOk result (λ own. IsPlanRoom setting.now.demands.nodes (length setting.now.crossed.now) room.new) }
+        (loads_problem context.now.demands (C.at context.now.costs.now)) context.now.scale
+        context.now.unit context.now.units.now.light
+        (families_with context.now.crossed.now (lent_in context.now.families.now)))
+        (ArePlanNumbers context.now.demands.nodes (length context.now.crossed.now))
+        context.now.demands.nodes (decisions_in case.now) numbers.now) }
+    ensures room { IfOk result (λ own. IsPlanScratch context.now.demands.nodes (length context.now.crossed.now) room.new) }
     ensures size { IfOk result IsSizedLeaf }
 {
     if !judge_numbers(numbers, &mut room.potentials, &mut room.multipliers) {
@@ -409,9 +409,9 @@ fn judge_leaf<C: Costs>(
     if !few {
         return Ok(JudgedLeaf::Found(None));
     }
-    let moved = moved_of(alloc, setting, &room.potentials, &room.multipliers)?;
+    let moved = moved_of(alloc, context, &room.potentials, &room.multipliers)?;
     let leaf = PlanLeaf {
-        setting: &*setting,
+        context: &*context,
         potentials: &room.potentials,
         multipliers: &room.multipliers,
         moved: &moved,

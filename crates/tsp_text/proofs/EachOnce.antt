@@ -25,7 +25,7 @@ use Rattle.tsp_text.specs.FaultRows.{when, number_fault_at, is_repeated_node_at,
 use Rattle.tsp_text.specs.Groups.{HasEachNodeOnce, groups_in, begun_in, word_at, node_groups, number_value, number_groups, point_in, space_point_in, place_in_group, place_by_node, nodes_of_groups, place_of_number, is_by_node_field, group_nodes}
 use Rattle.tsp_text.specs.Items.{Item}
 use Rattle.tsp_text.specs.SectionWords.{number, reads_as, node, Place, NodeAfter, Coordinate, Amount, PastGroups}
-use Rattle.tsp_text.specs.Spells.{IsClean, wants_more, is_incomplete}
+use Rattle.tsp_text.specs.ParsesTo.{IsClean, wants_more, is_incomplete}
 use Rattle.tsp_text.specs.declared.fault.LineFault.TheVariants as row
 
 -- ---- different elements

@@ -16,7 +16,7 @@ use Rattle.tsp_text.specs.FaultRows.{word_fault}
 use Rattle.tsp_text.specs.Groups.{groups_after, begun_after, groups_in, begun_in, word_at, node_groups, nodes_of_groups, before, firsts_in, listed_in, fixed_pair, fixed_in, place_in_pair}
 use Rattle.tsp_text.specs.Items.{Item}
 use Rattle.tsp_text.specs.SectionWords.{number, node, reads_as, node_or_end, is_end, FirstAfter, SecondOf, PastEnd}
-use Rattle.tsp_text.specs.Spells.{IsClean}
+use Rattle.tsp_text.specs.ParsesTo.{IsClean}
 
 abbrev pub Words : Type 0
 Words = List (List ℕ)

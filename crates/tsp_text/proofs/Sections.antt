@@ -12,7 +12,7 @@ use Rattle.tsp_file.specs.Fields.{stands_in}
 use Rattle.tsp_text.specs.Items.{WordLine, Item, Line}
 use Rattle.tsp_text.specs.Earlier.{has_line, spatial_after, dimension_in}
 use Rattle.tsp_text.specs.FaultRows.{row_of}
-use Rattle.tsp_text.specs.Spells.{opening_rows, fields_by}
+use Rattle.tsp_text.specs.ParsesTo.{opening_rows, fields_by}
 
 -- what holds of each section holds of every field that is one
 -- plan: by the field: each section is a premise, and a keyword is none

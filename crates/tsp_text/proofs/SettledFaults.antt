@@ -21,7 +21,7 @@ use Rattle.tsp_text.specs.Earlier.{open_section, words_of, spatial_after, place_
 use Rattle.tsp_text.specs.FaultRows.{row_of, when, first_row, word_fault}
 use Rattle.tsp_text.specs.Items.{Item, Line, NumberWord, LineEnd, items_of, settled_items, is_end_line, has_end_line, to_end_line}
 use Rattle.tsp_text.specs.SectionWords.{is_minus_one, Place, NodeAfter, Coordinate, Amount, PastGroups, DepotAfter, FirstAfter, SecondOf, PastEnd, Weight, PastWeights, TourNode, SetNode, StepAfter, IndexAfter}
-use Rattle.tsp_text.specs.Spells.{fault_here, IsClean, fault_in, IsFirstFault, NoneHasRow, spelled, fault_at_end, part, fault, Spells, IsAnswer, HasOneAnswer, is_of_text, is_too_long, settled_part, settled_fault}
+use Rattle.tsp_text.specs.ParsesTo.{fault_here, IsClean, fault_in, IsFirstFault, NoneHasRow, spelled, fault_at_end, part, fault, ParsesTo, IsAnswer, HasOneAnswer, is_of_text, is_too_long, settled_part, settled_fault}
 use Rattle.tsp_text.specs.declared.fault.LineFault.{LineFault}
 use Rattle.tsp_text.specs.declared.fault.LineFault.TheVariants as row
 use Rattle.tsp_text.specs.declared.fault.ReadFault.{ReadFault}
@@ -123,11 +123,11 @@ answer_of bytes (Some found) e = (Err found, e, λ other h. only_fault bytes fou
 pub one_answer : (bytes : List ℕ) → HasOneAnswer bytes
 one_answer bytes = answer_of bytes (fault bytes) refl
 
-pub never_both : (bytes : List ℕ) (file : Fields) (found : ReadFault) → Spells bytes file → fault bytes ≢ Some found
-never_both bytes file found spells e = none-some found (sym spells.no_fault ∙ e)
+pub never_both : (bytes : List ℕ) (file : Fields) (found : ReadFault) → ParsesTo bytes file → fault bytes ≢ Some found
+never_both bytes file found parses_to e = none-some found (sym parses_to.no_fault ∙ e)
 
-pub one_file : (bytes : List ℕ) (file other : Fields) → Spells bytes file → Spells bytes other → file ≡ other
-one_file bytes file other spells also = spells.fields ∙ sym also.fields
+pub one_file : (bytes : List ℕ) (file other : Fields) → ParsesTo bytes file → ParsesTo bytes other → file ≡ other
+one_file bytes file other parses_to also = parses_to.fields ∙ sym also.fields
 
 -- ---- the fault lies in the text
 
@@ -221,7 +221,7 @@ same_word_row earlier word next None long also e = rw e refl
 same_word_row earlier word next (Some f) long also e =
     let n = dimension_in earlier in
     let place = place_in (spatial_after earlier) f n (words_of f earlier) in
-    word_rows earlier word f e ∙ long_fault n place word long ∙ sym (word_rows earlier next f e ∙ long_fault n place next also)
+    rows_of_word earlier word f e ∙ long_fault n place word long ∙ sym (rows_of_word earlier next f e ∙ long_fault n place next also)
 
 pub same_fault : (earlier : List Item) (x y : Item) → AreLong x y → fault_in (x ∷ earlier) ≡ fault_in (y ∷ earlier)
 same_fault earlier (Line key line) (Line other next) h =

@@ -20,7 +20,7 @@ use Rattle.tsp_text.specs.FaultRows.{word_fault, is_past_combs}
 use Rattle.tsp_text.specs.Groups.{CombsSoFar, no_combs, comb_node, with_end, with_comb_word, combs_after, whole_combs, has_begun_comb, place_in_combs}
 use Rattle.tsp_text.specs.Items.{is_not_empty, Item, ends_line, lines_of, words_in, without_start, without_end, begins, is_word_line, keyword_in, after_keyword, has_colon, value_in, NumberWord, LineEnd, line_item, items_in, items_by, items_of, settled_words, settled_in, settled_items, is_end_line, to_end_line, has_no_line_end, IsCut, AreCut}
 use Rattle.tsp_text.specs.SectionWords.{number, TourNode, ends_tour, tour_node, tours_in, is_end, SetNode, PastEnd}
-use Rattle.tsp_text.specs.Spells.{IsClean, part, is_too_long}
+use Rattle.tsp_text.specs.ParsesTo.{IsClean, part, is_too_long}
 
 -- ---- pieces of a list
 

@@ -29,7 +29,7 @@ use Rattle.tsp_text.specs.FaultRows.{is_early, word_fault, row_of, when}
 use Rattle.tsp_text.specs.Groups.{groups_in, begun_in, firsts_in, fixed_pair, fixed_triple, fixed_triples_in, place_in_triple, points_by_node, coords_by_node, depots_in, fixed_in, whole_combs}
 use Rattle.tsp_text.specs.Items.{WordLine, Item, Line, NumberWord, LineEnd, has_end_line, AreCut}
 use Rattle.tsp_text.specs.SectionWords.{number, node_or_end, is_end, SecondOf, PastEnd, whole_of_size, Weight, PastWeights, weights_in, tours_in, whole_steps, place_of_step}
-use Rattle.tsp_text.specs.Spells.{IsClean, section_value, stands, fault_in, potentials_by_node, demands_in, spelled, wants_more, is_incomplete, sections_in_order, first_incomplete, fault_at_end, is_too_long, part, Spells}
+use Rattle.tsp_text.specs.ParsesTo.{IsClean, section_value, stands, fault_in, potentials_by_node, demands_in, spelled, wants_more, is_incomplete, sections_in_order, first_incomplete, fault_at_end, is_too_long, part, ParsesTo}
 use Rattle.tsp_text.specs.declared.fault.ReadFault.TheVariants as faults
 
 still : (key dimension : Bool) → dimension ≡ true → cond key true dimension ≡ true
@@ -311,9 +311,9 @@ is_file items cut clean ended =
     let whole = found_none (is_incomplete items) BranchPart sections_in_order none refl in
     no_fault (bad_field (spelled items)) (end_fault s None) (none_bad items cut clean whole) rule
 
-pub spelled_file : (bytes : List ℕ) (file : Fields) → Spells bytes file → fault_of file ≡ None
-spelled_file bytes file spells =
+pub spelled_file : (bytes : List ℕ) (file : Fields) → ParsesTo bytes file → fault_of file ≡ None
+spelled_file bytes file parses_to =
     let rows = none_applies (fault_in (part bytes) ∷ when (is_too_long bytes && not (has_end_line (part bytes))) faults.TooLong
-    ∷ option_map (λ fault. faults.End fault) (fault_at_end (part bytes)) ∷ []) spells.no_fault in
+    ∷ option_map (λ fault. faults.End fault) (fault_at_end (part bytes)) ∷ []) parses_to.no_fault in
     let ended = map_none (λ fault. faults.End fault) (fault_at_end (part bytes)) rows.1.1.0 in
-    ap fault_of spells.fields ∙ is_file (part bytes) (part_cut bytes) rows.0 ended
+    ap fault_of parses_to.fields ∙ is_file (part bytes) (part_cut bytes) rows.0 ended

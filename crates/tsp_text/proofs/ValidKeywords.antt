@@ -33,7 +33,7 @@ use Rattle.tsp_text.specs.FaultRows.{word_fault, is_too_long_to_keep, has_bad_va
 use Rattle.tsp_text.specs.Groups.{before, groups_in, word_at, node_groups, number_value, coordinate_at, point_in, space_point_in, entry_of, by_node, numbers_by_node, points_by_node, space_points_by_node, coords_by_node, depots_in}
 use Rattle.tsp_text.specs.Items.{Item, first_word, WordLine, Line, NumberWord, LineEnd, IsCutLine, AreCut}
 use Rattle.tsp_text.specs.SectionWords.{number, reads_as, node, not_zero, node_or_end, is_end, DepotAfter, PastEnd}
-use Rattle.tsp_text.specs.Spells.{IsClean}
+use Rattle.tsp_text.specs.ParsesTo.{IsClean}
 
 pub and_false : (b : Bool) → (b && false) ≡ false
 and_false true = refl

@@ -20,7 +20,7 @@ use Rattle.tsp_text.specs.FaultRows.{when, first_row, table, row_of, repeats_key
 use Rattle.tsp_text.specs.Groups.{coords_by_node}
 use Rattle.tsp_text.specs.Items.{Item, WordLine, Line, NumberWord, LineEnd, first_word}
 use Rattle.tsp_text.specs.SectionWords.{Place}
-use Rattle.tsp_text.specs.Spells.{fault_here, fault_in, IsClean, wants_more, sections_in_order}
+use Rattle.tsp_text.specs.ParsesTo.{fault_here, fault_in, IsClean, wants_more, sections_in_order}
 use Rattle.tsp_text.specs.declared.fault.LineFault.TheVariants as row
 
 pub when_none : {F : Type 0} (test : Bool) (fault : F) → when test fault ≡ None → test ≡ false

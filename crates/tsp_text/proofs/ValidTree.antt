@@ -18,7 +18,7 @@ use Rattle.tsp_file.specs.Validity.{is_from_to, is_within, is_node, is_branch_of
 use Rattle.tsp_text.specs.Items.{Item}
 use Rattle.tsp_text.specs.Earlier.{words_of, dimension_in}
 use Rattle.tsp_text.specs.SectionWords.{number, reads_as, node, whole_of_size, StepAfter, SecondOf, IndexAfter, PastGroups, TreeSoFar, no_steps, index_or_leaf, begins_leaf, index_or_end, ends_leaf, with_word_of, with_tree_word, tree_after, whole_steps, place_in_step, place_in_tree, place_of_step}
-use Rattle.tsp_text.specs.Spells.{IsClean, wants_more}
+use Rattle.tsp_text.specs.ParsesTo.{IsClean, wants_more}
 use Rattle.tsp_text.specs.FaultRows.{word_fault}
 use Rattle.tsp_text.proofs.ValidRows.{is_taken, Grows, grown}
 use Rattle.tsp_text.proofs.ValidKeywords.{whole_in_range, whole_passes, read_node, read_listed, differ, first_of_both}

@@ -12,7 +12,7 @@ use Rattle.tsp_text.specs.declared.fault.ReadFault.TheVariants as faults
 use Rattle.tsp_text.specs.Items.{line_item}
 use Rattle.tsp_text.specs.SectionWords.{Place}
 use Rattle.tsp_text.specs.FaultRows.{is_surplus, is_surplus_at}
-use Rattle.tsp_text.specs.Spells.{spelled, part, fault}
+use Rattle.tsp_text.specs.ParsesTo.{spelled, part, fault}
 
 -- byte 10 in place of `/`
 abbrev pub newline : ℕ → ℕ

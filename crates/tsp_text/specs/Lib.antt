@@ -1,5 +1,5 @@
 -- The files of definitions of this crate. Crates above may import them.
-pub mod Spells
+pub mod ParsesTo
 pub mod Items
 pub mod Earlier
 pub mod SectionWords

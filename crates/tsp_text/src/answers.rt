@@ -4,7 +4,7 @@ ghost use Rattle.std.specs.Prelude.{◌≡◌, ◌≢◌, ℕ, List, Some, true}
 ghost use Rattle.tsp_file.specs.Fields.{Fields};
 ghost use Rattle.tsp_text.specs.declared.fault.ReadFault.{ReadFault};
 ghost use Rattle.tsp_text.specs.Items.{Item};
-ghost use Rattle.tsp_text.specs.Spells.{fault_in, IsClean, IsFirstFault, fault, Spells, NoneHasRow, HasOneAnswer, is_of_text};
+ghost use Rattle.tsp_text.specs.ParsesTo.{fault_in, IsClean, IsFirstFault, fault, ParsesTo, NoneHasRow, HasOneAnswer, is_of_text};
 
 /// The first fault of items is that of the first item to which a row applies, and of its first row.
 ///
@@ -23,9 +23,9 @@ pub fn first_faults()
 pub fn texts_have_one_answer()
     ensures one { (bytes : List ℕ) → HasOneAnswer bytes }
     ensures never_both { (bytes : List ℕ) (file : Fields) (found : ReadFault)
-        → Spells bytes file → fault bytes ≢ Some found }
+        → ParsesTo bytes file → fault bytes ≢ Some found }
     ensures one_file { (bytes : List ℕ) (file other : Fields)
-        → Spells bytes file → Spells bytes other → file ≡ other }
+        → ParsesTo bytes file → ParsesTo bytes other → file ≡ other }
     ensures of_text { (bytes : List ℕ) (found : ReadFault)
         → fault bytes ≡ Some found → is_of_text found ≡ true }
 {}

@@ -5,7 +5,7 @@ ghost use Rattle.std.specs.Prelude.{◌≡◌, List, true, false};
 ghost use Rattle.tsp_format.specs.declared.keyword.Field.{Field};
 ghost use Rattle.tsp_text.specs.Items.{Item};
 ghost use Rattle.tsp_text.specs.Earlier.{has_line, words_of, spatial_after, dimension_in};
-ghost use Rattle.tsp_text.specs.Spells.{IsClean, is_incomplete};
+ghost use Rattle.tsp_text.specs.ParsesTo.{IsClean, is_incomplete};
 ghost use Rattle.tsp_text.specs.Groups.{is_by_node_field, group_nodes, HasEachNodeOnce};
 
 /// A section by node that is present, has no fault and isn't incomplete has one group for each

@@ -10,7 +10,7 @@ ghost use Rattle.tsp_format.specs.declared.keyword.Field.TheVariants as fields;
 ghost use Rattle.tsp_file.specs.declared.rules.EndFault.TheVariants as ends;
 ghost use Rattle.tsp_text.specs.declared.fault.LineFault.TheVariants as faults;
 ghost use Rattle.tsp_text.specs.declared.fault.ReadFault.TheVariants as reads;
-ghost use Rattle.tsp_text.specs.Spells.{line_fault_text, read_fault_text};
+ghost use Rattle.tsp_text.specs.ParsesTo.{line_fault_text, read_fault_text};
 ghost use Rattle.tsp_text.specs.Examples.{FaultAt, IsNumberFault, MissingAtEnd, EndsWithFault, OthersAre, ToursAre, PairsAre, TriplesAre, CombIs, TreeIs, DemandsAre, HasSpacePoint, HasPlanePoint, quad, longest_line, long_line, long_word, filled_line, IsLimit, IsLimitOfLines};
 ghost use Rattle.tsp_text.specs.FaultRows.{is_surplus_at};
 ghost use Rattle.tsp_text.specs.SectionWords.{DepotAfter, FirstAfter, TourNode, SetNode, StepAfter, IndexAfter};

@@ -1,7 +1,7 @@
 //! The faults of a text: `LineFault` of a line or a word, and `ReadFault` of a read. tsp_read
 //! returns them.
 //!
-//! A variant is also in specs/FaultRows.antt and specs/Spells.antt. tsp_report, tsp_explain
+//! A variant is also in specs/FaultRows.antt and specs/ParsesTo.antt. tsp_report, tsp_explain
 //! and tsp_c name each, too.
 
 use std::fmt;
@@ -47,7 +47,7 @@ pub enum LineFault {
 
 impl fmt::Display for LineFault {
     ghost use Rattle.std.specs.Prelude.{Some};
-    ghost use Rattle.tsp_text.specs.Spells.{line_fault_text};
+    ghost use Rattle.tsp_text.specs.ParsesTo.{line_fault_text};
 
     ghost output = { λ fault. Some (line_fault_text fault) };
 
@@ -94,7 +94,7 @@ pub enum ReadFault {
 
 impl fmt::Display for ReadFault {
     ghost use Rattle.std.specs.Prelude.{Some};
-    ghost use Rattle.tsp_text.specs.Spells.{read_fault_text};
+    ghost use Rattle.tsp_text.specs.ParsesTo.{read_fault_text};
 
     ghost output = { λ fault. Some (read_fault_text fault) };
 

@@ -4,7 +4,7 @@
 ghost use Rattle.std.specs.Prelude.{◌≡◌, ℕ, List, ◌++◌, Some, true};
 ghost use Rattle.tsp_text.specs.declared.fault.ReadFault.{ReadFault};
 ghost use Rattle.tsp_text.specs.Items.{has_end_line};
-ghost use Rattle.tsp_text.specs.Spells.{IsClean, part, fault, settled_part, settled_fault};
+ghost use Rattle.tsp_text.specs.ParsesTo.{IsClean, part, fault, settled_part, settled_fault};
 
 /// A settled fault is the fault of every longer text, and stays settled.
 pub fn settled_faults_stay()

@@ -7,7 +7,7 @@ ghost use Rattle.tsp_file.specs.Fields.{Fields};
 ghost use Rattle.tsp_file.specs.Validity.{bad_field};
 ghost use Rattle.tsp_file.specs.Rules.{fault_of};
 ghost use Rattle.tsp_text.specs.Items.{Item, AreCut};
-ghost use Rattle.tsp_text.specs.Spells.{IsClean, spelled, is_incomplete, fault_at_end, part, Spells};
+ghost use Rattle.tsp_text.specs.ParsesTo.{IsClean, spelled, is_incomplete, fault_at_end, part, ParsesTo};
 
 /// The fields of items without a fault are valid, field by field, if the tree of cases, where there
 /// is one, is whole.
@@ -24,5 +24,5 @@ pub fn clean_fields_are_valid()
 pub fn spelled_files_are_valid()
     ensures of_items { (items : List Item) → AreCut items
         → IsClean items → fault_at_end items ≡ None → fault_of (spelled items) ≡ None }
-    ensures of_text { (bytes : List ℕ) (file : Fields) → Spells bytes file → fault_of file ≡ None }
+    ensures of_text { (bytes : List ℕ) (file : Fields) → ParsesTo bytes file → fault_of file ≡ None }
 {}

@@ -356,10 +356,10 @@ weight_added w (p ∷ pairs) pair = let rest = weight_added w pairs pair in omeg
 abbrev pub most_tree : ℕ
 most_tree = (most_nodes + 2) * 2 ^ 63
 
-spokes_is : (first second from other : ℤ) → FitsSigned w64 first → FitsSigned w64 second → from ≡ to_z w64 (of_z w64 first)
+root_edges_is : (first second from other : ℤ) → FitsSigned w64 first → FitsSigned w64 second → from ≡ to_z w64 (of_z w64 first)
     → other ≡ to_z w64 (of_z w64 second)
     → to_z w128 (of_z w128 (to_z w128 (of_z w128 from) +ℤ to_z w128 (of_z w128 other))) ≡ first +ℤ second
-spokes_is first second from other p q is also =
+root_edges_is first second from other p q is also =
     let one : from ≡ first = is ∙ to_z-of_z w64 first p in
     let two : other ≡ second = also ∙ to_z-of_z w64 second q in
     omega (arith, ints, p, q, one, two)
@@ -385,7 +385,7 @@ pub tree_fits : (first second grown from other : ℤ) → FitsSigned w64 first �
     → FitsSigned w128 (to_z w128 (of_z w128 (to_z w128 (of_z w128 from) +ℤ to_z w128 (of_z w128 other))) +ℤ to_z w128
     (of_z w128 grown))
 tree_fits first second grown from other p q is also r =
-    rw (spokes_is first second from other p q is also, grown_is grown r)
+    rw (root_edges_is first second from other p q is also, grown_is grown r)
     (tree_in ((first +ℤ second) +ℤ grown) (tree_size first second grown p q r))
 
 pub tree_computed : (first second grown from other : ℤ) → FitsSigned w64 first → FitsSigned w64 second
@@ -394,7 +394,7 @@ pub tree_computed : (first second grown from other : ℤ) → FitsSigned w64 fir
     → to_z w128 (of_z w128 (to_z w128 (of_z w128 (to_z w128 (of_z w128 from) +ℤ to_z w128 (of_z w128 other))) +ℤ to_z w128
     (of_z w128 grown))) ≡ (first +ℤ second) +ℤ grown
 tree_computed first second grown from other p q is also r =
-    rw (spokes_is first second from other p q is also, grown_is grown r)
+    rw (root_edges_is first second from other p q is also, grown_is grown r)
     (to_z-of_z w128 ((first +ℤ second) +ℤ grown) (tree_in ((first +ℤ second) +ℤ grown) (tree_size first second grown p q r)))
 
 pub weight_of_tree : (w : ℕ → ℕ → ℤ) → ((a b : ℕ) → w a b ≡ w b a) → (first second : ℕ) (added : List (ℕ × ℕ))

@@ -258,7 +258,7 @@ one_tree_of n first second added one two differ links joined count =
           ((omega arith, omega arith, omega arith), ((omega arith, omega arith, omega arith), pairs.0));
       first = first;
       second = second;
-      spokes = ap (λ es. (1, first) ∷ (1, second) ∷ es) none.0;
+      root_edges = ap (λ es. (1, first) ∷ (1, second) ∷ es) none.0;
       differ = differ;
       joined = λ part inside outside in_node out_node in_part out_part.
           ap (list_any (crosses part)) none.1
@@ -292,18 +292,18 @@ pub forest_tree_least : (n : ℕ) (w : ℕ → ℕ → ℤ) → ((a b : ℕ) →
     → IsWholeForest n w added → (es : List (ℕ × ℕ)) → IsOneTree n es → weight_of w (tree_of first second added) ≤ℤ weight_of w es
 forest_tree_least n w symmetric first second added nearest forest es t =
     let range = recursion_from_All (IsPair n) es t.range in
-    let spokes = subst (AllByRecursion (IsPair n)) t.spokes (kept_pairs (IsPair n) is_at_one es range) in
+    let root_edges = subst (AllByRecursion (IsPair n)) t.root_edges (kept_pairs (IsPair n) is_at_one es range) in
     let near : (w 1 first +ℤ w 1 second) ≤ℤ (w 1 t.first +ℤ w 1 t.second) =
-    nearest_least n w first second t.first t.second nearest (omega arith, spokes.0.2) (omega arith, spokes.1.0.2) t.differ in
+    nearest_least n w first second t.first t.second nearest (omega arith, root_edges.0.2) (omega arith, root_edges.1.0.2) t.differ in
     let size : length es ≡ 2 + length (inner_pairs es) = apart_length es
-    ∙ ap (λ xs. length xs + length (inner_pairs es)) t.spokes in
+    ∙ ap (λ xs. length xs + length (inner_pairs es)) t.root_edges in
     let rest : weight_of w added ≤ℤ weight_of w (inner_pairs es) =
     forest_least n w symmetric added (inner_pairs es) forest (omega (arith, size, t.count, forest.count))
     (All-from_recursion (IsPairOf (IsInner n)) (inner_pairs es) (ends_inside n es range))
     (crossed_joins (IsInner n) (inner_pairs es) t.joined) in
     let split : weight_of w es ≡ weight_of w ((1, t.first) ∷ (1, t.second) ∷ []) +ℤ weight_of w (inner_pairs es) =
     apart_weight w es
-    ∙ ap (λ xs. weight_of w xs +ℤ weight_of w (inner_pairs es)) t.spokes in
+    ∙ ap (λ xs. weight_of w xs +ℤ weight_of w (inner_pairs es)) t.root_edges in
     let same : weight_of w (map ordered added) ≡ weight_of w added = ordered_weight w symmetric added in
     omega (arith, ints, near, rest, split, same)
 

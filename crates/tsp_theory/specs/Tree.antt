@@ -33,7 +33,7 @@ pub record IsOneTree (n : ℕ) (pairs : List (ℕ × ℕ)) : Type 0 where
   pub range : All (IsPair n) pairs
   pub first : ℕ
   pub second : ℕ
-  pub spokes : filter is_at_one pairs ≡ (1, first) ∷ (1, second) ∷ []
+  pub root_edges : filter is_at_one pairs ≡ (1, first) ∷ (1, second) ∷ []
   pub differ : first ≢ second
   pub joined : (part : ℕ → Bool) (inside outside : ℕ) → IsInner n inside → IsInner n outside
       → part inside ≡ true → part outside ≡ false → list_any (crosses part) (inner_pairs pairs) ≡ true

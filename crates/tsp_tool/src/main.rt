@@ -17,12 +17,12 @@ use std::io::{self, ErrorKind, IsTerminal};
 use std::os::fd::AsRawFd;
 use std::process::ExitCode;
 use std::rt::Stdin;
-use tsp_cli::{InputFile, InputPath, Open, Surroundings, Watched, run, tell_unread, tell_waiting};
+use tsp_cli::{HostContext, InputFile, InputPath, Open, Watched, run, tell_unread, tell_waiting};
 
 fn main(rt: HostRuntime) -> ExitCode {
     let mut out = Watched::new(rt.stdout());
     let mut errors = rt.stderr();
-    let surroundings = Surroundings {
+    let host_context = HostContext {
         on_terminal: errors.is_terminal(),
         counts: errors.is_terminal() && !rt.stdout().is_terminal(),
         build: BUILD,
@@ -37,7 +37,7 @@ fn main(rt: HostRuntime) -> ExitCode {
                 &Host { rt: &rt },
                 &mut out,
                 &mut errors,
-                surroundings,
+                host_context,
             )
         }
         Err(error) => tell_unread(rt.alloc(), &error, &mut errors),

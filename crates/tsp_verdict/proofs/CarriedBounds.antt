@@ -13,9 +13,9 @@ use Rattle.tsp_theory.specs.Tour.{length_of, IsCycle, AreNeighbours, Uses}
 use Rattle.tsp_theory.specs.Tree.{weight_of, IsLeastOneTree}
 use Rattle.tsp_cost.specs.Problems.{is_directed}
 use Rattle.tsp_cost.specs.states.Views.{HasCosts}
-use Rattle.tsp_report.specs.declared.task.Certificate.TheVariants.{Potentials}
+use Rattle.tsp_report.specs.declared.task.CertificateKind.TheVariants.{Potentials}
 use Rattle.tsp_report.specs.declared.verdict.Reason.TheVariants.{DualInfeasible}
-use Rattle.tsp_verdict.specs.Certificates.{AreListed, StandsAgainstPotentials, IsBoundByNodes, IsBoundByDuals}
+use Rattle.tsp_verdict.specs.Certificates.{AreListed, AppliesToPotentials, IsBoundByNodes, IsBoundByDuals}
 use Rattle.tsp_verdict.specs.Certified.{IsBoundBy, BoundsSolutionsBy, IsBoundFitting, IsCertified}
 
 -- the bounds of the crates below are as large at most
@@ -149,7 +149,7 @@ assigned inst pot n costs scale rows columns bound law kind some scaled are as_r
 pub broken_stands : (inst pot : Fields) (n : ℕ) (costs : ℕ → ℕ → ℤ) (scale : ℤ) (rows columns : List ℤ) (i j : ℕ)
     → inst.kind ≡ Some kinds.Atsp
     → AreOf pot scale rows columns → HasCosts inst n costs → IsFirstBroken n costs scale rows columns i j
-    → StandsAgainstPotentials inst pot (DualInfeasible i j)
+    → AppliesToPotentials inst pot (DualInfeasible i j)
 broken_stands inst pot n costs scale rows columns i j kind are keeps pair =
     let nodes : nodes_of inst ≡ n = ap (λ o. unwrap_or o 0) keeps.count in
     let here : IsFirstBroken (nodes_of inst) (cost inst) scale rows columns i j =

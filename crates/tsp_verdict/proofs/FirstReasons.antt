@@ -13,16 +13,16 @@ use Rattle.tsp_file.specs.Fields.{Fields, nodes_of}
 use Rattle.tsp_file.specs.Rules.{is_potentials_file}
 use Rattle.tsp_theory.specs.Bounds.{pair_of, is_same_pair, AreOnPairs, AreGood}
 use Rattle.tsp_report.specs.Verdicts.{rank_of}
-use Rattle.tsp_report.specs.declared.task.Certificate.{Certificate}
-use Rattle.tsp_report.specs.declared.task.Certificate.TheVariants.{Branches, Potentials}
-use Rattle.tsp_report.specs.declared.verdict.Basis.{Basis}
+use Rattle.tsp_report.specs.declared.task.CertificateKind.{CertificateKind}
+use Rattle.tsp_report.specs.declared.task.CertificateKind.TheVariants.{Branches, Potentials}
+use Rattle.tsp_report.specs.declared.verdict.KnownBound.{KnownBound}
 use Rattle.tsp_report.specs.declared.verdict.Reason.{Reason}
 use Rattle.tsp_report.specs.declared.verdict.Reason.TheVariants.{NotASolution, TooFewNodes, NotSymmetric, Dimension, TourCount, TourLength, DepotCount, DepotDemand, FixedEdgesInRoutes, DepotInRoute, NodeOutOfRange, RepeatedNode, FixedEdgeUnused, Unserved, Overload, LengthClaimed, NotPotentials, PotentialsDimension, PotentialsKind, MultiplierNotFixed, MultiplierRepeated, DualInfeasible, NotBranches, BranchesDimension, BadComb, BadBranch, BranchTwice, BadLeaf, TooManyLoads, NotJudged}
 use Rattle.tsp_report.specs.declared.verdict.Verdict.{Verdict}
-use Rattle.tsp_verdict.specs.Certificates.{StandsAgainstBranches, StandsAgainstWalks, AreListed, IsUnlisted, IsPairRepeated, pair_at, has_wanted, BreaksDuals, StandsAgainstPotentials, IsBoundByDuals}
-use Rattle.tsp_verdict.specs.Certified.{StandsAgainstTouring, NoneAgainstTouring, StandsAgainstRouting, StandsAgainstInstanceBy, StandsAgainstInstance, NoneAgainstInstance, StandsAgainstCertificateBy, IsCertifiedTourVerdict, IsCertifiedRoutesVerdict, IsCertifiedVerdictBy, IsCertifiedVerdict, IsBoundBy, IsCertified, StandsAgainstCertificate, NoneWithoutMemory}
-use Rattle.tsp_verdict.specs.SolutionVerdict.{IsBasisOfToursBy, IsBasisOfRoutesBy, IsBasisBy}
-use Rattle.tsp_verdict.specs.Solutions.{IsFirstPlace, IsFirstReason, NoneBefore, StandsAgainstTour, StandsAgainstRoutes}
+use Rattle.tsp_verdict.specs.Certificates.{AppliesToBranches, AppliesToQRoutes, AreListed, IsUnlisted, IsPairRepeated, pair_at, has_wanted, BreaksDuals, AppliesToPotentials, IsBoundByDuals}
+use Rattle.tsp_verdict.specs.Certified.{AppliesToTouring, NoneAgainstTouring, AppliesToRouting, AppliesToInstanceBy, AppliesToInstance, NoneAgainstInstance, AppliesToCertificateBy, IsCertifiedTourVerdict, IsCertifiedRoutesVerdict, IsCertifiedVerdictBy, IsCertifiedVerdict, IsBoundBy, IsCertified, AppliesToCertificate, NoneWithoutMemory}
+use Rattle.tsp_verdict.specs.SolutionVerdict.{IsKnownBoundOfToursBy, IsKnownBoundOfRoutesBy, IsKnownBoundBy}
+use Rattle.tsp_verdict.specs.Solutions.{IsFirstPlace, IsFirstReason, NoneBefore, AppliesToTour, AppliesToRoutes}
 
 -- what a reason carries: one number, two, or a length
 abbrev pub Carried : Type 0
@@ -140,18 +140,18 @@ is_of_rank NotJudged = refl
 
 -- of two reasons of one rank that apply the numbers are the same
 abbrev pub IsOneByRank : (Reason → Type 0) → Type 0
-IsOneByRank Stands = (one : Reason) (carried : Carried) → Stands one → Stands (reason_of (rank_of one) carried)
+IsOneByRank Applies = (one : Reason) (carried : Carried) → Applies one → Applies (reason_of (rank_of one) carried)
     → one ≡ reason_of (rank_of one) carried
 
-pub one_first : (Stands : Reason → Type 0) → IsOneByRank Stands → (one other : Reason) → IsFirstReason Stands one
-    → IsFirstReason Stands other → one ≡ other
-one_first Stands by_rank one other first second = elim (cases_order (rank_of one) (rank_of other)) [
+pub one_first : (Applies : Reason → Type 0) → IsOneByRank Applies → (one other : Reason) → IsFirstReason Applies one
+    → IsFirstReason Applies other → one ≡ other
+one_first Applies by_rank one other first second = elim (cases_order (rank_of one) (rank_of other)) [
   | inl same ↦
       let is : other ≡ reason_of (rank_of one) (carried_of other) =
       is_of_rank other ∙ ap (λ rank. reason_of rank (carried_of other)) (sym same) in
-      by_rank one (carried_of other) first.stands (subst Stands is second.stands) ∙ sym is
-  | inr (inl less) ↦ absurd (second.none_before one less first.stands)
-  | inr (inr more) ↦ absurd (first.none_before other more second.stands)
+      by_rank one (carried_of other) first.applies (subst Applies is second.applies) ∙ sym is
+  | inr (inl less) ↦ absurd (second.none_before one less first.applies)
+  | inr (inr more) ↦ absurd (first.none_before other more second.applies)
 ]
 
 -- ---- first places, and first pairs by rows
@@ -182,8 +182,8 @@ HasTours inst = (inst.kind ≡ Some kinds.Tsp) ⊎ (inst.kind ≡ Some kinds.Ats
 
 -- ---- whatever the TYPE: what holds of reasons against tours and against routes
 
-pub instance_either : (kind : Option Kind) (P : (Reason → Type 0) → Type 0) (inst : Fields) → P (StandsAgainstTouring inst)
-    → P (StandsAgainstRouting inst) → P (StandsAgainstInstanceBy kind inst)
+pub instance_either : (kind : Option Kind) (P : (Reason → Type 0) → Type 0) (inst : Fields) → P (AppliesToTouring inst)
+    → P (AppliesToRouting inst) → P (AppliesToInstanceBy kind inst)
 instance_either (Some kinds.Tsp) P inst tours routing = tours
 instance_either (Some kinds.Atsp) P inst tours routing = tours
 instance_either (Some kinds.Cvrp) P inst tours routing = routing
@@ -192,8 +192,8 @@ instance_either (Some kinds.Potentials) P inst tours routing = tours
 instance_either (Some kinds.Branches) P inst tours routing = tours
 instance_either None P inst tours routing = tours
 
-pub tree_either : (kind : Option Kind) (P : (Reason → Type 0) → Type 0) (inst tree : Fields) → P (StandsAgainstBranches inst tree)
-    → P (StandsAgainstWalks inst tree) → P (StandsAgainstCertificateBy Branches kind inst tree)
+pub tree_either : (kind : Option Kind) (P : (Reason → Type 0) → Type 0) (inst tree : Fields) → P (AppliesToBranches inst tree)
+    → P (AppliesToQRoutes inst tree) → P (AppliesToCertificateBy Branches kind inst tree)
 tree_either (Some kinds.Tsp) P inst tree tours routes = tours
 tree_either (Some kinds.Atsp) P inst tree tours routes = tours
 tree_either (Some kinds.Cvrp) P inst tree tours routes = routes
@@ -204,61 +204,61 @@ tree_either None P inst tree tours routes = tours
 
 -- ---- of tours
 
-pub for_tours : (inst : Fields) (reason : Reason) → HasTours inst → StandsAgainstTouring inst reason → StandsAgainstInstance inst reason
-for_tours inst reason (inl tsp) stands = subst (λ kind. StandsAgainstInstanceBy kind inst reason) (sym tsp) stands
-for_tours inst reason (inr atsp) stands = subst (λ kind. StandsAgainstInstanceBy kind inst reason) (sym atsp) stands
+pub for_tours : (inst : Fields) (reason : Reason) → HasTours inst → AppliesToTouring inst reason → AppliesToInstance inst reason
+for_tours inst reason (inl tsp) applies = subst (λ kind. AppliesToInstanceBy kind inst reason) (sym tsp) applies
+for_tours inst reason (inr atsp) applies = subst (λ kind. AppliesToInstanceBy kind inst reason) (sym atsp) applies
 
-pub of_tours : (inst : Fields) (reason : Reason) → HasTours inst → StandsAgainstInstance inst reason → StandsAgainstTouring inst reason
-of_tours inst reason (inl tsp) stands = subst (λ kind. StandsAgainstInstanceBy kind inst reason) tsp stands
-of_tours inst reason (inr atsp) stands = subst (λ kind. StandsAgainstInstanceBy kind inst reason) atsp stands
+pub of_tours : (inst : Fields) (reason : Reason) → HasTours inst → AppliesToInstance inst reason → AppliesToTouring inst reason
+of_tours inst reason (inl tsp) applies = subst (λ kind. AppliesToInstanceBy kind inst reason) tsp applies
+of_tours inst reason (inr atsp) applies = subst (λ kind. AppliesToInstanceBy kind inst reason) atsp applies
 
-pub first_for_tours : (inst : Fields) (reason : Reason) → HasTours inst → IsFirstReason (StandsAgainstTouring inst) reason
-    → IsFirstReason (StandsAgainstInstance inst) reason
+pub first_for_tours : (inst : Fields) (reason : Reason) → HasTours inst → IsFirstReason (AppliesToTouring inst) reason
+    → IsFirstReason (AppliesToInstance inst) reason
 first_for_tours inst reason kind first = record {
-  stands = for_tours inst reason kind first.stands;
-  none_before = λ other low stands. first.none_before other low (of_tours inst other kind stands);
+  applies = for_tours inst reason kind first.applies;
+  none_before = λ other low applies. first.none_before other low (of_tours inst other kind applies);
 }
 
 pub none_for_tours : (inst : Fields) → HasTours inst → NoneAgainstTouring inst → NoneAgainstInstance inst
-none_for_tours inst kind none reason stands = none reason (of_tours inst reason kind stands)
+none_for_tours inst kind none reason applies = none reason (of_tours inst reason kind applies)
 
-pub tours_by : (by : Certificate) (inst cert : Fields) (basis : Basis) → HasTours inst → IsBasisBy inst.kind by inst cert basis
-    → IsBasisOfToursBy by inst cert basis
-tours_by by inst cert basis (inl tsp) b = subst (λ kind. IsBasisBy kind by inst cert basis) tsp b
-tours_by by inst cert basis (inr atsp) b = subst (λ kind. IsBasisBy kind by inst cert basis) atsp b
+pub tours_by : (by : CertificateKind) (inst cert : Fields) (known_bound : KnownBound) → HasTours inst → IsKnownBoundBy inst.kind by inst cert known_bound
+    → IsKnownBoundOfToursBy by inst cert known_bound
+tours_by by inst cert known_bound (inl tsp) b = subst (λ kind. IsKnownBoundBy kind by inst cert known_bound) tsp b
+tours_by by inst cert known_bound (inr atsp) b = subst (λ kind. IsKnownBoundBy kind by inst cert known_bound) atsp b
 
-pub certified_tour : (by : Certificate) (inst sol cert : Fields) (verdict : Verdict) → HasTours inst
+pub certified_tour : (by : CertificateKind) (inst sol cert : Fields) (verdict : Verdict) → HasTours inst
     → IsCertifiedTourVerdict by inst sol cert verdict → IsCertifiedVerdict by inst sol cert verdict
 certified_tour by inst sol cert verdict (inl tsp) v =
     subst (λ kind. IsCertifiedVerdictBy kind by inst sol cert verdict) (sym tsp) v
 certified_tour by inst sol cert verdict (inr atsp) v =
     subst (λ kind. IsCertifiedVerdictBy kind by inst sol cert verdict) (sym atsp) v
 
-pub other_basis : (kind : Option Kind) (by : Certificate) (inst cert : Fields) (basis : Basis) → kind ≢ Some kinds.Cvrp
-    → IsBasisOfToursBy by inst cert basis → IsBasisBy kind by inst cert basis
-other_basis (Some kinds.Cvrp) by inst cert basis other b = absurd (other refl)
-other_basis (Some kinds.Tsp) by inst cert basis other b = b
-other_basis (Some kinds.Atsp) by inst cert basis other b = b
-other_basis (Some kinds.Tour) by inst cert basis other b = b
-other_basis (Some kinds.Potentials) by inst cert basis other b = b
-other_basis (Some kinds.Branches) by inst cert basis other b = b
-other_basis None by inst cert basis other b = b
+pub other_known_bound : (kind : Option Kind) (by : CertificateKind) (inst cert : Fields) (known_bound : KnownBound) → kind ≢ Some kinds.Cvrp
+    → IsKnownBoundOfToursBy by inst cert known_bound → IsKnownBoundBy kind by inst cert known_bound
+other_known_bound (Some kinds.Cvrp) by inst cert known_bound other b = absurd (other refl)
+other_known_bound (Some kinds.Tsp) by inst cert known_bound other b = b
+other_known_bound (Some kinds.Atsp) by inst cert known_bound other b = b
+other_known_bound (Some kinds.Tour) by inst cert known_bound other b = b
+other_known_bound (Some kinds.Potentials) by inst cert known_bound other b = b
+other_known_bound (Some kinds.Branches) by inst cert known_bound other b = b
+other_known_bound None by inst cert known_bound other b = b
 
 -- ---- of routes
 
-pub of_routing : (inst : Fields) (reason : Reason) → inst.kind ≡ Some kinds.Cvrp → StandsAgainstInstance inst reason
-    → StandsAgainstRouting inst reason
-of_routing inst reason cvrp stands = subst (λ kind. StandsAgainstInstanceBy kind inst reason) cvrp stands
+pub of_routing : (inst : Fields) (reason : Reason) → inst.kind ≡ Some kinds.Cvrp → AppliesToInstance inst reason
+    → AppliesToRouting inst reason
+of_routing inst reason cvrp applies = subst (λ kind. AppliesToInstanceBy kind inst reason) cvrp applies
 
-pub routes_by : (by : Certificate) (inst cert : Fields) (basis : Basis) → inst.kind ≡ Some kinds.Cvrp
-    → IsBasisBy inst.kind by inst cert basis → IsBasisOfRoutesBy by inst cert basis
-routes_by by inst cert basis cvrp b = subst (λ kind. IsBasisBy kind by inst cert basis) cvrp b
+pub routes_by : (by : CertificateKind) (inst cert : Fields) (known_bound : KnownBound) → inst.kind ≡ Some kinds.Cvrp
+    → IsKnownBoundBy inst.kind by inst cert known_bound → IsKnownBoundOfRoutesBy by inst cert known_bound
+routes_by by inst cert known_bound cvrp b = subst (λ kind. IsKnownBoundBy kind by inst cert known_bound) cvrp b
 
-pub routes_for : (by : Certificate) (inst cert : Fields) (basis : Basis) → inst.kind ≡ Some kinds.Cvrp
-    → IsBasisOfRoutesBy by inst cert basis → IsBasisBy inst.kind by inst cert basis
-routes_for by inst cert basis cvrp b = subst (λ kind. IsBasisBy kind by inst cert basis) (sym cvrp) b
+pub routes_for : (by : CertificateKind) (inst cert : Fields) (known_bound : KnownBound) → inst.kind ≡ Some kinds.Cvrp
+    → IsKnownBoundOfRoutesBy by inst cert known_bound → IsKnownBoundBy inst.kind by inst cert known_bound
+routes_for by inst cert known_bound cvrp b = subst (λ kind. IsKnownBoundBy kind by inst cert known_bound) (sym cvrp) b
 
-pub certified_routes : (by : Certificate) (inst sol cert : Fields) (verdict : Verdict) → inst.kind ≡ Some kinds.Cvrp
+pub certified_routes : (by : CertificateKind) (inst sol cert : Fields) (verdict : Verdict) → inst.kind ≡ Some kinds.Cvrp
     → IsCertifiedRoutesVerdict by inst sol cert verdict → IsCertifiedVerdict by inst sol cert verdict
 certified_routes by inst sol cert verdict cvrp v =
     subst (λ kind. IsCertifiedVerdictBy kind by inst sol cert verdict) (sym cvrp) v
@@ -271,17 +271,17 @@ certified_routes by inst sol cert verdict cvrp v =
 pub none_before : (inst pot : Fields) (rank : ℕ) → (rank_of NotPotentials < rank → is_potentials_file pot.kind ≡ true)
     → (rank_of PotentialsDimension < rank → nodes_of pot ≡ nodes_of inst)
     → (rank_of PotentialsKind < rank → has_wanted inst.kind pot ≡ true)
-    → (rank_of (MultiplierNotFixed 1) < rank → (index : ℕ) → StandsAgainstPotentials inst pot (MultiplierNotFixed index) → ⊥)
-    → (rank_of (MultiplierRepeated 1) < rank → (index : ℕ) → StandsAgainstPotentials inst pot (MultiplierRepeated index) → ⊥)
-    → (rank_of (DualInfeasible 1 2) < rank → (i j : ℕ) → StandsAgainstPotentials inst pot (DualInfeasible i j) → ⊥)
-    → NoneBefore (StandsAgainstPotentials inst pot) rank
-none_before inst pot rank sort size wanted fixed once good NotPotentials low stands = false≢true (sym stands ∙ sort low)
-none_before inst pot rank sort size wanted fixed once good PotentialsDimension low stands = stands (size low)
-none_before inst pot rank sort size wanted fixed once good PotentialsKind low stands = false≢true (sym stands ∙ wanted low)
-none_before inst pot rank sort size wanted fixed once good (MultiplierNotFixed index) low stands = fixed low index stands
-none_before inst pot rank sort size wanted fixed once good (MultiplierRepeated index) low stands = once low index stands
-none_before inst pot rank sort size wanted fixed once good (DualInfeasible i j) low stands = good low i j stands
-none_before inst pot rank sort size wanted fixed once good reason low stands = stands
+    → (rank_of (MultiplierNotFixed 1) < rank → (index : ℕ) → AppliesToPotentials inst pot (MultiplierNotFixed index) → ⊥)
+    → (rank_of (MultiplierRepeated 1) < rank → (index : ℕ) → AppliesToPotentials inst pot (MultiplierRepeated index) → ⊥)
+    → (rank_of (DualInfeasible 1 2) < rank → (i j : ℕ) → AppliesToPotentials inst pot (DualInfeasible i j) → ⊥)
+    → NoneBefore (AppliesToPotentials inst pot) rank
+none_before inst pot rank sort size wanted fixed once good NotPotentials low applies = false≢true (sym applies ∙ sort low)
+none_before inst pot rank sort size wanted fixed once good PotentialsDimension low applies = applies (size low)
+none_before inst pot rank sort size wanted fixed once good PotentialsKind low applies = false≢true (sym applies ∙ wanted low)
+none_before inst pot rank sort size wanted fixed once good (MultiplierNotFixed index) low applies = fixed low index applies
+none_before inst pot rank sort size wanted fixed once good (MultiplierRepeated index) low applies = once low index applies
+none_before inst pot rank sort size wanted fixed once good (DualInfeasible i j) low applies = good low i j applies
+none_before inst pot rank sort size wanted fixed once good reason low applies = applies
 
 -- out of memory, those are ruled out that need none
 pub none_of_potentials : (inst pot : Fields) → is_potentials_file pot.kind ≡ true → nodes_of pot ≡ nodes_of inst
@@ -292,34 +292,34 @@ none_of_potentials inst pot sort size wanted =
     (λ low. absurd (omega (arith, low))) (λ low. absurd (omega (arith, low))) (λ low. absurd (omega (arith, low)))
 
 -- all six reasons against potentials are ruled out
-pub none_stands : (inst pot : Fields) → is_potentials_file pot.kind ≡ true → nodes_of pot ≡ nodes_of inst
+pub nothing_applies : (inst pot : Fields) → is_potentials_file pot.kind ≡ true → nodes_of pot ≡ nodes_of inst
     → has_wanted inst.kind pot ≡ true
-    → ((index : ℕ) → StandsAgainstPotentials inst pot (MultiplierNotFixed index) → ⊥)
-    → ((index : ℕ) → StandsAgainstPotentials inst pot (MultiplierRepeated index) → ⊥)
-    → ((i j : ℕ) → StandsAgainstPotentials inst pot (DualInfeasible i j) → ⊥) → (reason : Reason)
-    → StandsAgainstPotentials inst pot reason → ⊥
-none_stands inst pot sort size wanted fixed once good NotPotentials stands = false≢true (sym stands ∙ sort)
-none_stands inst pot sort size wanted fixed once good PotentialsDimension stands = stands size
-none_stands inst pot sort size wanted fixed once good PotentialsKind stands = false≢true (sym stands ∙ wanted)
-none_stands inst pot sort size wanted fixed once good (MultiplierNotFixed index) stands = fixed index stands
-none_stands inst pot sort size wanted fixed once good (MultiplierRepeated index) stands = once index stands
-none_stands inst pot sort size wanted fixed once good (DualInfeasible i j) stands = good i j stands
-none_stands inst pot sort size wanted fixed once good reason stands = stands
+    → ((index : ℕ) → AppliesToPotentials inst pot (MultiplierNotFixed index) → ⊥)
+    → ((index : ℕ) → AppliesToPotentials inst pot (MultiplierRepeated index) → ⊥)
+    → ((i j : ℕ) → AppliesToPotentials inst pot (DualInfeasible i j) → ⊥) → (reason : Reason)
+    → AppliesToPotentials inst pot reason → ⊥
+nothing_applies inst pot sort size wanted fixed once good NotPotentials applies = false≢true (sym applies ∙ sort)
+nothing_applies inst pot sort size wanted fixed once good PotentialsDimension applies = applies size
+nothing_applies inst pot sort size wanted fixed once good PotentialsKind applies = false≢true (sym applies ∙ wanted)
+nothing_applies inst pot sort size wanted fixed once good (MultiplierNotFixed index) applies = fixed index applies
+nothing_applies inst pot sort size wanted fixed once good (MultiplierRepeated index) applies = once index applies
+nothing_applies inst pot sort size wanted fixed once good (DualInfeasible i j) applies = good i j applies
+nothing_applies inst pot sort size wanted fixed once good reason applies = applies
 
 -- each multiplier is on a fixed pair
 pub none_unlisted : (inst pot : Fields) → AreListed (fixed_of inst) (multipliers_in pot) → (index : ℕ)
-    → StandsAgainstPotentials inst pot (MultiplierNotFixed index) → ⊥
-none_unlisted inst pot listed index stands =
-    stands.1.holds (listed (index - 1) (0, 0, pos 0) (omega (arith, stands.1.here.0, stands.1.here.1)))
+    → AppliesToPotentials inst pot (MultiplierNotFixed index) → ⊥
+none_unlisted inst pot listed index applies =
+    applies.1.holds (listed (index - 1) (0, 0, pos 0) (omega (arith, applies.1.here.0, applies.1.here.1)))
 
 -- no two multipliers are on the same pair
 pub none_repeated : (n : ℕ) (inst pot : Fields) → AreOnPairs n (multipliers_in pot) → (index : ℕ)
-    → StandsAgainstPotentials inst pot (MultiplierRepeated index) → ⊥
-none_repeated n inst pot are index stands =
-    let again = stands.1.holds in
+    → AppliesToPotentials inst pot (MultiplierRepeated index) → ⊥
+none_repeated n inst pot are index applies =
+    let again = applies.1.holds in
     let apart : is_same_pair (pair_at (multipliers_in pot) again.0) (pair_at (multipliers_in pot) index) ≡ false =
     are.differ (again.0 - 1) (index - 1) (0, 0, pos 0) (omega (arith, again.1, again.2))
-    (omega (arith, stands.1.here.0, stands.1.here.1)) in
+    (omega (arith, applies.1.here.0, applies.1.here.1)) in
     false≢true (sym apart ∙ again.3)
 
 -- the first multiplier that isn't on a fixed pair is the first reason
@@ -328,9 +328,9 @@ pub not_fixed : (inst pot : Fields) (fixed : List (ℕ × ℕ)) (triples : List 
     → inst.kind ≡ Some kinds.Tsp → is_potentials_file pot.kind ≡ true
     → nodes_of pot ≡ nodes_of inst → has_wanted (Some kinds.Tsp) pot ≡ true
     → IsFirstPlace (IsUnlisted fixed triples) triples index
-    → IsFirstReason (StandsAgainstPotentials inst pot) (MultiplierNotFixed index)
+    → IsFirstReason (AppliesToPotentials inst pot) (MultiplierNotFixed index)
 not_fixed inst pot fixed triples index fixed_are triples_are kind sort size wanted first = record {
-  stands = (kind, subst₂ (λ fs ts. IsFirstPlace (IsUnlisted fs ts) ts index) fixed_are triples_are first);
+  applies = (kind, subst₂ (λ fs ts. IsFirstPlace (IsUnlisted fs ts) ts index) fixed_are triples_are first);
   none_before = none_before inst pot (rank_of (MultiplierNotFixed 1)) (λ low. sort) (λ low. size) (λ low. rw kind wanted)
       (λ low. absurd (omega (arith, low)))
       (λ low. absurd (omega (arith, low))) (λ low. absurd (omega (arith, low)));
@@ -342,9 +342,9 @@ pub repeats : (inst pot : Fields) (fixed : List (ℕ × ℕ)) (triples : List (�
     → inst.kind ≡ Some kinds.Tsp → is_potentials_file pot.kind ≡ true
     → nodes_of pot ≡ nodes_of inst → has_wanted (Some kinds.Tsp) pot ≡ true → AreListed fixed triples
     → IsFirstPlace (IsPairRepeated triples) triples index
-    → IsFirstReason (StandsAgainstPotentials inst pot) (MultiplierRepeated index)
+    → IsFirstReason (AppliesToPotentials inst pot) (MultiplierRepeated index)
 repeats inst pot fixed triples index fixed_are triples_are kind sort size wanted listed first = record {
-  stands = (kind, subst (λ ts. IsFirstPlace (IsPairRepeated ts) ts index) triples_are first);
+  applies = (kind, subst (λ ts. IsFirstPlace (IsPairRepeated ts) ts index) triples_are first);
   none_before = none_before inst pot (rank_of (MultiplierRepeated 1)) (λ low. sort) (λ low. size) (λ low. rw kind wanted)
       (λ low. none_unlisted inst pot (subst₂ (λ fs ts. AreListed fs ts) fixed_are triples_are listed))
       (λ low. absurd (omega (arith, low)))
@@ -366,10 +366,10 @@ pub none_of_tsp : (inst pot : Fields) → inst.kind ≡ Some kinds.Tsp → is_po
     → nodes_of pot ≡ nodes_of inst
     → has_wanted inst.kind pot ≡ true
     → AreOnPairs (nodes_of inst) (multipliers_in pot) → AreListed (fixed_of inst) (multipliers_in pot) → (reason : Reason)
-    → StandsAgainstPotentials inst pot reason → ⊥
+    → AppliesToPotentials inst pot reason → ⊥
 none_of_tsp inst pot kind sort size wanted on_pairs listed =
-    none_stands inst pot sort size wanted (none_unlisted inst pot listed) (none_repeated (nodes_of inst) inst pot on_pairs)
-    (λ i j stands. other (sym kind ∙ stands.0))
+    nothing_applies inst pot sort size wanted (none_unlisted inst pot listed) (none_repeated (nodes_of inst) inst pot on_pairs)
+    (λ i j applies. other (sym kind ∙ applies.0))
   where
     other : Some kinds.Tsp ≡ Some kinds.Atsp → ⊥
     other e = cc
@@ -377,9 +377,9 @@ none_of_tsp inst pot kind sort size wanted on_pairs listed =
 -- potentials of another sort than the TYPE of the instance wants
 pub kind_first : (inst pot : Fields) → is_potentials_file pot.kind ≡ true → nodes_of pot ≡ nodes_of inst
     → has_wanted inst.kind pot ≡ false
-    → IsFirstReason (StandsAgainstPotentials inst pot) PotentialsKind
+    → IsFirstReason (AppliesToPotentials inst pot) PotentialsKind
 kind_first inst pot sort size other = record {
-  stands = other;
+  applies = other;
   none_before = none_before inst pot (rank_of PotentialsKind) (λ low. sort) (λ low. size) (λ low. absurd (omega (arith, low)))
       (λ low. absurd (omega (arith, low)))
       (λ low. absurd (omega (arith, low))) (λ low. absurd (omega (arith, low)));
@@ -392,12 +392,12 @@ not_undirected kind atsp tsp = cc
 pub broken_first : (inst pot : Fields) (i j : ℕ) → inst.kind ≡ Some kinds.Atsp → is_potentials_file pot.kind ≡ true
     → nodes_of pot ≡ nodes_of inst
     → has_wanted (Some kinds.Atsp) pot ≡ true → BreaksDuals inst pot i j
-    → IsFirstReason (StandsAgainstPotentials inst pot) (DualInfeasible i j)
+    → IsFirstReason (AppliesToPotentials inst pot) (DualInfeasible i j)
 broken_first inst pot i j kind sort size wanted broken = record {
-  stands = (kind, broken);
+  applies = (kind, broken);
   none_before = none_before inst pot (rank_of (DualInfeasible 1 2)) (λ low. sort) (λ low. size) (λ low. rw kind wanted)
-      (λ low index stands. not_undirected inst.kind kind stands.0)
-      (λ low index stands. not_undirected inst.kind kind stands.0) (λ low. absurd (omega (arith, low)));
+      (λ low index applies. not_undirected inst.kind kind applies.0)
+      (λ low index applies. not_undirected inst.kind kind applies.0) (λ low. absurd (omega (arith, low)));
 }
 
 -- a file has one list of potentials
@@ -417,131 +417,131 @@ none_broken inst pot bound i j good bad =
 pub none_of_atsp : (inst pot : Fields) (bound : ℤ) → inst.kind ≡ Some kinds.Atsp → is_potentials_file pot.kind ≡ true
     → nodes_of pot ≡ nodes_of inst
     → has_wanted (Some kinds.Atsp) pot ≡ true → IsCertified Potentials inst pot bound → (reason : Reason)
-    → StandsAgainstPotentials inst pot reason → ⊥
+    → AppliesToPotentials inst pot reason → ⊥
 none_of_atsp inst pot bound kind sort size wanted certified =
     let by_duals : IsBoundByDuals inst pot bound = subst (λ k. IsBoundBy Potentials k inst pot bound) kind certified.0 in
-    none_stands inst pot sort size (rw kind wanted) (λ index stands. not_undirected inst.kind kind stands.0)
-    (λ index stands. not_undirected inst.kind kind stands.0)
-    (λ i j stands. none_broken inst pot bound i j by_duals stands.1)
+    nothing_applies inst pot sort size (rw kind wanted) (λ index applies. not_undirected inst.kind kind applies.0)
+    (λ index applies. not_undirected inst.kind kind applies.0)
+    (λ i j applies. none_broken inst pot bound i j by_duals applies.1)
 
 -- ---- with those against the tour
 
-pub tour_rank : (inst sol : Fields) (reason : Reason) → StandsAgainstTour inst sol reason
+pub tour_rank : (inst sol : Fields) (reason : Reason) → AppliesToTour inst sol reason
     → rank_of reason < rank_of (LengthClaimed (pos 0))
-tour_rank inst sol NotPotentials stands = absurd stands
-tour_rank inst sol PotentialsDimension stands = absurd stands
-tour_rank inst sol PotentialsKind stands = absurd stands
-tour_rank inst sol (MultiplierNotFixed index) stands = absurd stands
-tour_rank inst sol (MultiplierRepeated index) stands = absurd stands
-tour_rank inst sol (DualInfeasible i j) stands = absurd stands
-tour_rank inst sol DepotCount stands = absurd stands
-tour_rank inst sol DepotDemand stands = absurd stands
-tour_rank inst sol FixedEdgesInRoutes stands = absurd stands
-tour_rank inst sol (DepotInRoute place) stands = absurd stands
-tour_rank inst sol (Unserved node) stands = absurd stands
-tour_rank inst sol (Overload route) stands = absurd stands
-tour_rank inst sol NotBranches stands = absurd stands
-tour_rank inst sol BranchesDimension stands = absurd stands
-tour_rank inst sol (BadComb index) stands = absurd stands
-tour_rank inst sol (BadBranch index) stands = absurd stands
-tour_rank inst sol (BranchTwice index) stands = absurd stands
-tour_rank inst sol (BadLeaf index) stands = absurd stands
-tour_rank inst sol TooManyLoads stands = absurd stands
-tour_rank inst sol (LengthClaimed length) stands = absurd stands
-tour_rank inst sol NotJudged stands = absurd stands
-tour_rank inst sol reason stands = omega arith
+tour_rank inst sol NotPotentials applies = absurd applies
+tour_rank inst sol PotentialsDimension applies = absurd applies
+tour_rank inst sol PotentialsKind applies = absurd applies
+tour_rank inst sol (MultiplierNotFixed index) applies = absurd applies
+tour_rank inst sol (MultiplierRepeated index) applies = absurd applies
+tour_rank inst sol (DualInfeasible i j) applies = absurd applies
+tour_rank inst sol DepotCount applies = absurd applies
+tour_rank inst sol DepotDemand applies = absurd applies
+tour_rank inst sol FixedEdgesInRoutes applies = absurd applies
+tour_rank inst sol (DepotInRoute place) applies = absurd applies
+tour_rank inst sol (Unserved node) applies = absurd applies
+tour_rank inst sol (Overload route) applies = absurd applies
+tour_rank inst sol NotBranches applies = absurd applies
+tour_rank inst sol BranchesDimension applies = absurd applies
+tour_rank inst sol (BadComb index) applies = absurd applies
+tour_rank inst sol (BadBranch index) applies = absurd applies
+tour_rank inst sol (BranchTwice index) applies = absurd applies
+tour_rank inst sol (BadLeaf index) applies = absurd applies
+tour_rank inst sol TooManyLoads applies = absurd applies
+tour_rank inst sol (LengthClaimed length) applies = absurd applies
+tour_rank inst sol NotJudged applies = absurd applies
+tour_rank inst sol reason applies = omega arith
 
-pub routes_rank : (inst sol : Fields) (reason : Reason) → StandsAgainstRoutes inst sol reason
+pub routes_rank : (inst sol : Fields) (reason : Reason) → AppliesToRoutes inst sol reason
     → rank_of reason < rank_of (LengthClaimed (pos 0))
-routes_rank inst sol NotASolution stands = omega arith
-routes_rank inst sol TooFewNodes stands = omega arith
-routes_rank inst sol Dimension stands = omega arith
-routes_rank inst sol (NodeOutOfRange place) stands = omega arith
-routes_rank inst sol (RepeatedNode place) stands = omega arith
-routes_rank inst sol DepotCount stands = omega arith
-routes_rank inst sol DepotDemand stands = omega arith
-routes_rank inst sol FixedEdgesInRoutes stands = omega arith
-routes_rank inst sol (DepotInRoute place) stands = omega arith
-routes_rank inst sol (Unserved node) stands = omega arith
-routes_rank inst sol (Overload route) stands = omega arith
-routes_rank inst sol reason stands = absurd stands
+routes_rank inst sol NotASolution applies = omega arith
+routes_rank inst sol TooFewNodes applies = omega arith
+routes_rank inst sol Dimension applies = omega arith
+routes_rank inst sol (NodeOutOfRange place) applies = omega arith
+routes_rank inst sol (RepeatedNode place) applies = omega arith
+routes_rank inst sol DepotCount applies = omega arith
+routes_rank inst sol DepotDemand applies = omega arith
+routes_rank inst sol FixedEdgesInRoutes applies = omega arith
+routes_rank inst sol (DepotInRoute place) applies = omega arith
+routes_rank inst sol (Unserved node) applies = omega arith
+routes_rank inst sol (Overload route) applies = omega arith
+routes_rank inst sol reason applies = absurd applies
 
 -- ---- those against a certificate are judged last
 
-potentials_rank : (inst cert : Fields) (reason : Reason) → StandsAgainstPotentials inst cert reason
+potentials_rank : (inst cert : Fields) (reason : Reason) → AppliesToPotentials inst cert reason
     → rank_of NotPotentials ≤ rank_of reason
-potentials_rank inst cert NotPotentials stands = omega arith
-potentials_rank inst cert PotentialsDimension stands = omega arith
-potentials_rank inst cert PotentialsKind stands = omega arith
-potentials_rank inst cert (MultiplierNotFixed index) stands = omega arith
-potentials_rank inst cert (MultiplierRepeated index) stands = omega arith
-potentials_rank inst cert (DualInfeasible i j) stands = omega arith
-potentials_rank inst cert reason stands = absurd stands
+potentials_rank inst cert NotPotentials applies = omega arith
+potentials_rank inst cert PotentialsDimension applies = omega arith
+potentials_rank inst cert PotentialsKind applies = omega arith
+potentials_rank inst cert (MultiplierNotFixed index) applies = omega arith
+potentials_rank inst cert (MultiplierRepeated index) applies = omega arith
+potentials_rank inst cert (DualInfeasible i j) applies = omega arith
+potentials_rank inst cert reason applies = absurd applies
 
-branches_rank : (inst cert : Fields) (reason : Reason) → StandsAgainstBranches inst cert reason
+branches_rank : (inst cert : Fields) (reason : Reason) → AppliesToBranches inst cert reason
     → rank_of NotPotentials ≤ rank_of reason
-branches_rank inst cert NotBranches stands = omega arith
-branches_rank inst cert BranchesDimension stands = omega arith
-branches_rank inst cert (BadComb index) stands = omega arith
-branches_rank inst cert (BadBranch index) stands = omega arith
-branches_rank inst cert (BranchTwice index) stands = omega arith
-branches_rank inst cert (BadLeaf index) stands = omega arith
-branches_rank inst cert reason stands = absurd stands
+branches_rank inst cert NotBranches applies = omega arith
+branches_rank inst cert BranchesDimension applies = omega arith
+branches_rank inst cert (BadComb index) applies = omega arith
+branches_rank inst cert (BadBranch index) applies = omega arith
+branches_rank inst cert (BranchTwice index) applies = omega arith
+branches_rank inst cert (BadLeaf index) applies = omega arith
+branches_rank inst cert reason applies = absurd applies
 
-walks_rank : (inst cert : Fields) (reason : Reason) → StandsAgainstWalks inst cert reason
+q_routes_rank : (inst cert : Fields) (reason : Reason) → AppliesToQRoutes inst cert reason
     → rank_of NotPotentials ≤ rank_of reason
-walks_rank inst cert NotBranches stands = omega arith
-walks_rank inst cert BranchesDimension stands = omega arith
-walks_rank inst cert (BadComb index) stands = omega arith
-walks_rank inst cert (BadBranch index) stands = omega arith
-walks_rank inst cert (BadLeaf index) stands = omega arith
-walks_rank inst cert TooManyLoads stands = omega arith
-walks_rank inst cert reason stands = absurd stands
+q_routes_rank inst cert NotBranches applies = omega arith
+q_routes_rank inst cert BranchesDimension applies = omega arith
+q_routes_rank inst cert (BadComb index) applies = omega arith
+q_routes_rank inst cert (BadBranch index) applies = omega arith
+q_routes_rank inst cert (BadLeaf index) applies = omega arith
+q_routes_rank inst cert TooManyLoads applies = omega arith
+q_routes_rank inst cert reason applies = absurd applies
 
-pub certificate_rank : (by : Certificate) (inst cert : Fields) (reason : Reason) → StandsAgainstCertificate by inst cert reason
+pub certificate_rank : (by : CertificateKind) (inst cert : Fields) (reason : Reason) → AppliesToCertificate by inst cert reason
     → rank_of NotPotentials ≤ rank_of reason
-certificate_rank Potentials inst cert reason stands = potentials_rank inst cert reason stands
-certificate_rank Branches inst cert reason stands =
-    tree_either inst.kind (λ Stands. (reason : Reason) → Stands reason → rank_of NotPotentials ≤ rank_of reason) inst cert
-    (branches_rank inst cert) (walks_rank inst cert) reason stands
+certificate_rank Potentials inst cert reason applies = potentials_rank inst cert reason applies
+certificate_rank Branches inst cert reason applies =
+    tree_either inst.kind (λ Applies. (reason : Reason) → Applies reason → rank_of NotPotentials ≤ rank_of reason) inst cert
+    (branches_rank inst cert) (q_routes_rank inst cert) reason applies
 
 -- ---- reasons against a solution, of one TYPE, and then against a certificate
 
 -- a reason against the solution or the certificate
-abbrev pub Both : (Reason → Type 0) → Certificate → Fields → Fields → Reason → Type 0
-Both Own by inst cert reason = Own reason ⊎ StandsAgainstCertificate by inst cert reason
+abbrev pub Both : (Reason → Type 0) → CertificateKind → Fields → Fields → Reason → Type 0
+Both Own by inst cert reason = Own reason ⊎ AppliesToCertificate by inst cert reason
 
 -- those against the solution are judged before a length that is claimed
 abbrev pub AreOwn : (Reason → Type 0) → Type 0
 AreOwn Own = (reason : Reason) → Own reason → rank_of reason < rank_of (LengthClaimed (pos 0))
 
 -- the first of them is the first of all
-pub own_first : (Own : Reason → Type 0) (by : Certificate) (inst cert : Fields) (reason : Reason) → AreOwn Own
+pub own_first : (Own : Reason → Type 0) (by : CertificateKind) (inst cert : Fields) (reason : Reason) → AreOwn Own
     → IsFirstReason Own reason → IsFirstReason (Both Own by inst cert) reason
 own_first Own by inst cert reason own first = record {
-  stands = inl first.stands;
-  none_before = λ other low stands. by_side other low stands;
+  applies = inl first.applies;
+  none_before = λ other low applies. by_side other low applies;
 }
   where
     by_side : (other : Reason) → rank_of other < rank_of reason → Both Own by inst cert other → ⊥
-    by_side other low (inl stands) = first.none_before other low stands
-    by_side other low (inr stands) =
-        omega (arith, low, own reason first.stands, certificate_rank by inst cert other stands)
+    by_side other low (inl applies) = first.none_before other low applies
+    by_side other low (inr applies) =
+        omega (arith, low, own reason first.applies, certificate_rank by inst cert other applies)
 
 -- where none applies to the solution, the first against the certificate is the first of all
-pub certificate_first : (Own : Reason → Type 0) (by : Certificate) (inst cert : Fields) (reason : Reason)
+pub certificate_first : (Own : Reason → Type 0) (by : CertificateKind) (inst cert : Fields) (reason : Reason)
     → ((other : Reason) → Own other → ⊥)
-    → IsFirstReason (StandsAgainstCertificate by inst cert) reason → IsFirstReason (Both Own by inst cert) reason
+    → IsFirstReason (AppliesToCertificate by inst cert) reason → IsFirstReason (Both Own by inst cert) reason
 certificate_first Own by inst cert reason none first = record {
-  stands = inr first.stands;
-  none_before = λ other low stands. by_side other low stands;
+  applies = inr first.applies;
+  none_before = λ other low applies. by_side other low applies;
 }
   where
     by_side : (other : Reason) → rank_of other < rank_of reason → Both Own by inst cert other → ⊥
-    by_side other low (inl stands) = none other stands
-    by_side other low (inr stands) = first.none_before other low stands
+    by_side other low (inl applies) = none other applies
+    by_side other low (inr applies) = first.none_before other low applies
 
-pub none_at_all : (Own : Reason → Type 0) (by : Certificate) (inst cert : Fields) → ((other : Reason) → Own other → ⊥)
-    → ((other : Reason) → StandsAgainstCertificate by inst cert other → ⊥) → (reason : Reason) → Both Own by inst cert reason → ⊥
-none_at_all Own by inst cert own certificate reason (inl stands) = own reason stands
-none_at_all Own by inst cert own certificate reason (inr stands) = certificate reason stands
+pub none_at_all : (Own : Reason → Type 0) (by : CertificateKind) (inst cert : Fields) → ((other : Reason) → Own other → ⊥)
+    → ((other : Reason) → AppliesToCertificate by inst cert other → ⊥) → (reason : Reason) → Both Own by inst cert reason → ⊥
+none_at_all Own by inst cert own certificate reason (inl applies) = own reason applies
+none_at_all Own by inst cert own certificate reason (inr applies) = certificate reason applies

@@ -3,7 +3,7 @@ pub mod CarriedBounds
 pub mod FirstReasons
 pub mod RouteFiles
 pub mod TourVerdicts
-pub mod Bases
+pub mod KnownBounds
 pub mod GivenPairs
 pub mod RouteVerdicts
 pub mod TreeReasons

@@ -17,77 +17,77 @@ use Rattle.tsp_cases.specs.declared.family.Crossings.{Crossings}
 use Rattle.tsp_cases.specs.declared.open_case.Decision.{Decision}
 use Rattle.tsp_routing.specs.PlanVerdicts.{IsFirstBadSet, IsFirstBadPlanBranch, IsFirstBadPlanLeaf}
 use Rattle.tsp_report.specs.Verdicts.{rank_of}
-use Rattle.tsp_report.specs.declared.task.Certificate.{Certificate}
-use Rattle.tsp_report.specs.declared.task.Certificate.TheVariants.{Potentials, Branches}
+use Rattle.tsp_report.specs.declared.task.CertificateKind.{CertificateKind}
+use Rattle.tsp_report.specs.declared.task.CertificateKind.TheVariants.{Potentials, Branches}
 use Rattle.tsp_report.specs.declared.verdict.BoundVerdict.{BoundVerdict}
 use Rattle.tsp_report.specs.declared.verdict.BoundVerdict.TheVariants as bounds
 use Rattle.tsp_report.specs.declared.verdict.Reason.{Reason}
 use Rattle.tsp_report.specs.declared.verdict.Reason.TheVariants.{TooFewNodes, NotSymmetric, DepotCount, DepotDemand, FixedEdgesInRoutes, LengthClaimed, NotASolution, Dimension, TourCount, TourLength, DepotInRoute, NodeOutOfRange, RepeatedNode, FixedEdgeUnused, Unserved, Overload, NotPotentials, PotentialsDimension, PotentialsKind, MultiplierNotFixed, MultiplierRepeated, DualInfeasible, NotBranches, BranchesDimension, BadComb, BadBranch, BranchTwice, BadLeaf, TooManyLoads, NotJudged}
 use Rattle.tsp_verdict.proofs.FirstReasons.{certificate_rank, HasTours, instance_either, first_for_tours, tour_rank, routes_rank, AreOwn, Both, Carried, reason_of, IsOneByRank, one_place, one_pair, tree_either}
 use Rattle.tsp_verdict.proofs.TreeReasons.{one_numbers}
-use Rattle.tsp_verdict.specs.Certificates.{given_in, AreNumbersOf, StandsAgainstBranches, families_with_numbers, BreaksDuals, StandsAgainstPotentials, StandsAgainstWalks}
-use Rattle.tsp_verdict.specs.Certified.{StandsAgainstTouring, StandsAgainstRouting, StandsAgainstInstance, NoneAgainstInstance, StandsAgainstBounded, IsBoundVerdict, StandsAgainstCertificate, FindsBound, StandsAgainstCertified, StandsAgainstCertifiedRoutes}
-use Rattle.tsp_verdict.specs.Solutions.{IsFirstReason, IsFirstUnserved, StandsAgainstRoutes, StandsAgainstTour}
+use Rattle.tsp_verdict.specs.Certificates.{given_in, AreNumbersOf, AppliesToBranches, families_with_numbers, BreaksDuals, AppliesToPotentials, AppliesToQRoutes}
+use Rattle.tsp_verdict.specs.Certified.{AppliesToTouring, AppliesToRouting, AppliesToInstance, NoneAgainstInstance, AppliesToBounded, IsBoundVerdict, AppliesToCertificate, FindsBound, AppliesToCertified, AppliesToCertifiedRoutes}
+use Rattle.tsp_verdict.specs.Solutions.{IsFirstReason, IsFirstUnserved, AppliesToRoutes, AppliesToTour}
 
-tours_rank : (inst : Fields) (reason : Reason) → StandsAgainstTouring inst reason
+tours_rank : (inst : Fields) (reason : Reason) → AppliesToTouring inst reason
     → rank_of reason < rank_of (LengthClaimed (pos 0))
-tours_rank inst TooFewNodes stands = omega arith
-tours_rank inst (NotSymmetric i j) stands = omega arith
-tours_rank inst reason stands = absurd stands
+tours_rank inst TooFewNodes applies = omega arith
+tours_rank inst (NotSymmetric i j) applies = omega arith
+tours_rank inst reason applies = absurd applies
 
-routing_rank : (inst : Fields) (reason : Reason) → StandsAgainstRouting inst reason
+routing_rank : (inst : Fields) (reason : Reason) → AppliesToRouting inst reason
     → rank_of reason < rank_of (LengthClaimed (pos 0))
-routing_rank inst TooFewNodes stands = omega arith
-routing_rank inst DepotCount stands = omega arith
-routing_rank inst DepotDemand stands = omega arith
-routing_rank inst FixedEdgesInRoutes stands = omega arith
-routing_rank inst reason stands = absurd stands
+routing_rank inst TooFewNodes applies = omega arith
+routing_rank inst DepotCount applies = omega arith
+routing_rank inst DepotDemand applies = omega arith
+routing_rank inst FixedEdgesInRoutes applies = omega arith
+routing_rank inst reason applies = absurd applies
 
-pub instance_rank : (inst : Fields) (reason : Reason) → StandsAgainstInstance inst reason
+pub instance_rank : (inst : Fields) (reason : Reason) → AppliesToInstance inst reason
     → rank_of reason < rank_of (LengthClaimed (pos 0))
-instance_rank inst reason stands =
-    instance_either inst.kind (λ Stands. (reason : Reason) → Stands reason → rank_of reason < rank_of (LengthClaimed (pos 0))) inst
-    (tours_rank inst) (routing_rank inst) reason stands
+instance_rank inst reason applies =
+    instance_either inst.kind (λ Applies. (reason : Reason) → Applies reason → rank_of reason < rank_of (LengthClaimed (pos 0))) inst
+    (tours_rank inst) (routing_rank inst) reason applies
 
 -- the first reason against the instance is the first of all
-pub instance_refused : (by : Certificate) (inst cert : Fields) (reason : Reason)
-    → IsFirstReason (StandsAgainstInstance inst) reason → IsBoundVerdict by inst cert (bounds.No reason)
+pub instance_refused : (by : CertificateKind) (inst cert : Fields) (reason : Reason)
+    → IsFirstReason (AppliesToInstance inst) reason → IsBoundVerdict by inst cert (bounds.No reason)
 instance_refused by inst cert reason first = record {
-  stands = inl first.stands;
-  none_before = λ other low stands. by_side other low stands;
+  applies = inl first.applies;
+  none_before = λ other low applies. by_side other low applies;
 }
   where
     by_side : (other : Reason) → rank_of other < rank_of reason
-        → StandsAgainstInstance inst other ⊎ StandsAgainstCertificate by inst cert other → ⊥
-    by_side other low (inl stands) = first.none_before other low stands
-    by_side other low (inr stands) =
-        omega (arith, low, instance_rank inst reason first.stands, certificate_rank by inst cert other stands)
+        → AppliesToInstance inst other ⊎ AppliesToCertificate by inst cert other → ⊥
+    by_side other low (inl applies) = first.none_before other low applies
+    by_side other low (inr applies) =
+        omega (arith, low, instance_rank inst reason first.applies, certificate_rank by inst cert other applies)
 
-none_of_both : (by : Certificate) (inst cert : Fields) → NoneAgainstInstance inst
-    → ((other : Reason) → StandsAgainstCertificate by inst cert other → ⊥)
-    → (reason : Reason) → StandsAgainstBounded by inst cert reason → ⊥
-none_of_both by inst cert none certificate reason (inl stands) = none reason stands
-none_of_both by inst cert none certificate reason (inr stands) = certificate reason stands
+none_of_both : (by : CertificateKind) (inst cert : Fields) → NoneAgainstInstance inst
+    → ((other : Reason) → AppliesToCertificate by inst cert other → ⊥)
+    → (reason : Reason) → AppliesToBounded by inst cert reason → ⊥
+none_of_both by inst cert none certificate reason (inl applies) = none reason applies
+none_of_both by inst cert none certificate reason (inr applies) = certificate reason applies
 
 -- where none applies to the instance, it is the certificate that decides
-pub certificate_decides : (by : Certificate) (inst cert : Fields) (found : BoundVerdict) → NoneAgainstInstance inst
+pub certificate_decides : (by : CertificateKind) (inst cert : Fields) (found : BoundVerdict) → NoneAgainstInstance inst
     → FindsBound by inst cert found
     → IsBoundVerdict by inst cert found
 certificate_decides by inst cert (bounds.Bound bound) none b = (none_of_both by inst cert none b.0, b.1)
 certificate_decides by inst cert bounds.NoSolution none b = (none_of_both by inst cert none b.0, b.1, b.2)
 certificate_decides by inst cert (bounds.No reason) none first = record {
-  stands = inr first.stands;
-  none_before = λ other low stands. by_side other low stands;
+  applies = inr first.applies;
+  none_before = λ other low applies. by_side other low applies;
 }
   where
     by_side : (other : Reason) → rank_of other < rank_of reason
-        → StandsAgainstInstance inst other ⊎ StandsAgainstCertificate by inst cert other → ⊥
-    by_side other low (inl stands) = none other stands
-    by_side other low (inr stands) = first.none_before other low stands
+        → AppliesToInstance inst other ⊎ AppliesToCertificate by inst cert other → ⊥
+    by_side other low (inl applies) = none other applies
+    by_side other low (inr applies) = first.none_before other low applies
 
 -- the same of an instance of tours, by the reasons against its tours
-pub tours_refused : (by : Certificate) (inst cert : Fields) (reason : Reason) → HasTours inst
-    → IsFirstReason (StandsAgainstTouring inst) reason → IsBoundVerdict by inst cert (bounds.No reason)
+pub tours_refused : (by : CertificateKind) (inst cert : Fields) (reason : Reason) → HasTours inst
+    → IsFirstReason (AppliesToTouring inst) reason → IsBoundVerdict by inst cert (bounds.No reason)
 tours_refused by inst cert reason kind first = instance_refused by inst cert reason (first_for_tours inst reason kind first)
 
 -- ---- two reasons of one rank that apply to a solution, to an instance or to a certificate
@@ -113,7 +113,7 @@ asymmetric_by_rank n cost i j carried one other =
     let same = one_asymmetric n cost i j carried.0 carried.1 one other in ap₂ (λ a b. NotSymmetric a b) same.0 same.1
 
 -- plan: by the reason: one without numbers is equal to itself; of one with numbers files have one first place or pair
-pub tours_by_rank : (inst sol : Fields) → IsOneByRank (StandsAgainstTour inst sol)
+pub tours_by_rank : (inst sol : Fields) → IsOneByRank (AppliesToTour inst sol)
 tours_by_rank inst sol NotASolution carried one other = refl
 tours_by_rank inst sol TooFewNodes carried one other = refl
 tours_by_rank inst sol (NotSymmetric i j) carried one other =
@@ -149,7 +149,7 @@ tours_by_rank inst sol NotJudged carried one other = absurd one
 -- ---- against an instance, whatever the solution
 
 -- plan: by the reason: one without numbers is equal to itself; of one with numbers files have one first place or pair
-pub instances_by_rank : (inst : Fields) → IsOneByRank (StandsAgainstTouring inst)
+pub instances_by_rank : (inst : Fields) → IsOneByRank (AppliesToTouring inst)
 instances_by_rank inst NotASolution carried one other = absurd one
 instances_by_rank inst TooFewNodes carried one other = refl
 instances_by_rank inst (NotSymmetric i j) carried one other =
@@ -183,7 +183,7 @@ instances_by_rank inst TooManyLoads carried one other = absurd one
 instances_by_rank inst NotJudged carried one other = absurd one
 
 -- plan: by the reason: one without numbers is equal to itself; of one with numbers files have one first place or pair
-pub routings_by_rank : (inst : Fields) → IsOneByRank (StandsAgainstRouting inst)
+pub routings_by_rank : (inst : Fields) → IsOneByRank (AppliesToRouting inst)
 routings_by_rank inst NotASolution carried one other = absurd one
 routings_by_rank inst TooFewNodes carried one other = refl
 routings_by_rank inst (NotSymmetric i j) carried one other = absurd one
@@ -226,7 +226,7 @@ one_unserved n depot nodes a b one other = elim (cases_order a b) [
 ]
 
 -- plan: by the reason: one without numbers is equal to itself; of one with numbers files have one first place or pair
-pub routes_by_rank : (inst sol : Fields) → IsOneByRank (StandsAgainstRoutes inst sol)
+pub routes_by_rank : (inst sol : Fields) → IsOneByRank (AppliesToRoutes inst sol)
 routes_by_rank inst sol NotASolution carried one other = refl
 routes_by_rank inst sol TooFewNodes carried one other = refl
 routes_by_rank inst sol (NotSymmetric i j) carried one other = absurd one
@@ -284,7 +284,7 @@ broken_by_rank inst pot i j carried one other =
     let same = one_breaking inst pot i j carried.0 carried.1 one other in ap₂ (λ a b. DualInfeasible a b) same.0 same.1
 
 -- plan: by the reason: one without numbers is equal to itself; of one with numbers files have one first place or pair
-pub potentials_by_rank : (inst pot : Fields) → IsOneByRank (StandsAgainstPotentials inst pot)
+pub potentials_by_rank : (inst pot : Fields) → IsOneByRank (AppliesToPotentials inst pot)
 potentials_by_rank inst pot NotASolution carried one other = absurd one
 potentials_by_rank inst pot TooFewNodes carried one other = absurd one
 potentials_by_rank inst pot (NotSymmetric i j) carried one other = absurd one
@@ -343,8 +343,8 @@ one_crossed unique inst tree a b one other = one_numbers unique (nodes_of inst) 
     (recursion_from_All (IsFamily (nodes_of inst)) (families_with_numbers tree a) one.are)
     (recursion_from_All (IsFamily (nodes_of inst)) (families_with_numbers tree b) other.are)
 
-twice_by_rank : (inst tree : Fields) (a b : ℕ) → StandsAgainstBranches inst tree (BranchTwice a)
-    → StandsAgainstBranches inst tree (BranchTwice b) → a ≡ b
+twice_by_rank : (inst tree : Fields) (a b : ℕ) → AppliesToBranches inst tree (BranchTwice a)
+    → AppliesToBranches inst tree (BranchTwice b) → a ≡ b
 twice_by_rank inst tree a b one other =
     let steps = one_value tree.branches other.0 one.0 other.1 one.1 in
     let moved = subst (λ steps. IsFirstTwice (is_directed inst.kind) (given_in inst) steps b) steps other.2 in
@@ -358,15 +358,15 @@ one_bad_pair least most steps a b one other = elim (cases_order a b) [
   | inr (inr more) ↦ absurd (other.bad (one.before b other.from_one more))
 ]
 
-bad_pair_by_rank : (inst tree : Fields) (a b : ℕ) → StandsAgainstBranches inst tree (BadBranch a)
-    → StandsAgainstBranches inst tree (BadBranch b) → a ≡ b
+bad_pair_by_rank : (inst tree : Fields) (a b : ℕ) → AppliesToBranches inst tree (BadBranch a)
+    → AppliesToBranches inst tree (BadBranch b) → a ≡ b
 bad_pair_by_rank inst tree a b one other =
     let steps = one_value tree.branches other.0 one.0 other.1 one.1 in
     let moved = subst (λ steps. pairs.IsFirstBadBranch 1 (nodes_of inst) steps b) steps other.2 in
     one_bad_pair 1 (nodes_of inst) one.0 a b one.2 moved
 
-bad_leaf_by_rank : NumbersAreUnique → (inst tree : Fields) (a b : ℕ) → StandsAgainstBranches inst tree (BadLeaf a)
-    → StandsAgainstBranches inst tree (BadLeaf b) → a ≡ b
+bad_leaf_by_rank : NumbersAreUnique → (inst tree : Fields) (a b : ℕ) → AppliesToBranches inst tree (BadLeaf a)
+    → AppliesToBranches inst tree (BadLeaf b) → a ≡ b
 bad_leaf_by_rank unique inst tree a b one other =
     let steps = one_value tree.branches other.0 one.0 other.1 one.1 in
     let crossed = one_crossed unique inst tree other.2 one.2 other.3 one.3 in
@@ -375,7 +375,7 @@ bad_leaf_by_rank unique inst tree a b one other =
     one_bad_leaf (nodes_of inst) one.2 one.0 a b one.4 moved
 
 -- plan: by the reason: one without numbers is equal to itself; of one with numbers files have one first place or pair
-pub trees_by_rank : NumbersAreUnique → (inst tree : Fields) → IsOneByRank (StandsAgainstBranches inst tree)
+pub trees_by_rank : NumbersAreUnique → (inst tree : Fields) → IsOneByRank (AppliesToBranches inst tree)
 trees_by_rank unique inst tree NotASolution carried one other = absurd one
 trees_by_rank unique inst tree TooFewNodes carried one other = absurd one
 trees_by_rank unique inst tree (NotSymmetric i j) carried one other = absurd one
@@ -426,60 +426,60 @@ one_bad_plan_leaf n families steps a b one other = elim (cases_order a b) [
   | inr (inr more) ↦ absurd (other.bad (one.before b other.least more))
 ]
 
-bad_branch_by_rank : (inst tree : Fields) (a b : ℕ) → StandsAgainstWalks inst tree (BadBranch a)
-    → StandsAgainstWalks inst tree (BadBranch b) → a ≡ b
+bad_branch_by_rank : (inst tree : Fields) (a b : ℕ) → AppliesToQRoutes inst tree (BadBranch a)
+    → AppliesToQRoutes inst tree (BadBranch b) → a ≡ b
 bad_branch_by_rank inst tree a b one other =
     let steps = one_value tree.branches other.0 one.0 other.1 one.1 in
     let moved = subst (λ steps. IsFirstBadPlanBranch (nodes_of inst) (length (families_listed tree)) steps b) steps other.2 in
     one_bad_pair (nodes_of inst + 1) (nodes_of inst + length (families_listed tree)) one.0 a b one.2 moved
 
-bad_plan_leaf_by_rank : (inst tree : Fields) (a b : ℕ) → StandsAgainstWalks inst tree (BadLeaf a)
-    → StandsAgainstWalks inst tree (BadLeaf b) → a ≡ b
+bad_plan_leaf_by_rank : (inst tree : Fields) (a b : ℕ) → AppliesToQRoutes inst tree (BadLeaf a)
+    → AppliesToQRoutes inst tree (BadLeaf b) → a ≡ b
 bad_plan_leaf_by_rank inst tree a b one other =
     let steps = one_value tree.branches other.0 one.0 other.1 one.1 in
     let moved = subst (λ steps. IsFirstBadPlanLeaf (nodes_of inst) (length (families_listed tree)) steps b) steps other.2 in
     one_bad_plan_leaf (nodes_of inst) (length (families_listed tree)) one.0 a b one.2 moved
 
 -- plan: by the reason: one without numbers is equal to itself; of one with numbers files have one first place or pair
-pub walks_by_rank : (inst tree : Fields) → IsOneByRank (StandsAgainstWalks inst tree)
-walks_by_rank inst tree NotASolution carried one other = absurd one
-walks_by_rank inst tree TooFewNodes carried one other = absurd one
-walks_by_rank inst tree (NotSymmetric i j) carried one other = absurd one
-walks_by_rank inst tree Dimension carried one other = absurd one
-walks_by_rank inst tree TourCount carried one other = absurd one
-walks_by_rank inst tree TourLength carried one other = absurd one
-walks_by_rank inst tree DepotCount carried one other = absurd one
-walks_by_rank inst tree DepotDemand carried one other = absurd one
-walks_by_rank inst tree FixedEdgesInRoutes carried one other = absurd one
-walks_by_rank inst tree (DepotInRoute i) carried one other = absurd one
-walks_by_rank inst tree (NodeOutOfRange i) carried one other = absurd one
-walks_by_rank inst tree (RepeatedNode i) carried one other = absurd one
-walks_by_rank inst tree (FixedEdgeUnused i) carried one other = absurd one
-walks_by_rank inst tree (Unserved i) carried one other = absurd one
-walks_by_rank inst tree (Overload i) carried one other = absurd one
-walks_by_rank inst tree (LengthClaimed i) carried one other = absurd one
-walks_by_rank inst tree NotPotentials carried one other = absurd one
-walks_by_rank inst tree PotentialsDimension carried one other = absurd one
-walks_by_rank inst tree PotentialsKind carried one other = absurd one
-walks_by_rank inst tree (MultiplierNotFixed i) carried one other = absurd one
-walks_by_rank inst tree (MultiplierRepeated i) carried one other = absurd one
-walks_by_rank inst tree (DualInfeasible i j) carried one other = absurd one
-walks_by_rank inst tree NotBranches carried one other = refl
-walks_by_rank inst tree BranchesDimension carried one other = refl
-walks_by_rank inst tree (BadComb i) carried one other = ap BadComb (one_bad_set _ _ _ i carried.0 one other)
-walks_by_rank inst tree (BadBranch i) carried one other = ap BadBranch (bad_branch_by_rank inst tree i carried.0 one other)
-walks_by_rank inst tree (BranchTwice i) carried one other = absurd one
-walks_by_rank inst tree (BadLeaf i) carried one other = ap BadLeaf (bad_plan_leaf_by_rank inst tree i carried.0 one other)
-walks_by_rank inst tree TooManyLoads carried one other = refl
-walks_by_rank inst tree NotJudged carried one other = absurd one
+pub q_routes_by_rank : (inst tree : Fields) → IsOneByRank (AppliesToQRoutes inst tree)
+q_routes_by_rank inst tree NotASolution carried one other = absurd one
+q_routes_by_rank inst tree TooFewNodes carried one other = absurd one
+q_routes_by_rank inst tree (NotSymmetric i j) carried one other = absurd one
+q_routes_by_rank inst tree Dimension carried one other = absurd one
+q_routes_by_rank inst tree TourCount carried one other = absurd one
+q_routes_by_rank inst tree TourLength carried one other = absurd one
+q_routes_by_rank inst tree DepotCount carried one other = absurd one
+q_routes_by_rank inst tree DepotDemand carried one other = absurd one
+q_routes_by_rank inst tree FixedEdgesInRoutes carried one other = absurd one
+q_routes_by_rank inst tree (DepotInRoute i) carried one other = absurd one
+q_routes_by_rank inst tree (NodeOutOfRange i) carried one other = absurd one
+q_routes_by_rank inst tree (RepeatedNode i) carried one other = absurd one
+q_routes_by_rank inst tree (FixedEdgeUnused i) carried one other = absurd one
+q_routes_by_rank inst tree (Unserved i) carried one other = absurd one
+q_routes_by_rank inst tree (Overload i) carried one other = absurd one
+q_routes_by_rank inst tree (LengthClaimed i) carried one other = absurd one
+q_routes_by_rank inst tree NotPotentials carried one other = absurd one
+q_routes_by_rank inst tree PotentialsDimension carried one other = absurd one
+q_routes_by_rank inst tree PotentialsKind carried one other = absurd one
+q_routes_by_rank inst tree (MultiplierNotFixed i) carried one other = absurd one
+q_routes_by_rank inst tree (MultiplierRepeated i) carried one other = absurd one
+q_routes_by_rank inst tree (DualInfeasible i j) carried one other = absurd one
+q_routes_by_rank inst tree NotBranches carried one other = refl
+q_routes_by_rank inst tree BranchesDimension carried one other = refl
+q_routes_by_rank inst tree (BadComb i) carried one other = ap BadComb (one_bad_set _ _ _ i carried.0 one other)
+q_routes_by_rank inst tree (BadBranch i) carried one other = ap BadBranch (bad_branch_by_rank inst tree i carried.0 one other)
+q_routes_by_rank inst tree (BranchTwice i) carried one other = absurd one
+q_routes_by_rank inst tree (BadLeaf i) carried one other = ap BadLeaf (bad_plan_leaf_by_rank inst tree i carried.0 one other)
+q_routes_by_rank inst tree TooManyLoads carried one other = refl
+q_routes_by_rank inst tree NotJudged carried one other = absurd one
 
 -- ---- against either of two: a reason of one rank applies to one of them alone
 
-pub certificates_by_rank : NumbersAreUnique → (by : Certificate) (inst cert : Fields)
-    → IsOneByRank (StandsAgainstCertificate by inst cert)
+pub certificates_by_rank : NumbersAreUnique → (by : CertificateKind) (inst cert : Fields)
+    → IsOneByRank (AppliesToCertificate by inst cert)
 certificates_by_rank unique Potentials inst cert = potentials_by_rank inst cert
 certificates_by_rank unique Branches inst cert =
-    tree_either inst.kind IsOneByRank inst cert (trees_by_rank unique inst cert) (walks_by_rank inst cert)
+    tree_either inst.kind IsOneByRank inst cert (trees_by_rank unique inst cert) (q_routes_by_rank inst cert)
 
 -- a reason of the rank of another has that rank
 same_rank : (reason : Reason) (carried : Carried) → rank_of (reason_of (rank_of reason) carried) ≡ rank_of reason
@@ -515,7 +515,7 @@ same_rank TooManyLoads carried = refl
 same_rank NotJudged carried = refl
 
 -- reasons against a solution or an instance come before those against a certificate, whatever they carry
-either_by_rank : NumbersAreUnique → (Own : Reason → Type 0) (by : Certificate) (inst cert : Fields) → AreOwn Own → IsOneByRank Own
+either_by_rank : NumbersAreUnique → (Own : Reason → Type 0) (by : CertificateKind) (inst cert : Fields) → AreOwn Own → IsOneByRank Own
     → IsOneByRank (Both Own by inst cert)
 either_by_rank unique Own by inst cert own one reason carried (inl a) (inl b) = one reason carried a b
 either_by_rank unique Own by inst cert own one reason carried (inl a) (inr b) =
@@ -535,17 +535,17 @@ either_by_rank unique Own by inst cert own one reason carried (inr a) (inl b) =
 either_by_rank unique Own by inst cert own one reason carried (inr a) (inr b) =
     certificates_by_rank unique by inst cert reason carried a b
 
-pub certified_by_rank : NumbersAreUnique → (by : Certificate) (inst sol cert : Fields)
-    → IsOneByRank (StandsAgainstCertified by inst sol cert)
+pub certified_by_rank : NumbersAreUnique → (by : CertificateKind) (inst sol cert : Fields)
+    → IsOneByRank (AppliesToCertified by inst sol cert)
 certified_by_rank unique by inst sol cert =
-    either_by_rank unique (StandsAgainstTour inst sol) by inst cert (tour_rank inst sol) (tours_by_rank inst sol)
+    either_by_rank unique (AppliesToTour inst sol) by inst cert (tour_rank inst sol) (tours_by_rank inst sol)
 
-pub certified_routes_by_rank : NumbersAreUnique → (by : Certificate) (inst sol cert : Fields)
-    → IsOneByRank (StandsAgainstCertifiedRoutes by inst sol cert)
+pub certified_routes_by_rank : NumbersAreUnique → (by : CertificateKind) (inst sol cert : Fields)
+    → IsOneByRank (AppliesToCertifiedRoutes by inst sol cert)
 certified_routes_by_rank unique by inst sol cert =
-    either_by_rank unique (StandsAgainstRoutes inst sol) by inst cert (routes_rank inst sol) (routes_by_rank inst sol)
+    either_by_rank unique (AppliesToRoutes inst sol) by inst cert (routes_rank inst sol) (routes_by_rank inst sol)
 
-pub bounded_by_rank : NumbersAreUnique → (by : Certificate) (inst cert : Fields)
-    → IsOneByRank (StandsAgainstBounded by inst cert)
-bounded_by_rank unique by inst cert = either_by_rank unique (StandsAgainstInstance inst) by inst cert (instance_rank inst)
+pub bounded_by_rank : NumbersAreUnique → (by : CertificateKind) (inst cert : Fields)
+    → IsOneByRank (AppliesToBounded by inst cert)
+bounded_by_rank unique by inst cert = either_by_rank unique (AppliesToInstance inst) by inst cert (instance_rank inst)
     (instance_either inst.kind IsOneByRank inst (instances_by_rank inst) (routings_by_rank inst))

@@ -16,20 +16,20 @@ use Rattle.tsp_cases.specs.declared.family.Crossings.{Crossings}
 use Rattle.tsp_cases.specs.Families.{NumbersAreUnique}
 use Rattle.tsp_cases.specs.CaseTrees.{IsCaseTreeBound, CaseTreeBoundsAreUnique}
 use Rattle.tsp_cases.specs.Cases.{decided_number}
-use Rattle.tsp_report.specs.declared.verdict.Basis.{Basis}
-use Rattle.tsp_report.specs.declared.verdict.Basis.TheVariants as bases
-use Rattle.tsp_report.specs.declared.task.Certificate.{Certificate}
-use Rattle.tsp_report.specs.declared.task.Certificate.TheVariants.{Potentials, Branches}
+use Rattle.tsp_report.specs.declared.verdict.KnownBound.{KnownBound}
+use Rattle.tsp_report.specs.declared.verdict.KnownBound.TheVariants as known_bounds
+use Rattle.tsp_report.specs.declared.task.CertificateKind.{CertificateKind}
+use Rattle.tsp_report.specs.declared.task.CertificateKind.TheVariants.{Potentials, Branches}
 use Rattle.tsp_report.specs.declared.verdict.BoundVerdict.{BoundVerdict}
 use Rattle.tsp_report.specs.declared.verdict.BoundVerdict.TheVariants as bounds
 use Rattle.tsp_report.specs.declared.verdict.Reason.{Reason}
 use Rattle.tsp_report.specs.declared.verdict.Reason.TheVariants.{LengthClaimed}
 use Rattle.tsp_report.specs.declared.verdict.Verdict.{Verdict}
 use Rattle.tsp_report.specs.declared.verdict.Verdict.TheVariants.{Tour, Routes, No}
-use Rattle.tsp_verdict.specs.SolutionVerdict.{IsBasisOfTours, IsBasisOfRoutes, IsBasisAlone, IsBasisOfToursBy, IsBasisOfRoutesBy, IsBasisBy, IsBasisWith, IsVerdictBy, IsVerdictOn, IsUnclaimedVerdict, IsFirstAgainstGiven, HasLength, IsOfLength, IsClaimedVerdict, FilesHaveOneVerdict, FilesHaveOneBound, FilesHaveOneBasis, SolutionsHaveOneVerdict}
-use Rattle.tsp_verdict.specs.Certified.{StandsAgainstTouring, StandsAgainstRouting, StandsAgainstBounded, IsBoundVerdict, is_bounded, IsBoundBy, IsBoundOf, HasNoBoundBy, StandsAgainstCertificate, IsCertified, StandsAgainstCertified, IsCertifiedTourVerdict, StandsAgainstCertifiedRoutes, IsCertifiedRoutesVerdict, IsCertifiedVerdictBy, IsCertifiedVerdict}
-use Rattle.tsp_verdict.specs.Certificates.{given_in, case_steps_in, families_with_numbers, HasBoundByBranches, IsBoundByNodes, IsBoundByDuals, unit_in, HasBoundByWalks}
-use Rattle.tsp_verdict.specs.Solutions.{total_of, StandsAgainstRoutes, IsPlanned, IsRoutesVerdict, tours_of, StandsAgainstTour, IsTourVerdict}
+use Rattle.tsp_verdict.specs.SolutionVerdict.{IsKnownBoundOfTours, IsKnownBoundOfRoutes, IsKnownBoundAlone, IsKnownBoundOfToursBy, IsKnownBoundOfRoutesBy, IsKnownBoundBy, IsKnownBoundWith, IsVerdictBy, IsVerdictOn, IsUnclaimedVerdict, IsFirstAgainstGiven, HasLength, IsOfLength, IsClaimedVerdict, FilesHaveOneVerdict, FilesHaveOneBound, FilesHaveOneKnownBound, SolutionsHaveOneVerdict}
+use Rattle.tsp_verdict.specs.Certified.{AppliesToTouring, AppliesToRouting, AppliesToBounded, IsBoundVerdict, is_bounded, IsBoundBy, IsBoundOf, HasNoBoundBy, AppliesToCertificate, IsCertified, AppliesToCertified, IsCertifiedTourVerdict, AppliesToCertifiedRoutes, IsCertifiedRoutesVerdict, IsCertifiedVerdictBy, IsCertifiedVerdict}
+use Rattle.tsp_verdict.specs.Certificates.{given_in, case_steps_in, families_with_numbers, HasBoundByBranches, IsBoundByNodes, IsBoundByDuals, unit_in, HasBoundByQRoutes}
+use Rattle.tsp_verdict.specs.Solutions.{total_of, AppliesToRoutes, IsPlanned, IsRoutesVerdict, tours_of, AppliesToTour, IsTourVerdict}
 use Rattle.tsp_routing.specs.PlanVerdicts.{IsBoundFound, PlanBoundsFoundAreUnique}
 use Rattle.tsp_verdict.proofs.FirstReasons.{one_first}
 use Rattle.tsp_verdict.proofs.OneReason.{one_value, tours_by_rank, instances_by_rank, routings_by_rank, routes_by_rank, certificates_by_rank, certified_by_rank, certified_routes_by_rank, bounded_by_rank, one_crossed}
@@ -38,7 +38,7 @@ use Rattle.tsp_verdict.proofs.OneReason.{one_value, tours_by_rank, instances_by_
 pub record Laws : Type 0 where
   pub numbers : NumbersAreUnique
   pub leaves : CaseTreeBoundsAreUnique
-  pub walks : PlanBoundsFoundAreUnique
+  pub q_routes : PlanBoundsFoundAreUnique
 
 -- ---- on its own
 
@@ -47,10 +47,10 @@ one_list : (lists : List (List ℕ)) (a b : List ℕ) → lists ≡ a ∷ [] →
 one_list lists a b one other = ap (λ found. get_or found 0 []) (sym one ∙ other)
 
 one_tour : (inst sol : Fields) (one other : Verdict) → IsTourVerdict inst sol one → IsTourVerdict inst sol other → one ≡ other
-one_tour inst sol (No a) (No b) one other = ap No (one_first (StandsAgainstTour inst sol) (tours_by_rank inst sol) a b one other)
-one_tour inst sol (No a) (Tour found bound) one other = absurd (other.0 a one.stands)
+one_tour inst sol (No a) (No b) one other = ap No (one_first (AppliesToTour inst sol) (tours_by_rank inst sol) a b one other)
+one_tour inst sol (No a) (Tour found bound) one other = absurd (other.0 a one.applies)
 one_tour inst sol (No a) (Routes found routes least bound_b) one other = absurd other
-one_tour inst sol (Tour length bound) (No b) one other = absurd (one.0 b other.stands)
+one_tour inst sol (Tour length bound) (No b) one other = absurd (one.0 b other.applies)
 one_tour inst sol (Tour length bound) (Tour found least) one other =
     let same = one_list (tours_of sol) one.1.0 other.1.0 one.1.1 other.1.1 in
     ap₂ (λ length bound. Tour length bound) (one.1.3 ∙ ap (length_of (cost inst)) same ∙ sym other.1.3) (one.2 ∙ sym other.2)
@@ -76,10 +76,10 @@ one_planned inst plan a b count other fewest least bound one second =
 one_routes : (inst sol : Fields) (one other : Verdict) → IsRoutesVerdict inst sol one → IsRoutesVerdict inst sol other
     → one ≡ other
 one_routes inst sol (No a) (No b) one other =
-    ap No (one_first (StandsAgainstRoutes inst sol) (routes_by_rank inst sol) a b one other)
-one_routes inst sol (No a) (Routes found routes least bound) one other = absurd (other.0 a one.stands)
+    ap No (one_first (AppliesToRoutes inst sol) (routes_by_rank inst sol) a b one other)
+one_routes inst sol (No a) (Routes found routes least bound) one other = absurd (other.0 a one.applies)
 one_routes inst sol (No a) (Tour found bound) one other = absurd other
-one_routes inst sol (Routes length routes least bound) (No b) one other = absurd (one.0 b other.stands)
+one_routes inst sol (Routes length routes least bound) (No b) one other = absurd (one.0 b other.applies)
 one_routes inst sol (Routes length routes least bound) (Routes found count fewest same) one other =
     one_planned inst (tours_of sol) length found routes count least fewest bound one.1 other.1
     ∙ ap (λ b. Routes found count fewest b) (one.2 ∙ sym other.2)
@@ -144,18 +144,18 @@ one_by_tree laws inst tree a b one other =
     (families_with_numbers tree one.crossed)
     (given_in inst) (case_steps_in inst tree one.steps) a b one.bound moved
 
-one_by_walks : Laws → (inst tree : Fields) (a b : Option ℤ) → HasBoundByWalks inst tree a → HasBoundByWalks inst tree b → a ≡ b
-one_by_walks laws inst tree a b one other =
+one_by_q_routes : Laws → (inst tree : Fields) (a b : Option ℤ) → HasBoundByQRoutes inst tree a → HasBoundByQRoutes inst tree b → a ≡ b
+one_by_q_routes laws inst tree a b one other =
     let Found : List listed.Step → Type 0 = λ steps. IsBoundFound (routing_of inst) (scale_in tree) (unit_in tree)
     (families_listed tree) steps b in
     let steps = one_value tree.branches other.steps one.steps other.steps_are one.steps_are in
     let moved : Found one.steps = subst Found steps other.bound in
-    laws.walks (routing_of inst) (scale_in tree) (unit_in tree) (families_listed tree) one.steps a b one.bound moved
+    laws.q_routes (routing_of inst) (scale_in tree) (unit_in tree) (families_listed tree) one.steps a b one.bound moved
 
 of_some : (a b : ℤ) → Some a ≡ Some b → a ≡ b
 of_some a b same = one_value (Some b) a b (sym same) refl
 
-one_bound_by : Laws → (by : Certificate) (kind : Option Kind) (inst cert : Fields) (a b : ℤ) → IsBoundBy by kind inst cert a
+one_bound_by : Laws → (by : CertificateKind) (kind : Option Kind) (inst cert : Fields) (a b : ℤ) → IsBoundBy by kind inst cert a
     → IsBoundBy by kind inst cert b → a ≡ b
 one_bound_by laws Potentials (Some kinds.Tsp) inst cert a b one other = one_by_nodes inst cert a b one other
 one_bound_by laws Potentials (Some kinds.Atsp) inst cert a b one other = one_by_duals inst cert a b one other
@@ -169,7 +169,7 @@ one_bound_by laws Branches (Some kinds.Tsp) inst cert a b one other =
 one_bound_by laws Branches (Some kinds.Atsp) inst cert a b one other =
     of_some a b (one_by_tree laws inst cert (Some a) (Some b) one other)
 one_bound_by laws Branches (Some kinds.Cvrp) inst cert a b one other =
-    of_some a b (one_by_walks laws inst cert (Some a) (Some b) one other)
+    of_some a b (one_by_q_routes laws inst cert (Some a) (Some b) one other)
 one_bound_by laws Branches (Some kinds.Tour) inst cert a b one other = absurd one
 one_bound_by laws Branches (Some kinds.Potentials) inst cert a b one other = absurd one
 one_bound_by laws Branches (Some kinds.Branches) inst cert a b one other = absurd one
@@ -179,14 +179,14 @@ one_bound_by laws Branches None inst cert a b one other = absurd one
 some_or_none : (a : ℤ) → Some a ≡ None → ⊥
 some_or_none a both = grind (arith, both)
 
-bound_or_none : Laws → (by : Certificate) (kind : Option Kind) (inst cert : Fields) (a : ℤ) → IsBoundBy by kind inst cert a
+bound_or_none : Laws → (by : CertificateKind) (kind : Option Kind) (inst cert : Fields) (a : ℤ) → IsBoundBy by kind inst cert a
     → HasNoBoundBy by kind inst cert → ⊥
 bound_or_none laws Branches (Some kinds.Tsp) inst cert a one none =
     some_or_none a (one_by_tree laws inst cert (Some a) None one none)
 bound_or_none laws Branches (Some kinds.Atsp) inst cert a one none =
     some_or_none a (one_by_tree laws inst cert (Some a) None one none)
 bound_or_none laws Branches (Some kinds.Cvrp) inst cert a one none =
-    some_or_none a (one_by_walks laws inst cert (Some a) None one none)
+    some_or_none a (one_by_q_routes laws inst cert (Some a) None one none)
 bound_or_none laws Branches (Some kinds.Tour) inst cert a one none = one
 bound_or_none laws Branches (Some kinds.Potentials) inst cert a one none = one
 bound_or_none laws Branches (Some kinds.Branches) inst cert a one none = one
@@ -199,7 +199,7 @@ bound_or_none laws Potentials (Some kinds.Potentials) inst cert a one none = non
 bound_or_none laws Potentials (Some kinds.Branches) inst cert a one none = none
 bound_or_none laws Potentials None inst cert a one none = none
 
-never_none : Laws → (by : Certificate) (inst cert : Fields) (a : ℤ) → IsBoundVerdict by inst cert (bounds.Bound a)
+never_none : Laws → (by : CertificateKind) (inst cert : Fields) (a : ℤ) → IsBoundVerdict by inst cert (bounds.Bound a)
     → IsBoundVerdict by inst cert bounds.NoSolution → ⊥
 never_none laws by inst cert a one other =
     let certified : IsCertified by inst cert a = one.1 in bound_or_none laws by inst.kind inst cert a certified.0 other.1
@@ -210,24 +210,24 @@ one_bound laws by inst cert (bounds.Bound a) (bounds.Bound b) one other =
     let second : IsCertified by inst cert b = other.1 in
     ap bounds.Bound (one_bound_by laws by inst.kind inst cert a b first.0 second.0)
 one_bound laws by inst cert (bounds.Bound a) bounds.NoSolution one other = absurd (never_none laws by inst cert a one other)
-one_bound laws by inst cert (bounds.Bound a) (bounds.No reason) one other = absurd (one.0 reason other.stands)
+one_bound laws by inst cert (bounds.Bound a) (bounds.No reason) one other = absurd (one.0 reason other.applies)
 one_bound laws by inst cert bounds.NoSolution (bounds.Bound b) one other = absurd (never_none laws by inst cert b other one)
 one_bound laws by inst cert bounds.NoSolution bounds.NoSolution one other = refl
-one_bound laws by inst cert bounds.NoSolution (bounds.No reason) one other = absurd (one.0 reason other.stands)
-one_bound laws by inst cert (bounds.No reason) (bounds.Bound b) one other = absurd (other.0 reason one.stands)
-one_bound laws by inst cert (bounds.No reason) bounds.NoSolution one other = absurd (other.0 reason one.stands)
+one_bound laws by inst cert bounds.NoSolution (bounds.No reason) one other = absurd (one.0 reason other.applies)
+one_bound laws by inst cert (bounds.No reason) (bounds.Bound b) one other = absurd (other.0 reason one.applies)
+one_bound laws by inst cert (bounds.No reason) bounds.NoSolution one other = absurd (other.0 reason one.applies)
 one_bound laws by inst cert (bounds.No a) (bounds.No b) one other =
-    ap bounds.No (one_first (StandsAgainstBounded by inst cert) (bounded_by_rank laws.numbers by inst cert) a b one other)
+    ap bounds.No (one_first (AppliesToBounded by inst cert) (bounded_by_rank laws.numbers by inst cert) a b one other)
 
 -- ---- with a certificate
 
-one_certified_tour : Laws → (by : Certificate) (inst sol cert : Fields) (one other : Verdict) → IsCertifiedTourVerdict by inst sol cert one
+one_certified_tour : Laws → (by : CertificateKind) (inst sol cert : Fields) (one other : Verdict) → IsCertifiedTourVerdict by inst sol cert one
     → IsCertifiedTourVerdict by inst sol cert other → one ≡ other
 one_certified_tour laws by inst sol cert (No a) (No b) one other =
-    ap No (one_first (StandsAgainstCertified by inst sol cert) (certified_by_rank laws.numbers by inst sol cert) a b one other)
-one_certified_tour laws by inst sol cert (No a) (Tour length bound) one other = absurd (other.0 a one.stands)
+    ap No (one_first (AppliesToCertified by inst sol cert) (certified_by_rank laws.numbers by inst sol cert) a b one other)
+one_certified_tour laws by inst sol cert (No a) (Tour length bound) one other = absurd (other.0 a one.applies)
 one_certified_tour laws by inst sol cert (No a) (Routes length routes least bound) one other = absurd other
-one_certified_tour laws by inst sol cert (Tour length bound) (No b) one other = absurd (one.0 b other.stands)
+one_certified_tour laws by inst sol cert (Tour length bound) (No b) one other = absurd (one.0 b other.applies)
 one_certified_tour laws by inst sol cert (Tour length bound) (Tour found least) one other =
     let same = one_list (tours_of sol) one.1.tour other.1.tour one.1.only other.1.only in
     let least = one_bound_by laws by inst.kind inst cert one.1.least other.1.least one.1.of_certificate other.1.of_certificate in
@@ -236,14 +236,14 @@ one_certified_tour laws by inst sol cert (Tour length bound) (Tour found least) 
 one_certified_tour laws by inst sol cert (Tour length bound) (Routes found routes least bound_b) one other = absurd other
 one_certified_tour laws by inst sol cert (Routes length routes least bound) other is none = absurd is
 
-one_certified_routes : Laws → (by : Certificate) (inst sol cert : Fields) (one other : Verdict)
+one_certified_routes : Laws → (by : CertificateKind) (inst sol cert : Fields) (one other : Verdict)
     → IsCertifiedRoutesVerdict by inst sol cert one → IsCertifiedRoutesVerdict by inst sol cert other → one ≡ other
 one_certified_routes laws by inst sol cert (No a) (No b) one other =
-    ap No (one_first (StandsAgainstCertifiedRoutes by inst sol cert) (certified_routes_by_rank laws.numbers by inst sol cert) a b one
+    ap No (one_first (AppliesToCertifiedRoutes by inst sol cert) (certified_routes_by_rank laws.numbers by inst sol cert) a b one
     other)
-one_certified_routes laws by inst sol cert (No a) (Routes length routes least bound) one other = absurd (other.0 a one.stands)
+one_certified_routes laws by inst sol cert (No a) (Routes length routes least bound) one other = absurd (other.0 a one.applies)
 one_certified_routes laws by inst sol cert (No a) (Tour length bound) one other = absurd other
-one_certified_routes laws by inst sol cert (Routes length routes least bound) (No b) one other = absurd (one.0 b other.stands)
+one_certified_routes laws by inst sol cert (Routes length routes least bound) (No b) one other = absurd (one.0 b other.applies)
 one_certified_routes laws by inst sol cert (Routes length routes least bound) (Routes found count fewest same) one other =
     let lower = one_bound_by laws by inst.kind inst cert one.1.least other.1.least one.1.of_certificate other.1.of_certificate in
     one_planned inst (tours_of sol) length found routes count least fewest bound one.1.planned other.1.planned
@@ -251,7 +251,7 @@ one_certified_routes laws by inst sol cert (Routes length routes least bound) (R
 one_certified_routes laws by inst sol cert (Routes length routes least bound) (Tour found alone) one other = absurd other
 one_certified_routes laws by inst sol cert (Tour length bound) other is none = absurd is
 
-one_certified_by : Laws → (kind : Option Kind) (by : Certificate) (inst sol cert : Fields) (one other : Verdict)
+one_certified_by : Laws → (kind : Option Kind) (by : CertificateKind) (inst sol cert : Fields) (one other : Verdict)
     → IsCertifiedVerdictBy kind by inst sol cert one → IsCertifiedVerdictBy kind by inst sol cert other → one ≡ other
 one_certified_by laws (Some kinds.Tsp) by inst sol cert one other first second =
     one_certified_tour laws by inst sol cert one other first second
@@ -268,11 +268,11 @@ one_certified_by laws (Some kinds.Branches) by inst sol cert one other first sec
 one_certified_by laws None by inst sol cert one other first second =
     one_certified_tour laws by inst sol cert one other first second
 
-one_certified : Laws → (by : Certificate) (inst sol cert : Fields) (one other : Verdict) → IsCertifiedVerdict by inst sol cert one
+one_certified : Laws → (by : CertificateKind) (inst sol cert : Fields) (one other : Verdict) → IsCertifiedVerdict by inst sol cert one
     → IsCertifiedVerdict by inst sol cert other → one ≡ other
 one_certified laws by inst sol cert one other first second = one_certified_by laws inst.kind by inst sol cert one other first second
 
-one_unclaimed : Laws → (given : Option (Certificate × Fields)) (inst sol : Fields) (one other : Verdict)
+one_unclaimed : Laws → (given : Option (CertificateKind × Fields)) (inst sol : Fields) (one other : Verdict)
     → IsUnclaimedVerdict given inst sol one → IsUnclaimedVerdict given inst sol other → one ≡ other
 one_unclaimed laws None inst sol one other first second = one_alone inst sol one other first second
 one_unclaimed laws (Some given) inst sol one other first second =
@@ -297,7 +297,7 @@ never_refused inst sol length reason one refused =
     subst (λ verdict. HasLength verdict length) (one_alone inst sol one.0 (No reason) one.1 refused) one.2
 
 -- a certificate gives no bound for other TYPEs
-boundless : (by : Certificate) (kind : Option Kind) (inst cert : Fields) (least : ℤ) → is_bounded by kind ≡ false
+boundless : (by : CertificateKind) (kind : Option Kind) (inst cert : Fields) (least : ℤ) → is_bounded by kind ≡ false
     → IsBoundBy by kind inst cert least → ⊥
 boundless Potentials (Some kinds.Tsp) inst cert least other bound = absurd (false≢true (sym other))
 boundless Potentials (Some kinds.Atsp) inst cert least other bound = absurd (false≢true (sym other))
@@ -315,14 +315,14 @@ boundless Branches (Some kinds.Branches) inst cert least other bound = bound
 boundless Branches None inst cert least other bound = bound
 
 -- an accepted tour with a certificate is accepted on its own; so are accepted routes
-alone_tour : (by : Certificate) (inst sol cert : Fields) (verdict : Verdict) (length : ℤ) → HasLength verdict length
+alone_tour : (by : CertificateKind) (inst sol cert : Fields) (verdict : Verdict) (length : ℤ) → HasLength verdict length
     → IsCertifiedTourVerdict by inst sol cert verdict
     → (least : ℤ) × IsBoundOf by inst cert least × IsTourVerdict inst sol (Tour length None)
 alone_tour by inst sol cert (Tour measured bound) length has accepted = (
   accepted.1.least,
   accepted.1.of_certificate,
   (
-    λ reason stands. accepted.0 reason (inl stands),
+    λ reason applies. accepted.0 reason (inl applies),
     (accepted.1.tour, accepted.1.only, accepted.1.tour_of, has ∙ accepted.1.measured),
     refl,
   ),
@@ -330,42 +330,42 @@ alone_tour by inst sol cert (Tour measured bound) length has accepted = (
 alone_tour by inst sol cert (Routes measured routes least bound) length has accepted = absurd accepted
 alone_tour by inst sol cert (No reason) length has accepted = absurd has
 
-alone_routes : (by : Certificate) (inst sol cert : Fields) (verdict : Verdict) (length : ℤ) → HasLength verdict length
+alone_routes : (by : CertificateKind) (inst sol cert : Fields) (verdict : Verdict) (length : ℤ) → HasLength verdict length
     → IsCertifiedRoutesVerdict by inst sol cert verdict
     → (yes : Verdict) × IsRoutesVerdict inst sol yes × HasLength yes length
 alone_routes by inst sol cert (Routes measured routes least bound) length has accepted = (
   Routes measured routes least None,
-  (λ reason stands. accepted.0 reason (inl stands), accepted.1.planned, refl),
+  (λ reason applies. accepted.0 reason (inl applies), accepted.1.planned, refl),
   has,
 )
 alone_routes by inst sol cert (Tour measured bound) length has accepted = absurd accepted
 alone_routes by inst sol cert (No reason) length has accepted = absurd has
 
 -- of another TYPE no solution is accepted
-alone_other : (by : Certificate) (kind : Option Kind) (inst sol cert : Fields) (verdict : Verdict) (length : ℤ)
+alone_other : (by : CertificateKind) (kind : Option Kind) (inst sol cert : Fields) (verdict : Verdict) (length : ℤ)
     → kind ≡ inst.kind → is_bounded by kind ≡ false → HasLength verdict length
     → IsCertifiedTourVerdict by inst sol cert verdict → ⊥
 alone_other by kind inst sol cert verdict length same other has accepted =
     let alone = alone_tour by inst sol cert verdict length has accepted in
     boundless by kind inst cert alone.0 other (subst (λ k. IsBoundBy by k inst cert alone.0) (sym same) alone.1)
 
-none_bounded : (by : Certificate) → is_bounded by None ≡ false
+none_bounded : (by : CertificateKind) → is_bounded by None ≡ false
 none_bounded Potentials = refl
 none_bounded Branches = refl
 
-tour_file_unbounded : (by : Certificate) → is_bounded by (Some kinds.Tour) ≡ false
+tour_file_unbounded : (by : CertificateKind) → is_bounded by (Some kinds.Tour) ≡ false
 tour_file_unbounded Potentials = refl
 tour_file_unbounded Branches = refl
 
-potentials_unbounded : (by : Certificate) → is_bounded by (Some kinds.Potentials) ≡ false
+potentials_unbounded : (by : CertificateKind) → is_bounded by (Some kinds.Potentials) ≡ false
 potentials_unbounded Potentials = refl
 potentials_unbounded Branches = refl
 
-branches_unbounded : (by : Certificate) → is_bounded by (Some kinds.Branches) ≡ false
+branches_unbounded : (by : CertificateKind) → is_bounded by (Some kinds.Branches) ≡ false
 branches_unbounded Potentials = refl
 branches_unbounded Branches = refl
 
-alone_by_kind : (by : Certificate) (kind : Option Kind) (inst sol cert : Fields) (verdict : Verdict) (length : ℤ)
+alone_by_kind : (by : CertificateKind) (kind : Option Kind) (inst sol cert : Fields) (verdict : Verdict) (length : ℤ)
     → kind ≡ inst.kind → HasLength verdict length → IsCertifiedVerdictBy kind by inst sol cert verdict
     → (yes : Verdict) × IsVerdictBy kind inst sol yes × HasLength yes length
 alone_by_kind by (Some kinds.Tsp) inst sol cert verdict length same has accepted =
@@ -383,7 +383,7 @@ alone_by_kind by (Some kinds.Branches) inst sol cert verdict length same has acc
 alone_by_kind by None inst sol cert verdict length same has accepted =
     absurd (alone_other by None inst sol cert verdict length same (none_bounded by) has accepted)
 
-accepted_alone : (given : Option (Certificate × Fields)) (inst sol : Fields) (verdict : Verdict) (length : ℤ)
+accepted_alone : (given : Option (CertificateKind × Fields)) (inst sol : Fields) (verdict : Verdict) (length : ℤ)
     → HasLength verdict length
     → IsUnclaimedVerdict given inst sol verdict → IsOfLength inst sol length
 accepted_alone None inst sol verdict length has accepted = (verdict, accepted, has)
@@ -391,45 +391,45 @@ accepted_alone (Some given) inst sol verdict length has accepted =
     alone_by_kind given.0 inst.kind inst sol given.1 verdict length refl has accepted
 
 -- no reason applies to the certificate of an accepted solution
-none_of_tour : (by : Certificate) (inst sol cert : Fields) (verdict : Verdict) (length : ℤ) (reason : Reason)
-    → HasLength verdict length → IsCertifiedTourVerdict by inst sol cert verdict → StandsAgainstCertificate by inst cert reason → ⊥
-none_of_tour by inst sol cert (Tour measured bound) length reason has accepted stands = accepted.0 reason (inr stands)
-none_of_tour by inst sol cert (Routes measured routes least bound) length reason has accepted stands = accepted
-none_of_tour by inst sol cert (No other) length reason has accepted stands = has
+none_of_tour : (by : CertificateKind) (inst sol cert : Fields) (verdict : Verdict) (length : ℤ) (reason : Reason)
+    → HasLength verdict length → IsCertifiedTourVerdict by inst sol cert verdict → AppliesToCertificate by inst cert reason → ⊥
+none_of_tour by inst sol cert (Tour measured bound) length reason has accepted applies = accepted.0 reason (inr applies)
+none_of_tour by inst sol cert (Routes measured routes least bound) length reason has accepted applies = accepted
+none_of_tour by inst sol cert (No other) length reason has accepted applies = has
 
-none_of_routes : (by : Certificate) (inst sol cert : Fields) (verdict : Verdict) (length : ℤ) (reason : Reason)
-    → HasLength verdict length → IsCertifiedRoutesVerdict by inst sol cert verdict → StandsAgainstCertificate by inst cert reason
+none_of_routes : (by : CertificateKind) (inst sol cert : Fields) (verdict : Verdict) (length : ℤ) (reason : Reason)
+    → HasLength verdict length → IsCertifiedRoutesVerdict by inst sol cert verdict → AppliesToCertificate by inst cert reason
     → ⊥
-none_of_routes by inst sol cert (Routes measured routes least bound) length reason has accepted stands =
-    accepted.0 reason (inr stands)
-none_of_routes by inst sol cert (Tour measured bound) length reason has accepted stands = accepted
-none_of_routes by inst sol cert (No other) length reason has accepted stands = has
+none_of_routes by inst sol cert (Routes measured routes least bound) length reason has accepted applies =
+    accepted.0 reason (inr applies)
+none_of_routes by inst sol cert (Tour measured bound) length reason has accepted applies = accepted
+none_of_routes by inst sol cert (No other) length reason has accepted applies = has
 
-none_by_kind : (by : Certificate) (kind : Option Kind) (inst sol cert : Fields) (verdict : Verdict) (length : ℤ) (reason : Reason)
-    → HasLength verdict length → IsCertifiedVerdictBy kind by inst sol cert verdict → StandsAgainstCertificate by inst cert reason
+none_by_kind : (by : CertificateKind) (kind : Option Kind) (inst sol cert : Fields) (verdict : Verdict) (length : ℤ) (reason : Reason)
+    → HasLength verdict length → IsCertifiedVerdictBy kind by inst sol cert verdict → AppliesToCertificate by inst cert reason
     → ⊥
-none_by_kind by (Some kinds.Cvrp) inst sol cert verdict length reason has accepted stands =
-    none_of_routes by inst sol cert verdict length reason has accepted stands
-none_by_kind by (Some kinds.Tsp) inst sol cert verdict length reason has accepted stands =
-    none_of_tour by inst sol cert verdict length reason has accepted stands
-none_by_kind by (Some kinds.Atsp) inst sol cert verdict length reason has accepted stands =
-    none_of_tour by inst sol cert verdict length reason has accepted stands
-none_by_kind by (Some kinds.Tour) inst sol cert verdict length reason has accepted stands =
-    none_of_tour by inst sol cert verdict length reason has accepted stands
-none_by_kind by (Some kinds.Potentials) inst sol cert verdict length reason has accepted stands =
-    none_of_tour by inst sol cert verdict length reason has accepted stands
-none_by_kind by (Some kinds.Branches) inst sol cert verdict length reason has accepted stands =
-    none_of_tour by inst sol cert verdict length reason has accepted stands
-none_by_kind by None inst sol cert verdict length reason has accepted stands =
-    none_of_tour by inst sol cert verdict length reason has accepted stands
+none_by_kind by (Some kinds.Cvrp) inst sol cert verdict length reason has accepted applies =
+    none_of_routes by inst sol cert verdict length reason has accepted applies
+none_by_kind by (Some kinds.Tsp) inst sol cert verdict length reason has accepted applies =
+    none_of_tour by inst sol cert verdict length reason has accepted applies
+none_by_kind by (Some kinds.Atsp) inst sol cert verdict length reason has accepted applies =
+    none_of_tour by inst sol cert verdict length reason has accepted applies
+none_by_kind by (Some kinds.Tour) inst sol cert verdict length reason has accepted applies =
+    none_of_tour by inst sol cert verdict length reason has accepted applies
+none_by_kind by (Some kinds.Potentials) inst sol cert verdict length reason has accepted applies =
+    none_of_tour by inst sol cert verdict length reason has accepted applies
+none_by_kind by (Some kinds.Branches) inst sol cert verdict length reason has accepted applies =
+    none_of_tour by inst sol cert verdict length reason has accepted applies
+none_by_kind by None inst sol cert verdict length reason has accepted applies =
+    none_of_tour by inst sol cert verdict length reason has accepted applies
 
-none_against : (given : Option (Certificate × Fields)) (inst sol : Fields) (verdict : Verdict) (length : ℤ) (reason : Reason)
+none_against : (given : Option (CertificateKind × Fields)) (inst sol : Fields) (verdict : Verdict) (length : ℤ) (reason : Reason)
     → HasLength verdict length → IsUnclaimedVerdict given inst sol verdict → IsFirstAgainstGiven given inst reason → ⊥
 none_against None inst sol verdict length reason has accepted first = first
 none_against (Some given) inst sol verdict length reason has accepted first =
-    none_by_kind given.0 inst.kind inst sol given.1 verdict length reason has accepted first.stands
+    none_by_kind given.0 inst.kind inst sol given.1 verdict length reason has accepted first.applies
 
-never_both : (claim : ℤ) (given : Option (Certificate × Fields)) (inst sol : Fields) (reason : Reason) (verdict : Verdict)
+never_both : (claim : ℤ) (given : Option (CertificateKind × Fields)) (inst sol : Fields) (reason : Reason) (verdict : Verdict)
     (length : ℤ)
     → HasLength verdict length → IsClaimedVerdict claim given inst sol (No reason) → IsUnclaimedVerdict given inst sol verdict
     → claim ≡ length → ⊥
@@ -440,15 +440,15 @@ never_both claim given inst sol reason verdict length has (inr (inl other)) acce
 never_both claim given inst sol reason verdict length has (inr (inr against)) accepted is =
     none_against given inst sol verdict length reason has accepted against.1
 
-one_against_given : Laws → (given : Option (Certificate × Fields)) (inst : Fields) (a b : Reason)
+one_against_given : Laws → (given : Option (CertificateKind × Fields)) (inst : Fields) (a b : Reason)
     → IsFirstAgainstGiven given inst a
     → IsFirstAgainstGiven given inst b → a ≡ b
 one_against_given laws None inst a b one other = absurd one
 one_against_given laws (Some given) inst a b one other =
-    one_first (StandsAgainstCertificate given.0 inst given.1) (certificates_by_rank laws.numbers given.0 inst given.1) a b one
+    one_first (AppliesToCertificate given.0 inst given.1) (certificates_by_rank laws.numbers given.0 inst given.1) a b one
     other
 
-one_refused : Laws → (claim : ℤ) (given : Option (Certificate × Fields)) (inst sol : Fields) (a b : Reason)
+one_refused : Laws → (claim : ℤ) (given : Option (CertificateKind × Fields)) (inst sol : Fields) (a b : Reason)
     → IsClaimedVerdict claim given inst sol (No a) → IsClaimedVerdict claim given inst sol (No b) → No a ≡ No b
 one_refused laws claim given inst sol a b (inl one) (inl other) = one_alone inst sol (No a) (No b) one other
 one_refused laws claim given inst sol a b (inl one) (inr (inl other)) = absurd (never_refused inst sol other.0 a other.1 one)
@@ -464,7 +464,7 @@ one_refused laws claim given inst sol a b (inr (inr one)) (inr (inl other)) =
 one_refused laws claim given inst sol a b (inr (inr one)) (inr (inr other)) =
     ap No (one_against_given laws given inst a b one.1 other.1)
 
-one_claimed : Laws → (claim : ℤ) (given : Option (Certificate × Fields)) (inst sol : Fields) (one other : Verdict)
+one_claimed : Laws → (claim : ℤ) (given : Option (CertificateKind × Fields)) (inst sol : Fields) (one other : Verdict)
     → IsClaimedVerdict claim given inst sol one → IsClaimedVerdict claim given inst sol other → one ≡ other
 one_claimed laws claim given inst sol (No a) (No b) one other = one_refused laws claim given inst sol a b one other
 one_claimed laws claim given inst sol (No a) (Tour length bound) one other =
@@ -490,138 +490,138 @@ one_verdict laws given (Some claim) inst sol one other first second = one_claime
 
 -- ---- what is known of all solutions
 
-one_of_tours : (inst : Fields) (one other : Basis) → IsBasisOfTours inst one → IsBasisOfTours inst other → one ≡ other
-one_of_tours inst (bases.Tours None) (bases.Tours None) one other = refl
-one_of_tours inst (bases.Tours None) (bases.Tours (Some bound)) one other = absurd other
-one_of_tours inst (bases.Tours None) bases.NoSolution one other = absurd other
-one_of_tours inst (bases.Tours None) (bases.Routes least bound) one other = absurd other
-one_of_tours inst (bases.Tours None) (bases.No reason) one other = absurd (one reason other.stands)
-one_of_tours inst (bases.Tours (Some bound)) other one second = absurd one
-one_of_tours inst bases.NoSolution other one second = absurd one
-one_of_tours inst (bases.Routes least bound) other one second = absurd one
-one_of_tours inst (bases.No reason) (bases.Tours None) one other = absurd (other reason one.stands)
-one_of_tours inst (bases.No reason) (bases.Tours (Some bound)) one other = absurd other
-one_of_tours inst (bases.No reason) bases.NoSolution one other = absurd other
-one_of_tours inst (bases.No reason) (bases.Routes least bound) one other = absurd other
-one_of_tours inst (bases.No a) (bases.No b) one other =
-    ap bases.No (one_first (StandsAgainstTouring inst) (instances_by_rank inst) a b one other)
+one_of_tours : (inst : Fields) (one other : KnownBound) → IsKnownBoundOfTours inst one → IsKnownBoundOfTours inst other → one ≡ other
+one_of_tours inst (known_bounds.Tours None) (known_bounds.Tours None) one other = refl
+one_of_tours inst (known_bounds.Tours None) (known_bounds.Tours (Some bound)) one other = absurd other
+one_of_tours inst (known_bounds.Tours None) known_bounds.NoSolution one other = absurd other
+one_of_tours inst (known_bounds.Tours None) (known_bounds.Routes least bound) one other = absurd other
+one_of_tours inst (known_bounds.Tours None) (known_bounds.No reason) one other = absurd (one reason other.applies)
+one_of_tours inst (known_bounds.Tours (Some bound)) other one second = absurd one
+one_of_tours inst known_bounds.NoSolution other one second = absurd one
+one_of_tours inst (known_bounds.Routes least bound) other one second = absurd one
+one_of_tours inst (known_bounds.No reason) (known_bounds.Tours None) one other = absurd (other reason one.applies)
+one_of_tours inst (known_bounds.No reason) (known_bounds.Tours (Some bound)) one other = absurd other
+one_of_tours inst (known_bounds.No reason) known_bounds.NoSolution one other = absurd other
+one_of_tours inst (known_bounds.No reason) (known_bounds.Routes least bound) one other = absurd other
+one_of_tours inst (known_bounds.No a) (known_bounds.No b) one other =
+    ap known_bounds.No (one_first (AppliesToTouring inst) (instances_by_rank inst) a b one other)
 
-one_of_routes : (inst : Fields) (one other : Basis) → IsBasisOfRoutes inst one → IsBasisOfRoutes inst other → one ≡ other
-one_of_routes inst (bases.Tours bound) other one second = absurd one
-one_of_routes inst bases.NoSolution other one second = absurd one
-one_of_routes inst (bases.Routes least (Some bound)) other one second = absurd one
-one_of_routes inst (bases.Routes least None) (bases.Tours bound) one other = absurd other
-one_of_routes inst (bases.Routes least None) bases.NoSolution one other = absurd other
-one_of_routes inst (bases.Routes a None) (bases.Routes b None) one other =
-    ap (λ least. bases.Routes least None) (one_least (total_of inst) (capacity_of inst) a b one.1 other.1)
-one_of_routes inst (bases.Routes least None) (bases.Routes other (Some bound)) one second = absurd second
-one_of_routes inst (bases.Routes least None) (bases.No reason) one other = absurd (one.0 reason other.stands)
-one_of_routes inst (bases.No reason) (bases.Tours bound) one other = absurd other
-one_of_routes inst (bases.No reason) bases.NoSolution one other = absurd other
-one_of_routes inst (bases.No reason) (bases.Routes least None) one other = absurd (other.0 reason one.stands)
-one_of_routes inst (bases.No reason) (bases.Routes least (Some bound)) one other = absurd other
-one_of_routes inst (bases.No a) (bases.No b) one other =
-    ap bases.No (one_first (StandsAgainstRouting inst) (routings_by_rank inst) a b one other)
+one_of_routes : (inst : Fields) (one other : KnownBound) → IsKnownBoundOfRoutes inst one → IsKnownBoundOfRoutes inst other → one ≡ other
+one_of_routes inst (known_bounds.Tours bound) other one second = absurd one
+one_of_routes inst known_bounds.NoSolution other one second = absurd one
+one_of_routes inst (known_bounds.Routes least (Some bound)) other one second = absurd one
+one_of_routes inst (known_bounds.Routes least None) (known_bounds.Tours bound) one other = absurd other
+one_of_routes inst (known_bounds.Routes least None) known_bounds.NoSolution one other = absurd other
+one_of_routes inst (known_bounds.Routes a None) (known_bounds.Routes b None) one other =
+    ap (λ least. known_bounds.Routes least None) (one_least (total_of inst) (capacity_of inst) a b one.1 other.1)
+one_of_routes inst (known_bounds.Routes least None) (known_bounds.Routes other (Some bound)) one second = absurd second
+one_of_routes inst (known_bounds.Routes least None) (known_bounds.No reason) one other = absurd (one.0 reason other.applies)
+one_of_routes inst (known_bounds.No reason) (known_bounds.Tours bound) one other = absurd other
+one_of_routes inst (known_bounds.No reason) known_bounds.NoSolution one other = absurd other
+one_of_routes inst (known_bounds.No reason) (known_bounds.Routes least None) one other = absurd (other.0 reason one.applies)
+one_of_routes inst (known_bounds.No reason) (known_bounds.Routes least (Some bound)) one other = absurd other
+one_of_routes inst (known_bounds.No a) (known_bounds.No b) one other =
+    ap known_bounds.No (one_first (AppliesToRouting inst) (routings_by_rank inst) a b one other)
 
-one_basis_alone : (kind : Option Kind) (inst : Fields) (one other : Basis) → IsBasisAlone kind inst one
-    → IsBasisAlone kind inst other
+one_known_bound_alone : (kind : Option Kind) (inst : Fields) (one other : KnownBound) → IsKnownBoundAlone kind inst one
+    → IsKnownBoundAlone kind inst other
     → one ≡ other
-one_basis_alone (Some kinds.Tsp) inst one other first second = one_of_tours inst one other first second
-one_basis_alone (Some kinds.Atsp) inst one other first second = one_of_tours inst one other first second
-one_basis_alone (Some kinds.Cvrp) inst one other first second = one_of_routes inst one other first second
-one_basis_alone (Some kinds.Tour) inst one other first second = absurd first
-one_basis_alone (Some kinds.Potentials) inst one other first second = absurd first
-one_basis_alone (Some kinds.Branches) inst one other first second = absurd first
-one_basis_alone None inst one other first second = absurd first
+one_known_bound_alone (Some kinds.Tsp) inst one other first second = one_of_tours inst one other first second
+one_known_bound_alone (Some kinds.Atsp) inst one other first second = one_of_tours inst one other first second
+one_known_bound_alone (Some kinds.Cvrp) inst one other first second = one_of_routes inst one other first second
+one_known_bound_alone (Some kinds.Tour) inst one other first second = absurd first
+one_known_bound_alone (Some kinds.Potentials) inst one other first second = absurd first
+one_known_bound_alone (Some kinds.Branches) inst one other first second = absurd first
+one_known_bound_alone None inst one other first second = absurd first
 
 -- a basis with a certificate is what a bound without a solution says
-abbrev basis_of_bound : BoundVerdict → Basis
-basis_of_bound (bounds.Bound bound) = bases.Tours (Some bound)
-basis_of_bound bounds.NoSolution = bases.NoSolution
-basis_of_bound (bounds.No reason) = bases.No reason
+abbrev known_bound_of_bound : BoundVerdict → KnownBound
+known_bound_of_bound (bounds.Bound bound) = known_bounds.Tours (Some bound)
+known_bound_of_bound bounds.NoSolution = known_bounds.NoSolution
+known_bound_of_bound (bounds.No reason) = known_bounds.No reason
 
-said_by : (by : Certificate) (inst cert : Fields) (basis : Basis) → IsBasisOfToursBy by inst cert basis
-    → (verdict : BoundVerdict) × IsBoundVerdict by inst cert verdict × (basis ≡ basis_of_bound verdict)
-said_by by inst cert (bases.Tours None) is = absurd is
-said_by by inst cert (bases.Tours (Some bound)) is = (bounds.Bound bound, is, refl)
-said_by by inst cert bases.NoSolution is = (bounds.NoSolution, is, refl)
-said_by by inst cert (bases.Routes least bound) is = absurd is
-said_by by inst cert (bases.No reason) is = (bounds.No reason, is, refl)
+said_by : (by : CertificateKind) (inst cert : Fields) (known_bound : KnownBound) → IsKnownBoundOfToursBy by inst cert known_bound
+    → (verdict : BoundVerdict) × IsBoundVerdict by inst cert verdict × (known_bound ≡ known_bound_of_bound verdict)
+said_by by inst cert (known_bounds.Tours None) is = absurd is
+said_by by inst cert (known_bounds.Tours (Some bound)) is = (bounds.Bound bound, is, refl)
+said_by by inst cert known_bounds.NoSolution is = (bounds.NoSolution, is, refl)
+said_by by inst cert (known_bounds.Routes least bound) is = absurd is
+said_by by inst cert (known_bounds.No reason) is = (bounds.No reason, is, refl)
 
-one_basis_of_tours : Laws → (by : Certificate) (inst cert : Fields) (one other : Basis) → IsBasisOfToursBy by inst cert one
-    → IsBasisOfToursBy by inst cert other → one ≡ other
-one_basis_of_tours laws by inst cert one other first second =
+one_known_bound_of_tours : Laws → (by : CertificateKind) (inst cert : Fields) (one other : KnownBound) → IsKnownBoundOfToursBy by inst cert one
+    → IsKnownBoundOfToursBy by inst cert other → one ≡ other
+one_known_bound_of_tours laws by inst cert one other first second =
     let said = said_by by inst cert one first in
     let again = said_by by inst cert other second in
-    said.2 ∙ ap basis_of_bound (one_bound laws by inst cert said.0 again.0 said.1 again.1) ∙ sym again.2
+    said.2 ∙ ap known_bound_of_bound (one_bound laws by inst cert said.0 again.0 said.1 again.1) ∙ sym again.2
 
 -- of routes with the least number of routes beside it
-abbrev routes_of_bound : ℕ → BoundVerdict → Basis
-routes_of_bound least (bounds.Bound bound) = bases.Routes least (Some bound)
-routes_of_bound least bounds.NoSolution = bases.NoSolution
-routes_of_bound least (bounds.No reason) = bases.No reason
+abbrev routes_of_bound : ℕ → BoundVerdict → KnownBound
+routes_of_bound least (bounds.Bound bound) = known_bounds.Routes least (Some bound)
+routes_of_bound least bounds.NoSolution = known_bounds.NoSolution
+routes_of_bound least (bounds.No reason) = known_bounds.No reason
 
-routes_said_by : (by : Certificate) (inst cert : Fields) (basis : Basis) → IsBasisOfRoutesBy by inst cert basis
+routes_said_by : (by : CertificateKind) (inst cert : Fields) (known_bound : KnownBound) → IsKnownBoundOfRoutesBy by inst cert known_bound
     → (verdict : BoundVerdict) × IsBoundVerdict by inst cert verdict
-    × ((least : ℕ) → IsLeastRoutes (total_of inst) (capacity_of inst) least → basis ≡ routes_of_bound least verdict)
-routes_said_by by inst cert (bases.Routes own None) is = absurd is
-routes_said_by by inst cert (bases.Routes own (Some bound)) is = (
+    × ((least : ℕ) → IsLeastRoutes (total_of inst) (capacity_of inst) least → known_bound ≡ routes_of_bound least verdict)
+routes_said_by by inst cert (known_bounds.Routes own None) is = absurd is
+routes_said_by by inst cert (known_bounds.Routes own (Some bound)) is = (
   bounds.Bound bound,
   is.0,
-  λ least is_least. ap (λ k. bases.Routes k (Some bound)) (one_least (total_of inst) (capacity_of inst) own least is.1 is_least),
+  λ least is_least. ap (λ k. known_bounds.Routes k (Some bound)) (one_least (total_of inst) (capacity_of inst) own least is.1 is_least),
 )
-routes_said_by by inst cert bases.NoSolution is = (bounds.NoSolution, is, λ least is_least. refl)
-routes_said_by by inst cert (bases.Tours bound) is = absurd is
-routes_said_by by inst cert (bases.No reason) is = (bounds.No reason, is, λ least is_least. refl)
+routes_said_by by inst cert known_bounds.NoSolution is = (bounds.NoSolution, is, λ least is_least. refl)
+routes_said_by by inst cert (known_bounds.Tours bound) is = absurd is
+routes_said_by by inst cert (known_bounds.No reason) is = (bounds.No reason, is, λ least is_least. refl)
 
 -- plan: by the two bases; bounds and least numbers are one each
-one_basis_of_routes : Laws → (by : Certificate) (inst cert : Fields) (one other : Basis) → IsBasisOfRoutesBy by inst cert one
-    → IsBasisOfRoutesBy by inst cert other → one ≡ other
-one_basis_of_routes laws by inst cert (bases.Routes least None) other first second = absurd first
-one_basis_of_routes laws by inst cert (bases.Tours bound) other first second = absurd first
-one_basis_of_routes laws by inst cert (bases.Routes least (Some bound)) other first second =
+one_known_bound_of_routes : Laws → (by : CertificateKind) (inst cert : Fields) (one other : KnownBound) → IsKnownBoundOfRoutesBy by inst cert one
+    → IsKnownBoundOfRoutesBy by inst cert other → one ≡ other
+one_known_bound_of_routes laws by inst cert (known_bounds.Routes least None) other first second = absurd first
+one_known_bound_of_routes laws by inst cert (known_bounds.Tours bound) other first second = absurd first
+one_known_bound_of_routes laws by inst cert (known_bounds.Routes least (Some bound)) other first second =
     let again = routes_said_by by inst cert other second in
     sym (again.2 least first.1 ∙ ap (routes_of_bound least)
     (one_bound laws by inst cert again.0 (bounds.Bound bound) again.1 first.0))
-one_basis_of_routes laws by inst cert bases.NoSolution (bases.Routes least (Some bound)) first second =
+one_known_bound_of_routes laws by inst cert known_bounds.NoSolution (known_bounds.Routes least (Some bound)) first second =
     absurd (never_none laws by inst cert bound second.0 first)
-one_basis_of_routes laws by inst cert bases.NoSolution (bases.Routes least None) first second = absurd second
-one_basis_of_routes laws by inst cert bases.NoSolution (bases.Tours bound) first second = absurd second
-one_basis_of_routes laws by inst cert bases.NoSolution bases.NoSolution first second = refl
-one_basis_of_routes laws by inst cert bases.NoSolution (bases.No reason) first second = absurd (first.0 reason second.stands)
-one_basis_of_routes laws by inst cert (bases.No reason) (bases.Routes least (Some bound)) first second =
-    absurd (second.0.0 reason first.stands)
-one_basis_of_routes laws by inst cert (bases.No reason) (bases.Routes least None) first second = absurd second
-one_basis_of_routes laws by inst cert (bases.No reason) (bases.Tours bound) first second = absurd second
-one_basis_of_routes laws by inst cert (bases.No reason) bases.NoSolution first second = absurd (second.0 reason first.stands)
-one_basis_of_routes laws by inst cert (bases.No a) (bases.No b) first second =
-    ap basis_of_bound (one_bound laws by inst cert (bounds.No a) (bounds.No b) first second)
+one_known_bound_of_routes laws by inst cert known_bounds.NoSolution (known_bounds.Routes least None) first second = absurd second
+one_known_bound_of_routes laws by inst cert known_bounds.NoSolution (known_bounds.Tours bound) first second = absurd second
+one_known_bound_of_routes laws by inst cert known_bounds.NoSolution known_bounds.NoSolution first second = refl
+one_known_bound_of_routes laws by inst cert known_bounds.NoSolution (known_bounds.No reason) first second = absurd (first.0 reason second.applies)
+one_known_bound_of_routes laws by inst cert (known_bounds.No reason) (known_bounds.Routes least (Some bound)) first second =
+    absurd (second.0.0 reason first.applies)
+one_known_bound_of_routes laws by inst cert (known_bounds.No reason) (known_bounds.Routes least None) first second = absurd second
+one_known_bound_of_routes laws by inst cert (known_bounds.No reason) (known_bounds.Tours bound) first second = absurd second
+one_known_bound_of_routes laws by inst cert (known_bounds.No reason) known_bounds.NoSolution first second = absurd (second.0 reason first.applies)
+one_known_bound_of_routes laws by inst cert (known_bounds.No a) (known_bounds.No b) first second =
+    ap known_bound_of_bound (one_bound laws by inst cert (bounds.No a) (bounds.No b) first second)
 
-one_basis_by : Laws → (kind : Option Kind) (by : Certificate) (inst cert : Fields) (one other : Basis)
-    → IsBasisBy kind by inst cert one → IsBasisBy kind by inst cert other → one ≡ other
-one_basis_by laws (Some kinds.Cvrp) by inst cert one other first second =
-    one_basis_of_routes laws by inst cert one other first second
-one_basis_by laws (Some kinds.Tsp) by inst cert one other first second =
-    one_basis_of_tours laws by inst cert one other first second
-one_basis_by laws (Some kinds.Atsp) by inst cert one other first second =
-    one_basis_of_tours laws by inst cert one other first second
-one_basis_by laws (Some kinds.Tour) by inst cert one other first second =
-    one_basis_of_tours laws by inst cert one other first second
-one_basis_by laws (Some kinds.Potentials) by inst cert one other first second =
-    one_basis_of_tours laws by inst cert one other first second
-one_basis_by laws (Some kinds.Branches) by inst cert one other first second =
-    one_basis_of_tours laws by inst cert one other first second
-one_basis_by laws None by inst cert one other first second = one_basis_of_tours laws by inst cert one other first second
+one_known_bound_by : Laws → (kind : Option Kind) (by : CertificateKind) (inst cert : Fields) (one other : KnownBound)
+    → IsKnownBoundBy kind by inst cert one → IsKnownBoundBy kind by inst cert other → one ≡ other
+one_known_bound_by laws (Some kinds.Cvrp) by inst cert one other first second =
+    one_known_bound_of_routes laws by inst cert one other first second
+one_known_bound_by laws (Some kinds.Tsp) by inst cert one other first second =
+    one_known_bound_of_tours laws by inst cert one other first second
+one_known_bound_by laws (Some kinds.Atsp) by inst cert one other first second =
+    one_known_bound_of_tours laws by inst cert one other first second
+one_known_bound_by laws (Some kinds.Tour) by inst cert one other first second =
+    one_known_bound_of_tours laws by inst cert one other first second
+one_known_bound_by laws (Some kinds.Potentials) by inst cert one other first second =
+    one_known_bound_of_tours laws by inst cert one other first second
+one_known_bound_by laws (Some kinds.Branches) by inst cert one other first second =
+    one_known_bound_of_tours laws by inst cert one other first second
+one_known_bound_by laws None by inst cert one other first second = one_known_bound_of_tours laws by inst cert one other first second
 
-one_basis_with : Laws → (given : Option (Certificate × Fields)) (inst : Fields) (one other : Basis) → IsBasisWith given inst one
-    → IsBasisWith given inst other → one ≡ other
-one_basis_with laws None inst one other first second = one_basis_alone inst.kind inst one other first second
-one_basis_with laws (Some given) inst one other first second =
-    one_basis_by laws inst.kind given.0 inst given.1 one other first second
+one_known_bound_with : Laws → (given : Option (CertificateKind × Fields)) (inst : Fields) (one other : KnownBound) → IsKnownBoundWith given inst one
+    → IsKnownBoundWith given inst other → one ≡ other
+one_known_bound_with laws None inst one other first second = one_known_bound_alone inst.kind inst one other first second
+one_known_bound_with laws (Some given) inst one other first second =
+    one_known_bound_by laws inst.kind given.0 inst given.1 one other first second
 
-pub one_basis : Laws → FilesHaveOneBasis
-one_basis laws given inst one other first second = one_basis_with laws given inst one other first.1 second.1
+pub one_known_bound : Laws → FilesHaveOneKnownBound
+one_known_bound laws given inst one other first second = one_known_bound_with laws given inst one other first.1 second.1
 
 pub one_of_solution : Laws → SolutionsHaveOneVerdict
-one_of_solution laws given basis claimed inst sol one other is first second =
+one_of_solution laws given known_bound claimed inst sol one other is first second =
     one_verdict laws given claimed inst sol one other (first.1 given is) (second.1 given is)

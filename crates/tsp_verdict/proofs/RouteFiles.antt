@@ -58,11 +58,11 @@ count_more (r ∷ routes) (suc i) route lt is =
     ))
 
 -- the two facts above, with the nodes as the code counts them
-pub stands_here : (routes : List (Vec ℕ)) (i before : ℕ) (route : Vec ℕ) (nodes : List ℕ) → i < length routes
+pub applies_here : (routes : List (Vec ℕ)) (i before : ℕ) (route : Vec ℕ) (nodes : List ℕ) → i < length routes
     → route ≡ get_or routes i route
     → before ≡ length (nodes_in (take i routes)) → nodes ≡ route.items
     → StandsAfter before (nodes_in routes) nodes
-stands_here routes i before route nodes lt is counted same =
+applies_here routes i before route nodes lt is counted same =
     subst (λ (b : ℕ). StandsAfter b (nodes_in routes) nodes) (sym counted)
     (subst (λ (xs : List ℕ). StandsAfter (length (nodes_in (take i routes))) (nodes_in routes) xs) (sym same)
     (route_stands routes i route lt is))
@@ -79,14 +79,14 @@ pub first_after : (P Q : ℕ → Type 0) (nodes piece : List ℕ) (before place 
     → StandsAfter before nodes piece
     → ((k d : ℕ) → k < before → Q (slice_index_or nodes k d)) → IsFirstPlace (λ k. P (node_at piece k)) piece place
     → IsFirstPlace (λ k. P (node_at nodes k)) nodes (before + place)
-first_after P Q nodes piece before place apart stands none first = record {
-  here = (omega (arith, first.here.0), omega (arith, first.here.1, stands.inside));
+first_after P Q nodes piece before place apart applies none first = record {
+  here = (omega (arith, first.here.0), omega (arith, first.here.1, applies.inside));
   holds = subst P (at_place place first.here.0 first.here.1) first.holds;
   first = λ earlier low less. earlier_out earlier low less (cases_lt before earlier);
 }
   where
     at_place : (k : ℕ) → 1 ≤ k → k ≤ length piece → node_at piece k ≡ node_at nodes (before + k)
-    at_place k low high = sym (stands.same (k - 1) (omega (arith, low, high))) ∙ ap (λ j. get_or nodes j 0) (omega (arith, low))
+    at_place k low high = sym (applies.same (k - 1) (omega (arith, low, high))) ∙ ap (λ j. get_or nodes j 0) (omega (arith, low))
 
     earlier_out : (earlier : ℕ) → 1 ≤ earlier → earlier < before + place → (before < earlier) ⊎ (earlier ≤ before)
         → P (node_at nodes earlier) → ⊥
@@ -101,7 +101,7 @@ first_after P Q nodes piece before place apart stands none first = record {
 pub all_more : (Q : ℕ → Type 0) (nodes piece : List ℕ) (before : ℕ) → StandsAfter before nodes piece
     → ((k d : ℕ) → k < before → Q (slice_index_or nodes k d)) → All Q piece
     → (k d : ℕ) → k < before + length piece → Q (slice_index_or nodes k d)
-all_more Q nodes piece before stands so_far all k d less = by_place (cases_lt k before)
+all_more Q nodes piece before applies so_far all k d less = by_place (cases_lt k before)
   where
     by_place : (k < before) ⊎ (before ≤ k) → Q (slice_index_or nodes k d)
     by_place (inl lt) = so_far k d lt
@@ -109,8 +109,8 @@ all_more Q nodes piece before stands so_far all k d less = by_place (cases_lt k 
         let j : ℕ = k - before in
         let is : before + j ≡ k = omega (arith, le) in
         let inside : j < length piece = omega (arith, less, le) in
-        let same : get_or nodes k d ≡ get_or piece j 0 = get_or_default nodes k d 0 (omega (arith, stands.inside, inside, is))
-        ∙ ap (λ i. get_or nodes i 0) (sym is) ∙ stands.same j inside in
+        let same : get_or nodes k d ≡ get_or piece j 0 = get_or_default nodes k d 0 (omega (arith, applies.inside, inside, is))
+        ∙ ap (λ i. get_or nodes i 0) (sym is) ∙ applies.same j inside in
         subst Q (sym same) (all j 0 inside)
 
 -- the nodes of the routes, as the definitions list them
@@ -120,9 +120,9 @@ nodes_in_is (r ∷ routes) = ap (λ (xs : List ℕ). r.items ++ xs) (nodes_in_is
 
 -- what holds of all nodes holds of those of a route
 pub all_here : (Q : ℕ → Type 0) (nodes piece : List ℕ) (before : ℕ) → StandsAfter before nodes piece → All Q nodes → All Q piece
-all_here Q nodes piece before stands all k d lt =
-    let same : get_or nodes (before + k) 0 ≡ get_or piece k d = stands.same k lt ∙ get_or_default piece k 0 d lt in
-    subst Q same (all (before + k) 0 (omega (arith, lt, stands.inside)))
+all_here Q nodes piece before applies all k d lt =
+    let same : get_or nodes (before + k) 0 ≡ get_or piece k d = applies.same k lt ∙ get_or_default piece k 0 d lt in
+    subst Q same (all (before + k) 0 (omega (arith, lt, applies.inside)))
 
 -- ---- the tours and the steps that a valid file lends are on nodes that it has
 

@@ -21,13 +21,13 @@ use Rattle.tsp_theory.specs.Tour.{demand_of, load_of, IsCustomer, plan_length, I
 use Rattle.tsp_cost.specs.Problems.{depot_of, demands_of, capacity_of, routing_of}
 use Rattle.tsp_cases.specs.ListedCases.{leaf_changes}
 use Rattle.tsp_cases.specs.declared.family.Crossings.{Crossings}
-use Rattle.tsp_routing.specs.PlanLinks.{AreUnits, room_in}
+use Rattle.tsp_routing.specs.PlanLinks.{AreUnits, capacity_in_parts}
 use Rattle.tsp_routing.specs.PlanVerdicts.{IsFirstBadSet, AreCapacityCuts, AreGoodBranches, IsFirstBadPlanBranch, AreGoodPlanLeaves, IsFirstBadPlanLeaf, routing_with, most_entries, HasTooManyLoads, IsBoundFound, IsPlanVerdict, VerdictBoundsPlans}
 use Rattle.tsp_routing.specs.declared.verdict.PlanVerdict.{PlanVerdict}
 use Rattle.tsp_routing.specs.declared.verdict.PlanVerdict.TheVariants as found
 use Rattle.tsp_routing.specs.states.LeafWeights.{IsPlanStep}
 use Rattle.tsp_report.specs.Verdicts.{rank_of}
-use Rattle.tsp_report.specs.declared.task.Certificate.TheVariants.{Branches}
+use Rattle.tsp_report.specs.declared.task.CertificateKind.TheVariants.{Branches}
 use Rattle.tsp_report.specs.declared.verdict.BoundVerdict.TheVariants as bounds
 use Rattle.tsp_report.specs.declared.verdict.Reason.{Reason}
 use Rattle.tsp_report.specs.declared.verdict.Reason.TheVariants.{DepotCount, DepotDemand, FixedEdgesInRoutes, NotPotentials, PotentialsDimension, PotentialsKind, MultiplierNotFixed, MultiplierRepeated, DualInfeasible, NotSymmetric, TourCount, TourLength, NodeOutOfRange, RepeatedNode, FixedEdgeUnused, DepotInRoute, Unserved, Overload, NotBranches, BranchesDimension, BadComb, BadBranch, BranchTwice, BadLeaf, TooManyLoads, LengthClaimed, NotJudged}
@@ -36,77 +36,77 @@ use Rattle.tsp_verdict.proofs.CarriedBounds.{fitting}
 use Rattle.tsp_verdict.proofs.OneReason.{one_value}
 use Rattle.tsp_verdict.proofs.RouteFiles.{demand_low, none_fewer}
 use Rattle.tsp_verdict.proofs.TourVerdicts.{all_apart, marked_there, there_marked}
-use Rattle.tsp_verdict.specs.Certificates.{unit_in, StandsAgainstWalks, HasBoundByWalks}
-use Rattle.tsp_verdict.specs.Certified.{StandsAgainstRouting, NoneAgainstRouting, IsBoundBy, HasNoBoundBy, BoundsSolutionsBy, HasNoSolutionBy, StandsAgainstCertificateBy, StandsAgainstCertificate, FindsBound}
-use Rattle.tsp_verdict.specs.Solutions.{IsFirstPlace, IsLarger, IsAt, IsAtEarlierPlace, visited, tours_of, NoneBefore, IsFirstUnserved, IsOverloaded, StandsAgainstRoutes, NoneOfRoutesBefore, NoneOfRoutesBeforePlaces, total_of, AreCustomers, IsFirstAgainstRoutes, IsRoutesVerdict, IsFirstReason}
+use Rattle.tsp_verdict.specs.Certificates.{unit_in, AppliesToQRoutes, HasBoundByQRoutes}
+use Rattle.tsp_verdict.specs.Certified.{AppliesToRouting, NoneAgainstRouting, IsBoundBy, HasNoBoundBy, BoundsSolutionsBy, HasNoSolutionBy, AppliesToCertificateBy, AppliesToCertificate, FindsBound}
+use Rattle.tsp_verdict.specs.Solutions.{IsFirstPlace, IsLarger, IsAt, IsAtEarlierPlace, visited, tours_of, NoneBefore, IsFirstUnserved, IsOverloaded, AppliesToRoutes, NoneOfRoutesBefore, NoneOfRoutesBeforePlaces, total_of, AreCustomers, IsFirstAgainstRoutes, IsRoutesVerdict, IsFirstReason}
 use Rattle.tsp_verdict.specs.states.Marks.{Marked}
 
 -- ---- the reasons against the instance, whatever the routes
 
 up_to_places : (inst sol : Fields) (rank : ℕ) → rank ≤ rank_of (DepotInRoute 1) → NoneOfRoutesBefore inst sol DepotCount
-    → NoneBefore (StandsAgainstRouting inst) rank → NoneBefore (StandsAgainstRoutes inst sol) rank
-up_to_places inst sol rank few before none DepotCount low stands = none DepotCount low stands
-up_to_places inst sol rank few before none DepotDemand low stands = none DepotDemand low stands
-up_to_places inst sol rank few before none FixedEdgesInRoutes low stands = none FixedEdgesInRoutes low stands
-up_to_places inst sol rank few before none reason low stands = before reason (omega (arith, few, low)) stands
+    → NoneBefore (AppliesToRouting inst) rank → NoneBefore (AppliesToRoutes inst sol) rank
+up_to_places inst sol rank few before none DepotCount low applies = none DepotCount low applies
+up_to_places inst sol rank few before none DepotDemand low applies = none DepotDemand low applies
+up_to_places inst sol rank few before none FixedEdgesInRoutes low applies = none FixedEdgesInRoutes low applies
+up_to_places inst sol rank few before none reason low applies = before reason (omega (arith, few, low)) applies
 
 -- where none applies, the nodes of the routes are judged next
 pub after_routing : (inst sol : Fields) → NoneOfRoutesBefore inst sol DepotCount → NoneAgainstRouting inst
     → NoneOfRoutesBeforePlaces inst sol
 after_routing inst sol before none place =
-    up_to_places inst sol (rank_of (DepotInRoute 1)) (omega arith) before (λ reason low stands. none reason stands)
+    up_to_places inst sol (rank_of (DepotInRoute 1)) (omega arith) before (λ reason low applies. none reason applies)
 
 -- ---- the reasons against routes
 
 pub after_depot : (inst sol : Fields) → NoneOfRoutesBefore inst sol (DepotInRoute 1)
     → ((place : ℕ) → IsFirstPlace (IsAt (depot_of inst) (visited sol)) (visited sol) place → ⊥)
     → NoneOfRoutesBefore inst sol (NodeOutOfRange 1)
-after_depot inst sol before out (DepotInRoute place) low stands = out place stands
-after_depot inst sol before out reason low stands = before reason (omega (arith, low)) stands
+after_depot inst sol before out (DepotInRoute place) low applies = out place applies
+after_depot inst sol before out reason low applies = before reason (omega (arith, low)) applies
 
 pub after_range : (inst sol : Fields) → NoneOfRoutesBefore inst sol (NodeOutOfRange 1)
     → ((place : ℕ) → IsFirstPlace (IsLarger (nodes_of inst) (visited sol)) (visited sol) place → ⊥)
     → NoneOfRoutesBefore inst sol (RepeatedNode 1)
-after_range inst sol before inside (NodeOutOfRange place) low stands = inside place stands
-after_range inst sol before inside reason low stands = before reason (omega (arith, low)) stands
+after_range inst sol before inside (NodeOutOfRange place) low applies = inside place applies
+after_range inst sol before inside reason low applies = before reason (omega (arith, low)) applies
 
 pub after_repeats : (inst sol : Fields) → NoneOfRoutesBefore inst sol (RepeatedNode 1)
     → ((place : ℕ) → IsFirstPlace (IsAtEarlierPlace (visited sol)) (visited sol) place → ⊥)
     → NoneOfRoutesBefore inst sol (Unserved 1)
-after_repeats inst sol before once (RepeatedNode place) low stands = once place stands
-after_repeats inst sol before once (FixedEdgeUnused index) low stands = stands
-after_repeats inst sol before once reason low stands = before reason (omega (arith, low)) stands
+after_repeats inst sol before once (RepeatedNode place) low applies = once place applies
+after_repeats inst sol before once (FixedEdgeUnused index) low applies = applies
+after_repeats inst sol before once reason low applies = before reason (omega (arith, low)) applies
 
 pub after_served : (inst sol : Fields) → NoneOfRoutesBefore inst sol (Unserved 1)
     → ((node : ℕ) → IsFirstUnserved (nodes_of inst) (depot_of inst) (visited sol) node → ⊥)
     → NoneOfRoutesBefore inst sol (Overload 1)
-after_served inst sol before served (Unserved node) low stands = served node stands
-after_served inst sol before served reason low stands = before reason (omega (arith, low)) stands
+after_served inst sol before served (Unserved node) low applies = served node applies
+after_served inst sol before served reason low applies = before reason (omega (arith, low)) applies
 
 pub after_loads : (inst sol : Fields) → NoneOfRoutesBefore inst sol (Overload 1)
     → ((route : ℕ) → IsFirstPlace (IsOverloaded (demands_of inst) (capacity_of inst) (tours_of sol)) (tours_of sol) route → ⊥)
-    → (reason : Reason) → StandsAgainstRoutes inst sol reason → ⊥
-after_loads inst sol before carried (Overload route) stands = carried route stands
-after_loads inst sol before carried (NotSymmetric i j) stands = stands
-after_loads inst sol before carried TourCount stands = stands
-after_loads inst sol before carried TourLength stands = stands
-after_loads inst sol before carried (FixedEdgeUnused index) stands = stands
-after_loads inst sol before carried NotPotentials stands = stands
-after_loads inst sol before carried PotentialsDimension stands = stands
-after_loads inst sol before carried PotentialsKind stands = stands
-after_loads inst sol before carried (MultiplierNotFixed index) stands = stands
-after_loads inst sol before carried (MultiplierRepeated index) stands = stands
-after_loads inst sol before carried (DualInfeasible i j) stands = stands
-after_loads inst sol before carried NotBranches stands = stands
-after_loads inst sol before carried BranchesDimension stands = stands
-after_loads inst sol before carried (BadComb index) stands = stands
-after_loads inst sol before carried (BadBranch index) stands = stands
-after_loads inst sol before carried (BranchTwice index) stands = stands
-after_loads inst sol before carried (BadLeaf index) stands = stands
-after_loads inst sol before carried TooManyLoads stands = stands
-after_loads inst sol before carried (LengthClaimed length) stands = stands
-after_loads inst sol before carried NotJudged stands = stands
-after_loads inst sol before carried reason stands = before reason (omega arith) stands
+    → (reason : Reason) → AppliesToRoutes inst sol reason → ⊥
+after_loads inst sol before carried (Overload route) applies = carried route applies
+after_loads inst sol before carried (NotSymmetric i j) applies = applies
+after_loads inst sol before carried TourCount applies = applies
+after_loads inst sol before carried TourLength applies = applies
+after_loads inst sol before carried (FixedEdgeUnused index) applies = applies
+after_loads inst sol before carried NotPotentials applies = applies
+after_loads inst sol before carried PotentialsDimension applies = applies
+after_loads inst sol before carried PotentialsKind applies = applies
+after_loads inst sol before carried (MultiplierNotFixed index) applies = applies
+after_loads inst sol before carried (MultiplierRepeated index) applies = applies
+after_loads inst sol before carried (DualInfeasible i j) applies = applies
+after_loads inst sol before carried NotBranches applies = applies
+after_loads inst sol before carried BranchesDimension applies = applies
+after_loads inst sol before carried (BadComb index) applies = applies
+after_loads inst sol before carried (BadBranch index) applies = applies
+after_loads inst sol before carried (BranchTwice index) applies = applies
+after_loads inst sol before carried (BadLeaf index) applies = applies
+after_loads inst sol before carried TooManyLoads applies = applies
+after_loads inst sol before carried (LengthClaimed length) applies = applies
+after_loads inst sol before carried NotJudged applies = applies
+after_loads inst sol before carried reason applies = before reason (omega arith) applies
 
 -- ---- the verdict on routes
 
@@ -116,7 +116,7 @@ pub depot_first : (inst sol : Fields) (nodes : List ℕ) (depot place : ℕ) →
     → NoneOfRoutesBefore inst sol (DepotInRoute 1)
     → IsFirstPlace (IsAt depot nodes) nodes place → IsFirstAgainstRoutes inst sol (DepotInRoute place)
 depot_first inst sol nodes depot place are is none first = record {
-  stands = subst (λ d. IsFirstPlace (IsAt d (visited sol)) (visited sol) place) is
+  applies = subst (λ d. IsFirstPlace (IsAt d (visited sol)) (visited sol) place) is
       (subst (λ (xs : List ℕ). IsFirstPlace (IsAt depot xs) xs place) are first);
   none_before = none;
 }
@@ -133,7 +133,7 @@ pub larger_first : (inst sol : Fields) (nodes : List ℕ) (n place : ℕ) → no
     → NoneOfRoutesBefore inst sol (NodeOutOfRange 1)
     → IsFirstPlace (IsLarger n nodes) nodes place → IsFirstAgainstRoutes inst sol (NodeOutOfRange place)
 larger_first inst sol nodes n place are is none first = record {
-  stands = subst (λ m. IsFirstPlace (IsLarger m (visited sol)) (visited sol) place) is
+  applies = subst (λ m. IsFirstPlace (IsLarger m (visited sol)) (visited sol) place) is
       (subst (λ (xs : List ℕ). IsFirstPlace (IsLarger n xs) xs place) are first);
   none_before = none;
 }
@@ -164,7 +164,7 @@ pub repeated_first : (inst sol : Fields) (nodes : List ℕ) (place : ℕ) → no
     → IsFirstPlace (IsAtEarlierPlace nodes) nodes place
     → IsFirstAgainstRoutes inst sol (RepeatedNode place)
 repeated_first inst sol nodes place are none first = record {
-  stands = subst (λ (xs : List ℕ). IsFirstPlace (IsAtEarlierPlace xs) xs place) are first;
+  applies = subst (λ (xs : List ℕ). IsFirstPlace (IsAtEarlierPlace xs) xs place) are first;
   none_before = none;
 }
 
@@ -194,7 +194,7 @@ pub unserved_first : (inst sol : Fields) (seen : List Bool) (size depot node : �
     × ((other : ℕ) → 1 ≤ other → other < node → other ≢ depot → slice_index_or seen other false ≡ true)
     → IsFirstAgainstRoutes inst sol (Unserved node)
 unserved_first inst sol seen size depot node m is found = record {
-  stands = record {
+  applies = record {
     customer = ((found.0, omega (arith, found.1, m.wide)), λ same. found.2 (same ∙ sym is));
     unserved = λ there. false≢true (sym found.3 ∙ there_marked (visited sol) seen node m.marks there);
     first = λ other customer less. marked_there (visited sol) seen other m.marks
@@ -223,7 +223,7 @@ pub overload_first : (inst sol : Fields) (routes : List (List ℕ)) (demands : L
     → NoneOfRoutesBefore inst sol (Overload 1) → IsFirstPlace (IsOverloaded demands capacity routes) routes place
     → IsFirstAgainstRoutes inst sol (Overload place)
 overload_first inst sol routes demands capacity place are demands_are capacity_is none first = record {
-  stands = subst (λ (z : ℤ). IsFirstPlace (IsOverloaded (demands_of inst) z (tours_of sol)) (tours_of sol) place) capacity_is
+  applies = subst (λ (z : ℤ). IsFirstPlace (IsOverloaded (demands_of inst) z (tours_of sol)) (tours_of sol) place) capacity_is
       (subst (λ (ds : List ℤ). IsFirstPlace (IsOverloaded ds capacity (tours_of sol)) (tours_of sol) place) demands_are
       (subst (λ (xs : List (List ℕ)). IsFirstPlace (IsOverloaded demands capacity xs) xs place) are first));
   none_before = none;
@@ -382,24 +382,24 @@ plan_steps f steps held =
 -- ---- what rules a reason out
 
 no_bad_set : (inst tree : Fields) (crossed : List Crossings) → AreCapacityCuts (routing_of inst) (families_listed tree) crossed
-    → (index : ℕ) → StandsAgainstWalks inst tree (BadComb index) → ⊥
+    → (index : ℕ) → AppliesToQRoutes inst tree (BadComb index) → ⊥
 no_bad_set inst tree crossed cuts index bad =
     bad.bad (index - 1) (omega (arith, bad.least)) (cuts.good (index - 1) (omega (arith, bad.least, bad.most)))
 
 no_bad_branch : (inst tree : Fields) (steps : List Step) → tree.branches ≡ Some steps
     → AreGoodBranches (nodes_of inst) (length (families_listed tree)) steps
-    → (index : ℕ) → StandsAgainstWalks inst tree (BadBranch index) → ⊥
-no_bad_branch inst tree steps are good index stands =
-    let same = one_value tree.branches stands.0 steps stands.1 are in
-    let bad = subst (λ steps. IsFirstBadPlanBranch (nodes_of inst) (length (families_listed tree)) steps index) same stands.2 in
+    → (index : ℕ) → AppliesToQRoutes inst tree (BadBranch index) → ⊥
+no_bad_branch inst tree steps are good index applies =
+    let same = one_value tree.branches applies.0 steps applies.1 are in
+    let bad = subst (λ steps. IsFirstBadPlanBranch (nodes_of inst) (length (families_listed tree)) steps index) same applies.2 in
     bad.bad (good (index - 1) (0, 0) (omega (arith, bad.from_one, bad.inside)))
 
 no_bad_plan_leaf : (inst tree : Fields) (steps : List Step) → tree.branches ≡ Some steps
     → AreGoodPlanLeaves (nodes_of inst) (length (families_listed tree)) steps
-    → (index : ℕ) → StandsAgainstWalks inst tree (BadLeaf index) → ⊥
-no_bad_plan_leaf inst tree steps are good index stands =
-    let same = one_value tree.branches stands.0 steps stands.1 are in
-    let bad = subst (λ steps. IsFirstBadPlanLeaf (nodes_of inst) (length (families_listed tree)) steps index) same stands.2 in
+    → (index : ℕ) → AppliesToQRoutes inst tree (BadLeaf index) → ⊥
+no_bad_plan_leaf inst tree steps are good index applies =
+    let same = one_value tree.branches applies.0 steps applies.1 are in
+    let bad = subst (λ steps. IsFirstBadPlanLeaf (nodes_of inst) (length (families_listed tree)) steps index) same applies.2 in
     bad.bad (good index bad.least bad.most)
 
 -- the number of customers that demand less than a unit is one
@@ -407,39 +407,39 @@ one_light : (problem : RoutingProblem) (unit a b : ℕ) → AreUnits problem uni
 one_light problem unit a b one other = let same : pos a ≡ pos b = one.light_is ∙ sym other.light_is in omega (arith, ints, same)
 
 no_many_loads : (problem : RoutingProblem) (unit light : ℕ) → AreUnits problem unit light
-    → problem.nodes * (room_in problem unit light + 1) ≤ most_entries → HasTooManyLoads problem unit → ⊥
+    → problem.nodes * (capacity_in_parts problem unit light + 1) ≤ most_entries → HasTooManyLoads problem unit → ⊥
 no_many_loads problem unit light units few many =
     let same = one_light problem unit many.light light many.units units in
-    let more = subst (λ (l : ℕ). most_entries < problem.nodes * (room_in problem unit l + 1)) same many.many in
+    let more = subst (λ (l : ℕ). most_entries < problem.nodes * (capacity_in_parts problem unit l + 1)) same many.many in
     omega (arith, few, more)
 
 -- the facts before a rank rule out the reasons before it
 none_before : (inst tree : Fields) (rank : ℕ) → is_branches_file tree.kind ≡ true → nodes_of tree ≡ nodes_of inst
-    → (rank_of (BadComb 1) < rank → (index : ℕ) → StandsAgainstWalks inst tree (BadComb index) → ⊥)
-    → (rank_of (BadBranch 1) < rank → (index : ℕ) → StandsAgainstWalks inst tree (BadBranch index) → ⊥)
-    → (rank_of (BadLeaf 1) < rank → (index : ℕ) → StandsAgainstWalks inst tree (BadLeaf index) → ⊥)
-    → (rank_of TooManyLoads < rank → StandsAgainstWalks inst tree TooManyLoads → ⊥)
-    → NoneBefore (StandsAgainstWalks inst tree) rank
-none_before inst tree rank sort size sets branches leaves loads NotBranches low stands = false≢true (sym stands ∙ sort)
-none_before inst tree rank sort size sets branches leaves loads BranchesDimension low stands = stands size
-none_before inst tree rank sort size sets branches leaves loads (BadComb index) low stands = sets low index stands
-none_before inst tree rank sort size sets branches leaves loads (BadBranch index) low stands = branches low index stands
-none_before inst tree rank sort size sets branches leaves loads (BadLeaf index) low stands = leaves low index stands
-none_before inst tree rank sort size sets branches leaves loads TooManyLoads low stands = loads low stands
-none_before inst tree rank sort size sets branches leaves loads reason low stands = stands
+    → (rank_of (BadComb 1) < rank → (index : ℕ) → AppliesToQRoutes inst tree (BadComb index) → ⊥)
+    → (rank_of (BadBranch 1) < rank → (index : ℕ) → AppliesToQRoutes inst tree (BadBranch index) → ⊥)
+    → (rank_of (BadLeaf 1) < rank → (index : ℕ) → AppliesToQRoutes inst tree (BadLeaf index) → ⊥)
+    → (rank_of TooManyLoads < rank → AppliesToQRoutes inst tree TooManyLoads → ⊥)
+    → NoneBefore (AppliesToQRoutes inst tree) rank
+none_before inst tree rank sort size sets branches leaves loads NotBranches low applies = false≢true (sym applies ∙ sort)
+none_before inst tree rank sort size sets branches leaves loads BranchesDimension low applies = applies size
+none_before inst tree rank sort size sets branches leaves loads (BadComb index) low applies = sets low index applies
+none_before inst tree rank sort size sets branches leaves loads (BadBranch index) low applies = branches low index applies
+none_before inst tree rank sort size sets branches leaves loads (BadLeaf index) low applies = leaves low index applies
+none_before inst tree rank sort size sets branches leaves loads TooManyLoads low applies = loads low applies
+none_before inst tree rank sort size sets branches leaves loads reason low applies = applies
 
 -- of its routes the reasons against the certificate are these
-for_walks : (P : (Reason → Type 0) → Type 0) (inst tree : Fields) → inst.kind ≡ Some kinds.Cvrp
-    → P (StandsAgainstWalks inst tree) → P (StandsAgainstCertificate Branches inst tree)
-for_walks P inst tree cvrp first = subst (λ k. P (StandsAgainstCertificateBy Branches k inst tree)) (sym cvrp) first
+for_q_routes : (P : (Reason → Type 0) → Type 0) (inst tree : Fields) → inst.kind ≡ Some kinds.Cvrp
+    → P (AppliesToQRoutes inst tree) → P (AppliesToCertificate Branches inst tree)
+for_q_routes P inst tree cvrp first = subst (λ k. P (AppliesToCertificateBy Branches k inst tree)) (sym cvrp) first
 
 -- ---- the verdict
 
 pub set_first : (inst tree : Fields) (index : ℕ) → inst.kind ≡ Some kinds.Cvrp → is_branches_file tree.kind ≡ true
     → nodes_of tree ≡ nodes_of inst → IsReportedOfRoutes inst tree (found.BadFamily index)
     → FindsBound Branches inst tree (bounds.No (BadComb index))
-set_first inst tree index cvrp sort size is = for_walks (λ Stands. IsFirstReason Stands (BadComb index)) inst tree cvrp (record {
-  stands = is.by_steps;
+set_first inst tree index cvrp sort size is = for_q_routes (λ Applies. IsFirstReason Applies (BadComb index)) inst tree cvrp (record {
+  applies = is.by_steps;
   none_before = none_before inst tree (rank_of (BadComb 1)) sort size (λ low. absurd (omega (arith, low)))
       (λ low. absurd (omega (arith, low))) (λ low. absurd (omega (arith, low))) (λ low. absurd (omega (arith, low)));
 })
@@ -447,8 +447,8 @@ set_first inst tree index cvrp sort size is = for_walks (λ Stands. IsFirstReaso
 pub branch_first : (inst tree : Fields) (index : ℕ) → inst.kind ≡ Some kinds.Cvrp → is_branches_file tree.kind ≡ true
     → nodes_of tree ≡ nodes_of inst → IsReportedOfRoutes inst tree (found.BadBranch index)
     → FindsBound Branches inst tree (bounds.No (BadBranch index))
-branch_first inst tree index cvrp sort size is = for_walks (λ Stands. IsFirstReason Stands (BadBranch index)) inst tree cvrp (record {
-  stands = (is.steps, is.steps_are, is.by_steps.1);
+branch_first inst tree index cvrp sort size is = for_q_routes (λ Applies. IsFirstReason Applies (BadBranch index)) inst tree cvrp (record {
+  applies = (is.steps, is.steps_are, is.by_steps.1);
   none_before = none_before inst tree (rank_of (BadBranch 1)) sort size
       (λ low. no_bad_set inst tree is.by_steps.0.0 is.by_steps.0.1)
       (λ low. absurd (omega (arith, low))) (λ low. absurd (omega (arith, low))) (λ low. absurd (omega (arith, low)));
@@ -457,8 +457,8 @@ branch_first inst tree index cvrp sort size is = for_walks (λ Stands. IsFirstRe
 pub plan_leaf_first : (inst tree : Fields) (index : ℕ) → inst.kind ≡ Some kinds.Cvrp → is_branches_file tree.kind ≡ true
     → nodes_of tree ≡ nodes_of inst → IsReportedOfRoutes inst tree (found.BadLeaf index)
     → FindsBound Branches inst tree (bounds.No (BadLeaf index))
-plan_leaf_first inst tree index cvrp sort size is = for_walks (λ Stands. IsFirstReason Stands (BadLeaf index)) inst tree cvrp (record {
-  stands = (is.steps, is.steps_are, is.by_steps.1);
+plan_leaf_first inst tree index cvrp sort size is = for_q_routes (λ Applies. IsFirstReason Applies (BadLeaf index)) inst tree cvrp (record {
+  applies = (is.steps, is.steps_are, is.by_steps.1);
   none_before = none_before inst tree (rank_of (BadLeaf 1)) sort size
       (λ low. no_bad_set inst tree is.by_steps.0.0.0 is.by_steps.0.0.1)
       (λ low. no_bad_branch inst tree is.steps is.steps_are is.by_steps.0.1)
@@ -468,30 +468,30 @@ plan_leaf_first inst tree index cvrp sort size is = for_walks (λ Stands. IsFirs
 pub loads_first : (inst tree : Fields) → inst.kind ≡ Some kinds.Cvrp → is_branches_file tree.kind ≡ true
     → nodes_of tree ≡ nodes_of inst → IsReportedOfRoutes inst tree found.TooManyLoads
     → FindsBound Branches inst tree (bounds.No TooManyLoads)
-loads_first inst tree cvrp sort size is = for_walks (λ Stands. IsFirstReason Stands TooManyLoads) inst tree cvrp (record {
-  stands = is.by_steps.2;
+loads_first inst tree cvrp sort size is = for_q_routes (λ Applies. IsFirstReason Applies TooManyLoads) inst tree cvrp (record {
+  applies = is.by_steps.2;
   none_before = none_before inst tree (rank_of TooManyLoads) sort size
       (λ low. no_bad_set inst tree is.by_steps.0.0.0 is.by_steps.0.0.1)
       (λ low. no_bad_branch inst tree is.steps is.steps_are is.by_steps.0.1)
       (λ low. no_bad_plan_leaf inst tree is.steps is.steps_are is.by_steps.1) (λ low. absurd (omega (arith, low)));
 })
 
-none_of_walks : (inst tree : Fields) (bound : Option ℤ) → is_branches_file tree.kind ≡ true → nodes_of tree ≡ nodes_of inst
-    → IsReportedOfRoutes inst tree (found.Bound bound) → (reason : Reason) → StandsAgainstWalks inst tree reason → ⊥
-none_of_walks inst tree bound sort size is NotBranches stands = false≢true (sym stands ∙ sort)
-none_of_walks inst tree bound sort size is BranchesDimension stands = stands size
-none_of_walks inst tree bound sort size is (BadComb index) stands =
-    no_bad_set inst tree is.by_steps.crossed is.by_steps.cuts index stands
-none_of_walks inst tree bound sort size is (BadBranch index) stands =
-    no_bad_branch inst tree is.steps is.steps_are is.by_steps.branches index stands
-none_of_walks inst tree bound sort size is (BadLeaf index) stands =
-    no_bad_plan_leaf inst tree is.steps is.steps_are is.by_steps.leaves index stands
-none_of_walks inst tree bound sort size is TooManyLoads stands =
-    no_many_loads (routing_of inst) (unit_in tree) is.by_steps.light is.by_steps.units is.by_steps.few stands
-none_of_walks inst tree bound sort size is reason stands = stands
+none_of_q_routes : (inst tree : Fields) (bound : Option ℤ) → is_branches_file tree.kind ≡ true → nodes_of tree ≡ nodes_of inst
+    → IsReportedOfRoutes inst tree (found.Bound bound) → (reason : Reason) → AppliesToQRoutes inst tree reason → ⊥
+none_of_q_routes inst tree bound sort size is NotBranches applies = false≢true (sym applies ∙ sort)
+none_of_q_routes inst tree bound sort size is BranchesDimension applies = applies size
+none_of_q_routes inst tree bound sort size is (BadComb index) applies =
+    no_bad_set inst tree is.by_steps.crossed is.by_steps.cuts index applies
+none_of_q_routes inst tree bound sort size is (BadBranch index) applies =
+    no_bad_branch inst tree is.steps is.steps_are is.by_steps.branches index applies
+none_of_q_routes inst tree bound sort size is (BadLeaf index) applies =
+    no_bad_plan_leaf inst tree is.steps is.steps_are is.by_steps.leaves index applies
+none_of_q_routes inst tree bound sort size is TooManyLoads applies =
+    no_many_loads (routing_of inst) (unit_in tree) is.by_steps.light is.by_steps.units is.by_steps.few applies
+none_of_q_routes inst tree bound sort size is reason applies = applies
 
 has_bound : (inst tree : Fields) (bound : Option ℤ) → IsReportedOfRoutes inst tree (found.Bound bound)
-    → HasBoundByWalks inst tree bound
+    → HasBoundByQRoutes inst tree bound
 has_bound inst tree bound is = record { steps = is.steps; steps_are = is.steps_are; bound = is.by_steps }
 
 pub plans_bounded : (inst tree : Fields) (bound : ℤ) → inst.kind ≡ Some kinds.Cvrp → is_branches_file tree.kind ≡ true
@@ -499,7 +499,7 @@ pub plans_bounded : (inst tree : Fields) (bound : ℤ) → inst.kind ≡ Some ki
     → VerdictBoundsPlans (routing_of inst) (found.Bound (Some bound)) → IsBoundSized bound
     → FindsBound Branches inst tree (bounds.Bound bound)
 plans_bounded inst tree bound cvrp sort size is below sized = (
-  for_walks (λ Stands. (reason : Reason) → Stands reason → ⊥) inst tree cvrp (none_of_walks inst tree (Some bound) sort size is),
+  for_q_routes (λ Applies. (reason : Reason) → Applies reason → ⊥) inst tree cvrp (none_of_q_routes inst tree (Some bound) sort size is),
   (
     subst (λ k. IsBoundBy Branches k inst tree bound) (sym cvrp) (has_bound inst tree (Some bound) is),
     subst (λ k. BoundsSolutionsBy k inst bound) (sym cvrp) below,
@@ -511,7 +511,7 @@ pub plans_missing : (inst tree : Fields) → inst.kind ≡ Some kinds.Cvrp → i
     → nodes_of tree ≡ nodes_of inst → IsReportedOfRoutes inst tree (found.Bound None)
     → VerdictBoundsPlans (routing_of inst) (found.Bound None) → FindsBound Branches inst tree bounds.NoSolution
 plans_missing inst tree cvrp sort size is none = (
-  for_walks (λ Stands. (reason : Reason) → Stands reason → ⊥) inst tree cvrp (none_of_walks inst tree None sort size is),
+  for_q_routes (λ Applies. (reason : Reason) → Applies reason → ⊥) inst tree cvrp (none_of_q_routes inst tree None sort size is),
   subst (λ k. HasNoBoundBy Branches k inst tree) (sym cvrp) (has_bound inst tree None is),
   subst (λ k. HasNoSolutionBy k inst) (sym cvrp) none,
 )

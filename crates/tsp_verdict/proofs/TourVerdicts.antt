@@ -11,7 +11,7 @@ use Rattle.tsp_theory.specs.Tour.{length_of, IsCycle, Uses, links_to}
 use Rattle.tsp_cost.specs.Problems.{is_directed, IsTourOf}
 use Rattle.tsp_report.specs.declared.verdict.Reason.{Reason}
 use Rattle.tsp_report.specs.declared.verdict.Reason.TheVariants.{Dimension, TourCount, TourLength, NodeOutOfRange, RepeatedNode, FixedEdgeUnused, NotPotentials, PotentialsDimension, PotentialsKind, MultiplierNotFixed, MultiplierRepeated, DualInfeasible, DepotCount, DepotDemand, FixedEdgesInRoutes, DepotInRoute, Unserved, Overload, NotBranches, BranchesDimension, BadComb, BadBranch, BranchTwice, BadLeaf, TooManyLoads, LengthClaimed, NotJudged}
-use Rattle.tsp_verdict.specs.Solutions.{node_at, HoldsAtNone, IsAtEarlierPlace, IsFirstPlace, IsLarger, IsUnused, visited, tours_of, StandsAgainstTour, NoneOfTourBefore, IsFirstAgainstTour}
+use Rattle.tsp_verdict.specs.Solutions.{node_at, HoldsAtNone, IsAtEarlierPlace, IsFirstPlace, IsLarger, IsUnused, visited, tours_of, AppliesToTour, NoneOfTourBefore, IsFirstAgainstTour}
 use Rattle.tsp_verdict.specs.states.Marks.{Marked, StandsAfter, AreNext}
 
 set_keeps : (seen : List Bool) (k m : ℕ) → get_or seen m false ≡ true → get_or (set seen k true) m false ≡ true
@@ -123,8 +123,8 @@ pub mark_next : (nodes piece : List ℕ) (seen : List Bool) (before index : ℕ)
     → index < length piece
     → get_or piece index 0 < length seen → get_or seen (get_or piece index 0) false ≡ false
     → Marked nodes seen (before + index) → Marked nodes (set seen (get_or piece index 0) true) (before + (index + 1))
-mark_next nodes piece seen before index stands lt fits free m =
-    let same : get_or nodes (before + index) 0 ≡ get_or piece index 0 = stands.same index lt in
+mark_next nodes piece seen before index applies lt fits free m =
+    let same : get_or nodes (before + index) 0 ≡ get_or piece index 0 = applies.same index lt in
     let fits_there : get_or nodes (before + index) 0 < length seen = omega (arith, same, fits) in
     let more : Marked nodes (set seen (get_or nodes (before + index) 0) true) (before + index + 1) =
     mark_more nodes seen (before + index) fits_there (ap (λ k. get_or seen k false) same ∙ free) m in
@@ -136,9 +136,9 @@ mark_next nodes piece seen before index stands lt fits free m =
 pub repeated_next : (nodes piece : List ℕ) (seen : List Bool) (before index : ℕ) → StandsAfter before nodes piece
     → index < length piece → get_or seen (get_or piece index 0) false ≡ true
     → Marked nodes seen (before + index) → IsFirstPlace (IsAtEarlierPlace nodes) nodes (before + (index + 1))
-repeated_next nodes piece seen before index stands lt taken m =
-    let same : get_or nodes (before + index) 0 ≡ get_or piece index 0 = stands.same index lt in
-    let inside : before + index < length nodes = omega (arith, stands.inside, lt) in
+repeated_next nodes piece seen before index applies lt taken m =
+    let same : get_or nodes (before + index) 0 ≡ get_or piece index 0 = applies.same index lt in
+    let inside : before + index < length nodes = omega (arith, applies.inside, lt) in
     let first : IsFirstPlace (IsAtEarlierPlace nodes) nodes (before + index + 1) =
     repeated_here nodes seen (before + index) inside (ap (λ k. get_or seen k false) same ∙ taken) m in
     let count : before + index + 1 ≡ before + (index + 1) = omega arith in
@@ -192,61 +192,61 @@ there_marked nodes seen node m there =
 pub after_dimension : (inst sol : Fields) → NoneOfTourBefore inst sol Dimension
     → ((n : ℕ) → sol.dimension ≡ Some n → n ≡ nodes_of inst)
     → NoneOfTourBefore inst sol TourCount
-after_dimension inst sol before same Dimension low stands = stands.2 (same stands.0 stands.1)
-after_dimension inst sol before same reason low stands = before reason (omega (arith, low)) stands
+after_dimension inst sol before same Dimension low applies = applies.2 (same applies.0 applies.1)
+after_dimension inst sol before same reason low applies = before reason (omega (arith, low)) applies
 
 pub after_count : (inst sol : Fields) → NoneOfTourBefore inst sol TourCount → length (tours_of sol) ≡ 1
     → NoneOfTourBefore inst sol TourLength
-after_count inst sol before one TourCount low stands = stands one
-after_count inst sol before one reason low stands = before reason (omega (arith, low)) stands
+after_count inst sol before one TourCount low applies = applies one
+after_count inst sol before one reason low applies = before reason (omega (arith, low)) applies
 
 pub after_length : (inst sol : Fields) → NoneOfTourBefore inst sol TourLength → length (visited sol) ≡ nodes_of inst
     → NoneOfTourBefore inst sol (NodeOutOfRange 1)
-after_length inst sol before full TourLength low stands = stands full
-after_length inst sol before full DepotCount low stands = stands
-after_length inst sol before full DepotDemand low stands = stands
-after_length inst sol before full FixedEdgesInRoutes low stands = stands
-after_length inst sol before full (DepotInRoute place) low stands = stands
-after_length inst sol before full reason low stands = before reason (omega (arith, low)) stands
+after_length inst sol before full TourLength low applies = applies full
+after_length inst sol before full DepotCount low applies = applies
+after_length inst sol before full DepotDemand low applies = applies
+after_length inst sol before full FixedEdgesInRoutes low applies = applies
+after_length inst sol before full (DepotInRoute place) low applies = applies
+after_length inst sol before full reason low applies = before reason (omega (arith, low)) applies
 
 pub after_range : (inst sol : Fields) → NoneOfTourBefore inst sol (NodeOutOfRange 1)
     → ((place : ℕ) → IsFirstPlace (IsLarger (nodes_of inst) (visited sol)) (visited sol) place → ⊥)
     → NoneOfTourBefore inst sol (RepeatedNode 1)
-after_range inst sol before inside (NodeOutOfRange place) low stands = inside place stands
-after_range inst sol before inside reason low stands = before reason (omega (arith, low)) stands
+after_range inst sol before inside (NodeOutOfRange place) low applies = inside place applies
+after_range inst sol before inside reason low applies = before reason (omega (arith, low)) applies
 
 pub after_repeats : (inst sol : Fields) → NoneOfTourBefore inst sol (RepeatedNode 1)
     → ((place : ℕ) → IsFirstPlace (IsAtEarlierPlace (visited sol)) (visited sol) place → ⊥)
     → NoneOfTourBefore inst sol (FixedEdgeUnused 1)
-after_repeats inst sol before once (RepeatedNode place) low stands = once place stands
-after_repeats inst sol before once reason low stands = before reason (omega (arith, low)) stands
+after_repeats inst sol before once (RepeatedNode place) low applies = once place applies
+after_repeats inst sol before once reason low applies = before reason (omega (arith, low)) applies
 
 pub after_fixed : (inst sol : Fields) → NoneOfTourBefore inst sol (FixedEdgeUnused 1) → ((index : ℕ)
     → IsFirstPlace (IsUnused (is_directed inst.kind) (visited sol) (fixed_of inst)) (fixed_of inst) index → ⊥) → (reason : Reason)
-    → StandsAgainstTour inst sol reason → ⊥
-after_fixed inst sol before used (FixedEdgeUnused index) stands = used index stands
-after_fixed inst sol before used NotPotentials stands = stands
-after_fixed inst sol before used PotentialsDimension stands = stands
-after_fixed inst sol before used PotentialsKind stands = stands
-after_fixed inst sol before used (MultiplierNotFixed index) stands = stands
-after_fixed inst sol before used (MultiplierRepeated index) stands = stands
-after_fixed inst sol before used (DualInfeasible i j) stands = stands
-after_fixed inst sol before used DepotCount stands = stands
-after_fixed inst sol before used DepotDemand stands = stands
-after_fixed inst sol before used FixedEdgesInRoutes stands = stands
-after_fixed inst sol before used (DepotInRoute place) stands = stands
-after_fixed inst sol before used (Unserved node) stands = stands
-after_fixed inst sol before used (Overload route) stands = stands
-after_fixed inst sol before used NotBranches stands = stands
-after_fixed inst sol before used BranchesDimension stands = stands
-after_fixed inst sol before used (BadComb index) stands = stands
-after_fixed inst sol before used (BadBranch index) stands = stands
-after_fixed inst sol before used (BranchTwice index) stands = stands
-after_fixed inst sol before used (BadLeaf index) stands = stands
-after_fixed inst sol before used TooManyLoads stands = stands
-after_fixed inst sol before used (LengthClaimed length) stands = stands
-after_fixed inst sol before used NotJudged stands = stands
-after_fixed inst sol before used reason stands = before reason (omega arith) stands
+    → AppliesToTour inst sol reason → ⊥
+after_fixed inst sol before used (FixedEdgeUnused index) applies = used index applies
+after_fixed inst sol before used NotPotentials applies = applies
+after_fixed inst sol before used PotentialsDimension applies = applies
+after_fixed inst sol before used PotentialsKind applies = applies
+after_fixed inst sol before used (MultiplierNotFixed index) applies = applies
+after_fixed inst sol before used (MultiplierRepeated index) applies = applies
+after_fixed inst sol before used (DualInfeasible i j) applies = applies
+after_fixed inst sol before used DepotCount applies = applies
+after_fixed inst sol before used DepotDemand applies = applies
+after_fixed inst sol before used FixedEdgesInRoutes applies = applies
+after_fixed inst sol before used (DepotInRoute place) applies = applies
+after_fixed inst sol before used (Unserved node) applies = applies
+after_fixed inst sol before used (Overload route) applies = applies
+after_fixed inst sol before used NotBranches applies = applies
+after_fixed inst sol before used BranchesDimension applies = applies
+after_fixed inst sol before used (BadComb index) applies = applies
+after_fixed inst sol before used (BadBranch index) applies = applies
+after_fixed inst sol before used (BranchTwice index) applies = applies
+after_fixed inst sol before used (BadLeaf index) applies = applies
+after_fixed inst sol before used TooManyLoads applies = applies
+after_fixed inst sol before used (LengthClaimed length) applies = applies
+after_fixed inst sol before used NotJudged applies = applies
+after_fixed inst sol before used reason applies = before reason (omega arith) applies
 
 -- ---- the verdict on a tour
 
@@ -289,7 +289,7 @@ pub larger_first : (inst sol : Fields) (tour : List ℕ) (n place : ℕ) → tou
     → NoneOfTourBefore inst sol (NodeOutOfRange 1)
     → IsFirstPlace (IsLarger n tour) tour place → IsFirstAgainstTour inst sol (NodeOutOfRange place)
 larger_first inst sol tour n place only n_is none first = record {
-  stands = subst (λ m. IsFirstPlace (IsLarger m (visited sol)) (visited sol) place) n_is
+  applies = subst (λ m. IsFirstPlace (IsLarger m (visited sol)) (visited sol) place) n_is
       (subst (λ (xs : List ℕ). IsFirstPlace (IsLarger n xs) xs place) (sym (visited_is sol tour only)) first);
   none_before = none;
 }
@@ -310,7 +310,7 @@ pub repeated_first : (inst sol : Fields) (tour : List ℕ) (place : ℕ) → tou
     → NoneOfTourBefore inst sol (RepeatedNode 1)
     → IsFirstPlace (IsAtEarlierPlace tour) tour place → IsFirstAgainstTour inst sol (RepeatedNode place)
 repeated_first inst sol tour place only none first = record {
-  stands = subst (λ (xs : List ℕ). IsFirstPlace (IsAtEarlierPlace xs) xs place) (sym (visited_is sol tour only)) first;
+  applies = subst (λ (xs : List ℕ). IsFirstPlace (IsAtEarlierPlace xs) xs place) (sym (visited_is sol tour only)) first;
   none_before = none;
 }
 
@@ -343,7 +343,7 @@ pub unused_first : (inst sol : Fields) (tour : List ℕ) (directed : Bool) (pair
     → NoneOfTourBefore inst sol (FixedEdgeUnused 1) → IsFirstPlace (IsUnused directed tour pairs) pairs index
     → IsFirstAgainstTour inst sol (FixedEdgeUnused index)
 unused_first inst sol tour directed pairs index only way listed none first = record {
-  stands = subst (λ (xs : List ℕ). IsFirstPlace (IsUnused (is_directed inst.kind) xs (fixed_of inst)) (fixed_of inst) index)
+  applies = subst (λ (xs : List ℕ). IsFirstPlace (IsUnused (is_directed inst.kind) xs (fixed_of inst)) (fixed_of inst) index)
       (sym (visited_is sol tour only))
       (subst (λ (ps : List (ℕ × ℕ)). IsFirstPlace (IsUnused (is_directed inst.kind) tour ps) ps index) listed
       (subst (λ (b : Bool). IsFirstPlace (IsUnused b tour pairs) pairs index) way first));
@@ -355,7 +355,7 @@ pub is_yes : (inst sol : Fields) (tour : List ℕ) (directed : Bool) (pairs : Li
     → directed ≡ is_directed inst.kind → pairs ≡ fixed_of inst
     → NoneOfTourBefore inst sol (FixedEdgeUnused 1) → IsCycle (nodes_of inst) tour → All (Uses directed tour) pairs
     → size ≡ length_of (cost inst) tour
-    → ((reason : Reason) → StandsAgainstTour inst sol reason → ⊥)
+    → ((reason : Reason) → AppliesToTour inst sol reason → ⊥)
     × ((cycle : List ℕ) × (tours_of sol ≡ cycle ∷ []) × IsTourOf inst cycle × (size ≡ length_of (cost inst) cycle))
 is_yes inst sol tour directed pairs size only way listed none cycle used measured =
     let used_all : All (Uses (is_directed inst.kind) tour) (fixed_of inst) =

@@ -33,16 +33,16 @@ use Rattle.tsp_branch.specs.BranchVerdicts.{IsBranchVerdict}
 use Rattle.tsp_branch.specs.declared.verdict.BranchVerdict.{BranchVerdict}
 use Rattle.tsp_branch.specs.declared.verdict.BranchVerdict.TheVariants as found
 use Rattle.tsp_report.specs.Verdicts.{rank_of}
-use Rattle.tsp_report.specs.declared.task.Certificate.TheVariants.{Branches}
+use Rattle.tsp_report.specs.declared.task.CertificateKind.TheVariants.{Branches}
 use Rattle.tsp_report.specs.declared.verdict.Reason.{Reason}
 use Rattle.tsp_report.specs.declared.verdict.Reason.TheVariants.{NotBranches, BranchesDimension, BadComb, BadBranch, BranchTwice, BadLeaf, TooManyLoads}
 use Rattle.tsp_verdict.proofs.CarriedBounds.{Same, fitting}
 use Rattle.tsp_verdict.proofs.FirstReasons.{tree_either}
 use Rattle.tsp_verdict.proofs.GivenPairs.{keeps_given}
-use Rattle.tsp_verdict.specs.Certificates.{each_once, given_in, case_steps_in, families_with_numbers, AreNumbersOf, IsBadFamily, StandsAgainstBranches, HasBoundByBranches, IsBoundByBranches, HasNoBoundByBranches, StandsAgainstWalks}
-use Rattle.tsp_verdict.specs.Certified.{IsBoundBy, HasNoBoundBy, HasNoBound, StandsAgainstCertificateBy, StandsAgainstCertificate, BoundsSolutionsBy, BoundsSolutions, HasNoSolutionBy, HasNoSolution, IsCertified}
+use Rattle.tsp_verdict.specs.Certificates.{each_once, given_in, case_steps_in, families_with_numbers, AreNumbersOf, IsBadFamily, AppliesToBranches, HasBoundByBranches, IsBoundByBranches, HasNoBoundByBranches, AppliesToQRoutes}
+use Rattle.tsp_verdict.specs.Certified.{IsBoundBy, HasNoBoundBy, HasNoBound, AppliesToCertificateBy, AppliesToCertificate, BoundsSolutionsBy, BoundsSolutions, HasNoSolutionBy, HasNoSolution, IsCertified}
 use Rattle.tsp_verdict.specs.Solutions.{IsFirstPlace, NoneBefore, IsFirstReason}
-use Rattle.tsp_verdict.specs.states.TourBases.{IsSymmetricTsp}
+use Rattle.tsp_verdict.specs.states.TourKnownBounds.{IsSymmetricTsp}
 
 -- ---- sets of nodes
 
@@ -202,9 +202,9 @@ bad_comb inst tree index bad = record {
 -- where all combs are good, none is bad
 no_bad_comb : (inst tree : Fields)
     → ((comb : ℕ) → comb < length (families_listed tree) → IsGoodFamily (nodes_of inst) (get_or (families_listed tree) comb []))
-    → (index : ℕ) → StandsAgainstBranches inst tree (BadComb index) → ⊥
-no_bad_comb inst tree good index stands =
-    stands.holds (good (index - 1) (omega (arith, stands.here.0, stands.here.1)))
+    → (index : ℕ) → AppliesToBranches inst tree (BadComb index) → ⊥
+no_bad_comb inst tree good index applies =
+    applies.holds (good (index - 1) (omega (arith, applies.here.0, applies.here.1)))
 
 -- the numbers of the families are those of the file's
 numbers_reported : (inst tree : Fields) (crossed : List Crossings)
@@ -218,32 +218,32 @@ numbers_reported inst tree crossed are = record {
 -- where all leaves are good, none is bad, by whichever numbers
 no_bad_leaf : NumbersAreUnique → (inst tree : Fields) (steps : List listed.Step) (crossed : List Crossings)
     → tree.branches ≡ Some steps → AreNumbersOf inst tree crossed
-    → AreGoodLeaves (nodes_of inst) crossed steps → (index : ℕ) → StandsAgainstBranches inst tree (BadLeaf index) → ⊥
-no_bad_leaf unique inst tree steps crossed steps_are are good index stands =
+    → AreGoodLeaves (nodes_of inst) crossed steps → (index : ℕ) → AppliesToBranches inst tree (BadLeaf index) → ⊥
+no_bad_leaf unique inst tree steps crossed steps_are are good index applies =
     let n : ℕ = nodes_of inst in
-    let others = stands.2 in
-    let same : others ≡ crossed = one_numbers unique n others crossed (families_listed tree) stands.3.many are.many
-    (recursion_from_All (IsFamily n) (families_with_numbers tree others) stands.3.are)
+    let others = applies.2 in
+    let same : others ≡ crossed = one_numbers unique n others crossed (families_listed tree) applies.3.many are.many
+    (recursion_from_All (IsFamily n) (families_with_numbers tree others) applies.3.are)
     (recursion_from_All (IsFamily n) (families_with_numbers tree crossed) are.are) in
     let bad = subst₂ (λ (cs : List Crossings) (ss : List listed.Step). IsFirstBadLeaf n cs ss index) same
-    (one_list tree.branches stands.0 steps stands.1 steps_are) stands.4 in
+    (one_list tree.branches applies.0 steps applies.1 steps_are) applies.4 in
     bad.bad (good index bad.least bad.most)
 
 -- where no case is divided twice, none is, as the file lists its steps
 no_twice : (inst tree : Fields) (steps : List listed.Step) → tree.branches ≡ Some steps
     → ((index : ℕ) → IsFirstTwice (is_directed inst.kind) (given_in inst) steps index → ⊥) → (index : ℕ)
-    → StandsAgainstBranches inst tree (BranchTwice index) → ⊥
-no_twice inst tree steps steps_are none index stands =
+    → AppliesToBranches inst tree (BranchTwice index) → ⊥
+no_twice inst tree steps steps_are none index applies =
     none index (subst (λ (ss : List listed.Step). IsFirstTwice (is_directed inst.kind) (given_in inst) ss index)
-    (one_list tree.branches stands.0 steps stands.1 steps_are) stands.2)
+    (one_list tree.branches applies.0 steps applies.1 steps_are) applies.2)
 
 -- where each branch is on two nodes, none is bad, as the file lists its steps
 no_bad_pair : (inst tree : Fields) (steps : List listed.Step) → tree.branches ≡ Some steps
     → ((index : ℕ) → IsFirstBadBranch 1 (nodes_of inst) steps index → ⊥) → (index : ℕ)
-    → StandsAgainstBranches inst tree (BadBranch index) → ⊥
-no_bad_pair inst tree steps steps_are none index stands =
+    → AppliesToBranches inst tree (BadBranch index) → ⊥
+no_bad_pair inst tree steps steps_are none index applies =
     none index (subst (λ (ss : List listed.Step). IsFirstBadBranch 1 (nodes_of inst) ss index)
-    (one_list tree.branches stands.0 steps stands.1 steps_are) stands.2)
+    (one_list tree.branches applies.0 steps applies.1 steps_are) applies.2)
 
 -- there are no more branches than steps
 pub pairs_few : (steps : List listed.Step) → length (branch_pairs steps) ≤ length steps
@@ -254,86 +254,86 @@ pairs_few (listed.Leaf changes ∷ steps) = let rest = pairs_few steps in omega 
 -- the facts before a rank rule out the reasons before it
 none_before : (inst tree : Fields) (rank : ℕ) → (rank_of NotBranches < rank → is_branches_file tree.kind ≡ true)
     → (rank_of BranchesDimension < rank → nodes_of tree ≡ nodes_of inst)
-    → (rank_of (BadComb 1) < rank → (index : ℕ) → StandsAgainstBranches inst tree (BadComb index) → ⊥)
-    → (rank_of (BadBranch 1) < rank → (index : ℕ) → StandsAgainstBranches inst tree (BadBranch index) → ⊥)
-    → (rank_of (BranchTwice 1) < rank → (index : ℕ) → StandsAgainstBranches inst tree (BranchTwice index) → ⊥)
-    → (rank_of (BadLeaf 1) < rank → (index : ℕ) → StandsAgainstBranches inst tree (BadLeaf index) → ⊥)
-    → NoneBefore (StandsAgainstBranches inst tree) rank
-none_before inst tree rank sort size combs pairs once leaves NotBranches low stands = false≢true (sym stands ∙ sort low)
-none_before inst tree rank sort size combs pairs once leaves BranchesDimension low stands = stands (size low)
-none_before inst tree rank sort size combs pairs once leaves (BadComb index) low stands = combs low index stands
-none_before inst tree rank sort size combs pairs once leaves (BadBranch index) low stands = pairs low index stands
-none_before inst tree rank sort size combs pairs once leaves (BranchTwice index) low stands = once low index stands
-none_before inst tree rank sort size combs pairs once leaves (BadLeaf index) low stands = leaves low index stands
-none_before inst tree rank sort size combs pairs once leaves reason low stands = stands
+    → (rank_of (BadComb 1) < rank → (index : ℕ) → AppliesToBranches inst tree (BadComb index) → ⊥)
+    → (rank_of (BadBranch 1) < rank → (index : ℕ) → AppliesToBranches inst tree (BadBranch index) → ⊥)
+    → (rank_of (BranchTwice 1) < rank → (index : ℕ) → AppliesToBranches inst tree (BranchTwice index) → ⊥)
+    → (rank_of (BadLeaf 1) < rank → (index : ℕ) → AppliesToBranches inst tree (BadLeaf index) → ⊥)
+    → NoneBefore (AppliesToBranches inst tree) rank
+none_before inst tree rank sort size combs pairs once leaves NotBranches low applies = false≢true (sym applies ∙ sort low)
+none_before inst tree rank sort size combs pairs once leaves BranchesDimension low applies = applies (size low)
+none_before inst tree rank sort size combs pairs once leaves (BadComb index) low applies = combs low index applies
+none_before inst tree rank sort size combs pairs once leaves (BadBranch index) low applies = pairs low index applies
+none_before inst tree rank sort size combs pairs once leaves (BranchTwice index) low applies = once low index applies
+none_before inst tree rank sort size combs pairs once leaves (BadLeaf index) low applies = leaves low index applies
+none_before inst tree rank sort size combs pairs once leaves reason low applies = applies
 
 -- the two reasons that need no look at the tree
 pub no_branches : (inst tree : Fields) → is_branches_file tree.kind ≡ false
-    → IsFirstReason (StandsAgainstCertificate Branches inst tree) NotBranches
+    → IsFirstReason (AppliesToCertificate Branches inst tree) NotBranches
 no_branches inst tree other =
-    tree_either inst.kind (λ Stands. IsFirstReason Stands NotBranches) inst tree
-    (record { stands = other; none_before = λ reason low stands. of_tours reason low stands })
-    (record { stands = other; none_before = λ reason low stands. of_walks reason low stands })
+    tree_either inst.kind (λ Applies. IsFirstReason Applies NotBranches) inst tree
+    (record { applies = other; none_before = λ reason low applies. of_tours reason low applies })
+    (record { applies = other; none_before = λ reason low applies. of_q_routes reason low applies })
   where
-    of_tours : (reason : Reason) → rank_of reason < rank_of NotBranches → StandsAgainstBranches inst tree reason → ⊥
-    of_tours NotBranches low stands = omega (arith, low)
-    of_tours BranchesDimension low stands = omega (arith, low)
-    of_tours (BadComb index) low stands = omega (arith, low)
-    of_tours (BadBranch index) low stands = omega (arith, low)
-    of_tours (BranchTwice index) low stands = omega (arith, low)
-    of_tours (BadLeaf index) low stands = omega (arith, low)
-    of_tours reason low stands = stands
+    of_tours : (reason : Reason) → rank_of reason < rank_of NotBranches → AppliesToBranches inst tree reason → ⊥
+    of_tours NotBranches low applies = omega (arith, low)
+    of_tours BranchesDimension low applies = omega (arith, low)
+    of_tours (BadComb index) low applies = omega (arith, low)
+    of_tours (BadBranch index) low applies = omega (arith, low)
+    of_tours (BranchTwice index) low applies = omega (arith, low)
+    of_tours (BadLeaf index) low applies = omega (arith, low)
+    of_tours reason low applies = applies
 
-    of_walks : (reason : Reason) → rank_of reason < rank_of NotBranches → StandsAgainstWalks inst tree reason → ⊥
-    of_walks NotBranches low stands = omega (arith, low)
-    of_walks BranchesDimension low stands = omega (arith, low)
-    of_walks (BadComb index) low stands = omega (arith, low)
-    of_walks (BadBranch index) low stands = omega (arith, low)
-    of_walks (BadLeaf index) low stands = omega (arith, low)
-    of_walks TooManyLoads low stands = omega (arith, low)
-    of_walks reason low stands = stands
+    of_q_routes : (reason : Reason) → rank_of reason < rank_of NotBranches → AppliesToQRoutes inst tree reason → ⊥
+    of_q_routes NotBranches low applies = omega (arith, low)
+    of_q_routes BranchesDimension low applies = omega (arith, low)
+    of_q_routes (BadComb index) low applies = omega (arith, low)
+    of_q_routes (BadBranch index) low applies = omega (arith, low)
+    of_q_routes (BadLeaf index) low applies = omega (arith, low)
+    of_q_routes TooManyLoads low applies = omega (arith, low)
+    of_q_routes reason low applies = applies
 
 pub other_dimension : (inst tree : Fields) → is_branches_file tree.kind ≡ true → nodes_of tree ≢ nodes_of inst
-    → IsFirstReason (StandsAgainstCertificate Branches inst tree) BranchesDimension
+    → IsFirstReason (AppliesToCertificate Branches inst tree) BranchesDimension
 other_dimension inst tree sort other =
-    tree_either inst.kind (λ Stands. IsFirstReason Stands BranchesDimension) inst tree
-    (record { stands = other; none_before = λ reason low stands. of_tours reason low stands })
-    (record { stands = other; none_before = λ reason low stands. of_walks reason low stands })
+    tree_either inst.kind (λ Applies. IsFirstReason Applies BranchesDimension) inst tree
+    (record { applies = other; none_before = λ reason low applies. of_tours reason low applies })
+    (record { applies = other; none_before = λ reason low applies. of_q_routes reason low applies })
   where
-    of_tours : (reason : Reason) → rank_of reason < rank_of BranchesDimension → StandsAgainstBranches inst tree reason → ⊥
-    of_tours NotBranches low stands = false≢true (sym stands ∙ sort)
-    of_tours BranchesDimension low stands = omega (arith, low)
-    of_tours (BadComb index) low stands = omega (arith, low)
-    of_tours (BadBranch index) low stands = omega (arith, low)
-    of_tours (BranchTwice index) low stands = omega (arith, low)
-    of_tours (BadLeaf index) low stands = omega (arith, low)
-    of_tours reason low stands = stands
+    of_tours : (reason : Reason) → rank_of reason < rank_of BranchesDimension → AppliesToBranches inst tree reason → ⊥
+    of_tours NotBranches low applies = false≢true (sym applies ∙ sort)
+    of_tours BranchesDimension low applies = omega (arith, low)
+    of_tours (BadComb index) low applies = omega (arith, low)
+    of_tours (BadBranch index) low applies = omega (arith, low)
+    of_tours (BranchTwice index) low applies = omega (arith, low)
+    of_tours (BadLeaf index) low applies = omega (arith, low)
+    of_tours reason low applies = applies
 
-    of_walks : (reason : Reason) → rank_of reason < rank_of BranchesDimension → StandsAgainstWalks inst tree reason → ⊥
-    of_walks NotBranches low stands = false≢true (sym stands ∙ sort)
-    of_walks BranchesDimension low stands = omega (arith, low)
-    of_walks (BadComb index) low stands = omega (arith, low)
-    of_walks (BadBranch index) low stands = omega (arith, low)
-    of_walks (BadLeaf index) low stands = omega (arith, low)
-    of_walks TooManyLoads low stands = omega (arith, low)
-    of_walks reason low stands = stands
+    of_q_routes : (reason : Reason) → rank_of reason < rank_of BranchesDimension → AppliesToQRoutes inst tree reason → ⊥
+    of_q_routes NotBranches low applies = false≢true (sym applies ∙ sort)
+    of_q_routes BranchesDimension low applies = omega (arith, low)
+    of_q_routes (BadComb index) low applies = omega (arith, low)
+    of_q_routes (BadBranch index) low applies = omega (arith, low)
+    of_q_routes (BadLeaf index) low applies = omega (arith, low)
+    of_q_routes TooManyLoads low applies = omega (arith, low)
+    of_q_routes reason low applies = applies
 
 -- a TSP or an ATSP
 abbrev pub HasArcsOrEdges : Fields → Type 0
 HasArcsOrEdges inst = (inst.kind ≡ Some kinds.Tsp) ⊎ (inst.kind ≡ Some kinds.Atsp)
 
 -- of its tours the reasons against the certificate are these
-for_tree : (P : (Reason → Type 0) → Type 0) (inst tree : Fields) → HasArcsOrEdges inst → P (StandsAgainstBranches inst tree)
-    → P (StandsAgainstCertificate Branches inst tree)
-for_tree P inst tree (inl tsp) first = subst (λ k. P (StandsAgainstCertificateBy Branches k inst tree)) (sym tsp) first
-for_tree P inst tree (inr atsp) first = subst (λ k. P (StandsAgainstCertificateBy Branches k inst tree)) (sym atsp) first
+for_tree : (P : (Reason → Type 0) → Type 0) (inst tree : Fields) → HasArcsOrEdges inst → P (AppliesToBranches inst tree)
+    → P (AppliesToCertificate Branches inst tree)
+for_tree P inst tree (inl tsp) first = subst (λ k. P (AppliesToCertificateBy Branches k inst tree)) (sym tsp) first
+for_tree P inst tree (inr atsp) first = subst (λ k. P (AppliesToCertificateBy Branches k inst tree)) (sym atsp) first
 
 pub comb_first : (inst tree : Fields) (costs : ℕ → ℕ → ℤ) (index : ℕ) → HasArcsOrEdges inst → is_branches_file tree.kind ≡ true
     → nodes_of tree ≡ nodes_of inst
     → IsReported inst tree costs (found.BadFamily index)
-    → IsFirstReason (StandsAgainstCertificate Branches inst tree) (BadComb index)
-comb_first inst tree costs index kind sort size is = for_tree (λ Stands. IsFirstReason Stands (BadComb index)) inst tree kind (record {
-  stands = bad_comb inst tree index is.by_steps;
+    → IsFirstReason (AppliesToCertificate Branches inst tree) (BadComb index)
+comb_first inst tree costs index kind sort size is = for_tree (λ Applies. IsFirstReason Applies (BadComb index)) inst tree kind (record {
+  applies = bad_comb inst tree index is.by_steps;
   none_before = none_before inst tree (rank_of (BadComb 1)) (λ low. sort) (λ low. size) (λ low. absurd (omega (arith, low)))
       (λ low. absurd (omega (arith, low))) (λ low. absurd (omega (arith, low))) (λ low. absurd (omega (arith, low)));
 })
@@ -341,9 +341,9 @@ comb_first inst tree costs index kind sort size is = for_tree (λ Stands. IsFirs
 pub pair_first : (inst tree : Fields) (costs : ℕ → ℕ → ℤ) (index : ℕ) → HasArcsOrEdges inst → is_branches_file tree.kind ≡ true
     → nodes_of tree ≡ nodes_of inst
     → IsReported inst tree costs (found.BadBranch index)
-    → IsFirstReason (StandsAgainstCertificate Branches inst tree) (BadBranch index)
-pair_first inst tree costs index kind sort size is = for_tree (λ Stands. IsFirstReason Stands (BadBranch index)) inst tree kind (record {
-  stands = (is.steps, is.steps_are, is.by_steps.2);
+    → IsFirstReason (AppliesToCertificate Branches inst tree) (BadBranch index)
+pair_first inst tree costs index kind sort size is = for_tree (λ Applies. IsFirstReason Applies (BadBranch index)) inst tree kind (record {
+  applies = (is.steps, is.steps_are, is.by_steps.2);
   none_before = none_before inst tree (rank_of (BadBranch 1)) (λ low. sort) (λ low. size)
       (λ low. no_bad_comb inst tree is.by_steps.1.good) (λ low. absurd (omega (arith, low)))
       (λ low. absurd (omega (arith, low))) (λ low. absurd (omega (arith, low)));
@@ -352,9 +352,9 @@ pair_first inst tree costs index kind sort size is = for_tree (λ Stands. IsFirs
 pub twice_first : (inst tree : Fields) (costs : ℕ → ℕ → ℤ) (index : ℕ) → HasArcsOrEdges inst → is_branches_file tree.kind ≡ true
     → nodes_of tree ≡ nodes_of inst
     → IsReported inst tree costs (found.BranchTwice index)
-    → IsFirstReason (StandsAgainstCertificate Branches inst tree) (BranchTwice index)
-twice_first inst tree costs index kind sort size is = for_tree (λ Stands. IsFirstReason Stands (BranchTwice index)) inst tree kind (record {
-  stands = (is.steps, is.steps_are, is.by_steps.3);
+    → IsFirstReason (AppliesToCertificate Branches inst tree) (BranchTwice index)
+twice_first inst tree costs index kind sort size is = for_tree (λ Applies. IsFirstReason Applies (BranchTwice index)) inst tree kind (record {
+  applies = (is.steps, is.steps_are, is.by_steps.3);
   none_before = none_before inst tree (rank_of (BranchTwice 1)) (λ low. sort) (λ low. size)
       (λ low. no_bad_comb inst tree is.by_steps.1.good) (λ low. no_bad_pair inst tree is.steps is.steps_are is.by_steps.2.0)
       (λ low. absurd (omega (arith, low))) (λ low. absurd (omega (arith, low)));
@@ -363,9 +363,9 @@ twice_first inst tree costs index kind sort size is = for_tree (λ Stands. IsFir
 pub leaf_first : (inst tree : Fields) (costs : ℕ → ℕ → ℤ) (index : ℕ) → HasArcsOrEdges inst → is_branches_file tree.kind ≡ true
     → nodes_of tree ≡ nodes_of inst
     → IsReported inst tree costs (found.BadLeaf index)
-    → IsFirstReason (StandsAgainstCertificate Branches inst tree) (BadLeaf index)
-leaf_first inst tree costs index kind sort size is = for_tree (λ Stands. IsFirstReason Stands (BadLeaf index)) inst tree kind (record {
-  stands = (
+    → IsFirstReason (AppliesToCertificate Branches inst tree) (BadLeaf index)
+leaf_first inst tree costs index kind sort size is = for_tree (λ Applies. IsFirstReason Applies (BadLeaf index)) inst tree kind (record {
+  applies = (
     is.steps,
     is.steps_are,
     is.by_steps.crossed,
@@ -381,26 +381,26 @@ leaf_first inst tree costs index kind sort size is = for_tree (λ Stands. IsFirs
 none_of_branches : NumbersAreUnique → (inst tree : Fields) (costs : ℕ → ℕ → ℤ) (bound : Option ℤ)
     → is_branches_file tree.kind ≡ true
     → nodes_of tree ≡ nodes_of inst → IsReported inst tree costs (found.Bound bound)
-    → (reason : Reason) → StandsAgainstBranches inst tree reason → ⊥
-none_of_branches unique inst tree costs bound sort size is NotBranches stands = false≢true (sym stands ∙ sort)
-none_of_branches unique inst tree costs bound sort size is BranchesDimension stands = stands size
-none_of_branches unique inst tree costs bound sort size is (BadComb index) stands =
-    no_bad_comb inst tree is.by_steps.are_families.good index stands
-none_of_branches unique inst tree costs bound sort size is (BadBranch index) stands =
-    no_bad_pair inst tree is.steps is.steps_are is.by_steps.on_nodes.0 index stands
-none_of_branches unique inst tree costs bound sort size is (BranchTwice index) stands =
-    no_twice inst tree is.steps is.steps_are is.by_steps.are_once.0 index stands
-none_of_branches unique inst tree costs bound sort size is (BadLeaf index) stands =
+    → (reason : Reason) → AppliesToBranches inst tree reason → ⊥
+none_of_branches unique inst tree costs bound sort size is NotBranches applies = false≢true (sym applies ∙ sort)
+none_of_branches unique inst tree costs bound sort size is BranchesDimension applies = applies size
+none_of_branches unique inst tree costs bound sort size is (BadComb index) applies =
+    no_bad_comb inst tree is.by_steps.are_families.good index applies
+none_of_branches unique inst tree costs bound sort size is (BadBranch index) applies =
+    no_bad_pair inst tree is.steps is.steps_are is.by_steps.on_nodes.0 index applies
+none_of_branches unique inst tree costs bound sort size is (BranchTwice index) applies =
+    no_twice inst tree is.steps is.steps_are is.by_steps.are_once.0 index applies
+none_of_branches unique inst tree costs bound sort size is (BadLeaf index) applies =
     no_bad_leaf unique inst tree is.steps is.by_steps.crossed is.steps_are
-    (numbers_reported inst tree is.by_steps.crossed is.by_steps.are_families) is.by_steps.leaves.2 index stands
-none_of_branches unique inst tree costs bound sort size is reason stands = stands
+    (numbers_reported inst tree is.by_steps.crossed is.by_steps.are_families) is.by_steps.leaves.2 index applies
+none_of_branches unique inst tree costs bound sort size is reason applies = applies
 
-pub none_stands : NumbersAreUnique → (inst tree : Fields) (costs : ℕ → ℕ → ℤ) (bound : Option ℤ) → HasArcsOrEdges inst
+pub nothing_applies : NumbersAreUnique → (inst tree : Fields) (costs : ℕ → ℕ → ℤ) (bound : Option ℤ) → HasArcsOrEdges inst
     → is_branches_file tree.kind ≡ true
     → nodes_of tree ≡ nodes_of inst → IsReported inst tree costs (found.Bound bound)
-    → (reason : Reason) → StandsAgainstCertificate Branches inst tree reason → ⊥
-none_stands unique inst tree costs bound kind sort size is =
-    for_tree (λ Stands. (reason : Reason) → Stands reason → ⊥) inst tree kind
+    → (reason : Reason) → AppliesToCertificate Branches inst tree reason → ⊥
+nothing_applies unique inst tree costs bound kind sort size is =
+    for_tree (λ Applies. (reason : Reason) → Applies reason → ⊥) inst tree kind
     (none_of_branches unique inst tree costs bound sort size is)
 
 -- ---- the bound, carried to costs that are the same between all nodes
@@ -420,10 +420,10 @@ costs_for false n cost some even = (some, even refl)
 costs_for true n cost some even = omega (arith, some)
 
 -- the costs of a view are the same in both directions where those of the instance are
-pub even_view : (inst : Fields) (directed : Bool) (costs : ℕ → ℕ → ℤ) → HasArcsOrEdges inst → directed ≡ is_directed inst.kind
+pub symmetric_view : (inst : Fields) (directed : Bool) (costs : ℕ → ℕ → ℤ) → HasArcsOrEdges inst → directed ≡ is_directed inst.kind
     → IsSymmetricTsp inst → Same costs (cost inst)
     → directed ≡ false → IsSymmetric costs
-even_view inst directed costs kind is even same undirected i j differ =
+symmetric_view inst directed costs kind is even same undirected i j differ =
     same i j ∙ even (tsp_of_undirected inst kind (sym is ∙ undirected)) i j differ ∙ sym (same j i)
 
 -- what is found for the costs of a view is found for those of the instance

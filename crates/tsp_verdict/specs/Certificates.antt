@@ -63,17 +63,17 @@ pub record BreaksDuals (instance certificate : Fields) (i j : ℕ) : Type 0 wher
 -- ---- when a reason applies to it; reasons of tours and of routes never do
 
 -- when a reason applies to the certificate
-abbrev pub StandsAgainstPotentials : Fields → Fields → Reason → Type 0
-StandsAgainstPotentials instance certificate NotPotentials = is_potentials_file certificate.kind ≡ false
-StandsAgainstPotentials instance certificate PotentialsDimension = nodes_of certificate ≢ nodes_of instance
-StandsAgainstPotentials instance certificate PotentialsKind = has_wanted instance.kind certificate ≡ false
-StandsAgainstPotentials instance certificate (MultiplierNotFixed index) = (instance.kind ≡ Some kinds.Tsp)
+abbrev pub AppliesToPotentials : Fields → Fields → Reason → Type 0
+AppliesToPotentials instance certificate NotPotentials = is_potentials_file certificate.kind ≡ false
+AppliesToPotentials instance certificate PotentialsDimension = nodes_of certificate ≢ nodes_of instance
+AppliesToPotentials instance certificate PotentialsKind = has_wanted instance.kind certificate ≡ false
+AppliesToPotentials instance certificate (MultiplierNotFixed index) = (instance.kind ≡ Some kinds.Tsp)
     × IsFirstPlace (IsUnlisted (fixed_of instance) (multipliers_in certificate)) (multipliers_in certificate) index
-StandsAgainstPotentials instance certificate (MultiplierRepeated index) = (instance.kind ≡ Some kinds.Tsp)
+AppliesToPotentials instance certificate (MultiplierRepeated index) = (instance.kind ≡ Some kinds.Tsp)
     × IsFirstPlace (IsPairRepeated (multipliers_in certificate)) (multipliers_in certificate) index
-StandsAgainstPotentials instance certificate (DualInfeasible i j) = (instance.kind ≡ Some kinds.Atsp)
+AppliesToPotentials instance certificate (DualInfeasible i j) = (instance.kind ≡ Some kinds.Atsp)
     × BreaksDuals instance certificate i j
-StandsAgainstPotentials instance certificate reason = ⊥
+AppliesToPotentials instance certificate reason = ⊥
 
 -- ---- its bound
 
@@ -127,18 +127,18 @@ abbrev pub IsBadFamily : ℕ → List (List (List ℕ)) → ℕ → Type 0
 IsBadFamily n families place = IsGoodFamily n (slice_index_or families (place - 1) []) → ⊥
 
 -- when a reason applies to the certificate
-abbrev pub StandsAgainstBranches : Fields → Fields → Reason → Type 0
-StandsAgainstBranches instance tree NotBranches = is_branches_file tree.kind ≡ false
-StandsAgainstBranches instance tree BranchesDimension = nodes_of tree ≢ nodes_of instance
-StandsAgainstBranches instance tree (BadComb index) = IsFirstPlace (IsBadFamily (nodes_of instance) (families_listed tree))
+abbrev pub AppliesToBranches : Fields → Fields → Reason → Type 0
+AppliesToBranches instance tree NotBranches = is_branches_file tree.kind ≡ false
+AppliesToBranches instance tree BranchesDimension = nodes_of tree ≢ nodes_of instance
+AppliesToBranches instance tree (BadComb index) = IsFirstPlace (IsBadFamily (nodes_of instance) (families_listed tree))
     (families_listed tree) index
-StandsAgainstBranches instance tree (BadBranch index) = (steps : List listed.Step) × (tree.branches ≡ Some steps)
+AppliesToBranches instance tree (BadBranch index) = (steps : List listed.Step) × (tree.branches ≡ Some steps)
     × IsFirstBadBranch 1 (nodes_of instance) steps index
-StandsAgainstBranches instance tree (BranchTwice index) = (steps : List listed.Step) × (tree.branches ≡ Some steps)
+AppliesToBranches instance tree (BranchTwice index) = (steps : List listed.Step) × (tree.branches ≡ Some steps)
     × IsFirstTwice (is_directed instance.kind) (given_in instance) steps index
-StandsAgainstBranches instance tree (BadLeaf index) = (steps : List listed.Step) × (tree.branches ≡ Some steps)
+AppliesToBranches instance tree (BadLeaf index) = (steps : List listed.Step) × (tree.branches ≡ Some steps)
     × (crossed : List Crossings) × AreNumbersOf instance tree crossed × IsFirstBadLeaf (nodes_of instance) crossed steps index
-StandsAgainstBranches instance tree reason = ⊥
+AppliesToBranches instance tree reason = ⊥
 
 -- ---- its bound
 
@@ -171,23 +171,23 @@ unit_in tree = nat_abs (load_unit_in tree)
 -- ---- when a reason applies to it; reasons of routes and of other certificates never do
 
 -- when a reason applies to the certificate
-abbrev pub StandsAgainstWalks : Fields → Fields → Reason → Type 0
-StandsAgainstWalks instance tree NotBranches = is_branches_file tree.kind ≡ false
-StandsAgainstWalks instance tree BranchesDimension = nodes_of tree ≢ nodes_of instance
-StandsAgainstWalks instance tree (BadComb index) =
+abbrev pub AppliesToQRoutes : Fields → Fields → Reason → Type 0
+AppliesToQRoutes instance tree NotBranches = is_branches_file tree.kind ≡ false
+AppliesToQRoutes instance tree BranchesDimension = nodes_of tree ≢ nodes_of instance
+AppliesToQRoutes instance tree (BadComb index) =
     IsFirstBadSet (nodes_of instance) (depot_of instance) (families_listed tree) index
-StandsAgainstWalks instance tree (BadBranch index) = (steps : List listed.Step) × (tree.branches ≡ Some steps)
+AppliesToQRoutes instance tree (BadBranch index) = (steps : List listed.Step) × (tree.branches ≡ Some steps)
     × IsFirstBadPlanBranch (nodes_of instance) (length (families_listed tree)) steps index
-StandsAgainstWalks instance tree (BadLeaf index) = (steps : List listed.Step) × (tree.branches ≡ Some steps)
+AppliesToQRoutes instance tree (BadLeaf index) = (steps : List listed.Step) × (tree.branches ≡ Some steps)
     × IsFirstBadPlanLeaf (nodes_of instance) (length (families_listed tree)) steps index
-StandsAgainstWalks instance tree TooManyLoads = HasTooManyLoads (routing_of instance) (unit_in tree)
-StandsAgainstWalks instance tree reason = ⊥
+AppliesToQRoutes instance tree TooManyLoads = HasTooManyLoads (routing_of instance) (unit_in tree)
+AppliesToQRoutes instance tree reason = ⊥
 
 -- ---- its bound
 
 -- the families are sets of customers, the tree is whole with good numbers at its leaves, and the least of the bounds of
 -- these, by least walks, is `found`; None where there is no walk
-pub record HasBoundByWalks (instance tree : Fields) (found : Option ℤ) : Type 0 where
+pub record HasBoundByQRoutes (instance tree : Fields) (found : Option ℤ) : Type 0 where
   pub steps : List listed.Step
   pub steps_are : tree.branches ≡ Some steps
   pub bound : IsBoundFound (routing_of instance) (scale_in tree) (unit_in tree) (families_listed tree) steps found

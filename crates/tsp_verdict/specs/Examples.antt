@@ -4,7 +4,6 @@ use Rattle.tsp_format.specs.declared.kinds.Kind.{Kind}
 use Rattle.tsp_format.specs.declared.kinds.Kind.TheVariants as kinds
 use Rattle.tsp_format.specs.Steps.{Step, Branch, Leaf}
 use Rattle.tsp_file.specs.Fields.{Fields, blank_fields}
-
 use Rattle.tsp_report.specs.declared.verdict.Reason.{Reason}
 use Rattle.tsp_report.specs.Verdicts.{rank_of}
 

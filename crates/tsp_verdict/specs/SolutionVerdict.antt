@@ -7,16 +7,16 @@ use Rattle.tsp_file.specs.Fields.{Fields}
 use Rattle.tsp_file.specs.Rules.{is_instance}
 use Rattle.tsp_theory.specs.Tour.{IsLeastRoutes}
 use Rattle.tsp_cost.specs.Problems.{capacity_of}
-use Rattle.tsp_report.specs.declared.task.Certificate.{Certificate}
-use Rattle.tsp_report.specs.declared.verdict.Basis.{Basis}
-use Rattle.tsp_report.specs.declared.verdict.Basis.TheVariants as bases
+use Rattle.tsp_report.specs.declared.task.CertificateKind.{CertificateKind}
+use Rattle.tsp_report.specs.declared.verdict.KnownBound.{KnownBound}
+use Rattle.tsp_report.specs.declared.verdict.KnownBound.TheVariants as known_bounds
 use Rattle.tsp_report.specs.declared.verdict.BoundVerdict.{BoundVerdict}
 use Rattle.tsp_report.specs.declared.verdict.BoundVerdict.TheVariants as bounds
 use Rattle.tsp_report.specs.declared.verdict.Reason.{Reason}
 use Rattle.tsp_report.specs.declared.verdict.Reason.TheVariants.{LengthClaimed, NotJudged}
 use Rattle.tsp_report.specs.declared.verdict.Verdict.{Verdict}
 use Rattle.tsp_report.specs.declared.verdict.Verdict.TheVariants.{Tour, Routes, No}
-use Rattle.tsp_verdict.specs.Certified.{is_bounded, StandsAgainstCertificate, IsCertifiedVerdict, StandsAgainstTouring, NoneAgainstTouring, StandsAgainstRouting, NoneAgainstRouting, NoneAgainstInstance, IsBoundVerdict, NoneWithoutMemory}
+use Rattle.tsp_verdict.specs.Certified.{is_bounded, AppliesToCertificate, IsCertifiedVerdict, AppliesToTouring, NoneAgainstTouring, AppliesToRouting, NoneAgainstRouting, NoneAgainstInstance, IsBoundVerdict, NoneWithoutMemory}
 use Rattle.tsp_verdict.specs.Solutions.{IsFirstReason, IsRoutesVerdict, NoneOfRoutesBeforeRepeats, IsTourVerdict, NoneOfTourBeforeRepeats, total_of}
 
 -- ---- without a certificate: a tour for TYPE TSP and ATSP, routes for TYPE CVRP
@@ -47,19 +47,19 @@ NoneBeforeRepeatsOn instance solution = NoneBeforeRepeatsBy instance.kind instan
 -- ---- with a certificate or without
 
 -- whether solutions of instances of this TYPE are judged, with such a certificate or with none
-abbrev pub is_judged : Option (Certificate × Fields) → Option Kind → Bool
+abbrev pub is_judged : Option (CertificateKind × Fields) → Option Kind → Bool
 is_judged None kind = is_instance kind
 is_judged (Some given) kind = is_bounded given.0 kind
 
 -- the verdict, with a certificate or without, where no length is claimed
-abbrev pub IsUnclaimedVerdict : Option (Certificate × Fields) → Fields → Fields → Verdict → Type 0
+abbrev pub IsUnclaimedVerdict : Option (CertificateKind × Fields) → Fields → Fields → Verdict → Type 0
 IsUnclaimedVerdict None instance solution verdict = IsVerdictOn instance solution verdict
 IsUnclaimedVerdict (Some given) instance solution verdict = IsCertifiedVerdict given.0 instance solution given.1 verdict
 
 -- the first reason against the certificate, where there is one
-abbrev pub IsFirstAgainstGiven : Option (Certificate × Fields) → Fields → Reason → Type 0
+abbrev pub IsFirstAgainstGiven : Option (CertificateKind × Fields) → Fields → Reason → Type 0
 IsFirstAgainstGiven None instance reason = ⊥
-IsFirstAgainstGiven (Some given) instance reason = IsFirstReason (StandsAgainstCertificate given.0 instance given.1) reason
+IsFirstAgainstGiven (Some given) instance reason = IsFirstReason (AppliesToCertificate given.0 instance given.1) reason
 
 -- ---- with a length that is claimed
 
@@ -92,7 +92,7 @@ IsOfLength instance solution found = (yes : Verdict) × IsVerdictOn instance sol
 -- No, in this order: the first reason against the solution; or that it has another length than the claimed one; or the
 -- first reason against the certificate. Tour and Routes: the solution is accepted without the claim too, and its length
 -- is the claimed one.
-abbrev pub IsClaimedVerdict : ℤ → Option (Certificate × Fields) → Fields → Fields → Verdict → Type 0
+abbrev pub IsClaimedVerdict : ℤ → Option (CertificateKind × Fields) → Fields → Fields → Verdict → Type 0
 IsClaimedVerdict claim given instance solution (No reason) = IsVerdictOn instance solution (No reason)
     ⊎ ((found : ℤ) × IsOfLength instance solution found × (claim ≢ found) × (reason ≡ LengthClaimed found))
     ⊎ (IsOfLength instance solution claim × IsFirstAgainstGiven given instance reason)
@@ -102,7 +102,7 @@ IsClaimedVerdict claim given instance solution (Routes length_is routes least bo
     IsUnclaimedVerdict given instance solution (Routes length_is routes least bound) × (claim ≡ length_is)
 
 -- the verdict on a solution, with a certificate or without, with a claimed length or without
-abbrev pub IsVerdictWith : Option (Certificate × Fields) → Option ℤ → Fields → Fields → Verdict → Type 0
+abbrev pub IsVerdictWith : Option (CertificateKind × Fields) → Option ℤ → Fields → Fields → Verdict → Type 0
 IsVerdictWith given None instance solution verdict = IsUnclaimedVerdict given instance solution verdict
 IsVerdictWith given (Some claim) instance solution verdict = IsClaimedVerdict claim given instance solution verdict
 
@@ -111,83 +111,83 @@ IsVerdictWith given (Some claim) instance solution verdict = IsClaimedVerdict cl
 -- ---- without a certificate, by the TYPE of the instance
 
 -- tours: no reason applies to the instance, or this is the first that does
-abbrev pub IsBasisOfTours : Fields → Basis → Type 0
-IsBasisOfTours instance (bases.Tours None) = NoneAgainstTouring instance
-IsBasisOfTours instance (bases.Tours (Some bound)) = ⊥
-IsBasisOfTours instance bases.NoSolution = ⊥
-IsBasisOfTours instance (bases.Routes least bound) = ⊥
-IsBasisOfTours instance (bases.No reason) = IsFirstReason (StandsAgainstTouring instance) reason
+abbrev pub IsKnownBoundOfTours : Fields → KnownBound → Type 0
+IsKnownBoundOfTours instance (known_bounds.Tours None) = NoneAgainstTouring instance
+IsKnownBoundOfTours instance (known_bounds.Tours (Some bound)) = ⊥
+IsKnownBoundOfTours instance known_bounds.NoSolution = ⊥
+IsKnownBoundOfTours instance (known_bounds.Routes least bound) = ⊥
+IsKnownBoundOfTours instance (known_bounds.No reason) = IsFirstReason (AppliesToTouring instance) reason
 
 -- routes: the least number that carries all demands, or the first reason against the instance
-abbrev pub IsBasisOfRoutes : Fields → Basis → Type 0
-IsBasisOfRoutes instance (bases.Tours bound) = ⊥
-IsBasisOfRoutes instance bases.NoSolution = ⊥
-IsBasisOfRoutes instance (bases.Routes least None) = NoneAgainstRouting instance
+abbrev pub IsKnownBoundOfRoutes : Fields → KnownBound → Type 0
+IsKnownBoundOfRoutes instance (known_bounds.Tours bound) = ⊥
+IsKnownBoundOfRoutes instance known_bounds.NoSolution = ⊥
+IsKnownBoundOfRoutes instance (known_bounds.Routes least None) = NoneAgainstRouting instance
     × IsLeastRoutes (total_of instance) (capacity_of instance) least
-IsBasisOfRoutes instance (bases.Routes least (Some bound)) = ⊥
-IsBasisOfRoutes instance (bases.No reason) = IsFirstReason (StandsAgainstRouting instance) reason
+IsKnownBoundOfRoutes instance (known_bounds.Routes least (Some bound)) = ⊥
+IsKnownBoundOfRoutes instance (known_bounds.No reason) = IsFirstReason (AppliesToRouting instance) reason
 
 -- the basis without a certificate
-abbrev pub IsBasisAlone : Option Kind → Fields → Basis → Type 0
-IsBasisAlone (Some kinds.Tsp) instance basis = IsBasisOfTours instance basis
-IsBasisAlone (Some kinds.Atsp) instance basis = IsBasisOfTours instance basis
-IsBasisAlone (Some kinds.Cvrp) instance basis = IsBasisOfRoutes instance basis
-IsBasisAlone other instance basis = ⊥
+abbrev pub IsKnownBoundAlone : Option Kind → Fields → KnownBound → Type 0
+IsKnownBoundAlone (Some kinds.Tsp) instance known_bound = IsKnownBoundOfTours instance known_bound
+IsKnownBoundAlone (Some kinds.Atsp) instance known_bound = IsKnownBoundOfTours instance known_bound
+IsKnownBoundAlone (Some kinds.Cvrp) instance known_bound = IsKnownBoundOfRoutes instance known_bound
+IsKnownBoundAlone other instance known_bound = ⊥
 
 -- ---- with a certificate: the verdict on a bound without a solution
 
 -- tours: the bound of the certificate, or that there is no tour, or the first reason against instance and certificate
-abbrev pub IsBasisOfToursBy : Certificate → Fields → Fields → Basis → Type 0
-IsBasisOfToursBy by instance certificate (bases.Tours None) = ⊥
-IsBasisOfToursBy by instance certificate (bases.Tours (Some bound)) = IsBoundVerdict by instance certificate (bounds.Bound bound)
-IsBasisOfToursBy by instance certificate bases.NoSolution = IsBoundVerdict by instance certificate bounds.NoSolution
-IsBasisOfToursBy by instance certificate (bases.Routes least bound) = ⊥
-IsBasisOfToursBy by instance certificate (bases.No reason) = IsBoundVerdict by instance certificate (bounds.No reason)
+abbrev pub IsKnownBoundOfToursBy : CertificateKind → Fields → Fields → KnownBound → Type 0
+IsKnownBoundOfToursBy by instance certificate (known_bounds.Tours None) = ⊥
+IsKnownBoundOfToursBy by instance certificate (known_bounds.Tours (Some bound)) = IsBoundVerdict by instance certificate (bounds.Bound bound)
+IsKnownBoundOfToursBy by instance certificate known_bounds.NoSolution = IsBoundVerdict by instance certificate bounds.NoSolution
+IsKnownBoundOfToursBy by instance certificate (known_bounds.Routes least bound) = ⊥
+IsKnownBoundOfToursBy by instance certificate (known_bounds.No reason) = IsBoundVerdict by instance certificate (bounds.No reason)
 
 -- routes: the same, with the least number that carries all demands
-abbrev pub IsBasisOfRoutesBy : Certificate → Fields → Fields → Basis → Type 0
-IsBasisOfRoutesBy by instance certificate (bases.Routes least None) = ⊥
-IsBasisOfRoutesBy by instance certificate (bases.Routes least (Some bound)) =
+abbrev pub IsKnownBoundOfRoutesBy : CertificateKind → Fields → Fields → KnownBound → Type 0
+IsKnownBoundOfRoutesBy by instance certificate (known_bounds.Routes least None) = ⊥
+IsKnownBoundOfRoutesBy by instance certificate (known_bounds.Routes least (Some bound)) =
     IsBoundVerdict by instance certificate (bounds.Bound bound) × IsLeastRoutes (total_of instance) (capacity_of instance) least
-IsBasisOfRoutesBy by instance certificate bases.NoSolution = IsBoundVerdict by instance certificate bounds.NoSolution
-IsBasisOfRoutesBy by instance certificate (bases.Tours bound) = ⊥
-IsBasisOfRoutesBy by instance certificate (bases.No reason) = IsBoundVerdict by instance certificate (bounds.No reason)
+IsKnownBoundOfRoutesBy by instance certificate known_bounds.NoSolution = IsBoundVerdict by instance certificate bounds.NoSolution
+IsKnownBoundOfRoutesBy by instance certificate (known_bounds.Tours bound) = ⊥
+IsKnownBoundOfRoutesBy by instance certificate (known_bounds.No reason) = IsBoundVerdict by instance certificate (bounds.No reason)
 
 -- the basis with a certificate
-abbrev pub IsBasisBy : Option Kind → Certificate → Fields → Fields → Basis → Type 0
-IsBasisBy (Some kinds.Cvrp) by instance certificate basis = IsBasisOfRoutesBy by instance certificate basis
-IsBasisBy other by instance certificate basis = IsBasisOfToursBy by instance certificate basis
+abbrev pub IsKnownBoundBy : Option Kind → CertificateKind → Fields → Fields → KnownBound → Type 0
+IsKnownBoundBy (Some kinds.Cvrp) by instance certificate known_bound = IsKnownBoundOfRoutesBy by instance certificate known_bound
+IsKnownBoundBy other by instance certificate known_bound = IsKnownBoundOfToursBy by instance certificate known_bound
 
 -- ---- either
 
 -- the basis, with a certificate or without
-abbrev pub IsBasisWith : Option (Certificate × Fields) → Fields → Basis → Type 0
-IsBasisWith None instance basis = IsBasisAlone instance.kind instance basis
-IsBasisWith (Some given) instance basis = IsBasisBy instance.kind given.0 instance given.1 basis
+abbrev pub IsKnownBoundWith : Option (CertificateKind × Fields) → Fields → KnownBound → Type 0
+IsKnownBoundWith None instance known_bound = IsKnownBoundAlone instance.kind instance known_bound
+IsKnownBoundWith (Some given) instance known_bound = IsKnownBoundBy instance.kind given.0 instance given.1 known_bound
 
 -- the basis of an instance whose solutions are judged so
-abbrev pub IsBasis : Option (Certificate × Fields) → Fields → Basis → Type 0
-IsBasis given instance basis = IsTrue (is_judged given instance.kind) × IsBasisWith given instance basis
+abbrev pub IsKnownBound : Option (CertificateKind × Fields) → Fields → KnownBound → Type 0
+IsKnownBound given instance known_bound = IsTrue (is_judged given instance.kind) × IsKnownBoundWith given instance known_bound
 
 -- Out of memory: no reason applies to the instance, nor one to the certificate that is found without memory. Without a
 -- certificate none is taken.
-abbrev pub NoneOfBasisWithoutMemory : Option (Certificate × Fields) → Fields → Type 0
-NoneOfBasisWithoutMemory None instance = ⊥
-NoneOfBasisWithoutMemory (Some given) instance = NoneAgainstInstance instance × NoneWithoutMemory given.0 instance given.1
+abbrev pub NoneOfKnownBoundWithoutMemory : Option (CertificateKind × Fields) → Fields → Type 0
+NoneOfKnownBoundWithoutMemory None instance = ⊥
+NoneOfKnownBoundWithoutMemory (Some given) instance = NoneAgainstInstance instance × NoneWithoutMemory given.0 instance given.1
 
 -- ---- a solution
 
 -- an accepted solution has the bound of the basis, or its least number of routes
-abbrev pub HasBasis : Verdict → Basis → Type 0
-HasBasis (Tour length bound) basis = basis ≡ bases.Tours bound
-HasBasis (Routes length routes least bound) basis = basis ≡ bases.Routes least bound
-HasBasis (No reason) basis = Unit {0}
+abbrev pub HasKnownBound : Verdict → KnownBound → Type 0
+HasKnownBound (Tour length bound) known_bound = known_bound ≡ known_bounds.Tours bound
+HasKnownBound (Routes length routes least bound) known_bound = known_bound ≡ known_bounds.Routes least bound
+HasKnownBound (No reason) known_bound = Unit {0}
 
 -- the verdict on a solution by a basis, with a claimed length or without: it is the verdict with each certificate that
 -- gives the instance this basis
-abbrev pub IsVerdictFrom : Basis → Option ℤ → Fields → Fields → Verdict → Type 0
-IsVerdictFrom basis claimed instance solution verdict = HasBasis verdict basis
-    × ((given : Option (Certificate × Fields)) → IsBasis given instance basis
+abbrev pub IsVerdictFrom : KnownBound → Option ℤ → Fields → Fields → Verdict → Type 0
+IsVerdictFrom known_bound claimed instance solution verdict = HasKnownBound verdict known_bound
+    × ((given : Option (CertificateKind × Fields)) → IsKnownBound given instance known_bound
     → IsVerdictWith given claimed instance solution verdict)
 
 -- ---- unknown keywords of an instance as a reason
@@ -217,48 +217,48 @@ strict_bound true bounds.NoSolution = bounds.No NotJudged
 strict_bound true (bounds.No reason) = bounds.No reason
 
 -- the same of a basis
-abbrev pub strict_basis : Bool → Basis → Basis
-strict_basis false basis = basis
-strict_basis true (bases.Tours bound) = bases.No NotJudged
-strict_basis true bases.NoSolution = bases.No NotJudged
-strict_basis true (bases.Routes least bound) = bases.No NotJudged
-strict_basis true (bases.No reason) = bases.No reason
+abbrev pub strict_known_bound : Bool → KnownBound → KnownBound
+strict_known_bound false known_bound = known_bound
+strict_known_bound true (known_bounds.Tours bound) = known_bounds.No NotJudged
+strict_known_bound true known_bounds.NoSolution = known_bounds.No NotJudged
+strict_known_bound true (known_bounds.Routes least bound) = known_bounds.No NotJudged
+strict_known_bound true (known_bounds.No reason) = known_bounds.No reason
 
 -- the verdict on a solution, with unknown keywords as a reason or not
-abbrev pub IsVerdictAsked : Bool → Option (Certificate × Fields) → Option ℤ → Fields → Fields → Verdict → Type 0
+abbrev pub IsVerdictAsked : Bool → Option (CertificateKind × Fields) → Option ℤ → Fields → Fields → Verdict → Type 0
 IsVerdictAsked strict given claimed instance solution verdict = (plain : Verdict)
     × IsVerdictWith given claimed instance solution plain × (verdict ≡ strict_verdict (is_unjudged strict instance) plain)
 
 -- the same of a bound without a solution
-abbrev pub IsBoundAsked : Bool → Certificate → Fields → Fields → BoundVerdict → Type 0
+abbrev pub IsBoundAsked : Bool → CertificateKind → Fields → Fields → BoundVerdict → Type 0
 IsBoundAsked strict by instance certificate found = (plain : BoundVerdict)
     × IsBoundVerdict by instance certificate plain × (found ≡ strict_bound (is_unjudged strict instance) plain)
 
 -- the same of a basis
-abbrev pub IsBasisAsked : Bool → Option (Certificate × Fields) → Fields → Basis → Type 0
-IsBasisAsked strict given instance basis = (plain : Basis)
-    × IsBasis given instance plain × (basis ≡ strict_basis (is_unjudged strict instance) plain)
+abbrev pub IsKnownBoundAsked : Bool → Option (CertificateKind × Fields) → Fields → KnownBound → Type 0
+IsKnownBoundAsked strict given instance known_bound = (plain : KnownBound)
+    × IsKnownBound given instance plain × (known_bound ≡ strict_known_bound (is_unjudged strict instance) plain)
 
 -- ---- that files have one verdict, one bound and one basis, for every TYPE, certificate and
 
 -- An instance and a solution, with a certificate or without, and with a claimed length or without, have one verdict.
 abbrev pub FilesHaveOneVerdict : Type 0
-FilesHaveOneVerdict = (given : Option (Certificate × Fields)) (claimed : Option ℤ) (instance solution : Fields)
+FilesHaveOneVerdict = (given : Option (CertificateKind × Fields)) (claimed : Option ℤ) (instance solution : Fields)
     (one other : Verdict) → IsVerdictWith given claimed instance solution one
     → IsVerdictWith given claimed instance solution other → one ≡ other
 
 -- An instance and a certificate have one bound, or no solution, or one first reason.
 abbrev pub FilesHaveOneBound : Type 0
-FilesHaveOneBound = (by : Certificate) (instance certificate : Fields) (one other : BoundVerdict)
+FilesHaveOneBound = (by : CertificateKind) (instance certificate : Fields) (one other : BoundVerdict)
     → IsBoundVerdict by instance certificate one → IsBoundVerdict by instance certificate other → one ≡ other
 
 -- An instance has one basis, with a certificate or without.
-abbrev pub FilesHaveOneBasis : Type 0
-FilesHaveOneBasis = (given : Option (Certificate × Fields)) (instance : Fields) (one other : Basis)
-    → IsBasis given instance one → IsBasis given instance other → one ≡ other
+abbrev pub FilesHaveOneKnownBound : Type 0
+FilesHaveOneKnownBound = (given : Option (CertificateKind × Fields)) (instance : Fields) (one other : KnownBound)
+    → IsKnownBound given instance one → IsKnownBound given instance other → one ≡ other
 
 -- So a solution of an instance whose basis is known has one verdict: it has one line in a comparison.
 abbrev pub SolutionsHaveOneVerdict : Type 0
-SolutionsHaveOneVerdict = (given : Option (Certificate × Fields)) (basis : Basis) (claimed : Option ℤ)
-    (instance solution : Fields) (one other : Verdict) → IsBasis given instance basis
-    → IsVerdictFrom basis claimed instance solution one → IsVerdictFrom basis claimed instance solution other → one ≡ other
+SolutionsHaveOneVerdict = (given : Option (CertificateKind × Fields)) (known_bound : KnownBound) (claimed : Option ℤ)
+    (instance solution : Fields) (one other : Verdict) → IsKnownBound given instance known_bound
+    → IsVerdictFrom known_bound claimed instance solution one → IsVerdictFrom known_bound claimed instance solution other → one ≡ other

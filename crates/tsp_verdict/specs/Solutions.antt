@@ -54,12 +54,12 @@ IsUnused directed nodes pairs place = Uses directed nodes (slice_index_or pairs 
 
 -- none of the reasons applies whose rank is below this one
 abbrev pub NoneBefore : (Reason → Type 0) → ℕ → Type 0
-NoneBefore Stands rank = (reason : Reason) → rank_of reason < rank → Stands reason → ⊥
+NoneBefore Applies rank = (reason : Reason) → rank_of reason < rank → Applies reason → ⊥
 
 -- the reason applies, and none that is judged before it
-pub record IsFirstReason (Stands : Reason → Type 0) (reason : Reason) : Type 0 where
-  pub stands : Stands reason
-  pub none_before : NoneBefore Stands (rank_of reason)
+pub record IsFirstReason (Applies : Reason → Type 0) (reason : Reason) : Type 0 where
+  pub applies : Applies reason
+  pub none_before : NoneBefore Applies (rank_of reason)
 
 -- ---- the tours or routes of a solution's file, and all nodes of these
 
@@ -74,36 +74,36 @@ visited f = concat (tours_of f)
 -- ---- the verdict on a tour without a certificate
 
 -- When a reason applies to a tour: those of the files, of the tour and of the nodes of it. No other reason does.
-abbrev pub StandsAgainstTour : Fields → Fields → Reason → Type 0
-StandsAgainstTour instance solution NotASolution = is_tour_file solution.kind ≡ false
-StandsAgainstTour instance solution TooFewNodes = nodes_of instance < 3
-StandsAgainstTour instance solution (NotSymmetric i j) = (instance.kind ≡ Some kinds.Tsp)
+abbrev pub AppliesToTour : Fields → Fields → Reason → Type 0
+AppliesToTour instance solution NotASolution = is_tour_file solution.kind ≡ false
+AppliesToTour instance solution TooFewNodes = nodes_of instance < 3
+AppliesToTour instance solution (NotSymmetric i j) = (instance.kind ≡ Some kinds.Tsp)
     × IsFirstAsymmetric (nodes_of instance) (cost instance) (i, j)
-StandsAgainstTour instance solution Dimension = (n : ℕ) × (solution.dimension ≡ Some n) × (n ≢ nodes_of instance)
-StandsAgainstTour instance solution TourCount = length (tours_of solution) ≢ 1
-StandsAgainstTour instance solution TourLength = length (visited solution) ≢ nodes_of instance
-StandsAgainstTour instance solution (NodeOutOfRange place) = IsFirstPlace (IsLarger (nodes_of instance) (visited solution))
+AppliesToTour instance solution Dimension = (n : ℕ) × (solution.dimension ≡ Some n) × (n ≢ nodes_of instance)
+AppliesToTour instance solution TourCount = length (tours_of solution) ≢ 1
+AppliesToTour instance solution TourLength = length (visited solution) ≢ nodes_of instance
+AppliesToTour instance solution (NodeOutOfRange place) = IsFirstPlace (IsLarger (nodes_of instance) (visited solution))
     (visited solution) place
-StandsAgainstTour instance solution (RepeatedNode place) = IsFirstPlace (IsAtEarlierPlace (visited solution))
+AppliesToTour instance solution (RepeatedNode place) = IsFirstPlace (IsAtEarlierPlace (visited solution))
     (visited solution) place
-StandsAgainstTour instance solution (FixedEdgeUnused index) =
+AppliesToTour instance solution (FixedEdgeUnused index) =
     IsFirstPlace (IsUnused (is_directed instance.kind) (visited solution) (fixed_of instance)) (fixed_of instance) index
-StandsAgainstTour instance solution reason = ⊥
+AppliesToTour instance solution reason = ⊥
 
 -- none of the reasons applies that are judged before this one
 abbrev pub NoneOfTourBefore : Fields → Fields → Reason → Type 0
-NoneOfTourBefore instance solution reason = NoneBefore (StandsAgainstTour instance solution) (rank_of reason)
+NoneOfTourBefore instance solution reason = NoneBefore (AppliesToTour instance solution) (rank_of reason)
 
 -- the reason is the first one that applies
 abbrev pub IsFirstAgainstTour : Fields → Fields → Reason → Type 0
-IsFirstAgainstTour instance solution reason = IsFirstReason (StandsAgainstTour instance solution) reason
+IsFirstAgainstTour instance solution reason = IsFirstReason (AppliesToTour instance solution) reason
 
 -- No: the first reason that applies. Tour: no reason applies, the solution's one tour is a tour of the instance, and
 -- this is its length, without a bound.
 abbrev pub IsTourVerdict : Fields → Fields → Verdict → Type 0
 IsTourVerdict instance solution (verdicts.No reason) = IsFirstAgainstTour instance solution reason
 IsTourVerdict instance solution (verdicts.Tour length bound) =
-    ((reason : Reason) → StandsAgainstTour instance solution reason → ⊥)
+    ((reason : Reason) → AppliesToTour instance solution reason → ⊥)
     × ((tour : List ℕ) × (tours_of solution ≡ tour ∷ []) × IsTourOf instance tour × (length ≡ length_of (cost instance) tour))
     × (bound ≡ None)
 IsTourVerdict instance solution (verdicts.Routes length routes least bound) = ⊥
@@ -139,32 +139,32 @@ abbrev pub IsOverloaded : List ℤ → ℤ → List (List ℕ) → ℕ → Type 
 IsOverloaded demands capacity routes place = capacity <ℤ load_of demands (slice_index_or routes (place - 1) [])
 
 -- When a reason applies to routes: those of the files, the depot, the nodes and the loads. No other reason does.
-abbrev pub StandsAgainstRoutes : Fields → Fields → Reason → Type 0
-StandsAgainstRoutes instance solution NotASolution = is_tour_file solution.kind ≡ false
-StandsAgainstRoutes instance solution TooFewNodes = nodes_of instance < 2
-StandsAgainstRoutes instance solution Dimension = (n : ℕ) × (solution.dimension ≡ Some n) × (n ≢ nodes_of instance)
-StandsAgainstRoutes instance solution (NodeOutOfRange place) = IsFirstPlace (IsLarger (nodes_of instance) (visited solution))
+abbrev pub AppliesToRoutes : Fields → Fields → Reason → Type 0
+AppliesToRoutes instance solution NotASolution = is_tour_file solution.kind ≡ false
+AppliesToRoutes instance solution TooFewNodes = nodes_of instance < 2
+AppliesToRoutes instance solution Dimension = (n : ℕ) × (solution.dimension ≡ Some n) × (n ≢ nodes_of instance)
+AppliesToRoutes instance solution (NodeOutOfRange place) = IsFirstPlace (IsLarger (nodes_of instance) (visited solution))
     (visited solution) place
-StandsAgainstRoutes instance solution (RepeatedNode place) = IsFirstPlace (IsAtEarlierPlace (visited solution))
+AppliesToRoutes instance solution (RepeatedNode place) = IsFirstPlace (IsAtEarlierPlace (visited solution))
     (visited solution) place
-StandsAgainstRoutes instance solution DepotCount = length (depots_of instance) ≢ 1
-StandsAgainstRoutes instance solution DepotDemand = demand_of (demands_of instance) (depot_of instance) ≢ pos 0
-StandsAgainstRoutes instance solution FixedEdgesInRoutes = 1 ≤ length (fixed_of instance)
-StandsAgainstRoutes instance solution (DepotInRoute place) = IsFirstPlace (IsAt (depot_of instance) (visited solution))
+AppliesToRoutes instance solution DepotCount = length (depots_of instance) ≢ 1
+AppliesToRoutes instance solution DepotDemand = demand_of (demands_of instance) (depot_of instance) ≢ pos 0
+AppliesToRoutes instance solution FixedEdgesInRoutes = 1 ≤ length (fixed_of instance)
+AppliesToRoutes instance solution (DepotInRoute place) = IsFirstPlace (IsAt (depot_of instance) (visited solution))
     (visited solution) place
-StandsAgainstRoutes instance solution (Unserved node) = IsFirstUnserved (nodes_of instance) (depot_of instance)
+AppliesToRoutes instance solution (Unserved node) = IsFirstUnserved (nodes_of instance) (depot_of instance)
     (visited solution) node
-StandsAgainstRoutes instance solution (Overload route) =
+AppliesToRoutes instance solution (Overload route) =
     IsFirstPlace (IsOverloaded (demands_of instance) (capacity_of instance) (tours_of solution)) (tours_of solution) route
-StandsAgainstRoutes instance solution reason = ⊥
+AppliesToRoutes instance solution reason = ⊥
 
 -- none of the reasons applies that are judged before this one
 abbrev pub NoneOfRoutesBefore : Fields → Fields → Reason → Type 0
-NoneOfRoutesBefore instance solution reason = NoneBefore (StandsAgainstRoutes instance solution) (rank_of reason)
+NoneOfRoutesBefore instance solution reason = NoneBefore (AppliesToRoutes instance solution) (rank_of reason)
 
 -- the reason is the first one that applies
 abbrev pub IsFirstAgainstRoutes : Fields → Fields → Reason → Type 0
-IsFirstAgainstRoutes instance solution reason = IsFirstReason (StandsAgainstRoutes instance solution) reason
+IsFirstAgainstRoutes instance solution reason = IsFirstReason (AppliesToRoutes instance solution) reason
 
 -- Accepted routes: they are a plan of the instance, each with a customer, of this length and number, and no plan at all
 -- has fewer routes than the least number that carries all demands.
@@ -181,7 +181,7 @@ pub record IsPlanned (instance : Fields) (plan : List (List ℕ)) (length_is : �
 abbrev pub IsRoutesVerdict : Fields → Fields → Verdict → Type 0
 IsRoutesVerdict instance solution (verdicts.No reason) = IsFirstAgainstRoutes instance solution reason
 IsRoutesVerdict instance solution (verdicts.Routes length_is routes least bound) =
-    ((reason : Reason) → StandsAgainstRoutes instance solution reason → ⊥)
+    ((reason : Reason) → AppliesToRoutes instance solution reason → ⊥)
     × IsPlanned instance (tours_of solution) length_is routes least × (bound ≡ None)
 IsRoutesVerdict instance solution (verdicts.Tour length_is bound) = ⊥
 

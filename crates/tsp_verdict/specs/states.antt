@@ -1,4 +1,4 @@
 -- The files of definitions that look into structs of the code.
-pub mod TourBases
+pub mod TourKnownBounds
 pub mod Marks
 pub mod PairSets

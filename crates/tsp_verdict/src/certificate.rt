@@ -10,33 +10,34 @@ ghost use Rattle.tsp_file.specs.states.Drafts.{combs_of};
 ghost use Rattle.tsp_cost.specs.states.Views.{HasCosts};
 ghost use Rattle.tsp_cases.specs.Cases.{take_pairs};
 ghost use Rattle.tsp_verdict.specs.Certificates.{each_once};
-ghost use Rattle.tsp_verdict.specs.Certified.{is_bounded, FindsBound, NoneWithoutMemory, StandsAgainstCertificate};
+ghost use Rattle.tsp_verdict.specs.Certified.{is_bounded, FindsBound, NoneWithoutMemory, AppliesToCertificate};
 ghost use Rattle.tsp_verdict.specs.Solutions.{IsFirstReason};
 ghost use Rattle.tsp_verdict.specs.states.PairSets.{key_of};
-ghost use Rattle.tsp_verdict.specs.states.TourBases.{AreTourCosts, IsSymmetricTsp};
-ghost use Rattle.tsp_report.specs.declared.task.Certificate.TheVariants as certificates;
+ghost use Rattle.tsp_verdict.specs.states.TourKnownBounds.{AreTourCosts, IsSymmetricTsp};
+ghost use Rattle.tsp_report.specs.declared.task.CertificateKind.TheVariants as certificates;
 
 use crate::potentials_certificate::{bound_by_duals, bound_by_nodes};
 use crate::tour::{TourCosts, is_directed};
 use std::alloc::Global;
 use std::collections::BTreeSet;
 use tsp_branch::{
-    BranchVerdict, CaseTree, Decision, case_trees_bound_cycles, judge_branches, numbers_are_unique,
+    BranchVerdict, BranchingCertificate, Decision, case_trees_bound_cycles, judge_branches,
+    numbers_are_unique,
 };
 use tsp_cost::{Costs, Instance, View};
 use tsp_file::{File, TreeData};
 use tsp_format::Kind;
 use tsp_io::{Refused, insert, push};
-use tsp_report::{BoundVerdict, Certificate, Reason};
+use tsp_report::{BoundVerdict, CertificateKind, Reason};
 
 /// Whether tours or routes of instances of this TYPE have a bound by a certificate.
-pub fn is_bounded(by: Certificate, kind: Kind) -> bool
+pub fn is_bounded(by: CertificateKind, kind: Kind) -> bool
     ensures { result ≡ is_bounded by (Some kind) }
 {
     match (by, kind) {
-        (Certificate::Potentials | Certificate::Branches, Kind::Tsp | Kind::Atsp) => true,
-        (Certificate::Branches, Kind::Cvrp) => true,
-        (Certificate::Potentials, Kind::Cvrp) => false,
+        (CertificateKind::Potentials | CertificateKind::Branches, Kind::Tsp | Kind::Atsp) => true,
+        (CertificateKind::Branches, Kind::Cvrp) => true,
+        (CertificateKind::Potentials, Kind::Cvrp) => false,
         (_, Kind::Tour | Kind::Potentials | Kind::Branches) => false,
     }
 }
@@ -49,7 +50,7 @@ pub fn is_bounded(by: Certificate, kind: Kind) -> bool
 /// Out of memory, and then no reason applies to the certificate that is found without it.
 pub(crate) fn bound_by(
     alloc: Global,
-    by: Certificate,
+    by: CertificateKind,
     instance: &Instance,
     costs: TourCosts<'_>,
     certificate: &File,
@@ -64,13 +65,13 @@ pub(crate) fn bound_by(
         → instance.now.kind ≡ Some kinds.Atsp → IsOk result }
 {
     match (by, costs) {
-        (Certificate::Potentials, TourCosts::Undirected(view)) => {
+        (CertificateKind::Potentials, TourCosts::Undirected(view)) => {
             bound_by_nodes(alloc, instance, view, certificate)
         }
-        (Certificate::Potentials, TourCosts::Directed(view)) => {
+        (CertificateKind::Potentials, TourCosts::Directed(view)) => {
             Ok(bound_by_duals(instance, view, certificate))
         }
-        (Certificate::Branches, _) => bound_of_tree(alloc, instance, certificate),
+        (CertificateKind::Branches, _) => tour_tree_bound(alloc, instance, certificate),
     }
 }
 
@@ -83,7 +84,7 @@ pub(crate) fn bound_by(
 ///
 /// Out of memory, and then neither `NotBranches` nor `BranchesDimension` applies to the
 /// certificate.
-fn bound_of_tree(
+fn tour_tree_bound(
     alloc: Global,
     instance: &Instance,
     branches: &File,
@@ -103,12 +104,12 @@ fn bound_of_tree(
     // A view has found once and for all where the costs are.
     match instance.view() {
         View::Plane(points) => match points.euclidean() {
-            Some(euclidean) => judge_tree(alloc, instance, branches, &tree, &euclidean),
-            None => judge_tree(alloc, instance, branches, &tree, &points),
+            Some(euclidean) => judge_tour_tree(alloc, instance, branches, &tree, &euclidean),
+            None => judge_tour_tree(alloc, instance, branches, &tree, &points),
         },
-        View::Space(points) => judge_tree(alloc, instance, branches, &tree, &points),
-        View::Triangle(triangle) => judge_tree(alloc, instance, branches, &tree, &triangle),
-        View::Matrix(matrix) => judge_tree(alloc, instance, branches, &tree, &matrix),
+        View::Space(points) => judge_tour_tree(alloc, instance, branches, &tree, &points),
+        View::Triangle(triangle) => judge_tour_tree(alloc, instance, branches, &tree, &triangle),
+        View::Matrix(matrix) => judge_tour_tree(alloc, instance, branches, &tree, &matrix),
     }
 }
 
@@ -119,7 +120,7 @@ pub(crate) fn tree_of<'a>(instance: &Instance, branches: &'a File) -> Result<Tre
         × HoldsCases branches.now tree.scale tree.load_unit (combs_of tree.combs.now)
         (steps_of tree.steps.now))
         (λ reason. IsFirstReason
-        (StandsAgainstCertificate certificates.Branches instance.now branches.now) reason) }
+        (AppliesToCertificate certificates.Branches instance.now branches.now) reason) }
 {
     let Some(tree) = branches.as_tree() else {
         return Err(Reason::NotBranches);
@@ -136,7 +137,7 @@ pub(crate) fn tree_of<'a>(instance: &Instance, branches: &'a File) -> Result<Tre
 /// # Errors
 ///
 /// Out of memory.
-fn judge_tree<C: Costs>(
+fn judge_tour_tree<C: Costs>(
     alloc: Global,
     instance: &Instance,
     branches: &File,
@@ -158,7 +159,7 @@ fn judge_tree<C: Costs>(
     numbers_are_unique();
     let directed = is_directed(instance.kind());
     let given = taken_once(alloc, directed, instance.fixed())?;
-    let cases = CaseTree {
+    let cases = BranchingCertificate {
         costs,
         directed,
         scale: tree.scale,

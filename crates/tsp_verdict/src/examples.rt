@@ -11,16 +11,16 @@ ghost use Rattle.tsp_cost.specs.Problems.{is_directed, depot_of, capacity_of, Is
 ghost use Rattle.tsp_cases.specs.CaseTrees.{IsCaseTreeBound};
 ghost use Rattle.tsp_cases.specs.Cases.{decided_number};
 ghost use Rattle.tsp_cases.specs.Examples.{with_pair};
-ghost use Rattle.tsp_verdict.specs.SolutionVerdict.{IsBasisOfRoutes, IsAsClaimed, IsOtherClaimed, IsOfLength, IsVerdictOn, IsVerdictWith, HasLength, HasNoLength};
-ghost use Rattle.tsp_verdict.specs.Certified.{StandsAgainstInstance, StandsAgainstTouring, StandsAgainstRouting, StandsAgainstCertificate, NoneWithoutMemory, IsCertifiedTourVerdict, IsCertifiedRoutesVerdict};
-ghost use Rattle.tsp_verdict.specs.Certificates.{given_in, StandsAgainstBranches, HasBoundByBranches, case_steps_in, StandsAgainstPotentials, IsBoundByNodes, IsBoundByDuals};
+ghost use Rattle.tsp_verdict.specs.SolutionVerdict.{IsKnownBoundOfRoutes, IsAsClaimed, IsOtherClaimed, IsOfLength, IsVerdictOn, IsVerdictWith, HasLength, HasNoLength};
+ghost use Rattle.tsp_verdict.specs.Certified.{AppliesToInstance, AppliesToTouring, AppliesToRouting, AppliesToCertificate, NoneWithoutMemory, IsCertifiedTourVerdict, IsCertifiedRoutesVerdict};
+ghost use Rattle.tsp_verdict.specs.Certificates.{given_in, AppliesToBranches, HasBoundByBranches, case_steps_in, AppliesToPotentials, IsBoundByNodes, IsBoundByDuals};
 ghost use Rattle.tsp_verdict.specs.Examples.{instance_with, of_nodes, of_rows, of_both, multiplying, vehicles, carrying, solution, sized, lone, both, branching, two_leaves, three_leaves, node_twice, IsJudgedBefore, halves_of_nodes, halves_of_rows, halves_of_leaf, bad_leaves};
 ghost use Rattle.tsp_theory.specs.Examples.{two, three, four};
 ghost use Rattle.tsp_theory.specs.Tour.{IsLeastRoutes, plan_length};
-ghost use Rattle.tsp_verdict.specs.Solutions.{total_of, StandsAgainstRoutes, NoneOfRoutesBeforeRepeats, IsRoutesVerdict, StandsAgainstTour, NoneOfTourBeforeRepeats, IsTourVerdict};
-ghost use Rattle.tsp_report.specs.declared.task.Certificate.{Certificate};
-ghost use Rattle.tsp_report.specs.declared.task.Certificate.TheVariants as certificates;
-ghost use Rattle.tsp_report.specs.declared.verdict.Basis.TheVariants as bases;
+ghost use Rattle.tsp_verdict.specs.Solutions.{total_of, AppliesToRoutes, NoneOfRoutesBeforeRepeats, IsRoutesVerdict, AppliesToTour, NoneOfTourBeforeRepeats, IsTourVerdict};
+ghost use Rattle.tsp_report.specs.declared.task.CertificateKind.{CertificateKind};
+ghost use Rattle.tsp_report.specs.declared.task.CertificateKind.TheVariants as certificates;
+ghost use Rattle.tsp_report.specs.declared.verdict.KnownBound.TheVariants as known_bounds;
 ghost use Rattle.tsp_report.specs.declared.verdict.Reason.TheVariants as reasons;
 ghost use Rattle.tsp_report.specs.declared.verdict.Verdict.TheVariants as verdicts;
 
@@ -109,10 +109,10 @@ pub fn examples_of_order_of_routes()
 
 /// When the two reasons against an instance apply, whatever the tour.
 pub fn examples_against_instances()
-    ensures two_nodes { StandsAgainstInstance (instance_with kinds.Atsp 2 []) reasons.TooFewNodes }
-    ensures three_nodes { ¬ StandsAgainstInstance (instance_with kinds.Atsp 3 []) reasons.TooFewNodes }
-    ensures no_solution { ¬ StandsAgainstInstance (instance_with kinds.Tsp 4 []) reasons.NotASolution }
-    ensures directed { ¬ StandsAgainstInstance (instance_with kinds.Atsp 4 []) (reasons.NotSymmetric 1 2) }
+    ensures two_nodes { AppliesToInstance (instance_with kinds.Atsp 2 []) reasons.TooFewNodes }
+    ensures three_nodes { ¬ AppliesToInstance (instance_with kinds.Atsp 3 []) reasons.TooFewNodes }
+    ensures no_solution { ¬ AppliesToInstance (instance_with kinds.Tsp 4 []) reasons.NotASolution }
+    ensures directed { ¬ AppliesToInstance (instance_with kinds.Atsp 4 []) (reasons.NotSymmetric 1 2) }
 {}
 
 /// Which length is claimed, and of which verdict.
@@ -133,84 +133,84 @@ pub fn examples_of_claims()
 
 /// When the reasons against a tour apply.
 pub fn examples_against_tours()
-    ensures no_solution { StandsAgainstTour (instance_with kinds.Tsp 4 [])
+    ensures no_solution { AppliesToTour (instance_with kinds.Tsp 4 [])
         (instance_with kinds.Potentials 4 []) reasons.NotASolution }
-    ensures two_nodes { StandsAgainstTour (instance_with kinds.Tsp 2 [])
+    ensures two_nodes { AppliesToTour (instance_with kinds.Tsp 2 [])
         (lone (two 1 2)) reasons.TooFewNodes }
-    ensures three_nodes { ¬ StandsAgainstTour
+    ensures three_nodes { ¬ AppliesToTour
         (instance_with kinds.Tsp 3 []) (lone (two 1 2)) reasons.TooFewNodes }
-    ensures dimension { StandsAgainstTour (instance_with kinds.Tsp 4 []) (sized 5 []) reasons.Dimension }
-    ensures same_dimension { ¬ StandsAgainstTour
+    ensures dimension { AppliesToTour (instance_with kinds.Tsp 4 []) (sized 5 []) reasons.Dimension }
+    ensures same_dimension { ¬ AppliesToTour
         (instance_with kinds.Tsp 4 []) (sized 4 []) reasons.Dimension }
-    ensures no_dimension { ¬ StandsAgainstTour
+    ensures no_dimension { ¬ AppliesToTour
         (instance_with kinds.Tsp 4 []) (solution []) reasons.Dimension }
-    ensures no_tour { StandsAgainstTour (instance_with kinds.Tsp 4 []) (solution []) reasons.TourCount }
-    ensures two_tours { StandsAgainstTour (instance_with kinds.Tsp 4 [])
+    ensures no_tour { AppliesToTour (instance_with kinds.Tsp 4 []) (solution []) reasons.TourCount }
+    ensures two_tours { AppliesToTour (instance_with kinds.Tsp 4 [])
         (both (two 1 2) (two 3 4)) reasons.TourCount }
-    ensures one_tour { ¬ StandsAgainstTour
+    ensures one_tour { ¬ AppliesToTour
         (instance_with kinds.Tsp 4 []) (lone (two 1 2)) reasons.TourCount }
-    ensures short { StandsAgainstTour (instance_with kinds.Tsp 4 [])
+    ensures short { AppliesToTour (instance_with kinds.Tsp 4 [])
         (lone (three 1 2 3)) reasons.TourLength }
-    ensures past_the_last { StandsAgainstTour (instance_with kinds.Tsp 4 [])
+    ensures past_the_last { AppliesToTour (instance_with kinds.Tsp 4 [])
         (lone (four 1 2 3 5)) (reasons.NodeOutOfRange 4) }
-    ensures the_last { ¬ StandsAgainstTour
+    ensures the_last { ¬ AppliesToTour
         (instance_with kinds.Tsp 4 []) (lone (four 1 2 3 4)) (reasons.NodeOutOfRange 4) }
-    ensures first_past { ¬ StandsAgainstTour
+    ensures first_past { ¬ AppliesToTour
         (instance_with kinds.Tsp 4 []) (lone (four 1 2 5 6)) (reasons.NodeOutOfRange 4) }
-    ensures repeated { StandsAgainstTour (instance_with kinds.Tsp 4 [])
+    ensures repeated { AppliesToTour (instance_with kinds.Tsp 4 [])
         (lone (four 1 2 2 3)) (reasons.RepeatedNode 3) }
-    ensures first_repeated { StandsAgainstTour (instance_with kinds.Tsp 4 [])
+    ensures first_repeated { AppliesToTour (instance_with kinds.Tsp 4 [])
         (lone (four 1 1 4 4)) (reasons.RepeatedNode 2) }
-    ensures not_the_second { ¬ StandsAgainstTour
+    ensures not_the_second { ¬ AppliesToTour
         (instance_with kinds.Tsp 4 []) (lone (four 1 1 4 4)) (reasons.RepeatedNode 4) }
-    ensures unused { StandsAgainstTour (instance_with kinds.Tsp 4 ((1, 3) ∷ [])) (lone (four 1 2 3 4))
+    ensures unused { AppliesToTour (instance_with kinds.Tsp 4 ((1, 3) ∷ [])) (lone (four 1 2 3 4))
         (reasons.FixedEdgeUnused 1) }
-    ensures arc { StandsAgainstTour (instance_with kinds.Atsp 3 ((2, 1) ∷ [])) (lone (three 1 2 3))
+    ensures arc { AppliesToTour (instance_with kinds.Atsp 3 ((2, 1) ∷ [])) (lone (three 1 2 3))
         (reasons.FixedEdgeUnused 1) }
-    ensures no_arc { ¬ StandsAgainstTour
+    ensures no_arc { ¬ AppliesToTour
         (instance_with kinds.Tsp 3 ((2, 1) ∷ [])) (lone (three 1 2 3)) (reasons.FixedEdgeUnused 1) }
 {}
 
 /// When the reasons against a certificate apply. None is broken here by its numbers.
 pub fn examples_against_certificates()
     ensures scale { scale_in (of_nodes 4) ≡ pos 1 }
-    ensures no_potentials { StandsAgainstPotentials (instance_with kinds.Tsp 4 [])
+    ensures no_potentials { AppliesToPotentials (instance_with kinds.Tsp 4 [])
         (solution []) reasons.NotPotentials }
-    ensures potentials { ¬ StandsAgainstPotentials
+    ensures potentials { ¬ AppliesToPotentials
         (instance_with kinds.Tsp 4 []) (of_nodes 4) reasons.NotPotentials }
-    ensures dimension { StandsAgainstPotentials (instance_with kinds.Tsp 4 [])
+    ensures dimension { AppliesToPotentials (instance_with kinds.Tsp 4 [])
         (of_nodes 3) reasons.PotentialsDimension }
-    ensures same_dimension { ¬ StandsAgainstPotentials
+    ensures same_dimension { ¬ AppliesToPotentials
         (instance_with kinds.Tsp 4 []) (of_nodes 4) reasons.PotentialsDimension }
-    ensures tsp { ¬ StandsAgainstPotentials
+    ensures tsp { ¬ AppliesToPotentials
         (instance_with kinds.Tsp 4 []) (of_nodes 4) reasons.PotentialsKind }
-    ensures tsp_by_rows { StandsAgainstPotentials (instance_with kinds.Tsp 4 [])
+    ensures tsp_by_rows { AppliesToPotentials (instance_with kinds.Tsp 4 [])
         (of_both 4) reasons.PotentialsKind }
-    ensures atsp { ¬ StandsAgainstPotentials
+    ensures atsp { ¬ AppliesToPotentials
         (instance_with kinds.Atsp 4 []) (of_both 4) reasons.PotentialsKind }
-    ensures atsp_by_nodes { StandsAgainstPotentials (instance_with kinds.Atsp 4 [])
+    ensures atsp_by_nodes { AppliesToPotentials (instance_with kinds.Atsp 4 [])
         (of_nodes 4) reasons.PotentialsKind }
-    ensures atsp_by_rows { StandsAgainstPotentials (instance_with kinds.Atsp 4 [])
+    ensures atsp_by_rows { AppliesToPotentials (instance_with kinds.Atsp 4 [])
         (of_rows 4) reasons.PotentialsKind }
 {}
 
 /// When the reasons against a certificate by branching apply, and which pairs are decided in all of
 /// its cases.
 pub fn examples_against_trees()
-    ensures no_tree { StandsAgainstBranches (instance_with kinds.Tsp 4 []) (of_nodes 4) reasons.NotBranches }
-    ensures tree { ¬ StandsAgainstBranches
+    ensures no_tree { AppliesToBranches (instance_with kinds.Tsp 4 []) (of_nodes 4) reasons.NotBranches }
+    ensures tree { ¬ AppliesToBranches
         (instance_with kinds.Tsp 4 []) (branching 4 [] (Leaf [] ∷ [])) reasons.NotBranches }
-    ensures dimension { StandsAgainstBranches (instance_with kinds.Tsp 4 [])
+    ensures dimension { AppliesToBranches (instance_with kinds.Tsp 4 [])
         (branching 3 [] (Leaf [] ∷ [])) reasons.BranchesDimension }
-    ensures same_dimension { ¬ StandsAgainstBranches (instance_with kinds.Tsp 4 [])
+    ensures same_dimension { ¬ AppliesToBranches (instance_with kinds.Tsp 4 [])
         (branching 4 [] (Leaf [] ∷ [])) reasons.BranchesDimension }
-    ensures node_twice { StandsAgainstBranches (instance_with kinds.Tsp 4 [])
+    ensures node_twice { AppliesToBranches (instance_with kinds.Tsp 4 [])
         (branching 4 (node_twice ∷ []) (Leaf [] ∷ [])) (reasons.BadComb 1) }
-    ensures again { StandsAgainstBranches (instance_with kinds.Tsp 4 [])
+    ensures again { AppliesToBranches (instance_with kinds.Tsp 4 [])
         (branching 4 [] (Branch 1 2 ∷ Branch 1 2 ∷ three_leaves)) (reasons.BranchTwice 2) }
-    ensures fixed { StandsAgainstBranches (instance_with kinds.Tsp 4 ((2, 1) ∷ []))
+    ensures fixed { AppliesToBranches (instance_with kinds.Tsp 4 ((2, 1) ∷ []))
         (branching 4 [] (Branch 1 2 ∷ two_leaves)) (reasons.BranchTwice 1) }
-    ensures past_the_nodes { StandsAgainstBranches (instance_with kinds.Tsp 4 [])
+    ensures past_the_nodes { AppliesToBranches (instance_with kinds.Tsp 4 [])
         (branching 4 [] (Leaf ((5, pos 1) ∷ []) ∷ [])) (reasons.BadLeaf 1) }
     ensures given_once { given_in (instance_with kinds.Tsp 4 ((1, 2) ∷ (3, 4) ∷ (2, 1) ∷ []))
         ≡ with_pair 1 2 ∷ with_pair 3 4 ∷ [] }
@@ -218,29 +218,29 @@ pub fn examples_against_trees()
 
 /// When the reasons against routes apply. Node 1 is the depot.
 pub fn examples_against_routes()
-    ensures one_node { StandsAgainstRoutes (instance_with kinds.Cvrp 1 [])
+    ensures one_node { AppliesToRoutes (instance_with kinds.Cvrp 1 [])
         (solution []) reasons.TooFewNodes }
-    ensures two_nodes { ¬ StandsAgainstRoutes
+    ensures two_nodes { ¬ AppliesToRoutes
         (instance_with kinds.Cvrp 2 []) (solution []) reasons.TooFewNodes }
-    ensures no_depot { StandsAgainstRoutes (vehicles [] (pos 0) (pos 4) (pos 8))
+    ensures no_depot { AppliesToRoutes (vehicles [] (pos 0) (pos 4) (pos 8))
         (solution []) reasons.DepotCount }
-    ensures two_depots { StandsAgainstRoutes (vehicles (two 1 1) (pos 0) (pos 4) (pos 8))
+    ensures two_depots { AppliesToRoutes (vehicles (two 1 1) (pos 0) (pos 4) (pos 8))
         (solution []) reasons.DepotCount }
-    ensures one_depot { ¬ StandsAgainstRoutes (carrying (pos 8)) (solution []) reasons.DepotCount }
-    ensures demand { StandsAgainstRoutes (vehicles (1 ∷ []) (pos 1) (pos 4) (pos 8))
+    ensures one_depot { ¬ AppliesToRoutes (carrying (pos 8)) (solution []) reasons.DepotCount }
+    ensures demand { AppliesToRoutes (vehicles (1 ∷ []) (pos 1) (pos 4) (pos 8))
         (solution []) reasons.DepotDemand }
-    ensures no_demand { ¬ StandsAgainstRoutes (carrying (pos 8)) (solution []) reasons.DepotDemand }
-    ensures fixed { StandsAgainstRoutes (instance_with kinds.Cvrp 4 ((2, 3) ∷ [])) (solution [])
+    ensures no_demand { ¬ AppliesToRoutes (carrying (pos 8)) (solution []) reasons.DepotDemand }
+    ensures fixed { AppliesToRoutes (instance_with kinds.Cvrp 4 ((2, 3) ∷ [])) (solution [])
         reasons.FixedEdgesInRoutes }
-    ensures depot { StandsAgainstRoutes (carrying (pos 8))
+    ensures depot { AppliesToRoutes (carrying (pos 8))
         (lone (three 2 1 3)) (reasons.DepotInRoute 2) }
-    ensures repeated { StandsAgainstRoutes (carrying (pos 8))
+    ensures repeated { AppliesToRoutes (carrying (pos 8))
         (both (two 2 3) (3 ∷ [])) (reasons.RepeatedNode 3) }
-    ensures unserved { StandsAgainstRoutes (carrying (pos 8))
+    ensures unserved { AppliesToRoutes (carrying (pos 8))
         (lone (two 2 3)) (reasons.Unserved 4) }
-    ensures past_capacity { StandsAgainstRoutes (carrying (pos 7))
+    ensures past_capacity { AppliesToRoutes (carrying (pos 7))
         (both (two 2 3) (4 ∷ [])) (reasons.Overload 1) }
-    ensures at_capacity { ¬ StandsAgainstRoutes
+    ensures at_capacity { ¬ AppliesToRoutes
         (carrying (pos 8)) (both (two 2 3) (4 ∷ [])) (reasons.Overload 1) }
 {}
 
@@ -266,46 +266,46 @@ pub fn examples_of_plans()
 /// before the first one that needs memory is named, and one before it.
 pub fn examples_of_reasons_before_memory()
     ensures length { (inst sol : Fields)
-        → StandsAgainstTour inst sol reasons.TourLength → ¬ NoneOfTourBeforeRepeats inst sol }
-    ensures range { (inst sol : Fields) (place : ℕ) → StandsAgainstTour inst sol
+        → AppliesToTour inst sol reasons.TourLength → ¬ NoneOfTourBeforeRepeats inst sol }
+    ensures range { (inst sol : Fields) (place : ℕ) → AppliesToTour inst sol
         (reasons.NodeOutOfRange place) → ¬ NoneOfTourBeforeRepeats inst sol }
     ensures depots { (inst sol : Fields)
-        → StandsAgainstRoutes inst sol reasons.DepotCount → ¬ NoneOfRoutesBeforeRepeats inst sol }
-    ensures range_of_routes { (inst sol : Fields) (place : ℕ) → StandsAgainstRoutes inst sol
+        → AppliesToRoutes inst sol reasons.DepotCount → ¬ NoneOfRoutesBeforeRepeats inst sol }
+    ensures range_of_routes { (inst sol : Fields) (place : ℕ) → AppliesToRoutes inst sol
         (reasons.NodeOutOfRange place) → ¬ NoneOfRoutesBeforeRepeats inst sol }
-    ensures kind_of_potentials { (inst cert : Fields) → StandsAgainstPotentials inst
+    ensures kind_of_potentials { (inst cert : Fields) → AppliesToPotentials inst
         cert reasons.PotentialsKind → ¬ NoneWithoutMemory certificates.Potentials inst cert }
-    ensures no_potentials { (inst cert : Fields) → StandsAgainstPotentials inst
+    ensures no_potentials { (inst cert : Fields) → AppliesToPotentials inst
         cert reasons.NotPotentials → ¬ NoneWithoutMemory certificates.Potentials inst cert }
-    ensures nodes_of_branches { (inst cert : Fields) → StandsAgainstCertificate certificates.Branches inst
+    ensures nodes_of_branches { (inst cert : Fields) → AppliesToCertificate certificates.Branches inst
         cert reasons.BranchesDimension → ¬ NoneWithoutMemory certificates.Branches inst cert }
     ensures no_branches { (inst cert : Fields)
-        → StandsAgainstCertificate certificates.Branches inst cert reasons.NotBranches
+        → AppliesToCertificate certificates.Branches inst cert reasons.NotBranches
         → ¬ NoneWithoutMemory certificates.Branches inst cert }
 {}
 
 /// When the number of nodes that routes state is another one than the instance has.
 pub fn examples_of_dimensions_of_routes()
-    ensures below { StandsAgainstRoutes (carrying (pos 8)) (sized 3 []) reasons.Dimension }
-    ensures above { StandsAgainstRoutes (carrying (pos 8)) (sized 5 []) reasons.Dimension }
-    ensures same { ¬ StandsAgainstRoutes (carrying (pos 8)) (sized 4 []) reasons.Dimension }
-    ensures none { ¬ StandsAgainstRoutes (carrying (pos 8)) (solution []) reasons.Dimension }
-    ensures of_tours { StandsAgainstTour (instance_with kinds.Tsp 4 []) (sized 3 []) reasons.Dimension }
+    ensures below { AppliesToRoutes (carrying (pos 8)) (sized 3 []) reasons.Dimension }
+    ensures above { AppliesToRoutes (carrying (pos 8)) (sized 5 []) reasons.Dimension }
+    ensures same { ¬ AppliesToRoutes (carrying (pos 8)) (sized 4 []) reasons.Dimension }
+    ensures none { ¬ AppliesToRoutes (carrying (pos 8)) (solution []) reasons.Dimension }
+    ensures of_tours { AppliesToTour (instance_with kinds.Tsp 4 []) (sized 3 []) reasons.Dimension }
 {}
 
 /// Which multipliers aren't on a fixed pair, or on that of an earlier one.
 pub fn examples_of_multipliers()
-    ensures fixed { ¬ StandsAgainstPotentials (instance_with kinds.Tsp 4
+    ensures fixed { ¬ AppliesToPotentials (instance_with kinds.Tsp 4
         ((1, 2) ∷ [])) (multiplying ((1, 2, pos 5) ∷ [])) (reasons.MultiplierNotFixed 1) }
-    ensures turned_round { ¬ StandsAgainstPotentials (instance_with kinds.Tsp 4
+    ensures turned_round { ¬ AppliesToPotentials (instance_with kinds.Tsp 4
         ((1, 2) ∷ [])) (multiplying ((2, 1, pos 5) ∷ [])) (reasons.MultiplierNotFixed 1) }
-    ensures not_fixed { StandsAgainstPotentials (instance_with kinds.Tsp 4
+    ensures not_fixed { AppliesToPotentials (instance_with kinds.Tsp 4
         ((1, 2) ∷ [])) (multiplying ((1, 3, pos 5) ∷ [])) (reasons.MultiplierNotFixed 1) }
-    ensures twice { StandsAgainstPotentials (instance_with kinds.Tsp 4 ((1, 2)
+    ensures twice { AppliesToPotentials (instance_with kinds.Tsp 4 ((1, 2)
         ∷ [])) (multiplying ((1, 2, pos 5) ∷ (1, 2, pos 5) ∷ [])) (reasons.MultiplierRepeated 2) }
-    ensures twice_turned_round { StandsAgainstPotentials (instance_with kinds.Tsp 4 ((1, 2) ∷ []))
+    ensures twice_turned_round { AppliesToPotentials (instance_with kinds.Tsp 4 ((1, 2) ∷ []))
         (multiplying ((1, 2, pos 5) ∷ (2, 1, pos 7) ∷ [])) (reasons.MultiplierRepeated 2) }
-    ensures of_an_atsp { ¬ StandsAgainstPotentials (instance_with kinds.Atsp 4
+    ensures of_an_atsp { ¬ AppliesToPotentials (instance_with kinds.Atsp 4
         ((1, 2) ∷ [])) (multiplying ((1, 3, pos 5) ∷ [])) (reasons.MultiplierNotFixed 1) }
 {}
 
@@ -315,13 +315,13 @@ pub fn examples_of_accepted()
     ensures tour { (inst : Fields) (found : ℤ) (bound : Option ℤ)
         → IsTourVerdict inst (lone (three 1 2 3)) (verdicts.Tour found bound)
         → found ≡ cost inst 1 2 +ℤ cost inst 2 3 +ℤ cost inst 3 1 }
-    ensures certified { (by : Certificate) (inst cert : Fields) (found : ℤ) (bound : Option ℤ)
+    ensures certified { (by : CertificateKind) (inst cert : Fields) (found : ℤ) (bound : Option ℤ)
         → IsCertifiedTourVerdict by inst (lone (three 1 2 3)) cert (verdicts.Tour found bound)
         → found ≡ cost inst 1 2 +ℤ cost inst 2 3 +ℤ cost inst 3 1 }
     ensures routes { (inst : Fields) (found : ℤ) (routes least : ℕ) → depot_of inst ≡ 2
         → IsRoutesVerdict inst (both (two 3 1) (4 ∷ [])) (verdicts.Routes found routes least None)
         → found ≡ cost inst 2 3 +ℤ cost inst 3 1 +ℤ cost inst 1 2 +ℤ cost inst 2 4 +ℤ cost inst 4 2 }
-    ensures certified_routes { (by : Certificate) (inst cert : Fields) (found : ℤ) (routes least : ℕ)
+    ensures certified_routes { (by : CertificateKind) (inst cert : Fields) (found : ℤ) (routes least : ℕ)
         (bound : Option ℤ) → depot_of inst ≡ 2
         → IsCertifiedRoutesVerdict by inst (both (two 3 1) (4 ∷ [])) cert (verdicts.Routes found routes least bound)
         → found ≡ cost inst 2 3 +ℤ cost inst 3 1 +ℤ cost inst 1 2 +ℤ cost inst 2 4 +ℤ cost inst 4 2 }
@@ -336,46 +336,46 @@ pub fn examples_of_accepted()
 
 /// When the reasons against routes apply whose depot is node 2.
 pub fn examples_of_depots()
-    ensures demand { StandsAgainstRoutes (vehicles (2 ∷ []) (pos 0) (pos 4) (pos 8))
+    ensures demand { AppliesToRoutes (vehicles (2 ∷ []) (pos 0) (pos 4) (pos 8))
         (solution []) reasons.DepotDemand }
-    ensures demand_of_node_1 { ¬ StandsAgainstRoutes (vehicles (2 ∷ []) (pos 4) (pos 0) (pos 8))
+    ensures demand_of_node_1 { ¬ AppliesToRoutes (vehicles (2 ∷ []) (pos 4) (pos 0) (pos 8))
         (solution []) reasons.DepotDemand }
-    ensures in_a_route { StandsAgainstRoutes (vehicles (2 ∷ []) (pos 4) (pos 0) (pos 8))
+    ensures in_a_route { AppliesToRoutes (vehicles (2 ∷ []) (pos 4) (pos 0) (pos 8))
         (lone (three 1 2 3)) (reasons.DepotInRoute 2) }
-    ensures node_1_in_a_route { ¬ StandsAgainstRoutes
+    ensures node_1_in_a_route { ¬ AppliesToRoutes
         (vehicles (2 ∷ []) (pos 4) (pos 0) (pos 8)) (lone (three 1 2 3)) (reasons.DepotInRoute 1) }
-    ensures unserved { StandsAgainstRoutes (vehicles (2 ∷ []) (pos 4) (pos 0) (pos 8))
+    ensures unserved { AppliesToRoutes (vehicles (2 ∷ []) (pos 4) (pos 0) (pos 8))
         (lone (two 3 4)) (reasons.Unserved 1) }
 {}
 
 /// When the reasons against an instance of routes apply, whatever the routes.
 pub fn examples_against_routing()
-    ensures one_node { StandsAgainstRouting (instance_with kinds.Cvrp 1 []) reasons.TooFewNodes }
-    ensures two_nodes { ¬ StandsAgainstRouting (instance_with kinds.Cvrp 2 []) reasons.TooFewNodes }
-    ensures no_depot { StandsAgainstRouting (vehicles [] (pos 0) (pos 4) (pos 8)) reasons.DepotCount }
-    ensures two_depots { StandsAgainstRouting (vehicles (two 1 1) (pos 0) (pos 4) (pos 8))
+    ensures one_node { AppliesToRouting (instance_with kinds.Cvrp 1 []) reasons.TooFewNodes }
+    ensures two_nodes { ¬ AppliesToRouting (instance_with kinds.Cvrp 2 []) reasons.TooFewNodes }
+    ensures no_depot { AppliesToRouting (vehicles [] (pos 0) (pos 4) (pos 8)) reasons.DepotCount }
+    ensures two_depots { AppliesToRouting (vehicles (two 1 1) (pos 0) (pos 4) (pos 8))
         reasons.DepotCount }
-    ensures one_depot { ¬ StandsAgainstRouting (carrying (pos 8)) reasons.DepotCount }
-    ensures demand { StandsAgainstRouting (vehicles (2 ∷ []) (pos 0) (pos 4) (pos 8))
+    ensures one_depot { ¬ AppliesToRouting (carrying (pos 8)) reasons.DepotCount }
+    ensures demand { AppliesToRouting (vehicles (2 ∷ []) (pos 0) (pos 4) (pos 8))
         reasons.DepotDemand }
-    ensures demand_of_node_1 { ¬ StandsAgainstRouting (vehicles (2 ∷ []) (pos 4) (pos 0) (pos 8))
+    ensures demand_of_node_1 { ¬ AppliesToRouting (vehicles (2 ∷ []) (pos 4) (pos 0) (pos 8))
         reasons.DepotDemand }
-    ensures fixed { StandsAgainstRouting (instance_with kinds.Cvrp 4 ((2, 3) ∷ [])) reasons.FixedEdgesInRoutes }
-    ensures not_fixed { ¬ StandsAgainstRouting (instance_with kinds.Cvrp 4 []) reasons.FixedEdgesInRoutes }
-    ensures no_solution { ¬ StandsAgainstRouting (instance_with kinds.Cvrp 4 []) reasons.NotASolution }
+    ensures fixed { AppliesToRouting (instance_with kinds.Cvrp 4 ((2, 3) ∷ [])) reasons.FixedEdgesInRoutes }
+    ensures not_fixed { ¬ AppliesToRouting (instance_with kinds.Cvrp 4 []) reasons.FixedEdgesInRoutes }
+    ensures no_solution { ¬ AppliesToRouting (instance_with kinds.Cvrp 4 []) reasons.NotASolution }
     ensures least { (inst : Fields) (least : ℕ) → total_of inst ≡ pos 12 → capacity_of inst ≡ pos 8
-        → IsBasisOfRoutes inst (bases.Routes least None) → least ≡ 2 }
+        → IsKnownBoundOfRoutes inst (known_bounds.Routes least None) → least ≡ 2 }
 {}
 
 /// Which of two nodes a reason names first: the smaller one of a pair with two costs, and the row
 /// of duals that sum to more than a cost.
 pub fn examples_of_pairs()
     ensures of_a_tour { (inst sol : Fields) (i j : ℕ)
-        → StandsAgainstTour inst sol (reasons.NotSymmetric i j) → i < j }
+        → AppliesToTour inst sol (reasons.NotSymmetric i j) → i < j }
     ensures of_an_instance { (inst : Fields) (i j : ℕ)
-        → StandsAgainstTouring inst (reasons.NotSymmetric i j) → i < j }
+        → AppliesToTouring inst (reasons.NotSymmetric i j) → i < j }
     ensures of_duals { (inst : Fields) (i j : ℕ)
-        → StandsAgainstPotentials inst halves_of_rows (reasons.DualInfeasible i j)
+        → AppliesToPotentials inst halves_of_rows (reasons.DualInfeasible i j)
         → (pos 2 *ℤ cost inst i j) <ℤ (entry (pos 1 ∷ pos 2 ∷ pos 4 ∷ []) i
         +ℤ entry (pos 0 ∷ pos 1 ∷ pos 1 ∷ []) j) }
 {}
@@ -395,10 +395,10 @@ pub fn examples_of_bounds()
 
 /// The first of two customers that no route serves, and the first of two bad leaves.
 pub fn examples_of_first_reasons()
-    ensures unserved { StandsAgainstRoutes (carrying (pos 8)) (lone (2 ∷ [])) (reasons.Unserved 3) }
-    ensures unserved_later { ¬ StandsAgainstRoutes
+    ensures unserved { AppliesToRoutes (carrying (pos 8)) (lone (2 ∷ [])) (reasons.Unserved 3) }
+    ensures unserved_later { ¬ AppliesToRoutes
         (carrying (pos 8)) (lone (2 ∷ [])) (reasons.Unserved 4) }
-    ensures leaf { StandsAgainstBranches (instance_with kinds.Tsp 4 []) (branching 4 [] bad_leaves) (reasons.BadLeaf 1) }
-    ensures leaf_later { ¬ StandsAgainstBranches
+    ensures leaf { AppliesToBranches (instance_with kinds.Tsp 4 []) (branching 4 [] bad_leaves) (reasons.BadLeaf 1) }
+    ensures leaf_later { ¬ AppliesToBranches
         (instance_with kinds.Tsp 4 []) (branching 4 [] bad_leaves) (reasons.BadLeaf 2) }
 {}

@@ -11,18 +11,17 @@
 //! ```
 #![tactic(auto)]
 
-mod asked_verdicts;
-mod basis;
+mod api;
 mod certificate;
 mod examples;
+mod known_bound;
 mod one_verdict;
 mod potentials_certificate;
 mod routes;
 mod solution_verdict;
 mod tour;
 
-pub use asked_verdicts::{judge_routes, judge_tour, judge_tour_bound, judge_tour_branches};
-pub use basis::{basis_alone, basis_of, judge_basis, judge_bound};
+pub use api::{judge_routes, judge_tour, judge_tour_bound, judge_tour_branches};
 pub use certificate::is_bounded;
 pub use examples::{
     examples_against_certificates, examples_against_instances, examples_against_routes,
@@ -33,9 +32,10 @@ pub use examples::{
     examples_of_other_claims, examples_of_pairs, examples_of_plans,
     examples_of_reasons_before_memory,
 };
+pub use known_bound::{judge_bound, judge_known_bound, known_bound_alone, known_bound_of};
 pub use one_verdict::files_have_one_verdict;
 pub use solution_verdict::{
-    examples_of_strictness, judge, judge_next, strict_basis, strict_bound, strict_verdict,
+    examples_of_strictness, judge, judge_next, strict_bound, strict_known_bound, strict_verdict,
     strict_yes_leaves_nothing_unjudged,
 };
-pub use tsp_report::{Basis, BoundVerdict, Certificate, Reason, Verdict};
+pub use tsp_report::{BoundVerdict, CertificateKind, KnownBound, Reason, Verdict};

@@ -1,6 +1,6 @@
 //! A law: files have one verdict, and an instance with a certificate one bound. No code calls it.
 
-ghost use Rattle.tsp_verdict.specs.SolutionVerdict.{FilesHaveOneVerdict, FilesHaveOneBound, FilesHaveOneBasis, SolutionsHaveOneVerdict};
+ghost use Rattle.tsp_verdict.specs.SolutionVerdict.{FilesHaveOneVerdict, FilesHaveOneBound, FilesHaveOneKnownBound, SolutionsHaveOneVerdict};
 
 use tsp_branch::{case_tree_bounds_are_unique, numbers_are_unique};
 use tsp_routing::plan_bounds_are_unique;
@@ -10,7 +10,7 @@ use tsp_routing::plan_bounds_are_unique;
 pub fn files_have_one_verdict()
     ensures verdict { FilesHaveOneVerdict }
     ensures bound { FilesHaveOneBound }
-    ensures basis { FilesHaveOneBasis }
+    ensures known_bound { FilesHaveOneKnownBound }
     ensures solution { SolutionsHaveOneVerdict }
 {
     case_tree_bounds_are_unique();

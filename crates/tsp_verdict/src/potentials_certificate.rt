@@ -10,14 +10,14 @@ ghost use Rattle.tsp_file.specs.Fields.{nodes_of};
 ghost use Rattle.tsp_file.specs.Rules.{is_potentials_file};
 ghost use Rattle.tsp_theory.specs.Bounds.{AreOnPairs, pair_of, is_same_pair};
 ghost use Rattle.tsp_format.specs.Words.{IsSymmetric};
-ghost use Rattle.tsp_cost.specs.states.Views.{HasCosts, IsViewOf, ShowsEven};
+ghost use Rattle.tsp_cost.specs.states.Views.{HasCosts, IsViewOf, ShowsSymmetric};
 ghost use Rattle.tsp_bound.specs.states.Duals.{dual_scale as scale_of_duals, rows_of, columns_of};
 ghost use Rattle.tsp_bound.specs.states.Potentials.{triples_of, scale_of, numbers_of};
 ghost use Rattle.tsp_verdict.specs.Certified.{IsCertified, FindsBound, NoneWithoutMemory};
-ghost use Rattle.tsp_verdict.specs.Certificates.{AreListed, IsUnlisted, IsPairRepeated, has_wanted, BreaksDuals, StandsAgainstPotentials};
+ghost use Rattle.tsp_verdict.specs.Certificates.{AreListed, IsUnlisted, IsPairRepeated, has_wanted, BreaksDuals, AppliesToPotentials};
 ghost use Rattle.tsp_verdict.specs.Solutions.{IsFirstPlace, IsFirstReason};
 ghost use Rattle.tsp_verdict.specs.states.PairSets.{HasPairs};
-ghost use Rattle.tsp_report.specs.declared.task.Certificate.TheVariants as certificates;
+ghost use Rattle.tsp_report.specs.declared.task.CertificateKind.TheVariants as certificates;
 
 use crate::certificate::key_of;
 use std::alloc::Global;
@@ -26,7 +26,7 @@ use tsp_bound::{
     Duals, Infeasible, Multipliers, Potentials, adjusted_bounds_bound_cycles, dual_bound,
     duals_bound_cycles, least_one_tree,
 };
-use tsp_cost::{Costs, EvenView, Instance, Symmetric, View};
+use tsp_cost::{Costs, Instance, Symmetric, SymmetricView, View};
 use tsp_file::File;
 use tsp_format::Kind;
 use tsp_io::{Refused, insert};
@@ -50,12 +50,12 @@ struct NodeNumbers<'a> {
 pub(crate) fn bound_by_nodes(
     alloc: Global,
     inst: &Instance,
-    view: EvenView<'_>,
+    view: SymmetricView<'_>,
     pot: &File,
 ) -> Result<BoundVerdict, Refused>
     requires kind { inst.now.kind ≡ Some kinds.Tsp }
     requires some { 3 ≤ nodes_of inst.now }
-    requires shows { ShowsEven inst.now view }
+    requires shows { ShowsSymmetric inst.now view }
     requires even { IsSymmetric (cost inst.now) }
     ensures found { IfOk result
         (λ found. FindsBound certificates.Potentials inst.now pot.now found) }
@@ -102,7 +102,7 @@ fn first_against_file(inst: &Instance, pot: &File) -> Option<Reason>
     ensures { MatchOption result
         ((is_potentials_file pot.now.kind ≡ true) × (pot.now.kind ≡ Some kinds.Potentials)
         × (nodes_of pot.now ≡ nodes_of inst.now))
-        (λ reason. IsFirstReason (StandsAgainstPotentials inst.now pot.now) reason) }
+        (λ reason. IsFirstReason (AppliesToPotentials inst.now pot.now) reason) }
 {
     if pot.kind() != Kind::Potentials {
         return Some(Reason::NotPotentials);
@@ -166,7 +166,7 @@ fn first_against_multipliers(
     ensures { IfOk result (λ found. MatchOption found
         (AreOnPairs (nodes_of inst.now) (multipliers_in pot.now)
         × AreListed (fixed_of inst.now) (multipliers_in pot.now))
-        (λ reason. IsFirstReason (StandsAgainstPotentials inst.now pot.now) reason)) }
+        (λ reason. IsFirstReason (AppliesToPotentials inst.now pot.now) reason)) }
 {
     if triples.is_empty() {
         return Ok(None);
@@ -235,13 +235,13 @@ fn assignment_bound<C: Costs>(
 fn bound_of_potentials(
     alloc: Global,
     inst: &Instance,
-    view: EvenView<'_>,
+    view: SymmetricView<'_>,
     pot: &File,
     numbers: &NodeNumbers<'_>,
 ) -> Result<i128, Refused>
     requires kind { inst.now.kind ≡ Some kinds.Tsp }
     requires some { 3 ≤ nodes_of inst.now }
-    requires shows { ShowsEven inst.now view }
+    requires shows { ShowsSymmetric inst.now view }
     requires count { nodes_of pot.now ≡ nodes_of inst.now }
     requires held { HoldsNodeNumbers pot.now (scale_of numbers.now.potentials)
         (numbers_of numbers.now.potentials) (triples_of numbers.now.multipliers) }
@@ -251,13 +251,13 @@ fn bound_of_potentials(
     ensures { IfOk result (λ bound. IsCertified certificates.Potentials inst.now pot.now bound) }
 {
     match view {
-        EvenView::Plane(points) => match points.euclidean() {
+        SymmetricView::Plane(points) => match points.euclidean() {
             Some(euclidean) => tree_bound(alloc, inst, &euclidean, pot, numbers),
             None => tree_bound(alloc, inst, &points, pot, numbers),
         },
-        EvenView::Space(points) => tree_bound(alloc, inst, &points, pot, numbers),
-        EvenView::Triangle(triangle) => tree_bound(alloc, inst, &triangle, pot, numbers),
-        EvenView::Matrix(matrix) => tree_bound(alloc, inst, &matrix, pot, numbers),
+        SymmetricView::Space(points) => tree_bound(alloc, inst, &points, pot, numbers),
+        SymmetricView::Triangle(triangle) => tree_bound(alloc, inst, &triangle, pot, numbers),
+        SymmetricView::Matrix(matrix) => tree_bound(alloc, inst, &matrix, pot, numbers),
     }
 }
 

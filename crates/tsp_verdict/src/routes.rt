@@ -15,10 +15,10 @@ ghost use Rattle.tsp_format.specs.Steps.{IsFromTo};
 ghost use Rattle.tsp_file.specs.states.Drafts.{combs_of};
 ghost use Rattle.tsp_theory.specs.Tour.{length_of, demand_of, load_of, IsLeastRoutes, plan_length};
 ghost use Rattle.tsp_cost.specs.Problems.{demands_of, depots_of, depot_of};
-ghost use Rattle.tsp_verdict.specs.Certified.{StandsAgainstRouting, NoneAgainstRouting, FindsBound, NoneWithoutMemory};
+ghost use Rattle.tsp_verdict.specs.Certified.{AppliesToRouting, NoneAgainstRouting, FindsBound, NoneWithoutMemory};
 ghost use Rattle.tsp_verdict.specs.Solutions.{IsFirstPlace, IsLarger, IsAt, IsAtEarlierPlace, AreCustomers, IsFirstReason, NoneOfRoutesBeforePlaces, IsFirstAgainstRoutes, IsRoutesVerdict, NoneOfRoutesBeforeRepeats, IsOverloaded};
 ghost use Rattle.tsp_verdict.specs.states.Marks.{Marked, AreToursOf, nodes_in, IsSumOf};
-ghost use Rattle.tsp_report.specs.declared.task.Certificate.TheVariants as certificates;
+ghost use Rattle.tsp_report.specs.declared.task.CertificateKind.TheVariants as certificates;
 
 use crate::certificate::tree_of;
 use crate::tour::{first_larger, first_of, mark, routing, solution_tours};
@@ -91,7 +91,7 @@ pub(crate) fn depot_of_routes(inst: &Instance) -> Result<u32, Reason>
     requires { inst.now.kind ≡ Some kinds.Cvrp }
     ensures { MatchResult result (λ depot. (2 ≤ nodes_of inst.now) × (depot ≡ depot_of inst.now)
         × IsNode (nodes_of inst.now) depot × NoneAgainstRouting inst.now)
-        (λ reason. IsFirstReason (StandsAgainstRouting inst.now) reason) }
+        (λ reason. IsFirstReason (AppliesToRouting inst.now) reason) }
 {
     if inst.count() < FEWEST_NODES_OF_ROUTES {
         return Err(Reason::TooFewNodes);
@@ -113,7 +113,7 @@ pub(crate) fn the_depot(inst: &Instance, routing: &RoutingData<'_>) -> Result<u3
     ensures { MatchResult result (λ depot. (depot ≡ depot_of inst.now)
         × IsNode (nodes_of inst.now) depot × (demand_of (demands_of inst.now) depot ≡ pos 0)
         × NoneAgainstRouting inst.now)
-        (λ reason. IsFirstReason (StandsAgainstRouting inst.now) reason) }
+        (λ reason. IsFirstReason (AppliesToRouting inst.now) reason) }
 {
     let [depot] = routing.depots else {
         return Err(Reason::DepotCount);
@@ -337,7 +337,7 @@ fn route_length(inst: &Instance, depot: u32, route: &[u32]) -> i64
 ///
 /// Out of memory, and then neither `NotBranches` nor `BranchesDimension` applies to the
 /// certificate.
-pub(crate) fn bound_of_walks(
+pub(crate) fn plan_tree_bound(
     alloc: Global,
     instance: &Instance,
     depot: u32,
@@ -353,7 +353,7 @@ pub(crate) fn bound_of_walks(
         → NoneWithoutMemory certificates.Branches instance.now branches.now }
 {
     match tree_of(instance, branches) {
-        Ok(tree) => judge_walks(alloc, instance, depot, branches, &tree),
+        Ok(tree) => judge_plan_tree(alloc, instance, depot, branches, &tree),
         Err(reason) => Ok(BoundVerdict::No(reason)),
     }
 }
@@ -364,7 +364,7 @@ pub(crate) fn bound_of_walks(
 /// # Errors
 ///
 /// Out of memory.
-fn judge_walks(
+fn judge_plan_tree(
     alloc: Global,
     instance: &Instance,
     depot: u32,

@@ -4,21 +4,21 @@
 ghost use Rattle.std.specs.Prelude.{IsTrue, MatchResult, Option, option_map, ◌≡◌, true, false, [], ◌∷◌, None, Some, pos, MatchOption};
 ghost use Rattle.tsp_format.specs.declared.kinds.Kind.TheVariants as kinds;
 ghost use Rattle.tsp_file.specs.Fields.{Fields};
-ghost use Rattle.tsp_verdict.specs.SolutionVerdict.{IsBasis, IsVerdictFrom, is_judged, NoneBeforeRepeatsOn, IsVerdictWith, HasLength, HasNoLength, IsAsClaimed, IsOtherClaimed, is_unjudged, strict_verdict, strict_bound, strict_basis};
+ghost use Rattle.tsp_verdict.specs.SolutionVerdict.{IsKnownBound, IsVerdictFrom, is_judged, NoneBeforeRepeatsOn, IsVerdictWith, HasLength, HasNoLength, IsAsClaimed, IsOtherClaimed, is_unjudged, strict_verdict, strict_bound, strict_known_bound};
 ghost use Rattle.tsp_verdict.specs.Examples.{instance_with, with_unknown};
-ghost use Rattle.tsp_verdict.specs.states.TourBases.{verdict_by, verdict_with};
+ghost use Rattle.tsp_verdict.specs.states.TourKnownBounds.{tour_verdict, plan_verdict};
 ghost use Rattle.tsp_report.specs.Verdicts.{is_yes, is_bound_yes, is_clear};
-ghost use Rattle.tsp_report.specs.declared.task.Certificate.{Certificate};
-ghost use Rattle.tsp_report.specs.declared.verdict.Basis.{Basis};
-ghost use Rattle.tsp_report.specs.declared.verdict.Basis.TheVariants as bases;
+ghost use Rattle.tsp_report.specs.declared.task.CertificateKind.{CertificateKind};
+ghost use Rattle.tsp_report.specs.declared.verdict.KnownBound.{KnownBound};
+ghost use Rattle.tsp_report.specs.declared.verdict.KnownBound.TheVariants as known_bounds;
 ghost use Rattle.tsp_report.specs.declared.verdict.BoundVerdict.{BoundVerdict};
 ghost use Rattle.tsp_report.specs.declared.verdict.BoundVerdict.TheVariants as bounds;
 ghost use Rattle.tsp_report.specs.declared.verdict.Reason.TheVariants as reasons;
 ghost use Rattle.tsp_report.specs.declared.verdict.Verdict.{Verdict};
 ghost use Rattle.tsp_report.specs.declared.verdict.Verdict.TheVariants as verdicts;
 
-use crate::basis::{against_instance, basis_of, costs_of_tours, judge_basis};
 use crate::certificate::bound_by;
+use crate::known_bound::{against_instance, costs_of_tours, judge_known_bound, known_bound_of};
 use crate::routes::verdict_on_routes;
 use crate::tour::{
     TourCosts, first_against_nodes, first_unused_by, is_directed, solution_tours, the_tour,
@@ -28,7 +28,7 @@ use tsp_cost::{Costs, Instance, tour_length};
 use tsp_file::File;
 use tsp_format::Kind;
 use tsp_io::Refused;
-use tsp_report::{Basis, BoundVerdict, Certificate, Reason, Verdict};
+use tsp_report::{BoundVerdict, CertificateKind, KnownBound, Reason, Verdict};
 
 /// The verdict on a solution of an instance: on a tour, or for TYPE CVRP on routes.
 ///
@@ -47,7 +47,7 @@ pub fn judge(
     alloc: Global,
     instance: &Instance,
     solution: &File,
-    certificate: Option<(Certificate, &File)>,
+    certificate: Option<(CertificateKind, &File)>,
     claimed: Option<i64>,
 ) -> Result<Verdict, Refused>
     requires { IsTrue
@@ -56,16 +56,16 @@ pub fn judge(
         (option_map (λ given. (given.0, given.1.now)) certificate.entry) claimed instance.now
         solution.now verdict) (λ refused. NoneBeforeRepeatsOn instance.now solution.now) }
 {
-    let subject = Subject {
+    let judge_input = JudgeInput {
         instance,
         given: BoundOrigin::Certificate(certificate),
     };
-    subject.verdict(alloc, solution, claimed)
+    judge_input.verdict(alloc, solution, claimed)
 }
 
-/// The verdict on a solution of an instance, by what [`crate::judge_basis`] found: the same as that
-/// of [`judge`] with the certificate that was judged there. Neither the costs of the instance nor
-/// the certificate are judged again.
+/// The verdict on a solution of an instance, by what [`crate::judge_known_bound`] found: the same
+/// as that of [`judge`] with the certificate that was judged there. Neither the costs of the
+/// instance nor the certificate are judged again.
 ///
 /// # Requires
 ///
@@ -77,20 +77,20 @@ pub fn judge(
 pub fn judge_next(
     alloc: Global,
     instance: &Instance,
-    basis: Basis,
+    known_bound: KnownBound,
     solution: &File,
     claimed: Option<i64>,
 ) -> Result<Verdict, Refused>
-    requires { (given : Option (Certificate × Fields)) × IsBasis given instance.now basis }
+    requires { (given : Option (CertificateKind × Fields)) × IsKnownBound given instance.now known_bound }
     ensures { MatchResult result
-        (λ verdict. IsVerdictFrom basis claimed instance.now solution.now verdict)
+        (λ verdict. IsVerdictFrom known_bound claimed instance.now solution.now verdict)
         (λ refused. NoneBeforeRepeatsOn instance.now solution.now) }
 {
-    let subject = Subject {
+    let judge_input = JudgeInput {
         instance,
-        given: BoundOrigin::Basis(basis),
+        given: BoundOrigin::KnownBound(known_bound),
     };
-    subject.verdict(alloc, solution, claimed)
+    judge_input.verdict(alloc, solution, claimed)
 }
 
 // ---- what a solution is judged by, an instance with a certificate or with a known basis
@@ -101,20 +101,20 @@ pub fn judge_next(
 /// The verdict is the same either way. Where it is known, neither the costs of the instance nor the
 /// certificate are judged again. Where it isn't, the certificate is judged after the solution.
 #[derive(Clone, Copy)]
-pub(crate) struct Subject<'a> {
+pub(crate) struct JudgeInput<'a> {
     pub(crate) instance: &'a Instance,
     pub(crate) given: BoundOrigin<'a>,
 }
 
-impl<'a> Subject<'a> {
+impl<'a> JudgeInput<'a> {
     ghost use Rattle.std.specs.Prelude.{◌≡◌, ◌⊎◌, Some, IfOk, MatchResult};
     ghost use Rattle.tsp_format.specs.declared.kinds.Kind.TheVariants as kinds;
-    ghost use Rattle.tsp_verdict.specs.Certified.{StandsAgainstTouring, NoneAgainstTouring};
+    ghost use Rattle.tsp_verdict.specs.Certified.{AppliesToTouring, NoneAgainstTouring};
     ghost use Rattle.tsp_verdict.specs.SolutionVerdict.{NoneBeforeRepeatsOn};
     ghost use Rattle.tsp_verdict.specs.Solutions.{IsFirstReason};
     ghost use Rattle.tsp_verdict.specs.Solutions.{NoneOfRoutesBeforeRepeats};
     ghost use Rattle.tsp_verdict.specs.Solutions.{NoneOfTourBeforeRepeats};
-    ghost use Rattle.tsp_verdict.specs.states.TourBases.{IsSubject, IsVerdictGiven, IsBasisGiven, IsTourBasis};
+    ghost use Rattle.tsp_verdict.specs.states.TourKnownBounds.{IsJudgeInput, IsVerdictGiven, IsKnownBoundGiven, IsTourKnownBound};
 
     /// The verdict on a solution: on a tour, or for TYPE CVRP on routes. Where a length is claimed,
     /// a solution of another length is rejected with `LengthClaimed`: after all other reasons
@@ -129,7 +129,7 @@ impl<'a> Subject<'a> {
         solution: &File,
         claimed: Option<i64>,
     ) -> Result<Verdict, Refused>
-        requires { IsSubject self.now.instance.now self.now.given }
+        requires { IsJudgeInput self.now.instance.now self.now.given }
         ensures { MatchResult result
             (λ verdict. IsVerdictGiven self.now.given claimed self.now.instance.now solution.now verdict)
             (λ refused. NoneBeforeRepeatsOn self.now.instance.now solution.now) }
@@ -147,7 +147,7 @@ impl<'a> Subject<'a> {
         solution: &File,
         claimed: Option<i64>,
     ) -> Result<Verdict, Refused>
-        requires sound { IsSubject self.now.instance.now self.now.given }
+        requires sound { IsJudgeInput self.now.instance.now self.now.given }
         requires kind { self.now.instance.now.kind ≡ Some kinds.Cvrp }
         ensures { MatchResult result
             (λ verdict. IsVerdictGiven self.now.given claimed self.now.instance.now solution.now verdict)
@@ -160,18 +160,22 @@ impl<'a> Subject<'a> {
         if is_other(claimed, measured) {
             return Ok(Verdict::No(Reason::LengthClaimed { length: measured }));
         }
-        let basis = self.basis_of_all(alloc)?;
-        Ok(verdict_with(basis, verdict))
+        let known_bound = self.known_bound_of_all(alloc)?;
+        Ok(plan_verdict(known_bound, verdict))
     }
 
     /// What is known of all solutions, or is now found.
-    fn basis_of_all(&self, alloc: Global) -> Result<Basis, Refused>
-        requires sound { IsSubject self.now.instance.now self.now.given }
-        ensures { IfOk result (λ basis. IsBasisGiven self.now.given self.now.instance.now basis) }
+    fn known_bound_of_all(&self, alloc: Global) -> Result<KnownBound, Refused>
+        requires sound { IsJudgeInput self.now.instance.now self.now.given }
+        ensures { IfOk result (λ known_bound. IsKnownBoundGiven self.now.given self.now.instance.now known_bound) }
     {
         match self.given {
-            BoundOrigin::Certificate(certificate) => judge_basis(alloc, self.instance, certificate),
-            BoundOrigin::Basis(basis) => Ok(basis),
+            BoundOrigin::Certificate(certificate) => judge_known_bound(
+                alloc,
+                self.instance,
+                certificate,
+            ),
+            BoundOrigin::KnownBound(known_bound) => Ok(known_bound),
         }
     }
 
@@ -183,7 +187,7 @@ impl<'a> Subject<'a> {
         solution: &File,
         claimed: Option<i64>,
     ) -> Result<Verdict, Refused>
-        requires sound { IsSubject self.now.instance.now self.now.given }
+        requires sound { IsJudgeInput self.now.instance.now self.now.given }
         requires kind { (self.now.instance.now.kind ≡ Some kinds.Tsp)
             ⊎ (self.now.instance.now.kind ≡ Some kinds.Atsp) }
         ensures { MatchResult result
@@ -195,8 +199,8 @@ impl<'a> Subject<'a> {
             return Ok(Verdict::No(Reason::NotASolution));
         };
         // `TooFewNodes`, `NotSymmetric`
-        let tour_basis = match self.tour_basis() {
-            Ok(tour_basis) => tour_basis,
+        let tour_known_bound = match self.tour_known_bound() {
+            Ok(tour_known_bound) => tour_known_bound,
             Err(reason) => return Ok(Verdict::No(reason)),
         };
         let nodes = instance.count();
@@ -221,27 +225,27 @@ impl<'a> Subject<'a> {
             return Ok(Verdict::No(Reason::LengthClaimed { length }));
         }
         // those against the certificate
-        let basis = self.basis_on(alloc, tour_basis)?;
-        Ok(verdict_by(basis, length))
+        let known_bound = self.known_bound_on(alloc, tour_known_bound)?;
+        Ok(tour_verdict(known_bound, length))
     }
 
     /// What the instance is judged by, or the first reason against it, whatever the tour.
-    fn tour_basis(&self) -> Result<TourBasis<'a>, Reason>
-        requires sound { IsSubject self.now.instance.now self.now.given }
+    fn tour_known_bound(&self) -> Result<TourKnownBound<'a>, Reason>
+        requires sound { IsJudgeInput self.now.instance.now self.now.given }
         requires kind { (self.now.instance.now.kind ≡ Some kinds.Tsp)
             ⊎ (self.now.instance.now.kind ≡ Some kinds.Atsp) }
         ensures { MatchResult result
-            (λ tour_basis. NoneAgainstTouring self.now.instance.now
-            × IsTourBasis self.now.instance.now self.now.given tour_basis)
-            (λ reason. IsFirstReason (StandsAgainstTouring self.now.instance.now) reason) }
+            (λ tour_known_bound. NoneAgainstTouring self.now.instance.now
+            × IsTourKnownBound self.now.instance.now self.now.given tour_known_bound)
+            (λ reason. IsFirstReason (AppliesToTouring self.now.instance.now) reason) }
     {
         match self.given {
             BoundOrigin::Certificate(certificate) => match costs_of_tours(self.instance) {
-                Ok(costs) => Ok(TourBasis::Costs(costs, certificate)),
+                Ok(costs) => Ok(TourKnownBound::Costs(costs, certificate)),
                 Err(reason) => Err(reason),
             },
-            BoundOrigin::Basis(basis) => match against_instance(basis) {
-                None => Ok(TourBasis::Basis(basis)),
+            BoundOrigin::KnownBound(known_bound) => match against_instance(known_bound) {
+                None => Ok(TourKnownBound::KnownBound(known_bound)),
                 Some(reason) => Err(reason),
             },
         }
@@ -249,23 +253,27 @@ impl<'a> Subject<'a> {
 
     /// What is known of all solutions, or is now found: a certificate that wasn't judged before is
     /// judged here.
-    fn basis_on(&self, alloc: Global, tour_basis: TourBasis<'_>) -> Result<Basis, Refused>
-        requires sound { IsSubject self.now.instance.now self.now.given }
+    fn known_bound_on(
+        &self,
+        alloc: Global,
+        tour_known_bound: TourKnownBound<'_>,
+    ) -> Result<KnownBound, Refused>
+        requires sound { IsJudgeInput self.now.instance.now self.now.given }
         requires kind { (self.now.instance.now.kind ≡ Some kinds.Tsp)
             ⊎ (self.now.instance.now.kind ≡ Some kinds.Atsp) }
         requires none { NoneAgainstTouring self.now.instance.now }
-        requires tour_basis { IsTourBasis self.now.instance.now self.now.given tour_basis }
-        ensures { IfOk result (λ basis. IsBasisGiven self.now.given self.now.instance.now basis) }
+        requires tour_known_bound { IsTourKnownBound self.now.instance.now self.now.given tour_known_bound }
+        ensures { IfOk result (λ known_bound. IsKnownBoundGiven self.now.given self.now.instance.now known_bound) }
     {
-        let (costs, certificate) = match tour_basis {
-            TourBasis::Costs(costs, certificate) => (costs, certificate),
-            TourBasis::Basis(basis) => return Ok(basis),
+        let (costs, certificate) = match tour_known_bound {
+            TourKnownBound::Costs(costs, certificate) => (costs, certificate),
+            TourKnownBound::KnownBound(known_bound) => return Ok(known_bound),
         };
         let Some((by, file)) = certificate else {
-            return Ok(Basis::Tours { bound: None });
+            return Ok(KnownBound::Tours { bound: None });
         };
         let found = bound_by(alloc, by, self.instance, costs, file)?;
-        Ok(basis_of(self.instance, found))
+        Ok(known_bound_of(self.instance, found))
     }
 }
 
@@ -275,27 +283,27 @@ impl<'a> Subject<'a> {
 #[derive(Clone, Copy)]
 pub(crate) enum BoundOrigin<'a> {
     /// A certificate, where there is one. It is judged after the solution.
-    Certificate(Option<(Certificate, &'a File)>),
+    Certificate(Option<(CertificateKind, &'a File)>),
     /// What is known of all solutions, which was found before.
-    Basis(Basis),
+    KnownBound(KnownBound),
 }
 
 /// What shows that no reason applies to an instance of tours.
 #[derive(Clone, Copy)]
-pub(crate) enum TourBasis<'a> {
+pub(crate) enum TourKnownBound<'a> {
     /// The costs, which were found for this solution; and the certificate, which is to be judged.
-    Costs(TourCosts<'a>, Option<(Certificate, &'a File)>),
+    Costs(TourCosts<'a>, Option<(CertificateKind, &'a File)>),
     /// What is known of all solutions.
-    Basis(Basis),
+    KnownBound(KnownBound),
 }
 
 /// The verdict on routes that are accepted on their own, by what is known of all solutions.
-fn verdict_with(basis: Basis, verdict: Verdict) -> Verdict
-    ensures { result ≡ verdict_with basis verdict }
+fn plan_verdict(known_bound: KnownBound, verdict: Verdict) -> Verdict
+    ensures { result ≡ plan_verdict known_bound verdict }
 {
-    match (basis, verdict) {
+    match (known_bound, verdict) {
         (
-            Basis::Routes { least, bound },
+            KnownBound::Routes { least, bound },
             Verdict::Routes {
                 length,
                 routes,
@@ -308,21 +316,21 @@ fn verdict_with(basis: Basis, verdict: Verdict) -> Verdict
             least,
             bound,
         },
-        (Basis::No(reason), _) => Verdict::No(reason),
+        (KnownBound::No(reason), _) => Verdict::No(reason),
         // A basis of an instance that has routes is none of the others.
         (_, verdict) => verdict,
     }
 }
 
 /// The verdict on a tour of this length, by what is known of all solutions.
-fn verdict_by(basis: Basis, length: i64) -> Verdict
-    ensures { result ≡ verdict_by basis length }
+fn tour_verdict(known_bound: KnownBound, length: i64) -> Verdict
+    ensures { result ≡ tour_verdict known_bound length }
 {
-    match basis {
-        Basis::Tours { bound } => Verdict::Tour { length, bound },
-        Basis::No(reason) => Verdict::No(reason),
+    match known_bound {
+        KnownBound::Tours { bound } => Verdict::Tour { length, bound },
+        KnownBound::No(reason) => Verdict::No(reason),
         // A basis of an instance that has a tour is neither of these.
-        Basis::NoSolution | Basis::Routes { .. } => Verdict::Tour {
+        KnownBound::NoSolution | KnownBound::Routes { .. } => Verdict::Tour {
             length,
             bound: None,
         },
@@ -356,13 +364,13 @@ pub fn strict_bound(strict: bool, instance: &Instance, found: BoundVerdict) -> B
 }
 
 /// What is known of all solutions of an instance, in the same way.
-pub fn strict_basis(strict: bool, instance: &Instance, basis: Basis) -> Basis
-    ensures { result ≡ strict_basis (is_unjudged strict instance.now) basis }
+pub fn strict_known_bound(strict: bool, instance: &Instance, known_bound: KnownBound) -> KnownBound
+    ensures { result ≡ strict_known_bound (is_unjudged strict instance.now) known_bound }
 {
     if is_unjudged(strict, instance) {
-        rejected_basis(basis)
+        rejected_known_bound(known_bound)
     } else {
-        basis
+        known_bound
     }
 }
 
@@ -387,14 +395,14 @@ fn rejected_bound(found: BoundVerdict) -> BoundVerdict
 }
 
 /// What is known of all solutions where they are.
-fn rejected_basis(basis: Basis) -> Basis
-    ensures { result ≡ strict_basis true basis }
+fn rejected_known_bound(known_bound: KnownBound) -> KnownBound
+    ensures { result ≡ strict_known_bound true known_bound }
 {
-    match basis {
-        Basis::Tours { .. } | Basis::NoSolution | Basis::Routes { .. } => {
-            Basis::No(Reason::NotJudged)
+    match known_bound {
+        KnownBound::Tours { .. } | KnownBound::NoSolution | KnownBound::Routes { .. } => {
+            KnownBound::No(Reason::NotJudged)
         }
-        Basis::No(reason) => Basis::No(reason),
+        KnownBound::No(reason) => KnownBound::No(reason),
     }
 }
 
@@ -415,9 +423,9 @@ pub fn strict_yes_leaves_nothing_unjudged()
     ensures bound { (instance : Fields) (plain : BoundVerdict)
         → is_bound_yes (strict_bound (is_unjudged true instance) plain) ≡ true
         → (instance.others ≡ []) × (strict_bound (is_unjudged true instance) plain ≡ plain) }
-    ensures basis { (instance : Fields) (plain : Basis)
-        → is_clear (strict_basis (is_unjudged true instance) plain) ≡ true
-        → (instance.others ≡ []) × (strict_basis (is_unjudged true instance) plain ≡ plain) }
+    ensures known_bound { (instance : Fields) (plain : KnownBound)
+        → is_clear (strict_known_bound (is_unjudged true instance) plain) ≡ true
+        → (instance.others ≡ []) × (strict_known_bound (is_unjudged true instance) plain ≡ plain) }
 {}
 
 /// Where unknown keywords are a reason, and what becomes of verdicts, bounds and bases. A reason
@@ -436,11 +444,11 @@ pub fn examples_of_strictness()
     ensures no_solution { strict_bound true bounds.NoSolution ≡ bounds.No reasons.NotJudged }
     ensures other_of_bounds { strict_bound true (bounds.No reasons.NotPotentials) ≡ bounds.No reasons.NotPotentials }
     ensures kept_bound { strict_bound false bounds.NoSolution ≡ bounds.NoSolution }
-    ensures tours { strict_basis true (bases.Tours None) ≡ bases.No reasons.NotJudged }
-    ensures no_solution_of_all { strict_basis true bases.NoSolution ≡ bases.No reasons.NotJudged }
-    ensures plans { strict_basis true (bases.Routes 2 None) ≡ bases.No reasons.NotJudged }
-    ensures other_of_all { strict_basis true (bases.No reasons.DepotCount) ≡ bases.No reasons.DepotCount }
-    ensures kept_basis { strict_basis false (bases.Tours None) ≡ bases.Tours None }
+    ensures tours { strict_known_bound true (known_bounds.Tours None) ≡ known_bounds.No reasons.NotJudged }
+    ensures no_solution_of_all { strict_known_bound true known_bounds.NoSolution ≡ known_bounds.No reasons.NotJudged }
+    ensures plans { strict_known_bound true (known_bounds.Routes 2 None) ≡ known_bounds.No reasons.NotJudged }
+    ensures other_of_all { strict_known_bound true (known_bounds.No reasons.DepotCount) ≡ known_bounds.No reasons.DepotCount }
+    ensures kept_known_bound { strict_known_bound false (known_bounds.Tours None) ≡ known_bounds.Tours None }
 {}
 
 // ---- whether the claimed length of a solution is another one than its own

@@ -16,11 +16,11 @@ ghost use Rattle.tsp_theory.specs.Tour.{IsCycle, Uses};
 ghost use Rattle.tsp_cost.specs.Problems.{is_directed, depots_of, demands_of, capacity_of};
 ghost use Rattle.tsp_verdict.specs.Solutions.{IsFirstPlace, IsLarger, IsAt, IsAtEarlierPlace, HoldsAtNone, IsUnused, tours_of, NoneOfTourBefore, NoneOfTourBeforeNodes, IsFirstAgainstTour, NoneOfTourBeforeRepeats};
 ghost use Rattle.tsp_verdict.specs.states.Marks.{Marked, StandsAfter, AreNext, AreToursOf};
-ghost use Rattle.tsp_verdict.specs.states.TourBases.{AreTourCosts};
+ghost use Rattle.tsp_verdict.specs.states.TourKnownBounds.{AreTourCosts};
 ghost use Rattle.tsp_report.specs.declared.verdict.Reason.TheVariants.{FixedEdgeUnused, TourCount};
 
 use std::alloc::Global;
-use tsp_cost::{Costs, EvenView, Instance, View, even_view};
+use tsp_cost::{Costs, Instance, SymmetricView, View, symmetric_view};
 use tsp_file::{File, RoutingData};
 use tsp_format::Kind;
 use tsp_io::{Refused, filled};
@@ -33,7 +33,7 @@ pub(crate) const FEWEST_NODES_OF_TOURS: u32 = 3;
 #[derive(Clone, Copy)]
 pub(crate) enum TourCosts<'a> {
     /// TYPE TSP, whose costs are the same in both directions.
-    Undirected(EvenView<'a>),
+    Undirected(SymmetricView<'a>),
     /// TYPE ATSP.
     Directed(View<'a>),
 }
@@ -106,7 +106,7 @@ pub(crate) fn tour_costs(inst: &Instance) -> Result<TourCosts<'_>, (u32, u32)>
     if inst.kind() != Kind::Tsp {
         return Ok(TourCosts::Directed(inst.view()));
     }
-    match even_view(inst) {
+    match symmetric_view(inst) {
         Ok(view) => Ok(TourCosts::Undirected(view)),
         Err(pair) => Err(pair),
     }

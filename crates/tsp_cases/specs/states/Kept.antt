@@ -9,7 +9,7 @@ use Rattle.tsp_format.specs.Steps.{IsFromTo}
 use Rattle.tsp_theory.specs.Bounds.{entry, is_same_pair}
 use Rattle.tsp_theory.specs.states.Nearest.{least_at, IsMoved}
 use Rattle.tsp_cases.specs.declared.kept.KeptRows.{KeptRows}
-use Rattle.tsp_cases.specs.declared.kept.Room.{Room}
+use Rattle.tsp_cases.specs.declared.kept.Scratch.{Scratch}
 use Rattle.tsp_cases.specs.declared.sets.SetPlace.{SetPlace}
 use Rattle.tsp_cases.specs.states.Sets.{places_with, inside_both, multipliers_at, AreSmallMultipliers}
 
@@ -92,12 +92,12 @@ abbrev pub AreMoved : ℕ → List ℤ → List ℤ → List (List (List ℕ)) �
 AreMoved n potentials multipliers families moved = (x : ℕ) → IsNode n x → int_wrap w64 (least_at moved x)
     ≡ int_wrap w64 (entry potentials x +ℤ neg_ℤ (multipliers_at multipliers families x))
 
--- ---- the memory that a pass over the leaves writes over: `Room` (`src/kept.rt`)
+-- ---- the memory that a pass over the leaves writes over: `Scratch` (`src/kept.rt`)
 
 -- A potential for each node and a multiplier for each family. `row` and `moved` have a number for each node at its
 -- index, and one at 0. In `moved`, `fill_moved` (src/sets.rt) puts the potential of each node less the multipliers of
 -- its sets.
-pub record IsRoom (n combs : ℕ) (room : Room) : Type 0 where
+pub record IsScratch (n combs : ℕ) (room : Scratch) : Type 0 where
   pub potentials : length room.potentials.items ≡ n
   pub multipliers : length room.multipliers.items ≡ combs
   pub row : length room.row.items ≡ n + 1

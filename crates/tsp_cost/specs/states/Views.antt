@@ -13,8 +13,8 @@ use Rattle.tsp_file.specs.Rules.{is_instance, is_explicit}
 use Rattle.tsp_file.specs.Valid.{IsInRange, HasRouting}
 use Rattle.tsp_cost.specs.declared.instance.CostSource.{CostSource}
 use Rattle.tsp_cost.specs.declared.instance.CostSource.TheVariants.{Distances, Weights}
-use Rattle.tsp_cost.specs.declared.instance.EvenView.{EvenView}
-use Rattle.tsp_cost.specs.declared.instance.EvenView.TheVariants as even_views
+use Rattle.tsp_cost.specs.declared.instance.SymmetricView.{SymmetricView}
+use Rattle.tsp_cost.specs.declared.instance.SymmetricView.TheVariants as symmetric_views
 use Rattle.tsp_cost.specs.declared.instance.View.{View}
 use Rattle.tsp_cost.specs.declared.instance.View.TheVariants as views
 use Rattle.tsp_cost.specs.declared.matrix.EvenMatrix.{EvenMatrix}
@@ -96,8 +96,8 @@ IsViewOf f (views.Triangle t) = (is_explicit f.weight_kind ≡ true) × (f.weigh
     × HasCosts f (triangle_nodes t) (triangle_cost t)
 
 -- a view of a file whose costs are the same in both directions
-abbrev pub ShowsEven : Fields → EvenView → Type 0
-ShowsEven f (even_views.Plane p) = HasCosts f (points_nodes p) (points_cost (λ point. on_plane point.x point.y) p)
-ShowsEven f (even_views.Space p) = HasCosts f (points_nodes p) (points_cost (λ point. point) p)
-ShowsEven f (even_views.Matrix m) = HasCosts f (even_nodes m) (even_cost m)
-ShowsEven f (even_views.Triangle t) = HasCosts f (triangle_nodes t) (triangle_cost t)
+abbrev pub ShowsSymmetric : Fields → SymmetricView → Type 0
+ShowsSymmetric f (symmetric_views.Plane p) = HasCosts f (points_nodes p) (points_cost (λ point. on_plane point.x point.y) p)
+ShowsSymmetric f (symmetric_views.Space p) = HasCosts f (points_nodes p) (points_cost (λ point. point) p)
+ShowsSymmetric f (symmetric_views.Matrix m) = HasCosts f (even_nodes m) (even_cost m)
+ShowsSymmetric f (symmetric_views.Triangle t) = HasCosts f (triangle_nodes t) (triangle_cost t)

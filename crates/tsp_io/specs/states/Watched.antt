@@ -7,7 +7,7 @@ use Rattle.std.specs.declared.io.ErrorKind.TheVariants as kinds
 use denote.Param.Members.{Once}
 use denote.Ref.{MutBor}
 use Rattle.arrayvec.specs.ArrayVec.{ArrayVec}
-use Rattle.tsp_io.specs.Streams.{Sink, Turn}
+use Rattle.tsp_io.specs.Streams.{Sink, ReadTrace}
 use Rattle.tsp_io.specs.declared.script.Script.{Script}
 use Rattle.tsp_io.specs.declared.watched.Watched.{Watched}
 
@@ -49,8 +49,8 @@ pub record Calls {F T B R : Type 0} (g : Once F (MutBor T × (MutBor B × Unit {
 -- ---- the turn or the sink of a call
 
 -- the turn of a watched reader
-abbrev pub turn_of : {R : Type 0} → (R → Option (List ℕ)) → Watched R → Watched R → List ℕ → Turn
-turn_of remaining old new given = record {
+abbrev pub read_trace_of : {R : Type 0} → (R → Option (List ℕ)) → Watched R → Watched R → List ℕ → ReadTrace
+read_trace_of remaining old new given = record {
   known = remaining (watched old);
   left = remaining (watched new);
   given = given;

@@ -12,9 +12,9 @@ use Rattle.tsp_read.specs.declared.by_node.NumberList.{NumberList}
 use Rattle.tsp_read.specs.declared.by_node.PointList.{PointList}
 use Rattle.tsp_read.specs.declared.lists.DepotList.{DepotList}
 use Rattle.tsp_read.specs.declared.lists.FixedList.{FixedList}
-use Rattle.tsp_read.specs.declared.part.Part.{Part}
-use Rattle.tsp_read.specs.declared.part.Part.TheVariants as parts
-use Rattle.tsp_read.specs.declared.part.TripleList.{TripleList}
+use Rattle.tsp_read.specs.declared.section_builder.SectionBuilder.{SectionBuilder}
+use Rattle.tsp_read.specs.declared.section_builder.SectionBuilder.TheVariants as parts
+use Rattle.tsp_read.specs.declared.section_builder.TripleList.{TripleList}
 use Rattle.tsp_read.specs.declared.runs.TourList.{TourList}
 use Rattle.tsp_read.specs.declared.runs.WeightList.{WeightList}
 use Rattle.tsp_read.specs.declared.tree.CombList.{CombList}
@@ -100,7 +100,7 @@ abbrev pub shape_of_points : Bool → Shape
 shape_of_points in_space = cond in_space SpacePoints Points
 
 -- the shape of the section that a part is for
-abbrev pub shape_by : Part → Shape
+abbrev pub shape_by : SectionBuilder → Shape
 shape_by (parts.Numbers list) = Numbers list.low list.high
 shape_by (parts.Points list) = shape_of_points (are_in_space list.entries)
 shape_by (parts.Depots list) = Depots
@@ -112,7 +112,7 @@ shape_by (parts.Combs list) = Combs
 shape_by (parts.Steps list) = Steps
 
 -- the part has these words of its section, which has n nodes
-abbrev pub HoldsPart : Part → ℕ → List (List ℕ) → Type 0
+abbrev pub HoldsPart : SectionBuilder → ℕ → List (List ℕ) → Type 0
 HoldsPart (parts.Numbers list) n words = HoldsNumbers list list.low list.high n words
 HoldsPart (parts.Points list) n words = HoldsPoints list (are_in_space list.entries) n words
 HoldsPart (parts.Depots list) n words = HoldsDepots list n words
@@ -124,31 +124,31 @@ HoldsPart (parts.Combs list) n words = HoldsCombs list n words
 HoldsPart (parts.Steps list) n words = HoldsTree list n words
 
 -- the same, and the section has this shape
-abbrev pub HoldsShape : Shape → Part → ℕ → List (List ℕ) → Type 0
+abbrev pub HoldsShape : Shape → SectionBuilder → ℕ → List (List ℕ) → Type 0
 HoldsShape shape part n words = (shape_by part ≡ shape) × HoldsPart part n words
 
 -- ---- how a section's part takes one word of a run, which code reads in one pass
 
 -- a part that had some words has this one too, which has no fault at its place
-abbrev pub TakesRead : Part → Part → List ℕ → Type 0
+abbrev pub TakesRead : SectionBuilder → SectionBuilder → List ℕ → Type 0
 TakesRead old new word = (n : ℕ) (words : List (List ℕ)) → HoldsPart old n words
     → Takes n (place_by (shape_by old) n words) word (HoldsShape (shape_by old) new n (words ++ word ∷ [])) (Ok tt)
 
 -- a part still has the words that it had
-abbrev pub KeepsWords : Part → Part → Type 0
+abbrev pub KeepsWords : SectionBuilder → SectionBuilder → Type 0
 KeepsWords old new = (n : ℕ) (words : List (List ℕ)) → HoldsPart old n words → HoldsShape (shape_by old) new n words
 
 -- the part has the node of a point that isn't whole, so that its next word is a coordinate
-abbrev pub in_group : Part → Bool
+abbrev pub in_group : SectionBuilder → Bool
 in_group (parts.Points list) = is_some list.begun
 in_group part = false
 
 -- how many points are still to come; 0 for another section
-abbrev pub groups_left : Part → ℕ
+abbrev pub groups_left : SectionBuilder → ℕ
 groups_left (parts.Points list) = list.left
 groups_left part = 0
 
 -- for each node whether it has a point; none for another section
-abbrev pub marks_of : Part → List Bool
+abbrev pub marks_of : SectionBuilder → List Bool
 marks_of (parts.Points list) = list.seen.items
 marks_of part = []

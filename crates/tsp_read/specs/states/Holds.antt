@@ -21,7 +21,7 @@ use Rattle.tsp_text.specs.FaultRows.{row_of, when, first_row, is_too_long_to_kee
 use Rattle.tsp_text.specs.Groups.{numbers_by_node, points_by_node, space_points_by_node, depots_in, fixed_in, fixed_triples_in, whole_combs}
 use Rattle.tsp_text.specs.Items.{WordLine, Item, Line, AreCut, is_not_empty, first_word}
 use Rattle.tsp_text.specs.SectionWords.{tours_in, whole_steps, weights_in}
-use Rattle.tsp_text.specs.Spells.{IsClean, fields_by, is_incomplete, sections_in_order, first_incomplete, opening_rows, spelled, fault_at_end}
+use Rattle.tsp_text.specs.ParsesTo.{IsClean, fields_by, is_incomplete, sections_in_order, first_incomplete, opening_rows, spelled, fault_at_end}
 use Rattle.tsp_text.specs.declared.fault.LineFault.{LineFault}
 use Rattle.tsp_text.specs.declared.fault.LineFault.TheVariants as row
 use Rattle.tsp_read.specs.declared.line.CutLine.{CutLine}

@@ -5,7 +5,7 @@ use Rattle.std.specs.Prelude.{◌≡◌, ℕ, Bool, true, false, nat_lt, List, �
 use Rattle.tsp_format.specs.Limits.{most_word_bytes, most_line_bytes, most_file_bytes}
 use Rattle.tsp_text.specs.FaultRows.{row_of}
 use Rattle.tsp_text.specs.Items.{Item, Line, NumberWord, LineEnd, settled_items, is_end_line, has_end_line, to_end_line, line_number, words_before, is_not_empty, items_of}
-use Rattle.tsp_text.specs.Spells.{fault_in, settled_part}
+use Rattle.tsp_text.specs.ParsesTo.{fault_in, settled_part}
 use Rattle.tsp_text.specs.declared.fault.ReadFault.{ReadFault}
 use Rattle.tsp_text.specs.declared.fault.ReadFault.TheVariants as faults
 use Rattle.tsp_read.specs.declared.feed.Stage.{Stage}

@@ -5,11 +5,11 @@ use Rattle.tsp_format.specs.declared.keyword.Field.{Field}
 use Rattle.tsp_file.specs.declared.draft.Draft.{Draft}
 use Rattle.tsp_text.specs.Items.{ends_line, without_start, NumberWord}
 use Rattle.tsp_read.specs.declared.items.Intake.{Intake}
-use Rattle.tsp_read.specs.declared.part.Part.{Part}
+use Rattle.tsp_read.specs.declared.section_builder.SectionBuilder.{SectionBuilder}
 use Rattle.tsp_read.specs.declared.reading.Reading.{Reading}
-use Rattle.tsp_read.specs.declared.run.Count.{Count}
-use Rattle.tsp_read.specs.declared.run.End.{End}
-use Rattle.tsp_read.specs.declared.run.End.TheVariants.{Blank, Line}
+use Rattle.tsp_read.specs.declared.digits.Count.{Count}
+use Rattle.tsp_read.specs.declared.digits.End.{End}
+use Rattle.tsp_read.specs.declared.digits.End.TheVariants.{Blank, Line}
 use Rattle.tsp_read.specs.states.Left.{ends_word, up_to_first}
 use Rattle.tsp_read.specs.states.Onward.{IsReadTo, GivesNext}
 
@@ -18,26 +18,26 @@ abbrev pub counted : Reading → Count → Intake
 counted reading count = record { reading = reading; line = count.line; words = count.words; inside = count.inside }
 
 -- the same where the state has these fields and this part of the open section
-abbrev pub in_run : Draft → Option Field → Field → Part → Count → Intake
+abbrev pub in_run : Draft → Option Field → Field → SectionBuilder → Count → Intake
 in_run draft incomplete field part count =
     counted (record { draft = draft; incomplete = incomplete; opened = Some (record { field = field; part = part }) }) count
 
 -- Whatever the fields and the bytes so far are: where they were read with the old part and counts, and `text` is left,
 -- the new part and counts have read them on, and `rest` is left.
-abbrev pub TakesRun : Part → Count → List ℕ → Part → Count → List ℕ → Type 0
+abbrev pub TakesRun : SectionBuilder → Count → List ℕ → SectionBuilder → Count → List ℕ → Type 0
 TakesRun old before text new after rest = (draft : Draft) (incomplete : Option Field) (field : Field) (bytes : List ℕ)
     → IsReadTo (in_run draft incomplete field old before) bytes text
     → IsReadTo (in_run draft incomplete field new after) bytes rest
 
 -- a run from `text` to `rest`, in which no more lines and words are counted than bytes are read
-pub record RunsTo (old : Part) (before : Count) (text : List ℕ) (new : Part) (after : Count) (rest : List ℕ) : Type 0 where
+pub record RunsTo (old : SectionBuilder) (before : Count) (text : List ℕ) (new : SectionBuilder) (after : Count) (rest : List ℕ) : Type 0 where
   pub read : TakesRun old before text new after rest
   pub line : after.line + length rest ≤ before.line + length text
   pub words : after.words + length rest ≤ before.words + length text
   pub shorter : length rest ≤ length text
 
 -- One step of a run. Some: what is left after it, which is shorter. None: nothing was taken.
-abbrev pub StepsTo : Part → Count → List ℕ → Part → Count → Option (List ℕ) → Type 0
+abbrev pub StepsTo : SectionBuilder → Count → List ℕ → SectionBuilder → Count → Option (List ℕ) → Type 0
 StepsTo old before text new after None = RunsTo old before text new after text
 StepsTo old before text new after (Some rest) = RunsTo old before text new after rest × (length rest < length text)
 

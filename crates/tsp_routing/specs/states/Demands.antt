@@ -6,10 +6,10 @@ use Rattle.tsp_format.specs.Limits.{most_nodes, most_demand, most_capacity}
 use Rattle.tsp_format.specs.Nodes.{IsNode}
 use Rattle.tsp_format.specs.Steps.{IsFromTo}
 use Rattle.tsp_theory.specs.Tour.{RoutingProblem, demand_of, IsCustomer}
-use Rattle.tsp_routing.specs.PlanLinks.{is_light, AreUnits, load_in, room_in}
-use Rattle.tsp_routing.specs.Walks.{WalkEntry, IsLow, IsMet}
+use Rattle.tsp_routing.specs.PlanLinks.{is_light, AreUnits, load_in, capacity_in_parts}
+use Rattle.tsp_routing.specs.QRoutes.{QRouteEntry, IsLow, IsMet}
 use Rattle.tsp_routing.specs.declared.demands.Demands.{Demands}
-use Rattle.tsp_routing.specs.declared.least_walk.Onward.{Onward}
+use Rattle.tsp_routing.specs.declared.least_q_route.Onward.{Onward}
 use Rattle.tsp_routing.specs.declared.units.UnitLoads.{UnitLoads}
 
 -- ---- the routing problem of a depot, demands and a capacity, with any costs
@@ -47,11 +47,11 @@ abbrev pub AreLinks : ℕ → ℕ → (ℕ → ℕ → ℤ) → Type 0
 AreLinks link n w = (i j : ℕ) → IsNode n i → IsNode n j → IsFromTo (neg_ℤ (pos link)) (pos link) (w i j)
 
 -- the entry that a value of `Onward` is; `value` gives its sums as integers
-abbrev pub onward_entry : {S : Type 0} → (S → ℤ) → Onward S → WalkEntry
+abbrev pub onward_entry : {S : Type 0} → (S → ℤ) → Onward S → QRouteEntry
 onward_entry value onward = record { least = value onward.least; next = onward.next; other = value onward.other }
 
 -- the entry of a node in a row
-abbrev pub entry_at : {S : Type 0} → (S → ℤ) → List (Onward S) → Onward S → ℕ → WalkEntry
+abbrev pub entry_at : {S : Type 0} → (S → ℤ) → List (Onward S) → Onward S → ℕ → QRouteEntry
 entry_at value row default node = onward_entry value (slice_index_or row node default)
 
 -- the number is the weight of a walk, of at most this size; or it is far from those, and says that there is no walk
@@ -64,7 +64,7 @@ IsEntryNumber half size number =
     (neg_ℤ (pos size) ≤ℤ number) × (number ≤ℤ pos (2 * half)) × IsNearOrFar half size number
 
 -- how large both numbers of an entry are
-pub record IsEntrySized (half size : ℕ) (entry : WalkEntry) : Type 0 where
+pub record IsEntrySized (half size : ℕ) (entry : QRouteEntry) : Type 0 where
   pub least : IsEntryNumber half size entry.least
   pub other : IsEntryNumber half size entry.other
 
@@ -99,7 +99,7 @@ AreRowsMet {S} value half n depot w load table = (left : ℕ) (default : Vec (On
     → IsRowMet value half n depot w load left (slice_index_or table left default).items
 
 -- an entry after one next node more was tried: that is the best now, or the second, or neither
-abbrev pub IsChosen : WalkEntry → ℕ → ℤ → WalkEntry → Type 0
+abbrev pub IsChosen : QRouteEntry → ℕ → ℤ → QRouteEntry → Type 0
 IsChosen best next weight new =
     ((new.least ≡ weight) × (new.next ≡ next) × (new.other ≡ best.least))
     ⊎ (((new.least ≡ best.least) × (new.next ≡ best.next) × (new.other ≡ weight))
@@ -117,4 +117,4 @@ pub record AreUnitLoads (demands : Demands) (unit : ℕ) (units : UnitLoads) : T
   pub places : length units.loads.items ≡ demands.nodes + 1
   pub loads_are : (cost : ℕ → ℕ → ℤ) (node : ℕ) → IsNode demands.nodes node
       → load_at units.loads.items node ≡ load_in (loads_problem demands cost) unit units.light node
-  pub room_is : (cost : ℕ → ℕ → ℤ) → units.room ≡ room_in (loads_problem demands cost) unit units.light
+  pub room_is : (cost : ℕ → ℕ → ℤ) → units.room ≡ capacity_in_parts (loads_problem demands cost) unit units.light

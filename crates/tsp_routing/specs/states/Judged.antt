@@ -10,19 +10,19 @@ use Rattle.tsp_cases.specs.Families.{Family, family_with}
 use Rattle.tsp_cases.specs.ListedCases.{listed_steps}
 use Rattle.tsp_cases.specs.declared.family.Crossings.{Crossings}
 use Rattle.tsp_cases.specs.declared.open_case.Decision.{Decision}
-use Rattle.tsp_routing.specs.PlanBounds.{IsFoundByWalks, IsPlanTreeBound}
-use Rattle.tsp_routing.specs.PlanLinks.{room_in, IsCutFamily}
+use Rattle.tsp_routing.specs.PlanBounds.{IsFoundByQRoutes, IsPlanTreeBound}
+use Rattle.tsp_routing.specs.PlanLinks.{capacity_in_parts, IsCutFamily}
 use Rattle.tsp_routing.specs.PlanVerdicts.{AreGoodPlanLeaves, IsFirstBadPlanLeaf, most_entries, IsGoodSet, IsFirstBadSet, AreCapacityCuts}
 use Rattle.tsp_routing.specs.declared.demands.Demands.{Demands}
 use Rattle.tsp_routing.specs.declared.verdict.JudgedCuts.{JudgedCuts}
 use Rattle.tsp_routing.specs.declared.verdict.JudgedCuts.TheVariants as judged
-use Rattle.tsp_routing.specs.declared.verdict.PlanRoom.{PlanRoom}
+use Rattle.tsp_routing.specs.declared.verdict.PlanScratch.{PlanScratch}
 use Rattle.tsp_routing.specs.declared.verdict.PlanVerdict.{PlanVerdict}
 use Rattle.tsp_routing.specs.declared.verdict.PlanVerdict.TheVariants as verdict
 use Rattle.tsp_routing.specs.states.Demands.{loads_problem}
 
 -- a potential for each node, a multiplier for each family, and a row of numbers by node
-pub record IsPlanRoom (n families : ℕ) (room : PlanRoom) : Type 0 where
+pub record IsPlanScratch (n families : ℕ) (room : PlanScratch) : Type 0 where
   pub potentials : length room.potentials.items ≡ n
   pub multipliers : length room.multipliers.items ≡ families
   pub row : length room.row.items ≡ n + 1
@@ -30,11 +30,11 @@ pub record IsPlanRoom (n families : ℕ) (room : PlanRoom) : Type 0 where
 -- what is found of a leaf where there are few loads; where there are too many, a leaf is good or bad alone
 abbrev pub IsFoundOfFew : Bool → RoutingProblem → ℤ → ℕ → ℕ → List Family → List Decision × LeafNumbers → Option ℤ → Type 0
 IsFoundOfFew few problem scale unit light families leaf found =
-    few ≡ true → IsFoundByWalks problem scale unit light families leaf found
+    few ≡ true → IsFoundByQRoutes problem scale unit light families leaf found
 
 -- how many entries the table by node and load has
 abbrev pub entries_in : RoutingProblem → ℕ → ℕ → ℕ
-entries_in problem unit light = problem.nodes * (room_in problem unit light + 1)
+entries_in problem unit light = problem.nodes * (capacity_in_parts problem unit light + 1)
 
 -- the verdict on the leaves, where families and branches are good
 abbrev pub IsLeafVerdict : RoutingProblem → ℤ → ℕ → ℕ → ℕ → List Family → List Step → PlanVerdict → Type 0

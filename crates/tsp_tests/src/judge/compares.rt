@@ -8,7 +8,8 @@ use std::alloc::Global;
 use std::io::ErrorKind;
 use std::test::Fail;
 use tsp_judge::{
-    Certificate, Common, Follow, Found, RunFault, Solutions, Watched, WriteFault, run_compare,
+    CertificateKind, ComparisonContext, Follow, Found, RunFault, Solutions, Watched, WriteFault,
+    run_compare,
 };
 
 /// Four solutions in memory. The last one fails at a read.
@@ -60,7 +61,7 @@ impl Follow<Counts> for Four {
 
     ghost tells = { λ _ _ _ _. ⊤ };
 
-    fn written(&self, to: &mut Counts, _: &Common, _: usize, found: &Found) {
+    fn written(&self, to: &mut Counts, _: &ComparisonContext, _: usize, found: &Found) {
         to.lines = to.lines.saturating_add(1);
         let yes = match found {
             Found::Solution { verdict, .. } => verdict.is_yes(),
@@ -82,7 +83,7 @@ fn compared(alloc: Global, writer: Drip) -> (Result<u8, RunFault>, Counts, Drip)
         lines: 0,
         others: 0,
     };
-    let by = Some(Certificate::Potentials);
+    let by = Some(CertificateKind::Potentials);
     let ended = run_compare(
         alloc,
         &mut inst,

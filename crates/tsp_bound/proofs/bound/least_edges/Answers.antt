@@ -16,17 +16,17 @@ grow_in_rounds-requires-clause-even g c =
     adjusted_even (triples_in c.args.m.now) [] (weight_under c.args.p.now (g.C.Costs.at c.args.c.now))
     (weight_even c.args.p.now.scale c.args.p.now.numbers.now (g.C.Costs.at c.args.c.now) (g.met.C.Symmetric.even c.args.c.now))
 
-pub overflow_add-spokes : goal.overflow_add-spokes
-overflow_add-spokes g c =
-    let first : FitsSigned w64 c.two_spokes.result.0.weight = search rules in
-    let second : FitsSigned w64 c.two_spokes.result.1.weight = search rules in
+pub overflow_add-root_edges : goal.overflow_add-root_edges
+overflow_add-root_edges g c =
+    let first : FitsSigned w64 c.two_root_edges.result.0.weight = search rules in
+    let second : FitsSigned w64 c.two_root_edges.result.1.weight = search rules in
     omega (arith, ints, first, second, c.from.ensures, c.from-2.ensures)
 
 pub overflow_add-result : goal.overflow_add-result
 overflow_add-result g c =
-    let first : FitsSigned w64 c.two_spokes.result.0.weight = search rules in
-    let second : FitsSigned w64 c.two_spokes.result.1.weight = search rules in
-    tree_fits c.two_spokes.result.0.weight c.two_spokes.result.1.weight c.in_ok-grown.grown.weight c.from.result c.from-2.result first second c.from.ensures c.from-2.ensures c.in_ok-grown.ensures.size
+    let first : FitsSigned w64 c.two_root_edges.result.0.weight = search rules in
+    let second : FitsSigned w64 c.two_root_edges.result.1.weight = search rules in
+    tree_fits c.two_root_edges.result.0.weight c.two_root_edges.result.1.weight c.in_ok-grown.grown.weight c.from.result c.from-2.result first second c.from.ensures c.from-2.ensures c.in_ok-grown.ensures.size
 
 -- plan: the joined pairs with both spokes are a least 1-tree under the lessened weights (`least_from_forest`)
 pub returns : goal.returns
@@ -35,10 +35,10 @@ returns g c =
     let w = weight_less c.args.p.now (triples_in c.args.m.now) (g.C.Costs.at c.args.c.now) in
     let even = adjusted_even (triples_in c.args.m.now) [] (weight_under c.args.p.now (g.C.Costs.at c.args.c.now))
     (weight_even c.args.p.now.scale c.args.p.now.numbers.now (g.C.Costs.at c.args.c.now) (g.met.C.Symmetric.even c.args.c.now)) in
-    let two = c.two_spokes in
+    let two = c.two_root_edges in
     let grown = c.in_ok-grown.grown in
-    let first : FitsSigned w64 c.two_spokes.result.0.weight = search rules in
-    let second : FitsSigned w64 c.two_spokes.result.1.weight = search rules in
+    let first : FitsSigned w64 c.two_root_edges.result.0.weight = search rules in
+    let second : FitsSigned w64 c.two_root_edges.result.1.weight = search rules in
     let computed = tree_computed two.result.0.weight two.result.1.weight grown.weight c.from.result c.from-2.result first second c.from.ensures c.from-2.ensures c.in_ok-grown.ensures.size in
     let edges : c.in_ok-edges.edges.items ≡ tree_of two.result.0.node two.result.1.node grown.pairs.items =
     c.in_ok-edges.ensures ∙ ap (tree_of two.result.0.node two.result.1.node) c.deref.ensures.value in

@@ -1,4 +1,5 @@
--- The goals of `scaled_cost` in src/potentials.rt, which counts the cost between two nodes in 1 / scale: what it ensures.
+-- The goals of `scaled_cost` in src/potentials.rt, which counts the cost between two nodes in 1 / scale: what it
+-- ensures.
 use Rattle.std.proofs.Common.{ap₂, ◌∙◌, rules, w64, SFits}
 use Rattle.std.specs.Prelude.{◌*ℤ◌}
 use Rattle.std.proofs.lemmas.Int.{to_z-of_z}

@@ -1,5 +1,5 @@
--- The goals of `total_of` in src/potentials.rt, which sums the multipliers of a certificate: that no sum overflows and its
--- loop.
+-- The goals of `total_of` in src/potentials.rt, which sums the multipliers of a certificate: that no sum overflows and
+-- its loop.
 use Rattle.std.proofs.Common.{◌≡◌, ◌+◌, ◌*◌, ◌^◌, ◌≤◌, ℕ, List, drop, ap, sym, ◌∙◌, arith, to_z, of_z, FitsSigned, add-one, drop-cons}
 use Rattle.std.specs.Prelude.{ℤ, pos, neg_ℤ, ◌+ℤ◌, slice_index_or}
 use Rattle.std.specs.Int.{w64, w128}

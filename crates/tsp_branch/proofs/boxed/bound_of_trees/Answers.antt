@@ -29,7 +29,7 @@ invariant_of-boxed g c =
 pub leaf_bound-requires-clause-even : goal.leaf_bound-requires-clause-even
 leaf_bound-requires-clause-even g c =
     let leaf = c.args.leaf.now in
-    let s = leaf.setting.now in
+    let s = leaf.context.now in
     let families = s.families.now in
     decided_even s.cases.now.scale families.crossed.items leaf.potentials.now leaf.multipliers.now (lent_in families) (decisions_in leaf.case.now)
     (g.C.Costs.at s.costs.now) families.many (leaf.numbers.each_comb ∙ families.many) (s.even c.requires.undirected)
@@ -37,7 +37,7 @@ leaf_bound-requires-clause-even g c =
 pub leaf_bound-requires-2-clause-even : goal.leaf_bound-requires-2-clause-even
 leaf_bound-requires-2-clause-even g c =
     let leaf = c.args.leaf.now in
-    let s = leaf.setting.now in
+    let s = leaf.context.now in
     let families = s.families.now in
     let case : List Decision = decisions_in leaf.case.now in
     let w : ℕ → ℕ → ℤ = set_weight s.cases.now.scale leaf.potentials.now leaf.multipliers.now (lent_in families) (g.C.Costs.at s.costs.now) in
@@ -48,7 +48,7 @@ leaf_bound-requires-2-clause-even g c =
 pub returns-clause-leaf : goal.returns-clause-leaf
 returns-clause-leaf g c =
     let leaf = c.args.leaf.now in
-    let s = leaf.setting.now in
+    let s = leaf.context.now in
     let n : ℕ = g.C.Costs.nodes s.costs.now in
     let case : List Decision = decisions_in leaf.case.now in
     let w : ℕ → ℕ → ℤ = set_weight s.cases.now.scale leaf.potentials.now leaf.multipliers.now (lent_in s.families.now) (g.C.Costs.at s.costs.now) in

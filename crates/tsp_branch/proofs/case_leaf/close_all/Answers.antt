@@ -1,5 +1,5 @@
--- The goals of `close_all` in src/case_leaf.rt, which closes the links of a row that decisions don't allow: its loop and
--- what it ensures.
+-- The goals of `close_all` in src/case_leaf.rt, which closes the links of a row that decisions don't allow: its loop
+-- and what it ensures.
 use Rattle.std.proofs.Common.{List, arith}
 use Rattle.std.specs.List.{All}
 use Rattle.tsp_theory.specs.states.Nearest.{least_at}

@@ -14,18 +14,18 @@ use Rattle.tsp_branch.proofs.case_leaf.given_back.Goals as goal
 pub invariant_of-multipliers : goal.invariant_of-multipliers
 invariant_of-multipliers g c =
     let leaf = c.args.leaf.now in
-    let setting = leaf.setting.now in
-    let families = setting.families.now in
+    let context = leaf.context.now in
+    let families = context.families.now in
     record {
       as_many = leaf.numbers.each_comb ∙ families.as_many;
-      small = small_multipliers (g.C.Costs.nodes setting.costs.now) families.crossed.items leaf.potentials.now leaf.multipliers.now
+      small = small_multipliers (g.C.Costs.nodes context.costs.now) families.crossed.items leaf.potentials.now leaf.multipliers.now
           families.some leaf.numbers;
     }
 
 pub overflow_sub-result : goal.overflow_sub-result
 overflow_sub-result g c =
     let leaf = c.args.leaf.now in
-    let families = leaf.setting.now.families.now in
+    let families = leaf.context.now.families.now in
     let ms : List ℤ = leaf.multipliers.now in
     let sum = few_multipliers families.crossed.items ms leaf.numbers.each_comb families.some leaf.numbers.signs leaf.numbers.sum in
     let size = least_fits families.crossed.items ms c.sum_with.result families.small leaf.numbers.signs sum c.sum_with.ensures in
@@ -34,7 +34,7 @@ overflow_sub-result g c =
 pub returns : goal.returns
 returns g c =
     let leaf = c.args.leaf.now in
-    let families = leaf.setting.now.families.now in
+    let families = leaf.context.now.families.now in
     let crossed : ℤ = c.sum_with.result in
     let ps : ℤ = c.total.result in
     let ms : List ℤ = leaf.multipliers.now in

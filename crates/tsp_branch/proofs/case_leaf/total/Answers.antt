@@ -12,12 +12,12 @@ use Rattle.tsp_branch.proofs.case_leaf.total.Goals as goal
 pub numbers-preserved : goal.numbers-preserved
 numbers-preserved g c =
     let leaf = c.args.leaf.now in
-    let setting = leaf.setting.now in
+    let context = leaf.context.now in
     let xs : List ℤ = leaf.potentials.now in
     let index : ℕ = c.numbers.number-index in
     let number : ℤ = get_or xs index (pos 0) in
     let sum : ℤ = to_z w128 c.numbers.sum-bits in
-    let few : index < 2 ^ 32 = omega (arith, leaf.numbers.each_node, setting.same, setting.families.now.few_nodes, c.numbers-test.true) in
+    let few : index < 2 ^ 32 = omega (arith, leaf.numbers.each_node, context.same, context.families.now.few_nodes, c.numbers-test.true) in
     let fits : FitsSigned w64 (get_or xs index (pos 0)) = search rules in
     let is = computed_of_64 sum number c.from-sum.result index few c.numbers.invariant.size fits (c.from-sum.ensures ∙ to_z-of_z w64 number fits) in
     let parts : total (drop index xs) ≡ number +ℤ total (drop (index + 1) xs) = total_left xs index (pos 0) c.numbers-test.true in

@@ -17,9 +17,9 @@ returns-clause-cycles g c =
     let cost = g.C.Costs.at costs in
     let combs = good_in c.args.families.now in
     let given = c.args.cases.now.given.now in
-    IfOk-weaker c.judge_setting.result _ _ (λ found is.
+    IfOk-weaker c.judge_context.result _ _ (λ found is.
     cycles_of c.case_trees_bound_cycles.ensures.cycles c.args.cases.now.directed n cost c.args.cases.now.scale combs c.args.families.now.crossed.items given (steps_of c.args.cases.now.steps.now) found
     (costs_for c.args.cases.now.directed n cost c.requires.some c.requires.even) c.args.cases.now.scaled
     (subst (λ (m : ℕ). ∥ All (IsFamily m) combs ∥₁) c.requires.families c.args.families.now.are)
     is)
-    c.judge_setting.ensures.judged
+    c.judge_context.ensures.judged

@@ -21,7 +21,7 @@ use Rattle.tsp_branch.proofs.verdict.judge_leaf.Goals as goal
 
 pub invariant_of-multipliers : goal.invariant_of-multipliers
 invariant_of-multipliers g c =
-    let s = c.args.setting.now in
+    let s = c.args.context.now in
     let is = c.deref.ensures.value ∙ written c.args.room.now.multipliers.len c.judge_numbers.new.multipliers _ (c.judge_numbers.ensures.multipliers_len ∙ c.deref_mut-2.ensures.len)
     ∙ c.if-not-judge_numbers.ensures.multipliers refl in
     let good = c.if-not-judge_numbers.ensures.good.0 refl in
@@ -34,7 +34,7 @@ invariant_of-multipliers g c =
 
 pub fill_moved-requires-clause-ends : goal.fill_moved-requires-clause-ends
 fill_moved-requires-clause-ends g c =
-    let s = c.args.setting.now in
+    let s = c.args.context.now in
     let n : ℕ = g.C.Costs.nodes s.costs.now in
     let cost = g.C.Costs.at s.costs.now in
     let marks : ℕ → ℕ → ℤ = marks_in s.cases.now.directed (decisions_in c.args.case.now) in
@@ -55,7 +55,7 @@ fill_moved-requires-clause-ends g c =
 -- of the node's sets (`moved_from_ends`)
 pub invariant_of-leaf : goal.invariant_of-leaf
 invariant_of-leaf g c =
-    let s = c.args.setting.now in
+    let s = c.args.context.now in
     let n : ℕ = g.C.Costs.nodes s.costs.now in
     let cost = g.C.Costs.at s.costs.now in
     let marks : ℕ → ℕ → ℤ = marks_in s.cases.now.directed (decisions_in c.args.case.now) in
@@ -103,7 +103,7 @@ invariant_of-leaf g c =
 
 pub returns-clause-kept : goal.returns-clause-kept
 returns-clause-kept g c =
-    let s = c.args.setting.now in
+    let s = c.args.context.now in
     let n : ℕ = g.C.Costs.nodes s.costs.now in
     let cost = g.C.Costs.at s.costs.now in
     let marks : ℕ → ℕ → ℤ = marks_in s.cases.now.directed (decisions_in c.args.case.now) in
@@ -118,7 +118,7 @@ returns-clause-kept g c =
 
 pub returns-clause-judged : goal.returns-clause-judged
 returns-clause-judged g c =
-    let s = c.args.setting.now in
+    let s = c.args.context.now in
     let n : ℕ = g.C.Costs.nodes s.costs.now in
     let room = c.args.room.now in
     let read : List ℤ = c.args.numbers.now in

@@ -2,7 +2,7 @@
 -- it ensures.
 use Rattle.std.proofs.Common.{◌≡◌, subst, rules}
 use Rattle.std.specs.Prelude.{Option, Some}
-use Rattle.tsp_report.specs.declared.task.Certificate.{Certificate}
+use Rattle.tsp_report.specs.declared.task.CertificateKind.{CertificateKind}
 use Rattle.tsp_judge.specs.Open.{Open}
 use Rattle.tsp_c.specs.NumberCalls.{nth}
 use Rattle.tsp_c.specs.Opened.{Held, BindsOpen, BindsText}

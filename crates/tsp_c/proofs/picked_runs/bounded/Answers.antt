@@ -1,9 +1,9 @@
--- The goals of `bounded` in src/picked_runs.rt, which bounds the tours of a text's instance by the certificate of another:
--- what its calls require and what it ensures.
+-- The goals of `bounded` in src/picked_runs.rt, which bounds the tours of a text's instance by the certificate of
+-- another: what its calls require and what it ensures.
 use Rattle.std.proofs.Common.{◌∙◌, ap, refl}
 use Rattle.std.specs.Prelude.{Some}
-use Rattle.tsp_io.specs.Streams.{Sink, Turn}
-use Rattle.tsp_io.specs.states.Watched.{sink_of, turn_of}
+use Rattle.tsp_io.specs.Streams.{Sink, ReadTrace}
+use Rattle.tsp_io.specs.states.Watched.{sink_of, read_trace_of}
 use Rattle.tsp_c.proofs.InNumbers.{sized_bound_run, tells_bound}
 use Rattle.tsp_c.proofs.PickedRuns.{bounds_texts}
 use Rattle.tsp_c.proofs.picked_runs.bounded.Goals as goal
@@ -12,8 +12,8 @@ use Rattle.tsp_c.proofs.picked_runs.bounded.Goals as goal
 -- (`bounds_texts`) and in numbers (`tells_bound`)
 pub of_bound_run-numbers-requires : goal.of_bound_run-numbers-requires
 of_bound_run-numbers-requires c = let first = c.run_bound-found.ensures.answer in let second = first.2 in
-    let one : Turn = turn_of (λ s. Some s.now) c.new-first.result c.run_bound-found.new.inst first.0 in
-    let two : Turn = turn_of (λ s. Some s.now) c.new-second.result c.run_bound-found.new.cert second.0 in
+    let one : ReadTrace = read_trace_of (λ s. Some s.now) c.new-first.result c.run_bound-found.new.inst first.0 in
+    let two : ReadTrace = read_trace_of (λ s. Some s.now) c.new-second.result c.run_bound-found.new.cert second.0 in
     let sink : Sink = sink_of (λ v. Some v.items) c.new-report.result c.run_bound-found.new.out in
     sized_bound_run c.args.by c.args.strict one two sink c.run_bound-found.result second.2.0
 
@@ -29,8 +29,8 @@ returns-clause-texts c = let first = c.run_bound-found.ensures.answer in let sec
 
 pub returns-clause-numbers : goal.returns-clause-numbers
 returns-clause-numbers c = let first = c.run_bound-found.ensures.answer in let second = first.2 in
-    let one : Turn = turn_of (λ s. Some s.now) c.new-first.result c.run_bound-found.new.inst first.0 in
-    let two : Turn = turn_of (λ s. Some s.now) c.new-second.result c.run_bound-found.new.cert second.0 in
+    let one : ReadTrace = read_trace_of (λ s. Some s.now) c.new-first.result c.run_bound-found.new.inst first.0 in
+    let two : ReadTrace = read_trace_of (λ s. Some s.now) c.new-second.result c.run_bound-found.new.cert second.0 in
     let sink : Sink = sink_of (λ v. Some v.items) c.new-report.result c.run_bound-found.new.out in
     tells_bound c.args.by c.args.strict one two sink c.run_bound-found.result _ _ _ _ _ _ _
     (record {

@@ -2,7 +2,7 @@
 use Rattle.std.proofs.Common.{◌≡◌, ◌∙◌, ap, subst, subst₂, Bool, arith, rules, FitsSigned, w64}
 use Rattle.std.specs.Prelude.{Option, ℤ}
 use Rattle.std.proofs.lemmas.Int.{to_z-of_z}
-use Rattle.tsp_report.specs.declared.task.Certificate.{Certificate}
+use Rattle.tsp_report.specs.declared.task.CertificateKind.{CertificateKind}
 use Rattle.tsp_c.specs.Texts.{ChecksTexts, claim_of, strict_of, with_certificate}
 use Rattle.tsp_c.specs.CallResult.{TellsTexts}
 use Rattle.tsp_c.proofs.picked_runs.check_by.Goals as goal

@@ -1,5 +1,5 @@
--- The goals of `checked` in src/picked_runs.rt, which checks two texts, with a certificate and a claimed length if asked:
--- what its calls require and what it ensures.
+-- The goals of `checked` in src/picked_runs.rt, which checks two texts, with a certificate and a claimed length if
+-- asked: what its calls require and what it ensures.
 use Rattle.std.proofs.Common.{◌∙◌, ap, refl}
 use Rattle.std.specs.Prelude.{Some}
 use Rattle.tsp_io.specs.states.Watched.{sink_of}

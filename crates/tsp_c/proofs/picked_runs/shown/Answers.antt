@@ -1,8 +1,8 @@
 -- The goals of `shown` in src/picked_runs.rt, which returns what `show` prints of a text: what it ensures.
 use Rattle.std.proofs.Common.{◌∙◌, ap, refl}
 use Rattle.std.specs.Prelude.{Some}
-use Rattle.tsp_io.specs.Streams.{Turn, Sink}
-use Rattle.tsp_io.specs.states.Watched.{turn_of, sink_of}
+use Rattle.tsp_io.specs.Streams.{ReadTrace, Sink}
+use Rattle.tsp_io.specs.states.Watched.{read_trace_of, sink_of}
 use Rattle.tsp_c.proofs.PickedRuns.{shows}
 use Rattle.tsp_c.proofs.picked_runs.shown.Goals as goal
 
@@ -10,8 +10,8 @@ use Rattle.tsp_c.proofs.picked_runs.shown.Goals as goal
 pub returns : goal.returns
 returns c =
     let run = c.show_file.ensures.answer in
-    let turn : Turn = turn_of (λ s. Some s.now) c.new-reader.result c.show_file.new.r run.0 in
+    let read_trace : ReadTrace = read_trace_of (λ s. Some s.now) c.new-reader.result c.show_file.new.r run.0 in
     let sink : Sink = sink_of (λ v. Some v.items) c.new-report.result c.show_file.new.out in
-    shows turn sink c.show_file.result _ _ _ _ run.2 (ap (λ s. Some s.now) c.new-reader.ensures.inner)
+    shows read_trace sink c.show_file.result _ _ _ _ run.2 (ap (λ s. Some s.now) c.new-reader.ensures.inner)
     (record { held = ap (λ v. Some v.items) c.new-report.ensures.inner ∙ ap Some c.new.ensures.items; holds = refl })
     (rw c.done-answer.ensures at c.ended.ensures)

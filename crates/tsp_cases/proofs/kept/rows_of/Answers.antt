@@ -7,7 +7,7 @@ use Rattle.tsp_cases.proofs.kept.rows_of.Goals as goal
 -- plan: after the loop there is a row for each node
 pub returns : goal.returns
 returns g c =
-    let s = c.args.setting.now in
+    let s = c.args.context.now in
     let n : ℕ = g.C.Costs.nodes s.costs.now in
     let cost = g.C.Costs.at s.costs.now in
     let whole : c.rows.index ≡ n = omega (arith, c.rows-test.false, c.rows.auto.index-end, c.count-count.ensures.value) in

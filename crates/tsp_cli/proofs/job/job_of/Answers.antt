@@ -4,7 +4,7 @@ use Rattle.clap.specs.Words.{App, HasKind, Row, Text, fault_of, found_of, is_sim
 use Rattle.clap.specs.Faults.{is_simple_and_free}
 use Rattle.clap.specs.declared.parser.matches.ArgMatches.TheViews.{out-ArgMatches}
 use Rattle.tsp_cli.specs.Grammar.{tsp, IsJobOf, word_of}
-use Rattle.tsp_cli.proofs.Subcommands.{refused, both, named, verb_found}
+use Rattle.tsp_cli.proofs.Subcommands.{word_refused, both, named, verb_found}
 use Rattle.tsp_cli.proofs.job.job_of.Goals as goal
 
 -- plan: by the answer of clap: a parse enters the subcommand of a verb (`named`), whose job is returned (`verb_found`);
@@ -33,4 +33,4 @@ returns-in-Err c =
     let words : List Text = map (λ word. word.now) c.args.words.now in
     let made = c.in-Ok.ensures.0 in
     let fails = c.in-Err.ensures.kinds (ap is_simple_and_free made) in
-    refused words c.in-Err.refusal c.of.result c.of.ensures (subst (λ (a : App). HasKind (fault_of a words) c.in-Err.refusal) made fails)
+    word_refused words c.in-Err.refusal c.of.result c.of.ensures (subst (λ (a : App). HasKind (fault_of a words) c.in-Err.refusal) made fails)

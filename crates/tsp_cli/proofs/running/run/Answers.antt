@@ -63,14 +63,14 @@ returns-in-Err-Refused g c =
     let new = g.E.Write.contents c.end-in-Err-Refused.new.errors in
     let gives = subst (λ fault. GivesJob (map (λ word. word.now) c.deref.result.now) (Err fault)) c.in-Err-Refused.field-0-is c.in-Err-Refused.ensures in
     let given = subst (λ words. GivesJob words (Err (Refused refusal))) (ap (map (λ word. word.now)) c.deref.ensures.value ∙ c.in-Ok.ensures) gives in
-    let ended = subst (λ words. EndsRefused c.args.surroundings.build.now words sink refusal run_end) (ap (map (λ word. word.now)) c.deref-in-Err-Refused.ensures.value ∙ c.in-Ok.ensures) c.end_of_refusal-run_end.ensures in
-    let ends = ends_refused g.F.Read.remaining g.F.Gives.gives (g.O.Open.opens c.args.files.now) c.args.surroundings.on_terminal c.args.surroundings.build.now words sink refusal given run_end ended in (
+    let ended = subst (λ words. EndsRefused c.args.host_context.build.now words sink refusal run_end) (ap (map (λ word. word.now)) c.deref-in-Err-Refused.ensures.value ∙ c.in-Ok.ensures) c.end_of_refusal-run_end.ensures in
+    let ends = ends_refused g.F.Read.remaining g.F.Gives.gives (g.O.Open.opens c.args.files.now) c.args.host_context.on_terminal c.args.host_context.build.now words sink refusal given run_end ended in (
       false,
       run_end,
       ends,
       (
         c.end-in-Err-Refused.ensures.status,
-        on_ok c.end-in-Err-Refused.result.1 _ _ (tells_refused c.args.surroundings.build.now (drop 1 words) sink refusal run_end ended old new) c.end-in-Err-Refused.ensures.reported,
+        on_ok c.end-in-Err-Refused.result.1 _ _ (tells_refused c.args.host_context.build.now (drop 1 words) sink refusal run_end ended old new) c.end-in-Err-Refused.ensures.reported,
       ),
     )
 
@@ -89,6 +89,6 @@ returns g c =
     let job = c.in-Ok-job_of.job in
     let ran = c.run_job-answer.ensures in
     let gives = subst (λ words. GivesJob words (Ok job)) (ap (map (λ word. word.now)) c.deref.ensures.value ∙ c.in-Ok.ensures) c.in-Ok-job_of.ensures in
-    let ends = ends_as_its_job g.F.Read.remaining g.F.Gives.gives (g.O.Open.opens c.args.files.now) c.args.surroundings.on_terminal c.args.surroundings.build.now
+    let ends = ends_as_its_job g.F.Read.remaining g.F.Gives.gives (g.O.Open.opens c.args.files.now) c.args.host_context.on_terminal c.args.host_context.build.now
     (map string_bytes c.args.line.now) (sink_of g.W.Write.contents c.args.out.now c.run_job-answer.new.out) job gives ran.0 ran.1 in
-    (job.explain || c.args.surroundings.on_terminal, ran.0, ends, ran.2)
+    (job.explain || c.args.host_context.on_terminal, ran.0, ends, ran.2)

@@ -1,7 +1,8 @@
--- The goals of `run_bound` in src/bound_run.rt, which bounds the tours of an instance by a certificate: what it ensures.
+-- The goals of `run_bound` in src/bound_run.rt, which bounds the tours of an instance by a certificate: what it
+-- ensures.
 use Rattle.std.proofs.Common.{◌≡◌, Err, [], refl}
 use Rattle.std.proofs.KnownBytes.{Keeps-refl}
-use Rattle.tsp_io.specs.states.Watched.{turn_of}
+use Rattle.tsp_io.specs.states.Watched.{read_trace_of}
 use Rattle.tsp_read.proofs.PieceSteps.{read_none}
 use Rattle.tsp_read.proofs.BegunSteps.{propagated}
 use Rattle.tsp_judge.proofs.Yeses.{none_taken}
@@ -20,7 +21,7 @@ returns-in_err-instance-clause-answer g c =
         [],
         none_taken,
         bound_fault_of c.args.strict _ _ _ _ _
-            (bound_first_stops c.args.strict _ (turn_of g.I.Read.remaining c.args.inst.now c.read_file.new.reader one.0) _ _ _ one.2 (Keeps-refl _, refl) (Keeps-refl _, refl)),
+            (bound_first_stops c.args.strict _ (read_trace_of g.I.Read.remaining c.args.inst.now c.read_file.new.reader one.0) _ _ _ one.2 (Keeps-refl _, refl) (Keeps-refl _, refl)),
       ),
     )
 
@@ -36,7 +37,7 @@ returns-in_err-certificate-clause-answer g c =
         two.0,
         two.1,
         bound_fault_of c.args.strict _ _ _ _ _
-            (bound_second_stops c.args.strict _ _ (turn_of g.C.Read.remaining c.args.cert.now c.read_file-2.new.reader two.0) c.in_ok-instance.instance _ _ one.2 two.2 (Keeps-refl _, refl)),
+            (bound_second_stops c.args.strict _ _ (read_trace_of g.C.Read.remaining c.args.cert.now c.read_file-2.new.reader two.0) c.in_ok-instance.instance _ _ one.2 two.2 (Keeps-refl _, refl)),
       ),
     )
 

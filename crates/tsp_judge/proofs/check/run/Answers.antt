@@ -2,7 +2,7 @@
 -- ensures.
 use Rattle.std.proofs.Common.{◌≡◌, Err, [], refl}
 use Rattle.std.proofs.KnownBytes.{Keeps-refl}
-use Rattle.tsp_io.specs.states.Watched.{turn_of}
+use Rattle.tsp_io.specs.states.Watched.{read_trace_of}
 use Rattle.tsp_read.proofs.PieceSteps.{read_none}
 use Rattle.tsp_read.proofs.BegunSteps.{propagated}
 use Rattle.tsp_judge.proofs.Yeses.{none_taken, unread_in, first_stops, second_stops, third_stops, fault_of_run}
@@ -25,7 +25,7 @@ returns-in_err-instance-clause-answer g c =
           (
             λ none. (Keeps-refl _, refl),
             fault_of_run c.args.strict _ _ _ _ _ _
-                (first_stops c.args.strict _ _ (turn_of g.I.Read.remaining c.args.inst.now c.read_file.new.reader one.0) _ _ _ one.2 (Keeps-refl _, refl)
+                (first_stops c.args.strict _ _ (read_trace_of g.I.Read.remaining c.args.inst.now c.read_file.new.reader one.0) _ _ _ one.2 (Keeps-refl _, refl)
                 (unread_in c.args.by _ (Keeps-refl _, refl)) (Keeps-refl _, refl)),
           ),
         ),
@@ -49,7 +49,7 @@ returns-in_err-solution-clause-answer g c =
           (
             λ none. (Keeps-refl _, refl),
             fault_of_run c.args.strict _ _ _ _ _ _
-                (second_stops c.args.strict _ _ _ (turn_of g.S.Read.remaining c.args.sol.now c.read_file-2.new.reader two.0) c.in_ok-instance.instance _ _ one.2 two.2
+                (second_stops c.args.strict _ _ _ (read_trace_of g.S.Read.remaining c.args.sol.now c.read_file-2.new.reader two.0) c.in_ok-instance.instance _ _ one.2 two.2
                 (unread_in c.args.by _ (Keeps-refl _, refl)) (Keeps-refl _, refl)),
           ),
         ),

@@ -3,10 +3,10 @@
 use Rattle.std.proofs.Common.{◌≡◌, List, [], refl, sym, subst, subst₂}
 use Rattle.std.proofs.KnownBytes.{Keeps-refl}
 use Rattle.std.specs.Prelude.{IfOk, Result, Err, slice_index_or}
-use Rattle.tsp_io.specs.states.Watched.{sink_of, turn_of}
+use Rattle.tsp_io.specs.states.Watched.{sink_of, read_trace_of}
 use Rattle.tsp_io.specs.Streams.{HasWritten, Writes}
-use Rattle.tsp_judge.proofs.Comparing.{found_sized, one_refused, one_stopped, turn_at}
-use Rattle.tsp_judge.specs.CompareRun.{IsTurnAt, result_of}
+use Rattle.tsp_judge.proofs.Comparing.{found_sized, one_refused, one_stopped, read_trace_at}
+use Rattle.tsp_judge.specs.CompareRun.{IsReadTraceAt, result_of}
 use Rattle.tsp_report.specs.Report.{solution_line, IsSized}
 use Rattle.tsp_read.proofs.BegunSteps.{propagated}
 use Rattle.tsp_judge.proofs.compared.compare_one.Goals as goal
@@ -15,15 +15,15 @@ use Rattle.tsp_judge.proofs.compared.compare_one.Goals as goal
 pub write_line-requires : goal.write_line-requires
 write_line-requires g c =
     let found = c.in_ok-found.ensures.found in
-    subst (λ r. IfOk r IsSized) (sym c.result.ensures) (found_sized c.args.common.now (turn_of g.R.Read.remaining c.new-reader.result c.find.new.reader found.0) _ found.2)
+    subst (λ r. IfOk r IsSized) (sym c.result.ensures) (found_sized c.args.common.now (read_trace_of g.R.Read.remaining c.new-reader.result c.find.new.reader found.0) _ found.2)
 
 pub returns-in-Ok : goal.returns-in-Ok
 returns-in-Ok g c =
     let found = c.in_ok-found.ensures.found in
-    let turn = turn_of g.R.Read.remaining c.new-reader.result c.find.new.reader found.0 in
-    let opened = turn_at g.R.Read.remaining g.R.Gives.gives (g.S.Solutions.opens c.args.solutions.now) c.args.index c.open.result c.new-reader.result c.find.new.reader found.0
+    let read_trace = read_trace_of g.R.Read.remaining c.new-reader.result c.find.new.reader found.0 in
+    let opened = read_trace_at g.R.Read.remaining g.R.Gives.gives (g.S.Solutions.opens c.args.solutions.now) c.args.index c.open.result c.new-reader.result c.find.new.reader found.0
     c.open.ensures c.new-reader.ensures.inner c.new-reader.ensures.sound c.in_ok-found.ensures.asked found.1 in (
-      turn,
+      read_trace,
       opened,
       found.2,
       subst₂ (λ r (path : List _). HasWritten (sink_of g.W.Write.contents c.args.out.now c.write_line.new.out) (solution_line r path)) c.result.ensures c.name.ensures c.in-Ok.ensures,
@@ -32,12 +32,12 @@ returns-in-Ok g c =
 pub returns : goal.returns
 returns g c =
     let found = c.in_ok-found.ensures.found in
-    let turn = turn_of g.R.Read.remaining c.new-reader.result c.find.new.reader found.0 in
-    let opened = turn_at g.R.Read.remaining g.R.Gives.gives (g.S.Solutions.opens c.args.solutions.now) c.args.index c.open.result c.new-reader.result c.find.new.reader found.0
+    let read_trace = read_trace_of g.R.Read.remaining c.new-reader.result c.find.new.reader found.0 in
+    let opened = read_trace_at g.R.Read.remaining g.R.Gives.gives (g.S.Solutions.opens c.args.solutions.now) c.args.index c.open.result c.new-reader.result c.find.new.reader found.0
     c.open.ensures c.new-reader.ensures.inner c.new-reader.ensures.sound c.in_ok-found.ensures.asked found.1 in
     rw c.unwritten.ensures
-    (one_stopped (IsTurnAt g.R.Read.remaining g.R.Gives.gives (g.S.Solutions.opens c.args.solutions.now)) (g.S.Solutions.names c.args.solutions.now) c.args.common.now c.args.index
-    (sink_of g.W.Write.contents c.args.out.now c.write_line.new.out) turn _ c.in-Err.fault opened found.2
+    (one_stopped (IsReadTraceAt g.R.Read.remaining g.R.Gives.gives (g.S.Solutions.opens c.args.solutions.now)) (g.S.Solutions.names c.args.solutions.now) c.args.common.now c.args.index
+    (sink_of g.W.Write.contents c.args.out.now c.write_line.new.out) read_trace _ c.in-Err.fault opened found.2
     (subst₂ (λ r (path : List _). Writes (sink_of g.W.Write.contents c.args.out.now c.write_line.new.out) (solution_line r path) (Err c.in-Err.fault)) c.result.ensures c.name.ensures
     c.in-Err.ensures))
 
@@ -45,8 +45,8 @@ pub returns-in_err-found : goal.returns-in_err-found
 returns-in_err-found g c =
     let same : c.from_residual.result ≡ Err c.in_err-found.field-0.0 = propagated _ _ c.from_residual.ensures.1 in
     let found = c.in_err-found.ensures.found in
-    let turn = turn_of g.R.Read.remaining c.new-reader.result c.find.new.reader found.0 in
-    let opened = turn_at g.R.Read.remaining g.R.Gives.gives (g.S.Solutions.opens c.args.solutions.now) c.args.index c.open.result c.new-reader.result c.find.new.reader found.0
+    let read_trace = read_trace_of g.R.Read.remaining c.new-reader.result c.find.new.reader found.0 in
+    let opened = read_trace_at g.R.Read.remaining g.R.Gives.gives (g.S.Solutions.opens c.args.solutions.now) c.args.index c.open.result c.new-reader.result c.find.new.reader found.0
     c.open.ensures c.new-reader.ensures.inner c.new-reader.ensures.sound c.in_err-found.ensures.asked found.1 in
-    rw same (one_refused (IsTurnAt g.R.Read.remaining g.R.Gives.gives (g.S.Solutions.opens c.args.solutions.now)) (g.S.Solutions.names c.args.solutions.now) c.args.common.now
-    c.args.index (sink_of g.W.Write.contents c.args.out.now c.args.out.now) turn _ opened found.2 (Keeps-refl _, refl))
+    rw same (one_refused (IsReadTraceAt g.R.Read.remaining g.R.Gives.gives (g.S.Solutions.opens c.args.solutions.now)) (g.S.Solutions.names c.args.solutions.now) c.args.common.now
+    c.args.index (sink_of g.W.Write.contents c.args.out.now c.args.out.now) read_trace _ opened found.2 (Keeps-refl _, refl))

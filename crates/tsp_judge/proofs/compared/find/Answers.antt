@@ -1,6 +1,6 @@
 -- The goals of `find` in src/compared.rt, which reads and judges one solution: what it ensures.
 use Rattle.std.proofs.Common.{inr}
-use Rattle.tsp_io.specs.states.Watched.{turn_of}
+use Rattle.tsp_io.specs.states.Watched.{read_trace_of}
 use Rattle.tsp_judge.proofs.Comparing.{found_judged}
 use Rattle.tsp_judge.proofs.compared.find.Goals as goal
 
@@ -10,8 +10,8 @@ returns-in-Ok-judge_next-clause-found g c =
     let read = c.in-Ok.ensures.answer in (
       read.0,
       read.1,
-      found_judged c.args.common.now (turn_of g.R.Read.remaining c.args.reader.now c.file_of_reader.new.reader read.0) c.in-Ok.solution c.in-Ok-judge_next.verdict
-          c.requires.problem c.requires.basis read.2 c.in-Ok-judge_next.ensures,
+      found_judged c.args.common.now (read_trace_of g.R.Read.remaining c.args.reader.now c.file_of_reader.new.reader read.0) c.in-Ok.solution c.in-Ok-judge_next.verdict
+          c.requires.problem c.requires.known_bound read.2 c.in-Ok-judge_next.ensures,
     )
 
 pub returns-in-Err-judge_next-clause-found : goal.returns-in-Err-judge_next-clause-found

@@ -2,7 +2,7 @@
 -- it ensures.
 use Rattle.std.proofs.Common.{◌≡◌, Err, [], arith, refl}
 use Rattle.std.proofs.KnownBytes.{Keeps-refl}
-use Rattle.tsp_io.specs.states.Watched.{turn_of}
+use Rattle.tsp_io.specs.states.Watched.{read_trace_of}
 use Rattle.tsp_read.proofs.PieceSteps.{read_none}
 use Rattle.tsp_read.proofs.BegunSteps.{propagated}
 use Rattle.tsp_judge.proofs.Yeses.{none_taken, unread_in}
@@ -22,7 +22,7 @@ returns-in_err-instance-clause-text g c =
         none_taken,
         (
           λ none. (Keeps-refl _, refl),
-          compare_first_stops c.args.strict _ _ _ (turn_of g.I.Read.remaining c.args.inst.now c.read_file.new.reader one.0) _ _ one.2
+          compare_first_stops c.args.strict _ _ _ (read_trace_of g.I.Read.remaining c.args.inst.now c.read_file.new.reader one.0) _ _ one.2
               (unread_in c.args.by _ (Keeps-refl _, refl)) (Keeps-refl _, refl),
         ),
       ),

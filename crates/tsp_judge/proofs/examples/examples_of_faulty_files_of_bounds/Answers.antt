@@ -1,6 +1,6 @@
 -- The goals of `examples_of_faulty_files_of_bounds` in src/examples.rt: what it ensures.
 use Rattle.std.proofs.Common.{◌≡◌, ◌⊎◌, ℕ, refl, inl, inr, arith}
-use Rattle.tsp_io.specs.Streams.{Turn, IsUnread}
+use Rattle.tsp_io.specs.Streams.{ReadTrace, IsUnread}
 use Rattle.tsp_read.specs.Reads.{StopsAt}
 use Rattle.tsp_read.specs.declared.ReadFault.{ReadFault}
 use Rattle.tsp_judge.specs.CheckRun.{IsSomeFile}
@@ -13,7 +13,7 @@ returns-clause-first c = λ by strict fault first second sink unwritten stops un
 pub returns-clause-second : goal.returns-clause-second
 returns-clause-second c = λ by strict fault first second sink unwritten one stops. (unwritten, inr (refl, one, stops))
 
-no_third : (file : ℕ) (first second : Turn) (fault : ReadFault) → file ≡ 3
+no_third : (file : ℕ) (first second : ReadTrace) (fault : ReadFault) → file ≡ 3
     → ((file ≡ 1) × StopsAt fault first × IsUnread second) ⊎ ((file ≡ 2) × IsSomeFile first × StopsAt fault second) → ⊥
 no_third file first second fault third (inl of_first) = omega (arith, third, of_first.0)
 no_third file first second fault third (inr of_second) = omega (arith, third, of_second.0)

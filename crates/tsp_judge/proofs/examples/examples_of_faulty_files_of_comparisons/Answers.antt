@@ -1,9 +1,9 @@
 -- The goals of `examples_of_faulty_files_of_comparisons` in src/examples.rt: what it ensures.
 use Rattle.std.proofs.Common.{◌≡◌, ◌⊎◌, ℕ, None, Some, refl, inl, inr, arith}
-use Rattle.tsp_io.specs.Streams.{Turn}
+use Rattle.tsp_io.specs.Streams.{ReadTrace}
 use Rattle.tsp_read.specs.Reads.{StopsAt}
 use Rattle.tsp_read.specs.declared.ReadFault.{ReadFault}
-use Rattle.tsp_report.specs.declared.task.Certificate.{Certificate}
+use Rattle.tsp_report.specs.declared.task.CertificateKind.{CertificateKind}
 use Rattle.tsp_judge.specs.CheckRun.{Given, IsUnreadIn, IsSomeFile}
 use Rattle.tsp_judge.proofs.examples.examples_of_faulty_files_of_comparisons.Goals as goal
 
@@ -14,18 +14,18 @@ returns-clause-first c = λ given fault first stops unread. inl (refl, stops, un
 pub returns-clause-second : goal.returns-clause-second
 returns-clause-second c = λ by fault first second one stops. inr ((by, second), refl, refl, one, stops)
 
-abbrev pub IsEither : Given → Turn → ℕ → ReadFault → Type 0
+abbrev pub IsEither : Given → ReadTrace → ℕ → ReadFault → Type 0
 IsEither given first file fault = ((file ≡ 1) × StopsAt fault first × IsUnreadIn given)
-    ⊎ ((second : Certificate × Turn) × (given ≡ Some second) × (file ≡ 2) × IsSomeFile first × StopsAt fault second.1)
+    ⊎ ((second : CertificateKind × ReadTrace) × (given ≡ Some second) × (file ≡ 2) × IsSomeFile first × StopsAt fault second.1)
 
-no_second : (file : ℕ) (first : Turn) (fault : ReadFault) → file ≡ 2 → IsEither None first file fault → ⊥
+no_second : (file : ℕ) (first : ReadTrace) (fault : ReadFault) → file ≡ 2 → IsEither None first file fault → ⊥
 no_second file first fault two (inl of_first) = omega (arith, two, of_first.0)
 no_second file first fault two (inr of_second) = some_is_none of_second.0 of_second.1
   where
-    some_is_none : (second : Certificate × Turn) → None ≡ Some second → ⊥
+    some_is_none : (second : CertificateKind × ReadTrace) → None ≡ Some second → ⊥
     some_is_none second e = cc
 
-no_third : (given : Given) (file : ℕ) (first : Turn) (fault : ReadFault) → file ≡ 3 → IsEither given first file fault → ⊥
+no_third : (given : Given) (file : ℕ) (first : ReadTrace) (fault : ReadFault) → file ≡ 3 → IsEither given first file fault → ⊥
 no_third given file first fault third (inl of_first) = omega (arith, third, of_first.0)
 no_third given file first fault third (inr of_second) = omega (arith, third, of_second.2)
 

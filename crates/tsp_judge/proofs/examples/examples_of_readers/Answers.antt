@@ -5,8 +5,8 @@ use Rattle.tsp_io.specs.declared.watched.Watched.{Watched}
 use Rattle.tsp_judge.specs.declared.run_status.RunFault.TheVariants as run_faults
 use Rattle.tsp_judge.specs.CheckRun.{Given}
 use Rattle.tsp_judge.specs.CompareRun.{IsCompareRun}
-use Rattle.tsp_io.specs.states.Watched.{turn_of}
-use Rattle.tsp_report.specs.declared.task.Certificate.{Certificate}
+use Rattle.tsp_io.specs.states.Watched.{read_trace_of}
+use Rattle.tsp_report.specs.declared.task.CertificateKind.{CertificateKind}
 use Rattle.tsp_judge.specs.ConvertRun.{TakesNamed}
 use Rattle.tsp_judge.proofs.examples.examples_of_readers.Goals as goal
 
@@ -33,5 +33,5 @@ pub returns-clause-compared : goal.returns-clause-compared
 returns-clause-compared g c = λ by old new certificate left names sink fault named kept some stops unwritten. (
   some.0,
   some.1,
-  rw named (rw kept (stops.0, stops.1, (unwritten, inr ((by, turn_of g.R.Read.remaining certificate left stops.0), refl, refl, some.2, stops.2)))),
+  rw named (rw kept (stops.0, stops.1, (unwritten, inr ((by, read_trace_of g.R.Read.remaining certificate left stops.0), refl, refl, some.2, stops.2)))),
 )

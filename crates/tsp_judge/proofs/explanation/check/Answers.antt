@@ -1,5 +1,5 @@
--- The goals of `check` in src/explanation.rt, which judges a solution, with the certificate that the task names: what it
--- ensures.
+-- The goals of `check` in src/explanation.rt, which judges a solution, with the certificate that the task names: what
+-- it ensures.
 use Rattle.tsp_judge.proofs.explanation.check.Goals as goal
 
 -- plan: by whether a certificate is named: the clauses are those of the call

@@ -4,12 +4,12 @@ use Rattle.tsp_judge.specs.CheckRun.{Given}
 use Rattle.tsp_io.specs.states.Watched.{sink_of}
 use Rattle.tsp_io.specs.declared.watched.Watched.{Watched}
 use Rattle.tsp_judge.specs.ConvertRun.{AreReadOn, IsDone, TakesNamed}
-use Rattle.tsp_report.specs.declared.task.Certificate.{Certificate}
+use Rattle.tsp_report.specs.declared.task.CertificateKind.{CertificateKind}
 use Rattle.tsp_report.specs.declared.task.FileTask.TheVariants.{Check, Bound}
 use Rattle.tsp_judge.proofs.explanation.perform.Goals as goal
 
 -- a statement on the certificate that is named, by one that implies it
-named_by : {R : Type 0} (remaining : R → Option (List ℕ)) (old new : Option (Certificate × Watched R)) (P Q : Given → Type 0)
+named_by : {R : Type 0} (remaining : R → Option (List ℕ)) (old new : Option (CertificateKind × Watched R)) (P Q : Given → Type 0)
     → ((given : Given) → P given → Q given) → TakesNamed remaining old new P → TakesNamed remaining old new Q
 named_by remaining None None P Q implies taken = implies None taken
 named_by remaining None (Some left) P Q implies taken = absurd taken

@@ -7,7 +7,7 @@ use Rattle.tsp_file.specs.CanonicalText.{text_of}
 use Rattle.tsp_text.specs.declared.fault.ReadFault.{ReadFault}
 use Rattle.tsp_text.specs.declared.fault.ReadFault.TheVariants as faults
 use Rattle.tsp_read.specs.Reads.{Reads}
-use Rattle.tsp_text.specs.Spells.{Spells}
+use Rattle.tsp_text.specs.ParsesTo.{ParsesTo}
 use Rattle.tsp_read.specs.Answers.{IsThisFile}
 use Rattle.tsp_read.proofs.NumbersReadBack.{NumberLaws}
 use Rattle.tsp_read.proofs.KeyFields.{text_spelled}
@@ -23,31 +23,31 @@ returns-clause-spelled c =
 
 pub returns-clause-alone : goal.returns-clause-alone
 returns-clause-alone c =
-    let spells = returns-clause-spelled c in
-    λ f other valid also. c.texts_have_one_answer.ensures.one_file (text_of f) other f also (spells f valid)
+    let parses_to = returns-clause-spelled c in
+    λ f other valid also. c.texts_have_one_answer.ensures.one_file (text_of f) other f also (parses_to f valid)
 
 -- a text that parses to a file is read as that file
-only_this : (bytes : List ℕ) (file : Fields) (answer : Result Fields ReadFault) → Spells bytes file → Reads bytes answer
+only_this : (bytes : List ℕ) (file : Fields) (answer : Result Fields ReadFault) → ParsesTo bytes file → Reads bytes answer
     → IsThisFile file answer
-only_this bytes file (Ok other) spells reads = reads.fields ∙ sym spells.fields
-only_this bytes file (Err (faults.Line line word found)) spells reads =
-    absurd (none-some (faults.Line line word found) (sym spells.no_fault ∙ reads))
-only_this bytes file (Err (faults.End found)) spells reads = absurd (none-some (faults.End found) (sym spells.no_fault ∙ reads))
-only_this bytes file (Err faults.OutOfMemory) spells reads = tt
-only_this bytes file (Err faults.Device) spells reads = reads
-only_this bytes file (Err faults.TooLong) spells reads = absurd (none-some faults.TooLong (sym spells.no_fault ∙ reads))
+only_this bytes file (Ok other) parses_to reads = reads.fields ∙ sym parses_to.fields
+only_this bytes file (Err (faults.Line line word found)) parses_to reads =
+    absurd (none-some (faults.Line line word found) (sym parses_to.no_fault ∙ reads))
+only_this bytes file (Err (faults.End found)) parses_to reads = absurd (none-some (faults.End found) (sym parses_to.no_fault ∙ reads))
+only_this bytes file (Err faults.OutOfMemory) parses_to reads = tt
+only_this bytes file (Err faults.Device) parses_to reads = reads
+only_this bytes file (Err faults.TooLong) parses_to reads = absurd (none-some faults.TooLong (sym parses_to.no_fault ∙ reads))
 
 pub returns-clause-read : goal.returns-clause-read
 returns-clause-read c =
-    let spells = returns-clause-spelled c in
-    λ f answer valid reads. only_this (text_of f) f answer (spells f valid) reads
+    let parses_to = returns-clause-spelled c in
+    λ f answer valid reads. only_this (text_of f) f answer (parses_to f valid) reads
 
 pub returns-clause-told_apart : goal.returns-clause-told_apart
 returns-clause-told_apart c =
-    let spells = returns-clause-spelled c in
-    λ f other valid also same. c.texts_have_one_answer.ensures.one_file (text_of other) f other (subst (λ (bytes : List ℕ). Spells bytes f) same (spells f valid)) (spells other also)
+    let parses_to = returns-clause-spelled c in
+    λ f other valid also same. c.texts_have_one_answer.ensures.one_file (text_of other) f other (subst (λ (bytes : List ℕ). ParsesTo bytes f) same (parses_to f valid)) (parses_to other also)
 
 pub returns-clause-again : goal.returns-clause-again
 returns-clause-again c =
-    let spells = returns-clause-spelled c in
-    λ bytes f h. spells f (c.spelled_files_are_valid.ensures.of_text bytes f h)
+    let parses_to = returns-clause-spelled c in
+    λ bytes f h. parses_to f (c.spelled_files_are_valid.ensures.of_text bytes f h)

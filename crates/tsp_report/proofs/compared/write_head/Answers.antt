@@ -4,7 +4,7 @@ use Rattle.std.proofs.Common.{◌∙◌, sym}
 use Rattle.tsp_io.specs.states.Watched.{way_of}
 use Rattle.tsp_io.proofs.Carrying.{text_stopped, text_written}
 use Rattle.tsp_report.proofs.Texts.{two_parts}
-use Rattle.tsp_report.specs.Report.{instance_lines, head_of, basis_lines}
+use Rattle.tsp_report.specs.Report.{instance_lines, head_of, known_bound_lines}
 use Rattle.tsp_report.proofs.compared.write_head.Goals as goal
 
 -- plan: by whether the writer fails: the whole head was written (`text_written`), or a prefix (`text_stopped`)
@@ -12,20 +12,20 @@ pub returns-then-failed-2 : goal.returns-then-failed-2
 returns-then-failed-2 g c =
     let start = way_of g.W.Write.contents c.args.out.now c.new-piece.result.items in
     let after_instance = way_of g.W.Write.contents c.put_instance.new.out c.put_instance.new.piece.items in
-    let after_basis = way_of g.W.Write.contents c.put_basis.new.out c.put_basis.new.piece.items in
+    let after_known_bound = way_of g.W.Write.contents c.put_known_bound.new.out c.put_known_bound.new.piece.items in
     let last = way_of g.W.Write.contents c.hand_over.new.out c.hand_over.new.piece.items in
-    let whole = two_parts start after_instance after_basis last (instance_lines c.args.instance.now) (basis_lines c.args.instance.now c.args.basis)
-    c.put_instance.ensures c.put_basis.ensures c.hand_over.ensures.carried in
-    text_stopped start last (head_of c.args.instance.now c.args.basis) c.new-piece.ensures (sym c.failed.ensures ∙ c.if-failed.false) whole
+    let whole = two_parts start after_instance after_known_bound last (instance_lines c.args.instance.now) (known_bound_lines c.args.instance.now c.args.known_bound)
+    c.put_instance.ensures c.put_known_bound.ensures c.hand_over.ensures.carried in
+    text_stopped start last (head_of c.args.instance.now c.args.known_bound) c.new-piece.ensures (sym c.failed.ensures ∙ c.if-failed.false) whole
     (sym c.failed-2.ensures ∙ c.if-failed-2.true)
 
 pub returns-else-failed-2 : goal.returns-else-failed-2
 returns-else-failed-2 g c =
     let start = way_of g.W.Write.contents c.args.out.now c.new-piece.result.items in
     let after_instance = way_of g.W.Write.contents c.put_instance.new.out c.put_instance.new.piece.items in
-    let after_basis = way_of g.W.Write.contents c.put_basis.new.out c.put_basis.new.piece.items in
+    let after_known_bound = way_of g.W.Write.contents c.put_known_bound.new.out c.put_known_bound.new.piece.items in
     let last = way_of g.W.Write.contents c.hand_over.new.out c.hand_over.new.piece.items in
-    let whole = two_parts start after_instance after_basis last (instance_lines c.args.instance.now) (basis_lines c.args.instance.now c.args.basis)
-    c.put_instance.ensures c.put_basis.ensures c.hand_over.ensures.carried in
-    text_written start last (head_of c.args.instance.now c.args.basis) c.new-piece.ensures (sym c.failed.ensures ∙ c.if-failed.false) whole
+    let whole = two_parts start after_instance after_known_bound last (instance_lines c.args.instance.now) (known_bound_lines c.args.instance.now c.args.known_bound)
+    c.put_instance.ensures c.put_known_bound.ensures c.hand_over.ensures.carried in
+    text_written start last (head_of c.args.instance.now c.args.known_bound) c.new-piece.ensures (sym c.failed.ensures ∙ c.if-failed.false) whole
     c.hand_over.ensures.empty (sym c.failed-2.ensures ∙ c.if-failed-2.false)

@@ -12,7 +12,7 @@ use Rattle.tsp_cases.specs.Families.{families_with}
 use Rattle.tsp_cases.specs.ListedCases.{as_leaf_numbers}
 use Rattle.tsp_cases.specs.states.Sets.{lent_in}
 use Rattle.tsp_cases.specs.states.OpenCases.{decisions_in}
-use Rattle.tsp_routing.specs.PlanBounds.{limits_total, IsPlanBound, IsLeastWalk}
+use Rattle.tsp_routing.specs.PlanBounds.{limits_total, IsPlanBound, IsLeastQRoute}
 use Rattle.tsp_routing.specs.PlanLinks.{sum_of_customers}
 use Rattle.tsp_routing.specs.states.Demands.{loads_problem}
 use Rattle.tsp_routing.proofs.RouteProducts.{numbers_of_families}
@@ -22,7 +22,7 @@ use Rattle.tsp_routing.proofs.plan_leaf.leaf_bound.Goals as goal
 pub invariant_of-sum : goal.invariant_of-sum
 invariant_of-sum g c =
     let leaf = c.args.leaf.now in
-    let s = leaf.setting.now in
+    let s = leaf.context.now in
     let fits : FitsSigned w64 s.scale = search rules in
     let some = s.some in
     let limits = c.limits_total-limits.ensures.size in
@@ -45,7 +45,7 @@ invariant_of-sum g c =
 pub returns-clause-found : goal.returns-clause-found
 returns-clause-found g c =
     let leaf = c.args.leaf.now in
-    let s = leaf.setting.now in
+    let s = leaf.context.now in
     let n : ℕ = s.demands.nodes in
     let cost = g.C.Costs.at s.costs.now in
     let problem = loads_problem s.demands cost in
@@ -75,7 +75,7 @@ returns-clause-found g c =
     (c.customers_total.ensures.value ∙ ap (λ (k : ℕ). sum_of_customers k s.demands.depot (entry ps)) leaf.numbers.each_node) in
     record {
       each = c.in-Some.each;
-      least = subst (IsLeastWalk problem s.scale s.unit s.units.now.light families (as_leaf_numbers ps ms)) c.in-Some.is c.in_ok-found.ensures.least;
+      least = subst (IsLeastQRoute problem s.scale s.unit s.units.now.light families (as_leaf_numbers ps ms)) c.in-Some.is c.in_ok-found.ensures.least;
       bound_is = rw (to_z-of_z w128 bound bound_fits)
           (subst (λ (z : ℤ). IsPlanBound problem z ps families ms case c.in-Some.each bound) (to_z-of_z w64 s.scale fits)
           (subst (λ (e : ℤ). IsPlanBound problem (to_z w64 (of_z w64 s.scale)) ps families ms case e bound) (to_z-of_z w128 c.in-Some.each each_fits)

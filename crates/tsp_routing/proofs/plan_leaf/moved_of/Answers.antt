@@ -23,13 +23,13 @@ invariant_of-multiplied g c =
     let each = All-from_recursion (IsFromTo (neg_ℤ (pos most_of_multipliers)) (pos most_of_multipliers)) c.args.multipliers.now
     (each_small most_of_multipliers c.args.multipliers.now c.requires.numbers.sum) in
     record {
-      as_many = c.requires.numbers.each_family ∙ c.args.setting.now.many;
+      as_many = c.requires.numbers.each_family ∙ c.args.context.now.many;
       small = λ k d lt. let own = each k d lt in (omega (arith, ints, own.0), omega (arith, ints, own.1));
     }
 
 pub returns-clause-moved : goal.returns-clause-moved
 returns-clause-moved g c = λ x x_in.
-    let s = c.args.setting.now in
+    let s = c.args.context.now in
     let lists : List (List (List ℕ)) = lent_in s.families.now in
     let ms : List ℤ = c.args.multipliers.now in
     let taken : ℤ = neg_ℤ (multipliers_at ms lists x) in

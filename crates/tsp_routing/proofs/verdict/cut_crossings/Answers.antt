@@ -1,5 +1,5 @@
--- The goals of `cut_crossings` in src/verdict.rt, which counts how often a plan crosses a set of customers at least: what
--- its call requires and what it ensures.
+-- The goals of `cut_crossings` in src/verdict.rt, which counts how often a plan crosses a set of customers at least:
+-- what its call requires and what it ensures.
 use Rattle.std.proofs.Common.{◌≡◌, ◌≢◌, ◌∙◌, ◌*◌, ℕ, List, [], ◌∷◌, length, get_or, true, refl, ap, sym, subst, arith}
 use Rattle.std.specs.Prelude.{◌||◌, ◌==◌}
 use Rattle.std.specs.List.{All}

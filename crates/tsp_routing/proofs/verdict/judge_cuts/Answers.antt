@@ -1,5 +1,5 @@
--- The goals of `judge_cuts` in src/verdict.rt, which makes the families, or finds the first bad one: its loop, the facts
--- of its families, and what it ensures.
+-- The goals of `judge_cuts` in src/verdict.rt, which makes the families, or finds the first bad one: its loop, the
+-- facts of its families, and what it ensures.
 use Rattle.std.proofs.Common.{◌≡◌, ◌∙◌, ◌≤◌, ℕ, List, [], ◌∷◌, ◌++◌, length, get_or, refl, ap, sym, subst, arith, length-append}
 use Rattle.std.specs.Prelude.{Some, Option, replicate}
 use Rattle.std.specs.Global.{Vec}

@@ -19,7 +19,7 @@ use Rattle.tsp_routing.proofs.verdict.judge_leaf.Goals as goal
 -- (`found_of_plan_leaf`)
 pub returns-then-not-few-clause-judged : goal.returns-then-not-few-clause-judged
 returns-then-not-few-clause-judged g c =
-    let s = c.args.setting.now in
+    let s = c.args.context.now in
     let n : ℕ = s.demands.nodes in
     let families : ℕ = length s.crossed.now in
     let read : List ℤ = c.args.numbers.now in
@@ -34,7 +34,7 @@ returns-then-not-few-clause-judged g c =
 
 pub invariant_of-leaf : goal.invariant_of-leaf
 invariant_of-leaf g c =
-    let s = c.args.setting.now in
+    let s = c.args.context.now in
     let n : ℕ = s.demands.nodes in
     let families : ℕ = length s.crossed.now in
     let room = c.args.room.now in
@@ -60,7 +60,7 @@ invariant_of-leaf g c =
 
 pub returns-clause-judged : goal.returns-clause-judged
 returns-clause-judged g c =
-    let s = c.args.setting.now in
+    let s = c.args.context.now in
     let n : ℕ = s.demands.nodes in
     let families : ℕ = length s.crossed.now in
     let room = c.args.room.now in

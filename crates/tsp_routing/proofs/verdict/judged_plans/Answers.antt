@@ -50,8 +50,8 @@ returns-in-Some-clause-verdict g c =
           (ap₂ (λ (k m : ℕ). k + m) count (sym long)) c.in-Some.ensures,
     )
 
-pub invariant_of-setting : goal.invariant_of-setting
-invariant_of-setting g c =
+pub invariant_of-context : goal.invariant_of-context
+invariant_of-context g c =
     let tree = c.args.tree.now in
     let n : ℕ = g.C.Costs.nodes tree.costs.now in
     let cost = g.C.Costs.at tree.costs.now in

@@ -9,7 +9,7 @@ use Rattle.tsp_cases.specs.JudgedLeaves.{AreJudgedBy}
 use Rattle.tsp_cases.specs.ListedCases.{listed_steps}
 use Rattle.tsp_cases.specs.states.Sets.{lent_in}
 use Rattle.tsp_routing.specs.PlanVerdicts.{ArePlanNumbers, most_entries}
-use Rattle.tsp_routing.specs.PlanBounds.{IsFoundByWalks}
+use Rattle.tsp_routing.specs.PlanBounds.{IsFoundByQRoutes}
 use Rattle.tsp_routing.specs.states.Demands.{loads_problem}
 use Rattle.tsp_routing.specs.states.Judged.{IsFoundOfFew}
 use Rattle.tsp_routing.proofs.PlanJudging.{least_if}
@@ -18,13 +18,13 @@ use Rattle.tsp_routing.proofs.verdict.leaf_verdict.Goals as goal
 -- plan: the entries of the table are counted, and where they are few each leaf has a bound by walks (`least_if`)
 pub returns-then-few-clause-verdict : goal.returns-then-few-clause-verdict
 returns-then-few-clause-verdict g c =
-    let s = c.args.setting.now in
+    let s = c.args.context.now in
     let n : ℕ = s.demands.nodes in
     let families : ℕ = length s.crossed.now in
     let cost = g.C.Costs.at s.costs.now in
     let steps = steps_of c.args.steps.now in
     let entries : ℕ = c.entries-few.result in
-    let found = IsFoundByWalks (loads_problem s.demands cost) s.scale s.unit s.units.now.light (families_with s.crossed.now (lent_in s.families.now)) in
+    let found = IsFoundByQRoutes (loads_problem s.demands cost) s.scale s.unit s.units.now.light (families_with s.crossed.now (lent_in s.families.now)) in
     let is = subst (AreJudgedBy (IsFoundOfFew (nat_le entries 10000000) (loads_problem s.demands cost) s.scale s.unit s.units.now.light
     (families_with s.crossed.now (lent_in s.families.now))) (ArePlanNumbers n families) n families [] steps)
     c.in-Bound.is c.in_ok-leaf.ensures.judged in (
@@ -36,7 +36,7 @@ returns-then-few-clause-verdict g c =
 
 pub returns-else-few-clause-verdict : goal.returns-else-few-clause-verdict
 returns-else-few-clause-verdict g c =
-    let s = c.args.setting.now in
+    let s = c.args.context.now in
     let n : ℕ = s.demands.nodes in
     let families : ℕ = length s.crossed.now in
     let cost = g.C.Costs.at s.costs.now in

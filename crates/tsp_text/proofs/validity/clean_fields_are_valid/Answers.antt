@@ -1,6 +1,6 @@
 -- The goals of `clean_fields_are_valid` in src/validity.rt. The fields of items without a fault are valid, field by
 -- field.
-use Rattle.tsp_text.specs.Spells.{part}
+use Rattle.tsp_text.specs.ParsesTo.{part}
 use Rattle.tsp_text.proofs.ValidCuts.{part_cut}
 use Rattle.tsp_text.proofs.ValidItems.{none_bad}
 use Rattle.tsp_text.proofs.validity.clean_fields_are_valid.Goals as goal

@@ -7,4 +7,4 @@ pub returns-clause-of_items : goal.returns-clause-of_items
 returns-clause-of_items c = λ items cut clean ended. is_file items cut clean ended
 
 pub returns-clause-of_text : goal.returns-clause-of_text
-returns-clause-of_text c = λ bytes file spells. spelled_file bytes file spells
+returns-clause-of_text c = λ bytes file parses_to. spelled_file bytes file parses_to

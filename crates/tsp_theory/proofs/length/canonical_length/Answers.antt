@@ -6,7 +6,7 @@ use Rattle.std.specs.Int.{w64}
 use Rattle.std.specs.List.{range_with_len}
 use Rattle.tsp_format.specs.Nodes.{nodes_to}
 use Rattle.tsp_theory.specs.Tour.{length_of}
-use Rattle.tsp_theory.proofs.Sums.{sum_fits, sum_more, length_more, length_last, run_parts, canonical}
+use Rattle.tsp_theory.proofs.Sums.{sum_fits, lengths_sum_more, length_more, length_last, run_parts, canonical}
 use Rattle.tsp_theory.proofs.length.canonical_length.Goals as goal
 
 -- plan: one node more is one cost more (`length_more`); the last one goes back to node 1 (`length_last`)
@@ -22,7 +22,7 @@ nodes-preserved g c =
     let some : 0 < count - node = omega arith in
     let less : count - (node + 1) ≡ count - node - 1 = omega arith in
     record {
-      size = rw (sum, steps) (sum_more so_far c.cost-length.result (node - 1) c.nodes.invariant.size cost.low cost.high);
+      size = rw (sum, steps) (lengths_sum_more so_far c.cost-length.result (node - 1) c.nodes.invariant.size cost.low cost.high);
       so_far = rw (sum, cost.value, less)
           (length_more (g.C.Costs.at c.args.c.now) so_far _ 1 node (node + 1) _ _ (run_parts (node + 1) (count - node) some)
           c.nodes.invariant.so_far);

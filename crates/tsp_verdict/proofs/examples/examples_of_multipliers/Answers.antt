@@ -4,10 +4,10 @@ use Rattle.tsp_verdict.proofs.examples.examples_of_multipliers.Goals as goal
 
 -- plan: each example is computed
 pub returns-clause-fixed : goal.returns-clause-fixed
-returns-clause-fixed c = λ stands. stands.1.holds (inl (0, omega arith, refl))
+returns-clause-fixed c = λ applies. applies.1.holds (inl (0, omega arith, refl))
 
 pub returns-clause-turned_round : goal.returns-clause-turned_round
-returns-clause-turned_round c = λ stands. stands.1.holds (inr (0, omega arith, refl))
+returns-clause-turned_round c = λ applies. applies.1.holds (inr (0, omega arith, refl))
 
 pub returns-clause-not_fixed : goal.returns-clause-not_fixed
 returns-clause-not_fixed c = (

@@ -1,5 +1,5 @@
 -- The goals of `files_have_one_verdict` in src/one_verdict.rt: what it ensures.
-use Rattle.tsp_verdict.proofs.OneVerdict.{Laws, one_verdict, one_bound, one_basis, one_of_solution}
+use Rattle.tsp_verdict.proofs.OneVerdict.{Laws, one_verdict, one_bound, one_known_bound, one_of_solution}
 use Rattle.tsp_verdict.proofs.one_verdict.files_have_one_verdict.Goals as goal
 
 -- plan: each part is unique, given the laws of the crates below as a record (`Laws`)
@@ -8,11 +8,11 @@ returns c =
     let laws : Laws = record {
       numbers = c.numbers_are_unique.ensures;
       leaves = c.case_tree_bounds_are_unique.ensures;
-      walks = c.plan_bounds_are_unique.ensures;
+      q_routes = c.plan_bounds_are_unique.ensures;
     } in
     record {
       verdict = one_verdict laws;
       bound = one_bound laws;
-      basis = one_basis laws;
+      known_bound = one_known_bound laws;
       solution = one_of_solution laws;
     }

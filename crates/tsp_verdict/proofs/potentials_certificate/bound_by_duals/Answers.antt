@@ -1,5 +1,5 @@
--- The goals of `bound_by_duals` in src/potentials_certificate.rt, which bounds an ATSP by potentials, or returns the first
--- reason: what it ensures.
+-- The goals of `bound_by_duals` in src/potentials_certificate.rt, which bounds an ATSP by potentials, or returns the
+-- first reason: what it ensures.
 use Rattle.std.proofs.Common.{◌≡◌, false, subst, sym, rules, FitsSigned}
 use Rattle.std.specs.Int.{w128}
 use Rattle.std.proofs.lemmas.Int.{to_z-of_z}

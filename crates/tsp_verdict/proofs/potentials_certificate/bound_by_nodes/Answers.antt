@@ -1,12 +1,12 @@
--- The goals of `bound_by_nodes` in src/potentials_certificate.rt, which bounds a TSP by potentials, or returns the first
--- reason: what it ensures.
+-- The goals of `bound_by_nodes` in src/potentials_certificate.rt, which bounds a TSP by potentials, or returns the
+-- first reason: what it ensures.
 use Rattle.std.proofs.Common.{◌≡◌, true, Some, subst, sym, rules, FitsSigned}
 use Rattle.std.specs.Prelude.{MatchOption}
 use Rattle.std.specs.Int.{w128}
 use Rattle.std.proofs.lemmas.Int.{to_z-of_z}
 use Rattle.tsp_format.specs.declared.kinds.Kind.TheVariants as kinds
 use Rattle.tsp_theory.specs.Bounds.{AreOnPairs}
-use Rattle.tsp_verdict.specs.Certificates.{has_wanted, StandsAgainstPotentials, AreListed}
+use Rattle.tsp_verdict.specs.Certificates.{has_wanted, AppliesToPotentials, AreListed}
 use Rattle.tsp_file.specs.Fields.{nodes_of}
 use Rattle.tsp_file.specs.Cost.{multipliers_in, fixed_of}
 use Rattle.tsp_verdict.specs.Solutions.{IsFirstReason}
@@ -34,7 +34,7 @@ returns-clause-found c =
     let pot = c.args.pot.now in
     let good = subst (λ found. MatchOption found
     (AreOnPairs (nodes_of inst) (multipliers_in pot) × AreListed (fixed_of inst) (multipliers_in pot))
-    (λ reason. IsFirstReason (StandsAgainstPotentials inst pot) reason)) c.in_default-2.is c.in_ok-reason.ensures in
+    (λ reason. IsFirstReason (AppliesToPotentials inst pot) reason)) c.in_default-2.is c.in_ok-reason.ensures in
     let bound = c.in_ok-bound.bound in
     let fits : FitsSigned w128 bound = search rules in
     let wanted : has_wanted (Some kinds.Tsp) pot ≡ true = search rules in (

@@ -1,5 +1,5 @@
--- The goals of `first_outside` in src/potentials_certificate.rt, which finds the first triple whose pair isn't in a set: its
--- loop and what it ensures.
+-- The goals of `first_outside` in src/potentials_certificate.rt, which finds the first triple whose pair isn't in a
+-- set: its loop and what it ensures.
 use Rattle.std.proofs.Common.{◌≡◌, ◌+◌, false, true, sym, subst, ◌∙◌, arith}
 use Rattle.std.specs.BTreeSet.{contains}
 use Rattle.std.specs.Prelude.{pos, slice_index_or}

@@ -1,5 +1,5 @@
--- The goals of `set_of` in src/potentials_certificate.rt, which makes the set of pairs, the smaller node first: its loop and
--- what it ensures.
+-- The goals of `set_of` in src/potentials_certificate.rt, which makes the set of pairs, the smaller node first: its
+-- loop and what it ensures.
 use Rattle.std.proofs.Common.{true, subst, arith}
 use Rattle.std.specs.BTreeSet.{Updates}
 use Rattle.std.proofs.lemmas.List.{take_all}

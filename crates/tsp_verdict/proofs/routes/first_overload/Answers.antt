@@ -7,7 +7,7 @@ use Rattle.std.proofs.lemmas.Int.{to_z-of_z}
 use Rattle.tsp_format.specs.Nodes.{IsNode}
 use Rattle.tsp_verdict.specs.states.Marks.{StandsAfter, nodes_in}
 use Rattle.tsp_theory.specs.Tour.{load_of}
-use Rattle.tsp_verdict.proofs.RouteFiles.{stands_here, all_here, carried_more, not_over}
+use Rattle.tsp_verdict.proofs.RouteFiles.{applies_here, all_here, carried_more, not_over}
 use Rattle.tsp_verdict.proofs.routes.first_overload.Goals as goal
 
 -- plan: route by route: the first whose load is too much, or none so far (`not_over`)
@@ -15,19 +15,19 @@ pub load-requires-clause-range : goal.load-requires-clause-range
 load-requires-clause-range c =
     let before : ℕ = length (nodes_in (take c.routes.route-index c.args.routes.now)) in
     let nodes : List ℕ = c.as_slice-nodes.result.now in
-    let stands : StandsAfter before (nodes_in c.args.routes.now) nodes =
-    stands_here c.args.routes.now c.routes.route-index before c.route-item.result nodes c.routes-test.true c.route-item.is refl
+    let applies : StandsAfter before (nodes_in c.args.routes.now) nodes =
+    applies_here c.args.routes.now c.routes.route-index before c.route-item.result nodes c.routes-test.true c.route-item.is refl
     c.as_slice-nodes.ensures.value in
-    all_here (IsNode (length c.args.demands.now)) (nodes_in c.args.routes.now) nodes before stands c.requires.range
+    all_here (IsNode (length c.args.demands.now)) (nodes_in c.args.routes.now) nodes before applies c.requires.range
 
 pub load-requires-clause-size : goal.load-requires-clause-size
 load-requires-clause-size c =
     let before : ℕ = length (nodes_in (take c.routes.route-index c.args.routes.now)) in
     let nodes : List ℕ = c.as_slice-nodes.result.now in
-    let stands : StandsAfter before (nodes_in c.args.routes.now) nodes =
-    stands_here c.args.routes.now c.routes.route-index before c.route-item.result nodes c.routes-test.true c.route-item.is refl
+    let applies : StandsAfter before (nodes_in c.args.routes.now) nodes =
+    applies_here c.args.routes.now c.routes.route-index before c.route-item.result nodes c.routes-test.true c.route-item.is refl
     c.as_slice-nodes.ensures.value in
-    omega (arith, stands.inside, c.requires.size)
+    omega (arith, applies.inside, c.requires.size)
 
 pub routes-preserved : goal.routes-preserved
 routes-preserved c =

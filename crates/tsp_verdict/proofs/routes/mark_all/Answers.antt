@@ -4,7 +4,7 @@ use Rattle.std.proofs.Common.{◌<◌, ℕ, List, sym, subst, ◌∙◌, arith}
 use Rattle.std.specs.Prelude.{vec_len}
 use Rattle.std.specs.List.{All}
 use Rattle.tsp_verdict.specs.states.Marks.{StandsAfter, nodes_in}
-use Rattle.tsp_verdict.proofs.RouteFiles.{stands_here, count_here, all_here}
+use Rattle.tsp_verdict.proofs.RouteFiles.{applies_here, count_here, all_here}
 use Rattle.tsp_verdict.proofs.routes.mark_all.Goals as goal
 
 -- plan: one route's nodes more are marked, or one of them has a mark already
@@ -12,69 +12,69 @@ pub mark-requires-clause-size : goal.mark-requires-clause-size
 mark-requires-clause-size c =
     let all : List ℕ = nodes_in c.args.routes.now in
     let nodes : List ℕ = c.as_slice-nodes.result.now in
-    let stands : StandsAfter c.routes.before all nodes =
-    stands_here c.args.routes.now c.routes.route-index c.routes.before c.route-item.result nodes
+    let applies : StandsAfter c.routes.before all nodes =
+    applies_here c.args.routes.now c.routes.route-index c.routes.before c.route-item.result nodes
     c.routes-test.true c.route-item.is c.routes.invariant.counted c.as_slice-nodes.ensures.value in
-    omega (arith, stands.inside, c.requires.size)
+    omega (arith, applies.inside, c.requires.size)
 
 pub mark-requires-clause-range : goal.mark-requires-clause-range
 mark-requires-clause-range c =
     let all : List ℕ = nodes_in c.args.routes.now in
     let nodes : List ℕ = c.as_slice-nodes.result.now in
-    let stands : StandsAfter c.routes.before all nodes =
-    stands_here c.args.routes.now c.routes.route-index c.routes.before c.route-item.result nodes
+    let applies : StandsAfter c.routes.before all nodes =
+    applies_here c.args.routes.now c.routes.route-index c.routes.before c.route-item.result nodes
     c.routes-test.true c.route-item.is c.routes.invariant.counted c.as_slice-nodes.ensures.value in
-    all_here (λ node. node < vec_len c.routes.seen) all nodes c.routes.before stands
+    all_here (λ node. node < vec_len c.routes.seen) all nodes c.routes.before applies
     (subst (λ n. All (λ node. node < n) all) (sym c.routes.invariant.wide) c.requires.range)
 
 pub overflow_add-result : goal.overflow_add-result
 overflow_add-result c =
     let all : List ℕ = nodes_in c.args.routes.now in
     let nodes : List ℕ = c.as_slice-nodes.result.now in
-    let stands : StandsAfter c.routes.before all nodes =
-    stands_here c.args.routes.now c.routes.route-index c.routes.before c.route-item.result nodes
+    let applies : StandsAfter c.routes.before all nodes =
+    applies_here c.args.routes.now c.routes.route-index c.routes.before c.route-item.result nodes
     c.routes-test.true c.route-item.is c.routes.invariant.counted c.as_slice-nodes.ensures.value in
-    let first = c.in-Some.ensures.marks all c.routes.before stands c.routes.invariant.marks in
+    let first = c.in-Some.ensures.marks all c.routes.before applies c.routes.invariant.marks in
     omega (arith, first.here.1, c.requires.size)
 
 pub returns-in-Some-clause-marks : goal.returns-in-Some-clause-marks
 returns-in-Some-clause-marks c =
     let all : List ℕ = nodes_in c.args.routes.now in
     let nodes : List ℕ = c.as_slice-nodes.result.now in
-    let stands : StandsAfter c.routes.before all nodes =
-    stands_here c.args.routes.now c.routes.route-index c.routes.before c.route-item.result nodes
+    let applies : StandsAfter c.routes.before all nodes =
+    applies_here c.args.routes.now c.routes.route-index c.routes.before c.route-item.result nodes
     c.routes-test.true c.route-item.is c.routes.invariant.counted c.as_slice-nodes.ensures.value in
-    c.in-Some.ensures.marks all c.routes.before stands c.routes.invariant.marks
+    c.in-Some.ensures.marks all c.routes.before applies c.routes.invariant.marks
 
 pub overflow_cast-before : goal.overflow_cast-before
 overflow_cast-before c =
     let all : List ℕ = nodes_in c.args.routes.now in
     let nodes : List ℕ = c.as_slice-nodes.result.now in
-    let stands : StandsAfter c.routes.before all nodes =
-    stands_here c.args.routes.now c.routes.route-index c.routes.before c.route-item.result nodes
+    let applies : StandsAfter c.routes.before all nodes =
+    applies_here c.args.routes.now c.routes.route-index c.routes.before c.route-item.result nodes
     c.routes-test.true c.route-item.is c.routes.invariant.counted c.as_slice-nodes.ensures.value in
-    omega (arith, stands.inside, c.requires.size)
+    omega (arith, applies.inside, c.requires.size)
 
 pub overflow_add-before : goal.overflow_add-before
 overflow_add-before c =
     let all : List ℕ = nodes_in c.args.routes.now in
     let nodes : List ℕ = c.as_slice-nodes.result.now in
-    let stands : StandsAfter c.routes.before all nodes =
-    stands_here c.args.routes.now c.routes.route-index c.routes.before c.route-item.result nodes
+    let applies : StandsAfter c.routes.before all nodes =
+    applies_here c.args.routes.now c.routes.route-index c.routes.before c.route-item.result nodes
     c.routes-test.true c.route-item.is c.routes.invariant.counted c.as_slice-nodes.ensures.value in
-    omega (arith, stands.inside, c.requires.size)
+    omega (arith, applies.inside, c.requires.size)
 
 pub routes-preserved : goal.routes-preserved
 routes-preserved c =
     let all : List ℕ = nodes_in c.args.routes.now in
     let nodes : List ℕ = c.as_slice-nodes.result.now in
-    let stands : StandsAfter c.routes.before all nodes =
-    stands_here c.args.routes.now c.routes.route-index c.routes.before c.route-item.result nodes
+    let applies : StandsAfter c.routes.before all nodes =
+    applies_here c.args.routes.now c.routes.route-index c.routes.before c.route-item.result nodes
     c.routes-test.true c.route-item.is c.routes.invariant.counted c.as_slice-nodes.ensures.value in
     record {
       counted = count_here c.args.routes.now c.routes.route-index c.routes.before c.route-item.result nodes c.routes-test.true
           c.route-item.is
           c.routes.invariant.counted c.as_slice-nodes.ensures.value;
       wide = c.in_default.ensures.len ∙ c.routes.invariant.wide;
-      marks = c.in_default.ensures.marks all c.routes.before stands c.routes.invariant.marks;
+      marks = c.in_default.ensures.marks all c.routes.before applies c.routes.invariant.marks;
     }

@@ -9,36 +9,36 @@ use Rattle.tsp_file.specs.Cost.{cost}
 use Rattle.tsp_theory.specs.Tour.{length_of}
 use Rattle.tsp_verdict.specs.states.Marks.{StandsAfter, nodes_in, IsSumOf}
 use Rattle.tsp_file.specs.Fields.{nodes_of}
-use Rattle.tsp_verdict.proofs.RouteFiles.{stands_here, count_here, all_here, sum_more, sum_fits, plan_more}
+use Rattle.tsp_verdict.proofs.RouteFiles.{applies_here, count_here, all_here, sum_more, sum_fits, plan_more}
 use Rattle.tsp_verdict.proofs.routes.plan_length.Goals as goal
 
 pub route_length-length-requires-clause-range : goal.route_length-length-requires-clause-range
 route_length-length-requires-clause-range c =
     let before : ℕ = length (nodes_in (take c.routes.route-index c.args.routes.now)) in
     let nodes : List ℕ = c.as_slice-nodes.result.now in
-    let stands : StandsAfter before (nodes_in c.args.routes.now) nodes =
-    stands_here c.args.routes.now c.routes.route-index before c.route-item.result nodes c.routes-test.true c.route-item.is refl
+    let applies : StandsAfter before (nodes_in c.args.routes.now) nodes =
+    applies_here c.args.routes.now c.routes.route-index before c.route-item.result nodes c.routes-test.true c.route-item.is refl
     c.as_slice-nodes.ensures.value in
-    all_here (IsNode (nodes_of c.args.inst.now)) (nodes_in c.args.routes.now) nodes before stands c.requires.range
+    all_here (IsNode (nodes_of c.args.inst.now)) (nodes_in c.args.routes.now) nodes before applies c.requires.range
 
 pub route_length-length-requires-clause-size : goal.route_length-length-requires-clause-size
 route_length-length-requires-clause-size c =
     let before : ℕ = length (nodes_in (take c.routes.route-index c.args.routes.now)) in
     let nodes : List ℕ = c.as_slice-nodes.result.now in
-    let stands : StandsAfter before (nodes_in c.args.routes.now) nodes =
-    stands_here c.args.routes.now c.routes.route-index before c.route-item.result nodes c.routes-test.true c.route-item.is refl
+    let applies : StandsAfter before (nodes_in c.args.routes.now) nodes =
+    applies_here c.args.routes.now c.routes.route-index before c.route-item.result nodes c.routes-test.true c.route-item.is refl
     c.as_slice-nodes.ensures.value in
-    omega (arith, stands.inside, c.requires.size)
+    omega (arith, applies.inside, c.requires.size)
 
 pub overflow_add-length : goal.overflow_add-length
 overflow_add-length c =
     let before : ℕ = length (nodes_in (take c.routes.route-index c.args.routes.now)) in
     let nodes : List ℕ = c.as_slice-nodes.result.now in
-    let stands : StandsAfter before (nodes_in c.args.routes.now) nodes =
-    stands_here c.args.routes.now c.routes.route-index before c.route-item.result nodes c.routes-test.true c.route-item.is refl
+    let applies : StandsAfter before (nodes_in c.args.routes.now) nodes =
+    applies_here c.args.routes.now c.routes.route-index before c.route-item.result nodes c.routes-test.true c.route-item.is refl
     c.as_slice-nodes.ensures.value in
     let few : before + c.routes.route-index + (length nodes + 1) ≤ 2000001 =
-    omega (arith, stands.inside, c.requires.size, c.requires.few, c.routes-test.true) in
+    omega (arith, applies.inside, c.requires.size, c.requires.few, c.routes-test.true) in
     let other : IsSumOf (length nodes + 1) c.route_length-length.result = c.route_length-length.ensures.size in
     omega (arith, ints, few, c.routes.invariant.size.low, c.routes.invariant.size.high, other.low, other.high)
 
@@ -49,11 +49,11 @@ routes-preserved c =
     let before : ℕ = length (nodes_in (take index c.args.routes.now)) in
     let nodes : List ℕ = c.as_slice-nodes.result.now in
     let so_far : ℤ = to_z w64 c.routes.length-bits in
-    let stands : StandsAfter before (nodes_in c.args.routes.now) nodes =
-    stands_here c.args.routes.now index before c.route-item.result nodes c.routes-test.true c.route-item.is refl
+    let applies : StandsAfter before (nodes_in c.args.routes.now) nodes =
+    applies_here c.args.routes.now index before c.route-item.result nodes c.routes-test.true c.route-item.is refl
     c.as_slice-nodes.ensures.value in
     let few : before + index + (length nodes + 1) ≤ 2000001 =
-    omega (arith, stands.inside, c.requires.size, c.requires.few, c.routes-test.true) in
+    omega (arith, applies.inside, c.requires.size, c.requires.few, c.routes-test.true) in
     let more : before + length nodes ≡ length (nodes_in (take (index + 1) c.args.routes.now)) =
     count_here c.args.routes.now index before c.route-item.result nodes c.routes-test.true c.route-item.is refl
     c.as_slice-nodes.ensures.value in

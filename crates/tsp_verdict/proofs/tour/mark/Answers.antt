@@ -21,10 +21,10 @@ returns-then-index c =
     mark_is c.nodes.seen.items (get_or c.args.nodes.now index 0) c.index.result.now _ fits c.index.ensures c.if-index.true in
     record {
       len = c.nodes.invariant.wide;
-      marks = λ all before stands marked.
+      marks = λ all before applies marked.
           let first : IsFirstPlace (IsAtEarlierPlace all) all (before + (index + 1)) =
-          repeated_next all c.args.nodes.now c.nodes.seen.items before index stands c.nodes-test.true taken
-          (c.nodes.invariant.marks all before stands marked) in
+          repeated_next all c.args.nodes.now c.nodes.seen.items before index applies c.nodes-test.true taken
+          (c.nodes.invariant.marks all before applies marked) in
           subst (λ (k : ℕ). IsFirstPlace (IsAtEarlierPlace all) all (before + (k + 1))) (sym c.nodes.invariant.counted) first;
     }
 
@@ -38,7 +38,7 @@ nodes-preserved c =
     record {
       counted = omega (arith, c.nodes.invariant.counted);
       wide = c.nodes.invariant.wide;
-      marks = λ all before stands marked.
-          mark_next all c.args.nodes.now c.nodes.seen.items before index stands c.nodes-test.true fits free
-          (c.nodes.invariant.marks all before stands marked);
+      marks = λ all before applies marked.
+          mark_next all c.args.nodes.now c.nodes.seen.items before index applies c.nodes-test.true fits free
+          (c.nodes.invariant.marks all before applies marked);
     }

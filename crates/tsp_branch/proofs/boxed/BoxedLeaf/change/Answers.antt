@@ -17,7 +17,7 @@ pub returns : goal.returns
 returns g c =
     let boxed = c.args.self.now in
     let p = boxed.leaf.now in
-    let n = g.C.Costs.nodes p.setting.now.costs.now in
+    let n = g.C.Costs.nodes p.context.now.costs.now in
     let from = c.args.from in
     let to = c.args.to in
     let case : List Decision = decisions_in p.case.now in

@@ -17,19 +17,19 @@ returns-clause-value g c =
     let p = boxed.leaf.now in
     let case : List Decision = decisions_in p.case.now in
     let own_is = subst (λ (d : Bool). stack_of c.at.result.now ≡ filter (bears_on d c.args.from) case) (p.direction ∙ boxed.undirected)
-    (c.at.ensures (g.C.Costs.nodes p.setting.now.costs.now) p.is_case c.requires.1) in
+    (c.at.ensures (g.C.Costs.nodes p.context.now.costs.now) p.is_case c.requires.1) in
     sym (length-map c.at.result.now (other_of c.args.from)) ∙ ap length (listed_is case c.at.result.now c.args.from own_is)
 
 pub returns-clause-no_more : goal.returns-clause-no_more
 returns-clause-no_more g c = λ to node.
     let q = c.args.self.now.leaf.now in
     lowered_no_more (decisions_in c.args.self.now.leaf.now.case.now)
-    (set_weight q.setting.now.cases.now.scale q.potentials.now q.multipliers.now (lent_in q.setting.now.families.now)
-    (g.C.Costs.at q.setting.now.costs.now)) c.args.from to
+    (set_weight q.context.now.cases.now.scale q.potentials.now q.multipliers.now (lent_in q.context.now.families.now)
+    (g.C.Costs.at q.context.now.costs.now)) c.args.from to
 
 pub returns-clause-others : goal.returns-clause-others
 returns-clause-others g c = λ to node none.
     let q = c.args.self.now.leaf.now in
     others_same (decisions_in c.args.self.now.leaf.now.case.now)
-    (set_weight q.setting.now.cases.now.scale q.potentials.now q.multipliers.now (lent_in q.setting.now.families.now)
-    (g.C.Costs.at q.setting.now.costs.now)) c.args.from to none
+    (set_weight q.context.now.cases.now.scale q.potentials.now q.multipliers.now (lent_in q.context.now.families.now)
+    (g.C.Costs.at q.context.now.costs.now)) c.args.from to none

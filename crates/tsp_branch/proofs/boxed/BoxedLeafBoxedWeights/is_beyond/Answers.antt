@@ -14,10 +14,10 @@ pub returns-clause-above : goal.returns-clause-above
 returns-clause-above g c = λ to node.
     let p = c.args.self.now in
     let q = p.leaf.now in
-    base_below q.setting.now.cases.now.scale q.potentials.now q.multipliers.now (lent_in q.setting.now.families.now)
-    (g.C.Costs.at q.setting.now.costs.now) c.args.from.now.node to (least_at q.moved.now c.args.from.now.node)
+    base_below q.context.now.cases.now.scale q.potentials.now q.multipliers.now (lent_in q.context.now.families.now)
+    (g.C.Costs.at q.context.now.costs.now) c.args.from.now.node to (least_at q.moved.now c.args.from.now.node)
     (least_at q.moved.now to) _
-    q.setting.now.families.now.once (p.exact c.args.from.now.node c.requires.node_in).0 (p.exact to node).0 refl
-    (decisions_in p.leaf.now.case.now) (small_multipliers _ q.setting.now.families.now.crossed.items _ _
-    q.setting.now.families.now.some q.numbers)
-    (q.numbers.each_comb ∙ q.setting.now.families.now.as_many) q.setting.now.families.now.many q.setting.now.families.now.as_many
+    q.context.now.families.now.once (p.exact c.args.from.now.node c.requires.node_in).0 (p.exact to node).0 refl
+    (decisions_in p.leaf.now.case.now) (small_multipliers _ q.context.now.families.now.crossed.items _ _
+    q.context.now.families.now.some q.numbers)
+    (q.numbers.each_comb ∙ q.context.now.families.now.as_many) q.context.now.families.now.many q.context.now.families.now.as_many

@@ -24,7 +24,7 @@ pub offset_bounds-at-index : goal.offset_bounds-at-index
 offset_bounds-at-index g c =
     let boxed = c.args.self.now in
     let p = boxed.leaf.now in
-    let n = g.C.Costs.nodes p.setting.now.costs.now in
+    let n = g.C.Costs.nodes p.context.now.costs.now in
     let from = c.args.from in
     let case : List Decision = decisions_in p.case.now in
     let own : List Decision = c.at.result.now in
@@ -37,7 +37,7 @@ pub bounds-at-index : goal.bounds-at-index
 bounds-at-index g c =
     let boxed = c.args.self.now in
     let p = boxed.leaf.now in
-    let n = g.C.Costs.nodes p.setting.now.costs.now in
+    let n = g.C.Costs.nodes p.context.now.costs.now in
     let from = c.args.from in
     let case : List Decision = decisions_in p.case.now in
     let own : List Decision = c.at.result.now in
@@ -50,7 +50,7 @@ pub bounds-at-index-2 : goal.bounds-at-index-2
 bounds-at-index-2 g c =
     let boxed = c.args.self.now in
     let p = boxed.leaf.now in
-    let n = g.C.Costs.nodes p.setting.now.costs.now in
+    let n = g.C.Costs.nodes p.context.now.costs.now in
     let from = c.args.from in
     let case : List Decision = decisions_in p.case.now in
     let own : List Decision = c.at.result.now in
@@ -63,7 +63,7 @@ pub decided-requires-clause-to : goal.decided-requires-clause-to
 decided-requires-clause-to g c =
     let boxed = c.args.self.now in
     let p = boxed.leaf.now in
-    let n = g.C.Costs.nodes p.setting.now.costs.now in
+    let n = g.C.Costs.nodes p.context.now.costs.now in
     let from = c.args.from in
     let case : List Decision = decisions_in p.case.now in
     let own : List Decision = c.at.result.now in
@@ -80,7 +80,7 @@ pub returns-clause-node : goal.returns-clause-node
 returns-clause-node g c =
     let boxed = c.args.self.now in
     let p = boxed.leaf.now in
-    let n = g.C.Costs.nodes p.setting.now.costs.now in
+    let n = g.C.Costs.nodes p.context.now.costs.now in
     let from = c.args.from in
     let case : List Decision = decisions_in p.case.now in
     let own : List Decision = c.at.result.now in
@@ -97,7 +97,7 @@ pub returns-clause-listed : goal.returns-clause-listed
 returns-clause-listed g c =
     let boxed = c.args.self.now in
     let p = boxed.leaf.now in
-    let n = g.C.Costs.nodes p.setting.now.costs.now in
+    let n = g.C.Costs.nodes p.context.now.costs.now in
     let from = c.args.from in
     let case : List Decision = decisions_in p.case.now in
     let own : List Decision = c.at.result.now in
@@ -116,6 +116,6 @@ returns-clause-listed g c =
 pub returns-clause-weight : goal.returns-clause-weight
 returns-clause-weight g c =
     let q = c.args.self.now.leaf.now in
-    let w = set_weight q.setting.now.cases.now.scale q.potentials.now q.multipliers.now (lent_in q.setting.now.families.now) (g.C.Costs.at q.setting.now.costs.now) in
+    let w = set_weight q.context.now.cases.now.scale q.potentials.now q.multipliers.now (lent_in q.context.now.families.now) (g.C.Costs.at q.context.now.costs.now) in
     let fits : FitsSigned w64 c.decided.result = search rules in
     to_z-of_z w64 c.decided.result fits ∙ c.decided.ensures ∙ sym (changes_are (decisions_in c.args.self.now.leaf.now.case.now) w c.args.from c.if-first-from.to)

@@ -11,6 +11,6 @@ use Rattle.tsp_branch.proofs.boxed.BoxedLeafBoxedWeights.weight.Goals as goal
 pub returns : goal.returns
 returns g c =
     let q = c.args.self.now.leaf.now in
-    let w = set_weight q.setting.now.cases.now.scale q.potentials.now q.multipliers.now (lent_in q.setting.now.families.now) (g.C.Costs.at q.setting.now.costs.now) in
+    let w = set_weight q.context.now.cases.now.scale q.potentials.now q.multipliers.now (lent_in q.context.now.families.now) (g.C.Costs.at q.context.now.costs.now) in
     let fits : FitsSigned w64 c.decided.result = search rules in
     to_z-of_z w64 c.decided.result fits ∙ c.decided.ensures ∙ sym (changes_are (decisions_in c.args.self.now.leaf.now.case.now) w c.args.from c.args.to)

@@ -23,14 +23,14 @@ returns-then-base-most-clause-no_less g c = λ above.
     let case : List Decision = decisions_in p.leaf.now.case.now in
     let fits : FitsSigned w64 c.base-base.result = search rules in
     let back = to_z-of_z w64 c.base-base.result fits in
-    let below = base_below q.setting.now.cases.now.scale q.potentials.now q.multipliers.now
-    (lent_in q.setting.now.families.now) (g.C.Costs.at q.setting.now.costs.now) c.args.from.now.site.node
+    let below = base_below q.context.now.cases.now.scale q.potentials.now q.multipliers.now
+    (lent_in q.context.now.families.now) (g.C.Costs.at q.context.now.costs.now) c.args.from.now.site.node
     c.args.to.now.site.node (least_at q.moved.now c.args.from.now.site.node)
-    (least_at q.moved.now c.args.to.now.site.node) c.base-base.result q.setting.now.families.now.once
+    (least_at q.moved.now c.args.to.now.site.node) c.base-base.result q.context.now.families.now.once
     (p.exact c.args.from.now.site.node c.requires.from.site.node_in).0
     (p.exact c.args.to.now.site.node c.requires.to.site.node_in).0 c.base-base.ensures.value case
-    (small_multipliers _ q.setting.now.families.now.crossed.items _ _ q.setting.now.families.now.some q.numbers)
-    (q.numbers.each_comb ∙ q.setting.now.families.now.as_many) q.setting.now.families.now.many q.setting.now.families.now.as_many in
+    (small_multipliers _ q.context.now.families.now.crossed.items _ _ q.context.now.families.now.some q.numbers)
+    (q.numbers.each_comb ∙ q.context.now.families.now.as_many) q.context.now.families.now.many q.context.now.families.now.as_many in
     omega (arith, ints, above, back, below)
 
 pub returns-then-change-lt0-clause-less : goal.returns-then-change-lt0-clause-less
@@ -38,7 +38,7 @@ returns-then-change-lt0-clause-less g c = λ low.
     let p = c.args.self.now in
     let q = p.leaf.now in
     let case : List Decision = decisions_in p.leaf.now.case.now in
-    let w = set_weight q.setting.now.cases.now.scale q.potentials.now q.multipliers.now (lent_in q.setting.now.families.now) (g.C.Costs.at q.setting.now.costs.now) in
+    let w = set_weight q.context.now.cases.now.scale q.potentials.now q.multipliers.now (lent_in q.context.now.families.now) (g.C.Costs.at q.context.now.costs.now) in
     let change : ℤ = c.change-change.result in
     let change_fits : FitsSigned w64 c.change-change.result = search rules in
     let fits : FitsSigned w64 c.combed-combed.result = search rules in
@@ -54,7 +54,7 @@ returns-then-change-lt0-clause-no_less g c = λ above.
     let p = c.args.self.now in
     let q = p.leaf.now in
     let case : List Decision = decisions_in p.leaf.now.case.now in
-    let w = set_weight q.setting.now.cases.now.scale q.potentials.now q.multipliers.now (lent_in q.setting.now.families.now) (g.C.Costs.at q.setting.now.costs.now) in
+    let w = set_weight q.context.now.cases.now.scale q.potentials.now q.multipliers.now (lent_in q.context.now.families.now) (g.C.Costs.at q.context.now.costs.now) in
     let change : ℤ = c.change-change.result in
     let change_fits : FitsSigned w64 c.change-change.result = search rules in
     let fits : FitsSigned w64 c.combed-combed.result = search rules in
@@ -70,7 +70,7 @@ returns-else-change-lt0-clause-less g c = λ low.
     let p = c.args.self.now in
     let q = p.leaf.now in
     let case : List Decision = decisions_in p.leaf.now.case.now in
-    let w = set_weight q.setting.now.cases.now.scale q.potentials.now q.multipliers.now (lent_in q.setting.now.families.now) (g.C.Costs.at q.setting.now.costs.now) in
+    let w = set_weight q.context.now.cases.now.scale q.potentials.now q.multipliers.now (lent_in q.context.now.families.now) (g.C.Costs.at q.context.now.costs.now) in
     let change : ℤ = c.change-change.result in
     let change_fits : FitsSigned w64 c.change-change.result = search rules in
     let zero_fits : FitsSigned w64 (pos 0) = omega (arith, ints) in
@@ -85,7 +85,7 @@ returns-else-change-lt0-clause-no_less g c = λ above.
     let p = c.args.self.now in
     let q = p.leaf.now in
     let case : List Decision = decisions_in p.leaf.now.case.now in
-    let w = set_weight q.setting.now.cases.now.scale q.potentials.now q.multipliers.now (lent_in q.setting.now.families.now) (g.C.Costs.at q.setting.now.costs.now) in
+    let w = set_weight q.context.now.cases.now.scale q.potentials.now q.multipliers.now (lent_in q.context.now.families.now) (g.C.Costs.at q.context.now.costs.now) in
     let change : ℤ = c.change-change.result in
     let change_fits : FitsSigned w64 c.change-change.result = search rules in
     let zero_fits : FitsSigned w64 (pos 0) = omega (arith, ints) in

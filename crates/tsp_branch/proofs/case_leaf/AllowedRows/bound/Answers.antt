@@ -1,4 +1,5 @@
--- The goals of `AllowedRows::bound` in src/case_leaf.rt, which bounds a case of an ATSP by least links: what it ensures.
+-- The goals of `AllowedRows::bound` in src/case_leaf.rt, which bounds a case of an ATSP by least links: what it
+-- ensures.
 use Rattle.std.proofs.Common.{ℤ, rules, FitsSigned, to_z, of_z, subst, sym}
 use Rattle.std.specs.Prelude.{◌+ℤ◌}
 use Rattle.std.specs.Int.{w128}

@@ -1,5 +1,5 @@
--- The goals of `AllowedRows::least_from` in src/case_leaf.rt, which finds the least allowed link from a node: what its calls
--- require and what it ensures.
+-- The goals of `AllowedRows::least_from` in src/case_leaf.rt, which finds the least allowed link from a node: what its
+-- calls require and what it ensures.
 use Rattle.std.proofs.Common.{◌≡◌, ◌+◌, ◌∙◌, Bool, length, inl, inr, arith, rules, FitsSigned, to_z, of_z, ap, sym, subst}
 use Rattle.std.specs.Int.{w64}
 use Rattle.std.specs.List.{filter}

@@ -1,5 +1,5 @@
--- The goals of `AllowedRows::sum_of_least` in src/case_leaf.rt, which sums the least links of all nodes of an ATSP: its loop
--- and what it ensures.
+-- The goals of `AllowedRows::sum_of_least` in src/case_leaf.rt, which sums the least links of all nodes of an ATSP: its
+-- loop and what it ensures.
 use Rattle.std.proofs.Common.{◌+◌, ◌≤◌, ◌∙◌, ℤ, arith, rules, FitsSigned, to_z}
 use Rattle.std.specs.Int.{w64, w128}
 use Rattle.std.proofs.lemmas.Int.{ints, to_z-of_z}

@@ -19,7 +19,7 @@ use Rattle.tsp_branch.proofs.case_leaf.CaseLeaf.are_exact.Goals as goal
 pub invariant_of-multipliers : goal.invariant_of-multipliers
 invariant_of-multipliers g c =
     let leaf = c.args.self.now in
-    let families = leaf.setting.now.families.now in
+    let families = leaf.context.now.families.now in
     record {
       as_many = leaf.numbers.each_comb ∙ families.as_many;
       small = small_multipliers _ families.crossed.items _ _ families.some leaf.numbers;
@@ -28,11 +28,11 @@ invariant_of-multipliers g c =
 pub are_few-requires : goal.are_few-requires
 are_few-requires g c = λ k d lt.
     let q = c.args.self.now in
-    let families : List (List (List ℕ)) = lent_in q.setting.now.families.now in
-    let node_in : IsNode (g.C.Costs.nodes q.setting.now.costs.now) c.nodes.node = (omega (arith, c.nodes.auto.node), omega (arith, c.nodes-test.true, c.count-node-end.ensures.value)) in
-    let places_are : c.deref.result.now ≡ places_with 0 families c.nodes.node = c.deref.ensures.value ∙ q.setting.now.table.said c.nodes.node c.index-self-node.result node_in.1 in
+    let families : List (List (List ℕ)) = lent_in q.context.now.families.now in
+    let node_in : IsNode (g.C.Costs.nodes q.context.now.costs.now) c.nodes.node = (omega (arith, c.nodes.auto.node), omega (arith, c.nodes-test.true, c.count-node-end.ensures.value)) in
+    let places_are : c.deref.result.now ≡ places_with 0 families c.nodes.node = c.deref.ensures.value ∙ q.context.now.table.said c.nodes.node c.index-self-node.result node_in.1 in
     let own = (subst (All (IsPlaceIn families)) (sym places_are) (places_inside families c.nodes.node)) k d lt in
-    omega (arith, own.0, (q.numbers.each_comb ∙ q.setting.now.families.now.as_many), q.setting.now.families.now.many, q.setting.now.families.now.as_many)
+    omega (arith, own.0, (q.numbers.each_comb ∙ q.context.now.families.now.as_many), q.context.now.families.now.many, q.context.now.families.now.as_many)
 
 -- plan: the multipliers at a node are few, so its potential less these fits 64 bits, and the wrapped number is the
 -- exact one
@@ -41,9 +41,9 @@ nodes-preserved g c = λ x low below. elim (cases_eq x c.nodes.node) [
   | inl same ↦
       let q = c.args.self.now in
       let node = c.nodes.node in
-      let families : List (List (List ℕ)) = lent_in q.setting.now.families.now in
-      let node_in : IsNode (g.C.Costs.nodes q.setting.now.costs.now) c.nodes.node = (omega (arith, c.nodes.auto.node), omega (arith, c.nodes-test.true, c.count-node-end.ensures.value)) in
-      let places_are : c.deref.result.now ≡ places_with 0 families node = c.deref.ensures.value ∙ q.setting.now.table.said node c.index-self-node.result node_in.1 in
+      let families : List (List (List ℕ)) = lent_in q.context.now.families.now in
+      let node_in : IsNode (g.C.Costs.nodes q.context.now.costs.now) c.nodes.node = (omega (arith, c.nodes.auto.node), omega (arith, c.nodes-test.true, c.count-node-end.ensures.value)) in
+      let places_are : c.deref.result.now ≡ places_with 0 families node = c.deref.ensures.value ∙ q.context.now.table.said node c.index-self-node.result node_in.1 in
       let taken : ℤ = multipliers_at q.multipliers.now families node in
       let few : IsFromTo (pos 0) (pos 3000000000000000000) taken =
       subst (λ (z : ℤ). IsFromTo (pos 0) (pos 3000000000000000000) z) (ap (sum_at_places q.multipliers.now) places_are ∙ number_is q.multipliers.now families node)

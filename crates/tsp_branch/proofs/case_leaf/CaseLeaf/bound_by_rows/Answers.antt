@@ -27,7 +27,7 @@ invariant_of-rows g c =
 
 pub invariant_of-sum : goal.invariant_of-sum
 invariant_of-sum g c =
-    let cases = c.args.self.now.setting.now.cases.now in
+    let cases = c.args.self.now.context.now.cases.now in
     let size = c.given_back.ensures.size in
     let fits : FitsSigned w128 c.given_back.result = search rules in
     record {
@@ -41,7 +41,7 @@ invariant_of-sum g c =
 pub returns-clause-bound : goal.returns-clause-bound
 returns-clause-bound g c =
     let leaf = c.args.self.now in
-    let p = leaf.setting.now in
+    let p = leaf.context.now in
     let n : ℕ = g.C.Costs.nodes p.costs.now in
     let cost = g.C.Costs.at p.costs.now in
     let families = p.families.now in

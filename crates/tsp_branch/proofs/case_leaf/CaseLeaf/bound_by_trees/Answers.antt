@@ -29,7 +29,7 @@ taken_back-taken-requires g c =
 
 pub invariant_of-sum : goal.invariant_of-sum
 invariant_of-sum g c =
-    let cases = c.args.self.now.setting.now.cases.now in
+    let cases = c.args.self.now.context.now.cases.now in
     let taken = c.taken_back-taken.ensures.size in
     let less = c.given_back.ensures.size in
     record {
@@ -43,7 +43,7 @@ invariant_of-sum g c =
 pub returns-clause-bound : goal.returns-clause-bound
 returns-clause-bound g c =
     let leaf = c.args.self.now in
-    let p = leaf.setting.now in
+    let p = leaf.context.now in
     let n : ℕ = g.C.Costs.nodes p.costs.now in
     let cost = g.C.Costs.at p.costs.now in
     let families = p.families.now in

@@ -22,7 +22,7 @@ places-preserved g c = λ k lt below.
     let fits : FitsSigned w64 c.weight_apart.result = search rules in
     let is : value ≡ c.weight_apart.result = to_z-of_z w64 c.weight_apart.result fits in
     let inside : node < length row = omega (arith, c.places.auto.row, c.requires.room, (c.requires.to c.places.place (omega (arith, c.places-test.true))).1) in
-    let Holds : ℕ → ℤ → Type 0 = IsApart p.setting.now.cases.now.scale p.potentials.now p.multipliers.now (lent_in p.setting.now.families.now) (g.C.Costs.at p.setting.now.costs.now) c.args.from in
+    let Holds : ℕ → ℤ → Type 0 = IsApart p.context.now.cases.now.scale p.potentials.now p.multipliers.now (lent_in p.context.now.families.now) (g.C.Costs.at p.context.now.costs.now) c.args.from in
     elim (cases_eq (slice_index to k) node) [
       | inl same ↦
           let here : least_at (set row node value) node ≡ c.weight_apart.result = get_or-set_same row node value (pos 0) inside ∙ is in

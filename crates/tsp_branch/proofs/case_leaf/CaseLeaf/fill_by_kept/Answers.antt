@@ -25,35 +25,35 @@ use Rattle.tsp_branch.proofs.case_leaf.CaseLeaf.fill_by_kept.Goals as goal
 pub returns : goal.returns
 returns g c =
     let q = c.args.self.now in
-    let directed = q.setting.now.cases.now.directed in
-    let n : ℕ = g.C.Costs.nodes q.setting.now.costs.now in
-    let cost = g.C.Costs.at q.setting.now.costs.now in
+    let directed = q.context.now.cases.now.directed in
+    let n : ℕ = g.C.Costs.nodes q.context.now.costs.now in
+    let cost = g.C.Costs.at q.context.now.costs.now in
     let from : ℕ = c.args.from in
-    let families : List (List (List ℕ)) = lent_in q.setting.now.families.now in
+    let families : List (List (List ℕ)) = lent_in q.context.now.families.now in
     let ps : List ℤ = q.potentials.now in
     let ms : List ℤ = q.multipliers.now in
     let case : List Decision = decisions_in q.case.now in
-    let w : ℕ → ℕ → ℤ = set_weight q.setting.now.cases.now.scale ps ms families cost in
+    let w : ℕ → ℕ → ℤ = set_weight q.context.now.cases.now.scale ps ms families cost in
     let slot : Vec ℤ = c.index-self-from.result in
     let row : List ℤ = c.fill_shifted.new.row in
     let rows = q.are_kept c.requires.kept in
     let place : (from - 1) + 1 ≡ from = omega (arith, c.requires.from) in
-    let own : IsKeptRow n (cost from) (kept_weight q.setting.now.cases.now.scale families cost (marks_in directed case) ms from) (get_or q.kept.now (from - 1) slot).items =
-    subst (λ (i : ℕ). IsKeptRow n (cost i) (kept_weight q.setting.now.cases.now.scale families cost (marks_in directed case) ms i) (get_or q.kept.now (from - 1) slot).items) place
+    let own : IsKeptRow n (cost from) (kept_weight q.context.now.cases.now.scale families cost (marks_in directed case) ms from) (get_or q.kept.now (from - 1) slot).items =
+    subst (λ (i : ℕ). IsKeptRow n (cost i) (kept_weight q.context.now.cases.now.scale families cost (marks_in directed case) ms i) (get_or q.kept.now (from - 1) slot).items) place
     (rows.each (from - 1) slot (omega (arith, c.requires.from))) in
-    let kept : IsKeptRow n (cost from) (kept_weight q.setting.now.cases.now.scale families cost (marks_in directed case) ms from) c.deref.result.now =
-    subst (IsKeptRow n (cost from) (kept_weight q.setting.now.cases.now.scale families cost (marks_in directed case) ms from)) (sym c.deref.ensures.value) own in
+    let kept : IsKeptRow n (cost from) (kept_weight q.context.now.cases.now.scale families cost (marks_in directed case) ms from) c.deref.result.now =
+    subst (IsKeptRow n (cost from) (kept_weight q.context.now.cases.now.scale families cost (marks_in directed case) ms from)) (sym c.deref.ensures.value) own in
     let m : ℤ = c.weight_in-own.result in
     let m_in : FitsSigned w64 m = search rules in
     let m_is = ap (int_wrap w64) (to_z-of_z w64 m m_in ∙ c.weight_in-own.ensures) ∙ q.are_moved from c.requires.from in
     let both : (x : ℕ) → IsNode n x → (least_at row x ≡ decided_by directed case w from x) × IsFromTo (neg_ℤ (pos most_decided)) (pos most_decided) (least_at row x) = λ x x_in.
     let small = kept.costs x x_in in
-    let size = between_size (q.setting.now.cases.now.scale *ℤ cost from x) (entry ps from) (entry ps x) (scaled_size q.setting.now.cases.now.scale _ q.setting.now.cases.now.scaled small.0 small.1)
+    let size = between_size (q.context.now.cases.now.scale *ℤ cost from x) (entry ps from) (entry ps x) (scaled_size q.context.now.cases.now.scale _ q.context.now.cases.now.scaled small.0 small.1)
     (q.numbers.potentials_are (from - 1) (pos 0) (omega (arith, c.requires.from, q.numbers.each_node))) (q.numbers.potentials_are (x - 1) (pos 0) (omega (arith, x_in, q.numbers.each_node))) in
     let value_is = c.fill_shifted.ensures x (omega (arith, x_in, c.requires.room)) in
-    let is = marked_at q.setting.now.cases.now.scale ps ms families cost (marks_in directed case) from x
+    let is = marked_at q.context.now.cases.now.scale ps ms families cost (marks_in directed case) from x
     (to_z w64 (of_z w64 m)) (least_at q.moved.now x) (least_at c.deref.result.now x) (least_at row x)
-    q.setting.now.families.now.once (q.crossed from x c.requires.from x_in) size m_is (q.are_moved x x_in) (kept.weights x x_in) value_is in
+    q.context.now.families.now.once (q.crossed from x c.requires.from x_in) size m_is (q.are_moved x x_in) (kept.weights x x_in) value_is in
     marked_is case w from x directed (least_at row x) q.once is.0 is.1 in
     record {
       values = λ x h. (both x h).0;

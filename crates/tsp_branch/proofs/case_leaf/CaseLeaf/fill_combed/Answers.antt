@@ -16,16 +16,16 @@ pub invariant_of-multiplied : goal.invariant_of-multiplied
 invariant_of-multiplied g c =
     let leaf = c.args.self.now in
     record {
-      as_many = leaf.numbers.each_comb ∙ leaf.setting.now.families.now.as_many;
-      small = λ k default lt. let own = small_multipliers _ leaf.setting.now.families.now.crossed.items _ _ leaf.setting.now.families.now.some leaf.numbers k default lt in
+      as_many = leaf.numbers.each_comb ∙ leaf.context.now.families.now.as_many;
+      small = λ k default lt. let own = small_multipliers _ leaf.context.now.families.now.crossed.items _ _ leaf.context.now.families.now.some leaf.numbers k default lt in
           (omega (arith, ints, own.0), own.1);
     }
 
 pub add_sets-requires-clause-places : goal.add_sets-requires-clause-places
 add_sets-requires-clause-places g c =
     let p = c.args.self.now in
-    let families : List (List (List ℕ)) = lent_in p.setting.now.families.now in
-    let places_are : c.deref.result.now ≡ places_with 0 families c.args.from = c.deref.ensures.value ∙ p.setting.now.table.said c.args.from c.index-self-from.result c.requires.from.1 in
+    let families : List (List (List ℕ)) = lent_in p.context.now.families.now in
+    let places_are : c.deref.result.now ≡ places_with 0 families c.args.from = c.deref.ensures.value ∙ p.context.now.table.said c.args.from c.index-self-from.result c.requires.from.1 in
     subst (All (IsPlaceIn families)) (sym places_are) (places_inside families c.args.from)
 
 -- plan: the row without sets of two nodes, moved by the multipliers of the sets that have both, is the row by sets
@@ -34,17 +34,17 @@ pub returns : goal.returns
 returns g c =
     let p = c.args.self.now in
     let from : ℕ = c.args.from in
-    let families : List (List (List ℕ)) = lent_in p.setting.now.families.now in
+    let families : List (List (List ℕ)) = lent_in p.context.now.families.now in
     let multipliers : List ℤ = p.multipliers.now in
-    let cost = g.C.Costs.at p.setting.now.costs.now in
+    let cost = g.C.Costs.at p.context.now.costs.now in
     let old : List ℤ = c.fill_apart.new.row in
     let row : List ℤ = c.add_sets.new.row in
-    let places_are : c.deref.result.now ≡ places_with 0 families from = c.deref.ensures.value ∙ p.setting.now.table.said from c.index-self-from.result c.requires.from.1 in
+    let places_are : c.deref.result.now ≡ places_with 0 families from = c.deref.ensures.value ∙ p.context.now.table.said from c.index-self-from.result c.requires.from.1 in
     let gained : (x : ℕ) → IsMoved (inside_both multipliers families (places_with 0 families from) x) (least_at old x) (least_at row x) = λ x.
     subst (λ (ps : List SetPlace). IsMoved (inside_both multipliers families ps x) (least_at old x) (least_at row x)) places_are (c.add_sets.ensures x) in
-    let both : (x : ℕ) → IsNode (g.C.Costs.nodes p.setting.now.costs.now) x
-    → (least_at row x ≡ set_weight p.setting.now.cases.now.scale p.potentials.now multipliers families cost from x) × IsFromTo (neg_ℤ (pos most_combed)) (pos most_combed) (least_at row x) = λ x h.
-    combed_at p.setting.now.cases.now.scale p.potentials.now multipliers families cost from x (least_at old x) (least_at row x) p.setting.now.families.now.once (p.crossed from x c.requires.from h)
+    let both : (x : ℕ) → IsNode (g.C.Costs.nodes p.context.now.costs.now) x
+    → (least_at row x ≡ set_weight p.context.now.cases.now.scale p.potentials.now multipliers families cost from x) × IsFromTo (neg_ℤ (pos most_combed)) (pos most_combed) (least_at row x) = λ x h.
+    combed_at p.context.now.cases.now.scale p.potentials.now multipliers families cost from x (least_at old x) (least_at row x) p.context.now.families.now.once (p.crossed from x c.requires.from h)
     (c.fill_apart.ensures.values x h, c.fill_apart.ensures.sizes x h) (gained x) in
     record {
       values = λ x h. (both x h).0;

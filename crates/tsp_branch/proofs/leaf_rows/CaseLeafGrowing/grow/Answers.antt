@@ -13,7 +13,7 @@ use Rattle.tsp_branch.proofs.leaf_rows.CaseLeafGrowing.grow.Goals as goal
 pub returns-clause-whole : goal.returns-clause-whole
 returns-clause-whole g c =
     let leaf = c.args.self.now in
-    let s = leaf.setting.now in
+    let s = leaf.context.now in
     let n : ℕ = g.C.Costs.nodes s.costs.now in
     let w : ℕ → ℕ → ℤ = decided_by s.cases.now.directed (decisions_in leaf.case.now)
     (set_weight s.cases.now.scale leaf.potentials.now leaf.multipliers.now (lent_in s.families.now) (g.C.Costs.at s.costs.now)) in

@@ -13,7 +13,7 @@ use Rattle.tsp_branch.proofs.leaf_rows.CaseLeafWeights.fill.Goals as goal
 pub change_row-requires : goal.change_row-requires
 change_row-requires g c =
     let p = c.args.self.now in
-    let n : ℕ = g.C.Costs.nodes p.setting.now.costs.now in
+    let n : ℕ = g.C.Costs.nodes p.context.now.costs.now in
     both_inside n _ (bears_on p.case.now.by_node.directed c.args.from) (decisions_in p.case.now) c.at.result.now (c.fill_combed.auto.row ∙ c.requires.room)
     (c.at.ensures n p.is_case c.requires.from.1) p.is_case.pairs
 
@@ -29,10 +29,10 @@ returns-then-not-self-clause-values g c = λ x h.
     let q = c.args.self.now in
     let from : ℕ = c.args.from in
     let case : List Decision = decisions_in q.case.now in
-    let w : ℕ → ℕ → ℤ = set_weight q.setting.now.cases.now.scale q.potentials.now q.multipliers.now (lent_in q.setting.now.families.now) (g.C.Costs.at q.setting.now.costs.now) in
+    let w : ℕ → ℕ → ℤ = set_weight q.context.now.cases.now.scale q.potentials.now q.multipliers.now (lent_in q.context.now.families.now) (g.C.Costs.at q.context.now.costs.now) in
     let own_is = subst (λ (d : Bool). stack_of c.at.result.now ≡ filter (bears_on d from) case) (q.direction ∙ c.if-not-self.true)
-    (c.at.ensures (g.C.Costs.nodes q.setting.now.costs.now) q.is_case c.requires.from.1) in
-    (changed_is case w from x q.setting.now.cases.now.directed c.at.result.now (least_at c.fill_combed.new.row x) (least_at c.change_row.new.row x)
+    (c.at.ensures (g.C.Costs.nodes q.context.now.costs.now) q.is_case c.requires.from.1) in
+    (changed_is case w from x q.context.now.cases.now.directed c.at.result.now (least_at c.fill_combed.new.row x) (least_at c.change_row.new.row x)
     c.if-not-self.true q.once own_is (c.fill_combed.ensures.values x h) (c.fill_combed.ensures.sizes x h) (c.change_row.ensures x)).0
 
 pub returns-then-not-self-clause-small : goal.returns-then-not-self-clause-small
@@ -40,8 +40,8 @@ returns-then-not-self-clause-small g c = λ x h.
     let q = c.args.self.now in
     let from : ℕ = c.args.from in
     let case : List Decision = decisions_in q.case.now in
-    let w : ℕ → ℕ → ℤ = set_weight q.setting.now.cases.now.scale q.potentials.now q.multipliers.now (lent_in q.setting.now.families.now) (g.C.Costs.at q.setting.now.costs.now) in
+    let w : ℕ → ℕ → ℤ = set_weight q.context.now.cases.now.scale q.potentials.now q.multipliers.now (lent_in q.context.now.families.now) (g.C.Costs.at q.context.now.costs.now) in
     let own_is = subst (λ (d : Bool). stack_of c.at.result.now ≡ filter (bears_on d from) case) (q.direction ∙ c.if-not-self.true)
-    (c.at.ensures (g.C.Costs.nodes q.setting.now.costs.now) q.is_case c.requires.from.1) in
-    (changed_is case w from x q.setting.now.cases.now.directed c.at.result.now (least_at c.fill_combed.new.row x) (least_at c.change_row.new.row x)
+    (c.at.ensures (g.C.Costs.nodes q.context.now.costs.now) q.is_case c.requires.from.1) in
+    (changed_is case w from x q.context.now.cases.now.directed c.at.result.now (least_at c.fill_combed.new.row x) (least_at c.change_row.new.row x)
     c.if-not-self.true q.once own_is (c.fill_combed.ensures.values x h) (c.fill_combed.ensures.sizes x h) (c.change_row.ensures x)).1

@@ -7,7 +7,7 @@ use Rattle.tsp_branch.proofs.verdict.CycleJudgeLeafJudge.enter.Goals as goal
 -- plan: the numbers of the leaf don't change, and the kept rows get the mark of the new decision, as the call ensures
 pub returns : goal.returns
 returns g c = λ case is.
-    let s = c.args.self.now.setting.now in (
+    let s = c.args.self.now.context.now in (
       record {
         potentials = is.0.potentials;
         multipliers = is.0.multipliers;

@@ -7,7 +7,7 @@ use Rattle.tsp_branch.proofs.verdict.CycleJudgeLeafJudge.leave.Goals as goal
 -- plan: the numbers of the leaf don't change, and the kept rows get the marks of the next case, as the call ensures
 pub returns : goal.returns
 returns g c = λ given is_open next is pairs turned.
-    let s = c.args.self.now.setting.now in (
+    let s = c.args.self.now.context.now in (
       record {
         potentials = is.0.potentials;
         multipliers = is.0.multipliers;

@@ -1,5 +1,5 @@
--- The proof of `Loose::into_parts` in src/handle.rt, from a handle to the parts of a box: two fields are moved, with the
--- memory that they own.
+-- The proof of `Loose::into_parts` in src/handle.rt, from a handle to the parts of a box: two fields are moved, with
+-- the memory that they own.
 use mathlib.Core.Path.{refl, sym, subst}
 use mathlib.Core.List.{List, [], ◌∷◌, ◌++◌}
 use Rattle.std.specs.Prelude.{◌≡◌, ℤ, Option, Some}

@@ -12,7 +12,7 @@ use Rattle.tsp_cases.proofs.kept.KeptRows.new.Goals as goal
 -- marked
 pub mark_given-requires : goal.mark_given-requires
 mark_given-requires g c =
-    let s = c.args.setting.now in
+    let s = c.args.context.now in
     let n = g.C.Costs.nodes s.costs.now in
     let cost = g.C.Costs.at s.costs.now in (
       n,
@@ -28,7 +28,7 @@ mark_given-requires g c =
 
 pub returns : goal.returns
 returns g c =
-    let s = c.args.setting.now in
+    let s = c.args.context.now in
     let n = g.C.Costs.nodes s.costs.now in
     let cost = g.C.Costs.at s.costs.now in
     let families = lent_in s.families.now in

@@ -1,5 +1,5 @@
--- The goals of `write_line_end` in src/writer/sections.rt, which writes the third coordinate, if any, and the end of the
--- line: what it ensures.
+-- The goals of `write_line_end` in src/writer/sections.rt, which writes the third coordinate, if any, and the end of
+-- the line: what it ensures.
 use Rattle.std.proofs.Common.{◌≡◌, ◌∷◌, ◌++◌, ℕ, List, length, drop, set, ap, sym, ◌∙◌, append-nil, arith, rules}
 use Rattle.std.proofs.lemmas.List.{drop-set, drop_all}
 use Rattle.tsp_number.specs.NumberWord.{spelling}

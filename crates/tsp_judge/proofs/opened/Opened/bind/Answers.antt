@@ -13,7 +13,7 @@ use Rattle.tsp_judge.proofs.opened.Opened.bind.Goals as goal
 pub invariant_of-self : goal.invariant_of-self
 invariant_of-self c =
     let bounded : IsTrue (is_bounded c.args.by c.self.inside.instance.kind) = search rules in
-    (c.self.invariant.0, (bounded, c.basis_of-self-inside.ensures c.args.by c.in_ok-file.file c.in-Ok.ensures))
+    (c.self.invariant.0, (bounded, c.known_bound_of-self-inside.ensures c.args.by c.in_ok-file.file c.in-Ok.ensures))
 
 pub returns-in_err-file : goal.returns-in_err-file
 returns-in_err-file c =

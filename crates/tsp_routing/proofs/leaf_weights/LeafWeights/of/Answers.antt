@@ -19,7 +19,7 @@ use Rattle.tsp_routing.proofs.leaf_weights.LeafWeights.of.Goals as goal
 pub invariant_of-result : goal.invariant_of-result
 invariant_of-result g c =
     let leaf = c.args.leaf.now in
-    let s = leaf.setting.now in
+    let s = leaf.context.now in
     let lists : List (List (List ℕ)) = lent_in s.families.now in
     let ms : List ℤ = leaf.multipliers.now in
     let nodes = s.same in

@@ -6,7 +6,7 @@ use Rattle.std.specs.Int.{w64}
 use Rattle.std.specs.List.{All}
 use Rattle.std.proofs.lemmas.List.Elements.{All-tail}
 use Rattle.tsp_format.specs.Nodes.{IsNode}
-use Rattle.tsp_theory.proofs.Sums.{sum_fits, sum_more, length_more}
+use Rattle.tsp_theory.proofs.Sums.{sum_fits, lengths_sum_more, length_more}
 use Rattle.tsp_theory.proofs.costs.Costs.length.Goals as goal
 
 pub cost-length-requires-clause-to : goal.cost-length-requires-clause-to
@@ -32,7 +32,7 @@ nodes-preserved g c =
     record {
       from = All-tail IsIn first others (subst (λ (xs : List ℕ). All IsIn xs) c.in-Some.ensures.cases.0 c.requires.range) index 0
           c.nodes-test.true;
-      size = rw sum (sum_more so_far c.cost-length.result index c.nodes.invariant.size cost.low cost.high);
+      size = rw sum (lengths_sum_more so_far c.cost-length.result index c.nodes.invariant.size cost.low cost.high);
       so_far = rw (sum, cost.value, add-one index)
           (length_more (g.Self.Costs.at c.args.self.now) so_far _ first c.nodes.from next _ _
           (drop-cons others index 0 c.nodes-test.true) c.nodes.invariant.so_far);

@@ -1,0 +1,57 @@
+-- The goals of `run_uncertified` in src/api.rt, which checks a solution without a certificate: what it ensures.
+use Rattle.std.proofs.Common.{◌≡◌, None, Err, [], refl}
+use Rattle.std.proofs.KnownBytes.{Keeps-refl}
+use Rattle.tsp_io.specs.states.Watched.{read_trace_of}
+use Rattle.tsp_read.proofs.PieceSteps.{read_none}
+use Rattle.tsp_read.proofs.BegunSteps.{propagated}
+use Rattle.tsp_judge.proofs.Yeses.{none_taken, first_stops, second_stops, fault_of_run}
+use Rattle.tsp_judge.proofs.api.run_uncertified.Goals as goal
+
+-- plan: by the first file that is none (`first_stops`, `second_stops`); else both are files
+pub returns-in_err-instance-clause-answer : goal.returns-in_err-instance-clause-answer
+returns-in_err-instance-clause-answer g c =
+    let same : c.from_residual.result ≡ Err c.in_err-instance.field-0.0 = propagated _ _ c.from_residual.ensures.1 in
+    let one = c.in_err-instance.ensures.answer in
+    rw same (
+      one.0,
+      one.1,
+      (
+        [],
+        none_taken,
+        fault_of_run c.args.strict None _ _ _ _ _
+            (first_stops c.args.strict None _ (read_trace_of g.I.Read.remaining c.args.inst.now c.read_file.new.reader one.0) _ _ _ one.2 (Keeps-refl _, refl)
+            tt (Keeps-refl _, refl)),
+      ),
+    )
+
+pub returns-in_err-solution-clause-answer : goal.returns-in_err-solution-clause-answer
+returns-in_err-solution-clause-answer g c =
+    let same : c.from_residual-in_err-solution.result ≡ Err c.in_err-solution.field-0.0 = propagated _ _ c.from_residual-in_err-solution.ensures.1 in
+    let one = c.in_ok-instance.ensures.answer in
+    let two = c.in_err-solution.ensures.answer in
+    rw same (
+      one.0,
+      one.1,
+      (
+        two.0,
+        two.1,
+        fault_of_run c.args.strict None _ _ _ _ _
+            (second_stops c.args.strict None _ _ (read_trace_of g.S.Read.remaining c.args.sol.now c.read_file-2.new.reader two.0) c.in_ok-instance.instance _ _ one.2 two.2
+            tt (Keeps-refl _, refl)),
+      ),
+    )
+
+pub returns-clause-answer : goal.returns-clause-answer
+returns-clause-answer g c =
+    let one = c.in_ok-instance.ensures.answer in
+    let two = c.in_ok-solution.ensures.answer in
+    (one.0, one.1, (two.0, two.1, c.judge_read.ensures None _ _ one.2 two.2 tt))
+
+pub returns-in_err-instance-clause-asked : goal.returns-in_err-instance-clause-asked
+returns-in_err-instance-clause-asked g c = (c.in_err-instance.ensures.asked, read_none g.S.Gives.gives c.args.sol.now)
+
+pub returns-in_err-solution-clause-asked : goal.returns-in_err-solution-clause-asked
+returns-in_err-solution-clause-asked g c = (c.in_ok-instance.ensures.asked, c.in_err-solution.ensures.asked)
+
+pub returns-clause-asked : goal.returns-clause-asked
+returns-clause-asked g c = (c.in_ok-instance.ensures.asked, c.in_ok-solution.ensures.asked)

@@ -1,0 +1,231 @@
+//! Public calls that check, show or convert, as example_check does. Each is a case of the run of a
+//! verb, such as `run` in `src/check.rt`, and returns its fault without the token of a refusal.
+
+ghost use Rattle.std.specs.Prelude.{◌≡◌, None, length};
+ghost use Rattle.tsp_io.specs.Streams.{TakesAtMost};
+ghost use Rattle.tsp_io.specs.states.Watched.{sink_of, read_trace_of};
+ghost use Rattle.tsp_read.specs.Reads.{IsReadOn, most_taken};
+ghost use Rattle.tsp_report.specs.declared.task.CertificateKind.TheVariants as certificates;
+ghost use Rattle.tsp_judge.specs.CheckRun.{acceptance};
+ghost use Rattle.tsp_judge.specs.CompareRun.{IsCompareRun, IsFollowed};
+ghost use Rattle.tsp_judge.specs.ConvertRun.{IsConvertRun, IsShowRun, IsCheck, IsCheckBy, IsRunOf};
+
+use crate::bound_run::{convert_file, show_file};
+use crate::check::{Judged, judge_read, read_file, run};
+use crate::compared::{Compared, Follow, Solutions, compare_read};
+use crate::run_status::{RunError, RunFault};
+use std::alloc::Global;
+use std::io::Write;
+use tsp_format::Layout;
+use tsp_io::{Gives, Watched};
+use tsp_verdict::CertificateKind;
+
+/// Judges a solution of an instance, and writes the report.
+///
+/// The result is `true` where the solution is a tour of the instance, or for TYPE CVRP a plan of
+/// routes, and `false` where the report has the line `no` with its first reason; the whole report
+/// was written then. Each file is read whole before the next, and the first file that is none
+/// decides. Nothing is written before the verdict exists.
+///
+/// # Errors
+///
+/// `File` where a file is none, or can't be read; `WrongKind` where both are files and the first is
+/// of TYPE TOUR, POTENTIALS or BRANCHES; `OutOfMemory` where the judgement runs out of memory, and
+/// then no reason up to `NodeOutOfRange`, in the order of its TYPE, applies to the second; `Write`
+/// where the writer fails. Of each file at most 4,096 bytes past `MOST_FILE_BYTES` are read.
+pub fn run_check<I: Gives, S: Gives, W: Write>(
+    alloc: Global,
+    inst: &mut Watched<I>,
+    sol: &mut Watched<S>,
+    out: &mut Watched<W>,
+) -> Result<bool, RunFault>
+    ensures answer { TakesAtMost most_taken (read_trace_of I.remaining inst.old inst.new) (λ first.
+        TakesAtMost most_taken (read_trace_of S.remaining sol.old sol.new) (λ second.
+        IsCheck first second (sink_of W.contents out.old out.new) result)) }
+    ensures asked { IsReadOn I.gives inst.old inst.new × IsReadOn S.gives sol.old sol.new }
+{
+    acceptance(run_uncertified(alloc, inst, sol, None, false, out))
+}
+
+/// Judges a tour of an instance of TYPE TSP or ATSP with a certificate of a bound, and writes the
+/// report.
+///
+/// The result is `true` where the second file's one tour visits every node once and uses every
+/// fixed edge and the third file's potentials give a bound, and `false` where the report has the
+/// line `no` with its first reason; the whole report was written then. At `Ok(true)` no tour of the
+/// instance is shorter than the printed bound, so that a tour whose length equals it, which the
+/// report calls optimal, is a shortest one. Under TYPE TSP the bound is that of a least 1-tree
+/// under potentials of nodes (Held and Karp, 1970), under TYPE ATSP that of duals of the assignment
+/// problem.
+///
+/// Each file is read whole before the next, and the first file that is none decides. Nothing is
+/// written before the verdict exists.
+///
+/// # Errors
+///
+/// `File` where a file is none, or can't be read; `WrongKind` where all three are files and the
+/// first is of TYPE CVRP, TOUR, POTENTIALS or BRANCHES; `OutOfMemory` where the judgement runs out
+/// of memory, and then no reason up to `NodeOutOfRange` applies to the tour; `Write` where the
+/// writer fails. Of each file at most 4,096 bytes past `MOST_FILE_BYTES` are read.
+pub fn run_bound_check<I: Gives, S: Gives, P: Gives, W: Write>(
+    alloc: Global,
+    inst: &mut Watched<I>,
+    sol: &mut Watched<S>,
+    pot: &mut Watched<P>,
+    out: &mut Watched<W>,
+) -> Result<bool, RunFault>
+    ensures answer { TakesAtMost most_taken (read_trace_of I.remaining inst.old inst.new) (λ first.
+        TakesAtMost most_taken (read_trace_of S.remaining sol.old sol.new) (λ second.
+        TakesAtMost most_taken (read_trace_of P.remaining pot.old pot.new) (λ third.
+        IsCheckBy certificates.Potentials first second third (sink_of W.contents out.old out.new) result))) }
+    ensures asked { IsReadOn I.gives inst.old inst.new × IsReadOn S.gives sol.old sol.new
+        × IsReadOn P.gives pot.old pot.new }
+{
+    let by = Some(CertificateKind::Potentials);
+    acceptance(run(alloc, inst, sol, by, pot, None, false, out))
+}
+
+/// Judges a tour of an instance of TYPE TSP or ATSP with a tree of cases, and writes the report.
+///
+/// The result is `true` where the second file's one tour visits every node once and uses every
+/// fixed edge and the third file's leaves give a bound, and `false` where the report has the line
+/// `no` with its first reason; the whole report was written then. At `Ok(true)` no tour of the
+/// instance is shorter than the printed bound, so that a tour whose length equals it, which the
+/// report calls optimal, is a shortest one. The bound is the least of those of the leaves, each for
+/// tours in which the pairs decided above it are neighbours, or aren't: for a TSP that of a least
+/// 1-tree, for an ATSP that of the least arc from each node, under the leaf's potentials and
+/// families of sets, such as combs (Grötschel and Padberg, 1979).
+///
+/// Each file is read whole before the next, and the first file that is none decides. Nothing is
+/// written before the verdict exists.
+///
+/// # Errors
+///
+/// `File` where a file is none, or can't be read; `WrongKind` where all three are files and the
+/// first isn't of TYPE TSP or ATSP; `OutOfMemory` where the judgement runs out of memory, and then
+/// no reason up to `NodeOutOfRange` applies to the tour; `Write` where the writer fails. Of each
+/// file at most 4,096 bytes past `MOST_FILE_BYTES` are read.
+pub fn run_branch_check<I: Gives, S: Gives, B: Gives, W: Write>(
+    alloc: Global,
+    inst: &mut Watched<I>,
+    sol: &mut Watched<S>,
+    tree: &mut Watched<B>,
+    out: &mut Watched<W>,
+) -> Result<bool, RunFault>
+    ensures answer { TakesAtMost most_taken (read_trace_of I.remaining inst.old inst.new) (λ first.
+        TakesAtMost most_taken (read_trace_of S.remaining sol.old sol.new) (λ second.
+        TakesAtMost most_taken (read_trace_of B.remaining tree.old tree.new) (λ third.
+        IsCheckBy certificates.Branches first second third (sink_of W.contents out.old out.new) result))) }
+    ensures asked { IsReadOn I.gives inst.old inst.new × IsReadOn S.gives sol.old sol.new
+        × IsReadOn B.gives tree.old tree.new }
+{
+    let by = Some(CertificateKind::Branches);
+    acceptance(run(alloc, inst, sol, by, tree, None, false, out))
+}
+
+/// Writes what a file is: its name, its TYPE and number of nodes, of an instance the weight type,
+/// the length of the list 1, 2, .., n and the number of fixed pairs, of tours how many nodes each
+/// has, of potentials their scale, of a tree of cases its scale and how many combs and leaves it
+/// has, and the unknown keywords.
+///
+/// The file is read whole before anything is written, and writing takes no memory.
+///
+/// # Errors
+///
+/// `File` where the bytes are no file, or can't be read; `Write` where the writer fails. Nothing
+/// is written but at `Write`. At most 4,096 bytes past `MOST_FILE_BYTES` are read.
+pub fn run_show<R: Gives, W: Write>(
+    alloc: Global,
+    r: &mut Watched<R>,
+    out: &mut Watched<W>,
+) -> Result<(), RunFault>
+    ensures answer { TakesAtMost most_taken (read_trace_of R.remaining r.old r.new) (λ read_trace.
+        IsShowRun read_trace (sink_of W.contents out.old out.new) result) }
+    ensures asked { IsReadOn R.gives r.old r.new }
+{
+    Ok(show_file(alloc, r, out)?)
+}
+
+/// Writes the canonical text of a file, with its weights in the layout `to` where one is given.
+///
+/// The file is read whole, and the weights are in their layout, before anything is written. The
+/// text isn't held in memory as a whole.
+///
+/// # Errors
+///
+/// `File` where the bytes are no file, or can't be read; `Relayout` where the weights can't
+/// go into the layout, or there is no memory for that; `Write` where the writer fails.
+/// `OutOfMemory` is never returned. Nothing is written but at `Write`. At most 4,096 bytes past
+/// `MOST_FILE_BYTES` are read.
+pub fn run_convert<R: Gives, W: Write>(
+    alloc: Global,
+    r: &mut Watched<R>,
+    to: Option<Layout>,
+    out: &mut Watched<W>,
+) -> Result<(), RunFault>
+    ensures answer { TakesAtMost most_taken (read_trace_of R.remaining r.old r.new) (λ read_trace.
+        IsConvertRun to read_trace (sink_of W.contents out.old out.new) result) }
+    ensures asked { IsReadOn R.gives r.old r.new }
+{
+    Ok(convert_file(alloc, r, to, out)?)
+}
+
+/// Whether the solution is accepted, where there is a verdict.
+fn acceptance(ended: Result<Judged, RunError>) -> Result<bool, RunFault>
+    ensures { result ≡ acceptance ended }
+{
+    let judged = ended?;
+    let answer = judged.verdict.is_yes();
+    drop(judged);
+    Ok(answer)
+}
+
+// ---- the runs of `tsp check` and `tsp compare` that have no reader for a certificate
+
+/// Judges a solution of an instance, writes the report, and returns the verdict, with the files
+/// that were read: `run` without a certificate.
+///
+/// # Errors
+///
+/// Those of `run`.
+pub fn run_uncertified<I: Gives, S: Gives, W: Write>(
+    alloc: Global,
+    inst: &mut Watched<I>,
+    sol: &mut Watched<S>,
+    claimed: Option<i64>,
+    strict: bool,
+    out: &mut Watched<W>,
+) -> Result<Judged, RunError>
+    ensures answer { TakesAtMost most_taken (read_trace_of I.remaining inst.old inst.new) (λ first.
+        TakesAtMost most_taken (read_trace_of S.remaining sol.old sol.new) (λ second.
+        IsRunOf None claimed strict first second (sink_of W.contents out.old out.new) result)) }
+    ensures asked { IsReadOn I.gives inst.old inst.new × IsReadOn S.gives sol.old sol.new }
+{
+    let instance = read_file(alloc, 1, inst)?;
+    let solution = read_file(alloc, 2, sol)?;
+    judge_read(alloc, instance, solution, None, claimed, strict, out)
+}
+
+/// Judges solutions of an instance, writes a line for each, and returns the largest of their
+/// statuses: `run_compare` without a certificate.
+///
+/// # Errors
+///
+/// Those of `run_compare`.
+pub fn run_compare_uncertified<I: Gives, R: Gives + Drop, E, S: Solutions<R> + Follow<E>, W: Write>(
+    alloc: Global,
+    inst: &mut Watched<I>,
+    solutions: &S,
+    strict: bool,
+    out: &mut Watched<W>,
+    to: &mut E,
+) -> Result<Compared, RunError>
+    ensures text { TakesAtMost most_taken (read_trace_of I.remaining inst.old inst.new) (λ first.
+        IsCompareRun strict R.remaining R.gives (S.opens solutions.now) (S.names solutions.now) None first
+        (sink_of W.contents out.old out.new) result) }
+    ensures asked { IsReadOn I.gives inst.old inst.new }
+    ensures reported { IsFollowed (S.tells solutions.now) (length (S.names solutions.now)) to.old to.new result }
+{
+    let instance = read_file(alloc, 1, inst)?;
+    compare_read(alloc, instance, None, solutions, strict, out, to)
+}

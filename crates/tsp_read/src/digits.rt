@@ -1,0 +1,561 @@
+//! A run of numbers: the words of a matrix, of tours, of points or of numbers by node, each looked
+//! at once.
+//!
+//! Most words there are plain numbers, and most of a matrix have a few digits. Such a word is read
+//! here where its end is found, so that it is not searched for first. Every other word, and every
+//! other part of a text but the ends of these lines, is left to `Intake::take_next`.
+//!
+//! Which list takes the words is found out once for a run. The loop over them is one for all lists,
+//! and has its counts in one place.
+
+ghost use Rattle.std.specs.Option.{option_map};
+ghost use Rattle.std.specs.Prelude.{◌≡◌, ◌+◌, ◌<◌, ◌≤◌, ℕ, Bool, true, List, length, Some, IfSome, Ok, ◌-◌, pos, slice_index_or, false};
+ghost use Rattle.tsp_number.specs.NumberWord.{decimal_of};
+ghost use Rattle.tsp_format.specs.Limits.{most_file_bytes};
+ghost use Rattle.tsp_text.specs.Items.{NumberWord};
+ghost use Rattle.tsp_text.specs.SectionWords.{IsWhole};
+ghost use Rattle.tsp_read.specs.declared.section_builder.SectionBuilder.{SectionBuilder};
+ghost use Rattle.tsp_read.specs.declared.section_builder.SectionBuilder.TheVariants as parts;
+ghost use Rattle.tsp_read.specs.states.Onward.{GivesNext};
+ghost use Rattle.tsp_read.specs.states.HeldParts.{TakesRead, in_group, groups_left, marks_of, KeepsWords};
+ghost use Rattle.tsp_read.specs.states.Parts.{IsNodeOf};
+ghost use Rattle.tsp_read.specs.states.ReadingRun.{RunsTo, StepsTo, front_word, left_from, IsFrontWord, LeavesEnd};
+
+use crate::by_node::{NumberList, PointList};
+use crate::items::{Intake, without_start};
+use crate::reading::Reading;
+use crate::runs::{Gathered, GatheredNodes, TourList, WeightList};
+use crate::section_builder::SectionBuilder;
+use std::alloc::Global;
+use tsp_format::is_blank;
+use tsp_number::{Decimal, front_decimal, front_few, front_whole};
+
+// ---- a number at the beginning of a text
+
+/// The byte that ends a word, and the text after it.
+#[derive(Clone, Copy)]
+pub(crate) enum End<'a> {
+    /// A blank.
+    Blank(&'a [u8]),
+    /// A byte 10, which ends the line too.
+    Line(&'a [u8]),
+}
+
+/// The end of a word that a text begins with. Nothing where no word ends here.
+#[inline(always)]
+fn word_end(rest: &[u8]) -> Option<End<'_>>
+    ensures left { IfSome result (λ end. LeavesEnd rest.now (left_from end)) }
+    ensures within { IfSome result (λ end. length (left_from end) ≤ length rest.now) }
+{
+    match rest.split_first() {
+        Some((end, left)) if is_blank(*end) => Some(End::Blank(left)),
+        Some((b'\n', left)) => Some(End::Line(left)),
+        _ => None,
+    }
+}
+
+/// The end of a word that a text begins with, where a byte 10 ends it. Nothing where none does.
+#[inline(always)]
+fn line_end(rest: &[u8]) -> Option<End<'_>>
+    ensures left { IfSome result (λ end. LeavesEnd rest.now (left_from end)) }
+    ensures within { IfSome result (λ end. length (left_from end) ≤ length rest.now) }
+{
+    match rest.split_first() {
+        Some((b'\n', later)) => Some(End::Line(later)),
+        _ => None,
+    }
+}
+
+/// The whole number of a few digits that a text begins with, and the end of its word; or nothing
+/// where the text begins with no such word whose end has come.
+#[inline(always)]
+fn few_number(text: &[u8]) -> Option<(i64, End<'_>)>
+    ensures { IfSome result (λ found.
+        IsFrontWord text.now (IsWhole (front_word text.now) found.0) (left_from found.1)) }
+{
+    let Some((number, end)) = front_few(text) else {
+        return None;
+    };
+    let rest = text.split_at(end).1;
+    match word_end(rest) {
+        Some(end) => Some((number, end)),
+        None => None,
+    }
+}
+
+/// The result of `few_number`, for a word that a byte 10 ends.
+#[inline(always)]
+fn last_number(text: &[u8]) -> Option<(i64, End<'_>)>
+    ensures { IfSome result (λ found.
+        IsFrontWord text.now (IsWhole (front_word text.now) found.0) (left_from found.1)) }
+{
+    let Some((number, end)) = front_few(text) else {
+        return None;
+    };
+    let rest = text.split_at(end).1;
+    match line_end(rest) {
+        Some(end) => Some((number, end)),
+        None => None,
+    }
+}
+
+/// The whole number at the beginning of a text, and the end of its word. Nothing where the text
+/// begins with no word of at most 18 digits whose end has come.
+#[inline(never)]
+fn front_number(text: &[u8]) -> Option<(i64, End<'_>)>
+    ensures { IfSome result (λ found.
+        IsFrontWord text.now (IsWhole (front_word text.now) found.0) (left_from found.1)) }
+{
+    let filled = without_start(text);
+    let Some((number, end)) = front_whole(filled) else {
+        return None;
+    };
+    let rest = filled.split_at(end).1;
+    match word_end(rest) {
+        Some(end) => Some((number, end)),
+        None => None,
+    }
+}
+
+/// The coordinate at the beginning of a text, and the end of its word. Nothing where the text
+/// begins with no word of at most nine digits, a point and nine more whose end has come.
+#[inline(always)]
+fn front_coordinate(text: &[u8]) -> Option<(Decimal, End<'_>)>
+    ensures { IfSome result (λ found.
+        IsFrontWord text.now (decimal_of (front_word text.now) ≡ Ok found.0) (left_from found.1)) }
+{
+    let filled = without_start(text);
+    let Some(found) = front_decimal(filled) else {
+        return None;
+    };
+    let rest = filled.split_at(found.1).1;
+    match word_end(rest) {
+        Some(end) => Some((found.0, end)),
+        None => None,
+    }
+}
+
+// ---- one item, taken
+
+/// Counts a word that was taken, and the line's end where that ends it. The result is the text
+/// after it.
+#[inline(always)]
+fn count_word<'a>(count: &mut Count, end: End<'a>) -> &'a [u8]
+    requires line { count.old.line + length (left_from end) ≤ most_file_bytes }
+    requires words { count.old.words + length (left_from end) < most_file_bytes }
+    ensures { (old new : SectionBuilder) (text word : List ℕ) → TakesRead old new word
+        → ((inside : Bool) → GivesNext inside text (NumberWord word) true (left_from end.entry))
+        → length (left_from end.entry) < length text
+        → StepsTo old count.old text new count.new (Some result.now) }
+{
+    match end {
+        End::Blank(rest) => {
+            count.words += 1;
+            count.inside = true;
+            rest
+        }
+        End::Line(rest) => {
+            count.line += 1;
+            count.words = 0;
+            count.inside = false;
+            rest
+        }
+    }
+}
+
+/// Takes the whole number that was found at the beginning of a text, if one was, where the list
+/// takes it, and returns the rest.
+#[inline(always)]
+fn take_number<'a, L: RunList>(
+    list: &mut L,
+    count: &mut Count,
+    text: &[u8],
+    found: Option<(i64, End<'a>)>,
+) -> Option<&'a [u8]>
+    requires line { count.old.line + length text.now ≤ most_file_bytes + 1 }
+    requires words { count.old.words + length text.now ≤ most_file_bytes }
+    requires found { IfSome found (λ found.
+        IsFrontWord text.now (IsWhole (front_word text.now) found.0) (left_from found.1)) }
+    ensures { StepsTo (L.part list.old) count.old text.now (L.part list.new) count.new
+        (option_map (λ rest. rest.now) result) }
+{
+    let Some((number, end)) = found else {
+        return None;
+    };
+    if !list.take_whole(number) {
+        return None;
+    }
+    Some(count_word(count, end))
+}
+
+/// Takes the coordinate that a text begins with, where the list takes it, and gives what follows
+/// it.
+#[inline(always)]
+fn take_coordinate<'a, L: RunList>(
+    list: &mut L,
+    count: &mut Count,
+    text: &'a [u8],
+) -> Option<&'a [u8]>
+    requires line { count.old.line + length text.now ≤ most_file_bytes + 1 }
+    requires words { count.old.words + length text.now ≤ most_file_bytes }
+    ensures { StepsTo (L.part list.old) count.old text.now (L.part list.new) count.new
+        (option_map (λ rest. rest.now) result) }
+{
+    let Some(found) = front_coordinate(text) else {
+        return None;
+    };
+    if !list.take_coordinate(found.0) {
+        return None;
+    }
+    Some(count_word(count, found.1))
+}
+
+/// Counts the line's end that a text begins with, and gives what follows it.
+#[inline(always)]
+fn take_line_end<'a>(count: &mut Count, text: &'a [u8]) -> Option<&'a [u8]>
+    requires { count.old.line + length text.now ≤ most_file_bytes + 1 }
+    ensures { (part : SectionBuilder) → StepsTo part count.old text.now part count.new
+        (option_map (λ rest. rest.now) result) }
+{
+    match text.split_first() {
+        Some((b'\n', rest)) => {
+            count.line += 1;
+            count.words = 0;
+            count.inside = false;
+            Some(rest)
+        }
+        _ => None,
+    }
+}
+
+/// Takes the line's end or the number that a text begins with, where it is no number of a few
+/// digits.
+#[inline(always)]
+fn take_other<'a, L: RunList>(list: &mut L, count: &mut Count, text: &'a [u8]) -> Option<&'a [u8]>
+    requires line { count.old.line + length text.now ≤ most_file_bytes + 1 }
+    requires words { count.old.words + length text.now ≤ most_file_bytes }
+    ensures { StepsTo (L.part list.old) count.old text.now (L.part list.new) count.new
+        (option_map (λ rest. rest.now) result) }
+{
+    match take_line_end(count, text) {
+        Some(rest) => Some(rest),
+        None => take_number(list, count, text, front_number(text)),
+    }
+}
+
+/// Takes the number of a few digits that a text begins with. Where most words end their line
+/// (`by_line`), such a word is tried first.
+// (so that its line is counted without a look at what else may end a word)
+#[inline(always)]
+fn take_few<'a, L: RunList>(
+    list: &mut L,
+    count: &mut Count,
+    text: &'a [u8],
+    by_line: bool,
+) -> Option<&'a [u8]>
+    requires line { count.old.line + length text.now ≤ most_file_bytes + 1 }
+    requires words { count.old.words + length text.now ≤ most_file_bytes }
+    ensures { StepsTo (L.part list.old) count.old text.now (L.part list.new) count.new
+        (option_map (λ rest. rest.now) result) }
+{
+    if !by_line {
+        return take_number(list, count, text, few_number(text));
+    }
+    match take_number(list, count, text, last_number(text)) {
+        Some(rest) => Some(rest),
+        None => take_number(list, count, text, few_number(text)),
+    }
+}
+
+/// Takes the word or the line's end that a text begins with, where the list takes it, and gives
+/// what follows it.
+#[inline(always)]
+fn take_one<'a, L: RunList>(
+    list: &mut L,
+    count: &mut Count,
+    text: &'a [u8],
+    by_line: bool,
+) -> Option<&'a [u8]>
+    requires line { count.old.line + length text.now ≤ most_file_bytes + 1 }
+    requires words { count.old.words + length text.now ≤ most_file_bytes }
+    ensures { StepsTo (L.part list.old) count.old text.now (L.part list.new) count.new
+        (option_map (λ rest. rest.now) result) }
+{
+    if list.awaits_coordinate() {
+        return take_coordinate(list, count, text);
+    }
+    match take_few(list, count, text, by_line) {
+        Some(rest) => Some(rest),
+        None => take_other(list, count, text),
+    }
+}
+
+// ---- a run
+
+/// Takes the words and line ends at the beginning of a text, as many as the list takes. The result
+/// is their count and the rest of the text.
+#[inline(always)]
+fn take_all<'a, L: RunList>(
+    list: &mut L,
+    count: Count,
+    text: &'a [u8],
+    by_line: bool,
+) -> (Count, &'a [u8])
+    requires line { count.line + length text.now ≤ most_file_bytes + 1 }
+    requires words { count.words + length text.now ≤ most_file_bytes }
+    ensures { RunsTo (L.part list.old) count text.now (L.part list.new) result.0 result.1.now }
+{
+    let mut counted = count;
+    let mut rest = text;
+    'run: while let Some(after) = take_one(list, &mut counted, rest, by_line) {
+        rest = after;
+    }
+    (counted, rest)
+}
+
+/// Does what `take_all` does, over a list that is passed by value.
+// (so that all that changes in the loop can stay in registers)
+#[inline(never)]
+fn take_gathered<'a, L: RunList>(
+    list: L,
+    count: Count,
+    text: &'a [u8],
+    by_line: bool,
+) -> (L, Count, &'a [u8])
+    requires line { count.line + length text.now ≤ most_file_bytes + 1 }
+    requires words { count.words + length text.now ≤ most_file_bytes }
+    ensures { RunsTo (L.part list) count text.now (L.part result.0) result.1 result.2.now }
+{
+    let mut own = list;
+    let (counted, rest) = take_all(&mut own, count, text, by_line);
+    (own, counted, rest)
+}
+
+/// Does what `take_all` does, over the weights of a matrix, which reserve memory first: a word and
+/// its end are two bytes at least.
+fn take_weights<'a>(
+    list: &mut WeightList,
+    alloc: Global,
+    count: Count,
+    text: &'a [u8],
+) -> (Count, &'a [u8])
+    requires line { count.line + length text.now ≤ most_file_bytes + 1 }
+    requires words { count.words + length text.now ≤ most_file_bytes }
+    ensures { RunsTo (parts.Weights list.old) count text.now
+        (parts.Weights list.new) result.0 result.1.now }
+{
+    let gathered = list.gather(alloc, text.len() / 2);
+    let (gathered, counted, rest) = take_gathered(gathered, count, text, false);
+    list.put_back(gathered);
+    (counted, rest)
+}
+
+/// Does what `take_all` does, over the nodes of tours, which reserve memory too.
+fn take_tours<'a>(
+    list: &mut TourList,
+    alloc: Global,
+    count: Count,
+    text: &'a [u8],
+) -> (Count, &'a [u8])
+    requires line { count.line + length text.now ≤ most_file_bytes + 1 }
+    requires words { count.words + length text.now ≤ most_file_bytes }
+    ensures { RunsTo (parts.Tours list.old) count text.now
+        (parts.Tours list.new) result.0 result.1.now }
+{
+    let gathered = list.gather(alloc);
+    let (gathered, counted, rest) = take_gathered(gathered, count, text, true);
+    list.put_back(gathered);
+    (counted, rest)
+}
+
+/// Does what `take_all` does, for the part of any section. A section whose words come in no run
+/// takes none.
+fn take_part<'a>(
+    part: &mut SectionBuilder,
+    alloc: Global,
+    count: Count,
+    text: &'a [u8],
+) -> (Count, &'a [u8])
+    requires line { count.line + length text.now ≤ most_file_bytes + 1 }
+    requires words { count.words + length text.now ≤ most_file_bytes }
+    ensures { RunsTo part.old count text.now part.new result.0 result.1.now }
+{
+    match part {
+        SectionBuilder::Numbers(list) => take_all(list, count, text, false),
+        SectionBuilder::Weights(list) => take_weights(list, alloc, count, text),
+        SectionBuilder::Tours(list) => take_tours(list, alloc, count, text),
+        SectionBuilder::Points(list) => take_all(list, count, text, false),
+        _ => (count, text),
+    }
+}
+
+impl Reading {
+    ghost use Rattle.std.specs.Prelude.{ℕ, List};
+    ghost use Rattle.tsp_read.specs.states.Onward.{IsReadTo};
+    ghost use Rattle.tsp_read.specs.states.ReadingRun.{counted};
+
+    /// Does what `take_part` does, for the section that is open, if one is.
+    fn take_run<'a>(&mut self, alloc: Global, count: Count, text: &'a [u8]) -> (Count, &'a [u8])
+        requires line { count.line + length text.now ≤ most_file_bytes + 1 }
+        requires words { count.words + length text.now ≤ most_file_bytes }
+        ensures read { (bytes : List ℕ) → IsReadTo (counted self.old count) bytes text.now
+            → IsReadTo (counted self.new result.0) bytes result.1.now }
+        ensures line { result.0.line + length result.1.now ≤ count.line + length text.now }
+        ensures words { result.0.words + length result.1.now ≤ count.words + length text.now }
+        ensures shorter { length result.1.now ≤ length text.now }
+    {
+        match &mut self.opened {
+            Some(section) => take_part(&mut section.part, alloc, count, text),
+            None => (count, text),
+        }
+    }
+}
+
+impl Intake {
+    ghost use Rattle.std.specs.Prelude.{ℕ, List};
+    ghost use Rattle.tsp_read.specs.states.Onward.{IsReadTo};
+
+    /// Takes the words that can be taken so at the beginning of a text, where the open section is
+    /// of weights, tours, points or numbers by node, and returns the rest.
+    pub(crate) fn take_run<'a>(&mut self, alloc: Global, text: &'a [u8]) -> &'a [u8]
+        requires line { self.old.line + length text.now ≤ most_file_bytes + 1 }
+        requires words { self.old.words + length text.now ≤ most_file_bytes }
+        ensures read { (bytes : List ℕ) → IsReadTo self.old bytes text.now
+            → IsReadTo self.new bytes result.now }
+        ensures line { self.new.line + length result.now ≤ self.old.line + length text.now }
+        ensures words { self.new.words + length result.now ≤ self.old.words + length text.now }
+        ensures shorter { length result.now ≤ length text.now }
+    {
+        let count = Count {
+            line: self.line,
+            words: self.words,
+            inside: self.inside,
+        };
+        let (counted, rest) = self.reading.take_run(alloc, count, text);
+        self.line = counted.line;
+        self.words = counted.words;
+        self.inside = counted.inside;
+        rest
+    }
+}
+
+// ---- the number of the line and of its words so far, while `src/digits.rt` takes many words in
+
+/// The counts of an `Intake`, in a run of words.
+#[derive(Clone, Copy)]
+pub(crate) struct Count {
+    /// The number of the line, from 1 on.
+    pub(crate) line: u32,
+    /// How many of its words were taken.
+    pub(crate) words: u32,
+    /// An item of the line was taken.
+    pub(crate) inside: bool,
+}
+
+// ---- the trait of lists that take the numbers of many words in one pass
+
+/// A list that takes the numbers of a run of words, each read already.
+pub trait RunList {
+    /// The part of the section that it is.
+    ghost part: { Self → SectionBuilder };
+
+    /// Whether the next word is a coordinate.
+    fn awaits_coordinate(&self) -> bool
+        ensures { result ≡ in_group (part self.now) };
+
+    /// Takes the number of a word, where the list takes it at its place. Returns whether it was
+    /// taken.
+    fn take_whole(&mut self, number: i64) -> bool
+        ensures taken { result ≡ true → (word : List ℕ) → IsWhole word number
+            → TakesRead (part self.old) (part self.new) word }
+        ensures kept { result ≡ false → KeepsWords (part self.old) (part self.new) }
+        ensures refused { result ≡ false → 0 < groups_left (part self.old)
+            → in_group (part self.old) ≡ false → (k : ℕ) → number ≡ pos k
+            → IsNodeOf (length (marks_of (part self.old))) k
+            → slice_index_or (marks_of (part self.old)) (k - 1) false ≡ true };
+
+    /// Takes the coordinate of a word, where a group of points has begun. Returns whether it was
+    /// taken.
+    fn take_coordinate(&mut self, coordinate: Decimal) -> bool
+        ensures taken { result ≡ true → (word : List ℕ) → decimal_of word ≡ Ok coordinate
+            → TakesRead (part self.old) (part self.new) word }
+        ensures kept { result ≡ false → KeepsWords (part self.old) (part self.new) }
+        ensures refused { result ≡ false → 0 < groups_left (part self.old)
+            → in_group (part self.old) ≡ false };
+}
+
+impl RunList for Gathered {
+    ghost part = { λ run. parts.Weights run.list };
+
+    #[inline(always)]
+    fn awaits_coordinate(&self) -> bool {
+        false
+    }
+
+    #[inline(always)]
+    fn take_whole(&mut self, number: i64) -> bool {
+        self.push_read(number)
+    }
+
+    #[inline(always)]
+    fn take_coordinate(&mut self, _coordinate: Decimal) -> bool {
+        false
+    }
+}
+
+impl RunList for GatheredNodes {
+    ghost part = { λ run. parts.Tours run.list };
+
+    #[inline(always)]
+    fn awaits_coordinate(&self) -> bool {
+        false
+    }
+
+    #[inline(always)]
+    fn take_whole(&mut self, number: i64) -> bool {
+        self.push_read(number)
+    }
+
+    #[inline(always)]
+    fn take_coordinate(&mut self, _coordinate: Decimal) -> bool {
+        false
+    }
+}
+
+impl RunList for NumberList {
+    ghost part = { λ list. parts.Numbers list };
+
+    #[inline(always)]
+    fn awaits_coordinate(&self) -> bool {
+        false
+    }
+
+    #[inline(always)]
+    fn take_whole(&mut self, number: i64) -> bool {
+        self.push_read(number)
+    }
+
+    #[inline(always)]
+    fn take_coordinate(&mut self, _coordinate: Decimal) -> bool {
+        false
+    }
+}
+
+impl RunList for PointList {
+    ghost part = { λ list. parts.Points list };
+
+    #[inline(always)]
+    fn awaits_coordinate(&self) -> bool {
+        self.wants_coordinate()
+    }
+
+    #[inline(always)]
+    fn take_whole(&mut self, number: i64) -> bool {
+        self.push_read(number)
+    }
+
+    #[inline(always)]
+    fn take_coordinate(&mut self, coordinate: Decimal) -> bool {
+        self.push_coordinate(coordinate)
+    }
+}

@@ -1,0 +1,48 @@
+-- The goals of `start_with` in src/least_q_route.rt, which improves the least weight by the walk to one customer and
+-- on: what it ensures.
+use Rattle.std.proofs.Common.{◌≡◌, ◌<◌, ℕ, length, get_or, ap, arith, inr}
+use Rattle.std.specs.Prelude.{ℤ, ◌+ℤ◌}
+use Rattle.std.proofs.lemmas.Int.{ints}
+use Rattle.tsp_theory.specs.states.Nearest.{least_at}
+use Rattle.tsp_routing.specs.declared.least_q_route.Onward.{Onward}
+use Rattle.tsp_routing.proofs.QRouteRests.{get_same, known_sized, sum_low, sum_near, sum_real}
+use Rattle.tsp_routing.proofs.least_q_route.start_with.Goals as goal
+
+-- plan: the lower one of the least weight so far and that of walks whose first customer is this node
+pub returns-then-is_below-clause-met : goal.returns-then-is_below-clause-met
+returns-then-is_below-clause-met g c = λ w default row so_far.
+    let value = g.S.Sum.value in
+    let sizes = c.requires.sizes in
+    let own = c.index-known-next.result in
+    let long : c.args.next < length c.args.known.now = omega (arith, c.requires.next.1, sizes.2.places) in
+    let least = ap (λ (e : Onward g.row.S.Denot). value e.least) (get_same c.args.known.now c.args.next own default long) in
+    let b : ℤ = value (get_or c.args.known.now c.args.next default).least in
+    let sum = c.plus-weight.ensures in
+    let row_is = c.weight_in.ensures in
+    let is : value c.plus-weight.result ≡ b +ℤ least_at c.args.row.now c.args.next = omega (arith, ints, sum, row_is, least) in
+    let sized = known_sized value g.S.Sum.half c.args.q_routes.now.nodes sizes.0 c.args.next c.args.known.now default c.requires.next
+    sizes.2 in
+    inr (
+      c.args.next,
+      (c.requires.next, c.if-next-q_routes.false),
+      omega (arith, ints, is, row),
+      λ real. sum_real g.S.Sum.half g.S.Sum.link sizes.0 (least_at c.args.row.now c.args.next) b (value c.plus-weight.result) is
+          c.requires.link sized.least sizes.1 real,
+    )
+
+pub returns-then-is_below-clause-size : goal.returns-then-is_below-clause-size
+returns-then-is_below-clause-size g c = λ size fits rows best.
+    let value = g.S.Sum.value in
+    let own = c.index-known-next.result in
+    let b : ℤ = value (get_or c.args.known.now c.args.next own).least in
+    let sum = c.plus-weight.ensures in
+    let row_is = c.weight_in.ensures in
+    let is : value c.plus-weight.result ≡ b +ℤ least_at c.args.row.now c.args.next = omega (arith, ints, sum, row_is) in
+    let sized = known_sized value g.S.Sum.half c.args.q_routes.now.nodes size c.args.next c.args.known.now own c.requires.next rows in
+    let half : ℕ = g.S.Sum.half in
+    let link : ℕ = g.S.Sum.link in
+    let a : ℤ = least_at c.args.row.now c.args.next in (
+      sum_low half link size a b (value c.plus-weight.result) is c.requires.link sized.least,
+      omega (arith, ints, best.1, c.is_below.ensures, c.if-is_below.true),
+      sum_near half link size a b (value c.plus-weight.result) is c.requires.link sized.least,
+    )

@@ -1,0 +1,242 @@
+-- The goals of `judge_tour_tree` in src/certificate.rt, which bounds by a tree of cases, or returns the first reason:
+-- the facts of the cases that it makes, that places fit 32 bits, and what it ensures.
+use Rattle.std.proofs.Common.{◌≡◌, ◌∙◌, ℕ, ℤ, List, length, ap, sym, subst, arith, rules, FitsSigned, to_z, of_z}
+use Rattle.std.specs.Int.{w64, w128}
+use Rattle.std.specs.Prelude.{Option, None, Some, unwrap_or}
+use Rattle.std.specs.List.{All}
+use Rattle.std.specs.Global.{Vec}
+use Rattle.std.proofs.lemmas.Int.{to_z-of_z}
+use Rattle.std.proofs.lemmas.List.{length-map}
+use Rattle.tsp_format.specs.Limits.{most_fixed}
+use Rattle.tsp_format.specs.states.TreeSteps.{step_of, steps_of}
+use Rattle.tsp_file.specs.states.Drafts.{combs_of}
+use Rattle.tsp_file.specs.Valid.{IsPairOf}
+use Rattle.tsp_theory.specs.Bounds.{IsScale}
+use Rattle.tsp_branch.specs.declared.verdict.BranchVerdict.TheVariants as found
+use Rattle.tsp_branch.specs.BranchVerdicts.{IsBranchVerdict, IsSizedVerdict}
+use Rattle.tsp_cases.specs.ListedCases.{IsListedStep}
+use Rattle.tsp_cases.specs.Crossings.{AreFamiliesOf, lists_of}
+use Rattle.tsp_file.specs.Fields.{nodes_of}
+use Rattle.tsp_verdict.proofs.RouteFiles.{steps_hold, steps_few}
+use Rattle.tsp_verdict.proofs.GivenPairs.{given_once, given_are, given_few}
+use Rattle.tsp_verdict.proofs.TreeReasons.{families_hold, families_few, directed_is, symmetric_view, no_tour, are_of, reported, twice_within, bad_within, comb_first, pairs_few, pair_first, twice_first, leaf_first, nothing_applies, certified}
+use Rattle.tsp_verdict.proofs.certificate.judge_tour_tree.Goals as goal
+
+-- plan: by the verdict on the tree: each of its reasons is the first of the file's, and its bound is the certificate's
+pub invariant_of-cases : goal.invariant_of-cases
+invariant_of-cases g c =
+    let tree = c.args.tree.now in
+    let held = c.requires.held in
+    let n : ℕ = g.C.Costs.nodes c.args.costs.now in
+    let own : nodes_of c.args.instance.now ≡ n = ap (λ (d : Option ℕ). unwrap_or d 0) c.requires.keeps.count in
+    let same : nodes_of c.args.branches.now ≡ n = c.requires.count ∙ own in
+    let directed = c.is_directed-directed.result in
+    let given_is = c.deref.ensures.value ∙ c.in_ok-given.ensures in
+    let scaled : FitsSigned w64 tree.scale = search rules in
+    record {
+      some = omega (arith, c.requires.some, own);
+      even = symmetric_view c.args.instance.now directed (g.C.Costs.at c.args.costs.now) c.requires.kind
+          (directed_is directed c.args.instance.now c.kind.result c.is_directed-directed.ensures c.kind.ensures.value)
+          c.requires.even c.requires.keeps.every;
+      scaled = subst IsScale (sym (to_z-of_z w64 tree.scale scaled)) held.scaled;
+      few_families = let few = held.each_comb.few in
+          let long = length-map tree.combs.now (λ (sets : Vec (Vec ℕ)). lists_of sets.items) in omega (arith, few, long);
+      few_sets = families_few (nodes_of c.args.branches.now) tree.combs.now held.each_comb;
+      few_given = let few = given_few directed most_fixed c.deref.result.now c.fixed.result.now given_is c.fixed.ensures.few in
+          omega (arith, few);
+      few_steps = steps_few c.args.branches.now tree.steps.now held.each_step;
+      sets_are = subst (λ (m : ℕ). AreFamiliesOf m tree.combs.now) same
+          (families_hold (nodes_of c.args.branches.now) tree.combs.now held.each_comb);
+      given_are = given_are directed n c.deref.result.now c.fixed.result.now given_is
+          (subst (λ (m : ℕ). All (IsPairOf m) c.fixed.result.now) own c.fixed.ensures.range);
+      given_once = given_once directed c.deref.result.now c.fixed.result.now given_is;
+      steps_are = ∣ subst (λ (m : ℕ). All (IsListedStep m) (steps_of tree.steps.now)) same
+          (steps_hold c.args.branches.now (steps_of tree.steps.now) held.each_step) ∣₁;
+      whole = held.each_step.whole;
+    }
+
+pub returns-in-Bound-Some : goal.returns-in-Bound-Some
+returns-in-Bound-Some g c =
+    let whole = c.in-Bound-Some.is ∙ ap (λ (o : Option ℤ). found.Bound o) c.in-Bound-Some.field-0-is in
+    let instance = c.args.instance.now in
+    let tree = c.args.branches.now in
+    let n : ℕ = g.C.Costs.nodes c.args.costs.now in
+    let costs = g.C.Costs.at c.args.costs.now in
+    let combs = c.args.tree.now.combs.now in
+    let families : List (List (List ℕ)) = combs_of combs in
+    let given = c.deref.result.now in
+    let steps = steps_of c.args.tree.now.steps.now in
+    let scaled : FitsSigned w64 c.args.tree.now.scale = search rules in
+    let are = are_of instance tree c.is_directed-directed.result n (to_z w64 (of_z w64 c.args.tree.now.scale)) combs
+    c.fixed.result.now given steps
+    (directed_is c.is_directed-directed.result instance c.kind.result c.is_directed-directed.ensures c.kind.ensures.value)
+    c.requires.keeps.count
+    (to_z-of_z w64 c.args.tree.now.scale scaled ∙ c.requires.held.scale_is) c.requires.held.combs_are c.fixed.ensures.value
+    (c.deref.ensures.value ∙ c.in_ok-given.ensures) c.requires.held.steps_are in
+    let bound = c.in-Bound-Some.bound in
+    let is = subst (IsBranchVerdict c.is_directed-directed.result n costs (to_z w64 (of_z w64 c.args.tree.now.scale)) families
+    given steps) whole c.in_ok-bound.ensures.verdict in
+    let fits : FitsSigned w128 bound = search rules in
+    let all_reported = reported instance tree c.is_directed-directed.result n costs _ families given steps (found.Bound (Some bound)) are
+    is in
+    rw (to_z-of_z w128 bound fits) (
+      nothing_applies c.numbers_are_unique.ensures instance tree costs (Some bound) c.requires.kind c.requires.sort c.requires.count all_reported,
+      certified instance tree costs bound c.case_trees_bound_cycles.ensures.cycles c.requires.kind c.requires.some c.requires.even
+          (subst IsScale c.requires.held.scale_is c.requires.held.scaled) c.requires.keeps.every
+          (subst IsSizedVerdict whole c.in_ok-bound.ensures.size) all_reported,
+    )
+
+pub returns-in-Bound-None : goal.returns-in-Bound-None
+returns-in-Bound-None g c =
+    let whole = c.in-Bound-None.is ∙ ap (λ (o : Option ℤ). found.Bound o) c.in-Bound-None.field-0-is in
+    let instance = c.args.instance.now in
+    let tree = c.args.branches.now in
+    let n : ℕ = g.C.Costs.nodes c.args.costs.now in
+    let costs = g.C.Costs.at c.args.costs.now in
+    let combs = c.args.tree.now.combs.now in
+    let families : List (List (List ℕ)) = combs_of combs in
+    let given = c.deref.result.now in
+    let steps = steps_of c.args.tree.now.steps.now in
+    let scaled : FitsSigned w64 c.args.tree.now.scale = search rules in
+    let are = are_of instance tree c.is_directed-directed.result n (to_z w64 (of_z w64 c.args.tree.now.scale)) combs
+    c.fixed.result.now given steps
+    (directed_is c.is_directed-directed.result instance c.kind.result c.is_directed-directed.ensures c.kind.ensures.value)
+    c.requires.keeps.count
+    (to_z-of_z w64 c.args.tree.now.scale scaled ∙ c.requires.held.scale_is) c.requires.held.combs_are c.fixed.ensures.value
+    (c.deref.ensures.value ∙ c.in_ok-given.ensures) c.requires.held.steps_are in
+    let is = subst (IsBranchVerdict c.is_directed-directed.result n costs (to_z w64 (of_z w64 c.args.tree.now.scale)) families
+    given steps) whole c.in_ok-bound.ensures.verdict in
+    let all_reported = reported instance tree c.is_directed-directed.result n costs _ families given steps (found.Bound None) are is in
+    let gone = no_tour instance tree costs c.case_trees_bound_cycles.ensures.cycles c.requires.kind c.requires.some c.requires.even
+    (subst IsScale c.requires.held.scale_is c.requires.held.scaled) c.requires.keeps.every all_reported in
+    (nothing_applies c.numbers_are_unique.ensures instance tree costs None c.requires.kind c.requires.sort c.requires.count all_reported, gone.0, gone.1)
+
+pub returns-in-BadFamily : goal.returns-in-BadFamily
+returns-in-BadFamily g c =
+    let instance = c.args.instance.now in
+    let tree = c.args.branches.now in
+    let n : ℕ = g.C.Costs.nodes c.args.costs.now in
+    let costs = g.C.Costs.at c.args.costs.now in
+    let combs = c.args.tree.now.combs.now in
+    let families : List (List (List ℕ)) = combs_of combs in
+    let given = c.deref.result.now in
+    let steps = steps_of c.args.tree.now.steps.now in
+    let scaled : FitsSigned w64 c.args.tree.now.scale = search rules in
+    let are = are_of instance tree c.is_directed-directed.result n (to_z w64 (of_z w64 c.args.tree.now.scale)) combs
+    c.fixed.result.now given steps
+    (directed_is c.is_directed-directed.result instance c.kind.result c.is_directed-directed.ensures c.kind.ensures.value)
+    c.requires.keeps.count
+    (to_z-of_z w64 c.args.tree.now.scale scaled ∙ c.requires.held.scale_is) c.requires.held.combs_are c.fixed.ensures.value
+    (c.deref.ensures.value ∙ c.in_ok-given.ensures) c.requires.held.steps_are in
+    let is = subst (IsBranchVerdict c.is_directed-directed.result n costs (to_z w64 (of_z w64 c.args.tree.now.scale)) families
+    given steps) c.in-BadFamily.is c.in_ok-bound.ensures.verdict in
+    comb_first instance tree costs c.in-BadFamily.index c.requires.kind c.requires.sort c.requires.count
+    (reported instance tree c.is_directed-directed.result n costs _ families given steps (found.BadFamily c.in-BadFamily.index) are is)
+
+pub overflow_cast-result-in-BadBranch : goal.overflow_cast-result-in-BadBranch
+overflow_cast-result-in-BadBranch g c =
+    let n : ℕ = g.C.Costs.nodes c.args.costs.now in
+    let steps = steps_of c.args.tree.now.steps.now in
+    let is = subst (IsBranchVerdict c.is_directed-directed.result n _ _ _ _ steps) c.in-BadBranch.is
+    c.in_ok-bound.ensures.verdict in
+    omega (
+      arith,
+      is.2.inside,
+      pairs_few steps,
+      length-map c.args.tree.now.steps.now step_of,
+      steps_few c.args.branches.now c.args.tree.now.steps.now c.requires.held.each_step,
+    )
+
+pub returns-in-BadBranch : goal.returns-in-BadBranch
+returns-in-BadBranch g c =
+    let instance = c.args.instance.now in
+    let tree = c.args.branches.now in
+    let n : ℕ = g.C.Costs.nodes c.args.costs.now in
+    let costs = g.C.Costs.at c.args.costs.now in
+    let combs = c.args.tree.now.combs.now in
+    let families : List (List (List ℕ)) = combs_of combs in
+    let given = c.deref.result.now in
+    let steps = steps_of c.args.tree.now.steps.now in
+    let scaled : FitsSigned w64 c.args.tree.now.scale = search rules in
+    let are = are_of instance tree c.is_directed-directed.result n (to_z w64 (of_z w64 c.args.tree.now.scale)) combs
+    c.fixed.result.now given steps
+    (directed_is c.is_directed-directed.result instance c.kind.result c.is_directed-directed.ensures c.kind.ensures.value)
+    c.requires.keeps.count
+    (to_z-of_z w64 c.args.tree.now.scale scaled ∙ c.requires.held.scale_is) c.requires.held.combs_are c.fixed.ensures.value
+    (c.deref.ensures.value ∙ c.in_ok-given.ensures) c.requires.held.steps_are in
+    let is = subst (IsBranchVerdict c.is_directed-directed.result n costs (to_z w64 (of_z w64 c.args.tree.now.scale)) families
+    given steps) c.in-BadBranch.is c.in_ok-bound.ensures.verdict in
+    pair_first instance tree costs c.in-BadBranch.index c.requires.kind c.requires.sort c.requires.count
+    (reported instance tree c.is_directed-directed.result n costs _ families given steps (found.BadBranch c.in-BadBranch.index) are
+    is)
+
+pub overflow_cast-result-in-BranchTwice : goal.overflow_cast-result-in-BranchTwice
+overflow_cast-result-in-BranchTwice g c =
+    let steps = steps_of c.args.tree.now.steps.now in
+    let given = c.deref.result.now in
+    let is = subst (IsBranchVerdict c.is_directed-directed.result _ _ _ _ given steps) c.in-BranchTwice.is
+    c.in_ok-bound.ensures.verdict in
+    omega (
+      arith,
+      twice_within c.is_directed-directed.result given steps c.in-BranchTwice.index is.3,
+      length-map c.args.tree.now.steps.now step_of,
+      steps_few c.args.branches.now c.args.tree.now.steps.now c.requires.held.each_step,
+    )
+
+pub returns-in-BranchTwice : goal.returns-in-BranchTwice
+returns-in-BranchTwice g c =
+    let instance = c.args.instance.now in
+    let tree = c.args.branches.now in
+    let n : ℕ = g.C.Costs.nodes c.args.costs.now in
+    let costs = g.C.Costs.at c.args.costs.now in
+    let combs = c.args.tree.now.combs.now in
+    let families : List (List (List ℕ)) = combs_of combs in
+    let given = c.deref.result.now in
+    let steps = steps_of c.args.tree.now.steps.now in
+    let scaled : FitsSigned w64 c.args.tree.now.scale = search rules in
+    let are = are_of instance tree c.is_directed-directed.result n (to_z w64 (of_z w64 c.args.tree.now.scale)) combs
+    c.fixed.result.now given steps
+    (directed_is c.is_directed-directed.result instance c.kind.result c.is_directed-directed.ensures c.kind.ensures.value)
+    c.requires.keeps.count
+    (to_z-of_z w64 c.args.tree.now.scale scaled ∙ c.requires.held.scale_is) c.requires.held.combs_are c.fixed.ensures.value
+    (c.deref.ensures.value ∙ c.in_ok-given.ensures) c.requires.held.steps_are in
+    let is = subst (IsBranchVerdict c.is_directed-directed.result n costs (to_z w64 (of_z w64 c.args.tree.now.scale)) families
+    given steps) c.in-BranchTwice.is c.in_ok-bound.ensures.verdict in
+    twice_first instance tree costs c.in-BranchTwice.index c.requires.kind c.requires.sort c.requires.count
+    (reported instance tree c.is_directed-directed.result n costs _ families given steps (found.BranchTwice c.in-BranchTwice.index) are
+    is)
+
+pub overflow_cast-result-in-BadLeaf : goal.overflow_cast-result-in-BadLeaf
+overflow_cast-result-in-BadLeaf g c =
+    let n : ℕ = g.C.Costs.nodes c.args.costs.now in
+    let steps = steps_of c.args.tree.now.steps.now in
+    let is = subst (IsBranchVerdict c.is_directed-directed.result n _ _ _ _ steps) c.in-BadLeaf.is
+    c.in_ok-bound.ensures.verdict in
+    omega (
+      arith,
+      bad_within n is.crossed steps c.in-BadLeaf.index is.leaves,
+      length-map c.args.tree.now.steps.now step_of,
+      steps_few c.args.branches.now c.args.tree.now.steps.now c.requires.held.each_step,
+    )
+
+pub returns : goal.returns
+returns g c =
+    let instance = c.args.instance.now in
+    let tree = c.args.branches.now in
+    let n : ℕ = g.C.Costs.nodes c.args.costs.now in
+    let costs = g.C.Costs.at c.args.costs.now in
+    let combs = c.args.tree.now.combs.now in
+    let families : List (List (List ℕ)) = combs_of combs in
+    let given = c.deref.result.now in
+    let steps = steps_of c.args.tree.now.steps.now in
+    let scaled : FitsSigned w64 c.args.tree.now.scale = search rules in
+    let are = are_of instance tree c.is_directed-directed.result n (to_z w64 (of_z w64 c.args.tree.now.scale)) combs
+    c.fixed.result.now given steps
+    (directed_is c.is_directed-directed.result instance c.kind.result c.is_directed-directed.ensures c.kind.ensures.value)
+    c.requires.keeps.count
+    (to_z-of_z w64 c.args.tree.now.scale scaled ∙ c.requires.held.scale_is) c.requires.held.combs_are c.fixed.ensures.value
+    (c.deref.ensures.value ∙ c.in_ok-given.ensures) c.requires.held.steps_are in
+    let is = subst (IsBranchVerdict c.is_directed-directed.result n costs (to_z w64 (of_z w64 c.args.tree.now.scale)) families
+    given steps) c.in-BadLeaf.is c.in_ok-bound.ensures.verdict in
+    leaf_first instance tree costs c.in-BadLeaf.index c.requires.kind c.requires.sort c.requires.count
+    (reported instance tree c.is_directed-directed.result n costs _ families given steps (found.BadLeaf c.in-BadLeaf.index) are is)
