@@ -1,3 +1,4 @@
+-- Circle 2 of docs/trust.md.
 -- The results of the calls on texts, over the bytes of these texts alone: `show`, conversions, checks, bounds and
 -- explanations. `IsAcceptedText` and `IsBoundText` are the meanings of the status 0.
 use Rattle.std.specs.Prelude.{◌≡◌, ◌⊎◌, ℕ, ◌==◌, ◌||◌, if◌then◌else◌, ◌≤◌, ◌<◌, Bool, true, false, List, [], ◌∷◌, Option, None, Some, Ok, Err, IsTrue, ℤ}

@@ -1,3 +1,4 @@
+-- Circle 3 of docs/trust.md.
 -- The bound of a certificate by branching, as a theorem: the bound of a leaf by a least 1-tree or by the least link
 -- from each node, and the least bound of all leaves.
 use Rattle.std.specs.List.{All, Any}

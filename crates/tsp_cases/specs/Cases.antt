@@ -1,3 +1,4 @@
+-- Circle 3 of docs/trust.md.
 -- Trees of cases: a branch divides the first open case by a decision on a pair, and a leaf closes it by numbers.
 use Rattle.std.specs.List.{All, AllPairs}
 use Rattle.std.specs.Prelude.{ℕ, ◌≤◌, ◌≡◌, ◌==◌, ◌&&◌, Bool, true, false, if◌then◌else◌, List, [], ◌∷◌, length, map, ℤ, pos, ◌≤ℤ◌, zero, suc, ◌++◌, Option, None, Some, ◌⊎◌}

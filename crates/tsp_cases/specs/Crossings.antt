@@ -1,3 +1,4 @@
+-- Circle 3 of docs/trust.md.
 -- How often families of sets of nodes are crossed: by a cycle at least, by two nodes at most. The parts that sets make
 -- of the nodes, and the least cycle through them.
 use Rattle.std.specs.Global.{Vec}

@@ -1,3 +1,4 @@
+-- Circle 3 of docs/trust.md.
 -- Families of sets of nodes: combs, lone sets and others, the least number of times that a cycle crosses each, and
 -- which families of a file are good.
 use Rattle.std.specs.List.{All, AllPairs}

@@ -1,3 +1,4 @@
+-- Circle 3 of docs/trust.md.
 -- A tree of cases as BRANCH_SECTION lists it, and what makes it good: the numbers of its leaves, branches within their
 -- limits, and no branch twice.
 use Rattle.std.specs.List.{All, list_any}

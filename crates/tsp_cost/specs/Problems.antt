@@ -1,3 +1,4 @@
+-- Circles 1 and 3 of docs/trust.md.
 -- Which problem a valid instance is: of TYPE TSP or ATSP a travelling salesman problem, of TYPE CVRP a routing problem.
 -- Each valid instance is one problem.
 use Rattle.std.specs.Prelude.{◌≡◌, ◌≢◌, ◌⊎◌, ℕ, false, if◌then◌else◌, [], ◌∷◌, map, Some, unwrap_or, ℤ, pos, Bool, true, List, Option, None, slice_index, length}

@@ -1,3 +1,4 @@
+-- Circle 1 of docs/trust.md.
 -- The distance by each weight type, by its inequalities: so nobody has to read the functions that compute it.
 use Rattle.std.specs.Prelude.{ℕ}
 use Rattle.tsp_number.specs.declared.decimal.Point.{Point}

@@ -1,3 +1,4 @@
+-- Circles 2 and 3 of docs/trust.md.
 -- The cost from one node of an instance to another, from the fields that a file of its TYPE has or lacks.
 use Rattle.std.specs.List.{All, sum_by}
 use Rattle.std.specs.Option.{option_map, option_or}

@@ -1,3 +1,4 @@
+-- Circles 1 and 2 of docs/trust.md.
 -- The fields of a file, as lists and numbers.
 use Rattle.std.specs.Prelude.{ℕ, Bool, true, List, [], Option, None, Some, unwrap_or, ℤ, pos, nat_abs, is_some}
 use Rattle.std.specs.Option.{option_map}

@@ -1,3 +1,4 @@
+-- Circle 2 of docs/trust.md.
 -- The rules over several fields of a file, which decide its first fault: what a file is, what may be missing, and what
 -- may not go together.
 use Rattle.std.specs.Option.{option_map, option_or}

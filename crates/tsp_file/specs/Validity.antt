@@ -1,3 +1,4 @@
+-- Circle 2 of docs/trust.md.
 -- When a field is valid on its own, as tests. The ranges are this project's profile of TSPLIB 95. Valid.antt has them
 -- as statements. Four crates above import it too.
 use Rattle.std.specs.Prelude.{ℕ, ◌+◌, ◌-◌, ◌*◌, Bool, true, false, cond, not, ◌&&◌, ◌==◌, nat_le, List, length, slice_index, Option, None, Some, ℤ, pos, neg_ℤ, int_le}

@@ -1,3 +1,4 @@
+-- Circle 2 of docs/trust.md.
 -- The limits of files, which field a line's first word names, and the shape of each section.
 use Rattle.std.specs.List.{find}
 use Rattle.std.specs.Prelude.{ℕ, Bool, true, false, cond, List, Option, None, Some, codes, is_some, ℤ, pos, neg_ℤ, ◌≤ℤ◌}

@@ -1,3 +1,4 @@
+-- Circle 1 of docs/trust.md.
 -- The nodes 1 to n of a problem, and the cells of a layout of its matrix, in order.
 use Rattle.std.specs.List.{range_with_len, filter, flat_map}
 use Rattle.std.specs.Prelude.{ℕ, ◌≤◌, List, ◌+◌, ◌-◌, ◌*◌, ◌/◌, Bool, true, false, map, nat_lt, nat_le, if◌then◌else◌}

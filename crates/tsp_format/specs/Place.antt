@@ -1,3 +1,4 @@
+-- Circle 3 of docs/trust.md.
 -- The place of a pair among the cells of a layout, and so of its weight in the list.
 use Rattle.std.specs.Prelude.{ℕ, ◌+◌, ◌-◌, ◌*◌, ◌/◌, Bool, ◌&&◌, ◌==◌, Option}
 use Rattle.std.specs.List.{position}

@@ -1,3 +1,4 @@
+-- Circles 1 and 3 of docs/trust.md.
 -- The steps of a tree of cases, as BRANCH_SECTION lists them, and ranges of whole numbers.
 use Rattle.std.specs.Prelude.{ℤ, ◌≤ℤ◌, ℕ, zero, suc, ◌+◌, Bool, true, false, List, [], ◌∷◌, length}
 

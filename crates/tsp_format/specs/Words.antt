@@ -1,3 +1,4 @@
+-- Circle 2 of docs/trust.md.
 -- The words of TSPLIB 95 as values: bytes, layouts, kinds and weight types, which files are spatial, and which costs
 -- are symmetric.
 use Rattle.std.specs.List.{find}

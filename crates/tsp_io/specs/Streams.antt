@@ -1,3 +1,4 @@
+-- Circle 2 of docs/trust.md.
 -- A reader and a writer before and after a call: the bytes that were delivered or taken, and whether it failed.
 use Rattle.std.specs.Io.KnownBytes.{Keeps, Consumes, Appends}
 use Rattle.std.specs.Prelude.{◌≡◌, ℕ, ◌≤◌, Bool, true, false, List, length, Option, IfSome, take, Result, Ok, Err, codes}

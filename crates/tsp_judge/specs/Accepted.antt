@@ -1,3 +1,4 @@
+-- Circle 1 of docs/trust.md.
 -- The six meanings of the line `yes`, over the files that were read and the report that was printed, and the meaning of
 -- `optimal` in a comparison.
 use Rattle.std.specs.Prelude.{◌≡◌, ◌⊎◌, ℕ, ◌≤◌, List, [], ◌∷◌, length, Option, None, Some, ℤ, ◌≤ℤ◌}

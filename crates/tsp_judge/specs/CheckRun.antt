@@ -1,3 +1,4 @@
+-- Circle 2 of docs/trust.md.
 -- Runs of `tsp check` and `tsp bound`: the files that are read, the verdict, the report and the exit status.
 use Rattle.std.specs.Prelude.{ℕ, List, ◌++◌, codes, decimal, Bool, true, false, Result, Ok, Err, ◌≡◌, ◌⊎◌, Option, None, Some, IsTrue, ℤ, []}
 use Rattle.tsp_io.specs.Streams.{write_fault_text, ReadTrace, IsUnread, Sink, IsUnwritten, HasWritten, HasStopped}

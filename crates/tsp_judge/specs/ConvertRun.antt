@@ -1,3 +1,4 @@
+-- Circle 2 of docs/trust.md.
 -- Runs of `tsp show` and `tsp convert`, the meaning of `yes` over bytes, and a task done on its readers.
 use Rattle.std.specs.Prelude.{◌≡◌, Result, Ok, Err, Option, None, Some, ℕ, Bool, true, false, List, [], ℤ}
 use Rattle.std.specs.declared.io.Error.{Error}

@@ -1,3 +1,4 @@
+-- Circles 1 and 2 of docs/trust.md.
 -- The scale of decimals: a number is a whole count of 10^-9.
 use Rattle.std.specs.Prelude.{ℕ}
 

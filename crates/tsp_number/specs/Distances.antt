@@ -1,3 +1,4 @@
+-- Circles 1, 2 and 3 of docs/trust.md.
 -- The eight distances of TSPLIB 95 (Reinelt), each as the one whole number with its inequalities, and which of them
 -- grow as points move apart.
 use Rattle.std.specs.Prelude.{◌≡◌, ℕ, zero, suc, Bool, nat_lt, nat_le, if◌then◌else◌, ◌+◌, ◌-◌, ◌*◌, ◌<◌, ◌≤◌, ◌-ℤ◌, unsigned_abs, max, ℤ, pos}

@@ -1,3 +1,4 @@
+-- Circle 2 of docs/trust.md.
 -- Number words by the grammar of decimal notation: the number that a word means or its fault, and the one way in which
 -- a decimal is spelled.
 use Rattle.std.specs.Char.{is_ascii_digit}

@@ -1,3 +1,4 @@
+-- Circle 2 of docs/trust.md.
 -- The result of reading a text whole, from a reader or in pieces: its file, or its first fault; and that a reader is
 -- asked for no piece more than its text needs.
 use Rattle.std.specs.Io.KnownBytes.{IsAtEnd}

@@ -1,3 +1,4 @@
+-- Circle 2 of docs/trust.md.
 -- The bytes of the reports of `tsp check`, `tsp bound` and `tsp compare`, line by line. Each line ends with byte 10,
 -- and one blank is between words.
 use Rattle.std.specs.Fmt.{signed_decimal}

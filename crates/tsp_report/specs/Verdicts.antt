@@ -1,3 +1,4 @@
+-- Circle 2 of docs/trust.md.
 -- The table of reasons, one row each, and which verdicts end with the line `yes`.
 use Rattle.std.specs.Prelude.{Bool, true, false, ℕ, List, Option, None, Some, codes, ℤ, pos}
 use Rattle.tsp_report.specs.declared.task.Role.{Role}

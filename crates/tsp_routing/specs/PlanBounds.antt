@@ -1,3 +1,4 @@
+-- Circle 3 of docs/trust.md.
 -- The bound of a certificate for routes, as a theorem: of a leaf by its least walk, and of the tree by its leaves.
 use Rattle.std.specs.List.{All}
 use Rattle.std.specs.Prelude.{ℕ, ◌+◌, ◌^◌, negsuc, int_lt, ◌*◌, ◌-◌, max, min, ◌==◌, ◌&&◌, not, if◌then◌else◌, List, [], ◌∷◌, length, ℤ, pos, ◌+ℤ◌, ◌-ℤ◌, ◌*ℤ◌, ◌≤ℤ◌, ◌≡◌, true, Option, Some, None}

@@ -1,3 +1,4 @@
+-- Circles 1 and 3 of docs/trust.md.
 -- The links of a plan, the sets of customers that routes cross, what a set demands, and how often a plan crosses it: at
 -- least, and at most.
 use Rattle.std.specs.List.{All}

@@ -1,3 +1,4 @@
+-- Circle 3 of docs/trust.md.
 -- The verdict on a certificate for routes: its first bad set, branch or leaf, or its bound.
 use Rattle.std.specs.List.{All}
 use Rattle.std.specs.Prelude.{ℕ, ◌+◌, List, ◌≡◌, unsigned_abs, length, ℤ, pos, ◌≤ℤ◌, ◌≢◌, ◌≤◌, ◌<◌, [], ◌∷◌, slice_index_or, ◌*◌, IfSome, Option}

@@ -1,3 +1,4 @@
+-- Circle 3 of docs/trust.md.
 -- The least walk from the depot and back under a load, and the table by which it is found.
 use Rattle.std.specs.List.{All, AllByRecursion}
 use Rattle.std.specs.Prelude.{◌≡◌, Option, Some, None, ℤ, ◌≤ℤ◌, ◌≢◌, ℕ, List, [], ◌∷◌, pos, ◌⊎◌, ◌*◌, ◌≤◌, ◌==◌, if◌then◌else◌, ◌+ℤ◌}

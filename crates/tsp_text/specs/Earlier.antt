@@ -1,3 +1,4 @@
+-- Circle 2 of docs/trust.md.
 -- What earlier items of a text say of it: the values of its lines, and the words of its sections.
 use Rattle.std.specs.List.{find, list_any}
 use Rattle.std.specs.Option.{option_map, option_map_or, option_and_then}

@@ -1,3 +1,4 @@
+-- Circle 2 of docs/trust.md.
 -- The table of the faults of a line or a word, a section `----` for each row: it says when the row applies to an item
 -- after the items before it, the last one first. Source: TSPLIB 95 (G. Reinelt) for the place of each word; the rows
 -- and their order are this project's profile.

@@ -1,3 +1,4 @@
+-- Circle 2 of docs/trust.md.
 -- Sections whose words come in groups, in lists that -1 ends, or by node, and the sets of families.
 use Rattle.std.specs.List.{list_any, fold}
 use Rattle.std.specs.List.Sorted.{IsPermutation}

@@ -1,3 +1,4 @@
+-- Circle 2 of docs/trust.md.
 -- The lines of a text, cut into items: lines, words and line ends.
 use Rattle.std.specs.List.{filter, slice_split, prefix_len, take_while, before_first, list_any, list_all, AllByRecursion}
 use Rattle.std.specs.Prelude.{ℕ, Bool, true, false, cond, ◌==◌, List, [], ◌∷◌, drop, reverse, ◌+◌, nat_lt, ◌++◌, length, map, ◌≡◌, ◌-◌, not, slice_index}

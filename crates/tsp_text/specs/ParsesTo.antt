@@ -1,3 +1,4 @@
+-- Circle 2 of docs/trust.md.
 -- Which file a text parses to, or its first fault, and its text. Every text has exactly one answer.
 use Rattle.std.specs.List.{find, filter}
 use Rattle.std.specs.Option.{option_or, option_map}

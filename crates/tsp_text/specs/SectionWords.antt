@@ -1,3 +1,4 @@
+-- Circle 2 of docs/trust.md.
 -- The words of each section at their places, and the numbers that they are: tours, weights, and the steps of a tree.
 use Rattle.std.specs.List.{slice_split, filter, fold}
 use Rattle.std.specs.Ordering.{int_eq}

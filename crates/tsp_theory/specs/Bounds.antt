@@ -1,3 +1,4 @@
+-- Circle 3 of docs/trust.md.
 -- The lower bounds that numbers on nodes give: least 1-trees under potentials, with numbers on pairs or without, and
 -- duals of an assignment.
 use Rattle.std.specs.List.{All, AllPairs}

@@ -1,3 +1,4 @@
+-- Circles 1 and 3 of docs/trust.md.
 -- Tours of a travelling salesman problem and plans of a routing problem: cycles, their lengths, and which nodes and
 -- customers they serve.
 use Rattle.std.specs.List.{All, AllPairs, Contains, concat}

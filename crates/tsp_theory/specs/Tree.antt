@@ -1,3 +1,4 @@
+-- Circle 3 of docs/trust.md.
 -- Trees and 1-trees over the nodes of a problem, their weights, and least growths.
 use Rattle.std.specs.List.{All, list_any, filter}
 use Rattle.std.specs.Prelude.{◌≡◌, ◌≢◌, ℕ, ◌==◌, ◌<◌, ◌≤◌, Bool, true, false, not, if◌then◌else◌, List, [], ◌∷◌, length, ℤ, pos, ◌≤ℤ◌, ◌+◌, ◌||◌, map, nat_lt}

@@ -19,7 +19,7 @@ use Rattle.tsp_report.specs.declared.verdict.KnownBound.{KnownBound}
 use Rattle.tsp_report.specs.declared.verdict.Reason.{Reason}
 use Rattle.tsp_report.specs.declared.verdict.Reason.TheVariants.{NotASolution, TooFewNodes, NotSymmetric, Dimension, TourCount, TourLength, DepotCount, DepotDemand, FixedEdgesInRoutes, DepotInRoute, NodeOutOfRange, RepeatedNode, FixedEdgeUnused, Unserved, Overload, LengthClaimed, NotPotentials, PotentialsDimension, PotentialsKind, MultiplierNotFixed, MultiplierRepeated, DualInfeasible, NotBranches, BranchesDimension, BadComb, BadBranch, BranchTwice, BadLeaf, TooManyLoads, NotJudged}
 use Rattle.tsp_report.specs.declared.verdict.Verdict.{Verdict}
-use Rattle.tsp_verdict.specs.Certificates.{AppliesToBranches, AppliesToQRoutes, AreListed, IsUnlisted, IsPairRepeated, pair_at, has_wanted, BreaksDuals, AppliesToPotentials, IsBoundByDuals}
+use Rattle.tsp_verdict.specs.Certificates.{AppliesToBranches, StandsAgainstQRoutes, AreListed, IsUnlisted, IsPairRepeated, pair_at, has_wanted, BreaksDuals, AppliesToPotentials, IsBoundByDuals}
 use Rattle.tsp_verdict.specs.Certified.{AppliesToTouring, NoneAgainstTouring, AppliesToRouting, AppliesToInstanceBy, AppliesToInstance, NoneAgainstInstance, AppliesToCertificateBy, IsCertifiedTourVerdict, IsCertifiedRoutesVerdict, IsCertifiedVerdictBy, IsCertifiedVerdict, IsBoundBy, IsCertified, AppliesToCertificate, NoneWithoutMemory}
 use Rattle.tsp_verdict.specs.SolutionVerdict.{IsKnownBoundOfToursBy, IsKnownBoundOfRoutesBy, IsKnownBoundBy}
 use Rattle.tsp_verdict.specs.Solutions.{IsFirstPlace, IsFirstReason, NoneBefore, AppliesToTour, AppliesToRoutes}
@@ -193,7 +193,7 @@ instance_either (Some kinds.Branches) P inst tours routing = tours
 instance_either None P inst tours routing = tours
 
 pub tree_either : (kind : Option Kind) (P : (Reason → Type 0) → Type 0) (inst tree : Fields) → P (AppliesToBranches inst tree)
-    → P (AppliesToQRoutes inst tree) → P (AppliesToCertificateBy Branches kind inst tree)
+    → P (StandsAgainstQRoutes inst tree) → P (AppliesToCertificateBy Branches kind inst tree)
 tree_either (Some kinds.Tsp) P inst tree tours routes = tours
 tree_either (Some kinds.Atsp) P inst tree tours routes = tours
 tree_either (Some kinds.Cvrp) P inst tree tours routes = routes
@@ -488,7 +488,7 @@ branches_rank inst cert (BranchTwice index) applies = omega arith
 branches_rank inst cert (BadLeaf index) applies = omega arith
 branches_rank inst cert reason applies = absurd applies
 
-q_routes_rank : (inst cert : Fields) (reason : Reason) → AppliesToQRoutes inst cert reason
+q_routes_rank : (inst cert : Fields) (reason : Reason) → StandsAgainstQRoutes inst cert reason
     → rank_of NotPotentials ≤ rank_of reason
 q_routes_rank inst cert NotBranches applies = omega arith
 q_routes_rank inst cert BranchesDimension applies = omega arith

@@ -25,7 +25,7 @@ use Rattle.tsp_report.specs.declared.verdict.Reason.{Reason}
 use Rattle.tsp_report.specs.declared.verdict.Reason.TheVariants.{TooFewNodes, NotSymmetric, DepotCount, DepotDemand, FixedEdgesInRoutes, LengthClaimed, NotASolution, Dimension, TourCount, TourLength, DepotInRoute, NodeOutOfRange, RepeatedNode, FixedEdgeUnused, Unserved, Overload, NotPotentials, PotentialsDimension, PotentialsKind, MultiplierNotFixed, MultiplierRepeated, DualInfeasible, NotBranches, BranchesDimension, BadComb, BadBranch, BranchTwice, BadLeaf, TooManyLoads, NotJudged}
 use Rattle.tsp_verdict.proofs.FirstReasons.{certificate_rank, HasTours, instance_either, first_for_tours, tour_rank, routes_rank, AreOwn, Both, Carried, reason_of, IsOneByRank, one_place, one_pair, tree_either}
 use Rattle.tsp_verdict.proofs.TreeReasons.{one_numbers}
-use Rattle.tsp_verdict.specs.Certificates.{given_in, AreNumbersOf, AppliesToBranches, families_with_numbers, BreaksDuals, AppliesToPotentials, AppliesToQRoutes}
+use Rattle.tsp_verdict.specs.Certificates.{given_in, AreNumbersOf, AppliesToBranches, families_with_numbers, BreaksDuals, AppliesToPotentials, StandsAgainstQRoutes}
 use Rattle.tsp_verdict.specs.Certified.{AppliesToTouring, AppliesToRouting, AppliesToInstance, NoneAgainstInstance, AppliesToBounded, IsBoundVerdict, AppliesToCertificate, FindsBound, AppliesToCertified, AppliesToCertifiedRoutes}
 use Rattle.tsp_verdict.specs.Solutions.{IsFirstReason, IsFirstUnserved, AppliesToRoutes, AppliesToTour}
 
@@ -426,22 +426,22 @@ one_bad_plan_leaf n families steps a b one other = elim (cases_order a b) [
   | inr (inr more) ↦ absurd (other.bad (one.before b other.least more))
 ]
 
-bad_branch_by_rank : (inst tree : Fields) (a b : ℕ) → AppliesToQRoutes inst tree (BadBranch a)
-    → AppliesToQRoutes inst tree (BadBranch b) → a ≡ b
+bad_branch_by_rank : (inst tree : Fields) (a b : ℕ) → StandsAgainstQRoutes inst tree (BadBranch a)
+    → StandsAgainstQRoutes inst tree (BadBranch b) → a ≡ b
 bad_branch_by_rank inst tree a b one other =
     let steps = one_value tree.branches other.0 one.0 other.1 one.1 in
     let moved = subst (λ steps. IsFirstBadPlanBranch (nodes_of inst) (length (families_listed tree)) steps b) steps other.2 in
     one_bad_pair (nodes_of inst + 1) (nodes_of inst + length (families_listed tree)) one.0 a b one.2 moved
 
-bad_plan_leaf_by_rank : (inst tree : Fields) (a b : ℕ) → AppliesToQRoutes inst tree (BadLeaf a)
-    → AppliesToQRoutes inst tree (BadLeaf b) → a ≡ b
+bad_plan_leaf_by_rank : (inst tree : Fields) (a b : ℕ) → StandsAgainstQRoutes inst tree (BadLeaf a)
+    → StandsAgainstQRoutes inst tree (BadLeaf b) → a ≡ b
 bad_plan_leaf_by_rank inst tree a b one other =
     let steps = one_value tree.branches other.0 one.0 other.1 one.1 in
     let moved = subst (λ steps. IsFirstBadPlanLeaf (nodes_of inst) (length (families_listed tree)) steps b) steps other.2 in
     one_bad_plan_leaf (nodes_of inst) (length (families_listed tree)) one.0 a b one.2 moved
 
 -- plan: by the reason: one without numbers is equal to itself; of one with numbers files have one first place or pair
-pub q_routes_by_rank : (inst tree : Fields) → IsOneByRank (AppliesToQRoutes inst tree)
+pub q_routes_by_rank : (inst tree : Fields) → IsOneByRank (StandsAgainstQRoutes inst tree)
 q_routes_by_rank inst tree NotASolution carried one other = absurd one
 q_routes_by_rank inst tree TooFewNodes carried one other = absurd one
 q_routes_by_rank inst tree (NotSymmetric i j) carried one other = absurd one

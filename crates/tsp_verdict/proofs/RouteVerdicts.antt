@@ -36,7 +36,7 @@ use Rattle.tsp_verdict.proofs.CarriedBounds.{fitting}
 use Rattle.tsp_verdict.proofs.OneReason.{one_value}
 use Rattle.tsp_verdict.proofs.RouteFiles.{demand_low, none_fewer}
 use Rattle.tsp_verdict.proofs.TourVerdicts.{all_apart, marked_there, there_marked}
-use Rattle.tsp_verdict.specs.Certificates.{unit_in, AppliesToQRoutes, HasBoundByQRoutes}
+use Rattle.tsp_verdict.specs.Certificates.{unit_in, StandsAgainstQRoutes, HasBoundByQRoutes}
 use Rattle.tsp_verdict.specs.Certified.{AppliesToRouting, NoneAgainstRouting, IsBoundBy, HasNoBoundBy, BoundsSolutionsBy, HasNoSolutionBy, AppliesToCertificateBy, AppliesToCertificate, FindsBound}
 use Rattle.tsp_verdict.specs.Solutions.{IsFirstPlace, IsLarger, IsAt, IsAtEarlierPlace, visited, tours_of, NoneBefore, IsFirstUnserved, IsOverloaded, AppliesToRoutes, NoneOfRoutesBefore, NoneOfRoutesBeforePlaces, total_of, AreCustomers, IsFirstAgainstRoutes, IsRoutesVerdict, IsFirstReason}
 use Rattle.tsp_verdict.specs.states.Marks.{Marked}
@@ -382,13 +382,13 @@ plan_steps f steps held =
 -- ---- what rules a reason out
 
 no_bad_set : (inst tree : Fields) (crossed : List Crossings) → AreCapacityCuts (routing_of inst) (families_listed tree) crossed
-    → (index : ℕ) → AppliesToQRoutes inst tree (BadComb index) → ⊥
+    → (index : ℕ) → StandsAgainstQRoutes inst tree (BadComb index) → ⊥
 no_bad_set inst tree crossed cuts index bad =
     bad.bad (index - 1) (omega (arith, bad.least)) (cuts.good (index - 1) (omega (arith, bad.least, bad.most)))
 
 no_bad_branch : (inst tree : Fields) (steps : List Step) → tree.branches ≡ Some steps
     → AreGoodBranches (nodes_of inst) (length (families_listed tree)) steps
-    → (index : ℕ) → AppliesToQRoutes inst tree (BadBranch index) → ⊥
+    → (index : ℕ) → StandsAgainstQRoutes inst tree (BadBranch index) → ⊥
 no_bad_branch inst tree steps are good index applies =
     let same = one_value tree.branches applies.0 steps applies.1 are in
     let bad = subst (λ steps. IsFirstBadPlanBranch (nodes_of inst) (length (families_listed tree)) steps index) same applies.2 in
@@ -396,7 +396,7 @@ no_bad_branch inst tree steps are good index applies =
 
 no_bad_plan_leaf : (inst tree : Fields) (steps : List Step) → tree.branches ≡ Some steps
     → AreGoodPlanLeaves (nodes_of inst) (length (families_listed tree)) steps
-    → (index : ℕ) → AppliesToQRoutes inst tree (BadLeaf index) → ⊥
+    → (index : ℕ) → StandsAgainstQRoutes inst tree (BadLeaf index) → ⊥
 no_bad_plan_leaf inst tree steps are good index applies =
     let same = one_value tree.branches applies.0 steps applies.1 are in
     let bad = subst (λ steps. IsFirstBadPlanLeaf (nodes_of inst) (length (families_listed tree)) steps index) same applies.2 in
@@ -415,11 +415,11 @@ no_many_loads problem unit light units few many =
 
 -- the facts before a rank rule out the reasons before it
 none_before : (inst tree : Fields) (rank : ℕ) → is_branches_file tree.kind ≡ true → nodes_of tree ≡ nodes_of inst
-    → (rank_of (BadComb 1) < rank → (index : ℕ) → AppliesToQRoutes inst tree (BadComb index) → ⊥)
-    → (rank_of (BadBranch 1) < rank → (index : ℕ) → AppliesToQRoutes inst tree (BadBranch index) → ⊥)
-    → (rank_of (BadLeaf 1) < rank → (index : ℕ) → AppliesToQRoutes inst tree (BadLeaf index) → ⊥)
-    → (rank_of TooManyLoads < rank → AppliesToQRoutes inst tree TooManyLoads → ⊥)
-    → NoneBefore (AppliesToQRoutes inst tree) rank
+    → (rank_of (BadComb 1) < rank → (index : ℕ) → StandsAgainstQRoutes inst tree (BadComb index) → ⊥)
+    → (rank_of (BadBranch 1) < rank → (index : ℕ) → StandsAgainstQRoutes inst tree (BadBranch index) → ⊥)
+    → (rank_of (BadLeaf 1) < rank → (index : ℕ) → StandsAgainstQRoutes inst tree (BadLeaf index) → ⊥)
+    → (rank_of TooManyLoads < rank → StandsAgainstQRoutes inst tree TooManyLoads → ⊥)
+    → NoneBefore (StandsAgainstQRoutes inst tree) rank
 none_before inst tree rank sort size sets branches leaves loads NotBranches low applies = false≢true (sym applies ∙ sort)
 none_before inst tree rank sort size sets branches leaves loads BranchesDimension low applies = applies size
 none_before inst tree rank sort size sets branches leaves loads (BadComb index) low applies = sets low index applies
@@ -430,7 +430,7 @@ none_before inst tree rank sort size sets branches leaves loads reason low appli
 
 -- of its routes the reasons against the certificate are these
 for_q_routes : (P : (Reason → Type 0) → Type 0) (inst tree : Fields) → inst.kind ≡ Some kinds.Cvrp
-    → P (AppliesToQRoutes inst tree) → P (AppliesToCertificate Branches inst tree)
+    → P (StandsAgainstQRoutes inst tree) → P (AppliesToCertificate Branches inst tree)
 for_q_routes P inst tree cvrp first = subst (λ k. P (AppliesToCertificateBy Branches k inst tree)) (sym cvrp) first
 
 -- ---- the verdict
@@ -477,7 +477,7 @@ loads_first inst tree cvrp sort size is = for_q_routes (λ Applies. IsFirstReaso
 })
 
 none_of_q_routes : (inst tree : Fields) (bound : Option ℤ) → is_branches_file tree.kind ≡ true → nodes_of tree ≡ nodes_of inst
-    → IsReportedOfRoutes inst tree (found.Bound bound) → (reason : Reason) → AppliesToQRoutes inst tree reason → ⊥
+    → IsReportedOfRoutes inst tree (found.Bound bound) → (reason : Reason) → StandsAgainstQRoutes inst tree reason → ⊥
 none_of_q_routes inst tree bound sort size is NotBranches applies = false≢true (sym applies ∙ sort)
 none_of_q_routes inst tree bound sort size is BranchesDimension applies = applies size
 none_of_q_routes inst tree bound sort size is (BadComb index) applies =

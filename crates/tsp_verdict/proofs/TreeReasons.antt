@@ -39,7 +39,7 @@ use Rattle.tsp_report.specs.declared.verdict.Reason.TheVariants.{NotBranches, Br
 use Rattle.tsp_verdict.proofs.CarriedBounds.{Same, fitting}
 use Rattle.tsp_verdict.proofs.FirstReasons.{tree_either}
 use Rattle.tsp_verdict.proofs.GivenPairs.{keeps_given}
-use Rattle.tsp_verdict.specs.Certificates.{each_once, given_in, case_steps_in, families_with_numbers, AreNumbersOf, IsBadFamily, AppliesToBranches, HasBoundByBranches, IsBoundByBranches, HasNoBoundByBranches, AppliesToQRoutes}
+use Rattle.tsp_verdict.specs.Certificates.{each_once, given_in, case_steps_in, families_with_numbers, AreNumbersOf, IsBadFamily, AppliesToBranches, HasBoundByBranches, IsBoundByBranches, HasNoBoundByBranches, StandsAgainstQRoutes}
 use Rattle.tsp_verdict.specs.Certified.{IsBoundBy, HasNoBoundBy, HasNoBound, AppliesToCertificateBy, AppliesToCertificate, BoundsSolutionsBy, BoundsSolutions, HasNoSolutionBy, HasNoSolution, IsCertified}
 use Rattle.tsp_verdict.specs.Solutions.{IsFirstPlace, NoneBefore, IsFirstReason}
 use Rattle.tsp_verdict.specs.states.TourKnownBounds.{IsSymmetricTsp}
@@ -284,7 +284,7 @@ no_branches inst tree other =
     of_tours (BadLeaf index) low applies = omega (arith, low)
     of_tours reason low applies = applies
 
-    of_q_routes : (reason : Reason) → rank_of reason < rank_of NotBranches → AppliesToQRoutes inst tree reason → ⊥
+    of_q_routes : (reason : Reason) → rank_of reason < rank_of NotBranches → StandsAgainstQRoutes inst tree reason → ⊥
     of_q_routes NotBranches low applies = omega (arith, low)
     of_q_routes BranchesDimension low applies = omega (arith, low)
     of_q_routes (BadComb index) low applies = omega (arith, low)
@@ -309,7 +309,7 @@ other_dimension inst tree sort other =
     of_tours (BadLeaf index) low applies = omega (arith, low)
     of_tours reason low applies = applies
 
-    of_q_routes : (reason : Reason) → rank_of reason < rank_of BranchesDimension → AppliesToQRoutes inst tree reason → ⊥
+    of_q_routes : (reason : Reason) → rank_of reason < rank_of BranchesDimension → StandsAgainstQRoutes inst tree reason → ⊥
     of_q_routes NotBranches low applies = false≢true (sym applies ∙ sort)
     of_q_routes BranchesDimension low applies = omega (arith, low)
     of_q_routes (BadComb index) low applies = omega (arith, low)

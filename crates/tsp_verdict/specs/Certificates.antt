@@ -1,3 +1,4 @@
+-- Circle 3 of docs/trust.md.
 -- When a reason applies to a certificate, and its bound: by potentials, by branches for tours, and by branches for
 -- routes.
 use Rattle.std.specs.List.{All, Contains}
@@ -171,17 +172,17 @@ unit_in tree = nat_abs (load_unit_in tree)
 -- ---- when a reason applies to it; reasons of routes and of other certificates never do
 
 -- when a reason applies to the certificate
-abbrev pub AppliesToQRoutes : Fields → Fields → Reason → Type 0
-AppliesToQRoutes instance tree NotBranches = is_branches_file tree.kind ≡ false
-AppliesToQRoutes instance tree BranchesDimension = nodes_of tree ≢ nodes_of instance
-AppliesToQRoutes instance tree (BadComb index) =
+abbrev pub StandsAgainstQRoutes : Fields → Fields → Reason → Type 0
+StandsAgainstQRoutes instance tree NotBranches = is_branches_file tree.kind ≡ false
+StandsAgainstQRoutes instance tree BranchesDimension = nodes_of tree ≢ nodes_of instance
+StandsAgainstQRoutes instance tree (BadComb index) =
     IsFirstBadSet (nodes_of instance) (depot_of instance) (families_listed tree) index
-AppliesToQRoutes instance tree (BadBranch index) = (steps : List listed.Step) × (tree.branches ≡ Some steps)
+StandsAgainstQRoutes instance tree (BadBranch index) = (steps : List listed.Step) × (tree.branches ≡ Some steps)
     × IsFirstBadPlanBranch (nodes_of instance) (length (families_listed tree)) steps index
-AppliesToQRoutes instance tree (BadLeaf index) = (steps : List listed.Step) × (tree.branches ≡ Some steps)
+StandsAgainstQRoutes instance tree (BadLeaf index) = (steps : List listed.Step) × (tree.branches ≡ Some steps)
     × IsFirstBadPlanLeaf (nodes_of instance) (length (families_listed tree)) steps index
-AppliesToQRoutes instance tree TooManyLoads = HasTooManyLoads (routing_of instance) (unit_in tree)
-AppliesToQRoutes instance tree reason = ⊥
+StandsAgainstQRoutes instance tree TooManyLoads = HasTooManyLoads (routing_of instance) (unit_in tree)
+StandsAgainstQRoutes instance tree reason = ⊥
 
 -- ---- its bound
 

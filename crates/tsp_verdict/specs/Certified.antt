@@ -1,3 +1,4 @@
+-- Circle 3 of docs/trust.md.
 -- The bound of a certificate of each TYPE, and the verdict on an instance and a certificate without a solution.
 use Rattle.std.specs.Prelude.{◌≡◌, ◌⊎◌, ℕ, Bool, true, false, List, [], ◌∷◌, Option, None, Some, ◌^◌, ℤ, pos, neg_ℤ, ◌≢◌, ◌<◌, ◌≤◌, length}
 use Rattle.tsp_format.specs.Steps.{IsFromTo}
@@ -18,7 +19,7 @@ use Rattle.tsp_report.specs.declared.verdict.Reason.{Reason}
 use Rattle.tsp_report.specs.declared.verdict.Reason.TheVariants.{MultiplierNotFixed, BadComb, TooFewNodes, NotSymmetric, DepotCount, DepotDemand, FixedEdgesInRoutes}
 use Rattle.tsp_report.specs.declared.verdict.Verdict.{Verdict}
 use Rattle.tsp_report.specs.declared.verdict.Verdict.TheVariants as verdicts
-use Rattle.tsp_verdict.specs.Certificates.{AppliesToPotentials, IsBoundByNodes, IsBoundByDuals, AppliesToQRoutes, HasBoundByQRoutes, AppliesToBranches, IsBoundByBranches, HasNoBoundByBranches}
+use Rattle.tsp_verdict.specs.Certificates.{AppliesToPotentials, IsBoundByNodes, IsBoundByDuals, StandsAgainstQRoutes, HasBoundByQRoutes, AppliesToBranches, IsBoundByBranches, HasNoBoundByBranches}
 use Rattle.tsp_verdict.specs.Solutions.{NoneBefore, IsFirstReason, tours_of, AppliesToTour, AppliesToRoutes, IsPlanned}
 
 -- ---- by the certificate, and by the TYPE of the instance
@@ -63,7 +64,7 @@ HasNoBound by instance certificate = HasNoBoundBy by instance.kind instance cert
 -- certificates never do
 abbrev pub AppliesToCertificateBy : CertificateKind → Option Kind → Fields → Fields → Reason → Type 0
 AppliesToCertificateBy Potentials kind instance certificate reason = AppliesToPotentials instance certificate reason
-AppliesToCertificateBy Branches (Some kinds.Cvrp) instance certificate reason = AppliesToQRoutes instance certificate reason
+AppliesToCertificateBy Branches (Some kinds.Cvrp) instance certificate reason = StandsAgainstQRoutes instance certificate reason
 AppliesToCertificateBy Branches other instance certificate reason = AppliesToBranches instance certificate reason
 
 -- when a reason applies to the certificate
