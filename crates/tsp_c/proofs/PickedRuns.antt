@@ -66,7 +66,7 @@ yes_ends {Yes = Yes} written status text accepted e = inl (Ok true, e.0, subst Y
 
 pub no_ends : {Yes No : List ℕ → Type 0} {Stops : RunFault → Type 0} (written : List ℕ) (status : ℕ) (text : List ℕ) → No written
     → EndsOnTexts (Ok false) written status text → EndsWithText Yes No Stops status text
-no_ends {No = No} written status text rejected e = inl (Ok false, e.0, subst No (sym e.1) rejected)
+no_ends {No = Ends} written status text rejected e = inl (Ok false, e.0, subst Ends (sym e.1) rejected)
 
 pub fault_ends : {Yes No : List ℕ → Type 0} {Stops : RunFault → Type 0} (fault : RunFault) (written : List ℕ) (status : ℕ)
     (text : List ℕ) → Stops (without_devices fault) → EndsOnTexts (Err fault) written status text
@@ -244,7 +244,7 @@ stopped_given : (by : Option CertificateKind) (third : ReadTrace) (three : List 
     → (text : CertificateKind × List ℕ) × (with_certificate by three ≡ Some text) × (fault text.1 ≡ Some found)
 stopped_given None third three given file found is known stops two = absurd cc
 stopped_given (Some by) third three given file found is known stops two =
-    ((by, three), refl, stopped third three file found known (subst (λ (g : Certificate × ReadTrace). StopsAt found g.1) (sym (some_is _ _ is)) stops) two)
+    ((by, three), refl, stopped third three file found known (subst (λ (g : CertificateKind × ReadTrace). StopsAt found g.1) (sym (some_is _ _ is)) stops) two)
   where
     some_is : (a b : CertificateKind × ReadTrace) → Some a ≡ Some b → a ≡ b
     some_is a b e = cc

@@ -20,7 +20,7 @@ returns-in-Some-take c =
     let old : Some c.in-Some-take.opened.value ≡ c.args.handle.now.loose.value = search rules in
     let new : Some c.bind_opened-status.new.opened ≡ c.put.new.self.loose.value = search rules in
     let lent : c.deref_mut.result.now ≡ c.in-Some-take.opened.value = search rules in
-    subst (λ (k : Option Certificate). BindsText k text c.args.handle.now.loose.value c.put.new.self.loose.value call_result status) kind
+    subst (λ (k : Option CertificateKind). BindsText k text c.args.handle.now.loose.value c.put.new.self.loose.value call_result status) kind
     (subst (λ (h : Held). BindsText (Some c.in-Some.by) text h c.put.new.self.loose.value call_result status) old
     (subst (λ (h : Held). BindsOpen c.in-Some.by text c.in-Some-take.opened.value h call_result status) new
     (subst (λ (o : Open). BindsOpen c.in-Some.by text o (Some c.bind_opened-status.new.opened) call_result status) lent c.bind_opened-status.ensures)))
