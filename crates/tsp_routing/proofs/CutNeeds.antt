@@ -359,7 +359,7 @@ straight : (xs : List ℕ) → Apart xs → IsStraight xs
 straight [] h = tt
 straight (x ∷ xs) h = (straight_from x xs h.0, straight xs h.1)
 
-apart_parts : (xs ys : List ℕ) → Apart (xs ++ ys) → Apart xs × Apart ys
+pub apart_parts : (xs ys : List ℕ) → Apart (xs ++ ys) → Apart xs × Apart ys
 apart_parts [] ys h = (tt, h)
 apart_parts (x ∷ xs) ys h =
     let rest = apart_parts xs ys h.1 in

@@ -314,7 +314,7 @@ module _ (problem : RoutingProblem) (families : List Family) (case : List Decisi
       let times = ap (λ z. z *ℤ multiplier) weight in
       omega (arith, ints, least, scaled, turned, times)
 
-  sets_of_plan : (place : ℕ) (others : List Family) (multipliers : List ℤ) → IsRoutable problem → IsPlan problem routes
+  pub sets_of_plan : (place : ℕ) (others : List Family) (multipliers : List ℤ) → IsRoutable problem → IsPlan problem routes
       → AllByRecursion (KeepsLimit problem.nodes families problem.depot routes) case → AllByRecursion (IsCutFamily problem) others
       → ((k x : ℕ) → set_at families (place + k - (problem.nodes + 1)) x ≡ set_at others k x)
       → limits_total case (2 * (problem.nodes - 1)) place others multipliers

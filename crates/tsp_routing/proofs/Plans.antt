@@ -416,7 +416,7 @@ pub times_low : (k : ℕ) (z : ℤ) → pos 0 ≤ℤ z → pos 0 ≤ℤ (pos k *
 times_low zero z low = let none = zero-*ℤ z in omega (arith, ints, none)
 times_low (suc k) z low = omega (arith, ints, low, times_low k z low, suc_ℤ-*ℤ (pos k) z)
 
-times_more : (k r : ℕ) (z : ℤ) → k ≤ r → pos 0 ≤ℤ z → (pos k *ℤ z) ≤ℤ (pos r *ℤ z)
+pub times_more : (k r : ℕ) (z : ℤ) → k ≤ r → pos 0 ≤ℤ z → (pos k *ℤ z) ≤ℤ (pos r *ℤ z)
 times_more zero r z le low = let none = zero-*ℤ z in omega (arith, ints, none, times_low r z low)
 times_more (suc k) zero z le low = absurd (omega (arith, le))
 times_more (suc k) (suc r) z le low =
@@ -426,7 +426,7 @@ times_high : (k : ℕ) (z : ℤ) → z ≤ℤ pos 0 → (pos k *ℤ z) ≤ℤ po
 times_high zero z high = let none = zero-*ℤ z in omega (arith, ints, none)
 times_high (suc k) z high = omega (arith, ints, high, times_high k z high, suc_ℤ-*ℤ (pos k) z)
 
-times_less : (k r : ℕ) (z : ℤ) → k ≤ r → z ≤ℤ pos 0 → (pos r *ℤ z) ≤ℤ (pos k *ℤ z)
+pub times_less : (k r : ℕ) (z : ℤ) → k ≤ r → z ≤ℤ pos 0 → (pos r *ℤ z) ≤ℤ (pos k *ℤ z)
 times_less zero r z le high = let none = zero-*ℤ z in omega (arith, ints, none, times_high r z high)
 times_less (suc k) zero z le high = absurd (omega (arith, le))
 times_less (suc k) (suc r) z le high =

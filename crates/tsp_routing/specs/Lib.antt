@@ -3,4 +3,9 @@ pub mod states
 pub mod PlanLinks
 pub mod QRoutes
 pub mod PlanBounds
+pub mod Runs
+pub mod RunBounds
+pub mod RunExamples
+pub mod KeptStates
 pub mod PlanVerdicts
+pub mod Examples

@@ -11,18 +11,32 @@
 
 mod context;
 mod demands;
+mod examples;
+mod kept_laws;
 mod kept_weights;
 mod laws;
 mod leaf_weights;
 mod least_q_route;
+mod memory_examples;
+mod memory_laws;
 mod needs;
 mod plan_leaf;
 mod sums;
 mod units;
 mod verdict;
 
+pub use examples::{
+    examples_of_bounds, examples_of_branches, examples_of_leaves, examples_of_limits,
+    examples_of_loads, examples_of_most, examples_of_needs, examples_of_products,
+    examples_of_q_routes,
+};
+pub use kept_laws::{equal_states_go_on_alike, kept_starts_give_least_runs};
 pub use laws::{
     plan_bounds_are_unique, plan_bounds_bound_plans, plan_links_add_up, plan_trees_bound_plans,
     plans_keep_limits, plans_leave_cuts, routes_are_q_routes,
 };
+pub use memory_examples::{
+    examples_of_halves, examples_of_run_bounds, examples_of_run_weights, examples_of_runs,
+};
+pub use memory_laws::{plans_are_charged_half, routes_are_runs, run_bounds_bound_plans};
 pub use verdict::{PlanTree, PlanVerdict, judge_plans};

@@ -1,0 +1,122 @@
+//! Laws that state values of the definitions in `specs/`, worked out by hand for a rectangle: how
+//! many routes its customers need, their loads, walks, limits, and the bounds of small
+//! certificates.
+
+ghost use Rattle.std.specs.Prelude.{◌≡◌, ◌+◌, ◌-◌, ◌*◌, ◌^◌, [], ◌∷◌, true, false, None, Some, pos, negsuc};
+ghost use Rattle.tsp_format.specs.Steps.{Branch, Leaf};
+ghost use Rattle.tsp_cases.specs.Crossings.{has};
+ghost use Rattle.tsp_routing.specs.PlanLinks.{IsFewest, IsCapacityCut, IsCutFamily, IsWithinLimit, AreUnits, load_in, capacity_in_parts};
+ghost use Rattle.tsp_routing.specs.Examples.{rectangle_with, lone_cut, at_most, above, IsQRouteByDemand, IsQRouteInFives, AreGoodMultipliers, LeafHas, three_potentials, CertificateHas, branch_on_two};
+ghost use Rattle.tsp_routing.specs.PlanVerdicts.{AreGoodBranches, IsFirstBadPlanBranch, most_of_multipliers, most_entries, HasTooManyLoads};
+ghost use Rattle.tsp_routing.specs.PlanBounds.{least_product, least_times, low_of, high_of};
+
+/// How many routes carry a demand of 12, how many a set of these customers needs, and how often a
+/// plan crosses the set at least.
+pub fn examples_of_needs()
+    ensures fewest { IsFewest (rectangle_with (pos 8)) 2 }
+    ensures fewest_of_full { IsFewest (rectangle_with (pos 4)) 3 }
+    ensures fewest_of_one { IsFewest (rectangle_with (pos 12)) 1 }
+    ensures need { IsCapacityCut (rectangle_with (pos 8)) (has (2 ∷ 3 ∷ 4 ∷ [])) 2 }
+    ensures need_of_two { IsCapacityCut (rectangle_with (pos 8)) (has (3 ∷ 4 ∷ [])) 1 }
+    ensures need_of_small_routes { IsCapacityCut (rectangle_with (pos 7)) (has (3 ∷ 4 ∷ [])) 2 }
+    ensures crossed { IsCutFamily (rectangle_with (pos 8)) (lone_cut 4 (2 ∷ 3 ∷ 4 ∷ [])) }
+    ensures crossed_of_two { IsCutFamily (rectangle_with (pos 8)) (lone_cut 2 (3 ∷ 4 ∷ [])) }
+{}
+
+/// The two limits with t = 1, and how often a plan crosses the set 5 at least and at most: by the
+/// limits on it, and by what holds for all plans.
+pub fn examples_of_limits()
+    ensures two { IsWithinLimit (pos 2) true 1 }
+    ensures more_than_two { ¬ IsWithinLimit (pos 3) true 1 }
+    ensures four { IsWithinLimit (pos 4) false 1 }
+    ensures fewer_than_four { ¬ IsWithinLimit (pos 3) false 1 }
+    ensures low { low_of 5 (above 5 1 ∷ []) 2 ≡ 4 }
+    ensures high { high_of 5 (at_most 5 1 ∷ []) 6 ≡ 2 }
+    ensures low_without { low_of 5 [] 2 ≡ 2 }
+    ensures high_without { high_of 5 [] 6 ≡ 6 }
+    ensures low_of_all { low_of 5 (above 5 1 ∷ []) 6 ≡ 6 }
+    ensures high_of_all { high_of 5 (at_most 5 4 ∷ []) 6 ≡ 6 }
+    ensures greatest_low { low_of 5 (above 5 1 ∷ above 5 2 ∷ []) 2 ≡ 6 }
+    ensures least_high { high_of 5 (at_most 5 2 ∷ at_most 5 1 ∷ []) 6 ≡ 2 }
+    ensures low_beside_high { low_of 5 (at_most 5 2 ∷ above 5 1 ∷ []) 2 ≡ 4 }
+    ensures high_beside_low { high_of 5 (at_most 5 2 ∷ above 5 1 ∷ []) 6 ≡ 4 }
+    ensures low_of_another { low_of 5 (above 6 1 ∷ []) 2 ≡ 2 }
+    ensures high_of_another { high_of 5 (at_most 6 1 ∷ []) 6 ≡ 6 }
+{}
+
+/// What each route adds counts for the fewest routes, or for the most if it is below 0. A
+/// multiplier counts for the fewest crossings of its set, or for the most if it is below 0.
+pub fn examples_of_products()
+    ensures fewest_routes { least_product 2 3 (pos 6) ≡ pos 12 }
+    ensures most_routes { least_product 1 3 (negsuc 11) ≡ negsuc 35 }
+    ensures low { least_times 2 6 (pos 5) ≡ pos 10 }
+    ensures high { least_times 2 6 (negsuc 0) ≡ negsuc 5 }
+{}
+
+/// The load of a customer who demands 4 and the capacity of a route that carries 8: in units of 4,
+/// of 1, and of 5, where all customers load a part of a unit.
+pub fn examples_of_loads()
+    ensures none_light { AreUnits (rectangle_with (pos 8)) 4 0 }
+    ensures load { load_in (rectangle_with (pos 8)) 4 0 2 ≡ 1 }
+    ensures room { capacity_in_parts (rectangle_with (pos 8)) 4 0 ≡ 2 }
+    ensures load_of_demands { load_in (rectangle_with (pos 8)) 1 0 2 ≡ 4 }
+    ensures room_of_demands { capacity_in_parts (rectangle_with (pos 8)) 1 0 ≡ 8 }
+    ensures all_light { AreUnits (rectangle_with (pos 8)) 5 3 }
+    ensures light_load { load_in (rectangle_with (pos 8)) 5 3 2 ≡ 1 }
+    ensures room_of_light { capacity_in_parts (rectangle_with (pos 8)) 5 3 ≡ 7 }
+    ensures load_beside_light { load_in (rectangle_with (pos 8)) 4 3 2 ≡ 4 }
+{}
+
+/// Walks, and lists of nodes that are none: they load too much, turn back, stay at a node, or pass
+/// the depot.
+pub fn examples_of_q_routes()
+    ensures two { IsQRouteByDemand (2 ∷ 3 ∷ []) }
+    ensures three { ¬ IsQRouteByDemand (2 ∷ 3 ∷ 4 ∷ []) }
+    ensures again { IsQRouteInFives (2 ∷ 3 ∷ 4 ∷ 2 ∷ 3 ∷ 4 ∷ 2 ∷ []) }
+    ensures too_many { ¬ IsQRouteInFives (2 ∷ 3 ∷ 4 ∷ 2 ∷ 3 ∷ 4 ∷ 2 ∷ 3 ∷ []) }
+    ensures back { ¬ IsQRouteInFives (2 ∷ 3 ∷ 2 ∷ []) }
+    ensures back_later { ¬ IsQRouteInFives (2 ∷ 3 ∷ 4 ∷ 3 ∷ []) }
+    ensures stays { ¬ IsQRouteInFives (2 ∷ 2 ∷ []) }
+    ensures depot { ¬ IsQRouteInFives (2 ∷ 1 ∷ 3 ∷ []) }
+    ensures none { ¬ IsQRouteInFives [] }
+{}
+
+/// A table may have 10,000,000 entries, and the sizes of multipliers may sum to 3 * 10^17.
+pub fn examples_of_most()
+    ensures entries { most_entries ≡ 10 ^ 7 }
+    ensures as_many_loads { ¬ HasTooManyLoads (rectangle_with (pos 2499999)) 1 }
+    ensures more_loads { HasTooManyLoads (rectangle_with (pos 2500000)) 1 }
+    ensures multipliers { most_of_multipliers ≡ 3 * 10 ^ 17 }
+    ensures largest { AreGoodMultipliers (pos (3 * 10 ^ 17) ∷ []) 1 }
+    ensures larger { ¬ AreGoodMultipliers (pos (3 * 10 ^ 17 + 1) ∷ []) 1 }
+    ensures both_signs { AreGoodMultipliers (pos (2 * 10 ^ 17) ∷ negsuc (10 ^ 17 - 1) ∷ []) 2 }
+    ensures larger_of_both_signs { ¬ AreGoodMultipliers (pos (2 * 10 ^ 17) ∷ negsuc (10 ^ 17) ∷ []) 2 }
+{}
+
+/// With four nodes the first number of a branch is 4 + k, for family k. It is no node.
+pub fn examples_of_branches()
+    ensures family { AreGoodBranches 4 1 (Branch 5 1 ∷ Leaf [] ∷ Leaf [] ∷ []) }
+    ensures second_family { AreGoodBranches 4 2 (Branch 6 1 ∷ Leaf [] ∷ Leaf [] ∷ []) }
+    ensures family_more { IsFirstBadPlanBranch 4 1 (Branch 6 1 ∷ Leaf [] ∷ Leaf [] ∷ []) 1 }
+    ensures last_node { IsFirstBadPlanBranch 4 1 (Branch 4 1 ∷ Leaf [] ∷ Leaf [] ∷ []) 1 }
+    ensures no_family { IsFirstBadPlanBranch 4 0 (Branch 5 1 ∷ Leaf [] ∷ Leaf [] ∷ []) 1 }
+{}
+
+/// The bounds of leaves with one set, from the least weight of a walk. The multiplier is given back
+/// for each crossing. Two routes are the fewest, and three the most.
+pub fn examples_of_leaves()
+    ensures low { LeafHas [] (pos 1) (pos 6) (pos 14) }
+    ensures high { LeafHas [] (negsuc 0) (pos 6) (pos 6) }
+    ensures low_of_case { LeafHas (above 5 1 ∷ []) (pos 1) (pos 6) (pos 16) }
+    ensures high_of_case { LeafHas (at_most 5 1 ∷ []) (negsuc 0) (pos 6) (pos 10) }
+    ensures most_routes { LeafHas [] (pos 0) (negsuc 11) (negsuc 35) }
+{}
+
+/// The bounds of certificates for the rectangle, whose shortest plan has the length 18: the routes
+/// 2 and 3 4.
+pub fn examples_of_bounds()
+    ensures no_numbers { CertificateHas (pos 8) [] (Leaf [] ∷ []) (Some (pos 12)) }
+    ensures potentials { CertificateHas (pos 8) [] (three_potentials (negsuc 2)) (Some (pos 18)) }
+    ensures branch { CertificateHas (pos 8) (((3 ∷ 4 ∷ []) ∷ []) ∷ []) branch_on_two (Some (pos 10)) }
+    ensures no_q_route { CertificateHas (pos 3) [] (Leaf [] ∷ []) None }
+{}
