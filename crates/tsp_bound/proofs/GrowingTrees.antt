@@ -1,17 +1,7 @@
 -- A tree that grows row by row from node 2: the nodes outside, the nearest node inside for each, and one node more.
-use Rattle.std.proofs.Common.{◌≡◌, ◌≢◌, ℕ, ◌+◌, ◌-◌, ◌<◌, ◌≤◌, ◌==◌, List, [], length, slice_index, get_or, inl, inr, refl, ap, sym, subst, ◌∙◌, arith, Bool, true, false, ◌∷◌, ◌++◌, length-append}
-use Rattle.std.proofs.Math.ListN.{set}
-use Rattle.std.proofs.lemmas.Bool.{cases_eq, eq-eqb, ne_eqb, or_parts, or_cases, eqb-true, eqb-false}
-use Rattle.std.proofs.lemmas.Int.{ints}
-use Rattle.std.proofs.lemmas.List.{get_or-set_same, get_or-set_other, get_or-take, get_or_default, length-take-le, length-set}
+use Rattle.tsp_bound.proofs.Prelude.{◌≡◌, ◌≢◌, ℕ, ◌+◌, ◌-◌, ◌<◌, ◌≤◌, ◌==◌, List, [], length, slice_index, get_or, inl, inr, refl, ap, sym, subst, ◌∙◌, arith, Bool, true, false, ◌∷◌, ◌++◌, length-append, set, cases_eq, eq-eqb, ne_eqb, or_parts, or_cases, eqb-true, eqb-false, ints, get_or-set_same, get_or-set_other, get_or-take, get_or_default, length-take-le, length-set, ℤ, pos, ◌≤ℤ◌, ◌<ℤ◌, ◌⊎◌, if◌then◌else◌, ◌+ℤ◌, weight_added, most_64, grows_more, grown_by_more, IsInner, weight_of, and_node, IsLeastLeaving, Grows, grown_by, least_at, IsNearer}
 use Rattle.std.specs.List.{swap_remove}
-use Rattle.std.specs.Prelude.{ℤ, pos, ◌≤ℤ◌, ◌<ℤ◌, ◌⊎◌, if◌then◌else◌, ◌+ℤ◌}
-use Rattle.tsp_theory.proofs.Cycles.{weight_added}
 use Rattle.tsp_theory.proofs.Exchange.{and_node_self, and_node_old}
-use Rattle.tsp_theory.proofs.Sums.{most_64}
-use Rattle.tsp_theory.proofs.Trees.{grows_more, grown_by_more}
-use Rattle.tsp_theory.specs.Tree.{IsInner, weight_of, and_node, IsLeastLeaving, Grows, grown_by}
-use Rattle.tsp_theory.specs.states.Nearest.{least_at, IsNearer}
 use Rattle.tsp_bound.specs.states.Outside.{AreFromThree, AreBroughtNearer, AreInner, IsLeastPlace}
 
 -- ---- the nodes from 3 on, one more

@@ -1,12 +1,7 @@
 -- The twelve least links of each place, by one pass over all pairs, and the number that no unlisted link is below.
-use Rattle.std.proofs.Common.{◌≡◌, ◌≢◌, ℕ, ◌+◌, ◌*◌, ◌<◌, ◌≤◌, List, Option, None, Some, length, set, drop, take, get_or, ℤ, pos, ◌≤ℤ◌, ◌<ℤ◌, ◌⊎◌, inl, inr, refl, arith, ap, sym, subst, ◌∙◌, IfSome, w64, to_z, of_z, SFits}
-use Rattle.std.proofs.lemmas.Bool.{cases_eq, cases_lt}
-use Rattle.std.proofs.lemmas.Int.{ints, to_z-of_z}
-use Rattle.std.proofs.lemmas.List.{get_or-set_same, get_or-set_other, get_or-take, get_or-drop}
-use Rattle.tsp_theory.specs.states.Nearest.{least_at}
+use Rattle.tsp_bound.proofs.Prelude.{◌≡◌, ◌≢◌, ℕ, ◌+◌, ◌*◌, ◌<◌, ◌≤◌, List, Option, length, set, drop, take, get_or, ℤ, pos, ◌≤ℤ◌, ◌<ℤ◌, ◌⊎◌, inl, inr, refl, arith, ap, sym, subst, ◌∙◌, IfSome, w64, to_z, of_z, SFits, cases_eq, cases_lt, ints, to_z-of_z, get_or-set_same, get_or-set_other, get_or-take, get_or-drop, least_at}
 use Rattle.tsp_bound.specs.declared.search.Link.{Link}
 use Rattle.tsp_bound.specs.states.Components.{IsKeptLink, IsOffered, kept_at, empty_link, IsOwnLink, IsKnown, IsPut, IsTaken, IsSeen, AreOffered}
-use Rattle.tsp_bound.proofs.RoundJoins.{IsReached}
 
 pub no_more_where_not : (a b : ℤ) → (b <ℤ a → ⊥) → a ≤ℤ b
 no_more_where_not a b h = grind (arith, ints, h)
@@ -179,10 +174,6 @@ ending_offered n w label from best link new old own offered = elim offered.one [
   | inl same ↦ subst (IsEnding n w label from) (sym same) own
   | inr was ↦ subst (λ (o : Option Link). IfSome o (IsEnding n w label from)) was old
 ]
-
-pub reached_offered : (best : Option Link) (link new : Link) (weight : ℤ) → IsOffered best link new → IsReached best weight → new.weight ≤ℤ weight
-reached_offered None link new weight offered reached = absurd reached
-reached_offered (Some was) link new weight offered reached = let k = offered.kept in omega (arith, ints, k, reached)
 
 -- a link of the place that weighs at most its listed links to other components, and at most the number of the place
 -- plan: by whether a link to another component is listed: it weighs at least the best listed one, or at least the

@@ -1,20 +1,8 @@
 -- What the multipliers of pairs take off weights, the table of multipliers by node, and the duals of all rows.
-use Rattle.std.proofs.Common.{◌≡◌, ◌≢◌, ℕ, zero, suc, ◌+◌, ◌<◌, ◌==◌, List, [], ◌∷◌, drop, length, map, get_or, ℤ, FitsSigned, inl, inr, refl, arith, ap, sym, ◌∙◌, drop-cons, add-one, ◌≤◌, ◌&&◌, ◌||◌, Bool, true, false, ◌++◌, take, ap₂, subst, below_more}
-use Rattle.std.proofs.Math.ListN.{set, length-set}
-use Rattle.std.proofs.lemmas.Bool.{cases_eq, eq-eqb, ne_eqb, cases_Bool, both_ways, and_from, or_left, or_right, eqb-true}
-use Rattle.std.proofs.lemmas.Int.{ints}
-use Rattle.std.proofs.lemmas.List.{get_or-set_same, get_or-set_other, append-nil, append_assoc, take_more}
-use Rattle.std.proofs.lemmas.List.Elements.{recursion_from_All, All-from_recursion}
+use Rattle.tsp_bound.proofs.Prelude.{◌≡◌, ◌≢◌, ℕ, zero, suc, ◌+◌, ◌<◌, ◌==◌, List, [], ◌∷◌, drop, length, map, get_or, ℤ, FitsSigned, inl, inr, refl, arith, ap, sym, ◌∙◌, drop-cons, add-one, ◌≤◌, ◌&&◌, ◌||◌, Bool, true, false, ◌++◌, take, ap₂, subst, below_more, set, length-set, cases_eq, eq-eqb, ne_eqb, cases_Bool, both_ways, and_from, or_left, or_right, eqb-true, ints, get_or-set_same, get_or-set_other, append-nil, append_assoc, take_more, recursion_from_All, All-from_recursion, w64, pos, neg_ℤ, ◌+ℤ◌, ◌-ℤ◌, ◌<ℤ◌, if◌then◌else◌, ◌≤ℤ◌, most_multiplier, IsNode, IsFromTo, most_64, moved_to, most_between, IsMultiplier, pair_of, is_same_pair, number_on, numbers_on, AreOnPairs, IsMoved}
 use Rattle.std.specs.Global.{Vec}
-use Rattle.std.specs.Int.{w64}
 use Rattle.std.specs.List.{AllPairs, AllByRecursion, All}
-use Rattle.std.specs.Prelude.{pos, neg_ℤ, ◌+ℤ◌, ◌-ℤ◌, ◌<ℤ◌, if◌then◌else◌, ◌≤ℤ◌}
-use Rattle.tsp_format.specs.Limits.{most_multiplier}
-use Rattle.tsp_format.specs.Nodes.{IsNode}
-use Rattle.tsp_format.specs.Steps.{IsFromTo}
-use Rattle.tsp_theory.proofs.Sums.{most_64, moved_to}
-use Rattle.tsp_theory.specs.Bounds.{most_between, IsMultiplier, pair_of, is_same_pair, number_on, numbers_on, AreOnPairs}
-use Rattle.tsp_theory.specs.states.Nearest.{IsMoved}
+use Rattle.tsp_format.proofs.Basics.{both_all}
 use Rattle.tsp_bound.specs.states.ByNode.{node_in, lowered_by, AreLowerings, said_of, all_said_of, IsTable}
 
 -- ---- the multiplier that the weight to a node is lowered by
@@ -121,10 +109,6 @@ lowered_said node (t ∷ ts) x h =
 
 -- ---- a node's list has multipliers of different other nodes
 
-both_all : {X : Type 0} (P : X → Type 0) (xs ys : List X) → AllByRecursion P xs → AllByRecursion P ys → AllByRecursion P (xs ++ ys)
-both_all P [] ys h k = k
-both_all P (x ∷ xs) ys h k = (h.0, both_all P xs ys h.1 k)
-
 one_or_none : {X : Type 0} (P : X → Type 0) (p q : Bool) (x y : X) → (p ≡ true → P x) → (q ≡ true → P y) → AllByRecursion P (if p then x ∷ [] else (if q then y ∷ [] else []))
 one_or_none P true q x y first second = (first refl, tt)
 one_or_none P false true x y first second = (second refl, tt)
@@ -141,10 +125,10 @@ said_in n node (t ∷ ts) h nodes =
     (one_or_none (IsLowering n) (t.0 == node) (t.1 == node) (t.1, t.2) (t.0, t.2) (λ first. (nodes.0.1, h.0.1)) (λ second. (nodes.0.0, h.0.1)))
     (said_in n node ts h.1 nodes.1)
 
-straight : (p q : ℕ × ℕ) → p.0 ≡ q.0 → p.1 ≡ q.1 → is_same_pair p q ≡ true
+pub straight : (p q : ℕ × ℕ) → p.0 ≡ q.0 → p.1 ≡ q.1 → is_same_pair p q ≡ true
 straight p q first second = or_left ((p.0 == q.0) && (p.1 == q.1)) ((p.1 == q.0) && (p.0 == q.1)) (and_from (p.0 == q.0) (p.1 == q.1) (eq-eqb p.0 q.0 first) (eq-eqb p.1 q.1 second))
 
-crossed : (p q : ℕ × ℕ) → p.1 ≡ q.0 → p.0 ≡ q.1 → is_same_pair p q ≡ true
+pub crossed : (p q : ℕ × ℕ) → p.1 ≡ q.0 → p.0 ≡ q.1 → is_same_pair p q ≡ true
 crossed p q first second = or_right ((p.0 == q.0) && (p.1 == q.1)) ((p.1 == q.0) && (p.0 == q.1)) (and_from (p.1 == q.0) (p.0 == q.1) (eq-eqb p.1 q.0 first) (eq-eqb p.0 q.1 second))
 
 -- no pair of the triples is that of the node and the other one

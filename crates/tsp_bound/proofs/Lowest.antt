@@ -1,13 +1,8 @@
 -- The nearest node of another component, where multipliers lower the weights to listed nodes.
-use Rattle.std.proofs.Common.{◌≡◌, ◌≢◌, ℕ, zero, suc, ◌+◌, ◌<◌, Bool, true, List, [], ◌∷◌, length, ℤ, ◌≤ℤ◌, ◌⊎◌, inl, inr, arith, ap, sym, subst, ◌∙◌}
-use Rattle.std.specs.Int.{w64}
-use Rattle.std.specs.Prelude.{slice_index_or, FitsSigned}
-use Rattle.std.proofs.lemmas.Bool.{cases_eq}
-use Rattle.std.proofs.lemmas.Int.{ints}
+use Rattle.tsp_bound.proofs.Prelude.{◌≡◌, ◌≢◌, ℕ, zero, suc, ◌+◌, ◌<◌, Bool, true, List, [], ◌∷◌, length, ℤ, ◌≤ℤ◌, ◌⊎◌, inl, inr, arith, ap, sym, subst, ◌∙◌, w64, slice_index_or, FitsSigned, cases_eq, ints, IsInner}
 use Rattle.tsp_bound.specs.declared.search.Best.{Best}
 use Rattle.tsp_bound.specs.states.Boxes.{node_of, IsFound, IsBest, IsSearched, no_best}
 use Rattle.tsp_bound.specs.states.ByNode.{node_in}
-use Rattle.tsp_theory.specs.Tree.{IsInner}
 use Rattle.tsp_bound.proofs.Searches.{searched_all}
 
 -- the place that the search of all boxes finds is the best

@@ -1,19 +1,8 @@
 -- Rounds that join each component by its least link give a least tree, over places as over nodes.
-use Rattle.std.proofs.Common.{◌≡◌, ℕ, ◌<◌, not, Bool, false, List, [], ◌∷◌, ◌++◌, get_or, map, ℤ, ◌≤ℤ◌, ap, ap₂, ◌∙◌, subst, ◌+◌, ◌*◌, ◌^◌, ◌≤◌, take, length, refl, arith, sym, Option, Result, Ok, Err, IfOk, IfSome, ◌≢◌, zero, suc, ◌==◌, true, cond, ◌⊎◌, inl, inr, set, None, Some}
-use Rattle.std.proofs.Math.ListN.{length-set}
-use Rattle.std.proofs.lemmas.Bool.{false≢true, eqb-true, eq-eqb, ne_eqb, cases_eq}
-use Rattle.std.proofs.lemmas.Int.{ints}
-use Rattle.std.proofs.lemmas.List.{map-append, take_more, length-map, get_or-set_same, get_or-set_other}
-use Rattle.std.proofs.lemmas.List.Elements.{All-map, All-nil, All-push, recursion_from_All, All-weaker}
+use Rattle.tsp_bound.proofs.Prelude.{◌≡◌, ℕ, ◌<◌, not, Bool, false, List, [], ◌∷◌, ◌++◌, get_or, map, ℤ, ◌≤ℤ◌, ap, ap₂, ◌∙◌, subst, ◌+◌, ◌*◌, ◌^◌, ◌≤◌, take, length, refl, arith, sym, Option, Result, Ok, Err, IfOk, IfSome, ◌≢◌, zero, suc, ◌==◌, true, cond, ◌⊎◌, inl, inr, set, None, Some, length-set, false≢true, eqb-true, eq-eqb, ne_eqb, cases_eq, ints, map-append, take_more, length-map, get_or-set_same, get_or-set_other, All-map, All-nil, All-push, recursion_from_All, All-weaker, if◌then◌else◌, pos, neg_ℤ, slice_index_or, MatchOption, most_nodes, IsFromTo, joins_more, IsSumSized, IsInner, crosses, weight_of}
 use Rattle.std.specs.Global.{Vec}
 use Rattle.std.specs.List.{All, AllByRecursion}
-use Rattle.std.specs.Prelude.{if◌then◌else◌, pos, neg_ℤ, slice_index_or, MatchOption}
-use Rattle.tsp_format.specs.Limits.{most_nodes}
-use Rattle.tsp_format.specs.Steps.{IsFromTo}
-use Rattle.tsp_theory.proofs.Trees.{joins_more}
-use Rattle.tsp_theory.specs.Bounds.{IsSumSized}
 use Rattle.tsp_theory.specs.Forest.{IsLeastJoin, AreLeastJoins, IsWholeForest}
-use Rattle.tsp_theory.specs.Tree.{IsInner, crosses, weight_of}
 use Rattle.tsp_bound.specs.declared.search.Link.{Link}
 use Rattle.tsp_bound.specs.states.Boxes.{IsNumbering, on_both, node_of}
 use Rattle.tsp_bound.specs.states.Components.{IsBelow, IsSpanning, IsWeighedForest, IsForest, IsLeastOf, IsNearest, is_in_other_component, IsKeptLink, AreKept, IsLeaving, link_of, AreLeaving, AreLeast, IsOffered}
@@ -61,7 +50,7 @@ joins_rename n last node place w v pairs num same ends joins =
     joins_renamed n (IsInner last) node place w v [] pairs num same (All-nil (λ pair. (pair.0 < n) × (pair.1 < n)))
     (recursion_from_All (λ pair. (pair.0 < n) × (pair.1 < n)) pairs ends) joins
 
--- ---- a least tree that is found over the places of an order is one over its nodes, with the
+-- ---- a least tree over the places of an order is one over its nodes
 
 pub map_more : (f : ℕ × ℕ → ℕ × ℕ) (xs : List (ℕ × ℕ)) (i : ℕ) (d : ℕ × ℕ) → i < length xs → map f (take (i + 1) xs) ≡ map f (take i xs) ++ f (get_or xs i d) ∷ []
 map_more f xs i d low = ap (map f) (take_more xs i d low) ∙ map-append f (take i xs) (get_or xs i d ∷ [])
@@ -252,7 +241,7 @@ IsReached best weight = MatchOption best ⊥ (λ link. link.weight ≤ℤ weight
 abbrev pub AreReached : (ℕ → ℕ) → List (Option Link) → List Link → ℕ → Type 0
 AreReached label best known count = (x : ℕ) (d : Link) → x < count → IsReached (link_of best (label x)) (get_or known x d).weight
 
-lower_reached : (best : Option Link) (link new : Link) (weight : ℤ) → IsOffered best link new → IsReached best weight → new.weight ≤ℤ weight
+pub lower_reached : (best : Option Link) (link new : Link) (weight : ℤ) → IsOffered best link new → IsReached best weight → new.weight ≤ℤ weight
 lower_reached None link new weight offered reached = absurd reached
 lower_reached (Some was) link new weight offered reached = let k = offered.kept in omega (arith, ints, k, reached)
 

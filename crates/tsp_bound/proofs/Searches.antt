@@ -1,16 +1,8 @@
 -- The tree of boxes and its search: what a write changes, orders of 64-bit weights, and divisions by the scale.
-use Rattle.std.proofs.Common.{◌≡◌, ◌≢◌, ℕ, zero, suc, ◌+◌, ◌*◌, ◌/◌, ◌<◌, ◌≤◌, Bool, true, List, length, Option, ℤ, pos, ◌≤ℤ◌, ◌⊎◌, inl, inr, refl, arith, ap, sym, ◌∙◌, subst, w64, to_z, of_z, SFits, false, negsuc, neg_ℤ, ◌+ℤ◌, ◌-ℤ◌, ◌*ℤ◌, ◌<ℤ◌, ◌-◌, ◌^◌}
-use Rattle.std.proofs.Math.ListN.{set}
-use Rattle.std.proofs.lemmas.Bool.{cases_eq}
-use Rattle.std.proofs.lemmas.Int.{ints, to_z-of_z}
-use Rattle.std.proofs.lemmas.List.{get_or-set_same, get_or-set_other}
+use Rattle.tsp_bound.proofs.Prelude.{◌≡◌, ◌≢◌, ℕ, zero, suc, ◌+◌, ◌*◌, ◌/◌, ◌<◌, ◌≤◌, Bool, true, List, length, Option, ℤ, pos, ◌≤ℤ◌, ◌⊎◌, inl, inr, refl, arith, ap, sym, ◌∙◌, subst, w64, to_z, of_z, SFits, false, negsuc, neg_ℤ, ◌+ℤ◌, ◌-ℤ◌, ◌*ℤ◌, ◌-◌, ◌^◌, set, cases_eq, ints, to_z-of_z, get_or-set_same, get_or-set_other, nat_abs, IsFromTo, scaled_up, same_scale, IsScale, most_number}
 use Rattle.std.proofs.lemmas.Nat.{div-add-mod', mod_below, mul-le, div_below}
 use Rattle.std.specs.Bool.{OnTrue}
 use Rattle.std.specs.Int.Signed.{lt_z, le_z}
-use Rattle.std.specs.Prelude.{nat_abs}
-use Rattle.tsp_format.specs.Steps.{IsFromTo}
-use Rattle.tsp_theory.proofs.Sums.{scaled_up, same_scale}
-use Rattle.tsp_theory.specs.Bounds.{IsScale, most_number}
 use Rattle.tsp_bound.specs.declared.area.Area.{Area}
 use Rattle.tsp_bound.specs.declared.search.Best.{Best}
 use Rattle.tsp_bound.specs.states.Boxes.{up, node_of, box_at, AreHeldFrom, AreHeld, IsRefit, IsBelowAll, IsFound, IsBest, IsSearched}
@@ -189,19 +181,9 @@ less_seen a b f h =
     let k : lt_z a b ≡ true = simp to_z-of_z at h in
     grind (arith, ints)
 
-pub not_less_seen : (a b : ℤ) → SFits w64 a → SFits w64 b → lt_z (to_z w64 (of_z w64 a)) (to_z w64 (of_z w64 b)) ≡ false → b ≤ℤ a
-not_less_seen a b f g h =
-    let k : lt_z a b ≡ false = simp to_z-of_z at h in
-    grind (arith, ints)
-
 pub no_more_seen : (a b : ℤ) → SFits w64 a → SFits w64 b → le_z (to_z w64 (of_z w64 a)) (to_z w64 (of_z w64 b)) ≡ true → a ≤ℤ b
 no_more_seen a b f g h =
     let k : le_z a b ≡ true = simp to_z-of_z at h in
-    grind (arith, ints)
-
-pub below_seen : (a b : ℤ) → SFits w64 a → SFits w64 b → lt_z (to_z w64 (of_z w64 a)) (to_z w64 (of_z w64 b)) ≡ true → a <ℤ b
-below_seen a b f g h =
-    let k : lt_z a b ≡ true = simp to_z-of_z at h in
     grind (arith, ints)
 
 sum_above : (a b q r s : ℤ) → a ≤ℤ b → r ≤ℤ s → (a +ℤ (q +ℤ r)) ≤ℤ (b +ℤ (q +ℤ s))

@@ -1,8 +1,6 @@
 //! A box of space with nodes in it, and a number that is at most that of each of these nodes.
 
-ghost use Rattle.std.specs.Prelude.{pos, neg_ℤ};
-ghost use Rattle.tsp_format.specs.Steps.{IsFromTo};
-ghost use Rattle.tsp_theory.specs.Bounds.{most_number};
+ghost use Rattle.tsp_bound.specs.Prelude.{pos, neg_ℤ, IsFromTo, most_number};
 
 use tsp_theory::Region;
 

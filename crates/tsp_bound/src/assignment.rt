@@ -1,14 +1,12 @@
 //! The bound of the duals of rows and columns on the length of every cycle, under costs that need
 //! not be symmetric.
 
-ghost use Rattle.std.specs.Prelude.{◌≡◌, ◌≢◌, ◌↔◌, ℕ, List, ◌≤◌, ◌<◌, length, IsTrue, IfOk, MatchOption, MatchResult, ◌≤ℤ◌, ◌<ℤ◌};
-ghost use Rattle.tsp_format.specs.Nodes.{IsNode};
+ghost use Rattle.tsp_bound.specs.Prelude.{ℕ, List, length, IsTrue, IfOk, MatchOption, MatchResult, IsNode, IsBoundSized, entry, AreGood, IsFirstBroken, IsDualBound};
+ghost use Rattle.std.specs.Prelude.{◌≡◌, ◌≢◌, ◌↔◌, ◌≤◌, ◌<◌, ◌≤ℤ◌, ◌<ℤ◌};
 ghost use Rattle.tsp_theory.specs.Tour.{IsCycle, length_of};
-ghost use Rattle.tsp_theory.specs.Bounds.{IsBoundSized, entry, AreGood, IsFirstBroken, IsDualBound};
 ghost use Rattle.tsp_bound.specs.states.Duals.{dual_scale, rows_of, columns_of, dual_of, scaled};
 
-use crate::duals::Duals;
-use crate::potentials::{least_bound, scaled_cost, total};
+use crate::potentials::{Duals, least_bound, scaled_cost, total};
 use tsp_theory::{Costs, duals_bound_cycles};
 
 /// The first pair of different nodes, by rows, whose duals sum to more than the scaled cost.

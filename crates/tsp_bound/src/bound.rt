@@ -1,11 +1,8 @@
 //! Least 1-trees, and their bound on the length of every cycle.
 
-ghost use Rattle.std.specs.Prelude.{◌≡◌, ◌≤◌, ◌+◌, ◌*◌, ◌^◌, ℕ, [], List, length, pos, neg_ℤ, ◌≤ℤ◌, IfOk};
-ghost use Rattle.tsp_format.specs.Limits.{most_nodes};
+ghost use Rattle.tsp_bound.specs.Prelude.{ℕ, [], List, length, pos, neg_ℤ, IfOk, most_nodes, IsFromTo, IsBoundSized, AreOnPairs, UsesEach, IsAdjustedBoundOf, IsAdjustedBound, IsOneTree, IsLeastOneTree, weight_of, tree_of};
+ghost use Rattle.std.specs.Prelude.{◌≡◌, ◌≤◌, ◌+◌, ◌*◌, ◌^◌, ◌≤ℤ◌};
 ghost use Rattle.tsp_theory.specs.Tour.{IsCycle, length_of};
-ghost use Rattle.tsp_format.specs.Steps.{IsFromTo};
-ghost use Rattle.tsp_theory.specs.Bounds.{IsBoundSized, AreOnPairs, UsesEach, IsAdjustedBoundOf, IsAdjustedBound};
-ghost use Rattle.tsp_theory.specs.Tree.{IsOneTree, IsLeastOneTree, weight_of, tree_of};
 ghost use Rattle.tsp_bound.specs.states.Potentials.{scale_of, numbers_of, triples_of, triples_in, node_count, weight_less};
 
 use crate::by_node::ByNode;

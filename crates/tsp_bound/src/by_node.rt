@@ -1,10 +1,7 @@
 //! The multipliers of fixed edges, listed at both nodes of each.
 
-ghost use Rattle.std.specs.Prelude.{◌≡◌, ◌≢◌, ◌-◌, ◌<◌, ◌^◌, [], pos, IfOk};
-ghost use Rattle.std.specs.List.{All, AllPairs};
-ghost use Rattle.tsp_format.specs.Limits.{most_multiplier};
-ghost use Rattle.tsp_format.specs.Steps.{IsFromTo};
-ghost use Rattle.tsp_theory.specs.Bounds.{IsMultiplier, AreMultipliers, AreOnPairs};
+ghost use Rattle.tsp_bound.specs.Prelude.{[], pos, IfOk, All, AllPairs, most_multiplier, IsFromTo, IsMultiplier, AreMultipliers, AreOnPairs};
+ghost use Rattle.std.specs.Prelude.{◌≡◌, ◌≢◌, ◌-◌, ◌<◌, ◌^◌};
 ghost use Rattle.tsp_bound.specs.states.ByNode.{IsTable, lowered_by};
 
 use crate::potentials::Multipliers;
@@ -23,9 +20,7 @@ pub(crate) struct ByNode<'a> {
 }
 
 impl<'a> ByNode<'a> {
-    ghost use Rattle.std.specs.Prelude.{ℕ};
-    ghost use Rattle.tsp_format.specs.Nodes.{IsNode};
-    ghost use Rattle.tsp_theory.specs.Bounds.{numbers_on};
+    ghost use Rattle.tsp_bound.specs.Prelude.{ℕ, IsNode, numbers_on};
     ghost use Rattle.tsp_bound.specs.states.ByNode.{AreLowerings, all_said_of};
     ghost use Rattle.tsp_bound.specs.states.Potentials.{triples_of, triples_in, node_count};
 

@@ -14,10 +14,8 @@
 mod area;
 mod assignment;
 mod bound;
-mod boxed_weights;
 mod boxes;
 mod by_node;
-mod duals;
 mod lists;
 mod potentials;
 mod rounds;
@@ -27,10 +25,8 @@ mod weights;
 
 pub use assignment::{Infeasible, dual_bound};
 pub use bound::{OneTree, least_one_tree, one_tree};
-pub use boxed_weights::BoxedWeights;
-pub use boxes::NumberedSite;
-pub use duals::Duals;
-pub use potentials::{Multipliers, Potentials};
+pub use boxes::{BoxedWeights, NumberedSite};
+pub use potentials::{Duals, Multipliers, Potentials};
 pub use rounds::grow_in_rounds;
 pub use tree::{Growing, Grown, RootEdge, grow, least_weight, two_root_edges};
 pub use tsp_theory::{adjusted_bounds_bound_cycles, duals_bound_cycles};

@@ -1,10 +1,10 @@
-//! The twelve lightest edges of each node, by one pass over all pairs.
+//! The twelve lightest edges of each node, by one pass over all pairs, and the forest of nodes without
+//! points, which grows by them.
 
 ghost use Rattle.std.specs.Prelude.{◌≡◌, ◌≤◌, ◌<◌, ◌+◌, ◌*◌, ◌^◌, ℕ, length};
 ghost use Rattle.tsp_bound.specs.states.Components.{label_at, weight_over, AreOffered, IsPut, IsTaken};
 
-use crate::boxed_weights::BoxedWeights;
-use crate::boxes::{lesser, own_labels, rename};
+use crate::boxes::{BoxedWeights, lesser, own_labels, rename};
 use crate::rounds::{Components, better};
 use crate::search::{Link, Placed};
 use std::alloc::Global;

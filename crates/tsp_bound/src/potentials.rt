@@ -1,11 +1,8 @@
-//! Potentials of nodes: the certificate of a bound for symmetric costs.
+//! Certificates of a bound: potentials of nodes with multipliers of fixed edges, for symmetric costs,
+//! and duals of an assignment.
 
-ghost use Rattle.std.specs.List.{All};
-ghost use Rattle.std.specs.Prelude.{◌↔◌, IsTrue, ◌≡◌, ◌≤◌, ◌*◌, ◌^◌, length, pos, neg_ℤ, ◌*ℤ◌, ◌≤ℤ◌};
-ghost use Rattle.tsp_format.specs.Limits.{most_nodes, most_potential, most_triples, most_multiplier, most_scale, most_weight};
-ghost use Rattle.tsp_format.specs.Nodes.{IsNode};
-ghost use Rattle.tsp_theory.specs.Bounds.{triples_total, AreNodePotentials, IsMultiplier, AreMultipliers, IsScale, ArePotentials, total, IsLeastBound, IsBoundSized};
-ghost use Rattle.tsp_format.specs.Steps.{IsFromTo};
+ghost use Rattle.tsp_bound.specs.Prelude.{All, IsTrue, length, pos, neg_ℤ, most_nodes, most_potential, most_triples, most_multiplier, most_scale, most_weight, IsNode, IsFromTo, triples_total, AreNodePotentials, IsMultiplier, AreMultipliers, IsScale, ArePotentials, total, IsLeastBound, IsBoundSized, AreDuals};
+ghost use Rattle.std.specs.Prelude.{◌↔◌, ◌≡◌, ◌≤◌, ◌*◌, ◌^◌, ◌*ℤ◌, ◌≤ℤ◌};
 
 use tsp_format::{MOST_MULTIPLIER, MOST_MULTIPLIERS, MOST_POTENTIAL, MOST_SCALE};
 use tsp_theory::Costs;
@@ -19,12 +16,9 @@ pub struct Potentials<'a> {
 }
 
 impl<'a> Potentials<'a> {
-    ghost use Rattle.std.specs.Prelude.{◌≡◌, length, pos, neg_ℤ, MatchOption};
-    ghost use Rattle.tsp_format.specs.Nodes.{IsNode};
-    ghost use Rattle.tsp_format.specs.Steps.{IsFromTo};
-    ghost use Rattle.tsp_theory.specs.Bounds.{entry};
+    ghost use Rattle.tsp_bound.specs.Prelude.{length, pos, neg_ℤ, MatchOption, IsNode, IsFromTo, entry, most_between};
+    ghost use Rattle.std.specs.Prelude.{◌≡◌};
     ghost use Rattle.tsp_bound.specs.states.Potentials.{scale_of, numbers_of, weight_under};
-    ghost use Rattle.tsp_theory.specs.Bounds.{most_between};
 
     /// The potentials of these numbers, each a count of 1 / scale.
     ///
@@ -118,14 +112,14 @@ fn are_each(triples: &[(u32, u32, i64)]) -> bool
 // ---- the numbers of a certificate: their ranges, their sums, and the least bound of a sum
 
 /// Whether a certificate may have this scale.
-pub(crate) fn is_scale(scale: i64) -> bool
+fn is_scale(scale: i64) -> bool
     ensures { IsTrue result ↔ IsScale scale }
 {
     1 <= scale && scale <= MOST_SCALE
 }
 
 /// Whether a certificate may have these numbers.
-pub(crate) fn are_potentials(numbers: &[i64]) -> bool
+fn are_potentials(numbers: &[i64]) -> bool
     ensures { IsTrue result ↔ ArePotentials numbers.now }
 {
     numbers.iter().all(|number| -MOST_POTENTIAL <= *number && *number <= MOST_POTENTIAL)
@@ -196,4 +190,39 @@ pub(crate) fn scaled(scale: i64, cost: i64) -> i64
         (pos (most_scale * most_weight)) result }
 {
     scale * cost
+}
+
+// ---- duals of an assignment
+
+/// A number for each row and one for each column, at a scale.
+#[derive(Clone, Copy, Debug)]
+pub struct Duals<'a> {
+    pub(crate) scale: i64,
+    pub(crate) rows: &'a [i64],
+    pub(crate) columns: &'a [i64],
+    ghost are: { AreDuals scale rows.now columns.now },
+}
+
+impl<'a> Duals<'a> {
+    ghost use Rattle.std.specs.Prelude.{◌≡◌, MatchOption};
+    ghost use Rattle.tsp_bound.specs.states.Duals.{dual_scale, rows_of, columns_of};
+
+    /// The duals of these numbers of rows and of columns, each a count of 1 / scale.
+    ///
+    /// None where the scale isn't from 1 to 1,000,000, a number is larger than 10^15 in size, or
+    /// there aren't as many numbers of rows as of columns; and only there.
+    pub fn new(scale: i64, u: &'a [i64], v: &'a [i64]) -> Option<Duals<'a>>
+        ensures { MatchOption result (AreDuals scale u.now v.now → ⊥)
+            (λ d. AreDuals scale u.now v.now × (dual_scale d ≡ scale)
+            × (rows_of d ≡ u.now) × (columns_of d ≡ v.now)) }
+    {
+        if !is_scale(scale) || u.len() != v.len() || !are_potentials(u) || !are_potentials(v) {
+            return None;
+        }
+        Some(Duals {
+            scale,
+            rows: u,
+            columns: v,
+        })
+    }
 }

@@ -1,20 +1,14 @@
 //! A least tree over the nodes 2 to n: in rounds, by boxes or by lists of lightest edges, or pair
 //! by pair.
 
+ghost use Rattle.tsp_bound.specs.Prelude.{All, ℕ, length, slice_index_or, map, pos, neg_ℤ, IfOk, IfSome, true, false, MatchOption, ℤ, most_nodes, IsNode, IsFromTo, IsSumSized, IsInner, weight_of};
 ghost use Rattle.std.specs.Bool.{OnTrue};
-ghost use Rattle.std.specs.List.{All};
-ghost use Rattle.std.specs.Prelude.{◌≡◌, ◌≤◌, ◌<◌, ◌+◌, ◌*◌, ◌^◌, ℕ, length, slice_index_or, map, pos, neg_ℤ, IfOk, IfSome, true, false, MatchOption, ◌≤ℤ◌, ℤ};
-ghost use Rattle.tsp_format.specs.Limits.{most_nodes};
-ghost use Rattle.tsp_format.specs.Nodes.{IsNode};
-ghost use Rattle.tsp_format.specs.Steps.{IsFromTo};
-ghost use Rattle.tsp_theory.specs.Bounds.{IsSumSized};
+ghost use Rattle.std.specs.Prelude.{◌≡◌, ◌≤◌, ◌<◌, ◌+◌, ◌*◌, ◌^◌, ◌≤ℤ◌};
 ghost use Rattle.tsp_theory.specs.Forest.{IsWholeForest};
-ghost use Rattle.tsp_theory.specs.Tree.{IsInner, weight_of};
 ghost use Rattle.tsp_bound.specs.states.Boxes.{node_of, IsNumbering, on_both};
 ghost use Rattle.tsp_bound.specs.states.Components.{IsSpanning, IsWeighedForest, AreKept, AreLeast, AreLeaving, IsOffered, IsForest, label_at, IsKeptLink};
 
-use crate::boxed_weights::BoxedWeights;
-use crate::boxes::{Labelled, own_labels};
+use crate::boxes::{BoxedWeights, Labelled, own_labels};
 use crate::lists::Listed;
 use crate::search::{Link, Placed};
 use crate::tree::Grown;

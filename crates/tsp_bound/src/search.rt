@@ -4,18 +4,15 @@
 //! the search is from. `steps` counts the boxes and nodes that a search looks at. Past a budget the
 //! tree grows pair by pair instead (rounds.rt), so `steps` affects speed alone.
 
+ghost use Rattle.tsp_bound.specs.Prelude.{ℕ, length, slice_index_or, Bool, Option, None, Some, MatchOption, IsNode, IsScale, IsInner};
 ghost use Rattle.std.specs.Bool.{OnTrue};
-ghost use Rattle.std.specs.Prelude.{◌≡◌, ◌<◌, ◌+◌, ◌^◌, ℕ, length, slice_index_or, ◌≤◌, ◌*◌, ◌≤ℤ◌, ◌*ℤ◌, Bool, Option, None, Some, MatchOption};
-ghost use Rattle.tsp_format.specs.Nodes.{IsNode};
-ghost use Rattle.tsp_theory.specs.Bounds.{IsScale};
-ghost use Rattle.tsp_theory.specs.Tree.{IsInner};
+ghost use Rattle.std.specs.Prelude.{◌≡◌, ◌<◌, ◌+◌, ◌^◌, ◌≤◌, ◌*◌, ◌≤ℤ◌, ◌*ℤ◌};
 ghost use Rattle.tsp_bound.specs.declared.area.Area.{Area};
 ghost use Rattle.tsp_bound.specs.states.Boxes.{node_of, IsSearched, no_best, HoldsNode, AreHeld, AreHeld-prop, IsBelowAll, AreNumberedSites, IsNumberedSite, IsNumbering};
 ghost use Rattle.tsp_bound.specs.states.Potentials.{IsInverse};
 
 use crate::area::Area;
-use crate::boxed_weights::BoxedWeights;
-use crate::boxes::NumberedSite;
+use crate::boxes::{BoxedWeights, NumberedSite};
 
 /// An order of the nodes 2..n, the place of each in it, and what gives the weights between them.
 #[derive(Drop)]

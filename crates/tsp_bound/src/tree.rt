@@ -1,12 +1,8 @@
 //! The weight of a least 1-tree, whose tree grows as its weights do it.
 
-ghost use Rattle.std.specs.Prelude.{◌≡◌, ◌≤◌, ◌+◌, ◌*◌, ◌^◌, ℕ, length, pos, neg_ℤ, IfOk, ◌<◌, slice_index, MatchOption, ◌<ℤ◌, ◌-◌, ℤ, ◌≢◌, ◌+ℤ◌};
-ghost use Rattle.tsp_format.specs.Limits.{most_nodes};
-ghost use Rattle.tsp_format.specs.Nodes.{IsNode};
-ghost use Rattle.tsp_format.specs.Steps.{IsFromTo};
+ghost use Rattle.tsp_bound.specs.Prelude.{ℕ, length, pos, neg_ℤ, IfOk, slice_index, MatchOption, ℤ, most_nodes, IsNode, IsFromTo, IsWholeGrowth, AreNearest, weight_of, least_at, IsNearer};
+ghost use Rattle.std.specs.Prelude.{◌≡◌, ◌≤◌, ◌+◌, ◌*◌, ◌^◌, ◌<◌, ◌<ℤ◌, ◌-◌, ◌≢◌, ◌+ℤ◌};
 ghost use Rattle.tsp_theory.specs.Forest.{IsWholeForest};
-ghost use Rattle.tsp_theory.specs.Tree.{IsWholeGrowth, AreNearest, weight_of};
-ghost use Rattle.tsp_theory.specs.states.Nearest.{least_at, IsNearer};
 ghost use Rattle.tsp_bound.specs.Weighed.{IsLeastWeight};
 ghost use Rattle.tsp_bound.specs.states.Outside.{AreFromThree, AreBroughtNearer, AreInner, IsLeastPlace};
 

@@ -1,18 +1,12 @@
 //! The weight of a pair under potentials: its cost at the scale and both potentials, less the
 //! multiplier of a fixed edge.
 
-ghost use Rattle.std.specs.Prelude.{◌≡◌, ◌≤◌, ◌<◌, ◌+◌, ℕ, length, slice_index, pos, neg_ℤ};
-ghost use Rattle.std.specs.List.{All};
-ghost use Rattle.tsp_format.specs.Nodes.{IsNode};
-ghost use Rattle.tsp_format.specs.Limits.{most_multiplier};
-ghost use Rattle.tsp_theory.specs.Bounds.{most_between};
-ghost use Rattle.tsp_format.specs.Steps.{IsFromTo};
-ghost use Rattle.tsp_theory.specs.states.Nearest.{least_at, IsMoved};
+ghost use Rattle.tsp_bound.specs.Prelude.{ℕ, length, slice_index, pos, neg_ℤ, All, IsNode, most_multiplier, most_between, IsFromTo, least_at, IsMoved};
+ghost use Rattle.std.specs.Prelude.{◌≡◌, ◌≤◌, ◌<◌, ◌+◌};
 ghost use Rattle.tsp_bound.specs.states.ByNode.{lowered_by};
 ghost use Rattle.tsp_bound.specs.states.Potentials.{node_count, numbers_of, weight_under};
 
-use crate::boxed_weights::BoxedWeights;
-use crate::boxes::NumberedSite;
+use crate::boxes::{BoxedWeights, NumberedSite};
 use crate::by_node::ByNode;
 use crate::potentials::{Potentials, scaled};
 use std::alloc::Global;
@@ -105,8 +99,7 @@ fn lower(row: &mut [i64], lowerings: &[(u32, i64)])
 }
 
 impl<C: Costs> BoxedWeights for Weights<'_, C> {
-    ghost use Rattle.std.specs.Prelude.{map};
-    ghost use Rattle.tsp_theory.specs.Bounds.{entry};
+    ghost use Rattle.tsp_bound.specs.Prelude.{map, entry};
     ghost use Rattle.tsp_bound.specs.states.ByNode.{all_said_of};
     ghost use Rattle.tsp_bound.specs.states.Potentials.{scale_of};
     ghost use Rattle.tsp_bound.specs.states.Potentials.{triples_in};

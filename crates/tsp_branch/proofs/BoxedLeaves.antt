@@ -1,35 +1,18 @@
 -- Leaves by boxes: the sets that have both of two nodes, the least weight of an edge, and equal weights.
-use Rattle.std.proofs.Common.{◌≡◌, ◌≢◌, ℕ, zero, suc, ◌+◌, ◌<◌, ◌==◌, ◌&&◌, ◌||◌, Bool, true, false, List, [], ◌∷◌, ◌++◌, length, drop, drop-cons, add-one, get_or, inl, inr, refl, ap, sym, ◌∙◌, arith, map, subst, ◌*◌, ◌^◌, ap₂, to_z, of_z}
+use Rattle.tsp_branch.proofs.Prelude.{◌≡◌, ◌≢◌, ℕ, zero, suc, ◌+◌, ◌<◌, ◌==◌, ◌&&◌, ◌||◌, Bool, true, false, List, [], ◌∷◌, ◌++◌, length, drop, drop-cons, add-one, get_or, inl, inr, refl, ap, sym, ◌∙◌, arith, map, subst, ◌*◌, ◌^◌, ap₂, to_z, of_z, cases_Bool, eq-eqb, ne_eqb, cases_eq, ints, int_wrap_fits, int_wrap-add_same, reverse-append, w64, int_wrap, w128, All, AllByRecursion, filter, ℤ, pos, ◌+ℤ◌, ◌*ℤ◌, ◌≤ℤ◌, if◌then◌else◌, negsuc, neg_ℤ, ◌<ℤ◌, reverse, ◌-ℤ◌, most_nodes, IsFromTo, entry, weight_between, most_between, total, IsLeastBound, triples_total, changes_borne, changes_turned, both_sums, added_once, changes_are, sets_come_to, places_inside, case_weight, multiplied, least_of, leaf_weight, on_taken, on_avoided, decided_number, HasEachOnce, families_with, Decision, SetPlace, decided, change_of, changes, stack_of, bears_on, added, times, places_in, places_with, place_at, IsPlaceIn, summed_from, multipliers_at, set_in, twice_in, inside_both, AreSmallMultipliers, set_crossings, most_combed, set_weight}
+use Rattle.std.proofs.Math.Bool.{and-false, or-false}
 use Rattle.std.proofs.Math.ListN.{get_or-map}
-use Rattle.std.proofs.lemmas.Bool.{cases_Bool, eq-eqb, ne_eqb, cases_eq}
-use Rattle.std.proofs.lemmas.Int.{ints, int_wrap_fits, int_wrap-add_same}
-use Rattle.std.proofs.lemmas.List.{reverse-append}
 use Rattle.std.proofs.lemmas.List.Elements.{recursion_from_All}
-use Rattle.std.specs.Int.{w64, int_wrap, w128}
-use Rattle.std.specs.List.{All, AllByRecursion, filter}
-use Rattle.std.specs.Prelude.{ℤ, pos, ◌+ℤ◌, ◌*ℤ◌, ◌≤ℤ◌, if◌then◌else◌, negsuc, neg_ℤ, ◌<ℤ◌, reverse, ◌-ℤ◌}
-use Rattle.tsp_format.specs.Limits.{most_nodes}
-use Rattle.tsp_format.specs.Steps.{IsFromTo}
 use Rattle.tsp_format.specs.Words.{IsSymmetric}
-use Rattle.tsp_theory.specs.Bounds.{entry, weight_between, most_between, total, IsLeastBound, triples_total}
 use Rattle.tsp_theory.specs.Tour.{sum_int_by}
 use Rattle.tsp_theory.specs.Tree.{weight_of, IsLeastOneTree}
 use Rattle.tsp_bound.specs.states.ByNode.{node_in}
 use Rattle.tsp_cases.proofs.CaseTrees.{leaf_even}
 use Rattle.tsp_cases.proofs.FamilyCrossings.{combed_size, combed_fits}
-use Rattle.tsp_cases.proofs.OpenCases.{changes_borne, changes_turned}
 use Rattle.tsp_cases.proofs.PartWalks.{apart_from_pairs}
-use Rattle.tsp_cases.proofs.SetSums.{both_sums, added_once, changes_are, sets_come_to, places_inside, case_weight}
-use Rattle.tsp_cases.specs.CaseTrees.{multiplied, least_of, leaf_weight}
-use Rattle.tsp_cases.specs.Cases.{on_taken, on_avoided, decided_number}
 use Rattle.tsp_cases.specs.Crossings.{has}
-use Rattle.tsp_cases.specs.Families.{HasEachOnce, families_with}
 use Rattle.tsp_cases.specs.ListedCases.{most_crossed}
 use Rattle.tsp_cases.specs.declared.family.Crossings.{Crossings}
-use Rattle.tsp_cases.specs.declared.open_case.Decision.{Decision}
-use Rattle.tsp_cases.specs.declared.sets.SetPlace.{SetPlace}
-use Rattle.tsp_cases.specs.states.OpenCases.{decided, change_of, changes, stack_of, bears_on}
-use Rattle.tsp_cases.specs.states.Sets.{added, times, places_in, places_with, place_at, IsPlaceIn, summed_from, multipliers_at, set_in, twice_in, inside_both, AreSmallMultipliers, set_crossings, most_combed, set_weight}
 use Rattle.tsp_branch.specs.BranchVerdicts.{IsBoundOfWeights, BoundsEachLeaf}
 use Rattle.tsp_branch.specs.states.LeafRows.{is_same_place, has_place, shared_by, sum_at_places, upwards, raised, other_of, others_of}
 
@@ -65,10 +48,6 @@ number_is ms families x = families_sum ms 0 families x
 
 -- ---- a node's list has the place of a set if the set has the node
 
-or_none : (b : Bool) → (b || false) ≡ b
-or_none true = refl
-or_none false = refl
-
 or_assoc : (a b c : Bool) → ((a || b) || c) ≡ (a || (b || c))
 or_assoc true b c = refl
 or_assoc false b c = refl
@@ -97,12 +76,8 @@ own_place family set = rw (eq-eqb family family refl, eq-eqb set set refl) refl
 other_family : (f s family set : ℕ) → family ≢ f → is_same_place (place_at f s) (place_at family set) ≡ false
 other_family f s family set apart = rw (ne_eqb family f apart) refl
 
-and_none : (b : Bool) → (b && false) ≡ false
-and_none true = refl
-and_none false = refl
-
 other_set : (f s family set : ℕ) → set ≢ s → is_same_place (place_at f s) (place_at family set) ≡ false
-other_set f s family set apart = rw (ne_eqb set s apart) (and_none (family == f))
+other_set f s family set apart = rw (ne_eqb set s apart) (and-false (family == f))
 
 -- a list of the places of one family's sets, from a first set on, has no set before it and none of another family
 none_before : (family first s : ℕ) (sets : List (List ℕ)) (x : ℕ) → s < first → has_place (places_in family first sets x) (place_at family s) ≡ false
@@ -126,7 +101,7 @@ in_family family first zero (set ∷ sets) x lt =
     ap (λ s. has_place (places_in family first (set ∷ sets) x) (place_at family s)) (let e : first + 0 ≡ first = omega arith in e)
     ∙ has_both (times (place_at family first) set x) (places_in family (suc first) sets x) (place_at family first)
     ∙ ap (λ b. b || has_place (places_in family (suc first) sets x) (place_at family first)) (has_times (place_at family first) set x (place_at family first) (own_place family first))
-    ∙ ap (λ b. has set x || b) (none_before family (suc first) first sets x (omega arith)) ∙ or_none (has set x)
+    ∙ ap (λ b. has set x || b) (none_before family (suc first) first sets x (omega arith)) ∙ or-false (has set x)
 in_family family first (suc k) (set ∷ sets) x lt =
     has_both (times (place_at family first) set x) (places_in family (suc first) sets x) (place_at family (first + suc k))
     ∙ ap (λ b. b || has_place (places_in family (suc first) sets x) (place_at family (first + suc k)))
@@ -149,7 +124,7 @@ in_families first zero s (sets ∷ families) x lt inside =
     ∙ has_both (places_in first 0 sets x) (places_with (suc first) families x) (place_at first s)
     ∙ ap (λ b. b || has_place (places_with (suc first) families x) (place_at first s))
     (ap (λ k. has_place (places_in first 0 sets x) (place_at first k)) (let e : s ≡ 0 + s = omega arith in e) ∙ in_family first 0 s sets x inside)
-    ∙ ap (λ b. has (get_or sets s []) x || b) (none_with (suc first) first s families x (omega arith)) ∙ or_none (has (get_or sets s []) x)
+    ∙ ap (λ b. has (get_or sets s []) x || b) (none_with (suc first) first s families x (omega arith)) ∙ or-false (has (get_or sets s []) x)
 in_families first (suc k) s (sets ∷ families) x lt inside =
     has_both (places_in first 0 sets x) (places_with (suc first) families x) (place_at (first + suc k) s)
     ∙ ap (λ b. b || has_place (places_with (suc first) families x) (place_at (first + suc k) s)) (none_of_another first 0 (first + suc k) s sets x (λ e. absurd (omega (arith, e))))
@@ -282,17 +257,17 @@ not_changed from to d apart = elim (cases_eq d.pair.0 from) [
       elim (cases_eq d.pair.1 from) [
         | inl both ↦
             let away : d.pair.0 ≢ to = λ e. other (both ∙ sym first ∙ e) in
-            rw (ne_eqb d.pair.1 to other, ne_eqb d.pair.0 to away, and_none (d.pair.0 == from), and_none (d.pair.1 == from)) refl
-        | inr second ↦ rw (ne_eqb d.pair.1 to other, ne_eqb d.pair.1 from second, and_none (d.pair.0 == from)) refl
+            rw (ne_eqb d.pair.1 to other, ne_eqb d.pair.0 to away, and-false (d.pair.0 == from), and-false (d.pair.1 == from)) refl
+        | inr second ↦ rw (ne_eqb d.pair.1 to other, ne_eqb d.pair.1 from second, and-false (d.pair.0 == from)) refl
       ]
   | inr first ↦
       let other : d.pair.0 ≢ to = λ e. apart (rw (ne_eqb d.pair.0 from first) e) in
-      rw (ne_eqb d.pair.0 from first, ne_eqb d.pair.0 to other, and_none (d.pair.1 == from)) refl
+      rw (ne_eqb d.pair.0 from first, ne_eqb d.pair.0 to other, and-false (d.pair.1 == from)) refl
 ]
   where
-    and_none : (b : Bool) → (b && false) ≡ false
-    and_none true = refl
-    and_none false = refl
+    and-false : (b : Bool) → (b && false) ≡ false
+    and-false true = refl
+    and-false false = refl
 
 none_changed : (ds : List Decision) (from to : ℕ) → ((k : ℕ) → k < length (map (other_of from) ds) → node_in (map (other_of from) ds) k ≢ to) → changes ds from to ≡ pos 0
 none_changed [] from to none = refl
@@ -323,7 +298,7 @@ listed_at_index case own from index d is none =
     ∙ ap (λ n. get_or (map (other_of from) own) index n) (sym none)
     ∙ get_or-map (other_of from) own index d
 
--- ---- equal weights have the same least 1-trees, so the bound of a leaf's weights is the bound
+-- ---- equal weights have the same least 1-trees, and so the same bound
 
 agreed_weight : (w v : ℕ → ℕ → ℤ) → ((i j : ℕ) → w i j ≡ v i j) → (pairs : List (ℕ × ℕ)) → weight_of w pairs ≡ weight_of v pairs
 agreed_weight w v agree [] = refl
@@ -339,18 +314,18 @@ agreed_least n w v pairs agree least = record {
       omega (arith, ints, own, other, below);
 }
 
-same_sum : (weight given_back potentials taken combs : ℤ) → given_back ≡ (taken +ℤ combs) -ℤ (pos 2 *ℤ potentials) → weight +ℤ given_back ≡ ((weight -ℤ (pos 2 *ℤ potentials)) +ℤ taken) +ℤ combs
-same_sum weight given_back potentials taken combs is = omega (arith, ints, is)
+same_sum : (weight given_back potentials taken weighted : ℤ) → given_back ≡ (taken +ℤ weighted) -ℤ (pos 2 *ℤ potentials) → weight +ℤ given_back ≡ ((weight -ℤ (pos 2 *ℤ potentials)) +ℤ taken) +ℤ weighted
+same_sum weight given_back potentials taken weighted is = omega (arith, ints, is)
 
 pub bounds_each_leaf : (n : ℕ) (w : ℕ → ℕ → ℤ) (scale given_back bound : ℤ) → IsBoundOfWeights n w scale given_back bound → BoundsEachLeaf n w scale given_back bound
-bounds_each_leaf n w scale given_back bound b cost potentials taken avoided combs agree is =
-    let v = leaf_weight scale potentials taken avoided combs cost in
+bounds_each_leaf n w scale given_back bound b cost potentials taken avoided weighted agree is =
+    let v = leaf_weight scale potentials taken avoided weighted cost in
     let weight_is : b.weight ≡ weight_of v b.weighs.tree = b.weighs.weight_is ∙ agreed_weight w v agree b.weighs.tree in
-    let sum = same_sum b.weight given_back (total potentials) (triples_total taken) (least_of combs) is in
+    let sum = same_sum b.weight given_back (total potentials) (triples_total taken) (least_of weighted) is in
     record {
       tree = b.weighs.tree;
       least = agreed_least n w v b.weighs.tree agree b.weighs.least;
-      bound_is = subst (λ (z : ℤ). IsLeastBound scale (((z -ℤ (pos 2 *ℤ total potentials)) +ℤ triples_total taken) +ℤ least_of combs) bound) weight_is
+      bound_is = subst (λ (z : ℤ). IsLeastBound scale (((z -ℤ (pos 2 *ℤ total potentials)) +ℤ triples_total taken) +ℤ least_of weighted) bound) weight_is
           (subst (λ (z : ℤ). IsLeastBound scale z bound) sum b.bound_is);
     }
 

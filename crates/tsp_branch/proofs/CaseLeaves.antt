@@ -1,30 +1,10 @@
 -- The bound of a leaf: closed links, least open links and their sum, decisions, and what is given back.
-use Rattle.std.proofs.Common.{ℕ, ◌+◌, ◌<◌, List, get_or, length, inl, inr, refl, ◌∙◌, arith, ◌≡◌, Bool, false, ◌*◌, ◌^◌, [], ◌∷◌, ◌++◌, drop, FitsSigned, ap, sym, to_z, of_z, drop-cons, add-one, ◌≢◌, true, subst, zero, suc, ◌≤◌, ◌==◌}
-use Rattle.std.proofs.lemmas.Bool.{cases_eq, cases_Bool, eq-eqb, ne_eqb}
-use Rattle.std.proofs.lemmas.Int.{ints}
-use Rattle.std.proofs.lemmas.List.{get_or_default, reverse-append, length-reverse}
+use Rattle.tsp_branch.proofs.Prelude.{ℕ, ◌+◌, ◌<◌, List, get_or, length, inl, inr, refl, ◌∙◌, arith, ◌≡◌, Bool, false, ◌*◌, ◌^◌, [], ◌∷◌, ◌++◌, drop, FitsSigned, ap, sym, to_z, of_z, drop-cons, add-one, ◌≢◌, true, subst, zero, suc, ◌≤◌, ◌==◌, cases_eq, cases_Bool, eq-eqb, ne_eqb, ints, get_or_default, reverse-append, length-reverse, w64, w128, int_wrap, filter, All, AllByRecursion, Contains, range_with_len, ℤ, pos, neg_ℤ, ◌+ℤ◌, ◌-ℤ◌, ◌*ℤ◌, reverse, ◌↔◌, ◌≤ℤ◌, ◌<ℤ◌, if◌then◌else◌, most_nodes, IsNode, nodes_to, IsFromTo, moved_to, most_64, total, triples_total, IsSumSized, least_at, IsMoved, first_bears, second_only, filter_in, filter_out, few_changes, changes_listed, changes_are, within, least_of, multiplied, AllowsLink, Allows, IsAllowed, IsLeastFrom, IsSumOfLeast, on_taken, decided_number, DecideOnce, families_with, sum_with, Decision, stack_of, IsDecision, IsOnPlaces, bears_on, changes, decided, marks_in, most_decided, most_combed}
 use Rattle.std.proofs.lemmas.List.Elements.{All-contains, All-filter, All-from_recursion, Contains-get_or, recursion_from_All}
 use Rattle.std.proofs.lemmas.List.Sorted.{IsPermutation-reverse, IsPermutation-sym, Contains-permutation}
 use Rattle.std.proofs.lemmas.List.Sums.{length-filter, count_by-le-length}
-use Rattle.std.specs.Int.{w64, w128, int_wrap}
-use Rattle.std.specs.List.{filter, All, AllByRecursion, Contains, range_with_len}
-use Rattle.std.specs.Prelude.{ℤ, pos, neg_ℤ, ◌+ℤ◌, ◌-ℤ◌, ◌*ℤ◌, reverse, ◌↔◌, ◌≤ℤ◌, ◌<ℤ◌, if◌then◌else◌}
-use Rattle.tsp_format.specs.Limits.{most_nodes}
-use Rattle.tsp_format.specs.Nodes.{IsNode, nodes_to}
-use Rattle.tsp_format.specs.Steps.{IsFromTo}
-use Rattle.tsp_theory.proofs.Sums.{moved_to, most_64}
-use Rattle.tsp_theory.specs.Bounds.{total, triples_total, IsSumSized}
 use Rattle.tsp_theory.specs.Tour.{sum_int_by}
-use Rattle.tsp_theory.specs.states.Nearest.{least_at, IsMoved}
-use Rattle.tsp_cases.proofs.OpenCases.{first_bears, second_only, filter_in, filter_out, few_changes, changes_listed}
-use Rattle.tsp_cases.proofs.SetSums.{changes_are, within}
-use Rattle.tsp_cases.specs.CaseTrees.{least_of, multiplied, AllowsLink, Allows, IsAllowed, IsLeastFrom, IsSumOfLeast}
-use Rattle.tsp_cases.specs.Cases.{on_taken, decided_number, DecideOnce}
-use Rattle.tsp_cases.specs.Families.{families_with, sum_with}
 use Rattle.tsp_cases.specs.declared.family.Crossings.{Crossings}
-use Rattle.tsp_cases.specs.declared.open_case.Decision.{Decision}
-use Rattle.tsp_cases.specs.states.OpenCases.{stack_of, IsDecision, IsOnPlaces, bears_on, changes, decided, marks_in, most_decided}
-use Rattle.tsp_cases.specs.states.Sets.{most_combed}
 use Rattle.tsp_branch.specs.states.LeafRows.{IsShut, no_link, IsOpenRow, decided_by}
 
 -- P of the first i elements of a list
@@ -59,10 +39,6 @@ shut_same A B a b to from (inr one) = inr (λ h. one.0 (from h), one.1)
 -- ---- what a leaf gives back to its bound, in the order in which code sums it
 
 -- ---- sums of numbers
-
-pub more_of_64 : (sum number : ℤ) (index : ℕ) → IsFromTo (neg_ℤ (pos (index * 2 ^ 63))) (pos (index * 2 ^ 63)) sum → FitsSigned w64 number
-    → IsFromTo (neg_ℤ (pos ((index + 1) * 2 ^ 63))) (pos ((index + 1) * 2 ^ 63)) (sum +ℤ number)
-more_of_64 sum number index s fits = (omega (arith, ints, s.0, fits), omega (arith, ints, s.1, fits))
 
 pub computed_of_64 : (sum number from : ℤ) (index : ℕ) → index < 2 ^ 32 → IsFromTo (neg_ℤ (pos (index * 2 ^ 63))) (pos (index * 2 ^ 63)) sum → FitsSigned w64 number → from ≡ number
     → to_z w128 (of_z w128 (sum +ℤ to_z w128 (of_z w128 from))) ≡ sum +ℤ number

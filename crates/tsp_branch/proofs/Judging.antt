@@ -1,33 +1,19 @@
 -- What judging the leaves finds is the judgement on a certificate, and bounds every cycle.
-use Rattle.std.proofs.Common.{◌≡◌, ◌∙◌, ℕ, ◌^◌, ◌≤◌, Bool, true, false, List, [], ◌∷◌, length, take, drop, ℤ, refl, sym, subst, arith}
-use Rattle.std.specs.Prelude.{Option, None, Some, pos, neg_ℤ}
-use Rattle.std.specs.List.{All}
+use Rattle.tsp_branch.proofs.Prelude.{◌≡◌, ◌∙◌, ℕ, ◌^◌, ◌≤◌, Bool, true, false, List, [], ◌∷◌, length, take, drop, ℤ, refl, sym, subst, arith, Option, None, Some, pos, neg_ℤ, All, ints, take-append-drop, most_potential, steps_of, are_whole, IsFromTo, IsScale, Family, IsFamily, Decision, decided_number, LeafNumbers, leaves_of, AreLeafNumbers, IsFoundAt, AreCostsFor, BoundsIfAny, CaseTreesBoundCycles, AreSmall, small_multipliers}
 use Rattle.std.proofs.Math.Logic.{∥∥₁_elim}
 use Rattle.std.proofs.Props.{props}
-use Rattle.std.proofs.lemmas.Int.{ints}
-use Rattle.std.proofs.lemmas.List.{take-append-drop}
 use Rattle.std.proofs.lemmas.List.Elements.{All-append, All-weaker}
-use Rattle.tsp_format.specs.Limits.{most_potential}
 use Rattle.tsp_format.specs.declared.steps.TreeStep.{TreeStep}
 use Rattle.tsp_format.specs.Steps as listed
-use Rattle.tsp_format.specs.states.TreeSteps.{steps_of}
-use Rattle.tsp_format.specs.Steps.{are_whole, IsFromTo}
 use Rattle.tsp_format.specs.Words.{IsSymmetric}
-use Rattle.tsp_theory.specs.Bounds.{IsScale}
 use Rattle.tsp_cases.specs.declared.family.Crossings.{Crossings}
 use Rattle.tsp_cases.specs.declared.judged.JudgedLeaves.{JudgedLeaves}
 use Rattle.tsp_cases.specs.declared.judged.JudgedLeaves.TheVariants as judged
 use Rattle.tsp_cases.specs.declared.judged.JudgedLeaf.TheVariants as leaves
-use Rattle.tsp_cases.specs.Families.{Family, IsFamily}
-use Rattle.tsp_cases.specs.declared.open_case.Decision.{Decision}
-use Rattle.tsp_cases.specs.Cases.{decided_number, LeafNumbers, leaves_of}
-use Rattle.tsp_cases.specs.CaseTrees.{AreLeafNumbers, IsFoundAt, AreCostsFor, BoundsIfAny, CaseTreesBoundCycles}
 use Rattle.tsp_cases.specs.ListedCases.{AreGoodNumbers, as_leaf_numbers, most_crossed, split_at, no_numbers_of, listed_steps}
 use Rattle.tsp_cases.specs.JudgedTrees.{AreCasesOf}
-use Rattle.tsp_cases.specs.declared.checked_tree.CheckedTree.{CheckedTree}
-use Rattle.tsp_cases.specs.states.Kept.{AreSmall}
+use Rattle.tsp_cases.specs.declared.judged.CheckedTree.{CheckedTree}
 use Rattle.tsp_cases.specs.JudgedLeaves.{AreJudgedBy, IsFoundOfCase}
-use Rattle.tsp_cases.proofs.SetSums.{small_multipliers}
 use Rattle.tsp_cases.proofs.Passes.{whole_trees}
 use Rattle.tsp_branch.specs.BranchVerdicts.{AreJudgedLeaves, BoundsCycles}
 
@@ -47,10 +33,10 @@ pub found_of_case : (Found : List Decision × LeafNumbers → Option ℤ → Typ
     → All (λ own. 1 ≤ own.most) crossed → AreGoodNumbers n crossed (split_at n numbers)
     → potentials ≡ take n numbers → multipliers ≡ drop n numbers → Found (case, as_leaf_numbers potentials multipliers) own
     → IsFoundOfCase Found (AreGoodNumbers n crossed) n case numbers (leaves.Found own)
-found_of_case Found n crossed case numbers potentials multipliers own some good of_nodes of_combs is = (
+found_of_case Found n crossed case numbers potentials multipliers own some good of_nodes of_families is = (
   good,
   good_are_small n crossed numbers some good,
-  subst (λ (zs : List ℤ). Found (case, as_leaf_numbers (take n numbers) zs) own) of_combs
+  subst (λ (zs : List ℤ). Found (case, as_leaf_numbers (take n numbers) zs) own) of_families
       (subst (λ (zs : List ℤ). Found (case, as_leaf_numbers zs multipliers) own) of_nodes is),
 )
 
@@ -65,9 +51,9 @@ good_read n p crossed read numbers at same good =
 -- the numbers judged to be good are those in the leaf's memory
 pub numbers_are : (n p : ℕ) (crossed : List Crossings) (read potentials multipliers : List ℤ) → p ≡ n → potentials ≡ take p read → multipliers ≡ drop p read
     → AreGoodNumbers p crossed (as_leaf_numbers (take p read) (drop p read)) → AreGoodNumbers n crossed (as_leaf_numbers potentials multipliers)
-numbers_are n p crossed read ps ms at of_nodes of_combs good =
+numbers_are n p crossed read ps ms at of_nodes of_families good =
     subst (λ (k : ℕ). AreGoodNumbers k crossed (as_leaf_numbers ps ms)) at
-    (subst (λ (zs : List ℤ). AreGoodNumbers p crossed (as_leaf_numbers ps zs)) (sym of_combs)
+    (subst (λ (zs : List ℤ). AreGoodNumbers p crossed (as_leaf_numbers ps zs)) (sym of_families)
     (subst (λ (zs : List ℤ). AreGoodNumbers p crossed (as_leaf_numbers zs (drop p read))) (sym of_nodes) good))
 
 -- ---- the whole

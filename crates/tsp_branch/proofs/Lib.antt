@@ -1,4 +1,5 @@
 -- The files of lemmas of this crate. Crates above may import them.
+mod Prelude
 pub mod BoxedLeaves
 pub mod CaseLeaves
 pub mod Judging

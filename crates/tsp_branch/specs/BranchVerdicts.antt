@@ -1,11 +1,9 @@
 -- The verdict on a certificate by branching, for a TSP or an ATSP, from the bound of each leaf: its bound, or the first
 -- reason against it.
-use Rattle.std.specs.Prelude.{◌≡◌, ℕ, List, ℤ, pos, ◌+ℤ◌, ◌-ℤ◌, ◌*ℤ◌, length, Bool, None, Some, IfSome}
+use Rattle.tsp_branch.specs.Prelude.{ℕ, List, ℤ, pos, length, Bool, None, Some, IfSome, total, IsLeastBound, triples_total, IsBoundSized, least_of, leaf_weight, IsLeafBound, IsCaseTree, IsCaseTreeBound, BoundsIfAny, decided_number}
+use Rattle.std.specs.Prelude.{◌≡◌, ◌+ℤ◌, ◌-ℤ◌, ◌*ℤ◌}
 use Rattle.tsp_format.specs.Steps as listed
-use Rattle.tsp_theory.specs.Bounds.{total, IsLeastBound, triples_total, IsBoundSized}
 use Rattle.tsp_bound.specs.Weighed.{IsLeastWeight}
-use Rattle.tsp_cases.specs.CaseTrees.{least_of, leaf_weight, IsLeafBound, IsCaseTree, IsCaseTreeBound, BoundsIfAny}
-use Rattle.tsp_cases.specs.Cases.{decided_number}
 use Rattle.tsp_cases.specs.Families.{Family, families_with, AreFamilies, IsFirstBadFamily}
 use Rattle.tsp_cases.specs.ListedCases.{listed_steps, AreGoodLeaves, IsFirstBadLeaf, AreBranchesWithin, AreBranchesJudged}
 use Rattle.tsp_cases.specs.declared.family.Crossings.{Crossings}
@@ -24,13 +22,13 @@ pub record IsBoundOfWeights (n : ℕ) (w : ℕ → ℕ → ℤ) (scale given_bac
 -- what a leaf gives back: the numbers of its taken pairs and the least crossings of its families, each times its
 -- multiplier, less each potential twice
 abbrev pub given_back_of : List ℤ → List (ℕ × ℕ × ℤ) → List (Family × ℤ) → ℤ
-given_back_of potentials taken combs = (triples_total taken +ℤ least_of combs) -ℤ (pos 2 *ℤ total potentials)
+given_back_of potentials taken weighted = (triples_total taken +ℤ least_of weighted) -ℤ (pos 2 *ℤ total potentials)
 
 -- the bound is that of each leaf that has these weights and gives this back
 abbrev pub BoundsEachLeaf : ℕ → (ℕ → ℕ → ℤ) → ℤ → ℤ → ℤ → Type 0
 BoundsEachLeaf n w scale given_back bound = (cost : ℕ → ℕ → ℤ) (potentials : List ℤ) (taken avoided : List (ℕ × ℕ × ℤ))
-    (combs : List (Family × ℤ)) → ((i j : ℕ) → w i j ≡ leaf_weight scale potentials taken avoided combs cost i j)
-    → given_back ≡ given_back_of potentials taken combs → IsLeafBound n cost scale potentials taken avoided combs bound
+    (weighted : List (Family × ℤ)) → ((i j : ℕ) → w i j ≡ leaf_weight scale potentials taken avoided weighted cost i j)
+    → given_back ≡ given_back_of potentials taken weighted → IsLeafBound n cost scale potentials taken avoided weighted bound
 
 -- ---- the judgement on the leaves of a tree of cases by 1-trees or least links
 

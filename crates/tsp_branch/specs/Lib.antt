@@ -1,3 +1,4 @@
 -- The files of definitions of this crate. Crates above may import them.
+pub mod Prelude
 pub mod states
 pub mod BranchVerdicts

@@ -1,17 +1,10 @@
 //! The bound of a leaf by a least 1-tree: by boxes of points where these suit its sets, else by
 //! rows.
 
+ghost use Rattle.tsp_branch.specs.Prelude.{All, false, length, pos, neg_ℤ, IfOk, true, ℕ, IsNode, IsFromTo, IsBoundSized, IsScale, IsLeastBound, weight_between, most_between, least_at, decided_number, most_combed, set_weight, lent_in, AreFewChanges, changes, decided, decisions_in};
 ghost use Rattle.std.specs.Int.{w64, int_wrap};
-ghost use Rattle.std.specs.List.{All};
-ghost use Rattle.std.specs.Prelude.{◌≡◌, ◌+◌, false, ◌+ℤ◌, ◌*ℤ◌, ◌≤ℤ◌, length, pos, neg_ℤ, IfOk, ◌<◌, ◌*◌, true, ◌≤◌, ◌^◌, ℕ};
+ghost use Rattle.std.specs.Prelude.{◌≡◌, ◌+◌, ◌+ℤ◌, ◌*ℤ◌, ◌≤ℤ◌, ◌<◌, ◌*◌, ◌≤◌, ◌^◌};
 ghost use Rattle.tsp_format.specs.Limits.{most_weight};
-ghost use Rattle.tsp_format.specs.Nodes.{IsNode};
-ghost use Rattle.tsp_format.specs.Steps.{IsFromTo};
-ghost use Rattle.tsp_theory.specs.Bounds.{IsBoundSized, IsScale, IsLeastBound, weight_between, most_between};
-ghost use Rattle.tsp_theory.specs.states.Nearest.{least_at};
-ghost use Rattle.tsp_cases.specs.Cases.{decided_number};
-ghost use Rattle.tsp_cases.specs.states.Sets.{most_combed, set_weight, lent_in};
-ghost use Rattle.tsp_cases.specs.states.OpenCases.{AreFewChanges, changes, decided, decisions_in};
 ghost use Rattle.tsp_branch.specs.BranchVerdicts.{BoundsEachLeaf, IsBoundOfWeights};
 ghost use Rattle.tsp_branch.specs.states.LeafRows.{AreExact, is_same_place, has_place, shared_by, sum_at_places};
 

@@ -1,18 +1,10 @@
 //! A leaf of a tree of cases, and its bound: by a least 1-tree, or by the least arc from each node.
 
+ghost use Rattle.tsp_branch.specs.Prelude.{All, filter, length, pos, neg_ℤ, ℕ, List, true, ℤ, IsNode, triples_total, total, IsScale, IsFromTo, least_at, IsMoved, multiplied, least_of, Allows, DecideOnce, on_taken, decided_number, AreFewCrossings, lent_in, good_in, marks_in, IsOnPlaces, IsChanged, change_of, changes, stack_of, IsOpenCase, decisions_in, bears_on};
 ghost use Rattle.std.specs.Int.{w64, int_wrap};
-ghost use Rattle.std.specs.List.{All, filter};
-ghost use Rattle.std.specs.Prelude.{◌≡◌, ◌+◌, ◌<◌, ◌^◌, length, pos, neg_ℤ, ◌-ℤ◌, ◌*ℤ◌, ℕ, ◌≤◌, List, true, ◌⊎◌, ℤ, ◌≤ℤ◌, ◌≢◌};
-ghost use Rattle.tsp_format.specs.Nodes.{IsNode};
-ghost use Rattle.tsp_theory.specs.Bounds.{triples_total, total, IsScale};
-ghost use Rattle.tsp_format.specs.Steps.{IsFromTo};
-ghost use Rattle.tsp_theory.specs.states.Nearest.{least_at, IsMoved};
-ghost use Rattle.tsp_cases.specs.CaseTrees.{multiplied, least_of, Allows};
-ghost use Rattle.tsp_cases.specs.Cases.{DecideOnce, on_taken, decided_number};
+ghost use Rattle.std.specs.Prelude.{◌≡◌, ◌+◌, ◌<◌, ◌^◌, ◌-ℤ◌, ◌*ℤ◌, ◌≤◌, ◌⊎◌, ◌≤ℤ◌, ◌≢◌};
 ghost use Rattle.tsp_cases.specs.ListedCases.{AreGoodNumbers, as_leaf_numbers};
 ghost use Rattle.tsp_cases.specs.declared.open_case.Decision.{Decision};
-ghost use Rattle.tsp_cases.specs.states.Sets.{AreFewCrossings, lent_in, good_in};
-ghost use Rattle.tsp_cases.specs.states.OpenCases.{marks_in, IsOnPlaces, IsChanged, change_of, changes, stack_of, IsOpenCase, decisions_in, bears_on};
 ghost use Rattle.tsp_cases.specs.states.Kept.{AreMoved, AreRowsIfAny, kept_weight};
 ghost use Rattle.tsp_branch.specs.states.LeafRows.{no_link, IsOpenRow, IsShut};
 
@@ -22,7 +14,7 @@ use tsp_cases::{DECIDED, Decision, LeafContext, Multipliers, OpenCase, sum_left,
 use tsp_io::Refused;
 use tsp_theory::{Costs, Weights, add_at};
 
-/// A leaf: its case, the setting that it shares with all others, and its numbers, which are good.
+/// A leaf: its case, the context that it shares with all others, and its numbers, which are good.
 /// For its weights also by node the potential less the multipliers of its sets, and the rows that
 /// are kept, if any, at these multipliers and under the decisions of the case.
 #[derive(Drop)]
@@ -49,12 +41,8 @@ pub(crate) struct CaseLeaf<'a, C: Costs> {
 }
 
 impl<C: Costs> CaseLeaf<'_, C> {
-    ghost use Rattle.std.specs.Prelude.{◌≡◌, ◌+◌, true, false, length, Some, IfOk, IfSome};
-    ghost use Rattle.tsp_theory.specs.Bounds.{IsBoundSized};
-    ghost use Rattle.tsp_cases.specs.Cases.{decided_number};
-    ghost use Rattle.tsp_cases.specs.CaseTrees.{IsFoundAt};
-    ghost use Rattle.tsp_cases.specs.states.Sets.{good_in};
-    ghost use Rattle.tsp_cases.specs.states.OpenCases.{decisions_in};
+    ghost use Rattle.tsp_branch.specs.Prelude.{true, false, length, Some, IfOk, IfSome, IsBoundSized, decided_number, IsFoundAt, good_in, decisions_in};
+    ghost use Rattle.std.specs.Prelude.{◌≡◌, ◌+◌};
     ghost use Rattle.tsp_cases.specs.ListedCases.{as_leaf_numbers};
 
     /// The bound of the leaf under the decisions of its case; `None` where it has none, since some
@@ -251,12 +239,9 @@ pub(crate) struct AllowedRows<'a, W: Weights> {
 }
 
 impl<W: Weights> AllowedRows<'_, W> {
-    ghost use Rattle.std.specs.Prelude.{◌≡◌, ◌+◌, ℕ, length, MatchOption, IfSome};
-    ghost use Rattle.tsp_format.specs.Nodes.{IsNode};
+    ghost use Rattle.tsp_branch.specs.Prelude.{ℕ, length, MatchOption, IfSome, IsNode, IsBoundSized, IsSumSized, decisions_in, IsAllowed, HasNoLink, IsLeastFrom, IsSumOfLeast, IsRowBound};
+    ghost use Rattle.std.specs.Prelude.{◌≡◌, ◌+◌};
     ghost use Rattle.tsp_format.specs.Limits.{most_nodes};
-    ghost use Rattle.tsp_theory.specs.Bounds.{IsBoundSized, IsSumSized};
-    ghost use Rattle.tsp_cases.specs.states.OpenCases.{decisions_in};
-    ghost use Rattle.tsp_cases.specs.CaseTrees.{IsAllowed, HasNoLink, IsLeastFrom, IsSumOfLeast, IsRowBound};
 
     /// The bound of a leaf that has these weights: the least whole number that at the scale is no
     /// less than the least weights from all nodes plus a sum. `None` where the decisions allow no

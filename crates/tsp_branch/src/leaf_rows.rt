@@ -5,9 +5,8 @@
 //! So each multiplier is taken off the potentials of its sets' nodes, and a row needs besides these
 //! only the sets that hold its node.
 
-ghost use Rattle.std.specs.Prelude.{◌≡◌, true, pos, neg_ℤ};
-ghost use Rattle.tsp_format.specs.Steps.{IsFromTo};
-ghost use Rattle.tsp_theory.specs.Bounds.{most_number};
+ghost use Rattle.tsp_branch.specs.Prelude.{true, pos, neg_ℤ, IsFromTo, most_number};
+ghost use Rattle.std.specs.Prelude.{◌≡◌};
 
 use crate::boxed::are_few;
 use crate::case_leaf::{CaseLeaf, change_row};
@@ -30,19 +29,9 @@ fn is_number(number: i64) -> bool
 }
 
 impl<C: Costs> CaseLeaf<'_, C> {
-    ghost use Rattle.std.specs.Prelude.{◌≡◌, ◌<◌, ◌≤◌, ◌+◌, ◌+ℤ◌, ℕ, length, slice_index, pos, neg_ℤ};
-    ghost use Rattle.tsp_format.specs.Nodes.{IsNode};
-    ghost use Rattle.tsp_format.specs.Steps.{IsFromTo};
-    ghost use Rattle.tsp_theory.specs.Bounds.{IsScale, ArePotentials};
-    ghost use Rattle.tsp_theory.specs.states.Nearest.{least_at};
-    ghost use Rattle.tsp_theory.specs.Bounds.{weight_between, most_between};
-    ghost use Rattle.tsp_theory.specs.states.Nearest.{IsMoved};
-    ghost use Rattle.tsp_cases.specs.states.Sets.{lent_in};
-    ghost use Rattle.tsp_cases.specs.states.Sets.{AreSmallMultipliers, multipliers_at, AreFewCrossings, IsApart, most_combed, set_weight};
-    ghost use Rattle.tsp_cases.specs.states.OpenCases.{most_decided};
-    ghost use Rattle.tsp_cases.specs.states.OpenCases.{decisions_in};
+    ghost use Rattle.tsp_branch.specs.Prelude.{ℕ, length, slice_index, pos, neg_ℤ, IsNode, IsFromTo, IsScale, ArePotentials, least_at, weight_between, most_between, IsMoved, lent_in, AreSmallMultipliers, multipliers_at, AreFewCrossings, IsApart, most_combed, set_weight, most_decided, decisions_in, true};
+    ghost use Rattle.std.specs.Prelude.{◌≡◌, ◌<◌, ◌≤◌, ◌+◌, ◌+ℤ◌};
     ghost use Rattle.tsp_branch.specs.states.LeafRows.{AreExact, decided_by};
-    ghost use Rattle.std.specs.Prelude.{true};
 
     /// Whether boxes seem to take no more time than rows that aren't kept.
     pub(crate) fn suit_boxes(&self) -> bool {
@@ -177,9 +166,7 @@ impl<C: Costs> CaseLeaf<'_, C> {
 }
 
 impl<C: Costs> Weights for CaseLeaf<'_, C> {
-    ghost use Rattle.tsp_cases.specs.states.Sets.{lent_in};
-    ghost use Rattle.tsp_cases.specs.states.Sets.{set_weight};
-    ghost use Rattle.tsp_cases.specs.states.OpenCases.{decisions_in};
+    ghost use Rattle.tsp_branch.specs.Prelude.{lent_in, set_weight, decisions_in};
     ghost use Rattle.tsp_branch.specs.states.LeafRows.{decided_by};
 
     ghost nodes = { λ leaf. C.nodes leaf.context.now.costs.now };

@@ -1,18 +1,14 @@
 //! Judges a certificate by branching: its families, then its branches, then its leaves.
 
-ghost use Rattle.std.specs.List.{All};
-ghost use Rattle.std.specs.Prelude.{IfOk, ◌≡◌, ◌≤◌, ◌<◌, ◌^◌, false, length, ◌+◌};
+ghost use Rattle.tsp_branch.specs.Prelude.{All, IfOk, false, length, IsFoundAt, DecideOnce, decided_number, marks_in, IsOpenCase, decisions_in, good_in, lent_in};
+ghost use Rattle.std.specs.Prelude.{◌≡◌, ◌≤◌, ◌<◌, ◌^◌, ◌+◌};
 ghost use Rattle.tsp_format.specs.states.TreeSteps.{steps_of};
 ghost use Rattle.tsp_format.specs.Words.{IsSymmetric};
-ghost use Rattle.tsp_cases.specs.CaseTrees.{IsFoundAt};
-ghost use Rattle.tsp_cases.specs.Cases.{DecideOnce, decided_number};
 ghost use Rattle.tsp_cases.specs.Families.{IsFamily};
 ghost use Rattle.tsp_cases.specs.Crossings.{families_in};
 ghost use Rattle.tsp_cases.specs.ListedCases.{AreGoodNumbers};
 ghost use Rattle.tsp_cases.specs.JudgedLeaves.{AreSizedLeaves, IsFoundOfCase, IsSizedLeaf};
-ghost use Rattle.tsp_cases.specs.states.OpenCases.{marks_in, IsOpenCase, decisions_in};
 ghost use Rattle.tsp_cases.specs.states.Kept.{HoldsRows, IsScratch};
-ghost use Rattle.tsp_cases.specs.states.Sets.{good_in, lent_in};
 ghost use Rattle.tsp_branch.specs.BranchVerdicts.{IsBranchVerdict, VerdictBoundsCycles, IsSizedVerdict, AreJudgedLeaves, BoundsCycles};
 
 use crate::case_leaf::CaseLeaf;
@@ -157,7 +153,7 @@ fn judge_context<C: Costs>(alloc: Global, context: &LeafContext<C>) -> Result<Ju
     judge_leaves(alloc, &judge, &steps, &mut room, count)
 }
 
-// ---- estimates how long leaves take by boxes and by rows, so that `src/verdict.rt` and
+// ---- how long leaves seem to take by boxes and by rows
 
 // 20 leaves over 2,001 random points, without sets.
 const NODE_BY_BOXES: u64 = 1_900;
@@ -247,12 +243,8 @@ pub(crate) struct CycleJudge<'a, C: Costs> {
 }
 
 impl<C: Costs> LeafJudge for CycleJudge<'_, C> {
-    ghost use Rattle.std.specs.Prelude.{length};
-    ghost use Rattle.tsp_cases.specs.Cases.{DecideOnce, decided_number};
+    ghost use Rattle.tsp_branch.specs.Prelude.{length, DecideOnce, decided_number, IsFoundAt, lent_in, good_in, marks_in};
     ghost use Rattle.tsp_cases.specs.ListedCases.{AreGoodNumbers};
-    ghost use Rattle.tsp_cases.specs.CaseTrees.{IsFoundAt};
-    ghost use Rattle.tsp_cases.specs.states.Sets.{lent_in, good_in};
-    ghost use Rattle.tsp_cases.specs.states.OpenCases.{marks_in};
     ghost use Rattle.tsp_cases.specs.states.Kept.{HoldsRows};
     ghost use Rattle.tsp_cases.specs.states.Kept.{IsScratch};
 
@@ -260,7 +252,7 @@ impl<C: Costs> LeafJudge for CycleJudge<'_, C> {
 
     ghost nodes = { λ judge. C.nodes judge.context.now.costs.now };
 
-    ghost combs = { λ judge. length judge.context.now.families.now.crossed.items };
+    ghost family_count = { λ judge. length judge.context.now.families.now.crossed.items };
 
     ghost places = { λ judge. C.nodes judge.context.now.costs.now };
 
@@ -296,7 +288,7 @@ impl<C: Costs> LeafJudge for CycleJudge<'_, C> {
         numbers: &[i128],
         memory: &mut Scratch,
     ) -> Result<JudgedLeaf, Refused> {
-        // The setting is lent again, since the case changes before the next leaf.
+        // The context is lent again, since the case changes before the next leaf.
         judge_leaf(alloc, &*self.context, case, numbers, memory)
     }
 }

@@ -1,36 +1,26 @@
 -- The calls on a handle say of an open instance what the calls on texts say of its text.
-use Rattle.std.proofs.Common.{◌≡◌, ℕ, ◌≤◌, sym, ap, arith, refl, ◌≢◌, ◌+◌, ◌<◌, List, length, ◌∙◌, below_more, get_or-set_same, get_or-set_other, zero, suc, Bool, true, false, cond, ◌∷◌, take, drop, length-drop, drop-cons, add-one, ltb-true, ltb-false, subst, Result, Ok, Err, inl, inr}
+use Rattle.tsp_c.proofs.Prelude.{◌≡◌, ℕ, ◌≤◌, sym, ap, arith, refl, ◌≢◌, ◌+◌, ◌<◌, List, length, ◌∙◌, below_more, get_or-set_same, get_or-set_other, zero, suc, Bool, true, false, cond, ◌∷◌, take, drop, length-drop, drop-cons, add-one, ltb-true, ltb-false, subst, Result, Ok, Err, inl, inr, Option, Some, None, unwrap_or, ℤ, pos, option_map, slice_index_or as get_or, ◌==◌, not, nat_lt, Sink, distance, Fields, is_yes, Verdict, status_of, status_of_fault, Open, IsHeldVerdict, IsNotJudged, RunFault, File, WrongKind, Write, OutOfMemory, Relayout, Bx}
 use Rattle.std.proofs.Math.ListN.{set}
 use Rattle.std.proofs.lemmas.Bool.{false≢true}
 use Rattle.std.proofs.lemmas.List.{length-set, get_or-take, length-take}
 use Rattle.std.proofs.lemmas.List.Sums.{prefix_len_passes, sum_by-cons}
 use Rattle.std.specs.List.{All, count_by, position, prefix_len}
-use Rattle.std.specs.Prelude.{Option, Some, None, unwrap_or, ℤ, pos, option_map, slice_index_or as get_or, ◌==◌, not, nat_lt}
 use denote.Signature.{Slot, plain}
 use mathlib.Core.List.{[]}
 use mir.Syntax.{impl, tnil, dnil}
 use Rattle.tsp_number.specs.declared.decimal.Point.{Point}
-use Rattle.tsp_io.specs.Streams.{Sink}
 use Rattle.tsp_io.specs.declared.piece.WriteFault.TheVariants as write_faults
 use Rattle.tsp_format.specs.Nodes.{IsNode}
 use Rattle.tsp_format.specs.declared.kinds.WeightKind.{WeightKind}
-use Rattle.tsp_file.specs.Cost.{distance}
-use Rattle.tsp_file.specs.Fields.{Fields}
 use Rattle.tsp_file.specs.declared.relayout.RelayoutFault.{RelayoutFault}
 use Rattle.tsp_text.specs.declared.fault.ReadFault.TheVariants as read_faults
 use Rattle.tsp_report.specs.Report.{report_of, IsSized}
-use Rattle.tsp_report.specs.Verdicts.{is_yes}
-use Rattle.tsp_report.specs.declared.verdict.Verdict.{Verdict}
 use Rattle.tsp_report.specs.declared.verdict.Verdict.TheVariants.{Tour, Routes, No}
-use Rattle.tsp_verdict.specs.SolutionVerdict.{refuses, is_unjudged, strict_verdict}
+use Rattle.tsp_verdict.specs.SolutionVerdict.{is_unjudged, strict_verdict}
+use Rattle.tsp_judge.proofs.Yeses.{none_unknown}
 use Rattle.tsp_judge.proofs.opened.Opened.TheLaws as opened
 use Rattle.tsp_judge.specs.Accepted.{IsAccepted}
-use Rattle.tsp_judge.specs.CheckRun.{status_of, status_of_fault}
-use Rattle.tsp_judge.specs.Open.{Open, IsHeldVerdict, IsNotJudged}
 use Rattle.tsp_judge.specs.contracts.opened.Opened
-use Rattle.tsp_judge.specs.declared.run_status.RunFault.{RunFault}
-use Rattle.tsp_judge.specs.declared.run_status.RunFault.TheVariants.{File, WrongKind, Write, OutOfMemory, Relayout}
-use Rattle.std_alloc.proofs.BoxSteps.Form.{Bx}
 use Rattle.std_heap.proofs.Global.TheLaws as heap
 use Rattle.std_heap.specs.contracts.Global as Heap
 use Rattle.std_heap.specs.contracts.GlobalAllocator.TheImpl.{ghosts, dict}
@@ -301,11 +291,6 @@ yes_kept false plain agrees = (refl, refl)
 yes_kept true (Tour length_is bound) agrees = absurd (false≢true (sym agrees))
 yes_kept true (Routes length_is routes least bound) agrees = absurd (false≢true (sym agrees))
 yes_kept true (No reason) agrees = absurd (false≢true (sym agrees))
-
-none_unknown : (strict : Bool) (lines : List (List ℕ × List ℕ)) → refuses strict lines ≡ false → strict ≡ true → lines ≡ []
-none_unknown false lines none asked = absurd (false≢true asked)
-none_unknown true [] none asked = refl
-none_unknown true (line ∷ lines) none asked = absurd (false≢true (sym none))
 
 pub means_asked : (opened : Open) (claimed : Option ℤ) (strict : Bool) (solution : Fields) (plain verdict : Verdict)
     → (true ≡ is_yes plain → IsAccepted opened.certificate claimed opened.instance solution (report_of opened.instance plain))

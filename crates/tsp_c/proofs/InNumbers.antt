@@ -1,21 +1,13 @@
 -- The numbers that C gets of a run on texts: each fits, and they say the verdict or the fault on these texts.
-use Rattle.std.proofs.Common.{◌≡◌, ◌≢◌, ℕ, ◌≤◌, ◌^◌, List, Bool, true, false, Result, Ok, Err, inl, inr, sym, subst, ◌∙◌, arith}
-use Rattle.std.specs.Prelude.{Option, Some, ℤ, pos, negsuc, IfOk, unsigned_abs}
-use Rattle.std.proofs.lemmas.Int.{ints}
-use Rattle.tsp_io.specs.Streams.{ReadTrace, Sink}
-use Rattle.tsp_file.specs.Fields.{Fields}
-use Rattle.tsp_report.specs.declared.task.CertificateKind.{CertificateKind}
+use Rattle.tsp_c.proofs.Prelude.{◌≡◌, ◌≢◌, ℕ, ◌≤◌, List, Bool, true, false, Result, Ok, Err, inl, inr, sym, subst, ◌∙◌, arith, Option, Some, ℤ, IfOk, ReadTrace, Sink, Fields, CertificateKind, Verdict, is_yes, is_bound_yes, RunFault, status_of_fault, Given, given_by, EndsWithout, IsRun, acceptance, EndsUnbounded, IsBoundRun}
 use Rattle.tsp_report.specs.declared.verdict.BoundVerdict.{BoundVerdict}
 use Rattle.tsp_report.specs.declared.verdict.BoundVerdict.TheVariants as bounds
-use Rattle.tsp_report.specs.declared.verdict.Verdict.{Verdict}
-use Rattle.tsp_report.specs.Verdicts.{is_yes, is_bound_yes}
 use Rattle.tsp_report.specs.Report.{IsSized}
-use Rattle.tsp_verdict.specs.Certified.{IsBoundVerdict, IsBoundFitting}
+use Rattle.tsp_verdict.specs.Certified.{IsBoundVerdict}
 use Rattle.tsp_verdict.specs.SolutionVerdict.{IsVerdictWith, is_unjudged, strict_bound, strict_verdict}
+use Rattle.tsp_judge.proofs.Yeses.{few}
 use Rattle.tsp_judge.specs.declared.bound_run.Bounded.{Bounded}
 use Rattle.tsp_judge.specs.declared.check.Judged.{Judged}
-use Rattle.tsp_judge.specs.declared.run_status.RunFault.{RunFault}
-use Rattle.tsp_judge.specs.CheckRun.{status_of_fault, Given, given_by, EndsWithout, IsRun, acceptance, EndsUnbounded, IsBoundRun}
 use Rattle.tsp_c.specs.declared.call_result.CallResult.{CallResult}
 use Rattle.tsp_c.specs.NumberCalls.{without_devices, bound_answer, EndsOnTexts}
 use Rattle.tsp_c.specs.Texts.{with_certificate}
@@ -26,13 +18,9 @@ use Rattle.tsp_report.specs.declared.verdict.Verdict.TheVariants as verdicts
 
 -- ---- bounds that fit
 
-small : (z : ℤ) → IsBoundFitting z → unsigned_abs z ≤ 2 ^ 126
-small (pos n) sized = omega (arith, ints, sized.0, sized.1)
-small (negsuc n) sized = omega (arith, ints, sized.0, sized.1)
-
 pub sized_bound : (by : CertificateKind) (instance certificate : Fields) (found : BoundVerdict) → IsBoundVerdict by instance certificate found
     → IsSizedBound found
-sized_bound by instance certificate (bounds.Bound bound) is = small bound is.1.2
+sized_bound by instance certificate (bounds.Bound bound) is = few bound is.1.2
 sized_bound by instance certificate bounds.NoSolution is = tt
 sized_bound by instance certificate (bounds.No reason) is = tt
 

@@ -1,31 +1,21 @@
 -- Runs on readers over texts in memory, as statements on these texts, and the status that C gets.
-use Rattle.std.proofs.Common.{◌≡◌, ℕ, ◌≤◌, List, [], Bool, true, false, Result, Ok, Err, inl, inr, refl, sym, subst, arith}
+use Rattle.tsp_c.proofs.Prelude.{◌≡◌, ℕ, ◌≤◌, List, [], Bool, true, false, Result, Ok, Err, inl, inr, refl, sym, subst, arith, IsErr, Option, None, Some, IfSome, ℤ, ReadTrace, Sink, HasWritten, Fields, is_yes, is_bound_yes, CertificateKind, Verdict, status_of_fault, given_by, IsSomeFile, IsFileIn, AreRead, JudgesFiles, IsFaultOfRun, EndsWithout, BoundsFiles, EndsUnbounded, SaysBound, IsBoundRunOf, IsTextFault, RunFault, File, WrongKind, Write, OutOfMemory, Relayout}
 use Rattle.std.proofs.lemmas.Bool.{false≢true}
 use Rattle.std.specs.Io.KnownBytes.{Appends}
-use Rattle.std.specs.Prelude.{IsErr, Option, None, Some, IfSome, ℤ}
-use Rattle.tsp_io.specs.Streams.{ReadTrace, Sink, HasWritten}
 use Rattle.tsp_io.specs.declared.piece.WriteFault.TheVariants as write_faults
 use Rattle.tsp_format.specs.declared.layout.Layout.{Layout}
-use Rattle.tsp_file.specs.Fields.{Fields}
 use Rattle.tsp_file.specs.declared.relayout.RelayoutFault.{RelayoutFault}
 use Rattle.tsp_file.specs.declared.relayout.RelayoutFault.TheVariants as relayout_faults
 use Rattle.tsp_text.specs.ParsesTo.{fault, ParsesTo}
 use Rattle.tsp_text.specs.declared.fault.ReadFault.{ReadFault}
 use Rattle.tsp_text.specs.declared.fault.ReadFault.TheVariants as read_faults
 use Rattle.tsp_read.specs.Reads.{IsFile, HasFault, StopsAt}
-use Rattle.tsp_report.specs.Verdicts.{is_yes, is_bound_yes}
-use Rattle.tsp_report.specs.declared.task.CertificateKind.{CertificateKind}
 use Rattle.tsp_report.specs.declared.verdict.BoundVerdict.{BoundVerdict}
 use Rattle.tsp_report.specs.declared.verdict.BoundVerdict.TheVariants as bounds
-use Rattle.tsp_report.specs.declared.verdict.Verdict.{Verdict}
 use Rattle.tsp_report.specs.declared.verdict.Verdict.TheVariants.{Tour, Routes, No}
 use Rattle.tsp_judge.specs.Accepted.{IsAccepted, IsAcceptedAlone}
-use Rattle.tsp_judge.specs.CheckRun.{status_of_fault, given_by, IsSomeFile, IsFileIn, AreRead, JudgesFiles, IsFaultOfRun, EndsWithout, BoundsFiles, EndsUnbounded, SaysBound, IsBoundRunOf}
 use Rattle.tsp_judge.specs.ConvertRun.{SaysYes, IsCheckOf, IsShowRun, IsConverted, IsConvertRun}
-use Rattle.tsp_judge.specs.Open.{IsTextFault, ReadsText, IsUnopened}
 use Rattle.tsp_judge.specs.declared.bound_run.Bounded.{Bounded}
-use Rattle.tsp_judge.specs.declared.run_status.RunFault.{RunFault}
-use Rattle.tsp_judge.specs.declared.run_status.RunFault.TheVariants.{File, WrongKind, Write, OutOfMemory, Relayout}
 use Rattle.tsp_c.specs.NumberCalls.{without_devices, IsPrinted, EndsOnTexts, EndsWithText, done, bound_answer}
 use Rattle.tsp_c.specs.Texts.{IsFileText, StopsShowing, ShowsText, BecomesFile, StopsConverting, ConvertsText, with_certificate, ParsesToGiven, AreSpelled, IsAcceptedText, IsRejected, IsUnchecked, IsReached, StopsCheck, ChecksTexts, IsBoundText, IsUnbounded, StopsBound, BoundsTexts}
 
@@ -91,14 +81,6 @@ unprinted_ends (Err fault) written status text is three none = inr (three, none)
 -- ---- runs on readers over texts in memory
 
 -- ---- a text
-
--- the fault of a text is why it is no instance
-pub no_instance : (text : List ℕ) (fault : RunFault) → ReadsText 1 text (Err fault) → IsUnopened text fault
-no_instance text (File file found) stops = stops
-no_instance text WrongKind stops = absurd stops
-no_instance text (Write found) stops = absurd stops
-no_instance text OutOfMemory stops = absurd stops
-no_instance text (Relayout found) stops = absurd stops
 
 pub spelled : (read_trace : ReadTrace) (text : List ℕ) (file : Fields) → read_trace.known ≡ Some text → IsFile read_trace file → ParsesTo text file
 spelled read_trace text file known is = subst (λ (k : Option (List ℕ)). IfSome k (λ xs. ParsesTo xs file)) known is.3

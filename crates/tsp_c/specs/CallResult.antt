@@ -1,6 +1,7 @@
 -- The result of a call of the C library in numbers: the struct of bindings/c/tsp.h, whose numbers are 0 where the call
 -- doesn't have them.
-use Rattle.std.specs.Prelude.{◌≡◌, ℕ, ◌≤◌, ◌<◌, ◌^◌, Bool, List, Option, None, Some, Result, Ok, Err, IsTrue, unwrap_or, ℤ, pos, unsigned_abs}
+use Rattle.tsp_c.specs.Prelude.{ℕ, Bool, List, Option, None, Some, Result, Ok, Err, IsTrue, unwrap_or, ℤ, pos, unsigned_abs, Fields, nodes_of, ParsesTo, CertificateKind, rank_of, row_of_reason, is_yes, is_bound_yes, IsGapSized, RunFault, File, WrongKind, status_of}
+use Rattle.std.specs.Prelude.{◌≡◌, ◌≤◌, ◌<◌, ◌^◌}
 use Rattle.std.specs.Int.{int_div_euclid, int_rem_euclid}
 use Rattle.tsp_format.specs.declared.kinds.Kind.{Kind}
 use Rattle.tsp_format.specs.declared.kinds.Kind.TheVariants as kinds
@@ -8,28 +9,20 @@ use Rattle.tsp_format.specs.declared.keyword.Field.{Field}
 use Rattle.tsp_format.specs.declared.keyword.Field.TheVariants as fields
 use Rattle.tsp_number.specs.declared.word.NumberFault.{NumberFault}
 use Rattle.tsp_number.specs.declared.word.NumberFault.TheVariants as number_faults
-use Rattle.tsp_file.specs.Fields.{Fields, nodes_of}
 use Rattle.tsp_file.specs.declared.rules.EndFault.TheVariants as end_faults
 use Rattle.tsp_text.specs.declared.fault.LineFault.{LineFault}
 use Rattle.tsp_text.specs.declared.fault.LineFault.TheVariants as line_faults
 use Rattle.tsp_text.specs.declared.fault.ReadFault.{ReadFault}
 use Rattle.tsp_text.specs.declared.fault.ReadFault.TheVariants as read_faults
-use Rattle.tsp_text.specs.ParsesTo.{ParsesTo}
-use Rattle.tsp_report.specs.declared.task.CertificateKind.{CertificateKind}
 use Rattle.tsp_report.specs.declared.verdict.BoundVerdict.{BoundVerdict}
 use Rattle.tsp_report.specs.declared.verdict.BoundVerdict.TheVariants as bounds
 use Rattle.tsp_report.specs.declared.verdict.Reason.{Reason}
 use Rattle.tsp_report.specs.declared.verdict.Verdict.{Verdict}
 use Rattle.tsp_report.specs.declared.verdict.Verdict.TheVariants as verdicts
-use Rattle.tsp_report.specs.Verdicts.{rank_of, row_of_reason, is_yes, is_bound_yes}
-use Rattle.tsp_report.specs.Report.{IsGapSized}
 use Rattle.tsp_verdict.specs.Certified.{is_bounded}
 use Rattle.tsp_verdict.specs.SolutionVerdict.{is_judged, IsBoundAsked, IsVerdictAsked}
 use Rattle.tsp_judge.specs.declared.bound_run.Bounded.{Bounded}
 use Rattle.tsp_judge.specs.declared.check.Judged.{Judged}
-use Rattle.tsp_judge.specs.declared.run_status.RunFault.{RunFault}
-use Rattle.tsp_judge.specs.declared.run_status.RunFault.TheVariants.{File, WrongKind}
-use Rattle.tsp_judge.specs.CheckRun.{status_of}
 use Rattle.tsp_c.specs.declared.call_result.CallResult.{CallResult}
 use Rattle.tsp_c.specs.NumberCalls.{nth}
 use Rattle.tsp_c.specs.Texts.{GivenText, AreSpelled, IsUnchecked, IsUnbounded, with_certificate, certificates, claim_of, strict_of}
@@ -200,7 +193,7 @@ field_number fields.NodePotentialPart = 19
 field_number fields.RowPotentialPart = 20
 field_number fields.ColumnPotentialPart = 21
 field_number fields.FixedEdgePotentialPart = 22
-field_number fields.CombPart = 23
+field_number fields.FamilyPart = 23
 field_number fields.BranchPart = 24
 field_number fields.LoadUnitKey = 25
 

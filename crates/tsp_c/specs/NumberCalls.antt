@@ -1,27 +1,19 @@
 -- How a call for C ends, and the results of the calls that fill in numbers: nodes, costs, lengths, coordinates,
 -- distances.
+use Rattle.tsp_c.specs.Prelude.{ℕ, zero, suc, Bool, true, false, List, [], length, drop, Option, None, Some, Result, Ok, Err, min, cond, slice_index_or, IsTrue, ℤ, pos, negsuc, Point, cost, distance, point_of, Fields, nodes_of, ParsesTo, is_bound_yes, run_fault_text, status_of, status_of_fault, IsTextFault, IsUnopened, RunFault, File, Write}
 use Rattle.std.specs.List.{All}
-use Rattle.std.specs.Prelude.{◌≡◌, ◌⊎◌, ℕ, zero, suc, ◌≤◌, ◌<◌, Bool, true, false, List, [], ◌∷◌, ◌++◌, length, drop, Option, None, Some, Result, Ok, Err, ◌+◌, ◌-◌, ◌*◌, ◌/◌, ◌%◌, ◌==◌, min, cond, slice_index_or, IsTrue, ℤ, pos, negsuc}
+use Rattle.std.specs.Prelude.{◌≡◌, ◌⊎◌, ◌≤◌, ◌<◌, ◌∷◌, ◌++◌, ◌+◌, ◌-◌, ◌*◌, ◌/◌, ◌%◌, ◌==◌}
 use Rattle.tsp_number.specs.Distances.{IsInSpace}
-use Rattle.tsp_number.specs.declared.decimal.Point.{Point}
 use Rattle.tsp_io.specs.Streams.{Sink, HasWritten}
 use Rattle.tsp_io.specs.declared.piece.WriteFault.TheVariants as write_faults
 use Rattle.tsp_format.specs.Limits.{most_tour_nodes}
 use Rattle.tsp_format.specs.Nodes.{IsNode}
 use Rattle.tsp_format.specs.declared.kinds.WeightKind.{WeightKind}
 use Rattle.tsp_format.specs.declared.kinds.WeightKind.TheVariants.{Euc2d, Ceil2d, Man2d, Max2d, Att, Euc3d, Man3d, Max3d}
-use Rattle.tsp_file.specs.Cost.{cost, distance, point_of}
-use Rattle.tsp_file.specs.Fields.{Fields, nodes_of}
 use Rattle.tsp_file.specs.Rules.{is_instance}
-use Rattle.tsp_text.specs.ParsesTo.{ParsesTo}
 use Rattle.tsp_text.specs.declared.fault.ReadFault.TheVariants as read_faults
 use Rattle.tsp_theory.specs.Tour.{length_of}
-use Rattle.tsp_report.specs.Verdicts.{is_bound_yes}
-use Rattle.tsp_judge.specs.CheckRun.{run_fault_text, status_of, status_of_fault}
-use Rattle.tsp_judge.specs.Open.{IsTextFault, IsUnopened}
 use Rattle.tsp_judge.specs.declared.bound_run.Bounded.{Bounded}
-use Rattle.tsp_judge.specs.declared.run_status.RunFault.{RunFault}
-use Rattle.tsp_judge.specs.declared.run_status.RunFault.TheVariants.{File, Write}
 
 -- ---- the caller's buffer
 

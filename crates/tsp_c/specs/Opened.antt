@@ -1,22 +1,15 @@
 -- The results of the calls on a handle: an instance that is open, a certificate that may be bound to it, and who owns
 -- the box.
+use Rattle.tsp_c.specs.Prelude.{ℕ, Bool, List, Option, None, Some, Ok, ℤ, Fields, blank_fields, ParsesTo, is_yes, is_bound_yes, CertificateKind, status_of, status_of_fault, Open, IsOpened, IsUnopened, IsBoundTo, IsUnbound, IsHeldVerdict, IsNotJudged, RunFault, OutOfMemory}
 use Rattle.std.specs.Coded.{coded_option}
-use Rattle.std.specs.Prelude.{◌≡◌, ◌⊎◌, ℕ, ◌≤◌, ◌<◌, Bool, List, Option, None, Some, Ok, ℤ}
+use Rattle.std.specs.Prelude.{◌≡◌, ◌⊎◌, ◌≤◌, ◌<◌}
 use base.Fml.{Fml, ftrue}
 use base.Stored.{Coded}
 use denote.RawPtr.{Ptr}
-use Rattle.tsp_file.specs.Fields.{Fields, blank_fields}
-use Rattle.tsp_text.specs.ParsesTo.{ParsesTo}
-use Rattle.tsp_report.specs.Verdicts.{is_yes, is_bound_yes}
-use Rattle.tsp_report.specs.declared.task.CertificateKind.{CertificateKind}
 use Rattle.tsp_report.specs.declared.verdict.BoundVerdict.{BoundVerdict}
 use Rattle.tsp_report.specs.declared.verdict.Verdict.{Verdict}
 use Rattle.tsp_verdict.specs.SolutionVerdict.{is_unjudged, strict_verdict}
-use Rattle.tsp_judge.specs.CheckRun.{status_of, status_of_fault}
-use Rattle.tsp_judge.specs.Open.{Open, IsOpened, IsUnopened, IsBoundTo, IsUnbound, IsHeldVerdict, IsNotJudged}
 use Rattle.tsp_judge.specs.contracts.opened.Opened.{the_row}
-use Rattle.tsp_judge.specs.declared.run_status.RunFault.{RunFault}
-use Rattle.tsp_judge.specs.declared.run_status.RunFault.TheVariants.{OutOfMemory}
 use Rattle.std_alloc.specs.Box.Ownership.{box_owns}
 use Rattle.std_heap.specs.contracts.GlobalAllocator.TheImpl.{ghosts}
 use Rattle.std_heap.specs.declared.Global.{Global}

@@ -1,16 +1,14 @@
 -- Circle 2 of docs/trust.md.
 -- The results of the calls on texts, over the bytes of these texts alone: `show`, conversions, checks, bounds and
 -- explanations. `IsAcceptedText` and `IsBoundText` are the meanings of the status 0.
-use Rattle.std.specs.Prelude.{◌≡◌, ◌⊎◌, ℕ, ◌==◌, ◌||◌, if◌then◌else◌, ◌≤◌, ◌<◌, Bool, true, false, List, [], ◌∷◌, Option, None, Some, Ok, Err, IsTrue, ℤ}
+use Rattle.tsp_c.specs.Prelude.{ℕ, Bool, true, false, List, [], Option, None, Some, Ok, Err, IsTrue, ℤ, Fields, fault, ParsesTo, CertificateKind, report_of, bound_report_of, RunFault, File, WrongKind, Write, OutOfMemory, Relayout, IsTextFault}
+use Rattle.std.specs.Prelude.{◌≡◌, ◌⊎◌, ◌==◌, ◌||◌, if◌then◌else◌, ◌≤◌, ◌<◌, ◌∷◌}
 use Rattle.tsp_format.specs.declared.layout.Layout.{Layout}
 use Rattle.tsp_format.specs.Words.{layouts}
-use Rattle.tsp_file.specs.Fields.{Fields}
 use Rattle.tsp_file.specs.Rules.{fault_of}
 use Rattle.tsp_file.specs.CanonicalText.{text_of}
 use Rattle.tsp_io.specs.declared.piece.WriteFault.TheVariants as write_faults
 use Rattle.tsp_text.specs.declared.fault.ReadFault.TheVariants as read_faults
-use Rattle.tsp_text.specs.ParsesTo.{fault, ParsesTo}
-use Rattle.tsp_report.specs.declared.task.CertificateKind.{CertificateKind}
 use Rattle.tsp_report.specs.declared.task.CertificateKind.TheVariants.{Potentials, Branches}
 use Rattle.tsp_report.specs.declared.verdict.BoundVerdict.{BoundVerdict}
 use Rattle.tsp_report.specs.declared.verdict.BoundVerdict.TheVariants as bounds
@@ -19,13 +17,9 @@ use Rattle.tsp_report.specs.declared.verdict.Verdict.{Verdict}
 use Rattle.tsp_report.specs.declared.verdict.Verdict.TheVariants.{No}
 use Rattle.tsp_verdict.specs.Certified.{NoneAgainstInstance, is_bounded, NoneWithoutMemory}
 use Rattle.tsp_verdict.specs.SolutionVerdict.{is_judged, NoneBeforeRepeatsOn, IsBoundAsked, IsVerdictAsked}
-use Rattle.tsp_report.specs.Report.{report_of, bound_report_of}
 use Rattle.tsp_report.specs.Show.{shown}
 use Rattle.tsp_judge.specs.Accepted.{IsAccepted, IsAcceptedAlone}
 use Rattle.tsp_judge.specs.ConvertRun.{Becomes}
-use Rattle.tsp_judge.specs.declared.run_status.RunFault.{RunFault}
-use Rattle.tsp_judge.specs.declared.run_status.RunFault.TheVariants.{File, WrongKind, Write, OutOfMemory, Relayout}
-use Rattle.tsp_judge.specs.Open.{IsTextFault}
 use Rattle.tsp_c.specs.NumberCalls.{EndsWithText, nth}
 
 -- ---- a number that is refused

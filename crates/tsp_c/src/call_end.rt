@@ -1,10 +1,9 @@
-//! The status of a call that fills in numbers, or of a call on a handle.
+//! How a call that fills in numbers ends, or one on a handle: by a status.
 
-ghost use Rattle.std.specs.Prelude.{◌≡◌, Ok};
-ghost use Rattle.tsp_judge.specs.CheckRun.{status_of, status_of_fault};
-ghost use Rattle.tsp_judge.specs.declared.run_status.RunFault.TheVariants.{OutOfMemory};
+ghost use Rattle.tsp_c.specs.Prelude.{Ok, status_of, status_of_fault, OutOfMemory};
+ghost use Rattle.std.specs.Prelude.{◌≡◌};
 
-use crate::in_box::NoBox;
+use crate::handle::NoBox;
 use std::marker::Model;
 use tsp_judge::{RunError, Status, status_of};
 

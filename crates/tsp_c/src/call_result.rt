@@ -388,7 +388,7 @@ fn field_number(field: Field) -> u32
         Field::RowPotentialPart => 20,
         Field::ColumnPotentialPart => 21,
         Field::FixedEdgePotentialPart => 22,
-        Field::CombPart => 23,
+        Field::FamilyPart => 23,
         Field::BranchPart => 24,
         Field::LoadUnitKey => 25,
     }

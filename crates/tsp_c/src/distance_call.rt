@@ -1,9 +1,8 @@
 //! The distance of two points by the number of a weight type.
 
-ghost use Rattle.std.specs.Prelude.{◌≡◌, Some, option_map, SomeIff};
-ghost use Rattle.tsp_number.specs.declared.decimal.Point.{Point};
+ghost use Rattle.tsp_c.specs.Prelude.{Some, option_map, SomeIff, Point, distance};
+ghost use Rattle.std.specs.Prelude.{◌≡◌};
 ghost use Rattle.tsp_number.specs.Distances.{IsInSpace};
-ghost use Rattle.tsp_file.specs.Cost.{distance};
 ghost use Rattle.tsp_c.specs.NumberCalls.{nth, GivesDistance, distance_kinds};
 
 use tsp_number::{Decimal, Point, att, ceil_2d, euc_2d, euc_3d, man_2d, man_3d, max_2d, max_3d};

@@ -1,4 +1,4 @@
-//! The status and the text with which a call on texts ends.
+//! How a call on texts ends: by a status and a text.
 
 ghost use Rattle.std.specs.Prelude.{◌≡◌, ◌≢◌, IsErr, MatchResult, [], IfOk};
 ghost use Rattle.tsp_io.specs.states.Watched.{watched};

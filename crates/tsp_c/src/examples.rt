@@ -1,8 +1,8 @@
 //! Laws that state values of the definitions in `specs/`, worked out by hand: which numbers the
 //! calls for C take, which buffers are too small, and which file of a call a fault is of.
 
-ghost use Rattle.std.specs.Prelude.{ℕ, ℤ, pos, List, [], ◌∷◌, Err, ◌≡◌, ◌++◌, ◌+◌, ◌-◌, ◌^◌, true, false, negsuc, None, Some, codes, map};
-ghost use Rattle.tsp_number.specs.declared.decimal.Point.{Point};
+ghost use Rattle.tsp_c.specs.Prelude.{ℕ, ℤ, pos, List, [], Err, true, false, negsuc, None, Some, codes, map, Point, cost, Fields, nodes_of, CertificateKind, IsNotJudged, IsUnbound, IsUnopened, Open, status_of_fault, RunFault};
+ghost use Rattle.std.specs.Prelude.{◌∷◌, ◌≡◌, ◌++◌, ◌+◌, ◌-◌, ◌^◌};
 ghost use Rattle.tsp_number.specs.declared.word.NumberFault.TheVariants as number_faults;
 ghost use Rattle.tsp_format.specs.Words.{layouts};
 ghost use Rattle.tsp_format.specs.declared.keyword.Field.TheVariants as fields;
@@ -10,21 +10,15 @@ ghost use Rattle.tsp_format.specs.declared.kinds.Kind.TheVariants as kinds;
 ghost use Rattle.tsp_format.specs.declared.kinds.WeightKind.TheVariants as weight_kinds;
 ghost use Rattle.tsp_format.specs.declared.layout.Layout.TheVariants as layout;
 ghost use Rattle.tsp_io.specs.declared.piece.WriteFault.TheVariants as write_faults;
-ghost use Rattle.tsp_file.specs.Cost.{cost};
-ghost use Rattle.tsp_file.specs.Fields.{Fields, nodes_of};
 ghost use Rattle.tsp_file.specs.declared.rules.EndFault.TheVariants as end_faults;
 ghost use Rattle.tsp_text.specs.declared.fault.LineFault.TheVariants as line_faults;
 ghost use Rattle.tsp_text.specs.declared.fault.ReadFault.{ReadFault};
 ghost use Rattle.tsp_text.specs.declared.fault.ReadFault.TheVariants as read_faults;
 ghost use Rattle.tsp_read.specs.Reads.{Reads};
-ghost use Rattle.tsp_report.specs.declared.task.CertificateKind.{CertificateKind};
 ghost use Rattle.tsp_report.specs.declared.task.CertificateKind.TheVariants as certificate;
 ghost use Rattle.tsp_report.specs.declared.verdict.BoundVerdict.TheVariants as bounds;
 ghost use Rattle.tsp_report.specs.declared.verdict.Reason.TheVariants as reasons;
 ghost use Rattle.tsp_report.specs.declared.verdict.Verdict.TheVariants as verdicts;
-ghost use Rattle.tsp_judge.specs.Open.{IsNotJudged, IsUnbound, IsUnopened, Open};
-ghost use Rattle.tsp_judge.specs.CheckRun.{status_of_fault};
-ghost use Rattle.tsp_judge.specs.declared.run_status.RunFault.{RunFault};
 ghost use Rattle.tsp_judge.specs.declared.run_status.RunFault.TheVariants as run_faults;
 ghost use Rattle.tsp_c.specs.CallResult.{blank_result, high_half, low_half, result_of_bound, result_of_fault, result_of_verdict, field_number, first_number, kind_number, line_fault_number, number_fault_number, read_fault_number, second_number, field_of_fault, number_of_fault, result_of_instance};
 ghost use Rattle.tsp_c.specs.NumberCalls.{IsPlaced, fault_line, nth, without_devices, EndsBuffer, distance_kinds, lists_in, pair_cost, row_cost, row_count, EndsPoints, coordinate, section_points};
@@ -234,7 +228,7 @@ pub fn examples_of_field_numbers()
         ≡ 1 ∷ 2 ∷ 3 ∷ 4 ∷ 5 ∷ 6 ∷ 7 ∷ 8 ∷ 9 ∷ 10 ∷ 11 ∷ [] }
     ensures sections { map field_number (fields.NodeCoordPart ∷ fields.DisplayDataPart ∷ fields.DemandPart ∷ fields.DepotPart
         ∷ fields.FixedEdgesPart ∷ fields.EdgeWeightPart ∷ fields.TourPart ∷ fields.NodePotentialPart ∷ fields.RowPotentialPart
-        ∷ fields.ColumnPotentialPart ∷ fields.FixedEdgePotentialPart ∷ fields.CombPart ∷ fields.BranchPart ∷ [])
+        ∷ fields.ColumnPotentialPart ∷ fields.FixedEdgePotentialPart ∷ fields.FamilyPart ∷ fields.BranchPart ∷ [])
         ≡ 12 ∷ 13 ∷ 14 ∷ 15 ∷ 16 ∷ 17 ∷ 18 ∷ 19 ∷ 20 ∷ 21 ∷ 22 ∷ 23 ∷ 24 ∷ [] }
     ensures later { field_number fields.LoadUnitKey ≡ 25 }
     ensures missing { field_of_fault (read_faults.End (end_faults.Missing fields.TypeKey)) ≡ 2 }

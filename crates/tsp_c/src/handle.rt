@@ -1,12 +1,11 @@
 //! The handle that a caller in C holds: closed, or open on an instance.
 
-ghost use Rattle.std.specs.Option.{option_map};
-ghost use Rattle.std.specs.Prelude.{◌≡◌, None, Some, is_some, Option};
-ghost use Rattle.tsp_judge.specs.Open.{Open};
+ghost use Rattle.tsp_c.specs.Prelude.{option_map, None, Some, is_some, Option, IfOk, Open};
+ghost use Rattle.std.specs.Prelude.{◌≡◌};
 ghost use Rattle.std_alloc.specs.Box.Ownership.{box_owns};
 ghost use Rattle.tsp_c.specs.Opened.{held_coded, open_of};
 
-use std::alloc::{Allocator, Global};
+use std::alloc::{AllocError, Allocator, Global};
 use std::boxed::Box;
 use std::marker::Model;
 use std::mem::replace;
@@ -151,5 +150,29 @@ impl<T, A: Allocator> BoxParts<T, A> {
     {
         let BoxParts { ptr, alloc } = self;
         unsafe { Box::from_raw(alloc, ptr) }
+    }
+}
+
+// ---- puts a value into a box, or returns `NoBox`, which no other call makes
+
+/// Memory was refused for a box. Only [`in_box`] makes one, where std refused it.
+#[derive(Drop)]
+pub(crate) struct NoBox {
+    error: AllocError,
+}
+
+/// Puts a value into a box. The value isn't looked at.
+///
+/// # Errors
+///
+/// Out of memory; the value is dropped.
+pub(crate) fn in_box<T: Drop>(alloc: Global, value: T) -> Result<Box<T, Global>, NoBox>
+    ensures { IfOk result (λ boxed. boxed.value ≡ value) }
+{
+    match Box::new(alloc, value) {
+        Ok(boxed) => Ok(boxed),
+        Err(failed) => Err(NoBox {
+            error: AllocError::from(failed),
+        }),
     }
 }

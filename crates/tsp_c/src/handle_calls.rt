@@ -1,16 +1,10 @@
 //! The calls on a handle: open, bind, check, costs, lengths, points, close.
 
+ghost use Rattle.tsp_c.specs.Prelude.{None, Some, MatchResult, length, option_map, slice_index_or, IsTrue, slice_index, origin, nodes_of, report_of, IsSized, is_yes, Open, IsOpened, IsUnopened, status_of_fault, OutOfMemory};
 ghost use Rattle.std.specs.List.{All, count_by, position};
-ghost use Rattle.std.specs.Prelude.{◌≡◌, None, Some, MatchResult, ◌≤◌, ◌<◌, ◌*◌, length, option_map, slice_index_or, ◌-◌, ◌==◌, ◌↔◌, IsTrue, slice_index};
+ghost use Rattle.std.specs.Prelude.{◌≡◌, ◌≤◌, ◌<◌, ◌*◌, ◌-◌, ◌==◌, ◌↔◌};
 ghost use Rattle.tsp_io.specs.states.Watched.{sink_of};
-ghost use Rattle.tsp_file.specs.Cost.{origin};
-ghost use Rattle.tsp_file.specs.Fields.{nodes_of};
 ghost use Rattle.tsp_file.specs.states.Drafts.{points_of};
-ghost use Rattle.tsp_report.specs.Report.{report_of, IsSized};
-ghost use Rattle.tsp_report.specs.Verdicts.{is_yes};
-ghost use Rattle.tsp_judge.specs.Open.{Open, IsOpened, IsUnopened};
-ghost use Rattle.tsp_judge.specs.CheckRun.{status_of_fault};
-ghost use Rattle.tsp_judge.specs.declared.run_status.RunFault.TheVariants.{OutOfMemory};
 ghost use Rattle.tsp_c.specs.CallResult.{result_of_fault};
 ghost use Rattle.tsp_c.specs.NumberCalls.{Reports, nth, EndsCount, EndsLengths, EndsMatrix, EndsWeights, EndsPoints, FillsPoints, IsFilled, IsSection, coordinate, point_number, section_points, AreLists, FillsLengths, list_count, list_length};
 ghost use Rattle.tsp_c.specs.Opened.{BindsOpen, BindsText, ChecksAsTexts, ChecksHeld, EndsSection, OfHeld, OpensText, TellsJudged};
@@ -19,10 +13,8 @@ ghost use Rattle.tsp_c.specs.Texts.{certificates};
 use crate::call_end::CallEnd;
 use crate::call_result::CallResult;
 use crate::ended::{Answer, ended};
-use crate::fill::put;
-use crate::handle::Handle;
-use crate::in_box::{NoBox, in_box};
-use crate::pair_costs::{rows_of, weights_of};
+use crate::handle::{Handle, NoBox, in_box};
+use crate::pair_costs::{put, rows_of, weights_of};
 use crate::picked_runs::{certificate_of, claim_of, strict_of};
 use crate::text_instance::instance_of;
 use std::alloc::Global;
@@ -31,10 +23,10 @@ use std::io::Write;
 use tsp_cost::{Costs, Instance, tour_length};
 use tsp_file::{Coords, File};
 use tsp_judge::{
-    CertificateKind, Opened, RunError, Verdict, Watched, read_text, verdicts_mean_reports,
+    CertificateKind, Opened, RunError, Verdict, Watched, read_text, report_verdict,
+    verdicts_mean_reports,
 };
 use tsp_number::{InSpace, Point};
-use tsp_report::write_report;
 use tsp_verdict::strict_verdict;
 
 /// Opens a handle on the instance that a text is; the status. What it was open on before is freed
@@ -211,10 +203,8 @@ fn reported<W: Write>(
     requires { IsSized verdict }
     ensures { Reports (sink_of W.contents out.old out.new) (report_of instance.now verdict) (is_yes verdict) result }
 {
-    match write_report(instance.file(), verdict, out) {
-        Ok(()) => Ok(verdict.is_yes()),
-        Err(fault) => Err(RunError::unwritten(fault)),
-    }
+    report_verdict(instance, verdict, out)?;
+    Ok(verdict.is_yes())
 }
 
 /// Fills in the costs of pairs of nodes of the instance of a handle; the status.

@@ -1,4 +1,5 @@
 //! The calls of Yokecairn for C, and for what speaks to C: over numbers and slices of bytes alone.
+//! `bindings/c/tsp.h` declares them.
 //!
 //! A call on texts has no state. A handle holds an instance that is open, which calls on it don't
 //! read again. No call keeps a pointer, or calls back. A call that writes a text returns the status
@@ -21,10 +22,8 @@ mod distance_call;
 mod ended;
 mod examples;
 mod explain;
-mod fill;
 mod handle;
 mod handle_calls;
-mod in_box;
 mod pair_costs;
 mod picked_runs;
 mod text_instance;

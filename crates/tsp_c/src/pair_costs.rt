@@ -1,13 +1,12 @@
 //! Costs of pairs of nodes, and rows of the matrix.
 
-ghost use Rattle.std.specs.Prelude.{◌+◌, ◌≤◌, ◌*◌, ◌↔◌, IsTrue, length};
 ghost use Rattle.std.specs.List.{All};
+ghost use Rattle.std.specs.Prelude.{◌+◌, ◌≤◌, ◌*◌, ◌↔◌, IsTrue, length, ◌≡◌, ◌<◌, ℕ, ℤ, List};
 ghost use Rattle.tsp_format.specs.Nodes.{IsNode};
-ghost use Rattle.tsp_c.specs.NumberCalls.{ArePairs, EndsWeights, EndsMatrix, FillsWeights, FillsMatrix, IsFilled, pair_count, pair_cost, row_cost};
 ghost use Rattle.tsp_file.specs.Fields.{nodes_of};
+ghost use Rattle.tsp_c.specs.NumberCalls.{ArePairs, EndsWeights, EndsMatrix, FillsWeights, FillsMatrix, IsFilled, pair_count, pair_cost, row_cost};
 
 use crate::call_end::CallEnd;
-use crate::fill::put;
 use crate::text_instance::instance_of;
 use std::alloc::Global;
 use tsp_cost::{Costs, Instance};
@@ -108,4 +107,16 @@ fn put_rows(instance: &Instance, first_row: u32, rows: usize, out: &mut [i64])
         let to = k % count + 1;
         put(out, k, instance.cost(from as u32, to as u32));
     }
+}
+
+// ---- puts a number into a caller's buffer
+
+/// Puts a number to a place of a buffer, of which the places before it are filled.
+#[inline(always)]
+pub(crate) fn put(out: &mut [i64], place: usize, number: i64)
+    requires { place < length out.old }
+    ensures { (numbers : ℕ → ℤ) (start : List ℤ) → number ≡ numbers place → IsFilled place numbers start out.old
+        → IsFilled (place + 1) numbers start out.new }
+{
+    out[place] = number;
 }

@@ -1,4 +1,5 @@
-//! The runs that a number picks by its certificate or layout, and the numbers that are refused.
+//! Show, convert, check and bound on texts in memory, with the certificate or the layout that a number
+//! picks, and the numbers that are refused.
 
 ghost use Rattle.std.specs.Prelude.{◌≡◌, ◌≤◌};
 ghost use Rattle.tsp_format.specs.Words.{layouts};

@@ -1,16 +1,5 @@
 -- A cycle is in one of both cases of a branch, and uses no link that the decisions of its case forbid.
-use Rattle.std.proofs.Common.{◌≡◌, ℕ, ◌==◌, ◌&&◌, Bool, true, false, List, [], ◌∷◌, length, ℤ, ◌≤ℤ◌, ◌⊎◌, inl, inr, refl, sym, ap, ◌∙◌, subst, arith, ◌≢◌, zero, suc, ◌≤◌, ◌||◌, ◌+ℤ◌, get_or}
-use Rattle.std.proofs.lemmas.Bool.{cases_Bool, both_ways, and_parts, and_from, eqb-true, eq-eqb, cases_eq, ne_eqb}
-use Rattle.std.proofs.lemmas.Int.{ints}
-use Rattle.std.proofs.lemmas.List.Elements.{recursion_from_All, All-cons, All-from_recursion, All-weaker, All-contains, Contains-get_or}
-use Rattle.std.proofs.lemmas.List.Folds.{Any-from_list_any, list_any_at}
-use Rattle.std.specs.List.{All, AllByRecursion, Contains, list_any, AllPairs}
-use Rattle.std.specs.Prelude.{pos}
-use Rattle.tsp_format.specs.Nodes.{IsNode}
-use Rattle.tsp_theory.proofs.Cycles.{Laws, has_node}
-use Rattle.tsp_theory.proofs.Neighbours.{neighbours_or_not, sum_zero, one_if, none_or_one, sum_below, count}
-use Rattle.tsp_theory.proofs.Sums.{sum_int_by-le}
-use Rattle.tsp_theory.specs.Tour.{IsCycle, links, Follows, Uses, length_of, links_to}
+use Rattle.tsp_cases.proofs.Prelude.{◌≡◌, ℕ, ◌==◌, ◌&&◌, Bool, true, false, List, [], ◌∷◌, length, ℤ, ◌≤ℤ◌, ◌⊎◌, inl, inr, refl, sym, ap, ◌∙◌, subst, arith, ◌≢◌, zero, suc, ◌≤◌, ◌+ℤ◌, get_or, cases_Bool, both_ways, and_parts, and_from, eqb-true, eq-eqb, cases_eq, ne_eqb, ints, recursion_from_All, All-cons, All-from_recursion, All-weaker, All-contains, Contains-get_or, Any-from_list_any, list_any_at, All, AllByRecursion, Contains, list_any, pos, IsNode, Laws, has_node, neighbours_or_not, sum_zero, one_if, none_or_one, sum_below, count_any, once, sum_int_by-le, IsCycle, links, Follows, Uses, length_of, links_to}
 use Rattle.tsp_cases.specs.CaseTrees.{AllowsLink, Allows, LinksAreAllowed, NoLinkNoCycle, SumsAreBelowCycles}
 use Rattle.tsp_cases.specs.Cases.{KeepsDecision, CaseStep, Branch, Leaf, are_case_trees, decide, leaves_of, cases_of, KeepsOne, CyclesKeepLeaves, BoundsCase, HasNoCycle, BoundsButOpen, CasesBoundCycles, CasesHaveNoCycle, StacksHoldCases, KeepsPair}
 use Rattle.tsp_cases.specs.declared.open_case.Decision.{Decision}
@@ -132,31 +121,6 @@ stacks_hold_cases given (d ∷ stack) = elim (cases_Bool d.taken) [
 
 -- ---- counts
 
-count_positive : {X : Type 0} (test : X → Bool) (xs : List X) → pos 0 ≤ℤ count test xs
-count_positive test [] = omega (arith, ints)
-count_positive test (x ∷ xs) = omega (arith, ints, (none_or_one (test x)).0, count_positive test xs)
-
-count_any : {X : Type 0} (test : X → Bool) (xs : List X) → list_any test xs ≡ true → pos 1 ≤ℤ count test xs
-count_any test [] h = absurd (both_ways false refl h)
-count_any test (x ∷ xs) h = elim (cases_Bool (test x)) [
-  | inl t ↦ omega (arith, ints, ap one_if t, count_positive test xs)
-  | inr f ↦ omega (arith, ints, ap one_if f, count_any test xs (sym (ap (λ b. b || list_any test xs) f) ∙ h))
-]
-
--- a node is at most once in a list of different nodes
-once : (a : ℕ) (xs : List ℕ) → AllPairs (λ x y. x ≢ y) xs → count (λ x. a == x) xs ≤ℤ pos 1
-once a [] h = omega (arith, ints)
-once a (x ∷ xs) h = elim (cases_eq a x) [
-  | inl same ↦
-      let none : count (λ y. x == y) xs ≡ pos 0 = never xs (recursion_from_All (λ y. x ≢ y) xs (λ k d lt. h zero (suc k) d (omega arith) (omega arith))) in
-      omega (arith, ints, (none_or_one (a == x)).1, subst (λ (z : ℕ). count (λ y. z == y) xs ≡ pos 0) (sym same) none)
-  | inr other ↦ omega (arith, ints, ap one_if (ne_eqb a x other), once a xs (λ i j d below lt. h (suc i) (suc j) d (omega arith) (omega arith)))
-]
-  where
-    never : (ys : List ℕ) → AllByRecursion (λ y. x ≢ y) ys → count (λ y. x == y) ys ≡ pos 0
-    never [] k = refl
-    never (y ∷ ys) k = omega (arith, ints, ap one_if (ne_eqb x y k.0), never ys k.1)
-
 -- ---- one link out, and one in
 
 apart : (x y z : Bool) → (y ≡ true → z ≡ true → ⊥) → (one_if (x && y) +ℤ one_if (x && z)) ≤ℤ one_if x
@@ -260,7 +224,7 @@ pub has_link : (nodes : List ℕ) (x : ℕ) → Contains nodes x → (j : ℕ) �
 has_link [] x c = absurd (omega (arith, c.1))
 has_link (first ∷ nodes) x c = leaves_each (λ y. ℕ) first first nodes x c
 
--- ---- the least allowed links from all nodes weigh no more than a cycle that keeps the
+-- ---- the least allowed links from all nodes weigh no more than a cycle of the case
 
 pub no_link_no_cycle : Laws → LinksAreAllowed → NoLinkNoCycle
 no_link_no_cycle laws allowed n decisions more none = λ nodes cycle keeps.

@@ -1,22 +1,10 @@
 -- The bound of a leaf, by a 1-tree or by rows, and the least bound of all leaves bounds every cycle that keeps the
 -- given decisions.
-use Rattle.std.proofs.Common.{ℕ, Bool, true, false, List, [], ◌∷◌, map, ℤ, sym, subst, ◌≡◌, zero, suc, ◌≤ℤ◌, refl, arith, ap, ap₂, subst₂, get_or, Option, None, Some, inl, inr}
-use Rattle.std.proofs.Math.IntN.{suc_ℤ-*ℤ, zero-*ℤ}
+use Rattle.tsp_cases.proofs.Prelude.{ℕ, Bool, true, false, List, [], ◌∷◌, map, ℤ, sym, subst, ◌≡◌, ◌≤ℤ◌, refl, arith, ap, ap₂, subst₂, get_or, Option, None, Some, inl, inr, ints, recursion_from_All, All-from_recursion, All-contains, All, AllByRecursion, if◌then◌else◌, pos, negsuc, ◌*ℤ◌, ◌-ℤ◌, ◌+ℤ◌, IsNode, nodes_to, Laws, weight_even, least_tree_below, entries_of_links, scaled_length, one_if, adjusted_even, sum_zero, difference, adjusted_cycle, sum_int_by-le, scaled_up, pair_of, UsesEach, UsesNone, AdjustedBoundsBoundCycles, weight_between, adjusted, entry, IsScale, AreNeighbours, Uses, IsCycle, links, sum_int_by, length_of, crossing, weight_of}
 use Rattle.std.proofs.Math.Path.{fun_ext}
-use Rattle.std.proofs.lemmas.Int.{ints}
-use Rattle.std.proofs.lemmas.List.Elements.{recursion_from_All, All-from_recursion, All-contains}
-use Rattle.std.proofs.lemmas.List.FromFn.{length-range_with_len, get_or-range_with_len}
-use Rattle.std.specs.List.{All, AllByRecursion}
-use Rattle.std.specs.Prelude.{if◌then◌else◌, pos, negsuc, ◌*ℤ◌, ◌-ℤ◌, ◌+ℤ◌}
-use Rattle.tsp_format.specs.Nodes.{IsNode, nodes_to}
+use Rattle.tsp_format.proofs.Pairs.{all_nodes}
 use Rattle.tsp_format.specs.Words.{IsSymmetric}
-use Rattle.tsp_theory.proofs.Cycles.{Laws, weight_even, least_tree_below, entries_of_links, scaled_length}
 use Rattle.tsp_theory.proofs.Exchange.{crosses_turned}
-use Rattle.tsp_theory.proofs.Neighbours.{one_if, adjusted_even, sum_zero, difference, adjusted_cycle}
-use Rattle.tsp_theory.proofs.Sums.{sum_int_by-le}
-use Rattle.tsp_theory.specs.Bounds.{pair_of, UsesEach, UsesNone, AdjustedBoundsBoundCycles, weight_between, adjusted, entry, IsScale}
-use Rattle.tsp_theory.specs.Tour.{AreNeighbours, Uses, IsCycle, links, sum_int_by, length_of}
-use Rattle.tsp_theory.specs.Tree.{crossing, weight_of}
 use Rattle.tsp_cases.specs.CaseTrees.{crossings_of, least_of, combed, leaf_weight, LeafBoundsBoundCycles, UncombedBoundsAreAdjustedBounds, IsLeastFrom, HasNoLink, IsSumOfLeast, IsRowBound, SumsAreBelowCycles, RowLeafBoundsBoundCycles, AreMultiplied, IsLeafBound, NoLinkNoCycle, multiplied, AreLeafNumbers, IsFoundAt, IsAbove, IsCaseTreeBound, AreCostsFor, CaseTreesBoundCycles, CaseTreesBoundTours, NoBoundNoTour, CaseTreeBoundsAreUnique}
 use Rattle.tsp_cases.specs.Cases.{KeepsPair, KeepsDecision, KeepsAll, take_pairs, on_taken, on_avoided, DecidedBoundsBoundCycles, FixedBoundsBoundTours, LeafNumbers, CaseStep, leaves_of, cases_of, BoundsCase, HasNoCycle, CasesBoundCycles, CasesHaveNoCycle}
 use Rattle.tsp_cases.specs.Families.{Comb, family_crossings, Family, IsFamily, CyclesCrossFamilies}
@@ -79,7 +67,7 @@ tours_keep_fixed directed nodes fixed used = All-from_recursion (KeepsDecision d
     each [] used = tt
     each (pair ∷ pairs) used = (used.0, each pairs used.1)
 
--- ---- the bound of a leaf by a least 1-tree, with weights lowered at crossings of families, is
+-- ---- the bound of a leaf by a least 1-tree, with weights lowered at crossings of families
 
 -- ---- crossings are symmetric
 
@@ -90,31 +78,27 @@ teeth_even i j (t ∷ ts) = ap₂ (λ a b. a +ℤ b) (ap one_if (crosses_turned 
 comb_even : (comb : Comb) (i j : ℕ) → family_crossings comb i j ≡ family_crossings comb j i
 comb_even comb i j = ap₂ (λ a b. a +ℤ b) (ap one_if (crosses_turned comb.handle i j)) (teeth_even i j comb.teeth)
 
-combs_even : (combs : List (Family × ℤ)) (i j : ℕ) → crossings_of combs i j ≡ crossings_of combs j i
+combs_even : (weighted : List (Family × ℤ)) (i j : ℕ) → crossings_of weighted i j ≡ crossings_of weighted j i
 combs_even [] i j = refl
 combs_even (c ∷ cs) i j = ap₂ (λ a b. a +ℤ b) (ap (λ z. c.1 *ℤ z) (comb_even c.0.sets i j)) (combs_even cs i j)
 
-pub leaf_even : (scale : ℤ) (potentials : List ℤ) (taken avoided : List (ℕ × ℕ × ℤ)) (combs : List (Family × ℤ)) (cost : ℕ → ℕ → ℤ) → IsSymmetric cost
-    → (i j : ℕ) → leaf_weight scale potentials taken avoided combs cost i j ≡ leaf_weight scale potentials taken avoided combs cost j i
-leaf_even scale potentials taken avoided combs cost even i j =
-    ap₂ (λ a b. a -ℤ b) (adjusted_even taken avoided (weight_between scale potentials cost) (weight_even scale potentials cost even) i j) (combs_even combs i j)
+pub leaf_even : (scale : ℤ) (potentials : List ℤ) (taken avoided : List (ℕ × ℕ × ℤ)) (weighted : List (Family × ℤ)) (cost : ℕ → ℕ → ℤ) → IsSymmetric cost
+    → (i j : ℕ) → leaf_weight scale potentials taken avoided weighted cost i j ≡ leaf_weight scale potentials taken avoided weighted cost j i
+leaf_even scale potentials taken avoided weighted cost even i j =
+    ap₂ (λ a b. a -ℤ b) (adjusted_even taken avoided (weight_between scale potentials cost) (weight_even scale potentials cost even) i j) (combs_even weighted i j)
 
 -- ---- a cycle crosses each family as often as its number says, so it loses at least the sum given back
-
-pub product_below : (m : ℕ) (a b : ℤ) → a ≤ℤ b → (pos m *ℤ a) ≤ℤ (pos m *ℤ b)
-product_below zero a b h = let first = zero-*ℤ a in let second = zero-*ℤ b in omega (arith, ints, first, second)
-product_below (suc m) a b h = omega (arith, ints, h, product_below m a b h, suc_ℤ-*ℤ (pos m) a, suc_ℤ-*ℤ (pos m) b)
 
 comb_of_cycle : (n : ℕ) (nodes : List ℕ) (family : Family) (multiplier : ℤ) → Laws → CyclesCrossFamilies → IsCycle n nodes → IsFamily n family → pos 0 ≤ℤ multiplier
     → (multiplier *ℤ pos family.numbers.least) ≤ℤ length_of (λ i j. multiplier *ℤ family_crossings family.sets i j) nodes
 comb_of_cycle n nodes family (pos m) laws crossed cycle is some =
     let scaled = laws.scale m (family_crossings family.sets) nodes in
-    let below = product_below m (pos family.numbers.least) (length_of (family_crossings family.sets) nodes) (crossed n family nodes is cycle) in
+    let below = scaled_up m (pos family.numbers.least) (length_of (family_crossings family.sets) nodes) (crossed n family nodes is cycle) in
     omega (arith, ints, scaled, below)
 comb_of_cycle n nodes family (negsuc m) laws crossed cycle is some = absurd (omega (arith, ints, some))
 
-pub combs_of_cycle : (n : ℕ) (nodes : List ℕ) (combs : List (Family × ℤ)) → Laws → CyclesCrossFamilies → IsCycle n nodes → AllByRecursion (λ c. IsFamily n c.0 × (pos 0 ≤ℤ c.1)) combs
-    → least_of combs ≤ℤ length_of (crossings_of combs) nodes
+pub combs_of_cycle : (n : ℕ) (nodes : List ℕ) (weighted : List (Family × ℤ)) → Laws → CyclesCrossFamilies → IsCycle n nodes → AllByRecursion (λ c. IsFamily n c.0 × (pos 0 ≤ℤ c.1)) weighted
+    → least_of weighted ≤ℤ length_of (crossings_of weighted) nodes
 combs_of_cycle n nodes [] laws crossed cycle are = omega (arith, ints, sum_zero (links nodes))
 combs_of_cycle n nodes (c ∷ cs) laws crossed cycle are =
     let first = comb_of_cycle n nodes c.0 c.1 laws crossed cycle are.0.0 are.0.1 in
@@ -122,12 +106,12 @@ combs_of_cycle n nodes (c ∷ cs) laws crossed cycle are =
     omega (arith, ints, first, split, combs_of_cycle n nodes cs laws crossed cycle are.1)
 
 pub leaf_bounds_bound_cycles : Laws → CyclesCrossFamilies → LeafBoundsBoundCycles
-leaf_bounds_bound_cycles laws crossed n cost scale potentials taken avoided combs bound nodes some even scale_in long are is cycle used unused =
+leaf_bounds_bound_cycles laws crossed n cost scale potentials taken avoided weighted bound nodes some even scale_in long are is cycle used unused =
     let w = adjusted taken avoided (weight_between scale potentials cost) in
-    let below = least_tree_below laws n (combed combs w) is.tree nodes some (leaf_even scale potentials taken avoided combs cost even) is.least cycle in
-    let split = difference (λ (link : ℕ × ℕ). w link.0 link.1) (λ (link : ℕ × ℕ). crossings_of combs link.0 link.1) (links nodes) in
+    let below = least_tree_below laws n (combed weighted w) is.tree nodes some (leaf_even scale potentials taken avoided weighted cost even) is.least cycle in
+    let split = difference (λ (link : ℕ × ℕ). w link.0 link.1) (λ (link : ℕ × ℕ). crossings_of weighted link.0 link.1) (links nodes) in
     let own = adjusted_cycle n cost scale potentials taken avoided nodes laws some scale_in long cycle used unused in
-    let less = combs_of_cycle n nodes combs laws crossed cycle (recursion_from_All (λ c. IsFamily n c.0 × (pos 0 ≤ℤ c.1)) combs are) in
+    let less = combs_of_cycle n nodes weighted laws crossed cycle (recursion_from_All (λ c. IsFamily n c.0 × (pos 0 ≤ℤ c.1)) weighted are) in
     is.bound_is.least (length_of cost nodes) (omega (arith, ints, below, split, own, less))
 
 -- ---- without families the bound is that of tsp_theory
@@ -152,7 +136,7 @@ uncombed_bounds_are_adjusted_bounds n cost scale potentials taken avoided bound 
       };
     }
 
--- ---- the bound of a leaf by the least allowed link from each node is at most the length of
+-- ---- the bound of a leaf by the least allowed link from each node
 
 pub row_leaf_bounds_bound_cycles : Laws → CyclesCrossFamilies → SumsAreBelowCycles → RowLeafBoundsBoundCycles
 row_leaf_bounds_bound_cycles laws crossed sums n cost scale potentials families decisions bound more scale_in long are is = λ nodes cycle keeps.
@@ -167,15 +151,8 @@ row_leaf_bounds_bound_cycles laws crossed sums n cost scale potentials families 
 
 -- ---- a leaf has one bound, or none
 
-nodes_in : (n : ℕ) → All (IsNode n) (nodes_to n)
-unfolding nodes_to
-nodes_in n = λ k d lt.
-    let long = length-range_with_len 1 n in
-    let read = get_or-range_with_len 1 n k d (omega (arith, lt, long)) in
-    (omega (arith, read), omega (arith, read, lt, long))
-
 sums_below : (n : ℕ) (f g : ℕ → ℤ) → ((i : ℕ) → IsNode n i → f i ≤ℤ g i) → sum_int_by f (nodes_to n) ≤ℤ sum_int_by g (nodes_to n)
-sums_below n f g h = sum_int_by-le f g (nodes_to n) (recursion_from_All (λ i. f i ≤ℤ g i) (nodes_to n) (λ k d lt. h (get_or (nodes_to n) k d) (nodes_in n k d lt)))
+sums_below n f g h = sum_int_by-le f g (nodes_to n) (recursion_from_All (λ i. f i ≤ℤ g i) (nodes_to n) (λ k d lt. h (get_or (nodes_to n) k d) (all_nodes n k d lt)))
 
 least_at_most : (n : ℕ) (w : ℕ → ℕ → ℤ) (decisions : List Decision) (i : ℕ) (a b : ℤ) → IsLeastFrom n w decisions i a → IsLeastFrom n w decisions i b → a ≤ℤ b
 least_at_most n w decisions i a b p q = let below = p.below q.to q.allowed in omega (arith, ints, below, q.reached)

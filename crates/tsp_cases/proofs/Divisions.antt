@@ -1,21 +1,9 @@
 -- Sets divide the nodes into parts: members as bits of a number, parts by any numbers of the nodes, and cycles through
 -- parts that are widened.
-use Rattle.std.proofs.Common.{◌≡◌, ◌≢◌, ℕ, ◌+◌, ◌-◌, ◌*◌, ◌/◌, ◌%◌, ◌^◌, ◌<◌, ◌≤◌, ◌⊎◌, Bool, true, false, zero, not, cond, List, [], ◌∷◌, ◌++◌, length, get_or, drop, ℤ, ◌+ℤ◌, ◌≤ℤ◌, inl, inr, refl, arith, ap, ap₂, sym, ◌∙◌, subst, pow-suc, bit_xor, length-append, suc, ◌==◌, map}
+use Rattle.tsp_cases.proofs.Prelude.{◌≡◌, ◌≢◌, ℕ, ◌+◌, ◌-◌, ◌*◌, ◌/◌, ◌%◌, ◌^◌, ◌<◌, ◌≤◌, ◌⊎◌, Bool, true, false, zero, not, cond, List, [], ◌∷◌, ◌++◌, length, get_or, drop, ℤ, ◌+ℤ◌, ◌≤ℤ◌, inl, inr, refl, arith, ap, ap₂, sym, ◌∙◌, subst, pow-suc, bit_xor, length-append, suc, ◌==◌, map, cases_lt, cases_eq, eq-eqb, ne_eqb, ints, drop_more, get_or_append_left, get_or_default, get_or_past, get_or-map, length-map, get_or_push, recursion_from_All, All-from_recursion, All-weaker, div-add-mod', xor_block, ones_cat, Vec, count_ones, All, Any, AllByRecursion, AllZip, pos, slice_index, if◌then◌else◌, IsNode, one_if, length_of, IsCycle}
 use Rattle.std.proofs.Math.Nat.{div-lt_iff_lt-mul, mod-lt}
-use Rattle.std.proofs.lemmas.Bool.{cases_lt, cases_eq, eq-eqb, ne_eqb}
-use Rattle.std.proofs.lemmas.Int.{ints}
-use Rattle.std.proofs.lemmas.List.{drop_more, get_or_append_left, get_or_default, get_or_past, get_or-map, length-map, get_or_push}
-use Rattle.std.proofs.lemmas.List.Elements.{recursion_from_All, All-from_recursion, All-weaker}
 use Rattle.std.proofs.lemmas.List.Quantifiers.{all_pairs_push}
-use Rattle.std.proofs.lemmas.Nat.{div-add-mod', xor_block, ones_cat}
-use Rattle.std.specs.Global.{Vec}
-use Rattle.std.specs.Int.RustNames.{count_ones}
-use Rattle.std.specs.List.{All, Any, AllByRecursion, AllZip}
-use Rattle.std.specs.Prelude.{pos, slice_index, if◌then◌else◌}
 use lib.Count.{ones, ones_in}
-use Rattle.tsp_format.specs.Nodes.{IsNode}
-use Rattle.tsp_theory.proofs.Neighbours.{one_if}
-use Rattle.tsp_theory.specs.Tour.{length_of, IsCycle}
 use Rattle.tsp_cases.proofs.PartWalks.{length_to, alike_crossings, part_found, unlike_nodes_need_parts, Within, within_or_apart, apart_from_pairs, cycle_from, same_part, cycle_has, parts_bound_cycles, shorter_cycle, IsInPart, same_length, in_range, triangles}
 use Rattle.tsp_cases.specs.Crossings.{IsLeastLength, IsMostCost, has, sets_of, sets_crossed, AreAlike, HasUnlike, AreTooMany, ArePartsOf, between, membership, AreMemberships, IsNodePlace, AreDifferent, AreFirsts, MembershipsTellSets, IsLargest, lists_of, cost_by_rows, as_whole, PartsTellCycles, AllApart, IsDivision, DivisionsBoundCycles}
 

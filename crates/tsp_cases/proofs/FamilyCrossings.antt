@@ -1,21 +1,6 @@
 -- How often a cycle crosses a family, and how large crossings times multipliers are.
-use Rattle.std.proofs.Common.{◌≡◌, ℕ, zero, suc, ◌*◌, ◌≤◌, ◌&&◌, Bool, true, false, not, cond, List, [], ◌∷◌, length, ℤ, ◌+ℤ◌, ◌≤ℤ◌, inl, inr, refl, arith, ap, ◌+◌, ap₂, sym, ◌∙◌, subst, get_or, map, FitsSigned, ◌<◌, ◌^◌, drop, to_z, of_z, drop-cons, add-one}
-use Rattle.std.proofs.Math.IntN.{suc_ℤ-*ℤ, pred_ℤ-*ℤ, zero-*ℤ, *ℤ-zero}
-use Rattle.std.proofs.lemmas.Bool.{cases_Bool, both_ways, and_right, and_from, and_parts, false_from_ne_true}
-use Rattle.std.proofs.lemmas.Int.{ints, fits_signed_from_abs, to_z-of_z}
-use Rattle.std.proofs.lemmas.List.Elements.{recursion_from_All}
-use Rattle.std.specs.Int.{w64, w128}
-use Rattle.std.specs.List.{AllPairs, AllByRecursion, All}
-use Rattle.std.specs.Prelude.{pos, negsuc, ◌*ℤ◌, neg_ℤ, ◌-ℤ◌}
-use Rattle.tsp_format.specs.Nodes.{IsNode}
-use Rattle.tsp_format.specs.Steps.{IsFromTo}
-use Rattle.tsp_theory.proofs.Cycles.{Laws, has_node}
-use Rattle.tsp_theory.proofs.Neighbours.{sum_zero, one_if, none_or_one, evenly, twice, sum_below}
-use Rattle.tsp_theory.proofs.Sums.{size_of}
-use Rattle.tsp_theory.specs.Bounds.{total, most_between}
-use Rattle.tsp_theory.specs.Tour.{IsCycle, links, sum_int_by, length_of}
-use Rattle.tsp_theory.specs.Tree.{crosses, crossing}
-use Rattle.tsp_cases.proofs.CaseTrees.{product_below}
+use Rattle.tsp_cases.proofs.Prelude.{◌≡◌, ℕ, zero, suc, ◌*◌, ◌≤◌, ◌&&◌, Bool, true, false, not, cond, List, [], ◌∷◌, length, ℤ, ◌+ℤ◌, ◌≤ℤ◌, inl, inr, refl, arith, ap, ◌+◌, ap₂, sym, ◌∙◌, subst, get_or, map, FitsSigned, ◌<◌, ◌^◌, drop, to_z, of_z, drop-cons, add-one, cases_Bool, both_ways, and_right, and_from, and_parts, false_from_ne_true, ints, fits_signed_from_abs, to_z-of_z, recursion_from_All, w64, w128, AllPairs, AllByRecursion, All, pos, negsuc, ◌*ℤ◌, neg_ℤ, ◌-ℤ◌, IsNode, IsFromTo, Laws, has_node, sum_zero, one_if, none_or_one, evenly, twice, sum_below, size_of, scaled_up, scaled_sum, total, most_between, IsCycle, links, sum_int_by, length_of, crosses, crossing}
+use Rattle.std.proofs.Math.IntN.{pred_ℤ-*ℤ, *ℤ-zero}
 use Rattle.tsp_cases.specs.CaseTrees.{crossings_of, multiplied}
 use Rattle.tsp_cases.specs.Crossings.{LeastLengthsAreUnique, MostCostsAreUnique, has}
 use Rattle.tsp_cases.specs.Families.{IsTooth, AreApart, CyclesCrossCombs, Comb, family_crossings, IsLoneOrComb, IsFamily, least_crossings_of, CyclesCrossFamilies, NumbersAreUnique, comb_with, Family, family_with, families_with, sum_with, most_or_least}
@@ -205,20 +190,12 @@ comb_crossed (handle ∷ teeth) i j = ap (λ z. crossing (has handle) i j +ℤ z
 
 -- ---- products of sums
 
-pos_over_sum : (m : ℕ) (a b : ℤ) → pos m *ℤ (a +ℤ b) ≡ (pos m *ℤ a) +ℤ (pos m *ℤ b)
-pos_over_sum zero a b = let one = zero-*ℤ a in let two = zero-*ℤ b in let sum = zero-*ℤ (a +ℤ b) in omega (arith, ints, one, two, sum)
-pos_over_sum (suc m) a b =
-    let one = suc_ℤ-*ℤ (pos m) a in
-    let two = suc_ℤ-*ℤ (pos m) b in
-    let sum = suc_ℤ-*ℤ (pos m) (a +ℤ b) in
-    omega (arith, ints, one, two, sum, pos_over_sum m a b)
-
-neg_over_sum : (m : ℕ) (a b : ℤ) → negsuc m *ℤ (a +ℤ b) ≡ (negsuc m *ℤ a) +ℤ (negsuc m *ℤ b)
+pub neg_over_sum : (m : ℕ) (a b : ℤ) → negsuc m *ℤ (a +ℤ b) ≡ (negsuc m *ℤ a) +ℤ (negsuc m *ℤ b)
 neg_over_sum zero a b =
     let one = pred_ℤ-*ℤ (pos 0) a in
     let two = pred_ℤ-*ℤ (pos 0) b in
     let sum = pred_ℤ-*ℤ (pos 0) (a +ℤ b) in
-    omega (arith, ints, one, two, sum, pos_over_sum 0 a b)
+    omega (arith, ints, one, two, sum, scaled_sum 0 a b)
 neg_over_sum (suc m) a b =
     let one = pred_ℤ-*ℤ (negsuc m) a in
     let two = pred_ℤ-*ℤ (negsuc m) b in
@@ -226,7 +203,7 @@ neg_over_sum (suc m) a b =
     omega (arith, ints, one, two, sum, neg_over_sum m a b)
 
 pub over_sum : (m a b : ℤ) → m *ℤ (a +ℤ b) ≡ (m *ℤ a) +ℤ (m *ℤ b)
-over_sum (pos m) a b = pos_over_sum m a b
+over_sum (pos m) a b = scaled_sum m a b
 over_sum (negsuc m) a b = neg_over_sum m a b
 
 -- the same for the sum over sets
@@ -278,7 +255,7 @@ in_one x (t ∷ ts) apart = elim (cases_Bool (t x)) [
     in_none [] h k = refl
     in_none (o ∷ os) h k = omega (arith, ints, ap one_if (k.0 x h), in_none os h k.1)
 
-size_of_link : (a b : Bool) → one_if (cond a (not b) b) ≤ℤ (one_if a +ℤ one_if b)
+pub size_of_link : (a b : Bool) → one_if (cond a (not b) b) ≤ℤ (one_if a +ℤ one_if b)
 size_of_link true true = omega (arith, ints)
 size_of_link true false = omega (arith, ints)
 size_of_link false true = omega (arith, ints)
@@ -324,8 +301,8 @@ pub times_at_most : (multiplier crossed : ℤ) (most : ℕ) → pos 0 ≤ℤ mul
 times_at_most (negsuc m) crossed most some low high = absurd (omega (arith, ints, some))
 times_at_most (pos m) crossed most some low high =
     let none = *ℤ-zero (pos m) in
-    let least = product_below m (pos 0) crossed low in
-    (omega (arith, ints, none, least), product_below m crossed (pos most) high)
+    let least = scaled_up m (pos 0) crossed low in
+    (omega (arith, ints, none, least), scaled_up m crossed (pos most) high)
 
 pub families_crossed_few : (n : ℕ) (crossed : List Crossings) (families : List (List (List ℕ))) (multipliers : List ℤ) (i j : ℕ) → IsNode n i → IsNode n j → length crossed ≡ length families
     → AllByRecursion (IsFamily n) (families_with crossed families) → AllByRecursion (λ multiplier. pos 0 ≤ℤ multiplier) multipliers
@@ -353,7 +330,7 @@ multipliers_below (own ∷ crossed) (m ∷ ms) long some signs =
   where
     once_at_most : (multiplier : ℤ) (most : ℕ) → pos 0 ≤ℤ multiplier → 1 ≤ most → multiplier ≤ℤ (multiplier *ℤ pos most)
     once_at_most (negsuc m) most low le = absurd (omega (arith, ints, low))
-    once_at_most (pos m) most low le = let more = product_below m (pos 1) (pos most) (omega (arith, ints, le)) in omega (arith, ints, more)
+    once_at_most (pos m) most low le = let more = scaled_up m (pos 1) (pos most) (omega (arith, ints, le)) in omega (arith, ints, more)
 
 -- ---- the sum of the least crossings of all families, each times its multiplier, in the order
 

@@ -1,19 +1,8 @@
 -- Which families are good, found by marks of nodes: teeth, handles, and the first bad family.
-use Rattle.std.proofs.Common.{◌≡◌, ◌≢◌, ◌∙◌, ℕ, ◌+◌, ◌<◌, ◌==◌, ◌||◌, true, false, List, [], ◌∷◌, ◌++◌, take, length, get_or, inl, inr, ap, sym, subst, arith, zero, suc, ◌*◌, ◌≤◌, Bool, map, drop, refl, drop-cons, add-one, ◌-◌, length-append}
+use Rattle.tsp_cases.proofs.Prelude.{◌≡◌, ◌≢◌, ◌∙◌, ℕ, ◌+◌, ◌<◌, ◌==◌, ◌||◌, true, false, List, [], ◌∷◌, ◌++◌, take, length, get_or, inl, inr, ap, sym, subst, arith, zero, suc, ◌*◌, ◌≤◌, Bool, map, drop, refl, drop-cons, add-one, ◌-◌, length-append, set, cases_eq, both_ways, eqb-true, eq-eqb, ne_eqb, or_cases, or_parts, cases_Bool, or_from, cases_lt, ints, get_or-set_same, get_or-set_other, get_or-take, length-take-le, take_more, get_or_default, length-map, get_or-map, get_or_append_left, get_or_push, All-more, All-nil, All-cons, All-head, All-tail, All-from_recursion, recursion_from_All, All-weaker, All-contains, Any-from_list_any, list_any_at, list_any_more, AllPairs-cons, Vec, All, Any, AllPairs, AllByRecursion, ◌↔◌, pos, Some, IsNode}
 use Rattle.std.proofs.Math.Bool.{or-true, or-false, or_assoc}
-use Rattle.std.proofs.Math.ListN.{set}
 use Rattle.std.proofs.Math.Path.{fun_ext}
-use Rattle.std.proofs.lemmas.Bool.{cases_eq, both_ways, eqb-true, eq-eqb, ne_eqb, or_cases, or_parts, cases_Bool, or_from, cases_lt}
-use Rattle.std.proofs.lemmas.Int.{ints}
-use Rattle.std.proofs.lemmas.List.{get_or-set_same, get_or-set_other, get_or-take, length-take-le, take_more, get_or_default, length-map, get_or-map, get_or_append_left, get_or_push}
-use Rattle.std.proofs.lemmas.List.Elements.{All-more, All-nil, All-cons, All-head, All-tail, All-from_recursion, recursion_from_All, All-weaker, All-contains}
-use Rattle.std.proofs.lemmas.List.Folds.{Any-from_list_any, list_any_at, list_any_more}
-use Rattle.std.proofs.lemmas.List.Kept.{AllPairs-cons}
 use Rattle.std.proofs.lemmas.List.Quantifiers.{all_pairs_push}
-use Rattle.std.specs.Global.{Vec}
-use Rattle.std.specs.List.{All, Any, AllPairs, AllByRecursion}
-use Rattle.std.specs.Prelude.{◌↔◌, pos, Some}
-use Rattle.tsp_format.specs.Nodes.{IsNode}
 use Rattle.tsp_cases.specs.Crossings.{has, lists_of, IsLeastLength, IsMostCost, sets_of, sets_crossed, AreTooMany, MostCostsAreUnique, families_in}
 use Rattle.tsp_cases.specs.Families.{HasEachOnce, IsTooth, AreApart, IsComb, comb_of, IsLoneSet, IsLoneOrComb, IsGoodComb, IsToothCount, least_crossings_of, comb_with, IsGoodFamily, IsFamily, family_with, families_with, IsFirstBadFamily, AreFamilies}
 use Rattle.tsp_cases.specs.declared.family.Crossings.{Crossings}

@@ -1,21 +1,10 @@
 -- The least length of a cycle through few parts, from best paths by dynamic programming.
-use Rattle.std.proofs.Common.{◌≡◌, ℕ, ◌+◌, ◌*◌, ◌<◌, List, [], ◌∷◌, ◌++◌, length, inl, inr, arith, sym, ◌∙◌, subst, length-append, ◌≢◌, zero, suc, ◌-◌, ◌/◌, ◌%◌, ◌^◌, ◌≤◌, ◌⊎◌, refl, ap, pow-suc, mul_comm, eqb, false, ◌≤ℤ◌}
+use Rattle.tsp_cases.proofs.Prelude.{◌≡◌, ℕ, ◌+◌, ◌*◌, ◌<◌, List, [], ◌∷◌, ◌++◌, length, inl, inr, arith, sym, ◌∙◌, subst, length-append, ◌≢◌, zero, suc, ◌-◌, ◌/◌, ◌%◌, ◌^◌, ◌≤◌, ◌⊎◌, refl, ap, pow-suc, mul_comm, eqb, false, ◌≤ℤ◌, cases_lt, cases_eq, cases_order, eqb-false, ints, get_or_append_left, get_or_push, get_or_past, same_from_place, mul-add-lt, pow_pos, pow_below, bit_at, AllByRecursion, All, IsDistinct, range_with_len, slice_index, pos, IsNode, AreInner, turned_nodes, turned_length, IsCycle, length_of, IsInner}
 use Rattle.std.proofs.Math.Nat.{div-eq_of_lt}
-use Rattle.std.proofs.lemmas.Bool.{cases_lt, cases_eq, cases_order, eqb-false}
-use Rattle.std.proofs.lemmas.Int.{ints}
-use Rattle.std.proofs.lemmas.List.{get_or_append_left, get_or_push, get_or_past}
 use Rattle.std.proofs.lemmas.List.FromFn.{length-range_with_len}
 use Rattle.std.proofs.lemmas.Map.Keys.{IsDistinct-head, IsDistinct-tail}
-use Rattle.std.proofs.lemmas.Nat.{same_from_place, mul-add-lt, pow_pos, pow_below}
 use Rattle.std.proofs.lemmas.Nat.Bits.{bit_at_lowest, bit_at-suc, bit_at-zero, bit_at_ones, same_from_bits}
-use Rattle.std.specs.Int.{bit_at}
-use Rattle.std.specs.List.{AllByRecursion, All, IsDistinct, range_with_len}
-use Rattle.std.specs.Prelude.{slice_index, pos}
-use Rattle.tsp_format.specs.Nodes.{IsNode}
-use Rattle.tsp_theory.proofs.Cycles.{AreInner, turned_nodes}
-use Rattle.tsp_theory.specs.Tour.{IsCycle, length_of}
-use Rattle.tsp_theory.specs.Tree.{IsInner}
-use Rattle.tsp_cases.proofs.PartWalks.{Within, at_within, within_or_apart, weaker, no_more, run_has, run_range, run_once, cycle_from, length_to, turned_length, cycle_has}
+use Rattle.tsp_cases.proofs.PartWalks.{Within, at_within, within_or_apart, weaker, no_more, run_has, run_range, run_once, cycle_from, length_to, cycle_has}
 use Rattle.tsp_cases.specs.Crossings.{cost_by_rows, path_length, number_of, AllApart, IsOrderOf, no_path, IsBestPath, AreBestPaths, IsLeastSum, IsLeastLength, IsLargest, as_whole}
 
 -- a statement on each cell, with its row, column and value, as far as the list goes

@@ -1,17 +1,8 @@
 -- The stack of decisions of the open case, one step further, and that each pair is decided once.
-use Rattle.std.proofs.Common.{◌≡◌, ◌+◌, false, List, [], ◌∷◌, ◌++◌, refl, ap, ◌∙◌, ℕ, zero, suc, ◌==◌, ◌&&◌, Bool, true, ◌⊎◌, inl, inr, sym, arith, ◌≢◌, ◌-◌, ◌<◌, ◌≤◌, get_or, length, take, drop, subst, ap₂}
+use Rattle.tsp_cases.proofs.Prelude.{◌≡◌, ◌+◌, false, List, [], ◌∷◌, ◌++◌, refl, ap, ◌∙◌, ℕ, zero, suc, ◌==◌, ◌&&◌, Bool, true, ◌⊎◌, inl, inr, sym, arith, ◌≢◌, ◌-◌, ◌<◌, ◌≤◌, get_or, length, take, drop, subst, ap₂, cases_Bool, both_ways, or_cases, and_parts, eqb-true, eq-eqb, cases_eq, ne_eqb, ints, reverse-append, length-reverse, take_all, take_more, recursion_from_All, All-from_recursion, Vec, AllByRecursion, All, filter, list_any, pos, neg_ℤ, ◌+ℤ◌, reverse, IsFromTo, is_same_pair}
 use Rattle.std.proofs.Math.Bool.{or-true}
-use Rattle.std.proofs.lemmas.Bool.{cases_Bool, both_ways, or_cases, and_parts, eqb-true, eq-eqb, cases_eq, ne_eqb}
-use Rattle.std.proofs.lemmas.Int.{ints}
-use Rattle.std.proofs.lemmas.List.{reverse-append, length-reverse, take_all, take_more}
-use Rattle.std.proofs.lemmas.List.Elements.{recursion_from_All, All-from_recursion}
 use Rattle.std.proofs.lemmas.List.Sorted.{IsPermutation-reverse, list_any-IsPermutation}
 use Rattle.std.proofs.lemmas.Map.Views.{any-filter_same}
-use Rattle.std.specs.Global.{Vec}
-use Rattle.std.specs.List.{AllByRecursion, All, filter, list_any}
-use Rattle.std.specs.Prelude.{pos, neg_ℤ, ◌+ℤ◌, reverse}
-use Rattle.tsp_format.specs.Steps.{IsFromTo}
-use Rattle.tsp_theory.specs.Bounds.{is_same_pair}
 use Rattle.tsp_cases.specs.Cases.{next_stack, DecideOnce, decided_number, is_same}
 use Rattle.tsp_cases.specs.ListedCases.{is_decided}
 use Rattle.tsp_cases.specs.declared.open_case.Decision.{Decision}
@@ -25,7 +16,7 @@ stack_more xs d = reverse-append xs (d ∷ [])
 pub next_avoided : (d : Decision) (xs : List Decision) → d.taken ≡ false → next_stack (stack_of (xs ++ d ∷ [])) ≡ next_stack (stack_of xs)
 next_avoided d xs h = ap next_stack (stack_more xs d) ∙ rw h refl
 
--- ---- where no two decisions are on the same pair, the decisions of a case change a weight by
+-- ---- where no two decisions are on one pair, a weight changes by one decision at most
 
 -- two pairs on the same two nodes are the same pair, in either order
 abbrev pub Same : ℕ × ℕ → ℕ → ℕ → Type 0

@@ -1,17 +1,6 @@
 -- A cycle through nodes is a closed walk through the parts of sets, which crosses the sets as often.
-use Rattle.std.proofs.Common.{◌≡◌, ◌≢◌, ℕ, zero, suc, ◌+◌, ◌<◌, ◌≤◌, ◌==◌, ◌⊎◌, cond, List, [], ◌∷◌, length, inl, inr, refl, arith, ap, sym, ◌∙◌, subst, Bool, true, false, ◌++◌, ℤ, ◌+ℤ◌, ◌≤ℤ◌, ◌-◌, not, get_or, ap₂}
-use Rattle.std.proofs.lemmas.Bool.{cases_eq, eq-eqb, ne_eqb, cases_Bool, both_ways, or_parts, or_from, eqb-false, cases_order}
-use Rattle.std.proofs.lemmas.Int.{ints}
-use Rattle.std.proofs.lemmas.List.{append-nil, get_or_default}
-use Rattle.std.proofs.lemmas.List.Elements.{recursion_from_All, All-from_recursion}
+use Rattle.tsp_cases.proofs.Prelude.{◌≡◌, ◌≢◌, ℕ, zero, suc, ◌+◌, ◌<◌, ◌≤◌, ◌==◌, ◌⊎◌, cond, List, [], ◌∷◌, length, inl, inr, refl, arith, ap, sym, ◌∙◌, subst, Bool, true, false, ◌++◌, ℤ, ◌+ℤ◌, ◌≤ℤ◌, ◌-◌, not, get_or, ap₂, cases_eq, eq-eqb, ne_eqb, cases_Bool, both_ways, or_parts, or_from, eqb-false, cases_order, ints, get_or_default, recursion_from_All, All-from_recursion, AllPairs-cons, AllPairs, AllByRecursion, range_with_len, AllZip, if◌then◌else◌, pos, slice_index, IsNode, one_if, IsCycle, links_to, sum_int_by, length_of, and_node}
 use Rattle.std.proofs.lemmas.List.FromFn.{length-range_with_len}
-use Rattle.std.proofs.lemmas.List.Kept.{AllPairs-cons}
-use Rattle.std.specs.List.{AllPairs, AllByRecursion, range_with_len, AllZip}
-use Rattle.std.specs.Prelude.{if◌then◌else◌, pos, slice_index}
-use Rattle.tsp_format.specs.Nodes.{IsNode}
-use Rattle.tsp_theory.proofs.Neighbours.{one_if}
-use Rattle.tsp_theory.specs.Tour.{IsCycle, links_to, sum_int_by, length_of}
-use Rattle.tsp_theory.specs.Tree.{and_node}
 use Rattle.tsp_cases.specs.Crossings.{AllApart, sets_crossed, AreAlike, AreUnlike, ArePartsOf, between, PartsBoundCycles, LeastLengthsAreUnique, MostCostsAreUnique, UnlikeNodesNeedParts}
 
 -- ---- membership, by recursion
@@ -141,15 +130,6 @@ length_through : (cost : ℕ → ℕ → ℤ) (end from middle : ℕ) (before af
     → length_to cost end from (before ++ middle ∷ after) ≡ length_to cost middle from before +ℤ length_to cost end middle after
 length_through cost end from middle [] after = omega (arith, ints)
 length_through cost end from middle (next ∷ before) after = let rest = length_through cost end next middle before after in omega (arith, ints)
-
--- a cycle from another of its nodes on
-pub turned_length : (cost : ℕ → ℕ → ℤ) (node : ℕ) (before after : List ℕ)
-    → length_of cost (before ++ node ∷ after) ≡ length_of cost (node ∷ (after ++ before))
-turned_length cost node [] after = ap (λ xs. length_of cost (node ∷ xs)) (sym (append-nil after))
-turned_length cost node (first ∷ before) after =
-    let one = length_through cost first first node before after in
-    let two = length_through cost node node first after before in
-    omega (arith, ints)
 
 -- ---- a walk without its repetitions
 

@@ -1,16 +1,6 @@
 -- One pass over the steps of a tree of cases, and what it finds at a branch, at a leaf and at the end.
-use Rattle.std.proofs.Common.{◌≡◌, ◌∙◌, ℕ, ◌+◌, ◌<◌, List, ◌∷◌, ◌++◌, length, take, drop, get_or, sym, ap, subst, arith, drop-cons, add-one, zero, suc, ◌-◌, Bool, true, false, [], ℤ, inl, inr, ◌≤ℤ◌, refl, ◌^◌, ◌≤◌, length-append}
-use Rattle.std.proofs.lemmas.Bool.{both_ways}
-use Rattle.std.proofs.lemmas.Int.{ints}
-use Rattle.std.proofs.lemmas.List.{get_or-map, length-map, take-append-le, take_all, length-reverse, drop_all}
-use Rattle.std.proofs.lemmas.List.Elements.{recursion_from_All, All-from_recursion}
-use Rattle.std.specs.List.{All, Any, AllByRecursion}
-use Rattle.std.specs.Prelude.{◌⊎◌, Option, Some, None, IfSome}
-use Rattle.tsp_format.specs.Steps.{are_whole}
+use Rattle.tsp_cases.proofs.Prelude.{◌≡◌, ◌∙◌, ℕ, ◌+◌, ◌<◌, List, ◌∷◌, ◌++◌, length, take, drop, get_or, sym, ap, subst, arith, drop-cons, add-one, zero, suc, ◌-◌, Bool, true, false, [], ℤ, inl, inr, ◌≤ℤ◌, refl, ◌^◌, ◌≤◌, length-append, both_ways, ints, get_or-map, length-map, take-append-le, take_all, length-reverse, drop_all, recursion_from_All, All-from_recursion, All, Any, AllByRecursion, ◌⊎◌, Option, Some, None, IfSome, are_whole, TreeStep, step_of, steps_of, IsBoundSized}
 use Rattle.tsp_format.specs.Steps as listed
-use Rattle.tsp_format.specs.declared.steps.TreeStep.{TreeStep}
-use Rattle.tsp_format.specs.states.TreeSteps.{step_of, steps_of}
-use Rattle.tsp_theory.specs.Bounds.{IsBoundSized}
 use Rattle.tsp_cases.proofs.CaseLaws.{stacks_hold_cases}
 use Rattle.tsp_cases.proofs.OpenCases.{stack_more}
 use Rattle.tsp_cases.specs.CaseTrees.{IsAbove, IsLeastFound}
@@ -48,46 +38,46 @@ own_step n steps index step other each lt is same =
 
 -- all leaves are good, if the leaf before them had these numbers
 abbrev pub AreGoodFrom : (LeafNumbers → Type 0) → ℕ → ℕ → List ℤ → List listed.Step → Type 0
-AreGoodFrom Good n combs numbers [] = Unit {0}
-AreGoodFrom Good n combs numbers (listed.Branch a b ∷ steps) = AreGoodFrom Good n combs numbers steps
-AreGoodFrom Good n combs numbers (listed.Leaf changes ∷ steps) =
-    IsGoodLeafBy Good n combs numbers changes × AreGoodFrom Good n combs (all_grown changes numbers) steps
+AreGoodFrom Good n family_count numbers [] = Unit {0}
+AreGoodFrom Good n family_count numbers (listed.Branch a b ∷ steps) = AreGoodFrom Good n family_count numbers steps
+AreGoodFrom Good n family_count numbers (listed.Leaf changes ∷ steps) =
+    IsGoodLeafBy Good n family_count numbers changes × AreGoodFrom Good n family_count (all_grown changes numbers) steps
 
 -- the index of the first leaf that isn't good, counted from the leaf before
 abbrev pub IsFirstBadFrom : (LeafNumbers → Type 0) → ℕ → ℕ → List ℤ → ℕ → List listed.Step → ℕ → Type 0
-IsFirstBadFrom Good n combs numbers leaf [] bad = ⊥
-IsFirstBadFrom Good n combs numbers leaf (listed.Branch a b ∷ steps) bad = IsFirstBadFrom Good n combs numbers leaf steps bad
-IsFirstBadFrom Good n combs numbers leaf (listed.Leaf changes ∷ steps) bad =
-    ((bad ≡ suc leaf) × (IsGoodLeafBy Good n combs numbers changes → ⊥))
-    ⊎ (IsGoodLeafBy Good n combs numbers changes × IsFirstBadFrom Good n combs (all_grown changes numbers) (suc leaf) steps bad)
+IsFirstBadFrom Good n family_count numbers leaf [] bad = ⊥
+IsFirstBadFrom Good n family_count numbers leaf (listed.Branch a b ∷ steps) bad = IsFirstBadFrom Good n family_count numbers leaf steps bad
+IsFirstBadFrom Good n family_count numbers leaf (listed.Leaf changes ∷ steps) bad =
+    ((bad ≡ suc leaf) × (IsGoodLeafBy Good n family_count numbers changes → ⊥))
+    ⊎ (IsGoodLeafBy Good n family_count numbers changes × IsFirstBadFrom Good n family_count (all_grown changes numbers) (suc leaf) steps bad)
 
 -- the leaf after k others is good
 abbrev GoodAfter : (LeafNumbers → Type 0) → ℕ → ℕ → List ℤ → List (List (ℕ × ℤ)) → ℕ → Type 0
-GoodAfter Good n combs numbers leaves k = IsGoodLeafBy Good n combs (after_leaves (take k leaves) numbers) (get_or leaves k [])
+GoodAfter Good n family_count numbers leaves k = IsGoodLeafBy Good n family_count (after_leaves (take k leaves) numbers) (get_or leaves k [])
 
 -- the first bad one is after k others
-record IsBadAfter (Good : LeafNumbers → Type 0) (n combs : ℕ) (numbers : List ℤ) (leaves : List (List (ℕ × ℤ))) (k : ℕ) : Type 0 where
+record IsBadAfter (Good : LeafNumbers → Type 0) (n family_count : ℕ) (numbers : List ℤ) (leaves : List (List (ℕ × ℤ))) (k : ℕ) : Type 0 where
   inside : k < length leaves
-  bad : GoodAfter Good n combs numbers leaves k → ⊥
-  before : (j : ℕ) → j < k → GoodAfter Good n combs numbers leaves j
+  bad : GoodAfter Good n family_count numbers leaves k → ⊥
+  before : (j : ℕ) → j < k → GoodAfter Good n family_count numbers leaves j
 
-bad_by_place : (Good : LeafNumbers → Type 0) (n combs : ℕ) (numbers : List ℤ) (leaf : ℕ) (steps : List listed.Step) (bad : ℕ) → IsFirstBadFrom Good n combs numbers leaf steps bad
-    → (k : ℕ) × (bad ≡ leaf + suc k) × IsBadAfter Good n combs numbers (leaf_changes steps) k
-bad_by_place Good n combs numbers leaf [] bad h = absurd h
-bad_by_place Good n combs numbers leaf (listed.Branch a b ∷ steps) bad h = bad_by_place Good n combs numbers leaf steps bad h
-bad_by_place Good n combs numbers leaf (listed.Leaf changes ∷ steps) bad (inl here) = (
+bad_by_place : (Good : LeafNumbers → Type 0) (n family_count : ℕ) (numbers : List ℤ) (leaf : ℕ) (steps : List listed.Step) (bad : ℕ) → IsFirstBadFrom Good n family_count numbers leaf steps bad
+    → (k : ℕ) × (bad ≡ leaf + suc k) × IsBadAfter Good n family_count numbers (leaf_changes steps) k
+bad_by_place Good n family_count numbers leaf [] bad h = absurd h
+bad_by_place Good n family_count numbers leaf (listed.Branch a b ∷ steps) bad h = bad_by_place Good n family_count numbers leaf steps bad h
+bad_by_place Good n family_count numbers leaf (listed.Leaf changes ∷ steps) bad (inl here) = (
   0,
   omega (arith, here.0),
   record { inside = omega arith; bad = here.1; before = λ j lt. absurd (omega (arith, lt)) },
 )
-bad_by_place Good n combs numbers leaf (listed.Leaf changes ∷ steps) bad (inr later) =
-    let rest = bad_by_place Good n combs (all_grown changes numbers) (suc leaf) steps bad later.1 in (
+bad_by_place Good n family_count numbers leaf (listed.Leaf changes ∷ steps) bad (inr later) =
+    let rest = bad_by_place Good n family_count (all_grown changes numbers) (suc leaf) steps bad later.1 in (
       suc rest.0,
       omega (arith, rest.1),
       record {
         inside = omega (arith, rest.2.inside);
         bad = rest.2.bad;
-        before = one_more (GoodAfter Good n combs numbers (changes ∷ leaf_changes steps)) rest.0 later.0 rest.2.before;
+        before = one_more (GoodAfter Good n family_count numbers (changes ∷ leaf_changes steps)) rest.0 later.0 rest.2.before;
       },
     )
   where
@@ -95,28 +85,28 @@ bad_by_place Good n combs numbers leaf (listed.Leaf changes ∷ steps) bad (inr 
     one_more P k first more zero lt = first
     one_more P k first more (suc j) lt = more j (omega (arith, lt))
 
-good_by_place : (Good : LeafNumbers → Type 0) (n combs : ℕ) (numbers : List ℤ) (steps : List listed.Step) → AreGoodFrom Good n combs numbers steps → (k : ℕ) → k < length (leaf_changes steps)
-    → GoodAfter Good n combs numbers (leaf_changes steps) k
-good_by_place Good n combs numbers [] h k lt = absurd (omega (arith, lt))
-good_by_place Good n combs numbers (listed.Branch a b ∷ steps) h k lt = good_by_place Good n combs numbers steps h k lt
-good_by_place Good n combs numbers (listed.Leaf changes ∷ steps) h zero lt = h.0
-good_by_place Good n combs numbers (listed.Leaf changes ∷ steps) h (suc k) lt = good_by_place Good n combs (all_grown changes numbers) steps h.1 k (omega (arith, lt))
+good_by_place : (Good : LeafNumbers → Type 0) (n family_count : ℕ) (numbers : List ℤ) (steps : List listed.Step) → AreGoodFrom Good n family_count numbers steps → (k : ℕ) → k < length (leaf_changes steps)
+    → GoodAfter Good n family_count numbers (leaf_changes steps) k
+good_by_place Good n family_count numbers [] h k lt = absurd (omega (arith, lt))
+good_by_place Good n family_count numbers (listed.Branch a b ∷ steps) h k lt = good_by_place Good n family_count numbers steps h k lt
+good_by_place Good n family_count numbers (listed.Leaf changes ∷ steps) h zero lt = h.0
+good_by_place Good n family_count numbers (listed.Leaf changes ∷ steps) h (suc k) lt = good_by_place Good n family_count (all_grown changes numbers) steps h.1 k (omega (arith, lt))
 
 -- of a whole tree, before whose first leaf all numbers are 0
-pub first_bad_by_place : (Good : LeafNumbers → Type 0) (n combs : ℕ) (steps : List listed.Step) (bad : ℕ) → IsFirstBadFrom Good n combs (no_numbers_of n combs) 0 steps bad
-    → IsFirstBadLeafBy Good n combs steps bad
-first_bad_by_place Good n combs steps bad h =
-    let found = bad_by_place Good n combs (no_numbers_of n combs) 0 steps bad h in
+pub first_bad_by_place : (Good : LeafNumbers → Type 0) (n family_count : ℕ) (steps : List listed.Step) (bad : ℕ) → IsFirstBadFrom Good n family_count (no_numbers_of n family_count) 0 steps bad
+    → IsFirstBadLeafBy Good n family_count steps bad
+first_bad_by_place Good n family_count steps bad h =
+    let found = bad_by_place Good n family_count (no_numbers_of n family_count) 0 steps bad h in
     let place : found.0 ≡ bad - 1 = omega (arith, found.1) in
     record {
       least = omega (arith, found.1);
       most = omega (arith, found.1, found.2.inside);
-      bad = subst (λ (k : ℕ). GoodAfter Good n combs (no_numbers_of n combs) (leaf_changes steps) k → ⊥) place found.2.bad;
+      bad = subst (λ (k : ℕ). GoodAfter Good n family_count (no_numbers_of n family_count) (leaf_changes steps) k → ⊥) place found.2.bad;
       before = λ earlier from lt. found.2.before (earlier - 1) (omega (arith, from, lt, found.1));
     }
 
-pub all_good_by_place : (Good : LeafNumbers → Type 0) (n combs : ℕ) (steps : List listed.Step) → AreGoodFrom Good n combs (no_numbers_of n combs) steps → AreGoodLeavesBy Good n combs steps
-all_good_by_place Good n combs steps h place from within = good_by_place Good n combs (no_numbers_of n combs) steps h (place - 1) (omega (arith, from, within))
+pub all_good_by_place : (Good : LeafNumbers → Type 0) (n family_count : ℕ) (steps : List listed.Step) → AreGoodFrom Good n family_count (no_numbers_of n family_count) steps → AreGoodLeavesBy Good n family_count steps
+all_good_by_place Good n family_count steps h place from within = good_by_place Good n family_count (no_numbers_of n family_count) steps h (place - 1) (omega (arith, from, within))
 
 -- ---- branches
 
@@ -313,53 +303,53 @@ no_leaves : (cases : List (List Decision)) → leaves_of cases [] ≡ []
 no_leaves [] = refl
 no_leaves (case ∷ cases) = refl
 
-leaf_numbers : (Good : LeafNumbers → Type 0) (n combs : ℕ) (numbers : List ℤ) (steps : List listed.Step) (cases : List (List Decision))
-    → AreGoodFrom Good n combs numbers steps
+leaf_numbers : (Good : LeafNumbers → Type 0) (n family_count : ℕ) (numbers : List ℤ) (steps : List listed.Step) (cases : List (List Decision))
+    → AreGoodFrom Good n family_count numbers steps
     → AllByRecursion (λ leaf. Good leaf.1) (leaves_of cases (steps_from n numbers steps))
-leaf_numbers Good n combs numbers steps [] good = tt
-leaf_numbers Good n combs numbers [] (case ∷ cases) good = tt
-leaf_numbers Good n combs numbers (listed.Branch a b ∷ steps) (case ∷ cases) good =
-    leaf_numbers Good n combs numbers steps (decide (a, b) true case ∷ decide (a, b) false case ∷ cases) good
-leaf_numbers Good n combs numbers (listed.Leaf changes ∷ steps) (case ∷ cases) good = (
+leaf_numbers Good n family_count numbers steps [] good = tt
+leaf_numbers Good n family_count numbers [] (case ∷ cases) good = tt
+leaf_numbers Good n family_count numbers (listed.Branch a b ∷ steps) (case ∷ cases) good =
+    leaf_numbers Good n family_count numbers steps (decide (a, b) true case ∷ decide (a, b) false case ∷ cases) good
+leaf_numbers Good n family_count numbers (listed.Leaf changes ∷ steps) (case ∷ cases) good = (
   good.0.numbers_are,
-  leaf_numbers Good n combs (all_grown changes numbers) steps cases good.1,
+  leaf_numbers Good n family_count (all_grown changes numbers) steps cases good.1,
 )
 
 -- from a step on, the result for the other steps is the result for the whole tree
-pub record IsAtStep (Found : List Decision × LeafNumbers → Option ℤ → Type 0) (Good : LeafNumbers → Type 0) (Fits : List Decision → Type 0) (n combs : ℕ)
+pub record IsAtStep (Found : List Decision × LeafNumbers → Option ℤ → Type 0) (Good : LeafNumbers → Type 0) (Fits : List Decision → Type 0) (n family_count : ℕ)
     (given : List Decision) (all : List listed.Step) (numbers : List ℤ)
     (stack : Option (List Decision)) (lowest : Option ℤ) (leaf : ℕ) (steps : List listed.Step) : Type 0 where
   pub least : (final : Option ℤ) → ComesTo Found lowest (open_leaves n numbers given stack steps) final → ComesTo Found None
-      (leaves_of (given ∷ []) (listed_steps n combs all)) final
+      (leaves_of (given ∷ []) (listed_steps n family_count all)) final
   pub whole : are_case_trees (length (open_cases given stack)) (steps_from n numbers steps) ≡ true
-  pub good : AreGoodFrom Good n combs numbers steps → AreGoodFrom Good n combs (no_numbers_of n combs) all
-  pub bad : (first : ℕ) → IsFirstBadFrom Good n combs numbers leaf steps first → IsFirstBadFrom Good n combs
-      (no_numbers_of n combs) 0 all first
+  pub good : AreGoodFrom Good n family_count numbers steps → AreGoodFrom Good n family_count (no_numbers_of n family_count) all
+  pub bad : (first : ℕ) → IsFirstBadFrom Good n family_count numbers leaf steps first → IsFirstBadFrom Good n family_count
+      (no_numbers_of n family_count) 0 all first
   pub once : AllByRecursion Fits (cases_of (open_leaves n numbers given stack steps))
 
-module _ (Found : List Decision × LeafNumbers → Option ℤ → Type 0) (Good : LeafNumbers → Type 0) (Fits : List Decision → Type 0) (n combs : ℕ)
+module _ (Found : List Decision × LeafNumbers → Option ℤ → Type 0) (Good : LeafNumbers → Type 0) (Fits : List Decision → Type 0) (n family_count : ℕ)
     (given : List Decision) (all : List listed.Step) where
-  pub at_start : are_case_trees 1 (listed_steps n combs all) ≡ true → All Fits
-      (cases_of (leaves_of (given ∷ []) (listed_steps n combs all)))
-      → IsAtStep Found Good Fits n combs given all (no_numbers_of n combs) (Some []) None 0 all
+  pub at_start : are_case_trees 1 (listed_steps n family_count all) ≡ true → All Fits
+      (cases_of (leaves_of (given ∷ []) (listed_steps n family_count all)))
+      → IsAtStep Found Good Fits n family_count given all (no_numbers_of n family_count) (Some []) None 0 all
   at_start whole once = record {
     least = λ final h. h;
     whole = whole;
     good = λ h. h;
     bad = λ first h. h;
-    once = recursion_from_All Fits (cases_of (leaves_of (given ∷ []) (listed_steps n combs all)))
+    once = recursion_from_All Fits (cases_of (leaves_of (given ∷ []) (listed_steps n family_count all)))
         once;
   }
 
   pub at_branch : (numbers : List ℤ) (stack : List Decision) (lowest : Option ℤ) (leaf a b : ℕ) (steps : List listed.Step)
-      → IsAtStep Found Good Fits n combs given all numbers (Some (stack_of stack)) lowest leaf (listed.Branch a b ∷ steps)
-      → IsAtStep Found Good Fits n combs given all numbers (Some (stack_of (stack ++ decide (a, b) true []))) lowest leaf steps
+      → IsAtStep Found Good Fits n family_count given all numbers (Some (stack_of stack)) lowest leaf (listed.Branch a b ∷ steps)
+      → IsAtStep Found Good Fits n family_count given all numbers (Some (stack_of (stack ++ decide (a, b) true []))) lowest leaf steps
   at_branch numbers stack lowest leaf a b steps h =
       let same = sym (stack_more stack (record { pair = (a, b); taken = true })) in
       record {
         least = λ final. subst (λ (st : List Decision). ComesTo Found lowest
             (leaves_of (open_cases given (Some st)) (steps_from n numbers steps)) final
-            → ComesTo Found None (leaves_of (given ∷ []) (listed_steps n combs all)) final) same (h.least final);
+            → ComesTo Found None (leaves_of (given ∷ []) (listed_steps n family_count all)) final) same (h.least final);
         whole = subst (λ (st : List Decision). are_case_trees (length (open_cases given (Some st)))
             (steps_from n numbers steps) ≡ true) same h.whole;
         good = h.good;
@@ -370,10 +360,10 @@ module _ (Found : List Decision × LeafNumbers → Option ℤ → Type 0) (Good 
 
   pub at_leaf : (numbers : List ℤ) (stack : List Decision) (lowest : Option ℤ) (leaf : ℕ) (changes : List (ℕ × ℤ))
       (steps : List listed.Step) (next : Option (List Decision)) (own lower : Option ℤ)
-      → IsAtStep Found Good Fits n combs given all numbers (Some (stack_of stack)) lowest leaf (listed.Leaf changes ∷ steps)
-      → IsGoodLeafBy Good n combs numbers changes → Found (stack_of stack ++ given, split_at n (all_grown changes numbers)) own
+      → IsAtStep Found Good Fits n family_count given all numbers (Some (stack_of stack)) lowest leaf (listed.Leaf changes ∷ steps)
+      → IsGoodLeafBy Good n family_count numbers changes → Found (stack_of stack ++ given, split_at n (all_grown changes numbers)) own
       → IsLowest lowest own lower
-      → next_stack (stack_of stack) ≡ next → IsAtStep Found Good Fits n combs given all (all_grown changes numbers) next lower
+      → next_stack (stack_of stack) ≡ next → IsAtStep Found Good Fits n family_count given all (all_grown changes numbers) next lower
       (suc leaf) steps
   at_leaf numbers stack lowest leaf changes steps next own lower h good is low turned =
       let later_are : later_cases given (stack_of stack) ≡ open_cases given next = sym (stacks_hold_cases given (stack_of stack))
@@ -394,38 +384,38 @@ module _ (Found : List Decision × LeafNumbers → Option ℤ → Type 0) (Good 
 
   -- where no case is open, no step is left
   none_open : (numbers : List ℤ) (lowest : Option ℤ) (leaf : ℕ) (step : listed.Step) (steps : List listed.Step)
-      → IsAtStep Found Good Fits n combs given all numbers None lowest leaf (step ∷ steps) → ⊥
+      → IsAtStep Found Good Fits n family_count given all numbers None lowest leaf (step ∷ steps) → ⊥
   none_open numbers lowest leaf (listed.Branch a b) steps h = both_ways false refl h.whole
   none_open numbers lowest leaf (listed.Leaf changes) steps h = both_ways false refl h.whole
 
   at_end : (numbers : List ℤ) (stack : Option (List Decision)) (lowest : Option ℤ) (leaf : ℕ)
-      → IsAtStep Found Good Fits n combs given all numbers stack lowest leaf []
-      → AreJudgedBy Found Good n combs given all (judged.Bound lowest)
+      → IsAtStep Found Good Fits n family_count given all numbers stack lowest leaf []
+      → AreJudgedBy Found Good n family_count given all (judged.Bound lowest)
   at_end numbers stack lowest leaf h =
       let all_good = h.good tt in
-      let leaves = leaves_of (given ∷ []) (listed_steps n combs all) in
+      let leaves = leaves_of (given ∷ []) (listed_steps n family_count all) in
       let none : open_leaves n numbers given stack [] ≡ [] = no_leaves (open_cases given stack) in
       let least = h.least lowest (subst (λ (left : List (List Decision × LeafNumbers)). ComesTo Found lowest left lowest)
       (sym none) (done Found lowest)) in (
-        All-from_recursion (λ leaf. Good leaf.1) leaves (leaf_numbers Good n combs (no_numbers_of n combs) all (given ∷ []) all_good),
+        All-from_recursion (λ leaf. Good leaf.1) leaves (leaf_numbers Good n family_count (no_numbers_of n family_count) all (given ∷ []) all_good),
         least_of Found leaves lowest least,
-        all_good_by_place Good n combs all all_good,
+        all_good_by_place Good n family_count all all_good,
       )
 
   -- the same for the code, whose stack has an open case or none
   abbrev pub IsPassing : List ℤ → List Decision → Option ℤ → ℕ → List listed.Step → Type 0
-  IsPassing numbers stack lowest leaf steps = IsAtStep Found Good Fits n combs given all numbers
+  IsPassing numbers stack lowest leaf steps = IsAtStep Found Good Fits n family_count given all numbers
       (Some (stack_of stack)) lowest leaf steps
-      ⊎ IsAtStep Found Good Fits n combs given all numbers None lowest leaf steps
+      ⊎ IsAtStep Found Good Fits n family_count given all numbers None lowest leaf steps
 
   pub at_step : (numbers : List ℤ) (stack : List Decision) (lowest : Option ℤ) (leaf : ℕ) (step : listed.Step)
       (steps : List listed.Step) → IsPassing numbers stack lowest leaf (step ∷ steps)
-      → IsAtStep Found Good Fits n combs given all numbers (Some (stack_of stack)) lowest leaf (step ∷ steps)
+      → IsAtStep Found Good Fits n family_count given all numbers (Some (stack_of stack)) lowest leaf (step ∷ steps)
   at_step numbers stack lowest leaf step steps (inl h) = h
   at_step numbers stack lowest leaf step steps (inr h) = absurd (none_open numbers lowest leaf step steps h)
 
   pub passed : (numbers : List ℤ) (stack : List Decision) (lowest : Option ℤ) (leaf : ℕ)
-      → IsPassing numbers stack lowest leaf [] → AreJudgedBy Found Good n combs given all (judged.Bound lowest)
+      → IsPassing numbers stack lowest leaf [] → AreJudgedBy Found Good n family_count given all (judged.Bound lowest)
   passed numbers stack lowest leaf (inl h) = at_end numbers (Some (stack_of stack)) lowest leaf h
   passed numbers stack lowest leaf (inr h) = at_end numbers None lowest leaf h
 
@@ -451,47 +441,47 @@ whole_trees n numbers (suc count) (listed.Branch a b ∷ steps) = whole_trees n 
 whole_trees n numbers (suc count) (listed.Leaf changes ∷ steps) = whole_trees n (all_grown changes numbers) count steps
 
 module _ (Found : List Decision × LeafNumbers → Option ℤ → Type 0) (Good : LeafNumbers → Type 0) (Fits : List Decision → Type 0)
-    (n combs : ℕ)
+    (n family_count : ℕ)
     (given : List Decision) where
   pub at_next : (all : List TreeStep) (numbers : List ℤ) (stack : List Decision) (lowest : Option ℤ)
       (leaf index : ℕ) (step other : TreeStep) → index < length all → step ≡ get_or all index step → step ≡ other
-      → IsPassing Found Good Fits n combs given (steps_of all) numbers stack lowest leaf (steps_of (drop index all))
-      → IsAtStep Found Good Fits n combs given (steps_of all) numbers (Some (stack_of stack)) lowest leaf
+      → IsPassing Found Good Fits n family_count given (steps_of all) numbers stack lowest leaf (steps_of (drop index all))
+      → IsAtStep Found Good Fits n family_count given (steps_of all) numbers (Some (stack_of stack)) lowest leaf
       (step_of other ∷ steps_of (drop (index + 1) all))
   at_next all numbers stack lowest leaf index step other lt is same at =
-      at_step Found Good Fits n combs given (steps_of all) numbers stack lowest leaf (step_of other)
+      at_step Found Good Fits n family_count given (steps_of all) numbers stack lowest leaf (step_of other)
       (steps_of (drop (index + 1) all))
-      (subst (λ (steps : List TreeStep). IsPassing Found Good Fits n combs given (steps_of all) numbers stack lowest leaf
+      (subst (λ (steps : List TreeStep). IsPassing Found Good Fits n family_count given (steps_of all) numbers stack lowest leaf
       (steps_of steps))
       (left_at all index step lt is ∙ ap (λ (s : TreeStep). s ∷ drop (index + 1) all) same) at)
 
   -- where no step is left
   pub all_passed : (all : List TreeStep) (numbers : List ℤ) (stack : List Decision) (lowest : Option ℤ) (leaf index : ℕ)
       → length all ≤ index
-      → IsPassing Found Good Fits n combs given (steps_of all) numbers stack lowest leaf (steps_of (drop index all))
-      → AreJudgedBy Found Good n combs given (steps_of all) (judged.Bound lowest)
+      → IsPassing Found Good Fits n family_count given (steps_of all) numbers stack lowest leaf (steps_of (drop index all))
+      → AreJudgedBy Found Good n family_count given (steps_of all) (judged.Bound lowest)
   all_passed all numbers stack lowest leaf index past at =
-      passed Found Good Fits n combs given (steps_of all) numbers stack lowest leaf
-      (subst (λ (steps : List TreeStep). IsPassing Found Good Fits n combs given (steps_of all) numbers stack lowest leaf
+      passed Found Good Fits n family_count given (steps_of all) numbers stack lowest leaf
+      (subst (λ (steps : List TreeStep). IsPassing Found Good Fits n family_count given (steps_of all) numbers stack lowest leaf
       (steps_of steps)) (drop_all index all past) at)
 
 module _ (Found : List Decision × LeafNumbers → Option ℤ → Type 0) (Good : LeafNumbers → Type 0) (Fits : List Decision → Type 0)
-    (n combs : ℕ)
+    (n family_count : ℕ)
     (given : List Decision) (all : List listed.Step) where
   abbrev pub AtNext : List ℤ → List Decision → Option ℤ → ℕ → List listed.Step → Type 0
-  AtNext numbers stack lowest leaf steps = IsAtStep Found Good Fits n combs given all numbers
+  AtNext numbers stack lowest leaf steps = IsAtStep Found Good Fits n family_count given all numbers
       (Some (stack_of stack)) lowest leaf steps
 
   abbrev JudgedAs : List ℤ → List Decision → List (ℕ × ℤ) → List ℤ → JudgedLeaf → Type 0
-  JudgedAs numbers stack changes new found = IsJudgedLeaf Found Good n combs (stack_of stack ++ given) numbers changes new found
+  JudgedAs numbers stack changes new found = IsJudgedLeaf Found Good n family_count (stack_of stack ++ given) numbers changes new found
 
   pub bad_here : (numbers : List ℤ) (stack : List Decision) (lowest : Option ℤ) (leaf : ℕ) (changes : List (ℕ × ℤ))
       (rest : List listed.Step) (new : List ℤ) (found : JudgedLeaf)
       → AtNext numbers stack lowest leaf (listed.Leaf changes ∷ rest) → JudgedAs numbers stack changes new found
       → found ≡ leaves.Bad
-      → IsFirstBadLeafBy Good n combs all (leaf + 1)
+      → IsFirstBadLeafBy Good n family_count all (leaf + 1)
   bad_here numbers stack lowest leaf changes rest new found at judged none =
-      first_bad_by_place Good n combs all (leaf + 1) (at.bad (leaf + 1)
+      first_bad_by_place Good n family_count all (leaf + 1) (at.bad (leaf + 1)
       (inl (add-one leaf, subst (JudgedAs numbers stack changes new) none judged)))
 
   after_leaf : (numbers : List ℤ) (stack : List Decision) (lowest : Option ℤ) (leaf : ℕ) (changes : List (ℕ × ℤ))
@@ -499,18 +489,18 @@ module _ (Found : List Decision × LeafNumbers → Option ℤ → Type 0) (Good 
       (found : JudgedLeaf) (own lower : Option ℤ) → AtNext numbers stack lowest leaf (listed.Leaf changes ∷ rest)
       → JudgedAs numbers stack changes new found → found ≡ leaves.Found own → IsLowest lowest own lower → next_stack
       (stack_of stack) ≡ next
-      → IsAtStep Found Good Fits n combs given all new next lower (leaf + 1) rest
+      → IsAtStep Found Good Fits n family_count given all new next lower (leaf + 1) rest
   after_leaf numbers stack lowest leaf changes rest new next found own lower at judged some low turned =
       let is = subst (JudgedAs numbers stack changes new) some judged in
-      subst (λ (k : ℕ). IsAtStep Found Good Fits n combs given all new next lower k rest) (sym (add-one leaf))
-      (subst (λ (ns : List ℤ). IsAtStep Found Good Fits n combs given all ns next lower (suc leaf) rest) (sym is.1)
-      (at_leaf Found Good Fits n combs given all numbers stack lowest leaf changes rest next own lower at is.0 is.3 low turned))
+      subst (λ (k : ℕ). IsAtStep Found Good Fits n family_count given all new next lower k rest) (sym (add-one leaf))
+      (subst (λ (ns : List ℤ). IsAtStep Found Good Fits n family_count given all ns next lower (suc leaf) rest) (sym is.1)
+      (at_leaf Found Good Fits n family_count given all numbers stack lowest leaf changes rest next own lower at is.0 is.3 low turned))
 
   pub after_found : (numbers : List ℤ) (stack : List Decision) (lowest : Option ℤ) (leaf : ℕ) (changes : List (ℕ × ℤ))
       (rest : List listed.Step) (new : List ℤ) (is_open : Bool) (next : List Decision)
       (found : JudgedLeaf) (own lower : Option ℤ) → AtNext numbers stack lowest leaf (listed.Leaf changes ∷ rest)
       → JudgedAs numbers stack changes new found → found ≡ leaves.Found own → IsLowest lowest own lower → IsNextStack stack is_open next
-      → IsPassing Found Good Fits n combs given all new next lower (leaf + 1) rest
+      → IsPassing Found Good Fits n family_count given all new next lower (leaf + 1) rest
   after_found numbers stack lowest leaf changes rest new true next found own lower at judged some low turned =
       inl (after_leaf numbers stack lowest leaf changes rest new (Some (stack_of next)) found own lower at judged some low turned)
   after_found numbers stack lowest leaf changes rest new false next found own lower at judged some low turned =

@@ -1,19 +1,7 @@
 -- Rows that are kept from leaf to leaf, changed by marks where multipliers or decisions differ.
-use Rattle.std.proofs.Common.{◌≡◌, ℕ, zero, suc, ◌+◌, ◌<◌, ◌==◌, List, [], ◌∷◌, ◌++◌, length, replicate, inl, inr, refl, sym, ap, subst, ◌∙◌, arith, ◌≢◌, ◌-◌, ◌≤◌, ◌&&◌, Bool, true, false, Option, None, take}
+use Rattle.tsp_cases.proofs.Prelude.{◌≡◌, ℕ, zero, suc, ◌+◌, ◌<◌, ◌==◌, List, [], ◌∷◌, ◌++◌, length, replicate, inl, inr, refl, sym, ap, subst, ◌∙◌, arith, ◌≢◌, ◌-◌, ◌≤◌, ◌&&◌, Bool, true, false, Option, None, take, set, cases_Bool, cases_lt, both_ways, cases_eq, eq-eqb, ints, int_wrap-add_left, int_wrap-add_same, int_wrap_fits, SFits-int_wrap, length-append, get_or_append_left, get_or-replicate, get_or_past, length-replicate, get_or_push, take_more, Vec, w64, int_wrap, All, ◌⊎◌, ℤ, pos, neg_ℤ, ◌+ℤ◌, ◌*ℤ◌, slice_index_or as get_or, if◌then◌else◌, IsFromTo, weight_between, most_between, entry, is_same_pair, sum_int_by, least_at, IsMoved}
 use Rattle.std.proofs.Math.Bool.{or-true}
-use Rattle.std.proofs.Math.ListN.{set}
-use Rattle.std.proofs.lemmas.Bool.{cases_Bool, cases_lt, both_ways, cases_eq, eq-eqb}
-use Rattle.std.proofs.lemmas.Int.{ints, int_wrap-add_left, int_wrap-add_same, int_wrap_fits, SFits-int_wrap}
-use Rattle.std.proofs.lemmas.List.{length-append, get_or_append_left, get_or-replicate, get_or_past, length-replicate, get_or_push, take_more}
 use Rattle.std.proofs.lemmas.Option.{none-some, same_Some}
-use Rattle.std.specs.Global.{Vec}
-use Rattle.std.specs.Int.{w64, int_wrap}
-use Rattle.std.specs.List.{All}
-use Rattle.std.specs.Prelude.{◌⊎◌, ℤ, pos, neg_ℤ, ◌+ℤ◌, ◌*ℤ◌, slice_index_or as get_or, if◌then◌else◌}
-use Rattle.tsp_format.specs.Steps.{IsFromTo}
-use Rattle.tsp_theory.specs.Bounds.{weight_between, most_between, entry, is_same_pair}
-use Rattle.tsp_theory.specs.Tour.{sum_int_by}
-use Rattle.tsp_theory.specs.states.Nearest.{least_at, IsMoved}
 use Rattle.tsp_cases.proofs.OpenCases.{Same, told, stack_more}
 use Rattle.tsp_cases.proofs.SetSums.{added_none, combed_at, wrapped_by, apart_is}
 use Rattle.tsp_cases.specs.Cases.{decide, next_stack}
@@ -167,10 +155,10 @@ inside_none count families (place ∷ places) x =
     let rest = inside_none count families places x in
     omega (arith, ints, own, rest)
 
-pub kept_at_start : (n combs : ℕ) (scale held : ℤ) (families : List (List (List ℕ))) (cost marks : ℕ → ℕ → ℤ) (rows : List (Vec ℤ)) → held ≡ scale
+pub kept_at_start : (n family_count : ℕ) (scale held : ℤ) (families : List (List (List ℕ))) (cost marks : ℕ → ℕ → ℤ) (rows : List (Vec ℤ)) → held ≡ scale
     → ((i x : ℕ) → marks i x ≡ pos 0)
-    → AreRowsIfAny n cost (λ i x. held *ℤ cost i x) rows → AreRowsIfAny n cost (kept_weight scale families cost marks (replicate combs (pos 0))) rows
-kept_at_start n combs scale held families cost marks rows same empty all some =
+    → AreRowsIfAny n cost (λ i x. held *ℤ cost i x) rows → AreRowsIfAny n cost (kept_weight scale families cost marks (replicate family_count (pos 0))) rows
+kept_at_start n family_count scale held families cost marks rows same empty all some =
     let kept = all some in
     record {
       many = kept.many;
@@ -180,7 +168,7 @@ kept_at_start n combs scale held families cost marks rows same empty all some =
             long = row.long;
             costs = row.costs;
             weights = λ x x_in. row.weights x x_in ∙ ap (int_wrap w64)
-                (let none = inside_none combs families (places_with 0 families (k + 1)) x in let whole = ap
+                (let none = inside_none family_count families (places_with 0 families (k + 1)) x in let whole = ap
                 (λ (z : ℤ). z *ℤ cost (k + 1) x) same in let mark = empty (k + 1) x in omega (arith, ints, none, whole, mark));
           };
     }
@@ -196,15 +184,15 @@ none_taken first count (sets ∷ families) x =
     let rest = none_taken (suc first) count families x in
     omega (arith, ints, own, rest)
 
-pub ends_at_start : (n combs places : ℕ) (families : List (List (List ℕ))) → places ≡ n + 1 → AreEnds n (replicate combs (pos 0)) families (replicate places (pos 0))
-ends_at_start n combs places families same = record {
+pub ends_at_start : (n family_count places : ℕ) (families : List (List (List ℕ))) → places ≡ n + 1 → AreEnds n (replicate family_count (pos 0)) families (replicate places (pos 0))
+ends_at_start n family_count places families same = record {
   places = length-replicate places (pos 0) ∙ same;
-  taken = λ x x_in. ap (int_wrap w64) (let one = none_at places x in let two = none_taken 0 combs families x in omega (arith, ints, one, two));
+  taken = λ x x_in. ap (int_wrap w64) (let one = none_at places x in let two = none_taken 0 family_count families x in omega (arith, ints, one, two));
 }
 
-pub small_at_start : (combs : ℕ) → AreSmallMultipliers (replicate combs (pos 0))
-small_at_start combs k default less =
-    rw (get_or-replicate combs k (pos 0) default (omega (arith, less, length-replicate combs (pos 0)))) (omega (arith, ints), omega (arith, ints))
+pub small_at_start : (family_count : ℕ) → AreSmallMultipliers (replicate family_count (pos 0))
+small_at_start family_count k default less =
+    rw (get_or-replicate family_count k (pos 0) default (omega (arith, less, length-replicate family_count (pos 0)))) (omega (arith, ints), omega (arith, ints))
 
 -- ---- the sums that the sets add, row by row
 
@@ -278,9 +266,9 @@ same_rows n cost w v rows same all some =
           };
     }
 
-pub same_marks : (n combs : ℕ) (scale : ℤ) (families : List (List (List ℕ))) (cost a b : ℕ → ℕ → ℤ) (kept : KeptRows) → ((i x : ℕ) → a i x ≡ b i x)
-    → HoldsRows n combs scale families cost a kept → HoldsRows n combs scale families cost b kept
-same_marks n combs scale families cost a b kept same held = record {
+pub same_marks : (n family_count : ℕ) (scale : ℤ) (families : List (List (List ℕ))) (cost a b : ℕ → ℕ → ℤ) (kept : KeptRows) → ((i x : ℕ) → a i x ≡ b i x)
+    → HoldsRows n family_count scale families cost a kept → HoldsRows n family_count scale families cost b kept
+same_marks n family_count scale families cost a b kept same held = record {
   multipliers = held.multipliers;
   differences = held.differences;
   small = held.small;
@@ -434,16 +422,16 @@ none_marked : (directed : Bool) (i x : ℕ) → marks_in directed [] i x ≡ pos
 none_marked true i x = refl
 none_marked false i x = refl
 
-pub held_at_start : (n combs places : ℕ) (scale : ℤ) (families : List (List (List ℕ))) (cost : ℕ → ℕ → ℤ) (directed : Bool) (kept : KeptRows)
-    → kept.multipliers.items ≡ replicate combs (pos 0) → kept.differences.items ≡ replicate combs (pos 0)
+pub held_at_start : (n family_count places : ℕ) (scale : ℤ) (families : List (List (List ℕ))) (cost : ℕ → ℕ → ℤ) (directed : Bool) (kept : KeptRows)
+    → kept.multipliers.items ≡ replicate family_count (pos 0) → kept.differences.items ≡ replicate family_count (pos 0)
     → kept.ends.items ≡ replicate places (pos 0) → places ≡ n + 1 → AreRowsIfAny n cost (λ i x. scale *ℤ cost i x) kept.rows.items
-    → HoldsRows n combs scale families cost (marks_in directed []) kept
-held_at_start n combs places scale families cost directed kept none as_many ends same rows = record {
-  multipliers = ap length none ∙ length-replicate combs (pos 0);
-  differences = ap length as_many ∙ length-replicate combs (pos 0);
-  small = subst AreSmallMultipliers (sym none) (small_at_start combs);
-  ends = subst (λ (ms : List ℤ). AreEnds n ms families kept.ends.items) (sym none) (subst (AreEnds n (replicate combs (pos 0)) families) (sym ends)
-      (ends_at_start n combs places families same));
+    → HoldsRows n family_count scale families cost (marks_in directed []) kept
+held_at_start n family_count places scale families cost directed kept none as_many ends same rows = record {
+  multipliers = ap length none ∙ length-replicate family_count (pos 0);
+  differences = ap length as_many ∙ length-replicate family_count (pos 0);
+  small = subst AreSmallMultipliers (sym none) (small_at_start family_count);
+  ends = subst (λ (ms : List ℤ). AreEnds n ms families kept.ends.items) (sym none) (subst (AreEnds n (replicate family_count (pos 0)) families) (sym ends)
+      (ends_at_start n family_count places families same));
   rows = subst (λ (ms : List ℤ). AreRowsIfAny n cost (kept_weight scale families cost (marks_in directed []) ms) kept.rows.items) (sym none)
-      (kept_at_start n combs scale scale families cost (marks_in directed []) kept.rows.items refl (none_marked directed) rows);
+      (kept_at_start n family_count scale scale families cost (marks_in directed []) kept.rows.items refl (none_marked directed) rows);
 }

@@ -1,22 +1,6 @@
 -- Sums over the sets that have a node, set by set, and the weights that they and the decisions give.
-use Rattle.std.proofs.Common.{◌≡◌, ◌≢◌, ℕ, suc, ◌+◌, ◌<◌, ◌==◌, Bool, true, false, not, List, [], ◌∷◌, ◌++◌, length, get_or, inl, inr, refl, ap, sym, subst, ◌∙◌, arith, drop, drop-cons, add-one, ◌≤◌, Option, None, Some, ◌≤ℤ◌}
-use Rattle.std.proofs.Math.ListN.{set}
-use Rattle.std.proofs.Math.Logic.{∥∥₁_elim}
-use Rattle.std.proofs.Props.{props}
-use Rattle.std.proofs.lemmas.Bool.{cases_Bool, cases_eq, eq-eqb, ne_eqb, or_parts}
-use Rattle.std.proofs.lemmas.Int.{ints, int_wrap-add_right, int_wrap-add_same, int_wrap_fits, SFits-int_wrap, fits_signed_from_abs}
-use Rattle.std.proofs.lemmas.List.{append_assoc, get_or-set_same, get_or-set_other}
-use Rattle.std.proofs.lemmas.List.Elements.{recursion_from_All, All-from_recursion}
-use Rattle.std.specs.Global.{Vec}
-use Rattle.std.specs.Int.{w64, int_wrap}
-use Rattle.std.specs.List.{All, AllByRecursion}
-use Rattle.std.specs.Prelude.{ℤ, pos, neg_ℤ, ◌+ℤ◌, ◌*ℤ◌, if◌then◌else◌, FitsSigned, slice_index_or, ◌-ℤ◌, MatchOption}
-use Rattle.tsp_format.specs.Steps.{IsFromTo}
-use Rattle.tsp_theory.proofs.Sums.{moved_on, moved_to, size_of}
-use Rattle.tsp_theory.specs.Bounds.{weight_between, is_same_pair, total}
-use Rattle.tsp_theory.specs.Tour.{sum_int_by}
-use Rattle.tsp_theory.specs.Tree.{crossing}
-use Rattle.tsp_theory.specs.states.Nearest.{IsMoved}
+use Rattle.tsp_cases.proofs.Prelude.{◌≡◌, ◌≢◌, ℕ, suc, ◌+◌, ◌<◌, ◌==◌, Bool, true, false, not, List, [], ◌∷◌, ◌++◌, length, get_or, inl, inr, refl, ap, sym, subst, ◌∙◌, arith, drop, drop-cons, add-one, ◌≤◌, Option, None, Some, ◌≤ℤ◌, set, ∥∥₁_elim, props, cases_Bool, cases_eq, eq-eqb, ne_eqb, or_parts, ints, int_wrap-add_right, int_wrap-add_same, int_wrap_fits, SFits-int_wrap, fits_signed_from_abs, append_assoc, get_or-set_same, get_or-set_other, recursion_from_All, All-from_recursion, Vec, w64, int_wrap, All, AllByRecursion, ℤ, pos, neg_ℤ, ◌+ℤ◌, ◌*ℤ◌, if◌then◌else◌, FitsSigned, slice_index_or, ◌-ℤ◌, MatchOption, IsFromTo, moved_on, moved_to, size_of, weight_between, is_same_pair, total, sum_int_by, crossing, IsMoved}
+use Rattle.tsp_format.proofs.Basics.{both_all}
 use Rattle.tsp_cases.proofs.CaseTrees.{agreed_rows}
 use Rattle.tsp_cases.proofs.FamilyCrossings.{combed_size, combed_fits, families_crossed_few, multipliers_below, sets_tell_combs, sets_give_leaves}
 use Rattle.tsp_cases.proofs.PartWalks.{apart_from_pairs}
@@ -32,7 +16,7 @@ use Rattle.tsp_cases.specs.states.OpenCases.{decided, change_of, changes}
 use Rattle.tsp_cases.specs.states.Sets.{added, times, places_in, places_with, place_at, IsPlaceIn, summed_from, set_crossings, multipliers_at, twice_in, inside_both, IsApart, most_combed, set_weight, AreSmallMultipliers, AreFewCrossings}
 
 -- a node that isn't in a list
-absent : (node : ℕ) (nodes : List ℕ) (x : ℕ) → node ≡ x → AllByRecursion (λ other. node ≢ other) nodes → has nodes x ≡ false
+pub absent : (node : ℕ) (nodes : List ℕ) (x : ℕ) → node ≡ x → AllByRecursion (λ other. node ≢ other) nodes → has nodes x ≡ false
 absent node [] x same h = refl
 absent node (other ∷ nodes) x same h = rw (ne_eqb other x (λ e. h.0 (same ∙ sym e))) (absent node nodes x same h.1)
 
@@ -130,10 +114,6 @@ sets_come_to ms families i x once = families_come_to (λ place. twice_in ms fami
     (recursion_from_All (All HasEachOnce) families once)
 
 -- ---- each place in a node's list is that of a set
-
-both_all : {X : Type 0} (P : X → Type 0) (xs ys : List X) → AllByRecursion P xs → AllByRecursion P ys → AllByRecursion P (xs ++ ys)
-both_all P [] ys h k = k
-both_all P (x ∷ xs) ys h k = (h.0, both_all P xs ys h.1 k)
 
 times_hold : (P : SetPlace → Type 0) (place : SetPlace) (nodes : List ℕ) (x : ℕ) → P place → AllByRecursion P (times place nodes x)
 times_hold P place [] x h = tt
@@ -253,7 +233,7 @@ pub inside_left : (multipliers : List ℤ) (families : List (List (List ℕ))) (
     → inside_both multipliers families (drop index places) x ≡ twice_in multipliers families (get_or places index default) x +ℤ inside_both multipliers families (drop (index + 1) places) x
 inside_left multipliers families places index x default lt = ap (λ ps. inside_both multipliers families ps x) (drop-cons places index default lt) ∙ rw (add-one index) refl
 
--- ---- the multipliers of a node's sets, taken off its potential family by family and set by
+-- ---- the multipliers of a node's sets, taken off its potential set by set
 
 pub added_less : (number : ℤ) (nodes : List ℕ) (x : ℕ) → added (neg_ℤ number) nodes x ≡ neg_ℤ (added number nodes x)
 added_less number [] x = refl
@@ -288,7 +268,7 @@ wrapped_by change old new base (inl same) is = ap (int_wrap w64) (let kept = sam
 wrapped_by change old new base (inr wrapped) is =
     ap (int_wrap w64) wrapped ∙ int_wrap_fits w64 (int_wrap w64 (old +ℤ change)) (SFits-int_wrap w64 (old +ℤ change)) ∙ ap (λ z. int_wrap w64 (z +ℤ change)) is
 
--- ---- the weight between two nodes as if no set had both, moved by the sets that have both, is
+-- ---- the weight between two nodes as if no set had both, moved by the sets that have both
 
 pub combed_at : (scale : ℤ) (potentials multipliers : List ℤ) (families : List (List (List ℕ))) (cost : ℕ → ℕ → ℤ) (from x : ℕ) (apart value : ℤ)
     → All (All HasEachOnce) families → IsFromTo (pos 0) (pos most_crossed) (set_crossings multipliers families from x) → IsApart scale potentials multipliers families cost from x apart
@@ -328,7 +308,7 @@ changes_left decisions index i j default inside = ap (λ ds. changes ds i j) (dr
 pub within : (z : ℤ) → IsFromTo (neg_ℤ (pos 9000000000000000000)) (pos 9000000000000000000) z → FitsSigned w64 z
 within z h = fits_signed_from_abs w64 z (let size = size_of 9000000000000000000 z h in omega (arith, size))
 
--- ---- the weights, the row bounds and the sum given back that code computes from sets and
+-- ---- the weights, the row bounds and the sum given back, by sets and their multipliers
 
 -- the weights by sets, changed by the decisions of a case, are the weights of the leaf
 pub case_weight : (w : ℕ → ℕ → ℤ) (scale : ℤ) (crossed : List Crossings) (potentials multipliers : List ℤ) (families : List (List (List ℕ))) (case : List Decision) (cost : ℕ → ℕ → ℤ) (i j : ℕ)
@@ -368,14 +348,14 @@ small_multipliers n crossed potentials ms some good =
     let each = (each_below ms (recursion_from_All (λ m. pos 0 ≤ℤ m) ms good.signs)).1 in
     λ k default lt.
     let own = All-from_recursion (λ m. IsFromTo (pos 0) (total ms) m) ms each k default lt in
-    (own.0, let most = own.1 in let sum = few_multipliers crossed ms good.each_comb some good.signs good.sum in omega (arith, ints, most, sum))
+    (own.0, let most = own.1 in let sum = few_multipliers crossed ms good.each_family some good.signs good.sum in omega (arith, ints, most, sum))
 
 pub few_crossings : (n : ℕ) (crossed : List Crossings) (potentials multipliers : List ℤ) (families : List (List (List ℕ))) → AreGoodNumbers n crossed (as_leaf_numbers potentials multipliers)
     → length crossed ≡ length families → ∥ All (IsFamily n) (families_with crossed families) ∥₁ → AreFewCrossings n multipliers families
 few_crossings n crossed potentials ms families good many are = λ i j in_i in_j. ∥∥₁_elim are (hlevel props) (λ sure.
     let few = families_crossed_few n crossed families ms i j in_i in_j many (recursion_from_All (IsFamily n) (families_with crossed families) sure)
     (recursion_from_All (λ m. pos 0 ≤ℤ m) ms good.signs) in
-    let same = sets_tell_combs crossed ms families i j many (good.each_comb ∙ many) in
+    let same = sets_tell_combs crossed ms families i j many (good.each_family ∙ many) in
     let sum = good.sum in
     (let low = few.0 in omega (arith, ints, low, same), let high = few.1 in omega (arith, ints, high, same, sum)))
 

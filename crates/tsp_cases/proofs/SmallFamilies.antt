@@ -1,19 +1,9 @@
 -- Small families and bounds, evaluated.
-use Rattle.std.proofs.Common.{◌≡◌, ◌≢◌, ℕ, ◌+◌, ◌-◌, ◌≤◌, Bool, true, false, [], ◌∷◌, inl, inr, refl, sym, arith, subst, ◌∙◌, ◌⊎◌, suc, not, cond, List, length, ◌+ℤ◌, ◌≤ℤ◌, ap, ◌==◌, ◌||◌, ap₂}
+use Rattle.tsp_cases.proofs.Prelude.{◌≡◌, ◌≢◌, ℕ, ◌+◌, ◌-◌, ◌≤◌, Bool, true, false, [], ◌∷◌, inl, inr, refl, sym, arith, subst, ◌∙◌, ◌⊎◌, suc, not, cond, List, length, ◌+ℤ◌, ◌≤ℤ◌, ap, ◌==◌, ◌||◌, ap₂, both_ways, eq-eqb, ne_eqb, cases_eq, or_cases, eqb-true, ints, All-from_recursion, All-nil, AllPairs-cons, All, range_with_len, Any, pos, ℤ, ◌*ℤ◌, replicate, slice_index, slice_index_or, IsNode, none_or_one, IsCycle, length_of, crossing, weight_of, tree_of}
 use Rattle.std.proofs.Math.Nat.{min_comm, max_comm}
-use Rattle.std.proofs.lemmas.Bool.{both_ways, eq-eqb, ne_eqb, cases_eq, or_cases, eqb-true}
-use Rattle.std.proofs.lemmas.Int.{ints}
-use Rattle.std.proofs.lemmas.List.Elements.{All-from_recursion, All-nil}
 use Rattle.std.proofs.lemmas.List.FromFn.{length-range_with_len, get_or-range_with_len, length-map-range_with_len, get_or-map-range_with_len}
-use Rattle.std.proofs.lemmas.List.Kept.{AllPairs-cons}
 use Rattle.std.specs.Int.Signed.{le_z_yes}
-use Rattle.std.specs.List.{All, range_with_len, Any}
-use Rattle.std.specs.Prelude.{pos, ℤ, ◌*ℤ◌, replicate, slice_index, slice_index_or}
-use Rattle.tsp_format.specs.Nodes.{IsNode}
 use Rattle.tsp_format.specs.Words.{IsSymmetric}
-use Rattle.tsp_theory.proofs.Neighbours.{none_or_one}
-use Rattle.tsp_theory.specs.Tour.{IsCycle, length_of}
-use Rattle.tsp_theory.specs.Tree.{crossing, weight_of, tree_of}
 use Rattle.tsp_cases.proofs.CaseTrees.{leaf_even}
 use Rattle.tsp_cases.proofs.Divisions.{same_least}
 use Rattle.tsp_cases.proofs.PartWalks.{run_range, cycle_from}
@@ -296,16 +286,16 @@ costs_even : (rows : List (List ℕ)) → IsSymmetric (cost_in rows)
 costs_even rows = λ i j other. ap₂ (λ a b. pos (slice_index (slice_index_or rows (a - 1) []) (b - a - 1))) (min_comm i j) (max_comm i j)
 
 -- the bound of a leaf, whose least 1-tree SmallTrees.antt tests
-leaf_bound : (n : ℕ) (rows : List (List ℕ)) (scale : ℤ) (potentials : List ℤ) (taken avoided : List (ℕ × ℕ × ℤ)) (combs : List (Family × ℤ)) (bound : ℤ) (first second : ℕ) (added : List (ℕ × ℕ))
+leaf_bound : (n : ℕ) (rows : List (List ℕ)) (scale : ℤ) (potentials : List ℤ) (taken avoided : List (ℕ × ℕ × ℤ)) (families : List (Family × ℤ)) (bound : ℤ) (first second : ℕ) (added : List (ℕ × ℕ))
     → 3 ≤ n → 2 + length added ≡ n
-    → near_one n (leaf_weight scale potentials taken avoided combs (cost_in rows)) first second ≡ true
-    → grows_well n (leaf_weight scale potentials taken avoided combs (cost_in rows)) (λ x. x == 2) added ≡ true
-    → IsLeafBoundOf scale potentials taken combs (weight_of (leaf_weight scale potentials taken avoided combs (cost_in rows)) (tree_of first second added)) bound
-    → IsLeafBound n (cost_in rows) scale potentials taken avoided combs bound
-leaf_bound n rows scale potentials taken avoided combs bound first second added some count near grows bound_is = record {
+    → near_one n (leaf_weight scale potentials taken avoided families (cost_in rows)) first second ≡ true
+    → grows_well n (leaf_weight scale potentials taken avoided families (cost_in rows)) (λ x. x == 2) added ≡ true
+    → IsLeafBoundOf scale potentials taken families (weight_of (leaf_weight scale potentials taken avoided families (cost_in rows)) (tree_of first second added)) bound
+    → IsLeafBound n (cost_in rows) scale potentials taken avoided families bound
+leaf_bound n rows scale potentials taken avoided families bound first second added some count near grows bound_is = record {
   tree = tree_of first second added;
-  least = least_tree n (leaf_weight scale potentials taken avoided combs (cost_in rows)) first second added some count
-      (leaf_even scale potentials taken avoided combs (cost_in rows) (costs_even rows)) near grows;
+  least = least_tree n (leaf_weight scale potentials taken avoided families (cost_in rows)) first second added some count
+      (leaf_even scale potentials taken avoided families (cost_in rows) (costs_even rows)) near grows;
   bound_is = bound_is;
 }
 

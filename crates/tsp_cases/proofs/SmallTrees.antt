@@ -1,17 +1,9 @@
 -- Small trees of cases, rows and verdicts, evaluated.
-use Rattle.std.proofs.Common.{◌≡◌, ℕ, Bool, true, false, List, [], ◌∷◌, refl, arith, zero, suc, ◌+◌, ◌-◌, ◌<◌, ◌≤◌, ◌==◌, ◌&&◌, ◌||◌, not, leb, length, ℤ, ◌≤ℤ◌, inl, inr, subst, ◌≢◌, sym}
-use Rattle.std.proofs.lemmas.Bool.{both_ways, cases_eq, and_parts, or_cases, leb-true, eqb-true, eqb-false, not-true}
+use Rattle.tsp_cases.proofs.Prelude.{◌≡◌, ℕ, Bool, true, false, List, [], ◌∷◌, refl, arith, zero, suc, ◌+◌, ◌-◌, ◌<◌, ◌≤◌, ◌==◌, ◌&&◌, ◌||◌, not, leb, length, ℤ, ◌≤ℤ◌, inl, inr, subst, ◌≢◌, sym, both_ways, cases_eq, and_parts, or_cases, leb-true, eqb-true, eqb-false, not-true, ints, All-from_recursion, recursion_from_All, All-nil, All-head, All-tail, AllPairs-cons, list_all, range_with_len, pos, ◌*ℤ◌, ◌+ℤ◌, slice_index_or, IsNode, nodes_to, weight_between, IsInner, IsLeastOneTree, and_node, Grows, grown_by, AreNearest, tree_of}
 use Rattle.std.proofs.lemmas.Float.{T_from_true}
-use Rattle.std.proofs.lemmas.Int.{ints}
-use Rattle.std.proofs.lemmas.List.Elements.{All-from_recursion, recursion_from_All, All-nil, All-head, All-tail}
-use Rattle.std.proofs.lemmas.List.Kept.{AllPairs-cons}
 use Rattle.std.specs.Int.Signed.{le_z, le_z_yes}
-use Rattle.std.specs.List.{list_all, range_with_len}
-use Rattle.std.specs.Prelude.{pos, ◌*ℤ◌, ◌+ℤ◌, slice_index_or}
-use Rattle.tsp_format.specs.Nodes.{IsNode, nodes_to}
+use Rattle.tsp_format.proofs.Basics.{or_right_from}
 use Rattle.tsp_theory.proofs.Trees.{least_from_growth}
-use Rattle.tsp_theory.specs.Bounds.{weight_between}
-use Rattle.tsp_theory.specs.Tree.{IsInner, IsLeastOneTree, and_node, Grows, grown_by, AreNearest, tree_of}
 use Rattle.tsp_cases.proofs.GoodFamilies.{all_had, comb_of_family, lone_of_family}
 use Rattle.tsp_cases.proofs.Passes.{IsFirstTwiceFrom, first_twice_in_pass}
 use Rattle.tsp_cases.specs.CaseTrees.{Allows, IsAllowed, IsLeastFrom, HasNoLink, IsSumOfLeast, IsRowBound, combed}
@@ -87,12 +79,6 @@ leaves_least n w grown pair = all_inner n (λ a. not (grown a) || all_inner n (�
 abbrev pub grows_well : ℕ → (ℕ → ℕ → ℤ) → (ℕ → Bool) → List (ℕ × ℕ) → Bool
 grows_well n w grown [] = all_inner n grown
 grows_well n w grown (pair ∷ pairs) = ((grown pair.0 && not (grown pair.1)) && (is_inner n pair.1 && leaves_least n w grown pair)) && grows_well n w (and_node grown pair.1) pairs
-
-or_right_from : (x y : Bool) → (x || y) ≡ true → x ≡ false → y ≡ true
-or_right_from x y h f = elim (or_cases x y h) [
-  | inl t ↦ absurd (both_ways x f t)
-  | inr u ↦ u
-]
 
 -- plan: by induction over the pairs: the test has each condition of `Grows` (`leaves_least`), and at the end
 -- `all_inner`

@@ -1,21 +1,8 @@
 -- One pass over the branches of a tree: the first that is out of range, and the first on a pair that is decided
 -- already.
-use Rattle.std.proofs.Common.{◌≡◌, ◌∙◌, ℕ, suc, ◌+◌, ◌<◌, ◌≤◌, Bool, true, false, List, [], ◌∷◌, ◌++◌, drop, length, get_or, ℤ, inl, inr, refl, ap, ap₂, sym, subst, add-one, ◌-◌, arith, ◌*◌, ◌^◌, FitsSigned, to_z, of_z, drop-cons}
-use Rattle.std.proofs.Math.ListN.{set}
+use Rattle.tsp_cases.proofs.Prelude.{◌≡◌, ◌∙◌, ℕ, suc, ◌+◌, ◌<◌, ◌≤◌, Bool, true, false, List, [], ◌∷◌, ◌++◌, drop, length, get_or, ℤ, inl, inr, refl, ap, ap₂, sym, subst, add-one, ◌-◌, arith, ◌*◌, ◌^◌, FitsSigned, to_z, of_z, drop-cons, set, both_ways, cases_Bool, cases_eq, ints, drop_all, length-append, get_or_append_left, append_assoc, append-nil, get_or-set_same, get_or-set_other, All-from_recursion, recursion_from_All, list_any_at, AllPairs-cons, w64, w128, All, AllByRecursion, None, Some, pos, neg_ℤ, ◌+ℤ◌, IsFromTo, TreeStep, step_of, steps_of}
 use Rattle.std.proofs.Math.Seq.{get_or-append_seam}
-use Rattle.std.proofs.lemmas.Bool.{both_ways, cases_Bool, cases_eq}
-use Rattle.std.proofs.lemmas.Int.{ints}
-use Rattle.std.proofs.lemmas.List.{drop_all, length-append, get_or_append_left, append_assoc, append-nil, get_or-set_same, get_or-set_other}
-use Rattle.std.proofs.lemmas.List.Elements.{All-from_recursion, recursion_from_All}
-use Rattle.std.proofs.lemmas.List.Folds.{list_any_at}
-use Rattle.std.proofs.lemmas.List.Kept.{AllPairs-cons}
-use Rattle.std.specs.Int.{w64, w128}
-use Rattle.std.specs.List.{All, AllByRecursion}
-use Rattle.std.specs.Prelude.{None, Some, pos, neg_ℤ, ◌+ℤ◌}
-use Rattle.tsp_format.specs.Steps.{IsFromTo}
 use Rattle.tsp_format.specs.Steps as listed
-use Rattle.tsp_format.specs.declared.steps.TreeStep.{TreeStep}
-use Rattle.tsp_format.specs.states.TreeSteps.{step_of, steps_of}
 use Rattle.tsp_cases.proofs.CaseLaws.{stacks_hold_cases}
 use Rattle.tsp_cases.proofs.OpenCases.{stack_more}
 use Rattle.tsp_cases.proofs.Passes.{left_at, IsFirstTwiceFrom, first_twice_by_place, first_twice_in_pass}
@@ -44,7 +31,7 @@ pub no_branch_twice : (directed : Bool) (given : List Decision) (steps : List li
     → AreBranchesJudged directed given steps None
 no_branch_twice directed given steps none once = (
   λ first h. none first (first_twice_in_pass directed given steps first h),
-  λ n combs. subst (All (DecideOnce directed)) (sym (told_cases n (no_numbers_of n combs) (given ∷ []) steps)) (All-from_recursion (DecideOnce directed) (listed_cases (given ∷ []) steps) once),
+  λ n families. subst (All (DecideOnce directed)) (sym (told_cases n (no_numbers_of n families) (given ∷ []) steps)) (All-from_recursion (DecideOnce directed) (listed_cases (given ∷ []) steps) once),
 )
 
 -- ---- one pass
@@ -140,7 +127,7 @@ pub decided_here : (directed : Bool) (given : List Decision) (case : OpenCase) (
 decided_here directed given case pair result given_is direction is =
     ap₂ (λ (d : Bool) (ds : List Decision). is_decided d (stack_of case.stack.items ++ ds) pair) (sym direction) (sym given_is) ∙ sym is
 
--- ---- one pass over the steps of a tree of cases that finds the first branch whose first
+-- ---- one pass over the steps of a tree of cases that finds the first bad branch
 
 -- all branches so far begin with a number within the limits
 pub record AreWithinSoFar (least most : ℕ) (all : List listed.Step) (count : ℕ) (left : List listed.Step) : Type 0 where

@@ -1,13 +1,8 @@
 -- Circle 3 of docs/trust.md.
 -- The bound of a certificate by branching, as a theorem: the bound of a leaf by a least 1-tree or by the least link
 -- from each node, and the least bound of all leaves.
-use Rattle.std.specs.List.{All, Any}
-use Rattle.std.specs.Prelude.{◌≡◌, ◌≢◌, ℕ, ◌≤◌, Bool, true, false, List, ◌↔◌, ℤ, ◌+ℤ◌, ◌≤ℤ◌, [], length, pos, ◌-ℤ◌, ◌*ℤ◌, ◌⊎◌, ◌∷◌, Option, Some, None}
-use Rattle.tsp_format.specs.Nodes.{IsNode, nodes_to}
-use Rattle.tsp_format.specs.Words.{IsSymmetric}
-use Rattle.tsp_theory.specs.Bounds.{IsLeastBound, IsScale, total, weight_between, adjusted, triples_total, UsesEach, UsesNone, IsAdjustedBound}
-use Rattle.tsp_theory.specs.Tour.{IsCycle, Follows, sum_int_by, length_of, Problem, BoundsTours, HasNoTour}
-use Rattle.tsp_theory.specs.Tree.{weight_of, IsLeastOneTree}
+use Rattle.tsp_cases.specs.Prelude.{All, Any, ℕ, Bool, true, false, List, ℤ, [], length, pos, Option, Some, None, IsNode, nodes_to, IsSymmetric, IsLeastBound, IsScale, total, weight_between, adjusted, triples_total, UsesEach, UsesNone, IsAdjustedBound, IsCycle, Follows, sum_int_by, length_of, Problem, BoundsTours, HasNoTour, weight_of, IsLeastOneTree}
+use Rattle.std.specs.Prelude.{◌≡◌, ◌≢◌, ◌≤◌, ◌↔◌, ◌+ℤ◌, ◌≤ℤ◌, ◌-ℤ◌, ◌*ℤ◌, ◌⊎◌, ◌∷◌}
 use Rattle.tsp_cases.specs.Cases.{KeepsAll, HasNoCycle, BoundsCase, take_pairs, on_taken, on_avoided, LeafNumbers, CaseStep, are_case_trees, leaves_of}
 use Rattle.tsp_cases.specs.Families.{family_crossings, Family, IsFamily}
 use Rattle.tsp_cases.specs.declared.open_case.Decision.{Decision}

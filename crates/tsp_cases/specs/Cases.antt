@@ -1,10 +1,7 @@
 -- Circle 3 of docs/trust.md.
 -- Trees of cases: a branch divides the first open case by a decision on a pair, and a leaf closes it by numbers.
-use Rattle.std.specs.List.{All, AllPairs}
-use Rattle.std.specs.Prelude.{ℕ, ◌≤◌, ◌≡◌, ◌==◌, ◌&&◌, Bool, true, false, if◌then◌else◌, List, [], ◌∷◌, length, map, ℤ, pos, ◌≤ℤ◌, zero, suc, ◌++◌, Option, None, Some, ◌⊎◌}
-use Rattle.tsp_format.specs.Words.{IsSymmetric}
-use Rattle.tsp_theory.specs.Bounds.{IsScale, most_number, pair_of, is_same_pair, IsAdjustedBound}
-use Rattle.tsp_theory.specs.Tour.{IsCycle, Uses, length_of, Problem, BoundsTours}
+use Rattle.tsp_cases.specs.Prelude.{All, AllPairs, ℕ, Bool, true, false, List, [], length, map, ℤ, pos, zero, suc, Option, None, Some, IsSymmetric, IsScale, most_number, pair_of, is_same_pair, IsAdjustedBound, IsCycle, Uses, length_of, Problem, BoundsTours}
+use Rattle.std.specs.Prelude.{◌≤◌, ◌≡◌, ◌==◌, ◌&&◌, if◌then◌else◌, ◌∷◌, ◌≤ℤ◌, ◌++◌, ◌⊎◌}
 use Rattle.tsp_cases.specs.declared.open_case.Decision.{Decision}
 
 -- a cycle uses a taken pair, and doesn't use an avoided one; directed: from the first node to the second

@@ -1,12 +1,8 @@
 -- Circle 3 of docs/trust.md.
 -- How often families of sets of nodes are crossed: by a cycle at least, by two nodes at most. The parts that sets make
 -- of the nodes, and the least cycle through them.
-use Rattle.std.specs.Global.{Vec}
-use Rattle.std.specs.List.{All, AllPairs, list_any, Any, AllByRecursion}
-use Rattle.std.specs.Prelude.{◌≡◌, ◌<◌, ◌⊎◌, ◌==◌, ℕ, Bool, List, length, map, ℤ, ◌≤ℤ◌, ◌≢◌, ◌+◌, ◌*◌, ◌≤◌, ◌↔◌, if◌then◌else◌, [], ◌∷◌, slice_index, ◌-◌, ◌^◌, pos}
-use Rattle.tsp_format.specs.Nodes.{IsNode}
-use Rattle.tsp_theory.specs.Tour.{IsCycle, sum_int_by, length_of}
-use Rattle.tsp_theory.specs.Tree.{crossing, IsInner}
+use Rattle.tsp_cases.specs.Prelude.{Vec, All, AllPairs, list_any, Any, AllByRecursion, ℕ, Bool, List, length, map, ℤ, [], slice_index, pos, IsNode, IsCycle, sum_int_by, length_of, crossing, IsInner}
+use Rattle.std.specs.Prelude.{◌≡◌, ◌<◌, ◌⊎◌, ◌==◌, ◌≤ℤ◌, ◌≢◌, ◌+◌, ◌*◌, ◌≤◌, ◌↔◌, if◌then◌else◌, ◌∷◌, ◌-◌, ◌^◌}
 
 -- the least length of a cycle through the nodes 1..n
 pub record IsLeastLength (n : ℕ) (cost : ℕ → ℕ → ℤ) (least : ℤ) : Type 0 where

@@ -1,8 +1,7 @@
 -- Small sets, families, costs, numbers and trees of cases, on which the definitions are evaluated.
-use Rattle.std.specs.List.{All, range_with_len}
-use Rattle.std.specs.Prelude.{ℕ, Bool, List, [], ◌∷◌, ◌≡◌, ◌-◌, true, false, Some, replicate, min, max, slice_index, slice_index_or, ℤ, pos, ◌*◌, negsuc, map}
+use Rattle.tsp_cases.specs.Prelude.{All, range_with_len, ℕ, Bool, List, [], true, false, Some, replicate, min, max, slice_index, slice_index_or, ℤ, pos, negsuc, map, length_of}
+use Rattle.std.specs.Prelude.{◌∷◌, ◌≡◌, ◌-◌, ◌*◌}
 use Rattle.tsp_format.specs.Steps as listed
-use Rattle.tsp_theory.specs.Tour.{length_of}
 use Rattle.tsp_cases.specs.CaseTrees.{leaf_weight, multiplied, IsCaseTree, IsCaseTreeBound, IsRowLeafBound, IsRowBound}
 use Rattle.tsp_cases.specs.Cases.{DecideOnce, leaves_of, cases_of, on_taken, on_avoided, LeafNumbers, CaseStep, Leaf, are_case_trees, Branch}
 use Rattle.tsp_cases.specs.Crossings.{has}
@@ -169,7 +168,7 @@ multiplied_by first second = as_leaf_numbers (potentials_of_three (pos 0) (pos 0
 abbrev pub moved_at_three : ℤ → LeafNumbers
 moved_at_three potential = as_leaf_numbers (potentials_of_three (pos 0) (pos 0) potential) []
 
--- ---- three nodes whose costs depend on the direction, on which the bounds by rows are
+-- ---- three nodes whose costs depend on the direction, for the bounds by rows
 
 -- the costs from 1 are 1 and 10, those from 2 are 10 and 2, and those from 3 are 3 and 10
 abbrev pub three_rows : List (List ℕ)

@@ -1,11 +1,9 @@
 -- Circle 3 of docs/trust.md.
 -- Families of sets of nodes: combs, lone sets and others, the least number of times that a cycle crosses each, and
 -- which families of a file are good.
+use Rattle.tsp_cases.specs.Prelude.{ℕ, map, Bool, true, false, List, length, ℤ, pos, zero, suc, [], slice_index_or, IsNode, IsCycle, sum_int_by, length_of, crossing}
 use Rattle.std.specs.List.{All, AllPairs}
-use Rattle.std.specs.Prelude.{◌≡◌, ℕ, ◌+◌, ◌*◌, ◌≤◌, map, Bool, true, false, List, length, ℤ, pos, ◌+ℤ◌, ◌≤ℤ◌, zero, suc, [], ◌∷◌, ◌⊎◌, if◌then◌else◌, ◌*ℤ◌, ◌≢◌, ◌<◌, slice_index_or}
-use Rattle.tsp_format.specs.Nodes.{IsNode}
-use Rattle.tsp_theory.specs.Tour.{IsCycle, sum_int_by, length_of}
-use Rattle.tsp_theory.specs.Tree.{crossing}
+use Rattle.std.specs.Prelude.{◌≡◌, ◌+◌, ◌*◌, ◌≤◌, ◌+ℤ◌, ◌≤ℤ◌, ◌∷◌, ◌⊎◌, if◌then◌else◌, ◌*ℤ◌, ◌≢◌, ◌<◌}
 use Rattle.tsp_cases.specs.Crossings.{has, IsLeastLength, IsMostCost, AreTooMany}
 use Rattle.tsp_cases.specs.declared.family.Crossings.{Crossings}
 

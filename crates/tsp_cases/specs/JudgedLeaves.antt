@@ -1,8 +1,7 @@
 -- The judgement on the leaves of a tree, whatever gives a leaf's bound: the least bound, or the first bad leaf.
-use Rattle.std.specs.List.{All}
-use Rattle.std.specs.Prelude.{◌≡◌, Option, Some, None, ◌⊎◌, ℤ, ◌≤ℤ◌, ℕ, List, [], ◌∷◌, IfSome}
+use Rattle.tsp_cases.specs.Prelude.{All, Option, Some, None, ℤ, ℕ, List, [], IfSome, IsBoundSized}
+use Rattle.std.specs.Prelude.{◌≡◌, ◌⊎◌, ◌≤ℤ◌, ◌∷◌}
 use Rattle.tsp_format.specs.Steps as listed
-use Rattle.tsp_theory.specs.Bounds.{IsBoundSized}
 use Rattle.tsp_cases.specs.CaseTrees.{IsLeastFound}
 use Rattle.tsp_cases.specs.Cases.{LeafNumbers, leaves_of}
 use Rattle.tsp_cases.specs.ListedCases.{listed_steps, all_grown, split_at, IsGoodLeafBy, AreGoodLeavesBy, IsFirstBadLeafBy}
@@ -25,11 +24,11 @@ IsLowest (Some lowest) (Some own) lower = ((lower ≡ Some lowest) × (lowest �
 -- else the first bad leaf.
 abbrev pub AreJudgedBy : (List Decision × LeafNumbers → Option ℤ → Type 0) → (LeafNumbers → Type 0) → ℕ → ℕ → List Decision
     → List listed.Step → JudgedLeaves → Type 0
-AreJudgedBy found good n combs given steps (judged.Bound least) =
-    All (λ leaf. good leaf.1) (leaves_of (given ∷ []) (listed_steps n combs steps))
-    × IsLeastFound found (leaves_of (given ∷ []) (listed_steps n combs steps)) least
-    × AreGoodLeavesBy good n combs steps
-AreJudgedBy found good n combs given steps (judged.BadLeaf leaf) = IsFirstBadLeafBy good n combs steps leaf
+AreJudgedBy found good n families given steps (judged.Bound least) =
+    All (λ leaf. good leaf.1) (leaves_of (given ∷ []) (listed_steps n families steps))
+    × IsLeastFound found (leaves_of (given ∷ []) (listed_steps n families steps)) least
+    × AreGoodLeavesBy good n families steps
+AreJudgedBy found good n families given steps (judged.BadLeaf leaf) = IsFirstBadLeafBy good n families steps leaf
 
 -- The bound is so small that sums with it fit 128 bits.
 abbrev pub AreSizedLeaves : JudgedLeaves → Type 0
@@ -49,8 +48,8 @@ IsFoundOfCase found good n case numbers (leaves.Found own) =
 -- What is found of a good leaf, whose numbers are the ones that the next leaf changes; of a bad leaf nothing is found.
 abbrev pub IsJudgedLeaf : (List Decision × LeafNumbers → Option ℤ → Type 0) → (LeafNumbers → Type 0) → ℕ → ℕ → List Decision
     → List ℤ → List (ℕ × ℤ) → List ℤ → JudgedLeaf → Type 0
-IsJudgedLeaf found good n combs case old changes new leaves.Bad = IsGoodLeafBy good n combs old changes → ⊥
-IsJudgedLeaf found good n combs case old changes new (leaves.Found own) = IsGoodLeafBy good n combs old changes
+IsJudgedLeaf found good n families case old changes new leaves.Bad = IsGoodLeafBy good n families old changes → ⊥
+IsJudgedLeaf found good n families case old changes new (leaves.Found own) = IsGoodLeafBy good n families old changes
     × (new ≡ all_grown changes old) × AreSmall new × found (case, split_at n (all_grown changes old)) own
 
 -- The bound of a leaf is so small that sums with it fit 128 bits.

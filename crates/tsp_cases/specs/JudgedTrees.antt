@@ -5,7 +5,7 @@ use Rattle.tsp_format.specs.declared.steps.TreeStep.{TreeStep}
 use Rattle.tsp_format.specs.states.TreeSteps.{steps_of}
 use Rattle.tsp_cases.specs.declared.open_case.Decision.{Decision}
 use Rattle.tsp_cases.specs.ListedCases.{AreBranchesWithin, AreBranchesJudged}
-use Rattle.tsp_cases.specs.declared.checked_tree.CheckedTree.{CheckedTree}
+use Rattle.tsp_cases.specs.declared.judged.CheckedTree.{CheckedTree}
 use Rattle.tsp_cases.specs.declared.judged.JudgedCases.{JudgedCases}
 use Rattle.tsp_cases.specs.declared.judged.JudgedCases.TheVariants as judged
 

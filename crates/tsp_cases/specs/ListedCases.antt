@@ -1,11 +1,9 @@
 -- Circle 3 of docs/trust.md.
 -- A tree of cases as BRANCH_SECTION lists it, and what makes it good: the numbers of its leaves, branches within their
 -- limits, and no branch twice.
-use Rattle.std.specs.List.{All, list_any}
-use Rattle.std.specs.Prelude.{◌≡◌, ℕ, true, List, length, ℤ, pos, ◌≤ℤ◌, ◌≢◌, ◌+◌, ◌-◌, ◌^◌, ◌<◌, ◌≤◌, [], ◌∷◌, take, drop, replicate, slice_set, slice_index_or, ◌+ℤ◌, Bool, false, Option, None, Some}
-use Rattle.tsp_format.specs.Nodes.{IsNode}
+use Rattle.tsp_cases.specs.Prelude.{All, list_any, ℕ, true, List, length, ℤ, pos, [], take, drop, replicate, slice_set, slice_index_or, Bool, false, Option, None, Some, IsNode, ArePotentials, entry}
+use Rattle.std.specs.Prelude.{◌≡◌, ◌≤ℤ◌, ◌≢◌, ◌+◌, ◌-◌, ◌^◌, ◌<◌, ◌≤◌, ◌∷◌, ◌+ℤ◌}
 use Rattle.tsp_format.specs.Steps as listed
-use Rattle.tsp_theory.specs.Bounds.{ArePotentials, entry}
 use Rattle.tsp_cases.specs.Cases.{LeafNumbers, CaseStep, Branch, Leaf, is_same, DecideOnce, decide, leaves_of, cases_of}
 use Rattle.tsp_cases.specs.Families.{sum_with}
 use Rattle.tsp_cases.specs.declared.family.Crossings.{Crossings}
@@ -18,7 +16,7 @@ most_crossed = 900000000000000000
 -- a potential for each node, none too large; a multiplier for each family, none negative; and that sum isn't too large
 pub record AreGoodNumbers (n : ℕ) (crossed : List Crossings) (numbers : LeafNumbers) : Type 0 where
   pub each_node : length numbers.potentials ≡ n
-  pub each_comb : length numbers.multipliers ≡ length crossed
+  pub each_family : length numbers.multipliers ≡ length crossed
   pub potentials_are : ArePotentials numbers.potentials
   pub signs : All (λ multiplier. pos 0 ≤ℤ multiplier) numbers.multipliers
   pub sum : sum_with true crossed numbers.multipliers ≤ℤ pos most_crossed
@@ -55,11 +53,11 @@ steps_from n numbers (listed.Leaf changes ∷ steps) =
 
 -- before the first leaf all numbers are 0
 abbrev pub no_numbers_of : ℕ → ℕ → List ℤ
-no_numbers_of n combs = replicate (n + combs) (pos 0)
+no_numbers_of n family_count = replicate (n + family_count) (pos 0)
 
 -- the steps of a whole tree with all numbers of each leaf
 abbrev pub listed_steps : ℕ → ℕ → List listed.Step → List CaseStep
-listed_steps n combs steps = steps_from n (no_numbers_of n combs) steps
+listed_steps n family_count steps = steps_from n (no_numbers_of n family_count) steps
 
 -- a branch is on two different nodes; a leaf has fewer than 2^32 differences
 abbrev pub IsStepOf : ℕ → listed.Step → Type 0
@@ -74,8 +72,8 @@ IsListedStep n (listed.Leaf changes) = length changes < 2 ^ 32
 -- ---- good leaves; `Good` says which numbers of a leaf are good
 
 -- each index is that of a node or of a family, and the numbers are good
-pub record IsGoodLeafBy (Good : LeafNumbers → Type 0) (n combs : ℕ) (numbers : List ℤ) (changes : List (ℕ × ℤ)) : Type 0 where
-  pub indexes : All (λ change. IsNode (n + combs) change.0) changes
+pub record IsGoodLeafBy (Good : LeafNumbers → Type 0) (n family_count : ℕ) (numbers : List ℤ) (changes : List (ℕ × ℤ)) : Type 0 where
+  pub indexes : All (λ change. IsNode (n + family_count) change.0) changes
   pub numbers_are : Good (split_at n (all_grown changes numbers))
 
 -- the differences of each leaf
@@ -91,20 +89,20 @@ after_leaves (changes ∷ leaves) numbers = after_leaves leaves (all_grown chang
 
 -- the leaf at a place, counted from 1, is good: its differences are added to the numbers after the leaves before it
 abbrev pub IsGoodAtBy : (LeafNumbers → Type 0) → ℕ → ℕ → List (List (ℕ × ℤ)) → ℕ → Type 0
-IsGoodAtBy Good n combs leaves place = IsGoodLeafBy Good n combs
-    (after_leaves (take (place - 1) leaves) (no_numbers_of n combs)) (slice_index_or leaves (place - 1) [])
+IsGoodAtBy Good n family_count leaves place = IsGoodLeafBy Good n family_count
+    (after_leaves (take (place - 1) leaves) (no_numbers_of n family_count)) (slice_index_or leaves (place - 1) [])
 
 -- all leaves are good
 abbrev pub AreGoodLeavesBy : (LeafNumbers → Type 0) → ℕ → ℕ → List listed.Step → Type 0
-AreGoodLeavesBy Good n combs steps = (place : ℕ) → 1 ≤ place → place ≤ length (leaf_changes steps)
-    → IsGoodAtBy Good n combs (leaf_changes steps) place
+AreGoodLeavesBy Good n family_count steps = (place : ℕ) → 1 ≤ place → place ≤ length (leaf_changes steps)
+    → IsGoodAtBy Good n family_count (leaf_changes steps) place
 
 -- the first leaf that isn't good, counted from 1
-pub record IsFirstBadLeafBy (Good : LeafNumbers → Type 0) (n combs : ℕ) (steps : List listed.Step) (leaf : ℕ) : Type 0 where
+pub record IsFirstBadLeafBy (Good : LeafNumbers → Type 0) (n family_count : ℕ) (steps : List listed.Step) (leaf : ℕ) : Type 0 where
   pub least : 1 ≤ leaf
   pub most : leaf ≤ length (leaf_changes steps)
-  pub bad : IsGoodAtBy Good n combs (leaf_changes steps) leaf → ⊥
-  pub before : (earlier : ℕ) → 1 ≤ earlier → earlier < leaf → IsGoodAtBy Good n combs (leaf_changes steps) earlier
+  pub bad : IsGoodAtBy Good n family_count (leaf_changes steps) leaf → ⊥
+  pub before : (earlier : ℕ) → 1 ≤ earlier → earlier < leaf → IsGoodAtBy Good n family_count (leaf_changes steps) earlier
 
 -- ---- the same for cycles, where AreGoodNumbers says which numbers are good
 
@@ -152,7 +150,7 @@ pub record IsFirstTwice (directed : Bool) (given : List Decision) (steps : List 
 -- the first branch that does.
 abbrev pub AreBranchesJudged : Bool → List Decision → List listed.Step → Option ℕ → Type 0
 AreBranchesJudged directed given steps None = ((first : ℕ) → IsFirstTwice directed given steps first → ⊥)
-    × ((n combs : ℕ) → All (DecideOnce directed) (cases_of (leaves_of (given ∷ []) (listed_steps n combs steps))))
+    × ((n family_count : ℕ) → All (DecideOnce directed) (cases_of (leaves_of (given ∷ []) (listed_steps n family_count steps))))
 AreBranchesJudged directed given steps (Some first) = IsFirstTwice directed given steps first
 
 -- ---- the first bad branch of a tree: one whose first number is out of range

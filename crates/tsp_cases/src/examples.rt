@@ -145,7 +145,7 @@ pub fn examples_of_good_numbers()
     ensures larger_of_five { ¬ AreGoodNumbers 3 (crossed_by 5 ∷ crossed_by 2 ∷ [])
         (multiplied_by (pos (18 * 10 ^ 16 - 2)) (pos 6)) }
     ensures below_zero { ¬ AreGoodNumbers 3 two_combs (multiplied_by (pos 5) (negsuc 0)) }
-    ensures fewer_combs { ¬ AreGoodNumbers 3 (known_three ∷ []) (multiplied_by (pos 5) (pos 1)) }
+    ensures fewer_families { ¬ AreGoodNumbers 3 (known_three ∷ []) (multiplied_by (pos 5) (pos 1)) }
     ensures largest_potential { AreGoodNumbers 3 [] (moved_at_three (pos (10 ^ 15))) }
     ensures larger_potential { ¬ AreGoodNumbers 3 [] (moved_at_three (pos (10 ^ 15 + 1))) }
     ensures lowest_potential { AreGoodNumbers 3 [] (moved_at_three (negsuc (10 ^ 15 - 1))) }

@@ -1,5 +1,4 @@
 //! The families of a certificate, all of them good, with the crossings of each.
-//! `src/good_families.rt` makes one, and all leaves share it (`src/kept.rt`).
 
 ghost use Rattle.std.specs.Prelude.{◌≡◌, ◌≤◌, ◌<◌, ◌-◌, ◌^◌, length};
 ghost use Rattle.std.specs.List.{All};
@@ -32,9 +31,8 @@ pub struct Families<'a> {
 }
 
 impl Families<'_> {
-    ghost use Rattle.std.specs.Prelude.{◌≡◌, [], slice_index_or};
-    ghost use Rattle.std.specs.List.{All};
-    ghost use Rattle.tsp_format.specs.Nodes.{IsNode};
+    ghost use Rattle.tsp_cases.specs.Prelude.{[], slice_index_or, All, IsNode};
+    ghost use Rattle.std.specs.Prelude.{◌≡◌};
     ghost use Rattle.tsp_cases.specs.states.Sets.{IsPlaceIn};
     ghost use Rattle.tsp_cases.specs.states.Sets.{lent_in};
 

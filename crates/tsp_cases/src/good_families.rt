@@ -1,9 +1,8 @@
 //! Judges the families of a certificate for tours: the first that is bad, or how often cycles cross
 //! each.
 
-ghost use Rattle.std.specs.List.{All, Any};
-ghost use Rattle.std.specs.Prelude.{◌≡◌, ◌≤◌, ◌<◌, ◌-◌, ◌+◌, ◌^◌, ◌↔◌, ℕ, IsTrue, [], length, true, IfOk, IfSome, Bool, false};
-ghost use Rattle.tsp_format.specs.Nodes.{IsNode};
+ghost use Rattle.tsp_cases.specs.Prelude.{All, Any, ℕ, IsTrue, [], length, true, IfOk, IfSome, Bool, false, IsNode};
+ghost use Rattle.std.specs.Prelude.{◌≡◌, ◌≤◌, ◌<◌, ◌-◌, ◌+◌, ◌^◌, ◌↔◌};
 ghost use Rattle.tsp_cases.specs.Families.{IsTooth, comb_of, IsLoneSet, least_crossings_of, IsGoodComb, IsToothCount, HasEachOnce};
 ghost use Rattle.tsp_cases.specs.Crossings.{has, AreSetsOf, lists_of};
 ghost use Rattle.tsp_cases.specs.JudgedSets.{AreFamiliesJudged};

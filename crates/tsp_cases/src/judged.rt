@@ -1,8 +1,14 @@
-//! The judgements on families, cases and leaves, as enums. `src/good_families.rt`, `src/tree.rt`
-//! and `src/pass.rt` return them to tsp_branch and tsp_routing.
+//! The judgements on families, cases and leaves, as enums, and a tree of cases that was judged good.
 
-use crate::checked_tree::CheckedTree;
+ghost use Rattle.tsp_cases.specs.Prelude.{All, ℕ, [], true, length, are_whole, steps_of, IsScale};
+ghost use Rattle.std.specs.Prelude.{◌≡◌, ◌<◌, ◌-◌, ◌^◌, ◌∷◌};
+ghost use Rattle.tsp_cases.specs.Cases.{DecideOnce, cases_of, leaves_of};
+ghost use Rattle.tsp_cases.specs.ListedCases.{IsStepOf, listed_steps};
+ghost use Rattle.tsp_cases.specs.states.OpenCases.{IsDecision};
+
 use crate::families::Families;
+use crate::open_case::Decision;
+use tsp_format::TreeStep;
 
 /// The judgement on the families of a certificate: all of them, or the first bad one.
 #[derive(Drop)]
@@ -42,4 +48,28 @@ pub enum JudgedLeaf {
     Found(Option<i128>),
     /// It has a number that isn't good.
     Bad,
+}
+
+// ---- the steps of a tree of cases in which no case decides a pair twice, with its scale
+
+/// Cases over given decisions: one whole tree of branches on pairs of nodes, in which no case
+/// decides a pair twice, and a scale for the numbers of its leaves.
+///
+/// [`judge_cases`](crate::judge_cases) makes such a value.
+#[derive(Drop)]
+pub struct CheckedTree<'a> {
+    pub nodes: u32,
+    pub directed: bool,
+    pub scale: i64,
+    pub given: &'a [Decision],
+    pub steps: &'a [TreeStep],
+    pub ghost few_nodes: { nodes < 2 ^ 32 - 1 },
+    pub ghost scaled: { IsScale scale },
+    pub ghost few_given: { length given.now < 2 ^ 32 },
+    pub ghost few_steps: { length steps.now < 2 ^ 32 },
+    pub ghost given_are: { All (IsDecision nodes) given.now },
+    pub ghost steps_are: { ∥ All (IsStepOf nodes) (steps_of steps.now) ∥₁ },
+    pub ghost whole: { are_whole 1 (steps_of steps.now) ≡ true },
+    pub ghost once: { (n family_count : ℕ) → All (DecideOnce directed)
+        (cases_of (leaves_of (given.now ∷ []) (listed_steps n family_count (steps_of steps.now)))) },
 }

@@ -1,21 +1,15 @@
 //! Rows of weights of all nodes that are kept from leaf to leaf: a leaf changes them by its
 //! multipliers and decisions alone.
 
-ghost use Rattle.std.specs.Global.{Vec};
-ghost use Rattle.std.specs.Int.{w64, int_wrap};
-ghost use Rattle.std.specs.List.{All};
-ghost use Rattle.std.specs.Prelude.{◌≡◌, ◌≤◌, ◌<◌, ◌+◌, ◌-◌, ◌≢◌, ℕ, ℤ, length, slice_index_or, IfOk, neg_ℤ, ◌+ℤ◌, ◌*ℤ◌, false};
-ghost use Rattle.tsp_format.specs.Nodes.{IsNode};
-ghost use Rattle.tsp_format.specs.Steps.{IsFromTo};
-ghost use Rattle.tsp_format.specs.Words.{IsSymmetric};
-ghost use Rattle.tsp_theory.specs.states.Nearest.{least_at};
+ghost use Rattle.tsp_cases.specs.Prelude.{Vec, w64, int_wrap, All, ℕ, ℤ, length, slice_index_or, IfOk, neg_ℤ, false, IsNode, IsFromTo, IsSymmetric, least_at};
+ghost use Rattle.std.specs.Prelude.{◌≡◌, ◌≤◌, ◌<◌, ◌+◌, ◌-◌, ◌≢◌, ◌+ℤ◌, ◌*ℤ◌};
 ghost use Rattle.tsp_cases.specs.Cases.{decided_number};
 ghost use Rattle.tsp_cases.specs.states.Sets.{AreSmallDifferences, lent_in, IsPlaceIn, IsSetTable};
 ghost use Rattle.tsp_cases.specs.states.OpenCases.{signed};
 ghost use Rattle.tsp_cases.specs.states.Kept.{IsKeptRow, AreRows, AreRowsIfAny, AreAdded, IsAddedAt, AreDifferences};
 
-use crate::checked_tree::CheckedTree;
 use crate::families::Families;
+use crate::judged::CheckedTree;
 use crate::multipliers::{MultipliedFamilies, Multipliers};
 use crate::open_case::{DECIDED, Decision};
 use crate::sets::{SetPlace, add_to_row, scale_row, take_multipliers};
@@ -67,9 +61,9 @@ impl KeptRows {
             context.now.cases.now.scale (lent_in context.now.families.now) (C.at context.now.costs.now)
             (marks_in context.now.cases.now.directed context.now.cases.now.given.now)) }
     {
-        let combs = context.families.crossed.len();
-        let multipliers = filled(alloc, 0, combs)?;
-        let differences = filled(alloc, 0, combs)?;
+        let family_count = context.families.crossed.len();
+        let multipliers = filled(alloc, 0, family_count)?;
+        let differences = filled(alloc, 0, family_count)?;
         let ends = filled(alloc, 0, context.costs.count() as usize + 1)?;
         let mut kept = KeptRows {
             rows: rows_if_any(alloc, context, are_kept),
@@ -83,13 +77,13 @@ impl KeptRows {
 
     /// Marks the decisions that are given for all cases.
     fn mark_given(&mut self, cases: &CheckedTree)
-        requires { (n : ℕ) × (combs : ℕ) × (scale : ℤ) × (families : List (List (List ℕ))) × (cost : ℕ → ℕ → ℤ)
-            × HoldsRows n combs scale families cost (marks_in cases.now.directed []) self.old
+        requires { (n : ℕ) × (family_count : ℕ) × (scale : ℤ) × (families : List (List (List ℕ))) × (cost : ℕ → ℕ → ℤ)
+            × HoldsRows n family_count scale families cost (marks_in cases.now.directed []) self.old
             × All (IsDecision n) cases.now.given.now }
-        ensures { (n combs : ℕ) (scale : ℤ) (families : List (List (List ℕ))) (cost : ℕ → ℕ → ℤ)
-            → HoldsRows n combs scale families cost (marks_in cases.now.directed []) self.old
+        ensures { (n family_count : ℕ) (scale : ℤ) (families : List (List (List ℕ))) (cost : ℕ → ℕ → ℤ)
+            → HoldsRows n family_count scale families cost (marks_in cases.now.directed []) self.old
             → All (IsDecision n) cases.now.given.now
-            → HoldsRows n combs scale families cost (marks_in cases.now.directed cases.now.given.now) self.new }
+            → HoldsRows n family_count scale families cost (marks_in cases.now.directed cases.now.given.now) self.new }
     {
         let mut left = cases.given.len();
         'given: while left > 0 {
@@ -100,12 +94,12 @@ impl KeptRows {
 
     /// Marks a decision, where pairs have no direction: adds its number between both nodes.
     pub fn mark(&mut self, directed: bool, decision: Decision)
-        requires { (n : ℕ) × (combs : ℕ) × (scale : ℤ) × (families : List (List (List ℕ))) × (cost : ℕ → ℕ → ℤ)
-            × (case : List Decision) × HoldsRows n combs scale families cost (marks_in directed case) self.old
+        requires { (n : ℕ) × (family_count : ℕ) × (scale : ℤ) × (families : List (List (List ℕ))) × (cost : ℕ → ℕ → ℤ)
+            × (case : List Decision) × HoldsRows n family_count scale families cost (marks_in directed case) self.old
             × IsDecision n decision }
-        ensures { (n combs : ℕ) (scale : ℤ) (families : List (List (List ℕ))) (cost : ℕ → ℕ → ℤ) (case : List Decision)
-            → HoldsRows n combs scale families cost (marks_in directed case) self.old → IsDecision n decision
-            → HoldsRows n combs scale families cost (marks_in directed (decision ∷ case)) self.new }
+        ensures { (n family_count : ℕ) (scale : ℤ) (families : List (List (List ℕ))) (cost : ℕ → ℕ → ℤ) (case : List Decision)
+            → HoldsRows n family_count scale families cost (marks_in directed case) self.old → IsDecision n decision
+            → HoldsRows n family_count scale families cost (marks_in directed (decision ∷ case)) self.new }
     {
         if directed {
             return;
@@ -115,12 +109,12 @@ impl KeptRows {
 
     /// Takes the mark of a decision back.
     fn unmark(&mut self, decision: Decision)
-        requires { (n : ℕ) × (combs : ℕ) × (scale : ℤ) × (families : List (List (List ℕ))) × (cost : ℕ → ℕ → ℤ)
-            × (case : List Decision) × HoldsRows n combs scale families cost (marks_in false (decision ∷ case)) self.old
+        requires { (n : ℕ) × (family_count : ℕ) × (scale : ℤ) × (families : List (List (List ℕ))) × (cost : ℕ → ℕ → ℤ)
+            × (case : List Decision) × HoldsRows n family_count scale families cost (marks_in false (decision ∷ case)) self.old
             × IsDecision n decision }
-        ensures { (n combs : ℕ) (scale : ℤ) (families : List (List (List ℕ))) (cost : ℕ → ℕ → ℤ) (case : List Decision)
-            → HoldsRows n combs scale families cost (marks_in false (decision ∷ case)) self.old → IsDecision n decision
-            → HoldsRows n combs scale families cost (marks_in false case) self.new }
+        ensures { (n family_count : ℕ) (scale : ℤ) (families : List (List (List ℕ))) (cost : ℕ → ℕ → ℤ) (case : List Decision)
+            → HoldsRows n family_count scale families cost (marks_in false (decision ∷ case)) self.old → IsDecision n decision
+            → HoldsRows n family_count scale families cost (marks_in false case) self.new }
     {
         self.add_between(decision.pair, -number_of(decision));
     }
@@ -128,15 +122,15 @@ impl KeptRows {
     /// Leaves a leaf for the next open case, as the stack of decisions does: the marks after the
     /// last taken pair are taken back, and that pair is marked as avoided.
     pub fn leave(&mut self, directed: bool, stack: &[Decision])
-        requires { (n : ℕ) × (combs : ℕ) × (scale : ℤ) × (families : List (List (List ℕ))) × (cost : ℕ → ℕ → ℤ)
+        requires { (n : ℕ) × (family_count : ℕ) × (scale : ℤ) × (families : List (List (List ℕ))) × (cost : ℕ → ℕ → ℤ)
             × (given : List Decision)
-            × HoldsRows n combs scale families cost (marks_in directed (stack_of stack.now ++ given)) self.old
+            × HoldsRows n family_count scale families cost (marks_in directed (stack_of stack.now ++ given)) self.old
             × All (IsDecision n) (stack_of stack.now ++ given) }
-        ensures { (n combs : ℕ) (scale : ℤ) (families : List (List (List ℕ))) (cost : ℕ → ℕ → ℤ) (given : List Decision)
+        ensures { (n family_count : ℕ) (scale : ℤ) (families : List (List (List ℕ))) (cost : ℕ → ℕ → ℤ) (given : List Decision)
             (is_open : Bool) (next : List Decision)
-            → HoldsRows n combs scale families cost (marks_in directed (stack_of stack.now ++ given)) self.old
+            → HoldsRows n family_count scale families cost (marks_in directed (stack_of stack.now ++ given)) self.old
             → All (IsDecision n) (stack_of stack.now ++ given) → IsNextStack stack.now is_open next
-            → HoldsRows n combs scale families cost (marks_in directed (stack_of next ++ given)) self.new }
+            → HoldsRows n family_count scale families cost (marks_in directed (stack_of next ++ given)) self.new }
     {
         if directed {
             return;
@@ -159,11 +153,11 @@ impl KeptRows {
 
     /// Adds a number to the rows of two nodes, in each at the place of the other node.
     fn add_between(&mut self, pair: (u32, u32), number: i64)
-        requires { (n : ℕ) × (combs : ℕ) × (scale : ℤ) × (families : List (List (List ℕ))) × (cost : ℕ → ℕ → ℤ)
-            × (marks : ℕ → ℕ → ℤ) × HoldsRows n combs scale families cost marks self.old × AreTwoNodes n pair }
-        ensures { (n combs : ℕ) (scale : ℤ) (families : List (List (List ℕ))) (cost marks : ℕ → ℕ → ℤ)
-            → HoldsRows n combs scale families cost marks self.old → AreTwoNodes n pair
-            → HoldsRows n combs scale families cost (λ i x. added_between pair number i x +ℤ marks i x) self.new }
+        requires { (n : ℕ) × (family_count : ℕ) × (scale : ℤ) × (families : List (List (List ℕ))) × (cost : ℕ → ℕ → ℤ)
+            × (marks : ℕ → ℕ → ℤ) × HoldsRows n family_count scale families cost marks self.old × AreTwoNodes n pair }
+        ensures { (n family_count : ℕ) (scale : ℤ) (families : List (List (List ℕ))) (cost marks : ℕ → ℕ → ℤ)
+            → HoldsRows n family_count scale families cost marks self.old → AreTwoNodes n pair
+            → HoldsRows n family_count scale families cost (λ i x. added_between pair number i x +ℤ marks i x) self.new }
     {
         if self.rows.is_empty() {
             return;
@@ -328,7 +322,7 @@ impl Scratch {
     ghost use Rattle.tsp_cases.specs.states.Kept.{HoldsRows};
     ghost use Rattle.tsp_cases.specs.states.Kept.{IsScratch};
 
-    /// Memory for the leaves of a setting. Rows are in it if they are to be kept, and there aren't
+    /// Memory for the leaves of a context. Rows are in it if they are to be kept, and there aren't
     /// too many nodes.
     ///
     /// # Errors
@@ -346,10 +340,10 @@ impl Scratch {
             (marks_in context.now.cases.now.directed context.now.cases.now.given.now) room.kept) }
     {
         let nodes = context.costs.count() as usize;
-        let combs = context.families.crossed.len();
+        let family_count = context.families.crossed.len();
         Ok(Scratch {
             potentials: filled(alloc, 0, nodes)?,
-            multipliers: filled(alloc, 0, combs)?,
+            multipliers: filled(alloc, 0, family_count)?,
             row: filled(alloc, 0, nodes + 1)?,
             moved: filled(alloc, 0, nodes + 1)?,
             kept: KeptRows::new(alloc, context, are_kept)?,

@@ -12,7 +12,6 @@
 //! ```
 #![tactic(auto)]
 
-mod checked_tree;
 mod examples;
 mod families;
 mod family;
@@ -26,7 +25,6 @@ mod pass;
 mod sets;
 mod tree;
 
-pub use checked_tree::CheckedTree;
 pub use examples::{
     examples_of_arcs, examples_of_bad_branches, examples_of_bounds, examples_of_cases,
     examples_of_crossings, examples_of_differences, examples_of_families, examples_of_good_numbers,
@@ -36,7 +34,7 @@ pub use examples::{
 pub use families::Families;
 pub use family::{CostSquare, Crossings, NodeSets, family_crossings, least_cycle, parts_of};
 pub use good_families::{judge_families, mark_nodes};
-pub use judged::{JudgedCases, JudgedFamilies, JudgedLeaf, JudgedLeaves};
+pub use judged::{CheckedTree, JudgedCases, JudgedFamilies, JudgedLeaf, JudgedLeaves};
 pub use kept::{KeptRows, LeafContext, Scratch};
 pub use laws::{
     case_tree_bounds_are_unique, case_trees_bound_cycles, cases_bound_cycles, cases_have_no_cycle,

@@ -1,4 +1,4 @@
-//! The multipliers of the families at a leaf, none of them negative.
+//! The families at a leaf, each with its multiplier, and families with a number for each.
 
 ghost use Rattle.std.specs.Prelude.{◌≡◌, length};
 ghost use Rattle.tsp_cases.specs.states.Sets.{AreSmallMultipliers, AreSmallDifferences};

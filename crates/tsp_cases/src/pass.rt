@@ -1,10 +1,7 @@
 //! One pass over the steps of a tree of cases, which has each leaf judged by a `LeafJudge`.
 
-ghost use Rattle.std.specs.List.{All};
-ghost use Rattle.std.specs.Prelude.{◌≡◌, ◌+◌, ◌<◌, ◌^◌, [], ◌∷◌, length, IfOk, ◌++◌, ℕ, ℤ, Bool, List, Option, true, ◌↔◌, IsTrue, pos, neg_ℤ, take, drop};
-ghost use Rattle.tsp_format.specs.Nodes.{IsNode};
-ghost use Rattle.tsp_format.specs.Steps.{are_whole, IsFromTo};
-ghost use Rattle.tsp_format.specs.states.TreeSteps.{steps_of};
+ghost use Rattle.tsp_cases.specs.Prelude.{All, [], length, IfOk, ℕ, ℤ, Bool, List, Option, true, IsTrue, pos, neg_ℤ, take, drop, IsNode, are_whole, IsFromTo, steps_of};
+ghost use Rattle.std.specs.Prelude.{◌≡◌, ◌+◌, ◌<◌, ◌^◌, ◌∷◌, ◌++◌, ◌↔◌};
 ghost use Rattle.tsp_cases.specs.Cases.{cases_of, leaves_of, LeafNumbers};
 ghost use Rattle.tsp_cases.specs.Families.{most_or_least, sum_with};
 ghost use Rattle.tsp_cases.specs.ListedCases.{AreGoodNumbers, as_leaf_numbers, listed_steps, IsStepOf, all_grown};
@@ -38,11 +35,11 @@ pub fn judge_leaves<J: LeafJudge>(
 ) -> Result<JudgedLeaves, Refused>
     requires places { tree.now.places ≡ J.places judge.now }
     requires direction { tree.now.directed ≡ J.directed judge.now }
-    requires count { count ≡ J.nodes judge.now + J.combs judge.now }
+    requires count { count ≡ J.nodes judge.now + J.family_count judge.now }
     requires memory { J.holds judge.now memory.old tree.now.given.now }
     requires fits { All (J.fits judge.now) (cases_of (leaves_of (tree.now.given.now ∷ [])
-        (listed_steps (J.nodes judge.now) (J.combs judge.now) (steps_of tree.now.steps.now)))) }
-    ensures judged { IfOk result (AreJudgedBy (J.found judge.now) (J.good judge.now) (J.nodes judge.now) (J.combs judge.now)
+        (listed_steps (J.nodes judge.now) (J.family_count judge.now) (steps_of tree.now.steps.now)))) }
+    ensures judged { IfOk result (AreJudgedBy (J.found judge.now) (J.good judge.now) (J.nodes judge.now) (J.family_count judge.now)
         tree.now.given.now (steps_of tree.now.steps.now)) }
     ensures size { IfOk result AreSizedLeaves }
 {
@@ -91,9 +88,9 @@ fn judge_leaf<J: LeafJudge>(
     requires direction { case.now.by_node.directed ≡ J.directed judge.now }
     requires fits { J.fits judge.now (decisions_in case.now) }
     requires few { length (decisions_in case.now) < 2 ^ 33 }
-    requires numbers { length numbers.old ≡ J.nodes judge.now + J.combs judge.now }
+    requires numbers { length numbers.old ≡ J.nodes judge.now + J.family_count judge.now }
     requires memory { J.holds judge.now memory.old (decisions_in case.now) }
-    ensures judged { IfOk result (IsJudgedLeaf (J.found judge.now) (J.good judge.now) (J.nodes judge.now) (J.combs judge.now)
+    ensures judged { IfOk result (IsJudgedLeaf (J.found judge.now) (J.good judge.now) (J.nodes judge.now) (J.family_count judge.now)
         (decisions_in case.now) numbers.old changes.now numbers.new) }
     ensures memory { IfOk result (λ judged. J.holds judge.now memory.new (decisions_in case.now)) }
     ensures numbers { length numbers.new ≡ length numbers.old }
@@ -117,7 +114,7 @@ pub trait LeafJudge {
 
     ghost nodes: { Self → ℕ };
 
-    ghost combs: { Self → ℕ };
+    ghost family_count: { Self → ℕ };
 
     // Decisions are on pairs of 1 to this number.
     ghost places: { Self → ℕ };
@@ -168,7 +165,7 @@ pub trait LeafJudge {
         requires direction { case.now.by_node.directed ≡ directed self.now }
         requires fits { fits self.now (decisions_in case.now) }
         requires few { length (decisions_in case.now) < 2 ^ 33 }
-        requires numbers { length numbers.now ≡ nodes self.now + combs self.now }
+        requires numbers { length numbers.now ≡ nodes self.now + family_count self.now }
         requires memory { holds self.now memory.old (decisions_in case.now) }
         ensures found { IfOk result (IsFoundOfCase (found self.now) (good self.now) (nodes self.now)
             (decisions_in case.now) numbers.now) }
@@ -272,11 +269,11 @@ pub fn judge_numbers(
     ensures potentials_len { length potentials.new ≡ length potentials.old }
     ensures multipliers_len { length multipliers.new ≡ length multipliers.old }
 {
-    let (of_nodes, of_combs) = numbers.split_at(potentials.len());
+    let (of_nodes, of_families) = numbers.split_at(potentials.len());
     if !copy_within(of_nodes, -MOST_POTENTIAL, MOST_POTENTIAL, potentials) {
         return false;
     }
-    if !copy_within(of_combs, 0, MOST_CROSSED, multipliers) {
+    if !copy_within(of_families, 0, MOST_CROSSED, multipliers) {
         return false;
     }
     let copied = Multipliers {

@@ -1,15 +1,9 @@
-//! The places of the sets of each node (for `src/verdict.rt` of tsp_branch and `src/verdict.rt` of
-//! tsp_routing), and a number added at the nodes of a set (for `src/sets.rt`).
+//! The sets of a certificate by node: the places of the sets that have a node, what they add to its
+//! row, and its potential less their multipliers.
 
-ghost use Rattle.std.specs.Int.{w64, int_wrap};
-ghost use Rattle.std.specs.List.{All};
-ghost use Rattle.std.specs.Prelude.{◌<◌, ◌-◌, ◌^◌, ℕ, [], length, IfOk, ◌≡◌, ◌+◌, ◌+ℤ◌, ◌≤◌, pos, neg_ℤ, ◌*ℤ◌};
+ghost use Rattle.tsp_cases.specs.Prelude.{w64, int_wrap, All, ℕ, [], length, IfOk, pos, neg_ℤ, IsNode, IsFromTo, IsScale, entry, sum_int_by, least_at, IsMoved};
+ghost use Rattle.std.specs.Prelude.{◌<◌, ◌-◌, ◌^◌, ◌≡◌, ◌+◌, ◌+ℤ◌, ◌≤◌, ◌*ℤ◌};
 ghost use Rattle.tsp_format.specs.Limits.{most_weight};
-ghost use Rattle.tsp_format.specs.Nodes.{IsNode};
-ghost use Rattle.tsp_format.specs.Steps.{IsFromTo};
-ghost use Rattle.tsp_theory.specs.Bounds.{IsScale, entry};
-ghost use Rattle.tsp_theory.specs.Tour.{sum_int_by};
-ghost use Rattle.tsp_theory.specs.states.Nearest.{least_at, IsMoved};
 ghost use Rattle.tsp_cases.specs.Crossings.{lists_of};
 ghost use Rattle.tsp_cases.specs.states.Sets.{inside_both, multipliers_at, lent_in, IsPlaceIn, added, times, places_in, AreLengthened, IsSetTable};
 

@@ -1,20 +1,15 @@
 //! Judges the branches of a tree of cases, before any leaf: the first bad one, else the first on a
 //! pair that is decided already.
 
-ghost use Rattle.std.specs.List.{All};
-ghost use Rattle.std.specs.Prelude.{IfOk, ◌≡◌, ◌≤◌, ◌<◌, ◌^◌, true, false, length};
-ghost use Rattle.tsp_format.specs.Steps.{are_whole};
-ghost use Rattle.tsp_format.specs.states.TreeSteps.{steps_of};
-ghost use Rattle.tsp_theory.specs.Bounds.{IsScale};
-ghost use Rattle.tsp_format.specs.Words.{IsSymmetric};
+ghost use Rattle.tsp_cases.specs.Prelude.{All, IfOk, true, false, length, are_whole, steps_of, IsScale, IsSymmetric};
+ghost use Rattle.std.specs.Prelude.{◌≡◌, ◌≤◌, ◌<◌, ◌^◌};
 ghost use Rattle.tsp_cases.specs.ListedCases.{AreBranchesWithin, IsStepOf, IsListedStep, AreBranchesJudged};
 ghost use Rattle.tsp_cases.specs.Cases.{DecideOnce};
 ghost use Rattle.tsp_cases.specs.Crossings.{AreFamiliesOf};
 ghost use Rattle.tsp_cases.specs.JudgedTrees.{AreCasesJudged};
 ghost use Rattle.tsp_cases.specs.states.OpenCases.{IsDecision};
 
-use crate::checked_tree::CheckedTree;
-use crate::judged::JudgedCases;
+use crate::judged::{CheckedTree, JudgedCases};
 use crate::open_case::{Decision, OpenCase};
 use std::alloc::Global;
 use tsp_format::TreeStep;

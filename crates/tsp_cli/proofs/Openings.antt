@@ -1,7 +1,5 @@
 -- Files that are opened for a task, and explanations of single solutions.
-use Rattle.std.proofs.Common.{Option, None, Some, ℕ, zero, suc, Bool, true, false, List, [], ◌++◌, refl, sym, subst, ◌∙◌}
-use Rattle.std.proofs.KnownBytes.{Appends-nil, Appends-trans}
-use Rattle.std.specs.Prelude.{Result, Ok, Err}
+use Rattle.tsp_cli.proofs.Prelude.{Option, None, Some, ℕ, zero, suc, Bool, true, false, List, [], ◌++◌, refl, sym, subst, ◌∙◌, Appends-nil, Appends-trans, Result, Ok, Err}
 use Rattle.tsp_report.specs.Tasks.{IsMapped, IsMappedCertificate, IsMappedComparison}
 use Rattle.tsp_report.specs.declared.task.CertificateKind.{CertificateKind}
 use Rattle.tsp_report.specs.declared.task.Comparison.{Comparison}

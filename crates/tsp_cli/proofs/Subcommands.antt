@@ -1,12 +1,11 @@
 -- Which values the words of each command give, which words are refused, and that one line has one meaning.
-use Rattle.std.proofs.Common.{◌≡◌, false, IfOk, Result, Ok, Err, ◌⊎◌, ◌∙◌, inl, inr, List, sym, subst, ap₂, unwrap_or, Bool, true, [], ◌∷◌, Option, Some, None, refl, ap, codes, fold, is_some, option_map, ℕ, suc, zero, ◌<◌, ◌/◌, ◌%◌, ◌==◌, ◌++◌, rules, arith}
+use Rattle.tsp_cli.proofs.Prelude.{◌≡◌, false, IfOk, Result, Ok, Err, ◌⊎◌, ◌∙◌, inl, inr, List, sym, subst, ap₂, unwrap_or, Bool, true, [], ◌∷◌, Option, Some, None, refl, ap, codes, fold, is_some, option_map, ℕ, suc, zero, ◌<◌, ◌/◌, ◌%◌, ◌==◌, ◌++◌, rules, arith, Box, ◌&&◌, not, decimal, if◌then◌else◌, walk_stopped, subcommand_of, Row, App, HasKind, IsAmong, Text, fault_of, kind_of}
 use Rattle.std.proofs.Math.Nat.{mod-lt}
 use Rattle.std.proofs.lemmas.Bool.{true≢false}
 use Rattle.std.proofs.lemmas.List.Folds.{list_all-append}
 use Rattle.std.proofs.lemmas.Slice.Eq.{bytes_eq-Decides}
 use Rattle.std.specs.Box.{box_value}
 use Rattle.std.specs.Fmt.{digits, digits_onto, digit_glyph}
-use Rattle.std.specs.Prelude.{Box, ◌&&◌, not, decimal, if◌then◌else◌}
 use Rattle.std.specs.Str.{bytes_eq}
 use Rattle.tsp_number.specs.NumberWord.{number_fault_text}
 use Rattle.tsp_number.specs.declared.word.NumberFault.{NumberFault}
@@ -31,13 +30,11 @@ use Rattle.tsp_judge.specs.declared.WriteFault.{WriteFault}
 use Rattle.tsp_judge.specs.declared.WriteFault.TheVariants as writes
 use Rattle.tsp_judge.specs.declared.run_status.RunFault.{RunFault}
 use Rattle.tsp_judge.specs.declared.run_status.RunFault.TheVariants as runs
-use Rattle.clap.proofs.WalkLemmas.{walk_stopped}
 use Rattle.clap.specs.Faults.{walk_fault, turn_fault, word_fault, other_fault}
 use Rattle.clap.specs.Kinds.{Kinds, or_else}
 use Rattle.clap.specs.Lexer.{long_of, short_of}
-use Rattle.clap.specs.Simple.{Shape, built, entered, names_of, subcommand_of, subcommand_rows}
-use Rattle.clap.specs.Walk.{Rule, Row, Names, Held, Walk, Waiting, Outcome, idle, option, positional, done, waits, plain, refused, after_step, after_flag, arg_by_index, arg_by_long, bundle, long_met, long_or_other, nothing_held, plain_word, short_or_plain, stop_after, subcommand_met, subcommand_or_other, to_positional, walk_from, walked, word_met}
-use Rattle.clap.specs.Words.{App, HasKind, IsAmong, Text, fault_of, kind_of}
+use Rattle.clap.specs.Simple.{Shape, built, entered, names_of, subcommand_rows}
+use Rattle.clap.specs.Walk.{Rule, Names, Held, Walk, Waiting, Outcome, idle, option, positional, done, waits, plain, refused, after_step, after_flag, arg_by_index, arg_by_long, bundle, long_met, long_or_other, nothing_held, plain_word, short_or_plain, stop_after, subcommand_met, subcommand_or_other, to_positional, walk_from, walked, word_met}
 use Rattle.clap.specs.declared.builder.command.Command.{Command}
 use Rattle.clap.specs.declared.error.Error.{Error}
 use Rattle.clap.specs.declared.error.kind.ErrorKind.TheVariants.{DisplayHelp, InvalidSubcommand}
@@ -281,7 +278,7 @@ of_field fields.NodePotentialPart = one _ refl
 of_field fields.RowPotentialPart = one _ refl
 of_field fields.ColumnPotentialPart = one _ refl
 of_field fields.FixedEdgePotentialPart = one _ refl
-of_field fields.CombPart = one _ refl
+of_field fields.FamilyPart = one _ refl
 of_field fields.BranchPart = one _ refl
 
 of_number : (fault : NumberFault) → is_one (number_fault_text fault)

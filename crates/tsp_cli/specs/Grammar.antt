@@ -16,7 +16,7 @@ use Rattle.tsp_cli.specs.declared.job.JobFault.TheVariants.{Refused, OutOfMemory
 use Rattle.tsp_cli.specs.declared.job.Verb.{Verb}
 use Rattle.tsp_cli.specs.declared.job.Verb.TheVariants.{Show, Convert, Check, Compare, Bound}
 
--- ---- the commands, arguments and options of the program `tsp`, in the words of clap's
+-- ---- the commands, arguments and options of the program `tsp`
 
 -- a path that has to be there, given as a word alone
 abbrev pub path : Text → Rule
@@ -112,7 +112,7 @@ has_globals command = (out-Command command).has_globals
 abbrev pub IsCommandOf : App → Command → Type 0
 IsCommandOf app command = (app_of command ≡ app) × (has_globals command ≡ false)
 
--- ---- which verb and which values the words of a command line give, or with what fault they
+-- ---- which verb and which values the words of a command line give, or which fault
 
 -- the subcommand of a verb
 abbrev pub word_of : Verb → Text

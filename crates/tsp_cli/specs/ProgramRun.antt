@@ -57,7 +57,7 @@ IsComparedAs {F = F} remaining gives opens comparison sink answer = (old new : C
     × IsCompared remaining gives (IsOpenedAt opens (paths_of comparison)) (paths_of comparison) old new sink answer
     × AreComparedOn gives old new
 
--- ---- a run of the program `tsp`, from the words of its command line to its exit status and
+-- ---- a run of the program `tsp`, from the words of its command line to its exit status
 
 -- the same task with readers in place of paths, each of its opened file
 abbrev pub AreFresh : {F : Type 0} → (InputPath → F → Type 0) → FileTask InputPath → FileTask (Watched F) → Type 0

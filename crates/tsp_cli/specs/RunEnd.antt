@@ -113,7 +113,7 @@ TellsAll explained (Compared answer) old new = (first : Option (List ℕ)) × Ma
     × TellsAfter explained (Compared answer) first new
 TellsAll explained run_end old new = TellsAfter explained run_end old new
 
--- ---- the line on standard error for a person at a terminal, from which the program then reads
+-- ---- the line on standard error for a person at a terminal that is read
 
 -- its bytes
 abbrev pub waiting_line : List ℕ

@@ -126,20 +126,27 @@ abbrev pub IsTask : Job → Task InputPath → Type 0
 IsTask job (tasks.Files task) = IsFileTask job task
 IsTask job (tasks.Compare comparison) = IsComparisonOf job comparison
 
--- the verb takes one certificate at most
+-- The verb takes one certificate at most, and no fault applies that is named before those of certificates.
 abbrev pub TakesCertificate : Job → Type 0
-TakesCertificate job = (job.verb ≡ Some verbs.Check) ⊎ ((job.verb ≡ Some verbs.Compare) ⊎ (job.verb ≡ Some verbs.Bound))
+TakesCertificate job = ((job.verb ≡ Some verbs.Check) × (job.file ≢ None) × (job.solution ≢ None)
+    × ((claimed : Option ℤ) × IsClaim job.length claimed))
+    ⊎ (((job.verb ≡ Some verbs.Compare) × (job.file ≢ None) × (job.solutions.items ≢ []))
+    ⊎ ((job.verb ≡ Some verbs.Bound) × (job.file ≢ None)))
 
--- the task, or why there is none; here several of its files may be standard input
+-- The task, or why there is none; here several of its files may be standard input. Where several faults apply, the
+-- first is named: a path that is missing, a word that is no layout, one that is no length, two certificates, none, and a
+-- path with a line end.
 abbrev pub NamesTask : Job → Result (Task InputPath) TaskFault → Type 0
 NamesTask job (Ok task) = IsTask job task
-NamesTask job (Err UnknownLayout) = (job.verb ≡ Some verbs.Convert) × IsNoLayout job.layout
-NamesTask job (Err NotALength) = (job.verb ≡ Some verbs.Check) × IsNoLength job.length
-NamesTask job (Err TwoCertificates) = TakesCertificate job × NamesBoth job
-NamesTask job (Err NoCertificate) = (job.verb ≡ Some verbs.Bound) × NamesNone job
 NamesTask job (Err MissingPath) = (job.verb ≢ None) × ((job.file ≡ None)
     ⊎ ((job.verb ≡ Some verbs.Check) × (job.solution ≡ None)) ⊎ ((job.verb ≡ Some verbs.Compare) × (job.solutions.items ≡ [])))
-NamesTask job (Err LineEndInPath) = (job.verb ≡ Some verbs.Compare) × (any_line_end job.solutions.items ≡ true)
+NamesTask job (Err UnknownLayout) = (job.verb ≡ Some verbs.Convert) × (job.file ≢ None) × IsNoLayout job.layout
+NamesTask job (Err NotALength) = (job.verb ≡ Some verbs.Check) × (job.file ≢ None) × (job.solution ≢ None)
+    × IsNoLength job.length
+NamesTask job (Err TwoCertificates) = TakesCertificate job × NamesBoth job
+NamesTask job (Err NoCertificate) = (job.verb ≡ Some verbs.Bound) × (job.file ≢ None) × NamesNone job
+NamesTask job (Err LineEndInPath) = (job.verb ≡ Some verbs.Compare) × (job.file ≢ None) × (job.solutions.items ≢ [])
+    × (NamesBoth job → ⊥) × (any_line_end job.solutions.items ≡ true)
 NamesTask job (Err InputTwice) = ⊥
 
 -- ---- what one verb asks for; `at` is the file of its instance
@@ -151,8 +158,9 @@ NamesCheck job at (Ok (Check instance solution certificate claimed strict)) = (i
     × (strict ≡ job.strict)
 NamesCheck job at (Ok other) = ⊥
 NamesCheck job at (Err MissingPath) = job.solution ≡ None
-NamesCheck job at (Err NotALength) = IsNoLength job.length
-NamesCheck job at (Err TwoCertificates) = NamesBoth job
+NamesCheck job at (Err NotALength) = (job.solution ≢ None) × IsNoLength job.length
+NamesCheck job at (Err TwoCertificates) = (job.solution ≢ None) × ((claimed : Option ℤ) × IsClaim job.length claimed)
+    × NamesBoth job
 NamesCheck job at (Err other) = ⊥
 
 -- the task of `compare`, or why there is none
@@ -161,8 +169,9 @@ NamesComparison job at (Ok comparison) = (comparison.instance ≡ at) × GivesCe
     × (comparison.solutions.now ≡ job.solutions.items) × (job.solutions.items ≢ []) × (any_line_end job.solutions.items ≡ false)
     × (comparison.strict ≡ job.strict)
 NamesComparison job at (Err MissingPath) = job.solutions.items ≡ []
-NamesComparison job at (Err LineEndInPath) = any_line_end job.solutions.items ≡ true
-NamesComparison job at (Err TwoCertificates) = NamesBoth job
+NamesComparison job at (Err TwoCertificates) = (job.solutions.items ≢ []) × NamesBoth job
+NamesComparison job at (Err LineEndInPath) = (job.solutions.items ≢ []) × (NamesBoth job → ⊥)
+    × (any_line_end job.solutions.items ≡ true)
 NamesComparison job at (Err other) = ⊥
 
 -- the task of `bound`, or why there is none
@@ -207,7 +216,8 @@ abbrev pub inputs_of_task : Task InputPath → ℕ
 inputs_of_task (tasks.Files task) = inputs_of task
 inputs_of_task (tasks.Compare comparison) = inputs_in (files_compared comparison) + inputs_at comparison.solutions.now
 
--- the task, or why there is none; at most one of its files is standard input, since that gives its bytes once
+-- The task, or why there is none, where several faults apply the first; at most one of its files is standard input,
+-- since that gives its bytes once. That two are is named last, of a task without another fault.
 abbrev pub GivesTask : Job → Result (Task InputPath) TaskFault → Type 0
 GivesTask job (Ok task) = IsTask job task × (inputs_of_task task ≤ 1)
 GivesTask job (Err InputTwice) = (task : Task InputPath) × IsTask job task × (2 ≤ inputs_of_task task)

@@ -27,7 +27,7 @@ ghost use Rattle.tsp_cli.specs.Grammar.{word_of, tsp};
 ghost use Rattle.tsp_cli.specs.ProgramRun.{IsOpenedAt, paths_of, AreFresh, begins_with_help};
 ghost use Rattle.tsp_cli.specs.Examples.{IsWholeLine, found_value, all_values};
 ghost use Rattle.tsp_cli.specs.RunEnd.{version_text, status_of_run_end, line_text, ended, IsWritten, MayTell};
-ghost use Rattle.tsp_cli.specs.Tasks.{IsFileTask, IsTask, IsInputPathAt};
+ghost use Rattle.tsp_cli.specs.Tasks.{GivesTask, IsFileTask, IsTask, IsInputPathAt};
 ghost use Rattle.tsp_cli.specs.declared.ends.ErrorLine.TheVariants as error_lines;
 ghost use Rattle.tsp_cli.specs.declared.ends.RunEnd.TheVariants as run_ends;
 ghost use Rattle.tsp_cli.specs.declared.job.InputPath.{InputPath};
@@ -152,6 +152,18 @@ pub fn examples_of_two_certificates()
         → job.verb ≡ Some verbs.Check → ¬ IsFileTask job (file_tasks.Show a) }
     ensures converted { (job : Job) (a : InputPath) (to : Option Layout) → job.verb ≡ Some verbs.Check
         → ¬ IsFileTask job (file_tasks.Convert a to) }
+{}
+
+/// Which of two faults of a command line isn't named: the one that comes later in the order of
+/// docs/format.md.
+pub fn examples_of_second_faults()
+    ensures layout { (job : Job) → job.file ≡ None → ¬ GivesTask job (Err task_faults.UnknownLayout) }
+    ensures length { (job : Job) → job.solution ≡ None → ¬ GivesTask job (Err task_faults.NotALength) }
+    ensures certificates { (job : Job) → job.verb ≡ Some verbs.Compare → job.solutions.items ≡ []
+        → ¬ GivesTask job (Err task_faults.TwoCertificates) }
+    ensures no_certificate { (job : Job) → job.file ≡ None → ¬ GivesTask job (Err task_faults.NoCertificate) }
+    ensures line_end { (job : Job) → job.potentials ≢ None → job.branches ≢ None
+        → ¬ GivesTask job (Err task_faults.LineEndInPath) }
 {}
 
 /// The exit status of each end of a run.

@@ -1,8 +1,5 @@
 -- EUC_2D where both differences are whole numbers of steps, which are 512ths: the sum of squares fits 64 bits.
-use Rattle.std.proofs.Common.{◌≡◌, ℕ, ◌+◌, ◌*◌, ◌-◌, ◌<◌, ◌≤◌, ◌^◌, ℤ, pos, negsuc, ◌*ℤ◌, ◌-ℤ◌, unsigned_abs, FitsSigned, to_z, of_z, w64, sym, ap, ◌∙◌, Option, None, Some, rules, arith}
-use Rattle.std.specs.Prelude.{IfSome}
-use Rattle.std.proofs.lemmas.Int.{to_z-of_z, unsigned_abs-mul}
-use Rattle.tsp_number.specs.declared.decimal.Point.{Point}
+use Rattle.tsp_cost.proofs.Prelude.{◌≡◌, ℕ, ◌+◌, ◌*◌, ◌-◌, ◌<◌, ◌≤◌, ◌^◌, ℤ, pos, negsuc, ◌*ℤ◌, ◌-ℤ◌, unsigned_abs, FitsSigned, to_z, of_z, w64, sym, ap, ◌∙◌, Option, None, Some, rules, arith, IfSome, to_z-of_z, unsigned_abs-mul, Point}
 use Rattle.tsp_number.specs.Decimal.{unit}
 use Rattle.tsp_number.specs.Distances.{squared, dx, dy, square_apart, euc_2d_of, IsEuc2d, IsNearestRoot, IsDistance}
 use Rattle.tsp_cost.specs.states.Metrics.{RoundsTo}

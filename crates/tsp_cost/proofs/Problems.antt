@@ -1,15 +1,12 @@
 -- A valid instance is one problem, whose costs are those that the code looks up.
-use Rattle.std.proofs.Common.{◌≡◌, ◌≢◌, ℕ, true, false, List, [], Option, None, Some, refl, sym, ap, ◌∙◌, length, subst, ◌+◌, ◌-◌, ◌<◌, eqb, ltb-false, Bool, ◌∷◌, map, inl, inr, arith}
+use Rattle.tsp_cost.proofs.Prelude.{◌≡◌, ◌≢◌, ℕ, true, false, List, [], Option, None, Some, refl, sym, ap, ◌∙◌, length, subst, ◌+◌, ◌-◌, ◌<◌, eqb, ltb-false, Bool, ◌∷◌, map, inl, inr, arith, unwrap_or, ℤ, ◌⊎◌, pos, unsigned_abs, is_some, IsSome, slice_index, slice_index_or, nat_lt, nat_le, if◌then◌else◌, Point, IsNode, nodes_to, is_listed, cells, lists, cost_of_listed, cost_of_cell, cost_unlisted, triangle_even, unlisted_has_no_place, laid_at, own_costs, distance, point_of, cost_by, cost, listed_cost, ListsWeights, origin, layout_of, UnlistedHaveNoPlace, Fields, nodes_of, RoutingProblem, demand_of, Problem}
 use Rattle.std.proofs.lemmas.Bool.{false≢true, leb-false}
 use Rattle.std.proofs.lemmas.Bool.Decides.{eqb_tells}
 use Rattle.std.proofs.lemmas.List.{length-map, get_or-map, ext_get_or}
 use Rattle.std.proofs.lemmas.List.FromFn.{length-range_with_len, get_or-range_with_len}
 use Rattle.std.specs.List.{All, range_with_len}
-use Rattle.std.specs.Prelude.{unwrap_or, ℤ, ◌⊎◌, pos, unsigned_abs, is_some, IsSome, slice_index, slice_index_or, nat_lt, nat_le, if◌then◌else◌}
-use Rattle.tsp_number.specs.declared.decimal.Point.{Point}
 use Rattle.tsp_format.proofs.Pairs.{cell_is}
 use Rattle.tsp_format.proofs.Places.{placed, place_within, no_place}
-use Rattle.tsp_format.specs.Nodes.{IsNode, nodes_to, is_listed, cells}
 use Rattle.tsp_format.specs.Place.{place_of, place_by_table}
 use Rattle.tsp_format.specs.declared.kinds.Kind.{Kind}
 use Rattle.tsp_format.specs.declared.kinds.Kind.TheVariants as kinds
@@ -17,14 +14,10 @@ use Rattle.tsp_format.specs.declared.kinds.WeightKind.{WeightKind}
 use Rattle.tsp_format.specs.declared.kinds.WeightKind.TheVariants.{Explicit, Euc2d, Ceil2d, Man2d, Max2d, Att, Euc3d, Man3d, Max3d}
 use Rattle.tsp_format.specs.declared.layout.Layout.{Layout}
 use Rattle.tsp_format.specs.declared.layout.Layout.TheVariants.{FullMatrix, UpperRow, LowerRow, UpperDiagRow, LowerDiagRow, UpperCol, LowerCol, UpperDiagCol, LowerDiagCol}
-use Rattle.tsp_file.proofs.Relaid.{lists, cost_of_listed, cost_of_cell, cost_unlisted, triangle_even, unlisted_has_no_place, laid_at, own_costs}
 use Rattle.tsp_file.specs.ByInequalities.{IsDistanceBy}
-use Rattle.tsp_file.specs.Cost.{distance, point_of, cost_by, cost, listed_cost, ListsWeights, origin, layout_of, UnlistedHaveNoPlace}
-use Rattle.tsp_file.specs.Fields.{Fields, nodes_of}
 use Rattle.tsp_file.specs.Relayout.{costs_in}
 use Rattle.tsp_file.specs.Rules.{is_explicit}
 use Rattle.tsp_file.specs.Valid.{IsPairOf, AreFixed, IsInRange, HasInstance, HasRouting}
-use Rattle.tsp_theory.specs.Tour.{RoutingProblem, demand_of, Problem}
 use Rattle.tsp_cost.specs.Problems.{CostsAreListed, CostsAreDistances, IsProblemOf, IsRoutingOf, IsProblem, HaveSameCosts, AreSame, AreSameRouting, is_directed, problem_of, routing_of, depots_of, demands_of}
 use Rattle.tsp_cost.specs.declared.instance.CostSource.{CostSource}
 use Rattle.tsp_cost.specs.declared.instance.CostSource.TheVariants.{Distances, Weights}

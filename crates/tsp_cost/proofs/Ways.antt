@@ -1,16 +1,10 @@
 -- Sums of costs along a list of nodes, and distances that grow as points move apart.
-use Rattle.std.proofs.Common.{◌≤◌, ◌≤ℤ◌, ℕ, ℤ, Bool, true, false, refl, arith, ◌≡◌, suc, ◌+◌, ◌-◌, ◌*◌, ◌<◌, List, [], ◌++◌, take, drop, length, sym, ap, subst, ◌∙◌, to_z, of_z, drop-cons, take-append-drop, append_assoc}
+use Rattle.tsp_cost.proofs.Prelude.{◌≤◌, ◌≤ℤ◌, ℕ, ℤ, Bool, true, false, refl, arith, ◌≡◌, suc, ◌+◌, ◌-◌, ◌*◌, ◌<◌, List, [], ◌++◌, take, drop, length, sym, ap, subst, ◌∙◌, to_z, of_z, drop-cons, take-append-drop, append_assoc, ints, w64, pos, IsTrue, neg_ℤ, ◌+ℤ◌, slice_index_or, Point, distance, length_of, links_to}
 use Rattle.std.proofs.Math.IntN.{+ℤ_assoc, +ℤ_idr}
-use Rattle.std.proofs.lemmas.Int.{ints}
 use Rattle.std.specs.Bool.{OnTrue}
-use Rattle.std.specs.Int.{w64}
-use Rattle.std.specs.Prelude.{pos, IsTrue, neg_ℤ, ◌+ℤ◌, slice_index_or}
 use Rattle.tsp_number.specs.Distances.{dx, dy, dz, euc_2d_of, ceil_2d_of, man_2d_of, max_2d_of, att_of, euc_3d_of, man_3d_of, max_3d_of, IsMonotone}
-use Rattle.tsp_number.specs.declared.decimal.Point.{Point}
 use Rattle.tsp_format.specs.declared.kinds.WeightKind.{WeightKind}
 use Rattle.tsp_format.specs.declared.kinds.WeightKind.TheVariants.{Explicit, Euc2d, Euc3d, Ceil2d, Man2d, Man3d, Max2d, Max3d, Att}
-use Rattle.tsp_file.specs.Cost.{distance}
-use Rattle.tsp_theory.specs.Tour.{length_of, links_to}
 use Rattle.tsp_cost.specs.states.Metrics.{length_to, IsWayThrough, IsSumOfCosts}
 
 whole-le : (m n : ℕ) → m ≤ n → pos m ≤ℤ pos n

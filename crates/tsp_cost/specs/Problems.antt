@@ -1,9 +1,8 @@
 -- Circles 1 and 3 of docs/trust.md.
 -- Which problem a valid instance is: of TYPE TSP or ATSP a travelling salesman problem, of TYPE CVRP a routing problem.
 -- Each valid instance is one problem.
-use Rattle.std.specs.Prelude.{◌≡◌, ◌≢◌, ◌⊎◌, ℕ, false, if◌then◌else◌, [], ◌∷◌, map, Some, unwrap_or, ℤ, pos, Bool, true, List, Option, None, slice_index, length}
-use Rattle.tsp_number.specs.declared.decimal.Point.{Point}
-use Rattle.tsp_format.specs.Nodes.{IsNode, nodes_to, is_listed, cells}
+use Rattle.tsp_cost.specs.Prelude.{ℕ, false, [], map, Some, unwrap_or, ℤ, pos, Bool, true, List, Option, None, slice_index, length, Point, IsNode, nodes_to, is_listed, cells, cost, fixed_of, Fields, nodes_of, RoutingProblem, Problem, demand_of, IsPlan, IsTour}
+use Rattle.std.specs.Prelude.{◌≡◌, ◌≢◌, ◌⊎◌, if◌then◌else◌, ◌∷◌}
 use Rattle.tsp_format.specs.declared.kinds.Kind.{Kind}
 use Rattle.tsp_format.specs.declared.kinds.Kind.TheVariants.{Tsp, Atsp, Cvrp, Tour, Potentials, Branches}
 use Rattle.tsp_format.specs.declared.kinds.Kind.TheVariants as kinds
@@ -13,9 +12,6 @@ use Rattle.tsp_format.specs.declared.kinds.WeightKind.TheVariants.{Explicit}
 use Rattle.tsp_format.specs.declared.layout.Layout.{Layout}
 use Rattle.tsp_format.specs.declared.layout.Layout.TheVariants.{FullMatrix}
 use Rattle.tsp_file.specs.ByInequalities.{IsDistanceBy}
-use Rattle.tsp_file.specs.Cost.{cost, fixed_of}
-use Rattle.tsp_file.specs.Fields.{Fields, nodes_of}
-use Rattle.tsp_theory.specs.Tour.{RoutingProblem, Problem, demand_of, IsPlan, IsTour}
 
 -- The costs are weights that the instance lists, each that of its cell in the layout. Half a matrix has the same costs
 -- in both directions, and a diagonal that isn't listed has 0. Only the costs between nodes are looked at.

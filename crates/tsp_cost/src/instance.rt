@@ -1,11 +1,9 @@
 //! Instances: files of TYPE TSP, ATSP or CVRP, with the costs between their nodes. tsp_judge makes
 //! one of a file, and tsp_verdict judges tours and routes of it.
 
-ghost use Rattle.std.specs.Prelude.{◌≡◌, IsTrue, unwrap_or, MatchResult, pos, neg_ℤ, ◌≤ℤ◌};
+ghost use Rattle.tsp_cost.specs.Prelude.{IsTrue, unwrap_or, MatchResult, pos, neg_ℤ, IsNode, cost, nodes_of};
+ghost use Rattle.std.specs.Prelude.{◌≡◌, ◌≤ℤ◌};
 ghost use Rattle.tsp_format.specs.Limits.{most_weight};
-ghost use Rattle.tsp_format.specs.Nodes.{IsNode};
-ghost use Rattle.tsp_file.specs.Cost.{cost};
-ghost use Rattle.tsp_file.specs.Fields.{nodes_of};
 ghost use Rattle.tsp_file.specs.Rules.{is_instance};
 ghost use Rattle.tsp_format.specs.Words.{IsSymmetric, IsFirstAsymmetric, FindsAsymmetric};
 ghost use Rattle.tsp_cost.specs.states.Views.{HasFound, ShowsSymmetric};
@@ -43,7 +41,8 @@ impl Model for Instance {
 }
 
 impl Instance {
-    ghost use Rattle.std.specs.Prelude.{◌≡◌, ◌≤◌, ◌⊎◌, false, Some, IsTrue, length, MatchOption, MatchResult};
+    ghost use Rattle.tsp_cost.specs.Prelude.{false, Some, IsTrue, length, MatchOption, MatchResult, nodes_of, fixed_of, HoldsRouting};
+    ghost use Rattle.std.specs.Prelude.{◌≡◌, ◌≤◌, ◌⊎◌};
     ghost use Rattle.std.specs.List.{All};
     ghost use Rattle.tsp_file.specs.Rules.{is_instance};
     ghost use Rattle.tsp_file.specs.Valid.{IsPairOf};
@@ -51,9 +50,6 @@ impl Instance {
     ghost use Rattle.tsp_format.specs.Limits.{most_fixed};
     ghost use Rattle.tsp_cost.specs.declared.instance.CostFault.TheVariants.{NotInstance};
     ghost use Rattle.tsp_cost.specs.declared.instance.CostSource.TheVariants.{Distances, Weights};
-    ghost use Rattle.tsp_file.specs.Fields.{nodes_of};
-    ghost use Rattle.tsp_file.specs.Cost.{fixed_of};
-    ghost use Rattle.tsp_file.specs.Cost.{HoldsRouting};
     ghost use Rattle.tsp_cost.specs.Problems.{IsProblem};
     ghost use Rattle.tsp_cost.specs.states.Views.{ComesFrom};
     ghost use Rattle.tsp_cost.specs.states.Views.{IsViewOf};
@@ -203,8 +199,7 @@ fn viewed_cost(inst: &Instance, i: u32, j: u32) -> i64
 }
 
 impl Costs for Instance {
-    ghost use Rattle.std.specs.Prelude.{unwrap_or};
-    ghost use Rattle.tsp_file.specs.Cost.{cost};
+    ghost use Rattle.tsp_cost.specs.Prelude.{unwrap_or, cost};
 
     ghost nodes = { λ f. unwrap_or f.dimension 0 };
 

@@ -1,9 +1,8 @@
 //! A law: each valid instance is one problem, with one cost from each node to each.
 
-ghost use Rattle.std.specs.Prelude.{◌≡◌, None, IsTrue};
-ghost use Rattle.tsp_file.specs.Fields.{Fields};
+ghost use Rattle.tsp_cost.specs.Prelude.{None, IsTrue, Fields, RoutingProblem, Problem};
+ghost use Rattle.std.specs.Prelude.{◌≡◌};
 ghost use Rattle.tsp_file.specs.Rules.{fault_of, is_instance};
-ghost use Rattle.tsp_theory.specs.Tour.{RoutingProblem, Problem};
 ghost use Rattle.tsp_cost.specs.Problems.{IsProblemOf, IsRoutingOf, IsProblem, AreSame, AreSameRouting, problem_of, routing_of};
 
 use tsp_file::{costs_are_by_inequalities, valid_fields_are_in_range, valid_files_are_complete};

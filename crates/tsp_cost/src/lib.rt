@@ -13,7 +13,6 @@
 #![tactic(auto)]
 
 mod examples;
-mod halves;
 mod instance;
 mod laws;
 mod matrix;

@@ -1,11 +1,10 @@
 //! Costs that a full matrix lists, symmetric or not.
 
+ghost use Rattle.tsp_cost.specs.Prelude.{length, IsTrue, cells, is_listed, listed_cost, UnlistedHaveNoPlace};
 ghost use Rattle.std.specs.List.{All};
-ghost use Rattle.std.specs.Prelude.{◌≡◌, ◌≤◌, length, ◌≢◌, ◌⊎◌, IsTrue};
-ghost use Rattle.tsp_format.specs.Nodes.{cells, is_listed};
+ghost use Rattle.std.specs.Prelude.{◌≡◌, ◌≤◌, ◌≢◌, ◌⊎◌};
 ghost use Rattle.tsp_format.specs.Limits.{most_matrix_nodes, most_weight};
 ghost use Rattle.tsp_format.specs.declared.layout.Layout.TheVariants.{FullMatrix};
-ghost use Rattle.tsp_file.specs.Cost.{listed_cost, UnlistedHaveNoPlace};
 ghost use Rattle.tsp_file.specs.Valid.{IsWithin};
 ghost use Rattle.tsp_format.specs.Words.{IsSymmetric};
 

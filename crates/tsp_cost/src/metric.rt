@@ -1,9 +1,8 @@
 //! The weight types that are distances, and the function of tsp_number for each.
 
-ghost use Rattle.std.specs.Prelude.{◌≡◌, IsTrue, ◌↔◌, pos, ◌≤ℤ◌, MatchOption, ◌<◌, ◌≤◌, ◌*◌, ◌^◌, ◌*ℤ◌, ◌-ℤ◌, IfSome, unsigned_abs};
-ghost use Rattle.tsp_number.specs.Distances.{squared, euc_2d_of};
+ghost use Rattle.tsp_cost.specs.Prelude.{IsTrue, pos, MatchOption, IfSome, unsigned_abs, squared, euc_2d_of, distance};
+ghost use Rattle.std.specs.Prelude.{◌≡◌, ◌↔◌, ◌≤ℤ◌, ◌<◌, ◌≤◌, ◌*◌, ◌^◌, ◌*ℤ◌, ◌-ℤ◌};
 ghost use Rattle.tsp_format.specs.declared.kinds.WeightKind.TheVariants.{Explicit};
-ghost use Rattle.tsp_file.specs.Cost.{distance};
 ghost use Rattle.tsp_cost.specs.states.Metrics.{RoundsTo, weight_kind_of};
 
 use std::num;
@@ -106,7 +105,7 @@ impl Metric {
     }
 }
 
-// ---- EUC_2D in 64 bits, for `src/metric.rt`
+// ---- EUC_2D in 64 bits
 
 /// The inverse of 5^9, modulo 2^64.
 const INVERSE: i64 = -8_194_354_213_138_031_507;

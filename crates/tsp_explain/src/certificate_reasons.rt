@@ -32,8 +32,8 @@ pub(crate) fn push_certificate(
             push_triple(text, index, certificate)
         }
         Reason::DualInfeasible { i, j } => push_sum(text, i, j, certificate),
-        Reason::BadComb { index } if instance.kind() != Kind::Cvrp => {
-            push_comb(text, index, certificate)
+        Reason::BadFamily { index } if instance.kind() != Kind::Cvrp => {
+            push_family(text, index, certificate)
         }
         Reason::BadBranch { index } | Reason::BranchTwice { index } => {
             push_branch(text, index, certificate)
@@ -108,12 +108,12 @@ fn push_sum(text: &mut Vec<u8>, i: u32, j: u32, certificate: &File) -> Result<()
 
 /// Appends what is wrong with a family of sets, counted from 1: a node that a set has twice, or how
 /// many sets there are, and how many parts their nodes make.
-fn push_comb(text: &mut Vec<u8>, index: u32, certificate: &File) -> Result<(), AllocError> {
-    let combs = certificate.combs().unwrap_or(&[]);
+fn push_family(text: &mut Vec<u8>, index: u32, certificate: &File) -> Result<(), AllocError> {
+    let families = certificate.families().unwrap_or(&[]);
     let Some(place) = (index as usize).checked_sub(1) else {
         return Ok(());
     };
-    let Some(sets) = combs.get(place) else {
+    let Some(sets) = families.get(place) else {
         return Ok(());
     };
     if let Some((set, node)) = node_twice(sets) {

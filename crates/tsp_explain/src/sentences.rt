@@ -145,7 +145,7 @@ pub(crate) fn reason_sentence(reason: Reason) -> &'static str {
         Reason::LengthClaimed { .. } => LENGTH_CLAIMED,
         Reason::NotBranches => NOT_BRANCHES,
         Reason::BranchesDimension => BRANCHES_DIMENSION,
-        Reason::BadComb { .. } => BAD_COMB,
+        Reason::BadFamily { .. } => BAD_FAMILY,
         Reason::BadBranch { .. } => BAD_BRANCH,
         Reason::BranchTwice { .. } => BRANCH_TWICE,
         Reason::BadLeaf { .. } => BAD_LEAF,
@@ -215,7 +215,7 @@ const NOT_BRANCHES: &str = "The certificate has to be of TYPE BRANCHES.";
 
 const BRANCHES_DIMENSION: &str = "DIMENSION of the tree of cases isn't that of the instance.";
 
-const BAD_COMB: &str =
+const BAD_FAMILY: &str =
     "This family of COMB_SECTION isn't taken. No set may have a node twice. A family is a lone set, which leaves a node out;\n\
     or a comb: a handle and an odd number of teeth, 3 or more, which don't meet,\n\
     each with a node inside the handle and one outside; or any other sets, at most 63, whose nodes make 2 to 14 parts.\n\

@@ -278,7 +278,7 @@ fn differ<P: PartialEq>(points: &[P], from: u32, to: u32) -> Option<bool> {
     Some(from != to)
 }
 
-// ---- the line of `--explain` on a comment of a solution that claims another length than its
+// ---- the line of `--explain` on a comment that claims another length
 
 /// A length that a comment claims.
 #[derive(Clone, Copy)]

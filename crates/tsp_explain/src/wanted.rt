@@ -28,7 +28,7 @@ pub(crate) fn wanted(field: Field) -> &'static str {
         Field::RowPotentialPart => ROW_POTENTIAL,
         Field::ColumnPotentialPart => COLUMN_POTENTIAL,
         Field::FixedEdgePotentialPart => FIXED_EDGE_POTENTIAL,
-        Field::CombPart => COMB,
+        Field::FamilyPart => COMB,
         Field::BranchPart => BRANCH,
     }
 }
@@ -157,7 +157,7 @@ pub(crate) fn asked(field: Field) -> &'static str {
         | Field::DisplayDataPart
         | Field::FixedEdgesPart
         | Field::FixedEdgePotentialPart
-        | Field::CombPart => "No file needs it.",
+        | Field::FamilyPart => "No file needs it.",
     }
 }
 

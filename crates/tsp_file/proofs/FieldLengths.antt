@@ -1,36 +1,23 @@
 -- How long the text of each field is at most.
-use Rattle.std.proofs.Common.{◌≡◌, Bool, true, false, cond, List, [], ◌∷◌, Option, None, Some, refl, sym, subst, ℕ, ◌+◌, ◌≤◌, ◌++◌, length, arith, length-append, ◌*◌, ◌<◌, ℤ, pos}
+use Rattle.tsp_file.proofs.Prelude.{◌≡◌, Bool, true, false, cond, List, [], ◌∷◌, Option, None, Some, refl, sym, subst, ℕ, ◌+◌, ◌≤◌, ◌++◌, length, arith, length-append, ◌*◌, ◌<◌, ℤ, pos, and_parts, leb-true, eqb-true, false≢true, sum_by-le-sum_by, decimal, signed_decimal, find, list_all, flat_map, sum_by, option_map, option_or, option_map_or, ◌&&◌, not, slice_index, ◌-◌, ◌==◌, nat_le, codes, neg_ℤ, unsigned_abs, spelling, Point, most_kept_bytes, shape_of, most_nodes, most_matrix_nodes, most_coordinate, most_weight, most_demand, most_capacity, most_scale, most_load_unit, most_potential, most_comments, most_others, most_depots, most_fixed, most_triples, most_multiplier, most_tour_nodes, field_word, fields_in_order, field_found, is_blank, IsFirstWithWord, kind_word, weight_kind_word, weight_format_word, coord_kind_word, display_kind_word, kinds, weight_kinds, weight_formats, coord_kinds, display_kinds, kind_found, weight_kind_found, weight_format_found, coord_kind_found, display_kind_found, Field, NameKey, TypeKey, CommentKey, OtherKey, DimensionKey, CapacityKey, ScaleKey, LoadUnitKey, EdgeWeightTypeKey, EdgeWeightFormatKey, NodeCoordTypeKey, DisplayDataTypeKey, NodeCoordPart, DisplayDataPart, DemandPart, DepotPart, FixedEdgesPart, EdgeWeightPart, TourPart, NodePotentialPart, RowPotentialPart, ColumnPotentialPart, FixedEdgePotentialPart, FamilyPart, BranchPart, WeightFormat}
 use Rattle.std.proofs.Math.Nat.{mul-le-mul}
-use Rattle.std.proofs.lemmas.Bool.{and_parts, leb-true, eqb-true, false≢true}
 use Rattle.std.proofs.lemmas.List.Concat.{length-flat_map}
-use Rattle.std.proofs.lemmas.List.Sums.{sum_by-le-sum_by}
 use Rattle.std.proofs.lemmas.Option.{none-some, same_Some}
-use Rattle.std.specs.Fmt.{decimal, signed_decimal}
-use Rattle.std.specs.List.{find, list_all, flat_map, sum_by}
-use Rattle.std.specs.Option.{option_map, option_or, option_map_or}
 use Rattle.std.specs.Ordering.{int_eq}
-use Rattle.std.specs.Prelude.{◌&&◌, not, slice_index, ◌-◌, ◌==◌, nat_le, codes, neg_ℤ, unsigned_abs}
 use Rattle.std.specs.Str.{bytes_eq}
 use Rattle.tsp_number.proofs.Spelled.{spelling_short}
-use Rattle.tsp_number.specs.NumberWord.{spelling}
-use Rattle.tsp_number.specs.declared.decimal.Point.{Point}
-use Rattle.tsp_format.specs.Limits.{most_kept_bytes, shape_of, most_nodes, most_matrix_nodes, most_coordinate, most_weight, most_demand, most_capacity, most_scale, most_load_unit, most_potential, most_comments, most_others, most_depots, most_fixed, most_triples, most_multiplier, most_tour_nodes}
-use Rattle.tsp_format.specs.Words.{field_word, fields_in_order, field_found, is_blank, IsFirstWithWord, kind_word, weight_kind_word, weight_format_word, coord_kind_word, display_kind_word, kinds, weight_kinds, weight_formats, coord_kinds, display_kinds, kind_found, weight_kind_found, weight_format_found, coord_kind_found, display_kind_found}
-use Rattle.tsp_format.specs.declared.keyword.Field.{Field}
-use Rattle.tsp_format.specs.declared.keyword.Field.TheVariants.{NameKey, TypeKey, CommentKey, OtherKey, DimensionKey, CapacityKey, ScaleKey, LoadUnitKey, EdgeWeightTypeKey, EdgeWeightFormatKey, NodeCoordTypeKey, DisplayDataTypeKey, NodeCoordPart, DisplayDataPart, DemandPart, DepotPart, FixedEdgesPart, EdgeWeightPart, TourPart, NodePotentialPart, RowPotentialPart, ColumnPotentialPart, FixedEdgePotentialPart, CombPart, BranchPart}
 use Rattle.tsp_format.specs.declared.keyword.Shape.{Shape}
-use Rattle.tsp_format.specs.declared.keyword.Shape.TheVariants.{Numbers, Points, SpacePoints, Depots, Pairs, Weights, Tours, Triples, Combs, Steps}
+use Rattle.tsp_format.specs.declared.keyword.Shape.TheVariants.{Numbers, Points, SpacePoints, Depots, Pairs, Weights, Tours, Triples, Families, Steps}
 use Rattle.tsp_format.specs.declared.kinds.CoordKind.{CoordKind}
 use Rattle.tsp_format.specs.declared.kinds.DisplayKind.{DisplayKind}
 use Rattle.tsp_format.specs.declared.kinds.Kind.{Kind}
-use Rattle.tsp_format.specs.declared.kinds.WeightFormat.{WeightFormat}
 use Rattle.tsp_format.specs.declared.kinds.WeightKind.{WeightKind}
 use Rattle.tsp_file.proofs.TextLengths.{within_abs, three_parts, positive_short, between_short, decimal_short, node_short, flat_short_of, by_node_short, pair_list_short, triple_list_short, node_list_short, tours_short, matrix_lines_short}
-use Rattle.tsp_file.proofs.WrittenLines.{combs_short, steps_short}
-use Rattle.tsp_file.specs.CanonicalText.{line_end, blank_before, value_line, keyword_line, other_line, number_line, section_text, lines_by_node, node_list, pair_list, triple_list, comb_list, case_tree_lines, coordinate_words, whole_number, line_lens, matrix_lines, optional, text_of_section, text_of_field, text_of}
+use Rattle.tsp_file.proofs.WrittenLines.{families_short, steps_short}
+use Rattle.tsp_file.specs.CanonicalText.{line_end, blank_before, value_line, keyword_line, other_line, number_line, section_text, lines_by_node, node_list, pair_list, triple_list, family_list, case_tree_lines, coordinate_words, whole_number, line_lens, matrix_lines, optional, text_of_section, text_of_field, text_of}
 use Rattle.tsp_file.specs.Fields.{Fields, spatial, numbers_in, points_in}
 use Rattle.tsp_file.specs.Rules.{standing_of, end_fault, fault_of}
-use Rattle.tsp_file.specs.Validity.{fits, first_failing, bad_field, is_kept, is_unknown_keyword, is_other, if_there, with_dimension, is_node, is_pair_of, is_triple_of, is_from_to, is_within, is_point, is_by_node, are_comments, are_others, are_depots, are_fixed, are_triples, fit_matrix, is_node_list, are_tours, are_combs, are_tree_steps, section_fits}
+use Rattle.tsp_file.specs.Validity.{fits, first_failing, bad_field, is_kept, is_unknown_keyword, is_other, if_there, with_dimension, is_node, is_pair_of, is_triple_of, is_from_to, is_within, is_point, is_by_node, are_comments, are_others, are_depots, are_fixed, are_triples, fit_matrix, is_node_list, are_tours, are_family_lists, are_tree_steps, section_fits}
 use Rattle.tsp_file.specs.declared.rules.DraftFault.{DraftFault}
 use Rattle.tsp_file.specs.declared.rules.DraftFault.TheVariants.{BadField, Rule}
 
@@ -75,7 +62,7 @@ all_fit f none field =
     found_passes (fits f) (λ other. bytes_eq (field_word field) (field_word other)) field fields_in_order
     (none_failing (fits f) fields_in_order no_bad) (field_found field)
 
--- ---- the length of a line with a keyword and its value is limited, as words and values are
+-- ---- the length of a line with a keyword and its value is limited
 
 -- ---- words
 
@@ -107,7 +94,7 @@ display_kind_short kind = word_short display_kind_word 20 display_kinds kind ref
 
 -- ---- lines of a keyword and a value
 
-blank_short : (value : List ℕ) → length (blank_before value) ≤ length value + 1
+pub blank_short : (value : List ℕ) → length (blank_before value) ≤ length value + 1
 blank_short [] = omega arith
 blank_short (first ∷ rest) = omega arith
 
@@ -306,7 +293,7 @@ most_of Pairs = 1900029
 most_of Weights = 375000029
 most_of Tours = 10000029
 most_of Triples = 3300029
-most_of Combs = 10030032
+most_of Families = 10030032
 most_of Steps = 269000034
 
 abbrev most_bytes : Field → ℕ
@@ -340,8 +327,8 @@ shape_short f field Tours short one fit =
     (λ tours fits. section_short field (flat_map node_list tours) 10000000 (all_tours_short tours fits)) f.tours fit
 shape_short f field Triples short one fit =
     section_of_short field are_triples triple_list 3300000 triples_short f.dimension f.fixed_potentials one fit
-shape_short f field Combs short one fit =
-    section_of_short field are_combs comb_list 10030003 combs_short f.dimension f.combs one fit
+shape_short f field Families short one fit =
+    section_of_short field are_family_lists family_list 10030003 families_short f.dimension f.families one fit
 shape_short f field Steps short one fit =
     section_of_short field are_tree_steps case_tree_lines 269000005 steps_short f.dimension f.branches one fit
 
@@ -416,7 +403,7 @@ field_short f fit ColumnPotentialPart =
     (fit ColumnPotentialPart)
 field_short f fit FixedEdgePotentialPart =
     shape_short f FixedEdgePotentialPart Triples refl (fit DimensionKey) (fit FixedEdgePotentialPart)
-field_short f fit CombPart = shape_short f CombPart Combs refl (fit DimensionKey) (fit CombPart)
+field_short f fit FamilyPart = shape_short f FamilyPart Families refl (fit DimensionKey) (fit FamilyPart)
 field_short f fit BranchPart = shape_short f BranchPart Steps refl (fit DimensionKey) (fit BranchPart)
 
 pub text_short : (f : Fields) → fault_of f ≡ None → length (text_of f) < 750000000
@@ -432,10 +419,10 @@ text_short f none =
       total,
     )
 
--- ---- a file without combs and branches
+-- ---- a file without families and branches
 
 abbrev most_without_trees : Field → ℕ
-most_without_trees CombPart = 0
+most_without_trees FamilyPart = 0
 most_without_trees BranchPart = 0
 most_without_trees field = most_bytes field
 
@@ -445,42 +432,42 @@ absent_short {A = A} text (Some _) none = absurd (none-some _ (sym none))
 
 -- plan: by the field: both sections of a tree of cases are absent (`absent_short`), and each other field has its limit
 -- (`field_short`)
-field_short_without_trees : (f : Fields) → ((field : Field) → fits f field ≡ true) → f.combs ≡ None → f.branches ≡ None
+field_short_without_trees : (f : Fields) → ((field : Field) → fits f field ≡ true) → f.families ≡ None → f.branches ≡ None
     → (field : Field)
     → length (text_of_field f field) ≤ most_without_trees field
-field_short_without_trees f fit combs branches CombPart =
-    absent_short (λ combs. section_text CombPart (comb_list combs)) f.combs combs
-field_short_without_trees f fit combs branches BranchPart =
+field_short_without_trees f fit families branches FamilyPart =
+    absent_short (λ families. section_text FamilyPart (family_list families)) f.families families
+field_short_without_trees f fit families branches BranchPart =
     absent_short (λ steps. section_text BranchPart (case_tree_lines steps)) f.branches branches
-field_short_without_trees f fit combs branches NameKey = field_short f fit NameKey
-field_short_without_trees f fit combs branches TypeKey = field_short f fit TypeKey
-field_short_without_trees f fit combs branches CommentKey = field_short f fit CommentKey
-field_short_without_trees f fit combs branches OtherKey = field_short f fit OtherKey
-field_short_without_trees f fit combs branches DimensionKey = field_short f fit DimensionKey
-field_short_without_trees f fit combs branches CapacityKey = field_short f fit CapacityKey
-field_short_without_trees f fit combs branches ScaleKey = field_short f fit ScaleKey
-field_short_without_trees f fit combs branches LoadUnitKey = field_short f fit LoadUnitKey
-field_short_without_trees f fit combs branches EdgeWeightTypeKey = field_short f fit EdgeWeightTypeKey
-field_short_without_trees f fit combs branches EdgeWeightFormatKey = field_short f fit EdgeWeightFormatKey
-field_short_without_trees f fit combs branches NodeCoordTypeKey = field_short f fit NodeCoordTypeKey
-field_short_without_trees f fit combs branches DisplayDataTypeKey = field_short f fit DisplayDataTypeKey
-field_short_without_trees f fit combs branches NodeCoordPart = field_short f fit NodeCoordPart
-field_short_without_trees f fit combs branches DisplayDataPart = field_short f fit DisplayDataPart
-field_short_without_trees f fit combs branches DemandPart = field_short f fit DemandPart
-field_short_without_trees f fit combs branches DepotPart = field_short f fit DepotPart
-field_short_without_trees f fit combs branches FixedEdgesPart = field_short f fit FixedEdgesPart
-field_short_without_trees f fit combs branches EdgeWeightPart = field_short f fit EdgeWeightPart
-field_short_without_trees f fit combs branches TourPart = field_short f fit TourPart
-field_short_without_trees f fit combs branches NodePotentialPart = field_short f fit NodePotentialPart
-field_short_without_trees f fit combs branches RowPotentialPart = field_short f fit RowPotentialPart
-field_short_without_trees f fit combs branches ColumnPotentialPart = field_short f fit ColumnPotentialPart
-field_short_without_trees f fit combs branches FixedEdgePotentialPart = field_short f fit FixedEdgePotentialPart
+field_short_without_trees f fit families branches NameKey = field_short f fit NameKey
+field_short_without_trees f fit families branches TypeKey = field_short f fit TypeKey
+field_short_without_trees f fit families branches CommentKey = field_short f fit CommentKey
+field_short_without_trees f fit families branches OtherKey = field_short f fit OtherKey
+field_short_without_trees f fit families branches DimensionKey = field_short f fit DimensionKey
+field_short_without_trees f fit families branches CapacityKey = field_short f fit CapacityKey
+field_short_without_trees f fit families branches ScaleKey = field_short f fit ScaleKey
+field_short_without_trees f fit families branches LoadUnitKey = field_short f fit LoadUnitKey
+field_short_without_trees f fit families branches EdgeWeightTypeKey = field_short f fit EdgeWeightTypeKey
+field_short_without_trees f fit families branches EdgeWeightFormatKey = field_short f fit EdgeWeightFormatKey
+field_short_without_trees f fit families branches NodeCoordTypeKey = field_short f fit NodeCoordTypeKey
+field_short_without_trees f fit families branches DisplayDataTypeKey = field_short f fit DisplayDataTypeKey
+field_short_without_trees f fit families branches NodeCoordPart = field_short f fit NodeCoordPart
+field_short_without_trees f fit families branches DisplayDataPart = field_short f fit DisplayDataPart
+field_short_without_trees f fit families branches DemandPart = field_short f fit DemandPart
+field_short_without_trees f fit families branches DepotPart = field_short f fit DepotPart
+field_short_without_trees f fit families branches FixedEdgesPart = field_short f fit FixedEdgesPart
+field_short_without_trees f fit families branches EdgeWeightPart = field_short f fit EdgeWeightPart
+field_short_without_trees f fit families branches TourPart = field_short f fit TourPart
+field_short_without_trees f fit families branches NodePotentialPart = field_short f fit NodePotentialPart
+field_short_without_trees f fit families branches RowPotentialPart = field_short f fit RowPotentialPart
+field_short_without_trees f fit families branches ColumnPotentialPart = field_short f fit ColumnPotentialPart
+field_short_without_trees f fit families branches FixedEdgePotentialPart = field_short f fit FixedEdgePotentialPart
 
-pub text_short_without_trees : (f : Fields) → fault_of f ≡ None → f.combs ≡ None → f.branches ≡ None
+pub text_short_without_trees : (f : Fields) → fault_of f ≡ None → f.families ≡ None → f.branches ≡ None
     → length (text_of f) < 500000000
-text_short_without_trees f none combs branches =
+text_short_without_trees f none families branches =
     let fields = sum_by-le-sum_by (λ field. length (text_of_field f field)) most_without_trees fields_in_order
-    (field_short_without_trees f (all_fit f none) combs branches) in
+    (field_short_without_trees f (all_fit f none) families branches) in
     let total : sum_by most_without_trees fields_in_order ≤ 440000000 = omega arith in
     omega (
       arith,

@@ -1,31 +1,14 @@
 -- The fields of a file after a change of its weights.
-use Rattle.std.proofs.Common.{◌≡◌, ℕ, suc, zero, ◌+◌, ◌-◌, ◌*◌, ◌/◌, ◌≤◌, Bool, true, false, cond, List, [], ◌∷◌, length, Option, None, Some, refl, sym, ap, subst, ◌∙◌, arith, ◌≢◌, ◌<◌, ◌++◌, map, take, ⊎_elim}
-use Rattle.std.proofs.lemmas.Bool.{false≢true, le-leb, eq-eqb, cases_lt}
-use Rattle.std.proofs.lemmas.Int.{ints}
-use Rattle.std.proofs.lemmas.List.{length-map, get_or-map, length-append, get_or_append_left, get_or-append_right, ext_get_or, length-take-le, get_or-take}
-use Rattle.std.proofs.lemmas.List.Sums.{list_all-from_AllPass}
-use Rattle.std.proofs.lemmas.Nat.{mul-le}
-use Rattle.std.specs.List.{All, list_all, flat_map, CopiedTo, SameBelow, SameFrom}
-use Rattle.std.specs.Option.{option_map, option_or}
-use Rattle.std.specs.Prelude.{IsSome, unwrap_or, not, ◌&&◌, nat_le, ℤ, pos, neg_ℤ, int_le, slice_index_or as get_or, IsTrue}
-use Rattle.tsp_format.proofs.Pairs.{cells_counted, line_counted}
+use Rattle.tsp_file.proofs.Prelude.{◌≡◌, ℕ, suc, zero, ◌+◌, ◌-◌, ◌*◌, ◌/◌, ◌≤◌, Bool, true, false, cond, List, [], ◌∷◌, length, Option, None, Some, refl, sym, ap, subst, ◌∙◌, arith, ◌≢◌, ◌<◌, ◌++◌, map, take, ⊎_elim, false≢true, le-leb, eq-eqb, cases_lt, and_from, ints, length-map, get_or-map, length-append, get_or_append_left, get_or-append_right, ext_get_or, length-take-le, get_or-take, list_all-from_AllPass, mul-le, All, list_all, flat_map, CopiedTo, SameBelow, SameFrom, option_map, option_or, IsSome, unwrap_or, not, ◌&&◌, nat_le, ℤ, pos, neg_ℤ, int_le, slice_index_or as get_or, IsTrue, cells_counted, line_counted, most_matrix_nodes, most_weight, cells, cell_count_of, IsNode, nodes_to, cells_of_line, line_len_of, fields_in_order, IsSymmetric, Field, NameKey, TypeKey, CommentKey, OtherKey, DimensionKey, CapacityKey, ScaleKey, LoadUnitKey, EdgeWeightTypeKey, EdgeWeightFormatKey, NodeCoordTypeKey, DisplayDataTypeKey, NodeCoordPart, DisplayDataPart, DemandPart, DepotPart, FixedEdgesPart, EdgeWeightPart, TourPart, NodePotentialPart, RowPotentialPart, ColumnPotentialPart, FixedEdgePotentialPart, FamilyPart, BranchPart, WeightFormat, Listed, Layout, FullMatrix, UpperRow, LowerRow, UpperDiagRow, LowerDiagRow, UpperCol, LowerCol, UpperDiagCol, LowerDiagCol}
 use Rattle.tsp_format.proofs.Places.{placed, line_at}
-use Rattle.tsp_format.specs.Limits.{most_matrix_nodes, most_weight}
-use Rattle.tsp_format.specs.Nodes.{cells, cell_count_of, IsNode, nodes_to, cells_of_line, line_len_of}
-use Rattle.tsp_format.specs.Words.{fields_in_order, IsSymmetric}
-use Rattle.tsp_format.specs.declared.keyword.Field.{Field}
-use Rattle.tsp_format.specs.declared.keyword.Field.TheVariants.{NameKey, TypeKey, CommentKey, OtherKey, DimensionKey, CapacityKey, ScaleKey, LoadUnitKey, EdgeWeightTypeKey, EdgeWeightFormatKey, NodeCoordTypeKey, DisplayDataTypeKey, NodeCoordPart, DisplayDataPart, DemandPart, DepotPart, FixedEdgesPart, EdgeWeightPart, TourPart, NodePotentialPart, RowPotentialPart, ColumnPotentialPart, FixedEdgePotentialPart, CombPart, BranchPart}
-use Rattle.tsp_format.specs.declared.kinds.WeightFormat.{WeightFormat}
-use Rattle.tsp_format.specs.declared.kinds.WeightFormat.TheVariants.{Listed}
-use Rattle.tsp_format.specs.declared.layout.Layout.{Layout}
-use Rattle.tsp_format.specs.declared.layout.Layout.TheVariants.{FullMatrix, UpperRow, LowerRow, UpperDiagRow, LowerDiagRow, UpperCol, LowerCol, UpperDiagCol, LowerDiagCol}
+use Rattle.tsp_file.proofs.FieldLengths.{all_fit}
 use Rattle.tsp_file.proofs.Relaid.{cost_of_cell, turned, line_more, lines_all, cost_within, all_within, of_file}
-use Rattle.tsp_file.proofs.ValidFields.{in_range, each_fits, nodes_fit, no_field_missing, format_and_count, and_true, has_kind, has_instance, has_routing, has_tours, has_potentials, has_branches}
+use Rattle.tsp_file.proofs.ValidFields.{in_range, nodes_fit, no_field_missing, format_and_count, has_kind, has_instance, has_routing, has_tours, has_potentials, has_branches}
 use Rattle.tsp_file.specs.Cost.{listed_cost, cost, ListsWeights, HoldsItsType, AreMultipliersIn, AreSomeSets}
 use Rattle.tsp_file.specs.Fields.{Fields, spatial, nodes_of}
 use Rattle.tsp_file.specs.Relayout.{with_weights, HoldsPairs, CanGo, costs_in}
 use Rattle.tsp_file.specs.Rules.{standing_of, is_there, asked_in_order, is_count, has_wrong_format, has_wrong_count, end_fault, format_or_count, fault_of, is_routing, is_tour_file, is_potentials_file, is_branches_file}
-use Rattle.tsp_file.specs.Valid.{IsWithin, AreWeights, IsTripleOf, AreTriples, AreSets, AreCombs}
+use Rattle.tsp_file.specs.Valid.{IsWithin, AreWeights, IsTripleOf, AreTriples, AreSets, AreFamilyLists}
 use Rattle.tsp_file.specs.Validity.{is_within, with_dimension, fit_matrix, fits, first_failing, bad_field}
 use Rattle.tsp_file.specs.declared.rules.DraftFault.TheVariants.{BadField, Rule}
 use Rattle.tsp_file.specs.declared.rules.EndFault.{EndFault}
@@ -59,20 +42,20 @@ few_cells LowerDiagCol n = half_square n
 
 is_small : (z : ℤ) → IsWithin most_weight z → is_within most_weight z ≡ true
 is_small z within =
-    and_true (int_le (neg_ℤ (pos most_weight)) z) (int_le z (pos most_weight)) (grind (arith, ints, within.0))
+    and_from (int_le (neg_ℤ (pos most_weight)) z) (int_le z (pos most_weight)) (grind (arith, ints, within.0))
     (grind (arith, ints, within.1))
 
 weights_fit : (layout : Layout) (n : ℕ) (weights : List ℤ) → n ≤ most_matrix_nodes → length weights ≡ length (cells layout n)
     → All (IsWithin most_weight) weights → fit_matrix n weights ≡ true
 weights_fit layout n weights few filled sizes =
-    and_true (nat_le n most_matrix_nodes && nat_le (length weights) (n * n)) (list_all (is_within most_weight) weights)
-    (and_true (nat_le n most_matrix_nodes) (nat_le (length weights) (n * n)) (le-leb n most_matrix_nodes few)
+    and_from (nat_le n most_matrix_nodes && nat_le (length weights) (n * n)) (list_all (is_within most_weight) weights)
+    (and_from (nat_le n most_matrix_nodes) (nat_le (length weights) (n * n)) (le-leb n most_matrix_nodes few)
     (le-leb (length weights) (n * n) (omega (arith, filled, cells_counted layout n, few_cells layout n))))
     (list_all-from_AllPass (is_within most_weight) weights (λ k d lt. is_small _ (sizes k d lt)))
 
 -- ---- no fault
 
-none_fails : (test : Field → Bool) (fields : List Field) → ((field : Field) → test field ≡ true)
+pub none_fails : (test : Field → Bool) (fields : List Field) → ((field : Field) → test field ≡ true)
     → first_failing test fields ≡ None
 none_fails test [] all = refl
 none_fails test (field ∷ fields) all =
@@ -89,32 +72,32 @@ as_given P f layout weights format stand holds =
 each_fits_with : (f : Fields) (to : Layout) (weights : List ℤ) → fault_of f ≡ None
     → with_dimension fit_matrix f.dimension weights ≡ true → (field : Field)
     → fits (with_weights f to weights) field ≡ true
-each_fits_with f to weights valid fit NameKey = each_fits f valid NameKey
-each_fits_with f to weights valid fit TypeKey = each_fits f valid TypeKey
-each_fits_with f to weights valid fit CommentKey = each_fits f valid CommentKey
-each_fits_with f to weights valid fit OtherKey = each_fits f valid OtherKey
-each_fits_with f to weights valid fit DimensionKey = each_fits f valid DimensionKey
-each_fits_with f to weights valid fit CapacityKey = each_fits f valid CapacityKey
-each_fits_with f to weights valid fit ScaleKey = each_fits f valid ScaleKey
-each_fits_with f to weights valid fit LoadUnitKey = each_fits f valid LoadUnitKey
-each_fits_with f to weights valid fit EdgeWeightTypeKey = each_fits f valid EdgeWeightTypeKey
-each_fits_with f to weights valid fit EdgeWeightFormatKey = each_fits f valid EdgeWeightFormatKey
-each_fits_with f to weights valid fit NodeCoordTypeKey = each_fits f valid NodeCoordTypeKey
-each_fits_with f to weights valid fit DisplayDataTypeKey = each_fits f valid DisplayDataTypeKey
+each_fits_with f to weights valid fit NameKey = all_fit f valid NameKey
+each_fits_with f to weights valid fit TypeKey = all_fit f valid TypeKey
+each_fits_with f to weights valid fit CommentKey = all_fit f valid CommentKey
+each_fits_with f to weights valid fit OtherKey = all_fit f valid OtherKey
+each_fits_with f to weights valid fit DimensionKey = all_fit f valid DimensionKey
+each_fits_with f to weights valid fit CapacityKey = all_fit f valid CapacityKey
+each_fits_with f to weights valid fit ScaleKey = all_fit f valid ScaleKey
+each_fits_with f to weights valid fit LoadUnitKey = all_fit f valid LoadUnitKey
+each_fits_with f to weights valid fit EdgeWeightTypeKey = all_fit f valid EdgeWeightTypeKey
+each_fits_with f to weights valid fit EdgeWeightFormatKey = all_fit f valid EdgeWeightFormatKey
+each_fits_with f to weights valid fit NodeCoordTypeKey = all_fit f valid NodeCoordTypeKey
+each_fits_with f to weights valid fit DisplayDataTypeKey = all_fit f valid DisplayDataTypeKey
 each_fits_with f to weights valid fit NodeCoordPart =
-    nodes_fit (with_weights f to weights) (spatial f) ∙ sym (nodes_fit f (spatial f)) ∙ each_fits f valid NodeCoordPart
-each_fits_with f to weights valid fit DisplayDataPart = each_fits f valid DisplayDataPart
-each_fits_with f to weights valid fit DemandPart = each_fits f valid DemandPart
-each_fits_with f to weights valid fit DepotPart = each_fits f valid DepotPart
-each_fits_with f to weights valid fit FixedEdgesPart = each_fits f valid FixedEdgesPart
+    nodes_fit (with_weights f to weights) (spatial f) ∙ sym (nodes_fit f (spatial f)) ∙ all_fit f valid NodeCoordPart
+each_fits_with f to weights valid fit DisplayDataPart = all_fit f valid DisplayDataPart
+each_fits_with f to weights valid fit DemandPart = all_fit f valid DemandPart
+each_fits_with f to weights valid fit DepotPart = all_fit f valid DepotPart
+each_fits_with f to weights valid fit FixedEdgesPart = all_fit f valid FixedEdgesPart
 each_fits_with f to weights valid fit EdgeWeightPart = fit
-each_fits_with f to weights valid fit TourPart = each_fits f valid TourPart
-each_fits_with f to weights valid fit NodePotentialPart = each_fits f valid NodePotentialPart
-each_fits_with f to weights valid fit RowPotentialPart = each_fits f valid RowPotentialPart
-each_fits_with f to weights valid fit ColumnPotentialPart = each_fits f valid ColumnPotentialPart
-each_fits_with f to weights valid fit FixedEdgePotentialPart = each_fits f valid FixedEdgePotentialPart
-each_fits_with f to weights valid fit CombPart = each_fits f valid CombPart
-each_fits_with f to weights valid fit BranchPart = each_fits f valid BranchPart
+each_fits_with f to weights valid fit TourPart = all_fit f valid TourPart
+each_fits_with f to weights valid fit NodePotentialPart = all_fit f valid NodePotentialPart
+each_fits_with f to weights valid fit RowPotentialPart = all_fit f valid RowPotentialPart
+each_fits_with f to weights valid fit ColumnPotentialPart = all_fit f valid ColumnPotentialPart
+each_fits_with f to weights valid fit FixedEdgePotentialPart = all_fit f valid FixedEdgePotentialPart
+each_fits_with f to weights valid fit FamilyPart = all_fit f valid FamilyPart
+each_fits_with f to weights valid fit BranchPart = all_fit f valid BranchPart
 
 count_right : (dimension : Option ℕ) (n : ℕ) (layout : Layout) (count : ℕ) → dimension ≡ Some n → count ≡ length (cells layout n)
     → not (is_count dimension (Some (Listed layout)) count) ≡ false
@@ -161,7 +144,7 @@ stays_valid f to weights valid there filled sizes =
     let nodes : nodes_of f ≡ held.n = ap (λ o. unwrap_or o 0) held.dimension in
     still_valid f to old.0 weights valid old.1 held (filled ∙ ap (λ n. length (cells to n)) nodes) sizes
 
--- ---- half of a full matrix in another layout, its lines copied one after the other to the
+-- ---- half of a full matrix in another layout, its lines copied one after the other
 
 -- ---- the place of a line in the full matrix
 
@@ -308,10 +291,10 @@ laid_of f from to n old new valid can held value =
 
 -- ---- the fields that the TYPE of a valid file requires are present, each in its range
 
-pub combs_hold : (f : Fields) (combs : List (List (List ℕ))) → AreCombs f combs → AreSomeSets (nodes_of f) combs
-combs_hold f combs held =
+pub families_hold : (f : Fields) (families : List (List (List ℕ))) → AreFamilyLists f families → AreSomeSets (nodes_of f) families
+families_hold f families held =
     let same : held.n ≡ nodes_of f = sym (ap (λ (d : Option ℕ). unwrap_or d 0) held.dimension) in
-    record { few = held.few; sets = subst (λ (n : ℕ). All (AreSets n) combs) same held.sets; few_nodes = held.few_nodes }
+    record { few = held.few; sets = subst (λ (n : ℕ). All (AreSets n) families) same held.sets; few_nodes = held.few_nodes }
 
 pub multipliers_hold : (f : Fields) (triples : List (ℕ × ℕ × ℤ)) → AreTriples f triples → AreMultipliersIn f triples
 multipliers_hold f triples held =

@@ -1,4 +1,5 @@
 -- The files of lemmas of this crate. Crates above may import those that are public.
+mod Prelude
 pub mod ValidFields
 pub mod TextLengths
 pub mod FileFields

@@ -1,26 +1,10 @@
 -- Weights that are listed in a layout, and the same costs listed in another.
-use Rattle.std.proofs.Common.{◌≡◌, ◌≢◌, ℕ, ◌<◌, false, List, [], length, Option, Some, None, refl, sym, ap, ◌∙◌, inl, inr, ⊎_elim, arith, to_z, of_z, ◌+◌, ◌-◌, ◌≤◌, Bool, true, ◌∷◌, ◌++◌, map, take, subst}
-use Rattle.std.proofs.lemmas.Bool.{cases_lt, le-ltb, lt-leb, false≢true, le-leb}
+use Rattle.tsp_file.proofs.Prelude.{◌≡◌, ◌≢◌, ℕ, ◌<◌, false, List, [], length, Option, Some, None, refl, sym, ap, ◌∙◌, inl, inr, ⊎_elim, arith, to_z, of_z, ◌+◌, ◌-◌, ◌≤◌, Bool, true, ◌∷◌, ◌++◌, map, take, subst, cases_lt, le-ltb, lt-leb, false≢true, le-leb, ints, take_more, take_all, append_assoc, map-append, length-map, get_or-map, get_or_past, get_or_default, flat_map_more, ext_get_or, w64, Contains, All, flat_map, option_map, option_or, nat_lt, nat_le, unwrap_or, slice_index_or, ◌⊎◌, ◌↔◌, IsTrue, ℤ, pos, is_some, slice_index_or as get_or, cells-lines, cell_is, most_weight, IsNode, is_listed, cells, nodes_to, cells_of_line, place_of, place_by_table, IsSymmetric, WeightFormat, ByFunction, Listed, Layout, FullMatrix, UpperRow, LowerRow, UpperDiagRow, LowerDiagRow, UpperCol, LowerCol, UpperDiagCol, LowerDiagCol}
 use Rattle.std.proofs.lemmas.Bool.Decides.{nat_tests}
-use Rattle.std.proofs.lemmas.Int.{ints}
-use Rattle.std.proofs.lemmas.List.{take_more, take_all, append_assoc, map-append, length-map, get_or-map, get_or_past, get_or_default, flat_map_more, ext_get_or}
 use Rattle.std.proofs.lemmas.List.Elements.{All-map}
 use Rattle.std.proofs.lemmas.List.FromFn.{length-range_with_len, get_or-range_with_len}
-use Rattle.std.specs.Int.{w64}
-use Rattle.std.specs.List.{Contains, All, flat_map}
-use Rattle.std.specs.Option.{option_map, option_or}
-use Rattle.std.specs.Prelude.{nat_lt, nat_le, unwrap_or, slice_index_or, ◌⊎◌, ◌↔◌, IsTrue, ℤ, pos, is_some, slice_index_or as get_or}
-use Rattle.tsp_format.proofs.Pairs.{cells-lines, cell_is}
 use Rattle.tsp_format.proofs.Places.{placed, place_within, place_from, stands_at, no_place}
-use Rattle.tsp_format.specs.Limits.{most_weight}
-use Rattle.tsp_format.specs.Nodes.{IsNode, is_listed, cells, nodes_to, cells_of_line}
-use Rattle.tsp_format.specs.Place.{place_of, place_by_table}
-use Rattle.tsp_format.specs.Words.{IsSymmetric}
-use Rattle.tsp_format.specs.declared.kinds.WeightFormat.{WeightFormat}
-use Rattle.tsp_format.specs.declared.kinds.WeightFormat.TheVariants.{ByFunction, Listed}
 use Rattle.tsp_format.specs.declared.kinds.WeightKind.TheVariants.{Explicit}
-use Rattle.tsp_format.specs.declared.layout.Layout.{Layout}
-use Rattle.tsp_format.specs.declared.layout.Layout.TheVariants.{FullMatrix, UpperRow, LowerRow, UpperDiagRow, LowerDiagRow, UpperCol, LowerCol, UpperDiagCol, LowerDiagCol}
 use Rattle.tsp_file.specs.Cost.{weight_at, listed_cost, cost_by, cost, layout_of, ListsWeights, UnlistedHaveNoPlace}
 use Rattle.tsp_file.specs.Fields.{Fields, nodes_of}
 use Rattle.tsp_file.specs.Relayout.{HoldsPairs, HoldsDiagonal, lists_diagonal, HasListedWeights, with_weights, costs_in, CanGo, IsRelaid}
@@ -205,7 +189,7 @@ not_missing o x there none = cc
 pub same_layout : (o : Option WeightFormat) (a b : Layout) → o ≡ Some (Listed a) → o ≡ Some (Listed b) → a ≡ b
 same_layout o a b first second = cc
 
--- ---- the weights of a file, listed anew in another layout, have the same costs if that layout
+-- ---- the weights of a file, listed anew in another layout, have the same costs
 
 -- ---- the loops over cells and lines
 

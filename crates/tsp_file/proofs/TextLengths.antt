@@ -1,18 +1,8 @@
 -- How long the canonical text of a file is at most.
-use Rattle.std.proofs.Common.{◌≡◌, ◌≢◌, ◌∙◌, ℕ, refl, sym, ap, subst, ◌+◌, ◌*◌, ◌^◌, ◌<◌, ◌≤◌, Bool, true, false, List, ◌∷◌, ◌++◌, length, take, drop, map, arith, ℤ, length-append}
-use Rattle.std.proofs.lemmas.Bool.{and_parts, leb-true, false≢true}
+use Rattle.tsp_file.proofs.Prelude.{◌≡◌, ◌≢◌, ◌∙◌, ℕ, refl, sym, ap, subst, ◌+◌, ◌*◌, ◌^◌, ◌<◌, ◌≤◌, Bool, true, false, List, ◌∷◌, ◌++◌, length, take, drop, map, arith, ℤ, length-append, and_parts, leb-true, false≢true, ints, take-append-drop, list_all-append, flat_map-map, sum_by-cons, decimal, signed_decimal, flat_map, list_all, enumerate_from, sum_by, pos, unsigned_abs, Some, Option, unwrap_or, [], ◌&&◌, nat_le, codes, Point, most_nodes, most_weight}
 use Rattle.std.proofs.lemmas.Fmt.{length-decimal-le, length_signed_le}
-use Rattle.std.proofs.lemmas.Int.{ints}
-use Rattle.std.proofs.lemmas.List.{take-append-drop}
-use Rattle.std.proofs.lemmas.List.Folds.{list_all-append, flat_map-map}
-use Rattle.std.proofs.lemmas.List.Sums.{sum_by-cons}
-use Rattle.std.specs.Fmt.{decimal, signed_decimal}
 use Rattle.std.specs.Int.Signed.{mag}
-use Rattle.std.specs.List.{flat_map, list_all, enumerate_from, sum_by}
-use Rattle.std.specs.Prelude.{pos, unsigned_abs, Some, Option, unwrap_or, [], ◌&&◌, nat_le, codes}
 use Rattle.tsp_number.specs.Distances.{IsEuc2d, IsCeil2d, IsMan2d, IsMax2d, IsAtt, IsEuc3d, IsMan3d, IsMax3d, euc_2d_of, ceil_2d_of, man_2d_of, max_2d_of, att_of, euc_3d_of, man_3d_of, max_3d_of, IsDistance, IsDistanceInSpace}
-use Rattle.tsp_number.specs.declared.decimal.Point.{Point}
-use Rattle.tsp_format.specs.Limits.{most_nodes, most_weight}
 use Rattle.tsp_format.specs.declared.kinds.WeightKind.{WeightKind}
 use Rattle.tsp_format.specs.declared.kinds.WeightKind.TheVariants.{Explicit, Euc2d, Ceil2d, Man2d, Max2d, Att, Euc3d, Man3d, Max3d}
 use Rattle.tsp_file.specs.ByInequalities.{IsDistanceBy}

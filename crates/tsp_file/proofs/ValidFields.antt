@@ -1,41 +1,23 @@
 -- Which fields are valid, and that the first bad field is found.
-use Rattle.std.proofs.Common.{◌≡◌, ℕ, zero, suc, ◌+◌, [], ◌∷◌, ◌≤◌, Bool, true, false, List, length, map, refl, sym, ap, ◌∙◌, arith, ◌<◌, drop, ◌^◌, pos, ◌≤ℤ◌, to_z, of_z, FitsSigned, rules, ◌*◌, cond, Option, None, Some, subst, inl, inr}
-use Rattle.std.proofs.lemmas.Bool.{le-leb, false≢true, leb-true, eqb-true}
+use Rattle.tsp_file.proofs.Prelude.{◌≡◌, ℕ, zero, suc, ◌+◌, [], ◌∷◌, ◌≤◌, Bool, true, false, List, length, map, refl, sym, ap, ◌∙◌, arith, ◌<◌, drop, ◌^◌, pos, ◌≤ℤ◌, to_z, of_z, FitsSigned, rules, ◌*◌, cond, Option, None, Some, subst, inl, inr, le-leb, false≢true, leb-true, eqb-true, and_parts, and_from, or_right, or_parts, ints, to_z-of_z, length-map, at_drop_more, list_all-map, list_all-from_AllPass, AllPass-from_list_all, w64, fold, list_all, sum_by, All, AllByRecursion, Contains, find, option_map, ◌&&◌, nat_le, replicate, ℤ, slice_index_or as get_or, not, ◌||◌, ◌==◌, IsTrue, IsSome, is_some, ◌⊎◌, neg_ℤ, int_le, Point, Contains-tail, most_tour_nodes, most_families, most_family_nodes, most_branches, most_changes, most_nodes, most_matrix_nodes, most_coordinate, most_weight, most_demand, most_capacity, most_scale, most_load_unit, most_potential, most_depots, most_fixed, most_triples, most_multiplier, most_difference, IsNode, cells, are_whole, branch_count, change_count, Step, Branch, Leaf, IsFromTo, Field, WeightFormat, ByFunction, Listed, Layout, step_of, steps_of}
 use Rattle.std.proofs.lemmas.Bool.Decides.{Decides-int_eq, nat_tests}
-use Rattle.std.proofs.lemmas.Int.{ints, to_z-of_z}
-use Rattle.std.proofs.lemmas.List.{length-map, at_drop_more}
-use Rattle.std.proofs.lemmas.List.Elements.{All-weaker, All-from_recursion, All-contains}
-use Rattle.std.proofs.lemmas.List.Folds.{list_all-map}
-use Rattle.std.proofs.lemmas.List.Sums.{list_all-from_AllPass, AllPass-from_list_all}
+use Rattle.std.proofs.lemmas.List.Elements.{All-weaker}
 use Rattle.std.specs.Global.{Vec}
-use Rattle.std.specs.Int.{w64}
-use Rattle.std.specs.List.{fold, list_all, sum_by, All, AllByRecursion, Contains, find}
-use Rattle.std.specs.Option.{option_map, option_or}
-use Rattle.std.specs.Prelude.{◌&&◌, nat_le, replicate, ℤ, slice_index_or as get_or, not, ◌||◌, ◌==◌, IsTrue, IsSome, is_some, ◌⊎◌, neg_ℤ, int_le}
-use Rattle.std.specs.Str.{bytes_eq}
-use Rattle.tsp_number.specs.declared.decimal.Point.{Point}
-use Rattle.tsp_format.specs.Limits.{most_tour_nodes, most_combs, most_comb_nodes, most_branches, most_changes, most_nodes, most_matrix_nodes, most_coordinate, most_weight, most_demand, most_capacity, most_scale, most_load_unit, most_potential, most_depots, most_fixed, most_triples, most_multiplier, most_difference}
-use Rattle.tsp_format.specs.Nodes.{IsNode, cells}
-use Rattle.tsp_format.specs.Steps.{are_whole, branch_count, change_count, Step, Branch, Leaf, IsFromTo}
-use Rattle.tsp_format.specs.Words.{field_word, fields_in_order, field_found}
-use Rattle.tsp_format.specs.declared.keyword.Field.{Field}
+use Rattle.tsp_format.proofs.Basics.{none_or, none_map}
 use Rattle.tsp_format.specs.declared.keyword.Field.TheVariants as fields
 use Rattle.tsp_format.specs.declared.keyword.Shape.TheVariants.{Points, SpacePoints}
 use Rattle.tsp_format.specs.declared.kinds.Kind.{Kind}
 use Rattle.tsp_format.specs.declared.kinds.Kind.TheVariants as kinds
-use Rattle.tsp_format.specs.declared.kinds.WeightFormat.{WeightFormat}
-use Rattle.tsp_format.specs.declared.kinds.WeightFormat.TheVariants.{ByFunction, Listed}
-use Rattle.tsp_format.specs.declared.layout.Layout.{Layout}
 use Rattle.tsp_format.specs.declared.steps.TreeStep.{TreeStep}
 use Rattle.tsp_format.specs.declared.steps.TreeStep.TheVariants as listed
-use Rattle.tsp_format.specs.states.TreeSteps.{step_of, steps_of}
+use Rattle.tsp_file.proofs.FieldLengths.{all_fit}
 use Rattle.tsp_file.specs.Fields.{Fields, spatial}
 use Rattle.tsp_file.specs.Rules.{standing_of, count_of, is_instance, is_routing, is_tour_file, is_potentials_file, is_branches_file, is_explicit, is_function, has_explicit_weights, is_there, asked_in_order, has_wrong_format, is_count, has_wrong_count, has_row_or_column, has_node_or_multiplier, end_fault, format_or_count, fault_of}
-use Rattle.tsp_file.specs.Valid.{IsWithin, IsByNode, IsThird, IsPoint, IsDemand, IsPairOf, IsNodeList, AreDepots, AreFixed, IsTripleOf, AreTriples, AreWeights, AreTours, IsInRange, HasInstance, HasRouting, HasPotentials, IsSetOf, AreSets, AreCombs, IsChange, IsBranchOf, IsStep, AreTreeSteps, HasBranches}
-use Rattle.tsp_file.specs.Validity.{is_node_list, are_tours, is_set_of, are_sets, are_combs, is_step, are_tree_steps, is_from_to, if_there, is_within, is_node, with_dimension, is_by_node, is_third, is_point, is_demand, section_fits, are_depots, is_pair_of, are_fixed, is_triple_of, are_triples, fit_matrix, is_change, is_branch_of, fits, first_failing, bad_field}
+use Rattle.tsp_file.specs.Valid.{IsWithin, IsByNode, IsThird, IsPoint, IsDemand, IsPairOf, IsNodeList, AreDepots, AreFixed, IsTripleOf, AreTriples, AreWeights, AreTours, IsInRange, HasInstance, HasRouting, HasPotentials, IsSetOf, AreSets, AreFamilyLists, IsChange, IsBranchOf, IsStep, AreTreeSteps, HasBranches}
+use Rattle.tsp_file.specs.Validity.{is_node_list, are_tours, is_set_of, are_sets, are_family_lists, is_step, are_tree_steps, is_from_to, if_there, is_within, is_node, with_dimension, is_by_node, is_third, is_point, is_demand, section_fits, are_depots, is_pair_of, are_fixed, is_triple_of, are_triples, fit_matrix, is_change, is_branch_of, fits, first_failing, bad_field}
 use Rattle.tsp_file.specs.declared.rules.DraftFault.TheVariants.{BadField, Rule}
 use Rattle.tsp_file.specs.declared.rules.EndFault.TheVariants.{Missing, WrongFormat, WrongCount}
-use Rattle.tsp_file.specs.states.Drafts.{combs_of}
+use Rattle.tsp_file.specs.states.Drafts.{families_of}
 
 pub mapped_all : {X Y : Type 0} (h : Y → X) (p : X → Bool) (ys : List Y) (r : Bool) (most count : ℕ)
     → r ≡ list_all (λ y. p (h y)) ys → count ≤ most → count ≡ length ys
@@ -58,33 +40,33 @@ pub mapped_tours : (tours : List (Vec ℕ)) (r : Bool)
 mapped_tours tours r e =
     e ∙ rw (list_all-map is_node_list (λ (tour : Vec ℕ). tour.items) tours, sum_by_mapped (λ (t : List ℕ). length t) (λ (tour : Vec ℕ). tour.items) tours) refl
 
--- ---- combs
+-- ---- families
 
-pub comb_seen : (n : ℕ) (sets : List (Vec ℕ))
+pub family_seen : (n : ℕ) (sets : List (Vec ℕ))
     → are_sets n (map (λ set. set.items) sets) ≡ (nat_le 1 (length sets) && list_all (λ set. is_set_of n set.items) sets)
-comb_seen n sets =
+family_seen n sets =
     rw (length-map sets (λ (set : Vec ℕ). set.items), list_all-map (is_set_of n) (λ (set : Vec ℕ). set.items) sets) refl
 
--- the number of nodes in the sets of combs
-nodes_seen : (combs : List (Vec (Vec ℕ)))
-    → sum_by (sum_by length) (combs_of combs) ≡ sum_by (λ comb. sum_by (λ set. length set.items) comb.items) combs
-nodes_seen combs = sum_by_mapped (sum_by length) (λ (comb : Vec (Vec ℕ)). map (λ set. set.items) comb.items) combs ∙ each combs 0
+-- the number of nodes in the sets of families
+nodes_seen : (families : List (Vec (Vec ℕ)))
+    → sum_by (sum_by length) (families_of families) ≡ sum_by (λ family. sum_by (λ set. length set.items) family.items) families
+nodes_seen families = sum_by_mapped (sum_by length) (λ (family : Vec (Vec ℕ)). map (λ set. set.items) family.items) families ∙ each families 0
   where
-    each : (combs : List (Vec (Vec ℕ))) (total : ℕ) → fold (λ a comb. a + sum_by length (map (λ set. set.items) comb.items)) total combs
-        ≡ fold (λ a comb. a + sum_by (λ set. length set.items) comb.items) total combs
+    each : (families : List (Vec (Vec ℕ))) (total : ℕ) → fold (λ a family. a + sum_by length (map (λ set. set.items) family.items)) total families
+        ≡ fold (λ a family. a + sum_by (λ set. length set.items) family.items) total families
     each [] total = refl
-    each (comb ∷ combs) total =
-        rw (sum_by_mapped (λ (set : List ℕ). length set) (λ (set : Vec ℕ). set.items) comb.items)
-        (each combs (total + sum_by (λ set. length set.items) comb.items))
+    each (family ∷ families) total =
+        rw (sum_by_mapped (λ (set : List ℕ). length set) (λ (set : Vec ℕ). set.items) family.items)
+        (each families (total + sum_by (λ set. length set.items) family.items))
 
-pub combs_seen : (n : ℕ) (combs : List (Vec (Vec ℕ))) → are_combs n (combs_of combs)
-    ≡ (nat_le (length combs) most_combs && list_all (λ comb. are_sets n (map (λ set. set.items) comb.items)) combs
-    && nat_le (sum_by (λ comb. sum_by (λ set. length set.items) comb.items) combs) most_comb_nodes)
-combs_seen n combs =
+pub families_seen : (n : ℕ) (families : List (Vec (Vec ℕ))) → are_family_lists n (families_of families)
+    ≡ (nat_le (length families) most_families && list_all (λ family. are_sets n (map (λ set. set.items) family.items)) families
+    && nat_le (sum_by (λ family. sum_by (λ set. length set.items) family.items) families) most_family_nodes)
+families_seen n families =
     rw (
-      length-map combs (λ (comb : Vec (Vec ℕ)). map (λ set. set.items) comb.items),
-      list_all-map (are_sets n) (λ (comb : Vec (Vec ℕ)). map (λ set. set.items) comb.items) combs,
-      nodes_seen combs,
+      length-map families (λ (family : Vec (Vec ℕ)). map (λ set. set.items) family.items),
+      list_all-map (are_sets n) (λ (family : Vec (Vec ℕ)). map (λ set. set.items) family.items) families,
+      nodes_seen families,
     ) refl
 
 -- ---- steps
@@ -160,18 +142,6 @@ all_from_to low high bits numbers under over all = list_all-from_AllPass (is_fro
 
 -- ---- tests that hold
 
-both : (a b : Bool) → (a && b) ≡ true → (a ≡ true) × (b ≡ true)
-both true b e = (refl, e)
-both false b e = absurd cc
-
-pub and_true : (a b : Bool) → a ≡ true → b ≡ true → (a && b) ≡ true
-and_true true b first second = second
-and_true false b first second = absurd cc
-
-or_true : (a b : Bool) → b ≡ true → (a || b) ≡ true
-or_true true b second = refl
-or_true false b second = second
-
 first_false : (a b : Bool) → (a && b) ≡ false → b ≡ true → a ≡ false
 first_false true b e second = absurd cc
 first_false false b e second = refl
@@ -184,18 +154,6 @@ second_false false b e first = absurd cc
 asked_there : (asked there : Bool) → (not asked || there) ≡ true → asked ≡ true → there ≡ true
 asked_there true there e asked = e
 asked_there false there e asked = absurd cc
-
-neither : (a b : Bool) → (a || b) ≡ false → (a ≡ false) × (b ≡ false)
-neither true b e = absurd cc
-neither false b e = (refl, e)
-
-none_or : {A : Type 0} (a b : Option A) → option_or a b ≡ None → (a ≡ None) × (b ≡ None)
-none_or None b e = (refl, e)
-none_or (Some x) b e = absurd cc
-
-none_map : {A B : Type 0} (f : A → B) (o : Option A) → option_map f o ≡ None → o ≡ None
-none_map f None e = refl
-none_map f (Some x) e = absurd cc
 
 not_chosen : {A : Type 0} (b : Bool) (x : A) (o : Option A) → cond b (Some x) o ≡ None → (b ≡ false) × (o ≡ None)
 not_chosen true x o e = absurd cc
@@ -211,9 +169,6 @@ all_pass test [] e = tt
 all_pass test (x ∷ xs) e =
     let here = not_chosen (not (test x)) x (first_failing test xs) e in
     (not_false (test x) here.0, all_pass test xs here.1)
-
-Contains-tail : {X : Type 0} (y : X) (ys : List X) (x : X) → Contains ys x → Contains (y ∷ ys) x
-Contains-tail y ys x h = (suc h.0, omega (arith, h.1), h.2)
 
 found_inside : {X : Type 0} (test : X → Bool) (xs : List X) (x : X) → find test xs ≡ Some x → Contains xs x
 found_inside test [] x e = absurd cc
@@ -232,11 +187,6 @@ no_bad_field f valid = none_map (λ field. BadField field) (bad_field f)
 no_end_fault : (f : Fields) → fault_of f ≡ None → end_fault (standing_of f) None ≡ None
 no_end_fault f valid = none_map (λ fault. Rule fault) (end_fault (standing_of f) None)
     (none_or (option_map (λ field. BadField field) (bad_field f)) (option_map (λ fault. Rule fault) (end_fault (standing_of f) None)) valid).1
-
-pub each_fits : (f : Fields) → fault_of f ≡ None → (field : Field) → fits f field ≡ true
-each_fits f valid field = All-contains (λ g. fits f g ≡ true) fields_in_order field
-    (All-from_recursion (λ g. fits f g ≡ true) fields_in_order (all_pass (fits f) fields_in_order (no_bad_field f valid)))
-    (found_inside (λ other. bytes_eq (field_word field) (field_word other)) fields_in_order field (field_found field))
 
 pub no_field_missing : (f : Fields) → fault_of f ≡ None → first_failing (is_there (standing_of f)) asked_in_order ≡ None
 no_field_missing f valid = none_map (λ field. Missing field) (first_failing (is_there (standing_of f)) asked_in_order)
@@ -257,14 +207,14 @@ format_and_count f valid =
 
 from_to : (low high z : ℤ) → is_from_to low high z ≡ true → IsFromTo low high z
 from_to low high z e =
-    let two = both (int_le low z) (int_le z high) e in
+    let two = and_parts (int_le low z) (int_le z high) e in
     (grind (arith, ints, two.0), grind (arith, ints, two.1))
 
 within : (most : ℕ) (z : ℤ) → is_within most z ≡ true → IsWithin most z
 within most z e = from_to (neg_ℤ (pos most)) (pos most) z e
 
 node : (n i : ℕ) → is_node n i ≡ true → IsNode n i
-node n i e = let two = both (nat_le 1 i) (nat_le i n) e in (leb-true 1 i two.0, leb-true i n two.1)
+node n i e = let two = and_parts (nat_le 1 i) (nat_le i n) e in (leb-true 1 i two.0, leb-true i n two.1)
 
 all_so : {A : Type 0} (test : A → Bool) (P : A → Type 0) → ((x : A) → test x ≡ true → P x) → (xs : List A)
     → list_all test xs ≡ true → All P xs
@@ -272,13 +222,13 @@ all_so test P so xs e = λ k d lt. so (get_or xs k d) (AllPass-from_list_all tes
 
 pair_of_nodes : (n : ℕ) (pair : ℕ × ℕ) → is_pair_of n pair ≡ true → IsPairOf n pair
 pair_of_nodes n pair e =
-    let first = both (is_node n pair.0 && is_node n pair.1) (not (pair.0 == pair.1)) e in
-    let nodes = both (is_node n pair.0) (is_node n pair.1) first.0 in
+    let first = and_parts (is_node n pair.0 && is_node n pair.1) (not (pair.0 == pair.1)) e in
+    let nodes = and_parts (is_node n pair.0) (is_node n pair.1) first.0 in
     (node n pair.0 nodes.0, node n pair.1 nodes.1, λ same. grind (arith, nat_tests, first.1, same))
 
 triple_of_nodes : (n : ℕ) (triple : ℕ × ℕ × ℤ) → is_triple_of n triple ≡ true → IsTripleOf n triple
 triple_of_nodes n triple e =
-    let two = both (is_pair_of n (triple.0, triple.1)) (is_from_to (pos 0) (pos most_multiplier) triple.2) e in
+    let two = and_parts (is_pair_of n (triple.0, triple.1)) (is_from_to (pos 0) (pos most_multiplier) triple.2) e in
     (pair_of_nodes n (triple.0, triple.1) two.0, from_to (pos 0) (pos most_multiplier) triple.2 two.1)
 
 third : (in_space : Bool) (z : ℤ) → is_third in_space z ≡ true → IsThird in_space z
@@ -287,8 +237,8 @@ third false z e = (Decides-int_eq z (pos 0)).0 e
 
 point : (in_space : Bool) (p : Point) → is_point in_space p ≡ true → IsPoint in_space p
 point in_space p e =
-    let flat = both (is_within most_coordinate p.x && is_within most_coordinate p.y) (is_third in_space p.z) e in
-    let two = both (is_within most_coordinate p.x) (is_within most_coordinate p.y) flat.0 in
+    let flat = and_parts (is_within most_coordinate p.x && is_within most_coordinate p.y) (is_third in_space p.z) e in
+    let two = and_parts (is_within most_coordinate p.x) (is_within most_coordinate p.y) flat.0 in
     (within most_coordinate p.x two.0, within most_coordinate p.y two.1, third in_space p.z flat.1)
 
 -- the points of nodes are judged by whether the file is spatial
@@ -302,7 +252,7 @@ nodes_fit f false = refl
 given : {A : Type 0} (test : A → Bool) (o : Option A) (x : A) → if_there test o ≡ true → o ≡ Some x → test x ≡ true
 given test o x e stands = subst (λ v. if_there test v ≡ true) stands e
 
-dimensioned : {A : Type 0} (test : ℕ → A → Bool) (dimension : Option ℕ) (x : A) → with_dimension test dimension x ≡ true
+pub dimensioned : {A : Type 0} (test : ℕ → A → Bool) (dimension : Option ℕ) (x : A) → with_dimension test dimension x ≡ true
     → (n : ℕ) × (dimension ≡ Some n) × (test n x ≡ true)
 dimensioned test None x e = absurd cc
 dimensioned test (Some n) x e = (n, refl, e)
@@ -312,19 +262,19 @@ by_node : {A : Type 0} (f : Fields) (test : A → Bool) (P : A → Type 0) → (
     → if_there (with_dimension (is_by_node test) f.dimension) o ≡ true → o ≡ Some xs → IsByNode P f xs
 by_node f test P so o xs e stands =
     let held = dimensioned (is_by_node test) f.dimension xs (given (with_dimension (is_by_node test) f.dimension) o xs e stands) in
-    let two = both (length xs == held.0) (list_all test xs) held.2 in
+    let two = and_parts (length xs == held.0) (list_all test xs) held.2 in
     (held.1 ∙ ap Some (sym (eqb-true (length xs) held.0 two.0)), all_so test P so xs two.1)
 
 depots_in : (f : Fields) (depots : List ℕ) → fits f fields.DepotPart ≡ true → f.depots ≡ Some depots → AreDepots f depots
 depots_in f depots e stands =
     let held = dimensioned are_depots f.dimension depots (given (with_dimension are_depots f.dimension) f.depots depots e stands) in
-    let two = both (nat_le (length depots) most_depots) (list_all (is_node held.0) depots) held.2 in
+    let two = and_parts (nat_le (length depots) most_depots) (list_all (is_node held.0) depots) held.2 in
     record { n = held.0; dimension = held.1; few = leb-true (length depots) most_depots two.0; nodes = all_so (is_node held.0) (IsNode held.0) (node held.0) depots two.1 }
 
 fixed_in : (f : Fields) (pairs : List (ℕ × ℕ)) → fits f fields.FixedEdgesPart ≡ true → f.fixed ≡ Some pairs → AreFixed f pairs
 fixed_in f pairs e stands =
     let held = dimensioned are_fixed f.dimension pairs (given (with_dimension are_fixed f.dimension) f.fixed pairs e stands) in
-    let two = both (nat_le (length pairs) most_fixed) (list_all (is_pair_of held.0) pairs) held.2 in
+    let two = and_parts (nat_le (length pairs) most_fixed) (list_all (is_pair_of held.0) pairs) held.2 in
     record { n = held.0; dimension = held.1; few = leb-true (length pairs) most_fixed two.0; pairs_of_nodes = all_so (is_pair_of held.0) (IsPairOf held.0) (pair_of_nodes held.0) pairs two.1 }
 
 triples_in : (f : Fields) (triples : List (ℕ × ℕ × ℤ)) → fits f fields.FixedEdgePotentialPart ≡ true
@@ -333,7 +283,7 @@ triples_in : (f : Fields) (triples : List (ℕ × ℕ × ℤ)) → fits f fields
 triples_in f triples e stands =
     let given_so = given (with_dimension are_triples f.dimension) f.fixed_potentials triples e stands in
     let held = dimensioned are_triples f.dimension triples given_so in
-    let two = both (nat_le (length triples) most_triples) (list_all (is_triple_of held.0) triples) held.2 in
+    let two = and_parts (nat_le (length triples) most_triples) (list_all (is_triple_of held.0) triples) held.2 in
     record {
       n = held.0;
       dimension = held.1;
@@ -343,49 +293,49 @@ triples_in f triples e stands =
 
 tours_in : (tours : List (List ℕ)) → are_tours tours ≡ true → AreTours tours
 tours_in tours e =
-    let two = both (list_all is_node_list tours) (nat_le (sum_by length tours) most_tour_nodes) e in
+    let two = and_parts (list_all is_node_list tours) (nat_le (sum_by length tours) most_tour_nodes) e in
     (all_so is_node_list IsNodeList listed tours two.0, leb-true (sum_by length tours) most_tour_nodes two.1)
   where
     listed : (tour : List ℕ) → is_node_list tour ≡ true → IsNodeList tour
     listed tour e =
-        let two = both (nat_le 1 (length tour)) (list_all (is_node most_nodes) tour) e in
+        let two = and_parts (nat_le 1 (length tour)) (list_all (is_node most_nodes) tour) e in
         (leb-true 1 (length tour) two.0, all_so (is_node most_nodes) (IsNode most_nodes) (node most_nodes) tour two.1)
 
 set_of : (n : ℕ) (set : List ℕ) → is_set_of n set ≡ true → IsSetOf n set
 set_of n set e =
-    let two = both (nat_le 1 (length set)) (list_all (is_node n) set) e in
+    let two = and_parts (nat_le 1 (length set)) (list_all (is_node n) set) e in
     (leb-true 1 (length set) two.0, all_so (is_node n) (IsNode n) (node n) set two.1)
 
-sets_of : (n : ℕ) (comb : List (List ℕ)) → are_sets n comb ≡ true → AreSets n comb
-sets_of n comb e =
-    let two = both (nat_le 1 (length comb)) (list_all (is_set_of n) comb) e in
-    (leb-true 1 (length comb) two.0, all_so (is_set_of n) (IsSetOf n) (set_of n) comb two.1)
+sets_of : (n : ℕ) (family : List (List ℕ)) → are_sets n family ≡ true → AreSets n family
+sets_of n family e =
+    let two = and_parts (nat_le 1 (length family)) (list_all (is_set_of n) family) e in
+    (leb-true 1 (length family) two.0, all_so (is_set_of n) (IsSetOf n) (set_of n) family two.1)
 
-combs_in : (f : Fields) (combs : List (List (List ℕ))) → fits f fields.CombPart ≡ true → f.combs ≡ Some combs → AreCombs f combs
-combs_in f combs e stands =
-    let held = dimensioned are_combs f.dimension combs (given (with_dimension are_combs f.dimension) f.combs combs e stands) in
-    let few = nat_le (length combs) most_combs in
-    let nodes = nat_le (sum_by (sum_by length) combs) most_comb_nodes in
-    let two = both (few && list_all (are_sets held.0) combs) nodes held.2 in
-    let first = both few (list_all (are_sets held.0) combs) two.0 in
+families_in : (f : Fields) (families : List (List (List ℕ))) → fits f fields.FamilyPart ≡ true → f.families ≡ Some families → AreFamilyLists f families
+families_in f families e stands =
+    let held = dimensioned are_family_lists f.dimension families (given (with_dimension are_family_lists f.dimension) f.families families e stands) in
+    let few = nat_le (length families) most_families in
+    let nodes = nat_le (sum_by (sum_by length) families) most_family_nodes in
+    let two = and_parts (few && list_all (are_sets held.0) families) nodes held.2 in
+    let first = and_parts few (list_all (are_sets held.0) families) two.0 in
     record {
       n = held.0;
       dimension = held.1;
-      few = leb-true (length combs) most_combs first.0;
-      sets = all_so (are_sets held.0) (AreSets held.0) (sets_of held.0) combs first.1;
-      few_nodes = leb-true (sum_by (sum_by length) combs) most_comb_nodes two.1;
+      few = leb-true (length families) most_families first.0;
+      sets = all_so (are_sets held.0) (AreSets held.0) (sets_of held.0) families first.1;
+      few_nodes = leb-true (sum_by (sum_by length) families) most_family_nodes two.1;
     }
 
 change : (n : ℕ) (entry : ℕ × ℤ) → is_change n entry ≡ true → IsChange n entry
 change n entry e =
-    let two = both (is_node (n + most_combs) entry.0) (is_within most_difference entry.1) e in
-    (node (n + most_combs) entry.0 two.0, within most_difference entry.1 two.1)
+    let two = and_parts (is_node (n + most_families) entry.0) (is_within most_difference entry.1) e in
+    (node (n + most_families) entry.0 two.0, within most_difference entry.1 two.1)
 
 branch : (n : ℕ) (entry : ℕ × ℕ) → is_branch_of n entry ≡ true → IsBranchOf n entry
 branch n entry e =
-    let first = both (is_node (n + most_combs) entry.0 && is_node n entry.1) (not (entry.0 == entry.1)) e in
-    let nodes = both (is_node (n + most_combs) entry.0) (is_node n entry.1) first.0 in
-    (node (n + most_combs) entry.0 nodes.0, node n entry.1 nodes.1, λ same. grind (arith, nat_tests, first.1, same))
+    let first = and_parts (is_node (n + most_families) entry.0 && is_node n entry.1) (not (entry.0 == entry.1)) e in
+    let nodes = and_parts (is_node (n + most_families) entry.0) (is_node n entry.1) first.0 in
+    (node (n + most_families) entry.0 nodes.0, node n entry.1 nodes.1, λ same. grind (arith, nat_tests, first.1, same))
 
 step : (n : ℕ) (s : Step) → is_step n s ≡ true → IsStep n s
 step n (Branch first second) e = branch n (first, second) e
@@ -397,9 +347,9 @@ steps_in f steps e stands =
     let few = nat_le (branch_count steps) most_branches in
     let changes = nat_le (change_count steps) most_changes in
     let each = list_all (is_step held.0) steps in
-    let third = both (each && few && changes) (are_whole 1 steps) held.2 in
-    let second = both (each && few) changes third.0 in
-    let first = both each few second.0 in
+    let third = and_parts (each && few && changes) (are_whole 1 steps) held.2 in
+    let second = and_parts (each && few) changes third.0 in
+    let first = and_parts each few second.0 in
     record {
       n = held.0;
       dimension = held.1;
@@ -428,14 +378,14 @@ counted n layout weights dimension format stand e is_n is_layout fit_matrix = eq
 weights_in : (f : Fields) (weights : List ℤ) → fault_of f ≡ None → f.weights ≡ Some weights → AreWeights f weights
 weights_in f weights valid stands =
     let s = standing_of f in
-    let held = dimensioned fit_matrix f.dimension weights (given (with_dimension fit_matrix f.dimension) f.weights weights (each_fits f valid fields.EdgeWeightPart) stands) in
-    let most = both (nat_le held.0 most_matrix_nodes && nat_le (length weights) (held.0 * held.0)) (list_all (is_within most_weight) weights) held.2 in
-    let few = both (nat_le held.0 most_matrix_nodes) (nat_le (length weights) (held.0 * held.0)) most.0 in
+    let held = dimensioned fit_matrix f.dimension weights (given (with_dimension fit_matrix f.dimension) f.weights weights (all_fit f valid fields.EdgeWeightPart) stands) in
+    let most = and_parts (nat_le held.0 most_matrix_nodes && nat_le (length weights) (held.0 * held.0)) (list_all (is_within most_weight) weights) held.2 in
+    let few = and_parts (nat_le held.0 most_matrix_nodes) (nat_le (length weights) (held.0 * held.0)) most.0 in
     let there : is_some f.weights ≡ true = ap is_some stands in
-    let asked : (has_explicit_weights s || is_some f.weights) ≡ true = or_true (has_explicit_weights s) (is_some f.weights) there in
+    let asked : (has_explicit_weights s || is_some f.weights) ≡ true = or_right (has_explicit_weights s) (is_some f.weights) there in
     let has_format : is_some f.weight_format ≡ true = asked_there (has_explicit_weights s || is_some f.weights) (is_some f.weight_format) (none_missing f valid).1.1.1.0 asked in
     let rules = format_and_count f valid in
-    let right_format = neither (is_function f.weight_format && (has_explicit_weights s || is_some f.weights)) (is_potentials_file f.kind && has_node_or_multiplier s && has_row_or_column s) rules.0 in
+    let right_format = or_parts (is_function f.weight_format && (has_explicit_weights s || is_some f.weights)) (is_potentials_file f.kind && has_node_or_multiplier s && has_row_or_column s) rules.0 in
     let format = listed_format f.weight_format has_format (first_false (is_function f.weight_format) (has_explicit_weights s || is_some f.weights) right_format.0 asked) in
     let right_count = not_false (is_count f.dimension f.weight_format (count_of f.weights))
     (second_false (is_some f.weights) (not (is_count f.dimension f.weight_format (count_of f.weights))) rules.1 there) in
@@ -451,25 +401,25 @@ weights_in f weights valid stands =
 
 pub in_range : (f : Fields) → fault_of f ≡ None → IsInRange f
 in_range f valid = record {
-  dimension = λ n stands. node most_nodes n (given (is_node most_nodes) f.dimension n (each_fits f valid fields.DimensionKey) stands);
-  capacity = λ z stands. from_to (pos 1) (pos most_capacity) z (given (is_from_to (pos 1) (pos most_capacity)) f.capacity z (each_fits f valid fields.CapacityKey) stands);
-  scale = λ z stands. from_to (pos 1) (pos most_scale) z (given (is_from_to (pos 1) (pos most_scale)) f.scale z (each_fits f valid fields.ScaleKey) stands);
-  load_unit = λ z stands. from_to (pos 1) (pos most_load_unit) z (given (is_from_to (pos 1) (pos most_load_unit)) f.load_unit z (each_fits f valid fields.LoadUnitKey) stands);
+  dimension = λ n stands. node most_nodes n (given (is_node most_nodes) f.dimension n (all_fit f valid fields.DimensionKey) stands);
+  capacity = λ z stands. from_to (pos 1) (pos most_capacity) z (given (is_from_to (pos 1) (pos most_capacity)) f.capacity z (all_fit f valid fields.CapacityKey) stands);
+  scale = λ z stands. from_to (pos 1) (pos most_scale) z (given (is_from_to (pos 1) (pos most_scale)) f.scale z (all_fit f valid fields.ScaleKey) stands);
+  load_unit = λ z stands. from_to (pos 1) (pos most_load_unit) z (given (is_from_to (pos 1) (pos most_load_unit)) f.load_unit z (all_fit f valid fields.LoadUnitKey) stands);
   coords = λ points. by_node f (is_point (spatial f)) (IsPoint (spatial f)) (point (spatial f)) f.coords points
-      (sym (nodes_fit f (spatial f)) ∙ each_fits f valid fields.NodeCoordPart);
-  display = λ points. by_node f (is_point false) (IsPoint false) (point false) f.display points (each_fits f valid fields.DisplayDataPart);
-  demands = λ demands. by_node f is_demand IsDemand (from_to (pos 0) (pos most_demand)) f.demands demands (each_fits f valid fields.DemandPart);
-  depots = λ depots. depots_in f depots (each_fits f valid fields.DepotPart);
-  fixed = λ pairs. fixed_in f pairs (each_fits f valid fields.FixedEdgesPart);
+      (sym (nodes_fit f (spatial f)) ∙ all_fit f valid fields.NodeCoordPart);
+  display = λ points. by_node f (is_point false) (IsPoint false) (point false) f.display points (all_fit f valid fields.DisplayDataPart);
+  demands = λ demands. by_node f is_demand IsDemand (from_to (pos 0) (pos most_demand)) f.demands demands (all_fit f valid fields.DemandPart);
+  depots = λ depots. depots_in f depots (all_fit f valid fields.DepotPart);
+  fixed = λ pairs. fixed_in f pairs (all_fit f valid fields.FixedEdgesPart);
   weights = λ weights. weights_in f weights valid;
-  tours = λ tours stands. tours_in tours (given are_tours f.tours tours (each_fits f valid fields.TourPart) stands);
-  node_potentials = λ potentials. by_node f (is_within most_potential) (IsWithin most_potential) (within most_potential) f.node_potentials potentials (each_fits f valid fields.NodePotentialPart);
-  row_potentials = λ potentials. by_node f (is_within most_potential) (IsWithin most_potential) (within most_potential) f.row_potentials potentials (each_fits f valid fields.RowPotentialPart);
+  tours = λ tours stands. tours_in tours (given are_tours f.tours tours (all_fit f valid fields.TourPart) stands);
+  node_potentials = λ potentials. by_node f (is_within most_potential) (IsWithin most_potential) (within most_potential) f.node_potentials potentials (all_fit f valid fields.NodePotentialPart);
+  row_potentials = λ potentials. by_node f (is_within most_potential) (IsWithin most_potential) (within most_potential) f.row_potentials potentials (all_fit f valid fields.RowPotentialPart);
   column_potentials = λ potentials. by_node f (is_within most_potential) (IsWithin most_potential) (within most_potential) f.column_potentials potentials
-      (each_fits f valid fields.ColumnPotentialPart);
-  fixed_potentials = λ triples. triples_in f triples (each_fits f valid fields.FixedEdgePotentialPart);
-  combs = λ combs. combs_in f combs (each_fits f valid fields.CombPart);
-  branches = λ steps. steps_in f steps (each_fits f valid fields.BranchPart);
+      (all_fit f valid fields.ColumnPotentialPart);
+  fixed_potentials = λ triples. triples_in f triples (all_fit f valid fields.FixedEdgePotentialPart);
+  families = λ families. families_in f families (all_fit f valid fields.FamilyPart);
+  branches = λ steps. steps_in f steps (all_fit f valid fields.BranchPart);
 }
 
 -- ---- presence
@@ -512,9 +462,9 @@ has_instance f valid is_one =
       dimension = asked_there (not (is_tour_file f.kind)) (is_some f.dimension) there.1.0 (instance_is_no_tours f.kind is_one);
       weight_kind = kind_there;
       weights = λ explicit. asked_there (is_instance f.kind && is_explicit f.weight_kind) (is_some f.weights) there.1.1.1.1.1.1.0
-          (and_true (is_instance f.kind) (is_explicit f.weight_kind) is_one explicit);
+          (and_from (is_instance f.kind) (is_explicit f.weight_kind) is_one explicit);
       coords = λ distance. asked_there (is_instance f.kind && is_some f.weight_kind && not (is_explicit f.weight_kind)) (is_some f.coords) there.1.1.1.1.1.0
-          (and_true (is_instance f.kind && is_some f.weight_kind) (not (is_explicit f.weight_kind)) (and_true (is_instance f.kind) (is_some f.weight_kind) is_one kind_there) (ap not distance));
+          (and_from (is_instance f.kind && is_some f.weight_kind) (not (is_explicit f.weight_kind)) (and_from (is_instance f.kind) (is_some f.weight_kind) is_one kind_there) (ap not distance));
     }
 
 pub has_routing : (f : Fields) → fault_of f ≡ None → IsTrue (is_routing f.kind) → HasRouting f
@@ -547,16 +497,16 @@ has_potentials f valid is_one =
     let there = none_missing f valid in
     let s = standing_of f in
     let no_node = not (is_some f.row_potentials || is_some f.column_potentials) in
-    let right_format = neither (is_function f.weight_format && (has_explicit_weights s || is_some f.weights))
+    let right_format = or_parts (is_function f.weight_format && (has_explicit_weights s || is_some f.weights))
     (is_potentials_file f.kind && has_node_or_multiplier s && has_row_or_column s) (format_and_count f valid).0 in
     record {
       dimension = asked_there (not (is_tour_file f.kind)) (is_some f.dimension) there.1.0 (certificate_is_no_tours f.kind is_one);
       sort = one_sort f.node_potentials f.fixed_potentials f.row_potentials f.column_potentials
-          (λ none. asked_there (is_potentials_file f.kind && no_node) (is_some f.node_potentials) there.1.1.1.1.1.1.1.1.1.1.0 (and_true (is_potentials_file f.kind) no_node is_one none))
+          (λ none. asked_there (is_potentials_file f.kind && no_node) (is_some f.node_potentials) there.1.1.1.1.1.1.1.1.1.1.0 (and_from (is_potentials_file f.kind) no_node is_one none))
           (λ column. asked_there (is_potentials_file f.kind && is_some f.column_potentials) (is_some f.row_potentials) there.1.1.1.1.1.1.1.1.1.1.1.0
-          (and_true (is_potentials_file f.kind) (is_some f.column_potentials) is_one column))
+          (and_from (is_potentials_file f.kind) (is_some f.column_potentials) is_one column))
           (λ row. asked_there (is_potentials_file f.kind && is_some f.row_potentials) (is_some f.column_potentials) there.1.1.1.1.1.1.1.1.1.1.1.1.0
-          (and_true (is_potentials_file f.kind) (is_some f.row_potentials) is_one row))
+          (and_from (is_potentials_file f.kind) (is_some f.row_potentials) is_one row))
           (subst (λ (b : Bool). (b && has_node_or_multiplier s && has_row_or_column s) ≡ false) is_one right_format.1);
     }
 

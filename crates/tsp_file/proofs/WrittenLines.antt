@@ -1,26 +1,12 @@
 -- Lines, digits, blocks and matrices as they are written, part by part.
-use Rattle.std.proofs.Common.{◌≡◌, ℕ, ◌==◌, true, false, List, [], ◌∷◌, ◌++◌, length, map, sym, subst, append_assoc, arith, zero, suc, ◌+◌, ◌-◌, ◌*◌, ◌/◌, ◌%◌, ◌^◌, ◌<◌, ◌≤◌, drop, max, refl, ap, ◌∙◌, inl, inr, length-append, take, min}
+use Rattle.tsp_file.proofs.Prelude.{◌≡◌, ℕ, ◌==◌, true, false, List, [], ◌∷◌, ◌++◌, length, map, sym, subst, append_assoc, arith, zero, suc, ◌+◌, ◌-◌, ◌*◌, ◌/◌, ◌%◌, ◌^◌, ◌<◌, ◌≤◌, drop, max, refl, ap, ◌∙◌, inl, inr, length-append, take, min, cases_lt, and_parts, leb-true, false≢true, drop-drop, drop_at, drop-append-le, take_min, drop_min, take-append-drop, drop_all, flat_map-map, sum_by-cons, signed_decimal, decimal, flat_map, range_with_len, list_all, sum_by, ℤ, ◌&&◌, not, nat_le, codes, carried_none, carried_then, carried_failed, Way, Carried, most_nodes, most_families, most_family_nodes, most_branches, most_changes, most_difference, nodes_to, Step, Branch, Leaf, are_whole, branch_count, change_count, field_word, Field}
 use Rattle.std.proofs.Math.Nat.{pow-suc}
-use Rattle.std.proofs.lemmas.Bool.{cases_lt, and_parts, leb-true, false≢true}
 use Rattle.std.proofs.lemmas.Bool.Decides.{nat_tests}
 use Rattle.std.proofs.lemmas.Fmt.{decimal_digit, decimal_step, length-decimal-le}
 use Rattle.std.proofs.lemmas.Grind.{flat_map-append}
-use Rattle.std.proofs.lemmas.List.{drop-drop, drop_at, drop-append-le, take_min, drop_min, take-append-drop, drop_all}
-use Rattle.std.proofs.lemmas.List.Folds.{flat_map-map}
-use Rattle.std.proofs.lemmas.List.Sums.{sum_by-cons}
-use Rattle.std.specs.Fmt.{signed_decimal, decimal}
-use Rattle.std.specs.List.{flat_map, range_with_len, list_all, sum_by}
-use Rattle.std.specs.Prelude.{ℤ, ◌&&◌, not, nat_le, codes}
-use Rattle.tsp_io.proofs.Carrying.{carried_none, carried_then, carried_failed}
-use Rattle.tsp_io.specs.states.Watched.{Way, Carried}
-use Rattle.tsp_format.specs.Limits.{most_nodes, most_combs, most_comb_nodes, most_branches, most_changes, most_difference}
-use Rattle.tsp_format.specs.Nodes.{nodes_to}
-use Rattle.tsp_format.specs.Steps.{Step, Branch, Leaf, are_whole, branch_count, change_count}
-use Rattle.tsp_format.specs.Words.{field_word}
-use Rattle.tsp_format.specs.declared.keyword.Field.{Field}
 use Rattle.tsp_file.proofs.TextLengths.{three_parts, within_short, node_short, flat_short, line_of_two_short}
-use Rattle.tsp_file.specs.CanonicalText.{blank_before, line_end, number_line, section_text, weight_line, matrix_lines, before_blank, set_line, comb_lines, comb_list, change_words, step_line, case_tree_lines}
-use Rattle.tsp_file.specs.Validity.{is_within, is_node, is_set_of, are_sets, are_combs, is_change, is_step, are_tree_steps}
+use Rattle.tsp_file.specs.CanonicalText.{blank_before, line_end, number_line, section_text, weight_line, matrix_lines, before_blank, set_line, family_lines, family_list, change_words, step_line, case_tree_lines}
+use Rattle.tsp_file.specs.Validity.{is_within, is_node, is_set_of, are_sets, are_family_lists, is_change, is_step, are_tree_steps}
 
 -- no value, and no blank before it
 pub no_value : (a b : Way) (value : List ℕ) → (length value == 0) ≡ true → Carried a b [] → Carried a b (blank_before value)
@@ -300,7 +286,7 @@ comes_blocks weights [] a b empty h =
     words (x ∷ weights) = ap (λ t. (32 ∷ signed_decimal x) ++ t) (words weights)
 comes_blocks weights (x ∷ rest) a b empty h = absurd (grind (arith, nat_tests))
 
--- ---- a block of bytes with weights in it, each after a blank, filled from its end to its
+-- ---- a block of bytes with weights in it, each after a blank, filled from its end
 
 -- no weight is written yet
 pub block_begins : (weights : List ℤ) (block : List ℕ) → length block ≡ 576
@@ -323,7 +309,7 @@ blank_after word k short = omega (arith, length-append word (32 ∷ []), short)
 end_after : (line : List ℕ) → length (line ++ (codes "-1" ++ line_end)) ≡ length line + 3
 end_after line = length-append line (codes "-1" ++ line_end)
 
--- ---- combs
+-- ---- families
 
 -- a set has a node, so there are no more -1 than nodes
 set_short : (n : ℕ) → n ≤ most_nodes → (set : List ℕ) → is_set_of n set ≡ true → length (set_line set) ≤ 10 * length set
@@ -354,49 +340,49 @@ sets_short n most (set ∷ sets) all =
       sum,
     )
 
-comb_short : (n : ℕ) → n ≤ most_nodes → (comb : List (List ℕ)) → are_sets n comb ≡ true
-    → length (comb_lines comb) ≤ 10 * sum_by length comb + 3
-comb_short n most comb fits =
-    let parts = and_parts (nat_le 1 (length comb)) (list_all (is_set_of n) comb) fits in
-    omega (arith, sets_short n most comb parts.1, end_after (flat_map set_line comb))
+family_short : (n : ℕ) → n ≤ most_nodes → (family : List (List ℕ)) → are_sets n family ≡ true
+    → length (family_lines family) ≤ 10 * sum_by length family + 3
+family_short n most family fits =
+    let parts = and_parts (nat_le 1 (length family)) (list_all (is_set_of n) family) fits in
+    omega (arith, sets_short n most family parts.1, end_after (flat_map set_line family))
 
-each_comb_short : (n : ℕ) → n ≤ most_nodes → (combs : List (List (List ℕ))) → list_all (are_sets n) combs ≡ true
-    → length (flat_map comb_lines combs) ≤ 10 * sum_by (sum_by length) combs + 3 * length combs
-each_comb_short n most [] all = omega arith
-each_comb_short n most (comb ∷ combs) all =
-    let parts = and_parts (are_sets n comb) (list_all (are_sets n) combs) all in
-    let sum : sum_by (sum_by length) (comb ∷ combs) ≡ sum_by length comb + sum_by (sum_by length) combs =
-    sum_by-cons (sum_by length) comb combs in
+each_family_short : (n : ℕ) → n ≤ most_nodes → (families : List (List (List ℕ))) → list_all (are_sets n) families ≡ true
+    → length (flat_map family_lines families) ≤ 10 * sum_by (sum_by length) families + 3 * length families
+each_family_short n most [] all = omega arith
+each_family_short n most (family ∷ families) all =
+    let parts = and_parts (are_sets n family) (list_all (are_sets n) families) all in
+    let sum : sum_by (sum_by length) (family ∷ families) ≡ sum_by length family + sum_by (sum_by length) families =
+    sum_by-cons (sum_by length) family families in
     omega (
       arith,
-      length-append (comb_lines comb) (flat_map comb_lines combs),
-      comb_short n most comb parts.0,
-      each_comb_short n most combs parts.1,
+      length-append (family_lines family) (flat_map family_lines families),
+      family_short n most family parts.0,
+      each_family_short n most families parts.1,
       sum,
     )
 
--- each of 1,000,000 nodes in at most 10 bytes, and a line for each of 10,000 combs
-pub combs_short : (n : ℕ) (combs : List (List (List ℕ))) → n ≤ most_nodes → are_combs n combs ≡ true
-    → length (comb_list combs) ≤ 10030003
-combs_short n combs most fits =
-    let parts = three_parts (nat_le (length combs) most_combs) (list_all (are_sets n) combs)
-    (nat_le (sum_by (sum_by length) combs) most_comb_nodes) fits in
-    let few = leb-true (length combs) most_combs parts.0 in
-    let few_nodes = leb-true (sum_by (sum_by length) combs) most_comb_nodes parts.2 in
-    omega (arith, few, few_nodes, each_comb_short n most combs parts.1, end_after (flat_map comb_lines combs))
+-- each of 1,000,000 nodes in at most 10 bytes, and a line for each of 10,000 families
+pub families_short : (n : ℕ) (families : List (List (List ℕ))) → n ≤ most_nodes → are_family_lists n families ≡ true
+    → length (family_list families) ≤ 10030003
+families_short n families most fits =
+    let parts = three_parts (nat_le (length families) most_families) (list_all (are_sets n) families)
+    (nat_le (sum_by (sum_by length) families) most_family_nodes) fits in
+    let few = leb-true (length families) most_families parts.0 in
+    let few_nodes = leb-true (sum_by (sum_by length) families) most_family_nodes parts.2 in
+    omega (arith, few, few_nodes, each_family_short n most families parts.1, end_after (flat_map family_lines families))
 
 -- ---- steps
 
 -- an index of at most 110,000
-index_short : (n index : ℕ) → n ≤ most_nodes → is_node (n + most_combs) index ≡ true → length (decimal index) ≤ 6
+index_short : (n index : ℕ) → n ≤ most_nodes → is_node (n + most_families) index ≡ true → length (decimal index) ≤ 6
 index_short n index most fits =
-    let upper = leb-true index (n + most_combs) (and_parts (nat_le 1 index) (nat_le index (n + most_combs)) fits).1 in
+    let upper = leb-true index (n + most_families) (and_parts (nat_le 1 index) (nat_le index (n + most_families)) fits).1 in
     length-decimal-le 6 index (omega arith) (omega (arith, most, upper)) (omega (arith, most, upper))
 
 change_short : (n : ℕ) → n ≤ most_nodes → (change : ℕ × ℤ) → is_change n change ≡ true
     → length (flat_map before_blank (change_words change)) ≤ 25
 change_short n most change fits =
-    let parts = and_parts (is_node (n + most_combs) change.0) (is_within most_difference change.1) fits in
+    let parts = and_parts (is_node (n + most_families) change.0) (is_within most_difference change.1) fits in
     let index = blank_after (decimal change.0) 6 (index_short n change.0 most parts.0) in
     let difference = blank_after (signed_decimal change.1) 17
     (within_short 16 most_difference change.1 (omega arith) (omega arith) parts.1) in
@@ -426,7 +412,7 @@ leaf_short n most changes all =
 branch_short : (n first second : ℕ) → n ≤ most_nodes → is_step n (Branch first second) ≡ true
     → length (step_line (Branch first second)) ≤ 14
 branch_short n first second most fits =
-    let parts = three_parts (is_node (n + most_combs) first) (is_node n second) (not (first == second)) fits in
+    let parts = three_parts (is_node (n + most_families) first) (is_node n second) (not (first == second)) fits in
     line_of_two_short (decimal first) (decimal second) (index_short n first most parts.0, node_short n second most parts.1)
 
 -- a tree has one leaf more than branches, so there are as many lines of leaves, and one more

@@ -1,23 +1,13 @@
 -- The canonical text of a file: the texts of its fields in canonical order, then the line EOF. A field that is missing
 -- has no text.
-use Rattle.std.specs.Prelude.{ℕ, Bool, true, false, cond, List, [], ◌∷◌, ◌++◌, take, drop, map, length, codes, Option, Some, None, ℤ}
-use Rattle.std.specs.Option.{option_map_or}
-use Rattle.std.specs.List.{flat_map, enumerate_from}
-use Rattle.std.specs.Fmt.{decimal, signed_decimal}
-use Rattle.tsp_number.specs.declared.decimal.Point.{Point}
+use Rattle.tsp_file.specs.Prelude.{ℕ, Bool, true, false, cond, List, [], take, drop, map, length, codes, Option, Some, None, ℤ, option_map_or, flat_map, enumerate_from, decimal, Point, WeightFormat, Listed, Field, NameKey, TypeKey, CommentKey, OtherKey, DimensionKey, EdgeWeightTypeKey, EdgeWeightFormatKey, NodeCoordTypeKey, DisplayDataTypeKey, shape_of, value_shape_of, field_word, kind_word, weight_kind_word, weight_format_word, coord_kind_word, display_kind_word, fields_in_order, nodes_to, cells_of_line, Step, Branch, Leaf}
+use Rattle.std.specs.Prelude.{◌∷◌, ◌++◌}
+use Rattle.std.specs.Fmt.{signed_decimal}
 use Rattle.tsp_number.specs.NumberWord.{spelling}
-use Rattle.tsp_format.specs.declared.kinds.WeightFormat.{WeightFormat}
-use Rattle.tsp_format.specs.declared.kinds.WeightFormat.TheVariants.{Listed}
-use Rattle.tsp_format.specs.declared.keyword.Field.{Field}
-use Rattle.tsp_format.specs.declared.keyword.Field.TheVariants.{NameKey, TypeKey, CommentKey, OtherKey, DimensionKey, EdgeWeightTypeKey, EdgeWeightFormatKey, NodeCoordTypeKey, DisplayDataTypeKey}
 use Rattle.tsp_format.specs.declared.keyword.Shape.{Shape}
-use Rattle.tsp_format.specs.declared.keyword.Shape.TheVariants.{Numbers, Points, SpacePoints, Depots, Pairs, Weights, Tours, Triples, Combs, Steps}
+use Rattle.tsp_format.specs.declared.keyword.Shape.TheVariants.{Numbers, Points, SpacePoints, Depots, Pairs, Weights, Tours, Triples, Families, Steps}
 use Rattle.tsp_format.specs.declared.keyword.ValueShape.{ValueShape}
 use Rattle.tsp_format.specs.declared.keyword.ValueShape.TheVariants.{Kept, KeptEach, Number, Word}
-use Rattle.tsp_format.specs.Limits.{shape_of, value_shape_of}
-use Rattle.tsp_format.specs.Words.{field_word, kind_word, weight_kind_word, weight_format_word, coord_kind_word, display_kind_word, fields_in_order}
-use Rattle.tsp_format.specs.Nodes.{nodes_to, cells_of_line}
-use Rattle.tsp_format.specs.Steps.{Step, Branch, Leaf}
 use Rattle.tsp_file.specs.Fields.{Fields, spatial, one_number_in, numbers_in, points_in}
 
 -- ---- lines
@@ -86,13 +76,13 @@ triple_list triples =
 abbrev pub set_line : List ℕ → List ℕ
 set_line set = ended_line (map decimal set)
 
--- a line for each set of a comb, then the line -1
-abbrev pub comb_lines : List (List ℕ) → List ℕ
-comb_lines comb = ended_by_mark (flat_map set_line comb)
+-- a line for each set of a family, then the line -1
+abbrev pub family_lines : List (List ℕ) → List ℕ
+family_lines family = ended_by_mark (flat_map set_line family)
 
--- all combs, then one more line -1
-abbrev pub comb_list : List (List (List ℕ)) → List ℕ
-comb_list combs = ended_by_mark (flat_map comb_lines combs)
+-- all families, then one more line -1
+abbrev pub family_list : List (List (List ℕ)) → List ℕ
+family_list families = ended_by_mark (flat_map family_lines families)
 
 -- the index of a number, and its difference
 abbrev pub change_words : ℕ × ℤ → List (List ℕ)
@@ -153,7 +143,7 @@ text_of_section f field Weights =
     optional (λ weights. section_text field (matrix_lines (line_lens f.weight_format f.dimension) weights)) f.weights
 text_of_section f field Tours = optional (λ tours. section_text field (flat_map node_list tours)) f.tours
 text_of_section f field Triples = optional (λ triples. section_text field (triple_list triples)) f.fixed_potentials
-text_of_section f field Combs = optional (λ combs. section_text field (comb_list combs)) f.combs
+text_of_section f field Families = optional (λ families. section_text field (family_list families)) f.families
 text_of_section f field Steps = optional (λ steps. section_text field (case_tree_lines steps)) f.branches
 
 -- the text of a keyword whose value is a number; the others have their text in `text_of_field`

@@ -1,21 +1,9 @@
 -- Circles 2 and 3 of docs/trust.md.
 -- The cost from one node of an instance to another, from the fields that a file of its TYPE has or lacks.
-use Rattle.std.specs.List.{All, sum_by}
-use Rattle.std.specs.Option.{option_map, option_or}
-use Rattle.std.specs.Prelude.{pos, ◌≡◌, ℕ, ◌≤◌, false, List, length, Some, None, ℤ, [], Option, unwrap_or, IsSome, IsTrue, ◌-◌, slice_index_or}
-use Rattle.tsp_number.specs.Distances.{on_plane, euc_2d_of, ceil_2d_of, man_2d_of, max_2d_of, att_of, euc_3d_of, man_3d_of, max_3d_of}
-use Rattle.tsp_number.specs.declared.decimal.Point.{Point}
-use Rattle.tsp_format.specs.Limits.{most_matrix_nodes, most_weight, most_capacity, most_scale, most_load_unit, most_potential, most_triples, most_combs, most_comb_nodes}
-use Rattle.tsp_format.specs.Nodes.{is_listed, cells}
+use Rattle.tsp_file.specs.Prelude.{All, sum_by, option_map, option_or, pos, ℕ, false, List, length, Some, None, ℤ, [], Option, unwrap_or, IsSome, IsTrue, slice_index_or, on_plane, euc_2d_of, ceil_2d_of, man_2d_of, max_2d_of, att_of, euc_3d_of, man_3d_of, max_3d_of, Point, most_matrix_nodes, most_weight, most_capacity, most_scale, most_load_unit, most_potential, most_triples, most_families, most_family_nodes, is_listed, cells, Step, IsFromTo, WeightFormat, Listed, ByFunction, WeightKind, Explicit, Euc2d, Ceil2d, Man2d, Max2d, Att, Euc3d, Man3d, Max3d, Layout, FullMatrix}
+use Rattle.std.specs.Prelude.{◌≡◌, ◌≤◌, ◌-◌}
 use Rattle.tsp_format.specs.Place.{place_of}
-use Rattle.tsp_format.specs.Steps.{Step, IsFromTo}
 use Rattle.tsp_format.specs.declared.kinds.Kind.TheVariants as kinds
-use Rattle.tsp_format.specs.declared.kinds.WeightFormat.{WeightFormat}
-use Rattle.tsp_format.specs.declared.kinds.WeightFormat.TheVariants.{Listed, ByFunction}
-use Rattle.tsp_format.specs.declared.kinds.WeightKind.{WeightKind}
-use Rattle.tsp_format.specs.declared.kinds.WeightKind.TheVariants.{Explicit, Euc2d, Ceil2d, Man2d, Max2d, Att, Euc3d, Man3d, Max3d}
-use Rattle.tsp_format.specs.declared.layout.Layout.{Layout}
-use Rattle.tsp_format.specs.declared.layout.Layout.TheVariants.{FullMatrix}
 use Rattle.tsp_file.specs.Fields.{Fields, nodes_of}
 use Rattle.tsp_file.specs.Rules.{is_instance}
 use Rattle.tsp_file.specs.Valid.{IsWithin, IsInRange, HasInstance, HasRouting, HasPotentials, HasBranches, IsByNode, IsDemand, IsTripleOf, AreDepots, AreSets, AreTreeSteps}
@@ -64,7 +52,7 @@ multipliers_in f = unwrap_or f.fixed_potentials []
 
 -- the families of a tree of cases, each as its sets, the handle first; none without their section
 abbrev pub families_listed : Fields → List (List (List ℕ))
-families_listed f = unwrap_or f.combs []
+families_listed f = unwrap_or f.families []
 
 -- ---- the fields that a file of each TYPE always has, with their ranges
 
@@ -114,21 +102,21 @@ pub record HoldsDuals (f : Fields) (scale : ℤ) (rows columns : List ℤ) : Typ
   pub each_column : IsByNode (IsWithin most_potential) f columns
 
 -- families as a file has them: as many as the limits allow, each of sets of nodes that aren't empty
-pub record AreSomeSets (n : ℕ) (combs : List (List (List ℕ))) : Type 0 where
-  pub few : length combs ≤ most_combs
-  pub sets : All (AreSets n) combs
-  pub few_nodes : sum_by (sum_by length) combs ≤ most_comb_nodes
+pub record AreSomeSets (n : ℕ) (families : List (List (List ℕ))) : Type 0 where
+  pub few : length families ≤ most_families
+  pub sets : All (AreSets n) families
+  pub few_nodes : sum_by (sum_by length) families ≤ most_family_nodes
 
 -- the fields of a tree of cases, with the scale, the load unit and the families, or their defaults
-pub record HoldsCases (f : Fields) (scale load_unit : ℤ) (combs : List (List (List ℕ))) (steps : List Step) : Type 0 where
+pub record HoldsCases (f : Fields) (scale load_unit : ℤ) (families : List (List (List ℕ))) (steps : List Step) : Type 0 where
   pub kind : f.kind ≡ Some kinds.Branches
   pub scale_is : scale ≡ scale_in f
   pub load_unit_is : load_unit ≡ load_unit_in f
-  pub combs_are : combs ≡ families_listed f
+  pub families_kept : families ≡ families_listed f
   pub steps_are : f.branches ≡ Some steps
   pub scaled : IsFromTo (pos 1) (pos most_scale) scale
   pub united : IsFromTo (pos 1) (pos most_load_unit) load_unit
-  pub each_comb : AreSomeSets (nodes_of f) combs
+  pub each_family : AreSomeSets (nodes_of f) families
   pub each_step : AreTreeSteps f steps
 
 -- ---- the cost from one node of an instance to another, as a function of its fields

@@ -1,18 +1,12 @@
 -- Small files on which the definitions are evaluated: files that lack fields or have wrong ones, matrices in several
 -- layouts, and a text with a field of each sort.
-use Rattle.std.specs.Prelude.{[], ◌∷◌, Some, pos, ◌≡◌, ℕ, List, ℤ, ◌++◌, negsuc, codes}
-use Rattle.tsp_number.specs.Distances.{on_plane}
-use Rattle.tsp_format.specs.Steps.{Branch, Leaf}
-use Rattle.tsp_format.specs.declared.keyword.Field.{Field}
+use Rattle.tsp_file.specs.Prelude.{[], Some, pos, ℕ, List, ℤ, negsuc, codes, on_plane, Branch, Leaf, Field, ByFunction, Listed, Explicit, Euc2d, Layout, FullMatrix, LowerDiagRow}
+use Rattle.std.specs.Prelude.{◌∷◌, ◌≡◌, ◌++◌}
 use Rattle.tsp_format.specs.declared.kinds.CoordKind.TheVariants as coord_kinds
 use Rattle.tsp_format.specs.declared.kinds.DisplayKind.TheVariants as display_kinds
 use Rattle.tsp_format.specs.declared.kinds.Kind.TheVariants.{Tsp, Atsp, Cvrp, Tour, Potentials, Branches}
 use Rattle.tsp_format.specs.declared.kinds.Kind.TheVariants as kinds
-use Rattle.tsp_format.specs.declared.kinds.WeightFormat.TheVariants.{ByFunction, Listed}
-use Rattle.tsp_format.specs.declared.kinds.WeightKind.TheVariants.{Explicit, Euc2d}
 use Rattle.tsp_format.specs.declared.kinds.WeightKind.TheVariants as weight_kinds
-use Rattle.tsp_format.specs.declared.layout.Layout.{Layout}
-use Rattle.tsp_format.specs.declared.layout.Layout.TheVariants.{FullMatrix, LowerDiagRow}
 use Rattle.tsp_file.specs.CanonicalText.{text_of_field}
 use Rattle.tsp_file.specs.Cost.{listed_cost}
 use Rattle.tsp_file.specs.Fields.{Fields, blank_fields}
@@ -168,7 +162,7 @@ small = record blank_fields {
   row_potentials = Some (pos 1 ∷ pos 2 ∷ []);
   column_potentials = Some (pos 3 ∷ pos 4 ∷ []);
   fixed_potentials = Some ((1, 2, pos 7) ∷ []);
-  combs = Some (((1 ∷ 2 ∷ 3 ∷ []) ∷ (1 ∷ 4 ∷ []) ∷ []) ∷ ((2 ∷ []) ∷ []) ∷ []);
+  families = Some (((1 ∷ 2 ∷ 3 ∷ []) ∷ (1 ∷ 4 ∷ []) ∷ []) ∷ ((2 ∷ []) ∷ []) ∷ []);
   branches = Some (Branch 1 2 ∷ Leaf ((2, pos 1) ∷ (7, negsuc 2) ∷ []) ∷ Leaf [] ∷ []);
 }
 
@@ -200,8 +194,8 @@ abbrev pub two_tours : Fields
 two_tours = record blank_fields { kind = Some kinds.Tour; dimension = Some 2; tours = Some ((2 ∷ 1 ∷ []) ∷ (1 ∷ []) ∷ []) }
 
 -- a file whose list of families is empty
-abbrev pub without_combs : Fields
-without_combs = record blank_fields { combs = Some [] }
+abbrev pub without_families : Fields
+without_families = record blank_fields { families = Some [] }
 
 -- the text of the field in the small file
 abbrev pub IsSmallText : Field → List ℕ → Type 0

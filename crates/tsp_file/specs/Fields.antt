@@ -1,17 +1,9 @@
 -- Circles 1 and 2 of docs/trust.md.
 -- The fields of a file, as lists and numbers.
-use Rattle.std.specs.Prelude.{ℕ, Bool, true, List, [], Option, None, Some, unwrap_or, ℤ, pos, nat_abs, is_some}
-use Rattle.std.specs.Option.{option_map}
-use Rattle.tsp_number.specs.declared.decimal.Point.{Point}
-use Rattle.tsp_format.specs.declared.keyword.Field.{Field}
-use Rattle.tsp_format.specs.declared.keyword.Field.TheVariants.{NameKey, TypeKey, CommentKey, OtherKey, DimensionKey, CapacityKey, ScaleKey, LoadUnitKey, EdgeWeightTypeKey, EdgeWeightFormatKey, NodeCoordTypeKey, DisplayDataTypeKey, NodeCoordPart, DisplayDataPart, DemandPart, DepotPart, FixedEdgesPart, EdgeWeightPart, TourPart, NodePotentialPart, RowPotentialPart, ColumnPotentialPart, FixedEdgePotentialPart, CombPart, BranchPart}
+use Rattle.tsp_file.specs.Prelude.{ℕ, Bool, true, List, [], Option, None, Some, unwrap_or, ℤ, pos, nat_abs, is_some, option_map, Point, Field, NameKey, TypeKey, CommentKey, OtherKey, DimensionKey, CapacityKey, ScaleKey, LoadUnitKey, EdgeWeightTypeKey, EdgeWeightFormatKey, NodeCoordTypeKey, DisplayDataTypeKey, NodeCoordPart, DisplayDataPart, DemandPart, DepotPart, FixedEdgesPart, EdgeWeightPart, TourPart, NodePotentialPart, RowPotentialPart, ColumnPotentialPart, FixedEdgePotentialPart, FamilyPart, BranchPart, is_spatial, WeightKind, WeightFormat, Step}
 use Rattle.tsp_format.specs.declared.kinds.Kind.{Kind}
-use Rattle.tsp_format.specs.Words.{is_spatial}
-use Rattle.tsp_format.specs.declared.kinds.WeightKind.{WeightKind}
-use Rattle.tsp_format.specs.declared.kinds.WeightFormat.{WeightFormat}
 use Rattle.tsp_format.specs.declared.kinds.CoordKind.{CoordKind}
 use Rattle.tsp_format.specs.declared.kinds.DisplayKind.{DisplayKind}
-use Rattle.tsp_format.specs.Steps.{Step}
 
 -- the fields in canonical order
 pub record Fields : Type 0 where
@@ -38,7 +30,7 @@ pub record Fields : Type 0 where
   pub row_potentials : Option (List ℤ)
   pub column_potentials : Option (List ℤ)
   pub fixed_potentials : Option (List (ℕ × ℕ × ℤ))
-  pub combs : Option (List (List (List ℕ)))
+  pub families : Option (List (List (List ℕ)))
   pub branches : Option (List Step)
 
 -- no field is set
@@ -67,7 +59,7 @@ blank_fields = record {
   row_potentials = None;
   column_potentials = None;
   fixed_potentials = None;
-  combs = None;
+  families = None;
   branches = None;
 }
 
@@ -104,7 +96,7 @@ stands_in f NodePotentialPart = is_some f.node_potentials
 stands_in f RowPotentialPart = is_some f.row_potentials
 stands_in f ColumnPotentialPart = is_some f.column_potentials
 stands_in f FixedEdgePotentialPart = is_some f.fixed_potentials
-stands_in f CombPart = is_some f.combs
+stands_in f FamilyPart = is_some f.families
 stands_in f BranchPart = is_some f.branches
 
 -- ---- keywords with a number, by their field

@@ -1,11 +1,6 @@
 -- The file after its weights are put into another layout, and the faults of such a change.
-use Rattle.std.specs.Prelude.{ℕ, List, ◌++◌, codes, decimal, ◌≡◌, ◌≢◌, ◌<◌, ◌⊎◌, Bool, false, map, Some, IsSome, IsTrue, Result, Ok, Err, ℤ, pos}
-use Rattle.tsp_format.specs.Nodes.{IsNode, is_listed, cells}
-use Rattle.tsp_format.specs.Words.{IsSymmetric, IsFirstAsymmetric}
-use Rattle.tsp_format.specs.declared.kinds.WeightFormat.TheVariants.{Listed}
-use Rattle.tsp_format.specs.declared.kinds.WeightKind.TheVariants.{Explicit}
-use Rattle.tsp_format.specs.declared.layout.Layout.{Layout}
-use Rattle.tsp_format.specs.declared.layout.Layout.TheVariants.{FullMatrix}
+use Rattle.tsp_file.specs.Prelude.{ℕ, List, codes, decimal, Bool, false, map, Some, IsSome, IsTrue, Result, Ok, Err, ℤ, pos, IsNode, is_listed, cells, IsSymmetric, IsFirstAsymmetric, Listed, Explicit, Layout, FullMatrix}
+use Rattle.std.specs.Prelude.{◌++◌, ◌≡◌, ◌≢◌, ◌<◌, ◌⊎◌}
 use Rattle.tsp_file.specs.Cost.{cost}
 use Rattle.tsp_file.specs.Fields.{Fields, nodes_of}
 use Rattle.tsp_file.specs.declared.relayout.RelayoutFault.{RelayoutFault}

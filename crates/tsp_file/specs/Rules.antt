@@ -1,17 +1,11 @@
 -- Circle 2 of docs/trust.md.
 -- The rules over several fields of a file, which decide its first fault: what a file is, what may be missing, and what
 -- may not go together.
-use Rattle.std.specs.Option.{option_map, option_or}
-use Rattle.std.specs.Prelude.{ℕ, List, ◌++◌, codes, Bool, true, false, cond, not, ◌&&◌, ◌||◌, ◌==◌, [], ◌∷◌, length, Option, None, Some, is_some}
-use Rattle.tsp_format.specs.Nodes.{cells}
-use Rattle.tsp_format.specs.Words.{field_word}
-use Rattle.tsp_format.specs.declared.keyword.Field.{Field}
-use Rattle.tsp_format.specs.declared.keyword.Field.TheVariants.{TypeKey, DimensionKey, CapacityKey, EdgeWeightTypeKey, EdgeWeightFormatKey, NodeCoordPart, DemandPart, DepotPart, EdgeWeightPart, TourPart, NodePotentialPart, RowPotentialPart, ColumnPotentialPart, FixedEdgePotentialPart, BranchPart}
+use Rattle.tsp_file.specs.Prelude.{option_map, option_or, ℕ, List, codes, Bool, true, false, cond, not, [], length, Option, None, Some, is_some, cells, field_word, Field, TypeKey, DimensionKey, CapacityKey, EdgeWeightTypeKey, EdgeWeightFormatKey, NodeCoordPart, DemandPart, DepotPart, EdgeWeightPart, TourPart, NodePotentialPart, RowPotentialPart, ColumnPotentialPart, FixedEdgePotentialPart, BranchPart, WeightFormat, WeightKind}
+use Rattle.std.specs.Prelude.{◌++◌, ◌&&◌, ◌||◌, ◌==◌, ◌∷◌}
 use Rattle.tsp_format.specs.declared.kinds.Kind.{Kind}
 use Rattle.tsp_format.specs.declared.kinds.Kind.TheVariants as kinds
-use Rattle.tsp_format.specs.declared.kinds.WeightFormat.{WeightFormat}
 use Rattle.tsp_format.specs.declared.kinds.WeightFormat.TheVariants as formats
-use Rattle.tsp_format.specs.declared.kinds.WeightKind.{WeightKind}
 use Rattle.tsp_format.specs.declared.kinds.WeightKind.TheVariants as weight_kinds
 use Rattle.tsp_file.specs.Fields.{Fields, stands_in}
 use Rattle.tsp_file.specs.Validity.{first_failing, bad_field}

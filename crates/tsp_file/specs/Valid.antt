@@ -1,12 +1,6 @@
 -- What always holds of a valid file: its fields are in these ranges, and it has those that its TYPE asks for.
-use Rattle.std.specs.Prelude.{◌≡◌, ◌≢◌, ℕ, ◌+◌, ◌≤◌, ◌⊎◌, Bool, true, false, List, length, None, Some, IsSome, ℤ, pos, neg_ℤ}
-use Rattle.std.specs.List.{All, sum_by}
-use Rattle.tsp_number.specs.declared.decimal.Point.{Point}
-use Rattle.tsp_format.specs.declared.layout.Layout.{Layout}
-use Rattle.tsp_format.specs.declared.kinds.WeightFormat.TheVariants.{Listed}
-use Rattle.tsp_format.specs.Steps.{IsFromTo, Step, Branch, Leaf, are_whole, branch_count, change_count}
-use Rattle.tsp_format.specs.Nodes.{IsNode, cells}
-use Rattle.tsp_format.specs.Limits.{most_nodes, most_matrix_nodes, most_coordinate, most_weight, most_demand, most_capacity, most_scale, most_load_unit, most_potential, most_depots, most_fixed, most_triples, most_multiplier, most_tour_nodes, most_combs, most_comb_nodes, most_branches, most_changes, most_difference}
+use Rattle.tsp_file.specs.Prelude.{ℕ, Bool, true, false, List, length, None, Some, IsSome, ℤ, pos, neg_ℤ, All, sum_by, Point, Layout, Listed, IsFromTo, Step, Branch, Leaf, are_whole, branch_count, change_count, IsNode, cells, most_nodes, most_matrix_nodes, most_coordinate, most_weight, most_demand, most_capacity, most_scale, most_load_unit, most_potential, most_depots, most_fixed, most_triples, most_multiplier, most_tour_nodes, most_families, most_family_nodes, most_branches, most_changes, most_difference}
+use Rattle.std.specs.Prelude.{◌≡◌, ◌≢◌, ◌+◌, ◌≤◌, ◌⊎◌}
 use Rattle.tsp_file.specs.Fields.{Fields, spatial}
 use Rattle.tsp_file.specs.Rules.{is_explicit}
 
@@ -84,23 +78,23 @@ IsSetOf n set = (1 ≤ length set) × All (IsNode n) set
 
 -- the sets of a family, one at least
 abbrev pub AreSets : ℕ → List (List ℕ) → Type 0
-AreSets n comb = (1 ≤ length comb) × All (IsSetOf n) comb
+AreSets n family = (1 ≤ length family) × All (IsSetOf n) family
 
 -- families of sets of nodes, as many as the limits allow
-pub record AreCombs (f : Fields) (combs : List (List (List ℕ))) : Type 0 where
+pub record AreFamilyLists (f : Fields) (families : List (List (List ℕ))) : Type 0 where
   pub n : ℕ
   pub dimension : f.dimension ≡ Some n
-  pub few : length combs ≤ most_combs
-  pub sets : All (AreSets n) combs
-  pub few_nodes : sum_by (sum_by length) combs ≤ most_comb_nodes
+  pub few : length families ≤ most_families
+  pub sets : All (AreSets n) families
+  pub few_nodes : sum_by (sum_by length) families ≤ most_family_nodes
 
 -- an index of a node or of some family, and a difference within its limit
 abbrev pub IsChange : ℕ → ℕ × ℤ → Type 0
-IsChange n change = IsNode (n + most_combs) change.0 × IsWithin most_difference change.1
+IsChange n change = IsNode (n + most_families) change.0 × IsWithin most_difference change.1
 
 -- a branch on two different nodes, or on some family and a number of 1..n
 abbrev pub IsBranchOf : ℕ → ℕ × ℕ → Type 0
-IsBranchOf n branch = IsNode (n + most_combs) branch.0 × IsNode n branch.1 × (branch.0 ≢ branch.1)
+IsBranchOf n branch = IsNode (n + most_families) branch.0 × IsNode n branch.1 × (branch.0 ≢ branch.1)
 
 -- a branch or a leaf whose numbers are in their ranges
 abbrev pub IsStep : ℕ → Step → Type 0
@@ -136,7 +130,7 @@ pub record IsInRange (f : Fields) : Type 0 where
   pub column_potentials : (potentials : List ℤ) → f.column_potentials ≡ Some potentials
       → IsByNode (IsWithin most_potential) f potentials
   pub fixed_potentials : (triples : List (ℕ × ℕ × ℤ)) → f.fixed_potentials ≡ Some triples → AreTriples f triples
-  pub combs : (combs : List (List (List ℕ))) → f.combs ≡ Some combs → AreCombs f combs
+  pub families : (families : List (List (List ℕ))) → f.families ≡ Some families → AreFamilyLists f families
   pub branches : (steps : List Step) → f.branches ≡ Some steps → AreTreeSteps f steps
 
 -- an instance has its nodes and its weight type, and weights or coordinates, as the weight type asks

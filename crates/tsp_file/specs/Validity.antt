@@ -1,20 +1,13 @@
 -- Circle 2 of docs/trust.md.
 -- When a field is valid on its own, as tests. The ranges are this project's profile of TSPLIB 95. Valid.antt has them
 -- as statements. Four crates above import it too.
-use Rattle.std.specs.Prelude.{ℕ, ◌+◌, ◌-◌, ◌*◌, Bool, true, false, cond, not, ◌&&◌, ◌==◌, nat_le, List, length, slice_index, Option, None, Some, ℤ, pos, neg_ℤ, int_le}
-use Rattle.std.specs.Option.{option_map_or}
+use Rattle.tsp_file.specs.Prelude.{ℕ, Bool, true, false, cond, not, nat_le, List, length, slice_index, Option, None, Some, ℤ, pos, neg_ℤ, int_le, option_map_or, list_all, find, sum_by, Point, Field, NameKey, CommentKey, OtherKey, DimensionKey, most_nodes, most_matrix_nodes, most_coordinate, most_weight, most_demand, most_kept_bytes, most_comments, most_others, most_depots, most_fixed, most_triples, most_multiplier, most_tour_nodes, most_families, most_family_nodes, most_branches, most_changes, most_difference, keyword_of, is_unknown, shape_of, value_shape_of, is_blank, is_letter, is_keyword_byte, field_word, fields_in_order, Step, Branch, Leaf, are_whole, branch_count, change_count}
+use Rattle.std.specs.Prelude.{◌+◌, ◌-◌, ◌*◌, ◌&&◌, ◌==◌}
 use Rattle.std.specs.Ordering.{int_eq}
-use Rattle.std.specs.List.{list_all, find, sum_by}
-use Rattle.tsp_number.specs.declared.decimal.Point.{Point}
-use Rattle.tsp_format.specs.declared.keyword.Field.{Field}
-use Rattle.tsp_format.specs.declared.keyword.Field.TheVariants.{NameKey, CommentKey, OtherKey, DimensionKey}
 use Rattle.tsp_format.specs.declared.keyword.Shape.{Shape}
-use Rattle.tsp_format.specs.declared.keyword.Shape.TheVariants.{Numbers, Points, SpacePoints, Depots, Pairs, Weights, Tours, Triples, Combs, Steps}
+use Rattle.tsp_format.specs.declared.keyword.Shape.TheVariants.{Numbers, Points, SpacePoints, Depots, Pairs, Weights, Tours, Triples, Families, Steps}
 use Rattle.tsp_format.specs.declared.keyword.ValueShape.{ValueShape}
 use Rattle.tsp_format.specs.declared.keyword.ValueShape.TheVariants.{Kept, KeptEach, Number, Word}
-use Rattle.tsp_format.specs.Limits.{most_nodes, most_matrix_nodes, most_coordinate, most_weight, most_demand, most_kept_bytes, most_comments, most_others, most_depots, most_fixed, most_triples, most_multiplier, most_tour_nodes, most_combs, most_comb_nodes, most_branches, most_changes, most_difference, keyword_of, is_unknown, shape_of, value_shape_of}
-use Rattle.tsp_format.specs.Words.{is_blank, is_letter, is_keyword_byte, field_word, fields_in_order}
-use Rattle.tsp_format.specs.Steps.{Step, Branch, Leaf, are_whole, branch_count, change_count}
 use Rattle.tsp_file.specs.Fields.{Fields, spatial, one_number_in, numbers_in, points_in}
 
 -- a field that is missing is valid
@@ -120,20 +113,20 @@ is_set_of n set = nat_le 1 (length set) && list_all (is_node n) set
 
 -- the sets of a family, one at least, the handle first; whether they are a comb is judged later
 abbrev pub are_sets : ℕ → List (List ℕ) → Bool
-are_sets n comb = nat_le 1 (length comb) && list_all (is_set_of n) comb
+are_sets n family = nat_le 1 (length family) && list_all (is_set_of n) family
 
 -- families of sets of nodes, as many as the limits allow
-abbrev pub are_combs : ℕ → List (List (List ℕ)) → Bool
-are_combs n combs = nat_le (length combs) most_combs && list_all (are_sets n) combs
-    && nat_le (sum_by (sum_by length) combs) most_comb_nodes
+abbrev pub are_family_lists : ℕ → List (List (List ℕ)) → Bool
+are_family_lists n families = nat_le (length families) most_families && list_all (are_sets n) families
+    && nat_le (sum_by (sum_by length) families) most_family_nodes
 
 -- an index of a node or of some family, and a difference within its limit
 abbrev pub is_change : ℕ → ℕ × ℤ → Bool
-is_change n change = is_node (n + most_combs) change.0 && is_within most_difference change.1
+is_change n change = is_node (n + most_families) change.0 && is_within most_difference change.1
 
 -- a branch on two different nodes, or on some family and a number of 1..n
 abbrev pub is_branch_of : ℕ → ℕ × ℕ → Bool
-is_branch_of n branch = is_node (n + most_combs) branch.0 && is_node n branch.1 && not (branch.0 == branch.1)
+is_branch_of n branch = is_node (n + most_families) branch.0 && is_node n branch.1 && not (branch.0 == branch.1)
 
 -- a branch or a leaf whose numbers are in their ranges
 abbrev pub is_step : ℕ → Step → Bool
@@ -166,7 +159,7 @@ section_fits f field Pairs = if_there (with_dimension are_fixed f.dimension) f.f
 section_fits f field Weights = if_there (with_dimension fit_matrix f.dimension) f.weights
 section_fits f field Tours = if_there are_tours f.tours
 section_fits f field Triples = if_there (with_dimension are_triples f.dimension) f.fixed_potentials
-section_fits f field Combs = if_there (with_dimension are_combs f.dimension) f.combs
+section_fits f field Families = if_there (with_dimension are_family_lists f.dimension) f.families
 section_fits f field Steps = if_there (with_dimension are_tree_steps f.dimension) f.branches
 
 -- the field is valid on its own

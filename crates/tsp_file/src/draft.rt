@@ -57,7 +57,7 @@ pub struct Draft {
     /// FIXED_EDGE_POTENTIAL_SECTION: two nodes and the multiplier of their edge.
     pub fixed_potentials: Option<Vec<(u32, u32, i64)>>,
     /// COMB_SECTION: combs, each as its sets of nodes, the handle first.
-    pub combs: Option<Vec<Vec<Vec<u32>>>>,
+    pub families: Option<Vec<Vec<Vec<u32>>>>,
     /// BRANCH_SECTION: the steps of one tree of cases.
     pub branches: Option<Vec<TreeStep>>,
 }
@@ -90,17 +90,16 @@ impl Drop for Draft {
             row_potentials: _,
             column_potentials: _,
             fixed_potentials: _,
-            combs: _,
+            families: _,
             branches: _,
         } = self;
     }
 }
 
 impl Draft {
+    ghost use Rattle.tsp_file.specs.Prelude.{option_map, value_shape_of, IsNumberOf};
     ghost use Rattle.std.specs.Prelude.{◌≡◌};
-    ghost use Rattle.std.specs.Option.{option_map};
     ghost use Rattle.tsp_file.specs.states.Drafts.{points_of, fields_of};
-    ghost use Rattle.tsp_format.specs.Limits.{value_shape_of, IsNumberOf};
     ghost use Rattle.tsp_file.specs.Fields.{blank_fields, spatial, stands_in, one_number_in, with_one_number, numbers_in, with_numbers, points_in, with_points};
 
     /// A draft with no field set: each is `None` or an empty list. No memory is taken.
@@ -131,7 +130,7 @@ impl Draft {
             row_potentials: None,
             column_potentials: None,
             fixed_potentials: None,
-            combs: None,
+            families: None,
             branches: None,
         }
     }
@@ -172,7 +171,7 @@ impl Draft {
             Field::RowPotentialPart => self.row_potentials.is_some(),
             Field::ColumnPotentialPart => self.column_potentials.is_some(),
             Field::FixedEdgePotentialPart => self.fixed_potentials.is_some(),
-            Field::CombPart => self.combs.is_some(),
+            Field::FamilyPart => self.families.is_some(),
             Field::BranchPart => self.branches.is_some(),
         }
     }

@@ -1,16 +1,14 @@
 //! Laws that state values of the definitions in `specs/`, worked out by hand: limits of values,
 //! first faults of small drafts, the end table, texts of faults.
 
-ghost use Rattle.std.specs.Prelude.{◌≡◌, ◌+◌, ◌-◌, ◌*◌, ◌^◌, true, false, [], ◌∷◌, None, Some, pos, negsuc, codes, replicate, ◌++◌, decimal};
-ghost use Rattle.tsp_number.specs.Distances.{euc_2d_of, ceil_2d_of, man_2d_of, max_2d_of, att_of, euc_3d_of, man_3d_of, max_3d_of};
-ghost use Rattle.tsp_number.specs.declared.decimal.Point.{Point};
-ghost use Rattle.tsp_format.specs.Limits.{most_coordinate};
+ghost use Rattle.tsp_file.specs.Prelude.{true, false, [], None, Some, pos, negsuc, codes, replicate, decimal, euc_2d_of, ceil_2d_of, man_2d_of, max_2d_of, att_of, euc_3d_of, man_3d_of, max_3d_of, Point, most_coordinate};
+ghost use Rattle.std.specs.Prelude.{◌≡◌, ◌+◌, ◌-◌, ◌*◌, ◌^◌, ◌∷◌, ◌++◌};
 ghost use Rattle.tsp_format.specs.declared.keyword.Field.TheVariants as fields;
 ghost use Rattle.tsp_format.specs.declared.kinds.WeightKind.TheVariants as weight_kinds;
 ghost use Rattle.tsp_format.specs.declared.layout.Layout.TheVariants as layouts;
 ghost use Rattle.tsp_file.specs.CanonicalText.{text_of, text_of_field};
 ghost use Rattle.tsp_file.specs.Cost.{cost, distance};
-ghost use Rattle.tsp_file.specs.Examples.{directed_matrix, plane, no_nodes, one_weight, bare_routes, routing_nodes, routing_listed, routing_full, routing_capacity, routing_weights, routing_demands, routing_depots, routing_plane, bare_tours, touring_weights, touring_whole, touring_function, touring_surplus, bare_potentials, with_node_numbers, with_column_numbers, with_row_numbers, with_both_numbers, with_all_numbers, with_both_and_pairs, with_all_and_weights, bare_tree, CostIs, LaysOutAs, six, IsSmallText, small, small_text, spatial_node, two_tours, without_combs};
+ghost use Rattle.tsp_file.specs.Examples.{directed_matrix, plane, no_nodes, one_weight, bare_routes, routing_nodes, routing_listed, routing_full, routing_capacity, routing_weights, routing_demands, routing_depots, routing_plane, bare_tours, touring_weights, touring_whole, touring_function, touring_surplus, bare_potentials, with_node_numbers, with_column_numbers, with_row_numbers, with_both_numbers, with_all_numbers, with_both_and_pairs, with_all_and_weights, bare_tree, CostIs, LaysOutAs, six, IsSmallText, small, small_text, spatial_node, two_tours, without_families};
 ghost use Rattle.tsp_file.specs.Rules.{end_fault_text, draft_fault_text, fault_of, end_fault, standing_of};
 ghost use Rattle.tsp_file.specs.Fields.{blank_fields};
 ghost use Rattle.tsp_file.specs.Relayout.{lists_diagonal, IsFirstOnDiagonal, IsRefused, relayout_fault_text};
@@ -67,8 +65,8 @@ pub fn examples_of_validity()
     ensures empty_tour { is_node_list [] ≡ false }
     ensures set_of_one { is_set_of 3 (3 ∷ []) ≡ true }
     ensures empty_set { is_set_of 3 [] ≡ false }
-    ensures comb_of_a_set { are_sets 3 ((3 ∷ []) ∷ []) ≡ true }
-    ensures empty_comb { are_sets 3 [] ≡ false }
+    ensures family_of_a_set { are_sets 3 ((3 ∷ []) ∷ []) ≡ true }
+    ensures empty_family { are_sets 3 [] ≡ false }
 {}
 
 /// The first faults of small files.
@@ -124,7 +122,7 @@ pub fn examples_of_the_end_table()
     ensures missing_before_incomplete { end_fault (standing_of bare_tours)
         (Some fields.EdgeWeightPart) ≡ Some (ends.Missing fields.TourPart) }
     ensures incomplete_before_format { end_fault (standing_of with_all_numbers)
-        (Some fields.CombPart) ≡ Some (ends.Incomplete fields.CombPart) }
+        (Some fields.FamilyPart) ≡ Some (ends.Incomplete fields.FamilyPart) }
     ensures incomplete_before_count { end_fault (standing_of touring_surplus)
         (Some fields.EdgeWeightPart) ≡ Some (ends.Incomplete fields.EdgeWeightPart) }
 {}
@@ -236,11 +234,11 @@ pub fn examples_of_sections()
         (codes "COLUMN_POTENTIAL_SECTION\n1 3\n2 4\n") }
     ensures fixed_potentials { IsSmallText fields.FixedEdgePotentialPart
         (codes "FIXED_EDGE_POTENTIAL_SECTION\n1 2 7\n-1\n") }
-    ensures combs { IsSmallText fields.CombPart
+    ensures families { IsSmallText fields.FamilyPart
         (codes "COMB_SECTION\n1 2 3 -1\n1 4 -1\n-1\n2 -1\n-1\n-1\n") }
     ensures branches { IsSmallText fields.BranchPart
         (codes "BRANCH_SECTION\n1 2\n0 2 1 7 -3 -1\n0 -1\n") }
-    ensures no_combs { text_of_field without_combs fields.CombPart ≡ codes "COMB_SECTION\n-1\n" }
+    ensures no_families { text_of_field without_families fields.FamilyPart ≡ codes "COMB_SECTION\n-1\n" }
     ensures in_space { text_of_field spatial_node fields.NodeCoordPart
         ≡ codes "NODE_COORD_SECTION\n1 1.5 0 -2\n" }
     ensures shown { text_of_field spatial_node fields.DisplayDataPart

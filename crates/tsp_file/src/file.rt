@@ -1,18 +1,15 @@
 //! A valid file, with a call for each of its fields. tsp_read and `File::of` make one; tsp_cost,
 //! tsp_verdict and tsp_report take its fields.
 
-ghost use Rattle.std.specs.Prelude.{◌≡◌, ◌≢◌, ◌≤◌, ◌<◌, ◌+◌, ◌*◌, ℕ, ℤ, List, length, take, true, ◌⊎◌, OnErr, OnOk};
-ghost use Rattle.tsp_format.specs.Nodes.{cells, IsNode};
-ghost use Rattle.tsp_format.specs.Limits.{most_matrix_nodes};
-ghost use Rattle.tsp_format.specs.Words.{IsSymmetric};
-ghost use Rattle.tsp_format.specs.declared.layout.Layout.TheVariants.{FullMatrix};
+ghost use Rattle.tsp_file.specs.Prelude.{ℕ, ℤ, List, length, take, true, OnErr, OnOk, cells, IsNode, most_matrix_nodes, IsSymmetric, FullMatrix};
+ghost use Rattle.std.specs.Prelude.{◌≡◌, ◌≢◌, ◌≤◌, ◌<◌, ◌+◌, ◌*◌, ◌⊎◌};
 ghost use Rattle.tsp_file.specs.Cost.{listed_cost};
 ghost use Rattle.tsp_file.specs.Relayout.{costs_in};
 ghost use Rattle.tsp_file.specs.states.Drafts.{goes_above, is_on_side, IsCostOfCell, HasLaterLines, HasSide, Fills};
 
 use crate::coords::Coords;
 use crate::draft::Draft;
-use crate::halves::{keep_half, line_start};
+use crate::relayout::{keep_half, line_start};
 use crate::rules::{DraftFault, end_fault};
 use crate::table::bad_field;
 use std::alloc::AllocError;
@@ -49,20 +46,14 @@ impl Model for File {
 }
 
 impl File {
-    ghost use Rattle.std.specs.Prelude.{◌≡◌, ◌≢◌, Some, None, IsSome, length, map, MatchResult};
-    ghost use Rattle.std.specs.List.{All};
-    ghost use Rattle.std.specs.Option.{option_map};
-    ghost use Rattle.tsp_format.specs.Nodes.{cells};
-    ghost use Rattle.tsp_format.specs.Limits.{most_weight};
-    ghost use Rattle.tsp_file.specs.states.Drafts.{points_of, fields_of, combs_of};
+    ghost use Rattle.tsp_file.specs.Prelude.{Some, None, IsSome, length, map, MatchResult, All, option_map, cells, most_weight, FullMatrix, Listed, steps_of};
+    ghost use Rattle.std.specs.Prelude.{◌≡◌, ◌≢◌};
+    ghost use Rattle.tsp_file.specs.states.Drafts.{points_of, fields_of, families_of};
     ghost use Rattle.tsp_file.specs.Valid.{IsWithin};
-    ghost use Rattle.tsp_format.specs.declared.layout.Layout.TheVariants.{FullMatrix};
-    ghost use Rattle.tsp_format.specs.declared.kinds.WeightFormat.TheVariants.{Listed};
     ghost use Rattle.tsp_file.specs.Cost.{cost};
     ghost use Rattle.tsp_file.specs.Relayout.{CanGo, with_weights, costs_in};
     ghost use Rattle.tsp_file.specs.Fields.{nodes_of};
     ghost use Rattle.tsp_file.specs.Cost.{HoldsItsType};
-    ghost use Rattle.tsp_format.specs.states.TreeSteps.{steps_of};
     ghost use Rattle.tsp_file.specs.Rules.{fault_of};
 
     /// The fields of this file, as a draft without a fault: the fields that its TYPE requires are
@@ -339,10 +330,13 @@ impl File {
     }
     /// COMB_SECTION: combs, each as its sets of nodes, the handle first. Whether they are combs is
     /// for a judge to say.
-    pub fn combs(&self) -> Option<&[Vec<Vec<u32>>]>
-        ensures { option_map (λ combs. combs_of combs.now) result ≡ self.now.combs }
+    pub fn families(&self) -> Option<&[Vec<Vec<u32>>]>
+        ensures { option_map (λ families. families_of families.now) result ≡ self.now.families }
     {
-        self.draft.combs.as_ref().map(|combs| combs.as_slice())
+        self.draft
+            .families
+            .as_ref()
+            .map(|families| families.as_slice())
     }
 
     /// BRANCH_SECTION: the steps of one tree of cases.

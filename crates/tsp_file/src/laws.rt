@@ -1,9 +1,8 @@
 //! Laws: the fields of a valid file are in their ranges, and those that its TYPE requires are
 //! present.
 
-ghost use Rattle.std.specs.Prelude.{◌≡◌, None, IsTrue, IsSome, ◌≢◌, ◌<◌, ℕ, [], length, Some, unwrap_or, pos, unsigned_abs};
-ghost use Rattle.tsp_format.specs.declared.kinds.WeightKind.{WeightKind};
-ghost use Rattle.tsp_format.specs.declared.kinds.WeightKind.TheVariants.{Explicit};
+ghost use Rattle.tsp_file.specs.Prelude.{None, IsTrue, IsSome, ℕ, [], length, Some, unwrap_or, pos, unsigned_abs, WeightKind, Explicit};
+ghost use Rattle.std.specs.Prelude.{◌≡◌, ◌≢◌, ◌<◌};
 ghost use Rattle.tsp_file.specs.ByInequalities.{IsDistanceBy};
 ghost use Rattle.tsp_file.specs.CanonicalText.{text_of};
 ghost use Rattle.tsp_file.specs.Cost.{cost, point_of};
@@ -47,9 +46,9 @@ pub fn costs_are_by_inequalities()
 /// The canonical text of every valid file has fewer than 750,000,000 bytes. This follows from the
 /// limits of this project's profile: the most that a file can hold is a matrix of 5,000 * 5,000
 /// weights, each of at most 14 bytes and one after it, and a tree with 10,000,000 differences, each
-/// with its index in at most 25 bytes. Without combs and branches it has fewer than 500,000,000.
+/// with its index in at most 25 bytes. Without families and branches it has fewer than 500,000,000.
 pub fn a_valid_text_is_short()
     ensures whole { (f : Fields) → fault_of f ≡ None → length (text_of f) < 750000000 }
-    ensures without_trees { (f : Fields) → fault_of f ≡ None → f.combs ≡ None → f.branches ≡ None
+    ensures without_trees { (f : Fields) → fault_of f ≡ None → f.families ≡ None → f.branches ≡ None
         → length (text_of f) < 500000000 }
 {}

@@ -16,7 +16,6 @@ mod coords;
 mod draft;
 mod examples;
 mod file;
-mod halves;
 mod laws;
 mod range;
 mod relayout;

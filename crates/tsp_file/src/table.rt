@@ -1,13 +1,10 @@
 //! The table of fields: whether each is valid on its own, by the tests of `src/validity.rt`.
 //! `File::of` of tsp_file asks for the first that is not.
 
-ghost use Rattle.std.specs.Prelude.{◌≡◌, ℕ, Bool, List, Some, MatchResult, map};
-ghost use Rattle.std.specs.Option.{option_map};
-ghost use Rattle.tsp_format.specs.Limits.{most_nodes};
-ghost use Rattle.tsp_format.specs.Words.{field_word};
-ghost use Rattle.tsp_file.specs.states.Drafts.{points_of, fields_of, combs_of};
-ghost use Rattle.tsp_format.specs.states.TreeSteps.{steps_of};
-ghost use Rattle.tsp_file.specs.Validity.{if_there, with_dimension, is_by_node, is_kept, is_node, is_from_to, is_point, are_comments, are_others, are_depots, are_fixed, are_triples, fit_matrix, are_tours, are_combs, are_tree_steps, section_fits, value_fits, fits, first_failing, bad_field};
+ghost use Rattle.tsp_file.specs.Prelude.{ℕ, Bool, List, Some, MatchResult, map, option_map, most_nodes, field_word, steps_of};
+ghost use Rattle.std.specs.Prelude.{◌≡◌};
+ghost use Rattle.tsp_file.specs.states.Drafts.{points_of, fields_of, families_of};
+ghost use Rattle.tsp_file.specs.Validity.{if_there, with_dimension, is_by_node, is_kept, is_node, is_from_to, is_point, are_comments, are_others, are_depots, are_fixed, are_triples, fit_matrix, are_tours, are_family_lists, are_tree_steps, section_fits, value_fits, fits, first_failing, bad_field};
 
 use crate::coords::Coords;
 use crate::draft::Draft;
@@ -58,7 +55,7 @@ fn section_fits(draft: &Draft, field: Field, shape: Shape) -> bool
         Shape::Weights => fit_matrix(draft.dimension, &draft.weights),
         Shape::Tours => are_tours(&draft.tours),
         Shape::Triples => are_triples(draft.dimension, &draft.fixed_potentials),
-        Shape::Combs => are_combs(draft.dimension, &draft.combs),
+        Shape::Families => are_family_lists(draft.dimension, &draft.families),
         Shape::Steps => are_tree_steps(draft.dimension, &draft.branches),
     }
 }
@@ -226,15 +223,15 @@ fn are_tours(tours: &Option<Vec<Vec<u32>>>) -> bool
     }
 }
 
-/// The combs are of nodes, and not too many.
-fn are_combs(dimension: Option<u32>, combs: &Option<Vec<Vec<Vec<u32>>>>) -> bool
-    ensures { result ≡ if_there (with_dimension are_combs dimension)
-        (option_map (λ v. combs_of v.items) combs.now) }
+/// The families are of nodes, and not too many.
+fn are_family_lists(dimension: Option<u32>, families: &Option<Vec<Vec<Vec<u32>>>>) -> bool
+    ensures { result ≡ if_there (with_dimension are_family_lists dimension)
+        (option_map (λ v. families_of v.items) families.now) }
 {
-    match (combs, dimension) {
+    match (families, dimension) {
         (None, _) => true,
         (Some(_), None) => false,
-        (Some(combs), Some(nodes)) => validity::are_combs(nodes, combs),
+        (Some(families), Some(nodes)) => validity::are_family_lists(nodes, families),
     }
 }
 

@@ -1,12 +1,8 @@
 //! The fields that a file of a TYPE always has, without `Option`: matrices, tours, routes,
 //! potentials, trees of cases.
 
-ghost use Rattle.std.specs.List.{All};
-ghost use Rattle.std.specs.Prelude.{◌≡◌, ◌≤◌, length};
-ghost use Rattle.tsp_format.specs.Nodes.{cells};
-ghost use Rattle.tsp_format.specs.Limits.{most_matrix_nodes, most_weight};
-ghost use Rattle.tsp_format.specs.Words.{FindsAsymmetric};
-ghost use Rattle.tsp_format.specs.declared.layout.Layout.TheVariants.{FullMatrix};
+ghost use Rattle.tsp_file.specs.Prelude.{All, length, cells, most_matrix_nodes, most_weight, FindsAsymmetric, FullMatrix};
+ghost use Rattle.std.specs.Prelude.{◌≡◌, ◌≤◌};
 ghost use Rattle.tsp_file.specs.Cost.{listed_cost};
 ghost use Rattle.tsp_file.specs.Valid.{IsWithin};
 
@@ -54,20 +50,17 @@ pub struct TreeData<'a> {
     pub scale: i64,
     /// LOAD_UNIT, which is 1 where it is missing.
     pub load_unit: i64,
-    /// COMB_SECTION: combs, each as its sets of nodes; none where it is missing.
-    pub combs: &'a [Vec<Vec<u32>>],
+    /// COMB_SECTION: families, each as its sets of nodes; none where it is missing.
+    pub families: &'a [Vec<Vec<u32>>],
     /// BRANCH_SECTION: the steps of one tree of cases.
     pub steps: &'a [TreeStep],
 }
 
 impl File {
-    ghost use Rattle.std.specs.Prelude.{◌≡◌, ◌≢◌, [], Some, IsSome, unwrap_or, pos, map, MatchOption};
+    ghost use Rattle.tsp_file.specs.Prelude.{[], Some, IsSome, unwrap_or, pos, map, MatchOption, Explicit, most_scale, most_load_unit, steps_of, IsFromTo};
+    ghost use Rattle.std.specs.Prelude.{◌≡◌, ◌≢◌};
     ghost use Rattle.tsp_format.specs.declared.kinds.Kind.TheVariants as kinds;
-    ghost use Rattle.tsp_format.specs.declared.kinds.WeightKind.TheVariants.{Explicit};
-    ghost use Rattle.tsp_format.specs.Limits.{most_scale, most_load_unit};
-    ghost use Rattle.tsp_format.specs.states.TreeSteps.{steps_of};
-    ghost use Rattle.tsp_file.specs.states.Drafts.{combs_of};
-    ghost use Rattle.tsp_format.specs.Steps.{IsFromTo};
+    ghost use Rattle.tsp_file.specs.states.Drafts.{families_of};
     ghost use Rattle.tsp_file.specs.Valid.{AreTours};
     ghost use Rattle.tsp_file.specs.Cost.{ListsWeights};
     ghost use Rattle.tsp_file.specs.Relayout.{HasListedWeights};
@@ -146,7 +139,7 @@ impl File {
     /// file.
     pub fn as_tree(&self) -> Option<TreeData<'_>>
         ensures { MatchOption result (self.now.kind ≢ Some kinds.Branches) (λ held. HoldsCases
-            self.now held.scale held.load_unit (combs_of held.combs.now) (steps_of held.steps.now)) }
+            self.now held.scale held.load_unit (families_of held.families.now) (steps_of held.steps.now)) }
     {
         let Some(Kind::Branches) = self.fields().kind else {
             return None;
@@ -154,7 +147,7 @@ impl File {
         Some(TreeData {
             scale: self.scale_or_one(),
             load_unit: self.load_unit_or_one(),
-            combs: self.combs_or_none(),
+            families: self.families_or_none(),
             steps: self.branches()?,
         })
     }
@@ -186,13 +179,13 @@ impl File {
         }
     }
 
-    /// The combs, none where no section lists them.
-    fn combs_or_none(&self) -> &[Vec<Vec<u32>>]
-        ensures value { combs_of result.now ≡ unwrap_or self.now.combs [] }
-        ensures are { AreSomeSets (nodes_of self.now) (combs_of result.now) }
+    /// The families, none where no section lists them.
+    fn families_or_none(&self) -> &[Vec<Vec<u32>>]
+        ensures value { families_of result.now ≡ unwrap_or self.now.families [] }
+        ensures are { AreSomeSets (nodes_of self.now) (families_of result.now) }
     {
-        match &self.fields().combs {
-            Some(combs) => combs.as_slice(),
+        match &self.fields().families {
+            Some(families) => families.as_slice(),
             None => &[],
         }
     }
@@ -239,10 +232,8 @@ pub struct ListedWeights<'a> {
 }
 
 impl<'a> ListedWeights<'a> {
-    ghost use Rattle.std.specs.Prelude.{ℕ, ◌<◌, ◌+◌, ◌*◌, ◌≢◌, ◌++◌, false, map, pos, ◌↔◌, IsTrue, MatchOption, IfOk, OnOk, ◌-◌};
-    ghost use Rattle.tsp_format.specs.Nodes.{IsNode};
-    ghost use Rattle.tsp_format.specs.Nodes.{cells_of_line};
-    ghost use Rattle.tsp_format.specs.Words.{IsFirstAsymmetric};
+    ghost use Rattle.tsp_file.specs.Prelude.{ℕ, false, map, pos, IsTrue, MatchOption, IfOk, OnOk, IsNode, cells_of_line, IsFirstAsymmetric};
+    ghost use Rattle.std.specs.Prelude.{◌<◌, ◌+◌, ◌*◌, ◌≢◌, ◌++◌, ◌↔◌, ◌-◌};
     ghost use Rattle.tsp_file.specs.Fields.{Fields};
     ghost use Rattle.tsp_file.specs.Cost.{ListsWeights};
     ghost use Rattle.tsp_file.specs.Relayout.{HoldsPairs, HoldsDiagonal, lists_diagonal, IsFirstOnDiagonal, costs_in};

@@ -1,22 +1,17 @@
-//! Tests of the value of one field: texts, points, nodes, weights, tours, combs, steps of a tree.
+//! Tests of the value of one field: texts, points, nodes, weights, tours, families, steps of a tree.
 
-ghost use Rattle.std.specs.Prelude.{◌≡◌, ◌+◌, ◌-◌, ◌==◌, ◌||◌, not, ◌&&◌, cond, Some, None, length, slice_index, nat_le, map};
-ghost use Rattle.std.specs.List.{list_all, sum_by};
-ghost use Rattle.tsp_format.specs.Words.{field_word, is_blank, is_keyword_byte};
-ghost use Rattle.tsp_format.specs.Limits.{most_coordinate, most_tour_nodes, most_combs, most_comb_nodes, most_branches, most_changes};
-ghost use Rattle.tsp_number.specs.Distances.{on_plane};
-ghost use Rattle.tsp_format.specs.states.TreeSteps.{step_of, steps_of};
-ghost use Rattle.tsp_format.specs.Steps.{are_whole, branch_count, change_count};
-ghost use Rattle.tsp_file.specs.states.Drafts.{points_of, combs_of};
-ghost use Rattle.tsp_file.specs.Validity.{is_kept, is_unknown_keyword, is_other, is_within, is_node, is_third, is_point, are_depots, is_pair_of, are_fixed, is_triple_of, are_triples, fit_matrix, is_node_list, is_set_of, are_sets, are_combs, is_change, is_branch_of, is_step, are_tree_steps};
+ghost use Rattle.tsp_file.specs.Prelude.{not, cond, Some, None, length, slice_index, nat_le, map, list_all, sum_by, field_word, is_blank, is_keyword_byte, most_coordinate, most_tour_nodes, most_families, most_family_nodes, most_branches, most_changes, on_plane, step_of, steps_of, are_whole, branch_count, change_count};
+ghost use Rattle.std.specs.Prelude.{◌≡◌, ◌+◌, ◌-◌, ◌==◌, ◌||◌, ◌&&◌};
+ghost use Rattle.tsp_file.specs.states.Drafts.{points_of, families_of};
+ghost use Rattle.tsp_file.specs.Validity.{is_kept, is_unknown_keyword, is_other, is_within, is_node, is_third, is_point, are_depots, is_pair_of, are_fixed, is_triple_of, are_triples, fit_matrix, is_node_list, is_set_of, are_sets, are_family_lists, is_change, is_branch_of, is_step, are_tree_steps};
 
 use crate::coords::Coords;
 use crate::range::{are_from_to, is_from_to};
 use tsp_format::{
-    Field, Keyword, MOST_BRANCHES, MOST_CHANGES, MOST_COMB_NODES, MOST_COMBS, MOST_COORDINATE,
-    MOST_DEMAND, MOST_DEPOTS, MOST_DIFFERENCE, MOST_FIXED, MOST_KEPT_BYTES, MOST_MATRIX_NODES,
-    MOST_MULTIPLIER, MOST_MULTIPLIERS, MOST_NODES, MOST_POTENTIAL, MOST_TOUR_NODES, MOST_WEIGHT,
-    TreeStep, Word, is_blank, is_keyword_byte, is_letter,
+    Field, Keyword, MOST_BRANCHES, MOST_CHANGES, MOST_COORDINATE, MOST_DEMAND, MOST_DEPOTS,
+    MOST_DIFFERENCE, MOST_FAMILIES, MOST_FAMILY_NODES, MOST_FIXED, MOST_KEPT_BYTES,
+    MOST_MATRIX_NODES, MOST_MULTIPLIER, MOST_MULTIPLIERS, MOST_NODES, MOST_POTENTIAL,
+    MOST_TOUR_NODES, MOST_WEIGHT, TreeStep, Word, is_blank, is_keyword_byte, is_letter,
 };
 use tsp_number::{Decimal, InSpace, PlanePoint, Point};
 
@@ -253,11 +248,11 @@ fn is_set_of(n: u32, set: &[u32]) -> bool
 }
 
 /// Whether there are sets, none of them empty, of nodes of 1..n.
-#[tactic(auto, using(crate::proofs::ValidFields::comb_seen))]
-fn are_sets(n: u32, comb: &[Vec<u32>]) -> bool
-    ensures { result ≡ are_sets n (map (λ set. set.items) comb.now) }
+#[tactic(auto, using(crate::proofs::ValidFields::family_seen))]
+fn are_sets(n: u32, family: &[Vec<u32>]) -> bool
+    ensures { result ≡ are_sets n (map (λ set. set.items) family.now) }
 {
-    !comb.is_empty() && is_each_set(n, comb)
+    !family.is_empty() && is_each_set(n, family)
 }
 
 /// Whether every set is one of nodes of 1..n.
@@ -267,11 +262,11 @@ fn is_each_set(n: u32, sets: &[Vec<u32>]) -> bool
     sets.iter().all(|set| is_set_of(n, set))
 }
 
-/// Whether every comb has sets.
-fn is_each_comb(n: u32, combs: &[Vec<Vec<u32>>]) -> bool
-    ensures { result ≡ list_all (λ comb. are_sets n (map (λ set. set.items) comb.items)) combs.now }
+/// Whether every family has sets.
+fn is_each_family(n: u32, families: &[Vec<Vec<u32>>]) -> bool
+    ensures { result ≡ list_all (λ family. are_sets n (map (λ set. set.items) family.items)) families.now }
 {
-    combs.iter().all(|comb| are_sets(n, comb))
+    families.iter().all(|family| are_sets(n, family))
 }
 
 /// How many nodes the sets have together, where that is at most this number.
@@ -289,14 +284,14 @@ fn nodes_of_sets(sets: &[Vec<u32>], most: usize) -> Option<usize>
     Some(total)
 }
 
-/// Whether the combs have together at most `MOST_COMB_NODES` nodes.
-fn have_few_comb_nodes(combs: &[Vec<Vec<u32>>]) -> bool
+/// Whether the families have together at most `MOST_FAMILY_NODES` nodes.
+fn have_few_family_nodes(families: &[Vec<Vec<u32>>]) -> bool
     ensures { result ≡ nat_le
-        (sum_by (λ comb. sum_by (λ set. length set.items) comb.items) combs.now) most_comb_nodes }
+        (sum_by (λ family. sum_by (λ set. length set.items) family.items) families.now) most_family_nodes }
 {
     let mut total = 0;
-    'combs: for comb in combs {
-        let Some(nodes) = nodes_of_sets(comb, MOST_COMB_NODES - total) else {
+    'families: for family in families {
+        let Some(nodes) = nodes_of_sets(family, MOST_FAMILY_NODES - total) else {
             return false;
         };
         total += nodes;
@@ -304,23 +299,25 @@ fn have_few_comb_nodes(combs: &[Vec<Vec<u32>>]) -> bool
     true
 }
 
-/// Whether the combs are of sets of nodes of 1..n, at most `MOST_COMBS` with together at most
-/// `MOST_COMB_NODES` nodes.
-#[tactic(auto, using(crate::proofs::ValidFields::combs_seen))]
-pub(crate) fn are_combs(n: u32, combs: &[Vec<Vec<u32>>]) -> bool
-    ensures { result ≡ are_combs n (combs_of combs.now) }
+/// Whether the families are of sets of nodes of 1..n, at most `MOST_FAMILIES` with together at most
+/// `MOST_FAMILY_NODES` nodes.
+#[tactic(auto, using(crate::proofs::ValidFields::families_seen))]
+pub(crate) fn are_family_lists(n: u32, families: &[Vec<Vec<u32>>]) -> bool
+    ensures { result ≡ are_family_lists n (families_of families.now) }
 {
-    combs.len() <= MOST_COMBS && is_each_comb(n, combs) && have_few_comb_nodes(combs)
+    families.len() <= MOST_FAMILIES
+        && is_each_family(n, families)
+        && have_few_family_nodes(families)
 }
 
-/// Whether an index is that of a node or of some comb.
+/// Whether an index is that of a node or of some family.
 fn is_index(n: u32, index: u32) -> bool
-    ensures { result ≡ is_node (n + most_combs) index }
+    ensures { result ≡ is_node (n + most_families) index }
 {
-    1 <= index && u64::from(index) <= u64::from(n) + MOST_COMBS as u64
+    1 <= index && u64::from(index) <= u64::from(n) + MOST_FAMILIES as u64
 }
 
-/// Whether an index is that of a node or of some comb, and a difference is of a size of at most
+/// Whether an index is that of a node or of some family, and a difference is of a size of at most
 /// `MOST_DIFFERENCE`.
 fn is_change(n: u32, change: (u32, i64)) -> bool
     ensures { result ≡ is_change n change }
@@ -335,14 +332,14 @@ fn are_changes(n: u32, changes: &[(u32, i64)]) -> bool
     changes.iter().all(|change| is_change(n, *change))
 }
 
-/// Whether a branch is on two different nodes of 1..n, or on some comb and a limit of 1..n.
+/// Whether a branch is on two different nodes of 1..n, or on some family and a limit of 1..n.
 fn is_branch_of(n: u32, branch: (u32, u32)) -> bool
     ensures { result ≡ is_branch_of n branch }
 {
     is_index(n, branch.0) && is_node(n, branch.1) && branch.0 != branch.1
 }
 
-/// Whether a branch is on two different nodes or on some comb, or a leaf has differences.
+/// Whether a branch is on two different nodes or on some family, or a leaf has differences.
 fn is_step(n: u32, step: &TreeStep) -> bool
     ensures { result ≡ is_step n (step_of step.now) }
 {
@@ -413,7 +410,7 @@ fn is_whole_tree(steps: &[TreeStep]) -> bool
     left == 0
 }
 
-/// Whether the steps are those of one whole tree of branches on two nodes or on a comb, and of
+/// Whether the steps are those of one whole tree of branches on two nodes or on a family, and of
 /// leaves, with at most `MOST_BRANCHES` branches and `MOST_CHANGES` differences.
 pub(crate) fn are_tree_steps(n: u32, steps: &[TreeStep]) -> bool
     ensures { result ≡ are_tree_steps n (steps_of steps.now) }

@@ -1,15 +1,12 @@
 //! Writes the canonical text of a file, field by field, by the files of `src/writer/`.
 
-ghost use Rattle.std.specs.List.{flat_map};
-ghost use Rattle.std.specs.Option.{option_map};
-ghost use Rattle.std.specs.Prelude.{◌≡◌, None, map, []};
-ghost use Rattle.tsp_format.specs.Steps.{Leaf};
-ghost use Rattle.tsp_format.specs.states.TreeSteps.{step_of, steps_of};
+ghost use Rattle.tsp_file.specs.Prelude.{flat_map, option_map, None, map, [], Leaf, step_of, steps_of};
+ghost use Rattle.std.specs.Prelude.{◌≡◌};
 ghost use Rattle.tsp_io.specs.Streams.{Writes};
 ghost use Rattle.tsp_io.specs.states.Watched.{sink_of, Puts};
-ghost use Rattle.tsp_file.specs.CanonicalText.{text_of, text_of_field, text_of_section, text_of_value, value_line, keyword_line, other_line, optional, before_blank, set_line, comb_lines, comb_list, change_words, step_line, case_tree_lines, section_text};
+ghost use Rattle.tsp_file.specs.CanonicalText.{text_of, text_of_field, text_of_section, text_of_value, value_line, keyword_line, other_line, optional, before_blank, set_line, family_lines, family_list, change_words, step_line, case_tree_lines, section_text};
 ghost use Rattle.tsp_file.specs.Rules.{fault_of};
-ghost use Rattle.tsp_file.specs.states.Drafts.{fields_of, combs_of};
+ghost use Rattle.tsp_file.specs.states.Drafts.{fields_of, families_of};
 
 mod matrix;
 mod sections;
@@ -139,7 +136,7 @@ fn put_section<W: Write>(
         ),
         Shape::Tours => put_tour_section(piece, out, field, &draft.tours),
         Shape::Triples => put_triple_section(piece, out, field, &draft.fixed_potentials),
-        Shape::Combs => put_comb_section(piece, out, field, &draft.combs),
+        Shape::Families => put_family_section(piece, out, field, &draft.families),
         Shape::Steps => put_step_section(piece, out, field, &draft.branches),
     }
 }
@@ -246,23 +243,23 @@ fn put_set<W: Write>(piece: &mut Piece, out: &mut Watched<W>, set: &[u32])
     put(piece, out, b"-1\n");
 }
 
-/// Adds a line for each set of a comb, and the line -1.
-fn put_comb<W: Write>(piece: &mut Piece, out: &mut Watched<W>, comb: &[Vec<u32>])
+/// Adds a line for each set of a family, and the line -1.
+fn put_family<W: Write>(piece: &mut Piece, out: &mut Watched<W>, family: &[Vec<u32>])
     ensures { Puts W.contents out.old piece.old out.new piece.new
-        (comb_lines (map (λ set. set.items) comb.now)) }
+        (family_lines (map (λ set. set.items) family.now)) }
 {
-    'sets: for set in comb {
+    'sets: for set in family {
         put_set(piece, out, set);
     }
     put(piece, out, b"-1\n");
 }
 
-/// Adds the lines of each comb, and one more line -1.
-fn put_combs<W: Write>(piece: &mut Piece, out: &mut Watched<W>, combs: &[Vec<Vec<u32>>])
-    ensures { Puts W.contents out.old piece.old out.new piece.new (comb_list (combs_of combs.now)) }
+/// Adds the lines of each family, and one more line -1.
+fn put_families<W: Write>(piece: &mut Piece, out: &mut Watched<W>, families: &[Vec<Vec<u32>>])
+    ensures { Puts W.contents out.old piece.old out.new piece.new (family_list (families_of families.now)) }
 {
-    'combs: for comb in combs {
-        put_comb(piece, out, comb);
+    'families: for family in families {
+        put_family(piece, out, family);
     }
     put(piece, out, b"-1\n");
 }
@@ -315,19 +312,19 @@ fn put_steps<W: Write>(piece: &mut Piece, out: &mut Watched<W>, steps: &[TreeSte
     }
 }
 
-/// Adds a section of combs, where the file has it.
-fn put_comb_section<W: Write>(
+/// Adds a section of families, where the file has it.
+fn put_family_section<W: Write>(
     piece: &mut Piece,
     out: &mut Watched<W>,
     field: Field,
-    combs: &Option<Vec<Vec<Vec<u32>>>>,
+    families: &Option<Vec<Vec<Vec<u32>>>>,
 )
-    ensures { Puts W.contents out.old piece.old out.new piece.new (optional (λ combs. section_text
-        field (comb_list combs)) (option_map (λ v. combs_of v.items) combs.now)) }
+    ensures { Puts W.contents out.old piece.old out.new piece.new (optional (λ families. section_text
+        field (family_list families)) (option_map (λ v. families_of v.items) families.now)) }
 {
-    if let Some(combs) = combs {
+    if let Some(families) = families {
         put_opening(piece, out, field);
-        put_combs(piece, out, combs);
+        put_families(piece, out, families);
     }
 }
 

@@ -28,7 +28,7 @@ cells-lines layout n = filter-flat_map (is_listed layout) (pairs_of_line layout 
 
 -- ---- elements of lists
 
-Contains-tail : {X : Type 0} (y : X) (ys : List X) (x : X) → Contains ys x → Contains (y ∷ ys) x
+pub Contains-tail : {X : Type 0} (y : X) (ys : List X) (x : X) → Contains ys x → Contains (y ∷ ys) x
 Contains-tail y ys x h = (suc h.0, omega (arith, h.1), h.2)
 
 Contains-cond : {X : Type 0} (b : Bool) (y : X) (ys : List X) (x : X) → Contains ys x → Contains (cond b (y ∷ ys) ys) x
@@ -68,7 +68,7 @@ All-flat_map P Q f each (x ∷ xs) all =
 
 -- ---- the nodes
 
-all_nodes : (n : ℕ) → All (IsNode n) (nodes_to n)
+pub all_nodes : (n : ℕ) → All (IsNode n) (nodes_to n)
 unfolding nodes_to
 all_nodes n = λ k d lt.
     let short : k < n = omega (arith, lt, length-range_with_len 1 n) in

@@ -5,11 +5,11 @@ use Rattle.std.specs.Prelude.{ℕ, Bool, true, false, cond, List, Option, None, 
 use Rattle.std.specs.Str.{bytes_eq}
 use Rattle.tsp_format.specs.Words.{field_word, fields_in_order}
 use Rattle.tsp_format.specs.declared.keyword.Field.{Field}
-use Rattle.tsp_format.specs.declared.keyword.Field.TheVariants.{OtherKey, FixedEdgesPart, NameKey, TypeKey, CommentKey, DimensionKey, CapacityKey, ScaleKey, LoadUnitKey, EdgeWeightTypeKey, EdgeWeightFormatKey, NodeCoordTypeKey, DisplayDataTypeKey, NodeCoordPart, DisplayDataPart, DemandPart, DepotPart, EdgeWeightPart, TourPart, NodePotentialPart, RowPotentialPart, ColumnPotentialPart, FixedEdgePotentialPart, CombPart, BranchPart}
+use Rattle.tsp_format.specs.declared.keyword.Field.TheVariants.{OtherKey, FixedEdgesPart, NameKey, TypeKey, CommentKey, DimensionKey, CapacityKey, ScaleKey, LoadUnitKey, EdgeWeightTypeKey, EdgeWeightFormatKey, NodeCoordTypeKey, DisplayDataTypeKey, NodeCoordPart, DisplayDataPart, DemandPart, DepotPart, EdgeWeightPart, TourPart, NodePotentialPart, RowPotentialPart, ColumnPotentialPart, FixedEdgePotentialPart, FamilyPart, BranchPart}
 use Rattle.tsp_format.specs.declared.keyword.Keyword.{Keyword}
 use Rattle.tsp_format.specs.declared.keyword.Keyword.TheVariants.{Known, EdgeDataFormat, EdgeDataSection, Eof, Unknown}
 use Rattle.tsp_format.specs.declared.keyword.Shape.{Shape}
-use Rattle.tsp_format.specs.declared.keyword.Shape.TheVariants.{Numbers, Points, SpacePoints, Depots, Pairs, Weights, Tours, Triples, Combs, Steps}
+use Rattle.tsp_format.specs.declared.keyword.Shape.TheVariants.{Numbers, Points, SpacePoints, Depots, Pairs, Weights, Tours, Triples, Families, Steps}
 use Rattle.tsp_format.specs.declared.keyword.ValueShape.{ValueShape}
 use Rattle.tsp_format.specs.declared.keyword.ValueShape.TheVariants.{Kept, KeptEach, Number, Word}
 
@@ -119,12 +119,12 @@ abbrev pub most_tour_nodes : ℕ
 most_tour_nodes = 1000000
 
 -- families of sets
-abbrev pub most_combs : ℕ
-most_combs = 10000
+abbrev pub most_families : ℕ
+most_families = 10000
 
 -- nodes of all sets of all families
-abbrev pub most_comb_nodes : ℕ
-most_comb_nodes = 1000000
+abbrev pub most_family_nodes : ℕ
+most_family_nodes = 1000000
 
 -- branches of a tree of cases
 abbrev pub most_branches : ℕ
@@ -157,7 +157,7 @@ shape_of spatial NodePotentialPart = Some (Numbers (neg_ℤ (pos most_potential)
 shape_of spatial RowPotentialPart = Some (Numbers (neg_ℤ (pos most_potential)) (pos most_potential))
 shape_of spatial ColumnPotentialPart = Some (Numbers (neg_ℤ (pos most_potential)) (pos most_potential))
 shape_of spatial FixedEdgePotentialPart = Some Triples
-shape_of spatial CombPart = Some Combs
+shape_of spatial FamilyPart = Some Families
 shape_of spatial BranchPart = Some Steps
 shape_of spatial field = None
 

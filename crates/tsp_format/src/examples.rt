@@ -45,7 +45,7 @@ pub fn examples_of_fields()
         (codes "COLUMN_POTENTIAL_SECTION") }
     ensures fixed_potentials { StandsAt 23 fields.FixedEdgePotentialPart
         (codes "FIXED_EDGE_POTENTIAL_SECTION") }
-    ensures combs { StandsAt 24 fields.CombPart (codes "COMB_SECTION") }
+    ensures families { StandsAt 24 fields.FamilyPart (codes "COMB_SECTION") }
     ensures branches { StandsAt 25 fields.BranchPart (codes "BRANCH_SECTION") }
     ensures no_more { length fields_in_order ≡ 25 }
 {}
@@ -151,8 +151,8 @@ pub fn examples_of_limits()
     ensures multipliers { limits.most_triples ≡ 10 ^ 5 }
     ensures multiplier { limits.most_multiplier ≡ 10 ^ 15 }
     ensures tour_nodes { limits.most_tour_nodes ≡ 10 ^ 6 }
-    ensures combs { limits.most_combs ≡ 10 ^ 4 }
-    ensures comb_nodes { limits.most_comb_nodes ≡ 10 ^ 6 }
+    ensures families { limits.most_families ≡ 10 ^ 4 }
+    ensures family_nodes { limits.most_family_nodes ≡ 10 ^ 6 }
     ensures branches { limits.most_branches ≡ 10 ^ 6 }
     ensures changes { limits.most_changes ≡ 10 ^ 7 }
     ensures difference { limits.most_difference ≡ 2 * 10 ^ 15 }

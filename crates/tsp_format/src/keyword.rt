@@ -2,9 +2,9 @@
 
 ghost use Rattle.std.specs.List.{find};
 ghost use Rattle.std.specs.Prelude.{◌≡◌, pos};
-ghost use Rattle.tsp_format.specs.Limits.{keyword_of, field_of, known_or_not, most_nodes, most_matrix_nodes, most_coordinate, most_weight, most_demand, most_capacity, most_scale, most_load_unit, most_potential, most_word_bytes, most_line_bytes, most_kept_bytes, most_comments, most_others, most_depots, most_fixed, most_triples, most_multiplier, most_tour_nodes, most_combs, most_comb_nodes, most_branches, most_changes, most_difference, most_file_bytes, shape_of, value_shape_of};
+ghost use Rattle.tsp_format.specs.Limits.{keyword_of, field_of, known_or_not, most_nodes, most_matrix_nodes, most_coordinate, most_weight, most_demand, most_capacity, most_scale, most_load_unit, most_potential, most_word_bytes, most_line_bytes, most_kept_bytes, most_comments, most_others, most_depots, most_fixed, most_triples, most_multiplier, most_tour_nodes, most_families, most_family_nodes, most_branches, most_changes, most_difference, most_file_bytes, shape_of, value_shape_of};
 ghost use Rattle.tsp_format.specs.Words.{field_word, fields_in_order, field_found};
-ghost use Rattle.tsp_format.specs.declared.keyword.TheConstants.{MOST_NODES, MOST_MATRIX_NODES, MOST_COORDINATE, MOST_WEIGHT, MOST_DEMAND, MOST_CAPACITY, MOST_SCALE, MOST_LOAD_UNIT, MOST_POTENTIAL, MOST_WORD_BYTES, MOST_LINE_BYTES, MOST_KEPT_BYTES, MOST_COMMENTS, MOST_OTHERS, MOST_DEPOTS, MOST_FIXED, MOST_MULTIPLIERS, MOST_MULTIPLIER, MOST_TOUR_NODES, MOST_COMBS, MOST_COMB_NODES, MOST_BRANCHES, MOST_CHANGES, MOST_DIFFERENCE, MOST_FILE_BYTES};
+ghost use Rattle.tsp_format.specs.declared.keyword.TheConstants.{MOST_NODES, MOST_MATRIX_NODES, MOST_COORDINATE, MOST_WEIGHT, MOST_DEMAND, MOST_CAPACITY, MOST_SCALE, MOST_LOAD_UNIT, MOST_POTENTIAL, MOST_WORD_BYTES, MOST_LINE_BYTES, MOST_KEPT_BYTES, MOST_COMMENTS, MOST_OTHERS, MOST_DEPOTS, MOST_FIXED, MOST_MULTIPLIERS, MOST_MULTIPLIER, MOST_TOUR_NODES, MOST_FAMILIES, MOST_FAMILY_NODES, MOST_BRANCHES, MOST_CHANGES, MOST_DIFFERENCE, MOST_FILE_BYTES};
 
 use crate::word::{Word, value_of};
 use std::fmt;
@@ -91,7 +91,7 @@ pub enum Field {
     RowPotentialPart,
     ColumnPotentialPart,
     FixedEdgePotentialPart,
-    CombPart,
+    FamilyPart,
     BranchPart,
 }
 
@@ -114,8 +114,8 @@ pub enum Shape {
     Tours,
     /// Pairs of nodes with a number each, up to a -1.
     Triples,
-    /// Combs, each of sets of nodes up to a -1, up to one more -1; a third ends the list.
-    Combs,
+    /// Families, each of sets of nodes up to a -1, up to one more -1; a third ends the list.
+    Families,
     /// The steps of a tree of cases.
     Steps,
 }
@@ -159,7 +159,7 @@ impl Field {
         Field::RowPotentialPart,
         Field::ColumnPotentialPart,
         Field::FixedEdgePotentialPart,
-        Field::CombPart,
+        Field::FamilyPart,
         Field::BranchPart,
     ];
 
@@ -185,7 +185,7 @@ impl Field {
                 })
             }
             Field::FixedEdgePotentialPart => Some(Shape::Triples),
-            Field::CombPart => Some(Shape::Combs),
+            Field::FamilyPart => Some(Shape::Families),
             Field::BranchPart => Some(Shape::Steps),
             _ => None,
         }
@@ -260,7 +260,7 @@ impl Word for Field {
             Field::RowPotentialPart => "ROW_POTENTIAL_SECTION",
             Field::ColumnPotentialPart => "COLUMN_POTENTIAL_SECTION",
             Field::FixedEdgePotentialPart => "FIXED_EDGE_POTENTIAL_SECTION",
-            Field::CombPart => "COMB_SECTION",
+            Field::FamilyPart => "COMB_SECTION",
             Field::BranchPart => "BRANCH_SECTION",
         }
     }
@@ -335,11 +335,11 @@ pub const MOST_MULTIPLIER: i64 = 1_000_000_000_000_000;
 /// The most nodes of all tours of a file.
 pub const MOST_TOUR_NODES: usize = 1_000_000;
 
-/// The most combs.
-pub const MOST_COMBS: usize = 10_000;
+/// The most families.
+pub const MOST_FAMILIES: usize = 10_000;
 
-/// The most nodes of all combs of a file.
-pub const MOST_COMB_NODES: usize = 1_000_000;
+/// The most nodes of all families of a file.
+pub const MOST_FAMILY_NODES: usize = 1_000_000;
 
 /// The most branches of a tree of cases.
 pub const MOST_BRANCHES: usize = 1_000_000;
@@ -377,8 +377,8 @@ pub fn limits_are_those_of_the_profile()
     ensures multipliers { MOST_MULTIPLIERS ≡ most_triples }
     ensures multiplier { MOST_MULTIPLIER ≡ pos most_multiplier }
     ensures tour_nodes { MOST_TOUR_NODES ≡ most_tour_nodes }
-    ensures combs { MOST_COMBS ≡ most_combs }
-    ensures comb_nodes { MOST_COMB_NODES ≡ most_comb_nodes }
+    ensures families { MOST_FAMILIES ≡ most_families }
+    ensures family_nodes { MOST_FAMILY_NODES ≡ most_family_nodes }
     ensures branches { MOST_BRANCHES ≡ most_branches }
     ensures changes { MOST_CHANGES ≡ most_changes }
     ensures difference { MOST_DIFFERENCE ≡ pos most_difference }

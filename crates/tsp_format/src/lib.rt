@@ -8,7 +8,6 @@
 //! ```
 #![tactic(auto)]
 
-mod bytes;
 mod examples;
 mod keyword;
 mod kinds;
@@ -17,14 +16,13 @@ mod place;
 mod steps;
 mod word;
 
-pub use bytes::{is_blank, is_keyword_byte, is_letter};
 pub use examples::{
     examples_of_asymmetric_costs, examples_of_bytes, examples_of_cells, examples_of_fields,
     examples_of_limits, examples_of_space, examples_of_words,
 };
 pub use keyword::{
-    Field, Keyword, MOST_BRANCHES, MOST_CAPACITY, MOST_CHANGES, MOST_COMB_NODES, MOST_COMBS,
-    MOST_COMMENTS, MOST_COORDINATE, MOST_DEMAND, MOST_DEPOTS, MOST_DIFFERENCE, MOST_FILE_BYTES,
+    Field, Keyword, MOST_BRANCHES, MOST_CAPACITY, MOST_CHANGES, MOST_COMMENTS, MOST_COORDINATE,
+    MOST_DEMAND, MOST_DEPOTS, MOST_DIFFERENCE, MOST_FAMILIES, MOST_FAMILY_NODES, MOST_FILE_BYTES,
     MOST_FIXED, MOST_KEPT_BYTES, MOST_LINE_BYTES, MOST_LOAD_UNIT, MOST_MATRIX_NODES,
     MOST_MULTIPLIER, MOST_MULTIPLIERS, MOST_NODES, MOST_OTHERS, MOST_POTENTIAL, MOST_SCALE,
     MOST_TOUR_NODES, MOST_WEIGHT, MOST_WORD_BYTES, Shape, ValueShape,
@@ -34,4 +32,4 @@ pub use kinds::{CoordKind, DisplayKind, Kind, WeightFormat, WeightKind, is_spati
 pub use layout::{Layout, cells_are_distinct, cells_are_the_listed_pairs, cells_go_line_by_line};
 pub use place::only_cells_have_places;
 pub use steps::TreeStep;
-pub use word::{Word, value_of};
+pub use word::{Word, is_blank, is_keyword_byte, is_letter, value_of};

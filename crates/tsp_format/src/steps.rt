@@ -8,6 +8,6 @@ pub enum TreeStep {
     /// tree of the solutions that cross family k at most 2t times, and then that of the others.
     Branch(u32, u32),
     /// Closes a case by numbers, given as their differences to those of the leaf before, 0 before
-    /// the first: index 1 to n is a node's potential, n + k the multiplier of comb k.
+    /// the first: index 1 to n is a node's potential, n + k the multiplier of family k.
     Leaf(Vec<(u32, i64)>),
 }

@@ -10,22 +10,16 @@
 //! ```
 #![tactic(auto)]
 
-mod asked;
 mod examples;
-mod list;
+mod memory;
 mod piece;
-mod refused;
 mod script;
-mod set;
 mod watched;
 
-pub use asked::{Gives, Takes};
 pub use examples::{examples_of_failed_writes, examples_of_fault_texts};
-pub use list::{copied, filled, push, sort, with_capacity};
+pub use memory::{Refused, copied, filled, insert, push, sort, with_capacity};
 pub use piece::{
     PIECE, Piece, WriteFault, hand_over, put, put_next_number, put_number, send, write_text,
 };
-pub use refused::Refused;
 pub use script::{Script, answers_go_through};
-pub use set::insert;
-pub use watched::Watched;
+pub use watched::{Gives, Takes, Watched};

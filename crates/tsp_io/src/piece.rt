@@ -10,8 +10,7 @@ ghost use Rattle.std.specs.declared.io.Error.{Error};
 ghost use Rattle.tsp_io.specs.Streams.{HasWritten, HasStopped, Writes};
 ghost use Rattle.tsp_io.specs.states.Watched.{watched, has_failed, error_of, KeepsError, sink_of, Puts};
 
-use crate::asked::Takes;
-use crate::watched::Watched;
+use crate::watched::{Takes, Watched};
 use arrayvec::ArrayVec;
 use itoa::{Buffer, Integer};
 use std::fmt;

@@ -1,27 +1,17 @@
 -- Runs of `tsp bound`, `show` and `convert`, and instances that are open.
-use Rattle.std.proofs.Common.{◌≡◌, ◌∙◌, length, Some, sym, Bool, true, false, Result, Ok, Err, refl, subst, inl, inr, Option, None, ℕ, List}
+use Rattle.tsp_judge.proofs.Prelude.{◌≡◌, ◌∙◌, length, Some, sym, Bool, true, false, Result, Ok, Err, refl, subst, inl, inr, Option, None, ℕ, List, IsTrue, ℤ, ReadTrace, IsUnread, Sink, IsUnwritten, Writes, Fields, IsFile, IsProblem, problem_of, routing_of, depots_of, bound_report_of, is_bound_yes, CertificateKind, AppliesToInstanceBy, AppliesToBounded, IsBoundVerdict, is_bounded, BoundsSolutionsBy, BoundsSolutions, HasNoSolutionBy, HasNoSolution, is_unjudged, strict_bound}
 use Rattle.std.proofs.lemmas.Bool.{false≢true}
-use Rattle.std.specs.Prelude.{IsTrue, ℤ}
-use Rattle.tsp_io.specs.Streams.{ReadTrace, IsUnread, Sink, IsUnwritten, Writes}
 use Rattle.tsp_io.specs.declared.piece.WriteFault.{WriteFault}
 use Rattle.tsp_io.specs.declared.piece.WriteFault.TheVariants as faults
 use Rattle.tsp_format.specs.declared.kinds.Kind.TheVariants as kinds
 use Rattle.tsp_format.specs.declared.layout.Layout.{Layout}
 use Rattle.tsp_file.specs.CanonicalText.{text_of}
-use Rattle.tsp_file.specs.Fields.{Fields}
 use Rattle.tsp_file.specs.Rules.{fault_of}
-use Rattle.tsp_read.specs.Reads.{IsFile}
-use Rattle.tsp_cost.specs.Problems.{IsProblem, problem_of, routing_of, depots_of}
-use Rattle.tsp_report.specs.Report.{bound_report_of}
 use Rattle.tsp_report.specs.Show.{shown}
-use Rattle.tsp_report.specs.Verdicts.{is_bound_yes}
-use Rattle.tsp_report.specs.declared.task.CertificateKind.{CertificateKind}
 use Rattle.tsp_report.specs.declared.verdict.BoundVerdict.{BoundVerdict}
 use Rattle.tsp_report.specs.declared.verdict.BoundVerdict.TheVariants as bounds
 use Rattle.tsp_report.specs.declared.verdict.Reason.{Reason}
 use Rattle.tsp_report.specs.declared.verdict.Reason.TheVariants.{DepotCount}
-use Rattle.tsp_verdict.specs.Certified.{AppliesToInstanceBy, AppliesToBounded, IsBoundVerdict, is_bounded, BoundsSolutionsBy, BoundsSolutions, HasNoSolutionBy, HasNoSolution}
-use Rattle.tsp_verdict.specs.SolutionVerdict.{is_unjudged, strict_bound}
 use Rattle.tsp_judge.proofs.Yeses.{one_value, IsBoundedType, of_type, types_bounded, one_depot, none_unknown}
 use Rattle.tsp_judge.specs.Accepted.{BoundsAll, HasNone, IsAcceptedAlone}
 use Rattle.tsp_judge.specs.CheckRun.{BoundsFiles, EndsUnbounded, IsBoundRun, SaysBound, IsBoundRunOf, ReadsFile}

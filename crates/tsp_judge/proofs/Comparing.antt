@@ -1,26 +1,15 @@
 -- What a comparison has written after each solution, and what its lines mean.
-use Rattle.std.proofs.Common.{◌≡◌, ◌||◌, ℕ, suc, ◌+◌, ◌<◌, ◌≤◌, List, [], ◌∷◌, ◌++◌, length, take, Option, true, false, Bool, refl, sym, ap, subst, ◌∙◌, append_assoc, append-nil, arith, inl, inr, add-one, ◌⊎◌}
-use Rattle.std.proofs.KnownBytes.{Appends-nil, Appends-trans, Appends-kept}
+use Rattle.tsp_judge.proofs.Prelude.{◌≡◌, ◌||◌, ℕ, suc, ◌+◌, ◌<◌, ◌≤◌, List, [], ◌∷◌, ◌++◌, length, take, Option, true, false, Bool, refl, sym, ap, subst, ◌∙◌, append_assoc, append-nil, arith, inl, inr, add-one, ◌⊎◌, Appends-nil, Appends-trans, Appends-kept, max, Result, Ok, Err, IfOk, slice_index_or, Some, None, ℤ, IsTrue, ReadTrace, Sink, IsUnwritten, HasWritten, HasStopped, Writes, sink_of, read_trace_of, watched, has_failed, Fields, HasReads, IsReadOn, IsFile, most_taken, ReadFault, IsProblem, problem_of, routing_of, solution_line, IsSized, report_of, head_of, is_clear, is_yes, CertificateKind, AppliesToTouring, AppliesToRouting, AppliesToInstanceBy, AppliesToBounded, IsBoundVerdict, AppliesToCertificate, HasNoSolutionBy, IsCertifiedTourVerdict, IsCertifiedRoutesVerdict, IsCertifiedVerdictBy, IsCertifiedVerdict, IsKnownBound, IsVerdictFrom, is_unjudged, strict_known_bound, IsKnownBoundAsked, IsKnownBoundAlone, IsKnownBoundBy, IsVerdictBy, IsVerdictWith}
 use Rattle.std.proofs.lemmas.Bool.{false≢true}
 use Rattle.std.specs.Io.KnownBytes.{Appends}
-use Rattle.std.specs.Prelude.{max, Result, Ok, Err, IfOk, slice_index_or, Some, None, ℤ, IsTrue}
 use Rattle.std.specs.declared.io.Error.{Error}
-use Rattle.tsp_io.specs.Streams.{ReadTrace, Sink, IsUnwritten, HasWritten, HasStopped, Writes}
 use Rattle.tsp_io.specs.declared.piece.WriteFault.{WriteFault}
 use Rattle.tsp_io.specs.declared.piece.WriteFault.TheVariants as write_faults
 use Rattle.tsp_io.specs.declared.watched.Watched.{Watched}
-use Rattle.tsp_io.specs.states.Watched.{sink_of, read_trace_of, watched, has_failed}
 use Rattle.tsp_format.specs.declared.kinds.Kind.{Kind}
 use Rattle.tsp_format.specs.declared.kinds.Kind.TheVariants as kinds
-use Rattle.tsp_file.specs.Fields.{Fields}
-use Rattle.tsp_read.specs.Reads.{HasReads, IsReadOn, IsFile, most_taken}
-use Rattle.tsp_read.specs.declared.ReadFault.{ReadFault}
 use Rattle.tsp_theory.specs.Tour.{BoundsTours, HasNoTour}
-use Rattle.tsp_cost.specs.Problems.{IsProblem, problem_of, routing_of}
-use Rattle.tsp_routing.specs.PlanLinks.{HasNoPlan}
-use Rattle.tsp_report.specs.Report.{solution_line, IsSized, report_of}
-use Rattle.tsp_report.specs.Verdicts.{is_clear, is_yes}
-use Rattle.tsp_report.specs.declared.task.CertificateKind.{CertificateKind}
+use Rattle.tsp_routing.specs.PlanLinks.{BoundsPlans, HasNoPlan}
 use Rattle.tsp_report.specs.declared.verdict.KnownBound.{KnownBound}
 use Rattle.tsp_report.specs.declared.verdict.KnownBound.TheVariants as known_bounds
 use Rattle.tsp_report.specs.declared.verdict.BoundVerdict.TheVariants as bounds
@@ -28,11 +17,9 @@ use Rattle.tsp_report.specs.declared.verdict.Reason.{Reason}
 use Rattle.tsp_report.specs.declared.verdict.Reason.TheVariants.{TooFewNodes, NotSymmetric, DepotCount, DepotDemand, FixedEdgesInRoutes}
 use Rattle.tsp_report.specs.declared.verdict.Verdict.{Verdict}
 use Rattle.tsp_report.specs.declared.verdict.Verdict.TheVariants as verdicts
-use Rattle.tsp_verdict.specs.Certified.{AppliesToTouring, AppliesToRouting, AppliesToInstanceBy, AppliesToBounded, IsBoundVerdict, AppliesToCertificate, HasNoSolutionBy, IsCertifiedTourVerdict, IsCertifiedRoutesVerdict, IsCertifiedVerdictBy, IsCertifiedVerdict}
-use Rattle.tsp_verdict.specs.SolutionVerdict.{IsKnownBound, IsVerdictFrom, is_unjudged, strict_known_bound, IsKnownBoundAsked, IsKnownBoundAlone, IsKnownBoundBy, IsVerdictBy, IsVerdictWith}
 use Rattle.tsp_verdict.specs.Solutions.{tours_of, IsFirstReason, AppliesToRoutes, AppliesToTour}
-use Rattle.tsp_judge.proofs.Yeses.{sized, accepted, IsTspOrAtsp, type_of_tours, one_tour}
-use Rattle.tsp_judge.specs.Accepted.{IsAccepted, IsBoundedTour}
+use Rattle.tsp_judge.proofs.Yeses.{sized, accepted, IsTspOrAtsp, type_of_tours, one_tour, only_routes, none_unknown}
+use Rattle.tsp_judge.specs.Accepted.{IsAccepted, IsBoundedTour, AreBoundedRoutes}
 use Rattle.tsp_judge.specs.CheckRun.{Given, IsUnreadIn, IsFileIn, ReadsFile, ReadsGiven}
 use Rattle.tsp_judge.specs.CompareRun.{IsReadTraceAt, IsFoundIn, Finds, result_of, status_of_found, ComparesOne, AreFound, all_solution_lines, largest_status, ComparesAll, ComparesBy, ComparesOn, LacksKnownBound, AreReadOnce, EndsCompare, AreReported, most_reported}
 use Rattle.tsp_judge.specs.declared.compared.ComparisonContext.{ComparisonContext}
@@ -261,7 +248,7 @@ ends_comparing strict IsReadTrace paths given first common sink (Write fault) re
 ends_comparing strict IsReadTrace paths given first common sink OutOfMemory read c = inr (common, read, c)
 ends_comparing strict IsReadTrace paths given first common sink (Relayout fault) read c = inr (common, read, c)
 
--- where solutions are judged one by one, the basis is the one without a look at unknown keywords
+-- where solutions are judged one by one, the known bound is the one without a look at unknown keywords
 pub clear_known_bound : (strict : Bool) (given : Option (CertificateKind × Fields)) (instance : Fields) (known_bound : KnownBound) → IsKnownBoundAsked strict given instance known_bound
     → is_clear known_bound ≡ true → IsKnownBound given instance known_bound
 clear_known_bound strict given instance known_bound asked clear =
@@ -336,6 +323,74 @@ bounded_line common read_trace by certificate length bound problem is found = (
       (subst (λ given. IsVerdictWith given None common.instance found.0 (verdicts.Tour length (Some bound))) is found.2)
       (subst (λ given. IsAccepted given None common.instance found.0 (report_of common.instance (verdicts.Tour length (Some bound)))) is (found.4 refl)),
 )
+
+-- plan: the same of routes; no plan is a verdict on a tour
+bounded_plan : (by : CertificateKind) (instance solution certificate : Fields) (length bound : ℤ) (count least : ℕ) → IsProblem instance → instance.kind ≡ Some kinds.Cvrp
+    → IsCertifiedRoutesVerdict by instance solution certificate (verdicts.Routes length count least (Some bound)) → AreBoundedRoutes instance solution length bound
+bounded_plan by instance solution certificate length bound count least problem type v =
+    let b = v.1 in
+    let only = only_routes None instance solution length count least problem type (λ reason applies. v.0 reason (inl applies)) b.planned tt in
+    let same : b.least ≡ bound = some_same bound b.least b.bound_is in
+    record {
+      problem = routing_of instance;
+      of_instance = only.of_instance;
+      routes = tours_of solution;
+      all = only.all;
+      filled = record { plan = b.planned.plan_of; each = b.planned.filled };
+      measured = b.planned.measured;
+      below_plans = subst (λ low. BoundsPlans (routing_of instance) low) same b.below_plans;
+    }
+  where
+    some_same : (x y : ℤ) → Some x ≡ Some y → y ≡ x
+    some_same x y e = cc
+
+bounded_routes : (by : CertificateKind) (instance solution certificate : Fields) (length bound : ℤ) (count least : ℕ) (report : List ℕ) → IsProblem instance
+    → IsCertifiedVerdict by instance solution certificate (verdicts.Routes length count least (Some bound))
+    → IsAccepted (Some (by, certificate)) None instance solution report → AreBoundedRoutes instance solution length bound
+bounded_routes by instance solution certificate length bound count least report problem v (inl accepted) =
+    of_tours (type_of_tours accepted.problem.directed instance.kind accepted.only_tour.of_instance.type)
+  where
+    of_tours : IsTspOrAtsp instance.kind → AreBoundedRoutes instance solution length bound
+    of_tours (inl tsp) = absurd (subst (λ k. IsCertifiedVerdictBy k by instance solution certificate (verdicts.Routes length count least (Some bound))) tsp v)
+    of_tours (inr atsp) = absurd (subst (λ k. IsCertifiedVerdictBy k by instance solution certificate (verdicts.Routes length count least (Some bound))) atsp v)
+bounded_routes by instance solution certificate length bound count least report problem v (inr accepted) =
+    let type = accepted.only_routes.of_instance.type in
+    bounded_plan by instance solution certificate length bound count least problem type
+    (subst (λ k. IsCertifiedVerdictBy k by instance solution certificate (verdicts.Routes length count least (Some bound))) type v)
+
+pub bounded_line_of_routes : (common : ComparisonContext) (read_trace : ReadTrace) (by : CertificateKind) (certificate : Fields) (length bound : ℤ) (count least : ℕ)
+    → IsProblem common.instance → common.certificate ≡ Some (by, certificate) → IsFoundIn common read_trace (Ok (verdicts.Routes length count least (Some bound)))
+    → (solution : Fields) × IsFile read_trace solution × AreBoundedRoutes common.instance solution length bound
+bounded_line_of_routes common read_trace by certificate length bound count least problem is found = (
+  found.0,
+  found.1,
+  bounded_routes by common.instance found.0 certificate length bound count least (report_of common.instance (verdicts.Routes length count least (Some bound))) problem
+      (subst (λ given. IsVerdictWith given None common.instance found.0 (verdicts.Routes length count least (Some bound))) is found.2)
+      (subst (λ given. IsAccepted given None common.instance found.0 (report_of common.instance (verdicts.Routes length count least (Some bound)))) is (found.4 refl)),
+)
+
+-- ---- unknown keywords as a reason against all solutions
+
+-- where all are judged, unknown keywords are no reason
+pub clear_by : (refused : Bool) (plain : KnownBound) → is_clear (strict_known_bound refused plain) ≡ true → refused ≡ false
+clear_by false plain is = refl
+clear_by true (known_bounds.Tours bound) is = absurd (false≢true is)
+clear_by true known_bounds.NoSolution is = absurd (false≢true is)
+clear_by true (known_bounds.Routes least bound) is = absurd (false≢true is)
+clear_by true (known_bounds.No reason) is = absurd (false≢true is)
+
+-- so that the instance has none, where it is asked that they be a reason
+pub all_judged : (given : Option (CertificateKind × Fields)) (instance : Fields) (known_bound : KnownBound) → IsKnownBoundAsked true given instance known_bound
+    → is_clear known_bound ≡ true → instance.others ≡ []
+all_judged given instance known_bound asked is =
+    none_unknown true instance.others (clear_by (is_unjudged true instance) asked.0 (sym (ap is_clear asked.2) ∙ is)) refl
+
+-- and where none is judged, the head is the whole text
+pub none_judged : (clear : Bool) (IsReadTrace : ℕ → ReadTrace → Type 0) (paths : List (List ℕ)) (common : ComparisonContext) (sink : Sink) (status : ℕ)
+    → (clear ≡ true → ⊥) → ComparesBy clear IsReadTrace paths common sink (Ok status)
+    → HasWritten sink (head_of common.instance common.known_bound) × (status ≡ 1)
+none_judged true IsReadTrace paths common sink status not by = absurd (not refl)
+none_judged false IsReadTrace paths common sink status not by = by
 
 -- ---- the answer of a check
 
@@ -449,7 +504,7 @@ none_certified (Some kinds.Potentials) by instance solution certificate reason v
 none_certified (Some kinds.Branches) by instance solution certificate reason verdict applies v = of_tours (Some kinds.Branches) by instance solution certificate reason verdict (λ s. s) applies v
 none_certified None by instance solution certificate reason verdict applies v = of_tours None by instance solution certificate reason verdict (λ s. s) applies v
 
--- a basis with a reason, or without a solution, is what a bound without a solution says
+-- a known bound with a reason, or without a solution, is what a bound without a solution says
 known_bound_refused : (kind : Option Kind) (by : CertificateKind) (instance certificate : Fields) (reason : Reason) → IsKnownBoundBy kind by instance certificate (known_bounds.No reason)
     → IsFirstReason (AppliesToBounded by instance certificate) reason
 known_bound_refused (Some kinds.Tsp) by instance certificate reason b = b

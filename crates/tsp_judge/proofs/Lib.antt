@@ -1,4 +1,5 @@
 -- The files of lemmas of this crate. Crates above may import them.
+mod Prelude
 pub mod Bounding
 pub mod Comparing
 pub mod Yeses

@@ -1,28 +1,18 @@
 -- What a run that ends with `yes` means for the files that it has read.
-use Rattle.std.proofs.Common.{◌≡◌, Result, Ok, ℕ, [], length, Bool, true, false, Option, Some, None, Err, refl, sym, subst, inl, inr, arith, ◌≢◌, ◌<◌, eqb, List, ◌∷◌, ap, ◌∙◌}
+use Rattle.tsp_judge.proofs.Prelude.{◌≡◌, Result, Ok, ℕ, [], length, Bool, true, false, Option, Some, None, Err, refl, sym, subst, inl, inr, arith, ◌≢◌, ◌<◌, eqb, List, ◌∷◌, ap, ◌∙◌, ℤ, pos, negsuc, ◌≤◌, ◌^◌, unsigned_abs, ◌⊎◌, ◌≤ℤ◌, IsTrue, unwrap_or, if◌then◌else◌, ReadTrace, IsUnread, Sink, IsUnwritten, Fields, nodes_of, IsFile, most_taken, IsProblem, depot_of, problem_of, routing_of, depots_of, IsGapSized, IsSized, report_of, is_yes, CertificateKind, is_bounded, IsBoundFitting, IsCertifiedTourVerdict, IsCertifiedRoutesVerdict, IsCertifiedVerdictBy, kind_of, AppliesToCertificateBy, AppliesToCertificate, IsCertifiedVerdict, is_judged, IsVerdictBy, IsUnclaimedVerdict, IsVerdictWith, is_unjudged, strict_verdict, IsVerdictAsked, HasLength, IsAsClaimed, refuses}
 use Rattle.std.proofs.lemmas.Bool.{false≢true, cases_lt}
 use Rattle.std.proofs.lemmas.Bool.Decides.{eqb_tells}
 use Rattle.std.proofs.lemmas.Int.{ints}
-use Rattle.std.specs.Prelude.{ℤ, pos, negsuc, ◌≤◌, ◌^◌, unsigned_abs, ◌⊎◌, ◌≤ℤ◌, IsTrue, unwrap_or, if◌then◌else◌}
-use Rattle.tsp_io.specs.Streams.{ReadTrace, IsUnread, Sink, IsUnwritten}
 use Rattle.tsp_format.specs.declared.kinds.Kind.{Kind}
 use Rattle.tsp_format.specs.declared.kinds.Kind.TheVariants as kinds
 use Rattle.tsp_file.specs.Cost.{cost}
-use Rattle.tsp_file.specs.Fields.{Fields, nodes_of}
 use Rattle.tsp_file.specs.Rules.{is_instance, is_tour_file, is_potentials_file, is_branches_file}
-use Rattle.tsp_read.specs.Reads.{IsFile, most_taken}
 use Rattle.tsp_theory.specs.Tour.{length_of, RoutingProblem, IsPlan, IsCustomer, plan_length}
-use Rattle.tsp_cost.specs.Problems.{IsProblem, depot_of, problem_of, routing_of, depots_of}
-use Rattle.tsp_report.specs.Report.{IsGapSized, IsSized, report_of}
-use Rattle.tsp_report.specs.Verdicts.{is_yes}
-use Rattle.tsp_report.specs.declared.task.CertificateKind.{CertificateKind}
 use Rattle.tsp_report.specs.declared.task.CertificateKind.TheVariants.{Potentials, Branches}
 use Rattle.tsp_report.specs.declared.verdict.Reason.{Reason}
 use Rattle.tsp_report.specs.declared.verdict.Reason.TheVariants.{NotASolution, TooFewNodes, DepotCount, NotPotentials, NotBranches}
 use Rattle.tsp_report.specs.declared.verdict.Verdict.{Verdict}
 use Rattle.tsp_report.specs.declared.verdict.Verdict.TheVariants as verdicts
-use Rattle.tsp_verdict.specs.Certified.{is_bounded, IsBoundFitting, IsCertifiedTourVerdict, IsCertifiedRoutesVerdict, IsCertifiedVerdictBy, kind_of, AppliesToCertificateBy, AppliesToCertificate, IsCertifiedVerdict}
-use Rattle.tsp_verdict.specs.SolutionVerdict.{is_judged, IsVerdictBy, IsUnclaimedVerdict, IsVerdictWith, is_unjudged, strict_verdict, IsVerdictAsked, HasLength, IsAsClaimed, refuses}
 use Rattle.tsp_verdict.specs.Solutions.{tours_of, AppliesToRoutes, IsPlanned, IsRoutesVerdict, IsTourVerdict}
 use Rattle.tsp_judge.specs.Accepted.{IsAcceptedTour, AreOnlyRoutes, AreAcceptedRoutes, IsTourWithBound, AreRoutesWithBound, IsAccepted}
 use Rattle.tsp_judge.specs.CheckRun.{ReadsFile, Given, given_by, IsUnreadIn, IsFileIn, ReadsGiven, AreRead, JudgesFiles, EndsWithout, IsRun, acceptance}
@@ -41,7 +31,7 @@ none_taken = omega arith
 
 -- ---- a bound that fits
 
-few : (z : ℤ) → IsBoundFitting z → unsigned_abs z ≤ 2 ^ 126
+pub few : (z : ℤ) → IsBoundFitting z → unsigned_abs z ≤ 2 ^ 126
 few (pos n) small = omega (arith, ints, small.0, small.1)
 few (negsuc n) small = omega (arith, ints, small.0, small.1)
 
@@ -109,7 +99,7 @@ asked_sized strict certificate claimed instance solution verdict asked =
 
 -- ---- the TYPE
 
-bounded_none : (by : CertificateKind) (kind : Option Kind) → is_instance kind ≡ false → is_bounded by kind ≡ false
+pub bounded_none : (by : CertificateKind) (kind : Option Kind) → is_instance kind ≡ false → is_bounded by kind ≡ false
 bounded_none by (Some kinds.Tsp) none = absurd (false≢true (sym none))
 bounded_none by (Some kinds.Atsp) none = absurd (false≢true (sym none))
 bounded_none by (Some kinds.Cvrp) none = absurd (false≢true (sym none))
@@ -118,12 +108,9 @@ bounded_none by (Some kinds.Potentials) none = refl
 bounded_none by (Some kinds.Branches) none = refl
 bounded_none by None none = refl
 
-pub none_bounded : (by : CertificateKind) (kind : Option Kind) → is_instance kind ≡ false → is_bounded by kind ≡ false
-none_bounded by kind none = bounded_none by kind none
-
 pub none_judged : (certificate : Option (CertificateKind × Fields)) (kind : Option Kind) → is_instance kind ≡ false → is_judged certificate kind ≡ false
 none_judged None kind none = none
-none_judged (Some given) kind none = none_bounded given.0 kind none
+none_judged (Some given) kind none = bounded_none given.0 kind none
 
 -- ---- the files
 
@@ -313,7 +300,7 @@ one_depot count not = by_test (eqb_tells count 1)
 
 -- plan: no reason applies, so there is one depot and a customer; a plan serves it, so the file lists routes
 -- (`served_by_none`)
-only_routes : (claimed : Option ℤ) (instance solution : Fields) (length_is : ℤ) (count least : ℕ) → IsProblem instance → instance.kind ≡ Some kinds.Cvrp
+pub only_routes : (claimed : Option ℤ) (instance solution : Fields) (length_is : ℤ) (count least : ℕ) → IsProblem instance → instance.kind ≡ Some kinds.Cvrp
     → ((reason : Reason) → AppliesToRoutes instance solution reason → ⊥) → IsPlanned instance (tours_of solution) length_is count least
     → IsAsClaimed claimed length_is → AreOnlyRoutes claimed instance solution (routing_of instance) (tours_of solution) least
 only_routes claimed instance solution length_is count least problem type none planned claims =

@@ -1,20 +1,16 @@
 -- Circle 1 of docs/trust.md.
 -- The six meanings of the line `yes`, over the files that were read and the report that was printed, and the meaning of
 -- `optimal` in a comparison.
-use Rattle.std.specs.Prelude.{◌≡◌, ◌⊎◌, ℕ, ◌≤◌, List, [], ◌∷◌, length, Option, None, Some, ℤ, ◌≤ℤ◌}
+use Rattle.tsp_judge.specs.Prelude.{ℕ, List, [], length, Option, None, Some, ℤ, Fields, IsProblemOf, IsRoutingOf, report_of, bound_report_of, CertificateKind, kind_of, IsBoundOf}
+use Rattle.std.specs.Prelude.{◌≡◌, ◌⊎◌, ◌≤◌, ◌∷◌, ◌≤ℤ◌}
 use Rattle.tsp_format.specs.Nodes.{nodes_to}
 use Rattle.tsp_format.specs.declared.kinds.Kind.{Kind}
 use Rattle.tsp_format.specs.declared.kinds.Kind.TheVariants as kinds
-use Rattle.tsp_file.specs.Fields.{Fields}
 use Rattle.tsp_theory.specs.Tour.{sum_int_by, length_of, RoutingProblem, IsPlan, plan_length, IsLeastRoutes, Problem, IsTour, BoundsTours, HasNoTour}
-use Rattle.tsp_cost.specs.Problems.{IsProblemOf, IsRoutingOf}
 use Rattle.tsp_routing.specs.PlanLinks.{IsFilledPlan, BoundsPlans, HasNoPlan}
-use Rattle.tsp_report.specs.Report.{report_of, bound_report_of}
-use Rattle.tsp_report.specs.declared.task.CertificateKind.{CertificateKind}
 use Rattle.tsp_report.specs.declared.verdict.BoundVerdict.{BoundVerdict}
 use Rattle.tsp_report.specs.declared.verdict.BoundVerdict.TheVariants.{Bound, NoSolution, No}
 use Rattle.tsp_report.specs.declared.verdict.Verdict.TheVariants.{Tour, Routes}
-use Rattle.tsp_verdict.specs.Certified.{kind_of, IsBoundOf}
 
 -- The solution's one tour visits every node of the instance once and uses every fixed edge. Its length is the claimed
 -- one, where one is claimed.
@@ -134,3 +130,14 @@ pub record IsBoundedTour (instance solution : Fields) (length_is bound : ℤ) : 
   pub is_tour : IsTour problem tour
   pub measured : length_is ≡ length_of problem.cost tour
   pub below_tours : (other : List ℕ) → IsTour problem other → bound ≤ℤ length_of problem.cost other
+
+-- The solution's routes serve every customer of the instance once and within the capacity, each route has a customer, and
+-- the routes have this length. No plan of the instance whose routes each have a customer is shorter than the bound.
+pub record AreBoundedRoutes (instance solution : Fields) (length_is bound : ℤ) : Type 0 where
+  pub problem : RoutingProblem
+  pub of_instance : IsRoutingOf instance problem
+  pub routes : List (List ℕ)
+  pub all : solution.tours ≡ Some routes
+  pub filled : IsFilledPlan problem routes
+  pub measured : length_is ≡ plan_length problem.cost problem.depot routes
+  pub below_plans : (other : List (List ℕ)) → IsFilledPlan problem other → bound ≤ℤ plan_length problem.cost problem.depot other

@@ -1,22 +1,14 @@
 -- Circle 2 of docs/trust.md.
 -- Runs of `tsp check` and `tsp bound`: the files that are read, the verdict, the report and the exit status.
-use Rattle.std.specs.Prelude.{ℕ, List, ◌++◌, codes, decimal, Bool, true, false, Result, Ok, Err, ◌≡◌, ◌⊎◌, Option, None, Some, IsTrue, ℤ, []}
-use Rattle.tsp_io.specs.Streams.{write_fault_text, ReadTrace, IsUnread, Sink, IsUnwritten, HasWritten, HasStopped}
+use Rattle.tsp_judge.specs.Prelude.{ℕ, List, codes, decimal, Bool, true, false, Result, Ok, Err, Option, None, Some, IsTrue, ℤ, [], write_fault_text, ReadTrace, IsUnread, Sink, IsUnwritten, HasWritten, HasStopped, Fields, IsFile, StopsAt, report_of, bound_report_of, is_yes, is_bound_yes, CertificateKind, Verdict, NoneAgainstInstance, is_bounded, NoneWithoutMemory, is_judged, NoneBeforeRepeatsOn, IsVerdictAsked, IsBoundAsked}
+use Rattle.std.specs.Prelude.{◌++◌, ◌≡◌, ◌⊎◌}
 use Rattle.tsp_io.specs.declared.piece.WriteFault.TheVariants as write_faults
-use Rattle.tsp_file.specs.Fields.{Fields}
 use Rattle.tsp_file.specs.Relayout.{relayout_fault_text}
 use Rattle.tsp_file.specs.declared.relayout.RelayoutFault.TheVariants as relayout_faults
 use Rattle.tsp_text.specs.ParsesTo.{read_fault_text}
-use Rattle.tsp_read.specs.Reads.{IsFile, StopsAt}
 use Rattle.tsp_read.specs.declared.ReadFault.{ReadFault}
 use Rattle.tsp_read.specs.declared.ReadFault.TheVariants as read_faults
-use Rattle.tsp_report.specs.Report.{report_of, bound_report_of}
-use Rattle.tsp_report.specs.Verdicts.{is_yes, is_bound_yes}
-use Rattle.tsp_report.specs.declared.task.CertificateKind.{CertificateKind}
 use Rattle.tsp_report.specs.declared.verdict.BoundVerdict.{BoundVerdict}
-use Rattle.tsp_report.specs.declared.verdict.Verdict.{Verdict}
-use Rattle.tsp_verdict.specs.Certified.{NoneAgainstInstance, is_bounded, NoneWithoutMemory}
-use Rattle.tsp_verdict.specs.SolutionVerdict.{is_judged, NoneBeforeRepeatsOn, IsVerdictAsked, IsBoundAsked}
 use Rattle.tsp_judge.specs.Accepted.{IsAcceptedAlone}
 use Rattle.tsp_judge.specs.declared.bound_run.Bounded.{Bounded}
 use Rattle.tsp_judge.specs.declared.check.Judged.{Judged}
@@ -140,6 +132,12 @@ JudgesFiles certificate claimed strict instance solution sink (Err (Write write_
     × ((verdict : Verdict) × IsVerdictAsked strict certificate claimed instance solution verdict
     × HasStopped sink (report_of instance verdict))
 JudgesFiles certificate claimed strict instance solution sink (Err other) = ⊥
+
+-- the result of writing a report: the whole of it was written, or a prefix before the writer failed
+abbrev pub WritesReport : Sink → List ℕ → Result (Unit {0}) RunFault → Type 0
+WritesReport sink report (Ok done) = HasWritten sink report
+WritesReport sink report (Err (Write write_faults.Device)) = HasStopped sink report
+WritesReport sink report (Err other) = ⊥
 
 -- ---- the run
 

@@ -1,19 +1,11 @@
 -- A run of `tsp compare`: an instance and a certificate that are read once, solutions that are opened, judged and
 -- reported one after the other, and the lines that a follower gets.
-use Rattle.std.specs.Prelude.{◌≡◌, ◌≢◌, ◌⊎◌, ℕ, suc, ◌<◌, ◌≤◌, max, Bool, true, false, List, [], ◌∷◌, ◌++◌, length, Option, None, Some, Result, Ok, Err, IsTrue, slice_index_or, zero, ◌-◌}
+use Rattle.tsp_judge.specs.Prelude.{ℕ, suc, max, Bool, true, false, List, [], length, Option, None, Some, Result, Ok, Err, IsTrue, slice_index_or, zero, ReadTrace, Sink, IsUnwritten, HasWritten, HasStopped, Fields, HasReads, IsFile, StopsAt, most_taken, IsProblem, head_of, solution_line, report_of, is_yes, is_clear, CertificateKind, Verdict, NoneOfKnownBoundWithoutMemory, HasKnownBound, is_judged, NoneBeforeRepeatsOn, IsVerdictWith, IsKnownBoundAsked}
+use Rattle.std.specs.Prelude.{◌≡◌, ◌≢◌, ◌⊎◌, ◌<◌, ◌≤◌, ◌∷◌, ◌++◌, ◌-◌}
 use Rattle.std.specs.declared.io.Error.{Error}
-use Rattle.tsp_io.specs.Streams.{ReadTrace, Sink, IsUnwritten, HasWritten, HasStopped}
 use Rattle.tsp_io.specs.declared.piece.WriteFault.TheVariants as write_faults
-use Rattle.tsp_file.specs.Fields.{Fields}
-use Rattle.tsp_read.specs.Reads.{HasReads, IsFile, StopsAt, most_taken}
 use Rattle.tsp_read.specs.declared.ReadFault.{ReadFault}
 use Rattle.tsp_read.specs.declared.ReadFault.TheVariants as read_faults
-use Rattle.tsp_cost.specs.Problems.{IsProblem}
-use Rattle.tsp_report.specs.Report.{head_of, solution_line, report_of}
-use Rattle.tsp_report.specs.Verdicts.{is_yes, is_clear}
-use Rattle.tsp_report.specs.declared.task.CertificateKind.{CertificateKind}
-use Rattle.tsp_report.specs.declared.verdict.Verdict.{Verdict}
-use Rattle.tsp_verdict.specs.SolutionVerdict.{NoneOfKnownBoundWithoutMemory, HasKnownBound, is_judged, NoneBeforeRepeatsOn, IsVerdictWith, IsKnownBoundAsked}
 use Rattle.tsp_judge.specs.Accepted.{IsAccepted}
 use Rattle.tsp_judge.specs.CheckRun.{Given, IsUnreadIn, IsFileIn, IsSomeFile, status_of}
 use Rattle.tsp_judge.specs.declared.compared.ComparisonContext.{ComparisonContext}
@@ -132,7 +124,7 @@ ComparesBy true IsReadTrace paths common sink ended =
     ComparesAll IsReadTrace paths common (head_of common.instance common.known_bound) sink ended
 ComparesBy false IsReadTrace paths common sink ended = ComparesNone (head_of common.instance common.known_bound) sink ended
 
--- the same, where the basis is that of the instance and the certificate, with unknown keywords as a reason or not
+-- the same, where the known bound is that of the instance and the certificate, with unknown keywords as a reason or not
 abbrev pub ComparesOn : Bool → (ℕ → ReadTrace → Type 0) → List (List ℕ) → ComparisonContext → Sink → Result ℕ RunFault → Type 0
 ComparesOn strict IsReadTrace paths common sink ended = IsKnownBoundAsked strict common.certificate common.instance common.known_bound
     × ComparesBy (is_clear common.known_bound) IsReadTrace paths common sink ended
@@ -150,12 +142,12 @@ LacksKnownBound certificate instance other = ⊥
 abbrev pub AreReadOnce : Given → ReadTrace → ComparisonContext → Type 0
 AreReadOnce given first common = IsFile first common.instance × IsFileIn given common.certificate × IsProblem common.instance
 
--- the instance and the certificate were read, but have no basis, and nothing is written
+-- the instance and the certificate were read, but have no known bound, and nothing is written
 abbrev pub EndsLacking : Given → ReadTrace → Sink → RunFault → Type 0
 EndsLacking given first sink fault = (instance : Fields) × (certificate : Option (CertificateKind × Fields))
     × IsFile first instance × IsFileIn given certificate × LacksKnownBound certificate instance fault × IsUnwritten sink
 
--- why a comparison ends early: a file that isn't valid, no basis, or a solution at which memory or the writer failed
+-- why a comparison ends early: a file that isn't valid, no known bound, or a solution at which memory or the writer failed
 abbrev pub EndsCompare : Bool → (ℕ → ReadTrace → Type 0) → List (List ℕ) → Given → ReadTrace → Sink → RunFault → Type 0
 EndsCompare strict IsReadTrace paths given first sink (File file fault) = IsUnwritten sink × IsFaultOfCompare given first file fault
 EndsCompare strict IsReadTrace paths given first sink fault = EndsLacking given first sink fault

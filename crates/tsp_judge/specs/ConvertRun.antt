@@ -1,21 +1,16 @@
 -- Circle 2 of docs/trust.md.
 -- Runs of `tsp show` and `tsp convert`, the meaning of `yes` over bytes, and a task done on its readers.
-use Rattle.std.specs.Prelude.{◌≡◌, Result, Ok, Err, Option, None, Some, ℕ, Bool, true, false, List, [], ℤ}
+use Rattle.tsp_judge.specs.Prelude.{Result, Ok, Err, Option, None, Some, ℕ, Bool, true, false, List, [], ℤ, ReadTrace, Sink, IsUnwritten, HasWritten, HasStopped, TakesAtMost, read_trace_of, Fields, IsFile, StopsAt, most_taken, IsReadOn, is_yes, is_bound_yes, CertificateKind}
+use Rattle.std.specs.Prelude.{◌≡◌}
 use Rattle.std.specs.declared.io.Error.{Error}
-use Rattle.tsp_io.specs.Streams.{ReadTrace, Sink, IsUnwritten, HasWritten, HasStopped, TakesAtMost}
 use Rattle.tsp_io.specs.declared.piece.WriteFault.TheVariants as write_faults
 use Rattle.tsp_io.specs.declared.watched.Watched.{Watched}
-use Rattle.tsp_io.specs.states.Watched.{read_trace_of}
 use Rattle.tsp_format.specs.declared.layout.Layout.{Layout}
 use Rattle.tsp_file.specs.CanonicalText.{text_of}
-use Rattle.tsp_file.specs.Fields.{Fields}
 use Rattle.tsp_file.specs.Relayout.{IsRelaid, IsRefused}
 use Rattle.tsp_file.specs.Rules.{fault_of}
 use Rattle.tsp_file.specs.declared.relayout.RelayoutFault.{RelayoutFault}
-use Rattle.tsp_read.specs.Reads.{IsFile, StopsAt, most_taken, IsReadOn}
 use Rattle.tsp_report.specs.Show.{shown}
-use Rattle.tsp_report.specs.Verdicts.{is_yes, is_bound_yes}
-use Rattle.tsp_report.specs.declared.task.CertificateKind.{CertificateKind}
 use Rattle.tsp_report.specs.declared.task.Comparison.{Comparison}
 use Rattle.tsp_report.specs.declared.task.FileTask.{FileTask}
 use Rattle.tsp_report.specs.declared.task.FileTask.TheVariants.{Show, Convert, Check, Bound}
@@ -66,7 +61,7 @@ IsConvertRun to read_trace sink (Err (Write write_faults.Device)) =
     (new : Fields) × IsConverted to read_trace new × HasStopped sink (text_of new)
 IsConvertRun to read_trace sink (Err other) = ⊥
 
--- ---- a run of `tsp check` with the meaning of its line `yes`, from the bytes read to the
+-- ---- a run of `tsp check` with the meaning of its line `yes`
 
 -- At `yes` the bytes that were read parse to these files, the whole report was written, and it means that the solution
 -- is accepted. Where unknown keywords are a reason, the instance has none.

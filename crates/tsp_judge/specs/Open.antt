@@ -1,16 +1,10 @@
 -- An instance that stays open between calls, and the results of opening it, binding a certificate to it, and judging a
 -- solution, over the bytes of texts.
-use Rattle.std.specs.Prelude.{◌≡◌, ℕ, false, List, Option, None, Some, Result, Ok, Err, IsTrue, ℤ}
-use Rattle.tsp_file.specs.Fields.{Fields}
+use Rattle.tsp_judge.specs.Prelude.{ℕ, false, List, Option, None, Some, Result, Ok, Err, IsTrue, ℤ, Fields, Reads, IsProblem, CertificateKind, Verdict, IsBoundVerdict, NoneAgainstInstance, is_bounded, NoneWithoutMemory, is_judged, NoneBeforeRepeatsOn, IsVerdictWith}
+use Rattle.std.specs.Prelude.{◌≡◌}
 use Rattle.tsp_file.specs.Rules.{is_instance}
 use Rattle.tsp_text.specs.ParsesTo.{ParsesTo}
-use Rattle.tsp_read.specs.Reads.{Reads}
-use Rattle.tsp_cost.specs.Problems.{IsProblem}
-use Rattle.tsp_report.specs.declared.task.CertificateKind.{CertificateKind}
 use Rattle.tsp_report.specs.declared.verdict.BoundVerdict.{BoundVerdict}
-use Rattle.tsp_report.specs.declared.verdict.Verdict.{Verdict}
-use Rattle.tsp_verdict.specs.Certified.{IsBoundVerdict, NoneAgainstInstance, is_bounded, NoneWithoutMemory}
-use Rattle.tsp_verdict.specs.SolutionVerdict.{is_judged, NoneBeforeRepeatsOn, IsVerdictWith}
 use Rattle.tsp_judge.specs.declared.run_status.RunFault.{RunFault}
 use Rattle.tsp_judge.specs.declared.run_status.RunFault.TheVariants.{File, WrongKind, OutOfMemory}
 

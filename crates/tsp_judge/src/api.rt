@@ -1,10 +1,8 @@
 //! Public calls that check, show or convert, as example_check does. Each is a case of the run of a
 //! verb, such as `run` in `src/check.rt`, and returns its fault without the token of a refusal.
 
-ghost use Rattle.std.specs.Prelude.{◌≡◌, None, length};
-ghost use Rattle.tsp_io.specs.Streams.{TakesAtMost};
-ghost use Rattle.tsp_io.specs.states.Watched.{sink_of, read_trace_of};
-ghost use Rattle.tsp_read.specs.Reads.{IsReadOn, most_taken};
+ghost use Rattle.tsp_judge.specs.Prelude.{None, length, TakesAtMost, sink_of, read_trace_of, IsReadOn, most_taken};
+ghost use Rattle.std.specs.Prelude.{◌≡◌};
 ghost use Rattle.tsp_report.specs.declared.task.CertificateKind.TheVariants as certificates;
 ghost use Rattle.tsp_judge.specs.CheckRun.{acceptance};
 ghost use Rattle.tsp_judge.specs.CompareRun.{IsCompareRun, IsFollowed};
@@ -125,7 +123,7 @@ pub fn run_branch_check<I: Gives, S: Gives, B: Gives, W: Write>(
 
 /// Writes what a file is: its name, its TYPE and number of nodes, of an instance the weight type,
 /// the length of the list 1, 2, .., n and the number of fixed pairs, of tours how many nodes each
-/// has, of potentials their scale, of a tree of cases its scale and how many combs and leaves it
+/// has, of potentials their scale, of a tree of cases its scale and how many families and leaves it
 /// has, and the unknown keywords.
 ///
 /// The file is read whole before anything is written, and writing takes no memory.

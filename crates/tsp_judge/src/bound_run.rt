@@ -1,9 +1,6 @@
-//! The run of `tsp bound`, from the bytes read to the bytes written: a bound on the tours of an
-//! instance, without a solution.
+//! The runs of `tsp bound`, `tsp show` and `tsp convert`, from the bytes read to the bytes written.
 
-ghost use Rattle.tsp_io.specs.Streams.{ReadTrace, TakesAtMost};
-ghost use Rattle.tsp_io.specs.states.Watched.{sink_of, read_trace_of};
-ghost use Rattle.tsp_read.specs.Reads.{IsReadOn, IsFile, most_taken};
+ghost use Rattle.tsp_judge.specs.Prelude.{ReadTrace, TakesAtMost, sink_of, read_trace_of, IsReadOn, IsFile, most_taken};
 ghost use Rattle.tsp_judge.specs.CheckRun.{BoundsFiles, IsBoundRunOf};
 ghost use Rattle.tsp_judge.specs.ConvertRun.{Becomes, IsConvertRun, IsShowRun};
 

@@ -1,12 +1,9 @@
 //! The run of `tsp check`, from the bytes read to the bytes written: the files are read, then
 //! judged.
 
-ghost use Rattle.std.specs.Prelude.{◌≡◌, None, option_map};
-ghost use Rattle.tsp_io.specs.Streams.{ReadTrace, IsUnread, TakesAtMost};
-ghost use Rattle.tsp_io.specs.states.Watched.{sink_of, read_trace_of};
-ghost use Rattle.tsp_read.specs.Reads.{IsReadOn, IsFile, most_taken};
-ghost use Rattle.tsp_verdict.specs.SolutionVerdict.{is_judged};
-ghost use Rattle.tsp_judge.specs.CheckRun.{Given, given_by, IsFileIn, ReadsGiven, JudgesFiles, ReadsFile};
+ghost use Rattle.tsp_judge.specs.Prelude.{None, option_map, ReadTrace, IsUnread, TakesAtMost, sink_of, read_trace_of, IsReadOn, IsFile, most_taken, is_judged, report_of, IsSized};
+ghost use Rattle.std.specs.Prelude.{◌≡◌};
+ghost use Rattle.tsp_judge.specs.CheckRun.{Given, given_by, IsFileIn, ReadsGiven, JudgesFiles, ReadsFile, WritesReport};
 ghost use Rattle.tsp_judge.specs.ConvertRun.{IsRunOf};
 
 use crate::run_status::RunError;
@@ -34,7 +31,7 @@ use tsp_verdict::{CertificateKind, Verdict, is_bounded, judge, strict_verdict};
 /// # Errors
 ///
 /// `File` where a file is none, or can't be read; `WrongKind` where all are files and solutions of
-/// the first one's TYPE aren't judged so: TYPE TOUR, POTENTIALS or BRANCHES, and with a certificate
+/// the first one's TYPE aren't judged so: TYPE TOUR, POTENTIALS or BRANCHES, and with potentials
 /// CVRP too; `OutOfMemory` where the judgement runs out of memory, and then no reason up to
 /// `NodeOutOfRange`, in the order of its TYPE, applies to the second; `Write` where the writer
 /// fails. Of each file at most 4,096 bytes past `MOST_FILE_BYTES` are read.
@@ -150,8 +147,29 @@ fn judge_files<W: Write>(
         Ok(plain) => strict_verdict(strict, instance, plain),
         Err(refused) => return Err(RunError::refused(refused)),
     };
+    report_verdict(instance, verdict, out)?;
+    Ok(verdict)
+}
+
+/// Writes the report on a verdict.
+///
+/// # Requires
+///
+/// A bound of at most 2^126, as each verdict has.
+///
+/// # Errors
+///
+/// `Write` where the writer fails.
+pub fn report_verdict<W: Write>(
+    instance: &Instance,
+    verdict: Verdict,
+    out: &mut Watched<W>,
+) -> Result<(), RunError>
+    requires { IsSized verdict }
+    ensures { WritesReport (sink_of W.contents out.old out.new) (report_of instance.now verdict) result }
+{
     match write_report(instance.file(), verdict, out) {
-        Ok(()) => Ok(verdict),
+        Ok(()) => Ok(()),
         Err(fault) => Err(RunError::unwritten(fault)),
     }
 }

@@ -1,13 +1,8 @@
 //! The run of `tsp compare`, from the bytes read to the bytes written: each solution is read,
 //! judged, and dropped.
 
-ghost use Rattle.std.specs.Prelude.{◌≡◌, ◌<◌, max, false, true, [], length, None, MatchResult, ℕ, List, slice_index_or};
-ghost use Rattle.tsp_io.specs.Streams.{ReadTrace, IsUnread, TakesAtMost};
-ghost use Rattle.tsp_io.specs.states.Watched.{has_failed, sink_of, read_trace_of};
-ghost use Rattle.tsp_read.specs.Reads.{IsReadOn, IsFile, most_taken};
-ghost use Rattle.tsp_cost.specs.Problems.{IsProblem};
-ghost use Rattle.tsp_verdict.specs.SolutionVerdict.{IsKnownBound, IsKnownBoundAsked};
-ghost use Rattle.tsp_report.specs.Verdicts.{is_clear};
+ghost use Rattle.tsp_judge.specs.Prelude.{max, false, true, [], length, None, MatchResult, ℕ, List, slice_index_or, ReadTrace, IsUnread, TakesAtMost, has_failed, sink_of, read_trace_of, IsReadOn, IsFile, most_taken, IsProblem, IsKnownBound, IsKnownBoundAsked, is_clear};
+ghost use Rattle.std.specs.Prelude.{◌≡◌, ◌<◌};
 ghost use Rattle.tsp_judge.specs.CheckRun.{Given, given_by, IsFileIn};
 ghost use Rattle.tsp_judge.specs.CompareRun.{IsReadTraceAt, ComparesOne, ComparesAll, ComparesBy, IsCompareRun, LacksKnownBound, Finds, result_of, status_of_found, IsFollowedBy, IsFollowed};
 
@@ -27,7 +22,7 @@ use tsp_verdict::{
 /// What a comparison came to.
 #[derive(Drop)]
 pub struct Compared {
-    /// What the solutions were judged by. Where its basis is a reason, none was opened.
+    /// What the solutions were judged by. Where its known bound is a reason, none was opened.
     pub common: ComparisonContext,
     /// The exit status: the largest of those of the solutions.
     pub status: u8,
@@ -184,7 +179,7 @@ fn compare_one<R: Gives + Drop, S: Solutions<R>, W: Write>(
 
 // ---- what all solutions of a comparison are judged by
 
-/// The files that all solutions of a comparison are judged by, and the basis that these give.
+/// The files that all solutions of a comparison are judged by, and the known bound that these give.
 #[derive(Drop)]
 pub struct ComparisonContext {
     /// What all of them have in common, found before any is read: the bound of the certificate, the

@@ -1,21 +1,16 @@
 //! Laws that state values of the definitions in `specs/`, worked out by hand: the exit status of a
 //! comparison, its lines, and which file a fault is of.
 
-ghost use Rattle.std.specs.Prelude.{◌≡◌, ℕ, List, [], ◌∷◌, true, false, None, Some, Ok, Err, pos, codes, ◌++◌, Bool, Option, ℤ, decimal, Result};
+ghost use Rattle.tsp_judge.specs.Prelude.{ℕ, List, [], true, false, None, Some, Ok, Err, pos, codes, Bool, Option, ℤ, decimal, Result, Sink, HasStopped, HasWritten, IsUnwritten, ReadTrace, IsUnread, TakesAtMost, Fields, IsReadOn, StopsAt, most_taken, kind_of, is_bounded, IsKnownBound, head_of, is_bound_yes, is_clear, is_yes, CertificateKind, read_trace_of};
+ghost use Rattle.std.specs.Prelude.{◌≡◌, ◌∷◌, ◌++◌};
 ghost use Rattle.tsp_format.specs.declared.kinds.Kind.TheVariants as kinds;
 ghost use Rattle.tsp_format.specs.declared.layout.Layout.{Layout};
-ghost use Rattle.tsp_io.specs.Streams.{Sink, HasWritten, IsUnwritten, ReadTrace, IsUnread, TakesAtMost};
 ghost use Rattle.tsp_io.specs.declared.piece.WriteFault.TheVariants as write_faults;
-ghost use Rattle.tsp_file.specs.Fields.{Fields};
 ghost use Rattle.tsp_file.specs.declared.relayout.RelayoutFault.{RelayoutFault};
 ghost use Rattle.tsp_file.specs.declared.relayout.RelayoutFault.TheVariants as relayout_faults;
-ghost use Rattle.tsp_read.specs.Reads.{IsReadOn, StopsAt, most_taken};
 ghost use Rattle.tsp_read.specs.declared.ReadFault.{ReadFault};
 ghost use Rattle.tsp_read.specs.declared.ReadFault.TheVariants as read_faults;
-ghost use Rattle.tsp_verdict.specs.Certified.{kind_of, is_bounded};
-ghost use Rattle.tsp_verdict.specs.Examples.{instance_with};
-ghost use Rattle.tsp_report.specs.Verdicts.{is_bound_yes, is_clear, is_yes};
-ghost use Rattle.tsp_report.specs.declared.task.CertificateKind.{CertificateKind};
+ghost use Rattle.tsp_verdict.specs.Examples.{instance_with, with_unknown};
 ghost use Rattle.tsp_report.specs.declared.task.CertificateKind.TheVariants as certificates;
 ghost use Rattle.tsp_report.specs.declared.task.Comparison.{Comparison};
 ghost use Rattle.tsp_report.specs.declared.task.FileTask.TheVariants as file_tasks;
@@ -24,13 +19,13 @@ ghost use Rattle.tsp_report.specs.declared.verdict.BoundVerdict.TheVariants as b
 ghost use Rattle.tsp_report.specs.declared.verdict.Reason.{Reason};
 ghost use Rattle.tsp_report.specs.declared.verdict.Reason.TheVariants as reasons;
 ghost use Rattle.tsp_report.specs.declared.verdict.Verdict.TheVariants as verdicts;
-ghost use Rattle.tsp_judge.specs.CheckRun.{IsBoundRun, BoundsFiles, IsBoundRunOf, Given, IsUnreadIn, IsSomeFile, IsRun, JudgesFiles, run_fault_text, status_number};
-ghost use Rattle.tsp_judge.specs.CompareRun.{ComparesNone, IsFaultOfCompare, IsReadTraceAt, largest_status, all_solution_lines};
+ghost use Rattle.tsp_judge.specs.CheckRun.{IsBoundRun, BoundsFiles, IsBoundRunOf, Given, IsUnreadIn, IsSomeFile, IsRun, JudgesFiles, WritesReport, run_fault_text, status_number};
+ghost use Rattle.tsp_judge.specs.CompareRun.{ComparesNone, ComparesOn, IsFaultOfCompare, IsReadTraceAt, largest_status, all_solution_lines};
 ghost use Rattle.tsp_judge.specs.ConvertRun.{IsConvertRun, AreComparedOn, AreReadOn, IsCompared, IsDone, is_yes_outcome, outcome_of_bound, outcome_of_check, IsShowRun, IsRunOf};
-ghost use Rattle.tsp_io.specs.states.Watched.{read_trace_of};
 ghost use Rattle.tsp_io.specs.declared.watched.Watched.{Watched};
 ghost use Rattle.tsp_judge.specs.declared.bound_run.Bounded.{Bounded};
 ghost use Rattle.tsp_judge.specs.declared.check.Judged.{Judged};
+ghost use Rattle.tsp_judge.specs.declared.compared.ComparisonContext.{ComparisonContext};
 ghost use Rattle.tsp_judge.specs.declared.run_status.RunFault.{RunFault};
 ghost use Rattle.tsp_judge.specs.declared.run_status.RunFault.TheVariants as run_faults;
 ghost use Rattle.tsp_judge.specs.declared.run_status.Status.TheVariants as statuses;
@@ -49,7 +44,7 @@ pub fn examples_of_largest_statuses()
     ensures device { largest_status (Err read_faults.Device ∷ Err read_faults.TooLong ∷ []) ≡ 5 }
 {}
 
-/// Which verdicts accept, and after which bases solutions are judged one by one: all but a reason,
+/// Which verdicts accept, and after which known bounds solutions are judged one by one: all but a reason,
 /// which ends the text, and the status is 1 then.
 pub fn examples_of_known_bounds()
     ensures tour { is_yes (verdicts.Tour (pos 14) None) ≡ true }
@@ -65,6 +60,36 @@ pub fn examples_of_known_bounds()
     ensures reason { is_clear (known_bounds.No reasons.TooFewNodes) ≡ false }
     ensures status { (head : List ℕ) (sink : Sink) → HasWritten sink head → ComparesNone head sink (Ok 1) }
     ensures no_other_status { (head : List ℕ) (sink : Sink) → ¬ ComparesNone head sink (Ok 2) }
+{}
+
+/// How the writing of a report ends: it was written, or the writer failed. Nothing else ends it.
+pub fn examples_of_written_reports()
+    ensures written { (sink : Sink) (report : List ℕ) → HasWritten sink report → WritesReport sink report (Ok tt) }
+    ensures stopped { (sink : Sink) (report : List ℕ) → HasStopped sink report
+        → WritesReport sink report (Err (run_faults.Write write_faults.Device)) }
+    ensures unwritten { (sink : Sink) (report : List ℕ) → IsUnwritten sink
+        → ¬ WritesReport sink report (Err (run_faults.Write write_faults.OutOfMemory)) }
+    ensures no_memory { (sink : Sink) (report : List ℕ) → ¬ WritesReport sink report (Err run_faults.OutOfMemory) }
+{}
+
+/// One solution of an instance with an unknown keyword: compared with `strict` it isn't judged, and
+/// the reason ends the text. Without `strict` it is.
+pub fn examples_of_strict_comparisons()
+    ensures not_judged { (common : ComparisonContext) (sink : Sink) (status : ℕ)
+        → common.instance ≡ with_unknown kinds.Atsp 4 → common.known_bound ≡ known_bounds.Tours None
+        → ¬ ComparesOn true (λ place read_trace. StopsAt read_faults.TooLong read_trace) (codes "a.tour" ∷ []) common sink (Ok status) }
+    ensures reason { (common : ComparisonContext) (sink : Sink)
+        → common.instance ≡ with_unknown kinds.Atsp 4 → common.known_bound ≡ known_bounds.No reasons.NotJudged
+        → IsKnownBound common.certificate common.instance (known_bounds.Tours None)
+        → HasWritten sink (head_of (with_unknown kinds.Atsp 4) (known_bounds.No reasons.NotJudged))
+        → ComparesOn true (λ place read_trace. StopsAt read_faults.TooLong read_trace) (codes "a.tour" ∷ []) common sink (Ok 1) }
+    ensures judged { (common : ComparisonContext) (sink : Sink) (read_trace : ReadTrace)
+        → common.instance ≡ with_unknown kinds.Atsp 4 → common.known_bound ≡ known_bounds.Tours None
+        → IsKnownBound common.certificate common.instance (known_bounds.Tours None)
+        → StopsAt read_faults.TooLong read_trace
+        → HasWritten sink (head_of (with_unknown kinds.Atsp 4) (known_bounds.Tours None)
+        ++ all_solution_lines (Err read_faults.TooLong ∷ []) (codes "a.tour" ∷ []))
+        → ComparesOn false (λ place read_trace. StopsAt read_faults.TooLong read_trace) (codes "a.tour" ∷ []) common sink (Ok 2) }
 {}
 
 /// Lines in the order of the solutions, each with its own path, and whole lines of the first ones

@@ -1,12 +1,11 @@
-//! Explains the outcome or the fault of a task to a person, by the names of its files.
+//! Does a task by the run of its verb (`perform`), and explains its outcome or its fault to a person,
+//! by the names of its files.
 
+ghost use Rattle.tsp_judge.specs.Prelude.{length, IsReadOn, most_taken, TakesAtMost, sink_of, read_trace_of};
 ghost use Rattle.std.specs.Io.{StartsWith};
-ghost use Rattle.std.specs.Prelude.{◌≡◌, length};
-ghost use Rattle.tsp_read.specs.Reads.{IsReadOn, most_taken};
+ghost use Rattle.std.specs.Prelude.{◌≡◌};
 ghost use Rattle.tsp_judge.specs.CompareRun.{IsFollowed};
 ghost use Rattle.tsp_judge.specs.ConvertRun.{AreComparedOn, AreReadOn, IsCompared, IsDone, IsNamedReadOn, TakesNamed, is_yes_outcome, outcome_of_writing, outcome_of_check, outcome_of_bound, IsRunOf};
-ghost use Rattle.tsp_io.specs.Streams.{TakesAtMost};
-ghost use Rattle.tsp_io.specs.states.Watched.{sink_of, read_trace_of};
 
 use crate::api::{run_compare_uncertified, run_uncertified};
 use crate::bound_run::{Bounded, convert_file, run_bound, show_file};

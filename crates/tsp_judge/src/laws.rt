@@ -1,24 +1,21 @@
 //! Laws: what a line of a comparison says of its solution, and that a check of the same files has
 //! the same answer. No code calls them.
 
+ghost use Rattle.tsp_judge.specs.Prelude.{ℕ, List, [], true, false, Option, None, Some, Ok, IsTrue, ℤ, codes, decimal, ReadTrace, Sink, HasWritten, Fields, IsFile, IsProblem, IsKnownBound, IsVerdictWith, is_judged, head_of, solution_line, report_of, IsSized, is_clear, is_yes, CertificateKind, Verdict};
 ghost use Rattle.std.specs.Fmt.{signed_decimal};
-ghost use Rattle.std.specs.Prelude.{◌≡◌, ◌++◌, ℕ, List, true, false, Option, None, Some, Ok, IsTrue, ℤ, codes};
-ghost use Rattle.tsp_io.specs.Streams.{ReadTrace};
-ghost use Rattle.tsp_file.specs.Fields.{Fields};
-ghost use Rattle.tsp_read.specs.Reads.{IsFile};
-ghost use Rattle.tsp_cost.specs.Problems.{IsProblem};
-ghost use Rattle.tsp_verdict.specs.SolutionVerdict.{IsKnownBound, IsVerdictWith, is_judged};
-ghost use Rattle.tsp_report.specs.Report.{solution_line, report_of, IsSized};
-ghost use Rattle.tsp_report.specs.Verdicts.{is_yes};
-ghost use Rattle.tsp_report.specs.declared.task.CertificateKind.{CertificateKind};
+ghost use Rattle.std.specs.Prelude.{◌≡◌, ◌≢◌, ◌++◌};
 ghost use Rattle.tsp_report.specs.declared.verdict.KnownBound.{KnownBound};
 ghost use Rattle.tsp_report.specs.declared.verdict.KnownBound.TheVariants as known_bounds;
 ghost use Rattle.tsp_report.specs.declared.verdict.Reason.{Reason};
-ghost use Rattle.tsp_report.specs.declared.verdict.Verdict.{Verdict};
 ghost use Rattle.tsp_report.specs.declared.verdict.Verdict.TheVariants as verdicts;
-ghost use Rattle.tsp_judge.specs.Accepted.{IsAccepted, IsBoundedTour};
-ghost use Rattle.tsp_judge.specs.CompareRun.{IsFoundIn};
+ghost use Rattle.tsp_judge.specs.Accepted.{IsAccepted, IsBoundedTour, AreBoundedRoutes};
+ghost use Rattle.tsp_judge.specs.CheckRun.{Given};
+ghost use Rattle.tsp_judge.specs.CompareRun.{IsCompareRun, IsFoundIn};
+ghost use Rattle.tsp_judge.specs.declared.compared.Compared.{Compared};
 ghost use Rattle.tsp_judge.specs.declared.compared.ComparisonContext.{ComparisonContext};
+
+use crate::compared::Solutions;
+use tsp_io::Gives;
 
 /// With a certificate, a line with a length and `optimal` means that the file of its solution has
 /// one tour of the instance, of this length, and that no tour of the instance is shorter. With a
@@ -34,6 +31,35 @@ pub fn lines_of_bounded_tours()
         → (solution : Fields) × IsFile read_trace solution × IsBoundedTour common.instance solution length bound }
     ensures words { (length : ℤ) (path : List ℕ) → solution_line (Ok (verdicts.Tour length (Some length))) path
         ≡ signed_decimal length ++ codes " optimal" ++ codes " " ++ path ++ codes "\n" }
+{}
+
+/// With a certificate, a line with a length, a number of routes and `optimal` means that the file of
+/// its solution has a plan of the instance whose routes each have a customer, of this length, and
+/// that no such plan is shorter. With a bound that isn't the length, none is shorter than the bound.
+pub fn lines_of_bounded_routes()
+    ensures optimal { (common : ComparisonContext) (read_trace : ReadTrace) (by : CertificateKind) (certificate : Fields) (length : ℤ)
+        (routes least : ℕ) → IsProblem common.instance → common.certificate ≡ Some (by, certificate)
+        → IsFoundIn common read_trace (Ok (verdicts.Routes length routes least (Some length)))
+        → (solution : Fields) × IsFile read_trace solution × AreBoundedRoutes common.instance solution length length }
+    ensures bounded { (common : ComparisonContext) (read_trace : ReadTrace) (by : CertificateKind) (certificate : Fields) (length bound : ℤ)
+        (routes least : ℕ) → IsProblem common.instance → common.certificate ≡ Some (by, certificate)
+        → IsFoundIn common read_trace (Ok (verdicts.Routes length routes least (Some bound)))
+        → (solution : Fields) × IsFile read_trace solution × AreBoundedRoutes common.instance solution length bound }
+    ensures words { (length : ℤ) (routes least : ℕ) (path : List ℕ)
+        → solution_line (Ok (verdicts.Routes length routes least (Some length))) path
+        ≡ signed_decimal length ++ codes " routes " ++ decimal routes ++ codes " optimal" ++ codes " " ++ path ++ codes "\n" }
+{}
+
+/// Where solutions are compared with `strict`, and each is judged, the instance has no unknown
+/// keyword: no line of a comparison accepts a solution of an instance that has one.
+pub fn strict_comparisons_leave_nothing_unjudged<R: Gives + Drop, S: Solutions<R>>(solutions: &S)
+    ensures all_judged { (given : Given) (first : ReadTrace) (sink : Sink) (compared : Compared)
+        → IsCompareRun true R.remaining R.gives (S.opens solutions.now) (S.names solutions.now) given first sink (Ok compared)
+        → is_clear compared.common.known_bound ≡ true → compared.common.instance.others ≡ [] }
+    ensures none_judged { (given : Given) (first : ReadTrace) (sink : Sink) (compared : Compared)
+        → IsCompareRun true R.remaining R.gives (S.opens solutions.now) (S.names solutions.now) given first sink (Ok compared)
+        → compared.common.instance.others ≢ []
+        → HasWritten sink (head_of compared.common.instance compared.common.known_bound) × (compared.status ≡ 1) }
 {}
 
 /// A check of the same three files has the same answer as a line of a comparison.

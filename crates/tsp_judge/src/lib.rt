@@ -29,7 +29,7 @@ pub use api::{
     run_uncertified,
 };
 pub use bound_run::{Bounded, convert_file, run_bound, show_file};
-pub use check::{Judged, run};
+pub use check::{Judged, report_verdict, run};
 pub use compared::{Compared, ComparisonContext, Follow, Found, Solutions, run_compare};
 pub use examples::{
     examples_of_answers, examples_of_asked_readers, examples_of_certificates,
@@ -37,14 +37,17 @@ pub use examples::{
     examples_of_faulty_files_of_bounds, examples_of_faulty_files_of_comparisons,
     examples_of_known_bounds, examples_of_largest_statuses, examples_of_lines_of_solutions,
     examples_of_numbers_of_statuses, examples_of_opened_solutions, examples_of_outcomes,
-    examples_of_readers, examples_of_runs_over_one_file, examples_of_wrong_kinds,
+    examples_of_readers, examples_of_runs_over_one_file, examples_of_strict_comparisons,
+    examples_of_written_reports, examples_of_wrong_kinds,
 };
 pub use explanation::{
     Outcome, Solution, compare, explain_fault, explain_known_bound, explain_outcome,
     explain_solution, is_yes_outcome, perform,
 };
 pub use laws::{
-    lines_of_bounded_tours, lines_of_checks, solutions_without_a_known_bound, verdicts_mean_reports,
+    lines_of_bounded_routes, lines_of_bounded_tours, lines_of_checks,
+    solutions_without_a_known_bound, strict_comparisons_leave_nothing_unjudged,
+    verdicts_mean_reports,
 };
 pub use opened::{Opened, read_text};
 pub use run_status::{RunError, RunFault, Status, status_of};

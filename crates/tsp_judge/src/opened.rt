@@ -22,8 +22,7 @@ pub struct Opened {
 }
 
 impl Model for Opened {
-    ghost use Rattle.tsp_cost.specs.Problems.{IsProblem};
-    ghost use Rattle.tsp_verdict.specs.SolutionVerdict.{IsKnownBound};
+    ghost use Rattle.tsp_judge.specs.Prelude.{IsProblem, IsKnownBound};
     ghost use Rattle.tsp_judge.specs.Open.{Open};
 
     ghost Value = { Open };

@@ -117,7 +117,7 @@ impl RunError {
     }
 
     /// The output wasn't written.
-    pub fn unwritten(fault: WriteFault) -> RunError
+    pub(crate) fn unwritten(fault: WriteFault) -> RunError
         ensures { result ≡ Write fault }
     {
         RunError {

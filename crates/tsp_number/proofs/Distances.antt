@@ -1,11 +1,6 @@
 -- Rounded roots, and that each distance is the one number with its inequalities.
-use Rattle.std.proofs.Common.{◌≡◌, ℕ, ◌+◌, ◌*◌, ◌-◌, ◌<◌, ◌≤◌, ◌^◌, ℤ, pos, negsuc, ◌*ℤ◌, ◌-ℤ◌, unsigned_abs, w64, Bool, true, false, nat_lt, zero, suc, refl, inl, inr, ap, ◌∙◌, FitsSigned, to_z, of_z, rules, arith, neg_ℤ, ◌+ℤ◌, ◌≤ℤ◌, nat_le, if◌then◌else◌, max, sym}
-use Rattle.std.proofs.lemmas.Bool.{cases_lt}
-use Rattle.std.proofs.lemmas.Bool.Decides.{nat_tests}
-use Rattle.std.proofs.lemmas.Int.{to_z-of_z, ints}
-use Rattle.std.proofs.lemmas.Nat.{mul-le}
+use Rattle.tsp_number.proofs.Prelude.{◌≡◌, ℕ, ◌+◌, ◌*◌, ◌-◌, ◌<◌, ◌≤◌, ◌^◌, ℤ, pos, negsuc, ◌*ℤ◌, ◌-ℤ◌, unsigned_abs, w64, Bool, true, false, nat_lt, zero, suc, refl, inl, inr, ap, ◌∙◌, FitsSigned, to_z, of_z, rules, arith, neg_ℤ, ◌+ℤ◌, ◌≤ℤ◌, nat_le, if◌then◌else◌, max, sym, cases_lt, nat_tests, to_z-of_z, ints, mul-le, w128}
 use Rattle.std.specs.Bool.{OnTrue}
-use Rattle.std.specs.Int.{w128}
 use Rattle.tsp_number.specs.Decimal.{unit, most_count}
 use Rattle.tsp_number.specs.Distances.{squared, dx, dy, dz, square_apart, square_apart_in_space, IsEuc2d, IsEuc3d, IsCeil2d, IsAtt, IsMan2d, IsMax2d, least, euc_2d_of, ceil_2d_of, man_2d_of, max_2d_of, att_of, IsOnPlane, IsDistance}
 use Rattle.tsp_number.specs.declared.decimal.Point.{Point}

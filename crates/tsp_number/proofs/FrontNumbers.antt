@@ -1,18 +1,9 @@
 -- The number word at the beginning of some bytes, digit by digit.
-use Rattle.std.proofs.Common.{◌≡◌, ℕ, zero, suc, ◌+◌, ◌<◌, ◌≤◌, Bool, true, false, cond, List, [], ◌∷◌, length, take, drop, ap, arith, ◌*◌, ◌-◌, ◌^◌, ◌≢◌, None, Some, ◌++◌, ℤ, pos, ◌*ℤ◌, ◌≤ℤ◌, ◌<ℤ◌, ◌⊎◌, Ok, Err, unsigned_abs, inl, inr, ⊎_elim, refl, sym, ◌∙◌, subst, pow-add, add-one, append_assoc, append-nil, length-drop}
-use Rattle.std.proofs.Math.Nat.{pow-suc, pow-le-pow_right, mul-le-mul}
+use Rattle.tsp_number.proofs.Prelude.{◌≡◌, ℕ, zero, suc, ◌+◌, ◌<◌, ◌≤◌, Bool, true, false, cond, List, [], ◌∷◌, length, take, drop, ap, arith, ◌*◌, ◌-◌, ◌^◌, ◌≢◌, None, Some, ◌++◌, ℤ, pos, ◌*ℤ◌, ◌≤ℤ◌, ◌<ℤ◌, ◌⊎◌, Ok, Err, unsigned_abs, inl, inr, ⊎_elim, refl, sym, ◌∙◌, subst, pow-add, add-one, append_assoc, append-nil, length-drop, pow-suc, pow-le-pow_right, mul-le-mul, nat_tests, ints, length-take-le, take-take, digit_value_digit, is_ascii_digit, prefix_len, min, slice_index_or as get_or, nat_le, nat_lt, ◌&&◌, AllDigits, digits_value}
 use Rattle.std.proofs.Math.Seq.{take-add, take-suc, take-length}
-use Rattle.std.proofs.lemmas.Bool.Decides.{nat_tests}
 use Rattle.std.proofs.lemmas.Grind.{common_steps}
-use Rattle.std.proofs.lemmas.Int.{ints}
 use Rattle.std.proofs.lemmas.Int.Digits.{digits_value_more, digits_value-lt}
-use Rattle.std.proofs.lemmas.List.{length-take-le, take-take}
-use Rattle.std.proofs.lemmas.Str.{digit_value_digit}
 use Rattle.std.specs.Array.{IsFirstChunk}
-use Rattle.std.specs.Char.{is_ascii_digit}
-use Rattle.std.specs.List.{prefix_len}
-use Rattle.std.specs.Prelude.{min, slice_index_or as get_or, nat_le, nat_lt, ◌&&◌}
-use Rattle.std.specs.Str.Parse.{AllDigits, digits_value}
 use Rattle.tsp_number.proofs.NumberGrammar.{to_signed}
 use Rattle.tsp_number.proofs.Scaling.{digits_value-append, AllDigits-append}
 use Rattle.tsp_number.specs.Decimal.{unit, most_count}
@@ -66,7 +57,7 @@ prefix_ends {X} p (suc k) (x ∷ xs) d lt le e = by_test (p x) le (prefix_ends p
     by_test true le so = omega (arith, so (omega (arith, le)) e)
     by_test false le so = absurd (omega (arith, le))
 
--- ---- the number that a text begins with: its digits, one by one or eight at once, its point
+-- ---- the number that a text begins with: its digits, one by one or eight at once
 
 -- the first `count` bytes are digits, and `value` is their number
 pub record ReadsFront (bytes : List ℕ) (count value : ℕ) : Type 0 where

@@ -1,13 +1,6 @@
 -- The grammar of number words, read from the left.
-use Rattle.std.proofs.Common.{◌≡◌, ◌≢◌, ℕ, ◌+◌, ◌<◌, Bool, true, false, ◌==◌, ◌||◌, ◌&&◌, List, [], ◌∷◌, ◌++◌, length, Option, Some, None, ℤ, ◌⊎◌, inl, inr, refl, arith, ap, sym, ◌∙◌, subst, append-nil, nat_lt, if◌then◌else◌, ◌*◌, ◌^◌, ◌≤◌, pos, negsuc, ◌+ℤ◌, ◌*ℤ◌, suc, zero, unsigned_abs, pow-add, FitsSigned, w64, ◌<ℤ◌}
-use Rattle.std.proofs.Math.Nat.{mul-le-mul, eq_of_mul-eq-mul_right}
-use Rattle.std.proofs.lemmas.Bool.{cases_eq}
-use Rattle.std.proofs.lemmas.Bool.Decides.{nat_tests}
-use Rattle.std.proofs.lemmas.Int.{ints}
+use Rattle.tsp_number.proofs.Prelude.{◌≡◌, ◌≢◌, ℕ, ◌+◌, ◌<◌, Bool, true, false, ◌==◌, ◌||◌, ◌&&◌, List, [], ◌∷◌, ◌++◌, length, Option, Some, None, ℤ, ◌⊎◌, inl, inr, refl, arith, ap, sym, ◌∙◌, subst, append-nil, nat_lt, if◌then◌else◌, ◌*◌, ◌^◌, ◌≤◌, pos, negsuc, ◌+ℤ◌, ◌*ℤ◌, suc, zero, unsigned_abs, pow-add, FitsSigned, w64, ◌<ℤ◌, mul-le-mul, eq_of_mul-eq-mul_right, cases_eq, nat_tests, ints, digit_value, is_ascii_digit, option_map, AllDigits, digits_value}
 use Rattle.std.proofs.lemmas.Str.Parse.{digit_from_value}
-use Rattle.std.specs.Char.{digit_value, is_ascii_digit}
-use Rattle.std.specs.Option.{option_map}
-use Rattle.std.specs.Str.Parse.{AllDigits, digits_value}
 use Rattle.tsp_number.proofs.Scaling.{AllDigits-front_digits, if_above_zero, front_digits-all, pow_above_zero}
 use Rattle.tsp_number.specs.Decimal.{unit, most_count}
 use Rattle.tsp_number.specs.NumberWord.{plus, minus, point, lower_e, upper_e, IsSign, IsFraction, WritesExponent, IsExponent, with_sign, Numeral, SpellsNumeral, has_minus, after_sign, after_point, front_digits, after_digits, are_digits, exponent_in, whole_in, past_point, fraction_in, past_mantissa, numeral_with, numeral_in, IsNumberWord, StandsFor, IsShifted, mantissa, digits_of, shift_of}
@@ -87,7 +80,7 @@ splits_fraction (c ∷ cs) none =
           }
     ]
 
-nil_from_test : (bytes : List ℕ) → (length bytes == 0) ≡ true → bytes ≡ []
+pub nil_from_test : (bytes : List ℕ) → (length bytes == 0) ≡ true → bytes ≡ []
 nil_from_test [] empty = refl
 nil_from_test (c ∷ cs) empty = absurd (grind (arith, nat_tests))
 
@@ -277,7 +270,7 @@ found word n s =
     ∙ ap (option_map (numeral_with word)) exponent_is
     ∙ ap (λ (m : Numeral). Some m) (same_numeral (has_minus word) (whole_in word) (fraction_in word) n negative_is whole_is fraction_is)
 
--- ---- the sign and the size that the code computes of a number word are the number that it
+-- ---- the sign and the size that the code computes of a number word are those of its number
 
 -- ---- signs
 

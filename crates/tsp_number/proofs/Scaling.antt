@@ -1,19 +1,9 @@
 -- The digits of a number word, moved by its exponent, and found by one scan.
-use Rattle.std.proofs.Common.{◌≡◌, ℕ, ◌+◌, ◌*◌, ◌<◌, ◌≤◌, List, [], ◌∷◌, ◌++◌, length, take, drop, Option, Some, None, ℤ, refl, arith, true, false, Bool, suc, ◌==◌, ◌||◌, length-append, ap, ◌∙◌, if◌then◌else◌, nat_lt, ◌≢◌, ◌-◌, ◌^◌, ◌/◌, ◌%◌, ◌&&◌, append_assoc, length-drop, take-append-drop, pos, negsuc, ◌+ℤ◌, ◌-ℤ◌, ◌≤ℤ◌, ◌⊎◌, inl, inr, sym, zero, subst}
-use Rattle.std.proofs.Math.Nat.{pow-le-pow_right, pow-suc, mul-le-mul, mul-mod_left, one-le-pow}
-use Rattle.std.proofs.lemmas.Bool.{cases_eq, cases_lt}
-use Rattle.std.proofs.lemmas.Bool.Decides.{nat_tests}
+use Rattle.tsp_number.proofs.Prelude.{◌≡◌, ℕ, ◌+◌, ◌*◌, ◌<◌, ◌≤◌, List, [], ◌∷◌, ◌++◌, length, take, drop, Option, Some, None, ℤ, refl, arith, true, false, Bool, suc, ◌==◌, ◌||◌, length-append, ap, ◌∙◌, if◌then◌else◌, nat_lt, ◌≢◌, ◌-◌, ◌^◌, ◌/◌, ◌%◌, ◌&&◌, append_assoc, length-drop, take-append-drop, pos, negsuc, ◌+ℤ◌, ◌-ℤ◌, ◌≤ℤ◌, ◌⊎◌, inl, inr, sym, zero, subst, pow-le-pow_right, pow-suc, mul-le-mul, mul-mod_left, one-le-pow, cases_eq, cases_lt, nat_tests, ints, div-add-mod', same_from_place, digit_value_digit, digit_value, is_ascii_digit, list_all, option_map, AllDigits, digits_value, digits_value_after}
 use Rattle.std.proofs.lemmas.Grind.{common_steps}
-use Rattle.std.proofs.lemmas.Int.{ints}
 use Rattle.std.proofs.lemmas.Int.Digits.{digits_value-lt}
 use Rattle.std.proofs.lemmas.List.Folds.{list_all-append}
-use Rattle.std.proofs.lemmas.Nat.{div-add-mod', same_from_place}
-use Rattle.std.proofs.lemmas.Str.{digit_value_digit}
 use Rattle.std.proofs.lemmas.Str.Parse.{digit_from_value}
-use Rattle.std.specs.Char.{digit_value, is_ascii_digit}
-use Rattle.std.specs.List.{list_all}
-use Rattle.std.specs.Option.{option_map}
-use Rattle.std.specs.Str.Parse.{AllDigits, digits_value, digits_value_after}
 use Rattle.tsp_number.specs.NumberWord.{has_minus, after_sign, after_point, past_point, front_digits, after_digits, whole_in, fraction_in, past_mantissa, exponent_in, numeral_with, plus, minus, point, Numeral, digits_of}
 use Rattle.tsp_number.specs.declared.scan.Written.{Written}
 use Rattle.tsp_number.specs.states.Digits.{saturated, clamped, HoldsWord, DropsZeros, ShiftsTo, KeepsNumeral}

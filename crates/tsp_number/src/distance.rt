@@ -1,12 +1,12 @@
-//! The five distances of TSPLIB 95 between points in the plane.
+//! The distances of TSPLIB 95: five between points in the plane, and three between points in space.
 
 ghost use Rattle.std.specs.Prelude.{◌≡◌, pos, ◌≤ℤ◌, ◌<◌, ◌≤◌, ◌-ℤ◌, ◌+◌, ◌-◌, ◌*◌, ◌^◌, unsigned_abs};
 ghost use Rattle.tsp_number.specs.Decimal.{unit};
-ghost use Rattle.tsp_number.specs.Distances.{IsEuc2d, IsCeil2d, IsMan2d, IsMax2d, IsAtt, square_apart, euc_2d_of, ceil_2d_of, man_2d_of, max_2d_of, att_of};
+ghost use Rattle.tsp_number.specs.Distances.{IsEuc2d, IsCeil2d, IsMan2d, IsMax2d, IsAtt, square_apart, euc_2d_of, ceil_2d_of, man_2d_of, max_2d_of, att_of, IsEuc3d, IsMan3d, IsMax3d, euc_3d_of, man_3d_of, max_3d_of};
 ghost use Rattle.tsp_number.specs.states.Rounding.{IsLeastCover};
 
 use crate::decimal::{Decimal, Point, UNIT};
-use crate::root::{Rounding, rounded_root};
+use crate::root::{Rounding, nearest_root_in_space, rounded_root};
 
 /// The signed difference from one coordinate to another, in counts of 10^-9.
 #[inline(always)]
@@ -19,7 +19,7 @@ pub(crate) fn way(a: Decimal, b: Decimal) -> i64
 
 /// How far two numbers are apart, in counts of 10^-9.
 #[inline(always)]
-pub(crate) fn gap(a: Decimal, b: Decimal) -> u64
+fn gap(a: Decimal, b: Decimal) -> u64
     ensures value { result ≡ unsigned_abs (a -ℤ b) }
     ensures most { result ≤ 2 * 10 ^ 18 }
 {
@@ -28,7 +28,7 @@ pub(crate) fn gap(a: Decimal, b: Decimal) -> u64
 
 /// The count as whole numbers, to the nearest, a half upward.
 #[inline(always)]
-pub(crate) fn nearest_whole(count: u64) -> i64
+fn nearest_whole(count: u64) -> i64
     requires { count ≤ 6 * 10 ^ 18 }
     ensures below_next_half { 2 * count < (2 * unsigned_abs result + 1) * unit }
     ensures from_last_half { 0 < unsigned_abs result → (2 * unsigned_abs result - 1) * unit ≤ 2 * count }
@@ -114,4 +114,50 @@ pub fn max_2d(a: Point, b: Point) -> i64
     ensures high { result ≤ℤ pos 2000000000 }
 {
     nearest_whole(gap(a.x, b.x).max(gap(a.y, b.y)))
+}
+
+// ---- the three distances of TSPLIB 95 between points in space
+
+/// The distance EUC_3D: the straight distance in space, rounded to the nearest whole number, a half
+/// upward.
+///
+/// It is `nint(sqrt(dx^2 + dy^2 + dz^2))` of Reinelt's TSPLIB 95, over the exact coordinates: from
+/// 0 to 3,464,101,615.
+pub fn euc_3d(a: Point, b: Point) -> i64
+    ensures value { IsEuc3d a b (unsigned_abs result) }
+    ensures distance { result ≡ pos (euc_3d_of a b) }
+    ensures low { pos 0 ≤ℤ result }
+    ensures high { result ≤ℤ pos 3464101615 }
+{
+    i64::from(nearest_root_in_space(way(a.x, b.x), way(a.y, b.y), way(a.z, b.z)))
+}
+
+/// The distance MAN_3D: the sum of the ways along the three axes, rounded to the nearest whole
+/// number, a half upward.
+///
+/// It is `nint(|dx| + |dy| + |dz|)` of Reinelt's TSPLIB 95, over the exact coordinates: from 0 to
+/// 6,000,000,000.
+pub fn man_3d(a: Point, b: Point) -> i64
+    ensures value { IsMan3d a b (unsigned_abs result) }
+    ensures distance { result ≡ pos (man_3d_of a b) }
+    ensures low { pos 0 ≤ℤ result }
+    ensures high { result ≤ℤ pos 6000000000 }
+{
+    // Each gap is at most 2 * 10^18, and their sum 6 * 10^18: below 2^64, which is above 18 *
+    // 10^18.
+    nearest_whole(gap(a.x, b.x) + gap(a.y, b.y) + gap(a.z, b.z))
+}
+
+/// The distance MAX_3D: the longest of the ways along the three axes, rounded to the nearest whole
+/// number, a half upward.
+///
+/// It is `max(nint(|dx|), nint(|dy|), nint(|dz|))` of Reinelt's TSPLIB 95, over the exact
+/// coordinates: from 0 to 2,000,000,000.
+pub fn max_3d(a: Point, b: Point) -> i64
+    ensures value { IsMax3d a b (unsigned_abs result) }
+    ensures distance { result ≡ pos (max_3d_of a b) }
+    ensures low { pos 0 ≤ℤ result }
+    ensures high { result ≤ℤ pos 2000000000 }
+{
+    nearest_whole(gap(a.x, b.x).max(gap(a.y, b.y)).max(gap(a.z, b.z)))
 }

@@ -1,8 +1,9 @@
-//! A law: each distance has one value, is symmetric and bounded.
+//! Laws of distances: each has one value, is symmetric and bounded, and grows with the way along each
+//! axis.
 
 ghost use Rattle.std.specs.Prelude.{◌≡◌, ◌≤◌, ℕ, ℤ, List, Result, Ok, unsigned_abs};
 ghost use Rattle.tsp_number.specs.Decimal.{most_count};
-ghost use Rattle.tsp_number.specs.Distances.{IsEuc2d, IsCeil2d, IsMan2d, IsMax2d, IsAtt, IsEuc3d, IsMan3d, IsMax3d, euc_2d_of, ceil_2d_of, man_2d_of, max_2d_of, att_of, euc_3d_of, man_3d_of, max_3d_of, IsDistance, IsDistanceInSpace};
+ghost use Rattle.tsp_number.specs.Distances.{IsEuc2d, IsCeil2d, IsMan2d, IsMax2d, IsAtt, IsEuc3d, IsMan3d, IsMax3d, euc_2d_of, ceil_2d_of, man_2d_of, max_2d_of, att_of, euc_3d_of, man_3d_of, max_3d_of, IsDistance, IsDistanceInSpace, IsMonotone};
 ghost use Rattle.tsp_number.specs.NumberWord.{StandsFor, ReadsDecimal, ReadsWhole, decimal_of, whole_of, spelling};
 ghost use Rattle.tsp_number.specs.declared.word.NumberFault.{NumberFault};
 
@@ -37,4 +38,18 @@ pub fn spelling_laws()
     ensures stands { (k : ℤ) → unsigned_abs k ≤ most_count → StandsFor (spelling k) k }
     ensures round_trip { (k : ℤ) (r : Result ℤ NumberFault) → unsigned_abs k ≤ most_count
         → ReadsDecimal (spelling k) r → r ≡ Ok k }
+{}
+
+/// Points that are no farther apart along each axis are no farther apart, by each distance.
+///
+/// So the distance to the nearest point of a box is at most that to any other of its points.
+pub fn monotone_laws()
+    ensures euc_2d { IsMonotone euc_2d_of }
+    ensures ceil_2d { IsMonotone ceil_2d_of }
+    ensures man_2d { IsMonotone man_2d_of }
+    ensures max_2d { IsMonotone max_2d_of }
+    ensures att { IsMonotone att_of }
+    ensures euc_3d { IsMonotone euc_3d_of }
+    ensures man_3d { IsMonotone man_3d_of }
+    ensures max_3d { IsMonotone max_3d_of }
 {}

@@ -17,23 +17,19 @@ mod decimal;
 mod distance;
 mod examples;
 mod laws;
-mod monotone;
 mod root;
 mod scan;
 mod shift;
-mod space;
 mod spelling;
 mod word;
 
 pub use compared::{is_att_at_least, is_ceil_2d_at_least, is_euc_2d_at_least, is_euc_3d_at_least};
 pub use decimal::{Decimal, InSpace, PlanePoint, Point, UNIT};
-pub use distance::{att, ceil_2d, euc_2d, man_2d, max_2d};
+pub use distance::{att, ceil_2d, euc_2d, euc_3d, man_2d, man_3d, max_2d, max_3d};
 pub use examples::{
     examples_of_decimals, examples_of_distances, examples_of_distances_in_space,
     examples_of_fault_texts, examples_of_fronts, examples_of_spellings, examples_of_whole_numbers,
 };
-pub use laws::{distance_laws, number_word_laws, spelling_laws};
-pub use monotone::monotone_laws;
-pub use space::{euc_3d, man_3d, max_3d};
+pub use laws::{distance_laws, monotone_laws, number_word_laws, spelling_laws};
 pub use spelling::{MOST_SPELLING, write_decimal, write_pair, write_spelling};
 pub use word::{NumberFault, front_decimal, front_few, front_whole, parse_decimal, parse_whole};

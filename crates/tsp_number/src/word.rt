@@ -335,7 +335,7 @@ pub fn front_decimal(bytes: &[u8]) -> Option<(Decimal, usize)>
     Some((decimal, point))
 }
 
-// ---- the digits at the beginning of eight bytes, counted and read together in one word of 64
+// ---- the digits at the beginning of eight bytes, read together in one word
 
 /// How many bytes are looked at together.
 const EIGHT: usize = 8;

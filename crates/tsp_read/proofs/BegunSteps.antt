@@ -1,17 +1,8 @@
 -- A line or word that begins in one piece of a text and ends in a later one.
-use Rattle.std.proofs.Common.{◌≡◌, ap, Result, Ok, Err, ℕ, ◌+◌, ◌<◌, ◌≤◌, Bool, true, false, List, [], ◌∷◌, ◌++◌, length, refl, sym, subst, ◌∙◌, arith, append-nil, append_assoc, length-append}
-use Rattle.std.proofs.lemmas.Bool.{true≢false, false≢true, ltb-false, lt-ltb, le-ltb, eqb-true}
-use Rattle.std.proofs.lemmas.List.{nil_from_length}
-use Rattle.std.specs.Prelude.{not, ◌&&◌, ◌||◌, nat_lt, ◌↔◌, ◌==◌, IsOk, OnOk}
-use Rattle.std.specs.Result.{IsErrAnd}
-use Rattle.tsp_format.specs.Limits.{most_line_bytes}
-use Rattle.tsp_format.specs.Words.{is_blank, is_letter}
-use Rattle.tsp_text.proofs.SettledItems.{start_filled}
-use Rattle.tsp_text.specs.Items.{ends_line, is_not_empty, without_start, Item, LineEnd}
-use Rattle.tsp_text.specs.declared.fault.ReadFault.{ReadFault}
+use Rattle.tsp_read.proofs.Prelude.{◌≡◌, ap, Result, Ok, Err, ℕ, ◌+◌, ◌<◌, ◌≤◌, Bool, true, false, List, [], ◌∷◌, ◌++◌, length, refl, sym, subst, ◌∙◌, arith, append-nil, append_assoc, length-append, true≢false, false≢true, ltb-false, lt-ltb, le-ltb, or_parts, not, ◌&&◌, ◌||◌, nat_lt, ◌↔◌, ◌==◌, IsOk, OnOk, IsErrAnd, nil_from_test, most_line_bytes, is_blank, is_letter, start_filled, ends_line, is_not_empty, without_start, Item, LineEnd, ReadFault}
 use Rattle.tsp_read.proofs.IntakeSteps.{read_further, read_to_end, read_to_fault}
-use Rattle.tsp_read.proofs.LeftSteps.{letter_filled, left_none}
-use Rattle.tsp_read.proofs.Onwards.{end_next, line_begins, token_next, token_missing_next, on_before, on_from, at_from, cuts_alike}
+use Rattle.tsp_read.proofs.LeftSteps.{letter_filled, left_none, before_on, from_on}
+use Rattle.tsp_read.proofs.Onwards.{end_next, line_begins, token_next, token_missing_next, at_from, cuts_alike}
 use Rattle.tsp_read.specs.declared.items.Begun.{Begun}
 use Rattle.tsp_read.specs.declared.items.Intake.{Intake}
 use Rattle.tsp_read.specs.declared.items.Token.{Token}
@@ -35,8 +26,8 @@ into_by : (p : ℕ → Bool) (x : ℕ) (xs more : List ℕ) (b : Bool) → p x �
     → from p (x ∷ xs) ≡ [] → GoesInto p (x ∷ xs) more
 into_by p x xs more true e rest none = absurd (let f : x ∷ xs ≡ [] = sym (at_from p x xs e) ∙ none in cc)
 into_by p x xs more false e rest none =
-    let h = rest (sym (on_from p x xs e) ∙ none) in
-    (on_before p x (xs ++ more) e ∙ ap (λ (ys : List ℕ). x ∷ ys) h.0, on_from p x (xs ++ more) e ∙ h.1)
+    let h = rest (sym (from_on p x xs e) ∙ none) in
+    (before_on p x (xs ++ more) e ∙ ap (λ (ys : List ℕ). x ∷ ys) h.0, from_on p x (xs ++ more) e ∙ h.1)
 
 goes_into : (p : ℕ → Bool) (xs more : List ℕ) → from p xs ≡ [] → GoesInto p xs more
 goes_into p [] more none = (refl, refl)
@@ -54,18 +45,11 @@ first_fails p x xs none = by_case (p x) refl
 
 -- ---- what the code tells of what is left
 
-pub empty_rest : (xs : List ℕ) → (length xs == 0) ≡ true → xs ≡ []
-empty_rest xs e = nil_from_length xs (eqb-true (length xs) 0 e)
-
 pub filled_rest : (xs : List ℕ) → (length xs == 0) ≡ false → is_not_empty xs ≡ true
 filled_rest [] e = absurd (true≢false e)
 filled_rest (x ∷ xs) e = refl
 
 -- ---- the first byte
-
-or_false : (a b : Bool) → (a || b) ≡ false → (a ≡ false) × (b ≡ false)
-or_false true b e = absurd cc
-or_false false b e = (refl, e)
 
 and_second : (a b : Bool) → (a && b) ≡ true → b ≡ true
 and_second true b e = e
@@ -78,7 +62,7 @@ not_ten Word b e ten = true≢false (sym (ap ends_word ten) ∙ e)
 not_blank : (inside : Bool) (token : Token) (b : ℕ) → token ≡ token_at inside b → ends_token token b ≡ false → is_blank b ≡ false
 not_blank inside Line b is e =
     letter_filled b (and_second (not inside) (is_letter b) (line_begins (not inside && is_letter b) is))
-not_blank inside Word b is e = (or_false (is_blank b) (ends_line b) e).0
+not_blank inside Word b is e = (or_parts (is_blank b) (ends_line b) e).0
 
 open_still : (token : Token) (xs : List ℕ) → from (ends_token token) xs ≡ [] → length xs ≤ most_bytes token
     → is_settled (most_bytes token) true (up_to_first (ends_token token) xs) (from (ends_token token) xs) ≡ false
@@ -288,7 +272,7 @@ fed_none intake begun bytes rest none read = record {
 pub joined_none : (intake : Intake) (begun : Begun) (bytes piece : List ℕ) → IsFedTo intake begun bytes piece
     → (length begun.bytes.items == 0) ≡ true → IsJoinedTo intake begun bytes piece
 joined_none intake begun bytes piece h none =
-    let empty = empty_rest begun.bytes.items none in
+    let empty = nil_from_test begun.bytes.items none in
     fed_none intake begun bytes piece empty (subst (λ (xs : List ℕ). IsReadTo intake bytes (xs ++ piece)) empty h.read)
 
 no_rest : (rest : List ℕ) (P : Type 0) → rest ≡ [] → is_not_empty rest ≡ true → P

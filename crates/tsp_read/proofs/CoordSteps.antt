@@ -1,20 +1,8 @@
 -- Coordinates by node, one word more.
-use Rattle.std.proofs.Common.{◌≡◌, ℕ, ◌+◌, ◌-◌, ◌<◌, Bool, true, false, List, [], ◌∷◌, ◌++◌, length, map, set, refl, sym, ap, ap₂, subst, ◌∙◌, Option, None, Some, Ok, Err, arith}
-use Rattle.std.proofs.lemmas.Bool.{false≢true}
-use Rattle.std.specs.Prelude.{ℤ, ◌==◌, nat_lt, replicate}
+use Rattle.tsp_read.proofs.Prelude.{◌≡◌, ℕ, ◌+◌, ◌-◌, ◌<◌, Bool, true, false, List, [], ◌∷◌, ◌++◌, length, map, set, refl, sym, ap, ap₂, subst, ◌∙◌, Option, None, Some, Ok, Err, arith, false≢true, ℤ, ◌==◌, nat_lt, replicate, decimal_of, whole_of, Point, NumberFault, Words, place_by, word_fault, point_in, space_point_in, coords_by_node, number_value, place_of_number, number, is_minus_one, Coordinate, Amount, wants_more, LineFault}
 use Rattle.tsp_number.specs.Distances.{on_plane}
-use Rattle.tsp_number.specs.NumberWord.{decimal_of, whole_of}
 use Rattle.tsp_number.specs.declared.decimal.PlanePoint.{PlanePoint}
-use Rattle.tsp_number.specs.declared.decimal.Point.{Point}
-use Rattle.tsp_number.specs.declared.word.NumberFault.{NumberFault}
 use Rattle.tsp_file.specs.Cost.{origin}
-use Rattle.tsp_text.proofs.GroupWords.{Words}
-use Rattle.tsp_text.specs.Earlier.{place_by}
-use Rattle.tsp_text.specs.FaultRows.{word_fault}
-use Rattle.tsp_text.specs.Groups.{point_in, space_point_in, coords_by_node, number_value, place_of_number}
-use Rattle.tsp_text.specs.SectionWords.{number, is_minus_one, Coordinate, Amount}
-use Rattle.tsp_text.specs.ParsesTo.{wants_more}
-use Rattle.tsp_text.specs.declared.fault.LineFault.{LineFault}
 use Rattle.tsp_text.specs.declared.fault.LineFault.TheVariants as row
 use Rattle.tsp_read.proofs.GroupSteps.{number_faulty, entry_taken}
 use Rattle.tsp_read.proofs.GroupSteps as groups

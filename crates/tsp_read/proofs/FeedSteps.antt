@@ -1,25 +1,12 @@
 -- One piece more of a text, and its last line and word.
-use Rattle.std.proofs.Common.{◌≡◌, ℕ, ◌+◌, ◌-◌, ◌≤◌, ◌<◌, Bool, true, false, List, [], ◌∷◌, ◌++◌, length, take, reverse, refl, sym, ap, subst, ◌∙◌, arith, Option, Some, None, Result, Ok, Err, append-nil, append_assoc, length-append, drop, take-append-drop}
+use Rattle.tsp_read.proofs.Prelude.{◌≡◌, ℕ, ◌+◌, ◌-◌, ◌≤◌, ◌<◌, Bool, true, false, List, [], ◌∷◌, ◌++◌, length, take, reverse, refl, sym, ap, subst, ◌∙◌, arith, Option, Some, None, Result, Ok, Err, append-nil, append_assoc, length-append, drop, take-append-drop, true≢false, false≢true, lt-ltb, le-ltb, and_parts, take_all, reverse-append, list_all-append, none-some, list_all, not, ◌&&◌, ◌==◌, ◌||◌, is_some, nil_from_test, most_file_bytes, Fields, settled_kept, ended_stays, part_long, part_short, part_kept, fault_kept, open_section, when, first_row, is_not_empty, Item, settled_items, has_end_line, AreCut, Line, NumberWord, LineEnd, items_of, is_end_line, to_end_line, fault_in, IsClean, is_too_long, settled_part, settled_fault, part, fault, ReadFault}
+use Rattle.std.proofs.Math.Bool.{and-false}
 use Rattle.std.proofs.Math.Logic.{∥∥₁_map}
 use Rattle.std.proofs.Math.Seq.{take-append-add}
-use Rattle.std.proofs.lemmas.Bool.{true≢false, false≢true, eqb-true, lt-ltb, le-ltb}
-use Rattle.std.proofs.lemmas.List.{take_all, nil_from_length, reverse-append}
-use Rattle.std.proofs.lemmas.List.Folds.{list_all-append}
-use Rattle.std.proofs.lemmas.Option.{none-some}
-use Rattle.std.specs.List.{list_all}
-use Rattle.std.specs.Prelude.{not, ◌&&◌, ◌==◌, ◌||◌, is_some}
-use Rattle.tsp_format.specs.Limits.{most_file_bytes}
-use Rattle.tsp_file.specs.Fields.{Fields}
-use Rattle.tsp_text.proofs.SettledFaults.{settled_kept, ended_stays, part_long, part_short, part_kept, fault_kept}
 use Rattle.tsp_text.proofs.ValidCuts.{part_cut}
-use Rattle.tsp_text.specs.Earlier.{open_section}
-use Rattle.tsp_text.specs.FaultRows.{when, first_row}
-use Rattle.tsp_text.specs.Items.{is_not_empty, Item, settled_items, has_end_line, AreCut, Line, NumberWord, LineEnd, items_of, is_end_line, to_end_line}
-use Rattle.tsp_text.specs.ParsesTo.{fault_in, IsClean, is_too_long, settled_part, settled_fault, part, fault}
-use Rattle.tsp_text.specs.declared.fault.ReadFault.{ReadFault}
 use Rattle.tsp_text.specs.declared.fault.ReadFault.TheVariants as faults
-use Rattle.tsp_read.proofs.BegunSteps.{token_here, token_joins, empty_rest}
-use Rattle.tsp_read.proofs.IntakeSteps.{walked_so_far, and_both, bare_ends, read_parts, not_bare}
+use Rattle.tsp_read.proofs.BegunSteps.{token_here, token_joins, filled_rest}
+use Rattle.tsp_read.proofs.IntakeSteps.{walked_so_far, bare_ends, read_parts, not_bare}
 use Rattle.tsp_read.proofs.LeftSteps.{all_items, all_settled, left_none}
 use Rattle.tsp_read.proofs.Onwards.{walked_all, walked_more, walked_to_end, walked_found, line_fault, end_fault_is}
 use Rattle.tsp_read.specs.Reads.{IsGoing, IsEnded, HasSettled, HasTakenBy, HasTaken, refusal, Feeds, ComesTo, SpellsWhole, EndsReading, Reads, Completes}
@@ -90,13 +77,9 @@ settled_long : (bytes : List ℕ) → IsClean (settled_part bytes)
 settled_long bytes clean long =
     ap (λ line. rows line (is_too_long bytes && not (has_end_line (settled_part bytes)))) clean ∙ ap (rows None) long
 
-and_false : (b : Bool) → (b && false) ≡ false
-and_false true = refl
-and_false false = refl
-
 pub ended_none : (reading : Reading) (bytes : List ℕ) → IsEnded reading bytes → settled_fault bytes ≡ None
 ended_none reading bytes h =
-    settled_none bytes h.holds.clean (ap (λ b. is_too_long bytes && not b) h.ended ∙ and_false (is_too_long bytes))
+    settled_none bytes h.holds.clean (ap (λ b. is_too_long bytes && not b) h.ended ∙ and-false (is_too_long bytes))
 
 part_of_short : (bytes : List ℕ) → length bytes ≤ most_file_bytes → settled_part bytes ≡ settled_so_far bytes
 part_of_short bytes short = ap settled_so_far (take_all most_file_bytes bytes short)
@@ -148,13 +131,6 @@ is_long whole seen (b ∷ over) h some =
 
 -- ---- the stage after a piece
 
-no_more : (over : List ℕ) → (length over == 0) ≡ true → over ≡ []
-no_more over e = nil_from_length over (eqb-true (length over) 0 e)
-
-some_more : (over : List ℕ) → (length over == 0) ≡ false → is_not_empty over ≡ true
-some_more [] e = absurd (true≢false e)
-some_more (b ∷ over) e = refl
-
 -- plan: by what was read and whether that was all: each case is the stage that `stage_after` names
 comes_by : (all : Bool) (read : Result Bool ReadFault) (new : Feed) (whole seen over : List ℕ) → Fits whole seen over
     → all ≡ (length over == 0) → new.count ≡ length seen
@@ -168,7 +144,7 @@ comes_by false (Ok true) new whole seen over h e count f = record {
   ended = ap has_end_line (seen_part whole seen over h) ∙ f.ended;
 }
 comes_by true (Ok false) new whole seen over h e count f =
-    let same : whole ≡ seen = h.parts ∙ ap (λ (xs : List ℕ). seen ++ xs) (no_more over (sym e)) ∙ append-nil seen in
+    let same : whole ≡ seen = h.parts ∙ ap (λ (xs : List ℕ). seen ++ xs) (nil_from_test over (sym e)) ∙ append-nil seen in
     record {
       count = count ∙ ap length (sym same);
       short = subst (λ (xs : List ℕ). length xs ≤ most_file_bytes) (sym same) h.short;
@@ -179,7 +155,7 @@ comes_by false (Ok false) new whole seen over h e count f =
     let same = seen_part whole seen over h in
     let going : has_end_line (settled_part whole) ≡ false = ap has_end_line same ∙ all.going in
     settled_long whole (ap fault_in same ∙ all.holds.clean)
-    (ap (λ b. b && not (has_end_line (settled_part whole))) (is_long whole seen over h (some_more over (sym e))) ∙ ap not going)
+    (ap (λ b. b && not (has_end_line (settled_part whole))) (is_long whole seen over h (filled_rest over (sym e))) ∙ ap not going)
 comes_by true (Err (faults.Line line word found)) new whole seen over h e count f =
     settled_line whole (faults.Line line word found) (ap fault_in (seen_part whole seen over h) ∙ f)
 comes_by false (Err (faults.Line line word found)) new whole seen over h e count f =
@@ -206,14 +182,10 @@ comes_to all read old new bytes piece front over stage is h parts few full e cou
 
 -- ---- that there are such bytes
 
-all_seen : (seen : List ℕ) → length seen ≤ most_file_bytes → settled_part seen ≡ settled_so_far seen
-all_seen seen short =
-    seen_part seen seen [] (record { parts = sym (append-nil seen); short = short; full = λ some. absurd (false≢true some) })
-
 has_ended : (intake : Intake) (seen : List ℕ) → length seen ≤ most_file_bytes → HasEnded intake.reading seen
     → (bytes : List ℕ) × Holds intake.reading (settled_part bytes) × (has_end_line (settled_part bytes) ≡ true)
 has_ended intake seen short f =
-    (seen, subst (λ (xs : List Item). Holds intake.reading xs) (sym (all_seen seen short)) f.holds, ap has_end_line (all_seen seen short) ∙ f.ended)
+    (seen, subst (λ (xs : List Item). Holds intake.reading xs) (sym (part_of_short seen short)) f.holds, ap has_end_line (part_of_short seen short) ∙ f.ended)
 
 pub goes_on : (all : Bool) (read : Result Bool ReadFault) (intake : Intake) (begun : Begun) (seen : List ℕ) (count : ℕ)
     → length seen ≤ most_file_bytes → count ≡ length seen
@@ -389,7 +361,7 @@ pub last_none : (intake : Intake) (begun : Begun) (bytes : List ℕ) → IsPause
     → (length begun.bytes.items == 0) ≡ true
     → TakesAll bytes intake.reading (Ok false)
 last_none intake begun bytes h empty =
-    let none : kept begun ++ [] ≡ [] = append-nil (kept begun) ∙ empty_rest begun.bytes.items empty in
+    let none : kept begun ++ [] ≡ [] = append-nil (kept begun) ∙ nil_from_test begun.bytes.items empty in
     let left : items_left false intake.inside (kept begun ++ []) ≡ [] =
     ap (items_left false intake.inside) none ∙ left_none false intake.inside in
     let walked = subst (λ (xs : List Item). Walked (items_of bytes) h.fed.read.earlier xs) left
@@ -431,7 +403,7 @@ and_true false = refl
 ends_turned : (items : List Item) → list_all is_line_end items ≡ true → list_all is_line_end (reverse items) ≡ true
 ends_turned [] all = refl
 ends_turned (item ∷ items) all =
-    let both = and_both (is_line_end item) (list_all is_line_end items) all in
+    let both = and_parts (is_line_end item) (list_all is_line_end items) all in
     ap (list_all is_line_end) (reverse-append (item ∷ []) items) ∙ list_all-append is_line_end (reverse items) (item ∷ [])
     ∙ ap (λ b. b && (is_line_end item && true)) (ends_turned items both.1) ∙ and_true (is_line_end item) ∙ both.0
 
@@ -450,7 +422,7 @@ bare_part bytes goes_on bare =
 bare_take : (n : ℕ) (bytes : List ℕ) → is_bare bytes ≡ true → is_bare (take n bytes) ≡ true
 bare_take n bytes bare =
     let parts : is_bare (take n bytes ++ drop n bytes) ≡ true = ap is_bare (take-append-drop n bytes) ∙ bare in
-    (and_both (is_bare (take n bytes)) (is_bare (drop n bytes)) (sym (list_all-append ends_word (take n bytes) (drop n bytes)) ∙ parts)).0
+    (and_parts (is_bare (take n bytes)) (is_bare (drop n bytes)) (sym (list_all-append ends_word (take n bytes) (drop n bytes)) ∙ parts)).0
 
 part_closed : (bytes : List ℕ) (long : Bool) → is_too_long bytes ≡ long → is_bare bytes ≡ true → open_section (part bytes) ≡ None
 part_closed bytes true e bare =
@@ -475,10 +447,6 @@ open_not_bare bytes reading h some = by_case (is_bare bytes) refl
 
 -- ---- what a feed returns at the end
 
-and_none : (b : Bool) → (b && false) ≡ false
-and_none true = refl
-and_none false = refl
-
 pub ended_whole : (feed : Feed) (bytes : List ℕ) → feed.stage ≡ Ended → HasTaken feed bytes
     → SpellsWhole feed.intake.reading bytes
 ended_whole feed bytes e taken =
@@ -486,7 +454,7 @@ ended_whole feed bytes e taken =
     let same : part bytes ≡ settled_part bytes = ap part (sym (append-nil bytes)) ∙ part_kept bytes [] h.holds.clean h.ended in
     record {
       holds = subst (λ (xs : List Item). Holds feed.intake.reading xs) (sym same) h.holds;
-      short = ap (λ b. is_too_long bytes && not b) (ap has_end_line same ∙ h.ended) ∙ and_none (is_too_long bytes);
+      short = ap (λ b. is_too_long bytes && not b) (ap has_end_line same ∙ h.ended) ∙ and-false (is_too_long bytes);
     }
 
 short_text : (feed : Feed) (bytes : List ℕ) → IsGoing feed bytes → is_too_long bytes ≡ false

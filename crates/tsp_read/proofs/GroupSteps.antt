@@ -1,22 +1,11 @@
 -- One word more of a by-node section: a group of a node and the words of its value for each node.
-use Rattle.std.proofs.Common.{◌≡◌, ℕ, zero, suc, ◌+◌, ◌-◌, ◌*◌, ◌<◌, ◌≤◌, Bool, true, false, List, [], ◌∷◌, ◌++◌, length, map, set, get_or, refl, sym, ap, subst, ◌∙◌, Option, None, Some, Ok, Err, arith}
-use Rattle.std.specs.Prelude.{ℤ, pos, ◌==◌, nat_lt, replicate}
-use Rattle.std.specs.Option.{option_map}
-use Rattle.std.proofs.lemmas.Bool.{lt-leb, le-leb}
-use Rattle.std.proofs.lemmas.List.{map_push, length_push, length-map, take-append-le}
-use Rattle.std.proofs.lemmas.Bool.Decides.{nat_tests}
-use Rattle.tsp_text.specs.declared.fault.LineFault.{LineFault}
+use Rattle.tsp_read.proofs.Prelude.{◌≡◌, ℕ, zero, suc, ◌+◌, ◌-◌, ◌*◌, ◌<◌, ◌≤◌, Bool, true, false, List, [], ◌∷◌, ◌++◌, length, map, set, get_or, refl, sym, ap, subst, ◌∙◌, Option, None, Some, Ok, Err, arith, ℤ, pos, ◌==◌, nat_lt, replicate, option_map, lt-leb, le-leb, map_push, length_push, length-map, take-append-le, nat_tests, LineFault, number, node, is_minus_one, Place, NodeAfter, PastGroups, groups_in, begun_in, word_at, node_groups, nodes_of_groups, place_by_node, by_node, wants_more, word_fault, Words, length_groups, begun_short, goes_on, group_ends, all_groups}
 use Rattle.tsp_text.specs.declared.fault.LineFault.TheVariants as row
-use Rattle.tsp_text.specs.SectionWords.{number, node, is_minus_one, Place, NodeAfter, PastGroups}
-use Rattle.tsp_text.specs.Groups.{groups_in, begun_in, word_at, node_groups, nodes_of_groups, place_by_node, by_node}
-use Rattle.tsp_text.specs.ParsesTo.{wants_more}
-use Rattle.tsp_text.specs.FaultRows.{word_fault}
-use Rattle.tsp_text.proofs.GroupWords.{Words, length_groups, begun_short, goes_on, group_ends, all_groups}
 use Rattle.tsp_read.specs.states.Parts.{AreReadAs, IsNewNode, NodesHold, GroupsHold}
 use Rattle.tsp_read.proofs.ListSteps.{Reader, none_kept, some_kept, keeps_more}
 use Rattle.tsp_read.proofs.SectionLists as nodes
 
-le_times : (size a b : ℕ) → a ≤ b → size * a ≤ size * b
+pub le_times : (size a b : ℕ) → a ≤ b → size * a ≤ size * b
 le_times size a b le = grind arith
 
 -- words of n groups, of which these are left

@@ -1,26 +1,9 @@
 -- Sections by node as they are written are read back.
-use Rattle.std.proofs.Common.{◌≡◌, ℕ, suc, zero, ◌+◌, ◌*◌, ◌^◌, ◌<◌, ◌≤◌, Bool, true, false, cond, List, [], ◌∷◌, ◌++◌, length, map, refl, sym, ap, ◌∙◌, arith, Some, None, Result, ap₂, Ok}
-use Rattle.std.proofs.lemmas.Bool.{and_from, and_parts, le-leb, lt-leb, or_from, ne_eqb, false_from_ne_true}
-use Rattle.std.proofs.lemmas.Bool.Decides.{Decides-int_eq}
-use Rattle.std.proofs.lemmas.List.{length_push, length-append, map_push}
+use Rattle.tsp_read.proofs.Prelude.{◌≡◌, ℕ, suc, zero, ◌+◌, ◌*◌, ◌^◌, ◌<◌, ◌≤◌, Bool, true, false, cond, List, [], ◌∷◌, ◌++◌, length, map, refl, sym, ap, ◌∙◌, arith, Some, None, Result, ap₂, Ok, and_from, and_parts, le-leb, lt-leb, or_from, ne_eqb, false_from_ne_true, Decides-int_eq, length_push, length-append, map_push, decimal, signed_decimal, list_all, list_any, flat_map, enumerate_from, range_with_len, int_eq, ℤ, pos, ◌==◌, nat_le, unwrap_or, unsigned_abs, ◌&&◌, result_err, whole_of, decimal_of, spelling, Point, NumberFault, most_coordinate, within_abs, is_from_to, is_node, is_within, is_point, Words, goes_on, all_groups, nodes_read, groups_append, begun_append, word_fault, groups_in, begun_in, word_at, node_groups, number_value, entry_of, by_node, place_in_group, place_by_node, nodes_of_groups, point_in, space_point_in, number, node, reads_as, Place, NodeAfter, Amount, PastGroups, Coordinate, wants_more}
 use Rattle.std.proofs.lemmas.List.FromFn.{map-range_with_len_more}
-use Rattle.std.specs.Fmt.{decimal, signed_decimal}
-use Rattle.std.specs.List.{list_all, list_any, flat_map, enumerate_from, range_with_len}
-use Rattle.std.specs.Ordering.{int_eq}
-use Rattle.std.specs.Prelude.{ℤ, pos, ◌==◌, nat_le, unwrap_or, unsigned_abs, ◌&&◌}
-use Rattle.std.specs.Result.{result_err}
-use Rattle.tsp_number.specs.NumberWord.{whole_of, decimal_of, spelling}
-use Rattle.tsp_number.specs.declared.decimal.Point.{Point}
-use Rattle.tsp_number.specs.declared.word.NumberFault.{NumberFault}
-use Rattle.tsp_format.specs.Limits.{most_coordinate}
 use Rattle.tsp_format.specs.Nodes.{nodes_to}
-use Rattle.tsp_file.specs.Validity.{is_from_to, is_node, is_within, is_point}
-use Rattle.tsp_text.proofs.GroupWords.{Words, goes_on, all_groups, nodes_read, groups_append, begun_append}
-use Rattle.tsp_text.specs.FaultRows.{word_fault}
-use Rattle.tsp_text.specs.Groups.{groups_in, begun_in, word_at, node_groups, number_value, entry_of, by_node, place_in_group, place_by_node, nodes_of_groups, point_in, space_point_in}
-use Rattle.tsp_text.specs.SectionWords.{number, node, reads_as, Place, NodeAfter, Amount, PastGroups, Coordinate}
-use Rattle.tsp_text.specs.ParsesTo.{wants_more}
-use Rattle.tsp_read.proofs.NumbersReadBack.{NumberLaws, node_back, signed_plain, no_rows, size_in, spelling_plain}
+use Rattle.tsp_read.proofs.GroupSteps.{le_times}
+use Rattle.tsp_read.proofs.NumbersReadBack.{NumberLaws, node_back, signed_plain, no_rows, spelling_plain}
 use Rattle.tsp_read.proofs.Onto.{AllTaken, taken-append}
 use Rattle.tsp_read.proofs.Text.{is_plain_word}
 
@@ -94,9 +77,6 @@ pub record AreSpelled {X : Type 0} (size : ℕ) (value : Words → X) (number_pl
 
 pub one_node : (n i : ℕ) → i + 1 ≤ n → is_node n (i + 1) ≡ true
 one_node n i room = and_from (nat_le 1 (i + 1)) (nat_le (i + 1) n) (le-leb 1 (i + 1) (omega arith)) (le-leb (i + 1) n room)
-
-le_times : (size a b : ℕ) → a ≤ b → size * a ≤ size * b
-le_times size a b le = grind arith
 
 module _ {X : Type 0} {size : ℕ} {value : Words → X} {number_place : Place} {n : ℕ} {fits : X → Bool} {spell : X → Words} (spelled : AreSpelled size value number_place n fits spell)
     (laws : NumberLaws) (few : n < 2 ^ 32) where
@@ -220,7 +200,7 @@ space_point_words p = spelling p.x ∷ spelling p.y ∷ spelling p.z ∷ []
 -- ---- a coordinate
 
 coordinate_back : NumberLaws → (z : ℤ) → is_within most_coordinate z ≡ true → decimal_of (spelling z) ≡ Ok z
-coordinate_back laws z inside = laws.decimal_back z (size_in most_coordinate z inside)
+coordinate_back laws z inside = laws.decimal_back z (within_abs most_coordinate z inside)
 
 coordinate_clean : NumberLaws → (n : ℕ) (z : ℤ) → is_within most_coordinate z ≡ true → word_fault n Coordinate (spelling z) ≡ None
 coordinate_clean laws n z inside =
@@ -228,7 +208,7 @@ coordinate_clean laws n z inside =
 
 coordinate_plain : (z : ℤ) → is_within most_coordinate z ≡ true → is_plain_word (spelling z) ≡ true
 coordinate_plain z inside =
-    let small = size_in most_coordinate z inside in
+    let small = within_abs most_coordinate z inside in
     spelling_plain z (omega (arith, small))
 
 both_plain : (x y : ℤ) (more : Words) → is_within most_coordinate x ≡ true → is_within most_coordinate y ≡ true → list_all is_plain_word more ≡ true

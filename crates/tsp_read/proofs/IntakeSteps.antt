@@ -1,26 +1,9 @@
 -- Items that are taken from a piece one after the other, and line ends.
-use Rattle.std.proofs.Common.{◌≡◌, ℕ, Bool, true, false, List, [], ◌∷◌, ◌++◌, reverse, refl, sym, ap, subst, ◌∙◌, Option, Some, None, Ok, Err, append-nil, append_assoc}
-use Rattle.std.proofs.lemmas.Bool.{true≢false, false≢true, eqb-true}
-use Rattle.std.proofs.lemmas.List.{reverse-append}
-use Rattle.std.proofs.lemmas.Option.{none-some}
-use Rattle.std.specs.List.{list_all}
-use Rattle.std.specs.Prelude.{◌&&◌, ◌||◌, cond, is_some, take}
-use Rattle.tsp_format.specs.Limits.{most_file_bytes}
-use Rattle.tsp_format.specs.Words.{is_blank}
-use Rattle.tsp_format.specs.declared.keyword.Field.{Field}
-use Rattle.tsp_format.specs.declared.keyword.Keyword.TheVariants.{Known, EdgeDataFormat, EdgeDataSection, Eof, Unknown}
-use Rattle.tsp_text.proofs.SettledFaults.{long_row, long_fault, same_fault, clean_more}
-use Rattle.tsp_text.proofs.ValidRows.{rows_of_word, long_line, clean_parts}
-use Rattle.tsp_text.specs.Earlier.{open_section, words_of, spatial_after, place_in, dimension_in}
-use Rattle.tsp_text.specs.FaultRows.{row_of}
-use Rattle.tsp_text.specs.Items.{ends_line, Item, Line, NumberWord, LineEnd, settled_items, is_end_line, has_end_line, words_before, word_number, to_end_line}
-use Rattle.tsp_text.specs.ParsesTo.{IsClean, part, settled_part}
-use Rattle.tsp_text.specs.declared.fault.LineFault.{LineFault}
+use Rattle.tsp_read.proofs.Prelude.{◌≡◌, ℕ, Bool, true, false, List, [], ◌∷◌, ◌++◌, reverse, refl, sym, ap, subst, ◌∙◌, Option, Some, None, Ok, Err, append-nil, append_assoc, true≢false, false≢true, eqb-true, and_parts, or_from, none-some, list_all, ◌||◌, cond, is_some, take, most_file_bytes, is_blank, Field, Known, EdgeDataFormat, EdgeDataSection, Eof, Unknown, long_row, long_fault, same_fault, clean_more, rows_of_word, long_line, clean_parts, open_section, words_of, spatial_after, place_in, dimension_in, row_of, ends_line, Item, Line, NumberWord, LineEnd, settled_items, is_end_line, has_end_line, words_before, word_number, to_end_line, IsClean, part, settled_part, LineFault, ReadFault}
 use Rattle.tsp_text.specs.declared.fault.LineFault.TheVariants as row
-use Rattle.tsp_text.specs.declared.fault.ReadFault.{ReadFault}
 use Rattle.tsp_text.specs.declared.fault.ReadFault.TheVariants as faults
 use Rattle.tsp_read.proofs.LeftSteps.{all_settled, left_blank, left_end, left_none}
-use Rattle.tsp_read.proofs.Onwards.{walked_to_end, walked_found}
+use Rattle.tsp_read.proofs.Onwards.{walked_to_end, walked_found, on_end}
 use Rattle.tsp_read.specs.Reads.{IsEnded}
 use Rattle.tsp_read.specs.declared.items.Intake.{Intake}
 use Rattle.tsp_read.specs.declared.items.Next.{Next}
@@ -58,10 +41,6 @@ clean_is_short earlier item clean = by_case (is_over_long item) refl
 
 -- ---- blanks and line ends alone
 
-pub and_both : (a b : Bool) → (a && b) ≡ true → (a ≡ true) × (b ≡ true)
-and_both true b e = (refl, e)
-and_both false b e = absurd cc
-
 or_second : (a b : Bool) → a ≡ false → (a || b) ≡ true → b ≡ true
 or_second true b e h = absurd cc
 or_second false b e h = h
@@ -73,17 +52,17 @@ bare_step : (goes_on inside : Bool) (b : ℕ) (bytes : List ℕ) (k : Bool) → 
     → ((within : Bool) → AllEnds (items_left goes_on within bytes)) → AllEnds (items_left goes_on inside (b ∷ bytes))
 bare_step goes_on inside b bytes true e bare rest = ap (list_all is_line_end) (left_blank goes_on inside b bytes e) ∙ rest inside
 bare_step goes_on inside b bytes false e bare rest =
-    let ten : b ≡ 10 = eqb-true b 10 (or_second (is_blank b) (ends_line b) e (and_both (ends_word b) (is_bare bytes) bare).0) in
+    let ten : b ≡ 10 = eqb-true b 10 (or_second (is_blank b) (ends_line b) e (and_parts (ends_word b) (is_bare bytes) bare).0) in
     ap (λ (c : ℕ). list_all is_line_end (items_left goes_on inside (c ∷ bytes))) ten ∙ ap (list_all is_line_end) (left_end goes_on inside bytes) ∙ rest false
 
 pub bare_ends : (goes_on inside : Bool) (bytes : List ℕ) → is_bare bytes ≡ true → AllEnds (items_left goes_on inside bytes)
 bare_ends goes_on inside [] bare = ap (list_all is_line_end) (left_none goes_on inside)
 bare_ends goes_on inside (b ∷ bytes) bare =
-    bare_step goes_on inside b bytes (is_blank b) refl bare (λ within. bare_ends goes_on within bytes (and_both (ends_word b) (is_bare bytes) bare).1)
+    bare_step goes_on inside b bytes (is_blank b) refl bare (λ within. bare_ends goes_on within bytes (and_parts (ends_word b) (is_bare bytes) bare).1)
 
 all_after : (xs ys : List Item) → AllEnds (xs ++ ys) → AllEnds ys
 all_after [] ys h = h
-all_after (x ∷ xs) ys h = all_after xs ys (and_both (is_line_end x) (list_all is_line_end (xs ++ ys)) h).1
+all_after (x ∷ xs) ys h = all_after xs ys (and_parts (is_line_end x) (list_all is_line_end (xs ++ ys)) h).1
 
 -- ---- the items of the bytes so far
 
@@ -107,14 +86,11 @@ not_bare intake bytes rest goes_on item later h next other = by_case (is_bare by
     by_case true e =
         let ends : AllEnds (reverse h.earlier ++ item ∷ later) =
         ap (list_all is_line_end) (ap (λ (xs : List Item). reverse h.earlier ++ xs) (sym next) ∙ sym (read_parts intake bytes rest h goes_on)) ∙ bare_ends goes_on false bytes e in
-        let here = (and_both (is_line_end item) (list_all is_line_end later) (all_after (reverse h.earlier) (item ∷ later) ends)).0 in
+        let here = (and_parts (is_line_end item) (list_all is_line_end later) (all_after (reverse h.earlier) (item ∷ later) ends)).0 in
         absurd (true≢false (sym here ∙ other))
     by_case false e = e
 
 -- ---- one item more
-
-on_end : (item : Item) (items : List Item) → reverse (item ∷ items) ≡ reverse items ++ item ∷ []
-on_end item items = reverse-append (item ∷ []) items
 
 goes_further : (bytes rest after : List ℕ) (earlier : List Item) (item : Item) (inside next : Bool)
     → GoesOn bytes earlier inside rest → GivesNext inside rest item next after
@@ -124,9 +100,6 @@ goes_further bytes rest after earlier item inside next parts gives goes_on more 
     ∙ ap (λ (xs : List Item). reverse earlier ++ xs) (gives goes_on more)
     ∙ sym (append_assoc (reverse earlier) (item ∷ []) (items_left goes_on next (after ++ more)))
     ∙ ap (λ (xs : List Item). xs ++ items_left goes_on next (after ++ more)) (sym (on_end item earlier))
-
-or_from : (a b : Bool) → a ≡ false → b ≡ false → (a || b) ≡ false
-or_from a b x y = ap (λ c. c || b) x ∙ y
 
 -- an item that isn't an end line was taken
 pub read_further : (old new : Intake) (bytes rest after : List ℕ) (item : Item) (next ended : Bool) → ended ≡ false
@@ -260,9 +233,6 @@ front_decides (Line key line ∷ items) last any = refl
 front_decides (NumberWord word ∷ items) last any = front_decides items last any
 front_decides (LineEnd ∷ items) last any = front_decides items last any
 
-turned : (item : Item) (items : List Item) → reverse (item ∷ items) ≡ reverse items ++ item ∷ []
-turned item items = reverse-append (item ∷ []) items
-
 closed_by_end : (items : List Item) → has_end_line (reverse (to_end_line items)) ≡ true
     → open_section (reverse (to_end_line items)) ≡ None
 closed_by_end [] any = absurd (false≢true any)
@@ -273,7 +243,7 @@ closed_by_end (item ∷ items) any = by_case (is_end_line item) refl (closed_by_
     by_case true e rest = ap (λ b. open_section (reverse (item ∷ cond b [] (to_end_line items)))) e ∙ end_opens_none item [] e
     by_case false e rest =
         let same : reverse (to_end_line (item ∷ items)) ≡ reverse (to_end_line items) ++ item ∷ [] =
-        ap (λ b. reverse (item ∷ cond b [] (to_end_line items))) e ∙ turned item (to_end_line items) in
+        ap (λ b. reverse (item ∷ cond b [] (to_end_line items))) e ∙ on_end item (to_end_line items) in
         let before : has_end_line (reverse (to_end_line items)) ≡ true =
         any_front (reverse (to_end_line items)) item e (sym (ap has_end_line same) ∙ any) in
         ap open_section same ∙ front_decides (reverse (to_end_line items)) item before ∙ rest before

@@ -1,37 +1,9 @@
 -- The lines of keywords as they are written are read back, field by field.
-use Rattle.std.proofs.Common.{◌≡◌, ℕ, ◌-◌, ◌^◌, ◌<◌, ◌≤◌, Bool, true, false, cond, List, [], ◌∷◌, ◌++◌, length, refl, sym, ap, ◌∙◌, arith, Option, Some, None, Result, reverse, take, append-nil}
-use Rattle.std.proofs.lemmas.Bool.{false≢true, true≢false, and_parts, leb-true, not-true, false_from_ne_true, le-ltb}
-use Rattle.std.proofs.lemmas.List.{reverse-append}
-use Rattle.std.proofs.lemmas.Option.{none-some}
-use Rattle.std.specs.Fmt.{decimal, signed_decimal}
-use Rattle.std.specs.List.{list_all}
-use Rattle.std.specs.Option.{option_map, option_and_then, option_or}
-use Rattle.std.specs.Prelude.{ℤ, pos, nat_le, nat_lt, slice_index, unsigned_abs, is_some, nat_abs, ◌&&◌, not, codes}
-use Rattle.std.specs.Result.{result_err, result_ok}
-use Rattle.tsp_number.specs.NumberWord.{whole_of}
-use Rattle.tsp_number.specs.declared.word.NumberFault.{NumberFault}
-use Rattle.tsp_format.specs.Limits.{keyword_of, most_nodes, most_capacity, most_scale, most_load_unit, most_line_bytes, most_kept_bytes, most_comments, most_others, shape_of, most_file_bytes}
-use Rattle.tsp_format.specs.Words.{is_blank, field_word, kind_word, weight_kind_word, weight_format_word, coord_kind_word, display_kind_word, fields_in_order}
-use Rattle.tsp_format.specs.declared.keyword.Field.{Field}
-use Rattle.tsp_format.specs.declared.keyword.Field.TheVariants.{NameKey, TypeKey, CommentKey, OtherKey, DimensionKey, CapacityKey, ScaleKey, LoadUnitKey, EdgeWeightTypeKey, EdgeWeightFormatKey, NodeCoordTypeKey, DisplayDataTypeKey, NodeCoordPart, DisplayDataPart, DemandPart, DepotPart, FixedEdgesPart, EdgeWeightPart, TourPart, NodePotentialPart, RowPotentialPart, ColumnPotentialPart, FixedEdgePotentialPart, CombPart, BranchPart}
-use Rattle.tsp_format.specs.declared.keyword.Keyword.TheVariants.{Known, Eof}
-use Rattle.tsp_format.specs.declared.keyword.Shape.{Shape}
-use Rattle.tsp_format.specs.declared.keyword.Shape.TheVariants.{Points, SpacePoints, Depots, Pairs, Weights, Tours, Triples, Combs, Steps}
+use Rattle.tsp_read.proofs.Prelude.{◌≡◌, ℕ, ◌-◌, ◌^◌, ◌<◌, ◌≤◌, Bool, true, false, cond, List, [], ◌∷◌, ◌++◌, length, refl, sym, ap, ◌∙◌, arith, Option, Some, None, Result, reverse, take, append-nil, false≢true, true≢false, and_parts, leb-true, not-true, false_from_ne_true, le-ltb, reverse-append, none-some, decimal, signed_decimal, list_all, option_map, option_and_then, option_or, ℤ, pos, nat_le, nat_lt, slice_index, unsigned_abs, is_some, nat_abs, ◌&&◌, not, codes, result_err, result_ok, whole_of, NumberFault, keyword_of, most_nodes, most_capacity, most_scale, most_load_unit, most_line_bytes, most_kept_bytes, most_comments, most_others, shape_of, most_file_bytes, is_blank, field_word, kind_word, weight_kind_word, weight_format_word, coord_kind_word, display_kind_word, fields_in_order, Field, NameKey, TypeKey, CommentKey, OtherKey, DimensionKey, CapacityKey, ScaleKey, LoadUnitKey, EdgeWeightTypeKey, EdgeWeightFormatKey, NodeCoordTypeKey, DisplayDataTypeKey, NodeCoordPart, DisplayDataPart, DemandPart, DepotPart, FixedEdgesPart, EdgeWeightPart, TourPart, NodePotentialPart, RowPotentialPart, ColumnPotentialPart, FixedEdgePotentialPart, FamilyPart, BranchPart, Known, Eof, Shape, Points, SpacePoints, Depots, Pairs, Weights, Tours, Triples, Families, Steps, keyword_line, optional, text_of_field, text_of, Fields, spatial, if_there, is_kept, is_from_to, is_node, is_other, fits, bad_field, clean_more, same_field_is, same_field, value_at, values_at, others_in, words_of, has_line, kind_named, weight_kind_named, weight_format_named, coord_kind_named, display_kind_named, read_as, dimension_in, may_repeat, row_of, when, first_row, coords_by_node, is_not_empty, first_word, Item, Line, LineEnd, word_line_of, items_of, settled_items, to_end_line, has_end_line, spelled, fault_in, IsClean, first_incomplete, fault_at_end, is_too_long, part, fault, ParsesTo, ReadFault}
 use Rattle.tsp_file.proofs.FieldLengths.{all_fit}
-use Rattle.tsp_file.specs.CanonicalText.{keyword_line, optional, text_of_field, text_of}
-use Rattle.tsp_file.specs.Fields.{Fields, spatial}
 use Rattle.tsp_file.specs.Rules.{standing_of, end_fault, fault_of}
-use Rattle.tsp_file.specs.Validity.{if_there, is_kept, is_from_to, is_node, is_other, fits, bad_field}
 use Rattle.tsp_file.specs.declared.rules.DraftFault.TheVariants.{BadField, Rule}
 use Rattle.tsp_file.specs.declared.rules.EndFault.{EndFault}
-use Rattle.tsp_text.proofs.SettledFaults.{clean_more}
-use Rattle.tsp_text.proofs.ValidRows.{same_field_is}
-use Rattle.tsp_text.specs.Earlier.{same_field, value_at, values_at, others_in, words_of, has_line, kind_named, weight_kind_named, weight_format_named, coord_kind_named, display_kind_named, read_as, dimension_in}
-use Rattle.tsp_text.specs.FaultRows.{may_repeat, row_of, when, first_row}
-use Rattle.tsp_text.specs.Groups.{coords_by_node}
-use Rattle.tsp_text.specs.Items.{is_not_empty, first_word, Item, Line, LineEnd, word_line_of, items_of, settled_items, to_end_line, has_end_line}
-use Rattle.tsp_text.specs.ParsesTo.{spelled, fault_in, IsClean, first_incomplete, fault_at_end, is_too_long, part, fault, ParsesTo}
-use Rattle.tsp_text.specs.declared.fault.ReadFault.{ReadFault}
 use Rattle.tsp_text.specs.declared.fault.ReadFault.TheVariants as faults
 use Rattle.tsp_read.proofs.NumbersReadBack.{NumberLaws, signed_plain, short_signed, size_from}
 use Rattle.tsp_read.proofs.Onto.{has_value, IsWhole, IsKeyword, written_line, value_text, text_length, kept, name_row, dimension_row, capacity_row, scale_row, load_unit_row, no_comment, comments_run, others_run, onto, onto_reversed, ended_at}
@@ -279,10 +251,10 @@ field_step laws f valid RowPotentialPart earlier ready = section_step laws f val
 field_step laws f valid ColumnPotentialPart earlier ready = section_step laws f valid ColumnPotentialPart _ refl earlier ready
 field_step laws f valid FixedEdgePotentialPart earlier ready =
     section_step laws f valid FixedEdgePotentialPart Triples refl earlier ready
-field_step laws f valid CombPart earlier ready = section_step laws f valid CombPart Combs refl earlier ready
+field_step laws f valid FamilyPart earlier ready = section_step laws f valid FamilyPart Families refl earlier ready
 field_step laws f valid BranchPart earlier ready = section_step laws f valid BranchPart Steps refl earlier ready
 
--- ---- what the items of a whole text say of each keyword and each section is what the file has
+-- ---- what the items of a whole text say of each keyword and each section is in the file
 
 -- what the words of a section give is what the file holds
 section_is : NumberLaws → (f : Fields) (items : List Item) → Stage f [] items → fits f DimensionKey ≡ true
@@ -356,7 +328,7 @@ spelled_is laws f items valid stage =
       row_potentials = read RowPotentialPart _ refl i;
       column_potentials = read ColumnPotentialPart _ refl i;
       fixed_potentials = read FixedEdgePotentialPart Triples refl i;
-      combs = read CombPart Combs refl i;
+      families = read FamilyPart Families refl i;
       branches = read BranchPart Steps refl i;
     }
 

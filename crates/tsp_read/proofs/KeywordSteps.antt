@@ -1,16 +1,5 @@
 -- A keyword's line sets its field, or is the first fault.
-use Rattle.std.proofs.Common.{◌≡◌, ◌≢◌, Bool, refl, subst, Some, None, cond, ℕ, true, false, List, ◌∷◌, set, get_or, sym, ap, ◌∙◌, Option, Result, Ok, Err}
-use Rattle.std.specs.List.{find}
-use Rattle.std.specs.Prelude.{ℤ, pos, nat_abs, nat_lt, is_some, is_none, not, ◌&&◌}
-use Rattle.std.specs.Result.{result_ok}
-use Rattle.tsp_number.specs.NumberWord.{whole_of}
-use Rattle.tsp_number.specs.declared.decimal.Point.{Point}
-use Rattle.tsp_number.specs.declared.word.NumberFault.{NumberFault}
-use Rattle.tsp_format.specs.Limits.{most_nodes, most_capacity, most_scale, most_load_unit, shape_of, value_shape_of, most_line_bytes, is_section_field}
-use Rattle.tsp_format.specs.Words.{kind_word, weight_kind_word, weight_format_word, coord_kind_word, display_kind_word, kinds, weight_kinds, weight_formats, coord_kinds, display_kinds}
-use Rattle.tsp_format.specs.declared.keyword.Field.{Field}
-use Rattle.tsp_format.specs.declared.keyword.Field.TheVariants.{NameKey, TypeKey, CommentKey, OtherKey, DimensionKey, CapacityKey, ScaleKey, LoadUnitKey, EdgeWeightTypeKey, EdgeWeightFormatKey, NodeCoordTypeKey, DisplayDataTypeKey, NodeCoordPart, DisplayDataPart, DemandPart, DepotPart, FixedEdgesPart, EdgeWeightPart, TourPart, NodePotentialPart, RowPotentialPart, ColumnPotentialPart, FixedEdgePotentialPart, CombPart, BranchPart}
-use Rattle.tsp_format.specs.declared.keyword.Keyword.TheVariants.{Known}
+use Rattle.tsp_read.proofs.Prelude.{◌≡◌, ◌≢◌, Bool, refl, subst, Some, None, cond, ℕ, true, false, List, ◌∷◌, set, get_or, sym, ap, ◌∙◌, Option, Result, Ok, Err, find, ℤ, pos, nat_abs, nat_lt, is_some, is_none, not, ◌&&◌, result_ok, whole_of, Point, NumberFault, most_nodes, most_capacity, most_scale, most_load_unit, shape_of, value_shape_of, most_line_bytes, is_section_field, kind_word, weight_kind_word, weight_format_word, coord_kind_word, display_kind_word, kinds, weight_kinds, weight_formats, coord_kinds, display_kinds, Field, NameKey, TypeKey, CommentKey, OtherKey, DimensionKey, CapacityKey, ScaleKey, LoadUnitKey, EdgeWeightTypeKey, EdgeWeightFormatKey, NodeCoordTypeKey, DisplayDataTypeKey, NodeCoordPart, DisplayDataPart, DemandPart, DepotPart, FixedEdgesPart, EdgeWeightPart, TourPart, NodePotentialPart, RowPotentialPart, ColumnPotentialPart, FixedEdgePotentialPart, FamilyPart, BranchPart, Known, Fields, spatial, stands_in, with_one_number, fields_of, clean_more, space_kept, coords_stay, first_stays, same_field, has_line, open_section, words_of, kind_named, weight_kind_named, weight_format_named, coord_kind_named, display_kind_named, is_left_out, says_space, spatial_after, dimension_in, row_of, is_late, coords_by_node, is_not_empty, first_word, WordLine, Item, Line, IsClean, fields_by, sections_in_order, first_incomplete, LineFault}
 use Rattle.tsp_format.specs.declared.keyword.ValueShape.{ValueShape}
 use Rattle.tsp_format.specs.declared.keyword.ValueShape.TheVariants.{Kept, KeptEach, Number, Word}
 use Rattle.tsp_format.specs.declared.kinds.CoordKind.{CoordKind}
@@ -18,17 +7,7 @@ use Rattle.tsp_format.specs.declared.kinds.DisplayKind.{DisplayKind}
 use Rattle.tsp_format.specs.declared.kinds.Kind.{Kind}
 use Rattle.tsp_format.specs.declared.kinds.WeightFormat.{WeightFormat}
 use Rattle.tsp_format.specs.declared.kinds.WeightKind.{WeightKind}
-use Rattle.tsp_file.specs.Fields.{Fields, spatial, stands_in, with_one_number}
-use Rattle.tsp_file.specs.states.Drafts.{fields_of}
-use Rattle.tsp_text.proofs.SettledFaults.{clean_more}
-use Rattle.tsp_text.proofs.ValidItems.{after_dimension}
-use Rattle.tsp_text.proofs.ValidRows.{space_kept, coords_stay, first_stays}
-use Rattle.tsp_text.specs.Earlier.{same_field, has_line, open_section, words_of, kind_named, weight_kind_named, weight_format_named, coord_kind_named, display_kind_named, is_left_out, says_space, spatial_after, dimension_in}
-use Rattle.tsp_text.specs.FaultRows.{row_of, is_late}
-use Rattle.tsp_text.specs.Groups.{coords_by_node}
-use Rattle.tsp_text.specs.Items.{is_not_empty, first_word, WordLine, Item, Line}
-use Rattle.tsp_text.specs.ParsesTo.{IsClean, fields_by, sections_in_order, first_incomplete}
-use Rattle.tsp_text.specs.declared.fault.LineFault.{LineFault}
+use Rattle.tsp_text.proofs.ValidItems.{stands_late}
 use Rattle.tsp_read.specs.declared.line.StepFault.{StepFault}
 use Rattle.tsp_read.specs.declared.line.StepFault.TheVariants as steps
 use Rattle.tsp_read.specs.declared.reading.OpenSection.{OpenSection}
@@ -69,7 +48,7 @@ by_keyword P p0 p1 p2 p3 p4 p5 p6 p7 p8 p9 p10 NodePotentialPart shape e = absur
 by_keyword P p0 p1 p2 p3 p4 p5 p6 p7 p8 p9 p10 RowPotentialPart shape e = absurd cc
 by_keyword P p0 p1 p2 p3 p4 p5 p6 p7 p8 p9 p10 ColumnPotentialPart shape e = absurd cc
 by_keyword P p0 p1 p2 p3 p4 p5 p6 p7 p8 p9 p10 FixedEdgePotentialPart shape e = absurd cc
-by_keyword P p0 p1 p2 p3 p4 p5 p6 p7 p8 p9 p10 CombPart shape e = absurd cc
+by_keyword P p0 p1 p2 p3 p4 p5 p6 p7 p8 p9 p10 FamilyPart shape e = absurd cc
 by_keyword P p0 p1 p2 p3 p4 p5 p6 p7 p8 p9 p10 BranchPart shape e = absurd cc
 
 ranged : (P : ℤ → ℤ → Type 0) (l h low high : ℤ) → P l h → Number l h ≡ Number low high → P low high
@@ -116,7 +95,7 @@ other_alone in_space NodePotentialPart shape k0 k1 k2 k3 k4 k5 k6 numbered = cc
 other_alone in_space RowPotentialPart shape k0 k1 k2 k3 k4 k5 k6 numbered = cc
 other_alone in_space ColumnPotentialPart shape k0 k1 k2 k3 k4 k5 k6 numbered = cc
 other_alone in_space FixedEdgePotentialPart shape k0 k1 k2 k3 k4 k5 k6 numbered = cc
-other_alone in_space CombPart shape k0 k1 k2 k3 k4 k5 k6 numbered = cc
+other_alone in_space FamilyPart shape k0 k1 k2 k3 k4 k5 k6 numbered = cc
 other_alone in_space BranchPart shape k0 k1 k2 k3 k4 k5 k6 numbered = cc
 
 -- ---- the line of a keyword with a word or a number as its value
@@ -417,7 +396,7 @@ dimension_field : (earlier : List Item) (line : WordLine) (z : ℤ)
     → has_line DepotPart earlier ≡ false → has_line FixedEdgesPart earlier ≡ false → has_line EdgeWeightPart earlier ≡ false
     → has_line NodePotentialPart earlier ≡ false → has_line RowPotentialPart earlier ≡ false
     → has_line ColumnPotentialPart earlier ≡ false → has_line FixedEdgePotentialPart earlier ≡ false
-    → has_line CombPart earlier ≡ false
+    → has_line FamilyPart earlier ≡ false
     → has_line BranchPart earlier ≡ false
     → (let fields = fields_by (λ field. has_line field earlier) earlier in record fields { dimension = Some (nat_abs z) })
     ≡ fields_by (is_closed (Line (Known DimensionKey) line ∷ earlier)) (Line (Known DimensionKey) line ∷ earlier)
@@ -430,7 +409,7 @@ dimension_first : (earlier : List Item) (line : WordLine) → has_line NodeCoord
     → has_line EdgeWeightPart earlier ≡ false → has_line NodePotentialPart earlier ≡ false
     → has_line RowPotentialPart earlier ≡ false
     → has_line ColumnPotentialPart earlier ≡ false → has_line FixedEdgePotentialPart earlier ≡ false
-    → has_line CombPart earlier ≡ false → has_line BranchPart earlier ≡ false
+    → has_line FamilyPart earlier ≡ false → has_line BranchPart earlier ≡ false
     → first_incomplete earlier ≡ find (is_closed_incomplete (Line (Known DimensionKey) line ∷ earlier)) sections_in_order
 dimension_first earlier line c0 c1 c2 c3 c4 c5 c6 c7 c8 c9 c10 c11 = rw (c0, c1, c2, c3, c4, c5, c6, c7, c8, c9, c10, c11) refl
 
@@ -441,7 +420,7 @@ none_before : (f : Field) (earlier : List Item) → is_section_field f ≡ true 
 none_before f earlier section other clean none = by_case (has_line f earlier) refl
   where
     by_case : (b : Bool) → has_line f earlier ≡ b → b ≡ false
-    by_case true e = sym (after_dimension f section other earlier clean e) ∙ none
+    by_case true e = sym (stands_late f section other earlier clean e) ∙ none
     by_case false e = refl
 
 dimension_taken : (old new : Reading) (line : WordLine) → TakesNumber old new line DimensionKey (pos 1) (pos most_nodes)
@@ -456,11 +435,11 @@ dimension_taken old new line z gives is same_first same_part earlier h short =
           ∙ dimension_field earlier line z gives.2 (none NodeCoordPart refl refl) (none DisplayDataPart refl refl)
           (none DemandPart refl refl) (none DepotPart refl refl) (none FixedEdgesPart refl refl) (none EdgeWeightPart refl refl)
           (none NodePotentialPart refl refl) (none RowPotentialPart refl refl) (none ColumnPotentialPart refl refl)
-          (none FixedEdgePotentialPart refl refl) (none CombPart refl refl) (none BranchPart refl refl);
+          (none FixedEdgePotentialPart refl refl) (none FamilyPart refl refl) (none BranchPart refl refl);
       incomplete = same_first ∙ h.incomplete ∙ dimension_first earlier line (none NodeCoordPart refl refl)
           (none DisplayDataPart refl refl) (none DemandPart refl refl) (none DepotPart refl refl) (none FixedEdgesPart refl refl)
           (none EdgeWeightPart refl refl) (none NodePotentialPart refl refl) (none RowPotentialPart refl refl)
-          (none ColumnPotentialPart refl refl) (none FixedEdgePotentialPart refl refl) (none CombPart refl refl)
+          (none ColumnPotentialPart refl refl) (none FixedEdgePotentialPart refl refl) (none FamilyPart refl refl)
           (none BranchPart refl refl);
       part = still_none old new (Line (Known DimensionKey) line ∷ earlier) refl same_part h.part;
     }

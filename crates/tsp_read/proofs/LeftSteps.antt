@@ -1,13 +1,6 @@
 -- The items of the rest of a text, by what it begins with: a blank, a line's end, a word line or a word.
-use Rattle.std.proofs.Common.{◌≡◌, ℕ, suc, ◌+◌, Bool, true, false, cond, List, [], ◌∷◌, ◌++◌, length, map, take, drop, refl, sym, ap, subst, ◌∙◌, arith, append-nil, take-append-drop}
-use Rattle.std.specs.Prelude.{not, ◌||◌, ◌&&◌, nat_lt}
-use Rattle.std.specs.List.{slice_split, onto_first, position_or_len, filter}
-use Rattle.std.proofs.lemmas.Bool.{eqb-true, ne_eqb}
-use Rattle.std.proofs.lemmas.Bool.Decides.{nat_tests}
-use Rattle.tsp_format.specs.Words.{is_blank, is_letter}
-use Rattle.tsp_format.specs.Limits.{most_word_bytes, most_line_bytes}
-use Rattle.tsp_text.specs.Items.{lines_of, words_in, ends_line, is_not_empty, without_start, begins, Item, NumberWord, LineEnd, line_item, items_in, items_by, items_of, settled_pieces, settled_words, settled_line, settled_in, settled_items}
-use Rattle.tsp_text.proofs.SettledItems.{start_blank, start_filled}
+use Rattle.tsp_read.proofs.Prelude.{◌≡◌, ℕ, ◌+◌, Bool, true, false, cond, List, [], ◌∷◌, ◌++◌, length, map, take, drop, refl, sym, ap, subst, ◌∙◌, arith, append-nil, take-append-drop, not, ◌||◌, ◌&&◌, nat_lt, slice_split, onto_first, position_or_len, filter, eqb-true, ne_eqb, or_parts, nat_tests, is_blank, is_letter, most_word_bytes, most_line_bytes, lines_of, words_in, ends_line, is_not_empty, without_start, begins, Item, NumberWord, LineEnd, line_item, items_in, items_by, items_of, settled_pieces, settled_words, settled_line, settled_in, settled_items, start_blank, start_filled, words_blank as settled_blank}
+use Rattle.std.proofs.Math.Numerals.{one-add}
 use Rattle.tsp_read.specs.states.Left.{items_of_rest, last_items, items_left_by, items_left, ends_word, up_to_first, from, is_settled}
 
 -- ---- pieces
@@ -70,13 +63,10 @@ not_cond b n e = ap (λ c. cond (not c) n 0) e
 not_cond_no : (b : Bool) (n : ℕ) → b ≡ false → cond (not b) n 0 ≡ n
 not_cond_no b n e = ap (λ c. cond (not c) n 0) e
 
-one_more : (n : ℕ) → 1 + n ≡ suc n
-one_more n = omega arith
-
 free_at : {X : Type 0} (p : X → Bool) (x : X) (xs : List X) (b : Bool) → p x ≡ b → FreeOf p (take (position_or_len p xs) xs)
     → FreeOf p (take (position_or_len p (x ∷ xs)) (x ∷ xs))
 free_at p x xs true e rest = rw (not_cond (p x) (1 + position_or_len p xs) e) tt
-free_at {X} p x xs false e rest = rw (not_cond_no (p x) (1 + position_or_len p xs) e, one_more (position_or_len p xs)) (e, rest)
+free_at {X} p x xs false e rest = rw (not_cond_no (p x) (1 + position_or_len p xs) e, one-add (position_or_len p xs)) (e, rest)
 
 pub free : {X : Type 0} (p : X → Bool) (xs : List X) → FreeOf p (take (position_or_len p xs) xs)
 free p [] = tt
@@ -85,7 +75,7 @@ free p (x ∷ xs) = free_at p x xs (p x) refl (free p xs)
 stops_at : {X : Type 0} (p : X → Bool) (x : X) (xs : List X) (b : Bool) → p x ≡ b → StopsAt p (drop (position_or_len p xs) xs)
     → StopsAt p (drop (position_or_len p (x ∷ xs)) (x ∷ xs))
 stops_at p x xs true e rest = rw (not_cond (p x) (1 + position_or_len p xs) e) e
-stops_at p x xs false e rest = rw (not_cond_no (p x) (1 + position_or_len p xs) e, one_more (position_or_len p xs)) rest
+stops_at p x xs false e rest = rw (not_cond_no (p x) (1 + position_or_len p xs) e, one-add (position_or_len p xs)) rest
 
 pub stops : {X : Type 0} (p : X → Bool) (xs : List X) → StopsAt p (drop (position_or_len p xs) xs)
 stops p [] = tt
@@ -102,14 +92,10 @@ blank_goes_on b e = ne_eqb b 10 (λ z. true≢false (is_blank b) e (ap is_blank 
 pub letter_filled : (b : ℕ) → is_letter b ≡ true → is_blank b ≡ false
 letter_filled b e = grind (arith, nat_tests)
 
-or_false : (a b : Bool) → (a || b) ≡ false → (a ≡ false) × (b ≡ false)
-or_false true b e = absurd cc
-or_false false b e = (refl, e)
-
 free_of_ends : (w : List ℕ) → FreeOf ends_word w → FreeOf is_blank w × FreeOf ends_line w
 free_of_ends [] free = (tt, tt)
 free_of_ends (b ∷ w) free =
-    let here = or_false (is_blank b) (ends_line b) free.0 in
+    let here = or_parts (is_blank b) (ends_line b) free.0 in
     let rest = free_of_ends w free.1 in
     ((here.0, rest.0), (here.1, rest.1))
 
@@ -132,15 +118,6 @@ start_is_filled (b ∷ bytes) = start_at b bytes (is_blank b) refl (start_is_fil
 
 words_blank : (b : ℕ) (line : List ℕ) → is_blank b ≡ true → words_in (b ∷ line) ≡ words_in line
 words_blank b line e = ap (filter is_not_empty) (split_yes is_blank b line e)
-
-settled_more : (pieces : List (List ℕ))
-    → filter is_not_empty (settled_pieces ([] ∷ pieces)) ≡ filter is_not_empty (settled_pieces pieces)
-settled_more [] = refl
-settled_more (piece ∷ pieces) = refl
-
-settled_blank : (b : ℕ) (line : List ℕ) → is_blank b ≡ true → settled_words (b ∷ line) ≡ settled_words line
-settled_blank b line e =
-    ap (λ pieces. filter is_not_empty (settled_pieces pieces)) (split_yes is_blank b line e) ∙ settled_more (slice_split is_blank line)
 
 -- a line's items by its start and its words
 abbrev by_start : (List ℕ → List Item) → List ℕ → List (List ℕ) → List Item
@@ -362,14 +339,14 @@ left_inside goes_on false b bytes filled more other =
 
 -- ---- by the part before the end of a line or a word, and the part from it on
 
-before_on : (test : ℕ → Bool) (b : ℕ) (bytes : List ℕ) → test b ≡ false
+pub before_on : (test : ℕ → Bool) (b : ℕ) (bytes : List ℕ) → test b ≡ false
     → up_to_first test (b ∷ bytes) ≡ b ∷ up_to_first test bytes
 before_on test b bytes e =
-    ap (λ n. take n (b ∷ bytes)) (not_cond_no (test b) (1 + position_or_len test bytes) e ∙ one_more (position_or_len test bytes))
+    ap (λ n. take n (b ∷ bytes)) (not_cond_no (test b) (1 + position_or_len test bytes) e ∙ one-add (position_or_len test bytes))
 
-from_on : (test : ℕ → Bool) (b : ℕ) (bytes : List ℕ) → test b ≡ false → from test (b ∷ bytes) ≡ from test bytes
+pub from_on : (test : ℕ → Bool) (b : ℕ) (bytes : List ℕ) → test b ≡ false → from test (b ∷ bytes) ≡ from test bytes
 from_on test b bytes e =
-    ap (λ n. drop n (b ∷ bytes)) (not_cond_no (test b) (1 + position_or_len test bytes) e ∙ one_more (position_or_len test bytes))
+    ap (λ n. drop n (b ∷ bytes)) (not_cond_no (test b) (1 + position_or_len test bytes) e ∙ one-add (position_or_len test bytes))
 
 cut_here : (test : ℕ → Bool) (b : ℕ) (bytes : List ℕ) → b ∷ bytes ≡ (b ∷ up_to_first test bytes) ++ from test bytes
 cut_here test b bytes = ap (λ xs. b ∷ xs) (sym (take-append-drop (position_or_len test bytes) bytes))

@@ -1,4 +1,5 @@
 -- The files of lemmas of this crate. Crates above may import them.
+mod Prelude
 pub mod ListSteps
 pub mod SectionLists
 pub mod GroupSteps
@@ -19,7 +20,7 @@ pub mod NumbersReadBack
 pub mod Groups
 pub mod SectionFields
 pub mod Words
-pub mod CombWords
+pub mod FamilyWords
 pub mod TreeWords
 pub mod Shapes
 pub mod Stages

@@ -1,23 +1,7 @@
 -- Lists of nodes that -1 ends, one word more, and lines that are scanned.
-use Rattle.std.proofs.Common.{◌≡◌, ℕ, suc, List, [], ◌∷◌, ◌++◌, length, map, get_or, refl, ap, Option, None, Some, Ok, ◌+◌, ◌<◌, Bool, true, false, sym, ◌∙◌, arith, ◌≢◌, ◌≤◌, subst, Err, ap₂, cond, drop}
-use Rattle.std.proofs.lemmas.Bool.{lt-leb, le-leb, false_from_ne_true, ltb-true, ltb-false}
-use Rattle.std.proofs.lemmas.Bool.Decides.{nat_tests, Decides-int_eq}
-use Rattle.std.proofs.lemmas.List.{map_push, length_push}
-use Rattle.std.proofs.lemmas.List.Sums.{prefix_len-le-length}
-use Rattle.std.proofs.lemmas.Option.{cond_some}
-use Rattle.std.specs.List.{list_any, prefix_len, position, position_or_len}
-use Rattle.std.specs.Option.{option_map}
-use Rattle.std.specs.Ordering.{int_eq}
-use Rattle.std.specs.Prelude.{ℤ, Result, pos, negsuc, nat_abs, nat_le, ◌==◌, is_some, not}
-use Rattle.tsp_number.specs.declared.word.NumberFault.{NumberFault}
-use Rattle.tsp_format.specs.Limits.{most_depots, most_fixed}
-use Rattle.tsp_text.proofs.GroupWords.{Words, goes_on, group_ends, firsts_begin, firsts_on, firsts_kept, groups_kept, groups_none}
-use Rattle.tsp_text.proofs.ValidKeywords.{and_false, any_kept, any_push, before_kept, before_none, before_end, before_push}
-use Rattle.tsp_text.specs.FaultRows.{word_fault, when, first_row}
-use Rattle.tsp_text.specs.Groups.{place_of_depot, groups_in, begun_in, firsts_in, place_in_list, fixed_pair, place_in_pair, place_of_fixed}
-use Rattle.tsp_text.specs.SectionWords.{number, node_or_end, is_end, is_minus_one, Place, PastEnd, DepotAfter, node, FirstAfter, SecondOf}
-use Rattle.tsp_text.specs.ParsesTo.{wants_more}
-use Rattle.tsp_text.specs.declared.fault.LineFault.{LineFault}
+use Rattle.tsp_read.proofs.Prelude.{◌≡◌, ℕ, suc, List, [], ◌∷◌, ◌++◌, length, map, get_or, refl, ap, Option, None, Some, Ok, ◌+◌, ◌<◌, Bool, true, false, sym, ◌∙◌, arith, ◌≢◌, ◌≤◌, subst, ap₂, cond, drop, lt-leb, false_from_ne_true, ltb-true, ltb-false, nat_tests, Decides-int_eq, map_push, length_push, prefix_len-le-length, cond_some, list_any, prefix_len, position, position_or_len, option_map, int_eq, ℤ, Result, pos, negsuc, nat_abs, nat_le, ◌==◌, is_some, not, NumberFault, most_depots, most_fixed, Words, goes_on, group_ends, firsts_begin, firsts_on, firsts_kept, groups_kept, groups_none, word_fault, when, first_row, place_of_depot, groups_in, begun_in, firsts_in, place_in_list, fixed_pair, place_in_pair, place_of_fixed, number, node_or_end, is_end, is_minus_one, Place, PastEnd, DepotAfter, node, FirstAfter, SecondOf, wants_more, LineFault}
+use Rattle.std.proofs.Math.Bool.{and-false}
+use Rattle.tsp_text.proofs.ValidKeywords.{any_kept, any_push, before_kept, before_none, before_end, before_push}
 use Rattle.tsp_text.specs.declared.fault.LineFault.TheVariants as row
 use Rattle.tsp_read.specs.states.Parts.{AreReadAs, DepotsHold, ListHolds, PairsHold}
 
@@ -63,7 +47,7 @@ past_end_clean n place word e minus_one = rw (e, minus_one) refl
 -- the end
 end_clean : (n : ℕ) (place : Place) (word : List ℕ) (count : ℕ) → place ≡ DepotAfter count → node_or_end n word ≡ Ok (negsuc 0)
     → word_fault n place word ≡ None
-end_clean n place word count e read = rw (e, read, and_false (nat_le most_depots count)) refl
+end_clean n place word count e read = rw (e, read, and-false (nat_le most_depots count)) refl
 
 -- a depot within the limit
 depot_clean : (n : ℕ) (place : Place) (word : List ℕ) (count k : ℕ) → place ≡ DepotAfter count → node_or_end n word ≡ Ok (pos k)
@@ -166,18 +150,6 @@ module _ {X : Type 0} {size : ℕ} {value : Words → X} {reads : List Reader} {
 
   -- ---- words with a fault
 
-  pub first_bad : (word : List ℕ) (fault : NumberFault) → ended ≡ false → first ≡ None → node_or_end n word ≡ Err fault
-      → word_fault n (place_in_list size in_group n words) word ≡ Some (row.Number fault)
-  first_bad word fault open_ended is read = rw (place_of_first open_ended is, read) refl
-
-  pub first_surplus : (word : List ℕ) (k : ℕ) → ended ≡ false → first ≡ None → node_or_end n word ≡ Ok (pos k) → most_fixed ≤ length groups
-      → word_fault n (place_in_list size in_group n words) word ≡ Some row.Surplus
-  first_surplus word k open_ended is read many = rw (place_of_first open_ended is, read, le-leb most_fixed (length groups) many) refl
-
-  pub second_bad : (word : List ℕ) (k : ℕ) (fault : NumberFault) → ((rest : Words) → AreReadAs reads kept rest → rest ≡ []) → ended ≡ false → first ≡ Some k
-      → node n word ≡ Err fault → word_fault n (place_in_list size in_group n words) word ≡ Some (row.Number fault)
-  second_bad word k fault alone open_ended is read = rw (place_of_second k open_ended is alone, read) refl
-
   pub second_same : (word : List ℕ) (k : ℕ) → ((rest : Words) → AreReadAs reads kept rest → rest ≡ []) → ended ≡ false → first ≡ Some k
       → node n word ≡ Ok (pos k) → word_fault n (place_in_list size in_group n words) word ≡ Some row.SelfEdge
   second_same word k alone open_ended is read =
@@ -211,7 +183,7 @@ module _ {X : Type 0} {size : ℕ} {value : Words → X} {reads : List Reader} {
   list_ends word on e is read =
       let start = none_begun e is in
       let end : is_end n word ≡ true = rw read refl in (
-        rw (place_of_first e is, read, and_false (nat_le most_fixed (length groups))) refl,
+        rw (place_of_first e is, read, and-false (nat_le most_fixed (length groups))) refl,
         record {
           list = rw (goes_on size words [] word start.0 on).0 h.list;
           closed = sym (ap (list_any (is_end n)) (firsts_begin size words word start.0) ∙ any_push (is_end n) (firsts_in size words) word (still_open e) ∙ end);

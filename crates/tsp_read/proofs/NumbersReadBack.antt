@@ -1,35 +1,15 @@
 -- Numbers that the canonical text writes, alone or in lists, are read back.
-use Rattle.std.proofs.Common.{◌≡◌, ℕ, suc, zero, ◌+◌, ◌/◌, ◌%◌, ◌^◌, ◌<◌, ◌≤◌, Bool, true, false, cond, List, [], ◌∷◌, ◌++◌, length, refl, sym, ap, ◌∙◌, arith, append-nil, inl, inr, Result, Ok, Err, ◌*◌, map, Option, None, ap₂, append_assoc}
+use Rattle.tsp_read.proofs.Prelude.{◌≡◌, ℕ, suc, zero, ◌+◌, ◌/◌, ◌%◌, ◌^◌, ◌<◌, ◌≤◌, Bool, true, false, cond, List, [], ◌∷◌, ◌++◌, length, refl, sym, ap, ◌∙◌, arith, append-nil, inl, inr, Result, Ok, Err, ◌*◌, map, Option, None, ap₂, append_assoc, true≢false, and_from, and_parts, le-leb, leb-true, false_from_ne_true, lt-leb, eq-eqb, and_right, and_left, not_from_true, not-true, or_right, Decides-int_eq, length_push, map_push, list_all-append, list_any-append, decimal, signed_decimal, list_all, list_any, flat_map, option_map, int_eq, ℤ, pos, negsuc, ◌*ℤ◌, ◌≤ℤ◌, ◌==◌, nat_le, int_le, unsigned_abs, codes, not, ◌&&◌, nat_abs, ◌||◌, take, result_err, unit, most_count, minus, point, IsSign, Numeral, with_sign, shift_of, StandsFor, ReadsDecimal, ReadsWhole, decimal_of, whole_of, decimals, fraction_spelling, size_spelling, spelling, NumberFault, most_families, most_weight, most_depots, most_fixed, most_multiplier, within_abs, is_from_to, is_within, is_node, is_pair_of, is_branch_of, is_triple_of, Words, first_of, goes_on, firsts_begin, groups_append, begun_append, firsts_on, when, first_row, word_fault, before, depots_in, place_of_depot, groups_in, begun_in, word_at, listed_in, firsts_in, place_in_list, fixed_pair, place_in_pair, fixed_triple, place_in_triple, is_not_empty, node, node_or_end, is_end, not_zero, reads_as, number, whole_of_size, DepotAfter, FirstAfter, SecondOf, PastEnd, Weight, PastWeights, weights_in, place_of_weight, Place, Amount, wants_more}
 use Rattle.std.proofs.Math.Nat.{pow-suc}
-use Rattle.std.proofs.lemmas.Bool.{true≢false, and_from, and_parts, le-leb, leb-true, false_from_ne_true, lt-leb, eq-eqb, and_right, and_left, not_from_true, not-true, or_right}
-use Rattle.std.proofs.lemmas.Bool.Decides.{Decides-int_eq}
 use Rattle.std.proofs.lemmas.Float.{T_from_true}
 use Rattle.std.proofs.lemmas.Fmt.{decimal_is_IsNumeral, length-decimal-le, decimal_digit}
-use Rattle.std.proofs.lemmas.List.{length_push, map_push}
-use Rattle.std.proofs.lemmas.List.Folds.{list_all-append, list_any-append}
 use Rattle.std.proofs.lemmas.Nat.{mod_below, div_below}
 use Rattle.std.proofs.lemmas.Str.Parse.{digit_from_value}
 use Rattle.std.specs.Char.{digit_value}
-use Rattle.std.specs.Fmt.{decimal, signed_decimal}
-use Rattle.std.specs.List.{list_all, list_any, flat_map}
-use Rattle.std.specs.Option.{option_map}
-use Rattle.std.specs.Ordering.{int_eq}
-use Rattle.std.specs.Prelude.{ℤ, pos, negsuc, neg_ℤ, ◌*ℤ◌, ◌≤ℤ◌, ◌==◌, nat_le, int_le, unsigned_abs, codes, not, ◌&&◌, nat_abs, ◌||◌, take}
-use Rattle.std.specs.Result.{result_err}
 use Rattle.std.specs.Str.Parse.{AllDigits, digits_value}
-use Rattle.tsp_number.specs.Decimal.{unit, most_count}
-use Rattle.tsp_number.specs.NumberWord.{minus, point, IsSign, Numeral, with_sign, shift_of, StandsFor, ReadsDecimal, ReadsWhole, decimal_of, whole_of, decimals, fraction_spelling, size_spelling, spelling}
-use Rattle.tsp_number.specs.declared.word.NumberFault.{NumberFault}
+use Rattle.tsp_number.proofs.Scaling.{pow_above_zero}
 use Rattle.tsp_number.specs.declared.word.NumberFault.TheVariants.{OutOfRange}
-use Rattle.tsp_format.specs.Limits.{most_combs, most_weight, most_depots, most_fixed, most_multiplier}
-use Rattle.tsp_file.specs.Validity.{is_from_to, is_within, is_node, is_pair_of, is_branch_of, is_triple_of}
-use Rattle.tsp_text.proofs.GroupWords.{Words, first_of, goes_on, firsts_begin, groups_append, begun_append, firsts_on}
 use Rattle.tsp_text.proofs.ValidKeywords.{any_push}
-use Rattle.tsp_text.specs.FaultRows.{when, first_row, word_fault}
-use Rattle.tsp_text.specs.Groups.{before, depots_in, place_of_depot, groups_in, begun_in, word_at, listed_in, firsts_in, place_in_list, fixed_pair, place_in_pair, fixed_triple, place_in_triple}
-use Rattle.tsp_text.specs.Items.{is_not_empty}
-use Rattle.tsp_text.specs.SectionWords.{node, node_or_end, is_end, not_zero, reads_as, number, whole_of_size, DepotAfter, FirstAfter, SecondOf, PastEnd, Weight, PastWeights, weights_in, place_of_weight, Place, Amount}
-use Rattle.tsp_text.specs.ParsesTo.{wants_more}
 use Rattle.tsp_text.specs.declared.fault.LineFault.TheVariants as row
 use Rattle.tsp_read.proofs.Onto.{AllTaken, taken-append}
 use Rattle.tsp_read.proofs.Text.{is_plain, is_plain_word}
@@ -76,16 +56,12 @@ pub signed_plain : (z : ℤ) → unsigned_abs z < 2 ^ 64 → is_plain_word (sign
 signed_plain (pos n) small = decimal_plain n small
 signed_plain (negsuc n) small = after_minus (decimal (suc n)) (decimal_plain (suc n) small)
 
-above_zero : (places : ℕ) → 0 < 10 ^ places
-above_zero zero = omega arith
-above_zero (suc places) = omega (arith, pow-suc 10 places, above_zero places)
-
 decimals_plain : (places rest : ℕ) → rest < 10 ^ places → list_all is_plain (decimals places rest) ≡ true
 unfolding decimals
 decimals_plain zero rest part = refl
 decimals_plain (suc places) rest part =
-    let first : rest / 10 ^ places < 10 = div_below rest (10 ^ places) 10 (above_zero places) (omega (arith, pow-suc 10 places)) in
-    let more = decimals_plain places (rest % 10 ^ places) (mod_below rest (10 ^ places) (above_zero places)) in
+    let first : rest / 10 ^ places < 10 = div_below rest (10 ^ places) 10 (pow_above_zero places) (omega (arith, pow-suc 10 places)) in
+    let more = decimals_plain places (rest % 10 ^ places) (mod_below rest (10 ^ places) (pow_above_zero places)) in
     by_case (rest == 0) (and_from (is_plain (48 + rest / 10 ^ places)) (list_all is_plain (decimals places (rest % 10 ^ places)))
     (plain_range (48 + rest / 10 ^ places) (omega arith) (omega arith)) more)
   where
@@ -170,14 +146,6 @@ number_laws laws = record {
       (short_signed z small, stands_signed z small, lower, upper);
   decimal_back = λ k most. laws.round_trip k (decimal_of (spelling k)) most (laws.some_decimal (spelling k));
 }
-
--- a number within a limit
-pub size_in : (most : ℕ) (z : ℤ) → is_within most z ≡ true → unsigned_abs z ≤ most
-size_in most (pos n) e = leb-true n most (and_parts (int_le (neg_ℤ (pos most)) (pos n)) (nat_le n most) e).1
-size_in zero (negsuc n) e = absurd (true≢false (sym (and_parts (int_le (neg_ℤ (pos zero)) (negsuc n)) true e).0))
-size_in (suc m) (negsuc n) e =
-    let below = leb-true n m (and_parts (int_le (neg_ℤ (pos (suc m))) (negsuc n)) true e).0 in
-    omega arith
 
 -- a number of a range of natural numbers
 pub size_from : (low most : ℕ) (z : ℤ) → is_from_to (pos low) (pos most) z ≡ true → unsigned_abs z ≤ most
@@ -306,23 +274,23 @@ are_pair n pair fits =
     let each = and_parts (is_node n pair.0) (is_node n pair.1) parts.0 in
     record { first = each.0; second = each.1; differ = not-true (pair.0 == pair.1) parts.1 }
 
--- the index of a node or of some comb, and another number of 1..n
+-- the index of a node or of some family, and another number of 1..n
 pub record AreBranch (n a b : ℕ) : Type 0 where
-  pub first : is_node (n + most_combs) a ≡ true
+  pub first : is_node (n + most_families) a ≡ true
   pub second : is_node n b ≡ true
   pub differ : (a == b) ≡ false
 
 pub are_branch : (n : ℕ) (branch : ℕ × ℕ) → is_branch_of n branch ≡ true → AreBranch n branch.0 branch.1
 are_branch n branch fits =
-    let parts = and_parts (is_node (n + most_combs) branch.0 && is_node n branch.1) (not (branch.0 == branch.1)) fits in
-    let each = and_parts (is_node (n + most_combs) branch.0) (is_node n branch.1) parts.0 in
+    let parts = and_parts (is_node (n + most_families) branch.0 && is_node n branch.1) (not (branch.0 == branch.1)) fits in
+    let each = and_parts (is_node (n + most_families) branch.0) (is_node n branch.1) parts.0 in
     record { first = each.0; second = each.1; differ = not-true (branch.0 == branch.1) parts.1 }
 
 -- ---- weights
 
 weight_back : NumberLaws → (z : ℤ) → is_within most_weight z ≡ true → whole_of_size most_weight (signed_decimal z) ≡ Ok z
 weight_back laws z inside =
-    let small = size_in most_weight z inside in
+    let small = within_abs most_weight z inside in
     laws.whole_back z _ _ (omega (arith, small)) inside
 
 pub weights_taken : NumberLaws → (n : ℕ) (earlier : List (List ℕ)) (weights : List ℤ) → length earlier + length weights ≤ n * n

@@ -1,29 +1,9 @@
 -- Items in front of a text that is read on: lines, keywords and words.
-use Rattle.std.proofs.Common.{◌≡◌, ℕ, suc, ◌+◌, ◌-◌, Bool, true, false, cond, List, [], ◌∷◌, ◌++◌, length, get_or, map, reverse, refl, sym, ap, ◌∙◌, arith, append_assoc, subst, append-nil, None, Some, ◌≤◌, length-append}
-use Rattle.std.proofs.Math.ListN.{take, drop}
-use Rattle.std.proofs.lemmas.Bool.{false≢true, and_from, and_parts, true≢false, leb-true, le-ltb, lt-leb, not-true, false_from_ne_true}
-use Rattle.std.proofs.lemmas.Bool.Decides.{nat_tests}
-use Rattle.std.proofs.lemmas.List.{take_at, drop_at, reverse-reverse, get_or-reverse, reverse-append}
-use Rattle.std.proofs.lemmas.List.Folds.{list_all-append}
-use Rattle.std.specs.List.{list_all, prefix_len, fold, flat_map}
-use Rattle.std.specs.Option.{option_and_then}
-use Rattle.std.specs.Prelude.{not, slice_index, is_some, ◌||◌, ◌&&◌, ◌==◌, nat_le, nat_lt}
-use Rattle.std.specs.Result.{result_err}
-use Rattle.tsp_format.specs.Limits.{keyword_of, most_line_bytes, most_kept_bytes, most_comments, is_unknown, most_others}
-use Rattle.tsp_format.specs.Words.{is_blank, is_letter, is_keyword_byte, field_word}
-use Rattle.tsp_format.specs.declared.keyword.Field.{Field}
-use Rattle.tsp_format.specs.declared.keyword.Field.TheVariants.{NameKey, CommentKey, DimensionKey, CapacityKey, ScaleKey, LoadUnitKey}
+use Rattle.tsp_read.proofs.Prelude.{◌≡◌, ℕ, suc, ◌+◌, ◌-◌, Bool, true, false, cond, List, [], ◌∷◌, ◌++◌, length, get_or, map, reverse, refl, sym, ap, ◌∙◌, arith, append_assoc, subst, append-nil, None, Some, ◌≤◌, length-append, take, drop, false≢true, and_from, and_parts, true≢false, leb-true, le-ltb, lt-leb, not-true, false_from_ne_true, nat_tests, take_at, drop_at, reverse-reverse, get_or-reverse, reverse-append, list_all-append, list_all, prefix_len, fold, flat_map, option_and_then, not, slice_index, is_some, ◌||◌, ◌&&◌, ◌==◌, nat_le, nat_lt, result_err, keyword_of, most_line_bytes, most_kept_bytes, most_comments, is_unknown, most_others, is_blank, is_letter, is_keyword_byte, field_word, Field, NameKey, CommentKey, DimensionKey, CapacityKey, ScaleKey, LoadUnitKey, Known, EdgeDataFormat, EdgeDataSection, Eof, Unknown, blank_before, value_line, keyword_line, other_line, is_kept, is_unknown_keyword, is_other, clean_more, same_field_is, rows_of_word, words_more, is_key, has_line, value_at, values_at, others_in, open_section, is_open, words_of, spatial_after, place_in, dimension_in, same_field, read_as, word_fault, row_of, may_repeat, is_too_long_to_keep, ends_line, without_start, without_end, begins, is_word_line, keyword_in, after_keyword, is_colon, has_colon, value_in, words_in, WordLine, Item, Line, NumberWord, LineEnd, word_line_of, line_item, items_in, items_of, has_no_line_end, has_end_line, to_end_line, is_end_line, is_not_empty, Place, IsClean}
+use Rattle.std.proofs.Math.Numerals.{one-add}
 use Rattle.tsp_format.specs.declared.keyword.Keyword.{Keyword}
-use Rattle.tsp_format.specs.declared.keyword.Keyword.TheVariants.{Known, EdgeDataFormat, EdgeDataSection, Eof, Unknown}
-use Rattle.tsp_file.specs.CanonicalText.{blank_before, value_line, keyword_line, other_line}
-use Rattle.tsp_file.specs.Validity.{is_kept, is_unknown_keyword, is_other}
-use Rattle.tsp_text.proofs.SettledFaults.{clean_more}
-use Rattle.tsp_text.proofs.ValidRows.{same_self, same_field_is}
-use Rattle.tsp_text.specs.Earlier.{is_key, has_line, value_at, values_at, others_in, open_section, is_open, words_of, spatial_after, place_in, dimension_in, same_field, read_as}
-use Rattle.tsp_text.specs.FaultRows.{word_fault, row_of, may_repeat, is_too_long_to_keep}
-use Rattle.tsp_text.specs.Items.{ends_line, without_start, without_end, begins, is_word_line, keyword_in, after_keyword, is_colon, has_colon, value_in, words_in, WordLine, Item, Line, NumberWord, LineEnd, word_line_of, line_item, items_in, items_of, has_no_line_end, has_end_line, to_end_line, is_end_line, is_not_empty}
-use Rattle.tsp_text.specs.SectionWords.{Place}
-use Rattle.tsp_text.specs.ParsesTo.{IsClean}
+use Rattle.tsp_file.proofs.FieldLengths.{blank_short}
+use Rattle.tsp_read.proofs.LeftSteps.{letter_filled}
 use Rattle.tsp_read.proofs.Text.{Writes, line_written, all_such, number_words, are_numbers, nothing_written, both_written}
 
 -- ---- blanks
@@ -45,15 +25,12 @@ blank_gone (b ∷ value) e = ap (λ blank. drop (1 + cond blank (1 + prefix_len 
 
 -- ---- the keyword
 
-one_more : (n : ℕ) → 1 + n ≡ suc n
-one_more n = omega arith
-
 prefix_is : (p : ℕ → Bool) (front : List ℕ) (y : ℕ) (rest : List ℕ) → list_all p front ≡ true → p y ≡ false
     → prefix_len p (front ++ y ∷ rest) ≡ length front
 prefix_is p [] y rest all e = ap (λ b. cond b (1 + prefix_len p rest) 0) e
 prefix_is p (x ∷ front) y rest all e =
     let both = and_parts (p x) (list_all p front) all in
-    ap (λ b. cond b (1 + prefix_len p (front ++ y ∷ rest)) 0) both.0 ∙ one_more (prefix_len p (front ++ y ∷ rest)) ∙ ap suc (prefix_is p front y rest both.1 e)
+    ap (λ b. cond b (1 + prefix_len p (front ++ y ∷ rest)) 0) both.0 ∙ one-add (prefix_len p (front ++ y ∷ rest)) ∙ ap suc (prefix_is p front y rest both.1 e)
 
 -- the text of a keyword and its value
 abbrev pub value_text : List ℕ → List ℕ → List ℕ
@@ -103,9 +80,6 @@ line_found keyword value key whole =
     let line : word_line_of text ≡ written_line keyword value =
     same_line (length text) (keyword_in text) keyword (has_colon text) (value_in text) value found colon (value_found text value after whole) in
     ap (λ (word : List ℕ). Line (keyword_of word) (word_line_of text)) found ∙ ap (λ (l : WordLine). Line (keyword_of keyword) l) line
-
-letter_filled : (b : ℕ) → is_letter b ≡ true → is_blank b ≡ false
-letter_filled b e = grind (arith, nat_tests)
 
 first_letter : (keyword rest : List ℕ) → is_letter (slice_index keyword 0) ≡ true
     → (without_start (keyword ++ rest) ≡ keyword ++ rest) × (begins is_letter (keyword ++ rest) ≡ true)
@@ -264,10 +238,6 @@ other_words field (NumberWord word ∷ items) earlier numbers closed =
     other_words field items (NumberWord word ∷ earlier) numbers closed ∙ ap (λ b. cond b (words_of field earlier ++ word ∷ []) (words_of field earlier)) closed
 other_words field (LineEnd ∷ items) earlier numbers closed = other_words field items (LineEnd ∷ earlier) numbers closed
 
-word_added : (earlier : List Item) (word : List ℕ) (f : Field) → open_section earlier ≡ Some f
-    → words_of f (NumberWord word ∷ earlier) ≡ words_of f earlier ++ word ∷ []
-word_added earlier word f opened = rw (opened, same_self f) refl
-
 -- the words of the open section
 pub section_words : (field : Field) (items earlier : List Item) → are_numbers items ≡ true → open_section earlier ≡ Some field
     → words_of field (onto items earlier) ≡ words_of field earlier ++ number_words items
@@ -275,15 +245,11 @@ section_words field [] earlier numbers opened = sym (append-nil (words_of field 
 section_words field (Line key line ∷ items) earlier numbers opened = absurd (false≢true numbers)
 section_words field (NumberWord word ∷ items) earlier numbers opened =
     section_words field items (NumberWord word ∷ earlier) numbers opened
-    ∙ ap (λ (ws : List (List ℕ)). ws ++ number_words items) (word_added earlier word field opened)
+    ∙ ap (λ (ws : List (List ℕ)). ws ++ number_words items) (words_more earlier word field opened)
     ∙ append_assoc (words_of field earlier) (word ∷ []) (number_words items)
 section_words field (LineEnd ∷ items) earlier numbers opened = section_words field items (LineEnd ∷ earlier) numbers opened
 
 -- ---- no row applies to the words
-
-word_row : (earlier : List Item) (word : List ℕ) (f : Field) → open_section earlier ≡ Some f
-    → row_of earlier (NumberWord word) ≡ word_fault (dimension_in earlier) (place_in (spatial_after earlier) f (dimension_in earlier) (words_of f earlier)) word
-word_row earlier word f opened = rw opened refl
 
 pub words_clean : (field : Field) (n : ℕ) (items earlier : List Item) → are_numbers items ≡ true → IsClean earlier
     → open_section earlier ≡ Some field → dimension_in earlier ≡ n
@@ -293,9 +259,9 @@ words_clean field n [] earlier numbers clean opened nodes taken = clean
 words_clean field n (Line key line ∷ items) earlier numbers clean opened nodes taken = absurd (false≢true numbers)
 words_clean field n (NumberWord word ∷ items) earlier numbers clean opened nodes taken =
     let row : row_of earlier (NumberWord word) ≡ None =
-    word_row earlier word field opened ∙ ap (λ m. word_fault m (place_in (spatial_after earlier) field m (words_of field earlier)) word) nodes ∙ taken.0 in
+    rows_of_word earlier word field opened ∙ ap (λ m. word_fault m (place_in (spatial_after earlier) field m (words_of field earlier)) word) nodes ∙ taken.0 in
     words_clean field n items (NumberWord word ∷ earlier) numbers (clean_more earlier (NumberWord word) clean row) opened nodes
-    (subst (λ (ws : List (List ℕ)). AllTaken n (place_in (spatial_after earlier) field n) ws (number_words items)) (sym (word_added earlier word field opened)) taken.1)
+    (subst (λ (ws : List (List ℕ)). AllTaken n (place_in (spatial_after earlier) field n) ws (number_words items)) (sym (words_more earlier word field opened)) taken.1)
 words_clean field n (LineEnd ∷ items) earlier numbers clean opened nodes taken =
     words_clean field n items (LineEnd ∷ earlier) numbers (clean_more earlier LineEnd clean refl) opened nodes taken
 
@@ -321,14 +287,10 @@ pub record Kept (keyword value : List ℕ) : Type 0 where
   pub short : nat_lt most_line_bytes (length (value_text keyword value)) ≡ false
   pub room : nat_lt most_kept_bytes (length keyword + length value) ≡ false
 
-after_length : (value : List ℕ) → length (blank_before value) ≤ length value + 1
-after_length [] = omega arith
-after_length (b ∷ value) = omega arith
-
 pub text_length : (keyword value : List ℕ) (most : ℕ) → length keyword + length value ≤ most → most ≤ 4000
     → nat_lt most_line_bytes (length (value_text keyword value)) ≡ false
 text_length keyword value most few limit =
-    le-ltb most_line_bytes (length (value_text keyword value)) (omega (arith, length-append keyword (32 ∷ 58 ∷ blank_before value), after_length value))
+    le-ltb most_line_bytes (length (value_text keyword value)) (omega (arith, length-append keyword (32 ∷ 58 ∷ blank_before value), blank_short value))
 
 pub kept : (keyword value : List ℕ) → is_kept keyword value ≡ true → Kept keyword value
 kept keyword value e =

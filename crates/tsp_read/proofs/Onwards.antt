@@ -1,20 +1,8 @@
 -- The next item of a text that comes in pieces, and what holds whatever bytes follow.
-use Rattle.std.proofs.Common.{◌≡◌, ℕ, ◌≤◌, Bool, true, false, List, [], ◌∷◌, ◌++◌, length, refl, sym, ap, subst, ◌∙◌, arith, append-nil, Option, None, Some, Ok, cond, append_assoc, suc, ◌+◌, ◌<◌, take, drop}
-use Rattle.std.proofs.lemmas.Bool.{ne_eqb, lt-ltb}
-use Rattle.std.proofs.lemmas.List.{reverse-append, reverse-reverse, nil_from_length}
-use Rattle.std.specs.List.{position_or_len}
-use Rattle.std.specs.Option.{option_or, option_map}
-use Rattle.std.specs.Prelude.{reverse, IfSome, not, ◌||◌, ◌&&◌, ◌==◌, nat_lt}
-use Rattle.tsp_format.specs.Limits.{most_word_bytes, most_line_bytes}
-use Rattle.tsp_format.specs.Words.{is_blank, is_letter}
+use Rattle.tsp_read.proofs.Prelude.{◌≡◌, ℕ, ◌≤◌, Bool, true, false, List, [], ◌∷◌, ◌++◌, length, refl, sym, ap, subst, ◌∙◌, arith, append-nil, Option, None, Some, Ok, cond, append_assoc, ◌+◌, ◌<◌, take, drop, ne_eqb, lt-ltb, or_parts, or_from, reverse-append, reverse-reverse, nil_from_length, position_or_len, option_map, reverse, IfSome, not, ◌||◌, ◌&&◌, ◌==◌, nat_lt, most_word_bytes, most_line_bytes, is_blank, is_letter, fault_stays, start_blank, start_filled, when, first_row, is_not_empty, without_start, Item, is_end_line, has_end_line, to_end_line, ends_line, NumberWord, LineEnd, line_item, fault_in, IsClean, fault_at_end, is_too_long, part, fault, ReadFault}
 use Rattle.tsp_file.specs.declared.rules.EndFault.{EndFault}
-use Rattle.tsp_text.proofs.SettledItems.{start_blank, start_filled}
-use Rattle.tsp_text.specs.FaultRows.{row_of, when, first_row}
-use Rattle.tsp_text.specs.Items.{is_not_empty, without_start, Item, is_end_line, has_end_line, to_end_line, ends_line, NumberWord, LineEnd, line_item}
-use Rattle.tsp_text.specs.ParsesTo.{fault_here, fault_in, IsClean, fault_at_end, is_too_long, part, fault}
-use Rattle.tsp_text.specs.declared.fault.ReadFault.{ReadFault}
 use Rattle.tsp_text.specs.declared.fault.ReadFault.TheVariants as faults
-use Rattle.tsp_read.proofs.LeftSteps.{left_blank, left_start, Filled, start_is_filled, left_none, left_end, line_taken, line_not_taken, word_taken, word_not_taken}
+use Rattle.tsp_read.proofs.LeftSteps.{left_blank, left_start, Filled, start_is_filled, left_none, left_end, line_taken, line_not_taken, word_taken, word_not_taken, before_on, from_on}
 use Rattle.tsp_read.specs.declared.items.Begun.{Begun}
 use Rattle.tsp_read.specs.declared.items.Intake.{Intake}
 use Rattle.tsp_read.specs.declared.items.Token.{Token}
@@ -103,17 +91,10 @@ of_some {X} P left x e h = subst (λ (o : Option X). IfSome o P) e h
 
 -- ---- items with no end line
 
-or_false : (a b : Bool) → (a || b) ≡ false → (a ≡ false) × (b ≡ false)
-or_false true b e = absurd cc
-or_false false b e = (refl, e)
-
-or_from : (a b : Bool) → a ≡ false → b ≡ false → (a || b) ≡ false
-or_from a b x y = ap (λ c. c || b) x ∙ y
-
 to_end_on : (items more : List Item) → has_end_line items ≡ false → to_end_line (items ++ more) ≡ items ++ to_end_line more
 to_end_on [] more e = refl
 to_end_on (item ∷ items) more e =
-    let both = or_false (is_end_line item) (has_end_line items) e in
+    let both = or_parts (is_end_line item) (has_end_line items) e in
     ap (λ b. item ∷ cond b [] (to_end_line (items ++ more))) both.0
     ∙ ap (λ xs. item ∷ xs) (to_end_on items more both.1)
 
@@ -121,16 +102,16 @@ none_more : (items : List Item) (item : Item) → has_end_line items ≡ false �
     → has_end_line (items ++ item ∷ []) ≡ false
 none_more [] item e f = or_from (is_end_line item) false f refl
 none_more (first ∷ items) item e f =
-    let both = or_false (is_end_line first) (has_end_line items) e in
+    let both = or_parts (is_end_line first) (has_end_line items) e in
     or_from (is_end_line first) (has_end_line (items ++ item ∷ [])) both.0 (none_more items item both.1 f)
 
-on_end : (item : Item) (items : List Item) → reverse (item ∷ items) ≡ reverse items ++ item ∷ []
+pub on_end : (item : Item) (items : List Item) → reverse (item ∷ items) ≡ reverse items ++ item ∷ []
 on_end item items = reverse-append (item ∷ []) items
 
 none_reversed : (items : List Item) → has_end_line items ≡ false → has_end_line (reverse items) ≡ false
 none_reversed [] e = refl
 none_reversed (item ∷ items) e =
-    let both = or_false (is_end_line item) (has_end_line items) e in
+    let both = or_parts (is_end_line item) (has_end_line items) e in
     ap has_end_line (on_end item items) ∙ none_more (reverse items) item (none_reversed items both.1) both.0
 
 -- ---- the walk
@@ -165,11 +146,6 @@ walked_to_end items earlier later item h e =
     ∙ turned earlier [] item
 
 -- ---- the first fault stays
-
-fault_stays : (later items : List Item) (found : ReadFault) → fault_in items ≡ Some found → fault_in (later ++ items) ≡ Some found
-fault_stays [] items found e = e
-fault_stays (item ∷ later) items found e =
-    ap (λ first. option_or first (option_map (fault_here (later ++ items) item) (row_of (later ++ items) item))) (fault_stays later items found e)
 
 -- with the next item comes the first fault
 pub walked_found : (items earlier later : List Item) (item : Item) (found : ReadFault) → Walked items earlier (item ∷ later)
@@ -325,19 +301,8 @@ token_missing_next goes_on inside text filled first after Word e parts more is s
 
 -- ---- before and from the first place that passes, where there is one
 
-one_more : (n : ℕ) → 1 + n ≡ suc n
-one_more n = omega arith
-
 abbrev pub CutsAlike : (ℕ → Bool) → List ℕ → List ℕ → Type 0
 CutsAlike p xs more = (up_to_first p (xs ++ more) ≡ up_to_first p xs) × (from p (xs ++ more) ≡ from p xs ++ more)
-
-pub on_before : (p : ℕ → Bool) (x : ℕ) (xs : List ℕ) → p x ≡ false → up_to_first p (x ∷ xs) ≡ x ∷ up_to_first p xs
-on_before p x xs e =
-    ap (λ b. take (cond (not b) (1 + position_or_len p xs) 0) (x ∷ xs)) e ∙ ap (λ n. take n (x ∷ xs)) (one_more (position_or_len p xs))
-
-pub on_from : (p : ℕ → Bool) (x : ℕ) (xs : List ℕ) → p x ≡ false → from p (x ∷ xs) ≡ from p xs
-on_from p x xs e =
-    ap (λ b. drop (cond (not b) (1 + position_or_len p xs) 0) (x ∷ xs)) e ∙ ap (λ n. drop n (x ∷ xs)) (one_more (position_or_len p xs))
 
 pub at_before : (p : ℕ → Bool) (x : ℕ) (xs : List ℕ) → p x ≡ true → up_to_first p (x ∷ xs) ≡ []
 at_before p x xs e = ap (λ b. take (cond (not b) (1 + position_or_len p xs) 0) (x ∷ xs)) e
@@ -350,9 +315,9 @@ cuts_by : (p : ℕ → Bool) (x : ℕ) (xs more : List ℕ) (b : Bool) → p x �
 cuts_by p x xs more true e rest filled =
     (at_before p x (xs ++ more) e ∙ sym (at_before p x xs e), at_from p x (xs ++ more) e ∙ ap (λ (ys : List ℕ). ys ++ more) (sym (at_from p x xs e)))
 cuts_by p x xs more false e rest filled =
-    let h = rest (ap is_not_empty (sym (on_from p x xs e)) ∙ filled) in (
-      on_before p x (xs ++ more) e ∙ ap (λ (ys : List ℕ). x ∷ ys) h.0 ∙ sym (on_before p x xs e),
-      on_from p x (xs ++ more) e ∙ h.1 ∙ ap (λ (ys : List ℕ). ys ++ more) (sym (on_from p x xs e)),
+    let h = rest (ap is_not_empty (sym (from_on p x xs e)) ∙ filled) in (
+      before_on p x (xs ++ more) e ∙ ap (λ (ys : List ℕ). x ∷ ys) h.0 ∙ sym (before_on p x xs e),
+      from_on p x (xs ++ more) e ∙ h.1 ∙ ap (λ (ys : List ℕ). ys ++ more) (sym (from_on p x xs e)),
     )
 
 -- more at the end doesn't move the first place

@@ -1,22 +1,10 @@
 -- Pieces that are asked of a reader, and that none is asked for in vain.
-use Rattle.std.proofs.Common.{◌≡◌, ℕ, ◌+◌, ◌-◌, ◌≤◌, ◌<◌, Bool, true, false, List, [], ◌∷◌, ◌++◌, length, take, drop, take-append-drop, refl, sym, ap, subst, ◌∙◌, arith, Option, Some, None, Ok, Err, append-nil, length-append, ◌||◌, suc, Result, inl, inr}
+use Rattle.tsp_read.proofs.Prelude.{◌≡◌, ℕ, ◌+◌, ◌-◌, ◌≤◌, ◌<◌, Bool, true, false, List, [], ◌∷◌, ◌++◌, length, take, drop, take-append-drop, refl, sym, ap, subst, ◌∙◌, arith, Option, Some, None, Ok, Err, append-nil, length-append, ◌||◌, suc, Result, inl, inr, true≢false, false≢true, or_parts, take-append-le, none-some, ◌⊎◌, IfSome, not, ◌&&◌, is_err, watched, has_failed, most_file_bytes, Fields, fault_kept, settled_kept, ended_stays, part_kept, ended_kept, when, first_row, has_end_line, fault_in, IsClean, is_too_long, settled_part, settled_fault, fault, spelled, part, ParsesTo, ReadFault}
 use Rattle.std.proofs.KnownBytes.{Consumes-nil, Consumes-trans, Consumes-kept}
-use Rattle.std.proofs.lemmas.Bool.{true≢false, false≢true}
-use Rattle.std.proofs.lemmas.List.{take-append-le}
-use Rattle.std.proofs.lemmas.Option.{none-some}
 use Rattle.std.specs.Io.KnownBytes.{Consumes, Keeps, IsAtEnd}
-use Rattle.std.specs.Prelude.{◌⊎◌, IfSome, not, ◌&&◌, is_err}
 use Rattle.std.specs.declared.io.Error.{Error}
 use Rattle.tsp_io.specs.Streams.{ReadTrace, Gave, IsSound, GaveAll, TakesAtMost}
 use Rattle.tsp_io.specs.declared.watched.Watched.{Watched}
-use Rattle.tsp_io.specs.states.Watched.{watched, has_failed}
-use Rattle.tsp_format.specs.Limits.{most_file_bytes}
-use Rattle.tsp_file.specs.Fields.{Fields}
-use Rattle.tsp_text.proofs.SettledFaults.{fault_kept, settled_kept, ended_stays, part_kept, ended_kept}
-use Rattle.tsp_text.specs.FaultRows.{when, first_row}
-use Rattle.tsp_text.specs.Items.{has_end_line}
-use Rattle.tsp_text.specs.ParsesTo.{fault_in, IsClean, is_too_long, settled_part, settled_fault, fault, spelled, part, ParsesTo}
-use Rattle.tsp_text.specs.declared.fault.ReadFault.{ReadFault}
 use Rattle.tsp_text.specs.declared.fault.ReadFault.TheVariants as faults
 use Rattle.tsp_read.proofs.FeedSteps.{taken_at, going_on, not_refused, settled_reads}
 use Rattle.tsp_read.specs.Reads.{most_taken, StopsAt, IsGoing, HasTaken, Feeds, IsTimely, HasCause, may_go_on, IsFedFrom, HasReads, IsReadOn, Reads, ReadsFrom, IsEnded, ReadsInTime}
@@ -222,10 +210,6 @@ or_false : (b : Bool) → b ≡ (b || false)
 or_false true = refl
 or_false false = refl
 
-none_of : (a b : Bool) → (a || b) ≡ false → (a ≡ false) × (b ≡ false)
-none_of true b is = absurd (true≢false is)
-none_of false b is = (refl, is)
-
 -- without a read nothing changes
 pub read_none : {R : Type 0} (gives : R → List ℕ → Result ℕ Error → List ℕ → R → Type 0) (reader : Watched R) → IsReadOn gives reader reader
 read_none gives reader = (0, false, (refl, refl), or_false (has_failed reader))
@@ -236,7 +220,7 @@ pub read_more : {R : Type 0} (gives : R → List ℕ → Result ℕ Error → Li
     → gives (watched between) room answer filled (watched new) → has_failed new ≡ (has_failed between || is_err answer)
     → IsReadOn gives old new
 read_more gives old between new room filled answer on sound given failed =
-    let both = none_of (has_failed old) on.1 (sym on.3 ∙ sound) in (
+    let both = or_parts (has_failed old) on.1 (sym on.3 ∙ sound) in (
       suc on.0,
       is_err answer,
       (

@@ -1,25 +1,13 @@
 -- Runs of plain numbers, read in one pass, are read as word by word.
-use Rattle.std.proofs.Common.{◌≡◌, ℕ, ◌+◌, ◌<◌, ◌≤◌, Bool, true, false, List, [], ◌∷◌, ◌++◌, length, take, drop, refl, sym, ap, subst, ◌∙◌, arith, inl, inr, Ok, ℤ, pos, ◌*ℤ◌, take-append-drop, Result, Err, IfErr, Option, None, Some}
-use Rattle.std.proofs.lemmas.Bool.{true≢false, le-ltb}
-use Rattle.std.proofs.lemmas.Bool.Decides.{nat_tests}
+use Rattle.tsp_read.proofs.Prelude.{◌≡◌, ℕ, ◌+◌, ◌<◌, ◌≤◌, Bool, true, false, List, [], ◌∷◌, ◌++◌, length, take, drop, refl, sym, ap, subst, ◌∙◌, arith, inl, inr, Ok, ℤ, pos, ◌*ℤ◌, take-append-drop, Result, Err, IfErr, Option, None, Some, true≢false, le-ltb, or_right, nat_tests, not, ◌&&◌, ◌||◌, ◌⊎◌, unsigned_abs, unit, most_count, plus, minus, point, lower_e, upper_e, IsSign, IsFraction, IsExponent, Numeral, SpellsNumeral, ReadsWhole, ReadsDecimal, whole_of, decimal_of, most_word_bytes, is_blank, is_letter, Numbers, start_filled, place_by, place_of_number, ends_line, is_not_empty, without_start, Item, NumberWord, LineEnd, IsWhole, Place}
 use Rattle.std.proofs.lemmas.Str.Parse.{digit_from_value}
-use Rattle.std.specs.Prelude.{not, ◌&&◌, ◌||◌, ◌⊎◌, unsigned_abs}
 use Rattle.std.specs.Str.Parse.{AllDigits}
 use Rattle.tsp_number.proofs.WordLaws.{whole_once, whole_of-reads, decimal_once, decimal_of-reads}
-use Rattle.tsp_number.specs.Decimal.{unit, most_count}
-use Rattle.tsp_number.specs.NumberWord.{plus, minus, point, lower_e, upper_e, IsSign, IsFraction, IsExponent, Numeral, SpellsNumeral, ReadsWhole, ReadsDecimal, whole_of, decimal_of}
 use Rattle.tsp_number.specs.states.Digits.{BeginsWithNumber}
-use Rattle.tsp_format.specs.Limits.{most_word_bytes}
-use Rattle.tsp_format.specs.Words.{is_blank, is_letter}
-use Rattle.tsp_format.specs.declared.keyword.Shape.TheVariants.{Numbers}
-use Rattle.tsp_text.specs.Earlier.{place_by}
-use Rattle.tsp_text.specs.Groups.{place_of_number}
-use Rattle.tsp_text.specs.Items.{ends_line, is_not_empty, without_start, Item, NumberWord, LineEnd}
-use Rattle.tsp_text.specs.SectionWords.{IsWhole, Place}
 use Rattle.tsp_read.proofs.BegunSteps.{settled_filled}
 use Rattle.tsp_read.proofs.IntakeSteps.{read_further, line_ends}
-use Rattle.tsp_read.proofs.LeftSteps.{FreeOf, left_blank, left_end}
-use Rattle.tsp_read.proofs.Onwards.{on_before, on_from, at_before, at_from, word_follows}
+use Rattle.tsp_read.proofs.LeftSteps.{FreeOf, left_blank, left_end, before_on, from_on}
+use Rattle.tsp_read.proofs.Onwards.{at_before, at_from, word_follows}
 use Rattle.tsp_read.proofs.TextSteps.{word_answer, kept_answer}
 use Rattle.tsp_read.specs.declared.by_node.NumberList.{NumberList}
 use Rattle.tsp_read.specs.declared.by_node.PointList.{PointList}
@@ -44,7 +32,7 @@ free_cut : (p : ℕ → Bool) (w : List ℕ) (x : ℕ) (rest : List ℕ) → Fre
 free_cut p [] x rest free e = (at_before p x rest e, at_from p x rest e)
 free_cut p (y ∷ w) x rest free e =
     let h = free_cut p w x rest free.1 e in
-    (on_before p y (w ++ x ∷ rest) free.0 ∙ ap (λ (ys : List ℕ). y ∷ ys) h.0, on_from p y (w ++ x ∷ rest) free.0 ∙ h.1)
+    (before_on p y (w ++ x ∷ rest) free.0 ∙ ap (λ (ys : List ℕ). y ∷ ys) h.0, from_on p y (w ++ x ∷ rest) free.0 ∙ h.1)
 
 free_join : (p : ℕ → Bool) (xs ys : List ℕ) → FreeOf p xs → FreeOf p ys → FreeOf p (xs ++ ys)
 free_join p [] ys a b = b
@@ -148,10 +136,6 @@ record EndsBy (rest left : List ℕ) : Type 0 where
 blank_ends : (b : ℕ) → is_blank b ≡ true → ends_word b ≡ true
 blank_ends b e = ap (λ c. c || ends_line b) e
 
-or_true : (a b : Bool) → b ≡ true → (a || b) ≡ true
-or_true true b e = refl
-or_true false b e = e
-
 ends_by : (rest left : List ℕ) → LeavesEnd rest left → EndsBy rest left
 ends_by [] left h = absurd h
 ends_by (b ∷ later) left (inl h) = record {
@@ -165,7 +149,7 @@ ends_by (b ∷ later) left (inr h) = record {
   end = b;
   later = later;
   parts = refl;
-  ends = or_true (is_blank b) (ends_line b) h.0;
+  ends = or_right (is_blank b) (ends_line b) h.0;
   left_is = λ goes_on more. ap (λ (xs : List ℕ). items_left goes_on true (xs ++ more)) (sym h.1);
 }
 
@@ -194,9 +178,6 @@ no_blank : (b : Bool) (c : ℕ) → is_blank c ≡ b → ends_word c ≡ false �
 no_blank true c blank e = absurd (true≢false (sym (blank_ends c blank) ∙ e))
 no_blank false c blank e = refl
 
-filled_front : (first : ℕ) (others : List ℕ) → is_blank first ≡ false → without_start (first ∷ others) ≡ first ∷ others
-filled_front first others e = rw e refl
-
 -- no blank is before it where the text begins with it
 pub begins_filled : (text : List ℕ) (count : ℕ) (k : ℤ) → BeginsWithNumber text count k → text ≡ without_start text
 begins_filled text count k number =
@@ -205,7 +186,7 @@ begins_filled text count k number =
     let free : FreeOf ends_word (start.first ∷ start.others) = subst (FreeOf ends_word) start.parts (free_word (take count text) number.stands.numeral spelled) in
     let blank : is_blank start.first ≡ false = no_blank (is_blank start.first) start.first refl free.0 in
     let parts : text ≡ start.first ∷ (start.others ++ drop count text) = whole_parts text count (drop count text) refl ∙ ap (λ (xs : List ℕ). xs ++ drop count text) start.parts in
-    parts ∙ sym (filled_front start.first (start.others ++ drop count text) blank) ∙ ap without_start (sym parts)
+    parts ∙ sym (start_filled start.first (start.others ++ drop count text) blank) ∙ ap without_start (sym parts)
 
 -- the number word is the next item
 pub front_gives : (text filled : List ℕ) (count : ℕ) (k : ℤ) (rest left : List ℕ) → EndsNumber text filled count k rest left
@@ -248,7 +229,7 @@ pub end_gives : (inside : Bool) (text rest : List ℕ) → text ≡ 10 ∷ rest 
 end_gives inside text rest parts goes_on more =
     ap (λ (xs : List ℕ). items_left goes_on inside (xs ++ more)) parts ∙ left_end goes_on inside (rest ++ more)
 
--- ---- a statement on the list of a section, after it took a word, may be replaced by one that
+-- ---- a statement on the list of a section, after it took a word, may be weakened
 
 pub takes_also : (n : ℕ) (place : Place) (word : List ℕ) (A B : Type 0) (r : Result (Unit {0}) StepFault) → (A → B)
     → Takes n place word A r → Takes n place word B r
@@ -321,7 +302,7 @@ points old part after n words word r is step h =
     (HoldsShape (shape_of_points kind) (parts.Points after) n (words ++ word ∷ [])) r
     (kept_kind kind after n (words ++ word ∷ [])) (step kind n words (subst P is h)))
 
--- ---- a run, which takes plain numbers and line ends in one pass, leaves what taking them item
+-- ---- a run of plain numbers and line ends leaves what taking them item by item does
 
 -- a run of one word, which the part takes
 pub word_runs : (old new : SectionBuilder) (before after : Count) (text rest word : List ℕ) → TakesRead old new word

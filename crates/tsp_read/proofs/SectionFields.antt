@@ -1,34 +1,9 @@
 -- Sections as they are written are read back, and are complete.
-use Rattle.std.proofs.Common.{◌≡◌, ℕ, ◌+◌, ◌≤◌, Bool, true, false, cond, List, [], ◌∷◌, length, refl, ap, subst, ◌∙◌, arith, Option, Some, None, Result, ◌^◌, ◌<◌, append_assoc, ◌++◌, sym}
-use Rattle.std.proofs.lemmas.Bool.{false≢true, and_parts, leb-true, and_left, and_right, true≢false}
-use Rattle.std.proofs.lemmas.List.{take_all}
-use Rattle.std.specs.Fmt.{decimal, signed_decimal}
-use Rattle.std.specs.List.{list_all, prefix_len, find, filter}
-use Rattle.std.specs.Option.{option_map, option_and_then, option_map_or}
-use Rattle.std.specs.Prelude.{ℤ, pos, not, nat_le, nat_abs, is_some, unwrap_or, ◌&&◌, nat_lt}
-use Rattle.std.specs.Result.{result_ok}
-use Rattle.tsp_number.specs.NumberWord.{whole_of}
-use Rattle.tsp_number.specs.declared.word.NumberFault.{NumberFault}
-use Rattle.tsp_format.specs.Limits.{most_nodes, most_capacity, most_scale, most_load_unit, most_matrix_nodes, most_line_bytes, shape_of, is_section_field}
-use Rattle.tsp_format.specs.Words.{is_blank, is_spatial, coord_kind_word, weight_kind_word, field_word, fields_in_order}
-use Rattle.tsp_format.specs.declared.keyword.Field.{Field}
-use Rattle.tsp_format.specs.declared.keyword.Field.TheVariants.{DimensionKey, CapacityKey, ScaleKey, LoadUnitKey, NodeCoordTypeKey, EdgeWeightTypeKey, CommentKey, OtherKey, NodeCoordPart}
-use Rattle.tsp_format.specs.declared.keyword.Keyword.TheVariants.{Known}
-use Rattle.tsp_format.specs.declared.keyword.Shape.{Shape}
-use Rattle.tsp_format.specs.declared.keyword.Shape.TheVariants.{Numbers, Points, SpacePoints, Depots, Pairs, Weights, Tours, Triples, Combs, Steps}
+use Rattle.tsp_read.proofs.Prelude.{◌≡◌, ℕ, ◌+◌, ◌≤◌, Bool, true, false, cond, List, [], ◌∷◌, length, refl, ap, subst, ◌∙◌, arith, Option, Some, None, Result, ◌^◌, ◌<◌, append_assoc, ◌++◌, sym, false≢true, and_parts, leb-true, and_left, and_right, true≢false, take_all, decimal, signed_decimal, list_all, prefix_len, find, filter, option_map, option_and_then, option_map_or, ℤ, pos, not, nat_le, nat_abs, is_some, unwrap_or, ◌&&◌, nat_lt, result_ok, whole_of, NumberFault, most_nodes, most_capacity, most_scale, most_load_unit, most_matrix_nodes, most_line_bytes, shape_of, is_section_field, is_blank, is_spatial, coord_kind_word, weight_kind_word, field_word, fields_in_order, Field, DimensionKey, CapacityKey, ScaleKey, LoadUnitKey, NodeCoordTypeKey, EdgeWeightTypeKey, CommentKey, OtherKey, NodeCoordPart, Known, Shape, Numbers, Points, SpacePoints, Depots, Pairs, Weights, Tours, Triples, Families, Steps, line_lens, text_of_section, text_of_field, Fields, spatial, with_dimension, if_there, is_node, is_from_to, section_fits, fits, clean_more, same_field_is, has_line, value_at, read_as, dimension_in, named_at, coord_kind_named, weight_kind_named, spatial_after, same_field, is_open, values_at, others_in, open_section, words_of, place_by, place_in, may_repeat, row_of, first_word, Item, WordLine, Line, LineEnd, items_in, items_of, has_no_line_end, PastEnd, IsClean, needs_nodes, is_matrix, opening_rows, wants_more, is_incomplete, first_incomplete}
 use Rattle.tsp_format.specs.declared.kinds.CoordKind.{CoordKind}
 use Rattle.tsp_format.specs.declared.kinds.WeightKind.{WeightKind}
-use Rattle.tsp_file.specs.CanonicalText.{line_lens, text_of_section, text_of_field}
-use Rattle.tsp_file.specs.Fields.{Fields, spatial}
-use Rattle.tsp_file.specs.Validity.{with_dimension, if_there, is_node, is_from_to, section_fits, fits}
+use Rattle.tsp_file.proofs.ValidFields.{dimensioned}
 use Rattle.tsp_text.proofs.Sections.{by_section, section_of, opening, nodes_stay}
-use Rattle.tsp_text.proofs.SettledFaults.{clean_more}
-use Rattle.tsp_text.proofs.ValidRows.{same_field_is}
-use Rattle.tsp_text.specs.Earlier.{has_line, value_at, read_as, dimension_in, named_at, coord_kind_named, weight_kind_named, spatial_after, same_field, is_open, values_at, others_in, open_section, words_of, place_by, place_in}
-use Rattle.tsp_text.specs.FaultRows.{may_repeat, row_of}
-use Rattle.tsp_text.specs.Items.{first_word, Item, WordLine, Line, LineEnd, items_in, items_of, has_no_line_end}
-use Rattle.tsp_text.specs.SectionWords.{PastEnd}
-use Rattle.tsp_text.specs.ParsesTo.{IsClean, needs_nodes, is_matrix, opening_rows, wants_more, is_incomplete, first_incomplete}
 use Rattle.tsp_read.proofs.NumbersReadBack.{NumberLaws, decimal_plain, signed_plain, size_from}
 use Rattle.tsp_read.proofs.Onto.{has_value, onto, value_kept, values_kept, others_kept, no_end_line, other_words, section_words, words_clean, AllTaken}
 use Rattle.tsp_read.proofs.Shapes.{Entries, entries_in, are_valid, lines_for, words_for, text_for, text_by, fit_for, fits_by, is_writable, body}
@@ -64,16 +39,11 @@ pub record HasNodes {A : Type 0} (f : Fields) (fits : ℕ → A → Bool) (x : A
   pub nodes : dimension_in earlier ≡ n
   pub known : has_line DimensionKey earlier ≡ true
 
-with_nodes : {A : Type 0} (fits : ℕ → A → Bool) (o : Option ℕ) (x : A) → with_dimension fits o x ≡ true
-    → (n : ℕ) × (o ≡ Some n) × (fits n x ≡ true)
-with_nodes fits None x e = absurd (false≢true e)
-with_nodes fits (Some n) x e = (n, refl, e)
-
 pub has_nodes : {A : Type 0} → NumberLaws → (f : Fields) (fits : ℕ → A → Bool) (x : A) (earlier : List Item)
     → value_at DimensionKey earlier ≡ option_map decimal f.dimension
     → if_there (is_node most_nodes) f.dimension ≡ true → with_dimension fits f.dimension x ≡ true → HasNodes f fits x earlier
 has_nodes laws f fits x earlier written one e =
-    let found = with_nodes fits f.dimension x e in
+    let found = dimensioned fits f.dimension x e in
     let n = found.0 in
     let dimension : f.dimension ≡ Some n = found.1 in
     let is : is_node most_nodes n ≡ true = subst (λ (o : Option ℕ). if_there (is_node most_nodes) o ≡ true) dimension one in
@@ -241,7 +211,7 @@ are_right laws f Weights xs items written one fit = counted laws f Weights xs it
 are_right laws f Tours xs items written one fit =
     record { valid = fit; few = λ e. absurd (false≢true e); known = λ e. absurd (false≢true e) }
 are_right laws f Triples xs items written one fit = counted laws f Triples xs items written one fit
-are_right laws f Combs xs items written one fit = counted laws f Combs xs items written one fit
+are_right laws f Families xs items written one fit = counted laws f Families xs items written one fit
 are_right laws f Steps xs items written one fit = counted laws f Steps xs items written one fit
 
 -- ---- the step

@@ -1,27 +1,12 @@
 -- The parts of sections whose words come in groups: points, triples, tours, weights and the steps of trees.
-use Rattle.std.proofs.Common.{◌≡◌, ◌≢◌, ℕ, ◌+◌, ◌-◌, ◌<◌, ◌≤◌, Bool, true, false, cond, ◌||◌, List, [], ◌∷◌, ◌++◌, length, set, refl, sym, ap, ◌∙◌, Option, None, Some, Ok, Err, inl, inr, arith, rules, get_or-set_other, get_or-set_same, ap₂, subst, zero, suc, map, Result, ◌*◌}
-use Rattle.std.proofs.lemmas.Bool.{false_from_ne_true}
-use Rattle.std.proofs.lemmas.Bool.Decides.{Decides-int_eq, same_from_decides, nat_tests}
-use Rattle.std.proofs.lemmas.Int.{ints}
-use Rattle.std.proofs.lemmas.List.{length-set, length_push, length-replicate, get_or-replicate, ext_get_or, map_push, length-map}
+use Rattle.tsp_read.proofs.Prelude.{◌≡◌, ◌≢◌, ℕ, ◌+◌, ◌-◌, ◌<◌, ◌≤◌, Bool, true, false, cond, ◌||◌, List, [], ◌∷◌, ◌++◌, length, set, refl, sym, ap, ◌∙◌, Option, None, Some, Ok, Err, inl, inr, arith, rules, get_or-set_other, get_or-set_same, ap₂, subst, map, Result, ◌*◌, false_from_ne_true, Decides-int_eq, same_from_decides, nat_tests, ints, length-set, length_push, length-replicate, get_or-replicate, ext_get_or, map_push, length-map, fold-append, list_any, slice_split, onto_first, filter, int_eq, ℤ, pos, negsuc, nat_abs, ◌⊎◌, replicate, slice_index_or, is_some, unwrap_or, ◌==◌, nat_le, not, MatchResult, OnOk, neg_ℤ, whole_of, NumberFault, most_multiplier, most_nodes, most_tour_nodes, most_weight, most_difference, Words, word_fault, entry_of, nodes_of_groups, by_node, place_in_group, fixed_triple, place_in_triple, place_of_triple, node, reads_as, IsWhole, Place, NodeAfter, number, node_or_end, Amount, TourNode, ends_tour, tour_node, place_of_tour, whole_of_size, Weight, place_of_weight, TreeSoFar, no_steps, with_tree_word, tree_after, place_in_tree, place_of_step, wants_more, LineFault}
+use Rattle.std.proofs.Math.Bool.{and-false}
 use Rattle.std.proofs.lemmas.List.FromFn.{length-map-range_with_len, get_or-map-range_with_len}
-use Rattle.std.proofs.lemmas.List.Sums.{fold-append}
 use Rattle.std.specs.Int.{FitsUnsignedBits}
-use Rattle.std.specs.List.{list_any, slice_split, onto_first, filter}
-use Rattle.std.specs.Ordering.{int_eq}
-use Rattle.std.specs.Prelude.{ℤ, pos, negsuc, nat_abs, ◌⊎◌, replicate, slice_index_or, is_some, unwrap_or, ◌==◌, nat_le, not, ◌&&◌, MatchResult, OnOk, neg_ℤ}
-use Rattle.tsp_number.specs.NumberWord.{whole_of}
-use Rattle.tsp_number.specs.declared.word.NumberFault.{NumberFault}
-use Rattle.tsp_format.specs.Limits.{most_multiplier, most_nodes, most_tour_nodes, most_weight, most_difference}
 use Rattle.tsp_format.specs.Nodes.{nodes_to}
-use Rattle.tsp_text.proofs.GroupWords.{Words}
-use Rattle.tsp_text.specs.FaultRows.{word_fault}
-use Rattle.tsp_text.specs.Groups.{entry_of, nodes_of_groups, by_node, place_in_group, fixed_triple, place_in_triple, place_of_triple}
-use Rattle.tsp_text.specs.SectionWords.{node, reads_as, IsWhole, Place, NodeAfter, number, node_or_end, Amount, TourNode, ends_tour, tour_node, place_of_tour, whole_of_size, Weight, place_of_weight, TreeSoFar, no_steps, with_tree_word, tree_after, place_in_tree, place_of_step}
-use Rattle.tsp_text.specs.ParsesTo.{wants_more}
-use Rattle.tsp_text.specs.declared.fault.LineFault.{LineFault}
 use Rattle.tsp_text.specs.declared.fault.LineFault.TheVariants as row
-use Rattle.tsp_read.proofs.ListSteps.{HasNodes, one_begun, place_open, second_bad as second_bad_of, second_same as second_same_of, second_clean, group_goes_on, group_taken}
+use Rattle.tsp_read.proofs.ListSteps.{HasNodes, one_begun, place_open, second_same as second_same_of, second_clean, group_goes_on, group_taken}
+use Rattle.tsp_read.proofs.NumbersReadBack.{no_zero}
 use Rattle.tsp_read.specs.declared.runs.TourList.{TourList}
 use Rattle.tsp_read.specs.states.HeldParts.{HoldsTours, EndsRunOf}
 use Rattle.tsp_read.specs.states.Parts.{IsNodeOf, IsNewNode, NodesHold, AreReadAs, TriplesHold, WeightsHold}
@@ -245,10 +230,6 @@ module _ {triples : List (ℕ × ℕ × ℤ)} {first second : Option ℕ} {ended
   before_second : second ≡ None → TriplesHold triples first None ended n words
   before_second is = subst (λ (o : Option ℕ). TriplesHold triples first o ended n words) is h
 
-  pub second_bad : (word : List ℕ) (i : ℕ) (fault : NumberFault) → ended ≡ false → first ≡ Some i → second ≡ None → node n word ≡ Err fault
-      → word_fault n (place_of_triple n words) word ≡ Some (row.Number fault)
-  second_bad word i fault open_ended is also read = second_bad_of (triple_places n) (before_second also) word i fault (alone n) open_ended is read
-
   pub second_same : (word : List ℕ) (i : ℕ) → ended ≡ false → first ≡ Some i → second ≡ None → node n word ≡ Ok (pos i)
       → word_fault n (place_of_triple n words) word ≡ Some row.SelfEdge
   second_same word i open_ended is also read = second_same_of (triple_places n) (before_second also) word i (alone n) open_ended is read
@@ -270,10 +251,6 @@ module _ {triples : List (ℕ × ℕ × ℤ)} {first second : Option ℕ} {ended
       let held = before_multiplier j also in
       let begun = one_begun (triple_places n) held i open_ended is in
       place_open (triple_places n) held (begun.0 ∷ begun.1) open_ended begun.2 ∙ amount_next n (length triples) (pos j) begun.0 begun.1 begun.4
-
-  pub multiplier_bad : (word : List ℕ) (i j : ℕ) (fault : NumberFault) → ended ≡ false → first ≡ Some i → second ≡ Some j
-      → whole_of word (pos 0) (pos most_multiplier) ≡ Err fault → word_fault n (place_of_triple n words) word ≡ Some (row.Number fault)
-  multiplier_bad word i j fault open_ended is also read = rw (place_of_multiplier i j open_ended is also, read) refl
 
   pub triple_ends : (word : List ℕ) (i j : ℕ) (l : ℤ) → ended ≡ false → first ≡ Some i → second ≡ Some j
       → whole_of word (pos 0) (pos most_multiplier) ≡ Ok l
@@ -360,13 +337,9 @@ count_push p (y ∷ xs) x =
 
 -- ---- the rows
 
-and_false : (b : Bool) → (b && false) ≡ false
-and_false true = refl
-and_false false = refl
-
 end_clean : (n count : ℕ) (word : List ℕ) → node_or_end most_nodes word ≡ Ok (negsuc 0)
     → word_fault n (TourNode count) word ≡ None
-end_clean n count word read = rw (read, and_false (nat_le most_tour_nodes count)) refl
+end_clean n count word read = rw (read, and-false (nat_le most_tour_nodes count)) refl
 
 node_clean : (n count k : ℕ) (word : List ℕ) → node_or_end most_nodes word ≡ Ok (pos k) → nat_le most_tour_nodes count ≡ false
     → word_fault n (TourNode count) word ≡ None
@@ -380,17 +353,13 @@ few_left count room within some =
 
 -- ---- the words
 
-not_nothing : (k : ℕ) → 1 ≤ k → int_eq (pos k) (pos 0) ≡ false
-not_nothing zero some = absurd (omega (arith, some))
-not_nothing (suc k) some = search rules
-
 -- a whole number among the nodes is read as that node
 pub whole_node : (z : ℤ) (k : ℕ) (word : List ℕ) → IsWhole word z → FitsUnsignedBits 32 z × (k ≡ nat_abs z) → 1 ≤ k
     → k ≤ most_nodes → node_or_end most_nodes word ≡ Ok (pos k)
 whole_node z k word whole from some within =
     let is : z ≡ pos k = natural z from.0 ∙ ap (λ (j : ℕ). pos j) (sym from.1) in
     let read : whole_of word (negsuc 0) (pos most_nodes) ≡ Ok z = whole (negsuc 0) (pos most_nodes) (omega (arith, ints, is)) (omega (arith, ints, is, within)) in
-    rw (read, is, not_nothing k some) refl
+    rw (read, is, no_zero k some) refl
 
 pub after_end : (n : ℕ) (words : List (List ℕ)) (word : List ℕ) (old new : TourList)
     → node_or_end most_nodes word ≡ Ok (negsuc 0)

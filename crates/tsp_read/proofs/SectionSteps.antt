@@ -1,45 +1,20 @@
 -- A section is opened by its line, and closed: its field has its value, and no other field changes.
-use Rattle.std.proofs.Common.{◌≡◌, ℕ, Bool, true, false, List, [], ◌∷◌, ◌≤◌, cond, get_or, arith, refl, sym, ap, subst, ◌∙◌, Option, Some, None, Ok, Err}
-use Rattle.std.specs.Prelude.{ℤ, nat_le, nat_lt, is_some, unwrap_or, not, ◌&&◌}
-use Rattle.std.specs.Option.{option_map_or}
-use Rattle.std.specs.List.{find}
-use Rattle.std.proofs.lemmas.Bool.{and_parts, leb-true}
-use Rattle.tsp_number.specs.declared.decimal.Point.{Point}
-use Rattle.tsp_format.specs.declared.keyword.Field.{Field}
-use Rattle.tsp_format.specs.declared.keyword.Field.TheVariants.{DimensionKey}
-use Rattle.tsp_format.specs.declared.keyword.Keyword.TheVariants.{Known}
-use Rattle.tsp_format.specs.Limits.{most_nodes, most_line_bytes, most_matrix_nodes, shape_of, is_section_field}
-use Rattle.tsp_format.specs.Steps.{Step}
-use Rattle.tsp_format.specs.Words.{fields_in_order}
-use Rattle.tsp_file.specs.Fields.{Fields, stands_in, with_numbers, with_points, spatial}
-use Rattle.tsp_file.specs.states.Drafts.{fields_of}
-use Rattle.tsp_file.specs.Validity.{if_there, is_node}
-use Rattle.tsp_text.specs.declared.fault.LineFault.{LineFault}
+use Rattle.tsp_read.proofs.Prelude.{◌≡◌, ℕ, Bool, true, false, List, [], ◌∷◌, ◌≤◌, cond, get_or, arith, refl, sym, ap, subst, ◌∙◌, Option, Some, None, Ok, Err, ℤ, nat_le, nat_lt, is_some, unwrap_or, not, ◌&&◌, option_map_or, find, and_parts, leb-true, Point, Field, DimensionKey, Known, most_nodes, most_line_bytes, most_matrix_nodes, shape_of, is_section_field, Step, fields_in_order, Fields, stands_in, with_numbers, with_points, spatial, fields_of, if_there, is_node, LineFault, Shape, Numbers, Pairs, Triples, Families, Steps, numbers_by_node, place_of_number, coords_by_node, fixed_in, place_of_fixed, fixed_triples_in, place_of_triple, whole_families, place_of_family, whole_steps, place_of_step, PastEnd, is_not_empty, WordLine, Item, Line, is_open, has_line, open_section, words_of, dimension_of, spatial_after, place_by, place_in, dimension_in, row_of, when, first_row, needs_nodes, is_matrix, opening_rows, wants_more, is_incomplete, sections_in_order, first_incomplete, clean_more, was_opened, no_words_opened}
 use Rattle.tsp_text.specs.declared.fault.LineFault.TheVariants as row
-use Rattle.tsp_format.specs.declared.keyword.Shape.{Shape}
-use Rattle.tsp_format.specs.declared.keyword.Shape.TheVariants.{Numbers, Pairs, Triples, Combs, Steps}
 use Rattle.tsp_read.specs.declared.section_builder.SectionBuilder.{SectionBuilder}
 use Rattle.tsp_read.specs.declared.section_builder.SectionBuilder.TheVariants as parts
 use Rattle.tsp_read.specs.declared.by_node.NumberList.{NumberList}
 use Rattle.tsp_read.specs.declared.by_node.PointList.{PointList}
 use Rattle.tsp_read.specs.declared.lists.FixedList.{FixedList}
 use Rattle.tsp_read.specs.declared.section_builder.TripleList.{TripleList}
-use Rattle.tsp_read.specs.declared.tree.CombList.{CombList}
+use Rattle.tsp_read.specs.declared.tree.FamilyList.{FamilyList}
 use Rattle.tsp_read.specs.declared.tree.TreeList.{TreeList}
-use Rattle.tsp_text.specs.Groups.{numbers_by_node, place_of_number, coords_by_node, fixed_in, place_of_fixed, fixed_triples_in, place_of_triple, whole_combs, place_of_comb}
-use Rattle.tsp_text.specs.SectionWords.{whole_steps, place_of_step, PastEnd}
-use Rattle.tsp_text.specs.Items.{is_not_empty, WordLine, Item, Line}
-use Rattle.tsp_text.specs.Earlier.{is_open, has_line, open_section, words_of, dimension_of, spatial_after, place_by, place_in, dimension_in}
-use Rattle.tsp_text.specs.FaultRows.{row_of, when, first_row}
 use Rattle.tsp_read.specs.states.Holds.{MayOpen, HoldsSection, with_words, with_section, first_of, fields_there, OpenHolds, Holds, Closed}
 use Rattle.tsp_read.specs.states.Parts.{are_in_space}
-use Rattle.tsp_text.specs.ParsesTo.{needs_nodes, is_matrix, opening_rows, wants_more, is_incomplete, sections_in_order, first_incomplete}
-use Rattle.tsp_read.specs.states.HeldParts.{HoldsNumbers, HoldsPoints, HoldsFixed, HoldsTriples, HoldsCombs, HoldsTree, shape_of_points, shape_by, HoldsPart, HoldsShape}
+use Rattle.tsp_read.specs.states.HeldParts.{HoldsNumbers, HoldsPoints, HoldsFixed, HoldsTriples, HoldsFamilies, HoldsTree, shape_of_points, shape_by, HoldsPart, HoldsShape}
 use Rattle.tsp_read.specs.declared.reading.OpenSection.{OpenSection}
 use Rattle.tsp_read.specs.declared.reading.Reading.{Reading}
-use Rattle.tsp_text.proofs.SettledFaults.{clean_more}
 use Rattle.tsp_read.proofs.TextSteps.{but, first_without, first_more, opened_fields, opened_first, keywords_stay, closed_fields, stored_keywords}
-use Rattle.tsp_text.proofs.ValidRows.{was_opened, no_words_opened}
 use Rattle.tsp_text.proofs.Sections.{section_of, opening, standing, nodes_stay}
 use Rattle.tsp_text.proofs.ValidKeywords.{dimension_fits}
 
@@ -212,16 +187,16 @@ triples_stored section part triples more old new is put finished in_space n word
     stored_as section Triples old new more in_space n words (h.0 ∙ ap (λ p. Some (shape_by p)) is)
     (put ∙ ap (λ xs. record old { fixed_potentials = Some xs }) got.0) got.1
 
-pub combs_stored : (section : OpenSection) (part : CombList) (combs : List (List (List ℕ))) (more : Bool) (old new : Fields)
-    → section.part ≡ parts.Combs part
-    → new ≡ record old { combs = Some combs }
-    → ((n : ℕ) (words : List (List ℕ)) → HoldsCombs part n words → (combs ≡ whole_combs n words) × (more ≡ wants_more (place_of_comb n words)))
+pub families_stored : (section : OpenSection) (part : FamilyList) (families : List (List (List ℕ))) (more : Bool) (old new : Fields)
+    → section.part ≡ parts.Families part
+    → new ≡ record old { families = Some families }
+    → ((n : ℕ) (words : List (List ℕ)) → HoldsFamilies part n words → (families ≡ whole_families n words) × (more ≡ wants_more (place_of_family n words)))
     → (in_space : Bool) (n : ℕ) (words : List (List ℕ)) → HoldsSection in_space section n words
     → (new ≡ with_section in_space section.field n words old) × (more ≡ wants_more (place_in in_space section.field n words))
-combs_stored section part combs more old new is put finished in_space n words h =
+families_stored section part families more old new is put finished in_space n words h =
     let got = finished n words (subst (λ (p : SectionBuilder). HoldsPart p n words) is h.1) in
-    stored_as section Combs old new more in_space n words (h.0 ∙ ap (λ p. Some (shape_by p)) is)
-    (put ∙ ap (λ xs. record old { combs = Some xs }) got.0) got.1
+    stored_as section Families old new more in_space n words (h.0 ∙ ap (λ p. Some (shape_by p)) is)
+    (put ∙ ap (λ xs. record old { families = Some xs }) got.0) got.1
 
 pub steps_stored : (section : OpenSection) (part : TreeList) (steps : List Step) (more : Bool) (old new : Fields)
     → section.part ≡ parts.Steps part

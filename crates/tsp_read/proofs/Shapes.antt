@@ -1,25 +1,7 @@
 -- Sections by their shape, as they are written: each word is taken at its place, none is left to come, and the entries
 -- are read back.
-use Rattle.std.proofs.Common.{◌≡◌, ℕ, ◌+◌, ◌*◌, ◌^◌, ◌<◌, ◌≤◌, Bool, true, false, cond, List, [], ◌∷◌, ◌++◌, length, map, refl, ap, arith, Option}
-use Rattle.std.specs.Prelude.{ℤ, pos, ◌&&◌, ◌||◌, ◌==◌, nat_le, nat_lt, unsigned_abs, codes}
-use Rattle.std.specs.List.{list_all, list_any, flat_map, enumerate_from, sum_by}
-use Rattle.std.specs.Fmt.{decimal, signed_decimal}
-use Rattle.std.proofs.lemmas.Bool.{false≢true, and_parts, or_right, leb-true, ltb-true, eqb-true, le-ltb}
-use Rattle.std.proofs.lemmas.Int.{ints}
-use Rattle.tsp_number.specs.declared.decimal.Point.{Point}
-use Rattle.tsp_format.specs.declared.keyword.Field.{Field}
-use Rattle.tsp_format.specs.declared.keyword.Shape.{Shape}
-use Rattle.tsp_format.specs.declared.keyword.Shape.TheVariants.{Numbers, Points, SpacePoints, Depots, Pairs, Weights, Tours, Triples, Combs, Steps}
-use Rattle.tsp_format.specs.Limits.{most_nodes, most_matrix_nodes, most_weight, most_depots, most_fixed, most_triples, most_tour_nodes, most_combs}
-use Rattle.tsp_format.specs.Steps.{Step}
-use Rattle.tsp_file.specs.Fields.{Fields, numbers_in, points_in}
-use Rattle.tsp_file.specs.Validity.{if_there, is_by_node, is_point, is_within, is_from_to, is_node, is_pair_of, is_triple_of, are_depots, are_fixed, are_triples, fit_matrix, is_node_list, are_tours, are_combs, are_tree_steps, with_dimension, section_fits}
-use Rattle.tsp_file.specs.CanonicalText.{section_text, lines_by_node, node_list, pair_list, triple_list, comb_list, case_tree_lines, coordinate_words, whole_number, line_lens, matrix_lines, optional, text_of_section}
-use Rattle.tsp_text.specs.SectionWords.{is_end, PastEnd, Weight, PastWeights, DepotAfter, weights_in, tours_in, whole_steps}
+use Rattle.tsp_read.proofs.Prelude.{◌≡◌, ℕ, ◌+◌, ◌*◌, ◌^◌, ◌<◌, ◌≤◌, Bool, true, false, cond, List, [], ◌∷◌, ◌++◌, length, map, refl, ap, arith, Option, ℤ, pos, ◌&&◌, ◌||◌, ◌==◌, nat_le, nat_lt, unsigned_abs, codes, list_all, list_any, flat_map, enumerate_from, sum_by, decimal, signed_decimal, false≢true, and_parts, or_right, leb-true, ltb-true, eqb-true, le-ltb, ints, Point, Field, Shape, Numbers, Points, SpacePoints, Depots, Pairs, Weights, Tours, Triples, Families, Steps, most_nodes, most_matrix_nodes, most_weight, most_depots, most_fixed, most_triples, most_tour_nodes, most_families, Step, Fields, numbers_in, points_in, if_there, is_by_node, is_point, is_within, is_from_to, is_node, is_pair_of, is_triple_of, are_depots, are_fixed, are_triples, fit_matrix, is_node_list, are_tours, are_family_lists, are_tree_steps, with_dimension, section_fits, section_text, lines_by_node, node_list, pair_list, triple_list, family_list, case_tree_lines, coordinate_words, whole_number, line_lens, matrix_lines, optional, text_of_section, is_end, PastEnd, Weight, PastWeights, DepotAfter, weights_in, tours_in, whole_steps, numbers_by_node, points_by_node, space_points_by_node, depots_in, fixed_in, fixed_triples_in, whole_families, place_by, wants_more, needs_nodes, is_matrix}
 use Rattle.tsp_file.specs.Cost.{origin}
-use Rattle.tsp_text.specs.Groups.{numbers_by_node, points_by_node, space_points_by_node, depots_in, fixed_in, fixed_triples_in, whole_combs}
-use Rattle.tsp_text.specs.Earlier.{place_by}
-use Rattle.tsp_text.specs.ParsesTo.{wants_more, needs_nodes, is_matrix}
 use Rattle.tsp_read.proofs.Text.{WritesWords}
 use Rattle.tsp_read.proofs.NumbersReadBack.{NumberLaws, end_ends, depots_taken, depots_back, weights_taken, weights_back, pair_words, pairs_listed, triple_words, triples_listed}
 use Rattle.tsp_read.proofs.Onto.{AllTaken}
@@ -27,7 +9,7 @@ use Rattle.tsp_read.proofs.NumbersReadBack as listed
 use Rattle.tsp_read.proofs.Groups as by_node
 use Rattle.tsp_read.proofs.Groups.{AreSmall, entry_words, number_words, numbers_spelled, point_words, space_point_words, points_spelled, space_points_spelled}
 use Rattle.tsp_read.proofs.Words.{tour_words, tours_taken, tours_back, values_written, node_lines_written, tour_lines_written, pair_lines_written, triple_lines_written, matrix_lines_written}
-use Rattle.tsp_read.proofs.CombWords.{combs_words, combs_taken, combs_back, combs_done, combs_written, steps_written}
+use Rattle.tsp_read.proofs.FamilyWords.{families_words, families_taken, families_back, families_done, families_written, steps_written}
 use Rattle.tsp_read.proofs.TreeWords.{step_words, steps_taken, steps_back, steps_done}
 
 -- ---- what a section of a shape has
@@ -41,7 +23,7 @@ Entries Pairs = List (ℕ × ℕ)
 Entries Weights = List ℤ
 Entries Tours = List (List ℕ)
 Entries Triples = List (ℕ × ℕ × ℤ)
-Entries Combs = List (List (List ℕ))
+Entries Families = List (List (List ℕ))
 Entries Steps = List Step
 
 -- the entries of a field, where the file has it
@@ -54,7 +36,7 @@ entries_in f field Pairs = f.fixed
 entries_in f field Weights = f.weights
 entries_in f field Tours = f.tours
 entries_in f field Triples = f.fixed_potentials
-entries_in f field Combs = f.combs
+entries_in f field Families = f.families
 entries_in f field Steps = f.branches
 
 -- whether the entries are valid in a file of n nodes
@@ -67,7 +49,7 @@ are_valid Pairs n xs = are_fixed n xs
 are_valid Weights n xs = fit_matrix n xs
 are_valid Tours n xs = are_tours xs
 are_valid Triples n xs = are_triples n xs
-are_valid Combs n xs = are_combs n xs
+are_valid Families n xs = are_family_lists n xs
 are_valid Steps n xs = are_tree_steps n xs
 
 -- the lines of the entries; those of weights have these lengths
@@ -80,7 +62,7 @@ lines_for lens Pairs xs = pair_list xs
 lines_for lens Weights xs = matrix_lines lens xs
 lines_for lens Tours xs = flat_map node_list xs
 lines_for lens Triples xs = triple_list xs
-lines_for lens Combs xs = comb_list xs
+lines_for lens Families xs = family_list xs
 lines_for lens Steps xs = case_tree_lines xs
 
 -- the words of the lines
@@ -93,7 +75,7 @@ words_for Pairs xs = flat_map pair_words xs ++ codes "-1" ∷ []
 words_for Weights xs = map signed_decimal xs
 words_for Tours xs = flat_map tour_words xs
 words_for Triples xs = flat_map triple_words xs ++ codes "-1" ∷ []
-words_for Combs xs = combs_words xs
+words_for Families xs = families_words xs
 words_for Steps xs = flat_map step_words xs
 
 -- the entries that words give
@@ -106,7 +88,7 @@ read_for Pairs n words = fixed_in n words
 read_for Weights n words = weights_in words
 read_for Tours n words = tours_in words
 read_for Triples n words = fixed_triples_in n words
-read_for Combs n words = whole_combs n words
+read_for Families n words = whole_families n words
 read_for Steps n words = whole_steps n words
 
 -- the text and the condition of a section, over these
@@ -124,7 +106,7 @@ text_by f field Pairs = refl
 text_by f field Weights = refl
 text_by f field Tours = refl
 text_by f field Triples = refl
-text_by f field Combs = refl
+text_by f field Families = refl
 text_by f field Steps = refl
 
 abbrev pub fit_for : Fields → (shape : Shape) → Entries shape → Bool
@@ -140,7 +122,7 @@ fits_by f field Pairs = refl
 fits_by f field Weights = refl
 fits_by f field Tours = refl
 fits_by f field Triples = refl
-fits_by f field Combs = refl
+fits_by f field Families = refl
 fits_by f field Steps = refl
 
 -- ---- ranges of numbers that can be written
@@ -170,8 +152,8 @@ pub record IsBody (lens : List ℕ) (shape : Shape) (n : ℕ) (xs : Entries shap
 few_nodes : (n : ℕ) → n ≤ most_nodes → n < 2 ^ 32
 few_nodes n few = omega (arith, few)
 
--- the indices of nodes and combs
-few_indices : (n : ℕ) → n ≤ most_nodes → n + most_combs < 2 ^ 32
+-- the indices of nodes and families
+few_indices : (n : ℕ) → n ≤ most_nodes → n + most_families < 2 ^ 32
 few_indices n few = omega (arith, few)
 
 depots_ended : NumberLaws → (n : ℕ) (nodes : List ℕ) → list_any (is_end n) (map decimal nodes ++ codes "-1" ∷ []) ≡ true
@@ -274,13 +256,13 @@ body laws lens Triples writable n few xs fit =
       done = listed.values_done (triples_listed laws n most) laws xs;
       few = λ e. absurd (false≢true e);
     }
-body laws lens Combs writable n few xs fit =
+body laws lens Families writable n few xs fit =
     let most = few_nodes n (few refl) in
     record {
-      written = combs_written n most xs fit;
-      taken = combs_taken laws n most xs fit;
-      back = combs_back laws n most xs fit;
-      done = combs_done laws n most xs fit;
+      written = families_written n most xs fit;
+      taken = families_taken laws n most xs fit;
+      back = families_back laws n most xs fit;
+      done = families_done laws n most xs fit;
       few = λ e. absurd (false≢true e);
     }
 body laws lens Steps writable n few xs fit =

@@ -1,24 +1,6 @@
 -- A text field by field: what the items so far say of each field.
-use Rattle.std.proofs.Common.{◌≡◌, ℕ, Bool, true, false, cond, List, [], ◌∷◌, ◌++◌, refl, sym, ap, subst, ◌∙◌, Option, Some, None}
-use Rattle.std.proofs.lemmas.Bool.{and_parts, or_parts, or_from, not-true, true≢false}
-use Rattle.std.proofs.lemmas.Option.{none-some}
-use Rattle.std.specs.Fmt.{decimal, signed_decimal}
-use Rattle.std.specs.List.{find, list_any, flat_map}
-use Rattle.std.specs.Option.{option_map, option_map_or}
-use Rattle.std.specs.Prelude.{not, ◌&&◌, ◌||◌}
-use Rattle.tsp_format.specs.Limits.{shape_of, is_section_field, keyword_of}
-use Rattle.tsp_format.specs.Words.{kind_word, weight_kind_word, weight_format_word, coord_kind_word, display_kind_word, fields_in_order, field_found, field_word}
-use Rattle.tsp_format.specs.declared.keyword.Field.{Field}
-use Rattle.tsp_format.specs.declared.keyword.Field.TheVariants.{NameKey, TypeKey, CommentKey, OtherKey, DimensionKey, CapacityKey, ScaleKey, LoadUnitKey, EdgeWeightTypeKey, EdgeWeightFormatKey, NodeCoordTypeKey, DisplayDataTypeKey, NodeCoordPart}
-use Rattle.tsp_format.specs.declared.keyword.Keyword.TheVariants.{Known}
-use Rattle.tsp_file.specs.CanonicalText.{keyword_line}
-use Rattle.tsp_file.specs.Fields.{Fields, spatial, stands_in}
-use Rattle.tsp_text.proofs.SettledFaults.{clean_more}
-use Rattle.tsp_text.proofs.ValidRows.{same_field_is, same_self}
-use Rattle.tsp_text.specs.Earlier.{same_field, value_at, values_at, others_in, words_of}
-use Rattle.tsp_text.specs.FaultRows.{may_repeat, row_of}
-use Rattle.tsp_text.specs.Items.{Item, has_end_line, is_end_line, WordLine, Line, LineEnd, word_line_of, items_of}
-use Rattle.tsp_text.specs.ParsesTo.{IsClean}
+use Rattle.tsp_read.proofs.Prelude.{◌≡◌, ℕ, Bool, true, false, cond, List, [], ◌∷◌, ◌++◌, refl, sym, ap, subst, ◌∙◌, Option, Some, None, and_parts, or_parts, or_from, not-true, true≢false, none-some, decimal, signed_decimal, find, list_any, flat_map, option_map, option_map_or, not, ◌&&◌, ◌||◌, shape_of, is_section_field, keyword_of, kind_word, weight_kind_word, weight_format_word, coord_kind_word, display_kind_word, fields_in_order, field_found, field_word, Field, NameKey, TypeKey, CommentKey, OtherKey, DimensionKey, CapacityKey, ScaleKey, LoadUnitKey, EdgeWeightTypeKey, EdgeWeightFormatKey, NodeCoordTypeKey, DisplayDataTypeKey, NodeCoordPart, Known, keyword_line, Fields, spatial, stands_in, clean_more, same_field_is, same_self, same_field, value_at, values_at, others_in, words_of, may_repeat, row_of, Item, has_end_line, is_end_line, WordLine, Line, LineEnd, word_line_of, items_of, IsClean}
+use Rattle.tsp_format.proofs.Basics.{or_right_from}
 use Rattle.tsp_read.proofs.Onto.{onto, onto-append, IsWhole, IsKeyword, written_line, value_written}
 use Rattle.tsp_read.proofs.Shapes.{entries_in, words_for}
 use Rattle.tsp_read.proofs.Text.{Writes, nothing_written, both_written}
@@ -131,10 +113,6 @@ none_late : (section late : Bool) → not (section && late) ≡ true → section
 none_late true late e s = not-true late e
 none_late false late e s = absurd (true≢false (sym s))
 
-points_late : (section points : Bool) → (section || points) ≡ true → section ≡ false → points ≡ true
-points_late true points e s = absurd (true≢false s)
-points_late false points e s = e
-
 here : {X : Type 0} (g field : Field) (left : List Field) (blank whole : X) → same_field g field ≡ true
     → cond (is_left g (field ∷ left)) blank whole ≡ blank
 here g field left blank whole e = ap (λ b. cond (b || is_left g left) blank whole) e
@@ -168,7 +146,7 @@ ready f field left earlier placed stage = record {
   coords = λ section. came f NodeCoordTypeKey (field ∷ left) earlier refl (none_left field (field ∷ left) placed section).1 stage;
   weights = λ section. came f EdgeWeightTypeKey (field ∷ left) earlier refl (none_left field (field ∷ left) placed section).2 stage;
   no_points = λ keyword. stage.values NodeCoordPart refl ∙ ap (λ b. cond b None (value_of f NodeCoordPart))
-      (points_late (is_section_field field) (is_left NodeCoordPart (field ∷ left))
+      (or_right_from (is_section_field field) (is_left NodeCoordPart (field ∷ left))
       (and_parts (not (is_section_field field && keys_left (field ∷ left))) (is_section_field field || is_left NodeCoordPart (field ∷ left)) placed).1 keyword);
 }
 

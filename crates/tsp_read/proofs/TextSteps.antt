@@ -1,32 +1,12 @@
 -- One item more: lines that open and close sections, words, and the end of the text.
-use Rattle.std.proofs.Common.{◌≡◌, Bool, true, false, cond, List, [], ◌∷◌, refl, sym, ap, ◌∙◌, Option, Some, None, subst, ◌++◌, Result, Ok, Err, set, get_or, length}
+use Rattle.tsp_read.proofs.Prelude.{◌≡◌, Bool, true, false, cond, List, [], ◌∷◌, refl, sym, ap, ◌∙◌, Option, Some, None, subst, ◌++◌, Result, Ok, Err, set, get_or, length, false≢true, find, filter, option_map_or, option_map, not, ◌&&◌, ◌||◌, is_some, ℕ, nat_lt, nat_le, is_section_field, shape_of, most_line_bytes, most_comments, most_others, Field, NodeCoordPart, NameKey, CommentKey, OtherKey, Known, EdgeDataFormat, EdgeDataSection, Eof, Unknown, Shape, Points, SpacePoints, Fields, fields_of, clean_more, same_field_is, same_self, rows_of_word, words_more, same_field, has_line, open_section, words_of, spatial_after, dimension_in, place_by, place_in, values_at, others_in, word_fault, row_of, when, first_row, is_too_long_to_keep, coords_by_node, Item, AreCut, WordLine, Line, NumberWord, PastEnd, spelled, fault_at_end, fields_by, is_incomplete, sections_in_order, LineFault}
 use Rattle.std.proofs.Math.Logic.{∥∥₁_elim}
-use Rattle.std.proofs.lemmas.Bool.{false≢true}
-use Rattle.std.specs.List.{find, filter}
-use Rattle.std.specs.Option.{option_map_or, option_map}
-use Rattle.std.specs.Prelude.{not, ◌&&◌, ◌||◌, is_some, ℕ, nat_lt, nat_le}
 use mathlib.Core.Bool.{Bool-set}
-use Rattle.tsp_format.specs.Limits.{is_section_field, shape_of, most_line_bytes, most_comments, most_others}
-use Rattle.tsp_format.specs.declared.keyword.Field.{Field}
-use Rattle.tsp_format.specs.declared.keyword.Field.TheVariants.{NodeCoordPart, NameKey, CommentKey, OtherKey}
-use Rattle.tsp_format.specs.declared.keyword.Keyword.TheVariants.{Known, EdgeDataFormat, EdgeDataSection, Eof, Unknown}
-use Rattle.tsp_format.specs.declared.keyword.Shape.{Shape}
-use Rattle.tsp_format.specs.declared.keyword.Shape.TheVariants.{Points, SpacePoints}
-use Rattle.tsp_file.specs.Fields.{Fields}
+use Rattle.tsp_format.proofs.Pairs.{found_passes}
 use Rattle.tsp_file.specs.Rules.{standing_of, end_fault, fault_of}
 use Rattle.tsp_file.specs.declared.rules.DraftFault.{DraftFault}
-use Rattle.tsp_file.specs.states.Drafts.{fields_of}
 use Rattle.tsp_text.proofs.Sections.{by_section, section_of}
-use Rattle.tsp_text.proofs.SettledFaults.{clean_more}
 use Rattle.tsp_text.proofs.ValidItems.{is_file}
-use Rattle.tsp_text.proofs.ValidRows.{same_field_is, same_self, rows_of_word, words_more}
-use Rattle.tsp_text.specs.Earlier.{same_field, has_line, open_section, words_of, spatial_after, dimension_in, place_by, place_in, values_at, others_in}
-use Rattle.tsp_text.specs.FaultRows.{word_fault, row_of, when, first_row, is_too_long_to_keep}
-use Rattle.tsp_text.specs.Groups.{coords_by_node}
-use Rattle.tsp_text.specs.Items.{Item, AreCut, WordLine, Line, NumberWord}
-use Rattle.tsp_text.specs.SectionWords.{PastEnd}
-use Rattle.tsp_text.specs.ParsesTo.{spelled, fault_at_end, fields_by, is_incomplete, sections_in_order}
-use Rattle.tsp_text.specs.declared.fault.LineFault.{LineFault}
 use Rattle.tsp_text.specs.declared.fault.LineFault.TheVariants as row
 use Rattle.tsp_read.proofs.KeywordSteps.{still_none}
 use Rattle.tsp_read.specs.declared.line.StepFault.{StepFault}
@@ -36,15 +16,6 @@ use Rattle.tsp_read.specs.declared.reading.Reading.{Reading}
 use Rattle.tsp_read.specs.states.HeldParts.{shape_by, HoldsPart, HoldsShape}
 use Rattle.tsp_read.specs.states.Holds.{is_it, first_of, Holds, Closed, IsReadFrom, is_closed, is_closed_incomplete, fields_there, keywords_there, with_words, with_section, OpenHolds, AnswersItem, SetsName, AddsComment, AddsOther, LineAnswers, OtherAnswers}
 use Rattle.tsp_read.specs.states.Parts.{Takes}
-
--- what is found passes
-found_passes : {A : Type 0} (p : A → Bool) (xs : List A) (y : A) → find p xs ≡ Some y → p y ≡ true
-found_passes p [] y e = cc
-found_passes p (x ∷ xs) y e = by_case (p x) refl (found_passes p xs y) e
-  where
-    by_case : (b : Bool) → p x ≡ b → (find p xs ≡ Some y → p y ≡ true) → cond b (Some x) (find p xs) ≡ Some y → p y ≡ true
-    by_case true is rest e = let same : x ≡ y = cc in ap p (sym same) ∙ is
-    by_case false is rest e = rest e
 
 -- the same test finds the same
 found_alike : {A : Type 0} (p q : A → Bool) (xs : List A) → ((x : A) → p x ≡ q x) → find p xs ≡ find q xs

@@ -1,21 +1,7 @@
 -- The steps of a tree as they are written: each word is taken at its place, and they are read back.
-use Rattle.std.proofs.Common.{◌≡◌, ℕ, zero, suc, ◌+◌, ◌-◌, ◌^◌, ◌<◌, ◌≤◌, true, false, cond, List, [], ◌∷◌, ◌++◌, length, refl, sym, ap, subst, ◌∙◌, append_assoc, append-nil, arith, None, Some, Result, Ok}
-use Rattle.std.specs.Prelude.{ℤ, pos, neg_ℤ, not, ◌&&◌, ◌==◌, nat_le, nat_abs, codes}
-use Rattle.std.specs.Result.{result_err}
-use Rattle.std.specs.List.{list_all, flat_map}
-use Rattle.std.specs.Fmt.{decimal, signed_decimal}
-use Rattle.std.proofs.lemmas.Bool.{and_from, and_parts, and_left, and_right, leb-true, le-leb, eqb-true, false_from_ne_true, not_from_true, false≢true}
+use Rattle.tsp_read.proofs.Prelude.{◌≡◌, ℕ, zero, suc, ◌+◌, ◌-◌, ◌^◌, ◌<◌, ◌≤◌, true, false, cond, List, [], ◌∷◌, ◌++◌, length, refl, sym, ap, subst, ◌∙◌, append_assoc, append-nil, arith, None, Some, Result, Ok, ℤ, pos, neg_ℤ, not, ◌&&◌, ◌==◌, nat_le, nat_abs, codes, result_err, list_all, flat_map, decimal, signed_decimal, and_from, and_parts, and_left, and_right, leb-true, le-leb, eqb-true, false_from_ne_true, not_from_true, false≢true, NumberFault, whole_of, most_families, most_branches, most_changes, most_difference, Step, Branch, Leaf, are_whole, branch_count, change_count, within_abs, is_within, is_node, is_branch_of, is_change, is_step, are_tree_steps, change_words, number, reads_as, whole_of_size, StepAfter, IndexAfter, Amount, PastGroups, TreeSoFar, no_steps, index_or_leaf, begins_leaf, index_or_end, ends_leaf, with_leaf, with_word_of, with_tree_word, whole_steps, place_in_step, place_in_tree, place_of_step, word_fault, wants_more}
 use Rattle.std.proofs.lemmas.Fmt.{decimal_digit}
-use Rattle.tsp_number.specs.declared.word.NumberFault.{NumberFault}
-use Rattle.tsp_number.specs.NumberWord.{whole_of}
-use Rattle.tsp_format.specs.Limits.{most_combs, most_branches, most_changes, most_difference}
-use Rattle.tsp_format.specs.Steps.{Step, Branch, Leaf, are_whole, branch_count, change_count}
-use Rattle.tsp_file.specs.Validity.{is_within, is_node, is_branch_of, is_change, is_step, are_tree_steps}
-use Rattle.tsp_file.specs.CanonicalText.{change_words}
-use Rattle.tsp_text.specs.SectionWords.{number, reads_as, whole_of_size, StepAfter, IndexAfter, Amount, PastGroups, TreeSoFar, no_steps, index_or_leaf, begins_leaf, index_or_end, ends_leaf, with_leaf, with_word_of, with_tree_word, whole_steps, place_in_step, place_in_tree, place_of_step}
-use Rattle.tsp_text.specs.FaultRows.{word_fault}
-use Rattle.tsp_text.specs.ParsesTo.{wants_more}
-use Rattle.tsp_read.proofs.NumbersReadBack.{NumberLaws, node_back, listed_back, node_goes_on, end_read, end_ends, no_zero, size_in, no_rows, has_room, second_taken, are_branch}
+use Rattle.tsp_read.proofs.NumbersReadBack.{NumberLaws, node_back, listed_back, node_goes_on, end_read, end_ends, no_zero, no_rows, has_room, second_taken, are_branch}
 use Rattle.tsp_read.proofs.Onto.{AllTaken, Runs, runs_none, runs_one, runs_then, all_taken}
 
 -- ---- the words of the lines
@@ -63,27 +49,27 @@ one n start word last still taken gives =
 
 -- ---- a branch
 
-first_back : NumberLaws → (n k : ℕ) → n + most_combs < 2 ^ 32 → is_node (n + most_combs) k ≡ true
+first_back : NumberLaws → (n k : ℕ) → n + most_families < 2 ^ 32 → is_node (n + most_families) k ≡ true
     → index_or_leaf n (decimal k) ≡ Ok (pos k)
 first_back laws n k few is =
-    let last = n + most_combs in
+    let last = n + most_families in
     let both = and_parts (nat_le 1 k) (nat_le k last) is in
     laws.whole_back (pos k) (pos 0) (pos last) (omega (arith, leb-true k last both.1)) (and_from (nat_le 0 k) (nat_le k last) (le-leb 0 k (omega arith)) both.1)
 
-no_leaf : NumberLaws → (n k : ℕ) → n + most_combs < 2 ^ 32 → is_node (n + most_combs) k ≡ true → begins_leaf n (decimal k) ≡ false
+no_leaf : NumberLaws → (n k : ℕ) → n + most_families < 2 ^ 32 → is_node (n + most_families) k ≡ true → begins_leaf n (decimal k) ≡ false
 no_leaf laws n k few is =
     ap (reads_as (pos 0)) (first_back laws n k few is)
-    ∙ no_zero k (leb-true 1 k (and_parts (nat_le 1 k) (nat_le k (n + most_combs)) is).0)
+    ∙ no_zero k (leb-true 1 k (and_parts (nat_le 1 k) (nat_le k (n + most_families)) is).0)
 
-first_taken : NumberLaws → (n branches k : ℕ) → n + most_combs < 2 ^ 32 → nat_le most_branches branches ≡ false
-    → is_node (n + most_combs) k ≡ true
+first_taken : NumberLaws → (n branches k : ℕ) → n + most_families < 2 ^ 32 → nat_le most_branches branches ≡ false
+    → is_node (n + most_families) k ≡ true
     → word_fault n (StepAfter branches) (decimal k) ≡ None
 first_taken laws n branches k few room is =
     no_rows (result_err (index_or_leaf n (decimal k))) false false (nat_le most_branches branches && not (begins_leaf n (decimal k))) false
     (ap (λ (r : Result ℤ NumberFault). result_err r) (first_back laws n k few is)) refl refl
     (and_left (nat_le most_branches branches) (not (begins_leaf n (decimal k))) room) refl
 
-branch_runs : NumberLaws → (n : ℕ) → n + most_combs < 2 ^ 32 → (steps : List Step) (a b to_come branches changes : ℕ) → (to_come == 0) ≡ false
+branch_runs : NumberLaws → (n : ℕ) → n + most_families < 2 ^ 32 → (steps : List Step) (a b to_come branches changes : ℕ) → (to_come == 0) ≡ false
     → nat_le most_branches branches ≡ false → is_branch_of n (a, b) ≡ true
     → TreeRuns n (between steps to_come branches changes) (step_words (Branch a b)) (between (steps ++ Branch a b ∷ []) (to_come + 1) (branches + 1) changes)
 branch_runs laws n few steps a b to_come branches changes still room fits =
@@ -103,7 +89,7 @@ branch_runs laws n few steps a b to_come branches changes still room fits =
 zero_read : NumberLaws → (n : ℕ) → index_or_leaf n (codes "0") ≡ Ok (pos 0)
 zero_read laws n =
     let word : signed_decimal (pos 0) ≡ codes "0" = decimal_digit 0 (omega arith) in
-    let last = n + most_combs in
+    let last = n + most_families in
     ap (λ w. whole_of w (pos 0) (pos last)) (sym word)
     ∙ laws.whole_back (pos 0) (pos 0) (pos last) (omega arith) (and_from (nat_le 0 0) (nat_le 0 last) refl (le-leb 0 last (omega arith)))
 
@@ -116,23 +102,23 @@ zero_taken laws n branches =
     (ap (λ (r : Result ℤ NumberFault). result_err r) (zero_read laws n)) refl refl
     (and_right (nat_le most_branches branches) (not (begins_leaf n (codes "0"))) (not_from_true (begins_leaf n (codes "0")) (leaf_begins laws n))) refl
 
-index_taken : NumberLaws → (n changes k : ℕ) → n + most_combs < 2 ^ 32 → nat_le most_changes changes ≡ false
-    → is_node (n + most_combs) k ≡ true → word_fault n (IndexAfter changes) (decimal k) ≡ None
+index_taken : NumberLaws → (n changes k : ℕ) → n + most_families < 2 ^ 32 → nat_le most_changes changes ≡ false
+    → is_node (n + most_families) k ≡ true → word_fault n (IndexAfter changes) (decimal k) ≡ None
 index_taken laws n changes k few room is =
     no_rows (result_err (index_or_end n (decimal k))) false false (nat_le most_changes changes && not (ends_leaf n (decimal k))) false
-    (ap (λ (r : Result ℤ NumberFault). result_err r) (listed_back laws (n + most_combs) k few is)) refl refl
+    (ap (λ (r : Result ℤ NumberFault). result_err r) (listed_back laws (n + most_families) k few is)) refl refl
     (and_left (nat_le most_changes changes) (not (ends_leaf n (decimal k))) room) refl
 
 end_taken : NumberLaws → (n changes : ℕ) → word_fault n (IndexAfter changes) (codes "-1") ≡ None
 end_taken laws n changes =
     no_rows (result_err (index_or_end n (codes "-1"))) false false (nat_le most_changes changes && not (ends_leaf n (codes "-1"))) false
-    (ap (λ (r : Result ℤ NumberFault). result_err r) (end_read laws (n + most_combs))) refl refl
-    (and_right (nat_le most_changes changes) (not (ends_leaf n (codes "-1"))) (not_from_true (ends_leaf n (codes "-1")) (end_ends laws (n + most_combs)))) refl
+    (ap (λ (r : Result ℤ NumberFault). result_err r) (end_read laws (n + most_families))) refl refl
+    (and_right (nat_le most_changes changes) (not (ends_leaf n (codes "-1"))) (not_from_true (ends_leaf n (codes "-1")) (end_ends laws (n + most_families)))) refl
 
 difference_back : NumberLaws → (z : ℤ) → is_within most_difference z ≡ true
     → whole_of_size most_difference (signed_decimal z) ≡ Ok z
 difference_back laws z inside =
-    let small = size_in most_difference z inside in
+    let small = within_abs most_difference z inside in
     laws.whole_back z _ _ (omega (arith, small)) inside
 
 difference_taken : NumberLaws → (n : ℕ) (z : ℤ) → is_within most_difference z ≡ true
@@ -141,12 +127,12 @@ difference_taken laws n z inside =
     no_rows (result_err (whole_of_size most_difference (signed_decimal z))) false false false false
     (ap (λ (r : Result ℤ NumberFault). result_err r) (difference_back laws z inside)) refl refl refl refl
 
-change_runs : NumberLaws → (n : ℕ) → n + most_combs < 2 ^ 32
+change_runs : NumberLaws → (n : ℕ) → n + most_families < 2 ^ 32
     → (steps : List Step) (leaf : List (ℕ × ℤ)) (change : ℕ × ℤ) (to_come branches changes : ℕ) → (to_come == 0) ≡ false
     → nat_le most_changes changes ≡ false → is_change n change ≡ true
     → TreeRuns n (within steps leaf to_come branches changes) (change_words change) (within steps (leaf ++ change ∷ []) to_come branches (changes + 1))
 change_runs laws n few steps leaf change to_come branches changes still room fits =
-    let both = and_parts (is_node (n + most_combs) change.0) (is_within most_difference change.1) fits in
+    let both = and_parts (is_node (n + most_families) change.0) (is_within most_difference change.1) fits in
     let index = decimal change.0 in
     let difference = signed_decimal change.1 in
     let start = within steps leaf to_come branches changes in
@@ -154,12 +140,12 @@ change_runs laws n few steps leaf change to_come branches changes still room fit
     let last = within steps (leaf ++ change ∷ []) to_come branches (changes + 1) in
     onward n start middle last (index ∷ []) (difference ∷ [])
     (one n start index middle still (index_taken laws n changes change.0 few room both.0)
-    (ap (λ t. cond t (with_leaf start) (record start { first = Some (nat_abs (number (index_or_end n index))); changes = changes + 1 })) (node_goes_on laws (n + most_combs) change.0 few both.0)
-    ∙ ap (λ (r : Result ℤ NumberFault). half steps leaf (nat_abs (number r)) to_come branches (changes + 1)) (listed_back laws (n + most_combs) change.0 few both.0)))
+    (ap (λ t. cond t (with_leaf start) (record start { first = Some (nat_abs (number (index_or_end n index))); changes = changes + 1 })) (node_goes_on laws (n + most_families) change.0 few both.0)
+    ∙ ap (λ (r : Result ℤ NumberFault). half steps leaf (nat_abs (number r)) to_come branches (changes + 1)) (listed_back laws (n + most_families) change.0 few both.0)))
     (one n middle difference last still (difference_taken laws n change.1 both.1)
     (ap (λ (r : Result ℤ NumberFault). within steps (leaf ++ (change.0, number r) ∷ []) to_come branches (changes + 1)) (difference_back laws change.1 both.1)))
 
-changes_run : NumberLaws → (n : ℕ) → n + most_combs < 2 ^ 32
+changes_run : NumberLaws → (n : ℕ) → n + most_families < 2 ^ 32
     → (steps : List Step) (before leaf : List (ℕ × ℤ)) (to_come branches changes : ℕ) → (to_come == 0) ≡ false
     → changes + length leaf ≤ most_changes → list_all (is_change n) leaf ≡ true
     → TreeRuns n (within steps before to_come branches changes) (flat_map change_words leaf) (within steps (before ++ leaf) to_come branches (changes + length leaf))
@@ -182,7 +168,7 @@ changes_run laws n few steps before (change ∷ leaf) to_come branches changes s
     (change_runs laws n few steps before change to_come branches changes still (has_room most_changes changes (length leaf) room) both.0)
     (changes_run laws n few steps (before ++ change ∷ []) leaf to_come branches (changes + 1) still (omega arith) both.1))
 
-leaf_runs : NumberLaws → (n : ℕ) → n + most_combs < 2 ^ 32
+leaf_runs : NumberLaws → (n : ℕ) → n + most_families < 2 ^ 32
     → (steps : List Step) (leaf : List (ℕ × ℤ)) (to_come branches changes : ℕ) → (to_come == 0) ≡ false
     → changes + length leaf ≤ most_changes → list_all (is_change n) leaf ≡ true
     → TreeRuns n (between steps to_come branches changes) (leaf_words leaf) (between (steps ++ Leaf leaf ∷ []) (to_come - 1) branches (changes + length leaf))
@@ -197,7 +183,7 @@ leaf_runs laws n few steps leaf to_come branches changes still room all =
     (ap (λ t. cond t entered (record start { first = Some (nat_abs (number (index_or_leaf n (codes "0")))); branches = branches + 1 })) (leaf_begins laws n)))
     (onward n entered filled last (flat_map change_words leaf) (codes "-1" ∷ []) (changes_run laws n few steps [] leaf to_come branches changes still room all)
     (one n filled (codes "-1") last still (end_taken laws n (changes + length leaf))
-    (ap (λ t. cond t (with_leaf filled) (record filled { first = Some (nat_abs (number (index_or_end n (codes "-1")))); changes = changes + length leaf + 1 })) (end_ends laws (n + most_combs)))))
+    (ap (λ t. cond t (with_leaf filled) (record filled { first = Some (nat_abs (number (index_or_end n (codes "-1")))); changes = changes + length leaf + 1 })) (end_ends laws (n + most_families)))))
 
 -- ---- all steps
 
@@ -205,7 +191,7 @@ not_zero : (count : ℕ) → (suc count == 0) ≡ false
 not_zero count = false_from_ne_true (suc count == 0) (λ e. let none = eqb-true (suc count) 0 e in absurd (omega arith))
 
 -- plan: by induction over the steps: a branch has one tree more to come (`branch_runs`), a leaf one less (`leaf_runs`)
-each_step_runs : NumberLaws → (n : ℕ) → n + most_combs < 2 ^ 32 → (before steps : List Step) (to_come branches changes : ℕ)
+each_step_runs : NumberLaws → (n : ℕ) → n + most_families < 2 ^ 32 → (before steps : List Step) (to_come branches changes : ℕ)
     → branches + branch_count steps ≤ most_branches
     → changes + change_count steps ≤ most_changes → list_all (is_step n) steps ≡ true → are_whole to_come steps ≡ true
     → TreeRuns n (between before to_come branches changes) (flat_map step_words steps) (between (before ++ steps) 0 (branches + branch_count steps) (changes + change_count steps))
@@ -254,7 +240,7 @@ each_step_runs laws n few before (Leaf leaf ∷ steps) (suc to_come) branches ch
 abbrev all_of : List Step → TreeSoFar
 all_of steps = between steps 0 (0 + branch_count steps) (0 + change_count steps)
 
-all_run : NumberLaws → (n : ℕ) → n + most_combs < 2 ^ 32 → (steps : List Step) → are_tree_steps n steps ≡ true
+all_run : NumberLaws → (n : ℕ) → n + most_families < 2 ^ 32 → (steps : List Step) → are_tree_steps n steps ≡ true
     → TreeRuns n no_steps (flat_map step_words steps) (all_of steps)
 all_run laws n few steps fits =
     let each = list_all (is_step n) steps in
@@ -265,15 +251,15 @@ all_run laws n few steps fits =
     let one = and_parts each branches two.0 in
     each_step_runs laws n few [] steps 1 0 0 (omega (arith, leb-true (branch_count steps) most_branches one.1)) (omega (arith, leb-true (change_count steps) most_changes two.1)) one.0 three.1
 
-pub steps_taken : NumberLaws → (n : ℕ) → n + most_combs < 2 ^ 32 → (steps : List Step) → are_tree_steps n steps ≡ true
+pub steps_taken : NumberLaws → (n : ℕ) → n + most_families < 2 ^ 32 → (steps : List Step) → are_tree_steps n steps ≡ true
     → AllTaken n (place_of_step n) [] (flat_map step_words steps)
 steps_taken laws n few steps fits =
     all_taken n (with_tree_word n) place_in_tree no_steps [] (flat_map step_words steps) (all_run laws n few steps fits).taken
 
-pub steps_back : NumberLaws → (n : ℕ) → n + most_combs < 2 ^ 32 → (steps : List Step) → are_tree_steps n steps ≡ true
+pub steps_back : NumberLaws → (n : ℕ) → n + most_families < 2 ^ 32 → (steps : List Step) → are_tree_steps n steps ≡ true
     → whole_steps n (flat_map step_words steps) ≡ steps
 steps_back laws n few steps fits = ap (λ (s : TreeSoFar). s.steps) (all_run laws n few steps fits).gives
 
-pub steps_done : NumberLaws → (n : ℕ) → n + most_combs < 2 ^ 32 → (steps : List Step) → are_tree_steps n steps ≡ true
+pub steps_done : NumberLaws → (n : ℕ) → n + most_families < 2 ^ 32 → (steps : List Step) → are_tree_steps n steps ≡ true
     → wants_more (place_of_step n (flat_map step_words steps)) ≡ false
 steps_done laws n few steps fits = ap (λ (s : TreeSoFar). wants_more (place_in_tree s)) (all_run laws n few steps fits).gives

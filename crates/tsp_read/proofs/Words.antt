@@ -1,19 +1,6 @@
 -- The words of tours and matrices as they are written are the items of their lines.
-use Rattle.std.proofs.Common.{◌≡◌, ℕ, ◌+◌, ◌≤◌, true, false, cond, List, [], ◌∷◌, ◌++◌, length, map, refl, sym, ap, ◌∙◌, arith, append_assoc, Result, ◌^◌, ◌<◌, Bool, subst, take, drop, Some, None}
-use Rattle.std.proofs.lemmas.Bool.{and_from, and_parts, not_from_true, not_from_false, and_left, and_right, false≢true, leb-true}
-use Rattle.std.proofs.lemmas.List.{length-append, take-append-drop, map-append}
+use Rattle.tsp_read.proofs.Prelude.{◌≡◌, ℕ, ◌+◌, ◌≤◌, true, false, cond, List, [], ◌∷◌, ◌++◌, length, map, refl, sym, ap, ◌∙◌, arith, append_assoc, Result, ◌^◌, ◌<◌, Bool, subst, take, drop, Some, None, and_from, and_parts, not_from_true, not_from_false, and_left, and_right, false≢true, leb-true, length-append, take-append-drop, map-append, list_all-append, sum_by-cons, decimal, signed_decimal, list_all, filter, flat_map, slice_split, sum_by, enumerate_from, ℤ, not, ◌&&◌, nat_le, nat_abs, codes, result_err, NumberFault, most_nodes, most_tour_nodes, most_weight, most_multiplier, field_word, kind_word, weight_kind_word, weight_format_word, coord_kind_word, display_kind_word, NodeCoordPart, TypeKey, EdgeWeightTypeKey, EdgeWeightFormatKey, NodeCoordTypeKey, DisplayDataTypeKey, Known, within_abs, number_line, ended_by_mark, node_list, pair_list, triple_list, weight_line, matrix_lines, is_node, is_node_list, is_within, is_pair_of, is_triple_of, Words, has_line, kind_named, weight_kind_named, weight_format_named, coord_kind_named, display_kind_named, row_of, is_not_empty, first_word, Item, Line, number, node_or_end, is_end, ends_tour, tour_node, tours_in, place_of_tour, Place}
 use Rattle.std.proofs.lemmas.List.Elements.{filter-append}
-use Rattle.std.proofs.lemmas.List.Folds.{list_all-append}
-use Rattle.std.proofs.lemmas.List.Sums.{sum_by-cons}
-use Rattle.std.specs.Fmt.{decimal, signed_decimal}
-use Rattle.std.specs.List.{list_all, filter, flat_map, slice_split, sum_by, enumerate_from}
-use Rattle.std.specs.Prelude.{ℤ, not, ◌&&◌, nat_le, nat_abs, codes}
-use Rattle.std.specs.Result.{result_err}
-use Rattle.tsp_number.specs.declared.word.NumberFault.{NumberFault}
-use Rattle.tsp_format.specs.Limits.{most_nodes, most_tour_nodes, most_weight, most_multiplier}
-use Rattle.tsp_format.specs.Words.{field_word, kind_word, weight_kind_word, weight_format_word, coord_kind_word, display_kind_word}
-use Rattle.tsp_format.specs.declared.keyword.Field.TheVariants.{NodeCoordPart, TypeKey, EdgeWeightTypeKey, EdgeWeightFormatKey, NodeCoordTypeKey, DisplayDataTypeKey}
-use Rattle.tsp_format.specs.declared.keyword.Keyword.TheVariants.{Known}
 use Rattle.tsp_format.specs.declared.kinds.CoordKind.{CoordKind}
 use Rattle.tsp_format.specs.declared.kinds.CoordKind.TheVariants as coord_kinds
 use Rattle.tsp_format.specs.declared.kinds.DisplayKind.{DisplayKind}
@@ -25,15 +12,8 @@ use Rattle.tsp_format.specs.declared.kinds.WeightFormat.TheVariants as formats
 use Rattle.tsp_format.specs.declared.kinds.WeightKind.{WeightKind}
 use Rattle.tsp_format.specs.declared.kinds.WeightKind.TheVariants as weight_kinds
 use Rattle.tsp_format.specs.declared.layout.Layout.TheVariants as layouts
-use Rattle.tsp_file.specs.CanonicalText.{number_line, ended_by_mark, node_list, pair_list, triple_list, weight_line, matrix_lines}
-use Rattle.tsp_file.specs.Validity.{is_node, is_node_list, is_within, is_pair_of, is_triple_of}
-use Rattle.tsp_text.proofs.GroupWords.{Words}
-use Rattle.tsp_text.specs.Earlier.{has_line, kind_named, weight_kind_named, weight_format_named, coord_kind_named, display_kind_named}
-use Rattle.tsp_text.specs.FaultRows.{row_of}
-use Rattle.tsp_text.specs.Items.{is_not_empty, first_word, Item, Line}
-use Rattle.tsp_text.specs.SectionWords.{number, node_or_end, is_end, ends_tour, tour_node, tours_in, place_of_tour, Place}
 use Rattle.tsp_read.proofs.Groups.{AreSpelled, entry_words}
-use Rattle.tsp_read.proofs.NumbersReadBack.{NumberLaws, listed_back, node_goes_on, end_read, end_ends, no_rows, has_room, decimal_plain, signed_plain, size_in, size_from, are_pair, pair_words, triple_words, are_triple}
+use Rattle.tsp_read.proofs.NumbersReadBack.{NumberLaws, listed_back, node_goes_on, end_read, end_ends, no_rows, has_room, decimal_plain, signed_plain, size_from, are_pair, pair_words, triple_words, are_triple}
 use Rattle.tsp_read.proofs.Onto.{AllTaken, taken-append, IsWhole, written_line}
 use Rattle.tsp_read.proofs.Text.{split_at, is_plain_word, WritesWords, no_words_written, both_words, number_line_written}
 
@@ -230,7 +210,7 @@ weight_line_written first rest all =
   where
     weight_plain : (z : ℤ) → is_within most_weight z ≡ true → is_plain_word (signed_decimal z) ≡ true
     weight_plain z inside =
-        let small = size_in most_weight z inside in
+        let small = within_abs most_weight z inside in
         signed_plain z (omega (arith, small))
 
     weights_plain : (zs : List ℤ) → list_all (is_within most_weight) zs ≡ true → list_all is_plain_word (map signed_decimal zs) ≡ true

@@ -1,7 +1,6 @@
 -- The result of reading the canonical text of a file.
-use Rattle.std.specs.Prelude.{◌≡◌, Result, Ok, Err}
-use Rattle.tsp_file.specs.Fields.{Fields}
-use Rattle.tsp_text.specs.declared.fault.ReadFault.{ReadFault}
+use Rattle.tsp_read.specs.Prelude.{Result, Ok, Err, Fields, ReadFault}
+use Rattle.std.specs.Prelude.{◌≡◌}
 use Rattle.tsp_text.specs.declared.fault.ReadFault.TheVariants as faults
 
 -- it is this file, or memory was refused

@@ -1,17 +1,13 @@
 -- Circle 2 of docs/trust.md.
 -- The result of reading a text whole, from a reader or in pieces: its file, or its first fault; and that a reader is
 -- asked for no piece more than its text needs.
+use Rattle.tsp_read.specs.Prelude.{ℕ, zero, suc, Bool, false, List, Result, is_err, Some, Ok, Err, true, not, length, Option, None, is_some, take, most_file_bytes, Fields, Item, has_end_line, fault, ParsesTo, is_too_long, part, settled_part, settled_fault, ReadFault}
 use Rattle.std.specs.Io.KnownBytes.{IsAtEnd}
-use Rattle.std.specs.Prelude.{◌≡◌, ◌||◌, ℕ, zero, suc, Bool, false, List, Result, is_err, ◌+◌, Some, Ok, Err, ◌≤◌, true, not, ◌&&◌, length, Option, None, is_some, ◌-◌, take, ◌⊎◌}
+use Rattle.std.specs.Prelude.{◌≡◌, ◌||◌, ◌+◌, ◌≤◌, ◌&&◌, ◌-◌, ◌⊎◌}
 use Rattle.std.specs.declared.io.Error.{Error}
 use Rattle.tsp_io.specs.Streams.{ReadTrace, Gave, IsSound, GaveAll, HasBrokenOff, TakesAtMost}
 use Rattle.tsp_io.specs.declared.watched.Watched.{Watched}
 use Rattle.tsp_io.specs.states.Watched.{watched, has_failed}
-use Rattle.tsp_format.specs.Limits.{most_file_bytes}
-use Rattle.tsp_file.specs.Fields.{Fields}
-use Rattle.tsp_text.specs.Items.{Item, has_end_line}
-use Rattle.tsp_text.specs.ParsesTo.{fault, ParsesTo, is_too_long, part, settled_part, settled_fault}
-use Rattle.tsp_text.specs.declared.fault.ReadFault.{ReadFault}
 use Rattle.tsp_text.specs.declared.fault.ReadFault.TheVariants as faults
 use Rattle.tsp_read.specs.declared.feed.Feed.{Feed}
 use Rattle.tsp_read.specs.declared.feed.Stage.{Stage}

@@ -1,6 +1,5 @@
-//! Public calls that read a file from bytes, a reader or pieces, as example_check does. Each
-//! returns the fault of a call in `src/api.rt` or `src/feed.rt`, without the token of a
-//! refusal.
+//! The public calls that read a file: from bytes, from a reader, or from pieces. Each returns the
+//! fault of the text, or that memory was refused.
 
 ghost use Rattle.std.specs.Prelude.{◌≡◌, Err, false, []};
 ghost use Rattle.tsp_io.specs.states.Watched.{read_trace_of, has_failed};
@@ -57,11 +56,9 @@ pub fn read_from<R: Gives>(alloc: Global, reader: &mut Watched<R>) -> Result<Fil
 }
 
 impl Feed {
-    ghost use Rattle.std.specs.Prelude.{◌≡◌, ◌≢◌, ◌++◌, List, ℕ, Some, None, Ok, Err, IfErr, true, false};
-    ghost use Rattle.tsp_text.specs.declared.fault.ReadFault.{ReadFault};
+    ghost use Rattle.tsp_read.specs.Prelude.{List, ℕ, Some, None, Ok, Err, IfErr, true, false, ReadFault, has_end_line, settled_part, settled_fault};
+    ghost use Rattle.std.specs.Prelude.{◌≡◌, ◌≢◌, ◌++◌};
     ghost use Rattle.tsp_text.specs.declared.fault.ReadFault.TheVariants.{OutOfMemory};
-    ghost use Rattle.tsp_text.specs.Items.{has_end_line};
-    ghost use Rattle.tsp_text.specs.ParsesTo.{settled_part, settled_fault};
     ghost use Rattle.tsp_read.specs.states.Onward.{is_bare};
     ghost use Rattle.tsp_read.specs.Reads.{Reads};
     ghost use Rattle.tsp_read.specs.Reads.{HasTaken, refusal, Feeds};

@@ -1,10 +1,9 @@
-//! The list that takes the words of a section with a point for each node: of the plane, or in
-//! space.
+//! The lists that take the words of a section by node: a point for each node, of the plane or in space,
+//! or a whole number for each.
 
-ghost use Rattle.std.specs.Option.{ForSome};
-ghost use Rattle.std.specs.Prelude.{◌≡◌, ◌<◌, ◌≤◌, ◌^◌, None, Some, Ok, [], ℕ, List, length, ◌∷◌, ◌++◌, vec_len, IfOk, IfErr, Err, ◌≢◌, is_some, true, false, ◌-◌, pos, slice_index_or, replicate, Bool, ◌≤ℤ◌, ℤ};
+ghost use Rattle.tsp_read.specs.Prelude.{ForSome, None, Some, Ok, [], ℕ, List, length, vec_len, IfOk, IfErr, Err, is_some, true, false, pos, slice_index_or, replicate, Bool, ℤ, points_of};
+ghost use Rattle.std.specs.Prelude.{◌≡◌, ◌<◌, ◌≤◌, ◌^◌, ◌∷◌, ◌++◌, ◌≢◌, ◌-◌, ◌≤ℤ◌};
 ghost use Rattle.tsp_file.specs.Cost.{origin};
-ghost use Rattle.tsp_file.specs.states.Drafts.{points_of};
 ghost use Rattle.tsp_read.specs.states.Parts.{are_in_space};
 
 use crate::line::StepFault;
@@ -53,14 +52,9 @@ fn at_origin(alloc: Global, n: u32, in_space: bool) -> Result<Coords, Refused>
 }
 
 impl PointList {
+    ghost use Rattle.tsp_read.specs.Prelude.{decimal_of, IsWhole, coords_by_node, place_by, wants_more, word_fault};
     ghost use Rattle.tsp_read.specs.declared.line.StepFault.TheVariants.{Memory};
-    ghost use Rattle.tsp_number.specs.NumberWord.{decimal_of};
-    ghost use Rattle.tsp_text.specs.SectionWords.{IsWhole};
-    ghost use Rattle.tsp_text.specs.Groups.{coords_by_node};
-    ghost use Rattle.tsp_text.specs.Earlier.{place_by};
-    ghost use Rattle.tsp_text.specs.ParsesTo.{wants_more};
     ghost use Rattle.tsp_read.specs.states.Parts.{Takes, IsNodeOf};
-    ghost use Rattle.tsp_text.specs.FaultRows.{word_fault};
     ghost use Rattle.tsp_read.specs.states.HeldParts.{shape_of_points, HoldsPoints};
 
     /// The section with no words so far, in a file of `n` nodes, of points of the plane or in
@@ -243,10 +237,8 @@ pub struct NumberList {
 }
 
 impl NumberList {
+    ghost use Rattle.tsp_read.specs.Prelude.{place_of_number, numbers_by_node, IsWhole, wants_more};
     ghost use Rattle.tsp_read.specs.declared.line.StepFault.TheVariants.{Memory};
-    ghost use Rattle.tsp_text.specs.Groups.{place_of_number, numbers_by_node};
-    ghost use Rattle.tsp_text.specs.SectionWords.{IsWhole};
-    ghost use Rattle.tsp_text.specs.ParsesTo.{wants_more};
     ghost use Rattle.tsp_read.specs.states.Parts.{Takes, IsNodeOf};
     ghost use Rattle.tsp_read.specs.states.HeldParts.{HoldsNumbers};
 

@@ -8,12 +8,8 @@
 //! Which list takes the words is found out once for a run. The loop over them is one for all lists,
 //! and has its counts in one place.
 
-ghost use Rattle.std.specs.Option.{option_map};
-ghost use Rattle.std.specs.Prelude.{◌≡◌, ◌+◌, ◌<◌, ◌≤◌, ℕ, Bool, true, List, length, Some, IfSome, Ok, ◌-◌, pos, slice_index_or, false};
-ghost use Rattle.tsp_number.specs.NumberWord.{decimal_of};
-ghost use Rattle.tsp_format.specs.Limits.{most_file_bytes};
-ghost use Rattle.tsp_text.specs.Items.{NumberWord};
-ghost use Rattle.tsp_text.specs.SectionWords.{IsWhole};
+ghost use Rattle.tsp_read.specs.Prelude.{option_map, ℕ, Bool, true, List, length, Some, IfSome, Ok, pos, slice_index_or, false, decimal_of, most_file_bytes, NumberWord, IsWhole};
+ghost use Rattle.std.specs.Prelude.{◌≡◌, ◌+◌, ◌<◌, ◌≤◌, ◌-◌};
 ghost use Rattle.tsp_read.specs.declared.section_builder.SectionBuilder.{SectionBuilder};
 ghost use Rattle.tsp_read.specs.declared.section_builder.SectionBuilder.TheVariants as parts;
 ghost use Rattle.tsp_read.specs.states.Onward.{GivesNext};
@@ -439,7 +435,7 @@ impl Intake {
     }
 }
 
-// ---- the number of the line and of its words so far, while `src/digits.rt` takes many words in
+// ---- the number of the line and of its words, while many words are taken at once
 
 /// The counts of an `Intake`, in a run of words.
 #[derive(Clone, Copy)]

@@ -1,8 +1,7 @@
 //! `Feed`, which reads a file in pieces and finds the fault as soon as no later byte can change it.
 
-ghost use Rattle.std.specs.Prelude.{◌≡◌, ◌+◌, ◌≤◌, ◌++◌, [], List, ℕ, length, Ok, true, false};
-ghost use Rattle.tsp_format.specs.Limits.{most_file_bytes};
-ghost use Rattle.tsp_text.specs.Items.{is_not_empty};
+ghost use Rattle.tsp_read.specs.Prelude.{[], List, ℕ, length, Ok, true, false, most_file_bytes, is_not_empty};
+ghost use Rattle.std.specs.Prelude.{◌≡◌, ◌+◌, ◌≤◌, ◌++◌};
 ghost use Rattle.tsp_read.specs.states.Onward.{IsFedTo, most_lines, most_words, KeepRoom, FeedsOn, HasRoom, HasBytes, stage_after, outcome_of};
 
 use crate::items::{Begun, Intake};
@@ -114,11 +113,9 @@ impl Drop for Feed {
 }
 
 impl Feed {
-    ghost use Rattle.std.specs.Prelude.{Some, None, Err, IfOk, IfErr, ◌≢◌};
-    ghost use Rattle.tsp_text.specs.declared.fault.ReadFault.{ReadFault};
+    ghost use Rattle.tsp_read.specs.Prelude.{Some, None, Err, IfOk, IfErr, ReadFault, has_end_line, settled_part, settled_fault};
+    ghost use Rattle.std.specs.Prelude.{◌≢◌};
     ghost use Rattle.tsp_read.specs.declared.feed.Stage.TheVariants.{Going};
-    ghost use Rattle.tsp_text.specs.Items.{has_end_line};
-    ghost use Rattle.tsp_text.specs.ParsesTo.{settled_part, settled_fault};
     ghost use Rattle.tsp_text.specs.declared.fault.ReadFault.TheVariants.{OutOfMemory};
     ghost use Rattle.tsp_read.specs.states.Holds.{IsReadFrom};
     ghost use Rattle.tsp_read.specs.states.Onward.{is_bare};

@@ -1,10 +1,8 @@
 //! `Intake`: the fields read so far, with the numbers of the line and the word, and the items of a
 //! piece that it takes.
 
-ghost use Rattle.std.specs.List.{position};
-ghost use Rattle.std.specs.Prelude.{◌≡◌, ◌+◌, ◌≤◌, ◌<◌, [], List, ℕ, length, IfOk, IfSome, Err, true, ◌∷◌, IsTrue, Ok, false, MatchOption};
-ghost use Rattle.tsp_format.specs.Limits.{most_file_bytes};
-ghost use Rattle.tsp_text.specs.Items.{Item, NumberWord, line_item, WordLine, Line, is_end_line, line_number, words_before, word_number, without_start};
+ghost use Rattle.tsp_read.specs.Prelude.{position, [], List, ℕ, length, IfOk, IfSome, Err, true, IsTrue, Ok, false, MatchOption, most_file_bytes, Item, NumberWord, line_item, WordLine, Line, is_end_line, line_number, words_before, word_number, without_start};
+ghost use Rattle.std.specs.Prelude.{◌≡◌, ◌+◌, ◌≤◌, ◌<◌, ◌∷◌};
 ghost use Rattle.tsp_read.specs.states.Holds.{Holds};
 ghost use Rattle.tsp_read.specs.states.Onward.{ReadsOn, is_over_long, is_line_end, GivesNext, TakesItem};
 ghost use Rattle.tsp_read.specs.states.Left.{items_left, item_next, is_in_line, up_to_first, from, is_settled, token_item, token_at, ends_token, most_bytes};
@@ -155,7 +153,7 @@ impl Intake {
     }
 }
 
-// ---- takes one item that `src/items.rt` has cut, a word line, a word or a line end, into the
+// ---- takes one item: a word line, a word or a line end
 
 /// Takes an item into the state. Returns whether it is an end line.
 fn take(reading: &mut Reading, alloc: Global, next: &Next<'_>) -> Result<bool, StepFault>

@@ -40,6 +40,6 @@ pub use reading::ReadError;
 pub use round_trip::{canonical_texts_are_read_back, written_numbers_are_read_back};
 pub use runs::{Gathered, GatheredNodes, TourList, WeightList};
 pub use section_builder::{SectionBuilder, TripleList};
-pub use tree::{CombList, TreeList};
+pub use tree::{FamilyList, TreeList};
 pub use tsp_file::EndFault;
 pub use tsp_text::{LineFault, ReadFault};

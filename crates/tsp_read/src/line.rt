@@ -1,14 +1,11 @@
 //! A word line, cut into keyword, colon and value, and the word, number or section that its value
 //! is read as.
 
-ghost use Rattle.std.specs.List.{position, prefix_len};
-ghost use Rattle.std.specs.Option.{option_map};
-ghost use Rattle.std.specs.Prelude.{◌≡◌, cond, drop, not, map, IfOk};
-ghost use Rattle.tsp_format.specs.Words.{is_blank, is_keyword_byte};
+ghost use Rattle.tsp_read.specs.Prelude.{position, prefix_len, option_map, cond, drop, not, map, IfOk, is_blank, is_keyword_byte, is_too_long_to_keep, line_item, first_word, keyword_in, is_colon, begins, without_start, without_end, is_left_out, says_space};
+ghost use Rattle.std.specs.Prelude.{◌≡◌};
 ghost use Rattle.tsp_format.specs.declared.keyword.Field.TheVariants.{EdgeWeightTypeKey};
-ghost use Rattle.tsp_text.specs.FaultRows.{is_too_long_to_keep};
-ghost use Rattle.tsp_text.specs.Items.{line_item, first_word, keyword_in, is_colon, begins, without_start, without_end};
-ghost use Rattle.tsp_text.specs.Earlier.{is_left_out, says_space};
+ghost use Rattle.tsp_text.specs.declared.fault.LineFault.TheVariants.{Number};
+ghost use Rattle.tsp_read.specs.declared.line.StepFault.TheVariants.{Memory, Fault};
 ghost use Rattle.tsp_read.specs.states.Holds.{cut_item, NamesValue, GivesNumber, MayOpen, seen, SetsNamed, SetsName, AddsComment, AddsOther};
 
 use std::alloc::Global;
@@ -17,7 +14,7 @@ use tsp_format::{
     Shape, WeightKind, Word, is_blank, is_keyword_byte, value_of,
 };
 use tsp_io::{Refused, copied, push};
-use tsp_number::parse_whole;
+use tsp_number::{NumberFault, parse_whole};
 use tsp_text::LineFault;
 
 /// A word line, cut into its parts.
@@ -303,13 +300,8 @@ pub fn set_name(
     if is_too_long_to_keep(line) {
         return Err(StepFault::Fault(LineFault::BadValue));
     }
-    match copied(alloc, line.value) {
-        Ok(name) => {
-            *slot = Some(name);
-            Ok(())
-        }
-        Err(refused) => Err(StepFault::Memory(refused)),
-    }
+    *slot = Some(copied(alloc, line.value)?);
+    Ok(())
 }
 
 /// Puts the value of a line COMMENT behind those before it.
@@ -335,13 +327,8 @@ pub fn add_comment(
     if comments.len() >= MOST_COMMENTS {
         return Err(StepFault::Fault(LineFault::Surplus));
     }
-    match copied(alloc, line.value) {
-        Ok(comment) => match push(comments, comment) {
-            Ok(()) => Ok(()),
-            Err(refused) => Err(StepFault::Memory(refused)),
-        },
-        Err(refused) => Err(StepFault::Memory(refused)),
-    }
+    push(comments, copied(alloc, line.value)?)?;
+    Ok(())
 }
 
 /// Adds the line of an unknown keyword.
@@ -371,13 +358,8 @@ pub fn add_other(
     if others.len() >= MOST_OTHERS {
         return Err(StepFault::Fault(LineFault::Surplus));
     }
-    match kept(alloc, line) {
-        Ok(other) => match push(others, other) {
-            Ok(()) => Ok(()),
-            Err(refused) => Err(StepFault::Memory(refused)),
-        },
-        Err(refused) => Err(StepFault::Memory(refused)),
-    }
+    push(others, kept(alloc, line)?)?;
+    Ok(())
 }
 
 /// The keyword and the value of a line.
@@ -399,4 +381,28 @@ pub enum StepFault {
     Memory(Refused),
     /// It has this fault.
     Fault(LineFault),
+}
+
+impl From<Refused> for StepFault {
+    ghost from_gives = { λ refused step. step ≡ Memory refused };
+
+    fn from(refused: Refused) -> StepFault {
+        StepFault::Memory(refused)
+    }
+}
+
+impl From<LineFault> for StepFault {
+    ghost from_gives = { λ fault step. step ≡ Fault fault };
+
+    fn from(fault: LineFault) -> StepFault {
+        StepFault::Fault(fault)
+    }
+}
+
+impl From<NumberFault> for StepFault {
+    ghost from_gives = { λ fault step. step ≡ Fault (Number fault) };
+
+    fn from(fault: NumberFault) -> StepFault {
+        StepFault::Fault(LineFault::Number(fault))
+    }
 }

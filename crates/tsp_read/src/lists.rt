@@ -1,4 +1,4 @@
-//! The list that takes the words of DEPOT_SECTION.
+//! The lists that take the words of DEPOT_SECTION and FIXED_EDGES_SECTION.
 
 ghost use Rattle.std.specs.Prelude.{◌≡◌, [], ℕ, List, ◌∷◌, ◌++◌, IfErr, false, None, Some};
 
@@ -55,20 +55,15 @@ impl DepotList {
             }
             return Err(StepFault::Fault(LineFault::AfterEnd));
         }
-        match read_node_or_end(word, self.n) {
-            Err(fault) => Err(StepFault::Fault(LineFault::Number(fault))),
-            Ok(None) => {
-                self.ended = true;
-                Ok(())
-            }
-            Ok(Some(_)) if self.depots.len() >= MOST_DEPOTS => {
-                Err(StepFault::Fault(LineFault::Surplus))
-            }
-            Ok(Some(node)) => match push(&mut self.depots, node) {
-                Ok(()) => Ok(()),
-                Err(refused) => Err(StepFault::Memory(refused)),
-            },
+        let Some(node) = read_node_or_end(word, self.n)? else {
+            self.ended = true;
+            return Ok(());
+        };
+        if self.depots.len() >= MOST_DEPOTS {
+            return Err(StepFault::Fault(LineFault::Surplus));
         }
+        push(&mut self.depots, node)?;
+        Ok(())
     }
 
     /// The depots.
@@ -92,8 +87,7 @@ pub struct FixedList {
 }
 
 impl FixedList {
-    ghost use Rattle.tsp_text.specs.Groups.{place_of_fixed, fixed_in};
-    ghost use Rattle.tsp_text.specs.ParsesTo.{wants_more};
+    ghost use Rattle.tsp_read.specs.Prelude.{place_of_fixed, fixed_in, wants_more};
     ghost use Rattle.tsp_read.specs.states.Parts.{Takes};
     ghost use Rattle.tsp_read.specs.states.HeldParts.{HoldsFixed};
 
@@ -147,20 +141,15 @@ impl FixedList {
         ensures kept { IfErr result (λ _. (n : ℕ) (words : List (List ℕ))
             → HoldsFixed self.old n words → HoldsFixed self.new n words) }
     {
-        match read_node_or_end(word, self.n) {
-            Err(fault) => Err(StepFault::Fault(LineFault::Number(fault))),
-            Ok(None) => {
-                self.ended = true;
-                Ok(())
-            }
-            Ok(Some(_)) if self.pairs.len() >= MOST_FIXED => {
-                Err(StepFault::Fault(LineFault::Surplus))
-            }
-            Ok(Some(node)) => {
-                self.first = Some(node);
-                Ok(())
-            }
+        let Some(node) = read_node_or_end(word, self.n)? else {
+            self.ended = true;
+            return Ok(());
+        };
+        if self.pairs.len() >= MOST_FIXED {
+            return Err(StepFault::Fault(LineFault::Surplus));
         }
+        self.first = Some(node);
+        Ok(())
     }
 
     /// Takes the second node of a pair.
@@ -172,17 +161,13 @@ impl FixedList {
         ensures kept { IfErr result (λ _. (n : ℕ) (words : List (List ℕ))
             → HoldsFixed self.old n words → HoldsFixed self.new n words) }
     {
-        match read_node(word, self.n) {
-            Err(fault) => Err(StepFault::Fault(LineFault::Number(fault))),
-            Ok(second) if second == first => Err(StepFault::Fault(LineFault::SelfEdge)),
-            Ok(second) => match push(&mut self.pairs, (first, second)) {
-                Ok(()) => {
-                    self.first = None;
-                    Ok(())
-                }
-                Err(refused) => Err(StepFault::Memory(refused)),
-            },
+        let second = read_node(word, self.n)?;
+        if second == first {
+            return Err(StepFault::Fault(LineFault::SelfEdge));
         }
+        push(&mut self.pairs, (first, second))?;
+        self.first = None;
+        Ok(())
     }
 
     /// The pairs, and whether one is cut short.

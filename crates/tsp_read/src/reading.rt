@@ -1,14 +1,8 @@
 //! The state of the reader: the draft of the lines and words so far, and the section that is open.
 
-ghost use Rattle.std.specs.Prelude.{[], List, Some, IfErr, OnOk, ◌≡◌, is_some, true, ℕ, Bool, IfOk, None, Err};
-ghost use Rattle.tsp_format.specs.Limits.{shape_of};
-ghost use Rattle.tsp_format.specs.Words.{fields_in_order};
-ghost use Rattle.tsp_file.specs.Fields.{spatial};
+ghost use Rattle.tsp_read.specs.Prelude.{[], List, Some, IfErr, OnOk, is_some, true, ℕ, Bool, IfOk, None, Err, shape_of, fields_in_order, spatial, fields_of, AreCut, Item, NumberWord, same_field, place_in, wants_more};
+ghost use Rattle.std.specs.Prelude.{◌≡◌};
 ghost use Rattle.tsp_file.specs.Rules.{standing_of, end_fault, fault_of};
-ghost use Rattle.tsp_file.specs.states.Drafts.{fields_of};
-ghost use Rattle.tsp_text.specs.Items.{AreCut, Item, NumberWord};
-ghost use Rattle.tsp_text.specs.Earlier.{same_field, place_in};
-ghost use Rattle.tsp_text.specs.ParsesTo.{wants_more};
 ghost use Rattle.tsp_text.specs.declared.fault.ReadFault.TheVariants.{OutOfMemory, Line, End, TooLong, Device};
 ghost use Rattle.tsp_read.specs.Reads.{Completes};
 ghost use Rattle.tsp_read.specs.states.Holds.{seen, FileOf, LineAnswers, Holds, IsReadFrom, is_either, first_of, HoldsSection, with_section};
@@ -155,14 +149,9 @@ impl Reading {
 // ---- what a word line does to the state of the reader
 
 impl Reading {
-    ghost use Rattle.std.specs.Prelude.{◌≡◌, ◌&&◌, not, is_some, Some, None, List};
+    ghost use Rattle.tsp_read.specs.Prelude.{not, is_some, Some, None, List, shape_of, value_shape_of, fields_of, spatial, first_word, says_space, Item};
+    ghost use Rattle.std.specs.Prelude.{◌≡◌, ◌&&◌};
     ghost use Rattle.tsp_format.specs.declared.keyword.ValueShape.TheVariants.{Number};
-    ghost use Rattle.tsp_format.specs.Limits.{shape_of, value_shape_of};
-    ghost use Rattle.tsp_file.specs.states.Drafts.{fields_of};
-    ghost use Rattle.tsp_file.specs.Fields.{spatial};
-    ghost use Rattle.tsp_text.specs.Items.{first_word};
-    ghost use Rattle.tsp_text.specs.Earlier.{says_space};
-    ghost use Rattle.tsp_text.specs.Items.{Item};
     ghost use Rattle.tsp_read.specs.states.Holds.{seen, cut_item};
     ghost use Rattle.tsp_read.specs.states.Holds.{Holds, AnswersItem, LineAnswers};
 
@@ -313,9 +302,9 @@ fn store(draft: &mut Draft, alloc: Global, section: OpenSection) -> Result<bool,
             draft.fixed_potentials = Some(triples);
             Ok(wants_more)
         }
-        SectionBuilder::Combs(part) => {
-            let (combs, wants_more) = part.finish();
-            draft.combs = Some(combs);
+        SectionBuilder::Families(part) => {
+            let (families, wants_more) = part.finish();
+            draft.families = Some(families);
             Ok(wants_more)
         }
         SectionBuilder::Steps(part) => {

@@ -1,17 +1,14 @@
 //! Laws: each number of a canonical text is read back, and the text of a valid file parses to that
 //! file. They are a promise to users of `tsp convert`; no code calls them.
 
-ghost use Rattle.std.specs.Prelude.{◌≡◌, ◌≤◌, ◌<◌, ◌^◌, ℕ, ℤ, List, true, None, Result, Ok, unsigned_abs};
+ghost use Rattle.tsp_read.specs.Prelude.{ℕ, ℤ, List, true, None, Result, Ok, unsigned_abs, decimal_of, whole_of, spelling, Fields, ReadFault, ParsesTo};
+ghost use Rattle.std.specs.Prelude.{◌≡◌, ◌≤◌, ◌<◌, ◌^◌};
 ghost use Rattle.std.specs.Fmt.{signed_decimal};
 ghost use Rattle.tsp_number.specs.Decimal.{most_count};
-ghost use Rattle.tsp_number.specs.NumberWord.{decimal_of, whole_of, spelling};
-ghost use Rattle.tsp_file.specs.Fields.{Fields};
 ghost use Rattle.tsp_file.specs.Rules.{fault_of};
 ghost use Rattle.tsp_file.specs.Validity.{is_from_to};
 ghost use Rattle.tsp_file.specs.CanonicalText.{text_of};
-ghost use Rattle.tsp_text.specs.declared.fault.ReadFault.{ReadFault};
 ghost use Rattle.tsp_read.specs.Reads.{Reads};
-ghost use Rattle.tsp_text.specs.ParsesTo.{ParsesTo};
 ghost use Rattle.tsp_read.specs.Answers.{IsThisFile};
 
 use tsp_file::a_valid_text_is_short;

@@ -1,8 +1,7 @@
-//! The list that takes the words of TOUR_SECTION.
+//! The lists that take the words of TOUR_SECTION and EDGE_WEIGHT_SECTION.
 
-ghost use Rattle.std.specs.Prelude.{◌≡◌, ◌+◌, ◌-◌, ◌≤◌, [], ℕ, List, ◌∷◌, ◌++◌, Ok, OnOk, IfOk, IfErr, map, vec_len, vec_capacity, true, false};
-ghost use Rattle.tsp_format.specs.Limits.{most_tour_nodes};
-ghost use Rattle.tsp_text.specs.SectionWords.{IsWhole};
+ghost use Rattle.tsp_read.specs.Prelude.{[], ℕ, List, Ok, OnOk, IfOk, IfErr, map, vec_len, vec_capacity, true, false, most_tour_nodes, IsWhole};
+ghost use Rattle.std.specs.Prelude.{◌≡◌, ◌+◌, ◌-◌, ◌≤◌, ◌∷◌, ◌++◌};
 
 use crate::line::StepFault;
 use crate::section_builder::{move_to_end, read_node_or_end};
@@ -57,25 +56,15 @@ impl TourList {
         ensures kept { IfErr result (λ _. (words : List (List ℕ)) → HoldsTours self.old words
             → HoldsTours self.new words) }
     {
-        match read_node_or_end(word, MOST_NODES) {
-            Err(fault) => Err(StepFault::Fault(LineFault::Number(fault))),
-            Ok(None) => match self.end_run(alloc) {
-                Ok(()) => Ok(()),
-                Err(refused) => Err(StepFault::Memory(refused)),
-            },
-            Ok(Some(node)) => {
-                if self.count >= MOST_TOUR_NODES {
-                    return Err(StepFault::Fault(LineFault::Surplus));
-                }
-                match push(&mut self.run, node) {
-                    Ok(()) => {
-                        self.count += 1;
-                        Ok(())
-                    }
-                    Err(refused) => Err(StepFault::Memory(refused)),
-                }
-            }
+        let Some(node) = read_node_or_end(word, MOST_NODES)? else {
+            return Ok(self.end_run(alloc)?);
+        };
+        if self.count >= MOST_TOUR_NODES {
+            return Err(StepFault::Fault(LineFault::Surplus));
         }
+        push(&mut self.run, node)?;
+        self.count += 1;
+        Ok(())
     }
 
     /// The list for a run of words, with capacity for some nodes more; for none where memory was
@@ -229,13 +218,9 @@ impl WeightList {
         if self.weights.len() >= self.most {
             return Err(StepFault::Fault(LineFault::Surplus));
         }
-        match parse_whole(word, -MOST_WEIGHT, MOST_WEIGHT) {
-            Err(fault) => Err(StepFault::Fault(LineFault::Number(fault))),
-            Ok(weight) => match push(&mut self.weights, weight) {
-                Ok(()) => Ok(()),
-                Err(refused) => Err(StepFault::Memory(refused)),
-            },
-        }
+        let weight = parse_whole(word, -MOST_WEIGHT, MOST_WEIGHT)?;
+        push(&mut self.weights, weight)?;
+        Ok(())
     }
 
     /// The list for a run of words, with capacity for this many more weights, or for all that the
@@ -284,9 +269,8 @@ pub struct Gathered {
 }
 
 impl Gathered {
-    ghost use Rattle.std.specs.Prelude.{◌<◌, unsigned_abs};
-    ghost use Rattle.tsp_format.specs.Limits.{most_weight};
-    ghost use Rattle.tsp_text.specs.SectionWords.{place_of_weight};
+    ghost use Rattle.tsp_read.specs.Prelude.{unsigned_abs, most_weight, place_of_weight};
+    ghost use Rattle.std.specs.Prelude.{◌<◌};
     ghost use Rattle.tsp_read.specs.states.Parts.{Takes};
     ghost use Rattle.tsp_read.specs.states.HeldParts.{HoldsWeights};
 

@@ -1,16 +1,15 @@
-//! The list that takes the words of a section, whichever its shape.
+//! The list that takes the words of a section, whichever its shape, and the one for
+//! FIXED_EDGE_POTENTIAL_SECTION. Reads a word as a node for all of them.
 
-ghost use Rattle.std.specs.Option.{ForSome};
-ghost use Rattle.std.specs.Prelude.{◌≡◌, ◌≤◌, [], ℕ, List, ◌∷◌, ◌++◌, IfOk, IfErr, ◌<◌, ◌-◌, ◌^◌, pos, true, false, length, slice_index_or, Ok, None, IfSome, MatchResult, Some};
-ghost use Rattle.tsp_number.specs.NumberWord.{whole_of};
-ghost use Rattle.tsp_text.specs.SectionWords.{node, node_or_end, is_minus_one, IsWhole};
+ghost use Rattle.tsp_read.specs.Prelude.{ForSome, [], ℕ, List, IfOk, IfErr, pos, true, false, length, slice_index_or, Ok, None, IfSome, MatchResult, Some, whole_of, node, node_or_end, is_minus_one, IsWhole};
+ghost use Rattle.std.specs.Prelude.{◌≡◌, ◌≤◌, ◌∷◌, ◌++◌, ◌<◌, ◌-◌, ◌^◌};
 ghost use Rattle.tsp_read.specs.states.Parts.{as_number, as_node_or_end, as_index_or_leaf, IsNodeOf, IsNewNode};
 
 use crate::by_node::{NumberList, PointList};
 use crate::line::StepFault;
 use crate::lists::{DepotList, FixedList};
 use crate::runs::{TourList, WeightList};
-use crate::tree::{CombList, TreeList};
+use crate::tree::{FamilyList, TreeList};
 use std::alloc::Global;
 use std::mem;
 use tsp_format::{MOST_MATRIX_NODES, MOST_MULTIPLIER, MOST_MULTIPLIERS, MOST_NODES, Shape};
@@ -28,7 +27,7 @@ pub enum SectionBuilder {
     Weights(WeightList),
     Tours(TourList),
     Triples(TripleList),
-    Combs(CombList),
+    Families(FamilyList),
     Steps(TreeList),
 }
 
@@ -59,7 +58,7 @@ impl SectionBuilder {
             Shape::Weights => SectionBuilder::Weights(WeightList::open(alloc, n)),
             Shape::Tours => SectionBuilder::Tours(TourList::open(alloc)),
             Shape::Triples => SectionBuilder::Triples(TripleList::open(alloc, n)),
-            Shape::Combs => SectionBuilder::Combs(CombList::open(alloc, n)),
+            Shape::Families => SectionBuilder::Families(FamilyList::open(alloc, n)),
             Shape::Steps => SectionBuilder::Steps(TreeList::open(alloc, n)),
         })
     }
@@ -87,7 +86,7 @@ impl SectionBuilder {
             SectionBuilder::Weights(part) => part.push(word),
             SectionBuilder::Tours(part) => part.push(alloc, word),
             SectionBuilder::Triples(part) => part.push(word),
-            SectionBuilder::Combs(part) => part.push(alloc, word),
+            SectionBuilder::Families(part) => part.push(alloc, word),
             SectionBuilder::Steps(part) => part.push(alloc, word),
         }
     }
@@ -208,8 +207,7 @@ pub struct TripleList {
 }
 
 impl TripleList {
-    ghost use Rattle.tsp_text.specs.Groups.{place_of_triple, fixed_triples_in};
-    ghost use Rattle.tsp_text.specs.ParsesTo.{wants_more};
+    ghost use Rattle.tsp_read.specs.Prelude.{place_of_triple, fixed_triples_in, wants_more};
     ghost use Rattle.tsp_read.specs.states.Parts.{Takes};
     ghost use Rattle.tsp_read.specs.states.HeldParts.{HoldsTriples};
 
@@ -265,20 +263,15 @@ impl TripleList {
         ensures kept { IfErr result (λ _. (n : ℕ) (words : List (List ℕ))
             → HoldsTriples self.old n words → HoldsTriples self.new n words) }
     {
-        match read_node_or_end(word, self.n) {
-            Err(fault) => Err(StepFault::Fault(LineFault::Number(fault))),
-            Ok(None) => {
-                self.ended = true;
-                Ok(())
-            }
-            Ok(Some(_)) if self.triples.len() >= MOST_MULTIPLIERS => {
-                Err(StepFault::Fault(LineFault::Surplus))
-            }
-            Ok(Some(node)) => {
-                self.first = Some(node);
-                Ok(())
-            }
+        let Some(node) = read_node_or_end(word, self.n)? else {
+            self.ended = true;
+            return Ok(());
+        };
+        if self.triples.len() >= MOST_MULTIPLIERS {
+            return Err(StepFault::Fault(LineFault::Surplus));
         }
+        self.first = Some(node);
+        Ok(())
     }
 
     /// Takes the second node of a triple.
@@ -290,14 +283,12 @@ impl TripleList {
         ensures kept { IfErr result (λ _. (n : ℕ) (words : List (List ℕ))
             → HoldsTriples self.old n words → HoldsTriples self.new n words) }
     {
-        match read_node(word, self.n) {
-            Err(fault) => Err(StepFault::Fault(LineFault::Number(fault))),
-            Ok(second) if second == first => Err(StepFault::Fault(LineFault::SelfEdge)),
-            Ok(second) => {
-                self.second = Some(second);
-                Ok(())
-            }
+        let second = read_node(word, self.n)?;
+        if second == first {
+            return Err(StepFault::Fault(LineFault::SelfEdge));
         }
+        self.second = Some(second);
+        Ok(())
     }
 
     /// Takes the multiplier, which ends a triple.
@@ -309,17 +300,11 @@ impl TripleList {
         ensures kept { IfErr result (λ _. (n : ℕ) (words : List (List ℕ))
             → HoldsTriples self.old n words → HoldsTriples self.new n words) }
     {
-        match parse_whole(word, 0, MOST_MULTIPLIER) {
-            Err(fault) => Err(StepFault::Fault(LineFault::Number(fault))),
-            Ok(multiplier) => match push(&mut self.triples, (first, second, multiplier)) {
-                Ok(()) => {
-                    self.first = None;
-                    self.second = None;
-                    Ok(())
-                }
-                Err(refused) => Err(StepFault::Memory(refused)),
-            },
-        }
+        let multiplier = parse_whole(word, 0, MOST_MULTIPLIER)?;
+        push(&mut self.triples, (first, second, multiplier))?;
+        self.first = None;
+        self.second = None;
+        Ok(())
     }
 
     /// The triples, and whether one is cut short.

@@ -1,4 +1,5 @@
-//! The list that takes the words of COMB_SECTION: families of sets of nodes.
+//! The lists that take the words of COMB_SECTION, families of sets of nodes, and of BRANCH_SECTION, the
+//! steps of a tree of cases.
 
 ghost use Rattle.std.specs.Prelude.{◌≡◌, [], ℕ, List, ◌∷◌, ◌++◌, ◌<◌, length, OnOk, IfErr, false, ◌≢◌, ◌+◌, ◌≤◌, None, Some, true};
 
@@ -9,39 +10,37 @@ use crate::section_builder::{
 use std::alloc::Global;
 use std::mem;
 use tsp_format::{
-    MOST_BRANCHES, MOST_CHANGES, MOST_COMB_NODES, MOST_COMBS, MOST_DIFFERENCE, MOST_NODES, TreeStep,
+    MOST_BRANCHES, MOST_CHANGES, MOST_DIFFERENCE, MOST_FAMILIES, MOST_FAMILY_NODES, MOST_NODES,
+    TreeStep,
 };
 use tsp_io::{Refused, push};
 use tsp_number::parse_whole;
 use tsp_text::LineFault;
 
-/// What was read of the combs: those that are whole, of a comb that has begun the whole sets, of a
+/// What was read of the families: those that are whole, of a family that has begun the whole sets, of a
 /// set that has begun the nodes, and how many nodes came in all.
 #[derive(Drop)]
-pub struct CombList {
+pub struct FamilyList {
     n: u32,
-    combs: Vec<Vec<Vec<u32>>>,
+    families: Vec<Vec<Vec<u32>>>,
     sets: Vec<Vec<u32>>,
     nodes: Vec<u32>,
     count: usize,
     ended: bool,
 }
 
-impl CombList {
-    ghost use Rattle.tsp_file.specs.states.Drafts.{combs_of};
-    ghost use Rattle.tsp_text.specs.Groups.{whole_combs, with_set, with_comb, with_end, has_begun_comb, place_of_comb};
-    ghost use Rattle.tsp_text.specs.FaultRows.{is_past_combs};
-    ghost use Rattle.tsp_text.specs.ParsesTo.{wants_more};
+impl FamilyList {
+    ghost use Rattle.tsp_read.specs.Prelude.{families_of, whole_families, with_set, with_family, with_end, has_begun_family, place_of_family, is_past_families, wants_more};
     ghost use Rattle.tsp_read.specs.states.Parts.{Takes};
-    ghost use Rattle.tsp_read.specs.states.HeldParts.{combs_held, HoldsCombs};
+    ghost use Rattle.tsp_read.specs.states.HeldParts.{families_held, HoldsFamilies};
 
     /// The section with no words so far, in a file of `n` nodes.
-    pub fn open(alloc: Global, n: u32) -> CombList
-        ensures { HoldsCombs result n [] }
+    pub fn open(alloc: Global, n: u32) -> FamilyList
+        ensures { HoldsFamilies result n [] }
     {
-        CombList {
+        FamilyList {
             n,
-            combs: Vec::new(alloc),
+            families: Vec::new(alloc),
             sets: Vec::new(alloc),
             nodes: Vec::new(alloc),
             count: 0,
@@ -53,18 +52,18 @@ impl CombList {
     ///
     /// # Errors
     ///
-    /// - `Fault`: the word is neither a node nor a -1 (`Number`), there are as many nodes of combs
-    ///   as a file may have, or it would begin a comb after as many as a file may have (`Surplus`),
+    /// - `Fault`: the word is neither a node nor a -1 (`Number`), there are as many nodes of families
+    ///   as a file may have, or it would begin a family after as many as a file may have (`Surplus`),
     ///   or the section has ended (`AfterEnd`).
     /// - `Memory`: memory was refused.
     ///
     /// The list has the words from before then.
     pub fn push(&mut self, alloc: Global, word: &[u8]) -> Result<(), StepFault>
-        ensures takes { (n : ℕ) (words : List (List ℕ)) → HoldsCombs self.old n words
-            → Takes n (place_of_comb n words) word.now
-            (HoldsCombs self.new n (words ++ word.now ∷ [])) result }
+        ensures takes { (n : ℕ) (words : List (List ℕ)) → HoldsFamilies self.old n words
+            → Takes n (place_of_family n words) word.now
+            (HoldsFamilies self.new n (words ++ word.now ∷ [])) result }
         ensures kept { IfErr result (λ _. (n : ℕ) (words : List (List ℕ))
-            → HoldsCombs self.old n words → HoldsCombs self.new n words) }
+            → HoldsFamilies self.old n words → HoldsFamilies self.new n words) }
     {
         if self.ended {
             if is_minus_one(word) {
@@ -72,50 +71,46 @@ impl CombList {
             }
             return Err(StepFault::Fault(LineFault::AfterEnd));
         }
-        match read_node_or_end(word, self.n) {
-            Err(fault) => Err(StepFault::Fault(LineFault::Number(fault))),
-            Ok(None) => match self.push_end(alloc) {
-                Ok(()) => Ok(()),
-                Err(refused) => Err(StepFault::Memory(refused)),
-            },
-            Ok(Some(_)) if self.is_full() => Err(StepFault::Fault(LineFault::Surplus)),
-            Ok(Some(node)) => match push(&mut self.nodes, node) {
-                Ok(()) => {
-                    self.count += 1;
-                    Ok(())
-                }
-                Err(refused) => Err(StepFault::Memory(refused)),
-            },
+        let Some(node) = read_node_or_end(word, self.n)? else {
+            self.push_end(alloc)?;
+            return Ok(());
+        };
+        if self.is_full() {
+            return Err(StepFault::Fault(LineFault::Surplus));
         }
+        push(&mut self.nodes, node)?;
+        self.count += 1;
+        Ok(())
     }
 
-    /// Whether a comb has begun.
+    /// Whether a family has begun.
     fn has_begun(&self) -> bool
-        ensures { result ≡ has_begun_comb (combs_held self.now) }
+        ensures { result ≡ has_begun_family (families_held self.now) }
     {
         !self.nodes.is_empty() || !self.sets.is_empty()
     }
 
     /// Whether the limit leaves no place for one more node.
     fn is_full(&self) -> bool
-        ensures full { result ≡ is_past_combs (has_begun_comb (combs_held self.now))
-            (length (combs_held self.now).combs) self.now.count }
-        ensures room { result ≡ false → self.now.count < MOST_COMB_NODES }
+        ensures full { result ≡ is_past_families (has_begun_family (families_held self.now))
+            (length (families_held self.now).families) self.now.count }
+        ensures room { result ≡ false → self.now.count < MOST_FAMILY_NODES }
     {
-        self.count >= MOST_COMB_NODES || (!self.has_begun() && self.combs.len() >= MOST_COMBS)
+        self.count >= MOST_FAMILY_NODES
+            || (!self.has_begun() && self.families.len() >= MOST_FAMILIES)
     }
 
-    /// Takes a -1: it ends the set that has begun, else the comb, else the section.
+    /// Takes a -1: it ends the set that has begun, else the family, else the section.
     fn push_end(&mut self, alloc: Global) -> Result<(), Refused>
-        ensures done { OnOk result (combs_held self.new ≡ with_end (combs_held self.old)) }
-        ensures kept { IfErr result (λ _. combs_held self.new ≡ combs_held self.old) }
+        ensures done { OnOk result (families_held self.new ≡ with_end (families_held self.old)) }
+        ensures kept { IfErr result (λ _. families_held self.new ≡ families_held self.old) }
         ensures n { self.new.n ≡ self.old.n }
     {
         if !self.nodes.is_empty() {
             return self.end_set(alloc);
         }
         if !self.sets.is_empty() {
-            return self.end_comb(alloc);
+            return self.end_family(alloc);
         }
         self.ended = true;
         Ok(())
@@ -123,30 +118,30 @@ impl CombList {
 
     /// Ends the set that has begun.
     fn end_set(&mut self, alloc: Global) -> Result<(), Refused>
-        ensures done { OnOk result (combs_held self.new ≡ with_set (combs_held self.old)) }
-        ensures kept { IfErr result (λ _. combs_held self.new ≡ combs_held self.old) }
+        ensures done { OnOk result (families_held self.new ≡ with_set (families_held self.old)) }
+        ensures kept { IfErr result (λ _. families_held self.new ≡ families_held self.old) }
         ensures n { self.new.n ≡ self.old.n }
     {
         move_to_end(alloc, &mut self.sets, &mut self.nodes)
     }
 
-    /// Ends the comb that has begun.
-    fn end_comb(&mut self, alloc: Global) -> Result<(), Refused>
-        ensures done { OnOk result (combs_held self.new ≡ with_comb (combs_held self.old)) }
-        ensures kept { IfErr result (λ _. combs_held self.new ≡ combs_held self.old) }
+    /// Ends the family that has begun.
+    fn end_family(&mut self, alloc: Global) -> Result<(), Refused>
+        ensures done { OnOk result (families_held self.new ≡ with_family (families_held self.old)) }
+        ensures kept { IfErr result (λ _. families_held self.new ≡ families_held self.old) }
         ensures n { self.new.n ≡ self.old.n }
     {
-        move_to_end(alloc, &mut self.combs, &mut self.sets)
+        move_to_end(alloc, &mut self.families, &mut self.sets)
     }
 
-    /// The combs, and whether one is cut short.
+    /// The families, and whether one is cut short.
     pub fn finish(self) -> (Vec<Vec<Vec<u32>>>, bool)
-        ensures { (n : ℕ) (words : List (List ℕ)) → HoldsCombs self n words
-            → (combs_of result.0.items ≡ whole_combs n words)
-            × (result.1 ≡ wants_more (place_of_comb n words)) }
+        ensures { (n : ℕ) (words : List (List ℕ)) → HoldsFamilies self n words
+            → (families_of result.0.items ≡ whole_families n words)
+            × (result.1 ≡ wants_more (place_of_family n words)) }
     {
         let wants_more = !self.ended && self.has_begun();
-        (self.combs, wants_more)
+        (self.families, wants_more)
     }
 }
 
@@ -169,9 +164,8 @@ pub struct TreeList {
 }
 
 impl TreeList {
+    ghost use Rattle.tsp_read.specs.Prelude.{whole_steps, with_leaf, place_of_step, wants_more};
     ghost use Rattle.tsp_format.specs.states.TreeSteps.{steps_of};
-    ghost use Rattle.tsp_text.specs.SectionWords.{whole_steps, with_leaf, place_of_step};
-    ghost use Rattle.tsp_text.specs.ParsesTo.{wants_more};
     ghost use Rattle.tsp_read.specs.states.Parts.{Takes};
     ghost use Rattle.tsp_read.specs.states.HeldParts.{tree_held, HoldsTree};
 
@@ -182,7 +176,7 @@ impl TreeList {
     {
         TreeList {
             n,
-            last_index: n.saturating_add(MOST_COMBS as u32),
+            last_index: n.saturating_add(MOST_FAMILIES as u32),
             steps: Vec::new(alloc),
             first: None,
             in_leaf: false,
@@ -233,21 +227,16 @@ impl TreeList {
         ensures kept { IfErr result (λ _. (n : ℕ) (words : List (List ℕ))
             → HoldsTree self.old n words → HoldsTree self.new n words) }
     {
-        match read_index_or_leaf(word, self.last_index) {
-            Err(fault) => Err(StepFault::Fault(LineFault::Number(fault))),
-            Ok(None) => {
-                self.in_leaf = true;
-                Ok(())
-            }
-            Ok(Some(_)) if self.branches >= MOST_BRANCHES => {
-                Err(StepFault::Fault(LineFault::Surplus))
-            }
-            Ok(Some(first)) => {
-                self.first = Some(first);
-                self.branches += 1;
-                Ok(())
-            }
+        let Some(first) = read_index_or_leaf(word, self.last_index)? else {
+            self.in_leaf = true;
+            return Ok(());
+        };
+        if self.branches >= MOST_BRANCHES {
+            return Err(StepFault::Fault(LineFault::Surplus));
         }
+        self.first = Some(first);
+        self.branches += 1;
+        Ok(())
     }
 
     /// Takes the second number of a branch: a node, or the limit of a family.
@@ -259,18 +248,14 @@ impl TreeList {
         ensures kept { IfErr result (λ _. (n : ℕ) (words : List (List ℕ))
             → HoldsTree self.old n words → HoldsTree self.new n words) }
     {
-        match read_node(word, self.n) {
-            Err(fault) => Err(StepFault::Fault(LineFault::Number(fault))),
-            Ok(second) if second == first => Err(StepFault::Fault(LineFault::SelfEdge)),
-            Ok(second) => match push(&mut self.steps, TreeStep::Branch(first, second)) {
-                Ok(()) => {
-                    self.first = None;
-                    self.to_come = self.to_come.saturating_add(1);
-                    Ok(())
-                }
-                Err(refused) => Err(StepFault::Memory(refused)),
-            },
+        let second = read_node(word, self.n)?;
+        if second == first {
+            return Err(StepFault::Fault(LineFault::SelfEdge));
         }
+        push(&mut self.steps, TreeStep::Branch(first, second))?;
+        self.first = None;
+        self.to_come = self.to_come.saturating_add(1);
+        Ok(())
     }
 
     /// Takes an index of a leaf, or the -1 that ends it.
@@ -282,21 +267,16 @@ impl TreeList {
         ensures kept { IfErr result (λ _. (n : ℕ) (words : List (List ℕ))
             → HoldsTree self.old n words → HoldsTree self.new n words) }
     {
-        match read_node_or_end(word, self.last_index) {
-            Err(fault) => Err(StepFault::Fault(LineFault::Number(fault))),
-            Ok(None) => match self.end_leaf(alloc) {
-                Ok(()) => Ok(()),
-                Err(refused) => Err(StepFault::Memory(refused)),
-            },
-            Ok(Some(_)) if self.changes >= MOST_CHANGES => {
-                Err(StepFault::Fault(LineFault::Surplus))
-            }
-            Ok(Some(index)) => {
-                self.first = Some(index);
-                self.changes += 1;
-                Ok(())
-            }
+        let Some(index) = read_node_or_end(word, self.last_index)? else {
+            self.end_leaf(alloc)?;
+            return Ok(());
+        };
+        if self.changes >= MOST_CHANGES {
+            return Err(StepFault::Fault(LineFault::Surplus));
         }
+        self.first = Some(index);
+        self.changes += 1;
+        Ok(())
     }
 
     /// Ends the leaf that has begun, and with it a tree that was to come.
@@ -325,16 +305,10 @@ impl TreeList {
         ensures kept { IfErr result (λ _. (n : ℕ) (words : List (List ℕ))
             → HoldsTree self.old n words → HoldsTree self.new n words) }
     {
-        match parse_whole(word, -MOST_DIFFERENCE, MOST_DIFFERENCE) {
-            Err(fault) => Err(StepFault::Fault(LineFault::Number(fault))),
-            Ok(difference) => match push(&mut self.leaf, (index, difference)) {
-                Ok(()) => {
-                    self.first = None;
-                    Ok(())
-                }
-                Err(refused) => Err(StepFault::Memory(refused)),
-            },
-        }
+        let difference = parse_whole(word, -MOST_DIFFERENCE, MOST_DIFFERENCE)?;
+        push(&mut self.leaf, (index, difference))?;
+        self.first = None;
+        Ok(())
     }
 
     /// The steps, and whether the tree isn't whole.

@@ -1,11 +1,6 @@
 -- The lines of reports, put together.
-use Rattle.std.proofs.Common.{◌≡◌, ℕ, ◌+◌, ◌<◌, List, [], ◌∷◌, ◌++◌, length, take, map, get_or, false, Some, refl, sym, ap, subst, ◌∙◌, append-nil, append_assoc, arith, Option, None}
+use Rattle.tsp_report.proofs.Prelude.{◌≡◌, ℕ, ◌+◌, ◌<◌, List, [], ◌∷◌, ◌++◌, length, take, map, get_or, false, Some, refl, sym, ap, subst, ◌∙◌, append-nil, append_assoc, arith, Option, None, length-map, get_or-map, flat_map, enumerate_from, codes, ◌==◌, IsTrue, carried_then, carried_node, Way, Carried}
 use Rattle.std.proofs.lemmas.Bool.{false≢true}
-use Rattle.std.proofs.lemmas.List.{length-map, get_or-map}
-use Rattle.std.specs.List.{flat_map, enumerate_from}
-use Rattle.std.specs.Prelude.{codes, ◌==◌, IsTrue}
-use Rattle.tsp_io.proofs.Carrying.{carried_then, carried_node}
-use Rattle.tsp_io.specs.states.Watched.{Way, Carried}
 use Rattle.tsp_format.specs.declared.kinds.Kind.{Kind}
 use Rattle.tsp_format.specs.declared.kinds.Kind.TheVariants as kinds
 use Rattle.tsp_file.specs.Fields.{Fields}

@@ -132,7 +132,7 @@ known_bound_lines instance known_bounds.NoSolution = codes "bound none\n"
 known_bound_lines instance (known_bounds.Routes least bound) = codes "least " ++ decimal least ++ codes "\n" ++ known_bound_bound bound
 known_bound_lines instance (known_bounds.No reason) = no_line instance reason
 
--- the head: the lines of the instance, then those of the basis
+-- the head: the lines of the instance, then those of the known bound
 abbrev pub head_of : Fields → KnownBound → List ℕ
 head_of instance known_bound = instance_lines instance ++ known_bound_lines instance known_bound
 

@@ -74,10 +74,10 @@ abbrev pub load_unit_line : Option ℤ → List ℕ
 load_unit_line None = []
 load_unit_line (Some unit) = codes "load unit " ++ signed_decimal unit ++ codes "\n"
 
--- how many combs there are, where a section lists them
-abbrev pub combs_line : Option (List (List (List ℕ))) → List ℕ
-combs_line None = []
-combs_line (Some combs) = codes "combs " ++ decimal (length combs) ++ codes "\n"
+-- how many families there are, where a section lists them
+abbrev pub families_line : Option (List (List (List ℕ))) → List ℕ
+families_line None = []
+families_line (Some families) = codes "combs " ++ decimal (length families) ++ codes "\n"
 
 -- how many leaves a tree has
 abbrev pub leaves_line : List Step → List ℕ
@@ -85,7 +85,7 @@ leaves_line steps = codes "leaves " ++ decimal (leaf_count steps) ++ codes "\n"
 
 -- the lines on a tree of cases
 abbrev pub tree_lines : Fields → List ℕ
-tree_lines f = scale_line f.scale ++ (load_unit_line f.load_unit ++ (combs_line f.combs ++ leaves_line (unwrap_or f.branches [])))
+tree_lines f = scale_line f.scale ++ (load_unit_line f.load_unit ++ (families_line f.families ++ leaves_line (unwrap_or f.branches [])))
 
 -- ---- the whole
 

@@ -8,7 +8,7 @@ use Rattle.tsp_report.specs.declared.verdict.KnownBound.TheVariants as known_bou
 use Rattle.tsp_report.specs.declared.verdict.BoundVerdict.{BoundVerdict}
 use Rattle.tsp_report.specs.declared.verdict.BoundVerdict.TheVariants as bounds
 use Rattle.tsp_report.specs.declared.verdict.Reason.{Reason}
-use Rattle.tsp_report.specs.declared.verdict.Reason.TheVariants.{NotASolution, TooFewNodes, NotSymmetric, Dimension, TourCount, TourLength, DepotCount, DepotDemand, FixedEdgesInRoutes, DepotInRoute, NodeOutOfRange, RepeatedNode, FixedEdgeUnused, Unserved, Overload, LengthClaimed, NotPotentials, PotentialsDimension, PotentialsKind, MultiplierNotFixed, MultiplierRepeated, DualInfeasible, NotBranches, BranchesDimension, BadComb, BadBranch, BranchTwice, BadLeaf, TooManyLoads, NotJudged}
+use Rattle.tsp_report.specs.declared.verdict.Reason.TheVariants.{NotASolution, TooFewNodes, NotSymmetric, Dimension, TourCount, TourLength, DepotCount, DepotDemand, FixedEdgesInRoutes, DepotInRoute, NodeOutOfRange, RepeatedNode, FixedEdgeUnused, Unserved, Overload, LengthClaimed, NotPotentials, PotentialsDimension, PotentialsKind, MultiplierNotFixed, MultiplierRepeated, DualInfeasible, NotBranches, BranchesDimension, BadFamily, BadBranch, BranchTwice, BadLeaf, TooManyLoads, NotJudged}
 use Rattle.tsp_report.specs.declared.verdict.Verdict.{Verdict}
 use Rattle.tsp_report.specs.declared.verdict.Verdict.TheVariants.{Tour, Routes, No}
 
@@ -80,7 +80,7 @@ row_of_reason (MultiplierRepeated index) = row (codes "MultiplierRepeated") 21 P
 row_of_reason (DualInfeasible i j) = row (codes "DualInfeasible") 22 Potentials (two_numbers i j)
 row_of_reason NotBranches = row (codes "NotBranches") 23 Branches no_numbers
 row_of_reason BranchesDimension = row (codes "BranchesDimension") 24 Branches no_numbers
-row_of_reason (BadComb index) = row (codes "BadComb") 25 Branches (one_number (pos index))
+row_of_reason (BadFamily index) = row (codes "BadComb") 25 Branches (one_number (pos index))
 row_of_reason (BadBranch index) = row (codes "BadBranch") 26 Branches (one_number (pos index))
 row_of_reason (BranchTwice index) = row (codes "BranchTwice") 27 Branches (one_number (pos index))
 row_of_reason (BadLeaf index) = row (codes "BadLeaf") 28 Branches (one_number (pos index))

@@ -19,7 +19,7 @@ ghost use Rattle.tsp_report.specs.Report.{head_of, solution_line, not_judged, ty
 ghost use Rattle.tsp_report.specs.Examples.{matrix, shown_routes, shown_tours, shown_potentials, shown_tree, untyped, each_reason};
 ghost use Rattle.tsp_report.specs.Tasks.{files_of, files_of_task, numbered, IsMapped, IsMappedTask};
 ghost use Rattle.tsp_report.specs.Verdicts.{rank_of, row_of_reason, role_of};
-ghost use Rattle.tsp_report.specs.Show.{name_line, weights_line, canonical_line, fixed_line, all_tour_lines, scale_line, load_unit_line, combs_line, leaves_line, shown};
+ghost use Rattle.tsp_report.specs.Show.{name_line, weights_line, canonical_line, fixed_line, all_tour_lines, scale_line, load_unit_line, families_line, leaves_line, shown};
 ghost use Rattle.tsp_report.specs.declared.task.CertificateKind.{CertificateKind};
 ghost use Rattle.tsp_report.specs.declared.task.CertificateKind.TheVariants as certificates;
 ghost use Rattle.tsp_report.specs.declared.task.Comparison.{Comparison};
@@ -144,8 +144,8 @@ pub fn examples_of_shown_lines()
     ensures no_load_unit { load_unit_line None ≡ [] }
     ensures load_unit { load_unit_line (Some (pos 1))
         ≡ codes "load unit " ++ signed_decimal (pos 1) ++ codes "\n" }
-    ensures no_combs { combs_line None ≡ [] }
-    ensures combs { combs_line (Some (((1 ∷ []) ∷ []) ∷ []))
+    ensures no_families { families_line None ≡ [] }
+    ensures families { families_line (Some (((1 ∷ []) ∷ []) ∷ []))
         ≡ codes "combs " ++ decimal 1 ++ codes "\n" }
     ensures leaves { leaves_line (Branch 1 2 ∷ Leaf [] ∷ Leaf [] ∷ [])
         ≡ codes "leaves " ++ decimal 2 ++ codes "\n" }
@@ -279,5 +279,5 @@ pub fn examples_of_roles()
         ∷ reasons.PotentialsDimension ∷ reasons.PotentialsKind ∷ reasons.MultiplierNotFixed 1
         ∷ reasons.MultiplierRepeated 1 ∷ reasons.DualInfeasible 1 2 ∷ []) }
     ensures branches { All (λ reason. role_of reason ≡ Branches) (reasons.NotBranches ∷ reasons.BranchesDimension
-        ∷ reasons.BadComb 1 ∷ reasons.BadBranch 1 ∷ reasons.BranchTwice 1 ∷ reasons.BadLeaf 1 ∷ reasons.TooManyLoads ∷ []) }
+        ∷ reasons.BadFamily 1 ∷ reasons.BadBranch 1 ∷ reasons.BranchTwice 1 ∷ reasons.BadLeaf 1 ∷ reasons.TooManyLoads ∷ []) }
 {}

@@ -8,9 +8,9 @@ ghost use Rattle.tsp_format.specs.states.TreeSteps.{steps_of};
 ghost use Rattle.tsp_io.specs.Streams.{Writes};
 ghost use Rattle.tsp_io.specs.states.Watched.{sink_of, Puts};
 ghost use Rattle.tsp_file.specs.Rules.{is_instance};
-ghost use Rattle.tsp_file.specs.states.Drafts.{combs_of};
+ghost use Rattle.tsp_file.specs.states.Drafts.{families_of};
 ghost use Rattle.tsp_report.specs.Report.{nodes_line, not_judged};
-ghost use Rattle.tsp_report.specs.Show.{shown, head_lines, name_line, lines_by_type, cost_lines, weights_line, layout_part, canonical_line, fixed_line, all_tour_lines, tour_line, scale_line, load_unit_line, combs_line, leaves_line, tree_lines};
+ghost use Rattle.tsp_report.specs.Show.{shown, head_lines, name_line, lines_by_type, cost_lines, weights_line, layout_part, canonical_line, fixed_line, all_tour_lines, tour_line, scale_line, load_unit_line, families_line, leaves_line, tree_lines};
 
 use crate::report::{put_named, put_nodes, put_others, put_type};
 use std::io::Write;
@@ -227,24 +227,28 @@ fn put_load_unit<W: Write>(piece: &mut Piece, out: &mut Watched<W>, unit: Option
     }
 }
 
-/// Adds the lines of a tree of cases: its scale, its load unit, and how many combs and leaves it
+/// Adds the lines of a tree of cases: its scale, its load unit, and how many families and leaves it
 /// has.
 fn put_tree<W: Write>(piece: &mut Piece, out: &mut Watched<W>, file: &File)
     ensures { Puts W.contents out.old piece.old out.new piece.new (tree_lines file.now) }
 {
     put_scale(piece, out, file.scale());
     put_load_unit(piece, out, file.load_unit());
-    put_combs(piece, out, file.combs());
+    put_families(piece, out, file.families());
     put_leaves(piece, out, file.branches().unwrap_or(&[]));
 }
 
-/// Adds the line of the number of combs, where a section lists them.
-fn put_combs<W: Write>(piece: &mut Piece, out: &mut Watched<W>, combs: Option<&[Vec<Vec<u32>>]>)
+/// Adds the line of the number of families, where a section lists them.
+fn put_families<W: Write>(
+    piece: &mut Piece,
+    out: &mut Watched<W>,
+    families: Option<&[Vec<Vec<u32>>]>,
+)
     ensures { Puts W.contents out.old piece.old out.new piece.new
-        (combs_line (option_map (λ combs. combs_of combs.now) combs.entry)) }
+        (families_line (option_map (λ families. families_of families.now) families.entry)) }
 {
-    if let Some(combs) = combs {
-        put_named(piece, out, b"combs ", combs.len());
+    if let Some(families) = families {
+        put_named(piece, out, b"combs ", families.len());
         put(piece, out, b"\n");
     }
 }

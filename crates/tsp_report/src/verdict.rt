@@ -8,7 +8,7 @@ use crate::task::Role::{self, Branches, Instance, Potentials, Solution};
 
 /// Why a solution is refused, in the order in which reasons are judged.
 ///
-/// Places, routes, fixed pairs, multipliers, combs, branches and leaves count from 1: places
+/// Places, routes, fixed pairs, multipliers, families, branches and leaves count from 1: places
 /// through all tours of the solution, one after the other, branches and leaves through their
 /// section.
 #[derive(Clone, Copy, Debug, PartialEq, Eq)]
@@ -71,7 +71,7 @@ pub enum Reason {
     /// This family is the first one that isn't good: it has a node twice in a set, or is neither a
     /// lone set nor a comb and has more than 63 sets, or sets that divide the nodes into more than
     /// 14 parts, or into one.
-    BadComb { index: u32 },
+    BadFamily { index: u32 },
     /// This branch is the first one of the wrong kind: on a family where tours are judged, or where
     /// routes are judged on something else than one of the certificate's families.
     BadBranch { index: u32 },
@@ -154,7 +154,7 @@ impl BoundVerdict {
     }
 }
 
-// ---- the basis of all solutions of an instance, before any is read
+// ---- what is known of all solutions of an instance, before any is read
 
 /// What is known of all solutions of an instance, before any is read.
 #[derive(Clone, Copy, Debug, PartialEq, Eq)]
@@ -249,7 +249,7 @@ pub fn row_of_reason(reason: Reason) -> ReasonRow
         Reason::DualInfeasible { i, j } => row("DualInfeasible", 22, Potentials, two(i, j)),
         Reason::NotBranches => row("NotBranches", 23, Branches, NONE),
         Reason::BranchesDimension => row("BranchesDimension", 24, Branches, NONE),
-        Reason::BadComb { index } => row("BadComb", 25, Branches, one(index)),
+        Reason::BadFamily { index } => row("BadComb", 25, Branches, one(index)),
         Reason::BadBranch { index } => row("BadBranch", 26, Branches, one(index)),
         Reason::BranchTwice { index } => row("BranchTwice", 27, Branches, one(index)),
         Reason::BadLeaf { index } => row("BadLeaf", 28, Branches, one(index)),

@@ -1,19 +1,6 @@
 -- What customers demand, in units, how many routes that needs, and that each route is a walk within the capacity.
-use Rattle.std.proofs.Common.{◌≡◌, ◌≢◌, ℕ, zero, suc, ◌+◌, ◌-◌, ◌*◌, ◌/◌, ◌<◌, ◌≤◌, ◌==◌, ◌||◌, false, List, [], ◌∷◌, refl, sym, ap, ◌∙◌, subst, arith, to_z, of_z, inl, inr, add-one, ap₂, ◌++◌}
-use Rattle.std.proofs.Math.IntN.{+ℤ_assoc}
-use Rattle.std.proofs.Math.Nat.{div-mul-le_self, lt-div-mul-add, mul-le-mul_right, add-mul}
-use Rattle.std.proofs.lemmas.Bool.{cases_Bool, cases_eq, cases_lt, or_left, ne_eqb, eq-eqb, eqb-true, both_ways}
-use Rattle.std.proofs.lemmas.Int.{ints}
-use Rattle.std.proofs.lemmas.List.Elements.{recursion_from_All, All-from_recursion}
-use Rattle.std.specs.Int.{w64}
-use Rattle.std.specs.List.{All, AllPairs, AllByRecursion, range_with_len, concat}
-use Rattle.std.specs.Prelude.{◌⊎◌, max, min, if◌then◌else◌, nat_abs, ℤ, pos, negsuc, ◌+ℤ◌, ◌*ℤ◌, ◌≤ℤ◌}
-use Rattle.tsp_format.specs.Limits.{most_demand, most_nodes}
-use Rattle.tsp_format.specs.Nodes.{IsNode, nodes_to}
-use Rattle.tsp_format.specs.Steps.{IsFromTo}
-use Rattle.tsp_theory.proofs.Sums.{sum_int_by-add}
-use Rattle.tsp_theory.specs.Tour.{sum_int_by, RoutingProblem, IsCustomer, IsLeastRoutes}
-use Rattle.tsp_cases.specs.Crossings.{has}
+use Rattle.tsp_routing.proofs.Prelude.{◌≡◌, ◌≢◌, ℕ, zero, suc, ◌+◌, ◌-◌, ◌*◌, ◌/◌, ◌<◌, ◌≤◌, ◌==◌, ◌||◌, false, List, [], ◌∷◌, refl, sym, ap, ◌∙◌, subst, arith, to_z, of_z, inl, inr, add-one, ap₂, ◌++◌, +ℤ_assoc, div-mul-le_self, lt-div-mul-add, mul-le-mul_right, add-mul, cases_Bool, cases_eq, cases_lt, or_left, ne_eqb, eq-eqb, eqb-true, ints, recursion_from_All, All-from_recursion, w64, All, AllPairs, AllByRecursion, range_with_len, concat, ◌⊎◌, max, min, if◌then◌else◌, nat_abs, ℤ, pos, negsuc, ◌+ℤ◌, ◌*ℤ◌, ◌≤ℤ◌, most_demand, most_nodes, IsNode, nodes_to, IsFromTo, sum_int_by-add, sum_int_by, RoutingProblem, IsCustomer, IsLeastRoutes, absent, has}
+use Rattle.tsp_cases.proofs.RowsKept.{some_left}
 use Rattle.tsp_routing.proofs.Plans.{all_same, sum_append, sum_of_plan, parts_all, demands_low}
 use Rattle.tsp_routing.specs.PlanLinks.{sum_of_customers, IsCapacityCut, units_of, is_light, load_in, capacity_in_parts, RoutesFitCapacity, LoadsAreSome}
 use Rattle.tsp_routing.specs.QRoutes.{BeginsOther, IsStraightFrom, IsStraight, IsQRoute, RoutesAreQRoutes}
@@ -50,12 +37,6 @@ alone_sum d y a (suc m) low high = elim (cases_eq y a) [
       let first : alone d y a ≡ pos 0 = ap (λ b. if b then d a else pos 0) (ne_eqb y a other) in
       omega (arith, ints, first, alone_sum d y (a + 1) m (omega (arith, low, other)) (omega (arith, high)))
 ]
-
-absent : (y : ℕ) (ys : List ℕ) (x : ℕ) → y ≡ x → AllByRecursion (λ z. y ≢ z) ys → has ys x ≡ false
-absent y [] x same h = refl
-absent y (z ∷ ys) x same h =
-    let first : (z == x) ≡ false = ne_eqb z x (λ is. h.0 (same ∙ sym is)) in
-    ap (λ b. b || has ys x) first ∙ absent y ys x same h.1
 
 split : (d : ℕ → ℤ) (y : ℕ) (ys : List ℕ) (x : ℕ) → AllByRecursion (λ z. y ≢ z) ys
     → (if has (y ∷ ys) x then d x else pos 0) ≡ alone d y x +ℤ (if has ys x then d x else pos 0)
@@ -123,7 +104,7 @@ cut_of problem (y ∷ ys) least need are once some is need_is =
 
 -- ---- the least number of routes
 
-least_is : (total capacity : ℕ) → 1 ≤ capacity
+pub least_is : (total capacity : ℕ) → 1 ≤ capacity
     → IsLeastRoutes (pos total) (pos capacity) ((total + (capacity - 1)) / capacity)
 least_is total capacity some = record {
   enough =
@@ -217,16 +198,12 @@ module _ (problem : RoutingProblem) (unit node : ℕ) where
 
 -- ---- the loads of a route are within the capacity in units
 
-not_none : (k : ℕ) → (k == 0) ≡ false → 1 ≤ k
-not_none zero h = absurd (both_ways (0 == 0) h refl)
-not_none (suc k) h = omega arith
-
 pub loads_are_some : LoadsAreSome
 loads_are_some problem unit none node =
     elim (cases_Bool (units_of problem unit node == 0)) [
       | inl t ↦ rw t (omega arith)
       | inr f ↦
-          let some = not_none (units_of problem unit node) f in
+          let some = some_left (units_of problem unit node) f in
           let more : 1 * (none + 1) ≤ units_of problem unit node * (none + 1) = mul-le-mul_right (none + 1) some in
           rw f (omega (arith, more))
     ]

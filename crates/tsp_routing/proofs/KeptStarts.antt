@@ -1,12 +1,5 @@
 -- A run below the limit is kept from its first customer to its last: to go on as it does, and forget, is a way home.
-use Rattle.std.proofs.Common.{◌≡◌, ◌≢◌, ℕ, ◌+◌, ◌≤◌, ◌==◌, ◌&&◌, ◌||◌, Bool, true, false, not, List, [], ◌∷◌, refl, sym, ap, ap₂, ◌∙◌, arith, inl, inr}
-use Rattle.std.specs.Prelude.{◌⊎◌, if◌then◌else◌, ℤ, pos, ◌+ℤ◌, ◌≤ℤ◌, ◌<ℤ◌}
-use Rattle.std.specs.List.{AllByRecursion}
-use Rattle.std.proofs.lemmas.Int.{ints, by_lt_z}
-use Rattle.std.proofs.lemmas.Bool.{cases_Bool, and_right}
-use Rattle.std.proofs.lemmas.List.Elements.{recursion_from_All, All-from_recursion}
-use Rattle.tsp_theory.specs.Tour.{sum_int_by}
-use Rattle.tsp_cases.specs.Crossings.{has}
+use Rattle.tsp_routing.proofs.Prelude.{◌≡◌, ◌≢◌, ℕ, ◌+◌, ◌≤◌, ◌==◌, ◌&&◌, ◌||◌, Bool, true, false, not, List, [], ◌∷◌, refl, sym, ap, ap₂, ◌∙◌, arith, inl, inr, ◌⊎◌, if◌then◌else◌, ℤ, pos, ◌+ℤ◌, ◌≤ℤ◌, ◌<ℤ◌, AllByRecursion, ints, by_lt_z, cases_Bool, and_right, recursion_from_All, All-from_recursion, sum_int_by, has}
 use Rattle.tsp_routing.specs.Runs.{SubsetRow, keeps, RunRules, RunState, first_state, next_state, MayServe, is_charged, charged, IsRunRest, rest_weight, IsRunUnder, run_weight}
 use Rattle.tsp_routing.specs.RunBounds.{IsLeastRun}
 use Rattle.tsp_routing.specs.KeptStates.{forgetful, bare_state, IsWayHome, home_weight, IsCompletion, IsKeptState, AreKeptFrom, IsKeptStart, AreSameStates, IsLeastKeptRun, CompletionsTellKeptStates, CompletionsAreBelowRests, RunsBelowAreKept, KeptStartsGiveLeastRuns, EqualStatesGoOnAlike}
@@ -245,3 +238,20 @@ step_home rules state next rest may home =
       (record { customer = may.customer; other = may.other; unseen = refl; within = may.within }, on.0),
       omega (arith, ints, same),
     )
+
+-- a way home on which a customer comes next goes on as one from there
+pub home_after : (rules : RunRules) (load last next : ℕ) (rest : List ℕ) → IsWayHome rules load last (next ∷ rest)
+    → IsWayHome rules (load + rules.load next) next rest
+    × (home_weight rules load last (next ∷ rest)
+    ≡ rules.weight last next +ℤ home_weight rules (load + rules.load next) next rest)
+home_after rules load last next rest home =
+    let bare = bare_state (load + rules.load next) next in
+    let after = next_state (forgetful rules) (bare_state load last) next in
+    let alike : Alike [] after bare = record {
+      load = refl;
+      last = refl;
+      seen = λ customer. and_right (false || (customer == last)) false refl;
+      odd = tt;
+    } in
+    let on = go_on_alike (forgetful rules) after bare rest alike home.1 in
+    let same = on.1 in (on.0, omega (arith, ints, same))

@@ -1,4 +1,5 @@
 -- The files of lemmas of this crate. Crates above may import them.
+mod Prelude
 pub mod Plans
 pub mod CutNeeds
 pub mod PlanBounds
@@ -7,6 +8,19 @@ pub mod RunCharges
 pub mod RunBounds
 pub mod RectangleRuns
 pub mod KeptStarts
+pub mod WaysHome
+pub mod Words
+pub mod MemoryWords
+pub mod Starts
+pub mod NextEntries
+pub mod GivenKeys
+pub mod GivenTables
+pub mod KeptLists
+pub mod KeptBefores
+pub mod LeastKept
+pub mod RunSizes
+pub mod RunsAlike
+pub mod RowHalves
 pub mod RouteProducts
 pub mod PlanJudging
 pub mod QRouteRests

@@ -1,23 +1,6 @@
 -- Crossings of routes are even, the limits of a case hold, and the bound of a certificate is at most the length of each
 -- plan.
-use Rattle.std.proofs.Common.{◌≡◌, ℕ, ◌+◌, ◌-◌, ◌*◌, Bool, true, false, List, [], ◌∷◌, length, ◌≤ℤ◌, inl, inr, refl, arith, Option, None, Some, ap, subst, zero, suc, ◌==◌, ◌&&◌, not, cond, sym, ap₂, ◌∙◌, ◌≤◌}
-use Rattle.std.proofs.Math.IntN.{suc_ℤ-*ℤ, zero-*ℤ, *ℤ-zero, *ℤ_comm}
-use Rattle.std.proofs.lemmas.Bool.{cases_lt, both_ways, cases_Bool, and_parts, eqb-true}
-use Rattle.std.proofs.lemmas.Int.{ints}
-use Rattle.std.proofs.lemmas.List.Elements.{All-cons, All-contains, recursion_from_All, All-from_recursion}
-use Rattle.std.specs.List.{AllByRecursion, concat, All}
-use Rattle.std.specs.Prelude.{ℤ, pos, negsuc, ◌+ℤ◌, max, min, ◌*ℤ◌}
-use Rattle.tsp_theory.proofs.Neighbours.{none_or_one, evenly, sum_below, sum_zero, one_if, difference}
-use Rattle.tsp_theory.proofs.Sums.{sum_int_by-add}
-use Rattle.tsp_theory.specs.Bounds.{entry, weight_between, IsScale}
-use Rattle.tsp_theory.specs.Tour.{links, length_of, RoutingProblem, sum_int_by, IsPlan, plan_length}
-use Rattle.tsp_theory.specs.Tree.{crossing, crosses, weight_of}
-use Rattle.tsp_cases.specs.CaseTrees.{IsAbove, IsLeastFound, multiplied, crossings_of}
-use Rattle.tsp_cases.specs.Cases.{CaseStep, Branch, Leaf, are_case_trees, decide, leaves_of, cases_of, LeafNumbers}
-use Rattle.tsp_cases.specs.Families.{Family, family_crossings, family_with, families_with}
-use Rattle.tsp_cases.specs.ListedCases.{listed_steps}
-use Rattle.tsp_cases.specs.declared.family.Crossings.{Crossings}
-use Rattle.tsp_cases.specs.declared.open_case.Decision.{Decision}
+use Rattle.tsp_routing.proofs.Prelude.{◌≡◌, ℕ, ◌+◌, ◌-◌, ◌*◌, Bool, true, false, List, [], ◌∷◌, length, ◌≤ℤ◌, inl, inr, refl, arith, Option, None, Some, ap, subst, suc, ◌==◌, ◌&&◌, not, cond, sym, ap₂, ◌∙◌, ◌≤◌, suc_ℤ-*ℤ, zero-*ℤ, *ℤ-zero, *ℤ_comm, cases_lt, both_ways, cases_Bool, and_parts, eqb-true, ints, All-cons, All-contains, recursion_from_All, All-from_recursion, AllByRecursion, concat, All, ℤ, pos, negsuc, ◌+ℤ◌, max, min, ◌*ℤ◌, none_or_one, evenly, sum_below, sum_zero, one_if, difference, sum_int_by-add, entry, weight_between, IsScale, links, length_of, RoutingProblem, sum_int_by, IsPlan, plan_length, crossing, crosses, weight_of, over_sum, size_of_link, IsAbove, IsLeastFound, multiplied, crossings_of, CaseStep, Branch, Leaf, are_case_trees, decide, leaves_of, cases_of, LeafNumbers, Family, family_crossings, family_with, families_with, listed_steps, Crossings, Decision}
 use Rattle.tsp_routing.proofs.CutNeeds.{routes_are_q_routes}
 use Rattle.tsp_routing.proofs.Plans.{lengths_are_weights, plan_firsts, plan_seconds, count_of_plan, plans_have_few_routes, all_same, plans_cross_cuts, lone_crossings, fewest_routes, least_at, least_between, split_surplus, between_weight}
 use Rattle.tsp_routing.specs.PlanBounds.{surplus, least_times, low_of, high_of, limits_total, q_route_weight, PlanBoundsBoundPlans, least_product, IsPlanBound, IsQRouteBound, IsFoundByQRoutes, PlanTreesBoundPlans, PlanTreeBoundsAreUnique, IsPlanTreeBound}
@@ -148,48 +131,15 @@ module _ (found : List Decision × LeafNumbers → Option ℤ → Type 0)
   one_found None (Some b) p q = absurd (never_both b q p)
   one_found None None p q = refl
 
--- ---- what the limits of a case and the multipliers of the sets give back is at most what they
+-- ---- what the limits of a case and the multipliers of the sets give back is at most their sum
 
 -- ---- products
-
-spread_pos : (m : ℕ) (a b : ℤ) → pos m *ℤ (a +ℤ b) ≡ (pos m *ℤ a) +ℤ (pos m *ℤ b)
-spread_pos zero a b =
-    let x = zero-*ℤ (a +ℤ b) in
-    let y = zero-*ℤ a in
-    let z = zero-*ℤ b in
-    omega (arith, ints, x, y, z)
-spread_pos (suc m) a b =
-    let rest = spread_pos m a b in
-    let x = suc_ℤ-*ℤ (pos m) (a +ℤ b) in
-    let y = suc_ℤ-*ℤ (pos m) a in
-    let z = suc_ℤ-*ℤ (pos m) b in
-    omega (arith, ints, rest, x, y, z)
-
-spread_neg : (m : ℕ) (a b : ℤ) → negsuc m *ℤ (a +ℤ b) ≡ (negsuc m *ℤ a) +ℤ (negsuc m *ℤ b)
-spread_neg zero a b =
-    let x = zero-*ℤ (a +ℤ b) in
-    let y = zero-*ℤ a in
-    let z = zero-*ℤ b in
-    let p = suc_ℤ-*ℤ (negsuc 0) (a +ℤ b) in
-    let q = suc_ℤ-*ℤ (negsuc 0) a in
-    let r = suc_ℤ-*ℤ (negsuc 0) b in
-    omega (arith, ints, x, y, z, p, q, r)
-spread_neg (suc m) a b =
-    let rest = spread_neg m a b in
-    let p = suc_ℤ-*ℤ (negsuc (suc m)) (a +ℤ b) in
-    let q = suc_ℤ-*ℤ (negsuc (suc m)) a in
-    let r = suc_ℤ-*ℤ (negsuc (suc m)) b in
-    omega (arith, ints, rest, p, q, r)
-
-spread : (m a b : ℤ) → m *ℤ (a +ℤ b) ≡ (m *ℤ a) +ℤ (m *ℤ b)
-spread (pos m) a b = spread_pos m a b
-spread (negsuc m) a b = spread_neg m a b
 
 pub scaled_sum : {X : Type 0} (m : ℤ) (f : X → ℤ) (xs : List X) → sum_int_by (λ x. m *ℤ f x) xs ≡ m *ℤ sum_int_by f xs
 scaled_sum m f [] = sym (*ℤ-zero m)
 scaled_sum m f (x ∷ xs) =
     let rest = scaled_sum m f xs in
-    let both = spread m (f x) (sum_int_by f xs) in
+    let both = over_sum m (f x) (sum_int_by f xs) in
     omega (arith, ints, rest, both)
 
 -- ---- the limits of a case
@@ -248,12 +198,6 @@ module _ (n : ℕ) (families : List Family) (depot : ℕ) (routes : List (List �
 
 -- ---- a plan crosses a set at most twice for each customer
 
-crossed_ends : (a b : Bool) → one_if (cond a (not b) b) ≤ℤ (one_if a +ℤ one_if b)
-crossed_ends true true = omega (arith, ints)
-crossed_ends true false = omega (arith, ints)
-crossed_ends false true = omega (arith, ints)
-crossed_ends false false = omega (arith, ints)
-
 counted : (part : ℕ → Bool) (nodes : List ℕ) → sum_int_by (λ x. one_if (part x)) nodes ≤ℤ pos (length nodes)
 counted part [] = omega (arith, ints)
 counted part (x ∷ nodes) = omega (arith, ints, (none_or_one (part x)).1, counted part nodes)
@@ -265,7 +209,7 @@ most_crossed problem part routes routing plan off =
     let f : ℕ → ℤ = λ x. one_if (part x) in
     let all = lengths_are_weights (crossing part) problem.depot routes in
     let below = sum_below (λ (link : ℕ × ℕ). crossing part link.0 link.1) (λ (link : ℕ × ℕ). f link.0 +ℤ f link.1) pairs
-    (λ link. crossed_ends (part link.0) (part link.1)) in
+    (λ link. size_of_link (part link.0) (part link.1)) in
     let both = sum_int_by-add (λ (link : ℕ × ℕ). f link.0) (λ (link : ℕ × ℕ). f link.1) pairs in
     let firsts = lengths_are_weights (λ i j. f i) problem.depot routes in
     let seconds = lengths_are_weights (λ i j. f j) problem.depot routes in
@@ -491,7 +435,7 @@ all_crossed problem (sets ∷ families) (x ∷ xs) (y ∷ ys) long also p q =
     ap₂ (λ (z : Crossings) (zs : List Crossings). z ∷ zs) (one_crossed problem sets x y p.0 q.0)
     (all_crossed problem families xs ys (omega (arith, long)) (omega (arith, also)) p.1 q.1)
 
-one_light : (problem : RoutingProblem) (unit a b : ℕ) → AreUnits problem unit a → AreUnits problem unit b → a ≡ b
+pub one_light : (problem : RoutingProblem) (unit a b : ℕ) → AreUnits problem unit a → AreUnits problem unit b → a ≡ b
 one_light problem unit a b p q =
     let first = p.light_is in
     let second = q.light_is in

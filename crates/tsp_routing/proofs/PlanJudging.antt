@@ -1,35 +1,15 @@
 -- Which families are sets of customers, the first that isn't, and the pass over the leaves.
-use Rattle.std.proofs.Common.{◌≡◌, ◌≢◌, ℕ, zero, suc, ◌+◌, ◌≤◌, ◌<◌, ◌==◌, Bool, true, false, List, [], ◌∷◌, length, get_or, refl, sym, ap, ◌∙◌, subst, arith, inl, inr, ◌^◌, ◌++◌, length-append, ◌-◌, take, drop}
-use Rattle.std.proofs.lemmas.Bool.{cases_Bool, both_ways, or_left, or_right, eq-eqb, cases_lt}
-use Rattle.std.proofs.lemmas.Int.{ints}
-use Rattle.std.proofs.lemmas.List.{get_or_append_left, get_or_push, get_or_default, get_or-map, length-map, take-append-drop}
-use Rattle.std.proofs.lemmas.List.Elements.{recursion_from_All, All-from_recursion, All-append, All-weaker}
-use Rattle.std.specs.Global.{Vec}
-use Rattle.std.specs.List.{All, range_with_len, AllByRecursion}
-use Rattle.std.specs.Prelude.{ℤ, pos, if◌then◌else◌, ◌≤ℤ◌, Some, replicate, Option, None, neg_ℤ}
-use Rattle.tsp_format.specs.Limits.{most_potential, most_demand}
-use Rattle.tsp_format.specs.Nodes.{IsNode, nodes_to}
-use Rattle.tsp_format.specs.Steps.{are_whole, IsFromTo}
+use Rattle.tsp_routing.proofs.Prelude.{◌≡◌, ◌≢◌, ℕ, zero, suc, ◌+◌, ◌≤◌, ◌<◌, ◌==◌, Bool, true, false, List, [], ◌∷◌, length, get_or, refl, sym, ap, ◌∙◌, subst, arith, inl, inr, ◌^◌, ◌++◌, length-append, ◌-◌, take, drop, cases_Bool, both_ways, or_left, or_right, eq-eqb, cases_lt, ints, get_or_append_left, get_or_push, get_or_default, get_or-map, length-map, take-append-drop, recursion_from_All, All-from_recursion, All-append, All-weaker, Vec, All, range_with_len, AllByRecursion, ℤ, pos, if◌then◌else◌, ◌≤ℤ◌, Some, replicate, Option, None, neg_ℤ, most_potential, most_demand, IsNode, nodes_to, are_whole, IsFromTo, IsScale, sum_int_by, IsCustomer, RoutingProblem, demand_of, whole_trees, IsAbove, IsLeastFound, LeafNumbers, has, AreSetsOf, lists_of, families_in, HasEachOnce, IsFamily, family_with, families_with, BeginsWithin, branch_pairs, as_leaf_numbers, IsStepOf, split_at, no_numbers_of, listed_steps, Crossings, Decision}
 use Rattle.tsp_format.specs.Steps as listed
-use Rattle.tsp_theory.specs.Bounds.{IsScale}
-use Rattle.tsp_theory.specs.Tour.{sum_int_by, IsCustomer, RoutingProblem, demand_of}
-use Rattle.tsp_cases.proofs.Passes.{whole_trees}
-use Rattle.tsp_cases.specs.CaseTrees.{IsAbove, IsLeastFound}
-use Rattle.tsp_cases.specs.Cases.{LeafNumbers}
-use Rattle.tsp_cases.specs.Crossings.{has, AreSetsOf, lists_of, families_in}
-use Rattle.tsp_cases.specs.Families.{HasEachOnce, IsFamily, family_with, families_with}
 use Rattle.tsp_cases.specs.JudgedLeaves.{IsFoundOfCase}
-use Rattle.tsp_cases.specs.ListedCases.{BeginsWithin, branch_pairs, as_leaf_numbers, IsStepOf, split_at, no_numbers_of, listed_steps}
-use Rattle.tsp_cases.specs.declared.family.Crossings.{Crossings}
 use Rattle.tsp_cases.specs.declared.judged.JudgedLeaf.TheVariants as leaves
-use Rattle.tsp_cases.specs.declared.open_case.Decision.{Decision}
 use Rattle.tsp_cases.specs.states.Kept.{AreSmall}
 use Rattle.tsp_routing.proofs.CutNeeds.{apart_from_pairs, held, no_depot}
 use Rattle.tsp_routing.proofs.RouteProducts.{each_small}
 use Rattle.tsp_routing.specs.PlanBounds.{PlanTreesBoundPlans}
 use Rattle.tsp_routing.specs.PlanLinks.{IsCutFamily, AreUnits, IsRoutable}
 use Rattle.tsp_routing.specs.PlanVerdicts.{IsGoodSet, IsFirstBadSet, AreCapacityCuts, most_of_multipliers, ArePlanNumbers, AreGoodBranches, IsPlanVerdict, VerdictBoundsPlans}
-use Rattle.tsp_routing.specs.declared.demands.Demands.{Demands}
+use Rattle.tsp_routing.specs.declared.units.Demands.{Demands}
 use Rattle.tsp_routing.specs.declared.verdict.PlanVerdict.{PlanVerdict}
 use Rattle.tsp_routing.specs.declared.verdict.PlanVerdict.TheVariants as verdict
 use Rattle.tsp_routing.specs.states.Demands.{loads_problem}

@@ -1,25 +1,13 @@
 -- Sums over the links of a plan, the number of its routes, and how often it leaves a set of customers.
-use Rattle.std.proofs.Common.{◌≡◌, ◌≢◌, ℕ, zero, suc, ◌+◌, ◌<◌, ◌≤◌, true, false, eqb, List, [], ◌∷◌, ◌++◌, length, refl, sym, ap, ◌∙◌, arith, inl, inr, ◌&&◌, ◌||◌, Bool, not, cond}
-use Rattle.std.proofs.Math.IntN.{suc_ℤ-*ℤ, zero-*ℤ}
-use Rattle.std.proofs.lemmas.Bool.{cases_eq, ne_eqb, eqb-false, cases_Bool, both_ways, or_left}
+use Rattle.tsp_routing.proofs.Prelude.{◌≡◌, ◌≢◌, ℕ, zero, suc, ◌+◌, ◌<◌, ◌≤◌, true, false, eqb, List, [], ◌∷◌, ◌++◌, length, refl, sym, ap, ◌∙◌, arith, inl, inr, ◌&&◌, ◌||◌, Bool, not, cond, suc_ℤ-*ℤ, zero-*ℤ, eqb-false, cases_Bool, both_ways, or_left, ints, recursion_from_All, All-from_recursion, All-contains, AllByRecursion, Contains, IsDistinct, concat, range_with_len, remove, list_any, ◌⊎◌, ℤ, pos, ◌+ℤ◌, ◌*ℤ◌, min, max, if◌then◌else◌, ◌≤ℤ◌, negsuc, int_lt, ◌-ℤ◌, most_nodes, nodes_to, one_if, none_or_one, twice, sum_below, sum_zero, sum_int_by-IsPermutation, length_by_first, length_by_second, sum_int_by-add, sum_int_by-scaled, IsScale, entry, weight_between, links, sum_int_by, RoutingProblem, IsCustomer, IsPlan, plan_length, length_of, crossing, weight_of, Comb, family_crossings}
 use Rattle.std.proofs.lemmas.Bool.Decides.{eqb_tells}
-use Rattle.std.proofs.lemmas.Int.{ints}
-use Rattle.std.proofs.lemmas.List.Elements.{recursion_from_All, All-from_recursion, All-contains}
 use Rattle.std.proofs.lemmas.List.Folds.{Any-from_list_any}
 use Rattle.std.proofs.lemmas.List.FromFn.{length-range_with_len}
 use Rattle.std.proofs.lemmas.List.Sorted.{IsPermutation-refl, IsPermutation-remove, IsPermutation-cons, IsPermutation-sym, IsPermutation-trans, Contains-permutation, length_permutation}
 use Rattle.std.proofs.lemmas.Map.Keys.{IsDistinct-head, IsDistinct-tail, IsDistinct-cons, IsDistinct-IsPermutation}
-use Rattle.std.specs.List.{AllPairs, AllByRecursion, Contains, IsDistinct, concat, range_with_len, remove, list_any}
 use Rattle.std.specs.List.Sorted.{IsPermutation}
-use Rattle.std.specs.Prelude.{◌⊎◌, ℤ, pos, ◌+ℤ◌, ◌*ℤ◌, min, max, if◌then◌else◌, ◌≤ℤ◌, negsuc, int_lt, ◌-ℤ◌}
-use Rattle.tsp_format.specs.Limits.{most_nodes}
-use Rattle.tsp_format.specs.Nodes.{nodes_to}
-use Rattle.tsp_theory.proofs.Neighbours.{one_if, none_or_one, twice, sum_below, sum_zero}
-use Rattle.tsp_theory.proofs.Sums.{sum_int_by-IsPermutation, length_by_first, length_by_second, sum_int_by-add, sum_int_by-scaled}
-use Rattle.tsp_theory.specs.Bounds.{IsScale, entry, weight_between}
-use Rattle.tsp_theory.specs.Tour.{links, sum_int_by, RoutingProblem, IsCustomer, IsPlan, plan_length, length_of}
-use Rattle.tsp_theory.specs.Tree.{crossing, weight_of}
-use Rattle.tsp_cases.specs.Families.{Comb, family_crossings}
+use Rattle.tsp_format.proofs.Basics.{both_all}
+use Rattle.tsp_theory.proofs.Cycles.{apart, distinct, flips}
 use Rattle.tsp_routing.specs.PlanBounds.{least_times, least_product}
 use Rattle.tsp_routing.specs.PlanLinks.{plan_links, IsRoutable, sum_of_customers, LengthsAreWeights, PlanSums, PlansHaveFewRoutes, IsFewest, leaving, entering, IsCapacityCut, PlansLeaveCuts, PlansCrossCuts}
 
@@ -57,24 +45,6 @@ plan_seconds f depot (route ∷ routes) =
     omega (arith, ints, rest, own, both, times)
 
 -- ---- different numbers that are all of a run are the run in another order
-
-apart : (x : ℕ) (xs : List ℕ) → AllByRecursion (λ y. x ≢ y) xs → AllByRecursion (λ y. eqb x y ≡ false) xs
-apart x [] h = tt
-apart x (y ∷ xs) h = (ne_eqb x y h.0, apart x xs h.1)
-
-pub distinct : (xs : List ℕ) → AllPairs (λ a b. a ≢ b) xs → IsDistinct eqb xs
-unfolding IsDistinct
-distinct [] h = tt
-distinct (x ∷ xs) h =
-    IsDistinct-cons eqb x xs
-    (apart x xs (recursion_from_All (λ y. x ≢ y) xs (λ k d lt. h zero (suc k) d (omega arith) (omega arith))))
-    (distinct xs (λ i j d below lt. h (suc i) (suc j) d (omega arith) (omega arith)))
-
-flips : (x y : ℕ) → eqb x y ≡ eqb y x
-flips x y = elim (cases_eq x y) [
-  | inl same ↦ ap (λ z. eqb z y) same ∙ ap (eqb y) (sym same)
-  | inr other ↦ ne_eqb x y other ∙ sym (ne_eqb y x (λ same. other (sym same)))
-]
 
 run_permutation : (m a : ℕ) (xs : List ℕ) → IsDistinct eqb xs → ((v : ℕ) → a ≤ v → v < a + m → Contains xs v)
     → ((v : ℕ) → Contains xs v → (a ≤ v) × (v < a + m)) → IsPermutation xs (range_with_len a m)
@@ -261,10 +231,6 @@ carries_none : (part : ℕ → Bool) (demand : ℕ → ℤ) (nodes : List ℕ) �
 carries_none part demand [] none = refl
 carries_none part demand (x ∷ nodes) none = let rest = carries_none part demand nodes none.1 in rw none.0 (omega (arith, ints, rest))
 
-pub both_all : {X : Type 0} (P : X → Type 0) (xs ys : List X) → AllByRecursion P xs → AllByRecursion P ys → AllByRecursion P (xs ++ ys)
-both_all P [] ys h k = k
-both_all P (x ∷ xs) ys h k = (h.0, both_all P xs ys h.1 k)
-
 pub parts_all : {X : Type 0} (P : X → Type 0) (xs ys : List X) → AllByRecursion P (xs ++ ys)
     → AllByRecursion P xs × AllByRecursion P ys
 parts_all P [] ys h = (tt, h)
@@ -349,7 +315,7 @@ enough problem part need routes routing cut plan touch =
     some (suc count) none = omega arith
 
 -- a plan has as many routes as all customers need
-within_all : (demand : ℕ → ℤ) (capacity : ℤ) (routes : List (List ℕ))
+pub within_all : (demand : ℕ → ℤ) (capacity : ℤ) (routes : List (List ℕ))
     → AllByRecursion (λ route. sum_int_by demand route ≤ℤ capacity) routes
     → sum_int_by demand (concat routes) ≤ℤ (pos (length routes) *ℤ capacity)
 within_all demand capacity [] within = let none = zero-*ℤ capacity in omega (arith, ints, none)

@@ -1,13 +1,5 @@
 -- The entries of the table of walks are the least weights on from a node.
-use Rattle.std.proofs.Common.{◌≡◌, ℕ, zero, suc, ◌<◌, List, [], ◌∷◌, ◌++◌, length, get_or, refl, arith, ◌≢◌, ◌-◌, ◌*◌, ◌≤◌, ◌==◌, sym, ap, ◌∙◌, subst, inl, inr, ◌+◌, add-one}
-use Rattle.std.proofs.Math.Nat.{suc-mul, mul-le-mul_right}
-use Rattle.std.proofs.lemmas.Bool.{cases_Bool, both_ways, eqb-true, eq-eqb, cases_eq}
-use Rattle.std.proofs.lemmas.Int.{ints}
-use Rattle.std.proofs.lemmas.List.Elements.{recursion_from_All, All-from_recursion}
-use Rattle.std.specs.Prelude.{Option, None, Some, MatchOption, if◌then◌else◌, ℤ, pos, ◌+ℤ◌, ◌≤ℤ◌, ◌⊎◌, neg_ℤ}
-use Rattle.tsp_format.specs.Nodes.{IsNode}
-use Rattle.tsp_format.specs.Steps.{IsFromTo}
-use Rattle.tsp_theory.specs.Tour.{sum_int_by, length_of, IsCustomer}
+use Rattle.tsp_routing.proofs.Prelude.{◌≡◌, ℕ, zero, suc, ◌<◌, List, [], ◌∷◌, ◌++◌, length, get_or, refl, arith, ◌≢◌, ◌-◌, ◌*◌, ◌≤◌, ◌==◌, sym, ap, ◌∙◌, subst, inl, inr, ◌+◌, add-one, suc-mul, mul-le-mul_right, cases_Bool, both_ways, eqb-true, eq-eqb, cases_eq, ints, recursion_from_All, All-from_recursion, Option, None, Some, MatchOption, if◌then◌else◌, ℤ, pos, ◌+ℤ◌, ◌≤ℤ◌, ◌⊎◌, neg_ℤ, IsNode, IsFromTo, sum_int_by, length_of, IsCustomer}
 use Rattle.tsp_routing.specs.QRoutes.{IsLeastAmong, BeginsOther, IsQRoute, IsBelowQRoutes, onward_weight, IsQRouteRest, first_or_depot, QRouteEntry, least_from, IsAtMost, IsEntryBelowTo, IsStartBelow, IsLow, IsReal, IsStepTo, IsEntryMetTo, IsMet, IsStartMet}
 use Rattle.tsp_routing.specs.declared.least_q_route.Onward.{Onward}
 use Rattle.tsp_routing.specs.states.Demands.{AreLinks, IsChosen, entry_at, IsNearOrFar, IsEntryNumber, IsEntrySized, IsRowSized}
@@ -35,7 +27,7 @@ get_append_last (y ∷ xs) x (suc k) d is = get_append_last xs x k d (omega (ari
 
 -- ---- the entries of the table of walks are at most what each walk weighs from a node on
 
-loads_low : (load : ℕ → ℕ) (nodes : List ℕ) → pos 0 ≤ℤ sum_int_by (λ node. pos (load node)) nodes
+pub loads_low : (load : ℕ → ℕ) (nodes : List ℕ) → pos 0 ≤ℤ sum_int_by (λ node. pos (load node)) nodes
 loads_low load [] = omega (arith, ints)
 loads_low load (x ∷ nodes) = omega (arith, ints, loads_low load nodes)
 

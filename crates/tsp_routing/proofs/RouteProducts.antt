@@ -1,30 +1,5 @@
 -- The sums of a leaf for routes fit 128 bits: multipliers, counts of routes, kept rows.
-use Rattle.std.proofs.Common.{ℕ, List, [], ◌∷◌, ℤ, ◌≤ℤ◌, arith, ◌≡◌, ◌∙◌, ◌+◌, ◌*◌, ◌==◌, ◌&&◌, ◌||◌, Bool, true, false, not, cond, refl, sym, ap, ◌^◌, ◌≤◌, ap₂, subst, to_z, of_z, FitsSigned, ◌<◌, drop, length, get_or, drop-cons, add-one, zero, suc, take, ◌++◌, inl, inr, length-append}
-use Rattle.std.proofs.lemmas.Bool.{cases_lt}
-use Rattle.std.proofs.lemmas.Int.{ints, fits_signed_from_abs, to_z-of_z}
-use Rattle.std.proofs.lemmas.List.{get_or_append_left, get_or_push}
-use Rattle.std.proofs.lemmas.List.Elements.{recursion_from_All}
-use Rattle.std.specs.Global.{Vec}
-use Rattle.std.specs.Int.{w64, w128}
-use Rattle.std.specs.List.{AllByRecursion, filter, All}
-use Rattle.std.specs.Prelude.{pos, neg_ℤ, max, min, if◌then◌else◌, ◌-ℤ◌, ◌*ℤ◌, negsuc, ◌+ℤ◌, int_lt, unsigned_abs, Option, Some, None}
-use Rattle.tsp_format.specs.Limits.{most_nodes, most_potential}
-use Rattle.tsp_format.specs.Nodes.{IsNode}
-use Rattle.tsp_format.specs.Steps.{IsFromTo}
-use Rattle.tsp_theory.proofs.Neighbours.{none_or_one}
-use Rattle.tsp_theory.proofs.Sums.{from_size, product_size, size_of, moved_on, moved_to}
-use Rattle.tsp_theory.specs.Bounds.{weight_between, most_between}
-use Rattle.tsp_theory.specs.Tour.{sum_int_by, length_of, links, IsCustomer}
-use Rattle.tsp_theory.specs.Tree.{crosses}
-use Rattle.tsp_theory.specs.states.Nearest.{IsMoved}
-use Rattle.tsp_cases.proofs.SetSums.{sets_come_to}
-use Rattle.tsp_cases.specs.CaseTrees.{multiplied, crossings_of}
-use Rattle.tsp_cases.specs.Crossings.{has}
-use Rattle.tsp_cases.specs.Families.{families_with, family_crossings, comb_with, HasEachOnce}
-use Rattle.tsp_cases.specs.declared.family.Crossings.{Crossings}
-use Rattle.tsp_cases.specs.declared.open_case.Decision.{Decision}
-use Rattle.tsp_cases.specs.states.OpenCases.{bears_on}
-use Rattle.tsp_cases.specs.states.Sets.{places_with, IsApart, inside_both, set_crossings, set_weight}
+use Rattle.tsp_routing.proofs.Prelude.{ℕ, List, [], ◌∷◌, ℤ, ◌≤ℤ◌, arith, ◌≡◌, ◌∙◌, ◌+◌, ◌*◌, ◌==◌, ◌&&◌, ◌||◌, Bool, true, false, not, cond, refl, sym, ap, ◌^◌, ◌≤◌, ap₂, subst, to_z, of_z, FitsSigned, ◌<◌, drop, length, get_or, drop-cons, add-one, zero, suc, take, ◌++◌, inl, inr, length-append, cases_lt, ints, fits_signed_from_abs, to_z-of_z, get_or_append_left, get_or_push, recursion_from_All, Vec, w64, w128, AllByRecursion, filter, All, pos, neg_ℤ, max, min, if◌then◌else◌, ◌-ℤ◌, ◌*ℤ◌, negsuc, ◌+ℤ◌, int_lt, unsigned_abs, Option, Some, None, most_nodes, most_potential, IsNode, IsFromTo, none_or_one, from_size, product_size, size_of, moved_on, moved_to, weight_between, most_between, sum_int_by, length_of, links, IsCustomer, crosses, IsMoved, sets_come_to, multiplied, crossings_of, has, families_with, family_crossings, comb_with, HasEachOnce, Crossings, Decision, bears_on, places_with, IsApart, inside_both, set_crossings, set_weight}
 use Rattle.tsp_routing.specs.PlanBounds.{low_of, high_of, most_surplus, least_times, limits_total, most_link}
 use Rattle.tsp_routing.specs.PlanVerdicts.{sizes_total, most_of_multipliers}
 use Rattle.tsp_routing.specs.QRoutes.{IsLeastAmong, IsQRoute}
@@ -265,7 +240,7 @@ least_same n depot a b room other v w (Some each) loads is weights least = (
       subst (λ (z : ℤ). each ≤ℤ z) (weights_same v w (links (depot ∷ nodes)) weights) own,
 )
 
--- ---- the entry of a row, once the multipliers of sets that have both nodes are added, is the
+-- ---- the entry of a row, once the multipliers of sets that have both nodes are added
 
 signed_size : (base crossings : ℤ) → IsFromTo (neg_ℤ (pos most_between)) (pos most_between) base
     → IsFromTo (neg_ℤ (pos most_of_multipliers)) (pos most_of_multipliers) crossings

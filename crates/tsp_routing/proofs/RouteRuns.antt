@@ -1,12 +1,6 @@
 -- A route of a plan is a run: a run remembers only customers that it had before.
-use Rattle.std.proofs.Common.{◌≡◌, ◌≢◌, ℕ, ◌≤◌, ◌==◌, ◌&&◌, ◌||◌, Bool, true, false, List, [], ◌∷◌, refl, sym, ap₂, ap, ◌∙◌, arith}
-use Rattle.std.specs.Prelude.{ℤ, pos, ◌+ℤ◌, ◌≤ℤ◌}
-use Rattle.std.specs.List.{AllByRecursion, concat}
-use Rattle.std.proofs.lemmas.Int.{ints}
-use Rattle.std.proofs.lemmas.Bool.{ne_eqb, and_left}
-use Rattle.std.proofs.lemmas.List.Elements.{recursion_from_All, All-from_recursion}
-use Rattle.tsp_theory.specs.Tour.{sum_int_by, RoutingProblem, IsCustomer}
-use Rattle.tsp_cases.specs.Crossings.{has}
+use Rattle.tsp_routing.proofs.Prelude.{◌≡◌, ◌≢◌, ℕ, ◌≤◌, ◌==◌, ◌&&◌, ◌||◌, Bool, true, false, List, [], ◌∷◌, refl, sym, ap₂, ap, ◌∙◌, arith, ℤ, pos, ◌+ℤ◌, ◌≤ℤ◌, AllByRecursion, concat, ints, ne_eqb, and_left, recursion_from_All, All-from_recursion, sum_int_by, RoutingProblem, IsCustomer, has}
+use Rattle.tsp_routing.proofs.QRouteRests.{loads_low}
 use Rattle.tsp_routing.specs.PlanLinks.{load_in, capacity_in_parts, IsRoutable, IsFilledPlan}
 use Rattle.tsp_routing.specs.Runs.{SubsetRow, RunRules, RunState, first_state, next_state, MayServe, IsRunRest, IsRunUnder, ApartCustomersAreRuns, RoutesAreRuns}
 use Rattle.tsp_routing.proofs.Plans.{parts_all}
@@ -27,10 +21,6 @@ unseen_later last seen near (next ∷ rest) unseen others = (
   ap₂ (λ a b. (a || b) && near next) unseen.0 (ne_eqb next last (λ same. others.0 (sym same))),
   unseen_later last seen near rest unseen.1 others.1,
 )
-
-loads_low : (load : ℕ → ℕ) (nodes : List ℕ) → pos 0 ≤ℤ sum_int_by (λ node. pos (load node)) nodes
-loads_low load [] = omega (arith, ints)
-loads_low load (x ∷ nodes) = omega (arith, ints, loads_low load nodes)
 
 goes_on : (rules : RunRules) (state : RunState) (rest : List ℕ) → AreNew rules state rest
     → (sum_int_by (λ node. pos (rules.load node)) rest +ℤ pos state.load) ≤ℤ pos rules.room → IsRunRest rules state rest

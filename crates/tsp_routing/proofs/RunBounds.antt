@@ -1,15 +1,6 @@
 -- A plan that keeps the decisions of a leaf is no shorter than the leaf's bound by least runs: each route is a run, and
 -- the charges of all routes are given back.
-use Rattle.std.proofs.Common.{◌≡◌, ℕ, ◌+◌, ◌-◌, ◌*◌, List, [], ◌∷◌, length, refl, ap, arith, inl, inr}
-use Rattle.std.specs.Prelude.{ℤ, pos, ◌+ℤ◌, ◌-ℤ◌, ◌*ℤ◌, ◌≤ℤ◌}
-use Rattle.std.specs.List.{AllByRecursion}
-use Rattle.std.proofs.lemmas.Int.{ints}
-use Rattle.std.proofs.lemmas.List.Elements.{recursion_from_All}
-use Rattle.std.proofs.Math.IntN.{suc_ℤ-*ℤ, zero-*ℤ}
-use Rattle.tsp_theory.specs.Tour.{sum_int_by, RoutingProblem, plan_length}
-use Rattle.tsp_theory.specs.Bounds.{entry, weight_between}
-use Rattle.tsp_theory.proofs.Neighbours.{difference}
-use Rattle.tsp_cases.specs.CaseTrees.{multiplied, crossings_of}
+use Rattle.tsp_routing.proofs.Prelude.{◌≡◌, ℕ, ◌+◌, ◌-◌, ◌*◌, List, [], ◌∷◌, length, refl, ap, arith, inl, inr, ℤ, pos, ◌+ℤ◌, ◌-ℤ◌, ◌*ℤ◌, ◌≤ℤ◌, AllByRecursion, ints, recursion_from_All, suc_ℤ-*ℤ, zero-*ℤ, sum_int_by, RoutingProblem, plan_length, entry, weight_between, difference, multiplied, crossings_of}
 use Rattle.tsp_routing.specs.PlanLinks.{plan_links, IsCutFamily, set_at, KeepsLimit}
 use Rattle.tsp_routing.specs.PlanBounds.{surplus}
 use Rattle.tsp_routing.specs.Runs.{RunRules, IsRunUnder, run_weight}

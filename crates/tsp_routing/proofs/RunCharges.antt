@@ -1,16 +1,6 @@
 -- What a run weighs, and how often a row is charged: a charge takes two customers of its set, since the parity is even
 -- after it.
-use Rattle.std.proofs.Common.{◌≡◌, ◌≢◌, ℕ, zero, suc, ◌+◌, ◌*◌, ◌/◌, ◌≤◌, ◌==◌, ◌&&◌, ◌||◌, Bool, true, false, not, cond, List, [], ◌∷◌, ◌++◌, length, refl, sym, ap, ap₂, ◌∙◌, arith, inl, inr}
-use Rattle.std.specs.Prelude.{if◌then◌else◌, ℤ, pos, ◌+ℤ◌, ◌*ℤ◌, ◌≤ℤ◌}
-use Rattle.std.specs.List.{AllByRecursion, concat}
-use Rattle.std.proofs.lemmas.Int.{ints}
-use Rattle.std.proofs.lemmas.Bool.{cases_Bool, cases_eq, ne_eqb, eq-eqb}
-use Rattle.std.proofs.lemmas.List.Elements.{recursion_from_All}
-use Rattle.std.proofs.Math.IntN.{suc_ℤ-*ℤ, zero-*ℤ}
-use Rattle.tsp_theory.specs.Tour.{links, links_to, sum_int_by, length_of, RoutingProblem, IsPlan, plan_length}
-use Rattle.tsp_theory.specs.Tree.{weight_of}
-use Rattle.tsp_theory.proofs.Sums.{sum_int_by-add, sum_int_by-le}
-use Rattle.tsp_cases.specs.Crossings.{has}
+use Rattle.tsp_routing.proofs.Prelude.{◌≡◌, ◌≢◌, ℕ, zero, suc, ◌+◌, ◌*◌, ◌/◌, ◌≤◌, ◌==◌, ◌&&◌, ◌||◌, Bool, true, false, not, cond, List, [], ◌∷◌, ◌++◌, length, refl, sym, ap, ap₂, ◌∙◌, arith, inl, inr, if◌then◌else◌, ℤ, pos, ◌+ℤ◌, ◌*ℤ◌, ◌≤ℤ◌, AllByRecursion, concat, ints, cases_Bool, cases_eq, ne_eqb, eq-eqb, recursion_from_All, suc_ℤ-*ℤ, zero-*ℤ, links, links_to, sum_int_by, length_of, RoutingProblem, IsPlan, plan_length, weight_of, sum_int_by-add, sum_int_by-le, has}
 use Rattle.tsp_routing.specs.PlanLinks.{IsFilledPlan}
 use Rattle.tsp_routing.specs.Runs.{SubsetRow, keeps, RunRules, RunState, first_state, next_state, is_charged, charged, rest_weight, run_weight, charges_from, charges, plan_charges, count_in, half, halves_total, AreCharges, RunsWeighLinksAndCharges, RowsAreChargedForTwo, PlansAreChargedHalf, PlansWeighAtMost}
 use Rattle.tsp_routing.proofs.Plans.{all_same, times_more}

@@ -1,12 +1,6 @@
 -- How many routes carry what the customers of a rectangle demand, and what sets of them do.
-use Rattle.std.proofs.Common.{◌≡◌, ℕ, ◌≤◌, Bool, true, false, List, [], ◌∷◌, ℤ, ◌≤ℤ◌, refl, sym, subst, arith}
-use Rattle.std.specs.Prelude.{pos, max, min, ◌*ℤ◌}
+use Rattle.tsp_routing.proofs.Prelude.{◌≡◌, ℕ, ◌≤◌, Bool, true, false, List, [], ◌∷◌, ℤ, ◌≤ℤ◌, refl, sym, subst, arith, pos, max, min, ◌*ℤ◌, ints, most_nodes, nodes_to, IsLeastRoutes, has}
 use Rattle.std.specs.Int.Signed.{le_z_yes}
-use Rattle.std.proofs.lemmas.Int.{ints}
-use Rattle.tsp_format.specs.Limits.{most_nodes}
-use Rattle.tsp_format.specs.Nodes.{nodes_to}
-use Rattle.tsp_theory.specs.Tour.{IsLeastRoutes}
-use Rattle.tsp_cases.specs.Crossings.{has}
 use Rattle.tsp_routing.specs.PlanLinks.{sum_of_customers, demand_in, IsFewest, IsCapacityCut, IsCutFamily}
 use Rattle.tsp_routing.specs.Examples.{rectangle_with, lone_cut}
 

@@ -1,8 +1,5 @@
 -- How many customers of a rectangle demand less than a unit, and when a table of their loads is too large.
-use Rattle.std.proofs.Common.{◌≡◌, ℕ, ◌<◌, ◌+◌, ◌*◌, ℤ, refl, arith}
-use Rattle.std.specs.Prelude.{pos}
-use Rattle.std.proofs.lemmas.Int.{ints}
-use Rattle.tsp_format.specs.Nodes.{nodes_to}
+use Rattle.tsp_routing.proofs.Prelude.{◌≡◌, ℕ, ◌<◌, ◌+◌, ◌*◌, ℤ, refl, arith, pos, ints, nodes_to}
 use Rattle.tsp_routing.specs.Examples.{rectangle_with}
 use Rattle.tsp_routing.specs.PlanLinks.{is_light, AreUnits, capacity_in_parts, sum_of_customers}
 use Rattle.tsp_routing.specs.PlanVerdicts.{most_entries, HasTooManyLoads}

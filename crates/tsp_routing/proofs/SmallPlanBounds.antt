@@ -1,21 +1,7 @@
 -- The bounds of small certificates for a rectangle: the least walks at their leaves, and all that makes them good.
-use Rattle.std.proofs.Common.{◌≡◌, ℕ, zero, suc, ◌≤◌, ◌<◌, List, [], ◌∷◌, Option, None, Some, ℤ, ◌≤ℤ◌, inr, refl, rules, arith}
-use Rattle.std.specs.Prelude.{pos, negsuc, neg_ℤ, slice_index_or, ◌+ℤ◌, ◌-ℤ◌, ◌*ℤ◌}
+use Rattle.tsp_routing.proofs.Prelude.{◌≡◌, ℕ, zero, suc, ◌≤◌, ◌<◌, List, [], ◌∷◌, Option, None, Some, ℤ, ◌≤ℤ◌, inr, refl, rules, arith, pos, negsuc, neg_ℤ, slice_index_or, ◌+ℤ◌, ◌-ℤ◌, ◌*ℤ◌, AllByRecursion, ints, All-nil, All-from_recursion, most_potential, IsNode, nodes_to, IsFromTo, entry, ArePotentials, IsLeastBound, length_of, IsCustomer, Decision, BeginsWithin, IsGoodAtBy, LeafNumbers, IsAbove, IsLeastFound, Family}
 use Rattle.std.specs.Int.Signed.{le_z_yes}
-use Rattle.std.specs.List.{AllByRecursion}
-use Rattle.std.proofs.lemmas.Int.{ints}
-use Rattle.std.proofs.lemmas.List.Elements.{All-nil, All-from_recursion}
-use Rattle.tsp_format.specs.Limits.{most_potential}
-use Rattle.tsp_format.specs.Nodes.{IsNode, nodes_to}
-use Rattle.tsp_format.specs.Steps.{IsFromTo}
 use Rattle.tsp_format.specs.Steps as listed
-use Rattle.tsp_theory.specs.Bounds.{entry, ArePotentials, IsLeastBound}
-use Rattle.tsp_theory.specs.Tour.{length_of, IsCustomer}
-use Rattle.tsp_cases.specs.declared.open_case.Decision.{Decision}
-use Rattle.tsp_cases.specs.ListedCases.{BeginsWithin, IsGoodAtBy}
-use Rattle.tsp_cases.specs.Cases.{LeafNumbers}
-use Rattle.tsp_cases.specs.CaseTrees.{IsAbove, IsLeastFound}
-use Rattle.tsp_cases.specs.Families.{Family}
 use Rattle.tsp_routing.specs.PlanLinks.{IsCutFamily, load_in, capacity_in_parts, sum_of_customers}
 use Rattle.tsp_routing.specs.Examples.{rectangle_with, lone_cut, at_most, above, no_potentials, LeafHas, three_potentials, CertificateHas, branch_on_two}
 use Rattle.tsp_routing.specs.PlanVerdicts.{ArePlanNumbers, IsGoodSet, AreCapacityCuts}

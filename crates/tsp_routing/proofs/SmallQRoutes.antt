@@ -1,11 +1,7 @@
 -- Walks of three customers who load 4 each: if a route carries two of them there are nine, and the least of these is
 -- the least walk.
-use Rattle.std.proofs.Common.{◌≡◌, ◌≢◌, ℕ, zero, suc, ◌≤◌, ◌<◌, List, [], ◌∷◌, Some, length, ℤ, ◌≤ℤ◌, refl, ap, arith}
-use Rattle.std.specs.Prelude.{pos}
-use Rattle.std.specs.List.{AllByRecursion}
-use Rattle.std.proofs.lemmas.Int.{ints}
-use Rattle.std.proofs.lemmas.List.Elements.{All-from_recursion, recursion_from_All}
-use Rattle.tsp_theory.specs.Tour.{sum_int_by, length_of, IsCustomer}
+use Rattle.tsp_routing.proofs.Prelude.{◌≡◌, ◌≢◌, ℕ, zero, suc, ◌≤◌, ◌<◌, List, [], ◌∷◌, Some, length, ℤ, ◌≤ℤ◌, refl, ap, arith, AllByRecursion, ints, All-from_recursion, recursion_from_All, length_of, IsCustomer}
+use Rattle.tsp_routing.proofs.QRouteRests.{loads_low}
 use Rattle.tsp_routing.specs.QRoutes.{IsQRoute, IsLeastAmong}
 
 -- of four nodes with the depot 1 the customers are 2, 3 and 4
@@ -19,10 +15,6 @@ of_customers P two three four (suc (suc (suc (suc (suc node))))) is = absurd (om
 
 pub not_empty : (node : ℕ) (nodes : List ℕ) → (node ∷ nodes) ≢ []
 not_empty node nodes = λ same. let long = ap (λ xs. length xs) same in omega (arith, long)
-
-loads_low : (load : ℕ → ℕ) (nodes : List ℕ) → pos 0 ≤ℤ sum_int_by (λ node. pos (load node)) nodes
-loads_low load [] = omega (arith, ints)
-loads_low load (node ∷ nodes) = omega (arith, ints, loads_low load nodes)
 
 -- the lists of one customer, and of two
 abbrev pub nine : List (List ℕ)

@@ -1,10 +1,7 @@
 -- The rectangle with the sides 3 and 4 as a routing problem, and certificates for it.
-use Rattle.std.specs.Prelude.{ℕ, true, false, List, [], ◌∷◌, Option, ℤ, pos, negsuc}
-use Rattle.tsp_format.specs.Steps.{Step, Branch, Leaf}
-use Rattle.tsp_theory.specs.Tour.{RoutingProblem}
-use Rattle.tsp_cases.specs.declared.open_case.Decision.{Decision}
+use Rattle.tsp_routing.specs.Prelude.{ℕ, true, false, List, [], Option, ℤ, pos, negsuc, Step, Branch, Leaf, RoutingProblem, Decision, Family, family_with}
+use Rattle.std.specs.Prelude.{◌∷◌}
 use Rattle.tsp_cases.specs.Examples.{cost_in}
-use Rattle.tsp_cases.specs.Families.{Family, family_with}
 use Rattle.tsp_routing.specs.PlanVerdicts.{ArePlanNumbers, routing_with, IsBoundFound}
 use Rattle.tsp_routing.specs.PlanLinks.{load_in, capacity_in_parts}
 use Rattle.tsp_routing.specs.PlanBounds.{IsPlanBound}

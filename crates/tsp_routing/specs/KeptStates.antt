@@ -1,8 +1,7 @@
 -- Kept states: the states of runs that a programme over states has to keep, by completion bounds. The completions are
 -- plain: a way home may visit customers in any order, also back and forth between two of them.
-use Rattle.std.specs.Prelude.{◌≡◌, ◌⊎◌, ◌↔◌, ℕ, ◌≤◌, false, List, [], ◌∷◌, length, Some, ℤ, ◌+ℤ◌, ◌≤ℤ◌, ◌<ℤ◌}
-use Rattle.std.specs.List.{All, AllPairs}
-use Rattle.tsp_theory.specs.Tour.{IsCustomer}
+use Rattle.tsp_routing.specs.Prelude.{ℕ, false, List, [], length, Some, ℤ, All, AllPairs, IsCustomer}
+use Rattle.std.specs.Prelude.{◌≡◌, ◌⊎◌, ◌↔◌, ◌≤◌, ◌∷◌, ◌+ℤ◌, ◌≤ℤ◌, ◌<ℤ◌}
 use Rattle.tsp_routing.specs.QRoutes.{IsLeastAmong}
 use Rattle.tsp_routing.specs.Runs.{RunRules, RunState, first_state, next_state, MayServe, charged, IsRunRest, rest_weight, IsRunUnder, run_weight, AreCharges}
 use Rattle.tsp_routing.specs.RunBounds.{IsLeastRun}

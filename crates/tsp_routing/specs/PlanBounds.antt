@@ -1,13 +1,8 @@
 -- Circle 3 of docs/trust.md.
 -- The bound of a certificate for routes, as a theorem: of a leaf by its least walk, and of the tree by its leaves.
-use Rattle.std.specs.List.{All}
-use Rattle.std.specs.Prelude.{ℕ, ◌+◌, ◌^◌, negsuc, int_lt, ◌*◌, ◌-◌, max, min, ◌==◌, ◌&&◌, not, if◌then◌else◌, List, [], ◌∷◌, length, ℤ, pos, ◌+ℤ◌, ◌-ℤ◌, ◌*ℤ◌, ◌≤ℤ◌, ◌≡◌, true, Option, Some, None}
-use Rattle.tsp_theory.specs.Bounds.{IsScale, entry, IsLeastBound, weight_between}
-use Rattle.tsp_theory.specs.Tour.{RoutingProblem, plan_length, length_of}
+use Rattle.tsp_routing.specs.Prelude.{All, ℕ, negsuc, int_lt, max, min, not, List, [], length, ℤ, pos, true, Option, Some, None, IsScale, entry, IsLeastBound, weight_between, RoutingProblem, plan_length, length_of, LeafNumbers, CaseStep, are_case_trees, leaves_of, Family, Decision}
+use Rattle.std.specs.Prelude.{◌+◌, ◌^◌, ◌*◌, ◌-◌, ◌==◌, ◌&&◌, if◌then◌else◌, ◌∷◌, ◌+ℤ◌, ◌-ℤ◌, ◌*ℤ◌, ◌≤ℤ◌, ◌≡◌}
 use Rattle.tsp_cases.specs.CaseTrees.{multiplied, combed, IsLeastFound}
-use Rattle.tsp_cases.specs.Cases.{LeafNumbers, CaseStep, are_case_trees, leaves_of}
-use Rattle.tsp_cases.specs.Families.{Family}
-use Rattle.tsp_cases.specs.declared.open_case.Decision.{Decision}
 use Rattle.tsp_routing.specs.PlanLinks.{IsRoutable, IsFilledPlan, sum_of_customers, IsCutFamily, IsFewest, KeepsEachLimit, BoundsPlans, HasNoPlan, AreUnits, load_in, capacity_in_parts}
 use Rattle.tsp_routing.specs.QRoutes.{IsQRoute, IsLeastAmong}
 

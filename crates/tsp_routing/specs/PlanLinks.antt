@@ -1,15 +1,9 @@
 -- Circles 1 and 3 of docs/trust.md.
 -- The links of a plan, the sets of customers that routes cross, what a set demands, and how often a plan crosses it: at
 -- least, and at most.
-use Rattle.std.specs.List.{All}
-use Rattle.std.specs.Prelude.{◌≡◌, ◌≢◌, ℕ, List, [], ◌∷◌, ◌++◌, length, ◌≤◌, ℤ, pos, ◌-◌, ◌+ℤ◌, ◌-ℤ◌, ◌*ℤ◌, ◌≤ℤ◌, ◌+◌, ◌*◌, ◌/◌, ◌==◌, if◌then◌else◌, nat_abs, max, min, ◌&&◌, Bool, true, false, not, zero, suc, ◌⊎◌}
-use Rattle.tsp_format.specs.Limits.{most_nodes}
-use Rattle.tsp_format.specs.Nodes.{IsNode, nodes_to}
-use Rattle.tsp_theory.specs.Tour.{links, sum_int_by, RoutingProblem, IsCustomer, IsPlan, plan_length, IsLeastRoutes}
+use Rattle.tsp_routing.specs.Prelude.{All, ℕ, List, [], length, ℤ, pos, nat_abs, max, min, Bool, true, false, not, zero, suc, most_nodes, IsNode, nodes_to, links, sum_int_by, RoutingProblem, IsCustomer, IsPlan, plan_length, IsLeastRoutes, CaseStep, are_case_trees, leaves_of, cases_of, family_crossings, Family, Decision}
+use Rattle.std.specs.Prelude.{◌≡◌, ◌≢◌, ◌∷◌, ◌++◌, ◌≤◌, ◌-◌, ◌+ℤ◌, ◌-ℤ◌, ◌*ℤ◌, ◌≤ℤ◌, ◌+◌, ◌*◌, ◌/◌, ◌==◌, if◌then◌else◌, ◌&&◌, ◌⊎◌}
 use Rattle.tsp_theory.specs.Tree.{weight_of, crossing}
-use Rattle.tsp_cases.specs.Cases.{CaseStep, are_case_trees, leaves_of, cases_of}
-use Rattle.tsp_cases.specs.Families.{family_crossings, Family}
-use Rattle.tsp_cases.specs.declared.open_case.Decision.{Decision}
 
 -- the links of a plan: each route goes from the depot through its nodes and back
 abbrev pub plan_links : ℕ → List (List ℕ) → List (ℕ × ℕ)
@@ -62,7 +56,7 @@ abbrev pub PlansHaveFewRoutes : Type 0
 PlansHaveFewRoutes = (problem : RoutingProblem) (routes : List (List ℕ)) → IsRoutable problem → IsFilledPlan problem routes
     → (1 ≤ length routes) × (length routes ≤ (problem.nodes - 1))
 
--- ---- loads in units: demands divided by a unit and rounded down, so that tables by load are
+-- ---- loads in units: demands divided by a unit and rounded down
 
 -- the whole units of a demand
 abbrev pub units_of : RoutingProblem → ℕ → ℕ → ℕ

@@ -1,13 +1,7 @@
 -- Circle 3 of docs/trust.md.
 -- The verdict on a certificate for routes: its first bad set, branch or leaf, or its bound.
-use Rattle.std.specs.List.{All}
-use Rattle.std.specs.Prelude.{ℕ, ◌+◌, List, ◌≡◌, unsigned_abs, length, ℤ, pos, ◌≤ℤ◌, ◌≢◌, ◌≤◌, ◌<◌, [], ◌∷◌, slice_index_or, ◌*◌, IfSome, Option}
-use Rattle.tsp_format.specs.Steps.{Step}
-use Rattle.tsp_theory.specs.Bounds.{ArePotentials, IsBoundSized}
-use Rattle.tsp_theory.specs.Tour.{sum_int_by, RoutingProblem, IsCustomer, demand_of}
-use Rattle.tsp_cases.specs.Cases.{LeafNumbers}
-use Rattle.tsp_cases.specs.Families.{families_with, HasEachOnce}
-use Rattle.tsp_cases.specs.ListedCases.{BeginsWithin, branch_pairs, IsFirstBadBranch, AreGoodLeavesBy, IsFirstBadLeafBy, listed_steps}
+use Rattle.tsp_routing.specs.Prelude.{All, ℕ, List, unsigned_abs, length, ℤ, pos, [], slice_index_or, IfSome, Option, Step, ArePotentials, IsBoundSized, sum_int_by, RoutingProblem, IsCustomer, demand_of, LeafNumbers, families_with, HasEachOnce, BeginsWithin, branch_pairs, IsFirstBadBranch, AreGoodLeavesBy, IsFirstBadLeafBy, listed_steps}
+use Rattle.std.specs.Prelude.{◌+◌, ◌≡◌, ◌≤ℤ◌, ◌≢◌, ◌≤◌, ◌<◌, ◌∷◌, ◌*◌}
 use Rattle.tsp_cases.specs.declared.family.Crossings.{Crossings}
 use Rattle.tsp_routing.specs.PlanBounds.{IsPlanTreeBound, BoundsPlansIfAny}
 use Rattle.tsp_routing.specs.PlanLinks.{IsCutFamily, AreUnits, capacity_in_parts}

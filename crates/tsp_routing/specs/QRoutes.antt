@@ -1,8 +1,7 @@
 -- Circle 3 of docs/trust.md.
 -- The least walk from the depot and back under a load, and the table by which it is found.
-use Rattle.std.specs.List.{All, AllByRecursion}
-use Rattle.std.specs.Prelude.{◌≡◌, Option, Some, None, ℤ, ◌≤ℤ◌, ◌≢◌, ℕ, List, [], ◌∷◌, pos, ◌⊎◌, ◌*◌, ◌≤◌, ◌==◌, if◌then◌else◌, ◌+ℤ◌}
-use Rattle.tsp_theory.specs.Tour.{sum_int_by, length_of, RoutingProblem, IsCustomer, links_to}
+use Rattle.tsp_routing.specs.Prelude.{All, AllByRecursion, Option, Some, None, ℤ, ℕ, List, [], pos, sum_int_by, length_of, RoutingProblem, IsCustomer, links_to}
+use Rattle.std.specs.Prelude.{◌≡◌, ◌≤ℤ◌, ◌≢◌, ◌∷◌, ◌⊎◌, ◌*◌, ◌≤◌, ◌==◌, if◌then◌else◌, ◌+ℤ◌}
 use Rattle.tsp_theory.specs.Tree.{weight_of}
 use Rattle.tsp_routing.specs.PlanLinks.{IsRoutable, IsFilledPlan, AreUnits, load_in, capacity_in_parts}
 
@@ -11,7 +10,7 @@ abbrev pub IsLeastAmong : {X : Type 0} → (X → Type 0) → (X → ℤ) → Op
 IsLeastAmong {X} P f (Some least) = ((x : X) × P x × (least ≡ f x)) × ((x : X) → P x → least ≤ℤ f x)
 IsLeastAmong {X} P f None = (x : X) → P x → ⊥
 
--- ---- walks: lists of customers that load no more than a route may, on which no customer comes
+-- ---- walks: lists of customers that load no more than a route may
 
 -- the first of these nodes isn't this one
 abbrev pub BeginsOther : ℕ → List ℕ → Type 0

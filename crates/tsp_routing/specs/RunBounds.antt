@@ -1,11 +1,6 @@
 -- The bound of a leaf for routes by the least weight of a run: by walks with memory.
-use Rattle.std.specs.Prelude.{◌≡◌, ◌⊎◌, ℕ, ◌+◌, ◌*◌, ◌-◌, List, ℤ, pos, ◌+ℤ◌, ◌-ℤ◌, ◌*ℤ◌, ◌≤ℤ◌}
-use Rattle.std.specs.List.{All}
-use Rattle.tsp_theory.specs.Tour.{RoutingProblem, plan_length}
-use Rattle.tsp_theory.specs.Bounds.{IsScale, entry, IsLeastBound}
-use Rattle.tsp_cases.specs.Families.{Family}
-use Rattle.tsp_cases.specs.declared.open_case.Decision.{Decision}
-use Rattle.tsp_cases.specs.Cases.{LeafNumbers}
+use Rattle.tsp_routing.specs.Prelude.{ℕ, List, ℤ, pos, All, RoutingProblem, plan_length, IsScale, entry, IsLeastBound, Family, Decision, LeafNumbers}
+use Rattle.std.specs.Prelude.{◌≡◌, ◌⊎◌, ◌+◌, ◌*◌, ◌-◌, ◌+ℤ◌, ◌-ℤ◌, ◌*ℤ◌, ◌≤ℤ◌}
 use Rattle.tsp_routing.specs.PlanLinks.{IsRoutable, IsFilledPlan, sum_of_customers, IsCutFamily, KeepsEachLimit, AreUnits, load_in, capacity_in_parts}
 use Rattle.tsp_routing.specs.PlanBounds.{surplus, limits_total, q_route_weight}
 use Rattle.tsp_routing.specs.Runs.{SubsetRow, RunRules, IsRunUnder, run_weight, halves_total, AreCharges}

@@ -1,10 +1,11 @@
 -- Small rules on which runs, charges and the bound of a leaf are evaluated.
-use Rattle.std.specs.Prelude.{◌≡◌, ℕ, List, [], ◌∷◌, if◌then◌else◌, ◌==◌, ℤ, pos, negsuc}
-use Rattle.tsp_theory.specs.Tour.{RoutingProblem}
-use Rattle.tsp_cases.specs.Cases.{LeafNumbers}
+use Rattle.tsp_routing.specs.Prelude.{ℕ, Bool, List, [], ℤ, pos, negsuc, RoutingProblem, LeafNumbers}
+use Rattle.std.specs.Prelude.{◌≡◌, ◌∷◌, if◌then◌else◌, ◌==◌}
 use Rattle.tsp_cases.specs.Examples.{cost_in}
 use Rattle.tsp_routing.specs.Runs.{SubsetRow, RunRules, IsRunUnder, run_weight}
 use Rattle.tsp_routing.specs.RunBounds.{IsRunBound}
+use Rattle.tsp_routing.specs.Memories.{keys_of, is_member_of, memory_word, memory_of}
+use Rattle.tsp_routing.specs.Starts.{start_state, start_weight}
 
 -- the set 2 3 4, whose parity no other customer keeps
 abbrev pub of_three : SubsetRow
@@ -44,6 +45,22 @@ RunWeighs nodes weight = run_weight (five_nodes of_three) nodes ≡ weight
 
 abbrev pub KeptRunWeighs : List ℕ → ℤ → Type 0
 KeptRunWeighs nodes weight = run_weight (five_nodes of_three_kept) nodes ≡ weight
+
+-- a customer keeps these keys: the numbers of customers, and 6 for the row
+abbrev pub KeepsKeys : ℕ → List ℕ → Type 0
+KeepsKeys customer keys = keys_of 5 (five_nodes of_three).near (five_nodes of_three).rows customer ≡ keys
+
+-- whether a key is that of the row, and the row has this customer in its set
+abbrev pub HasMember : ℕ → ℕ → Bool → Type 0
+HasMember key customer is_member = is_member_of 5 (five_nodes of_three).rows customer key ≡ is_member
+
+-- the word of the memory after a start, by its last customer and the ones before, the latest first
+abbrev pub HasWord : ℕ → List ℕ → ℕ → Type 0
+HasWord last earlier word = memory_word (memory_of (five_nodes of_three) (start_state (five_nodes of_three) last earlier)) ≡ word
+
+-- the weight of a start
+abbrev pub StartWeighs : ℕ → List ℕ → ℤ → Type 0
+StartWeighs last earlier weight = start_weight (five_nodes of_three) last earlier ≡ weight
 
 -- a rectangle of 3 by 4 with the depot 1, where each other node demands 4 and a route carries two of these
 abbrev pub rectangle_problem : RoutingProblem

@@ -3,10 +3,8 @@
 -- relaxation and pricing strategies for the vehicle routing problem, 2011; M. Jepsen, B. Petersen, S. Spoorendonk and
 -- D. Pisinger, Subset-row inequalities applied to the vehicle-routing problem with time windows, 2008; D. Pecin, A.
 -- Pessoa, M. Poggi and E. Uchoa, Improved branch-cut-and-price for capacitated vehicle routing, 2017.
-use Rattle.std.specs.Prelude.{◌≡◌, ◌≢◌, ℕ, ◌+◌, ◌/◌, ◌≤◌, ◌==◌, ◌&&◌, ◌||◌, Bool, true, false, not, if◌then◌else◌, List, [], ◌∷◌, length, ℤ, pos, ◌+ℤ◌, ◌*ℤ◌, ◌≤ℤ◌}
-use Rattle.std.specs.List.{All, AllPairs}
-use Rattle.tsp_theory.specs.Tour.{sum_int_by, length_of, RoutingProblem, IsCustomer, IsPlan, plan_length}
-use Rattle.tsp_cases.specs.Crossings.{has}
+use Rattle.tsp_routing.specs.Prelude.{ℕ, Bool, true, false, not, List, [], length, ℤ, pos, All, AllPairs, sum_int_by, length_of, RoutingProblem, IsCustomer, IsPlan, plan_length, has}
+use Rattle.std.specs.Prelude.{◌≡◌, ◌≢◌, ◌+◌, ◌/◌, ◌≤◌, ◌==◌, ◌&&◌, ◌||◌, if◌then◌else◌, ◌∷◌, ◌+ℤ◌, ◌*ℤ◌, ◌≤ℤ◌}
 use Rattle.tsp_routing.specs.PlanLinks.{IsRoutable, IsFilledPlan, AreUnits, load_in, capacity_in_parts}
 
 -- A limited-memory subset row: a set of customers, and further customers that keep its parity too.

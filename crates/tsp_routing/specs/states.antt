@@ -2,3 +2,9 @@
 pub mod LeafWeights
 pub mod Demands
 pub mod Judged
+pub mod RunTables
+pub mod MemoryTables
+pub mod KeptLists
+pub mod GivenMemories
+pub mod LeastKept
+pub mod RowHalves

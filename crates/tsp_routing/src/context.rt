@@ -1,15 +1,11 @@
 //! What all leaves of a certificate for routes share: costs, demands, families and loads.
-//! `src/verdict.rt` makes one for the leaves in `src/verdict.rt`.
 
-ghost use Rattle.std.specs.Prelude.{◌≡◌, ◌≤◌, length};
-ghost use Rattle.std.specs.List.{All};
-ghost use Rattle.tsp_theory.specs.Bounds.{IsScale};
-ghost use Rattle.tsp_cases.specs.states.Sets.{IsSetTable, lent_in};
+ghost use Rattle.tsp_routing.specs.Prelude.{length, All, IsScale, IsSetTable, lent_in};
+ghost use Rattle.std.specs.Prelude.{◌≡◌, ◌≤◌};
 ghost use Rattle.tsp_routing.specs.states.Demands.{AreDemands, AreUnitLoads};
 ghost use Rattle.tsp_routing.specs.states.Judged.{IsFewCrossed};
 
-use crate::demands::Demands;
-use crate::units::UnitLoads;
+use crate::units::{Demands, UnitLoads};
 use tsp_cases::{Crossings, Families, SetPlace};
 use tsp_theory::Costs;
 

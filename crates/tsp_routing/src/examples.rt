@@ -2,13 +2,14 @@
 //! many routes its customers need, their loads, walks, limits, and the bounds of small
 //! certificates.
 
-ghost use Rattle.std.specs.Prelude.{◌≡◌, ◌+◌, ◌-◌, ◌*◌, ◌^◌, [], ◌∷◌, true, false, None, Some, pos, negsuc};
-ghost use Rattle.tsp_format.specs.Steps.{Branch, Leaf};
-ghost use Rattle.tsp_cases.specs.Crossings.{has};
-ghost use Rattle.tsp_routing.specs.PlanLinks.{IsFewest, IsCapacityCut, IsCutFamily, IsWithinLimit, AreUnits, load_in, capacity_in_parts};
+ghost use Rattle.tsp_routing.specs.Prelude.{[], true, false, None, Some, pos, negsuc, Branch, Leaf, has};
+ghost use Rattle.std.specs.Prelude.{◌≡◌, ◌+◌, ◌-◌, ◌*◌, ◌^◌, ◌∷◌};
 ghost use Rattle.tsp_routing.specs.Examples.{rectangle_with, lone_cut, at_most, above, IsQRouteByDemand, IsQRouteInFives, AreGoodMultipliers, LeafHas, three_potentials, CertificateHas, branch_on_two};
-ghost use Rattle.tsp_routing.specs.PlanVerdicts.{AreGoodBranches, IsFirstBadPlanBranch, most_of_multipliers, most_entries, HasTooManyLoads};
 ghost use Rattle.tsp_routing.specs.PlanBounds.{least_product, least_times, low_of, high_of};
+ghost use Rattle.tsp_routing.specs.PlanLinks.{IsFewest, IsCapacityCut, IsCutFamily, IsWithinLimit, AreUnits, load_in, capacity_in_parts};
+ghost use Rattle.tsp_routing.specs.PlanVerdicts.{AreGoodBranches, IsFirstBadPlanBranch, most_of_multipliers, most_entries, HasTooManyLoads};
+ghost use Rattle.tsp_routing.specs.RunExamples.{of_three, of_four, AreRun, AreNoRun, RunWeighs, KeptRunWeighs, KeepsKeys, HasMember, HasWord, StartWeighs, RectangleHas};
+ghost use Rattle.tsp_routing.specs.Runs.{half};
 
 /// How many routes carry a demand of 12, how many a set of these customers needs, and how often a
 /// plan crosses the set at least.
@@ -119,4 +120,65 @@ pub fn examples_of_bounds()
     ensures potentials { CertificateHas (pos 8) [] (three_potentials (negsuc 2)) (Some (pos 18)) }
     ensures branch { CertificateHas (pos 8) (((3 ∷ 4 ∷ []) ∷ []) ∷ []) branch_on_two (Some (pos 10)) }
     ensures no_q_route { CertificateHas (pos 3) [] (Leaf [] ∷ []) None }
+{}
+
+/// Customer 3 remembers customer 2, and no other customer remembers any. So a run may come back to
+/// customer 2 from customer 4, also if it had customer 3 before, but not from customer 3.
+pub fn examples_of_runs()
+    ensures lone { AreRun (2 ∷ []) }
+    ensures back { AreRun (2 ∷ 4 ∷ 2 ∷ []) }
+    ensures forgotten { AreRun (2 ∷ 3 ∷ 4 ∷ 2 ∷ []) }
+    ensures remembered { AreNoRun (2 ∷ 3 ∷ 2 ∷ []) }
+    ensures twice_in_a_row { AreNoRun (2 ∷ 2 ∷ []) }
+    ensures too_heavy { AreNoRun (2 ∷ 4 ∷ 2 ∷ 4 ∷ 2 ∷ []) }
+    ensures depot { AreNoRun (2 ∷ 1 ∷ []) }
+    ensures nobody { AreNoRun [] }
+{}
+
+/// Each link weighs 10, and a run pays 7 for each second customer of the set 2 3 4. Customer 5
+/// forgets the parity, unless the row says that it keeps it.
+pub fn examples_of_run_weights()
+    ensures lone { RunWeighs (2 ∷ []) (pos 20) }
+    ensures second { RunWeighs (2 ∷ 3 ∷ []) (pos 37) }
+    ensures third { RunWeighs (2 ∷ 3 ∷ 4 ∷ []) (pos 47) }
+    ensures fourth { RunWeighs (2 ∷ 3 ∷ 4 ∷ 2 ∷ []) (pos 64) }
+    ensures forgotten { RunWeighs (2 ∷ 5 ∷ 3 ∷ []) (pos 40) }
+    ensures kept { KeptRunWeighs (2 ∷ 5 ∷ 3 ∷ []) (pos 47) }
+{}
+
+/// Customer 3 keeps customer 2 in the lowest bit, and the row in the next one; customer 5 keeps
+/// nothing, and so forgets both.
+pub fn examples_of_memories()
+    ensures keys { KeepsKeys 3 (2 ∷ 6 ∷ []) }
+    ensures row { KeepsKeys 4 (6 ∷ []) }
+    ensures nothing { KeepsKeys 5 [] }
+    ensures member { HasMember 6 3 true }
+    ensures no_member { HasMember 6 5 false }
+    ensures no_row { HasMember 2 3 false }
+    ensures first { HasWord 3 [] 2 }
+    ensures second { HasWord 3 (2 ∷ []) 1 }
+    ensures third { HasWord 4 (3 ∷ 2 ∷ []) 1 }
+    ensures forgotten { HasWord 3 (5 ∷ 2 ∷ []) 2 }
+{}
+
+/// Each link weighs 10, and the second customer of the set pays 7.
+pub fn examples_of_starts()
+    ensures lone { StartWeighs 2 [] (pos 10) }
+    ensures charged { StartWeighs 3 (2 ∷ []) (pos 27) }
+    ensures forgotten { StartWeighs 3 (5 ∷ 2 ∷ []) (pos 30) }
+{}
+
+/// How often the routes of a plan are charged for a row at most.
+pub fn examples_of_halves()
+    ensures three { half of_three ≡ 1 }
+    ensures four { half of_four ≡ 2 }
+{}
+
+/// The three customers have potentials of -3, -5 and -4. Without a charge the least run weighs -6,
+/// so the bound is 24 - 3 * 6. With a charge of 6 no run weighs less than 0, and the bound is
+/// 24 - 6: the length of the shortest plan.
+pub fn examples_of_run_bounds()
+    ensures no_charge { RectangleHas (pos 0) (pos 6) }
+    ensures small_charge { RectangleHas (pos 2) (pos 10) }
+    ensures charge { RectangleHas (pos 6) (pos 18) }
 {}

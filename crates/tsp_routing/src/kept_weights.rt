@@ -1,11 +1,8 @@
 //! The weights of a leaf for routes, with the rows of all nodes unless there are too many.
 //! `src/plan_leaf.rt` makes them for the walks of `src/least_q_route.rt`.
 
-ghost use Rattle.std.specs.Prelude.{◌≡◌, ◌≤◌, ◌<◌, ◌+◌, ◌^◌, ℕ, length, true, pos, neg_ℤ, IfOk, IfSome};
-ghost use Rattle.tsp_format.specs.Nodes.{IsNode};
-ghost use Rattle.tsp_format.specs.Steps.{IsFromTo};
-ghost use Rattle.tsp_theory.specs.states.Nearest.{least_at};
-ghost use Rattle.tsp_cases.specs.states.Sets.{lent_in, set_weight};
+ghost use Rattle.tsp_routing.specs.Prelude.{ℕ, length, true, pos, neg_ℤ, IfOk, IfSome, IsNode, IsFromTo, least_at, lent_in, set_weight};
+ghost use Rattle.std.specs.Prelude.{◌≡◌, ◌≤◌, ◌<◌, ◌+◌, ◌^◌};
 ghost use Rattle.tsp_routing.specs.states.LeafWeights.{IsWeightRow, AreFirstRows, AreKeptRows};
 
 use crate::leaf_weights::LeafWeights;
@@ -59,7 +56,7 @@ pub(crate) fn kept_rows<C: Costs>(
 /// # Errors
 ///
 /// Out of memory.
-fn rows_of<C: Costs>(
+pub(crate) fn rows_of<C: Costs>(
     alloc: Global,
     weights: &LeafWeights<C>,
     count: u32,
@@ -100,10 +97,8 @@ fn row_of<C: Costs>(
 }
 
 impl<C: Costs> KeptWeights<'_, C> {
-    ghost use Rattle.std.specs.Prelude.{◌≡◌, ◌+◌, ◌^◌, length, true, pos, neg_ℤ};
-    ghost use Rattle.tsp_format.specs.Nodes.{IsNode};
-    ghost use Rattle.tsp_cases.specs.states.Sets.{lent_in};
-    ghost use Rattle.tsp_cases.specs.states.Sets.{set_weight};
+    ghost use Rattle.tsp_routing.specs.Prelude.{length, true, pos, neg_ℤ, IsNode, lent_in, set_weight};
+    ghost use Rattle.std.specs.Prelude.{◌≡◌, ◌+◌, ◌^◌};
     ghost use Rattle.tsp_routing.specs.PlanBounds.{most_link};
     ghost use Rattle.tsp_routing.specs.states.LeafWeights.{IsWeightRow};
     ghost use Rattle.tsp_routing.specs.states.Demands.{AreLinks};
@@ -167,8 +162,7 @@ fn is_narrow_row(others: bool, row: &[i64]) -> bool
 }
 
 impl<C: Costs> Weights for KeptWeights<'_, C> {
-    ghost use Rattle.tsp_cases.specs.states.Sets.{lent_in};
-    ghost use Rattle.tsp_cases.specs.states.Sets.{set_weight};
+    ghost use Rattle.tsp_routing.specs.Prelude.{lent_in, set_weight};
 
     ghost nodes = { λ w. C.nodes w.weights.now.costs.now };
 

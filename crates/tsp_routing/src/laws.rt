@@ -1,10 +1,14 @@
-//! Laws: how often plans cross sets, that routes are walks, and that no plan is shorter than the
-//! bound of a tree of cases.
+//! Laws of routes: how often plans cross sets, that routes are walks and runs, what rows charge, and
+//! that no plan is shorter than the bound of a tree of cases.
 
-ghost use Rattle.tsp_routing.specs.PlanLinks.{LengthsAreWeights, PlanSums, PlansHaveFewRoutes, PlansLeaveCuts, PlansCrossCuts, PlansCrossEvenly, PlansKeepEitherLimit, PlansKeepLeaves, RoutesFitCapacity, LoadsAreSome};
-ghost use Rattle.tsp_routing.specs.QRoutes.{RoutesAreQRoutes};
+ghost use Rattle.tsp_routing.specs.KeptStates.{CompletionsTellKeptStates, CompletionsAreBelowRests, RunsBelowAreKept, KeptStartsGiveLeastRuns, EqualStatesGoOnAlike};
 ghost use Rattle.tsp_routing.specs.PlanBounds.{PlanBoundsBoundPlans, PlanTreesBoundPlans, PlanTreeBoundsAreUnique};
+ghost use Rattle.tsp_routing.specs.PlanLinks.{LengthsAreWeights, PlanSums, PlansHaveFewRoutes, PlansLeaveCuts, PlansCrossCuts, PlansCrossEvenly, PlansKeepEitherLimit, PlansKeepLeaves, RoutesFitCapacity, LoadsAreSome};
 ghost use Rattle.tsp_routing.specs.PlanVerdicts.{PlanBoundsFoundAreUnique};
+ghost use Rattle.tsp_routing.specs.QRoutes.{RoutesAreQRoutes};
+ghost use Rattle.tsp_routing.specs.RunBounds.{RunBoundsBoundPlans, RunBoundsAreUnique};
+ghost use Rattle.tsp_routing.specs.Runs.{ApartCustomersAreRuns, RoutesAreRuns, RunsWeighLinksAndCharges, RowsAreChargedForTwo, PlansAreChargedHalf, PlansWeighAtMost};
+ghost use Rattle.tsp_routing.specs.Starts.{KeptStartsAreStarts, StartsAreKeptStarts};
 
 /// The length of a plan is the weight of its links; each customer begins one and ends one, and the
 /// depot as many as there are routes. There are at most as many of these as customers.
@@ -63,4 +67,47 @@ pub fn plan_trees_bound_plans()
 /// A certificate has one bound, or none.
 pub fn plan_bounds_are_unique()
     ensures { PlanBoundsFoundAreUnique }
+{}
+
+/// Customers of which none comes twice are a run if they fit; so each route of a plan is one.
+pub fn routes_are_runs()
+    ensures apart { ApartCustomersAreRuns }
+    ensures routes { RoutesAreRuns }
+{}
+
+/// A run pays for a row at most once for every two customers in its set, and all routes of a plan
+/// at most half as often as the set has customers.
+pub fn plans_are_charged_half()
+    ensures weights { RunsWeighLinksAndCharges }
+    ensures run { RowsAreChargedForTwo }
+    ensures plan { PlansAreChargedHalf }
+    ensures all { PlansWeighAtMost }
+{}
+
+/// The bound of a leaf by least runs is at most the length of every plan that keeps the decisions
+/// of the leaf and whose routes each have a customer. A leaf has one such bound.
+pub fn run_bounds_bound_plans()
+    ensures plans { RunBoundsBoundPlans }
+    ensures one { RunBoundsAreUnique }
+{}
+
+/// A run below the limit is a kept start, since its rest weighs no less than the completion. So the
+/// lesser of the limit and of the least weight of a run is that of kept starts alone.
+pub fn kept_starts_give_least_runs()
+    ensures told { CompletionsTellKeptStates }
+    ensures rests { CompletionsAreBelowRests }
+    ensures kept { RunsBelowAreKept }
+    ensures least { KeptStartsGiveLeastRuns }
+{}
+
+/// Of starts that end in the same state, the one that weighs the least is enough.
+pub fn equal_states_go_on_alike()
+    ensures { EqualStatesGoOnAlike }
+{}
+
+/// A start is kept by its customers one after the other, whether they are told from the first one
+/// on or from the last one back.
+pub fn starts_are_told_from_both_ends()
+    ensures from_the_first { KeptStartsAreStarts }
+    ensures from_the_last { StartsAreKeptStarts }
 {}

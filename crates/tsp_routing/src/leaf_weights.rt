@@ -1,12 +1,8 @@
 //! The weights of a leaf for routes, row by row: costs at the scale, potentials, and multipliers of
 //! sets.
 
-ghost use Rattle.std.specs.Prelude.{◌≡◌, ◌≤◌, ◌+◌, ◌+ℤ◌, ℕ, length, pos, neg_ℤ};
-ghost use Rattle.tsp_format.specs.Nodes.{IsNode};
-ghost use Rattle.tsp_format.specs.Steps.{IsFromTo};
-ghost use Rattle.tsp_theory.specs.Bounds.{IsScale, ArePotentials};
-ghost use Rattle.tsp_theory.specs.states.Nearest.{least_at, IsMoved};
-ghost use Rattle.tsp_cases.specs.states.Sets.{IsSetTable, lent_in, AreSmallDifferences};
+ghost use Rattle.tsp_routing.specs.Prelude.{ℕ, length, pos, neg_ℤ, IsNode, IsFromTo, IsScale, ArePotentials, least_at, IsMoved, IsSetTable, lent_in, AreSmallDifferences};
+ghost use Rattle.std.specs.Prelude.{◌≡◌, ◌≤◌, ◌+◌, ◌+ℤ◌};
 ghost use Rattle.tsp_cases.specs.states.Kept.{AreMoved};
 ghost use Rattle.tsp_routing.specs.states.LeafWeights.{AreSignedCrossings};
 
@@ -41,14 +37,8 @@ pub(crate) struct LeafWeights<'a, C: Costs> {
 }
 
 impl<'a, C: Costs> LeafWeights<'a, C> {
-    ghost use Rattle.std.specs.Prelude.{◌≡◌, ◌+◌, ◌+ℤ◌, ℕ, length, pos, neg_ℤ};
-    ghost use Rattle.tsp_format.specs.Nodes.{IsNode};
-    ghost use Rattle.tsp_format.specs.Steps.{IsFromTo};
-    ghost use Rattle.tsp_theory.specs.Bounds.{weight_between, most_between};
-    ghost use Rattle.tsp_theory.specs.states.Nearest.{least_at};
-    ghost use Rattle.tsp_theory.specs.states.Nearest.{IsMoved};
-    ghost use Rattle.tsp_cases.specs.states.Sets.{lent_in};
-    ghost use Rattle.tsp_cases.specs.states.Sets.{multipliers_at, set_weight};
+    ghost use Rattle.tsp_routing.specs.Prelude.{ℕ, length, pos, neg_ℤ, IsNode, IsFromTo, weight_between, most_between, least_at, IsMoved, lent_in, multipliers_at, set_weight};
+    ghost use Rattle.std.specs.Prelude.{◌≡◌, ◌+◌, ◌+ℤ◌};
     ghost use Rattle.tsp_routing.specs.PlanBounds.{most_link};
 
     /// The weights of a leaf.

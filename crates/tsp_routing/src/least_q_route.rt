@@ -1,11 +1,7 @@
 //! The least weight of a walk within the capacity, by dynamic programming over loads and nodes.
 
-ghost use Rattle.std.specs.Prelude.{◌≡◌, ◌≢◌, ◌⊎◌, ◌≤◌, ◌<◌, ◌+◌, ◌-◌, ◌*◌, ◌^◌, ℕ, ℤ, ◌∷◌, length, pos, neg_ℤ, ◌+ℤ◌, ◌≤ℤ◌, Some, IfOk, IfSome};
-ghost use Rattle.tsp_format.specs.Limits.{most_nodes};
-ghost use Rattle.tsp_format.specs.Nodes.{IsNode};
-ghost use Rattle.tsp_format.specs.Steps.{IsFromTo};
-ghost use Rattle.tsp_theory.specs.Tour.{length_of, IsCustomer};
-ghost use Rattle.tsp_theory.specs.states.Nearest.{least_at};
+ghost use Rattle.tsp_routing.specs.Prelude.{ℕ, ℤ, length, pos, neg_ℤ, Some, IfOk, IfSome, most_nodes, IsNode, IsFromTo, length_of, IsCustomer, least_at};
+ghost use Rattle.std.specs.Prelude.{◌≡◌, ◌≢◌, ◌⊎◌, ◌≤◌, ◌<◌, ◌+◌, ◌-◌, ◌*◌, ◌^◌, ◌∷◌, ◌+ℤ◌, ◌≤ℤ◌};
 ghost use Rattle.tsp_routing.specs.QRoutes.{IsLeastAmong, QRouteEntry, IsLow, IsMet, IsReal, IsEntryBelowTo, IsEntryMetTo, IsStartMet, IsStartBelow, IsAtMost, least_from, IsQRoute, IsBelowQRoutes};
 ghost use Rattle.tsp_routing.specs.PlanBounds.{most_capacity_in_parts};
 ghost use Rattle.tsp_routing.specs.states.Demands.{load_at, AreLinks, onward_entry, entry_at, IsEntryNumber, IsEntrySized, IsRowSized, AreRowsSized, IsRowLow, AreRowsLow, IsRowMet, AreRowsMet, IsNearOrFar, IsChosen};
@@ -402,7 +398,7 @@ fn start_with<S: Sum, W: LentRows>(
     }
 }
 
-// ---- an entry of the table of `src/least_q_route.rt`
+// ---- an entry of the table
 
 /// The rest of a walk from a node on: the least weight, the node that comes next then, and the
 /// least weight by another next node.

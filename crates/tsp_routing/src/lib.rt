@@ -10,33 +10,46 @@
 #![tactic(auto)]
 
 mod context;
-mod demands;
 mod examples;
-mod kept_laws;
+mod first_entry;
+mod given_halves;
+mod kept_list;
+mod kept_state;
+mod kept_states;
 mod kept_weights;
 mod laws;
+mod leaf_run_bound;
+mod leaf_runs;
 mod leaf_weights;
+mod least_kept;
 mod least_q_route;
-mod memory_examples;
-mod memory_laws;
+mod least_runs;
+mod memories;
+mod memory_key;
+mod memory_tables;
 mod needs;
+mod next_entries;
+mod next_entry;
 mod plan_leaf;
+mod row_sets;
+mod run_bound;
+mod run_leaf;
+mod run_nodes;
 mod sums;
 mod units;
 mod verdict;
+mod ways_home;
 
 pub use examples::{
-    examples_of_bounds, examples_of_branches, examples_of_leaves, examples_of_limits,
-    examples_of_loads, examples_of_most, examples_of_needs, examples_of_products,
-    examples_of_q_routes,
+    examples_of_bounds, examples_of_branches, examples_of_halves, examples_of_leaves,
+    examples_of_limits, examples_of_loads, examples_of_memories, examples_of_most,
+    examples_of_needs, examples_of_products, examples_of_q_routes, examples_of_run_bounds,
+    examples_of_run_weights, examples_of_runs, examples_of_starts,
 };
-pub use kept_laws::{equal_states_go_on_alike, kept_starts_give_least_runs};
 pub use laws::{
-    plan_bounds_are_unique, plan_bounds_bound_plans, plan_links_add_up, plan_trees_bound_plans,
-    plans_keep_limits, plans_leave_cuts, routes_are_q_routes,
+    equal_states_go_on_alike, kept_starts_give_least_runs, plan_bounds_are_unique,
+    plan_bounds_bound_plans, plan_links_add_up, plan_trees_bound_plans, plans_are_charged_half,
+    plans_keep_limits, plans_leave_cuts, routes_are_q_routes, routes_are_runs,
+    run_bounds_bound_plans, starts_are_told_from_both_ends,
 };
-pub use memory_examples::{
-    examples_of_halves, examples_of_run_bounds, examples_of_run_weights, examples_of_runs,
-};
-pub use memory_laws::{plans_are_charged_half, routes_are_runs, run_bounds_bound_plans};
 pub use verdict::{PlanTree, PlanVerdict, judge_plans};

@@ -3,17 +3,12 @@
 ghost use Rattle.std.specs.Prelude.{◌≡◌, ◌≤◌, max, min};
 ghost use Rattle.tsp_format.specs.Limits.{most_nodes};
 
-use crate::demands::Demands;
+use crate::units::Demands;
 use tsp_format::MOST_NODES;
 
 impl Demands<'_> {
-    ghost use Rattle.std.specs.Prelude.{◌≡◌, ◌≢◌, ◌≤◌, ℕ, ℤ, [], length, pos, ◌≤ℤ◌};
-    ghost use Rattle.std.specs.List.{All, AllPairs};
-    ghost use Rattle.tsp_format.specs.Nodes.{IsNode};
-    ghost use Rattle.tsp_format.specs.Steps.{IsFromTo};
-    ghost use Rattle.tsp_format.specs.Limits.{most_nodes, most_demand};
-    ghost use Rattle.tsp_cases.specs.Crossings.{has};
-    ghost use Rattle.tsp_theory.specs.Tour.{IsCustomer, demand_of, load_of, IsLeastRoutes};
+    ghost use Rattle.tsp_routing.specs.Prelude.{ℕ, ℤ, [], length, pos, All, AllPairs, IsNode, IsFromTo, most_nodes, most_demand, has, IsCustomer, demand_of, load_of, IsLeastRoutes};
+    ghost use Rattle.std.specs.Prelude.{◌≡◌, ◌≢◌, ◌≤◌, ◌≤ℤ◌};
     ghost use Rattle.tsp_routing.specs.PlanLinks.{sum_of_customers};
     ghost use Rattle.tsp_routing.specs.PlanLinks.{IsFewest};
     ghost use Rattle.tsp_routing.specs.PlanLinks.{IsCapacityCut};

@@ -1,18 +1,9 @@
 //! The bound of a leaf of a certificate for routes, from the least weight of a walk.
 
-ghost use Rattle.std.specs.List.{All};
-ghost use Rattle.std.specs.Prelude.{◌≡◌, ◌≤◌, ◌+◌, ◌-◌, ◌^◌, ℕ, ℤ, length, true, pos, neg_ℤ, IfOk, IfSome, ◌-ℤ◌, ◌*ℤ◌, ◌*◌, List, ◌<◌, unsigned_abs, ◌≤ℤ◌, ◌==◌, if◌then◌else◌, [], ◌∷◌};
-ghost use Rattle.tsp_format.specs.Limits.{most_nodes, most_potential};
-ghost use Rattle.tsp_format.specs.Nodes.{IsNode};
-ghost use Rattle.tsp_format.specs.Steps.{IsFromTo};
-ghost use Rattle.tsp_theory.specs.Bounds.{IsBoundSized, entry, IsScale, IsLeastBound, ArePotentials};
-ghost use Rattle.tsp_theory.specs.Tour.{RoutingProblem};
-ghost use Rattle.tsp_cases.specs.Families.{Family, families_with};
-ghost use Rattle.tsp_cases.specs.ListedCases.{as_leaf_numbers};
-ghost use Rattle.tsp_cases.specs.declared.open_case.Decision.{Decision};
+ghost use Rattle.tsp_routing.specs.Prelude.{All, ℕ, ℤ, length, true, pos, neg_ℤ, IfOk, IfSome, List, unsigned_abs, [], most_nodes, most_potential, IsNode, IsFromTo, IsBoundSized, entry, IsScale, IsLeastBound, ArePotentials, RoutingProblem, Family, families_with, as_leaf_numbers, Decision, lent_in};
+ghost use Rattle.std.specs.Prelude.{◌≡◌, ◌≤◌, ◌+◌, ◌-◌, ◌^◌, ◌-ℤ◌, ◌*ℤ◌, ◌*◌, ◌<◌, ◌≤ℤ◌, ◌==◌, if◌then◌else◌, ◌∷◌};
 ghost use Rattle.tsp_cases.specs.states.OpenCases.{stack_of, IsOpenCase, decisions_in};
 ghost use Rattle.tsp_cases.specs.states.Kept.{AreMoved};
-ghost use Rattle.tsp_cases.specs.states.Sets.{lent_in};
 ghost use Rattle.tsp_routing.specs.PlanLinks.{IsFewest, sum_of_customers};
 ghost use Rattle.tsp_routing.specs.PlanVerdicts.{ArePlanNumbers, most_of_multipliers, sizes_total};
 ghost use Rattle.tsp_routing.specs.PlanBounds.{limits_total, least_product, IsPlanBound, low_of, high_of, least_times, IsFoundByQRoutes, IsLeastQRoute, most_capacity_in_parts, most_surplus};
@@ -29,7 +20,7 @@ use tsp_cases::{Crossings, Decision, MultipliedFamilies, OpenCase, fill_moved, t
 use tsp_io::{Refused, filled};
 use tsp_theory::Costs;
 
-/// A leaf: its numbers, which are good, the setting that it shares with all others, and by node its
+/// A leaf: its numbers, which are good, the context that it shares with all others, and by node its
 /// potential less the multipliers of its sets.
 #[derive(Drop)]
 pub(crate) struct PlanLeaf<'a, C: Costs> {
@@ -154,7 +145,7 @@ pub(crate) fn moved_of<C: Costs>(
     Ok(moved)
 }
 
-// ---- from the least weight of a walk to the bound of a leaf, whatever number of routes a plan
+// ---- from the least weight of a q-route to the bound of a leaf
 
 /// What a leaf gives back to all plans, the potential of the depot, and how many routes there are
 /// at least.
@@ -204,7 +195,7 @@ fn of_routes(fewest: u32, most: u32, surplus: i128) -> i128
 }
 
 /// A number times a count.
-fn times(count: u32, number: i128) -> i128
+pub(crate) fn times(count: u32, number: i128) -> i128
     requires count { count ≤ most_nodes }
     requires number { IsFromTo (neg_ℤ (pos most_surplus)) (pos most_surplus) number }
     ensures value { result ≡ pos count *ℤ number }
@@ -214,7 +205,7 @@ fn times(count: u32, number: i128) -> i128
 }
 
 /// The least whole number that at a scale is no less than a sum.
-fn rounded_up(scale: i64, sum: i128) -> i128
+pub(crate) fn rounded_up(scale: i64, sum: i128) -> i128
     requires scale { IsScale scale }
     requires size { IsFromTo (neg_ℤ (pos (2 ^ 100))) (pos (2 ^ 100)) sum }
     ensures value { IsLeastBound scale sum result }
@@ -224,7 +215,7 @@ fn rounded_up(scale: i64, sum: i128) -> i128
     -(-sum).div_euclid(i128::from(scale))
 }
 
-// ---- what the multipliers of sets and the potentials of customers give back to the bound of a
+// ---- what the multipliers of sets and the potentials of customers give back
 
 /// How often each plan crosses a set at the least, and at the most.
 #[derive(Clone, Copy)]
@@ -235,7 +226,12 @@ struct Limits {
 
 /// What the multipliers of sets give back: one of at least 0 times the least number of crossings
 /// that the case allows, one below 0 times the most.
-fn limits_total(case: &OpenCase, nodes: u32, crossed: &[Crossings], multipliers: &[i64]) -> i128
+pub(crate) fn limits_total(
+    case: &OpenCase,
+    nodes: u32,
+    crossed: &[Crossings],
+    multipliers: &[i64],
+) -> i128
     requires some { 1 ≤ nodes }
     requires nodes { nodes ≤ most_nodes }
     requires case { IsOpenCase (nodes + length multipliers.now) case.now }
@@ -276,7 +272,7 @@ fn given_by(case: &OpenCase, place: u32, limits: Limits, multiplier: i64) -> i12
 }
 
 /// A number times a count.
-fn times_given_back(count: u64, number: i64) -> i128
+pub(crate) fn times_given_back(count: u64, number: i64) -> i128
     requires { count ≤ 2 ^ 33 }
     ensures value { result ≡ pos count *ℤ number }
     ensures size { IsFromTo (neg_ℤ (pos (unsigned_abs number * 2 ^ 33))) (pos (unsigned_abs number * 2 ^ 33)) result }
@@ -285,7 +281,7 @@ fn times_given_back(count: u64, number: i64) -> i128
 }
 
 /// The sum of the potentials of the customers.
-fn customers_total(depot: u32, potentials: &[i64]) -> i128
+pub(crate) fn customers_total(depot: u32, potentials: &[i64]) -> i128
     requires few { length potentials.now ≤ most_nodes }
     requires depot { IsNode (length potentials.now) depot }
     requires potentials { ArePotentials potentials.now }

@@ -1,12 +1,10 @@
-//! The load of each node and the capacity of a route, in units. `src/verdict.rt` counts them, and
-//! `src/context.rt` holds them.
+//! The depot, the demands and the capacity of a routing instance, and the loads that they are in units.
 
 ghost use Rattle.std.specs.Prelude.{◌≡◌, ◌≤◌, ◌<◌, ◌+◌, ◌*◌, ◌/◌, ◌==◌, ◌^◌, ℕ, ℤ, if◌then◌else◌, length, pos, nat_abs, ◌≤ℤ◌, IfOk};
 ghost use Rattle.tsp_format.specs.Nodes.{IsNode};
-ghost use Rattle.tsp_routing.specs.states.Demands.{loads_problem, AreDemands, load_at, AreUnitLoads, light_in};
 ghost use Rattle.tsp_routing.specs.PlanLinks.{units_of, AreUnits, load_in, capacity_in_parts};
+ghost use Rattle.tsp_routing.specs.states.Demands.{loads_problem, AreDemands, load_at, AreUnitLoads, light_in};
 
-use crate::demands::Demands;
 use std::alloc::Global;
 use tsp_io::{Refused, filled};
 
@@ -91,4 +89,32 @@ fn load_of(units: u64, parts: u64) -> u64
         return 1;
     }
     units * parts
+}
+
+// ---- the depot, the demand of each node and the capacity of a route
+
+/// The nodes 1 to `nodes`, one of them the depot, the demand of each, and what a route carries at
+/// most.
+#[derive(Clone, Copy)]
+pub(crate) struct Demands<'a> {
+    pub(crate) nodes: u32,
+    pub(crate) depot: u32,
+    pub(crate) demands: &'a [i64],
+    pub(crate) capacity: i64,
+}
+
+impl Demands<'_> {
+    ghost use Rattle.tsp_routing.specs.Prelude.{pos, IsNode, most_demand, IsFromTo, demand_of};
+    ghost use Rattle.std.specs.Prelude.{◌≡◌};
+    ghost use Rattle.tsp_routing.specs.states.Demands.{AreDemands};
+
+    /// The demand of a node.
+    pub(crate) fn demand(&self, node: u32) -> i64
+        requires demands { AreDemands self.now }
+        requires node { IsNode self.now.nodes node }
+        ensures value { result ≡ demand_of self.now.demands.now node }
+        ensures size { IsFromTo (pos 0) (pos most_demand) result }
+    {
+        self.demands[node as usize - 1]
+    }
 }

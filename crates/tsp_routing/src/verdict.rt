@@ -1,17 +1,9 @@
 //! Judges a certificate for routes: its families, then its branches, then its leaves.
 
-ghost use Rattle.std.specs.List.{All};
-ghost use Rattle.std.specs.Prelude.{◌≡◌, ◌≤◌, ◌<◌, ◌+◌, ◌*◌, ◌^◌, true, [], length, nat_abs, IfOk, pos, ℕ, ℤ, MatchOption, ◌↔◌, IsTrue, take, drop, neg_ℤ};
-ghost use Rattle.tsp_format.specs.Limits.{most_demand, most_capacity};
-ghost use Rattle.tsp_format.specs.Nodes.{IsNode};
-ghost use Rattle.tsp_format.specs.Steps.{IsFromTo, are_whole};
+ghost use Rattle.tsp_routing.specs.Prelude.{All, true, [], length, nat_abs, IfOk, pos, ℕ, ℤ, MatchOption, IsTrue, take, drop, neg_ℤ, most_demand, most_capacity, IsNode, IsFromTo, are_whole, IsScale, families_with, family_with, families_in, AreFamiliesOf, AreSetsOf, lists_of, as_leaf_numbers, IsStepOf, lent_in};
+ghost use Rattle.std.specs.Prelude.{◌≡◌, ◌≤◌, ◌<◌, ◌+◌, ◌*◌, ◌^◌, ◌↔◌};
 ghost use Rattle.tsp_format.specs.states.TreeSteps.{steps_of};
-ghost use Rattle.tsp_theory.specs.Bounds.{IsScale};
-ghost use Rattle.tsp_cases.specs.Families.{families_with, family_with};
-ghost use Rattle.tsp_cases.specs.Crossings.{families_in, AreFamiliesOf, AreSetsOf, lists_of};
-ghost use Rattle.tsp_cases.specs.ListedCases.{as_leaf_numbers, IsStepOf};
 ghost use Rattle.tsp_cases.specs.JudgedLeaves.{AreJudgedBy, AreSizedLeaves, IsFoundOfCase, IsSizedLeaf};
-ghost use Rattle.tsp_cases.specs.states.Sets.{lent_in};
 ghost use Rattle.tsp_cases.specs.states.GoodFamilies.{AreUnmarked, AddsNoOther};
 ghost use Rattle.tsp_cases.specs.states.OpenCases.{IsOpenCase, decisions_in};
 ghost use Rattle.tsp_routing.specs.PlanLinks.{IsCutFamily};
@@ -22,10 +14,9 @@ ghost use Rattle.tsp_routing.specs.states.Judged.{AreCutsJudged, AreCutNumbers, 
 ghost use Rattle.tsp_routing.specs.states.LeafWeights.{IsPlanStep};
 
 use crate::context::PlanContext;
-use crate::demands::Demands;
 use crate::laws::plan_trees_bound_plans;
 use crate::plan_leaf::{PlanLeaf, leaf_bound, moved_of};
-use crate::units::unit_loads;
+use crate::units::{Demands, unit_loads};
 use std::alloc::Global;
 use tsp_cases::{
     Crossings, Decision, Families, JudgedLeaf, JudgedLeaves, LeafJudge, OpenCase, WholeTree,
@@ -163,20 +154,20 @@ fn judge_all<C: Costs>(
     ensures size { IfOk result AreSizedLeaves }
 {
     let nodes = context.demands.nodes as usize;
-    let combs = context.crossed.len();
+    let family_count = context.crossed.len();
     let mut room = PlanScratch {
         potentials: filled(alloc, 0, nodes)?,
-        multipliers: filled(alloc, 0, combs)?,
+        multipliers: filled(alloc, 0, family_count)?,
         row: filled(alloc, 0, nodes + 1)?,
     };
     let tree = WholeTree {
-        places: context.demands.nodes + combs as u32,
+        places: context.demands.nodes + family_count as u32,
         directed: true,
         given: &[],
         steps,
     };
     let judge = PlanJudge { context, few };
-    judge_leaves(alloc, &judge, &tree, &mut room, nodes + combs)
+    judge_leaves(alloc, &judge, &tree, &mut room, nodes + family_count)
 }
 
 // ---- the verdict on a certificate for routes, as an enum
@@ -330,9 +321,8 @@ pub(crate) struct PlanJudge<'a, C: Costs> {
 }
 
 impl<C: Costs> LeafJudge for PlanJudge<'_, C> {
-    ghost use Rattle.std.specs.Prelude.{◌+◌, true, length};
-    ghost use Rattle.tsp_cases.specs.Families.{families_with};
-    ghost use Rattle.tsp_cases.specs.states.Sets.{lent_in};
+    ghost use Rattle.tsp_routing.specs.Prelude.{true, length, families_with, lent_in};
+    ghost use Rattle.std.specs.Prelude.{◌+◌};
     ghost use Rattle.tsp_routing.specs.PlanVerdicts.{ArePlanNumbers};
     ghost use Rattle.tsp_routing.specs.states.Demands.{loads_problem};
     ghost use Rattle.tsp_routing.specs.states.Judged.{IsPlanScratch, IsFoundOfFew};
@@ -341,7 +331,7 @@ impl<C: Costs> LeafJudge for PlanJudge<'_, C> {
 
     ghost nodes = { λ judge. judge.context.now.demands.nodes };
 
-    ghost combs = { λ judge. length judge.context.now.crossed.now };
+    ghost family_count = { λ judge. length judge.context.now.crossed.now };
 
     ghost places = { λ judge. judge.context.now.demands.nodes + length judge.context.now.crossed.now };
 
@@ -371,7 +361,7 @@ impl<C: Costs> LeafJudge for PlanJudge<'_, C> {
         numbers: &[i128],
         memory: &mut PlanScratch,
     ) -> Result<JudgedLeaf, Refused> {
-        // The setting is lent again, since the case changes before the next leaf.
+        // The context is lent again, since the case changes before the next leaf.
         judge_leaf(alloc, &*self.context, self.few, case, numbers, memory)
     }
 }

@@ -93,15 +93,15 @@ fn set_lists(alloc: Global, draft: &mut Draft) -> Result<(), Fail> {
     draft.row_potentials = Some(Vec::from_slice(alloc, &[4i64, -4, 0, 0])?);
     draft.column_potentials = Some(Vec::from_slice(alloc, &[5i64, -5, 0, 0])?);
     draft.fixed_potentials = Some(Vec::from_slice(alloc, &[(1u32, 2u32, 6i64), (3, 4, 0)])?);
-    let mut combs = Vec::new(alloc);
-    combs.push(lists_of(alloc, &[&[1, 2], &[1, 3]])?)?;
-    combs.push(lists_of(alloc, &[&[4]])?)?;
-    draft.combs = Some(combs);
+    let mut families = Vec::new(alloc);
+    families.push(lists_of(alloc, &[&[1, 2], &[1, 3]])?)?;
+    families.push(lists_of(alloc, &[&[4]])?)?;
+    draft.families = Some(families);
     draft.branches = Some(two_leaves(alloc)?);
     Ok(())
 }
 
-/// Lists of nodes: the sets of a comb, or tours.
+/// Lists of nodes: the sets of a family, or tours.
 fn lists_of(alloc: Global, lists: &[&[u32]]) -> Result<Vec<Vec<u32>>, AllocError> {
     let mut held = Vec::new(alloc);
     for list in lists {

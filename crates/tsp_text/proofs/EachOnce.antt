@@ -1,25 +1,14 @@
 -- A complete section by node has each node once.
-use Rattle.std.proofs.Common.{◌≡◌, ◌≢◌, ℕ, zero, suc, ◌-◌, ◌<◌, ◌≤◌, true, false, List, [], ◌∷◌, ◌++◌, length, get_or, map, sym, ap, subst, ◌∙◌, arith, None, ◌+◌, ◌*◌, Bool, cond, refl}
-use Rattle.std.proofs.Math.ListN.{take}
-use Rattle.std.proofs.lemmas.Bool.{true≢false, and_parts, or_parts, leb-true, false≢true, le-leb, leb-false}
-use Rattle.std.proofs.lemmas.Bool.Decides.{Decides-int_eq}
-use Rattle.std.proofs.lemmas.List.{length_push, length-map, length-take-le, take_all, take-append-le, map_push}
+use Rattle.tsp_text.proofs.Prelude.{◌≡◌, ◌≢◌, ℕ, zero, suc, ◌-◌, ◌<◌, ◌≤◌, true, false, List, [], ◌∷◌, ◌++◌, length, map, sym, ap, subst, ◌∙◌, arith, None, ◌+◌, ◌*◌, Bool, cond, refl, take, true≢false, and_parts, or_parts, leb-true, false≢true, le-leb, leb-false, Decides-int_eq, length_push, length-map, length-take-le, take_all, take-append-le, map_push, AllByRecursion, Contains, list_any, remove, option_map, nat_le, ℤ, pos, ◌==◌, neg_ℤ, result_err, most_demand, most_potential, Field, NameKey, TypeKey, CommentKey, OtherKey, DimensionKey, CapacityKey, ScaleKey, LoadUnitKey, EdgeWeightTypeKey, EdgeWeightFormatKey, NodeCoordTypeKey, DisplayDataTypeKey, NodeCoordPart, DisplayDataPart, DemandPart, DepotPart, FixedEdgesPart, EdgeWeightPart, TourPart, NodePotentialPart, RowPotentialPart, ColumnPotentialPart, FixedEdgePotentialPart, FamilyPart, BranchPart, is_node}
 use Rattle.std.proofs.lemmas.List.FromFn.{length-map-range_with_len, get_or-map-range_with_len}
 use Rattle.std.proofs.lemmas.List.Sorted.{IsPermutation-refl, IsPermutation-remove, IsPermutation-cons, IsPermutation-sym, IsPermutation-trans, Contains-permutation, length_permutation}
-use Rattle.std.specs.List.{AllByRecursion, Contains, list_any, remove}
 use Rattle.std.specs.List.Sorted.{IsPermutation}
-use Rattle.std.specs.Option.{option_map}
 use Rattle.std.specs.Ordering.{int_eq}
-use Rattle.std.specs.Prelude.{nat_le, ℤ, pos, ◌&&◌, ◌==◌, neg_ℤ}
-use Rattle.std.specs.Result.{result_err}
-use Rattle.tsp_format.specs.Limits.{most_demand, most_potential}
+use Rattle.tsp_format.proofs.Basics.{none_map, in_tail, and_right_from}
 use Rattle.tsp_format.specs.Nodes.{nodes_to}
-use Rattle.tsp_format.specs.declared.keyword.Field.{Field}
-use Rattle.tsp_format.specs.declared.keyword.Field.TheVariants.{NameKey, TypeKey, CommentKey, OtherKey, DimensionKey, CapacityKey, ScaleKey, LoadUnitKey, EdgeWeightTypeKey, EdgeWeightFormatKey, NodeCoordTypeKey, DisplayDataTypeKey, NodeCoordPart, DisplayDataPart, DemandPart, DepotPart, FixedEdgesPart, EdgeWeightPart, TourPart, NodePotentialPart, RowPotentialPart, ColumnPotentialPart, FixedEdgePotentialPart, CombPart, BranchPart}
-use Rattle.tsp_file.specs.Validity.{is_node}
 use Rattle.tsp_text.proofs.GroupWords.{Words, length_groups, begun_short, goes_on, group_ends, nodes_read}
 use Rattle.tsp_text.proofs.ValidKeywords.{read_node}
-use Rattle.tsp_text.proofs.ValidRows.{when_none, map_none, none_applies, Grows, grown_in}
+use Rattle.tsp_text.proofs.ValidRows.{when_none, none_applies, Grows, grown_in}
 use Rattle.tsp_text.specs.Earlier.{same_field, has_line, words_of, spatial_after, place_in, dimension_in}
 use Rattle.tsp_text.specs.FaultRows.{when, number_fault_at, is_repeated_node_at, is_self_edge_at, is_surplus_at, is_after_end_at, word_fault}
 use Rattle.tsp_text.specs.Groups.{HasEachNodeOnce, groups_in, begun_in, word_at, node_groups, number_value, number_groups, point_in, space_point_in, place_in_group, place_by_node, nodes_of_groups, place_of_number, is_by_node_field, group_nodes}
@@ -34,11 +23,6 @@ use Rattle.tsp_text.specs.declared.fault.LineFault.TheVariants as row
 abbrev pub AllApart : {X : Type 0} → List X → Type 0
 AllApart [] = Unit {0}
 AllApart (x ∷ xs) = AllByRecursion (λ y. x ≢ y) xs × AllApart xs
-
-in_tail : {X : Type 0} (x : X) (zs : List X) (w : X) (k : ℕ) → k < length (x ∷ zs) → get_or (x ∷ zs) k w ≡ w → x ≢ w
-    → Contains zs w
-in_tail x zs w zero lt is other = absurd (other is)
-in_tail x zs w (suc k) lt is other = (k, omega arith, is)
 
 still_inside : {X : Type 0} (xs ys zs : List X) (x : X) → IsPermutation ys (x ∷ zs) → AllByRecursion (λ y. x ≢ y) xs
     → AllByRecursion (Contains ys) xs → AllByRecursion (Contains zs) xs
@@ -136,7 +120,7 @@ free_node n nodes word e =
     ∷ when (is_self_edge_at n place word) row.SelfEdge
     ∷ when (is_surplus_at n place word) row.Surplus
     ∷ when (is_after_end_at n place word) row.AfterEnd ∷ []) e in
-    (map_none (λ fault. row.Number fault) (result_err (node n word)) rows.0, when_none (is_repeated_node_at n place word) row.RepeatedNode rows.1.0)
+    (none_map (λ fault. row.Number fault) (result_err (node n word)) rows.0, when_none (is_repeated_node_at n place word) row.RepeatedNode rows.1.0)
 
 -- ---- one word more without a fault
 
@@ -257,10 +241,6 @@ abbrev StandsAt : Bool → Field → (ℕ → Words → Place) → Type 0
 StandsAt in_space field place =
     (b : Bool) → (same_field NodeCoordPart field ≡ true → b ≡ in_space) → (n : ℕ) (words : Words) → place_in b field n words ≡ place n words
 
-complete : (stands wants : Bool) → stands ≡ true → (stands && wants) ≡ false → wants ≡ false
-complete true wants e f = f
-complete false wants e f = absurd (false≢true e)
-
 module _ {X : Type 0} (size : ℕ) (value : Words → X) (number_place : Place) (in_space : Bool) (field : Field) (some : 0 < size) (wants : wants_more number_place ≡ true)
     (other : same_field TourPart field ≡ false) (at : StandsAt in_space field (λ n words. place_by_node size number_place (node_groups size value n words) n words)) where
   nodes_grow : Grows in_space field (NodesHold size)
@@ -276,7 +256,7 @@ module _ {X : Type 0} (size : ℕ) (value : Words → X) (number_place : Place) 
   nodes_once items is clean stands whole =
       let n = dimension_in items in
       let words = words_of field items in
-      let ended = complete (has_line field items) (wants_more (place_in (spatial_after items) field n words)) stands whole in
+      let ended = and_right_from (has_line field items) (wants_more (place_in (spatial_after items) field n words)) stands whole in
       all_there size value number_place some wants n words (ap wants_more (sym (at (spatial_after items) is n words)) ∙ ended)
       (grown_in in_space field (NodesHold size) nodes_grow items clean (λ coords there. is coords))
 
@@ -327,5 +307,5 @@ each_once items RowPotentialPart clean by_node =
 each_once items ColumnPotentialPart clean by_node =
     numbers_once (neg_ℤ (pos most_potential)) (pos most_potential) ColumnPotentialPart refl refl (λ b n words. refl) items clean
 each_once items FixedEdgePotentialPart clean by_node = absurd (false≢true by_node)
-each_once items CombPart clean by_node = absurd (false≢true by_node)
+each_once items FamilyPart clean by_node = absurd (false≢true by_node)
 each_once items BranchPart clean by_node = absurd (false≢true by_node)

@@ -1,13 +1,7 @@
 -- A statement of every section, from one proof of it for each section; and the line that opens one.
-use Rattle.std.proofs.Common.{◌≡◌, Bool, true, false, cond, List, ◌∷◌, refl, Some, None}
-use Rattle.std.specs.Prelude.{ℕ, nat_lt, is_some}
-use Rattle.std.specs.Option.{option_map_or}
-use Rattle.tsp_format.specs.declared.keyword.Field.{Field}
-use Rattle.tsp_format.specs.declared.keyword.Field.TheVariants.{NameKey, TypeKey, CommentKey, OtherKey, DimensionKey, CapacityKey, ScaleKey, LoadUnitKey, EdgeWeightTypeKey, EdgeWeightFormatKey, NodeCoordTypeKey, DisplayDataTypeKey, NodeCoordPart, DisplayDataPart, DemandPart, DepotPart, FixedEdgesPart, EdgeWeightPart, TourPart, NodePotentialPart, RowPotentialPart, ColumnPotentialPart, FixedEdgePotentialPart, CombPart, BranchPart}
-use Rattle.tsp_format.specs.declared.keyword.Keyword.TheVariants.{Known}
+use Rattle.tsp_text.proofs.Prelude.{◌≡◌, Bool, true, false, cond, List, ◌∷◌, refl, Some, None, ℕ, nat_lt, is_some, option_map_or, Field, NameKey, TypeKey, CommentKey, OtherKey, DimensionKey, CapacityKey, ScaleKey, LoadUnitKey, EdgeWeightTypeKey, EdgeWeightFormatKey, NodeCoordTypeKey, DisplayDataTypeKey, NodeCoordPart, DisplayDataPart, DemandPart, DepotPart, FixedEdgesPart, EdgeWeightPart, TourPart, NodePotentialPart, RowPotentialPart, ColumnPotentialPart, FixedEdgePotentialPart, FamilyPart, BranchPart, Known, most_line_bytes, shape_of, is_section_field}
 use Rattle.tsp_format.specs.declared.keyword.Shape.{Shape}
 use Rattle.tsp_format.specs.declared.keyword.Shape.TheVariants.{Points, SpacePoints}
-use Rattle.tsp_format.specs.Limits.{most_line_bytes, shape_of, is_section_field}
 use Rattle.tsp_file.specs.Fields.{stands_in}
 use Rattle.tsp_text.specs.Items.{WordLine, Item, Line}
 use Rattle.tsp_text.specs.Earlier.{has_line, spatial_after, dimension_in}
@@ -18,7 +12,7 @@ use Rattle.tsp_text.specs.ParsesTo.{opening_rows, fields_by}
 -- plan: by the field: each section is a premise, and a keyword is none
 pub by_section : (P : Field → Type 0) → P NodeCoordPart → P DisplayDataPart → P DemandPart → P DepotPart → P FixedEdgesPart
     → P EdgeWeightPart → P TourPart → P NodePotentialPart → P RowPotentialPart → P ColumnPotentialPart → P FixedEdgePotentialPart
-    → P CombPart → P BranchPart
+    → P FamilyPart → P BranchPart
     → (f : Field) → is_section_field f ≡ true → P f
 by_section P p0 p1 p2 p3 p4 p5 p6 p7 p8 p9 p10 p11 p12 NameKey e = cc
 by_section P p0 p1 p2 p3 p4 p5 p6 p7 p8 p9 p10 p11 p12 TypeKey e = cc
@@ -43,7 +37,7 @@ by_section P p0 p1 p2 p3 p4 p5 p6 p7 p8 p9 p10 p11 p12 NodePotentialPart e = p7
 by_section P p0 p1 p2 p3 p4 p5 p6 p7 p8 p9 p10 p11 p12 RowPotentialPart e = p8
 by_section P p0 p1 p2 p3 p4 p5 p6 p7 p8 p9 p10 p11 p12 ColumnPotentialPart e = p9
 by_section P p0 p1 p2 p3 p4 p5 p6 p7 p8 p9 p10 p11 p12 FixedEdgePotentialPart e = p10
-by_section P p0 p1 p2 p3 p4 p5 p6 p7 p8 p9 p10 p11 p12 CombPart e = p11
+by_section P p0 p1 p2 p3 p4 p5 p6 p7 p8 p9 p10 p11 p12 FamilyPart e = p11
 by_section P p0 p1 p2 p3 p4 p5 p6 p7 p8 p9 p10 p11 p12 BranchPart e = p12
 
 -- a field with a shape is a section, in a spatial file as in another
@@ -71,7 +65,7 @@ section_of in_space NodePotentialPart shape e = refl
 section_of in_space RowPotentialPart shape e = refl
 section_of in_space ColumnPotentialPart shape e = refl
 section_of in_space FixedEdgePotentialPart shape e = refl
-section_of in_space CombPart shape e = refl
+section_of in_space FamilyPart shape e = refl
 section_of in_space BranchPart shape e = refl
 
 some_cond : {A : Type 0} (b : Bool) (x : A) → is_some (cond b (Some x) None) ≡ b
@@ -106,7 +100,7 @@ standing earlier = by_section (λ f. stands_in (fields_by (λ field. has_line fi
     (some_cond (has_line FixedEdgesPart earlier) _) (some_cond (has_line EdgeWeightPart earlier) _)
     (some_cond (has_line TourPart earlier) _) (some_cond (has_line NodePotentialPart earlier) _)
     (some_cond (has_line RowPotentialPart earlier) _) (some_cond (has_line ColumnPotentialPart earlier) _)
-    (some_cond (has_line FixedEdgePotentialPart earlier) _) (some_cond (has_line CombPart earlier) _)
+    (some_cond (has_line FixedEdgePotentialPart earlier) _) (some_cond (has_line FamilyPart earlier) _)
     (some_cond (has_line BranchPart earlier) _)
 
 -- the number of nodes stays, and whether the file is spatial

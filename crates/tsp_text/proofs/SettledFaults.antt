@@ -1,18 +1,10 @@
 -- The first fault of a text, which is the fault of every longer text, and that every text has one answer.
-use Rattle.std.proofs.Common.{◌≡◌, List, ◌∷◌, None, ap, ◌∙◌, [], ◌++◌, refl, sym, Option, Some, ◌≢◌, ℕ, Bool, true, false, Result, Ok, Err, ◌+◌, ◌-◌, cond, length, reverse, subst, arith, inl, inr, append_assoc}
-use Rattle.std.proofs.Math.ListN.{take}
+use Rattle.tsp_text.proofs.Prelude.{◌≡◌, List, ◌∷◌, None, ap, ◌∙◌, [], ◌++◌, refl, sym, Option, Some, ◌≢◌, ℕ, Bool, true, false, Result, Ok, Err, ◌+◌, ◌-◌, cond, length, reverse, subst, arith, inl, inr, append_assoc, take, true≢false, false≢true, ltb-true, ltb-false, lt-leb, append-nil, reverse-append, take_all, take-append-le, list_any-append, option_or, option_map, ◌&&◌, ◌||◌, not, nat_lt, codes, ℤ, pos, negsuc, neg_ℤ, if◌then◌else◌, most_word_bytes, most_weight, most_nodes, most_families, most_file_bytes, Field}
 use Rattle.std.proofs.Math.Seq.{take-append-add}
-use Rattle.std.proofs.lemmas.Bool.{true≢false, false≢true, ltb-true, ltb-false, lt-leb}
-use Rattle.std.proofs.lemmas.List.{append-nil, reverse-append, take_all, take-append-le}
-use Rattle.std.proofs.lemmas.List.Folds.{list_any-append}
 use Rattle.std.proofs.lemmas.Option.{none-some, same_Some}
 use Rattle.std.proofs.lemmas.Slice.Eq.{bytes_eq-Decides}
-use Rattle.std.specs.Option.{option_or, option_map}
-use Rattle.std.specs.Prelude.{◌&&◌, ◌||◌, not, nat_lt, codes, ℤ, pos, negsuc, neg_ℤ, if◌then◌else◌}
 use Rattle.tsp_number.specs.NumberWord.{numeral_in, whole_from, whole_of, decimal_from, decimal_of}
 use Rattle.tsp_number.specs.declared.word.NumberFault.TheVariants.{LongWord}
-use Rattle.tsp_format.specs.Limits.{most_word_bytes, most_weight, most_nodes, most_combs, most_file_bytes}
-use Rattle.tsp_format.specs.declared.keyword.Field.{Field}
 use Rattle.tsp_file.specs.Fields.{Fields}
 use Rattle.tsp_file.specs.declared.rules.EndFault.{EndFault}
 use Rattle.tsp_text.proofs.SettledItems.{AreLong, Stay, longer, items_stay, items_settled}
@@ -193,7 +185,7 @@ long_row PastEnd = row.AfterEnd
 long_row Weight = row.Number LongWord
 long_row PastWeights = row.Surplus
 long_row (TourNode count) = row.Number LongWord
-long_row (SetNode begun combs count) = row.Number LongWord
+long_row (SetNode begun families count) = row.Number LongWord
 long_row (StepAfter branches) = row.Number LongWord
 long_row (IndexAfter count) = row.Number LongWord
 
@@ -210,9 +202,9 @@ long_fault n PastEnd word long = rw (minus_long word long) refl
 long_fault n Weight word long = rw (whole_long word (neg_ℤ (pos most_weight)) (pos most_weight) long) refl
 long_fault n PastWeights word long = refl
 long_fault n (TourNode count) word long = rw (whole_long word (negsuc 0) (pos most_nodes) long) refl
-long_fault n (SetNode begun combs count) word long = rw (whole_long word (negsuc 0) (pos n) long) refl
-long_fault n (StepAfter branches) word long = rw (whole_long word (pos 0) (pos (n + most_combs)) long) refl
-long_fault n (IndexAfter count) word long = rw (whole_long word (negsuc 0) (pos (n + most_combs)) long) refl
+long_fault n (SetNode begun families count) word long = rw (whole_long word (negsuc 0) (pos n) long) refl
+long_fault n (StepAfter branches) word long = rw (whole_long word (pos 0) (pos (n + most_families)) long) refl
+long_fault n (IndexAfter count) word long = rw (whole_long word (negsuc 0) (pos (n + most_families)) long) refl
 
 same_word_row : (earlier : List Item) (word next : List ℕ) (opened : Option Field) → IsLong word → IsLong next
     → open_section earlier ≡ opened

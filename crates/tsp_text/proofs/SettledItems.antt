@@ -1,22 +1,14 @@
 -- Blanks around lines, and the settled items of a text, which are those of every longer text.
-use Rattle.std.proofs.Common.{◌≡◌, ℕ, suc, ◌+◌, true, false, cond, List, [], ◌∷◌, ◌++◌, length, drop, reverse, sym, ap, ◌∙◌, arith, Bool, map, refl, subst, inl, inr, length-append}
-use Rattle.std.proofs.lemmas.Bool.{false≢true, ltb-true, lt-ltb}
-use Rattle.std.proofs.lemmas.List.{nil_from_length, reverse-append, reverse-reverse}
-use Rattle.std.specs.List.{prefix_len, filter, slice_split, onto_first}
-use Rattle.std.specs.Prelude.{◌⊎◌, nat_lt}
-use Rattle.tsp_format.specs.Limits.{most_word_bytes, most_line_bytes}
-use Rattle.tsp_format.specs.Words.{is_blank, is_letter}
+use Rattle.tsp_text.proofs.Prelude.{◌≡◌, ℕ, ◌+◌, true, false, cond, List, [], ◌∷◌, ◌++◌, length, drop, reverse, sym, ap, ◌∙◌, arith, Bool, map, refl, subst, inl, inr, length-append, false≢true, ltb-true, lt-ltb, nil_from_length, reverse-append, reverse-reverse, prefix_len, filter, slice_split, onto_first, ◌⊎◌, nat_lt, most_word_bytes, most_line_bytes, is_blank, is_letter}
+use Rattle.std.proofs.Math.Numerals.{one-add}
 use Rattle.tsp_text.specs.Items.{without_start, without_end, ends_line, lines_of, words_in, is_not_empty, begins, Item, Line, NumberWord, LineEnd, line_item, items_in, items_by, items_of, settled_pieces, settled_words, settled_line, settled_in, settled_items}
 
 -- ---- at the start
 
-one_more : (n : ℕ) → 1 + n ≡ suc n
-one_more n = omega arith
-
 pub start_blank : (b : ℕ) (bytes : List ℕ) → is_blank b ≡ true → without_start (b ∷ bytes) ≡ without_start bytes
 start_blank b bytes e =
     ap (λ c. drop (cond c (1 + prefix_len is_blank bytes) 0) (b ∷ bytes)) e
-    ∙ ap (λ n. drop n (b ∷ bytes)) (one_more (prefix_len is_blank bytes))
+    ∙ ap (λ n. drop n (b ∷ bytes)) (one-add (prefix_len is_blank bytes))
 
 pub start_filled : (b : ℕ) (bytes : List ℕ) → is_blank b ≡ false → without_start (b ∷ bytes) ≡ b ∷ bytes
 start_filled b bytes e = ap (λ c. drop (cond c (1 + prefix_len is_blank bytes) 0) (b ∷ bytes)) e
@@ -40,7 +32,7 @@ end_filled text front last parts e =
 pub end_none : (text : List ℕ) → length text ≡ 0 → text ≡ without_end text
 end_none text short = let none = nil_from_length text short in none ∙ sym (ap without_end none)
 
--- ---- the settled items of a text are those of every longer one, but for a last one that is
+-- ---- the settled items of a text are those of every longer one, but for an open last one
 
 -- ---- parts of a list that goes on
 
@@ -171,12 +163,12 @@ pieces_settled (x ∷ next ∷ xs) (y ∷ after ∷ ys) h =
 
 -- ---- where a line begins
 
-empty_first : (pieces : List (List ℕ))
+pub empty_first : (pieces : List (List ℕ))
     → filter is_not_empty (settled_pieces ([] ∷ pieces)) ≡ filter is_not_empty (settled_pieces pieces)
 empty_first [] = refl
 empty_first (piece ∷ pieces) = refl
 
-words_blank : (b : ℕ) (bytes : List ℕ) → is_blank b ≡ true → settled_words (b ∷ bytes) ≡ settled_words bytes
+pub words_blank : (b : ℕ) (bytes : List ℕ) → is_blank b ≡ true → settled_words (b ∷ bytes) ≡ settled_words bytes
 words_blank b bytes e =
     ap (λ (k : Bool). filter is_not_empty (settled_pieces (cond k ([] ∷ slice_split is_blank bytes) (onto_first b (slice_split is_blank bytes))))) e
     ∙ empty_first (slice_split is_blank bytes)

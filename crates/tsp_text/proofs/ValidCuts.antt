@@ -1,23 +1,13 @@
 -- Tours and families of a section without a fault, and the items that are cut from a text.
-use Rattle.std.proofs.Common.{◌≡◌, ℕ, suc, ◌+◌, Bool, true, false, cond, List, [], ◌∷◌, ◌++◌, length, map, refl, sym, ap, ◌∙◌, arith, None, ◌<◌, ◌≤◌, subst, zero, ◌-◌, get_or, reverse}
-use Rattle.std.proofs.Math.ListN.{take, drop}
-use Rattle.std.proofs.lemmas.Bool.{and_from, and_parts, le-leb, leb-false, true≢false, false≢true}
-use Rattle.std.proofs.lemmas.Bool.Decides.{nat_tests}
-use Rattle.std.proofs.lemmas.List.{length-map, length_push, append-nil, reverse-append, reverse-reverse, take-append-drop, get_or_push}
+use Rattle.tsp_text.proofs.Prelude.{◌≡◌, ℕ, suc, ◌+◌, Bool, true, false, cond, List, [], ◌∷◌, ◌++◌, length, map, refl, sym, ap, ◌∙◌, arith, None, ◌<◌, ◌≤◌, subst, zero, ◌-◌, get_or, reverse, take, drop, and_from, and_parts, le-leb, leb-false, true≢false, false≢true, nat_tests, length-map, length_push, append-nil, reverse-append, reverse-reverse, take-append-drop, get_or_push, list_all-append, list_all-map, list_all, filter, slice_split, onto_first, sum_by, prefix_len, take_while, not, ◌&&◌, ◌||◌, nat_le, nat_abs, nat_lt, slice_index, most_nodes, most_tour_nodes, most_families, most_family_nodes, most_line_bytes, most_file_bytes, is_blank, is_letter, is_keyword_byte, TourPart, FamilyPart, is_node, is_node_list, are_tours, is_set_of, are_sets, are_family_lists}
+use Rattle.std.proofs.Math.Numerals.{one-add}
 use Rattle.std.proofs.lemmas.List.Elements.{filter-append}
-use Rattle.std.proofs.lemmas.List.Folds.{list_all-append, list_all-map}
 use Rattle.std.proofs.lemmas.List.Sums.{sum_by-cons, fold-append, sum_by_push}
-use Rattle.std.specs.List.{list_all, filter, slice_split, onto_first, sum_by, prefix_len, take_while}
-use Rattle.std.specs.Prelude.{not, ◌&&◌, ◌||◌, nat_le, nat_abs, nat_lt, slice_index}
-use Rattle.tsp_format.specs.Limits.{most_nodes, most_tour_nodes, most_combs, most_comb_nodes, most_line_bytes, most_file_bytes}
-use Rattle.tsp_format.specs.Words.{is_blank, is_letter, is_keyword_byte}
-use Rattle.tsp_format.specs.declared.keyword.Field.TheVariants.{TourPart, CombPart}
-use Rattle.tsp_file.specs.Validity.{is_node, is_node_list, are_tours, is_set_of, are_sets, are_combs}
 use Rattle.tsp_text.proofs.ValidKeywords.{read_listed, first_of_both, all_pass}
 use Rattle.tsp_text.proofs.ValidRows.{is_taken, Grows, grown}
 use Rattle.tsp_text.specs.Earlier.{words_of, dimension_in}
-use Rattle.tsp_text.specs.FaultRows.{word_fault, is_past_combs}
-use Rattle.tsp_text.specs.Groups.{CombsSoFar, no_combs, comb_node, with_end, with_comb_word, combs_after, whole_combs, has_begun_comb, place_in_combs}
+use Rattle.tsp_text.specs.FaultRows.{word_fault, is_past_families}
+use Rattle.tsp_text.specs.Groups.{FamiliesSoFar, no_families, family_node, with_end, with_family_word, families_after, whole_families, has_begun_family, place_in_families}
 use Rattle.tsp_text.specs.Items.{is_not_empty, Item, ends_line, lines_of, words_in, without_start, without_end, begins, is_word_line, keyword_in, after_keyword, has_colon, value_in, NumberWord, LineEnd, line_item, items_in, items_by, items_of, settled_words, settled_in, settled_items, is_end_line, to_end_line, has_no_line_end, IsCut, AreCut}
 use Rattle.tsp_text.specs.SectionWords.{number, TourNode, ends_tour, tour_node, tours_in, is_end, SetNode, PastEnd}
 use Rattle.tsp_text.specs.ParsesTo.{IsClean, part, is_too_long}
@@ -138,33 +128,33 @@ tours_fit items clean =
     (filled_runs pieces (pieces_pass ends_tour is_tour_node words held.nodes))
     (ap (λ k. nat_le k most_tour_nodes) (runs_long pieces ∙ pieces_long ends_tour words) ∙ held.few)
 
--- ---- the combs of a section without a fault: no more than may be, each of sets of nodes
+-- ---- the families of a section without a fault: no more than may be, each of sets of nodes
 
--- whole combs, and the sets and nodes of one that has begun, are valid, with the comb within the limit
-pub record CombsHold (n : ℕ) (combs : List (List (List ℕ))) (sets : List (List ℕ)) (nodes : List ℕ) (count : ℕ) : Type 0 where
-  pub all_combs : list_all (are_sets n) combs ≡ true
+-- whole families, and the sets and nodes of one that has begun, are valid, with the family within the limit
+pub record FamiliesHold (n : ℕ) (families : List (List (List ℕ))) (sets : List (List ℕ)) (nodes : List ℕ) (count : ℕ) : Type 0 where
+  pub all_families : list_all (are_sets n) families ≡ true
   pub all_sets : list_all (is_set_of n) sets ≡ true
   pub all_nodes : list_all (is_node n) nodes ≡ true
-  pub few : length combs ≤ most_combs
-  pub room : (is_not_empty nodes || is_not_empty sets) ≡ true → length combs < most_combs
-  pub total : sum_by (sum_by length) combs + sum_by length sets + length nodes ≡ count
-  pub few_nodes : count ≤ most_comb_nodes
+  pub few : length families ≤ most_families
+  pub room : (is_not_empty nodes || is_not_empty sets) ≡ true → length families < most_families
+  pub total : sum_by (sum_by length) families + sum_by length sets + length nodes ≡ count
+  pub few_nodes : count ≤ most_family_nodes
 
-abbrev AreSoFar : ℕ → CombsSoFar → Type 0
-AreSoFar n s = CombsHold n s.combs s.sets s.nodes s.count
+abbrev AreSoFar : ℕ → FamiliesSoFar → Type 0
+AreSoFar n s = FamiliesHold n s.families s.sets s.nodes s.count
 
-all_push : {A : Type 0} (test : A → Bool) (xs : List A) (x : A) → list_all test xs ≡ true → test x ≡ true
+pub all_push : {A : Type 0} (test : A → Bool) (xs : List A) (x : A) → list_all test xs ≡ true → test x ≡ true
     → list_all test (xs ++ x ∷ []) ≡ true
 all_push test xs x held passes =
     list_all-append test xs (x ∷ []) ∙ and_from (list_all test xs) (test x && true) held (and_from (test x) true passes refl)
 
 -- ---- a -1
 
-end_holds : (n : ℕ) (combs : List (List (List ℕ))) (sets : List (List ℕ)) (nodes : List ℕ) (count : ℕ)
-    → CombsHold n combs sets nodes count
-    → AreSoFar n (with_end (record { combs = combs; sets = sets; nodes = nodes; count = count; ended = false }))
-end_holds n combs sets (k ∷ nodes) count h = record {
-  all_combs = h.all_combs;
+end_holds : (n : ℕ) (families : List (List (List ℕ))) (sets : List (List ℕ)) (nodes : List ℕ) (count : ℕ)
+    → FamiliesHold n families sets nodes count
+    → AreSoFar n (with_end (record { families = families; sets = sets; nodes = nodes; count = count; ended = false }))
+end_holds n families sets (k ∷ nodes) count h = record {
+  all_families = h.all_families;
   all_sets = all_push (is_set_of n) sets (k ∷ nodes) h.all_sets
       (and_from (nat_le 1 (length (k ∷ nodes))) (list_all (is_node n) (k ∷ nodes)) (le-leb 1 (length (k ∷ nodes)) (omega arith)) h.all_nodes);
   all_nodes = refl;
@@ -173,41 +163,41 @@ end_holds n combs sets (k ∷ nodes) count h = record {
   total = omega (arith, h.total, sum_by_push (λ (set : List ℕ). length set) sets (k ∷ nodes));
   few_nodes = h.few_nodes;
 }
-end_holds n combs (set ∷ sets) [] count h = record {
-  all_combs = all_push (are_sets n) combs (set ∷ sets) h.all_combs
+end_holds n families (set ∷ sets) [] count h = record {
+  all_families = all_push (are_sets n) families (set ∷ sets) h.all_families
       (and_from (nat_le 1 (length (set ∷ sets))) (list_all (is_set_of n) (set ∷ sets)) (le-leb 1 (length (set ∷ sets)) (omega arith)) h.all_sets);
   all_sets = refl;
   all_nodes = refl;
-  few = omega (arith, h.room refl, length_push combs (set ∷ sets));
+  few = omega (arith, h.room refl, length_push families (set ∷ sets));
   room = λ begun. absurd (false≢true begun);
-  total = omega (arith, h.total, sum_by_push (λ (comb : List (List ℕ)). sum_by length comb) combs (set ∷ sets));
+  total = omega (arith, h.total, sum_by_push (λ (family : List (List ℕ)). sum_by length family) families (set ∷ sets));
   few_nodes = h.few_nodes;
 }
-end_holds n combs [] [] count h = h
+end_holds n families [] [] count h = h
 
 -- ---- a node
 
--- its comb is within the limit
-has_room : (begun : Bool) (combs count : ℕ) → is_past_combs begun combs count ≡ false → (begun ≡ true → combs < most_combs)
-    → (count < most_comb_nodes) × (combs < most_combs)
-has_room begun combs count room other = by_count (nat_le most_comb_nodes count) refl room
+-- its family is within the limit
+has_room : (begun : Bool) (families count : ℕ) → is_past_families begun families count ≡ false → (begun ≡ true → families < most_families)
+    → (count < most_family_nodes) × (families < most_families)
+has_room begun families count room other = by_count (nat_le most_family_nodes count) refl room
   where
-    by_begun : (b over : Bool) → begun ≡ b → nat_le most_combs combs ≡ over → (not b && over) ≡ false → combs < most_combs
+    by_begun : (b over : Bool) → begun ≡ b → nat_le most_families families ≡ over → (not b && over) ≡ false → families < most_families
     by_begun true over is e none = other is
     by_begun false true is e none = absurd (true≢false none)
-    by_begun false false is e none = leb-false most_combs combs e
+    by_begun false false is e none = leb-false most_families families e
 
-    by_count : (over : Bool) → nat_le most_comb_nodes count ≡ over → (over || (not begun && nat_le most_combs combs)) ≡ false
-        → (count < most_comb_nodes) × (combs < most_combs)
+    by_count : (over : Bool) → nat_le most_family_nodes count ≡ over → (over || (not begun && nat_le most_families families)) ≡ false
+        → (count < most_family_nodes) × (families < most_families)
     by_count true e none = absurd (true≢false none)
-    by_count false e none = (leb-false most_comb_nodes count e, by_begun begun (nat_le most_combs combs) refl refl none)
+    by_count false e none = (leb-false most_family_nodes count e, by_begun begun (nat_le most_families families) refl refl none)
 
-node_holds : (n : ℕ) (combs : List (List (List ℕ))) (sets : List (List ℕ)) (nodes : List ℕ) (count node : ℕ)
-    → CombsHold n combs sets nodes count
-    → is_node n node ≡ true → count < most_comb_nodes → length combs < most_combs
-    → CombsHold n combs sets (nodes ++ node ∷ []) (count + 1)
-node_holds n combs sets nodes count node h passes few room = record {
-  all_combs = h.all_combs;
+node_holds : (n : ℕ) (families : List (List (List ℕ))) (sets : List (List ℕ)) (nodes : List ℕ) (count node : ℕ)
+    → FamiliesHold n families sets nodes count
+    → is_node n node ≡ true → count < most_family_nodes → length families < most_families
+    → FamiliesHold n families sets (nodes ++ node ∷ []) (count + 1)
+node_holds n families sets nodes count node h passes few room = record {
+  all_families = h.all_families;
   all_sets = h.all_sets;
   all_nodes = all_push (is_node n) nodes node h.all_nodes passes;
   few = h.few;
@@ -218,25 +208,25 @@ node_holds n combs sets nodes count node h passes few room = record {
 
 -- ---- one word more
 
-word_holds : (n : ℕ) (s : CombsSoFar) (word : List ℕ) (ended end : Bool) → s.ended ≡ ended → is_end n word ≡ end
-    → word_fault n (place_in_combs s) word ≡ None
-    → AreSoFar n s → AreSoFar n (with_comb_word n s word)
+word_holds : (n : ℕ) (s : FamiliesSoFar) (word : List ℕ) (ended end : Bool) → s.ended ≡ ended → is_end n word ≡ end
+    → word_fault n (place_in_families s) word ≡ None
+    → AreSoFar n s → AreSoFar n (with_family_word n s word)
 word_holds n s word true end e is row h = rw e h
-word_holds n s word false true e is row h = rw (e, is) (end_holds n s.combs s.sets s.nodes s.count h)
+word_holds n s word false true e is row h = rw (e, is) (end_holds n s.families s.sets s.nodes s.count h)
 word_holds n s word false false e is row h =
-    let begun = has_begun_comb s in
-    let place = SetNode begun (length s.combs) s.count in
+    let begun = has_begun_family s in
+    let place = SetNode begun (length s.families) s.count in
     let t = is_taken n place word (subst (λ (b : Bool). word_fault n (cond b PastEnd place) word ≡ None) e row) in
     let found = read_listed n word t.is_read is in
-    let node : is_node n (comb_node n word) ≡ true = ap (λ r. is_node n (nat_abs (number r))) found.1 ∙ found.2 in
-    let past = first_of_both (is_past_combs begun (length s.combs) s.count) (is_end n word) t.has_room is in
-    let room = has_room begun (length s.combs) s.count past h.room in
-    rw (e, is) (node_holds n s.combs s.sets s.nodes s.count (comb_node n word) h node room.0 room.1)
+    let node : is_node n (family_node n word) ≡ true = ap (λ r. is_node n (nat_abs (number r))) found.1 ∙ found.2 in
+    let past = first_of_both (is_past_families begun (length s.families) s.count) (is_end n word) t.has_room is in
+    let room = has_room begun (length s.families) s.count past h.room in
+    rw (e, is) (node_holds n s.families s.sets s.nodes s.count (family_node n word) h node room.0 room.1)
 
-all_combs_taken : Grows false CombPart (λ n words. AreSoFar n (combs_after n words))
-all_combs_taken = record {
+all_families_taken : Grows false FamilyPart (λ n words. AreSoFar n (families_after n words))
+all_families_taken = record {
   none = λ n. record {
-    all_combs = refl;
+    all_families = refl;
     all_sets = refl;
     all_nodes = refl;
     few = omega arith;
@@ -245,20 +235,20 @@ all_combs_taken = record {
     few_nodes = omega arith;
   };
   more = λ b same n words word held row.
-      let s = combs_after n words in
-      subst (AreSoFar n) (sym (fold-append (with_comb_word n) no_combs words (word ∷ []))) (word_holds n s word s.ended (is_end n word) refl refl row held);
+      let s = families_after n words in
+      subst (AreSoFar n) (sym (fold-append (with_family_word n) no_families words (word ∷ []))) (word_holds n s word s.ended (is_end n word) refl refl row held);
   any_nodes = λ n m words tours held. absurd (false≢true tours);
 }
 
-pub combs_fit : (items : List Item) → IsClean items
-    → are_combs (dimension_in items) (whole_combs (dimension_in items) (words_of CombPart items)) ≡ true
-combs_fit items clean =
+pub families_fit : (items : List Item) → IsClean items
+    → are_family_lists (dimension_in items) (whole_families (dimension_in items) (words_of FamilyPart items)) ≡ true
+families_fit items clean =
     let n = dimension_in items in
-    let combs = whole_combs n (words_of CombPart items) in
-    let h : AreSoFar n (combs_after n (words_of CombPart items)) = grown CombPart (λ n words. AreSoFar n (combs_after n words)) refl all_combs_taken items clean in
-    and_from (nat_le (length combs) most_combs && list_all (are_sets n) combs) (nat_le (sum_by (sum_by length) combs) most_comb_nodes)
-    (and_from (nat_le (length combs) most_combs) (list_all (are_sets n) combs) (le-leb (length combs) most_combs h.few) h.all_combs)
-    (le-leb (sum_by (sum_by length) combs) most_comb_nodes (omega (arith, h.total, h.few_nodes)))
+    let families = whole_families n (words_of FamilyPart items) in
+    let h : AreSoFar n (families_after n (words_of FamilyPart items)) = grown FamilyPart (λ n words. AreSoFar n (families_after n words)) refl all_families_taken items clean in
+    and_from (nat_le (length families) most_families && list_all (are_sets n) families) (nat_le (sum_by (sum_by length) families) most_family_nodes)
+    (and_from (nat_le (length families) most_families) (list_all (are_sets n) families) (le-leb (length families) most_families h.few) h.all_families)
+    (le-leb (sum_by (sum_by length) families) most_family_nodes (omega (arith, h.total, h.few_nodes)))
 
 -- ---- the items of a text are cut from it: keywords begin with a letter
 
@@ -276,15 +266,12 @@ reverse_passes test (x ∷ xs) all =
     ap (list_all test) (reverse-append (x ∷ []) xs) ∙ list_all-append test (reverse xs) (x ∷ [])
     ∙ and_from (list_all test (reverse xs)) (test x && true) (reverse_passes test xs both.1) (and_from (test x) true both.0 refl)
 
-one_more : (n : ℕ) → 1 + n ≡ suc n
-one_more n = omega arith
-
 while_passes : {A : Type 0} (test : A → Bool) (xs : List A) → list_all test (take_while test xs) ≡ true
 while_passes test [] = refl
 while_passes {A} test (x ∷ xs) = by_case (test x) refl (while_passes test xs)
   where
     by_case : (b : Bool) → test x ≡ b → list_all test (take_while test xs) ≡ true → list_all test (take (cond b (1 + prefix_len test xs) 0) (x ∷ xs)) ≡ true
-    by_case true e later = ap (λ n. list_all test (take n (x ∷ xs))) (one_more (prefix_len test xs)) ∙ and_from (test x) (list_all test (take_while test xs)) e later
+    by_case true e later = ap (λ n. list_all test (take n (x ∷ xs))) (one-add (prefix_len test xs)) ∙ and_from (test x) (list_all test (take_while test xs)) e later
     by_case false e later = refl
 
 -- ---- keywords
@@ -294,7 +281,7 @@ letter_in_keyword b e = grind (arith, nat_tests)
 
 first_kept : (b : ℕ) (bytes : List ℕ) (k : Bool) → is_keyword_byte b ≡ k → k ≡ true
     → get_or (take (cond k (1 + prefix_len is_keyword_byte bytes) 0) (b ∷ bytes)) 0 0 ≡ b
-first_kept b bytes true e is = ap (λ n. get_or (take n (b ∷ bytes)) 0 0) (one_more (prefix_len is_keyword_byte bytes))
+first_kept b bytes true e is = ap (λ n. get_or (take n (b ∷ bytes)) 0 0) (one-add (prefix_len is_keyword_byte bytes))
 first_kept b bytes false e is = absurd (false≢true is)
 
 letter_first : (text : List ℕ) → begins is_letter text ≡ true → is_letter (slice_index (keyword_in text) 0) ≡ true
@@ -310,7 +297,7 @@ start_filled (b ∷ bytes) = by_case (is_blank b) refl (start_filled bytes)
   where
     by_case : (blank : Bool) → is_blank b ≡ blank → is_blank (slice_index (without_start bytes) 0) ≡ false
         → is_blank (slice_index (drop (cond blank (1 + prefix_len is_blank bytes) 0) (b ∷ bytes)) 0) ≡ false
-    by_case true e later = ap (λ n. is_blank (slice_index (drop n (b ∷ bytes)) 0)) (one_more (prefix_len is_blank bytes)) ∙ later
+    by_case true e later = ap (λ n. is_blank (slice_index (drop n (b ∷ bytes)) 0)) (one-add (prefix_len is_blank bytes)) ∙ later
     by_case false e later = e
 
 -- no blank is left at the end

@@ -1,40 +1,26 @@
 -- The fields of cut items without a fault are valid, field by field.
-use Rattle.std.proofs.Common.{◌≡◌, ℕ, Bool, true, false, cond, List, [], ◌∷◌, refl, sym, ap, subst, ◌∙◌, Option, Some, None, ◌++◌, length, arith, ◌*◌}
-use Rattle.std.proofs.lemmas.Bool.{false≢true, and_from, true≢false, le-leb, leb-false, ltb-false}
-use Rattle.std.proofs.lemmas.List.{length-map, length_push}
-use Rattle.std.proofs.lemmas.List.Folds.{list_all-map}
-use Rattle.std.specs.List.{list_any, list_all, find}
-use Rattle.std.specs.Option.{option_or, option_map}
-use Rattle.std.specs.Prelude.{pos, ◌&&◌, nat_le, nat_lt, neg_ℤ, not, ◌||◌}
+use Rattle.tsp_text.proofs.Prelude.{◌≡◌, ℕ, Bool, true, false, cond, List, [], ◌∷◌, refl, sym, ap, subst, ◌∙◌, Option, Some, None, ◌++◌, length, arith, ◌*◌, false≢true, and_from, true≢false, le-leb, leb-false, ltb-false, length-map, length_push, list_all-map, list_any, list_all, find, option_or, option_map, pos, ◌&&◌, nat_le, nat_lt, neg_ℤ, not, ◌||◌, is_section_field, most_multiplier, most_matrix_nodes, most_weight, most_demand, most_potential, fields_in_order, Field, DimensionKey, TourPart, FixedEdgePotentialPart, EdgeWeightPart, NameKey, TypeKey, CommentKey, OtherKey, CapacityKey, ScaleKey, LoadUnitKey, EdgeWeightTypeKey, EdgeWeightFormatKey, NodeCoordTypeKey, DisplayDataTypeKey, NodeCoordPart, DisplayDataPart, DemandPart, DepotPart, FixedEdgesPart, NodePotentialPart, RowPotentialPart, ColumnPotentialPart, FamilyPart, BranchPart, Known, EdgeDataFormat, EdgeDataSection, Eof, Unknown, if_there, with_dimension, is_from_to, is_pair_of, is_triple_of, are_triples, is_within, fit_matrix, is_by_node, is_point, is_demand, are_depots, are_fixed, are_tours, are_family_lists, are_tree_steps, fits, first_failing, bad_field}
 use Rattle.tsp_number.specs.NumberWord.{whole_of}
-use Rattle.tsp_format.specs.Limits.{is_section_field, most_multiplier, most_matrix_nodes, most_weight, most_demand, most_potential}
-use Rattle.tsp_format.specs.Words.{fields_in_order}
-use Rattle.tsp_format.specs.declared.keyword.Field.{Field}
-use Rattle.tsp_format.specs.declared.keyword.Field.TheVariants.{DimensionKey, TourPart, FixedEdgePotentialPart, EdgeWeightPart, NameKey, TypeKey, CommentKey, OtherKey, CapacityKey, ScaleKey, LoadUnitKey, EdgeWeightTypeKey, EdgeWeightFormatKey, NodeCoordTypeKey, DisplayDataTypeKey, NodeCoordPart, DisplayDataPart, DemandPart, DepotPart, FixedEdgesPart, NodePotentialPart, RowPotentialPart, ColumnPotentialPart, CombPart, BranchPart}
-use Rattle.tsp_format.specs.declared.keyword.Keyword.TheVariants.{Known, EdgeDataFormat, EdgeDataSection, Eof, Unknown}
+use Rattle.tsp_format.proofs.Basics.{none_map, and_right_from}
+use Rattle.tsp_file.proofs.FileFields.{none_fails}
 use Rattle.tsp_file.proofs.ValidFields.{nodes_fit}
 use Rattle.tsp_file.specs.Fields.{Fields}
 use Rattle.tsp_file.specs.Rules.{standing_of, is_there, asked_in_order, format_or_count, end_fault, fault_of}
-use Rattle.tsp_file.specs.Validity.{if_there, with_dimension, is_from_to, is_pair_of, is_triple_of, are_triples, is_within, fit_matrix, is_by_node, is_point, is_demand, are_depots, are_fixed, are_tours, are_combs, are_tree_steps, fits, first_failing, bad_field}
 use Rattle.tsp_file.specs.declared.rules.DraftFault.TheVariants.{BadField, Rule}
 use Rattle.tsp_file.specs.declared.rules.EndFault.{EndFault}
 use Rattle.tsp_file.specs.declared.rules.EndFault.TheVariants.{Missing, Incomplete}
 use Rattle.tsp_text.proofs.GroupWords.{Words, begun_short, AreListed, valid_pair, past_end, begins, middle, group_fits, fixed_fit}
-use Rattle.tsp_text.proofs.ValidCuts.{part_cut, tours_fit, combs_fit}
+use Rattle.tsp_text.proofs.ValidCuts.{part_cut, tours_fit, families_fit}
 use Rattle.tsp_text.proofs.ValidKeywords.{whole_passes, all_pass, name_fits, comments_fit, others_fit, dimension_fits, capacity_fits, scale_fits, load_unit_fits, numbers_fit, points_fit, coords_fit, depots_fit}
-use Rattle.tsp_text.proofs.ValidRows.{clean_parts, no_row, same_field_is, late, dimension_there, is_taken, Grows, grown, nodes_kept, none_applies, map_none}
+use Rattle.tsp_text.proofs.ValidRows.{clean_parts, no_row, same_field_is, late, dimension_there, is_taken, Grows, grown, nodes_kept, none_applies, still_stands}
 use Rattle.tsp_text.proofs.ValidTree.{steps_fit}
 use Rattle.tsp_text.specs.Earlier.{same_field, has_line, words_of, dimension_of, dimension_in, spatial_after}
 use Rattle.tsp_text.specs.FaultRows.{is_early, word_fault, row_of, when}
-use Rattle.tsp_text.specs.Groups.{groups_in, begun_in, firsts_in, fixed_pair, fixed_triple, fixed_triples_in, place_in_triple, points_by_node, coords_by_node, depots_in, fixed_in, whole_combs}
+use Rattle.tsp_text.specs.Groups.{groups_in, begun_in, firsts_in, fixed_pair, fixed_triple, fixed_triples_in, place_in_triple, points_by_node, coords_by_node, depots_in, fixed_in, whole_families}
 use Rattle.tsp_text.specs.Items.{WordLine, Item, Line, NumberWord, LineEnd, has_end_line, AreCut}
 use Rattle.tsp_text.specs.SectionWords.{number, node_or_end, is_end, SecondOf, PastEnd, whole_of_size, Weight, PastWeights, weights_in, tours_in, whole_steps, place_of_step}
 use Rattle.tsp_text.specs.ParsesTo.{IsClean, section_value, stands, fault_in, potentials_by_node, demands_in, spelled, wants_more, is_incomplete, sections_in_order, first_incomplete, fault_at_end, is_too_long, part, ParsesTo}
 use Rattle.tsp_text.specs.declared.fault.ReadFault.TheVariants as faults
-
-still : (key dimension : Bool) → dimension ≡ true → cond key true dimension ≡ true
-still true dimension e = refl
-still false dimension e = e
 
 late_line : (field f : Field) (line : WordLine) (earlier : List Item) (b : Bool) → same_field field f ≡ b
     → is_section_field field ≡ true → same_field TourPart field ≡ false
@@ -42,13 +28,13 @@ late_line : (field f : Field) (line : WordLine) (earlier : List Item) (b : Bool)
     → cond b true (has_line field earlier) ≡ true
     → has_line DimensionKey (Line (Known f) line ∷ earlier) ≡ true
 late_line field f line earlier false e section_value other in_time before stands =
-    still (same_field DimensionKey f) (has_line DimensionKey earlier) (before stands)
+    still_stands (same_field DimensionKey f) (has_line DimensionKey earlier) (before stands)
 late_line field f line earlier true e section_value other in_time before stands =
     let same = same_field_is field f e in
     late (is_section_field f) (same_field TourPart f) (has_line DimensionKey earlier) (same_field DimensionKey f)
     (ap is_section_field (sym same) ∙ section_value) (ap (same_field TourPart) (sym same) ∙ other) in_time
 
-stands_late : (field : Field) → is_section_field field ≡ true → same_field TourPart field ≡ false → (items : List Item)
+pub stands_late : (field : Field) → is_section_field field ≡ true → same_field TourPart field ≡ false → (items : List Item)
     → IsClean items
     → has_line field items ≡ true → has_line DimensionKey items ≡ true
 stands_late field section_value other [] clean stands = absurd (false≢true stands)
@@ -67,11 +53,6 @@ stands_late field section_value other (Line Eof line ∷ earlier) clean stands =
     stands_late field section_value other earlier (clean_parts earlier (Line Eof line) clean).0 stands
 stands_late field section_value other (Line Unknown line ∷ earlier) clean stands =
     stands_late field section_value other earlier (clean_parts earlier (Line Unknown line) clean).0 stands
-
-pub after_dimension : (field : Field) → is_section_field field ≡ true → same_field TourPart field ≡ false → (items : List Item)
-    → IsClean items
-    → has_line field items ≡ true → has_line DimensionKey items ≡ true
-after_dimension field section_value other items clean stands = stands_late field section_value other items clean stands
 
 -- a section is valid where its value fits that number of nodes
 standing_fits : {A : Type 0} (fits : ℕ → A → Bool) (value : List (List ℕ) → A) (words : List (List ℕ)) (n : ℕ) (dimension : Option ℕ) (b : Bool)
@@ -149,7 +130,7 @@ few_at : (f : Field) (line : WordLine) (earlier : List Item) (b : Bool) → same
     → cond b true (has_line EdgeWeightPart earlier) ≡ true
     → nat_le (dimension_in (Line (Known f) line ∷ earlier)) most_matrix_nodes ≡ true
 few_at f line earlier false e clean row before stands =
-    let kept = nodes_kept earlier (Line (Known f) line) (after_dimension EdgeWeightPart refl refl earlier clean stands) row in
+    let kept = nodes_kept earlier (Line (Known f) line) (stands_late EdgeWeightPart refl refl earlier clean stands) row in
     ap (λ n. nat_le n most_matrix_nodes) kept ∙ before stands
 few_at f line earlier true e clean row before stands =
     let same = same_field_is EdgeWeightPart f e in
@@ -199,11 +180,6 @@ tours_there items false clean = refl
 potentials_fit : (n : ℕ) (words : List (List ℕ)) → is_by_node (is_within most_potential) n (potentials_by_node n words) ≡ true
 potentials_fit n words = numbers_fit (neg_ℤ (pos most_potential)) (pos most_potential) n words refl
 
--- a section that isn't incomplete wants no more words
-wants_none : (stands wants : Bool) → stands ≡ true → (stands && wants) ≡ false → wants ≡ false
-wants_none true wants e whole = whole
-wants_none false wants e whole = absurd (false≢true e)
-
 -- each field by itself, if the tree, where there is one, is whole
 -- plan: by the field: each has its lemma, `name_fits` to `steps_fit`
 pub each_fits : (items : List Item) → AreCut items → IsClean items → is_incomplete items BranchPart ≡ false → (field : Field)
@@ -248,17 +224,11 @@ each_fits items cut clean whole ColumnPotentialPart =
     refl items clean (λ there. potentials_fit (dimension_in items) (words_of ColumnPotentialPart items))
 each_fits items cut clean whole FixedEdgePotentialPart =
     section_fits are_triples (fixed_triples_in (dimension_in items)) FixedEdgePotentialPart refl refl items clean (λ there. triples_fit items clean)
-each_fits items cut clean whole CombPart =
-    section_fits are_combs (whole_combs (dimension_in items)) CombPart refl refl items clean (λ there. combs_fit items clean)
+each_fits items cut clean whole FamilyPart =
+    section_fits are_family_lists (whole_families (dimension_in items)) FamilyPart refl refl items clean (λ there. families_fit items clean)
 each_fits items cut clean whole BranchPart =
     section_fits are_tree_steps (whole_steps (dimension_in items)) BranchPart refl refl items clean
-    (λ there. steps_fit items clean (wants_none (has_line BranchPart items) (wants_more (place_of_step (dimension_in items) (words_of BranchPart items))) there whole))
-
-none_fails : (test : Field → Bool) (fields : List Field) → ((field : Field) → test field ≡ true)
-    → first_failing test fields ≡ None
-none_fails test [] each = refl
-none_fails test (field ∷ fields) each =
-    ap (λ b. cond (not b) (Some field) (first_failing test fields)) (each field) ∙ none_fails test fields each
+    (λ there. steps_fit items clean (and_right_from (has_line BranchPart items) (wants_more (place_of_step (dimension_in items) (words_of BranchPart items))) there whole))
 
 pub none_bad : (items : List Item) → AreCut items → IsClean items → is_incomplete items BranchPart ≡ false
     → bad_field (spelled items) ≡ None
@@ -315,5 +285,5 @@ pub spelled_file : (bytes : List ℕ) (file : Fields) → ParsesTo bytes file �
 spelled_file bytes file parses_to =
     let rows = none_applies (fault_in (part bytes) ∷ when (is_too_long bytes && not (has_end_line (part bytes))) faults.TooLong
     ∷ option_map (λ fault. faults.End fault) (fault_at_end (part bytes)) ∷ []) parses_to.no_fault in
-    let ended = map_none (λ fault. faults.End fault) (fault_at_end (part bytes)) rows.1.1.0 in
+    let ended = none_map (λ fault. faults.End fault) (fault_at_end (part bytes)) rows.1.1.0 in
     ap fault_of parses_to.fields ∙ is_file (part bytes) (part_cut bytes) rows.0 ended

@@ -1,32 +1,18 @@
 -- The keywords of items without a fault are valid, as are numbers, lists and depots.
-use Rattle.std.proofs.Common.{◌≡◌, Bool, true, false, ◌||◌, ◌&&◌, cond, List, [], ◌∷◌, ◌++◌, refl, ap, ◌∙◌, ℕ, length, arith, suc, zero, ◌*◌, ◌≤◌, map, sym, subst, Option, Some, None, Result, Ok, Err, ◌+◌}
-use Rattle.std.proofs.Math.ListN.{take}
-use Rattle.std.proofs.lemmas.Bool.{true≢false, and_from, and_parts, le-leb, leb-false, false≢true, leb-true, eq-eqb, ne_eqb, ltb-false, not_from_false}
-use Rattle.std.proofs.lemmas.Bool.Decides.{Decides-int_eq}
-use Rattle.std.proofs.lemmas.List.{length_push, length-map, map_push}
-use Rattle.std.proofs.lemmas.List.Folds.{list_any-append, list_all-append, list_all-map}
+use Rattle.tsp_text.proofs.Prelude.{◌≡◌, Bool, true, false, ◌||◌, ◌&&◌, cond, List, [], ◌∷◌, ◌++◌, refl, ap, ◌∙◌, ℕ, length, arith, suc, zero, ◌*◌, ◌≤◌, map, sym, subst, Option, Some, None, Result, Ok, Err, ◌+◌, take, true≢false, and_from, and_parts, le-leb, leb-false, false≢true, leb-true, eq-eqb, ne_eqb, ltb-false, not_from_false, Decides-int_eq, length_push, length-map, map_push, list_any-append, list_all-append, list_all-map, list_any, list_all, option_map, option_and_then, not, nat_le, ◌==◌, ℤ, pos, negsuc, neg_ℤ, unwrap_or, unsigned_abs, int_le, if◌then◌else◌, nat_abs, ◌-◌, codes, slice_index, result_err, result_ok, most_coordinate, most_depots, is_other_key, field_of, known_or_not, keyword_of, is_unknown, most_nodes, most_capacity, most_scale, most_load_unit, most_kept_bytes, most_comments, most_others, is_blank, is_letter, is_keyword_byte, field_word, fields_in_order, Field, DepotPart, NameKey, CommentKey, DimensionKey, CapacityKey, ScaleKey, LoadUnitKey, FixedEdgesPart, Known, EdgeDataFormat, EdgeDataSection, Eof, Unknown, is_from_to, is_within, is_node, is_by_node, is_point, are_depots, if_there, is_kept, is_unknown_keyword, is_other, are_comments, are_others}
+use Rattle.std.proofs.Math.Bool.{or-false}
 use Rattle.std.proofs.lemmas.List.FromFn.{length-range_with_len}
-use Rattle.std.proofs.lemmas.Option.{none-some, same_Some}
 use Rattle.std.proofs.lemmas.Slice.Eq.{bytes_eq-Decides}
-use Rattle.std.specs.List.{list_any, list_all, find}
-use Rattle.std.specs.Option.{option_map, option_and_then}
 use Rattle.std.specs.Ordering.{int_eq}
-use Rattle.std.specs.Prelude.{not, nat_le, ◌==◌, ℤ, pos, negsuc, neg_ℤ, unwrap_or, unsigned_abs, int_le, if◌then◌else◌, nat_abs, ◌-◌, codes, slice_index}
-use Rattle.std.specs.Result.{result_err, result_ok}
 use Rattle.std.specs.Str.{bytes_eq}
 use Rattle.tsp_number.specs.Decimal.{most_count}
 use Rattle.tsp_number.specs.NumberWord.{Numeral, numeral_in, number_in, decimal_within, decimal_from, decimal_of, whole_within, whole_from, whole_of}
 use Rattle.tsp_number.specs.declared.word.NumberFault.{NumberFault}
 use Rattle.tsp_number.specs.declared.word.NumberFault.TheVariants.{LongWord, OutOfRange}
-use Rattle.tsp_format.specs.Limits.{most_coordinate, most_depots, is_other_key, field_of, known_or_not, keyword_of, is_unknown, most_nodes, most_capacity, most_scale, most_load_unit, most_kept_bytes, most_comments, most_others}
+use Rattle.tsp_format.proofs.Pairs.{found_passes}
 use Rattle.tsp_format.specs.Nodes.{nodes_to}
-use Rattle.tsp_format.specs.Words.{is_blank, is_letter, is_keyword_byte, field_word, fields_in_order}
-use Rattle.tsp_format.specs.declared.keyword.Field.{Field}
-use Rattle.tsp_format.specs.declared.keyword.Field.TheVariants.{DepotPart, NameKey, CommentKey, DimensionKey, CapacityKey, ScaleKey, LoadUnitKey, FixedEdgesPart}
 use Rattle.tsp_format.specs.declared.keyword.Keyword.{Keyword}
-use Rattle.tsp_format.specs.declared.keyword.Keyword.TheVariants.{Known, EdgeDataFormat, EdgeDataSection, Eof, Unknown}
 use Rattle.tsp_file.specs.Cost.{origin}
-use Rattle.tsp_file.specs.Validity.{is_from_to, is_within, is_node, is_by_node, is_point, are_depots, if_there, is_kept, is_unknown_keyword, is_other, are_comments, are_others}
 use Rattle.tsp_text.proofs.ValidRows.{is_taken, Grows, grown, clean_parts, no_row, same_field_is}
 use Rattle.tsp_text.specs.Earlier.{words_of, dimension_in, same_field, is_key, value_at, values_at, others_in, number_at, dimension_of}
 use Rattle.tsp_text.specs.FaultRows.{word_fault, is_too_long_to_keep, has_bad_value, row_of}
@@ -35,21 +21,13 @@ use Rattle.tsp_text.specs.Items.{Item, first_word, WordLine, Line, NumberWord, L
 use Rattle.tsp_text.specs.SectionWords.{number, reads_as, node, not_zero, node_or_end, is_end, DepotAfter, PastEnd}
 use Rattle.tsp_text.specs.ParsesTo.{IsClean}
 
-pub and_false : (b : Bool) → (b && false) ≡ false
-and_false true = refl
-and_false false = refl
-
 -- ---- whether one passes
 
 pub any_kept : {A : Type 0} (p : A → Bool) (xs : List A) (x : A) → list_any p xs ≡ true → list_any p (xs ++ x ∷ []) ≡ true
 any_kept p xs x any = list_any-append p xs (x ∷ []) ∙ rw any refl
 
-or_false : (b : Bool) → (b || false) ≡ b
-or_false true = refl
-or_false false = refl
-
 pub any_push : {A : Type 0} (p : A → Bool) (xs : List A) (x : A) → list_any p xs ≡ false → list_any p (xs ++ x ∷ []) ≡ p x
-any_push p xs x any = list_any-append p xs (x ∷ []) ∙ rw any (or_false (p x))
+any_push p xs x any = list_any-append p xs (x ∷ []) ∙ rw any (or-false (p x))
 
 -- ---- the part before it
 
@@ -325,14 +303,6 @@ depots_fit items clean = grown DepotPart AreListed refl all_taken items clean
 -- ---- the keywords of clean items are valid
 
 -- ---- the keyword's word
-
-found_passes : {V : Type 0} (test : V → Bool) (values : List V) (value : V) → find test values ≡ Some value → test value ≡ true
-found_passes test [] value e = absurd (none-some value e)
-found_passes {V} test (first ∷ values) value e = by_case (test first) refl e (found_passes test values value)
-  where
-    by_case : (b : Bool) → test first ≡ b → cond b (Some first) (find test values) ≡ Some value → (find test values ≡ Some value → test value ≡ true) → test value ≡ true
-    by_case true passes e later = subst (λ v. test v ≡ true) (same_Some first value e) passes
-    by_case false fails e later = later e
 
 known_field : (o : Option Field) (f : Field) → known_or_not o ≡ Known f → o ≡ Some f
 known_field None f e = absurd cc

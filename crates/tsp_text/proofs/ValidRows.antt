@@ -1,20 +1,12 @@
 -- What follows where no row of the table of faults applies to an item, and what stays true as a text grows.
-use Rattle.std.proofs.Common.{◌≡◌, ℕ, Bool, true, false, List, [], ◌∷◌, refl, Option, Some, None, cond, sym, ap, subst, ◌∙◌, Result, Ok, Err, ◌++◌}
-use Rattle.std.proofs.lemmas.Bool.{true≢false, false≢true}
+use Rattle.tsp_text.proofs.Prelude.{◌≡◌, ℕ, Bool, true, false, List, [], ◌∷◌, refl, Option, Some, None, cond, sym, ap, subst, ◌∙◌, Result, Ok, Err, ◌++◌, true≢false, false≢true, AllByRecursion, find, option_map, option_and_then, option_map_or, not, ◌&&◌, ℤ, is_some, unwrap_or, nat_abs, nat_lt, ◌||◌, result_ok, result_err, is_section_field, most_line_bytes, field_word, fields_in_order, field_found, weighs_three, has_three, Field, DimensionKey, TourPart, NameKey, TypeKey, CommentKey, OtherKey, CapacityKey, ScaleKey, LoadUnitKey, EdgeWeightTypeKey, EdgeWeightFormatKey, NodeCoordTypeKey, DisplayDataTypeKey, NodeCoordPart, DisplayDataPart, DemandPart, DepotPart, FixedEdgesPart, EdgeWeightPart, NodePotentialPart, RowPotentialPart, ColumnPotentialPart, FixedEdgePotentialPart, FamilyPart, BranchPart, Known, EdgeDataFormat, EdgeDataSection, Eof, Unknown}
+use Rattle.std.proofs.Math.Bool.{or-false, or_comm}
 use Rattle.std.proofs.lemmas.Option.{none-some, same_Some, cond_some}
 use Rattle.std.proofs.lemmas.Slice.Eq.{bytes_eq-Decides}
-use Rattle.std.specs.List.{AllByRecursion, find}
-use Rattle.std.specs.Option.{option_or, option_map, option_and_then, option_map_or}
-use Rattle.std.specs.Prelude.{not, ◌&&◌, ℤ, is_some, unwrap_or, nat_abs, nat_lt, ◌||◌}
-use Rattle.std.specs.Result.{result_ok, result_err}
 use Rattle.std.specs.Str.{bytes_eq}
 use Rattle.tsp_number.specs.declared.word.NumberFault.{NumberFault}
-use Rattle.tsp_format.specs.Limits.{is_section_field, most_line_bytes}
-use Rattle.tsp_format.specs.Words.{field_word, fields_in_order, field_found, weighs_three, has_three}
-use Rattle.tsp_format.specs.declared.keyword.Field.{Field}
-use Rattle.tsp_format.specs.declared.keyword.Field.TheVariants.{DimensionKey, TourPart, NameKey, TypeKey, CommentKey, OtherKey, CapacityKey, ScaleKey, LoadUnitKey, EdgeWeightTypeKey, EdgeWeightFormatKey, NodeCoordTypeKey, DisplayDataTypeKey, NodeCoordPart, DisplayDataPart, DemandPart, DepotPart, FixedEdgesPart, EdgeWeightPart, NodePotentialPart, RowPotentialPart, ColumnPotentialPart, FixedEdgePotentialPart, CombPart, BranchPart}
+use Rattle.tsp_format.proofs.Basics.{none_or, none_map}
 use Rattle.tsp_format.specs.declared.keyword.Keyword.{Keyword}
-use Rattle.tsp_format.specs.declared.keyword.Keyword.TheVariants.{Known, EdgeDataFormat, EdgeDataSection, Eof, Unknown}
 use Rattle.tsp_text.specs.Earlier.{same_field, has_line, open_section, words_of, read_as, dimension_of, dimension_in, spatial_after, place_in, is_key, opened_by, is_open, value_at, named_at, coord_kind_named, weight_kind_named, says_space}
 use Rattle.tsp_text.specs.FaultRows.{when, first_row, table, row_of, repeats_keyword, has_bad_value, is_early, has_too_many_nodes, number_fault, is_surplus, is_late, number_fault_at, is_repeated_node_at, is_self_edge_at, is_surplus_at, is_after_end_at, word_fault, may_repeat}
 use Rattle.tsp_text.specs.Groups.{coords_by_node}
@@ -27,24 +19,16 @@ pub when_none : {F : Type 0} (test : Bool) (fault : F) → when test fault ≡ N
 when_none true fault e = absurd cc
 when_none false fault e = refl
 
-pub map_none : {A B : Type 0} (f : A → B) (o : Option A) → option_map f o ≡ None → o ≡ None
-map_none f None e = refl
-map_none f (Some x) e = absurd cc
-
 pub none_applies : {F : Type 0} (rows : List (Option F)) → first_row rows ≡ None → AllByRecursion (λ row. row ≡ None) rows
 none_applies [] e = tt
 none_applies (None ∷ rows) e = (refl, none_applies rows e)
 none_applies (Some fault ∷ rows) e = absurd cc
 
-none_or : {A : Type 0} (a b : Option A) → option_or a b ≡ None → (a ≡ None) × (b ≡ None)
-none_or None b e = (refl, e)
-none_or (Some x) b e = absurd cc
-
 -- without a fault: none before, and no row here
 pub clean_parts : (earlier : List Item) (item : Item) → IsClean (item ∷ earlier) → IsClean earlier × (row_of earlier item ≡ None)
 clean_parts earlier item clean =
     let both = none_or (fault_in earlier) (option_map (fault_here earlier item) (row_of earlier item)) clean in
-    (both.0, map_none (fault_here earlier item) (row_of earlier item) both.1)
+    (both.0, none_map (fault_here earlier item) (row_of earlier item) both.1)
 
 pub record HasNoRow (earlier : List Item) (item : Item) : Type 0 where
   pub first_time : repeats_keyword earlier item ≡ false
@@ -63,7 +47,7 @@ no_row earlier item e =
       good_value = when_none (has_bad_value earlier item) row.BadValue rows.1.1.1.1.0;
       in_time = when_none (is_early earlier item) row.SectionEarly rows.1.1.1.1.1.1.0;
       few_nodes = when_none (has_too_many_nodes earlier item) row.TooManyNodes rows.1.1.1.1.1.1.1.0;
-      is_read = map_none (λ fault. row.Number fault) (number_fault earlier item) rows.1.1.1.1.1.1.1.1.1.0;
+      is_read = none_map (λ fault. row.Number fault) (number_fault earlier item) rows.1.1.1.1.1.1.1.1.1.0;
       has_room = when_none (is_surplus earlier item) row.Surplus rows.1.1.1.1.1.1.1.1.1.1.1.1.0;
       not_late = when_none (is_late earlier item) row.LateSpace rows.1.1.1.1.1.1.1.1.1.1.1.1.1.1.0;
     }
@@ -81,7 +65,7 @@ is_taken n place word e =
     ∷ when (is_surplus_at n place word) row.Surplus
     ∷ when (is_after_end_at n place word) row.AfterEnd ∷ []) e in
     record {
-      is_read = map_none (λ fault. row.Number fault) (number_fault_at n place word) rows.0;
+      is_read = none_map (λ fault. row.Number fault) (number_fault_at n place word) rows.0;
       other_node = when_none (is_self_edge_at n place word) row.SelfEdge rows.1.1.0;
       has_room = when_none (is_surplus_at n place word) row.Surplus rows.1.1.1.0;
     }
@@ -249,7 +233,7 @@ same_self NodePotentialPart = refl
 same_self RowPotentialPart = refl
 same_self ColumnPotentialPart = refl
 same_self FixedEdgePotentialPart = refl
-same_self CombPart = refl
+same_self FamilyPart = refl
 same_self BranchPart = refl
 
 -- the rows of a word are those of its place
@@ -332,16 +316,6 @@ said_before true true false t late = absurd (true≢false late)
 said_before true false before t late = absurd (false≢true t)
 said_before false there before t late = refl
 
-or_none : (b : Bool) → (b || false) ≡ b
-or_none true = refl
-or_none false = refl
-
-or_turned : (a b : Bool) → (a || b) ≡ (b || a)
-or_turned true true = refl
-or_turned true false = refl
-or_turned false true = refl
-or_turned false false = refl
-
 coords_said : (line : WordLine) (earlier : List Item) → has_line NodeCoordPart earlier ≡ true
     → has_line NodeCoordTypeKey earlier ≡ false
     → is_late earlier (Line (Known NodeCoordTypeKey) line) ≡ false
@@ -361,8 +335,8 @@ weights_said line earlier known first late =
     let says = says_space EdgeWeightTypeKey (first_word line.value) in
     let coords = option_map_or has_three (named_at coord_kind_named NodeCoordTypeKey earlier) false in
     let before : spatial_after earlier ≡ coords = ap (λ o. coords || option_map_or weighs_three (option_and_then (λ value. weight_kind_named (first_word value)) o) false)
-    (no_value EdgeWeightTypeKey earlier first) ∙ or_none coords in
-    or_turned coords says ∙ ap (λ b. says || b) (sym before) ∙ said_before says (has_line NodeCoordPart earlier) (spatial_after earlier) known late
+    (no_value EdgeWeightTypeKey earlier first) ∙ or-false coords in
+    or_comm coords says ∙ ap (λ b. says || b) (sym before) ∙ said_before says (has_line NodeCoordPart earlier) (spatial_after earlier) known late
 
 key_said : (f : Field) (line : WordLine) (earlier : List Item) (by_coords by_weights : Bool)
     → same_field NodeCoordTypeKey f ≡ by_coords
@@ -453,7 +427,7 @@ grown_line in_space field Q grows earlier item false true t k clean row held =
 grown_line in_space field Q grows earlier item false false t k clean row held =
     subst (λ (words : List (List ℕ)). Q (dimension_in (item ∷ earlier)) words) (sym (no_words field earlier clean t k)) (grows.none (dimension_in (item ∷ earlier)))
 
-still_stands : (b stands : Bool) → stands ≡ true → cond b true stands ≡ true
+pub still_stands : (b stands : Bool) → stands ≡ true → cond b true stands ≡ true
 still_stands true stands e = refl
 still_stands false stands e = e
 

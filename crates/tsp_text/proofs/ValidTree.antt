@@ -1,20 +1,11 @@
 -- The steps of a section without a fault: no more than may be, each in its range, and a whole tree where no more are
 -- wanted.
-use Rattle.std.proofs.Common.{◌≡◌, ℕ, zero, suc, ◌+◌, ◌-◌, ◌≤◌, Bool, true, false, cond, List, [], ◌∷◌, ◌++◌, length, refl, sym, ap, subst, ◌∙◌, Option, None, Some, Result, Ok, Err, arith}
-use Rattle.std.specs.Prelude.{not, ◌==◌, ◌&&◌, ℤ, pos, negsuc, neg_ℤ, nat_le, nat_abs, int_le}
+use Rattle.tsp_text.proofs.Prelude.{◌≡◌, ℕ, zero, suc, ◌+◌, ◌-◌, ◌≤◌, Bool, true, false, cond, List, [], ◌∷◌, ◌++◌, length, refl, sym, ap, subst, ◌∙◌, Option, None, Some, Result, Ok, Err, arith, not, ◌==◌, ◌&&◌, ℤ, pos, negsuc, neg_ℤ, nat_le, nat_abs, int_le, list_all, result_err, true≢false, false≢true, and_from, and_parts, not_from_false, le-leb, leb-false, nat_tests, append_assoc, append-nil, length_push, BranchPart, most_families, most_branches, most_changes, most_difference, is_from_to, is_within, is_node, is_branch_of, is_change, is_step, are_tree_steps}
 use Rattle.std.specs.Ordering.{int_eq}
-use Rattle.std.specs.List.{list_all}
-use Rattle.std.specs.Result.{result_err}
-use Rattle.std.proofs.lemmas.Bool.{true≢false, false≢true, and_from, and_parts, not_from_false, le-leb, leb-false}
-use Rattle.std.proofs.lemmas.Bool.Decides.{nat_tests}
-use Rattle.std.proofs.lemmas.List.{append_assoc, append-nil, length_push}
-use Rattle.std.proofs.lemmas.List.Folds.{list_all-append}
 use Rattle.std.proofs.lemmas.List.Sums.{fold-append}
 use Rattle.tsp_number.specs.declared.word.NumberFault.{NumberFault}
-use Rattle.tsp_format.specs.declared.keyword.Field.TheVariants.{BranchPart}
-use Rattle.tsp_format.specs.Limits.{most_combs, most_branches, most_changes, most_difference}
 use Rattle.tsp_format.specs.Steps.{Step, Branch, Leaf, are_whole, branch_count, change_count}
-use Rattle.tsp_file.specs.Validity.{is_from_to, is_within, is_node, is_branch_of, is_change, is_step, are_tree_steps}
+use Rattle.tsp_text.proofs.ValidCuts.{all_push}
 use Rattle.tsp_text.specs.Items.{Item}
 use Rattle.tsp_text.specs.Earlier.{words_of, dimension_in}
 use Rattle.tsp_text.specs.SectionWords.{number, reads_as, node, whole_of_size, StepAfter, SecondOf, IndexAfter, PastGroups, TreeSoFar, no_steps, index_or_leaf, begins_leaf, index_or_end, ends_leaf, with_word_of, with_tree_word, tree_after, whole_steps, place_in_step, place_in_tree, place_of_step}
@@ -28,9 +19,9 @@ use Rattle.tsp_text.proofs.ValidKeywords.{whole_in_range, whole_passes, read_nod
 -- the first number of a branch that has begun, or of a difference
 abbrev IsBegun : ℕ → Bool → Option ℕ → Type 0
 IsBegun n false None = Unit {0}
-IsBegun n false (Some first) = is_node (n + most_combs) first ≡ true
+IsBegun n false (Some first) = is_node (n + most_families) first ≡ true
 IsBegun n true None = Unit {0}
-IsBegun n true (Some index) = is_node (n + most_combs) index ≡ true
+IsBegun n true (Some index) = is_node (n + most_families) index ≡ true
 
 -- whether that is a branch, and whether it is a difference, as a number
 abbrev begun_branch : Bool → Option ℕ → ℕ
@@ -57,11 +48,6 @@ abbrev AreSoFar : ℕ → TreeSoFar → Type 0
 AreSoFar n s = StepsHold n s.steps s.first s.in_leaf s.leaf s.to_come s.branches s.changes
 
 -- ---- lists
-
-all_push : {A : Type 0} (test : A → Bool) (xs : List A) (x : A) → list_all test xs ≡ true → test x ≡ true
-    → list_all test (xs ++ x ∷ []) ≡ true
-all_push test xs x held passes =
-    list_all-append test xs (x ∷ []) ∙ and_from (list_all test xs) (test x && true) held (and_from (test x) true passes refl)
 
 branches_push : (steps : List Step) (step : Step)
     → branch_count (steps ++ step ∷ []) ≡ branch_count steps + branch_count (step ∷ [])
@@ -91,12 +77,12 @@ first_node n (pos (suc k)) e other =
 first_node n (negsuc k) e other = absurd (false≢true e)
 
 read_first : (n : ℕ) (word : List ℕ) → result_err (index_or_leaf n word) ≡ None → begins_leaf n word ≡ false
-    → (k : ℕ) × (index_or_leaf n word ≡ Ok (pos k)) × (is_node (n + most_combs) k ≡ true)
-read_first n word = by_result (index_or_leaf n word) (λ z read. whole_in_range word (pos 0) (pos (n + most_combs)) z read)
+    → (k : ℕ) × (index_or_leaf n word ≡ Ok (pos k)) × (is_node (n + most_families) k ≡ true)
+read_first n word = by_result (index_or_leaf n word) (λ z read. whole_in_range word (pos 0) (pos (n + most_families)) z read)
   where
-    by_result : (r : Result ℤ NumberFault) → ((z : ℤ) → r ≡ Ok z → is_from_to (pos 0) (pos (n + most_combs)) z ≡ true) → result_err r ≡ None → reads_as (pos 0) r ≡ false
-        → (k : ℕ) × (r ≡ Ok (pos k)) × (is_node (n + most_combs) k ≡ true)
-    by_result (Ok z) each e other = let found = first_node (n + most_combs) z (each z refl) other in (found.0, ap (λ y. Ok y) found.1, found.2)
+    by_result : (r : Result ℤ NumberFault) → ((z : ℤ) → r ≡ Ok z → is_from_to (pos 0) (pos (n + most_families)) z ≡ true) → result_err r ≡ None → reads_as (pos 0) r ≡ false
+        → (k : ℕ) × (r ≡ Ok (pos k)) × (is_node (n + most_families) k ≡ true)
+    by_result (Ok z) each e other = let found = first_node (n + most_families) z (each z refl) other in (found.0, ap (λ y. Ok y) found.1, found.2)
     by_result (Err fault) each e other = absurd cc
 
 -- ---- one word more, where the tree isn't whole
@@ -119,7 +105,7 @@ first_holds n s word true is row h none out = rw (is, none) (let held : StepsHol
 first_holds n s word false is row h none out =
     let t = is_taken n (StepAfter s.branches) word row in
     let found = read_first n word t.is_read is in
-    let index : is_node (n + most_combs) (nat_abs (number (index_or_leaf n word))) ≡ true = ap (λ r. is_node (n + most_combs) (nat_abs (number r))) found.1 ∙ found.2 in
+    let index : is_node (n + most_families) (nat_abs (number (index_or_leaf n word))) ≡ true = ap (λ r. is_node (n + most_families) (nat_abs (number r))) found.1 ∙ found.2 in
     let room = leb-false most_branches s.branches (first_of_both (nat_le most_branches s.branches) (begins_leaf n word) t.has_room is) in
     let held : StepsHold n s.steps (Some (nat_abs (number (index_or_leaf n word)))) false s.leaf s.to_come (s.branches + 1) s.changes = record {
       all_steps = h.all_steps;
@@ -143,8 +129,8 @@ second_holds n s word first left some row h out =
     let apart = differ first found.0 (rw found.1 at t.other_node) in
     let second = nat_abs (number (node n word)) in
     let is : second ≡ found.0 = ap (λ r. nat_abs (number r)) found.1 in
-    let branch : is_branch_of n (first, second) ≡ true = rw is (and_from (is_node (n + most_combs) first && is_node n found.0) (not (first == found.0))
-    (and_from (is_node (n + most_combs) first) (is_node n found.0) h.begun found.2) (not_from_false (first == found.0) apart)) in
+    let branch : is_branch_of n (first, second) ≡ true = rw is (and_from (is_node (n + most_families) first && is_node n found.0) (not (first == found.0))
+    (and_from (is_node (n + most_families) first) (is_node n found.0) h.begun found.2) (not_from_false (first == found.0) apart)) in
     let one_more : s.to_come + 1 ≡ suc (suc left) = omega (arith, some) in
     let held : StepsHold n (s.steps ++ Branch first second ∷ []) None false s.leaf (s.to_come + 1) s.branches s.changes = record {
       all_steps = all_push (is_step n) s.steps (Branch first second) h.all_steps branch;
@@ -180,8 +166,8 @@ index_holds n s word left true some is row h none inside =
     rw (is, none) held
 index_holds n s word left false some is row h none inside =
     let t = is_taken n (IndexAfter s.changes) word row in
-    let found = read_listed (n + most_combs) word t.is_read is in
-    let index : is_node (n + most_combs) (nat_abs (number (index_or_end n word))) ≡ true = ap (λ r. is_node (n + most_combs) (nat_abs (number r))) found.1 ∙ found.2 in
+    let found = read_listed (n + most_families) word t.is_read is in
+    let index : is_node (n + most_families) (nat_abs (number (index_or_end n word))) ≡ true = ap (λ r. is_node (n + most_families) (nat_abs (number r))) found.1 ∙ found.2 in
     let room = leb-false most_changes s.changes (first_of_both (nat_le most_changes s.changes) (ends_leaf n word) t.has_room is) in
     let held : StepsHold n s.steps (Some (nat_abs (number (index_or_end n word)))) true s.leaf s.to_come s.branches (s.changes + 1) = record {
       all_steps = h.all_steps;
@@ -201,7 +187,7 @@ difference_holds : (n : ℕ) (s : TreeSoFar) (word : List ℕ) (index : ℕ)
 difference_holds n s word index h inside =
     let z = number (whole_of_size most_difference word) in
     let one : ℕ × ℤ = (index, z) in
-    let change : is_change n one ≡ true = and_from (is_node (n + most_combs) index) (is_within most_difference z) h.begun
+    let change : is_change n one ≡ true = and_from (is_node (n + most_families) index) (is_within most_difference z) h.begun
     (whole_passes (neg_ℤ (pos most_difference)) (pos most_difference) word refl) in
     let held : StepsHold n s.steps None true (s.leaf ++ one ∷ []) s.to_come s.branches s.changes = record {
       all_steps = h.all_steps;

@@ -1,20 +1,15 @@
 -- Circle 2 of docs/trust.md.
 -- What earlier items of a text say of it: the values of its lines, and the words of its sections.
-use Rattle.std.specs.List.{find, list_any}
+use Rattle.tsp_text.specs.Prelude.{find, list_any, ℕ, Bool, true, false, cond, List, [], Option, None, Some, is_some, is_none, ℤ, codes, Result, nat_abs, unwrap_or, whole_of, NumberFault, is_unknown, is_section_field, value_shape_of, shape_of, Field, TypeKey, DimensionKey, EdgeWeightTypeKey, EdgeWeightFormatKey, NodeCoordTypeKey, DisplayDataTypeKey}
 use Rattle.std.specs.Option.{option_map, option_map_or, option_and_then}
-use Rattle.std.specs.Prelude.{ℕ, Bool, true, false, cond, List, [], ◌∷◌, ◌++◌, Option, None, Some, is_some, is_none, ℤ, codes, Result, nat_abs, unwrap_or}
+use Rattle.std.specs.Prelude.{◌∷◌, ◌++◌}
 use Rattle.std.specs.Result.{result_ok}
 use Rattle.std.specs.Str.{bytes_eq}
-use Rattle.tsp_number.specs.NumberWord.{whole_of}
-use Rattle.tsp_number.specs.declared.word.NumberFault.{NumberFault}
-use Rattle.tsp_format.specs.Limits.{is_unknown, is_section_field, value_shape_of, shape_of}
 use Rattle.tsp_format.specs.Words.{field_word, weighs_three, has_three, is_spatial, kind_word, weight_kind_word, weight_format_word, coord_kind_word, display_kind_word, kinds, weight_kinds, weight_formats, coord_kinds, display_kinds}
-use Rattle.tsp_format.specs.declared.keyword.Field.{Field}
-use Rattle.tsp_format.specs.declared.keyword.Field.TheVariants.{TypeKey, DimensionKey, EdgeWeightTypeKey, EdgeWeightFormatKey, NodeCoordTypeKey, DisplayDataTypeKey}
 use Rattle.tsp_format.specs.declared.keyword.Keyword.{Keyword}
 use Rattle.tsp_format.specs.declared.keyword.Keyword.TheVariants.{Known, EdgeDataFormat, EdgeDataSection, Eof, Unknown}
 use Rattle.tsp_format.specs.declared.keyword.Shape.{Shape}
-use Rattle.tsp_format.specs.declared.keyword.Shape.TheVariants.{Numbers, Points, SpacePoints, Depots, Pairs, Weights, Tours, Triples, Combs, Steps}
+use Rattle.tsp_format.specs.declared.keyword.Shape.TheVariants.{Numbers, Points, SpacePoints, Depots, Pairs, Weights, Tours, Triples, Families, Steps}
 use Rattle.tsp_format.specs.declared.keyword.ValueShape.{ValueShape}
 use Rattle.tsp_format.specs.declared.keyword.ValueShape.TheVariants.{Kept, KeptEach, Number, Word}
 use Rattle.tsp_format.specs.declared.kinds.CoordKind.{CoordKind}
@@ -22,7 +17,7 @@ use Rattle.tsp_format.specs.declared.kinds.DisplayKind.{DisplayKind}
 use Rattle.tsp_format.specs.declared.kinds.Kind.{Kind}
 use Rattle.tsp_format.specs.declared.kinds.WeightFormat.{WeightFormat}
 use Rattle.tsp_format.specs.declared.kinds.WeightKind.{WeightKind}
-use Rattle.tsp_text.specs.Groups.{place_of_number, place_of_point, place_of_space_point, place_of_depot, place_of_fixed, place_of_triple, place_of_comb}
+use Rattle.tsp_text.specs.Groups.{place_of_number, place_of_point, place_of_space_point, place_of_depot, place_of_fixed, place_of_triple, place_of_family}
 use Rattle.tsp_text.specs.Items.{Item, Line, NumberWord, LineEnd, first_word}
 use Rattle.tsp_text.specs.SectionWords.{Place, PastEnd, place_of_weight, place_of_tour, place_of_step}
 
@@ -221,7 +216,7 @@ place_by Pairs n words = place_of_fixed n words
 place_by Weights n words = place_of_weight n words
 place_by Tours n words = place_of_tour words
 place_by Triples n words = place_of_triple n words
-place_by Combs n words = place_of_comb n words
+place_by Families n words = place_of_family n words
 place_by Steps n words = place_of_step n words
 
 -- the same of a section, in a spatial file or in another; no other field has words

@@ -1,8 +1,7 @@
 -- Small texts, and what they parse to or their first fault. In them `/` means byte 10.
-use Rattle.std.specs.Prelude.{◌≡◌, ℕ, ◌==◌, true, false, cond, List, [], ◌∷◌, ◌++◌, map, replicate, None, Some, codes, pos, negsuc}
-use Rattle.tsp_format.specs.declared.keyword.Field.{Field}
+use Rattle.tsp_text.specs.Prelude.{ℕ, true, false, cond, List, [], map, replicate, None, Some, codes, pos, negsuc, Field, NumberFault}
+use Rattle.std.specs.Prelude.{◌≡◌, ◌==◌, ◌∷◌, ◌++◌}
 use Rattle.tsp_format.specs.Steps.{Branch, Leaf}
-use Rattle.tsp_number.specs.declared.word.NumberFault.{NumberFault}
 use Rattle.tsp_number.specs.Distances.{on_plane}
 use Rattle.tsp_file.specs.declared.rules.EndFault.{EndFault}
 use Rattle.tsp_file.specs.declared.rules.EndFault.TheVariants.{Missing}
@@ -56,8 +55,8 @@ TriplesAre bytes = (fault (text bytes) ≡ None)
     × ((spelled (part (text bytes))).fixed_potentials ≡ Some ((1, 2, pos 5) ∷ (3, 1, pos 0) ∷ []))
 
 -- it parses to a file with the comb of the handle (1, 2, 3) and the teeth (1, 4), (2, 5) and (3, 6)
-abbrev pub CombIs : List ℕ → Type 0
-CombIs bytes = (fault (text bytes) ≡ None) × ((spelled (part (text bytes))).combs
+abbrev pub FamilyIs : List ℕ → Type 0
+FamilyIs bytes = (fault (text bytes) ≡ None) × ((spelled (part (text bytes))).families
     ≡ Some (((1 ∷ 2 ∷ 3 ∷ []) ∷ (1 ∷ 4 ∷ []) ∷ (2 ∷ 5 ∷ []) ∷ (3 ∷ 6 ∷ []) ∷ []) ∷ []))
 
 -- it parses to a file with the tree of a branch on the pair (1, 2), a leaf that adds 1 to the number of node 2, and one

@@ -2,16 +2,11 @@
 -- The table of the faults of a line or a word, a section `----` for each row: it says when the row applies to an item
 -- after the items before it, the last one first. Source: TSPLIB 95 (G. Reinelt) for the place of each word; the rows
 -- and their order are this project's profile.
-use Rattle.std.specs.Prelude.{ℕ, ◌+◌, Bool, true, false, cond, not, ◌&&◌, ◌||◌, nat_lt, nat_le, List, [], ◌∷◌, length, Option, None, Some, is_none}
+use Rattle.tsp_text.specs.Prelude.{ℕ, Bool, true, false, cond, not, nat_lt, nat_le, List, [], length, Option, None, Some, is_none, list_any, NumberFault, decimal_of, whole_of, Field, CommentKey, OtherKey, DimensionKey, NodeCoordPart, EdgeWeightPart, TourPart, most_nodes, most_matrix_nodes, most_weight, most_line_bytes, most_kept_bytes, most_comments, most_others, most_depots, most_fixed, most_tour_nodes, most_families, most_family_nodes, most_branches, most_changes, is_section_field}
+use Rattle.std.specs.Prelude.{◌+◌, ◌&&◌, ◌||◌, ◌∷◌}
 use Rattle.std.specs.Option.{option_map, option_and_then, option_map_or, option_or}
 use Rattle.std.specs.Result.{result_err}
-use Rattle.std.specs.List.{list_any}
-use Rattle.tsp_number.specs.declared.word.NumberFault.{NumberFault}
-use Rattle.tsp_number.specs.NumberWord.{decimal_of, whole_of}
-use Rattle.tsp_format.specs.declared.keyword.Field.{Field}
-use Rattle.tsp_format.specs.declared.keyword.Field.TheVariants.{CommentKey, OtherKey, DimensionKey, NodeCoordPart, EdgeWeightPart, TourPart}
 use Rattle.tsp_format.specs.declared.keyword.Keyword.TheVariants.{Known, EdgeDataFormat, EdgeDataSection, Eof, Unknown}
-use Rattle.tsp_format.specs.Limits.{most_nodes, most_matrix_nodes, most_weight, most_line_bytes, most_kept_bytes, most_comments, most_others, most_depots, most_fixed, most_tour_nodes, most_combs, most_comb_nodes, most_branches, most_changes, is_section_field}
 use Rattle.tsp_text.specs.declared.fault.LineFault.{LineFault}
 use Rattle.tsp_text.specs.declared.fault.LineFault.TheVariants as row
 use Rattle.tsp_text.specs.Items.{is_not_empty, first_word, WordLine, Item, Line, NumberWord, LineEnd}
@@ -141,7 +136,7 @@ number_fault_at n PastEnd word = None
 number_fault_at n Weight word = result_err (whole_of_size most_weight word)
 number_fault_at n PastWeights word = None
 number_fault_at n (TourNode count) word = result_err (node_or_end most_nodes word)
-number_fault_at n (SetNode begun combs count) word = result_err (node_or_end n word)
+number_fault_at n (SetNode begun families count) word = result_err (node_or_end n word)
 number_fault_at n (StepAfter branches) word = result_err (index_or_leaf n word)
 number_fault_at n (IndexAfter count) word = result_err (index_or_end n word)
 
@@ -178,12 +173,12 @@ is_self_edge earlier (NumberWord word) = at_place is_self_edge_at earlier word
 is_self_edge earlier LineEnd = false
 
 -- ---- Surplus: a line of COMMENT or of an unknown keyword after the most of them; past the groups or a whole tree a
--- word other than `-1`; a word past the weights; after the most of them a depot, a first node of a pair, triple, comb
--- or branch, a node of the tours or of a comb, or an index of a leaf (no -1, and no 0 that begins a leaf)
+-- word other than `-1`; a word past the weights; after the most of them a depot, a first node of a pair, triple, family
+-- or branch, a node of the tours or of a family, or an index of a leaf (no -1, and no 0 that begins a leaf)
 
--- a node of combs is beyond the limit, by whether a comb has begun, after this many combs and nodes
-abbrev pub is_past_combs : Bool → ℕ → ℕ → Bool
-is_past_combs begun combs count = nat_le most_comb_nodes count || (not begun && nat_le most_combs combs)
+-- a node of families is beyond the limit, by whether a family has begun, after this many families and nodes
+abbrev pub is_past_families : Bool → ℕ → ℕ → Bool
+is_past_families begun families count = nat_le most_family_nodes count || (not begun && nat_le most_families families)
 
 abbrev pub is_surplus_at : ℕ → Place → List ℕ → Bool
 is_surplus_at n (NodeAfter nodes) word = false
@@ -197,7 +192,7 @@ is_surplus_at n PastEnd word = false
 is_surplus_at n Weight word = false
 is_surplus_at n PastWeights word = true
 is_surplus_at n (TourNode count) word = nat_le most_tour_nodes count && not (is_end most_nodes word)
-is_surplus_at n (SetNode begun combs count) word = is_past_combs begun combs count && not (is_end n word)
+is_surplus_at n (SetNode begun families count) word = is_past_families begun families count && not (is_end n word)
 is_surplus_at n (StepAfter branches) word = nat_le most_branches branches && not (begins_leaf n word)
 is_surplus_at n (IndexAfter count) word = nat_le most_changes count && not (ends_leaf n word)
 
@@ -211,7 +206,7 @@ is_surplus earlier (Line Unknown line) = nat_le most_others (length (others_in e
 is_surplus earlier (NumberWord word) = at_place is_surplus_at earlier word
 is_surplus earlier LineEnd = false
 
--- ---- AfterEnd: a word other than `-1` after the -1 that ended the list, or the combs
+-- ---- AfterEnd: a word other than `-1` after the -1 that ended the list, or the families
 
 abbrev pub is_after_end_at : ℕ → Place → List ℕ → Bool
 is_after_end_at n PastEnd word = not (is_minus_one word)

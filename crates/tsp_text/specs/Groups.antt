@@ -1,15 +1,12 @@
 -- Circle 2 of docs/trust.md.
 -- Sections whose words come in groups, in lists that -1 ends, or by node, and the sets of families.
-use Rattle.std.specs.List.{list_any, fold}
+use Rattle.tsp_text.specs.Prelude.{list_any, fold, ℕ, Bool, cond, nat_le, List, [], length, map, take, get_or, Option, None, Some, ℤ, pos, unwrap_or, nat_abs, true, false, decimal_of, whole_of, most_multiplier, shape_of, Field}
 use Rattle.std.specs.List.Sorted.{IsPermutation}
 use Rattle.std.specs.Ordering.{int_eq}
-use Rattle.std.specs.Prelude.{ℕ, ◌+◌, ◌*◌, ◌==◌, Bool, cond, nat_le, List, [], ◌∷◌, ◌++◌, length, map, take, get_or, Option, None, Some, ℤ, pos, unwrap_or, nat_abs, true, false, ◌||◌}
+use Rattle.std.specs.Prelude.{◌+◌, ◌*◌, ◌==◌, ◌∷◌, ◌++◌, ◌||◌}
 use Rattle.tsp_number.specs.Distances.{on_plane}
-use Rattle.tsp_number.specs.NumberWord.{decimal_of, whole_of}
 use Rattle.tsp_number.specs.declared.decimal.Point.{Point}
-use Rattle.tsp_format.specs.Limits.{most_multiplier, shape_of}
 use Rattle.tsp_format.specs.Nodes.{nodes_to}
-use Rattle.tsp_format.specs.declared.keyword.Field.{Field}
 use Rattle.tsp_format.specs.declared.keyword.Shape.{Shape}
 use Rattle.tsp_format.specs.declared.keyword.Shape.TheVariants.{Numbers, Points, SpacePoints}
 use Rattle.tsp_file.specs.Cost.{origin}
@@ -236,10 +233,10 @@ HasEachNodeOnce n nodes = IsPermutation nodes (map (λ k. pos k) (nodes_to n))
 -- ---- COMB_SECTION, this project's own: its words, as families of sets of nodes
 
 -- the contents after some words of the section
-pub record CombsSoFar : Type 0 where
-  -- the whole combs
-  pub combs : List (List (List ℕ))
-  -- of a comb that has begun the whole sets, and of a set that has begun the nodes
+pub record FamiliesSoFar : Type 0 where
+  -- the whole families
+  pub families : List (List (List ℕ))
+  -- of a family that has begun the whole sets, and of a set that has begun the nodes
   pub sets : List (List ℕ)
   pub nodes : List ℕ
   -- how many nodes came in all
@@ -248,57 +245,57 @@ pub record CombsSoFar : Type 0 where
   pub ended : Bool
 
 -- the contents before the first word
-abbrev pub no_combs : CombsSoFar
-no_combs = record { combs = []; sets = []; nodes = []; count = 0; ended = false }
+abbrev pub no_families : FamiliesSoFar
+no_families = record { families = []; sets = []; nodes = []; count = 0; ended = false }
 
 -- ---- one word more
 
 -- the node that a word is read as
-abbrev pub comb_node : ℕ → List ℕ → ℕ
-comb_node n word = nat_abs (number (node_or_end n word))
+abbrev pub family_node : ℕ → List ℕ → ℕ
+family_node n word = nat_abs (number (node_or_end n word))
 
 -- a node: the next one of the set that isn't whole, or the first of a new set
-abbrev pub with_node : CombsSoFar → ℕ → CombsSoFar
+abbrev pub with_node : FamiliesSoFar → ℕ → FamiliesSoFar
 with_node so_far node = record so_far { nodes = so_far.nodes ++ node ∷ []; count = so_far.count + 1 }
 
 -- the end of a set
-abbrev pub with_set : CombsSoFar → CombsSoFar
+abbrev pub with_set : FamiliesSoFar → FamiliesSoFar
 with_set so_far = record so_far { sets = so_far.sets ++ so_far.nodes ∷ []; nodes = [] }
 
 -- the end of a family
-abbrev pub with_comb : CombsSoFar → CombsSoFar
-with_comb so_far = record so_far { combs = so_far.combs ++ so_far.sets ∷ []; sets = [] }
+abbrev pub with_family : FamiliesSoFar → FamiliesSoFar
+with_family so_far = record so_far { families = so_far.families ++ so_far.sets ∷ []; sets = [] }
 
 -- a -1: it ends the set that isn't whole; where there is none, the family; where there is none, the section
-abbrev pub with_end : CombsSoFar → CombsSoFar
+abbrev pub with_end : FamiliesSoFar → FamiliesSoFar
 with_end so_far = cond (is_not_empty so_far.nodes) (with_set so_far)
-    (cond (is_not_empty so_far.sets) (with_comb so_far) (record so_far { ended = true }))
+    (cond (is_not_empty so_far.sets) (with_family so_far) (record so_far { ended = true }))
 
 -- a word; after the end of the section nothing changes
-abbrev pub with_comb_word : ℕ → CombsSoFar → List ℕ → CombsSoFar
-with_comb_word n so_far word =
-    cond so_far.ended so_far (cond (is_end n word) (with_end so_far) (with_node so_far (comb_node n word)))
+abbrev pub with_family_word : ℕ → FamiliesSoFar → List ℕ → FamiliesSoFar
+with_family_word n so_far word =
+    cond so_far.ended so_far (cond (is_end n word) (with_end so_far) (with_node so_far (family_node n word)))
 
 -- ---- all words
 
 -- the contents after all these words
-abbrev pub combs_after : ℕ → List (List ℕ) → CombsSoFar
-combs_after n words = fold (with_comb_word n) no_combs words
+abbrev pub families_after : ℕ → List (List ℕ) → FamiliesSoFar
+families_after n words = fold (with_family_word n) no_families words
 
 -- the families that are whole
-abbrev pub whole_combs : ℕ → List (List ℕ) → List (List (List ℕ))
-whole_combs n words = (combs_after n words).combs
+abbrev pub whole_families : ℕ → List (List ℕ) → List (List (List ℕ))
+whole_families n words = (families_after n words).families
 
 -- ---- the place of the next word
 
 -- a family has begun that isn't whole
-abbrev pub has_begun_comb : CombsSoFar → Bool
-has_begun_comb so_far = is_not_empty so_far.nodes || is_not_empty so_far.sets
+abbrev pub has_begun_family : FamiliesSoFar → Bool
+has_begun_family so_far = is_not_empty so_far.nodes || is_not_empty so_far.sets
 
 -- the place of the next word, by the contents
-abbrev pub place_in_combs : CombsSoFar → Place
-place_in_combs so_far = cond so_far.ended PastEnd (SetNode (has_begun_comb so_far) (length so_far.combs) so_far.count)
+abbrev pub place_in_families : FamiliesSoFar → Place
+place_in_families so_far = cond so_far.ended PastEnd (SetNode (has_begun_family so_far) (length so_far.families) so_far.count)
 
 -- the place of the next word, by the words before it
-abbrev pub place_of_comb : ℕ → List (List ℕ) → Place
-place_of_comb n words = place_in_combs (combs_after n words)
+abbrev pub place_of_family : ℕ → List (List ℕ) → Place
+place_of_family n words = place_in_families (families_after n words)

@@ -1,8 +1,7 @@
 -- Circle 2 of docs/trust.md.
 -- The lines of a text, cut into items: lines, words and line ends.
-use Rattle.std.specs.List.{filter, slice_split, prefix_len, take_while, before_first, list_any, list_all, AllByRecursion}
-use Rattle.std.specs.Prelude.{ℕ, Bool, true, false, cond, ◌==◌, List, [], ◌∷◌, drop, reverse, ◌+◌, nat_lt, ◌++◌, length, map, ◌≡◌, ◌-◌, not, slice_index}
-use Rattle.tsp_format.specs.Limits.{keyword_of, most_word_bytes, most_line_bytes}
+use Rattle.tsp_text.specs.Prelude.{filter, slice_split, prefix_len, take_while, before_first, list_any, list_all, AllByRecursion, ℕ, Bool, true, false, cond, List, [], drop, reverse, nat_lt, length, map, not, slice_index, keyword_of, most_word_bytes, most_line_bytes}
+use Rattle.std.specs.Prelude.{◌==◌, ◌∷◌, ◌+◌, ◌++◌, ◌≡◌, ◌-◌}
 use Rattle.tsp_format.specs.Words.{is_blank, is_letter, is_keyword_byte}
 use Rattle.tsp_format.specs.declared.keyword.Keyword.{Keyword}
 use Rattle.tsp_format.specs.declared.keyword.Keyword.TheVariants.{Known, EdgeDataFormat, EdgeDataSection, Eof, Unknown}

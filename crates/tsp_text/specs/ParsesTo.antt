@@ -1,13 +1,9 @@
 -- Circle 2 of docs/trust.md.
 -- Which file a text parses to, or its first fault, and its text. Every text has exactly one answer.
-use Rattle.std.specs.List.{find, filter}
+use Rattle.tsp_text.specs.Prelude.{find, filter, ℕ, List, codes, decimal, [], Option, None, Some, Bool, true, false, cond, ℤ, pos, neg_ℤ, not, nat_lt, length, take, reverse, Result, Ok, Err, number_fault_text, most_demand, most_potential, is_section_field, most_file_bytes, most_matrix_nodes, Field, NameKey, TypeKey, CommentKey, CapacityKey, ScaleKey, LoadUnitKey, EdgeWeightTypeKey, EdgeWeightFormatKey, NodeCoordTypeKey, DisplayDataTypeKey, NodeCoordPart, DisplayDataPart, DemandPart, DepotPart, FixedEdgesPart, EdgeWeightPart, TourPart, NodePotentialPart, RowPotentialPart, ColumnPotentialPart, FixedEdgePotentialPart, FamilyPart, BranchPart}
 use Rattle.std.specs.Option.{option_or, option_map}
-use Rattle.std.specs.Prelude.{ℕ, List, ◌++◌, codes, decimal, ◌≡◌, [], ◌∷◌, Option, None, Some, Bool, true, false, cond, ◌&&◌, ℤ, pos, neg_ℤ, not, nat_lt, length, take, reverse, Result, Ok, Err}
-use Rattle.tsp_number.specs.NumberWord.{number_fault_text}
-use Rattle.tsp_format.specs.Limits.{most_demand, most_potential, is_section_field, most_file_bytes, most_matrix_nodes}
+use Rattle.std.specs.Prelude.{◌++◌, ◌≡◌, ◌∷◌, ◌&&◌}
 use Rattle.tsp_format.specs.Words.{fields_in_order}
-use Rattle.tsp_format.specs.declared.keyword.Field.{Field}
-use Rattle.tsp_format.specs.declared.keyword.Field.TheVariants.{NameKey, TypeKey, CommentKey, CapacityKey, ScaleKey, LoadUnitKey, EdgeWeightTypeKey, EdgeWeightFormatKey, NodeCoordTypeKey, DisplayDataTypeKey, NodeCoordPart, DisplayDataPart, DemandPart, DepotPart, FixedEdgesPart, EdgeWeightPart, TourPart, NodePotentialPart, RowPotentialPart, ColumnPotentialPart, FixedEdgePotentialPart, CombPart, BranchPart}
 use Rattle.tsp_format.specs.declared.keyword.Shape.{Shape}
 use Rattle.tsp_format.specs.declared.keyword.Shape.TheVariants.{Weights, Tours}
 use Rattle.tsp_file.specs.Fields.{Fields}
@@ -15,7 +11,7 @@ use Rattle.tsp_file.specs.Rules.{end_fault_text, standing_of, end_fault}
 use Rattle.tsp_file.specs.declared.rules.EndFault.{EndFault}
 use Rattle.tsp_text.specs.Earlier.{has_line, value_at, values_at, others_in, words_of, kind_named, weight_kind_named, weight_format_named, coord_kind_named, display_kind_named, number_at, named_at, dimension_of, spatial_after, place_in, dimension_in}
 use Rattle.tsp_text.specs.FaultRows.{row_of, when, first_row}
-use Rattle.tsp_text.specs.Groups.{numbers_by_node, points_by_node, coords_by_node, depots_in, fixed_in, fixed_triples_in, whole_combs}
+use Rattle.tsp_text.specs.Groups.{numbers_by_node, points_by_node, coords_by_node, depots_in, fixed_in, fixed_triples_in, whole_families}
 use Rattle.tsp_text.specs.Items.{Item, line_number, word_number, items_of, settled_items, to_end_line, has_end_line, is_not_empty}
 use Rattle.tsp_text.specs.SectionWords.{Place, NodeAfter, Coordinate, Amount, PastGroups, DepotAfter, FirstAfter, SecondOf, PastEnd, Weight, PastWeights, TourNode, SetNode, StepAfter, IndexAfter, weights_in, tours_in, whole_steps}
 use Rattle.tsp_text.specs.declared.fault.LineFault.{LineFault}
@@ -120,7 +116,7 @@ fields_by stands items = record {
   row_potentials = section_value stands (potentials_by_node (dimension_in items)) RowPotentialPart items;
   column_potentials = section_value stands (potentials_by_node (dimension_in items)) ColumnPotentialPart items;
   fixed_potentials = section_value stands (fixed_triples_in (dimension_in items)) FixedEdgePotentialPart items;
-  combs = section_value stands (whole_combs (dimension_in items)) CombPart items;
+  families = section_value stands (whole_families (dimension_in items)) FamilyPart items;
   branches = section_value stands (whole_steps (dimension_in items)) BranchPart items;
 }
 
@@ -147,7 +143,7 @@ wants_more PastEnd = false
 wants_more Weight = false
 wants_more PastWeights = false
 wants_more (TourNode count) = false
-wants_more (SetNode begun combs count) = begun
+wants_more (SetNode begun families count) = begun
 wants_more (StepAfter branches) = true
 wants_more (IndexAfter count) = true
 

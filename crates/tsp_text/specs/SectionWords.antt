@@ -1,14 +1,11 @@
 -- Circle 2 of docs/trust.md.
 -- The words of each section at their places, and the numbers that they are: tours, weights, and the steps of a tree.
-use Rattle.std.specs.List.{slice_split, filter, fold}
+use Rattle.tsp_text.specs.Prelude.{slice_split, filter, fold, ℕ, ℤ, Bool, List, false, cond, Result, Ok, Err, pos, negsuc, neg_ℤ, codes, not, length, map, nat_abs, nat_le, true, [], Option, None, Some, whole_of, NumberFault, most_nodes, most_weight, most_families, most_difference}
 use Rattle.std.specs.Ordering.{int_eq}
-use Rattle.std.specs.Prelude.{ℕ, ℤ, Bool, List, ◌≡◌, ◌≤ℤ◌, false, cond, Result, Ok, Err, pos, negsuc, neg_ℤ, codes, not, length, map, nat_abs, ◌*◌, nat_le, ◌+◌, ◌-◌, ◌==◌, true, [], ◌∷◌, ◌++◌, Option, None, Some}
+use Rattle.std.specs.Prelude.{◌≡◌, ◌≤ℤ◌, ◌*◌, ◌+◌, ◌-◌, ◌==◌, ◌∷◌, ◌++◌}
 use Rattle.std.specs.Result.{result_unwrap_or}
 use Rattle.std.specs.Str.{bytes_eq}
-use Rattle.tsp_number.specs.NumberWord.{whole_of}
-use Rattle.tsp_number.specs.declared.word.NumberFault.{NumberFault}
 use Rattle.tsp_number.specs.declared.word.NumberFault.TheVariants.{OutOfRange}
-use Rattle.tsp_format.specs.Limits.{most_nodes, most_weight, most_combs, most_difference}
 use Rattle.tsp_format.specs.Steps.{Step, Branch, Leaf}
 use Rattle.tsp_text.specs.Items.{is_not_empty}
 
@@ -31,8 +28,8 @@ pub data Place : Type 0 where
   PastWeights : Place
   -- a node of the tours, after this many, or a -1
   TourNode : (count : ℕ) → Place
-  -- combs: a node of a set, or a -1, by whether a comb has begun, after this many whole combs and nodes of all combs
-  SetNode : (begun : Bool) (combs count : ℕ) → Place
+  -- families: a node of a set, or a -1, by whether a family has begun, after this many whole families and nodes of all families
+  SetNode : (begun : Bool) (families count : ℕ) → Place
   -- a tree of cases: the first word of a step, after this many branches (the second node of a branch is as that of a
   -- pair); an index of a leaf, or its -1, after this many of all leaves (its difference is a whole number of a range)
   StepAfter : (branches : ℕ) → Place
@@ -131,7 +128,7 @@ no_steps = record { steps = []; first = None; in_leaf = false; leaf = []; to_com
 
 -- the first number of a step: the index of a node or of a family, or the 0 that begins a leaf
 abbrev pub index_or_leaf : ℕ → List ℕ → Result ℤ NumberFault
-index_or_leaf n word = whole_of word (pos 0) (pos (n + most_combs))
+index_or_leaf n word = whole_of word (pos 0) (pos (n + most_families))
 
 -- the word is that 0
 abbrev pub begins_leaf : ℕ → List ℕ → Bool
@@ -139,11 +136,11 @@ begins_leaf n word = reads_as (pos 0) (index_or_leaf n word)
 
 -- an index of a node or of a family, or the -1 that ends a leaf
 abbrev pub index_or_end : ℕ → List ℕ → Result ℤ NumberFault
-index_or_end n word = node_or_end (n + most_combs) word
+index_or_end n word = node_or_end (n + most_families) word
 
 -- the word is that -1
 abbrev pub ends_leaf : ℕ → List ℕ → Bool
-ends_leaf n word = is_end (n + most_combs) word
+ends_leaf n word = is_end (n + most_families) word
 
 -- ---- one word more
 

@@ -1,17 +1,16 @@
 //! Laws that state values of the definitions in `specs/`, worked out by hand: the first faults of
 //! small texts, the limits of lines and sections, the files of texts, texts of faults.
 
-ghost use Rattle.std.specs.Prelude.{codes, decimal, ◌≡◌, ◌≤◌, ◌++◌, ℕ, List, length, IsTrue, true, false};
+ghost use Rattle.tsp_text.specs.Prelude.{codes, decimal, ℕ, List, length, IsTrue, true, false, IsShort, most_coordinate, most_word_bytes};
+ghost use Rattle.std.specs.Prelude.{◌≡◌, ◌≤◌, ◌++◌};
 ghost use Rattle.tsp_number.specs.Decimal.{most_count};
-ghost use Rattle.tsp_number.specs.NumberWord.{IsShort};
-ghost use Rattle.tsp_format.specs.Limits.{most_coordinate, most_word_bytes};
 ghost use Rattle.tsp_number.specs.declared.word.NumberFault.TheVariants as numbers;
 ghost use Rattle.tsp_format.specs.declared.keyword.Field.TheVariants as fields;
 ghost use Rattle.tsp_file.specs.declared.rules.EndFault.TheVariants as ends;
 ghost use Rattle.tsp_text.specs.declared.fault.LineFault.TheVariants as faults;
 ghost use Rattle.tsp_text.specs.declared.fault.ReadFault.TheVariants as reads;
 ghost use Rattle.tsp_text.specs.ParsesTo.{line_fault_text, read_fault_text};
-ghost use Rattle.tsp_text.specs.Examples.{FaultAt, IsNumberFault, MissingAtEnd, EndsWithFault, OthersAre, ToursAre, PairsAre, TriplesAre, CombIs, TreeIs, DemandsAre, HasSpacePoint, HasPlanePoint, quad, longest_line, long_line, long_word, filled_line, IsLimit, IsLimitOfLines};
+ghost use Rattle.tsp_text.specs.Examples.{FaultAt, IsNumberFault, MissingAtEnd, EndsWithFault, OthersAre, ToursAre, PairsAre, TriplesAre, FamilyIs, TreeIs, DemandsAre, HasSpacePoint, HasPlanePoint, quad, longest_line, long_line, long_word, filled_line, IsLimit, IsLimitOfLines};
 ghost use Rattle.tsp_text.specs.FaultRows.{is_surplus_at};
 ghost use Rattle.tsp_text.specs.SectionWords.{DepotAfter, FirstAfter, TourNode, SetNode, StepAfter, IndexAfter};
 
@@ -72,13 +71,13 @@ pub fn faults_of_words()
         (codes "DIMENSION : 3/FIXED_EDGE_POTENTIAL_SECTION/1 2 -1") 3 3 numbers.OutOfRange }
     ensures zero_in_a_set { IsNumberFault (codes "DIMENSION : 3/COMB_SECTION/1 0")
         3 2 numbers.OutOfRange }
-    ensures past_the_combs { FaultAt
+    ensures past_the_families { FaultAt
         (codes "DIMENSION : 3/COMB_SECTION/1 2 -1 -1 -1 -1 3") 3 7 faults.AfterEnd }
-    ensures other_spelling_past_the_combs { FaultAt
+    ensures other_spelling_past_the_families { FaultAt
         (codes "DIMENSION : 3/COMB_SECTION/-1 -1.0") 3 2 faults.AfterEnd }
     ensures branch_of_a_node_with_itself { FaultAt
         (codes "DIMENSION : 4/BRANCH_SECTION/2 2") 3 2 faults.SelfEdge }
-    ensures first_number_past_all_combs { IsNumberFault
+    ensures first_number_past_all_families { IsNumberFault
         (codes "DIMENSION : 4/BRANCH_SECTION/10004 4 10005") 3 3 numbers.OutOfRange }
     ensures limit_past_the_nodes { IsNumberFault
         (codes "DIMENSION : 4/BRANCH_SECTION/5 5") 3 2 numbers.OutOfRange }
@@ -90,7 +89,7 @@ pub fn faults_of_words()
         3 5 numbers.OutOfRange }
     ensures index_zero { IsNumberFault (codes "DIMENSION : 4/BRANCH_SECTION/0 0")
         3 2 numbers.OutOfRange }
-    ensures index_past_all_combs { IsNumberFault (codes "DIMENSION : 4/BRANCH_SECTION/0 10004 1 10005")
+    ensures index_past_all_families { IsNumberFault (codes "DIMENSION : 4/BRANCH_SECTION/0 10004 1 10005")
         3 4 numbers.OutOfRange }
     ensures difference_too_large { IsNumberFault
         (codes "DIMENSION : 4/BRANCH_SECTION/0 1 2000000000000000 1 2000000000000001")
@@ -135,11 +134,11 @@ pub fn faults_at_the_end()
         (codes "TYPE : TOUR/DIMENSION : 3/FIXED_EDGE_POTENTIAL_SECTION/1/TOUR_SECTION")
         (ends.Incomplete fields.FixedEdgePotentialPart) }
     ensures cut_set { EndsWithFault (codes "TYPE : TOUR/DIMENSION : 3/COMB_SECTION/1 2/TOUR_SECTION")
-        (ends.Incomplete fields.CombPart) }
-    ensures cut_comb { EndsWithFault
+        (ends.Incomplete fields.FamilyPart) }
+    ensures cut_family { EndsWithFault
         (codes "TYPE : TOUR/DIMENSION : 3/COMB_SECTION/1 2 -1/TOUR_SECTION")
-        (ends.Incomplete fields.CombPart) }
-    ensures combs_alone { MissingAtEnd
+        (ends.Incomplete fields.FamilyPart) }
+    ensures families_alone { MissingAtEnd
         (codes "TYPE : BRANCHES/DIMENSION : 3/COMB_SECTION/1 2 -1 -1") fields.BranchPart }
     ensures cut_tree { EndsWithFault
         (codes "TYPE : BRANCHES/DIMENSION : 4/BRANCH_SECTION/1 2 0 2 1 -1")
@@ -215,15 +214,15 @@ pub fn limits_of_sections()
     ensures depots { IsLimit (DepotAfter 100000) (DepotAfter 99999) (codes "1") }
     ensures pairs { IsLimit (FirstAfter 100000) (FirstAfter 99999) (codes "1") }
     ensures nodes_of_tours { IsLimit (TourNode 1000000) (TourNode 999999) (codes "1") }
-    ensures nodes_of_combs { IsLimit (SetNode true 1 1000000) (SetNode true 1 999999) (codes "1") }
-    ensures combs { IsLimit (SetNode false 10000 5) (SetNode false 9999 5) (codes "1") }
+    ensures nodes_of_families { IsLimit (SetNode true 1 1000000) (SetNode true 1 999999) (codes "1") }
+    ensures families { IsLimit (SetNode false 10000 5) (SetNode false 9999 5) (codes "1") }
     ensures branches { IsLimit (StepAfter 1000000) (StepAfter 999999) (codes "1") }
     ensures indices { IsLimit (IndexAfter 10000000) (IndexAfter 9999999) (codes "1") }
     ensures end_of_depots { is_surplus_at 3 (DepotAfter 100000) (codes "-1") ≡ false }
     ensures end_of_pairs { is_surplus_at 3 (FirstAfter 100000) (codes "-1") ≡ false }
     ensures end_of_tours { is_surplus_at 3 (TourNode 1000000) (codes "-1") ≡ false }
-    ensures end_of_combs { is_surplus_at 3 (SetNode false 10000 1000000) (codes "-1") ≡ false }
-    ensures last_comb { is_surplus_at 3 (SetNode true 10000 5) (codes "1") ≡ false }
+    ensures end_of_families { is_surplus_at 3 (SetNode false 10000 1000000) (codes "-1") ≡ false }
+    ensures last_family { is_surplus_at 3 (SetNode true 10000 5) (codes "1") ≡ false }
     ensures leaf { is_surplus_at 3 (StepAfter 1000000) (codes "0") ≡ false }
     ensures end_of_leaf { is_surplus_at 3 (IndexAfter 10000000) (codes "-1") ≡ false }
 {}
@@ -239,9 +238,9 @@ pub fn fields_of_texts()
         (codes "TYPE:TOUR/DIMENSION 3/FIXED_EDGES/1 2 +3 1.0 -1/TOUR_SECTION") }
     ensures triples { TriplesAre (codes
         "TYPE:TOUR/DIMENSION 3/FIXED_EDGE_POTENTIAL_SECTION/1 2 5 +3/1 0 -1.0 -1/TOUR_SECTION") }
-    ensures comb { CombIs
+    ensures family { FamilyIs
         (codes "TYPE:BRANCHES/DIMENSION 6/COMB_SECTION/1 2 3 -1 1 4 -1/2 5 -1 3 6 -1.0 -1 -1 -1/BRANCH_SECTION/0 -1") }
-    ensures comb_without_an_end { CombIs
+    ensures family_without_an_end { FamilyIs
         (codes "TYPE:BRANCHES/DIMENSION 6/COMB_SECTION/1 2 3 -1 1 4 -1 2 5 -1 3 6 -1 -1/BRANCH_SECTION/0 -1") }
     ensures tree { TreeIs
         (codes "TYPE:BRANCHES/DIMENSION 4/BRANCH_SECTION/1 2/0 +2 1 -1.0/0 -1 -1") }

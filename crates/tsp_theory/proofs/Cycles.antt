@@ -1,19 +1,11 @@
 -- No cycle is shorter than the bound by duals or by a least 1-tree: sums along cycles, tours as 1-trees, weak duality.
-use Rattle.std.proofs.Common.{◌≡◌, ◌≢◌, ℕ, ◌≤◌, ◌<◌, suc, ◌+◌, List, [], ◌∷◌, length, get_or, refl, sym, ap, subst, ◌∙◌, arith, Bool, true, false, not, eqb, cond, map, inl, inr, ◌*◌, ◌^◌, ◌++◌, to_z, of_z, zero, ◌-◌, take, drop, length-append, drop-cons}
-use Rattle.std.proofs.lemmas.Bool.{cases_Bool, or_parts, or_cases, both_ways, ne_eqb, eqb-true, eqb-false, cases_eq}
-use Rattle.std.proofs.lemmas.Int.{ints, to_z-of_z, fits_signed_from_abs}
-use Rattle.std.proofs.lemmas.List.{append-nil, take-append-drop}
-use Rattle.std.proofs.lemmas.List.Elements.{recursion_from_All}
+use Rattle.tsp_theory.proofs.Prelude.{◌≡◌, ◌≢◌, ℕ, ◌≤◌, ◌<◌, suc, ◌+◌, List, [], ◌∷◌, length, get_or, refl, sym, ap, subst, ◌∙◌, arith, Bool, true, false, not, eqb, cond, map, inl, inr, ◌*◌, ◌^◌, ◌++◌, to_z, of_z, zero, ◌-◌, take, drop, length-append, drop-cons, cases_Bool, or_parts, or_cases, both_ways, ne_eqb, eqb-true, eqb-false, cases_eq, ints, to_z-of_z, fits_signed_from_abs, append-nil, take-append-drop, recursion_from_All, IsPermutation-sym, IsPermutation-append_comm, Contains-permutation, w64, w128, range_with_len, AllByRecursion, IsDistinct, list_any, AllPairs, Contains, ℤ, pos, ◌+ℤ◌, ◌*ℤ◌, ◌≤ℤ◌, negsuc, ◌-ℤ◌, neg_ℤ, FitsSigned, IsNode, nodes_to}
 use Rattle.std.proofs.lemmas.List.FromFn.{length-range_with_len, get_or-range_with_len}
-use Rattle.std.proofs.lemmas.List.Sorted.{IsPermutation-sym, IsPermutation-append_comm, Contains-permutation}
 use Rattle.std.proofs.lemmas.Map.Keys.{IsDistinct-head, IsDistinct-tail, IsDistinct-cons, IsDistinct-IsPermutation}
 use Rattle.std.proofs.lemmas.Map.Steps.{length-le_from_distinct_below}
-use Rattle.std.specs.Int.{w64, w128}
-use Rattle.std.specs.List.{range_with_len, AllByRecursion, IsDistinct, list_any, AllPairs, Contains}
 use Rattle.std.specs.List.Sorted.{IsPermutation}
-use Rattle.std.specs.Prelude.{ℤ, pos, ◌+ℤ◌, ◌*ℤ◌, ◌≤ℤ◌, negsuc, ◌-ℤ◌, neg_ℤ, FitsSigned}
+use Rattle.tsp_format.proofs.Basics.{both_all}
 use Rattle.tsp_format.specs.Limits.{most_nodes, most_scale, most_weight, most_potential, most_triples, most_multiplier}
-use Rattle.tsp_format.specs.Nodes.{IsNode, nodes_to}
 use Rattle.tsp_format.specs.Steps.{IsFromTo}
 use Rattle.tsp_format.specs.Words.{IsSymmetric}
 use Rattle.tsp_theory.proofs.Sums.{same_scale, size_of}
@@ -66,7 +58,7 @@ entries_of_links n nodes firsts seconds laws long as_long cycle =
     let two = laws.by_second (entry seconds) nodes ∙ entries_of_cycle n nodes seconds laws as_long cycle in
     omega (arith, ints, split, one, two)
 
--- ---- weak duality: duals whose sums are at most the scaled costs bound the length of every
+-- ---- weak duality: duals whose sums are at most the scaled costs bound every cycle
 
 -- the length at a scale
 pub scaled_length : (scale : ℤ) (cost : ℕ → ℕ → ℤ) (nodes : List ℕ) → Laws → IsScale scale
@@ -449,7 +441,7 @@ bound_of_weight scale weight potentials given all more bound s fits p q r is als
     (of_z w128 given)))) bound)
     (same_scale scale s) least))
 
--- ---- a cycle, wherever it begins, is one from node 1 on, so the bound of a least 1-tree is at
+-- ---- a cycle, wherever it begins, is one from node 1 on
 
 -- ---- the length of a list that begins at another of its nodes
 
@@ -462,7 +454,7 @@ length_through cost end from middle [] after = omega (arith, ints)
 length_through cost end from middle (next ∷ before) after = let rest = length_through cost end next middle before after in
     omega (arith, ints)
 
-turned_length : (cost : ℕ → ℕ → ℤ) (node : ℕ) (before after : List ℕ)
+pub turned_length : (cost : ℕ → ℕ → ℤ) (node : ℕ) (before after : List ℕ)
     → length_of cost (before ++ node ∷ after) ≡ length_of cost (node ∷ (after ++ before))
 turned_length cost node [] after = ap (λ xs. length_of cost (node ∷ xs)) (sym (append-nil after))
 turned_length cost node (first ∷ before) after =
@@ -478,11 +470,11 @@ tour_length cost end from (next ∷ nodes) = let rest = tour_length cost end nex
 
 -- ---- the nodes of a cycle
 
-apart : (x : ℕ) (xs : List ℕ) → AllByRecursion (λ y. x ≢ y) xs → AllByRecursion (λ y. eqb x y ≡ false) xs
+pub apart : (x : ℕ) (xs : List ℕ) → AllByRecursion (λ y. x ≢ y) xs → AllByRecursion (λ y. eqb x y ≡ false) xs
 apart x [] h = tt
 apart x (y ∷ xs) h = (ne_eqb x y h.0, apart x xs h.1)
 
-distinct : (xs : List ℕ) → AllPairs (λ a b. a ≢ b) xs → IsDistinct eqb xs
+pub distinct : (xs : List ℕ) → AllPairs (λ a b. a ≢ b) xs → IsDistinct eqb xs
 unfolding IsDistinct
 distinct [] h = tt
 distinct (x ∷ xs) h =
@@ -494,10 +486,6 @@ parts_all : (P : ℕ → Type 0) (xs ys : List ℕ) → AllByRecursion P (xs ++ 
 parts_all P [] ys h = (tt, h)
 parts_all P (x ∷ xs) ys h = let rest = parts_all P xs ys h.1 in ((h.0, rest.0), rest.1)
 
-both_all : (P : ℕ → Type 0) (xs ys : List ℕ) → AllByRecursion P xs → AllByRecursion P ys → AllByRecursion P (xs ++ ys)
-both_all P [] ys h k = k
-both_all P (x ∷ xs) ys h k = (h.0, both_all P xs ys h.1 k)
-
 -- nodes that aren't 1
 inner : (n : ℕ) (xs : List ℕ) → AllByRecursion (IsNode n) xs → AllByRecursion (λ y. eqb 1 y ≡ false) xs
     → AllByRecursion (IsInner n) xs
@@ -505,7 +493,7 @@ inner n [] h other = tt
 inner n (x ∷ xs) h other = let not_one : 1 ≢ x = eqb-false 1 x other.0 in
     ((omega (arith, h.0.0, not_one), h.0.1), inner n xs h.1 other.1)
 
-flips : (x y : ℕ) → eqb x y ≡ eqb y x
+pub flips : (x y : ℕ) → eqb x y ≡ eqb y x
 flips x y = elim (cases_eq x y) [
   | inl same ↦ ap (λ z. eqb z y) same ∙ ap (eqb y) (sym same)
   | inr other ↦ ne_eqb x y other ∙ sym (ne_eqb y x (λ same. other (sym same)))

@@ -1,13 +1,10 @@
 -- How often a cycle crosses a part of its nodes, the links that join a pair, and bounds with numbers on pairs.
-use Rattle.std.proofs.Common.{◌≡◌, ℕ, Bool, true, false, not, cond, List, [], ◌∷◌, ℤ, ◌+ℤ◌, ◌≤ℤ◌, ◌⊎◌, inl, inr, refl, arith, ap, sym, ◌∙◌, ◌≢◌, zero, suc, ◌≤◌, ◌==◌, ◌&&◌, ◌||◌, subst, length, ap₂, subst₂}
-use Rattle.std.proofs.lemmas.Bool.{cases_Bool, both_ways, cases_eq, false_from_ne_true, and_parts, and_from, or_cases, or_left, or_right, eqb-true, eq-eqb, ne_eqb}
+use Rattle.tsp_theory.proofs.Prelude.{◌≡◌, ℕ, Bool, true, false, not, cond, List, [], ◌∷◌, ℤ, ◌+ℤ◌, ◌≤ℤ◌, ◌⊎◌, inl, inr, refl, arith, ap, sym, ◌∙◌, ◌≢◌, zero, suc, ◌≤◌, ◌==◌, ◌&&◌, ◌||◌, subst, length, ap₂, subst₂, cases_Bool, both_ways, cases_eq, false_from_ne_true, and_parts, and_from, or_cases, or_left, or_right, eqb-true, eq-eqb, ne_eqb, ints, All-from_recursion, All-contains, recursion_from_All, AllByRecursion, Contains, AllPairs, list_any, pos, if◌then◌else◌, ◌-ℤ◌, ◌*ℤ◌}
+use Rattle.std.proofs.Math.Bool.{or_comm}
 use Rattle.std.proofs.lemmas.Bool.Decides.{nat_tests}
-use Rattle.std.proofs.lemmas.Int.{ints}
-use Rattle.std.proofs.lemmas.List.Elements.{All-from_recursion, All-contains, recursion_from_All}
 use Rattle.std.proofs.lemmas.List.Folds.{Any-from_list_any, list_any_at}
-use Rattle.std.specs.List.{AllByRecursion, Contains, AllPairs, list_any}
-use Rattle.std.specs.Prelude.{pos, if◌then◌else◌, ◌-ℤ◌, ◌*ℤ◌}
 use Rattle.tsp_theory.proofs.Cycles.{Laws, has_node, entries_of_links, scaled_length, weight_even, least_tree_below}
+use Rattle.tsp_theory.proofs.Sums.{sum_int_by-add}
 use Rattle.tsp_theory.specs.Bounds.{is_same_pair, IsScale, entry, total, weight_between, pair_of, number_on, numbers_on, triples_total, adjusted, UsesEach, UsesNone, AdjustedBoundsBoundCycles, UnadjustedBoundsAreNodeBounds}
 use Rattle.tsp_theory.specs.Tour.{links_to, sum_int_by, length_of, IsCycle, links, AreNeighbours}
 use Rattle.tsp_theory.specs.Tree.{crosses, crossing, weight_of}
@@ -87,7 +84,7 @@ twice part (x ∷ xs) inside outside in_nodes out_nodes p q = elim (crossed part
   | inr more ↦ let even = evenly part (x ∷ xs) in omega (arith, ints, more, even.1)
 ]
 
--- ---- two nodes that are neighbours in a cycle of three nodes or more are joined by exactly
+-- ---- two neighbours in a cycle of three nodes or more are joined by one link
 
 -- ---- sums and counts
 
@@ -95,19 +92,15 @@ pub sum_below : {X : Type 0} (f g : X → ℤ) (xs : List X) → ((x : X) → f 
 sum_below f g [] h = omega (arith, ints)
 sum_below f g (x ∷ xs) h = omega (arith, ints, h x, sum_below f g xs h)
 
-sum_both : {X : Type 0} (f g : X → ℤ) (xs : List X) → sum_int_by (λ x. f x +ℤ g x) xs ≡ sum_int_by f xs +ℤ sum_int_by g xs
-sum_both f g [] = omega (arith, ints)
-sum_both f g (x ∷ xs) = let rest = sum_both f g xs in omega (arith, ints, rest)
-
 -- how many pass a test
 abbrev pub count : {X : Type 0} → (X → Bool) → List X → ℤ
 count test xs = sum_int_by (λ x. one_if (test x)) xs
 
-count_positive : {X : Type 0} (test : X → Bool) (xs : List X) → pos 0 ≤ℤ count test xs
+pub count_positive : {X : Type 0} (test : X → Bool) (xs : List X) → pos 0 ≤ℤ count test xs
 count_positive test [] = omega (arith, ints)
 count_positive test (x ∷ xs) = omega (arith, ints, (none_or_one (test x)).0, count_positive test xs)
 
-count_any : {X : Type 0} (test : X → Bool) (xs : List X) → list_any test xs ≡ true → pos 1 ≤ℤ count test xs
+pub count_any : {X : Type 0} (test : X → Bool) (xs : List X) → list_any test xs ≡ true → pos 1 ≤ℤ count test xs
 count_any test [] h = absurd (both_ways false refl h)
 count_any test (x ∷ xs) h = elim (cases_Bool (test x)) [
   | inl t ↦ omega (arith, ints, ap one_if t, count_positive test xs)
@@ -143,7 +136,7 @@ sum_counted test z (x ∷ xs) =
     ]
 
 -- a node is at most once in a list of different nodes
-once : (a : ℕ) (xs : List ℕ) → AllPairs (λ x y. x ≢ y) xs → count (λ x. a == x) xs ≤ℤ pos 1
+pub once : (a : ℕ) (xs : List ℕ) → AllPairs (λ x y. x ≢ y) xs → count (λ x. a == x) xs ≤ℤ pos 1
 once a [] h = omega (arith, ints)
 once a (x ∷ xs) h = elim (cases_eq a x) [
   | inl same ↦
@@ -234,15 +227,15 @@ degrees nodes pair laws =
     let below = sum_below (λ (link : ℕ × ℕ). (one_if (same link) +ℤ one_if (same link)) +ℤ crossing part link.0 link.1)
     (λ (link : ℕ × ℕ). one_if (part link.0) +ℤ one_if (part link.1)) (links nodes)
     (λ link. of_link (same link) (part link.0) (part link.1) (ends_in pair link.0 link.1)) in
-    let first = sum_both (λ (link : ℕ × ℕ). one_if (same link) +ℤ one_if (same link))
+    let first = sum_int_by-add (λ (link : ℕ × ℕ). one_if (same link) +ℤ one_if (same link))
     (λ (link : ℕ × ℕ). crossing part link.0 link.1) (links nodes) in
-    let second = sum_both (λ (link : ℕ × ℕ). one_if (same link)) (λ (link : ℕ × ℕ). one_if (same link)) (links nodes) in
+    let second = sum_int_by-add (λ (link : ℕ × ℕ). one_if (same link)) (λ (link : ℕ × ℕ). one_if (same link)) (links nodes) in
     let third = laws.sum (λ i j. one_if (part i)) (λ i j. one_if (part j)) nodes in
     let by_first = laws.by_first (λ x. one_if (part x)) nodes in
     let by_second = laws.by_second (λ x. one_if (part x)) nodes in
     let split = sum_below (λ x. one_if (part x)) (λ x. one_if (pair.0 == x) +ℤ one_if (pair.1 == x)) nodes
     (λ x. of_node (pair.0 == x) (pair.1 == x)) in
-    let sums = sum_both (λ x. one_if (pair.0 == x)) (λ x. one_if (pair.1 == x)) nodes in
+    let sums = sum_int_by-add (λ x. one_if (pair.0 == x)) (λ x. one_if (pair.1 == x)) nodes in
     omega (arith, ints, below, first, second, third, by_first, by_second, split, sums)
 
 -- of three nodes one is another than these two
@@ -304,15 +297,9 @@ and_turned true false = refl
 and_turned false true = refl
 and_turned false false = refl
 
-or_turned : (x y : Bool) → (x || y) ≡ (y || x)
-or_turned true true = refl
-or_turned true false = refl
-or_turned false true = refl
-or_turned false false = refl
-
 pub same_turned : (pair : ℕ × ℕ) (i j : ℕ) → is_same_pair pair (i, j) ≡ is_same_pair pair (j, i)
 same_turned pair i j =
-    or_turned ((pair.0 == i) && (pair.1 == j)) ((pair.1 == i) && (pair.0 == j))
+    or_comm ((pair.0 == i) && (pair.1 == j)) ((pair.1 == i) && (pair.0 == j))
     ∙ ap (λ b. b || ((pair.0 == i) && (pair.1 == j))) (and_turned (pair.1 == i) (pair.0 == j))
     ∙ ap (λ b. ((pair.0 == j) && (pair.1 == i)) || b) (and_turned (pair.0 == i) (pair.1 == j))
 

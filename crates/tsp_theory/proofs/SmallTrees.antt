@@ -1,7 +1,5 @@
 -- Least 1-trees of four nodes in which node 3 joins node 2, and node 4 one of both; and least pairs at a node.
-use Rattle.std.proofs.Common.{◌≡◌, ◌≢◌, ℕ, zero, suc, ◌==◌, true, false, List, [], ◌∷◌, rules, arith, refl, sym, subst}
-use Rattle.std.specs.Prelude.{ℤ, ◌≤ℤ◌}
-use Rattle.std.proofs.lemmas.Bool.{both_ways, eq-eqb, eqb-true}
+use Rattle.tsp_theory.proofs.Prelude.{◌≡◌, ◌≢◌, ℕ, zero, suc, ◌==◌, true, false, List, [], ◌∷◌, rules, arith, refl, sym, subst, ℤ, ◌≤ℤ◌, both_ways, eq-eqb, eqb-true}
 use Rattle.tsp_theory.specs.Tree.{weight_of, IsInner, IsLeastOneTree, and_node, IsLeastLeaving, grown_by, AreNearest, IsWholeGrowth, tree_of}
 use Rattle.tsp_theory.specs.Bounds.{weight_between, IsBoundOfPotentials, IsNodeBound}
 use Rattle.tsp_theory.specs.Forest.{IsUncrossed, IsLeastJoin}

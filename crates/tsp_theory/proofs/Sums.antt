@@ -1,19 +1,12 @@
 -- Sums over lists, nodes and links, their sizes in 64 and 128 bits, and division by the scale.
-use Rattle.std.proofs.Common.{◌≡◌, ℕ, zero, suc, List, [], ◌∷◌, refl, arith, ◌≢◌, ◌-◌, ◌<◌, ◌≤◌, length, get_or, sym, ap, ◌∙◌, ◌+◌, ◌*◌, to_z, of_z, subst, ◌/◌, ◌^◌, ◌==◌, inl, inr}
+use Rattle.tsp_theory.proofs.Prelude.{◌≡◌, ℕ, zero, suc, List, [], ◌∷◌, refl, arith, ◌≢◌, ◌-◌, ◌<◌, ◌≤◌, length, get_or, sym, ap, ◌∙◌, ◌+◌, ◌*◌, to_z, of_z, subst, ◌/◌, ◌^◌, ◌==◌, inl, inr, cases_eq, eq-eqb, ne_eqb, ints, unsigned_abs-mul, fits_signed_mul, to_z-of_z, by_lt_z, int_wrap_fits, int_wrap-add_left, recursion_from_All, All-weaker, sum_by-IsPermutation, IsPermutation-refl, IsPermutation-remove, IsPermutation-cons, IsPermutation-sym, IsPermutation-trans, Contains-permutation, length_permutation, w64, w128, int_div_euclid, int_rem_euclid, int_wrap, sum_by, AllByRecursion, AllPairs, Contains, range_with_len, remove, ℤ, pos, negsuc, ◌+ℤ◌, ◌*ℤ◌, ◌≤ℤ◌, neg_ℤ, ◌↔◌, IsTrue, int_le, unsigned_abs, FitsSigned, ◌-ℤ◌, ◌<ℤ◌, if◌then◌else◌, IsNode, nodes_to}
 use Rattle.std.proofs.Math.IntN.{suc_ℤ-*ℤ, zero-*ℤ, *ℤ-zero, +ℤ_assoc, +ℤ_idr, pos-*ℤ-pos, pos-*ℤ-negsuc}
 use Rattle.std.proofs.Math.Nat.{mul-le-mul, mul-suc, div-le_self}
-use Rattle.std.proofs.lemmas.Bool.{cases_eq, eq-eqb, ne_eqb}
-use Rattle.std.proofs.lemmas.Int.{ints, unsigned_abs-mul, fits_signed_mul, to_z-of_z, by_lt_z, int_wrap_fits, int_wrap-add_left}
-use Rattle.std.proofs.lemmas.List.Elements.{recursion_from_All, All-weaker}
 use Rattle.std.proofs.lemmas.List.FromFn.{length-range_with_len, get_or-range_with_len}
-use Rattle.std.proofs.lemmas.List.Sorted.{sum_by-IsPermutation, IsPermutation-refl, IsPermutation-remove, IsPermutation-cons, IsPermutation-sym, IsPermutation-trans, Contains-permutation, length_permutation}
 use Rattle.std.proofs.lemmas.List.Sums.{sum_by-cons}
-use Rattle.std.specs.Int.{w64, w128, int_div_euclid, int_rem_euclid, int_wrap}
-use Rattle.std.specs.List.{sum_by, AllByRecursion, AllPairs, Contains, range_with_len, remove}
 use Rattle.std.specs.List.Sorted.{IsPermutation}
-use Rattle.std.specs.Prelude.{ℤ, pos, negsuc, ◌+ℤ◌, ◌*ℤ◌, ◌≤ℤ◌, neg_ℤ, ◌↔◌, IsTrue, int_le, unsigned_abs, FitsSigned, ◌-ℤ◌, ◌<ℤ◌, if◌then◌else◌}
+use Rattle.tsp_format.proofs.Basics.{in_tail}
 use Rattle.tsp_format.specs.Limits.{most_nodes, most_scale, most_weight, most_potential}
-use Rattle.tsp_format.specs.Nodes.{IsNode, nodes_to}
 use Rattle.tsp_format.specs.Steps.{IsFromTo}
 use Rattle.tsp_theory.specs.Bounds.{IsScale, IsLeastBound, IsBoundSized}
 use Rattle.tsp_theory.specs.Tour.{sum_int_by, IsCycle, links_to, links, length_of}
@@ -55,7 +48,7 @@ pub sum_int_by-add : {X : Type 0} (f g : X → ℤ) (xs : List X)
 sum_int_by-add f g [] = refl
 sum_int_by-add f g (x ∷ xs) = let tail = sum_int_by-add f g xs in omega (arith, ints)
 
-scaled_sum : (scale : ℕ) (a b : ℤ) → pos scale *ℤ (a +ℤ b) ≡ (pos scale *ℤ a) +ℤ (pos scale *ℤ b)
+pub scaled_sum : (scale : ℕ) (a b : ℤ) → pos scale *ℤ (a +ℤ b) ≡ (pos scale *ℤ a) +ℤ (pos scale *ℤ b)
 scaled_sum zero a b = simp zero-*ℤ
 scaled_sum (suc scale) a b =
     let tail = scaled_sum scale a b in
@@ -95,11 +88,6 @@ apart_from_pairs (x ∷ xs) h = (
   recursion_from_All (λ y. x ≢ y) xs (λ k d lt. h zero (suc k) d (omega arith) (omega arith)),
   apart_from_pairs xs (λ i j d below lt. h (suc i) (suc j) d (omega arith) (omega arith)),
 )
-
-in_tail : {X : Type 0} (x : X) (zs : List X) (w : X) (k : ℕ) → k < length (x ∷ zs) → get_or (x ∷ zs) k w ≡ w → x ≢ w
-    → Contains zs w
-in_tail x zs w zero lt is other = absurd (other is)
-in_tail x zs w (suc k) lt is other = (k, omega arith, is)
 
 still_inside : {X : Type 0} (xs ys zs : List X) (x : X) → IsPermutation ys (x ∷ zs) → AllByRecursion (λ y. x ≢ y) xs
     → AllByRecursion (Contains ys) xs → AllByRecursion (Contains zs) xs
@@ -366,15 +354,6 @@ most_64 = pos 9223372036854775807
 
 -- ---- products
 
-pub scaled_sum_divided : (scale : ℕ) (a b : ℤ) → pos scale *ℤ (a +ℤ b) ≡ (pos scale *ℤ a) +ℤ (pos scale *ℤ b)
-scaled_sum_divided zero a b = simp zero-*ℤ
-scaled_sum_divided (suc scale) a b =
-    let tail = scaled_sum_divided scale a b in
-    let whole = suc_ℤ-*ℤ (pos scale) (a +ℤ b) in
-    let first = suc_ℤ-*ℤ (pos scale) a in
-    let second = suc_ℤ-*ℤ (pos scale) b in
-    omega (arith, ints)
-
 natural : (z : ℤ) → pos 0 ≤ℤ z → z ≡ pos (unsigned_abs z)
 natural (pos n) h = refl
 natural (negsuc n) h = absurd (omega (arith, ints, h))
@@ -387,8 +366,8 @@ step_up scale a b lt =
     let apart : b -ℤ next ≡ pos gap = natural (b -ℤ next) (omega (arith, ints)) in
     let sum : b ≡ next +ℤ pos gap = omega (arith, ints) in
     let outer : (pos scale *ℤ b) ≡ (pos scale *ℤ next) +ℤ (pos scale *ℤ pos gap) = ap (λ z. pos scale *ℤ z) sum
-    ∙ scaled_sum_divided scale next (pos gap) in
-    let inner : (pos scale *ℤ next) ≡ (pos scale *ℤ a) +ℤ pos scale = scaled_sum_divided scale a (pos 1)
+    ∙ scaled_sum scale next (pos gap) in
+    let inner : (pos scale *ℤ next) ≡ (pos scale *ℤ a) +ℤ pos scale = scaled_sum scale a (pos 1)
     ∙ ap (λ z. (pos scale *ℤ a) +ℤ z) (pos-*ℤ-pos scale 1 ∙ ap (λ (n : ℕ). pos n) (omega arith)) in
     let rest : (pos scale *ℤ pos gap) ≡ pos (scale * gap) = pos-*ℤ-pos scale gap in
     omega (arith, ints)
@@ -400,7 +379,7 @@ scaled_up scale a b le =
     let apart : b -ℤ a ≡ pos gap = natural (b -ℤ a) (omega (arith, ints, le)) in
     let sum : b ≡ a +ℤ pos gap = omega (arith, ints, apart) in
     let outer : (pos scale *ℤ b) ≡ (pos scale *ℤ a) +ℤ (pos scale *ℤ pos gap) = ap (λ z. pos scale *ℤ z) sum
-    ∙ scaled_sum_divided scale a (pos gap) in
+    ∙ scaled_sum scale a (pos gap) in
     let rest : (pos scale *ℤ pos gap) ≡ pos (scale * gap) = pos-*ℤ-pos scale gap in
     omega (arith, ints)
 
@@ -445,7 +424,7 @@ least_of_negative scale sum q bound low is turned =
     let most_rest = rest_high scale (pos 0 -ℤ sum) low in
     let none : q +ℤ bound ≡ pos 0 = omega (arith, ints) in
     let product : pos 0 ≡ (pos scale *ℤ q) +ℤ (pos scale *ℤ bound) =
-    sym_of (pos scale *ℤ (q +ℤ bound)) (pos 0) (ap (λ z. pos scale *ℤ z) none ∙ *ℤ-zero (pos scale)) ∙ scaled_sum_divided scale q bound in
+    sym_of (pos scale *ℤ (q +ℤ bound)) (pos 0) (ap (λ z. pos scale *ℤ z) none ∙ *ℤ-zero (pos scale)) ∙ scaled_sum scale q bound in
     record {
       above = omega (arith, ints);
       least = λ other h. by_lt_z {P = bound ≤ℤ other} other bound

@@ -1,15 +1,7 @@
 -- Least joins make a least tree and a least 1-tree, as they are found step by step.
-use Rattle.std.proofs.Common.{◌≡◌, ℕ, zero, suc, ◌+◌, ◌≤◌, ◌==◌, Bool, true, false, List, [], ◌∷◌, ◌++◌, length, append_assoc, append-nil, ℤ, ◌+ℤ◌, ◌≤ℤ◌, inl, inr, refl, arith, ap, sym, ◌∙◌, subst, ◌≢◌, ◌<◌, not, ◌||◌, cond, map, ltb, take, drop, to_z, of_z}
+use Rattle.tsp_theory.proofs.Prelude.{◌≡◌, ℕ, zero, suc, ◌+◌, ◌≤◌, ◌==◌, Bool, true, false, List, [], ◌∷◌, ◌++◌, length, append_assoc, append-nil, ℤ, ◌+ℤ◌, ◌≤ℤ◌, inl, inr, refl, arith, ap, sym, ◌∙◌, subst, ◌≢◌, ◌<◌, not, ◌||◌, cond, map, ltb, take, drop, to_z, of_z, cases_eq, both_ways, true_from_ne_false, eqb-true, cases_Bool, ne_eqb, ltb-true, ltb-false, eqb-false, cond_both, or_left, or_parts, eq-eqb, ints, to_z-of_z, length-map, get_or-set_same, get_or-set_other, All-nil, All-cons, All-head, All-tail, All-push, All-weaker, recursion_from_All, All-from_recursion, All-permutation, length_permutation, w64, All, list_any, AllByRecursion, filter, if◌then◌else◌, ◌<ℤ◌, int_lt, FitsSigned}
 use Rattle.std.proofs.Math.ListN.{set}
 use Rattle.std.proofs.Math.Seq.{take-append_seam}
-use Rattle.std.proofs.lemmas.Bool.{cases_eq, both_ways, true_from_ne_false, eqb-true, cases_Bool, ne_eqb, ltb-true, ltb-false, eqb-false, cond_both, or_left, or_parts, eq-eqb}
-use Rattle.std.proofs.lemmas.Int.{ints, to_z-of_z}
-use Rattle.std.proofs.lemmas.List.{length-map, get_or-set_same, get_or-set_other}
-use Rattle.std.proofs.lemmas.List.Elements.{All-nil, All-cons, All-head, All-tail, All-push, All-weaker, recursion_from_All, All-from_recursion}
-use Rattle.std.proofs.lemmas.List.Sorted.{All-permutation, length_permutation}
-use Rattle.std.specs.Int.{w64}
-use Rattle.std.specs.List.{All, list_any, AllByRecursion, filter}
-use Rattle.std.specs.Prelude.{if◌then◌else◌, ◌<ℤ◌, int_lt, FitsSigned}
 use Rattle.tsp_theory.proofs.Exchange.{IsCrossed, IsPairOf, JoinsBeside, and_node_all, and_node_self, and_node_old, crosses_both, same_side, uncrossed_from, exchange, least_below, crossed_joins, crosses_turned}
 use Rattle.tsp_theory.proofs.Sums.{sum_int_by-IsPermutation}
 use Rattle.tsp_theory.specs.Forest.{IsUncrossed, IsLeastJoin, AreLeastJoins, IsWholeForest}

@@ -12,10 +12,9 @@
 mod costs;
 mod examples;
 mod laws;
-mod length;
 mod row_weights;
 
-pub use costs::{Costs, Region, Site, Symmetric};
+pub use costs::{Costs, Region, Site, Symmetric, canonical_length, tour_length, trace_tours};
 pub use examples::{
     examples_of_cycles, examples_of_duals, examples_of_forests, examples_of_multipliers,
     examples_of_numbers, examples_of_trees,
@@ -24,5 +23,4 @@ pub use laws::{
     adjusted_bounds_bound_cycles, bounds_are_unique, cycles_are_permutations, cycles_have_no_loops,
     duals_bound_cycles, least_trees_are_below_cycles, lengths_add_up, node_bounds_bound_cycles,
 };
-pub use length::{canonical_length, tour_length, trace_tours};
 pub use row_weights::{Weights, add_at, weight_in};

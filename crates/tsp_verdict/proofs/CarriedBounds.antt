@@ -1,20 +1,8 @@
 -- A certificate's bound for the costs that the code looks up is its bound for the instance.
-use Rattle.std.proofs.Common.{◌≡◌, ℕ, List, [], ◌∷◌, get_or, inl, inr, refl, sym, ap, ap₂, subst, subst₂, arith, Option}
-use Rattle.std.proofs.lemmas.Int.{ints}
-use Rattle.std.proofs.lemmas.List.Elements.{All-contains}
-use Rattle.std.specs.List.{All}
-use Rattle.std.specs.Prelude.{Some, ◌≤◌, length, unwrap_or, ℤ, ◌+ℤ◌, ◌-ℤ◌, ◌*ℤ◌, ◌≤ℤ◌, ◌<ℤ◌}
-use Rattle.tsp_format.specs.Words.{IsSymmetric}
+use Rattle.tsp_verdict.proofs.Prelude.{◌≡◌, ℕ, List, [], ◌∷◌, get_or, inl, inr, refl, sym, ap, ap₂, subst, subst₂, arith, Option, ints, All-contains, All, Some, ◌≤◌, length, unwrap_or, ℤ, ◌+ℤ◌, ◌-ℤ◌, ◌*ℤ◌, ◌≤ℤ◌, ◌<ℤ◌, IsSymmetric, cost, fixed_of, scale_in, multipliers_in, HoldsNodeNumbers, HoldsDuals, Fields, nodes_of, IsScale, entry, IsBoundSized, weight_between, pair_of, numbers_on, adjusted, UsesEach, IsAdjustedBoundOf, IsAdjustedBound, AdjustedBoundsBoundCycles, AreGood, IsFirstBroken, IsDualBound, DualsBoundCycles, length_of, IsCycle, AreNeighbours, Uses, is_directed, Potentials, DualInfeasible}
 use Rattle.tsp_format.specs.declared.kinds.Kind.TheVariants as kinds
-use Rattle.tsp_file.specs.Cost.{cost, fixed_of, scale_in, multipliers_in, HoldsNodeNumbers, HoldsDuals}
-use Rattle.tsp_file.specs.Fields.{Fields, nodes_of}
-use Rattle.tsp_theory.specs.Bounds.{IsScale, entry, IsBoundSized, weight_between, pair_of, numbers_on, adjusted, UsesEach, IsAdjustedBoundOf, IsAdjustedBound, AdjustedBoundsBoundCycles, AreGood, IsFirstBroken, IsDualBound, DualsBoundCycles}
-use Rattle.tsp_theory.specs.Tour.{length_of, IsCycle, AreNeighbours, Uses}
 use Rattle.tsp_theory.specs.Tree.{weight_of, IsLeastOneTree}
-use Rattle.tsp_cost.specs.Problems.{is_directed}
 use Rattle.tsp_cost.specs.states.Views.{HasCosts}
-use Rattle.tsp_report.specs.declared.task.CertificateKind.TheVariants.{Potentials}
-use Rattle.tsp_report.specs.declared.verdict.Reason.TheVariants.{DualInfeasible}
 use Rattle.tsp_verdict.specs.Certificates.{AreListed, AppliesToPotentials, IsBoundByNodes, IsBoundByDuals}
 use Rattle.tsp_verdict.specs.Certified.{IsBoundBy, BoundsSolutionsBy, IsBoundFitting, IsCertified}
 

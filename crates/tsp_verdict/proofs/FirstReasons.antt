@@ -1,25 +1,8 @@
 -- There is one first reason, by the TYPE of the instance and of the certificate.
-use Rattle.std.proofs.Common.{◌≡◌, ◌∙◌, ℕ, zero, suc, List, [], ◌∷◌, inl, inr, refl, sym, ap, subst, ◌≢◌, ◌⊎◌, Option, Some, None, ◌-◌, ◌<◌, ◌≤◌, true, false, subst₂, arith}
-use Rattle.std.proofs.lemmas.Bool.{cases_order, false≢true}
-use Rattle.std.proofs.lemmas.Int.{ints}
-use Rattle.std.specs.List.{All, AllPairs}
-use Rattle.std.specs.Prelude.{ℤ, pos, unwrap_or}
-use Rattle.tsp_format.specs.Nodes.{IsNode}
-use Rattle.tsp_format.specs.Words.{IsBefore}
-use Rattle.tsp_format.specs.declared.kinds.Kind.{Kind}
+use Rattle.tsp_verdict.proofs.Prelude.{◌≡◌, ◌∙◌, ℕ, zero, suc, List, [], ◌∷◌, inl, inr, refl, sym, ap, subst, ◌≢◌, ◌⊎◌, Option, Some, None, ◌-◌, ◌<◌, ◌≤◌, true, false, subst₂, arith, cases_order, false≢true, ints, All, AllPairs, ℤ, pos, unwrap_or, IsNode, IsBefore, Kind, fixed_of, scale_in, multipliers_in, cost, Fields, nodes_of, is_potentials_file, pair_of, is_same_pair, AreOnPairs, AreGood, rank_of, CertificateKind, Branches, Potentials, Reason, NotASolution, TooFewNodes, NotSymmetric, Dimension, TourCount, TourLength, DepotCount, DepotDemand, FixedEdgesInRoutes, DepotInRoute, NodeOutOfRange, RepeatedNode, FixedEdgeUnused, Unserved, Overload, LengthClaimed, NotPotentials, PotentialsDimension, PotentialsKind, MultiplierNotFixed, MultiplierRepeated, DualInfeasible, NotBranches, BranchesDimension, BadFamily, BadBranch, BranchTwice, BadLeaf, TooManyLoads, NotJudged, Verdict}
 use Rattle.tsp_format.specs.declared.kinds.Kind.TheVariants as kinds
-use Rattle.tsp_file.specs.Cost.{fixed_of, scale_in, multipliers_in, cost}
-use Rattle.tsp_file.specs.Fields.{Fields, nodes_of}
-use Rattle.tsp_file.specs.Rules.{is_potentials_file}
-use Rattle.tsp_theory.specs.Bounds.{pair_of, is_same_pair, AreOnPairs, AreGood}
-use Rattle.tsp_report.specs.Verdicts.{rank_of}
-use Rattle.tsp_report.specs.declared.task.CertificateKind.{CertificateKind}
-use Rattle.tsp_report.specs.declared.task.CertificateKind.TheVariants.{Branches, Potentials}
 use Rattle.tsp_report.specs.declared.verdict.KnownBound.{KnownBound}
-use Rattle.tsp_report.specs.declared.verdict.Reason.{Reason}
-use Rattle.tsp_report.specs.declared.verdict.Reason.TheVariants.{NotASolution, TooFewNodes, NotSymmetric, Dimension, TourCount, TourLength, DepotCount, DepotDemand, FixedEdgesInRoutes, DepotInRoute, NodeOutOfRange, RepeatedNode, FixedEdgeUnused, Unserved, Overload, LengthClaimed, NotPotentials, PotentialsDimension, PotentialsKind, MultiplierNotFixed, MultiplierRepeated, DualInfeasible, NotBranches, BranchesDimension, BadComb, BadBranch, BranchTwice, BadLeaf, TooManyLoads, NotJudged}
-use Rattle.tsp_report.specs.declared.verdict.Verdict.{Verdict}
-use Rattle.tsp_verdict.specs.Certificates.{AppliesToBranches, StandsAgainstQRoutes, AreListed, IsUnlisted, IsPairRepeated, pair_at, has_wanted, BreaksDuals, AppliesToPotentials, IsBoundByDuals}
+use Rattle.tsp_verdict.specs.Certificates.{AppliesToBranches, AppliesToQRoutes, AreListed, IsUnlisted, IsPairRepeated, pair_at, has_wanted, BreaksDuals, AppliesToPotentials, IsBoundByDuals}
 use Rattle.tsp_verdict.specs.Certified.{AppliesToTouring, NoneAgainstTouring, AppliesToRouting, AppliesToInstanceBy, AppliesToInstance, NoneAgainstInstance, AppliesToCertificateBy, IsCertifiedTourVerdict, IsCertifiedRoutesVerdict, IsCertifiedVerdictBy, IsCertifiedVerdict, IsBoundBy, IsCertified, AppliesToCertificate, NoneWithoutMemory}
 use Rattle.tsp_verdict.specs.SolutionVerdict.{IsKnownBoundOfToursBy, IsKnownBoundOfRoutesBy, IsKnownBoundBy}
 use Rattle.tsp_verdict.specs.Solutions.{IsFirstPlace, IsFirstReason, NoneBefore, AppliesToTour, AppliesToRoutes}
@@ -53,7 +36,7 @@ carried_of (MultiplierRepeated i) = (i, 0, pos 0)
 carried_of (DualInfeasible i j) = (i, j, pos 0)
 carried_of NotBranches = (0, 0, pos 0)
 carried_of BranchesDimension = (0, 0, pos 0)
-carried_of (BadComb i) = (i, 0, pos 0)
+carried_of (BadFamily i) = (i, 0, pos 0)
 carried_of (BadBranch i) = (i, 0, pos 0)
 carried_of (BranchTwice i) = (i, 0, pos 0)
 carried_of (BadLeaf i) = (i, 0, pos 0)
@@ -87,7 +70,7 @@ reasons =
     (λ carried. DualInfeasible carried.0 carried.1) ∷
     (λ carried. NotBranches) ∷
     (λ carried. BranchesDimension) ∷
-    (λ carried. BadComb carried.0) ∷
+    (λ carried. BadFamily carried.0) ∷
     (λ carried. BadBranch carried.0) ∷
     (λ carried. BranchTwice carried.0) ∷
     (λ carried. BadLeaf carried.0) ∷
@@ -131,7 +114,7 @@ is_of_rank (MultiplierRepeated i) = refl
 is_of_rank (DualInfeasible i j) = refl
 is_of_rank NotBranches = refl
 is_of_rank BranchesDimension = refl
-is_of_rank (BadComb i) = refl
+is_of_rank (BadFamily i) = refl
 is_of_rank (BadBranch i) = refl
 is_of_rank (BranchTwice i) = refl
 is_of_rank (BadLeaf i) = refl
@@ -174,7 +157,7 @@ one_pair a b i j first second = elim (cases_order a i) [
   | inr (inr more) ↦ absurd (second (inl more))
 ]
 
--- ---- reasons, bases and verdicts by the TYPE of an instance
+-- ---- reasons, known bounds and verdicts by the TYPE of an instance
 
 -- tours are judged
 abbrev pub HasTours : Fields → Type 0
@@ -193,7 +176,7 @@ instance_either (Some kinds.Branches) P inst tours routing = tours
 instance_either None P inst tours routing = tours
 
 pub tree_either : (kind : Option Kind) (P : (Reason → Type 0) → Type 0) (inst tree : Fields) → P (AppliesToBranches inst tree)
-    → P (StandsAgainstQRoutes inst tree) → P (AppliesToCertificateBy Branches kind inst tree)
+    → P (AppliesToQRoutes inst tree) → P (AppliesToCertificateBy Branches kind inst tree)
 tree_either (Some kinds.Tsp) P inst tree tours routes = tours
 tree_either (Some kinds.Atsp) P inst tree tours routes = tours
 tree_either (Some kinds.Cvrp) P inst tree tours routes = routes
@@ -442,7 +425,7 @@ tour_rank inst sol (Unserved node) applies = absurd applies
 tour_rank inst sol (Overload route) applies = absurd applies
 tour_rank inst sol NotBranches applies = absurd applies
 tour_rank inst sol BranchesDimension applies = absurd applies
-tour_rank inst sol (BadComb index) applies = absurd applies
+tour_rank inst sol (BadFamily index) applies = absurd applies
 tour_rank inst sol (BadBranch index) applies = absurd applies
 tour_rank inst sol (BranchTwice index) applies = absurd applies
 tour_rank inst sol (BadLeaf index) applies = absurd applies
@@ -482,17 +465,17 @@ branches_rank : (inst cert : Fields) (reason : Reason) → AppliesToBranches ins
     → rank_of NotPotentials ≤ rank_of reason
 branches_rank inst cert NotBranches applies = omega arith
 branches_rank inst cert BranchesDimension applies = omega arith
-branches_rank inst cert (BadComb index) applies = omega arith
+branches_rank inst cert (BadFamily index) applies = omega arith
 branches_rank inst cert (BadBranch index) applies = omega arith
 branches_rank inst cert (BranchTwice index) applies = omega arith
 branches_rank inst cert (BadLeaf index) applies = omega arith
 branches_rank inst cert reason applies = absurd applies
 
-q_routes_rank : (inst cert : Fields) (reason : Reason) → StandsAgainstQRoutes inst cert reason
+q_routes_rank : (inst cert : Fields) (reason : Reason) → AppliesToQRoutes inst cert reason
     → rank_of NotPotentials ≤ rank_of reason
 q_routes_rank inst cert NotBranches applies = omega arith
 q_routes_rank inst cert BranchesDimension applies = omega arith
-q_routes_rank inst cert (BadComb index) applies = omega arith
+q_routes_rank inst cert (BadFamily index) applies = omega arith
 q_routes_rank inst cert (BadBranch index) applies = omega arith
 q_routes_rank inst cert (BadLeaf index) applies = omega arith
 q_routes_rank inst cert TooManyLoads applies = omega arith

@@ -1,22 +1,13 @@
 -- The keys of a set of pairs, and the fixed pairs of an instance, each once.
-use Rattle.std.proofs.Common.{◌≡◌, ℕ, ◌||◌, Bool, true, false, cond, eqb, leb, refl, sym, ap, ap₂, subst, ◌∙◌, inl, inr, arith, ◌+◌, ◌<◌, ◌≤◌, ◌&&◌, not, List, [], ◌∷◌, ◌++◌, get_or, length, take, drop, drop-cons, add-one, ◌-◌}
-use Rattle.std.proofs.lemmas.Bool.{and_from, and_parts, cases_cond, cases_order, eq-eqb, eqb-true, false≢true, le-leb, le-ltb, lt-leb, or_cases, cases_Bool, cases_lt}
-use Rattle.std.proofs.lemmas.List.{append_assoc, drop_all, append-nil, length-map, take_more, get_or-take, get_or_default, length-take-le}
-use Rattle.std.proofs.lemmas.List.Elements.{All-from_recursion, recursion_from_All}
+use Rattle.tsp_verdict.proofs.Prelude.{◌≡◌, ℕ, ◌||◌, Bool, true, false, cond, eqb, leb, refl, sym, ap, ap₂, subst, ◌∙◌, inl, inr, arith, ◌+◌, ◌<◌, ◌≤◌, ◌&&◌, not, List, [], ◌∷◌, ◌++◌, get_or, length, take, drop, drop-cons, add-one, ◌-◌, and_from, and_parts, cases_cond, cases_order, eq-eqb, eqb-true, false≢true, le-leb, le-ltb, lt-leb, or_cases, cases_Bool, cases_lt, false_from_ne_true, append_assoc, drop_all, append-nil, length-map, take_more, get_or-take, get_or_default, length-take-le, All-from_recursion, recursion_from_All, BTreeSet, contains, Updates, All, AllByRecursion, list_any, AllPairs, ◌⊎◌, if◌then◌else◌, filter, ℤ, pos, IsPairOf, is_same_pair, pair_of, Uses, is_same, KeepsAll, KeepsDecision, DecideOnce, take_pairs}
 use Rattle.std.proofs.lemmas.List.Folds.{list_any-append, Any-from_list_any, list_any_at, list_any_more}
 use Rattle.std.proofs.lemmas.List.Kept.{AllPairs-cons}
 use Rattle.std.proofs.lemmas.Map.Lookups.{exact_pairs, exact_unsigned}
 use Rattle.std.specs.BTreeMap.{is_at}
-use Rattle.std.specs.BTreeSet.{BTreeSet, contains, Updates}
-use Rattle.std.specs.List.{All, AllByRecursion, list_any, AllPairs}
 use Rattle.std.specs.Ordering.{is_eq, nat_cmp}
-use Rattle.std.specs.Prelude.{◌⊎◌, if◌then◌else◌, filter, ℤ, pos}
 use Rattle.std.specs.declared.cmp.Ordering.{Ordering}
 use Rattle.std.specs.declared.cmp.Ordering.TheVariants.{Less, Equal, Greater}
-use Rattle.tsp_file.specs.Valid.{IsPairOf}
-use Rattle.tsp_theory.specs.Bounds.{is_same_pair, pair_of}
-use Rattle.tsp_theory.specs.Tour.{Uses}
-use Rattle.tsp_cases.specs.Cases.{is_same, KeepsAll, KeepsDecision, DecideOnce, take_pairs}
+use Rattle.tsp_bound.proofs.LoweredWeights.{straight, crossed}
 use Rattle.tsp_cases.specs.declared.open_case.Decision.{Decision}
 use Rattle.tsp_cases.specs.states.OpenCases.{IsDecision}
 use Rattle.tsp_verdict.specs.Certificates.{each_once, IsListedEitherWay, pair_at, IsUnlisted, IsPairRepeated}
@@ -24,16 +15,6 @@ use Rattle.tsp_verdict.specs.Solutions.{IsFirstPlace}
 use Rattle.tsp_verdict.specs.states.PairSets.{undirected, pair_cmp, key_of, HasKeys, HasPairs}
 
 -- ---- the two directions of a pair
-
-or_right : (x y : Bool) → y ≡ true → (x || y) ≡ true
-or_right true y h = refl
-or_right false y h = h
-
-pub straight : (p q : ℕ × ℕ) → p.0 ≡ q.0 → p.1 ≡ q.1 → is_same_pair p q ≡ true
-straight p q e f = rw (and_from (eqb p.0 q.0) (eqb p.1 q.1) (eq-eqb p.0 q.0 e) (eq-eqb p.1 q.1 f)) refl
-
-pub crossed : (p q : ℕ × ℕ) → p.1 ≡ q.0 → p.0 ≡ q.1 → is_same_pair p q ≡ true
-crossed p q e f = or_right _ _ (and_from (eqb p.1 q.0) (eqb p.0 q.1) (eq-eqb p.1 q.0 e) (eq-eqb p.0 q.1 f))
 
 turned : (a b : ℕ) → undirected (a, b) ≡ undirected (b, a)
 turned a b = elim (cases_order a b) [
@@ -479,10 +460,6 @@ repeated_pair triples s i lt has apart there =
           false≢true (sym e ∙ again.3);
     }
 
-not_same : (b : Bool) → (b ≡ true → ⊥) → b ≡ false
-not_same true h = absurd (h refl)
-not_same false h = refl
-
 -- it hasn't: they are apart up to that one too
 pub apart_more : (triples : List (ℕ × ℕ × ℤ)) (s : BTreeSet (ℕ × ℕ)) (i : ℕ) → i < length triples
     → HasPairs pair_of s (take i triples) → AreApart triples i
@@ -502,7 +479,7 @@ apart_more triples s i lt has apart lacks k j before inside = elim (cases_lt j i
         list_any_at (λ x. is_same_pair (pair_of (get_or triples i none)) (pair_of x)) (take i triples) k none fits here
 
     last : k < i → is_same_pair (pair_of (get_or triples k (0, 0, pos 0))) (pair_of (get_or triples i (0, 0, pos 0))) ≡ false
-    last low = not_same _ (λ same. false≢true (sym lacks ∙ has (pair_of (get_or triples i none)) ∙ known low same))
+    last low = false_from_ne_true _ (λ same. false≢true (sym lacks ∙ has (pair_of (get_or triples i none)) ∙ known low same))
 
 pub apart_all : (triples : List (ℕ × ℕ × ℤ)) → AreApart triples (length triples)
     → AllPairs (λ s t. is_same_pair (pair_of s) (pair_of t) ≡ false) triples

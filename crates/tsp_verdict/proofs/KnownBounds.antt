@@ -1,22 +1,11 @@
 -- The verdict on a solution by what is known of its instance before it is read.
-use Rattle.std.proofs.Common.{◌≡◌, Some, inl, inr, Option, None, ℕ, refl, sym, subst, ◌∙◌, ◌<◌, ◌≤◌, true, ap₂, arith}
-use Rattle.std.proofs.lemmas.Bool.{false≢true}
-use Rattle.std.specs.Prelude.{◌⊎◌, ℤ, IsTrue, MatchOption, option_map}
+use Rattle.tsp_verdict.proofs.Prelude.{◌≡◌, Some, inl, inr, Option, None, ℕ, refl, sym, subst, ◌∙◌, ◌<◌, ◌≤◌, true, ap₂, arith, false≢true, ◌⊎◌, ℤ, IsTrue, MatchOption, option_map, Fields, is_tour_file, BoundsTours, HasNoTour, IsLeastRoutes, problem_of, routing_of, capacity_of, rank_of, CertificateKind, Reason, TooFewNodes, NotSymmetric, DepotCount, DepotDemand, FixedEdgesInRoutes, LengthClaimed, NotASolution, Dimension, NotPotentials, Verdict}
 use Rattle.tsp_format.specs.declared.kinds.Kind.TheVariants as kinds
-use Rattle.tsp_file.specs.Fields.{Fields}
-use Rattle.tsp_file.specs.Rules.{is_tour_file}
-use Rattle.tsp_theory.specs.Tour.{BoundsTours, HasNoTour, IsLeastRoutes}
-use Rattle.tsp_cost.specs.Problems.{problem_of, routing_of, capacity_of}
 use Rattle.tsp_routing.specs.PlanLinks.{HasNoPlan}
-use Rattle.tsp_report.specs.Verdicts.{rank_of}
-use Rattle.tsp_report.specs.declared.task.CertificateKind.{CertificateKind}
 use Rattle.tsp_report.specs.declared.verdict.KnownBound.{KnownBound}
 use Rattle.tsp_report.specs.declared.verdict.KnownBound.TheVariants as known_bounds
 use Rattle.tsp_report.specs.declared.verdict.BoundVerdict.{BoundVerdict}
 use Rattle.tsp_report.specs.declared.verdict.BoundVerdict.TheVariants as bounds
-use Rattle.tsp_report.specs.declared.verdict.Reason.{Reason}
-use Rattle.tsp_report.specs.declared.verdict.Reason.TheVariants.{TooFewNodes, NotSymmetric, DepotCount, DepotDemand, FixedEdgesInRoutes, LengthClaimed, NotASolution, Dimension, NotPotentials}
-use Rattle.tsp_report.specs.declared.verdict.Verdict.{Verdict}
 use Rattle.tsp_report.specs.declared.verdict.Verdict.TheVariants as verdicts
 use Rattle.tsp_verdict.proofs.FirstReasons.{HasTours, of_tours, of_routing, tour_rank, routes_rank, own_first, certificate_first, none_at_all, certified_tour, certified_routes, certificate_rank, for_tours, tours_by, routes_by}
 use Rattle.tsp_verdict.specs.Certified.{AppliesToTouring, AppliesToRouting, AppliesToInstance, NoneAgainstInstance, AppliesToBounded, IsBoundVerdict, AppliesToCertificate, FindsBound, BoundsSolutionsBy, BoundsSolutions, IsCertifiedVerdict, NoneAgainstTouring, is_bounded, HasNoSolutionBy, HasNoSolution}
@@ -207,9 +196,9 @@ routes_bounded by inst sol cert None found count fewest bound cvrp v claims b =
 routes_bounded by inst sol cert (Some claim) found count fewest bound cvrp v claims b =
     (certified_plan by inst sol cert found count fewest bound cvrp v b, claims)
 
--- ---- a basis, which is what is known of all solutions before one is read
+-- ---- a known bound, which is what is known of all solutions before one is read
 
--- ---- what a basis of tours says of the instance
+-- ---- what a known bound of tours says of the instance
 
 alone_of_tours : (inst : Fields) (known_bound : KnownBound) → HasTours inst → IsKnownBoundAlone inst.kind inst known_bound → IsKnownBoundOfTours inst known_bound
 alone_of_tours inst known_bound (inl tsp) b = subst (λ kind. IsKnownBoundAlone kind inst known_bound) tsp b
@@ -275,7 +264,7 @@ knows_by by inst cert known_bounds.NoSolution kind b = λ reason applies. b.0 re
 knows_by by inst cert (known_bounds.Routes least bound) kind b = absurd b
 knows_by by inst cert (known_bounds.No reason) kind b = reason_by by inst cert reason kind b
 
--- a basis of tours has the reason against the instance, where one applies
+-- a known bound of tours has the reason against the instance, where one applies
 pub knows_instance : (given : Option (CertificateKind × Fields)) (inst : Fields) (known_bound : KnownBound) → HasTours inst
     → IsKnownBound given inst known_bound → KnowsInstance inst known_bound
 knows_instance None inst known_bound kind b = knows_alone inst known_bound (alone_of_tours inst known_bound kind b.1)
@@ -309,17 +298,12 @@ up_to_dimension inst sol is none reason low applies = absurd (omega (arith, low)
 
 -- ---- a tour
 
-tour_alone : (inst sol : Fields) (verdict : Verdict) → HasTours inst → IsTourVerdict inst sol verdict
-    → IsVerdictOn inst sol verdict
-tour_alone inst sol verdict (inl tsp) v = subst (λ kind. IsVerdictBy kind inst sol verdict) (sym tsp) v
-tour_alone inst sol verdict (inr atsp) v = subst (λ kind. IsVerdictBy kind inst sol verdict) (sym atsp) v
-
 -- the first reason against a tour is that of the verdict
 tour_rejected : (given : Option (CertificateKind × Fields)) (inst sol : Fields) (claimed : Option ℤ) (reason : Reason) → HasTours inst
     → IsFirstAgainstTour inst sol reason
     → IsVerdictWith given claimed inst sol (verdicts.No reason)
 tour_rejected None inst sol claimed reason kind first =
-    refused_alone claimed inst sol (verdicts.No reason) tt (tour_alone inst sol (verdicts.No reason) kind first)
+    refused_alone claimed inst sol (verdicts.No reason) tt (on_a_tour inst sol (verdicts.No reason) kind first)
 tour_rejected (Some given) inst sol claimed reason kind first = tour_refused given.0 inst sol given.1 claimed reason kind first
 
 -- a solution of another length than the claimed one
@@ -328,7 +312,7 @@ tour_disclaimed : (given : Option (CertificateKind × Fields)) (inst sol : Field
     → IsVerdictWith given claimed inst sol (verdicts.No (LengthClaimed found))
 tour_disclaimed None inst sol claimed found kind v other =
     other_alone claimed inst sol (verdicts.Tour found None) found refl other
-    (tour_alone inst sol (verdicts.Tour found None) kind v)
+    (on_a_tour inst sol (verdicts.Tour found None) kind v)
 tour_disclaimed (Some given) inst sol claimed found kind v other =
     tour_of_another_length given.0 inst sol given.1 claimed found kind v other
 
@@ -338,7 +322,7 @@ tour_accepted : (given : Option (CertificateKind × Fields)) (inst sol : Fields)
     → IsVerdictWith given claimed inst sol (verdicts.Tour found bound)
 tour_accepted None inst sol None claimed found kind b v claims =
     accepted_alone claimed inst sol (verdicts.Tour found None) found refl claims
-    (tour_alone inst sol (verdicts.Tour found None) kind v)
+    (on_a_tour inst sol (verdicts.Tour found None) kind v)
 tour_accepted (Some given) inst sol None claimed found kind b v claims =
     absurd (tours_by given.0 inst given.1 (known_bounds.Tours None) kind b.1)
 tour_accepted None inst sol (Some least) claimed found kind b v claims =
@@ -450,7 +434,7 @@ routes_rejected (Some given) inst sol claimed reason cvrp first =
     routes_refused given.0 inst sol given.1 claimed reason cvrp first
 
 -- The verdict on routes that are accepted on their own, by what is known of all.
--- plan: by the certificate and the basis; where there is none, the basis has the least number alone; else the bound, or
+-- plan: by the certificate and the known bound; where there is none, the known bound has the least number alone; else the bound, or
 -- the reason against the certificate
 routes_alone : (inst sol : Fields) (known_bound : KnownBound) (claimed : Option ℤ) (found : ℤ) (count fewest : ℕ)
     → inst.kind ≡ Some kinds.Cvrp → IsKnownBoundOfRoutes inst known_bound

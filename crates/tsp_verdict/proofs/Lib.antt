@@ -1,4 +1,5 @@
 -- The files of lemmas of this crate. Crates above may import those that are public.
+mod Prelude
 pub mod CarriedBounds
 pub mod FirstReasons
 pub mod RouteFiles

@@ -1,31 +1,13 @@
 -- Two reasons of one rank that apply to the same files have the same numbers.
-use Rattle.std.proofs.Common.{◌<◌, ◌⊎◌, inl, inr, arith, ◌≡◌, ◌∙◌, ℕ, ◌+◌, ◌-◌, List, length, refl, sym, ap, ap₂, subst}
-use Rattle.std.proofs.lemmas.Bool.{cases_order, false≢true}
-use Rattle.std.proofs.lemmas.Int.{ints}
-use Rattle.std.proofs.lemmas.List.Elements.{recursion_from_All}
-use Rattle.std.specs.Prelude.{pos, Option, None, Some, Bool, ℤ}
+use Rattle.tsp_verdict.proofs.Prelude.{◌<◌, ◌⊎◌, inl, inr, arith, ◌≡◌, ◌∙◌, ℕ, ◌+◌, ◌-◌, List, length, refl, sym, ap, ap₂, subst, cases_order, false≢true, ints, recursion_from_All, pos, Option, None, Some, Bool, ℤ, IsFirstAsymmetric, cost, scale_in, families_listed, Fields, nodes_of, IsFirstBroken, is_directed, IsFamily, NumbersAreUnique, IsFirstBadLeaf, IsFirstTwice, Crossings, IsFirstBadSet, IsFirstBadPlanBranch, IsFirstBadPlanLeaf, rank_of, CertificateKind, Potentials, Branches, Reason, TooFewNodes, NotSymmetric, DepotCount, DepotDemand, FixedEdgesInRoutes, LengthClaimed, NotASolution, Dimension, TourCount, TourLength, DepotInRoute, NodeOutOfRange, RepeatedNode, FixedEdgeUnused, Unserved, Overload, NotPotentials, PotentialsDimension, PotentialsKind, MultiplierNotFixed, MultiplierRepeated, DualInfeasible, NotBranches, BranchesDimension, BadFamily, BadBranch, BranchTwice, BadLeaf, TooManyLoads, NotJudged}
 use Rattle.tsp_format.specs.Steps as listed
-use Rattle.tsp_format.specs.Words.{IsFirstAsymmetric}
-use Rattle.tsp_file.specs.Cost.{cost, scale_in, families_listed}
-use Rattle.tsp_file.specs.Fields.{Fields, nodes_of}
-use Rattle.tsp_theory.specs.Bounds.{IsFirstBroken}
-use Rattle.tsp_cost.specs.Problems.{is_directed}
-use Rattle.tsp_cases.specs.Families.{IsFamily, NumbersAreUnique}
-use Rattle.tsp_cases.specs.ListedCases.{IsFirstBadLeaf, IsFirstTwice}
 use Rattle.tsp_cases.specs.ListedCases as pairs
-use Rattle.tsp_cases.specs.declared.family.Crossings.{Crossings}
 use Rattle.tsp_cases.specs.declared.open_case.Decision.{Decision}
-use Rattle.tsp_routing.specs.PlanVerdicts.{IsFirstBadSet, IsFirstBadPlanBranch, IsFirstBadPlanLeaf}
-use Rattle.tsp_report.specs.Verdicts.{rank_of}
-use Rattle.tsp_report.specs.declared.task.CertificateKind.{CertificateKind}
-use Rattle.tsp_report.specs.declared.task.CertificateKind.TheVariants.{Potentials, Branches}
 use Rattle.tsp_report.specs.declared.verdict.BoundVerdict.{BoundVerdict}
 use Rattle.tsp_report.specs.declared.verdict.BoundVerdict.TheVariants as bounds
-use Rattle.tsp_report.specs.declared.verdict.Reason.{Reason}
-use Rattle.tsp_report.specs.declared.verdict.Reason.TheVariants.{TooFewNodes, NotSymmetric, DepotCount, DepotDemand, FixedEdgesInRoutes, LengthClaimed, NotASolution, Dimension, TourCount, TourLength, DepotInRoute, NodeOutOfRange, RepeatedNode, FixedEdgeUnused, Unserved, Overload, NotPotentials, PotentialsDimension, PotentialsKind, MultiplierNotFixed, MultiplierRepeated, DualInfeasible, NotBranches, BranchesDimension, BadComb, BadBranch, BranchTwice, BadLeaf, TooManyLoads, NotJudged}
 use Rattle.tsp_verdict.proofs.FirstReasons.{certificate_rank, HasTours, instance_either, first_for_tours, tour_rank, routes_rank, AreOwn, Both, Carried, reason_of, IsOneByRank, one_place, one_pair, tree_either}
 use Rattle.tsp_verdict.proofs.TreeReasons.{one_numbers}
-use Rattle.tsp_verdict.specs.Certificates.{given_in, AreNumbersOf, AppliesToBranches, families_with_numbers, BreaksDuals, AppliesToPotentials, StandsAgainstQRoutes}
+use Rattle.tsp_verdict.specs.Certificates.{given_in, AreNumbersOf, AppliesToBranches, families_with_numbers, BreaksDuals, AppliesToPotentials, AppliesToQRoutes}
 use Rattle.tsp_verdict.specs.Certified.{AppliesToTouring, AppliesToRouting, AppliesToInstance, NoneAgainstInstance, AppliesToBounded, IsBoundVerdict, AppliesToCertificate, FindsBound, AppliesToCertified, AppliesToCertifiedRoutes}
 use Rattle.tsp_verdict.specs.Solutions.{IsFirstReason, IsFirstUnserved, AppliesToRoutes, AppliesToTour}
 
@@ -139,7 +121,7 @@ tours_by_rank inst sol (MultiplierRepeated i) carried one other = absurd one
 tours_by_rank inst sol (DualInfeasible i j) carried one other = absurd one
 tours_by_rank inst sol NotBranches carried one other = absurd one
 tours_by_rank inst sol BranchesDimension carried one other = absurd one
-tours_by_rank inst sol (BadComb i) carried one other = absurd one
+tours_by_rank inst sol (BadFamily i) carried one other = absurd one
 tours_by_rank inst sol (BadBranch i) carried one other = absurd one
 tours_by_rank inst sol (BranchTwice i) carried one other = absurd one
 tours_by_rank inst sol (BadLeaf i) carried one other = absurd one
@@ -175,7 +157,7 @@ instances_by_rank inst (MultiplierRepeated i) carried one other = absurd one
 instances_by_rank inst (DualInfeasible i j) carried one other = absurd one
 instances_by_rank inst NotBranches carried one other = absurd one
 instances_by_rank inst BranchesDimension carried one other = absurd one
-instances_by_rank inst (BadComb i) carried one other = absurd one
+instances_by_rank inst (BadFamily i) carried one other = absurd one
 instances_by_rank inst (BadBranch i) carried one other = absurd one
 instances_by_rank inst (BranchTwice i) carried one other = absurd one
 instances_by_rank inst (BadLeaf i) carried one other = absurd one
@@ -208,7 +190,7 @@ routings_by_rank inst (MultiplierRepeated i) carried one other = absurd one
 routings_by_rank inst (DualInfeasible i j) carried one other = absurd one
 routings_by_rank inst NotBranches carried one other = absurd one
 routings_by_rank inst BranchesDimension carried one other = absurd one
-routings_by_rank inst (BadComb i) carried one other = absurd one
+routings_by_rank inst (BadFamily i) carried one other = absurd one
 routings_by_rank inst (BadBranch i) carried one other = absurd one
 routings_by_rank inst (BranchTwice i) carried one other = absurd one
 routings_by_rank inst (BadLeaf i) carried one other = absurd one
@@ -251,7 +233,7 @@ routes_by_rank inst sol (MultiplierRepeated i) carried one other = absurd one
 routes_by_rank inst sol (DualInfeasible i j) carried one other = absurd one
 routes_by_rank inst sol NotBranches carried one other = absurd one
 routes_by_rank inst sol BranchesDimension carried one other = absurd one
-routes_by_rank inst sol (BadComb i) carried one other = absurd one
+routes_by_rank inst sol (BadFamily i) carried one other = absurd one
 routes_by_rank inst sol (BadBranch i) carried one other = absurd one
 routes_by_rank inst sol (BranchTwice i) carried one other = absurd one
 routes_by_rank inst sol (BadLeaf i) carried one other = absurd one
@@ -311,7 +293,7 @@ potentials_by_rank inst pot (MultiplierRepeated i) carried one other =
 potentials_by_rank inst pot (DualInfeasible i j) carried one other = broken_by_rank inst pot i j carried one.1 other.1
 potentials_by_rank inst pot NotBranches carried one other = absurd one
 potentials_by_rank inst pot BranchesDimension carried one other = absurd one
-potentials_by_rank inst pot (BadComb i) carried one other = absurd one
+potentials_by_rank inst pot (BadFamily i) carried one other = absurd one
 potentials_by_rank inst pot (BadBranch i) carried one other = absurd one
 potentials_by_rank inst pot (BranchTwice i) carried one other = absurd one
 potentials_by_rank inst pot (BadLeaf i) carried one other = absurd one
@@ -400,7 +382,7 @@ trees_by_rank unique inst tree (MultiplierRepeated i) carried one other = absurd
 trees_by_rank unique inst tree (DualInfeasible i j) carried one other = absurd one
 trees_by_rank unique inst tree NotBranches carried one other = refl
 trees_by_rank unique inst tree BranchesDimension carried one other = refl
-trees_by_rank unique inst tree (BadComb i) carried one other = ap BadComb (one_place _ _ i carried.0 one other)
+trees_by_rank unique inst tree (BadFamily i) carried one other = ap BadFamily (one_place _ _ i carried.0 one other)
 trees_by_rank unique inst tree (BadBranch i) carried one other = ap BadBranch (bad_pair_by_rank inst tree i carried.0 one other)
 trees_by_rank unique inst tree (BranchTwice i) carried one other = ap BranchTwice (twice_by_rank inst tree i carried.0 one other)
 trees_by_rank unique inst tree (BadLeaf i) carried one other =
@@ -426,22 +408,22 @@ one_bad_plan_leaf n families steps a b one other = elim (cases_order a b) [
   | inr (inr more) ↦ absurd (other.bad (one.before b other.least more))
 ]
 
-bad_branch_by_rank : (inst tree : Fields) (a b : ℕ) → StandsAgainstQRoutes inst tree (BadBranch a)
-    → StandsAgainstQRoutes inst tree (BadBranch b) → a ≡ b
+bad_branch_by_rank : (inst tree : Fields) (a b : ℕ) → AppliesToQRoutes inst tree (BadBranch a)
+    → AppliesToQRoutes inst tree (BadBranch b) → a ≡ b
 bad_branch_by_rank inst tree a b one other =
     let steps = one_value tree.branches other.0 one.0 other.1 one.1 in
     let moved = subst (λ steps. IsFirstBadPlanBranch (nodes_of inst) (length (families_listed tree)) steps b) steps other.2 in
     one_bad_pair (nodes_of inst + 1) (nodes_of inst + length (families_listed tree)) one.0 a b one.2 moved
 
-bad_plan_leaf_by_rank : (inst tree : Fields) (a b : ℕ) → StandsAgainstQRoutes inst tree (BadLeaf a)
-    → StandsAgainstQRoutes inst tree (BadLeaf b) → a ≡ b
+bad_plan_leaf_by_rank : (inst tree : Fields) (a b : ℕ) → AppliesToQRoutes inst tree (BadLeaf a)
+    → AppliesToQRoutes inst tree (BadLeaf b) → a ≡ b
 bad_plan_leaf_by_rank inst tree a b one other =
     let steps = one_value tree.branches other.0 one.0 other.1 one.1 in
     let moved = subst (λ steps. IsFirstBadPlanLeaf (nodes_of inst) (length (families_listed tree)) steps b) steps other.2 in
     one_bad_plan_leaf (nodes_of inst) (length (families_listed tree)) one.0 a b one.2 moved
 
 -- plan: by the reason: one without numbers is equal to itself; of one with numbers files have one first place or pair
-pub q_routes_by_rank : (inst tree : Fields) → IsOneByRank (StandsAgainstQRoutes inst tree)
+pub q_routes_by_rank : (inst tree : Fields) → IsOneByRank (AppliesToQRoutes inst tree)
 q_routes_by_rank inst tree NotASolution carried one other = absurd one
 q_routes_by_rank inst tree TooFewNodes carried one other = absurd one
 q_routes_by_rank inst tree (NotSymmetric i j) carried one other = absurd one
@@ -466,7 +448,7 @@ q_routes_by_rank inst tree (MultiplierRepeated i) carried one other = absurd one
 q_routes_by_rank inst tree (DualInfeasible i j) carried one other = absurd one
 q_routes_by_rank inst tree NotBranches carried one other = refl
 q_routes_by_rank inst tree BranchesDimension carried one other = refl
-q_routes_by_rank inst tree (BadComb i) carried one other = ap BadComb (one_bad_set _ _ _ i carried.0 one other)
+q_routes_by_rank inst tree (BadFamily i) carried one other = ap BadFamily (one_bad_set _ _ _ i carried.0 one other)
 q_routes_by_rank inst tree (BadBranch i) carried one other = ap BadBranch (bad_branch_by_rank inst tree i carried.0 one other)
 q_routes_by_rank inst tree (BranchTwice i) carried one other = absurd one
 q_routes_by_rank inst tree (BadLeaf i) carried one other = ap BadLeaf (bad_plan_leaf_by_rank inst tree i carried.0 one other)
@@ -507,7 +489,7 @@ same_rank (MultiplierRepeated i) carried = refl
 same_rank (DualInfeasible i j) carried = refl
 same_rank NotBranches carried = refl
 same_rank BranchesDimension carried = refl
-same_rank (BadComb i) carried = refl
+same_rank (BadFamily i) carried = refl
 same_rank (BadBranch i) carried = refl
 same_rank (BranchTwice i) carried = refl
 same_rank (BadLeaf i) carried = refl

@@ -1,36 +1,20 @@
 -- Files have one verdict: its reason has one rank and numbers, its length is that of the tour or plan, its bound one
 -- number.
-use Rattle.std.proofs.Common.{◌≡◌, ◌∙◌, ℕ, false, List, [], ◌∷◌, get_or, inl, inr, refl, sym, ap, ap₂, subst, arith}
-use Rattle.std.specs.Prelude.{Option, None, Some, ℤ}
-use Rattle.std.proofs.lemmas.Bool.{false≢true}
-use Rattle.std.proofs.lemmas.Int.{ints}
-use Rattle.tsp_format.specs.declared.kinds.Kind.{Kind}
+use Rattle.tsp_verdict.proofs.Prelude.{◌≡◌, ◌∙◌, ℕ, false, List, [], ◌∷◌, get_or, inl, inr, refl, sym, ap, ap₂, subst, arith, Option, None, Some, ℤ, false≢true, ints, Kind, Fields, nodes_of, cost, scale_in, multipliers_in, families_listed, length_of, IsLeastRoutes, IsAdjustedBound, IsDualBound, is_directed, routing_of, capacity_of, Crossings, NumbersAreUnique, decided_number, CertificateKind, Potentials, Branches, Reason, LengthClaimed, Verdict, IsBoundFound, PlanBoundsFoundAreUnique}
 use Rattle.tsp_format.specs.declared.kinds.Kind.TheVariants as kinds
 use Rattle.tsp_format.specs.Steps as listed
-use Rattle.tsp_file.specs.Fields.{Fields, nodes_of}
-use Rattle.tsp_file.specs.Cost.{cost, scale_in, multipliers_in, families_listed}
-use Rattle.tsp_theory.specs.Tour.{length_of, IsLeastRoutes}
-use Rattle.tsp_theory.specs.Bounds.{total, IsLeastBound, IsAdjustedBound, IsDualBound}
-use Rattle.tsp_cost.specs.Problems.{is_directed, routing_of, capacity_of}
-use Rattle.tsp_cases.specs.declared.family.Crossings.{Crossings}
-use Rattle.tsp_cases.specs.Families.{NumbersAreUnique}
+use Rattle.tsp_theory.proofs.Cycles.{one_bound as one_sum_bound}
 use Rattle.tsp_cases.specs.CaseTrees.{IsCaseTreeBound, CaseTreeBoundsAreUnique}
-use Rattle.tsp_cases.specs.Cases.{decided_number}
 use Rattle.tsp_report.specs.declared.verdict.KnownBound.{KnownBound}
 use Rattle.tsp_report.specs.declared.verdict.KnownBound.TheVariants as known_bounds
-use Rattle.tsp_report.specs.declared.task.CertificateKind.{CertificateKind}
-use Rattle.tsp_report.specs.declared.task.CertificateKind.TheVariants.{Potentials, Branches}
 use Rattle.tsp_report.specs.declared.verdict.BoundVerdict.{BoundVerdict}
 use Rattle.tsp_report.specs.declared.verdict.BoundVerdict.TheVariants as bounds
-use Rattle.tsp_report.specs.declared.verdict.Reason.{Reason}
-use Rattle.tsp_report.specs.declared.verdict.Reason.TheVariants.{LengthClaimed}
-use Rattle.tsp_report.specs.declared.verdict.Verdict.{Verdict}
 use Rattle.tsp_report.specs.declared.verdict.Verdict.TheVariants.{Tour, Routes, No}
+use Rattle.tsp_verdict.proofs.KnownBounds.{same_least}
 use Rattle.tsp_verdict.specs.SolutionVerdict.{IsKnownBoundOfTours, IsKnownBoundOfRoutes, IsKnownBoundAlone, IsKnownBoundOfToursBy, IsKnownBoundOfRoutesBy, IsKnownBoundBy, IsKnownBoundWith, IsVerdictBy, IsVerdictOn, IsUnclaimedVerdict, IsFirstAgainstGiven, HasLength, IsOfLength, IsClaimedVerdict, FilesHaveOneVerdict, FilesHaveOneBound, FilesHaveOneKnownBound, SolutionsHaveOneVerdict}
 use Rattle.tsp_verdict.specs.Certified.{AppliesToTouring, AppliesToRouting, AppliesToBounded, IsBoundVerdict, is_bounded, IsBoundBy, IsBoundOf, HasNoBoundBy, AppliesToCertificate, IsCertified, AppliesToCertified, IsCertifiedTourVerdict, AppliesToCertifiedRoutes, IsCertifiedRoutesVerdict, IsCertifiedVerdictBy, IsCertifiedVerdict}
 use Rattle.tsp_verdict.specs.Certificates.{given_in, case_steps_in, families_with_numbers, HasBoundByBranches, IsBoundByNodes, IsBoundByDuals, unit_in, HasBoundByQRoutes}
 use Rattle.tsp_verdict.specs.Solutions.{total_of, AppliesToRoutes, IsPlanned, IsRoutesVerdict, tours_of, AppliesToTour, IsTourVerdict}
-use Rattle.tsp_routing.specs.PlanVerdicts.{IsBoundFound, PlanBoundsFoundAreUnique}
 use Rattle.tsp_verdict.proofs.FirstReasons.{one_first}
 use Rattle.tsp_verdict.proofs.OneReason.{one_value, tours_by_rank, instances_by_rank, routings_by_rank, routes_by_rank, certificates_by_rank, certified_by_rank, certified_routes_by_rank, bounded_by_rank, one_crossed}
 
@@ -57,10 +41,6 @@ one_tour inst sol (Tour length bound) (Tour found least) one other =
 one_tour inst sol (Tour length bound) (Routes found routes least bound_b) one other = absurd other
 one_tour inst sol (Routes length routes least bound) other is none = absurd is
 
-one_least : (total capacity : ℤ) (a b : ℕ) → IsLeastRoutes total capacity a → IsLeastRoutes total capacity b → a ≡ b
-one_least total capacity a b one other =
-    let first = one.none_less b other.enough in let second = other.none_less a one.enough in omega (arith, first, second)
-
 three : {X Y Z W : Type 0} (f : X → Y → Z → W) (x p : X) (y q : Y) (z r : Z) → x ≡ p → y ≡ q → z ≡ r → f x y z ≡ f p q r
 three f x p y q z r first second third = ap (λ x. f x y z) first ∙ ap₂ (λ y z. f p y z) second third
 
@@ -71,7 +51,7 @@ one_planned : (inst : Fields) (plan : List (List ℕ)) (a b : ℤ) (count other 
 one_planned inst plan a b count other fewest least bound one second =
     three (λ length routes least. Routes length routes least bound) a b count other fewest least
     (one.measured ∙ sym second.measured) (one.counted ∙ sym second.counted)
-    (one_least (total_of inst) (capacity_of inst) fewest least one.least_is second.least_is)
+    (same_least (total_of inst) (capacity_of inst) fewest least one.least_is second.least_is)
 
 one_routes : (inst sol : Fields) (one other : Verdict) → IsRoutesVerdict inst sol one → IsRoutesVerdict inst sol other
     → one ≡ other
@@ -100,10 +80,6 @@ one_alone : (inst sol : Fields) (one other : Verdict) → IsVerdictOn inst sol o
 one_alone inst sol one other first second = one_by_kind inst.kind inst sol one other first second
 
 -- ---- bounds
-
-one_sum_bound : (scale sum a b : ℤ) → IsLeastBound scale sum a → IsLeastBound scale sum b → a ≡ b
-one_sum_bound scale sum a b one other =
-    let first = one.least b other.above in let second = other.least a one.above in omega (arith, ints, first, second)
 
 -- two least 1-trees weigh the same
 one_adjusted : (n : ℕ) (cost : ℕ → ℕ → ℤ) (scale : ℤ) (potentials : List ℤ) (taken avoided : List (ℕ × ℕ × ℤ)) (a b : ℤ)
@@ -513,7 +489,7 @@ one_of_routes inst (known_bounds.Routes least (Some bound)) other one second = a
 one_of_routes inst (known_bounds.Routes least None) (known_bounds.Tours bound) one other = absurd other
 one_of_routes inst (known_bounds.Routes least None) known_bounds.NoSolution one other = absurd other
 one_of_routes inst (known_bounds.Routes a None) (known_bounds.Routes b None) one other =
-    ap (λ least. known_bounds.Routes least None) (one_least (total_of inst) (capacity_of inst) a b one.1 other.1)
+    ap (λ least. known_bounds.Routes least None) (same_least (total_of inst) (capacity_of inst) a b one.1 other.1)
 one_of_routes inst (known_bounds.Routes least None) (known_bounds.Routes other (Some bound)) one second = absurd second
 one_of_routes inst (known_bounds.Routes least None) (known_bounds.No reason) one other = absurd (one.0 reason other.applies)
 one_of_routes inst (known_bounds.No reason) (known_bounds.Tours bound) one other = absurd other
@@ -534,7 +510,7 @@ one_known_bound_alone (Some kinds.Potentials) inst one other first second = absu
 one_known_bound_alone (Some kinds.Branches) inst one other first second = absurd first
 one_known_bound_alone None inst one other first second = absurd first
 
--- a basis with a certificate is what a bound without a solution says
+-- a known bound with a certificate is what a bound without a solution says
 abbrev known_bound_of_bound : BoundVerdict → KnownBound
 known_bound_of_bound (bounds.Bound bound) = known_bounds.Tours (Some bound)
 known_bound_of_bound bounds.NoSolution = known_bounds.NoSolution
@@ -568,13 +544,13 @@ routes_said_by by inst cert (known_bounds.Routes own None) is = absurd is
 routes_said_by by inst cert (known_bounds.Routes own (Some bound)) is = (
   bounds.Bound bound,
   is.0,
-  λ least is_least. ap (λ k. known_bounds.Routes k (Some bound)) (one_least (total_of inst) (capacity_of inst) own least is.1 is_least),
+  λ least is_least. ap (λ k. known_bounds.Routes k (Some bound)) (same_least (total_of inst) (capacity_of inst) own least is.1 is_least),
 )
 routes_said_by by inst cert known_bounds.NoSolution is = (bounds.NoSolution, is, λ least is_least. refl)
 routes_said_by by inst cert (known_bounds.Tours bound) is = absurd is
 routes_said_by by inst cert (known_bounds.No reason) is = (bounds.No reason, is, λ least is_least. refl)
 
--- plan: by the two bases; bounds and least numbers are one each
+-- plan: by the two known bounds; bounds and least numbers are one each
 one_known_bound_of_routes : Laws → (by : CertificateKind) (inst cert : Fields) (one other : KnownBound) → IsKnownBoundOfRoutesBy by inst cert one
     → IsKnownBoundOfRoutesBy by inst cert other → one ≡ other
 one_known_bound_of_routes laws by inst cert (known_bounds.Routes least None) other first second = absurd first

@@ -1,33 +1,19 @@
 -- Routes as they stand in a file: places, lengths, loads, and the least number of routes.
-use Rattle.std.proofs.Common.{◌≡◌, ℕ, zero, suc, ◌+◌, ◌-◌, ◌<◌, ◌≤◌, List, [], ◌∷◌, ◌++◌, length, get_or, take, refl, sym, ap, subst, ◌∙◌, inl, inr, arith, length-append, ◌≢◌, true, false, Option, None, Some, eqb, drop, to_z, of_z, drop-cons, add-one, ◌*◌, ◌/◌}
-use Rattle.std.proofs.Math.IntN.{suc_ℤ-*ℤ, zero-*ℤ, +ℤ_assoc, +ℤ_idr}
-use Rattle.std.proofs.Math.Nat.{div-mul-le_self, lt-div-mul-add, mul-le-mul_right}
-use Rattle.std.proofs.lemmas.Bool.{cases_lt, false≢true}
+use Rattle.tsp_verdict.proofs.Prelude.{◌≡◌, ℕ, zero, suc, ◌+◌, ◌-◌, ◌<◌, ◌≤◌, List, [], ◌∷◌, ◌++◌, length, get_or, take, refl, sym, ap, subst, ◌∙◌, inl, inr, arith, length-append, ◌≢◌, true, false, Option, None, Some, eqb, drop, to_z, of_z, drop-cons, add-one, ◌*◌, cases_lt, false≢true, ints, get_or_default, length-map, get_or_past, All-weaker, All-from_recursion, recursion_from_All, Vec, w64, All, concat, AllByRecursion, sum_by, Contains, range_with_len, remove, ◌⊎◌, slice_index_or, map, unwrap_or, ◌^◌, ℤ, pos, ◌+ℤ◌, ◌*ℤ◌, ◌≤ℤ◌, neg_ℤ, int_lt, most_nodes, most_tour_nodes, most_changes, most_weight, most_demand, IsNode, nodes_to, Kind, Fields, nodes_of, is_tour_file, AreTours, IsNodeList, IsStep, AreTreeSteps, IsDemand, sum_int_by, RoutingProblem, demand_of, IsPlan, IsLeastRoutes, links_to, length_of, plan_length, load_of, IsListedStep}
+use Rattle.std.proofs.Math.IntN.{+ℤ_assoc, +ℤ_idr}
 use Rattle.std.proofs.lemmas.Bool.Decides.{eqb_tells}
-use Rattle.std.proofs.lemmas.Int.{ints}
-use Rattle.std.proofs.lemmas.List.{get_or_default, length-map, get_or_past}
 use Rattle.std.proofs.lemmas.List.Concat.{get_or-flat_map}
-use Rattle.std.proofs.lemmas.List.Elements.{All-weaker, All-from_recursion, recursion_from_All}
 use Rattle.std.proofs.lemmas.List.Folds.{length-flat_map-take}
 use Rattle.std.proofs.lemmas.List.Sorted.{IsPermutation-remove, Contains-permutation}
 use Rattle.std.proofs.lemmas.List.Sums.{sum_by-cons}
-use Rattle.std.specs.Global.{Vec}
-use Rattle.std.specs.Int.{w64}
-use Rattle.std.specs.List.{All, concat, AllByRecursion, sum_by, Contains, range_with_len, remove}
 use Rattle.std.specs.List.Sorted.{IsPermutation}
-use Rattle.std.specs.Prelude.{◌⊎◌, slice_index_or, map, unwrap_or, ◌^◌, ℤ, pos, ◌+ℤ◌, ◌*ℤ◌, ◌≤ℤ◌, neg_ℤ, negsuc, nat_abs, int_lt}
-use Rattle.tsp_format.specs.Limits.{most_nodes, most_tour_nodes, most_changes, most_weight, most_demand}
-use Rattle.tsp_format.specs.Nodes.{IsNode, nodes_to}
+use Rattle.tsp_format.proofs.Basics.{both_all}
 use Rattle.tsp_format.specs.Steps.{Step, Branch, Leaf, are_whole, branch_count, leaf_count, change_count}
-use Rattle.tsp_format.specs.declared.kinds.Kind.{Kind}
 use Rattle.tsp_format.specs.declared.kinds.Kind.TheVariants as kinds
 use Rattle.tsp_format.specs.declared.steps.TreeStep.{TreeStep}
 use Rattle.tsp_format.specs.states.TreeSteps.{step_of, steps_of}
-use Rattle.tsp_file.specs.Fields.{Fields, nodes_of}
-use Rattle.tsp_file.specs.Rules.{is_tour_file}
-use Rattle.tsp_file.specs.Valid.{AreTours, IsNodeList, IsStep, AreTreeSteps, IsDemand}
-use Rattle.tsp_theory.specs.Tour.{sum_int_by, RoutingProblem, demand_of, IsPlan, IsLeastRoutes, links_to, length_of, plan_length, load_of}
-use Rattle.tsp_cases.specs.ListedCases.{IsListedStep}
+use Rattle.tsp_theory.proofs.Sums.{run_parts}
+use Rattle.tsp_routing.proofs.Plans.{within_all}
 use Rattle.tsp_verdict.specs.Solutions.{node_at, IsFirstPlace, visited, tours_of}
 use Rattle.tsp_verdict.specs.states.Marks.{StandsAfter, nodes_in, AreToursOf, IsSumOf}
 
@@ -126,14 +112,10 @@ all_here Q nodes piece before applies all k d lt =
 
 -- ---- the tours and the steps that a valid file lends are on nodes that it has
 
-in_both : (P : ℕ → Type 0) (xs ys : List ℕ) → AllByRecursion P xs → AllByRecursion P ys → AllByRecursion P (xs ++ ys)
-in_both P [] ys first second = second
-in_both P (x ∷ xs) ys first second = (first.0, in_both P xs ys first.1 second)
-
 in_all : (tours : List (List ℕ)) → AllByRecursion IsNodeList tours → AllByRecursion (IsNode most_nodes) (concat tours)
 in_all [] filled = tt
 in_all (tour ∷ tours) filled =
-    in_both (IsNode most_nodes) tour (concat tours) (recursion_from_All (IsNode most_nodes) tour filled.0.1)
+    both_all (IsNode most_nodes) tour (concat tours) (recursion_from_All (IsNode most_nodes) tour filled.0.1)
     (in_all tours filled.1)
 
 pub counted_from_one : (tours : List (Vec ℕ)) → AreTours (map (λ (t : Vec ℕ). t.items) tours)
@@ -251,17 +233,6 @@ sum_append : (f : ℕ → ℤ) (xs ys : List ℕ) → sum_int_by f (xs ++ ys) �
 sum_append f [] ys = omega (arith, ints)
 sum_append f (x ∷ xs) ys = let tail = sum_append f xs ys in omega (arith, ints)
 
--- what the routes carry is at most as many times the capacity
-carried : (demand : ℕ → ℤ) (capacity : ℤ) (routes : List (List ℕ))
-    → AllByRecursion (λ route. sum_int_by demand route ≤ℤ capacity) routes
-    → sum_int_by demand (concat routes) ≤ℤ (pos (length routes) *ℤ capacity)
-carried demand capacity [] within = let none = zero-*ℤ capacity in omega (arith, ints, none)
-carried demand capacity (route ∷ routes) within =
-    let tail = carried demand capacity routes within.1 in
-    let both = sum_append demand route (concat routes) in
-    let times = suc_ℤ-*ℤ (pos (length routes)) capacity in
-    omega (arith, ints, tail, both, times, within.0)
-
 sum_remove : (f : ℕ → ℤ) (xs : List ℕ) (i x : ℕ) → i < length xs → get_or xs i x ≡ x
     → sum_int_by f xs ≡ f x +ℤ sum_int_by f (remove xs i)
 sum_remove f [] i x lt is = absurd (omega (arith, lt))
@@ -318,7 +289,7 @@ plan_carries problem routes low none plan =
     let capacity : ℤ = problem.capacity in
     let all : sum_int_by demand (range_with_len 1 n) ≤ℤ sum_int_by demand (depot ∷ concat routes) =
     run_sum demand low n 1 (depot ∷ concat routes) (λ v above below. there v above below (eqb_tells v depot)) in
-    let held = carried demand capacity routes
+    let held = within_all demand capacity routes
     (recursion_from_All (λ route. sum_int_by demand route ≤ℤ capacity) routes plan.within) in
     omega (arith, ints, all, held, none)
   where
@@ -405,37 +376,6 @@ sum_step {X} f so_far total x others rest parts e =
 pub sum_end : {X : Type 0} (f : X → ℤ) (so_far total : ℤ) (others : List X) → others ≡ [] → so_far +ℤ sum_int_by f others ≡ total
     → so_far ≡ total
 sum_end {X} f so_far total others none e = sym (+ℤ_idr so_far) ∙ subst (λ (xs : List X). so_far +ℤ sum_int_by f xs ≡ total) none e
-
--- the least number of routes
-pub least_is : (total capacity : ℕ) → 1 ≤ capacity
-    → IsLeastRoutes (pos total) (pos capacity) ((total + (capacity - 1)) / capacity)
-least_is total capacity some = record {
-  enough =
-      let above = lt-div-mul-add {a = total + (capacity - 1)} {b = capacity} some in
-      let le : total ≤ (total + (capacity - 1)) / capacity * capacity = omega (arith, above, some) in
-      omega (arith, ints, le);
-  none_less = λ count carries. by_size count carries (cases_lt count ((total + (capacity - 1)) / capacity));
-}
-  where
-    by_size : (count : ℕ) → pos total ≤ℤ (pos count *ℤ pos capacity) → (count < (total + (capacity - 1)) / capacity)
-        ⊎ ((total + (capacity - 1)) / capacity ≤ count) → (total + (capacity - 1)) / capacity ≤ count
-    by_size count carries (inr le) = le
-    by_size count carries (inl lt) =
-        let more : suc count * capacity ≤ (total + (capacity - 1)) / capacity * capacity = mul-le-mul_right capacity lt in
-        let below = div-mul-le_self (total + (capacity - 1)) capacity in
-        let nat : total ≤ count * capacity = omega (arith, ints, carries) in
-        absurd (omega (arith, more, below, nat, some))
-
-pub least_of : (total capacity : ℤ) → pos 0 ≤ℤ total → pos 1 ≤ℤ capacity
-    → IsLeastRoutes total capacity ((nat_abs total + (nat_abs capacity - 1)) / nat_abs capacity)
-least_of (pos total) (pos capacity) low some = least_is total capacity (omega (arith, ints, some))
-least_of (pos total) (negsuc capacity) low some = absurd (omega (arith, ints, some))
-least_of (negsuc total) capacity low some = absurd (omega (arith, ints, low))
-
--- the numbers from a on: a, and those from a + 1 on
-run_parts : (a m : ℕ) → 0 < m → range_with_len a m ≡ a ∷ range_with_len (a + 1) (m - 1)
-run_parts a zero some = absurd (omega (arith, some))
-run_parts a (suc m) some = ap (λ k. a ∷ range_with_len (a + 1) k) (omega arith)
 
 -- one node further, over all nodes
 pub total_more : (demands : List ℤ) (so_far total : ℤ) (i : ℕ) → i < length demands

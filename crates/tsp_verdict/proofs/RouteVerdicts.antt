@@ -1,42 +1,19 @@
 -- Reasons against routes and their certificate, ruled out one by one, and the verdict.
-use Rattle.std.proofs.Common.{ℕ, ◌≤◌, arith, ◌≡◌, ◌≢◌, ◌+◌, ◌-◌, ◌<◌, Bool, true, false, List, [], length, None, refl, sym, ap, subst, ◌∙◌, zero, suc, ◌*◌, ◌∷◌, to_z, of_z}
-use Rattle.std.proofs.lemmas.Bool.{false≢true}
-use Rattle.std.proofs.lemmas.Int.{ints, to_z-of_z}
-use Rattle.std.proofs.lemmas.List.Elements.{All-from_recursion, recursion_from_All}
-use Rattle.std.specs.Global.{Vec}
-use Rattle.std.specs.Int.{w64}
-use Rattle.std.specs.List.{All, Contains, AllByRecursion}
-use Rattle.std.specs.Prelude.{slice_index_or, ℤ, pos, ◌≤ℤ◌, FitsSigned, ◌^◌, unwrap_or, nat_abs, Option, Some}
-use Rattle.tsp_format.specs.Limits.{most_changes}
-use Rattle.tsp_format.specs.Nodes.{IsNode, nodes_to}
+use Rattle.tsp_verdict.proofs.Prelude.{ℕ, ◌≤◌, arith, ◌≡◌, ◌≢◌, ◌+◌, ◌-◌, ◌<◌, Bool, true, false, List, [], length, None, refl, sym, ap, subst, ◌∙◌, ◌*◌, ◌∷◌, to_z, of_z, false≢true, ints, to_z-of_z, All-from_recursion, recursion_from_All, Vec, w64, All, Contains, AllByRecursion, slice_index_or, ℤ, pos, ◌≤ℤ◌, FitsSigned, ◌^◌, unwrap_or, nat_abs, Option, Some, most_changes, IsNode, nodes_to, cost, HoldsCases, scale_in, families_listed, Fields, nodes_of, is_branches_file, IsDemand, IsStep, AreTreeSteps, families_of, IsBoundSized, demand_of, load_of, IsCustomer, plan_length, IsLeastRoutes, RoutingProblem, depot_of, demands_of, capacity_of, routing_of, leaf_changes, Crossings, of_customers, IsFirstBadSet, AreCapacityCuts, AreGoodBranches, IsFirstBadPlanBranch, AreGoodPlanLeaves, IsFirstBadPlanLeaf, routing_with, most_entries, HasTooManyLoads, IsBoundFound, IsPlanVerdict, VerdictBoundsPlans, rank_of, Branches, Reason, DepotCount, DepotDemand, FixedEdgesInRoutes, NotPotentials, PotentialsDimension, PotentialsKind, MultiplierNotFixed, MultiplierRepeated, DualInfeasible, NotSymmetric, TourCount, TourLength, NodeOutOfRange, RepeatedNode, FixedEdgeUnused, DepotInRoute, Unserved, Overload, NotBranches, BranchesDimension, BadFamily, BadBranch, BranchTwice, BadLeaf, TooManyLoads, LengthClaimed, NotJudged}
 use Rattle.tsp_format.specs.Steps.{Step, Branch, Leaf, change_count}
 use Rattle.tsp_format.specs.declared.kinds.Kind.TheVariants as kinds
-use Rattle.tsp_file.specs.Cost.{cost, HoldsCases, scale_in, families_listed}
-use Rattle.tsp_file.specs.Fields.{Fields, nodes_of}
-use Rattle.tsp_file.specs.Rules.{is_branches_file}
-use Rattle.tsp_file.specs.Valid.{IsDemand, IsStep, AreTreeSteps}
-use Rattle.tsp_file.specs.states.Drafts.{combs_of}
-use Rattle.tsp_theory.specs.Bounds.{IsBoundSized}
-use Rattle.tsp_theory.specs.Tour.{demand_of, load_of, IsCustomer, plan_length, IsLeastRoutes, RoutingProblem}
-use Rattle.tsp_cost.specs.Problems.{depot_of, demands_of, capacity_of, routing_of}
-use Rattle.tsp_cases.specs.ListedCases.{leaf_changes}
-use Rattle.tsp_cases.specs.declared.family.Crossings.{Crossings}
+use Rattle.tsp_routing.proofs.PlanBounds.{one_light}
 use Rattle.tsp_routing.specs.PlanLinks.{AreUnits, capacity_in_parts}
-use Rattle.tsp_routing.specs.PlanVerdicts.{IsFirstBadSet, AreCapacityCuts, AreGoodBranches, IsFirstBadPlanBranch, AreGoodPlanLeaves, IsFirstBadPlanLeaf, routing_with, most_entries, HasTooManyLoads, IsBoundFound, IsPlanVerdict, VerdictBoundsPlans}
 use Rattle.tsp_routing.specs.declared.verdict.PlanVerdict.{PlanVerdict}
 use Rattle.tsp_routing.specs.declared.verdict.PlanVerdict.TheVariants as found
 use Rattle.tsp_routing.specs.states.LeafWeights.{IsPlanStep}
-use Rattle.tsp_report.specs.Verdicts.{rank_of}
-use Rattle.tsp_report.specs.declared.task.CertificateKind.TheVariants.{Branches}
 use Rattle.tsp_report.specs.declared.verdict.BoundVerdict.TheVariants as bounds
-use Rattle.tsp_report.specs.declared.verdict.Reason.{Reason}
-use Rattle.tsp_report.specs.declared.verdict.Reason.TheVariants.{DepotCount, DepotDemand, FixedEdgesInRoutes, NotPotentials, PotentialsDimension, PotentialsKind, MultiplierNotFixed, MultiplierRepeated, DualInfeasible, NotSymmetric, TourCount, TourLength, NodeOutOfRange, RepeatedNode, FixedEdgeUnused, DepotInRoute, Unserved, Overload, NotBranches, BranchesDimension, BadComb, BadBranch, BranchTwice, BadLeaf, TooManyLoads, LengthClaimed, NotJudged}
 use Rattle.tsp_report.specs.declared.verdict.Verdict.TheVariants.{Routes}
 use Rattle.tsp_verdict.proofs.CarriedBounds.{fitting}
 use Rattle.tsp_verdict.proofs.OneReason.{one_value}
 use Rattle.tsp_verdict.proofs.RouteFiles.{demand_low, none_fewer}
 use Rattle.tsp_verdict.proofs.TourVerdicts.{all_apart, marked_there, there_marked}
-use Rattle.tsp_verdict.specs.Certificates.{unit_in, StandsAgainstQRoutes, HasBoundByQRoutes}
+use Rattle.tsp_verdict.specs.Certificates.{unit_in, AppliesToQRoutes, HasBoundByQRoutes}
 use Rattle.tsp_verdict.specs.Certified.{AppliesToRouting, NoneAgainstRouting, IsBoundBy, HasNoBoundBy, BoundsSolutionsBy, HasNoSolutionBy, AppliesToCertificateBy, AppliesToCertificate, FindsBound}
 use Rattle.tsp_verdict.specs.Solutions.{IsFirstPlace, IsLarger, IsAt, IsAtEarlierPlace, visited, tours_of, NoneBefore, IsFirstUnserved, IsOverloaded, AppliesToRoutes, NoneOfRoutesBefore, NoneOfRoutesBeforePlaces, total_of, AreCustomers, IsFirstAgainstRoutes, IsRoutesVerdict, IsFirstReason}
 use Rattle.tsp_verdict.specs.states.Marks.{Marked}
@@ -99,7 +76,7 @@ after_loads inst sol before carried (MultiplierRepeated index) applies = applies
 after_loads inst sol before carried (DualInfeasible i j) applies = applies
 after_loads inst sol before carried NotBranches applies = applies
 after_loads inst sol before carried BranchesDimension applies = applies
-after_loads inst sol before carried (BadComb index) applies = applies
+after_loads inst sol before carried (BadFamily index) applies = applies
 after_loads inst sol before carried (BadBranch index) applies = applies
 after_loads inst sol before carried (BranchTwice index) applies = applies
 after_loads inst sol before carried (BadLeaf index) applies = applies
@@ -197,8 +174,8 @@ unserved_first inst sol seen size depot node m is found = record {
   applies = record {
     customer = ((found.0, omega (arith, found.1, m.wide)), λ same. found.2 (same ∙ sym is));
     unserved = λ there. false≢true (sym found.3 ∙ there_marked (visited sol) seen node m.marks there);
-    first = λ other customer less. marked_there (visited sol) seen other m.marks
-        (found.4 other customer.0.0 less (λ same. customer.1 (same ∙ is)));
+    first = λ other of_customers less. marked_there (visited sol) seen other m.marks
+        (found.4 other of_customers.0.0 less (λ same. of_customers.1 (same ∙ is)));
   };
   none_before = m.none;
 }
@@ -207,9 +184,9 @@ unserved_first inst sol seen size depot node m is found = record {
 pub all_served : (inst sol : Fields) (seen : List Bool) (size depot : ℕ) → IsMarked inst sol seen size → depot ≡ depot_of inst
     → ((node : ℕ) → 1 ≤ node → node < size → node ≢ depot → slice_index_or seen node false ≡ true) → (node : ℕ)
     → IsCustomer (nodes_of inst) (depot_of inst) node → Contains (visited sol) node
-all_served inst sol seen size depot m is all node customer =
+all_served inst sol seen size depot m is all node of_customers =
     marked_there (visited sol) seen node m.marks
-    (all node customer.0.0 (omega (arith, customer.0.1, m.wide)) (λ same. customer.1 (same ∙ is)))
+    (all node of_customers.0.0 (omega (arith, of_customers.0.1, m.wide)) (λ same. of_customers.1 (same ∙ is)))
 
 pub none_unserved : (inst sol : Fields) → NoneOfRoutesBefore inst sol (Unserved 1)
     → ((node : ℕ) → IsCustomer (nodes_of inst) (depot_of inst) node → Contains (visited sol) node)
@@ -276,14 +253,6 @@ is_planned inst sol seen size routes demands capacity depot measured count least
 
 -- ---- of four nodes with the depot 1 the customers are 2, 3 and 4
 
-pub customer : (P : ℕ → Type 0) → P 2 → P 3 → P 4 → (node : ℕ) → IsCustomer 4 1 node → P node
-customer P two three four zero is = absurd (omega (arith, is.0.0))
-customer P two three four (suc zero) is = absurd (is.1 refl)
-customer P two three four (suc (suc zero)) is = two
-customer P two three four (suc (suc (suc zero))) is = three
-customer P two three four (suc (suc (suc (suc zero)))) is = four
-customer P two three four (suc (suc (suc (suc (suc node))))) is = absurd (omega (arith, is.0.1))
-
 -- ---- reasons against a certificate for routes, ruled out one by one, and its bound
 
 -- ---- what is found of the files
@@ -306,19 +275,19 @@ pub record AreOfFiles (inst tree : Fields) (depot : ℕ) (demands : List ℤ) (c
   pub steps_are : tree.branches ≡ Some steps
 
 -- a file that holds these numbers
-pub of_files : (inst tree : Fields) (depot : ℕ) (demands : List ℤ) (capacity scale unit : ℤ) (combs : List (Vec (Vec ℕ)))
+pub of_files : (inst tree : Fields) (depot : ℕ) (demands : List ℤ) (capacity scale unit : ℤ) (families : List (Vec (Vec ℕ)))
     (steps : List Step) → FitsSigned w64 capacity → FitsSigned w64 scale → FitsSigned w64 unit
     → depot ≡ depot_of inst → demands ≡ demands_of inst → capacity ≡ capacity_of inst
-    → HoldsCases tree scale unit (combs_of combs) steps
+    → HoldsCases tree scale unit (families_of families) steps
     → AreOfFiles inst tree depot demands (to_z w64 (of_z w64 capacity)) (to_z w64 (of_z w64 scale)) (to_z w64 (of_z w64 unit))
-    (combs_of combs) steps
-of_files inst tree depot demands capacity scale unit combs steps capable scaled united depot_is demands_are capacity_is held = record {
+    (families_of families) steps
+of_files inst tree depot demands capacity scale unit families steps capable scaled united depot_is demands_are capacity_is held = record {
   depot_is = depot_is;
   demands_are = demands_are;
   capacity_is = to_z-of_z w64 capacity capable ∙ capacity_is;
   scale_is = to_z-of_z w64 scale scaled ∙ held.scale_is;
   unit_is = ap nat_abs (to_z-of_z w64 unit united ∙ held.load_unit_is);
-  families_are = held.combs_are;
+  families_are = held.families_kept;
   steps_are = held.steps_are;
 }
 
@@ -382,13 +351,13 @@ plan_steps f steps held =
 -- ---- what rules a reason out
 
 no_bad_set : (inst tree : Fields) (crossed : List Crossings) → AreCapacityCuts (routing_of inst) (families_listed tree) crossed
-    → (index : ℕ) → StandsAgainstQRoutes inst tree (BadComb index) → ⊥
+    → (index : ℕ) → AppliesToQRoutes inst tree (BadFamily index) → ⊥
 no_bad_set inst tree crossed cuts index bad =
     bad.bad (index - 1) (omega (arith, bad.least)) (cuts.good (index - 1) (omega (arith, bad.least, bad.most)))
 
 no_bad_branch : (inst tree : Fields) (steps : List Step) → tree.branches ≡ Some steps
     → AreGoodBranches (nodes_of inst) (length (families_listed tree)) steps
-    → (index : ℕ) → StandsAgainstQRoutes inst tree (BadBranch index) → ⊥
+    → (index : ℕ) → AppliesToQRoutes inst tree (BadBranch index) → ⊥
 no_bad_branch inst tree steps are good index applies =
     let same = one_value tree.branches applies.0 steps applies.1 are in
     let bad = subst (λ steps. IsFirstBadPlanBranch (nodes_of inst) (length (families_listed tree)) steps index) same applies.2 in
@@ -396,15 +365,11 @@ no_bad_branch inst tree steps are good index applies =
 
 no_bad_plan_leaf : (inst tree : Fields) (steps : List Step) → tree.branches ≡ Some steps
     → AreGoodPlanLeaves (nodes_of inst) (length (families_listed tree)) steps
-    → (index : ℕ) → StandsAgainstQRoutes inst tree (BadLeaf index) → ⊥
+    → (index : ℕ) → AppliesToQRoutes inst tree (BadLeaf index) → ⊥
 no_bad_plan_leaf inst tree steps are good index applies =
     let same = one_value tree.branches applies.0 steps applies.1 are in
     let bad = subst (λ steps. IsFirstBadPlanLeaf (nodes_of inst) (length (families_listed tree)) steps index) same applies.2 in
     bad.bad (good index bad.least bad.most)
-
--- the number of customers that demand less than a unit is one
-one_light : (problem : RoutingProblem) (unit a b : ℕ) → AreUnits problem unit a → AreUnits problem unit b → a ≡ b
-one_light problem unit a b one other = let same : pos a ≡ pos b = one.light_is ∙ sym other.light_is in omega (arith, ints, same)
 
 no_many_loads : (problem : RoutingProblem) (unit light : ℕ) → AreUnits problem unit light
     → problem.nodes * (capacity_in_parts problem unit light + 1) ≤ most_entries → HasTooManyLoads problem unit → ⊥
@@ -415,14 +380,14 @@ no_many_loads problem unit light units few many =
 
 -- the facts before a rank rule out the reasons before it
 none_before : (inst tree : Fields) (rank : ℕ) → is_branches_file tree.kind ≡ true → nodes_of tree ≡ nodes_of inst
-    → (rank_of (BadComb 1) < rank → (index : ℕ) → StandsAgainstQRoutes inst tree (BadComb index) → ⊥)
-    → (rank_of (BadBranch 1) < rank → (index : ℕ) → StandsAgainstQRoutes inst tree (BadBranch index) → ⊥)
-    → (rank_of (BadLeaf 1) < rank → (index : ℕ) → StandsAgainstQRoutes inst tree (BadLeaf index) → ⊥)
-    → (rank_of TooManyLoads < rank → StandsAgainstQRoutes inst tree TooManyLoads → ⊥)
-    → NoneBefore (StandsAgainstQRoutes inst tree) rank
+    → (rank_of (BadFamily 1) < rank → (index : ℕ) → AppliesToQRoutes inst tree (BadFamily index) → ⊥)
+    → (rank_of (BadBranch 1) < rank → (index : ℕ) → AppliesToQRoutes inst tree (BadBranch index) → ⊥)
+    → (rank_of (BadLeaf 1) < rank → (index : ℕ) → AppliesToQRoutes inst tree (BadLeaf index) → ⊥)
+    → (rank_of TooManyLoads < rank → AppliesToQRoutes inst tree TooManyLoads → ⊥)
+    → NoneBefore (AppliesToQRoutes inst tree) rank
 none_before inst tree rank sort size sets branches leaves loads NotBranches low applies = false≢true (sym applies ∙ sort)
 none_before inst tree rank sort size sets branches leaves loads BranchesDimension low applies = applies size
-none_before inst tree rank sort size sets branches leaves loads (BadComb index) low applies = sets low index applies
+none_before inst tree rank sort size sets branches leaves loads (BadFamily index) low applies = sets low index applies
 none_before inst tree rank sort size sets branches leaves loads (BadBranch index) low applies = branches low index applies
 none_before inst tree rank sort size sets branches leaves loads (BadLeaf index) low applies = leaves low index applies
 none_before inst tree rank sort size sets branches leaves loads TooManyLoads low applies = loads low applies
@@ -430,17 +395,17 @@ none_before inst tree rank sort size sets branches leaves loads reason low appli
 
 -- of its routes the reasons against the certificate are these
 for_q_routes : (P : (Reason → Type 0) → Type 0) (inst tree : Fields) → inst.kind ≡ Some kinds.Cvrp
-    → P (StandsAgainstQRoutes inst tree) → P (AppliesToCertificate Branches inst tree)
+    → P (AppliesToQRoutes inst tree) → P (AppliesToCertificate Branches inst tree)
 for_q_routes P inst tree cvrp first = subst (λ k. P (AppliesToCertificateBy Branches k inst tree)) (sym cvrp) first
 
 -- ---- the verdict
 
 pub set_first : (inst tree : Fields) (index : ℕ) → inst.kind ≡ Some kinds.Cvrp → is_branches_file tree.kind ≡ true
     → nodes_of tree ≡ nodes_of inst → IsReportedOfRoutes inst tree (found.BadFamily index)
-    → FindsBound Branches inst tree (bounds.No (BadComb index))
-set_first inst tree index cvrp sort size is = for_q_routes (λ Applies. IsFirstReason Applies (BadComb index)) inst tree cvrp (record {
+    → FindsBound Branches inst tree (bounds.No (BadFamily index))
+set_first inst tree index cvrp sort size is = for_q_routes (λ Applies. IsFirstReason Applies (BadFamily index)) inst tree cvrp (record {
   applies = is.by_steps;
-  none_before = none_before inst tree (rank_of (BadComb 1)) sort size (λ low. absurd (omega (arith, low)))
+  none_before = none_before inst tree (rank_of (BadFamily 1)) sort size (λ low. absurd (omega (arith, low)))
       (λ low. absurd (omega (arith, low))) (λ low. absurd (omega (arith, low))) (λ low. absurd (omega (arith, low)));
 })
 
@@ -477,10 +442,10 @@ loads_first inst tree cvrp sort size is = for_q_routes (λ Applies. IsFirstReaso
 })
 
 none_of_q_routes : (inst tree : Fields) (bound : Option ℤ) → is_branches_file tree.kind ≡ true → nodes_of tree ≡ nodes_of inst
-    → IsReportedOfRoutes inst tree (found.Bound bound) → (reason : Reason) → StandsAgainstQRoutes inst tree reason → ⊥
+    → IsReportedOfRoutes inst tree (found.Bound bound) → (reason : Reason) → AppliesToQRoutes inst tree reason → ⊥
 none_of_q_routes inst tree bound sort size is NotBranches applies = false≢true (sym applies ∙ sort)
 none_of_q_routes inst tree bound sort size is BranchesDimension applies = applies size
-none_of_q_routes inst tree bound sort size is (BadComb index) applies =
+none_of_q_routes inst tree bound sort size is (BadFamily index) applies =
     no_bad_set inst tree is.by_steps.crossed is.by_steps.cuts index applies
 none_of_q_routes inst tree bound sort size is (BadBranch index) applies =
     no_bad_branch inst tree is.steps is.steps_are is.by_steps.branches index applies

@@ -1,25 +1,8 @@
 -- Reasons against a tour, ruled out one by one: marks of nodes, fixed pairs, and the verdict.
-use Rattle.std.proofs.Common.{◌≡◌, ◌≢◌, ℕ, zero, suc, ◌+◌, ◌-◌, ◌<◌, ◌≤◌, Bool, true, false, List, [], ◌∷◌, length, Option, None, Some, get_or, set, replicate, refl, sym, ap, subst, ◌∙◌, arith, inl, inr, map, eqb, ◌++◌, add-one}
-use Rattle.std.proofs.lemmas.Bool.{cases_lt, false≢true, eqb-true, eq-eqb}
-use Rattle.std.proofs.lemmas.List.{get_or_default, append-nil}
-use Rattle.std.specs.Global.{Vec}
-use Rattle.std.specs.List.{AllPairs, Contains, All, concat}
-use Rattle.std.specs.Prelude.{◌⊎◌, MatchOption, ℤ, MatchBool}
-use Rattle.tsp_file.specs.Cost.{fixed_of, cost}
-use Rattle.tsp_file.specs.Fields.{Fields, nodes_of}
-use Rattle.tsp_theory.specs.Tour.{length_of, IsCycle, Uses, links_to}
-use Rattle.tsp_cost.specs.Problems.{is_directed, IsTourOf}
-use Rattle.tsp_report.specs.declared.verdict.Reason.{Reason}
-use Rattle.tsp_report.specs.declared.verdict.Reason.TheVariants.{Dimension, TourCount, TourLength, NodeOutOfRange, RepeatedNode, FixedEdgeUnused, NotPotentials, PotentialsDimension, PotentialsKind, MultiplierNotFixed, MultiplierRepeated, DualInfeasible, DepotCount, DepotDemand, FixedEdgesInRoutes, DepotInRoute, Unserved, Overload, NotBranches, BranchesDimension, BadComb, BadBranch, BranchTwice, BadLeaf, TooManyLoads, LengthClaimed, NotJudged}
+use Rattle.tsp_verdict.proofs.Prelude.{◌≡◌, ◌≢◌, ℕ, zero, suc, ◌+◌, ◌-◌, ◌<◌, ◌≤◌, Bool, true, false, List, [], ◌∷◌, length, Option, None, Some, get_or, set, replicate, refl, sym, ap, subst, ◌∙◌, arith, inl, inr, map, eqb, ◌++◌, add-one, cases_lt, false≢true, eqb-true, eq-eqb, get_or_default, append-nil, Vec, AllPairs, Contains, All, concat, ◌⊎◌, MatchOption, ℤ, MatchBool, fixed_of, cost, Fields, nodes_of, length_of, IsCycle, Uses, links_to, is_directed, IsTourOf, Reason, Dimension, TourCount, TourLength, NodeOutOfRange, RepeatedNode, FixedEdgeUnused, NotPotentials, PotentialsDimension, PotentialsKind, MultiplierNotFixed, MultiplierRepeated, DualInfeasible, DepotCount, DepotDemand, FixedEdgesInRoutes, DepotInRoute, Unserved, Overload, NotBranches, BranchesDimension, BadFamily, BadBranch, BranchTwice, BadLeaf, TooManyLoads, LengthClaimed, NotJudged}
+use Rattle.tsp_bound.proofs.RoundJoins.{set_kept}
 use Rattle.tsp_verdict.specs.Solutions.{node_at, HoldsAtNone, IsAtEarlierPlace, IsFirstPlace, IsLarger, IsUnused, visited, tours_of, AppliesToTour, NoneOfTourBefore, IsFirstAgainstTour}
 use Rattle.tsp_verdict.specs.states.Marks.{Marked, StandsAfter, AreNext}
-
-set_keeps : (seen : List Bool) (k m : ℕ) → get_or seen m false ≡ true → get_or (set seen k true) m false ≡ true
-set_keeps [] k m h = h
-set_keeps (b ∷ seen) zero zero h = refl
-set_keeps (b ∷ seen) zero (suc m) h = h
-set_keeps (b ∷ seen) (suc k) zero h = h
-set_keeps (b ∷ seen) (suc k) (suc m) h = set_keeps seen k m h
 
 set_adds : (seen : List Bool) (k m : ℕ) → get_or (set seen k true) m false ≡ true → (m ≡ k) ⊎ (get_or seen m false ≡ true)
 set_adds [] k m h = inr h
@@ -61,7 +44,7 @@ mark_more nodes seen count fits free m = record {
     marked_at : (place : ℕ) → 1 ≤ place → (place ≡ count + 1) ⊎ (place ≤ count)
         → get_or (set seen (get_or nodes count 0) true) (node_at nodes place) false ≡ true
     marked_at place low (inl e) = rw (here nodes place count e) (set_marks seen (get_or nodes count 0) fits)
-    marked_at place low (inr le) = set_keeps seen (get_or nodes count 0) (node_at nodes place) (m.marked place low le)
+    marked_at place low (inr le) = set_kept seen (get_or nodes count 0) (node_at nodes place) (m.marked place low le)
 
     only_at : (node : ℕ) → (node ≡ get_or nodes count 0) ⊎ (get_or seen node false ≡ true)
         → (place : ℕ) × (1 ≤ place) × (place ≤ count + 1) × (node_at nodes place ≡ node)
@@ -187,7 +170,7 @@ there_marked nodes seen node m there =
     ∙ get_or_default nodes there.0 0 node there.1 ∙ there.2 in
     subst (λ v. get_or seen v false ≡ true) place (m.marked (suc there.0) (omega arith) (omega (arith, there.1)))
 
--- ---- after each test that finds nothing, the reasons against a tour up to that test are ruled
+-- ---- after each test that finds nothing, the reasons up to that test are ruled out
 
 pub after_dimension : (inst sol : Fields) → NoneOfTourBefore inst sol Dimension
     → ((n : ℕ) → sol.dimension ≡ Some n → n ≡ nodes_of inst)
@@ -239,7 +222,7 @@ after_fixed inst sol before used (Unserved node) applies = applies
 after_fixed inst sol before used (Overload route) applies = applies
 after_fixed inst sol before used NotBranches applies = applies
 after_fixed inst sol before used BranchesDimension applies = applies
-after_fixed inst sol before used (BadComb index) applies = applies
+after_fixed inst sol before used (BadFamily index) applies = applies
 after_fixed inst sol before used (BadBranch index) applies = applies
 after_fixed inst sol before used (BranchTwice index) applies = applies
 after_fixed inst sol before used (BadLeaf index) applies = applies

@@ -1,45 +1,20 @@
 -- Reasons against a certificate by branching, ruled out one by one, and the bound that it gives.
-use Rattle.std.proofs.Common.{◌≡◌, ℕ, ◌<◌, ◌≤◌, List, [], ◌∷◌, length, refl, ap₂, arith, ◌≢◌, ◌∙◌, ◌-◌, Bool, true, false, get_or, inl, inr, sym, ap, subst, subst₂}
+use Rattle.tsp_verdict.proofs.Prelude.{◌≡◌, ℕ, ◌<◌, ◌≤◌, List, [], ◌∷◌, length, refl, ap₂, arith, ◌≢◌, ◌∙◌, ◌-◌, Bool, true, false, get_or, inl, inr, sym, ap, subst, subst₂, false≢true, length-map, All-weaker, All-from_recursion, recursion_from_All, Vec, All, AllByRecursion, sum_by, ◌^◌, ◌⊎◌, Option, None, Some, unwrap_or, ℤ, most_family_nodes, IsNode, IsSymmetric, Kind, AreSomeSets, cost, scale_in, fixed_of, families_listed, Fields, nodes_of, is_branches_file, IsSetOf, AreSets, families_of as lists_of_families, IsScale, IsBoundSized, BoundsTours, HasNoTour, is_directed, problem_of, IsTourOf, decide, KeepsAll, take_pairs, decided_number, IsFamily, NumbersAreUnique, family_with, families_with, Family, IsGoodFamily, IsFirstBadFamily, AreFamilies, branch_pairs, IsFirstBadBranch, leaf_changes, listed_steps, AreGoodLeaves, IsFirstBadLeaf, branches_of_cases, IsFirstTwice, Crossings, rank_of, Branches, Reason, NotBranches, BranchesDimension, BadFamily, BadBranch, BranchTwice, BadLeaf, TooManyLoads}
 use Rattle.std.proofs.Math.Path.{fun_ext}
-use Rattle.std.proofs.lemmas.Bool.{false≢true}
-use Rattle.std.proofs.lemmas.List.{length-map}
-use Rattle.std.proofs.lemmas.List.Elements.{All-weaker, All-from_recursion, recursion_from_All}
 use Rattle.std.proofs.lemmas.List.Sums.{sum_by-cons}
-use Rattle.std.specs.Global.{Vec}
-use Rattle.std.specs.List.{All, AllByRecursion, sum_by}
-use Rattle.std.specs.Prelude.{◌^◌, ◌⊎◌, Option, None, Some, unwrap_or, ℤ}
-use Rattle.tsp_format.specs.Limits.{most_comb_nodes}
-use Rattle.tsp_format.specs.Nodes.{IsNode}
 use Rattle.tsp_format.specs.Steps as listed
-use Rattle.tsp_format.specs.Words.{IsSymmetric}
-use Rattle.tsp_format.specs.declared.kinds.Kind.{Kind}
 use Rattle.tsp_format.specs.declared.kinds.Kind.TheVariants as kinds
-use Rattle.tsp_file.specs.Cost.{AreSomeSets, cost, scale_in, fixed_of, families_listed}
-use Rattle.tsp_file.specs.Fields.{Fields, nodes_of}
-use Rattle.tsp_file.specs.Rules.{is_branches_file}
-use Rattle.tsp_file.specs.Valid.{IsSetOf, AreSets}
-use Rattle.tsp_file.specs.states.Drafts.{combs_of as lists_of_combs}
-use Rattle.tsp_theory.specs.Bounds.{IsScale, IsBoundSized}
-use Rattle.tsp_theory.specs.Tour.{BoundsTours, HasNoTour}
-use Rattle.tsp_cost.specs.Problems.{is_directed, problem_of, IsTourOf}
-use Rattle.tsp_cases.specs.CaseTrees.{IsCaseTree, IsCaseTreeBound, AreCostsFor, BoundsIfAny, CaseTreesBoundCycles}
-use Rattle.tsp_cases.specs.Cases.{decide, KeepsAll, take_pairs, decided_number}
+use Rattle.tsp_cases.specs.CaseTrees.{IsCaseTree, IsCaseTreeBound, BoundsIfAny, CaseTreesBoundCycles}
 use Rattle.tsp_cases.specs.Crossings.{AreSetsOf, AreFamiliesOf, lists_of, families_in}
-use Rattle.tsp_cases.specs.Families.{IsFamily, NumbersAreUnique, family_with, families_with, Family, IsGoodFamily, IsFirstBadFamily, AreFamilies}
-use Rattle.tsp_cases.specs.ListedCases.{branch_pairs, IsFirstBadBranch, leaf_changes, listed_steps, AreGoodLeaves, IsFirstBadLeaf, branches_of_cases, IsFirstTwice}
-use Rattle.tsp_cases.specs.declared.family.Crossings.{Crossings}
 use Rattle.tsp_cases.specs.declared.open_case.Decision.{Decision}
+use Rattle.tsp_branch.proofs.Judging.{costs_for}
 use Rattle.tsp_branch.specs.BranchVerdicts.{IsBranchVerdict}
 use Rattle.tsp_branch.specs.declared.verdict.BranchVerdict.{BranchVerdict}
 use Rattle.tsp_branch.specs.declared.verdict.BranchVerdict.TheVariants as found
-use Rattle.tsp_report.specs.Verdicts.{rank_of}
-use Rattle.tsp_report.specs.declared.task.CertificateKind.TheVariants.{Branches}
-use Rattle.tsp_report.specs.declared.verdict.Reason.{Reason}
-use Rattle.tsp_report.specs.declared.verdict.Reason.TheVariants.{NotBranches, BranchesDimension, BadComb, BadBranch, BranchTwice, BadLeaf, TooManyLoads}
 use Rattle.tsp_verdict.proofs.CarriedBounds.{Same, fitting}
 use Rattle.tsp_verdict.proofs.FirstReasons.{tree_either}
 use Rattle.tsp_verdict.proofs.GivenPairs.{keeps_given}
-use Rattle.tsp_verdict.specs.Certificates.{each_once, given_in, case_steps_in, families_with_numbers, AreNumbersOf, IsBadFamily, AppliesToBranches, HasBoundByBranches, IsBoundByBranches, HasNoBoundByBranches, StandsAgainstQRoutes}
+use Rattle.tsp_verdict.specs.Certificates.{each_once, given_in, case_steps_in, families_with_numbers, AreNumbersOf, IsBadFamily, AppliesToBranches, HasBoundByBranches, IsBoundByBranches, HasNoBoundByBranches, AppliesToQRoutes}
 use Rattle.tsp_verdict.specs.Certified.{IsBoundBy, HasNoBoundBy, HasNoBound, AppliesToCertificateBy, AppliesToCertificate, BoundsSolutionsBy, BoundsSolutions, HasNoSolutionBy, HasNoSolution, IsCertified}
 use Rattle.tsp_verdict.specs.Solutions.{IsFirstPlace, NoneBefore, IsFirstReason}
 use Rattle.tsp_verdict.specs.states.TourKnownBounds.{IsSymmetricTsp}
@@ -73,7 +48,7 @@ set_nodes n [] are = omega arith
 set_nodes n (set ∷ sets) are = omega (arith, are.0.0, set_nodes n sets are.1, sum_by-cons length set sets)
 
 few_by : (n : ℕ) (families : List (Vec (Vec ℕ))) → AllByRecursion (AreSets n) (families_in families)
-    → sum_by (sum_by length) (families_in families) ≤ most_comb_nodes
+    → sum_by (sum_by length) (families_in families) ≤ most_family_nodes
     → AllByRecursion (λ sets. length sets.items < 2 ^ 32) families
 few_by n [] h most = tt
 few_by n (sets ∷ families) h most =
@@ -90,16 +65,16 @@ families_few n families some = All-from_recursion (λ (sets : Vec (Vec ℕ)). le
 
 -- ---- their numbers
 
-pub one_numbers : NumbersAreUnique → (n : ℕ) (a b : List Crossings) (combs : List (List (List ℕ))) → length a ≡ length combs
-    → length b ≡ length combs
-    → AllByRecursion (IsFamily n) (families_with a combs) → AllByRecursion (IsFamily n) (families_with b combs) → a ≡ b
-one_numbers unique n [] [] combs p q f g = refl
-one_numbers unique n [] (b ∷ bs) combs p q f g = absurd (omega (arith, p, q))
-one_numbers unique n (a ∷ more) [] combs p q f g = absurd (omega (arith, p, q))
+pub one_numbers : NumbersAreUnique → (n : ℕ) (a b : List Crossings) (families : List (List (List ℕ))) → length a ≡ length families
+    → length b ≡ length families
+    → AllByRecursion (IsFamily n) (families_with a families) → AllByRecursion (IsFamily n) (families_with b families) → a ≡ b
+one_numbers unique n [] [] families p q f g = refl
+one_numbers unique n [] (b ∷ bs) families p q f g = absurd (omega (arith, p, q))
+one_numbers unique n (a ∷ more) [] families p q f g = absurd (omega (arith, p, q))
 one_numbers unique n (a ∷ more) (b ∷ bs) [] p q f g = absurd (omega (arith, p))
-one_numbers unique n (a ∷ more) (b ∷ bs) (sets ∷ combs) p q f g =
+one_numbers unique n (a ∷ more) (b ∷ bs) (sets ∷ families) p q f g =
     ap₂ (λ (c : Crossings) (cs : List Crossings). c ∷ cs) (unique n (family_with a sets) (family_with b sets) refl f.0 g.0)
-    (one_numbers unique n more bs combs (omega (arith, p)) (omega (arith, q)) f.1 g.1)
+    (one_numbers unique n more bs families (omega (arith, p)) (omega (arith, q)) f.1 g.1)
 
 -- ---- reasons against a certificate by branching, ruled out one by one, and its bound
 
@@ -155,19 +130,19 @@ pub record AreOf (inst tree : Fields) (directed : Bool) (n : ℕ) (scale : ℤ) 
   pub given_is : given ≡ given_in inst
   pub steps_are : tree.branches ≡ Some steps
 
-pub are_of : (inst tree : Fields) (directed : Bool) (n : ℕ) (scale : ℤ) (combs : List (Vec (Vec ℕ))) (fixed : List (ℕ × ℕ))
+pub are_of : (inst tree : Fields) (directed : Bool) (n : ℕ) (scale : ℤ) (families : List (Vec (Vec ℕ))) (fixed : List (ℕ × ℕ))
     (given : List Decision) (steps : List listed.Step)
     → directed ≡ is_directed inst.kind → inst.dimension ≡ Some n → scale ≡ scale_in tree
-    → lists_of_combs combs ≡ families_listed tree
+    → lists_of_families families ≡ families_listed tree
     → fixed ≡ fixed_of inst
     → given ≡ take_pairs (each_once directed fixed) → tree.branches ≡ Some steps
-    → AreOf inst tree directed n scale (lists_of_combs combs) given steps
-are_of inst tree directed n scale combs fixed given steps directed_is count scale_is combs_are fixed_are given_is steps_are =
+    → AreOf inst tree directed n scale (lists_of_families families) given steps
+are_of inst tree directed n scale families fixed given steps directed_is count scale_is families_kept fixed_are given_is steps_are =
     record {
       directed_is = directed_is;
       nodes_are = sym (ap (λ (d : Option ℕ). unwrap_or d 0) count);
       scale_is = scale_is;
-      families_are = combs_are;
+      families_are = families_kept;
       given_is = given_is ∙ ap (λ (pairs : List (ℕ × ℕ)). take_pairs (each_once directed pairs)) fixed_are
           ∙ ap (λ (d : Bool). take_pairs (each_once d (fixed_of inst))) directed_is;
       steps_are = steps_are;
@@ -190,20 +165,20 @@ reported inst tree directed n costs scale families given steps verdict are h =
 
 -- ---- which reasons apply
 
-bad_comb : (inst tree : Fields) (index : ℕ)
+bad_family : (inst tree : Fields) (index : ℕ)
     → IsFirstBadFamily (nodes_of inst) (families_listed tree) index
     → IsFirstPlace (IsBadFamily (nodes_of inst) (families_listed tree)) (families_listed tree) index
-bad_comb inst tree index bad = record {
+bad_family inst tree index bad = record {
   here = (bad.least, bad.most);
   holds = λ good. bad.bad (index - 1) (let some = bad.least in omega (arith, some)) good;
   first = λ earlier from before is. is (bad.before (earlier - 1) (omega (arith, from, before)));
 }
 
--- where all combs are good, none is bad
-no_bad_comb : (inst tree : Fields)
-    → ((comb : ℕ) → comb < length (families_listed tree) → IsGoodFamily (nodes_of inst) (get_or (families_listed tree) comb []))
-    → (index : ℕ) → AppliesToBranches inst tree (BadComb index) → ⊥
-no_bad_comb inst tree good index applies =
+-- where all families are good, none is bad
+no_bad_family : (inst tree : Fields)
+    → ((family : ℕ) → family < length (families_listed tree) → IsGoodFamily (nodes_of inst) (get_or (families_listed tree) family []))
+    → (index : ℕ) → AppliesToBranches inst tree (BadFamily index) → ⊥
+no_bad_family inst tree good index applies =
     applies.holds (good (index - 1) (omega (arith, applies.here.0, applies.here.1)))
 
 -- the numbers of the families are those of the file's
@@ -254,18 +229,18 @@ pairs_few (listed.Leaf changes ∷ steps) = let rest = pairs_few steps in omega 
 -- the facts before a rank rule out the reasons before it
 none_before : (inst tree : Fields) (rank : ℕ) → (rank_of NotBranches < rank → is_branches_file tree.kind ≡ true)
     → (rank_of BranchesDimension < rank → nodes_of tree ≡ nodes_of inst)
-    → (rank_of (BadComb 1) < rank → (index : ℕ) → AppliesToBranches inst tree (BadComb index) → ⊥)
+    → (rank_of (BadFamily 1) < rank → (index : ℕ) → AppliesToBranches inst tree (BadFamily index) → ⊥)
     → (rank_of (BadBranch 1) < rank → (index : ℕ) → AppliesToBranches inst tree (BadBranch index) → ⊥)
     → (rank_of (BranchTwice 1) < rank → (index : ℕ) → AppliesToBranches inst tree (BranchTwice index) → ⊥)
     → (rank_of (BadLeaf 1) < rank → (index : ℕ) → AppliesToBranches inst tree (BadLeaf index) → ⊥)
     → NoneBefore (AppliesToBranches inst tree) rank
-none_before inst tree rank sort size combs pairs once leaves NotBranches low applies = false≢true (sym applies ∙ sort low)
-none_before inst tree rank sort size combs pairs once leaves BranchesDimension low applies = applies (size low)
-none_before inst tree rank sort size combs pairs once leaves (BadComb index) low applies = combs low index applies
-none_before inst tree rank sort size combs pairs once leaves (BadBranch index) low applies = pairs low index applies
-none_before inst tree rank sort size combs pairs once leaves (BranchTwice index) low applies = once low index applies
-none_before inst tree rank sort size combs pairs once leaves (BadLeaf index) low applies = leaves low index applies
-none_before inst tree rank sort size combs pairs once leaves reason low applies = applies
+none_before inst tree rank sort size families pairs once leaves NotBranches low applies = false≢true (sym applies ∙ sort low)
+none_before inst tree rank sort size families pairs once leaves BranchesDimension low applies = applies (size low)
+none_before inst tree rank sort size families pairs once leaves (BadFamily index) low applies = families low index applies
+none_before inst tree rank sort size families pairs once leaves (BadBranch index) low applies = pairs low index applies
+none_before inst tree rank sort size families pairs once leaves (BranchTwice index) low applies = once low index applies
+none_before inst tree rank sort size families pairs once leaves (BadLeaf index) low applies = leaves low index applies
+none_before inst tree rank sort size families pairs once leaves reason low applies = applies
 
 -- the two reasons that need no look at the tree
 pub no_branches : (inst tree : Fields) → is_branches_file tree.kind ≡ false
@@ -278,16 +253,16 @@ no_branches inst tree other =
     of_tours : (reason : Reason) → rank_of reason < rank_of NotBranches → AppliesToBranches inst tree reason → ⊥
     of_tours NotBranches low applies = omega (arith, low)
     of_tours BranchesDimension low applies = omega (arith, low)
-    of_tours (BadComb index) low applies = omega (arith, low)
+    of_tours (BadFamily index) low applies = omega (arith, low)
     of_tours (BadBranch index) low applies = omega (arith, low)
     of_tours (BranchTwice index) low applies = omega (arith, low)
     of_tours (BadLeaf index) low applies = omega (arith, low)
     of_tours reason low applies = applies
 
-    of_q_routes : (reason : Reason) → rank_of reason < rank_of NotBranches → StandsAgainstQRoutes inst tree reason → ⊥
+    of_q_routes : (reason : Reason) → rank_of reason < rank_of NotBranches → AppliesToQRoutes inst tree reason → ⊥
     of_q_routes NotBranches low applies = omega (arith, low)
     of_q_routes BranchesDimension low applies = omega (arith, low)
-    of_q_routes (BadComb index) low applies = omega (arith, low)
+    of_q_routes (BadFamily index) low applies = omega (arith, low)
     of_q_routes (BadBranch index) low applies = omega (arith, low)
     of_q_routes (BadLeaf index) low applies = omega (arith, low)
     of_q_routes TooManyLoads low applies = omega (arith, low)
@@ -303,16 +278,16 @@ other_dimension inst tree sort other =
     of_tours : (reason : Reason) → rank_of reason < rank_of BranchesDimension → AppliesToBranches inst tree reason → ⊥
     of_tours NotBranches low applies = false≢true (sym applies ∙ sort)
     of_tours BranchesDimension low applies = omega (arith, low)
-    of_tours (BadComb index) low applies = omega (arith, low)
+    of_tours (BadFamily index) low applies = omega (arith, low)
     of_tours (BadBranch index) low applies = omega (arith, low)
     of_tours (BranchTwice index) low applies = omega (arith, low)
     of_tours (BadLeaf index) low applies = omega (arith, low)
     of_tours reason low applies = applies
 
-    of_q_routes : (reason : Reason) → rank_of reason < rank_of BranchesDimension → StandsAgainstQRoutes inst tree reason → ⊥
+    of_q_routes : (reason : Reason) → rank_of reason < rank_of BranchesDimension → AppliesToQRoutes inst tree reason → ⊥
     of_q_routes NotBranches low applies = false≢true (sym applies ∙ sort)
     of_q_routes BranchesDimension low applies = omega (arith, low)
-    of_q_routes (BadComb index) low applies = omega (arith, low)
+    of_q_routes (BadFamily index) low applies = omega (arith, low)
     of_q_routes (BadBranch index) low applies = omega (arith, low)
     of_q_routes (BadLeaf index) low applies = omega (arith, low)
     of_q_routes TooManyLoads low applies = omega (arith, low)
@@ -328,13 +303,13 @@ for_tree : (P : (Reason → Type 0) → Type 0) (inst tree : Fields) → HasArcs
 for_tree P inst tree (inl tsp) first = subst (λ k. P (AppliesToCertificateBy Branches k inst tree)) (sym tsp) first
 for_tree P inst tree (inr atsp) first = subst (λ k. P (AppliesToCertificateBy Branches k inst tree)) (sym atsp) first
 
-pub comb_first : (inst tree : Fields) (costs : ℕ → ℕ → ℤ) (index : ℕ) → HasArcsOrEdges inst → is_branches_file tree.kind ≡ true
+pub family_first : (inst tree : Fields) (costs : ℕ → ℕ → ℤ) (index : ℕ) → HasArcsOrEdges inst → is_branches_file tree.kind ≡ true
     → nodes_of tree ≡ nodes_of inst
     → IsReported inst tree costs (found.BadFamily index)
-    → IsFirstReason (AppliesToCertificate Branches inst tree) (BadComb index)
-comb_first inst tree costs index kind sort size is = for_tree (λ Applies. IsFirstReason Applies (BadComb index)) inst tree kind (record {
-  applies = bad_comb inst tree index is.by_steps;
-  none_before = none_before inst tree (rank_of (BadComb 1)) (λ low. sort) (λ low. size) (λ low. absurd (omega (arith, low)))
+    → IsFirstReason (AppliesToCertificate Branches inst tree) (BadFamily index)
+family_first inst tree costs index kind sort size is = for_tree (λ Applies. IsFirstReason Applies (BadFamily index)) inst tree kind (record {
+  applies = bad_family inst tree index is.by_steps;
+  none_before = none_before inst tree (rank_of (BadFamily 1)) (λ low. sort) (λ low. size) (λ low. absurd (omega (arith, low)))
       (λ low. absurd (omega (arith, low))) (λ low. absurd (omega (arith, low))) (λ low. absurd (omega (arith, low)));
 })
 
@@ -345,7 +320,7 @@ pub pair_first : (inst tree : Fields) (costs : ℕ → ℕ → ℤ) (index : ℕ
 pair_first inst tree costs index kind sort size is = for_tree (λ Applies. IsFirstReason Applies (BadBranch index)) inst tree kind (record {
   applies = (is.steps, is.steps_are, is.by_steps.2);
   none_before = none_before inst tree (rank_of (BadBranch 1)) (λ low. sort) (λ low. size)
-      (λ low. no_bad_comb inst tree is.by_steps.1.good) (λ low. absurd (omega (arith, low)))
+      (λ low. no_bad_family inst tree is.by_steps.1.good) (λ low. absurd (omega (arith, low)))
       (λ low. absurd (omega (arith, low))) (λ low. absurd (omega (arith, low)));
 })
 
@@ -356,7 +331,7 @@ pub twice_first : (inst tree : Fields) (costs : ℕ → ℕ → ℤ) (index : �
 twice_first inst tree costs index kind sort size is = for_tree (λ Applies. IsFirstReason Applies (BranchTwice index)) inst tree kind (record {
   applies = (is.steps, is.steps_are, is.by_steps.3);
   none_before = none_before inst tree (rank_of (BranchTwice 1)) (λ low. sort) (λ low. size)
-      (λ low. no_bad_comb inst tree is.by_steps.1.good) (λ low. no_bad_pair inst tree is.steps is.steps_are is.by_steps.2.0)
+      (λ low. no_bad_family inst tree is.by_steps.1.good) (λ low. no_bad_pair inst tree is.steps is.steps_are is.by_steps.2.0)
       (λ low. absurd (omega (arith, low))) (λ low. absurd (omega (arith, low)));
 })
 
@@ -373,7 +348,7 @@ leaf_first inst tree costs index kind sort size is = for_tree (λ Applies. IsFir
     is.by_steps.leaves,
   );
   none_before = none_before inst tree (rank_of (BadLeaf 1)) (λ low. sort) (λ low. size)
-      (λ low. no_bad_comb inst tree is.by_steps.are_families.good)
+      (λ low. no_bad_family inst tree is.by_steps.are_families.good)
       (λ low. no_bad_pair inst tree is.steps is.steps_are is.by_steps.on_nodes.0)
       (λ low. no_twice inst tree is.steps is.steps_are is.by_steps.are_once.0) (λ low. absurd (omega (arith, low)));
 })
@@ -384,8 +359,8 @@ none_of_branches : NumbersAreUnique → (inst tree : Fields) (costs : ℕ → �
     → (reason : Reason) → AppliesToBranches inst tree reason → ⊥
 none_of_branches unique inst tree costs bound sort size is NotBranches applies = false≢true (sym applies ∙ sort)
 none_of_branches unique inst tree costs bound sort size is BranchesDimension applies = applies size
-none_of_branches unique inst tree costs bound sort size is (BadComb index) applies =
-    no_bad_comb inst tree is.by_steps.are_families.good index applies
+none_of_branches unique inst tree costs bound sort size is (BadFamily index) applies =
+    no_bad_family inst tree is.by_steps.are_families.good index applies
 none_of_branches unique inst tree costs bound sort size is (BadBranch index) applies =
     no_bad_pair inst tree is.steps is.steps_are is.by_steps.on_nodes.0 index applies
 none_of_branches unique inst tree costs bound sort size is (BranchTwice index) applies =
@@ -413,11 +388,6 @@ tsp_of_undirected inst (inr atsp) undirected = absurd (false≢true (sym undirec
 pub directed_is : (directed : Bool) (inst : Fields) (kind : Kind) → directed ≡ is_directed (Some kind) → Some kind ≡ inst.kind
     → directed ≡ is_directed inst.kind
 directed_is directed inst kind is same = is ∙ ap is_directed same
-
-costs_for : (directed : Bool) (n : ℕ) (cost : ℕ → ℕ → ℤ) → 3 ≤ n → (directed ≡ false → IsSymmetric cost)
-    → AreCostsFor directed n cost
-costs_for false n cost some even = (some, even refl)
-costs_for true n cost some even = omega (arith, some)
 
 -- the costs of a view are the same in both directions where those of the instance are
 pub symmetric_view : (inst : Fields) (directed : Bool) (costs : ℕ → ℕ → ℤ) → HasArcsOrEdges inst → directed ≡ is_directed inst.kind

@@ -1,25 +1,16 @@
 -- Circle 3 of docs/trust.md.
 -- When a reason applies to a certificate, and its bound: by potentials, by branches for tours, and by branches for
 -- routes.
-use Rattle.std.specs.List.{All, Contains}
-use Rattle.std.specs.Prelude.{◌≡◌, ℕ, ◌-◌, ◌<◌, ◌≤◌, true, List, slice_index_or, ℤ, pos, ◌⊎◌, ◌≢◌, Bool, false, ◌&&◌, [], Option, None, Some, is_some, not, ◌∷◌, length, filter, nat_abs}
+use Rattle.tsp_verdict.specs.Prelude.{All, Contains, ℕ, true, List, slice_index_or, ℤ, pos, Bool, false, [], Option, None, Some, is_some, not, length, filter, nat_abs, Kind, fixed_of, scale_in, multipliers_in, cost, families_listed, load_unit_in, Fields, nodes_of, is_potentials_file, is_branches_file, pair_of, is_same_pair, AreGood, IsFirstBroken, IsDualBound, IsAdjustedBound, is_directed, depot_of, routing_of, CaseStep, take_pairs, is_same, decided_number, Reason, NotPotentials, PotentialsDimension, PotentialsKind, MultiplierNotFixed, MultiplierRepeated, DualInfeasible, NotBranches, BranchesDimension, BadFamily, BadBranch, BranchTwice, BadLeaf, TooManyLoads}
+use Rattle.std.specs.Prelude.{◌≡◌, ◌-◌, ◌<◌, ◌≤◌, ◌⊎◌, ◌≢◌, ◌&&◌, ◌∷◌}
 use Rattle.tsp_format.specs.Steps as listed
-use Rattle.tsp_format.specs.declared.kinds.Kind.{Kind}
 use Rattle.tsp_format.specs.declared.kinds.Kind.TheVariants as kinds
-use Rattle.tsp_file.specs.Cost.{fixed_of, scale_in, multipliers_in, cost, families_listed, load_unit_in}
-use Rattle.tsp_file.specs.Fields.{Fields, nodes_of}
-use Rattle.tsp_file.specs.Rules.{is_potentials_file, is_branches_file}
-use Rattle.tsp_theory.specs.Bounds.{pair_of, is_same_pair, AreGood, IsFirstBroken, IsDualBound, IsAdjustedBound}
-use Rattle.tsp_cost.specs.Problems.{is_directed, depot_of, routing_of}
 use Rattle.tsp_cases.specs.CaseTrees.{IsCaseTree, IsCaseTreeBound}
-use Rattle.tsp_cases.specs.Cases.{CaseStep, take_pairs, is_same, decided_number}
 use Rattle.tsp_cases.specs.Families.{Family, IsFamily, families_with, IsGoodFamily}
 use Rattle.tsp_cases.specs.ListedCases.{IsFirstBadBranch, listed_steps, IsFirstBadLeaf, IsFirstTwice}
 use Rattle.tsp_cases.specs.declared.family.Crossings.{Crossings}
 use Rattle.tsp_cases.specs.declared.open_case.Decision.{Decision}
 use Rattle.tsp_routing.specs.PlanVerdicts.{IsFirstBadSet, IsFirstBadPlanBranch, IsFirstBadPlanLeaf, HasTooManyLoads, IsBoundFound}
-use Rattle.tsp_report.specs.declared.verdict.Reason.{Reason}
-use Rattle.tsp_report.specs.declared.verdict.Reason.TheVariants.{NotPotentials, PotentialsDimension, PotentialsKind, MultiplierNotFixed, MultiplierRepeated, DualInfeasible, NotBranches, BranchesDimension, BadComb, BadBranch, BranchTwice, BadLeaf, TooManyLoads}
 use Rattle.tsp_verdict.specs.Solutions.{IsFirstPlace}
 
 -- a pair is listed, in either direction
@@ -131,7 +122,7 @@ IsBadFamily n families place = IsGoodFamily n (slice_index_or families (place - 
 abbrev pub AppliesToBranches : Fields → Fields → Reason → Type 0
 AppliesToBranches instance tree NotBranches = is_branches_file tree.kind ≡ false
 AppliesToBranches instance tree BranchesDimension = nodes_of tree ≢ nodes_of instance
-AppliesToBranches instance tree (BadComb index) = IsFirstPlace (IsBadFamily (nodes_of instance) (families_listed tree))
+AppliesToBranches instance tree (BadFamily index) = IsFirstPlace (IsBadFamily (nodes_of instance) (families_listed tree))
     (families_listed tree) index
 AppliesToBranches instance tree (BadBranch index) = (steps : List listed.Step) × (tree.branches ≡ Some steps)
     × IsFirstBadBranch 1 (nodes_of instance) steps index
@@ -172,17 +163,17 @@ unit_in tree = nat_abs (load_unit_in tree)
 -- ---- when a reason applies to it; reasons of routes and of other certificates never do
 
 -- when a reason applies to the certificate
-abbrev pub StandsAgainstQRoutes : Fields → Fields → Reason → Type 0
-StandsAgainstQRoutes instance tree NotBranches = is_branches_file tree.kind ≡ false
-StandsAgainstQRoutes instance tree BranchesDimension = nodes_of tree ≢ nodes_of instance
-StandsAgainstQRoutes instance tree (BadComb index) =
+abbrev pub AppliesToQRoutes : Fields → Fields → Reason → Type 0
+AppliesToQRoutes instance tree NotBranches = is_branches_file tree.kind ≡ false
+AppliesToQRoutes instance tree BranchesDimension = nodes_of tree ≢ nodes_of instance
+AppliesToQRoutes instance tree (BadFamily index) =
     IsFirstBadSet (nodes_of instance) (depot_of instance) (families_listed tree) index
-StandsAgainstQRoutes instance tree (BadBranch index) = (steps : List listed.Step) × (tree.branches ≡ Some steps)
+AppliesToQRoutes instance tree (BadBranch index) = (steps : List listed.Step) × (tree.branches ≡ Some steps)
     × IsFirstBadPlanBranch (nodes_of instance) (length (families_listed tree)) steps index
-StandsAgainstQRoutes instance tree (BadLeaf index) = (steps : List listed.Step) × (tree.branches ≡ Some steps)
+AppliesToQRoutes instance tree (BadLeaf index) = (steps : List listed.Step) × (tree.branches ≡ Some steps)
     × IsFirstBadPlanLeaf (nodes_of instance) (length (families_listed tree)) steps index
-StandsAgainstQRoutes instance tree TooManyLoads = HasTooManyLoads (routing_of instance) (unit_in tree)
-StandsAgainstQRoutes instance tree reason = ⊥
+AppliesToQRoutes instance tree TooManyLoads = HasTooManyLoads (routing_of instance) (unit_in tree)
+AppliesToQRoutes instance tree reason = ⊥
 
 -- ---- its bound
 

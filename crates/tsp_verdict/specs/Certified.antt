@@ -1,25 +1,14 @@
 -- Circle 3 of docs/trust.md.
 -- The bound of a certificate of each TYPE, and the verdict on an instance and a certificate without a solution.
-use Rattle.std.specs.Prelude.{◌≡◌, ◌⊎◌, ℕ, Bool, true, false, List, [], ◌∷◌, Option, None, Some, ◌^◌, ℤ, pos, neg_ℤ, ◌≢◌, ◌<◌, ◌≤◌, length}
-use Rattle.tsp_format.specs.Steps.{IsFromTo}
-use Rattle.tsp_format.specs.Words.{IsFirstAsymmetric}
-use Rattle.tsp_format.specs.declared.kinds.Kind.{Kind}
+use Rattle.tsp_verdict.specs.Prelude.{ℕ, Bool, true, false, List, [], Option, None, Some, ℤ, pos, neg_ℤ, length, IsFromTo, IsFirstAsymmetric, Kind, cost, fixed_of, Fields, nodes_of, length_of, BoundsTours, HasNoTour, demand_of, problem_of, routing_of, IsTourOf, depots_of, demands_of, depot_of, rank_of, CertificateKind, Reason, MultiplierNotFixed, BadFamily, TooFewNodes, NotSymmetric, DepotCount, DepotDemand, FixedEdgesInRoutes, Verdict}
+use Rattle.std.specs.Prelude.{◌≡◌, ◌⊎◌, ◌∷◌, ◌^◌, ◌≢◌, ◌<◌, ◌≤◌}
 use Rattle.tsp_format.specs.declared.kinds.Kind.TheVariants as kinds
-use Rattle.tsp_file.specs.Cost.{cost, fixed_of}
-use Rattle.tsp_file.specs.Fields.{Fields, nodes_of}
-use Rattle.tsp_theory.specs.Tour.{length_of, BoundsTours, HasNoTour, demand_of}
-use Rattle.tsp_cost.specs.Problems.{problem_of, routing_of, IsTourOf, depots_of, demands_of, depot_of}
 use Rattle.tsp_routing.specs.PlanLinks.{BoundsPlans, HasNoPlan}
-use Rattle.tsp_report.specs.Verdicts.{rank_of}
-use Rattle.tsp_report.specs.declared.task.CertificateKind.{CertificateKind}
 use Rattle.tsp_report.specs.declared.task.CertificateKind.TheVariants.{Potentials, Branches}
 use Rattle.tsp_report.specs.declared.verdict.BoundVerdict.{BoundVerdict}
 use Rattle.tsp_report.specs.declared.verdict.BoundVerdict.TheVariants as bounds
-use Rattle.tsp_report.specs.declared.verdict.Reason.{Reason}
-use Rattle.tsp_report.specs.declared.verdict.Reason.TheVariants.{MultiplierNotFixed, BadComb, TooFewNodes, NotSymmetric, DepotCount, DepotDemand, FixedEdgesInRoutes}
-use Rattle.tsp_report.specs.declared.verdict.Verdict.{Verdict}
 use Rattle.tsp_report.specs.declared.verdict.Verdict.TheVariants as verdicts
-use Rattle.tsp_verdict.specs.Certificates.{AppliesToPotentials, IsBoundByNodes, IsBoundByDuals, StandsAgainstQRoutes, HasBoundByQRoutes, AppliesToBranches, IsBoundByBranches, HasNoBoundByBranches}
+use Rattle.tsp_verdict.specs.Certificates.{AppliesToPotentials, IsBoundByNodes, IsBoundByDuals, AppliesToQRoutes, HasBoundByQRoutes, AppliesToBranches, IsBoundByBranches, HasNoBoundByBranches}
 use Rattle.tsp_verdict.specs.Solutions.{NoneBefore, IsFirstReason, tours_of, AppliesToTour, AppliesToRoutes, IsPlanned}
 
 -- ---- by the certificate, and by the TYPE of the instance
@@ -64,7 +53,7 @@ HasNoBound by instance certificate = HasNoBoundBy by instance.kind instance cert
 -- certificates never do
 abbrev pub AppliesToCertificateBy : CertificateKind → Option Kind → Fields → Fields → Reason → Type 0
 AppliesToCertificateBy Potentials kind instance certificate reason = AppliesToPotentials instance certificate reason
-AppliesToCertificateBy Branches (Some kinds.Cvrp) instance certificate reason = StandsAgainstQRoutes instance certificate reason
+AppliesToCertificateBy Branches (Some kinds.Cvrp) instance certificate reason = AppliesToQRoutes instance certificate reason
 AppliesToCertificateBy Branches other instance certificate reason = AppliesToBranches instance certificate reason
 
 -- when a reason applies to the certificate
@@ -94,7 +83,7 @@ HasNoSolution instance = HasNoSolutionBy instance.kind instance
 -- the rank of the first reason against the certificate that needs memory
 abbrev pub first_with_memory : CertificateKind → ℕ
 first_with_memory Potentials = rank_of (MultiplierNotFixed 1)
-first_with_memory Branches = rank_of (BadComb 1)
+first_with_memory Branches = rank_of (BadFamily 1)
 
 -- no reason applies to the certificate that is found without memory
 abbrev pub NoneWithoutMemory : CertificateKind → Fields → Fields → Type 0

@@ -1,11 +1,7 @@
 -- Small instances, solutions and certificates.
-use Rattle.std.specs.Prelude.{codes, ℕ, ◌<◌, List, [], ◌∷◌, Option, None, Some, ℤ, pos}
-use Rattle.tsp_format.specs.declared.kinds.Kind.{Kind}
+use Rattle.tsp_verdict.specs.Prelude.{codes, ℕ, List, [], Option, None, Some, ℤ, pos, Kind, Step, Branch, Leaf, Fields, blank_fields, Reason, rank_of}
+use Rattle.std.specs.Prelude.{◌<◌, ◌∷◌}
 use Rattle.tsp_format.specs.declared.kinds.Kind.TheVariants as kinds
-use Rattle.tsp_format.specs.Steps.{Step, Branch, Leaf}
-use Rattle.tsp_file.specs.Fields.{Fields, blank_fields}
-use Rattle.tsp_report.specs.declared.verdict.Reason.{Reason}
-use Rattle.tsp_report.specs.Verdicts.{rank_of}
 
 -- an instance with this many nodes and these fixed pairs
 abbrev pub instance_with : Kind → ℕ → List (ℕ × ℕ) → Fields
@@ -65,10 +61,10 @@ multiplying triples = record (of_nodes 4) { fixed_potentials = Some triples }
 
 -- branches for this many nodes, with these families and steps
 abbrev pub branching : ℕ → List (List (List ℕ)) → List Step → Fields
-branching n combs steps = record blank_fields {
+branching n families steps = record blank_fields {
   kind = Some kinds.Branches;
   dimension = Some n;
-  combs = Some combs;
+  families = Some families;
   branches = Some steps;
 }
 
@@ -100,6 +96,10 @@ halves_of_rows =
 -- branches with a single leaf, at a scale of 2
 abbrev pub halves_of_leaf : Fields
 halves_of_leaf = record (branching 3 [] (Leaf [] ∷ [])) { scale = Some (pos 2) }
+
+-- branches with a single leaf, whose loads are counted by five
+abbrev pub by_fives : Fields
+by_fives = record (branching 4 [] (Leaf [] ∷ [])) { load_unit = Some (pos 5) }
 
 -- a family of two sets, the first of which has a node twice
 abbrev pub node_twice : List (List ℕ)

@@ -1,4 +1,5 @@
 -- The files of definitions of this crate. Crates above may import them.
+pub mod Prelude
 pub mod states
 pub mod Certificates
 pub mod Solutions

@@ -1,20 +1,12 @@
 -- The verdict on a solution, with a certificate or without, by what is known of its instance, and with unknown keywords
 -- as a reason.
-use Rattle.std.specs.Prelude.{◌≡◌, ◌≢◌, ◌⊎◌, Bool, Option, None, Some, ℤ, IsTrue, true, false, List, [], ◌∷◌, ℕ}
-use Rattle.tsp_format.specs.declared.kinds.Kind.{Kind}
+use Rattle.tsp_verdict.specs.Prelude.{Bool, Option, None, Some, ℤ, IsTrue, true, false, List, [], ℕ, Kind, Fields, is_instance, IsLeastRoutes, capacity_of, CertificateKind, Reason, LengthClaimed, NotJudged, Verdict}
+use Rattle.std.specs.Prelude.{◌≡◌, ◌≢◌, ◌⊎◌, ◌∷◌}
 use Rattle.tsp_format.specs.declared.kinds.Kind.TheVariants as kinds
-use Rattle.tsp_file.specs.Fields.{Fields}
-use Rattle.tsp_file.specs.Rules.{is_instance}
-use Rattle.tsp_theory.specs.Tour.{IsLeastRoutes}
-use Rattle.tsp_cost.specs.Problems.{capacity_of}
-use Rattle.tsp_report.specs.declared.task.CertificateKind.{CertificateKind}
 use Rattle.tsp_report.specs.declared.verdict.KnownBound.{KnownBound}
 use Rattle.tsp_report.specs.declared.verdict.KnownBound.TheVariants as known_bounds
 use Rattle.tsp_report.specs.declared.verdict.BoundVerdict.{BoundVerdict}
 use Rattle.tsp_report.specs.declared.verdict.BoundVerdict.TheVariants as bounds
-use Rattle.tsp_report.specs.declared.verdict.Reason.{Reason}
-use Rattle.tsp_report.specs.declared.verdict.Reason.TheVariants.{LengthClaimed, NotJudged}
-use Rattle.tsp_report.specs.declared.verdict.Verdict.{Verdict}
 use Rattle.tsp_report.specs.declared.verdict.Verdict.TheVariants.{Tour, Routes, No}
 use Rattle.tsp_verdict.specs.Certified.{is_bounded, AppliesToCertificate, IsCertifiedVerdict, AppliesToTouring, NoneAgainstTouring, AppliesToRouting, NoneAgainstRouting, NoneAgainstInstance, IsBoundVerdict, NoneWithoutMemory}
 use Rattle.tsp_verdict.specs.Solutions.{IsFirstReason, IsRoutesVerdict, NoneOfRoutesBeforeRepeats, IsTourVerdict, NoneOfTourBeforeRepeats, total_of}
@@ -106,7 +98,7 @@ abbrev pub IsVerdictWith : Option (CertificateKind × Fields) → Option ℤ →
 IsVerdictWith given None instance solution verdict = IsUnclaimedVerdict given instance solution verdict
 IsVerdictWith given (Some claim) instance solution verdict = IsClaimedVerdict claim given instance solution verdict
 
--- ---- the basis of all solutions of an instance, before any is read
+-- ---- what is known of all solutions of an instance, before any is read
 
 -- ---- without a certificate, by the TYPE of the instance
 
@@ -127,7 +119,7 @@ IsKnownBoundOfRoutes instance (known_bounds.Routes least None) = NoneAgainstRout
 IsKnownBoundOfRoutes instance (known_bounds.Routes least (Some bound)) = ⊥
 IsKnownBoundOfRoutes instance (known_bounds.No reason) = IsFirstReason (AppliesToRouting instance) reason
 
--- the basis without a certificate
+-- the known bound without a certificate
 abbrev pub IsKnownBoundAlone : Option Kind → Fields → KnownBound → Type 0
 IsKnownBoundAlone (Some kinds.Tsp) instance known_bound = IsKnownBoundOfTours instance known_bound
 IsKnownBoundAlone (Some kinds.Atsp) instance known_bound = IsKnownBoundOfTours instance known_bound
@@ -153,19 +145,19 @@ IsKnownBoundOfRoutesBy by instance certificate known_bounds.NoSolution = IsBound
 IsKnownBoundOfRoutesBy by instance certificate (known_bounds.Tours bound) = ⊥
 IsKnownBoundOfRoutesBy by instance certificate (known_bounds.No reason) = IsBoundVerdict by instance certificate (bounds.No reason)
 
--- the basis with a certificate
+-- the known bound with a certificate
 abbrev pub IsKnownBoundBy : Option Kind → CertificateKind → Fields → Fields → KnownBound → Type 0
 IsKnownBoundBy (Some kinds.Cvrp) by instance certificate known_bound = IsKnownBoundOfRoutesBy by instance certificate known_bound
 IsKnownBoundBy other by instance certificate known_bound = IsKnownBoundOfToursBy by instance certificate known_bound
 
 -- ---- either
 
--- the basis, with a certificate or without
+-- the known bound, with a certificate or without
 abbrev pub IsKnownBoundWith : Option (CertificateKind × Fields) → Fields → KnownBound → Type 0
 IsKnownBoundWith None instance known_bound = IsKnownBoundAlone instance.kind instance known_bound
 IsKnownBoundWith (Some given) instance known_bound = IsKnownBoundBy instance.kind given.0 instance given.1 known_bound
 
--- the basis of an instance whose solutions are judged so
+-- the known bound of an instance whose solutions are judged so
 abbrev pub IsKnownBound : Option (CertificateKind × Fields) → Fields → KnownBound → Type 0
 IsKnownBound given instance known_bound = IsTrue (is_judged given instance.kind) × IsKnownBoundWith given instance known_bound
 
@@ -177,14 +169,14 @@ NoneOfKnownBoundWithoutMemory (Some given) instance = NoneAgainstInstance instan
 
 -- ---- a solution
 
--- an accepted solution has the bound of the basis, or its least number of routes
+-- an accepted solution has the bound of the known bound, or its least number of routes
 abbrev pub HasKnownBound : Verdict → KnownBound → Type 0
 HasKnownBound (Tour length bound) known_bound = known_bound ≡ known_bounds.Tours bound
 HasKnownBound (Routes length routes least bound) known_bound = known_bound ≡ known_bounds.Routes least bound
 HasKnownBound (No reason) known_bound = Unit {0}
 
--- the verdict on a solution by a basis, with a claimed length or without: it is the verdict with each certificate that
--- gives the instance this basis
+-- the verdict on a solution by a known bound, with a claimed length or without: it is the verdict with each certificate that
+-- gives the instance this known bound
 abbrev pub IsVerdictFrom : KnownBound → Option ℤ → Fields → Fields → Verdict → Type 0
 IsVerdictFrom known_bound claimed instance solution verdict = HasKnownBound verdict known_bound
     × ((given : Option (CertificateKind × Fields)) → IsKnownBound given instance known_bound
@@ -216,7 +208,7 @@ strict_bound true (bounds.Bound bound) = bounds.No NotJudged
 strict_bound true bounds.NoSolution = bounds.No NotJudged
 strict_bound true (bounds.No reason) = bounds.No reason
 
--- the same of a basis
+-- the same of a known bound
 abbrev pub strict_known_bound : Bool → KnownBound → KnownBound
 strict_known_bound false known_bound = known_bound
 strict_known_bound true (known_bounds.Tours bound) = known_bounds.No NotJudged
@@ -234,12 +226,12 @@ abbrev pub IsBoundAsked : Bool → CertificateKind → Fields → Fields → Bou
 IsBoundAsked strict by instance certificate found = (plain : BoundVerdict)
     × IsBoundVerdict by instance certificate plain × (found ≡ strict_bound (is_unjudged strict instance) plain)
 
--- the same of a basis
+-- the same of a known bound
 abbrev pub IsKnownBoundAsked : Bool → Option (CertificateKind × Fields) → Fields → KnownBound → Type 0
 IsKnownBoundAsked strict given instance known_bound = (plain : KnownBound)
     × IsKnownBound given instance plain × (known_bound ≡ strict_known_bound (is_unjudged strict instance) plain)
 
--- ---- that files have one verdict, one bound and one basis, for every TYPE, certificate and
+-- ---- that files have one verdict and one bound, for every TYPE and certificate
 
 -- An instance and a solution, with a certificate or without, and with a claimed length or without, have one verdict.
 abbrev pub FilesHaveOneVerdict : Type 0
@@ -252,12 +244,12 @@ abbrev pub FilesHaveOneBound : Type 0
 FilesHaveOneBound = (by : CertificateKind) (instance certificate : Fields) (one other : BoundVerdict)
     → IsBoundVerdict by instance certificate one → IsBoundVerdict by instance certificate other → one ≡ other
 
--- An instance has one basis, with a certificate or without.
+-- An instance has one known bound, with a certificate or without.
 abbrev pub FilesHaveOneKnownBound : Type 0
 FilesHaveOneKnownBound = (given : Option (CertificateKind × Fields)) (instance : Fields) (one other : KnownBound)
     → IsKnownBound given instance one → IsKnownBound given instance other → one ≡ other
 
--- So a solution of an instance whose basis is known has one verdict: it has one line in a comparison.
+-- So a solution of an instance whose known bound is known has one verdict: it has one line in a comparison.
 abbrev pub SolutionsHaveOneVerdict : Type 0
 SolutionsHaveOneVerdict = (given : Option (CertificateKind × Fields)) (known_bound : KnownBound) (claimed : Option ℤ)
     (instance solution : Fields) (one other : Verdict) → IsKnownBound given instance known_bound

@@ -1,19 +1,8 @@
 -- The verdict on a tour or on routes without a certificate: the first reason that applies, in the order in which
 -- reasons are judged.
-use Rattle.std.specs.List.{concat, All, Contains}
-use Rattle.std.specs.Prelude.{◌≡◌, ℕ, ◌-◌, ◌<◌, ◌≤◌, Bool, List, length, slice_index, slice_index_or, [], unwrap_or, ◌≢◌, false, ◌∷◌, None, Some, ℤ, pos, ◌<ℤ◌}
-use Rattle.tsp_format.specs.Nodes.{nodes_to}
-use Rattle.tsp_format.specs.Words.{IsFirstAsymmetric}
+use Rattle.tsp_verdict.specs.Prelude.{concat, All, Contains, ℕ, Bool, List, length, slice_index, slice_index_or, [], unwrap_or, false, None, Some, ℤ, pos, nodes_to, IsFirstAsymmetric, cost, fixed_of, Fields, nodes_of, is_tour_file, Uses, length_of, load_of, IsCustomer, demand_of, plan_length, IsLeastRoutes, is_directed, IsTourOf, demands_of, depot_of, IsPlanOf, depots_of, capacity_of, rank_of, Reason, NotASolution, TooFewNodes, NotSymmetric, Dimension, TourCount, TourLength, NodeOutOfRange, RepeatedNode, FixedEdgeUnused, DepotCount, DepotDemand, FixedEdgesInRoutes, DepotInRoute, Unserved, Overload, Verdict}
+use Rattle.std.specs.Prelude.{◌≡◌, ◌-◌, ◌<◌, ◌≤◌, ◌≢◌, ◌∷◌, ◌<ℤ◌}
 use Rattle.tsp_format.specs.declared.kinds.Kind.TheVariants as kinds
-use Rattle.tsp_file.specs.Cost.{cost, fixed_of}
-use Rattle.tsp_file.specs.Fields.{Fields, nodes_of}
-use Rattle.tsp_file.specs.Rules.{is_tour_file}
-use Rattle.tsp_theory.specs.Tour.{Uses, length_of, load_of, IsCustomer, demand_of, plan_length, IsLeastRoutes}
-use Rattle.tsp_cost.specs.Problems.{is_directed, IsTourOf, demands_of, depot_of, IsPlanOf, depots_of, capacity_of}
-use Rattle.tsp_report.specs.Verdicts.{rank_of}
-use Rattle.tsp_report.specs.declared.verdict.Reason.{Reason}
-use Rattle.tsp_report.specs.declared.verdict.Reason.TheVariants.{NotASolution, TooFewNodes, NotSymmetric, Dimension, TourCount, TourLength, NodeOutOfRange, RepeatedNode, FixedEdgeUnused, DepotCount, DepotDemand, FixedEdgesInRoutes, DepotInRoute, Unserved, Overload}
-use Rattle.tsp_report.specs.declared.verdict.Verdict.{Verdict}
 use Rattle.tsp_report.specs.declared.verdict.Verdict.TheVariants as verdicts
 
 -- the node at a place of a list of nodes

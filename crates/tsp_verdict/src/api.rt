@@ -45,6 +45,8 @@ pub fn judge_tour(alloc: Global, inst: &Instance, sol: &File) -> Result<Verdict,
 /// its nodes and back. `least` is the least L with `L * capacity` at least the sum of all demands:
 /// no plan has fewer routes. The reasons are judged in the order that [`Reason`] says.
 ///
+/// With a file of branches, call [`crate::judge`]: it also judges routes with a certificate.
+///
 /// # Requires
 ///
 /// An instance of TYPE CVRP.
@@ -99,7 +101,7 @@ pub fn judge_tour_bound(
 /// of those of the leaves. Under TYPE TSP each of these is that of a least 1-tree under the leaf's
 /// potentials, its multipliers of families of sets, and the decisions above it. Under TYPE ATSP
 /// it is that of the least link from each node, and a leaf whose decisions leave some node no link
-/// counts for nothing. The fixed pairs are taken in all cases.
+/// counts for nothing. The fixed pairs are taken in all cases. For TYPE CVRP, call [`crate::judge`].
 ///
 /// # Requires
 ///

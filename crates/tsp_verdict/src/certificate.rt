@@ -1,14 +1,11 @@
 //! The bound that a certificate gives tours, by its kind, and which instances it can be for.
 
-ghost use Rattle.std.specs.Prelude.{◌≡◌, ◌⊎◌, ◌≤◌, Some, IfOk, IsOk, IsErr, true, MatchResult};
+ghost use Rattle.tsp_verdict.specs.Prelude.{Some, IfOk, IsOk, IsErr, true, MatchResult, nodes_of, is_branches_file, HoldsCases, take_pairs};
+ghost use Rattle.std.specs.Prelude.{◌≡◌, ◌⊎◌, ◌≤◌};
 ghost use Rattle.tsp_format.specs.declared.kinds.Kind.TheVariants as kinds;
 ghost use Rattle.tsp_format.specs.states.TreeSteps.{steps_of};
-ghost use Rattle.tsp_file.specs.Fields.{nodes_of};
-ghost use Rattle.tsp_file.specs.Rules.{is_branches_file};
-ghost use Rattle.tsp_file.specs.Cost.{HoldsCases};
-ghost use Rattle.tsp_file.specs.states.Drafts.{combs_of};
+ghost use Rattle.tsp_file.specs.states.Drafts.{families_of};
 ghost use Rattle.tsp_cost.specs.states.Views.{HasCosts};
-ghost use Rattle.tsp_cases.specs.Cases.{take_pairs};
 ghost use Rattle.tsp_verdict.specs.Certificates.{each_once};
 ghost use Rattle.tsp_verdict.specs.Certified.{is_bounded, FindsBound, NoneWithoutMemory, AppliesToCertificate};
 ghost use Rattle.tsp_verdict.specs.Solutions.{IsFirstReason};
@@ -117,7 +114,7 @@ fn tour_tree_bound(
 pub(crate) fn tree_of<'a>(instance: &Instance, branches: &'a File) -> Result<TreeData<'a>, Reason>
     ensures { MatchResult result (λ tree. (is_branches_file branches.now.kind ≡ true)
         × (nodes_of branches.now ≡ nodes_of instance.now)
-        × HoldsCases branches.now tree.scale tree.load_unit (combs_of tree.combs.now)
+        × HoldsCases branches.now tree.scale tree.load_unit (families_of tree.families.now)
         (steps_of tree.steps.now))
         (λ reason. IsFirstReason
         (AppliesToCertificate certificates.Branches instance.now branches.now) reason) }
@@ -151,7 +148,7 @@ fn judge_tour_tree<C: Costs>(
     requires sort { is_branches_file branches.now.kind ≡ true }
     requires count { nodes_of branches.now ≡ nodes_of instance.now }
     requires held { HoldsCases branches.now tree.now.scale tree.now.load_unit
-        (combs_of tree.now.combs.now) (steps_of tree.now.steps.now) }
+        (families_of tree.now.families.now) (steps_of tree.now.steps.now) }
     ensures { IfOk result
         (λ found. FindsBound certificates.Branches instance.now branches.now found) }
 {
@@ -163,14 +160,14 @@ fn judge_tour_tree<C: Costs>(
         costs,
         directed,
         scale: tree.scale,
-        families: tree.combs,
+        families: tree.families,
         given: &given,
         steps: tree.steps,
     };
     match judge_branches(alloc, &cases)? {
         BranchVerdict::Bound(Some(bound)) => Ok(BoundVerdict::Bound(bound)),
         BranchVerdict::Bound(None) => Ok(BoundVerdict::NoSolution),
-        BranchVerdict::BadFamily(index) => Ok(BoundVerdict::No(Reason::BadComb {
+        BranchVerdict::BadFamily(index) => Ok(BoundVerdict::No(Reason::BadFamily {
             index: index as u32,
         })),
         BranchVerdict::BadBranch(index) => Ok(BoundVerdict::No(Reason::BadBranch {

@@ -1,24 +1,18 @@
 //! Laws that state values of the definitions in `specs/`, worked out by hand: the verdict on a
 //! solution with a claimed length, and fixed arcs as decisions.
 
-ghost use Rattle.std.specs.Prelude.{◌≡◌, ◌∷◌, [], None, Some, pos, negsuc, ℕ, ◌+◌, ◌*◌, ◌<◌, Option, ℤ, ◌+ℤ◌, ◌*ℤ◌, ◌<ℤ◌};
-ghost use Rattle.tsp_format.specs.Steps.{Branch, Leaf};
+ghost use Rattle.tsp_verdict.specs.Prelude.{[], None, Some, pos, negsuc, ℕ, Option, ℤ, Branch, Leaf, cost, scale_in, Fields, nodes_of, IsAdjustedBound, entry, is_directed, depot_of, capacity_of, routing_of, IsPlanOf, decided_number, IsLeastRoutes, plan_length, CertificateKind};
+ghost use Rattle.std.specs.Prelude.{◌≡◌, ◌∷◌, ◌+◌, ◌*◌, ◌<◌, ◌+ℤ◌, ◌*ℤ◌, ◌<ℤ◌};
 ghost use Rattle.tsp_format.specs.declared.kinds.Kind.TheVariants as kinds;
-ghost use Rattle.tsp_file.specs.Cost.{cost, scale_in};
-ghost use Rattle.tsp_file.specs.Fields.{Fields, nodes_of};
-ghost use Rattle.tsp_theory.specs.Bounds.{IsAdjustedBound, entry};
-ghost use Rattle.tsp_cost.specs.Problems.{is_directed, depot_of, capacity_of, IsPlanOf};
 ghost use Rattle.tsp_cases.specs.CaseTrees.{IsCaseTreeBound};
-ghost use Rattle.tsp_cases.specs.Cases.{decided_number};
 ghost use Rattle.tsp_cases.specs.Examples.{with_pair};
+ghost use Rattle.tsp_routing.specs.PlanVerdicts.{HasTooManyLoads, IsBoundFound};
 ghost use Rattle.tsp_verdict.specs.SolutionVerdict.{IsKnownBoundOfRoutes, IsAsClaimed, IsOtherClaimed, IsOfLength, IsVerdictOn, IsVerdictWith, HasLength, HasNoLength};
 ghost use Rattle.tsp_verdict.specs.Certified.{AppliesToInstance, AppliesToTouring, AppliesToRouting, AppliesToCertificate, NoneWithoutMemory, IsCertifiedTourVerdict, IsCertifiedRoutesVerdict};
-ghost use Rattle.tsp_verdict.specs.Certificates.{given_in, AppliesToBranches, HasBoundByBranches, case_steps_in, AppliesToPotentials, IsBoundByNodes, IsBoundByDuals};
-ghost use Rattle.tsp_verdict.specs.Examples.{instance_with, of_nodes, of_rows, of_both, multiplying, vehicles, carrying, solution, sized, lone, both, branching, two_leaves, three_leaves, node_twice, IsJudgedBefore, halves_of_nodes, halves_of_rows, halves_of_leaf, bad_leaves};
+ghost use Rattle.tsp_verdict.specs.Certificates.{given_in, unit_in, AppliesToBranches, AppliesToQRoutes, HasBoundByBranches, HasBoundByQRoutes, case_steps_in, AppliesToPotentials, IsBoundByNodes, IsBoundByDuals};
+ghost use Rattle.tsp_verdict.specs.Examples.{instance_with, of_nodes, of_rows, of_both, multiplying, vehicles, carrying, solution, sized, lone, both, branching, two_leaves, three_leaves, node_twice, IsJudgedBefore, halves_of_nodes, halves_of_rows, halves_of_leaf, by_fives, bad_leaves};
 ghost use Rattle.tsp_theory.specs.Examples.{two, three, four};
-ghost use Rattle.tsp_theory.specs.Tour.{IsLeastRoutes, plan_length};
 ghost use Rattle.tsp_verdict.specs.Solutions.{total_of, AppliesToRoutes, NoneOfRoutesBeforeRepeats, IsRoutesVerdict, AppliesToTour, NoneOfTourBeforeRepeats, IsTourVerdict};
-ghost use Rattle.tsp_report.specs.declared.task.CertificateKind.{CertificateKind};
 ghost use Rattle.tsp_report.specs.declared.task.CertificateKind.TheVariants as certificates;
 ghost use Rattle.tsp_report.specs.declared.verdict.KnownBound.TheVariants as known_bounds;
 ghost use Rattle.tsp_report.specs.declared.verdict.Reason.TheVariants as reasons;
@@ -84,8 +78,8 @@ pub fn examples_of_order()
     ensures duals { IsJudgedBefore (reasons.MultiplierRepeated 9) (reasons.DualInfeasible 1 2) }
     ensures branches { IsJudgedBefore (reasons.LengthClaimed (pos 9)) reasons.NotBranches }
     ensures number_of_nodes { IsJudgedBefore reasons.NotBranches reasons.BranchesDimension }
-    ensures combs { IsJudgedBefore reasons.BranchesDimension (reasons.BadComb 1) }
-    ensures on_a_family { IsJudgedBefore (reasons.BadComb 9) (reasons.BadBranch 1) }
+    ensures families { IsJudgedBefore reasons.BranchesDimension (reasons.BadFamily 1) }
+    ensures on_a_family { IsJudgedBefore (reasons.BadFamily 9) (reasons.BadBranch 1) }
     ensures decided_twice { IsJudgedBefore (reasons.BadBranch 9) (reasons.BranchTwice 1) }
     ensures leaves { IsJudgedBefore (reasons.BranchTwice 9) (reasons.BadLeaf 1) }
     ensures loads { IsJudgedBefore (reasons.BadLeaf 9) reasons.TooManyLoads }
@@ -205,7 +199,7 @@ pub fn examples_against_trees()
     ensures same_dimension { ¬ AppliesToBranches (instance_with kinds.Tsp 4 [])
         (branching 4 [] (Leaf [] ∷ [])) reasons.BranchesDimension }
     ensures node_twice { AppliesToBranches (instance_with kinds.Tsp 4 [])
-        (branching 4 (node_twice ∷ []) (Leaf [] ∷ [])) (reasons.BadComb 1) }
+        (branching 4 (node_twice ∷ []) (Leaf [] ∷ [])) (reasons.BadFamily 1) }
     ensures again { AppliesToBranches (instance_with kinds.Tsp 4 [])
         (branching 4 [] (Branch 1 2 ∷ Branch 1 2 ∷ three_leaves)) (reasons.BranchTwice 2) }
     ensures fixed { AppliesToBranches (instance_with kinds.Tsp 4 ((2, 1) ∷ []))
@@ -391,6 +385,17 @@ pub fn examples_of_bounds()
     ensures branches { (inst : Fields) (found : Option ℤ) → HasBoundByBranches inst halves_of_leaf found
         → IsCaseTreeBound (is_directed inst.kind) (nodes_of inst) (cost inst) (pos 2)
         decided_number [] (given_in inst) (case_steps_in inst halves_of_leaf (Leaf [] ∷ [])) found }
+{}
+
+/// The unit in which a certificate counts loads: LOAD_UNIT, and 1 without one. Its bound and the
+/// reason that there are too many loads are by that unit.
+pub fn examples_of_load_units()
+    ensures fives { unit_in by_fives ≡ 5 }
+    ensures missing { unit_in (branching 4 [] (Leaf [] ∷ [])) ≡ 1 }
+    ensures too_many { AppliesToQRoutes (carrying (pos 8)) by_fives reasons.TooManyLoads
+        → HasTooManyLoads (routing_of (carrying (pos 8))) 5 }
+    ensures bound { (found : Option ℤ) → HasBoundByQRoutes (carrying (pos 8)) by_fives found
+        → IsBoundFound (routing_of (carrying (pos 8))) (pos 1) 5 [] (Leaf [] ∷ []) found }
 {}
 
 /// The first of two customers that no route serves, and the first of two bad leaves.

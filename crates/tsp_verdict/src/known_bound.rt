@@ -1,16 +1,13 @@
-//! The basis of all solutions of an instance, before any is read: their bounds, or the reason
+//! The known bound of all solutions of an instance, before any is read: their bounds, or the reason
 //! against all.
 
-ghost use Rattle.std.specs.Prelude.{◌≡◌, IsTrue, None, Some, MatchResult, option_map, ◌⊎◌, ◌≤◌};
+ghost use Rattle.tsp_verdict.specs.Prelude.{IsTrue, None, Some, MatchResult, option_map, Fields, nodes_of, capacity_of, IsLeastRoutes, CertificateKind};
+ghost use Rattle.std.specs.Prelude.{◌≡◌, ◌⊎◌, ◌≤◌};
 ghost use Rattle.tsp_format.specs.declared.kinds.Kind.TheVariants as kinds;
-ghost use Rattle.tsp_file.specs.Fields.{Fields, nodes_of};
-ghost use Rattle.tsp_cost.specs.Problems.{capacity_of};
 ghost use Rattle.tsp_verdict.specs.SolutionVerdict.{IsKnownBound, IsKnownBoundBy, IsKnownBoundOfToursBy, IsKnownBoundOfRoutesBy, IsKnownBoundOfRoutes, NoneOfKnownBoundWithoutMemory, is_judged};
 ghost use Rattle.tsp_verdict.specs.Certified.{IsBoundVerdict, AppliesToTouring, NoneAgainstTouring, NoneAgainstInstance, is_bounded, NoneWithoutMemory};
 ghost use Rattle.tsp_verdict.specs.Solutions.{total_of, IsFirstReason};
-ghost use Rattle.tsp_theory.specs.Tour.{IsLeastRoutes};
 ghost use Rattle.tsp_verdict.specs.states.TourKnownBounds.{against_instance, AreTourCosts};
-ghost use Rattle.tsp_report.specs.declared.task.CertificateKind.{CertificateKind};
 ghost use Rattle.tsp_report.specs.declared.task.CertificateKind.TheVariants as certificates;
 
 use crate::certificate::bound_by;
@@ -141,7 +138,7 @@ fn least_of(instance: &Instance) -> u64
     least_routes(routing.demands, routing.capacity)
 }
 
-/// The reason of a basis that applies to the instance, whatever the tour and the certificate.
+/// The reason of a known bound that applies to the instance, whatever the tour and the certificate.
 pub(crate) fn against_instance(known_bound: KnownBound) -> Option<Reason>
     ensures { result ≡ against_instance known_bound }
 {

@@ -9,6 +9,8 @@
 //! let solution = read_bytes(alloc, solution)?;
 //! Ok(judge_tour(alloc, &instance, &solution)?)
 //! ```
+//!
+//! Routes with a certificate have no call of their own: [`judge`] takes every TYPE and certificate.
 #![tactic(auto)]
 
 mod api;
@@ -28,8 +30,8 @@ pub use examples::{
     examples_against_routing, examples_against_tours, examples_against_trees, examples_of_accepted,
     examples_of_bounds, examples_of_claimed_verdicts, examples_of_claims, examples_of_depots,
     examples_of_dimensions_of_routes, examples_of_first_reasons, examples_of_fixed_arcs,
-    examples_of_multipliers, examples_of_order, examples_of_order_of_routes,
-    examples_of_other_claims, examples_of_pairs, examples_of_plans,
+    examples_of_load_units, examples_of_multipliers, examples_of_order,
+    examples_of_order_of_routes, examples_of_other_claims, examples_of_pairs, examples_of_plans,
     examples_of_reasons_before_memory,
 };
 pub use known_bound::{judge_bound, judge_known_bound, known_bound_alone, known_bound_of};

@@ -1,15 +1,8 @@
 //! The bound that a file of potentials gives tours, or the first reason against it.
 
-ghost use Rattle.std.specs.List.{All, AllPairs};
-ghost use Rattle.std.specs.Prelude.{◌≡◌, ◌≤◌, false, true, length, Some, IfOk, IsErr, MatchOption, MatchResult, ◌^◌, ◌<◌, ℕ, List};
-ghost use Rattle.tsp_format.specs.Limits.{most_triples};
-ghost use Rattle.tsp_format.specs.Nodes.{IsNode};
+ghost use Rattle.tsp_verdict.specs.Prelude.{All, AllPairs, false, true, length, Some, IfOk, IsErr, MatchOption, MatchResult, ℕ, List, most_triples, IsNode, cost, fixed_of, multipliers_in, HoldsNodeNumbers, HoldsDuals, nodes_of, is_potentials_file, AreOnPairs, pair_of, is_same_pair, IsSymmetric};
+ghost use Rattle.std.specs.Prelude.{◌≡◌, ◌≤◌, ◌^◌, ◌<◌};
 ghost use Rattle.tsp_format.specs.declared.kinds.Kind.TheVariants as kinds;
-ghost use Rattle.tsp_file.specs.Cost.{cost, fixed_of, multipliers_in, HoldsNodeNumbers, HoldsDuals};
-ghost use Rattle.tsp_file.specs.Fields.{nodes_of};
-ghost use Rattle.tsp_file.specs.Rules.{is_potentials_file};
-ghost use Rattle.tsp_theory.specs.Bounds.{AreOnPairs, pair_of, is_same_pair};
-ghost use Rattle.tsp_format.specs.Words.{IsSymmetric};
 ghost use Rattle.tsp_cost.specs.states.Views.{HasCosts, IsViewOf, ShowsSymmetric};
 ghost use Rattle.tsp_bound.specs.states.Duals.{dual_scale as scale_of_duals, rows_of, columns_of};
 ghost use Rattle.tsp_bound.specs.states.Potentials.{triples_of, scale_of, numbers_of};

@@ -1,20 +1,12 @@
 //! The verdict on routes: the first reason against the instance or the plan, or its number of
 //! routes and its length.
 
-ghost use Rattle.std.specs.List.{All};
-ghost use Rattle.std.specs.Prelude.{◌≡◌, ◌≤◌, length, pos, Some, MatchOption, MatchResult, ◌≢◌, ◌+◌, ◌^◌, ◌<◌, ℕ, true, false, vec_len, slice_index_or, map, ◌≤ℤ◌, ◌∷◌, IfOk, IsErr};
-ghost use Rattle.tsp_format.specs.Limits.{most_nodes, most_tour_nodes, most_capacity};
-ghost use Rattle.tsp_format.specs.Nodes.{IsNode, nodes_to};
+ghost use Rattle.tsp_verdict.specs.Prelude.{All, length, pos, Some, MatchOption, MatchResult, ℕ, true, false, vec_len, slice_index_or, map, IfOk, IsErr, most_nodes, most_tour_nodes, most_capacity, IsNode, nodes_to, cost, HoldsCases, nodes_of, is_branches_file, IsFromTo, length_of, demand_of, load_of, IsLeastRoutes, plan_length, demands_of, depots_of, depot_of};
+ghost use Rattle.std.specs.Prelude.{◌≡◌, ◌≤◌, ◌≢◌, ◌+◌, ◌^◌, ◌<◌, ◌≤ℤ◌, ◌∷◌};
 ghost use Rattle.tsp_format.specs.declared.kinds.Kind.TheVariants as kinds;
 ghost use Rattle.tsp_format.specs.states.TreeSteps.{steps_of};
-ghost use Rattle.tsp_file.specs.Cost.{cost, HoldsCases};
-ghost use Rattle.tsp_file.specs.Fields.{nodes_of};
-ghost use Rattle.tsp_file.specs.Rules.{is_branches_file};
 ghost use Rattle.tsp_file.specs.Valid.{IsDemand};
-ghost use Rattle.tsp_format.specs.Steps.{IsFromTo};
-ghost use Rattle.tsp_file.specs.states.Drafts.{combs_of};
-ghost use Rattle.tsp_theory.specs.Tour.{length_of, demand_of, load_of, IsLeastRoutes, plan_length};
-ghost use Rattle.tsp_cost.specs.Problems.{demands_of, depots_of, depot_of};
+ghost use Rattle.tsp_file.specs.states.Drafts.{families_of};
 ghost use Rattle.tsp_verdict.specs.Certified.{AppliesToRouting, NoneAgainstRouting, FindsBound, NoneWithoutMemory};
 ghost use Rattle.tsp_verdict.specs.Solutions.{IsFirstPlace, IsLarger, IsAt, IsAtEarlierPlace, AreCustomers, IsFirstReason, NoneOfRoutesBeforePlaces, IsFirstAgainstRoutes, IsRoutesVerdict, NoneOfRoutesBeforeRepeats, IsOverloaded};
 ghost use Rattle.tsp_verdict.specs.states.Marks.{Marked, AreToursOf, nodes_in, IsSumOf};
@@ -378,7 +370,7 @@ fn judge_plan_tree(
     requires sort { is_branches_file branches.now.kind ≡ true }
     requires count { nodes_of branches.now ≡ nodes_of instance.now }
     requires held { HoldsCases branches.now tree.now.scale tree.now.load_unit
-        (combs_of tree.now.combs.now) (steps_of tree.now.steps.now) }
+        (families_of tree.now.families.now) (steps_of tree.now.steps.now) }
     ensures { IfOk result
         (λ found. FindsBound certificates.Branches instance.now branches.now found) }
 {
@@ -390,13 +382,13 @@ fn judge_plan_tree(
         capacity: routing.capacity,
         scale: tree.scale,
         unit: tree.load_unit,
-        families: tree.combs,
+        families: tree.families,
         steps: tree.steps,
     };
     match judge_plans(alloc, &plans)? {
         PlanVerdict::Bound(Some(bound)) => Ok(BoundVerdict::Bound(bound)),
         PlanVerdict::Bound(None) => Ok(BoundVerdict::NoSolution),
-        PlanVerdict::BadFamily(index) => Ok(BoundVerdict::No(Reason::BadComb {
+        PlanVerdict::BadFamily(index) => Ok(BoundVerdict::No(Reason::BadFamily {
             index: index as u32,
         })),
         PlanVerdict::BadBranch(index) => Ok(BoundVerdict::No(Reason::BadBranch {

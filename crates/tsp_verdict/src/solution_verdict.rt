@@ -1,20 +1,17 @@
-//! The verdict on a solution, by a certificate or by the basis of all solutions, and by a claimed
+//! The verdict on a solution, by a certificate or by the known bound of all solutions, and by a claimed
 //! length, if any.
 
-ghost use Rattle.std.specs.Prelude.{IsTrue, MatchResult, Option, option_map, ◌≡◌, true, false, [], ◌∷◌, None, Some, pos, MatchOption};
+ghost use Rattle.tsp_verdict.specs.Prelude.{IsTrue, MatchResult, Option, option_map, true, false, [], None, Some, pos, MatchOption, Fields, is_yes, is_bound_yes, is_clear, CertificateKind, Verdict};
+ghost use Rattle.std.specs.Prelude.{◌≡◌, ◌∷◌};
 ghost use Rattle.tsp_format.specs.declared.kinds.Kind.TheVariants as kinds;
-ghost use Rattle.tsp_file.specs.Fields.{Fields};
 ghost use Rattle.tsp_verdict.specs.SolutionVerdict.{IsKnownBound, IsVerdictFrom, is_judged, NoneBeforeRepeatsOn, IsVerdictWith, HasLength, HasNoLength, IsAsClaimed, IsOtherClaimed, is_unjudged, strict_verdict, strict_bound, strict_known_bound};
 ghost use Rattle.tsp_verdict.specs.Examples.{instance_with, with_unknown};
 ghost use Rattle.tsp_verdict.specs.states.TourKnownBounds.{tour_verdict, plan_verdict};
-ghost use Rattle.tsp_report.specs.Verdicts.{is_yes, is_bound_yes, is_clear};
-ghost use Rattle.tsp_report.specs.declared.task.CertificateKind.{CertificateKind};
 ghost use Rattle.tsp_report.specs.declared.verdict.KnownBound.{KnownBound};
 ghost use Rattle.tsp_report.specs.declared.verdict.KnownBound.TheVariants as known_bounds;
 ghost use Rattle.tsp_report.specs.declared.verdict.BoundVerdict.{BoundVerdict};
 ghost use Rattle.tsp_report.specs.declared.verdict.BoundVerdict.TheVariants as bounds;
 ghost use Rattle.tsp_report.specs.declared.verdict.Reason.TheVariants as reasons;
-ghost use Rattle.tsp_report.specs.declared.verdict.Verdict.{Verdict};
 ghost use Rattle.tsp_report.specs.declared.verdict.Verdict.TheVariants as verdicts;
 
 use crate::certificate::bound_by;
@@ -69,7 +66,7 @@ pub fn judge(
 ///
 /// # Requires
 ///
-/// The basis of the instance, with any certificate or without one.
+/// The known bound of the instance, with any certificate or without one.
 ///
 /// # Errors
 ///
@@ -93,7 +90,7 @@ pub fn judge_next(
     judge_input.verdict(alloc, solution, claimed)
 }
 
-// ---- what a solution is judged by, an instance with a certificate or with a known basis
+// ---- what a solution is judged by: an instance with a certificate, or with a known bound
 
 /// What solutions are judged by: an instance, and a certificate of a bound, where one is given, or
 /// what is known of all solutions by the two.
@@ -277,7 +274,7 @@ impl<'a> JudgeInput<'a> {
     }
 }
 
-// ---- whether the bound of a verdict comes from a certificate or from a known basis
+// ---- whether the bound of a verdict comes from a certificate or was known before
 
 /// The origin of the bound of a verdict.
 #[derive(Clone, Copy)]
@@ -317,7 +314,7 @@ fn plan_verdict(known_bound: KnownBound, verdict: Verdict) -> Verdict
             bound,
         },
         (KnownBound::No(reason), _) => Verdict::No(reason),
-        // A basis of an instance that has routes is none of the others.
+        // A known bound of an instance that has routes is none of the others.
         (_, verdict) => verdict,
     }
 }
@@ -329,7 +326,7 @@ fn tour_verdict(known_bound: KnownBound, length: i64) -> Verdict
     match known_bound {
         KnownBound::Tours { bound } => Verdict::Tour { length, bound },
         KnownBound::No(reason) => Verdict::No(reason),
-        // A basis of an instance that has a tour is neither of these.
+        // A known bound of an instance that has a tour is neither of these.
         KnownBound::NoSolution | KnownBound::Routes { .. } => Verdict::Tour {
             length,
             bound: None,
@@ -337,7 +334,7 @@ fn tour_verdict(known_bound: KnownBound, length: i64) -> Verdict
     }
 }
 
-// ---- `--strict`: verdicts, bounds and bases of an instance with unknown keywords
+// ---- `--strict`: verdicts and bounds of an instance with unknown keywords
 
 /// The verdict on a solution of an instance, which is this one, unless `strict` asks that unknown
 /// keywords of the instance be a reason: then an accepted solution of an instance with one is
@@ -428,7 +425,7 @@ pub fn strict_yes_leaves_nothing_unjudged()
         → (instance.others ≡ []) × (strict_known_bound (is_unjudged true instance) plain ≡ plain) }
 {}
 
-/// Where unknown keywords are a reason, and what becomes of verdicts, bounds and bases. A reason
+/// Where unknown keywords are a reason, and what becomes of verdicts, bounds and known bounds. A reason
 /// that was found before stays.
 ///
 /// No code calls it: it evaluates the definitions of `specs/SolutionVerdict.antt` on examples.

@@ -1,23 +1,13 @@
 //! The tour of a solution, the reasons that its nodes show, and the costs of an instance of tours.
 
+ghost use Rattle.tsp_verdict.specs.Prelude.{All, [], length, Some, MatchOption, MatchResult, ℕ, List, vec_len, IfOk, slice_index_or, MatchBool, false, pos, most_capacity, IsNode, cost, nodes_of, is_tour_file, IsFromTo, IsFirstAsymmetric, IsCycle, Uses, is_directed, depots_of, demands_of, capacity_of, FixedEdgeUnused, TourCount};
 ghost use Rattle.std.specs.Bool.{OnTrue};
-ghost use Rattle.std.specs.List.{All};
-ghost use Rattle.std.specs.Prelude.{◌≡◌, ◌⊎◌, ◌<◌, ◌≤◌, [], ◌∷◌, length, Some, MatchOption, MatchResult, ◌≢◌, ◌+◌, ◌^◌, ℕ, List, vec_len, IfOk, ◌-◌, slice_index_or, MatchBool, false, pos};
-ghost use Rattle.tsp_format.specs.Limits.{most_capacity};
-ghost use Rattle.tsp_format.specs.Nodes.{IsNode};
+ghost use Rattle.std.specs.Prelude.{◌≡◌, ◌⊎◌, ◌<◌, ◌≤◌, ◌∷◌, ◌≢◌, ◌+◌, ◌^◌, ◌-◌};
 ghost use Rattle.tsp_format.specs.declared.kinds.Kind.TheVariants as kinds;
-ghost use Rattle.tsp_file.specs.Cost.{cost};
-ghost use Rattle.tsp_file.specs.Fields.{nodes_of};
-ghost use Rattle.tsp_file.specs.Rules.{is_tour_file};
 ghost use Rattle.tsp_file.specs.Valid.{IsPairOf, IsDemand};
-ghost use Rattle.tsp_format.specs.Steps.{IsFromTo};
-ghost use Rattle.tsp_format.specs.Words.{IsFirstAsymmetric};
-ghost use Rattle.tsp_theory.specs.Tour.{IsCycle, Uses};
-ghost use Rattle.tsp_cost.specs.Problems.{is_directed, depots_of, demands_of, capacity_of};
 ghost use Rattle.tsp_verdict.specs.Solutions.{IsFirstPlace, IsLarger, IsAt, IsAtEarlierPlace, HoldsAtNone, IsUnused, tours_of, NoneOfTourBefore, NoneOfTourBeforeNodes, IsFirstAgainstTour, NoneOfTourBeforeRepeats};
 ghost use Rattle.tsp_verdict.specs.states.Marks.{Marked, StandsAfter, AreNext, AreToursOf};
 ghost use Rattle.tsp_verdict.specs.states.TourKnownBounds.{AreTourCosts};
-ghost use Rattle.tsp_report.specs.declared.verdict.Reason.TheVariants.{FixedEdgeUnused, TourCount};
 
 use std::alloc::Global;
 use tsp_cost::{Costs, Instance, SymmetricView, View, symmetric_view};

@@ -1,10 +1,7 @@
 -- The multipliers of pairs, listed at both nodes of each, and a list of nodes by its places.
+use Rattle.tsp_bound.specs.Prelude.{All, AllPairs, ℕ, List, slice_index_or, [], length, ℤ, pos, most_multiplier, IsNode, IsFromTo}
 use Rattle.std.specs.Global.{Vec}
-use Rattle.std.specs.List.{All, AllPairs}
-use Rattle.std.specs.Prelude.{ℕ, List, slice_index_or, ◌≡◌, ◌≢◌, ◌+◌, ◌≤◌, ◌==◌, if◌then◌else◌, [], ◌∷◌, ◌++◌, length, ℤ, pos}
-use Rattle.tsp_format.specs.Limits.{most_multiplier}
-use Rattle.tsp_format.specs.Nodes.{IsNode}
-use Rattle.tsp_format.specs.Steps.{IsFromTo}
+use Rattle.std.specs.Prelude.{◌≡◌, ◌≢◌, ◌+◌, ◌≤◌, ◌==◌, if◌then◌else◌, ◌∷◌, ◌++◌}
 use Rattle.tsp_theory.specs.Tour.{sum_int_by}
 
 -- the node at the index k; 0 beyond the list's end

@@ -1,12 +1,8 @@
 -- The components of a forest over the places 0..n-1 of an order, each with a label, the lightest links between them,
 -- and the twelve lightest links of each place.
-use Rattle.std.specs.List.{All}
-use Rattle.std.specs.Prelude.{◌≡◌, ◌≢◌, ℕ, ◌+◌, ◌*◌, ◌^◌, ◌==◌, ◌<◌, Bool, true, not, if◌then◌else◌, List, [], length, slice_index_or, Option, None, Some, ℤ, pos, neg_ℤ, ◌≤ℤ◌, IfSome, ◌⊎◌, slice_set}
-use Rattle.tsp_format.specs.Limits.{most_nodes}
-use Rattle.tsp_format.specs.Steps.{IsFromTo}
+use Rattle.tsp_bound.specs.Prelude.{All, ℕ, Bool, true, not, List, [], length, slice_index_or, Option, None, Some, ℤ, pos, neg_ℤ, IfSome, slice_set, most_nodes, IsFromTo, weight_of, least_at}
+use Rattle.std.specs.Prelude.{◌≡◌, ◌≢◌, ◌+◌, ◌*◌, ◌^◌, ◌==◌, ◌<◌, if◌then◌else◌, ◌≤ℤ◌, ◌⊎◌}
 use Rattle.tsp_theory.specs.Forest.{AreLeastJoins, IsWholeForest}
-use Rattle.tsp_theory.specs.Tree.{weight_of}
-use Rattle.tsp_theory.specs.states.Nearest.{least_at}
 use Rattle.tsp_bound.specs.declared.area.Area.{Area}
 use Rattle.tsp_bound.specs.declared.search.Link.{Link}
 use Rattle.tsp_bound.specs.states.Boxes.{AreHeld, box_at, node_of}

@@ -1,6 +1,6 @@
--- The fields of `Duals` (src/duals.rt): a number for each row and each column of the costs, at a scale.
+-- The fields of `Duals` (src/potentials.rt): a number for each row and each column of the costs, at a scale.
 use Rattle.std.specs.Prelude.{ℕ, List, ℤ, ◌+ℤ◌, ◌*ℤ◌}
-use Rattle.tsp_bound.specs.declared.duals.Duals.{Duals}
+use Rattle.tsp_bound.specs.declared.potentials.Duals.{Duals}
 use Rattle.tsp_theory.specs.Bounds.{entry}
 
 abbrev pub dual_scale : Duals → ℤ

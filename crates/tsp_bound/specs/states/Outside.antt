@@ -1,8 +1,7 @@
 -- The state of a growing tree by the list of the nodes that aren't grown, in any order, each with the nearest grown
 -- node and the weight between the two.
-use Rattle.std.specs.Prelude.{◌≡◌, ℕ, ◌<◌, ◌+◌, List, length, slice_index, ℤ, ◌≤ℤ◌}
-use Rattle.tsp_theory.specs.Tree.{IsInner}
-use Rattle.tsp_theory.specs.states.Nearest.{least_at, IsNearer}
+use Rattle.tsp_bound.specs.Prelude.{ℕ, List, length, slice_index, ℤ, IsInner, least_at, IsNearer}
+use Rattle.std.specs.Prelude.{◌≡◌, ◌<◌, ◌+◌, ◌≤ℤ◌}
 
 -- the nodes 3 to n, in order
 pub record AreFromThree (n : ℕ) (nodes : List ℕ) : Type 0 where

@@ -1,16 +1,9 @@
 -- Rows of a leaf's weights: the links that decisions close, and what sets and decisions add between two nodes.
-use Rattle.std.specs.List.{list_any, filter}
-use Rattle.std.specs.Prelude.{◌≡◌, ℕ, List, ◌⊎◌, ℤ, pos, ◌==◌, ◌&&◌, Bool, true, false, if◌then◌else◌, map, reverse, slice_index_or, negsuc, neg_ℤ, ◌+ℤ◌, ◌*ℤ◌}
-use Rattle.tsp_format.specs.Nodes.{IsNode}
-use Rattle.tsp_format.specs.Steps.{IsFromTo}
-use Rattle.tsp_theory.specs.Bounds.{entry, most_number}
+use Rattle.tsp_branch.specs.Prelude.{list_any, filter, ℕ, List, ℤ, pos, Bool, true, false, map, reverse, slice_index_or, negsuc, neg_ℤ, IsNode, IsFromTo, entry, most_number, least_at, IsAllowed, changes, decided, bears_on, multipliers_at}
+use Rattle.std.specs.Prelude.{◌≡◌, ◌⊎◌, ◌==◌, ◌&&◌, if◌then◌else◌, ◌+ℤ◌, ◌*ℤ◌}
 use Rattle.tsp_theory.specs.Tour.{sum_int_by}
-use Rattle.tsp_theory.specs.states.Nearest.{least_at}
-use Rattle.tsp_cases.specs.CaseTrees.{IsAllowed}
 use Rattle.tsp_cases.specs.declared.open_case.Decision.{Decision}
 use Rattle.tsp_cases.specs.declared.sets.SetPlace.{SetPlace}
-use Rattle.tsp_cases.specs.states.OpenCases.{changes, decided, bears_on}
-use Rattle.tsp_cases.specs.states.Sets.{multipliers_at}
 
 -- the weight that means no link: the largest number of 64 bits, below which all weights are
 abbrev pub no_link : ℤ

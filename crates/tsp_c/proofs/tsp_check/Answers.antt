@@ -1,8 +1,6 @@
 -- The goals of `tsp_check` in src/lib.rt, which judges a solution, by the numbers of the certificate's kind and of the
 -- claim: what it ensures.
-use Rattle.std.proofs.Common.{subst, FitsSigned, w64}
-use Rattle.std.specs.Prelude.{ℤ}
-use Rattle.std.proofs.lemmas.Int.{to_z-of_z}
+use Rattle.tsp_c.proofs.Prelude.{subst, FitsSigned, w64, ℤ, to_z-of_z}
 use Rattle.tsp_c.specs.Texts.{ChecksBy}
 use Rattle.tsp_c.proofs.tsp_check.Goals as goal
 

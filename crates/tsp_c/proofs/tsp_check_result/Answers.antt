@@ -1,8 +1,6 @@
 -- The goals of `tsp_check_result` in src/lib.rt, which does what `tsp_check` does, and returns numbers too: what it
 -- ensures.
-use Rattle.std.proofs.Common.{subst, FitsSigned, w64}
-use Rattle.std.specs.Prelude.{ℤ}
-use Rattle.std.proofs.lemmas.Int.{to_z-of_z}
+use Rattle.tsp_c.proofs.Prelude.{subst, FitsSigned, w64, ℤ, to_z-of_z}
 use Rattle.tsp_c.specs.Texts.{ChecksBy}
 use Rattle.tsp_c.specs.CallResult.{TellsBy}
 use Rattle.tsp_c.proofs.tsp_check_result.Goals as goal

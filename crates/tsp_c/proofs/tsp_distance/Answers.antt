@@ -1,8 +1,6 @@
 -- The goals of `tsp_distance` in src/lib.rt, which returns the distance of two points by its number, or -1: what it
 -- ensures.
-use Rattle.std.proofs.Common.{◌≡◌, ℕ, subst, rules, FitsSigned, w64}
-use Rattle.std.specs.Prelude.{ℤ}
-use Rattle.std.proofs.lemmas.Int.{to_z-of_z}
+use Rattle.tsp_c.proofs.Prelude.{◌≡◌, ℕ, subst, rules, FitsSigned, w64, ℤ, to_z-of_z}
 use Rattle.tsp_number.specs.declared.decimal.Point.{Point}
 use Rattle.tsp_c.specs.NumberCalls.{GivesDistance}
 use Rattle.tsp_c.proofs.tsp_distance.Goals as goal

@@ -1,7 +1,5 @@
 -- The goals of `tsp_instance_check` in src/lib.rt, which judges a solution of a handle's instance: what it ensures.
-use Rattle.std.proofs.Common.{subst, FitsSigned, w64}
-use Rattle.std.specs.Prelude.{ℤ}
-use Rattle.std.proofs.lemmas.Int.{to_z-of_z}
+use Rattle.tsp_c.proofs.Prelude.{subst, FitsSigned, w64, ℤ, to_z-of_z}
 use Rattle.tsp_c.specs.Opened.{ChecksHeld}
 use Rattle.tsp_c.proofs.tsp_instance_check.Goals as goal
 

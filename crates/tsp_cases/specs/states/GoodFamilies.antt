@@ -1,7 +1,6 @@
 -- The two numbers of a family as code finds them, and the marks by which it finds a node that comes twice.
-use Rattle.std.specs.Global.{Vec}
-use Rattle.std.specs.List.{All}
-use Rattle.std.specs.Prelude.{◌<◌, ◌^◌, ℕ, List, Option, Some, None, ◌≡◌, ◌≢◌, ◌==◌, ◌||◌, length, Bool, false, [], ◌∷◌, slice_index}
+use Rattle.tsp_cases.specs.Prelude.{Vec, All, ℕ, List, Option, Some, None, length, Bool, false, [], slice_index}
+use Rattle.std.specs.Prelude.{◌<◌, ◌^◌, ◌≡◌, ◌≢◌, ◌==◌, ◌||◌, ◌∷◌}
 use Rattle.tsp_cases.specs.Crossings.{has}
 use Rattle.tsp_cases.specs.Families.{IsFamily, family_with, HasEachOnce, IsGoodFamily, IsTooth}
 use Rattle.tsp_cases.specs.declared.family.Crossings.{Crossings}

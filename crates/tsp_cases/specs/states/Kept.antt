@@ -1,13 +1,7 @@
 -- Rows of weights that are kept from leaf to leaf, and the memory that a pass over the leaves writes over.
-use Rattle.std.specs.Global.{Vec}
-use Rattle.std.specs.Int.{w64, int_wrap}
-use Rattle.std.specs.List.{All}
-use Rattle.std.specs.Prelude.{◌≡◌, ◌≢◌, ℕ, ◌+◌, ◌<◌, ◌≤◌, if◌then◌else◌, List, length, slice_index_or, ℤ, pos, neg_ℤ, ◌+ℤ◌, ◌*ℤ◌, ◌^◌}
+use Rattle.tsp_cases.specs.Prelude.{Vec, w64, int_wrap, All, ℕ, List, length, slice_index_or, ℤ, pos, neg_ℤ, IsNode, IsFromTo, entry, is_same_pair, least_at, IsMoved}
+use Rattle.std.specs.Prelude.{◌≡◌, ◌≢◌, ◌+◌, ◌<◌, ◌≤◌, if◌then◌else◌, ◌+ℤ◌, ◌*ℤ◌, ◌^◌}
 use Rattle.tsp_format.specs.Limits.{most_weight}
-use Rattle.tsp_format.specs.Nodes.{IsNode}
-use Rattle.tsp_format.specs.Steps.{IsFromTo}
-use Rattle.tsp_theory.specs.Bounds.{entry, is_same_pair}
-use Rattle.tsp_theory.specs.states.Nearest.{least_at, IsMoved}
 use Rattle.tsp_cases.specs.declared.kept.KeptRows.{KeptRows}
 use Rattle.tsp_cases.specs.declared.kept.Scratch.{Scratch}
 use Rattle.tsp_cases.specs.declared.sets.SetPlace.{SetPlace}
@@ -79,10 +73,10 @@ pub record AreEnds (n : ℕ) (multipliers : List ℤ) (families : List (List (Li
 
 -- the fields of `KeptRows`: the multipliers that the rows and ends are for, the ends, and the rows if any;
 -- `differences` is memory for changes of multipliers
-pub record HoldsRows (n combs : ℕ) (scale : ℤ) (families : List (List (List ℕ))) (cost marks : ℕ → ℕ → ℤ)
+pub record HoldsRows (n family_count : ℕ) (scale : ℤ) (families : List (List (List ℕ))) (cost marks : ℕ → ℕ → ℤ)
     (kept : KeptRows) : Type 0 where
-  pub multipliers : length kept.multipliers.items ≡ combs
-  pub differences : length kept.differences.items ≡ combs
+  pub multipliers : length kept.multipliers.items ≡ family_count
+  pub differences : length kept.differences.items ≡ family_count
   pub small : AreSmallMultipliers kept.multipliers.items
   pub ends : AreEnds n kept.multipliers.items families kept.ends.items
   pub rows : AreRowsIfAny n cost (kept_weight scale families cost marks kept.multipliers.items) kept.rows.items
@@ -97,9 +91,9 @@ AreMoved n potentials multipliers families moved = (x : ℕ) → IsNode n x → 
 -- A potential for each node and a multiplier for each family. `row` and `moved` have a number for each node at its
 -- index, and one at 0. In `moved`, `fill_moved` (src/sets.rt) puts the potential of each node less the multipliers of
 -- its sets.
-pub record IsScratch (n combs : ℕ) (room : Scratch) : Type 0 where
+pub record IsScratch (n family_count : ℕ) (room : Scratch) : Type 0 where
   pub potentials : length room.potentials.items ≡ n
-  pub multipliers : length room.multipliers.items ≡ combs
+  pub multipliers : length room.multipliers.items ≡ family_count
   pub row : length room.row.items ≡ n + 1
   pub moved : length room.moved.items ≡ n + 1
 

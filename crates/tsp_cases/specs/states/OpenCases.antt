@@ -1,12 +1,6 @@
 -- The decisions of the open case as code has them: a stack, a list for each node, and how they change weights.
-use Rattle.std.specs.Global.{Vec}
-use Rattle.std.specs.Int.{w64, int_wrap}
-use Rattle.std.specs.List.{All, filter}
-use Rattle.std.specs.Prelude.{◌≡◌, ◌≢◌, ◌<◌, ℕ, Bool, true, false, if◌then◌else◌, List, [], reverse, Some, None, ℤ, pos, neg_ℤ, ◌+ℤ◌, ◌⊎◌, ◌==◌, ◌||◌, ◌&&◌, not, ◌+◌, ◌≤◌, ◌∷◌, ◌++◌, length, slice_index_or}
-use Rattle.tsp_format.specs.Nodes.{IsNode}
-use Rattle.tsp_format.specs.Steps.{IsFromTo}
-use Rattle.tsp_theory.specs.Bounds.{is_same_pair, adjusted}
-use Rattle.tsp_theory.specs.Tour.{sum_int_by}
+use Rattle.tsp_cases.specs.Prelude.{Vec, w64, int_wrap, All, filter, ℕ, Bool, true, false, List, [], reverse, Some, None, ℤ, pos, neg_ℤ, not, length, slice_index_or, IsNode, IsFromTo, is_same_pair, adjusted, sum_int_by}
+use Rattle.std.specs.Prelude.{◌≡◌, ◌≢◌, ◌<◌, if◌then◌else◌, ◌+ℤ◌, ◌⊎◌, ◌==◌, ◌||◌, ◌&&◌, ◌+◌, ◌≤◌, ◌∷◌, ◌++◌}
 use Rattle.tsp_cases.specs.Cases.{on_taken, on_avoided, decided_number, next_stack}
 use Rattle.tsp_cases.specs.declared.open_case.Decision.{Decision}
 use Rattle.tsp_cases.specs.declared.open_case.NodeDecisions.{NodeDecisions}

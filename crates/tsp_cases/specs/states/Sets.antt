@@ -1,13 +1,6 @@
 -- The places of the sets that have a node, the fields of `Families`, and what multipliers of sets add to weights.
-use Rattle.std.specs.Global.{Vec}
-use Rattle.std.specs.List.{All}
-use Rattle.std.specs.Prelude.{ℕ, ◌<◌, List, [], length, slice_index_or, ◌≡◌, suc, ◌==◌, ◌+◌, ◌++◌, ◌≤◌, if◌then◌else◌, ◌∷◌, ℤ, pos, neg_ℤ, ◌+ℤ◌, ◌-ℤ◌, ◌*ℤ◌}
-use Rattle.tsp_format.specs.Nodes.{IsNode}
-use Rattle.tsp_format.specs.Steps.{IsFromTo}
-use Rattle.tsp_theory.specs.Bounds.{weight_between, most_between, adjusted}
-use Rattle.tsp_theory.specs.Tour.{sum_int_by}
-use Rattle.tsp_theory.specs.Tree.{crossing}
-use Rattle.tsp_theory.specs.states.Nearest.{IsMoved}
+use Rattle.tsp_cases.specs.Prelude.{Vec, All, ℕ, List, [], length, slice_index_or, suc, ℤ, pos, neg_ℤ, IsNode, IsFromTo, weight_between, most_between, adjusted, sum_int_by, crossing, IsMoved}
+use Rattle.std.specs.Prelude.{◌<◌, ◌≡◌, ◌==◌, ◌+◌, ◌++◌, ◌≤◌, if◌then◌else◌, ◌∷◌, ◌+ℤ◌, ◌-ℤ◌, ◌*ℤ◌}
 use Rattle.tsp_cases.specs.CaseTrees.{crossings_of, leaf_weight, multiplied}
 use Rattle.tsp_cases.specs.Crossings.{families_in, has}
 use Rattle.tsp_cases.specs.Families.{families_with}

@@ -1,10 +1,8 @@
 -- The weight type of each `Metric`, distances of points on a grid, and the sum of costs along a list of nodes.
-use Rattle.std.specs.Prelude.{ℕ, ◌+◌, ◌-◌, ◌*◌, ◌<◌, ◌≤◌, ◌≡◌, List, ◌∷◌, ◌++◌, length, slice_index_or, ℤ, pos, ◌+ℤ◌, ◌≤ℤ◌}
-use Rattle.tsp_number.specs.Distances.{squared}
-use Rattle.tsp_number.specs.declared.decimal.Point.{Point}
+use Rattle.tsp_cost.specs.Prelude.{ℕ, List, length, slice_index_or, ℤ, pos, squared, Point, links_to, sum_int_by}
+use Rattle.std.specs.Prelude.{◌+◌, ◌-◌, ◌*◌, ◌<◌, ◌≤◌, ◌≡◌, ◌∷◌, ◌++◌, ◌+ℤ◌, ◌≤ℤ◌}
 use Rattle.tsp_format.specs.declared.kinds.WeightKind.{WeightKind}
 use Rattle.tsp_format.specs.declared.kinds.WeightKind.TheVariants as kinds
-use Rattle.tsp_theory.specs.Tour.{links_to, sum_int_by}
 use Rattle.tsp_cost.specs.declared.metric.Metric.{Metric}
 use Rattle.tsp_cost.specs.declared.metric.Metric.TheVariants as metrics
 

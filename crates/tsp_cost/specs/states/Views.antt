@@ -1,14 +1,11 @@
 -- What `Instance` has found out of its file when it was made: the number of nodes, and where their costs are.
-use Rattle.std.specs.Prelude.{◌≡◌, ℕ, Some, IsSome, IsTrue, ◌≢◌, true, false, length, map, ℤ}
-use Rattle.tsp_number.specs.Distances.{on_plane}
+use Rattle.tsp_cost.specs.Prelude.{ℕ, Some, IsSome, IsTrue, true, false, length, map, ℤ, on_plane, Point, listed_cost, distance, point_of, cost, Fields}
+use Rattle.std.specs.Prelude.{◌≡◌, ◌≢◌}
 use Rattle.tsp_number.specs.declared.decimal.PlanePoint.{PlanePoint}
-use Rattle.tsp_number.specs.declared.decimal.Point.{Point}
 use Rattle.tsp_format.specs.declared.kinds.Kind.TheVariants as kinds
 use Rattle.tsp_format.specs.declared.kinds.WeightFormat.TheVariants.{Listed}
 use Rattle.tsp_format.specs.declared.kinds.WeightKind.TheVariants.{Explicit}
 use Rattle.tsp_format.specs.declared.layout.Layout.TheVariants.{FullMatrix}
-use Rattle.tsp_file.specs.Cost.{listed_cost, distance, point_of, cost}
-use Rattle.tsp_file.specs.Fields.{Fields}
 use Rattle.tsp_file.specs.Rules.{is_instance, is_explicit}
 use Rattle.tsp_file.specs.Valid.{IsInRange, HasRouting}
 use Rattle.tsp_cost.specs.declared.instance.CostSource.{CostSource}

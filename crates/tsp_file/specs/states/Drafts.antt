@@ -1,16 +1,7 @@
 -- The fields of a draft as lists, and the states of a change of layout: half and full matrices, rows and columns.
+use Rattle.tsp_file.specs.Prelude.{All, option_map, ℕ, Some, Bool, true, false, nat_le, List, slice_index_or, ℤ, pos, map, on_plane, Point, most_weight, IsNode, cells_of_line, line_len_of, Listed, Layout, FullMatrix, UpperRow, LowerRow, UpperDiagRow, LowerDiagRow, UpperCol, LowerCol, UpperDiagCol, LowerDiagCol, steps_of}
 use Rattle.std.specs.Global.{Vec}
-use Rattle.std.specs.List.{All}
-use Rattle.std.specs.Option.{option_map}
-use Rattle.std.specs.Prelude.{ℕ, ◌+◌, ◌≡◌, ◌≢◌, Some, ◌-◌, ◌*◌, ◌<◌, ◌≤◌, Bool, true, false, nat_le, List, slice_index_or, ℤ, pos, map}
-use Rattle.tsp_number.specs.Distances.{on_plane}
-use Rattle.tsp_number.specs.declared.decimal.Point.{Point}
-use Rattle.tsp_format.specs.Limits.{most_weight}
-use Rattle.tsp_format.specs.Nodes.{IsNode, cells_of_line, line_len_of}
-use Rattle.tsp_format.specs.declared.kinds.WeightFormat.TheVariants.{Listed}
-use Rattle.tsp_format.specs.declared.layout.Layout.{Layout}
-use Rattle.tsp_format.specs.declared.layout.Layout.TheVariants.{FullMatrix, UpperRow, LowerRow, UpperDiagRow, LowerDiagRow, UpperCol, LowerCol, UpperDiagCol, LowerDiagCol}
-use Rattle.tsp_format.specs.states.TreeSteps.{steps_of}
+use Rattle.std.specs.Prelude.{◌+◌, ◌≡◌, ◌≢◌, ◌-◌, ◌*◌, ◌<◌, ◌≤◌}
 use Rattle.tsp_file.specs.Cost.{cost, listed_cost}
 use Rattle.tsp_file.specs.Fields.{Fields, nodes_of}
 use Rattle.tsp_file.specs.Relayout.{costs_in}
@@ -74,7 +65,7 @@ places_before LowerDiagCol line = line - 1
 abbrev pub line_start_of : Layout → ℕ → ℕ → ℕ
 line_start_of layout n line = (line - 1) * n + places_before layout line
 
--- ---- which cells of a full matrix have their costs, while it is made of half of one in the
+-- ---- which cells of a full matrix have their costs, while it is made of half of one
 
 -- the lines of the layout, or for a layout by columns the rows across the diagonal, are above the diagonal
 abbrev pub goes_above : Layout → Bool
@@ -125,8 +116,8 @@ points_of (Plane points) = map (λ point. on_plane point.x point.y) points.items
 points_of (Space points) = points.items
 
 -- families, each as its sets, each of them as its nodes
-abbrev pub combs_of : List (Vec (Vec ℕ)) → List (List (List ℕ))
-combs_of combs = map (λ comb. map (λ set. set.items) comb.items) combs
+abbrev pub families_of : List (Vec (Vec ℕ)) → List (List (List ℕ))
+families_of families = map (λ family. map (λ set. set.items) family.items) families
 
 -- the fields of a draft
 abbrev pub fields_of : Draft → Fields
@@ -154,6 +145,6 @@ fields_of d = record {
   row_potentials = option_map (λ v. v.items) d.row_potentials;
   column_potentials = option_map (λ v. v.items) d.column_potentials;
   fixed_potentials = option_map (λ v. v.items) d.fixed_potentials;
-  combs = option_map (λ v. combs_of v.items) d.combs;
+  families = option_map (λ v. families_of v.items) d.families;
   branches = option_map (λ v. steps_of v.items) d.branches;
 }

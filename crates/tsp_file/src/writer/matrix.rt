@@ -1,10 +1,8 @@
 //! Writes EDGE_WEIGHT_SECTION, a line for each line of its layout.
 
-ghost use Rattle.std.specs.Fmt.{signed_decimal, decimal};
-ghost use Rattle.std.specs.List.{flat_map};
-ghost use Rattle.std.specs.Option.{option_map};
-ghost use Rattle.std.specs.Prelude.{◌≡◌, ◌∷◌, length, map, ◌≤◌, drop, IfSome, ◌+◌, ◌/◌, ◌%◌, ◌<◌, ◌++◌};
-ghost use Rattle.tsp_format.specs.Nodes.{cells_of_line, nodes_to};
+ghost use Rattle.tsp_file.specs.Prelude.{decimal, flat_map, option_map, length, map, drop, IfSome, cells_of_line, nodes_to};
+ghost use Rattle.std.specs.Fmt.{signed_decimal};
+ghost use Rattle.std.specs.Prelude.{◌≡◌, ◌∷◌, ◌≤◌, ◌+◌, ◌/◌, ◌%◌, ◌<◌, ◌++◌};
 ghost use Rattle.tsp_io.specs.states.Watched.{Puts};
 ghost use Rattle.tsp_file.specs.CanonicalText.{weight_line, matrix_lines, line_lens, section_text, optional};
 
@@ -109,7 +107,7 @@ pub(crate) fn put_weight_section<W: Write>(
     }
 }
 
-// ---- up to 64 weights of at most eight digits, written as one block of bytes, each after a
+// ---- up to 64 weights of at most eight digits, written as one block of bytes
 
 /// The most weights of a block.
 const MOST_WEIGHTS: usize = 64;

@@ -1,12 +1,10 @@
 //! Writes the sections of a canonical text but for weights and trees of cases: numbers and points
 //! by node, nodes, pairs, triples, tours.
 
-ghost use Rattle.std.specs.Fmt.{decimal, signed_decimal};
-ghost use Rattle.std.specs.List.{flat_map};
-ghost use Rattle.std.specs.Option.{option_map};
-ghost use Rattle.std.specs.Prelude.{◌≡◌, ◌+◌, ◌<◌, ◌^◌, [], ◌∷◌, ◌++◌, map, ◌≤◌, cond, length, drop};
+ghost use Rattle.tsp_file.specs.Prelude.{decimal, flat_map, option_map, [], map, cond, length, drop, field_word};
+ghost use Rattle.std.specs.Fmt.{signed_decimal};
+ghost use Rattle.std.specs.Prelude.{◌≡◌, ◌+◌, ◌<◌, ◌^◌, ◌∷◌, ◌++◌, ◌≤◌};
 ghost use Rattle.tsp_number.specs.NumberWord.{spelling};
-ghost use Rattle.tsp_format.specs.Words.{field_word};
 ghost use Rattle.tsp_io.specs.states.Watched.{Puts};
 ghost use Rattle.tsp_file.specs.CanonicalText.{line_end, number_line, section_text, lines_by_node, node_list, pair_list, triple_list, coordinate_words, whole_number, optional};
 ghost use Rattle.tsp_file.specs.states.Drafts.{points_of};
@@ -231,7 +229,7 @@ pub(crate) fn put_tour_section<W: Write>(
     }
 }
 
-// ---- writes lines of a node and its coordinates, for `src/writer/sections.rt`
+// ---- writes lines of a node and its coordinates
 
 /// The most bytes of a line: a node of 20 digits, three coordinates of 21 bytes, each after a
 /// blank, and the end.

@@ -1,13 +1,9 @@
 -- That the part of an open section has the words of the section so far, for each shape.
-use Rattle.std.specs.Prelude.{◌≡◌, ℕ, ◌+◌, ◌≤◌, ℤ, Bool, cond, List, length, map, false, is_some, [], ◌∷◌, ◌++◌, Ok}
-use Rattle.tsp_format.specs.Limits.{most_combs}
+use Rattle.tsp_read.specs.Prelude.{ℕ, ℤ, Bool, cond, List, length, map, false, is_some, [], Ok, most_families, points_of, families_of, place_by, FamiliesSoFar, families_after, TreeSoFar, tree_after}
+use Rattle.std.specs.Prelude.{◌≡◌, ◌+◌, ◌≤◌, ◌∷◌, ◌++◌}
 use Rattle.tsp_format.specs.declared.keyword.Shape.{Shape}
-use Rattle.tsp_format.specs.declared.keyword.Shape.TheVariants.{Numbers, Points, SpacePoints, Depots, Pairs, Weights, Tours, Triples, Combs, Steps}
+use Rattle.tsp_format.specs.declared.keyword.Shape.TheVariants.{Numbers, Points, SpacePoints, Depots, Pairs, Weights, Tours, Triples, Families, Steps}
 use Rattle.tsp_format.specs.states.TreeSteps.{steps_of}
-use Rattle.tsp_file.specs.states.Drafts.{points_of, combs_of}
-use Rattle.tsp_text.specs.Earlier.{place_by}
-use Rattle.tsp_text.specs.Groups.{CombsSoFar, combs_after}
-use Rattle.tsp_text.specs.SectionWords.{TreeSoFar, tree_after}
 use Rattle.tsp_read.specs.declared.by_node.NumberList.{NumberList}
 use Rattle.tsp_read.specs.declared.by_node.PointList.{PointList}
 use Rattle.tsp_read.specs.declared.lists.DepotList.{DepotList}
@@ -17,7 +13,7 @@ use Rattle.tsp_read.specs.declared.section_builder.SectionBuilder.TheVariants as
 use Rattle.tsp_read.specs.declared.section_builder.TripleList.{TripleList}
 use Rattle.tsp_read.specs.declared.runs.TourList.{TourList}
 use Rattle.tsp_read.specs.declared.runs.WeightList.{WeightList}
-use Rattle.tsp_read.specs.declared.tree.CombList.{CombList}
+use Rattle.tsp_read.specs.declared.tree.FamilyList.{FamilyList}
 use Rattle.tsp_read.specs.declared.tree.TreeList.{TreeList}
 use Rattle.tsp_read.specs.states.Parts.{NumbersHold, CoordsHold, are_in_space, DepotsHold, PairsHold, TriplesHold, WeightsHold, ToursHold, EndsRun, Takes}
 
@@ -60,9 +56,9 @@ abbrev pub EndsRunOf : TourList → List (List ℕ) → Type 0
 EndsRunOf part words = EndsRun (map (λ tour. tour.items) part.done.items) part.run.items words
 
 -- the contents of a part for COMB_SECTION, as Groups.antt of tsp_text has them
-abbrev pub combs_held : CombList → CombsSoFar
-combs_held part = record {
-  combs = combs_of part.combs.items;
+abbrev pub families_held : FamilyList → FamiliesSoFar
+families_held part = record {
+  families = families_of part.families.items;
   sets = map (λ set. set.items) part.sets.items;
   nodes = part.nodes.items;
   count = part.count;
@@ -70,9 +66,9 @@ combs_held part = record {
 }
 
 -- COMB_SECTION
-pub record HoldsCombs (part : CombList) (n : ℕ) (words : List (List ℕ)) : Type 0 where
+pub record HoldsFamilies (part : FamilyList) (n : ℕ) (words : List (List ℕ)) : Type 0 where
   pub nodes : part.n ≡ n
-  pub read : combs_held part ≡ combs_after n words
+  pub read : families_held part ≡ families_after n words
 
 -- the contents of a part for BRANCH_SECTION, as SectionWords.antt of tsp_text has them
 abbrev pub tree_held : TreeList → TreeSoFar
@@ -89,7 +85,7 @@ tree_held part = record {
 -- BRANCH_SECTION; no more trees are to come than this many steps can ask for
 pub record HoldsTree (part : TreeList) (n : ℕ) (words : List (List ℕ)) : Type 0 where
   pub nodes : part.n ≡ n
-  pub indices : part.last_index ≡ n + most_combs
+  pub indices : part.last_index ≡ n + most_families
   pub read : tree_held part ≡ tree_after n words
   pub few : part.to_come ≤ length part.steps.items + 1
 
@@ -108,7 +104,7 @@ shape_by (parts.Pairs list) = Pairs
 shape_by (parts.Weights list) = Weights
 shape_by (parts.Tours list) = Tours
 shape_by (parts.Triples list) = Triples
-shape_by (parts.Combs list) = Combs
+shape_by (parts.Families list) = Families
 shape_by (parts.Steps list) = Steps
 
 -- the part has these words of its section, which has n nodes
@@ -120,7 +116,7 @@ HoldsPart (parts.Pairs list) n words = HoldsFixed list n words
 HoldsPart (parts.Weights list) n words = HoldsWeights list n words
 HoldsPart (parts.Tours list) n words = HoldsTours list words
 HoldsPart (parts.Triples list) n words = HoldsTriples list n words
-HoldsPart (parts.Combs list) n words = HoldsCombs list n words
+HoldsPart (parts.Families list) n words = HoldsFamilies list n words
 HoldsPart (parts.Steps list) n words = HoldsTree list n words
 
 -- the same, and the section has this shape

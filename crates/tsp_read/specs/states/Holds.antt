@@ -1,27 +1,16 @@
 -- The reader's state after some items of a text: its fields, its open section, and what a line that opens or closes a
 -- section does to them.
-use Rattle.std.specs.List.{find}
-use Rattle.std.specs.Option.{option_map, option_map_or}
-use Rattle.std.specs.Prelude.{◌≡◌, ℕ, Bool, List, Some, false, not, ◌&&◌, [], ◌∷◌, Option, None, is_some, Result, Ok, Err, nat_lt, ℤ, true, is_none, unwrap_or, ◌≤ℤ◌, length, ◌++◌, nat_le, ◌||◌}
+use Rattle.tsp_read.specs.Prelude.{find, option_map, option_map_or, ℕ, Bool, List, Some, false, not, [], Option, None, is_some, Result, Ok, Err, nat_lt, ℤ, true, is_none, unwrap_or, length, nat_le, whole_of, shape_of, most_line_bytes, most_comments, most_others, Fields, with_numbers, with_points, fields_of, has_line, open_section, is_open, words_of, spatial_after, dimension_in, named, is_left_out, same_field, row_of, when, first_row, is_too_long_to_keep, numbers_by_node, points_by_node, space_points_by_node, depots_in, fixed_in, fixed_triples_in, whole_families, WordLine, Item, Line, AreCut, is_not_empty, first_word, tours_in, whole_steps, weights_in, IsClean, fields_by, is_incomplete, sections_in_order, first_incomplete, opening_rows, spelled, fault_at_end}
+use Rattle.std.specs.Prelude.{◌≡◌, ◌&&◌, ◌∷◌, ◌≤ℤ◌, ◌++◌, ◌||◌}
 use Rattle.std.specs.Result.{result_err}
-use Rattle.tsp_number.specs.NumberWord.{whole_of}
 use Rattle.tsp_number.specs.declared.word.NumberFault.{NumberFault}
-use Rattle.tsp_format.specs.Limits.{shape_of, most_line_bytes, most_comments, most_others}
 use Rattle.tsp_format.specs.declared.keyword.Field.{Field}
 use Rattle.tsp_format.specs.declared.keyword.Field.TheVariants.{NameKey, TypeKey, DimensionKey, CapacityKey, ScaleKey, LoadUnitKey, EdgeWeightTypeKey, EdgeWeightFormatKey, NodeCoordTypeKey, DisplayDataTypeKey}
 use Rattle.tsp_format.specs.declared.keyword.Keyword.TheVariants.{Known, Unknown}
 use Rattle.tsp_format.specs.declared.keyword.Shape.{Shape}
-use Rattle.tsp_format.specs.declared.keyword.Shape.TheVariants.{Numbers, Points, SpacePoints, Depots, Pairs, Weights, Tours, Triples, Combs, Steps}
-use Rattle.tsp_file.specs.Fields.{Fields, with_numbers, with_points}
+use Rattle.tsp_format.specs.declared.keyword.Shape.TheVariants.{Numbers, Points, SpacePoints, Depots, Pairs, Weights, Tours, Triples, Families, Steps}
 use Rattle.tsp_file.specs.Rules.{standing_of, end_fault}
 use Rattle.tsp_file.specs.declared.rules.EndFault.{EndFault}
-use Rattle.tsp_file.specs.states.Drafts.{fields_of}
-use Rattle.tsp_text.specs.Earlier.{has_line, open_section, is_open, words_of, spatial_after, dimension_in, named, is_left_out, same_field}
-use Rattle.tsp_text.specs.FaultRows.{row_of, when, first_row, is_too_long_to_keep}
-use Rattle.tsp_text.specs.Groups.{numbers_by_node, points_by_node, space_points_by_node, depots_in, fixed_in, fixed_triples_in, whole_combs}
-use Rattle.tsp_text.specs.Items.{WordLine, Item, Line, AreCut, is_not_empty, first_word}
-use Rattle.tsp_text.specs.SectionWords.{tours_in, whole_steps, weights_in}
-use Rattle.tsp_text.specs.ParsesTo.{IsClean, fields_by, is_incomplete, sections_in_order, first_incomplete, opening_rows, spelled, fault_at_end}
 use Rattle.tsp_text.specs.declared.fault.LineFault.{LineFault}
 use Rattle.tsp_text.specs.declared.fault.LineFault.TheVariants as row
 use Rattle.tsp_read.specs.declared.line.CutLine.{CutLine}
@@ -230,7 +219,7 @@ with_words Pairs field n words fields = record fields { fixed = Some (fixed_in n
 with_words Weights field n words fields = record fields { weights = Some (weights_in words) }
 with_words Tours field n words fields = record fields { tours = Some (tours_in words) }
 with_words Triples field n words fields = record fields { fixed_potentials = Some (fixed_triples_in n words) }
-with_words Combs field n words fields = record fields { combs = Some (whole_combs n words) }
+with_words Families field n words fields = record fields { families = Some (whole_families n words) }
 with_words Steps field n words fields = record fields { branches = Some (whole_steps n words) }
 
 -- the same for a section, in a spatial file or another

@@ -1,12 +1,7 @@
 -- The state while a text comes in pieces: the items that were taken, the line or word that is cut, and what holds
 -- whatever bytes follow.
-use Rattle.std.specs.List.{list_all}
-use Rattle.std.specs.Prelude.{◌≡◌, ℕ, Bool, true, false, nat_lt, List, ◌∷◌, ◌++◌, length, reverse, Option, None, Some, Result, Ok, Err, ◌+◌, ◌≤◌, []}
-use Rattle.tsp_format.specs.Limits.{most_word_bytes, most_line_bytes, most_file_bytes}
-use Rattle.tsp_text.specs.FaultRows.{row_of}
-use Rattle.tsp_text.specs.Items.{Item, Line, NumberWord, LineEnd, settled_items, is_end_line, has_end_line, to_end_line, line_number, words_before, is_not_empty, items_of}
-use Rattle.tsp_text.specs.ParsesTo.{fault_in, settled_part}
-use Rattle.tsp_text.specs.declared.fault.ReadFault.{ReadFault}
+use Rattle.tsp_read.specs.Prelude.{list_all, ℕ, Bool, true, false, nat_lt, List, length, reverse, Option, None, Some, Result, Ok, Err, [], most_word_bytes, most_line_bytes, most_file_bytes, row_of, Item, Line, NumberWord, LineEnd, settled_items, is_end_line, has_end_line, to_end_line, line_number, words_before, is_not_empty, items_of, fault_in, settled_part, ReadFault}
+use Rattle.std.specs.Prelude.{◌≡◌, ◌∷◌, ◌++◌, ◌+◌, ◌≤◌}
 use Rattle.tsp_text.specs.declared.fault.ReadFault.TheVariants as faults
 use Rattle.tsp_read.specs.declared.feed.Stage.{Stage}
 use Rattle.tsp_read.specs.declared.feed.Stage.TheVariants.{Going, Ended, Refused}

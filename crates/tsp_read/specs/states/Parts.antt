@@ -1,11 +1,9 @@
 -- What the fields of a section's part say of the words so far, section by section, and how the part takes the next
 -- word.
-use Rattle.std.specs.Prelude.{◌≡◌, ℕ, ◌+◌, ◌*◌, ◌<◌, ◌≤◌, ◌-◌, ℤ, pos, negsuc, Bool, true, false, not, List, [], ◌∷◌, ◌++◌, length, map, slice_index_or, Option, None, Some, is_some, unwrap_or, Result, Ok, Err}
-use Rattle.std.specs.Option.{option_map}
-use Rattle.std.specs.List.{filter, slice_split, list_any}
+use Rattle.tsp_read.specs.Prelude.{ℕ, ℤ, pos, negsuc, Bool, true, false, not, List, [], length, map, slice_index_or, Option, None, Some, is_some, unwrap_or, Result, Ok, Err, option_map, filter, slice_split, list_any, decimal_of, is_not_empty, node, node_or_end, is_end, Place, weights_in, ends_tour, tour_node, tours_in, groups_in, begun_in, node_groups, number_value, point_in, space_point_in, entry_of, depots_in, listed_in, firsts_in, fixed_pair, fixed_triple, word_fault}
+use Rattle.std.specs.Prelude.{◌≡◌, ◌+◌, ◌*◌, ◌<◌, ◌≤◌, ◌-◌, ◌∷◌, ◌++◌}
 use Rattle.tsp_number.specs.declared.decimal.Point.{Point}
 use Rattle.tsp_number.specs.declared.word.NumberFault.{NumberFault}
-use Rattle.tsp_number.specs.NumberWord.{decimal_of}
 use Rattle.tsp_file.specs.declared.coords.Coords.{Coords}
 use Rattle.tsp_file.specs.declared.coords.Coords.TheVariants.{Plane, Space}
 use Rattle.tsp_file.specs.Cost.{origin}
@@ -13,10 +11,6 @@ use Rattle.tsp_text.specs.declared.fault.LineFault.{LineFault}
 use Rattle.tsp_text.specs.declared.fault.LineFault.TheVariants as row
 use Rattle.tsp_read.specs.declared.line.StepFault.{StepFault}
 use Rattle.tsp_read.specs.declared.line.StepFault.TheVariants as steps
-use Rattle.tsp_text.specs.Items.{is_not_empty}
-use Rattle.tsp_text.specs.SectionWords.{node, node_or_end, is_end, Place, weights_in, ends_tour, tour_node, tours_in}
-use Rattle.tsp_text.specs.Groups.{groups_in, begun_in, node_groups, number_value, point_in, space_point_in, entry_of, depots_in, listed_in, firsts_in, fixed_pair, fixed_triple}
-use Rattle.tsp_text.specs.FaultRows.{word_fault}
 
 -- ---- a word at its place
 

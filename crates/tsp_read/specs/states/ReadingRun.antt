@@ -1,9 +1,8 @@
 -- A run of plain numbers in the open section, which is read in one pass, and the word at the beginning of a text.
-use Rattle.std.specs.Prelude.{ℕ, ◌+◌, ◌≤◌, ◌<◌, List, length, Option, None, Some, ◌≡◌, Bool, true, [], ◌∷◌, ◌⊎◌}
-use Rattle.tsp_format.specs.Words.{is_blank}
+use Rattle.tsp_read.specs.Prelude.{ℕ, List, length, Option, None, Some, Bool, true, [], is_blank, ends_line, without_start, NumberWord}
+use Rattle.std.specs.Prelude.{◌+◌, ◌≤◌, ◌<◌, ◌≡◌, ◌∷◌, ◌⊎◌}
 use Rattle.tsp_format.specs.declared.keyword.Field.{Field}
 use Rattle.tsp_file.specs.declared.draft.Draft.{Draft}
-use Rattle.tsp_text.specs.Items.{ends_line, without_start, NumberWord}
 use Rattle.tsp_read.specs.declared.items.Intake.{Intake}
 use Rattle.tsp_read.specs.declared.section_builder.SectionBuilder.{SectionBuilder}
 use Rattle.tsp_read.specs.declared.reading.Reading.{Reading}

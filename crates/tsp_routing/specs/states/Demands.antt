@@ -1,14 +1,9 @@
 -- What customers demand, in units, and the entries of the table of walks while it is filled.
-use Rattle.std.specs.Global.{Vec}
-use Rattle.std.specs.List.{All}
-use Rattle.std.specs.Prelude.{◌≡◌, ℕ, ◌≤◌, ◌==◌, if◌then◌else◌, length, ℤ, pos, ◌⊎◌, ◌+◌, ◌*◌, ◌<◌, List, slice_index_or, neg_ℤ, ◌+ℤ◌, ◌≤ℤ◌}
-use Rattle.tsp_format.specs.Limits.{most_nodes, most_demand, most_capacity}
-use Rattle.tsp_format.specs.Nodes.{IsNode}
-use Rattle.tsp_format.specs.Steps.{IsFromTo}
-use Rattle.tsp_theory.specs.Tour.{RoutingProblem, demand_of, IsCustomer}
+use Rattle.tsp_routing.specs.Prelude.{Vec, All, ℕ, length, ℤ, pos, List, slice_index_or, neg_ℤ, most_nodes, most_demand, most_capacity, IsNode, IsFromTo, RoutingProblem, demand_of, IsCustomer}
+use Rattle.std.specs.Prelude.{◌≡◌, ◌≤◌, ◌==◌, if◌then◌else◌, ◌⊎◌, ◌+◌, ◌*◌, ◌<◌, ◌+ℤ◌, ◌≤ℤ◌}
 use Rattle.tsp_routing.specs.PlanLinks.{is_light, AreUnits, load_in, capacity_in_parts}
 use Rattle.tsp_routing.specs.QRoutes.{QRouteEntry, IsLow, IsMet}
-use Rattle.tsp_routing.specs.declared.demands.Demands.{Demands}
+use Rattle.tsp_routing.specs.declared.units.Demands.{Demands}
 use Rattle.tsp_routing.specs.declared.least_q_route.Onward.{Onward}
 use Rattle.tsp_routing.specs.declared.units.UnitLoads.{UnitLoads}
 
@@ -105,7 +100,7 @@ IsChosen best next weight new =
     ⊎ (((new.least ≡ best.least) × (new.next ≡ best.next) × (new.other ≡ weight))
     ⊎ ((new.least ≡ best.least) × (new.next ≡ best.next) × (new.other ≡ best.other)))
 
--- ---- the loads of all nodes and the capacity of a route, in parts of units, whatever the
+-- ---- the loads of all nodes and the capacity of a route, in parts of units
 
 -- 1 for a customer that demands less than a unit, else 0
 abbrev pub light_in : RoutingProblem → ℕ → ℕ → ℤ

@@ -1,19 +1,11 @@
 -- What is judged of a certificate for routes before its leaves, and the sizes of what a leaf needs.
-use Rattle.std.specs.Global.{Vec}
-use Rattle.std.specs.List.{All}
-use Rattle.std.specs.Prelude.{◌≡◌, ℕ, ◌+◌, ◌*◌, ◌≤◌, ◌<◌, Bool, true, List, length, Option, ℤ, Some, None}
-use Rattle.tsp_format.specs.Steps.{Step}
-use Rattle.tsp_theory.specs.Tour.{RoutingProblem}
-use Rattle.tsp_cases.specs.Cases.{LeafNumbers}
-use Rattle.tsp_cases.specs.Crossings.{families_in}
-use Rattle.tsp_cases.specs.Families.{Family, family_with}
-use Rattle.tsp_cases.specs.ListedCases.{listed_steps}
+use Rattle.tsp_routing.specs.Prelude.{Vec, All, ℕ, Bool, true, List, length, Option, ℤ, Some, None, Step, RoutingProblem, LeafNumbers, families_in, Family, family_with, listed_steps, Decision}
+use Rattle.std.specs.Prelude.{◌≡◌, ◌+◌, ◌*◌, ◌≤◌, ◌<◌}
 use Rattle.tsp_cases.specs.declared.family.Crossings.{Crossings}
-use Rattle.tsp_cases.specs.declared.open_case.Decision.{Decision}
 use Rattle.tsp_routing.specs.PlanBounds.{IsFoundByQRoutes, IsPlanTreeBound}
 use Rattle.tsp_routing.specs.PlanLinks.{capacity_in_parts, IsCutFamily}
 use Rattle.tsp_routing.specs.PlanVerdicts.{AreGoodPlanLeaves, IsFirstBadPlanLeaf, most_entries, IsGoodSet, IsFirstBadSet, AreCapacityCuts}
-use Rattle.tsp_routing.specs.declared.demands.Demands.{Demands}
+use Rattle.tsp_routing.specs.declared.units.Demands.{Demands}
 use Rattle.tsp_routing.specs.declared.verdict.JudgedCuts.{JudgedCuts}
 use Rattle.tsp_routing.specs.declared.verdict.JudgedCuts.TheVariants as judged
 use Rattle.tsp_routing.specs.declared.verdict.PlanScratch.{PlanScratch}

@@ -1,12 +1,7 @@
 -- The weights of a leaf between customers: kept rows, the multipliers of sets, and what is given back.
-use Rattle.std.specs.Global.{Vec}
-use Rattle.std.specs.Prelude.{◌≡◌, ℕ, ◌+◌, ◌<◌, ◌≤◌, List, length, slice_index_or, ℤ, pos, neg_ℤ, [], ◌∷◌, ◌+ℤ◌, ◌^◌}
-use Rattle.tsp_format.specs.Nodes.{IsNode}
-use Rattle.tsp_format.specs.Steps.{IsFromTo, Step, Branch, Leaf}
-use Rattle.tsp_theory.specs.states.Nearest.{least_at}
+use Rattle.tsp_routing.specs.Prelude.{Vec, ℕ, List, length, slice_index_or, ℤ, pos, neg_ℤ, [], IsNode, IsFromTo, Step, Branch, Leaf, least_at, Decision, set_crossings}
+use Rattle.std.specs.Prelude.{◌≡◌, ◌+◌, ◌<◌, ◌≤◌, ◌∷◌, ◌+ℤ◌, ◌^◌}
 use Rattle.tsp_cases.specs.declared.family.Crossings.{Crossings}
-use Rattle.tsp_cases.specs.declared.open_case.Decision.{Decision}
-use Rattle.tsp_cases.specs.states.Sets.{set_crossings}
 use Rattle.tsp_routing.specs.PlanBounds.{most_link, low_of, high_of, least_times}
 use Rattle.tsp_routing.specs.PlanVerdicts.{most_of_multipliers}
 
@@ -32,7 +27,7 @@ abbrev pub AreSignedCrossings : ℕ → List ℤ → List (List (List ℕ)) → 
 AreSignedCrossings n multipliers families = (i j : ℕ) → IsNode n i → IsNode n j
     → IsFromTo (neg_ℤ (pos most_of_multipliers)) (pos most_of_multipliers) (set_crossings multipliers families i j)
 
--- ---- the sum that the multipliers of sets give back, over the numbers that code has of each
+-- ---- the sum that the multipliers of sets give back, over the numbers of the code
 
 -- a multiplier of at least 0 times the least number of crossings, one below 0 times the most, added over the sets
 abbrev pub numbers_total : List Decision → ℕ → ℕ → List Crossings → List ℤ → ℤ

@@ -1,11 +1,7 @@
 -- Marks of nodes, the next node on a cycle, and routes as vectors of nodes.
+use Rattle.tsp_verdict.specs.Prelude.{All, flat_map, ℕ, Bool, true, false, List, length, slice_index, slice_index_or, [], map, ℤ, pos, most_tour_nodes, most_weight, Fields, is_tour_file, Follows}
 use Rattle.std.specs.Global.{Vec}
-use Rattle.std.specs.List.{All, flat_map}
-use Rattle.std.specs.Prelude.{◌≡◌, ℕ, ◌+◌, ◌<◌, ◌≤◌, Bool, true, false, List, length, slice_index, slice_index_or, ◌≢◌, [], map, ◌*◌, ℤ, pos, ◌+ℤ◌, ◌≤ℤ◌}
-use Rattle.tsp_format.specs.Limits.{most_tour_nodes, most_weight}
-use Rattle.tsp_file.specs.Fields.{Fields}
-use Rattle.tsp_file.specs.Rules.{is_tour_file}
-use Rattle.tsp_theory.specs.Tour.{Follows}
+use Rattle.std.specs.Prelude.{◌≡◌, ◌+◌, ◌<◌, ◌≤◌, ◌≢◌, ◌*◌, ◌+ℤ◌, ◌≤ℤ◌}
 use Rattle.tsp_verdict.specs.Solutions.{node_at, IsAtEarlierPlace, visited, tours_of}
 
 -- the marked nodes are those at the first `count` places, and none of these comes twice

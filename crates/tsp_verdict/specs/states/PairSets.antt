@@ -1,11 +1,9 @@
 -- Sets of pairs of nodes, where an undirected pair has its smaller node first.
-use Rattle.std.specs.Prelude.{◌≡◌, ℕ, Bool, true, false, List, if◌then◌else◌, nat_le}
+use Rattle.tsp_verdict.specs.Prelude.{ℕ, Bool, true, false, List, nat_le, list_any, is_same_pair, is_same}
+use Rattle.std.specs.Prelude.{◌≡◌, if◌then◌else◌}
 use Rattle.std.specs.BTreeSet.{BTreeSet, contains}
-use Rattle.std.specs.List.{list_any}
 use Rattle.std.specs.Ordering.{nat_cmp, ordering_then}
 use Rattle.std.specs.declared.cmp.Ordering.{Ordering}
-use Rattle.tsp_theory.specs.Bounds.{is_same_pair}
-use Rattle.tsp_cases.specs.Cases.{is_same}
 
 -- the pair with its smaller node first
 abbrev pub undirected : ℕ × ℕ → ℕ × ℕ

@@ -1,13 +1,6 @@
 -- The goals of `dual_bound` in src/assignment.rt, which bounds every cycle by duals: that no sum overflows, its loop,
 -- what its calls require and what it ensures.
-use Rattle.std.proofs.Common.{◌≡◌, ℕ, ◌*◌, ◌^◌, rules, arith, sym, ◌∙◌, inl, inr, subst, FitsSigned, to_z, of_z}
-use Rattle.std.specs.Prelude.{ℤ, pos, neg_ℤ, ◌+ℤ◌, ◌≤ℤ◌}
-use Rattle.std.specs.Int.{w128}
-use Rattle.std.proofs.lemmas.Int.{ints, to_z-of_z, fits_signed_from_abs}
-use Rattle.tsp_format.specs.Limits.{most_nodes, most_potential}
-use Rattle.tsp_format.specs.Steps.{IsFromTo}
-use Rattle.tsp_theory.specs.Bounds.{total, AreGood, IsDualBound}
-use Rattle.tsp_theory.proofs.Sums.{size_of, bound_of_sums}
+use Rattle.tsp_bound.proofs.Prelude.{◌≡◌, ℕ, ◌*◌, ◌^◌, rules, arith, sym, ◌∙◌, inl, inr, subst, FitsSigned, to_z, of_z, ℤ, pos, neg_ℤ, ◌+ℤ◌, ◌≤ℤ◌, w128, ints, to_z-of_z, fits_signed_from_abs, most_nodes, most_potential, IsFromTo, total, AreGood, IsDualBound, size_of, bound_of_sums}
 use Rattle.tsp_bound.specs.states.Duals.{dual_of, scaled}
 use Rattle.tsp_bound.proofs.LoweredWeights.{rows_passed}
 use Rattle.tsp_bound.proofs.assignment.dual_bound.Goals as goal

@@ -1,7 +1,5 @@
 -- The loop of `dual_bound` in src/assignment.rt, which bounds every cycle by duals.
-use Rattle.std.proofs.Common.{◌≢◌, ℕ, ◌<◌}
-use Rattle.std.specs.Prelude.{◌≤ℤ◌}
-use Rattle.tsp_format.specs.Nodes.{IsNode}
+use Rattle.tsp_bound.proofs.Prelude.{◌≢◌, ℕ, ◌<◌, ◌≤ℤ◌, IsNode}
 use Rattle.tsp_bound.specs.states.Duals.{dual_of, scaled}
 use Rattle.tsp_bound.proofs.assignment.dual_bound.Given as goal
 

@@ -1,10 +1,6 @@
 -- The goals of `first_broken_of_row` in src/assignment.rt, which finds the first column that doesn't fit a row's dual:
 -- its loop, what its calls require and what it ensures.
-use Rattle.std.proofs.Common.{ℕ, ◌-◌, ◌<◌, length, refl, arith}
-use Rattle.std.specs.Prelude.{pos, ◌≤ℤ◌, slice_index_or}
-use Rattle.std.proofs.lemmas.Bool.{false≢true}
-use Rattle.tsp_format.specs.Limits.{most_potential}
-use Rattle.tsp_theory.proofs.Sums.{same_64}
+use Rattle.tsp_bound.proofs.Prelude.{ℕ, ◌-◌, ◌<◌, length, refl, arith, pos, ◌≤ℤ◌, slice_index_or, false≢true, most_potential, same_64}
 use Rattle.tsp_bound.specs.states.Duals.{dual_of, scaled}
 use Rattle.tsp_bound.proofs.LoweredWeights.{columns_passed, above_where_not}
 use Rattle.tsp_bound.proofs.assignment.first_broken_of_row.Goals as goal

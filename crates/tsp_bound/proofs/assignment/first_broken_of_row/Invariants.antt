@@ -1,6 +1,5 @@
 -- The loop of `first_broken_of_row` in src/assignment.rt, which finds the first column that doesn't fit a row's dual.
-use Rattle.std.proofs.Common.{◌≢◌, ℕ, ◌<◌, ◌≤◌}
-use Rattle.std.specs.Prelude.{◌≤ℤ◌}
+use Rattle.tsp_bound.proofs.Prelude.{◌≢◌, ℕ, ◌<◌, ◌≤◌, ◌≤ℤ◌}
 use Rattle.tsp_bound.specs.states.Duals.{dual_of, scaled}
 use Rattle.tsp_bound.proofs.assignment.first_broken_of_row.Given as goal
 

@@ -1,8 +1,6 @@
 -- The goals of `fits` in src/assignment.rt, which says whether a row's and a column's number are within the cost: what
 -- it ensures.
-use Rattle.std.proofs.Common.{◌-◌, ◌<◌, length, arith}
-use Rattle.std.specs.Prelude.{pos, slice_index_or}
-use Rattle.tsp_theory.proofs.Sums.{fit_decided}
+use Rattle.tsp_bound.proofs.Prelude.{◌-◌, ◌<◌, length, arith, pos, slice_index_or, fit_decided}
 use Rattle.tsp_bound.proofs.assignment.fits.Goals as goal
 
 -- plan: the sum in 64 bits is the whole one, so the test decides (`fit_decided`)

@@ -1,14 +1,8 @@
 -- The goals of `least_edges` in src/bound.rt, which finds the edges of a least 1-tree: what its calls require, that no
 -- sum overflows and what it ensures.
-use Rattle.std.proofs.Common.{◌≡◌, ◌∙◌, [], ap, ap₂, sym, arith, rules, FitsSigned}
-use Rattle.std.specs.Prelude.{◌+ℤ◌}
-use Rattle.std.specs.Int.{w64}
-use Rattle.std.proofs.lemmas.Int.{ints}
-use Rattle.tsp_theory.specs.Tree.{weight_of, tree_of}
+use Rattle.tsp_bound.proofs.Prelude.{◌≡◌, ◌∙◌, [], ap, ap₂, sym, arith, rules, FitsSigned, ◌+ℤ◌, w64, ints, weight_of, tree_of, least_from_forest, weight_even, tree_fits, tree_size, tree_computed, weight_of_tree}
 use Rattle.tsp_bound.specs.states.Potentials.{weight_under, triples_in, weight_less}
 use Rattle.tsp_theory.proofs.Neighbours.{adjusted_even}
-use Rattle.tsp_theory.proofs.Trees.{least_from_forest}
-use Rattle.tsp_theory.proofs.Cycles.{weight_even, tree_fits, tree_size, tree_computed, weight_of_tree}
 use Rattle.tsp_bound.proofs.bound.least_edges.Goals as goal
 
 pub grow_in_rounds-requires-clause-even : goal.grow_in_rounds-requires-clause-even

@@ -1,13 +1,7 @@
 -- The goals of `least_one_tree` in src/bound.rt, which bounds every cycle by a least 1-tree: what its calls require and
 -- what it ensures.
-use Rattle.std.proofs.Common.{◌≡◌, ℕ, List, [], subst, ◌∙◌, arith, rules, FitsSigned, to_z, of_z}
-use Rattle.std.specs.Prelude.{ℤ}
-use Rattle.std.specs.Int.{w128}
-use Rattle.std.proofs.lemmas.Int.{to_z-of_z}
-use Rattle.tsp_theory.specs.Bounds.{total, triples_total, IsAdjustedBoundOf, IsAdjustedBound}
-use Rattle.tsp_theory.specs.Tree.{weight_of, IsLeastOneTree}
+use Rattle.tsp_bound.proofs.Prelude.{◌≡◌, ℕ, List, [], subst, ◌∙◌, arith, rules, FitsSigned, to_z, of_z, ℤ, w128, to_z-of_z, total, triples_total, IsAdjustedBoundOf, IsAdjustedBound, weight_of, IsLeastOneTree, sum_of_bound, bound_of_weight, tree_same}
 use Rattle.tsp_bound.specs.states.Potentials.{weight_less}
-use Rattle.tsp_theory.proofs.Cycles.{sum_of_bound, bound_of_weight, tree_same}
 use Rattle.tsp_bound.proofs.bound.least_one_tree.Goals as goal
 
 pub least_bound-bound-requires-clause-size : goal.least_bound-bound-requires-clause-size

@@ -1,6 +1,5 @@
 -- The loop of `tree_of` in src/bound.rt, which lists the edges of a 1-tree.
-use Rattle.std.proofs.Common.{◌≡◌, take}
-use Rattle.tsp_theory.specs.Tree.{tree_of}
+use Rattle.tsp_bound.proofs.Prelude.{◌≡◌, take, tree_of}
 use Rattle.tsp_bound.proofs.bound.tree_of.Given as goal
 
 -- the edges are the two at node 1, and then the pairs before this one

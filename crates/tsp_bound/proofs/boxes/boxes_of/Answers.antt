@@ -1,7 +1,6 @@
 -- The goals of `boxes_of` in src/boxes.rt, which makes the tree of boxes over nodes in an order: its loop and what it
 -- ensures.
-use Rattle.std.proofs.Common.{◌≡◌, ◌-◌, ◌+◌, ℕ, Option, None, Some, length, arith, sym, subst, ◌∙◌}
-use Rattle.std.proofs.Math.ListN.{length-set}
+use Rattle.tsp_bound.proofs.Prelude.{◌≡◌, ◌-◌, ◌+◌, ℕ, Option, None, Some, length, arith, sym, subst, ◌∙◌, length-set}
 use Rattle.tsp_bound.specs.declared.area.Area.{Area}
 use Rattle.tsp_bound.specs.states.Boxes.{HoldsNode, AreHeldFrom, area_at, node_of, IsNumberedSiteOf}
 use Rattle.tsp_bound.specs.declared.boxes.NumberedSite.{NumberedSite}

@@ -1,6 +1,5 @@
 -- The goals of `joined` in src/boxes.rt, which joins the areas of two halves: what it ensures.
-use Rattle.std.proofs.Common.{rules, Option, Some, arith, w64, FitsSigned, subst}
-use Rattle.std.proofs.lemmas.Int.{ints, to_z-of_z}
+use Rattle.tsp_bound.proofs.Prelude.{rules, Option, Some, arith, w64, FitsSigned, subst, ints, to_z-of_z}
 use Rattle.tsp_bound.specs.declared.area.Area.{Area}
 use Rattle.tsp_bound.specs.states.Boxes.{HoldsNode}
 use Rattle.tsp_bound.proofs.boxes.joined.Goals as goal

@@ -1,12 +1,6 @@
 -- The goals of `numbered_sites_of` in src/boxes.rt, which puts the nodes of an order beside each other with
 -- their places and numbers: its loop.
-use Rattle.std.proofs.Common.{◌≡◌, ◌<◌, ◌+◌, ◌++◌, ◌∷◌, [], ℕ, List, length, arith, sym, subst, ap, ◌∙◌, inl, inr, rules, w64, to_z, of_z, SFits}
-use Rattle.std.specs.Prelude.{slice_index_or, ℤ, pos, neg_ℤ}
-use Rattle.std.proofs.lemmas.Bool.{cases_eq}
-use Rattle.std.proofs.lemmas.Int.{to_z-of_z}
-use Rattle.std.proofs.lemmas.List.{length-append, get_or_append_left, get_or_push}
-use Rattle.tsp_format.specs.Steps.{IsFromTo}
-use Rattle.tsp_theory.specs.Bounds.{most_number}
+use Rattle.tsp_bound.proofs.Prelude.{◌≡◌, ◌<◌, ◌+◌, ◌++◌, ◌∷◌, [], ℕ, List, length, arith, sym, subst, ap, ◌∙◌, inl, inr, rules, w64, to_z, of_z, SFits, slice_index_or, ℤ, pos, neg_ℤ, cases_eq, to_z-of_z, length-append, get_or_append_left, get_or_push, IsFromTo, most_number}
 use Rattle.tsp_bound.specs.declared.boxes.NumberedSite.{NumberedSite}
 use Rattle.tsp_bound.specs.states.Boxes.{node_of, IsNumberedSiteOf}
 use Rattle.tsp_bound.proofs.boxes.numbered_sites_of.Goals as goal

@@ -1,6 +1,5 @@
 -- The loop of `numbered_sites_of` in src/boxes.rt.
-use Rattle.std.proofs.Common.{◌≡◌, ◌<◌, ℕ, length}
-use Rattle.std.specs.Prelude.{slice_index_or}
+use Rattle.tsp_bound.proofs.Prelude.{◌≡◌, ◌<◌, ℕ, length, slice_index_or}
 use Rattle.tsp_bound.specs.declared.boxes.NumberedSite.{NumberedSite}
 use Rattle.tsp_bound.specs.states.Boxes.{node_of, IsNumberedSiteOf}
 use Rattle.tsp_bound.proofs.boxes.numbered_sites_of.Given as goal

@@ -1,6 +1,5 @@
 -- The goals of `refit` in src/boxes.rt, which fits a box to its halves: what it ensures.
-use Rattle.std.proofs.Common.{◌≡◌, ◌*◌, ◌+◌, Option, arith, sym, subst, refl}
-use Rattle.std.proofs.lemmas.List.{get_or_read}
+use Rattle.tsp_bound.proofs.Prelude.{◌≡◌, ◌*◌, ◌+◌, Option, arith, sym, subst, refl, get_or_read}
 use Rattle.tsp_bound.specs.declared.area.Area.{Area}
 use Rattle.tsp_bound.specs.states.Boxes.{HoldsNode, area_at}
 use Rattle.tsp_bound.proofs.boxes.refit.Goals as goal

@@ -1,6 +1,5 @@
 -- The goals of `retag` in src/boxes.rt, which tags a box by its halves: what it ensures.
-use Rattle.std.proofs.Common.{◌≡◌, ◌*◌, ◌+◌, ℕ, arith, sym, subst, refl}
-use Rattle.std.proofs.lemmas.List.{get_or_read}
+use Rattle.tsp_bound.proofs.Prelude.{◌≡◌, ◌*◌, ◌+◌, ℕ, arith, sym, subst, refl, get_or_read}
 use Rattle.tsp_bound.specs.states.Boxes.{box_at}
 use Rattle.tsp_bound.specs.states.Components.{IsTagOf}
 use Rattle.tsp_bound.proofs.boxes.retag.Goals as goal

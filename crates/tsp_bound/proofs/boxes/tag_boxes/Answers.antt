@@ -1,7 +1,6 @@
 -- The goals of `tag_boxes` in src/boxes.rt, which tags each box whose nodes have one label: its loop and what it
 -- ensures.
-use Rattle.std.proofs.Common.{◌≡◌, ◌-◌, ◌+◌, ℕ, true, get_or, length, arith, subst, ◌∙◌}
-use Rattle.std.proofs.Math.ListN.{length-set}
+use Rattle.tsp_bound.proofs.Prelude.{◌≡◌, ◌-◌, ◌+◌, ℕ, true, get_or, length, arith, subst, ◌∙◌, length-set}
 use Rattle.tsp_bound.specs.states.Boxes.{AreHeldFrom, box_at}
 use Rattle.tsp_bound.specs.states.Components.{IsTagOf}
 use Rattle.tsp_bound.proofs.Searches.{leaf_more, held_leaves, refit_more}

@@ -1,9 +1,5 @@
 -- The goals of `lists_of` in src/by_node.rt, which lists at each node the multipliers of its pairs: its loop.
-use Rattle.std.proofs.Common.{◌≡◌, ℕ, refl, arith, to_z, of_z}
-use Rattle.std.specs.Prelude.{ℤ, pos, slice_index_or}
-use Rattle.std.specs.Int.{w64}
-use Rattle.std.proofs.lemmas.Int.{ints}
-use Rattle.tsp_theory.specs.Bounds.{IsMultiplier}
+use Rattle.tsp_bound.proofs.Prelude.{◌≡◌, ℕ, refl, arith, to_z, of_z, ℤ, pos, slice_index_or, w64, ints, IsMultiplier}
 use Rattle.tsp_bound.proofs.LoweredWeights.{table_pushed}
 use Rattle.tsp_bound.proofs.by_node.lists_of.Goals as goal
 

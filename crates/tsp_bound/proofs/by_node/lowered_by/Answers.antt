@@ -1,10 +1,6 @@
 -- The goals of `lowered_by` in src/by_node.rt, which finds the multiplier of a pair in the list of a node: what it
 -- ensures.
-use Rattle.std.proofs.Common.{◌≡◌, ◌≢◌, ◌∙◌, ℕ, ap, sym, arith, w64, to_z, of_z}
-use Rattle.std.specs.Prelude.{ℤ, pos, slice_index_or}
-use Rattle.std.proofs.lemmas.Int.{ints}
-use Rattle.std.proofs.lemmas.List.{get_or_default}
-use Rattle.std.proofs.lemmas.List.Elements.{recursion_from_All}
+use Rattle.tsp_bound.proofs.Prelude.{◌≡◌, ◌≢◌, ◌∙◌, ℕ, ap, sym, arith, w64, to_z, of_z, ℤ, pos, slice_index_or, ints, get_or_default, recursion_from_All}
 use Rattle.tsp_bound.proofs.LoweredWeights.{one_lowered, none_lowered}
 use Rattle.tsp_bound.proofs.by_node.lowered_by.Goals as goal
 

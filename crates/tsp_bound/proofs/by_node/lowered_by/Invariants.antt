@@ -1,6 +1,5 @@
 -- The loop of `lowered_by` in src/by_node.rt, which finds the multiplier of a pair in the list of a node.
-use Rattle.std.proofs.Common.{◌≢◌, ◌<◌, ℕ, get_or}
-use Rattle.std.specs.Prelude.{ℤ}
+use Rattle.tsp_bound.proofs.Prelude.{◌≢◌, ◌<◌, ℕ, get_or, ℤ}
 use Rattle.tsp_bound.proofs.by_node.lowered_by.Given as goal
 
 -- none of the entries before this one is for the node

@@ -1,9 +1,7 @@
 -- The goals of `put` in src/lists.rt, which puts a link into the list of its place: what it ensures.
-use Rattle.std.proofs.Common.{◌≡◌, ◌-◌, ◌+◌, ◌*◌, ◌<◌, ◌≤ℤ◌, ◌∙◌, ℤ, ℕ, List, refl, length, get_or, arith, rules, ap, sym, subst, set, pos, w64, to_z, of_z, SFits}
-use Rattle.std.proofs.lemmas.List.{get_or_default}
+use Rattle.tsp_bound.proofs.Prelude.{◌≡◌, ◌-◌, ◌+◌, ◌*◌, ◌<◌, ◌≤ℤ◌, ◌∙◌, ℤ, ℕ, List, refl, length, get_or, arith, rules, ap, sym, subst, set, pos, w64, to_z, of_z, SFits, get_or_default, least_at}
 use Rattle.tsp_bound.specs.declared.search.Link.{Link}
 use Rattle.tsp_bound.specs.states.Components.{kept_at, empty_link}
-use Rattle.tsp_theory.specs.states.Nearest.{least_at}
 use Rattle.tsp_bound.proofs.Listing.{bound_seen}
 use Rattle.tsp_bound.proofs.lists.put.Goals as goal
 

@@ -1,11 +1,9 @@
 -- The goals of `take_row` in src/lists.rt, which offers the links of one row of a block to the lists: its loop and what
 -- it ensures.
-use Rattle.std.proofs.Common.{◌≡◌, ◌+◌, ◌-◌, ◌*◌, ◌<◌, ◌≤◌, ◌∙◌, ℕ, ℤ, List, length, slice_index, refl, arith, rules, ap, sym, subst, w64, to_z, of_z, SFits}
-use Rattle.std.proofs.lemmas.Int.{to_z-of_z}
+use Rattle.tsp_bound.proofs.Prelude.{◌≡◌, ◌+◌, ◌-◌, ◌*◌, ◌<◌, ◌≤◌, ◌∙◌, ℕ, ℤ, List, length, slice_index, refl, arith, rules, ap, sym, subst, w64, to_z, of_z, SFits, to_z-of_z, least_at}
 use Rattle.tsp_bound.specs.declared.search.Link.{Link}
 use Rattle.tsp_bound.specs.states.Boxes.{node_of}
 use Rattle.tsp_bound.specs.states.Components.{weight_over}
-use Rattle.tsp_theory.specs.states.Nearest.{least_at}
 use Rattle.tsp_bound.proofs.Listing.{listed_more, row_ended, node_in_part}
 use Rattle.tsp_bound.proofs.lists.take_row.Goals as goal
 

@@ -1,9 +1,6 @@
 -- The goals of `scaled_cost` in src/potentials.rt, which counts the cost between two nodes in 1 / scale: what it
 -- ensures.
-use Rattle.std.proofs.Common.{ap₂, ◌∙◌, rules, w64, SFits}
-use Rattle.std.specs.Prelude.{◌*ℤ◌}
-use Rattle.std.proofs.lemmas.Int.{to_z-of_z}
-use Rattle.tsp_theory.proofs.Sums.{same_scale}
+use Rattle.tsp_bound.proofs.Prelude.{ap₂, ◌∙◌, rules, w64, SFits, ◌*ℤ◌, to_z-of_z, same_scale}
 use Rattle.tsp_bound.proofs.potentials.scaled_cost.Goals as goal
 
 -- plan: the scale in 64 bits is the whole one (`same_scale`)

@@ -1,9 +1,6 @@
 -- The goals of `total` in src/potentials.rt, which sums the potentials of a certificate: its loop.
-use Rattle.std.proofs.Common.{◌≡◌, ◌+◌, ◌≤◌, ℕ, List, drop, ap, sym, ◌∙◌, arith, to_z, add-one, drop-cons}
-use Rattle.std.specs.Prelude.{ℤ, pos, ◌+ℤ◌, slice_index_or}
-use Rattle.std.specs.Int.{w128}
+use Rattle.tsp_bound.proofs.Prelude.{◌≡◌, ◌+◌, ◌≤◌, ℕ, List, drop, ap, sym, ◌∙◌, arith, to_z, add-one, drop-cons, ℤ, pos, ◌+ℤ◌, slice_index_or, w128, total}
 use Rattle.std.proofs.Math.IntN.{+ℤ_assoc}
-use Rattle.tsp_theory.specs.Bounds.{total}
 use Rattle.tsp_theory.proofs.Sums.{sum_more, sum_computed}
 use Rattle.tsp_bound.proofs.potentials.total.Goals as goal
 

@@ -1,9 +1,5 @@
 -- The loop of `total` in src/potentials.rt, which sums the potentials of a certificate.
-use Rattle.std.proofs.Common.{◌≡◌, ◌*◌, drop}
-use Rattle.std.specs.Prelude.{pos, neg_ℤ, ◌+ℤ◌}
-use Rattle.tsp_format.specs.Limits.{most_potential}
-use Rattle.tsp_format.specs.Steps.{IsFromTo}
-use Rattle.tsp_theory.specs.Bounds.{total}
+use Rattle.tsp_bound.proofs.Prelude.{◌≡◌, ◌*◌, drop, pos, neg_ℤ, ◌+ℤ◌, most_potential, IsFromTo, total}
 use Rattle.tsp_bound.proofs.potentials.total.Given as goal
 
 -- the sum so far plus the numbers left is the whole sum; it is no larger than as many potentials can sum to

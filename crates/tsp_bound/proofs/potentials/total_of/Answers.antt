@@ -1,14 +1,7 @@
 -- The goals of `total_of` in src/potentials.rt, which sums the multipliers of a certificate: that no sum overflows and
 -- its loop.
-use Rattle.std.proofs.Common.{◌≡◌, ◌+◌, ◌*◌, ◌^◌, ◌≤◌, ℕ, List, drop, ap, sym, ◌∙◌, arith, to_z, of_z, FitsSigned, add-one, drop-cons}
-use Rattle.std.specs.Prelude.{ℤ, pos, neg_ℤ, ◌+ℤ◌, slice_index_or}
-use Rattle.std.specs.Int.{w64, w128}
+use Rattle.tsp_bound.proofs.Prelude.{◌≡◌, ◌+◌, ◌*◌, ◌^◌, ◌≤◌, ℕ, List, drop, ap, sym, ◌∙◌, arith, to_z, of_z, FitsSigned, add-one, drop-cons, ℤ, pos, neg_ℤ, ◌+ℤ◌, slice_index_or, w64, w128, ints, to_z-of_z, fits_signed_from_abs, most_triples, most_multiplier, IsFromTo, triples_total, size_of}
 use Rattle.std.proofs.Math.IntN.{+ℤ_assoc}
-use Rattle.std.proofs.lemmas.Int.{ints, to_z-of_z, fits_signed_from_abs}
-use Rattle.tsp_format.specs.Limits.{most_triples, most_multiplier}
-use Rattle.tsp_format.specs.Steps.{IsFromTo}
-use Rattle.tsp_theory.specs.Bounds.{triples_total}
-use Rattle.tsp_theory.proofs.Sums.{size_of}
 use Rattle.tsp_bound.proofs.potentials.total_of.Goals as goal
 
 sum_more : (sum number : ℤ) (index : ℕ) → IsFromTo (pos 0) (pos (index * most_multiplier)) sum → IsFromTo (pos 0) (pos most_multiplier) number

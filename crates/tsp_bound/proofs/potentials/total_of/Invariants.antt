@@ -1,9 +1,5 @@
 -- The loop of `total_of` in src/potentials.rt, which sums the multipliers of a certificate.
-use Rattle.std.proofs.Common.{◌≡◌, ◌*◌, drop}
-use Rattle.std.specs.Prelude.{pos, ◌+ℤ◌}
-use Rattle.tsp_format.specs.Limits.{most_multiplier}
-use Rattle.tsp_format.specs.Steps.{IsFromTo}
-use Rattle.tsp_theory.specs.Bounds.{triples_total}
+use Rattle.tsp_bound.proofs.Prelude.{◌≡◌, ◌*◌, drop, pos, ◌+ℤ◌, most_multiplier, IsFromTo, triples_total}
 use Rattle.tsp_bound.proofs.potentials.total_of.Given as goal
 
 -- the sum so far plus the numbers of the triples left is the whole sum; it is no larger than as many multipliers can

@@ -1,6 +1,5 @@
 -- The loop of `first_links` in src/rounds.rt, which finds the least link of each node.
-use Rattle.std.proofs.Common.{◌≡◌, ◌<◌, ℕ, length}
-use Rattle.std.specs.Prelude.{slice_index_or}
+use Rattle.tsp_bound.proofs.Prelude.{◌≡◌, ◌<◌, ℕ, length, slice_index_or}
 use Rattle.tsp_bound.specs.declared.search.Link.{Link}
 use Rattle.tsp_bound.specs.states.Components.{IsKeptLink}
 use Rattle.tsp_bound.proofs.rounds.first_links.Given as goal

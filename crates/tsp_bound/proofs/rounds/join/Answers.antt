@@ -1,8 +1,5 @@
 -- The goals of `join` in src/rounds.rt, which joins the components of a round by their best links: its loop.
-use Rattle.std.proofs.Common.{◌≡◌, ◌<◌, ◌++◌, ◌∷◌, [], ℕ, Option, IfSome, true, false, inl, inr, arith, ap, sym, ◌∙◌, subst, set, length}
-use Rattle.std.proofs.Math.ListN.{length-set}
-use Rattle.std.proofs.lemmas.List.{get_or_read, get_or-set_same, get_or-set_other}
-use Rattle.std.proofs.lemmas.Bool.{cases_eq}
+use Rattle.tsp_bound.proofs.Prelude.{◌≡◌, ◌<◌, ◌++◌, ◌∷◌, [], ℕ, Option, IfSome, true, false, inl, inr, arith, ap, sym, ◌∙◌, subst, set, length, length-set, get_or_read, get_or-set_same, get_or-set_other, cases_eq}
 use Rattle.tsp_bound.specs.declared.search.Link.{Link}
 use Rattle.tsp_bound.specs.states.Boxes.{box_at}
 use Rattle.tsp_bound.specs.states.Components.{label_at, IsLeastOf}

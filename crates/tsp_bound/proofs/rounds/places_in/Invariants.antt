@@ -1,6 +1,5 @@
 -- The loop of `places_in` in src/rounds.rt, which finds the place of each node in an order.
-use Rattle.std.proofs.Common.{◌≡◌, ◌≤◌, ◌<◌, ◌+◌, ℕ, length, slice_index_or}
-use Rattle.tsp_theory.specs.Tree.{IsInner}
+use Rattle.tsp_bound.proofs.Prelude.{◌≡◌, ◌≤◌, ◌<◌, ◌+◌, ℕ, length, slice_index_or, IsInner}
 use Rattle.tsp_bound.proofs.rounds.places_in.Given as goal
 
 -- each node of the order before this place is one of 2 to the last

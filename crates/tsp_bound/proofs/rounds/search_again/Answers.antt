@@ -1,7 +1,6 @@
 -- The goals of `search_again` in src/rounds.rt, which finds the best link of each component for the next round: its
 -- loop, what its calls require and what it ensures.
-use Rattle.std.proofs.Common.{◌≡◌, ◌≢◌, ◌<◌, ◌+◌, ◌∙◌, ℕ, pos, length, Option, None, Some, IfSome, set, arith, sym, subst}
-use Rattle.std.proofs.lemmas.List.{get_or_read}
+use Rattle.tsp_bound.proofs.Prelude.{◌≡◌, ◌≢◌, ◌<◌, ◌+◌, ◌∙◌, ℕ, pos, length, Option, None, Some, IfSome, set, arith, sym, subst, get_or_read}
 use Rattle.tsp_bound.specs.declared.search.Link.{Link}
 use Rattle.tsp_bound.specs.states.Components.{AreLeaving, IsLeaving, IsOffered, link_of}
 use Rattle.tsp_bound.proofs.RoundJoins.{IsReached, AreReached, leaving_kept, reached_set, kept_set, leaving_offered, reached_more, reached_again, reached_all, end_in}

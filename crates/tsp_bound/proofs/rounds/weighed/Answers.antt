@@ -1,13 +1,8 @@
 -- The goals of `weighed` in src/rounds.rt, which sums the weights of the pairs of a tree: that no sum overflows, that
 -- indices are in range, its loop and what its calls require.
-use Rattle.std.proofs.Common.{◌≡◌, ◌≤◌, ◌+◌, ◌++◌, ◌∷◌, [], ℕ, List, length, get_or, length-append, arith, rules, ap, sym, ◌∙◌, to_z, FitsSigned}
-use Rattle.std.specs.Prelude.{ℤ, ◌+ℤ◌}
-use Rattle.std.specs.Int.{w64, w128}
-use Rattle.tsp_format.specs.Limits.{most_nodes}
+use Rattle.tsp_bound.proofs.Prelude.{◌≡◌, ◌≤◌, ◌+◌, ◌++◌, ◌∷◌, [], ℕ, List, length, get_or, length-append, arith, rules, ap, sym, ◌∙◌, to_z, FitsSigned, ℤ, ◌+ℤ◌, w64, w128, most_nodes, weight_of, sum_more, sum_fits, sum_computed, weight_added}
 use Rattle.tsp_bound.specs.states.Boxes.{node_of, on_both}
-use Rattle.tsp_theory.specs.Tree.{weight_of}
 use Rattle.tsp_bound.proofs.RoundJoins.{map_more}
-use Rattle.tsp_theory.proofs.Cycles.{sum_more, sum_fits, sum_computed, weight_added}
 use Rattle.tsp_bound.proofs.rounds.weighed.Goals as goal
 
 -- plan: one pair more (`weight_added`), whose weight fits 128 bits (`sum_fits`)

@@ -1,8 +1,6 @@
 -- The loop of `weighed` in src/rounds.rt, which sums the weights of the pairs of a tree.
-use Rattle.std.proofs.Common.{◌≡◌, length, map, take}
+use Rattle.tsp_bound.proofs.Prelude.{◌≡◌, length, map, take, IsSumSized, weight_of}
 use Rattle.tsp_bound.specs.states.Boxes.{node_of, on_both}
-use Rattle.tsp_theory.specs.Bounds.{IsSumSized}
-use Rattle.tsp_theory.specs.Tree.{weight_of}
 use Rattle.tsp_bound.proofs.rounds.weighed.Given as goal
 
 -- the pairs so far are listed by their nodes, and `weight` is the sum of their weights

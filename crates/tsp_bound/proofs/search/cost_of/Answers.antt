@@ -1,6 +1,5 @@
 -- The goals of `cost_of` in src/search.rt, which turns a weight into a cost that is enough for it: what it ensures.
-use Rattle.std.proofs.Common.{◌<◌, ◌^◌, ◌≤ℤ◌, pos, ap, arith, rules, w64, of_z, SFits}
-use Rattle.std.proofs.lemmas.Int.{ints}
+use Rattle.tsp_bound.proofs.Prelude.{◌<◌, ◌^◌, ◌≤ℤ◌, pos, ap, arith, rules, w64, of_z, SFits, ints}
 use Rattle.tsp_bound.proofs.Searches.{cost_enough}
 use Rattle.tsp_bound.proofs.search.cost_of.Goals as goal
 

@@ -1,6 +1,5 @@
 -- The goals of `nearest_from` in src/search.rt, which finds the nearest place of another component by boxes: its loop.
-use Rattle.std.proofs.Common.{ℕ, ◌≡◌, ◌≢◌, ◌/◌, Option, arith, rules, w64, SFits}
-use Rattle.tsp_format.specs.Nodes.{IsNode}
+use Rattle.tsp_bound.proofs.Prelude.{ℕ, ◌≡◌, ◌≢◌, ◌/◌, Option, arith, rules, w64, SFits, IsNode}
 use Rattle.tsp_bound.specs.declared.area.Area.{Area}
 use Rattle.tsp_bound.specs.states.Boxes.{HoldsNode, IsSearched, no_best}
 use Rattle.tsp_bound.proofs.Searches.{searched_alone, searched_both}

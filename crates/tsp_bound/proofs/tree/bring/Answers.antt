@@ -1,11 +1,6 @@
 -- The goals of `bring` in src/tree.rt, which updates the nodes outside by the node that came inside, and finds the
 -- nearest: its loop.
-use Rattle.std.proofs.Common.{◌≡◌, ◌<◌, ℕ, ℤ, List, length, slice_index, subst, ◌∙◌, arith, rules, FitsSigned, to_z, of_z}
-use Rattle.std.specs.Int.{w64}
-use Rattle.std.specs.Prelude.{◌≤ℤ◌, ◌<ℤ◌}
-use Rattle.std.proofs.lemmas.Int.{ints, to_z-of_z}
-use Rattle.tsp_theory.specs.states.Nearest.{least_at, IsNearer}
-use Rattle.tsp_theory.proofs.Sums.{most_64}
+use Rattle.tsp_bound.proofs.Prelude.{◌≡◌, ◌<◌, ℕ, ℤ, List, length, slice_index, subst, ◌∙◌, arith, rules, FitsSigned, to_z, of_z, w64, ◌≤ℤ◌, ◌<ℤ◌, ints, to_z-of_z, least_at, IsNearer, most_64}
 use Rattle.tsp_bound.proofs.GrowingTrees.{passed_more, nearer_small, found_lower, found_higher}
 use Rattle.tsp_bound.proofs.tree.bring.Goals as goal
 use Rattle.tsp_bound.proofs.tree.bring.Goals.{then-own-best, else-own-best}

@@ -1,15 +1,6 @@
 -- The goals of `grow` in src/tree.rt, which grows a tree over the nodes 2..n by least weights: its loop, and what its
 -- calls require.
-use Rattle.std.proofs.Common.{◌≡◌, ◌+◌, ◌-◌, ◌<◌, ◌≤◌, ℕ, ℤ, List, [], length, slice_index, replicate, MatchOption, ap, sym, subst, ◌∙◌, arith, rules, FitsSigned, to_z}
-use Rattle.std.specs.Int.{w64, w128}
-use Rattle.std.specs.Prelude.{pos, ◌<ℤ◌}
-use Rattle.std.proofs.lemmas.Int.{ints}
-use Rattle.std.proofs.lemmas.List.{get_or-replicate, get_or_default}
-use Rattle.tsp_format.specs.Limits.{most_nodes}
-use Rattle.tsp_theory.specs.states.Nearest.{least_at}
-use Rattle.tsp_theory.proofs.Sums.{most_64}
-use Rattle.tsp_theory.proofs.Trees.{written_back}
-use Rattle.tsp_theory.proofs.Cycles.{sum_more, sum_computed}
+use Rattle.tsp_bound.proofs.Prelude.{◌≡◌, ◌+◌, ◌-◌, ◌<◌, ◌≤◌, ℕ, ℤ, List, [], length, slice_index, replicate, MatchOption, ap, sym, subst, ◌∙◌, arith, rules, FitsSigned, to_z, w64, w128, pos, ◌<ℤ◌, ints, get_or-replicate, get_or_default, most_nodes, least_at, most_64, written_back, sum_more, sum_computed}
 use Rattle.tsp_bound.specs.states.Outside.{AreFromThree, AreBroughtNearer, AreInner, IsLeastPlace}
 use Rattle.tsp_bound.proofs.GrowingTrees.{removed_length, IsState, state_start, state_more, inner_left}
 use Rattle.tsp_bound.proofs.tree.grow.Goals as goal

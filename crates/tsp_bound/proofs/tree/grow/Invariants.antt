@@ -1,7 +1,5 @@
 -- The loop of `grow` in src/tree.rt.
-use Rattle.std.proofs.Common.{◌≡◌, ◌-◌, ◌*◌, ◌^◌, length, MatchOption}
-use Rattle.std.specs.Prelude.{pos, neg_ℤ}
-use Rattle.tsp_format.specs.Steps.{IsFromTo}
+use Rattle.tsp_bound.proofs.Prelude.{◌≡◌, ◌-◌, ◌*◌, ◌^◌, length, MatchOption, pos, neg_ℤ, IsFromTo}
 use Rattle.tsp_bound.specs.states.Outside.{IsLeastPlace}
 use Rattle.tsp_bound.proofs.GrowingTrees.{IsState}
 use Rattle.tsp_bound.proofs.tree.grow.Given as goal

@@ -1,11 +1,6 @@
 -- The goals of `least_weight` in src/tree.rt, which returns the weight of a least 1-tree: that no sum overflows and
 -- what it ensures.
-use Rattle.std.proofs.Common.{◌≡◌, ◌∙◌, ℕ, ℤ, List, ap₂, refl, sym, rules, FitsSigned}
-use Rattle.std.specs.Prelude.{◌+ℤ◌}
-use Rattle.std.specs.Int.{w64}
-use Rattle.tsp_theory.specs.Tree.{weight_of, tree_of}
-use Rattle.tsp_theory.proofs.Trees.{least_from_forest}
-use Rattle.tsp_theory.proofs.Cycles.{tree_fits, tree_size, tree_computed, weight_of_tree}
+use Rattle.tsp_bound.proofs.Prelude.{◌≡◌, ◌∙◌, ℕ, ℤ, List, ap₂, refl, sym, rules, FitsSigned, ◌+ℤ◌, w64, weight_of, tree_of, least_from_forest, tree_fits, tree_size, tree_computed, weight_of_tree}
 use Rattle.tsp_bound.proofs.tree.least_weight.Goals as goal
 
 pub overflow_add-result : goal.overflow_add-result

@@ -1,10 +1,6 @@
 -- The goals of `nearest_two` in src/tree.rt, which finds the two nodes of least weight in a row: its loop and what it
 -- ensures.
-use Rattle.std.proofs.Common.{◌-◌, ◌<◌, ◌≤◌, ℕ, length, arith, rules, FitsSigned}
-use Rattle.std.specs.Prelude.{ℤ, ◌≤ℤ◌, ◌<ℤ◌}
-use Rattle.std.specs.Int.{w64}
-use Rattle.tsp_theory.specs.states.Nearest.{least_at}
-use Rattle.tsp_theory.proofs.Trees.{two_first, three_first, nearer_first, nearer_second, nearer_none, nearest_of_all, less_of, not_less_of}
+use Rattle.tsp_bound.proofs.Prelude.{◌-◌, ◌<◌, ◌≤◌, ℕ, length, arith, rules, FitsSigned, ℤ, ◌≤ℤ◌, ◌<ℤ◌, w64, least_at, two_first, three_first, nearer_first, nearer_second, nearer_none, nearest_of_all, less_of, not_less_of}
 use Rattle.tsp_bound.proofs.tree.nearest_two.Goals as goal
 use Rattle.tsp_bound.proofs.tree.nearest_two.Goals.{then-three-two, else-three-two, then-next-first, else-next-first+then-next-second, else-next-first+else-next-second}
 

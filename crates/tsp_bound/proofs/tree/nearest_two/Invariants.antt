@@ -1,7 +1,5 @@
 -- The loop of `nearest_two` in src/tree.rt.
-use Rattle.std.proofs.Common.{◌-◌, length}
-use Rattle.tsp_theory.specs.states.Nearest.{least_at}
-use Rattle.tsp_theory.proofs.Trees.{AreNearestBefore}
+use Rattle.tsp_bound.proofs.Prelude.{◌-◌, length, least_at, AreNearestBefore}
 use Rattle.tsp_bound.proofs.tree.nearest_two.Given as goal
 
 -- `first` and `second` are the two nearest ones of the nodes from 2 to the one before this

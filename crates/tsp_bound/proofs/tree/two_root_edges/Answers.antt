@@ -1,10 +1,6 @@
 -- The goals of `two_root_edges` in src/tree.rt, which finds the two nodes nearest to node 1: what its calls require and
 -- what it ensures.
-use Rattle.std.proofs.Common.{◌≡◌, ◌∙◌, ◌-◌, ℕ, List, length, subst, arith}
-use Rattle.std.specs.Prelude.{ℤ}
-use Rattle.tsp_theory.specs.Tree.{AreNearest, IsInner}
-use Rattle.tsp_theory.specs.states.Nearest.{least_at}
-use Rattle.tsp_theory.proofs.Trees.{nearest_by_row}
+use Rattle.tsp_bound.proofs.Prelude.{◌≡◌, ◌∙◌, ◌-◌, ℕ, List, length, subst, arith, ℤ, AreNearest, IsInner, least_at, nearest_by_row}
 use Rattle.tsp_bound.proofs.tree.two_root_edges.Goals as goal
 
 pub nearest_two-requires-clause-some : goal.nearest_two-requires-clause-some

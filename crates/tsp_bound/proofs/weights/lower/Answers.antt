@@ -1,11 +1,5 @@
 -- The goals of `lower` in src/weights.rt, which takes multipliers off a row of weights: its loop and what it ensures.
-use Rattle.std.proofs.Common.{◌≡◌, ◌≤◌, ℕ, ℤ, List, length, refl, ap, subst, inl, arith, to_z, of_z}
-use Rattle.std.specs.Int.{w64}
-use Rattle.std.specs.Prelude.{pos, neg_ℤ, ◌-ℤ◌, slice_index_or, ◌==◌, if◌then◌else◌}
-use Rattle.std.proofs.lemmas.Int.{ints}
-use Rattle.std.proofs.lemmas.List.{drop_all}
-use Rattle.tsp_theory.specs.states.Nearest.{least_at, IsMoved}
-use Rattle.tsp_theory.proofs.Sums.{moved_on, node_moved}
+use Rattle.tsp_bound.proofs.Prelude.{◌≡◌, ◌≤◌, ℕ, ℤ, List, length, refl, ap, subst, inl, arith, to_z, of_z, w64, pos, neg_ℤ, ◌-ℤ◌, slice_index_or, ◌==◌, if◌then◌else◌, ints, drop_all, least_at, IsMoved, moved_on, node_moved}
 use Rattle.tsp_bound.specs.states.ByNode.{lowered_by}
 use Rattle.tsp_bound.proofs.LoweredWeights.{lowered_left}
 use Rattle.tsp_bound.proofs.weights.lower.Goals as goal

@@ -1,7 +1,5 @@
 -- The loop of `lower` in src/weights.rt, which takes multipliers off a row of weights.
-use Rattle.std.proofs.Common.{ℕ, ℤ, drop}
-use Rattle.std.specs.Prelude.{neg_ℤ}
-use Rattle.tsp_theory.specs.states.Nearest.{least_at, IsMoved}
+use Rattle.tsp_bound.proofs.Prelude.{ℕ, ℤ, drop, neg_ℤ, least_at, IsMoved}
 use Rattle.tsp_bound.specs.states.ByNode.{lowered_by}
 use Rattle.tsp_bound.proofs.weights.lower.Given as goal
 

@@ -1,9 +1,5 @@
 -- The loop of `weigh` in src/weights.rt, which writes the weights from a node to some others.
-use Rattle.std.proofs.Common.{◌≡◌, ◌<◌, ℕ, length, slice_index}
-use Rattle.std.specs.Prelude.{pos, neg_ℤ}
-use Rattle.tsp_theory.specs.Bounds.{most_between}
-use Rattle.tsp_format.specs.Steps.{IsFromTo}
-use Rattle.tsp_theory.specs.states.Nearest.{least_at}
+use Rattle.tsp_bound.proofs.Prelude.{◌≡◌, ◌<◌, ℕ, length, slice_index, pos, neg_ℤ, most_between, IsFromTo, least_at}
 use Rattle.tsp_bound.specs.states.Potentials.{weight_under}
 use Rattle.tsp_bound.proofs.weights.weigh.Given as goal
 

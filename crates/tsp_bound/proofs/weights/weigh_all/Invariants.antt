@@ -1,10 +1,5 @@
 -- The loop of `weigh_all` in src/weights.rt, which writes the weights from a node to all others.
-use Rattle.std.proofs.Common.{◌≡◌, ◌<◌, ℕ}
-use Rattle.std.specs.Prelude.{pos, neg_ℤ}
-use Rattle.tsp_format.specs.Nodes.{IsNode}
-use Rattle.tsp_theory.specs.Bounds.{most_between}
-use Rattle.tsp_format.specs.Steps.{IsFromTo}
-use Rattle.tsp_theory.specs.states.Nearest.{least_at}
+use Rattle.tsp_bound.proofs.Prelude.{◌≡◌, ◌<◌, ℕ, pos, neg_ℤ, IsNode, most_between, IsFromTo, least_at}
 use Rattle.tsp_bound.specs.states.Potentials.{weight_under}
 use Rattle.tsp_bound.proofs.weights.weigh_all.Given as goal
 

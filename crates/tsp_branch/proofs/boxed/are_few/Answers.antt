@@ -1,11 +1,6 @@
 -- The goals of `are_few` in src/boxed.rt, which tests whether multipliers are few enough for boxes: that no sum
 -- overflows and its loop.
-use Rattle.std.proofs.Common.{◌≡◌, ◌∙◌, ◌+◌, ℤ, List, drop, get_or, refl, ap, arith, to_z, of_z, drop-cons, add-one}
-use Rattle.std.specs.Int.{w64}
-use Rattle.std.specs.Prelude.{pos, ◌+ℤ◌}
-use Rattle.std.proofs.lemmas.Int.{ints}
-use Rattle.tsp_cases.specs.declared.sets.SetPlace.{SetPlace}
-use Rattle.tsp_cases.specs.states.Sets.{place_at}
+use Rattle.tsp_branch.proofs.Prelude.{◌≡◌, ◌∙◌, ◌+◌, ℤ, List, drop, get_or, refl, ap, arith, to_z, of_z, drop-cons, add-one, w64, pos, ◌+ℤ◌, ints, SetPlace, place_at}
 use Rattle.tsp_branch.specs.states.LeafRows.{sum_at_places}
 use Rattle.tsp_branch.proofs.boxed.are_few.Goals as goal
 

@@ -1,7 +1,5 @@
 -- The loop of `are_few` in src/boxed.rt, which tests whether multipliers are few enough for boxes.
-use Rattle.std.proofs.Common.{◌≡◌, drop}
-use Rattle.std.specs.Prelude.{pos, ◌+ℤ◌}
-use Rattle.tsp_format.specs.Steps.{IsFromTo}
+use Rattle.tsp_branch.proofs.Prelude.{◌≡◌, drop, pos, ◌+ℤ◌, IsFromTo}
 use Rattle.tsp_branch.specs.states.LeafRows.{sum_at_places}
 use Rattle.tsp_branch.proofs.boxed.are_few.Given as goal
 

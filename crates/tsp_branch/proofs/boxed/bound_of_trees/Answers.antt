@@ -1,15 +1,6 @@
 -- The goals of `bound_of_trees` in src/boxed.rt, which bounds a leaf by least 1-trees, by kept rows or by boxes:
 -- the facts of the values that it makes, what its calls require and what it ensures.
-use Rattle.std.proofs.Common.{◌≡◌, ◌∙◌, ℕ, ℤ, Bool, List, refl, sym, subst, rules, FitsSigned, to_z, of_z}
-use Rattle.std.specs.Int.{w64, w128}
-use Rattle.std.proofs.lemmas.Int.{to_z-of_z}
-use Rattle.std.proofs.lemmas.Result.{IfOk-weaker}
-use Rattle.tsp_theory.proofs.Sums.{same_scale}
-use Rattle.tsp_cases.specs.declared.open_case.Decision.{Decision}
-use Rattle.tsp_cases.specs.Cases.{DecideOnce}
-use Rattle.tsp_cases.specs.states.Sets.{lent_in, set_weight}
-use Rattle.tsp_cases.specs.states.OpenCases.{decisions_in}
-use Rattle.tsp_cases.proofs.OpenCases.{few_changes}
+use Rattle.tsp_branch.proofs.Prelude.{◌≡◌, ◌∙◌, ℕ, ℤ, Bool, List, refl, sym, subst, rules, FitsSigned, to_z, of_z, w64, w128, to_z-of_z, IfOk-weaker, same_scale, Decision, DecideOnce, lent_in, set_weight, decisions_in, few_changes}
 use Rattle.tsp_branch.specs.BranchVerdicts.{BoundsEachLeaf}
 use Rattle.tsp_branch.specs.states.LeafRows.{decided_by}
 use Rattle.tsp_branch.proofs.BoxedLeaves.{decided_even}
@@ -32,7 +23,7 @@ leaf_bound-requires-clause-even g c =
     let s = leaf.context.now in
     let families = s.families.now in
     decided_even s.cases.now.scale families.crossed.items leaf.potentials.now leaf.multipliers.now (lent_in families) (decisions_in leaf.case.now)
-    (g.C.Costs.at s.costs.now) families.many (leaf.numbers.each_comb ∙ families.many) (s.even c.requires.undirected)
+    (g.C.Costs.at s.costs.now) families.many (leaf.numbers.each_family ∙ families.many) (s.even c.requires.undirected)
 
 pub leaf_bound-requires-2-clause-even : goal.leaf_bound-requires-2-clause-even
 leaf_bound-requires-2-clause-even g c =
@@ -43,7 +34,7 @@ leaf_bound-requires-2-clause-even g c =
     let w : ℕ → ℕ → ℤ = set_weight s.cases.now.scale leaf.potentials.now leaf.multipliers.now (lent_in families) (g.C.Costs.at s.costs.now) in
     subst (λ (d : Bool). (i j : ℕ) → decided_by d case w i j ≡ decided_by d case w j i) (sym c.requires.undirected)
     (decided_even s.cases.now.scale families.crossed.items leaf.potentials.now leaf.multipliers.now (lent_in families) case
-    (g.C.Costs.at s.costs.now) families.many (leaf.numbers.each_comb ∙ families.many) (s.even c.requires.undirected))
+    (g.C.Costs.at s.costs.now) families.many (leaf.numbers.each_family ∙ families.many) (s.even c.requires.undirected))
 
 pub returns-clause-leaf : goal.returns-clause-leaf
 returns-clause-leaf g c =

@@ -1,9 +1,6 @@
 -- The goals of `has_place` in src/boxed.rt, which tests whether a list has the place of a set: its loop and what it
 -- ensures.
-use Rattle.std.proofs.Common.{◌≤◌, ◌+◌, ◌||◌, List, length, drop, ap, sym, ◌∙◌, arith}
-use Rattle.std.proofs.lemmas.List.{drop_all}
-use Rattle.tsp_cases.specs.declared.sets.SetPlace.{SetPlace}
-use Rattle.tsp_cases.specs.states.Sets.{place_at}
+use Rattle.tsp_branch.proofs.Prelude.{◌≤◌, ◌+◌, ◌||◌, List, length, drop, ap, sym, ◌∙◌, arith, drop_all, SetPlace, place_at}
 use Rattle.tsp_branch.specs.states.LeafRows.{has_place}
 use Rattle.tsp_branch.proofs.BoxedLeaves.{has_left}
 use Rattle.tsp_branch.proofs.boxed.has_place.Goals as goal

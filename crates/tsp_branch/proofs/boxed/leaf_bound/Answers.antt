@@ -1,10 +1,5 @@
 -- The goals of `leaf_bound` in src/boxed.rt, which bounds a leaf by a least 1-tree: what it ensures.
-use Rattle.std.proofs.Common.{◌≡◌, sym, subst, rules, ℤ, FitsSigned, to_z, of_z}
-use Rattle.std.specs.Prelude.{◌+ℤ◌}
-use Rattle.std.specs.Int.{w128}
-use Rattle.std.proofs.lemmas.Int.{to_z-of_z}
-use Rattle.tsp_theory.specs.Bounds.{IsLeastBound}
-use Rattle.tsp_theory.proofs.Sums.{same_scale}
+use Rattle.tsp_branch.proofs.Prelude.{◌≡◌, sym, subst, rules, ℤ, FitsSigned, to_z, of_z, ◌+ℤ◌, w128, to_z-of_z, IsLeastBound, same_scale}
 use Rattle.tsp_branch.specs.BranchVerdicts.{IsBoundOfWeights}
 use Rattle.tsp_branch.proofs.BoxedLeaves.{bounds_each_leaf, sum_is}
 use Rattle.tsp_branch.proofs.boxed.leaf_bound.Goals as goal

@@ -1,12 +1,6 @@
 -- The goals of `shared_by` in src/boxed.rt, which sums the multipliers of the sets that have both nodes: its loop
 -- and what it ensures.
-use Rattle.std.proofs.Common.{◌≡◌, ◌≤◌, ◌+◌, ◌∙◌, ℤ, List, length, drop, get_or, ap, sym, arith, rules, to_z, of_z, FitsSigned}
-use Rattle.std.specs.Int.{w64, int_wrap}
-use Rattle.std.specs.Prelude.{pos, ◌+ℤ◌, ◌*ℤ◌, if◌then◌else◌}
-use Rattle.std.proofs.lemmas.Int.{ints, to_z-of_z, int_wrap-add_left}
-use Rattle.std.proofs.lemmas.List.{drop_all}
-use Rattle.tsp_cases.specs.declared.sets.SetPlace.{SetPlace}
-use Rattle.tsp_cases.specs.states.Sets.{place_at}
+use Rattle.tsp_branch.proofs.Prelude.{◌≡◌, ◌≤◌, ◌+◌, ◌∙◌, ℤ, List, length, drop, get_or, ap, sym, arith, rules, to_z, of_z, FitsSigned, w64, int_wrap, pos, ◌+ℤ◌, ◌*ℤ◌, if◌then◌else◌, ints, to_z-of_z, int_wrap-add_left, drop_all, SetPlace, place_at}
 use Rattle.tsp_branch.specs.states.LeafRows.{has_place, shared_by}
 use Rattle.tsp_branch.proofs.BoxedLeaves.{shared_left}
 use Rattle.tsp_branch.proofs.boxed.shared_by.Goals as goal

@@ -1,7 +1,5 @@
 -- The loop of `shared_by` in src/boxed.rt, which sums the multipliers of the sets that have both nodes.
-use Rattle.std.proofs.Common.{◌≡◌, drop}
-use Rattle.std.specs.Prelude.{◌+ℤ◌}
-use Rattle.std.specs.Int.{w64, int_wrap}
+use Rattle.tsp_branch.proofs.Prelude.{◌≡◌, drop, ◌+ℤ◌, w64, int_wrap}
 use Rattle.tsp_branch.specs.states.LeafRows.{shared_by}
 use Rattle.tsp_branch.proofs.boxed.shared_by.Given as goal
 

@@ -1,13 +1,6 @@
 -- The goals of `change_between` in src/case_leaf.rt, which sums what decisions add to a weight: its loop and what it
 -- ensures.
-use Rattle.std.proofs.Common.{◌≡◌, ◌≤◌, ◌+◌, ◌∙◌, ℤ, List, false, length, drop, ap, arith, rules, to_z, of_z, FitsSigned}
-use Rattle.std.specs.Int.{w64, int_wrap}
-use Rattle.std.specs.Prelude.{pos, ◌+ℤ◌}
-use Rattle.std.proofs.lemmas.Int.{ints, to_z-of_z, int_wrap-add_left}
-use Rattle.std.proofs.lemmas.List.{drop_all}
-use Rattle.tsp_cases.specs.declared.open_case.Decision.{Decision}
-use Rattle.tsp_cases.specs.states.OpenCases.{changes}
-use Rattle.tsp_cases.proofs.SetSums.{changes_left}
+use Rattle.tsp_branch.proofs.Prelude.{◌≡◌, ◌≤◌, ◌+◌, ◌∙◌, ℤ, List, false, length, drop, ap, arith, rules, to_z, of_z, FitsSigned, w64, int_wrap, pos, ◌+ℤ◌, ints, to_z-of_z, int_wrap-add_left, drop_all, Decision, changes, changes_left}
 use Rattle.tsp_branch.proofs.case_leaf.change_between.Goals as goal
 
 -- plan: one decision more of the node changes the pair or doesn't (`changes_left`)

@@ -1,8 +1,5 @@
 -- The loop of `change_between` in src/case_leaf.rt, which sums what decisions add to a weight.
-use Rattle.std.proofs.Common.{◌≡◌, drop}
-use Rattle.std.specs.Prelude.{◌+ℤ◌}
-use Rattle.std.specs.Int.{w64, int_wrap}
-use Rattle.tsp_cases.specs.states.OpenCases.{changes}
+use Rattle.tsp_branch.proofs.Prelude.{◌≡◌, drop, ◌+ℤ◌, w64, int_wrap, changes}
 use Rattle.tsp_branch.proofs.case_leaf.change_between.Given as goal
 
 -- the sum so far plus the numbers of the decisions left is the whole sum, in 64 bits

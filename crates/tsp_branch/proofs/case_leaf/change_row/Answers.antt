@@ -1,12 +1,6 @@
 -- The goals of `change_row` in src/case_leaf.rt, which changes a row of weights by decisions: its loop and what it
 -- ensures.
-use Rattle.std.proofs.Common.{◌≤◌, List, false, length, refl, ap, inl, arith}
-use Rattle.std.proofs.lemmas.List.{drop_all}
-use Rattle.tsp_theory.specs.states.Nearest.{least_at}
-use Rattle.tsp_cases.specs.declared.open_case.Decision.{Decision}
-use Rattle.tsp_cases.specs.states.OpenCases.{changes}
-use Rattle.tsp_cases.proofs.SetSums.{changes_left}
-use Rattle.tsp_theory.proofs.Sums.{moved_on}
+use Rattle.tsp_branch.proofs.Prelude.{◌≤◌, List, false, length, refl, ap, inl, arith, drop_all, least_at, Decision, changes, changes_left, moved_on}
 use Rattle.tsp_branch.proofs.case_leaf.change_row.Goals as goal
 
 -- plan: one decision more changes its own entry (`changes_left`), and no other (`moved_on`)

@@ -1,7 +1,5 @@
 -- The loop of `change_row` in src/case_leaf.rt, which changes a row of weights by decisions.
-use Rattle.std.proofs.Common.{ℕ, ℤ, drop}
-use Rattle.tsp_theory.specs.states.Nearest.{least_at, IsMoved}
-use Rattle.tsp_cases.specs.states.OpenCases.{changes}
+use Rattle.tsp_branch.proofs.Prelude.{ℕ, ℤ, drop, least_at, IsMoved, changes}
 use Rattle.tsp_branch.proofs.case_leaf.change_row.Given as goal
 
 -- changing the row now by the decisions left gives what all decisions give of the row at the call

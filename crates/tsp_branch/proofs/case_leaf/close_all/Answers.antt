@@ -1,10 +1,6 @@
 -- The goals of `close_all` in src/case_leaf.rt, which closes the links of a row that decisions don't allow: its loop
 -- and what it ensures.
-use Rattle.std.proofs.Common.{List, arith}
-use Rattle.std.specs.List.{All}
-use Rattle.tsp_theory.specs.states.Nearest.{least_at}
-use Rattle.tsp_cases.specs.declared.open_case.Decision.{Decision}
-use Rattle.tsp_cases.specs.CaseTrees.{Allows}
+use Rattle.tsp_branch.proofs.Prelude.{List, arith, All, least_at, Decision, Allows}
 use Rattle.tsp_branch.proofs.CaseLeaves.{shut_none, shut_more, shut_same}
 use Rattle.tsp_branch.proofs.case_leaf.close_all.Goals as goal
 

@@ -1,7 +1,5 @@
 -- The loop of `close_all` in src/case_leaf.rt, which closes the links of a row that decisions don't allow.
-use Rattle.std.proofs.Common.{◌<◌, ℕ, length}
-use Rattle.tsp_theory.specs.states.Nearest.{least_at}
-use Rattle.tsp_cases.specs.CaseTrees.{Allows}
+use Rattle.tsp_branch.proofs.Prelude.{◌<◌, ℕ, length, least_at, Allows}
 use Rattle.tsp_branch.specs.states.LeafRows.{IsShut}
 use Rattle.tsp_branch.proofs.CaseLeaves.{AllBelow}
 use Rattle.tsp_branch.proofs.case_leaf.close_all.Given as goal

@@ -1,7 +1,5 @@
 -- The loop of `least_in` in src/case_leaf.rt, which finds the least number of a row.
-use Rattle.std.proofs.Common.{◌≡◌, ◌≤◌, ◌<◌, ℕ}
-use Rattle.std.specs.Prelude.{◌⊎◌, ◌≤ℤ◌}
-use Rattle.tsp_theory.specs.states.Nearest.{least_at}
+use Rattle.tsp_branch.proofs.Prelude.{◌≡◌, ◌≤◌, ◌<◌, ℕ, ◌⊎◌, ◌≤ℤ◌, least_at}
 use Rattle.tsp_branch.specs.states.LeafRows.{no_link}
 use Rattle.tsp_branch.proofs.case_leaf.least_in.Given as goal
 

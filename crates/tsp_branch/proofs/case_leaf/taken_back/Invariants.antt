@@ -1,9 +1,5 @@
 -- The loop of `taken_back` in src/case_leaf.rt, which sums the numbers of the taken pairs.
-use Rattle.std.proofs.Common.{◌≡◌, ◌*◌, drop}
-use Rattle.std.specs.Prelude.{pos, ◌+ℤ◌}
-use Rattle.tsp_format.specs.Steps.{IsFromTo}
-use Rattle.tsp_theory.specs.Bounds.{most_number, triples_total}
-use Rattle.tsp_cases.specs.Cases.{on_taken, decided_number}
+use Rattle.tsp_branch.proofs.Prelude.{◌≡◌, ◌*◌, drop, pos, ◌+ℤ◌, IsFromTo, most_number, triples_total, on_taken, decided_number}
 use Rattle.tsp_branch.proofs.case_leaf.taken_back.Given as goal
 
 -- the sum so far plus the numbers of the taken pairs left is the whole sum; each pair adds at most 4 * 10^18

@@ -1,11 +1,7 @@
 -- The goals of `total` in src/case_leaf.rt, which sums the potentials of a leaf: its loop.
-use Rattle.std.proofs.Common.{◌≡◌, ◌+◌, ◌<◌, ◌^◌, ℕ, ℤ, List, drop, ap, sym, rules, FitsSigned, ◌∙◌, arith, to_z, get_or}
-use Rattle.std.specs.Prelude.{pos, ◌+ℤ◌}
-use Rattle.std.specs.Int.{w64, w128}
+use Rattle.tsp_branch.proofs.Prelude.{◌≡◌, ◌+◌, ◌<◌, ◌^◌, ℕ, ℤ, List, drop, ap, sym, rules, FitsSigned, ◌∙◌, arith, to_z, get_or, pos, ◌+ℤ◌, w64, w128, to_z-of_z, sum_more, total}
 use Rattle.std.proofs.Math.IntN.{+ℤ_assoc}
-use Rattle.std.proofs.lemmas.Int.{to_z-of_z}
-use Rattle.tsp_theory.specs.Bounds.{total}
-use Rattle.tsp_branch.proofs.CaseLeaves.{more_of_64, computed_of_64, total_left}
+use Rattle.tsp_branch.proofs.CaseLeaves.{computed_of_64, total_left}
 use Rattle.tsp_branch.proofs.case_leaf.total.Goals as goal
 
 -- plan: one number more (`total_left`), which fits 128 bits (`computed_of_64`)
@@ -22,6 +18,6 @@ numbers-preserved g c =
     let is = computed_of_64 sum number c.from-sum.result index few c.numbers.invariant.size fits (c.from-sum.ensures ∙ to_z-of_z w64 number fits) in
     let parts : total (drop index xs) ≡ number +ℤ total (drop (index + 1) xs) = total_left xs index (pos 0) c.numbers-test.true in
     record {
-      size = rw is (more_of_64 sum number index c.numbers.invariant.size fits);
+      size = rw is (sum_more sum number index c.numbers.invariant.size fits);
       so_far = rw is (+ℤ_assoc sum number (total (drop (index + 1) xs)) ∙ ap (λ z. sum +ℤ z) (sym parts) ∙ c.numbers.invariant.so_far);
     }

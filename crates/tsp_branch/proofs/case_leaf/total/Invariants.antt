@@ -1,8 +1,5 @@
 -- The loop of `total` in src/case_leaf.rt, which sums the potentials of a leaf.
-use Rattle.std.proofs.Common.{◌≡◌, ◌*◌, ◌^◌, drop}
-use Rattle.std.specs.Prelude.{pos, neg_ℤ, ◌+ℤ◌}
-use Rattle.tsp_format.specs.Steps.{IsFromTo}
-use Rattle.tsp_theory.specs.Bounds.{total}
+use Rattle.tsp_branch.proofs.Prelude.{◌≡◌, ◌*◌, ◌^◌, drop, pos, neg_ℤ, ◌+ℤ◌, IsFromTo, total}
 use Rattle.tsp_branch.proofs.case_leaf.total.Given as goal
 
 -- the sum so far plus the potentials left is the whole sum, with at most 2^63 for each number so far

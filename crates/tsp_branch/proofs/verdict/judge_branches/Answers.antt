@@ -1,15 +1,11 @@
 -- The goals of `judge_branches` in src/verdict.rt, which judges a certificate by branching: what its calls require and
 -- what it ensures.
-use Rattle.std.proofs.Common.{◌∙◌, ℕ, List, sym, subst}
-use Rattle.std.specs.List.{All}
+use Rattle.tsp_branch.proofs.Prelude.{◌∙◌, ℕ, List, sym, subst, All, steps_of, IsFamily, families_with, good_in}
 use Rattle.std.specs.Global.{Vec}
-use Rattle.tsp_format.specs.states.TreeSteps.{steps_of}
 use Rattle.tsp_cases.specs.Crossings.{families_in}
-use Rattle.tsp_cases.specs.Families.{IsFamily, families_with}
 use Rattle.tsp_cases.specs.JudgedSets.{AreFamiliesJudged}
 use Rattle.tsp_branch.specs.BranchVerdicts.{AreJudgedLeaves, BoundsCycles}
 use Rattle.tsp_cases.specs.JudgedTrees.{AreCasesJudged}
-use Rattle.tsp_cases.specs.states.Sets.{good_in}
 use Rattle.tsp_cases.specs.declared.judged.JudgedLeaves.TheVariants as judged
 use Rattle.tsp_branch.proofs.Judging.{judged_of, cycles_of_cases}
 use Rattle.tsp_branch.proofs.verdict.judge_branches.Goals as goal

@@ -1,9 +1,6 @@
 -- The goals of `judge_context` in src/verdict.rt, which returns the least bound of the leaves, or the first leaf that
 -- isn't good: what it ensures.
-use Rattle.std.proofs.Common.{ℕ}
-use Rattle.std.proofs.lemmas.Result.{IfOk-weaker}
-use Rattle.tsp_format.specs.states.TreeSteps.{steps_of}
-use Rattle.tsp_cases.specs.states.Sets.{good_in}
+use Rattle.tsp_branch.proofs.Prelude.{ℕ, IfOk-weaker, steps_of, good_in}
 use Rattle.tsp_branch.proofs.Judging.{certificate_judged}
 use Rattle.tsp_branch.proofs.verdict.judge_context.Goals as goal
 

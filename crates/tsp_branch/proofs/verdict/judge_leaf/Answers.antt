@@ -1,19 +1,6 @@
 -- The goals of `judge_leaf` in src/verdict.rt, which bounds the leaf with these numbers, if they are good: the
 -- facts of the values that it makes, what its calls require and what it ensures.
-use Rattle.std.proofs.Common.{◌≡◌, ◌∙◌, ℕ, ℤ, List, length, take, drop, Option, refl, ap, sym, subst, arith}
-use Rattle.std.specs.Prelude.{neg_ℤ, ◌+ℤ◌}
-use Rattle.std.specs.Int.{w64, int_wrap}
-use Rattle.std.specs.List.{All}
-use Rattle.tsp_theory.specs.Bounds.{entry}
-use Rattle.tsp_theory.specs.states.Nearest.{least_at}
-use Rattle.tsp_cases.specs.Families.{IsFamily}
-use Rattle.tsp_cases.specs.states.Sets.{lent_in, good_in, AreSmallMultipliers, multipliers_at}
-use Rattle.tsp_cases.specs.states.Kept.{kept_weight, AreRowsIfAny, AreEnds, HoldsRows}
-use Rattle.tsp_cases.specs.Cases.{LeafNumbers, decided_number}
-use Rattle.tsp_cases.specs.CaseTrees.{IsFoundAt}
-use Rattle.tsp_cases.specs.declared.open_case.Decision.{Decision}
-use Rattle.tsp_cases.specs.states.OpenCases.{marks_in, decisions_in}
-use Rattle.tsp_cases.proofs.SetSums.{small_multipliers, few_crossings}
+use Rattle.tsp_branch.proofs.Prelude.{◌≡◌, ◌∙◌, ℕ, ℤ, List, length, take, drop, Option, refl, ap, sym, subst, arith, neg_ℤ, ◌+ℤ◌, w64, int_wrap, All, entry, least_at, IsFamily, lent_in, good_in, AreSmallMultipliers, multipliers_at, kept_weight, AreRowsIfAny, AreEnds, HoldsRows, LeafNumbers, decided_number, IsFoundAt, Decision, marks_in, decisions_in, small_multipliers, few_crossings}
 use Rattle.tsp_cases.proofs.RowsKept.{moved_from_ends}
 use Rattle.tsp_cases.proofs.Passes.{written}
 use Rattle.tsp_branch.proofs.Judging.{good_read, found_of_case, numbers_are}
@@ -25,7 +12,7 @@ invariant_of-multipliers g c =
     let is = c.deref.ensures.value ∙ written c.args.room.now.multipliers.len c.judge_numbers.new.multipliers _ (c.judge_numbers.ensures.multipliers_len ∙ c.deref_mut-2.ensures.len)
     ∙ c.if-not-judge_numbers.ensures.multipliers refl in
     let good = c.if-not-judge_numbers.ensures.good.0 refl in
-    let long = ap length is ∙ good.each_comb in
+    let long = ap length is ∙ good.each_family in
     record {
       as_many = omega (arith, long, s.families.now.as_many);
       small = subst AreSmallMultipliers (sym is) (small_multipliers _ s.families.now.crossed.items _ _ s.families.now.some
@@ -80,10 +67,10 @@ invariant_of-leaf g c =
     let at = ap length c.deref_mut.ensures.value ∙ c.requires.room.potentials in
     let of_nodes = c.deref-4.ensures.value ∙ written room.potentials.len c.judge_numbers.new.potentials _ (c.judge_numbers.ensures.potentials_len ∙ c.deref_mut.ensures.len)
     ∙ c.if-not-judge_numbers.ensures.potentials refl in
-    let of_combs = c.deref-5.ensures.value ∙ written room.multipliers.len c.judge_numbers.new.multipliers _ (c.judge_numbers.ensures.multipliers_len ∙ c.deref_mut-2.ensures.len)
+    let of_families = c.deref-5.ensures.value ∙ written room.multipliers.len c.judge_numbers.new.multipliers _ (c.judge_numbers.ensures.multipliers_len ∙ c.deref_mut-2.ensures.len)
     ∙ c.if-not-judge_numbers.ensures.multipliers refl in
     let crossed = s.families.now.crossed.items in
-    let numbers = numbers_are n _ crossed read c.deref-4.result.now c.deref-5.result.now at of_nodes of_combs (c.if-not-judge_numbers.ensures.good.0 refl) in
+    let numbers = numbers_are n _ crossed read c.deref-4.result.now c.deref-5.result.now at of_nodes of_families (c.if-not-judge_numbers.ensures.good.0 refl) in
     record {
       is_case = c.requires.case;
       direction = c.requires.direction;
@@ -126,10 +113,10 @@ returns-clause-judged g c =
     let good = good_read n _ s.families.now.crossed.items read read at refl (c.if-not-judge_numbers.ensures.good.0 refl) in
     let of_nodes = c.deref-4.ensures.value ∙ written room.potentials.len c.judge_numbers.new.potentials _ (c.judge_numbers.ensures.potentials_len ∙ c.deref_mut.ensures.len)
     ∙ c.if-not-judge_numbers.ensures.potentials refl in
-    let of_combs = c.deref-5.ensures.value ∙ written room.multipliers.len c.judge_numbers.new.multipliers _ (c.judge_numbers.ensures.multipliers_len ∙ c.deref_mut-2.ensures.len)
+    let of_families = c.deref-5.ensures.value ∙ written room.multipliers.len c.judge_numbers.new.multipliers _ (c.judge_numbers.ensures.multipliers_len ∙ c.deref_mut-2.ensures.len)
     ∙ c.if-not-judge_numbers.ensures.multipliers refl in
     let found : List Decision × LeafNumbers → Option ℤ → Type 0 = IsFoundAt s.cases.now.directed n (g.C.Costs.at s.costs.now) s.cases.now.scale decided_number
     (good_in s.families.now) in
     found_of_case found n s.families.now.crossed.items (decisions_in c.args.case.now) read c.deref-4.result.now c.deref-5.result.now c.in_ok-bound.bound
-    s.families.now.some good (of_nodes ∙ ap (λ (k : ℕ). take k read) at) (of_combs ∙ ap (λ (k : ℕ). drop k read) at)
+    s.families.now.some good (of_nodes ∙ ap (λ (k : ℕ). take k read) at) (of_families ∙ ap (λ (k : ℕ). drop k read) at)
     c.in_ok-bound.ensures.bound

@@ -1,10 +1,8 @@
 -- The goals of `distance_of` in src/distance_call.rt, which returns the distance of two points by its number, or -1:
 -- what it ensures.
-use Rattle.std.proofs.Common.{◌≡◌, ◌∙◌, ap, inl, rules, FitsSigned, w64}
-use Rattle.std.proofs.lemmas.Int.{to_z-of_z}
+use Rattle.tsp_c.proofs.Prelude.{◌≡◌, ◌∙◌, ap, inl, rules, FitsSigned, w64, to_z-of_z, distance}
 use Rattle.tsp_number.specs.declared.decimal.Point.{Point}
 use Rattle.tsp_number.specs.Distances.{IsInSpace}
-use Rattle.tsp_file.specs.Cost.{distance}
 use Rattle.tsp_c.specs.NumberCalls.{nth, distance_kinds}
 use Rattle.tsp_c.proofs.HandleCalls.{kind_found}
 use Rattle.tsp_c.proofs.distance_call.distance_of.Goals as goal

@@ -1,6 +1,5 @@
 -- The goals of `ended` in src/ended.rt, which turns the end of a run into a status and a text: what it ensures.
-use Rattle.std.proofs.Common.{refl}
-use Rattle.tsp_io.specs.states.Watched.{watched}
+use Rattle.tsp_c.proofs.Prelude.{refl, watched}
 use Rattle.tsp_c.proofs.PickedRuns.{printed_ends, unprinted_ends}
 use Rattle.tsp_c.proofs.ended.ended.Goals as goal
 

@@ -1,9 +1,6 @@
 -- The goals of `no_numbers_without_memory` in src/examples.rt: what it ensures.
-use Rattle.std.proofs.Common.{◌≡◌, refl, arith}
+use Rattle.tsp_c.proofs.Prelude.{◌≡◌, refl, arith, RunFault, File, WrongKind, Write, OutOfMemory, Relayout, status_of_fault}
 use Rattle.tsp_text.specs.declared.fault.ReadFault.TheVariants as read_faults
-use Rattle.tsp_judge.specs.declared.run_status.RunFault.{RunFault}
-use Rattle.tsp_judge.specs.declared.run_status.RunFault.TheVariants.{File, WrongKind, Write, OutOfMemory, Relayout}
-use Rattle.tsp_judge.specs.CheckRun.{status_of_fault}
 use Rattle.tsp_c.specs.CallResult.{blank_result, result_of_fault}
 use Rattle.tsp_c.proofs.examples.no_numbers_without_memory.Goals as goal
 

@@ -1,9 +1,6 @@
 -- The goals of `bind_text` in src/handle_calls.rt, which binds the certificate of a text to a handle's instance: what
 -- it ensures.
-use Rattle.std.proofs.Common.{◌≡◌, subst, rules}
-use Rattle.std.specs.Prelude.{Option, Some}
-use Rattle.tsp_report.specs.declared.task.CertificateKind.{CertificateKind}
-use Rattle.tsp_judge.specs.Open.{Open}
+use Rattle.tsp_c.proofs.Prelude.{◌≡◌, subst, rules, Option, Some, CertificateKind, Open}
 use Rattle.tsp_c.specs.NumberCalls.{nth}
 use Rattle.tsp_c.specs.Opened.{Held, BindsOpen, BindsText}
 use Rattle.tsp_c.specs.Texts.{certificates}

@@ -1,9 +1,6 @@
 -- The goals of `check_held` in src/handle_calls.rt, which checks the solution of a text by a handle's instance and
 -- certificate: what it ensures.
-use Rattle.std.proofs.Common.{◌≡◌, ◌∙◌, Bool, ap, subst, arith, rules, FitsSigned, w64}
-use Rattle.std.specs.Prelude.{Option, Some, ℤ}
-use Rattle.std.proofs.lemmas.Int.{to_z-of_z}
-use Rattle.tsp_judge.specs.Open.{Open}
+use Rattle.tsp_c.proofs.Prelude.{◌≡◌, ◌∙◌, Bool, ap, subst, arith, rules, FitsSigned, w64, Option, Some, ℤ, to_z-of_z, Open}
 use Rattle.tsp_c.specs.Opened.{Held, ChecksOpen, ChecksHeld}
 use Rattle.tsp_c.specs.Texts.{claim_of, strict_of}
 use Rattle.tsp_c.proofs.handle_calls.check_held.Goals as goal

@@ -1,12 +1,6 @@
 -- The goals of `check_opened` in src/handle_calls.rt, which checks the solution of a text by an open instance: what its
 -- calls require and what it ensures.
-use Rattle.std.proofs.Common.{◌≡◌, ◌∙◌, [], ap, refl, subst}
-use Rattle.std.specs.Prelude.{Some}
-use Rattle.tsp_io.specs.Streams.{Sink}
-use Rattle.tsp_io.specs.states.Watched.{sink_of}
-use Rattle.tsp_file.specs.Fields.{Fields}
-use Rattle.tsp_report.specs.declared.verdict.Verdict.{Verdict}
-use Rattle.tsp_report.specs.Verdicts.{is_yes}
+use Rattle.tsp_c.proofs.Prelude.{◌≡◌, ◌∙◌, [], ap, refl, subst, Some, Sink, sink_of, Fields, Verdict, is_yes}
 use Rattle.tsp_verdict.specs.SolutionVerdict.{is_unjudged, strict_verdict}
 use Rattle.tsp_report.specs.Report.{report_of, IsSized}
 use Rattle.tsp_c.specs.NumberCalls.{Reports}

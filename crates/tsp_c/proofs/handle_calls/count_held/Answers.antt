@@ -1,8 +1,5 @@
 -- The goals of `count_held` in src/handle_calls.rt, which counts the nodes of a handle's instance: what it ensures.
-use Rattle.std.proofs.Common.{◌≡◌, ◌∙◌, ap, refl, subst, rules}
-use Rattle.std.specs.Prelude.{Some, unwrap_or}
-use Rattle.tsp_file.specs.Fields.{Fields}
-use Rattle.tsp_judge.specs.Open.{Open}
+use Rattle.tsp_c.proofs.Prelude.{◌≡◌, ◌∙◌, ap, refl, subst, rules, Some, unwrap_or, Fields, Open}
 use Rattle.tsp_c.specs.NumberCalls.{EndsCount}
 use Rattle.tsp_c.specs.Opened.{Held, OfHeld}
 use Rattle.tsp_c.proofs.HandleCalls.{some_count}

@@ -1,8 +1,6 @@
 -- The goals of `open_text` in src/handle_calls.rt, which opens a handle on the instance of a text: what it ensures.
-use Rattle.std.proofs.Common.{ap, ◌∙◌, inl, inr, refl}
+use Rattle.tsp_c.proofs.Prelude.{ap, ◌∙◌, inl, inr, refl, OutOfMemory, Open}
 use Rattle.std.proofs.lemmas.Result.{MatchResult-at_ok, MatchResult-at_err}
-use Rattle.tsp_judge.specs.declared.run_status.RunFault.TheVariants.{OutOfMemory}
-use Rattle.tsp_judge.specs.Open.{Open}
 use Rattle.tsp_c.specs.CallResult.{result_of_instance}
 use Rattle.tsp_c.proofs.handle_calls.open_text.Goals as goal
 

@@ -1,15 +1,12 @@
 -- The goals of `put_lengths` in src/handle_calls.rt, which puts the lengths of lists of nodes into a buffer: its loop,
 -- what its calls require and what it ensures.
-use Rattle.std.proofs.Common.{◌≡◌, ◌+◌, ◌-◌, ◌<◌, ◌≤◌, ap, sym, subst, ◌∙◌, arith, length, drop, take, length-drop, rules, FitsSigned, w64, ℕ, List, []}
+use Rattle.tsp_c.proofs.Prelude.{◌≡◌, ◌+◌, ◌-◌, ◌<◌, ◌≤◌, ap, sym, subst, ◌∙◌, arith, length, drop, take, length-drop, rules, FitsSigned, w64, ℕ, List, [], to_z-of_z, cost, nodes_of}
 use Rattle.std.specs.List.{All}
-use Rattle.std.proofs.lemmas.Int.{to_z-of_z}
 use Rattle.std.proofs.lemmas.List.{drop-drop}
 use Rattle.std.proofs.lemmas.List.Elements.{All-drop}
 use Rattle.tsp_format.specs.Nodes.{IsNode}
 use Rattle.tsp_theory.specs.Tour.{length_of}
-use Rattle.tsp_file.specs.Cost.{cost}
 use Rattle.tsp_c.specs.NumberCalls.{IsFilled, list_length, lists_in}
-use Rattle.tsp_file.specs.Fields.{nodes_of}
 use Rattle.tsp_c.proofs.HandleCalls.{end_found, end_missing, lists_none, next_list, nodes_before}
 use Rattle.tsp_c.proofs.handle_calls.put_lengths.Goals as goal
 

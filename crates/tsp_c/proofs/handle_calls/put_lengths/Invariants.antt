@@ -1,8 +1,7 @@
 -- The loop of `put_lengths` in src/handle_calls.rt, which puts the lengths of lists of nodes into a buffer.
-use Rattle.std.proofs.Common.{◌≡◌, ◌≤◌, length, drop}
+use Rattle.tsp_c.proofs.Prelude.{◌≡◌, ◌≤◌, length, drop, nodes_of}
 use Rattle.std.specs.List.{All}
 use Rattle.tsp_c.specs.NumberCalls.{IsFilled, list_length, lists_in}
-use Rattle.tsp_file.specs.Fields.{nodes_of}
 use Rattle.tsp_c.proofs.handle_calls.put_lengths.Given as goal
 
 -- the lengths of the lists before `rest` are in the buffer, and its other numbers are as they were

@@ -1,9 +1,6 @@
 -- The goals of `put_points` in src/handle_calls.rt, which puts coordinates into a buffer: its loop.
-use Rattle.std.proofs.Common.{◌≡◌, ℕ, ◌+◌, ◌-◌, ◌/◌, ◌%◌, ◌∙◌, ap, arith, rules, FitsSigned, w64}
-use Rattle.std.specs.Prelude.{slice_index_or}
-use Rattle.std.proofs.lemmas.Int.{to_z-of_z}
+use Rattle.tsp_c.proofs.Prelude.{◌≡◌, ℕ, ◌+◌, ◌-◌, ◌/◌, ◌%◌, ◌∙◌, ap, arith, rules, FitsSigned, w64, slice_index_or, to_z-of_z, origin}
 use Rattle.tsp_file.specs.states.Drafts.{points_of}
-use Rattle.tsp_file.specs.Cost.{origin}
 use Rattle.tsp_c.specs.NumberCalls.{point_number, coordinate}
 use Rattle.tsp_c.proofs.handle_calls.put_points.Goals as goal
 

@@ -1,7 +1,5 @@
 -- The goals of `put_rows` in src/pair_costs.rt, which puts rows of costs into a buffer: its loop.
-use Rattle.std.proofs.Common.{ℕ, ◌+◌, ◌/◌, ◌%◌, ap, ◌∙◌, rules, FitsSigned, w64}
-use Rattle.std.proofs.lemmas.Int.{to_z-of_z}
-use Rattle.tsp_file.specs.Cost.{cost}
+use Rattle.tsp_c.proofs.Prelude.{ℕ, ◌+◌, ◌/◌, ◌%◌, ap, ◌∙◌, rules, FitsSigned, w64, to_z-of_z, cost}
 use Rattle.tsp_c.specs.NumberCalls.{row_cost}
 use Rattle.tsp_c.proofs.pair_costs.put_rows.Goals as goal
 

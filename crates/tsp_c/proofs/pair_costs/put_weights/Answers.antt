@@ -1,6 +1,5 @@
 -- The goals of `put_weights` in src/pair_costs.rt, which puts the costs of pairs into a buffer: its loop.
-use Rattle.std.proofs.Common.{◌∙◌, rules, FitsSigned, w64}
-use Rattle.std.proofs.lemmas.Int.{to_z-of_z}
+use Rattle.tsp_c.proofs.Prelude.{◌∙◌, rules, FitsSigned, w64, to_z-of_z}
 use Rattle.tsp_c.specs.NumberCalls.{pair_cost}
 use Rattle.tsp_c.proofs.pair_costs.put_weights.Goals as goal
 

@@ -1,9 +1,6 @@
 -- The goals of `bounded` in src/picked_runs.rt, which bounds the tours of a text's instance by the certificate of
 -- another: what its calls require and what it ensures.
-use Rattle.std.proofs.Common.{◌∙◌, ap, refl}
-use Rattle.std.specs.Prelude.{Some}
-use Rattle.tsp_io.specs.Streams.{Sink, ReadTrace}
-use Rattle.tsp_io.specs.states.Watched.{sink_of, read_trace_of}
+use Rattle.tsp_c.proofs.Prelude.{◌∙◌, ap, refl, Some, Sink, ReadTrace, sink_of, read_trace_of}
 use Rattle.tsp_c.proofs.InNumbers.{sized_bound_run, tells_bound}
 use Rattle.tsp_c.proofs.PickedRuns.{bounds_texts}
 use Rattle.tsp_c.proofs.picked_runs.bounded.Goals as goal

@@ -1,8 +1,5 @@
 -- The goals of `check_by` in src/picked_runs.rt, which checks by the number of the certificate's kind: what it ensures.
-use Rattle.std.proofs.Common.{◌≡◌, ◌∙◌, ap, subst, subst₂, Bool, arith, rules, FitsSigned, w64}
-use Rattle.std.specs.Prelude.{Option, ℤ}
-use Rattle.std.proofs.lemmas.Int.{to_z-of_z}
-use Rattle.tsp_report.specs.declared.task.CertificateKind.{CertificateKind}
+use Rattle.tsp_c.proofs.Prelude.{◌≡◌, ◌∙◌, ap, subst, subst₂, Bool, arith, rules, FitsSigned, w64, Option, ℤ, to_z-of_z, CertificateKind}
 use Rattle.tsp_c.specs.Texts.{ChecksTexts, claim_of, strict_of, with_certificate}
 use Rattle.tsp_c.specs.CallResult.{TellsTexts}
 use Rattle.tsp_c.proofs.picked_runs.check_by.Goals as goal

@@ -1,8 +1,6 @@
 -- The goals of `checked` in src/picked_runs.rt, which checks two texts, with a certificate and a claimed length if
 -- asked: what its calls require and what it ensures.
-use Rattle.std.proofs.Common.{◌∙◌, ap, refl}
-use Rattle.std.specs.Prelude.{Some}
-use Rattle.tsp_io.specs.states.Watched.{sink_of}
+use Rattle.tsp_c.proofs.Prelude.{◌∙◌, ap, refl, Some, sink_of}
 use Rattle.tsp_c.proofs.InNumbers.{sized_run, tells_texts}
 use Rattle.tsp_c.proofs.PickedRuns.{checks}
 use Rattle.tsp_c.proofs.picked_runs.checked.Goals as goal

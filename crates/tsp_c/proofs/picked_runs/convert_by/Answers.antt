@@ -1,7 +1,6 @@
 -- The goals of `convert_by` in src/picked_runs.rt, which converts a text into the layout with a number: what it
 -- ensures.
-use Rattle.std.proofs.Common.{subst, arith}
-use Rattle.std.specs.Prelude.{Option}
+use Rattle.tsp_c.proofs.Prelude.{subst, arith, Option}
 use Rattle.tsp_format.specs.declared.layout.Layout.{Layout}
 use Rattle.tsp_c.specs.Texts.{ConvertsText}
 use Rattle.tsp_c.proofs.picked_runs.convert_by.Goals as goal

@@ -1,6 +1,5 @@
 -- The goals of `converted` in src/picked_runs.rt, which converts a text: what it ensures.
-use Rattle.std.proofs.Common.{◌∙◌, ap, refl}
-use Rattle.std.specs.Prelude.{Some}
+use Rattle.tsp_c.proofs.Prelude.{◌∙◌, ap, refl, Some}
 use Rattle.tsp_c.proofs.PickedRuns.{converts}
 use Rattle.tsp_c.proofs.picked_runs.converted.Goals as goal
 

@@ -1,8 +1,5 @@
 -- The goals of `shown` in src/picked_runs.rt, which returns what `show` prints of a text: what it ensures.
-use Rattle.std.proofs.Common.{◌∙◌, ap, refl}
-use Rattle.std.specs.Prelude.{Some}
-use Rattle.tsp_io.specs.Streams.{ReadTrace, Sink}
-use Rattle.tsp_io.specs.states.Watched.{read_trace_of, sink_of}
+use Rattle.tsp_c.proofs.Prelude.{◌∙◌, ap, refl, Some, ReadTrace, Sink, read_trace_of, sink_of}
 use Rattle.tsp_c.proofs.PickedRuns.{shows}
 use Rattle.tsp_c.proofs.picked_runs.shown.Goals as goal
 

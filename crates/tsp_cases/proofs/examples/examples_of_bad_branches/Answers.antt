@@ -1,6 +1,5 @@
 -- The goals of `examples_of_bad_branches` in src/examples.rt: what it ensures.
-use Rattle.std.proofs.Common.{[], ◌∷◌, refl, arith}
-use Rattle.std.proofs.lemmas.List.Elements.{All-from_recursion}
+use Rattle.tsp_cases.proofs.Prelude.{[], ◌∷◌, refl, arith, All-from_recursion}
 use Rattle.tsp_cases.specs.ListedCases.{BeginsWithin}
 use Rattle.tsp_cases.specs.Examples.{branches, branches_apart}
 use Rattle.tsp_cases.proofs.TreeBranches.{within_at_start, bad_at_branch, none_bad}

@@ -1,6 +1,5 @@
 -- The goals of `examples_of_good_numbers` in src/examples.rt: what it ensures.
-use Rattle.std.proofs.Common.{arith}
-use Rattle.std.specs.Prelude.{pos, negsuc, ◌≤ℤ◌}
+use Rattle.tsp_cases.proofs.Prelude.{arith, pos, negsuc, ◌≤ℤ◌}
 use Rattle.tsp_cases.proofs.examples.examples_of_good_numbers.Goals as goal
 
 -- plan: each example is computed

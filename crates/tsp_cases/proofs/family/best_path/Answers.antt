@@ -1,6 +1,5 @@
 -- The goals of `best_path` in src/family.rt, which finds the best path through a set of parts: what it ensures.
-use Rattle.std.proofs.Common.{◌≡◌, ℕ, ◌+◌, ◌-◌, ◌*◌, ◌/◌, ◌%◌, ◌^◌, inl, inr, ap, sym, ◌∙◌, subst, arith, rules}
-use Rattle.std.specs.Int.{bit_at}
+use Rattle.tsp_cases.proofs.Prelude.{◌≡◌, ℕ, ◌+◌, ◌-◌, ◌*◌, ◌/◌, ◌%◌, ◌^◌, inl, inr, ap, sym, ◌∙◌, subst, arith, rules, bit_at}
 use Rattle.tsp_cases.specs.Crossings.{cost_by_rows, IsLeastSum}
 use Rattle.tsp_cases.proofs.LeastCycles.{StartsWith, no_best, best_from}
 use Rattle.tsp_cases.proofs.family.best_path.Goals.{then-rest-eq0, else-rest-eq0}

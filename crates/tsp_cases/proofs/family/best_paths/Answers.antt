@@ -1,7 +1,5 @@
 -- The goals of `best_paths` in src/family.rt, which finds the best paths through all sets of parts: its loop.
-use Rattle.std.proofs.Common.{ℕ, ◌+◌, ◌-◌, ◌≤◌, List, [], ◌∷◌, length, ap, sym, ◌∙◌, subst, arith, length-append}
-use Rattle.std.specs.List.{All}
-use Rattle.std.proofs.lemmas.List.Elements.{All-push}
+use Rattle.tsp_cases.proofs.Prelude.{ℕ, ◌+◌, ◌-◌, ◌≤◌, List, [], ◌∷◌, length, ap, sym, ◌∙◌, subst, arith, length-append, All, All-push}
 use Rattle.tsp_cases.specs.Crossings.{cost_by_rows, no_path, IsBestPath, AreBestPaths}
 use Rattle.tsp_cases.proofs.LeastCycles.{by_rows_push}
 use Rattle.tsp_cases.proofs.family.best_paths.Goals as goal

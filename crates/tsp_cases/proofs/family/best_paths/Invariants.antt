@@ -1,6 +1,5 @@
 -- The loop of `best_paths` in src/family.rt, which finds the best paths through all sets of parts.
-use Rattle.std.proofs.Common.{◌≡◌, ◌+◌, ◌-◌, ◌*◌, ◌≤◌, length}
-use Rattle.std.specs.List.{All}
+use Rattle.tsp_cases.proofs.Prelude.{◌≡◌, ◌+◌, ◌-◌, ◌*◌, ◌≤◌, length, All}
 use Rattle.tsp_cases.specs.Crossings.{cost_by_rows, no_path, AreBestPaths}
 use Rattle.tsp_cases.proofs.family.best_paths.Given as goal
 

@@ -1,8 +1,5 @@
 -- The goals of `crossings_between` in src/family.rt, which counts the crossings of each two parts: its loop.
-use Rattle.std.proofs.Common.{◌≡◌, ℕ, ◌<◌, ◌≤◌, ◌^◌, List, [], ◌∷◌, ◌++◌, length, get_or, ap, sym, ◌∙◌, subst, arith, refl, length-append, bit_xor, count_ones}
-use Rattle.std.specs.List.{All}
-use Rattle.std.proofs.lemmas.List.Elements.{All-push}
-use Rattle.std.proofs.lemmas.Nat.{ones-le, xor_lt}
+use Rattle.tsp_cases.proofs.Prelude.{◌≡◌, ℕ, ◌<◌, ◌≤◌, ◌^◌, List, [], ◌∷◌, ◌++◌, length, get_or, ap, sym, ◌∙◌, subst, arith, refl, length-append, bit_xor, count_ones, All, All-push, ones-le, xor_lt}
 use Rattle.tsp_cases.proofs.LeastCycles.{HoldsByRows, by_rows_push}
 use Rattle.tsp_cases.proofs.family.crossings_between.Goals as goal
 

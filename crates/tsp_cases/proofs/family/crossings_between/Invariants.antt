@@ -1,6 +1,5 @@
 -- The loop of `crossings_between` in src/family.rt, which counts the crossings of each two parts.
-use Rattle.std.proofs.Common.{◌≡◌, ◌≤◌, ◌+◌, ◌*◌, length, get_or, bit_xor, count_ones}
-use Rattle.std.specs.List.{All}
+use Rattle.tsp_cases.proofs.Prelude.{◌≡◌, ◌≤◌, ◌+◌, ◌*◌, length, get_or, bit_xor, count_ones, All}
 use Rattle.tsp_cases.proofs.LeastCycles.{HoldsByRows}
 use Rattle.tsp_cases.proofs.family.crossings_between.Given as goal
 

@@ -1,7 +1,5 @@
 -- The goals of `family_crossings` in src/family.rt, which finds how often cycles cross a family: what it ensures.
-use Rattle.std.proofs.Common.{◌≡◌, ℕ, Bool, List, length, arith, ap, sym, ◌∙◌, subst}
-use Rattle.std.specs.Prelude.{pos, ◌≤◌}
-use Rattle.std.specs.List.{All}
+use Rattle.tsp_cases.proofs.Prelude.{◌≡◌, ℕ, Bool, List, length, arith, ap, sym, ◌∙◌, subst, pos, ◌≤◌, All}
 use Rattle.tsp_cases.specs.Crossings.{sets_of, sets_crossed, IsLeastLength, IsMostCost, ArePartsOf, AreMemberships, IsLargest, lists_of, cost_by_rows, as_whole}
 use Rattle.tsp_cases.proofs.LeastCycles.{small_cycle, small_largest}
 use Rattle.tsp_cases.proofs.Divisions.{places_from, least_between, most_between, few_parts, sets_long}

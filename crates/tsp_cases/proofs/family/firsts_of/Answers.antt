@@ -1,8 +1,5 @@
 -- The goals of `firsts_of` in src/family.rt, which finds the first node of each part: its loop and what it ensures.
-use Rattle.std.proofs.Common.{◌≡◌, ℕ, ◌+◌, ◌<◌, ◌≤◌, List, [], ◌∷◌, ◌++◌, length, get_or, ap, sym, ◌∙◌, subst, arith, refl, inl, inr, length-append}
-use Rattle.std.specs.List.{All, Any}
-use Rattle.std.proofs.lemmas.Bool.{cases_eq, iff_false}
-use Rattle.std.proofs.lemmas.List.Elements.{All-push}
+use Rattle.tsp_cases.proofs.Prelude.{◌≡◌, ℕ, ◌+◌, ◌<◌, ◌≤◌, List, [], ◌∷◌, ◌++◌, length, get_or, ap, sym, ◌∙◌, subst, arith, refl, inl, inr, length-append, All, Any, cases_eq, iff_false, All-push}
 use Rattle.std.proofs.lemmas.List.Quantifiers.{Any-push}
 use Rattle.tsp_cases.specs.Crossings.{IsNodePlace, AreDifferent}
 use Rattle.tsp_cases.proofs.Divisions.{any_more, differ_more}

@@ -1,6 +1,5 @@
 -- The loop of `firsts_of` in src/family.rt, which finds the first node of each part.
-use Rattle.std.proofs.Common.{◌≡◌, ℕ, ◌<◌, ◌≤◌, length, get_or}
-use Rattle.std.specs.List.{All, Any}
+use Rattle.tsp_cases.proofs.Prelude.{◌≡◌, ℕ, ◌<◌, ◌≤◌, length, get_or, All, Any}
 use Rattle.tsp_cases.specs.Crossings.{IsNodePlace, AreDifferent}
 use Rattle.tsp_cases.proofs.family.firsts_of.Given as goal
 

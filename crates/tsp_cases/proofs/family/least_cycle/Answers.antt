@@ -1,7 +1,6 @@
 -- The goals of `least_cycle` in src/family.rt, which finds the least length of a cycle through all parts: what it
 -- ensures.
-use Rattle.std.proofs.Common.{ℕ, ◌-◌, ◌*◌, ◌≤◌, List, sym, subst, arith}
-use Rattle.std.specs.Prelude.{pos}
+use Rattle.tsp_cases.proofs.Prelude.{ℕ, ◌-◌, ◌*◌, ◌≤◌, List, sym, subst, arith, pos}
 use Rattle.tsp_cases.specs.Crossings.{IsLeastLength, cost_by_rows, as_whole, no_path, IsLeastSum}
 use Rattle.tsp_cases.proofs.LeastCycles.{alone, small_costs, least_of_paths}
 use Rattle.tsp_cases.proofs.family.least_cycle.Goals as goal

@@ -1,9 +1,6 @@
 -- The goals of `memberships_of` in src/family.rt, which computes the membership of each node: its loop and what its
 -- calls require.
-use Rattle.std.proofs.Common.{◌≡◌, ℕ, ◌+◌, ◌*◌, ◌%◌, ◌^◌, ◌<◌, ◌++◌, List, length, get_or, take, drop, ap, sym, ◌∙◌, subst, arith}
-use Rattle.std.specs.Prelude.{if◌then◌else◌}
-use Rattle.std.proofs.lemmas.List.{take-append-le, take_all}
-use Rattle.std.proofs.lemmas.Nat.{one_shl, pow_below}
+use Rattle.tsp_cases.proofs.Prelude.{◌≡◌, ℕ, ◌+◌, ◌*◌, ◌%◌, ◌^◌, ◌<◌, ◌++◌, List, length, get_or, take, drop, ap, sym, ◌∙◌, subst, arith, if◌then◌else◌, take-append-le, take_all, one_shl, pow_below}
 use Rattle.tsp_cases.specs.Crossings.{has, sets_of, lists_of}
 use Rattle.tsp_cases.proofs.Divisions.{IsSoFar, set_at, sets_long, so_far_more}
 use Rattle.tsp_cases.proofs.family.memberships_of.Goals as goal

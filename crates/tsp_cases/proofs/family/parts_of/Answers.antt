@@ -1,6 +1,5 @@
 -- The goals of `parts_of` in src/family.rt, which finds the parts of a family: what it ensures.
-use Rattle.std.proofs.Common.{◌≡◌, ℕ, List, length, subst}
-use Rattle.std.specs.List.{All}
+use Rattle.tsp_cases.proofs.Prelude.{◌≡◌, ℕ, List, length, subst, All}
 use Rattle.tsp_cases.specs.Crossings.{sets_of, AreFirsts, IsNodePlace, AreDifferent, lists_of}
 use Rattle.tsp_cases.proofs.Divisions.{parts_from, unlike_from}
 use Rattle.tsp_cases.proofs.family.parts_of.Goals as goal

@@ -1,7 +1,6 @@
 -- The goals of `are_teeth` in src/good_families.rt, which tests whether sets are teeth of a handle: its loop and what
 -- it ensures.
-use Rattle.std.proofs.Common.{◌∙◌, ℕ, Bool, refl, false}
-use Rattle.std.proofs.lemmas.Bool.{both_ways, iff_false}
+use Rattle.tsp_cases.proofs.Prelude.{◌∙◌, ℕ, Bool, refl, false, both_ways, iff_false}
 use Rattle.tsp_cases.specs.states.GoodFamilies.{is_marked}
 use Rattle.tsp_cases.proofs.GoodFamilies.{nodes_here, teeth_on, tooth_here}
 use Rattle.tsp_cases.proofs.good_families.are_teeth.Goals as goal

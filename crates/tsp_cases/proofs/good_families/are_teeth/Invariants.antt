@@ -1,6 +1,5 @@
 -- The loop of `are_teeth` in src/good_families.rt, which tests whether sets are teeth of a handle.
-use Rattle.std.proofs.Common.{◌≡◌, ℕ, length, drop}
-use Rattle.std.specs.Prelude.{◌↔◌}
+use Rattle.tsp_cases.proofs.Prelude.{◌≡◌, ℕ, length, drop, ◌↔◌}
 use Rattle.tsp_cases.specs.Crossings.{AreSetsOf, lists_of}
 use Rattle.tsp_cases.specs.states.GoodFamilies.{is_marked, AddsNoOther, AreTeeth}
 use Rattle.tsp_cases.proofs.good_families.are_teeth.Given as goal

@@ -1,7 +1,6 @@
 -- The goals of `crossings_of` in src/good_families.rt, which returns a family's least and most crossings, or `None` if
 -- it is bad: what it ensures.
-use Rattle.std.proofs.Common.{length}
-use Rattle.std.proofs.lemmas.Bool.{iff_false}
+use Rattle.tsp_cases.proofs.Prelude.{length, iff_false}
 use Rattle.tsp_cases.specs.Crossings.{lists_of}
 use Rattle.tsp_cases.proofs.GoodFamilies.{known_found, lists_long}
 use Rattle.tsp_cases.proofs.good_families.crossings_of.Goals as goal

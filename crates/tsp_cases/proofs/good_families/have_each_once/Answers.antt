@@ -1,8 +1,6 @@
 -- The goals of `have_each_once` in src/good_families.rt, which tests whether no set has a node twice: its loop and
 -- what it ensures.
-use Rattle.std.proofs.Common.{◌≡◌, ◌∙◌, ◌+◌, ℕ, List, [], length, get_or, false, refl, ap, sym, subst, arith}
-use Rattle.std.proofs.lemmas.Bool.{both_ways, iff_false}
-use Rattle.std.specs.Global.{Vec}
+use Rattle.tsp_cases.proofs.Prelude.{◌≡◌, ◌∙◌, ◌+◌, ℕ, List, [], length, get_or, false, refl, ap, sym, subst, arith, both_ways, iff_false, Vec}
 use Rattle.tsp_cases.specs.Families.{HasEachOnce}
 use Rattle.tsp_cases.specs.states.GoodFamilies.{AreUnmarked}
 use Rattle.tsp_cases.proofs.Passes.{written}

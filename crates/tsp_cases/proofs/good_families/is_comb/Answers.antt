@@ -1,14 +1,9 @@
 -- The goals of `is_comb` in src/good_families.rt, which says whether sets are a lone set or a comb: what its calls
 -- require and what it ensures.
-use Rattle.std.proofs.Common.{◌≡◌, ◌∙◌, [], ◌<◌, rules, ℕ, Bool, List, length, subst, sym, refl, false}
-use Rattle.std.specs.Prelude.{◌↔◌, IsTrue}
-use Rattle.std.specs.List.{All}
-use Rattle.std.proofs.lemmas.Bool.{both_ways, iff_false, eqb-true}
-use Rattle.tsp_format.specs.Nodes.{IsNode}
+use Rattle.tsp_cases.proofs.Prelude.{◌≡◌, ◌∙◌, [], ◌<◌, rules, ℕ, Bool, List, length, subst, sym, refl, false, ◌↔◌, IsTrue, All, both_ways, iff_false, eqb-true, IsNode, Vec}
 use Rattle.tsp_cases.specs.Crossings.{has}
 use Rattle.tsp_cases.specs.Families.{comb_of, IsLoneSet}
 use Rattle.tsp_cases.specs.states.GoodFamilies.{is_marked}
-use Rattle.std.specs.Global.{Vec}
 use Rattle.tsp_cases.proofs.GoodFamilies.{rest_all, first_all, counted, handle_new, comb_found, teeth_found, own_marks, lone_found, lone_in, no_sets}
 use Rattle.tsp_cases.proofs.good_families.is_comb.Goals as goal
 

@@ -1,11 +1,6 @@
 -- The goals of `judge_families` in src/good_families.rt, which finds the crossings of each family, or the first bad
 -- one: its loop, the facts of the values that it makes and what it ensures.
-use Rattle.std.proofs.Common.{◌≡◌, ◌∙◌, ◌^◌, ◌<◌, ◌++◌, [], ◌∷◌, ℕ, List, length, get_or, refl, ap, sym, subst, arith, length-append}
-use Rattle.std.specs.Prelude.{Some, Option}
-use Rattle.std.specs.Global.{Vec}
-use Rattle.std.specs.List.{All}
-use Rattle.std.proofs.lemmas.List.{length-map}
-use Rattle.std.proofs.lemmas.List.Elements.{All-push}
+use Rattle.tsp_cases.proofs.Prelude.{◌≡◌, ◌∙◌, ◌^◌, ◌<◌, ◌++◌, [], ◌∷◌, ℕ, List, length, get_or, refl, ap, sym, subst, arith, length-append, Some, Option, Vec, All, length-map, All-push}
 use Rattle.tsp_cases.specs.Crossings.{AreSetsOf, AreFamiliesOf, lists_of, families_in}
 use Rattle.tsp_cases.specs.declared.family.Crossings.{Crossings}
 use Rattle.tsp_cases.specs.Families.{IsFamily, families_with, IsGoodFamily, AreFamilies}

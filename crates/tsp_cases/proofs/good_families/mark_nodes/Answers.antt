@@ -1,8 +1,5 @@
 -- The goals of `mark_nodes` in src/good_families.rt, which marks the nodes of a set: its loop and what it ensures.
-use Rattle.std.proofs.Common.{ℕ, ◌<◌, List, length, get_or, refl, ◌∙◌, arith, false}
-use Rattle.std.proofs.Math.ListN.{length-set}
-use Rattle.std.proofs.lemmas.Bool.{eq-eqb, ne_eqb, both_ways}
-use Rattle.std.proofs.lemmas.List.{get_or_default}
+use Rattle.tsp_cases.proofs.Prelude.{ℕ, ◌<◌, List, length, get_or, refl, ◌∙◌, arith, false, length-set, eq-eqb, ne_eqb, both_ways, get_or_default}
 use Rattle.tsp_cases.proofs.GoodFamilies.{marked_more, new_more, marked_twice, others_kept}
 use Rattle.tsp_cases.proofs.good_families.mark_nodes.Goals as goal
 

@@ -1,7 +1,6 @@
 -- The goals of `other_crossings` in src/good_families.rt, which finds the crossings of a family that is no comb: what
 -- it ensures.
-use Rattle.std.proofs.Common.{arith}
-use Rattle.std.proofs.lemmas.Bool.{iff_false}
+use Rattle.tsp_cases.proofs.Prelude.{arith, iff_false}
 use Rattle.tsp_cases.specs.Crossings.{lists_of}
 use Rattle.tsp_cases.proofs.GoodFamilies.{other_found, too_many, one_part}
 use Rattle.tsp_cases.proofs.good_families.other_crossings.Goals as goal

@@ -1,7 +1,5 @@
 -- The goals of `add_to_rows` in src/kept.rt, which adds multipliers to the kept rows: what its calls require.
-use Rattle.std.proofs.Common.{◌∙◌, ◌<◌, arith, length}
-use Rattle.std.specs.Global.{Vec}
-use Rattle.std.specs.Prelude.{ℤ}
+use Rattle.tsp_cases.proofs.Prelude.{◌∙◌, ◌<◌, arith, length, Vec, ℤ}
 use Rattle.tsp_cases.proofs.kept.add_to_rows.Goals as goal
 
 -- plan: a row that isn't reached yet has its length of the call, by the invariant's `long`, and so a place for each

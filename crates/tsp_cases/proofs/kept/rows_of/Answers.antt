@@ -1,6 +1,5 @@
 -- The goals of `rows_of` in src/kept.rt, which makes a row of scaled costs for each node: what it ensures.
-use Rattle.std.proofs.Common.{◌≡◌, ℕ, subst, arith}
-use Rattle.std.specs.Prelude.{◌*ℤ◌}
+use Rattle.tsp_cases.proofs.Prelude.{◌≡◌, ℕ, subst, arith, ◌*ℤ◌}
 use Rattle.tsp_cases.specs.states.Kept.{AreRows}
 use Rattle.tsp_cases.proofs.kept.rows_of.Goals as goal
 

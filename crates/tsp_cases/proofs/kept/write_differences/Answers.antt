@@ -1,14 +1,6 @@
 -- The goals of `write_differences` in src/kept.rt, which writes how much each multiplier has grown: its loop and what
 -- it ensures.
-use Rattle.std.proofs.Common.{◌≡◌, ◌∙◌, ℕ, ℤ, List, inl, inr, ap, subst, arith, to_z, of_z}
-use Rattle.std.specs.Prelude.{pos, neg_ℤ, ◌-ℤ◌}
-use Rattle.std.specs.Int.{w64}
-use Rattle.std.proofs.Math.ListN.{set, length-set}
-use Rattle.std.proofs.lemmas.Bool.{cases_eq}
-use Rattle.std.proofs.lemmas.Int.{ints}
-use Rattle.std.proofs.lemmas.List.{get_or-set_same, get_or-set_other, get_or_default}
-use Rattle.tsp_format.specs.Steps.{IsFromTo}
-use Rattle.tsp_theory.specs.states.Nearest.{least_at}
+use Rattle.tsp_cases.proofs.Prelude.{◌≡◌, ◌∙◌, ℕ, ℤ, List, inl, inr, ap, subst, arith, to_z, of_z, pos, neg_ℤ, ◌-ℤ◌, w64, set, length-set, cases_eq, ints, get_or-set_same, get_or-set_other, get_or_default, IsFromTo, least_at}
 use Rattle.tsp_cases.specs.ListedCases.{most_crossed}
 use Rattle.tsp_cases.proofs.kept.write_differences.Goals as goal
 

@@ -1,8 +1,5 @@
 -- The loop of `write_differences` in src/kept.rt, which writes how much each multiplier has grown.
-use Rattle.std.proofs.Common.{◌≡◌, ◌<◌, ℕ, length}
-use Rattle.std.specs.Prelude.{pos, neg_ℤ, ◌+ℤ◌}
-use Rattle.tsp_format.specs.Steps.{IsFromTo}
-use Rattle.tsp_theory.specs.states.Nearest.{least_at}
+use Rattle.tsp_cases.proofs.Prelude.{◌≡◌, ◌<◌, ℕ, length, pos, neg_ℤ, ◌+ℤ◌, IsFromTo, least_at}
 use Rattle.tsp_cases.specs.ListedCases.{most_crossed}
 use Rattle.tsp_cases.proofs.kept.write_differences.Given as goal
 

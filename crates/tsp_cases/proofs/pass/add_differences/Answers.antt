@@ -1,11 +1,5 @@
 -- The goals of `add_differences` in src/pass.rt, which adds the differences of a leaf to its numbers: its loop.
-use Rattle.std.proofs.Common.{◌∙◌, ◌+◌, ◌-◌, ◌<◌, ◌≤◌, ◌^◌, ℕ, ℤ, List, drop, length, get_or, inl, inr, refl, ap, sym, rules, FitsSigned, arith}
-use Rattle.std.specs.Prelude.{pos}
-use Rattle.std.specs.Int.{w64}
-use Rattle.std.proofs.Math.ListN.{set, length-set}
-use Rattle.std.proofs.lemmas.Bool.{cases_eq}
-use Rattle.std.proofs.lemmas.Int.{to_z-of_z}
-use Rattle.std.proofs.lemmas.List.{get_or_default}
+use Rattle.tsp_cases.proofs.Prelude.{◌∙◌, ◌+◌, ◌-◌, ◌<◌, ◌≤◌, ◌^◌, ℕ, ℤ, List, drop, length, get_or, inl, inr, refl, ap, sym, rules, FitsSigned, arith, pos, w64, set, length-set, cases_eq, to_z-of_z, get_or_default}
 use Rattle.tsp_cases.specs.ListedCases.{all_grown}
 use Rattle.tsp_cases.proofs.TreeBranches.{grown_left, sum_held, more_sized}
 use Rattle.tsp_cases.proofs.pass.add_differences.Goals as goal

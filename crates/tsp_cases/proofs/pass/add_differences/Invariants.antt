@@ -1,6 +1,5 @@
 -- The loop of `add_differences` in src/pass.rt, which adds the differences of a leaf to its numbers.
-use Rattle.std.proofs.Common.{◌≡◌, ◌<◌, ℕ, ℤ, drop, length, get_or}
-use Rattle.tsp_format.specs.Nodes.{IsNode}
+use Rattle.tsp_cases.proofs.Prelude.{◌≡◌, ◌<◌, ℕ, ℤ, drop, length, get_or, IsNode}
 use Rattle.tsp_cases.specs.ListedCases.{all_grown}
 use Rattle.tsp_cases.proofs.TreeBranches.{AreSized}
 use Rattle.tsp_cases.proofs.pass.add_differences.Given as goal

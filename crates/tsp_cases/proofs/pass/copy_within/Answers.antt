@@ -1,11 +1,5 @@
 -- The goals of `copy_within` in src/pass.rt, which copies the numbers of a leaf if they are within limits: its loop.
-use Rattle.std.proofs.Common.{◌≡◌, ◌∙◌, ◌<◌, ℕ, ℤ, List, length, get_or, inl, inr, ap₂, sym, rules, FitsSigned, arith, to_z, of_z}
-use Rattle.std.specs.Prelude.{pos, ◌≤ℤ◌, ◌++◌, [], ◌∷◌}
-use Rattle.std.specs.Int.{w64, w128}
-use Rattle.std.proofs.Math.ListN.{length-set}
-use Rattle.std.proofs.lemmas.Bool.{cases_eq}
-use Rattle.std.proofs.lemmas.Int.{ints}
-use Rattle.std.proofs.lemmas.List.{take_more, take_more_set, get_or_default}
+use Rattle.tsp_cases.proofs.Prelude.{◌≡◌, ◌∙◌, ◌<◌, ℕ, ℤ, List, length, get_or, inl, inr, ap₂, sym, rules, FitsSigned, arith, to_z, of_z, pos, ◌≤ℤ◌, ◌++◌, [], ◌∷◌, w64, w128, length-set, cases_eq, ints, take_more, take_more_set, get_or_default}
 use Rattle.tsp_cases.proofs.pass.copy_within.Goals as goal
 
 -- plan: one number more is copied, if it is within the limit

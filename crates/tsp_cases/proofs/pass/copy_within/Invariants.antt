@@ -1,6 +1,5 @@
 -- The loop of `copy_within` in src/pass.rt, which copies the numbers of a leaf if they are within limits.
-use Rattle.std.proofs.Common.{◌≡◌, ◌<◌, ℕ, ℤ, take, length, get_or}
-use Rattle.tsp_format.specs.Steps.{IsFromTo}
+use Rattle.tsp_cases.proofs.Prelude.{◌≡◌, ◌<◌, ℕ, ℤ, take, length, get_or, IsFromTo}
 use Rattle.tsp_cases.proofs.pass.copy_within.Given as goal
 
 -- the numbers before this one are from `least` to `most`, and they are copied

@@ -1,16 +1,8 @@
 -- The goals of `judge_leaves` in src/pass.rt, which finds the least bound of all leaves, or the first bad leaf: its
 -- loop, what its calls require and what it ensures.
-use Rattle.std.proofs.Common.{rules, ℕ, ℤ, Bool, true, List, [], Option, None, Some, inl, ◌++◌, ◌+◌, ◌^◌, ◌<◌, length, drop, replicate, ◌≡◌, sym, ap, ap₂, subst, ◌∙◌, arith}
-use Rattle.std.specs.Prelude.{pos}
-use Rattle.std.specs.List.{All}
-use Rattle.std.proofs.Math.Logic.{∥∥₁_elim}
-use Rattle.std.proofs.Props.{props}
-use Rattle.std.proofs.lemmas.Int.{ints}
-use Rattle.std.proofs.lemmas.List.{length_push, length-replicate, get_or-replicate}
-use Rattle.tsp_format.specs.declared.steps.TreeStep.{TreeStep}
+use Rattle.tsp_cases.proofs.Prelude.{rules, ℕ, ℤ, Bool, true, List, [], Option, None, Some, inl, ◌++◌, ◌+◌, ◌^◌, ◌<◌, length, drop, replicate, ◌≡◌, sym, ap, ap₂, subst, ◌∙◌, arith, pos, All, ∥∥₁_elim, props, ints, length_push, length-replicate, get_or-replicate, TreeStep, steps_of}
 use Rattle.tsp_format.specs.declared.steps.TreeStep.TheVariants as code
 use Rattle.tsp_format.specs.Steps as listed
-use Rattle.tsp_format.specs.states.TreeSteps.{steps_of}
 use Rattle.tsp_cases.specs.Cases.{LeafNumbers}
 use Rattle.tsp_cases.specs.ListedCases.{no_numbers_of}
 use Rattle.tsp_cases.specs.declared.open_case.Decision.{Decision}
@@ -31,9 +23,9 @@ judge_leaf-requires-clause-few_changes g c =
     (code.Leaf c.in-Leaf.changes) each c.steps-test.true c.step-item.is c.in-Leaf.is) in
     subst (λ (cs : List (ℕ × ℤ)). length cs < 2 ^ 32) (sym c.deref.ensures.value) own
 
-none_small : (n combs : ℕ) → AreSmall (no_numbers_of n combs)
-none_small n combs k default lt =
-    rw (get_or-replicate (n + combs) k (pos 0) default (omega (arith, lt, length-replicate (n + combs) (pos 0))))
+none_small : (n family_count : ℕ) → AreSmall (no_numbers_of n family_count)
+none_small n family_count k default lt =
+    rw (get_or-replicate (n + family_count) k (pos 0) default (omega (arith, lt, length-replicate (n + family_count) (pos 0))))
     (omega (arith, ints), omega (arith, ints))
 
 -- plan: at first the given case is open, all numbers are 0, and the steps are a whole tree (`at_start`, `whole_trees`)
@@ -42,23 +34,23 @@ steps-init g c =
     let tree = c.args.tree.now in
     let judge = c.args.judge.now in
     let n : ℕ = g.J.LeafJudge.nodes judge in
-    let combs : ℕ = g.J.LeafJudge.combs judge in
+    let family_count : ℕ = g.J.LeafJudge.family_count judge in
     let found : List Decision × LeafNumbers → Option ℤ → Type 0 = g.J.LeafJudge.found judge in
     let told : List listed.Step = steps_of tree.steps.now in
     let case = c.in_ok-case.case in
     let filled : c.in_ok-numbers.numbers.items ≡ replicate c.args.count (pos 0) = search rules in
-    let none : c.in_ok-numbers.numbers.items ≡ no_numbers_of n combs = filled ∙ ap (λ (k : ℕ). replicate k (pos 0)) c.requires.count in
-    let whole = sym (whole_trees n (no_numbers_of n combs) 1 told) ∙ tree.whole in
+    let none : c.in_ok-numbers.numbers.items ≡ no_numbers_of n family_count = filled ∙ ap (λ (k : ℕ). replicate k (pos 0)) c.requires.count in
+    let whole = sym (whole_trees n (no_numbers_of n family_count) 1 told) ∙ tree.whole in
     record {
-      at = inl (subst (λ (ds : List Decision). IsAtStep found (g.J.LeafJudge.good judge) (g.J.LeafJudge.fits judge) n combs tree.given.now told
+      at = inl (subst (λ (ds : List Decision). IsAtStep found (g.J.LeafJudge.good judge) (g.J.LeafJudge.fits judge) n family_count tree.given.now told
           c.in_ok-numbers.numbers.items (Some (stack_of ds)) None 0 told) (sym c.in_ok-case.ensures.stack)
-          (subst (λ (zs : List ℤ). IsAtStep found (g.J.LeafJudge.good judge) (g.J.LeafJudge.fits judge) n combs tree.given.now told zs (Some []) None 0 told)
+          (subst (λ (zs : List ℤ). IsAtStep found (g.J.LeafJudge.good judge) (g.J.LeafJudge.fits judge) n family_count tree.given.now told zs (Some []) None 0 told)
           (sym none)
-          (at_start found (g.J.LeafJudge.good judge) (g.J.LeafJudge.fits judge) n combs tree.given.now told whole c.requires.fits)));
+          (at_start found (g.J.LeafJudge.good judge) (g.J.LeafJudge.fits judge) n family_count tree.given.now told whole c.requires.fits)));
       memory = subst (λ (ds : List Decision). g.J.LeafJudge.holds judge c.args.memory.now ds)
           (sym (ap₂ (λ (a b : List Decision). stack_of a ++ b) c.in_ok-case.ensures.stack c.in_ok-case.ensures.given)) c.requires.memory;
-      long = ap length none ∙ length-replicate (n + combs) (pos 0);
-      small = subst AreSmall (sym none) (none_small n combs);
+      long = ap length none ∙ length-replicate (n + family_count) (pos 0);
+      small = subst AreSmall (sym none) (none_small n family_count);
       case = subst (λ (k : ℕ). IsOpenCase k case) c.requires.places c.in_ok-case.ensures.case;
       given = c.in_ok-case.ensures.given;
       direction = c.in_ok-case.ensures.directed ∙ c.requires.direction;
@@ -91,23 +83,23 @@ returns-in_default-clause-judged g c =
     let tree = c.args.tree.now in
     let judge = c.args.judge.now in
     let n : ℕ = g.J.LeafJudge.nodes judge in
-    let combs : ℕ = g.J.LeafJudge.combs judge in
+    let family_count : ℕ = g.J.LeafJudge.family_count judge in
     let found : List Decision × LeafNumbers → Option ℤ → Type 0 = g.J.LeafJudge.found judge in
     let good : LeafNumbers → Type 0 = g.J.LeafJudge.good judge in
     let given : List Decision = tree.given.now in
     let all : List TreeStep = tree.steps.now in
     let st = c.steps in
-    let at = at_next found good (g.J.LeafJudge.fits judge) n combs given all st.numbers.items st.case.stack.items st.lowest st.leaf
+    let at = at_next found good (g.J.LeafJudge.fits judge) n family_count given all st.numbers.items st.case.stack.items st.lowest st.leaf
     st.step-index c.step-item.result
     (code.Leaf c.in-Leaf.changes) c.steps-test.true c.step-item.is c.in-Leaf.is st.invariant.at in
-    let judged = subst (λ (cs : List (ℕ × ℤ)). IsJudgedLeaf found good n combs
+    let judged = subst (λ (cs : List (ℕ × ℤ)). IsJudgedLeaf found good n family_count
     (stack_of st.case.stack.items ++ given) st.numbers.items cs c.judge_leaf.new.numbers c.in_ok-judged-in-Leaf.judged) c.deref.ensures.value
-    (subst (λ (ds : List Decision). IsJudgedLeaf found good n combs
+    (subst (λ (ds : List Decision). IsJudgedLeaf found good n family_count
     (stack_of st.case.stack.items ++ ds) st.numbers.items c.deref.result.now c.judge_leaf.new.numbers c.in_ok-judged-in-Leaf.judged) st.invariant.given
-    (subst (λ (zs : List ℤ). IsJudgedLeaf found good n combs
+    (subst (λ (zs : List ℤ). IsJudgedLeaf found good n family_count
     (decisions_in st.case) zs c.deref.result.now c.judge_leaf.new.numbers c.in_ok-judged-in-Leaf.judged) c.deref_mut.ensures.value
     c.in_ok-judged-in-Leaf.ensures.judged)) in
-    bad_here found good (g.J.LeafJudge.fits judge) n combs given (steps_of all) st.numbers.items st.case.stack.items st.lowest st.leaf
+    bad_here found good (g.J.LeafJudge.fits judge) n family_count given (steps_of all) st.numbers.items st.case.stack.items st.lowest st.leaf
     c.in-Leaf.changes.items _ _ c.in_ok-judged-in-Leaf.judged at judged c.in_default.is
 
 -- plan: by the next step (`at_next`): a branch puts its taken pair on the stack (`at_branch`). A leaf lowers the bound,
@@ -117,7 +109,7 @@ steps-preserved g c =
     let tree = c.args.tree.now in
     let judge = c.args.judge.now in
     let n : ℕ = g.J.LeafJudge.nodes judge in
-    let combs : ℕ = g.J.LeafJudge.combs judge in
+    let family_count : ℕ = g.J.LeafJudge.family_count judge in
     let places : ℕ = g.J.LeafJudge.places judge in
     let found : List Decision × LeafNumbers → Option ℤ → Type 0 = g.J.LeafJudge.found judge in
     let good : LeafNumbers → Type 0 = g.J.LeafJudge.good judge in
@@ -128,7 +120,7 @@ steps-preserved g c =
     let st = c.steps in
     elim c.match-step.branch [
       | in-Branch+in_ok-take-in-Branch w ↦
-          let at = at_next found good fits n combs given all st.numbers.items st.case.stack.items st.lowest st.leaf
+          let at = at_next found good fits n family_count given all st.numbers.items st.case.stack.items st.lowest st.leaf
           st.step-index c.step-item.result
           (code.Branch w.in-Branch.first w.in-Branch.second) c.steps-test.true c.step-item.is w.in-Branch.is st.invariant.at in
           let items = w.in_ok-take-in-Branch.ensures.stack in
@@ -139,9 +131,9 @@ steps-preserved g c =
           let own = subst (λ (k : ℕ). IsDecision k decision) c.requires.places here in
           let longer = length_push st.case.stack.items decision in
           rw (w.memory-is, w.numbers-is, w.case-is, w.lowest-is, w.leaf-is) (record {
-            at = inl (subst (λ (ds : List Decision). IsAtStep found good fits n combs given told st.numbers.items
+            at = inl (subst (λ (ds : List Decision). IsAtStep found good fits n family_count given told st.numbers.items
                 (Some (stack_of ds)) st.lowest st.leaf (steps_of (drop (st.step-index + 1) all))) (sym items)
-                (at_branch found good fits n combs given told st.numbers.items st.case.stack.items st.lowest st.leaf
+                (at_branch found good fits n family_count given told st.numbers.items st.case.stack.items st.lowest st.leaf
                 w.in-Branch.first w.in-Branch.second _ at));
             memory = subst (λ (ds : List Decision). g.J.LeafJudge.holds judge w.enter.new.memory ds)
                 (sym (one_above w.take.new.self st.case decision items (sym w.in_ok-take-in-Branch.ensures.given)))
@@ -156,23 +148,23 @@ steps-preserved g c =
             sized = st.invariant.sized;
           })
       | in-Leaf+in_ok-judged-in-Leaf+in-Found+in_ok-next-in-Leaf w ↦
-          let at = at_next found good fits n combs given all st.numbers.items st.case.stack.items st.lowest st.leaf
+          let at = at_next found good fits n family_count given all st.numbers.items st.case.stack.items st.lowest st.leaf
           st.step-index c.step-item.result
           (code.Leaf w.in-Leaf.changes) c.steps-test.true c.step-item.is w.in-Leaf.is st.invariant.at in
-          let judged = subst (λ (cs : List (ℕ × ℤ)). IsJudgedLeaf found good n combs
+          let judged = subst (λ (cs : List (ℕ × ℤ)). IsJudgedLeaf found good n family_count
           (stack_of st.case.stack.items ++ given) st.numbers.items cs w.judge_leaf.new.numbers w.in_ok-judged-in-Leaf.judged) w.deref.ensures.value
-          (subst (λ (ds : List Decision). IsJudgedLeaf found good n combs
+          (subst (λ (ds : List Decision). IsJudgedLeaf found good n family_count
           (stack_of st.case.stack.items ++ ds) st.numbers.items w.deref.result.now w.judge_leaf.new.numbers w.in_ok-judged-in-Leaf.judged) st.invariant.given
-          (subst (λ (zs : List ℤ). IsJudgedLeaf found good n combs
+          (subst (λ (zs : List ℤ). IsJudgedLeaf found good n family_count
           (decisions_in st.case) zs w.deref.result.now w.judge_leaf.new.numbers w.in_ok-judged-in-Leaf.judged) w.deref_mut.ensures.value
           w.in_ok-judged-in-Leaf.ensures.judged)) in
           let now = written st.numbers.len w.judge_leaf.new.numbers _ (w.in_ok-judged-in-Leaf.ensures.numbers ∙ w.deref_mut.ensures.len) in
           let next = w.next.new.self.stack.items in
           let is_open = w.in_ok-next-in-Leaf.field-0 in
           rw (w.memory-is, w.numbers-is, w.case-is, w.lowest-is, w.leaf-is) (record {
-            at = subst (λ (zs : List ℤ). IsPassing found good fits n combs given told zs next w.lower-lowest.result (st.leaf + 1)
+            at = subst (λ (zs : List ℤ). IsPassing found good fits n family_count given told zs next w.lower-lowest.result (st.leaf + 1)
                 (steps_of (drop (st.step-index + 1) all))) (sym now)
-                (after_found found good fits n combs given told st.numbers.items st.case.stack.items st.lowest
+                (after_found found good fits n family_count given told st.numbers.items st.case.stack.items st.lowest
                 st.leaf w.in-Leaf.changes.items _ w.judge_leaf.new.numbers is_open next
                 w.in_ok-judged-in-Leaf.judged w.in-Found.own w.lower-lowest.result at judged w.in-Found.is w.lower-lowest.ensures
                 w.in_ok-next-in-Leaf.ensures.next);
@@ -183,7 +175,7 @@ steps-preserved g c =
                 (subst (λ (ds : List Decision). All (IsDecision places) (stack_of ds ++ st.case.given.now)) (sym w.deref-in-Leaf.ensures.value) st.invariant.case.pairs)
                 (subst (λ (ds : List Decision). IsNextStack ds is_open next) (sym w.deref-in-Leaf.ensures.value) w.in_ok-next-in-Leaf.ensures.next));
             long = ap length now ∙ w.in_ok-judged-in-Leaf.ensures.numbers ∙ ap length w.deref_mut.ensures.value ∙ st.invariant.long;
-            small = subst AreSmall (sym now) (small_found found good fits n combs given told st.numbers.items st.case.stack.items
+            small = subst AreSmall (sym now) (small_found found good fits n family_count given told st.numbers.items st.case.stack.items
                 w.in-Leaf.changes.items w.judge_leaf.new.numbers w.in_ok-judged-in-Leaf.judged w.in-Found.own judged w.in-Found.is);
             case = w.in_ok-next-in-Leaf.ensures.case places st.invariant.case;
             given = w.in_ok-next-in-Leaf.ensures.given ∙ st.invariant.given;
@@ -201,5 +193,5 @@ returns-clause-judged g c =
     let judge = c.args.judge.now in
     let st = c.steps in
     all_passed (g.J.LeafJudge.found judge) (g.J.LeafJudge.good judge) (g.J.LeafJudge.fits judge) (g.J.LeafJudge.nodes judge)
-    (g.J.LeafJudge.combs judge) tree.given.now tree.steps.now st.numbers.items st.case.stack.items st.lowest st.leaf st.step-index
+    (g.J.LeafJudge.family_count judge) tree.given.now tree.steps.now st.numbers.items st.case.stack.items st.lowest st.leaf st.step-index
     (omega (arith, c.steps-test.false)) st.invariant.at

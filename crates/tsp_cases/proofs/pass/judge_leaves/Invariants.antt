@@ -1,8 +1,5 @@
 -- The loop of `judge_leaves` in src/pass.rt, which finds the least bound of all leaves, or the first bad leaf.
-use Rattle.std.proofs.Common.{◌≡◌, ◌≤◌, ◌+◌, ℕ, length, drop}
-use Rattle.std.specs.Prelude.{IfSome}
-use Rattle.tsp_format.specs.states.TreeSteps.{steps_of}
-use Rattle.tsp_theory.specs.Bounds.{IsBoundSized}
+use Rattle.tsp_cases.proofs.Prelude.{◌≡◌, ◌≤◌, ◌+◌, ℕ, length, drop, IfSome, steps_of, IsBoundSized}
 use Rattle.tsp_cases.specs.states.OpenCases.{IsOpenCase, decisions_in}
 use Rattle.tsp_cases.specs.states.Kept.{AreSmall}
 use Rattle.tsp_cases.proofs.Passes.{IsPassing}
@@ -12,10 +9,10 @@ use Rattle.tsp_cases.proofs.pass.judge_leaves.Given as goal
 abbrev pub invariant-steps : goal.invariant-steps
 invariant-steps g l = record {
   at : IsPassing (g.J.LeafJudge.found l.judge) (g.J.LeafJudge.good l.judge) (g.J.LeafJudge.fits l.judge) (g.J.LeafJudge.nodes l.judge)
-      (g.J.LeafJudge.combs l.judge) l.tree.given.now (steps_of l.tree.steps.now) l.numbers.items l.case.stack.items l.lowest l.leaf
+      (g.J.LeafJudge.family_count l.judge) l.tree.given.now (steps_of l.tree.steps.now) l.numbers.items l.case.stack.items l.lowest l.leaf
       (steps_of (drop l.step-index l.tree.steps.now));
   memory : g.J.LeafJudge.holds l.judge l.memory (decisions_in l.case);
-  long : length l.numbers.items ≡ g.J.LeafJudge.nodes l.judge + g.J.LeafJudge.combs l.judge;
+  long : length l.numbers.items ≡ g.J.LeafJudge.nodes l.judge + g.J.LeafJudge.family_count l.judge;
   small : AreSmall l.numbers.items;
   case : IsOpenCase (g.J.LeafJudge.places l.judge) l.case;
   given : l.case.given.now ≡ l.tree.given.now;

@@ -1,7 +1,6 @@
 -- The goals of `judge_numbers` in src/pass.rt, which says whether the numbers of a leaf are good, and copies
 -- them: what it ensures.
-use Rattle.std.proofs.Common.{false, refl, length, take, drop, ℤ, List}
-use Rattle.std.proofs.lemmas.Bool.{both_ways}
+use Rattle.tsp_cases.proofs.Prelude.{false, refl, length, take, drop, ℤ, List, both_ways}
 use Rattle.tsp_cases.proofs.SetSums.{small_multipliers}
 use Rattle.tsp_cases.proofs.pass.judge_numbers.Goals as goal
 

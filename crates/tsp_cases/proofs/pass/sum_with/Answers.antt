@@ -1,10 +1,7 @@
 -- The goals of `sum_with` in src/pass.rt, which sums the crossings of families times their multipliers: that no
 -- sum overflows and its loop.
-use Rattle.std.proofs.Common.{◌≡◌, ◌+◌, ◌∙◌, ◌<◌, ℕ, ℤ, List, drop, length, get_or, arith, rules, ap, sym, FitsSigned, to_z}
-use Rattle.std.specs.Prelude.{pos, ◌+ℤ◌, ◌*ℤ◌}
-use Rattle.std.specs.Int.{w64, w128}
+use Rattle.tsp_cases.proofs.Prelude.{◌≡◌, ◌+◌, ◌∙◌, ◌<◌, ℕ, ℤ, List, drop, length, get_or, arith, rules, ap, sym, FitsSigned, to_z, pos, ◌+ℤ◌, ◌*ℤ◌, w64, w128, to_z-of_z}
 use Rattle.std.proofs.Math.IntN.{+ℤ_assoc}
-use Rattle.std.proofs.lemmas.Int.{to_z-of_z}
 use Rattle.tsp_cases.specs.declared.family.Crossings.{Crossings}
 use Rattle.tsp_cases.specs.Families.{most_or_least, sum_with}
 use Rattle.tsp_cases.proofs.FamilyCrossings.{sum_left, number_small, AddsFamily, adds_family}

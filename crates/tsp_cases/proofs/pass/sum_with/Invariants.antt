@@ -1,7 +1,5 @@
 -- The loop of `sum_with` in src/pass.rt, which sums the crossings of families times their multipliers.
-use Rattle.std.proofs.Common.{◌≡◌, ◌*◌, ◌^◌, drop}
-use Rattle.std.specs.Prelude.{pos, ◌+ℤ◌}
-use Rattle.tsp_format.specs.Steps.{IsFromTo}
+use Rattle.tsp_cases.proofs.Prelude.{◌≡◌, ◌*◌, ◌^◌, drop, pos, ◌+ℤ◌, IsFromTo}
 use Rattle.tsp_cases.specs.Families.{sum_with}
 use Rattle.tsp_cases.proofs.pass.sum_with.Given as goal
 

@@ -1,14 +1,8 @@
 -- The goals of `add_sets` in src/sets.rt, which adds the multipliers of a node's sets to its row: its loop and what
 -- it ensures.
-use Rattle.std.proofs.Common.{◌≡◌, ◌≤◌, ◌<◌, ℕ, ℤ, List, length, get_or, refl, ap, subst, inl, ◌∙◌, arith, to_z, of_z}
-use Rattle.std.specs.Int.{w64}
-use Rattle.std.specs.Prelude.{pos, ◌*ℤ◌}
-use Rattle.std.proofs.lemmas.Int.{ints}
-use Rattle.std.proofs.lemmas.List.{drop_all}
-use Rattle.tsp_theory.specs.states.Nearest.{least_at, IsMoved}
+use Rattle.tsp_cases.proofs.Prelude.{◌≡◌, ◌≤◌, ◌<◌, ℕ, ℤ, List, length, get_or, refl, ap, subst, inl, ◌∙◌, arith, to_z, of_z, w64, pos, ◌*ℤ◌, ints, drop_all, least_at, IsMoved, moved_on}
 use Rattle.tsp_cases.specs.declared.sets.SetPlace.{SetPlace}
 use Rattle.tsp_cases.specs.states.Sets.{added, place_at, lent_in, twice_in, inside_both}
-use Rattle.tsp_theory.proofs.Sums.{moved_on}
 use Rattle.tsp_cases.proofs.SetSums.{inside_left}
 use Rattle.tsp_cases.proofs.sets.add_sets.Goals as goal
 

@@ -1,6 +1,5 @@
 -- The loop of `add_sets` in src/sets.rt, which adds the multipliers of a node's sets to its row.
-use Rattle.std.proofs.Common.{ℕ, ℤ, drop}
-use Rattle.tsp_theory.specs.states.Nearest.{least_at, IsMoved}
+use Rattle.tsp_cases.proofs.Prelude.{ℕ, ℤ, drop, least_at, IsMoved}
 use Rattle.tsp_cases.specs.states.Sets.{lent_in, inside_both}
 use Rattle.tsp_cases.proofs.sets.add_sets.Given as goal
 

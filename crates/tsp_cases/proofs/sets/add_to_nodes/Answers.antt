@@ -1,12 +1,6 @@
 -- The goals of `add_to_nodes` in src/sets.rt, which adds a number at each node of a list: its loop and what it ensures.
-use Rattle.std.proofs.Common.{◌≡◌, ◌≤◌, ℕ, ℤ, List, length, get_or, refl, ap, sym, ◌∙◌, subst, inl, arith, rules, FitsSigned, to_z, of_z}
-use Rattle.std.specs.Int.{w64}
-use Rattle.std.specs.Prelude.{pos}
-use Rattle.std.proofs.lemmas.Int.{to_z-of_z}
-use Rattle.std.proofs.lemmas.List.{drop_all}
-use Rattle.tsp_theory.specs.states.Nearest.{least_at, IsMoved}
+use Rattle.tsp_cases.proofs.Prelude.{◌≡◌, ◌≤◌, ℕ, ℤ, List, length, get_or, refl, ap, sym, ◌∙◌, subst, inl, arith, rules, FitsSigned, to_z, of_z, w64, pos, to_z-of_z, drop_all, least_at, IsMoved, moved_on, node_moved}
 use Rattle.tsp_cases.specs.states.Sets.{added}
-use Rattle.tsp_theory.proofs.Sums.{moved_on, node_moved}
 use Rattle.tsp_cases.proofs.SetSums.{added_left, added_none}
 use Rattle.tsp_cases.proofs.sets.add_to_nodes.Goals as goal
 

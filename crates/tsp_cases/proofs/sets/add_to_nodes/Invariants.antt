@@ -1,6 +1,5 @@
 -- The loop of `add_to_nodes` in src/sets.rt, which adds a number at each node of a list.
-use Rattle.std.proofs.Common.{ℕ, ℤ, drop}
-use Rattle.tsp_theory.specs.states.Nearest.{least_at, IsMoved}
+use Rattle.tsp_cases.proofs.Prelude.{ℕ, ℤ, drop, least_at, IsMoved}
 use Rattle.tsp_cases.specs.states.Sets.{added}
 use Rattle.tsp_cases.proofs.sets.add_to_nodes.Given as goal
 

@@ -1,15 +1,8 @@
 -- The goals of `add_to_sets` in src/sets.rt, which adds a number at each node of some sets: its loop and what it
 -- ensures.
-use Rattle.std.proofs.Common.{◌≡◌, ◌≤◌, ◌∙◌, ℕ, ℤ, List, length, get_or, refl, ap, sym, subst, inl, arith, rules, FitsSigned, to_z, of_z}
-use Rattle.std.specs.Int.{w64}
-use Rattle.std.specs.Global.{Vec}
-use Rattle.std.proofs.lemmas.Int.{to_z-of_z}
-use Rattle.std.proofs.lemmas.List.{drop_all}
-use Rattle.tsp_theory.specs.Tour.{sum_int_by}
-use Rattle.tsp_theory.specs.states.Nearest.{least_at, IsMoved}
+use Rattle.tsp_cases.proofs.Prelude.{◌≡◌, ◌≤◌, ◌∙◌, ℕ, ℤ, List, length, get_or, refl, ap, sym, subst, inl, arith, rules, FitsSigned, to_z, of_z, w64, Vec, to_z-of_z, drop_all, sum_int_by, least_at, IsMoved, moved_on}
 use Rattle.tsp_cases.specs.Crossings.{lists_of}
 use Rattle.tsp_cases.specs.states.Sets.{added}
-use Rattle.tsp_theory.proofs.Sums.{moved_on}
 use Rattle.tsp_cases.proofs.SetSums.{sets_left}
 use Rattle.tsp_cases.proofs.sets.add_to_sets.Goals as goal
 

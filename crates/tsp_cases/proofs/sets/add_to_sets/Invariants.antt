@@ -1,7 +1,5 @@
 -- The loop of `add_to_sets` in src/sets.rt, which adds a number at each node of some sets.
-use Rattle.std.proofs.Common.{ℕ, ℤ, drop}
-use Rattle.tsp_theory.specs.Tour.{sum_int_by}
-use Rattle.tsp_theory.specs.states.Nearest.{least_at, IsMoved}
+use Rattle.tsp_cases.proofs.Prelude.{ℕ, ℤ, drop, sum_int_by, least_at, IsMoved}
 use Rattle.tsp_cases.specs.Crossings.{lists_of}
 use Rattle.tsp_cases.specs.states.Sets.{added}
 use Rattle.tsp_cases.proofs.sets.add_to_sets.Given as goal

@@ -1,14 +1,6 @@
 -- The goals of `fill_moved` in src/sets.rt, which writes each potential less the multipliers of the node's sets: its
 -- loop.
-use Rattle.std.proofs.Common.{◌≡◌, ◌∙◌, ◌<◌, ◌+◌, ◌-◌, ℕ, ℤ, List, length, inl, inr, ap, ap₂, sym, arith, rules, to_z, of_z, FitsSigned}
-use Rattle.std.specs.Prelude.{pos, ◌+ℤ◌}
-use Rattle.std.specs.Int.{w64, int_wrap}
-use Rattle.std.proofs.Math.ListN.{set, length-set}
-use Rattle.std.proofs.lemmas.Bool.{cases_eq}
-use Rattle.std.proofs.lemmas.Int.{to_z-of_z}
-use Rattle.std.proofs.lemmas.List.{get_or-set_same, get_or-set_other}
-use Rattle.tsp_theory.specs.Bounds.{entry}
-use Rattle.tsp_theory.specs.states.Nearest.{least_at}
+use Rattle.tsp_cases.proofs.Prelude.{◌≡◌, ◌∙◌, ◌<◌, ◌+◌, ◌-◌, ℕ, ℤ, List, length, inl, inr, ap, ap₂, sym, arith, rules, to_z, of_z, FitsSigned, pos, ◌+ℤ◌, w64, int_wrap, set, length-set, cases_eq, to_z-of_z, get_or-set_same, get_or-set_other, entry, least_at}
 use Rattle.tsp_cases.proofs.sets.fill_moved.Goals as goal
 
 -- plan: by whether a node is the one just written (`get_or-set_same`), which has its potential plus its end, or one

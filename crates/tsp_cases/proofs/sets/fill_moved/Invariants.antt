@@ -1,9 +1,5 @@
 -- The loop of `fill_moved` in src/sets.rt, which writes each potential less the multipliers of the node's sets.
-use Rattle.std.proofs.Common.{◌≡◌, ◌≤◌, ◌+◌, ℕ, length}
-use Rattle.std.specs.Int.{w64, int_wrap}
-use Rattle.std.specs.Prelude.{◌+ℤ◌}
-use Rattle.tsp_theory.specs.Bounds.{entry}
-use Rattle.tsp_theory.specs.states.Nearest.{least_at}
+use Rattle.tsp_cases.proofs.Prelude.{◌≡◌, ◌≤◌, ◌+◌, ℕ, length, w64, int_wrap, ◌+ℤ◌, entry, least_at}
 use Rattle.tsp_cases.proofs.sets.fill_moved.Given as goal
 
 -- each node up to `index` has the sum of its potential and its other number, in 64 bits

@@ -1,8 +1,5 @@
 -- The loop of `fill_shifted` in src/sets.rt, which writes a row plus the numbers of both nodes.
-use Rattle.std.proofs.Common.{◌≡◌, ◌<◌, ℕ}
-use Rattle.std.specs.Int.{w64, int_wrap}
-use Rattle.std.specs.Prelude.{◌+ℤ◌}
-use Rattle.tsp_theory.specs.states.Nearest.{least_at}
+use Rattle.tsp_cases.proofs.Prelude.{◌≡◌, ◌<◌, ℕ, w64, int_wrap, ◌+ℤ◌, least_at}
 use Rattle.tsp_cases.proofs.sets.fill_shifted.Given as goal
 
 -- each place before this one has its sum, in 64 bits

@@ -1,8 +1,6 @@
 -- The goals of `place_family` in src/sets.rt, which puts a family's sets into the lists of their nodes: its loop and
 -- what it ensures.
-use Rattle.std.proofs.Common.{◌≤◌, ◌<◌, ◌++◌, ℕ, List, length, get_or, ap, sym, ◌∙◌, arith}
-use Rattle.std.specs.Global.{Vec}
-use Rattle.std.proofs.lemmas.List.{drop_all, append-nil}
+use Rattle.tsp_cases.proofs.Prelude.{◌≤◌, ◌<◌, ◌++◌, ℕ, List, length, get_or, ap, sym, ◌∙◌, arith, Vec, drop_all, append-nil}
 use Rattle.tsp_cases.specs.Crossings.{lists_of}
 use Rattle.tsp_cases.specs.states.Sets.{place_at, times, places_in}
 use Rattle.tsp_cases.proofs.SetSums.{set_listed}

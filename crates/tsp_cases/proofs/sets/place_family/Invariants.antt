@@ -1,6 +1,5 @@
 -- The loop of `place_family` in src/sets.rt, which puts a family's sets into the lists of their nodes.
-use Rattle.std.proofs.Common.{◌≡◌, ◌<◌, ℕ, ◌++◌, drop, length, get_or}
-use Rattle.std.specs.Global.{Vec}
+use Rattle.tsp_cases.proofs.Prelude.{◌≡◌, ◌<◌, ℕ, ◌++◌, drop, length, get_or, Vec}
 use Rattle.tsp_cases.specs.Crossings.{lists_of}
 use Rattle.tsp_cases.specs.declared.sets.SetPlace.{SetPlace}
 use Rattle.tsp_cases.specs.states.Sets.{places_in}

@@ -1,7 +1,5 @@
 -- The goals of `place_set` in src/sets.rt, which puts a set into the lists of its nodes: its loop and what it ensures.
-use Rattle.std.proofs.Common.{◌≤◌, ◌<◌, ℕ, List, ◌++◌, length, get_or, refl, ap, sym, subst, ◌∙◌, arith}
-use Rattle.std.proofs.Math.ListN.{length-set}
-use Rattle.std.proofs.lemmas.List.{drop_all, append-nil}
+use Rattle.tsp_cases.proofs.Prelude.{◌≤◌, ◌<◌, ℕ, List, ◌++◌, length, get_or, refl, ap, sym, subst, ◌∙◌, arith, length-set, drop_all, append-nil}
 use Rattle.tsp_cases.specs.states.Sets.{times}
 use Rattle.tsp_cases.proofs.SetSums.{listed_more}
 use Rattle.tsp_cases.proofs.sets.place_set.Goals as goal

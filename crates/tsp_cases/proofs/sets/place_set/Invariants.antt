@@ -1,6 +1,5 @@
 -- The loop of `place_set` in src/sets.rt, which puts a set into the lists of its nodes.
-use Rattle.std.proofs.Common.{◌≡◌, ◌<◌, ℕ, ◌++◌, drop, length, get_or}
-use Rattle.std.specs.Global.{Vec}
+use Rattle.tsp_cases.proofs.Prelude.{◌≡◌, ◌<◌, ℕ, ◌++◌, drop, length, get_or, Vec}
 use Rattle.tsp_cases.specs.declared.sets.SetPlace.{SetPlace}
 use Rattle.tsp_cases.specs.states.Sets.{times}
 use Rattle.tsp_cases.proofs.sets.place_set.Given as goal

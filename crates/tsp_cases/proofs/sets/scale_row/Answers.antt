@@ -1,14 +1,6 @@
 -- The goals of `scale_row` in src/sets.rt, which multiplies a row of costs by the scale: its loop.
-use Rattle.std.proofs.Common.{◌≡◌, ◌<◌, ◌≤◌, ℕ, ℤ, List, length, inl, inr, sym, ap, ◌∙◌, arith, to_z, of_z}
-use Rattle.std.specs.Prelude.{pos, neg_ℤ, ◌*ℤ◌}
-use Rattle.std.specs.Int.{w64}
-use Rattle.std.proofs.lemmas.Bool.{cases_eq}
-use Rattle.std.proofs.lemmas.List.{get_or-set_same, get_or-set_other}
-use Rattle.std.proofs.Math.ListN.{set}
+use Rattle.tsp_cases.proofs.Prelude.{◌≡◌, ◌<◌, ◌≤◌, ℕ, ℤ, List, length, inl, inr, sym, ap, ◌∙◌, arith, to_z, of_z, pos, neg_ℤ, ◌*ℤ◌, w64, cases_eq, get_or-set_same, get_or-set_other, set, IsFromTo, least_at, product_is, same_scale}
 use Rattle.tsp_format.specs.Limits.{most_weight}
-use Rattle.tsp_format.specs.Steps.{IsFromTo}
-use Rattle.tsp_theory.specs.states.Nearest.{least_at}
-use Rattle.tsp_theory.proofs.Sums.{product_is, same_scale}
 use Rattle.tsp_cases.proofs.sets.scale_row.Goals as goal
 
 -- plan: one entry more is multiplied by the scale, which fits 64 bits (`product_is`)

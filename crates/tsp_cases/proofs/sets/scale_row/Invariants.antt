@@ -1,7 +1,5 @@
 -- The loop of `scale_row` in src/sets.rt, which multiplies a row of costs by the scale.
-use Rattle.std.proofs.Common.{◌≡◌, ◌≤◌, ◌<◌, ℕ}
-use Rattle.std.specs.Prelude.{◌*ℤ◌}
-use Rattle.tsp_theory.specs.states.Nearest.{least_at}
+use Rattle.tsp_cases.proofs.Prelude.{◌≡◌, ◌≤◌, ◌<◌, ℕ, ◌*ℤ◌, least_at}
 use Rattle.tsp_cases.proofs.sets.scale_row.Given as goal
 
 -- the costs from place 1 to the one before this are scaled, and the others are as they were

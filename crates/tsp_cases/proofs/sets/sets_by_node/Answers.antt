@@ -1,8 +1,6 @@
 -- The goals of `sets_by_node` in src/sets.rt, which lists at each node the sets that have it: its loop and what it
 -- ensures.
-use Rattle.std.proofs.Common.{◌≤◌, ◌<◌, ◌++◌, ℕ, List, length, get_or, ap, sym, ◌∙◌, arith}
-use Rattle.std.specs.Global.{Vec}
-use Rattle.std.proofs.lemmas.List.{drop_all, append-nil}
+use Rattle.tsp_cases.proofs.Prelude.{◌≤◌, ◌<◌, ◌++◌, ℕ, List, length, get_or, ap, sym, ◌∙◌, arith, Vec, drop_all, append-nil}
 use Rattle.tsp_cases.specs.Crossings.{lists_of, families_in}
 use Rattle.tsp_cases.specs.states.Sets.{places_in, places_with}
 use Rattle.tsp_cases.proofs.SetSums.{family_listed}

@@ -1,6 +1,5 @@
 -- The loop of `sets_by_node` in src/sets.rt, which lists at each node the sets that have it.
-use Rattle.std.proofs.Common.{◌≡◌, ◌≤◌, ◌+◌, ℕ, ◌++◌, drop, length, get_or}
-use Rattle.std.specs.Global.{Vec}
+use Rattle.tsp_cases.proofs.Prelude.{◌≡◌, ◌≤◌, ◌+◌, ℕ, ◌++◌, drop, length, get_or, Vec}
 use Rattle.tsp_cases.specs.Crossings.{families_in}
 use Rattle.tsp_cases.specs.declared.sets.SetPlace.{SetPlace}
 use Rattle.tsp_cases.specs.states.Sets.{places_with, lent_in}

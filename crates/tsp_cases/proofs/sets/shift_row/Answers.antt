@@ -1,12 +1,5 @@
 -- The goals of `shift_row` in src/sets.rt, which adds the numbers of both nodes to a row: its loop.
-use Rattle.std.proofs.Common.{◌≡◌, ◌<◌, ℕ, ℤ, List, length, inl, inr, sym, subst, ap, ap₂, ◌∙◌, arith, rules, to_z, of_z, FitsSigned}
-use Rattle.std.specs.Prelude.{pos, ◌+ℤ◌}
-use Rattle.std.specs.Int.{w64, int_wrap}
-use Rattle.std.proofs.lemmas.Bool.{cases_eq}
-use Rattle.std.proofs.lemmas.Int.{to_z-of_z}
-use Rattle.std.proofs.lemmas.List.{get_or-set_same, get_or-set_other}
-use Rattle.std.proofs.Math.ListN.{set}
-use Rattle.tsp_theory.specs.states.Nearest.{least_at}
+use Rattle.tsp_cases.proofs.Prelude.{◌≡◌, ◌<◌, ℕ, ℤ, List, length, inl, inr, sym, subst, ap, ap₂, ◌∙◌, arith, rules, to_z, of_z, FitsSigned, pos, ◌+ℤ◌, w64, int_wrap, cases_eq, to_z-of_z, get_or-set_same, get_or-set_other, set, least_at}
 use Rattle.tsp_cases.proofs.sets.shift_row.Goals as goal
 
 -- plan: by whether a place is the one just written (`get_or-set_same`), which has its sum, or another

@@ -1,8 +1,5 @@
 -- The loop of `shift_row` in src/sets.rt, which adds the numbers of both nodes to a row.
-use Rattle.std.proofs.Common.{◌≡◌, ◌≤◌, ◌<◌, ℕ}
-use Rattle.std.specs.Int.{w64, int_wrap}
-use Rattle.std.specs.Prelude.{◌+ℤ◌}
-use Rattle.tsp_theory.specs.states.Nearest.{least_at}
+use Rattle.tsp_cases.proofs.Prelude.{◌≡◌, ◌≤◌, ◌<◌, ℕ, w64, int_wrap, ◌+ℤ◌, least_at}
 use Rattle.tsp_cases.proofs.sets.shift_row.Given as goal
 
 -- each number before this place has its sum, in 64 bits, and the others are as they were

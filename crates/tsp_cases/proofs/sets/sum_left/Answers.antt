@@ -1,7 +1,5 @@
 -- The goals of `sum_left` in src/sets.rt, which returns what is left of a sum in 64 bits: what it ensures.
-use Rattle.std.proofs.Common.{rules, FitsSigned}
-use Rattle.std.specs.Int.{w64}
-use Rattle.std.proofs.lemmas.Int.{wrapping_add_is}
+use Rattle.tsp_cases.proofs.Prelude.{rules, FitsSigned, w64, wrapping_add_is}
 use Rattle.tsp_cases.proofs.sets.sum_left.Goals as goal
 
 -- plan: both numbers fit 64 bits, so the sum of their words is the sum of the integers, wrapped

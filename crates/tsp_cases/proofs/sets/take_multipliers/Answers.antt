@@ -1,16 +1,8 @@
 -- The goals of `take_multipliers` in src/sets.rt, which takes multipliers off the nodes of their sets: its loop and
 -- what it ensures.
-use Rattle.std.proofs.Common.{◌≡◌, ◌≤◌, ◌<◌, ◌+◌, ℕ, ℤ, List, drop, length, get_or, refl, ap, sym, subst, inl, ◌∙◌, arith, to_z, of_z}
-use Rattle.std.specs.Int.{w64}
-use Rattle.std.specs.Global.{Vec}
-use Rattle.std.specs.Prelude.{pos, neg_ℤ, ◌+ℤ◌, ◌-ℤ◌}
-use Rattle.std.proofs.lemmas.Int.{ints}
-use Rattle.std.proofs.lemmas.List.{drop_all}
-use Rattle.tsp_theory.specs.Tour.{sum_int_by}
-use Rattle.tsp_theory.specs.states.Nearest.{least_at, IsMoved}
+use Rattle.tsp_cases.proofs.Prelude.{◌≡◌, ◌≤◌, ◌<◌, ◌+◌, ℕ, ℤ, List, drop, length, get_or, refl, ap, sym, subst, inl, ◌∙◌, arith, to_z, of_z, w64, Vec, pos, neg_ℤ, ◌+ℤ◌, ◌-ℤ◌, ints, drop_all, sum_int_by, least_at, IsMoved, moved_on}
 use Rattle.tsp_cases.specs.Crossings.{lists_of, families_in}
 use Rattle.tsp_cases.specs.states.Sets.{added, summed_from}
-use Rattle.tsp_theory.proofs.Sums.{moved_on}
 use Rattle.tsp_cases.proofs.SetSums.{all_less, multipliers_left}
 use Rattle.tsp_cases.proofs.sets.take_multipliers.Goals as goal
 

@@ -1,7 +1,5 @@
 -- The loop of `take_multipliers` in src/sets.rt, which takes multipliers off the nodes of their sets.
-use Rattle.std.proofs.Common.{ℕ, ℤ, drop}
-use Rattle.std.specs.Prelude.{neg_ℤ}
-use Rattle.tsp_theory.specs.states.Nearest.{least_at, IsMoved}
+use Rattle.tsp_cases.proofs.Prelude.{ℕ, ℤ, drop, neg_ℤ, least_at, IsMoved}
 use Rattle.tsp_cases.specs.Crossings.{families_in}
 use Rattle.tsp_cases.specs.states.Sets.{added, lent_in, summed_from, multipliers_at}
 use Rattle.tsp_cases.proofs.sets.take_multipliers.Given as goal

@@ -1,10 +1,8 @@
 -- The goals of `first_bad_branch` in src/tree.rt, which finds the first branch whose first number is out of its
 -- limits: its loop and what it ensures.
-use Rattle.std.proofs.Common.{◌+◌, List, drop, arith}
-use Rattle.tsp_format.specs.declared.steps.TreeStep.{TreeStep}
+use Rattle.tsp_cases.proofs.Prelude.{◌+◌, List, drop, arith, TreeStep, steps_of}
 use Rattle.tsp_format.specs.declared.steps.TreeStep.TheVariants as code
 use Rattle.tsp_format.specs.Steps as listed
-use Rattle.tsp_format.specs.states.TreeSteps.{steps_of}
 use Rattle.tsp_cases.proofs.TreeBranches.{within_next, within_at_branch, within_at_leaf, within_at_end}
 use Rattle.tsp_cases.proofs.tree.first_bad_branch.Goals as goal
 use Rattle.tsp_cases.proofs.tree.first_bad_branch.Goals.{in-Branch+else-first-least+else-most-first, in_default}

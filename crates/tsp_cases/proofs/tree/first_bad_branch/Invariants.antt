@@ -1,7 +1,6 @@
 -- The loop of `first_bad_branch` in src/tree.rt, which finds the first branch whose first number is out of its
 -- limits.
-use Rattle.std.proofs.Common.{◌≤◌, drop}
-use Rattle.tsp_format.specs.states.TreeSteps.{steps_of}
+use Rattle.tsp_cases.proofs.Prelude.{◌≤◌, drop, steps_of}
 use Rattle.tsp_cases.proofs.TreeBranches.{AreWithinSoFar}
 use Rattle.tsp_cases.proofs.tree.first_bad_branch.Given as goal
 

@@ -1,13 +1,8 @@
 -- The goals of `first_twice` in src/tree.rt, which finds the first branch on a pair that is decided already: its loop,
 -- what its calls require and what it ensures.
-use Rattle.std.proofs.Common.{◌∙◌, ◌+◌, ℕ, Bool, true, false, List, drop, arith, sym, subst}
-use Rattle.std.specs.List.{All}
-use Rattle.std.proofs.Math.Logic.{∥∥₁_elim}
-use Rattle.std.proofs.Props.{props}
-use Rattle.tsp_format.specs.declared.steps.TreeStep.{TreeStep}
+use Rattle.tsp_cases.proofs.Prelude.{◌∙◌, ◌+◌, ℕ, Bool, true, false, List, drop, arith, sym, subst, All, ∥∥₁_elim, props, TreeStep, steps_of}
 use Rattle.tsp_format.specs.declared.steps.TreeStep.TheVariants as code
 use Rattle.tsp_format.specs.Steps as listed
-use Rattle.tsp_format.specs.states.TreeSteps.{steps_of}
 use Rattle.tsp_cases.specs.declared.open_case.Decision.{Decision}
 use Rattle.tsp_cases.specs.states.OpenCases.{IsDecision, IsNextStack, stack_of, IsOpenCase}
 use Rattle.tsp_cases.proofs.TreeBranches.{IsOnceSoFar, once_at_start, once_next, once_pushed, twice_found, once_at_leaf, once_at_last, once_at_end, decided_here}

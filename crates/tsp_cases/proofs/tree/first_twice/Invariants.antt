@@ -1,6 +1,5 @@
 -- The loop of `first_twice` in src/tree.rt, which finds the first branch on a pair that is decided already.
-use Rattle.std.proofs.Common.{◌≡◌, ◌≤◌, drop}
-use Rattle.tsp_format.specs.states.TreeSteps.{steps_of}
+use Rattle.tsp_cases.proofs.Prelude.{◌≡◌, ◌≤◌, drop, steps_of}
 use Rattle.tsp_cases.specs.states.OpenCases.{stack_of, IsOpenCase}
 use Rattle.tsp_cases.proofs.TreeBranches.{IsOnceSoFar}
 use Rattle.tsp_cases.proofs.tree.first_twice.Given as goal

@@ -1,13 +1,6 @@
 -- The goals of `judge_cases` in src/tree.rt, which finds the first bad branch of a certificate: the facts of the
 -- values that it makes, what its calls require and what it ensures.
-use Rattle.std.proofs.Common.{ℕ, refl, sym, subst, arith}
-use Rattle.std.specs.Prelude.{None}
-use Rattle.std.specs.List.{All}
-use Rattle.std.proofs.Math.Logic.{∥∥₁_elim}
-use Rattle.std.proofs.Props.{props}
-use Rattle.tsp_format.specs.states.TreeSteps.{steps_of}
-use Rattle.tsp_theory.specs.Bounds.{IsScale}
-use Rattle.tsp_theory.proofs.Sums.{same_scale}
+use Rattle.tsp_cases.proofs.Prelude.{ℕ, refl, sym, subst, arith, None, All, ∥∥₁_elim, props, steps_of, IsScale, same_scale}
 use Rattle.tsp_cases.specs.ListedCases.{IsListedStep, branch_pairs, BeginsWithin, AreBranchesWithin, AreBranchesJudged}
 use Rattle.tsp_cases.specs.states.OpenCases.{IsDecision}
 use Rattle.tsp_cases.proofs.TreeBranches.{steps_on_nodes}

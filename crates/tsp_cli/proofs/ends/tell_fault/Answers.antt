@@ -1,6 +1,5 @@
 -- The goals of `tell_fault` in src/ends.rt. The text of a fault is written as one line.
-use Rattle.std.proofs.Common.{◌≡◌, ◌∙◌, ap, subst, ℕ, List, [], ◌∷◌, ◌++◌}
-use Rattle.std.specs.Prelude.{OnOk}
+use Rattle.tsp_cli.proofs.Prelude.{◌≡◌, ◌∙◌, ap, subst, ℕ, List, [], ◌∷◌, ◌++◌, OnOk}
 use Rattle.std.specs.Io.KnownBytes.{Appends}
 use Rattle.std.proofs.lemmas.Fmt.{contents_after_writes}
 use Rattle.tsp_judge.specs.CheckRun.{run_fault_text}

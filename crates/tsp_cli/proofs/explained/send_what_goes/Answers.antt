@@ -1,7 +1,6 @@
 -- The goals of `send_what_goes` in src/explained.rt, which sends a text to standard error as far as that takes it: its
 -- loop.
-use Rattle.std.proofs.Common.{rules, ◌++◌, take}
-use Rattle.std.proofs.KnownBytes.{Appends-trans}
+use Rattle.tsp_cli.proofs.Prelude.{rules, ◌++◌, take, Appends-trans}
 use Rattle.tsp_cli.proofs.explained.send_what_goes.Goals as goal
 
 pub parts-preserved : goal.parts-preserved

@@ -1,6 +1,5 @@
 -- The goals of `bound_files` in src/grammar.rt, which is the command `bound` with its file: what it ensures.
-use Rattle.std.proofs.Common.{codes}
-use Rattle.clap.specs.Words.{new_app}
+use Rattle.tsp_cli.proofs.Prelude.{codes, new_app}
 use Rattle.tsp_cli.specs.Grammar.{path}
 use Rattle.tsp_cli.proofs.grammar.bound_files.Goals as goal
 

@@ -1,7 +1,6 @@
 -- The goals of `check` in src/grammar.rt, which is the command `check` with all its options: what the calls require,
 -- and what it ensures.
-use Rattle.std.proofs.Common.{codes}
-use Rattle.clap.specs.Words.{with_rule}
+use Rattle.tsp_cli.proofs.Prelude.{codes, with_rule}
 use Rattle.tsp_cli.specs.Grammar.{check_certified, explain, option, strict}
 use Rattle.tsp_cli.proofs.Subcommands.{free}
 use Rattle.tsp_cli.proofs.grammar.check.Goals as goal

@@ -1,7 +1,6 @@
 -- The goals of `check_files` in src/grammar.rt, which is the command `check` with its files: what the calls require,
 -- and what it ensures.
-use Rattle.std.proofs.Common.{codes}
-use Rattle.clap.specs.Words.{new_app, with_rule}
+use Rattle.tsp_cli.proofs.Prelude.{codes, new_app, with_rule}
 use Rattle.tsp_cli.specs.Grammar.{path}
 use Rattle.tsp_cli.proofs.Subcommands.{free}
 use Rattle.tsp_cli.proofs.grammar.check_files.Goals as goal

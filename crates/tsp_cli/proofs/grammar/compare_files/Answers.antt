@@ -1,7 +1,6 @@
 -- The goals of `compare_files` in src/grammar.rt, which is the command `compare` with its files: what the calls
 -- require, and what it ensures.
-use Rattle.std.proofs.Common.{codes}
-use Rattle.clap.specs.Words.{new_app, with_rule}
+use Rattle.tsp_cli.proofs.Prelude.{codes, new_app, with_rule}
 use Rattle.tsp_cli.specs.Grammar.{path, several_paths}
 use Rattle.tsp_cli.proofs.Subcommands.{free}
 use Rattle.tsp_cli.proofs.grammar.compare_files.Goals as goal

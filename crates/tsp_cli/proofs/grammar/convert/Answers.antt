@@ -1,7 +1,6 @@
 -- The goals of `convert` in src/grammar.rt, which is the command `convert` with its file and options: what the calls
 -- require, and what it ensures.
-use Rattle.std.proofs.Common.{codes}
-use Rattle.clap.specs.Words.{new_app, with_rule}
+use Rattle.tsp_cli.proofs.Prelude.{codes, new_app, with_rule}
 use Rattle.tsp_cli.specs.Grammar.{explain, option, path}
 use Rattle.tsp_cli.proofs.Subcommands.{free}
 use Rattle.tsp_cli.proofs.grammar.convert.Goals as goal

@@ -1,6 +1,5 @@
 -- The goals of `job_of` in src/job.rt, which reads the words of a command line: what it ensures.
-use Rattle.std.proofs.Common.{◌≡◌, ◌∙◌, sym, ap, subst, List, map, [], Some, option_map}
-use Rattle.clap.specs.Words.{App, HasKind, Row, Text, fault_of, found_of, is_simple, rows_of, subcommand_of, subcommand_rows_of}
+use Rattle.tsp_cli.proofs.Prelude.{◌≡◌, ◌∙◌, sym, ap, subst, List, map, [], Some, option_map, App, HasKind, Row, Text, fault_of, found_of, is_simple, rows_of, subcommand_of, subcommand_rows_of}
 use Rattle.clap.specs.Faults.{is_simple_and_free}
 use Rattle.clap.specs.declared.parser.matches.ArgMatches.TheViews.{out-ArgMatches}
 use Rattle.tsp_cli.specs.Grammar.{tsp, IsJobOf, word_of}

@@ -1,6 +1,5 @@
 -- The loop of `owned` in src/job.rt.
-use Rattle.std.proofs.Common.{◌≡◌, map, take}
-use Rattle.std.specs.String.{string_bytes}
+use Rattle.tsp_cli.proofs.Prelude.{◌≡◌, map, take, string_bytes}
 use Rattle.tsp_cli.proofs.job.owned.Given as goal
 
 -- the copies so far have the bytes of the texts before this one

@@ -1,7 +1,5 @@
 -- The goals of `text_of` in src/job.rt, which returns the text that was found for an argument: what it ensures.
-use Rattle.std.proofs.Common.{◌∙◌}
-use Rattle.clap.specs.Words.{found_of}
-use Rattle.clap.proofs.WalkLemmas.{first_value-rows}
+use Rattle.tsp_cli.proofs.Prelude.{◌∙◌, found_of, first_value-rows}
 use Rattle.tsp_cli.proofs.job.text_of.Goals as goal
 
 -- plan: clap has a row for each argument that was given, and the first word of it is the text

@@ -1,7 +1,5 @@
 -- The goals of `value` in src/job.rt, which returns the value that was found for an argument: what it ensures.
-use Rattle.std.proofs.Common.{rules}
-use Rattle.clap.specs.Words.{found_of}
-use Rattle.clap.proofs.WalkLemmas.{first_value-rows}
+use Rattle.tsp_cli.proofs.Prelude.{rules, found_of, first_value-rows}
 use Rattle.tsp_cli.proofs.job.value.Goals as goal
 
 -- plan: clap has one row for each option: the option's first word (`first_value-rows`), or no row if it wasn't given

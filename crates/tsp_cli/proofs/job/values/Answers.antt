@@ -1,7 +1,5 @@
 -- The goals of `values` in src/job.rt, which returns the values that were found for an argument: what it ensures.
-use Rattle.std.proofs.Common.{rules, ◌≡◌, ap, option_map, map}
-use Rattle.clap.specs.Words.{found_of}
-use Rattle.clap.proofs.WalkLemmas.{raw_values-rows}
+use Rattle.tsp_cli.proofs.Prelude.{rules, ◌≡◌, ap, option_map, map, found_of, raw_values-rows}
 use Rattle.tsp_cli.proofs.job.values.Goals as goal
 
 -- plan: clap has one row for the paths: the words of these (`raw_values-rows`), or no row if none was given

@@ -1,8 +1,6 @@
 -- The goals of `run` in src/running.rt, which does what a command line asks for: what it ensures.
-use Rattle.std.proofs.Common.{◌≡◌, ◌||◌, ℕ, Bool, false, List, Option, Result, refl, sym, ◌∙◌, ap, subst, map, drop, Ok, Err, OnOk}
-use Rattle.std.proofs.KnownBytes.{Keeps-refl}
+use Rattle.tsp_cli.proofs.Prelude.{◌≡◌, ◌||◌, ℕ, Bool, false, List, Option, Result, refl, sym, ◌∙◌, ap, subst, map, drop, Ok, Err, OnOk, Keeps-refl, Text, string_bytes}
 use Rattle.std.specs.declared.io.Error.{Error}
-use Rattle.clap.specs.Words.{Text}
 use Rattle.clap.specs.declared.error.Error.{Error as Refusal}
 use Rattle.tsp_io.specs.Streams.{Sink}
 use Rattle.tsp_cli.specs.Grammar.{GivesJob}
@@ -11,7 +9,6 @@ use Rattle.tsp_cli.specs.declared.job.Job.{Job}
 use Rattle.tsp_cli.specs.declared.job.JobFault.TheVariants.{OutOfMemory, Refused}
 use Rattle.tsp_cli.specs.declared.ends.RunEnd.{RunEnd}
 use Rattle.tsp_cli.specs.declared.ends.RunEnd.TheVariants.{NoJob, Printed, NoTask, Ended, Compared}
-use Rattle.std.specs.String.{string_bytes}
 use Rattle.tsp_io.specs.states.Watched.{sink_of}
 use Rattle.tsp_cli.specs.RunEnd.{Tells, TellsAll}
 use Rattle.tsp_cli.specs.ProgramRun.{EndsProgram, EndsRefused, EndsWith}

@@ -1,6 +1,5 @@
 -- The goals of `run_job` in src/running.rt, which does a job and returns how it ended: what it ensures.
-use Rattle.std.proofs.Common.{◌≡◌, refl, subst, Ok}
-use Rattle.std.proofs.KnownBytes.{Keeps-refl}
+use Rattle.tsp_cli.proofs.Prelude.{◌≡◌, refl, subst, Ok, Keeps-refl}
 use Rattle.tsp_cli.specs.Tasks.{GivesTask}
 use Rattle.tsp_cli.specs.declared.ends.RunEnd.TheVariants.{NoTask, Ended, Compared}
 use Rattle.tsp_cli.proofs.running.run_job.Goals as goal

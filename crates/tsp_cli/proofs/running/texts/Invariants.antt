@@ -1,6 +1,5 @@
 -- The loop of `texts` in src/running.rt.
-use Rattle.std.proofs.Common.{◌≡◌, map, take}
-use Rattle.std.specs.String.{string_bytes}
+use Rattle.tsp_cli.proofs.Prelude.{◌≡◌, map, take, string_bytes}
 use Rattle.tsp_cli.proofs.running.texts.Given as goal
 
 -- the texts so far have the bytes of the words before this one

@@ -1,7 +1,5 @@
 -- The goals of `examples_of_tours` in src/examples.rt: what it ensures.
-use Rattle.std.proofs.Common.{◌≡◌, ℕ, zero, suc, ◌<◌, inl, inr, arith, ap}
-use Rattle.std.specs.Prelude.{slice_index_or}
-use Rattle.tsp_theory.specs.Tour.{links, Follows, AreNeighbours}
+use Rattle.tsp_cost.proofs.Prelude.{◌≡◌, ℕ, zero, suc, ◌<◌, inl, inr, arith, ap, slice_index_or, links, Follows, AreNeighbours}
 use Rattle.tsp_theory.specs.Examples.{three, four}
 use Rattle.tsp_cost.proofs.examples.examples_of_tours.Goals as goal
 

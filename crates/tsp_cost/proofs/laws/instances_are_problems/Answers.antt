@@ -1,6 +1,5 @@
 -- The goals of `instances_are_problems` in src/laws.rt: what it ensures.
-use Rattle.std.proofs.Common.{sym, subst, refl}
-use Rattle.std.specs.Prelude.{IsTrue}
+use Rattle.tsp_cost.proofs.Prelude.{sym, subst, refl, IsTrue}
 use Rattle.tsp_format.specs.declared.kinds.Kind.TheVariants as kinds
 use Rattle.tsp_file.specs.Rules.{is_routing}
 use Rattle.tsp_cost.proofs.Problems.{AreDefined, AreUnique, some_problem, one_problem, one_routing}

@@ -1,6 +1,5 @@
 -- The goals of `examples_of_lines` in src/examples.rt: what it ensures.
-use Rattle.std.proofs.Common.{rules}
-use Rattle.std.specs.Fmt.{digits}
+use Rattle.tsp_file.proofs.Prelude.{rules, digits}
 use Rattle.tsp_file.proofs.examples.examples_of_lines.Goals as goal
 
 -- plan: the text of each line is computed

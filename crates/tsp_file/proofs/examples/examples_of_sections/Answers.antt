@@ -1,8 +1,5 @@
 -- The goals of `examples_of_sections` in src/examples.rt: what it ensures.
-use Rattle.std.proofs.Common.{rules, refl}
-use Rattle.std.specs.Fmt.{digits}
-use Rattle.tsp_number.specs.NumberWord.{decimals}
-use Rattle.tsp_format.specs.Nodes.{nodes_to, cells_of_line}
+use Rattle.tsp_file.proofs.Prelude.{rules, refl, digits, decimals, nodes_to, cells_of_line}
 use Rattle.tsp_file.proofs.examples.examples_of_sections.Goals as goal
 
 -- plan: the text of each small file is computed
@@ -50,17 +47,17 @@ pub returns-clause-fixed_potentials : goal.returns-clause-fixed_potentials
 unfolding digits decimals nodes_to cells_of_line
 returns-clause-fixed_potentials c = search rules
 
-pub returns-clause-combs : goal.returns-clause-combs
+pub returns-clause-families : goal.returns-clause-families
 unfolding digits decimals nodes_to cells_of_line
-returns-clause-combs c = search rules
+returns-clause-families c = search rules
 
 pub returns-clause-branches : goal.returns-clause-branches
 unfolding digits decimals nodes_to cells_of_line
 returns-clause-branches c = search rules
 
-pub returns-clause-no_combs : goal.returns-clause-no_combs
+pub returns-clause-no_families : goal.returns-clause-no_families
 unfolding digits decimals nodes_to cells_of_line
-returns-clause-no_combs c = search rules
+returns-clause-no_families c = search rules
 
 pub returns-clause-in_space : goal.returns-clause-in_space
 unfolding digits decimals nodes_to cells_of_line

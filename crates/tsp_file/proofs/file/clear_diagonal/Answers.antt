@@ -1,10 +1,5 @@
 -- The goals of `clear_diagonal` in src/file.rt, which sets the diagonal to 0: its loop and what it ensures.
-use Rattle.std.proofs.Common.{◌∙◌, refl, sym, arith, pos}
-use Rattle.std.proofs.lemmas.Bool.{false≢true}
-use Rattle.std.proofs.lemmas.List.{length-set}
-use Rattle.tsp_format.specs.Nodes.{IsNode}
-use Rattle.tsp_format.specs.declared.layout.Layout.TheVariants.{FullMatrix}
-use Rattle.tsp_format.proofs.Pairs.{cells_counted}
+use Rattle.tsp_file.proofs.Prelude.{◌∙◌, refl, sym, arith, pos, false≢true, length-set, IsNode, FullMatrix, cells_counted}
 use Rattle.tsp_file.specs.Cost.{listed_cost}
 use Rattle.tsp_file.proofs.Relaid.{triangle_holds}
 use Rattle.tsp_file.proofs.Spread.{side_filled, zero_diagonal, diagonal_more}

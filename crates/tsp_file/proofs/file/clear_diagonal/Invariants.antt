@@ -1,6 +1,5 @@
 -- The loop of `clear_diagonal` in src/file.rt, which sets the diagonal to 0.
-use Rattle.std.proofs.Common.{◌≡◌, ◌<◌, ◌*◌, ℕ, length}
-use Rattle.std.specs.Prelude.{ℤ, pos}
+use Rattle.tsp_file.proofs.Prelude.{◌≡◌, ◌<◌, ◌*◌, ℕ, length, ℤ, pos}
 use Rattle.tsp_file.specs.states.Drafts.{Fills}
 use Rattle.tsp_file.proofs.file.clear_diagonal.Given as goal
 

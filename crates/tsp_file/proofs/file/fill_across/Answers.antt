@@ -1,7 +1,6 @@
 -- The goals of `fill_across` in src/file.rt, which fills the cells across the diagonal: its loop, what its calls
 -- require and what it ensures.
-use Rattle.std.proofs.Common.{◌≡◌, ◌∙◌, ◌+◌, ◌*◌, ◌<◌, ◌≤◌, true, false, ⊎_elim, inl, inr, arith}
-use Rattle.std.proofs.lemmas.Bool.{cases_lt}
+use Rattle.tsp_file.proofs.Prelude.{◌≡◌, ◌∙◌, ◌+◌, ◌*◌, ◌<◌, ◌≤◌, true, false, ⊎_elim, inl, inr, arith, cases_lt}
 use Rattle.tsp_file.proofs.Spread.{fills_more}
 use Rattle.tsp_file.proofs.file.fill_across.Goals as goal
 

@@ -1,7 +1,5 @@
 -- The loop of `fill_across` in src/file.rt, which fills the cells across the diagonal.
-use Rattle.std.proofs.Common.{◌≡◌, ◌+◌, ◌<◌, ◌*◌, ℕ, length}
-use Rattle.std.specs.Prelude.{ℤ}
-use Rattle.tsp_format.specs.Words.{IsSymmetric}
+use Rattle.tsp_file.proofs.Prelude.{◌≡◌, ◌+◌, ◌<◌, ◌*◌, ℕ, length, ℤ, IsSymmetric}
 use Rattle.tsp_file.specs.states.Drafts.{HasSide, Fills}
 use Rattle.tsp_file.proofs.file.fill_across.Given as goal
 

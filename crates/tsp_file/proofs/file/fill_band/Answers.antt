@@ -1,7 +1,6 @@
 -- The goals of `fill_band` in src/file.rt, which fills the cells of a band across the diagonal: its loop, what its
 -- calls require and what it ensures.
-use Rattle.std.proofs.Common.{◌≡◌, ◌+◌, ◌<◌, ◌≤◌, ⊎_elim, inl, inr, arith}
-use Rattle.std.proofs.lemmas.Bool.{cases_lt}
+use Rattle.tsp_file.proofs.Prelude.{◌≡◌, ◌+◌, ◌<◌, ◌≤◌, ⊎_elim, inl, inr, arith, cases_lt}
 use Rattle.tsp_file.proofs.Spread.{fills_more}
 use Rattle.tsp_file.proofs.file.fill_band.Goals as goal
 

@@ -1,11 +1,5 @@
 -- The goals of `fill_in_band` in src/file.rt, which fills the cells of a row of a band across the diagonal: its loop.
-use Rattle.std.proofs.Common.{◌∙◌, ◌<◌, length, ap, arith, rules, pos, FitsSigned, w64}
-use Rattle.std.specs.Prelude.{slice_index_or as get_or}
-use Rattle.std.proofs.lemmas.Int.{to_z-of_z}
-use Rattle.std.proofs.lemmas.List.{length-set, get_or_default}
-use Rattle.tsp_format.specs.Nodes.{IsNode}
-use Rattle.tsp_format.specs.declared.layout.Layout.TheVariants.{FullMatrix}
-use Rattle.tsp_format.proofs.Pairs.{cells_counted}
+use Rattle.tsp_file.proofs.Prelude.{◌∙◌, ◌<◌, length, ap, arith, rules, pos, FitsSigned, w64, slice_index_or as get_or, to_z-of_z, length-set, get_or_default, IsNode, FullMatrix, cells_counted}
 use Rattle.tsp_file.proofs.Spread.{column_more}
 use Rattle.tsp_file.proofs.file.fill_in_band.Goals as goal
 

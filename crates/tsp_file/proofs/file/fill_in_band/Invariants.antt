@@ -1,7 +1,5 @@
 -- The loop of `fill_in_band` in src/file.rt, which fills the cells of a row of a band across the diagonal.
-use Rattle.std.proofs.Common.{◌≡◌, ◌<◌, ◌≤◌, ◌*◌, ℕ, length}
-use Rattle.std.specs.Prelude.{ℤ}
-use Rattle.tsp_format.specs.Words.{IsSymmetric}
+use Rattle.tsp_file.proofs.Prelude.{◌≡◌, ◌<◌, ◌≤◌, ◌*◌, ℕ, length, ℤ, IsSymmetric}
 use Rattle.tsp_file.specs.states.Drafts.{HasSide, Fills}
 use Rattle.tsp_file.proofs.file.fill_in_band.Given as goal
 

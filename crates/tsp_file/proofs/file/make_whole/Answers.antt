@@ -1,8 +1,6 @@
 -- The goals of `make_whole` in src/file.rt, which makes a full matrix of its listed half: what it ensures.
-use Rattle.std.proofs.Common.{◌≡◌, ◌*◌, ◌≤◌, length, take, ap, sym, subst, ◌∙◌, arith}
+use Rattle.tsp_file.proofs.Prelude.{◌≡◌, ◌*◌, ◌≤◌, length, take, ap, sym, subst, ◌∙◌, arith, take_all, cells_counted}
 use Rattle.std.proofs.Math.Seq.{take-append_seam}
-use Rattle.std.proofs.lemmas.List.{take_all}
-use Rattle.tsp_format.proofs.Pairs.{cells_counted}
 use Rattle.tsp_file.specs.Cost.{listed_cost}
 use Rattle.tsp_file.specs.states.Drafts.{HasSide}
 use Rattle.tsp_file.proofs.Relaid.{triangle_holds}

@@ -1,8 +1,6 @@
 -- The goals of `spread_lines` in src/file.rt, which moves the lines of a half to their rows: that no sum overflows,
 -- its loop and what its calls require.
-use Rattle.std.proofs.Common.{◌≡◌, ◌+◌, ◌-◌, sym, ◌∙◌, arith}
-use Rattle.std.proofs.lemmas.Nat.{mul-le}
-use Rattle.tsp_format.specs.Nodes.{IsNode}
+use Rattle.tsp_file.proofs.Prelude.{◌≡◌, ◌+◌, ◌-◌, sym, ◌∙◌, arith, mul-le, IsNode}
 use Rattle.tsp_file.proofs.Spread.{all_before, kept_less, spread_begins, spread_more}
 use Rattle.tsp_file.proofs.file.spread_lines.Goals as goal
 

@@ -1,6 +1,5 @@
 -- The loop of `spread_lines` in src/file.rt, which moves the lines of a half to their rows.
-use Rattle.std.proofs.Common.{◌≡◌, ◌≤◌, ◌*◌, List, length, take}
-use Rattle.std.specs.Prelude.{ℤ}
+use Rattle.tsp_file.proofs.Prelude.{◌≡◌, ◌≤◌, ◌*◌, List, length, take, ℤ}
 use Rattle.tsp_file.proofs.Spread.{before, SpreadTo}
 use Rattle.tsp_file.proofs.file.spread_lines.Given as goal
 

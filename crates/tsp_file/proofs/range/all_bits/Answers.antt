@@ -1,10 +1,6 @@
 -- The goals of `all_bits` in src/range.rt, which unites the bits of all numbers: its loop and what it ensures.
-use Rattle.std.proofs.Common.{◌≡◌, ◌≤◌, ℕ, ℤ, pos, ◌≤ℤ◌, take, bit_or, slice_index_or, of_z, FitsSigned, w64, arith, ap, ◌∙◌, subst, rules}
-use Rattle.std.proofs.lemmas.Int.{ints, to_z-of_z}
-use Rattle.std.proofs.lemmas.Nat.{le_or_l, le_or_r}
-use Rattle.std.proofs.lemmas.List.{take_all}
+use Rattle.tsp_file.proofs.Prelude.{◌≡◌, ◌≤◌, ℕ, ℤ, pos, ◌≤ℤ◌, take, bit_or, slice_index_or, of_z, FitsSigned, w64, arith, ap, ◌∙◌, subst, rules, ints, to_z-of_z, le_or_l, le_or_r, take_all, All}
 use Rattle.std.proofs.lemmas.List.Elements.{All-more, All-weaker}
-use Rattle.std.specs.List.{All}
 use Rattle.tsp_file.proofs.ValidFields.{own_bits}
 use Rattle.tsp_file.proofs.range.all_bits.Goals as goal
 

@@ -1,6 +1,5 @@
 -- The loop of `all_bits` in src/range.rt, which unites the bits of all numbers.
-use Rattle.std.proofs.Common.{◌<◌, ◌^◌, pos, ◌≤ℤ◌, take}
-use Rattle.std.specs.List.{All}
+use Rattle.tsp_file.proofs.Prelude.{◌<◌, ◌^◌, pos, ◌≤ℤ◌, take, All}
 use Rattle.tsp_file.proofs.range.all_bits.Given as goal
 
 -- where `bits` hasn't the highest bit, no number so far is negative or larger than `bits`

@@ -1,10 +1,7 @@
 -- The goals of `are_comments` in src/table.rt, which says whether comments can be kept and are few enough: what it
 -- ensures.
-use Rattle.std.proofs.Common.{ℕ, ◌∙◌}
+use Rattle.tsp_file.proofs.Prelude.{ℕ, ◌∙◌, CommentKey, field_word, most_comments}
 use Rattle.std.specs.Global.{Vec}
-use Rattle.tsp_format.specs.declared.keyword.Field.TheVariants.{CommentKey}
-use Rattle.tsp_format.specs.Words.{field_word}
-use Rattle.tsp_format.specs.Limits.{most_comments}
 use Rattle.tsp_file.specs.Validity.{is_kept}
 use Rattle.tsp_file.proofs.ValidFields.{mapped_all}
 use Rattle.tsp_file.proofs.table.are_comments.Goals as goal

@@ -1,8 +1,7 @@
 -- The goals of `are_others` in src/table.rt, which says whether lines of unknown keywords can be kept and are few
 -- enough: what it ensures.
-use Rattle.std.proofs.Common.{ℕ, ◌∙◌}
+use Rattle.tsp_file.proofs.Prelude.{ℕ, ◌∙◌, most_others}
 use Rattle.std.specs.Global.{Vec}
-use Rattle.tsp_format.specs.Limits.{most_others}
 use Rattle.tsp_file.specs.Validity.{is_other}
 use Rattle.tsp_file.proofs.ValidFields.{mapped_all}
 use Rattle.tsp_file.proofs.table.are_others.Goals as goal

@@ -1,9 +1,6 @@
 -- The goals of `are_points` in src/validity.rt, which says whether every point is valid: what it ensures.
-use Rattle.std.proofs.Common.{◌≡◌, map, sym, ap, ◌∙◌}
-use Rattle.std.specs.List.{list_all}
-use Rattle.std.proofs.lemmas.List.Folds.{list_all-map}
+use Rattle.tsp_file.proofs.Prelude.{◌≡◌, map, sym, ap, ◌∙◌, list_all, list_all-map, Point}
 use Rattle.tsp_number.specs.declared.decimal.PlanePoint.{PlanePoint}
-use Rattle.tsp_number.specs.declared.decimal.Point.{Point}
 use Rattle.tsp_number.specs.Distances.{on_plane}
 use Rattle.tsp_file.specs.states.Drafts.{points_of}
 use Rattle.tsp_file.specs.Validity.{is_point}

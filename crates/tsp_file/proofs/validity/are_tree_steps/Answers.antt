@@ -1,9 +1,5 @@
 -- The goals of `are_tree_steps` in src/validity.rt, which says whether steps are one whole tree: what it ensures.
-use Rattle.std.proofs.Common.{refl, sym, ◌∙◌}
-use Rattle.std.specs.Prelude.{nat_le, ◌&&◌}
-use Rattle.tsp_format.specs.Limits.{most_branches, most_changes}
-use Rattle.tsp_format.specs.states.TreeSteps.{steps_of}
-use Rattle.tsp_format.specs.Steps.{are_whole, branch_count, change_count}
+use Rattle.tsp_file.proofs.Prelude.{refl, sym, ◌∙◌, nat_le, ◌&&◌, most_branches, most_changes, steps_of, are_whole, branch_count, change_count}
 use Rattle.tsp_file.proofs.ValidFields.{judged_steps}
 use Rattle.tsp_file.proofs.validity.are_tree_steps.Goals as goal
 use Rattle.tsp_file.proofs.validity.are_tree_steps.Goals.{then-is_each_step, else-is_each_step}

@@ -1,7 +1,5 @@
 -- The loop of `have_few_branches` in src/validity.rt.
-use Rattle.std.proofs.Common.{◌≡◌, ◌+◌, ◌≤◌, drop}
-use Rattle.tsp_format.specs.Steps.{branch_count}
-use Rattle.tsp_format.specs.states.TreeSteps.{steps_of}
+use Rattle.tsp_file.proofs.Prelude.{◌≡◌, ◌+◌, ◌≤◌, drop, branch_count, steps_of}
 use Rattle.tsp_file.proofs.validity.have_few_branches.Given as goal
 
 -- `total` plus the number of branches left is the number of all branches

@@ -1,8 +1,5 @@
 -- The loop of `have_few_changes` in src/validity.rt.
-use Rattle.std.proofs.Common.{◌≡◌, ◌+◌, ◌≤◌, drop}
-use Rattle.tsp_format.specs.Steps.{change_count}
-use Rattle.tsp_format.specs.states.TreeSteps.{steps_of}
-use Rattle.tsp_format.specs.Limits.{most_changes}
+use Rattle.tsp_file.proofs.Prelude.{◌≡◌, ◌+◌, ◌≤◌, drop, change_count, steps_of, most_changes}
 use Rattle.tsp_file.proofs.validity.have_few_changes.Given as goal
 
 -- `total` plus the number of differences left is the number of all differences, and `total` is within the limit

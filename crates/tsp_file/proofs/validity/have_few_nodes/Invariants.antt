@@ -1,7 +1,5 @@
 -- The loop of `have_few_nodes` in src/validity.rt.
-use Rattle.std.proofs.Common.{◌≡◌, ◌≤◌, length, take}
-use Rattle.std.specs.List.{sum_by}
-use Rattle.tsp_format.specs.Limits.{most_tour_nodes}
+use Rattle.tsp_file.proofs.Prelude.{◌≡◌, ◌≤◌, length, take, sum_by, most_tour_nodes}
 use Rattle.tsp_file.proofs.validity.have_few_nodes.Given as goal
 
 -- `total` is how many nodes the tours before this one have, and within the limit

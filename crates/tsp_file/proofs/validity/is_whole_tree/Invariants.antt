@@ -1,7 +1,5 @@
 -- The loop of `is_whole_tree` in src/validity.rt, which tests whether steps are one whole tree of cases.
-use Rattle.std.proofs.Common.{◌≡◌, ◌+◌, ◌≤◌, drop}
-use Rattle.tsp_format.specs.Steps.{are_whole}
-use Rattle.tsp_format.specs.states.TreeSteps.{steps_of}
+use Rattle.tsp_file.proofs.Prelude.{◌≡◌, ◌+◌, ◌≤◌, drop, are_whole, steps_of}
 use Rattle.tsp_file.proofs.validity.is_whole_tree.Given as goal
 
 -- the steps are one whole tree exactly if those left are `left` whole trees

@@ -1,6 +1,5 @@
 -- The loop of `nodes_of_sets` in src/validity.rt.
-use Rattle.std.proofs.Common.{◌≡◌, ◌≤◌, length, take}
-use Rattle.std.specs.List.{sum_by}
+use Rattle.tsp_file.proofs.Prelude.{◌≡◌, ◌≤◌, length, take, sum_by}
 use Rattle.tsp_file.proofs.validity.nodes_of_sets.Given as goal
 
 -- `total` is how many nodes the sets before this one have, and at most `most`

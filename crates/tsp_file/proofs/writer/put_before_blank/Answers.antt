@@ -1,7 +1,5 @@
 -- The goals of `put_before_blank` in src/writer.rt, which adds a number and a blank: what it ensures.
-use Rattle.std.proofs.Common.{[], ◌∷◌}
-use Rattle.tsp_io.specs.states.Watched.{way_of}
-use Rattle.tsp_io.proofs.Carrying.{carried_then}
+use Rattle.tsp_file.proofs.Prelude.{[], ◌∷◌, way_of, carried_then}
 use Rattle.tsp_file.proofs.writer.put_before_blank.Goals as goal
 
 -- plan: the number, then a blank (`carried_then`)

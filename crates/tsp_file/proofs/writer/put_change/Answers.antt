@@ -1,13 +1,7 @@
 -- The goals of `put_change` in src/writer.rt, which adds the index and the difference of a number: what it
 -- ensures.
-use Rattle.std.proofs.Common.{[], ◌++◌, rules}
-use Rattle.std.specs.Fmt.{decimal, signed_decimal}
-use Rattle.tsp_io.specs.states.Watched.{way_of}
-use Rattle.tsp_io.proofs.Carrying.{carried_none, carried_then}
+use Rattle.tsp_file.proofs.Prelude.{[], ◌++◌, rules, decimal, signed_decimal, way_of, carried_none, carried_then, w64, to_z-of_z, FitsSigned}
 use Rattle.tsp_file.specs.CanonicalText.{before_blank}
-use Rattle.std.specs.Int.{w64}
-use Rattle.std.proofs.lemmas.Int.{to_z-of_z}
-use Rattle.std.specs.Prelude.{FitsSigned}
 use Rattle.tsp_file.proofs.writer.put_change.Goals as goal
 
 -- plan: the index and the difference, each before a blank (`carried_then`)

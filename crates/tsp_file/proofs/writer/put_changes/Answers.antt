@@ -1,13 +1,7 @@
 -- The goals of `put_changes` in src/writer.rt, which adds the differences of a leaf: its loop and what it ensures.
-use Rattle.std.proofs.Common.{ℕ, List, sym, subst, arith, rules, get_or}
-use Rattle.std.specs.Prelude.{ℤ, pos, FitsSigned}
-use Rattle.std.specs.List.{flat_map}
+use Rattle.tsp_file.proofs.Prelude.{ℕ, List, sym, subst, arith, rules, get_or, ℤ, pos, FitsSigned, flat_map, Carried, way_of, carried_all, carried_none, carried_next_or, w64, to_z-of_z}
 use Rattle.tsp_file.specs.CanonicalText.{before_blank, change_words}
-use Rattle.tsp_io.specs.states.Watched.{Carried, way_of}
-use Rattle.tsp_io.proofs.Carrying.{carried_all, carried_none, carried_next_or}
 use Rattle.tsp_file.proofs.WrittenLines.{flat_of_flat}
-use Rattle.std.specs.Int.{w64}
-use Rattle.std.proofs.lemmas.Int.{to_z-of_z}
 use Rattle.tsp_file.proofs.writer.put_changes.Goals as goal
 
 pub changes-init : goal.changes-init

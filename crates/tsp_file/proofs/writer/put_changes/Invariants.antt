@@ -1,8 +1,6 @@
 -- The loop of `put_changes` in src/writer.rt.
-use Rattle.std.proofs.Common.{take, ℕ, ℤ}
-use Rattle.std.specs.List.{flat_map}
+use Rattle.tsp_file.proofs.Prelude.{take, ℕ, ℤ, flat_map, way_of, Carried}
 use Rattle.tsp_file.specs.CanonicalText.{before_blank, change_words}
-use Rattle.tsp_io.specs.states.Watched.{way_of, Carried}
 use Rattle.tsp_file.proofs.writer.put_changes.Given as goal
 
 -- the bytes added so far are the changes before this one, each word before a blank

@@ -1,9 +1,6 @@
 -- The goals of `put_comments` in src/writer.rt: its loop and what it ensures.
-use Rattle.std.proofs.Common.{arith}
-use Rattle.tsp_format.specs.declared.keyword.Field.TheVariants.{CommentKey}
+use Rattle.tsp_file.proofs.Prelude.{arith, CommentKey, way_of, carried_mapped, carried_none, carried_next}
 use Rattle.tsp_file.specs.CanonicalText.{keyword_line}
-use Rattle.tsp_io.specs.states.Watched.{way_of}
-use Rattle.tsp_io.proofs.Carrying.{carried_mapped, carried_none, carried_next}
 use Rattle.tsp_file.proofs.writer.put_comments.Goals as goal
 
 pub loop-comment-init : goal.loop-comment-init

@@ -1,9 +1,6 @@
 -- The loop of `put_comments` in src/writer.rt.
-use Rattle.std.proofs.Common.{take}
-use Rattle.std.specs.List.{flat_map}
-use Rattle.tsp_format.specs.declared.keyword.Field.TheVariants.{CommentKey}
+use Rattle.tsp_file.proofs.Prelude.{take, flat_map, CommentKey, way_of, Carried}
 use Rattle.tsp_file.specs.CanonicalText.{keyword_line}
-use Rattle.tsp_io.specs.states.Watched.{way_of, Carried}
 use Rattle.tsp_file.proofs.writer.put_comments.Given as goal
 
 -- the bytes added so far are the lines of the comments before this one

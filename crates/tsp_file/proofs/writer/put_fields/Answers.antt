@@ -1,10 +1,8 @@
 -- The goals of `put_fields` in src/writer.rt, which adds the texts of fields, one after the other: its loop and what it
 -- ensures.
-use Rattle.std.proofs.Common.{arith}
+use Rattle.tsp_file.proofs.Prelude.{arith, way_of, carried_all, carried_none, carried_next_or}
 use Rattle.tsp_file.specs.states.Drafts.{fields_of}
 use Rattle.tsp_file.specs.CanonicalText.{text_of_field}
-use Rattle.tsp_io.specs.states.Watched.{way_of}
-use Rattle.tsp_io.proofs.Carrying.{carried_all, carried_none, carried_next_or}
 use Rattle.tsp_file.proofs.writer.put_fields.Goals as goal
 
 -- plan: one field more is written, unless the writer has failed (`carried_next_or`). The texts of all fields are the

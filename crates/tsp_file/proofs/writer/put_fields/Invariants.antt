@@ -1,9 +1,7 @@
 -- The loop of `put_fields` in src/writer.rt.
-use Rattle.std.proofs.Common.{take}
-use Rattle.std.specs.List.{flat_map}
+use Rattle.tsp_file.proofs.Prelude.{take, flat_map, way_of, Carried}
 use Rattle.tsp_file.specs.states.Drafts.{fields_of}
 use Rattle.tsp_file.specs.CanonicalText.{text_of_field}
-use Rattle.tsp_io.specs.states.Watched.{way_of, Carried}
 use Rattle.tsp_file.proofs.writer.put_fields.Given as goal
 
 -- the bytes added so far are the texts of the fields before this one

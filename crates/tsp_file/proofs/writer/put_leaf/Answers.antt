@@ -1,10 +1,6 @@
 -- The goals of `put_leaf` in src/writer.rt: what it ensures.
-use Rattle.std.proofs.Common.{◌++◌}
-use Rattle.std.specs.Prelude.{codes}
-use Rattle.std.specs.List.{flat_map}
+use Rattle.tsp_file.proofs.Prelude.{◌++◌, codes, flat_map, way_of, carried_then}
 use Rattle.tsp_file.specs.CanonicalText.{before_blank, change_words}
-use Rattle.tsp_io.specs.states.Watched.{way_of}
-use Rattle.tsp_io.proofs.Carrying.{carried_then}
 use Rattle.tsp_file.proofs.writer.put_leaf.Goals as goal
 
 -- plan: the 0, the indices with their differences and the -1 are added one after the other (`carried_then`)

@@ -1,9 +1,7 @@
 -- The goals of `put_others` in src/writer.rt, which adds the lines of unknown keywords: its loop and what it
 -- ensures.
-use Rattle.std.proofs.Common.{arith}
+use Rattle.tsp_file.proofs.Prelude.{arith, way_of, carried_mapped, carried_none, carried_next}
 use Rattle.tsp_file.specs.CanonicalText.{other_line, value_line}
-use Rattle.tsp_io.specs.states.Watched.{way_of}
-use Rattle.tsp_io.proofs.Carrying.{carried_mapped, carried_none, carried_next}
 use Rattle.tsp_file.proofs.writer.put_others.Goals as goal
 
 pub loop-keyword-init : goal.loop-keyword-init

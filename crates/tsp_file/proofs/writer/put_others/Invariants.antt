@@ -1,8 +1,6 @@
 -- The loop of `put_others` in src/writer.rt.
-use Rattle.std.proofs.Common.{take}
-use Rattle.std.specs.List.{flat_map}
+use Rattle.tsp_file.proofs.Prelude.{take, flat_map, way_of, Carried}
 use Rattle.tsp_file.specs.CanonicalText.{value_line}
-use Rattle.tsp_io.specs.states.Watched.{way_of, Carried}
 use Rattle.tsp_file.proofs.writer.put_others.Given as goal
 
 -- the bytes added so far are the lines of the unknown keywords before this one

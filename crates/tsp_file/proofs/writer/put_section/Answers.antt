@@ -27,8 +27,8 @@ returns-in-Tours g c = rw c.in-Tours.is c.put_tour_section.ensures
 pub returns-in-Triples : goal.returns-in-Triples
 returns-in-Triples g c = rw c.in-Triples.is c.put_triple_section.ensures
 
-pub returns-in-Combs : goal.returns-in-Combs
-returns-in-Combs g c = rw c.in-Combs.is c.put_comb_section.ensures
+pub returns-in-Families : goal.returns-in-Families
+returns-in-Families g c = rw c.in-Families.is c.put_family_section.ensures
 
 pub returns-in-Steps : goal.returns-in-Steps
 returns-in-Steps g c = rw c.in-Steps.is c.put_step_section.ensures

@@ -1,11 +1,6 @@
 -- The goals of `put_set` in src/writer.rt: its loop and what it ensures.
-use Rattle.std.proofs.Common.{map, arith, ℕ}
-use Rattle.std.specs.Prelude.{codes}
-use Rattle.std.specs.List.{flat_map}
-use Rattle.std.specs.Fmt.{decimal}
+use Rattle.tsp_file.proofs.Prelude.{map, arith, ℕ, codes, flat_map, decimal, way_of, carried_then, carried_mapped, carried_none, carried_next_or}
 use Rattle.tsp_file.specs.CanonicalText.{before_blank}
-use Rattle.tsp_io.specs.states.Watched.{way_of}
-use Rattle.tsp_io.proofs.Carrying.{carried_then, carried_mapped, carried_none, carried_next_or}
 use Rattle.tsp_file.proofs.writer.put_set.Goals as goal
 
 -- plan: one node more (`carried_next_or`), and the -1 at the end (`carried_then`)

@@ -1,9 +1,6 @@
 -- The goals of `put_steps` in src/writer.rt: its loop and what it ensures.
-use Rattle.std.proofs.Common.{arith}
-use Rattle.tsp_format.specs.states.TreeSteps.{step_of}
+use Rattle.tsp_file.proofs.Prelude.{arith, step_of, way_of, carried_mapped, carried_none, carried_next}
 use Rattle.tsp_file.specs.CanonicalText.{step_line}
-use Rattle.tsp_io.specs.states.Watched.{way_of}
-use Rattle.tsp_io.proofs.Carrying.{carried_mapped, carried_none, carried_next}
 use Rattle.tsp_file.proofs.writer.put_steps.Goals as goal
 
 pub steps-init : goal.steps-init

@@ -1,9 +1,6 @@
 -- The loop of `put_steps` in src/writer.rt.
-use Rattle.std.proofs.Common.{take}
-use Rattle.std.specs.List.{flat_map}
-use Rattle.tsp_format.specs.states.TreeSteps.{step_of}
+use Rattle.tsp_file.proofs.Prelude.{take, flat_map, step_of, way_of, Carried}
 use Rattle.tsp_file.specs.CanonicalText.{step_line}
-use Rattle.tsp_io.specs.states.Watched.{way_of, Carried}
 use Rattle.tsp_file.proofs.writer.put_steps.Given as goal
 
 -- the bytes added so far are the lines of the steps before this one

@@ -1,8 +1,5 @@
 -- The goals of `put_value` in src/writer.rt, which adds the line of a keyword with its value: what it ensures.
-use Rattle.std.proofs.Common.{[], ◌∷◌, ◌++◌, sym, ◌∙◌}
-use Rattle.std.specs.Prelude.{codes}
-use Rattle.tsp_io.specs.states.Watched.{Carried, way_of}
-use Rattle.tsp_io.proofs.Carrying.{carried_none, carried_then}
+use Rattle.tsp_file.proofs.Prelude.{[], ◌∷◌, ◌++◌, sym, ◌∙◌, codes, Carried, way_of, carried_none, carried_then}
 use Rattle.tsp_file.proofs.WrittenLines.{no_value, some_value}
 use Rattle.tsp_file.specs.CanonicalText.{blank_before, line_end}
 use Rattle.tsp_file.proofs.writer.put_value.Goals.{then-not-is_empty, else-not-is_empty}

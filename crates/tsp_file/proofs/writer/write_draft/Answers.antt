@@ -1,12 +1,7 @@
 -- The goals of `write_draft` in src/writer.rt, which writes the canonical text of a draft: what it ensures.
-use Rattle.std.proofs.Common.{[], ◌∙◌, sym}
-use Rattle.std.specs.Prelude.{codes}
-use Rattle.std.specs.List.{flat_map}
-use Rattle.tsp_format.specs.Words.{fields_in_order}
+use Rattle.tsp_file.proofs.Prelude.{[], ◌∙◌, sym, codes, flat_map, fields_in_order, way_of, carried_then, text_stopped, text_written}
 use Rattle.tsp_file.specs.states.Drafts.{fields_of}
 use Rattle.tsp_file.specs.CanonicalText.{text_of_field, text_of}
-use Rattle.tsp_io.specs.states.Watched.{way_of}
-use Rattle.tsp_io.proofs.Carrying.{carried_then, text_stopped, text_written}
 use Rattle.tsp_file.proofs.writer.write_draft.Goals as goal
 
 pub returns-then-failed-2 : goal.returns-then-failed-2

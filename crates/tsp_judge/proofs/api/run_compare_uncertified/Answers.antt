@@ -1,9 +1,6 @@
 -- The goals of `run_compare_uncertified` in src/api.rt, which compares solutions without a certificate: what it
 -- ensures.
-use Rattle.std.proofs.Common.{◌≡◌, None, Err, arith, refl}
-use Rattle.std.proofs.KnownBytes.{Keeps-refl}
-use Rattle.tsp_io.specs.states.Watched.{read_trace_of}
-use Rattle.tsp_read.proofs.BegunSteps.{propagated}
+use Rattle.tsp_judge.proofs.Prelude.{◌≡◌, None, Err, arith, refl, Keeps-refl, read_trace_of, propagated}
 use Rattle.tsp_judge.proofs.Comparing.{compare_first_stops}
 use Rattle.tsp_judge.proofs.api.run_compare_uncertified.Goals as goal
 

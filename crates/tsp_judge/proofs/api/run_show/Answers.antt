@@ -1,6 +1,5 @@
 -- The goals of `run_show` in src/api.rt: what it ensures.
-use Rattle.std.proofs.Common.{◌≡◌, Err}
-use Rattle.tsp_read.proofs.BegunSteps.{propagated}
+use Rattle.tsp_judge.proofs.Prelude.{◌≡◌, Err, propagated}
 use Rattle.tsp_judge.proofs.api.run_show.Goals as goal
 
 -- plan: a fault is that of the run

@@ -1,9 +1,5 @@
 -- The goals of `run_uncertified` in src/api.rt, which checks a solution without a certificate: what it ensures.
-use Rattle.std.proofs.Common.{◌≡◌, None, Err, [], refl}
-use Rattle.std.proofs.KnownBytes.{Keeps-refl}
-use Rattle.tsp_io.specs.states.Watched.{read_trace_of}
-use Rattle.tsp_read.proofs.PieceSteps.{read_none}
-use Rattle.tsp_read.proofs.BegunSteps.{propagated}
+use Rattle.tsp_judge.proofs.Prelude.{◌≡◌, None, Err, [], refl, Keeps-refl, read_trace_of, read_none, propagated}
 use Rattle.tsp_judge.proofs.Yeses.{none_taken, first_stops, second_stops, fault_of_run}
 use Rattle.tsp_judge.proofs.api.run_uncertified.Goals as goal
 

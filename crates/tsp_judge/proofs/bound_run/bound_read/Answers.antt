@@ -1,10 +1,7 @@
 -- The goals of `bound_read` in src/bound_run.rt, which bounds the tours of files that were read, or returns the first
 -- fault: what it ensures.
-use Rattle.std.proofs.Common.{refl, sym, subst}
-use Rattle.std.proofs.KnownBytes.{Keeps-refl}
-use Rattle.tsp_read.specs.Reads.{IsFile}
-use Rattle.tsp_cost.specs.Problems.{IsProblem}
-use Rattle.tsp_judge.proofs.Yeses.{none_bounded}
+use Rattle.tsp_judge.proofs.Prelude.{refl, sym, subst, Keeps-refl, IsFile, IsProblem}
+use Rattle.tsp_judge.proofs.Yeses.{bounded_none}
 use Rattle.tsp_judge.proofs.Bounding.{ends_unbounded, bound_run_of, bound_fault_of}
 use Rattle.tsp_judge.proofs.bound_run.bound_read.Goals as goal
 
@@ -12,7 +9,7 @@ use Rattle.tsp_judge.proofs.bound_run.bound_read.Goals as goal
 pub returns-in_default : goal.returns-in_default
 returns-in_default g c = λ first second one two.
     rw c.wrong_kind.ensures
-    (bound_fault_of c.args.strict _ _ _ _ _ (c.args.instance, c.args.certificate, one, two, (none_bounded c.args.by _ c.in_default.ensures.2, (Keeps-refl _, refl))))
+    (bound_fault_of c.args.strict _ _ _ _ _ (c.args.instance, c.args.certificate, one, two, (bounded_none c.args.by _ c.in_default.ensures.2, (Keeps-refl _, refl))))
 
 pub returns-in-Err : goal.returns-in-Err
 returns-in-Err g c = λ first second one two.

@@ -1,10 +1,6 @@
 -- The goals of `run_bound` in src/bound_run.rt, which bounds the tours of an instance by a certificate: what it
 -- ensures.
-use Rattle.std.proofs.Common.{◌≡◌, Err, [], refl}
-use Rattle.std.proofs.KnownBytes.{Keeps-refl}
-use Rattle.tsp_io.specs.states.Watched.{read_trace_of}
-use Rattle.tsp_read.proofs.PieceSteps.{read_none}
-use Rattle.tsp_read.proofs.BegunSteps.{propagated}
+use Rattle.tsp_judge.proofs.Prelude.{◌≡◌, Err, [], refl, Keeps-refl, read_trace_of, read_none, propagated}
 use Rattle.tsp_judge.proofs.Yeses.{none_taken}
 use Rattle.tsp_judge.proofs.Bounding.{bound_first_stops, bound_second_stops, bound_fault_of}
 use Rattle.tsp_judge.proofs.bound_run.run_bound.Goals as goal

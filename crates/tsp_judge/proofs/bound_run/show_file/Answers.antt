@@ -1,8 +1,5 @@
 -- The goals of `show_file` in src/bound_run.rt: what it ensures.
-use Rattle.std.proofs.Common.{◌≡◌, Err, refl}
-use Rattle.std.proofs.KnownBytes.{Keeps-refl}
-use Rattle.tsp_io.specs.states.Watched.{read_trace_of, sink_of}
-use Rattle.tsp_read.proofs.BegunSteps.{propagated}
+use Rattle.tsp_judge.proofs.Prelude.{◌≡◌, Err, refl, Keeps-refl, read_trace_of, sink_of, propagated}
 use Rattle.tsp_judge.proofs.Bounding.{show_stopped, show_stops}
 use Rattle.tsp_judge.proofs.bound_run.show_file.Goals as goal
 

@@ -1,9 +1,6 @@
 -- The goals of `judge_read` in src/check.rt, which judges files that were read, or returns the first fault: what it
 -- ensures.
-use Rattle.std.proofs.Common.{refl, sym, subst}
-use Rattle.std.proofs.KnownBytes.{Keeps-refl}
-use Rattle.tsp_read.specs.Reads.{IsFile}
-use Rattle.tsp_cost.specs.Problems.{IsProblem}
+use Rattle.tsp_judge.proofs.Prelude.{refl, sym, subst, Keeps-refl, IsFile, IsProblem}
 use Rattle.tsp_judge.proofs.Yeses.{are_read, ends_without, none_judged, run_of, fault_of_run}
 use Rattle.tsp_judge.proofs.check.judge_read.Goals as goal
 

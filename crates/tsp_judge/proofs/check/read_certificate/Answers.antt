@@ -1,9 +1,6 @@
 -- The goals of `read_certificate` in src/check.rt, which reads the certificate's file, if one is asked for: what it
 -- ensures.
-use Rattle.std.proofs.Common.{◌≡◌, Err, [], refl}
-use Rattle.std.proofs.KnownBytes.{Keeps-refl}
-use Rattle.tsp_read.proofs.PieceSteps.{read_none}
-use Rattle.tsp_read.proofs.BegunSteps.{propagated}
+use Rattle.tsp_judge.proofs.Prelude.{◌≡◌, Err, [], refl, Keeps-refl, read_none, propagated}
 use Rattle.tsp_judge.proofs.Yeses.{none_taken, not_none}
 use Rattle.tsp_judge.proofs.check.read_certificate.Goals as goal
 

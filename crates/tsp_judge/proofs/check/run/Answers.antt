@@ -1,10 +1,6 @@
 -- The goals of `run` in src/check.rt, which checks a solution, with a certificate if one is asked for: what it
 -- ensures.
-use Rattle.std.proofs.Common.{◌≡◌, Err, [], refl}
-use Rattle.std.proofs.KnownBytes.{Keeps-refl}
-use Rattle.tsp_io.specs.states.Watched.{read_trace_of}
-use Rattle.tsp_read.proofs.PieceSteps.{read_none}
-use Rattle.tsp_read.proofs.BegunSteps.{propagated}
+use Rattle.tsp_judge.proofs.Prelude.{◌≡◌, Err, [], refl, Keeps-refl, read_trace_of, read_none, propagated}
 use Rattle.tsp_judge.proofs.Yeses.{none_taken, unread_in, first_stops, second_stops, third_stops, fault_of_run}
 use Rattle.tsp_judge.proofs.check.run.Goals as goal
 

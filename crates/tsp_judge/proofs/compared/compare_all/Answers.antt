@@ -1,8 +1,6 @@
 -- The goals of `compare_all` in src/compared.rt, which compares all solutions in order: its loop and what it ensures.
+use Rattle.tsp_judge.proofs.Prelude.{max, sink_of, propagated}
 use Rattle.std.proofs.Common.{◌≡◌, Err, arith, ap, sym, subst, ◌∙◌, ◌<◌, ◌+◌, length}
-use Rattle.std.specs.Prelude.{max}
-use Rattle.tsp_io.specs.states.Watched.{sink_of}
-use Rattle.tsp_read.proofs.BegunSteps.{propagated}
 use Rattle.tsp_judge.proofs.Comparing.{HasCompared, compared_none, compared_next, compared_ends, compared_all, reported_next, reported_before}
 use Rattle.tsp_judge.specs.CompareRun.{IsReadTraceAt, status_of_found, AreReported}
 use Rattle.tsp_judge.proofs.compared.compare_all.Goals as goal

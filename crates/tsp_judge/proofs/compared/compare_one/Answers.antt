@@ -1,14 +1,8 @@
 -- The goals of `compare_one` in src/compared.rt, which opens, reads and judges a solution and writes its line: what its
 -- call requires and what it ensures.
-use Rattle.std.proofs.Common.{◌≡◌, List, [], refl, sym, subst, subst₂}
-use Rattle.std.proofs.KnownBytes.{Keeps-refl}
-use Rattle.std.specs.Prelude.{IfOk, Result, Err, slice_index_or}
-use Rattle.tsp_io.specs.states.Watched.{sink_of, read_trace_of}
-use Rattle.tsp_io.specs.Streams.{HasWritten, Writes}
+use Rattle.tsp_judge.proofs.Prelude.{◌≡◌, List, [], refl, sym, subst, subst₂, Keeps-refl, IfOk, Result, Err, slice_index_or, sink_of, read_trace_of, HasWritten, Writes, solution_line, IsSized, propagated}
 use Rattle.tsp_judge.proofs.Comparing.{found_sized, one_refused, one_stopped, read_trace_at}
 use Rattle.tsp_judge.specs.CompareRun.{IsReadTraceAt, result_of}
-use Rattle.tsp_report.specs.Report.{solution_line, IsSized}
-use Rattle.tsp_read.proofs.BegunSteps.{propagated}
 use Rattle.tsp_judge.proofs.compared.compare_one.Goals as goal
 
 -- plan: by the solution: memory is refused (`one_refused`), the writer fails (`one_stopped`), or its line is written

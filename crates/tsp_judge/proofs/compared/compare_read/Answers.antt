@@ -1,20 +1,16 @@
 -- The goals of `compare_read` in src/compared.rt, which compares solutions of files that were read, or returns the
 -- first fault: what its call requires and what it ensures.
+use Rattle.tsp_judge.proofs.Prelude.{Keeps-refl, IsFile, sink_of, IsProblem, propagated}
 use Rattle.std.proofs.Common.{◌≡◌, Err, arith, refl, sym, subst, ◌∙◌}
-use Rattle.std.proofs.KnownBytes.{Keeps-refl}
-use Rattle.tsp_read.specs.Reads.{IsFile}
-use Rattle.tsp_io.specs.states.Watched.{sink_of}
-use Rattle.tsp_cost.specs.Problems.{IsProblem}
 use Rattle.tsp_judge.specs.declared.run_status.RunFault.TheVariants.{WrongKind}
 use Rattle.tsp_judge.specs.CheckRun.{IsFileIn}
 use Rattle.tsp_judge.specs.CompareRun.{IsReadTraceAt}
-use Rattle.tsp_read.proofs.BegunSteps.{propagated}
 use Rattle.tsp_judge.proofs.Yeses.{none_judged}
 use Rattle.tsp_judge.proofs.Comparing.{ends_lacking, ends_comparing, clear_known_bound}
 use Rattle.tsp_judge.proofs.compared.compare_read.Goals as goal
 
--- plan: by how it ends: of the wrong kind, without a basis (`ends_lacking`), or with the comparison (`ends_comparing`);
--- where solutions are judged, the basis is that of the files (`clear_known_bound`)
+-- plan: by how it ends: of the wrong kind, without a known bound (`ends_lacking`), or with the comparison (`ends_comparing`);
+-- where solutions are judged, the known bound is that of the files (`clear_known_bound`)
 pub compare_with-requires-clause-known_bound : goal.compare_with-requires-clause-known_bound
 compare_with-requires-clause-known_bound g c = λ clear.
     let common = c.in_ok-common.common in

@@ -1,13 +1,8 @@
 -- The goals of `compare_with` in src/compared.rt, which writes the head, and then the lines of the solutions: what it
 -- ensures.
-use Rattle.std.proofs.Common.{◌≡◌, true, false, length, refl, arith, rules, sym, subst}
-use Rattle.tsp_io.specs.states.Watched.{sink_of}
-use Rattle.tsp_io.specs.Streams.{HasWritten}
-use Rattle.tsp_file.specs.Fields.{Fields}
-use Rattle.tsp_report.specs.Verdicts.{is_clear}
+use Rattle.tsp_judge.proofs.Prelude.{◌≡◌, true, false, length, refl, arith, rules, sym, subst, sink_of, HasWritten, Fields, is_clear, head_of}
 use Rattle.tsp_judge.proofs.Comparing.{after_head}
 use Rattle.tsp_judge.specs.CompareRun.{IsReadTraceAt, ComparesBy, AreAllReported, IsFollowedBy}
-use Rattle.tsp_report.specs.Report.{head_of}
 use Rattle.tsp_judge.proofs.compared.compare_with.Goals as goal
 
 -- plan: the head is written, then the line of each solution (`after_head`)

@@ -1,6 +1,5 @@
 -- The goals of `find` in src/compared.rt, which reads and judges one solution: what it ensures.
-use Rattle.std.proofs.Common.{inr}
-use Rattle.tsp_io.specs.states.Watched.{read_trace_of}
+use Rattle.tsp_judge.proofs.Prelude.{inr, read_trace_of}
 use Rattle.tsp_judge.proofs.Comparing.{found_judged}
 use Rattle.tsp_judge.proofs.compared.find.Goals as goal
 

@@ -1,10 +1,6 @@
 -- The goals of `run_compare` in src/compared.rt, which compares solutions, with a certificate if one is asked for: what
 -- it ensures.
-use Rattle.std.proofs.Common.{◌≡◌, Err, [], arith, refl}
-use Rattle.std.proofs.KnownBytes.{Keeps-refl}
-use Rattle.tsp_io.specs.states.Watched.{read_trace_of}
-use Rattle.tsp_read.proofs.PieceSteps.{read_none}
-use Rattle.tsp_read.proofs.BegunSteps.{propagated}
+use Rattle.tsp_judge.proofs.Prelude.{◌≡◌, Err, [], arith, refl, Keeps-refl, read_trace_of, read_none, propagated}
 use Rattle.tsp_judge.proofs.Yeses.{none_taken, unread_in}
 use Rattle.tsp_judge.proofs.Comparing.{compare_first_stops, compare_second_stops}
 use Rattle.tsp_judge.proofs.compared.run_compare.Goals as goal

@@ -1,9 +1,5 @@
 -- The goals of `examples_of_faulty_files` in src/examples.rt: what it ensures.
-use Rattle.std.proofs.Common.{◌≡◌, ◌⊎◌, ℕ, Option, None, Some, refl, inl, inr, arith}
-use Rattle.tsp_io.specs.Streams.{ReadTrace, IsUnread}
-use Rattle.tsp_read.specs.Reads.{StopsAt}
-use Rattle.tsp_read.specs.declared.ReadFault.{ReadFault}
-use Rattle.tsp_report.specs.declared.task.CertificateKind.{CertificateKind}
+use Rattle.tsp_judge.proofs.Prelude.{◌≡◌, ◌⊎◌, ℕ, Option, None, Some, refl, inl, inr, arith, ReadTrace, IsUnread, StopsAt, ReadFault, CertificateKind}
 use Rattle.tsp_judge.specs.CheckRun.{Given, IsUnreadIn, IsFaultOfRun}
 use Rattle.tsp_judge.proofs.examples.examples_of_faulty_files.Goals as goal
 

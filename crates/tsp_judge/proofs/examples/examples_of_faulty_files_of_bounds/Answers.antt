@@ -1,8 +1,5 @@
 -- The goals of `examples_of_faulty_files_of_bounds` in src/examples.rt: what it ensures.
-use Rattle.std.proofs.Common.{◌≡◌, ◌⊎◌, ℕ, refl, inl, inr, arith}
-use Rattle.tsp_io.specs.Streams.{ReadTrace, IsUnread}
-use Rattle.tsp_read.specs.Reads.{StopsAt}
-use Rattle.tsp_read.specs.declared.ReadFault.{ReadFault}
+use Rattle.tsp_judge.proofs.Prelude.{◌≡◌, ◌⊎◌, ℕ, refl, inl, inr, arith, ReadTrace, IsUnread, StopsAt, ReadFault}
 use Rattle.tsp_judge.specs.CheckRun.{IsSomeFile}
 use Rattle.tsp_judge.proofs.examples.examples_of_faulty_files_of_bounds.Goals as goal
 

@@ -1,12 +1,9 @@
 -- The goals of `examples_of_readers` in src/examples.rt: what it ensures.
-use Rattle.std.proofs.Common.{Err, inl, inr, refl, sym, subst}
-use Rattle.std.specs.Prelude.{Option, Some}
+use Rattle.tsp_judge.proofs.Prelude.{Err, inl, inr, refl, sym, subst, Option, Some, read_trace_of, CertificateKind}
 use Rattle.tsp_io.specs.declared.watched.Watched.{Watched}
 use Rattle.tsp_judge.specs.declared.run_status.RunFault.TheVariants as run_faults
 use Rattle.tsp_judge.specs.CheckRun.{Given}
 use Rattle.tsp_judge.specs.CompareRun.{IsCompareRun}
-use Rattle.tsp_io.specs.states.Watched.{read_trace_of}
-use Rattle.tsp_report.specs.declared.task.CertificateKind.{CertificateKind}
 use Rattle.tsp_judge.specs.ConvertRun.{TakesNamed}
 use Rattle.tsp_judge.proofs.examples.examples_of_readers.Goals as goal
 

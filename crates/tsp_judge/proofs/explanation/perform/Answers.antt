@@ -1,10 +1,8 @@
 -- The goals of `perform` in src/explanation.rt, which does a task and returns its outcome: what it ensures.
-use Rattle.std.proofs.Common.{ℕ, List, Option, None, Some, sym, subst}
+use Rattle.tsp_judge.proofs.Prelude.{ℕ, List, Option, None, Some, sym, subst, sink_of, CertificateKind}
 use Rattle.tsp_judge.specs.CheckRun.{Given}
-use Rattle.tsp_io.specs.states.Watched.{sink_of}
 use Rattle.tsp_io.specs.declared.watched.Watched.{Watched}
 use Rattle.tsp_judge.specs.ConvertRun.{AreReadOn, IsDone, TakesNamed}
-use Rattle.tsp_report.specs.declared.task.CertificateKind.{CertificateKind}
 use Rattle.tsp_report.specs.declared.task.FileTask.TheVariants.{Check, Bound}
 use Rattle.tsp_judge.proofs.explanation.perform.Goals as goal
 

@@ -1,6 +1,5 @@
 -- The goals of `is_ceil_2d_at_least` in src/compared.rt: what it ensures.
-use Rattle.std.proofs.Common.{w64}
-use Rattle.std.proofs.lemmas.Int.{to_z-of_z}
+use Rattle.tsp_number.proofs.Prelude.{w64, to_z-of_z}
 use Rattle.tsp_number.proofs.Comparisons.{ceil_2d_cover}
 use Rattle.tsp_number.proofs.compared.is_ceil_2d_at_least.Goals as goal
 

@@ -1,7 +1,5 @@
 -- The goals of `is_straight_at_least` in src/compared.rt: what it ensures.
-use Rattle.std.proofs.Common.{◌≡◌, ◌+◌, ◌≤ℤ◌, ℕ, ℤ, pos, subst, sym, w64}
-use Rattle.std.specs.Prelude.{◌↔◌, IsTrue}
-use Rattle.std.proofs.lemmas.Int.{to_z-of_z}
+use Rattle.tsp_number.proofs.Prelude.{◌≡◌, ◌+◌, ◌≤ℤ◌, ℕ, ℤ, pos, subst, sym, w64, ◌↔◌, IsTrue, to_z-of_z}
 use Rattle.tsp_number.specs.Distances.{square_apart}
 use Rattle.tsp_number.specs.states.Rounding.{IsLeastCover}
 use Rattle.tsp_number.proofs.Distances.{apart_is, way_is}

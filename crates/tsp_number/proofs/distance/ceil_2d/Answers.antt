@@ -1,6 +1,5 @@
 -- The goals of `ceil_2d` in src/distance.rt: what it ensures.
-use Rattle.std.proofs.Common.{arith, ◌≡◌, ◌≤ℤ◌, ℕ, pos, unsigned_abs, to_z, of_z, w64, subst, sym}
-use Rattle.std.proofs.lemmas.Int.{ints}
+use Rattle.tsp_number.proofs.Prelude.{arith, ◌≡◌, ◌≤ℤ◌, ℕ, pos, unsigned_abs, to_z, of_z, w64, subst, sym, ints}
 use Rattle.tsp_number.specs.Distances.{IsCeil2d}
 use Rattle.tsp_number.proofs.Distances.{is_ceil_2d, ceil_2d-is, signed_is}
 use Rattle.tsp_number.proofs.distance.ceil_2d.Goals as goal

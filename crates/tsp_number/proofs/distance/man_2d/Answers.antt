@@ -1,6 +1,5 @@
 -- The goals of `man_2d` in src/distance.rt: what it ensures.
-use Rattle.std.proofs.Common.{arith, rules, ◌≤ℤ◌, pos, to_z, of_z, w64}
-use Rattle.std.proofs.lemmas.Int.{ints}
+use Rattle.tsp_number.proofs.Prelude.{arith, rules, ◌≤ℤ◌, pos, to_z, of_z, w64, ints}
 use Rattle.tsp_number.proofs.Distances.{man_2d-is, signed_is}
 use Rattle.tsp_number.proofs.distance.man_2d.Goals as goal
 

@@ -1,6 +1,5 @@
 -- The goals of `straight` in src/distance.rt, which rounds the straight distance in the plane: what it ensures.
-use Rattle.std.proofs.Common.{arith, ◌≡◌, ℕ, unsigned_abs, to_z, of_z, w64, subst, sym}
-use Rattle.std.proofs.lemmas.Int.{ints}
+use Rattle.tsp_number.proofs.Prelude.{arith, ◌≡◌, ℕ, unsigned_abs, to_z, of_z, w64, subst, sym, ints}
 use Rattle.tsp_number.specs.Distances.{square_apart}
 use Rattle.tsp_number.specs.states.Rounding.{IsLeastCover}
 use Rattle.tsp_number.proofs.Distances.{apart_is, way_is, apart-most}

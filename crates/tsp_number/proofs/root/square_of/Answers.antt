@@ -1,7 +1,6 @@
 -- The goals of `square_of` in src/root.rt, which returns the square of a difference of coordinates: that no sum
 -- overflows and what it ensures.
-use Rattle.std.proofs.Common.{◌≡◌, unsigned_abs, arith, ◌∙◌, w64}
-use Rattle.std.proofs.lemmas.Int.{to_z-of_z}
+use Rattle.tsp_number.proofs.Prelude.{◌≡◌, unsigned_abs, arith, ◌∙◌, w64, to_z-of_z}
 use Rattle.tsp_number.proofs.Distances.{square-most, wide_square}
 use Rattle.tsp_number.proofs.root.square_of.Goals as goal
 

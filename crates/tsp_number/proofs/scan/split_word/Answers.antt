@@ -1,9 +1,6 @@
 -- The goals of `split_word` in src/scan.rt, which divides a number word into its parts: what it ensures.
-use Rattle.std.proofs.Common.{rules, arith, ◌≡◌, Some, FitsSigned, w64, ap, ◌∙◌, refl, sym, List, ℕ, ℤ}
-use Rattle.std.proofs.lemmas.Int.{to_z-of_z}
+use Rattle.tsp_number.proofs.Prelude.{rules, arith, ◌≡◌, Some, FitsSigned, w64, ap, ◌∙◌, refl, sym, List, ℕ, ℤ, to_z-of_z, option_map, digits_value, digits_value_after}
 use Rattle.std.proofs.lemmas.Grind.{common_steps}
-use Rattle.std.specs.Option.{option_map}
-use Rattle.std.specs.Str.Parse.{digits_value, digits_value_after}
 use Rattle.tsp_number.specs.NumberWord.{front_digits, whole_in, fraction_in, past_point, past_mantissa, exponent_in}
 use Rattle.tsp_number.specs.states.Digits.{clamped, saturated}
 use Rattle.tsp_number.proofs.Scaling.{holds}

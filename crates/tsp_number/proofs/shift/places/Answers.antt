@@ -1,7 +1,6 @@
 -- The goals of `places` in src/shift.rt, which returns by how many places a mantissa is shifted: that its sums fit, and
 -- what it ensures.
-use Rattle.std.proofs.Common.{refl, ◌≡◌, ◌≤◌, ◌++◌, ℕ, ℤ, ◌≤ℤ◌, ◌+ℤ◌, ◌-ℤ◌, pos, negsuc, List, length, length-append, arith, w64}
-use Rattle.std.proofs.lemmas.Int.{to_z-of_z, to_z_pos, ints}
+use Rattle.tsp_number.proofs.Prelude.{refl, ◌≡◌, ◌≤◌, ◌++◌, ℕ, ℤ, ◌≤ℤ◌, ◌+ℤ◌, ◌-ℤ◌, pos, negsuc, List, length, length-append, arith, w64, to_z-of_z, to_z_pos, ints}
 use mir.Val.{SFits, to_z, of_z}
 use Rattle.tsp_number.specs.states.Digits.{clamped}
 use Rattle.tsp_number.proofs.shift.places.Goals as goal

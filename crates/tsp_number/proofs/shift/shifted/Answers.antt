@@ -1,7 +1,5 @@
 -- The goals of `shifted` in src/shift.rt, which returns the size of a number word's number in a unit: what it ensures.
-use Rattle.std.proofs.Common.{◌≡◌, ℕ, ◌<◌, ℤ, pos, ◌+ℤ◌, ◌-ℤ◌, ◌++◌, length, arith, ap, sym, subst, refl, ◌∙◌}
-use Rattle.std.proofs.lemmas.Int.{ints}
-use Rattle.std.specs.Str.Parse.{digits_value}
+use Rattle.tsp_number.proofs.Prelude.{◌≡◌, ℕ, ◌<◌, ℤ, pos, ◌+ℤ◌, ◌-ℤ◌, ◌++◌, length, arith, ap, sym, subst, refl, ◌∙◌, ints, digits_value}
 use Rattle.tsp_number.specs.NumberWord.{digits_of}
 use Rattle.tsp_number.specs.states.Digits.{clamped, DropsZeros}
 use Rattle.tsp_number.proofs.Scaling.{near_places, few_in_fraction, digits_of-lt, shifts_up, shifts_down}

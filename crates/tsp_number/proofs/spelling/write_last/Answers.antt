@@ -1,7 +1,6 @@
 -- The goals of `write_last` in src/spelling.rt, which writes three decimals without the zeros at their end: where the
 -- decimals begin, and what they are.
-use Rattle.std.proofs.Common.{◌≡◌, ◌+◌, ◌-◌, ◌/◌, ◌%◌, ◌∷◌, ℕ, List, length, drop, ap, ◌∙◌, arith}
-use Rattle.std.proofs.lemmas.List.{drop-set}
+use Rattle.tsp_number.proofs.Prelude.{◌≡◌, ◌+◌, ◌-◌, ◌/◌, ◌%◌, ◌∷◌, ℕ, List, length, drop, ap, ◌∙◌, arith, drop-set}
 use Rattle.tsp_number.specs.NumberWord.{decimals}
 use Rattle.tsp_number.proofs.Spelled.{last_three, last_two, last_one}
 use Rattle.tsp_number.proofs.spelling.write_last.Goals as goal

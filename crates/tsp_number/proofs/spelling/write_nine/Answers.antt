@@ -1,6 +1,5 @@
 -- The goals of `write_nine` in src/spelling.rt, which writes nine digits so that they end at a place: what it ensures.
-use Rattle.std.proofs.Common.{◌≡◌, ◌+◌, ◌-◌, ◌/◌, ◌%◌, ◌∷◌, ◌++◌, ℕ, List, drop, set, ap, ◌∙◌, arith}
-use Rattle.std.proofs.lemmas.List.{drop-set}
+use Rattle.tsp_number.proofs.Prelude.{◌≡◌, ◌+◌, ◌-◌, ◌/◌, ◌%◌, ◌∷◌, ◌++◌, ℕ, List, drop, set, ap, ◌∙◌, arith, drop-set}
 use Rattle.tsp_number.proofs.Spelled.{pair, nine_digits}
 use Rattle.tsp_number.proofs.spelling.write_nine.Goals as goal
 

@@ -1,6 +1,5 @@
 -- The goals of `write_pair` in src/spelling.rt, which writes two digits at a place: what it ensures.
-use Rattle.std.proofs.Common.{◌≡◌, ◌+◌, ◌%◌, set, arith, length-set}
-use Rattle.std.proofs.lemmas.List.{set_comm, drop-set}
+use Rattle.tsp_number.proofs.Prelude.{◌≡◌, ◌+◌, ◌%◌, set, arith, length-set, set_comm, drop-set}
 use Rattle.tsp_number.proofs.Spelled.{PAIRS_at}
 use Rattle.tsp_number.proofs.spelling.write_pair.Goals as goal
 

@@ -1,11 +1,7 @@
 -- The goals of `write_spelling` in src/spelling.rt, which writes the text of a decimal so that it ends at a place: that
 -- no difference overflows, what its call requires, where the text begins, and what it is.
-use Rattle.std.proofs.Common.{◌≡◌, ◌+◌, ◌-◌, ◌/◌, ◌%◌, ◌≤◌, ◌∷◌, ◌++◌, ℕ, List, false, length, drop, ap, sym, ◌∙◌, append_assoc, unsigned_abs, arith, rules}
-use Rattle.std.specs.Prelude.{ℤ, pos, FitsSigned}
+use Rattle.tsp_number.proofs.Prelude.{◌≡◌, ◌+◌, ◌-◌, ◌/◌, ◌%◌, ◌≤◌, ◌∷◌, ◌++◌, ℕ, List, false, length, drop, ap, sym, ◌∙◌, append_assoc, unsigned_abs, arith, rules, ℤ, pos, FitsSigned, w64, to_z-of_z, drop-set}
 use Rattle.std.specs.Fmt.{decimal}
-use Rattle.std.specs.Int.{w64}
-use Rattle.std.proofs.lemmas.Int.{to_z-of_z}
-use Rattle.std.proofs.lemmas.List.{drop-set}
 use Rattle.tsp_number.specs.Decimal.{unit, most_count}
 use Rattle.tsp_number.specs.NumberWord.{minus, fraction_spelling, spelling}
 use Rattle.tsp_number.proofs.Spelled.{length_whole, stands_for, spelling_short, negative_text, negative_begins}

@@ -1,11 +1,8 @@
 -- The goals of `any_decimal` in src/word.rt, which reads any decimal word: what it ensures.
-use Rattle.std.proofs.Common.{◌≡◌, ℤ, arith, rules, subst, ◌∙◌, FitsSigned, unsigned_abs, ◌≤◌}
-use Rattle.std.specs.Int.{w128}
-use Rattle.std.proofs.lemmas.Int.{to_z-of_z}
+use Rattle.tsp_number.proofs.Prelude.{◌≡◌, ℤ, arith, rules, subst, ◌∙◌, FitsSigned, unsigned_abs, ◌≤◌, w128, to_z-of_z, Ok, Err}
 use Rattle.tsp_number.proofs.NumberGrammar.{bad_number, too_fine, stands, decimal_within, decimal_past}
 use Rattle.tsp_number.specs.Decimal.{most_count}
 use Rattle.tsp_number.specs.NumberWord.{StandsFor, ReadsDecimal, with_sign}
-use Rattle.std.specs.Prelude.{Ok, Err}
 use Rattle.tsp_number.specs.declared.word.NumberFault.TheVariants.{LongWord, BadNumber, TooFine, OutOfRange}
 use Rattle.tsp_number.proofs.WordLaws.{decimal_once, decimal_of-reads}
 use Rattle.tsp_number.proofs.word.any_decimal.Goals as goal

@@ -1,11 +1,8 @@
 -- The goals of `any_whole` in src/word.rt, which reads any word of a whole number: what it ensures.
-use Rattle.std.proofs.Common.{◌≡◌, ℤ, pos, ◌*ℤ◌, ◌≤ℤ◌, ◌<ℤ◌, ◌⊎◌, inl, inr, arith, rules, subst, ◌∙◌, FitsSigned, w64}
-use Rattle.std.specs.Int.{w128}
-use Rattle.std.proofs.lemmas.Int.{ints, to_z-of_z, by_lt_z}
+use Rattle.tsp_number.proofs.Prelude.{◌≡◌, ℤ, pos, ◌*ℤ◌, ◌≤ℤ◌, ◌<ℤ◌, ◌⊎◌, inl, inr, arith, rules, subst, ◌∙◌, FitsSigned, w64, w128, ints, to_z-of_z, by_lt_z, Ok, Err}
 use Rattle.tsp_number.proofs.NumberGrammar.{bad_number, too_fine, not_whole, whole_stands, whole_within, whole_past}
 use Rattle.tsp_number.specs.Decimal.{unit}
 use Rattle.tsp_number.specs.NumberWord.{StandsFor, ReadsWhole, with_sign}
-use Rattle.std.specs.Prelude.{Ok, Err}
 use Rattle.tsp_number.specs.declared.word.NumberFault.TheVariants.{LongWord, BadNumber, TooFine, OutOfRange, NotWhole}
 use Rattle.tsp_number.proofs.WordLaws.{whole_once, whole_of-reads}
 use Rattle.tsp_number.proofs.word.any_whole.Goals as goal

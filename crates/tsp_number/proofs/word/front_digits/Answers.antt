@@ -1,7 +1,6 @@
 -- The goals of `front_digits` in src/word.rt, which reads digits at the beginning of bytes: that no sum overflows and
 -- what it ensures.
-use Rattle.std.proofs.Common.{◌≡◌, ◌+◌, ◌*◌, ◌<◌, ◌≤◌, ◌^◌, drop, arith, rules}
-use Rattle.std.proofs.lemmas.List.{take_rest}
+use Rattle.tsp_number.proofs.Prelude.{◌≡◌, ◌+◌, ◌*◌, ◌<◌, ◌≤◌, ◌^◌, drop, arith, rules, take_rest}
 use Rattle.tsp_number.proofs.FrontNumbers.{ReadsFront, counts_on, eight_more, eight_and_more, few_fit}
 use Rattle.tsp_number.proofs.word.front_digits.Goals as goal
 

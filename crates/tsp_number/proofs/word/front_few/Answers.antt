@@ -1,7 +1,6 @@
 -- The goals of `front_few` in src/word.rt, which reads up to seven digits at the beginning of eight bytes: what its
 -- call requires and what it ensures.
-use Rattle.std.proofs.Common.{arith, rules, sym, inl, inr, FitsSigned, w64}
-use Rattle.std.proofs.lemmas.Int.{to_z-of_z}
+use Rattle.tsp_number.proofs.Prelude.{arith, rules, sym, inl, inr, FitsSigned, w64, to_z-of_z}
 use Rattle.tsp_number.proofs.FrontNumbers.{eight_more, few_front, few_digits, not_few, small_whole}
 use Rattle.tsp_number.proofs.word.front_few.Goals as goal
 use Rattle.tsp_number.proofs.word.front_few.Goals.{then-count-eq0-via-then-count-eq0, then-count-eq0-via-else-count-eq0+then-count-eq-EIGHT}

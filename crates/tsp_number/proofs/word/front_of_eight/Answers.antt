@@ -1,8 +1,7 @@
 -- The goals of `front_of_eight` in src/word.rt, which reads the digits at the beginning of eight bytes: what its calls
 -- require and what it ensures.
-use Rattle.std.proofs.Common.{arith}
+use Rattle.tsp_number.proofs.Prelude.{arith, is_ascii_digit}
 use Rattle.std.proofs.lemmas.List.Sums.{prefix_len-le-length}
-use Rattle.std.specs.Char.{is_ascii_digit}
 use Rattle.tsp_number.proofs.EightDigits.{front_is_digits}
 use Rattle.tsp_number.proofs.word.front_of_eight.Goals as goal
 

@@ -1,8 +1,6 @@
 -- The goals of `front_whole` in src/word.rt, which reads a short whole number at the beginning of bytes: what its call
 -- requires and what it ensures.
-use Rattle.std.proofs.Common.{◌≡◌, ◌*◌, pos, ◌*ℤ◌, ℤ, arith, rules, ap, ◌∙◌, FitsSigned, w64, to_z, of_z}
-use Rattle.std.proofs.lemmas.Int.{to_z-of_z}
-use Rattle.std.proofs.lemmas.List.{take_rest}
+use Rattle.tsp_number.proofs.Prelude.{◌≡◌, ◌*◌, pos, ◌*ℤ◌, ℤ, arith, rules, ap, ◌∙◌, FitsSigned, w64, to_z, of_z, to_z-of_z, take_rest}
 use Rattle.tsp_number.specs.Decimal.{unit}
 use Rattle.tsp_number.specs.NumberWord.{with_sign}
 use Rattle.tsp_number.proofs.FrontNumbers.{HasWhole, whole_front, small_whole}

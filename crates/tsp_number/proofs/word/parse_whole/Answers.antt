@@ -1,6 +1,5 @@
 -- The goals of `parse_whole` in src/word.rt, which reads a number word as a whole number of a range: what it ensures.
-use Rattle.std.proofs.Common.{◌≤ℤ◌, ◌<ℤ◌, ◌⊎◌, inl, inr, arith, rules, FitsSigned, w64}
-use Rattle.std.proofs.lemmas.Int.{ints, to_z-of_z}
+use Rattle.tsp_number.proofs.Prelude.{◌≤ℤ◌, ◌<ℤ◌, ◌⊎◌, inl, inr, arith, rules, FitsSigned, w64, ints, to_z-of_z}
 use Rattle.tsp_number.proofs.FrontNumbers.{whole_word, whole_outside}
 use Rattle.tsp_number.proofs.WordLaws.{whole_once, whole_of-reads}
 use Rattle.tsp_number.proofs.word.parse_whole.Goals as goal

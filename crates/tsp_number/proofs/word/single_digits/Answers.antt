@@ -1,8 +1,7 @@
 -- The goals of `single_digits` in src/word.rt, which reads digits at the beginning of bytes, one after another: that
 -- no sum overflows, its loop and what it ensures.
-use Rattle.std.proofs.Common.{◌<◌, length, arith, rules, sym, ◌∙◌}
+use Rattle.tsp_number.proofs.Prelude.{◌<◌, length, arith, rules, sym, ◌∙◌, is_ascii_digit}
 use Rattle.std.proofs.lemmas.List.Sums.{prefix_len-le-length}
-use Rattle.std.specs.Char.{is_ascii_digit}
 use Rattle.tsp_number.proofs.FrontNumbers.{one_more, room_for_one, prefix_one_more, prefix_ends}
 use Rattle.tsp_number.proofs.word.single_digits.Goals as goal
 

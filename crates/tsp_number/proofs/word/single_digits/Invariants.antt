@@ -1,7 +1,5 @@
 -- The loop of `single_digits` in src/word.rt.
-use Rattle.std.proofs.Common.{◌≤◌, ◌-◌}
-use Rattle.std.specs.Char.{is_ascii_digit}
-use Rattle.std.specs.List.{prefix_len}
+use Rattle.tsp_number.proofs.Prelude.{◌≤◌, ◌-◌, is_ascii_digit, prefix_len}
 use Rattle.tsp_number.proofs.FrontNumbers.{ReadsFront}
 use Rattle.tsp_number.proofs.word.single_digits.Given as goal
 

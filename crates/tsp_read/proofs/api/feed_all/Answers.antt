@@ -1,9 +1,7 @@
 -- The goals of `feed_all` in src/api.rt, which feeds the bytes of a reader until the answer is settled: its loop and
 -- what it ensures.
-use Rattle.std.proofs.Common.{◌≡◌, Err, refl, sym, ap, subst, ◌∙◌, ◌||◌, arith, take, inl, inr, true, false, ℕ}
+use Rattle.tsp_read.proofs.Prelude.{◌≡◌, Err, refl, sym, ap, subst, ◌∙◌, ◌||◌, arith, take, inl, inr, true, false, ℕ, true≢false, read_trace_of, watched}
 use Rattle.std.specs.Io.KnownBytes.{Consumes}
-use Rattle.std.proofs.lemmas.Bool.{true≢false}
-use Rattle.tsp_io.specs.states.Watched.{read_trace_of, watched}
 use Rattle.tsp_read.proofs.PieceSteps.{read_none, read_more, gathered_start, gathered_more, gathered_none, gathered_kept, piece_stops, fed_from, not_going}
 use Rattle.tsp_read.proofs.BegunSteps.{propagated}
 use Rattle.tsp_read.proofs.api.feed_all.Goals as goal

@@ -1,7 +1,5 @@
 -- The loop of `feed_all` in src/api.rt.
-use Rattle.std.proofs.Common.{◌≡◌, ◌+◌, ◌-◌, ◌≤◌, false}
-use Rattle.tsp_format.specs.Limits.{most_file_bytes}
-use Rattle.tsp_io.specs.states.Watched.{watched, has_failed}
+use Rattle.tsp_read.proofs.Prelude.{◌≡◌, ◌+◌, ◌-◌, ◌≤◌, false, most_file_bytes, watched, has_failed}
 use Rattle.tsp_read.specs.Reads.{IsReadOn, most_taken}
 use Rattle.tsp_read.proofs.PieceSteps.{Gathered}
 use Rattle.tsp_read.proofs.api.feed_all.Given as goal

@@ -1,8 +1,6 @@
 -- The goals of `at_origin` in src/by_node.rt, which makes points with coordinates 0: what it ensures.
-use Rattle.std.proofs.Common.{map, ap, sym, ◌∙◌}
-use Rattle.std.specs.Prelude.{replicate}
+use Rattle.tsp_read.proofs.Prelude.{map, ap, sym, ◌∙◌, replicate, Point}
 use Rattle.tsp_number.specs.declared.decimal.PlanePoint.{PlanePoint}
-use Rattle.tsp_number.specs.declared.decimal.Point.{Point}
 use Rattle.tsp_number.specs.Distances.{on_plane}
 use Rattle.tsp_file.proofs.ValidFields.{map_replicate}
 use Rattle.tsp_read.proofs.by_node.at_origin.Goals as goal

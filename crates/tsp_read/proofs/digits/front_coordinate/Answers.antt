@@ -1,6 +1,5 @@
 -- The goals of `front_coordinate` in src/digits.rt, which reads the word of a short decimal: what it ensures.
-use Rattle.std.proofs.Common.{arith}
-use Rattle.std.proofs.lemmas.Grind.{common_steps}
+use Rattle.tsp_read.proofs.Prelude.{arith, common_steps}
 use Rattle.tsp_read.specs.states.ReadingRun.{left_from}
 use Rattle.tsp_read.proofs.RunSteps.{EndsNumber, front_gives, front_reads_decimal}
 use Rattle.tsp_read.proofs.digits.front_coordinate.Goals as goal

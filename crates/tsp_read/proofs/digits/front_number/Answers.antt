@@ -1,9 +1,5 @@
 -- The goals of `front_number` in src/digits.rt, which reads the word of a short whole number: what it ensures.
-use Rattle.std.proofs.Common.{rules, arith, FitsSigned, w64}
-use Rattle.std.proofs.lemmas.Grind.{common_steps}
-use Rattle.std.specs.Prelude.{pos, ◌*ℤ◌}
-use Rattle.std.proofs.lemmas.Int.{to_z-of_z}
-use Rattle.tsp_number.specs.Decimal.{unit}
+use Rattle.tsp_read.proofs.Prelude.{rules, arith, FitsSigned, w64, common_steps, pos, ◌*ℤ◌, to_z-of_z, unit}
 use Rattle.tsp_read.specs.states.ReadingRun.{left_from}
 use Rattle.tsp_read.proofs.RunSteps.{EndsNumber, front_gives, front_reads}
 use Rattle.tsp_read.proofs.digits.front_number.Goals as goal

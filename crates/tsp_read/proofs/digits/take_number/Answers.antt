@@ -1,8 +1,6 @@
 -- The goals of `take_number` in src/digits.rt, which takes a number that was found, if the list takes it: what it
 -- ensures.
-use Rattle.std.proofs.Common.{rules, FitsSigned, w64}
-use Rattle.std.proofs.lemmas.Int.{to_z-of_z}
-use Rattle.tsp_text.specs.SectionWords.{IsWhole}
+use Rattle.tsp_read.proofs.Prelude.{rules, FitsSigned, w64, to_z-of_z, IsWhole}
 use Rattle.tsp_read.specs.states.ReadingRun.{front_word, left_from, IsFrontWord}
 use Rattle.tsp_read.proofs.digits.take_number.Goals as goal
 

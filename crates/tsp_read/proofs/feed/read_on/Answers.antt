@@ -1,6 +1,6 @@
 -- The goals of `read_on` in src/feed.rt, which takes the items of a piece and keeps the rest: what it ensures.
-use Rattle.std.proofs.Common.{◌≡◌, Err, sym, ◌∙◌}
-use Rattle.tsp_read.proofs.BegunSteps.{empty_rest, filled_rest, propagated}
+use Rattle.tsp_read.proofs.Prelude.{◌≡◌, Err, sym, ◌∙◌, nil_from_test}
+use Rattle.tsp_read.proofs.BegunSteps.{filled_rest, propagated}
 use Rattle.tsp_read.proofs.Onwards.{paused_joined, joined_read, paused_kept, to_the_end, to_a_place, of_some}
 use Rattle.tsp_read.proofs.feed.read_on.Goals as goal
 
@@ -17,7 +17,7 @@ pub returns-then-is_empty-clause-read : goal.returns-then-is_empty-clause-read
 returns-then-is_empty-clause-read c = λ bytes h.
     paused_joined c.join.new.intake c.join.new.self bytes c.in-Some.rest.now
     (to_a_place bytes c.join.new.intake.reading _ c.in_ok-rest.field-0 c.in-Some.rest c.in-Some.is (c.in_ok-rest.ensures.joined bytes h))
-    (empty_rest c.in-Some.rest.now (sym c.is_empty.ensures ∙ c.if-is_empty.true))
+    (nil_from_test c.in-Some.rest.now (sym c.is_empty.ensures ∙ c.if-is_empty.true))
 
 pub returns-in-Err-clause-read : goal.returns-in-Err-clause-read
 returns-in-Err-clause-read c = λ bytes h.

@@ -1,7 +1,5 @@
 -- The goals of `next_item` in src/items.rt, which cuts the next item from a text: what it ensures.
-use Rattle.std.proofs.Common.{◌≡◌, ◌≤◌, ℕ, Bool, false, List, ◌∷◌, length, ap, sym, ◌∙◌, length-drop, arith}
-use Rattle.std.proofs.lemmas.Bool.{ne_eqb}
-use Rattle.std.proofs.lemmas.Grind.{common_steps}
+use Rattle.tsp_read.proofs.Prelude.{◌≡◌, ◌≤◌, ℕ, Bool, false, List, ◌∷◌, length, ap, sym, ◌∙◌, length-drop, arith, ne_eqb, common_steps}
 use Rattle.tsp_read.specs.states.Left.{from, token_at, ends_token}
 use Rattle.tsp_read.proofs.Onwards.{start_shorter, filled_first, goes_on_past, none_next, end_next, token_next, token_missing_next, end_follows, token_follows, token_short}
 use Rattle.tsp_read.proofs.items.next_item.Goals as goal

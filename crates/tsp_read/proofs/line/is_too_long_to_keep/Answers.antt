@@ -1,7 +1,6 @@
 -- The goals of `is_too_long_to_keep` in src/line.rt, which says whether a keyword and its value are too long: what it
 -- ensures.
-use Rattle.std.proofs.Common.{◌+◌, ◌-◌, length, refl, arith}
-use Rattle.std.proofs.lemmas.Bool.Decides.{Decides-ltb, same_from_decides}
+use Rattle.tsp_read.proofs.Prelude.{◌+◌, ◌-◌, length, refl, arith, Decides-ltb, same_from_decides}
 use Rattle.tsp_read.proofs.line.is_too_long_to_keep.Goals as goal
 
 pub returns-then-line-gt-MOST_KEPT_BYTES : goal.returns-then-line-gt-MOST_KEPT_BYTES

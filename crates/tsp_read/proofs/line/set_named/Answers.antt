@@ -1,8 +1,5 @@
 -- The goals of `set_named` in src/line.rt, which sets the value that a line names: what it ensures.
-use Rattle.std.proofs.Common.{refl, ◌∙◌, sym}
-use Rattle.std.specs.Prelude.{is_some}
-use Rattle.tsp_text.specs.Items.{first_word}
-use Rattle.tsp_text.specs.Earlier.{is_left_out}
+use Rattle.tsp_read.proofs.Prelude.{refl, ◌∙◌, sym, is_some, first_word, is_left_out}
 use Rattle.tsp_read.proofs.ListSteps.{fault_of_value}
 use Rattle.tsp_read.proofs.line.set_named.Goals as goal
 

@@ -1,6 +1,5 @@
 -- The loop of `without_end` in src/line.rt.
-use Rattle.std.proofs.Common.{◌≡◌, length}
-use Rattle.tsp_text.specs.Items.{without_end}
+use Rattle.tsp_read.proofs.Prelude.{◌≡◌, length, without_end}
 use Rattle.tsp_read.proofs.line.without_end.Given as goal
 
 -- the text without the blanks at its end is `front` without those at its end

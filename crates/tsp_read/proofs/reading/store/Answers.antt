@@ -1,7 +1,6 @@
 -- The goals of `store` in src/reading.rt, which puts the list of a section into the draft: what it ensures.
-use Rattle.std.proofs.Common.{refl}
+use Rattle.tsp_read.proofs.Prelude.{refl, points_of, families_of, fields_of}
 use Rattle.tsp_format.specs.states.TreeSteps.{steps_of}
-use Rattle.tsp_file.specs.states.Drafts.{points_of, combs_of, fields_of}
 use Rattle.tsp_read.proofs.SectionSteps as steps
 use Rattle.tsp_read.proofs.reading.store.Goals as goal
 
@@ -26,10 +25,10 @@ returns-in-Triples c =
     steps.triples_stored c.args.section c.in-Triples.part c.finish-triples.result.0.items c.finish-triples.result.1 (fields_of c.args.draft.now) _
     c.in-Triples.is refl c.finish-triples.ensures
 
-pub returns-in-Combs : goal.returns-in-Combs
-returns-in-Combs c =
-    steps.combs_stored c.args.section c.in-Combs.part (combs_of c.finish-combs.result.0.items) c.finish-combs.result.1 (fields_of c.args.draft.now) _
-    c.in-Combs.is refl c.finish-combs.ensures
+pub returns-in-Families : goal.returns-in-Families
+returns-in-Families c =
+    steps.families_stored c.args.section c.in-Families.part (families_of c.finish-families.result.0.items) c.finish-families.result.1 (fields_of c.args.draft.now) _
+    c.in-Families.is refl c.finish-families.ensures
 
 pub returns-in-Steps : goal.returns-in-Steps
 returns-in-Steps c =

@@ -1,13 +1,8 @@
 -- The goals of `canonical_texts_are_read_back` in src/round_trip.rt. The canonical text of a valid file parses to that
 -- file, and to no other: from the one answer of every text.
-use Rattle.std.proofs.Common.{ℕ, List, sym, subst, ◌∙◌, Result, Ok, Err}
-use Rattle.std.proofs.lemmas.Option.{none-some}
-use Rattle.tsp_file.specs.Fields.{Fields}
-use Rattle.tsp_file.specs.CanonicalText.{text_of}
-use Rattle.tsp_text.specs.declared.fault.ReadFault.{ReadFault}
+use Rattle.tsp_read.proofs.Prelude.{ℕ, List, sym, subst, ◌∙◌, Result, Ok, Err, none-some, Fields, text_of, ReadFault, ParsesTo}
 use Rattle.tsp_text.specs.declared.fault.ReadFault.TheVariants as faults
 use Rattle.tsp_read.specs.Reads.{Reads}
-use Rattle.tsp_text.specs.ParsesTo.{ParsesTo}
 use Rattle.tsp_read.specs.Answers.{IsThisFile}
 use Rattle.tsp_read.proofs.NumbersReadBack.{NumberLaws}
 use Rattle.tsp_read.proofs.KeyFields.{text_spelled}

@@ -1,6 +1,5 @@
 -- The goals of `move_to_end` in src/section_builder.rt, which moves a list to the end of others: what it ensures.
-use Rattle.std.proofs.Common.{◌≡◌, ◌∙◌, ap, ◌-◌, length, [], ◌∷◌, ◌++◌, arith}
-use Rattle.std.specs.Prelude.{slice_set}
+use Rattle.tsp_read.proofs.Prelude.{◌≡◌, ◌∙◌, ap, ◌-◌, length, [], ◌∷◌, ◌++◌, arith, slice_set}
 use Rattle.std.proofs.Math.Seq.{set-append_seam}
 use Rattle.tsp_read.proofs.section_builder.move_to_end.Goals as goal
 

@@ -1,7 +1,6 @@
 -- The goals of `unmarked_node` in src/section_builder.rt, which returns the node of a group, if it is one and no
 -- earlier group has it: what it ensures.
-use Rattle.std.proofs.Common.{◌≡◌, ◌-◌, false, slice_index_or, rules, arith, FitsSigned, w64}
-use Rattle.std.proofs.lemmas.Int.{to_z-of_z}
+use Rattle.tsp_read.proofs.Prelude.{◌≡◌, ◌-◌, false, slice_index_or, rules, arith, FitsSigned, w64, to_z-of_z}
 use Rattle.tsp_read.proofs.SectionLists.{unmarked}
 use Rattle.tsp_read.proofs.section_builder.unmarked_node.Goals as goal
 

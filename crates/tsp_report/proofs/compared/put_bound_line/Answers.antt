@@ -1,11 +1,5 @@
 -- The goals of `put_bound_line` in src/compared.rt: what it ensures.
-use Rattle.std.proofs.Common.{◌++◌, rules}
-use Rattle.std.specs.Prelude.{codes, FitsSigned}
-use Rattle.std.specs.Fmt.{signed_decimal}
-use Rattle.std.specs.Int.{w128}
-use Rattle.std.proofs.lemmas.Int.{to_z-of_z}
-use Rattle.tsp_io.specs.states.Watched.{way_of}
-use Rattle.tsp_io.proofs.Carrying.{carried_none, carried_then}
+use Rattle.tsp_report.proofs.Prelude.{◌++◌, rules, codes, FitsSigned, signed_decimal, w128, to_z-of_z, way_of, carried_none, carried_then}
 use Rattle.tsp_report.proofs.compared.put_bound_line.Goals as goal
 
 -- plan: without a bound nothing is put, else three parts after each other

@@ -1,10 +1,7 @@
 -- The goals of `put_gap_words` in src/compared.rt, which adds by how much a length is above a bound: what it
 -- ensures.
-use Rattle.std.proofs.Common.{◌≡◌, rules, true, false, arith}
-use Rattle.std.specs.Prelude.{FitsSigned, pos}
+use Rattle.tsp_report.proofs.Prelude.{◌≡◌, rules, true, false, arith, FitsSigned, pos, w128, ints, to_z-of_z}
 use Rattle.std.specs.Ordering.{int_eq}
-use Rattle.std.specs.Int.{w128}
-use Rattle.std.proofs.lemmas.Int.{ints, to_z-of_z}
 use Rattle.tsp_report.proofs.compared.put_gap_words.Goals as goal
 
 -- plan: a gap other than 0 is written as its word and number, which `put_named` adds as one text

@@ -1,13 +1,10 @@
 -- The goals of `put_known_bound` in src/compared.rt, which adds the lines that are the same for all solutions: what it
 -- ensures.
-use Rattle.std.proofs.Common.{◌++◌}
-use Rattle.std.specs.Prelude.{codes, decimal}
-use Rattle.tsp_io.specs.states.Watched.{way_of}
-use Rattle.tsp_io.proofs.Carrying.{carried_then}
+use Rattle.tsp_report.proofs.Prelude.{◌++◌, codes, decimal, way_of, carried_then}
 use Rattle.tsp_report.specs.Report.{known_bound_bound}
 use Rattle.tsp_report.proofs.compared.put_known_bound.Goals as goal
 
--- plan: by the basis: the text of each is put, of routes two lines after each other
+-- plan: by the known bound: the text of each is put, of routes two lines after each other
 pub returns-in-Tours : goal.returns-in-Tours
 returns-in-Tours g c = rw c.in-Tours.is c.put_bound_line.ensures
 

@@ -1,8 +1,5 @@
 -- The goals of `put_name` in src/compared.rt, which adds the name of a fault after its place: what it ensures.
-use Rattle.std.proofs.Common.{◌++◌, subst}
-use Rattle.std.specs.Prelude.{codes}
-use Rattle.tsp_io.specs.states.Watched.{Carried, way_of}
-use Rattle.tsp_io.proofs.Carrying.{carried_then}
+use Rattle.tsp_report.proofs.Prelude.{◌++◌, subst, codes, Carried, way_of, carried_then}
 use Rattle.tsp_report.proofs.compared.put_name.Goals as goal
 
 -- plan: the words of the fault, one after the other (`carried_then`)

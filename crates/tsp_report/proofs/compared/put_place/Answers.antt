@@ -1,9 +1,6 @@
 -- The goals of `put_place` in src/compared.rt, which adds the place of a fault and its name: what it ensures.
-use Rattle.std.proofs.Common.{◌++◌}
-use Rattle.std.specs.Prelude.{codes, decimal}
+use Rattle.tsp_report.proofs.Prelude.{◌++◌, codes, decimal, way_of, carried_then}
 use Rattle.tsp_text.specs.ParsesTo.{line_fault_text}
-use Rattle.tsp_io.specs.states.Watched.{way_of}
-use Rattle.tsp_io.proofs.Carrying.{carried_then}
 use Rattle.tsp_report.proofs.compared.put_place.Goals as goal
 
 -- plan: the line, the word and the fault's name (`carried_then`)

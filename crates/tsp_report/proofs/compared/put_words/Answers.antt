@@ -1,11 +1,5 @@
 -- The goals of `put_words` in src/compared.rt, which adds the words on a verdict: what it ensures.
-use Rattle.std.proofs.Common.{◌++◌, rules}
-use Rattle.std.specs.Prelude.{codes, decimal, FitsSigned}
-use Rattle.std.specs.Fmt.{signed_decimal}
-use Rattle.std.specs.Int.{w64}
-use Rattle.std.proofs.lemmas.Int.{to_z-of_z}
-use Rattle.tsp_io.specs.states.Watched.{way_of}
-use Rattle.tsp_io.proofs.Carrying.{carried_then}
+use Rattle.tsp_report.proofs.Prelude.{◌++◌, rules, codes, decimal, FitsSigned, signed_decimal, w64, to_z-of_z, way_of, carried_then}
 use Rattle.tsp_report.specs.Report.{bound_words, reason_text}
 use Rattle.tsp_report.proofs.Texts.{then_named}
 use Rattle.tsp_report.proofs.compared.put_words.Goals as goal

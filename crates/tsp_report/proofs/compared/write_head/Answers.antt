@@ -1,8 +1,6 @@
 -- The goals of `write_head` in src/compared.rt, which writes the lines on the instance and on all solutions:
 -- what it ensures.
-use Rattle.std.proofs.Common.{◌∙◌, sym}
-use Rattle.tsp_io.specs.states.Watched.{way_of}
-use Rattle.tsp_io.proofs.Carrying.{text_stopped, text_written}
+use Rattle.tsp_report.proofs.Prelude.{◌∙◌, sym, way_of, text_stopped, text_written}
 use Rattle.tsp_report.proofs.Texts.{two_parts}
 use Rattle.tsp_report.specs.Report.{instance_lines, head_of, known_bound_lines}
 use Rattle.tsp_report.proofs.compared.write_head.Goals as goal

@@ -1,8 +1,5 @@
 -- The goals of `write_line` in src/compared.rt, which writes the line of one solution: what it ensures.
-use Rattle.std.proofs.Common.{◌∙◌, ◌++◌, sym}
-use Rattle.std.specs.Prelude.{codes}
-use Rattle.tsp_io.specs.states.Watched.{way_of}
-use Rattle.tsp_io.proofs.Carrying.{text_stopped, text_written}
+use Rattle.tsp_report.proofs.Prelude.{◌∙◌, ◌++◌, sym, codes, way_of, text_stopped, text_written}
 use Rattle.tsp_report.proofs.Texts.{with_path}
 use Rattle.tsp_report.specs.Report.{solution_line, found_words}
 use Rattle.tsp_report.proofs.compared.write_line.Goals as goal

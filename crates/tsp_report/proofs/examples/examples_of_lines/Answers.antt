@@ -1,6 +1,5 @@
 -- The goals of `examples_of_lines` in src/examples.rt: what it ensures.
-use Rattle.std.proofs.Common.{refl}
-use Rattle.std.specs.Fmt.{digits}
+use Rattle.tsp_report.proofs.Prelude.{refl, digits}
 use Rattle.tsp_report.proofs.examples.examples_of_lines.Goals as goal
 
 -- plan: each example is computed

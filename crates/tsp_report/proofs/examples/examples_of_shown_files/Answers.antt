@@ -1,6 +1,5 @@
 -- The goals of `examples_of_shown_files` in src/examples.rt: what it ensures.
-use Rattle.std.proofs.Common.{refl}
-use Rattle.std.specs.Fmt.{digits}
+use Rattle.tsp_report.proofs.Prelude.{refl, digits}
 use Rattle.tsp_file.specs.Cost.{cost, listed_cost}
 use Rattle.tsp_format.specs.Place.{place_of}
 use Rattle.tsp_format.specs.Nodes.{nodes_to, cells}

@@ -1,11 +1,5 @@
 -- The goals of `put_accepted` in src/report.rt, which adds the length, the bound and `yes`: what it ensures.
-use Rattle.std.proofs.Common.{◌++◌, rules}
-use Rattle.std.specs.Prelude.{codes, FitsSigned}
-use Rattle.std.specs.Fmt.{signed_decimal}
-use Rattle.std.specs.Int.{w64}
-use Rattle.std.proofs.lemmas.Int.{to_z-of_z}
-use Rattle.tsp_io.specs.states.Watched.{way_of}
-use Rattle.tsp_io.proofs.Carrying.{carried_then}
+use Rattle.tsp_report.proofs.Prelude.{◌++◌, rules, codes, FitsSigned, signed_decimal, w64, to_z-of_z, way_of, carried_then}
 use Rattle.tsp_report.specs.Report.{bound_lines}
 use Rattle.tsp_report.proofs.report.put_accepted.Goals as goal
 

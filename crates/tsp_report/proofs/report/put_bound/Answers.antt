@@ -1,11 +1,5 @@
 -- The goals of `put_bound` in src/report.rt, which adds the bound, and `optimal` or the gap: what it ensures.
-use Rattle.std.proofs.Common.{◌++◌, ◌≡◌, rules}
-use Rattle.std.specs.Prelude.{codes, FitsSigned, ◌-ℤ◌}
-use Rattle.std.specs.Int.{w64, w128}
-use Rattle.std.proofs.lemmas.Int.{to_z-of_z}
-use Rattle.std.specs.Fmt.{signed_decimal}
-use Rattle.tsp_io.specs.states.Watched.{way_of}
-use Rattle.tsp_io.proofs.Carrying.{carried_none, carried_then}
+use Rattle.tsp_report.proofs.Prelude.{◌++◌, ◌≡◌, rules, codes, FitsSigned, ◌-ℤ◌, w64, w128, to_z-of_z, signed_decimal, way_of, carried_none, carried_then}
 use Rattle.tsp_report.specs.Report.{gap_lines}
 use Rattle.tsp_report.proofs.report.put_bound.Goals as goal
 

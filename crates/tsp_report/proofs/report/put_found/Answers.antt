@@ -1,11 +1,5 @@
 -- The goals of `put_found` in src/report.rt, which adds the bound and `yes`, or `no`: what it ensures.
-use Rattle.std.proofs.Common.{◌++◌, rules}
-use Rattle.std.specs.Prelude.{codes, FitsSigned}
-use Rattle.std.specs.Int.{w128}
-use Rattle.std.proofs.lemmas.Int.{to_z-of_z}
-use Rattle.std.specs.Fmt.{signed_decimal}
-use Rattle.tsp_io.specs.states.Watched.{way_of}
-use Rattle.tsp_io.proofs.Carrying.{carried_then}
+use Rattle.tsp_report.proofs.Prelude.{◌++◌, rules, codes, FitsSigned, w128, to_z-of_z, signed_decimal, way_of, carried_then}
 use Rattle.tsp_report.proofs.report.put_found.Goals as goal
 
 -- plan: by what was found: a bound, no tour, or a reason (`carried_then`)

@@ -1,12 +1,6 @@
 -- The goals of `put_gap` in src/report.rt, which adds by how much a length is above a bound: what it ensures.
-use Rattle.std.proofs.Common.{◌≡◌, ◌++◌, rules, false, arith}
-use Rattle.std.specs.Prelude.{codes, FitsSigned, pos}
+use Rattle.tsp_report.proofs.Prelude.{◌≡◌, ◌++◌, rules, false, arith, codes, FitsSigned, pos, w128, ints, to_z-of_z, signed_decimal, way_of, carried_then}
 use Rattle.std.specs.Ordering.{int_eq}
-use Rattle.std.specs.Int.{w128}
-use Rattle.std.proofs.lemmas.Int.{ints, to_z-of_z}
-use Rattle.std.specs.Fmt.{signed_decimal}
-use Rattle.tsp_io.specs.states.Watched.{way_of}
-use Rattle.tsp_io.proofs.Carrying.{carried_then}
 use Rattle.tsp_report.proofs.report.put_gap.Goals as goal
 
 -- plan: by the gap: 0 is the word for optimal, another its line (`carried_then`)

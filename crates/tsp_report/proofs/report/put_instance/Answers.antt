@@ -1,8 +1,5 @@
 -- The goals of `put_instance` in src/report.rt, which adds the lines on an instance: what it ensures.
-use Rattle.std.proofs.Common.{◌++◌, ◌∙◌, ap, subst, Option, ℕ, List}
-use Rattle.std.specs.Prelude.{unwrap_or}
-use Rattle.tsp_io.specs.states.Watched.{Carried, way_of}
-use Rattle.tsp_io.proofs.Carrying.{carried_then}
+use Rattle.tsp_report.proofs.Prelude.{◌++◌, ◌∙◌, ap, subst, Option, ℕ, List, unwrap_or, Carried, way_of, carried_then}
 use Rattle.tsp_report.specs.Report.{type_line, nodes_line, not_judged}
 use Rattle.tsp_format.specs.declared.kinds.Kind.{Kind}
 use Rattle.tsp_report.proofs.report.put_instance.Goals as goal

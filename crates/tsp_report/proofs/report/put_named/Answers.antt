@@ -1,6 +1,5 @@
 -- The goals of `put_named` in src/report.rt, which adds words and a number: what it ensures.
-use Rattle.tsp_io.specs.states.Watched.{way_of}
-use Rattle.tsp_io.proofs.Carrying.{carried_then}
+use Rattle.tsp_report.proofs.Prelude.{way_of, carried_then}
 use Rattle.tsp_report.proofs.report.put_named.Goals as goal
 
 -- plan: the word, the number and the line's end (`carried_then`)

@@ -1,8 +1,5 @@
 -- The goals of `put_no` in src/report.rt, which adds `no` with its reason: what it ensures.
-use Rattle.std.proofs.Common.{◌++◌}
-use Rattle.std.specs.Prelude.{codes}
-use Rattle.tsp_io.specs.states.Watched.{way_of}
-use Rattle.tsp_io.proofs.Carrying.{carried_then}
+use Rattle.tsp_report.proofs.Prelude.{◌++◌, codes, way_of, carried_then}
 use Rattle.tsp_report.specs.Report.{reason_text, keyword_after_blank}
 use Rattle.tsp_report.proofs.report.put_no.Goals as goal
 

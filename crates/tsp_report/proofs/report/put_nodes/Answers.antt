@@ -1,9 +1,5 @@
 -- The goals of `put_nodes` in src/report.rt: what it ensures.
-use Rattle.std.proofs.Common.{◌++◌}
-use Rattle.std.specs.Prelude.{codes}
-use Rattle.tsp_io.specs.states.Watched.{way_of}
-use Rattle.tsp_io.proofs.Carrying.{carried_then}
-use Rattle.std.specs.Fmt.{decimal}
+use Rattle.tsp_report.proofs.Prelude.{◌++◌, codes, way_of, carried_then, decimal}
 use Rattle.tsp_report.proofs.report.put_nodes.Goals as goal
 
 -- plan: the word and the number (`carried_then`)

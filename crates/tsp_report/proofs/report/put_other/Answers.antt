@@ -1,8 +1,5 @@
 -- The goals of `put_other` in src/report.rt, which adds the line of an unknown keyword: what it ensures.
-use Rattle.std.proofs.Common.{◌++◌}
-use Rattle.std.specs.Prelude.{codes}
-use Rattle.tsp_io.specs.states.Watched.{way_of}
-use Rattle.tsp_io.proofs.Carrying.{carried_then}
+use Rattle.tsp_report.proofs.Prelude.{◌++◌, codes, way_of, carried_then}
 use Rattle.tsp_report.proofs.report.put_other.Goals as goal
 
 -- plan: the words, the keyword and the line's end (`carried_then`)

@@ -1,7 +1,5 @@
 -- The goals of `put_others` in src/report.rt, which adds the lines of unknown keywords: its loop and what it ensures.
-use Rattle.std.proofs.Common.{rules, subst, map, arith}
-use Rattle.tsp_io.specs.states.Watched.{way_of, Carried}
-use Rattle.tsp_io.proofs.Carrying.{carried_mapped, carried_next}
+use Rattle.tsp_report.proofs.Prelude.{rules, subst, map, arith, way_of, Carried, carried_mapped, carried_next}
 use Rattle.tsp_report.proofs.Texts.{unknown_line, not_judged_each}
 use Rattle.tsp_report.proofs.report.put_others.Goals as goal
 

@@ -1,7 +1,5 @@
 -- The loop of `put_others` in src/report.rt.
-use Rattle.std.proofs.Common.{take}
-use Rattle.std.specs.List.{flat_map}
-use Rattle.tsp_io.specs.states.Watched.{way_of, Carried}
+use Rattle.tsp_report.proofs.Prelude.{take, flat_map, way_of, Carried}
 use Rattle.tsp_report.proofs.Texts.{unknown_line}
 use Rattle.tsp_report.proofs.report.put_others.Given as goal
 

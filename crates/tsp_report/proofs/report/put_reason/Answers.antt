@@ -1,8 +1,5 @@
 -- The goals of `put_reason` in src/report.rt: what it ensures.
-use Rattle.std.proofs.Common.{◌++◌, Option, subst}
-use Rattle.std.specs.Prelude.{ℤ}
-use Rattle.tsp_io.specs.states.Watched.{Carried, way_of}
-use Rattle.tsp_io.proofs.Carrying.{carried_then}
+use Rattle.tsp_report.proofs.Prelude.{◌++◌, Option, subst, ℤ, Carried, way_of, carried_then}
 use Rattle.tsp_report.specs.Verdicts.{row_of_reason}
 use Rattle.tsp_report.specs.Report.{after_blank}
 use Rattle.tsp_report.proofs.report.put_reason.Goals as goal

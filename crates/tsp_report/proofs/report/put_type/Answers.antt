@@ -1,8 +1,5 @@
 -- The goals of `put_type` in src/report.rt: what it ensures.
-use Rattle.std.proofs.Common.{◌++◌}
-use Rattle.std.specs.Prelude.{codes}
-use Rattle.tsp_io.specs.states.Watched.{way_of}
-use Rattle.tsp_io.proofs.Carrying.{carried_then}
+use Rattle.tsp_report.proofs.Prelude.{◌++◌, codes, way_of, carried_then}
 use Rattle.tsp_format.specs.Words.{kind_word}
 use Rattle.tsp_report.proofs.report.put_type.Goals as goal
 

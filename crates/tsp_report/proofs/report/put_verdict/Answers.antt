@@ -1,10 +1,5 @@
 -- The goals of `put_verdict` in src/report.rt, which adds the lines on a verdict: what it ensures.
-use Rattle.std.proofs.Common.{◌++◌, rules}
-use Rattle.std.specs.Prelude.{codes, decimal, FitsSigned}
-use Rattle.std.specs.Int.{w64}
-use Rattle.std.proofs.lemmas.Int.{to_z-of_z}
-use Rattle.tsp_io.specs.states.Watched.{way_of}
-use Rattle.tsp_io.proofs.Carrying.{carried_then}
+use Rattle.tsp_report.proofs.Prelude.{◌++◌, rules, codes, decimal, FitsSigned, w64, to_z-of_z, way_of, carried_then}
 use Rattle.tsp_report.proofs.Texts.{then_named}
 use Rattle.tsp_report.specs.Report.{accepted_lines}
 use Rattle.tsp_report.proofs.report.put_verdict.Goals as goal

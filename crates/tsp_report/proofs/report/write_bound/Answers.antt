@@ -1,7 +1,5 @@
 -- The goals of `write_bound` in src/report.rt: what it ensures.
-use Rattle.std.proofs.Common.{◌∙◌, sym}
-use Rattle.tsp_io.specs.states.Watched.{way_of}
-use Rattle.tsp_io.proofs.Carrying.{text_stopped, text_written}
+use Rattle.tsp_report.proofs.Prelude.{◌∙◌, sym, way_of, text_stopped, text_written}
 use Rattle.tsp_report.proofs.Texts.{two_parts}
 use Rattle.tsp_report.specs.Report.{bound_report_of, instance_lines, bound_found_lines}
 use Rattle.tsp_report.proofs.report.write_bound.Goals as goal

@@ -1,10 +1,5 @@
 -- The goals of `put_costs` in src/shown.rt, which adds the lines that instances alone have: what it ensures.
-use Rattle.std.proofs.Common.{◌++◌, ◌∙◌, ap, subst, Option, ℕ, List, rules}
-use Rattle.std.specs.Prelude.{ℤ, FitsSigned}
-use Rattle.std.specs.Int.{w64}
-use Rattle.std.proofs.lemmas.Int.{to_z-of_z}
-use Rattle.tsp_io.specs.states.Watched.{Carried, way_of}
-use Rattle.tsp_io.proofs.Carrying.{carried_then}
+use Rattle.tsp_report.proofs.Prelude.{◌++◌, ◌∙◌, ap, subst, Option, ℕ, List, rules, ℤ, FitsSigned, w64, to_z-of_z, Carried, way_of, carried_then}
 use Rattle.tsp_file.specs.Fields.{Fields}
 use Rattle.tsp_report.specs.Show.{weights_line, canonical_line, canonical_of, fixed_line}
 use Rattle.tsp_report.proofs.shown.put_costs.Goals as goal

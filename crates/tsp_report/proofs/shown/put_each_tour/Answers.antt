@@ -1,8 +1,5 @@
 -- The goals of `put_each_tour` in src/shown.rt: its loop and what it ensures.
-use Rattle.std.proofs.Common.{rules, map, arith}
-use Rattle.std.proofs.lemmas.List.{length-map}
-use Rattle.tsp_io.specs.states.Watched.{way_of}
-use Rattle.tsp_io.proofs.Carrying.{carried_nodes}
+use Rattle.tsp_report.proofs.Prelude.{rules, map, arith, length-map, way_of, carried_nodes}
 use Rattle.tsp_report.specs.Show.{tour_line}
 use Rattle.tsp_report.proofs.Texts.{next_mapped}
 use Rattle.tsp_report.proofs.shown.put_each_tour.Goals as goal

@@ -1,7 +1,5 @@
 -- The loop of `put_each_tour` in src/shown.rt.
-use Rattle.std.proofs.Common.{take, map}
-use Rattle.std.specs.List.{flat_map, enumerate_from}
-use Rattle.tsp_io.specs.states.Watched.{way_of, Carried}
+use Rattle.tsp_report.proofs.Prelude.{take, map, flat_map, enumerate_from, way_of, Carried}
 use Rattle.tsp_report.specs.Show.{tour_line}
 use Rattle.tsp_report.proofs.shown.put_each_tour.Given as goal
 

@@ -1,10 +1,6 @@
 -- The goals of `put_fixed` in src/shown.rt, which adds how many pairs are fixed, if a section lists them: what it
 -- ensures.
-use Rattle.std.proofs.Common.{◌++◌, length}
-use Rattle.std.specs.Prelude.{codes}
-use Rattle.tsp_io.specs.states.Watched.{way_of}
-use Rattle.tsp_io.proofs.Carrying.{carried_then, carried_none}
-use Rattle.std.specs.Fmt.{decimal}
+use Rattle.tsp_report.proofs.Prelude.{◌++◌, length, codes, way_of, carried_then, carried_none, decimal}
 use Rattle.tsp_report.proofs.shown.put_fixed.Goals as goal
 
 -- plan: by whether the section is present (`carried_none`)

@@ -1,8 +1,6 @@
 -- The goals of `put_head` in src/shown.rt, which adds the lines that every file has: what it ensures.
-use Rattle.std.proofs.Common.{◌++◌, subst, Option, ℕ, List, []}
+use Rattle.tsp_report.proofs.Prelude.{◌++◌, subst, Option, ℕ, List, [], Carried, way_of, carried_then}
 use Rattle.std.specs.Option.{option_map_or}
-use Rattle.tsp_io.specs.states.Watched.{Carried, way_of}
-use Rattle.tsp_io.proofs.Carrying.{carried_then}
 use Rattle.tsp_report.specs.Report.{type_line, nodes_line}
 use Rattle.tsp_report.specs.Show.{name_line}
 use Rattle.tsp_format.specs.declared.kinds.Kind.{Kind}

@@ -1,9 +1,5 @@
 -- The goals of `put_leaves` in src/shown.rt: what it ensures.
-use Rattle.std.proofs.Common.{◌++◌}
-use Rattle.std.specs.Prelude.{codes}
-use Rattle.tsp_io.specs.states.Watched.{way_of}
-use Rattle.tsp_io.proofs.Carrying.{carried_then}
-use Rattle.std.specs.Fmt.{decimal}
+use Rattle.tsp_report.proofs.Prelude.{◌++◌, codes, way_of, carried_then, decimal}
 use Rattle.tsp_format.specs.Steps.{leaf_count}
 use Rattle.tsp_format.specs.states.TreeSteps.{steps_of}
 use Rattle.tsp_report.proofs.shown.put_leaves.Goals as goal

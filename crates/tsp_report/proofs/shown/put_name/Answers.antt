@@ -1,8 +1,5 @@
 -- The goals of `put_name` in src/shown.rt: what it ensures.
-use Rattle.std.proofs.Common.{◌++◌, ◌∙◌, sym, subst}
-use Rattle.std.specs.Prelude.{codes}
-use Rattle.tsp_io.specs.states.Watched.{way_of, Carried}
-use Rattle.tsp_io.proofs.Carrying.{carried_then}
+use Rattle.tsp_report.proofs.Prelude.{◌++◌, ◌∙◌, sym, subst, codes, way_of, Carried, carried_then}
 use Rattle.tsp_report.proofs.Texts.{named}
 use Rattle.tsp_report.proofs.shown.put_name.Goals as goal
 

@@ -1,8 +1,7 @@
 -- The goals of `put_rest` in src/shown.rt, which adds the lines that depend on TYPE, and unknown keywords: what it
 -- ensures.
-use Rattle.std.proofs.Common.{ap, ◌∙◌, map}
+use Rattle.tsp_report.proofs.Prelude.{ap, ◌∙◌, map, way_of}
 use Rattle.tsp_file.specs.Fields.{Fields}
-use Rattle.tsp_io.specs.states.Watched.{way_of}
 use Rattle.tsp_report.proofs.Texts.{rest_of_instance, rest_of_other}
 use Rattle.tsp_report.proofs.shown.put_rest.Goals as goal
 

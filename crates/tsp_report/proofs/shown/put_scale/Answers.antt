@@ -1,11 +1,5 @@
 -- The goals of `put_scale` in src/shown.rt: what it ensures.
-use Rattle.std.proofs.Common.{◌++◌, rules}
-use Rattle.std.specs.Prelude.{codes, FitsSigned, unwrap_or, pos}
-use Rattle.tsp_io.specs.states.Watched.{way_of}
-use Rattle.tsp_io.proofs.Carrying.{carried_then}
-use Rattle.std.specs.Fmt.{signed_decimal}
-use Rattle.std.specs.Int.{w64}
-use Rattle.std.proofs.lemmas.Int.{to_z-of_z}
+use Rattle.tsp_report.proofs.Prelude.{◌++◌, rules, codes, FitsSigned, unwrap_or, pos, way_of, carried_then, signed_decimal, w64, to_z-of_z}
 use Rattle.tsp_report.proofs.shown.put_scale.Goals as goal
 
 -- plan: the word and the scale, 1 if it is missing (`carried_then`)

@@ -1,9 +1,5 @@
 -- The goals of `put_tour` in src/shown.rt: what it ensures.
-use Rattle.std.proofs.Common.{◌++◌, length}
-use Rattle.std.specs.Prelude.{codes}
-use Rattle.std.specs.Fmt.{decimal}
-use Rattle.tsp_io.specs.states.Watched.{way_of}
-use Rattle.tsp_io.proofs.Carrying.{carried_then}
+use Rattle.tsp_report.proofs.Prelude.{◌++◌, length, codes, decimal, way_of, carried_then}
 use Rattle.tsp_report.proofs.Texts.{then_named}
 use Rattle.tsp_report.proofs.shown.put_tour.Goals as goal
 

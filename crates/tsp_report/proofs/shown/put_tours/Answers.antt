@@ -1,11 +1,5 @@
 -- The goals of `put_tours` in src/shown.rt: what it ensures.
-use Rattle.std.proofs.Common.{◌++◌, ℕ, subst, sym, length, map}
-use Rattle.std.specs.Prelude.{codes}
-use Rattle.std.specs.Fmt.{decimal}
-use Rattle.std.specs.List.{enumerate_from, flat_map}
-use Rattle.std.proofs.lemmas.List.{length-map}
-use Rattle.tsp_io.specs.states.Watched.{Carried, way_of}
-use Rattle.tsp_io.proofs.Carrying.{carried_then}
+use Rattle.tsp_report.proofs.Prelude.{◌++◌, ℕ, subst, sym, length, map, codes, decimal, enumerate_from, flat_map, length-map, Carried, way_of, carried_then}
 use Rattle.tsp_report.specs.Show.{tour_line}
 use Rattle.tsp_report.proofs.shown.put_tours.Goals as goal
 

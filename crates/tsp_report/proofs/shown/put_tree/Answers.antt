@@ -1,28 +1,25 @@
 -- The goals of `put_tree` in src/shown.rt: what it ensures.
-use Rattle.std.proofs.Common.{◌≡◌, ◌++◌, subst, Option, ℕ, List, [], rules}
-use Rattle.std.specs.Prelude.{unwrap_or, ℤ}
-use Rattle.tsp_io.specs.states.Watched.{Carried, way_of}
-use Rattle.tsp_io.proofs.Carrying.{carried_then}
+use Rattle.tsp_report.proofs.Prelude.{◌≡◌, ◌++◌, subst, Option, ℕ, List, [], rules, unwrap_or, ℤ, Carried, way_of, carried_then}
 use Rattle.tsp_format.specs.Steps.{Step}
 use Rattle.tsp_format.specs.states.TreeSteps.{steps_of}
-use Rattle.tsp_report.specs.Show.{scale_line, load_unit_line, combs_line, leaves_line}
+use Rattle.tsp_report.specs.Show.{scale_line, load_unit_line, families_line, leaves_line}
 use Rattle.tsp_report.proofs.shown.put_tree.Goals as goal
 
--- plan: the scale, the combs and the leaves (`carried_then`)
+-- plan: the scale, the families and the leaves (`carried_then`)
 pub returns : goal.returns
 returns g c =
     let f = c.args.file.now in
     let start = way_of g.W.Write.contents c.args.out.now c.args.piece.now.items in
     let after_scale = way_of g.W.Write.contents c.put_scale.new.out c.put_scale.new.piece.items in
     let after_unit = way_of g.W.Write.contents c.put_load_unit.new.out c.put_load_unit.new.piece.items in
-    let after_combs = way_of g.W.Write.contents c.put_combs.new.out c.put_combs.new.piece.items in
+    let after_families = way_of g.W.Write.contents c.put_families.new.out c.put_families.new.piece.items in
     let last = way_of g.W.Write.contents c.put_leaves.new.out c.put_leaves.new.piece.items in
     let scale = subst (λ (scale : Option ℤ). Carried start after_scale (scale_line scale)) c.scale.ensures c.put_scale.ensures in
     let unit = subst (λ (unit : Option ℤ). Carried after_scale after_unit (load_unit_line unit)) c.load_unit.ensures c.put_load_unit.ensures in
-    let combs = subst (λ (combs : Option (List (List (List ℕ)))). Carried after_unit after_combs (combs_line combs)) c.combs.ensures c.put_combs.ensures in
+    let families = subst (λ (families : Option (List (List (List ℕ)))). Carried after_unit after_families (families_line families)) c.families.ensures c.put_families.ensures in
     let steps : steps_of c.unwrap_or.result.now ≡ unwrap_or c.args.file.now.branches [] = search rules in
-    let leaves = subst (λ (steps : List Step). Carried after_combs last (leaves_line steps)) steps c.put_leaves.ensures in
+    let leaves = subst (λ (steps : List Step). Carried after_families last (leaves_line steps)) steps c.put_leaves.ensures in
     let leaves_of = leaves_line (unwrap_or f.branches []) in
-    carried_then start after_scale last (scale_line f.scale) (load_unit_line f.load_unit ++ (combs_line f.combs ++ leaves_of)) scale
-    (carried_then after_scale after_unit last (load_unit_line f.load_unit) (combs_line f.combs ++ leaves_of) unit
-    (carried_then after_unit after_combs last (combs_line f.combs) leaves_of combs leaves))
+    carried_then start after_scale last (scale_line f.scale) (load_unit_line f.load_unit ++ (families_line f.families ++ leaves_of)) scale
+    (carried_then after_scale after_unit last (load_unit_line f.load_unit) (families_line f.families ++ leaves_of) unit
+    (carried_then after_unit after_families last (families_line f.families) leaves_of families leaves))

@@ -1,10 +1,7 @@
 -- The goals of `put_weights` in src/shown.rt: what it ensures.
-use Rattle.std.proofs.Common.{◌++◌, []}
-use Rattle.std.specs.Prelude.{codes}
+use Rattle.tsp_report.proofs.Prelude.{◌++◌, [], codes, way_of, carried_then}
 use Rattle.std.specs.Option.{option_map_or}
 use Rattle.tsp_format.specs.Words.{weight_kind_word}
-use Rattle.tsp_io.specs.states.Watched.{way_of}
-use Rattle.tsp_io.proofs.Carrying.{carried_then}
 use Rattle.tsp_report.specs.Show.{layout_part}
 use Rattle.tsp_report.proofs.shown.put_weights.Goals as goal
 

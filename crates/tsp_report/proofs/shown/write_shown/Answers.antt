@@ -1,7 +1,5 @@
 -- The goals of `write_shown` in src/shown.rt: what it ensures.
-use Rattle.std.proofs.Common.{◌++◌, ◌∙◌, sym, subst, append_assoc}
-use Rattle.tsp_io.specs.states.Watched.{way_of, Carried}
-use Rattle.tsp_io.proofs.Carrying.{text_stopped, text_written}
+use Rattle.tsp_report.proofs.Prelude.{◌++◌, ◌∙◌, sym, subst, append_assoc, way_of, Carried, text_stopped, text_written}
 use Rattle.tsp_report.proofs.Texts.{two_parts}
 use Rattle.tsp_report.specs.Report.{not_judged}
 use Rattle.tsp_report.specs.Show.{shown, head_lines, lines_by_type}

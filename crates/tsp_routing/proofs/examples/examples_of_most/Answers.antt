@@ -1,7 +1,5 @@
 -- The goals of `examples_of_most` in src/examples.rt: what it ensures.
-use Rattle.std.proofs.Common.{ℕ, ◌<◌, ◌+◌, ◌*◌, arith, subst}
-use Rattle.std.specs.Prelude.{pos, negsuc, ◌≤ℤ◌}
-use Rattle.std.proofs.lemmas.Int.{ints}
+use Rattle.tsp_routing.proofs.Prelude.{ℕ, ◌<◌, ◌+◌, ◌*◌, arith, subst, pos, negsuc, ◌≤ℤ◌, ints}
 use Rattle.tsp_routing.specs.Examples.{rectangle_with}
 use Rattle.tsp_routing.specs.PlanLinks.{capacity_in_parts}
 use Rattle.tsp_routing.specs.PlanVerdicts.{most_entries}

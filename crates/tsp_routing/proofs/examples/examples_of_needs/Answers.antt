@@ -1,8 +1,6 @@
 -- The goals of `examples_of_needs` in src/examples.rt: what it ensures.
-use Rattle.std.proofs.Common.{refl, arith}
-use Rattle.std.specs.Prelude.{pos}
+use Rattle.tsp_routing.proofs.Prelude.{refl, arith, pos, ints}
 use Rattle.std.specs.Int.Signed.{le_z_yes}
-use Rattle.std.proofs.lemmas.Int.{ints}
 use Rattle.tsp_routing.proofs.SmallCuts.{fewest, need_of_three, need_of_two, cut_of_three, cut_of_two}
 use Rattle.tsp_routing.proofs.examples.examples_of_needs.Goals as goal
 

@@ -1,6 +1,5 @@
 -- The goals of `rows_of` in src/kept_weights.rt, which makes the rows of all nodes: its loop.
-use Rattle.std.proofs.Common.{◌≡◌, ◌+◌, ◌++◌, [], ◌∷◌, ℕ, subst, sym}
-use Rattle.tsp_cases.specs.states.Sets.{lent_in, set_weight}
+use Rattle.tsp_routing.proofs.Prelude.{◌≡◌, ◌+◌, ◌++◌, [], ◌∷◌, ℕ, subst, sym, lent_in, set_weight}
 use Rattle.tsp_routing.specs.states.LeafWeights.{AreFirstRows}
 use Rattle.tsp_routing.proofs.RouteProducts.{weights_more}
 use Rattle.tsp_routing.proofs.kept_weights.rows_of.Goals as goal

@@ -1,7 +1,6 @@
 -- The goals of `entry` in src/least_q_route.rt, which finds the entry of a node for the next load: that an index is in
 -- range, what its call requires and what it ensures.
-use Rattle.std.proofs.Common.{◌≡◌, ◌+◌, ◌-◌, ◌*◌, ◌<◌, ◌∙◌, ℕ, length, get_or, ap, subst, sym, arith}
-use Rattle.std.specs.Global.{Vec}
+use Rattle.tsp_routing.proofs.Prelude.{◌≡◌, ◌+◌, ◌-◌, ◌*◌, ◌<◌, ◌∙◌, ℕ, length, get_or, ap, subst, sym, arith, Vec}
 use Rattle.tsp_routing.specs.declared.least_q_route.Onward.{Onward}
 use Rattle.tsp_routing.specs.states.Demands.{load_at, onward_entry, entry_at, IsRowSized, IsRowLow, IsRowMet}
 use Rattle.tsp_routing.proofs.QRouteRests.{links_more, links_up, entry_up, nowhere_low, entry_low, entry_met, nowhere_met}

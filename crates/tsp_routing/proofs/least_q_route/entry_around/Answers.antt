@@ -1,7 +1,6 @@
 -- The goals of `entry_around` in src/least_q_route.rt, which finds the entry with every next node but the node itself
 -- and the depot: what its calls require and what it ensures.
-use Rattle.std.proofs.Common.{◌≡◌, ◌≢◌, ◌<◌, ℕ, sym, ◌∙◌, arith, inl, inr}
-use Rattle.tsp_theory.specs.Tour.{IsCustomer}
+use Rattle.tsp_routing.proofs.Prelude.{◌≡◌, ◌≢◌, ◌<◌, ℕ, sym, ◌∙◌, arith, inl, inr, IsCustomer}
 use Rattle.tsp_routing.specs.QRoutes.{IsEntryBelowTo, IsEntryMetTo}
 use Rattle.tsp_routing.specs.states.Demands.{onward_entry, entry_at}
 use Rattle.tsp_routing.proofs.QRouteRests.{below_skip, met_skip, apart_from, no_way}

@@ -1,8 +1,5 @@
 -- The goals of `entry_by` in src/least_q_route.rt, which improves an entry by one next node: what it ensures.
-use Rattle.std.proofs.Common.{◌≡◌, ◌+◌, ◌<◌, ◌∙◌, ℕ, length, ap, sym, subst, arith}
-use Rattle.std.specs.Prelude.{ℤ, ◌+ℤ◌}
-use Rattle.std.proofs.lemmas.Int.{ints}
-use Rattle.tsp_theory.specs.states.Nearest.{least_at}
+use Rattle.tsp_routing.proofs.Prelude.{◌≡◌, ◌+◌, ◌<◌, ◌∙◌, ℕ, length, ap, sym, subst, arith, ℤ, ◌+ℤ◌, ints, least_at}
 use Rattle.tsp_routing.specs.declared.least_q_route.Onward.{Onward}
 use Rattle.tsp_routing.specs.QRoutes.{QRouteEntry, least_from, IsReal}
 use Rattle.tsp_routing.specs.states.Demands.{onward_entry, entry_at, IsEntrySized}

@@ -1,8 +1,5 @@
 -- The loop of `entry_with` in src/least_q_route.rt.
-use Rattle.std.proofs.Common.{◌≡◌, ◌<◌, ◌≤◌, ℕ, ◌+◌}
-use Rattle.std.specs.Prelude.{ℤ, ◌≤ℤ◌}
-use Rattle.tsp_format.specs.Nodes.{IsNode}
-use Rattle.tsp_theory.specs.states.Nearest.{least_at}
+use Rattle.tsp_routing.proofs.Prelude.{◌≡◌, ◌<◌, ◌≤◌, ℕ, ◌+◌, ℤ, ◌≤ℤ◌, IsNode, least_at}
 use Rattle.tsp_routing.specs.QRoutes.{IsEntryBelowTo, IsEntryMetTo}
 use Rattle.tsp_routing.specs.declared.least_q_route.Onward.{Onward}
 use Rattle.tsp_routing.specs.states.Demands.{onward_entry, entry_at, IsEntrySized, IsRowSized}

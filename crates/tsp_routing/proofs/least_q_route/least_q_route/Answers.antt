@@ -1,9 +1,6 @@
 -- The goals of `least_q_route` in src/least_q_route.rt, which finds the least weight of a walk: its loop and what it
 -- ensures.
-use Rattle.std.proofs.Common.{◌≡◌, ◌+◌, ◌-◌, ◌*◌, ◌∙◌, ℕ, ℤ, List, [], ◌∷◌, ◌++◌, length, subst, sym, ap, arith, length-append}
-use Rattle.std.specs.Prelude.{Some}
-use Rattle.std.specs.Global.{Vec}
-use Rattle.tsp_theory.specs.Tour.{length_of}
+use Rattle.tsp_routing.proofs.Prelude.{◌≡◌, ◌+◌, ◌-◌, ◌*◌, ◌∙◌, ℕ, ℤ, List, [], ◌∷◌, ◌++◌, length, subst, sym, ap, arith, length-append, Some, Vec, length_of}
 use Rattle.tsp_routing.specs.QRoutes.{IsLeastAmong, IsQRoute, IsBelowQRoutes}
 use Rattle.tsp_routing.specs.declared.least_q_route.Onward.{Onward}
 use Rattle.tsp_routing.specs.states.Demands.{load_at, IsRowSized, AreRowsSized, IsRowLow, AreRowsLow, IsRowMet, AreRowsMet}

@@ -1,8 +1,5 @@
 -- The goals of `next_row` in src/least_q_route.rt, which makes the row of the next load: its loop and what it ensures.
-use Rattle.std.proofs.Common.{◌≡◌, ◌+◌, ◌*◌, ◌∙◌, ℕ, List, [], ◌∷◌, ◌++◌, length, subst, sym, ap, arith, length-append}
-use Rattle.std.specs.List.{All}
-use Rattle.std.proofs.lemmas.List.Elements.{All-push, All-from_recursion}
-use Rattle.tsp_theory.specs.Tour.{IsCustomer}
+use Rattle.tsp_routing.proofs.Prelude.{◌≡◌, ◌+◌, ◌*◌, ◌∙◌, ℕ, List, [], ◌∷◌, ◌++◌, length, subst, sym, ap, arith, length-append, All, All-push, All-from_recursion, IsCustomer}
 use Rattle.tsp_routing.specs.QRoutes.{IsLow, IsMet}
 use Rattle.tsp_routing.specs.declared.least_q_route.Onward.{Onward}
 use Rattle.tsp_routing.specs.states.Demands.{load_at, onward_entry, entry_at, IsEntrySized}

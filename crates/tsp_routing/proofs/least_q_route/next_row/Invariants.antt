@@ -1,7 +1,5 @@
 -- The loop of `next_row` in src/least_q_route.rt.
-use Rattle.std.proofs.Common.{◌≡◌, ◌≤◌, ◌+◌, ◌*◌, ℕ, length}
-use Rattle.std.specs.List.{All}
-use Rattle.tsp_theory.specs.Tour.{IsCustomer}
+use Rattle.tsp_routing.proofs.Prelude.{◌≡◌, ◌≤◌, ◌+◌, ◌*◌, ℕ, length, All, IsCustomer}
 use Rattle.tsp_routing.specs.QRoutes.{IsLow, IsMet}
 use Rattle.tsp_routing.specs.declared.least_q_route.Onward.{Onward}
 use Rattle.tsp_routing.specs.states.Demands.{load_at, onward_entry, entry_at, IsEntrySized, AreRowsLow, AreRowsMet}

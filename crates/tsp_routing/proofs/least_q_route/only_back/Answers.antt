@@ -1,10 +1,6 @@
 -- The goals of `only_back` in src/least_q_route.rt, which is the entry with the way back to the depot alone: what it
 -- ensures.
-use Rattle.std.proofs.Common.{◌≡◌, ℕ, ◌+◌, subst, sym, refl, arith}
-use Rattle.std.specs.Prelude.{pos, neg_ℤ}
-use Rattle.std.proofs.lemmas.Int.{ints}
-use Rattle.tsp_format.specs.Steps.{IsFromTo}
-use Rattle.tsp_theory.specs.states.Nearest.{least_at}
+use Rattle.tsp_routing.proofs.Prelude.{◌≡◌, ℕ, ◌+◌, subst, sym, refl, arith, pos, neg_ℤ, ints, IsFromTo, least_at}
 use Rattle.tsp_routing.specs.states.Demands.{onward_entry, IsEntryNumber}
 use Rattle.tsp_routing.proofs.QRouteRests.{first_sized, none_sized, back_only, met_first}
 use Rattle.tsp_routing.proofs.least_q_route.only_back.Goals as goal

@@ -1,11 +1,6 @@
 -- The goals of `start` in src/least_q_route.rt, which finds the least weight of a walk by the last row: what its call
 -- requires and what it ensures.
-use Rattle.std.proofs.Common.{◌≡◌, ◌+◌, ◌-◌, ◌*◌, ◌<◌, ◌∙◌, ℕ, length, get_or, ap, subst, sym, arith}
-use Rattle.std.specs.Prelude.{pos, neg_ℤ}
-use Rattle.std.specs.Global.{Vec}
-use Rattle.tsp_format.specs.Nodes.{IsNode}
-use Rattle.tsp_format.specs.Steps.{IsFromTo}
-use Rattle.tsp_theory.specs.states.Nearest.{least_at}
+use Rattle.tsp_routing.proofs.Prelude.{◌≡◌, ◌+◌, ◌-◌, ◌*◌, ◌<◌, ◌∙◌, ℕ, length, get_or, ap, subst, sym, arith, pos, neg_ℤ, Vec, IsNode, IsFromTo, least_at}
 use Rattle.tsp_routing.specs.declared.least_q_route.Onward.{Onward}
 use Rattle.tsp_routing.specs.states.Demands.{load_at, entry_at, IsRowSized, IsRowLow, IsRowMet}
 use Rattle.tsp_routing.proofs.QRouteRests.{real_sized, start_low, start_exact}

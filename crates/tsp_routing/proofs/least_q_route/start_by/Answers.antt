@@ -1,10 +1,6 @@
 -- The goals of `start_by` in src/least_q_route.rt, which finds the least weight of a walk by the last row's entries:
 -- its loop and what it ensures.
-use Rattle.std.proofs.Common.{◌≢◌, ◌+◌, ℕ, subst, ap, arith, inl, inr}
-use Rattle.std.specs.Prelude.{◌+ℤ◌}
-use Rattle.std.proofs.lemmas.Int.{ints}
-use Rattle.std.proofs.lemmas.Bool.{cases_eq}
-use Rattle.tsp_theory.specs.states.Nearest.{least_at}
+use Rattle.tsp_routing.proofs.Prelude.{◌≢◌, ◌+◌, ℕ, subst, ap, arith, inl, inr, ◌+ℤ◌, ints, cases_eq, least_at}
 use Rattle.tsp_routing.specs.states.Demands.{entry_at}
 use Rattle.tsp_routing.proofs.least_q_route.start_by.Goals as goal
 

@@ -1,9 +1,5 @@
 -- The loop of `start_by` in src/least_q_route.rt.
-use Rattle.std.proofs.Common.{◌≡◌, ◌<◌, ◌≤◌, ℕ, ◌+◌}
-use Rattle.std.specs.Prelude.{ℤ, ◌+ℤ◌, ◌≤ℤ◌}
-use Rattle.tsp_format.specs.Nodes.{IsNode}
-use Rattle.tsp_theory.specs.Tour.{IsCustomer}
-use Rattle.tsp_theory.specs.states.Nearest.{least_at}
+use Rattle.tsp_routing.proofs.Prelude.{◌≡◌, ◌<◌, ◌≤◌, ℕ, ◌+◌, ℤ, ◌+ℤ◌, ◌≤ℤ◌, IsNode, IsCustomer, least_at}
 use Rattle.tsp_routing.specs.QRoutes.{IsStartMet}
 use Rattle.tsp_routing.specs.declared.least_q_route.Onward.{Onward}
 use Rattle.tsp_routing.specs.states.Demands.{entry_at, IsEntryNumber, IsRowSized}

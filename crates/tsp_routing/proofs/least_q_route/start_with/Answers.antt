@@ -1,9 +1,6 @@
 -- The goals of `start_with` in src/least_q_route.rt, which improves the least weight by the walk to one customer and
 -- on: what it ensures.
-use Rattle.std.proofs.Common.{◌≡◌, ◌<◌, ℕ, length, get_or, ap, arith, inr}
-use Rattle.std.specs.Prelude.{ℤ, ◌+ℤ◌}
-use Rattle.std.proofs.lemmas.Int.{ints}
-use Rattle.tsp_theory.specs.states.Nearest.{least_at}
+use Rattle.tsp_routing.proofs.Prelude.{◌≡◌, ◌<◌, ℕ, length, get_or, ap, arith, inr, ℤ, ◌+ℤ◌, ints, least_at}
 use Rattle.tsp_routing.specs.declared.least_q_route.Onward.{Onward}
 use Rattle.tsp_routing.proofs.QRouteRests.{get_same, known_sized, sum_low, sum_near, sum_real}
 use Rattle.tsp_routing.proofs.least_q_route.start_with.Goals as goal

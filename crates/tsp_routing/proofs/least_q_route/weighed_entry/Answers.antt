@@ -1,8 +1,6 @@
 -- The goals of `weighed_entry` in src/least_q_route.rt, which finds the entry of a node, whose row is kept or made:
 -- what it ensures.
-use Rattle.std.proofs.Common.{◌≡◌, ℕ, subst, sym}
-use Rattle.tsp_format.specs.Nodes.{IsNode}
-use Rattle.tsp_theory.specs.states.Nearest.{least_at}
+use Rattle.tsp_routing.proofs.Prelude.{◌≡◌, ℕ, subst, sym, IsNode, least_at}
 use Rattle.tsp_routing.proofs.least_q_route.weighed_entry.Goals as goal
 
 -- plan: the row of the node has its weights, whether it is kept or filled

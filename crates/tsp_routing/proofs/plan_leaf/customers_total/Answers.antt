@@ -1,12 +1,6 @@
 -- The goals of `customers_total` in src/plan_leaf.rt, which sums the potentials of the customers: its loop and what it
 -- ensures.
-use Rattle.std.proofs.Common.{◌≡◌, ◌∙◌, ◌+◌, ◌-◌, ℕ, ℤ, length, get_or, ap, arith, rules, to_z, of_z, FitsSigned, ◌==◌}
-use Rattle.std.specs.Prelude.{pos, ◌+ℤ◌, if◌then◌else◌}
-use Rattle.std.specs.Int.{w64, w128}
-use Rattle.std.proofs.lemmas.Int.{ints, to_z-of_z}
-use Rattle.tsp_format.specs.Nodes.{nodes_to}
-use Rattle.tsp_theory.specs.Tour.{sum_int_by}
-use Rattle.tsp_theory.specs.Bounds.{entry}
+use Rattle.tsp_routing.proofs.Prelude.{◌≡◌, ◌∙◌, ◌+◌, ◌-◌, ℕ, ℤ, length, get_or, ap, arith, rules, to_z, of_z, FitsSigned, ◌==◌, pos, ◌+ℤ◌, if◌then◌else◌, w64, w128, ints, to_z-of_z, nodes_to, sum_int_by, entry}
 use Rattle.tsp_routing.specs.states.Demands.{of_others}
 use Rattle.tsp_routing.proofs.CutNeeds.{others_sum, nodes_more, nodes_none}
 use Rattle.tsp_routing.proofs.plan_leaf.customers_total.Goals as goal

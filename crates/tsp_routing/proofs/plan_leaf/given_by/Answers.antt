@@ -1,11 +1,5 @@
 -- The goals of `given_by` in src/plan_leaf.rt, which returns what the multiplier of a set gives back: what it ensures.
-use Rattle.std.proofs.Common.{◌≡◌, ◌∙◌, ℕ, ℤ, List, true, false, ap, ap₂, subst, rules, FitsSigned}
-use Rattle.std.specs.Prelude.{pos, int_lt, ◌*ℤ◌}
-use Rattle.std.specs.Int.{w64, w128}
-use Rattle.std.specs.List.{filter}
-use Rattle.std.proofs.lemmas.Int.{to_z-of_z}
-use Rattle.tsp_cases.specs.declared.open_case.Decision.{Decision}
-use Rattle.tsp_cases.specs.states.OpenCases.{stack_of, bears_on, decisions_in}
+use Rattle.tsp_routing.proofs.Prelude.{◌≡◌, ◌∙◌, ℕ, ℤ, List, true, false, ap, ap₂, subst, rules, FitsSigned, pos, int_lt, ◌*ℤ◌, w64, w128, filter, to_z-of_z, Decision, stack_of, bears_on, decisions_in}
 use Rattle.tsp_routing.specs.PlanBounds.{low_of, high_of}
 use Rattle.tsp_routing.proofs.RouteProducts.{low_own, high_own, below_zero, from_zero}
 use Rattle.tsp_routing.proofs.plan_leaf.given_by.Goals as goal

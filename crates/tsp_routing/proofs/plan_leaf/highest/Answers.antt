@@ -1,9 +1,6 @@
 -- The goals of `highest` in src/plan_leaf.rt, which counts how often plans of a case cross a set at most: its loop and
 -- what it ensures.
-use Rattle.std.proofs.Common.{◌∙◌, ℕ, List, [], ◌∷◌, take, get_or, false, sym, ap, arith}
-use Rattle.std.proofs.lemmas.List.{take_more}
-use Rattle.tsp_cases.specs.declared.open_case.Decision.{Decision}
-use Rattle.tsp_cases.specs.states.OpenCases.{stack_of}
+use Rattle.tsp_routing.proofs.Prelude.{◌∙◌, ℕ, List, [], ◌∷◌, take, get_or, false, sym, ap, arith, take_more, Decision, stack_of}
 use Rattle.tsp_cases.proofs.OpenCases.{stack_more}
 use Rattle.tsp_routing.specs.PlanBounds.{high_of}
 use Rattle.tsp_routing.proofs.RouteProducts.{taken_all}

@@ -1,6 +1,5 @@
 -- The loop of `highest` in src/plan_leaf.rt.
-use Rattle.std.proofs.Common.{◌≡◌, ◌≤◌, take}
-use Rattle.tsp_cases.specs.states.OpenCases.{stack_of}
+use Rattle.tsp_routing.proofs.Prelude.{◌≡◌, ◌≤◌, take, stack_of}
 use Rattle.tsp_routing.specs.PlanBounds.{high_of}
 use Rattle.tsp_routing.proofs.plan_leaf.highest.Given as goal
 

@@ -1,17 +1,6 @@
 -- The goals of `leaf_bound` in src/plan_leaf.rt, which bounds a leaf at a case: the facts of the sum that it makes, and
 -- what it ensures.
-use Rattle.std.proofs.Common.{◌≡◌, ◌∙◌, ◌+◌, ◌-◌, ◌*◌, ℕ, ℤ, List, length, refl, ap, ap₂, sym, subst, arith, rules, to_z, of_z, FitsSigned}
-use Rattle.std.specs.Prelude.{pos, ◌-ℤ◌, ◌*ℤ◌}
-use Rattle.std.specs.Global.{Vec}
-use Rattle.std.specs.Int.{w64, w128}
-use Rattle.std.proofs.lemmas.Int.{ints, to_z-of_z}
-use Rattle.std.proofs.lemmas.List.{length-map}
-use Rattle.tsp_theory.specs.Bounds.{entry}
-use Rattle.tsp_cases.specs.Crossings.{lists_of}
-use Rattle.tsp_cases.specs.Families.{families_with}
-use Rattle.tsp_cases.specs.ListedCases.{as_leaf_numbers}
-use Rattle.tsp_cases.specs.states.Sets.{lent_in}
-use Rattle.tsp_cases.specs.states.OpenCases.{decisions_in}
+use Rattle.tsp_routing.proofs.Prelude.{◌≡◌, ◌∙◌, ◌+◌, ◌-◌, ◌*◌, ℕ, ℤ, List, length, refl, ap, ap₂, sym, subst, arith, rules, to_z, of_z, FitsSigned, pos, ◌-ℤ◌, ◌*ℤ◌, Vec, w64, w128, ints, to_z-of_z, length-map, entry, lists_of, families_with, as_leaf_numbers, lent_in, decisions_in}
 use Rattle.tsp_routing.specs.PlanBounds.{limits_total, IsPlanBound, IsLeastQRoute}
 use Rattle.tsp_routing.specs.PlanLinks.{sum_of_customers}
 use Rattle.tsp_routing.specs.states.Demands.{loads_problem}

@@ -1,15 +1,7 @@
 -- The goals of `least_of_q_routes` in src/plan_leaf.rt, which finds the least weight of a walk under a leaf's numbers:
 -- the facts of the walks that it makes, and what it ensures.
-use Rattle.std.proofs.Common.{◌≡◌, ◌∙◌, ◌≤◌, ℕ, ℤ, List, length, ap, sym, subst}
-use Rattle.std.specs.Prelude.{◌-ℤ◌}
-use Rattle.std.proofs.lemmas.List.{length-map}
+use Rattle.tsp_routing.proofs.Prelude.{◌≡◌, ◌∙◌, ◌≤◌, ℕ, ℤ, List, length, ap, sym, subst, ◌-ℤ◌, length-map, Vec, weight_between, lists_of, lent_in, set_weight, families_with, sets_tell_combs}
 use Rattle.std.proofs.lemmas.Result.{IfOk-weaker}
-use Rattle.std.specs.Global.{Vec}
-use Rattle.tsp_theory.specs.Bounds.{weight_between}
-use Rattle.tsp_cases.specs.Crossings.{lists_of}
-use Rattle.tsp_cases.specs.states.Sets.{lent_in, set_weight}
-use Rattle.tsp_cases.specs.Families.{families_with}
-use Rattle.tsp_cases.proofs.FamilyCrossings.{sets_tell_combs}
 use Rattle.tsp_routing.specs.PlanLinks.{load_in, capacity_in_parts}
 use Rattle.tsp_routing.specs.PlanBounds.{q_route_weight}
 use Rattle.tsp_routing.specs.states.Demands.{loads_problem, load_at}

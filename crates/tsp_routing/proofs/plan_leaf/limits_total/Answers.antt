@@ -1,14 +1,6 @@
 -- The goals of `limits_total` in src/plan_leaf.rt, which sums what the multipliers of all sets give back: that no sum
 -- overflows, and its loop.
-use Rattle.std.proofs.Common.{◌≡◌, ◌∙◌, ◌+◌, ◌-◌, ◌*◌, ◌^◌, ◌<◌, ℕ, ℤ, List, drop, length, get_or, ap, ap₂, subst, arith, rules, to_z, of_z, FitsSigned}
-use Rattle.std.specs.Prelude.{pos, neg_ℤ, unsigned_abs, ◌+ℤ◌}
-use Rattle.std.specs.Int.{w64, w128}
-use Rattle.std.proofs.lemmas.Int.{ints, to_z-of_z, fits_signed_from_abs}
-use Rattle.tsp_format.specs.Steps.{IsFromTo}
-use Rattle.tsp_theory.proofs.Sums.{size_of}
-use Rattle.tsp_cases.specs.declared.family.Crossings.{Crossings}
-use Rattle.tsp_cases.specs.declared.open_case.Decision.{Decision}
-use Rattle.tsp_cases.specs.states.OpenCases.{decisions_in}
+use Rattle.tsp_routing.proofs.Prelude.{◌≡◌, ◌∙◌, ◌+◌, ◌-◌, ◌*◌, ◌^◌, ◌<◌, ℕ, ℤ, List, drop, length, get_or, ap, ap₂, subst, arith, rules, to_z, of_z, FitsSigned, pos, neg_ℤ, unsigned_abs, ◌+ℤ◌, w64, w128, ints, to_z-of_z, fits_signed_from_abs, IsFromTo, size_of, Crossings, Decision, decisions_in}
 use Rattle.tsp_routing.specs.PlanBounds.{low_of, high_of, least_times}
 use Rattle.tsp_routing.specs.states.LeafWeights.{numbers_total}
 use Rattle.tsp_routing.proofs.RouteProducts.{sizes_low, sizes_left, numbers_left}

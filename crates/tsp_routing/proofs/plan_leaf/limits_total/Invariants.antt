@@ -1,7 +1,5 @@
 -- The loop of `limits_total` in src/plan_leaf.rt.
-use Rattle.std.proofs.Common.{◌≡◌, ◌+◌, ◌-◌, ◌*◌, ◌^◌, drop}
-use Rattle.std.specs.Prelude.{pos, neg_ℤ, ◌+ℤ◌, ◌-ℤ◌, ◌*ℤ◌, ◌≤ℤ◌}
-use Rattle.tsp_cases.specs.states.OpenCases.{decisions_in}
+use Rattle.tsp_routing.proofs.Prelude.{◌≡◌, ◌+◌, ◌-◌, ◌*◌, ◌^◌, drop, pos, neg_ℤ, ◌+ℤ◌, ◌-ℤ◌, ◌*ℤ◌, ◌≤ℤ◌, decisions_in}
 use Rattle.tsp_routing.specs.PlanVerdicts.{sizes_total}
 use Rattle.tsp_routing.specs.states.LeafWeights.{numbers_total}
 use Rattle.tsp_routing.proofs.plan_leaf.limits_total.Given as goal

@@ -1,6 +1,5 @@
 -- The loop of `lowest` in src/plan_leaf.rt.
-use Rattle.std.proofs.Common.{◌≡◌, ◌≤◌, ◌^◌, take}
-use Rattle.tsp_cases.specs.states.OpenCases.{stack_of}
+use Rattle.tsp_routing.proofs.Prelude.{◌≡◌, ◌≤◌, ◌^◌, take, stack_of}
 use Rattle.tsp_routing.specs.PlanBounds.{low_of}
 use Rattle.tsp_routing.proofs.plan_leaf.lowest.Given as goal
 

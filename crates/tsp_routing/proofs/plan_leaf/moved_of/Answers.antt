@@ -1,17 +1,6 @@
 -- The goals of `moved_of` in src/plan_leaf.rt, which lessens each potential by the multipliers of the node's sets: the
 -- facts of the multiplied families that it makes, and what it ensures.
-use Rattle.std.proofs.Common.{◌≡◌, ◌∙◌, ◌+◌, ℕ, ℤ, List, replicate, ap, arith}
-use Rattle.std.specs.Prelude.{pos, neg_ℤ, ◌+ℤ◌}
-use Rattle.std.specs.Int.{w64, int_wrap}
-use Rattle.std.proofs.lemmas.Int.{ints}
-use Rattle.std.proofs.lemmas.List.{get_or-replicate, length-replicate}
-use Rattle.std.proofs.lemmas.List.Elements.{All-from_recursion}
-use Rattle.tsp_format.specs.Steps.{IsFromTo}
-use Rattle.tsp_theory.specs.Bounds.{entry}
-use Rattle.tsp_theory.specs.states.Nearest.{least_at}
-use Rattle.tsp_cases.specs.states.Sets.{multipliers_at, lent_in}
-use Rattle.tsp_cases.proofs.Passes.{written}
-use Rattle.tsp_cases.proofs.SetSums.{wrapped_by}
+use Rattle.tsp_routing.proofs.Prelude.{◌≡◌, ◌∙◌, ◌+◌, ℕ, ℤ, List, replicate, ap, arith, pos, neg_ℤ, ◌+ℤ◌, w64, int_wrap, ints, get_or-replicate, length-replicate, All-from_recursion, IsFromTo, entry, least_at, multipliers_at, lent_in, written, wrapped_by}
 use Rattle.tsp_cases.proofs.RowsKept.{moved_from_ends}
 use Rattle.tsp_routing.specs.PlanVerdicts.{most_of_multipliers}
 use Rattle.tsp_routing.proofs.RouteProducts.{each_small}

@@ -1,11 +1,6 @@
 -- The goals of `plan_bound` in src/plan_leaf.rt, which returns the bound of a leaf by the least weight of a route: what
 -- it ensures.
-use Rattle.std.proofs.Common.{◌≡◌, ◌∙◌, ◌-◌, ℕ, ℤ, ap, ap₂, subst₂, arith, rules, to_z, of_z, FitsSigned}
-use Rattle.std.specs.Prelude.{pos, ◌+ℤ◌, ◌-ℤ◌, ◌*ℤ◌}
-use Rattle.std.specs.Int.{w128}
-use Rattle.std.proofs.lemmas.Int.{ints, to_z-of_z}
-use Rattle.tsp_theory.specs.Bounds.{IsLeastBound}
-use Rattle.tsp_theory.proofs.Sums.{same_scale}
+use Rattle.tsp_routing.proofs.Prelude.{◌≡◌, ◌∙◌, ◌-◌, ℕ, ℤ, ap, ap₂, subst₂, arith, rules, to_z, of_z, FitsSigned, pos, ◌+ℤ◌, ◌-ℤ◌, ◌*ℤ◌, w128, ints, to_z-of_z, IsLeastBound, same_scale}
 use Rattle.tsp_routing.specs.PlanBounds.{least_product, surplus}
 use Rattle.tsp_routing.proofs.RouteProducts.{surplus_is}
 use Rattle.tsp_routing.proofs.plan_leaf.plan_bound.Goals as goal

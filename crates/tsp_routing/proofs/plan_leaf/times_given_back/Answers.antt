@@ -1,7 +1,5 @@
 -- The goals of `times_given_back` in src/plan_leaf.rt, which multiplies a number by a count: what it ensures.
-use Rattle.std.proofs.Common.{◌∙◌, rules, FitsSigned}
-use Rattle.std.specs.Int.{w64}
-use Rattle.std.proofs.lemmas.Int.{to_z-of_z}
+use Rattle.tsp_routing.proofs.Prelude.{◌∙◌, rules, FitsSigned, w64, to_z-of_z}
 use Rattle.tsp_routing.proofs.RouteProducts.{set_product}
 use Rattle.tsp_routing.proofs.plan_leaf.times_given_back.Goals as goal
 

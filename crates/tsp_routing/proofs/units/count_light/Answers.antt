@@ -1,9 +1,6 @@
 -- The goals of `count_light` in src/units.rt, which counts the customers that demand less than a unit: its loop and
 -- what it ensures.
-use Rattle.std.proofs.Common.{◌≡◌, ◌∙◌, ℕ, ap, arith}
-use Rattle.std.proofs.lemmas.Int.{ints}
-use Rattle.tsp_format.specs.Nodes.{nodes_to}
-use Rattle.tsp_theory.specs.Tour.{sum_int_by}
+use Rattle.tsp_routing.proofs.Prelude.{◌≡◌, ◌∙◌, ℕ, ap, arith, ints, nodes_to, sum_int_by}
 use Rattle.tsp_routing.specs.PlanLinks.{is_light}
 use Rattle.tsp_routing.specs.states.Demands.{loads_problem, light_in}
 use Rattle.tsp_routing.proofs.CutNeeds.{others_sum, nodes_more, nodes_none}

@@ -1,8 +1,5 @@
 -- The loop of `count_light` in src/units.rt.
-use Rattle.std.proofs.Common.{◌≡◌, ◌≤◌, ℕ}
-use Rattle.std.specs.Prelude.{ℤ, pos}
-use Rattle.tsp_format.specs.Nodes.{nodes_to}
-use Rattle.tsp_theory.specs.Tour.{sum_int_by}
+use Rattle.tsp_routing.proofs.Prelude.{◌≡◌, ◌≤◌, ℕ, ℤ, pos, nodes_to, sum_int_by}
 use Rattle.tsp_routing.specs.states.Demands.{loads_problem, light_in}
 use Rattle.tsp_routing.proofs.units.count_light.Given as goal
 

@@ -1,12 +1,7 @@
 -- The goals of `unit_loads` in src/units.rt, which counts loads and capacity in parts of a unit: its loop and what it
 -- ensures.
-use Rattle.std.proofs.Common.{◌≡◌, ◌∙◌, ◌<◌, ◌+◌, ◌*◌, ◌/◌, ℕ, List, length, refl, sym, ap, subst, arith, inl, inr, to_z, of_z}
-use Rattle.std.specs.Prelude.{ℤ, nat_abs}
-use Rattle.std.specs.Int.{w64}
-use Rattle.std.proofs.lemmas.Int.{ints}
+use Rattle.tsp_routing.proofs.Prelude.{◌≡◌, ◌∙◌, ◌<◌, ◌+◌, ◌*◌, ◌/◌, ℕ, List, length, refl, sym, ap, subst, arith, inl, inr, to_z, of_z, ℤ, nat_abs, w64, ints, cases_eq, get_or-set_same, get_or-set_other, length-set}
 use Rattle.std.proofs.Math.ListN.{set}
-use Rattle.std.proofs.lemmas.Bool.{cases_eq}
-use Rattle.std.proofs.lemmas.List.{get_or-set_same, get_or-set_other, length-set}
 use Rattle.tsp_routing.specs.PlanLinks.{load_in}
 use Rattle.tsp_routing.specs.states.Demands.{loads_problem, load_at}
 use Rattle.tsp_routing.proofs.CutNeeds.{load_is}

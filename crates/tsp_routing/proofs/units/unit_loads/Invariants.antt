@@ -1,7 +1,5 @@
 -- The loop of `unit_loads` in src/units.rt.
-use Rattle.std.proofs.Common.{◌≡◌, ◌<◌, ℕ, ◌+◌, length}
-use Rattle.std.specs.Prelude.{ℤ}
-use Rattle.tsp_format.specs.Nodes.{IsNode}
+use Rattle.tsp_routing.proofs.Prelude.{◌≡◌, ◌<◌, ℕ, ◌+◌, length, ℤ, IsNode}
 use Rattle.tsp_routing.specs.PlanLinks.{load_in}
 use Rattle.tsp_routing.specs.states.Demands.{loads_problem, load_at}
 use Rattle.tsp_routing.proofs.units.unit_loads.Given as goal

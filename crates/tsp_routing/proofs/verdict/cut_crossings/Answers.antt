@@ -1,13 +1,6 @@
 -- The goals of `cut_crossings` in src/verdict.rt, which counts how often a plan crosses a set of customers at least:
 -- what its call requires and what it ensures.
-use Rattle.std.proofs.Common.{◌≡◌, ◌≢◌, ◌∙◌, ◌*◌, ℕ, List, [], ◌∷◌, length, get_or, true, refl, ap, sym, subst, arith}
-use Rattle.std.specs.Prelude.{◌||◌, ◌==◌}
-use Rattle.std.specs.List.{All}
-use Rattle.std.proofs.lemmas.Bool.{eq-eqb, ne_eqb, both_ways}
-use Rattle.tsp_format.specs.Nodes.{IsNode}
-use Rattle.tsp_cases.specs.Crossings.{has, lists_of}
-use Rattle.tsp_cases.specs.declared.family.Crossings.{Crossings}
-use Rattle.tsp_cases.specs.Families.{family_with, HasEachOnce}
+use Rattle.tsp_routing.proofs.Prelude.{◌≡◌, ◌≢◌, ◌∙◌, ◌*◌, ℕ, List, [], ◌∷◌, length, get_or, true, refl, ap, sym, subst, arith, ◌||◌, ◌==◌, All, eq-eqb, ne_eqb, both_ways, IsNode, has, lists_of, Crossings, family_with, HasEachOnce}
 use Rattle.tsp_cases.specs.states.GoodFamilies.{AreUnmarked, AreMarked}
 use Rattle.tsp_routing.specs.PlanLinks.{IsCutFamily}
 use Rattle.tsp_routing.specs.PlanVerdicts.{IsGoodSet}

@@ -1,16 +1,7 @@
 -- The goals of `judge_cuts` in src/verdict.rt, which makes the families, or finds the first bad one: its loop, the
 -- facts of its families, and what it ensures.
-use Rattle.std.proofs.Common.{◌≡◌, ◌∙◌, ◌≤◌, ℕ, List, [], ◌∷◌, ◌++◌, length, get_or, refl, ap, sym, subst, arith, length-append}
-use Rattle.std.specs.Prelude.{Some, Option, replicate}
-use Rattle.std.specs.Global.{Vec}
-use Rattle.std.specs.List.{All}
-use Rattle.std.proofs.lemmas.List.{length-map, length-replicate}
-use Rattle.std.proofs.lemmas.List.Elements.{All-push}
-use Rattle.tsp_cases.specs.Crossings.{lists_of, families_in}
-use Rattle.tsp_cases.specs.declared.family.Crossings.{Crossings}
-use Rattle.tsp_cases.specs.Families.{IsFamily, families_with}
+use Rattle.tsp_routing.proofs.Prelude.{◌≡◌, ◌∙◌, ◌≤◌, ℕ, List, [], ◌∷◌, ◌++◌, length, get_or, refl, ap, sym, subst, arith, length-append, Some, Option, replicate, Vec, All, length-map, length-replicate, All-push, lists_of, families_in, Crossings, IsFamily, families_with, written}
 use Rattle.tsp_cases.specs.states.GoodFamilies.{IsSmall, AreUnmarked}
-use Rattle.tsp_cases.proofs.Passes.{written}
 use Rattle.tsp_cases.proofs.GoodFamilies.{sets_here}
 use Rattle.tsp_routing.specs.PlanVerdicts.{IsGoodSet}
 use Rattle.tsp_routing.specs.states.Judged.{IsFewCrossed, AreCutNumbers}

@@ -1,7 +1,5 @@
 -- The loop of `judge_cuts` in src/verdict.rt.
-use Rattle.std.proofs.Common.{◌≡◌, ◌<◌, ◌+◌, ℕ, length}
-use Rattle.std.specs.List.{All}
-use Rattle.tsp_cases.specs.Crossings.{families_in}
+use Rattle.tsp_routing.proofs.Prelude.{◌≡◌, ◌<◌, ◌+◌, ℕ, length, All, families_in}
 use Rattle.tsp_cases.specs.states.GoodFamilies.{AreUnmarked}
 use Rattle.tsp_routing.specs.states.Judged.{IsFewCrossed}
 use Rattle.tsp_routing.proofs.PlanJudging.{HaveCuts}

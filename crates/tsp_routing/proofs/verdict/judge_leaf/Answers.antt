@@ -1,15 +1,7 @@
 -- The goals of `judge_leaf` in src/verdict.rt, which bounds the leaf with these numbers, if they are good: the facts
 -- of the leaf that it makes, and what it ensures.
-use Rattle.std.proofs.Common.{◌≡◌, ◌∙◌, ℕ, ℤ, List, length, take, drop, true, refl, ap, sym, subst}
-use Rattle.std.specs.Prelude.{Option, None}
-use Rattle.std.proofs.lemmas.Bool.{false≢true}
-use Rattle.tsp_cases.specs.declared.open_case.Decision.{Decision}
-use Rattle.tsp_cases.specs.Cases.{LeafNumbers}
-use Rattle.tsp_cases.specs.Families.{families_with}
+use Rattle.tsp_routing.proofs.Prelude.{◌≡◌, ◌∙◌, ℕ, ℤ, List, length, take, drop, true, refl, ap, sym, subst, Option, None, false≢true, Decision, LeafNumbers, families_with, lent_in, decisions_in, written}
 use Rattle.tsp_cases.specs.states.Kept.{AreMoved}
-use Rattle.tsp_cases.specs.states.Sets.{lent_in}
-use Rattle.tsp_cases.specs.states.OpenCases.{decisions_in}
-use Rattle.tsp_cases.proofs.Passes.{written}
 use Rattle.tsp_routing.specs.states.Demands.{loads_problem}
 use Rattle.tsp_routing.specs.states.Judged.{IsFoundOfFew}
 use Rattle.tsp_routing.proofs.PlanJudging.{found_of_plan_leaf, plan_numbers_read, plan_numbers_kept}

@@ -1,10 +1,6 @@
 -- The goals of `judge_numbers` in src/verdict.rt, which says whether the numbers of a leaf are good, and copies
 -- them: what it ensures.
-use Rattle.std.proofs.Common.{false, refl, length, drop}
-use Rattle.std.specs.Prelude.{pos, neg_ℤ}
-use Rattle.std.proofs.lemmas.Bool.{both_ways}
-use Rattle.std.proofs.lemmas.List.Elements.{All-from_recursion}
-use Rattle.tsp_format.specs.Steps.{IsFromTo}
+use Rattle.tsp_routing.proofs.Prelude.{false, refl, length, drop, pos, neg_ℤ, both_ways, All-from_recursion, IsFromTo}
 use Rattle.tsp_routing.specs.PlanVerdicts.{most_of_multipliers}
 use Rattle.tsp_routing.proofs.RouteProducts.{each_small}
 use Rattle.tsp_routing.proofs.verdict.judge_numbers.Goals as goal

@@ -1,9 +1,7 @@
 -- The goals of `judge_plans` in src/verdict.rt, which judges a certificate for routes: what it ensures.
-use Rattle.std.proofs.Common.{ℕ}
-use Rattle.std.specs.Prelude.{nat_abs}
+use Rattle.tsp_routing.proofs.Prelude.{ℕ, nat_abs, families_in}
 use Rattle.std.proofs.lemmas.Result.{IfOk-weaker}
 use Rattle.tsp_format.specs.states.TreeSteps.{steps_of}
-use Rattle.tsp_cases.specs.Crossings.{families_in}
 use Rattle.tsp_routing.specs.PlanLinks.{IsRoutable}
 use Rattle.tsp_routing.specs.PlanVerdicts.{routing_with}
 use Rattle.tsp_routing.proofs.PlanJudging.{verdict_bounds, no_demand_below}

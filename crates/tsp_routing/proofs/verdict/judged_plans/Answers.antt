@@ -1,34 +1,21 @@
 -- The goals of `judged_plans` in src/verdict.rt, which judges the families, the branches and the leaves: the facts of
--- the setting that it makes, what its call requires and what it ensures.
-use Rattle.std.proofs.Common.{◌≡◌, ◌∙◌, ◌+◌, ℕ, ℤ, List, length, ap, ap₂, sym, subst, subst₂, arith, rules, to_z, of_z, FitsSigned}
-use Rattle.std.specs.Prelude.{nat_abs}
-use Rattle.std.specs.Global.{Vec}
-use Rattle.std.specs.Int.{w64}
-use Rattle.std.specs.List.{All}
+-- the context that it makes, what its call requires and what it ensures.
+use Rattle.tsp_routing.proofs.Prelude.{◌≡◌, ◌∙◌, ◌+◌, ℕ, ℤ, List, length, ap, ap₂, sym, subst, subst₂, arith, rules, to_z, of_z, FitsSigned, nat_abs, Vec, w64, All, to_z-of_z, length-map, IsNode, RoutingProblem, lists_of, families_in, Crossings, BeginsWithin, branch_pairs, IsFirstBadBranch, IsStepOf, families_with, lent_in, IsSetTable}
 use Rattle.std.proofs.Math.Logic.{∥∥₁_elim}
 use Rattle.std.proofs.Props.{props}
-use Rattle.std.proofs.lemmas.Int.{to_z-of_z}
-use Rattle.std.proofs.lemmas.List.{length-map}
 use Rattle.std.proofs.lemmas.Result.{IfOk-weaker}
-use Rattle.tsp_format.specs.Nodes.{IsNode}
 use Rattle.tsp_format.specs.Steps as listed
 use Rattle.tsp_format.specs.states.TreeSteps.{steps_of}
-use Rattle.tsp_theory.specs.Tour.{RoutingProblem}
-use Rattle.tsp_cases.specs.Crossings.{lists_of, families_in}
-use Rattle.tsp_cases.specs.declared.family.Crossings.{Crossings}
-use Rattle.tsp_cases.specs.ListedCases.{BeginsWithin, branch_pairs, IsFirstBadBranch, IsStepOf}
-use Rattle.tsp_cases.specs.Families.{families_with}
-use Rattle.tsp_cases.specs.states.Sets.{lent_in, IsSetTable}
 use Rattle.tsp_routing.specs.PlanVerdicts.{AreCapacityCuts, routing_with}
 use Rattle.tsp_routing.specs.PlanLinks.{AreUnits}
-use Rattle.tsp_routing.specs.declared.demands.Demands.{Demands}
+use Rattle.tsp_routing.specs.declared.units.Demands.{Demands}
 use Rattle.tsp_routing.specs.states.Demands.{loads_problem}
 use Rattle.tsp_routing.specs.states.Judged.{IsFewCrossed, AreCutsJudged, IsLeafVerdict}
 use Rattle.tsp_routing.specs.states.LeafWeights.{IsPlanStep}
 use Rattle.tsp_routing.proofs.PlanJudging.{single_sets, steps_on_families, verdict_of_leaves}
 use Rattle.tsp_routing.proofs.verdict.judged_plans.Goals as goal
 
--- plan: the parts of the certificate are those of the setting, field by field; then `verdict_of_leaves`
+-- plan: the parts of the certificate are those of the context, field by field; then `verdict_of_leaves`
 pub returns-in-Some-clause-verdict : goal.returns-in-Some-clause-verdict
 returns-in-Some-clause-verdict g c =
     let tree = c.args.tree.now in

@@ -1,13 +1,7 @@
 -- The goals of `leaf_verdict` in src/verdict.rt, which judges the leaves: what it ensures.
-use Rattle.std.proofs.Common.{◌≡◌, ◌∙◌, ◌+◌, ◌*◌, ◌<◌, ◌≤◌, ℕ, [], ◌∷◌, length, true, ap, subst}
-use Rattle.std.specs.Prelude.{nat_le}
-use Rattle.std.proofs.lemmas.Bool.{le-leb}
+use Rattle.tsp_routing.proofs.Prelude.{◌≡◌, ◌∙◌, ◌+◌, ◌*◌, ◌<◌, ◌≤◌, ℕ, [], ◌∷◌, length, true, ap, subst, nat_le, le-leb, leaves_of, families_with, listed_steps, lent_in}
 use Rattle.tsp_format.specs.states.TreeSteps.{steps_of}
-use Rattle.tsp_cases.specs.Cases.{leaves_of}
-use Rattle.tsp_cases.specs.Families.{families_with}
 use Rattle.tsp_cases.specs.JudgedLeaves.{AreJudgedBy}
-use Rattle.tsp_cases.specs.ListedCases.{listed_steps}
-use Rattle.tsp_cases.specs.states.Sets.{lent_in}
 use Rattle.tsp_routing.specs.PlanVerdicts.{ArePlanNumbers, most_entries}
 use Rattle.tsp_routing.specs.PlanBounds.{IsFoundByQRoutes}
 use Rattle.tsp_routing.specs.states.Demands.{loads_problem}

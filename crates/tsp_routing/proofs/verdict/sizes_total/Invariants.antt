@@ -1,7 +1,5 @@
 -- The loop of `sizes_total` in src/verdict.rt.
-use Rattle.std.proofs.Common.{◌≡◌, ◌*◌, drop}
-use Rattle.std.specs.Prelude.{pos, ◌+ℤ◌}
-use Rattle.tsp_format.specs.Steps.{IsFromTo}
+use Rattle.tsp_routing.proofs.Prelude.{◌≡◌, ◌*◌, drop, pos, ◌+ℤ◌, IsFromTo}
 use Rattle.tsp_routing.specs.PlanVerdicts.{most_of_multipliers, sizes_total}
 use Rattle.tsp_routing.proofs.verdict.sizes_total.Given as goal
 

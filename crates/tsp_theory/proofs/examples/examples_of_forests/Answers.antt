@@ -1,9 +1,5 @@
 -- The goals of `examples_of_forests` in src/examples.rt: what it ensures.
-use Rattle.std.proofs.Common.{◌≡◌, ◌==◌, false, [], ◌∷◌, inl, inr, rules, arith, refl, ◌∙◌}
-use Rattle.std.specs.Prelude.{◌≤ℤ◌}
-use Rattle.std.proofs.lemmas.Bool.{cases_Bool, both_ways}
-use Rattle.std.proofs.lemmas.Int.{ints}
-use Rattle.std.proofs.lemmas.List.Elements.{All-nil, All-cons, All-head}
+use Rattle.tsp_theory.proofs.Prelude.{◌≡◌, ◌==◌, false, [], ◌∷◌, inl, inr, rules, arith, refl, ◌∙◌, ◌≤ℤ◌, cases_Bool, both_ways, ints, All-nil, All-cons, All-head}
 use Rattle.tsp_theory.specs.Tree.{crosses}
 use Rattle.tsp_theory.specs.Forest.{IsWholeForest}
 use Rattle.tsp_theory.specs.Examples.{rectangle_costs, rectangle}

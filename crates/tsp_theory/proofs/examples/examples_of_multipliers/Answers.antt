@@ -1,7 +1,5 @@
 -- The goals of `examples_of_multipliers` in src/examples.rt: what it ensures.
-use Rattle.std.proofs.Common.{rules, arith, refl, inl, inr, [], ◌∷◌}
-use Rattle.std.specs.Prelude.{pos}
-use Rattle.std.proofs.lemmas.List.Elements.{All-from_recursion}
+use Rattle.tsp_theory.proofs.Prelude.{rules, arith, refl, inl, inr, [], ◌∷◌, pos, All-from_recursion}
 use Rattle.tsp_theory.specs.Tour.{AreNeighbours}
 use Rattle.tsp_theory.specs.Bounds.{pair_of, UsesNone}
 use Rattle.tsp_theory.specs.Examples.{on_diagonals}

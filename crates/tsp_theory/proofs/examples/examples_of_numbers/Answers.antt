@@ -1,7 +1,5 @@
 -- The goals of `examples_of_numbers` in src/examples.rt: what it ensures.
-use Rattle.std.proofs.Common.{arith}
-use Rattle.std.specs.Prelude.{pos, ◌≤ℤ◌}
-use Rattle.std.proofs.lemmas.Int.{ints}
+use Rattle.tsp_theory.proofs.Prelude.{arith, pos, ◌≤ℤ◌, ints}
 use Rattle.tsp_theory.proofs.examples.examples_of_numbers.Goals as goal
 
 -- plan: the example is computed from the definition

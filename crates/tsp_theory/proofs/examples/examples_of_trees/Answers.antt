@@ -1,8 +1,5 @@
 -- The goals of `examples_of_trees` in src/examples.rt: what it ensures.
-use Rattle.std.proofs.Common.{◌==◌, rules, arith, refl}
-use Rattle.std.specs.Prelude.{pos, negsuc}
-use Rattle.std.specs.List.{list_any}
-use Rattle.std.proofs.lemmas.Bool.{both_ways}
+use Rattle.tsp_theory.proofs.Prelude.{◌==◌, rules, arith, refl, pos, negsuc, list_any, both_ways}
 use Rattle.tsp_theory.specs.Tree.{crosses, inner_pairs, IsLeastOneTree}
 use Rattle.tsp_theory.specs.Examples.{rectangle_costs, star_costs, costs_below_zero, rectangle, zeros, four_numbers, one_on_two, pairs_of}
 use Rattle.tsp_theory.proofs.SmallTrees.{tree_so, bound_so, costs_even}

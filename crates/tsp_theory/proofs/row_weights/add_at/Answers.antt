@@ -1,9 +1,5 @@
 -- The goals of `add_at` in src/tree.rt, which adds a number at a place of a row: what it ensures.
-use Rattle.std.proofs.Common.{◌∙◌, ap, rules, FitsSigned}
-use Rattle.std.specs.Prelude.{pos, ◌+ℤ◌}
-use Rattle.std.specs.Int.{w64, int_wrap}
-use Rattle.std.proofs.lemmas.Int.{wrapping_add_is}
-use Rattle.std.proofs.lemmas.List.{get_or-set_same}
+use Rattle.tsp_theory.proofs.Prelude.{◌∙◌, ap, rules, FitsSigned, pos, ◌+ℤ◌, w64, int_wrap, wrapping_add_is, get_or-set_same}
 use Rattle.tsp_theory.proofs.row_weights.add_at.Goals as goal
 
 -- plan: at the node's own place the entry is the sum, and elsewhere it is as it was

@@ -1,25 +1,13 @@
 -- The goals of `judge_tour_tree` in src/certificate.rt, which bounds by a tree of cases, or returns the first reason:
 -- the facts of the cases that it makes, that places fit 32 bits, and what it ensures.
-use Rattle.std.proofs.Common.{◌≡◌, ◌∙◌, ℕ, ℤ, List, length, ap, sym, subst, arith, rules, FitsSigned, to_z, of_z}
-use Rattle.std.specs.Int.{w64, w128}
-use Rattle.std.specs.Prelude.{Option, None, Some, unwrap_or}
-use Rattle.std.specs.List.{All}
-use Rattle.std.specs.Global.{Vec}
-use Rattle.std.proofs.lemmas.Int.{to_z-of_z}
-use Rattle.std.proofs.lemmas.List.{length-map}
-use Rattle.tsp_format.specs.Limits.{most_fixed}
+use Rattle.tsp_verdict.proofs.Prelude.{◌≡◌, ◌∙◌, ℕ, ℤ, List, length, ap, sym, subst, arith, rules, FitsSigned, to_z, of_z, w64, w128, Option, None, Some, unwrap_or, All, Vec, to_z-of_z, length-map, most_fixed, families_of, IsPairOf, IsScale, IsListedStep, nodes_of}
 use Rattle.tsp_format.specs.states.TreeSteps.{step_of, steps_of}
-use Rattle.tsp_file.specs.states.Drafts.{combs_of}
-use Rattle.tsp_file.specs.Valid.{IsPairOf}
-use Rattle.tsp_theory.specs.Bounds.{IsScale}
 use Rattle.tsp_branch.specs.declared.verdict.BranchVerdict.TheVariants as found
 use Rattle.tsp_branch.specs.BranchVerdicts.{IsBranchVerdict, IsSizedVerdict}
-use Rattle.tsp_cases.specs.ListedCases.{IsListedStep}
 use Rattle.tsp_cases.specs.Crossings.{AreFamiliesOf, lists_of}
-use Rattle.tsp_file.specs.Fields.{nodes_of}
 use Rattle.tsp_verdict.proofs.RouteFiles.{steps_hold, steps_few}
 use Rattle.tsp_verdict.proofs.GivenPairs.{given_once, given_are, given_few}
-use Rattle.tsp_verdict.proofs.TreeReasons.{families_hold, families_few, directed_is, symmetric_view, no_tour, are_of, reported, twice_within, bad_within, comb_first, pairs_few, pair_first, twice_first, leaf_first, nothing_applies, certified}
+use Rattle.tsp_verdict.proofs.TreeReasons.{families_hold, families_few, directed_is, symmetric_view, no_tour, are_of, reported, twice_within, bad_within, family_first, pairs_few, pair_first, twice_first, leaf_first, nothing_applies, certified}
 use Rattle.tsp_verdict.proofs.certificate.judge_tour_tree.Goals as goal
 
 -- plan: by the verdict on the tree: each of its reasons is the first of the file's, and its bound is the certificate's
@@ -39,14 +27,14 @@ invariant_of-cases g c =
           (directed_is directed c.args.instance.now c.kind.result c.is_directed-directed.ensures c.kind.ensures.value)
           c.requires.even c.requires.keeps.every;
       scaled = subst IsScale (sym (to_z-of_z w64 tree.scale scaled)) held.scaled;
-      few_families = let few = held.each_comb.few in
-          let long = length-map tree.combs.now (λ (sets : Vec (Vec ℕ)). lists_of sets.items) in omega (arith, few, long);
-      few_sets = families_few (nodes_of c.args.branches.now) tree.combs.now held.each_comb;
+      few_families = let few = held.each_family.few in
+          let long = length-map tree.families.now (λ (sets : Vec (Vec ℕ)). lists_of sets.items) in omega (arith, few, long);
+      few_sets = families_few (nodes_of c.args.branches.now) tree.families.now held.each_family;
       few_given = let few = given_few directed most_fixed c.deref.result.now c.fixed.result.now given_is c.fixed.ensures.few in
           omega (arith, few);
       few_steps = steps_few c.args.branches.now tree.steps.now held.each_step;
-      sets_are = subst (λ (m : ℕ). AreFamiliesOf m tree.combs.now) same
-          (families_hold (nodes_of c.args.branches.now) tree.combs.now held.each_comb);
+      sets_are = subst (λ (m : ℕ). AreFamiliesOf m tree.families.now) same
+          (families_hold (nodes_of c.args.branches.now) tree.families.now held.each_family);
       given_are = given_are directed n c.deref.result.now c.fixed.result.now given_is
           (subst (λ (m : ℕ). All (IsPairOf m) c.fixed.result.now) own c.fixed.ensures.range);
       given_once = given_once directed c.deref.result.now c.fixed.result.now given_is;
@@ -62,16 +50,16 @@ returns-in-Bound-Some g c =
     let tree = c.args.branches.now in
     let n : ℕ = g.C.Costs.nodes c.args.costs.now in
     let costs = g.C.Costs.at c.args.costs.now in
-    let combs = c.args.tree.now.combs.now in
-    let families : List (List (List ℕ)) = combs_of combs in
+    let kept_families = c.args.tree.now.families.now in
+    let families : List (List (List ℕ)) = families_of kept_families in
     let given = c.deref.result.now in
     let steps = steps_of c.args.tree.now.steps.now in
     let scaled : FitsSigned w64 c.args.tree.now.scale = search rules in
-    let are = are_of instance tree c.is_directed-directed.result n (to_z w64 (of_z w64 c.args.tree.now.scale)) combs
+    let are = are_of instance tree c.is_directed-directed.result n (to_z w64 (of_z w64 c.args.tree.now.scale)) kept_families
     c.fixed.result.now given steps
     (directed_is c.is_directed-directed.result instance c.kind.result c.is_directed-directed.ensures c.kind.ensures.value)
     c.requires.keeps.count
-    (to_z-of_z w64 c.args.tree.now.scale scaled ∙ c.requires.held.scale_is) c.requires.held.combs_are c.fixed.ensures.value
+    (to_z-of_z w64 c.args.tree.now.scale scaled ∙ c.requires.held.scale_is) c.requires.held.families_kept c.fixed.ensures.value
     (c.deref.ensures.value ∙ c.in_ok-given.ensures) c.requires.held.steps_are in
     let bound = c.in-Bound-Some.bound in
     let is = subst (IsBranchVerdict c.is_directed-directed.result n costs (to_z w64 (of_z w64 c.args.tree.now.scale)) families
@@ -93,16 +81,16 @@ returns-in-Bound-None g c =
     let tree = c.args.branches.now in
     let n : ℕ = g.C.Costs.nodes c.args.costs.now in
     let costs = g.C.Costs.at c.args.costs.now in
-    let combs = c.args.tree.now.combs.now in
-    let families : List (List (List ℕ)) = combs_of combs in
+    let kept_families = c.args.tree.now.families.now in
+    let families : List (List (List ℕ)) = families_of kept_families in
     let given = c.deref.result.now in
     let steps = steps_of c.args.tree.now.steps.now in
     let scaled : FitsSigned w64 c.args.tree.now.scale = search rules in
-    let are = are_of instance tree c.is_directed-directed.result n (to_z w64 (of_z w64 c.args.tree.now.scale)) combs
+    let are = are_of instance tree c.is_directed-directed.result n (to_z w64 (of_z w64 c.args.tree.now.scale)) kept_families
     c.fixed.result.now given steps
     (directed_is c.is_directed-directed.result instance c.kind.result c.is_directed-directed.ensures c.kind.ensures.value)
     c.requires.keeps.count
-    (to_z-of_z w64 c.args.tree.now.scale scaled ∙ c.requires.held.scale_is) c.requires.held.combs_are c.fixed.ensures.value
+    (to_z-of_z w64 c.args.tree.now.scale scaled ∙ c.requires.held.scale_is) c.requires.held.families_kept c.fixed.ensures.value
     (c.deref.ensures.value ∙ c.in_ok-given.ensures) c.requires.held.steps_are in
     let is = subst (IsBranchVerdict c.is_directed-directed.result n costs (to_z w64 (of_z w64 c.args.tree.now.scale)) families
     given steps) whole c.in_ok-bound.ensures.verdict in
@@ -117,20 +105,20 @@ returns-in-BadFamily g c =
     let tree = c.args.branches.now in
     let n : ℕ = g.C.Costs.nodes c.args.costs.now in
     let costs = g.C.Costs.at c.args.costs.now in
-    let combs = c.args.tree.now.combs.now in
-    let families : List (List (List ℕ)) = combs_of combs in
+    let kept_families = c.args.tree.now.families.now in
+    let families : List (List (List ℕ)) = families_of kept_families in
     let given = c.deref.result.now in
     let steps = steps_of c.args.tree.now.steps.now in
     let scaled : FitsSigned w64 c.args.tree.now.scale = search rules in
-    let are = are_of instance tree c.is_directed-directed.result n (to_z w64 (of_z w64 c.args.tree.now.scale)) combs
+    let are = are_of instance tree c.is_directed-directed.result n (to_z w64 (of_z w64 c.args.tree.now.scale)) kept_families
     c.fixed.result.now given steps
     (directed_is c.is_directed-directed.result instance c.kind.result c.is_directed-directed.ensures c.kind.ensures.value)
     c.requires.keeps.count
-    (to_z-of_z w64 c.args.tree.now.scale scaled ∙ c.requires.held.scale_is) c.requires.held.combs_are c.fixed.ensures.value
+    (to_z-of_z w64 c.args.tree.now.scale scaled ∙ c.requires.held.scale_is) c.requires.held.families_kept c.fixed.ensures.value
     (c.deref.ensures.value ∙ c.in_ok-given.ensures) c.requires.held.steps_are in
     let is = subst (IsBranchVerdict c.is_directed-directed.result n costs (to_z w64 (of_z w64 c.args.tree.now.scale)) families
     given steps) c.in-BadFamily.is c.in_ok-bound.ensures.verdict in
-    comb_first instance tree costs c.in-BadFamily.index c.requires.kind c.requires.sort c.requires.count
+    family_first instance tree costs c.in-BadFamily.index c.requires.kind c.requires.sort c.requires.count
     (reported instance tree c.is_directed-directed.result n costs _ families given steps (found.BadFamily c.in-BadFamily.index) are is)
 
 pub overflow_cast-result-in-BadBranch : goal.overflow_cast-result-in-BadBranch
@@ -153,16 +141,16 @@ returns-in-BadBranch g c =
     let tree = c.args.branches.now in
     let n : ℕ = g.C.Costs.nodes c.args.costs.now in
     let costs = g.C.Costs.at c.args.costs.now in
-    let combs = c.args.tree.now.combs.now in
-    let families : List (List (List ℕ)) = combs_of combs in
+    let kept_families = c.args.tree.now.families.now in
+    let families : List (List (List ℕ)) = families_of kept_families in
     let given = c.deref.result.now in
     let steps = steps_of c.args.tree.now.steps.now in
     let scaled : FitsSigned w64 c.args.tree.now.scale = search rules in
-    let are = are_of instance tree c.is_directed-directed.result n (to_z w64 (of_z w64 c.args.tree.now.scale)) combs
+    let are = are_of instance tree c.is_directed-directed.result n (to_z w64 (of_z w64 c.args.tree.now.scale)) kept_families
     c.fixed.result.now given steps
     (directed_is c.is_directed-directed.result instance c.kind.result c.is_directed-directed.ensures c.kind.ensures.value)
     c.requires.keeps.count
-    (to_z-of_z w64 c.args.tree.now.scale scaled ∙ c.requires.held.scale_is) c.requires.held.combs_are c.fixed.ensures.value
+    (to_z-of_z w64 c.args.tree.now.scale scaled ∙ c.requires.held.scale_is) c.requires.held.families_kept c.fixed.ensures.value
     (c.deref.ensures.value ∙ c.in_ok-given.ensures) c.requires.held.steps_are in
     let is = subst (IsBranchVerdict c.is_directed-directed.result n costs (to_z w64 (of_z w64 c.args.tree.now.scale)) families
     given steps) c.in-BadBranch.is c.in_ok-bound.ensures.verdict in
@@ -189,16 +177,16 @@ returns-in-BranchTwice g c =
     let tree = c.args.branches.now in
     let n : ℕ = g.C.Costs.nodes c.args.costs.now in
     let costs = g.C.Costs.at c.args.costs.now in
-    let combs = c.args.tree.now.combs.now in
-    let families : List (List (List ℕ)) = combs_of combs in
+    let kept_families = c.args.tree.now.families.now in
+    let families : List (List (List ℕ)) = families_of kept_families in
     let given = c.deref.result.now in
     let steps = steps_of c.args.tree.now.steps.now in
     let scaled : FitsSigned w64 c.args.tree.now.scale = search rules in
-    let are = are_of instance tree c.is_directed-directed.result n (to_z w64 (of_z w64 c.args.tree.now.scale)) combs
+    let are = are_of instance tree c.is_directed-directed.result n (to_z w64 (of_z w64 c.args.tree.now.scale)) kept_families
     c.fixed.result.now given steps
     (directed_is c.is_directed-directed.result instance c.kind.result c.is_directed-directed.ensures c.kind.ensures.value)
     c.requires.keeps.count
-    (to_z-of_z w64 c.args.tree.now.scale scaled ∙ c.requires.held.scale_is) c.requires.held.combs_are c.fixed.ensures.value
+    (to_z-of_z w64 c.args.tree.now.scale scaled ∙ c.requires.held.scale_is) c.requires.held.families_kept c.fixed.ensures.value
     (c.deref.ensures.value ∙ c.in_ok-given.ensures) c.requires.held.steps_are in
     let is = subst (IsBranchVerdict c.is_directed-directed.result n costs (to_z w64 (of_z w64 c.args.tree.now.scale)) families
     given steps) c.in-BranchTwice.is c.in_ok-bound.ensures.verdict in
@@ -225,16 +213,16 @@ returns g c =
     let tree = c.args.branches.now in
     let n : ℕ = g.C.Costs.nodes c.args.costs.now in
     let costs = g.C.Costs.at c.args.costs.now in
-    let combs = c.args.tree.now.combs.now in
-    let families : List (List (List ℕ)) = combs_of combs in
+    let kept_families = c.args.tree.now.families.now in
+    let families : List (List (List ℕ)) = families_of kept_families in
     let given = c.deref.result.now in
     let steps = steps_of c.args.tree.now.steps.now in
     let scaled : FitsSigned w64 c.args.tree.now.scale = search rules in
-    let are = are_of instance tree c.is_directed-directed.result n (to_z w64 (of_z w64 c.args.tree.now.scale)) combs
+    let are = are_of instance tree c.is_directed-directed.result n (to_z w64 (of_z w64 c.args.tree.now.scale)) kept_families
     c.fixed.result.now given steps
     (directed_is c.is_directed-directed.result instance c.kind.result c.is_directed-directed.ensures c.kind.ensures.value)
     c.requires.keeps.count
-    (to_z-of_z w64 c.args.tree.now.scale scaled ∙ c.requires.held.scale_is) c.requires.held.combs_are c.fixed.ensures.value
+    (to_z-of_z w64 c.args.tree.now.scale scaled ∙ c.requires.held.scale_is) c.requires.held.families_kept c.fixed.ensures.value
     (c.deref.ensures.value ∙ c.in_ok-given.ensures) c.requires.held.steps_are in
     let is = subst (IsBranchVerdict c.is_directed-directed.result n costs (to_z w64 (of_z w64 c.args.tree.now.scale)) families
     given steps) c.in-BadLeaf.is c.in_ok-bound.ensures.verdict in

@@ -1,9 +1,6 @@
 -- The goals of `taken_once` in src/certificate.rt, which turns pairs into decisions, each pair once: its loop and
 -- what it ensures.
-use Rattle.std.proofs.Common.{◌≡◌, ◌∙◌, true, false, sym, subst, arith}
-use Rattle.std.specs.BTreeSet.{contains, Updates}
-use Rattle.std.specs.Prelude.{slice_index_or}
-use Rattle.std.proofs.lemmas.Bool.{not-false, not-true}
+use Rattle.tsp_verdict.proofs.Prelude.{◌≡◌, ◌∙◌, true, false, sym, subst, arith, contains, Updates, slice_index_or, not-false, not-true}
 use Rattle.tsp_verdict.specs.states.PairSets.{key_of, pair_cmp}
 use Rattle.tsp_verdict.proofs.GivenPairs.{has_more_keys, taken_known, taken_new, taken_all}
 use Rattle.tsp_verdict.proofs.certificate.taken_once.Goals as goal

@@ -1,8 +1,6 @@
 -- The goals of `tree_of` in src/certificate.rt, which returns the tree of a certificate, or the first reason: what
 -- it ensures.
-use Rattle.std.proofs.Common.{◌≡◌, ◌≢◌, false, true, rules}
-use Rattle.tsp_file.specs.Fields.{nodes_of}
-use Rattle.tsp_file.specs.Rules.{is_branches_file}
+use Rattle.tsp_verdict.proofs.Prelude.{◌≡◌, ◌≢◌, false, true, rules, nodes_of, is_branches_file}
 use Rattle.tsp_verdict.proofs.TreeReasons.{no_branches, other_dimension}
 use Rattle.tsp_verdict.proofs.certificate.tree_of.Goals as goal
 

@@ -1,8 +1,5 @@
 -- The goals of `examples_against_routing` in src/examples.rt: what it ensures.
-use Rattle.std.proofs.Common.{subst₂, arith}
-use Rattle.std.specs.Prelude.{pos}
-use Rattle.std.proofs.lemmas.Int.{ints}
-use Rattle.tsp_theory.specs.Tour.{IsLeastRoutes}
+use Rattle.tsp_verdict.proofs.Prelude.{subst₂, arith, pos, ints, IsLeastRoutes}
 use Rattle.tsp_verdict.proofs.examples.examples_against_routing.Goals as goal
 
 -- plan: the example is computed

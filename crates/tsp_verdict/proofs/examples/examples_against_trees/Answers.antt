@@ -1,7 +1,5 @@
 -- The goals of `examples_against_trees` in src/examples.rt: what it ensures.
-use Rattle.std.proofs.Common.{[], refl, inl, inr, arith, pos}
-use Rattle.std.proofs.lemmas.List.Elements.{All-nil}
-use Rattle.tsp_cases.specs.Families.{IsFamily}
+use Rattle.tsp_verdict.proofs.Prelude.{[], refl, inl, inr, arith, pos, All-nil, IsFamily}
 use Rattle.tsp_cases.proofs.Passes.{first_bad_by_place, first_twice_by_place}
 use Rattle.tsp_verdict.proofs.examples.examples_against_trees.Goals as goal
 

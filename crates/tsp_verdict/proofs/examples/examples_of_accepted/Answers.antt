@@ -1,9 +1,5 @@
 -- The goals of `examples_of_accepted` in src/examples.rt: what it ensures.
-use Rattle.std.proofs.Common.{◌≡◌, ℕ, List, [], ◌∷◌, get_or, ap, sym, subst, subst₂, ◌∙◌, arith}
-use Rattle.std.proofs.lemmas.Int.{ints}
-use Rattle.std.specs.Prelude.{pos}
-use Rattle.tsp_file.specs.Cost.{cost}
-use Rattle.tsp_theory.specs.Tour.{length_of, plan_length, IsLeastRoutes}
+use Rattle.tsp_verdict.proofs.Prelude.{◌≡◌, ℕ, List, [], ◌∷◌, get_or, ap, sym, subst, subst₂, ◌∙◌, arith, ints, pos, cost, length_of, plan_length, IsLeastRoutes}
 use Rattle.tsp_theory.specs.Examples.{two, three}
 use Rattle.tsp_verdict.proofs.examples.examples_of_accepted.Goals as goal
 

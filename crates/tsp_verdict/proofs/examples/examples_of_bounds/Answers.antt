@@ -1,16 +1,7 @@
 -- The goals of `examples_of_bounds` in src/examples.rt: what it ensures.
-use Rattle.std.proofs.Common.{◌≡◌, List, [], ◌∷◌, Some, refl, ap, sym, subst, subst₂, arith}
-use Rattle.std.specs.Prelude.{unwrap_or, pos}
-use Rattle.std.proofs.lemmas.Int.{ints}
+use Rattle.tsp_verdict.proofs.Prelude.{◌≡◌, List, [], ◌∷◌, Some, refl, ap, sym, subst, subst₂, arith, unwrap_or, pos, ints, nodes_of, cost, IsAdjustedBound, IsDualBound, is_directed, Crossings, decided_number, Family, families_with}
 use Rattle.tsp_format.specs.Steps as listed
-use Rattle.tsp_file.specs.Fields.{nodes_of}
-use Rattle.tsp_file.specs.Cost.{cost}
-use Rattle.tsp_theory.specs.Bounds.{IsAdjustedBound, IsDualBound}
-use Rattle.tsp_cost.specs.Problems.{is_directed}
-use Rattle.tsp_cases.specs.declared.family.Crossings.{Crossings}
 use Rattle.tsp_cases.specs.CaseTrees.{IsCaseTreeBound}
-use Rattle.tsp_cases.specs.Cases.{decided_number}
-use Rattle.tsp_cases.specs.Families.{Family, families_with}
 use Rattle.tsp_verdict.specs.Certificates.{given_in, case_steps_in}
 use Rattle.tsp_verdict.specs.Examples.{halves_of_leaf}
 use Rattle.tsp_verdict.proofs.examples.examples_of_bounds.Goals as goal

@@ -1,10 +1,6 @@
 -- The goals of `examples_of_first_reasons` in src/examples.rt: what it ensures.
-use Rattle.std.proofs.Common.{◌<◌, [], ◌∷◌, rules, arith, refl, inl, pos}
-use Rattle.std.specs.List.{Contains}
-use Rattle.std.proofs.lemmas.List.Elements.{All-nil}
-use Rattle.tsp_cases.specs.Families.{IsFamily}
+use Rattle.tsp_verdict.proofs.Prelude.{◌<◌, [], ◌∷◌, rules, arith, refl, inl, pos, Contains, All-nil, IsFamily, of_customers}
 use Rattle.tsp_cases.proofs.Passes.{first_bad_by_place}
-use Rattle.tsp_verdict.proofs.RouteVerdicts.{customer}
 use Rattle.tsp_verdict.proofs.examples.examples_of_first_reasons.Goals as goal
 
 -- plan: each example is computed, customer by customer or leaf by leaf
@@ -12,7 +8,7 @@ pub returns-clause-unserved : goal.returns-clause-unserved
 returns-clause-unserved c = record {
   customer = search rules;
   unserved = search rules;
-  first = λ other is below. customer (λ node. node < 3 → Contains (2 ∷ []) node) (λ lower. (0, omega arith, refl))
+  first = λ other is below. of_customers (λ node. node < 3 → Contains (2 ∷ []) node) (λ lower. (0, omega arith, refl))
       (λ lower. absurd (omega (arith, lower))) (λ lower. absurd (omega (arith, lower))) other is below;
 }
 

@@ -1,8 +1,5 @@
 -- The goals of `examples_of_pairs` in src/examples.rt: what it ensures.
-use Rattle.std.proofs.Common.{◌≡◌, List, [], ◌∷◌, Some, ap, sym, subst₂}
-use Rattle.std.specs.Prelude.{unwrap_or, ℤ, pos, ◌+ℤ◌, ◌*ℤ◌, ◌<ℤ◌}
-use Rattle.tsp_file.specs.Cost.{cost}
-use Rattle.tsp_theory.specs.Bounds.{entry}
+use Rattle.tsp_verdict.proofs.Prelude.{◌≡◌, List, [], ◌∷◌, Some, ap, sym, subst₂, unwrap_or, ℤ, pos, ◌+ℤ◌, ◌*ℤ◌, ◌<ℤ◌, cost, entry}
 use Rattle.tsp_verdict.proofs.examples.examples_of_pairs.Goals as goal
 
 the_list : (xs ys : List ℤ) → Some xs ≡ Some ys → ys ≡ xs

@@ -1,7 +1,5 @@
 -- The goals of `examples_of_plans` in src/examples.rt: what it ensures.
-use Rattle.std.proofs.Common.{[], ◌∷◌, rules, arith, refl}
-use Rattle.std.specs.List.{Contains}
-use Rattle.tsp_verdict.proofs.RouteVerdicts.{customer}
+use Rattle.tsp_verdict.proofs.Prelude.{[], ◌∷◌, rules, arith, refl, Contains, of_customers}
 use Rattle.tsp_verdict.proofs.examples.examples_of_plans.Goals as goal
 
 -- plan: each example is computed, customer by customer (`customer`)
@@ -9,7 +7,7 @@ pub returns-clause-at_capacity : goal.returns-clause-at_capacity
 returns-clause-at_capacity c = record {
   customers = search rules;
   once = search rules;
-  served = customer (Contains (2 ∷ 3 ∷ 4 ∷ [])) (0, omega arith, refl) (1, omega arith, refl) (2, omega arith, refl);
+  served = of_customers (Contains (2 ∷ 3 ∷ 4 ∷ [])) (0, omega arith, refl) (1, omega arith, refl) (2, omega arith, refl);
   within = search rules;
 }
 

@@ -1,4 +1,4 @@
--- The goals of `known_bound_of` in src/known_bound.rt, which makes the basis of a comparison from a bound: what it
+-- The goals of `known_bound_of` in src/known_bound.rt, which makes the known bound of a comparison from a bound: what it
 -- ensures.
 use Rattle.std.proofs.Common.{rules, sym}
 use Rattle.tsp_verdict.proofs.FirstReasons.{routes_for, other_known_bound}

@@ -1,8 +1,6 @@
 -- The goals of `assignment_bound` in src/potentials_certificate.rt, which bounds by duals, or finds the first pair that
 -- breaks them: what it ensures.
-use Rattle.std.proofs.Common.{◌∙◌, rules, FitsSigned}
-use Rattle.std.specs.Int.{w128}
-use Rattle.std.proofs.lemmas.Int.{to_z-of_z}
+use Rattle.tsp_verdict.proofs.Prelude.{◌∙◌, rules, FitsSigned, w128, to_z-of_z}
 use Rattle.tsp_verdict.proofs.CarriedBounds.{assigned, broken_stands, duals_are, rows_counted, columns_counted}
 use Rattle.tsp_verdict.proofs.potentials_certificate.assignment_bound.Goals as goal
 

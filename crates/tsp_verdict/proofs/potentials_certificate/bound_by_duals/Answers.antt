@@ -1,8 +1,6 @@
 -- The goals of `bound_by_duals` in src/potentials_certificate.rt, which bounds an ATSP by potentials, or returns the
 -- first reason: what it ensures.
-use Rattle.std.proofs.Common.{◌≡◌, false, subst, sym, rules, FitsSigned}
-use Rattle.std.specs.Int.{w128}
-use Rattle.std.proofs.lemmas.Int.{to_z-of_z}
+use Rattle.tsp_verdict.proofs.Prelude.{◌≡◌, false, subst, sym, rules, FitsSigned, w128, to_z-of_z}
 use Rattle.tsp_verdict.specs.Certificates.{has_wanted}
 use Rattle.tsp_verdict.proofs.FirstReasons.{kind_first, broken_first, none_of_atsp}
 use Rattle.tsp_verdict.proofs.potentials_certificate.bound_by_duals.Goals as goal

@@ -1,14 +1,8 @@
 -- The goals of `bound_by_nodes` in src/potentials_certificate.rt, which bounds a TSP by potentials, or returns the
 -- first reason: what it ensures.
-use Rattle.std.proofs.Common.{◌≡◌, true, Some, subst, sym, rules, FitsSigned}
-use Rattle.std.specs.Prelude.{MatchOption}
-use Rattle.std.specs.Int.{w128}
-use Rattle.std.proofs.lemmas.Int.{to_z-of_z}
+use Rattle.tsp_verdict.proofs.Prelude.{◌≡◌, true, Some, subst, sym, rules, FitsSigned, MatchOption, w128, to_z-of_z, AreOnPairs, nodes_of, multipliers_in, fixed_of}
 use Rattle.tsp_format.specs.declared.kinds.Kind.TheVariants as kinds
-use Rattle.tsp_theory.specs.Bounds.{AreOnPairs}
 use Rattle.tsp_verdict.specs.Certificates.{has_wanted, AppliesToPotentials, AreListed}
-use Rattle.tsp_file.specs.Fields.{nodes_of}
-use Rattle.tsp_file.specs.Cost.{multipliers_in, fixed_of}
 use Rattle.tsp_verdict.specs.Solutions.{IsFirstReason}
 use Rattle.tsp_verdict.proofs.FirstReasons.{none_of_tsp, none_of_potentials}
 use Rattle.tsp_verdict.proofs.potentials_certificate.bound_by_nodes.Goals as goal

@@ -1,9 +1,6 @@
 -- The goals of `first_against_multipliers` in src/potentials_certificate.rt, which finds the first reason against
 -- multipliers: what it ensures.
-use Rattle.std.proofs.Common.{◌≡◌, false, subst}
-use Rattle.std.specs.Prelude.{MatchOption}
-use Rattle.std.specs.List.{AllPairs}
-use Rattle.tsp_theory.specs.Bounds.{pair_of, is_same_pair}
+use Rattle.tsp_verdict.proofs.Prelude.{◌≡◌, false, subst, MatchOption, AllPairs, pair_of, is_same_pair}
 use Rattle.tsp_verdict.specs.Certificates.{AreListed, IsUnlisted, IsPairRepeated}
 use Rattle.tsp_verdict.specs.Solutions.{IsFirstPlace}
 use Rattle.tsp_verdict.proofs.FirstReasons.{not_fixed, repeats, multiplied}

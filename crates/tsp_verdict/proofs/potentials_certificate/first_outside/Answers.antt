@@ -1,9 +1,6 @@
 -- The goals of `first_outside` in src/potentials_certificate.rt, which finds the first triple whose pair isn't in a
 -- set: its loop and what it ensures.
-use Rattle.std.proofs.Common.{◌≡◌, ◌+◌, false, true, sym, subst, ◌∙◌, arith}
-use Rattle.std.specs.BTreeSet.{contains}
-use Rattle.std.specs.Prelude.{pos, slice_index_or}
-use Rattle.tsp_theory.specs.Bounds.{pair_of}
+use Rattle.tsp_verdict.proofs.Prelude.{◌≡◌, ◌+◌, false, true, sym, subst, ◌∙◌, arith, contains, pos, slice_index_or, pair_of}
 use Rattle.tsp_verdict.specs.Certificates.{IsUnlisted}
 use Rattle.tsp_verdict.specs.states.PairSets.{undirected, pair_cmp}
 use Rattle.tsp_verdict.specs.Solutions.{IsFirstPlace}

@@ -1,8 +1,5 @@
 -- The loop of `first_outside` in src/potentials_certificate.rt.
-use Rattle.std.proofs.Common.{◌≡◌, ◌<◌, ℕ, true}
-use Rattle.std.specs.Prelude.{slice_index_or, ℤ}
-use Rattle.std.specs.BTreeSet.{contains}
-use Rattle.tsp_theory.specs.Bounds.{pair_of}
+use Rattle.tsp_verdict.proofs.Prelude.{◌≡◌, ◌<◌, ℕ, true, slice_index_or, ℤ, contains, pair_of}
 use Rattle.tsp_verdict.specs.states.PairSets.{undirected, pair_cmp}
 use Rattle.tsp_verdict.proofs.potentials_certificate.first_outside.Given as goal
 

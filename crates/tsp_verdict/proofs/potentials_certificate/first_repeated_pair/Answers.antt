@@ -1,10 +1,6 @@
 -- The goals of `first_repeated_pair` in src/potentials_certificate.rt, which finds the first triple whose pair an
 -- earlier one has: its loop and what it ensures.
-use Rattle.std.proofs.Common.{◌≡◌, ◌+◌, false, true, sym, subst, ◌∙◌, arith}
-use Rattle.std.specs.BTreeSet.{contains, Updates}
-use Rattle.std.specs.Prelude.{pos, slice_index_or}
-use Rattle.std.proofs.lemmas.Bool.{not-false, not-true}
-use Rattle.tsp_theory.specs.Bounds.{pair_of}
+use Rattle.tsp_verdict.proofs.Prelude.{◌≡◌, ◌+◌, false, true, sym, subst, ◌∙◌, arith, contains, Updates, pos, slice_index_or, not-false, not-true, pair_of}
 use Rattle.tsp_verdict.specs.Certificates.{IsPairRepeated}
 use Rattle.tsp_verdict.specs.states.PairSets.{undirected, pair_cmp}
 use Rattle.tsp_verdict.specs.Solutions.{IsFirstPlace}

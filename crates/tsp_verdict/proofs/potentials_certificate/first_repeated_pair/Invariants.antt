@@ -1,7 +1,5 @@
 -- The loop of `first_repeated_pair` in src/potentials_certificate.rt.
-use Rattle.std.proofs.Common.{◌≡◌, ◌<◌, ℕ, false, take}
-use Rattle.std.specs.Prelude.{slice_index_or, pos}
-use Rattle.tsp_theory.specs.Bounds.{pair_of, is_same_pair}
+use Rattle.tsp_verdict.proofs.Prelude.{◌≡◌, ◌<◌, ℕ, false, take, slice_index_or, pos, pair_of, is_same_pair}
 use Rattle.tsp_verdict.specs.states.PairSets.{HasPairs}
 use Rattle.tsp_verdict.proofs.potentials_certificate.first_repeated_pair.Given as goal
 

@@ -1,8 +1,6 @@
 -- The goals of `set_of` in src/potentials_certificate.rt, which makes the set of pairs, the smaller node first: its
 -- loop and what it ensures.
-use Rattle.std.proofs.Common.{true, subst, arith}
-use Rattle.std.specs.BTreeSet.{Updates}
-use Rattle.std.proofs.lemmas.List.{take_all}
+use Rattle.tsp_verdict.proofs.Prelude.{true, subst, arith, Updates, take_all}
 use Rattle.tsp_verdict.specs.states.PairSets.{pair_cmp, HasPairs}
 use Rattle.tsp_verdict.proofs.GivenPairs.{has_more}
 use Rattle.tsp_verdict.proofs.potentials_certificate.set_of.Goals as goal

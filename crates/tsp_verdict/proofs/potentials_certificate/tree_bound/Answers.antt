@@ -1,9 +1,6 @@
 -- The goals of `tree_bound` in src/potentials_certificate.rt, which returns the bound of a least 1-tree: what it
 -- ensures.
-use Rattle.std.proofs.Common.{◌∙◌, rules, subst, sym, FitsSigned}
-use Rattle.std.specs.Int.{w128}
-use Rattle.std.proofs.lemmas.Int.{to_z-of_z}
-use Rattle.tsp_report.specs.declared.task.CertificateKind.TheVariants.{Potentials}
+use Rattle.tsp_verdict.proofs.Prelude.{◌∙◌, rules, subst, sym, FitsSigned, w128, to_z-of_z, Potentials}
 use Rattle.tsp_verdict.specs.Certified.{IsCertified}
 use Rattle.tsp_verdict.proofs.CarriedBounds.{certified, numbers_counted}
 use Rattle.tsp_verdict.proofs.potentials_certificate.tree_bound.Goals as goal

@@ -1,6 +1,5 @@
 -- The loop of `first_of_in` in src/routes.rt.
-use Rattle.std.proofs.Common.{◌≡◌, ◌≢◌, ◌<◌, ℕ, length, take}
-use Rattle.std.specs.Prelude.{slice_index_or}
+use Rattle.tsp_verdict.proofs.Prelude.{◌≡◌, ◌≢◌, ◌<◌, ℕ, length, take, slice_index_or}
 use Rattle.tsp_verdict.specs.states.Marks.{nodes_in}
 use Rattle.tsp_verdict.proofs.routes.first_of_in.Given as goal
 

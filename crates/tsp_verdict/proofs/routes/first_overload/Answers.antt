@@ -1,12 +1,7 @@
 -- The goals of `first_overload` in src/routes.rt, which finds the first route above the capacity: its loop and what its
 -- calls require.
-use Rattle.std.proofs.Common.{◌≡◌, ℕ, List, length, take, refl, sym, ap, ◌∙◌, arith, rules}
-use Rattle.std.specs.Prelude.{FitsSigned, ◌≤ℤ◌}
-use Rattle.std.specs.Int.{w64}
-use Rattle.std.proofs.lemmas.Int.{to_z-of_z}
-use Rattle.tsp_format.specs.Nodes.{IsNode}
+use Rattle.tsp_verdict.proofs.Prelude.{◌≡◌, ℕ, List, length, take, refl, sym, ap, ◌∙◌, arith, rules, FitsSigned, ◌≤ℤ◌, w64, to_z-of_z, IsNode, load_of}
 use Rattle.tsp_verdict.specs.states.Marks.{StandsAfter, nodes_in}
-use Rattle.tsp_theory.specs.Tour.{load_of}
 use Rattle.tsp_verdict.proofs.RouteFiles.{applies_here, all_here, carried_more, not_over}
 use Rattle.tsp_verdict.proofs.routes.first_overload.Goals as goal
 

@@ -1,7 +1,5 @@
 -- The loop of `first_overload` in src/routes.rt.
-use Rattle.std.proofs.Common.{◌≡◌, ◌<◌, ℕ, List, map}
-use Rattle.std.specs.Prelude.{slice_index_or, ◌≤ℤ◌}
-use Rattle.tsp_theory.specs.Tour.{load_of}
+use Rattle.tsp_verdict.proofs.Prelude.{◌≡◌, ◌<◌, ℕ, List, map, slice_index_or, ◌≤ℤ◌, load_of}
 use Rattle.tsp_verdict.proofs.routes.first_overload.Given as goal
 
 -- no route before this one demands more than the capacity, and `index` is how many these are

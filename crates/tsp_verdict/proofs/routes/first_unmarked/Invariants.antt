@@ -1,6 +1,5 @@
 -- The loop of `first_unmarked` in src/routes.rt.
-use Rattle.std.proofs.Common.{◌≡◌, ◌≢◌, ◌≤◌, ◌<◌, ℕ, true, false}
-use Rattle.std.specs.Prelude.{slice_index_or}
+use Rattle.tsp_verdict.proofs.Prelude.{◌≡◌, ◌≢◌, ◌≤◌, ◌<◌, ℕ, true, false, slice_index_or}
 use Rattle.tsp_verdict.proofs.routes.first_unmarked.Given as goal
 
 -- each number from 1 to the one before this is marked, or is the depot

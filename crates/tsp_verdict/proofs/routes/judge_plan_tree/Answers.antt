@@ -1,20 +1,10 @@
 -- The goals of `judge_plan_tree` in src/routes.rt, which bounds by a tree of cases of routes, or returns the first
 -- reason: the facts of the plans that it makes, that places fit 32 bits, and what it ensures.
-use Rattle.std.proofs.Common.{ℕ, ℤ, Option, length, ap, sym, ◌∙◌, subst, arith, rules, FitsSigned, to_z, of_z}
-use Rattle.std.specs.Global.{Vec}
-use Rattle.std.specs.Int.{w64, w128}
-use Rattle.std.specs.List.{All}
-use Rattle.std.specs.Prelude.{None, Some}
-use Rattle.std.proofs.lemmas.Int.{to_z-of_z}
-use Rattle.std.proofs.lemmas.List.{length-map}
+use Rattle.tsp_verdict.proofs.Prelude.{ℕ, ℤ, Option, length, ap, sym, ◌∙◌, subst, arith, rules, FitsSigned, to_z, of_z, Vec, w64, w128, All, None, Some, to_z-of_z, length-map, nodes_of, families_of, cost, routing_with, IsPlanVerdict, VerdictBoundsPlans, IsSizedPlanVerdict}
 use Rattle.tsp_format.specs.states.TreeSteps.{step_of, steps_of}
-use Rattle.tsp_file.specs.Fields.{nodes_of}
-use Rattle.tsp_file.specs.states.Drafts.{combs_of}
-use Rattle.tsp_file.specs.Cost.{cost}
 use Rattle.tsp_cases.specs.Crossings.{AreFamiliesOf, lists_of}
 use Rattle.tsp_routing.specs.declared.verdict.PlanVerdict.TheVariants as found
 use Rattle.tsp_routing.specs.states.LeafWeights.{IsPlanStep}
-use Rattle.tsp_routing.specs.PlanVerdicts.{routing_with, IsPlanVerdict, VerdictBoundsPlans, IsSizedPlanVerdict}
 use Rattle.tsp_verdict.proofs.RouteFiles.{steps_few}
 use Rattle.tsp_verdict.proofs.TreeReasons.{families_hold, pairs_few}
 use Rattle.tsp_verdict.proofs.RouteVerdicts.{leaves_few, plan_steps, of_files, reported_of_routes, bounds_of_routes, set_first, branch_first, plan_leaf_first, loads_first, plans_bounded, plans_missing}
@@ -36,11 +26,11 @@ invariant_of-plans c =
       capacity_is = rw (to_z-of_z w64 c.routing-routing.result.capacity capable) c.routing-routing.ensures.loadable;
       scaled = rw (to_z-of_z w64 tree.scale scaled) held.scaled;
       united = rw (to_z-of_z w64 tree.load_unit united) held.united;
-      few_families = let few = held.each_comb.few in
-          let long = length-map tree.combs.now (λ (sets : Vec (Vec ℕ)). lists_of sets.items) in omega (arith, few, long);
+      few_families = let few = held.each_family.few in
+          let long = length-map tree.families.now (λ (sets : Vec (Vec ℕ)). lists_of sets.items) in omega (arith, few, long);
       few_steps = steps_few c.args.branches.now tree.steps.now held.each_step;
-      sets_are = subst (λ (m : ℕ). AreFamiliesOf m tree.combs.now) c.requires.count
-          (families_hold (nodes_of c.args.branches.now) tree.combs.now held.each_comb);
+      sets_are = subst (λ (m : ℕ). AreFamiliesOf m tree.families.now) c.requires.count
+          (families_hold (nodes_of c.args.branches.now) tree.families.now held.each_family);
       steps_are = ∣ subst (λ (m : ℕ). All (IsPlanStep m) (steps_of tree.steps.now)) c.requires.count
           (plan_steps c.args.branches.now (steps_of tree.steps.now) held.each_step) ∣₁;
       whole = held.each_step.whole;
@@ -50,13 +40,13 @@ pub returns-in-BadFamily : goal.returns-in-BadFamily
 returns-in-BadFamily c =
     let instance = c.args.instance.now in
     let tree = c.args.branches.now in
-    let combs = c.args.tree.now.combs.now in
+    let families = c.args.tree.now.families.now in
     let steps = steps_of c.args.tree.now.steps.now in
     let demands = c.routing-routing.result.demands.now in
     let are = of_files instance tree c.args.depot demands c.routing-routing.result.capacity c.args.tree.now.scale c.args.tree.now.load_unit
-    combs steps (search rules) (search rules) (search rules) c.requires.depot c.routing-routing.ensures.demands
+    families steps (search rules) (search rules) (search rules) c.requires.depot c.routing-routing.ensures.demands
     c.routing-routing.ensures.capacity c.requires.held in
-    let is = subst (IsPlanVerdict (routing_with (nodes_of instance) (cost instance) c.args.depot demands _) _ _ (combs_of combs) steps)
+    let is = subst (IsPlanVerdict (routing_with (nodes_of instance) (cost instance) c.args.depot demands _) _ _ (families_of families) steps)
     c.in-BadFamily.is c.in_ok-bound.ensures.verdict in
     set_first instance tree c.in-BadFamily.index c.requires.kind c.requires.sort c.requires.count
     (reported_of_routes instance tree _ _ _ _ _ _ _ _ are is)
@@ -65,13 +55,13 @@ pub returns-in-BadBranch : goal.returns-in-BadBranch
 returns-in-BadBranch c =
     let instance = c.args.instance.now in
     let tree = c.args.branches.now in
-    let combs = c.args.tree.now.combs.now in
+    let families = c.args.tree.now.families.now in
     let steps = steps_of c.args.tree.now.steps.now in
     let demands = c.routing-routing.result.demands.now in
     let are = of_files instance tree c.args.depot demands c.routing-routing.result.capacity c.args.tree.now.scale c.args.tree.now.load_unit
-    combs steps (search rules) (search rules) (search rules) c.requires.depot c.routing-routing.ensures.demands
+    families steps (search rules) (search rules) (search rules) c.requires.depot c.routing-routing.ensures.demands
     c.routing-routing.ensures.capacity c.requires.held in
-    let is = subst (IsPlanVerdict (routing_with (nodes_of instance) (cost instance) c.args.depot demands _) _ _ (combs_of combs) steps)
+    let is = subst (IsPlanVerdict (routing_with (nodes_of instance) (cost instance) c.args.depot demands _) _ _ (families_of families) steps)
     c.in-BadBranch.is c.in_ok-bound.ensures.verdict in
     branch_first instance tree c.in-BadBranch.index c.requires.kind c.requires.sort c.requires.count
     (reported_of_routes instance tree _ _ _ _ _ _ _ _ are is)
@@ -80,13 +70,13 @@ pub returns-in-BadLeaf : goal.returns-in-BadLeaf
 returns-in-BadLeaf c =
     let instance = c.args.instance.now in
     let tree = c.args.branches.now in
-    let combs = c.args.tree.now.combs.now in
+    let families = c.args.tree.now.families.now in
     let steps = steps_of c.args.tree.now.steps.now in
     let demands = c.routing-routing.result.demands.now in
     let are = of_files instance tree c.args.depot demands c.routing-routing.result.capacity c.args.tree.now.scale c.args.tree.now.load_unit
-    combs steps (search rules) (search rules) (search rules) c.requires.depot c.routing-routing.ensures.demands
+    families steps (search rules) (search rules) (search rules) c.requires.depot c.routing-routing.ensures.demands
     c.routing-routing.ensures.capacity c.requires.held in
-    let is = subst (IsPlanVerdict (routing_with (nodes_of instance) (cost instance) c.args.depot demands _) _ _ (combs_of combs) steps)
+    let is = subst (IsPlanVerdict (routing_with (nodes_of instance) (cost instance) c.args.depot demands _) _ _ (families_of families) steps)
     c.in-BadLeaf.is c.in_ok-bound.ensures.verdict in
     plan_leaf_first instance tree c.in-BadLeaf.index c.requires.kind c.requires.sort c.requires.count
     (reported_of_routes instance tree _ _ _ _ _ _ _ _ are is)
@@ -95,13 +85,13 @@ pub returns-in-TooManyLoads : goal.returns-in-TooManyLoads
 returns-in-TooManyLoads c =
     let instance = c.args.instance.now in
     let tree = c.args.branches.now in
-    let combs = c.args.tree.now.combs.now in
+    let families = c.args.tree.now.families.now in
     let steps = steps_of c.args.tree.now.steps.now in
     let demands = c.routing-routing.result.demands.now in
     let are = of_files instance tree c.args.depot demands c.routing-routing.result.capacity c.args.tree.now.scale c.args.tree.now.load_unit
-    combs steps (search rules) (search rules) (search rules) c.requires.depot c.routing-routing.ensures.demands
+    families steps (search rules) (search rules) (search rules) c.requires.depot c.routing-routing.ensures.demands
     c.routing-routing.ensures.capacity c.requires.held in
-    let is = subst (IsPlanVerdict (routing_with (nodes_of instance) (cost instance) c.args.depot demands _) _ _ (combs_of combs) steps)
+    let is = subst (IsPlanVerdict (routing_with (nodes_of instance) (cost instance) c.args.depot demands _) _ _ (families_of families) steps)
     c.in-TooManyLoads.is c.in_ok-bound.ensures.verdict in
     loads_first instance tree c.requires.kind c.requires.sort c.requires.count
     (reported_of_routes instance tree _ _ _ _ _ _ _ _ are is)
@@ -134,16 +124,16 @@ pub returns-in-Bound-Some : goal.returns-in-Bound-Some
 returns-in-Bound-Some c =
     let instance = c.args.instance.now in
     let tree = c.args.branches.now in
-    let combs = c.args.tree.now.combs.now in
+    let families = c.args.tree.now.families.now in
     let steps = steps_of c.args.tree.now.steps.now in
     let demands = c.routing-routing.result.demands.now in
     let are = of_files instance tree c.args.depot demands c.routing-routing.result.capacity c.args.tree.now.scale c.args.tree.now.load_unit
-    combs steps (search rules) (search rules) (search rules) c.requires.depot c.routing-routing.ensures.demands
+    families steps (search rules) (search rules) (search rules) c.requires.depot c.routing-routing.ensures.demands
     c.routing-routing.ensures.capacity c.requires.held in
     let problem = routing_with (nodes_of instance) (cost instance) c.args.depot demands _ in
     let bound = c.in-Bound-Some.bound in
     let whole = c.in-Bound-Some.is ∙ ap (λ (o : Option ℤ). found.Bound o) c.in-Bound-Some.field-0-is in
-    let is = subst (IsPlanVerdict problem _ _ (combs_of combs) steps) whole c.in_ok-bound.ensures.verdict in
+    let is = subst (IsPlanVerdict problem _ _ (families_of families) steps) whole c.in_ok-bound.ensures.verdict in
     let below = subst (VerdictBoundsPlans problem) whole c.in_ok-bound.ensures.plans in
     let sized = subst IsSizedPlanVerdict whole c.in_ok-bound.ensures.size in
     let fits : FitsSigned w128 bound = search rules in
@@ -154,15 +144,15 @@ pub returns-in-Bound-None : goal.returns-in-Bound-None
 returns-in-Bound-None c =
     let instance = c.args.instance.now in
     let tree = c.args.branches.now in
-    let combs = c.args.tree.now.combs.now in
+    let families = c.args.tree.now.families.now in
     let steps = steps_of c.args.tree.now.steps.now in
     let demands = c.routing-routing.result.demands.now in
     let are = of_files instance tree c.args.depot demands c.routing-routing.result.capacity c.args.tree.now.scale c.args.tree.now.load_unit
-    combs steps (search rules) (search rules) (search rules) c.requires.depot c.routing-routing.ensures.demands
+    families steps (search rules) (search rules) (search rules) c.requires.depot c.routing-routing.ensures.demands
     c.routing-routing.ensures.capacity c.requires.held in
     let problem = routing_with (nodes_of instance) (cost instance) c.args.depot demands _ in
     let whole = c.in-Bound-None.is ∙ ap (λ (o : Option ℤ). found.Bound o) c.in-Bound-None.field-0-is in
-    let is = subst (IsPlanVerdict problem _ _ (combs_of combs) steps) whole c.in_ok-bound.ensures.verdict in
+    let is = subst (IsPlanVerdict problem _ _ (families_of families) steps) whole c.in_ok-bound.ensures.verdict in
     let below = subst (VerdictBoundsPlans problem) whole c.in_ok-bound.ensures.plans in
     plans_missing instance tree c.requires.kind c.requires.sort c.requires.count
     (reported_of_routes instance tree _ _ _ _ _ _ _ _ are is) (bounds_of_routes instance tree _ _ _ _ _ _ _ (found.Bound None) are below)

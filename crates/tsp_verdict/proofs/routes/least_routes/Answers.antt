@@ -1,11 +1,7 @@
 -- The goals of `least_routes` in src/routes.rt, which returns the least number of routes for all demands: what it
 -- ensures.
-use Rattle.std.proofs.Common.{◌+◌, ◌-◌, ◌/◌, rules, subst}
-use Rattle.std.specs.Prelude.{FitsSigned, nat_abs, ℤ}
-use Rattle.std.specs.Int.{w64}
-use Rattle.std.proofs.lemmas.Int.{to_z-of_z}
-use Rattle.tsp_theory.specs.Tour.{IsLeastRoutes}
-use Rattle.tsp_verdict.proofs.RouteFiles.{least_of}
+use Rattle.tsp_verdict.proofs.Prelude.{◌+◌, ◌-◌, ◌/◌, rules, subst, FitsSigned, nat_abs, ℤ, w64, to_z-of_z, IsLeastRoutes}
+use Rattle.tsp_routing.proofs.CutNeeds.{least_of}
 use Rattle.tsp_verdict.proofs.routes.least_routes.Goals as goal
 
 -- plan: the sum of all demands, divided and rounded up (`least_of`)

@@ -1,11 +1,5 @@
 -- The goals of `load` in src/routes.rt, which sums the demands of a route: that no sum overflows and its loop.
-use Rattle.std.proofs.Common.{◌≡◌, ◌∷◌, ◌∙◌, ◌+◌, ◌-◌, ◌≤◌, ℕ, List, length, get_or, drop, refl, arith, to_z, drop-cons, add-one}
-use Rattle.std.specs.Prelude.{ℤ, pos}
-use Rattle.std.specs.Int.{w64}
-use Rattle.std.proofs.lemmas.Int.{ints}
-use Rattle.tsp_format.specs.Nodes.{IsNode}
-use Rattle.tsp_file.specs.Valid.{IsDemand}
-use Rattle.tsp_theory.specs.Tour.{load_of, demand_of}
+use Rattle.tsp_verdict.proofs.Prelude.{◌≡◌, ◌∷◌, ◌∙◌, ◌+◌, ◌-◌, ◌≤◌, ℕ, List, length, get_or, drop, refl, arith, to_z, drop-cons, add-one, ℤ, pos, w64, ints, IsNode, IsDemand, load_of, demand_of}
 use Rattle.tsp_verdict.proofs.RouteFiles.{load_fits, load_more, sum_step}
 use Rattle.tsp_verdict.proofs.routes.load.Goals as goal
 

@@ -1,7 +1,5 @@
 -- The loop of `load` in src/routes.rt.
-use Rattle.std.proofs.Common.{◌≡◌, drop}
-use Rattle.std.specs.Prelude.{◌+ℤ◌}
-use Rattle.tsp_theory.specs.Tour.{load_of}
+use Rattle.tsp_verdict.proofs.Prelude.{◌≡◌, drop, ◌+ℤ◌, load_of}
 use Rattle.tsp_verdict.proofs.RouteFiles.{IsLoadOf}
 use Rattle.tsp_verdict.proofs.routes.load.Given as goal
 

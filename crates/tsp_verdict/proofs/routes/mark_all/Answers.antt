@@ -1,8 +1,6 @@
 -- The goals of `mark_all` in src/routes.rt, which marks the nodes of routes up to the first repeated one: that no sum
 -- overflows, its loop, what its calls require and what it ensures.
-use Rattle.std.proofs.Common.{◌<◌, ℕ, List, sym, subst, ◌∙◌, arith}
-use Rattle.std.specs.Prelude.{vec_len}
-use Rattle.std.specs.List.{All}
+use Rattle.tsp_verdict.proofs.Prelude.{◌<◌, ℕ, List, sym, subst, ◌∙◌, arith, vec_len, All}
 use Rattle.tsp_verdict.specs.states.Marks.{StandsAfter, nodes_in}
 use Rattle.tsp_verdict.proofs.RouteFiles.{applies_here, count_here, all_here}
 use Rattle.tsp_verdict.proofs.routes.mark_all.Goals as goal

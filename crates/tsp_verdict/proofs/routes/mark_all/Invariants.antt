@@ -1,6 +1,5 @@
 -- The loop of `mark_all` in src/routes.rt.
-use Rattle.std.proofs.Common.{◌≡◌, length, take}
-use Rattle.std.specs.Prelude.{vec_len}
+use Rattle.tsp_verdict.proofs.Prelude.{◌≡◌, length, take, vec_len}
 use Rattle.tsp_verdict.specs.states.Marks.{Marked, nodes_in}
 use Rattle.tsp_verdict.proofs.routes.mark_all.Given as goal
 

@@ -1,14 +1,7 @@
 -- The goals of `plan_length` in src/routes.rt, which sums the costs of all routes: that no sum overflows, its
 -- loop and what its calls require.
-use Rattle.std.proofs.Common.{◌≡◌, ◌≤◌, ◌+◌, ◌∷◌, ℕ, List, length, take, refl, ap, subst, ◌∙◌, arith, to_z}
-use Rattle.std.specs.Prelude.{ℤ, ◌+ℤ◌}
-use Rattle.std.specs.Int.{w64}
-use Rattle.std.proofs.lemmas.Int.{ints}
-use Rattle.tsp_format.specs.Nodes.{IsNode}
-use Rattle.tsp_file.specs.Cost.{cost}
-use Rattle.tsp_theory.specs.Tour.{length_of}
+use Rattle.tsp_verdict.proofs.Prelude.{◌≡◌, ◌≤◌, ◌+◌, ◌∷◌, ℕ, List, length, take, refl, ap, subst, ◌∙◌, arith, to_z, ℤ, ◌+ℤ◌, w64, ints, IsNode, cost, length_of, nodes_of}
 use Rattle.tsp_verdict.specs.states.Marks.{StandsAfter, nodes_in, IsSumOf}
-use Rattle.tsp_file.specs.Fields.{nodes_of}
 use Rattle.tsp_verdict.proofs.RouteFiles.{applies_here, count_here, all_here, sum_more, sum_fits, plan_more}
 use Rattle.tsp_verdict.proofs.routes.plan_length.Goals as goal
 

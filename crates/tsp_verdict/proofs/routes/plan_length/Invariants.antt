@@ -1,8 +1,5 @@
 -- The loop of `plan_length` in src/routes.rt.
-use Rattle.std.proofs.Common.{◌≡◌, ◌+◌, length, take, drop, map}
-use Rattle.std.specs.Prelude.{◌+ℤ◌}
-use Rattle.tsp_file.specs.Cost.{cost}
-use Rattle.tsp_theory.specs.Tour.{plan_length}
+use Rattle.tsp_verdict.proofs.Prelude.{◌≡◌, ◌+◌, length, take, drop, map, ◌+ℤ◌, cost, plan_length}
 use Rattle.tsp_verdict.specs.states.Marks.{nodes_in, IsSumOf}
 use Rattle.tsp_verdict.proofs.routes.plan_length.Given as goal
 

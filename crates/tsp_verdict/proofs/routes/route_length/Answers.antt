@@ -1,13 +1,6 @@
 -- The goals of `route_length` in src/routes.rt, which sums the costs of a route: that no sum overflows, its loop
 -- and what it ensures.
-use Rattle.std.proofs.Common.{◌≡◌, ◌∷◌, ◌∙◌, ◌+◌, ◌≤◌, ℕ, List, length, get_or, drop, refl, subst, arith, to_z, drop-cons, add-one}
-use Rattle.std.specs.Prelude.{ℤ, ◌+ℤ◌}
-use Rattle.std.specs.Int.{w64}
-use Rattle.std.proofs.lemmas.Int.{ints}
-use Rattle.std.proofs.lemmas.List.{drop_all}
-use Rattle.tsp_format.specs.Nodes.{IsNode}
-use Rattle.tsp_file.specs.Cost.{cost}
-use Rattle.tsp_file.specs.Fields.{nodes_of}
+use Rattle.tsp_verdict.proofs.Prelude.{◌≡◌, ◌∷◌, ◌∙◌, ◌+◌, ◌≤◌, ℕ, List, length, get_or, drop, refl, subst, arith, to_z, drop-cons, add-one, ℤ, ◌+ℤ◌, w64, ints, drop_all, IsNode, cost, nodes_of}
 use Rattle.tsp_verdict.specs.states.Marks.{IsSumOf}
 use Rattle.tsp_verdict.proofs.RouteFiles.{length_to, length_more, length_last, sum_more, sum_one, sum_fits}
 use Rattle.tsp_verdict.proofs.routes.route_length.Goals as goal

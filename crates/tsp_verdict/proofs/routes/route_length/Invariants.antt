@@ -1,9 +1,5 @@
 -- The loop of `route_length` in src/routes.rt.
-use Rattle.std.proofs.Common.{◌≡◌, drop}
-use Rattle.std.specs.Prelude.{◌+ℤ◌}
-use Rattle.tsp_format.specs.Nodes.{IsNode}
-use Rattle.tsp_file.specs.Cost.{cost}
-use Rattle.tsp_file.specs.Fields.{nodes_of}
+use Rattle.tsp_verdict.proofs.Prelude.{◌≡◌, drop, ◌+ℤ◌, IsNode, cost, nodes_of}
 use Rattle.tsp_verdict.specs.states.Marks.{IsSumOf}
 use Rattle.tsp_verdict.proofs.RouteFiles.{length_to}
 use Rattle.tsp_verdict.proofs.routes.route_length.Given as goal

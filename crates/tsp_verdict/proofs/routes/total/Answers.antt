@@ -1,9 +1,5 @@
 -- The goals of `total` in src/routes.rt, which sums all demands: its loop and what it ensures.
-use Rattle.std.proofs.Common.{◌≤◌, ℕ, arith, to_z}
-use Rattle.std.specs.Prelude.{ℤ, pos, slice_index_or}
-use Rattle.std.specs.Int.{w64}
-use Rattle.tsp_format.specs.Nodes.{nodes_to}
-use Rattle.tsp_file.specs.Valid.{IsDemand}
+use Rattle.tsp_verdict.proofs.Prelude.{◌≤◌, ℕ, arith, to_z, ℤ, pos, slice_index_or, w64, nodes_to, IsDemand}
 use Rattle.tsp_verdict.proofs.RouteFiles.{load_fits, load_more, total_more, total_end}
 use Rattle.tsp_verdict.proofs.routes.total.Goals as goal
 

@@ -1,8 +1,5 @@
 -- The loop of `total` in src/routes.rt.
-use Rattle.std.proofs.Common.{◌≡◌, ◌+◌, ◌-◌, length}
-use Rattle.std.specs.Prelude.{◌+ℤ◌}
-use Rattle.std.specs.List.{range_with_len}
-use Rattle.tsp_theory.specs.Tour.{load_of}
+use Rattle.tsp_verdict.proofs.Prelude.{◌≡◌, ◌+◌, ◌-◌, length, ◌+ℤ◌, range_with_len, load_of}
 use Rattle.tsp_verdict.proofs.RouteFiles.{IsLoadOf}
 use Rattle.tsp_verdict.proofs.routes.total.Given as goal
 

@@ -1,11 +1,6 @@
 -- The goals of `verdict_on_routes` in src/routes.rt, which judges the routes of a solution: what its calls require and
 -- what it ensures.
-use Rattle.std.proofs.Common.{◌≡◌, ◌+◌, Bool, List, map, length, refl, sym, arith, rules}
-use Rattle.std.specs.Prelude.{FitsSigned, vec_len}
-use Rattle.std.specs.Int.{w64}
-use Rattle.std.proofs.lemmas.Int.{to_z-of_z}
-use Rattle.tsp_file.specs.Fields.{Fields, nodes_of}
-use Rattle.tsp_report.specs.declared.verdict.Reason.TheVariants.{DepotCount}
+use Rattle.tsp_verdict.proofs.Prelude.{◌≡◌, ◌+◌, Bool, List, map, length, refl, sym, arith, rules, FitsSigned, vec_len, w64, to_z-of_z, Fields, nodes_of, DepotCount}
 use Rattle.tsp_verdict.specs.Solutions.{NoneOfRoutesBefore}
 use Rattle.tsp_verdict.proofs.RouteVerdicts.{after_routing, customers_in, IsMarked, is_marked, repeated_first, unserved_first, all_served, none_unserved, overload_first, is_planned}
 use Rattle.tsp_verdict.proofs.RouteFiles.{as_many}

@@ -1,6 +1,5 @@
 -- The loop of `first_larger` in src/tour.rt.
-use Rattle.std.proofs.Common.{◌≡◌, ◌≤◌, ◌<◌, ℕ}
-use Rattle.std.specs.Prelude.{slice_index_or}
+use Rattle.tsp_verdict.proofs.Prelude.{◌≡◌, ◌≤◌, ◌<◌, ℕ, slice_index_or}
 use Rattle.tsp_verdict.proofs.tour.first_larger.Given as goal
 
 -- no node before this one is larger than n, and `place` is how many these are

@@ -1,6 +1,5 @@
 -- The loop of `first_of` in src/tour.rt.
-use Rattle.std.proofs.Common.{◌≡◌, ◌≢◌, ◌<◌, ℕ}
-use Rattle.std.specs.Prelude.{slice_index_or}
+use Rattle.tsp_verdict.proofs.Prelude.{◌≡◌, ◌≢◌, ◌<◌, ℕ, slice_index_or}
 use Rattle.tsp_verdict.proofs.tour.first_of.Given as goal
 
 -- no node before this one is the one sought, and `place` is how many these are

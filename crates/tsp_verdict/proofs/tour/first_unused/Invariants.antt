@@ -1,7 +1,5 @@
 -- The loop of `first_unused` in src/tour.rt.
-use Rattle.std.proofs.Common.{◌≡◌, ◌<◌, ℕ, List}
-use Rattle.std.specs.Prelude.{slice_index_or}
-use Rattle.tsp_theory.specs.Tour.{Uses}
+use Rattle.tsp_verdict.proofs.Prelude.{◌≡◌, ◌<◌, ℕ, List, slice_index_or, Uses}
 use Rattle.tsp_verdict.specs.states.Marks.{AreNext}
 use Rattle.tsp_verdict.proofs.tour.first_unused.Given as goal
 

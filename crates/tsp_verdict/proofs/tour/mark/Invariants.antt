@@ -1,6 +1,5 @@
 -- The loop of `mark` in src/tour.rt.
-use Rattle.std.proofs.Common.{◌≡◌, ◌+◌, ℕ, List}
-use Rattle.std.specs.Prelude.{vec_len}
+use Rattle.tsp_verdict.proofs.Prelude.{◌≡◌, ◌+◌, ℕ, List, vec_len}
 use Rattle.tsp_verdict.specs.states.Marks.{Marked, StandsAfter}
 use Rattle.tsp_verdict.proofs.tour.mark.Given as goal
 

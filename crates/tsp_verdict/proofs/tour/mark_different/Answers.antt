@@ -1,7 +1,6 @@
 -- The goals of `mark_different` in src/tour.rt, which marks nodes, and says whether all are new and at most n:
 -- its loop and what it ensures.
-use Rattle.std.proofs.Common.{◌≡◌, ◌≤◌, ◌<◌, ℕ, true, false, length, get_or, ◌∙◌, arith}
-use Rattle.std.proofs.lemmas.List.{length-set}
+use Rattle.tsp_verdict.proofs.Prelude.{◌≡◌, ◌≤◌, ◌<◌, ℕ, true, false, length, get_or, ◌∙◌, arith, length-set}
 use Rattle.tsp_verdict.proofs.TourVerdicts.{mark_more, small_next}
 use Rattle.tsp_verdict.proofs.tour.mark_different.Goals as goal
 

@@ -1,8 +1,6 @@
 -- The goals of `next_nodes` in src/tour.rt, which lists the next node of each node of a cycle: that indices are in
 -- range, its loop and what it ensures.
-use Rattle.std.proofs.Common.{◌≡◌, ◌+◌, ◌∷◌, [], ◌++◌, List, ℕ, suc, length, get_or, set, sym, ap, subst, ◌∙◌, arith}
-use Rattle.std.specs.Prelude.{vec_len}
-use Rattle.tsp_theory.specs.Tour.{IsCycle}
+use Rattle.tsp_verdict.proofs.Prelude.{◌≡◌, ◌+◌, ◌∷◌, [], ◌++◌, List, ℕ, suc, length, get_or, set, sym, ap, subst, ◌∙◌, arith, vec_len, IsCycle}
 use Rattle.tsp_verdict.specs.states.Marks.{AreNext}
 use Rattle.tsp_verdict.proofs.TourVerdicts.{SetUpTo, set_next, are_next, from_in, further, next_at, last_at}
 use Rattle.tsp_verdict.proofs.tour.next_nodes.Goals as goal

@@ -1,6 +1,5 @@
 -- The loop of `next_nodes` in src/tour.rt.
-use Rattle.std.proofs.Common.{◌≡◌, ◌+◌, ◌∷◌, [], ◌++◌, get_or}
-use Rattle.std.specs.Prelude.{vec_len}
+use Rattle.tsp_verdict.proofs.Prelude.{◌≡◌, ◌+◌, ◌∷◌, [], ◌++◌, get_or, vec_len}
 use Rattle.tsp_verdict.proofs.TourVerdicts.{SetUpTo}
 use Rattle.tsp_verdict.proofs.tour.next_nodes.Given as goal
 

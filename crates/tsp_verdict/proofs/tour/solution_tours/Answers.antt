@@ -1,7 +1,6 @@
 -- The goals of `solution_tours` in src/tour.rt, which returns the tours of a solution, if it has TYPE TOUR: what it
 -- ensures.
-use Rattle.std.proofs.Common.{Option, None, Some}
-use Rattle.std.specs.Prelude.{MatchOption}
+use Rattle.tsp_verdict.proofs.Prelude.{Option, None, Some, MatchOption}
 use Rattle.tsp_verdict.proofs.RouteFiles.{tours_held, no_tours}
 use Rattle.tsp_verdict.proofs.tour.solution_tours.Goals as goal
 

@@ -1,7 +1,6 @@
 -- The goals of `nearest` in src/boxes.rt, of the trait `Components` for `Labelled`: what it ensures. It returns a
 -- lightest link from a node to another component.
-use Rattle.std.proofs.Common.{◌≡◌, ℕ, ℤ, List, length, IfSome, arith, subst}
-use Rattle.std.proofs.lemmas.List.{get_or_read}
+use Rattle.tsp_bound.proofs.Prelude.{◌≡◌, ℕ, ℤ, List, length, IfSome, arith, subst, get_or_read}
 use Rattle.tsp_bound.specs.states.Boxes.{node_of}
 use Rattle.tsp_bound.specs.states.Components.{label_at, is_in_other_component, IsNearest}
 use Rattle.tsp_bound.proofs.RoundJoins.{kept_of_nearest}

@@ -1,7 +1,5 @@
 -- The goals of `ByNode::at` in src/by_node.rt, which returns the multipliers of a node's pairs: what it ensures.
-use Rattle.std.proofs.Common.{ℕ, ap, ◌∙◌}
-use Rattle.std.proofs.lemmas.List.Elements.{recursion_from_All}
-use Rattle.tsp_theory.specs.Bounds.{IsMultiplier}
+use Rattle.tsp_bound.proofs.Prelude.{ℕ, ap, ◌∙◌, recursion_from_All, IsMultiplier}
 use Rattle.tsp_bound.proofs.LoweredWeights.{are_lowerings, lowered_said}
 use Rattle.tsp_bound.proofs.by_node.ByNode.at.Goals as goal
 

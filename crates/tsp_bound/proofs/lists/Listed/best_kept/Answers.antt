@@ -1,12 +1,10 @@
 -- The goals of `Listed::best_kept` in src/lists.rt, which finds the least listed link out of a component: its loop and
 -- what it ensures.
-use Rattle.std.proofs.Common.{◌≡◌, ◌≢◌, ◌+◌, ◌-◌, ◌*◌, ◌<◌, ◌≤ℤ◌, ◌∙◌, ℕ, pos, List, length, get_or, inl, inr, arith, rules, ap, sym, subst, w64, to_z, of_z, SFits}
-use Rattle.std.proofs.lemmas.Bool.{cases_eq}
-use Rattle.std.proofs.lemmas.Int.{to_z-of_z}
-use Rattle.std.proofs.lemmas.List.{get_or_read}
+use Rattle.tsp_bound.proofs.Prelude.{◌≡◌, ◌≢◌, ◌+◌, ◌-◌, ◌*◌, ◌<◌, ◌≤ℤ◌, ◌∙◌, ℕ, pos, List, length, get_or, inl, inr, arith, rules, ap, sym, subst, w64, to_z, of_z, SFits, cases_eq, to_z-of_z, get_or_read}
+use Rattle.tsp_bound.proofs.RoundJoins.{lower_reached}
 use Rattle.tsp_bound.specs.declared.search.Link.{Link}
 use Rattle.tsp_bound.specs.states.Components.{label_at, weight_over, kept_at, empty_link, IsOwnLink}
-use Rattle.tsp_bound.proofs.Listing.{IsEnding, ending_offered, reached_offered}
+use Rattle.tsp_bound.proofs.Listing.{IsEnding, ending_offered}
 use Rattle.tsp_bound.proofs.lists.Listed.best_kept.Goals as goal
 use Rattle.tsp_bound.proofs.lists.Listed.best_kept.Goals.{then-link-ne9223372036854775807+then-index-own, else-link-ne9223372036854775807, else-link-ne9223372036854775807-via-then-link-ne9223372036854775807+else-index-own, else-link-ne9223372036854775807-via-else-link-ne9223372036854775807}
 
@@ -40,7 +38,7 @@ links-preserved g c =
             ending = ending_offered n w label from c.links.best link new c.links.invariant.ending ending u.better.ensures;
             least = λ j j_in is_one j_out. elim (cases_eq j k) [
               | inl same ↦ subst (λ (i : ℕ). new.weight ≤ℤ (kept_at links from i).weight) (sym same) (subst (λ (l : Link). new.weight ≤ℤ l.weight) link_is u.better.ensures.no_worse)
-              | inr other ↦ reached_offered c.links.best link new (kept_at links from j).weight u.better.ensures (c.links.invariant.least j (omega (arith, j_in, other)) is_one j_out)
+              | inr other ↦ lower_reached c.links.best link new (kept_at links from j).weight u.better.ensures (c.links.invariant.least j (omega (arith, j_in, other)) is_one j_out)
             ];
           })
       | else-link-ne9223372036854775807 u ↦

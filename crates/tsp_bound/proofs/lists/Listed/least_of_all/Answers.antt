@@ -1,12 +1,10 @@
 -- The goals of `Listed::least_of_all` in src/lists.rt, which finds the least link out of a component by all pairs of a
 -- place: its loop.
-use Rattle.std.proofs.Common.{◌≡◌, ◌≢◌, ◌+◌, ◌<◌, ◌≤ℤ◌, ◌∙◌, ℕ, ℤ, List, length, inl, inr, refl, arith, rules, ap, sym, subst, w64, to_z, of_z, SFits}
-use Rattle.std.proofs.lemmas.Bool.{cases_eq}
-use Rattle.std.proofs.lemmas.Int.{to_z-of_z}
-use Rattle.std.proofs.lemmas.List.{get_or_read}
+use Rattle.tsp_bound.proofs.Prelude.{◌≡◌, ◌≢◌, ◌+◌, ◌<◌, ◌≤ℤ◌, ◌∙◌, ℕ, ℤ, List, length, inl, inr, refl, arith, rules, ap, sym, subst, w64, to_z, of_z, SFits, cases_eq, to_z-of_z, get_or_read}
+use Rattle.tsp_bound.proofs.RoundJoins.{lower_reached}
 use Rattle.tsp_bound.specs.declared.search.Link.{Link}
 use Rattle.tsp_bound.specs.states.Components.{label_at, weight_over}
-use Rattle.tsp_bound.proofs.Listing.{IsEnding, ending_offered, reached_offered}
+use Rattle.tsp_bound.proofs.Listing.{IsEnding, ending_offered}
 use Rattle.tsp_bound.proofs.lists.Listed.least_of_all.Goals as goal
 use Rattle.tsp_bound.proofs.lists.Listed.least_of_all.Goals.{then-index-own, else-index-own}
 
@@ -34,7 +32,7 @@ places-preserved g c =
             ending = ending_offered n w label from c.places.best link new c.places.invariant.ending ending u.better.ensures;
             least = λ x x_in x_out. elim (cases_eq x place) [
               | inl same ↦ subst (λ (i : ℕ). new.weight ≤ℤ w from i) (sym same) (subst (λ (z : ℤ). new.weight ≤ℤ z) weight_is u.better.ensures.no_worse)
-              | inr other ↦ reached_offered c.places.best link new (w from x) u.better.ensures (c.places.invariant.least x (omega (arith, x_in, other)) x_out)
+              | inr other ↦ lower_reached c.places.best link new (w from x) u.better.ensures (c.places.invariant.least x (omega (arith, x_in, other)) x_out)
             ];
           })
       | else-index-own u ↦

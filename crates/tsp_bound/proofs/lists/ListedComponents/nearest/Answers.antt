@@ -1,11 +1,8 @@
 -- The goals of `nearest` in src/lists.rt, of the trait `Components` for `Listed`: what it ensures. It returns a
 -- lightest link from a node to another component.
-use Rattle.std.proofs.Common.{◌≡◌, ◌≢◌, ◌≤ℤ◌, ◌∙◌, ℕ, pos, length, arith, rules, ap, sym, subst, w64, to_z, of_z, SFits}
-use Rattle.std.proofs.lemmas.Int.{ints, to_z-of_z}
-use Rattle.std.proofs.lemmas.List.{get_or_read}
+use Rattle.tsp_bound.proofs.Prelude.{◌≡◌, ◌≢◌, ◌≤ℤ◌, ◌∙◌, ℕ, pos, length, arith, rules, ap, sym, subst, w64, to_z, of_z, SFits, ints, to_z-of_z, get_or_read, least_at}
 use Rattle.tsp_bound.specs.declared.search.Link.{Link}
 use Rattle.tsp_bound.specs.states.Components.{label_at, weight_over}
-use Rattle.tsp_theory.specs.states.Nearest.{least_at}
 use Rattle.tsp_bound.proofs.Searches.{no_more_seen}
 use Rattle.tsp_bound.proofs.Listing.{kept_link}
 use Rattle.tsp_bound.proofs.lists.ListedComponents.nearest.Goals as goal

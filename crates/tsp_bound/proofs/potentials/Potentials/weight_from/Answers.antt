@@ -1,8 +1,6 @@
 -- The goals of `Potentials::weight_from` in src/potentials.rt, which adds the potentials of both nodes to a scaled
 -- cost: that no sum overflows and what it ensures.
-use Rattle.std.proofs.Common.{◌-◌, ◌<◌, ℤ, length, arith, ◌∙◌}
-use Rattle.std.specs.Prelude.{pos, slice_index_or, ◌+ℤ◌}
-use Rattle.tsp_theory.proofs.Cycles.{between_size, weight_fits, weight_computed, scaled_by}
+use Rattle.tsp_bound.proofs.Prelude.{◌-◌, ◌<◌, ℤ, length, arith, ◌∙◌, pos, slice_index_or, ◌+ℤ◌, between_size, weight_fits, weight_computed, scaled_by}
 use Rattle.tsp_bound.proofs.potentials.Potentials.weight_from.Goals as goal
 
 pub overflow_add-result : goal.overflow_add-result

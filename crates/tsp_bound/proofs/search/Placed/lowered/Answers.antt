@@ -1,10 +1,8 @@
 -- The goals of `Placed::lowered` in src/search.rt, which finds the nearest node once multipliers lower weights: its
 -- loop and what it ensures.
-use Rattle.std.proofs.Common.{◌≡◌, ◌≤ℤ◌, ◌∙◌, ℕ, ℤ, arith, rules, sym, subst, w64, to_z, of_z, FitsSigned}
-use Rattle.std.proofs.lemmas.Bool.{false≢true}
-use Rattle.std.proofs.lemmas.Int.{to_z-of_z}
+use Rattle.tsp_bound.proofs.Prelude.{◌≡◌, ◌≤ℤ◌, ◌∙◌, ℕ, ℤ, arith, rules, sym, subst, w64, to_z, of_z, FitsSigned, false≢true, to_z-of_z, not_less_of}
 use Rattle.tsp_bound.specs.states.Boxes.{node_of}
-use Rattle.tsp_bound.proofs.Searches.{less_seen, not_less_seen}
+use Rattle.tsp_bound.proofs.Searches.{less_seen}
 use Rattle.tsp_bound.proofs.Lowest.{ArePlaces, AreLowered, lowest_kept, lowest_taken, lowest_end}
 use Rattle.tsp_bound.proofs.search.Placed.lowered.Goals as goal
 use Rattle.tsp_bound.proofs.search.Placed.lowered.Goals.{in-Some+then-weight-best, in-Some+else-weight-best, in_default}
@@ -32,7 +30,7 @@ lowered-preserved g c =
           rw u.best-is (lowest_taken n v listed s.order.now s.places.now outside node index c.args.unlowered best _ own.result.0 places own.ensures.listed
           found.0 found.1 found.2 (back ∙ own.ensures.weight) (subst (FitsSigned w64) (sym back) fits) better c.lowered.invariant)
       | in-Some+else-weight-best u ↦
-          let worse : best.weight ≤ℤ own.result.1 = not_less_seen own.result.1 best.weight fits best_fits u.if-weight-best.false in
+          let worse : best.weight ≤ℤ own.result.1 = not_less_of own.result.1 best.weight fits best_fits u.if-weight-best.false in
           rw u.best-is (lowest_kept n v listed s.order.now s.places.now outside node index c.args.unlowered best own.result.0 own.ensures.listed
           (λ in_x out_x. subst (λ (z : ℤ). best.weight ≤ℤ z) own.ensures.weight worse) c.lowered.invariant)
       | in_default u ↦

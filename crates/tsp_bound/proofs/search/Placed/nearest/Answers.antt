@@ -1,7 +1,6 @@
 -- The goals of `Placed::nearest` in src/search.rt, which finds the nearest node of another component: what its calls
 -- require and what it ensures.
-use Rattle.std.proofs.Common.{ℕ, ◌≡◌, ◌≢◌, sym, subst, pos, rules, ap, w64, to_z, of_z, SFits}
-use Rattle.std.proofs.lemmas.Int.{to_z-of_z}
+use Rattle.tsp_bound.proofs.Prelude.{ℕ, ◌≡◌, ◌≢◌, sym, subst, pos, rules, ap, w64, to_z, of_z, SFits, to_z-of_z}
 use Rattle.tsp_bound.specs.declared.boxes.NumberedSite.{NumberedSite}
 use Rattle.tsp_bound.specs.states.Boxes.{node_of, IsSearched, no_best}
 use Rattle.tsp_bound.proofs.Lowest.{searched_best}

@@ -1,6 +1,5 @@
 -- The goals of `Search::below` in src/search.rt, which calls itself: what it ensures.
-use Rattle.std.proofs.Common.{ℕ, ◌+◌, ◌*◌, Option, arith, rules, w64, SFits}
-use Rattle.tsp_format.specs.Nodes.{IsNode}
+use Rattle.tsp_bound.proofs.Prelude.{ℕ, ◌+◌, ◌*◌, Option, arith, rules, w64, SFits, IsNode}
 use Rattle.tsp_bound.specs.declared.area.Area.{Area}
 use Rattle.tsp_bound.specs.states.Boxes.{HoldsNode, IsSearched}
 use Rattle.tsp_bound.proofs.Searches.{searched_alone, searched_both}

@@ -1,10 +1,8 @@
 -- The goals of `Search::better_of` in src/search.rt, which compares a place with the nearest one so far: what it
 -- ensures.
-use Rattle.std.proofs.Common.{◌≡◌, ◌≤ℤ◌, ◌<ℤ◌, ◌+◌, ℕ, ℤ, length, arith, rules, sym, ◌∙◌, subst, inr, w64, to_z, of_z, SFits}
-use Rattle.std.proofs.lemmas.Int.{ints, to_z-of_z}
-use Rattle.std.proofs.lemmas.Bool.{false≢true}
+use Rattle.tsp_bound.proofs.Prelude.{◌≡◌, ◌≤ℤ◌, ◌<ℤ◌, ◌+◌, ℕ, ℤ, length, arith, rules, sym, ◌∙◌, subst, inr, w64, to_z, of_z, SFits, ints, to_z-of_z, false≢true, less_of, not_less_of}
 use Rattle.tsp_bound.specs.states.Boxes.{node_of}
-use Rattle.tsp_bound.proofs.Searches.{less_seen, below_seen, not_less_seen, searched_none, leaf_below}
+use Rattle.tsp_bound.proofs.Searches.{less_seen, searched_none, leaf_below}
 use Rattle.tsp_bound.proofs.search.Search.better_of.Goals as goal
 
 -- plan: by whether the place is outside and lighter: it is the best (`less_seen`), or isn't (`not_less_seen`)
@@ -28,7 +26,7 @@ returns-else-weight-best g c =
     let below : c.args.best.weight ≤ℤ w s.from.site.node (node_of s.order.now c.args.place) =
     subst (λ (z : ℤ). z ≤ℤ w s.from.site.node (node_of s.order.now c.args.place)) same
     (subst (λ (k : ℕ). to_z w64 (of_z w64 c.args.best.weight) ≤ℤ w s.from.site.node k) node
-    (own.ensures.no_less (subst (λ (z : ℤ). z ≤ℤ own.result) (sym same) (not_less_seen own.result c.args.best.weight fits best_fits c.if-weight-best.false)))) in
+    (own.ensures.no_less (subst (λ (z : ℤ). z ≤ℤ own.result) (sym same) (not_less_of own.result c.args.best.weight fits best_fits c.if-weight-best.false)))) in
     searched_none w s.order.now (g.S.Seen.outside_of s.seen.now) s.from.site.node (length s.order.now + c.args.place) c.args.best
     (leaf_below w s.order.now (g.S.Seen.outside_of s.seen.now) s.from.site.node c.args.place c.args.best.weight (λ mine. below))
 
@@ -43,7 +41,7 @@ returns-then-weight-best g c =
     let same = to_z-of_z w64 c.args.best.weight best_fits in
     let node = (s.sites_are c.args.place c.index-self-place.result c.requires).here in
     let value : own.result ≡ w s.from.site.node (node_of s.order.now c.args.place) = subst (λ (k : ℕ). own.result ≡ w s.from.site.node k) node
-    (own.ensures.less (subst (λ (z : ℤ). own.result <ℤ z) (sym same) (below_seen own.result c.args.best.weight fits best_fits c.if-weight-best.true))) in
+    (own.ensures.less (subst (λ (z : ℤ). own.result <ℤ z) (sym same) (less_of own.result c.args.best.weight fits best_fits c.if-weight-best.true))) in
     let is : to_z w64 (of_z w64 own.result) ≡ w s.from.site.node (node_of s.order.now c.args.place) = back ∙ value in
     record {
       kept = less_seen (to_z w64 (of_z w64 own.result)) c.args.best.weight best_fits c.if-weight-best.true;

@@ -1,12 +1,10 @@
 -- The goals of `Search::is_left_alone` in src/search.rt, which tests whether a box is too far to search: what its calls
 -- require and what it ensures.
-use Rattle.std.proofs.Common.{Option, Some, ◌≡◌, ◌≤ℤ◌, ◌+ℤ◌, ◌*ℤ◌, ℤ, rules, sym, w64, SFits, subst}
-use Rattle.std.proofs.lemmas.Int.{to_z-of_z}
+use Rattle.tsp_bound.proofs.Prelude.{Option, Some, ◌≡◌, ◌≤ℤ◌, ◌+ℤ◌, ◌*ℤ◌, ℤ, rules, sym, w64, SFits, subst, to_z-of_z, same_scale}
 use Rattle.tsp_bound.specs.declared.area.Area.{Area}
 use Rattle.tsp_bound.specs.states.Potentials.{IsInverse}
 use Rattle.tsp_bound.specs.states.Boxes.{HoldsNode}
 use Rattle.tsp_bound.proofs.Searches.{on_true_still, left_is, enough_is, best_below}
-use Rattle.tsp_theory.proofs.Sums.{same_scale}
 use Rattle.tsp_bound.proofs.search.Search.is_left_alone.Goals as goal
 
 pub cost_of-least-requires-clause-inverse : goal.cost_of-least-requires-clause-inverse

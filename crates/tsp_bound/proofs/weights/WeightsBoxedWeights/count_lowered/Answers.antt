@@ -1,7 +1,6 @@
 -- The goals of `count_lowered` in src/weights.rt, of the trait `BoxedWeights` for `Weights`: what it ensures. It counts
 -- the nodes to which a node's weight may be lowered.
-use Rattle.std.proofs.Common.{◌≢◌, ◌<◌, ℕ, List, ℤ, length, map, arith, sym, subst}
-use Rattle.std.proofs.lemmas.Int.{ints}
+use Rattle.tsp_bound.proofs.Prelude.{◌≢◌, ◌<◌, ℕ, List, ℤ, length, map, arith, sym, subst, ints}
 use Rattle.tsp_bound.specs.states.ByNode.{node_in}
 use Rattle.tsp_bound.proofs.LoweredWeights.{none_lowered, none_listed, lowered_size}
 use Rattle.tsp_bound.proofs.weights.WeightsBoxedWeights.count_lowered.Goals as goal

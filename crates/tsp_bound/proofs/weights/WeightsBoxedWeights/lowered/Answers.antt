@@ -1,12 +1,6 @@
 -- The goals of `lowered` in src/weights.rt, of the trait `BoxedWeights` for `Weights`: that no sum overflows and what
 -- it ensures. It returns one of the nodes to which a node's weight may be lowered, and the weight.
-use Rattle.std.proofs.Common.{◌<◌, ℕ, List, ℤ, length, get_or, arith, ap, sym, ◌∙◌}
-use Rattle.std.specs.Int.{w64}
-use Rattle.std.specs.Prelude.{pos}
-use Rattle.std.proofs.Math.ListN.{get_or-map}
-use Rattle.std.proofs.lemmas.Int.{ints, to_z-of_z}
-use Rattle.std.proofs.lemmas.List.{get_or_default, length-map}
-use Rattle.tsp_theory.proofs.Cycles.{lower_fits, lower_is}
+use Rattle.tsp_bound.proofs.Prelude.{◌<◌, ℕ, List, ℤ, length, get_or, arith, ap, sym, ◌∙◌, w64, pos, get_or-map, ints, to_z-of_z, get_or_default, length-map, lower_fits, lower_is}
 use Rattle.tsp_bound.specs.states.ByNode.{all_said_of}
 use Rattle.tsp_bound.specs.states.Potentials.{triples_in}
 use Rattle.tsp_bound.proofs.LoweredWeights.{one_lowered}

@@ -1,11 +1,6 @@
 -- The goals of `weight_within` in src/weights.rt, of the trait `BoxedWeights` for `Weights`: that no sum overflows and
 -- what it ensures. It returns the weight before it is lowered, if that is less than a number.
-use Rattle.std.proofs.Common.{◌-◌, ◌∙◌, ℤ, arith, rules, ap, ap₂, sym, subst, w64, to_z, of_z, SFits}
-use Rattle.std.specs.Prelude.{pos, neg_ℤ, ◌+ℤ◌, ◌*ℤ◌, ◌≤ℤ◌}
-use Rattle.tsp_format.specs.Limits.{most_potential}
-use Rattle.tsp_format.specs.Steps.{IsFromTo}
-use Rattle.std.proofs.lemmas.Int.{to_z-of_z}
-use Rattle.tsp_theory.proofs.Cycles.{weight_fits, weight_computed, scaled_by}
+use Rattle.tsp_bound.proofs.Prelude.{◌-◌, ◌∙◌, ℤ, arith, rules, ap, ap₂, sym, subst, w64, to_z, of_z, SFits, pos, neg_ℤ, ◌+ℤ◌, ◌*ℤ◌, ◌≤ℤ◌, most_potential, IsFromTo, to_z-of_z, weight_fits, weight_computed, scaled_by}
 use Rattle.tsp_bound.proofs.weights.WeightsBoxedWeights.weight_within.Goals as goal
 
 pub overflow_add-result : goal.overflow_add-result

@@ -1,11 +1,6 @@
 -- The goals of `fill` in src/weights.rt, of the trait `Weights` of tsp_bound for `Weights`: what it ensures. It writes
 -- the weights between a node and each node into a row.
-use Rattle.std.proofs.Common.{◌≡◌, ℕ, arith}
-use Rattle.std.specs.Prelude.{◌<ℤ◌}
-use Rattle.std.proofs.lemmas.Int.{ints}
-use Rattle.tsp_format.specs.Nodes.{IsNode}
-use Rattle.tsp_theory.specs.states.Nearest.{least_at}
-use Rattle.tsp_theory.proofs.Sums.{most_64}
+use Rattle.tsp_bound.proofs.Prelude.{◌≡◌, ℕ, arith, ◌<ℤ◌, ints, IsNode, least_at, most_64}
 use Rattle.tsp_bound.specs.states.Potentials.{weight_under, triples_in, weight_less}
 use Rattle.tsp_bound.specs.states.ByNode.{AreLowerings}
 use Rattle.tsp_bound.proofs.LoweredWeights.{lowered_to}

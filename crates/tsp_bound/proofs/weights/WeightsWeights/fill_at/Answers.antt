@@ -1,10 +1,6 @@
 -- The goals of `fill_at` in src/weights.rt, of the trait `Weights` of tsp_bound for `Weights`: what it ensures. It
 -- writes the weights between a node and some nodes into a row.
-use Rattle.std.proofs.Common.{◌≡◌, ◌<◌, length, slice_index, ℕ, arith}
-use Rattle.std.specs.Prelude.{◌<ℤ◌}
-use Rattle.std.proofs.lemmas.Int.{ints}
-use Rattle.tsp_theory.specs.states.Nearest.{least_at}
-use Rattle.tsp_theory.proofs.Sums.{most_64}
+use Rattle.tsp_bound.proofs.Prelude.{◌≡◌, ◌<◌, length, slice_index, ℕ, arith, ◌<ℤ◌, ints, least_at, most_64}
 use Rattle.tsp_bound.specs.states.Potentials.{weight_under, triples_in, weight_less}
 use Rattle.tsp_bound.specs.states.ByNode.{AreLowerings}
 use Rattle.tsp_bound.proofs.LoweredWeights.{lowered_to}

@@ -1,13 +1,6 @@
 -- The goals of `BoxedLeaf::base` in src/boxed.rt, which adds a cost at the scale and the numbers of both nodes:
 -- that no sum overflows and what it ensures.
-use Rattle.std.proofs.Common.{◌-◌, ◌*◌, ℤ, ap, subst, arith}
-use Rattle.std.specs.Prelude.{pos, neg_ℤ, ◌*ℤ◌}
-use Rattle.std.proofs.lemmas.Int.{ints}
-use Rattle.tsp_format.specs.Limits.{most_scale, most_weight}
-use Rattle.tsp_format.specs.Steps.{IsFromTo}
-use Rattle.tsp_theory.specs.Bounds.{entry}
-use Rattle.tsp_theory.proofs.Cycles.{between_size}
-use Rattle.tsp_theory.proofs.Sums.{product_fits, product_is, scaled_size}
+use Rattle.tsp_branch.proofs.Prelude.{◌-◌, ◌*◌, ℤ, ap, subst, arith, pos, neg_ℤ, ◌*ℤ◌, ints, most_scale, most_weight, IsFromTo, entry, between_size, product_fits, product_is, scaled_size}
 use Rattle.tsp_branch.proofs.boxed.BoxedLeaf.base.Goals as goal
 
 -- plan: the product of scale and cost fits 64 bits (`product_fits`), and so does the sum with both numbers

@@ -1,15 +1,5 @@
 -- The goals of `BoxedLeaf::change` in src/boxed.rt, which returns what decisions add to a weight: what it ensures.
-use Rattle.std.proofs.Common.{◌≡◌, ◌∙◌, ℤ, Bool, List, ap, sym, subst, arith, rules, to_z, of_z, FitsSigned}
-use Rattle.std.specs.Int.{w64, int_wrap}
-use Rattle.std.specs.Prelude.{neg_ℤ}
-use Rattle.std.specs.List.{filter}
-use Rattle.std.proofs.lemmas.Int.{ints, to_z-of_z, int_wrap_fits}
-use Rattle.tsp_format.specs.Steps.{IsFromTo}
-use Rattle.tsp_cases.specs.declared.open_case.Decision.{Decision}
-use Rattle.tsp_cases.specs.Cases.{decided_number}
-use Rattle.tsp_cases.specs.states.OpenCases.{changes, stack_of, bears_on, decisions_in}
-use Rattle.tsp_cases.proofs.SetSums.{within}
-use Rattle.tsp_cases.proofs.OpenCases.{changes_listed}
+use Rattle.tsp_branch.proofs.Prelude.{◌≡◌, ◌∙◌, ℤ, Bool, List, ap, sym, subst, arith, rules, to_z, of_z, FitsSigned, w64, int_wrap, neg_ℤ, filter, ints, to_z-of_z, int_wrap_fits, IsFromTo, Decision, decided_number, changes, stack_of, bears_on, decisions_in, within, changes_listed}
 use Rattle.tsp_branch.proofs.boxed.BoxedLeaf.change.Goals as goal
 
 -- plan: the list of the node with fewer decisions has those of the pair (`changes_listed`)

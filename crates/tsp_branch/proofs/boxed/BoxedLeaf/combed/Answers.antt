@@ -1,15 +1,7 @@
 -- The goals of `BoxedLeaf::combed` in src/boxed.rt, which returns a weight without decisions, from the weight
 -- without the sets of both nodes: the facts of the values that it makes, what its calls require and what it ensures.
-use Rattle.std.proofs.Common.{◌≡◌, ◌∙◌, ℕ, ℤ, List, ap, ap₂, sym, subst, arith, rules, to_z, of_z, FitsSigned}
-use Rattle.std.specs.Int.{w64, int_wrap}
-use Rattle.std.specs.Prelude.{◌+ℤ◌}
-use Rattle.std.specs.List.{All}
-use Rattle.std.proofs.lemmas.Int.{to_z-of_z}
-use Rattle.tsp_theory.specs.states.Nearest.{least_at}
-use Rattle.tsp_cases.specs.declared.sets.SetPlace.{SetPlace}
-use Rattle.tsp_cases.specs.states.Sets.{IsPlaceIn, places_with, lent_in, inside_both}
+use Rattle.tsp_branch.proofs.Prelude.{◌≡◌, ◌∙◌, ℕ, ℤ, List, ap, ap₂, sym, subst, arith, rules, to_z, of_z, FitsSigned, w64, int_wrap, ◌+ℤ◌, All, to_z-of_z, least_at, SetPlace, IsPlaceIn, places_with, lent_in, inside_both, places_inside, small_multipliers}
 use Rattle.tsp_branch.specs.states.LeafRows.{shared_by}
-use Rattle.tsp_cases.proofs.SetSums.{places_inside, small_multipliers}
 use Rattle.tsp_branch.proofs.BoxedLeaves.{shared_is, boxed_at}
 use Rattle.tsp_branch.proofs.boxed.BoxedLeaf.combed.Goals as goal
 
@@ -18,7 +10,7 @@ invariant_of-multipliers g c =
     let leaf = c.args.self.now.leaf.now in
     let families = leaf.context.now.families.now in
     record {
-      as_many = leaf.numbers.each_comb ∙ families.as_many;
+      as_many = leaf.numbers.each_family ∙ families.as_many;
       small = small_multipliers _ families.crossed.items _ _ families.some leaf.numbers;
     }
 
@@ -28,7 +20,7 @@ shared_by-shared-requires g c = λ k d lt.
     let families : List (List (List ℕ)) = lent_in q.context.now.families.now in
     let places_are : c.deref-2.result.now ≡ places_with 0 families c.args.from = c.deref-2.ensures.value ∙ q.context.now.table.said c.args.from c.index-context-from.result c.requires.from.1 in
     let own = (subst (All (IsPlaceIn families)) (sym places_are) (places_inside families c.args.from)) k d lt in
-    omega (arith, own.0, (q.numbers.each_comb ∙ q.context.now.families.now.as_many), q.context.now.families.now.many, q.context.now.families.now.as_many)
+    omega (arith, own.0, (q.numbers.each_family ∙ q.context.now.families.now.as_many), q.context.now.families.now.many, q.context.now.families.now.as_many)
 
 -- plan: the base with the multipliers of the sets that have both nodes is the weight by sets (`boxed_at`), in 64 bits
 pub returns : goal.returns

@@ -1,7 +1,6 @@
 -- The goals of `BoxedLeaf::decided` in src/boxed.rt, which returns the weight between two nodes: that no sum
 -- overflows and what it ensures.
-use Rattle.std.proofs.Common.{arith}
-use Rattle.std.proofs.lemmas.Int.{ints}
+use Rattle.tsp_branch.proofs.Prelude.{arith, ints}
 use Rattle.tsp_branch.proofs.boxed.BoxedLeaf.decided.Goals as goal
 
 -- plan: the base, what the sets add and what the decisions add fit 64 bits, so their sum is the weight in the leaf

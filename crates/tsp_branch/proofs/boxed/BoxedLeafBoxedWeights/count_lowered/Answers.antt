@@ -1,12 +1,7 @@
 -- The goals of `count_lowered` in src/boxed.rt, of the trait `BoxedWeights` for `BoxedLeaf`: what it ensures. It
 -- counts the nodes to which a node's weight may be lowered.
-use Rattle.std.proofs.Common.{◌≡◌, ◌∙◌, Bool, List, length, ap, sym, subst}
-use Rattle.std.specs.List.{filter}
-use Rattle.std.proofs.lemmas.List.{length-map}
-use Rattle.tsp_cases.specs.declared.open_case.Decision.{Decision}
-use Rattle.tsp_cases.specs.states.OpenCases.{stack_of, bears_on, decisions_in}
+use Rattle.tsp_branch.proofs.Prelude.{◌≡◌, ◌∙◌, Bool, List, length, ap, sym, subst, filter, length-map, Decision, stack_of, bears_on, decisions_in, lent_in, set_weight}
 use Rattle.tsp_branch.specs.states.LeafRows.{other_of}
-use Rattle.tsp_cases.specs.states.Sets.{lent_in, set_weight}
 use Rattle.tsp_branch.proofs.BoxedLeaves.{listed_is, lowered_no_more, others_same}
 use Rattle.tsp_branch.proofs.boxed.BoxedLeafBoxedWeights.count_lowered.Goals as goal
 

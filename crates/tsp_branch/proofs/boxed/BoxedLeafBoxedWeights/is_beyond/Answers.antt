@@ -1,10 +1,6 @@
 -- The goals of `is_beyond` in src/boxed.rt, of the trait `BoxedWeights` for `BoxedLeaf`: what it ensures. It says
 -- whether all nodes of a region are known to cost at least a number.
-use Rattle.std.proofs.Common.{◌∙◌, refl}
-use Rattle.tsp_theory.specs.states.Nearest.{least_at}
-use Rattle.tsp_cases.specs.states.Sets.{lent_in}
-use Rattle.tsp_cases.specs.states.OpenCases.{decisions_in}
-use Rattle.tsp_cases.proofs.SetSums.{small_multipliers}
+use Rattle.tsp_branch.proofs.Prelude.{◌∙◌, refl, least_at, lent_in, decisions_in, small_multipliers}
 use Rattle.tsp_branch.proofs.BoxedLeaves.{base_below}
 use Rattle.tsp_branch.proofs.boxed.BoxedLeafBoxedWeights.is_beyond.Goals as goal
 
@@ -20,4 +16,4 @@ returns-clause-above g c = λ to node.
     q.context.now.families.now.once (p.exact c.args.from.now.node c.requires.node_in).0 (p.exact to node).0 refl
     (decisions_in p.leaf.now.case.now) (small_multipliers _ q.context.now.families.now.crossed.items _ _
     q.context.now.families.now.some q.numbers)
-    (q.numbers.each_comb ∙ q.context.now.families.now.as_many) q.context.now.families.now.many q.context.now.families.now.as_many
+    (q.numbers.each_family ∙ q.context.now.families.now.as_many) q.context.now.families.now.many q.context.now.families.now.as_many

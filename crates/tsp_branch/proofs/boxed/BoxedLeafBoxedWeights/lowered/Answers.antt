@@ -1,19 +1,8 @@
 -- The goals of `lowered` in src/boxed.rt, of the trait `BoxedWeights` for `BoxedLeaf`: that indices are in range,
 -- what its calls require and what it ensures. It returns one of the nodes to which a node's weight may be lowered, and
 -- the weight.
-use Rattle.std.proofs.Common.{◌≡◌, ◌∙◌, ◌<◌, ◌==◌, Bool, true, false, List, length, get_or, refl, inl, inr, ap, sym, subst, arith, rules, FitsSigned}
-use Rattle.std.specs.Int.{w64}
-use Rattle.std.specs.Prelude.{if◌then◌else◌}
-use Rattle.std.specs.List.{filter}
-use Rattle.std.proofs.lemmas.Bool.{cases_Bool, eq-eqb, ne_eqb}
-use Rattle.std.proofs.lemmas.Int.{to_z-of_z}
-use Rattle.std.proofs.lemmas.List.{length-map}
-use Rattle.tsp_format.specs.Nodes.{IsNode}
-use Rattle.tsp_cases.specs.declared.open_case.Decision.{Decision}
-use Rattle.tsp_cases.specs.states.Sets.{lent_in, set_weight}
-use Rattle.tsp_cases.specs.states.OpenCases.{IsDecision, stack_of, bears_on, decisions_in}
+use Rattle.tsp_branch.proofs.Prelude.{◌≡◌, ◌∙◌, ◌<◌, ◌==◌, Bool, true, false, List, length, get_or, refl, inl, inr, ap, sym, subst, arith, rules, FitsSigned, w64, if◌then◌else◌, filter, cases_Bool, eq-eqb, ne_eqb, to_z-of_z, length-map, IsNode, Decision, lent_in, set_weight, IsDecision, stack_of, bears_on, decisions_in, changes_are}
 use Rattle.tsp_branch.specs.states.LeafRows.{other_of, others_of}
-use Rattle.tsp_cases.proofs.SetSums.{changes_are}
 use Rattle.tsp_branch.proofs.CaseLeaves.{all_passed}
 use Rattle.tsp_branch.proofs.BoxedLeaves.{listed_is, listed_at_index}
 use Rattle.tsp_branch.proofs.boxed.BoxedLeafBoxedWeights.lowered.Goals as goal

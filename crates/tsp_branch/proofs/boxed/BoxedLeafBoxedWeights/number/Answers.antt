@@ -1,12 +1,6 @@
 -- The goals of `number` in src/boxed.rt, of the trait `BoxedWeights` for `BoxedLeaf`: what it ensures. It returns
 -- what a node adds to its weights.
-use Rattle.std.proofs.Common.{◌≡◌, ◌∙◌, ℤ, sym, subst, rules, to_z, of_z, FitsSigned}
-use Rattle.std.specs.Int.{w64}
-use Rattle.std.specs.Prelude.{pos, neg_ℤ}
-use Rattle.std.proofs.lemmas.Int.{to_z-of_z}
-use Rattle.tsp_format.specs.Steps.{IsFromTo}
-use Rattle.tsp_theory.specs.Bounds.{most_number}
-use Rattle.tsp_theory.specs.states.Nearest.{least_at}
+use Rattle.tsp_branch.proofs.Prelude.{◌≡◌, ◌∙◌, ℤ, sym, subst, rules, to_z, of_z, FitsSigned, w64, pos, neg_ℤ, to_z-of_z, IsFromTo, most_number, least_at}
 use Rattle.tsp_branch.proofs.boxed.BoxedLeafBoxedWeights.number.Goals as goal
 
 -- plan: the number of the node, as 64 bits hold it

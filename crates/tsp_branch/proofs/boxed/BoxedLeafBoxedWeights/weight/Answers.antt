@@ -1,10 +1,5 @@
 -- The goals of `weight` in src/boxed.rt, of the trait `BoxedWeights` for `BoxedLeaf`: what it ensures.
-use Rattle.std.proofs.Common.{◌∙◌, sym, rules, FitsSigned}
-use Rattle.std.specs.Int.{w64}
-use Rattle.std.proofs.lemmas.Int.{to_z-of_z}
-use Rattle.tsp_cases.specs.states.Sets.{lent_in, set_weight}
-use Rattle.tsp_cases.specs.states.OpenCases.{decisions_in}
-use Rattle.tsp_cases.proofs.SetSums.{changes_are}
+use Rattle.tsp_branch.proofs.Prelude.{◌∙◌, sym, rules, FitsSigned, w64, to_z-of_z, lent_in, set_weight, decisions_in, changes_are}
 use Rattle.tsp_branch.proofs.boxed.BoxedLeafBoxedWeights.weight.Goals as goal
 
 -- plan: the weight with the changes of both nodes is the leaf's (`changes_are`)

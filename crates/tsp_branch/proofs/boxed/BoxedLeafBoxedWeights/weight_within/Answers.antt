@@ -1,16 +1,8 @@
 -- The goals of `weight_within` in src/boxed.rt, of the trait `BoxedWeights` for `BoxedLeaf`: what it ensures. It
 -- returns the weight before it is lowered, if that is less than a number.
-use Rattle.std.proofs.Common.{◌≡◌, ◌∙◌, ℤ, List, ◌≤ℤ◌, ◌<ℤ◌, ap, sym, subst, arith, rules, to_z, of_z, FitsSigned}
-use Rattle.std.specs.Int.{w64}
-use Rattle.std.specs.Prelude.{pos, ◌+ℤ◌}
-use Rattle.std.proofs.lemmas.Int.{ints, to_z-of_z}
-use Rattle.tsp_theory.specs.states.Nearest.{least_at}
-use Rattle.tsp_bound.proofs.Searches.{below_seen, not_less_seen}
-use Rattle.tsp_cases.specs.declared.open_case.Decision.{Decision}
-use Rattle.tsp_cases.specs.states.Sets.{lent_in, set_weight}
-use Rattle.tsp_cases.specs.states.OpenCases.{changes, decisions_in}
+use Rattle.tsp_branch.proofs.Prelude.{◌≡◌, ◌∙◌, ℤ, List, ◌≤ℤ◌, ◌<ℤ◌, ap, sym, subst, arith, rules, to_z, of_z, FitsSigned, w64, pos, ◌+ℤ◌, ints, to_z-of_z, least_at, Decision, lent_in, set_weight, changes, decisions_in, small_multipliers}
+use Rattle.tsp_theory.proofs.Trees.{less_of, not_less_of}
 use Rattle.tsp_branch.specs.states.LeafRows.{upwards, raised}
-use Rattle.tsp_cases.proofs.SetSums.{small_multipliers}
 use Rattle.tsp_branch.proofs.BoxedLeaves.{base_below, upwards_less, upwards_same}
 use Rattle.tsp_branch.proofs.boxed.BoxedLeafBoxedWeights.weight_within.Goals as goal
 
@@ -30,7 +22,7 @@ returns-then-base-most-clause-no_less g c = λ above.
     (p.exact c.args.from.now.site.node c.requires.from.site.node_in).0
     (p.exact c.args.to.now.site.node c.requires.to.site.node_in).0 c.base-base.ensures.value case
     (small_multipliers _ q.context.now.families.now.crossed.items _ _ q.context.now.families.now.some q.numbers)
-    (q.numbers.each_comb ∙ q.context.now.families.now.as_many) q.context.now.families.now.many q.context.now.families.now.as_many in
+    (q.numbers.each_family ∙ q.context.now.families.now.as_many) q.context.now.families.now.many q.context.now.families.now.as_many in
     omega (arith, ints, above, back, below)
 
 pub returns-then-change-lt0-clause-less : goal.returns-then-change-lt0-clause-less
@@ -43,7 +35,7 @@ returns-then-change-lt0-clause-less g c = λ low.
     let change_fits : FitsSigned w64 c.change-change.result = search rules in
     let fits : FitsSigned w64 c.combed-combed.result = search rules in
     let zero_fits : FitsSigned w64 (pos 0) = omega (arith, ints) in
-    let less : change <ℤ pos 0 = below_seen change (pos 0) change_fits zero_fits c.if-change-lt0.true in
+    let less : change <ℤ pos 0 = less_of change (pos 0) change_fits zero_fits c.if-change-lt0.true in
     let none : upwards (changes case c.args.from.now.site.node c.args.to.now.site.node) ≡ pos 0 = ap upwards (sym c.change-change.ensures.value) ∙ upwards_less change less in
     let is : to_z w64 (of_z w64 c.combed-combed.result) ≡ raised case w c.args.from.now.site.node c.args.to.now.site.node =
     to_z-of_z w64 c.combed-combed.result fits ∙ (let value = c.combed-combed.ensures.value in omega (arith, ints, value, none)) in
@@ -59,7 +51,7 @@ returns-then-change-lt0-clause-no_less g c = λ above.
     let change_fits : FitsSigned w64 c.change-change.result = search rules in
     let fits : FitsSigned w64 c.combed-combed.result = search rules in
     let zero_fits : FitsSigned w64 (pos 0) = omega (arith, ints) in
-    let less : change <ℤ pos 0 = below_seen change (pos 0) change_fits zero_fits c.if-change-lt0.true in
+    let less : change <ℤ pos 0 = less_of change (pos 0) change_fits zero_fits c.if-change-lt0.true in
     let none : upwards (changes case c.args.from.now.site.node c.args.to.now.site.node) ≡ pos 0 = ap upwards (sym c.change-change.ensures.value) ∙ upwards_less change less in
     let is : to_z w64 (of_z w64 c.combed-combed.result) ≡ raised case w c.args.from.now.site.node c.args.to.now.site.node =
     to_z-of_z w64 c.combed-combed.result fits ∙ (let value = c.combed-combed.ensures.value in omega (arith, ints, value, none)) in
@@ -74,7 +66,7 @@ returns-else-change-lt0-clause-less g c = λ low.
     let change : ℤ = c.change-change.result in
     let change_fits : FitsSigned w64 c.change-change.result = search rules in
     let zero_fits : FitsSigned w64 (pos 0) = omega (arith, ints) in
-    let some : pos 0 ≤ℤ change = not_less_seen change (pos 0) change_fits zero_fits c.if-change-lt0.false in
+    let some : pos 0 ≤ℤ change = not_less_of change (pos 0) change_fits zero_fits c.if-change-lt0.false in
     let all : upwards (changes case c.args.from.now.site.node c.args.to.now.site.node) ≡ change = ap upwards (sym c.change-change.ensures.value) ∙ upwards_same change some in
     let is : to_z w64 (of_z w64 (to_z w64 (of_z w64 c.combed-combed.result) +ℤ to_z w64 (of_z w64 c.change-change.result))) ≡ raised case w c.args.from.now.site.node c.args.to.now.site.node =
     (let value = c.combed-combed.ensures.value in let a = c.combed-combed.ensures.size in let b = c.change-change.ensures.size in omega (arith, ints, value, all, a.0, a.1, b.0, b.1)) in
@@ -89,7 +81,7 @@ returns-else-change-lt0-clause-no_less g c = λ above.
     let change : ℤ = c.change-change.result in
     let change_fits : FitsSigned w64 c.change-change.result = search rules in
     let zero_fits : FitsSigned w64 (pos 0) = omega (arith, ints) in
-    let some : pos 0 ≤ℤ change = not_less_seen change (pos 0) change_fits zero_fits c.if-change-lt0.false in
+    let some : pos 0 ≤ℤ change = not_less_of change (pos 0) change_fits zero_fits c.if-change-lt0.false in
     let all : upwards (changes case c.args.from.now.site.node c.args.to.now.site.node) ≡ change = ap upwards (sym c.change-change.ensures.value) ∙ upwards_same change some in
     let is : to_z w64 (of_z w64 (to_z w64 (of_z w64 c.combed-combed.result) +ℤ to_z w64 (of_z w64 c.change-change.result))) ≡ raised case w c.args.from.now.site.node c.args.to.now.site.node =
     (let value = c.combed-combed.ensures.value in let a = c.combed-combed.ensures.size in let b = c.change-change.ensures.size in omega (arith, ints, value, all, a.0, a.1, b.0, b.1)) in

@@ -1,11 +1,6 @@
 -- The goals of `AllowedRows::bound` in src/case_leaf.rt, which bounds a case of an ATSP by least links: what it
 -- ensures.
-use Rattle.std.proofs.Common.{ℤ, rules, FitsSigned, to_z, of_z, subst, sym}
-use Rattle.std.specs.Prelude.{◌+ℤ◌}
-use Rattle.std.specs.Int.{w128}
-use Rattle.std.proofs.lemmas.Int.{to_z-of_z}
-use Rattle.tsp_theory.specs.Bounds.{IsLeastBound}
-use Rattle.tsp_theory.proofs.Sums.{same_scale}
+use Rattle.tsp_branch.proofs.Prelude.{ℤ, rules, FitsSigned, to_z, of_z, subst, sym, ◌+ℤ◌, w128, to_z-of_z, IsLeastBound, same_scale}
 use Rattle.tsp_branch.proofs.CaseLeaves.{with_back}
 use Rattle.tsp_branch.proofs.case_leaf.AllowedRows.bound.Goals as goal
 

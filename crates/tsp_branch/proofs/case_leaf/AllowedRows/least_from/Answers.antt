@@ -1,12 +1,7 @@
 -- The goals of `AllowedRows::least_from` in src/case_leaf.rt, which finds the least allowed link from a node: what its
 -- calls require and what it ensures.
-use Rattle.std.proofs.Common.{◌≡◌, ◌+◌, ◌∙◌, Bool, length, inl, inr, arith, rules, FitsSigned, to_z, of_z, ap, sym, subst}
-use Rattle.std.specs.Int.{w64}
-use Rattle.std.specs.List.{filter}
-use Rattle.std.proofs.lemmas.Int.{ints, to_z-of_z}
-use Rattle.tsp_cases.specs.CaseTrees.{IsLeastFrom}
+use Rattle.tsp_branch.proofs.Prelude.{◌≡◌, ◌+◌, ◌∙◌, Bool, length, inl, inr, arith, rules, FitsSigned, to_z, of_z, ap, sym, subst, w64, filter, ints, to_z-of_z, IsLeastFrom, stack_of, bears_on, decisions_in}
 use Rattle.tsp_branch.specs.states.LeafRows.{no_link, IsOpenRow}
-use Rattle.tsp_cases.specs.states.OpenCases.{stack_of, bears_on, decisions_in}
 use Rattle.tsp_branch.proofs.CaseLeaves.{ends_inside, none_allowed, least_allowed}
 use Rattle.tsp_branch.proofs.case_leaf.AllowedRows.least_from.Goals as goal
 

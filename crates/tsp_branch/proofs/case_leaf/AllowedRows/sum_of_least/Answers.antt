@@ -1,10 +1,6 @@
 -- The goals of `AllowedRows::sum_of_least` in src/case_leaf.rt, which sums the least links of all nodes of an ATSP: its
 -- loop and what it ensures.
-use Rattle.std.proofs.Common.{◌+◌, ◌≤◌, ◌∙◌, ℤ, arith, rules, FitsSigned, to_z}
-use Rattle.std.specs.Int.{w64, w128}
-use Rattle.std.proofs.lemmas.Int.{ints, to_z-of_z}
-use Rattle.tsp_format.specs.Limits.{most_nodes}
-use Rattle.tsp_cases.specs.states.OpenCases.{decisions_in}
+use Rattle.tsp_branch.proofs.Prelude.{◌+◌, ◌≤◌, ◌∙◌, ℤ, arith, rules, FitsSigned, to_z, w64, w128, ints, to_z-of_z, most_nodes, decisions_in}
 use Rattle.tsp_branch.proofs.CaseLeaves.{sum_none, sum_more, size_more, sum_computed}
 use Rattle.tsp_branch.proofs.case_leaf.AllowedRows.sum_of_least.Goals as goal
 

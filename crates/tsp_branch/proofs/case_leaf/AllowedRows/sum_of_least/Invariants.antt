@@ -1,7 +1,5 @@
 -- The loop of `AllowedRows::sum_of_least` in src/case_leaf.rt, which sums the least links of all nodes of an ATSP.
-use Rattle.tsp_theory.specs.Bounds.{IsSumSized}
-use Rattle.tsp_cases.specs.CaseTrees.{IsSumOfLeast}
-use Rattle.tsp_cases.specs.states.OpenCases.{decisions_in}
+use Rattle.tsp_branch.proofs.Prelude.{IsSumSized, IsSumOfLeast, decisions_in}
 use Rattle.tsp_branch.proofs.case_leaf.AllowedRows.sum_of_least.Given as goal
 
 -- `sum` is that of the least weights from the first nodes, as many as `index`

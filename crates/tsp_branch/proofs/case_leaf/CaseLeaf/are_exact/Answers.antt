@@ -1,18 +1,7 @@
 -- The goals of `CaseLeaf::are_exact` in src/leaf_rows.rt, which tests whether boxes suit the numbers of a leaf: its
 -- loop, the facts of the values that it makes, what its calls require and what it ensures.
-use Rattle.std.proofs.Common.{◌≡◌, ◌∙◌, ◌-◌, ℕ, ℤ, List, inl, inr, ap, sym, subst, arith, rules, FitsSigned}
-use Rattle.std.specs.Int.{w64, int_wrap}
-use Rattle.std.specs.Prelude.{pos, neg_ℤ, ◌+ℤ◌}
-use Rattle.std.specs.List.{All}
-use Rattle.std.proofs.lemmas.Bool.{cases_eq}
-use Rattle.std.proofs.lemmas.Int.{ints, int_wrap_fits}
-use Rattle.tsp_format.specs.Nodes.{IsNode}
-use Rattle.tsp_format.specs.Steps.{IsFromTo}
-use Rattle.tsp_theory.specs.Bounds.{entry, most_number}
-use Rattle.tsp_theory.specs.states.Nearest.{least_at}
-use Rattle.tsp_cases.specs.states.Sets.{IsPlaceIn, places_with, lent_in, multipliers_at}
+use Rattle.tsp_branch.proofs.Prelude.{◌≡◌, ◌∙◌, ◌-◌, ℕ, ℤ, List, inl, inr, ap, sym, subst, arith, rules, FitsSigned, w64, int_wrap, pos, neg_ℤ, ◌+ℤ◌, All, cases_eq, ints, int_wrap_fits, IsNode, IsFromTo, entry, most_number, least_at, IsPlaceIn, places_with, lent_in, multipliers_at, within, places_inside, small_multipliers}
 use Rattle.tsp_branch.specs.states.LeafRows.{sum_at_places}
-use Rattle.tsp_cases.proofs.SetSums.{within, places_inside, small_multipliers}
 use Rattle.tsp_branch.proofs.BoxedLeaves.{number_is}
 use Rattle.tsp_branch.proofs.case_leaf.CaseLeaf.are_exact.Goals as goal
 
@@ -21,7 +10,7 @@ invariant_of-multipliers g c =
     let leaf = c.args.self.now in
     let families = leaf.context.now.families.now in
     record {
-      as_many = leaf.numbers.each_comb ∙ families.as_many;
+      as_many = leaf.numbers.each_family ∙ families.as_many;
       small = small_multipliers _ families.crossed.items _ _ families.some leaf.numbers;
     }
 
@@ -32,7 +21,7 @@ are_few-requires g c = λ k d lt.
     let node_in : IsNode (g.C.Costs.nodes q.context.now.costs.now) c.nodes.node = (omega (arith, c.nodes.auto.node), omega (arith, c.nodes-test.true, c.count-node-end.ensures.value)) in
     let places_are : c.deref.result.now ≡ places_with 0 families c.nodes.node = c.deref.ensures.value ∙ q.context.now.table.said c.nodes.node c.index-self-node.result node_in.1 in
     let own = (subst (All (IsPlaceIn families)) (sym places_are) (places_inside families c.nodes.node)) k d lt in
-    omega (arith, own.0, (q.numbers.each_comb ∙ q.context.now.families.now.as_many), q.context.now.families.now.many, q.context.now.families.now.as_many)
+    omega (arith, own.0, (q.numbers.each_family ∙ q.context.now.families.now.as_many), q.context.now.families.now.many, q.context.now.families.now.as_many)
 
 -- plan: the multipliers at a node are few, so its potential less these fits 64 bits, and the wrapped number is the
 -- exact one

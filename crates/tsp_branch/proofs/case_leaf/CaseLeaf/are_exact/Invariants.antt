@@ -1,10 +1,5 @@
 -- The loop of `CaseLeaf::are_exact` in src/leaf_rows.rt, which tests whether boxes suit the numbers of a leaf.
-use Rattle.std.proofs.Common.{◌≡◌, ◌≤◌, ◌<◌, ℕ}
-use Rattle.std.specs.Prelude.{pos, neg_ℤ, ◌+ℤ◌}
-use Rattle.tsp_format.specs.Steps.{IsFromTo}
-use Rattle.tsp_theory.specs.Bounds.{entry, most_number}
-use Rattle.tsp_theory.specs.states.Nearest.{least_at}
-use Rattle.tsp_cases.specs.states.Sets.{lent_in, multipliers_at}
+use Rattle.tsp_branch.proofs.Prelude.{◌≡◌, ◌≤◌, ◌<◌, ℕ, pos, neg_ℤ, ◌+ℤ◌, IsFromTo, entry, most_number, least_at, lent_in, multipliers_at}
 use Rattle.tsp_branch.proofs.case_leaf.CaseLeaf.are_exact.Given as goal
 
 -- for each node before this one `moved` has the potential less the node's multipliers, at most 4 * 10^18 in size

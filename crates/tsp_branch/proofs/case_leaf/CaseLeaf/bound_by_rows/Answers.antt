@@ -1,20 +1,7 @@
 -- The goals of `CaseLeaf::bound_by_rows` in src/case_leaf.rt, which bounds a leaf by the least link from each node: the
 -- facts of the values that it makes and what it ensures.
-use Rattle.std.proofs.Common.{◌≡◌, ◌∙◌, ◌^◌, ℕ, ℤ, Bool, List, refl, ap, sym, subst, arith, rules, FitsSigned, to_z, of_z}
-use Rattle.std.specs.Prelude.{pos, neg_ℤ, ◌-ℤ◌, ◌*ℤ◌}
-use Rattle.std.specs.Int.{w128}
-use Rattle.std.proofs.lemmas.Int.{ints, to_z-of_z}
-use Rattle.tsp_format.specs.Steps.{IsFromTo}
-use Rattle.tsp_theory.specs.Bounds.{IsScale, total, weight_between}
-use Rattle.tsp_theory.proofs.Sums.{same_scale}
-use Rattle.tsp_cases.specs.Families.{Family}
-use Rattle.tsp_cases.specs.declared.open_case.Decision.{Decision}
-use Rattle.tsp_cases.specs.Cases.{decided_number}
-use Rattle.tsp_cases.specs.CaseTrees.{combed, least_of, multiplied}
-use Rattle.tsp_cases.specs.states.Sets.{lent_in, good_in, set_weight}
-use Rattle.tsp_cases.specs.states.OpenCases.{decisions_in}
+use Rattle.tsp_branch.proofs.Prelude.{◌≡◌, ◌∙◌, ◌^◌, ℕ, ℤ, Bool, List, refl, ap, sym, subst, arith, rules, FitsSigned, to_z, of_z, pos, neg_ℤ, ◌-ℤ◌, ◌*ℤ◌, w128, ints, to_z-of_z, IsFromTo, IsScale, total, weight_between, same_scale, Family, Decision, decided_number, combed, least_of, multiplied, lent_in, good_in, set_weight, decisions_in, row_weight, found_by_rows}
 use Rattle.tsp_branch.specs.states.LeafRows.{decided_by}
-use Rattle.tsp_cases.proofs.SetSums.{row_weight, found_by_rows}
 use Rattle.tsp_branch.proofs.case_leaf.CaseLeaf.bound_by_rows.Goals as goal
 
 pub invariant_of-rows : goal.invariant_of-rows
@@ -49,16 +36,16 @@ returns-clause-bound g c =
     let ms : List ℤ = leaf.multipliers.now in
     let case : List Decision = decisions_in leaf.case.now in
     let good = leaf.numbers in
-    let combs : List (Family × ℤ) = multiplied (good_in families) ms in
+    let weighted : List (Family × ℤ) = multiplied (good_in families) ms in
     let sets : ℕ → ℕ → ℤ = set_weight p.cases.now.scale ps ms (lent_in families) cost in
     let w : ℕ → ℕ → ℤ = decided_by p.cases.now.directed case sets in
-    let agree : (i j : ℕ) → w i j ≡ combed combs (weight_between p.cases.now.scale ps cost) i j = λ i j.
+    let agree : (i j : ℕ) → w i j ≡ combed weighted (weight_between p.cases.now.scale ps cost) i j = λ i j.
     ap (λ (d : Bool). decided_by d case sets i j) c.requires.directed
     ∙ row_weight families.crossed.items p.cases.now.scale ps ms (lent_in families) cost i j families.many
-    (good.each_comb ∙ families.many) in
+    (good.each_family ∙ families.many) in
     let back : ℤ = c.given_back.result in
     let fits : FitsSigned w128 c.given_back.result = search rules in
-    let back_is : to_z w128 (of_z w128 back) ≡ least_of combs -ℤ (pos 2 *ℤ total ps) =
+    let back_is : to_z w128 (of_z w128 back) ≡ least_of weighted -ℤ (pos 2 *ℤ total ps) =
     to_z-of_z w128 back fits ∙ c.given_back.ensures.value in
     found_by_rows n n cost p.cases.now.scale _ decided_number (good_in families) case ps ms w _ c.bound.result refl
     (same_scale p.cases.now.scale p.cases.now.scaled) agree back_is c.bound.ensures.bound

@@ -1,24 +1,8 @@
 -- The goals of `CaseLeaf::bound_by_trees` in src/case_leaf.rt, which bounds a leaf by a least 1-tree, by kept rows or
 -- by boxes: the facts of the values that it makes, what its calls require and what it ensures.
-use Rattle.std.proofs.Common.{◌≡◌, ◌∙◌, ◌^◌, ℕ, ℤ, List, refl, ap, sym, subst, arith, to_z, of_z}
-use Rattle.std.specs.Prelude.{pos, neg_ℤ, ◌+ℤ◌}
-use Rattle.std.specs.Int.{w128}
-use Rattle.std.proofs.lemmas.Int.{ints}
-use Rattle.std.proofs.lemmas.Result.{IfOk-weaker}
-use Rattle.tsp_format.specs.Steps.{IsFromTo}
-use Rattle.tsp_theory.specs.Bounds.{IsScale}
-use Rattle.tsp_theory.proofs.Sums.{same_scale}
-use Rattle.tsp_cases.specs.Families.{Family}
-use Rattle.tsp_cases.specs.declared.open_case.Decision.{Decision}
-use Rattle.tsp_cases.specs.Cases.{DecideOnce, on_taken, on_avoided, decided_number}
-use Rattle.tsp_cases.specs.CaseTrees.{IsLeafBound, multiplied}
+use Rattle.tsp_branch.proofs.Prelude.{◌≡◌, ◌∙◌, ◌^◌, ℕ, ℤ, List, refl, ap, sym, subst, arith, to_z, of_z, pos, neg_ℤ, ◌+ℤ◌, w128, ints, IfOk-weaker, IsFromTo, IsScale, same_scale, Family, Decision, DecideOnce, on_taken, on_avoided, decided_number, IsLeafBound, multiplied, lent_in, good_in, set_weight, stack_of, decided, marks_in, IsOpenCase, decisions_in, kept_weight, AreRowsIfAny, few_changes, case_weight, back_of}
 use Rattle.tsp_branch.specs.BranchVerdicts.{BoundsEachLeaf, given_back_of}
-use Rattle.tsp_cases.specs.states.Sets.{lent_in, good_in, set_weight}
-use Rattle.tsp_cases.specs.states.OpenCases.{stack_of, decided, marks_in, IsOpenCase, decisions_in}
-use Rattle.tsp_cases.specs.states.Kept.{kept_weight, AreRowsIfAny}
 use Rattle.tsp_cases.proofs.CaseTrees.{leaf_even}
-use Rattle.tsp_cases.proofs.OpenCases.{few_changes}
-use Rattle.tsp_cases.proofs.SetSums.{case_weight, back_of}
 use Rattle.tsp_branch.proofs.CaseLeaves.{back_held, taken_listed, taken_few}
 use Rattle.tsp_branch.proofs.case_leaf.CaseLeaf.bound_by_trees.Goals as goal
 
@@ -52,8 +36,8 @@ returns-clause-bound g c =
     let case : List Decision = decisions_in leaf.case.now in
     let w : ℕ → ℕ → ℤ = set_weight p.cases.now.scale ps ms (lent_in families) cost in
     let many = families.many in
-    let long = leaf.numbers.each_comb ∙ many in
-    let combs : List (Family × ℤ) = multiplied (good_in families) ms in
+    let long = leaf.numbers.each_family ∙ many in
+    let weighted : List (Family × ℤ) = multiplied (good_in families) ms in
     let agree = λ (i j : ℕ). case_weight w p.cases.now.scale families.crossed.items ps ms (lent_in families) case cost i j many long
     refl in
     let v : ℕ → ℕ → ℤ = decided case w in
@@ -63,9 +47,9 @@ returns-clause-bound g c =
     let sum_is : back ≡ taken +ℤ less = back_held taken less c.taken_back-taken.ensures.size c.given_back.ensures.size in
     let least = c.given_back.ensures.value in
     let taken_is = c.taken_back-taken.ensures.value ∙ taken_listed case c.deref.result.now (ap stack_of c.deref.ensures.value ∙ leaf.is_case.by_node.taken) in
-    let back_is : back ≡ given_back_of ps (on_taken decided_number case) combs = sum_is ∙ back_of taken less _ _ _ taken_is least in
+    let back_is : back ≡ given_back_of ps (on_taken decided_number case) weighted = sum_is ∙ back_of taken less _ _ _ taken_is least in
     IfOk-weaker c.bound_of_trees.result _ _
     (λ (bound : ℤ) bounds.
     let whole : BoundsEachLeaf n v p.cases.now.scale back bound = subst (λ (z : ℤ). BoundsEachLeaf n v z back bound) (same_scale p.cases.now.scale p.cases.now.scaled) bounds in
-    whole cost ps (on_taken decided_number case) (on_avoided decided_number case) combs agree back_is)
+    whole cost ps (on_taken decided_number case) (on_avoided decided_number case) weighted agree back_is)
     c.bound_of_trees.ensures.leaf

@@ -1,14 +1,7 @@
 -- The goals of `CaseLeaf::fill_apart_at` in src/leaf_rows.rt, which writes some weights of a row as if no set had two
 -- nodes: its loop.
-use Rattle.std.proofs.Common.{◌≡◌, ◌∙◌, ◌<◌, ℕ, ℤ, List, length, slice_index, inl, inr, ap, sym, subst, arith, rules, FitsSigned, to_z, of_z}
-use Rattle.std.specs.Int.{w64}
-use Rattle.std.specs.Prelude.{pos}
+use Rattle.tsp_branch.proofs.Prelude.{◌≡◌, ◌∙◌, ◌<◌, ℕ, ℤ, List, length, slice_index, inl, inr, ap, sym, subst, arith, rules, FitsSigned, to_z, of_z, w64, pos, cases_eq, to_z-of_z, get_or-set_same, get_or-set_other, least_at, lent_in, IsApart}
 use Rattle.std.proofs.Math.ListN.{set}
-use Rattle.std.proofs.lemmas.Bool.{cases_eq}
-use Rattle.std.proofs.lemmas.Int.{to_z-of_z}
-use Rattle.std.proofs.lemmas.List.{get_or-set_same, get_or-set_other}
-use Rattle.tsp_theory.specs.states.Nearest.{least_at}
-use Rattle.tsp_cases.specs.states.Sets.{lent_in, IsApart}
 use Rattle.tsp_branch.proofs.case_leaf.CaseLeaf.fill_apart_at.Goals as goal
 
 -- plan: one place more has its weight without sets

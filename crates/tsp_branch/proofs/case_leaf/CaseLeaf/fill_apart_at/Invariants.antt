@@ -1,8 +1,6 @@
 -- The loop of `CaseLeaf::fill_apart_at` in src/leaf_rows.rt, which writes some weights of a row as if no set had two
 -- nodes.
-use Rattle.std.proofs.Common.{◌<◌, ℕ, length, slice_index}
-use Rattle.tsp_theory.specs.states.Nearest.{least_at}
-use Rattle.tsp_cases.specs.states.Sets.{lent_in, IsApart}
+use Rattle.tsp_branch.proofs.Prelude.{◌<◌, ℕ, length, slice_index, least_at, lent_in, IsApart}
 use Rattle.tsp_branch.proofs.case_leaf.CaseLeaf.fill_apart_at.Given as goal
 
 -- for each node before this place the row has the weight as if no set had two nodes, in 64 bits

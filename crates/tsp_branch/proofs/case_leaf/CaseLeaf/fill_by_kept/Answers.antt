@@ -1,20 +1,7 @@
 -- The goals of `CaseLeaf::fill_by_kept` in src/leaf_rows.rt, which writes a row of a leaf's weights from the row kept
 -- for its node: what it ensures.
-use Rattle.std.proofs.Common.{◌≡◌, ◌∙◌, ◌-◌, ◌+◌, ℕ, ℤ, List, false, get_or, inr, ap, sym, subst, arith, rules, to_z, of_z, FitsSigned}
-use Rattle.std.specs.Int.{w64, int_wrap}
-use Rattle.std.specs.Prelude.{pos, neg_ℤ, ◌*ℤ◌}
+use Rattle.tsp_branch.proofs.Prelude.{◌≡◌, ◌∙◌, ◌-◌, ◌+◌, ℕ, ℤ, List, false, get_or, inr, ap, sym, subst, arith, rules, to_z, of_z, FitsSigned, w64, int_wrap, pos, neg_ℤ, ◌*ℤ◌, ints, to_z-of_z, IsNode, IsFromTo, entry, least_at, between_size, scaled_size, lent_in, set_weight, Decision, marks_in, most_decided, decisions_in, kept_weight, IsKeptRow}
 use Rattle.std.specs.Global.{Vec}
-use Rattle.std.proofs.lemmas.Int.{ints, to_z-of_z}
-use Rattle.tsp_format.specs.Nodes.{IsNode}
-use Rattle.tsp_format.specs.Steps.{IsFromTo}
-use Rattle.tsp_theory.specs.Bounds.{entry}
-use Rattle.tsp_theory.specs.states.Nearest.{least_at}
-use Rattle.tsp_theory.proofs.Cycles.{between_size}
-use Rattle.tsp_theory.proofs.Sums.{scaled_size}
-use Rattle.tsp_cases.specs.states.Sets.{lent_in, set_weight}
-use Rattle.tsp_cases.specs.declared.open_case.Decision.{Decision}
-use Rattle.tsp_cases.specs.states.OpenCases.{marks_in, most_decided, decisions_in}
-use Rattle.tsp_cases.specs.states.Kept.{kept_weight, IsKeptRow}
 use Rattle.tsp_cases.proofs.RowsKept.{marked_at}
 use Rattle.tsp_branch.specs.states.LeafRows.{decided_by}
 use Rattle.tsp_branch.proofs.CaseLeaves.{marked_is}

@@ -1,21 +1,13 @@
 -- The goals of `CaseLeaf::fill_combed_at` in src/leaf_rows.rt, which writes some weights of a row, whose size is
 -- limited: the facts of the values that it makes, what its calls require and what it ensures.
-use Rattle.std.proofs.Common.{◌≡◌, ◌<◌, ℕ, ℤ, List, length, slice_index, arith, sym, subst, ◌∙◌}
-use Rattle.std.specs.Prelude.{pos, neg_ℤ}
-use Rattle.std.specs.List.{All}
-use Rattle.std.proofs.lemmas.Int.{ints}
-use Rattle.tsp_format.specs.Steps.{IsFromTo}
-use Rattle.tsp_theory.specs.states.Nearest.{least_at, IsMoved}
-use Rattle.tsp_cases.specs.declared.sets.SetPlace.{SetPlace}
-use Rattle.tsp_cases.specs.states.Sets.{places_with, IsPlaceIn, lent_in, inside_both, most_combed, set_weight}
-use Rattle.tsp_cases.proofs.SetSums.{places_inside, small_multipliers, combed_at}
+use Rattle.tsp_branch.proofs.Prelude.{◌≡◌, ◌<◌, ℕ, ℤ, List, length, slice_index, arith, sym, subst, ◌∙◌, pos, neg_ℤ, All, ints, IsFromTo, least_at, IsMoved, SetPlace, places_with, IsPlaceIn, lent_in, inside_both, most_combed, set_weight, places_inside, small_multipliers, combed_at}
 use Rattle.tsp_branch.proofs.case_leaf.CaseLeaf.fill_combed_at.Goals as goal
 
 pub invariant_of-multiplied : goal.invariant_of-multiplied
 invariant_of-multiplied g c =
     let leaf = c.args.self.now in
     record {
-      as_many = leaf.numbers.each_comb ∙ leaf.context.now.families.now.as_many;
+      as_many = leaf.numbers.each_family ∙ leaf.context.now.families.now.as_many;
       small = λ k default lt. let own = small_multipliers _ leaf.context.now.families.now.crossed.items _ _ leaf.context.now.families.now.some leaf.numbers k default lt in
           (omega (arith, ints, own.0), own.1);
     }

@@ -1,17 +1,6 @@
 -- The goals of `CaseLeaf::weight_apart` in src/leaf_rows.rt, which returns a weight as if no set had two nodes: that no
 -- sum overflows and what it ensures.
-use Rattle.std.proofs.Common.{◌≡◌, ◌-◌, ◌*◌, ℕ, ℤ, arith, rules, subst, inr, ap, ap₂, ◌∙◌, to_z, of_z, FitsSigned}
-use Rattle.std.specs.Int.{w64, int_wrap}
-use Rattle.std.specs.Prelude.{pos, neg_ℤ, ◌+ℤ◌, ◌*ℤ◌}
-use Rattle.std.proofs.lemmas.Int.{to_z-of_z}
-use Rattle.tsp_format.specs.Limits.{most_scale, most_weight}
-use Rattle.tsp_format.specs.Steps.{IsFromTo}
-use Rattle.tsp_theory.specs.Bounds.{entry}
-use Rattle.tsp_theory.specs.states.Nearest.{least_at}
-use Rattle.tsp_theory.proofs.Cycles.{between_size}
-use Rattle.tsp_theory.proofs.Sums.{product_fits, product_is, scaled_size}
-use Rattle.tsp_cases.specs.states.Sets.{lent_in, multipliers_at}
-use Rattle.tsp_cases.proofs.SetSums.{apart_is}
+use Rattle.tsp_branch.proofs.Prelude.{◌≡◌, ◌-◌, ◌*◌, ℕ, ℤ, arith, rules, subst, inr, ap, ap₂, ◌∙◌, to_z, of_z, FitsSigned, w64, int_wrap, pos, neg_ℤ, ◌+ℤ◌, ◌*ℤ◌, to_z-of_z, most_scale, most_weight, IsFromTo, entry, least_at, between_size, product_fits, product_is, scaled_size, lent_in, multipliers_at, apart_is}
 use Rattle.tsp_branch.proofs.case_leaf.CaseLeaf.weight_apart.Goals as goal
 
 pub overflow_mul-self : goal.overflow_mul-self

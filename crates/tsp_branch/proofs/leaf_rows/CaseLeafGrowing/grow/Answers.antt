@@ -1,10 +1,7 @@
 -- The goals of `grow` in src/leaf_rows.rt, of the trait `Growing` for `CaseLeaf`: what it ensures. It grows a tree over
 -- the nodes 2..n by least weights.
-use Rattle.std.proofs.Common.{arith, ℕ, ℤ}
-use Rattle.std.proofs.lemmas.Result.{IfOk-weaker}
+use Rattle.tsp_branch.proofs.Prelude.{arith, ℕ, ℤ, IfOk-weaker, lent_in, set_weight, decisions_in}
 use Rattle.tsp_theory.proofs.Trees.{growth_is_forest}
-use Rattle.tsp_cases.specs.states.Sets.{lent_in, set_weight}
-use Rattle.tsp_cases.specs.states.OpenCases.{decisions_in}
 use Rattle.tsp_branch.specs.states.LeafRows.{decided_by}
 use Rattle.tsp_bound.specs.declared.tree.Grown.{Grown}
 use Rattle.tsp_branch.proofs.leaf_rows.CaseLeafGrowing.grow.Goals as goal

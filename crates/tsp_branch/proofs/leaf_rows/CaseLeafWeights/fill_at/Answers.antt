@@ -1,12 +1,6 @@
 -- The goals of `fill_at` in src/leaf_rows.rt, of the trait `Weights` for `CaseLeaf`: what its calls require and what it
 -- ensures. It writes the weights between a node and some nodes into a row.
-use Rattle.std.proofs.Common.{◌≡◌, ◌∙◌, ℕ, ℤ, Bool, List, slice_index, arith, subst}
-use Rattle.std.specs.List.{filter}
-use Rattle.std.proofs.lemmas.Int.{ints}
-use Rattle.tsp_theory.specs.states.Nearest.{least_at}
-use Rattle.tsp_cases.specs.states.Sets.{lent_in, set_weight}
-use Rattle.tsp_cases.specs.declared.open_case.Decision.{Decision}
-use Rattle.tsp_cases.specs.states.OpenCases.{stack_of, bears_on, decisions_in}
+use Rattle.tsp_branch.proofs.Prelude.{◌≡◌, ◌∙◌, ℕ, ℤ, Bool, List, slice_index, arith, subst, filter, ints, least_at, lent_in, set_weight, Decision, stack_of, bears_on, decisions_in}
 use Rattle.tsp_branch.proofs.CaseLeaves.{both_inside, changed_is}
 use Rattle.tsp_branch.proofs.leaf_rows.CaseLeafWeights.fill_at.Goals as goal
 

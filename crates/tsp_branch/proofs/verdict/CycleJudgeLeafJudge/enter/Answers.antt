@@ -1,7 +1,6 @@
 -- The goals of `enter` in src/verdict.rt, of the trait `LeafJudge` for `CycleJudge`: what it ensures. It goes on to
 -- the case with one decision more.
-use Rattle.std.proofs.Common.{ℕ, length}
-use Rattle.tsp_cases.specs.states.Sets.{lent_in}
+use Rattle.tsp_branch.proofs.Prelude.{ℕ, length, lent_in}
 use Rattle.tsp_branch.proofs.verdict.CycleJudgeLeafJudge.enter.Goals as goal
 
 -- plan: the numbers of the leaf don't change, and the kept rows get the mark of the new decision, as the call ensures

@@ -1,7 +1,6 @@
 -- The goals of `leave` in src/verdict.rt, of the trait `LeafJudge` for `CycleJudge`: what it ensures. It goes on
 -- from a leaf to the next open case.
-use Rattle.std.proofs.Common.{ℕ, length}
-use Rattle.tsp_cases.specs.states.Sets.{lent_in}
+use Rattle.tsp_branch.proofs.Prelude.{ℕ, length, lent_in}
 use Rattle.tsp_branch.proofs.verdict.CycleJudgeLeafJudge.leave.Goals as goal
 
 -- plan: the numbers of the leaf don't change, and the kept rows get the marks of the next case, as the call ensures

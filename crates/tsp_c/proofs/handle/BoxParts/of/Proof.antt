@@ -1,4 +1,5 @@
 -- The proof of `BoxParts::of` in src/handle.rt: the box is taken apart, and its parts own the memory that it owned.
+use Rattle.tsp_c.proofs.Prelude.{Bx, D, τ, R, P, B, word, box_typed, box_out, box_in}
 use mathlib.Core.Path.{◌≡◌, refl, sym, subst, ap, ◌∙◌}
 use mathlib.Core.List.{List, [], ◌∷◌, ◌++◌}
 use seplogic.Ra.Ura.{Ura}
@@ -35,8 +36,6 @@ use denote.Triple.Table.{entered}
 use denote.Triple.Walked.{says, Stays, stay_dropped, walk_of, ends_at, walk_Meets}
 use Rattle.core.proofs.alloc.Calls.{token, handle_tells, Goes-blank}
 use Rattle.std_alloc.specs.Box.Ownership.{box_owns}
-use Rattle.std_alloc.proofs.BoxSteps.Form.{Bx, D, τ, R, P, B, word, box_typed}
-use Rattle.std_alloc.proofs.BoxSteps.Steps.{box_out, box_in}
 use Rattle.tsp_c.specs.contracts.handle.BoxParts as parts
 use Rattle.std_alloc.specs.contracts.boxed.Box.into_raw_with_allocator as Ra
 use Rattle.std_alloc.proofs.boxed.Box.into_raw_with_allocator.Symbol as raw_sym

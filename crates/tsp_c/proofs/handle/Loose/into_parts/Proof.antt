@@ -1,8 +1,8 @@
 -- The proof of `Loose::into_parts` in src/handle.rt, from a handle to the parts of a box: two fields are moved, with
 -- the memory that they own.
+use Rattle.tsp_c.proofs.Prelude.{◌≡◌, ℤ, Option, Some, D, B, word, box_typed, box_out, box_in, Open}
 use mathlib.Core.Path.{refl, sym, subst}
 use mathlib.Core.List.{List, [], ◌∷◌, ◌++◌}
-use Rattle.std.specs.Prelude.{◌≡◌, ℤ, Option, Some}
 use seplogic.Ra.Ura.{Ura}
 use mir.Val.{Val}
 use base.Logic.{SProp, ent, id⊢}
@@ -24,9 +24,6 @@ use denote.Steps.{nothing, heard}
 use denote.Triple.Spec.{triple_of}
 use denote.Triple.Table.{entered}
 use denote.Triple.Walked.{says, Stays, stay_dropped, walk_of, ends_at, Goes-dropped, walk_Meets}
-use Rattle.std_alloc.proofs.BoxSteps.Form.{D, B, word, box_typed}
-use Rattle.std_alloc.proofs.BoxSteps.Steps.{box_out, box_in}
-use Rattle.tsp_judge.specs.Open.{Open}
 use Rattle.tsp_c.specs.Opened.{open_of}
 use Rattle.tsp_c.specs.contracts.handle.Loose as Loose
 use Rattle.tsp_c.proofs.HandleCalls.{E, FromLoose as From}

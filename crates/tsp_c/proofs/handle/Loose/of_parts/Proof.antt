@@ -1,8 +1,8 @@
 -- The proof of `Loose::of_parts` in src/handle.rt, from the parts of a box to a handle: two fields are moved, with the
 -- memory that they own.
+use Rattle.tsp_c.proofs.Prelude.{Some, D, B, word, box_typed, box_out, box_in}
 use mathlib.Core.Path.{refl, sym, subst}
 use mathlib.Core.List.{List, [], ◌∷◌, ◌++◌}
-use Rattle.std.specs.Prelude.{Some}
 use seplogic.Ra.Ura.{Ura}
 use mir.Val.{Val}
 use base.Logic.{SProp, ent, emp, id⊢}
@@ -24,8 +24,6 @@ use denote.Steps.{nothing}
 use denote.Triple.Spec.{triple_of}
 use denote.Triple.Table.{entered}
 use denote.Triple.Walked.{says, Stays, stay_dropped, walk_of, ends_at, Goes-dropped, walk_Meets}
-use Rattle.std_alloc.proofs.BoxSteps.Form.{D, B, word, box_typed}
-use Rattle.std_alloc.proofs.BoxSteps.Steps.{box_out, box_in}
 use Rattle.tsp_c.proofs.HandleCalls.{E, FromParts as From}
 use Rattle.tsp_c.specs.contracts.handle.Loose.of_parts as F
 use Rattle.tsp_c.specs.contracts.handle.Loose.of_parts.Key.{name as #self}

@@ -1,11 +1,6 @@
 -- The goals of `KeptRows::add_between` in src/kept.rt, which adds a number to the weight between two nodes, in both
 -- rows: what its calls require and what it ensures.
-use Rattle.std.proofs.Common.{◌≡◌, ◌≤◌, ◌-◌, ◌<◌, ℕ, List, length, ap, sym, subst, ◌∙◌, arith, rules, FitsSigned}
-use Rattle.std.specs.Prelude.{ℤ}
-use Rattle.std.specs.Int.{w64}
-use Rattle.std.specs.Global.{Vec}
-use Rattle.std.proofs.lemmas.Bool.{eqb-true}
-use Rattle.std.proofs.lemmas.Int.{to_z-of_z}
+use Rattle.tsp_cases.proofs.Prelude.{◌≡◌, ◌≤◌, ◌-◌, ◌<◌, ℕ, List, length, ap, sym, subst, ◌∙◌, arith, rules, FitsSigned, ℤ, w64, Vec, eqb-true, to_z-of_z}
 use Rattle.tsp_cases.specs.states.Kept.{IsAddedAt}
 use Rattle.tsp_cases.proofs.RowsKept.{rows_marked, some_left}
 use Rattle.tsp_cases.proofs.kept.KeptRows.add_between.Goals as goal
@@ -13,7 +8,7 @@ use Rattle.tsp_cases.proofs.kept.KeptRows.add_between.Goals as goal
 -- plan: by whether rows are kept: the number is added in the rows of both nodes of the pair (`rows_marked`), or nothing
 -- changes
 pub returns-then-is_empty : goal.returns-then-is_empty
-returns-then-is_empty c = λ n combs scale families cost marks held pair.
+returns-then-is_empty c = λ n weighted scale families cost marks held pair.
     let none = eqb-true _ 0 (sym c.is_empty.ensures ∙ c.if-is_empty.true) in
     record {
       multipliers = held.multipliers;
@@ -35,7 +30,7 @@ add_in_row-requires-2-clause-place c = λ row.
     omega (arith, own, same, r.7.0)
 
 pub returns : goal.returns
-returns c = λ n combs scale families cost marks held pair.
+returns c = λ n weighted scale families cost marks held pair.
     let fits : FitsSigned w64 c.args.number = search rules in
     let is = to_z-of_z w64 c.args.number fits in
     let old : List (Vec ℤ) = c.args.self.now.rows.items in

@@ -1,11 +1,7 @@
 -- The goals of `KeptRows::bring_to` in src/kept.rt, which brings the kept rows to the multipliers of the next leaf: the
 -- facts of the values that it makes, what its calls require and what it ensures.
-use Rattle.std.proofs.Common.{◌≡◌, ◌∙◌, ℕ, ℤ, List, length, ap, sym, subst, arith}
-use Rattle.std.specs.Global.{Vec}
-use Rattle.std.specs.Prelude.{neg_ℤ}
-use Rattle.tsp_theory.specs.states.Nearest.{least_at, IsMoved}
+use Rattle.tsp_cases.proofs.Prelude.{◌≡◌, ◌∙◌, ℕ, ℤ, List, length, ap, sym, subst, arith, Vec, neg_ℤ, least_at, IsMoved, All}
 use Rattle.std.proofs.lemmas.Bool.Decides.{Decides-int_eq}
-use Rattle.std.specs.List.{All}
 use Rattle.std.proofs.lemmas.Slice.Eq.{slice_eq-Decides}
 use Rattle.tsp_cases.specs.declared.sets.SetPlace.{SetPlace}
 use Rattle.tsp_cases.specs.states.Sets.{IsPlaceIn, lent_in, multipliers_at, AreSmallMultipliers, AreSmallDifferences}

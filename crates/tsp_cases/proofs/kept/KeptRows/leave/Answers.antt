@@ -1,9 +1,6 @@
 -- The goals of `KeptRows::leave` in src/kept.rt, which moves the marks of decisions to the next case: its loop, what
 -- its calls require and what it ensures.
-use Rattle.std.proofs.Common.{◌≡◌, ◌∙◌, ◌+◌, ◌-◌, ◌<◌, ◌++◌, ◌∷◌, ℕ, ℤ, Bool, List, Option, None, true, false, take, get_or, length, refl, ap, sym, subst, arith}
-use Rattle.std.specs.List.{All}
-use Rattle.std.proofs.lemmas.List.{take_all}
-use Rattle.std.proofs.lemmas.List.Elements.{All-from_recursion, recursion_from_All}
+use Rattle.tsp_cases.proofs.Prelude.{◌≡◌, ◌∙◌, ◌+◌, ◌-◌, ◌<◌, ◌++◌, ◌∷◌, ℕ, ℤ, Bool, List, Option, None, true, false, take, get_or, length, refl, ap, sym, subst, arith, All, take_all, All-from_recursion, recursion_from_All}
 use Rattle.tsp_cases.specs.declared.open_case.Decision.{Decision}
 use Rattle.tsp_cases.specs.Cases.{decide, next_stack}
 use Rattle.tsp_cases.specs.states.OpenCases.{IsDecision, marks_in, stack_of}
@@ -12,8 +9,8 @@ use Rattle.tsp_cases.proofs.RowsKept.{same_marks, directed_same, stack_to, turne
 use Rattle.tsp_cases.proofs.kept.KeptRows.leave.Goals as goal
 
 pub returns-then-directed : goal.returns-then-directed
-returns-then-directed c = λ n combs scale families cost given is_open next held pairs is.
-    same_marks n combs scale families cost _ _ _ (λ i x. directed_same c.args.directed _ _ i x c.if-directed.true) held
+returns-then-directed c = λ n weighted scale families cost given is_open next held pairs is.
+    same_marks n weighted scale families cost _ _ _ (λ i x. directed_same c.args.directed _ _ i x c.if-directed.true) held
 
 pub leave-init : goal.leave-init
 leave-init c =
@@ -23,8 +20,8 @@ leave-init c =
       most = omega arith;
       same = ap (λ (ds : List Decision). next_stack (stack_of ds)) whole;
       pairs = λ n given all. subst (λ (ds : List Decision). All (IsDecision n) (stack_of ds ++ given)) whole all;
-      kept = λ n combs scale families cost given held all.
-          subst (λ (ds : List Decision). HoldsRows n combs scale families cost (marks_in false (stack_of ds ++ given)) c.args.self.now) whole held;
+      kept = λ n weighted scale families cost given held all.
+          subst (λ (ds : List Decision). HoldsRows n weighted scale families cost (marks_in false (stack_of ds ++ given)) c.args.self.now) whole held;
     }
 
 pub unmark-requires : goal.unmark-requires
@@ -75,7 +72,7 @@ mark-requires c =
 -- plan: the marks of the topmost decisions are taken off one by one (`stack_to`), up to the last taken pair, which is
 -- marked as avoided (`turned_next`)
 pub returns-then-last : goal.returns-then-last
-returns-then-last c = λ n combs scale families cost given is_open next held all is.
+returns-then-last c = λ n weighted scale families cost given is_open next held all is.
     let st = c.leave in
     let stack : List Decision = c.args.stack.now in
     let left : ℕ = st.left - 1 in
@@ -84,17 +81,17 @@ returns-then-last c = λ n combs scale families cost given is_open next held all
     let one : st.left ≡ left + 1 = omega (arith, c.leave-test.true) in
     let parts : stack_of (take st.left stack) ≡ last ∷ rest =
     ap (λ (k : ℕ). stack_of (take k stack)) one ∙ stack_to stack left (record { pair = (0, 0); taken = false }) (omega (arith, c.leave-test.true, st.invariant.most)) in
-    let both = subst (λ (d : Bool). HoldsRows n combs scale families cost (marks_in d (stack_of stack ++ given)) c.args.self.now) c.if-directed.false held in
-    let here = subst (λ (ds : List Decision). HoldsRows n combs scale families cost (marks_in false (ds ++ given)) st.self) parts
-    (st.invariant.kept n combs scale families cost given both all) in
+    let both = subst (λ (d : Bool). HoldsRows n weighted scale families cost (marks_in d (stack_of stack ++ given)) c.args.self.now) c.if-directed.false held in
+    let here = subst (λ (ds : List Decision). HoldsRows n weighted scale families cost (marks_in false (ds ++ given)) st.self) parts
+    (st.invariant.kept n weighted scale families cost given both all) in
     let pairs = recursion_from_All (IsDecision n) (last ∷ rest ++ given)
     (subst (λ (ds : List Decision). All (IsDecision n) (ds ++ given)) parts (st.invariant.pairs n given all)) in
-    let left_off = subst (λ (d : Bool). HoldsRows n combs scale families cost (marks_in d (rest ++ given)) c.unmark.new.self) (sym c.if-directed.false)
-    (c.unmark.ensures n combs scale families cost (rest ++ given) here pairs.0) in
+    let left_off = subst (λ (d : Bool). HoldsRows n weighted scale families cost (marks_in d (rest ++ given)) c.unmark.new.self) (sym c.if-directed.false)
+    (c.unmark.ensures n weighted scale families cost (rest ++ given) here pairs.0) in
     let same : next_stack (stack_of stack) ≡ next_stack (last ∷ rest) = st.invariant.same ∙ ap next_stack parts in
-    subst (λ (ds : List Decision). HoldsRows n combs scale families cost (marks_in c.args.directed (ds ++ given)) c.mark.new.self)
+    subst (λ (ds : List Decision). HoldsRows n weighted scale families cost (marks_in c.args.directed (ds ++ given)) c.mark.new.self)
     (sym (turned_next stack next rest last is_open c.if-last.true same is))
-    (c.mark.ensures n combs scale families cost (rest ++ given) left_off pairs.0)
+    (c.mark.ensures n weighted scale families cost (rest ++ given) left_off pairs.0)
 
 pub leave-preserved : goal.leave-preserved
 leave-preserved c =
@@ -112,20 +109,20 @@ leave-preserved c =
       most = omega (arith, st.invariant.most);
       same = st.invariant.same ∙ ap next_stack parts ∙ rw c.if-last.false refl;
       pairs = λ n given own. All-from_recursion (IsDecision n) (rest ++ given) (all n given own).1;
-      kept = λ n combs scale families cost given held own.
-          let here = subst (λ (ds : List Decision). HoldsRows n combs scale families cost (marks_in false (ds ++ given)) st.self) parts
-          (st.invariant.kept n combs scale families cost given held own) in
-          c.unmark.ensures n combs scale families cost (rest ++ given) here (all n given own).0;
+      kept = λ n weighted scale families cost given held own.
+          let here = subst (λ (ds : List Decision). HoldsRows n weighted scale families cost (marks_in false (ds ++ given)) st.self) parts
+          (st.invariant.kept n weighted scale families cost given held own) in
+          c.unmark.ensures n weighted scale families cost (rest ++ given) here (all n given own).0;
     }
 
 pub returns : goal.returns
-returns c = λ n combs scale families cost given is_open next held all is.
+returns c = λ n weighted scale families cost given is_open next held all is.
     let st = c.leave in
     let stack : List Decision = c.args.stack.now in
     let none : st.left ≡ 0 = omega (arith, c.leave-test.false) in
     let past : next_stack (stack_of stack) ≡ None = st.invariant.same ∙ ap (λ (k : ℕ). next_stack (stack_of (take k stack))) none in
-    let both = subst (λ (d : Bool). HoldsRows n combs scale families cost (marks_in d (stack_of stack ++ given)) c.args.self.now) c.if-directed.false held in
-    subst (λ (d : Bool). HoldsRows n combs scale families cost (marks_in d (stack_of next ++ given)) st.self) (sym c.if-directed.false)
-    (subst (λ (ds : List Decision). HoldsRows n combs scale families cost (marks_in false (stack_of ds ++ given)) st.self)
+    let both = subst (λ (d : Bool). HoldsRows n weighted scale families cost (marks_in d (stack_of stack ++ given)) c.args.self.now) c.if-directed.false held in
+    subst (λ (d : Bool). HoldsRows n weighted scale families cost (marks_in d (stack_of next ++ given)) st.self) (sym c.if-directed.false)
+    (subst (λ (ds : List Decision). HoldsRows n weighted scale families cost (marks_in false (stack_of ds ++ given)) st.self)
     (ap (λ (k : ℕ). take k stack) none ∙ sym (none_next stack next is_open past is))
-    (st.invariant.kept n combs scale families cost given both all))
+    (st.invariant.kept n weighted scale families cost given both all))

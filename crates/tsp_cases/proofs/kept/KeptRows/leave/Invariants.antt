@@ -1,7 +1,5 @@
 -- The loop of `KeptRows::leave` in src/kept.rt, which moves the marks of decisions to the next case.
-use Rattle.std.proofs.Common.{◌≡◌, ◌≤◌, ◌++◌, ℕ, List, false, take, length}
-use Rattle.std.specs.Prelude.{ℤ}
-use Rattle.std.specs.List.{All}
+use Rattle.tsp_cases.proofs.Prelude.{◌≡◌, ◌≤◌, ◌++◌, ℕ, List, false, take, length, ℤ, All}
 use Rattle.tsp_cases.specs.declared.open_case.Decision.{Decision}
 use Rattle.tsp_cases.specs.Cases.{next_stack}
 use Rattle.tsp_cases.specs.states.OpenCases.{IsDecision, marks_in, stack_of}
@@ -14,9 +12,9 @@ invariant-leave l = record {
   most : l.left ≤ length l.stack;
   same : next_stack (stack_of l.stack) ≡ next_stack (stack_of (take l.left l.stack));
   pairs : (n : ℕ) (given : List Decision) → All (IsDecision n) (stack_of l.stack ++ given) → All (IsDecision n) (stack_of (take l.left l.stack) ++ given);
-  kept : (n combs : ℕ) (scale : ℤ) (families : List (List (List ℕ))) (cost : ℕ → ℕ → ℤ) (given : List Decision)
-      → HoldsRows n combs scale families cost (marks_in false (stack_of l.stack ++ given)) l.fn.self → All (IsDecision n) (stack_of l.stack ++ given)
-      → HoldsRows n combs scale families cost (marks_in false (stack_of (take l.left l.stack) ++ given)) l.self;
+  kept : (n family_count : ℕ) (scale : ℤ) (families : List (List (List ℕ))) (cost : ℕ → ℕ → ℤ) (given : List Decision)
+      → HoldsRows n family_count scale families cost (marks_in false (stack_of l.stack ++ given)) l.fn.self → All (IsDecision n) (stack_of l.stack ++ given)
+      → HoldsRows n family_count scale families cost (marks_in false (stack_of (take l.left l.stack) ++ given)) l.self;
 }
 
 -- `left` gets smaller by one

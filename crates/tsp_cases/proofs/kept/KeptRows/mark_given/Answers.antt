@@ -1,7 +1,6 @@
 -- The goals of `KeptRows::mark_given` in src/kept.rt, which marks the given decisions in the kept rows: its loop, what
 -- its calls require and what it ensures.
-use Rattle.std.proofs.Common.{◌≡◌, ◌∙◌, ◌+◌, ◌-◌, ◌<◌, ℕ, List, ◌∷◌, false, drop, get_or, length, ap, sym, subst, arith, drop-cons, add-one}
-use Rattle.std.proofs.lemmas.List.{drop_all}
+use Rattle.tsp_cases.proofs.Prelude.{◌≡◌, ◌∙◌, ◌+◌, ◌-◌, ◌<◌, ℕ, List, ◌∷◌, false, drop, get_or, length, ap, sym, subst, arith, drop-cons, add-one, drop_all}
 use Rattle.tsp_cases.specs.declared.open_case.Decision.{Decision}
 use Rattle.tsp_cases.specs.states.OpenCases.{IsDecision, marks_in}
 use Rattle.tsp_cases.specs.states.Kept.{HoldsRows}
@@ -13,8 +12,8 @@ given-init c =
     let given : List Decision = c.args.cases.now.given.now in
     record {
       most = omega arith;
-      kept = λ n combs scale families cost held each.
-          subst (λ (ds : List Decision). HoldsRows n combs scale families cost (marks_in c.args.cases.now.directed ds) c.args.self.now)
+      kept = λ n weighted scale families cost held each.
+          subst (λ (ds : List Decision). HoldsRows n weighted scale families cost (marks_in c.args.cases.now.directed ds) c.args.self.now)
           (sym (drop_all (length given) given (omega arith))) held;
     }
 
@@ -40,14 +39,14 @@ given-preserved c =
     drop-cons given left default lt ∙ ap (λ (k : ℕ). get_or given left default ∷ drop k given) (sym (one ∙ add-one left)) in
     record {
       most = omega (arith, st.invariant.most);
-      kept = λ n combs scale families cost held each.
-          subst (λ (ds : List Decision). HoldsRows n combs scale families cost (marks_in directed ds) c.mark.new.self) (sym parts)
-          (c.mark.ensures n combs scale families cost (drop st.left given) (st.invariant.kept n combs scale families cost held each)
+      kept = λ n weighted scale families cost held each.
+          subst (λ (ds : List Decision). HoldsRows n weighted scale families cost (marks_in directed ds) c.mark.new.self) (sym parts)
+          (c.mark.ensures n weighted scale families cost (drop st.left given) (st.invariant.kept n weighted scale families cost held each)
           (each left default lt));
     }
 
 pub returns : goal.returns
-returns c = λ n combs scale families cost held each.
+returns c = λ n weighted scale families cost held each.
     let none : c.given.left ≡ 0 = omega (arith, c.given-test.false) in
-    subst (λ (k : ℕ). HoldsRows n combs scale families cost (marks_in c.args.cases.now.directed (drop k c.args.cases.now.given.now)) c.given.self) none
-    (c.given.invariant.kept n combs scale families cost held each)
+    subst (λ (k : ℕ). HoldsRows n weighted scale families cost (marks_in c.args.cases.now.directed (drop k c.args.cases.now.given.now)) c.given.self) none
+    (c.given.invariant.kept n weighted scale families cost held each)

@@ -1,7 +1,5 @@
 -- The loop of `KeptRows::mark_given` in src/kept.rt, which marks the given decisions in the kept rows.
-use Rattle.std.proofs.Common.{◌≤◌, ℕ, List, [], drop, length}
-use Rattle.std.specs.Prelude.{ℤ}
-use Rattle.std.specs.List.{All}
+use Rattle.tsp_cases.proofs.Prelude.{◌≤◌, ℕ, List, [], drop, length, ℤ, All}
 use Rattle.tsp_cases.specs.states.OpenCases.{IsDecision, marks_in}
 use Rattle.tsp_cases.specs.states.Kept.{HoldsRows}
 use Rattle.tsp_cases.proofs.kept.KeptRows.mark_given.Given as goal
@@ -10,9 +8,9 @@ use Rattle.tsp_cases.proofs.kept.KeptRows.mark_given.Given as goal
 abbrev pub invariant-given : goal.invariant-given
 invariant-given l = record {
   most : l.left ≤ length l.cases.given.now;
-  kept : (n combs : ℕ) (scale : ℤ) (families : List (List (List ℕ))) (cost : ℕ → ℕ → ℤ)
-      → HoldsRows n combs scale families cost (marks_in l.cases.directed []) l.fn.self → All (IsDecision n) l.cases.given.now
-      → HoldsRows n combs scale families cost (marks_in l.cases.directed (drop l.left l.cases.given.now)) l.self;
+  kept : (n family_count : ℕ) (scale : ℤ) (families : List (List (List ℕ))) (cost : ℕ → ℕ → ℤ)
+      → HoldsRows n family_count scale families cost (marks_in l.cases.directed []) l.fn.self → All (IsDecision n) l.cases.given.now
+      → HoldsRows n family_count scale families cost (marks_in l.cases.directed (drop l.left l.cases.given.now)) l.self;
 }
 
 -- `left` gets smaller by one

@@ -1,7 +1,6 @@
 -- The goals of `KeptRows::new` in src/kept.rt, which makes the rows under the given decisions, with all multipliers 0:
 -- what its calls require and what it ensures.
-use Rattle.std.proofs.Common.{◌≡◌, ◌+◌, ℕ, length, subst, arith}
-use Rattle.std.specs.List.{All}
+use Rattle.tsp_cases.proofs.Prelude.{◌≡◌, ◌+◌, ℕ, length, subst, arith, All}
 use Rattle.tsp_cases.specs.states.Sets.{lent_in}
 use Rattle.tsp_cases.specs.states.OpenCases.{IsDecision, marks_in}
 use Rattle.tsp_cases.specs.states.Kept.{HoldsRows}
@@ -16,11 +15,11 @@ mark_given-requires g c =
     let n = g.C.Costs.nodes s.costs.now in
     let cost = g.C.Costs.at s.costs.now in (
       n,
-      c.len-combs.result,
+      c.len-family_count.result,
       s.cases.now.scale,
       lent_in s.families.now,
       cost,
-      held_at_start n c.len-combs.result (c.count.result + 1) s.cases.now.scale (lent_in s.families.now) cost s.cases.now.directed _
+      held_at_start n c.len-family_count.result (c.count.result + 1) s.cases.now.scale (lent_in s.families.now) cost s.cases.now.directed _
           (c.in_ok-multipliers.ensures.items_if_clones_equal (λ y h. h)) (c.in_ok-differences.ensures.items_if_clones_equal (λ y h. h))
           (c.in_ok-ends.ensures.items_if_clones_equal (λ y h. h)) (omega (arith, c.count.ensures.value)) c.rows_if_any.ensures,
       subst (λ (k : ℕ). All (IsDecision k) s.cases.now.given.now) s.own s.cases.now.given_are,
@@ -32,11 +31,11 @@ returns g c =
     let n = g.C.Costs.nodes s.costs.now in
     let cost = g.C.Costs.at s.costs.now in
     let families = lent_in s.families.now in
-    let combs : ℕ = c.len-combs.result in
-    let long : combs ≡ length s.families.now.crossed.items = omega (arith, c.len-combs.ensures) in
+    let family_count : ℕ = c.len-family_count.result in
+    let long : family_count ≡ length s.families.now.crossed.items = omega (arith, c.len-family_count.ensures) in
     let given = subst (λ (k : ℕ). All (IsDecision k) s.cases.now.given.now) s.own s.cases.now.given_are in
     subst (λ (k : ℕ). HoldsRows n k s.cases.now.scale families cost (marks_in s.cases.now.directed s.cases.now.given.now) c.mark_given.new.self) long
-    (c.mark_given.ensures n combs s.cases.now.scale families cost
-    (held_at_start n combs (c.count.result + 1) s.cases.now.scale families cost s.cases.now.directed _
+    (c.mark_given.ensures n family_count s.cases.now.scale families cost
+    (held_at_start n family_count (c.count.result + 1) s.cases.now.scale families cost s.cases.now.directed _
     (c.in_ok-multipliers.ensures.items_if_clones_equal (λ y h. h)) (c.in_ok-differences.ensures.items_if_clones_equal (λ y h. h))
     (c.in_ok-ends.ensures.items_if_clones_equal (λ y h. h)) (omega (arith, c.count.ensures.value)) c.rows_if_any.ensures) given)

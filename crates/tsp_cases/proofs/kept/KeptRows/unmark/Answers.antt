@@ -1,9 +1,6 @@
 -- The goals of `KeptRows::unmark` in src/kept.rt, which takes the mark of a decision off the kept rows: what its calls
 -- require and what it ensures.
-use Rattle.std.proofs.Common.{◌≡◌, ◌∷◌, ℤ, false, arith, to_z, of_z}
-use Rattle.std.specs.Int.{w64}
-use Rattle.std.specs.Prelude.{pos, neg_ℤ, ◌-ℤ◌}
-use Rattle.std.proofs.lemmas.Int.{ints}
+use Rattle.tsp_cases.proofs.Prelude.{◌≡◌, ◌∷◌, ℤ, false, arith, to_z, of_z, w64, pos, neg_ℤ, ◌-ℤ◌, ints}
 use Rattle.tsp_cases.specs.states.OpenCases.{marks_in, signed}
 use Rattle.tsp_cases.proofs.RowsKept.{same_marks, decision_less}
 use Rattle.tsp_cases.proofs.kept.KeptRows.unmark.Goals as goal
@@ -15,9 +12,9 @@ add_between-requires c =
 
 -- plan: the negative number of the decision is added between its nodes, which takes its mark off (`decision_less`)
 pub returns : goal.returns
-returns c = λ n combs scale families cost case held pair.
+returns c = λ n weighted scale families cost case held pair.
     let own = c.number_of.ensures in
     let number : ℤ = to_z w64 (of_z w64 (pos 0 -ℤ to_z w64 (of_z w64 c.number_of.result))) in
     let is : number ≡ neg_ℤ (signed c.args.decision.taken) = omega (arith, ints, own.value, own.size.0, own.size.1) in
-    same_marks n combs scale families cost _ _ _ (λ i x. decision_less c.args.decision case number i x is)
-    (c.add_between.ensures n combs scale families cost (marks_in false (c.args.decision ∷ case)) held pair)
+    same_marks n weighted scale families cost _ _ _ (λ i x. decision_less c.args.decision case number i x is)
+    (c.add_between.ensures n weighted scale families cost (marks_in false (c.args.decision ∷ case)) held pair)

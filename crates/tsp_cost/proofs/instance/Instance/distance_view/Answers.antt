@@ -1,14 +1,11 @@
 -- The goals of `Instance::distance_view` in src/instance.rt, which returns the points of an instance with distances:
 -- what it ensures.
-use Rattle.std.proofs.Common.{◌≡◌, List, Some, length, map, sym, ap, subst, ◌∙◌}
+use Rattle.tsp_cost.proofs.Prelude.{◌≡◌, List, Some, length, map, sym, ap, subst, ◌∙◌, Point, Fields, distance, point_of}
 use Rattle.std.specs.Option.{option_map}
 use Rattle.std.proofs.lemmas.List.{length-map, map-id}
-use Rattle.tsp_number.specs.declared.decimal.Point.{Point}
 use Rattle.tsp_number.specs.declared.decimal.PlanePoint.{PlanePoint}
 use Rattle.tsp_number.specs.Distances.{on_plane}
 use Rattle.tsp_file.specs.states.Drafts.{points_of}
-use Rattle.tsp_file.specs.Fields.{Fields}
-use Rattle.tsp_file.specs.Cost.{distance, point_of}
 use Rattle.tsp_cost.specs.states.Metrics.{weight_kind_of}
 use Rattle.tsp_cost.specs.states.Views.{HasFound}
 use Rattle.tsp_cost.proofs.Problems.{AreOfPoints, of_points}

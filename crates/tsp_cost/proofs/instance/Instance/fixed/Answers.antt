@@ -1,6 +1,5 @@
 -- The goals of `Instance::fixed` in src/instance.rt: what it ensures.
-use Rattle.std.proofs.Common.{◌≡◌, ℕ, List, Some, sym, ap, subst, ◌∙◌}
-use Rattle.tsp_file.specs.Fields.{Fields}
+use Rattle.tsp_cost.proofs.Prelude.{◌≡◌, ℕ, List, Some, sym, ap, subst, ◌∙◌, Fields}
 use Rattle.tsp_file.specs.Valid.{AreFixed}
 use Rattle.tsp_cost.specs.states.Views.{HasFound}
 use Rattle.tsp_cost.proofs.Problems.{pairs_of}

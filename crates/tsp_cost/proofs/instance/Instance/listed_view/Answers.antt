@@ -1,12 +1,9 @@
 -- The goals of `Instance::listed_view` in src/instance.rt, which returns the matrix or triangle of an instance with
 -- listed weights: what its calls require and what it ensures.
-use Rattle.std.proofs.Common.{Some, ap, sym, subst, ◌∙◌}
+use Rattle.tsp_cost.proofs.Prelude.{Some, ap, sym, subst, ◌∙◌, Fields, listed_cost, same_layout}
 use Rattle.std.specs.Option.{option_map}
 use Rattle.tsp_format.specs.declared.layout.Layout.TheVariants.{FullMatrix}
 use Rattle.tsp_format.specs.declared.kinds.WeightFormat.TheVariants.{Listed}
-use Rattle.tsp_file.specs.Fields.{Fields}
-use Rattle.tsp_file.specs.Cost.{listed_cost}
-use Rattle.tsp_file.proofs.Relaid.{same_layout}
 use Rattle.tsp_cost.specs.states.Views.{HasFound}
 use Rattle.tsp_cost.proofs.Problems.{of_weights}
 use Rattle.tsp_cost.proofs.instance.Instance.listed_view.Goals as goal

@@ -1,9 +1,7 @@
 -- The goals of `cost` in src/matrix.rt, of the trait `Costs` for `Matrix`: what it ensures. It returns a cell of the
 -- matrix.
-use Rattle.std.proofs.Common.{◌<◌, length, sym, ◌∙◌, arith}
-use Rattle.std.specs.Prelude.{pos, slice_index_or}
+use Rattle.tsp_cost.proofs.Prelude.{◌<◌, length, sym, ◌∙◌, arith, pos, slice_index_or, cost_of_cell, weight_read}
 use Rattle.tsp_format.specs.declared.layout.Layout.TheVariants.{FullMatrix}
-use Rattle.tsp_file.proofs.Relaid.{cost_of_cell, weight_read}
 use Rattle.tsp_cost.proofs.matrix.MatrixCosts.cost.Goals as goal
 
 -- plan: the weight at the cell's place is its cost (`cost_of_cell`)

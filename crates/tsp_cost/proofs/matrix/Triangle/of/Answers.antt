@@ -1,7 +1,6 @@
 -- The goals of `Triangle::of` in src/matrix.rt, which makes costs of the listed weights of a triangle: the facts of
 -- the value that it makes.
-use Rattle.tsp_file.specs.Cost.{UnlistedHaveNoPlace}
-use Rattle.tsp_file.proofs.Relaid.{unlisted_has_no_place, triangle_even}
+use Rattle.tsp_cost.proofs.Prelude.{UnlistedHaveNoPlace, unlisted_has_no_place, triangle_even}
 use Rattle.tsp_cost.proofs.matrix.Triangle.of.Goals as goal
 
 -- plan: a half lists one of the two cells of a pair, so the cost is the same in both directions (`triangle_even`)

@@ -1,10 +1,6 @@
 -- The goals of `cost` in src/matrix.rt, of the trait `Costs` for `Triangle`: what it ensures. It returns the listed
 -- weight of the pair, in either direction.
-use Rattle.std.proofs.Common.{◌≡◌, ◌<◌, ℕ, length, false, ap, sym, ◌∙◌, arith}
-use Rattle.std.specs.Prelude.{pos, slice_index_or}
-use Rattle.tsp_format.specs.Nodes.{is_listed}
-use Rattle.tsp_file.specs.Cost.{listed_cost}
-use Rattle.tsp_file.proofs.Relaid.{cost_of_cell, cost_unlisted, diagonal_unlisted, either_way, weight_read}
+use Rattle.tsp_cost.proofs.Prelude.{◌≡◌, ◌<◌, ℕ, length, false, ap, sym, ◌∙◌, arith, pos, slice_index_or, is_listed, listed_cost, cost_of_cell, cost_unlisted, diagonal_unlisted, either_way, weight_read}
 use Rattle.tsp_cost.proofs.matrix.TriangleCosts.cost.Goals as goal
 
 -- plan: an unlisted diagonal costs 0 (`cost_unlisted`); else the weight at the place is the cell's (`cost_of_cell`)

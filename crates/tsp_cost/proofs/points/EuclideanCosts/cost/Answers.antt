@@ -1,7 +1,6 @@
 -- The goals of `cost` in src/points.rt, of the trait `Costs` for `Euclidean`: what it ensures. It returns the
 -- distance of two nodes' points.
-use Rattle.std.proofs.Common.{ℕ, ℤ, ap, ◌∙◌, rules, w64, SFits}
-use Rattle.std.proofs.lemmas.Int.{to_z-of_z}
+use Rattle.tsp_cost.proofs.Prelude.{ℕ, ℤ, ap, ◌∙◌, rules, w64, SFits, to_z-of_z}
 use Rattle.tsp_cost.proofs.points.EuclideanCosts.cost.Goals as goal
 
 -- plan: the cost is that of the points under EUC_2D

@@ -1,9 +1,6 @@
 -- The loop of `Points::along` in src/points.rt, which computes the length of a tour.
-use Rattle.std.proofs.Common.{◌≡◌, ◌+◌, ◌-◌, ◌≤◌, length}
-use Rattle.std.specs.Prelude.{◌+ℤ◌}
+use Rattle.tsp_cost.proofs.Prelude.{◌≡◌, ◌+◌, ◌-◌, ◌≤◌, length, ◌+ℤ◌, IsNode, length_of}
 use Rattle.std.specs.List.{All}
-use Rattle.tsp_format.specs.Nodes.{IsNode}
-use Rattle.tsp_theory.specs.Tour.{length_of}
 use Rattle.tsp_cost.specs.states.Views.{points_nodes, points_cost}
 use Rattle.tsp_cost.specs.states.Metrics.{length_to, IsSumOfCosts}
 use Rattle.tsp_cost.proofs.points.Points.along.Given as goal

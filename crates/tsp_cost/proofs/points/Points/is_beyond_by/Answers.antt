@@ -1,9 +1,6 @@
 -- The goals of `Points::is_beyond_by` in src/points.rt, which says whether a region is known to be far from a node, by
 -- the metric: what it ensures.
-use Rattle.std.proofs.Common.{ℤ, ◌≤ℤ◌, subst, w64}
-use Rattle.std.proofs.lemmas.Int.{to_z-of_z}
-use Rattle.tsp_number.specs.declared.decimal.Point.{Point}
-use Rattle.tsp_file.specs.Cost.{distance}
+use Rattle.tsp_cost.proofs.Prelude.{ℤ, ◌≤ℤ◌, subst, w64, to_z-of_z, Point, distance}
 use Rattle.tsp_cost.specs.declared.metric.Metric.{Metric}
 use Rattle.tsp_cost.specs.states.Metrics.{weight_kind_of}
 use Rattle.tsp_cost.specs.states.Views.{points_place}

@@ -1,10 +1,5 @@
 -- The goals of `Points::through` in src/points.rt, which sums the costs along a block of nodes: its loop.
-use Rattle.std.proofs.Common.{◌≡◌, ◌≤◌, ℕ, suc, ◌+◌, ◌∷◌, sym, ap, ap₂, ◌∙◌, arith, to_z, of_z, add-one}
-use Rattle.std.specs.Prelude.{ℤ, pos, neg_ℤ, slice_index_or, ◌≤ℤ◌}
-use Rattle.std.specs.Int.{w64}
-use Rattle.std.proofs.lemmas.Int.{ints}
-use Rattle.tsp_number.specs.declared.decimal.Point.{Point}
-use Rattle.tsp_file.specs.Cost.{distance}
+use Rattle.tsp_cost.proofs.Prelude.{◌≡◌, ◌≤◌, ℕ, suc, ◌+◌, ◌∷◌, sym, ap, ap₂, ◌∙◌, arith, to_z, of_z, add-one, ℤ, pos, neg_ℤ, slice_index_or, ◌≤ℤ◌, w64, ints, Point, distance}
 use Rattle.tsp_cost.specs.states.Metrics.{weight_kind_of}
 use Rattle.tsp_cost.specs.states.Views.{points_cost, points_place}
 use Rattle.tsp_cost.proofs.Ways.{way_more, cost_fits, sum_more}

@@ -1,7 +1,5 @@
 -- The loop of `Points::through` in src/points.rt, which sums the costs along a block of nodes.
-use Rattle.std.proofs.Common.{◌≡◌, ℕ, List, ◌∷◌, ◌++◌, drop}
-use Rattle.std.specs.Prelude.{◌+ℤ◌, slice_index_or}
-use Rattle.tsp_format.specs.Nodes.{IsNode}
+use Rattle.tsp_cost.proofs.Prelude.{◌≡◌, ℕ, List, ◌∷◌, ◌++◌, drop, ◌+ℤ◌, slice_index_or, IsNode}
 use Rattle.tsp_cost.specs.states.Views.{points_nodes, points_cost}
 use Rattle.tsp_cost.specs.states.Metrics.{length_to, IsSumOfCosts}
 use Rattle.tsp_cost.proofs.points.Points.through.Given as goal

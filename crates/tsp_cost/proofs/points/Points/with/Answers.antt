@@ -1,8 +1,5 @@
 -- The goals of `Points::with` in src/points.rt, which sets the metric of costs: what it ensures.
-use Rattle.std.proofs.Common.{ℕ, List, map, ap}
-use Rattle.std.specs.Prelude.{ℤ}
-use Rattle.tsp_number.specs.declared.decimal.Point.{Point}
-use Rattle.tsp_file.specs.Cost.{distance, point_of}
+use Rattle.tsp_cost.proofs.Prelude.{ℕ, List, map, ap, ℤ, Point, distance, point_of}
 use Rattle.tsp_cost.specs.declared.metric.Metric.{Metric}
 use Rattle.tsp_cost.specs.states.Metrics.{weight_kind_of}
 use Rattle.tsp_cost.proofs.points.Points.with.Goals as goal

@@ -1,9 +1,6 @@
 -- The goals of `File::as_matrix` in src/typed.rt, which returns listed weights with their layout: what its calls
 -- require and what it ensures.
-use Rattle.std.proofs.Common.{◌≡◌, Some, sym, ap, ◌∙◌}
-use Rattle.std.specs.Prelude.{is_some}
-use Rattle.tsp_format.specs.declared.layout.Layout.{Layout}
-use Rattle.tsp_format.specs.declared.kinds.WeightFormat.TheVariants.{Listed}
+use Rattle.tsp_file.proofs.Prelude.{◌≡◌, Some, sym, ap, ◌∙◌, is_some, Layout, Listed}
 use Rattle.tsp_file.specs.Fields.{Fields}
 use Rattle.tsp_file.specs.Valid.{AreWeights}
 use Rattle.tsp_file.proofs.Relaid.{lists, not_by_function, not_missing}

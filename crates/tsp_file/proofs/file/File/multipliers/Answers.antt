@@ -1,6 +1,5 @@
 -- The goals of `File::multipliers` in src/typed.rt: what it ensures.
-use Rattle.std.proofs.Common.{◌≡◌, Some, sym, ap, ◌∙◌}
-use Rattle.std.specs.Option.{option_map}
+use Rattle.tsp_file.proofs.Prelude.{◌≡◌, Some, sym, ap, ◌∙◌, option_map}
 use Rattle.tsp_file.specs.Fields.{Fields}
 use Rattle.tsp_file.proofs.FileFields.{multipliers_hold}
 use Rattle.tsp_file.proofs.file.File.multipliers.Goals as goal

@@ -1,8 +1,5 @@
 -- The goals of `File::way` in src/relayout.rt, which says how the weights get into another layout: what it ensures.
-use Rattle.std.proofs.Common.{◌≡◌, Some, sym, ap, ◌∙◌}
-use Rattle.std.proofs.lemmas.Bool.{false≢true}
-use Rattle.tsp_format.specs.declared.kinds.WeightFormat.TheVariants.{Listed}
-use Rattle.tsp_format.specs.Words.{IsFirstAsymmetric}
+use Rattle.tsp_file.proofs.Prelude.{◌≡◌, Some, sym, ap, ◌∙◌, false≢true, Listed, IsFirstAsymmetric}
 use Rattle.tsp_file.specs.Relayout.{IsFirstOnDiagonal, costs_in}
 use Rattle.tsp_file.proofs.Relaid.{same_layout, of_file, has_weights, pairs_held, can_go, own_layout}
 use Rattle.tsp_file.proofs.file.File.way.Goals as goal

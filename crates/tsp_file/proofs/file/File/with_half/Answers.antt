@@ -1,11 +1,6 @@
 -- The goals of `File::with_half` in src/file.rt, which changes a full matrix into half of one: what its calls require,
 -- what it ensures and the facts of the file that it makes.
-use Rattle.std.proofs.Common.{◌≡◌, ℕ, List, Some, None, sym, ap, subst, ◌∙◌}
-use Rattle.std.specs.Prelude.{is_some, ℤ}
-use Rattle.std.specs.Option.{option_map}
-use Rattle.tsp_format.specs.declared.layout.Layout.{Layout}
-use Rattle.tsp_format.specs.declared.layout.Layout.TheVariants.{FullMatrix}
-use Rattle.tsp_format.specs.declared.kinds.WeightFormat.TheVariants.{Listed}
+use Rattle.tsp_file.proofs.Prelude.{◌≡◌, ℕ, List, Some, None, sym, ap, subst, ◌∙◌, is_some, ℤ, option_map, Layout, FullMatrix, Listed}
 use Rattle.tsp_file.specs.Fields.{Fields, nodes_of}
 use Rattle.tsp_file.specs.states.Drafts.{fields_of}
 use Rattle.tsp_file.specs.Rules.{fault_of}

@@ -1,11 +1,7 @@
 -- The goals of `File::with_whole` in src/file.rt, which changes half of a matrix into the full one: what its calls
 -- require, what it ensures and the facts of the file that it makes.
-use Rattle.std.proofs.Common.{◌≡◌, rules, false, Result, Ok, Err, Some, sym, ap, subst, ◌∙◌}
-use Rattle.std.specs.Prelude.{OnOk, is_some}
-use Rattle.std.specs.Option.{option_map}
+use Rattle.tsp_file.proofs.Prelude.{◌≡◌, rules, false, Result, Ok, Err, Some, sym, ap, subst, ◌∙◌, OnOk, is_some, option_map, FullMatrix, Listed}
 use Rattle.std.specs.Result.{is_err}
-use Rattle.tsp_format.specs.declared.layout.Layout.TheVariants.{FullMatrix}
-use Rattle.tsp_format.specs.declared.kinds.WeightFormat.TheVariants.{Listed}
 use Rattle.tsp_file.specs.Fields.{Fields, nodes_of}
 use Rattle.tsp_file.specs.states.Drafts.{fields_of}
 use Rattle.tsp_file.specs.Cost.{cost}

@@ -1,8 +1,6 @@
 -- The goals of `ListedWeights::cost` in src/typed.rt, which returns the weight of a pair, in either direction, or 0:
 -- what it ensures.
-use Rattle.std.proofs.Common.{◌≡◌, ◌<◌, None, length, sym, ◌∙◌, arith}
-use Rattle.std.specs.Prelude.{pos, slice_index_or}
-use Rattle.tsp_format.specs.Place.{place_of}
+use Rattle.tsp_file.proofs.Prelude.{◌≡◌, ◌<◌, None, length, sym, ◌∙◌, arith, pos, slice_index_or, place_of}
 use Rattle.tsp_file.proofs.Relaid.{cost_of_cell, cost_mirrored, cost_unlisted, weight_read, no_cell}
 use Rattle.tsp_file.proofs.typed.ListedWeights.cost.Goals as goal
 

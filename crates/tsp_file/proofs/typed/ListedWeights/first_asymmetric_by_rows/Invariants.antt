@@ -1,6 +1,5 @@
 -- The loop of `ListedWeights::first_asymmetric_by_rows` in src/typed.rt.
-use Rattle.std.proofs.Common.{◌≡◌, ℕ, ◌<◌}
-use Rattle.tsp_format.specs.Nodes.{IsNode}
+use Rattle.tsp_file.proofs.Prelude.{◌≡◌, ℕ, ◌<◌, IsNode}
 use Rattle.tsp_file.specs.states.Weights.{costs_of}
 use Rattle.tsp_file.proofs.typed.ListedWeights.first_asymmetric_by_rows.Given as goal
 

@@ -1,8 +1,6 @@
 -- The loop of `ListedWeights::first_on_diagonal` in src/typed.rt, which finds the first node that doesn't cost 0 to
 -- itself.
-use Rattle.std.proofs.Common.{◌≡◌, ℕ, ◌<◌}
-use Rattle.std.specs.Prelude.{pos}
-use Rattle.tsp_format.specs.Nodes.{IsNode}
+use Rattle.tsp_file.proofs.Prelude.{◌≡◌, ℕ, ◌<◌, pos, IsNode}
 use Rattle.tsp_file.specs.states.Weights.{costs_of}
 use Rattle.tsp_file.proofs.typed.ListedWeights.first_on_diagonal.Given as goal
 

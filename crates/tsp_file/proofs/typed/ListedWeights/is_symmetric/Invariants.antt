@@ -1,6 +1,5 @@
 -- The loop of `ListedWeights::is_symmetric` in src/typed.rt, which tests the symmetry of all costs, block by block.
-use Rattle.std.proofs.Common.{◌≡◌, ℕ, ◌<◌, ◌≤◌, ◌*◌}
-use Rattle.tsp_format.specs.Nodes.{IsNode}
+use Rattle.tsp_file.proofs.Prelude.{◌≡◌, ℕ, ◌<◌, ◌≤◌, ◌*◌, IsNode}
 use Rattle.tsp_file.specs.states.Weights.{costs_of}
 use Rattle.tsp_file.proofs.typed.ListedWeights.is_symmetric.Given as goal
 

@@ -1,9 +1,6 @@
 -- The goals of `ListedWeights::laid_out` in src/typed.rt, which lists the costs in another layout: its loop and what
 -- it ensures.
-use Rattle.std.proofs.Common.{sym, subst, arith}
-use Rattle.std.specs.List.{All}
-use Rattle.tsp_format.specs.Limits.{most_weight}
-use Rattle.tsp_format.specs.Nodes.{cells_of_line}
+use Rattle.tsp_file.proofs.Prelude.{sym, subst, arith, All, most_weight, cells_of_line}
 use Rattle.tsp_file.specs.Valid.{IsWithin}
 use Rattle.tsp_file.specs.states.Weights.{costs_of}
 use Rattle.tsp_file.proofs.Relaid.{line_more, lines_all, cost_within, all_within}

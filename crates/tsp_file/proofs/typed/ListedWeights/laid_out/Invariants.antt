@@ -1,7 +1,5 @@
 -- The loop of `ListedWeights::laid_out` in src/typed.rt, which lists the costs in another layout.
-use Rattle.std.proofs.Common.{◌≡◌, ◌-◌, map, take}
-use Rattle.std.specs.List.{flat_map}
-use Rattle.tsp_format.specs.Nodes.{nodes_to, cells_of_line}
+use Rattle.tsp_file.proofs.Prelude.{◌≡◌, ◌-◌, map, take, flat_map, nodes_to, cells_of_line}
 use Rattle.tsp_file.specs.states.Weights.{costs_of}
 use Rattle.tsp_file.proofs.typed.ListedWeights.laid_out.Given as goal
 

@@ -1,10 +1,6 @@
 -- The goals of `ListedWeights::lay_line` in src/typed.rt, which lists the costs of a line in another layout: its loop
 -- and what it ensures.
-use Rattle.std.proofs.Common.{◌<◌, List, ◌++◌, length, map, ap, sym, subst, ◌∙◌, arith}
-use Rattle.std.specs.Prelude.{ℤ}
-use Rattle.std.proofs.lemmas.List.{take_all}
-use Rattle.tsp_format.specs.Nodes.{cells_of_line}
-use Rattle.tsp_format.specs.Limits.{most_weight}
+use Rattle.tsp_file.proofs.Prelude.{◌<◌, List, ◌++◌, length, map, ap, sym, subst, ◌∙◌, arith, ℤ, take_all, cells_of_line, most_weight}
 use Rattle.tsp_file.specs.Valid.{IsWithin}
 use Rattle.tsp_file.specs.states.Weights.{costs_of}
 use Rattle.tsp_file.proofs.Relaid.{weight_read, cell_more, cost_within}

@@ -1,6 +1,5 @@
 -- The loop of `ListedWeights::lay_line` in src/typed.rt, which lists the costs of a line in another layout.
-use Rattle.std.proofs.Common.{◌≡◌, ◌++◌, map, take}
-use Rattle.tsp_format.specs.Nodes.{cells_of_line}
+use Rattle.tsp_file.proofs.Prelude.{◌≡◌, ◌++◌, map, take, cells_of_line}
 use Rattle.tsp_file.specs.states.Weights.{costs_of}
 use Rattle.tsp_file.proofs.typed.ListedWeights.lay_line.Given as goal
 

@@ -1,9 +1,6 @@
 -- The goals of `ListedWeights::weight` in src/typed.rt, which returns the weight of a pair in a full matrix: what it
 -- ensures.
-use Rattle.std.proofs.Common.{◌≡◌, ◌<◌, Some, length, sym, ap, ◌∙◌, arith}
-use Rattle.std.specs.Prelude.{pos, slice_index_or}
-use Rattle.tsp_format.specs.Place.{place_of}
-use Rattle.tsp_format.specs.Nodes.{cells}
+use Rattle.tsp_file.proofs.Prelude.{◌≡◌, ◌<◌, Some, length, sym, ap, ◌∙◌, arith, pos, slice_index_or, place_of, cells}
 use Rattle.tsp_file.proofs.Relaid.{cost_of_cell, weight_read}
 use Rattle.tsp_file.proofs.typed.ListedWeights.weight.Goals as goal
 

@@ -1,7 +1,5 @@
 -- The loop of `fill` in src/writer/matrix.rt.
-use Rattle.std.proofs.Common.{◌≡◌, ◌*◌, ◌≤◌, ◌∷◌, drop}
-use Rattle.std.specs.List.{flat_map}
-use Rattle.std.specs.Fmt.{signed_decimal}
+use Rattle.tsp_file.proofs.Prelude.{◌≡◌, ◌*◌, ◌≤◌, ◌∷◌, drop, flat_map, signed_decimal}
 use Rattle.tsp_file.proofs.writer.matrix.fill.Given as goal
 
 -- from `start` on the block is the text of the weights from `index` on; before it are nine bytes for each weight left

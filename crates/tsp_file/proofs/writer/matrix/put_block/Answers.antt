@@ -1,6 +1,5 @@
 -- The goals of `put_block` in src/writer/matrix.rt, which adds weights by way of a block: what it ensures.
-use Rattle.std.proofs.Common.{◌≡◌, ◌∙◌, ◌-◌, take, drop, arith}
-use Rattle.std.proofs.lemmas.List.{take_all, length-drop}
+use Rattle.tsp_file.proofs.Prelude.{◌≡◌, ◌∙◌, ◌-◌, take, drop, arith, take_all, length-drop}
 use Rattle.tsp_file.proofs.writer.matrix.put_block.Goals as goal
 
 -- plan: the block is filled from its end, and its bytes from the first written one on are added: a blank and a weight

@@ -1,11 +1,5 @@
 -- The goals of `put_each` in src/writer/matrix.rt, which adds weights one by one: its loop and what it ensures.
-use Rattle.std.proofs.Common.{List, ℕ, ◌∷◌, arith, rules, get_or}
-use Rattle.std.specs.Prelude.{ℤ, pos, FitsSigned}
-use Rattle.std.specs.Int.{w64}
-use Rattle.std.proofs.lemmas.Int.{to_z-of_z}
-use Rattle.std.specs.Fmt.{signed_decimal}
-use Rattle.tsp_io.specs.states.Watched.{way_of}
-use Rattle.tsp_io.proofs.Carrying.{carried_next_or, carried_all, carried_none}
+use Rattle.tsp_file.proofs.Prelude.{List, ℕ, ◌∷◌, arith, rules, get_or, ℤ, pos, FitsSigned, w64, to_z-of_z, signed_decimal, way_of, carried_next_or, carried_all, carried_none}
 use Rattle.tsp_file.proofs.writer.matrix.put_each.Goals as goal
 
 pub weights-init : goal.weights-init

@@ -1,8 +1,5 @@
 -- The loop of `put_each` in src/writer/matrix.rt.
-use Rattle.std.proofs.Common.{◌∷◌, take}
-use Rattle.std.specs.List.{flat_map}
-use Rattle.std.specs.Fmt.{signed_decimal}
-use Rattle.tsp_io.specs.states.Watched.{way_of, Carried}
+use Rattle.tsp_file.proofs.Prelude.{◌∷◌, take, flat_map, signed_decimal, way_of, Carried}
 use Rattle.tsp_file.proofs.writer.matrix.put_each.Given as goal
 
 -- the bytes added so far are the weights before this one, each after a blank

@@ -1,9 +1,7 @@
 -- The goals of `put_lines` in src/writer/matrix.rt, which adds the lines of the weights, one for each row or column:
 -- its loop and what it ensures.
-use Rattle.std.proofs.Common.{◌≡◌, ◌∙◌, sym, length, map, min, arith}
-use Rattle.tsp_format.specs.Nodes.{nodes_to, cells_of_line}
+use Rattle.tsp_file.proofs.Prelude.{◌≡◌, ◌∙◌, sym, length, map, min, arith, nodes_to, cells_of_line, way_of}
 use Rattle.tsp_file.specs.CanonicalText.{matrix_lines}
-use Rattle.tsp_io.specs.states.Watched.{way_of}
 use Rattle.tsp_file.proofs.WrittenLines.{comes_begins, comes_next, comes_last, comes_failed}
 use Rattle.tsp_file.proofs.writer.matrix.put_lines.Goals as goal
 

@@ -1,8 +1,6 @@
 -- The loop of `put_lines` in src/writer/matrix.rt.
-use Rattle.std.proofs.Common.{◌+◌, ◌-◌, length, map}
-use Rattle.tsp_format.specs.Nodes.{nodes_to, cells_of_line}
+use Rattle.tsp_file.proofs.Prelude.{◌+◌, ◌-◌, length, map, nodes_to, cells_of_line, way_of}
 use Rattle.tsp_file.specs.CanonicalText.{matrix_lines}
-use Rattle.tsp_io.specs.states.Watched.{way_of}
 use Rattle.tsp_file.proofs.WrittenLines.{Comes, lines_from}
 use Rattle.tsp_file.proofs.writer.matrix.put_lines.Given as goal
 

@@ -1,8 +1,6 @@
 -- The goals of `put_more_weights` in src/writer/matrix.rt, which adds weights, by a block or one by one: its loop and
 -- what it ensures.
-use Rattle.std.proofs.Common.{[], refl}
-use Rattle.tsp_io.specs.states.Watched.{way_of}
-use Rattle.tsp_io.proofs.Carrying.{carried_none}
+use Rattle.tsp_file.proofs.Prelude.{[], refl, way_of, carried_none}
 use Rattle.tsp_file.proofs.WrittenLines.{after_blanks, comes_block, comes_blocks}
 use Rattle.tsp_file.proofs.writer.matrix.put_more_weights.Goals as goal
 

@@ -1,8 +1,5 @@
 -- The loop of `put_more_weights` in src/writer/matrix.rt.
-use Rattle.std.proofs.Common.{◌∷◌, length}
-use Rattle.std.specs.List.{flat_map}
-use Rattle.std.specs.Fmt.{signed_decimal}
-use Rattle.tsp_io.specs.states.Watched.{way_of}
+use Rattle.tsp_file.proofs.Prelude.{◌∷◌, length, flat_map, signed_decimal, way_of}
 use Rattle.tsp_file.proofs.WrittenLines.{Comes}
 use Rattle.tsp_file.proofs.writer.matrix.put_more_weights.Given as goal
 

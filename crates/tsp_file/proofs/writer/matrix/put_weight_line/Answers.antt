@@ -1,10 +1,6 @@
 -- The goals of `put_weight_line` in src/writer/matrix.rt, which adds a line of weights: what it ensures.
-use Rattle.tsp_io.specs.states.Watched.{way_of}
+use Rattle.tsp_file.proofs.Prelude.{way_of, w64, to_z-of_z, FitsSigned, rules}
 use Rattle.tsp_file.proofs.WrittenLines.{no_weights, some_weights}
-use Rattle.std.specs.Int.{w64}
-use Rattle.std.proofs.lemmas.Int.{to_z-of_z}
-use Rattle.std.specs.Prelude.{FitsSigned}
-use Rattle.std.proofs.Common.{rules}
 use Rattle.tsp_file.proofs.writer.matrix.put_weight_line.Goals as goal
 
 -- plan: by whether the line has weights: they and the line's end are written (`some_weights`), or nothing

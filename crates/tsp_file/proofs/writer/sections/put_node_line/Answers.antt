@@ -1,7 +1,5 @@
 -- The goals of `put_node_line` in src/writer/sections.rt: what it ensures.
-use Rattle.std.specs.Fmt.{decimal}
-use Rattle.tsp_io.specs.states.Watched.{way_of}
-use Rattle.tsp_io.proofs.Carrying.{carried_then}
+use Rattle.tsp_file.proofs.Prelude.{decimal, way_of, carried_then}
 use Rattle.tsp_file.specs.CanonicalText.{line_end}
 use Rattle.tsp_file.proofs.writer.sections.put_node_line.Goals as goal
 

@@ -1,10 +1,5 @@
 -- The goals of `put_nodes` in src/writer/sections.rt: its loop and what it ensures.
-use Rattle.std.proofs.Common.{ℕ, []}
-use Rattle.std.specs.Prelude.{codes}
-use Rattle.std.specs.List.{flat_map}
-use Rattle.std.specs.Fmt.{decimal}
-use Rattle.tsp_io.specs.states.Watched.{way_of}
-use Rattle.tsp_io.proofs.Carrying.{carried_none, carried_then, carried_all, carried_next_or}
+use Rattle.tsp_file.proofs.Prelude.{ℕ, [], codes, flat_map, decimal, way_of, carried_none, carried_then, carried_all, carried_next_or}
 use Rattle.tsp_file.specs.CanonicalText.{number_line}
 use Rattle.tsp_file.proofs.writer.sections.put_nodes.Goals as goal
 

@@ -1,9 +1,6 @@
 -- The loop of `put_nodes` in src/writer/sections.rt.
-use Rattle.std.proofs.Common.{[], take}
-use Rattle.std.specs.List.{flat_map}
-use Rattle.std.specs.Fmt.{decimal}
+use Rattle.tsp_file.proofs.Prelude.{[], take, flat_map, decimal, way_of, Carried}
 use Rattle.tsp_file.specs.CanonicalText.{number_line}
-use Rattle.tsp_io.specs.states.Watched.{way_of, Carried}
 use Rattle.tsp_file.proofs.writer.sections.put_nodes.Given as goal
 
 -- the bytes added so far are the lines of the nodes before this one

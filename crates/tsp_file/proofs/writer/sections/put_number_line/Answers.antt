@@ -1,11 +1,6 @@
 -- The goals of `put_number_line` in src/writer/sections.rt: what it ensures.
-use Rattle.std.proofs.Common.{rules}
-use Rattle.std.specs.Fmt.{decimal, signed_decimal}
-use Rattle.tsp_io.specs.states.Watched.{way_of}
+use Rattle.tsp_file.proofs.Prelude.{rules, decimal, signed_decimal, way_of, w64, to_z-of_z, FitsSigned}
 use Rattle.tsp_file.proofs.WrittenLines.{two_numbers}
-use Rattle.std.specs.Int.{w64}
-use Rattle.std.proofs.lemmas.Int.{to_z-of_z}
-use Rattle.std.specs.Prelude.{FitsSigned}
 use Rattle.tsp_file.proofs.writer.sections.put_number_line.Goals as goal
 
 -- plan: two numbers in a line (`two_numbers`)

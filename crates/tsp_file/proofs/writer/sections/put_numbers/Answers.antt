@@ -1,12 +1,6 @@
 -- The goals of `put_numbers` in src/writer/sections.rt: its loop and what it ensures.
-use Rattle.std.proofs.Common.{ℕ, arith, rules, get_or}
-use Rattle.std.specs.Prelude.{ℤ, pos, FitsSigned}
-use Rattle.std.specs.Int.{w64}
-use Rattle.std.proofs.lemmas.Int.{to_z-of_z}
-use Rattle.std.specs.Fmt.{decimal}
+use Rattle.tsp_file.proofs.Prelude.{ℕ, arith, rules, get_or, ℤ, pos, FitsSigned, w64, to_z-of_z, decimal, way_of, carried_node_or, carried_nodes}
 use Rattle.tsp_file.specs.CanonicalText.{number_line, whole_number}
-use Rattle.tsp_io.specs.states.Watched.{way_of}
-use Rattle.tsp_io.proofs.Carrying.{carried_node_or, carried_nodes}
 use Rattle.tsp_file.proofs.writer.sections.put_numbers.Goals as goal
 
 -- plan: the line of one node more is added, with its number, unless the writer has failed (`carried_node_or`)

@@ -1,9 +1,6 @@
 -- The loop of `put_numbers` in src/writer/sections.rt.
-use Rattle.std.proofs.Common.{take}
-use Rattle.std.specs.List.{flat_map, enumerate_from}
-use Rattle.std.specs.Fmt.{decimal}
+use Rattle.tsp_file.proofs.Prelude.{take, flat_map, enumerate_from, decimal, way_of, Carried}
 use Rattle.tsp_file.specs.CanonicalText.{number_line, whole_number}
-use Rattle.tsp_io.specs.states.Watched.{way_of, Carried}
 use Rattle.tsp_file.proofs.writer.sections.put_numbers.Given as goal
 
 -- the bytes added so far are the lines of the numbers before this one, counted from 1 on

@@ -1,7 +1,5 @@
 -- The goals of `put_opening` in src/writer/sections.rt, which adds the line that opens a section: what it ensures.
-use Rattle.tsp_format.specs.Words.{field_word}
-use Rattle.tsp_io.specs.states.Watched.{way_of}
-use Rattle.tsp_io.proofs.Carrying.{carried_then}
+use Rattle.tsp_file.proofs.Prelude.{field_word, way_of, carried_then}
 use Rattle.tsp_file.specs.CanonicalText.{line_end}
 use Rattle.tsp_file.proofs.writer.sections.put_opening.Goals as goal
 

@@ -1,6 +1,5 @@
 -- The goals of `put_pair_line` in src/writer/sections.rt: what it ensures.
-use Rattle.std.specs.Fmt.{decimal}
-use Rattle.tsp_io.specs.states.Watched.{way_of}
+use Rattle.tsp_file.proofs.Prelude.{decimal, way_of}
 use Rattle.tsp_file.proofs.WrittenLines.{two_numbers}
 use Rattle.tsp_file.proofs.writer.sections.put_pair_line.Goals as goal
 

@@ -1,7 +1,6 @@
 -- The goals of `put_pair_section` in src/writer/sections.rt: what it ensures.
+use Rattle.tsp_file.proofs.Prelude.{way_of, carried_none}
 use Rattle.tsp_file.specs.CanonicalText.{pair_list}
-use Rattle.tsp_io.specs.states.Watched.{way_of}
-use Rattle.tsp_io.proofs.Carrying.{carried_none}
 use Rattle.tsp_file.proofs.WrittenLines.{opened}
 use Rattle.tsp_file.proofs.writer.sections.put_pair_section.Goals as goal
 

@@ -1,7 +1,6 @@
 -- The goals of `put_point_line` in src/writer/sections.rt, which adds the line of a node with its coordinates: what it
 -- ensures.
-use Rattle.std.proofs.Common.{◌≡◌, ◌∙◌, ◌-◌, take, drop, arith}
-use Rattle.std.proofs.lemmas.List.{take_all, length-drop}
+use Rattle.tsp_file.proofs.Prelude.{◌≡◌, ◌∙◌, ◌-◌, take, drop, arith, take_all, length-drop}
 use Rattle.tsp_file.proofs.writer.sections.put_point_line.Goals as goal
 
 -- plan: the block is filled from its end, and its bytes from the first written one on are added: the line of the point

@@ -1,10 +1,7 @@
 -- The goals of `put_point_section` in src/writer/sections.rt: what it ensures.
-use Rattle.std.proofs.Common.{◌∙◌}
-use Rattle.std.proofs.lemmas.List.{map-id}
+use Rattle.tsp_file.proofs.Prelude.{◌∙◌, map-id, way_of, carried_none}
 use Rattle.tsp_file.specs.states.Drafts.{points_of}
 use Rattle.tsp_file.specs.CanonicalText.{lines_by_node, coordinate_words}
-use Rattle.tsp_io.specs.states.Watched.{way_of}
-use Rattle.tsp_io.proofs.Carrying.{carried_none}
 use Rattle.tsp_file.proofs.WrittenLines.{opened}
 use Rattle.tsp_file.proofs.writer.sections.put_point_section.Goals as goal
 

@@ -1,11 +1,6 @@
 -- The goals of `put_points` in src/writer/sections.rt: its loop and what it ensures.
-use Rattle.std.proofs.Common.{◌≡◌, ◌∙◌, ℕ, ◌+◌, List, map, get_or, sym, ap, subst, arith}
-use Rattle.std.proofs.lemmas.List.{length-map, get_or-map}
-use Rattle.tsp_number.specs.declared.decimal.Point.{Point}
-use Rattle.std.specs.Fmt.{decimal}
+use Rattle.tsp_file.proofs.Prelude.{◌≡◌, ◌∙◌, ℕ, ◌+◌, List, map, get_or, sym, ap, subst, arith, length-map, get_or-map, Point, decimal, Way, Carried, way_of, carried_node, carried_nodes}
 use Rattle.tsp_file.specs.CanonicalText.{number_line, coordinate_words}
-use Rattle.tsp_io.specs.states.Watched.{Way, Carried, way_of}
-use Rattle.tsp_io.proofs.Carrying.{carried_node, carried_nodes}
 use Rattle.tsp_file.proofs.writer.sections.put_points.Goals as goal
 
 -- plan: the line of one node more is added, with its coordinates (`carried_node`)

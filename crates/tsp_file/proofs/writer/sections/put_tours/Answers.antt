@@ -1,8 +1,6 @@
 -- The goals of `put_tours` in src/writer/sections.rt: its loop and what it ensures.
-use Rattle.std.proofs.Common.{arith}
+use Rattle.tsp_file.proofs.Prelude.{arith, way_of, carried_mapped, carried_none, carried_next}
 use Rattle.tsp_file.specs.CanonicalText.{node_list}
-use Rattle.tsp_io.specs.states.Watched.{way_of}
-use Rattle.tsp_io.proofs.Carrying.{carried_mapped, carried_none, carried_next}
 use Rattle.tsp_file.proofs.writer.sections.put_tours.Goals as goal
 
 pub tours-init : goal.tours-init

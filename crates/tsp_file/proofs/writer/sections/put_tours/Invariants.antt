@@ -1,8 +1,6 @@
 -- The loop of `put_tours` in src/writer/sections.rt.
-use Rattle.std.proofs.Common.{take}
-use Rattle.std.specs.List.{flat_map}
+use Rattle.tsp_file.proofs.Prelude.{take, flat_map, way_of, Carried}
 use Rattle.tsp_file.specs.CanonicalText.{node_list}
-use Rattle.tsp_io.specs.states.Watched.{way_of, Carried}
 use Rattle.tsp_file.proofs.writer.sections.put_tours.Given as goal
 
 -- the bytes added so far are the tours before this one, each with its line -1

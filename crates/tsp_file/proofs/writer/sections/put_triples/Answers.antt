@@ -1,13 +1,6 @@
 -- The goals of `put_triples` in src/writer/sections.rt: its loop and what it ensures.
-use Rattle.std.proofs.Common.{ℕ, [], ◌∷◌, rules, get_or}
-use Rattle.std.specs.Prelude.{ℤ, pos, codes, FitsSigned}
-use Rattle.std.specs.List.{flat_map}
-use Rattle.std.specs.Fmt.{decimal, signed_decimal}
-use Rattle.tsp_io.specs.states.Watched.{way_of}
-use Rattle.tsp_io.proofs.Carrying.{carried_none, carried_then, carried_all, carried_next_or}
+use Rattle.tsp_file.proofs.Prelude.{ℕ, [], ◌∷◌, rules, get_or, ℤ, pos, codes, FitsSigned, flat_map, decimal, signed_decimal, way_of, carried_none, carried_then, carried_all, carried_next_or, w64, to_z-of_z}
 use Rattle.tsp_file.specs.CanonicalText.{number_line}
-use Rattle.std.specs.Int.{w64}
-use Rattle.std.proofs.lemmas.Int.{to_z-of_z}
 use Rattle.tsp_file.proofs.writer.sections.put_triples.Goals as goal
 
 -- plan: one triple's line more (`carried_next_or`), and the -1 at the end (`carried_then`)

@@ -1,9 +1,6 @@
 -- The loop of `put_triples` in src/writer/sections.rt.
-use Rattle.std.proofs.Common.{[], ◌∷◌, ℕ, ℤ, take}
-use Rattle.std.specs.List.{flat_map}
-use Rattle.std.specs.Fmt.{decimal, signed_decimal}
+use Rattle.tsp_file.proofs.Prelude.{[], ◌∷◌, ℕ, ℤ, take, flat_map, decimal, signed_decimal, way_of, Carried}
 use Rattle.tsp_file.specs.CanonicalText.{number_line}
-use Rattle.tsp_io.specs.states.Watched.{way_of, Carried}
 use Rattle.tsp_file.proofs.writer.sections.put_triples.Given as goal
 
 -- the bytes added so far are the lines of the triples before this one

@@ -1,8 +1,6 @@
 -- The goals of `write_line_end` in src/writer/sections.rt, which writes the third coordinate, if any, and the end of
 -- the line: what it ensures.
-use Rattle.std.proofs.Common.{◌≡◌, ◌∷◌, ◌++◌, ℕ, List, length, drop, set, ap, sym, ◌∙◌, append-nil, arith, rules}
-use Rattle.std.proofs.lemmas.List.{drop-set, drop_all}
-use Rattle.tsp_number.specs.NumberWord.{spelling}
+use Rattle.tsp_file.proofs.Prelude.{◌≡◌, ◌∷◌, ◌++◌, ℕ, List, length, drop, set, ap, sym, ◌∙◌, append-nil, arith, rules, drop-set, drop_all, spelling}
 use Rattle.tsp_file.specs.CanonicalText.{line_end}
 use Rattle.tsp_file.proofs.writer.sections.write_line_end.Goals as goal
 

@@ -1,10 +1,7 @@
 -- The goals of `write_point_line` in src/writer/sections.rt, which writes the line of a node with its coordinates: what
 -- its calls require and what it ensures.
-use Rattle.std.proofs.Common.{[], ◌∷◌, ◌++◌, ℕ, List, cond, ap, sym, ◌∙◌, append_assoc, arith, rules}
+use Rattle.tsp_file.proofs.Prelude.{[], ◌∷◌, ◌++◌, ℕ, List, cond, ap, sym, ◌∙◌, append_assoc, arith, rules, flat_map, decimal, spelling}
 use Rattle.std.proofs.lemmas.Fmt.{length-decimal-le}
-use Rattle.std.specs.List.{flat_map}
-use Rattle.std.specs.Fmt.{decimal}
-use Rattle.tsp_number.specs.NumberWord.{spelling}
 use Rattle.tsp_file.specs.CanonicalText.{line_end}
 use Rattle.tsp_file.proofs.writer.sections.write_point_line.Goals as goal
 

@@ -1,15 +1,12 @@
 -- The goals of `Opened::bind` in src/opened.rt, which binds a certificate to an open instance: that what it keeps is
--- the basis, and what it ensures.
-use Rattle.std.proofs.Common.{◌≡◌, Err, ap, refl, rules, subst}
-use Rattle.std.specs.Prelude.{IsTrue}
-use Rattle.tsp_verdict.specs.Certified.{IsBoundVerdict, is_bounded}
+-- the known bound, and what it ensures.
+use Rattle.tsp_judge.proofs.Prelude.{◌≡◌, Err, ap, refl, rules, subst, IsTrue, IsBoundVerdict, is_bounded, propagated}
 use Rattle.tsp_judge.specs.declared.run_status.RunFault.TheVariants.{OutOfMemory}
 use Rattle.tsp_judge.specs.Open.{Open, IsUnbound}
-use Rattle.tsp_read.proofs.BegunSteps.{propagated}
 use Rattle.tsp_judge.proofs.Bounding.{unbound}
 use Rattle.tsp_judge.proofs.opened.Opened.bind.Goals as goal
 
--- plan: by how it ends: no file, no memory for the bound (`unbound`), or the new basis
+-- plan: by how it ends: no file, no memory for the bound (`unbound`), or the new known bound
 pub invariant_of-self : goal.invariant_of-self
 invariant_of-self c =
     let bounded : IsTrue (is_bounded c.args.by c.self.inside.instance.kind) = search rules in

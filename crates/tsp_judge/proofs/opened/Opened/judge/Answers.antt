@@ -1,8 +1,7 @@
 -- The goals of `Opened::judge` in src/opened.rt, which judges a solution by an open instance: what its calls require
 -- and what it ensures.
-use Rattle.std.proofs.Common.{◌≡◌, Err, subst}
+use Rattle.tsp_judge.proofs.Prelude.{◌≡◌, Err, subst, propagated}
 use Rattle.tsp_judge.specs.Open.{Open, IsHeldVerdict}
-use Rattle.tsp_read.proofs.BegunSteps.{propagated}
 use Rattle.tsp_judge.proofs.Bounding.{not_judged}
 use Rattle.tsp_judge.proofs.opened.Opened.judge.Goals as goal
 

@@ -1,6 +1,5 @@
 -- The goals of `Opened::of` in src/opened.rt, which opens the instance of a text: what it ensures.
-use Rattle.std.proofs.Common.{◌≡◌, Err, refl}
-use Rattle.tsp_read.proofs.BegunSteps.{propagated}
+use Rattle.tsp_judge.proofs.Prelude.{◌≡◌, Err, refl, propagated}
 use Rattle.tsp_judge.proofs.Bounding.{unopened}
 use Rattle.tsp_judge.proofs.opened.Opened.of.Goals as goal
 

@@ -1,7 +1,6 @@
 -- The goals of `NumberList::finish` in src/by_node.rt, which returns the list by node, and whether a group is
 -- missing: what it ensures.
-use Rattle.std.proofs.Common.{refl}
-use Rattle.tsp_text.specs.SectionWords.{Amount}
+use Rattle.tsp_read.proofs.Prelude.{refl, Amount}
 use Rattle.tsp_read.proofs.GroupSteps as groups
 use Rattle.tsp_read.proofs.by_node.NumberList.finish.Goals as goal
 

@@ -1,9 +1,6 @@
 -- The goals of `NumberList::open` in src/by_node.rt, which begins the section: what it ensures.
-use Rattle.std.proofs.Common.{[], arith, rules, w64}
+use Rattle.tsp_read.proofs.Prelude.{[], arith, rules, w64, to_z-of_z, pos, number_value}
 use mir.Val.{SFits}
-use Rattle.std.proofs.lemmas.Int.{to_z-of_z}
-use Rattle.std.specs.Prelude.{pos}
-use Rattle.tsp_text.specs.Groups.{number_value}
 use Rattle.tsp_read.proofs.GroupSteps.{none_so_far}
 use Rattle.tsp_read.proofs.by_node.NumberList.open.Goals as goal
 

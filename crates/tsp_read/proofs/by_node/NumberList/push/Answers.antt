@@ -1,11 +1,8 @@
 -- The goals of `NumberList::push` in src/by_node.rt, which takes the next word: that no difference overflows,
 -- that indices are in range and what it ensures.
-use Rattle.std.proofs.Common.{◌≡◌, ◌∙◌, refl, sym, subst, Ok, Err, arith, rules, w64}
+use Rattle.tsp_read.proofs.Prelude.{◌≡◌, ◌∙◌, refl, sym, subst, Ok, Err, arith, rules, w64, to_z-of_z, whole_of, Amount}
 use mir.Val.{SFits}
-use Rattle.std.proofs.lemmas.Int.{to_z-of_z}
-use Rattle.tsp_number.specs.NumberWord.{whole_of}
 use Rattle.tsp_read.specs.states.Parts.{IsNewNode}
-use Rattle.tsp_text.specs.SectionWords.{Amount}
 use Rattle.tsp_read.proofs.GroupSteps as groups
 use Rattle.tsp_read.proofs.CoordSteps.{number_bad, number_taken}
 use Rattle.tsp_read.proofs.by_node.NumberList.push.Goals as goal

@@ -1,11 +1,7 @@
 -- The goals of `NumberList::push_read` in src/by_node.rt, which takes the number of a word, if it fits the group:
 -- what it ensures.
-use Rattle.std.proofs.Common.{◌≡◌, refl, Ok, arith, rules, w64, FitsSigned}
+use Rattle.tsp_read.proofs.Prelude.{◌≡◌, refl, Ok, arith, rules, w64, FitsSigned, ◌≤ℤ◌, to_z-of_z, ints, whole_of, Amount}
 use mir.Val.{SFits}
-use Rattle.std.specs.Prelude.{◌≤ℤ◌}
-use Rattle.std.proofs.lemmas.Int.{to_z-of_z, ints}
-use Rattle.tsp_number.specs.NumberWord.{whole_of}
-use Rattle.tsp_text.specs.SectionWords.{Amount}
 use Rattle.tsp_read.proofs.GroupSteps.{node_taken}
 use Rattle.tsp_read.proofs.CoordSteps.{number_taken}
 use Rattle.tsp_read.proofs.by_node.NumberList.push_read.Goals as goal

@@ -1,6 +1,5 @@
 -- The goals of `PointList::push` in src/by_node.rt, which takes the next word: what it ensures.
-use Rattle.std.proofs.Common.{◌∙◌, sym, subst, Err, arith}
-use Rattle.tsp_file.specs.states.Drafts.{points_of}
+use Rattle.tsp_read.proofs.Prelude.{◌∙◌, sym, subst, Err, arith, points_of}
 use Rattle.tsp_read.specs.states.Parts.{IsNewNode}
 use Rattle.tsp_read.proofs.CoordSteps.{end_taken, one_too_many, node_faulty, coordinate_bad, node_taken}
 use Rattle.tsp_read.proofs.by_node.PointList.push.Goals as goal

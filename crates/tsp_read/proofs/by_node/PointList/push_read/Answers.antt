@@ -1,8 +1,6 @@
 -- The goals of `PointList::push_read` in src/by_node.rt, which takes the number of a word, if it fits the group:
 -- what it ensures.
-use Rattle.std.proofs.Common.{rules, arith, FitsSigned, w64}
-use Rattle.std.proofs.lemmas.Int.{to_z-of_z}
-use Rattle.tsp_file.specs.states.Drafts.{points_of}
+use Rattle.tsp_read.proofs.Prelude.{rules, arith, FitsSigned, w64, to_z-of_z, points_of}
 use Rattle.tsp_read.proofs.CoordSteps.{node_taken}
 use Rattle.tsp_read.proofs.by_node.PointList.push_read.Goals as goal
 

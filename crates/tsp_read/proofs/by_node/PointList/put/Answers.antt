@@ -1,10 +1,7 @@
 -- The goals of `PointList::put` in src/by_node.rt, which takes the next coordinate of a group: what it ensures.
-use Rattle.std.proofs.Common.{◌-◌, ◌∙◌, sym, ap}
-use Rattle.std.proofs.lemmas.List.{map-set}
+use Rattle.tsp_read.proofs.Prelude.{◌-◌, ◌∙◌, sym, ap, map-set, Point, points_of}
 use Rattle.tsp_number.specs.declared.decimal.PlanePoint.{PlanePoint}
-use Rattle.tsp_number.specs.declared.decimal.Point.{Point}
 use Rattle.tsp_number.specs.Distances.{on_plane}
-use Rattle.tsp_file.specs.states.Drafts.{points_of}
 use Rattle.tsp_read.specs.states.Parts.{are_in_space}
 use Rattle.tsp_read.proofs.CoordSteps.{plane_points, first_taken, plane_taken, second_taken, third_taken}
 use Rattle.tsp_read.proofs.by_node.PointList.put.Goals as goal

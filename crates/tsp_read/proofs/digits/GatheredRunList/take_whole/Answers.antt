@@ -1,6 +1,5 @@
 -- The goals of `GatheredRunList::take_whole` in src/digits.rt, which takes a word's number if it fits: what it ensures.
-use Rattle.std.proofs.Common.{refl, rules, FitsSigned, w64}
-use Rattle.std.proofs.lemmas.Int.{to_z-of_z}
+use Rattle.tsp_read.proofs.Prelude.{refl, rules, FitsSigned, w64, to_z-of_z}
 use Rattle.tsp_read.proofs.digits.GatheredRunList.take_whole.Goals as goal
 
 pub returns-clause-taken : goal.returns-clause-taken

@@ -1,7 +1,6 @@
 -- The goals of `NumberListRunList::take_whole` in src/digits.rt, which takes the number of a word, if the list takes
 -- it: what it ensures.
-use Rattle.std.proofs.Common.{Ok, refl, rules, FitsSigned, w64}
-use Rattle.std.proofs.lemmas.Int.{to_z-of_z}
+use Rattle.tsp_read.proofs.Prelude.{Ok, refl, rules, FitsSigned, w64, to_z-of_z}
 use Rattle.tsp_read.specs.declared.section_builder.SectionBuilder.TheVariants as parts
 use Rattle.tsp_read.proofs.RunSteps as steps
 use Rattle.tsp_read.proofs.digits.NumberListRunList.take_whole.Goals as goal

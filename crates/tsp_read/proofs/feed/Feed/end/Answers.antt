@@ -1,9 +1,8 @@
 -- The goals of `Feed::end` in src/feed.rt, which takes the item that has begun as the last, and returns what was read:
 -- what it ensures.
-use Rattle.std.proofs.Common.{subst, sym, ◌≡◌, false}
+use Rattle.tsp_read.proofs.Prelude.{subst, sym, ◌≡◌, false, is_some}
 use Rattle.tsp_read.specs.declared.reading.Reading.{Reading}
 use Rattle.tsp_read.specs.Reads.{SpellsWhole}
-use Rattle.std.specs.Prelude.{is_some}
 use Rattle.tsp_read.proofs.FeedSteps.{taken_at, not_refused, still_going, ended_read, going_read, ended_whole, taken_whole, taken_fault, refused_fault}
 use Rattle.tsp_read.proofs.IntakeSteps.{ended_none}
 use Rattle.tsp_read.specs.declared.feed.Stage.TheVariants.{Ended}

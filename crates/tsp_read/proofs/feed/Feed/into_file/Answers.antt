@@ -1,6 +1,5 @@
 -- The goals of `Feed::into_file` in src/feed.rt, which returns the file of the bytes so far: what it ensures.
-use Rattle.std.proofs.Common.{sym, ◌∙◌}
-use Rattle.std.proofs.lemmas.Bool.{false≢true}
+use Rattle.tsp_read.proofs.Prelude.{sym, ◌∙◌, false≢true}
 use Rattle.tsp_read.proofs.FeedSteps.{whole_answer, open_not_bare}
 use Rattle.tsp_read.proofs.feed.Feed.into_file.Goals as goal
 

@@ -1,11 +1,10 @@
 -- The goals of `Begun::join` in src/items.rt, which takes the item that has begun, if the piece has its end: what it
 -- ensures.
-use Rattle.std.proofs.Common.{◌≡◌, Ok, Err, true, sym, ap, ◌∙◌, ◌<◌, ◌≤◌, ◌+◌, ◌++◌, List, ℕ, length, subst, length-append, refl, arith}
-use Rattle.tsp_text.specs.Items.{is_not_empty, Item}
+use Rattle.tsp_read.proofs.Prelude.{◌≡◌, Ok, Err, true, sym, ap, ◌∙◌, ◌<◌, ◌≤◌, ◌+◌, ◌++◌, List, ℕ, length, subst, length-append, refl, arith, nil_from_test, is_not_empty, Item}
 use Rattle.tsp_read.specs.declared.items.Token.{Token}
 use Rattle.tsp_read.specs.states.Left.{up_to_first, from, ends_token, most_bytes}
 use Rattle.tsp_read.specs.states.Onward.{HasTakenItems, TakesNext, IsReadTo}
-use Rattle.tsp_read.proofs.BegunSteps.{token_here, token_joins, fed_longer, fed_none, joined_none, joined_fault, joined_end, joined_more, settled_filled, settled_long, has_taken, empty_rest, filled_rest, propagated}
+use Rattle.tsp_read.proofs.BegunSteps.{token_here, token_joins, fed_longer, fed_none, joined_none, joined_fault, joined_end, joined_more, settled_filled, settled_long, has_taken, filled_rest, propagated}
 use Rattle.tsp_read.proofs.Onwards.{token_long}
 use Rattle.tsp_read.proofs.items.Begun.join.Goals as goal
 
@@ -42,7 +41,7 @@ returns-then-is_empty-2-clause-joined c = λ bytes h.
     has_taken c.try_extend_from_slice.result token begun _ c.cut.result.0.now c.try_extend_from_slice.ensures.variant
     c.try_extend_from_slice.ensures.ok short ∙ ap (λ (xs : List ℕ). begun ++ xs) c.cut.ensures.before in
     fed_longer c.args.intake.now c.args.self.now _ bytes piece c.cut.result.1.now h some refl added c.cut.ensures.from
-    (empty_rest c.cut.result.1.now (sym c.is_empty-2.ensures ∙ c.if-is_empty-2.true))
+    (nil_from_test c.cut.result.1.now (sym c.is_empty-2.ensures ∙ c.if-is_empty-2.true))
     (subst (λ (xs : List ℕ). length begun + length xs ≤ most_bytes token) c.cut.ensures.before short)
 
 pub returns-in_err-take_next-clause-joined : goal.returns-in_err-take_next-clause-joined

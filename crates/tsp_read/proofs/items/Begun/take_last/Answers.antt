@@ -1,7 +1,6 @@
 -- The goals of `Begun::take_last` in src/items.rt, which takes the item that has begun as the text's last: what it
 -- ensures.
-use Rattle.std.proofs.Common.{sym, ◌∙◌, subst, List}
-use Rattle.tsp_text.specs.Items.{Item}
+use Rattle.tsp_read.proofs.Prelude.{sym, ◌∙◌, subst, List, Item}
 use Rattle.tsp_read.specs.states.Onward.{HasTakenItems, TakesNext}
 use Rattle.tsp_read.proofs.FeedSteps.{last_token, last_none}
 use Rattle.tsp_read.proofs.items.Begun.take_last.Goals as goal

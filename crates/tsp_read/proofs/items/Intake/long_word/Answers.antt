@@ -1,7 +1,6 @@
 -- The goals of `Intake::long_word` in src/items.rt, which returns the fault of a word that is too long: what it
 -- ensures.
-use Rattle.std.proofs.Common.{refl}
-use Rattle.tsp_text.specs.Items.{NumberWord}
+use Rattle.tsp_read.proofs.Prelude.{refl, NumberWord}
 use Rattle.tsp_read.proofs.IntakeSteps.{same_long, never_long}
 use Rattle.tsp_read.proofs.items.Intake.long_word.Goals as goal
 

@@ -1,6 +1,5 @@
 -- The goals of `Reading::close` in src/reading.rt, which puts the open section into the draft: what it ensures.
-use Rattle.std.proofs.Common.{Bool, cond, sym, ap, ◌∙◌}
-use Rattle.tsp_format.specs.Words.{fields_in_order}
+use Rattle.tsp_read.proofs.Prelude.{Bool, cond, sym, ap, ◌∙◌, fields_in_order}
 use Rattle.tsp_read.specs.states.Holds.{first_of}
 use Rattle.tsp_read.proofs.SectionSteps as steps
 use Rattle.tsp_read.proofs.reading.Reading.close.Goals as goal

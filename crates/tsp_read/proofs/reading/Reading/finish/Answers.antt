@@ -1,10 +1,8 @@
 -- The goals of `Reading::finish` in src/reading.rt, which returns the file, or the fault at its end: what its call
 -- requires.
-use Rattle.std.proofs.Common.{◌≡◌, None, Option, sym, subst}
+use Rattle.tsp_read.proofs.Prelude.{◌≡◌, None, Option, sym, subst, fields_of, Field}
 use Rattle.tsp_file.specs.declared.draft.Draft.{Draft}
-use Rattle.tsp_file.specs.states.Drafts.{fields_of}
 use Rattle.tsp_file.specs.Rules.{standing_of, end_fault, fault_of}
-use Rattle.tsp_format.specs.declared.keyword.Field.{Field}
 use Rattle.tsp_read.proofs.TextSteps.{valid_draft}
 use Rattle.tsp_read.proofs.reading.Reading.finish.Goals as goal
 

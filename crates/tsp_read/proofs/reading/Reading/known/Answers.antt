@@ -1,8 +1,5 @@
 -- The goals of `Reading::known` in src/reading.rt, which takes the line of a keyword: what it ensures.
-use Rattle.std.proofs.Common.{refl, rules, map}
-use Rattle.std.specs.Option.{option_map}
-use Rattle.tsp_file.specs.states.Drafts.{fields_of}
-use Rattle.tsp_file.specs.Fields.{spatial}
+use Rattle.tsp_read.proofs.Prelude.{refl, rules, map, option_map, fields_of, spatial}
 use Rattle.tsp_read.specs.states.Holds.{seen}
 use Rattle.tsp_read.proofs.KeywordSteps.{other_alone}
 use Rattle.tsp_read.proofs.KeywordSteps as keywords

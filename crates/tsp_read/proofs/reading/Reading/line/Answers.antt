@@ -1,7 +1,5 @@
 -- The goals of `Reading::line` in src/reading.rt, which takes a word line: what it ensures.
-use Rattle.std.proofs.Common.{refl, map}
-use Rattle.std.proofs.lemmas.Bool.{lt-ltb, le-ltb}
-use Rattle.tsp_format.specs.Limits.{most_line_bytes}
+use Rattle.tsp_read.proofs.Prelude.{refl, map, lt-ltb, le-ltb, most_line_bytes}
 use Rattle.tsp_read.specs.states.Holds.{seen}
 use Rattle.tsp_read.proofs.TextSteps as texts
 use Rattle.tsp_read.proofs.reading.Reading.line.Goals as goal

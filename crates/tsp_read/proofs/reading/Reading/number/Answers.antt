@@ -1,7 +1,6 @@
 -- The goals of `Reading::number` in src/reading.rt, which takes the line of a keyword with a number: what it
 -- ensures.
-use Rattle.std.proofs.Common.{refl, FitsSigned, rules, w64}
-use Rattle.std.proofs.lemmas.Int.{to_z-of_z}
+use Rattle.tsp_read.proofs.Prelude.{refl, FitsSigned, rules, w64, to_z-of_z}
 use Rattle.tsp_read.specs.states.Holds.{seen}
 use Rattle.tsp_read.proofs.KeywordSteps.{number_taken, number_refused}
 use Rattle.tsp_read.proofs.reading.Reading.number.Goals as goal

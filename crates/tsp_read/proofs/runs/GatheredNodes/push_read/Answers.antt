@@ -1,9 +1,6 @@
 -- The goals of `GatheredNodes::push_read` in src/runs.rt, which takes the number of a word, if it is a node and
 -- there is capacity: what it ensures.
-use Rattle.std.proofs.Common.{◌+◌, ◌≡◌, ◌++◌, ◌∷◌, [], false, refl, arith, tests, rules, Ok, FitsSigned, w64}
-use Rattle.std.specs.Prelude.{nat_le, pos}
-use Rattle.std.proofs.lemmas.Int.{to_z-of_z}
-use Rattle.tsp_text.specs.SectionWords.{node_or_end}
+use Rattle.tsp_read.proofs.Prelude.{◌+◌, ◌≡◌, ◌++◌, ◌∷◌, [], false, refl, arith, tests, rules, Ok, FitsSigned, w64, nat_le, pos, to_z-of_z, node_or_end}
 use Rattle.tsp_read.specs.declared.runs.TourList.{TourList}
 use Rattle.tsp_read.proofs.SectionLists.{whole_node, after_node, few_left}
 use Rattle.tsp_read.proofs.runs.GatheredNodes.push_read.Goals as goal

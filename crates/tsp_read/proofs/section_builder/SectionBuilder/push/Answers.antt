@@ -36,15 +36,15 @@ returns-in-Triples-clause-kept c =
     steps.kept_list c.args.self.now (parts.Triples c.in-Triples.part) (parts.Triples c.push-in-Triples.new.self)
     c.push-in-Triples.result c.in-Triples.is refl c.push-in-Triples.ensures.kept
 
-pub returns-in-Combs-clause-takes : goal.returns-in-Combs-clause-takes
-returns-in-Combs-clause-takes c = λ n words h.
-    steps.as_list c.args.self.now (parts.Combs c.in-Combs.part) (parts.Combs c.push-in-Combs.new.self) n words
-    c.args.word.now c.push-in-Combs.result c.in-Combs.is refl (c.push-in-Combs.ensures.takes n words) h
+pub returns-in-Families-clause-takes : goal.returns-in-Families-clause-takes
+returns-in-Families-clause-takes c = λ n words h.
+    steps.as_list c.args.self.now (parts.Families c.in-Families.part) (parts.Families c.push-in-Families.new.self) n words
+    c.args.word.now c.push-in-Families.result c.in-Families.is refl (c.push-in-Families.ensures.takes n words) h
 
-pub returns-in-Combs-clause-kept : goal.returns-in-Combs-clause-kept
-returns-in-Combs-clause-kept c =
-    steps.kept_list c.args.self.now (parts.Combs c.in-Combs.part) (parts.Combs c.push-in-Combs.new.self)
-    c.push-in-Combs.result c.in-Combs.is refl c.push-in-Combs.ensures.kept
+pub returns-in-Families-clause-kept : goal.returns-in-Families-clause-kept
+returns-in-Families-clause-kept c =
+    steps.kept_list c.args.self.now (parts.Families c.in-Families.part) (parts.Families c.push-in-Families.new.self)
+    c.push-in-Families.result c.in-Families.is refl c.push-in-Families.ensures.kept
 
 pub returns-in-Steps-clause-takes : goal.returns-in-Steps-clause-takes
 returns-in-Steps-clause-takes c = λ n words h.

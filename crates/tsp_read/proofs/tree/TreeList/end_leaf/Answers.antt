@@ -1,10 +1,7 @@
 -- The goals of `TreeList::end_leaf` in src/tree.rt, which ends a leaf: what it ensures.
-use Rattle.std.proofs.Common.{◌≡◌, ◌∙◌, ap, ◌-◌, length, ◌∷◌, ◌++◌, [], refl, arith}
-use Rattle.std.specs.Prelude.{slice_set}
+use Rattle.tsp_read.proofs.Prelude.{◌≡◌, ◌∙◌, ap, ◌-◌, length, ◌∷◌, ◌++◌, [], refl, arith, slice_set, length-set, map_push, Leaf}
 use Rattle.std.proofs.Math.Seq.{set-append_seam}
-use Rattle.std.proofs.lemmas.List.{length-set, map_push}
 use Rattle.tsp_format.specs.declared.steps.TreeStep.TheVariants as tree
-use Rattle.tsp_format.specs.Steps.{Leaf}
 use Rattle.tsp_format.specs.states.TreeSteps.{step_of, steps_of}
 use Rattle.tsp_read.proofs.tree.TreeList.end_leaf.Goals as goal
 

@@ -1,10 +1,6 @@
 -- The goals of `KeptWeights::are_narrow` in src/kept_weights.rt, which says whether all weights are small enough for
 -- sums of 64 bits: its loop.
-use Rattle.std.proofs.Common.{◌+◌, ◌^◌, ℕ, ℤ, subst, sym, arith, inl, inr}
-use Rattle.std.specs.Prelude.{pos, neg_ℤ}
-use Rattle.std.proofs.lemmas.Bool.{cases_eq}
-use Rattle.tsp_format.specs.Steps.{IsFromTo}
-use Rattle.tsp_cases.specs.states.Sets.{lent_in, set_weight}
+use Rattle.tsp_routing.proofs.Prelude.{◌+◌, ◌^◌, ℕ, ℤ, subst, sym, arith, inl, inr, pos, neg_ℤ, cases_eq, IsFromTo, lent_in, set_weight}
 use Rattle.tsp_routing.specs.PlanBounds.{most_link}
 use Rattle.tsp_routing.proofs.kept_weights.KeptWeights.are_narrow.Goals as goal
 

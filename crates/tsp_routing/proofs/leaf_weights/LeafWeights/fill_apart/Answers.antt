@@ -1,17 +1,7 @@
 -- The goals of `LeafWeights::fill_apart` in src/leaf_weights.rt, which writes a row as if no set had two nodes: what it
 -- ensures.
-use Rattle.std.proofs.Common.{◌≡◌, ◌-◌, ◌*◌, ℤ, arith, rules, subst, inr, ap, ap₂, ◌∙◌, to_z, of_z, FitsSigned}
-use Rattle.std.specs.Int.{w64, int_wrap}
-use Rattle.std.specs.Prelude.{pos, neg_ℤ, ◌+ℤ◌, ◌*ℤ◌}
-use Rattle.std.proofs.lemmas.Int.{to_z-of_z}
-use Rattle.tsp_format.specs.Limits.{most_scale, most_weight}
-use Rattle.tsp_format.specs.Steps.{IsFromTo}
-use Rattle.tsp_theory.specs.Bounds.{entry}
-use Rattle.tsp_theory.specs.states.Nearest.{least_at}
+use Rattle.tsp_routing.proofs.Prelude.{◌≡◌, ◌-◌, ◌*◌, ℤ, arith, rules, subst, inr, ap, ap₂, ◌∙◌, to_z, of_z, FitsSigned, w64, int_wrap, pos, neg_ℤ, ◌+ℤ◌, ◌*ℤ◌, to_z-of_z, most_scale, most_weight, IsFromTo, entry, least_at, same_scale, scaled_size, lent_in, multipliers_at, apart_is}
 use Rattle.tsp_theory.proofs.Cycles.{between_size}
-use Rattle.tsp_theory.proofs.Sums.{same_scale, scaled_size}
-use Rattle.tsp_cases.specs.states.Sets.{lent_in, multipliers_at}
-use Rattle.tsp_cases.proofs.SetSums.{apart_is}
 use Rattle.tsp_routing.proofs.leaf_weights.LeafWeights.fill_apart.Goals as goal
 
 -- plan: the sum in 64 bits is the weight without the sets that have both nodes (`apart_is`); its size by the limits

@@ -1,15 +1,8 @@
 -- The goals of `LeafWeights::fill_row` in src/leaf_weights.rt, which writes the weights between a node and each node
 -- into a row: what its calls require and what it ensures.
-use Rattle.std.proofs.Common.{◌≡◌, ℕ, ℤ, List, sym, subst, ◌∙◌}
-use Rattle.std.specs.Prelude.{pos, neg_ℤ}
-use Rattle.std.specs.List.{All}
-use Rattle.tsp_format.specs.Nodes.{IsNode}
-use Rattle.tsp_format.specs.Steps.{IsFromTo}
-use Rattle.tsp_theory.specs.states.Nearest.{least_at, IsMoved}
+use Rattle.tsp_routing.proofs.Prelude.{◌≡◌, ℕ, ℤ, List, sym, subst, ◌∙◌, pos, neg_ℤ, All, IsNode, IsFromTo, least_at, IsMoved, places_with, IsPlaceIn, lent_in, inside_both, set_weight, places_inside}
 use Rattle.tsp_cases.specs.declared.sets.SetPlace.{SetPlace}
-use Rattle.tsp_cases.specs.states.Sets.{places_with, IsPlaceIn, lent_in, inside_both, set_weight}
 use Rattle.tsp_routing.specs.PlanBounds.{most_link}
-use Rattle.tsp_cases.proofs.SetSums.{places_inside}
 use Rattle.tsp_routing.proofs.RouteProducts.{signed_at}
 use Rattle.tsp_routing.proofs.leaf_weights.LeafWeights.fill_row.Goals as goal
 

@@ -1,21 +1,11 @@
 -- The goals of `LeafWeights::of` in src/leaf_weights.rt, which makes the weights of a leaf: what its value keeps.
-use Rattle.std.proofs.Common.{◌≡◌, ◌∙◌, ℕ, ℤ, List, length, subst, sym, arith, rules, FitsSigned}
-use Rattle.std.specs.Prelude.{pos, neg_ℤ}
-use Rattle.std.specs.Global.{Vec}
-use Rattle.std.specs.Int.{w64}
-use Rattle.std.proofs.lemmas.Int.{ints, to_z-of_z}
-use Rattle.std.proofs.lemmas.List.{length-map}
-use Rattle.std.proofs.lemmas.List.Elements.{recursion_from_All, All-from_recursion}
-use Rattle.tsp_format.specs.Steps.{IsFromTo}
-use Rattle.tsp_cases.specs.Crossings.{lists_of}
+use Rattle.tsp_routing.proofs.Prelude.{◌≡◌, ◌∙◌, ℕ, ℤ, List, length, subst, sym, arith, rules, FitsSigned, pos, neg_ℤ, Vec, w64, ints, to_z-of_z, length-map, recursion_from_All, All-from_recursion, IsFromTo, lists_of, lent_in, IsSetTable, sets_tell_combs}
 use Rattle.tsp_cases.specs.states.Kept.{AreMoved}
-use Rattle.tsp_cases.specs.states.Sets.{lent_in, IsSetTable}
-use Rattle.tsp_cases.proofs.FamilyCrossings.{sets_tell_combs}
 use Rattle.tsp_routing.specs.PlanVerdicts.{most_of_multipliers}
 use Rattle.tsp_routing.proofs.RouteProducts.{each_small, signed_crossings}
 use Rattle.tsp_routing.proofs.leaf_weights.LeafWeights.of.Goals as goal
 
--- plan: each fact is one of the leaf or of its setting; single sets are crossed no more often than multipliers sum to
+-- plan: each fact is one of the leaf or of its context; single sets are crossed no more often than multipliers sum to
 pub invariant_of-result : goal.invariant_of-result
 invariant_of-result g c =
     let leaf = c.args.leaf.now in

@@ -1,7 +1,5 @@
 -- The loop of `Costs::costs_from` in src/costs.rt.
-use Rattle.std.proofs.Common.{◌<◌, ℕ}
-use Rattle.std.specs.Prelude.{pos, slice_index_or}
-use Rattle.tsp_format.specs.Nodes.{IsNode}
+use Rattle.tsp_theory.proofs.Prelude.{◌<◌, ℕ, pos, slice_index_or, IsNode}
 use Rattle.tsp_theory.specs.Costs.{IsCostEntry}
 use Rattle.tsp_theory.proofs.costs.Costs.costs_from.Given as goal
 

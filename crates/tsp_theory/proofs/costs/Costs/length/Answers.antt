@@ -1,11 +1,6 @@
 -- The goals of `Costs::length` in src/costs.rt, which sums the costs around a list of nodes: its loop and what its
 -- calls require.
-use Rattle.std.proofs.Common.{◌≤◌, List, ℕ, subst, arith, to_z, drop-cons, add-one}
-use Rattle.std.specs.Prelude.{ℤ, slice_index_or}
-use Rattle.std.specs.Int.{w64}
-use Rattle.std.specs.List.{All}
-use Rattle.std.proofs.lemmas.List.Elements.{All-tail}
-use Rattle.tsp_format.specs.Nodes.{IsNode}
+use Rattle.tsp_theory.proofs.Prelude.{◌≤◌, List, ℕ, subst, arith, to_z, drop-cons, add-one, ℤ, slice_index_or, w64, All, All-tail, IsNode}
 use Rattle.tsp_theory.proofs.Sums.{sum_fits, lengths_sum_more, length_more}
 use Rattle.tsp_theory.proofs.costs.Costs.length.Goals as goal
 

@@ -1,7 +1,5 @@
 -- The loop of `Costs::length` in src/costs.rt.
-use Rattle.std.proofs.Common.{◌≡◌, drop}
-use Rattle.std.specs.Prelude.{◌+ℤ◌}
-use Rattle.tsp_format.specs.Nodes.{IsNode}
+use Rattle.tsp_theory.proofs.Prelude.{◌≡◌, drop, ◌+ℤ◌, IsNode}
 use Rattle.tsp_theory.proofs.Sums.{length_to, IsSumOf}
 use Rattle.tsp_theory.proofs.costs.Costs.length.Given as goal
 

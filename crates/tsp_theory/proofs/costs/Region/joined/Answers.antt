@@ -1,6 +1,5 @@
 -- The goals of `Region::joined` in src/costs.rt, which returns a region around two regions: what it ensures.
-use Rattle.std.proofs.Common.{arith}
-use Rattle.std.proofs.lemmas.Int.{ints}
+use Rattle.tsp_theory.proofs.Prelude.{arith, ints}
 use Rattle.tsp_theory.proofs.costs.Region.joined.Goals as goal
 
 -- plan: along each axis the lower end is the lower of both, and the higher end the higher

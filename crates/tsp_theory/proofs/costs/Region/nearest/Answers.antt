@@ -1,6 +1,5 @@
 -- The goal of `Region::nearest` in src/costs.rt: what it ensures of the region.
-use Rattle.std.proofs.Common.{arith}
-use Rattle.std.proofs.lemmas.Int.{ints}
+use Rattle.tsp_theory.proofs.Prelude.{arith, ints}
 use Rattle.tsp_theory.proofs.costs.Region.nearest.Goals as goal
 
 -- plan: along each axis the place is brought between the ends

@@ -6,7 +6,7 @@ use Rattle.tsp_verdict.specs.states.TourKnownBounds.{IsJudgeInput}
 use Rattle.tsp_verdict.proofs.KnownBounds.{first_known, none_known, knows_instance}
 use Rattle.tsp_verdict.proofs.solution_verdict.JudgeInput.tour_known_bound.Goals as goal
 
--- plan: a basis of tours has the reason against the instance (`knows_instance`), which is the first (`first_known`)
+-- plan: a known bound of tours has the reason against the instance (`knows_instance`), which is the first (`first_known`)
 pub returns-in-Some : goal.returns-in-Some
 returns-in-Some c =
     let instance = c.args.self.now.instance.now in

@@ -1,10 +1,6 @@
 -- The goals of `JudgeInput::verdict_on_plan` in src/solution_verdict.rt, which judges a solution as routes: what it
 -- ensures.
-use Rattle.std.proofs.Common.{rules, subst, sym}
-use Rattle.std.specs.Int.{w64}
-use Rattle.std.specs.Prelude.{FitsSigned}
-use Rattle.std.proofs.lemmas.Int.{to_z-of_z}
-use Rattle.tsp_report.specs.declared.verdict.Verdict.{Verdict}
+use Rattle.tsp_verdict.proofs.Prelude.{rules, subst, sym, w64, FitsSigned, to_z-of_z, Verdict}
 use Rattle.tsp_verdict.specs.SolutionVerdict.{IsAsClaimed}
 use Rattle.tsp_verdict.specs.states.TourKnownBounds.{IsVerdictGiven}
 use Rattle.tsp_verdict.proofs.KnownBounds.{routes_input_rejected, routes_input_judged}

@@ -1,14 +1,6 @@
 -- The goals of `JudgeInput::verdict_on_tour` in src/solution_verdict.rt, which judges a solution as a tour: what its
 -- calls require and what it ensures.
-use Rattle.std.proofs.Common.{◌≡◌, ◌∙◌, ℕ, true, ap, refl, rules, subst, sym}
-use Rattle.std.specs.Int.{w64}
-use Rattle.std.specs.Prelude.{FitsSigned, Some}
-use Rattle.std.proofs.lemmas.Int.{to_z-of_z}
-use Rattle.tsp_file.specs.Fields.{nodes_of}
-use Rattle.tsp_file.specs.Rules.{is_tour_file}
-use Rattle.tsp_cost.specs.Problems.{is_directed}
-use Rattle.tsp_report.specs.declared.verdict.Reason.TheVariants.{NotASolution, Dimension, FixedEdgeUnused}
-use Rattle.tsp_report.specs.declared.verdict.Verdict.{Verdict}
+use Rattle.tsp_verdict.proofs.Prelude.{◌≡◌, ◌∙◌, ℕ, true, ap, refl, rules, subst, sym, w64, FitsSigned, Some, to_z-of_z, nodes_of, is_tour_file, is_directed, NotASolution, Dimension, FixedEdgeUnused, Verdict}
 use Rattle.tsp_verdict.specs.SolutionVerdict.{IsAsClaimed, IsOtherClaimed}
 use Rattle.tsp_verdict.specs.Solutions.{IsFirstAgainstTour}
 use Rattle.tsp_verdict.specs.states.TourKnownBounds.{IsVerdictGiven, tour_verdict}
@@ -17,7 +9,7 @@ use Rattle.tsp_verdict.proofs.TourVerdicts.{after_dimension, unused_first, is_ye
 use Rattle.tsp_verdict.proofs.solution_verdict.JudgeInput.verdict_on_tour.Goals as goal
 
 -- plan: by the first reason (`input_rejected`), by another length than claimed (`input_disclaimed`), or by the
--- basis (`input_judged`)
+-- known bound (`input_judged`)
 pub returns-in_default : goal.returns-in_default
 returns-in_default c =
     let s = c.args.self.now in

@@ -1,0 +1,9 @@
+-- What the definitions and contracts of this crate use most of other crates, passed on from one place.
+pub use Rattle.std.specs.List.{All, AllPairs}
+pub use Rattle.std.specs.Prelude.{Bool, IfOk, IfSome, IsTrue, List, MatchOption, MatchResult, None, Option, Some, false, length, map, neg_ℤ, not, pos, slice_index, slice_index_or, slice_set, suc, true, zero, ℕ, ℤ, []}
+pub use Rattle.tsp_format.specs.Limits.{most_multiplier, most_nodes, most_potential, most_scale, most_triples, most_weight}
+pub use Rattle.tsp_format.specs.Nodes.{IsNode}
+pub use Rattle.tsp_format.specs.Steps.{IsFromTo}
+pub use Rattle.tsp_theory.specs.Bounds.{AreDuals, AreGood, AreMultipliers, AreNodePotentials, AreOnPairs, ArePotentials, IsAdjustedBound, IsAdjustedBoundOf, IsBoundSized, IsDualBound, IsFirstBroken, IsLeastBound, IsMultiplier, IsScale, IsSumSized, UsesEach, entry, most_between, most_number, numbers_on, total, triples_total}
+pub use Rattle.tsp_theory.specs.Tree.{AreNearest, IsInner, IsLeastOneTree, IsOneTree, IsWholeGrowth, tree_of, weight_of}
+pub use Rattle.tsp_theory.specs.states.Nearest.{IsMoved, IsNearer, least_at}

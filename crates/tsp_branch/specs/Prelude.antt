@@ -1,0 +1,11 @@
+-- What the definitions and contracts of this crate use most of other crates, passed on from one place.
+pub use Rattle.std.specs.List.{All, filter, list_any}
+pub use Rattle.std.specs.Prelude.{Bool, IfOk, IfSome, List, MatchOption, None, Some, false, length, map, neg_ℤ, negsuc, pos, reverse, slice_index, slice_index_or, true, ℕ, ℤ}
+pub use Rattle.tsp_cases.specs.CaseTrees.{Allows, BoundsIfAny, HasNoLink, IsAllowed, IsCaseTree, IsCaseTreeBound, IsFoundAt, IsLeafBound, IsLeastFrom, IsRowBound, IsSumOfLeast, leaf_weight, least_of, multiplied}
+pub use Rattle.tsp_cases.specs.Cases.{DecideOnce, decided_number, on_taken}
+pub use Rattle.tsp_cases.specs.states.OpenCases.{AreFewChanges, IsChanged, IsOnPlaces, IsOpenCase, bears_on, change_of, changes, decided, decisions_in, marks_in, most_decided, stack_of}
+pub use Rattle.tsp_cases.specs.states.Sets.{AreFewCrossings, AreSmallMultipliers, IsApart, good_in, lent_in, most_combed, multipliers_at, set_weight}
+pub use Rattle.tsp_format.specs.Nodes.{IsNode}
+pub use Rattle.tsp_format.specs.Steps.{IsFromTo}
+pub use Rattle.tsp_theory.specs.Bounds.{ArePotentials, IsBoundSized, IsLeastBound, IsScale, IsSumSized, entry, most_between, most_number, total, triples_total, weight_between}
+pub use Rattle.tsp_theory.specs.states.Nearest.{IsMoved, least_at}

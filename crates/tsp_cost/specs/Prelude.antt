@@ -1,0 +1,10 @@
+-- What the definitions and contracts of this crate use most of other crates, passed on from one place.
+pub use Rattle.std.specs.Prelude.{Bool, IfSome, IsSome, IsTrue, List, MatchOption, MatchResult, None, Option, Some, false, length, map, neg_ℤ, pos, slice_index, slice_index_or, true, unsigned_abs, unwrap_or, ℕ, ℤ, []}
+pub use Rattle.tsp_file.specs.Cost.{HoldsRouting, UnlistedHaveNoPlace, fixed_of, point_of}
+unfoldable pub use Rattle.tsp_file.specs.Cost.{cost, distance, listed_cost}
+pub use Rattle.tsp_file.specs.Fields.{Fields, blank_fields, nodes_of}
+pub use Rattle.tsp_format.specs.Nodes.{IsNode, is_listed}
+unfoldable pub use Rattle.tsp_format.specs.Nodes.{cells, nodes_to}
+pub use Rattle.tsp_number.specs.Distances.{euc_2d_of, on_plane, squared}
+pub use Rattle.tsp_number.specs.declared.decimal.Point.{Point}
+pub use Rattle.tsp_theory.specs.Tour.{IsPlan, IsTour, Problem, RoutingProblem, demand_of, length_of, links_to, sum_int_by}

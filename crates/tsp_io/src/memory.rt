@@ -1,0 +1,132 @@
+//! Calls that take memory for vectors and sets, and `Refused`, the error of each. Only calls of this
+//! crate make one.
+
+ghost use Rattle.std.specs.BTreeSet.{contains, Updates};
+ghost use Rattle.std.specs.List.Sorted.{IsPermutation, IsSorted};
+ghost use Rattle.std.specs.Prelude.{◌≡◌, ◌+◌, ◌++◌, [], ◌∷◌, IfOk, OnOk, MatchResult, length, vec_len, vec_capacity, replicate, true, not};
+
+use std::alloc::{AllocError, Global};
+use std::collections::BTreeSet;
+
+/// Memory was refused. Only the calls of this crate make one, each where std refused to grow.
+#[derive(Clone, Copy, Debug, Drop)]
+pub struct Refused {
+    error: AllocError,
+}
+
+impl Refused {
+    /// The token of a refusal by std, whose error this is.
+    pub(crate) fn of(error: AllocError) -> Refused {
+        Refused { error }
+    }
+}
+
+impl From<Refused> for AllocError {
+    fn from(refused: Refused) -> AllocError {
+        refused.error
+    }
+}
+
+// ---- calls that make, fill, lengthen, copy and sort a vector
+
+/// An empty list with memory for this many elements.
+///
+/// # Errors
+///
+/// Out of memory.
+pub fn with_capacity<T>(alloc: Global, capacity: usize) -> Result<Vec<T>, Refused>
+    ensures items { IfOk result (λ list. list.items ≡ []) }
+    ensures len { IfOk result (λ list. vec_len list ≡ 0) }
+    ensures exact { IfOk result (λ list. vec_capacity list ≡ capacity) }
+{
+    match Vec::with_capacity(alloc, capacity) {
+        Ok(list) => Ok(list),
+        Err(error) => Err(Refused::of(error)),
+    }
+}
+
+/// A list of this many elements, each the same.
+///
+/// # Errors
+///
+/// Out of memory.
+pub fn filled<T: Copy + Clone>(alloc: Global, element: T, count: usize) -> Result<Vec<T>, Refused>
+    ensures len { IfOk result (λ list. vec_len list ≡ count) }
+    ensures items_if_clones_equal { IfOk result
+        (λ list. ((other : T) → T.is_clone element other → other ≡ element)
+        → list.items ≡ replicate count element) }
+{
+    match vec![in alloc; element; count] {
+        Ok(list) => Ok(list),
+        Err(error) => Err(Refused::of(error)),
+    }
+}
+
+/// Adds an element at the end.
+///
+/// # Errors
+///
+/// Out of memory; the list stays as it was.
+pub fn push<T: Drop>(list: &mut Vec<T>, element: T) -> Result<(), Refused>
+    ensures items { MatchResult result
+        (λ done. list.new.items ≡ list.old.items ++ element ∷ [])
+        (λ refused. list.new.items ≡ list.old.items) }
+    ensures len { MatchResult result
+        (λ done. vec_len list.new ≡ vec_len list.old + 1)
+        (λ refused. vec_len list.new ≡ vec_len list.old) }
+{
+    match list.push(element) {
+        Ok(()) => Ok(()),
+        Err(failed) => Err(Refused::of(AllocError::from(failed))),
+    }
+}
+
+/// A copy of a list.
+///
+/// # Errors
+///
+/// Out of memory.
+pub fn copied<T: Copy + Clone>(alloc: Global, elements: &[T]) -> Result<Vec<T>, Refused>
+    ensures len { IfOk result (λ list. vec_len list ≡ length elements.now) }
+    ensures items_if_clones_equal { IfOk result
+        (λ list. ((element other : T) → T.is_clone element other → other ≡ element)
+        → list.items ≡ elements.now) }
+{
+    match elements.to_vec(alloc) {
+        Ok(list) => Ok(list),
+        Err(error) => Err(Refused::of(error)),
+    }
+}
+
+/// Sorts a list, whose equal elements keep their order.
+///
+/// # Errors
+///
+/// Out of memory; the list stays as it was.
+pub fn sort<T: Ord>(list: &mut Vec<T>) -> Result<(), Refused>
+    ensures permutation { IsPermutation list.old.items list.new.items }
+    ensures len { vec_len list.new ≡ vec_len list.old }
+    ensures sorted { OnOk result (IsSorted T.cmp list.new.items) }
+{
+    match list.sort() {
+        Ok(()) => Ok(()),
+        Err(error) => Err(Refused::of(error)),
+    }
+}
+
+// ---- the call that adds a key to an ordered set, or returns `Refused`
+
+/// Adds a key to a set, and returns whether it is new there.
+///
+/// # Errors
+///
+/// Out of memory.
+pub fn insert<K: Ord + Drop>(set: &mut BTreeSet<K>, key: K) -> Result<bool, Refused>
+    ensures added { IfOk result (λ added. added ≡ not (contains K.cmp set.old key)) }
+    ensures updates { OnOk result (Updates K.cmp set.old set.new key true) }
+{
+    match set.insert(key) {
+        Ok(added) => Ok(added),
+        Err(failed) => Err(Refused::of(AllocError::from(failed))),
+    }
+}

@@ -1,0 +1,13 @@
+-- What the definitions and contracts of this crate use most of other crates, passed on from one place.
+pub use Rattle.std.specs.Prelude.{Bool, Err, IsTrue, List, MatchResult, None, Ok, Option, Result, Some, codes, decimal, false, length, max, option_map, pos, slice_index_or, suc, true, zero, ℕ, ℤ, []}
+pub use Rattle.tsp_cost.specs.Problems.{IsProblem, IsProblemOf, IsRoutingOf}
+pub use Rattle.tsp_file.specs.Fields.{Fields}
+pub use Rattle.tsp_io.specs.Streams.{HasStopped, HasWritten, IsUnread, IsUnwritten, ReadTrace, Sink, TakesAtMost, write_fault_text}
+pub use Rattle.tsp_io.specs.states.Watched.{has_failed, read_trace_of, sink_of}
+pub use Rattle.tsp_read.specs.Reads.{HasReads, IsFile, IsReadOn, Reads, StopsAt, most_taken}
+pub use Rattle.tsp_report.specs.Report.{IsSized, bound_report_of, head_of, report_of, solution_line}
+pub use Rattle.tsp_report.specs.Verdicts.{is_bound_yes, is_clear, is_yes}
+pub use Rattle.tsp_report.specs.declared.task.CertificateKind.{CertificateKind}
+pub use Rattle.tsp_report.specs.declared.verdict.Verdict.{Verdict}
+pub use Rattle.tsp_verdict.specs.Certified.{IsBoundOf, IsBoundVerdict, NoneAgainstInstance, NoneWithoutMemory, is_bounded, kind_of}
+pub use Rattle.tsp_verdict.specs.SolutionVerdict.{HasKnownBound, IsBoundAsked, IsKnownBound, IsKnownBoundAsked, IsVerdictAsked, IsVerdictWith, NoneBeforeRepeatsOn, NoneOfKnownBoundWithoutMemory, is_judged}

@@ -1,0 +1,14 @@
+-- The loop of `kept_states` in src/kept_states.rt.
+use Rattle.std.proofs.Common.{◌≡◌, ℕ, ℤ, List, length}
+use Rattle.tsp_routing.specs.Runs.{SubsetRow}
+use Rattle.tsp_routing.specs.states.KeptLists.{rules_of, IsLeafOf, AreStateRows, AreSizedRows}
+use Rattle.tsp_routing.proofs.kept_states.kept_states.Given as goal
+
+-- the table has the rows of the loads below this one
+abbrev pub invariant-loads : goal.invariant-loads
+invariant-loads l = record {
+  long : length l.table.items ≡ l.load;
+  rows : (near : ℕ → List ℕ) (rows : List (SubsetRow × ℤ)) → IsLeafOf l.leaf near rows
+      → AreStateRows (rules_of l.leaf near rows) l.leaf.limit l.table.items;
+  sizes : AreSizedRows l.leaf.nodes.now.nodes l.table.items;
+}

@@ -1,7 +1,0 @@
--- The goals of `routes_are_runs` in src/memory_laws.rt: what it ensures.
-use Rattle.tsp_routing.proofs.RouteRuns.{apart_customers_are_runs, routes_are_runs}
-use Rattle.tsp_routing.proofs.memory_laws.routes_are_runs.Goals as goal
-
--- plan: along the list, what a run remembers isn't among the customers to come; a route's customers don't come again
-pub returns : goal.returns
-returns c = record { apart = apart_customers_are_runs; routes = routes_are_runs }

@@ -1,0 +1,122 @@
+-- The lists of kept states, by load and by last customer.
+use Rattle.tsp_routing.specs.Prelude.{Vec, All, Contains, ℕ, Option, Some, None, List, [], map, length, slice_index_or, ℤ, pos, neg_ℤ, IsFromTo, IsCustomer}
+use Rattle.std.specs.Prelude.{◌≡◌, ◌≢◌, ◌⊎◌, ◌+◌, ◌*◌, ◌^◌, ◌≤◌, ◌<◌, ◌∷◌, ◌++◌, ◌+ℤ◌, ◌≤ℤ◌}
+use Rattle.tsp_routing.specs.Runs.{SubsetRow, RunRules, RunState, first_state, next_state, MayServe, AreCharges}
+use Rattle.tsp_routing.specs.KeptStates.{IsKeptState}
+use Rattle.tsp_routing.specs.Memories.{Remembers}
+use Rattle.tsp_routing.specs.Starts.{start_state, step_weight, start_weight, IsStart}
+use Rattle.tsp_routing.specs.declared.kept_state.KeptState.{KeptState}
+use Rattle.tsp_routing.specs.declared.run_leaf.RunLeaf.{RunLeaf}
+use Rattle.tsp_routing.specs.states.MemoryTables.{AreMemoriesOf}
+use Rattle.tsp_routing.specs.states.RunTables.{item_lists, rules_by, AreHomeRows}
+
+-- the rules of a leaf with these memories and priced rows
+abbrev pub rules_of : RunLeaf → (ℕ → List ℕ) → List (SubsetRow × ℤ) → RunRules
+rules_of leaf near rows = rules_by leaf.nodes.now.nodes leaf.nodes.now.depot leaf.nodes.now.loads.now leaf.nodes.now.room
+    leaf.nodes.now.rows.now near rows
+
+-- the leaf has these memories and priced rows, and its table is that of ways home
+pub record IsLeafOf (leaf : RunLeaf) (near : ℕ → List ℕ) (rows : List (SubsetRow × ℤ)) : Type 0 where
+  pub memories : AreMemoriesOf (rules_of leaf near rows) leaf.memories.now.count leaf.memories.now.keys.items leaf.memories.now.places.items
+  pub priced : map (λ (row : SubsetRow × ℤ). row.1) rows ≡ leaf.charges.now
+  pub signs : AreCharges rows
+  pub homes : AreHomeRows (rules_of leaf near rows) leaf.homes.now
+
+-- ---- one step
+
+-- what is made of an entry by going on to a customer: the entry of the next state; or nothing, where the run may not
+-- serve that customer or isn't kept
+abbrev pub IsNextEntry : RunRules → ℤ → RunState → ℤ → ℕ → Option KeptState → Type 0
+IsNextEntry rules limit state weight next (Some entry) = MayServe rules state next
+    × Remembers rules (next_state rules state next) entry.word × (entry.weight ≡ weight +ℤ step_weight rules state next)
+    × IsKeptState rules limit (next_state rules state next) entry.weight
+IsNextEntry rules limit state weight next None = MayServe rules state next
+    → IsKeptState rules limit (next_state rules state next) (weight +ℤ step_weight rules state next) → ⊥
+
+-- the entry of a start of one customer; or nothing, where that isn't kept
+abbrev pub IsFirstEntry : RunRules → ℤ → ℕ → Option KeptState → Type 0
+IsFirstEntry rules limit first (Some entry) = IsKeptState rules limit (first_state rules first) (rules.weight rules.depot first)
+    × Remembers rules (first_state rules first) entry.word × (entry.weight ≡ rules.weight rules.depot first)
+IsFirstEntry rules limit first None = IsKeptState rules limit (first_state rules first) (rules.weight rules.depot first) → ⊥
+
+-- ---- lists
+
+-- an entry is the memory and the weight of a kept start with this load and last customer
+pub record IsEntryOf (rules : RunRules) (limit : ℤ) (load last : ℕ) (entry : KeptState) : Type 0 where
+  pub earlier : List ℕ
+  pub start : IsStart rules limit last earlier
+  pub load_is : (start_state rules last earlier).load ≡ load
+  pub remembers : Remembers rules (start_state rules last earlier) entry.word
+  pub weight_is : entry.weight ≡ start_weight rules last earlier
+
+-- some entry has the memory of a start, and weighs no more
+pub record CoversStart (rules : RunRules) (entries : List KeptState) (last : ℕ) (earlier : List ℕ) : Type 0 where
+  pub entry : KeptState
+  pub there : Contains entries entry
+  pub remembers : Remembers rules (start_state rules last earlier) entry.word
+  pub lighter : entry.weight ≤ℤ start_weight rules last earlier
+
+-- the entries of a load and a last customer
+pub record IsKeptList (rules : RunRules) (limit : ℤ) (load last : ℕ) (entries : List KeptState) : Type 0 where
+  pub met : All (IsEntryOf rules limit load last) entries
+  pub covers : (earlier : List ℕ) → IsStart rules limit last earlier → (start_state rules last earlier).load ≡ load
+      → CoversStart rules entries last earlier
+
+-- entries whose starts had one of the customers up to `upto` before the last, or none
+pub record IsKeptListTo (rules : RunRules) (limit : ℤ) (load last upto : ℕ) (entries : List KeptState) : Type 0 where
+  pub met : All (IsEntryOf rules limit load last) entries
+  pub first : IsStart rules limit last [] → (start_state rules last []).load ≡ load → CoversStart rules entries last []
+  pub later : (before : ℕ) (earlier : List ℕ) → before ≤ upto → IsStart rules limit last (before ∷ earlier)
+      → (start_state rules last (before ∷ earlier)).load ≡ load → CoversStart rules entries last (before ∷ earlier)
+
+-- an entry of a next state is put behind others, or none where there is none
+abbrev pub AddsOne : RunRules → ℤ → RunState → ℤ → ℕ → List KeptState → List KeptState → Type 0
+AddsOne rules limit state weight next old new = ((new ≡ old) × IsNextEntry rules limit state weight next None)
+    ⊎ ((entry : KeptState) × (new ≡ old ++ entry ∷ []) × IsNextEntry rules limit state weight next (Some entry))
+
+-- The entries of those states are added that go on to `last` from the entries of one load and one customer before: each
+-- of them is an entry, and the starts that go on from a covered one are covered.
+pub record AddsNexts (rules : RunRules) (limit : ℤ) (load before last : ℕ) (befores old new : List KeptState) : Type 0 where
+  pub met : All (IsEntryOf rules limit load before) befores → All (IsEntryOf rules limit (load + rules.load last) last) old
+      → All (IsEntryOf rules limit (load + rules.load last) last) new
+  pub covers : (earlier : List ℕ) → IsStart rules limit last (before ∷ earlier) → (start_state rules before earlier).load ≡ load
+      → CoversStart rules befores before earlier → CoversStart rules new last (before ∷ earlier)
+  pub keeps : (entry : KeptState) → Contains old entry → Contains new entry
+
+-- each of some entries is among others, and for each of the others one of these has the same memory and weighs no more
+pub record AreLeastOf (entries least : List KeptState) : Type 0 where
+  pub among : All (Contains entries) least
+  pub each : (entry : KeptState) → Contains entries entry
+      → (other : KeptState) × Contains least other × (other.word ≡ entry.word) × (other.weight ≤ℤ entry.weight)
+
+-- an entry is put behind others, unless one of them has the same memory and weighs no more
+abbrev pub IsLeastAdded : List KeptState → KeptState → List KeptState → Type 0
+IsLeastAdded old entry new =
+    ((new ≡ old) × ((other : KeptState) × Contains old other × (other.word ≡ entry.word) × (other.weight ≤ℤ entry.weight)))
+    ⊎ (new ≡ old ++ entry ∷ [])
+
+-- the lists of a load, each at the index of its last customer
+abbrev pub IsStateRow : RunRules → ℤ → ℕ → List (List KeptState) → Type 0
+IsStateRow rules limit load lists = (last : ℕ) → IsCustomer rules.nodes rules.depot last
+    → IsKeptList rules limit load last (slice_index_or lists last [])
+
+-- the lists of all loads
+abbrev pub AreStateRows : RunRules → ℤ → List (Vec (Vec KeptState)) → Type 0
+AreStateRows rules limit table = (load : ℕ) → load < length table
+    → IsStateRow rules limit load (item_lists (slice_index_or (item_lists table) load []))
+
+-- one list
+abbrev pub list_in : List (Vec (Vec KeptState)) → ℕ → ℕ → List KeptState
+list_in table load last = slice_index_or (item_lists (slice_index_or (item_lists table) load [])) last []
+
+-- how large the weights of a list are, by load
+abbrev pub AreSizedEntries : ℕ → List KeptState → Type 0
+AreSizedEntries load entries = All (λ entry. IsFromTo (neg_ℤ (pos ((load + 1) * 2 ^ 72))) (pos ((load + 1) * 2 ^ 72)) entry.weight) entries
+
+-- a list for each node and one more
+pub record IsSizedRow (n load : ℕ) (lists : List (List KeptState)) : Type 0 where
+  pub places : length lists ≡ n + 1
+  pub sizes : (node : ℕ) → node < n + 1 → AreSizedEntries load (slice_index_or lists node [])
+
+abbrev pub AreSizedRows : ℕ → List (Vec (Vec KeptState)) → Type 0
+AreSizedRows n table = (load : ℕ) → load < length table → IsSizedRow n load (item_lists (slice_index_or (item_lists table) load []))

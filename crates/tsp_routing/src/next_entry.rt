@@ -1,0 +1,86 @@
+//! One step of the programme over kept states: from the entry of a state to that of the next one.
+
+ghost use Rattle.tsp_routing.specs.Prelude.{ℕ, ℤ, List, pos, neg_ℤ, true, false, length, slice_index_or, IfSome, IsFromTo, IsCustomer};
+ghost use Rattle.std.specs.Prelude.{◌≡◌, ◌≢◌, ◌≤◌, ◌<◌, ◌+◌, ◌*◌, ◌^◌, ◌+ℤ◌, ◌≤ℤ◌, ◌<ℤ◌};
+ghost use Rattle.tsp_routing.specs.PlanBounds.{most_link, most_capacity_in_parts};
+ghost use Rattle.tsp_routing.specs.Runs.{SubsetRow, RunState};
+ghost use Rattle.tsp_routing.specs.Memories.{Remembers};
+ghost use Rattle.tsp_routing.specs.states.Demands.{load_at};
+ghost use Rattle.tsp_routing.specs.states.RunTables.{link_in};
+ghost use Rattle.tsp_routing.specs.states.KeptLists.{rules_of, IsLeafOf, IsNextEntry};
+
+use crate::kept_state::KeptState;
+use crate::run_leaf::RunLeaf;
+use crate::ways_home::home_at;
+
+/// A customer that is served after another, the weight of the link between them, and what the route
+/// can carry then.
+#[derive(Clone, Copy)]
+pub(crate) struct Serving {
+    pub(crate) before: u32,
+    pub(crate) last: u32,
+    pub(crate) link: i64,
+    pub(crate) left: usize,
+}
+
+/// The entry of the next state; `None` where the run remembers the customer, or where no way home
+/// ends below the limit. Most steps end at the first test, which forgets what the step pays.
+pub(crate) fn next_entry(leaf: &RunLeaf, serving: Serving, entry: KeptState) -> Option<KeptState>
+    requires before { IsCustomer leaf.now.nodes.now.nodes leaf.now.nodes.now.depot serving.before }
+    requires last { IsCustomer leaf.now.nodes.now.nodes leaf.now.nodes.now.depot serving.last }
+    requires other { serving.before ≢ serving.last }
+    requires link { serving.link ≡ link_in leaf.now.nodes.now.rows.now serving.before serving.last }
+    requires left { serving.left ≤ leaf.now.nodes.now.room }
+    requires size { IsFromTo (neg_ℤ (pos (2 ^ 96))) (pos (2 ^ 96)) entry.weight }
+    ensures exact { (near : ℕ → List ℕ) (rows : List (SubsetRow × ℤ)) (state : RunState) → IsLeafOf leaf.now near rows
+        → Remembers (rules_of leaf.now near rows) state entry.word → state.last ≡ serving.before
+        → state.load + load_at leaf.now.nodes.now.loads.now serving.last + serving.left ≡ leaf.now.nodes.now.room
+        → IsNextEntry (rules_of leaf.now near rows) leaf.now.limit state entry.weight serving.last result }
+    ensures size { IfSome result (λ next. IsFromTo (entry.weight +ℤ neg_ℤ (pos (2 ^ 72))) (entry.weight +ℤ pos (2 ^ 72)) next.weight) }
+{
+    let home = home_at(leaf.homes, serving.left, serving.last);
+    let least = weight_after(entry.weight, serving.link, 0);
+    if !is_below(leaf.limit, least, home) {
+        return None;
+    }
+    if leaf
+        .memories
+        .tells(serving.before, entry.word, serving.last)
+    {
+        return None;
+    }
+    let step = leaf
+        .memories
+        .step(leaf.charges, serving.before, entry.word, serving.last);
+    let weight = weight_after(entry.weight, serving.link, step.charge);
+    if !is_below(leaf.limit, weight, home) {
+        return None;
+    }
+    Some(KeptState {
+        word: step.word,
+        weight,
+    })
+}
+
+/// The weight after a link and what the step pays.
+#[inline]
+fn weight_after(weight: i128, link: i64, charge: i128) -> i128
+    requires weight { IsFromTo (neg_ℤ (pos (2 ^ 96))) (pos (2 ^ 96)) weight }
+    requires link { IsFromTo (neg_ℤ (pos most_link)) (pos most_link) link }
+    requires charge { IsFromTo (neg_ℤ (pos (2 ^ 70))) (pos (2 ^ 70)) charge }
+    ensures value { result ≡ weight +ℤ (link +ℤ charge) }
+    ensures size { IsFromTo (weight +ℤ neg_ℤ (pos (2 ^ 72))) (weight +ℤ pos (2 ^ 72)) result }
+{
+    weight + i128::from(link) + charge
+}
+
+/// Whether a weight and that of the way home are below the limit.
+#[inline]
+pub(crate) fn is_below(limit: i128, weight: i128, home: i128) -> bool
+    requires weight { IsFromTo (neg_ℤ (pos (2 ^ 97))) (pos (2 ^ 97)) weight }
+    requires home { IsFromTo (neg_ℤ (pos (2 ^ 97))) (pos (2 ^ 97)) home }
+    ensures below { result ≡ true → (weight +ℤ home) <ℤ limit }
+    ensures beyond { result ≡ false → limit ≤ℤ (weight +ℤ home) }
+{
+    weight + home < limit
+}
