@@ -20,6 +20,7 @@
 #include "reading/tsp_program.h"
 #include "running/refusal.h"
 #include "running/writing.h"
+#include "tree/joining.h"
 #include "tree/search.h"
 
 namespace certify {

@@ -19,64 +19,58 @@ void LabelSearch::list_links(const Links<double>& links, int count) {
   }
 }
 
-void LabelSearch::offer(double weight, int customer, int load, int before, const Bits& known,
-                        const Bits& open) {
-  if (weight + home_(loads_.room - load, customer) > -kRuns.least) return;
-  cell(load, customer).push_back(static_cast<int>(labels_.size()));
-  labels_.push_back({weight, customer, load, before, known, open});
+void LabelSearch::offer(const Label& label) {
+  if (label.weight + home_(loads_.room - label.load, label.customer) > -kRuns.least) return;
+  cell(label.load, label.customer).push_back(static_cast<int>(labels_.size()));
+  labels_.push_back(label);
 }
 
-bool LabelSearch::is_dominated(const Label& label, const OpenRows<double>& rows) const {
-  for (const int other : kept_[label.customer]) {
-    const Label& by = labels_[other];
+bool LabelSearch::is_dominated(const Label& label, const MemoryWords<double>& words) const {
+  for (const Kept& by : kept_[label.customer]) {
     if (by.weight > label.weight) return false;
-    if (!by.known.is_within(label.known)) continue;
-    double weight = by.weight;
-    by.open.without(label.open).each([&](int row) { weight += rows.costs[row]; });
-    if (weight <= label.weight) return true;
+    const std::optional<double> more = words.more_than(label.customer, by.word, label.word);
+    if (more && by.weight + *more <= label.weight) return true;
   }
   return false;
 }
 
-void LabelSearch::keep(int label) {
-  std::vector<int>& kept = kept_[labels_[label].customer];
-  const auto heavier = std::upper_bound(kept.begin(), kept.end(), label,
-                                        [&](int a, int b) { return labels_[a].weight < labels_[b].weight; });
-  kept.insert(heavier, label);
+void LabelSearch::keep(const Label& label) {
+  std::vector<Kept>& kept = kept_[label.customer];
+  const auto heavier =
+      std::upper_bound(kept.begin(), kept.end(), label.weight,
+                       [](double weight, const Kept& other) { return weight < other.weight; });
+  kept.insert(heavier, {label.weight, label.word});
 }
 
-void LabelSearch::go_on(int number, const Links<double>& links, const Memory& memory,
-                        const OpenRows<double>& rows) {
+void LabelSearch::go_on(int number, const Task& task) {
   const Label label = labels_[number];  // (a copy: more labels may move them)
-  const double* const from = &links[static_cast<std::size_t>(label.customer) * nodes_];
+  const double* const from = &task.links[static_cast<std::size_t>(label.customer) * nodes_];
   if (label.weight + from[0] < -kRuns.least) ended_.push_back({label.weight + from[0], number});
-  Bits left = label.known;
-  left.add(label.customer);
   for (const int to : next_[label.customer]) {
     const int load = label.load + loads_.of[to];
-    if (load > loads_.room || label.known.has(to)) continue;
+    if (load > loads_.room) continue;
     const double weight = label.weight + from[to];
     if (weight + home_(loads_.room - load, to) > -kRuns.least) continue;
-    Bits open = label.open;
-    const double cost = rows.enter(to, open);
-    offer(weight + cost, to, load, number, left & memory.near[to], open);
+    if (task.words.remembers(label.customer, label.word, to)) continue;
+    Word word = label.word;
+    const double cost = task.words.go_on(label.customer, to, word);
+    offer({weight + cost, word, to, load, number});
   }
 }
 
 // The labels of a load and customer, the lightest first.
-void LabelSearch::sweep(int load, int customer, const Links<double>& links, const Memory& memory,
-                        const OpenRows<double>& rows, int most) {
+void LabelSearch::sweep(int load, int customer, const Task& task) {
   std::vector<int>& own = cell(load, customer);
   std::sort(own.begin(), own.end(), [&](int a, int b) {
     return labels_[a].weight != labels_[b].weight ? labels_[a].weight < labels_[b].weight : a < b;
   });
   int kept = 0;
   for (const int label : own) {
-    if (most > 0 && kept >= most) return;
-    if (is_dominated(labels_[label], rows)) continue;
+    if (task.labels > 0 && kept >= task.labels) return;
+    if (is_dominated(labels_[label], task.words)) continue;
     kept++;
-    keep(label);
-    go_on(label, links, memory, rows);
+    keep(labels_[label]);
+    go_on(label, task);
   }
 }
 
@@ -104,8 +98,8 @@ std::vector<Route> LabelSearch::best_runs(std::size_t most) {
   return runs;
 }
 
-LabelSearch::Found LabelSearch::find(const Links<double>& links, const Memory& memory,
-                                     const OpenRows<double>& rows, const Effort& effort, std::size_t most) {
+LabelSearch::Found LabelSearch::find(const Links<double>& links, const MemoryWords<double>& words,
+                                     const Effort& effort, std::size_t most) {
   home_.fill(links);
   list_links(links, effort.links);
   labels_.clear();
@@ -113,15 +107,13 @@ LabelSearch::Found LabelSearch::find(const Links<double>& links, const Memory& m
   cells_.assign(static_cast<std::size_t>(loads_.cells()), {});
   kept_.assign(nodes_, {});
   for (int v = 1; v < nodes_; v++) {
-    if (loads_.of[v] > loads_.room) continue;
-    Bits open;
-    rows.enter(v, open);
-    offer(links[v], v, loads_.of[v], -1, {}, open);
+    if (loads_.of[v] <= loads_.room) offer({links[v], words.first(v), v, loads_.of[v], -1});
   }
+  const Task task{links, words, effort.labels};
   Found found;
   for (int load = 1; load <= loads_.room && found.whole; load++) {
     for (int v = 1; v < nodes_; v++) {
-      if (!cell(load, v).empty()) sweep(load, v, links, memory, rows, effort.labels);
+      if (!cell(load, v).empty()) sweep(load, v, task);
     }
     found.whole = labels_.size() <= kRuns.labels;
   }

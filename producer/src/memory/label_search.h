@@ -5,7 +5,7 @@
 // 0 by the lightest way home are left out. Source: D. Pecin, A. Pessoa, M. Poggi and E. Uchoa, Improved
 // branch-cut-and-price for capacitated vehicle routing, Mathematical Programming Computation 9 (2017).
 #pragma once
-#include "memory/memory.h"
+#include "memory/memory_words.h"
 #include "memory/ways_home.h"
 
 namespace certify::routes {
@@ -23,28 +23,38 @@ class LabelSearch {
   };
   LabelSearch(const CvrpInstance& instance, const Loads& loads)
       : instance_(instance), loads_(loads), nodes_(instance.nodes()), home_(loads_) {}
-  Found find(const Links<double>& links, const Memory& memory, const OpenRows<double>& rows,
-             const Effort& effort, std::size_t most);
+  Found find(const Links<double>& links, const MemoryWords<double>& words, const Effort& effort,
+             std::size_t most);
   std::size_t labels() const { return labels_.size(); }
 
  private:
   struct Label {
     double weight;
+    Word word;
     int customer, load, before;  // before: the label that it goes on from, or below 0
-    Bits known, open;
+  };
+  // A label that went on.
+  struct Kept {
+    double weight;
+    Word word;
   };
   struct Ended {
     double weight;
     int label;
     auto operator<=>(const Ended&) const = default;
   };
+  // What a search is over.
+  struct Task {
+    const Links<double>& links;
+    const MemoryWords<double>& words;
+    int labels;  // of a load and customer that go on, or 0 for all
+  };
   void list_links(const Links<double>& links, int count);
-  void offer(double weight, int customer, int load, int before, const Bits& known, const Bits& open);
-  bool is_dominated(const Label& label, const OpenRows<double>& rows) const;
-  void keep(int label);
-  void go_on(int label, const Links<double>& links, const Memory& memory, const OpenRows<double>& rows);
-  void sweep(int load, int customer, const Links<double>& links, const Memory& memory,
-             const OpenRows<double>& rows, int most);
+  void offer(const Label& label);
+  bool is_dominated(const Label& label, const MemoryWords<double>& words) const;
+  void keep(const Label& label);
+  void go_on(int number, const Task& task);
+  void sweep(int load, int customer, const Task& task);
   Route run_of(int label) const;
   std::vector<Route> best_runs(std::size_t most);
   std::vector<int>& cell(int load, int customer) {
@@ -57,7 +67,7 @@ class LabelSearch {
   WaysHome<double> home_;
   std::vector<Label> labels_;
   std::vector<std::vector<int>> cells_;  // labels by load and customer
-  std::vector<std::vector<int>> kept_;   // by customer, the lightest first
+  std::vector<std::vector<Kept>> kept_;  // by customer, the lightest first
   std::vector<std::vector<int>> next_;   // customers that a run goes on to
   std::vector<Ended> ended_;
 };

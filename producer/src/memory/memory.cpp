@@ -22,15 +22,27 @@ int Memory::place_of(const NodeSet& set) const {
   return found == rows.end() ? -1 : static_cast<int>(found - rows.begin());
 }
 
-void Memory::join(const Memory& other) {
-  for (std::size_t v = 0; v < near.size(); v++) near[v] = near[v] | other.near[v];
-  for (const SubsetRow& row : other.rows) {
-    const int place = place_of(row.set);
-    if (place < 0) {
-      rows.push_back(row);
-    } else {
-      rows[place].keepers = rows[place].keepers | row.keepers;
-    }
+void Memory::trim(int most, const std::map<NodeSet, double>& multipliers) {
+  std::vector<int> spare;  // of each customer, less than 0 where it keeps too much
+  for (std::size_t v = 0; v < near.size(); v++) spare.push_back(most - kept_at(static_cast<int>(v)));
+  std::vector<std::pair<double, SubsetRow*>> order;
+  for (SubsetRow& row : rows) {
+    const auto found = multipliers.find(row.set);
+    order.emplace_back(found == multipliers.end() ? 0 : found->second, &row);
+  }
+  std::stable_sort(order.begin(), order.end(),
+                   [](const auto& a, const auto& b) { return a.first < b.first; });
+  const auto forget = [&](Bits& kept, int what, int v) {
+    if (spare[v] >= 0) return;
+    kept.remove(what);
+    spare[v]++;
+  };
+  for (const auto& [multiplier, row] : order) {
+    row->keepers.without(row->inside).each([&, row = row](int v) { forget(row->keepers, v, v); });
+  }
+  for (int v = 0; v < static_cast<int>(near.size()); v++) {
+    const Bits all = near[v];
+    all.each([&](int u) { forget(near[v], u, v); });
   }
 }
 
@@ -71,19 +83,4 @@ bool is_run(const Memory& memory, const Route& run) {
   }
   return true;
 }
-
-template <typename W>
-OpenRows<W>::OpenRows(const Memory& memory, const std::map<NodeSet, W>& multipliers)
-    : inside(memory.near.size()), keep(memory.near.size()) {
-  for (const SubsetRow& row : memory.rows) {
-    const auto found = multipliers.find(row.set);
-    if (found == multipliers.end() || found->second <= 0) continue;
-    const int place = static_cast<int>(costs.size());
-    costs.push_back(found->second);
-    row.inside.each([&](int v) { inside[v].add(place); });
-    row.keepers.each([&](int v) { keep[v].add(place); });
-  }
-}
-template struct OpenRows<double>;
-template struct OpenRows<Weight>;
 }  // namespace certify::routes

@@ -23,6 +23,7 @@ class Bits {
   static constexpr int kMost = 256;
   bool has(int k) const { return (words_[k / 64] >> (k % 64) & 1) != 0; }
   void add(int k) { words_[k / 64] |= std::uint64_t{1} << (k % 64); }
+  void remove(int k) { words_[k / 64] &= ~(std::uint64_t{1} << (k % 64)); }
   int count() const {
     int count = 0;
     for (const std::uint64_t word : words_) count += std::popcount(word);
@@ -39,9 +40,6 @@ class Bits {
   Bits operator|(const Bits& other) const {
     return joined(other, [](auto a, auto b) { return a | b; });
   }
-  Bits operator^(const Bits& other) const {
-    return joined(other, [](auto a, auto b) { return a ^ b; });
-  }
   Bits without(const Bits& other) const {
     return joined(other, [](auto a, auto b) { return a & ~b; });
   }
@@ -54,14 +52,6 @@ class Bits {
         take(static_cast<int>(k) * 64 + std::countr_zero(word));
       }
     }
-  }
-  std::uint64_t hash() const {
-    std::uint64_t sum = 0;
-    for (const std::uint64_t word : words_) {
-      sum = (sum ^ word) * 0x9E3779B97F4A7C15ull;
-      sum ^= sum >> 29;
-    }
-    return sum;
   }
 
  private:
@@ -89,8 +79,18 @@ struct Memory {
   int kept_at(int customer) const;
   // The row of a set, or below 0.
   int place_of(const NodeSet& set) const;
-  // Remembers what another one does.
-  void join(const Memory& other);
+  // The same but for the rows that these multipliers leave out.
+  template <typename W>
+  Memory with_rows_of(const std::map<NodeSet, W>& multipliers) const {
+    Memory some{near};
+    for (const SubsetRow& row : rows) {
+      if (multipliers.contains(row.set)) some.rows.push_back(row);
+    }
+    return some;
+  }
+  // Customers that keep more than this forget rows, those with the least multipliers first, and then
+  // customers. A row's own customers don't forget it.
+  void trim(int most, const std::map<NodeSet, double>& multipliers);
 };
 
 // Each customer remembers as many nearest ones.
@@ -107,21 +107,4 @@ struct RunNumbers : SetNumbers<W> {
 };
 using RunDuals = RunNumbers<double>;
 using RunLeaf = RunNumbers<Weight>;
-
-// The rows with a multiplier, as the customers see them: by places from 0 on.
-template <typename W>
-struct OpenRows {
-  std::vector<W> costs;
-  std::vector<Bits> inside, keep;  // of each customer
-  OpenRows(const Memory& memory, const std::map<NodeSet, W>& multipliers);
-  // What going to a customer costs, and the rows that are open then.
-  W enter(int customer, Bits& open) const {
-    W cost = 0;
-    (open & inside[customer]).each([&](int row) { cost += costs[row]; });
-    open = (open ^ inside[customer]) & keep[customer];
-    return cost;
-  }
-};
-extern template struct OpenRows<double>;
-extern template struct OpenRows<Weight>;
 }  // namespace certify::routes

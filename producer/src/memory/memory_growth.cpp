@@ -85,7 +85,8 @@ double MemoryGrowth::payments_of(const NodeSet& set) const {
   return sum;
 }
 
-std::vector<MemoryGrowth::Broken> MemoryGrowth::broken_triples() const {
+// Rows of three whose violation is more than this, the most broken first.
+std::vector<MemoryGrowth::Broken> MemoryGrowth::triples(double least) const {
   std::vector<Broken> broken;
   const int nodes = static_cast<int>(visits_.size());
   std::vector<unsigned char> pair(used_.size());
@@ -97,13 +98,52 @@ std::vector<MemoryGrowth::Broken> MemoryGrowth::broken_triples() const {
       for (int l = j + 1; l < nodes; l++) {
         double sum = -1;
         for (std::size_t k = 0; k < used_.size(); k++) sum += used_[k].part * ((pair[k] + visits_[l][k]) / 2);
-        if (sum > kSubsetRows.least_violation) broken.push_back({sum, {i, j, l}});
+        if (sum > least) broken.push_back({sum, {i, j, l}});
       }
     }
   }
   std::stable_sort(broken.begin(), broken.end(),
                    [](const Broken& a, const Broken& b) { return a.violation > b.violation; });
   return broken;
+}
+
+// The most broken row of five that has these three customers, if there is any.
+std::optional<MemoryGrowth::Broken> MemoryGrowth::grown(const NodeSet& triple) const {
+  Broken best{kSubsetRows.least_violation, {}};
+  const int nodes = static_cast<int>(visits_.size());
+  std::vector<unsigned char> four(used_.size());
+  const auto has = [&](int v) { return std::find(triple.begin(), triple.end(), v) != triple.end(); };
+  for (int a = 1; a < nodes; a++) {
+    if (has(a)) continue;
+    for (std::size_t k = 0; k < used_.size(); k++) {
+      four[k] = visits_[a][k];
+      for (const int v : triple) four[k] = static_cast<unsigned char>(four[k] + visits_[v][k]);
+    }
+    for (int b = a + 1; b < nodes; b++) {
+      if (has(b)) continue;
+      double sum = -2;
+      for (std::size_t k = 0; k < used_.size(); k++) sum += used_[k].part * ((four[k] + visits_[b][k]) / 2);
+      if (sum <= best.violation) continue;
+      best = {sum, triple};
+      best.set.insert(best.set.end(), {a, b});
+    }
+  }
+  if (best.set.empty()) return std::nullopt;
+  std::sort(best.set.begin(), best.set.end());
+  return best;
+}
+
+std::vector<MemoryGrowth::Broken> MemoryGrowth::broken_fives() const {
+  std::vector<Broken> seeds = triples(kSubsetRows.least_of_triple), fives;
+  seeds.resize(std::min(seeds.size(), kSubsetRows.grown));
+  for (const Broken& seed : seeds) {
+    std::optional<Broken> five = grown(seed.set);
+    const auto is_met = [&](const Broken& other) { return other.set == five->set; };
+    if (five && std::none_of(fives.begin(), fives.end(), is_met)) fives.push_back(std::move(*five));
+  }
+  std::stable_sort(fives.begin(), fives.end(),
+                   [](const Broken& a, const Broken& b) { return a.violation > b.violation; });
+  return fives;
 }
 
 // Whether each of the customers that doesn't keep a row yet may keep one thing more.
@@ -144,26 +184,33 @@ bool MemoryGrowth::add_row(const NodeSet& set) {
   return true;
 }
 
+// Adds the rows that there is room for, at most a few that have one customer. How many.
+int MemoryGrowth::add_some(const std::vector<Broken>& broken) {
+  std::vector<int> of_customer(visits_.size(), 0);
+  int added = 0;
+  for (const Broken& one : broken) {
+    if (added >= static_cast<int>(kSubsetRows.most_at_once) || memory_.rows.size() >= kMemory.most_rows)
+      break;
+    if (memory_.place_of(one.set) >= 0) continue;
+    if (std::any_of(one.set.begin(), one.set.end(),
+                    [&](int v) { return of_customer[v] >= kSubsetRows.most_of_customer; })) {
+      continue;
+    }
+    if (!add_row(one.set)) continue;
+    added++;
+    for (const int v : one.set) of_customer[v]++;
+  }
+  return added;
+}
+
 int MemoryGrowth::add_rows() {
   int changed = 0;
   for (SubsetRow& row : memory_.rows) {
     const double violation = payments_of(row.set) - row.half();
     if (violation > kSubsetRows.least_violation) changed += static_cast<int>(widen(row, false));
   }
-  std::vector<int> of_customer(visits_.size(), 0);
-  int added = 0;
-  for (const Broken& broken : broken_triples()) {
-    if (added >= static_cast<int>(kSubsetRows.most_at_once) || memory_.rows.size() >= kMemory.most_rows)
-      break;
-    if (memory_.place_of(broken.set) >= 0) continue;
-    if (std::any_of(broken.set.begin(), broken.set.end(),
-                    [&](int v) { return of_customer[v] >= kSubsetRows.most_of_customer; })) {
-      continue;
-    }
-    if (!add_row(broken.set)) continue;
-    added++;
-    for (const int v : broken.set) of_customer[v]++;
-  }
+  int added = add_some(triples(kSubsetRows.least_violation));
+  if (added < static_cast<int>(kSubsetRows.few_triples)) added += add_some(broken_fives());
   return changed + added;
 }
 }  // namespace certify::routes

@@ -1,11 +1,12 @@
 // Subset rows that a solution breaks, and memory where its runs need it.
 //
-// Rows of three customers are enumerated. A customer remembers another one where a run of the solution comes
-// back to that, and it keeps a row where a run of the solution would else not pay for it: so customers keep
-// few things. Sources: M. Jepsen, B. Petersen, S. Spoorendonk and D. Pisinger, Subset-row inequalities
-// applied to the vehicle-routing problem with time windows, Operations Research 56 (2008); D. Pecin, A.
-// Pessoa, M. Poggi and E. Uchoa, Improved branch-cut-and-price for capacitated vehicle routing, Mathematical
-// Programming Computation 9 (2017).
+// Rows of three customers are enumerated, and where few of them are broken, some grow to five. (Rows of four
+// say no more than that each customer is served once.) A customer remembers another one where a run of the
+// solution comes back to that, and it keeps a row where a run of the solution would else not pay for it: so
+// customers keep few things. Sources: M. Jepsen, B. Petersen, S. Spoorendonk and D. Pisinger, Subset-row
+// inequalities applied to the vehicle-routing problem with time windows, Operations Research 56 (2008); D.
+// Pecin, A. Pessoa, M. Poggi and E. Uchoa, Improved branch-cut-and-price for capacitated vehicle routing,
+// Mathematical Programming Computation 9 (2017).
 #pragma once
 #include "memory/run_program.h"
 
@@ -31,7 +32,10 @@ class MemoryGrowth {
     NodeSet set;
   };
   double payments_of(const NodeSet& set) const;
-  std::vector<Broken> broken_triples() const;
+  std::vector<Broken> triples(double least) const;
+  std::optional<Broken> grown(const NodeSet& triple) const;
+  std::vector<Broken> broken_fives() const;
+  int add_some(const std::vector<Broken>& broken);
   bool widen(SubsetRow& row, bool fresh);
   bool has_room(const Bits& customers, const Bits& have) const;
   bool add_row(const NodeSet& set);

@@ -11,10 +11,11 @@ namespace certify::routes {
 // What customers remember. Each thing is a bit of a state, and the checker has to keep all states.
 struct MemoryParameters {
   int near = 3;                       // nearest customers that each remembers at first
-  int bits = 20;                      // customers and rows that a customer keeps in one case
-  int file_bits = 64;                 // and in a file
+  int bits = 20, least_bits = 6;      // customers and rows that a customer keeps in one case
+  int fewer_bits = 4;                 // less, where there are too many states
+  int file_bits = 64;                 // in a file
   std::size_t most_rows = 250;        // of a case
-  std::size_t states = 2000000;       // that a leaf should keep
+  std::size_t states = 6000000;       // that the root should keep, where the tree has the same memory
   std::size_t most_states = 9000000;  // that it may keep: the checker has a limit of 10,000,000
 };
 inline constexpr MemoryParameters kMemory{};
@@ -23,10 +24,13 @@ inline constexpr MemoryParameters kMemory{};
 struct SubsetRowParameters {
   double least_violation = 0.04;
   std::size_t most_at_once = 30;
-  int most_of_customer = 4;  // rows of a round that have one customer
-  int slack_solutions = 2;   // a row that is slack in as many in a row is dropped
-  int many_sets = 5;         // with as many fresh capacity cuts no rows are looked for
-  int much_memory = 15;      // nor with as many customers that remember more
+  std::size_t few_triples = 10;   // with fewer new rows of three, those of five are looked for
+  std::size_t grown = 60;         // triples that grow to five customers
+  double least_of_triple = -0.3;  // the violation of such a triple
+  int most_of_customer = 4;       // rows of a round that have one customer
+  int slack_solutions = 2;        // a row that is slack in as many in a row is dropped
+  int many_sets = 5;              // with as many fresh capacity cuts no rows are looked for
+  int much_memory = 15;           // nor with as many customers that remember more
 };
 inline constexpr SubsetRowParameters kSubsetRows{};
 
@@ -55,18 +59,27 @@ inline constexpr RunRounds kRunTree{15, 3, 3e-4};
 // Trials of branches.
 struct RunBranchingParameters {
   std::size_t tried = 40, priced = 4;
+  int iterations = 80;  // of the dual simplex, before new runs are tried
   int rounds = 6;       // of runs
   double margin = 0.1;  // from an even number of crossings
 };
 inline constexpr RunBranchingParameters kRunBranching{};
 
+// Dives for a plan.
+struct RunDivingParameters {
+  int rounds = 8;       // of runs, after each run that is fixed
+  double least = 1e-2;  // below 0, of a run that is worth a further round
+  double whole = 1e-5;  // near 1, of a run that is used wholly
+};
+inline constexpr RunDivingParameters kRunDiving{};
+
 // The tree, and the whole numbers of a leaf.
 struct RunLeafParameters {
   double large_gap = 0.004;  // of the length: then routes are looked for once more
-  Weight scale = 10000;
-  double margin = 0.02;     // of a bound over the target, which rounding mostly leaves above it
-  double ceiling = 0.01;    // up to as much lengths that rounding leaves above 0 are won back
-  double tolerance = 0.05;  // between the bound and the value of the program
+  Weight scale = 252000;     // a multiple of many fractions
+  double margin = 0.004;     // of a bound over the target, which rounding mostly leaves above it
+  double ceiling = 0.01;     // up to as much lengths that rounding leaves above 0 are won back
+  double tolerance = 0.05;   // between the bound and the value of the program
 };
 inline constexpr RunLeafParameters kRunLeaves{};
 }  // namespace certify::routes

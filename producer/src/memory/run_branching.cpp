@@ -76,14 +76,14 @@ double gain_below(const SolvedRunCase& here, const SetBranch& branch, bool first
   } else {
     own.low = 2 * branch.t + 2;
   }
+  program.note_solution();
   program.limit(branch.set, own);
   program.rebuild();
   for (int round = 0; round < kRunBranching.rounds; round++) {
     const RunDuals duals = program.duals();
-    const OpenRows<double> rows(program.memory(), duals.rows);
-    const LabelSearch::Found found =
-        here.labels.find(links_under<double>(here.instance, duals, 1), program.memory(), rows,
-                         {kRuns.first_labels, kRuns.few_links}, kRuns.at_once);
+    const MemoryWords<double> words(program.memory(), duals.rows);
+    const LabelSearch::Found found = here.labels.find(links_under<double>(here.instance, duals, 1), words,
+                                                      {kRuns.first_labels, kRuns.few_links}, kRuns.at_once);
     if (program.add_runs(found.runs) == 0 || found.least > -1e-2) break;
     program.solve();
     if (program.value() - here.program.value() < 0) break;

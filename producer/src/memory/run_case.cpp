@@ -2,10 +2,10 @@
 
 #include <algorithm>
 #include <cmath>
+#include <utility>
 
 #include "memory/memory_growth.h"
-#include "memory/memory_parameters.h"
-#include "memory/run_branching.h"
+#include "memory/run_diving.h"
 #include "routes/route_parameters.h"
 
 namespace certify::routes {
@@ -17,8 +17,10 @@ struct RunCaseSolver::Rounds {
   RouteGoal goal;
   const Note& note;
   bool whole;
+  int bits;
   Best best{};
   bool shorter = false;  // the goal's plan is a new one
+  bool too_many_labels = false;
   double margin = kRunLeaves.margin;
   double goal_value() const { return static_cast<double>(goal.target) - 1 + margin; }
 };
@@ -41,11 +43,10 @@ void RunCaseSolver::load(const RunCase& here, RunProgram& program) const {
 // With few labels, more, or all.
 LabelSearch::Found RunCaseSolver::price(const RunProgram& program, const RunDuals& duals, int turn) {
   const Links<double> links = links_under<double>(problem_.instance, duals, 1);
-  const OpenRows<double> rows(program.memory(), duals.rows);
+  const MemoryWords<double> words(program.memory(), duals.rows);
   const LabelSearch::Effort efforts[] = {
       {kRuns.first_labels, kRuns.few_links}, {kRuns.more_labels, 0}, {0, 0}};
-  return labels_.find(links, program.memory(), rows, efforts[turn],
-                      turn == 2 ? kRuns.at_once_of_all : kRuns.at_once);
+  return labels_.find(links, words, efforts[turn], turn == 2 ? kRuns.at_once_of_all : kRuns.at_once);
 }
 
 // The multiplier of all customers takes what the least run weighs.
@@ -62,6 +63,7 @@ bool RunCaseSolver::generate(Rounds& rounds) {
     const LabelSearch::Found found = price(rounds.program, duals, turn);
     const int added = rounds.program.add_runs(found.runs);
     if (turn == 2) {
+      rounds.too_many_labels = !found.whole;
       if (!found.whole) return false;
       take_bound(rounds, duals, found.least);
       if (rounds.best.bound > rounds.goal_value()) return true;
@@ -76,18 +78,23 @@ bool RunCaseSolver::generate(Rounds& rounds) {
   }
 }
 
-// A solution that uses each run wholly or not at all, and each customer once.
-void RunCaseSolver::look_for_plan(Rounds& rounds) const {
-  Routes routes;
-  for (const auto& [part, run] : rounds.program.used()) {
-    if (part > 1e-5 && part < 1 - 1e-5) return;
-    if (part > 0.5) routes.push_back(rounds.program.runs()[run]);
-  }
-  if (!is_plan(problem_.instance, routes)) return;
-  const Weight length = length_of(problem_.instance, routes);
+void RunCaseSolver::take_plan(Rounds& rounds, const std::optional<Routes>& plan) const {
+  if (!plan) return;
+  const Weight length = length_of(problem_.instance, *plan);
   if (length >= rounds.goal.length) return;
-  rounds.goal = {routes, length, std::min(rounds.goal.target, length)};
+  rounds.goal = {*plan, length, std::min(rounds.goal.target, length)};
   rounds.shorter = true;
+}
+
+// A dive, from a solution that isn't too far below the goal.
+void RunCaseSolver::look_for_plan(Rounds& rounds) {
+  const auto late = [&] { return clock_.over(kRouteTree.part_of_time); };
+  take_plan(rounds, dive(solved(rounds), rounds.goal.length, late));
+}
+
+SolvedRunCase RunCaseSolver::solved(const Rounds& rounds) {
+  return {problem_.instance, problem_.loads, rounds.program, labels_,
+          static_cast<double>(rounds.goal.target) - 1};
 }
 
 // Sets first; where these are few, memory and rows. How many of all.
@@ -102,7 +109,7 @@ int RunCaseSolver::add_cuts(Rounds& rounds) {
   if (static_cast<int>(sets.size()) < kSubsetRows.many_sets) {
     std::vector<UsedRun> used;
     for (const auto& [part, run] : rounds.program.used()) used.push_back({part, rounds.program.runs()[run]});
-    MemoryGrowth growth(rounds.program.memory(), std::move(used), kMemory.bits);
+    MemoryGrowth growth(rounds.program.memory(), std::move(used), rounds.bits);
     more = growth.forbid_cycles();
     if (more <= kSubsetRows.much_memory) more += growth.add_rows();
   }
@@ -116,17 +123,20 @@ void RunCaseSolver::cut(Rounds& rounds) {
   std::vector<double> past;
   for (int round = 1;; round++) {
     const bool reached = generate(rounds);
-    look_for_plan(rounds);
+    take_plan(rounds, rounds.program.plan());
     if (rounds.note) {
       rounds.note(rounds.goal.length, static_cast<Weight>(std::ceil(rounds.best.bound - 1e-6)),
                   rounds.program);
     }
-    if (reached || rounds.best.bound > rounds.goal_value() || clock_.over(kRouteTree.part_of_time)) return;
+    if (reached || rounds.best.bound > rounds.goal_value() || rounds.too_many_labels ||
+        clock_.over(kRouteTree.part_of_time)) {
+      return;
+    }
     past.push_back(rounds.program.value());
     const bool stalls = past.size() > plan.window && past.back() - past[past.size() - 1 - plan.window] <
                                                          plan.least_gain * std::abs(past.back());
     if (stalls || round >= plan.most) return;
-    rounds.program.note_slack();
+    rounds.program.note_solution();
     if (add_cuts(rounds) == 0) return;
     rounds.program.drop_slack(kCapacityCuts.slack_solutions / 2, kSubsetRows.slack_solutions - 1);
     rounds.program.drop_runs();
@@ -136,50 +146,88 @@ void RunCaseSolver::cut(Rounds& rounds) {
 
 // The best duals as whole numbers. Whether these reach the target.
 bool RunCaseSolver::settle(Rounds& rounds, RunOutcome& outcome) {
-  if (rounds.best.duals.potentials.empty()) return false;
-  SettledLeaf leaf{bound_.rounded(rounds.best.duals, rounds.best.memory, 1, kMemory.states),
-                   rounds.best.memory};
-  std::erase_if(leaf.memory.rows, [&](const SubsetRow& row) { return !leaf.numbers.rows.contains(row.set); });
-  const Value value = bound_.value(leaf.numbers, leaf.memory, rounds.limits, kMemory.states);
-  if (value <= outcome.value) return false;
-  outcome.value = value;
-  outcome.leaf = std::move(leaf);
-  return value >= value_to_reach(rounds.goal.target, problem_.scale);
+  const Value aim = value_to_reach(rounds.goal.target, problem_.scale);
+  auto made =
+      bound_.rounded(rounds.best.duals, rounds.best.memory, rounds.limits, 1, aim, kMemory.most_states);
+  if (!made || made->value < aim) return false;
+  outcome.value = made->value;
+  outcome.leaf.numbers = std::move(made->numbers);
+  outcome.leaf.memory = rounds.best.memory.with_rows_of(outcome.leaf.numbers.rows);
+  return true;
+}
+
+// Whether the whole problem, below which there are many leaves, has more states than a leaf should keep.
+bool RunCaseSolver::has_many_states(const Rounds& rounds) {
+  if (!rounds.whole || rounds.best.duals.potentials.empty()) return false;
+  bound_.rounded(rounds.best.duals, rounds.best.memory, rounds.limits, 1, kNoValue, kMemory.states);
+  return bound_.states() > kMemory.states;
+}
+
+// Customers keep fewer things from here on. False where they would keep too few.
+bool RunCaseSolver::give_up_bits(Rounds& rounds) const {
+  if (rounds.bits - kMemory.fewer_bits < kMemory.least_bits) return false;
+  rounds.bits -= kMemory.fewer_bits;
+  rounds.program.note_solution();
+  rounds.program.memory().trim(rounds.bits, rounds.program.duals().rows);
+  rounds.program.rebuild();
+  rounds.best = {};
+  return true;
+}
+
+// Cuts until the numbers reach the target, or the bound stalls. Rounding may lose what the bound has above
+// the target: then it has to have more.
+void RunCaseSolver::solve_rounds(Rounds& rounds, RunOutcome& outcome) {
+  bool dived = false;
+  for (;;) {
+    cut(rounds);
+    if (rounds.best.bound <= rounds.goal_value() && !std::exchange(dived, true)) look_for_plan(rounds);
+    const bool reached = rounds.best.bound > rounds.goal_value();
+    if (reached && settle(rounds, outcome)) {
+      outcome.done = true;
+      return;
+    }
+    if (clock_.over(kRouteTree.part_of_time)) return;
+    const bool many =
+        reached ? bound_.states() > kMemory.most_states : rounds.too_many_labels || has_many_states(rounds);
+    if (many && give_up_bits(rounds)) continue;
+    if (!reached || rounds.margin > 0.5) return;
+    rounds.margin *= 3;
+  }
+}
+
+// What an open case has: most are never rounded, since cases below have better duals.
+void RunCaseSolver::leave_duals(Rounds& rounds, RunOutcome& outcome) const {
+  if (rounds.best.duals.potentials.empty()) return;
+  outcome.value = static_cast<Value>(std::floor(rounds.best.bound * static_cast<double>(problem_.scale)));
+  outcome.leaf = {std::move(rounds.best.duals), {}, std::move(rounds.best.memory)};
 }
 
 void RunCaseSolver::branch(Rounds& rounds, RunOutcome& outcome) {
   rounds.cuts.violated(rounds.program.support(), true, kCapacityCuts.least_violation);
-  outcome.branch = choose_run_branch({problem_.instance, problem_.loads, rounds.program, labels_,
-                                      static_cast<double>(rounds.goal.target) - 1},
-                                     rounds.cuts.between());
+  outcome.branch = choose_run_branch(solved(rounds), rounds.cuts.between());
   if (!outcome.branch) return;
   std::vector<NodeSet> sets;
   for (const CrossedSet& set : rounds.program.sets()) sets.push_back(set.set);
   outcome.start = std::make_shared<const RunStart>(
-      RunStart{std::move(sets), rounds.program.best_runs(kRuns.kept), rounds.program.memory()});
+      RunStart{std::move(sets), rounds.program.best_runs(kRuns.kept), rounds.program.memory(), rounds.bits});
 }
 
 RunOutcome RunCaseSolver::solve(const RunCase& here, const Note& note) {
   RunProgram program(problem_.instance, here.start->memory);
   load(here, program);
   program.rebuild();
-  Rounds rounds{program,   CapacityCuts(problem_.instance, here.seed), here.limits, here.goal, note,
-                here.whole};
+  Rounds rounds{
+      program,         CapacityCuts(problem_.instance, here.seed), here.limits, here.goal, note, here.whole,
+      here.start->bits};
   RunOutcome outcome;
-  cut(rounds);
-  outcome.done = settle(rounds, outcome);
-  // Rounding may lose what the bound has above the target. Then it has to have more.
-  while (!outcome.done && rounds.best.bound > rounds.goal_value() && rounds.margin < 0.5 &&
-         !clock_.over(kRouteTree.part_of_time)) {
-    rounds.margin *= 3;
-    cut(rounds);
-    outcome.done = settle(rounds, outcome);
-  }
+  solve_rounds(rounds, outcome);
   if (rounds.shorter) outcome.routes = rounds.goal.routes;
   outcome.sets = static_cast<int>(program.sets().size());
   outcome.rows = static_cast<int>(program.memory().rows.size());
   outcome.runs = static_cast<int>(program.runs().size());
-  if (!outcome.done && !clock_.over(kRouteTree.part_of_time)) branch(rounds, outcome);
+  if (outcome.done) return outcome;
+  leave_duals(rounds, outcome);
+  if (!clock_.over(kRouteTree.part_of_time)) branch(rounds, outcome);
   return outcome;
 }
 }  // namespace certify::routes

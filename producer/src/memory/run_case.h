@@ -4,7 +4,9 @@
 #include <memory>
 
 #include "memory/label_search.h"
+#include "memory/memory_parameters.h"
 #include "memory/run_bound.h"
+#include "memory/run_branching.h"
 #include "memory/run_program.h"
 #include "routes/route_case.h"
 
@@ -14,6 +16,7 @@ struct RunStart {
   std::vector<NodeSet> sets{};
   std::vector<Route> runs{};
   Memory memory{};
+  int bits = kMemory.bits;  // that a customer keeps at most
 };
 
 struct RunCase {
@@ -24,16 +27,10 @@ struct RunCase {
   bool whole = false;  // the whole problem, on which more time is spent
 };
 
-// Numbers with the memory that they are for.
-struct SettledLeaf {
-  RunLeaf numbers{};
-  Memory memory{};
-};
-
 struct RunOutcome {
   bool done = false;
   SettledLeaf leaf{};
-  Value value = kNoValue;
+  Value value = kNoValue;  // exact if the case is done, else that of the duals
   std::optional<SetBranch> branch{};
   std::shared_ptr<const RunStart> start{};  // where there is a branch
   std::optional<Routes> routes{};           // a shorter plan
@@ -60,8 +57,14 @@ class RunCaseSolver {
   void take_bound(Rounds& rounds, RunDuals duals, double least) const;
   void cut(Rounds& rounds);
   int add_cuts(Rounds& rounds);
-  void look_for_plan(Rounds& rounds) const;
+  void take_plan(Rounds& rounds, const std::optional<Routes>& plan) const;
+  void look_for_plan(Rounds& rounds);
+  SolvedRunCase solved(const Rounds& rounds);
   bool settle(Rounds& rounds, RunOutcome& outcome);
+  bool has_many_states(const Rounds& rounds);
+  bool give_up_bits(Rounds& rounds) const;
+  void solve_rounds(Rounds& rounds, RunOutcome& outcome);
+  void leave_duals(Rounds& rounds, RunOutcome& outcome) const;
   void branch(Rounds& rounds, RunOutcome& outcome);
 
   const RouteProblem& problem_;

@@ -4,7 +4,6 @@
 #include <cmath>
 
 #include "memory/memory_parameters.h"
-#include "routes/walk_program.h"
 
 namespace certify::routes {
 namespace {
@@ -13,10 +12,10 @@ const double kMost = COIN_DBL_MAX;
 }  // namespace
 
 RunProgram::RunProgram(const CvrpInstance& instance, Memory memory)
-    : instance_(instance), memory_(std::move(memory)) {
+    : RouteProgram(instance), memory_(std::move(memory)) {
   add_set(instance.customers());
   sets_[0].limited = true;
-  row_ages_.assign(memory_.rows.size(), 0);
+  row_states_.resize(memory_.rows.size());
   std::vector<Route> alone;
   for (const int v : instance.customers()) alone.push_back({v});
   add_runs(alone);
@@ -39,84 +38,93 @@ void RunProgram::limit(const NodeSet& set, const Crossings& crossings) {
   own->limited = true;
 }
 
-std::vector<std::pair<int, double>> RunProgram::elements_of(const Route& run) const {
-  std::map<int, double> elements;
-  for (const int v : run) elements[v - 1] += 1;
+void RunProgram::list_run(const Route& run, Columns& columns) const {
+  list_visits(run, columns);
   int row = customers();
-  for (const CrossedSet& set : sets_) elements[row++] = crossings_of(run, set.inside);
-  for (const SubsetRow& own : memory_.rows) elements[row++] = payments(own, run);
-  std::vector<std::pair<int, double>> listed(elements.begin(), elements.end());
-  std::erase_if(listed, [](const auto& element) { return element.second == 0; });
-  return listed;
+  const auto add = [&](int element) {
+    if (element != 0) columns.add(row, element);
+    row++;
+  };
+  for (const CrossedSet& set : sets_) add(crossings_of(run, set.inside));
+  for (const SubsetRow& own : memory_.rows) add(payments(own, run));
+  columns.end(static_cast<double>(length_of(instance_, run)));
 }
 
 int RunProgram::add_runs(const std::vector<Route>& runs) {
-  const std::size_t before = runs_.size();
+  Columns columns;
+  int added = 0;
   for (const Route& run : runs) {
-    if (known_.insert(run).second) runs_.push_back(run);
+    if (!known_.insert(run).second) continue;
+    routes_.push_back(run);
+    added++;
+    if (program_.numberRows() > 0) list_run(run, columns);
   }
-  const int added = static_cast<int>(runs_.size() - before);
-  if (added > 0 && program_.numberRows() > 0) add_columns(before);
+  add_columns(columns);
   return added;
 }
 
-void RunProgram::set_runs(const std::vector<Route>& runs) {
-  runs_.clear();
-  known_.clear();
-  for (const Route& run : runs) {
-    if (known_.insert(run).second) runs_.push_back(run);
-  }
-}
-
-// The columns of the runs from one on.
-void RunProgram::add_columns(std::size_t first) {
-  std::vector<CoinBigIndex> starts{0};
-  std::vector<int> rows;
-  std::vector<double> values, costs;
-  for (std::size_t k = first; k < runs_.size(); k++) {
-    for (const auto& [row, value] : elements_of(runs_[k])) {
-      rows.push_back(row);
-      values.push_back(value);
-    }
-    starts.push_back(static_cast<CoinBigIndex>(rows.size()));
-    costs.push_back(static_cast<double>(length_of(instance_, runs_[k])));
-  }
-  program_.addColumns(static_cast<int>(costs.size()), nullptr, nullptr, costs.data(), starts.data(),
-                      rows.data(), values.data());
-}
-
 // Each customer, and each set that is limited, has a column that costs more than any route of one customer.
-void RunProgram::rebuild() {
-  program_ = ClpSimplex();
-  program_.setLogLevel(0);
-  program_.resize(customers() + static_cast<int>(sets_.size() + memory_.rows.size()), 0);
-  int row = 0;
-  for (; row < customers(); row++) program_.setRowBounds(row, 1, 1);
-  for (const CrossedSet& set : sets_) program_.setRowBounds(row++, set.crossings.low, set.crossings.high);
-  for (const SubsetRow& own : memory_.rows) program_.setRowBounds(row++, -kMost, own.half());
+void RunProgram::list_unmet(Columns& columns) const {
   double penalty = 1;
   for (const int v : instance_.customers()) {
     penalty = std::max(penalty, 3.0 * static_cast<double>(std::abs(length_of(instance_, Route{v}))));
   }
-  unmet_ = 0;
-  const auto add = [&](int at, double element) {
-    program_.addColumn(1, &at, &element, 0, kMost, penalty);
-    unmet_++;
+  const auto list = [&](int row, double element) {
+    columns.add(row, element);
+    columns.end(penalty);
   };
-  for (int v = 0; v < customers(); v++) add(v, 1);
+  for (int v = 0; v < customers(); v++) list(v, 1);
   for (std::size_t k = 0; k < sets_.size(); k++) {
     if (!sets_[k].limited) continue;
-    for (const double element : {1.0, -1.0}) add(customers() + static_cast<int>(k), element);
+    for (const double element : {1.0, -1.0}) list(customers() + static_cast<int>(k), element);
   }
-  add_columns(0);
+}
+
+void RunProgram::set_row_bounds() {
+  int row = 0;
+  for (; row < customers(); row++) program_.setRowBounds(row, 1, 1);
+  for (const CrossedSet& set : sets_) program_.setRowBounds(row++, set.crossings.low, set.crossings.high);
+  for (const SubsetRow& own : memory_.rows) program_.setRowBounds(row++, -kMost, own.half());
+}
+
+void RunProgram::set_basis() {
+  if (customers_.empty()) return;
+  program_.createStatus();
+  int row = 0, column = 0;
+  for (const ClpSimplex::Status status : customers_) program_.setRowStatus(row++, status);
+  for (const CrossedSet& set : sets_) program_.setRowStatus(row++, set.status);
+  row_states_.resize(memory_.rows.size());
+  for (const RowState& state : row_states_) program_.setRowStatus(row++, state.status);
+  for (const ClpSimplex::Status status : unmet_customers_) program_.setColumnStatus(column++, status);
+  for (const CrossedSet& set : sets_) {
+    if (!set.limited) continue;
+    for (const ClpSimplex::Status status : set.unmet) program_.setColumnStatus(column++, status);
+  }
+  of_runs_.resize(routes_.size(), ClpSimplex::atLowerBound);
+  for (const ClpSimplex::Status status : of_runs_) program_.setColumnStatus(column++, status);
+}
+
+void RunProgram::rebuild() {
+  program_ = ClpSimplex();
+  program_.setLogLevel(0);
+  program_.resize(customers() + static_cast<int>(sets_.size() + memory_.rows.size()), 0);
+  set_row_bounds();
+  Columns columns;
+  list_unmet(columns);
+  first_ = static_cast<int>(columns.costs.size());
+  for (const Route& run : routes_) list_run(run, columns);
+  add_columns(columns);
+  set_basis();
+  program_.dual(0);
+  if (program_.status() == 0) return;
+  program_.allSlackBasis();
   program_.dual(0);
 }
 
 RunDuals RunProgram::duals() const {
   const double* const values = program_.dualRowSolution();
   RunDuals duals;
-  duals.potentials.assign(instance_.nodes(), 0);
-  for (int v = 1; v < instance_.nodes(); v++) duals.potentials[v] = -values[v - 1] / 2;
+  duals.potentials = potentials();
   int row = customers();
   for (const CrossedSet& set : sets_) {
     const double value = values[row++];
@@ -144,101 +152,85 @@ double RunProgram::back_of(const RunDuals& duals) const {
 std::vector<std::pair<double, int>> RunProgram::used() const {
   const double* const solution = program_.primalColumnSolution();
   std::vector<std::pair<double, int>> used;
-  for (std::size_t k = 0; k < runs_.size(); k++) {
-    if (solution[static_cast<std::size_t>(unmet_) + k] > kTiny) {
-      used.emplace_back(solution[static_cast<std::size_t>(unmet_) + k], static_cast<int>(k));
+  for (std::size_t k = 0; k < routes_.size(); k++) {
+    if (solution[static_cast<std::size_t>(first_) + k] > kTiny) {
+      used.emplace_back(solution[static_cast<std::size_t>(first_) + k], static_cast<int>(k));
     }
   }
   return used;
 }
 
-Graph RunProgram::support() const {
-  std::map<Pair, double> uses;
+std::optional<Routes> RunProgram::plan() const {
+  Routes routes;
   for (const auto& [part, run] : used()) {
-    int last = 0;
-    for (const int v : runs_[run]) {
-      uses[std::minmax(last, v)] += part;
-      last = v;
-    }
-    uses[Pair(0, last)] += part;
+    if (part > kRunDiving.whole && part < 1 - kRunDiving.whole) return std::nullopt;
+    if (part > 0.5) routes.push_back(routes_[run]);
   }
-  Graph support(instance_.nodes());
-  for (const auto& [pair, value] : uses) {
-    support[pair.first].push_back({pair.second, value});
-    support[pair.second].push_back({pair.first, value});
-  }
-  return support;
+  return is_plan(instance_, routes) ? std::optional(routes) : std::nullopt;
 }
 
-void RunProgram::note_slack() {
+void RunProgram::note_solution() {
   const RunDuals own = duals();
+  int row = customers(), column = customers();
+  customers_.clear();
+  unmet_customers_.clear();
+  for (int v = 0; v < customers(); v++) {
+    customers_.push_back(program_.getRowStatus(v));
+    unmet_customers_.push_back(program_.getColumnStatus(v));
+  }
   for (CrossedSet& set : sets_) {
     set.slack_solutions = own.multipliers.contains(set.set) ? 0 : set.slack_solutions + 1;
+    set.status = program_.getRowStatus(row++);
+    if (!set.limited) continue;
+    for (ClpSimplex::Status& status : set.unmet) status = program_.getColumnStatus(column++);
   }
-  row_ages_.resize(memory_.rows.size(), 0);
+  row_states_.resize(memory_.rows.size());
   for (std::size_t k = 0; k < memory_.rows.size(); k++) {
-    row_ages_[k] = own.rows.contains(memory_.rows[k].set) ? 0 : row_ages_[k] + 1;
+    RowState& state = row_states_[k];
+    state.slack_solutions = own.rows.contains(memory_.rows[k].set) ? 0 : state.slack_solutions + 1;
+    state.status = program_.getRowStatus(row++);
   }
+  of_runs_.clear();
+  for (std::size_t k = 0; k < routes_.size(); k++) of_runs_.push_back(program_.getColumnStatus(column++));
 }
 
 void RunProgram::drop_slack(int set_age, int row_age) {
   std::erase_if(sets_, [&](const CrossedSet& set) { return !set.limited && set.slack_solutions > set_age; });
   std::vector<SubsetRow> rows;
-  std::vector<int> ages;
-  row_ages_.resize(memory_.rows.size(), 0);
+  std::vector<RowState> states;
+  row_states_.resize(memory_.rows.size());
   for (std::size_t k = 0; k < memory_.rows.size(); k++) {
-    if (row_ages_[k] > row_age) continue;
+    if (row_states_[k].slack_solutions > row_age) continue;
     rows.push_back(std::move(memory_.rows[k]));
-    ages.push_back(row_ages_[k]);
+    states.push_back(row_states_[k]);
   }
   memory_.rows = std::move(rows);
-  row_ages_ = std::move(ages);
+  row_states_ = std::move(states);
 }
 
 void RunProgram::drop_runs() {
-  const double* const costs = program_.dualColumnSolution() + unmet_;
+  const double* const costs = program_.dualColumnSolution() + first_;
   const double far =
       kRuns.far * std::abs(value()) / instance_.fewest_routes(instance_.demand_of(instance_.customers()));
-  const bool many = runs_.size() > kRuns.kept;
+  const bool many = routes_.size() > kRuns.kept;
   std::vector<Route> left;
-  for (std::size_t k = 0; k < runs_.size(); k++) {
-    const bool alone = runs_[k].size() == 1;
-    if (alone || ((!many || costs[k] < far) && is_run(memory_, runs_[k]))) left.push_back(runs_[k]);
+  std::vector<ClpSimplex::Status> statuses;
+  for (std::size_t k = 0; k < routes_.size(); k++) {
+    const bool alone = routes_[k].size() == 1;
+    if (!alone && ((many && costs[k] >= far) || !is_run(memory_, routes_[k]))) {
+      known_.erase(routes_[k]);
+      continue;
+    }
+    left.push_back(std::move(routes_[k]));
+    if (k < of_runs_.size()) statuses.push_back(of_runs_[k]);
   }
-  set_runs(left);
-}
-
-std::vector<Route> RunProgram::best_runs(std::size_t most) const {
-  const double* const costs = program_.dualColumnSolution() + unmet_;
-  std::vector<std::pair<double, std::size_t>> order;
-  for (std::size_t k = 0; k < runs_.size(); k++) order.emplace_back(costs[k], k);
-  std::sort(order.begin(), order.end());
-  order.resize(std::min(order.size(), most));
-  std::vector<Route> best;
-  best.reserve(order.size());
-  for (const auto& [cost, k] : order) best.push_back(runs_[k]);
-  return best;
+  routes_ = std::move(left);
+  of_runs_ = std::move(statuses);
 }
 
 std::array<double, 2> RunProgram::gains(const NodeSet& set, int t, double enough) const {
-  std::vector<int> columns;
-  std::vector<double> elements;
-  const std::vector<char> inside = marks_of(set, instance_.nodes());
-  for (std::size_t k = 0; k < runs_.size(); k++) {
-    const int crossings = crossings_of(runs_[k], inside);
-    if (crossings == 0) continue;
-    columns.push_back(unmet_ + static_cast<int>(k));
-    elements.push_back(crossings);
-  }
-  std::array<double, 2> gains{};
-  for (const int side : {0, 1}) {
-    ClpSimplex trial(program_);
-    trial.addRow(static_cast<int>(columns.size()), columns.data(), elements.data(),
-                 side == 0 ? -kMost : 2 * t + 2, side == 0 ? 2 * t : kMost);
-    trial.dual(0);
-    gains[side] =
-        trial.isProvenPrimalInfeasible() ? enough : std::min(enough, trial.objectiveValue() - value());
-  }
+  std::array<double, 2> gains = gains_by(set, t, kRunBranching.iterations, enough);
+  for (double& gain : gains) gain = std::min(enough, gain);
   return gains;
 }
 }  // namespace certify::routes

@@ -1,11 +1,10 @@
 // The linear program over runs: each customer once, sets crossed often enough, and subset rows.
 #pragma once
 #include <array>
-#include <coin/ClpSimplex.hpp>
-#include <set>
+#include <optional>
 
-#include "cuts/support.h"
 #include "memory/memory.h"
+#include "routes/route_program.h"
 
 namespace certify::routes {
 // A set of customers, and how often it is crossed.
@@ -15,9 +14,11 @@ struct CrossedSet {
   Crossings crossings;
   bool limited = false;  // by a decision: it is never dropped
   int slack_solutions = 0;
+  ClpSimplex::Status status = ClpSimplex::basic;  // of its row
+  std::array<ClpSimplex::Status, 2> unmet{ClpSimplex::atLowerBound, ClpSimplex::atLowerBound};
 };
 
-class RunProgram {
+class RunProgram : public RouteProgram {
  public:
   RunProgram(const CvrpInstance& instance, Memory memory);
   // Rows. What changes them takes effect by rebuild().
@@ -33,37 +34,40 @@ class RunProgram {
   void drop_runs();
   // Adds runs that aren't there yet. How many.
   int add_runs(const std::vector<Route>& runs);
-  const std::vector<Route>& runs() const { return runs_; }
-  void set_runs(const std::vector<Route>& runs);
+  const std::vector<Route>& runs() const { return routes_; }
 
+  // Makes the program anew, and solves it from the basis that was noted.
   void rebuild();
   void solve() { program_.primal(0); }
-  double value() const { return program_.objectiveValue(); }
   RunDuals duals() const;
   // What duals give back, with the crossings of this program.
   double back_of(const RunDuals& duals) const;
   // The runs that the solution uses, and how far.
   std::vector<std::pair<double, int>> used() const;
-  Graph support() const;
-  // Notes which rows are slack in the solution.
-  void note_slack();
+  // Those that the solution uses wholly, if it uses no others and they are a plan.
+  std::optional<Routes> plan() const;
+  // The run is used wholly from here on.
+  void fix(int run) { program_.setColumnLower(first_ + run, 1); }
+  // Notes which rows are slack in the solution, and its basis. To be called before rows change.
+  void note_solution();
   // The least reduced costs first.
-  std::vector<Route> best_runs(std::size_t most) const;
+  std::vector<Route> best_runs(std::size_t most) const { return best_routes(most, 1); }
   // By how much the value is higher where a set is crossed at most 2 t times, and at least 2 t + 2 times.
   std::array<double, 2> gains(const NodeSet& set, int t, double enough) const;
 
  private:
-  int customers() const { return instance_.nodes() - 1; }
-  std::vector<std::pair<int, double>> elements_of(const Route& run) const;
-  void add_columns(std::size_t first);
+  struct RowState {
+    int slack_solutions = 0;
+    ClpSimplex::Status status = ClpSimplex::basic;
+  };
+  void list_run(const Route& run, Columns& columns) const;
+  void list_unmet(Columns& columns) const;
+  void set_row_bounds();
+  void set_basis();
 
-  const CvrpInstance& instance_;
   Memory memory_;
   std::vector<CrossedSet> sets_;
-  std::vector<int> row_ages_;  // of subset rows: slack solutions in a row
-  std::vector<Route> runs_;
-  std::set<Route> known_;
-  ClpSimplex program_;
-  int unmet_ = 0;  // columns before the runs, of what no run meets
+  std::vector<RowState> row_states_;                                       // of subset rows
+  std::vector<ClpSimplex::Status> customers_, unmet_customers_, of_runs_;  // the basis that was noted
 };
 }  // namespace certify::routes

@@ -127,10 +127,11 @@ void RunSearch::take(int place, RunOutcome& outcome) {
   const bool shorter = length < goal_.length;
   if (shorter) goal_ = {*outcome.routes, length, std::min(goal_.target, length)};
   Tree::Place& here = tree_[place];
-  if (outcome.value > here.value) {
+  if (outcome.done || outcome.value > here.value) {
     here.numbers = std::move(outcome.leaf);
     here.value = outcome.value;
   }
+  if (here.value >= aim()) settle(here, limits_of(place));
   if (here.value >= aim()) {
     finish(place);
   } else {
@@ -139,8 +140,26 @@ void RunSearch::take(int place, RunOutcome& outcome) {
   if (shorter) log("tour", least_bound());
 }
 
+// Rounds the duals of an open case, if they aren't yet. Its value is then exact.
+void RunSearch::settle(Tree::Place& here, const std::vector<Limit>& limits) {
+  if (here.numbers.is_rounded() || here.numbers.is_empty()) return;
+  SettledLeaf& leaf = here.numbers;
+  auto made = bound_.rounded(leaf.duals, leaf.memory, limits, 1, kNoValue, kMemory.most_states);
+  here.value = made->value;
+  leaf.numbers = std::move(made->numbers);
+  leaf.memory = leaf.memory.with_rows_of(leaf.numbers.rows);
+}
+
+// Where a shorter plan was found, the duals from above may do.
 void RunSearch::finish_reached() {
-  while (const std::optional<int> place = tree_.take_reaching(aim())) finish(*place);
+  while (const std::optional<int> place = tree_.take_reaching(aim())) {
+    settle(tree_[*place], limits_of(*place));
+    if (tree_[*place].value >= aim()) {
+      finish(*place);
+    } else {
+      tree_.reopen(*place);
+    }
+  }
 }
 
 // Begins the next case, or none until another one has ended. False where all are done or the time is over.
@@ -195,14 +214,15 @@ void RunSearch::join_memory() {
   }
 }
 
-// Where a leaf has too many states by the file's memory, it loses rows, the lightest first.
+// Where a leaf has too many states by the file's memory, it loses rows, a tenth at once, the lightest first.
 void RunSearch::lighten(SettledLeaf& leaf, const std::vector<Limit>& limits) {
-  while (!leaf.numbers.potentials.empty() &&
-         bound_.value(leaf.numbers, memory_, limits, kMemory.most_states) == kNoValue &&
-         !leaf.numbers.rows.empty()) {
-    const auto lightest = std::min_element(leaf.numbers.rows.begin(), leaf.numbers.rows.end(),
-                                           [](const auto& a, const auto& b) { return a.second < b.second; });
-    leaf.numbers.rows.erase(lightest);
+  std::map<NodeSet, Weight>& rows = leaf.numbers.rows;
+  while (!rows.empty() && bound_.value(leaf.numbers, memory_, limits, kMemory.most_states) == kNoValue) {
+    std::vector<std::pair<Weight, NodeSet>> order;
+    for (const auto& [set, multiplier] : rows) order.emplace_back(multiplier, set);
+    std::sort(order.begin(), order.end());
+    order.resize((order.size() + 9) / 10);
+    for (const auto& [multiplier, set] : order) rows.erase(set);
     limited_ = true;
   }
 }
@@ -221,8 +241,10 @@ void RunSearch::coarsen() {
     for (const auto& [set, multiplier] : own.numbers.rows) {
       duals.rows[set] = static_cast<double>(multiplier) / scale;
     }
-    SettledLeaf leaf{bound_.rounded(duals, memory_, grid, kMemory.states), {}};
-    if (bound_.value(leaf.numbers, memory_, limits_of(place), kMemory.states) < aim()) return std::nullopt;
+    auto made = bound_.rounded(duals, memory_, limits_of(place), grid, aim(), kMemory.most_states);
+    if (!made || made->value < aim()) return std::nullopt;
+    SettledLeaf leaf;
+    leaf.numbers = std::move(made->numbers);
     return leaf;
   };
   tree_.coarsen(problem_.scale, clock_, numbers_of);
@@ -286,6 +308,7 @@ void RunSearch::run() {
               [this](Job& job) {
                 if (job.place >= 0) take(job.place, job.outcome);
               });
+  for (const int place : tree_.leaves()) settle(tree_[place], limits_of(place));
   join_memory();
   coarsen();
   list_steps();

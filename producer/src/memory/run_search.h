@@ -43,6 +43,7 @@ class RunSearch {
   void go_on(int place, const RunOutcome& outcome);
   void finish(int place);
   void finish_reached();
+  void settle(Tree::Place& here, const std::vector<Limit>& limits);
   void join_memory();
   void join_row(SettledLeaf& leaf, const SubsetRow& row);
   void lighten(SettledLeaf& leaf, const std::vector<Limit>& limits);

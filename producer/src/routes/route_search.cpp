@@ -5,8 +5,10 @@
 #include <sstream>
 #include <utility>
 
+#include "routes/number_changes.h"
 #include "routes/route_parameters.h"
 #include "routes/string_removals.h"
+#include "tree/joining.h"
 
 namespace certify::routes {
 namespace {
@@ -16,46 +18,6 @@ Weight common_scale(const CvrpInstance& instance, const RouteBegin& begin) {
   if (!begin.tree) return scale;
   const Weight common = std::lcm(scale, begin.tree->scale);
   return common <= kRouteLeaves.most_common_scale ? common : begin.tree->scale;
-}
-
-// A number that another leaf has otherwise: the potential of a node, or the multiplier of a set.
-struct Change {
-  Weight size;
-  int node;  // 0 for a set
-  NodeSet set;
-  Weight number;  // of the other leaf
-};
-
-// The least one first.
-std::vector<Change> changes_between(const LeafNumbers& own, const LeafNumbers& other) {
-  std::vector<Change> changes;
-  for (int v = 1; v < static_cast<int>(own.potentials.size()); v++) {
-    changes.push_back({std::abs(own.potentials[v] - other.potentials[v]), v, {}, other.potentials[v]});
-  }
-  std::map<NodeSet, Weight> multipliers = other.multipliers;
-  for (const auto& [set, multiplier] : own.multipliers) multipliers.emplace(set, 0);
-  for (const auto& [set, multiplier] : multipliers) {
-    const auto found = own.multipliers.find(set);
-    const Weight before = found == own.multipliers.end() ? 0 : found->second;
-    changes.push_back({std::abs(before - multiplier), 0, set, multiplier});
-  }
-  std::erase_if(changes, [](const Change& change) { return change.size == 0; });
-  std::stable_sort(changes.begin(), changes.end(),
-                   [](const Change& a, const Change& b) { return a.size < b.size; });
-  return changes;
-}
-
-LeafNumbers with_changes(LeafNumbers numbers, const std::vector<Change>& changes, std::size_t count) {
-  for (std::size_t k = 0; k < count; k++) {
-    const Change& change = changes[k];
-    if (change.node > 0) {
-      numbers.potentials[change.node] = change.number;
-    } else {
-      numbers.multipliers[change.set] = change.number;
-    }
-  }
-  std::erase_if(numbers.multipliers, [](const auto& entry) { return entry.second == 0; });
-  return numbers;
 }
 }  // namespace
 
@@ -277,7 +239,7 @@ void RouteSearch::coarsen() {
 // that differ least first. That makes a short file.
 LeafNumbers RouteSearch::near_last(const LeafNumbers& own, const std::vector<Limit>& limits) {
   if (!grid_ || last_numbers_.potentials.empty()) return own;
-  const std::vector<Change> changes = changes_between(own, last_numbers_);
+  const std::vector<NumberChange> changes = changes_between(own, last_numbers_);
   LeafNumbers best = own;
   std::size_t low = 0, high = changes.size() + 1;
   while (high - low > 1 && !clock_.over()) {

@@ -10,17 +10,8 @@ namespace {
 constexpr double kTiny = 1e-7;
 }  // namespace
 
-int crossings_of(const Route& walk, const std::vector<char>& inside) {
-  int crossings = 0, last = 0;
-  for (const int v : walk) {
-    crossings += static_cast<int>(inside[v] != inside[last]);
-    last = v;
-  }
-  return crossings + static_cast<int>(inside[last] != inside[0]);
-}
-
 WalkProgram::WalkProgram(const CvrpInstance& instance, Weight length)
-    : instance_(instance),
+    : RouteProgram(instance),
       unit_(unit_of_costs(instance)),
       penalty_(std::max<double>(
           10, static_cast<double>(std::max(std::abs(length), largest_cost(instance))) / unit_)) {
@@ -35,41 +26,22 @@ WalkProgram::WalkProgram(const CvrpInstance& instance, Weight length)
   add_walks(alone);
 }
 
-std::vector<int> WalkProgram::crossings_of(const std::vector<char>& inside) const {
-  std::vector<int> crossings;
-  crossings.reserve(walks_.size());
-  for (const Route& walk : walks_) {
-    crossings.push_back(walk.empty() ? 0 : routes::crossings_of(walk, inside));
-  }
-  return crossings;
-}
-
-// How often each column crosses the set.
-void WalkProgram::Rows::add(const WalkProgram& program, const std::vector<char>& inside) {
-  const std::vector<int> crossings = program.crossings_of(inside);
-  for (std::size_t column = 0; column < crossings.size(); column++) {
-    if (crossings[column] == 0) continue;
-    columns.push_back(static_cast<int>(column));
-    elements.push_back(crossings[column]);
-  }
-  starts.push_back(static_cast<CoinBigIndex>(columns.size()));
-}
-
 int WalkProgram::add_sets(const std::vector<NodeSet>& sets) {
   const std::size_t before = rows_.size();
-  Rows rows;
-  std::vector<double> low, high;
+  std::vector<CoinBigIndex> starts{0};
+  std::vector<int> columns;
+  std::vector<double> elements, low, high;
   for (const NodeSet& set : sets) {
     if (!places_.emplace(set, static_cast<int>(rows_.size())).second) continue;
     rows_.push_back({set, marks_of(set, instance_.nodes()), free_crossings(instance_, set)});
-    rows.add(*this, rows_.back().inside);
+    list_crossings(rows_.back().inside, columns, elements);
+    starts.push_back(static_cast<CoinBigIndex>(columns.size()));
     low.push_back(rows_.back().crossings.low);
     high.push_back(rows_.back().crossings.high);
   }
   const int added = static_cast<int>(rows_.size() - before);
   if (added > 0) {
-    program_.addRows(added, low.data(), high.data(), rows.starts.data(), rows.columns.data(),
-                     rows.elements.data());
+    program_.addRows(added, low.data(), high.data(), starts.data(), columns.data(), elements.data());
   }
   return added;
 }
@@ -82,40 +54,24 @@ void WalkProgram::limit(const NodeSet& set, const Crossings& crossings) {
   program_.setRowBounds(row, crossings.low, crossings.high);
   for (const double element : {1.0, -1.0}) {
     program_.addColumn(1, &row, &element, 0, COIN_DBL_MAX, penalty_);
-    walks_.emplace_back();
+    routes_.emplace_back();
   }
-}
-
-// The rows of a walk's customers, and of the sets that it crosses, with how often.
-std::map<int, double> WalkProgram::elements_of(const Route& walk) const {
-  std::map<int, double> elements;
-  for (const int v : walk) elements[v - 1] += 1;
-  for (std::size_t row = 0; row < rows_.size(); row++) {
-    const int crossings = routes::crossings_of(walk, rows_[row].inside);
-    if (crossings > 0) elements[customers() + static_cast<int>(row)] = crossings;
-  }
-  return elements;
 }
 
 int WalkProgram::add_walks(const std::vector<Route>& walks) {
-  std::vector<CoinBigIndex> starts{0};
-  std::vector<int> rows;
-  std::vector<double> values, costs;
+  Columns columns;
   for (const Route& walk : walks) {
     if (!known_.insert(walk).second) continue;
-    for (const auto& [row, value] : elements_of(walk)) {
-      rows.push_back(row);
-      values.push_back(value);
+    list_visits(walk, columns);
+    for (std::size_t row = 0; row < rows_.size(); row++) {
+      const int crossings = crossings_of(walk, rows_[row].inside);
+      if (crossings > 0) columns.add(customers() + static_cast<int>(row), crossings);
     }
-    starts.push_back(static_cast<CoinBigIndex>(rows.size()));
-    costs.push_back(static_cast<double>(length_of(instance_, walk)) / unit_);
-    walks_.push_back(walk);
+    columns.end(static_cast<double>(length_of(instance_, walk)) / unit_);
+    routes_.push_back(walk);
   }
-  const int added = static_cast<int>(costs.size());
-  if (added > 0) {
-    program_.addColumns(added, nullptr, nullptr, costs.data(), starts.data(), rows.data(), values.data());
-  }
-  return added;
+  add_columns(columns);
+  return static_cast<int>(columns.costs.size());
 }
 
 void WalkProgram::solve() {
@@ -129,49 +85,27 @@ void WalkProgram::solve() {
 
 bool WalkProgram::is_broken() const {
   const double* const solution = program_.primalColumnSolution();
-  for (std::size_t column = 0; column < walks_.size(); column++) {
-    if (walks_[column].empty() && solution[column] > 1e-5) return true;
+  for (std::size_t column = 0; column < routes_.size(); column++) {
+    if (routes_[column].empty() && solution[column] > 1e-5) return true;
   }
   return false;
 }
 
 void WalkProgram::raise_penalty() {
   penalty_ *= 10;
-  for (std::size_t column = 0; column < walks_.size(); column++) {
-    if (walks_[column].empty()) program_.setObjectiveCoefficient(static_cast<int>(column), penalty_);
+  for (std::size_t column = 0; column < routes_.size(); column++) {
+    if (routes_[column].empty()) program_.setObjectiveCoefficient(static_cast<int>(column), penalty_);
   }
 }
 
-// A customer's dual is on both links of each visit.
 Duals WalkProgram::duals() const {
   const double* const values = program_.dualRowSolution();
-  Duals duals{std::vector<double>(instance_.nodes(), 0), {}};
-  for (int v = 1; v < instance_.nodes(); v++) duals.potentials[v] = -values[v - 1] / 2;
+  Duals duals{potentials(), {}};
   for (std::size_t row = 0; row < rows_.size(); row++) {
     const double value = values[customers() + static_cast<int>(row)];
     if (std::abs(value) > kTiny) duals.multipliers[rows_[row].set] = value;
   }
   return duals;
-}
-
-Graph WalkProgram::support() const {
-  std::map<Pair, double> uses;
-  const double* const solution = program_.primalColumnSolution();
-  for (std::size_t column = 0; column < walks_.size(); column++) {
-    if (solution[column] < kTiny) continue;
-    int last = 0;
-    for (const int v : walks_[column]) {
-      uses[std::minmax(last, v)] += solution[column];
-      last = v;
-    }
-    if (last != 0) uses[Pair(0, last)] += solution[column];
-  }
-  Graph support(instance_.nodes());
-  for (const auto& [pair, value] : uses) {
-    support[pair.first].push_back({pair.second, value});
-    support[pair.second].push_back({pair.first, value});
-  }
-  return support;
 }
 
 void WalkProgram::drop_sets(int age) {
@@ -192,21 +126,21 @@ void WalkProgram::drop_sets(int age) {
 
 void WalkProgram::drop_walks(double reduced_cost) {
   const std::size_t most = kColumns.walks + kColumns.walks_of_node * instance_.costs.nodes();
-  if (walks_.size() <= most) return;
+  if (routes_.size() <= most) return;
   const double* const costs = program_.dualColumnSolution();
   std::vector<int> dropped;
   std::vector<Route> left;
-  for (std::size_t k = 0; k < walks_.size(); k++) {
+  for (std::size_t k = 0; k < routes_.size(); k++) {
     const int column = static_cast<int>(k);
-    if (walks_[k].size() > 1 && program_.getColumnStatus(column) != ClpSimplex::basic &&
+    if (routes_[k].size() > 1 && program_.getColumnStatus(column) != ClpSimplex::basic &&
         costs[column] > reduced_cost) {
       dropped.push_back(column);
-      known_.erase(walks_[k]);
+      known_.erase(routes_[k]);
     } else {
-      left.push_back(std::move(walks_[k]));
+      left.push_back(std::move(routes_[k]));
     }
   }
-  walks_ = std::move(left);
+  routes_ = std::move(left);
   if (!dropped.empty()) program_.deleteColumns(static_cast<int>(dropped.size()), dropped.data());
 }
 
@@ -215,34 +149,5 @@ std::vector<NodeSet> WalkProgram::sets() const {
   sets.reserve(rows_.size());
   for (const Row& row : rows_) sets.push_back(row.set);
   return sets;
-}
-
-std::vector<Route> WalkProgram::best_walks(std::size_t most) const {
-  const double* const costs = program_.dualColumnSolution();
-  std::vector<std::pair<double, int>> order;
-  for (std::size_t column = 0; column < walks_.size(); column++) {
-    if (walks_[column].size() > 1) order.emplace_back(costs[column], static_cast<int>(column));
-  }
-  std::sort(order.begin(), order.end());
-  order.resize(std::min(order.size(), most));
-  std::vector<Route> best;
-  best.reserve(order.size());
-  for (const auto& [cost, column] : order) best.push_back(walks_[column]);
-  return best;
-}
-
-std::array<double, 2> WalkProgram::gains(const NodeSet& set, int t, int iterations) const {
-  std::array<double, 2> gains{};
-  Rows rows;
-  rows.add(*this, marks_of(set, instance_.nodes()));
-  for (const int side : {0, 1}) {
-    ClpSimplex trial(program_);
-    const double low = side == 0 ? -COIN_DBL_MAX : 2 * t + 2, high = side == 0 ? 2 * t : COIN_DBL_MAX;
-    trial.addRows(1, &low, &high, rows.starts.data(), rows.columns.data(), rows.elements.data());
-    trial.setMaximumIterations(iterations);
-    trial.dual(0);
-    gains[side] = trial.status() == 1 ? penalty_ : trial.objectiveValue() - value();
-  }
-  return gains;
 }
 }  // namespace certify::routes

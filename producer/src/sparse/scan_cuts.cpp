@@ -13,8 +13,9 @@ using certify::Pair;
 
 class ScanCuts {
  public:
-  ScanCuts(const Graph& graph, double least_violation) : least_(2 - least_violation), graph_(graph) {
-    for (std::size_t v = 0; v < graph.size(); v++) members_.push_back({static_cast<int>(v)});
+  ScanCuts(const Graph& graph, double least_violation)
+      : least_(2 - least_violation), graph_(graph), next_(graph.size(), -1) {
+    for (int v = 0; v < static_cast<int>(graph.size()); v++) chains_.push_back({v, v});
   }
 
   std::vector<NodeSet> find() {
@@ -117,37 +118,50 @@ class ScanCuts {
 
   // Contracts what joins, and notes the new nodes that are crossed too little.
   void contract() {
-    const std::vector<int> place = join_members();
-    std::vector<NodeSet> parts(members_.size());
+    const std::vector<int> place = join_chains();
+    std::vector<NodeSet> parts(chains_.size());
     for (int v = 0; v < static_cast<int>(graph_.size()); v++) parts[place[v]].push_back(v);
     Graph graph(parts.size());
     std::vector<double> values(parts.size(), 0);
     for (std::size_t node = 0; node < parts.size(); node++) {
       const double crossing = join_edges(parts[node], place, values, graph[node]);
-      if (parts[node].size() > 1 && crossing < least_) cuts_.push_back(members_[node]);
+      if (parts[node].size() > 1 && crossing < least_) cuts_.push_back(members_of(chains_[node]));
     }
     graph_ = std::move(graph);
   }
 
-  // Which new node each node becomes a part of. Members are those of the new nodes from here on.
-  std::vector<int> join_members() {
+  // The first and the last of the nodes that a node stands for: each leads to the next.
+  // So nodes are joined in one step, however many they stand for.
+  struct Chain {
+    int first, last;
+  };
+
+  NodeSet members_of(const Chain& chain) const {
+    NodeSet members;
+    for (int v = chain.first; v >= 0; v = next_[v]) members.push_back(v);
+    return members;
+  }
+
+  // Which new node each node becomes a part of. Chains are those of the new nodes from here on.
+  std::vector<int> join_chains() {
     const int nodes = static_cast<int>(graph_.size());
     potentials::Components joined(nodes);
     for (const auto& [a, b] : joins_) joined.join(a, b);
     std::vector<int> place(nodes);
-    std::vector<NodeSet> members;
+    std::vector<Chain> chains;
     for (int v = 0; v < nodes; v++) {
       const int root = joined.root(v);  // the least node of its component
       if (root == v) {
-        place[v] = static_cast<int>(members.size());
-        members.push_back(std::move(members_[v]));
+        place[v] = static_cast<int>(chains.size());
+        chains.push_back(chains_[v]);
         continue;
       }
       place[v] = place[root];
-      NodeSet& into = members[place[root]];
-      into.insert(into.end(), members_[v].begin(), members_[v].end());
+      Chain& into = chains[place[root]];
+      next_[into.last] = chains_[v].first;
+      into.last = chains_[v].last;
     }
-    members_ = std::move(members);
+    chains_ = std::move(chains);
     return place;
   }
 
@@ -170,7 +184,8 @@ class ScanCuts {
 
   double least_;
   Graph graph_;
-  std::vector<NodeSet> members_;  // the nodes that each node stands for
+  std::vector<Chain> chains_;  // of each node
+  std::vector<int> next_;      // in the chain of each node that was given
   std::vector<Pair> joins_;
   std::vector<NodeSet> cuts_;
 };

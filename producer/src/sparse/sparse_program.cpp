@@ -13,11 +13,9 @@ constexpr double kTiny = 1e-6;
 
 SparseProgram::SparseProgram(const Problem& problem, const CutPool& pool, const Tour& tour,
                              const certify::Clock& clock)
-    : problem_(problem),
-      pool_(pool),
+    : CutProgram(pool, problem.nodes(), problem.nodes(), 0),
+      problem_(problem),
       clock_(clock),
-      nodes_(problem.nodes()),
-      adjacent_(nodes_),
       mark_(nodes_, 0) {
   average_ = std::max(1e-3, problem.length(tour) / nodes_);
   unit_ = std::max(1.0, average_ / 1000);
@@ -30,12 +28,8 @@ SparseProgram::SparseProgram(const Problem& problem, const CutPool& pool, const 
 
 // The rows of degrees.
 void SparseProgram::begin() {
-  program_.setLogLevel(0);
-  program_.scaling(0);
-  certify::SteepestEdge rule(edge_weights_);
-  program_.setDualRowPivotAlgorithm(rule);
+  clear();
   end_at(sparse_times().cuts);
-  edge_weights_.rows.assign(nodes_, 0);
   program_.resize(nodes_, 0);
   for (int row = 0; row < nodes_; row++) program_.setRowBounds(row, 2, 2);
 }
@@ -61,7 +55,9 @@ std::vector<std::vector<SparseProgram::Member>> SparseProgram::memberships() con
 
 // The entries of an edge in the rows of cuts.
 void SparseProgram::list_entries(const std::vector<Member>& of_one, const std::vector<Member>& of_other,
-                                 std::vector<int>& rows, std::vector<double>& elements) const {
+                                 Entries& entries) const {
+  std::vector<int>& rows = entries.places;
+  std::vector<double>& elements = entries.elements;
   const std::size_t first = rows.size();
   const auto add = [&](const Member& member, bool both) {
     if (member.crossing == both) return;
@@ -92,29 +88,23 @@ void SparseProgram::list_entries(const std::vector<Member>& of_one, const std::v
 }
 
 void SparseProgram::add_edges(const std::vector<Pair>& edges) {
-  std::vector<CoinBigIndex> starts{0};
-  std::vector<int> rows;
-  std::vector<double> elements, objective;
+  Entries entries;
+  std::vector<double> objective;
   const std::vector<std::vector<Member>> members = memberships();
   for (const Pair& each : edges) {
     const Pair edge = sorted(each);
     if (!column_of_.emplace(key_of(edge), columns()).second) continue;
     const auto [i, j] = edge;
-    adjacent_[i].push_back({j, columns()});
-    adjacent_[j].push_back({i, columns()});
-    edges_.push_back(edge);
-    edge_weights_.columns.push_back(0);
-    rows.insert(rows.end(), {i, j});
-    elements.insert(elements.end(), {1, 1});
-    list_entries(members[i], members[j], rows, elements);
-    starts.push_back(static_cast<CoinBigIndex>(rows.size()));
+    index_edge(edge);
+    entries.places.insert(entries.places.end(), {i, j});
+    entries.elements.insert(entries.elements.end(), {1, 1});
+    list_entries(members[i], members[j], entries);
+    entries.end();
     objective.push_back(problem_.cost(i, j) / unit_);
   }
   if (objective.empty()) return;
   kept_.resize(edges_.size(), 0);
-  const std::vector<double> low(objective.size(), 0), high(objective.size(), 1);
-  program_.addColumns(static_cast<int>(objective.size()), low.data(), high.data(), objective.data(),
-                      starts.data(), rows.data(), elements.data());
+  add_columns(entries, objective);
 }
 
 void SparseProgram::add_candidates(const std::vector<Pair>& edges) {
@@ -145,81 +135,30 @@ bool SparseProgram::count_edges(const NodeSet& set, std::vector<int>& touched) {
   return crosses;
 }
 
-// The row of a cut: its edges, and whether each set counts those that cross it.
-void SparseProgram::list_row(int cut, std::vector<char>& crossing, std::vector<int>& columns,
-                             std::vector<double>& elements) {
+// The edges of a cut's row. Notes whether each set counts those that cross it.
+double SparseProgram::list_row(int cut, Entries& entries) {
+  has_new_cuts_ = true;
+  counts_.resize(edges_.size(), 0);
+  std::vector<char>& crossing = crossing_.emplace_back();
   std::vector<int> touched;
-  for (const NodeSet& set : pool_[cut].sets) crossing.push_back(count_edges(set, touched) ? 1 : 0);
+  double most = pool_[cut].most_inside;
+  for (const NodeSet& set : pool_[cut].sets) {
+    crossing.push_back(count_edges(set, touched) ? 1 : 0);
+    if (crossing.back() != 0) most -= static_cast<double>(set.size());
+  }
   for (const int column : touched) {
     const double count = std::exchange(counts_[column], 0);
     if (count == 0) continue;
-    columns.push_back(column);
-    elements.push_back(count);
+    entries.places.push_back(column);
+    entries.elements.push_back(count);
   }
-}
-
-void SparseProgram::add_cuts(const std::vector<int>& cuts) {
-  std::vector<CoinBigIndex> starts{0};
-  std::vector<int> columns;
-  std::vector<double> elements, low, high;
-  counts_.assign(edges_.size(), 0);
-  for (const int cut : cuts) {
-    if (has(cut)) continue;
-    std::vector<char>& crossing = crossing_.emplace_back();
-    list_row(cut, crossing, columns, elements);
-    double most = pool_[cut].most_inside;
-    for (std::size_t k = 0; k < crossing.size(); k++) {
-      if (crossing[k] != 0) most -= static_cast<double>(pool_[cut].sets[k].size());
-    }
-    starts.push_back(static_cast<CoinBigIndex>(columns.size()));
-    low.push_back(-COIN_DBL_MAX);
-    high.push_back(most);
-    row_of_[cut] = static_cast<int>(cuts_.size());
-    cuts_.push_back(cut);
-    ages_.push_back(0);
-    cut_duals_.push_back(0);
-    edge_weights_.rows.push_back(0);
-  }
-  if (low.empty()) return;
-  has_new_cuts_ = true;
-  program_.addRows(static_cast<int>(low.size()), low.data(), high.data(), starts.data(), columns.data(),
-                   elements.data());
-}
-
-void SparseProgram::purge(int age) {
-  std::vector<char> dropped(cuts_.size(), 0);
-  for (std::size_t row = 0; row < cuts_.size(); row++) {
-    const int place = nodes_ + static_cast<int>(row);
-    dropped[row] = ages_[row] > age && program_.getRowStatus(place) == ClpSimplex::basic ? 1 : 0;
-  }
-  drop_rows(dropped);
+  return most;
 }
 
 void SparseProgram::drop_rows(const std::vector<char>& dropped) {
-  std::vector<int> places;
-  std::vector<double> weights(edge_weights_.rows.begin(), edge_weights_.rows.begin() + nodes_);
-  std::size_t kept = 0;
-  for (std::size_t row = 0; row < cuts_.size(); row++) {
-    if (dropped[row] != 0) {
-      places.push_back(nodes_ + static_cast<int>(row));
-      row_of_.erase(cuts_[row]);
-      continue;
-    }
-    weights.push_back(edge_weights_.rows[nodes_ + row]);
-    row_of_[cuts_[row]] = static_cast<int>(kept);
-    cuts_[kept] = cuts_[row];
-    ages_[kept] = ages_[row];
-    cut_duals_[kept] = cut_duals_[row];
-    if (kept != row) crossing_[kept] = std::move(crossing_[row]);
-    kept++;
-  }
-  if (places.empty()) return;
-  program_.deleteRows(static_cast<int>(places.size()), places.data());
-  edge_weights_.rows = std::move(weights);
-  cuts_.resize(kept);
-  ages_.resize(kept);
-  cut_duals_.resize(kept);
-  crossing_.resize(kept);
+  std::size_t row = 0;
+  std::erase_if(crossing_, [&](const std::vector<char>&) { return dropped[row++] != 0; });
+  CutProgram::drop_rows(dropped);
 }
 
 void SparseProgram::keep_combs(const std::vector<std::size_t>& rows) {
@@ -257,68 +196,32 @@ void SparseProgram::leave_basis(const std::vector<char>& dropped) {
 
 void SparseProgram::drop_edges() {
   const double* costs = program_.getReducedCost();
-  std::vector<int> places;
-  std::vector<Pair> edges, dropped;
-  std::vector<double> solution, weights;
-  std::vector<char> kept;
+  std::vector<char> dropped(edges_.size(), 0), kept;
+  std::vector<Pair> edges;
   for (int column = 0; column < columns(); column++) {
     const bool zero = program_.getColumnStatus(column) != ClpSimplex::basic && solution_[column] < 1e-9;
     if (zero && kept_[column] == 0 && costs[column] * unit_ > kSparse.part_of_edge * average_) {
-      places.push_back(column);
-      dropped.push_back(edges_[column]);
-      continue;
+      dropped[column] = 1;
+      edges.push_back(edges_[column]);
+    } else {
+      kept.push_back(kept_[column]);
     }
-    edges.push_back(edges_[column]);
-    solution.push_back(solution_[column]);
-    weights.push_back(edge_weights_.columns[column]);
-    kept.push_back(kept_[column]);
   }
-  if (places.empty()) return;
-  program_.deleteColumns(static_cast<int>(places.size()), places.data());
-  add_candidates(dropped);
-  edges_ = std::move(edges);
-  solution_ = std::move(solution);
-  edge_weights_.columns = std::move(weights);
+  if (edges.empty()) return;
+  drop_columns(dropped);
+  add_candidates(edges);
   kept_ = std::move(kept);
-  index_columns();
-}
-
-void SparseProgram::index_columns() {
   column_of_.clear();
-  for (std::vector<Place>& adjacent : adjacent_) adjacent.clear();
-  for (int column = 0; column < columns(); column++) {
-    const auto [i, j] = edges_[column];
-    column_of_[key_of(edges_[column])] = column;
-    adjacent_[i].push_back({j, column});
-    adjacent_[j].push_back({i, column});
-  }
-}
-
-// Whether Clp neither found the best solution nor was stopped.
-bool SparseProgram::failed() const {
-  constexpr int kStopped = 5;
-  return program_.status() != 0 && program_.status() != kStopped;
-}
-
-bool SparseProgram::optimize() {
-  program_.dual(0);
-  if (failed()) program_.primal(0);
-  if (failed()) {
-    program_.allSlackBasis();
-    program_.dual(0);
-  }
-  value_ = program_.objectiveValue() * unit_;
-  return program_.status() == 0;
+  for (int column = 0; column < columns(); column++) column_of_[key_of(edges_[column])] = column;
 }
 
 // A set that counts the edges across with a dual y is one that counts those inside, where the duals of its
 // nodes are y/2 higher.
 void SparseProgram::read_duals() {
-  const double* duals = program_.getRowPrice();
+  const double* const duals = program_.getRowPrice();
   node_duals_.assign(duals, duals + nodes_);
-  cut_duals_.resize(cuts_.size());
+  read_cut_duals();
   for (std::size_t row = 0; row < cuts_.size(); row++) {
-    cut_duals_[row] = std::max(0.0, -duals[nodes_ + row]);
     if (cut_duals_[row] == 0) continue;
     const certify::Cut& cut = pool_[cuts_[row]];
     for (std::size_t k = 0; k < cut.sets.size(); k++) {
@@ -367,8 +270,7 @@ int SparseProgram::price() {
 }
 
 void SparseProgram::read_solution() {
-  const double* values = program_.getColSolution();
-  solution_.assign(values, values + columns());
+  read_columns();
   support_.assign(nodes_, {});
   for (int column = 0; column < columns(); column++) {
     double value = solution_[column];
@@ -378,17 +280,17 @@ void SparseProgram::read_solution() {
     support_[i].push_back({j, value});
     support_[j].push_back({i, value});
   }
-  for (std::size_t row = 0; row < cuts_.size(); row++)
-    ages_[row] = cut_duals_[row] > 1e-7 ? 0 : ages_[row] + 1;
+  note_ages();
   has_new_cuts_ = false;
 }
 
 bool SparseProgram::solve(int few) {
   bool whole = false;
-  do {
-    whole = optimize();
+  solve_while([&](bool is_best) {
+    whole = is_best;
     read_duals();
-  } while (whole && price() > few);
+    return whole && price() > few;
+  });
   if (whole) read_solution();
   return whole;
 }

@@ -6,13 +6,11 @@
 // of large sets are short. Duals are told as if all sets counted the edges inside. Clp solves it.
 // Source: D. Applegate, R. Bixby, V. Chvatal and W. Cook, The Traveling Salesman Problem (2006).
 #pragma once
-#include <coin/ClpSimplex.hpp>
 #include <unordered_map>
 
-#include "cuts/cut_pool.h"
 #include "points/problem.h"
 #include "running/clock.h"
-#include "tree/steepest_edge.h"
+#include "tree/cut_program.h"
 
 namespace sparse {
 using certify::CutPool;
@@ -23,48 +21,36 @@ using certify::Tour;
 using certify::Weight;
 using potentials::Problem;
 
-class SparseProgram {
+class SparseProgram : public certify::CutProgram {
  public:
   // A solution ends early where the part of the time is over that linear programs may take for cuts. What the
   // program then says of duals is valid, but not the best.
   SparseProgram(const Problem& problem, const CutPool& pool, const Tour& tour, const certify::Clock& clock);
-  SparseProgram(const SparseProgram&) = delete;  // Clp has a pointer to the weights of this one
-  SparseProgram& operator=(const SparseProgram&) = delete;
   void add_edges(const std::vector<Pair>& edges);
   // Edges that pricing looks at from here on, besides those before.
   void add_candidates(const std::vector<Pair>& edges);
-  void add_cuts(const std::vector<int>& cuts);
   // Solutions end where this part of the time is over.
   void end_at(double part);
   // Drops the combs that aren't in these rows, which are in order.
   void keep_combs(const std::vector<std::size_t>& rows);
   // Drops the slack rows that were slack in more solutions than this in a row.
-  void purge(int age);
+  void purge(int age) { drop_slack(age); }
   // Drops edges at 0 whose reduced cost is large. They are candidates from here on.
   void drop_edges();
   // Candidates join until they are at most as few in a solution. These are in the next one. False where the
   // time is over.
   bool solve(int few = 0);
 
-  double value() const { return value_; }
-  const Graph& support() const { return support_; }
   // Whether cuts joined after the last solution.
   bool has_new_cuts() const { return has_new_cuts_; }
-  bool has(int cut) const { return row_of_.count(cut) > 0; }
-  const std::vector<int>& cuts() const { return cuts_; }
-  int columns() const { return static_cast<int>(edges_.size()); }
   std::size_t nonzeros() const { return static_cast<std::size_t>(program_.getNumElements()); }
-  // Duals at the weights' own unit: of degrees, and of the cuts in their order, from 0 on.
+  // The dual of a degree at the weights' own unit.
   double node_dual(int node) const { return node_duals_[node] * unit_; }
-  double cut_dual(std::size_t row) const { return cut_duals_[row] * unit_; }
   double average() const { return average_; }
   // The edges of the program.
   const std::vector<Pair>& edges() const { return edges_; }
 
  private:
-  struct Place {
-    int node, column;
-  };
   // A set of a row that a node is in.
   struct Member {
     int row, set;
@@ -72,21 +58,17 @@ class SparseProgram {
     bool operator<(const Member& other) const { return row != other.row ? row < other.row : set < other.set; }
   };
   void begin();
-  void index_columns();
-  bool failed() const;
-  bool optimize();
   int price();
   void read_duals();
   void read_solution();
   std::vector<std::vector<Member>> memberships() const;
   void list_entries(const std::vector<Member>& of_one, const std::vector<Member>& of_other,
-                    std::vector<int>& rows, std::vector<double>& elements) const;
+                    Entries& entries) const;
   bool count_edges(const NodeSet& set, std::vector<int>& touched);
-  void list_row(int cut, std::vector<char>& crossing, std::vector<int>& columns,
-                std::vector<double>& elements);
+  double list_row(int cut, Entries& entries) override;
   double reduced_cost(const Pair& edge, const std::vector<std::vector<Member>>& members) const;
   void leave_basis(const std::vector<char>& dropped);
-  void drop_rows(const std::vector<char>& dropped);
+  void drop_rows(const std::vector<char>& dropped) override;
 
   static Pair sorted(const Pair& edge) { return std::minmax(edge.first, edge.second); }
   static std::uint64_t key_of(const Pair& edge) {
@@ -94,25 +76,16 @@ class SparseProgram {
   }
 
   const Problem& problem_;
-  const CutPool& pool_;
   const certify::Clock& clock_;
-  int nodes_;
-  double unit_ = 1, average_ = 1;  // average_: of an edge of the tour
-  certify::EdgeWeights edge_weights_;
-  ClpSimplex program_;
-  std::vector<Pair> edges_, candidates_;
+  double average_ = 1;  // of an edge of the tour
+  std::vector<Pair> candidates_;
   std::unordered_map<std::uint64_t, int> column_of_;
-  std::vector<char> kept_;  // of each edge: it is the tour's or fixed
-  std::vector<std::vector<Place>> adjacent_;
-  std::vector<int> cuts_, ages_;
+  std::vector<char> kept_;                   // of each edge: it is the tour's or fixed
   std::vector<std::vector<char>> crossing_;  // of each row's sets
-  std::unordered_map<int, int> row_of_;
-  std::vector<double> solution_, node_duals_, cut_duals_;
+  std::vector<double> node_duals_;
   std::vector<char> mark_;            // of the nodes of a set that is looked at
   std::vector<int> inside_, across_;  // the columns of its edges
-  std::vector<double> counts_;        // of the edges in a row that is made
-  Graph support_;
-  double value_ = 0;
+  std::vector<double> counts_;        // of the edges in a row that is made: 0 before and after
   bool has_new_cuts_ = false;
 };
 }  // namespace sparse

@@ -5,6 +5,13 @@
 #include "running/parameters.h"
 
 namespace certify {
+std::vector<int> cuts_of(const Numbers& numbers) {
+  std::vector<int> cuts;
+  cuts.reserve(numbers.multipliers.size());
+  for (const auto& [cut, multiplier] : numbers.multipliers) cuts.push_back(cut);
+  return cuts;
+}
+
 // Cases on other threads may read the marks.
 void NamedCuts::begin_change() {
   if (closed_) marks_ = std::make_shared<Marks>(*marks_);

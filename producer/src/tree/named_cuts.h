@@ -6,6 +6,9 @@
 #include "tree/certificate.h"
 
 namespace certify {
+// The cuts with multipliers.
+std::vector<int> cuts_of(const Numbers& numbers);
+
 class NamedCuts {
  public:
   NamedCuts(const CutPool& pool, const Extent& limits) : pool_(pool), limits_(limits) {}

@@ -1,59 +1,20 @@
 #include "tree/relaxation.h"
 
 #include <algorithm>
-#include <array>
 #include <cmath>
+#include <utility>
 
 #include "running/parameters.h"
-#include "running/threads.h"
 
 namespace certify {
 namespace {
-constexpr int kElastic = 3;  // the first columns
 constexpr double kTiny = 1e-6;
-constexpr std::size_t kFixingsOfCopy = 4;  // a copy of the program takes as long as a short trial
-
-// A copy of a program, on which bounds of single columns are tried, each from the same solution.
-class Probe {
- public:
-  Probe(const ClpSimplex& program, int iterations) : program_(program) {
-    const int rows = program_.numberRows(), columns = program_.numberColumns();
-    status_.assign(program_.statusArray(), program_.statusArray() + rows + columns);
-    for (std::size_t k = 0; k < places().size(); k++) {
-      saved_.emplace_back(places()[k], places()[k] + (k % 2 == 0 ? columns : rows));
-    }
-    program_.setMaximumIterations(iterations);
-  }
-  // The objective where a column has this value.
-  double objective(int column, double value) {
-    program_.setColumnBounds(column, value, value);
-    program_.dual(0);
-    const double reached = program_.objectiveValue();
-    program_.setColumnBounds(column, 0, 1);
-    std::copy(status_.begin(), status_.end(), program_.statusArray());
-    for (std::size_t k = 0; k < saved_.size(); k++)
-      std::copy(saved_[k].begin(), saved_[k].end(), places()[k]);
-    return reached;
-  }
-
- private:
-  std::array<double*, 4> places() {
-    return {program_.primalColumnSolution(), program_.primalRowSolution(), program_.dualColumnSolution(),
-            program_.dualRowSolution()};
-  }
-  ClpSimplex program_;
-  std::vector<unsigned char> status_;
-  std::vector<std::vector<double>> saved_;
-};
 }  // namespace
 
 Relaxation::Relaxation(const Instance& instance, const CutPool& pool, const Tour& tour)
-    : instance_(instance),
-      weights_(instance.weights),
-      pool_(pool),
-      nodes_(instance.nodes()),
-      adjacent_(nodes_),
-      present_(0) {
+    : CutProgram(pool, instance.nodes(), (instance.directed ? 2 : 1) * instance.nodes(), kElastic),
+      instance_(instance),
+      weights_(instance.weights) {
   least_ = weights_(0, 1);
   Weight most = least_;
   for (int i = 0; i < nodes_; i++) {
@@ -67,20 +28,14 @@ Relaxation::Relaxation(const Instance& instance, const CutPool& pool, const Tour
   const double above = length_ - static_cast<double>(least_) * nodes_;
   average_ = above / nodes_;
   unit_ = std::max(1.0, average_ / 1000);
+  offset_ = static_cast<double>(least_) * nodes_;
   least_penalty_ = (20 * above + 4 * static_cast<double>(most - least_) + 1) / unit_;
   present_.assign(static_cast<std::size_t>(nodes_) * nodes_, 0);
   begin();
 }
 
 void Relaxation::reset() {
-  program_ = ClpSimplex();
-  edge_weights_ = {};
-  edges_.clear();
-  for (std::vector<Place>& adjacent : adjacent_) adjacent.clear();
   std::fill(present_.begin(), present_.end(), 0);
-  cuts_.clear();
-  ages_.clear();
-  row_of_.clear();
   begin();
 }
 
@@ -91,25 +46,19 @@ void Relaxation::set_penalty(double penalty) {
 
 // The rows of degrees, and the elastic columns: one for all cuts, and two for all degrees.
 void Relaxation::begin() {
-  program_.setLogLevel(0);
-  program_.scaling(0);
-  SteepestEdge rule(edge_weights_);
-  program_.setDualRowPivotAlgorithm(rule);
+  clear();
   program_.resize(0, kElastic);
-  edge_weights_.columns.assign(kElastic, 0);
-  edge_weights_.rows.assign(degrees(), 0);
   for (int k = 0; k < kElastic; k++) program_.setColumnBounds(k, 0, COIN_DBL_MAX);
   set_penalty(least_penalty_);
-  const std::vector<double> degree(degrees(), instance_.directed ? 1 : 2);
-  std::vector<CoinBigIndex> starts{0};
-  std::vector<int> columns;
-  std::vector<double> elements;
-  for (int row = 0; row < degrees(); row++) {
-    columns.insert(columns.end(), {1, 2});
-    elements.insert(elements.end(), {1, -1});
-    starts.push_back(static_cast<CoinBigIndex>(columns.size()));
+  const std::vector<double> degree(degrees_, instance_.directed ? 1 : 2);
+  Entries entries;
+  for (int row = 0; row < degrees_; row++) {
+    entries.places.insert(entries.places.end(), {1, 2});
+    entries.elements.insert(entries.elements.end(), {1, -1});
+    entries.end();
   }
-  program_.addRows(degrees(), degree.data(), degree.data(), starts.data(), columns.data(), elements.data());
+  program_.addRows(degrees_, degree.data(), degree.data(), entries.starts.data(), entries.places.data(),
+                   entries.elements.data());
 }
 
 // For each node the rows and sets that it is in, as pairs of row and place of the set.
@@ -126,18 +75,18 @@ std::vector<std::vector<Pair>> Relaxation::memberships() const {
 
 // The entries of an edge in the rows of cuts: in how many sets of each both of its nodes are.
 void Relaxation::list_entries(const std::vector<Pair>& of_one, const std::vector<Pair>& of_other,
-                              std::vector<int>& rows, std::vector<double>& elements) const {
+                              Entries& entries) const {
   std::vector<Pair> common;
   std::set_intersection(of_one.begin(), of_one.end(), of_other.begin(), of_other.end(),
                         std::back_inserter(common));
   int last = -1;
   for (const auto& [row, set] : common) {
     if (row == last) {
-      elements.back() += 1;
+      entries.elements.back() += 1;
       continue;
     }
-    rows.push_back(degrees() + row);
-    elements.push_back(1);
+    entries.places.push_back(degrees_ + row);
+    entries.elements.push_back(1);
     last = row;
   }
 }
@@ -146,74 +95,47 @@ void Relaxation::add_edges(const std::vector<Pair>& edges) {
   const bool any =
       std::any_of(edges.begin(), edges.end(), [&](const Pair& edge) { return column_of(edge) < 0; });
   if (!any) return;
-  std::vector<CoinBigIndex> starts{0};
-  std::vector<int> rows;
-  std::vector<double> elements, objective;
+  Entries entries;
+  std::vector<double> objective;
   const std::vector<std::vector<Pair>> sets = memberships();
   for (const Pair& edge : edges) {
     const auto [i, j] = instance_.link(edge.first, edge.second);
     char& present = present_[static_cast<std::size_t>(i) * nodes_ + j];
     if (present) continue;
     present = 1;
-    const int column = columns();
-    edges_.emplace_back(i, j);
-    edge_weights_.columns.push_back(0);
-    adjacent_[i].push_back({j, column});
-    adjacent_[j].push_back({i, column});
-    rows.insert(rows.end(), {i, entering_row(j)});
-    elements.insert(elements.end(), {1, 1});
-    list_entries(sets[i], sets[j], rows, elements);
-    starts.push_back(static_cast<CoinBigIndex>(rows.size()));
+    index_edge({i, j});
+    entries.places.insert(entries.places.end(), {i, entering_row(j)});
+    entries.elements.insert(entries.elements.end(), {1, 1});
+    list_entries(sets[i], sets[j], entries);
+    entries.end();
     objective.push_back(static_cast<double>(weights_(i, j) - least_) / unit_);
   }
-  const std::vector<double> low(objective.size(), 0), high(objective.size(), 1);
-  program_.addColumns(static_cast<int>(objective.size()), low.data(), high.data(), objective.data(),
-                      starts.data(), rows.data(), elements.data());
+  add_columns(entries, objective);
 }
 
-// The row of a cut: in how many of its sets both nodes of each edge are. The counts are 0 before and after.
-void Relaxation::list_row(int cut, std::vector<double>& inside, std::vector<int>& columns,
-                          std::vector<double>& elements) const {
+// In how many of the cut's sets both nodes of each edge are.
+double Relaxation::list_row(int cut, Entries& entries) {
   std::vector<char> mark(nodes_, 0);
   std::vector<int> touched;
+  counts_.resize(edges_.size(), 0);
   for (const NodeSet& set : pool_[cut].sets) {
     for (const int v : set) mark[v] = 1;
     for (const int v : set) {
       for (const Place& place : adjacent_[v]) {
         if (place.node < v || !mark[place.node]) continue;
-        if (inside[place.column] == 0) touched.push_back(place.column);
-        inside[place.column] += 1;
+        if (counts_[place.column] == 0) touched.push_back(place.column);
+        counts_[place.column] += 1;
       }
     }
     for (const int v : set) mark[v] = 0;
   }
-  columns.push_back(0);
-  elements.push_back(-1);
+  entries.places.push_back(0);
+  entries.elements.push_back(-1);
   for (const int column : touched) {
-    columns.push_back(column + kElastic);
-    elements.push_back(inside[column]);
-    inside[column] = 0;
+    entries.places.push_back(column + kElastic);
+    entries.elements.push_back(std::exchange(counts_[column], 0));
   }
-}
-
-void Relaxation::add_cuts(const std::vector<int>& cuts) {
-  std::vector<CoinBigIndex> starts{0};
-  std::vector<int> columns;
-  std::vector<double> elements, low, high, inside(edges_.size(), 0);
-  for (const int cut : cuts) {
-    if (has(cut)) continue;
-    list_row(cut, inside, columns, elements);
-    starts.push_back(static_cast<CoinBigIndex>(columns.size()));
-    low.push_back(-COIN_DBL_MAX);
-    high.push_back(pool_[cut].most_inside);
-    row_of_[cut] = static_cast<int>(cuts_.size());
-    cuts_.push_back(cut);
-    ages_.push_back(0);
-    edge_weights_.rows.push_back(0);
-  }
-  if (low.empty()) return;
-  program_.addRows(static_cast<int>(low.size()), low.data(), high.data(), starts.data(), columns.data(),
-                   elements.data());
+  return pool_[cut].most_inside;
 }
 
 // The column of an edge, or -1.
@@ -238,66 +160,22 @@ void Relaxation::decide(const Decision& decision) {
 void Relaxation::release(const Pair& pair) { set_bounds(pair, 0, 1); }
 
 void Relaxation::purge(int age) {
-  std::vector<char> dropped(cuts_.size(), 0);
-  for (std::size_t row = 0; row < cuts_.size(); row++) {
-    const int place = degrees() + static_cast<int>(row);
-    dropped[row] = ages_[row] > age && program_.getRowStatus(place) == ClpSimplex::basic ? 1 : 0;
-  }
-  drop_rows(dropped);
+  drop_slack(age);
   read_duals();
-}
-
-void Relaxation::drop_rows(const std::vector<char>& dropped) {
-  std::vector<int> places, cuts, ages;
-  std::vector<double> weights(edge_weights_.rows.begin(), edge_weights_.rows.begin() + degrees());
-  for (std::size_t row = 0; row < cuts_.size(); row++) {
-    if (dropped[row]) {
-      places.push_back(degrees() + static_cast<int>(row));
-    } else {
-      cuts.push_back(cuts_[row]);
-      ages.push_back(ages_[row]);
-      weights.push_back(edge_weights_.rows[degrees() + row]);
-    }
-  }
-  if (places.empty()) return;
-  program_.deleteRows(static_cast<int>(places.size()), places.data());
-  cuts_ = cuts;
-  ages_ = ages;
-  edge_weights_.rows = weights;
-  row_of_.clear();
-  for (std::size_t row = 0; row < cuts_.size(); row++) row_of_[cuts_[row]] = static_cast<int>(row);
 }
 
 void Relaxation::drop_edges() {
   const double* costs = program_.getReducedCost();
-  std::vector<int> places;
-  std::vector<Pair> edges;
-  std::vector<double> solution;
-  std::vector<double> weights(edge_weights_.columns.begin(), edge_weights_.columns.begin() + kElastic);
+  std::vector<char> dropped(edges_.size(), 0);
   for (int column = 0; column < columns(); column++) {
     const int place = column + kElastic;
     const bool free = program_.getColLower()[place] < 0.5 && program_.getColUpper()[place] > 0.5;
     const bool zero = program_.getColumnStatus(place) != ClpSimplex::basic && solution_[column] < 1e-9;
-    if (free && zero && costs[place] * unit_ > average_ / 2) {
-      places.push_back(place);
-      present_[static_cast<std::size_t>(edges_[column].first) * nodes_ + edges_[column].second] = 0;
-    } else {
-      edges.push_back(edges_[column]);
-      solution.push_back(solution_[column]);
-      weights.push_back(edge_weights_.columns[place]);
-    }
+    if (!free || !zero || costs[place] * unit_ <= average_ / 2) continue;
+    dropped[column] = 1;
+    present_[static_cast<std::size_t>(edges_[column].first) * nodes_ + edges_[column].second] = 0;
   }
-  if (places.empty()) return;
-  program_.deleteColumns(static_cast<int>(places.size()), places.data());
-  edges_ = edges;
-  solution_ = solution;
-  edge_weights_.columns = weights;
-  for (std::vector<Place>& adjacent : adjacent_) adjacent.clear();
-  for (int column = 0; column < columns(); column++) {
-    const auto [i, j] = edges_[column];
-    adjacent_[i].push_back({j, column});
-    adjacent_[j].push_back({i, column});
-  }
+  drop_columns(dropped);
 }
 
 Basis Relaxation::basis() const {
@@ -334,6 +212,12 @@ void Relaxation::restore(const Basis& basis) {
   drop_rows(dropped);
   add_cuts(basis.cuts);
   if (!program_.statusExists()) program_.createStatus();
+  take_columns(basis);
+  take_rows(basis);
+}
+
+// All other edges are at 0.
+void Relaxation::take_columns(const Basis& basis) {
   for (int k = 0; k < kElastic; k++) program_.setColumnStatus(k, basis.elastic[k]);
   for (int column = 0; column < columns(); column++) {
     program_.setColumnStatus(column + kElastic, ClpSimplex::atLowerBound);
@@ -347,94 +231,25 @@ void Relaxation::restore(const Basis& basis) {
   for (const Pair& edge : basis.at_one) {
     program_.setColumnStatus(column_of(edge) + kElastic, ClpSimplex::atUpperBound);
   }
-  edge_weights_.rows.assign(basis.weights.rows.begin(), basis.weights.rows.begin() + degrees());
+}
+
+void Relaxation::take_rows(const Basis& basis) {
+  edge_weights_.rows.assign(basis.weights.rows.begin(), basis.weights.rows.begin() + degrees_);
   edge_weights_.rows.resize(basis.rows.size(), 0);
-  for (int row = 0; row < degrees(); row++) program_.setRowStatus(row, basis.rows[row]);
+  for (int row = 0; row < degrees_; row++) program_.setRowStatus(row, basis.rows[row]);
   for (std::size_t k = 0; k < basis.cuts.size(); k++) {
     const int row = row_of_[basis.cuts[k]];
-    const std::size_t place = static_cast<std::size_t>(degrees()) + k;
-    program_.setRowStatus(degrees() + row, basis.rows[place]);
-    edge_weights_.rows[degrees() + row] = basis.weights.rows[place];
+    const std::size_t place = static_cast<std::size_t>(degrees_) + k;
+    program_.setRowStatus(degrees_ + row, basis.rows[place]);
+    edge_weights_.rows[degrees_ + row] = basis.weights.rows[place];
     ages_[row] = 0;
   }
 }
 
-void Relaxation::optimize() {
-  program_.dual(0);
-  if (program_.status() != 0) program_.primal(0);
-  if (program_.status() != 0) {
-    program_.allSlackBasis();
-    program_.dual(0);
-  }
-  value_ = program_.objectiveValue() * unit_ + offset();
-}
-
 void Relaxation::read_duals() {
-  const double* duals = program_.getRowPrice();
-  node_duals_.assign(duals, duals + degrees());
-  cut_duals_.resize(cuts_.size());
-  for (std::size_t row = 0; row < cuts_.size(); row++)
-    cut_duals_[row] = std::max(0.0, -duals[degrees() + row]);
-}
-
-// The duals of the degrees as weights, each at least by 1 too large. Whole numbers tell of most pairs that
-// they cost more, without a division.
-std::vector<Weight> Relaxation::rounded_up_duals() const {
-  std::vector<Weight> duals;
-  duals.reserve(node_duals_.size());
-  for (const double dual : node_duals_) duals.push_back(static_cast<Weight>(std::ceil(dual * unit_)) + 1);
-  return duals;
-}
-
-// The absent edges with a negative reduced cost, the least first.
-std::vector<Pair> Relaxation::missing_edges(
-    const std::vector<std::vector<std::pair<int, double>>>& sets) const {
-  std::vector<std::pair<double, Pair>> missing;
-  const std::vector<Weight> paid = rounded_up_duals();
-  for (int i = 0; i < nodes_; i++) {
-    const Weight* row = weights_.row(i);
-    const Weight enough = least_ + paid[i];
-    for (int j = instance_.directed ? 0 : i + 1; j < nodes_; j++) {
-      if (row[j] - paid[entering_row(j)] > enough) continue;
-      double cost =
-          static_cast<double>(row[j] - least_) / unit_ - node_duals_[i] - node_duals_[entering_row(j)];
-      if (cost > -kTiny || j == i || present_[static_cast<std::size_t>(i) * nodes_ + j]) continue;
-      auto a = sets[i].begin(), b = sets[j].begin();
-      while (cost < -kTiny && a != sets[i].end() && b != sets[j].end()) {
-        if (a->first == b->first) {
-          cost += a->second;
-          ++a;
-          ++b;
-        } else {
-          ++(a->first < b->first ? a : b);
-        }
-      }
-      if (cost < -kTiny) missing.emplace_back(cost, Pair(i, j));
-    }
-  }
-  std::sort(missing.begin(), missing.end());
-  missing.resize(std::min(missing.size(), static_cast<std::size_t>(2 * nodes_)));
-  std::vector<Pair> edges;
-  edges.reserve(missing.size());
-  for (const auto& [cost, edge] : missing) edges.push_back(edge);
-  return edges;
-}
-
-// Prices all pairs. How many edges joined.
-int Relaxation::price() {
-  read_duals();
-  std::vector<std::vector<std::pair<int, double>>> sets(nodes_);
-  int number = 0;
-  for (std::size_t row = 0; row < cuts_.size(); row++) {
-    if (cut_duals_[row] < 1e-9) continue;
-    for (const NodeSet& set : pool_[cuts_[row]].sets) {
-      for (const int v : set) sets[v].emplace_back(number, cut_duals_[row]);
-      number++;
-    }
-  }
-  const std::vector<Pair> edges = missing_edges(sets);
-  add_edges(edges);
-  return static_cast<int>(edges.size());
+  const double* const duals = program_.getRowPrice();
+  node_duals_.assign(duals, duals + degrees_);
+  read_cut_duals();
 }
 
 // The two arcs of an ATSP between two nodes are one edge.
@@ -452,8 +267,7 @@ void Relaxation::add_support(int node, int to, double value) {
 }
 
 void Relaxation::read_solution() {
-  const double* values = program_.getColSolution();
-  solution_.assign(values + kElastic, values + kElastic + columns());
+  read_columns();
   support_.assign(nodes_, {});
   for (int column = 0; column < columns(); column++) {
     if (solution_[column] <= 1e-7) continue;
@@ -466,8 +280,7 @@ void Relaxation::read_solution() {
       if (edge.value > 1 - 1e-7 && edge.value < 1 + 1e-5) edge.value = 1;
     }
   }
-  for (std::size_t row = 0; row < cuts_.size(); row++)
-    ages_[row] = cut_duals_[row] > 1e-7 ? 0 : ages_[row] + 1;
+  note_ages();
 }
 
 // A set with a large dual raises the duals of its nodes. Where clusters lie far apart, they sum up to more
@@ -482,9 +295,7 @@ bool Relaxation::raise_penalty() {
 }
 
 void Relaxation::solve() {
-  do {
-    optimize();
-  } while (price() > 0 || raise_penalty());
+  solve_while([&](bool) { return price() > 0 || raise_penalty(); });
   read_solution();
 }
 
@@ -504,21 +315,5 @@ void Relaxation::take_margin(double margin) {
     program_.primal(0);
   } while (program_.status() == 0 && price() > 0);
   for (const auto& [place, cost] : used) program_.setObjectiveCoefficient(place, cost);
-}
-
-std::vector<double> Relaxation::gains(const std::vector<Fixing>& fixings, int iterations) const {
-  std::vector<double> gains(fixings.size());
-  edge_weights_.frozen = true;
-  const std::size_t copies = (fixings.size() + kFixingsOfCopy - 1) / kFixingsOfCopy;
-  for_each_at_once(copies, [&](std::size_t copy) {
-    Probe probe(program_, iterations);
-    const std::size_t last = std::min(fixings.size(), (copy + 1) * kFixingsOfCopy);
-    for (std::size_t k = copy * kFixingsOfCopy; k < last; k++) {
-      const double objective = probe.objective(fixings[k].column + kElastic, fixings[k].value);
-      gains[k] = std::max(0.0, objective * unit_ + offset() - value_);
-    }
-  });
-  edge_weights_.frozen = false;
-  return gains;
 }
 }  // namespace certify

@@ -1,15 +1,10 @@
-// The linear program over the edges: degrees of 2, and the rows of cuts in inner form. Of an ATSP it is over
+// The linear program over all edges: degrees of 2, and the rows of cuts in inner form. Of an ATSP it is over
 // the arcs: one leaves each node, one enters it, and a cut counts arcs in both directions. Edges join by
-// exact pricing over all pairs, rows that have long been slack are dropped, and elastic columns keep it
-// feasible. Clp solves it. Source: D. Applegate, R. Bixby, V. Chvatal and W. Cook, The Traveling Salesman
-// Problem (2006).
+// exact pricing over all pairs, and elastic columns keep it feasible. Source: D. Applegate, R. Bixby, V.
+// Chvatal and W. Cook, The Traveling Salesman Problem (2006).
 #pragma once
-#include <coin/ClpSimplex.hpp>
-#include <unordered_map>
-
-#include "cuts/cut_pool.h"
 #include "reading/instance.h"
-#include "tree/steepest_edge.h"
+#include "tree/cut_program.h"
 
 namespace certify {
 // A pair of nodes that is used, or isn't.
@@ -27,13 +22,12 @@ struct Basis {
   EdgeWeights weights;  // of the rows, then of the basic edges
 };
 
-class Relaxation {
+class Relaxation : public CutProgram {
  public:
   Relaxation(const Instance& instance, const CutPool& pool, const Tour& tour);
   // Becomes the program without edges, cuts and decisions, as if it were new.
   void reset();
   void add_edges(const std::vector<Pair>& edges);
-  void add_cuts(const std::vector<int>& cuts);
   void decide(const Decision& decision);
   void release(const Pair& pair);
   // Drops the slack rows that were slack in more solutions than this in a row.
@@ -51,18 +45,11 @@ class Relaxation {
   // Takes the edges, the cuts and the basis. No pair may be decided.
   void restore(const Basis& basis);
 
-  double value() const { return value_; }
-  // Of an ATSP an edge has the value of both arcs.
-  const Graph& support() const { return support_; }
-  bool has(int cut) const { return row_of_.count(cut) > 0; }
-  const std::vector<int>& cuts() const { return cuts_; }
-  // Duals at the weights' own unit: of the degrees, and of the cuts in their order, from 0 on. Of an ATSP
-  // each node has two: of the arc that leaves it, and of the arc that enters it.
+  // The dual of a node's degree at the weights' own unit. Of an ATSP each node has two: of the arc that
+  // leaves it, and of the arc that enters it.
   double leaving_dual(int node) const { return node_duals_[node] * unit_ + static_cast<double>(least_) / 2; }
   double entering_dual(int node) const { return leaving_dual(entering_row(node)); }
-  double cut_dual(std::size_t row) const { return cut_duals_[row] * unit_; }
 
-  int columns() const { return static_cast<int>(edges_.size()); }
   const Pair& edge(int column) const { return edges_[column]; }
   double solution(int column) const { return solution_[column]; }
 
@@ -75,48 +62,33 @@ class Relaxation {
   std::vector<double> gains(const std::vector<Fixing>& fixings, int iterations) const;
 
  private:
-  // The program takes the weights less the least one. A tour has as many edges as nodes.
-  double offset() const { return static_cast<double>(least_) * nodes_; }
-  struct Place {
-    int node, column;
-  };
+  static constexpr int kElastic = 3;
   int entering_row(int node) const { return instance_.directed ? nodes_ + node : node; }
-  int degrees() const { return instance_.directed ? 2 * nodes_ : nodes_; }  // as many rows, before the cuts
   void begin();
   void set_penalty(double penalty);
-  void optimize();
   int price();
   bool raise_penalty();
   void read_duals();
   void read_solution();
   void add_support(int node, int to, double value);
-  void drop_rows(const std::vector<char>& dropped);
+  void take_columns(const Basis& basis);
+  void take_rows(const Basis& basis);
   int column_of(const Pair& pair) const;
   void set_bounds(const Pair& pair, double low, double high);
   std::vector<std::vector<Pair>> memberships() const;
   void list_entries(const std::vector<Pair>& of_one, const std::vector<Pair>& of_other,
-                    std::vector<int>& rows, std::vector<double>& elements) const;
-  void list_row(int cut, std::vector<double>& inside, std::vector<int>& columns,
-                std::vector<double>& elements) const;
+                    Entries& entries) const;
+  double list_row(int cut, Entries& entries) override;
   std::vector<Weight> rounded_up_duals() const;
   std::vector<Pair> missing_edges(const std::vector<std::vector<std::pair<int, double>>>& sets) const;
 
   const Instance& instance_;
   const Matrix& weights_;
-  const CutPool& pool_;
-  int nodes_;
-  Weight least_ = 0;
-  double unit_ = 1, length_ = 0, average_ = 1;  // length_: of the tour; average_: of an edge of it
-  double penalty_ = 1, least_penalty_ = 1;      // of the elastic columns
-  mutable EdgeWeights edge_weights_;            // gains() freezes them
-  ClpSimplex program_;
-  std::vector<Pair> edges_;
-  std::vector<std::vector<Place>> adjacent_;
-  std::vector<char> present_;
-  std::vector<int> cuts_, ages_;
-  std::unordered_map<int, int> row_of_;
-  std::vector<double> solution_, node_duals_, cut_duals_;
-  Graph support_;
-  double value_ = 0;
+  Weight least_ = 0;                        // the program takes the weights less the least one
+  double length_ = 0, average_ = 1;         // of the tour, and of an edge of it
+  double penalty_ = 1, least_penalty_ = 1;  // of the elastic columns
+  std::vector<char> present_;               // of each pair
+  std::vector<double> counts_;              // of the edges in a row that is made: 0 before and after
+  std::vector<double> node_duals_;
 };
 }  // namespace certify

@@ -1,6 +1,6 @@
 // Tests of the limits of the format: what is counted, and what is left out.
 #include "fixtures.h"
-#include "tree/certificate.h"
+#include "tree/joining.h"
 #include "tree/leaves.h"
 #include "tree/named_cuts.h"
 #include "tree/tree_bound.h"

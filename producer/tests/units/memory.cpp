@@ -3,6 +3,7 @@
 #include "memory/memory.h"
 
 #include <algorithm>
+#include <bit>
 #include <cmath>
 #include <cstdio>
 #include <fstream>
@@ -11,8 +12,10 @@
 #include "fixtures.h"
 #include "memory/label_search.h"
 #include "memory/memory_growth.h"
+#include "memory/memory_words.h"
 #include "memory/run_bound.h"
 #include "memory/run_program.h"
+#include "running/refusal.h"
 
 using namespace certify;
 using namespace certify::routes;
@@ -99,7 +102,6 @@ TEST_CASE("Bits are sets of whole numbers") {
   for (const int k : {63, 200}) b.add(k);
   CHECK(listed(a) == NodeSet{0, 63, 64, 200, 255});
   CHECK(listed(a & b) == NodeSet{63, 200});
-  CHECK(listed(a ^ b) == NodeSet{0, 64, 255});
   CHECK(listed(a.without(b)) == NodeSet{0, 64, 255});
   CHECK(a.count() == 5);
   CHECK(b.is_within(a));
@@ -134,6 +136,60 @@ TEST_CASE("A run doesn't go to a customer that its last one remembers") {
   CHECK(is_run(memory, {1, 4, 3, 1}));  // 4 has forgotten it
 }
 
+TEST_CASE("Words say what runs remember and pay, whatever bits customers have") {
+  for (int seed = 0; seed < 60; seed++) {
+    Random random(seed);
+    const Sample one = sample(3 + seed % 4, random);
+    const auto loads = loads_in(one.instance, 1);
+    const MemoryWords<Weight> words(one.memory, one.rows);
+    Route all;
+    each_run(one, *loads, all, 0, [&](const Route& run) {
+      Word word = words.first(run[0]);
+      Weight paid = 0, wanted = 0;
+      for (std::size_t k = 1; k < run.size(); k++) {
+        REQUIRE_FALSE(words.remembers(run[k - 1], word, run[k]));
+        paid += words.go_on(run[k - 1], run[k], word);
+      }
+      for (const SubsetRow& row : one.memory.rows) wanted += one.rows.at(row.set) * payments(row, run);
+      CHECK(paid == wanted);
+      for (const int v : one.instance.customers()) {
+        Route longer(run);
+        longer.push_back(v);
+        if (v != run.back()) CHECK(words.remembers(run.back(), word, v) != is_run(one.memory, longer));
+      }
+    });
+  }
+}
+
+// 5 keeps the row, but has no bit of it unless there is a multiplier. So it doesn't part states.
+TEST_CASE("A row without a multiplier is no part of a state") {
+  Memory memory{std::vector<Bits>(6), {row_of({1, 2, 3}), row_of({1, 2, 4})}};
+  for (SubsetRow& row : memory.rows) row.keepers.add(5);
+  const MemoryWords<Weight> none(memory, {{{1, 2, 3}, 0}});
+  CHECK(none.first(1) == 0);
+  Word word = none.first(1);
+  CHECK(none.go_on(1, 5, word) == 0);
+  CHECK(none.go_on(5, 2, word) == 0);
+  CHECK(word == 0);
+  const MemoryWords<Weight> one(memory, {{{1, 2, 3}, 0}, {{1, 2, 4}, 7}});
+  CHECK(one.first(3) == 0);
+  word = one.first(1);
+  CHECK(std::popcount(word) == 1);
+  CHECK(one.go_on(1, 5, word) == 0);
+  CHECK(std::popcount(word) == 1);
+  CHECK(one.go_on(5, 2, word) == 7);
+  CHECK(word == 0);
+}
+
+TEST_CASE("A customer that keeps more than a word has bits is refused") {
+  Memory memory{std::vector<Bits>(80)};
+  for (int v = 2; v < 66; v++) memory.near[1].add(v);
+  CHECK_NOTHROW(MemoryWords<Weight>(memory, {}));
+  memory.rows.push_back(row_of({1, 2}));
+  CHECK_NOTHROW(MemoryWords<Weight>(memory, {{{1, 2}, 0}}));
+  CHECK_THROWS_AS(MemoryWords<Weight>(memory, {{{1, 2}, 1}}), Refusal);
+}
+
 TEST_CASE("The least run by labels and by states is that of all runs") {
   for (int seed = 0; seed < 60; seed++) {
     Random random(seed);
@@ -160,9 +216,8 @@ TEST_CASE("The least run by labels and by states is that of all runs") {
     for (const auto& [set, multiplier] : numbers.multipliers)
       duals.multipliers[set] = static_cast<double>(multiplier);
     for (const auto& [set, multiplier] : numbers.rows) duals.rows[set] = static_cast<double>(multiplier);
-    const OpenRows<double> rows(one.memory, duals.rows);
-    const LabelSearch::Found found =
-        labels.find(links_under<double>(one.instance, duals, 1), one.memory, rows, {}, 50);
+    const MemoryWords<double> words(one.memory, duals.rows);
+    const LabelSearch::Found found = labels.find(links_under<double>(one.instance, duals, 1), words, {}, 50);
     CHECK(found.whole);
     CHECK(is_near(found.least, static_cast<double>(least)));
     for (const Route& light : found.runs) {
@@ -170,7 +225,7 @@ TEST_CASE("The least run by labels and by states is that of all runs") {
       CHECK(weight_of(one, links, light) < 0);
     }
     const LabelSearch::Found few =
-        labels.find(links_under<double>(one.instance, duals, 1), one.memory, rows, {1, 2}, 50);
+        labels.find(links_under<double>(one.instance, duals, 1), words, {1, 2}, 50);
     CHECK(few.least >= found.least - 1e-6);
   }
 }
@@ -218,12 +273,16 @@ TEST_CASE("Rounded duals win back what is above 0") {
   RunDuals duals;
   duals.potentials = {0, -4.9999, -4.9999, -4.9999, -0.0001};
   duals.rows[{1, 2, 3}] = 9.9999;
-  const RunLeaf numbers = bound.rounded(duals, memory, 1, 1000);
+  const auto made = bound.rounded(duals, memory, {}, 1, kNoValue, 1000);
+  REQUIRE(made);
+  const RunLeaf& numbers = made->numbers;
   CHECK(numbers.potentials == std::vector<Weight>{0, -4999, -4999, -4999, 0});
   CHECK(numbers.rows.at({1, 2, 3}) == 10000);
   // A route of one weighs 10000 - 2 * 4999 = 2. All others weigh more, so this is won back for two routes.
   CHECK(numbers.multipliers.at(instance.customers()) == 1);
   CHECK(bound.value(numbers, memory, {}, 1000) == 2 * 3 * 4999 - 10000 + 4);
+  CHECK(made->value == 2 * 3 * 4999 - 10000 + 4);
+  CHECK_FALSE(bound.rounded(duals, memory, {}, 1, 21000, 1000));  // they are 20 at most
 }
 
 TEST_CASE("Rows of three are found where runs share their customers") {

@@ -7,7 +7,7 @@
 #include "cuts/subtours.h"
 #include "fixtures.h"
 #include "tours/local_search.h"
-#include "tree/certificate.h"
+#include "tree/joining.h"
 
 using namespace certify;
 
