@@ -86,6 +86,7 @@ for part in lib include share/doc share/yokecairn; do
 done
 cp "$here/BUILT-FROM" "$here/CONTACT" "$prefix/share/doc/yokecairn"
 named share/man/man1/tsp.1 "share/man/man1/$name.1"
+completions="share/bash-completion/completions/$name share/zsh/site-functions/_$name share/fish/vendor_completions.d/$name.fish"
 named share/bash-completion/completions/tsp "share/bash-completion/completions/$name"
 named share/zsh/site-functions/_tsp "share/zsh/site-functions/_$name"
 named share/fish/vendor_completions.d/tsp.fish "share/fish/vendor_completions.d/$name.fish"
@@ -120,11 +121,10 @@ installed=share/yokecairn/INSTALLED
     for part in lib include share/doc share/yokecairn; do
         list "$part"
     done
-    for file in bin/$name share/man/man1/$name.1 share/bash-completion/completions/$name \
-        share/zsh/site-functions/_$name share/fish/vendor_completions.d/$name.fish lib/pkgconfig/tsp.pc \
-        share/doc/yokecairn/BUILT-FROM share/doc/yokecairn/CONTACT share/yokecairn/PROGRAM $installed; do
+    for file in bin/$name share/man/man1/$name.1 $completions lib/pkgconfig/tsp.pc share/doc/yokecairn/BUILT-FROM share/doc/yokecairn/CONTACT share/yokecairn/PROGRAM $installed; do
         echo "$file"
     done
 } | LC_ALL=C sort -u >"$prefix/$installed.new"
 mv "$prefix/$installed.new" "$prefix/$installed"
 echo "installed in $prefix: bin/$name, lib/libtsp.so, lib/libtsp.a, include/tsp.h, share/man/man1/$name.1"
+echo "completions: $completions"

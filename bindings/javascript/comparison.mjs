@@ -2,12 +2,12 @@
 // Imported by yokecairn.mjs alone.
 
 import { Fault, SolutionError } from "./errors.mjs";
-import { Status, Verdict } from "./library.mjs";
+import { Status, Verdict } from "./codes.mjs";
 import { percentOf, reasonOf, reportOf } from "./report.mjs";
 
 /**
  * @typedef {import("../node/index.mjs").Basis} Basis
- * @typedef {import("./yokecairn.mjs").Report} Report
+ * @typedef {import("./reporting.mjs").Report} Report
  */
 
 /** A solution without a tour: its check says what is wrong with the instance. */

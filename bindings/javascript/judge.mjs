@@ -1,11 +1,11 @@
 // `Judge`: reads an instance and its certificate once, and judges many solutions, by a handle of the library. For
 // `compare` of yokecairn.mjs, and for several tours on the page (../web/page/run.mjs).
 
-import { By } from "./library.mjs";
+import { By } from "./codes.mjs";
 
 /** Judges solutions of an instance, by a certificate where there is one. */
 export class Judge {
-    /** @type {import("./library.mjs").Handle | null} */
+    /** @type {import("./handle.mjs").Handle | null} */
     #handle;
 
     /**
@@ -18,7 +18,7 @@ export class Judge {
         this.library = library;
         this.texts = { instance, certificate, by };
         const handle = library.open(instance);
-        /** @type {import("./library.mjs").Result | null} what the certificate gives */
+        /** @type {import("./answers.mjs").Result | null} what the certificate gives */
         this.bound = by === By.NOTHING ? null : handle.bind(certificate, by).result;
         // (a text with a fault has none)
         const isRead = handle.nodes > 0 && this.bound?.verdict !== 0;
@@ -39,7 +39,7 @@ export class Judge {
      * @param {Uint8Array} solution
      * @param {bigint | null} claimed
      * @param {boolean} [strict] whether unknown keywords of the instance are a reason
-     * @returns {import("./library.mjs").Judged}
+     * @returns {import("./answers.mjs").Judged}
      */
     check(solution, claimed, strict = false) {
         const { instance, certificate, by } = this.texts;

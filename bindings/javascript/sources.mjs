@@ -1,7 +1,7 @@
 // The texts of the arguments of a call: files by their paths, bytes, texts, problems, lists of nodes. For yokecairn.mjs.
 // ../node/index.mjs and ../node/browser.mjs fill in `system`: the module of the library, and in Node how files are read.
 
-import { By } from "./library.mjs";
+import { By } from "./codes.mjs";
 
 /**
  * @typedef {import("../node/index.mjs").Source} Source

@@ -1,6 +1,6 @@
 ; The three calls by which the proved code takes memory, over a heap in C (heap_take, heap_resize, heap_free). Two of
 ; them return a pair: 1 and the address, or 0 where there is no memory. C has no such result in two registers on every
-; system, so this is in LLVM's language. Before it come the two lines of a target, by scripts/targets.py. After a change
+; system, so this is in LLVM's language. Before it come the two lines of a target, by scripts/build/targets.py. After a change
 ; run tests/systems/systems, and ./check bindings.
 declare ptr @heap_take(i64)
 declare ptr @heap_resize(ptr, i64)

@@ -2,7 +2,7 @@
  * bytes. A block that is freed goes to the list of its class, and a new one is taken from there, or from the
  * end of the memory, which grows. Where it can't grow, a larger free block is halved. Blocks aren't joined again:
  * the page takes a new memory for each job. Each block is aligned to 16 bytes, as the code asks.
- * scripts/wasm.py compiles it, for the page and the package for Node; their tests run the rows of tests/program/tables. */
+ * scripts/build/wasm.py compiles it, for the page and the package for Node; their tests run the rows of tests/program/tables. */
 #include "heap.h"
 
 enum { PAGE = 65536, LEAST = 5, CLASSES = 40 };

@@ -1,5 +1,5 @@
 /* The calls of heap.c, the heap of the WebAssembly module. ../../systems/pair.ll calls them for the proved code, and
- * ../library.mjs for the texts of a call. */
+ * ../memory.mjs for the texts of a call. */
 #ifndef HEAP_H
 #define HEAP_H
 

@@ -1,5 +1,5 @@
 /* The arithmetic of 128 bits that clang leaves to a library, of which WebAssembly has none here.
- * scripts/wasm.py compiles it, for the page and the package for Node; their tests run the rows of tests/program/tables. */
+ * scripts/build/wasm.py compiles it, for the page and the package for Node; their tests run the rows of tests/program/tables. */
 typedef unsigned long u64;
 typedef unsigned __int128 u128;
 typedef __int128 i128;

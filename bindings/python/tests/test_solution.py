@@ -10,8 +10,7 @@ from pathlib import Path
 import yokecairn
 from support import EXAMPLES, RECTANGLE, ROOT
 from yokecairn import SolutionError, best_known, check, read_solution
-from yokecairn.forms import claim_of
-from yokecairn.forms import is_marked
+from yokecairn.solution import claim_of, is_marked
 
 FORMS = json.loads((ROOT / "tests/support/forms.json").read_text())
 # The recipes of the forms that show themselves by their words.

@@ -15,7 +15,7 @@ and ctypes aren't, and so not how a canonical text becomes Python's values.
 from . import _library
 from ._declared import Reason
 from .compare import Basis, BestUnknown, Comparison, compare
-from .contest import Entry, table
+from .contest import Entry, Table, table
 from .faults import (
     EndFault,
     Error,
@@ -32,7 +32,7 @@ from .problem import Problem, load, parse, read
 from .publishing import Verification, publish, verify
 from .report import Job, Report, bound, check, check_many, show
 from .solution import best_known, read_solution
-from .standings import Table
+
 
 __all__ = [
     "Basis",

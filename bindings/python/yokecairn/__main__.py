@@ -12,15 +12,405 @@ program `tsp` writes, and end with its statuses. This differs:
 - The line of a fault that isn't explained goes on with the path and the wrong word, or with the system's words.
 """
 
+import argparse
+import io
+import json
 import os
 import sys
-from typing import IO, Callable, List, Sequence, Tuple
+from typing import IO, Any, Callable, Dict, List, NoReturn, Optional, Sequence, Tuple, Union
 
-from . import _library
-from .command import Asked, Lines, Refused, Task, published, tabled, task_of
-from .compare import Judge
-from .faults import Fault, OutOfMemory, SolutionError, error_of, located
-from .forms import length_of
+from . import LAYOUTS, __version__, _library
+from .compare import Comparison, Judge, cells, line_of, rows_to, said_of, status_of
+from .contest import Table, table
+from .faults import Error, Fault, OutOfMemory, SolutionError, error_of, explained, located, text_of
+from .publishing import README, publish, verify
+from .report import Outcome, Report
+from .solution import is_tsplib, length_of, shape_of, solution_text, told_by
+
+# What is said of each verb, its files, and its options.
+_VERBS: Dict[str, Tuple[str, Tuple[str, ...], Tuple[str, ...]]] = {
+    "show": ("say what a file contains", ("file",), ()),
+    "convert": ("write a file anew, with its weights in a layout", ("file",), ("--layout",)),
+    "check": (
+        "judge a tour, or routes, of an instance",
+        ("file", "solution"),
+        ("--potentials", "--branches", "--length", "--strict", "--foreign", "--no-foreign", "--first", "--no-claims"),
+    ),
+    "bound": ("bound all tours of an instance by a certificate", ("file",), ("--potentials", "--branches", "--strict")),
+    "compare": (
+        "judge many solutions of an instance, a line for each",
+        ("file", "solutions"),
+        ("--potentials", "--branches", "--strict", "--best", "--tsv", "--json", "--summary", "--foreign", "--no-foreign", "--no-claims"),
+    ),
+    "table": (
+        "judge solvers on many instances, and put them beside each other",
+        ("folders",),
+        ("--best", "--csv", "--json", "--markdown", "--latex", "--html", "--jobs", "--no-claims"),
+    ),
+    "publish": (
+        "put a result into a new folder, with all that a reader needs to check it",
+        ("folder", "file", "solution"),
+        ("--potentials", "--branches", "--length", "--no-claims"),
+    ),
+    "verify": ("check a published folder by its files alone", ("folder",), ()),
+    "solution": ("write a solution of another program as a file of TYPE TOUR", ("file",), ("--dimension", "--first", "--routes")),
+}
+_FILES: Dict[str, Dict[str, Any]] = {
+    "file": {"metavar": "F", "help": "the instance; - is standard input"},
+    "solution": {"metavar": "T", "help": "the solution"},
+    "folder": {"metavar": "FOLDER", "help": "the folder of the result"},
+    "folders": {"metavar": "FOLDER", "nargs": "+", "help": "instances, and a folder of solutions for each solver; or a list"},
+    "solutions": {"metavar": "T", "nargs": "+", "help": "the solutions"},
+}
+# The file of verbs without an instance, and of one that reads no standard input.
+_OTHERS: Dict[str, str] = {
+    "show": "the file; - is standard input",
+    "convert": "the file; - is standard input",
+    "solution": "the other program's file; - is standard input",
+    "publish": "the instance",
+}
+_OPTIONS: Dict[str, Dict[str, Any]] = {
+    "--explain": {"action": "store_true", "help": "explain a fault or a no"},
+    "--layout": {"metavar": "L", "help": "the layout's word"},
+    "--potentials": {"metavar": "P", "help": "a file of potentials"},
+    "--branches": {"metavar": "B", "help": "a file of branches"},
+    "--length": {"metavar": "L", "help": "claim the length L; another one is a no"},
+    "--strict": {"action": "store_true", "help": "a no where the instance has an unknown keyword, after all other reasons"},
+    "--no-foreign": {"dest": "foreign", "action": "store_false", "help": "T has to be of TYPE TOUR, as for tsp"},
+    "--foreign": {"action": "store_true", "default": None, "help": "T may have any form of another program, as a list of nodes"},
+    "--first": {"metavar": "0|1", "type": int, "choices": (0, 1), "help": "the number of a list's first node; of routes in JSON 0 reads customers"},
+    "--routes": {"action": "store_true", "default": None, "help": "a single route leaves the depot out"},
+    "--no-claims": {"action": "store_true", "help": "leave the length that another program's file claims"},
+    "--best": {"metavar": "BEST", "help": "the best-known length, or a file of lines NAME LENGTH"},
+    "--tsv": {"action": "store_true", "help": "write a table with a tab between its columns"},
+    "--json": {"action": "store_true", "help": "write JSON, when all are judged"},
+    "--csv": {"action": "store_true", "help": "write a row for each instance and solver"},
+    "--markdown": {"action": "store_true", "help": "write a table of Markdown"},
+    "--latex": {"action": "store_true", "help": "write a tabular of LaTeX"},
+    "--html": {"action": "store_true", "help": "write HTML"},
+    "--jobs": {"metavar": "N", "type": int, "help": "how many processes judge side by side"},
+    "--summary": {"action": "store_true", "help": "write what came of all to standard error, in one line"},
+    "--dimension": {"metavar": "N", "type": int, "help": "the instance's, for routes of LKH-3"},
+}
+
+
+class Refused(Exception):
+    """The words are refused; with what is written to standard error."""
+
+
+class Asked(Exception):
+    """The words ask for help or the version; with that text, which goes to standard output with status 0."""
+
+
+class _Parser(argparse.ArgumentParser):
+    """A parser whose refusals and help are exceptions."""
+
+    def __init__(self, **words: Any) -> None:
+        super().__init__(add_help=False, allow_abbrev=False, **words)
+        self.add_argument("-h", "--help", action=_Tell, nargs=0, help="print this")
+
+    def error(self, message: str) -> NoReturn:
+        raise Refused(f"{self.format_usage()}{self.prog}: {message}\n")
+
+
+class _Tell(argparse.Action):
+    """Writes a text in place of doing anything else."""
+
+    def __call__(self, parser: argparse.ArgumentParser, *_: Any) -> NoReturn:
+        raise Asked(parser.format_help() if self.dest == "help" else f"yokecairn {__version__}\n")
+
+
+def _parser() -> argparse.ArgumentParser:
+    """The parser of the table."""
+    parser = _Parser(prog="python3 -m yokecairn", description="Reads, writes and judges files of TSPLIB 95.")
+    parser.add_argument("-V", "--version", action=_Tell, nargs=0, help="print the version")
+    verbs = parser.add_subparsers(dest="verb", metavar="VERB", title="verbs")
+    for name, (told, files, options) in _VERBS.items():
+        verb = verbs.add_parser(name, help=told, description=told)
+        for word in ("--explain", *files, *options):
+            said = {"help": _OTHERS[name]} if word == "file" and name in _OTHERS else {}
+            verb.add_argument(word, **{**(_FILES.get(word) or _OPTIONS[word]), **said})
+    return parser
+
+
+class Task:
+    """What the words of the command line ask for."""
+
+    def __init__(self, given: argparse.Namespace) -> None:
+        self.verb: Optional[str] = given.verb
+        self.layout: Optional[str] = getattr(given, "layout", None)
+        if self.layout is not None and self.layout not in LAYOUTS:
+            raise Refused("unknown layout\n")
+        potentials, branches = getattr(given, "potentials", None), getattr(given, "branches", None)
+        if potentials is not None and branches is not None:
+            raise Refused("both potentials and branches\n")
+        if self.verb == "bound" and potentials is None and branches is None:
+            raise Refused("neither potentials nor branches\n")
+        self.by = _library.ALONE
+        if potentials is not None:
+            self.by = _library.POTENTIALS
+        elif branches is not None:
+            self.by = _library.BRANCHES
+        self.claimed: Optional[int] = None
+        self.is_own_claim = False
+        if getattr(given, "length", None) is not None:
+            try:
+                self.claimed = length_of(given.length)
+            except (ValueError, ArithmeticError):
+                raise Refused("not a length\n") from None
+        self.strict: bool = getattr(given, "strict", False)
+        certificate = potentials if branches is None else branches
+        self.foreign: Optional[bool] = getattr(given, "foreign", None)
+        self.claims: bool = not getattr(given, "no_claims", False)
+        self.dimension: Optional[int] = getattr(given, "dimension", None)
+        self.first: Optional[int] = getattr(given, "first", None)
+        self.routes: Optional[bool] = getattr(given, "routes", None)
+        self.folders: List[str] = getattr(given, "folders", [getattr(given, "folder", "")])
+        self.potentials: Optional[str] = potentials
+        self.branches: Optional[str] = branches
+        self.jobs: Optional[int] = getattr(given, "jobs", None)
+        if self.jobs is not None and self.jobs < 1:
+            raise Refused("--jobs is 1 or more\n")
+        paths = [getattr(given, "file", None), getattr(given, "solution", None), certificate]
+        self.paths: List[str] = [path for path in paths if path is not None]
+        self.solutions: List[str] = getattr(given, "solutions", [])
+        self.best: Optional[str] = getattr(given, "best", None)
+        forms = [form for form in ("tsv", "json", "csv", "latex", "html", "markdown") if getattr(given, form, False)]
+        self.form = forms[0] if forms else "text"
+        self.sums: bool = getattr(given, "summary", False)
+        if len(forms) > 1:
+            raise Refused(f"both --{forms[0]} and --{forms[1]}\n")
+        if any("\n" in path for path in self.solutions):
+            raise Refused("line end in a path\n")
+        if [*self.paths, *self.solutions, self.best].count("-") > 1:
+            raise Refused("standard input is read once\n")
+
+    def read(self, texts: List[bytes]) -> None:
+        """Puts a text of TYPE TOUR in the place of another program's, and takes the length that it claims.
+
+        Raises:
+            SolutionError: it isn't read.
+        """
+        if self.verb != "check":
+            return
+        texts[1], claim = told_by(
+            texts[1], lambda: shape_of(texts[0]), foreign=self.foreign, first=self.first, claims=self.claims
+        )
+        if self.claimed is None:
+            self.claimed, self.is_own_claim = claim, claim is not None
+
+    def is_foreign(self, texts: Sequence[bytes]) -> bool:
+        """Whether a solution that has a fault would be read with --foreign."""
+        if self.verb != "check" or self.foreign is not None or len(texts) < 2 or is_tsplib(text_of(texts[1])):
+            return False
+        try:
+            solution_text(texts[1], *shape_of(texts[0]), first=self.first)
+        except SolutionError:
+            return False
+        return True
+
+    def done(self, texts: Sequence[bytes]) -> Tuple[int, bytes]:
+        """The status of the verb on these texts, and what it writes."""
+        if self.verb == "solution":
+            return _library.DONE, solution_text(texts[0], self.dimension, self.routes, self.first)
+        if self.verb == "check":
+            certificate = texts[2] if self.by else b""
+            return _library.check(texts[0], texts[1], certificate, self.by, self.claimed, self.strict)
+        if self.verb == "bound":
+            return _library.bound(texts[0], texts[1], self.by, self.strict)
+        if self.verb == "convert":
+            return _library.convert(texts[0], _library.LAYOUTS[self.layout] if self.layout else 0)
+        return _library.show(texts[0])
+
+    def explained(self, texts: Sequence[bytes]) -> str:
+        """What is told of the answer on these texts, for a person."""
+        names = ["standard input" if path == "-" else path for path in self.paths]
+        if self.verb == "bound":
+            texts, names = (texts[0], b"", texts[1]), [names[0], "", names[1]]
+        call = getattr(_library, self.verb.upper()) if self.verb else _library.SHOW
+        layout = _library.LAYOUTS[self.layout] if self.layout else 0
+        told = explained(call, texts, names, self.by or layout, self.claimed, self.strict)
+        if self.is_own_claim and "--length" in told:
+            return f"{told}\n  The file itself claims {self.claimed}. --no-claims leaves that."
+        return told
+
+
+def task_of(words: Sequence[str]) -> Tuple[Task, bool]:
+    """What these words ask for, and whether they ask for explanations.
+
+    Raises:
+        Refused, Asked: they ask for nothing that is done.
+    """
+    words = [] if list(words) == ["--"] else words
+    parser = _parser()
+    given, others = parser.parse_known_args(words)
+    # (argparse takes no more solutions behind an option)
+    if given.verb == "compare" and not any(word.startswith("-") and word != "-" for word in others):
+        given.solutions += others
+    elif others:
+        parser.error(f"unrecognized arguments: {' '.join(others)}")
+    if given.verb is None:
+        if words:
+            raise Refused("python3 -m yokecairn: a verb is missing\n")
+        given.file = "-"
+    return Task(given), getattr(given, "explain", False)
+
+
+# ---- the verb compare: a line, a row or a part of JSON for each solution
+
+class Lines:
+    """Writes what comes of the solutions in the form that the words ask for."""
+
+    def __init__(self, run: Any, judge: Judge, task: Task) -> None:
+        self.run, self.judge, self.task = run, judge, task
+        best = self.best_of(task.best) if task.best else None
+        self.found = Comparison(judge.basis, task.paths[0], judge.best(best))
+        self.counts = task.form != "json" and run.err.isatty() and not run.out.isatty()
+
+    def text_of(self, path: str) -> bytes:
+        """The text of a file of best-known lengths, or of a solution."""
+        if path == "-":
+            return self.run.stdin.read()  # type: ignore[no-any-return]
+        with open(path, "rb") as file:
+            return file.read()
+
+    def best_of(self, word: str) -> Union[int, bytes]:
+        """The best-known length: the word itself, where it is a whole number and no file; or the text of a file."""
+        is_length = word.isascii() and word.isdigit() and not os.path.exists(word)
+        return int(word) if is_length else self.text_of(word)
+
+    def write(self, text: str) -> None:
+        self.run.write(text.encode("utf-8", "surrogateescape"))
+
+    def row(self, *rows: Any) -> None:
+        """Writes rows of the table."""
+        lines = io.StringIO()
+        rows_to(lines, "\t").writerows(rows)
+        self.write(lines.getvalue())
+
+    def head(self) -> None:
+        """Writes what comes before all solutions."""
+        if self.task.form == "text":
+            self.write(self.judge.basis.text)
+        elif self.task.form == "tsv":
+            header = io.StringIO()
+            rows_to(header, "\t").writeheader()
+            self.write(header.getvalue())
+
+    def outcome(self, path: str) -> Outcome:
+        """What comes of the solution at a path."""
+        try:
+            text = self.text_of(path)
+        except OSError as fault:
+            return fault
+        return self.judge.outcome(text, explain=self.run.explains, path=path)
+
+    def add(self, path: str, outcome: Outcome) -> None:
+        """Writes what came of a solution."""
+        self.found.add(path, outcome)
+        if self.task.form == "text":
+            self.write(f"{line_of(path, outcome)}\n")
+        elif self.task.form == "tsv":
+            self.row(cells(self.found.row(path, outcome)))
+        if self.counts:
+            self.run.say(b"\r%d of %d" % (len(self.found), len(self.task.solutions)))
+        explanation = "" if isinstance(outcome, Report) and outcome.yes else getattr(outcome, "explanation", "")
+        if self.run.explains and explanation:
+            self.run.explain(("\n" if self.counts else "") + explanation)
+        elif self.task.form == "text" and not isinstance(outcome, Report) and not self.run.explains:
+            self.run.explain(f"{path}: {said_of(outcome)}")
+
+    def written(self) -> int:
+        """Writes all of it; the exit status."""
+        self.head()
+        if self.judge.basis.reason is None:
+            for path in self.task.solutions:
+                self.add(path, self.outcome(path))
+        if self.counts:
+            self.run.say(b"\n")
+        if self.task.form == "json":
+            self.write(json.dumps(self.found.as_dict(), indent=2) + "\n")
+        if self.task.sums:
+            self.run.explain(self.found.summary())
+        return self.found.status
+
+
+# ---- the verb table
+
+_WIDE = 24  # signs of the bar
+
+
+def _status(found: Table) -> int:
+    """The exit status: the largest of 0 all accepted, 1 a no or a missing solution, 2 a fault, 5 a file that can't be read."""
+    most = _library.DONE
+    for instance in found.instances:
+        for solver in found.solvers:
+            outcomes = found.runs(instance, solver).values()
+            most = max(most, max(map(status_of, outcomes), default=_library.NO))
+    return most
+
+
+class Bar:
+    """A bar on standard error, where that is a terminal: how many instances are done."""
+
+    def __init__(self, run: Any) -> None:
+        self.run = run
+        self.is_shown = run.err.isatty()
+
+    def __call__(self, done: int, count: int, instance: str) -> None:
+        if self.is_shown:
+            full = _WIDE * done // count
+            bar = "#" * full + "." * (_WIDE - full)
+            self.run.say(f"\r\x1b[K[{bar}] {done} of {count}: {instance}".encode("utf-8", "surrogateescape"))
+            if done == count:
+                self.run.say(b"\r\x1b[K")
+
+
+def tabled(run: Any, task: Task) -> int:
+    """Writes the table of the folders that the words name; the exit status."""
+    best: Optional[Any] = task.best
+    if task.best is not None and task.best.isdigit() and not os.path.exists(task.best):
+        run.explain(f"{task.best}: for several instances best-known lengths are in a file of lines NAME LENGTH")
+        return _library.FAULT
+    try:
+        found = table(task.folders, best=best, workers=task.jobs, processes=True, claims=task.claims, progress=Bar(run))
+    except ValueError as fault:
+        run.explain(str(fault))
+        return _library.FAULT
+    except OSError as fault:
+        run.explain(f"{fault.filename}: {fault.strerror}")
+        return _library.DEVICE
+    forms = {
+        "csv": found.to_csv, "latex": found.to_latex, "html": found.to_html, "json": found.to_json, "markdown": found.to_markdown,
+    }
+    written = forms[task.form]() if task.form in forms else f"{found}\n"
+    run.write((written or "").encode("utf-8", "surrogateescape"))
+    return _status(found)
+
+
+# ---- the verbs publish and verify
+
+
+def published(run: Any, task: Task) -> int:
+    """Puts a result into a folder, or checks one; the exit status."""
+    folder = task.folders[0]
+    try:
+        if task.verb == "verify":
+            found = verify(folder)
+            run.write(f"{found}\n".encode("utf-8", "surrogateescape"))
+            return _library.DONE if found.yes else _library.NO
+        files = (task.paths[0], task.paths[1], task.potentials, task.branches)
+        report = publish(folder, *files, length=task.claimed, claims=task.claims)
+        run.write(report.text.encode("utf-8", "surrogateescape"))
+        return _library.DONE
+    except OSError as fault:
+        is_none = task.verb == "verify" and os.path.basename(str(fault.filename)) == README
+        run.explain(f"{fault.filename}: {fault.strerror}{': publish made no such folder' if is_none else ''}")
+        return _library.DEVICE
+    except (Error, ValueError) as fault:
+        run.explain(str(fault))
+        return _library.NO if str(fault).startswith("nothing is published") else _library.FAULT
+
 
 __all__ = ["Run", "length_of", "main"]
 

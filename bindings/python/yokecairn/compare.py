@@ -14,10 +14,9 @@ from typing import Any, Callable, Dict, Iterable, Iterator, List, Mapping, NoRet
 from . import _library, plots
 from ._declared import REASONS
 from .faults import Error, Fault, OutOfMemory, text_of
-from .forms import Shape
 from .problem import Path, Problem, Source, parse, text_and_path
 from .report import Outcome, Report, Solution, bound_of, certificate_of, report_of, solution_of
-from .solution import best_known
+from .solution import Shape, best_known
 
 # The best-known length: itself, lengths by names, or a file of lines `NAME LENGTH`.
 Best = Union[int, Mapping[str, int], Source]

@@ -14,10 +14,10 @@ from pathlib import Path as _Path
 from typing import Dict, Iterable, List, NamedTuple, Optional, Tuple
 
 from . import _library
-from .forms import shape_of
 from .faults import Error, text_of
 from .problem import Path
 from .report import Report, check, solution_of
+from .solution import shape_of
 
 SUMS, REPORT, RECHECKED, VERSIONS, README, SCRIPT = "SHA256SUMS", "report", "recheck", "versions", "README", "recheck.py"
 _OWN = (SUMS, REPORT, RECHECKED, VERSIONS, README, SCRIPT)

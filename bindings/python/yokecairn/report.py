@@ -13,9 +13,8 @@ from typing import Any, Callable, Dict, Iterable, List, Mapping, NamedTuple, Opt
 from . import _library
 from ._declared import REASONS
 from .faults import SolutionError, error_of, explained, text_of
-from .forms import Shape, shape_of, told_by, tour_text
 from .problem import Problem, Source, text_and_path
-from .solution import tours_of
+from .solution import Shape, shape_of, told_by, tour_text, tours_of
 
 # Also the nodes of one tour, or of several routes, or an object that solution.py knows.
 Solution = Union[Source, Sequence[int], Sequence[Sequence[int]], Any]

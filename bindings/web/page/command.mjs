@@ -1,7 +1,7 @@
 // What the given files ask for: the verb of the program, and the call of the program that does the same. outcome.mjs and
 // state.mjs use it.
 
-import { By } from "../../javascript/library.mjs";
+import { By } from "../../javascript/codes.mjs";
 
 /**
  * @typedef {object} Given

@@ -1,7 +1,7 @@
 // What comes of the files of a job: it is made in the worker, by the library, and tells how far it is. worker.mjs calls it.
 
 import { Judge } from "../../javascript/judge.mjs";
-import { By, Call, Status } from "../../javascript/library.mjs";
+import { By, Call, Status } from "../../javascript/codes.mjs";
 import { reportOf } from "../../javascript/report.mjs";
 import { branchesOf } from "./branches.mjs";
 import { commandOf, oneOf, verbOf } from "./command.mjs";

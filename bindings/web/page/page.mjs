@@ -1,7 +1,7 @@
 // The page: keeps the state (state.mjs), has the worker (worker.mjs) judge the files, and shows what view.mjs answers. The
 // events are in events.mjs. bindings/web/build joins this and what it imports into tsp.html.
 
-import { By } from "../../javascript/library.mjs";
+import { By } from "../../javascript/codes.mjs";
 import { display, fileOfPicture, find, save } from "./dom.mjs";
 import { listen } from "./events.mjs";
 import { carriedBy, linkOf } from "./link.mjs";

@@ -1,6 +1,6 @@
 // How potentials of an instance rise, and what the library says of the best ones. worker.mjs calls it.
 
-import { By } from "../../javascript/library.mjs";
+import { By } from "../../javascript/codes.mjs";
 import { ascentOf, canRise } from "./ascent.mjs";
 import { textOfAnswer } from "./sections.mjs";
 

@@ -1,7 +1,7 @@
 // What a file is for, as its beginning and its name say: instance, solution or certificate. For page.mjs, which puts the
 // file into that field; the library judges what the file is.
 
-import { By } from "../../javascript/library.mjs";
+import { By } from "../../javascript/codes.mjs";
 
 /** The line with the TYPE is looked for in so many bytes. */
 const LOOKED_AT = 65536;

@@ -1,7 +1,7 @@
 // What comes of each of several solutions, as rows of a table. outcome.mjs makes them; view.mjs shows them, and page.mjs saves
 // them.
 
-import { Status } from "../../javascript/library.mjs";
+import { Status } from "../../javascript/codes.mjs";
 import { percentOf, reportOf, verdictOf } from "../../javascript/report.mjs";
 
 /**
@@ -33,7 +33,7 @@ const SAVED = /** @type {const} */ (["name", "word", "length", "gap", "percent",
  * The row of a solution.
  *
  * @param {string} name
- * @param {import("../../javascript/library.mjs").Judged} judged
+ * @param {import("../../javascript/answers.mjs").Judged} judged
  * @param {bigint | null} best the best-known length
  * @returns {Row}
  */

@@ -1,7 +1,7 @@
 // The scene of a run, which map.mjs draws: points, tours or routes with their loads, the edges in which another solution
 // differs, and the nodes and pairs that a reason of `no` is about. outcome.mjs makes it, by the library.
 
-import { Section } from "../../javascript/library.mjs";
+import { Section } from "../../javascript/codes.mjs";
 import { rowsOf, textOfAnswer, toursOf } from "./sections.mjs";
 
 /**

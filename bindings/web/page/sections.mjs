@@ -42,7 +42,7 @@ export function toursOf(text) {
 /**
  * The text of an answer of the library; empty where it is none.
  *
- * @param {import("../../javascript/library.mjs").Answer} answer
+ * @param {import("../../javascript/answers.mjs").Answer} answer
  * @returns {string}
  */
 export function textOfAnswer({ status, bytes }) {

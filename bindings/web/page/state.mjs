@@ -1,7 +1,7 @@
 // All that the page shows follows from one value, the state. Here are its beginning and its changes, each a function from a
 // state to the next one. view.mjs shows a state, and page.mjs keeps the one that holds.
 
-import { By } from "../../javascript/library.mjs";
+import { By } from "../../javascript/codes.mjs";
 import { verbOf } from "./command.mjs";
 import { roleOf } from "./roles.mjs";
 import { WHOLE } from "./zoom.mjs";

@@ -1,7 +1,7 @@
 // An outcome in words: its verdict in large letters, what that means, what it doesn't speak of, and what has to be done before
 // the command. view.mjs shows them.
 
-import { Status } from "../../javascript/library.mjs";
+import { Status } from "../../javascript/codes.mjs";
 import { verdictOf } from "../../javascript/report.mjs";
 
 /**

@@ -1,6 +1,6 @@
 // What each element of the page shows in a state: a function without effects. dom.mjs puts its result into the document.
 
-import { By, Status } from "../../javascript/library.mjs";
+import { By, Status } from "../../javascript/codes.mjs";
 import { branchesView, drawingView, risingView } from "./drawing.mjs";
 import { misplaced } from "./roles.mjs";
 import { columnsOf } from "./rows.mjs";

@@ -10,7 +10,7 @@ import { join } from "node:path";
 import { test } from "node:test";
 import { fileURLToPath } from "node:url";
 
-import { By } from "../../javascript/library.mjs";
+import { By } from "../../javascript/codes.mjs";
 import { run } from "../page/outcome.mjs";
 import { libraryOf } from "./module.mjs";
 

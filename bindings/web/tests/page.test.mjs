@@ -5,7 +5,7 @@ import assert from "node:assert/strict";
 import { readFileSync } from "node:fs";
 import { test } from "node:test";
 
-import { By, Section, Status, Verdict } from "../../javascript/library.mjs";
+import { By, Section, Status, Verdict } from "../../javascript/codes.mjs";
 import { percentOf, reportOf, verdictOf } from "../../javascript/report.mjs";
 import { ascentOf, canRise } from "../page/ascent.mjs";
 import { verbOf } from "../page/command.mjs";

@@ -8,7 +8,7 @@ import { existsSync, readFileSync } from "node:fs";
 import { join } from "node:path";
 import { createInterface } from "node:readline";
 
-import { By, Status } from "../../javascript/library.mjs";
+import { By, Status } from "../../javascript/codes.mjs";
 import { run } from "../page/outcome.mjs";
 import { libraryOf } from "./module.mjs";
 import { lengthOf, sorted } from "./words.mjs";

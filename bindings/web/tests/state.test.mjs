@@ -5,7 +5,7 @@ import assert from "node:assert/strict";
 import { readFileSync } from "node:fs";
 import { test } from "node:test";
 
-import { By, Status } from "../../javascript/library.mjs";
+import { By, Status } from "../../javascript/codes.mjs";
 import { carriedBy, linkOf } from "../page/link.mjs";
 import { isCutJson } from "../page/made.mjs";
 import { misplaced } from "../page/roles.mjs";
