@@ -8,7 +8,7 @@ from collections.abc import Iterable
 from code_text import Function
 from crates_text import ROOT, Crate
 
-from .walk import ROWS, RULE, Row, Walk
+from .walk import Row, Walk
 from .world import World
 
 PAGE = ROOT / "docs/ARCHITECTURE.md"
@@ -41,23 +41,14 @@ def table_of_walks(all_walks: Iterable[Walk]) -> list[str]:
     return ["| Walk | Functions | Files | Crates | Rows | Changes of crate |", "|---|---|---|---|---|---|", *rows]
 
 
-def table_of_crates(crates: dict[str, Crate]) -> list[str]:
-    """Each crate with the first sentence of its lib.rt, what it depends on directly, and its size."""
+def list_of_crates(crates: dict[str, Crate]) -> list[str]:
+    """Each crate with the first sentence of its lib.rt."""
     rows = []
     for name, crate in reversed(crates.items()):
         head = next((file.head for file in crate.code if file.place in ("lib", "main")), "")
         sentence = re.split(r"(?<=[^.\s])\.(?:\s|$)", head, maxsplit=1)[0]
-        rows.append(f"| {name} | {sentence} | {' '.join(nearest_needs(crates, name))} | {len(crate.code)} | {len(list(crate.functions))} |")
-    return ["| Crate | What it has | Uses | Files | Functions |", "|---|---|---|---|---|", *rows]
-
-
-def nearest_needs(crates: dict[str, Crate], name: str) -> list[str]:
-    """What a crate depends on, without what these depend on."""
-    def below(crate: str) -> set[str]:
-        return {crate}.union(*(below(it) for it in crates[crate].needs))
-
-    needs = crates[name].needs
-    return [it for it in needs if not any(it in below(other) for other in needs if other != it)]
+        rows.append(f"- {name}: {sentence}")
+    return rows
 
 
 def drawing(crates: dict[str, Crate]) -> list[str]:
@@ -70,19 +61,7 @@ def drawing(crates: dict[str, Crate]) -> list[str]:
 
 def parts(world: World, all_walks: list[Walk]) -> dict[str, list[str]]:
     """The lines of each part."""
-    whole, *others = all_walks
-    known: set[Function] = {function for _, function in whole.flat()}
-    found = {
-        "drawing": drawing(world.crates),
-        "crates": table_of_crates(world.crates),
-        "rule": [RULE.format(aside=", ".join(sorted(whole.aside))), "", ROWS],
-        "figures": table_of_walks(all_walks),
-        whole.name: [f"    {line}" for line in lines_of(whole, whole.rows)],
-    }
-    for walk in others:
-        found[walk.name] = [f"    {line}" for line in lines_of(walk, walk.new_rows(known))]
-        known |= {function for _, function in walk.flat()}
-    return found
+    return {"drawing": drawing(world.crates), "crates": list_of_crates(world.crates), "figures": table_of_walks(all_walks)}
 
 
 def printed_into(page: str, world: World, all_walks: list[Walk]) -> str:

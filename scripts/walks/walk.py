@@ -1,7 +1,6 @@
 """The walks of the data through the crates.
 
-A walk is all that is called from `main`, if the code's choices are those of choices.toml. It is counted by the files that have
-a function of it (RULE), and shown by the rows of the functions that lead to another file (ROWS).
+RULE says what a walk has, and which of its functions are rows.
 """
 from __future__ import annotations
 
@@ -24,12 +23,14 @@ from .world import World
 Table = dict[str, Any]  # as choices.toml has it
 TABLE = ROOT / "scripts/walks/choices.toml"
 LONG, SHORT = 20, 3
-RULE = """A walk has every function that is called from `main` on, with the choices of `scripts/walks/choices.toml`. It leaves out what \
-follows a refusal (`Err`, and the `else` of a `let`), laws, and the crates of number words ({aside}). It counts the files and crates that \
-have a function of it: these are the files to open if you follow every call."""
-ROWS = f"""A row is a function that another file calls. It is below the caller that reaches it with the fewest changes of file. \
-Functions that only their own file calls are folded into the row above them. A row with nothing below it is folded too, if its file has \
-another row and it has fewer than {LONG} lines. So is a function of at most {SHORT} lines that only passes on to the next row."""
+RULE = f"""\
+A walk has every function that is called from `main` on, if the code's choices are those of scripts/walks/choices.toml. It
+leaves out what follows a refusal (`Err`, and the `else` of a `let`), laws, and the crates that choices.toml sets aside. It
+counts the files and crates that have a function of it: these are the files to open if you follow every call.
+
+A row is a function that another file calls, below the caller that reaches it with the fewest changes of file. Functions
+that only their own file calls are folded into the row above them. So is a row with nothing below it and fewer than {LONG}
+lines, if its file has another row, and a function of at most {SHORT} lines that only passes on to the next row."""
 
 
 class Unknown(Exception):
@@ -161,23 +162,18 @@ class Walk:
             yield depth, row.function
             yield from self.flat(row.below, depth + 1)
 
+    def outline(self, depth: int) -> list[Row]:
+        """The rows down to this depth, that of the first one being 0."""
+        def cut(rows: list[Row], left: int) -> list[Row]:
+            return [Row(row.function, cut(row.below, left - 1)) for row in rows] if left >= 0 else []
+
+        return cut(self.rows, depth)
+
     def figures(self) -> tuple[int, int, int, int, int]:
         """How many functions, files, crates and rows it has, and how often the next row is of another crate."""
         crates = [function.crate for _, function in self.flat()]
         changes = sum(one != other for one, other in zip(crates, crates[1:]))
         return len(self.calls), len({it.path for it in self.calls}), len({it.crate for it in self.calls}), len(crates), changes
-
-    def new_rows(self, known: set[Function], rows: list[Row] | None = None) -> list[Row]:
-        """The rows that aren't known, each below the nearest one that is."""
-        found = []
-        for row in self.rows if rows is None else rows:
-            below = self.new_rows(known, row.below)
-            is_new = row.function not in known
-            if is_new or any(it.function not in known for it in below):
-                found.append(Row(row.function, below))
-            else:
-                found += below
-        return found
 
 
 def all_walks(world: World, table: Table | None = None) -> list[Walk]:

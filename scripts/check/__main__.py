@@ -1,8 +1,7 @@
-#!/usr/bin/env python3
 """Runs the tests of this repository.
 
-usage: ./check [--without-proof] [--junit FILE]
-       ./check NAME.. [--only WORD] [--junit FILE]
+usage: ./check [--without-proof] [--junit FILE] [--record FILE]
+       ./check NAME.. [--only WORD] [--junit FILE] [--record FILE]
        ./check --list
 
 Without names it runs all suites of tests/suites.toml. First come those of the repository's files, which take seconds.
@@ -15,6 +14,7 @@ two at a time beside the wrong edits, as far as processors are idle, and the res
   --only WORD      of the cases and rows, those that have this word (suites cases and tables)
   --list           print the suites, how long each takes, and what it needs
   --junit FILE     write the outcomes as JUnit XML, too
+  --record FILE    write a record of the run as JSON: commit, toolchain, machine, counts, sums of what was built
   --help           print this
 
 The last line is 'N passed, M failed', with ', K skipped' where a tool was missing; each has a line that begins with
@@ -34,16 +34,16 @@ from pathlib import Path
 from typing import NoReturn
 
 sys.dont_write_bytecode = True
+sys.path[0] = str(Path(__file__).resolve().parents[1])
 try:
-    import proofs
-    import statements
-    import suites
-    from runs import BEHIND, PROOFS, Beside, Runs, free_memory, listed, say
+    from check import proofs, suites
 except ModuleNotFoundError as error:
     sys.exit(f"check: this needs Python 3.11 or later ({error})")
-from program import PROVED
-from sources import LIBRARY, PROGRAM, ROOT
-from suites import FIRST, Job, Outcome, Pool, Suite
+from build import statements
+from build.program import PROVED
+from build.sources import LIBRARY, PROGRAM, ROOT
+from check.runs import BEHIND, PROOFS, Beside, Reports, Runs, free_memory, listed, say
+from check.suites import FIRST, Job, Outcome, Pool, Suite
 
 REFUSED = 4
 BUILT_FOR = {"proved": PROVED, "by-rattle": PROVED.with_name(f"{PROVED.name}.by-rattle")}
@@ -60,11 +60,11 @@ class Words:
     def __init__(self, words: list[str]) -> None:
         self.names: list[str] = []
         self.without_proof = self.lists = self.helps = False
-        self.only = self.junit = ""
+        self.only = self.junit = self.record = ""
         words = list(words)
         while words:
             word, _, value = words.pop(0).partition("=")
-            if word in ("--only", "--junit"):
+            if word in ("--only", "--junit", "--record"):
                 if not value and not words:
                     refuse(f"{word} needs a value")
                 setattr(self, word[2:], value or words.pop(0))
@@ -98,7 +98,7 @@ class Check(Runs):
     """A check: its suites, and when each runs."""
 
     def __init__(self, words: Words, all_suites: list[Suite], scratch: Path) -> None:
-        super().__init__(scratch, words.only, words.junit)
+        super().__init__(scratch, words.only, Reports(words.junit, words.record))
         self.words, self.suites = words, all_suites
         self.proves = not words.without_proof and not words.names
         self.workers = len(os.sched_getaffinity(0))
@@ -161,8 +161,9 @@ class Check(Runs):
         begun = time.monotonic()
         while free_memory() < MEMORY and not self.proof_ended.wait(5):
             pass
-        subprocess.run([ROOT / "scripts/mark", "--statements", sources], check=False)
-        nice = [] if self.proof_ended.is_set() else ["nice", "-n", str(BEHIND)]
+        if not statements.mark_proved(sources):
+            say("check: the sources have changed while they were proved")
+        nice: list[str | Path] = [] if self.proof_ended.is_set() else ["nice", "-n", str(BEHIND)]
         words = ["--library", str(self.scratch / name)] if name == LIBRARY else ["--modules"]
         subprocess.run([*nice, ROOT / "release", *words], stdin=subprocess.DEVNULL, stdout=subprocess.DEVNULL, check=False)
         self.begin([suite for suite in self.suites if suite.made == name])
@@ -172,12 +173,11 @@ class Check(Runs):
 
     def compile_ahead(self) -> None:
         """Has the library compiled for aarch64, whose suite waits for the program. The object is kept beside the module."""
-        streams = {"stdin": subprocess.DEVNULL, "stderr": subprocess.DEVNULL, "text": True, "check": False}
-        kept = subprocess.run([ROOT / "release", "--kept"], stdout=subprocess.PIPE, **streams).stdout.strip()
-        if kept:
+        asked = subprocess.run([ROOT / "release", "--kept"], stdin=subprocess.DEVNULL, capture_output=True, text=True, check=False)
+        if kept := asked.stdout.strip():
             module = Path(kept).with_name(statements.MODULES[LIBRARY])
-            words = ["nice", "-n", str(BEHIND), OTHER, "linux-aarch64", self.scratch / "linux-aarch64", "--library", module]
-            subprocess.run(words, stdout=subprocess.DEVNULL, **streams)
+            words: list[str | Path] = ["nice", "-n", str(BEHIND), OTHER, "linux-aarch64", self.scratch / "linux-aarch64", "--library", module]
+            subprocess.run(words, stdin=subprocess.DEVNULL, capture_output=True, check=False)
 
     def begin(self, chosen: list[Suite]) -> None:
         """Adds the runs of suites to those that wait, but for suites that have begun."""

@@ -4,8 +4,6 @@ The proved code has no instruction of x86-64 in them, and neither vectors nor fl
 does in another way. A program's `main` asks for the processor first, which is left out. All targets have words of 64 bits,
 put the least byte first, and align numbers of 128 bits to 16 bytes. So only the target's two lines, and the function
 attributes of the processor and of its stack, are replaced.
-
-For bindings/systems/build, bindings/node/build and wasm.py. It needs the toolchain's clang.
 """
 from __future__ import annotations
 
@@ -17,8 +15,8 @@ import subprocess
 from dataclasses import dataclass
 from pathlib import Path
 
-import module
-from sources import NATIVE, ROOT, SYSTEMS
+from build import toolchain
+from build.sources import NATIVE, ROOT, SYSTEMS
 
 # Words that the toolchain gives to its own call of clang, but those of x86-64 alone.
 LIKE_TOOLCHAIN = """-mllvm -no-trap-after-noreturn -mllvm -trap-unreachable -mllvm -disable-machine-licm
@@ -54,13 +52,11 @@ class Target:
 
     def clang(self, *words: str | Path) -> None:
         """Runs the toolchain's clang for this target."""
-        clang = module.kit() / "toolchain/bin/clang"
-        subprocess.run([clang, "--no-default-config", f"--target={self.triple}", *words], check=True)
+        subprocess.run([toolchain.clang(), "--no-default-config", f"--target={self.triple}", *words], check=True)
 
     def lines(self) -> list[bytes]:
         """The two lines by which a module names its target."""
-        words = [module.kit() / "toolchain/bin/clang", "--no-default-config", f"--target={self.triple}"]
-        words += ["-S", "-emit-llvm", "-x", "c", "-o", "-", "/dev/null"]
+        words: list[str | Path] = [toolchain.clang(), "--no-default-config", f"--target={self.triple}", "-S", "-emit-llvm", "-x", "c", "-o", "-", "/dev/null"]
         made = subprocess.run(words, check=True, capture_output=True).stdout
         return re.findall(rb'^target (?:datalayout|triple) = "[^"]*"$', made, re.M)
 
@@ -79,7 +75,7 @@ class Target:
         text = ASKS.sub(b"  br label %run\n", text, count=1)
         found = OF_X86.search(text)
         if found:
-            raise module.Failed(f"the module is of x86-64 alone: {found[0].decode()}")
+            raise toolchain.Failed(f"the module is of x86-64 alone: {found[0].decode()}")
         return MAIN.sub(b"define i32 @tsp_main()", text)
 
     def compile(self, text: bytes, made: Path) -> Path:
@@ -96,8 +92,8 @@ class Target:
     def module(self, given: Path, made: Path) -> Path:
         """The object file of a module that the toolchain made for Linux on x86-64. It takes a minute, so it is kept
         beside the module, under the sum of the text and of clang's words."""
-        text = self.text(text_of(given, made.with_suffix(".x86.ll")))
-        key = hashlib.sha256(repr((module.kit(), self.words, COMPILE, hashlib.sha256(text).digest())).encode()).hexdigest()
+        text = self.text(toolchain.text_of(given, made.with_suffix(".x86.ll")))
+        key = hashlib.sha256(repr((toolchain.kit(), self.words, COMPILE, hashlib.sha256(text).digest())).encode()).hexdigest()
         kept = given.with_name(f"{given.stem}.{self.name}.{key[:16]}.o")
         # (one call compiles it, and others wait for it)
         with open(given.with_name(f"{given.stem}.{self.name}.lock"), "w") as lock:
@@ -120,11 +116,3 @@ TARGETS = {
         Target("node", "wasm64-unknown-unknown", OF_WASM),
     )
 }
-
-
-def text_of(given: Path, text: Path) -> bytes:
-    """A module in LLVM's language, which is left in a file."""
-    words = [module.kit() / "toolchain/bin/clang", "--no-default-config", "--target=x86_64-unknown-linux-gnu"]
-    words += ["-x", "ir", given, "-S", "-emit-llvm", "-Xclang", "-disable-llvm-passes", "-o", text]
-    subprocess.run(words, check=True)
-    return text.read_bytes()

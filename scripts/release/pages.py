@@ -9,11 +9,13 @@ What differs between them is marked in the pages, in comments of Markdown:
                                          and {authors}
     <!-- release .. -->                  only in a release
 
-What scripts/walk prints is between two comments that begin with `printed`.
+    <!-- completions -->                 the folders of completions
+
+What scripts/walk prints is between two comments that begin with `printed`, and a figure of a record of ./check, which scripts/figures
+writes, between two that begin with `record`.
 Commands call `tsp` in a release and `./tsp` in the repository. PATHS has the files that are elsewhere there. The pages of
 DEVELOPERS are about the repository's sources: in a release they are in a folder of their own, and say so. Those of REFEREES
-are read beside the definitions, which a release has; what it hasn't is named as one of the sources. scripts/release imports
-it; tests/repository/released sees how the pages read there.
+are read beside the definitions, which a release has; what it hasn't is named as one of the sources.
 """
 from __future__ import annotations
 
@@ -21,7 +23,7 @@ import posixpath
 import re
 from collections.abc import Iterable
 
-from publisher import Publisher
+from release.publisher import Publisher
 
 # What a release may be without.
 PARTS = ("page",)
@@ -34,15 +36,16 @@ PATHS = {
 # Pages for who changes the code, and where they are in a release's folder of pages.
 DEVELOPERS = {f"docs/{name}.md": f"developers/{name}.md" for name in ("ARCHITECTURE", "BENCH", "DECISIONS", "TESTING", "rattle")}
 DEVELOPERS |= {"CONTRIBUTING.md": "developers/CONTRIBUTING.md", "tests/program/README.md": "developers/tests.md"}
-REFEREES = ("docs/trust.md", "docs/proof.md", "docs/glossary.md")
+REFEREES = ("docs/trust.md", "docs/proof.md")
 NOTE = "Commands and paths of this page are those of the sources at the commit of BUILT-FROM, which aren't in a release."
 
 MARKED = re.compile(r"<!-- (checkout|private|%s) -->(.*?)<!-- end -->" % "|".join(PARTS), re.S)
-PRINTED = re.compile(r"<!-- printed\b.*? -->\n*")
+PRINTED = re.compile(r"<!-- printed\b.*? -->\n*|<!-- record\b.*? -->")
+COMPLETIONS = "<!-- completions -->"
 PUBLIC = re.compile(r"<!-- public\s(.*?)\s*-->", re.S)
 RELEASE = re.compile(r"<!-- release\s(.*?)\s*-->", re.S)
 # Links to files and parts of pages that only the repository has.
-BEYOND = re.compile(r"\[([^\]\n]+)\]\((?:\.\./)*(?:bench|bindings|crates|scripts|tests)/(?![^)]*README\.md)[^)]*\)"
+BEYOND = re.compile(r"\[([^\]\n]+)\]\((?:\.\./)*(?:bench|bindings|crates|scripts|tests)/(?!program/README\.md)[^)]*\)"
                     r"|\[([^\]\n]+)\]\((?:\.\./)*README\.md#quick-start\)")
 PROGRAM = re.compile(r"(?<![\w/.])\./tsp\b")
 LINK = re.compile(r"\]\((?!\w+:)([^)\s#]+)(#[^)\s]*)?\)")
@@ -63,13 +66,16 @@ def relinked(name: str, text: str) -> str:
     return LINK.sub(moved, text)
 
 
-def of_release(name: str, text: str, without: Iterable[str] = (), publisher: Publisher | None = None, date: str = "") -> str:
-    """A page of the repository as a release has it, without these parts. A public one, of this date, has a publisher."""
+def of_release(name: str, text: str, without: Iterable[str] = (), publisher: Publisher | None = None, date: str = "",
+               folders: Iterable[str] = ()) -> str:
+    """A page of the repository as a release of this date has it, without these parts, and with completions in these folders. A
+    public one has a publisher."""
     dropped = {"checkout", *(["private"] if publisher else []), *without}
     words = {} if publisher is None else {**publisher._asdict(), "authors": ", ".join(publisher.authors)}
     text = PUBLIC.sub(lambda found: found[1].format(**words) if publisher else "", text)
-    if publisher and name == "CHANGELOG.md":
-        text = text.replace(", not released\n", f", {date}\n", 1)
+    if name == "CHANGELOG.md" and date:
+        text = text.replace(", not released\n", f", {date}\n" if publisher else f", a private copy of {date}\n", 1)
+    text = text.replace(COMPLETIONS, ", ".join(folders))
     text = MARKED.sub(lambda found: "" if found[1] in dropped else found[2], text)
     text = PRINTED.sub("", RELEASE.sub(lambda found: found[1], text))
     if left := re.search(r"<!--.*", text):

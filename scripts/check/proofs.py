@@ -1,18 +1,20 @@
 """The run of `rt ci` that proves every crate, and its critical path.
 
 `rt ci` proves many crates at once, each after those below it. The critical path of a run is the chain of crates of
-which each began when the one before it had ended. It says what would shorten the run. scripts/check imports it.
+which each began when the one before it had ended. It says what would shorten the run.
 """
 from __future__ import annotations
 
 import re
 import shutil
 import subprocess
+import sys
 import time
 from collections.abc import Callable
 
-from sources import ROOT, crates
-from suites import Outcome, outcome_of
+from build import statements
+from build.sources import ROOT, crates, strange_logic
+from check.suites import Outcome, outcome_of
 
 PROVED = re.compile(r"rt: (\w+) (proved|is kept: .*)$")
 Times = dict[str, float]
@@ -49,7 +51,9 @@ def prove(say: Callable[[str], None], proved: Callable[[str, str], None] = lambd
     begun, lines = time.monotonic(), []
     ends: Times = {}
     kept: set[str] = set()
-    sources = subprocess.run([ROOT / "scripts/mark"], stdout=subprocess.PIPE, text=True, check=True).stdout.split()
+    sources, read = statements.sum_of_both(), time.time()
+    if strange_logic():
+        print("check:", strange_logic(), file=sys.stderr)
     with subprocess.Popen(
         ["rt", "ci"], cwd=ROOT, stdin=subprocess.DEVNULL, stdout=subprocess.PIPE, stderr=subprocess.STDOUT,
         text=True, errors="replace",
@@ -61,9 +65,10 @@ def prove(say: Callable[[str], None], proved: Callable[[str, str], None] = lambd
                 ends[found[1]] = time.monotonic() - begun
                 if found[2] != "proved":
                     kept.add(found[1])
-                proved(found[1], sources[0])
+                proved(found[1], sources)
     outcome = outcome_of("proofs", "".join(lines), ran.returncode)
-    if subprocess.run([ROOT / "scripts/mark", *sources], check=False).returncode:
+    if not statements.mark_proved(sources, read):
+        say("check: the sources have changed while they were proved")
         outcome.failed += 1
     say(told_path(ends, kept, {name: lower for name, (_, lower) in crates().items()}))
     outcome.seconds = time.monotonic() - begun

@@ -1,5 +1,4 @@
-"""The WebAssembly modules of the page and of the package for Node, of modules for LLVM that the toolchain makes. For
-bindings/web/build and bindings/node/build."""
+"""The WebAssembly modules of the page and of the package for Node, made of modules for LLVM."""
 from __future__ import annotations
 
 import shutil
@@ -7,8 +6,8 @@ import subprocess
 import tempfile
 from pathlib import Path
 
-from sources import ROOT
-from targets import TARGETS
+from build.sources import ROOT
+from build.targets import TARGETS
 
 CODE = ROOT / "bindings/javascript/code"
 # The tools, and the packages of Debian that have them.

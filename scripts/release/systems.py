@@ -1,16 +1,12 @@
-"""What a release has for other systems: their tools, what is made of the toolchain's modules, the files, the licences.
-
-`./release --systems` uses it, and tests/systems/releases tries what that makes.
-"""
+"""What a release has for other systems: their tools, what is made of the toolchain's modules, the files, the licences."""
 from __future__ import annotations
 
 import shutil
 import subprocess
-import zipfile
 from dataclasses import dataclass
 from pathlib import Path
 
-from sources import NATIVE, ROOT
+from build.sources import NATIVE, ROOT
 
 CLAIM = """The same proved code, compiled for another system by a way that the toolchain doesn't offer. The toolchain's promise covers
 Linux on x86-64 alone. The host's calls are written by hand and tested under qemu, wine or Node, not on the machines
@@ -33,7 +29,7 @@ class System:
 
     def build(self, folder: Path, program: Path, library: Path) -> None:
         """Makes the program and the libraries of their modules."""
-        words = [ROOT / "bindings/systems/build", self.name, folder, "--program", program, "--library", library]
+        words: list[str | Path] = [ROOT / "bindings/systems/build", self.name, folder, "--program", program, "--library", library]
         subprocess.run(words, check=True)
 
     def compiler(self) -> str:
@@ -58,7 +54,7 @@ SYSTEMS = {
 
 def build_node(folder: Path, program: Path, library: Path, version: str) -> None:
     """Makes the package for Node of the modules."""
-    words = [ROOT / "bindings/node/build", folder, "--program", program, "--library", library, "--version", version]
+    words: list[str | Path] = [ROOT / "bindings/node/build", folder, "--program", program, "--library", library, "--version", version]
     subprocess.run(words, check=True)
 
 
@@ -114,13 +110,3 @@ def for_windows(top: Path) -> None:
         shutil.copy(path, target)
     shutil.rmtree(unix)
     (top / "README.txt").write_text(READ_ME.format(claim=CLAIM))
-
-
-def pack_zip(top: Path, path: Path, when: tuple[int, int, int, int, int, int]) -> None:
-    """The zip of a folder, of which the same files give the same bytes."""
-    with zipfile.ZipFile(path, "w", zipfile.ZIP_DEFLATED, compresslevel=9) as packed:
-        for file in sorted(path for path in top.rglob("*") if path.is_file()):
-            info = zipfile.ZipInfo(f"{top.name}/{file.relative_to(top).as_posix()}", when)
-            info.external_attr = (0o755 if file.suffix == ".exe" else 0o644) << 16
-            info.compress_type = zipfile.ZIP_DEFLATED
-            packed.writestr(info, file.read_bytes())

@@ -1,5 +1,5 @@
-"""What a crate is made of: its sources and those of the crates below it, their sum, and a copy of them. Most scripts of this
-folder import it; it imports none of them."""
+"""What a crate is made of: its sources and those of the crates below it, their sum, and a copy of them. Most modules of
+scripts/ import it; it imports none of them."""
 from __future__ import annotations
 
 import hashlib
@@ -8,7 +8,7 @@ import shutil
 import subprocess
 from pathlib import Path
 
-ROOT = Path(__file__).resolve().parent.parent
+ROOT = Path(__file__).resolve().parents[2]
 PROGRAM, LIBRARY = "tsp_tool", "tsp_c"
 # The parts of a crate that its proof and its code are made of.
 PARTS = ("src", "specs", "proofs")
@@ -36,9 +36,10 @@ def crates() -> dict[str, tuple[str, list[str]]]:
 
 def below(name: str) -> list[str]:
     """The crate and those of the repository that it stands on, each after those that it uses."""
-    named, found = crates(), []
+    named = crates()
+    found: list[str] = []
 
-    def add(crate):
+    def add(crate: str) -> None:
         for lower in named[crate][1]:
             if lower in named:
                 add(lower)

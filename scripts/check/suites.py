@@ -1,5 +1,4 @@
-"""The suites of tests/suites.toml, and their runs beside each other. scripts/check imports it; tests/build/checker tests it, and
-tests/repository/bodies reads the suites by it."""
+"""The suites of tests/suites.toml, and their runs beside each other."""
 from __future__ import annotations
 
 import heapq
@@ -17,7 +16,7 @@ from dataclasses import dataclass, field
 from pathlib import Path
 from queue import SimpleQueue
 
-from sources import ROOT
+from build.sources import ROOT
 
 sys.path.append(str(ROOT / "tests/support"))
 

@@ -1,16 +1,17 @@
 """The built programs of a checkout, each beside a file with the sum of the sources that it was built of.
 
 `./tsp` runs a program where nothing of the sources has changed since the time of that file, which is the
-time at which the build began. `is_current` decides where something has. For the scripts build, check, mark and quick.
+time at which the build began. `is_current` decides where something has.
 """
 from __future__ import annotations
 
 import hashlib
 import os
 import shutil
+import time
 from pathlib import Path
 
-from sources import PROGRAM, ROOT, sum_of
+from build.sources import PROGRAM, ROOT, sum_of
 
 OUT = ROOT / "crates" / PROGRAM / "out"
 PROVED = OUT / PROGRAM
@@ -20,6 +21,11 @@ QUICK = OUT / "quick" / PROGRAM
 def sum_file(program: Path) -> Path:
     """The file with the sums of a program."""
     return Path(f"{program}.sum")
+
+
+def seconds_file(program: Path) -> Path:
+    """The file with the seconds that the build of a program took."""
+    return Path(f"{program}.seconds")
 
 
 def sums(program: Path, sources: str) -> str:
@@ -42,6 +48,7 @@ def put(made: Path, program: Path, sources: str, begun: float) -> None:
     sum_file(program).unlink(missing_ok=True)
     new.replace(program)
     seal(program, sources, begun)
+    seconds_file(program).write_text(f"{time.time() - begun:.0f}\n")
 
 
 def is_current(program: Path, sources: str) -> bool:

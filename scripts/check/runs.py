@@ -1,5 +1,4 @@
-"""A check's runs of suites: their outcomes, which are counted and told, and the programs on which they run. scripts/check says what
-runs when; tests/build/checker tests both."""
+"""A check's runs of suites: their outcomes, which are counted and told, and the programs on which they run."""
 from __future__ import annotations
 
 import re
@@ -11,11 +10,11 @@ from collections.abc import Callable, Iterator
 from functools import partial
 from pathlib import Path
 
-import junit
-import suites
-from program import PROVED
-from sources import ROOT
-from suites import Job, Outcome, Suite
+from build.program import PROVED
+from build.sources import ROOT
+from check import junit, suites
+from check.record import Record
+from check.suites import Job, Outcome, Suite
 
 # How much less of the processors a suite gets beside the proof than it.
 BEHIND = 5
@@ -27,12 +26,26 @@ def say(words: str) -> None:
     print(words, flush=True)
 
 
-class Runs:
-    """Runs of suites, and what came of them. `only` is the word of the cases that run, and `report` the file of JUnit's XML; both may be
-    empty."""
+class Reports:
+    """What is written of a check that has begun: JUnit's XML and a record, each to a file, if it is named."""
 
-    def __init__(self, scratch: Path, only: str, report: str) -> None:
-        self.scratch, self.only, self.report = scratch, only, report
+    def __init__(self, junit_file: str, record_file: str) -> None:
+        self.junit, self.file = junit_file and Path(junit_file).resolve(), record_file and Path(record_file).resolve()
+        self.record = Record() if record_file else None
+
+    def write(self, outcomes: list[Outcome]) -> None:
+        """Writes them."""
+        if self.junit:
+            junit.write(outcomes, self.junit)
+        if self.record and self.file:
+            self.record.write(outcomes, self.file)
+
+
+class Runs:
+    """Runs of suites, and what came of them. `only` is the word of the cases that run, which may be empty."""
+
+    def __init__(self, scratch: Path, only: str, reports: Reports) -> None:
+        self.scratch, self.only, self.reports = scratch, only, reports
         self.outcomes: list[Outcome] = []
         self.built: dict[str, str] = {}
         self.proof_ended = threading.Event()
@@ -52,8 +65,7 @@ class Runs:
 
     def end(self) -> int:
         """Tells the counts; the exit status."""
-        if self.report:
-            junit.write(self.outcomes, Path(self.report))
+        self.reports.write(self.outcomes)
         whole = Outcome("")
         for outcome in self.outcomes:
             whole.passed += outcome.passed
@@ -93,7 +105,7 @@ class Runs:
     def quick(self) -> Path | None:
         """A quick program without a name; None, and a failure, where it isn't made."""
         program, begun = self.scratch / "tsp", time.monotonic()
-        words = ["nice", "-n", "10", str(ROOT / "scripts/quick"), str(program)]
+        words = ["nice", "-n", "10", str(ROOT / "build"), "--quick", str(program)]
         ran = subprocess.run(words, stdin=subprocess.DEVNULL, stdout=subprocess.PIPE, stderr=subprocess.STDOUT, text=True, check=False)
         if ran.returncode == 75:
             made = suites.skipped("quick", "a toolchain that gives a program without a proof")
@@ -105,7 +117,7 @@ class Runs:
 
     def current(self) -> Path:
         """The program that ./tsp runs, which is made where it isn't there."""
-        ran = subprocess.run([ROOT / "scripts/quick"], stdin=subprocess.DEVNULL, stdout=subprocess.PIPE, text=True, check=False)
+        ran = subprocess.run([ROOT / "build", "--quick"], stdin=subprocess.DEVNULL, stdout=subprocess.PIPE, text=True, check=False)
         if ran.returncode:
             say("0 passed, 1 failed")
             sys.exit(1)

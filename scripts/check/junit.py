@@ -1,11 +1,11 @@
-"""The outcomes of ./check as JUnit XML, which build servers read: `./check --junit FILE`. scripts/check imports it."""
+"""The outcomes of ./check as JUnit XML, which build servers read: `./check --junit FILE`."""
 from __future__ import annotations
 
 import re
 import xml.etree.ElementTree as xml
 from pathlib import Path
 
-from suites import Outcome
+from check.suites import Outcome
 
 # What XML has no way to write.
 NO_TEXT = re.compile("[^\t\n\r\x20-\ud7ff\ue000-\ufffd\U00010000-\U0010ffff]")
