@@ -74,10 +74,10 @@ class Circles:
     def home(self, key: Key) -> Key:
         """Where a name is defined, through re-exports of names and of whole modules."""
         source, name = key
-        if ".specs.declared." in source:
-            source = source.split(".TheVariants")[0]
-            return source, source.rpartition(".")[2]
         for _ in range(9):
+            if ".specs.declared." in source:
+                source = source.split(".TheVariants")[0]
+                return source, source.rpartition(".")[2]
             if source not in self.modules:
                 crate, _, last = source.rpartition(".")
                 passing = self.modules.get(f"{crate}.Lib")

@@ -7,7 +7,7 @@ tests/repository/texts tests both.
 from __future__ import annotations
 
 import re
-from collections.abc import Iterator
+from collections.abc import Iterable, Iterator
 from dataclasses import dataclass, field
 from functools import cached_property
 from itertools import takewhile
@@ -70,6 +70,13 @@ def without_parameters(name: str) -> str:
     return name.strip().removeprefix("&").rpartition("::")[2].strip()
 
 
+def own_parameters(type_: str, variables: Iterable[str]) -> list[str]:
+    """The names of a type's parameters but for lifetimes and type variables."""
+    start = type_.find("<")
+    parts = parts_of(type_[start + 1 : end_of(type_, start) - 1]) if start >= 0 else []
+    return [without_parameters(part) for part in parts if not part.startswith("'") and part not in variables]
+
+
 def bounds_in(generics: str) -> dict[str, str]:
     """The parameters of `<..>`, each with its bounds."""
     pairs = [part.partition(":") for part in parts_of(generics) if not part.startswith("'")]
@@ -94,6 +101,7 @@ class Impl:
 
     owner: str = ""  # the type, or the trait that is declared
     trait: str = ""  # the trait of an impl
+    trait_type: str = ""  # that trait with its parameters
     is_trait: bool = False
     self_type: str = ""  # the type with its parameters
     bounds: dict[str, str] = field(default_factory=dict, hash=False)
@@ -253,7 +261,8 @@ class Code:
             else:
                 trait, _, self_type = map(str.strip, head.rpartition(" for "))
             span = item.start(), end_of(self.clear, brace)
-            found.append(Impl(without_parameters(self_type), without_parameters(trait), is_trait, self_type, bounds, span))
+            owner, plain_trait = without_parameters(self_type), without_parameters(trait)
+            found.append(Impl(owner, plain_trait, trait, is_trait, self_type, bounds, span))
         return found
 
     @cached_property

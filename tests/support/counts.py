@@ -1,15 +1,7 @@
-"""The last line with which every test ends: 'N passed, M failed', with ', K skipped' where something was skipped.
-
-usage: python3 tests/support/counts.py FILE
-
-As a program it prints the three numbers of a file's last line. Where that has none, the exit status is 1. counts.sh calls it
-so; runner.py and scripts/suites.py import it.
-"""
+"""The last line with which every test ends: 'N passed, M failed', with ', K skipped' where something was skipped."""
 from __future__ import annotations
 
 import re
-import sys
-from pathlib import Path
 from typing import NamedTuple
 
 LAST_LINE = re.compile(r"(\d+) passed, (\d+) failed(?:, (\d+) skipped)?")
@@ -37,13 +29,3 @@ def counts_in(said: str) -> Counted | None:
 def skips_in(said: str) -> list[str]:
     """The lines of what was skipped."""
     return [line for line in said.splitlines() if line.startswith(SKIPPED)]
-
-
-def main() -> int:
-    counted = counts_in(Path(sys.argv[1]).read_text(errors="replace"))
-    print(*counted or ())
-    return int(counted is None)
-
-
-if __name__ == "__main__":
-    sys.exit(main())

@@ -11,7 +11,7 @@ from functools import cache, cached_property
 from itertools import takewhile
 from pathlib import Path
 
-from code_text import Code, Function, Item
+from code_text import Code, Function, Impl, Item, own_parameters
 
 ROOT = Path(__file__).resolve().parents[2]
 
@@ -19,7 +19,7 @@ ROOT = Path(__file__).resolve().parents[2]
 
 DEFINITION = re.compile(r"^(?:(?:abbrev|unfoldable) )*(?P<public>pub )?(?:(?P<sort>record|data) )?(?!pub |mod |use )(?P<name>[^\s:]+)(?= |$)")
 BEGINS = re.compile(r"(?:abbrev|pub|record|data|unfoldable) |[^\s:(){}]+ :(?: |$)")
-IMPORT = re.compile(r"^(pub )?use (\S+?)(?:\.\{([^}]*)\})?(?: as (\S+))?$")
+IMPORT = re.compile(r"^(?:unfoldable )?(pub )?use (\S+?)(?:\.\{([^}]*)\})?(?: as (\S+))?$")
 NAME = r"[^\W\d]\w*(?:-\w+)*"
 Key = tuple[str, str]  # a module as `use` lines write it, and a name in it
 
@@ -60,7 +60,7 @@ class Definitions:
         self.passed_on: dict[str, Key] = {}
         self.modules_passed_on: dict[str, str] = {}
         for number, line in enumerate(self.lines, 1):
-            if line.startswith(("use ", "pub use ")):
+            if line.startswith(("use ", "pub use ", "unfoldable pub use ")):
                 self.take_import(line, f"{path}:{number}")
 
     def take_import(self, line: str, where: str) -> None:
@@ -217,13 +217,13 @@ class Crate:
 
     def folder_of(self, function: Function) -> str:
         """The folder below proofs/ where the proof of a function is: the place of its file, its type with the trait, its name. Methods of
-        a type are at the place of the type's file, wherever they are."""
+        a type are at the place of the type's file, wherever they are. The prover names a function so, too."""
         impl, place = function.impl, code_at(function.path).place
         if impl.owner and not impl.trait and not impl.is_trait:
             homes = (item.path for item in self.items if item.name == impl.owner and item.kind in ("struct", "enum"))
             place = next((code_at(path).place for path in homes), place)
         module = re.sub(r"(^|/)(lib|main)$", "", place)
-        return "/".join(filter(None, (module, f"{impl.owner}{impl.trait}", function.name)))
+        return "/".join(filter(None, (module, named_impl(impl), function.name)))
 
     def folders_of(self, edit: Edit) -> list[str]:
         """The folders of the functions that an edit changes."""
@@ -241,6 +241,21 @@ class Crate:
     @property
     def edits(self) -> list[Edit]:
         return [Edit(path) for kind in ("must-fail", "wrong-edits") for path in sorted((self.folder / kind).glob("*.edit"))]
+
+
+def named_impl(impl: Impl) -> str:
+    """An impl as the prover names it: `I64Sum` for `Sum` of `i64`, `AnyGives` where any type has it, `FaultFromError` for
+    `From<Error>` of `Fault`, and `Points+PlanePoint` for the methods of `Points<PlanePoint>` alone. What a trait asks for is
+    named by the trait."""
+    if not impl.owner or impl.is_trait:
+        return impl.owner
+    owner = "Any" if impl.owner in impl.bounds else impl.owner[0].upper() + impl.owner[1:]
+    special = "".join(f"+{name}" for name in own_parameters(impl.self_type, impl.bounds))
+    if not impl.trait:
+        return owner + special
+    # (a type's own `Drop` is one of its methods)
+    trait = "" if impl.trait == "Drop" else impl.trait + "".join(own_parameters(impl.trait_type, impl.bounds))
+    return owner + special + trait
 
 
 @cache

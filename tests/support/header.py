@@ -5,6 +5,7 @@ tests/repository/reasons writes that module, and compares it.
 from __future__ import annotations
 
 import re
+from textwrap import fill
 from typing import NamedTuple
 
 # The types of ctypes. A text is bytes of Python; what a call fills in is an address.
@@ -12,6 +13,7 @@ SCALARS = {"uint32_t": "c_uint32", "int64_t": "c_int64", "uint64_t": "c_uint64",
 POINTERS = {"const uint8_t": "c_char_p", "uint8_t": "c_void_p", "int64_t": "c_void_p", "const uint32_t": "c_void_p", "void": "c_void_p"}
 POINTERS |= {"size_t": "POINTER(c_size_t)", "uint32_t": "POINTER(c_uint32)"}
 DECLARED = "bindings/python/yokecairn/_declared.py"
+WIDE = 140  # signs in a line of it
 
 
 class Header(NamedTuple):
@@ -81,8 +83,7 @@ def module_of(header: Header, reasons: list[tuple[str, str, int]]) -> str:
         structs += f"class {name}(Structure):\n    _fields_ = [\n{rows}    ]\n\n\n"
     calls = ""
     for name, (result, given) in header.calls.items():
-        rows = "".join(f"            {kind},\n" for kind in given)
-        calls += f'    "{name}": (\n        {result},\n' + (f"        [\n{rows}        ],\n" if given else "        [],\n") + "    ),\n"
+        calls += fill(f'"{name}": ({result}, [{", ".join(given)}]),', WIDE, initial_indent="    ", subsequent_indent="        ") + "\n"
     used = sorted(set(re.findall(r"\b(?:c_\w+|POINTER)\b", structs + calls)) | {"Structure"})
     return (
         '"""What bindings/c/tsp.h declares, for ctypes, and the reasons for the line `no`.\n\n'

@@ -89,6 +89,14 @@ class Reached(unittest.TestCase):
     def test_library(self) -> None:
         self.assertEqual(self.circles().library(1), [("std.specs.Prelude", "ℕ"), ("std.specs.Prelude", "◌≡◌")])
 
+    def test_names_through_a_prelude(self) -> None:
+        (self.root / "crates/low/specs/Prelude.antt").write_text(
+            "unfoldable pub use Rattle.low.specs.Lengths.{length_of}\n"
+            "pub use Rattle.low.specs.declared.shape.Shape.TheVariants.{Round}\n")
+        found = self.circles()
+        self.assertEqual(found.home(("low.specs.Prelude", "length_of")), ("low.specs.Lengths", "length_of"))
+        self.assertEqual(found.home(("low.specs.Prelude", "Round")), ("low.specs.declared.shape.Shape", "Shape"))
+
     def test_why(self) -> None:
         self.assertEqual([link.rpartition(".")[2] for link in self.circles().why("inner")][1:], ["length_of", "inner"])
 

@@ -5,7 +5,8 @@ import tempfile
 import unittest
 from pathlib import Path
 
-from crates_text import Definitions, Edit, Pair, crates
+from code_text import Code
+from crates_text import Definitions, Edit, Pair, crates, named_impl
 from planted import plant
 
 
@@ -34,6 +35,13 @@ class Texts(unittest.TestCase):
         self.assertEqual(self.shapes.aliases, {"these": "low.specs.Sides"})
         self.assertEqual(list(self.shapes.passed_on), ["sides_of as sides"])
 
+    def test_names_passed_on(self) -> None:
+        path = self.root / "Prelude.antt"
+        path.write_text("pub use Rattle.low.specs.Sides.{sides_of}\nunfoldable pub use Rattle.low.specs.Sides.{square}\n")
+        found = Definitions(path)
+        self.assertEqual(found.passed_on, {"sides_of": ("low.specs.Sides", "sides_of"), "square": ("low.specs.Sides", "square")})
+        self.assertEqual(found.uses, found.passed_on)
+
     def test_strange_imports_stop(self) -> None:
         path = self.root / "Strange.antt"
         path.write_text("use two words\n")
@@ -52,6 +60,16 @@ class Texts(unittest.TestCase):
 
     def test_head(self) -> None:
         self.assertEqual(self.shapes.head, "What shapes have: their areas. For all shapes.")
+
+    def test_names_of_impls(self) -> None:
+        path = self.root / "crates/low/src/impls.rt"
+        heads = {"impl Sum for i64": "I64Sum", "impl<R: Read> Gives for R": "AnyGives", "impl From<Error> for Fault": "FaultFromError",
+                 "impl<'a> Points<'a, Plane>": "Points+Plane", "impl<'a, P: Place> Points<'a, P>": "Points", "trait Sum": "Sum",
+                 "impl<P> Costs for Points<'_, P>": "PointsCosts", "impl fmt::Display for Fault": "FaultDisplay",
+                 "impl Drop for Draft": "Draft"}
+        path.write_text("".join(f"{head} {{}}\n" for head in heads))
+        self.assertEqual([named_impl(impl) for impl in Code(path).impls], list(heads.values()))
+        path.unlink()
 
     def test_edits(self) -> None:
         edit = Edit(self.root / "crates/low/must-fail/area.edit")

@@ -95,27 +95,25 @@ class Walks(unittest.TestCase):
         walk = self.walk()
         self.assertEqual({function.path for _, function in walk.flat()}, {function.path for function in walk.calls})
 
-    def test_new_rows(self) -> None:
-        walk = self.walk()
-        self.assertEqual(walk.new_rows({function for _, function in walk.flat()}), [])
-        [row] = walk.new_rows({function for _, function in walk.flat() if function.name != "picked"})
-        self.assertEqual((row.function.name, [it.function.name for it in row.below]), ("main", ["picked"]))
+    def test_outline(self) -> None:
+        walk = self.walk(takes={"Pick": ["Round"]})
+        self.assertEqual([(depth, it.shown) for depth, it in walk.flat(walk.outline(0))], [(0, "main")])
+        self.assertEqual(list(walk.flat(walk.outline(1))), list(walk.flat()))
 
     def test_what_is_printed(self) -> None:
         walk = self.walk()
         self.assertEqual(page.lines_of(walk, walk.rows)[1], "  Circle::of  low/shape    A circle")
         self.assertEqual(page.drawing(self.world.crates), ["    top", "    middle", "    low"])
-        self.assertEqual(page.nearest_needs(self.world.crates, "top"), ["middle"])
-        self.assertIn("| low | Shapes, and what they have in common |  | 2 | 9 |", page.table_of_crates(self.world.crates))
+        self.assertIn("- low: Shapes, and what they have in common", page.list_of_crates(self.world.crates))
 
     def test_page(self) -> None:
-        walk, names = self.walk(), ["drawing", "crates", "rule", "figures", "all"]
+        walk, names = self.walk(), ["drawing", "crates", "figures"]
         text = "\n".join(f"{name}:\n<!-- printed {name} -->\nas it was\n<!-- printed -->\n" for name in names)
         written = page.printed_into(text, self.world, [walk])
         self.assertNotIn("as it was", written)
         self.assertEqual(page.printed_into(written, self.world, [walk]), written)
         with self.assertRaises(SystemExit):
-            page.printed_into(text.replace("printed rule", "printed rules"), self.world, [walk])
+            page.printed_into(text.replace("printed figures", "printed figure"), self.world, [walk])
 
 
 if __name__ == "__main__":
