@@ -7,14 +7,14 @@
 namespace potentials {
 namespace {
 constexpr const char* kFooter =
-    "The potentials aren't proved here. These decide what they are worth:\n"
+    "The potentials aren't proved here. These commands judge them:\n"
     "  tsp bound INSTANCE --potentials POTENTIALS\n"
     "  tsp check INSTANCE TOUR --potentials POTENTIALS\n"
     "\n"
-    "Exit status: 0 the files are written, 2 a fault, 130 they are written after SIGINT, 143 after SIGTERM";
+    "Exit status: 0 files written, 2 something was wrong, 130 files written after SIGINT, 143 after SIGTERM";
 
 void declare(CLI::App& app, Options& options) {
-  certify::declare_files(app, options, "a tour whose gap is printed, and where --tour-out begins");
+  certify::declare_files(app, options, "a tour, whose gap is printed, and with which --tour-out begins");
   app.add_option("-o", options.potentials, "where the potentials are written")
       ->required()
       ->type_name("POTENTIALS");
@@ -26,12 +26,15 @@ void declare(CLI::App& app, Options& options) {
       ->check(CLI::Range(0L, 100000000000L));
   CLI::Option* seconds =
       app.add_option("--seconds", options.limit.seconds,
-                     "seconds of a clock, from which steps and kicks are chosen once the first ones are timed")
+                     "seconds to run by the clock; the first steps and kicks are timed to see how many fit")
           ->type_name("S")
           ->check(CLI::PositiveNumber);
   app.add_option_function<double>(
-         "--cpu-seconds", [&options](double most) { options.limit = {most, true}; },
-         "processor seconds, in place of --seconds")
+         "--cpu-seconds",
+         [&options](double most) {
+           options.limit = {most, true};
+         },
+         "processor seconds, instead of --seconds")
       ->type_name("S")
       ->check(CLI::PositiveNumber)
       ->excludes(seconds);
@@ -42,7 +45,7 @@ void declare(CLI::App& app, Options& options) {
 
 std::variant<Options, Help> parse_options(int count, const char* const* words) {
   Options options;
-  CLI::App app("Makes potentials of a TSP, or duals of an ATSP, and a tour of a TSP", "tsp-potentials");
+  CLI::App app("Makes potentials for a TSP, or duals for an ATSP, and a tour for a TSP", "tsp-potentials");
   declare(app, options);
   if (const std::optional<Help> help = certify::take_words(app, count, words)) return *help;
   const std::vector<std::optional<std::string>> written{options.potentials, options.tour_out, options.log};

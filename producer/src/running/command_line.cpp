@@ -9,7 +9,7 @@
 
 namespace certify {
 void declare_files(CLI::App& app, CommonOptions& options, const char* why) {
-  app.set_help_flag("-h,--help", "this text");
+  app.set_help_flag("-h,--help", "print this text");
   app.add_option("INSTANCE", options.instance, "a file of TYPE TSP or ATSP")->required();
   app.add_option("TOUR", options.tour, why);
 }
@@ -17,11 +17,13 @@ void declare_files(CLI::App& app, CommonOptions& options, const char* why) {
 void declare_common(CLI::App& app, CommonOptions& options) {
   app.add_option("--tour-out", options.tour_out, "where the shortest tour that was found is written")
       ->type_name("TOUR");
-  app.add_option("--seed", options.seed, "of the choices by chance")->type_name("N")->capture_default_str();
+  app.add_option("--seed", options.seed, "the seed of all random choices")
+      ->type_name("N")
+      ->capture_default_str();
   app.add_option(
          "--tsp", options.tsp,
-         "the program tsp: a path, or a name on PATH; else tsp beside this program, then tsp on PATH, then tsp "
-         "in the two folders above this program's")
+         "the program tsp: a path, or a name on PATH. Without this option, tsp is looked for beside this "
+         "program, on PATH, and in the two folders above")
       ->type_name("PROGRAM");
   app.add_option("--log", options.log, "where each event is written as a line of JSON")->type_name("FILE");
 }
@@ -32,7 +34,7 @@ std::optional<Help> take_words(CLI::App& app, int count, const char* const* word
   } catch (const CLI::CallForHelp&) {
     return Help{app.help()};
   } catch (const CLI::ParseError& fault) {
-    throw Refusal(std::string(fault.what()) + "; --help tells of all words");
+    throw Refusal(std::string(fault.what()) + "; --help lists all options");
   }
   return std::nullopt;
 }
