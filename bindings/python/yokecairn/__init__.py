@@ -1,4 +1,4 @@
-"""Reads, writes, weighs and judges files of TSPLIB 95 by a proved library.
+"""Reads, writes and judges TSPLIB 95 files through a proved library.
 
     import yokecairn
 
@@ -7,9 +7,9 @@
     report = yokecairn.check("harbour.tsp", "harbour.tour", potentials="harbour.potentials")
     report.optimal
 
-It has the shape of the package tsplib95 where files are loaded, rendered, weighed and traced. The library
-is proved: whether a text is a file, its canonical text, each cost, length, bound and verdict. This package
-and ctypes aren't, and so not how a canonical text becomes Python's values.
+Files are loaded and rendered, and costs and lengths computed, by calls with the names of tsplib95's. The library is
+proved: whether a text is a file, its canonical text, and each cost, length, bound and verdict. The package isn't, nor
+are ctypes and the way in which a canonical text becomes Python values.
 """
 
 from . import _library

@@ -1,15 +1,15 @@
-"""The program's verbs: python -m yokecairn show, convert, check, bound and compare, and some of its own: solution,
-table, publish and verify.
+"""The command line: `python -m yokecairn VERB`, with the program's verbs show, convert, check, bound and compare, and with
+solution, table, publish and verify.
 
-`solution` writes a solution of another program as a file of TYPE TOUR. `check` and `compare` read routes of CVRPLIB and
-OR-Tools and JSON directly, and with `--foreign` each form of another program; `--no-foreign` reads none, as the program
-`tsp` does. `compare` also writes tables and JSON, `table` has several solvers and instances. The others write what the
-program `tsp` writes, and end with its statuses. This differs:
+`solution` turns another program's solution into a file of TYPE TOUR. `check` and `compare` also read the forms of CVRPLIB,
+OR-Tools and JSON; with `--foreign` they read every form, and with `--no-foreign` only TYPE TOUR, like the program `tsp`.
+`compare` also writes tables and JSON, and `table` compares several solvers on many instances. The other verbs write what
+`tsp` writes, and end with its statuses, with these differences:
 
 - Each file is read whole before it is judged.
 - The texts for a refused command line, for help and for the version are Python's.
-- An explanation of standard input has its text.
-- The line of a fault that isn't explained goes on with the path and the wrong word, or with the system's words.
+- An explanation of standard input shows its text.
+- If a fault isn't explained, its line ends in the path and the wrong word, or in the system's message.
 """
 
 import argparse
@@ -29,31 +29,31 @@ from .solution import is_tsplib, length_of, shape_of, solution_text, told_by
 
 # What is said of each verb, its files, and its options.
 _VERBS: Dict[str, Tuple[str, Tuple[str, ...], Tuple[str, ...]]] = {
-    "show": ("say what a file contains", ("file",), ()),
-    "convert": ("write a file anew, with its weights in a layout", ("file",), ("--layout",)),
+    "show": ("print what a file contains", ("file",), ()),
+    "convert": ("write the canonical text of a file, with its matrix in a layout", ("file",), ("--layout",)),
     "check": (
-        "judge a tour, or routes, of an instance",
+        "judge a tour or routes for an instance",
         ("file", "solution"),
         ("--potentials", "--branches", "--length", "--strict", "--foreign", "--no-foreign", "--first", "--no-claims"),
     ),
-    "bound": ("bound all tours of an instance by a certificate", ("file",), ("--potentials", "--branches", "--strict")),
+    "bound": ("compute a bound for an instance from a certificate", ("file",), ("--potentials", "--branches", "--strict")),
     "compare": (
-        "judge many solutions of an instance, a line for each",
+        "judge many solutions of an instance, and print a line for each",
         ("file", "solutions"),
         ("--potentials", "--branches", "--strict", "--best", "--tsv", "--json", "--summary", "--foreign", "--no-foreign", "--no-claims"),
     ),
     "table": (
-        "judge solvers on many instances, and put them beside each other",
+        "compare solvers on many instances in a table",
         ("folders",),
         ("--best", "--csv", "--json", "--markdown", "--latex", "--html", "--jobs", "--no-claims"),
     ),
     "publish": (
-        "put a result into a new folder, with all that a reader needs to check it",
+        "put a result into a new folder, with everything that a reader needs to check it",
         ("folder", "file", "solution"),
         ("--potentials", "--branches", "--length", "--no-claims"),
     ),
-    "verify": ("check a published folder by its files alone", ("folder",), ()),
-    "solution": ("write a solution of another program as a file of TYPE TOUR", ("file",), ("--dimension", "--first", "--routes")),
+    "verify": ("check a published folder, using only its files", ("folder",), ()),
+    "solution": ("turn another program's solution into a file of TYPE TOUR", ("file",), ("--dimension", "--first", "--routes")),
 }
 _FILES: Dict[str, Dict[str, Any]] = {
     "file": {"metavar": "F", "help": "the instance; - is standard input"},
@@ -71,26 +71,26 @@ _OTHERS: Dict[str, str] = {
 }
 _OPTIONS: Dict[str, Dict[str, Any]] = {
     "--explain": {"action": "store_true", "help": "explain a fault or a no"},
-    "--layout": {"metavar": "L", "help": "the layout's word"},
-    "--potentials": {"metavar": "P", "help": "a file of potentials"},
-    "--branches": {"metavar": "B", "help": "a file of branches"},
-    "--length": {"metavar": "L", "help": "claim the length L; another one is a no"},
-    "--strict": {"action": "store_true", "help": "a no where the instance has an unknown keyword, after all other reasons"},
-    "--no-foreign": {"dest": "foreign", "action": "store_false", "help": "T has to be of TYPE TOUR, as for tsp"},
-    "--foreign": {"action": "store_true", "default": None, "help": "T may have any form of another program, as a list of nodes"},
-    "--first": {"metavar": "0|1", "type": int, "choices": (0, 1), "help": "the number of a list's first node; of routes in JSON 0 reads customers"},
-    "--routes": {"action": "store_true", "default": None, "help": "a single route leaves the depot out"},
-    "--no-claims": {"action": "store_true", "help": "leave the length that another program's file claims"},
-    "--best": {"metavar": "BEST", "help": "the best-known length, or a file of lines NAME LENGTH"},
-    "--tsv": {"action": "store_true", "help": "write a table with a tab between its columns"},
-    "--json": {"action": "store_true", "help": "write JSON, when all are judged"},
+    "--layout": {"metavar": "L", "help": "the layout of the matrix"},
+    "--potentials": {"metavar": "P", "help": "a potentials file"},
+    "--branches": {"metavar": "B", "help": "a branches file"},
+    "--length": {"metavar": "L", "help": "claim the length L; a solution of another length is rejected"},
+    "--strict": {"action": "store_true", "help": "reject an instance with an unknown keyword"},
+    "--no-foreign": {"dest": "foreign", "action": "store_false", "help": "read only TYPE TOUR, like tsp"},
+    "--foreign": {"action": "store_true", "default": None, "help": "read every form of solution, such as a list of nodes"},
+    "--first": {"metavar": "0|1", "type": int, "choices": (0, 1), "help": "whether nodes count from 0 or from 1; 0 for routes in JSON that list customers"},
+    "--routes": {"action": "store_true", "default": None, "help": "read a single line 0 -> .. -> 0 as a route, not a tour"},
+    "--no-claims": {"action": "store_true", "help": "ignore the length that another program's file claims"},
+    "--best": {"metavar": "BEST", "help": "the best-known length, or a file with lines NAME LENGTH"},
+    "--tsv": {"action": "store_true", "help": "write a table with tabs between its columns"},
+    "--json": {"action": "store_true", "help": "write JSON once all solutions are judged"},
     "--csv": {"action": "store_true", "help": "write a row for each instance and solver"},
-    "--markdown": {"action": "store_true", "help": "write a table of Markdown"},
-    "--latex": {"action": "store_true", "help": "write a tabular of LaTeX"},
+    "--markdown": {"action": "store_true", "help": "write a Markdown table"},
+    "--latex": {"action": "store_true", "help": "write a LaTeX tabular"},
     "--html": {"action": "store_true", "help": "write HTML"},
-    "--jobs": {"metavar": "N", "type": int, "help": "how many processes judge side by side"},
-    "--summary": {"action": "store_true", "help": "write what came of all to standard error, in one line"},
-    "--dimension": {"metavar": "N", "type": int, "help": "the instance's, for routes of LKH-3"},
+    "--jobs": {"metavar": "N", "type": int, "help": "the number of processes"},
+    "--summary": {"action": "store_true", "help": "write a one-line summary to standard error"},
+    "--dimension": {"metavar": "N", "type": int, "help": "the instance's DIMENSION, for LKH-3's routes"},
 }
 
 

@@ -1,5 +1,4 @@
-"""The calls `check`, `bound` and `show`, and `Report`, the verdict on a solution or on a certificate alone; and `check_many`, many
-checks at once, over the processors of one machine."""
+"""The calls `check`, `bound`, `show` and `check_many`, and `Report`, the verdict on a solution or on a certificate alone."""
 
 import dataclasses
 import multiprocessing
@@ -32,30 +31,30 @@ _NUMBERS = ("nodes", "routes", "least", "length", "bound", "gap")
 
 @dataclass(frozen=True)
 class Report:
-    """What a check says. It is true exactly where the verdict is a yes.
+    """What a check found. It is true if and only if the verdict is `yes`.
 
     Attributes:
-        yes: whether the verdict is a yes.
+        yes: whether the verdict is `yes`.
         type: the TYPE of the instance.
-        nodes: how many nodes it has.
-        not_judged: the unknown keywords of the instance, which the verdict doesn't speak of.
+        nodes: the number of its nodes.
+        not_judged: the unknown keywords of the instance, which the verdict ignores.
         length: the length of the tour, or of all routes.
-        bound: a number that no tour of the instance is below, or no routes that each have a customer.
-        gap: the length less the bound: 0 where the tour is optimal.
-        optimal: whether the length is the bound.
-        no_tour: whether the certificate shows that the instance has no tour, or no routes; `bound` is None then.
-        routes: how many routes there are.
-        least: how many routes there have to be at least, by their capacity.
-        reason: why the verdict is a no, as `RepeatedNode`.
+        bound: a lower bound: no tour of the instance is shorter, or no set of routes that each have a customer.
+        gap: the length minus the bound; 0 if the solution is optimal.
+        optimal: whether the length equals the bound.
+        no_tour: whether the certificate shows that the instance has no tour, or no routes; `bound` is then None.
+        routes: the number of routes.
+        least: the least number of routes that the capacity allows.
+        reason: the reason for `no`, such as `RepeatedNode`.
         numbers: the numbers of the reason.
         text: the whole report, as the program prints it.
-        explanation: what `tsp --explain` tells of it, where that was asked for.
-        rounded: whether every distance along an accepted solution is 0 or 1, though its points differ.
-            TSPLIB rounds distances to whole numbers, so of points in a unit square such a report says
-            little: multiply the coordinates, as `Problem.from_points` does by `scale`.
-        claimed: the length that was claimed: by `length`, or by the file of the solution itself.
+        explanation: the explanation that `tsp --explain` prints, if you asked for it.
+        rounded: whether every distance along an accepted solution is 0 or 1, although its points differ.
+            TSPLIB rounds distances to whole numbers, so for points in a unit square such a report means
+            little. Multiply the coordinates, for example with `scale` of `Problem.from_points`.
+        claimed: the claimed length, from `length` or from the solution's file.
 
-    Each is None where the report doesn't have it.
+    An attribute that the report lacks is None.
     """
 
     yes: bool
@@ -86,39 +85,39 @@ class Report:
         return f"<Report {verdict}: {' '.join([self.type, *words])}{' optimal' * self.optimal}>"
 
     def as_dict(self) -> Dict[str, Any]:
-        """The attributes by their names, `gap_percent` too, as numbers, texts and lists that `json.dumps` takes."""
+        """The attributes and `gap_percent` by their names, as values that `json.dumps` takes."""
         found = dataclasses.asdict(self)
         plain = {name: list(it) if isinstance(it, tuple) else it for name, it in found.items()}
         return {**plain, "gap_percent": self.gap_percent}
 
     @property
     def gap_percent(self) -> Optional[float]:
-        """The gap in percent of the bound; None where there is no bound above 0."""
+        """The gap as a percentage of the bound; None if there is no bound above 0."""
         return None if self.bound is None or self.bound <= 0 else self.percent_over(self.bound)
 
     def percent_over(self, length: int) -> Optional[float]:
-        """By how many percent the length is above another one, as a best-known length; None without one."""
+        """By how many percent the length exceeds another one, such as a best-known length; None if there is no length."""
         if self.length is None or length <= 0:
             return None
         return 100 * (self.length - length) / length
 
     def real_length(self, scale: int, rounding: str = "nearest") -> Optional[Tuple[Decimal, Decimal]]:
-        """The limits of the length in real numbers, where the instance is one whose coordinates or weights were
-        multiplied by `scale` and then rounded to whole numbers: `(least, most)`; None where there is no length.
+        """The least and the largest real length that the solution can have, if the instance's coordinates or weights were
+        multiplied by `scale` and its distances rounded to whole numbers: `(least, most)`. None if there is no length.
 
-        Each distance is rounded by at most a half, so a tour of n edges is within n/2 units of 1/scale. With
-        `rounding="up"`, as of CEIL_2D and ATT, each is above the real one by less than 1, and with "down", as
-        `from_points(.., rounding="dimacs")` has them, below it by less than 1. The limits are exact
-        where they have at most 30 digits, and else the next number outside.
+        Each distance is rounded by at most a half, so a tour with n edges is within n/2 units of 1/scale. With
+        `rounding="up"`, as for CEIL_2D and ATT, each distance is above the real one by less than 1, and with
+        `rounding="down"`, as for `from_points(.., rounding="dimacs")`, below it by less than 1. The limits are exact
+        if they have at most 30 digits, and otherwise rounded outwards.
 
         Raises:
-            TypeError: the scale is no whole number.
-            ValueError: it is below 1, or there is no such rounding.
+            TypeError: the scale isn't a whole number.
+            ValueError: the scale is below 1, or the rounding is unknown.
         """
         return None if self.length is None else self._real(self.length, scale, rounding)
 
     def real_bound(self, scale: int, rounding: str = "nearest") -> Optional[Decimal]:
-        """A real number that no tour is below, where the distances are as in `real_length`; None without a bound."""
+        """A lower bound in real numbers, for distances as in `real_length`; None if there is no bound."""
         return None if self.bound is None else self._real(self.bound, scale, rounding)[0]
 
     def _real(self, length: int, scale: int, rounding: str) -> Tuple[Decimal, Decimal]:
@@ -214,22 +213,24 @@ def check(
     claims: bool = True,
     strict: bool = False,
 ) -> Report:
-    """Judges a tour, or routes, of an instance.
+    """Judges a tour or routes for an instance.
 
-    Each file is a path, the bytes of its text, or a `Problem`. The solution may also be a list or an array of nodes, for
-    routes a list of such lists, or an object: PyVRP's `Solution` or `Result`, OR-Tools' `(manager, routing, assignment)`, or
-    a networkx graph that is the tour. With a certificate, `potentials` or `branches`, the report has a
-    bound. With `length`, another length than this is a no. With `explain`, a no is explained, and a
-    yes whose solution has a comment with another length. With `strict`, an instance with an unknown keyword, one of
-    `Report.not_judged`, is a no after all other reasons: `NotJudged`.
+    Each file is a path, the bytes of its text, or a `Problem`. The solution may also be a list or an array of nodes, a
+    list of such lists for routes, or an object: PyVRP's `Solution` or `Result`, OR-Tools' `(manager, routing, assignment)`,
+    or a networkx graph that is the tour.
 
-    A solution of CVRPLIB (`.sol`), OR-Tools or in JSON is read as `read_solution` reads it; with `foreign` each form
-    is, and with `foreign=False` none. Then the length that it claims is taken as `length`, where none is named;
-    `claims=False` leaves it.
+    With a certificate, `potentials` or `branches`, the report has a bound. With `length`, a solution of another length is
+    rejected. With `explain`, the report explains a `no`, and a `yes` whose solution has a comment with another length. With
+    `strict`, an instance with an unknown keyword (one of `Report.not_judged`) is rejected with `NotJudged`, after all other
+    reasons.
+
+    A solution in the form of CVRPLIB (`.sol`), OR-Tools or JSON is read as `read_solution` reads it. With `foreign=True`
+    every form is read, and with `foreign=False` only TYPE TOUR. If such a solution claims a length, this is used as
+    `length`, unless you pass `length` or `claims=False`.
 
     Raises:
-        Fault: a text is no file, or the first is of the wrong kind.
-        SolutionError: the solution is of another program, and isn't read.
+        Fault: a text isn't a valid file, or the first file is of the wrong kind.
+        SolutionError: the other program's solution can't be read.
         OSError: a path can't be read.
         MemoryError: out of memory.
     """
@@ -313,13 +314,13 @@ def bound(
     explain: bool = False,
     strict: bool = False,
 ) -> Report:
-    """The bound that a certificate gives to the tours or the routes of an instance.
+    """The bound that a certificate gives for an instance, without a solution.
 
     Each file is a path, the bytes of its text, or a `Problem`. `strict` is as in `check`.
 
     Raises:
-        Fault: a text is no file, or the first is of the wrong kind. The certificate is file 2.
-        TypeError: neither potentials nor branches are given, or both.
+        Fault: a text isn't a valid file, or the first file is of the wrong kind. The certificate is file 2.
+        TypeError: neither or both of potentials and branches are given.
         OSError: a path can't be read.
         MemoryError: out of memory.
     """
@@ -345,10 +346,10 @@ def bound_of(
 
 
 def show(file: Source) -> str:
-    """What `tsp show` prints of a file.
+    """What `tsp show` prints for a file.
 
     Raises:
-        Fault: the text is no file.
+        Fault: the text isn't a valid file.
         OSError: the path can't be read.
         MemoryError: out of memory.
     """
@@ -414,14 +415,14 @@ def check_many(
     processes: bool = False,
     progress: Optional[Progress] = None,
 ) -> List[Outcome]:
-    """Checks many solutions at once, and returns what comes of each, in the order of the jobs.
+    """Checks many solutions at once, and returns a report or an exception for each, in the order of the jobs.
 
-    A job has the parts of `check`: a `Job`, a tuple of them in order, or a mapping by their names. What
-    comes of it is a `Report`, or the exception that `check` raised: one bad job doesn't stop the others.
+    A job has the arguments of `check`, as a `Job`, as a tuple in this order, or as a mapping by their names. Its outcome
+    is a `Report`, or the exception that `check` raised: one bad job doesn't stop the others.
 
-    `workers` are as many as there are processors where they aren't named. They are threads, since a check
-    runs without Python's lock. With `processes` they are processes of their own, which start slower and
-    also make texts of lists of nodes side by side.
+    `workers` is the number of threads, by default the number of processors. Checks run in parallel, because they
+    don't hold Python's lock. With `processes=True` the workers are processes, which start more slowly, but also turn lists
+    of nodes into texts in parallel.
 
     `progress(done, all, outcome)` is called after each check, in the order in which they end.
     """
