@@ -47,14 +47,14 @@ _MOST_ROWS = 20  # of the table in a notebook
 
 @dataclass(frozen=True)
 class Basis:
-    """What is known of all solutions, before any is read.
+    """What all solutions have in common, known before any is read.
 
     Attributes:
         type, nodes, not_judged: as in a `Report`.
-        least: how many routes there have to be at least, by their capacity; None for tours.
-        bound: a number that no tour of the instance is below; None without a certificate.
+        least: the least number of routes that the capacity allows; None for tours.
+        bound: a lower bound on the length of every tour; None without a certificate.
         no_tour: whether the certificate shows that the instance has no tour.
-        reason, numbers: why no solution is accepted: against the instance or the certificate; else None.
+        reason, numbers: a reason against the instance or the certificate, so that no solution is accepted; else None.
     """
 
     type: str
@@ -284,16 +284,16 @@ def _rank(outcome: Outcome) -> Tuple[bool, int]:
 
 
 class Comparison(Sequence[Outcome]):
-    """What comes of each solution of one instance, in order: its report, or the exception that its check raised.
+    """The outcome for each solution of one instance, in order: its report, or the exception that its check raised.
 
-    Where the basis has a reason, no solution was read, and there is nothing in it. As a text, and in a
-    notebook, it is a table.
+    If the basis has a reason, no solution was read, and the sequence is empty. Printed, and in a notebook, it is a
+    table.
 
     Attributes:
-        basis: what is known of all solutions.
+        basis: what all solutions have in common.
         instance: the path of the instance, or its NAME.
-        names: the name of each solution: its path, its name in a mapping, or `#` and its place from 1 on.
-        best: the best-known length, where one is given.
+        names: the name of each solution: its path, its name in a mapping, or `#` and its place, counted from 1.
+        best: the best-known length, if one is given.
     """
 
     def __init__(self, basis: Basis, instance: str, best: Optional[int] = None) -> None:
@@ -514,21 +514,21 @@ def compare(
     explain: bool = False,
     progress: Optional[Progress] = None,
 ) -> Comparison:
-    """Judges many solutions of one instance, and puts them beside each other.
+    """Judges many solutions of one instance, and compares them.
 
-    Each solution is what `check` takes: a path, the bytes of its text, a `Problem`, or a list of nodes, for
-    routes a list of such lists. `solutions` may map names to them. The instance and the certificate,
-    `potentials` or `branches`, are read once. `best` is the best-known length, or where it is found: lengths
-    by the NAME of instances, or a file of lines `NAME LENGTH`. `foreign` and `claims` are as in `check`.
-    With `strict`, an instance with an unknown keyword is the reason against all solutions, and none is read.
+    Each solution is what `check` takes: a path, the bytes of its text, a `Problem`, a list of nodes, or for routes a
+    list of such lists. `solutions` may map names to them. The instance and the certificate, `potentials` or
+    `branches`, are read once. `best` is the best-known length, a mapping from NAMEs to lengths, or a file with lines
+    `NAME LENGTH`. `foreign` and `claims` are as in `check`. With `strict`, an instance with an unknown keyword is a
+    reason against all solutions, and none is read.
 
     `progress(done, name, outcome)` is called after each solution, in order.
 
     Raises:
-        Fault: the instance or the certificate is no file, or the instance is of the wrong kind. The
-            certificate is file 2. A faulty solution raises nothing: its exception is in its place.
+        Fault: the instance or the certificate isn't a valid file, or the instance is of the wrong kind. The
+            certificate is file 2. A faulty solution raises nothing: its exception takes its place.
         OSError: the instance or the certificate can't be read.
-        ValueError: there is no best-known length of the instance.
+        ValueError: there is no best-known length for the instance.
         MemoryError: out of memory.
     """
     judge = Judge.of(instance, potentials, branches, foreign, claims, strict)

@@ -58,11 +58,11 @@ class Standing(NamedTuple):
 
 
 class Table:
-    """What comes of each solver on each instance. As a text, and in a notebook, it is a table of lengths.
+    """The results of each solver on each instance. Printed, and in a notebook, it is a table of lengths.
 
-    A solver may have several runs on an instance: its length there is the shortest accepted one. A rank is 1 for the
-    shortest length of an instance; equal lengths share it. A solver without an accepted solution has the last rank: the
-    number of solvers.
+    If a solver has several runs on an instance, its length is the shortest accepted one. The shortest length on an
+    instance has rank 1, and equal lengths share a rank. A solver without an accepted solution has the last rank, which is
+    the number of solvers.
 
     Attributes:
         instances, solvers: their names, in order.
@@ -486,14 +486,14 @@ def _solvers_in(folder: _Path, is_top: bool, instances: Set[_Path]) -> Dict[_Pat
 
 
 def find(folders: Iterable[Path], best: Optional[Path] = None) -> Contest:
-    """What these folders and all below hold.
+    """The instances and solutions in these folders and their subfolders.
 
     An instance is a file `NAME.tsp`, `NAME.atsp` or `NAME.vrp`; `NAME.potentials` or `NAME.branches` in its folder is its
     certificate. A solution is a file `NAME.tour`, `.sol`, `.json` and so on, or `NAME.RUN.tour`, and its solver is the
-    name of its folder. `best` is a file that is no solution.
+    name of its folder. The file `best` isn't a solution.
 
     Raises:
-        ValueError: a file has a name that belongs to nothing, or two have the same.
+        ValueError: a file's name matches no instance, or two files have the same name.
     """
     contest = Contest()
     tops = [_Path(folder) for folder in folders]
@@ -515,9 +515,9 @@ def find(folders: Iterable[Path], best: Optional[Path] = None) -> Contest:
 
 
 def listed_in(path: Path) -> List[Entry]:
-    """The entries of a list. A line has, with tabs between them: the instance, the solver, the solution, and where there
-    is one the certificate as `potentials=PATH` or `branches=PATH`. Empty lines, and those that begin with #, are skipped.
-    Paths are relative to the folder of the list.
+    """The entries of a list. A line names the instance, the solver, the solution and, if there is one, the certificate as
+    `potentials=PATH` or `branches=PATH`, separated by tabs. Empty lines and lines that begin with # are skipped. Paths are
+    relative to the list's folder.
 
     Raises:
         ValueError: a line has another form.
@@ -575,20 +575,18 @@ def table(
     claims: bool = True,
     progress: Optional[Progress] = None,
 ) -> Table:
-    """Judges the solutions of several solvers of many instances, some of them at once.
+    """Judges the solutions of several solvers on many instances, some of them at once.
 
-    `entries` are folders, in which instances and solutions are found as `find` says, lists as `listed_in` reads them, or
-    each an `Entry`. The table has a row for each instance and a column for each solver of the folders, also where there is
-    no solution. Solutions may have the form of another program, and the length that one claims is taken; `claims=False`
-    leaves it. `best` has best-known lengths: by the NAME of instances, or a file of lines `NAME LENGTH`. `workers` are as
-    many as there are processors where they aren't named: threads, or with `processes` processes of their own, as in
-    `check_many`.
+    Each of `entries` is a folder, searched as `find` says, a list, read as `listed_in` says, or an `Entry`. The table has a
+    row for each instance and a column for each solver, even if there is no solution. Solutions may be in the form of
+    another program. The length that such a solution claims is checked, unless you pass `claims=False`. `best` maps NAMEs
+    to best-known lengths, or is a file with lines `NAME LENGTH`. `workers` and `processes` are as in `check_many`.
 
     `progress(done, all, instance)` is called when an instance is done.
 
     Raises:
-        ValueError: a file's name belongs to no instance; a solver has two solutions of an instance with one run, or two
-            instances have one name; there is no instance or no solver; or a line of a list has another form.
+        ValueError: a file's name matches no instance; a solver has two solutions of an instance for one run, or two
+            instances have the same name; there is no instance or no solver; or a line of a list has another form.
         OSError: a list, or the file of best-known lengths, can't be read.
     """
     given: List[Any] = [entries] if isinstance(entries, (str, os.PathLike)) else list(entries)

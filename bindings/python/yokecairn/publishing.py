@@ -1,5 +1,4 @@
-"""The calls `publish` and `verify`: a result in a folder that can be published, and the check of such a folder by its files
-alone."""
+"""The calls `publish`, which puts a result into a folder for publication, and `verify`, which checks such a folder."""
 
 import hashlib
 import os
@@ -159,14 +158,15 @@ def publish(
     length: Optional[int] = None,
     claims: bool = True,
 ) -> Report:
-    """Puts a result into a new folder: the instance, the solution and the certificate byte for byte, the report, what
-    `recheck.py` prints, the versions of what made both, sums, and a README. Returns the report.
+    """Puts a result into a new folder: the instance, the solution and the certificate byte for byte, the report, the output
+    of `recheck.py`, the versions of what made both, checksums, and a README. Returns the report.
 
-    A solution of another program is kept as it is, and written as a file of TYPE TOUR beside it. `length` and `claims`
-    are as in `check`.
+    Another program's solution is kept as it is, and a file of TYPE TOUR is made from it. `length` and `claims` are as in
+    `check`.
 
     Raises:
-        ValueError: the report is a no, two files have one name, a name can't be published, or the folder isn't empty.
+        ValueError: the solution is rejected, two files have the same name, a name can't be published, or the folder
+            isn't empty.
         Fault, SolutionError, OSError: as in `check`.
     """
     given = {"instance": instance, "solution": solution, "potentials": potentials, "branches": branches}
@@ -236,9 +236,9 @@ def _versions() -> str:
 
 
 def verify(folder: Path) -> Verification:
-    """Checks a folder that `publish` made, by its files alone. Everything that was made from other files is made again
-    and compared: the report by the library, what `recheck.py` prints by the one of this package, the README, and
-    `recheck.py` itself. A file more than those, a link, or a file that is too large is a step that fails.
+    """Checks a folder that `publish` made, using only its files. Everything that was made from other files is made again
+    and compared: the report, by the library; the output of `recheck.py`, by the one in this package; the README; and
+    `recheck.py` itself. A step fails if there is an additional file or a link, or if a file is too large.
 
     Raises:
         OSError: a file can't be read.

@@ -455,26 +455,26 @@ def read_solution(
     routes: Optional[bool] = None,
     claims: bool = True,
 ) -> Problem:
-    """A solution in the form of another program, as a file of TYPE TOUR.
+    """Another program's solution, as a file of TYPE TOUR.
 
-    The form is recognized: TSPLIB's TYPE TOUR, which LKH writes too; Concorde's tour (`.sol`) or edges;
-    CVRPLIB's routes (`.sol`), with the depot 0 at both ends or without; what OR-Tools' examples print; LKH-3's
-    routes; a tour that R prints; a list of nodes, as numpy's `savetxt` writes it too, below a line of names or
-    beside a column of their order; JSON, also an object with one list, as VRPLIB's and PyVRP's routes.
+    These forms are recognized: TSPLIB's TYPE TOUR, which LKH writes too; Concorde's tour (`.sol`) or edges; CVRPLIB's
+    routes (`.sol`), with or without the depot 0 at both ends; what OR-Tools' examples print; LKH-3's routes; a tour
+    that R prints; a list of nodes, such as numpy's `savetxt` writes, possibly below a header line or next to a column
+    with their order; and JSON, also an object with one list, such as VRPLIB's and PyVRP's routes.
 
-    A list counts from 0 where it has a node 0, else from 1, or from `first`. Customers of CVRPLIB count from 1
-    without the depot, which has to be node 1. Routes in JSON are read so too (`first=0`), or as nodes
-    (`first=1`): where neither is named, by the reading that can serve each.
+    A list counts from 0 if it has a node 0, otherwise from 1, unless `first` is given. CVRPLIB's customers count from
+    1 without the depot, which has to be node 1. Routes in JSON list customers in this way (`first=0`) or nodes
+    (`first=1`); without `first`, the reading that serves every customer is taken.
 
-    `dimension` is the instance's: it is wanted for LKH-3's copies of the depot, and tells a tour of Concorde from a
-    list of nodes from 0. `routes` says whether a single route, of OR-Tools or in JSON, leaves the depot out.
+    `dimension` is the instance's: it is needed for LKH-3's copies of the depot, and tells a Concorde tour from a list
+    of nodes that counts from 0. `routes` says whether a single line of OR-Tools, or a single list in JSON, is a route.
 
-    A check takes the length that the text claims as `length`, where it is whole: `claimed_length` of the result.
-    `claims=False` leaves it.
+    If the text claims a whole length, a check takes it as `length` (`claimed_length` of the result), unless you pass
+    `claims=False`.
 
     Raises:
         SolutionError: the text has none of these forms.
-        Fault: it has keywords of TSPLIB, and is no file.
+        Fault: the text has TSPLIB's keywords, but isn't a valid file.
         OSError: the path can't be read.
     """
     text, path = text_and_path(source)
@@ -486,11 +486,11 @@ def read_solution(
 
 
 def best_known(source: Source) -> Dict[str, int]:
-    """The lengths in a file of lines `NAME LENGTH`, as best-known lengths are published; a colon may follow
-    the name, and a # begins a remark.
+    """The lengths in a file with lines `NAME LENGTH`, the form in which best-known lengths are published. A colon may follow
+    the name, and a # begins a comment.
 
     Raises:
-        ValueError: a line has another form, or a name comes twice.
+        ValueError: a line has another form, or a name has two lengths.
         OSError: the path can't be read.
     """
     text, path = text_and_path(source)
