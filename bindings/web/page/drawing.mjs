@@ -171,7 +171,7 @@ export function branchesView({ outcome, leaf, family, width }) {
     const counted = `${leaves.toLocaleString("en")} ${leaves === 1 ? "leaf" : "leaves"} and ${families.length.toLocaleString("en")} ${families.length === 1 ? "family" : "families"}`;
     return {
         branching: { hidden: false },
-        "branching-words": { text: `The certificate has ${counted}.${leaves > MOST_LEAVES ? " A tree of so many isn't drawn." : ""}` },
+        "branching-words": { text: `The certificate has ${counted}.${leaves > MOST_LEAVES ? " A tree with so many leaves isn't drawn." : ""}` },
         "branch-tree": isDrawn ? { hidden: false, picture: treePicture(branches, leaf, width) } : { hidden: true },
         "leaf-field": { hidden: leaves < 2 },
         leaf: { value: String(leaf + 1), attributes: { max: String(leaves) } },
@@ -214,7 +214,7 @@ export function risingView(state) {
     const { steps, best } = rising.ascent;
     const { bound, degrees } = steps[step];
     const others = degrees.filter((degree) => degree !== 2).length;
-    const rest = others === 0 ? "Each node has two edges: the 1-tree is a tour." : `${others} nodes, marked, don't have two edges: their potentials rise or fall.`;
+    const rest = others === 0 ? "Each node has two edges: the 1-tree is a tour." : `The ${others} marked nodes don't have two edges: their potentials rise or fall.`;
     return {
         rise: { hidden: true },
         rising: { hidden: false },
@@ -223,6 +223,6 @@ export function risingView(state) {
         step: { value: String(step), attributes: { max: String(steps.length - 1) } },
         play: { text: isPlaying ? "Pause" : "Play" },
         "step-words": { text: `Step ${step}: the least 1-tree gives the bound ${bound.toFixed(2)}. ${rest} The dashed edges are those of node 1.` },
-        "rising-bound": { text: `The library, whose code is proved, says of the potentials of step ${best}: every tour is at least ${rising.bound} long.` },
+        "rising-bound": { text: `The library, whose code is proved, computes from the potentials of step ${best}: every tour is at least ${rising.bound} long.` },
     };
 }

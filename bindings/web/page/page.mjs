@@ -134,7 +134,7 @@ async function takeHash() {
     } else if (carried) {
         judge({ ...withFiles(empty, carried.files, null), ...carried.asked });
     } else if (location.hash.length > 1) {
-        go(telling(store.state, { kind: "fault", word: "No files", meaning: "The link isn't whole: what it carries can't be read." }));
+        go(telling(store.state, { kind: "fault", word: "No files", meaning: "The link is incomplete, so its files can't be read." }));
     }
 }
 

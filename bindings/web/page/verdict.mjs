@@ -1,5 +1,5 @@
-// An outcome in words: its verdict in large letters, what that means, what it doesn't speak of, and what has to be done before
-// the command. view.mjs shows them.
+// An outcome in words: its verdict in large letters, what the verdict means and ignores, and what to do before running the
+// command. view.mjs shows them.
 
 import { Status } from "../../javascript/codes.mjs";
 import { verdictOf } from "../../javascript/report.mjs";
@@ -11,7 +11,7 @@ import { verdictOf } from "../../javascript/report.mjs";
  * @returns {string}
  */
 export function noteOfCommand({ made }) {
-    return made.length === 0 ? "" : `First save ${made.map(({ given }) => given.name).join(" and ")} beside the other files, by the buttons above.`;
+    return made.length === 0 ? "" : `First save ${made.map(({ given }) => given.name).join(" and ")} next to the other files, with the buttons above.`;
 }
 
 /**
@@ -23,8 +23,8 @@ export function noteOfCommand({ made }) {
 export function cautionsOf({ report, made, caution }) {
     const unknown = report?.notJudged.join(", ") ?? "";
     return [
-        unknown && `Not judged: ${unknown}. The verdict says nothing about these lines.`,
-        made.some(({ slot }) => slot === "instance") ? "The distances of the globe were computed as weights, and the verdict is about these weights." : "",
+        unknown && `Not judged: ${unknown}. The verdict ignores these lines.`,
+        made.some(({ slot }) => slot === "instance") ? "The distances on the globe were turned into weights, and the verdict is about these weights." : "",
         caution,
     ].filter(Boolean);
 }
@@ -56,10 +56,10 @@ export function headlineOf({ status, report, text }, explained) {
         return [report.yes ? "yes" : "no", word, meaning];
     }
     if (status === Status.OUT_OF_MEMORY) {
-        return ["fault", "Out of memory", "The browser has no memory for it. Use the program tsp."];
+        return ["fault", "Out of memory", "The browser doesn't have enough memory. Use the program tsp."];
     }
     if (status === Status.FAULT) {
         return ["fault", "Fault", explained || text.trim()];
     }
-    return ["none", "A valid file", "Give an instance with a tour, or with a certificate, to have them judged."];
+    return ["none", "A valid file", "For a verdict, choose an instance and a tour, or an instance and a certificate."];
 }

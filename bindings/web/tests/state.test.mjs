@@ -89,7 +89,7 @@ test("what is shown of an outcome", () => {
     const made = { slot: "solution", given: FIRST, from: "1.sol", form: "a list" };
     const other = viewOf(showing(state, { ...OUTCOME, made: [made], caution: "cut off", report: { ...REPORT, notJudged: ["DISTANCE"] } }));
     assert.match(other["command-note"].text, /^First save 1\.tour /);
-    assert.deepEqual(other.cautions.items.map(({ text }) => text), ["Not judged: DISTANCE. The verdict says nothing about these lines.", "cut off"]);
+    assert.deepEqual(other.cautions.items.map(({ text }) => text), ["Not judged: DISTANCE. The verdict ignores these lines.", "cut off"]);
     assert.equal(other.made.items[0].items[1].attributes["data-do"], "save-made");
 });
 
