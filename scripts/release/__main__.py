@@ -1,5 +1,5 @@
 """Makes dist/yokecairn-VERSION-linux-x86_64.tar.gz: the program, linked statically, the libraries for C and
-Python, the page for a browser, and what belongs to them.
+Python, the browser page, and what belongs to them.
 
 usage: ./release [--public] [--sign KEY] [--without page] [--systems]
        ./release --library FOLDER | --page FOLDER | --modules | --kept | --compare
@@ -9,7 +9,7 @@ the DOI of publisher.toml. Without it the release says that it is a private copy
 --sign KEY signs the tarball: by ssh-keygen where KEY is the file of a key, and else by gpg with the key of this name.
 Where the key doesn't sign, nothing is made.
 A release carries the record of its commit's check, docs/check.json. A public one is refused without it.
---without page leaves out the page for a browser, and the pages of such a release don't promise it. Where a tool of a
+--without page leaves out the browser page, and the pages of such a release don't promise it. Where a tool of a
 part is missing, and the part isn't left out, nothing is made.
 --systems also makes the tarball for Linux on aarch64, the zip for Windows on x86-64, the package for npm, and beside them
 the three wheels. What needs a package of Debian that isn't there is left out, and one line says so. docs/trust.md has
@@ -71,10 +71,10 @@ def words() -> argparse.ArgumentParser:
     parser = argparse.ArgumentParser(prog="release", description=__doc__, formatter_class=argparse.RawDescriptionHelpFormatter)
     parser.add_argument("--public", action="store_true", help=f"make a release that is published, by whom {publisher.FILE} names")
     parser.add_argument("--sign", metavar="KEY", help="sign the tarball: the file of a key for ssh, or the name of one for gpg")
-    parser.add_argument("--without", metavar="page", choices=PARTS, action="append", default=[], help="leave out the page for a browser")
+    parser.add_argument("--without", metavar="page", choices=PARTS, action="append", default=[], help="leave out the browser page")
     parser.add_argument("--systems", action="store_true", help="make the releases for other systems too")
     parser.add_argument("--library", metavar="FOLDER", type=Path, help="make the libraries for C alone")
-    parser.add_argument("--page", metavar="FOLDER", type=Path, help="make the page for a browser alone")
+    parser.add_argument("--page", metavar="FOLDER", type=Path, help="make only the browser page")
     parser.add_argument("--modules", action="store_true", help="say where the modules for other systems are kept")
     parser.add_argument("--kept", action="store_true", help="say whether the library's archive is kept")
     parser.add_argument("--compare", action="store_true", help="make all twice, and compare the bytes")

@@ -1,4 +1,4 @@
-"""The parts of a release that are built: the program, the libraries, the page for a browser, the wheel; and the releases of them."""
+"""The parts of a release that are built: the program, the libraries, the browser page, the wheel; and the releases of them."""
 from __future__ import annotations
 
 import os
@@ -31,7 +31,7 @@ def make_library(folder: Path, anew: Path | None = None) -> None:
 
 @cache
 def page_of(module: Path, origin: str) -> str:
-    """The text of the page for a browser, of a module and a commit. (It takes a minute.)"""
+    """The text of the browser page, of a module and a commit. (It takes a minute.)"""
     with tempfile.TemporaryDirectory() as folder:
         subprocess.run([ROOT / "bindings/web/build", module, folder, origin], check=True)
         return Path(folder, "tsp.html").read_text()

@@ -3,7 +3,7 @@
 What differs between them is marked in the pages, in comments of Markdown:
 
     <!-- checkout --> .. <!-- end -->    only in the repository
-    <!-- page --> .. <!-- end -->        only where the release has the page for a browser
+    <!-- page --> .. <!-- end -->        only where the release has the browser page
     <!-- private --> .. <!-- end -->     in the repository and in a private copy
     <!-- public .. -->                   only in a public release, with what publisher.toml has in place of {contact}, {home}
                                          and {authors}

@@ -8,9 +8,9 @@ from pathlib import Path
 
 from build.sources import NATIVE, ROOT
 
-CLAIM = """The same proved code, compiled for another system by a way that the toolchain doesn't offer. The toolchain's promise covers
-Linux on x86-64 alone. The host's calls are written by hand and tested under qemu, wine or Node, not on the machines
-themselves. The reference is the program for Linux on x86-64."""
+CLAIM = """This is the same proved code, compiled in a way that the toolchain doesn't offer: the toolchain's promise covers only
+Linux on x86-64. The host's calls are written by hand, and were tested under qemu, wine or Node, not on real machines.
+If in doubt, the program for Linux on x86-64 is the reference."""
 
 
 @dataclass(frozen=True)
@@ -66,17 +66,17 @@ ON_WINDOWS = {
     "share/yokecairn/examples/": "examples/",
     "share/yokecairn/python/": "python/",
 }
-# The words of a release's README that name its system, and those in their place.
-OF_README = "For Linux on x86-64, from about 2009 on."
+# The words of a release's README that name its system, and the words that replace them.
+OF_README = "This release is for Linux on x86-64 processors from about 2009 on."
 SPOKEN = {"linux-aarch64": "Linux on aarch64", "windows-x86_64": "Windows on x86-64"}
 READ_ME = """Yokecairn for Windows on x86-64
 
 bin/tsp.exe, bin/libtsp.dll   the program and the library; they need no other files
-lib/libtsp.dll.a, include/    what a C compiler needs of the library
-*.whl                         the package for Python: pip install FILE (the library is tested from C only)
-tsp.html                      the page for a browser
-doc/, examples/, python/      the pages and what they show; PREFIX/share/yokecairn is this folder there
-SHA256SUMS, BUILT-FROM        the sum of each file, and what it is made of
+lib/libtsp.dll.a, include/    what a C compiler needs for the library
+*.whl                         the Python package: pip install FILE (its library is tested only from C)
+tsp.html                      the browser page
+doc/, examples/, python/      the pages and what they show; where they say PREFIX/share/yokecairn, use this folder
+SHA256SUMS, BUILT-FROM        a checksum of each file; the commit and the toolchain
 
 {claim}
 """
@@ -87,7 +87,7 @@ def name_system(top: Path, system: str) -> None:
     text = (top / "README").read_text()
     if OF_README not in text:
         raise ValueError(f"bindings/README hasn't the words: {OF_README}")
-    (top / "README").write_text(text.replace(OF_README, f"For {SPOKEN[system]}.\n\n{CLAIM}"))
+    (top / "README").write_text(text.replace(OF_README, f"This release is for {SPOKEN[system]}.\n\n{CLAIM}"))
 
 
 def for_windows(top: Path) -> None:
