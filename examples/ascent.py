@@ -1,17 +1,17 @@
 #!/usr/bin/env python3
 """Shows how potentials come about: ascent.py INSTANCE [--upper L] > POTENTIALS
 
-This is the method on a page, for instances of some hundred nodes. `producer/` has `tsp-potentials`, which does
-the same in C++ for up to 100,000 points, and finds the tour too.
+This is the method on a page, for instances with a few hundred nodes. `tsp-potentials` in `producer/` does the same in
+C++ for up to 100,000 points, and finds a tour too.
 
-- Of a TSP a potential is a number of a node that is added to the weight of each of its edges. A tour gets longer by
-  twice the sum of all numbers, whatever it is. So the least 1-tree under these weights, less that sum, is a bound.
-  Held and Karp (1970) raise the number of a node with too many edges in the tree, and lower that of one with too few.
-- Of an ATSP potentials are duals of the assignment problem, by the Hungarian method: numbers of leaving and of
-  entering each node that are together at most the weight of an arc. Their sum is a bound.
+- For a TSP, a potential is a number for a node, which is added to the weight of each of its edges. Every tour gets longer
+  by twice the sum of all potentials. So the weight of a least 1-tree under the new weights, minus this sum, is a bound.
+  Held and Karp (1970) raise the potential of a node with too many edges in the 1-tree, and lower it if there are too few.
+- For an ATSP, potentials are duals of the assignment problem, found by the Hungarian method: numbers for leaving and for
+  entering each node, which together are at most the weight of each arc. The sum of all of them is a bound.
 
-Nothing here is proved, and nothing has to be trusted: `tsp bound INSTANCE --potentials POTENTIALS` says what the file is
-worth. It needs Python 3.9 or later.
+Nothing here is proved, and you needn't trust it: `tsp bound INSTANCE --potentials POTENTIALS` judges the file. It needs
+Python 3.9 or later.
 """
 from __future__ import annotations
 

@@ -1,19 +1,19 @@
 #!/usr/bin/env python3
 """Shows how a certificate of TYPE BRANCHES comes about: branches.py INSTANCE TOUR --branches OUT
 
-This is the method on a page. `producer/` does the same in C++ for larger instances, and finds the tour too.
-Here the tour has to be a shortest one, of a symmetric instance of at most some 80 nodes.
+This is the method on a page. `tsp-certify` in `producer/` does the same in C++ for larger instances, and finds the
+tour too. Here you have to give a shortest tour, for a symmetric instance with at most about 80 nodes.
 
 1. `Program`: a linear program gives each pair of nodes a value from 0 to 1. Each tour is a solution, so the
    optimum is at most the least length.
-2. `lone_sets`, `combs`: inequalities that each tour meets and the solution misses are added. A set of nodes is
+2. `lone_sets`, `combs`: add inequalities that each tour satisfies and the solution violates. A set of nodes is
    crossed at least twice, and a comb (a handle and an odd number k of teeth) at least 3k + 1 times.
-3. `Search`: where that ends below the length, a pair is branched on. Each tour uses the pair, or doesn't.
-4. `numbers_of`, `bound`: the duals of a leaf, rounded at a scale, are potentials of the nodes and multipliers
-   of the combs. They change the weights, and the least 1-tree under these is a bound in whole numbers.
+3. `Search`: if the optimum stays below the length, branch on a pair. Each tour uses the pair, or doesn't.
+4. `numbers_of`, `bound`: the duals of a leaf, rounded at a scale, become potentials of the nodes and multipliers
+   of the combs. They change the weights, and the least 1-tree under the new weights gives a bound in whole numbers.
 
-Nothing here is proved, and nothing has to be trusted: `tsp check INSTANCE TOUR --branches OUT` says what the
-file is worth. It needs Python 3.9 or later with scipy (apt-get install python3-scipy).
+Nothing here is proved, and you needn't trust it: `tsp check INSTANCE TOUR --branches OUT` judges the file. It needs
+Python 3.9 or later with scipy (apt-get install python3-scipy).
 """
 from __future__ import annotations
 

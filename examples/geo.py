@@ -2,9 +2,8 @@
 """Writes an instance of type GEO with its distances as weights: geo.py F > OUT
 
 The program doesn't read EDGE_WEIGHT_TYPE GEO, whose distances need cosines. This script computes them
-by the formula of TSPLIB 95 in doubles, with PI = 3.141592. The conversion isn't proved: the line `yes`
-on OUT is about the weights in OUT. Lines with an unknown keyword stay, as matrix.py keeps them. It needs Python 3.9
-and its standard library alone.
+by TSPLIB 95's formula in double precision, with PI = 3.141592. The conversion isn't proved: a `yes` for OUT is about
+the weights in OUT. Lines with an unknown keyword are kept. The script needs only Python 3.9.
 """
 from __future__ import annotations
 

@@ -1,10 +1,10 @@
 #!/usr/bin/env python3
 """Writes an instance with points as a full matrix: matrix.py F [--rounding trunc|dimacs] > OUT
 
-The distances are whole numbers, exact over the decimals of F. With --rounding distances of EUC_2D are rounded down, and
-not to the nearest: trunc takes whole units, and dimacs tenths, so its weights are ten times as large. Lines with an unknown
-keyword stay, so that `tsp` says of OUT too what it doesn't judge. The script isn't proved. It needs Python 3.9 and its
-standard library alone.
+The distances are computed exactly from the decimals in F. With --rounding, distances of EUC_2D are rounded down instead
+of to the nearest: trunc rounds to whole units, and dimacs to tenths, so its weights are ten times as large. Lines with an
+unknown keyword are kept, so that `tsp` also reports for OUT what it doesn't judge. The script isn't proved. It needs only
+Python 3.9.
 """
 from __future__ import annotations
 

@@ -1,13 +1,13 @@
 #!/usr/bin/env python3
-"""Checks a tour or routes anew, without the program: recheck.py F T [--potentials P | --branches B]
+"""Repeats a check without the program `tsp`: recheck.py F T [--potentials P | --branches B]
 
-It reads an instance of TYPE TSP, ATSP or CVRP, a tour or routes, and a certificate, and prints the report that
-`tsp check` prints. Status 0 means `yes`, 1 `no`, 2 a file that isn't read here. It needs Python 3.9 and
-its standard library alone, and computes in whole numbers. Trees of cases take a tenth of the time where
-numpy is installed, and all numbers have 64 bits. It follows docs/format.md, which defines
-the numbers, and docs/proof.md, which says why they are bounds. It isn't proved, and it is lenient
-with files that the program refuses. A faulty file is named, with a line of it. On a terminal it shows
-how far it is. It is one file, since it is put beside published results, and has to run there alone.
+The script reads an instance of TYPE TSP, ATSP or CVRP, a tour or routes, and a certificate, and prints the report
+that `tsp check` prints. Status 0 means `yes`, 1 `no`, and 2 that a file can't be read here. It needs only
+Python 3.9, and computes in whole numbers. With numpy, trees of cases take a tenth of the time, if all numbers
+fit into 64 bits. It follows docs/format.md, which defines the numbers, and docs/proof.md, which shows why they
+are bounds. It isn't proved, and accepts some files that the program refuses. For a faulty file it names the file
+and a line. At a terminal it shows its progress. It is a single file, because it is published along with results
+and has to run there without anything else.
 """
 from __future__ import annotations
 

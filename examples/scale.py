@@ -1,11 +1,11 @@
 #!/usr/bin/env python3
 """Multiplies the coordinates of an instance by a power of ten, or rounds them: scale.py F --by 1000 > OUT
 
-TSPLIB's distances are whole numbers. Between points that are near each other, as in a unit square, they
-round to 0 or 1, and say little. After this they don't. The lengths of OUT are those of another instance:
-publish them with the factor, which a COMMENT of OUT has. All else stays as it is, the NAME too. Digits
-are exact, and more than nine decimals are refused, as `tsp` does: `--decimals 9` rounds the result to nine,
-with `--by` or without. It needs Python 3.9 and its standard library, imports recheck.py, and isn't proved.
+TSPLIB's distances are whole numbers. Between points that are close to each other, as in a unit square, they are
+0 or 1, and mean little; multiply the coordinates first. OUT is another instance, so publish its lengths with the
+factor, which a COMMENT in OUT names. Everything else stays as it is, including the NAME. Coordinates are multiplied
+exactly. Like `tsp`, the script refuses more than nine decimals; `--decimals 9` rounds to nine, with or without
+`--by`. It needs only Python 3.9, imports recheck.py, and isn't proved.
 """
 from __future__ import annotations
 
