@@ -1,13 +1,13 @@
-"""The exceptions of the package: why a call has no answer. Each module raises them.
+"""The exceptions of the package, which say why a call has no answer.
 
     Error
-        Fault (a ValueError)        a text is no file of TSPLIB 95 as docs/format.md has it
-            LineFault               by a line, or by a word of it
-            EndFault                by what is missing at its end
-            TooLong                 it has more bytes than count
-            WrongKind               the first file of a check has another TYPE than the check needs
-            RelayoutFault           the weights can't go into the layout
-        SolutionError (a ValueError)    a solution of another program has no known form
+        Fault (a ValueError)        a text isn't a valid file by docs/format.md
+            LineFault               a line or a word is wrong
+            EndFault                something is missing at the end
+            TooLong                 the text is too long
+            WrongKind               the first file of a check has a TYPE that the check can't use
+            RelayoutFault           the weights can't be written in the layout
+        SolutionError (a ValueError)    another program's solution has no known form
         OutOfMemory (a MemoryError)
         NodeError (a LookupError)   the instance has no such node
 """
@@ -23,20 +23,20 @@ _LINE = re.compile(r"(?:file (\d+): )?(?:line (\d+) word (\d+): |(end: )|(relayo
 
 
 class Error(Exception):
-    """Why a call of this package has no answer."""
+    """The base of this package's exceptions."""
 
 
 class NodeError(Error, LookupError):
-    """An instance has no such node."""
+    """The instance has no such node."""
 
 
 class SolutionError(Error, ValueError):
-    """A solution of another program has no known form, or breaks it.
+    """Another program's solution has no known form, or breaks the rules of its form.
 
     Attributes:
         told: what is wrong.
-        line: the line, from 1, where it is one of a line.
-        path: the path of the text, where it was read from one.
+        line: the line, counted from 1, if a line is wrong.
+        path: the path of the text, if it was read from one.
     """
 
     def __init__(self, told: str, line: Optional[int] = None, path: Optional[str] = None) -> None:
@@ -63,20 +63,20 @@ class OutOfMemory(Error, MemoryError):
 
 
 class Fault(Error, ValueError):
-    """A text is no file, or no file that the call can use.
+    """A text isn't a valid file, or not a file that the call can use.
 
     Attributes:
-        told: the line that the program prints of it, as `file 1: line 6 word 1: RepeatedNode`.
-        file: the number of the text: 1 the instance, 2 the solution, 3 the certificate. Of a bound
-            without a tour the certificate is 2.
-        line: the line, from 1; None where the fault is none of a line.
-        word: the word in its line, from 1; 0 for the line as a whole; else None.
-        name: the fault's name in docs/format.md, as `RepeatedNode`.
+        told: the line that the program prints, such as `file 1: line 6 word 1: RepeatedNode`.
+        file: the number of the text: 1 is the instance, 2 the solution, 3 the certificate. For a bound
+            without a solution, the certificate is 2.
+        line: the line, counted from 1; None if the fault isn't in a line.
+        word: the word in its line, counted from 1; 0 for the line as a whole; None if the fault isn't in a line.
+        name: the fault's name in docs/format.md, such as `RepeatedNode`.
         details: what follows the name there: a number's fault, a field, or nodes.
-        explanation: what `tsp --explain` tells of it, for a person; it may be empty.
-        path: the path of the text, where it was read from one.
-        found: the word that has the fault; of a line as a whole its value, or all of it where its keyword is
-            unknown; None where the fault is none of a line.
+        explanation: the explanation that `tsp --explain` prints; it may be empty.
+        path: the path of the text, if it was read from one.
+        found: the wrong word; if a line is wrong as a whole, its value, or the whole line if its keyword is
+            unknown; None if the fault isn't in a line.
     """
 
     def __init__(
@@ -114,19 +114,19 @@ class LineFault(Fault):
 
 
 class EndFault(Fault):
-    """Something is missing at a text's end, or its parts don't belong together."""
+    """Something is missing at the end of a text, or its parts don't fit together."""
 
 
 class TooLong(Fault):
-    """A text has more bytes than count, and those decide nothing."""
+    """A text is too long: the bytes that are looked at decide nothing."""
 
 
 class WrongKind(Fault):
-    """The first file of a check has another TYPE than the check needs."""
+    """The first file of a check has a TYPE that the check can't use."""
 
 
 class RelayoutFault(Fault):
-    """The weights of a file can't go into a layout."""
+    """The weights of a file can't be written in a layout."""
 
 
 def _class_of(told: str) -> Type[Fault]:

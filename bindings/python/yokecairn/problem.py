@@ -27,8 +27,8 @@ def canonical(text: bytes, layout: Optional[str] = None, path: Optional[str] = N
     """The canonical text of a file, with its weights in a layout if one is named.
 
     Raises:
-        Fault: the text is no file.
-        RelayoutFault: its weights can't go into the layout.
+        Fault: the text isn't a valid file.
+        RelayoutFault: its weights can't be written in the layout.
         ValueError: no layout has this word.
     """
     if layout is not None and layout not in _library.LAYOUTS:
@@ -47,16 +47,15 @@ def canonical(text: bytes, layout: Optional[str] = None, path: Optional[str] = N
 class Problem:
     """A file: an instance, a tour, or a certificate.
 
-    Its fields are attributes. A text, word or number that the file doesn't have is None, a section that
-    it doesn't have is empty; `as_dict` has only what stands in the file. A problem doesn't change:
-    `replace` makes another one.
+    Its fields are attributes. A text, word or number that the file lacks is None, and a section that it lacks is
+    empty; `as_dict` contains only what is in the file. A problem can't be changed: `replace` makes another one.
 
     Attributes:
         name, type, comment: texts. Several lines COMMENT are joined by line ends.
         dimension, capacity, scale, load_unit: whole numbers.
         edge_weight_type, edge_weight_format, node_coord_type, display_data_type: words.
-        node_coords, display_data: for each node the list of its coordinates, as `Decimal`, or as float
-            where the file was loaded with `floats=True`.
+        node_coords, display_data: for each node the list of its coordinates, as `Decimal`, or as `float`
+            if the file was loaded with `floats=True`.
         demands: for each node a whole number.
         depots: a list of nodes.
         fixed_edges: a list of pairs of nodes.
@@ -65,10 +64,10 @@ class Problem:
         node_potentials, row_potentials, column_potentials: for each node a whole number.
         fixed_edge_potentials: a list of triples, two nodes and a number.
         combs: a list of combs, each a list of sets of nodes, its handle first.
-        branches: the steps of a tree. A branch is a pair of nodes, or of the index of a family and a limit;
-            a leaf is a list of pairs of an index and a difference.
+        branches: the steps of a tree. A branch is a pair: two nodes, or the index of a family and a limit.
+            A leaf is a list of pairs of an index and a difference.
         others: the lines of unknown keywords, as pairs of the keyword and its value.
-        claimed_length: the length that a solution claims of itself, as `read_solution` found it; a check takes it
+        claimed_length: the length that the solution's file claims, as `read_solution` found it; a check takes it
             as `length`.
     """
 
@@ -139,22 +138,22 @@ class Problem:
         floats: bool = False,
         **fields: Any,
     ) -> "Problem":
-        """An instance with these points, of TYPE TSP where no other is named.
+        """An instance with these points, of TYPE TSP unless you name another TYPE.
 
-        `points` has two coordinates for each node from 1 on, or three for a distance in space: a numpy array
-        or a list. They are taken as they are written in the fewest digits, so 0.1 is 0.1, and multiplied
-        by `scale`, exactly. More than nine decimals are a `Fault` (`TooFine`): `decimals=9` rounds to so
-        many, half to even. Distances are rounded to whole numbers: give points of a unit square a scale,
-        as 10000, which a COMMENT tells. More `fields` are those of a `Problem`, as `name`.
+        `points` is a numpy array or a list, with two coordinates for each node from 1 on, or three for a distance in
+        space. A float is read as the shortest decimal that denotes it, so 0.1 is 0.1, and multiplied by `scale`
+        exactly. A coordinate with more than nine decimals is a `Fault` (`TooFine`), unless `decimals=9` rounds it, half
+        to even. Distances are rounded to whole numbers, so points in a unit square need a scale such as 10000, which a
+        COMMENT records. Other `fields` are those of a `Problem`, such as `name`.
 
-        With `rounding="dimacs"` distances are rounded down to tenths, and with "trunc" to units, as the DIMACS challenges
-        and some programs do. TSPLIB has no such distance, so the instance has a matrix then, in tenths or in units, and
-        the points for a picture. At most 5,000 points have one.
+        With `rounding="dimacs"` distances are rounded down to tenths, and with `rounding="trunc"` to units, as in the DIMACS
+        challenge and in some programs. TSPLIB has no such distances, so the instance then has a matrix, in tenths or in
+        units, and the points only for pictures. A matrix is possible for at most 5,000 points.
 
         Raises:
-            Fault: the points make no file.
-            TypeError: a coordinate is no number.
-            ValueError: the points aren't rows of two or three numbers, or there is no such rounding.
+            Fault: the points don't make a valid file.
+            TypeError: a coordinate isn't a number.
+            ValueError: the points aren't rows of two or three numbers, or the rounding is unknown.
         """
         if rounding != "nearest":
             return cls._rounded_down(points, edge_weight_type, scale, decimals, rounding, floats, fields)
@@ -199,17 +198,17 @@ class Problem:
     def from_matrix(
         cls, matrix: Any, *, scale: int = 1, rounded: bool = False, **fields: Any
     ) -> "Problem":
-        """An instance with these weights: of TYPE TSP where the matrix is symmetric, else ATSP, where no TYPE
-        is named.
+        """An instance with these weights. Unless you name a TYPE, it is TSP if the matrix is symmetric, and otherwise
+        ATSP.
 
-        `matrix` has a row for each node from 1 on: a numpy array or lists. Its numbers are multiplied by
-        `scale`, exactly, and have to be whole then; `rounded` rounds them, half to even. The diagonal isn't
-        looked at, and is 0. More `fields` are those of a `Problem`, as `name`.
+        `matrix` is a numpy array or a list of lists, with a row for each node from 1 on. Its numbers are multiplied
+        by `scale` exactly, and then have to be whole, unless `rounded=True` rounds them, half to even. The diagonal is
+        ignored, and set to 0. Other `fields` are those of a `Problem`, such as `name`.
 
         Raises:
-            Fault: the weights make no file.
-            TypeError: a weight is no number.
-            ValueError: the rows aren't as long as there are rows, or a weight isn't whole.
+            Fault: the weights don't make a valid file.
+            TypeError: a weight isn't a number.
+            ValueError: the matrix isn't square, or a weight isn't whole.
         """
         rows = arrays.matrix(matrix, scale, rounded)
         is_even = all(rows[i][j] == rows[j][i] for i in range(len(rows)) for j in range(i))
@@ -287,7 +286,7 @@ class Problem:
         return read(self._text[begin:end])
 
     def as_name_dict(self) -> Dict[str, Any]:
-        """The fields that stand in the file, by their names."""
+        """The fields in the file, by their names."""
         fields = {name: getattr(self, name) for name in canonical_fields.KEYWORDS}
         found = {name: value for name, value in fields.items() if value is not None}
         for name, section in canonical_fields.SECTIONS.items():
@@ -296,28 +295,28 @@ class Problem:
         return found
 
     def as_keyword_dict(self) -> Dict[str, Any]:
-        """The fields that stand in the file, by their keywords and sections, and the unknown keywords."""
+        """The fields in the file, by their keywords and sections, and the unknown keywords."""
         keywords = {**canonical_fields.KEYWORDS, **canonical_fields.SECTIONS}
         found = {keywords[name]: value for name, value in self.as_name_dict().items()}
         return {**found, **dict(self.others)}
 
     def as_dict(self, by_keyword: bool = False, *, json: bool = False) -> Dict[str, Any]:
-        """The fields that stand in the file, by their names, or by their keywords and sections.
+        """The fields in the file, by their names, or by their keywords and sections.
 
-        With `json` they are numbers, texts, lists and dicts by texts, which `json.dumps` takes and `json.loads`
-        gives back: a coordinate that isn't whole is the nearest float.
+        With `json=True` all values survive `json.dumps` and `json.loads`: a coordinate that isn't whole is the nearest
+        float.
         """
         found = self.as_keyword_dict() if by_keyword else self.as_name_dict()
         return {name: _plain(value) for name, value in found.items()} if json else found
 
     def get_graph(self, normalize: bool = False) -> Any:
-        """The instance as a graph of networkx, which has to be installed: a `DiGraph` where costs differ by
-        direction. It has an edge for each pair of different nodes, with `weight` and `is_fixed`, and its
-        nodes have `coord`, `display`, `demand` and `is_depot`. With `normalize` nodes count from 0.
+        """The instance as a networkx graph, or as a `DiGraph` if costs differ by direction. (networkx has to be
+        installed.) It has an edge for each pair of different nodes, with `weight` and `is_fixed`, and its nodes have
+        `coord`, `display`, `demand` and `is_depot`. With `normalize` nodes count from 0.
 
         Raises:
             ImportError: networkx isn't installed.
-            WrongKind: the file is no instance.
+            WrongKind: the file isn't an instance.
         """
         networkx = importlib.import_module("networkx")
         self._weight_kind()
@@ -337,10 +336,10 @@ class Problem:
         return graph
 
     def replace(self, **fields: Any) -> "Problem":
-        """The file with other values of these fields. None takes one away.
+        """The file with other values for these fields. None removes a field.
 
         Raises:
-            Fault: the fields make no file.
+            Fault: the fields don't make a valid file.
         """
         exact = self._of(self._text, False) if self._floats else self
         mine: Dict[str, Any] = {**exact.as_name_dict(), "others": self.others, "floats": self._floats}
@@ -354,10 +353,10 @@ class Problem:
     # ---- writing
 
     def relayout(self, layout: str) -> "Problem":
-        """The file with its weights in another layout. Each cost stays as it is.
+        """The file with its weights in another layout. Every cost stays the same.
 
         Raises:
-            RelayoutFault: the weights can't go into the layout.
+            RelayoutFault: the weights can't be written in the layout.
         """
         return self._of(canonical(self._text, layout), self._floats)
 
@@ -394,15 +393,15 @@ class Problem:
         return bool(self.edge_weight_type or self.edge_weight_format)
 
     def is_special(self) -> bool:
-        """Whether the weights need a function: never, such files aren't read."""
+        """Whether the weights need a function. Always False, because such files aren't read."""
         return False
 
     def is_complete(self) -> bool:
-        """Whether each node is linked to each: always, other graphs aren't read."""
+        """Whether all nodes are linked to each other. Always True, because other graphs aren't read."""
         return True
 
     def is_symmetric(self) -> bool:
-        """Whether each cost is the same in both directions. All of them are compared."""
+        """Whether every cost is the same in both directions. All costs are compared."""
         if not (self.type in _WEIGHTED and self.is_explicit() and self.is_full_matrix()):
             return True
         costs, count = self._matrix, self._nodes()
@@ -410,32 +409,32 @@ class Problem:
         return all(row == costs[node::count] for node, row in enumerate(rows))
 
     def is_depictable(self) -> bool:
-        """Whether the nodes have a place in a picture."""
+        """Whether the nodes have a position in a picture."""
         if self.display_data:
             return True
         return self.display_data_type != "NO_DISPLAY" and bool(self.node_coords)
 
     def get_display(self, i: int) -> Optional[List[Any]]:
-        """The place of a node in a picture; None where it has none."""
+        """The position of a node in a picture; None if it has none."""
         if not self.is_depictable():
             return None
         return (self.display_data or self.node_coords).get(i)
 
     def plot(self, tour: Any = None, other: Any = None, *, ax: Any = None) -> Any:
-        """Draws the nodes, a tour and another one below it, by matplotlib, which has to be installed. Returns the
+        """Draws the nodes, a tour and another tour below it, with matplotlib, which has to be installed. Returns the
         axes: `ax`, or new ones.
 
-        A tour is a list of nodes, for routes a list of such lists, a `Problem` of TYPE TOUR, or what
-        `read_solution` takes: a path or a text. Each route has its colour. With another tour, edges of one alone
-        differ in colour from those of both. Nodes are drawn at their first two coordinates, or at those of
+        A tour is a list of nodes, a list of such lists for routes, a `Problem` of TYPE TOUR, or what `read_solution`
+        takes: a path or a text. Each route has its own colour. With two tours, edges that are in only one of them have
+        another colour than edges in both. Nodes are drawn at their first two coordinates, or at those of
         DISPLAY_DATA_SECTION, and the depot as a square.
 
         Raises:
             ImportError: matplotlib isn't installed.
-            Error: a text is no solution.
+            Error: a text isn't a solution.
             OSError: a path can't be read.
-            ValueError: the nodes have no places.
-            NodeError: a tour has a node that isn't there.
+            ValueError: the nodes have no positions.
+            NodeError: a tour has a node that the instance lacks.
         """
         return plots.plot_problem(self, tour, other, ax)
 
@@ -449,7 +448,7 @@ class Problem:
         return iter(range(1, self._nodes() + 1))
 
     def get_edges(self) -> Iterator[Tuple[int, int]]:
-        """All pairs of nodes, those from a node to itself too."""
+        """All pairs of nodes, including those from a node to itself."""
         return product(self.get_nodes(), self.get_nodes())
 
     def _weight_kind(self) -> int:
@@ -477,9 +476,9 @@ class Problem:
         return [(), *zip(counts[::3], counts[1::3], counts[2::3])]
 
     def counts(self) -> memoryview:
-        """x, y and z of each node as counts of 10^-9, row by row: 64-bit numbers.
+        """x, y and z of each node in units of 10^-9, row by row, as 64-bit numbers.
 
-        Row 0 is node 1. z is 0 where the file isn't spatial. `numpy.asarray` takes it without a copy.
+        Row 0 is node 1. z is 0 if the file isn't spatial. `numpy.asarray` takes the result without a copy.
 
         Raises:
             KeyError: the file has no NODE_COORD_SECTION.
@@ -494,11 +493,11 @@ class Problem:
     def matrix(self) -> memoryview:
         """All costs, row by row: 64-bit numbers.
 
-        The cost from node i to node j is `matrix()[i - 1, j - 1]`. `numpy.asarray` takes it without a
-        copy. It has eight bytes for each pair of nodes: 200 MB at 5,000 nodes, 80 GB at 100,000.
+        The cost from node i to node j is `matrix()[i - 1, j - 1]`. `numpy.asarray` takes the result without a copy. It
+        takes eight bytes for each pair of nodes: 200 MB for 5,000 nodes, 80 GB for 100,000.
 
         Raises:
-            WrongKind: the file is no instance.
+            WrongKind: the file isn't an instance.
             MemoryError: out of memory.
         """
         # only where the weights are listed is the matrix kept
@@ -506,13 +505,13 @@ class Problem:
         return _table(costs, self._nodes(), self._nodes())
 
     def get_weight(self, start: int, end: int) -> int:
-        """The cost from a node to a node.
+        """The cost from one node to another.
 
-        Where the weights are listed, the whole matrix is worked out when as many costs as nodes were asked for.
+        If the weights are listed, the whole matrix is computed once you have asked for as many costs as there are nodes.
 
         Raises:
             NodeError: there is no such node.
-            WrongKind: the file is no instance.
+            WrongKind: the file isn't an instance.
         """
         count, kind = self.dimension or 0, self._kind
         try:
@@ -534,14 +533,14 @@ class Problem:
         return bool(asked <= self._nodes())
 
     def weights(self, pairs: Any) -> "array[int]":
-        """The costs of many pairs of nodes in one call: an array of 64-bit numbers.
+        """The costs of many pairs of nodes in one call, as an array of 64-bit numbers.
 
-        `pairs` has pairs of nodes, or is a buffer of unsigned 32-bit numbers, as a numpy array of two
-        columns and the type uint32. `numpy.asarray` takes what is returned without a copy.
+        `pairs` contains pairs of nodes, or is a buffer of unsigned 32-bit numbers, such as a numpy array with two
+        columns and the type uint32. `numpy.asarray` takes the result without a copy.
 
         Raises:
             NodeError: there is no such node.
-            WrongKind: the file is no instance.
+            WrongKind: the file isn't an instance.
         """
         self._weight_kind()
         flat = _whole_nodes(pairs)
@@ -555,7 +554,7 @@ class Problem:
 
         Raises:
             NodeError: there is no such node.
-            WrongKind: the file is no instance.
+            WrongKind: the file isn't an instance.
         """
         self._weight_kind()
         found: List[int] = []
@@ -635,7 +634,7 @@ def parse(text: Union[str, bytes], *, floats: bool = False, path: Optional[Path]
     """The file that a text contains. `path` is where it was, for the texts of faults.
 
     Raises:
-        Fault: the text is no file.
+        Fault: the text isn't a valid file.
         MemoryError: out of memory.
     """
     if not isinstance(text, (str, bytes, bytearray, memoryview)):
@@ -648,7 +647,7 @@ def read(file: IO[Any], *, floats: bool = False) -> Problem:
     """The file that an open file contains, which may be one of text or of bytes.
 
     Raises:
-        Fault: its text is no file of TSPLIB.
+        Fault: the text isn't a valid file.
         MemoryError: out of memory.
     """
     return parse(file.read(), floats=floats)
@@ -658,7 +657,7 @@ def load(path: Path, *, floats: bool = False) -> Problem:
     """The file at a path.
 
     Raises:
-        Fault: its text is no file of TSPLIB.
+        Fault: the text isn't a valid file.
         OSError: it can't be read.
         MemoryError: out of memory.
     """
