@@ -1,34 +1,34 @@
-/* Yokecairn for C: reads, shows, converts and judges texts in TSPLIB 95, and gives their numbers.
+/* Yokecairn for C: reads, shows, converts and judges TSPLIB 95 texts, and gives their numbers.
  *
- * The calls are proved: the contracts are in crates/tsp_c, and docs/proof.md says what they mean. A
- * proof covers a call only if its caller does what "What a caller has to do" says; nothing checks that.
+ * The calls are proved: the contracts are in crates/tsp_c, and docs/proof.md says what they mean. The
+ * proof covers a call only if its caller follows "What the caller must do", which nothing checks.
  *
  * Shapes. A text is a pointer to its bytes and a length; it needs no byte 0 at its end. A list of numbers
- * is a pointer and a length, in numbers. Coordinates are counts of 10^-9: 1.5 is 1500000000. Nodes count
+ * is a pointer and a length, in numbers. Coordinates are in units of 10^-9: 1.5 is 1500000000. Nodes count
  * from 1.
  *
- * What a caller has to do. No pointer is NULL, also where the length is 0. Pointers are aligned for their type,
- * and point to as many elements as the length says. What a call writes to (out, written, count, result,
- * handle) overlaps nothing else that the call is given. No call is made from a signal handler, or in the
- * child of a fork of a process with threads. malloc, realloc and free come from one allocator, and give
- * blocks that are aligned to 16 bytes. On x86-64 the processor is an x86-64-v2 (SSE4.2 and popcnt, as since
- * 2009).
+ * What the caller must do. No pointer may be NULL, even if the length is 0. Pointers are aligned for their
+ * type, and point to as many elements as the length says. The places that a call writes to (out, written,
+ * count, result, handle) overlap nothing else that the call is given. Don't call from a signal handler, nor
+ * in the child of a fork of a process with threads. malloc, realloc and free belong to one allocator, whose
+ * blocks are aligned to 16 bytes. On x86-64, the processor is an x86-64-v2 (with SSE4.2 and popcnt, from
+ * 2009 or later).
  *
- * What a call does. It keeps no pointer and has no state but that of a handle, so calls may run side by
- * side. It takes memory by malloc and frees it all before it returns, but for what a handle holds. It never
- * ends the process, and it always returns.
+ * What a call does. It keeps no pointer and has no state except that of a handle, so calls may run in
+ * parallel. It allocates memory with malloc, and frees all of it before it returns, except what a handle
+ * holds. It never ends the process, and it always returns.
  *
- * Handles. A struct tsp_instance holds an instance that is read once. It is the caller's, and begins as all
- * zeros, which is closed. Only the calls below write to it: it is not copied while it is open. A handle
- * serves one call at a time, also one that only asks; another thread may call when that call has returned.
- * Threads that ask at once open handles of their own, or lock. What an open handle holds is freed by
- * tsp_close alone, and by a tsp_open that opens it anew.
+ * Handles. A struct tsp_instance holds an instance, which is read once. It belongs to the caller, and starts
+ * as all zeros, which means closed. Only the calls below may write to it, so don't copy it while it is open.
+ * A handle serves one call at a time, even if the call only queries it; another thread may use it once the
+ * call has returned. Threads that query at the same time need handles of their own, or a lock. What an open
+ * handle holds is freed only by tsp_close, and by a tsp_open that opens it again.
  */
 #ifndef TSP_H
 #define TSP_H
 
-/* For whoever changes this file: tests/repository/reasons --write makes the lists of reasons and of faults, of
- * bindings/reasons.tsv. All else is written by hand. */
+/* For developers: tests/repository/reasons --write makes the lists of reasons and of faults from
+ * bindings/reasons.tsv. Everything else is written by hand. */
 
 #include <stdbool.h>
 #include <stddef.h>
@@ -38,18 +38,18 @@
 extern "C" {
 #endif
 
-/* Statuses. 5 is a status of the program alone, for a device that fails; no call here returns it. */
+/* Statuses. Only the program has the status 5, for a device that failed; no call here returns it. */
 enum {
-    TSP_YES = 0,           /* a yes, or done */
-    TSP_NO = 1,            /* a no: the text is the report with its reason, or says why a layout can't be had */
-    TSP_FAULT = 2,         /* a text has a fault, or is of the wrong TYPE: the text is one line that says so */
+    TSP_YES = 0,           /* yes, or done */
+    TSP_NO = 1,            /* no: the text is the report with its reason, or says why a layout is impossible */
+    TSP_FAULT = 2,         /* a text has a fault or the wrong TYPE: the text is the line that reports the fault */
     TSP_OUT_OF_MEMORY = 3, /* memory was refused: the text is a line that says for what, or is empty */
-    TSP_REFUSED = 4,       /* a number that the call doesn't take */
-    TSP_TOO_SMALL = 6      /* the buffer is too small, and as it was */
+    TSP_REFUSED = 4,       /* a number that the call doesn't accept */
+    TSP_TOO_SMALL = 6      /* the buffer is too small, and is unchanged */
 };
 
-/* How a certificate gives a bound. The last two are for tsp_bound and tsp_bound_result alone: they also reject an instance
- * with an unknown keyword, after all other reasons. */
+/* The kind of certificate. The last two are only for tsp_bound and tsp_bound_result: they also reject an instance with an
+ * unknown keyword, after all other reasons. */
 enum {
     TSP_BY_NONE = 0,
     TSP_BY_POTENTIALS = 1,
@@ -58,10 +58,10 @@ enum {
     TSP_BY_BRANCHES_STRICT = 4
 };
 
-/* The flags of a check. Join them by |; 0 is none. */
+/* The flags of a check. Join them with |; 0 is none. */
 enum {
-    TSP_CLAIMED = 1, /* a solution of another length than `claimed` is a no; without this flag `claimed` counts for nothing */
-    TSP_STRICT = 2   /* an instance with an unknown keyword is a no, after all other reasons */
+    TSP_CLAIMED = 1, /* reject a solution whose length isn't `claimed`; without this flag `claimed` is ignored */
+    TSP_STRICT = 2   /* reject an instance with an unknown keyword, after all other reasons */
 };
 
 /* Layouts of the weights. */
@@ -81,7 +81,7 @@ enum {
 /* Sections of points. */
 enum { TSP_POINTS_NODE_COORD = 1, TSP_POINTS_DISPLAY_DATA = 2 };
 
-/* Distances of two points. */
+/* Distances between two points. */
 enum {
     TSP_DISTANCE_EUC_2D = 1,
     TSP_DISTANCE_CEIL_2D = 2,
@@ -96,96 +96,96 @@ enum {
 /* TYPEs of instances. */
 enum { TSP_TYPE_TSP = 1, TSP_TYPE_ATSP = 2, TSP_TYPE_CVRP = 3 };
 
-/* Calls that give a text. Where it fits into the out_len bytes of out, it is at the front of out, the bytes
- * behind it are as they were, and *written is its length. Where it doesn't, the status is TSP_TOO_SMALL, out
- * is as it was, and *written is the length that is needed: call again with as much. */
+/* Calls that give a text. If the text fits into the out_len bytes of out, it is at the start of out, the bytes
+ * behind it are unchanged, and *written is its length. If it doesn't fit, the status is TSP_TOO_SMALL, out is
+ * unchanged, and *written is the length that you need for another call. */
 
-/* Judges a solution of an instance, and gives the report. by is TSP_BY_NONE without a certificate, and then
- * certificate_len may be 0. flags are TSP_CLAIMED, TSP_STRICT, both or 0. TSP_YES comes only if the report ends in
- * "yes". */
+/* Judges a solution for an instance, and gives the report. by is TSP_BY_NONE without a certificate, and then
+ * certificate_len may be 0. flags are TSP_CLAIMED, TSP_STRICT, both or 0. The status is TSP_YES only if the report
+ * ends in "yes". */
 uint32_t tsp_check(const uint8_t *instance, size_t instance_len, const uint8_t *solution, size_t solution_len,
                    const uint8_t *certificate, size_t certificate_len, uint32_t by, int64_t claimed,
                    uint32_t flags, uint8_t *out, size_t out_len, size_t *written);
 
-/* Bounds the tours or the routes of an instance by a certificate, and gives the report. by is one of TSP_BY_POTENTIALS, ..,
- * not TSP_BY_NONE. In the line of a fault the certificate is file 2. */
+/* Computes a bound for an instance from a certificate, and gives the report. by is one of TSP_BY_POTENTIALS, ..,
+ * not TSP_BY_NONE. In the line that reports a fault, the certificate is file 2. */
 uint32_t tsp_bound(const uint8_t *instance, size_t instance_len, const uint8_t *certificate,
                    size_t certificate_len, uint32_t by, uint8_t *out, size_t out_len, size_t *written);
 
-/* Says what a text is: its name, TYPE, number of nodes and more, as "tsp show" does. */
+/* Shows what a text contains: its name, TYPE, number of nodes and more, as "tsp show" does. */
 uint32_t tsp_show(const uint8_t *file, size_t file_len, uint8_t *out, size_t out_len, size_t *written);
 
-/* Gives the canonical text of a file, its weights in a layout, one of TSP_LAYOUT_AS_IT_IS, .. TSP_NO comes if the
- * weights can't go into the layout. */
+/* Gives the canonical text of a file, with its weights in a layout, one of TSP_LAYOUT_AS_IT_IS, .. The status is
+ * TSP_NO if the weights can't be written in the layout. */
 uint32_t tsp_convert(const uint8_t *file, size_t file_len, uint32_t layout, uint8_t *out, size_t out_len,
                      size_t *written);
 
-/* Explains for a person what one of these calls answers, as "tsp --explain" does: a fault, a no, and a yes
- * whose solution has a comment with another length. Else the text is empty. The texts are those of the call,
- * with length 0 where it has none; number is its by or its layout. names has what the user calls the instance,
- * the solution and the certificate, with a byte 0 between two names. The status is TSP_YES, TSP_OUT_OF_MEMORY,
- * TSP_REFUSED or TSP_TOO_SMALL. No contract says what the text is. */
+/* Explains to a person the answer of one of these calls, as "tsp --explain" does: a fault, a no, or a yes whose
+ * solution has a comment with another length. Otherwise the text is empty. The texts are those of the call, with
+ * length 0 for a text that it doesn't have; number is its by or its layout. names holds what the user calls the
+ * instance, the solution and the certificate, with a byte 0 between two names. The status is TSP_YES,
+ * TSP_OUT_OF_MEMORY, TSP_REFUSED or TSP_TOO_SMALL. No contract says what the text is. */
 enum { TSP_OF_SHOW = 0, TSP_OF_CONVERT = 1, TSP_OF_CHECK = 2, TSP_OF_BOUND = 3 };
 uint32_t tsp_explain(uint32_t call, const uint8_t *instance, size_t instance_len, const uint8_t *solution,
                      size_t solution_len, const uint8_t *certificate, size_t certificate_len,
                      const uint8_t *names, size_t names_len, uint32_t number, int64_t claimed,
                      uint32_t flags, uint8_t *out, size_t out_len, size_t *written);
 
-/* How many nodes an instance has, 1 to 100000, at TSP_YES; else *count is as it was. */
+/* If the status is TSP_YES, *count is the instance's number of nodes, 1 to 100000; otherwise it is unchanged. */
 uint32_t tsp_count(const uint8_t *instance, size_t instance_len, uint32_t *count);
 
-/* Calls that fill in numbers. At TSP_YES they are at the front of out; else out is as it was. */
+/* Calls that fill in numbers. If the status is TSP_YES, they are at the start of out; otherwise out is unchanged. */
 
-/* x, y and z of node 1, of node 2 and so on: three numbers a node. section is TSP_POINTS_NODE_COORD or
- * TSP_POINTS_DISPLAY_DATA. TSP_NO comes if the file has no such section. */
+/* x, y and z of node 1, of node 2 and so on: three numbers per node. section is TSP_POINTS_NODE_COORD or
+ * TSP_POINTS_DISPLAY_DATA. The status is TSP_NO if the file has no such section. */
 uint32_t tsp_points(const uint8_t *file, size_t file_len, uint32_t section, int64_t *out, size_t out_len);
 
 /* The cost from the first node of each pair to its second. pairs has two nodes for each pair, and pairs_len
- * counts nodes. TSP_REFUSED comes if pairs_len is odd, or a node isn't one of the instance. */
+ * counts nodes. The status is TSP_REFUSED if pairs_len is odd, or if the instance lacks a node. */
 uint32_t tsp_weights(const uint8_t *instance, size_t instance_len, const uint32_t *pairs, size_t pairs_len,
                      int64_t *out, size_t out_len);
 
-/* The costs from a node to each node, then those from the next node, and so on: as many whole rows as fit,
- * up to the last node. TSP_REFUSED comes if first_row is no node. */
+/* The costs from a node to each node, then the costs from the next node, and so on: as many whole rows as fit,
+ * up to the last node. The status is TSP_REFUSED if first_row isn't a node. */
 uint32_t tsp_matrix(const uint8_t *instance, size_t instance_len, uint32_t first_row, int64_t *out,
                     size_t out_len);
 
-/* The lengths of lists of nodes, from each node to the next and back to the first. A 0 ends each list, also
- * the last one. TSP_REFUSED comes if that is missing, if a node isn't one of the instance, or if there are
- * more than 1000000 numbers. */
+/* The lengths of lists of nodes, from each node to the next and back to the first. A 0 ends each list,
+ * including the last one. The status is TSP_REFUSED if the last 0 is missing, if the instance lacks a node, or if
+ * there are more than 1000000 numbers. */
 uint32_t tsp_lengths(const uint8_t *instance, size_t instance_len, const uint32_t *nodes, size_t nodes_len,
                      int64_t *out, size_t out_len);
 
-/* The distance of two points: kind is one of TSP_DISTANCE_EUC_2D, .. The plane's kinds take no notice of z. It is
- * -1 if there is no such kind, or a coordinate is beyond 10^18. */
+/* The distance between two points: kind is one of TSP_DISTANCE_EUC_2D, .. Kinds for the plane ignore z. The result
+ * is -1 if there is no such kind, or if a coordinate is beyond 10^18. */
 int64_t tsp_distance(uint32_t kind, int64_t ax, int64_t ay, int64_t az, int64_t bx, int64_t by, int64_t bz);
 
 /* ---- results in numbers */
 
-/* What a call answers; 0 is none. */
+/* The answer of a call. A field that doesn't apply is 0. */
 struct tsp_result {
     uint32_t kind;    /* one of TSP_TYPE_TSP, .. */
-    uint32_t nodes;   /* how many nodes it has */
+    uint32_t nodes;   /* the number of nodes */
     uint32_t verdict; /* one of TSP_TOUR, .. */
-    uint32_t reason;  /* of a TSP_REJECTED: one of TSP_NOT_A_SOLUTION, .. */
+    uint32_t reason;  /* for TSP_REJECTED: one of TSP_NOT_A_SOLUTION, .. */
     int64_t first;    /* the numbers of the reason */
     int64_t second;
     int64_t length; /* of the tour, or of all routes */
-    int64_t bound_high; /* if has_bound is 1, the bound is 2^64 times bound_high, and bound_low */
+    int64_t bound_high; /* if has_bound is 1, the bound is 2^64 times bound_high, plus bound_low */
     uint64_t bound_low;
     uint64_t least; /* the least number of routes */
     uint32_t has_bound;
-    uint32_t routes; /* how many there are */
+    uint32_t routes; /* the number of routes */
     uint32_t fault;  /* one of TSP_LONG_LINE, .. */
-    uint32_t file;   /* the text with the fault: 1 the instance, 2 the solution, 3 the certificate; 2 of a bound */
-    uint32_t line;   /* the line, from 1, if the fault is one of a line */
-    uint32_t word;   /* the word in it, from 1; 0 is the line as a whole */
-    uint32_t number; /* of a TSP_NUMBER: one of TSP_LONG_WORD, .. */
-    uint32_t field;  /* of a TSP_MISSING or TSP_INCOMPLETE: one of TSP_FIELD_NAME, .. */
+    uint32_t file;   /* the text with the fault: 1 the instance, 2 the solution, 3 the certificate, which is 2 for a bound */
+    uint32_t line;   /* the line, counted from 1, if the fault is in a line */
+    uint32_t word;   /* the word in the line, counted from 1; 0 is the line as a whole */
+    uint32_t number; /* for TSP_NUMBER: one of TSP_LONG_WORD, .. */
+    uint32_t field;  /* for TSP_MISSING or TSP_INCOMPLETE: one of TSP_FIELD_NAME, .. */
 };
 
-/* The bound of a result, for all that need only 64 bits: TSP_YES, and *bound is it; TSP_NO if the result has no bound;
- * TSP_TOO_SMALL if it has more bits. Else *bound is as it was. (This is written in C, and not proved.) */
+/* The bound of a result, if 64 bits are enough for it: TSP_YES, and *bound is the bound; TSP_NO if the result has no bound;
+ * TSP_TOO_SMALL if the bound has more bits. Without TSP_YES, *bound is unchanged. (This is written in C, and not proved.) */
 static inline uint32_t tsp_bound_i64(const struct tsp_result *result, int64_t *bound)
 {
     if (result->has_bound != 1) {
@@ -204,9 +204,9 @@ static inline uint32_t tsp_bound_i64(const struct tsp_result *result, int64_t *b
 
 /* Verdicts. */
 enum {
-    TSP_TOUR = 1,     /* accepted, with a length, and a bound if a certificate is bound */
-    TSP_ROUTES = 2,   /* accepted, with a length, their number and the least number */
-    TSP_REJECTED = 3, /* a no, with its reason */
+    TSP_TOUR = 1,     /* accepted, with a length, and with a bound if there is a certificate */
+    TSP_ROUTES = 2,   /* the same for routes, with their number and the least number */
+    TSP_REJECTED = 3, /* no, with its reason */
     TSP_BOUND = 4,    /* a certificate gives this bound */
     TSP_NO_TOUR = 5   /* a certificate shows that the instance has no tour, or no routes */
 };
@@ -273,7 +273,7 @@ enum {
 /* What is wrong with a number. */
 enum { TSP_LONG_WORD = 1, TSP_BAD_NUMBER = 2, TSP_TOO_FINE = 3, TSP_OUT_OF_RANGE = 4, TSP_NOT_WHOLE = 5 };
 
-/* Keywords and sections, in canonical order, but for the last, which came later. */
+/* Keywords and sections, in canonical order, except for the last, which was added later. */
 enum {
     TSP_FIELD_NAME = 1,
     TSP_FIELD_TYPE = 2,
@@ -302,9 +302,9 @@ enum {
     TSP_FIELD_LOAD_UNIT = 25
 };
 
-/* tsp_check and tsp_bound, with the result in numbers too: the verdict, if the status is TSP_YES or TSP_NO, and
- * the fault, if it is TSP_FAULT. At TSP_OUT_OF_MEMORY and TSP_REFUSED all numbers are 0. At TSP_TOO_SMALL they are
- * those of the status that a larger buffer gives. */
+/* Like tsp_check and tsp_bound, but with the result in numbers too: the verdict, if the status is TSP_YES or TSP_NO, and
+ * the fault, if it is TSP_FAULT. With TSP_OUT_OF_MEMORY and TSP_REFUSED all numbers are 0. With TSP_TOO_SMALL they are
+ * those that belong to the status that a larger buffer gives. */
 uint32_t tsp_check_result(const uint8_t *instance, size_t instance_len, const uint8_t *solution, size_t solution_len,
                           const uint8_t *certificate, size_t certificate_len, uint32_t by, int64_t claimed,
                           uint32_t flags, struct tsp_result *result, uint8_t *out, size_t out_len,
@@ -313,8 +313,8 @@ uint32_t tsp_bound_result(const uint8_t *instance, size_t instance_len, const ui
                           size_t certificate_len, uint32_t by, struct tsp_result *result, uint8_t *out,
                           size_t out_len, size_t *written);
 
-/* ---- handles: one instance, many questions. Statuses are those of the calls above, and TSP_REFUSED also comes if
- * the handle is closed. */
+/* ---- handles: many queries about one instance. Statuses are those of the calls above; the status is also
+ * TSP_REFUSED if the handle is closed. */
 
 /* A handle: struct tsp_instance handle = {0}; */
 struct tsp_instance {
@@ -322,31 +322,32 @@ struct tsp_instance {
     void *at;
 };
 
-/* Opens a handle on the instance that a text is. The text may be freed then. If the handle is open, it is closed
- * first. If the status isn't TSP_YES, the handle is closed, and result has the fault, if it is TSP_FAULT, and else
- * zeros. */
+/* Opens a handle on the instance in a text. After that you may free the text. If the handle is open, it is closed
+ * first. If the status isn't TSP_YES, the handle is closed, and result holds the fault if the status is TSP_FAULT,
+ * and otherwise zeros. */
 uint32_t tsp_open(const uint8_t *instance, size_t instance_len, struct tsp_instance *handle,
                   struct tsp_result *result);
 
-/* Closes a handle, and frees what it holds. A closed one stays closed. */
+/* Closes a handle, and frees what it holds. A closed handle stays closed. */
 void tsp_close(struct tsp_instance *handle);
 
-/* Binds a certificate to an open instance, in the place of the one before, and gives its bound. by is
- * TSP_BY_POTENTIALS or TSP_BY_BRANCHES. At TSP_YES and at TSP_NO it is bound; then checks answer as tsp_check with
- * this certificate, and don't judge it again. Else nothing changes. In a fault the certificate is file 2. */
+/* Attaches a certificate to an open instance, replacing any earlier one, and gives its bound. by is
+ * TSP_BY_POTENTIALS or TSP_BY_BRANCHES. If the status is TSP_YES or TSP_NO, the certificate is attached; checks then
+ * answer like tsp_check with this certificate, without judging it again. Otherwise nothing changes. In a fault the
+ * certificate is file 2. */
 uint32_t tsp_bind(struct tsp_instance *handle, const uint8_t *certificate, size_t certificate_len, uint32_t by,
                   struct tsp_result *result);
 
-/* Judges a solution, as tsp_check_result does of the texts that are open: the status, the report and the result are
- * the same, and so is what flags ask for. */
+/* Judges a solution like tsp_check_result with the texts that were opened: the status, the report, the result and the
+ * meaning of the flags are the same. */
 uint32_t tsp_instance_check(struct tsp_instance *handle, const uint8_t *solution, size_t solution_len,
                             int64_t claimed, uint32_t flags, struct tsp_result *result, uint8_t *out,
                             size_t out_len, size_t *written);
 
-/* How many nodes the instance has, at TSP_YES; else *count is as it was. */
+/* If the status is TSP_YES, *count is the instance's number of nodes; otherwise it is unchanged. */
 uint32_t tsp_instance_count(struct tsp_instance *handle, uint32_t *count);
 
-/* The numbers that tsp_points, tsp_weights, tsp_matrix and tsp_lengths fill in of a text. */
+/* The numbers that tsp_points, tsp_weights, tsp_matrix and tsp_lengths fill in from a text. */
 uint32_t tsp_instance_points(struct tsp_instance *handle, uint32_t section, int64_t *out, size_t out_len);
 uint32_t tsp_instance_weights(struct tsp_instance *handle, const uint32_t *pairs, size_t pairs_len, int64_t *out,
                               size_t out_len);
