@@ -28,8 +28,8 @@ while [ "$#" -gt 0 ]; do
             ;;
         -h | --help)
             usage
-            echo "Puts the program, the libraries, the pages and the examples under the folder PREFIX."
-            echo "With --as the program is called NAME in place of tsp. It is removed again by"
+            echo "Installs the program, the libraries, the pages and the examples in the folder PREFIX."
+            echo "With --as, the program is called NAME instead of tsp. To remove everything, run"
             echo "PREFIX/share/yokecairn/uninstall.sh."
             exit 0
             ;;
@@ -44,7 +44,7 @@ done
 [ -n "$prefix" ] || refuse
 case $name in
     '' | [!A-Za-z0-9]* | *[!A-Za-z0-9._-]*)
-        echo "install.sh: a name has letters, digits and . _ - and this is none: $name" >&2
+        echo "install.sh: a name consists of letters, digits and . _ -, unlike this one: $name" >&2
         exit 4
         ;;
 esac

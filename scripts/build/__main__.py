@@ -4,18 +4,18 @@ usage: ./build [--help]
        ./build --quick [FILE]
        ./build --unproved-library FOLDER
 
-`rt ci` does both, on a copy of these crates without their wrong edits and without the tests: it proves
-as many crates at once as there are cores, each over the statements of those below it. Standard error
-shows how far that is. The copy has the commit and the toolchain's identity in one file of the program's
-own crate, for `tsp --version`; so nothing else is proved again for another commit.
+`rt ci` does both, on a copy of these crates without their wrong edits and tests: it proves as many crates at once as
+there are cores, each with the statements of the crates that it uses. Standard error shows the progress. In the copy, one
+file in the program's own crate contains the commit and the toolchain's identity, for `tsp --version`; so nothing else is
+proved again for another commit.
 
---quick prints the path of a program of the sources as they are: the proved one, or else the quick one, which is made
-where it isn't there. It has the same code with checks, for example for overflow, and isn't proved. ./tsp calls this where
-files have changed. With FILE the quick program is made there, without a name, and nothing else.
---unproved-library makes the archive of the library, libtsp_c.a, and its module in a folder, which aren't proved either.
+--quick prints the path of a program for the current sources: the proved one, or else the quick one, which is built if
+necessary. The quick program is the same code with checks, for example for overflow, and isn't proved. ./tsp calls this
+if files have changed. With FILE, only the quick program is built, at this path and without its version.
+--unproved-library makes the archive of the library, libtsp_c.a, and its module in a folder, without a proof.
 
-The exit status is 0 where that is made, 4 for words that are refused, 75 where the toolchain gives no program without a
-proof, else 70.
+The exit status is 0 if everything was made, 4 if the arguments are refused, 75 if the toolchain gives no program without
+a proof, and otherwise 70.
 """
 import shutil
 import sys

@@ -4,21 +4,22 @@ usage: ./check [--without-proof] [--junit FILE] [--record FILE]
        ./check NAME.. [--only WORD] [--junit FILE] [--record FILE]
        ./check --list
 
-Without names it runs all suites of tests/suites.toml. First come those of the repository's files, which take seconds.
-Then `rt ci` proves every crate. It also sees that each wrong edit of must-fail/ is refused, and runs the unit tests.
-Meanwhile the quick program is built. The tests of the built programs and of the libraries begin once these are proved,
-two at a time beside the wrong edits, as far as processors are idle, and the rest afterwards side by side.
+Without names it runs all suites in tests/suites.toml. First come the suites on the repository's files, which take
+seconds. Then `rt ci` proves every crate, checks that each wrong edit in must-fail/ is refused, and runs the unit tests.
+Meanwhile the quick program is built. The tests of the built programs and of the libraries begin once these are proved:
+two at a time during the wrong edits, if processors are idle, and the rest in parallel afterwards.
 
   --without-proof  leave out the proof: the suites run on the program that ./tsp runs
-  NAME..           run these suites alone, on that program; `proofs` is `rt ci`
-  --only WORD      of the cases and rows, those that have this word (suites cases and tables)
+  NAME..           run only these suites, on that program; `proofs` is `rt ci`
+  --only WORD      run only the cases and rows that contain this word (suites cases and tables)
   --list           print the suites, how long each takes, and what it needs
-  --junit FILE     write the outcomes as JUnit XML, too
-  --record FILE    write a record of the run as JSON: commit, toolchain, machine, counts, sums of what was built
+  --junit FILE     also write the outcomes as JUnit XML
+  --record FILE    write a record of the run as JSON: commit, toolchain, machine, counts, checksums of what was built
   --help           print this
 
-The last line is 'N passed, M failed', with ', K skipped' where a tool was missing; each has a line that begins with
-'skipped:' and says what to install. The exit status is 0 where nothing failed, 4 for words that are refused, else 1.
+The last line is 'N passed, M failed', with ', K skipped' if a tool was missing. For each skipped test a line begins with
+'skipped:' and says what to install. The exit status is 0 if nothing failed, 4 if the arguments are refused, and
+otherwise 1.
 """
 from __future__ import annotations
 

@@ -1,33 +1,33 @@
-"""Makes dist/yokecairn-VERSION-linux-x86_64.tar.gz: the program, linked statically, the libraries for C and
-Python, the browser page, and what belongs to them.
+"""Makes dist/yokecairn-VERSION-linux-x86_64.tar.gz: the statically linked program, the C library, the Python wheel, the
+browser page, and what belongs to them.
 
 usage: ./release [--public] [--sign KEY] [--without page] [--systems]
        ./release --library FOLDER | --page FOLDER | --modules | --kept | --compare
 
---public makes a release that is published: CONTACT, CITATION.cff and the pages have the authors, the contact, the home and
-the DOI of publisher.toml. Without it the release says that it is a private copy.
---sign KEY signs the tarball: by ssh-keygen where KEY is the file of a key, and else by gpg with the key of this name.
-Where the key doesn't sign, nothing is made.
-A release carries the record of its commit's check, docs/check.json. A public one is refused without it.
---without page leaves out the browser page, and the pages of such a release don't promise it. Where a tool of a
-part is missing, and the part isn't left out, nothing is made.
---systems also makes the tarball for Linux on aarch64, the zip for Windows on x86-64, the package for npm, and beside them
-the three wheels. What needs a package of Debian that isn't there is left out, and one line says so. docs/trust.md has
-the claim about them ("Other systems").
---kept prints where the archive of the library is kept, and ends with status 1 where it isn't and where it
-can't be made without proving the crates below.
---library FOLDER makes libtsp.so.0, libtsp.so, libtsp.a and tsp.h in a folder, and nothing else.
---page FOLDER makes tsp.html in a folder, and nothing else.
---modules prints where the modules of the program and of the library are kept, for other systems. It ends with status 1
-where they aren't, and can't be made without proving the crates below.
---compare makes all of it twice, in two folders and of nothing kept, and compares the bytes.
+--public makes a release for publication: CONTACT, CITATION.cff and the pages contain the authors, the contact, the home and
+the DOI from publisher.toml. Without this option, the release says that it is a private copy.
+--sign KEY signs the tarball: with ssh-keygen if KEY is a key file, and otherwise with gpg and the key of this name. If
+signing fails, nothing is made.
+A release contains the record of its commit's check, docs/check.json. A public release is refused without this record.
+--without page leaves out the browser page, and removes it from the other pages. If a tool for a part is missing, and the
+part isn't left out, nothing is made.
+--systems also makes the tarball for Linux on aarch64, the zip for Windows on x86-64, the npm package, and the three
+wheels. If a Debian package is missing, what needs it is left out, and a line says so. docs/trust.md, "Other systems",
+says what is claimed for these files.
+--kept prints where the archive of the library is kept. The status is 1 if there is none, and it can't be made
+without proving the crates.
+--library FOLDER makes only libtsp.so.0, libtsp.so, libtsp.a and tsp.h, in a folder.
+--page FOLDER makes only tsp.html, in a folder.
+--modules prints where the modules of the program and of the library are kept, for other systems. The status is 1
+if there are none, and they can't be made without proving the crates.
+--compare makes everything twice, in two folders and from scratch, and compares the bytes.
 
-The toolchain makes two files of the crates: the static library's archive and the program's object. It makes
-them over the statements that the last ./check has left in crates/*/out, which takes minutes. Where these
-aren't there, or are of other sources, `rt ci` first proves the crates in a folder of its own. Both files are
-kept in ${XDG_CACHE_HOME:-~/.cache}/yokecairn under the sum of all that they are made of, so a second call
-makes them no more. gcc, binutils, and for the wheel python3 with setuptools and wheel have to be there. The
-page needs wasm-ld and wasm-opt. The sum of the tarball is printed, and is in a file beside it.
+From the crates, the toolchain makes two files: the static library's archive and the program's object. This takes
+minutes with the statements that the last ./check left in crates/*/out. If they are missing, or belong to other sources,
+`rt ci` first proves the crates in a separate folder. Both files are kept in ${XDG_CACHE_HOME:-~/.cache}/yokecairn under a
+checksum of everything that they are made from, so a second call doesn't make them again. You need gcc, binutils, and
+for the wheel python3 with setuptools and wheel. The page needs wasm-ld and wasm-opt. The tarball's checksum is printed,
+and written to a file next to it.
 """
 import argparse
 import shutil
