@@ -11,7 +11,7 @@ proved again for another commit.
 
 --quick prints the path of a program for the current sources: the proved one, or else the quick one, which is built if
 necessary. The quick program is the same code with checks, for example for overflow, and isn't proved. ./tsp calls this
-if files have changed. With FILE, only the quick program is built, at this path and without its version.
+if files have changed. With FILE, only the quick program is built, at this path, and its version names no commit.
 --unproved-library makes the archive of the library, libtsp_c.a, and its module in a folder, without a proof.
 
 The exit status is 0 if everything was made, 4 if the arguments are refused, 75 if the toolchain gives no program without
