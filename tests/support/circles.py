@@ -215,7 +215,7 @@ class Circles:
                       if not self.is_here(key) and ".declared." not in key[0] and not key[0].startswith(LIBRARY))
 
     def total(self, circle: int) -> tuple[int, int, int]:
-        """How many files, lines and types of the code a circle has."""
+        """How many files, lines and Rust types a circle has."""
         files = self.files(circle)
         return len(files), sum(files.values()), len(self.declared(circle))
 

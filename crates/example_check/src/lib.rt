@@ -1,5 +1,5 @@
-//! An example of how the libraries are used, which README.md shows: a tour of an instance is
-//! judged, both as bytes in memory.
+//! An example of how to use the libraries, shown in README.md: it judges a tour of an instance,
+//! both given as bytes in memory.
 #![tactic(auto)]
 
 mod report;

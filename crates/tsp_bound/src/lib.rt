@@ -1,4 +1,5 @@
-//! Least 1-trees and duals of an assignment, and the lower bounds on every cycle that they give.
+//! Least 1-trees and assignment duals, and the lower bounds that they give on the length of every
+//! cycle.
 //!
 //! A least tree grows row by row (`tree`), or in rounds over boxes of points or lists of light
 //! edges (`rounds`). Potentials, with multipliers or without, give a bound by a least 1-tree

@@ -1,5 +1,5 @@
-//! Lower bounds by branching, as code: the bounds of the leaves of a tree of cases, by least
-//! 1-trees or by the least arc from each node.
+//! The code of lower bounds by branching: the bound of each leaf of a tree of cases, by a least
+//! 1-tree or by the least arc from each node.
 //!
 //! [`judge_branches`] finds the bound of a certificate, or what is wrong with it first. It searches
 //! for no certificates, and knows costs by their traits only. The theorems are tsp_cases's.

@@ -1,5 +1,5 @@
-//! The calls of Yokecairn for C, and for what speaks to C: over numbers and slices of bytes alone.
-//! `bindings/c/tsp.h` declares them.
+//! Yokecairn's interface for C, and for languages that can call C: every argument is a number or a
+//! slice of bytes. `bindings/c/tsp.h` declares the calls.
 //!
 //! A call on texts has no state. A handle holds an instance that is open, which calls on it don't
 //! read again. No call keeps a pointer, or calls back. A call that writes a text returns the status

@@ -1,4 +1,5 @@
-//! Families of sets of nodes and trees of cases: theorems on lower bounds, and their judges.
+//! Families of sets of nodes and trees of cases: theorems on lower bounds, and the code that
+//! judges families and trees.
 //!
 //! How often a cycle crosses a family is found by a dynamic programme over the parts that its sets
 //! make (`family`). [`judge_families`] finds the first family that isn't good, [`judge_cases`] the

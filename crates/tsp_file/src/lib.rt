@@ -1,4 +1,5 @@
-//! The fields of a TSPLIB 95 file, when they are valid, their costs and their canonical text.
+//! The fields of a TSPLIB 95 file: which are valid together, the costs that they give, and their
+//! canonical text.
 //!
 //! A [`Draft`] has fields of any kind, and a [`File`] is a draft without a fault. A file's matrix
 //! can be laid out anew. This crate reads no text: tsp_read makes drafts and files from bytes.

@@ -1,4 +1,4 @@
-//! Readers and writers that remember a failure, and calls that take memory.
+//! Readers and writers that remember a failure, and calls that allocate memory.
 //!
 //! It knows nothing of TSPLIB. A [`Watched`] value that has failed isn't asked again by the crates
 //! above, and an interrupted call counts as failed. Only the calls here make the token [`Refused`],

@@ -1,4 +1,4 @@
-//! Tasks on files, verdicts with their reasons, and the texts that the program prints of them.
+//! Tasks on files, verdicts with their reasons, and the texts that the program prints for them.
 //!
 //! A command line asks for a task (`task`), and so does a call for C. A verdict (`verdict`) isn't
 //! found here, so a crate that prints or explains one doesn't depend on tsp_verdict. The contracts

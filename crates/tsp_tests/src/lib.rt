@@ -1,4 +1,4 @@
-//! Unit tests of the libraries, with readers and writers that do little at a time or fail.
+//! Unit tests of the libraries, with readers and writers that move a few bytes at a time, or fail.
 #![tactic(auto)]
 
 #[cfg(test)]
