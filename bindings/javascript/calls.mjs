@@ -1,6 +1,6 @@
 // The calls of the package for Node on single files and solutions.
 
-import { By, Call, Status } from "./codes.mjs";
+import { By, Call, LAYOUTS, Status } from "./codes.mjs";
 import { SolutionError } from "./errors.mjs";
 import { NO_FILE, errorOf, opened, reported, textOf } from "./reporting.mjs";
 import { NoSolution, converted } from "./solutions.mjs";
@@ -15,19 +15,6 @@ import { certificateOf, given, solutionOf } from "./sources.mjs";
  * @typedef {import("./reporting.mjs").Asked} Asked
  * @typedef {import("./reporting.mjs").Report} Report
  */
-
-/** The layouts of matrices, from number 1. */
-const LAYOUTS = [
-    "FULL_MATRIX",
-    "UPPER_ROW",
-    "LOWER_ROW",
-    "UPPER_DIAG_ROW",
-    "LOWER_DIAG_ROW",
-    "UPPER_COL",
-    "LOWER_COL",
-    "UPPER_DIAG_COL",
-    "LOWER_DIAG_COL",
-];
 
 /**
  * A claimed length.

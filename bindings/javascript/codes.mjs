@@ -14,3 +14,16 @@ export const Call = Object.freeze({ SHOW: 0, CONVERT: 1, CHECK: 2, BOUND: 3 });
 
 /** What a call finds. */
 export const Verdict = Object.freeze({ TOUR: 1, ROUTES: 2, REJECTED: 3, BOUND: 4, NO_TOUR: 5 });
+
+/** The layouts of matrices, from number 1. */
+export const LAYOUTS = [
+    "FULL_MATRIX",
+    "UPPER_ROW",
+    "LOWER_ROW",
+    "UPPER_DIAG_ROW",
+    "LOWER_DIAG_ROW",
+    "UPPER_COL",
+    "LOWER_COL",
+    "UPPER_DIAG_COL",
+    "LOWER_DIAG_COL",
+];

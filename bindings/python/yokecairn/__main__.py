@@ -69,29 +69,43 @@ _OTHERS: Dict[str, str] = {
     "solution": "the other program's file; - is standard input",
     "publish": "the instance",
 }
+
+
+def _flag(told: str, **more: Any) -> Dict[str, Any]:
+    """What argparse is told of an option without a value."""
+    return {"action": "store_true", "help": told, **more}
+
+
+def _value(named: str, told: str, **more: Any) -> Dict[str, Any]:
+    """What argparse is told of an option with a value of this name."""
+    return {"metavar": named, "help": told, **more}
+
+
 _OPTIONS: Dict[str, Dict[str, Any]] = {
-    "--explain": {"action": "store_true", "help": "explain a fault or a no"},
-    "--layout": {"metavar": "L", "help": "the layout of the matrix"},
-    "--potentials": {"metavar": "P", "help": "a potentials file"},
-    "--branches": {"metavar": "B", "help": "a branches file"},
-    "--length": {"metavar": "L", "help": "claim the length L; a solution of another length is rejected"},
-    "--strict": {"action": "store_true", "help": "reject an instance with an unknown keyword"},
-    "--no-foreign": {"dest": "foreign", "action": "store_false", "help": "read only TYPE TOUR, like tsp"},
-    "--foreign": {"action": "store_true", "default": None, "help": "read every form of solution, such as a list of nodes"},
-    "--first": {"metavar": "0|1", "type": int, "choices": (0, 1), "help": "whether nodes count from 0 or from 1; 0 for routes in JSON that list customers"},
-    "--routes": {"action": "store_true", "default": None, "help": "read a single line 0 -> .. -> 0 as a route, not a tour"},
-    "--no-claims": {"action": "store_true", "help": "ignore the length that another program's file claims"},
-    "--best": {"metavar": "BEST", "help": "the best-known length, or a file with lines NAME LENGTH"},
-    "--tsv": {"action": "store_true", "help": "write a table with tabs between its columns"},
-    "--json": {"action": "store_true", "help": "write JSON once all solutions are judged"},
-    "--csv": {"action": "store_true", "help": "write a row for each instance and solver"},
-    "--markdown": {"action": "store_true", "help": "write a Markdown table"},
-    "--latex": {"action": "store_true", "help": "write a LaTeX tabular"},
-    "--html": {"action": "store_true", "help": "write HTML"},
-    "--jobs": {"metavar": "N", "type": int, "help": "the number of processes"},
-    "--summary": {"action": "store_true", "help": "write a one-line summary to standard error"},
-    "--dimension": {"metavar": "N", "type": int, "help": "the instance's DIMENSION, for LKH-3's routes"},
+    "--explain": _flag("explain a fault or a no"),
+    "--layout": _value("L", "the layout of the matrix"),
+    "--potentials": _value("P", "a potentials file"),
+    "--branches": _value("B", "a branches file"),
+    "--length": _value("L", "claim the length L; a solution of another length is rejected"),
+    "--strict": _flag("reject an instance with an unknown keyword"),
+    "--no-foreign": _flag("read only TYPE TOUR, like tsp", dest="foreign", action="store_false"),
+    "--foreign": _flag("read every form of solution, such as a list of nodes", default=None),
+    "--first": _value("0|1", "whether nodes count from 0 or from 1; 0 for routes in JSON that list customers", type=int, choices=(0, 1)),
+    "--routes": _flag("read a single line 0 -> .. -> 0 as a route, not a tour", default=None),
+    "--no-claims": _flag("ignore the length that another program's file claims"),
+    "--best": _value("BEST", "the best-known length, or a file with lines NAME LENGTH"),
+    "--tsv": _flag("write a table with tabs between its columns"),
+    "--json": _flag("write JSON once all solutions are judged"),
+    "--csv": _flag("write a row for each instance and solver"),
+    "--markdown": _flag("write a Markdown table"),
+    "--latex": _flag("write a LaTeX tabular"),
+    "--html": _flag("write HTML"),
+    "--jobs": _value("N", "the number of processes", type=int),
+    "--summary": _flag("write a one-line summary to standard error"),
+    "--dimension": _value("N", "the instance's DIMENSION, for LKH-3's routes", type=int),
 }
+# The forms in which a verb may write, in place of text.
+_FORMS = ("tsv", "json", "csv", "latex", "html", "markdown")
 
 
 class Refused(Exception):
@@ -124,6 +138,7 @@ def _parser() -> argparse.ArgumentParser:
     """The parser of the table."""
     parser = _Parser(prog="python3 -m yokecairn", description="Reads, writes and judges files of TSPLIB 95.")
     parser.add_argument("-V", "--version", action=_Tell, nargs=0, help="print the version")
+    parser.set_defaults(**{word.strip("-").replace("-", "_"): None for word in (*_FILES, *_OPTIONS)})
     verbs = parser.add_subparsers(dest="verb", metavar="VERB", title="verbs")
     for name, (told, files, options) in _VERBS.items():
         verb = verbs.add_parser(name, help=told, description=told)
@@ -138,46 +153,44 @@ class Task:
 
     def __init__(self, given: argparse.Namespace) -> None:
         self.verb: Optional[str] = given.verb
-        self.layout: Optional[str] = getattr(given, "layout", None)
+        self.layout: Optional[str] = given.layout
         if self.layout is not None and self.layout not in LAYOUTS:
             raise Refused("unknown layout\n")
-        potentials, branches = getattr(given, "potentials", None), getattr(given, "branches", None)
-        if potentials is not None and branches is not None:
+        self.potentials: Optional[str] = given.potentials
+        self.branches: Optional[str] = given.branches
+        if self.potentials is not None and self.branches is not None:
             raise Refused("both potentials and branches\n")
-        if self.verb == "bound" and potentials is None and branches is None:
+        if self.verb == "bound" and self.potentials is None and self.branches is None:
             raise Refused("neither potentials nor branches\n")
         self.by = _library.ALONE
-        if potentials is not None:
+        if self.potentials is not None:
             self.by = _library.POTENTIALS
-        elif branches is not None:
+        elif self.branches is not None:
             self.by = _library.BRANCHES
         self.claimed: Optional[int] = None
         self.is_own_claim = False
-        if getattr(given, "length", None) is not None:
+        if given.length is not None:
             try:
                 self.claimed = length_of(given.length)
             except (ValueError, ArithmeticError):
                 raise Refused("not a length\n") from None
-        self.strict: bool = getattr(given, "strict", False)
-        certificate = potentials if branches is None else branches
-        self.foreign: Optional[bool] = getattr(given, "foreign", None)
-        self.claims: bool = not getattr(given, "no_claims", False)
-        self.dimension: Optional[int] = getattr(given, "dimension", None)
-        self.first: Optional[int] = getattr(given, "first", None)
-        self.routes: Optional[bool] = getattr(given, "routes", None)
-        self.folders: List[str] = getattr(given, "folders", [getattr(given, "folder", "")])
-        self.potentials: Optional[str] = potentials
-        self.branches: Optional[str] = branches
-        self.jobs: Optional[int] = getattr(given, "jobs", None)
+        self.strict = bool(given.strict)
+        self.foreign: Optional[bool] = given.foreign
+        self.claims = not given.no_claims
+        self.dimension: Optional[int] = given.dimension
+        self.first: Optional[int] = given.first
+        self.routes: Optional[bool] = given.routes
+        self.folders: List[str] = given.folders or [given.folder or ""]
+        self.jobs: Optional[int] = given.jobs
         if self.jobs is not None and self.jobs < 1:
             raise Refused("--jobs is 1 or more\n")
-        paths = [getattr(given, "file", None), getattr(given, "solution", None), certificate]
-        self.paths: List[str] = [path for path in paths if path is not None]
-        self.solutions: List[str] = getattr(given, "solutions", [])
-        self.best: Optional[str] = getattr(given, "best", None)
-        forms = [form for form in ("tsv", "json", "csv", "latex", "html", "markdown") if getattr(given, form, False)]
+        certificate = self.potentials if self.branches is None else self.branches
+        self.paths: List[str] = [path for path in (given.file, given.solution, certificate) if path is not None]
+        self.solutions: List[str] = given.solutions or []
+        self.best: Optional[str] = given.best
+        forms = [form for form in _FORMS if getattr(given, form)]
         self.form = forms[0] if forms else "text"
-        self.sums: bool = getattr(given, "summary", False)
+        self.sums = bool(given.summary)
         if len(forms) > 1:
             raise Refused(f"both --{forms[0]} and --{forms[1]}\n")
         if any("\n" in path for path in self.solutions):
@@ -253,7 +266,7 @@ def task_of(words: Sequence[str]) -> Tuple[Task, bool]:
         if words:
             raise Refused("python3 -m yokecairn: a verb is missing\n")
         given.file = "-"
-    return Task(given), getattr(given, "explain", False)
+    return Task(given), bool(given.explain)
 
 
 # ---- the verb compare: a line, a row or a part of JSON for each solution

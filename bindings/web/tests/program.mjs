@@ -8,22 +8,11 @@ import { existsSync, readFileSync } from "node:fs";
 import { join } from "node:path";
 import { createInterface } from "node:readline";
 
-import { By, Status } from "../../javascript/codes.mjs";
+import { By, LAYOUTS, Status } from "../../javascript/codes.mjs";
 import { run } from "../page/outcome.mjs";
 import { libraryOf } from "./module.mjs";
 import { lengthOf, sorted } from "./words.mjs";
 
-const LAYOUTS = [
-    "FULL_MATRIX",
-    "UPPER_ROW",
-    "LOWER_ROW",
-    "UPPER_DIAG_ROW",
-    "LOWER_DIAG_ROW",
-    "UPPER_COL",
-    "LOWER_COL",
-    "UPPER_DIAG_COL",
-    "LOWER_DIAG_COL",
-];
 const REFUSED = 4;
 const NOTHING = Buffer.alloc(0);
 
